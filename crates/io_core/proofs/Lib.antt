@@ -1,0 +1,5 @@
+pub mod Reading
+pub mod FileReading
+pub mod MemoryMoves
+pub mod Entries
+pub mod FilesSteps

@@ -1,0 +1,4 @@
+pub mod Counts
+pub mod Contents
+pub mod Whole
+pub mod Memory
