@@ -1,0 +1,146 @@
+use Rattle.std.proofs.Common.{arith, refl, ◌-◌, suc, ◌≡◌, codes, true, false, inl, inr, rules}
+use Rattle.json_read.specs.Bytes.{is_white}
+use Rattle.json_read.specs.Json.{ItemList, FieldList}
+use Rattle.json_read.proofs.reader.Reader.+values.Goals.{value-in_default-first-via-then-this-lt48, value-in_default-first-via-else-this-lt48+else-this-lt58}
+use Rattle.json_read.specs.Grammar.{is_null, is_true, is_false}
+use Rattle.json_read.specs.Machine.{in_array, in_object, first_value, first_name, is_value}
+use Rattle.json_read.specs.Reading.{ArrayText, ObjectText}
+use Rattle.json_read.specs.declared.json.Json.TheVariants as json
+use Rattle.json_read.proofs.Arrays.{array_empty, array_init, array_more, array_ends, array_item_breaks, array_comma_breaks}
+use Rattle.json_read.proofs.Objects.{object_empty, object_init, object_more, object_ends, object_name_breaks, object_item_breaks, object_comma_breaks}
+use Rattle.json_read.proofs.Values.{padded_passes, padded_breaks, no_value, string_value, string_value_breaks, number_value, number_value_breaks, word_value, word_value_breaks, too_deep, nothing_begins, held_value, held_breaks}
+use Rattle.json_read.proofs.Whiles.{next_fails_after}
+use Rattle.json_read.proofs.Parts.{at_exit, next_is, seen}
+use Rattle.json_read.proofs.reader.Reader.+values.Goals as goal
+
+pub padded-returns-clause-part : goal.padded-returns-clause-part
+padded-returns-clause-part t c = padded_passes c.args.depth c.in_ok-value.value _ _ _ _ c.skip_white.ensures c.in_ok-value.ensures c.skip_white-2.ensures
+
+pub value-returns-in_default : goal.value-returns-in_default
+value-returns-in_default t c = no_value c.args.depth _ c.in_default.ensures
+
+pub padded-returns-in_err-value-clause-part : goal.padded-returns-in_err-value-clause-part
+padded-returns-in_err-value-clause-part t c =
+    at_exit _ _ c.from_residual.result c.in_err-value.field-0.0 c.from_residual.ensures.1 (padded_breaks c.args.depth c.in_err-value.field-0.0 _ _ _ c.skip_white.ensures c.in_err-value.ensures)
+
+pub padded-returns-clause-trimmed : goal.padded-returns-clause-trimmed
+padded-returns-clause-trimmed t c = next_fails_after is_white c.value.new.self.rest.now _ c.skip_white-2.ensures
+
+pub value-returns-in_err-string-in-34 : goal.value-returns-in_err-string-in-34
+value-returns-in_err-string-in-34 t c =
+    at_exit _ _ c.from_residual.result c.in_err-string-in-34.field-0.0 c.from_residual.ensures.1 (string_value_breaks c.args.depth c.in_err-string-in-34.field-0.0 _ _ _ (next_is (seen c.in-34.is c.in-Some.ensures) c.advance.ensures) (c.in_err-string-in-34.ensures is_value))
+
+pub value-returns-in_ok-string-in-34 : goal.value-returns-in_ok-string-in-34
+value-returns-in_ok-string-in-34 t c = string_value c.args.depth c.in_ok-string-in-34.field-0 _ _ _ (next_is (seen c.in-34.is c.in-Some.ensures) c.advance.ensures) (c.in_ok-string-in-34.ensures is_value)
+
+pub value-returns-then-depth-eq0 : goal.value-returns-then-depth-eq0
+value-returns-then-depth-eq0 t c = too_deep in_array first_value 91 c.args.depth _ (seen c.in-91.is c.in-Some.ensures) (λ n k. refl) refl c.if-depth-eq0.true
+
+pub value-returns-then-depth-eq0-2 : goal.value-returns-then-depth-eq0-2
+value-returns-then-depth-eq0-2 t c = too_deep in_object first_name 123 c.args.depth _ (seen c.in-123.is c.in-Some.ensures) (λ n k. refl) refl c.if-depth-eq0-2.true
+
+pub value-returns-in_err-array-in-91 : goal.value-returns-in_err-array-in-91
+value-returns-in_err-array-in-91 t c =
+    let up : suc (c.args.depth - 1) ≡ c.args.depth = omega arith in
+    at_exit _ _ c.from_residual-in_err-array-in-91.result c.in_err-array-in-91.field-0.0 c.from_residual-in_err-array-in-91.ensures.1 (held_breaks in_array first_value 91 c.args.depth (c.args.depth - 1) (λ s. (js : ItemList) × ArrayText (c.args.depth - 1) js s) c.in_err-array-in-91.field-0.0 _ _ _ up (next_is (seen c.in-91.is c.in-Some.ensures) c.advance-in-91.ensures) (λ n l. refl) (λ s h. (json.List h.0, h.1)) c.in_err-array-in-91.ensures)
+
+pub value-returns-in_ok-array-in-91 : goal.value-returns-in_ok-array-in-91
+value-returns-in_ok-array-in-91 t c =
+    let up : suc (c.args.depth - 1) ≡ c.args.depth = omega arith in
+    held_value in_array first_value 91 c.args.depth (c.args.depth - 1) (ArrayText (c.args.depth - 1) c.in_ok-array-in-91.field-0) (json.List c.in_ok-array-in-91.field-0) _ _ _ up (next_is (seen c.in-91.is c.in-Some.ensures) c.advance-in-91.ensures) (λ n l. refl) (λ s h. h) c.in_ok-array-in-91.ensures
+
+pub value-returns-in_err-object-in-123 : goal.value-returns-in_err-object-in-123
+value-returns-in_err-object-in-123 t c =
+    let up : suc (c.args.depth - 1) ≡ c.args.depth = omega arith in
+    at_exit _ _ c.from_residual-in_err-object-in-123.result c.in_err-object-in-123.field-0.0 c.from_residual-in_err-object-in-123.ensures.1 (held_breaks in_object first_name 123 c.args.depth (c.args.depth - 1) (λ s. (fs : FieldList) × ObjectText (c.args.depth - 1) fs s) c.in_err-object-in-123.field-0.0 _ _ _ up (next_is (seen c.in-123.is c.in-Some.ensures) c.advance-in-123.ensures) (λ n l. refl) (λ s h. (json.Object h.0, h.1)) c.in_err-object-in-123.ensures)
+
+pub value-returns-in_ok-object-in-123 : goal.value-returns-in_ok-object-in-123
+value-returns-in_ok-object-in-123 t c =
+    let up : suc (c.args.depth - 1) ≡ c.args.depth = omega arith in
+    held_value in_object first_name 123 c.args.depth (c.args.depth - 1) (ObjectText (c.args.depth - 1) c.in_ok-object-in-123.field-0) (json.Object c.in_ok-object-in-123.field-0) _ _ _ up (next_is (seen c.in-123.is c.in-Some.ensures) c.advance-in-123.ensures) (λ n l. refl) (λ s h. h) c.in_ok-object-in-123.ensures
+
+pub value-returns-in_ok-word-in-110 : goal.value-returns-in_ok-word-in-110
+value-returns-in_ok-word-in-110 t c = word_value c.args.depth 110 (codes "ull") json.Null _ _ (seen c.in-110.is c.in-Some.ensures) (λ n k. refl) refl is_null c.in_ok-word-in-110.ensures
+
+pub value-returns-in_ok-word-in-116 : goal.value-returns-in_ok-word-in-116
+value-returns-in_ok-word-in-116 t c = word_value c.args.depth 116 (codes "rue") (json.Bool true) _ _ (seen c.in-116.is c.in-Some.ensures) (λ n k. refl) refl is_true c.in_ok-word-in-116.ensures
+
+pub value-returns-in_ok-word-in-102 : goal.value-returns-in_ok-word-in-102
+value-returns-in_ok-word-in-102 t c = word_value c.args.depth 102 (codes "alse") (json.Bool false) _ _ (seen c.in-102.is c.in-Some.ensures) (λ n k. refl) refl is_false c.in_ok-word-in-102.ensures
+
+pub value-returns-in_err-word-in-110 : goal.value-returns-in_err-word-in-110
+value-returns-in_err-word-in-110 t c =
+    at_exit _ _ c.from_residual-in_err-word-in-110.result c.in_err-word-in-110.field-0.0 c.from_residual-in_err-word-in-110.ensures.1 (word_value_breaks c.args.depth 110 (codes "ull") json.Null c.in_err-word-in-110.field-0.0 _ _ (seen c.in-110.is c.in-Some.ensures) (λ n k. refl) refl is_null c.in_err-word-in-110.ensures)
+
+pub value-returns-in_err-word-in-116 : goal.value-returns-in_err-word-in-116
+value-returns-in_err-word-in-116 t c =
+    at_exit _ _ c.from_residual-in_err-word-in-116.result c.in_err-word-in-116.field-0.0 c.from_residual-in_err-word-in-116.ensures.1 (word_value_breaks c.args.depth 116 (codes "rue") (json.Bool true) c.in_err-word-in-116.field-0.0 _ _ (seen c.in-116.is c.in-Some.ensures) (λ n k. refl) refl is_true c.in_err-word-in-116.ensures)
+
+pub value-returns-in_err-word-in-102 : goal.value-returns-in_err-word-in-102
+value-returns-in_err-word-in-102 t c =
+    at_exit _ _ c.from_residual-in_err-word-in-102.result c.in_err-word-in-102.field-0.0 c.from_residual-in_err-word-in-102.ensures.1 (word_value_breaks c.args.depth 102 (codes "alse") (json.Bool false) c.in_err-word-in-102.field-0.0 _ _ (seen c.in-102.is c.in-Some.ensures) (λ n k. refl) refl is_false c.in_err-word-in-102.ensures)
+
+pub value-returns-in_ok-number-in-45 : goal.value-returns-in_ok-number-in-45
+value-returns-in_ok-number-in-45 t c = number_value c.args.depth c.in_ok-number-in-45.field-0 _ _ c.in_ok-number-in-45.ensures
+
+pub value-returns-in_err-number-in-45 : goal.value-returns-in_err-number-in-45
+value-returns-in_err-number-in-45 t c =
+    at_exit _ _ c.from_residual-in_err-number-in-45.result c.in_err-number-in-45.field-0.0 c.from_residual-in_err-number-in-45.ensures.1 (number_value_breaks c.args.depth c.in_err-number-in-45.field-0.0 _ _ c.in_err-number-in-45.ensures)
+
+pub value-returns-in_default-first : goal.value-returns-in_default-first
+value-returns-in_default-first t c =
+    elim c.in_default-first.branch [
+      | value-in_default-first-via-then-this-lt48 w ↦ nothing_begins c.in-Some.first c.args.depth _ c.in-Some.ensures c.requires (omega arith) (omega arith) (omega arith) (omega arith) (omega arith) (omega arith) (omega arith) (inl (omega arith))
+      | value-in_default-first-via-else-this-lt48+else-this-lt58 w ↦ nothing_begins c.in-Some.first c.args.depth _ c.in-Some.ensures c.requires (omega arith) (omega arith) (omega arith) (omega arith) (omega arith) (omega arith) (omega arith) (inr (omega arith))
+    ]
+
+pub array-returns-then-take : goal.array-returns-then-take
+array-returns-then-take t c = array_empty c.args.depth c.new-items.result _ _ _ c.new-items.ensures c.skip_white.ensures (c.take.ensures.taken c.if-take.true)
+
+pub array-loop-items-init : goal.array-loop-items-init
+array-loop-items-init t c = array_init c.args.depth c.new-items.result _ _ _ c.new-items.ensures c.skip_white.ensures (c.take.ensures.stays c.if-take.false) (c.take.ensures.other c.if-take.false)
+
+pub array-returns-in_err-item : goal.array-returns-in_err-item
+array-returns-in_err-item t c =
+    at_exit _ _ c.from_residual.result c.in_err-item.field-0.0 c.from_residual.ensures.1 (array_item_breaks c.args.depth c.loop-items.items c.in_err-item.field-0.0 _ _ _ c.loop-items.invariant c.in_err-item.ensures.part)
+
+pub array-returns-then-take-2 : goal.array-returns-then-take-2
+array-returns-then-take-2 t c =
+    array_ends c.args.depth c.loop-items.items c.push.new.self c.in_ok-item.item _ _ _ _ c.loop-items.invariant c.in_ok-item.ensures.part c.in_ok-push.ensures.ok (c.take-in-loop-items.ensures.taken c.if-take-2.true)
+
+pub array-loop-items-preserved : goal.array-loop-items-preserved
+array-loop-items-preserved t c =
+    array_more c.args.depth c.loop-items.items c.push.new.self c.in_ok-item.item _ _ _ _ _ c.loop-items.invariant c.in_ok-item.ensures.part c.in_ok-push.ensures.ok (c.take-in-loop-items.ensures.stays c.if-take-2.false) c.in_ok-expect.ensures
+
+pub array-returns-in_err-expect : goal.array-returns-in_err-expect
+array-returns-in_err-expect t c =
+    at_exit _ _ c.from_residual-in_err-expect.result c.in_err-expect.field-0.0 c.from_residual-in_err-expect.ensures.1 (array_comma_breaks c.args.depth c.loop-items.items c.in_ok-item.item c.in_err-expect.field-0.0 _ _ _ _ _ c.loop-items.invariant c.in_ok-item.ensures.part c.in_ok-item.ensures.trimmed (c.take-in-loop-items.ensures.stays c.if-take-2.false) (c.take-in-loop-items.ensures.other c.if-take-2.false) c.in_err-expect.ensures)
+
+pub padded-value-requires : goal.padded-value-requires
+padded-value-requires t c = (search rules, next_fails_after is_white c.args.self.now.rest.now _ c.skip_white.ensures)
+
+pub object-returns-then-take : goal.object-returns-then-take
+object-returns-then-take t c = rw c.finish.ensures (object_empty c.args.depth c.new-fields.result _ _ _ c.new-fields.ensures c.skip_white.ensures (c.take.ensures.taken c.if-take.true))
+
+pub object-loop-fields-init : goal.object-loop-fields-init
+object-loop-fields-init t c = object_init c.args.depth c.new-fields.result _ _ _ c.new-fields.ensures c.skip_white.ensures (c.take.ensures.stays c.if-take.false) (c.take.ensures.other c.if-take.false)
+
+pub object-returns-in_err-name : goal.object-returns-in_err-name
+object-returns-in_err-name t c =
+    at_exit _ _ c.from_residual.result c.in_err-name.field-0.0 c.from_residual.ensures.1 (object_name_breaks c.args.depth c.loop-fields.fields c.in_err-name.field-0.0 _ _ _ c.loop-fields.invariant c.in_err-name.ensures)
+
+pub object-returns-in_err-item : goal.object-returns-in_err-item
+object-returns-in_err-item t c =
+    at_exit _ _ c.from_residual-in_err-item.result c.in_err-item.field-0.0 c.from_residual-in_err-item.ensures.1 (object_item_breaks c.args.depth c.loop-fields.fields c.in_ok-name.name c.in_err-item.field-0.0 _ _ _ _ c.loop-fields.invariant c.in_ok-name.ensures c.in_err-item.ensures.part)
+
+pub object-returns-then-take-2 : goal.object-returns-then-take-2
+object-returns-then-take-2 t c =
+    rw c.finish-then-take-2.ensures (object_ends c.args.depth c.loop-fields.fields c.put.new.self c.in_ok-name.name c.in_ok-item.item _ _ _ _ _ c.loop-fields.invariant c.in_ok-name.ensures c.in_ok-item.ensures.part c.in_ok-put.ensures (c.take-in-loop-fields.ensures.taken c.if-take-2.true))
+
+pub object-loop-fields-preserved : goal.object-loop-fields-preserved
+object-loop-fields-preserved t c =
+    object_more c.args.depth c.loop-fields.fields c.put.new.self c.in_ok-name.name c.in_ok-item.item _ _ _ _ _ _ c.loop-fields.invariant c.in_ok-name.ensures c.in_ok-item.ensures.part c.in_ok-put.ensures (c.take-in-loop-fields.ensures.stays c.if-take-2.false) c.in_ok-expect.ensures
+
+pub object-returns-in_err-expect : goal.object-returns-in_err-expect
+object-returns-in_err-expect t c =
+    at_exit _ _ c.from_residual-in_err-expect.result c.in_err-expect.field-0.0 c.from_residual-in_err-expect.ensures.1 (object_comma_breaks c.args.depth c.loop-fields.fields c.in_ok-name.name c.in_ok-item.item c.in_err-expect.field-0.0 _ _ _ _ _ _ c.loop-fields.invariant c.in_ok-name.ensures c.in_ok-item.ensures.part c.in_ok-item.ensures.trimmed (c.take-in-loop-fields.ensures.stays c.if-take-2.false) (c.take-in-loop-fields.ensures.other c.if-take-2.false) c.in_err-expect.ensures)

@@ -1,0 +1,45 @@
+ghost use Rattle.std.specs.Prelude.{◌≡◌, ◌≤◌, ◌<◌, ◌^◌};
+ghost use Rattle.json_read.specs.Numeral.{grid_of_text, signed};
+ghost use Rattle.json_read.specs.Scaling.{goes_up, one_if};
+
+use crate::numerals::{Numeral, Scaled};
+
+/// Grid numbers go this far, either way.
+const GRID_LIMIT: u128 = 2_000_000_000;
+
+/// The grid number of a decimal numeral.
+///
+/// Shape and units: `places` decimal places, so that 1 in the result is 10^-`places`.
+/// Errors: `None` where the grid number passes 2,000,000,000 either way, and for a text that is no numeral.
+/// Cost: one pass over the digits; takes no memory.
+/// Source: RFC 8259, section 6, for the numeral; the rounding `floor(v * 10^places + 1/2)` is ours.
+pub fn numeral_to_grid(text: &str, places: u8) -> Option<i64>
+    ensures exact { result ≡ grid_of_text places text.now }
+{
+    let numeral = Numeral::read(text.as_bytes())?;
+    let scaled = numeral.scaled(places);
+    let size = scaled.units + rounding(&scaled, numeral.minus);
+    if size > GRID_LIMIT {
+        return None;
+    }
+    Some(with_sign(numeral.minus, size))
+}
+
+// What rounding adds to the size. Halves go up: away from zero above it, towards zero below it.
+fn rounding(scaled: &Scaled, minus: bool) -> u128
+    ensures { result ≡ one_if (goes_up minus scaled.now) }
+{
+    if scaled.tenths > 5 || scaled.tenths == 5 && (scaled.more || !minus) {
+        1
+    } else {
+        0
+    }
+}
+
+fn with_sign(minus: bool, size: u128) -> i64
+    requires { size < 2 ^ 32 }
+    ensures { result ≡ signed minus size }
+{
+    let size = size as i64;
+    if minus { -size } else { size }
+}

@@ -1,0 +1,551 @@
+ghost use Rattle.std.specs.Prelude.{◌≡◌, ◌++◌, ◌∷◌, ◌<◌, ◌≤◌, IfSome, [], List, ℕ, true, false, length, MatchOption, MatchResult, OnOk, OnErr, IfOk, IfErr, IsTrue, if◌then◌else◌};
+ghost use Rattle.std.specs.String.{string_bytes};
+ghost use Rattle.json_read.specs.Bytes.{is_white, is_digit, is_hex, is_exponent_letter};
+ghost use Rattle.json_read.specs.Grammar.{Minus, Whole, Fraction, Exponent, Number, Sign, short_escape, Mark, is_high, is_low, mended as mended_char, pair as pair_char};
+ghost use Rattle.json_read.specs.Machine.{behind_minus, behind_zero, behind_mantissa, behind_letter, behind_sign, value, start, after, first_value, first_name, next_name, in_word, in_array, in_object, Role, in_string, in_escape, in_hex, closed, second_bounds as bounds_of};
+ghost use Rattle.json_read.specs.Reading.{NextFails, NextIsNot, drop_while, Passes, Part, ReadsDigits, NumberBegins, NumeralOf, ClosesAs, StandsFor, StandsEscaped, StandsInHex, ReadsHexDigit, ReadsFollowing, joined_onto, PartAt, Shows, ShowsPadded, ArrayText, ObjectText, NameText, ReadsByte, ReadsText, outside, inside, behind};
+ghost use Rattle.json_read.specs.declared.reader.Fault.TheVariants.{Syntax};
+ghost use Rattle.json_read.specs.declared.reader.Stop.TheVariants.{Memory};
+
+use crate::growing_fields::GrowingFields;
+use crate::json::{Json, JsonFields, JsonList};
+use io_core::Text;
+use std::alloc::{AllocError, Global};
+
+/// The greatest depth of an array or an object.
+pub const GREATEST_DEPTH: u32 = 64;
+
+/// How the bytes fail to be a text.
+#[derive(Clone, Copy, Debug, PartialEq, Eq, Drop)]
+pub enum Fault {
+    Syntax,
+    Depth,
+    Utf8,
+}
+
+/// Why a reader stopped.
+#[derive(Debug, Drop)]
+pub enum Stop {
+    Fault(Fault),
+    Memory,
+}
+
+/// What is left to read. At a fault it stands behind the longest prefix that begins some text.
+#[derive(Drop)]
+pub struct Reader<'a> {
+    alloc: Global,
+    rest: &'a [u8],
+}
+
+impl<'a> Reader<'a> {
+    pub fn new(alloc: Global, bytes: &'a [u8]) -> Self
+        ensures { result.rest.now ≡ bytes.now }
+    {
+        Reader { alloc, rest: bytes }
+    }
+
+    /// The next byte.
+    fn peek(&self) -> Option<u8>
+        ensures { MatchOption result (self.now.rest.now ≡ [])
+            (λ b. (bs : List ℕ) × (self.now.rest.now ≡ b ∷ bs)) }
+    {
+        self.rest.first().copied()
+    }
+
+    /// Goes past one byte.
+    fn advance(&mut self)
+        requires { 0 < length self.old.rest.now }
+        ensures { (b : ℕ) × (self.old.rest.now ≡ b ∷ self.new.rest.now) }
+    {
+        self.rest = &self.rest[1..];
+    }
+
+    /// Goes past the byte `b`, where it is the next one.
+    fn take(&mut self, b: u8) -> bool
+        ensures taken { result ≡ true → self.old.rest.now ≡ b ∷ self.new.rest.now }
+        ensures stays { result ≡ false → self.new.rest.now ≡ self.old.rest.now }
+        ensures other { result ≡ false → NextIsNot b self.new.rest.now }
+    {
+        if self.peek() == Some(b) {
+            self.advance();
+            true
+        } else {
+            false
+        }
+    }
+
+    fn skip_white(&mut self)
+        ensures { self.new.rest.now ≡ drop_while is_white self.old.rest.now }
+    {
+        while let Some(b' ' | b'\t' | b'\n' | b'\r') = self.peek() {
+            self.advance();
+        }
+    }
+
+    fn digits(&mut self)
+        ensures { self.new.rest.now ≡ drop_while is_digit self.old.rest.now }
+    {
+        while let Some(b'0'..=b'9') = self.peek() {
+            self.advance();
+        }
+    }
+
+    /// One or more digits.
+    fn some_digits(&mut self) -> Result<(), Stop>
+        ensures { ReadsDigits result self.old.rest.now self.new.rest.now }
+    {
+        match self.peek() {
+            Some(b'0'..=b'9') => {
+                self.digits();
+                Ok(())
+            }
+            _ => Err(Stop::Fault(Fault::Syntax)),
+        }
+    }
+
+    fn minus(&mut self)
+        requires { NumberBegins self.old.rest.now }
+        ensures { Passes Minus value behind_minus self.old.rest.now self.new.rest.now }
+    {
+        let _ = self.take(b'-');
+    }
+
+    fn whole(&mut self) -> Result<(), Stop>
+        ensures { Part (λ _. Whole) behind_minus behind_zero result self.old.rest.now self.new.rest.now }
+    {
+        if self.take(b'0') {
+            return Ok(());
+        }
+        self.some_digits()
+    }
+
+    fn fraction(&mut self) -> Result<(), Stop>
+        ensures { Part (λ _. Fraction) behind_zero behind_mantissa result self.old.rest.now self.new.rest.now }
+    {
+        if !self.take(b'.') {
+            return Ok(());
+        }
+        self.some_digits()
+    }
+
+    fn exponent(&mut self) -> Result<(), Stop>
+        ensures { Part (λ _. Exponent) behind_mantissa after result self.old.rest.now self.new.rest.now }
+    {
+        if !self.exponent_letter() {
+            return Ok(());
+        }
+        self.sign();
+        self.some_digits()
+    }
+
+    fn exponent_letter(&mut self) -> bool
+        ensures taken { result ≡ true
+            → (b : ℕ) × (self.old.rest.now ≡ b ∷ self.new.rest.now) × IsTrue (is_exponent_letter b) }
+        ensures stays { result ≡ false → self.new.rest.now ≡ self.old.rest.now }
+        ensures other { result ≡ false → NextFails is_exponent_letter self.new.rest.now }
+    {
+        self.take(b'e') || self.take(b'E')
+    }
+
+    fn sign(&mut self)
+        ensures { Passes Sign behind_letter behind_sign self.old.rest.now self.new.rest.now }
+    {
+        let _ = self.take(b'+') || self.take(b'-');
+    }
+
+    /// A number, which keeps its text.
+    fn number(&mut self) -> Result<Text, Stop>
+        requires { NumberBegins self.old.rest.now }
+        ensures { Part NumeralOf value after result self.old.rest.now self.new.rest.now }
+    {
+        let start = self.rest;
+        self.minus();
+        self.whole()?;
+        self.fraction()?;
+        self.exponent()?;
+        let text = &start[..start.len() - self.rest.len()];
+        let text = numeral_text(text);
+        Ok(Text::of(self.alloc, text)?)
+    }
+
+    /// A string, behind its first quote.
+    fn string(&mut self) -> Result<Text, Stop>
+        ensures { (r : Role) → Part ClosesAs (in_string r) (closed r) result self.old.rest.now self.new.rest.now }
+    {
+        let mut text = String::new(self.alloc);
+        let mut half = None;
+        loop {
+            if self.take(b'"') {
+                end_units(&mut text, half)?;
+                return Ok(Text::from_string(text));
+            }
+            let unit = self.unit()?;
+            half = push_unit(&mut text, half, unit)?;
+        }
+    }
+
+    /// One character or escape of a string.
+    fn unit(&mut self) -> Result<u32, Stop>
+        requires { NextIsNot 34 self.old.rest.now }
+        ensures { (r : Role) → Part StandsFor (in_string r) (in_string r) result self.old.rest.now self.new.rest.now }
+    {
+        if self.take(b'\\') {
+            return self.escape();
+        }
+        let Some(first) = self.peek() else {
+            return Err(Stop::Fault(Fault::Syntax));
+        };
+        if first < 0x20 {
+            return Err(Stop::Fault(Fault::Syntax));
+        }
+        if first < 0x80 {
+            self.advance();
+            return Ok(u32::from(first));
+        }
+        self.character(first)
+    }
+
+    /// An escape, behind the backslash.
+    fn escape(&mut self) -> Result<u32, Stop>
+        ensures { (r : Role) → Part StandsEscaped (in_escape r) (in_string r) result self.old.rest.now self.new.rest.now }
+    {
+        if self.take(b'u') {
+            return self.four_hex();
+        }
+        let Some(letter) = self.peek() else {
+            return Err(Stop::Fault(Fault::Syntax));
+        };
+        let Some(unit) = escaped(letter) else {
+            return Err(Stop::Fault(Fault::Syntax));
+        };
+        self.advance();
+        Ok(unit)
+    }
+
+    /// Four hexadecimal digits.
+    fn four_hex(&mut self) -> Result<u32, Stop>
+        ensures { (r : Role) → Part StandsInHex (in_hex r 3) (in_string r) result self.old.rest.now self.new.rest.now }
+    {
+        let a = self.hex_digit()?;
+        let b = self.hex_digit()?;
+        let c = self.hex_digit()?;
+        let d = self.hex_digit()?;
+        Ok(((a * 16 + b) * 16 + c) * 16 + d)
+    }
+
+    fn hex_digit(&mut self) -> Result<u32, Stop>
+        ensures { ReadsHexDigit result self.old.rest.now self.new.rest.now }
+    {
+        let Some(letter) = self.peek() else {
+            return Err(Stop::Fault(Fault::Syntax));
+        };
+        let Some(digit) = char::from(letter).to_digit(16) else {
+            return Err(Stop::Fault(Fault::Syntax));
+        };
+        self.advance();
+        Ok(digit)
+    }
+
+    /// A character of several bytes, whose first is `first`.
+    fn character(&mut self, first: u8) -> Result<u32, Stop>
+        requires first { (bs : List ℕ) × (self.old.rest.now ≡ first ∷ bs) }
+        requires several { 128 ≤ first }
+        ensures { (r : Role) → Part StandsFor (in_string r) (in_string r) result self.old.rest.now self.new.rest.now }
+    {
+        let Some((low, high)) = second_bounds(first) else {
+            return Err(Stop::Fault(Fault::Utf8));
+        };
+        self.advance();
+        let lead = u32::from(first);
+        let second = self.following(low, high)?;
+        if first < 0xE0 {
+            return Ok((lead - 0xC0) * 64 + second);
+        }
+        let third = self.following(0x80, 0xC0)?;
+        if first < 0xF0 {
+            return Ok(((lead - 0xE0) * 64 + second) * 64 + third);
+        }
+        let fourth = self.following(0x80, 0xC0)?;
+        Ok((((lead - 0xF0) * 64 + second) * 64 + third) * 64 + fourth)
+    }
+
+    /// The six bits of a byte from `low` up to `high` that follows in a character.
+    fn following(&mut self, low: u8, high: u8) -> Result<u32, Stop>
+        requires low { 128 ≤ low }
+        requires high { high ≤ 192 }
+        ensures { ReadsFollowing low high result self.old.rest.now self.new.rest.now }
+    {
+        let Some(byte) = self.peek() else {
+            return Err(Stop::Fault(Fault::Utf8));
+        };
+        if byte < low || byte >= high {
+            return Err(Stop::Fault(Fault::Utf8));
+        }
+        self.advance();
+        Ok(u32::from(byte) - 0x80)
+    }
+}
+
+// What a letter behind a backslash stands for.
+fn escaped(letter: u8) -> Option<u32>
+    ensures { result ≡ short_escape letter }
+{
+    match letter {
+        b'"' => Some(0x22),
+        b'\\' => Some(0x5C),
+        b'/' => Some(0x2F),
+        b'b' => Some(0x08),
+        b'f' => Some(0x0C),
+        b'n' => Some(0x0A),
+        b'r' => Some(0x0D),
+        b't' => Some(0x09),
+        _ => None,
+    }
+}
+
+// The bounds of the second byte of a character of several bytes.
+fn second_bounds(first: u8) -> Option<(u8, u8)>
+    requires { 128 ≤ first }
+    ensures { result ≡ bounds_of first }
+{
+    match first {
+        0xC2..=0xDF => Some((0x80, 0xC0)),
+        0xE0 => Some((0xA0, 0xC0)),
+        0xED => Some((0x80, 0xA0)),
+        0xE1..=0xEF => Some((0x80, 0xC0)),
+        0xF0 => Some((0x90, 0xC0)),
+        0xF1..=0xF3 => Some((0x80, 0xC0)),
+        0xF4 => Some((0x80, 0x90)),
+        _ => None,
+    }
+}
+
+// Writes a unit behind `half`, the first half of a surrogate pair or none, and answers the new half.
+fn push_unit(text: &mut String, half: Option<u32>, unit: u32) -> Result<Option<u32>, AllocError>
+    requires { IfSome half (λ h. IsTrue (is_high h)) }
+    ensures half { IfOk result (λ next. IfSome next (λ h. IsTrue (is_high h))) }
+    ensures text { IfOk result (λ next. (us : List ℕ) → joined_onto (string_bytes text.new) next us ≡ joined_onto (string_bytes text.old) half (unit ∷ us)) }
+{
+    if let Some(high) = half {
+        if let 0xDC00..=0xDFFF = unit {
+            text.push(pair(high, unit))?;
+            return Ok(None);
+        }
+        text.push('\u{FFFD}')?;
+    }
+    if let 0xD800..=0xDBFF = unit {
+        return Ok(Some(unit));
+    }
+    text.push(mended(unit))?;
+    Ok(None)
+}
+
+fn end_units(text: &mut String, half: Option<u32>) -> Result<(), AllocError>
+    ensures { OnOk result (string_bytes text.new ≡ joined_onto (string_bytes text.old) half []) }
+{
+    if half.is_some() {
+        text.push('\u{FFFD}')?;
+    }
+    Ok(())
+}
+
+fn mended(unit: u32) -> char
+    ensures { result ≡ mended_char unit }
+{
+    char::from_u32(unit).unwrap_or('\u{FFFD}')
+}
+
+fn pair(high: u32, low: u32) -> char
+    requires high { IsTrue (is_high high) }
+    requires low { IsTrue (is_low low) }
+    ensures { result ≡ pair_char high low }
+{
+    match char::from_u32(0x1_0000 + (high - 0xD800) * 0x400 + (low - 0xDC00)) {
+        Some(character) => character,
+        None => unreachable!(),
+    }
+}
+
+impl<'a> Reader<'a> {
+    /// Goes past the byte `b`.
+    fn expect(&mut self, b: u8) -> Result<(), Stop>
+        ensures { ReadsByte b result self.old.rest.now self.new.rest.now }
+    {
+        if self.take(b) {
+            Ok(())
+        } else {
+            Err(Stop::Fault(Fault::Syntax))
+        }
+    }
+
+    /// The letters of `true`, `false` or `null`.
+    fn word(&mut self, letters: &[u8]) -> Result<(), Stop>
+        requires { 0 < length letters.now }
+        ensures { Part (λ _ t. t ≡ letters.now) (in_word letters.now) after result self.old.rest.now self.new.rest.now }
+    {
+        for letter in letters {
+            self.expect(*letter)?;
+        }
+        Ok(())
+    }
+
+    /// A whole text.
+    pub(crate) fn text(&mut self) -> Result<Json, Stop>
+        ensures { ReadsText GREATEST_DEPTH result self.old.rest.now self.new.rest.now }
+    {
+        self.mark()?;
+        let value = self.padded(GREATEST_DEPTH)?;
+        if self.rest.is_empty() {
+            Ok(value)
+        } else {
+            Err(Stop::Fault(Fault::Syntax))
+        }
+    }
+
+    /// How many bytes are left.
+    pub(crate) fn left(&self) -> usize
+        ensures { result ≡ length self.now.rest.now }
+    {
+        self.rest.len()
+    }
+
+    /// A byte order mark, or nothing.
+    fn mark(&mut self) -> Result<(), Stop>
+        ensures { Part (λ _. Mark) start value result self.old.rest.now self.new.rest.now }
+    {
+        if self.take(0xEF) {
+            self.expect(0xBB)?;
+            self.expect(0xBF)?;
+        }
+        Ok(())
+    }
+
+    /// A value, with at most `depth` arrays and objects in one another.
+    #[cycle(values)]
+    fn value(&mut self, depth: u32) -> Result<Json, Stop>
+        requires { NextFails is_white self.old.rest.now }
+        ensures { PartAt (Shows depth) (outside depth value) (outside depth after) result self.old.rest.now self.new.rest.now }
+    {
+        let Some(first) = self.peek() else {
+            return Err(Stop::Fault(Fault::Syntax));
+        };
+        match first {
+            b'"' => {
+                self.advance();
+                Ok(Json::Text(self.string()?))
+            }
+            b'[' => {
+                if depth == 0 {
+                    return Err(Stop::Fault(Fault::Depth));
+                }
+                self.advance();
+                Ok(Json::List(self.array(depth - 1)?))
+            }
+            b'{' => {
+                if depth == 0 {
+                    return Err(Stop::Fault(Fault::Depth));
+                }
+                self.advance();
+                Ok(Json::Object(self.object(depth - 1)?))
+            }
+            b'-' | b'0'..=b'9' => Ok(Json::Num(self.number()?)),
+            b'n' => {
+                self.word(b"null")?;
+                Ok(Json::Null)
+            }
+            b't' => {
+                self.word(b"true")?;
+                Ok(Json::Bool(true))
+            }
+            b'f' => {
+                self.word(b"false")?;
+                Ok(Json::Bool(false))
+            }
+            _ => Err(Stop::Fault(Fault::Syntax)),
+        }
+    }
+
+    /// A value, with white space around it.
+    #[cycle(values)]
+    fn padded(&mut self, depth: u32) -> Result<Json, Stop>
+        ensures part { PartAt (ShowsPadded depth) (outside depth value) (outside depth after) result self.old.rest.now self.new.rest.now }
+        ensures trimmed { OnOk result (NextFails is_white self.new.rest.now) }
+    {
+        self.skip_white();
+        let value = self.value(depth)?;
+        self.skip_white();
+        Ok(value)
+    }
+
+    /// An array, behind its bracket.
+    #[cycle(values)]
+    fn array(&mut self, depth: u32) -> Result<JsonList, Stop>
+        ensures { PartAt (ArrayText depth) (inside in_array depth first_value) (behind depth) result self.old.rest.now self.new.rest.now }
+    {
+        let mut items = JsonList::new(self.alloc);
+        self.skip_white();
+        if self.take(b']') {
+            return Ok(items);
+        }
+        loop {
+            let item = self.padded(depth)?;
+            items.push(item)?;
+            if self.take(b']') {
+                return Ok(items);
+            }
+            self.expect(b',')?;
+        }
+    }
+
+    /// An object, behind its brace.
+    #[cycle(values)]
+    fn object(&mut self, depth: u32) -> Result<JsonFields, Stop>
+        ensures { PartAt (ObjectText depth) (inside in_object depth first_name) (behind depth) result self.old.rest.now self.new.rest.now }
+    {
+        let mut fields = GrowingFields::new(self.alloc);
+        self.skip_white();
+        if self.take(b'}') {
+            return Ok(fields.finish());
+        }
+        loop {
+            let name = self.name()?;
+            let item = self.padded(depth)?;
+            fields.put(name, item)?;
+            if self.take(b'}') {
+                return Ok(fields.finish());
+            }
+            self.expect(b',')?;
+        }
+    }
+
+    /// A name and its colon.
+    fn name(&mut self) -> Result<Text, Stop>
+        ensures { Part NameText next_name value result self.old.rest.now self.new.rest.now }
+    {
+        self.skip_white();
+        self.expect(b'"')?;
+        let name = self.string()?;
+        self.skip_white();
+        self.expect(b':')?;
+        Ok(name)
+    }
+}
+
+// A numeral is ASCII.
+fn numeral_text(text: &[u8]) -> &str
+    requires { Number text.now }
+    ensures { result.now ≡ text.now }
+{
+    match str::from_utf8(text) {
+        Ok(text) => text,
+        Err(_) => unreachable!(),
+    }
+}
+
+impl From<AllocError> for Stop {
+    ghost from_gives = { λ _ s. s ≡ Memory };
+
+    fn from(_e: AllocError) -> Stop {
+        Stop::Memory
+    }
+}
