@@ -1,0 +1,32 @@
+//! The grid: points, segments, links, boxes, the numbers of arcs, faces and features, and lists of these.
+//!
+//! Grid numbers are whole and at most 2,000,000,000 in absolute value. Contracts see a `Pt` as a `GridPoint` of
+//! `plane_model`, a `Seg` and a `Link` as a `Segment`, and a list as the list of its items.
+#![tactic(auto)]
+
+mod area;
+mod drawing;
+mod kinds;
+mod link;
+mod list_types;
+mod numbers;
+mod point;
+mod segment;
+mod signed_arc;
+mod snapped;
+
+pub use area::Rect;
+pub use drawing::Drawing;
+pub use kinds::{Kind, OverlapRule};
+pub use link::Link;
+pub use list_types::{
+    BoxList, GroupList, IdList, LinkList, Path, PathList, PolygonRings, PtList, RingsList,
+};
+pub use numbers::{ArcId, FaceId, FeatId};
+pub use point::{Pt, turn};
+pub use segment::Seg;
+pub use signed_arc::SignedArc;
+pub use snapped::Snapped;
+
+#[cfg(test)]
+mod tests;
