@@ -1,0 +1,6 @@
+pub mod ReadLemmas
+pub mod PathLemmas
+pub mod GeometryLemmas
+pub mod TextLemmas
+pub mod FeatureLemmas
+pub mod PropertyLemmas

@@ -1,0 +1,130 @@
+-- Texts with commas between them, written one after another.
+use Rattle.std.proofs.Common.{◌≡◌, ℕ, zero, suc, codes, zip, ◌+◌, ◌<◌, ◌≤◌, ◌==◌, Bool, true, false, cond, eqb, ℤ, List, [], ◌∷◌, ◌++◌, length, take, map, get_or, refl, sym, ap, ◌∙◌, subst, arith}
+use Rattle.std.proofs.lemmas.List.{append_assoc, append-nil, take_more, map-append, length-take-le, length-map, take_all}
+use Rattle.std.proofs.lemmas.Bool.Decides.{nat_tests}
+use Rattle.geojson_io.specs.Texts.{Text, separated, before_item, list_text, grid_text, point_text, type_text, typed, one_or_many, geometry_text, member_text, properties_text, feature_text, key_text, features_text, line_end, geojson_text}
+use Rattle.geojson_io.specs.LayerContent.{LayerContent}
+use Rattle.std.proofs.lemmas.Slice.Zip.{get_or-zip}
+use Rattle.json_read.specs.Table.{RowValues, AreRows}
+use Rattle.json_read.specs.declared.value.Value.{Value}
+use Rattle.geojson_io.specs.declared.shape.GeoShape.{GeoShape}
+use Rattle.json_read.specs.Decimal.{of_grid, decimal_text}
+use Rattle.plane_model.specs.Points.{GridPoint}
+
+before_some : (c : Text) (n : ℕ) → before_item c (suc n) ≡ c
+before_some c n = grind (arith, nat_tests)
+
+-- one text more
+pub separated-push : (c : Text) (ts : List Text) (t : Text) → separated c (ts ++ t ∷ []) ≡ separated c ts ++ (before_item c (length ts) ++ t)
+separated-push c [] t = refl
+separated-push c (s ∷ []) t = refl
+separated-push c (s ∷ u ∷ rest) t =
+    ap (λ (w : Text). s ++ (c ++ w)) (separated-push c (u ∷ rest) t)
+    ∙ ap (λ (w : Text). s ++ (c ++ (separated c (u ∷ rest) ++ (w ++ t)))) (before_some c (length rest))
+    ∙ ap (λ (w : Text). s ++ w) (sym (append_assoc c (separated c (u ∷ rest)) (c ++ t)))
+    ∙ sym (append_assoc s (c ++ separated c (u ∷ rest)) (c ++ t))
+    ∙ ap (λ (w : Text). separated c (s ∷ u ∷ rest) ++ (w ++ t)) (sym (before_some c (suc (length rest))))
+
+module _ {A : Type 0} (show : A → Text) (c : Text) where
+  -- the texts of the first i items
+  abbrev pub shown_to : List A → ℕ → Text
+  shown_to xs i = separated c (map show (take i xs))
+
+  pub shown_more : (xs : List A) (i : ℕ) (x : A) → i < length xs → x ≡ get_or xs i x → shown_to xs (i + 1) ≡ shown_to xs i ++ (before_item c i ++ show x)
+  shown_more xs i x l is =
+      let more : take (i + 1) xs ≡ take i xs ++ x ∷ [] = take_more xs i x l ∙ ap (λ (y : A). take i xs ++ y ∷ []) (sym is) in
+      let count : length (map show (take i xs)) ≡ i = length-map (take i xs) show ∙ length-take-le i xs (omega arith) in
+      ap (λ (ys : List A). separated c (map show ys)) more ∙ ap (separated c) (map-append show (take i xs) (x ∷ []))
+      ∙ separated-push c (map show (take i xs)) (show x) ∙ ap (λ (n : ℕ). shown_to xs i ++ (before_item c n ++ show x)) count
+
+  pub all_shown : (xs : List A) (i : ℕ) → length xs ≤ i → shown_to xs i ≡ separated c (map show xs)
+  all_shown xs i l = ap (λ (ys : List A). separated c (map show ys)) (take_all i xs l)
+
+  -- what was written, and now the next item
+  pub written_more : (out start mark end : Text) (xs : List A) (i : ℕ) (x : A) → i < length xs → x ≡ get_or xs i x
+      → out ≡ start ++ shown_to xs i → mark ≡ out ++ before_item c i → end ≡ mark ++ show x → end ≡ start ++ shown_to xs (i + 1)
+  written_more out start mark end xs i x l is o m e =
+      e ∙ ap (λ (w : Text). w ++ show x) (m ∙ ap (λ (w : Text). w ++ before_item c i) o)
+      ∙ append_assoc (start ++ shown_to xs i) (before_item c i) (show x) ∙ append_assoc start (shown_to xs i) (before_item c i ++ show x)
+      ∙ ap (λ (w : Text). start ++ w) (sym (shown_more xs i x l is))
+
+-- the whole list
+pub list_written : {A : Type 0} (show : A → Text) (old start out end : Text) (xs : List A) (i : ℕ) → length xs ≤ i → start ≡ old ++ 91 ∷ [] → out ≡ start ++ separated (44 ∷ []) (map show (take i xs)) → end ≡ out ++ 93 ∷ [] → end ≡ old ++ list_text show xs
+list_written {A} show old start out end xs i l s o e =
+    e ∙ ap (λ (w : Text). w ++ 93 ∷ []) (o ∙ (λ j. s j ++ separated (44 ∷ []) (map show (take_all i xs l j))))
+    ∙ append_assoc (old ++ 91 ∷ []) (separated (44 ∷ []) (map show xs)) (93 ∷ []) ∙ append_assoc old (91 ∷ []) (separated (44 ∷ []) (map show xs) ++ 93 ∷ [])
+
+-- a point's text, piece by piece
+pub point_written : (places : ℕ) (p : GridPoint) (old a b c d e : Text) (gx gy : ℤ) → gx ≡ of_grid p.x places → gy ≡ of_grid p.y places
+    → a ≡ old ++ 91 ∷ [] → b ≡ a ++ decimal_text gx → c ≡ b ++ 44 ∷ [] → d ≡ c ++ decimal_text gy → e ≡ d ++ 93 ∷ [] → e ≡ old ++ point_text places p
+point_written places p old a b c d e gx gy ex ey ea eb ec ed ee =
+    let x : Text = grid_text places p.x in
+    let y : Text = grid_text places p.y in
+    ee ∙ ap (λ (w : Text). w ++ 93 ∷ []) (ed ∙ (λ i. ec i ++ decimal_text (ey i)) ∙ ap (λ (w : Text). (w ++ 44 ∷ []) ++ y) (eb ∙ (λ i. ea i ++ decimal_text (ex i))))
+    ∙ append_assoc (((old ++ 91 ∷ []) ++ x) ++ 44 ∷ []) y (93 ∷ []) ∙ append_assoc ((old ++ 91 ∷ []) ++ x) (44 ∷ []) (y ++ 93 ∷ [])
+    ∙ append_assoc (old ++ 91 ∷ []) x (44 ∷ (y ++ 93 ∷ [])) ∙ append_assoc old (91 ∷ []) (x ++ (44 ∷ (y ++ 93 ∷ [])))
+
+-- a geometry object, piece by piece
+object_written : (type text old a b e : Text) → a ≡ old ++ type_text type → b ≡ a ++ text → e ≡ b ++ 125 ∷ [] → e ≡ old ++ typed type text
+object_written type text old a b e ea eb ee =
+    ee ∙ ap (λ (w : Text). w ++ 125 ∷ []) (eb ∙ ap (λ (w : Text). w ++ text) ea)
+    ∙ append_assoc (old ++ type_text type) text (125 ∷ []) ∙ append_assoc old (type_text type) (text ++ 125 ∷ [])
+
+pub one_written : {A : Type 0} (one many : Text) (show : A → Text) (xs : List A) (x : A) (old a b e : Text) → 1 ≤ length xs → length xs < 2 → x ≡ get_or xs 0 x
+    → a ≡ old ++ type_text one → b ≡ a ++ show x → e ≡ b ++ 125 ∷ [] → e ≡ old ++ one_or_many one many show xs
+one_written one many show [] x old a b e l k is ea eb ee = absurd (omega arith)
+one_written one many show (y ∷ []) x old a b e l k is ea eb ee = object_written one (show x) old a b e ea eb ee ∙ ap (λ z. old ++ typed one (show z)) is
+one_written one many show (y ∷ z ∷ rest) x old a b e l k is ea eb ee = absurd (omega arith)
+
+pub many_written : {A : Type 0} (one many : Text) (show : A → Text) (xs : List A) (old a b e : Text) → 2 ≤ length xs
+    → a ≡ old ++ type_text many → b ≡ a ++ list_text show xs → e ≡ b ++ 125 ∷ [] → e ≡ old ++ one_or_many one many show xs
+many_written one many show [] old a b e l ea eb ee = absurd (omega arith)
+many_written one many show (y ∷ []) old a b e l ea eb ee = absurd (omega arith)
+many_written one many show (y ∷ z ∷ rest) old a b e l ea eb ee = object_written many (list_text show (y ∷ z ∷ rest)) old a b e ea eb ee
+
+-- the pair at a place of two lists
+pub pair_at : {A B : Type 0} (ks : List A) (vs : List B) (i : ℕ) (k : A) (v : B) → i < length ks → i < length vs → k ≡ get_or ks i k → v ≡ get_or vs i v → (k, v) ≡ get_or (zip ks vs) i (k, v)
+pair_at {A} {B} ks vs i k v l m e f = (λ j. let p : A × B = (e j, f j) in p) ∙ sym (get_or-zip ks vs i (k, v) l m)
+
+-- the object of all columns
+pub properties_written : (keys : List Text) (row : RowValues) (old start out end : Text) (i : ℕ) → 0 < length keys → length (zip keys row) ≤ i → start ≡ old ++ 123 ∷ []
+    → out ≡ start ++ separated (44 ∷ []) (map member_text (take i (zip keys row))) → end ≡ out ++ 125 ∷ [] → end ≡ old ++ properties_text keys row
+properties_written [] row old start out end i n l s o e = absurd (omega arith)
+properties_written (k ∷ ks) row old start out end i n l s o e =
+    let whole : List (Text × Value) = zip (k ∷ ks) row in
+    e ∙ ap (λ (w : Text). w ++ 125 ∷ []) (o ∙ (λ j. s j ++ separated (44 ∷ []) (map member_text (take_all i whole l j))))
+    ∙ append_assoc (old ++ 123 ∷ []) (separated (44 ∷ []) (map member_text whole)) (125 ∷ []) ∙ append_assoc old (123 ∷ []) (separated (44 ∷ []) (map member_text whole) ++ 125 ∷ [])
+
+-- each row has the width of the columns
+pub width_at : (n : ℕ) (rows : List RowValues) (i : ℕ) (row : RowValues) → AreRows n rows → i < length rows → row ≡ get_or rows i row → n ≡ length row
+width_at n [] i row h l e = absurd (omega arith)
+width_at n (r ∷ rows) zero row h l e = sym (ap length e ∙ h.0)
+width_at n (r ∷ rows) (suc i) row h l e = width_at n rows i row h.1 (omega arith) e
+
+-- a feature, piece by piece
+pub feature_written : (places : ℕ) (keys : List Text) (row : RowValues) (shape : GeoShape) (old a b c d e : Text)
+    → a ≡ old ++ codes "{\"type\":\"Feature\",\"geometry\":" → b ≡ a ++ geometry_text places shape → c ≡ b ++ codes ",\"properties\":" → d ≡ c ++ properties_text keys row → e ≡ d ++ 125 ∷ []
+    → e ≡ old ++ feature_text places keys (row, shape)
+feature_written places keys row shape old a b c d e ea eb ec ed ee =
+    let first : Text = codes "{\"type\":\"Feature\",\"geometry\":" in
+    let g : Text = geometry_text places shape in
+    let mid : Text = codes ",\"properties\":" in
+    let p : Text = properties_text keys row in
+    ee ∙ ap (λ (w : Text). w ++ 125 ∷ []) (ed ∙ ap (λ (w : Text). w ++ p) (ec ∙ ap (λ (w : Text). w ++ mid) (eb ∙ ap (λ (w : Text). w ++ g) ea)))
+    ∙ append_assoc (((old ++ first) ++ g) ++ mid) p (125 ∷ []) ∙ append_assoc ((old ++ first) ++ g) mid (p ++ 125 ∷ [])
+    ∙ append_assoc (old ++ first) g (mid ++ (p ++ 125 ∷ [])) ∙ append_assoc old first (g ++ (mid ++ (p ++ 125 ∷ [])))
+
+-- the whole text, piece by piece
+pub geojson_written : (places : ℕ) (l : LayerContent) (keys : List Text) (rows : List RowValues) (shapes : List GeoShape) (empty room a b c e : Text)
+    → keys ≡ map key_text l.table.names → rows ≡ l.table.rows → shapes ≡ l.shapes → empty ≡ [] → room ≡ empty → a ≡ room ++ codes "{\"type\":\"FeatureCollection\",\"features\":[\n"
+    → b ≡ a ++ features_text places keys rows shapes → c ≡ b ++ line_end shapes → e ≡ c ++ codes "]}\n" → e ≡ geojson_text places l
+geojson_written places l keys rows shapes empty room a b c e same_keys same_rows same_shapes eo er ea eb ec ee =
+    let head : Text = codes "{\"type\":\"FeatureCollection\",\"features\":[\n" in
+    let body : Text = features_text places (map key_text l.table.names) l.table.rows l.shapes in
+    let line : Text = line_end l.shapes in
+    let tail : Text = codes "]}\n" in
+    let first : a ≡ head = ea ∙ ap (λ (w : Text). w ++ head) (er ∙ eo) in
+    let second : b ≡ a ++ body = eb ∙ (λ i. a ++ features_text places (same_keys i) (same_rows i) (same_shapes i)) in
+    let third : c ≡ b ++ line = ec ∙ (λ i. b ++ line_end (same_shapes i)) in
+    ee ∙ ap (λ (w : Text). w ++ tail) (third ∙ ap (λ (w : Text). w ++ line) (second ∙ ap (λ (w : Text). w ++ body) first))
+    ∙ append_assoc (head ++ body) line tail ∙ append_assoc head body (line ++ tail)

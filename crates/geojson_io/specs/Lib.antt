@@ -1,0 +1,7 @@
+pub mod Reads
+pub mod Positions
+pub mod Geometries
+pub mod Features
+pub mod LayerContent
+pub mod Layers
+pub mod Texts

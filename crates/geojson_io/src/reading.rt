@@ -1,0 +1,45 @@
+ghost use Rattle.std.specs.Prelude.{◌≡◌, ◌≤◌, IfOk, IfErr, Ok};
+ghost use Rattle.json_read.specs.Seen.{json_value};
+ghost use Rattle.geojson_io.specs.Reads.{IsFault};
+ghost use Rattle.geojson_io.specs.Layers.{read_geojson as geojson_layers};
+
+mod features;
+mod geometries;
+mod layering;
+mod positions;
+mod types;
+
+use crate::fault::{ShapeFault, ShapeWhy};
+use crate::layer::{GeoLayers, Room};
+use features::{members, top_members};
+use json_read::Json;
+use layering::layers_of;
+use std::alloc::Global;
+
+/// The layers of a GeoJSON value, named by `name`.
+///
+/// Shape and units: `places` decimal places of the grid; features and layers in the order of the value.
+/// Errors: `Bad` is the first fault in the order of the features, and in each of its room, its type, its geometry and
+/// its properties; nothing is changed.
+/// Source: RFC 7946; the grid, the order of faults and the names of layers are ours.
+pub fn read_geojson(
+    alloc: Global,
+    json: &Json,
+    places: u8,
+    name: &str,
+    room: Room,
+) -> Result<GeoLayers, ShapeFault>
+    requires { places ≤ 7 }
+    ensures ok { IfOk result (λ layers. geojson_layers places name.now room.positions room.features (json_value json.now) ≡ Ok layers) }
+    ensures fault { IfErr result (IsFault (geojson_layers places name.now room.positions room.features (json_value json.now))) }
+{
+    let Some((kind, items)) = top_members(json) else {
+        return Err(ShapeFault::Bad {
+            why: ShapeWhy::NotGeo,
+            feature: 0,
+        });
+    };
+    let mut left = room.positions;
+    let features = members(alloc, kind, items, places, room.features, &mut left)?;
+    Ok(layers_of(alloc, name, features)?)
+}
