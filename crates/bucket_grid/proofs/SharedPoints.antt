@@ -1,0 +1,73 @@
+-- Rectangles that share a grid point: by their sides, and in a part of an area.
+use Rattle.std.proofs.Common.{◌≡◌, ap, ◌∙◌, ℕ, ◌<◌, true, ℤ, ◌≤ℤ◌, int_le, ◌&&◌, List, length, get_or, filter, All}
+use Rattle.std.proofs.lemmas.List.Elements.{All-same}
+use Rattle.bucket_grid.proofs.Numbers.{numbers_where_below, filter-numbers_where}
+use Rattle.std.proofs.lemmas.Bool.{and_parts, and_from}
+use Rattle.plane_algebra.proofs.Order.{order, order_cases}
+use Rattle.plane_algebra.proofs.Tests.{le_from, le_to}
+use Rattle.plane_model.specs.Points.{GridPoint}
+use Rattle.grid_base.specs.Grid.{Corners}
+use Rattle.bucket_grid.specs.declared.tree.Axis.{Axis}
+use Rattle.bucket_grid.specs.declared.tree.Axis.TheVariants.{Across, Upward}
+use Rattle.bucket_grid.specs.Areas.{share_point, boxes_near, SharingIsComputed}
+use Rattle.bucket_grid.specs.Tree.{Parts, below_cut, above_cut}
+
+-- neither rectangle is past the other
+pub record Overlap (a b : Corners) : Type 0 where
+  pub left : a.low.x ≤ℤ b.high.x
+  pub right : b.low.x ≤ℤ a.high.x
+  pub lower : a.low.y ≤ℤ b.high.y
+  pub upper : b.low.y ≤ℤ a.high.y
+
+pub overlap_from : (a b : Corners) → share_point a b ≡ true → Overlap a b
+overlap_from a b e =
+    let p = and_parts (int_le a.low.x b.high.x && int_le b.low.x a.high.x) (int_le a.low.y b.high.y && int_le b.low.y a.high.y) e in
+    let x = and_parts (int_le a.low.x b.high.x) (int_le b.low.x a.high.x) p.0 in
+    let y = and_parts (int_le a.low.y b.high.y) (int_le b.low.y a.high.y) p.1 in
+    record { left = le_from a.low.x b.high.x x.0; right = le_from b.low.x a.high.x x.1; lower = le_from a.low.y b.high.y y.0; upper = le_from b.low.y a.high.y y.1 }
+
+pub overlap_to : (a b : Corners) → Overlap a b → share_point a b ≡ true
+overlap_to a b o = and_from (int_le a.low.x b.high.x && int_le b.low.x a.high.x) (int_le a.low.y b.high.y && int_le b.low.y a.high.y)
+    (and_from (int_le a.low.x b.high.x) (int_le b.low.x a.high.x) (le_to a.low.x b.high.x o.left) (le_to b.low.x a.high.x o.right))
+    (and_from (int_le a.low.y b.high.y) (int_le b.low.y a.high.y) (le_to a.low.y b.high.y o.lower) (le_to b.low.y a.high.y o.upper))
+
+-- what shares a point with a part of an area shares one with the area
+pub share_below : (axis : Axis) (at : ℤ) (area : Corners) → Parts area axis at → (b : Corners) → share_point (below_cut axis at area) b ≡ true → share_point area b ≡ true
+share_below Across at area p b e = let o = overlap_from (below_cut Across at area) b e in let u = o.right in let v = p.high in
+    overlap_to area b (record { left = o.left; right = omega order; lower = o.lower; upper = o.upper })
+share_below Upward at area p b e = let o = overlap_from (below_cut Upward at area) b e in let u = o.upper in let v = p.high in
+    overlap_to area b (record { left = o.left; right = o.right; lower = o.lower; upper = omega order })
+
+pub share_above : (axis : Axis) (at : ℤ) (area : Corners) → Parts area axis at → (b : Corners) → share_point (above_cut axis at area) b ≡ true → share_point area b ≡ true
+share_above Across at area p b e = let o = overlap_from (above_cut Across at area) b e in let u = o.left in let v = p.low in
+    overlap_to area b (record { left = omega order; right = o.right; lower = o.lower; upper = o.upper })
+share_above Upward at area p b e = let o = overlap_from (above_cut Upward at area) b e in let u = o.lower in let v = p.low in
+    overlap_to area b (record { left = o.left; right = o.right; lower = omega order; upper = o.upper })
+
+-- a number in both of two ranges that overlap
+both : (a b c d : ℤ) → a ≤ℤ b → c ≤ℤ d → a ≤ℤ d → c ≤ℤ b → (z : ℤ) × (a ≤ℤ z) × (z ≤ℤ b) × (c ≤ℤ z) × (z ≤ℤ d)
+both a b c d h k l m = order_cases a c (λ r. (c, r, m, omega order, k)) (λ r. (a, omega order, h, omega order, l))
+
+pub sharing_is_computed : SharingIsComputed
+sharing_is_computed a b ordered_a ordered_b = (
+  λ e.
+      (let o = overlap_from a b e in
+      let x = both a.low.x a.high.x b.low.x b.high.x ordered_a.across ordered_b.across o.left o.right in
+      let y = both a.low.y a.high.y b.low.y b.high.y ordered_a.upward ordered_b.upward o.lower o.upper in
+      let g : GridPoint = record { x = x.0; y = y.0 } in
+      (g, record { left = x.1; right = x.2; lower = y.1; upper = y.2 }, record { left = x.3; right = x.4; lower = y.3; upper = y.4 })),
+  λ s. overlap_to a b (record {
+    left = let u = s.1.left in let v = s.2.right in omega order;
+    right = let u = s.2.left in let v = s.1.right in omega order;
+    lower = let u = s.1.lower in let v = s.2.upper in omega order;
+    upper = let u = s.2.lower in let v = s.1.upper in omega order;
+  }),
+)
+
+-- the boxes near a part of an area, picked out of those near the area
+pub narrowed_is : (boxes : List Corners) (area part : Corners) (near ids : List ℕ) → near ≡ boxes_near boxes area → ((b : Corners) → share_point part b ≡ true → share_point area b ≡ true) →
+    ids ≡ filter (λ i. share_point part (get_or boxes i part)) near → ids ≡ boxes_near boxes part
+narrowed_is boxes area part near ids e s f = f ∙ ap (filter (λ i. share_point part (get_or boxes i part))) e ∙ filter-numbers_where (share_point area) (share_point part) s part boxes
+
+pub near_below : (boxes : List Corners) (area : Corners) (near : List ℕ) → near ≡ boxes_near boxes area → All (λ i. i < length boxes) near
+near_below boxes area near e = All-same (λ i. i < length boxes) near (boxes_near boxes area) e (numbers_where_below (share_point area) boxes)

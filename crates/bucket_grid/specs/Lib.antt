@@ -1,0 +1,4 @@
+pub mod Areas
+pub mod Tree
+pub mod Cut
+pub mod Leading

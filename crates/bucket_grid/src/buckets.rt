@@ -1,0 +1,116 @@
+ghost use Rattle.std.specs.Prelude.{◌≡◌, ℕ, IfOk, length, map, slice_get};
+ghost use Rattle.std.specs.Option.{option_copied, option_map};
+ghost use Rattle.plane_model.specs.Points.{GridPoint};
+ghost use Rattle.grid_base.specs.Grid.{IsOnGrid};
+ghost use Rattle.bucket_grid.specs.Areas.{IsPlaceOf, boxes_near, whole};
+
+use crate::growing::{Forest, grow};
+use crate::sharing::all_near;
+use crate::tree::{Node, is_below};
+use grid_base::{BoxList, IdList, Pt, Rect};
+use std::alloc::{AllocError, Global};
+use std::marker::Model;
+
+// So many cuts at most lead to a bucket.
+const MAX_CUTS: u32 = 40;
+
+/// Areas that part the grid, each with the boxes near it.
+#[derive(Drop)]
+pub struct Buckets {
+    nodes: Vec<Node>,
+    areas: Vec<Rect>,
+    near: Vec<IdList>,
+    root: u32,
+}
+
+impl Model for Buckets {
+    ghost use Rattle.bucket_grid.specs.Areas.{AreaLists};
+    ghost use Rattle.bucket_grid.specs.Leading.{LeadsEach};
+
+    ghost Value = { AreaLists };
+
+    ghost view = { λ b. record { areas = b.areas.items; near = b.near.items } };
+
+    ghost invariant = { λ b. LeadsEach b.nodes.items b.areas.items b.near.items b.root };
+}
+
+impl Buckets {
+    /// Buckets over boxes, which are counted from 0.
+    ///
+    /// Cost: n log n for boxes that rarely overlap.
+    pub fn build(alloc: Global, boxes: &BoxList) -> Result<Buckets, AllocError>
+        ensures near { IfOk result (λ b. b.near ≡ map (boxes_near boxes.now) b.areas) }
+        ensures places { IfOk result (λ b. (g : GridPoint) → IsOnGrid g → (k : ℕ) × IsPlaceOf b.areas g k) }
+    {
+        let whole = whole_grid()?;
+        let near = all_near(alloc, boxes, whole)?;
+        let mut forest = Forest {
+            nodes: Vec::new(alloc),
+            areas: Vec::new(alloc),
+            near: Vec::new(alloc),
+        };
+        let root = grow(&mut forest, alloc, boxes.as_slice(), whole, near, MAX_CUTS)?;
+        let Forest { nodes, areas, near } = forest;
+        if areas.len() > u32::MAX as usize {
+            return Err(AllocError);
+        }
+        Ok(Buckets {
+            nodes,
+            areas,
+            near,
+            root,
+        })
+    }
+
+    /// How many buckets there are.
+    pub fn count(&self) -> u32
+        ensures exact { result ≡ length self.now.areas }
+        ensures lists { length self.now.near ≡ length self.now.areas }
+    {
+        self.areas.len() as u32
+    }
+
+    /// The number of the bucket of a point: that of the only area that holds it.
+    pub fn bucket_of(&self, p: Pt) -> u32
+        ensures place { IsPlaceOf self.now.areas p result }
+    {
+        let (x, y) = (p.x(), p.y());
+        let mut node = self.root;
+        for _step in 0..MAX_CUTS + 1 {
+            match self.nodes[node as usize] {
+                Node::Leaf(place) => return place,
+                Node::Fork {
+                    axis,
+                    at,
+                    low,
+                    high,
+                } => node = if is_below(axis, at, x, y) { low } else { high },
+            }
+        }
+        unreachable!()
+    }
+
+    /// The area of a bucket; `None` exactly where `place` is not below the count.
+    pub fn area_of(&self, place: u32) -> Option<Rect>
+        ensures lookup { result ≡ slice_get self.now.areas place }
+    {
+        self.areas.get(place as usize).copied()
+    }
+
+    /// The numbers of the boxes that share a grid point with the area of a bucket, ascending; `None` exactly where
+    /// `place` is not below the count.
+    pub fn each_near(&self, place: u32) -> Option<&[u32]>
+        ensures lookup { option_map (λ ids. ids.now) result ≡ slice_get self.now.near place }
+    {
+        self.near.get(place as usize).map(|ids| ids.as_slice())
+    }
+}
+
+// The rectangle of all grid points.
+fn whole_grid() -> Result<Rect, AllocError>
+    ensures { IfOk result (λ area. area ≡ whole) }
+{
+    let low = Pt::new(-2_000_000_000, -2_000_000_000).ok_or(AllocError)?;
+    let high = Pt::new(2_000_000_000, 2_000_000_000).ok_or(AllocError)?;
+    Rect::new(low, high).ok_or(AllocError)
+}

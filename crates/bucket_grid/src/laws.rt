@@ -1,0 +1,6 @@
+ghost use Rattle.bucket_grid.specs.Areas.{SharingIsComputed};
+
+/// Two rectangles share a grid point exactly where neither is past the other, in either direction.
+pub fn sharing_is_computed()
+    ensures { SharingIsComputed }
+{}

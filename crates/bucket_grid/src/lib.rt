@@ -1,0 +1,20 @@
+//! Boxes in buckets: which of many boxes lie near a point.
+//!
+//! The grid is cut into areas, at medians of the boxes, until an area meets few boxes or a cut no longer parts them
+//! (a k-d tree, after Bentley 1975). Each area has a bucket, which lists the boxes that share a grid point with it.
+//! - `Buckets::build` takes boxes; they are known by their numbers in that list.
+//! - `bucket_of` finds the bucket of a point, in logarithmic time; `area_of` and `each_near` say what it has.
+#![tactic(auto)]
+
+mod buckets;
+mod cutting;
+mod growing;
+mod laws;
+mod sharing;
+mod tree;
+
+pub use buckets::Buckets;
+pub use laws::sharing_is_computed;
+
+#[cfg(test)]
+mod tests;

@@ -1,0 +1,158 @@
+-- The crossings of boxes near each area are all crossings.
+use Rattle.std.proofs.Common.{◌≡◌, inl, inr, refl, sym, ap, ◌∙◌, subst, arith, ℕ, ◌<◌, ltb, Bool, true, false, cond, List, [], length, get_or, map, Option, Some, None, Contains, ℤ, pos, ◌-ℤ◌, ◌*ℤ◌, ◌≤ℤ◌, int_le}
+use Rattle.std.specs.List.{flat_map, slice_get}
+use Rattle.std.specs.Option.{option_to_list}
+use Rattle.std.proofs.lemmas.Bool.{lt-ltb, cases_lt}
+use Rattle.std.proofs.lemmas.List.{get_or-map, length-map}
+use Rattle.std.proofs.lemmas.Option.{slice_get-get_or, slice_get_within, get_or_from_slice_get}
+use Rattle.std.proofs.lemmas.List.Elements.{Contains-append_right, All-contains, Contains-get_or}
+use Rattle.lists.proofs.Members.{Contains-head, Contains-nil, Contains-cases, Contains-flat_map, flat_map-Contains, Contains-map}
+use Rattle.plane_algebra.proofs.Ring.{ring, ◌⊟◌, ◌⊠◌, num, ◌≐◌}
+use Rattle.plane_algebra.proofs.Order.{order, order_cases}
+use Rattle.plane_algebra.proofs.Tests.{le_from, le_to, by_test}
+use Rattle.plane_model.specs.Points.{GridPoint, Segment, SameWay, cross}
+use Rattle.plane_model.specs.Pixel.{crossing_pixel, IsInBox}
+use Rattle.plane_snapping.proofs.CrossingComputed.{crossing_is_computed}
+use Rattle.plane_snapping.proofs.Boxes.{crossings_lie_in_both_boxes}
+use Rattle.grid_base.specs.Grid.{Corners}
+use Rattle.bucket_grid.specs.Areas.{Holds, share_point, boxes_near}
+use Rattle.bucket_grid.proofs.SharedPoints.{overlap_to}
+use Rattle.bucket_grid.proofs.Numbers.{Contains-numbers_where}
+use Rattle.hot_pixels.specs.Boxes.{box_of, lesser, greater}
+use Rattle.hot_pixels.specs.Spots.{crossing_at, crossing_between, crossings_with, crossings_among}
+use Rattle.hot_pixels.specs.Crossing.{HasGridEnds}
+use Rattle.hot_pixels.specs.Found.{HasAllCrossings}
+use Rattle.hot_pixels.proofs.Shares.{crossing_on_grid}
+use Rattle.hot_pixels.proofs.Appending.{get_or-alike}
+
+-- ---- a crossing has no order, and no segment crosses itself
+
+self_cross : (s : Segment) → cross s s ≡ pos 0
+self_cross s = ring 4 (λ a b c d. (b ⊟ a) ⊠ (d ⊟ c) ⊟ (d ⊟ c) ⊠ (b ⊟ a) ≐ num (pos 0)) tt s.start.x s.stop.x s.start.y s.stop.y
+
+turned_cross : (s t : Segment) → cross t s ≡ pos 0 → cross s t ≡ pos 0
+turned_cross s t e =
+    let f = ring 4 (λ a b c d. a ⊠ d ⊟ b ⊠ c ≐ num (pos 0) ⊟ (c ⊠ b ⊟ d ⊠ a)) tt (s.stop.x -ℤ s.start.x) (s.stop.y -ℤ s.start.y) (t.stop.x -ℤ t.start.x) (t.stop.y -ℤ t.start.y) in
+    omega order
+
+pub not_itself : {G : Type 0} (s : Segment) (g : GridPoint) → crossing_pixel s s ≡ Some g → G
+not_itself s g e = absurd (((crossing_is_computed s s g).0 e).0 (self_cross s))
+
+pub crossing_turned : (s t : Segment) (g : GridPoint) → crossing_pixel s t ≡ Some g → crossing_pixel t s ≡ Some g
+crossing_turned s t g e =
+    let m = (crossing_is_computed s t g).0 e in
+    (crossing_is_computed t s g).1 ((λ f. m.0 (turned_cross s t f)), (m.1.0, m.1.2, m.1.1, m.1.3))
+
+-- a segment of no length crosses none
+short_cross : (s t : Segment) → s.start ≡ s.stop → cross s t ≡ pos 0
+short_cross s t e =
+    let f : s.stop.x ≡ s.start.x = sym (λ i. (e i).x) in
+    let g : s.stop.y ≡ s.start.y = sym (λ i. (e i).y) in
+    (λ i. (f i -ℤ s.start.x) *ℤ (t.stop.y -ℤ t.start.y) -ℤ (g i -ℤ s.start.y) *ℤ (t.stop.x -ℤ t.start.x))
+    ∙ ring 4 (λ a b c d. (a ⊟ a) ⊠ c ⊟ (b ⊟ b) ⊠ d ≐ num (pos 0)) tt s.start.x s.start.y (t.stop.y -ℤ t.start.y) (t.stop.x -ℤ t.start.x)
+
+pub short_meets_none : {G : Type 0} (s t : Segment) (g : GridPoint) → s.start ≡ s.stop → crossing_pixel s t ≡ Some g → G
+short_meets_none s t g e f = absurd (((crossing_is_computed s t g).0 f).0 (short_cross s t e))
+
+-- ---- a point in the box of a segment
+
+in_range : (a b g : ℤ) → SameWay (g -ℤ a) (b -ℤ g) → (lesser a b ≤ℤ g) × (g ≤ℤ greater a b)
+in_range a b g w = by_test (int_le a b)
+    (λ e. let l = le_from a b e in let h : (a ≤ℤ g) × (g ≤ℤ b) = up l w in
+    (subst (λ (z : ℤ). z ≤ℤ g) (sym (ap (λ (t : Bool). cond t a b) e)) h.0, subst (λ (z : ℤ). g ≤ℤ z) (sym (ap (λ (t : Bool). cond t b a) e)) h.1))
+    (λ e. let l : b ≤ℤ a = order_cases a b (λ r. absurd (let t : true ≡ false = sym (le_to a b r) ∙ e in cc)) (λ r. omega order) in let h : (b ≤ℤ g) × (g ≤ℤ a) = down l w in
+    (subst (λ (z : ℤ). z ≤ℤ g) (sym (ap (λ (t : Bool). cond t a b) e)) h.0, subst (λ (z : ℤ). g ≤ℤ z) (sym (ap (λ (t : Bool). cond t b a) e)) h.1))
+  where
+    up : a ≤ℤ b → SameWay (g -ℤ a) (b -ℤ g) → (a ≤ℤ g) × (g ≤ℤ b)
+    up l (inl v) = let p = v.0 in let q = v.1 in (omega order, omega order)
+    up l (inr v) = let p = v.0 in let q = v.1 in (omega order, omega order)
+
+    down : b ≤ℤ a → SameWay (g -ℤ a) (b -ℤ g) → (b ≤ℤ g) × (g ≤ℤ a)
+    down l (inl v) = let p = v.0 in let q = v.1 in (omega order, omega order)
+    down l (inr v) = let p = v.0 in let q = v.1 in (omega order, omega order)
+
+pub box_holds : (s : Segment) (g : GridPoint) → IsInBox s g → Holds (box_of s) g
+box_holds s g b =
+    let x = in_range s.start.x s.stop.x g.x b.0 in
+    let y = in_range s.start.y s.stop.y g.y b.1 in
+    record { left = x.0; right = x.1; lower = y.0; upper = y.1 }
+
+shared : (a b : Corners) (g : GridPoint) → Holds a g → Holds b g → share_point a b ≡ true
+shared a b g h k = overlap_to a b (record {
+  left = let u = h.left in let v = k.right in omega order;
+  right = let u = k.left in let v = h.right in omega order;
+  lower = let u = h.lower in let v = k.upper in omega order;
+  upper = let u = k.lower in let v = h.upper in omega order;
+})
+
+-- ---- what is listed crosses
+
+pub listed_crosses : (spots : List Segment) (near : List (List ℕ)) (g : GridPoint) → Contains (flat_map (crossings_among spots) near) g →
+    (s : Segment) × (t : Segment) × Contains spots s × Contains spots t × (crossing_pixel s t ≡ Some g)
+listed_crosses spots near g c =
+    let h = flat_map-Contains (crossings_among spots) near g c in
+    let k = flat_map-Contains (λ i. crossings_with spots i h.0) h.0 g h.2 in
+    let m = flat_map-Contains (λ j. option_to_list (crossing_at spots k.0 j)) h.0 g k.2 in
+    at_pair k.0 m.0 (crossing_at spots k.0 m.0) refl m.2
+  where
+    found : (i j : ℕ) (o p : Option Segment) → slice_get spots i ≡ o → slice_get spots j ≡ p → crossing_between o p ≡ Some g →
+        (s : Segment) × (t : Segment) × Contains spots s × Contains spots t × (crossing_pixel s t ≡ Some g)
+    found i j None p e f h = absurd (let k : None ≡ Some g = h in cc)
+    found i j (Some s) None e f h = absurd (let k : None ≡ Some g = h in cc)
+    found i j (Some s) (Some t) e f h = (s, t, (i, slice_get_within spots i s e, get_or_from_slice_get spots i s s e), (j, slice_get_within spots j t f, get_or_from_slice_get spots j t t f), h)
+
+    tested : (i j : ℕ) (b : Bool) → cond b (crossing_between (slice_get spots i) (slice_get spots j)) None ≡ Some g →
+        (s : Segment) × (t : Segment) × Contains spots s × Contains spots t × (crossing_pixel s t ≡ Some g)
+    tested i j true e = found i j (slice_get spots i) (slice_get spots j) refl refl e
+    tested i j false e = absurd (let k : None ≡ Some g = e in cc)
+
+    at_pair : (i j : ℕ) (o : Option GridPoint) → crossing_at spots i j ≡ o → Contains (option_to_list o) g →
+        (s : Segment) × (t : Segment) × Contains spots s × Contains spots t × (crossing_pixel s t ≡ Some g)
+    at_pair i j None e c = Contains-nil g c
+    at_pair i j (Some p) e c = elim (Contains-cases p [] g c) [ inl f ↦ tested i j (ltb i j) (e ∙ ap Some f) | inr d ↦ Contains-nil g d ]
+
+-- one number names one spot
+same_spot : (spots : List Segment) (i j : ℕ) (s t : Segment) → j ≡ i → i < length spots → get_or spots i s ≡ s → get_or spots j t ≡ t → t ≡ s
+same_spot spots i j s t e l f g = sym g ∙ ap (λ (n : ℕ). get_or spots n t) e ∙ get_or-alike spots i t s l ∙ f
+
+-- ---- what crosses is listed
+
+module _ (spots : List Segment) (old new : List GridPoint) (h : HasAllCrossings spots old new) where
+  abbrev boxes : List Corners
+  boxes = map box_of spots
+
+  -- spot i is near an area that holds a point of its box
+  near_area : (i : ℕ) (s : Segment) (area : Corners) (g : GridPoint) → i < length spots → get_or spots i s ≡ s → Holds area g → IsInBox s g → Contains (boxes_near boxes area) i
+  near_area i s area g l e a b =
+      Contains-numbers_where (share_point area) boxes i (box_of s) (let n : length boxes ≡ length spots = simp length-map in omega arith)
+      (ap (share_point area) (get_or-map box_of spots i s (box_of s) l ∙ ap box_of e) ∙ shared area (box_of s) g a (box_holds s g b))
+
+  ordered : (i j : ℕ) (s t : Segment) (g : GridPoint) → i < j → i < length spots → j < length spots → get_or spots i s ≡ s → get_or spots j t ≡ t → crossing_pixel s t ≡ Some g → Contains new g
+  ordered i j s t g l li lj ei ej e =
+      let in_boxes = crossings_lie_in_both_boxes s t g e in
+      let on_grid = crossing_on_grid s t (All-contains HasGridEnds spots s h.on_grid (i, li, ei)) g e in
+      let place = h.places g on_grid in
+      let area : Corners = get_or h.areas place.0 (box_of s) in
+      let held = place.1.held (box_of s) in
+      let near : List ℕ = boxes_near boxes area in
+      let listed : Contains (map (boxes_near boxes) h.areas) near = Contains-map (boxes_near boxes) h.areas area (Contains-get_or h.areas place.0 (box_of s) place.1.below) in
+      let at_i = near_area i s area g li ei held in_boxes.0 in
+      let at_j = near_area j t area g lj ej held in_boxes.1 in
+      let si : slice_get spots i ≡ Some s = slice_get-get_or spots i s li ∙ ap Some ei in
+      let sj : slice_get spots j ≡ Some t = slice_get-get_or spots j t lj ∙ ap Some ej in
+      let crossing : crossing_at spots i j ≡ Some g = ap (λ (b : Bool). cond b (crossing_between (slice_get spots i) (slice_get spots j)) None) (lt-ltb i j l) ∙ (λ k. crossing_between (si k) (sj k)) ∙ e in
+      subst (λ (xs : List GridPoint). Contains xs g) (sym h.added)
+      (Contains-append_right old (flat_map (crossings_among spots) (map (boxes_near boxes) h.areas)) g
+      (Contains-flat_map (crossings_among spots) (map (boxes_near boxes) h.areas) near g listed
+      (Contains-flat_map (λ a. crossings_with spots a near) near i g at_i
+      (Contains-flat_map (λ b. option_to_list (crossing_at spots i b)) near j g at_j
+      (subst (λ (o : Option GridPoint). Contains (option_to_list o) g) (sym crossing) (Contains-head g []))))))
+
+  pub crossing_listed : (s t : Segment) (g : GridPoint) → Contains spots s → Contains spots t → crossing_pixel s t ≡ Some g → Contains new g
+  crossing_listed s t g c d e = elim (cases_lt c.0 d.0) [
+    | inl l ↦ ordered c.0 d.0 s t g l c.1 d.1 c.2 d.2 e
+    | inr l ↦ elim (cases_lt d.0 c.0) [
+      | inl m ↦ ordered d.0 c.0 t s g m d.1 c.1 d.2 c.2 (crossing_turned s t g e)
+      | inr m ↦ not_itself s g (subst (λ (u : Segment). crossing_pixel s u ≡ Some g) (same_spot spots c.0 d.0 s t (omega arith) c.1 c.2 d.2) e)
+    ]
+  ]

@@ -1,0 +1,54 @@
+-- The stops of the spots, with all crossings added, are the hot points.
+use Rattle.std.proofs.Common.{◌≡◌, inl, inr, sym, subst, List, map, Contains}
+use Rattle.std.specs.List.{flat_map}
+use Rattle.std.proofs.lemmas.List.Elements.{Contains-append_left, Contains-append_cases}
+use Rattle.lists.specs.Lists.{ascending}
+use Rattle.lists.proofs.Members.{Contains-map, map-Contains}
+use Rattle.lists.proofs.Ascending.{IsAscending, one_ascending, ascending-IsAscending, ascending-Contains, Contains-ascending}
+use Rattle.plane_model.specs.Points.{GridPoint, at, is_before}
+use Rattle.plane_model.specs.Drawing.{Drawing, vertices_of}
+use Rattle.plane_model.specs.Hot.{hot_points}
+use Rattle.plane_model.proofs.PointOrder.{is_before-IsStrictOrder}
+use Rattle.plane_snapping.proofs.CrossingComputed.{crossing_is_computed}
+use Rattle.plane_snapping.proofs.HotComputed.{vertex_is_hot, listed_is_hot, hot_is_listed}
+use Rattle.plane_snapping.proofs.PixelOf.{one_pixel, in_own_pixel}
+use Rattle.bucket_grid.specs.Areas.{boxes_near}
+use Rattle.hot_pixels.specs.Boxes.{box_of}
+use Rattle.hot_pixels.specs.Spots.{spots_of, crossings_among}
+use Rattle.hot_pixels.specs.Found.{HasAllCrossings}
+use Rattle.hot_pixels.specs.Stops.{stop_of}
+use Rattle.hot_pixels.proofs.CrossingLemmas.{listed_crosses, crossing_listed, crossing_turned, short_meets_none}
+use Rattle.hot_pixels.proofs.SpotLemmas.{spot_is_segment, spot_stops, segment_is_spot, vertex_is_stop}
+
+module _ (d : Drawing) (points : List GridPoint) (h : HasAllCrossings (spots_of d) (map stop_of (spots_of d)) points) where
+  pub point_is_hot : (g : GridPoint) → Contains points g → Contains (hot_points d) g
+  point_is_hot g c = hot_is_listed d g (elim (Contains-append_cases (map stop_of (spots_of d)) (flat_map (crossings_among (spots_of d)) (map (boxes_near (map box_of (spots_of d))) h.areas)) g (subst (λ (xs : List GridPoint). Contains xs g) h.added c)) [
+    | inl k ↦ (let m = map-Contains stop_of (spots_of d) g k in vertex_is_hot d g (subst (Contains (vertices_of d)) m.2 (spot_stops d m.0 m.1)))
+    | inr k ↦
+        let m = listed_crosses (spots_of d) (map (boxes_near (map box_of (spots_of d))) h.areas) g k in
+        let s = m.0 in
+        let t = m.1 in
+        elim (spot_is_segment d s m.2) [
+          | inr e ↦ short_meets_none s t g e m.4
+          | inl s_drawn ↦ elim (spot_is_segment d t m.3) [
+            | inr e ↦ short_meets_none t s g e (crossing_turned s t g m.4)
+            | inl t_drawn ↦ inr (record { s = s; t = t; s_drawn = s_drawn; t_drawn = t_drawn; meet = (crossing_is_computed s t g).0 m.4 })
+          ]
+        ]
+  ])
+
+  pub hot_is_point : (g : GridPoint) → Contains (hot_points d) g → Contains points g
+  hot_is_point g c = elim (listed_is_hot d g c) [
+    | inl v ↦
+        let same : v.vertex ≡ g = one_pixel (at v.vertex) v.vertex g (in_own_pixel v.vertex) v.held in
+        let m = vertex_is_stop d g (subst (Contains (vertices_of d)) same v.listed) in
+        subst (λ (xs : List GridPoint). Contains xs g) (sym h.added) (Contains-append_left (map stop_of (spots_of d)) (flat_map (crossings_among (spots_of d)) (map (boxes_near (map box_of (spots_of d))) h.areas)) g
+        (subst (Contains (map stop_of (spots_of d))) m.2 (Contains-map stop_of (spots_of d) m.0 m.1)))
+    | inr k ↦ crossing_listed (spots_of d) (map stop_of (spots_of d)) points h k.s k.t g (segment_is_spot d k.s k.s_drawn) (segment_is_spot d k.t k.t_drawn) ((crossing_is_computed k.s k.t g).1 k.meet)
+  ]
+
+  -- an ascending list with the same elements is the list of the hot points in order
+  pub ascending_is_hot : (sorted : List GridPoint) → IsAscending is_before sorted → ((g : GridPoint) → Contains sorted g → Contains points g) → ((g : GridPoint) → Contains points g → Contains sorted g) → sorted ≡ ascending is_before (hot_points d)
+  ascending_is_hot sorted a from to = one_ascending is_before is_before-IsStrictOrder sorted (ascending is_before (hot_points d)) a (ascending-IsAscending is_before is_before-IsStrictOrder (hot_points d))
+      (λ g c. Contains-ascending is_before is_before-IsStrictOrder (hot_points d) g (point_is_hot g (from g c)))
+      (λ g c. to g (hot_is_point g (ascending-Contains is_before is_before-IsStrictOrder (hot_points d) g c)))

@@ -1,0 +1,9 @@
+pub mod Bounds
+pub mod Shares
+pub mod Appending
+pub mod CrossingLemmas
+pub mod SpotLemmas
+pub mod HotLemmas
+pub mod SortLemmas
+pub mod ChainLemmas
+pub mod NearLemmas

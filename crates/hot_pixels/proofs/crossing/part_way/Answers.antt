@@ -1,0 +1,72 @@
+use Rattle.std.proofs.Common.{◌≡◌, sym, ap, subst, arith, rules, ◌≤◌, ◌*◌, ◌^◌, ℤ, pos, ◌+ℤ◌, ◌*ℤ◌, unsigned_abs, FitsSigned, to_z-of_z, lit<, w64}
+use Rattle.std.specs.Int.{w128}
+use Rattle.plane_model.specs.Pixel.{floor_div, rounded}
+use Rattle.hot_pixels.proofs.Bounds.{product_bound, fits_128, fits_64}
+use Rattle.hot_pixels.proofs.Shares.{number_from, share_bound}
+use Rattle.hot_pixels.proofs.crossing.part_way.Goals as goal
+use Rattle.hot_pixels.proofs.crossing.part_way.Goals.{After-quotient}
+
+-- the sum is the rounded number, which lies on the grid
+record Known (from r sum : ℤ) : Type 0 where
+  sum_is : from +ℤ r ≡ sum
+  from_fits : FitsSigned w128 from
+  sum_fits : FitsSigned w128 (from +ℤ r)
+  sum_fits_64 : FitsSigned w64 (from +ℤ r)
+
+known : (from r sum : ℤ) → unsigned_abs from ≤ 2000000000 → unsigned_abs sum ≤ 2000000000 → from +ℤ r ≡ sum → Known from r sum
+known from r sum a b e = record {
+  sum_is = e;
+  from_fits = fits_128 from 2000000000 a (lit< tt);
+  sum_fits = fits_128 (from +ℤ r) 2000000000 (subst (λ (z : ℤ). unsigned_abs z ≤ 2000000000) (sym e) b) (lit< tt);
+  sum_fits_64 = fits_64 (from +ℤ r) 2000000000 (subst (λ (z : ℤ). unsigned_abs z ≤ 2000000000) (sym e) b) (lit< tt);
+}
+
+step_fits : (step p w : ℤ) → unsigned_abs step ≤ 4000000000 → unsigned_abs p ≤ 32000000000000000000 → unsigned_abs (step *ℤ p) ≤ 128000000000000000000000000000
+step_fits step p w a b = product_bound step p 4000000000 32000000000000000000 a b
+
+module _ (c : After-quotient) where
+  small_step : unsigned_abs (c.args.step *ℤ c.args.p) ≤ 128000000000000000000000000000
+  small_step = step_fits c.args.step c.args.p c.args.w c.requires.step_small (share_bound c.args.p c.args.w 32000000000000000000 c.requires.share c.requires.w_small)
+
+  facts : Known c.args.from c.quotient.result (rounded c.args.from c.args.step c.args.p (unsigned_abs c.args.w))
+  facts =
+      let f₁ = c.ranges.step in
+      let f₂ = c.ranges.p in
+      let f₃ = c.ranges.w in
+      let f₄ = fits_128 (c.args.step *ℤ c.args.p) 128000000000000000000000000000 small_step (lit< tt) in
+      let e : c.quotient.result ≡ floor_div (pos 2 *ℤ (c.args.step *ℤ c.args.p) +ℤ pos (unsigned_abs c.args.w)) (2 * unsigned_abs c.args.w) = simp to_z-of_z at c.quotient.ensures in
+      known c.args.from c.quotient.result (rounded c.args.from c.args.step c.args.p (unsigned_abs c.args.w)) (number_from c.args.from c.requires.from_on_grid) (number_from (rounded c.args.from c.args.step c.args.p (unsigned_abs c.args.w)) c.requires.lands)
+      (ap (λ (z : ℤ). c.args.from +ℤ z) e)
+
+pub quotient-requires-clause-n_small : goal.quotient-requires-clause-n_small
+quotient-requires-clause-n_small c =
+    let f₁ = c.ranges.step in
+    let f₂ = c.ranges.p in
+    let h = step_fits c.args.step c.args.p c.args.w c.requires.step_small (share_bound c.args.p c.args.w 32000000000000000000 c.requires.share c.requires.w_small) in
+    let f₄ = fits_128 (c.args.step *ℤ c.args.p) 128000000000000000000000000000 h (lit< tt) in
+    let k : unsigned_abs (c.args.step *ℤ c.args.p) ≤ 2 ^ 100 = omega arith in
+    simp to_z-of_z k
+
+pub overflow_add-result : goal.overflow_add-result
+overflow_add-result c =
+    let f₁ = c.ranges.from in
+    let f₂ = (facts c).from_fits in
+    let f₃ : FitsSigned w128 c.quotient.result = search rules in
+    simp to_z-of_z (facts c).sum_fits
+
+pub overflow_cast-result-2 : goal.overflow_cast-result-2
+overflow_cast-result-2 c =
+    let f₁ = c.ranges.from in
+    let f₂ = (facts c).from_fits in
+    let f₃ : FitsSigned w128 c.quotient.result = search rules in
+    let f₄ = (facts c).sum_fits in
+    simp to_z-of_z (facts c).sum_fits_64
+
+pub returns : goal.returns
+returns c =
+    let f₁ = c.ranges.from in
+    let f₂ = (facts c).from_fits in
+    let f₃ : FitsSigned w128 c.quotient.result = search rules in
+    let f₄ = (facts c).sum_fits in
+    let f₅ = (facts c).sum_fits_64 in
+    simp to_z-of_z (facts c).sum_is

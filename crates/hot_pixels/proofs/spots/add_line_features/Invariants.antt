@@ -1,0 +1,7 @@
+use Rattle.std.proofs.Common.{◌≡◌, ◌++◌, drop}
+use Rattle.std.specs.List.{flat_map}
+use Rattle.hot_pixels.specs.Spots.{rings_spots}
+use Rattle.hot_pixels.proofs.spots.add_line_features.Given as goal
+
+abbrev pub invariant-loop-f : goal.invariant-loop-f
+invariant-loop-f l = l.initial.spots.items ++ flat_map rings_spots l.d.lines ≡ l.spots.items ++ flat_map rings_spots (drop l.f l.d.lines)

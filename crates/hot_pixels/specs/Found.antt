@@ -1,0 +1,15 @@
+-- Points with all crossings added: those of the boxes near each area of a partition of the grid.
+use Rattle.std.specs.Prelude.{◌≡◌, ℕ, List, ◌++◌, map, All}
+use Rattle.std.specs.List.{flat_map}
+use Rattle.plane_model.specs.Points.{GridPoint, Segment}
+use Rattle.grid_base.specs.Grid.{Corners, IsOnGrid}
+use Rattle.bucket_grid.specs.Areas.{IsPlaceOf, boxes_near}
+use Rattle.hot_pixels.specs.Crossing.{HasGridEnds}
+use Rattle.hot_pixels.specs.Boxes.{box_of}
+use Rattle.hot_pixels.specs.Spots.{crossings_among}
+
+pub record HasAllCrossings (spots : List Segment) (old new : List GridPoint) : Type 0 where
+  pub on_grid : All HasGridEnds spots
+  pub areas : List Corners
+  pub places : (g : GridPoint) → IsOnGrid g → (k : ℕ) × IsPlaceOf areas g k
+  pub added : new ≡ old ++ flat_map (crossings_among spots) (map (boxes_near (map box_of spots)) areas)

@@ -1,0 +1,45 @@
+-- The segments of a drawing, and each first point of a path as a segment of no length, so that the vertices are where they stop.
+use Rattle.std.specs.Prelude.{ℕ, List, [], ◌∷◌, ◌++◌, map, nat_lt, if◌then◌else◌, Option, Some, None, slice_get}
+use Rattle.std.specs.List.{flat_map}
+use Rattle.std.specs.Option.{option_to_list}
+use Rattle.plane_model.specs.Points.{GridPoint, Path, Segment}
+use Rattle.plane_model.specs.Pixel.{crossing_pixel}
+use Rattle.plane_model.specs.Drawing.{Drawing, Polygon, point_segment}
+
+-- the steps from a point to the first of a path, and on
+abbrev pub spots_after : GridPoint → Path → List Segment
+spots_after from [] = []
+spots_after from (p ∷ rest) = record { start = from; stop = p } ∷ spots_after p rest
+
+abbrev pub path_spots : Path → List Segment
+path_spots [] = []
+path_spots (p ∷ rest) = spots_after p (p ∷ rest)
+
+abbrev pub rings_spots : List Path → List Segment
+rings_spots rings = flat_map path_spots rings
+
+abbrev pub feature_spots : List Polygon → List Segment
+feature_spots polygons = flat_map rings_spots polygons
+
+abbrev pub points_spots : List GridPoint → List Segment
+points_spots points = map point_segment points
+
+abbrev pub spots_of : Drawing → List Segment
+spots_of d = flat_map feature_spots d.polygons ++ flat_map rings_spots d.lines ++ flat_map points_spots d.points ++ flat_map path_spots d.boxes
+
+-- ---- crossings of spots that are near each other
+
+abbrev pub crossing_between : Option Segment → Option Segment → Option GridPoint
+crossing_between None t = None
+crossing_between (Some s) None = None
+crossing_between (Some s) (Some t) = crossing_pixel s t
+
+-- the crossing of spots i and j, where i comes first
+abbrev pub crossing_at : List Segment → ℕ → ℕ → Option GridPoint
+crossing_at spots i j = if nat_lt i j then crossing_between (slice_get spots i) (slice_get spots j) else None
+
+abbrev pub crossings_with : List Segment → ℕ → List ℕ → List GridPoint
+crossings_with spots i near = flat_map (λ j. option_to_list (crossing_at spots i j)) near
+
+abbrev pub crossings_among : List Segment → List ℕ → List GridPoint
+crossings_among spots near = flat_map (λ i. crossings_with spots i near) near

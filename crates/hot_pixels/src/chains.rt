@@ -1,0 +1,50 @@
+ghost use Rattle.std.specs.Prelude.{◌≡◌, ◌-ℤ◌, ◌*ℤ◌, IfOk};
+ghost use Rattle.std.specs.Int.{int_signum};
+ghost use Rattle.plane_model.specs.Hot.{order_key};
+ghost use Rattle.hot_pixels.specs.Chains.{AreSortedAlong};
+ghost use Rattle.hot_pixels.specs.Sides.{IsGridNumber};
+
+use grid_base::{Pt, PtList, Seg};
+use std::alloc::{AllocError, Global};
+
+// A number as it grows along a step from one number to another; 0 where the step stands still.
+fn in_sense(from: i64, to: i64, n: i64) -> i64
+    requires { IsGridNumber n }
+    ensures value { result ≡ int_signum (to -ℤ from) *ℤ n }
+    ensures small { IsGridNumber result }
+{
+    if from < to {
+        n
+    } else if to < from {
+        -n
+    } else {
+        0
+    }
+}
+
+// The number by which the pixels that a segment meets are in order along it.
+fn key_along(s: &Seg, p: &Pt) -> i64
+    ensures { result ≡ order_key s.now p.now }
+{
+    let (a, b) = (s.a(), s.b());
+    in_sense(a.x(), b.x(), p.x()) + in_sense(a.y(), b.y(), p.y())
+}
+
+fn list_of(alloc: Global, points: &[Pt]) -> Result<PtList, AllocError>
+    ensures { IfOk result (λ list. list ≡ points.now) }
+{
+    let mut list = PtList::new(alloc);
+    for p in points {
+        list.push(*p)?;
+    }
+    Ok(list)
+}
+
+/// The points of a list in the order of their keys along a segment.
+pub fn sorted_along(alloc: Global, met: Vec<Pt>, s: &Seg) -> Result<PtList, AllocError>
+    ensures { IfOk result (AreSortedAlong s.now met.items) }
+{
+    let mut sorted = met;
+    sorted.sort_unstable_by_key(|p| key_along(s, p));
+    list_of(alloc, &sorted)
+}

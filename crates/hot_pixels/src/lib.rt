@@ -1,0 +1,33 @@
+//! Hot pixels, after Hobby (1999): the pixels that hold a vertex of a drawing or a crossing of its segments.
+//!
+//! A pixel is named by its centre, a grid point. It has its left and its lower side, and not the others:
+//!
+//! ```text
+//!     o-------o      open: top and right
+//!     |   .   |      closed: left and bottom
+//!     *-------o      *: the one corner inside
+//! ```
+//!
+//! - `crossing_pixel` rounds the meeting point of two segments, and `meets` tests a segment against a pixel, in whole
+//!   numbers.
+//! - `HotSet::of` lists the hot points of a drawing: its vertices, and the crossings of segments that are near each
+//!   other, found by buckets.
+//! - `chain_of` lists the hot points whose pixels a segment meets, in the order in which the segment passes them, and
+//!   `chain_links` counts the links between them without memory. Both pass over runs of hot points that lie beside the
+//!   segment's box.
+#![tactic(auto)]
+
+mod chains;
+mod crossing;
+mod half_open;
+mod hot_set;
+mod near;
+mod pairs;
+mod spots;
+
+pub use crossing::crossing_pixel;
+pub use half_open::meets;
+pub use hot_set::HotSet;
+
+#[cfg(test)]
+mod tests;

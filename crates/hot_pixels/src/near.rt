@@ -1,0 +1,288 @@
+ghost use Rattle.std.specs.Prelude.{◌≡◌, ◌+◌, ◌<◌, ◌≤◌, ℕ, false, IfOk, OnOk, IsTrue, All, filter, length, take, slice_index_or};
+ghost use Rattle.std.specs.List.{count_by};
+ghost use Rattle.std.specs.List.Sorted.{IsPermutation};
+ghost use Rattle.plane_model.specs.Points.{GridPoint as Point};
+ghost use Rattle.plane_model.specs.Pixel.{meets};
+ghost use Rattle.bucket_grid.specs.Areas.{Holds};
+ghost use Rattle.hot_pixels.specs.Near.{HoldsRun, HoldsBetween, HoldsMore, MeetsNoneBetween, is_outside};
+
+use crate::half_open::meets;
+use crate::pairs::box_of;
+use grid_base::{Pt, Rect, Seg};
+use std::alloc::{AllocError, Global};
+
+/// A run of points, from place `start` to below `stop`, and a rectangle that holds each of them.
+///
+/// The runs that follow, up to place `next`, are parts of it.
+#[derive(Clone, Copy)]
+pub struct Run {
+    start: usize,
+    stop: usize,
+    next: usize,
+    area: Rect,
+}
+
+// How far a search has come: the points before `from` are done, those from there to below `stop` are to be tried, and
+// `run` is the run to look at next.
+#[derive(Clone, Copy)]
+struct Place {
+    run: usize,
+    from: usize,
+    stop: usize,
+}
+
+// Shorter runs have no parts.
+const SHORT_RUN: usize = 16;
+
+// A run is this many times as long as its parts.
+const PARTS: usize = 16;
+
+fn widened(area: Rect, p: Pt) -> Result<Rect, AllocError>
+    ensures { IfOk result (HoldsMore area p) }
+{
+    let below = box_of(Seg::new(area.low(), p))?;
+    let above = box_of(Seg::new(area.high(), p))?;
+    let wide = Rect::new(below.low(), above.high()).ok_or(AllocError)?;
+    Ok(wide)
+}
+
+fn area_over(points: &[Pt], start: usize, stop: usize) -> Result<Rect, AllocError>
+    requires some { start < stop }
+    requires within { stop ≤ length points.now }
+    ensures { IfOk result (λ area. HoldsBetween area points.now start stop) }
+{
+    let mut area = Rect::new(points[start], points[start]).ok_or(AllocError)?;
+    for k in start..stop {
+        area = widened(area, points[k])?;
+    }
+    Ok(area)
+}
+
+fn least(a: usize, b: usize) -> usize
+    ensures left { result ≤ a }
+    ensures right { result ≤ b }
+    ensures above { (n : ℕ) → n < a → n < b → n < result }
+{
+    if a <= b { a } else { b }
+}
+
+// The number of runs that start before a place.
+fn runs_before(place: usize) -> usize {
+    let mut count: usize = 0;
+    let mut size = SHORT_RUN;
+    for _level in 0..6 {
+        count = count.wrapping_add(place.div_ceil(size));
+        size = size.saturating_mul(PARTS);
+    }
+    count
+}
+
+// Adds the run of so many points at `start`, where one begins there.
+fn add_run(runs: &mut Vec<Run>, points: &[Pt], start: usize, size: usize) -> Result<(), AllocError>
+    requires start { start < length points.now }
+    requires size { 0 < size }
+    ensures { OnOk result (All (HoldsRun points.now) runs.old.items → All (HoldsRun points.now) runs.new.items) }
+{
+    if start % size != 0 {
+        return Ok(());
+    }
+    let stop = least(start.saturating_add(size), points.len());
+    let area = area_over(points, start, stop)?;
+    let next = runs_before(stop);
+    runs.push(Run {
+        start,
+        stop,
+        next,
+        area,
+    })?;
+    Ok(())
+}
+
+// Adds the runs that begin at `start`, the longest first.
+fn add_runs(runs: &mut Vec<Run>, points: &[Pt], start: usize) -> Result<(), AllocError>
+    requires { start < length points.now }
+    ensures { OnOk result (All (HoldsRun points.now) runs.old.items → All (HoldsRun points.now) runs.new.items) }
+{
+    if start % SHORT_RUN != 0 {
+        return Ok(());
+    }
+    add_run(runs, points, start, 16_777_216)?;
+    add_run(runs, points, start, 1_048_576)?;
+    add_run(runs, points, start, 65_536)?;
+    add_run(runs, points, start, 4_096)?;
+    add_run(runs, points, start, 256)?;
+    add_run(runs, points, start, SHORT_RUN)?;
+    Ok(())
+}
+
+/// Runs of points, each with a rectangle that holds it: long ones, each followed by its parts.
+pub fn runs_over(alloc: Global, points: &[Pt]) -> Result<Vec<Run>, AllocError>
+    ensures { IfOk result (λ runs. All (HoldsRun points.now) runs.items) }
+{
+    let mut runs = Vec::new(alloc);
+    for start in 0..points.len() {
+        add_runs(&mut runs, points, start)?;
+    }
+    Ok(runs)
+}
+
+// Whether a and b are both below `low`, or both above `high`.
+fn is_outside(a: i64, b: i64, low: i64, high: i64) -> bool
+    ensures { result ≡ is_outside a b low high }
+{
+    a < low && b < low || high < a && high < b
+}
+
+// Whether the box of a segment lies beside an area.
+fn is_apart(area: Rect, s: &Seg) -> bool
+    ensures { (g : Point) → IsTrue result → Holds area g → meets s.now g ≡ false }
+{
+    let (a, b) = (s.a(), s.b());
+    let (low, high) = (area.low(), area.high());
+    if is_outside(a.x(), b.x(), low.x(), high.x()) {
+        return true;
+    }
+    is_outside(a.y(), b.y(), low.y(), high.y())
+}
+
+// The next points to try: a run that lies beside the segment is passed over.
+fn next_place(points: &[Pt], runs: &[Run], s: &Seg, at: Place) -> Place
+    requires held { All (HoldsRun points.now) runs.now }
+    requires within { at.stop ≤ length points.now }
+    ensures from { at.stop ≤ result.from }
+    ensures stop { result.from ≤ result.stop }
+    ensures within { result.stop ≤ length points.now }
+    ensures passed { MeetsNoneBetween s.now points.now at.stop result.from }
+{
+    let done = at.stop;
+    let Some(run) = runs.get(at.run) else {
+        return Place {
+            run: at.run,
+            from: done,
+            stop: done,
+        };
+    };
+    if run.start <= done && done <= run.stop && is_apart(run.area, s) {
+        return Place {
+            run: run.next,
+            from: run.stop,
+            stop: run.stop,
+        };
+    }
+    let is_short = run.stop <= run.start.saturating_add(SHORT_RUN);
+    let stop = if is_short && done <= run.stop {
+        run.stop
+    } else {
+        done
+    };
+    Place {
+        run: at.run.saturating_add(1),
+        from: done,
+        stop,
+    }
+}
+
+// How many points from place `from` to below `stop` the segment meets.
+fn count_between(points: &[Pt], from: usize, stop: usize, s: &Seg) -> u64
+    requires from { from ≤ stop }
+    requires stop { stop ≤ length points.now }
+    ensures { result + count_by (meets s.now) (take from points.now) ≡ count_by (meets s.now) (take stop points.now) }
+{
+    let mut count: u64 = 0;
+    for k in from..stop {
+        if meets(s, points[k]) {
+            count += 1;
+        }
+    }
+    count
+}
+
+/// How many points a segment meets.
+pub fn count_near(points: &[Pt], runs: &[Run], s: &Seg) -> u64
+    requires { All (HoldsRun points.now) runs.now }
+    ensures { result ≡ count_by (meets s.now) points.now }
+{
+    let mut at = Place {
+        run: 0,
+        from: 0,
+        stop: 0,
+    };
+    let mut count: u64 = 0;
+    for _step in 0..runs.len() {
+        if at.run >= runs.len() {
+            break;
+        }
+        at = next_place(points, runs, s, at);
+        count += count_between(points, at.from, at.stop, s);
+    }
+    count + count_between(points, at.stop, points.len(), s)
+}
+
+// Adds the points from place `from` to below `stop` that the segment meets.
+fn add_between(
+    met: &mut Vec<Pt>,
+    points: &[Pt],
+    from: usize,
+    stop: usize,
+    s: &Seg,
+) -> Result<(), AllocError>
+    requires from { from ≤ stop }
+    requires stop { stop ≤ length points.now }
+    requires met { met.old.items ≡ filter (meets s.now) (take from points.now) }
+    ensures { OnOk result (met.new.items ≡ filter (meets s.now) (take stop points.now)) }
+{
+    for k in from..stop {
+        if meets(s, points[k]) {
+            met.push(points[k])?;
+        }
+    }
+    Ok(())
+}
+
+/// The points that a segment meets.
+pub fn met_near(alloc: Global, points: &[Pt], runs: &[Run], s: &Seg) -> Result<Vec<Pt>, AllocError>
+    requires { All (HoldsRun points.now) runs.now }
+    ensures { IfOk result (λ met. met.items ≡ filter (meets s.now) points.now) }
+{
+    let mut at = Place {
+        run: 0,
+        from: 0,
+        stop: 0,
+    };
+    let mut met = Vec::new(alloc);
+    for _step in 0..runs.len() {
+        if at.run >= runs.len() {
+            break;
+        }
+        at = next_place(points, runs, s, at);
+        add_between(&mut met, points, at.from, at.stop, s)?;
+    }
+    add_between(&mut met, points, at.stop, points.len(), s)?;
+    Ok(met)
+}
+
+// The bits of a number below 2^32, each with a 0 before it.
+fn spread(n: u64) -> u64 {
+    let a = (n | n << 16) & 0x0000_FFFF_0000_FFFF;
+    let b = (a | a << 8) & 0x00FF_00FF_00FF_00FF;
+    let c = (b | b << 4) & 0x0F0F_0F0F_0F0F_0F0F;
+    let d = (c | c << 2) & 0x3333_3333_3333_3333;
+    (d | d << 1) & 0x5555_5555_5555_5555
+}
+
+// The place of a point on the Z-shaped curve of Morton, on which near points are mostly near each other.
+fn curve_key(p: &Pt) -> u64 {
+    let x = (p.x() + 2_147_483_648) as u64;
+    let y = (p.y() + 2_147_483_648) as u64;
+    spread(x) | spread(y) << 1
+}
+
+/// The same points, in the order of a curve through the plane.
+pub fn along_curve(alloc: Global, points: &[Pt]) -> Result<Vec<Pt>, AllocError>
+    ensures { IfOk result (λ moved. IsPermutation points.now moved.items) }
+{
+    let mut moved = Vec::with_capacity(alloc, points.len())?;
+    moved.extend_from_slice(points)?;
+    moved.sort_unstable_by_key(|p| curve_key(p));
+    Ok(moved)
+}

@@ -1,0 +1,136 @@
+ghost use Rattle.std.specs.Prelude.{◌≡◌, ◌++◌, OnOk, IfOk, All, map, length, ◌<◌, Some, slice_get};
+ghost use Rattle.std.specs.List.{flat_map};
+ghost use Rattle.std.specs.Option.{option_to_list};
+ghost use Rattle.hot_pixels.specs.Found.{HasAllCrossings};
+ghost use Rattle.hot_pixels.specs.Boxes.{box_of, lesser, greater};
+ghost use Rattle.hot_pixels.specs.Crossing.{HasGridEnds};
+ghost use Rattle.hot_pixels.specs.Spots.{crossing_at, crossings_with, crossings_among};
+
+use crate::crossing::crossing_pixel;
+use bucket_grid::Buckets;
+use grid_base::{BoxList, Pt, Rect, Seg};
+use std::alloc::{AllocError, Global};
+
+fn lesser(a: i64, b: i64) -> i64
+    ensures { result ≡ lesser a b }
+{
+    if a <= b { a } else { b }
+}
+
+fn greater(a: i64, b: i64) -> i64
+    ensures { result ≡ greater a b }
+{
+    if a <= b { b } else { a }
+}
+
+// The least rectangle that holds a segment.
+pub fn box_of(s: Seg) -> Result<Rect, AllocError>
+    ensures exact { IfOk result (λ r. r ≡ box_of s) }
+    ensures on_grid { IfOk result (λ r. HasGridEnds s) }
+{
+    let (a, b) = (s.a(), s.b());
+    let low = Pt::new(lesser(a.x(), b.x()), lesser(a.y(), b.y())).ok_or(AllocError)?;
+    let high = Pt::new(greater(a.x(), b.x()), greater(a.y(), b.y())).ok_or(AllocError)?;
+    let area = Rect::new(low, high).ok_or(AllocError)?;
+    Ok(area)
+}
+
+fn boxes_of(alloc: Global, spots: &[Seg]) -> Result<BoxList, AllocError>
+    ensures exact { IfOk result (λ boxes. boxes ≡ map box_of spots.now) }
+    ensures on_grid { IfOk result (λ boxes. All HasGridEnds spots.now) }
+{
+    let mut boxes = BoxList::new(alloc);
+    for s in spots {
+        let area = box_of(*s)?;
+        boxes.push(area)?;
+    }
+    Ok(boxes)
+}
+
+fn spot_at(spots: &[Seg], i: u32) -> Option<Seg>
+    ensures { result ≡ slice_get spots.now i }
+{
+    spots.get(i as usize).copied()
+}
+
+// The crossing of spots i and j, where i comes first.
+fn crossing_of(spots: &[Seg], i: u32, j: u32) -> Option<Pt>
+    ensures { result ≡ crossing_at spots.now i j }
+{
+    if i >= j {
+        return None;
+    }
+    let Some(s) = spot_at(spots, i) else {
+        return None;
+    };
+    let Some(t) = spot_at(spots, j) else {
+        return None;
+    };
+    crossing_pixel(&s, &t)
+}
+
+fn push_some(points: &mut Vec<Pt>, found: Option<Pt>) -> Result<(), AllocError>
+    ensures { OnOk result (points.new.items ≡ points.old.items ++ option_to_list found) }
+{
+    if let Some(p) = found {
+        points.push(p)?;
+    }
+    Ok(())
+}
+
+fn add_crossings_with(
+    points: &mut Vec<Pt>,
+    spots: &[Seg],
+    near: &[u32],
+    i: u32,
+) -> Result<(), AllocError>
+    ensures { OnOk result (points.new.items ≡ points.old.items ++ crossings_with spots.now i near.now) }
+{
+    for j in near {
+        push_some(points, crossing_of(spots, i, *j))?;
+    }
+    Ok(())
+}
+
+fn add_crossings_among(points: &mut Vec<Pt>, spots: &[Seg], near: &[u32]) -> Result<(), AllocError>
+    ensures { OnOk result (points.new.items ≡ points.old.items ++ crossings_among spots.now near.now) }
+{
+    for i in near {
+        add_crossings_with(points, spots, near, *i)?;
+    }
+    Ok(())
+}
+
+// The boxes of a bucket.
+fn near_of(buckets: &Buckets, place: u32) -> &[u32]
+    requires { place < length buckets.now.near }
+    ensures { slice_get buckets.now.near place ≡ Some result.now }
+{
+    match buckets.each_near(place) {
+        Some(near) => near,
+        None => unreachable!(),
+    }
+}
+
+fn add_crossings_in(
+    points: &mut Vec<Pt>,
+    spots: &[Seg],
+    buckets: &Buckets,
+) -> Result<(), AllocError>
+    ensures { OnOk result (points.new.items ≡ points.old.items ++ flat_map (crossings_among spots.now) buckets.now.near) }
+{
+    for place in 0..buckets.count() {
+        add_crossings_among(points, spots, near_of(buckets, place))?;
+    }
+    Ok(())
+}
+
+/// Adds the pixels of all crossings of the spots to `points`, some of them often.
+pub fn add_crossings(alloc: Global, points: &mut Vec<Pt>, spots: &[Seg]) -> Result<(), AllocError>
+    ensures { OnOk result (HasAllCrossings spots.now points.old.items points.new.items) }
+{
+    let boxes = boxes_of(alloc, spots)?;
+    let buckets = Buckets::build(alloc, &boxes)?;
+    add_crossings_in(points, spots, &buckets)?;
+    Ok(())
+}
