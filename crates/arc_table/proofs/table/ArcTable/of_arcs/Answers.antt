@@ -1,0 +1,28 @@
+use Rattle.std.proofs.Common.{◌≡◌, ◌<◌, ℕ, List, length, map, sym, ap, ◌∙◌}
+use Rattle.std.proofs.lemmas.List.{length-map}
+use Rattle.std.proofs.lemmas.List.Elements.{All-same}
+use Rattle.std.proofs.lemmas.List.Sorted.{All-permutation}
+use Rattle.plane_model.specs.Points.{GridPoint}
+use Rattle.plane_model.specs.Arcs.{SignedArc}
+use Rattle.arc_table.specs.FirstSteps.{IsThere}
+use Rattle.arc_table.specs.declared.first_steps.FirstStep.{FirstStep}
+use Rattle.arc_table.specs.declared.table.ArcVertex.{ArcVertex}
+use Rattle.arc_table.proofs.Everywhere.{All-mapped}
+use Rattle.arc_table.proofs.table.ArcTable.of_arcs.Goals as goal
+
+pub invariant_of-result : goal.invariant_of-result
+invariant_of-result c =
+    let n : ℕ = length c.args.arcs.spans in
+    let turned = c.sort_by.new.self.items in
+    let there = IsThere n in
+    let below : SignedArc → Type 0 = λ a. a.arc < n in
+    let turned_there = All-permutation there c.in_ok-by_turn.by_turn.items turned c.sort_by.ensures.permutation c.in_ok-by_turn.ensures.there in
+    let starts : c.in_ok-starts.starts.items ≡ map (λ (f : FirstStep). f.step.start) turned = c.in_ok-starts.ensures ∙ ap (map (λ (f : FirstStep). f.step.start)) c.deref.ensures.value in
+    let outs : c.in_ok-outs.outs.items ≡ map (λ (f : FirstStep). f.arc) turned = c.in_ok-outs.ensures ∙ ap (map (λ (f : FirstStep). f.arc)) c.deref-2.ensures.value in (
+      c.requires.long,
+      All-permutation there c.in_ok-firsts.firsts.items c.sort.new.self.items c.sort.ensures.permutation c.in_ok-firsts.ensures.there,
+      ap (λ (xs : List GridPoint). length xs) starts ∙ length-map turned (λ (f : FirstStep). f.step.start) ∙ sym (length-map turned (λ (f : FirstStep). f.arc)) ∙ sym (ap (λ (xs : List SignedArc). length xs) outs),
+      All-same below c.in_ok-outs.outs.items (map (λ (f : FirstStep). f.arc) turned) outs (All-mapped there below (λ (f : FirstStep). f.arc) (λ f h. h) turned turned_there),
+      All-permutation (λ (v : ArcVertex). v.arc < n) c.in_ok-vertices.vertices.items c.sort-2.new.self.items c.sort-2.ensures.permutation c.in_ok-vertices.ensures.there,
+      c.requires.forward,
+    )

@@ -1,0 +1,4 @@
+pub mod Direction
+pub mod FirstSteps
+pub mod Numbering
+pub mod OneLink

@@ -1,0 +1,25 @@
+//! Arcs: the links of a snapped drawing, joined into runs between nodes.
+//!
+//! 1. A vertex is a node where its links are not two, or a line path starts or ends there, or a path turns back there.
+//! 2. Each link is stepped along in two ways. The steps stand in a flat table, ordered by their start and then by
+//!    their end, with the step that follows each of them on its arc.
+//! 3. Paths are gone along in order, and an arc gets its number at the first step along it.
+//! 4. The points of the arcs stand in one pool, whose room is taken before the first of them is pushed.
+//!
+//! A signed arc is numbered as in TopoJSON 1.0, section 2.1.4: arc `n` forward by `n`, reversed by `-n - 1`.
+#![tactic(auto)]
+
+mod direction;
+mod first_steps;
+mod half_links;
+mod list_types;
+mod nodes;
+mod numbering;
+mod signed_paths;
+mod table;
+
+pub use list_types::{ArcList, Polys, SignedPath, SignedPaths};
+pub use table::ArcTable;
+
+#[cfg(test)]
+mod tests;

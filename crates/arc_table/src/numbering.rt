@@ -1,0 +1,249 @@
+ghost use Rattle.std.specs.Prelude.{◌≡◌, ◌+◌, ◌-◌, ◌<◌, ◌≤◌, ◌^◌, [], ◌∷◌, ◌++◌, All, IfOk, OnOk, IfSome, length, sum_by};
+ghost use Rattle.arc_table.specs.Direction.{IsForward};
+ghost use Rattle.arc_table.specs.Numbering.{IsWay, IsNumbering, points_of_way};
+
+use crate::direction::turn_forward;
+use crate::half_links::{Net, Step, place_of};
+use grid_base::{FeatId, Pt, PtList, RingsList, Snapped};
+use span_pool::SpanPool;
+use std::alloc::{AllocError, Global};
+
+/// Where an arc starts, as the place of its first step, and how many steps it has.
+#[derive(Clone, Copy, Debug)]
+pub struct Way {
+    pub start: u32,
+    pub steps: u32,
+}
+
+/// The arcs that have a number, in order, and whether each step goes along one of them.
+#[derive(Drop)]
+pub struct Numbering {
+    pub ways: Vec<Way>,
+    pub is_numbered: Vec<bool>,
+}
+
+/// The arcs in the order in which the paths first step along them: those of polygons, then lines, then boxes.
+pub fn ways_of(alloc: Global, net: &Net, s: &Snapped) -> Result<Vec<Way>, AllocError>
+    ensures there { IfOk result (λ v. All (IsWay net.now) v.items) }
+{
+    let mut numbering = Numbering {
+        ways: Vec::new(alloc),
+        is_numbered: vec![in alloc; false; net.step_count()]?,
+    };
+    for f in 0..s.polygon_count() {
+        number_polygons(&mut numbering, net, s.rings_of(FeatId::new(f)))?;
+    }
+    for f in 0..s.line_count() {
+        number_paths(&mut numbering, net, s.lines_of(FeatId::new(f)).as_slice())?;
+    }
+    for b in 0..s.box_count() {
+        number_path(&mut numbering, net, s.box_of(b).as_slice())?;
+    }
+    let Numbering {
+        ways,
+        is_numbered: _,
+    } = numbering;
+    Ok(ways)
+}
+
+fn number_polygons(
+    numbering: &mut Numbering,
+    net: &Net,
+    polygons: &RingsList,
+) -> Result<(), AllocError>
+    requires { IsNumbering net.now numbering.old }
+    ensures { OnOk result (IsNumbering net.now numbering.new) }
+{
+    for polygon in polygons.as_slice() {
+        number_paths(numbering, net, polygon.as_slice())?;
+    }
+    Ok(())
+}
+
+fn number_paths(numbering: &mut Numbering, net: &Net, paths: &[PtList]) -> Result<(), AllocError>
+    requires { IsNumbering net.now numbering.old }
+    ensures { OnOk result (IsNumbering net.now numbering.new) }
+{
+    for path in paths {
+        number_path(numbering, net, path.as_slice())?;
+    }
+    Ok(())
+}
+
+fn number_path(numbering: &mut Numbering, net: &Net, path: &[Pt]) -> Result<(), AllocError>
+    requires { IsNumbering net.now numbering.old }
+    ensures { OnOk result (IsNumbering net.now numbering.new) }
+{
+    for i in 1..path.len() {
+        number_step(numbering, net, Step::new(path[i - 1], path[i]))?;
+    }
+    Ok(())
+}
+
+// Gives the arc along a step the next number, where it has none.
+fn number_step(numbering: &mut Numbering, net: &Net, step: Step) -> Result<(), AllocError>
+    requires { IsNumbering net.now numbering.old }
+    ensures { OnOk result (IsNumbering net.now numbering.new) }
+{
+    let Some(h) = place_of(&net.steps, step) else {
+        return Ok(());
+    };
+    if numbering.is_numbered[h] {
+        return Ok(());
+    }
+    let start = start_of(net, h);
+    let steps = mark_way(&mut numbering.is_numbered, net, start);
+    let way = Way {
+        start: start as u32,
+        steps,
+    };
+    numbering.ways.push(way)?;
+    Ok(())
+}
+
+// The place of a step that begins the arc along step `h`, from either of its ends.
+fn start_of(net: &Net, h: usize) -> usize
+    requires { h < length net.now.steps.items }
+    ensures { result < length net.now.steps.items }
+{
+    match last_on(net, net.twin(h)) {
+        None => least_round(net, h),
+        Some(back) => net.twin(back),
+    }
+}
+
+// The last step on the way on from step `first`; `None` where it comes round to `first`.
+fn last_on(net: &Net, first: usize) -> Option<usize>
+    requires { first < length net.now.steps.items }
+    ensures { IfSome result (λ h. h < length net.now.steps.items) }
+{
+    let mut at = first;
+    for _step in 0..net.step_count() {
+        let next = net.next(at);
+        if next == at {
+            return Some(at);
+        }
+        if next == first {
+            return None;
+        }
+        at = next;
+    }
+    None
+}
+
+// The least place of a step along a closed run, either way round.
+fn least_round(net: &Net, first: usize) -> usize
+    requires { first < length net.now.steps.items }
+    ensures { result < length net.now.steps.items }
+{
+    let mut least = first;
+    let mut at = first;
+    for _step in 0..net.step_count() {
+        least = least.min(at).min(net.twin(at));
+        at = net.next(at);
+        if at == first {
+            return least;
+        }
+    }
+    least
+}
+
+// Marks the steps along the arc that starts with step `start`, both ways, and answers how many it has.
+fn mark_way(is_numbered: &mut Vec<bool>, net: &Net, start: usize) -> u32
+    requires each { length is_numbered.old.items ≡ length net.now.steps.items }
+    requires there { start < length net.now.steps.items }
+    ensures each { length is_numbered.new.items ≡ length net.now.steps.items }
+    ensures some { 0 < result }
+{
+    let mut at = start;
+    let mut steps = 0u32;
+    for _step in 0..net.step_count() {
+        is_numbered[at] = true;
+        let twin = net.twin(at);
+        is_numbered[twin] = true;
+        steps += 1;
+        let next = net.next(at);
+        if next == at || next == start {
+            return steps;
+        }
+        at = next;
+    }
+    steps
+}
+
+/// The points of the arcs, in one pool, whose room is taken before the first arc is pushed.
+pub fn pool_of(alloc: Global, net: &Net, ways: &[Way]) -> Result<SpanPool, AllocError>
+    requires { All (IsWay net.now) ways.now }
+    ensures each { IfOk result (λ p. length p.spans ≡ length ways.now) }
+    ensures long { IfOk result (λ p. All (λ arc. 1 < length arc) p.spans) }
+    ensures forward { IfOk result (λ p. All IsForward p.spans) }
+{
+    if ways.len() >= u32::MAX as usize {
+        return Err(AllocError);
+    }
+    let count = point_count(ways);
+    if count >= u32::MAX as u64 {
+        return Err(AllocError);
+    }
+    let mut pool = SpanPool::new(alloc);
+    pool.reserve(ways.len() as u32, count as u32)?;
+    let mut points = Vec::new(alloc);
+    for way in ways {
+        arc_points(&mut points, net, *way)?;
+        push_arc(&mut pool, &points);
+    }
+    Ok(pool)
+}
+
+fn push_arc(pool: &mut SpanPool, points: &Vec<Pt>)
+    requires span_spare { 0 < pool.old.spare_spans }
+    requires points_spare { length points.now.items ≤ pool.old.spare_points }
+    requires arcs { All IsForward pool.old.spans }
+    requires forward { IsForward points.now.items }
+    ensures pushed { pool.new ≡ record {
+      spans = pool.old.spans ++ points.now.items ∷ [];
+      spare_spans = pool.old.spare_spans - 1;
+      spare_points = pool.old.spare_points - length points.now.items;
+    } }
+    ensures arcs { All IsForward pool.new.spans }
+{
+    pool.push_span(points);
+}
+
+// How many points the arcs have together.
+fn point_count(ways: &[Way]) -> u64
+    requires { length ways.now < 2 ^ 32 }
+    ensures { result ≡ sum_by points_of_way ways.now }
+{
+    let mut count = 0u64;
+    for way in ways {
+        count += way.steps as u64 + 1;
+    }
+    count
+}
+
+// The points of an arc in its direction, in place of those that `points` held.
+fn arc_points(points: &mut Vec<Pt>, net: &Net, way: Way) -> Result<(), AllocError>
+    requires { IsWay net.now way }
+    ensures count { OnOk result (length points.new.items ≡ points_of_way way) }
+    ensures forward { OnOk result (IsForward points.new.items) }
+{
+    points_along(points, net, way)?;
+    turn_forward(points);
+    Ok(())
+}
+
+// The points along an arc, from the end that its first step begins at.
+fn points_along(points: &mut Vec<Pt>, net: &Net, way: Way) -> Result<(), AllocError>
+    requires { IsWay net.now way }
+    ensures { OnOk result (length points.new.items ≡ points_of_way way) }
+{
+    points.clear();
+    let mut at = way.start as usize;
+    points.push(net.step(at).from())?;
+    for _step in 0..way.steps {
+        points.push(net.step(at).to())?;
+        at = net.next(at);
+    }
+    Ok(())
+}

@@ -1,0 +1,183 @@
+ghost use Rattle.std.specs.Prelude.{◌≡◌, ◌+◌, ◌<◌, ◌≤◌, [], ◌++◌, All, IfOk, IfSome, OnOk, Some, length, map, slice_get, slice_index_or};
+ghost use Rattle.plane_model.specs.Arcs.{points_of};
+ghost use Rattle.arc_table.specs.Direction.{IsForward};
+
+use crate::first_steps::{FirstStep, first_steps, turning};
+use crate::half_links::{Net, Step};
+use crate::nodes::turns_of;
+use crate::numbering::{pool_of, ways_of};
+use grid_base::{ArcId, Pt, SignedArc, Snapped};
+use span_pool::{SpanId, SpanPool};
+use std::alloc::{AllocError, Global};
+use std::marker::Model;
+
+/// The arcs of a snapped drawing, numbered from 0. Contracts see the list of their points.
+#[derive(Drop)]
+pub struct ArcTable {
+    arcs: SpanPool,
+    // the first steps of the signed arcs, in order
+    firsts: Vec<FirstStep>,
+    // where each signed arc of `outs` starts
+    starts: Vec<Pt>,
+    // the signed arcs by their starts, and counterclockwise at each
+    outs: Vec<SignedArc>,
+    // the vertices of all arcs, in order
+    vertices: Vec<ArcVertex>,
+}
+
+/// A vertex of an arc.
+#[derive(Clone, Copy, PartialEq, Eq, PartialOrd, Ord, Debug)]
+pub struct ArcVertex {
+    pub at: Pt,
+    pub arc: ArcId,
+}
+
+impl Model for ArcTable {
+    ghost use Rattle.std.specs.Prelude.{◌≡◌, ◌<◌, All, List, length};
+    ghost use Rattle.plane_model.specs.Points.{GridPoint};
+    ghost use Rattle.arc_table.specs.Direction.{IsForward};
+    ghost use Rattle.arc_table.specs.FirstSteps.{IsThere};
+
+    ghost Value = { List (List GridPoint) };
+
+    ghost view = { λ t. t.arcs.spans };
+
+    ghost invariant = { λ t. All (λ arc. 1 < length arc) t.arcs.spans
+        × All (IsThere (length t.arcs.spans)) t.firsts.items
+        × (length t.starts.items ≡ length t.outs.items)
+        × All (λ a. a.arc < length t.arcs.spans) t.outs.items
+        × All (λ v. v.arc < length t.arcs.spans) t.vertices.items
+        × All IsForward t.arcs.spans };
+}
+
+impl ArcTable {
+    /// The arcs of a snapped drawing: the whole table, or for want of memory nothing.
+    pub fn build(alloc: Global, s: &Snapped) -> Result<ArcTable, AllocError>
+        ensures long { IfOk result (λ t. All (λ arc. 1 < length arc) t) }
+        ensures forward { IfOk result (λ t. All IsForward t) }
+    {
+        let turns = turns_of(alloc, s)?;
+        let net = Net::of(alloc, s.links(), &turns)?;
+        let ways = ways_of(alloc, &net, s)?;
+        let arcs = pool_of(alloc, &net, &ways)?;
+        ArcTable::of_arcs(alloc, arcs)
+    }
+
+    fn of_arcs(alloc: Global, arcs: SpanPool) -> Result<ArcTable, AllocError>
+        requires long { All (λ arc. 1 < length arc) arcs.spans }
+        requires forward { All IsForward arcs.spans }
+        ensures same { IfOk result (λ t. t ≡ arcs.spans) }
+    {
+        let mut firsts = first_steps(alloc, &arcs)?;
+        firsts.sort()?;
+        let mut by_turn = first_steps(alloc, &arcs)?;
+        by_turn.sort_by(turning)?;
+        let starts = starts_of(alloc, &by_turn)?;
+        let outs = arcs_of(alloc, &by_turn)?;
+        let mut vertices = vertices_of(alloc, &arcs)?;
+        vertices.sort()?;
+        Ok(ArcTable {
+            arcs,
+            firsts,
+            starts,
+            outs,
+            vertices,
+        })
+    }
+
+    pub fn count(&self) -> u32
+        ensures exact { result ≡ length self.now }
+    {
+        self.arcs.count()
+    }
+
+    /// The points of an arc in its direction, as they stand in the pool.
+    pub fn points_of(&self, id: ArcId) -> &[Pt]
+        requires { id < length self.now }
+        ensures exact { result.now ≡ slice_index_or self.now id [] }
+        ensures long { 1 < length result.now }
+        ensures forward { IsForward result.now }
+    {
+        self.arcs.get(SpanId::new(id.num()))
+    }
+
+    /// Where a signed arc starts.
+    pub fn start_of(&self, a: SignedArc) -> Pt
+        requires { a.arc < length self.now }
+        ensures exact { slice_get (points_of self.now a) 0 ≡ Some result }
+    {
+        let points = self.points_of(a.id());
+        if a.is_reversed() {
+            points[points.len() - 1]
+        } else {
+            points[0]
+        }
+    }
+
+    /// The signed arcs that start at `p`, counterclockwise from the direction of the positive x axis, that direction
+    /// included. Takes no memory.
+    pub fn around(&self, p: Pt) -> &[SignedArc]
+        ensures there { All (λ a. a.arc < length self.now) result.now }
+    {
+        let first = self.starts.partition_point(|q| *q < p);
+        let count = self.starts[first..].partition_point(|q| *q == p);
+        &self.outs[first..first + count]
+    }
+
+    /// The least arc that has `p` as a vertex; `None` exactly where there is none. Takes no memory.
+    pub fn arc_at(&self, p: Pt) -> Option<ArcId>
+        ensures there { IfSome result (λ id. id < length self.now) }
+    {
+        let first = self.vertices.partition_point(|v| v.at < p);
+        if first < self.vertices.len() && self.vertices[first].at == p {
+            Some(self.vertices[first].arc)
+        } else {
+            None
+        }
+    }
+
+    // The signed arc that begins with a step, where there is one.
+    pub(crate) fn begun_by(&self, step: Step) -> Option<SignedArc>
+        ensures there { IfSome result (λ a. a.arc < length self.now) }
+    {
+        let first = self.firsts.partition_point(|f| f.step < step);
+        if first < self.firsts.len() && self.firsts[first].step == step {
+            Some(self.firsts[first].arc)
+        } else {
+            None
+        }
+    }
+}
+
+fn starts_of(alloc: Global, firsts: &[FirstStep]) -> Result<Vec<Pt>, AllocError>
+    ensures { IfOk result (λ v. v.items ≡ map (λ f. f.step.start) firsts.now) }
+{
+    firsts.iter().map(|f| f.step.from()).collect(alloc)
+}
+
+fn arcs_of(alloc: Global, firsts: &[FirstStep]) -> Result<Vec<SignedArc>, AllocError>
+    ensures { IfOk result (λ v. v.items ≡ map (λ f. f.arc) firsts.now) }
+{
+    firsts.iter().map(|f| f.arc).collect(alloc)
+}
+
+// The vertices of all arcs, arc by arc.
+fn vertices_of(alloc: Global, arcs: &SpanPool) -> Result<Vec<ArcVertex>, AllocError>
+    ensures there { IfOk result (λ v. All (λ x. x.arc < length arcs.now.spans) v.items) }
+{
+    let mut vertices = Vec::new(alloc);
+    for n in 0..arcs.count() {
+        push_vertices(&mut vertices, ArcId::new(n), arcs.get(SpanId::new(n)))?;
+    }
+    Ok(vertices)
+}
+
+fn push_vertices(vertices: &mut Vec<ArcVertex>, arc: ArcId, points: &[Pt]) -> Result<(), AllocError>
+    ensures { OnOk result (vertices.new.items ≡ vertices.old.items ++ map (λ p. record { at = p; arc = arc }) points.now) }
+{
+    vertices.reserve(points.len())?;
+    for p in points {
+        vertices.push(ArcVertex { at: *p, arc })?;
+    }
+    Ok(())
+}

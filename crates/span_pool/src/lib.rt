@@ -1,0 +1,15 @@
+//! A pool of points: one region of points of its own, cut into spans.
+//!
+//! Room is taken ahead, by `reserve`. After that a span is pushed, read and dropped without taking memory, so a
+//! table that reserves first is built whole or not at all. Contracts see a pool as the list of its spans and the
+//! two numbers of spares.
+#![tactic(auto)]
+
+mod ids;
+mod pool;
+
+pub use ids::SpanId;
+pub use pool::SpanPool;
+
+#[cfg(test)]
+mod tests;
