@@ -1,0 +1,15 @@
+pub mod Runs
+pub mod Parts
+pub mod Raised
+pub mod Steps
+pub mod Accepts
+pub mod Members
+pub mod Operands
+pub mod Levels
+pub mod Choices
+pub mod Boundaries
+pub mod Quotes
+pub mod Scanning
+pub mod Stops
+pub mod Wholes
+pub mod OneTree

@@ -1,0 +1,10 @@
+use Rattle.std.proofs.Common.{◌≡◌, length}
+use Rattle.json_read.specs.Bytes.{is_white}
+use Rattle.json_read.specs.Reading.{drop_while}
+use Rattle.expr_lang.proofs.scanner.Scanner.skip_white.Given as goal
+
+abbrev pub invariant-loop-self : goal.invariant-loop-self
+invariant-loop-self l = drop_while is_white l.self.rest.now ≡ drop_while is_white l.initial.self.rest.now
+
+abbrev pub decreases-loop-self : goal.decreases-loop-self
+decreases-loop-self l = length l.self.rest.now

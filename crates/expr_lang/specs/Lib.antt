@@ -1,0 +1,9 @@
+pub mod Tokens
+pub mod Tree
+pub mod Grammar
+pub mod Machine
+pub mod Reading
+pub mod Laws
+pub mod Meaning
+pub mod Stuck
+pub mod Faults

@@ -1,0 +1,28 @@
+//! Expressions over the columns of a row: JavaScript's, on booleans, null, exact decimals and texts.
+//!
+//! `Expr::parse` reads a text of at most 4,096 bytes, in which at most 64 parentheses, signs and branches
+//! enclose one another, or says at which byte and why it is none. `eval` gives its value for a row.
+//!
+//! 1. `scanner` cuts the text into tokens, the longest that fit.
+//! 2. `parser` builds the tree by recursive descent, a function for each rule and one for all levels of
+//!    operators.
+//! 3. `evaluation` walks the tree; `operators` has what each operator does to values.
+#![tactic(auto)]
+
+mod evaluation;
+mod expr;
+mod fault;
+pub mod laws;
+mod operators;
+mod parser;
+mod parsing;
+mod scanner;
+mod symbols;
+mod token;
+
+pub use evaluation::eval;
+pub use expr::Expr;
+pub use fault::{EvalFault, ExprFault};
+
+#[cfg(test)]
+mod tests;

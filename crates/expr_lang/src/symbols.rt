@@ -1,0 +1,82 @@
+ghost use Rattle.std.specs.Prelude.{◌≡◌};
+ghost use Rattle.expr_lang.specs.Tokens.{three_bytes as three_bytes_at, two_bytes as two_bytes_at, one_byte as one_byte_at, other_byte as other_byte_at};
+
+use crate::token::{Mark, Operator, Symbol};
+
+pub fn three_bytes(rest: &[u8]) -> Option<Symbol>
+    ensures { result ≡ three_bytes_at rest.now }
+{
+    if rest.starts_with(b"===") {
+        Some(Symbol::Operator(Operator::Same))
+    } else if rest.starts_with(b"!==") {
+        Some(Symbol::Operator(Operator::NotSame))
+    } else {
+        None
+    }
+}
+
+pub fn two_bytes(rest: &[u8]) -> Option<Symbol>
+    ensures { result ≡ two_bytes_at rest.now }
+{
+    if rest.starts_with(b"==") {
+        Some(Symbol::Operator(Operator::Equal))
+    } else if rest.starts_with(b"!=") {
+        Some(Symbol::Operator(Operator::NotEqual))
+    } else if rest.starts_with(b"<=") {
+        Some(Symbol::Operator(Operator::AtMost))
+    } else if rest.starts_with(b">=") {
+        Some(Symbol::Operator(Operator::AtLeast))
+    } else if rest.starts_with(b"&&") {
+        Some(Symbol::Operator(Operator::Both))
+    } else if rest.starts_with(b"||") {
+        Some(Symbol::Operator(Operator::Either))
+    } else if rest.starts_with(b"**") {
+        Some(Symbol::Other)
+    } else if rest.starts_with(b"=>") {
+        Some(Symbol::Other)
+    } else if rest.starts_with(b"++") {
+        Some(Symbol::Other)
+    } else if rest.starts_with(b"--") {
+        Some(Symbol::Other)
+    } else if rest.starts_with(b"<<") {
+        Some(Symbol::Other)
+    } else if rest.starts_with(b">>") {
+        Some(Symbol::Other)
+    } else if rest.starts_with(b"?.") {
+        Some(Symbol::Other)
+    } else {
+        None
+    }
+}
+
+pub fn one_byte(b: u8) -> Option<Symbol>
+    ensures { result ≡ one_byte_at b }
+{
+    match b {
+        b'?' => Some(Symbol::Mark(Mark::Question)),
+        b':' => Some(Symbol::Mark(Mark::Colon)),
+        b'<' => Some(Symbol::Operator(Operator::Less)),
+        b'>' => Some(Symbol::Operator(Operator::Greater)),
+        b'+' => Some(Symbol::Operator(Operator::Plus)),
+        b'-' => Some(Symbol::Operator(Operator::Minus)),
+        b'*' => Some(Symbol::Operator(Operator::Times)),
+        b'!' => Some(Symbol::Mark(Mark::Not)),
+        b'(' => Some(Symbol::Mark(Mark::Open)),
+        b')' => Some(Symbol::Mark(Mark::Close)),
+        b'[' => Some(Symbol::Mark(Mark::OpenBracket)),
+        b']' => Some(Symbol::Mark(Mark::CloseBracket)),
+        b'.' => Some(Symbol::Mark(Mark::Dot)),
+        _ => other_byte(b),
+    }
+}
+
+fn other_byte(b: u8) -> Option<Symbol>
+    ensures { result ≡ other_byte_at b }
+{
+    match b {
+        b'/' | b'%' | b'&' | b'|' | b'^' | b'~' | b'=' | b';' | b'{' | b'}' | b',' => Some(
+            Symbol::Other,
+        ),
+        _ => None,
+    }
+}

@@ -1,0 +1,81 @@
+use io_core::Text;
+use json_read::Decimal;
+
+/// An operator between two operands.
+#[derive(Clone, Copy, Debug, PartialEq, Eq, Drop)]
+pub enum Operator {
+    /// `||`
+    Either,
+    /// `&&`
+    Both,
+    /// `===`
+    Same,
+    /// `!==`
+    NotSame,
+    /// `==`
+    Equal,
+    /// `!=`
+    NotEqual,
+    /// `<=`
+    AtMost,
+    /// `>=`
+    AtLeast,
+    /// `<`
+    Less,
+    /// `>`
+    Greater,
+    /// `+`
+    Plus,
+    /// `-`
+    Minus,
+    /// `*`
+    Times,
+}
+
+/// An operator before one operand.
+#[derive(Clone, Copy, Debug, PartialEq, Eq, Drop)]
+pub enum Sign {
+    /// `!`
+    Not,
+    /// `-`
+    Negative,
+}
+
+#[derive(Clone, Copy, Debug, PartialEq, Eq, Drop)]
+pub enum Mark {
+    Not,
+    Open,
+    Close,
+    Question,
+    Colon,
+    Dot,
+    OpenBracket,
+    CloseBracket,
+}
+
+/// A token of operator signs or marks.
+#[derive(Clone, Copy, Debug, PartialEq, Eq, Drop)]
+pub enum Symbol {
+    Operator(Operator),
+    Mark(Mark),
+    Other,
+}
+
+#[derive(Drop)]
+pub enum Token {
+    /// A numeral that is a decimal.
+    Number(Decimal),
+    Text(Text),
+    True,
+    False,
+    Null,
+    This,
+    Name(Text),
+    Operator(Operator),
+    Mark(Mark),
+    /// A token that the language leaves out: an operator or a word of JavaScript, a numeral that is no
+    /// decimal, a text with another escape.
+    Other,
+    /// A byte that begins no token, or a text that does not end. Nothing is read behind it.
+    Stray,
+}
