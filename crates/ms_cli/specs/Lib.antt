@@ -1,0 +1,4 @@
+pub mod Printing
+pub mod Running
+pub mod Status
+pub mod Words
