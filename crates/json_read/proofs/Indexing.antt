@@ -1,12 +1,12 @@
 -- An index of the names of an object's fields.
-use Rattle.std.proofs.Common.{ℕ, zero, suc, ◌≡◌, ◌+◌, ◌<◌, ◌≤◌, List, [], ◌∷◌, ◌++◌, Bool, true, false, not, cond, ◌||◌, ◌==◌, Option, Some, None, refl, ap, ◌∙◌, sym, subst, length, map, get_or, fold, arith, true≢false, append_assoc, append-nil, length-append, take, take_all, ◌⊎◌, inl, inr, Global, String}
+use Rattle.std.proofs.Common.{ℕ, zero, suc, ◌≡◌, ◌+◌, ◌<◌, ◌≤◌, List, [], ◌∷◌, ◌++◌, Bool, true, false, not, cond, ◌||◌, Some, None, refl, ap, ◌∙◌, sym, subst, length, map, get_or, fold, arith, append_assoc, append-nil, length-append, take, take_all, Global, String}
 use Rattle.std.proofs.lemmas.List.{length-map, get_or_append_left}
 use Rattle.std.proofs.Math.Seq.{get_or-append_seam}
 use Rattle.std.proofs.lemmas.Option.{none-some, same_Some}
 use Rattle.std.proofs.lemmas.Bool.Decides.{nat_tests}
 use Rattle.std.proofs.lemmas.Map.Keys.{apart_from_distinct}
 use Rattle.std.specs.Prelude.{nat_lt, position}
-use Rattle.std.specs.List.{list_any, prefix_len, position_or_len, IsDistinct}
+use Rattle.std.specs.List.{list_any, prefix_len, IsDistinct}
 use Rattle.std.specs.String.{string_bytes, string_eq}
 use Rattle.std.specs.Str.{bytes_eq}
 use Rattle.json_read.specs.Json.{JsonValue, FieldList}
@@ -18,7 +18,7 @@ use Rattle.json_read.specs.Seen.{members_seen, fields_seen}
 use Rattle.json_read.specs.declared.json.Json.{Json}
 use Rattle.indexmap.specs.IndexSet.{insert_key}
 use Rattle.json_read.proofs.Tables.{seen_names, list_any-seen, seen_names-insert_key}
-use Rattle.json_read.proofs.Putting.{Differs, flips, names, put_at_place, put_on, neither_first, neither_second, names-put_new, names-put_old}
+use Rattle.json_read.proofs.Putting.{flips, names, put_at_place, put_on, neither_first, neither_second, names-put_new, names-put_old}
 
 -- ## The place of a name
 
@@ -94,7 +94,7 @@ apart_any name [] h = refl
 apart_any name (n ∷ ns) h =
     ap (λ (b : Bool). b || list_any (bytes_eq name) ns) (h 0 n (omega arith)) ∙ apart_any name ns (λ i d l. h (suc i) d (omega arith))
 
-new_name : (ns rest : List (List ℕ)) (n : List ℕ) → IsDistinct bytes_eq (ns ++ n ∷ rest) → list_any (bytes_eq n) ns ≡ false
+pub new_name : (ns rest : List (List ℕ)) (n : List ℕ) → IsDistinct bytes_eq (ns ++ n ∷ rest) → list_any (bytes_eq n) ns ≡ false
 new_name ns rest n h = apart_any n ns (λ i d l. at i d l)
   where
     at : (i : ℕ) (d : List ℕ) → i < length ns → bytes_eq n (get_or ns i d) ≡ false

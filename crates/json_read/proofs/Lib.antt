@@ -34,3 +34,9 @@ pub mod Quotients
 pub mod Sameness
 pub mod Rounding
 pub mod Indexing
+pub mod NumbersAreNumerals
+pub mod RoundTrip
+pub mod PrintedTexts
+pub mod PrintedCells
+pub mod GridNumbers
+pub mod ProperValues

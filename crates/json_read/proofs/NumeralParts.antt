@@ -45,7 +45,7 @@ front text k n e = go (cases_lt (length text) k)
     go (inl l) = take_all n text (omega (arith, e, l, length-take k text)) ∙ sym (take_all k text (omega arith))
     go (inr l) = ap (λ (m : ℕ). take m text) (e ∙ length-take-le k text l)
 
-front_digits : (text : List ℕ) → AreDigits (digits_at text)
+pub front_digits : (text : List ℕ) → AreDigits (digits_at text)
 front_digits [] = tt
 front_digits (b ∷ bs) = go (is_digit b) refl (front_digits bs)
   where

@@ -24,7 +24,7 @@ signed_size true (suc n) = refl
 
 -- ## A whole number of units
 
-checked_some : (minus : Bool) (n : ℕ) → n < 10 ^ 36 → checked (signed minus n) ≡ Some (signed minus n)
+pub checked_some : (minus : Bool) (n : ℕ) → n < 10 ^ 36 → checked (signed minus n) ≡ Some (signed minus n)
 checked_some minus n l = ap (λ (t : Bool). cond t (Some (signed minus n)) None) (ap (λ (m : ℕ). nat_lt m (10 ^ 36)) (signed_size minus n) ∙ below n l)
 
 checked_none : (minus : Bool) (n : ℕ) → 10 ^ 36 ≤ n → checked (signed minus n) ≡ None

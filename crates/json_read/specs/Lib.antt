@@ -16,3 +16,5 @@ pub mod Text
 pub mod Scaling
 pub mod Value
 pub mod Table
+pub mod Proper
+pub mod ProperCells

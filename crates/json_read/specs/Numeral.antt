@@ -1,5 +1,5 @@
 -- The number that a numeral denotes (RFC 8259, section 6), and its place on the grid.
-use Rattle.std.specs.Prelude.{◌≡◌, ℕ, suc, ◌+◌, ◌-◌, ◌*◌, ◌/◌, ◌^◌, Bool, true, false, not, ◌&&◌, ◌||◌, ◌==◌, nat_le, ℤ, pos, negsuc, ◌+ℤ◌, ◌-ℤ◌, ◌*ℤ◌, neg_ℤ, ◌≤ℤ◌, ◌<ℤ◌, unsigned_abs, List, [], ◌∷◌, ◌++◌, length, take_while, drop, Option, Some, None, if◌then◌else◌, fold, ◌↔◌, IsSome, option_and_then}
+use Rattle.std.specs.Prelude.{◌≡◌, ℕ, suc, ◌+◌, ◌-◌, ◌*◌, ◌/◌, ◌^◌, Bool, true, false, not, ◌&&◌, ◌||◌, ◌==◌, nat_le, ℤ, pos, negsuc, ◌+ℤ◌, ◌-ℤ◌, ◌*ℤ◌, neg_ℤ, ◌≤ℤ◌, ◌<ℤ◌, unsigned_abs, List, [], ◌∷◌, ◌++◌, length, take_while, drop, Option, Some, None, if◌then◌else◌, fold, ◌↔◌, is_some, IsTrue, option_and_then}
 use Rattle.json_read.specs.Bytes.{is_digit, is_exponent_letter}
 
 -- a numeral stands for mantissa * 10 ^ exponent
@@ -76,7 +76,7 @@ numeral_of [] = None
 numeral_of (b ∷ rest) = if b == 45 then unsigned_numeral true rest else unsigned_numeral false (b ∷ rest)
 
 abbrev pub IsNumeral : List ℕ → Type 0
-IsNumeral text = IsSome (numeral_of text)
+IsNumeral text = IsTrue (is_some (numeral_of text))
 
 -- ## Places on the grid
 

@@ -1,5 +1,18 @@
-//! JSON texts (RFC 8259), read exactly: a value, or the kind and the place of the first fault; and decimals,
-//! the values of cells, and tables of them.
+//! JSON texts (RFC 8259), decimals, and the values of tables.
+//!
+//! In: bytes. `Json::parse` gives the value that they denote, or the kind and the place of the first fault: the
+//! length of the longest prefix that begins some text. Out: `print_into` appends the compact text of a value.
+//!
+//! A numeral keeps its spelling in a `Json`. It is read in two ways, both exact and without forming the whole
+//! number: `Decimal::parse` for the cells of tables, `numeral_to_grid` for coordinates.
+//!
+//! `Value` is what a cell of a table holds. `Fields` are the named values of one feature, and
+//! `Table::from_fields` makes a table of many: a column for each name, in the order of first appearance.
+//!
+//! `laws` has facts over the definitions alone. What a text of the grammar denotes is one value, and proper; the
+//! text that is printed of a proper value is in the grammar and denotes that value; a printed decimal and a printed
+//! grid number read back; rounding gives the nearest whole number, halves up; the numbers of the grammar are exactly
+//! the numerals that have a value; and the machine that places the faults accepts each text of the grammar.
 #![tactic(auto)]
 
 mod comparing;
@@ -23,6 +36,7 @@ pub use fault::JsonFault;
 pub use fields::{Fields, FieldsList};
 pub use grid_numeral::numeral_to_grid;
 pub use json::{Json, JsonFields, JsonList};
+pub use numerals::is_numeral;
 pub use table::{Row, RowList, Table};
 pub use value::Value;
 

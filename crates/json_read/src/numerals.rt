@@ -1,4 +1,4 @@
-ghost use Rattle.std.specs.Prelude.{◌≡◌, ◌++◌, ◌-◌, [], ◌∷◌, ℕ, suc, ◌<◌, ◌≤◌, ◌*◌, ◌^◌, ℤ, pos, ◌+ℤ◌, ◌-ℤ◌, Some, None, IsTrue, MatchOption, length, min, ◌==◌};
+ghost use Rattle.std.specs.Prelude.{◌≡◌, ◌++◌, ◌-◌, [], ◌∷◌, ℕ, suc, ◌<◌, ◌≤◌, ◌*◌, ◌^◌, ℤ, pos, ◌+ℤ◌, ◌-ℤ◌, Some, None, IsTrue, MatchOption, is_some, length, min, ◌==◌};
 ghost use Rattle.std.specs.List.{list_all};
 ghost use Rattle.json_read.specs.Bytes.{is_digit as is_a_digit};
 ghost use Rattle.json_read.specs.Numeral.{digits_at, number_onto, number_of, is_whole_part, fraction_part, exponent_part, exponent_digits, numeral_of, signed, unsigned_numeral};
@@ -25,6 +25,16 @@ pub(crate) struct Scaled {
     pub(crate) units: u128,
     pub(crate) tenths: u8,
     pub(crate) more: bool,
+}
+
+/// Whether the whole text is a numeral.
+///
+/// Cost: one pass over the text; takes no memory.
+/// Source: RFC 8259, section 6.
+pub fn is_numeral(text: &str) -> bool
+    ensures exact { result ≡ is_some (numeral_of text.now) }
+{
+    Numeral::read(text.as_bytes()).is_some()
 }
 
 impl<'a> Numeral<'a> {

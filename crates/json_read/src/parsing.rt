@@ -11,6 +11,7 @@ impl Json {
     ghost use Rattle.json_read.specs.Grammar.{JsonText};
     ghost use Rattle.json_read.specs.Seen.{json_value};
     ghost use Rattle.json_read.specs.Faults.{FaultFits};
+    ghost use Rattle.json_read.specs.Proper.{IsProper};
 
     /// The value that the bytes denote, where they are a text of the grammar.
     ///
@@ -20,6 +21,7 @@ impl Json {
     /// Source: RFC 8259; the byte order mark, the depth and U+FFFD for half a surrogate pair are ours.
     pub fn parse(alloc: Global, bytes: &[u8]) -> Result<Json, JsonFault>
         ensures ok { IfOk result (λ json. JsonText 64 bytes.now (json_value json)) }
+        ensures proper { IfOk result (λ json. IsProper 64 (json_value json)) }
         ensures fault { IfErr result (FaultFits 64 bytes.now) }
     {
         let mut reader = Reader::new(alloc, bytes);

@@ -2,6 +2,7 @@ ghost use Rattle.std.specs.Prelude.{◌≡◌, ◌++◌, ◌<◌, ◌≤◌, len
 ghost use Rattle.std.specs.List.{flat_map};
 ghost use Rattle.json_read.specs.Json.{array, object};
 ghost use Rattle.json_read.specs.Seen.{json_value};
+ghost use Rattle.json_read.specs.Proper.{AppendsText};
 ghost use Rattle.json_read.specs.Text.{Begins, bool_text, escaped, hex_digit, is_plain as is_a_plain_byte, json_text, number_text, string_text};
 
 use crate::decimal::Decimal;
@@ -15,8 +16,16 @@ impl Json {
     ///
     /// Errors: where memory runs out, `out` begins with what it held.
     /// Source: RFC 8259; which characters are escaped, and how, is ours.
-    #[cycle(printing)]
     pub fn print_into(&self, out: &mut Bytes) -> Result<(), AllocError>
+        ensures ok { OnOk result (out.new ≡ out.old ++ json_text (json_value self.now)) }
+        ensures denotes { OnOk result (AppendsText out.old out.new (json_value self.now)) }
+        ensures err { OnErr result (Begins out.old out.new) }
+    {
+        self.print_value(out)
+    }
+
+    #[cycle(printing)]
+    fn print_value(&self, out: &mut Bytes) -> Result<(), AllocError>
         ensures ok { OnOk result (out.new ≡ out.old ++ json_text (json_value self.now)) }
         ensures err { OnErr result (Begins out.old out.new) }
     {
@@ -42,7 +51,7 @@ impl JsonList {
             if i > 0 {
                 out.push(b',')?;
             }
-            self.items[i].print_into(out)?;
+            self.items[i].print_value(out)?;
         }
         out.push(b']')
     }
@@ -62,7 +71,7 @@ impl JsonFields {
             let field = &self.fields[i];
             print_string(&field.0, out)?;
             out.push(b':')?;
-            field.1.print_into(out)?;
+            field.1.print_value(out)?;
         }
         out.push(b'}')
     }

@@ -24,6 +24,7 @@ pub enum Value {
 
 impl Value {
     ghost use Rattle.json_read.specs.Value.{value_of, number_value, same, value_text, plain_text};
+    ghost use Rattle.json_read.specs.ProperCells.{AppendsCell};
 
     /// The value of a cell that holds this JSON value.
     pub fn of_json(alloc: Global, json: &Json) -> Result<Value, AllocError>
@@ -81,6 +82,14 @@ impl Value {
     ///
     /// Errors: where memory runs out, `out` begins with what it held.
     pub fn print_json(&self, out: &mut Bytes) -> Result<(), AllocError>
+        ensures ok { OnOk result (out.new ≡ out.old ++ value_text self.now) }
+        ensures denotes { OnOk result (AppendsCell out.old out.new self.now) }
+        ensures err { OnErr result (Begins out.old out.new) }
+    {
+        self.print_value(out)
+    }
+
+    fn print_value(&self, out: &mut Bytes) -> Result<(), AllocError>
         ensures ok { OnOk result (out.new ≡ out.old ++ value_text self.now) }
         ensures err { OnErr result (Begins out.old out.new) }
     {

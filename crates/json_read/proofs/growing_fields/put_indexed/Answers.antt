@@ -1,4 +1,4 @@
-use Rattle.std.proofs.Common.{ap, sym, subst, ◌∙◌, ◌≡◌, true, false, inr, List, ℕ}
+use Rattle.std.proofs.Common.{sym, subst, ◌∙◌, ◌≡◌, true, false, inr, List, ℕ}
 use Rattle.std.specs.List.{list_any}
 use Rattle.std.specs.Str.{bytes_eq}
 use Rattle.json_read.specs.Lists.{fields_list, field_names}

@@ -4,7 +4,13 @@ use Rattle.json_read.specs.Reading.{FaultsAt}
 use Rattle.json_read.specs.declared.fault.JsonFault.{JsonFault}
 use Rattle.json_read.specs.declared.reader.TheConstants.{GREATEST_DEPTH}
 use Rattle.json_read.proofs.Viability.{fault_fits, is_fault}
+use Rattle.json_read.proofs.ProperValues.{text_proper}
 use Rattle.json_read.proofs.json.Json.parse.Goals as goal
+
+pub returns-in-Ok-clause-proper : goal.returns-in-Ok-clause-proper
+returns-in-Ok-clause-proper c =
+    let read = c.in-Ok.ensures in
+    text_proper read
 
 pub returns-in-Err-Fault-clause-fault : goal.returns-in-Err-Fault-clause-fault
 returns-in-Err-Fault-clause-fault c =
