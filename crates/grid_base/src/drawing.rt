@@ -188,6 +188,13 @@ where
 }
 
 impl Drawing {
+    /// What every drawing keeps, for proofs: no path is empty or has equal neighbours, and rings and boxes are closed.
+    pub fn keeps_paths(&self)
+        ensures { HasPaths self.now }
+    {
+        let _ = &self.polygons;
+    }
+
     pub fn polygon_count(&self) -> u32
         ensures count { result ≡ length self.now.polygons }
     {

@@ -1,4 +1,4 @@
-ghost use Rattle.std.specs.Prelude.{◌≡◌, ◌++◌, ◌∷◌, [], OnOk, OnErr, length, slice_get};
+ghost use Rattle.std.specs.Prelude.{◌≡◌, ◌++◌, ◌∷◌, [], IfOk, OnOk, OnErr, length, slice_get};
 ghost use Rattle.std.specs.Option.{option_copied};
 ghost use Rattle.std.specs.Prelude.{◌<◌};
 ghost use Rattle.grid_base.specs.Drawn.{with_last, without_repeats};
@@ -38,6 +38,14 @@ impl PtList {
         }
     }
 
+    /// An empty list with room for `count` items.
+    pub fn with_capacity(alloc: Global, count: usize) -> Result<PtList, AllocError>
+        ensures empty { IfOk result (λ list. list ≡ []) }
+    {
+        let items = Vec::with_capacity(alloc, count)?;
+        Ok(PtList { items })
+    }
+
     pub fn push(&mut self, item: Pt) -> Result<(), AllocError>
         ensures ok { OnOk result (self.new ≡ self.old ++ item ∷ []) }
         ensures err { OnErr result (self.new ≡ self.old) }
@@ -69,6 +77,18 @@ impl PtList {
 }
 
 impl PtList {
+    /// Adds all points of a slice.
+    pub fn append(&mut self, points: &[Pt]) -> Result<(), AllocError>
+        ensures ok { OnOk result (self.new ≡ self.old ++ points.now) }
+        ensures err { OnErr result (self.new ≡ self.old) }
+    {
+        if points.len() > u32::MAX as usize - self.items.len() {
+            return Err(AllocError);
+        }
+        self.items.extend_from_slice(points)?;
+        Ok(())
+    }
+
     // The path, whose equal neighbours count once.
     pub(crate) fn without_repeats(mut self) -> PtList
         ensures { result ≡ without_repeats self }
@@ -285,6 +305,14 @@ impl BoxList {
         }
     }
 
+    /// An empty list with room for `count` items.
+    pub fn with_capacity(alloc: Global, count: usize) -> Result<BoxList, AllocError>
+        ensures empty { IfOk result (λ list. list ≡ []) }
+    {
+        let items = Vec::with_capacity(alloc, count)?;
+        Ok(BoxList { items })
+    }
+
     pub fn push(&mut self, item: Rect) -> Result<(), AllocError>
         ensures ok { OnOk result (self.new ≡ self.old ++ item ∷ []) }
         ensures err { OnErr result (self.new ≡ self.old) }
@@ -339,6 +367,14 @@ impl LinkList {
         LinkList {
             items: Vec::new(alloc),
         }
+    }
+
+    /// An empty list with room for `count` items.
+    pub fn with_capacity(alloc: Global, count: usize) -> Result<LinkList, AllocError>
+        ensures empty { IfOk result (λ list. list ≡ []) }
+    {
+        let items = Vec::with_capacity(alloc, count)?;
+        Ok(LinkList { items })
     }
 
     pub fn push(&mut self, item: Link) -> Result<(), AllocError>
