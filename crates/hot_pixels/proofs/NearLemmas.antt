@@ -1,6 +1,6 @@
 -- What a search may pass over, and rectangles that grow.
 use Rattle.std.proofs.Common.{◌≡◌, inl, inr, refl, sym, ap, ◌∙◌, subst, arith, ℕ, zero, suc, ◌+◌, ◌-◌, ◌<◌, ◌≤◌, Bool, true, false, ◌&&◌, cond, List, [], ◌∷◌, ◌++◌, length, get_or, take, filter, ℤ, ◌≤ℤ◌, ◌<ℤ◌, ◌-ℤ◌, int_le}
-use Rattle.std.specs.Prelude.{int_lt}
+use Rattle.std.specs.Prelude.{int_lt, Option, Some, None}
 use Rattle.std.proofs.lemmas.Bool.{cases_lt}
 use Rattle.std.specs.List.{count_by}
 use Rattle.std.proofs.lemmas.List.{append-nil}
@@ -9,14 +9,15 @@ use Rattle.std.proofs.lemmas.List.Sums.{length-filter}
 use Rattle.plane_algebra.proofs.Order.{order, order_cases}
 use Rattle.plane_algebra.proofs.Tests.{by_test, le_from, le_to, lt_from, or_cases}
 use Rattle.plane_model.specs.Points.{GridPoint, Segment, SameWay}
-use Rattle.plane_model.specs.Pixel.{meets, IsInBox}
-use Rattle.plane_snapping.proofs.Boxes.{met_pixels_lie_in_the_box}
+use Rattle.plane_model.specs.Pixel.{meets, crossing_pixel, IsInBox}
+use Rattle.plane_snapping.proofs.Boxes.{met_pixels_lie_in_the_box, crossings_lie_in_both_boxes}
 use Rattle.plane_snapping.proofs.MeetsComputed.{meets_is_computed}
 use Rattle.grid_base.specs.Grid.{Corners}
 use Rattle.bucket_grid.specs.Areas.{Holds}
 use Rattle.hot_pixels.specs.Boxes.{lesser, greater, box_of}
 use Rattle.hot_pixels.specs.Near.{HoldsMore, HoldsBetween, MeetsNoneBetween, is_outside}
 use Rattle.hot_pixels.proofs.Appending.{get_or-alike}
+use Rattle.hot_pixels.proofs.CrossingLemmas.{box_holds}
 
 record IsBetween (a b : ℤ) : Type 0 where
   low_left : lesser a b ≤ℤ a
@@ -103,3 +104,24 @@ holds_more area wide points start k p d h m l e = record {
     | inr n ↦ (let same : k ≡ j = omega arith in subst (Holds wide) (e ∙ get_or-alike points k d c l ∙ ap (λ (i : ℕ). get_or points i c) same) m.point)
   ];
 }
+
+-- ---- one point, and two segments
+
+pub point_beside_across : (s : Segment) (g : GridPoint) → is_outside s.start.x s.stop.x g.x g.x ≡ true → meets s g ≡ false
+point_beside_across s g e = beside_across s (record { low = g; high = g }) g e (record { left = omega order; right = omega order; lower = omega order; upper = omega order })
+
+pub point_beside_upward : (s : Segment) (g : GridPoint) → is_outside s.start.y s.stop.y g.y g.y ≡ true → meets s g ≡ false
+point_beside_upward s g e = beside_upward s (record { low = g; high = g }) g e (record { left = omega order; right = omega order; lower = omega order; upper = omega order })
+
+no_crossing : (s t : Segment) → ((g : GridPoint) → IsInBox s g → Holds (box_of t) g → ⊥) → crossing_pixel s t ≡ None
+no_crossing s t n = go (crossing_pixel s t) refl
+  where
+    go : (o : Option GridPoint) → crossing_pixel s t ≡ o → o ≡ None
+    go None e = refl
+    go (Some g) e = let b = crossings_lie_in_both_boxes s t g e in absurd (n g b.0 (box_holds t g b.1))
+
+pub cross_beside_across : (s t : Segment) → is_outside s.start.x s.stop.x (lesser t.start.x t.stop.x) (greater t.start.x t.stop.x) ≡ true → crossing_pixel s t ≡ None
+cross_beside_across s t e = no_crossing s t (λ g b h. outside_not s.start.x s.stop.x (box_of t).low.x (box_of t).high.x g.x e h.left h.right b.0)
+
+pub cross_beside_upward : (s t : Segment) → is_outside s.start.y s.stop.y (lesser t.start.y t.stop.y) (greater t.start.y t.stop.y) ≡ true → crossing_pixel s t ≡ None
+cross_beside_upward s t e = no_crossing s t (λ g b h. outside_not s.start.y s.stop.y (box_of t).low.y (box_of t).high.y g.y e h.lower h.upper b.1)

@@ -33,10 +33,8 @@ fn key_along(s: &Seg, p: &Pt) -> i64
 fn list_of(alloc: Global, points: &[Pt]) -> Result<PtList, AllocError>
     ensures { IfOk result (λ list. list ≡ points.now) }
 {
-    let mut list = PtList::new(alloc);
-    for p in points {
-        list.push(*p)?;
-    }
+    let mut list = PtList::with_capacity(alloc, points.len())?;
+    list.append(points)?;
     Ok(list)
 }
 

@@ -97,7 +97,7 @@ fn is_listed(points: &[Pt], p: Pt) -> bool
 fn stops_of(alloc: Global, spots: &[Seg]) -> Result<Vec<Pt>, AllocError>
     ensures { IfOk result (λ points. points.items ≡ map stop_of spots.now) }
 {
-    let mut points = Vec::new(alloc);
+    let mut points = Vec::with_capacity(alloc, spots.len())?;
     for s in spots {
         points.push(s.b())?;
     }

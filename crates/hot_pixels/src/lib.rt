@@ -17,6 +17,7 @@
 //!   segment's box.
 #![tactic(auto)]
 
+mod beside;
 mod chains;
 mod crossing;
 mod half_open;
@@ -28,6 +29,7 @@ mod spots;
 pub use crossing::crossing_pixel;
 pub use half_open::meets;
 pub use hot_set::HotSet;
+pub use spots::spots_of;
 
 #[cfg(test)]
 mod tests;

@@ -4,9 +4,9 @@ ghost use Rattle.std.specs.List.Sorted.{IsPermutation};
 ghost use Rattle.plane_model.specs.Points.{GridPoint as Point};
 ghost use Rattle.plane_model.specs.Pixel.{meets};
 ghost use Rattle.bucket_grid.specs.Areas.{Holds};
-ghost use Rattle.hot_pixels.specs.Near.{HoldsRun, HoldsBetween, HoldsMore, MeetsNoneBetween, is_outside};
+ghost use Rattle.hot_pixels.specs.Near.{HoldsRun, HoldsBetween, HoldsMore, MeetsNoneBetween};
 
-use crate::half_open::meets;
+use crate::beside::{is_met, is_outside};
 use crate::pairs::box_of;
 use grid_base::{Pt, Rect, Seg};
 use std::alloc::{AllocError, Global};
@@ -32,10 +32,15 @@ struct Place {
 }
 
 // Shorter runs have no parts.
-const SHORT_RUN: usize = 16;
+const SHORT_RUN: usize = 8;
 
 // A run is this many times as long as its parts.
-const PARTS: usize = 16;
+const PARTS: usize = 4;
+
+// So many lengths of runs there are: the longest has 33,554,432 points.
+const LEVELS: u32 = 12;
+
+const LONGEST_RUN: usize = 33_554_432;
 
 fn widened(area: Rect, p: Pt) -> Result<Rect, AllocError>
     ensures { IfOk result (HoldsMore area p) }
@@ -70,7 +75,7 @@ fn least(a: usize, b: usize) -> usize
 fn runs_before(place: usize) -> usize {
     let mut count: usize = 0;
     let mut size = SHORT_RUN;
-    for _level in 0..6 {
+    for _level in 0..LEVELS {
         count = count.wrapping_add(place.div_ceil(size));
         size = size.saturating_mul(PARTS);
     }
@@ -98,6 +103,13 @@ fn add_run(runs: &mut Vec<Run>, points: &[Pt], start: usize, size: usize) -> Res
     Ok(())
 }
 
+// How long the parts of a run are.
+fn part_of(size: usize) -> usize
+    ensures { 0 < result }
+{
+    if size < PARTS { 1 } else { size / PARTS }
+}
+
 // Adds the runs that begin at `start`, the longest first.
 fn add_runs(runs: &mut Vec<Run>, points: &[Pt], start: usize) -> Result<(), AllocError>
     requires { start < length points.now }
@@ -106,12 +118,11 @@ fn add_runs(runs: &mut Vec<Run>, points: &[Pt], start: usize) -> Result<(), Allo
     if start % SHORT_RUN != 0 {
         return Ok(());
     }
-    add_run(runs, points, start, 16_777_216)?;
-    add_run(runs, points, start, 1_048_576)?;
-    add_run(runs, points, start, 65_536)?;
-    add_run(runs, points, start, 4_096)?;
-    add_run(runs, points, start, 256)?;
-    add_run(runs, points, start, SHORT_RUN)?;
+    let mut size = LONGEST_RUN;
+    for _level in 0..LEVELS {
+        add_run(runs, points, start, size)?;
+        size = part_of(size);
+    }
     Ok(())
 }
 
@@ -124,13 +135,6 @@ pub fn runs_over(alloc: Global, points: &[Pt]) -> Result<Vec<Run>, AllocError>
         add_runs(&mut runs, points, start)?;
     }
     Ok(runs)
-}
-
-// Whether a and b are both below `low`, or both above `high`.
-fn is_outside(a: i64, b: i64, low: i64, high: i64) -> bool
-    ensures { result ≡ is_outside a b low high }
-{
-    a < low && b < low || high < a && high < b
 }
 
 // Whether the box of a segment lies beside an area.
@@ -190,7 +194,7 @@ fn count_between(points: &[Pt], from: usize, stop: usize, s: &Seg) -> u64
 {
     let mut count: u64 = 0;
     for k in from..stop {
-        if meets(s, points[k]) {
+        if is_met(s, points[k]) {
             count += 1;
         }
     }
@@ -232,7 +236,7 @@ fn add_between(
     ensures { OnOk result (met.new.items ≡ filter (meets s.now) (take stop points.now)) }
 {
     for k in from..stop {
-        if meets(s, points[k]) {
+        if is_met(s, points[k]) {
             met.push(points[k])?;
         }
     }

@@ -6,18 +6,21 @@ ghost use Rattle.hot_pixels.specs.Boxes.{box_of, lesser, greater};
 ghost use Rattle.hot_pixels.specs.Crossing.{HasGridEnds};
 ghost use Rattle.hot_pixels.specs.Spots.{crossing_at, crossings_with, crossings_among};
 
+use crate::beside::is_beside;
 use crate::crossing::crossing_pixel;
 use bucket_grid::Buckets;
 use grid_base::{BoxList, Pt, Rect, Seg};
 use std::alloc::{AllocError, Global};
 
-fn lesser(a: i64, b: i64) -> i64
+/// The lesser of two numbers.
+pub fn lesser(a: i64, b: i64) -> i64
     ensures { result ≡ lesser a b }
 {
     if a <= b { a } else { b }
 }
 
-fn greater(a: i64, b: i64) -> i64
+/// The greater of two numbers.
+pub fn greater(a: i64, b: i64) -> i64
     ensures { result ≡ greater a b }
 {
     if a <= b { b } else { a }
@@ -39,7 +42,7 @@ fn boxes_of(alloc: Global, spots: &[Seg]) -> Result<BoxList, AllocError>
     ensures exact { IfOk result (λ boxes. boxes ≡ map box_of spots.now) }
     ensures on_grid { IfOk result (λ boxes. All HasGridEnds spots.now) }
 {
-    let mut boxes = BoxList::new(alloc);
+    let mut boxes = BoxList::with_capacity(alloc, spots.len())?;
     for s in spots {
         let area = box_of(*s)?;
         boxes.push(area)?;
@@ -66,6 +69,9 @@ fn crossing_of(spots: &[Seg], i: u32, j: u32) -> Option<Pt>
     let Some(t) = spot_at(spots, j) else {
         return None;
     };
+    if is_beside(&s, &t) {
+        return None;
+    }
     crossing_pixel(&s, &t)
 }
 

@@ -24,5 +24,8 @@ returns-in_default c = no_first c.args.spots.now c.args.i c.args.j c.if-i-j.fals
 pub returns-in_default-spot_at : goal.returns-in_default-spot_at
 returns-in_default-spot_at c = no_second c.args.spots.now c.args.i c.args.j c.in-Some.s c.if-i-j.false (sym c.spot_at.ensures ∙ c.in-Some.is) (sym c.spot_at-2.ensures ∙ c.in_default-spot_at.is)
 
+pub returns-then-is_beside : goal.returns-then-is_beside
+returns-then-is_beside c = sym (c.is_beside.ensures c.if-is_beside.true) ∙ both c.args.spots.now c.args.i c.args.j c.in-Some.s c.in-Some-spot_at.t c.if-i-j.false (sym c.spot_at.ensures ∙ c.in-Some.is) (sym c.spot_at-2.ensures ∙ c.in-Some-spot_at.is)
+
 pub returns : goal.returns
 returns c = c.crossing_pixel.ensures.exact ∙ both c.args.spots.now c.args.i c.args.j c.in-Some.s c.in-Some-spot_at.t c.if-i-j.false (sym c.spot_at.ensures ∙ c.in-Some.is) (sym c.spot_at-2.ensures ∙ c.in-Some-spot_at.is)

@@ -1,0 +1,40 @@
+ghost use Rattle.std.specs.Prelude.{◌≡◌, None, IsTrue};
+ghost use Rattle.plane_model.specs.Pixel.{meets, crossing_pixel};
+ghost use Rattle.hot_pixels.specs.Near.{is_outside};
+
+use crate::half_open::meets;
+use crate::pairs::{greater, lesser};
+use grid_base::{Pt, Seg};
+
+/// Whether a and b are both below `low`, or both above `high`.
+pub fn is_outside(a: i64, b: i64, low: i64, high: i64) -> bool
+    ensures { result ≡ is_outside a b low high }
+{
+    a < low && b < low || high < a && high < b
+}
+
+/// Whether the boxes of two segments lie beside each other, so that the segments don't cross.
+pub fn is_beside(s: &Seg, t: &Seg) -> bool
+    ensures { IsTrue result → crossing_pixel s.now t.now ≡ None }
+{
+    let (a, b) = (s.a(), s.b());
+    let (c, d) = (t.a(), t.b());
+    if is_outside(a.x(), b.x(), lesser(c.x(), d.x()), greater(c.x(), d.x())) {
+        return true;
+    }
+    is_outside(a.y(), b.y(), lesser(c.y(), d.y()), greater(c.y(), d.y()))
+}
+
+/// Whether a segment meets the pixel of a point. A point beside the segment's box is passed over.
+pub fn is_met(s: &Seg, p: Pt) -> bool
+    ensures { result ≡ meets s.now p }
+{
+    let (a, b) = (s.a(), s.b());
+    if is_outside(a.x(), b.x(), p.x(), p.x()) {
+        return false;
+    }
+    if is_outside(a.y(), b.y(), p.y(), p.y()) {
+        return false;
+    }
+    meets(s, p)
+}
