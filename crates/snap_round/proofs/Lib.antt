@@ -1,0 +1,6 @@
+pub mod ChainEnds
+pub mod LastLemmas
+pub mod LinkOrder
+pub mod LinkLemmas
+pub mod PathLemmas
+pub mod CountLemmas

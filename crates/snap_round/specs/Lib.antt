@@ -1,0 +1,5 @@
+pub mod Counting
+pub mod Joining
+pub mod Paths
+pub mod Linking
+pub mod Snapping

@@ -1,0 +1,11 @@
+-- When a drawing is not snapped.
+use Rattle.std.specs.Prelude.{◌≡◌, ◌<◌, ⊤}
+use Rattle.plane_model.specs.Drawing.{Drawing}
+use Rattle.plane_model.specs.Snapped.{snapped, link_count}
+use Rattle.snap_round.specs.declared.fault.SnapFault.{SnapFault}
+use Rattle.snap_round.specs.declared.fault.SnapFault.TheVariants.{TooDense, Memory}
+
+-- Of its snapped paths there are that many links, and more than 8,000,000; or memory ran out.
+abbrev pub FaultMeans : Drawing → SnapFault → Type 0
+FaultMeans d (TooDense count) = (count ≡ link_count (snapped d)) × (8000000 < count)
+FaultMeans d Memory = ⊤

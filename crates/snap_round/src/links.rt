@@ -1,0 +1,51 @@
+ghost use Rattle.std.specs.Prelude.{◌≡◌, ◌++◌, IfOk, OnOk, filter_map};
+ghost use Rattle.std.specs.Option.{option_to_list};
+ghost use Rattle.std.specs.List.{flat_map};
+ghost use Rattle.plane_model.specs.Snapped.{links_of};
+ghost use Rattle.snap_round.specs.Linking.{link_along, AllStepsMove};
+
+use grid_base::{Drawing, Link, LinkList, Seg};
+use hot_pixels::spots_of;
+use std::alloc::{AllocError, Global};
+
+fn push_some(links: &mut Vec<Link>, found: Option<Link>) -> Result<(), AllocError>
+    ensures { OnOk result (links.new.items ≡ links.old.items ++ option_to_list found) }
+{
+    if let Some(link) = found {
+        links.push(link)?;
+    }
+    Ok(())
+}
+
+// The links along these segments, in order, with repeats: a segment of no length has none.
+fn links_along(alloc: Global, spots: &[Seg]) -> Result<Vec<Link>, AllocError>
+    ensures { IfOk result (λ links. links.items ≡ flat_map (λ s. option_to_list (link_along s)) spots.now) }
+{
+    let mut links = Vec::with_capacity(alloc, spots.len())?;
+    for s in spots {
+        push_some(&mut links, Link::of(s.a(), s.b()))?;
+    }
+    Ok(links)
+}
+
+fn list_of(alloc: Global, links: &[Link]) -> Result<LinkList, AllocError>
+    ensures { IfOk result (λ list. list ≡ links.now) }
+{
+    let mut list = LinkList::new(alloc);
+    for link in links {
+        list.push(*link)?;
+    }
+    Ok(list)
+}
+
+/// The links of a drawing's paths, ascending, each once.
+pub fn links_of(alloc: Global, paths: &Drawing) -> Result<LinkList, AllocError>
+    requires { AllStepsMove paths.now }
+    ensures { IfOk result (λ links. links ≡ links_of paths.now) }
+{
+    let spots = spots_of(alloc, paths)?;
+    let mut links = links_along(alloc, &spots)?;
+    links.sort_unstable();
+    links.dedup();
+    list_of(alloc, &links)
+}

@@ -1,0 +1,144 @@
+ghost use Rattle.std.specs.Prelude.{◌≡◌, ◌<◌, ◌++◌, [], IfOk, OnOk, All, map, length};
+ghost use Rattle.lists.specs.Lists.{last_of};
+ghost use Rattle.plane_model.specs.Snapped.{snapped_path, snapped_by};
+ghost use Rattle.snap_round.specs.Joining.{IsHotPath, IsHotRing};
+ghost use Rattle.snap_round.specs.Paths.{with_rings, with_polygons, with_lines, with_points, HasHotPaths};
+
+use crate::joining::joined_chains;
+use grid_base::{Drawing, FeatId, Kind, PolygonRings, Pt, PtList};
+use hot_pixels::HotSet;
+use std::alloc::{AllocError, Global};
+
+// Adds the snapped rings of a polygon to the last polygon.
+fn add_rings(
+    alloc: Global,
+    out: &mut Drawing,
+    hot: &HotSet,
+    rings: &[PtList],
+) -> Result<(), AllocError>
+    requires polygon { 0 < length (last_of [] out.old.polygons) }
+    requires hot { All (IsHotRing hot.now) rings.now }
+    ensures { OnOk result (out.new ≡ with_rings (map (snapped_path hot.now) rings.now) out.old) }
+{
+    for ring in rings {
+        let joined = joined_chains(alloc, hot, ring.as_slice())?;
+        out.add_ring(joined)?;
+    }
+    Ok(())
+}
+
+// Adds the snapped polygons of a feature to the last polygon feature.
+fn add_polygons(
+    alloc: Global,
+    out: &mut Drawing,
+    hot: &HotSet,
+    polygons: &[PolygonRings],
+) -> Result<(), AllocError>
+    requires feature { 0 < length out.old.polygons }
+    requires hot { All (All (IsHotRing hot.now)) polygons.now }
+    ensures { OnOk result (out.new ≡ with_polygons (map (map (snapped_path hot.now)) polygons.now) out.old) }
+{
+    for polygon in polygons {
+        out.add_polygon()?;
+        add_rings(alloc, out, hot, polygon.as_slice())?;
+    }
+    Ok(())
+}
+
+fn add_polygon_features(
+    alloc: Global,
+    out: &mut Drawing,
+    hot: &HotSet,
+    d: &Drawing,
+) -> Result<(), AllocError>
+    requires hot { All (All (All (IsHotRing hot.now))) d.now.polygons }
+    ensures { OnOk result (out.new ≡ record out.old { polygons = out.old.polygons ++ map (map (map (snapped_path hot.now))) d.now.polygons }) }
+{
+    for f in 0..d.polygon_count() {
+        let polygons = d.rings_of(FeatId::new(f));
+        out.add_feature(Kind::Polygon)?;
+        add_polygons(alloc, out, hot, polygons.as_slice())?;
+    }
+    Ok(())
+}
+
+// Adds the snapped paths of a feature to the last line feature.
+fn add_lines(
+    alloc: Global,
+    out: &mut Drawing,
+    hot: &HotSet,
+    lines: &[PtList],
+) -> Result<(), AllocError>
+    requires feature { 0 < length out.old.lines }
+    requires hot { All (IsHotPath hot.now) lines.now }
+    ensures { OnOk result (out.new ≡ with_lines (map (snapped_path hot.now) lines.now) out.old) }
+{
+    for line in lines {
+        let joined = joined_chains(alloc, hot, line.as_slice())?;
+        out.add_line(joined)?;
+    }
+    Ok(())
+}
+
+fn add_line_features(
+    alloc: Global,
+    out: &mut Drawing,
+    hot: &HotSet,
+    d: &Drawing,
+) -> Result<(), AllocError>
+    requires hot { All (All (IsHotPath hot.now)) d.now.lines }
+    ensures { OnOk result (out.new ≡ record out.old { lines = out.old.lines ++ map (map (snapped_path hot.now)) d.now.lines }) }
+{
+    for f in 0..d.line_count() {
+        let lines = d.lines_of(FeatId::new(f));
+        out.add_feature(Kind::Line)?;
+        add_lines(alloc, out, hot, lines.as_slice())?;
+    }
+    Ok(())
+}
+
+// Adds the points to the last point feature.
+fn add_points(out: &mut Drawing, points: &[Pt]) -> Result<(), AllocError>
+    requires feature { 0 < length out.old.points }
+    ensures { OnOk result (out.new ≡ with_points points.now out.old) }
+{
+    for p in points {
+        out.add_point(*p)?;
+    }
+    Ok(())
+}
+
+fn add_point_features(out: &mut Drawing, d: &Drawing) -> Result<(), AllocError>
+    ensures { OnOk result (out.new ≡ record out.old { points = out.old.points ++ d.now.points }) }
+{
+    for f in 0..d.point_count() {
+        let points = d.points_of(FeatId::new(f));
+        out.add_feature(Kind::Point)?;
+        add_points(out, points.as_slice())?;
+    }
+    Ok(())
+}
+
+fn add_boxes(alloc: Global, out: &mut Drawing, hot: &HotSet, d: &Drawing) -> Result<(), AllocError>
+    requires hot { All (IsHotRing hot.now) d.now.boxes }
+    ensures { OnOk result (out.new ≡ record out.old { boxes = out.old.boxes ++ map (snapped_path hot.now) d.now.boxes }) }
+{
+    for b in 0..d.box_count() {
+        let joined = joined_chains(alloc, hot, d.box_of(b).as_slice())?;
+        out.add_box_path(joined)?;
+    }
+    Ok(())
+}
+
+/// The drawing with each path snapped to these hot points.
+pub fn snapped_paths(alloc: Global, hot: &HotSet, d: &Drawing) -> Result<Drawing, AllocError>
+    requires { HasHotPaths hot.now d.now }
+    ensures { IfOk result (λ paths. paths ≡ snapped_by hot.now d.now) }
+{
+    let mut paths = Drawing::new(alloc);
+    add_polygon_features(alloc, &mut paths, hot, d)?;
+    add_line_features(alloc, &mut paths, hot, d)?;
+    add_point_features(&mut paths, d)?;
+    add_boxes(alloc, &mut paths, hot, d)?;
+    Ok(paths)
+}
