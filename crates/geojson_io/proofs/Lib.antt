@@ -4,3 +4,4 @@ pub mod GeometryLemmas
 pub mod TextLemmas
 pub mod FeatureLemmas
 pub mod PropertyLemmas
+pub mod KindLemmas

@@ -1,6 +1,5 @@
 -- The ends of a path.
-use Rattle.std.proofs.Common.{◌≡◌, ℕ, ◌-◌, ◌≤◌, [], ◌∷◌, length, get_or, sym, ap, ◌∙◌, arith}
-use Rattle.lists.specs.Lists.{last_of}
+use Rattle.std.proofs.Common.{◌≡◌, ◌-◌, ◌≤◌, [], ◌∷◌, length, get_or, ap, ◌∙◌, arith}
 use Rattle.plane_model.specs.Points.{GridPoint, Path, same_point}
 use Rattle.grid_base.proofs.LastLemmas.{last_is}
 use Rattle.geojson_io.specs.Positions.{is_closed}

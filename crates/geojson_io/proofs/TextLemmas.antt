@@ -1,6 +1,6 @@
 -- Texts with commas between them, written one after another.
-use Rattle.std.proofs.Common.{◌≡◌, ℕ, zero, suc, codes, zip, ◌+◌, ◌<◌, ◌≤◌, ◌==◌, Bool, true, false, cond, eqb, ℤ, List, [], ◌∷◌, ◌++◌, length, take, map, get_or, refl, sym, ap, ◌∙◌, subst, arith}
-use Rattle.std.proofs.lemmas.List.{append_assoc, append-nil, take_more, map-append, length-take-le, length-map, take_all}
+use Rattle.std.proofs.Common.{◌≡◌, ℕ, zero, suc, codes, zip, ◌+◌, ◌<◌, ◌≤◌, ℤ, List, [], ◌∷◌, ◌++◌, length, take, map, get_or, refl, sym, ap, ◌∙◌, arith}
+use Rattle.std.proofs.lemmas.List.{append_assoc, take_more, map-append, length-take-le, length-map, take_all}
 use Rattle.std.proofs.lemmas.Bool.Decides.{nat_tests}
 use Rattle.geojson_io.specs.Texts.{Text, separated, before_item, list_text, grid_text, point_text, type_text, typed, one_or_many, geometry_text, member_text, properties_text, feature_text, key_text, features_text, line_end, geojson_text}
 use Rattle.geojson_io.specs.LayerContent.{LayerContent}

@@ -1,6 +1,6 @@
 -- Layers: how the features of a file become a layer for each kind.
-use Rattle.std.specs.Prelude.{ℕ, Bool, not, ◌==◌, if◌then◌else◌, List, [], ◌∷◌, ◌++◌, map, filter, codes, Option, Some, None, Result, Ok, Err}
-use Rattle.lists.specs.Lists.{has}
+use Rattle.std.specs.Prelude.{ℕ, Bool, ◌==◌, List, [], ◌∷◌, ◌++◌, map, filter, filter_map, codes, Option, Some, None, Result, Ok}
+use Rattle.lists.specs.Lists.{each_once}
 use Rattle.json_read.specs.Json.{JsonValue}
 use Rattle.json_read.specs.Table.{table_of}
 use Rattle.grid_base.specs.declared.kinds.Kind.{Kind}
@@ -27,17 +27,9 @@ kind_of (shape.Polygons ps) = Some kind.Polygon
 kind_of (shape.Lines ps) = Some kind.Line
 kind_of (shape.Points ps) = Some kind.Point
 
--- a kind that is not there yet goes last
-abbrev pub add_kind : List Kind → Kind → List Kind
-add_kind ks k = if has same_kind ks k then ks else ks ++ k ∷ []
-
 -- the kinds in order of first appearance
-abbrev pub kinds_from : List Kind → List Feature → List Kind
-kinds_from ks [] = ks
-kinds_from ks (f ∷ fs) = kinds_from (elim (kind_of f.shape) [ None ↦ ks | Some k ↦ add_kind ks k ]) fs
-
 abbrev pub kinds_of : List Feature → List Kind
-kinds_of fs = kinds_from [] fs
+kinds_of fs = each_once same_kind (filter_map (λ (f : Feature). kind_of f.shape) fs)
 
 -- a feature of kind k; one without geometry counts as one of the first kind
 abbrev pub kind_among : Kind → Option Kind → Kind
@@ -46,9 +38,6 @@ kind_among first (Some k) = k
 
 abbrev pub is_of_kind : Kind → Kind → Feature → Bool
 is_of_kind first k f = same_kind k (kind_among first (kind_of f.shape))
-
-abbrev pub is_of_another : Kind → Kind → Feature → Bool
-is_of_another first k f = not (is_of_kind first k f)
 
 abbrev pub layer_of : List ℕ → Kind → List Feature → LayerContent
 layer_of name k fs = record { name = name; kind = k; table = table_of (map (λ (f : Feature). f.fields) fs); shapes = map (λ (f : Feature). f.shape) fs }
@@ -63,16 +52,11 @@ kind_ending kind.Table = []
 abbrev pub layer_among : List ℕ → Kind → List Feature → Kind → LayerContent
 layer_among name first fs k = layer_of (name ++ kind_ending k) k (filter (is_of_kind first k) fs)
 
--- a layer for each kind, of the features that are left
-abbrev pub split_layers : List ℕ → Kind → List Kind → List Feature → List LayerContent
-split_layers name first [] fs = []
-split_layers name first (k ∷ ks) fs = layer_among name first fs k ∷ split_layers name first ks (filter (is_of_another first k) fs)
-
 -- one layer of the name for one kind, one for each of several, and a table where there is no geometry
 abbrev pub layers_of_kinds : List ℕ → List Kind → List Feature → List LayerContent
 layers_of_kinds name [] fs = layer_of name kind.Table fs ∷ []
 layers_of_kinds name (k ∷ []) fs = layer_of name k fs ∷ []
-layers_of_kinds name (j ∷ k ∷ ks) fs = split_layers name j (j ∷ k ∷ ks) fs
+layers_of_kinds name (j ∷ k ∷ ks) fs = map (layer_among name j fs) (j ∷ k ∷ ks)
 
 abbrev pub layers_of : List ℕ → List Feature → List LayerContent
 layers_of name fs = layers_of_kinds name (kinds_of fs) fs

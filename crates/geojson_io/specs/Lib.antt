@@ -4,4 +4,5 @@ pub mod Geometries
 pub mod Features
 pub mod LayerContent
 pub mod Layers
+pub mod Layering
 pub mod Texts

@@ -92,6 +92,13 @@ impl GeoLayers {
     {
         &self.items
     }
+
+    /// The layers themselves; takes no memory.
+    pub fn into_vec(self) -> Vec<GeoLayer>
+        ensures all { result.items ≡ self }
+    {
+        self.items
+    }
 }
 
 /// What may still be read.

@@ -13,3 +13,6 @@ pub use layer::{GeoLayer, GeoLayers, Room};
 pub use reading::read_geojson;
 pub use shape::{GeoShape, GeoShapeList};
 pub use writing::write_geojson;
+
+#[cfg(test)]
+mod tests;

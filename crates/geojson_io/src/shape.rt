@@ -68,4 +68,11 @@ impl GeoShapeList {
     {
         &self.items
     }
+
+    /// The shapes themselves; takes no memory.
+    pub fn into_vec(self) -> Vec<GeoShape>
+        ensures all { result.items ≡ self }
+    {
+        self.items
+    }
 }

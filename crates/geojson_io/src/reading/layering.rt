@@ -1,5 +1,6 @@
 ghost use Rattle.std.specs.Prelude.{◌≡◌, ◌++◌, ◌∷◌, [], IfOk, OnOk, filter};
-ghost use Rattle.geojson_io.specs.Layers.{add_kind, kind_of, kinds_of, is_of_kind, is_of_another, layer_of, split_layers, layers_of, kind_ending};
+ghost use Rattle.geojson_io.specs.Layers.{kind_of, kinds_of, is_of_kind, layer_of, layers_of, kind_ending};
+ghost use Rattle.geojson_io.specs.Layering.{add_kind, is_of_another, split_layers};
 
 use crate::layer::{GeoLayer, GeoLayers};
 use crate::reading::features::Feature;

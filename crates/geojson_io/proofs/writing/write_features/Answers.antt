@@ -1,4 +1,4 @@
-use Rattle.std.proofs.Common.{◌≡◌, ◌<◌, ◌∙◌, ap, ◌++◌, zip, codes, length, arith}
+use Rattle.std.proofs.Common.{◌<◌, ◌∙◌, ap, ◌++◌, zip, codes, length, arith}
 use Rattle.std.proofs.lemmas.Slice.Zip.{length-zip}
 use Rattle.geojson_io.specs.Texts.{feature_text}
 use Rattle.geojson_io.proofs.TextLemmas.{written_more, all_shown, pair_at, width_at}

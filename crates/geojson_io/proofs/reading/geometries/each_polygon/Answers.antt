@@ -1,4 +1,4 @@
-use Rattle.std.proofs.Common.{◌≡◌, ◌∙◌, ap, sym, subst, map, List, Err}
+use Rattle.std.proofs.Common.{◌∙◌, ap, sym, subst, map, List, Err}
 use Rattle.plane_model.specs.Drawing.{Polygon}
 use Rattle.std.proofs.lemmas.Result.{err_from_is_err_and}
 use Rattle.json_read.specs.Seen.{json_value}

@@ -1,4 +1,3 @@
-use Rattle.geojson_io.specs.Positions.{rings}
 use Rattle.geojson_io.proofs.GeometryLemmas.{IsReadAndKept}
 use Rattle.geojson_io.proofs.reading.geometries.each_polygon.Given as goal
 

@@ -1,5 +1,6 @@
 use Rattle.std.proofs.Common.{◌≡◌, filter}
-use Rattle.geojson_io.specs.Layers.{is_of_kind, is_of_another}
+use Rattle.geojson_io.specs.Layers.{is_of_kind}
+use Rattle.geojson_io.specs.Layering.{is_of_another}
 use Rattle.geojson_io.proofs.reading.layering.parted.Given as goal
 
 abbrev pub invariant-loop-feature : goal.invariant-loop-feature

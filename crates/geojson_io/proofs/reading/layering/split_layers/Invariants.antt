@@ -1,5 +1,5 @@
 use Rattle.std.proofs.Common.{◌≡◌, ◌++◌, drop}
-use Rattle.geojson_io.specs.Layers.{split_layers}
+use Rattle.geojson_io.specs.Layering.{split_layers}
 use Rattle.geojson_io.proofs.reading.layering.split_layers.Given as goal
 
 abbrev pub invariant-loop-kind : goal.invariant-loop-kind

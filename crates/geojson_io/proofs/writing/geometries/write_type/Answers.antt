@@ -1,4 +1,4 @@
-use Rattle.std.proofs.Common.{◌≡◌, ◌∙◌, ◌++◌, List, ℕ, ap, codes}
+use Rattle.std.proofs.Common.{◌∙◌, ◌++◌, List, ℕ, ap, codes}
 use Rattle.std.proofs.lemmas.List.{append_assoc}
 use Rattle.std.proofs.lemmas.Result.{on_ok_weaker}
 use Rattle.geojson_io.proofs.writing.geometries.write_type.Goals as goal

@@ -1,4 +1,4 @@
-use Rattle.std.proofs.Common.{◌≡◌, ◌<◌, ◌≤◌, ◌∙◌, ap, ◌∷◌, [], zip, length, get_or, arith}
+use Rattle.std.proofs.Common.{◌<◌, ◌∙◌, ap, ◌∷◌, [], zip, length, get_or, arith}
 use Rattle.std.proofs.lemmas.Result.{on_ok_weaker}
 use Rattle.std.proofs.lemmas.Slice.Zip.{length-zip}
 use Rattle.geojson_io.specs.Texts.{member_text}
