@@ -1,0 +1,5 @@
+use Rattle.std.proofs.Common.{◌*◌, ◌≤◌, unsigned_abs}
+use Rattle.face_walk.proofs.areas.area_along.Given as goal
+
+abbrev pub invariant-loop-i : goal.invariant-loop-i
+invariant-loop-i l = (unsigned_abs l.area ≤ l.i * 8000000000000000000) × (l.i ≤ 4294967296)

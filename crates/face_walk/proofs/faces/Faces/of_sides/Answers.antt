@@ -1,0 +1,34 @@
+use Rattle.std.proofs.Common.{◌≡◌, ◌∙◌, sym, ap, ◌<◌, List, ℕ, All, arith, length, map}
+use Rattle.std.proofs.lemmas.List.{length-map}
+use Rattle.std.proofs.lemmas.List.Elements.{All-same, All-map, All-weaker}
+use Rattle.plane_model.specs.Arcs.{SignedArc}
+use Rattle.face_walk.specs.Places.{HasPlaces}
+use Rattle.face_walk.specs.declared.numbering.FaceSide.{FaceSide}
+use Rattle.face_walk.proofs.faces.Faces.of_sides.Goals as goal
+
+abbrev below : ℕ → SignedArc → Type 0
+below n a = a.arc < n
+
+arcs_below : (n : ℕ) (sides : List FaceSide) (arcs : List SignedArc) → arcs ≡ map (λ (s : FaceSide). s.arc) sides → All (λ (s : FaceSide). s.arc.arc < n) sides → All (below n) arcs
+arcs_below n sides arcs e h = All-same (below n) arcs (map (λ (s : FaceSide). s.arc) sides) e (All-map (below n) (λ (s : FaceSide). s.arc) sides h)
+
+pub areas_of-requires-clause-there : goal.areas_of-requires-clause-there
+areas_of-requires-clause-there c =
+    arcs_below (length c.args.t.now) c.args.sides.now c.deref-2.result.now (c.deref-2.ensures.value ∙ c.in_ok-side_arcs.ensures) c.requires.sides
+
+pub invariant_of-result : goal.invariant_of-result
+invariant_of-result c =
+    let sides = c.args.sides.now in
+    let n = length c.args.t.now in
+    let faces : c.in_ok-side_faces.side_faces.items ≡ map (λ (s : FaceSide). s.face) sides = c.in_ok-side_faces.ensures in
+    let arcs : c.in_ok-side_arcs.side_arcs.items ≡ map (λ (s : FaceSide). s.arc) sides = c.in_ok-side_arcs.ensures in
+    let places = c.requires.places in
+    let few = c.requires.few in (
+      omega arith,
+      omega arith,
+      c.args.numbering.below,
+      ap (λ (xs : List ℕ). length xs) faces ∙ length-map sides (λ (s : FaceSide). s.face) ∙ sym (length-map sides (λ (s : FaceSide). s.arc)) ∙ sym (ap (λ (xs : List SignedArc). length xs) arcs),
+      All-weaker (below n) (HasPlaces (length c.args.numbering.places.items)) (λ a h. omega arith) c.in_ok-side_arcs.side_arcs.items (arcs_below n sides c.in_ok-side_arcs.side_arcs.items arcs c.requires.sides),
+      c.in_ok-areas.ensures.count,
+      c.requires.links,
+    )

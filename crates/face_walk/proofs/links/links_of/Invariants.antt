@@ -1,0 +1,6 @@
+use Rattle.std.proofs.Common.{◌<◌, length, All}
+use Rattle.face_walk.specs.declared.links.ArcLink.{ArcLink}
+use Rattle.face_walk.proofs.links.links_of.Given as goal
+
+abbrev pub invariant-loop-n : goal.invariant-loop-n
+invariant-loop-n l = All (λ (k : ArcLink). k.along.arc < length l.t) l.links.items

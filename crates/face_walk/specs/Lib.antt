@@ -1,0 +1,5 @@
+pub mod Joining
+pub mod Places
+pub mod Under
+pub mod Crossings
+pub mod Holders

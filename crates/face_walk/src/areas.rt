@@ -1,0 +1,74 @@
+ghost use Rattle.std.specs.Prelude.{◌≡◌, ◌+◌, ◌*◌, ◌<◌, ◌≤◌, ◌^◌, ◌-ℤ◌, ◌*ℤ◌, All, IfOk, length, unsigned_abs};
+ghost use Rattle.face_walk.specs.Under.{IsGridNumber, IsTriangle};
+
+use arc_table::ArcTable;
+use grid_base::{Pt, SignedArc};
+use std::alloc::AllocError;
+
+fn cross(a: i128, b: i128, c: i128, d: i128) -> i128
+    requires a_small { IsGridNumber a }
+    requires b_small { IsGridNumber b }
+    requires c_small { IsGridNumber c }
+    requires d_small { IsGridNumber d }
+    ensures value { result ≡ a *ℤ d -ℤ b *ℤ c }
+    ensures small { IsTriangle result }
+{
+    a * d - b * c
+}
+
+fn numbers(p: Pt) -> (i128, i128)
+    ensures across { result.0 ≡ p.x }
+    ensures upward { result.1 ≡ p.y }
+    ensures across_small { IsGridNumber result.0 }
+    ensures upward_small { IsGridNumber result.1 }
+{
+    (p.x() as i128, p.y() as i128)
+}
+
+// Twice the signed area of the triangle from the origin to `p` and `q`.
+fn triangle(p: Pt, q: Pt) -> i128
+    ensures small { IsTriangle result }
+{
+    let (a, b) = numbers(p);
+    let (c, d) = numbers(q);
+    cross(a, b, c, d)
+}
+
+// Twice the area that a path adds to what it goes round.
+fn area_along(points: &[Pt]) -> i128
+    requires few { length points.now < 2 ^ 32 }
+    ensures small { unsigned_abs result ≤ 2 ^ 32 * 8000000000000000000 }
+{
+    let mut area = 0i128;
+    for i in 1..points.len() {
+        area += triangle(points[i - 1], points[i]);
+    }
+    area
+}
+
+// The same of an arc; it has fewer points than 2^32.
+fn area_of_arc(t: &ArcTable, a: SignedArc) -> Result<i128, AllocError>
+    requires { a.arc < length t.now }
+    ensures small { IfOk result (λ area. unsigned_abs area ≤ 2 ^ 32 * 8000000000000000000) }
+{
+    let points = t.points_of(a.id());
+    if points.len() > u32::MAX as usize {
+        return Err(AllocError);
+    }
+    let area = area_along(points);
+    if a.is_reversed() { Ok(-area) } else { Ok(area) }
+}
+
+/// Twice the area of a face, by the arcs that it is left of: `x1 * y2 - y1 * x2` over their steps.
+pub fn area_of_face(t: &ArcTable, arcs: &[SignedArc]) -> Result<i128, AllocError>
+    requires { All (λ a. a.arc < length t.now) arcs.now }
+{
+    if arcs.len() > u32::MAX as usize {
+        return Err(AllocError);
+    }
+    let mut area = 0i128;
+    for a in arcs {
+        area += area_of_arc(t, *a)?;
+    }
+    Ok(area)
+}

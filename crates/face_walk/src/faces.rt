@@ -1,0 +1,170 @@
+ghost use Rattle.std.specs.Prelude.{◌≡◌, ◌+◌, ◌*◌, ◌<◌, ◌≤◌, All, IfOk, Some, ℕ, length, slice_get};
+ghost use Rattle.face_walk.specs.Places.{HasArc, HasPlaces, IsBuiltOf, place_of};
+
+use crate::areas::area_of_face;
+use crate::joining::Joining;
+use crate::numbering::{FaceSide, Numbering, arcs_of, faces_of, numbering_of, sides_of};
+use crate::places::{MAX_ARCS, OUTSIDE, place_of};
+use crate::rays::{LinkSearch, join_rays};
+use crate::sectors::join_sectors;
+use arc_table::ArcTable;
+use grid_base::{FaceId, Pt, SignedArc};
+use std::alloc::{AllocError, Global};
+use std::marker::Model;
+
+/// The faces between the arcs of a table, numbered from 0; the outer face, which is unbounded, has no area.
+#[derive(Drop)]
+pub struct Faces {
+    // the face of each place
+    places: Vec<u32>,
+    count: u32,
+    // the face left of each signed arc of `side_arcs`, in order
+    side_faces: Vec<u32>,
+    side_arcs: Vec<SignedArc>,
+    areas: Vec<i128>,
+    search: LinkSearch,
+}
+
+impl Model for Faces {
+    ghost use Rattle.std.specs.Prelude.{◌≡◌, ◌<◌, ◌≤◌, All, length};
+    ghost use Rattle.face_walk.specs.Places.{FaceTable, HasPlaces};
+
+    ghost Value = { FaceTable };
+
+    ghost view = { λ f. record { places = f.places.items; count = f.count; areas = f.areas.items } };
+
+    ghost invariant = { λ f. (0 < length f.places.items)
+        × (length f.places.items ≤ 4000000001)
+        × All (λ n. n < f.count) f.places.items
+        × (length f.side_faces.items ≡ length f.side_arcs.items)
+        × All (HasPlaces (length f.places.items)) f.side_arcs.items
+        × (length f.areas.items ≡ f.count)
+        × All (λ l. HasPlaces (length f.places.items) l.along) f.search.links.items };
+}
+
+impl Faces {
+    /// The faces of a table of arcs.
+    ///
+    /// Cost: n log n for n links, beside the rays of vertices that have no link close below them.
+    pub fn build(alloc: Global, t: &ArcTable) -> Result<Faces, AllocError>
+        ensures built { IfOk result (IsBuiltOf t.now) }
+    {
+        if t.count() > MAX_ARCS {
+            return Err(AllocError);
+        }
+        let search = LinkSearch::of(alloc, t)?;
+        let mut joining = Joining::new(alloc, 2 * t.count() + 1)?;
+        join_sectors(&mut joining, t);
+        join_rays(alloc, &mut joining, &search)?;
+        let numbering = numbering_of(alloc, &joining)?;
+        let sides = sides_of(alloc, t.count(), &numbering.places)?;
+        Faces::of_sides(alloc, t, search, numbering, &sides)
+    }
+
+    fn of_sides(
+        alloc: Global,
+        t: &ArcTable,
+        search: LinkSearch,
+        numbering: Numbering,
+        sides: &[FaceSide],
+    ) -> Result<Faces, AllocError>
+        requires few { length t.now ≤ 2000000000 }
+        requires places { length numbering.places.items ≡ 2 * length t.now + 1 }
+        requires sides { All (λ s. s.arc.arc < length t.now) sides.now }
+        requires links { All (λ l. HasPlaces (length numbering.places.items) l.along) search.links.items }
+        ensures built { IfOk result (IsBuiltOf t.now) }
+    {
+        let side_faces = faces_of(alloc, sides)?;
+        let side_arcs = arcs_of(alloc, sides)?;
+        let areas = areas_of(alloc, t, numbering.count, &side_faces, &side_arcs)?;
+        let Numbering { places, count } = numbering;
+        Ok(Faces {
+            places,
+            count,
+            side_faces,
+            side_arcs,
+            areas,
+            search,
+        })
+    }
+
+    /// How many faces there are.
+    pub fn count(&self) -> u32
+        ensures exact { result ≡ self.now.count }
+    {
+        self.count
+    }
+
+    /// The face outside of all arcs.
+    pub fn outer(&self) -> FaceId
+        ensures exact { slice_get self.now.places 0 ≡ Some result }
+        ensures there { result < self.now.count }
+    {
+        FaceId::new(self.places[OUTSIDE as usize])
+    }
+
+    /// The face on the left of a signed arc.
+    pub fn left_of(&self, a: SignedArc) -> FaceId
+        requires { HasArc self.now a }
+        ensures exact { slice_get self.now.places (place_of a) ≡ Some result }
+        ensures there { result < self.now.count }
+    {
+        FaceId::new(self.places[place_of(a) as usize])
+    }
+
+    /// The signed arcs that a face is left of, in order.
+    pub fn arcs_of(&self, f: FaceId) -> &[SignedArc]
+        ensures there { All (HasArc self.now) result.now }
+    {
+        arcs_left(&self.side_faces, &self.side_arcs, f.num())
+    }
+
+    /// Twice the area of a face that isn't the outer one, in squares of the grid.
+    pub fn twice_area(&self, f: FaceId) -> i128
+        requires { f < self.now.count }
+        ensures exact { slice_get self.now.areas f ≡ Some result }
+    {
+        self.areas[f.num() as usize]
+    }
+
+    /// The face that a point lies in which is on no link.
+    pub fn at(&self, t: &ArcTable, p: Pt) -> FaceId
+        requires built { IsBuiltOf t.now self.now }
+        ensures there { result < self.now.count }
+    {
+        match self.search.topmost_below(p) {
+            Some(l) => self.left_of(l.along),
+            None => self.outer(),
+        }
+    }
+}
+
+// Of arcs that stand by the faces on their left, in order, those of one face.
+fn arcs_left<'a>(faces: &[u32], arcs: &'a [SignedArc], f: u32) -> &'a [SignedArc]
+    requires { length faces.now ≡ length arcs.now }
+    ensures below { (n : ℕ) → All (λ a. a.arc < n) arcs.now → All (λ a. a.arc < n) result.now }
+    ensures there { (m : ℕ) → All (HasPlaces m) arcs.now → All (HasPlaces m) result.now }
+{
+    let first = faces.partition_point(|g| *g < f);
+    let count = faces[first..].partition_point(|g| *g == f);
+    &arcs[first..first + count]
+}
+
+// Twice the area of each face.
+fn areas_of(
+    alloc: Global,
+    t: &ArcTable,
+    count: u32,
+    faces: &[u32],
+    arcs: &[SignedArc],
+) -> Result<Vec<i128>, AllocError>
+    requires each { length faces.now ≡ length arcs.now }
+    requires there { All (λ a. a.arc < length t.now) arcs.now }
+    ensures count { IfOk result (λ v. length v.items ≡ count) }
+{
+    let mut areas = Vec::with_capacity(alloc, count as usize)?;
+    for f in 0..count {
+        areas.push(area_of_face(t, arcs_left(faces, arcs, f))?)?;
+    }
+    Ok(areas)
+}

@@ -1,0 +1,144 @@
+ghost use Rattle.std.specs.Prelude.{◌≡◌, ◌<◌, [], All, IfOk, length, slice_index_or};
+ghost use Rattle.face_walk.specs.Places.{IsBuiltOf};
+ghost use Rattle.face_walk.specs.Crossings.{IsCrossing};
+
+use crate::crossings::{Crossing, crossings_of};
+use crate::faces::Faces;
+use crate::ring_steps::{RingStep, box_steps, polygon_steps, steps_along};
+use arc_table::ArcTable;
+use grid_base::{FaceId, FeatId, Snapped};
+use std::alloc::{AllocError, Global};
+use std::marker::Model;
+
+/// The polygon features and the boxes that hold each face.
+#[derive(Drop)]
+pub struct Labels {
+    holders: Vec<Vec<FeatId>>,
+    boxes: Vec<Vec<u32>>,
+}
+
+impl Model for Labels {
+    ghost use Rattle.std.specs.Prelude.{map};
+    ghost use Rattle.face_walk.specs.Holders.{HolderTable};
+
+    ghost Value = { HolderTable };
+
+    ghost view = { λ l. record { holders = map (λ v. v.items) l.holders.items; boxes = map (λ v. v.items) l.boxes.items } };
+}
+
+impl Labels {
+    /// The holders of the faces of a table, from the rings and boxes of the drawing that it was built of.
+    ///
+    /// A feature holds a face that some polygon of it holds, and a polygon one from whose points it is left after
+    /// an odd number of crossings of its rings.
+    pub fn of(alloc: Global, t: &ArcTable, f: &Faces, s: &Snapped) -> Result<Labels, AllocError>
+        requires built { IsBuiltOf t.now f.now }
+        ensures holders_each { IfOk result (λ l. length l.holders ≡ f.now.count) }
+        ensures boxes_each { IfOk result (λ l. length l.boxes ≡ f.now.count) }
+    {
+        let crossings = crossings_of(alloc, f)?;
+        let all = polygon_steps(alloc, t, s)?;
+        let polygons = held_lists(alloc, f, &crossings, &all.steps)?;
+        let holders = owner_lists(alloc, &all.owners, &polygons)?;
+        let steps = box_steps(alloc, t, s)?;
+        let boxes = held_lists(alloc, f, &crossings, &steps)?;
+        Ok(Labels { holders, boxes })
+    }
+
+    /// The polygon features that hold a face, ascending. Takes no memory.
+    pub fn holders(&self, f: FaceId) -> &[FeatId]
+        requires { f < length self.now.holders }
+        ensures exact { result.now ≡ slice_index_or self.now.holders f [] }
+    {
+        &self.holders[f.num() as usize]
+    }
+
+    /// The boxes that hold a face, ascending. Takes no memory.
+    pub fn boxes(&self, f: FaceId) -> &[u32]
+        requires { f < length self.now.boxes }
+        ensures exact { result.now ≡ slice_index_or self.now.boxes f [] }
+    {
+        &self.boxes[f.num() as usize]
+    }
+}
+
+// For each face the items that hold it, ascending: none at first, as for the outer face, and then face by face.
+fn held_lists(
+    alloc: Global,
+    f: &Faces,
+    crossings: &[Crossing],
+    steps: &[RingStep],
+) -> Result<Vec<Vec<u32>>, AllocError>
+    requires there { All (IsCrossing f.now) crossings.now }
+    ensures each { IfOk result (λ v. length v.items ≡ f.now.count) }
+{
+    let mut held = empty_lists(alloc, f.count())?;
+    for c in crossings {
+        let from = &held[c.from.num() as usize];
+        let into = flipped(alloc, from, steps_along(steps, c.arc))?;
+        held[c.into.num() as usize] = into;
+    }
+    Ok(held)
+}
+
+fn empty_lists(alloc: Global, count: u32) -> Result<Vec<Vec<u32>>, AllocError>
+    ensures each { IfOk result (λ v. length v.items ≡ count) }
+{
+    let mut lists = Vec::with_capacity(alloc, count as usize)?;
+    for _face in 0..count {
+        lists.push(Vec::new(alloc))?;
+    }
+    Ok(lists)
+}
+
+// The items that hold a face across an arc from a face that `held` holds: those that are in one of the two lists, or
+// that step along the arc an even number of times and are in `held`.
+fn flipped(alloc: Global, held: &[u32], steps: &[RingStep]) -> Result<Vec<u32>, AllocError> {
+    let mut items = Vec::from_slice(alloc, held)?;
+    for s in steps {
+        items.push(s.item)?;
+    }
+    items.sort_unstable();
+    odd_ones(alloc, &items)
+}
+
+// Of numbers in order, those that stand an odd number of times, each once.
+fn odd_ones(alloc: Global, sorted: &[u32]) -> Result<Vec<u32>, AllocError> {
+    let mut odd = Vec::new(alloc);
+    for n in sorted {
+        if odd.last() == Some(n) {
+            odd.pop();
+        } else {
+            odd.push(*n)?;
+        }
+    }
+    Ok(odd)
+}
+
+// The features of polygons, for each face.
+fn owner_lists(
+    alloc: Global,
+    owners: &[FeatId],
+    polygons: &[Vec<u32>],
+) -> Result<Vec<Vec<FeatId>>, AllocError>
+    ensures each { IfOk result (λ v. length v.items ≡ length polygons.now) }
+{
+    let mut lists = Vec::with_capacity(alloc, polygons.len())?;
+    for items in polygons {
+        lists.push(owners_of(alloc, owners, items)?)?;
+    }
+    Ok(lists)
+}
+
+// The features of ascending polygons, each once.
+fn owners_of(alloc: Global, owners: &[FeatId], items: &[u32]) -> Result<Vec<FeatId>, AllocError> {
+    let mut features = Vec::new(alloc);
+    for i in items {
+        if let Some(owner) = owners.get(*i as usize) {
+            if features.last() != Some(owner) {
+                features.push(*owner)?;
+            }
+        }
+    }
+    Ok(features)
+}

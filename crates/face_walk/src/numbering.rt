@@ -1,0 +1,80 @@
+ghost use Rattle.std.specs.Prelude.{◌≡◌, ◌+◌, ◌*◌, ◌<◌, ◌≤◌, All, IfOk, length, map};
+
+use crate::joining::Joining;
+use crate::places::place_of;
+use grid_base::{ArcId, SignedArc};
+use std::alloc::{AllocError, Global};
+
+/// The number of the face of each place, and how many faces there are.
+#[derive(Drop)]
+pub struct Numbering {
+    pub places: Vec<u32>,
+    pub count: u32,
+    ghost below: { All (λ n. n < count) places.items },
+}
+
+/// The face on the left of a signed arc. They are ordered by the face, then by the arc.
+#[derive(Clone, Copy, PartialEq, Eq, PartialOrd, Ord, Debug)]
+pub struct FaceSide {
+    pub face: u32,
+    pub arc: SignedArc,
+}
+
+/// Numbers the classes of places in the order of their least places.
+pub fn numbering_of(alloc: Global, joining: &Joining) -> Result<Numbering, AllocError>
+    ensures each { IfOk result (λ n. length n.places.items ≡ length joining.now) }
+{
+    let mut places = Vec::with_capacity(alloc, joining.count() as usize)?;
+    let mut count = 0u32;
+    for n in 0..joining.count() {
+        let least = joining.least(n);
+        if least < n {
+            let face = places[least as usize];
+            places.push(face)?;
+        } else {
+            places.push(count)?;
+            count += 1;
+        }
+    }
+    Ok(Numbering { places, count })
+}
+
+/// The faces left of the signed arcs, in order.
+pub fn sides_of(alloc: Global, arc_count: u32, places: &[u32]) -> Result<Vec<FaceSide>, AllocError>
+    requires few { arc_count ≤ 2000000000 }
+    requires each { length places.now ≡ 2 * arc_count + 1 }
+    ensures there { IfOk result (λ v. All (λ s. s.arc.arc < arc_count) v.items) }
+{
+    let mut sides = Vec::with_capacity(alloc, places.len())?;
+    for n in 0..arc_count {
+        let id = ArcId::new(n);
+        sides.push(side_of(places, SignedArc::forward(id)))?;
+        sides.push(side_of(places, SignedArc::backward(id)))?;
+    }
+    sides.sort()?;
+    Ok(sides)
+}
+
+fn side_of(places: &[u32], arc: SignedArc) -> FaceSide
+    requires few { length places.now ≤ 4000000001 }
+    requires there { 2 * arc.arc + 2 < length places.now }
+    ensures arc { result.arc ≡ arc }
+{
+    let place = place_of(arc);
+    FaceSide {
+        face: places[place as usize],
+        arc,
+    }
+}
+
+pub fn faces_of(alloc: Global, sides: &[FaceSide]) -> Result<Vec<u32>, AllocError>
+    ensures { IfOk result (λ v. v.items ≡ map (λ s. s.face) sides.now) }
+{
+    sides.iter().map(|s| s.face).collect(alloc)
+}
+
+pub fn arcs_of(alloc: Global, sides: &[FaceSide]) -> Result<Vec<SignedArc>, AllocError>
+    ensures { IfOk result (λ v. v.items ≡ map (λ s. s.arc) sides.now) }
+{
+    sides.iter().map(|s| s.arc).collect(alloc)
+}

@@ -1,0 +1,73 @@
+ghost use Rattle.std.specs.Prelude.{◌≡◌, ◌≤◌, ◌-ℤ◌, ◌*ℤ◌, unsigned_abs};
+ghost use Rattle.face_walk.specs.Under.{IsStep, IsCross};
+
+use grid_base::{Link, Pt};
+
+// How far `to` stands to the right of `from`, and above it.
+fn step(from: Pt, to: Pt) -> (i128, i128)
+    ensures across { result.0 ≡ to.x -ℤ from.x }
+    ensures upward { result.1 ≡ to.y -ℤ from.y }
+    ensures across_small { IsStep result.0 }
+    ensures upward_small { IsStep result.1 }
+{
+    (
+        to.x() as i128 - from.x() as i128,
+        to.y() as i128 - from.y() as i128,
+    )
+}
+
+// The determinant of two steps, (a, b) and (c, d).
+fn determinant(a: i128, b: i128, c: i128, d: i128) -> i128
+    requires a_small { IsStep a }
+    requires b_small { IsStep b }
+    requires c_small { IsStep c }
+    requires d_small { IsStep d }
+    ensures value { result ≡ a *ℤ d -ℤ b *ℤ c }
+    ensures small { IsCross result }
+{
+    a * d - b * c
+}
+
+// How the point `p` stands to a link: above 0 where it is strictly left of it, from its lesser to its greater end.
+fn side_of(l: Link, p: Pt) -> i128
+    ensures small { IsCross result }
+{
+    let (ax, ay) = step(l.low(), l.high());
+    let (bx, by) = step(l.low(), p);
+    determinant(ax, ay, bx, by)
+}
+
+// How far a link goes to the right.
+fn width_of(l: Link) -> i128
+    ensures small { IsStep result }
+{
+    let (across, _) = step(l.low(), l.high());
+    across
+}
+
+/// Whether a link passes strictly below a point: its lesser end stands left of the point or under it, its greater
+/// end right of the point.
+pub fn is_below(l: Link, p: Pt) -> bool {
+    l.low().x() <= p.x() && p.x() < l.high().x() && 0 < side_of(l, p)
+}
+
+/// Whether a link passes through a point or above it.
+pub fn is_at_or_above(l: Link, p: Pt) -> bool {
+    side_of(l, p) <= 0
+}
+
+// A product of a step and a determinant.
+fn scaled(across: i128, side: i128) -> i128
+    requires step { IsStep across }
+    requires cross { IsCross side }
+    ensures value { result ≡ across *ℤ side }
+    ensures small { unsigned_abs result ≤ 128000000000000000000000000000 }
+{
+    across * side
+}
+
+/// Whether just right of the abscissa of `p` the link `k` runs below `l`, where both are over that abscissa.
+pub fn goes_under(l: Link, k: Link, p: Pt) -> bool {
+    let rise = scaled(width_of(l), side_of(k, p)) - scaled(width_of(k), side_of(l, p));
+    0 < rise || rise == 0 && side_of(l, k.high()) < 0
+}

@@ -1,0 +1,100 @@
+ghost use Rattle.std.specs.Prelude.{◌≡◌, ◌<◌, ◌^◌, All, IfOk, length};
+ghost use Rattle.face_walk.specs.Places.{IsBuiltOf};
+ghost use Rattle.ring_trace.specs.Parts.{IsSide};
+
+use crate::joined_faces::{Parts, Side};
+use arc_table::ArcTable;
+use grid_base::{Pt, SignedArc};
+use std::alloc::{AllocError, Global};
+
+/// A signed arc of the boundary of a part, and where it starts. They are ordered by the part, then by the start.
+#[derive(Clone, Copy, PartialEq, Eq, PartialOrd, Ord, Debug)]
+pub struct Edge {
+    pub part: u32,
+    pub start: Pt,
+    pub arc: SignedArc,
+}
+
+/// The end of an edge, with the place of the edge. They are ordered by the part, then by the end.
+#[derive(Clone, Copy, PartialEq, Eq, PartialOrd, Ord, Debug)]
+struct EdgeEnd {
+    part: u32,
+    stop: Pt,
+    edge: u32,
+}
+
+/// The edges of all parts, in order.
+pub fn edges_of(
+    alloc: Global,
+    t: &ArcTable,
+    parts: &Parts,
+    sides: &[Side],
+) -> Result<Vec<Edge>, AllocError>
+    requires there { All (λ s. s.arc.arc < length t.now) sides.now }
+    requires places { All (λ s. s.place < length parts.now.joining) sides.now }
+    ensures each { IfOk result (λ v. length v.items ≡ length sides.now) }
+    ensures there { IfOk result (λ v. All (λ e. e.arc.arc < length t.now) v.items) }
+{
+    let mut edges = Vec::with_capacity(alloc, sides.len())?;
+    for side in sides {
+        edges.push(Edge {
+            part: parts.number_of(side.place),
+            start: t.start_of(side.arc),
+            arc: side.arc,
+        })?;
+    }
+    edges.sort_unstable();
+    Ok(edges)
+}
+
+/// For each edge the place of one that starts where it ends, each edge once.
+///
+/// In a boundary as many edges of a part end at a vertex as start there. So the ends, in order, stand by the starts.
+pub fn onward_of(alloc: Global, t: &ArcTable, edges: &[Edge]) -> Result<Vec<u32>, AllocError>
+    requires few { length edges.now < 2 ^ 32 }
+    requires there { All (λ e. e.arc.arc < length t.now) edges.now }
+    ensures each { IfOk result (λ v. length v.items ≡ length edges.now) }
+    ensures there { IfOk result (λ v. All (λ k. k < length edges.now) v.items) }
+{
+    let ends = ends_of(alloc, t, edges)?;
+    let mut onward = vec![in alloc; 0u32; edges.len()]?;
+    for k in 0..ends.len() {
+        onward[ends[k].edge as usize] = k as u32;
+    }
+    Ok(onward)
+}
+
+fn ends_of(alloc: Global, t: &ArcTable, edges: &[Edge]) -> Result<Vec<EdgeEnd>, AllocError>
+    requires few { length edges.now < 2 ^ 32 }
+    requires there { All (λ e. e.arc.arc < length t.now) edges.now }
+    ensures each { IfOk result (λ v. length v.items ≡ length edges.now) }
+    ensures there { IfOk result (λ v. All (λ e. e.edge < length edges.now) v.items) }
+{
+    let mut ends = Vec::with_capacity(alloc, edges.len())?;
+    for k in 0..edges.len() {
+        ends.push(EdgeEnd {
+            part: edges[k].part,
+            stop: t.start_of(edges[k].arc.flip()),
+            edge: k as u32,
+        })?;
+    }
+    ends.sort_unstable();
+    Ok(ends)
+}
+
+/// For each edge the number of the vertex where it starts: the place of the first edge of its part that starts there.
+pub fn vertices_of(alloc: Global, edges: &[Edge]) -> Result<Vec<u32>, AllocError>
+    requires few { length edges.now < 2 ^ 32 }
+    ensures each { IfOk result (λ v. length v.items ≡ length edges.now) }
+    ensures there { IfOk result (λ v. All (λ k. k < length edges.now) v.items) }
+{
+    let mut vertices = Vec::with_capacity(alloc, edges.len())?;
+    let mut first = 0;
+    for k in 0..edges.len() {
+        if edges[k].part != edges[first].part || edges[k].start != edges[first].start {
+            first = k;
+        }
+        vertices.push(first as u32)?;
+    }
+    Ok(vertices)
+}

@@ -1,0 +1,61 @@
+ghost use Rattle.std.specs.Prelude.{◌≡◌, ◌++◌, ◌∷◌, [], OnOk, OnErr, length, slice_get};
+ghost use Rattle.std.specs.Option.{option_copied};
+
+use crate::face_set::FaceSet;
+use std::alloc::{AllocError, Global};
+use std::marker::Model;
+
+/// A list of sets of faces, of at most 4,294,967,295; counted from 0.
+#[derive(Drop)]
+pub struct SetList {
+    items: Vec<FaceSet>,
+}
+
+impl Model for SetList {
+    ghost use Rattle.std.specs.Prelude.{List, ℕ, ◌<◌, ◌^◌, length};
+
+    ghost Value = { List (List ℕ) };
+
+    ghost view = { λ l. l.items.items };
+
+    ghost invariant = { λ l. length l.items.items < 2 ^ 32 };
+}
+
+impl SetList {
+    pub fn new(alloc: Global) -> SetList
+        ensures empty { result ≡ [] }
+    {
+        SetList {
+            items: Vec::new(alloc),
+        }
+    }
+
+    pub fn push(&mut self, item: FaceSet) -> Result<(), AllocError>
+        ensures ok { OnOk result (self.new ≡ self.old ++ item ∷ []) }
+        ensures err { OnErr result (self.new ≡ self.old) }
+    {
+        if self.items.len() >= u32::MAX as usize {
+            return Err(AllocError);
+        }
+        self.items.push(item)?;
+        Ok(())
+    }
+
+    pub fn len(&self) -> u32
+        ensures count { result ≡ length self.now }
+    {
+        self.items.len() as u32
+    }
+
+    pub fn get(&self, i: u32) -> Option<&FaceSet>
+        ensures lookup { option_copied result ≡ slice_get self.now i }
+    {
+        self.items.get(i as usize)
+    }
+
+    pub fn as_slice(&self) -> &[FaceSet]
+        ensures all { result.now ≡ self.now }
+    {
+        &self.items
+    }
+}
