@@ -1,0 +1,109 @@
+ghost use Rattle.std.specs.Prelude.{◌≡◌, ◌++◌, ◌<◌, [], All, IfOk, OnOk, ℕ, length};
+ghost use Rattle.face_walk.specs.Places.{HasArc};
+ghost use Rattle.line_ops.specs.Inside.{is_inside, is_outside};
+ghost use Rattle.line_ops.specs.Runs.{ended, runs_after, runs_where};
+
+use crate::inside::is_inside;
+use arc_table::{SignedPath, SignedPaths};
+use face_walk::Faces;
+use grid_base::SignedArc;
+use ring_trace::FaceSet;
+use std::alloc::{AllocError, Global};
+
+/// Of which arcs runs are made.
+#[derive(Clone, Copy, PartialEq, Eq, Debug)]
+enum Keeps {
+    Inside,
+    Outside,
+}
+
+/// The maximal runs of arcs of each path that are inside the source, path by path, in order.
+///
+/// A closed path isn't read around: a run at its end and one at its beginning stay two.
+pub fn clip_paths(
+    alloc: Global,
+    f: &Faces,
+    paths: &SignedPaths,
+    source: &FaceSet,
+) -> Result<SignedPaths, AllocError>
+    requires arcs { All (All (HasArc f.now)) paths.now }
+    ensures there { (n : ℕ) → All (All (λ a. a.arc < n)) paths.now → IfOk result (All (All (λ a. a.arc < n))) }
+{
+    runs_of_paths(alloc, f, paths, source, Keeps::Inside)
+}
+
+/// The maximal runs of arcs of each path that aren't inside the source, path by path, in order.
+///
+/// A closed path isn't read around: a run at its end and one at its beginning stay two.
+pub fn erase_paths(
+    alloc: Global,
+    f: &Faces,
+    paths: &SignedPaths,
+    source: &FaceSet,
+) -> Result<SignedPaths, AllocError>
+    requires arcs { All (All (HasArc f.now)) paths.now }
+    ensures there { (n : ℕ) → All (All (λ a. a.arc < n)) paths.now → IfOk result (All (All (λ a. a.arc < n))) }
+{
+    runs_of_paths(alloc, f, paths, source, Keeps::Outside)
+}
+
+fn runs_of_paths(
+    alloc: Global,
+    f: &Faces,
+    paths: &SignedPaths,
+    source: &FaceSet,
+    keeps: Keeps,
+) -> Result<SignedPaths, AllocError>
+    requires arcs { All (All (HasArc f.now)) paths.now }
+    ensures there { (n : ℕ) → All (All (λ a. a.arc < n)) paths.now → IfOk result (All (All (λ a. a.arc < n))) }
+{
+    let mut runs = SignedPaths::new(alloc);
+    for path in paths.as_slice() {
+        push_runs(alloc, &mut runs, f, path.as_slice(), source, keeps)?;
+    }
+    Ok(runs)
+}
+
+// Adds the runs of one path.
+fn push_runs(
+    alloc: Global,
+    runs: &mut SignedPaths,
+    f: &Faces,
+    path: &[SignedArc],
+    source: &FaceSet,
+    keeps: Keeps,
+) -> Result<(), AllocError>
+    requires arcs { All (HasArc f.now) path.now }
+    ensures there { OnOk result ((n : ℕ) → All (λ a. a.arc < n) path.now → All (All (λ a. a.arc < n)) runs.old → All (All (λ a. a.arc < n)) runs.new) }
+{
+    let mut begun = SignedPath::new(alloc);
+    for a in path {
+        if is_kept(f, source, *a, keeps) {
+            begun.push(*a)?;
+        } else {
+            push_run(runs, begun)?;
+            begun = SignedPath::new(alloc);
+        }
+    }
+    push_run(runs, begun)
+}
+
+fn is_kept(f: &Faces, source: &FaceSet, a: SignedArc, keeps: Keeps) -> bool
+    requires arc { HasArc f.now a }
+{
+    match keeps {
+        Keeps::Inside => is_inside(f, source, a),
+        Keeps::Outside => !is_inside(f, source, a),
+    }
+}
+
+// Adds a run, where it is one.
+fn push_run(runs: &mut SignedPaths, run: SignedPath) -> Result<(), AllocError>
+    ensures ok { OnOk result (runs.new ≡ runs.old ++ ended run) }
+    ensures there { OnOk result ((n : ℕ) → All (λ a. a.arc < n) run → All (All (λ a. a.arc < n)) runs.old → All (All (λ a. a.arc < n)) runs.new) }
+{
+    if run.len() > 0 {
+        runs.push(run)?;
+    }
+    Ok(())
+}

@@ -1,0 +1,6 @@
+use Rattle.std.proofs.Common.{◌≡◌, take, map, All}
+use Rattle.region_ops.specs.Cut.{minus}
+use Rattle.region_ops.proofs.cut_sets.erase_sets.Given as goal
+
+abbrev pub invariant-loop-set : goal.invariant-loop-set
+invariant-loop-set l = l.sets ≡ map (minus l.source) (take l.set-index l.old)

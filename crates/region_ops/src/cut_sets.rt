@@ -1,0 +1,27 @@
+ghost use Rattle.std.specs.Prelude.{◌≡◌, IfOk, map};
+ghost use Rattle.region_ops.specs.Cut.{meet, minus};
+
+use ring_trace::{FaceSet, SetList};
+use std::alloc::{AllocError, Global};
+
+/// For each set its faces that are in the source too. A set may become empty.
+pub fn clip_sets(alloc: Global, old: &SetList, source: &FaceSet) -> Result<SetList, AllocError>
+    ensures exact { IfOk result (λ sets. sets ≡ map (meet source.now) old.now) }
+{
+    let mut sets = SetList::new(alloc);
+    for set in old.as_slice() {
+        sets.push(set.meet(alloc, source)?)?;
+    }
+    Ok(sets)
+}
+
+/// For each set its faces that aren't in the source. A set may become empty.
+pub fn erase_sets(alloc: Global, old: &SetList, source: &FaceSet) -> Result<SetList, AllocError>
+    ensures exact { IfOk result (λ sets. sets ≡ map (minus source.now) old.now) }
+{
+    let mut sets = SetList::new(alloc);
+    for set in old.as_slice() {
+        sets.push(set.minus(alloc, source)?)?;
+    }
+    Ok(sets)
+}

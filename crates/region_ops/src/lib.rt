@@ -1,0 +1,16 @@
+//! The commands on polygon layers, on the sets of faces that stand for their features.
+//!
+//! - clip keeps of each set the faces of a source, erase those that aren't of it.
+//! - dissolve makes one set of the members of each group: all their faces.
+//! - clean leaves each face that several sets have with the one that a rule ranks first.
+//! - mosaic puts together the faces that the same sets have, and makes a set of each part of them.
+//! - explode makes a set of each part of a set.
+//!
+//! clean and mosaic look at each set once, and then go from face to face. No command compares all pairs of sets.
+#![tactic(auto)]
+
+mod cut_sets;
+mod dissolved_sets;
+
+pub use cut_sets::{clip_sets, erase_sets};
+pub use dissolved_sets::dissolve_sets;
