@@ -1,0 +1,9 @@
+pub mod Names
+pub mod Refusals
+pub mod Rows
+pub mod Columns
+pub mod Merge
+pub mod Keys
+pub mod Same
+pub mod Filtering
+pub mod Groups

@@ -1,0 +1,108 @@
+ghost use Rattle.std.specs.Prelude.{◌≡◌, ◌<◌, ◌++◌, ◌∷◌, [], All, Bool, Ok, Err, IfOk, OnOk, length, if◌then◌else◌, not, vec_items};
+ghost use Rattle.std.specs.Bool.{beq};
+ghost use Rattle.lists.specs.Lists.{numbers_where};
+ghost use Rattle.expr_lang.specs.Meaning.{Evaluated, FaultIs, evaluated};
+ghost use Rattle.expr_lang.specs.Tree.{tree_of};
+ghost use Rattle.table_ops.specs.Filtering.{filter_rows, says, tests_of};
+ghost use Rattle.table_ops.specs.Refusals.{Answers, AnswersAs};
+
+use crate::fault::{EvalWhy, TableFault, TableWhy};
+use crate::rows::row_of;
+use expr_lang::{EvalFault, Expr, eval};
+use grid_base::IdList;
+use io_core::NameList;
+use json_read::{Row, Table, Value};
+use std::alloc::{AllocError, Global};
+
+/// The numbers of the rows for which the expression is true, or with `invert` false.
+///
+/// It is evaluated for all rows in order.
+/// Errors: `Eval` at the first row for which it has a fault, `NotBoolean` at one where it is no boolean.
+pub fn filter_rows(alloc: Global, t: &Table, e: &Expr, invert: bool) -> Result<IdList, TableFault>
+    ensures exact { Answers result (filter_rows t.now (tree_of e.now) (not invert)) }
+    ensures within { IfOk result (λ kept. All (λ n. n < length t.now.rows) kept) }
+{
+    let tests = tests_of(alloc, t, e)?;
+    Ok(numbers_of(alloc, tests.as_slice(), !invert)?)
+}
+
+/// What the expression says of each row.
+pub(crate) fn tests_of(alloc: Global, t: &Table, e: &Expr) -> Result<Vec<bool>, TableFault>
+    ensures exact { AnswersAs vec_items result (tests_of t.now (tree_of e.now)) }
+    ensures each { IfOk result (λ tests. length tests.items ≡ length t.now.rows) }
+{
+    let rows = t.rows();
+    let mut tests = Vec::new(alloc);
+    for n in 0..rows.len() {
+        let test = test_of(alloc, t.names(), row_of(rows, n), n, e)?;
+        append(&mut tests, test)?;
+    }
+    Ok(tests)
+}
+
+fn append(tests: &mut Vec<bool>, test: bool) -> Result<(), AllocError>
+    ensures last { OnOk result (tests.new.items ≡ tests.old.items ++ test ∷ []) }
+{
+    tests.push(test)?;
+    Ok(())
+}
+
+/// What the expression says of the row with this number.
+fn test_of(alloc: Global, names: &NameList, row: &Row, n: u32, e: &Expr) -> Result<bool, TableFault>
+    ensures exact { Answers result (says n (evaluated names.now row.now n (tree_of e.now))) }
+{
+    match eval(alloc, e, names, row, n) {
+        Ok(value) => boolean(&value, n),
+        Err(fault) => Err(refusal(fault, n)),
+    }
+}
+
+fn boolean(value: &Value, row: u32) -> Result<bool, TableFault>
+    ensures exact { Answers result (says row (Ok value.now)) }
+{
+    match value {
+        Value::Bool(b) => Ok(*b),
+        _ => Err(TableFault::Bad {
+            why: TableWhy::NotBoolean { row },
+        }),
+    }
+}
+
+fn refusal(fault: EvalFault, row: u32) -> TableFault
+    ensures exact { (said : Evaluated) → FaultIs said fault → Answers {T = Bool} (Err result) (says row said) }
+{
+    let (at, why) = match fault {
+        EvalFault::Unknown { at } => (at, EvalWhy::Unknown),
+        EvalFault::Types { at } => (at, EvalWhy::Types),
+        EvalFault::Range { at } => (at, EvalWhy::Range),
+        EvalFault::Memory => return TableFault::Memory,
+    };
+    TableFault::Bad {
+        why: TableWhy::Eval { row, at, why },
+    }
+}
+
+/// The places of the tests with this answer.
+#[tactic(auto, using(crate::proofs::Numbers::numbers_where_more))]
+pub(crate) fn numbers_of(alloc: Global, tests: &[bool], wanted: bool) -> Result<IdList, AllocError>
+    ensures exact { IfOk result (λ numbers. numbers ≡ numbers_where (beq wanted) tests.now) }
+    ensures within { IfOk result (λ numbers. All (λ n. n < length tests.now) numbers) }
+{
+    let mut numbers = IdList::new(alloc);
+    for i in 0..tests.len() {
+        note_number(&mut numbers, i, wanted == tests[i])?;
+    }
+    Ok(numbers)
+}
+
+fn note_number(numbers: &mut IdList, i: usize, noted: bool) -> Result<(), AllocError>
+    ensures noted { OnOk result (numbers.new ≡ numbers.old ++ (if noted then i ∷ [] else [])) }
+{
+    if !noted {
+        return Ok(());
+    }
+    let Ok(number) = u32::try_from(i) else {
+        return Err(AllocError);
+    };
+    numbers.push(number)
+}

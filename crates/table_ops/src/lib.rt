@@ -1,0 +1,31 @@
+//! Tables of named columns: rows taken and filtered, columns kept, tables joined and merged, and
+//! comma-separated text.
+#![tactic(auto)]
+
+mod columns;
+mod csv_reading;
+mod csv_writing;
+mod fault;
+mod filter;
+mod items;
+mod join;
+mod key;
+mod merge;
+mod names;
+mod renames;
+mod rows;
+mod specifications;
+
+pub use columns::keep_fields;
+pub use csv_reading::read_csv;
+pub use csv_writing::write_csv;
+pub use fault::{CsvFault, EvalWhy, Room2, TableFault, TableWhy};
+pub use filter::filter_rows;
+pub use join::join_tables;
+pub use merge::{TableList, merge_tables};
+pub use renames::{Rename, RenameList};
+pub use rows::take_rows;
+pub use specifications::{GroupSpec, JoinSpec};
+
+#[cfg(test)]
+mod tests;
