@@ -1,0 +1,39 @@
+-- Steps of a group, case by case.
+use Rattle.std.proofs.Common.{◌≡◌, ℕ, Bool, false, not, ◌&&◌, cond, [], ◌∷◌, ◌++◌, Option, Some, None, Result, is_some}
+use Rattle.cmd_words.specs.declared.fault.Refusal.{Refusal}
+use Rattle.cmd_words.specs.declared.commands.ValueForm.{ValueForm}
+use Rattle.cmd_words.specs.declared.commands.ArgumentForm.{ArgumentForm}
+use Rattle.cmd_words.specs.declared.word_groups.Word.{Word}
+use Rattle.cmd_words.specs.Rows.{Text, Form, form_of}
+use Rattle.cmd_words.specs.Steps.{Makes}
+use Rattle.cmd_words.specs.Expressions.{Refusals}
+use Rattle.cmd_words.specs.Groups.{Group, value_in, argument_in}
+use Rattle.cmd_words.specs.Options.{Step, take_value, take_known, take_text, take_argument, take_plain, take_either, lacks_value, is_area, is_list, is_read, has_room, with_argument}
+use Rattle.cmd_words.specs.Texts.{has_empty_piece, is_standard}
+
+pub makes_else : (b : Bool) (x y : Step) (new : Group) (r : Result (Unit {0}) Refusal) → b ≡ false → Makes y new r → Makes (cond b x y) new r
+makes_else b x y new r e h = rw e h
+
+-- an option that passes all tests
+pub known_step : (refuses : Refusals) (places : ℕ) (f : Option ValueForm) (v : ValueForm) (o : Text × Text) (g h new : Group) (r : Result (Unit {0}) Refusal)
+    → f ≡ Some v → is_some (value_in g o.0) ≡ false → lacks_value v o.1 ≡ false → (is_area v && is_some (argument_in g)) ≡ false
+    → h ≡ record g { options = g.options ++ record { name = o.0; value = o.1 } ∷ [] }
+    → Makes (take_value refuses places v o.1 h) new r → Makes (take_known refuses places f o g) new r
+known_step refuses places f v o g h new r known once some alone added m =
+    rw known (makes_else _ _ _ new r once (makes_else _ _ _ new r some (makes_else _ _ _ new r alone (rw (← added) m))))
+
+-- an argument that passes all tests
+pub argument_step : (refuses : Refusals) (a : ArgumentForm) (w : Word) (g h new : Group) (r : Result (Unit {0}) Refusal)
+    → (is_list a && has_empty_piece w.text) ≡ false → not (has_room a g) ≡ false → ((is_read a && is_standard w.text) && g.reads_standard) ≡ false
+    → h ≡ with_argument a w g
+    → Makes (take_text refuses a w.text h) new r → Makes (take_argument refuses a w g) new r
+argument_step refuses a w g h new r full room once added m =
+    makes_else _ _ _ new r full (makes_else _ _ _ new r room (makes_else _ _ _ new r once (rw (← added) m)))
+
+pub option_step : (refuses : Refusals) (places : ℕ) (form : Form) (f : Option ValueForm) (o : Text × Text) (option : Option (Text × Text)) (w : Word) (g new : Group) (r : Result (Unit {0}) Refusal)
+    → Some o ≡ option → f ≡ form_of form.options o.0 → Makes (take_known refuses places f o g) new r → Makes (take_either refuses places form option w g) new r
+option_step refuses places form f o option w g new r e k m = rw (← e) (rw (← k) m)
+
+pub plain_step : (refuses : Refusals) (places : ℕ) (form : Form) (o : Option (Text × Text)) (w : Word) (g new : Group) (r : Result (Unit {0}) Refusal)
+    → None ≡ o → Makes (take_plain refuses form w g) new r → Makes (take_either refuses places form o w g) new r
+plain_step refuses places form o w g new r e m = rw (← e) m

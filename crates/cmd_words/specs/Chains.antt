@@ -1,0 +1,150 @@
+-- What the groups of commands ask for.
+use Rattle.std.specs.Prelude.{ℕ, ◌+◌, Bool, true, false, not, ◌&&◌, ◌||◌, List, [], ◌∷◌, ◌++◌, length, codes, slice_get, Option, Some, None, is_some, option_map, unwrap_or, if◌then◌else◌}
+use Rattle.std.specs.Option.{option_to_list}
+use Rattle.std.specs.Str.{bytes_eq}
+use Rattle.grid_base.specs.Grid.{Corners}
+use Rattle.grid_base.specs.declared.kinds.OverlapRule.TheVariants as rule
+use Rattle.table_ops.specs.declared.specifications.GroupSpec.{GroupSpec}
+use Rattle.table_ops.specs.declared.specifications.JoinSpec.{JoinSpec}
+use Rattle.cmd_words.specs.declared.commands.Keyword.{Keyword}
+use Rattle.cmd_words.specs.declared.commands.Keyword.TheVariants as k
+use Rattle.cmd_words.specs.declared.job.Target.{Target}
+use Rattle.cmd_words.specs.declared.job.Target.TheVariants as target
+use Rattle.cmd_words.specs.declared.job.Origin.{Origin}
+use Rattle.cmd_words.specs.declared.job.Origin.TheVariants as origin
+use Rattle.cmd_words.specs.declared.job.OutForm.{OutForm}
+use Rattle.cmd_words.specs.declared.job.OutForm.TheVariants as form
+use Rattle.cmd_words.specs.declared.job.Owner.TheVariants as owner
+use Rattle.cmd_words.specs.declared.job.SourceWord.{SourceWord}
+use Rattle.cmd_words.specs.declared.job.Action.{Action}
+use Rattle.cmd_words.specs.declared.job.Action.TheVariants as action
+use Rattle.cmd_words.specs.declared.job.Command.{Command}
+use Rattle.cmd_words.specs.Rows.{Text}
+use Rattle.cmd_words.specs.Texts.{pieces, is_standard, names_file, form_by_ending}
+use Rattle.cmd_words.specs.Values.{rule_of, form_named}
+use Rattle.cmd_words.specs.Groups.{Group, value_in, has_bare, argument_in}
+
+-- ## Parts of a command
+
+abbrev pub list_or_empty : Option Text → List Text
+list_or_empty None = []
+list_or_empty (Some s) = pieces s
+
+abbrev pub target_of : Option Text → Target
+target_of None = target.Default
+target_of (Some s) = if bytes_eq s (codes "*") then target.All else target.Names (pieces s)
+
+abbrev pub argument_text : Group → Text
+argument_text g = unwrap_or (argument_in g) []
+
+abbrev pub key_at : List Text → ℕ → Text
+key_at keys n = unwrap_or (slice_get keys n) []
+
+abbrev pub group_spec : Group → GroupSpec
+group_spec g = record { by = list_or_empty (argument_in g); copy = list_or_empty (value_in g (codes "copy-fields")); sum = list_or_empty (value_in g (codes "sum-fields")) }
+
+-- its expression stands beside it
+abbrev pub join_spec : Group → JoinSpec
+join_spec g = record {
+  target_key = key_at (list_or_empty (value_in g (codes "keys"))) 0;
+  source_key = key_at (list_or_empty (value_in g (codes "keys"))) 1;
+  fields = option_map pieces (value_in g (codes "fields"));
+  force = has_bare g (codes "force");
+  test = None;
+  prefix = unwrap_or (value_in g (codes "prefix")) [];
+}
+
+abbrev pub form_from : Option Text → Text → Option OutForm
+form_from None name = form_by_ending name
+form_from (Some s) name = form_named s
+
+-- by the option, else by the name
+abbrev pub out_form : Group → Option OutForm
+out_form g = form_from (value_in g (codes "format")) (argument_text g)
+
+abbrev pub rule_from : Option Text → Rattle.grid_base.specs.declared.kinds.OverlapRule.OverlapRule
+rule_from None = rule.MaxArea
+rule_from (Some s) = unwrap_or (rule_of s) rule.MaxArea
+
+-- ## Commands
+
+-- a command whose expression stands beside it, by its text
+pub record CommandWords : Type 0 where
+  pub command : Command
+  pub test : Option Text
+
+-- the sources, boxes and commands of a chain so far, and whether one reads standard input
+pub record SoFar : Type 0 where
+  pub sources : List SourceWord
+  pub boxes : List Corners
+  pub commands : List CommandWords
+  pub reads_standard : Bool
+
+-- a command's source: the next box, the next file, or a layer
+abbrev pub origin_of : ℕ → ℕ → Group → Origin
+origin_of sources boxes g =
+    if is_some g.area then origin.Area boxes
+    else if names_file (argument_text g) then origin.Source (sources + 1)
+    else origin.Layer (argument_text g)
+
+abbrev pub action_of : ℕ → ℕ → Keyword → Group → Action
+action_of sources boxes k.Clip g = action.Clip (origin_of sources boxes g)
+action_of sources boxes k.Erase g = action.Erase (origin_of sources boxes g)
+action_of sources boxes k.Dissolve g = action.Dissolve (group_spec g) (has_bare g (codes "group-points"))
+action_of sources boxes k.Clean g = action.Clean (rule_from (value_in g (codes "overlap-rule"))) (has_bare g (codes "allow-empty"))
+action_of sources boxes k.Mosaic g = action.Mosaic
+action_of sources boxes k.InnerLines g = action.InnerLines
+action_of sources boxes k.Explode g = action.Explode
+action_of sources boxes k.Lines g = action.Lines (list_or_empty (argument_in g))
+action_of sources boxes k.Join g = action.Join (origin_of sources boxes g) (join_spec g)
+action_of sources boxes k.Filter g = action.Filter None (has_bare g (codes "invert")) (has_bare g (codes "remove-empty"))
+action_of sources boxes k.FilterFields g = action.FilterFields (list_or_empty (argument_in g))
+action_of sources boxes k.RenameFields g = action.RenameFields g.renames
+action_of sources boxes k.Split g = action.Split (argument_in g)
+action_of sources boxes k.MergeLayers g = action.MergeLayers (has_bare g (codes "force"))
+action_of sources boxes k.Write g = action.Write (argument_text g) (is_standard (argument_text g)) (unwrap_or (out_form g) form.Geo)
+
+abbrev pub command_words : ℕ → ℕ → Keyword → Group → CommandWords
+command_words sources boxes keyword g = record {
+  command = record { target = target_of (value_in g (codes "target")); name = value_in g (codes "name"); keep = has_bare g (codes "+"); action = action_of sources boxes keyword g };
+  test = g.test;
+}
+
+-- ## What a command lacks, and what it adds
+
+abbrev pub lacks_argument : Keyword → Group → Bool
+lacks_argument k.Clip g = not (is_some (argument_in g) || is_some g.area)
+lacks_argument k.Erase g = not (is_some (argument_in g) || is_some g.area)
+lacks_argument k.Join g = not (is_some (argument_in g) && is_some (value_in g (codes "keys")))
+lacks_argument k.Filter g = not (is_some (argument_in g) || has_bare g (codes "remove-empty"))
+lacks_argument k.RenameFields g = not (is_some (argument_in g))
+lacks_argument k.Write g = not (is_some (argument_in g))
+lacks_argument _ g = false
+
+abbrev pub lacks_form : Keyword → Group → Bool
+lacks_form k.Write g = not (is_some (out_form g))
+lacks_form _ g = false
+
+abbrev pub takes_source : Keyword → Bool
+takes_source k.Clip = true
+takes_source k.Erase = true
+takes_source k.Join = true
+takes_source _ = false
+
+-- the file that the command of this number reads
+abbrev pub source_from : ℕ → Bool → Text → Option Text → Option SourceWord
+source_from number takes name fields =
+    if takes && names_file name
+    then Some (record { name = name; standard = is_standard name; owner = owner.Command number; string_fields = list_or_empty fields })
+    else None
+
+abbrev pub source_of : ℕ → Keyword → Group → Option SourceWord
+source_of number keyword g = source_from number (takes_source keyword) (argument_text g) (value_in g (codes "string-fields"))
+
+abbrev pub with_command : SoFar → Keyword → Group → SoFar
+with_command s keyword g = record {
+  sources = s.sources ++ option_to_list (source_of (length s.commands + 1) keyword g);
+  boxes = s.boxes ++ option_to_list g.area;
+  commands = s.commands ++ command_words (length s.sources) (length s.boxes) keyword g ∷ [];
+  reads_standard = g.reads_standard;
+}

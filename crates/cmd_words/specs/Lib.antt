@@ -1,0 +1,16 @@
+pub mod Rows
+pub mod Seen
+pub mod Texts
+pub mod Expressions
+pub mod Settings
+pub mod Groups
+pub mod Steps
+pub mod Values
+pub mod Areas
+pub mod Options
+pub mod ReadsAs
+pub mod Chains
+pub mod Words
+pub mod Cuts
+pub mod Tells
+pub mod Limits

@@ -1,0 +1,112 @@
+-- One word of a group: an option, a bare word or an argument; and why it is refused.
+use Rattle.std.specs.Prelude.{ℕ, Bool, true, false, not, ◌&&◌, ◌||◌, [], ◌∷◌, ◌++◌, Option, Some, None, is_some, Result, Ok, Err, if◌then◌else◌}
+use Rattle.cmd_words.specs.declared.fault.ExprWhy.{ExprWhy}
+use Rattle.cmd_words.specs.declared.fault.WordWhy.{WordWhy}
+use Rattle.cmd_words.specs.declared.fault.WordWhy.TheVariants as why
+use Rattle.cmd_words.specs.declared.commands.ValueForm.{ValueForm}
+use Rattle.cmd_words.specs.declared.commands.ValueForm.TheVariants as value
+use Rattle.cmd_words.specs.declared.commands.ArgumentForm.{ArgumentForm}
+use Rattle.cmd_words.specs.declared.commands.ArgumentForm.TheVariants as argument
+use Rattle.cmd_words.specs.declared.word_groups.Word.{Word}
+use Rattle.cmd_words.specs.Rows.{Text, Form, form_of, has_name}
+use Rattle.cmd_words.specs.Steps.{on_ok}
+use Rattle.cmd_words.specs.Expressions.{Refusals}
+use Rattle.cmd_words.specs.Texts.{is_empty, has_empty_piece, option_in, is_standard, names_file}
+use Rattle.cmd_words.specs.Values.{rule_of, form_named, is_pair, renames_of}
+use Rattle.cmd_words.specs.Areas.{places_of, area_of}
+use Rattle.cmd_words.specs.Groups.{Group, value_in, has_bare, argument_in}
+
+-- a group with the next word, or why that is refused
+abbrev pub Step : Type 0
+Step = Result Group WordWhy
+
+abbrev pub unless : Bool → WordWhy → Group → Step
+unless accepted w g = if accepted then Ok g else Err w
+
+-- ## Values
+
+-- an empty value, or a list with an empty item
+abbrev pub lacks_value : ValueForm → Text → Bool
+lacks_value value.List s = has_empty_piece s
+lacks_value value.Keys s = has_empty_piece s
+lacks_value _ s = is_empty s
+
+abbrev pub with_test : Option (ℕ × ExprWhy) → Text → Group → Step
+with_test None s g = Ok (record g { test = Some s })
+with_test (Some f) s g = Err (why.BadExpression f.0 f.1)
+
+abbrev pub take_value : Refusals → ℕ → ValueForm → Text → Group → Step
+take_value refuses places value.Text s g = Ok g
+take_value refuses places value.List s g = Ok g
+take_value refuses places value.Keys s g = unless (is_pair s) why.BadChoice g
+take_value refuses places value.Precision s g = unless (is_some (places_of s)) why.BadPrecision g
+take_value refuses places value.Rule s g = unless (is_some (rule_of s)) why.BadChoice g
+take_value refuses places value.Format s g = unless (is_some (form_named s)) why.BadChoice g
+take_value refuses places value.Area s g = on_ok (area_of places s) (λ a. Ok (record g { area = Some a }))
+take_value refuses places value.Expression s g = with_test (refuses s) s g
+
+-- ## Options and bare words
+
+abbrev pub is_area : ValueForm → Bool
+is_area value.Area = true
+is_area _ = false
+
+-- a known option stands once, has a value, and does not stand beside an argument in whose place it is
+abbrev pub take_known : Refusals → ℕ → Option ValueForm → Text × Text → Group → Step
+take_known refuses places None o g = Err why.UnknownOption
+take_known refuses places (Some v) o g =
+    if is_some (value_in g o.0) then Err why.OptionTwice
+    else if lacks_value v o.1 then Err why.MissingValue
+    else if is_area v && is_some (argument_in g) then Err why.ExtraWord
+    else take_value refuses places v o.1 (record g { options = g.options ++ record { name = o.0; value = o.1 } ∷ [] })
+
+abbrev pub take_bare : Text → Group → Step
+take_bare w g = if has_bare g w then Err why.OptionTwice else Ok (record g { bare = g.bare ++ w ∷ [] })
+
+-- ## Arguments
+
+abbrev pub is_list : ArgumentForm → Bool
+is_list argument.List = true
+is_list argument.Renames = true
+is_list _ = false
+
+abbrev pub is_read : ArgumentForm → Bool
+is_read argument.Files = true
+is_read argument.Source = true
+is_read _ = false
+
+-- one argument may stand, or any number of files, and none in whose place a box is
+abbrev pub has_room : ArgumentForm → Group → Bool
+has_room argument.Files g = true
+has_room argument.Nothing g = false
+has_room _ g = not (is_some (argument_in g) || is_some g.area)
+
+abbrev pub take_text : Refusals → ArgumentForm → Text → Group → Step
+take_text refuses argument.Files s g = unless (names_file s) why.UnsupportedFile g
+take_text refuses argument.Renames s g = on_ok (renames_of s) (λ rs. Ok (record g { renames = rs }))
+take_text refuses argument.Expression s g = with_test (refuses s) s g
+take_text refuses _ s g = Ok g
+
+abbrev pub with_argument : ArgumentForm → Word → Group → Group
+with_argument a w g = record g { arguments = g.arguments ++ w ∷ []; reads_standard = g.reads_standard || (is_read a && is_standard w.text) }
+
+-- standard input is read once in a chain
+abbrev pub take_argument : Refusals → ArgumentForm → Word → Group → Step
+take_argument refuses a w g =
+    if is_list a && has_empty_piece w.text then Err why.MissingValue
+    else if not (has_room a g) then Err why.ExtraWord
+    else if (is_read a && is_standard w.text) && g.reads_standard then Err why.ExtraWord
+    else take_text refuses a w.text (with_argument a w g)
+
+-- ## Words
+
+abbrev pub take_plain : Refusals → Form → Word → Group → Step
+take_plain refuses form w g =
+    if has_name form.bare w.text then take_bare w.text g else take_argument refuses form.argument w g
+
+abbrev pub take_either : Refusals → ℕ → Form → Option (Text × Text) → Word → Group → Step
+take_either refuses places form None w g = take_plain refuses form w g
+take_either refuses places form (Some o) w g = take_known refuses places (form_of form.options o.0) o g
+
+abbrev pub take_word : Refusals → ℕ → Form → Group → Word → Step
+take_word refuses places form g w = take_either refuses places form (option_in form.argument w.text) w g

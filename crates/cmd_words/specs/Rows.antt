@@ -1,0 +1,74 @@
+-- What each command takes: its argument, its options and its bare words.
+use Rattle.std.specs.Prelude.{ℕ, Bool, List, [], ◌∷◌, find, codes, Option, option_map}
+use Rattle.std.specs.List.{list_any}
+use Rattle.std.specs.Str.{bytes_eq}
+use Rattle.cmd_words.specs.declared.commands.Keyword.{Keyword}
+use Rattle.cmd_words.specs.declared.commands.Keyword.TheVariants as keyword
+use Rattle.cmd_words.specs.declared.commands.ValueForm.{ValueForm}
+use Rattle.cmd_words.specs.declared.commands.ValueForm.TheVariants as value
+use Rattle.cmd_words.specs.declared.commands.ArgumentForm.{ArgumentForm}
+use Rattle.cmd_words.specs.declared.commands.ArgumentForm.TheVariants as argument
+
+-- a text, by its bytes
+abbrev pub Text : Type 0
+Text = List ℕ
+
+-- one of the names is this
+abbrev pub has_name : List Text → Text → Bool
+has_name names name = list_any (λ (n : Text). bytes_eq n name) names
+
+-- what may stand in a group of words
+pub record Form : Type 0 where
+  pub argument : ArgumentForm
+  pub options : List (Text × ValueForm)
+  pub bare : List Text
+
+pub record Row : Type 0 where
+  pub word : Text
+  pub keyword : Keyword
+  pub form : Form
+
+abbrev pub form_of : List (Text × ValueForm) → Text → Option ValueForm
+form_of options name = option_map (λ (o : Text × ValueForm). o.1) (find (λ (o : Text × ValueForm). bytes_eq o.0 name) options)
+
+abbrev pub row_named : List Row → Text → Option Row
+row_named rows word = find (λ (r : Row). bytes_eq r.word word) rows
+
+-- ## The options, and the rows
+
+abbrev pub TARGET : Text × ValueForm
+TARGET = (codes "target", value.List)
+
+abbrev pub NAME : Text × ValueForm
+NAME = (codes "name", value.Text)
+
+abbrev pub STRING_FIELDS : Text × ValueForm
+STRING_FIELDS = (codes "string-fields", value.List)
+
+abbrev pub import_form : Form
+import_form = record { argument = argument.Files; options = (codes "precision", value.Precision) ∷ STRING_FIELDS ∷ []; bare = codes "combine-files" ∷ [] }
+
+abbrev pub row : Text → Keyword → ArgumentForm → List (Text × ValueForm) → List Text → Row
+row w k a os bs = record { word = w; keyword = k; form = record { argument = a; options = os; bare = bs } }
+
+unfoldable pub rows : List Row
+rows =
+    row (codes "-clip") keyword.Clip argument.Source ((codes "bbox", value.Area) ∷ TARGET ∷ NAME ∷ []) (codes "+" ∷ [])
+    ∷ row (codes "-erase") keyword.Erase argument.Source ((codes "bbox", value.Area) ∷ TARGET ∷ NAME ∷ []) (codes "+" ∷ [])
+    ∷ row (codes "-dissolve") keyword.Dissolve argument.List ((codes "sum-fields", value.List) ∷ (codes "copy-fields", value.List) ∷ TARGET ∷ NAME ∷ []) (codes "group-points" ∷ codes "+" ∷ [])
+    ∷ row (codes "-clean") keyword.Clean argument.Nothing ((codes "overlap-rule", value.Rule) ∷ TARGET ∷ NAME ∷ []) (codes "allow-empty" ∷ codes "+" ∷ [])
+    ∷ row (codes "-mosaic") keyword.Mosaic argument.Nothing (TARGET ∷ NAME ∷ []) (codes "+" ∷ [])
+    ∷ row (codes "-innerlines") keyword.InnerLines argument.Nothing (TARGET ∷ NAME ∷ []) (codes "+" ∷ [])
+    ∷ row (codes "-explode") keyword.Explode argument.Nothing (TARGET ∷ NAME ∷ []) (codes "+" ∷ [])
+    ∷ row (codes "-lines") keyword.Lines argument.List (TARGET ∷ NAME ∷ []) (codes "+" ∷ [])
+    ∷ row (codes "-join") keyword.Join argument.Source ((codes "keys", value.Keys) ∷ (codes "fields", value.List) ∷ (codes "where", value.Expression) ∷ (codes "prefix", value.Text) ∷ STRING_FIELDS ∷ TARGET ∷ []) (codes "force" ∷ [])
+    ∷ row (codes "-filter") keyword.Filter argument.Expression (TARGET ∷ NAME ∷ []) (codes "invert" ∷ codes "remove-empty" ∷ codes "+" ∷ [])
+    ∷ row (codes "-filter-fields") keyword.FilterFields argument.List (TARGET ∷ []) []
+    ∷ row (codes "-rename-fields") keyword.RenameFields argument.Renames (TARGET ∷ []) []
+    ∷ row (codes "-split") keyword.Split argument.Text (TARGET ∷ []) (codes "+" ∷ [])
+    ∷ row (codes "-merge-layers") keyword.MergeLayers argument.Nothing (TARGET ∷ NAME ∷ []) (codes "force" ∷ codes "+" ∷ [])
+    ∷ row (codes "-o") keyword.Write argument.Text ((codes "format", value.Format) ∷ TARGET ∷ []) (codes "force" ∷ [])
+    ∷ []
+
+abbrev pub row_of : Text → Option Row
+row_of word = row_named rows word

@@ -1,0 +1,221 @@
+ghost use Rattle.std.specs.Prelude.{◌≡◌, ◌+◌, IfOk, option_map, unwrap_or, is_some, [], List, ℕ, length};
+ghost use Rattle.std.specs.Option.{option_copied};
+ghost use Rattle.cmd_words.specs.Texts.{pieces};
+ghost use Rattle.cmd_words.specs.Chains.{list_or_empty, target_of, argument_text, key_at, group_spec, join_spec, out_form, rule_from, origin_of, action_of, lacks_argument, lacks_form, takes_source};
+
+use crate::commands::Keyword;
+use crate::job::{Action, Origin, OutForm, Target};
+use crate::texts::{form_by_ending, is_standard, names_file, pieces};
+use crate::values::{form_named, rule_of};
+use crate::word_groups::Group;
+use grid_base::OverlapRule;
+use io_core::{NameList, Text};
+use std::alloc::{AllocError, Global};
+use table_ops::{GroupSpec, JoinSpec};
+
+/// What a command does, where its chain so far has so many sources and boxes. Its expression is left out.
+pub(crate) fn action(
+    alloc: Global,
+    sources: u32,
+    boxes: u32,
+    keyword: Keyword,
+    group: &mut Group,
+) -> Result<Action, AllocError>
+    ensures exact { IfOk result (λ a. a ≡ action_of sources boxes keyword group.old) }
+    ensures test { group.new.test ≡ group.old.test }
+{
+    Ok(match keyword {
+        Keyword::Clip => Action::Clip {
+            from: origin(alloc, sources, boxes, group)?,
+        },
+        Keyword::Erase => Action::Erase {
+            from: origin(alloc, sources, boxes, group)?,
+        },
+        Keyword::Dissolve => Action::Dissolve {
+            spec: group_spec(alloc, group)?,
+            group_points: group.has_bare("group-points"),
+        },
+        Keyword::Clean => Action::Clean {
+            rule: rule_from(group.value("overlap-rule")),
+            allow_empty: group.has_bare("allow-empty"),
+        },
+        Keyword::Mosaic => Action::Mosaic,
+        Keyword::InnerLines => Action::InnerLines,
+        Keyword::Explode => Action::Explode,
+        Keyword::Lines => Action::Lines {
+            fields: list_or_empty(alloc, group.argument())?,
+        },
+        Keyword::Join => Action::Join {
+            from: origin(alloc, sources, boxes, group)?,
+            spec: join_spec(alloc, group)?,
+        },
+        Keyword::Filter => Action::Filter {
+            test: None,
+            invert: group.has_bare("invert"),
+            remove_empty: group.has_bare("remove-empty"),
+        },
+        Keyword::FilterFields => Action::FilterFields {
+            fields: list_or_empty(alloc, group.argument())?,
+        },
+        Keyword::RenameFields => Action::RenameFields {
+            pairs: group.take_renames(alloc),
+        },
+        Keyword::Split => Action::Split {
+            field: copy_of(alloc, group.argument())?,
+        },
+        Keyword::MergeLayers => Action::MergeLayers {
+            force: group.has_bare("force"),
+        },
+        Keyword::Write => write(alloc, group)?,
+    })
+}
+
+fn write(alloc: Global, group: &Group) -> Result<Action, AllocError>
+    ensures exact { IfOk result (λ a. a ≡ action_of 0 0 Keyword.Write group.now) }
+{
+    let name = argument_text(group);
+    Ok(Action::Write {
+        to: Text::of(alloc, name)?,
+        standard: is_standard(name),
+        form: out_form(group).unwrap_or(OutForm::Geo),
+    })
+}
+
+fn origin(alloc: Global, sources: u32, boxes: u32, group: &Group) -> Result<Origin, AllocError>
+    ensures exact { IfOk result (λ o. o ≡ origin_of sources boxes group.now) }
+{
+    if group.area().is_some() {
+        return Ok(Origin::Area(boxes));
+    }
+    let name = argument_text(group);
+    if names_file(name) {
+        let next = sources.checked_add(1).ok_or(AllocError)?;
+        return Ok(Origin::Source(next));
+    }
+    Ok(Origin::Layer(Text::of(alloc, name)?))
+}
+
+fn group_spec(alloc: Global, group: &Group) -> Result<GroupSpec, AllocError>
+    ensures exact { IfOk result (λ s. s ≡ group_spec group.now) }
+{
+    Ok(GroupSpec {
+        by: list_or_empty(alloc, group.argument())?,
+        copy: list_or_empty(alloc, group.value("copy-fields"))?,
+        sum: list_or_empty(alloc, group.value("sum-fields"))?,
+    })
+}
+
+fn join_spec(alloc: Global, group: &Group) -> Result<JoinSpec, AllocError>
+    ensures exact { IfOk result (λ s. s ≡ join_spec group.now) }
+{
+    let keys = list_or_empty(alloc, group.value("keys"))?;
+    let fields = match group.value("fields") {
+        Some(fields) => Some(pieces(alloc, fields)?),
+        None => None,
+    };
+    Ok(JoinSpec {
+        target_key: key_at(alloc, &keys, 0)?,
+        source_key: key_at(alloc, &keys, 1)?,
+        fields,
+        force: group.has_bare("force"),
+        test: None,
+        prefix: Text::of(alloc, group.value("prefix").unwrap_or(""))?,
+    })
+}
+
+fn key_at(alloc: Global, keys: &NameList, place: u32) -> Result<Text, AllocError>
+    ensures exact { IfOk result (λ t. t ≡ key_at keys.now place) }
+{
+    match keys.get(place) {
+        Some(key) => Text::of(alloc, key.as_str()),
+        None => Text::of(alloc, ""),
+    }
+}
+
+fn rule_from(value: Option<&str>) -> OverlapRule
+    ensures exact { result ≡ rule_from (option_copied value.entry) }
+{
+    match value {
+        None => OverlapRule::MaxArea,
+        Some(value) => rule_of(value).unwrap_or(OverlapRule::MaxArea),
+    }
+}
+
+/// The names of a list that may be absent.
+pub(crate) fn list_or_empty(alloc: Global, list: Option<&str>) -> Result<NameList, AllocError>
+    ensures exact { IfOk result (λ names. names ≡ list_or_empty (option_copied list.entry)) }
+{
+    match list {
+        None => Ok(NameList::new(alloc)),
+        Some(list) => pieces(alloc, list),
+    }
+}
+
+pub(crate) fn copy_of(alloc: Global, text: Option<&str>) -> Result<Option<Text>, AllocError>
+    ensures exact { IfOk result (λ t. t ≡ option_copied text.entry) }
+{
+    Ok(match text {
+        None => None,
+        Some(text) => Some(Text::of(alloc, text)?),
+    })
+}
+
+/// The layers that the option `target=` names.
+pub(crate) fn target_of(alloc: Global, value: Option<&str>) -> Result<Target, AllocError>
+    ensures exact { IfOk result (λ t. t ≡ target_of (option_copied value.entry)) }
+{
+    Ok(match value {
+        None => Target::Default,
+        Some(value) => {
+            if value == "*" {
+                Target::All
+            } else {
+                Target::Names(pieces(alloc, value)?)
+            }
+        }
+    })
+}
+
+/// The first argument, or the empty text.
+pub(crate) fn argument_text(group: &Group) -> &str
+    ensures exact { result.now ≡ argument_text group.now }
+{
+    group.argument().unwrap_or("")
+}
+
+/// The form of an output, by its option, else by its name.
+pub(crate) fn out_form(group: &Group) -> Option<OutForm>
+    ensures exact { result ≡ out_form group.now }
+{
+    match group.value("format") {
+        Some(form) => form_named(form),
+        None => form_by_ending(argument_text(group)),
+    }
+}
+
+/// Whether the command lacks an argument, or an option, that it needs.
+pub(crate) fn lacks_argument(keyword: Keyword, group: &Group) -> bool
+    ensures exact { result ≡ lacks_argument keyword group.now }
+{
+    match keyword {
+        Keyword::Clip | Keyword::Erase => !(group.has_argument() || group.area().is_some()),
+        Keyword::Join => !(group.has_argument() && group.has_option("keys")),
+        Keyword::Filter => !(group.has_argument() || group.has_bare("remove-empty")),
+        Keyword::RenameFields | Keyword::Write => !group.has_argument(),
+        _ => false,
+    }
+}
+
+/// Whether nothing tells the form of an output.
+pub(crate) fn lacks_form(keyword: Keyword, group: &Group) -> bool
+    ensures exact { result ≡ lacks_form keyword group.now }
+{
+    matches!(keyword, Keyword::Write) && out_form(group).is_none()
+}
+
+/// Whether the argument of the command may name a file for reading.
+pub(crate) fn takes_source(keyword: Keyword) -> bool
+    ensures exact { result ≡ takes_source keyword }
+{
+    matches!(keyword, Keyword::Clip | Keyword::Erase | Keyword::Join)
+}

@@ -1,0 +1,221 @@
+ghost use Rattle.std.specs.Prelude.{◌≡◌, option_map, map};
+ghost use Rattle.cmd_words.specs.Rows.{row_of, row_named, form_of, has_name};
+ghost use Rattle.cmd_words.specs.Seen.{row_seen, options_seen, names_seen};
+
+/// A command.
+#[derive(Clone, Copy)]
+pub(crate) enum Keyword {
+    Clip,
+    Erase,
+    Dissolve,
+    Clean,
+    Mosaic,
+    InnerLines,
+    Explode,
+    Lines,
+    Join,
+    Filter,
+    FilterFields,
+    RenameFields,
+    Split,
+    MergeLayers,
+    Write,
+}
+
+/// What the argument of a group is.
+#[derive(Clone, Copy)]
+pub(crate) enum ArgumentForm {
+    Nothing,
+    /// One file or more.
+    Files,
+    /// A file or a layer.
+    Source,
+    List,
+    Expression,
+    Renames,
+    Text,
+}
+
+/// What the value of an option is.
+#[derive(Clone, Copy)]
+pub(crate) enum ValueForm {
+    Text,
+    List,
+    /// A list of two names.
+    Keys,
+    Precision,
+    Rule,
+    Format,
+    Area,
+    Expression,
+}
+
+/// An option: its name, and what its value is.
+pub(crate) type OptionForm = (&'static str, ValueForm);
+
+/// What may stand in a group of words.
+#[derive(Clone, Copy)]
+pub(crate) struct GroupForm {
+    pub argument: ArgumentForm,
+    pub options: &'static [OptionForm],
+    pub bare: &'static [&'static str],
+}
+
+#[derive(Clone, Copy)]
+pub(crate) struct CommandRow {
+    pub word: &'static str,
+    pub keyword: Keyword,
+    pub form: GroupForm,
+}
+
+const TARGET: OptionForm = ("target", ValueForm::List);
+
+const NAME: OptionForm = ("name", ValueForm::Text);
+
+const PRECISION: OptionForm = ("precision", ValueForm::Precision);
+
+const STRING_FIELDS: OptionForm = ("string-fields", ValueForm::List);
+
+const BOX: OptionForm = ("bbox", ValueForm::Area);
+
+const SUM_FIELDS: OptionForm = ("sum-fields", ValueForm::List);
+
+const COPY_FIELDS: OptionForm = ("copy-fields", ValueForm::List);
+
+const RULE: OptionForm = ("overlap-rule", ValueForm::Rule);
+
+const KEYS: OptionForm = ("keys", ValueForm::Keys);
+
+const FIELDS: OptionForm = ("fields", ValueForm::List);
+
+const WHERE: OptionForm = ("where", ValueForm::Expression);
+
+const PREFIX: OptionForm = ("prefix", ValueForm::Text);
+
+const FORMAT: OptionForm = ("format", ValueForm::Format);
+
+/// The import at the front of a chain.
+pub(crate) static IMPORT: GroupForm = GroupForm {
+    argument: ArgumentForm::Files,
+    options: &[PRECISION, STRING_FIELDS],
+    bare: &["combine-files"],
+};
+
+macro_rules! row {
+    ($word:literal, $keyword:ident, $argument:ident, [$($option:ident),*], [$($bare:literal),*]) => {
+        CommandRow {
+            word: $word,
+            keyword: Keyword::$keyword,
+            form: GroupForm {
+                argument: ArgumentForm::$argument,
+                options: &[$($option),*],
+                bare: &[$($bare),*],
+            },
+        }
+    };
+}
+
+/// The commands: word, meaning, argument, options and bare words. A new one is a row here and an arm of
+/// `action`.
+static COMMANDS: [CommandRow; 15] = [
+    row!("-clip", Clip, Source, [BOX, TARGET, NAME], ["+"]),
+    row!("-erase", Erase, Source, [BOX, TARGET, NAME], ["+"]),
+    row!(
+        "-dissolve",
+        Dissolve,
+        List,
+        [SUM_FIELDS, COPY_FIELDS, TARGET, NAME],
+        ["group-points", "+"]
+    ),
+    row!(
+        "-clean",
+        Clean,
+        Nothing,
+        [RULE, TARGET, NAME],
+        ["allow-empty", "+"]
+    ),
+    row!("-mosaic", Mosaic, Nothing, [TARGET, NAME], ["+"]),
+    row!("-innerlines", InnerLines, Nothing, [TARGET, NAME], ["+"]),
+    row!("-explode", Explode, Nothing, [TARGET, NAME], ["+"]),
+    row!("-lines", Lines, List, [TARGET, NAME], ["+"]),
+    row!(
+        "-join",
+        Join,
+        Source,
+        [KEYS, FIELDS, WHERE, PREFIX, STRING_FIELDS, TARGET],
+        ["force"]
+    ),
+    row!(
+        "-filter",
+        Filter,
+        Expression,
+        [TARGET, NAME],
+        ["invert", "remove-empty", "+"]
+    ),
+    row!("-filter-fields", FilterFields, List, [TARGET], []),
+    row!("-rename-fields", RenameFields, Renames, [TARGET], []),
+    row!("-split", Split, Text, [TARGET], ["+"]),
+    row!(
+        "-merge-layers",
+        MergeLayers,
+        Nothing,
+        [TARGET, NAME],
+        ["force", "+"]
+    ),
+    row!("-o", Write, Text, [FORMAT, TARGET], ["force"]),
+];
+
+/// The row of a command word.
+pub(crate) fn row_of(word: &str) -> Option<&'static CommandRow>
+    ensures exact { option_map (λ r. row_seen r.now) result ≡ row_of word.now }
+{
+    row_named(&COMMANDS, word)
+}
+
+fn row_named<'a>(rows: &'a [CommandRow], word: &str) -> Option<&'a CommandRow>
+    ensures exact { option_map (λ r. row_seen r.now) result ≡ row_named (map row_seen rows.now) word.now }
+{
+    for row in rows {
+        if row.word == word {
+            return Some(row);
+        }
+    }
+    None
+}
+
+impl GroupForm {
+    /// What the value of the option of this name is.
+    pub(crate) fn value_form(&self, name: &str) -> Option<ValueForm>
+        ensures exact { result ≡ form_of (options_seen self.now.options.now) name.now }
+    {
+        form_named(self.options, name)
+    }
+
+    pub(crate) fn has_bare(&self, word: &str) -> bool
+        ensures exact { result ≡ has_name (names_seen self.now.bare.now) word.now }
+    {
+        is_among(self.bare, word)
+    }
+}
+
+fn form_named(options: &[OptionForm], name: &str) -> Option<ValueForm>
+    ensures exact { result ≡ form_of (options_seen options.now) name.now }
+{
+    for option in options {
+        if option.0 == name {
+            return Some(option.1);
+        }
+    }
+    None
+}
+
+fn is_among(names: &[&str], name: &str) -> bool
+    ensures exact { result ≡ has_name (names_seen names.now) name.now }
+{
+    for known in names {
+        if *known == name {
+            return true;
+        }
+    }
+    false
+}

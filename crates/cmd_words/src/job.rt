@@ -1,0 +1,133 @@
+use crate::chain_lists::{CommandList, SourceList};
+use expr_lang::Expr;
+use grid_base::{BoxList, OverlapRule};
+use io_core::{NameList, Text};
+use table_ops::{GroupSpec, JoinSpec, RenameList};
+
+/// What a command line asks for.
+#[derive(Drop)]
+pub enum Job {
+    /// A made-up mosaic of `n` by `n` cells, as `seed` draws them.
+    Synth { seed: u32, n: u32 },
+    Chain(Chain),
+}
+
+/// Sources to read, and commands on what they hold.
+#[derive(Drop)]
+pub struct Chain {
+    /// The decimal places of the grid.
+    pub places: u8,
+    /// Sources are counted from 1.
+    pub sources: SourceList,
+    /// Boxes are counted from 0.
+    pub boxes: BoxList,
+    /// Commands are counted from 1.
+    pub commands: CommandList,
+}
+
+/// A file or standard input, to be read.
+#[derive(Drop)]
+pub struct SourceWord {
+    pub name: Text,
+    /// The word was `-`, and standard input is meant.
+    pub standard: bool,
+    pub owner: Owner,
+    /// The columns of comma-separated text that stay texts.
+    pub string_fields: NameList,
+}
+
+/// What a source is read for.
+#[derive(Clone, Copy, Debug, PartialEq, Eq)]
+pub enum Owner {
+    Import,
+    /// The command of this number.
+    Command(u32),
+}
+
+#[derive(Drop)]
+pub struct Command {
+    pub target: Target,
+    /// The name of the output.
+    pub name: Option<Text>,
+    /// `+` stands: the target stays beside the output.
+    pub keep: bool,
+    pub action: Action,
+}
+
+/// The layers that a command works on.
+#[derive(Drop)]
+pub enum Target {
+    Default,
+    All,
+    Names(NameList),
+}
+
+/// What a command clips, erases or joins by.
+#[derive(Drop)]
+pub enum Origin {
+    /// The layer of this name.
+    Layer(Text),
+    /// The source of this number.
+    Source(u32),
+    /// The box of this number.
+    Area(u32),
+}
+
+/// The format of an output.
+#[derive(Clone, Copy, Debug, PartialEq, Eq)]
+pub enum OutForm {
+    Geo,
+    Topo,
+    Csv,
+}
+
+#[derive(Drop)]
+pub enum Action {
+    Clip {
+        from: Origin,
+    },
+    Erase {
+        from: Origin,
+    },
+    Dissolve {
+        spec: GroupSpec,
+        group_points: bool,
+    },
+    Clean {
+        rule: OverlapRule,
+        allow_empty: bool,
+    },
+    Mosaic,
+    InnerLines,
+    Lines {
+        fields: NameList,
+    },
+    Explode,
+    Join {
+        from: Origin,
+        spec: JoinSpec,
+    },
+    Filter {
+        test: Option<Expr>,
+        invert: bool,
+        remove_empty: bool,
+    },
+    FilterFields {
+        fields: NameList,
+    },
+    RenameFields {
+        pairs: RenameList,
+    },
+    Split {
+        field: Option<Text>,
+    },
+    MergeLayers {
+        force: bool,
+    },
+    /// `standard` says that the word was `-`, and the standard stream is meant.
+    Write {
+        to: Text,
+        standard: bool,
+        form: OutForm,
+    },
+}

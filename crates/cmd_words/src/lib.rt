@@ -1,0 +1,33 @@
+//! The words of a command line: the chain that they ask for, or the first that is refused and why.
+//!
+//! A chain is an import and commands. Each of them is a group of words: a command word, and the words up to the
+//! next one. `read_chain` goes over the groups in order, and in a group over its words:
+//!
+//! 1. `commands` has the table of what may stand in each group: a row for each command.
+//! 2. `options` takes one word: an option, a bare word or an argument; `texts`, `values`, `areas` and
+//!    `expressions` read what they hold.
+//! 3. `word_groups` keeps what a group holds so far.
+//! 4. `actions` makes a command of a whole group, and `so_far` adds it to the chain.
+#![tactic(auto)]
+
+mod actions;
+mod areas;
+mod chain_lists;
+mod commands;
+mod expressions;
+mod fault;
+mod job;
+mod options;
+mod reading;
+mod so_far;
+mod synth;
+#[cfg(test)]
+mod tests;
+mod texts;
+mod values;
+mod word_groups;
+
+pub use chain_lists::{CommandList, SourceList};
+pub use fault::{ExprWhy, WordFault, WordWhy};
+pub use job::{Action, Chain, Command, Job, Origin, OutForm, Owner, SourceWord, Target};
+pub use reading::read_chain;

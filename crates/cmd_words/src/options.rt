@@ -1,0 +1,205 @@
+ghost use Rattle.std.specs.Prelude.{◌≡◌, Some, None, false, IsTrue, ◌&&◌};
+ghost use Rattle.cmd_words.specs.Expressions.{Refusals, AreRefusals};
+ghost use Rattle.cmd_words.specs.Seen.{form_seen, parts_seen};
+ghost use Rattle.cmd_words.specs.Steps.{Makes};
+ghost use Rattle.cmd_words.specs.Texts.{has_empty_piece, is_standard};
+ghost use Rattle.cmd_words.specs.Options.{lacks_value, take_value, take_known, take_bare, has_room, is_list, is_read, is_area, take_text, take_argument, take_plain, take_word};
+
+use crate::areas::{places_of, read_area};
+use crate::commands::{ArgumentForm, GroupForm, ValueForm};
+use crate::expressions::Expression;
+use crate::fault::{Refusal, WordWhy};
+use crate::texts::{has_empty_piece, is_standard, names_file, option_in};
+use crate::values::{form_named, is_pair, read_renames, rule_of};
+use crate::word_groups::Group;
+use std::alloc::Global;
+
+/// Takes the next word of a group, of so many decimal places.
+///
+/// Errors: the first reason for which the word is refused.
+pub(crate) fn take_word(
+    alloc: Global,
+    places: u8,
+    form: &GroupForm,
+    group: &mut Group,
+    number: u32,
+    word: &str,
+) -> Result<(), Refusal>
+    ensures exact { (refuses : Refusals) → AreRefusals refuses → Makes (take_word refuses places (form_seen form.now) group.old (record { number = number; text = word.now })) group.new result }
+{
+    match option_in(form.argument, word) {
+        Some((name, value)) => take_known(alloc, places, form.value_form(name), group, name, value),
+        None => take_plain(alloc, form, group, number, word),
+    }
+}
+
+fn take_known(
+    alloc: Global,
+    places: u8,
+    form: Option<ValueForm>,
+    group: &mut Group,
+    name: &str,
+    value: &str,
+) -> Result<(), Refusal>
+    ensures exact { (refuses : Refusals) → AreRefusals refuses → Makes (take_known refuses places form (name.now, value.now) group.old) group.new result }
+{
+    let Some(form) = form else {
+        return Err(Refusal::Why(WordWhy::UnknownOption));
+    };
+    if group.has_option(name) {
+        return Err(Refusal::Why(WordWhy::OptionTwice));
+    }
+    if lacks_value(form, value) {
+        return Err(Refusal::Why(WordWhy::MissingValue));
+    }
+    if is_area(form) && group.has_argument() {
+        return Err(Refusal::Why(WordWhy::ExtraWord));
+    }
+    group.add_option(alloc, name, value)?;
+    take_value(alloc, places, form, group, value)
+}
+
+fn lacks_value(form: ValueForm, value: &str) -> bool
+    ensures exact { result ≡ lacks_value form value.now }
+{
+    match form {
+        ValueForm::List | ValueForm::Keys => has_empty_piece(value),
+        _ => value.is_empty(),
+    }
+}
+
+fn is_area(form: ValueForm) -> bool
+    ensures exact { result ≡ is_area form }
+{
+    matches!(form, ValueForm::Area)
+}
+
+fn take_value(
+    alloc: Global,
+    places: u8,
+    form: ValueForm,
+    group: &mut Group,
+    value: &str,
+) -> Result<(), Refusal>
+    ensures exact { (refuses : Refusals) → AreRefusals refuses → Makes (take_value refuses places form value.now group.old) group.new result }
+{
+    match form {
+        ValueForm::Text | ValueForm::List => Ok(()),
+        ValueForm::Keys => accepted_if(is_pair(alloc, value)?, WordWhy::BadChoice),
+        ValueForm::Precision => accepted_if(places_of(value).is_some(), WordWhy::BadPrecision),
+        ValueForm::Rule => accepted_if(rule_of(value).is_some(), WordWhy::BadChoice),
+        ValueForm::Format => accepted_if(form_named(value).is_some(), WordWhy::BadChoice),
+        ValueForm::Area => {
+            group.set_area(read_area(alloc, places, value)?);
+            Ok(())
+        }
+        ValueForm::Expression => {
+            group.set_test(Expression::read(alloc, value)?);
+            Ok(())
+        }
+    }
+}
+
+fn accepted_if(accepted: bool, why: WordWhy) -> Result<(), Refusal>
+    ensures yes { IsTrue accepted → result ≡ Ok tt }
+    ensures no { accepted ≡ false → result ≡ Err (Refusal.Why why) }
+{
+    if accepted {
+        Ok(())
+    } else {
+        Err(Refusal::Why(why))
+    }
+}
+
+fn take_plain(
+    alloc: Global,
+    form: &GroupForm,
+    group: &mut Group,
+    number: u32,
+    word: &str,
+) -> Result<(), Refusal>
+    ensures exact { (refuses : Refusals) → AreRefusals refuses → Makes (take_plain refuses (form_seen form.now) (record { number = number; text = word.now }) group.old) group.new result }
+{
+    if form.has_bare(word) {
+        take_bare(alloc, group, word)
+    } else {
+        take_argument(alloc, form.argument, group, number, word)
+    }
+}
+
+fn take_bare(alloc: Global, group: &mut Group, word: &str) -> Result<(), Refusal>
+    ensures exact { Makes (take_bare word.now group.old) group.new result }
+{
+    if group.has_bare(word) {
+        return Err(Refusal::Why(WordWhy::OptionTwice));
+    }
+    group.add_bare(alloc, word)?;
+    Ok(())
+}
+
+fn take_argument(
+    alloc: Global,
+    form: ArgumentForm,
+    group: &mut Group,
+    number: u32,
+    word: &str,
+) -> Result<(), Refusal>
+    ensures exact { (refuses : Refusals) → AreRefusals refuses → Makes (take_argument refuses form (record { number = number; text = word.now }) group.old) group.new result }
+{
+    if lacks_item(form, word) {
+        return Err(Refusal::Why(WordWhy::MissingValue));
+    }
+    if !has_room(form, group) {
+        return Err(Refusal::Why(WordWhy::ExtraWord));
+    }
+    let standard = reads_standard(form, word);
+    if standard && group.reads_standard() {
+        return Err(Refusal::Why(WordWhy::ExtraWord));
+    }
+    group.add_argument(alloc, number, word, standard)?;
+    take_text(alloc, form, group, word)
+}
+
+fn lacks_item(form: ArgumentForm, word: &str) -> bool
+    ensures exact { result ≡ (is_list form && has_empty_piece word.now) }
+{
+    matches!(form, ArgumentForm::List | ArgumentForm::Renames) && has_empty_piece(word)
+}
+
+fn reads_standard(form: ArgumentForm, word: &str) -> bool
+    ensures exact { result ≡ (is_read form && is_standard word.now) }
+{
+    matches!(form, ArgumentForm::Files | ArgumentForm::Source) && is_standard(word)
+}
+
+fn has_room(form: ArgumentForm, group: &Group) -> bool
+    ensures exact { result ≡ has_room form group.now }
+{
+    match form {
+        ArgumentForm::Files => true,
+        ArgumentForm::Nothing => false,
+        _ => !(group.has_argument() || group.area().is_some()),
+    }
+}
+
+fn take_text(
+    alloc: Global,
+    form: ArgumentForm,
+    group: &mut Group,
+    word: &str,
+) -> Result<(), Refusal>
+    ensures exact { (refuses : Refusals) → AreRefusals refuses → Makes (take_text refuses form word.now group.old) group.new result }
+{
+    match form {
+        ArgumentForm::Files => accepted_if(names_file(word), WordWhy::UnsupportedFile),
+        ArgumentForm::Renames => {
+            group.set_renames(read_renames(alloc, word)?);
+            Ok(())
+        }
+        ArgumentForm::Expression => {
+            group.set_test(Expression::read(alloc, word)?);
+            Ok(())
+        }
+        _ => Ok(()),
+    }
+}

@@ -1,0 +1,86 @@
+ghost use Rattle.std.specs.Prelude.{◌≡◌, ◌≤◌, IfOk, IfSome};
+ghost use Rattle.std.specs.Str.{all_ascii_digits};
+ghost use Rattle.cmd_words.specs.Limits.{KeepsLimits};
+ghost use Rattle.cmd_words.specs.Words.{number_in, read_seed, read_synth};
+ghost use Rattle.cmd_words.specs.Tells.{Tells, FitsJob};
+
+use crate::fault::{WordFault, WordWhy};
+use crate::job::Job;
+use io_core::Text;
+
+/// Reads the words behind `synth`: a seed and a size, in decimal digits.
+pub(crate) fn read_synth(words: &[Text]) -> Result<Job, WordFault>
+    ensures exact { Tells FitsJob (read_synth words.now) result }
+    ensures limits { IfOk result KeepsLimits }
+{
+    match words {
+        [] | [_] => Err(WordFault::Bad {
+            word: 1,
+            why: WordWhy::MissingArgument,
+        }),
+        [seed, size] => read_numbers(seed.as_str(), size.as_str()),
+        _ => Err(WordFault::Bad {
+            word: 4,
+            why: WordWhy::ExtraWord,
+        }),
+    }
+}
+
+fn read_numbers(seed: &str, size: &str) -> Result<Job, WordFault>
+    ensures exact { Tells FitsJob (read_seed (number_in 0 4294967295 seed.now) size.now) result }
+    ensures limits { IfOk result KeepsLimits }
+{
+    let Some(seed) = number_in(0, u32::MAX, seed) else {
+        return Err(WordFault::Bad {
+            word: 2,
+            why: WordWhy::BadNumber,
+        });
+    };
+    let Some(n) = number_in(1, 300, size) else {
+        return Err(WordFault::Bad {
+            word: 3,
+            why: WordWhy::BadNumber,
+        });
+    };
+    Ok(Job::Synth { seed, n })
+}
+
+fn number_in(low: u32, high: u32, digits: &str) -> Option<u32>
+    ensures exact { result ≡ number_in low high digits.now }
+    ensures range { IfSome result (λ n. (low ≤ n) × (n ≤ high)) }
+{
+    let n = number_of(digits)?;
+    if n < low {
+        return None;
+    }
+    if high < n {
+        return None;
+    }
+    Some(n)
+}
+
+fn number_of(digits: &str) -> Option<u32>
+    ensures exact { result ≡ number_in 0 4294967295 digits.now }
+{
+    if digits.is_empty() {
+        return None;
+    }
+    if !are_digits(digits.as_bytes()) {
+        return None;
+    }
+    match digits.parse::<u32>() {
+        Ok(n) => Some(n),
+        Err(_) => None,
+    }
+}
+
+fn are_digits(text: &[u8]) -> bool
+    ensures exact { result ≡ all_ascii_digits text.now }
+{
+    for byte in text {
+        if !byte.is_ascii_digit() {
+            return false;
+        }
+    }
+    true
+}
