@@ -1,0 +1,47 @@
+"""Times the program and Python's json on the same file, one after the other, best of three.
+
+Python 3.8 or later, standard library only.
+"""
+import os
+import subprocess
+import sys
+import tempfile
+import time
+
+ROUND_TRIP = "import json,sys; json.dump(json.load(open(sys.argv[1])), sys.stdout, separators=(',',':'))"
+
+
+def run_once(words, folder):
+    """Seconds and peak memory in MB of one run, which must end with status 0."""
+    start = time.perf_counter()
+    with open(os.path.join(folder, "out"), "wb") as out:
+        child = subprocess.Popen(words, cwd=folder, stdout=out)
+        _, status, usage = os.wait4(child.pid, 0)
+    seconds = time.perf_counter() - start
+    if status != 0:
+        sys.exit("%s ended with status %d" % (words[0], os.waitstatus_to_exitcode(status)))
+    return seconds, usage.ru_maxrss / 1024
+
+
+def best(words, folder):
+    runs = [run_once(words, folder) for _ in range(3)]
+    return min(r[0] for r in runs), max(r[1] for r in runs)
+
+
+def compare(name, what, make, arguments, count):
+    """Times both on the file that `make(path, count)` writes, and prints the times, the memory and the ratio."""
+    here = os.path.dirname(os.path.abspath(__file__))
+    built = os.path.join(here, "..", "crates", "ms_cli", "out", "ms_cli")
+    program = os.path.abspath(arguments[0] if arguments else built)
+    count = int(arguments[1]) if len(arguments) > 1 else count
+    with tempfile.TemporaryDirectory() as folder:
+        path = os.path.join(folder, name)
+        make(path, count)
+        size = os.path.getsize(path) / 1e6
+        ours = best([program, name, "-o", "-"], folder)
+        written = os.path.getsize(os.path.join(folder, "out")) / 1e6
+        python = best([sys.executable, "-c", ROUND_TRIP, name], folder)
+    print("%d %s, %.1f MB in, %.1f MB out, best of three" % (count, what, size, written))
+    print("ms_cli       %6.2f s  %6.0f MB" % ours)
+    print("python json  %6.2f s  %6.0f MB" % python)
+    print("ratio        %6.2f times as fast as python" % (python[0] / ours[0]))
