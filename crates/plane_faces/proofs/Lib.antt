@@ -1,0 +1,13 @@
+pub mod Lists
+pub mod Crossing
+pub mod Around
+pub mod BorderEven
+pub mod Order
+pub mod Corner
+pub mod Sorting
+pub mod Connected
+pub mod FaceLaws
+pub mod Tables
+pub mod Sighted
+pub mod Joining
+pub mod OneJoin
