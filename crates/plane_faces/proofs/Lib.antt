@@ -11,3 +11,16 @@ pub mod Tables
 pub mod Sighted
 pub mod Joining
 pub mod OneJoin
+pub mod Parts
+pub mod Runs
+pub mod Tracing
+pub mod EvenRings
+pub mod BorderRings
+pub mod Orientation
+pub mod LeastFirst
+pub mod Exterior
+pub mod Nesting
+pub mod Polygon
+pub mod Laws
+pub mod Separating
+pub mod Examples

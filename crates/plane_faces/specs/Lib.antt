@@ -1,3 +1,4 @@
 pub mod Around
 pub mod Places
 pub mod Labels
+pub mod Rings

@@ -1,26 +1,30 @@
-// The faces of an arrangement of links in the plane: what labels of places, walked once round each vertex and along rays, can tell.
+// The faces of an arrangement of links in the plane, the parts of a set of faces, and the rings of a part.
 //
 // - A test that takes one value where places meet has an even border, and holds exactly at the points that are odd for it.
 // - Points of one label are separated by no even list of links, and points of two labels by one.
+// - So it is with the parts of a set of faces, and the links of its border.
+// - The border of a part is rings: one exterior, which turns left at its least vertex, and holes, which do not.
 // - What a table has to say of each vertex, so that labels made by joins are those of the faces.
 //
 // Each function carries one law in its contract, and does nothing.
 #![tactic(auto)]
 
 ghost use Rattle.std.specs.Prelude.{◌≡◌, ◌<ℤ◌, [], ◌∷◌, All, Bool, Contains, List, ℕ, false, true, not, map, pos};
+ghost use Rattle.std.specs.List.Sorted.{IsPermutation};
 ghost use Rattle.plane_model.specs.Rotation.{Dart, IsNext};
-ghost use Rattle.plane_model.specs.Points.{GridPoint, RationalPoint, Segment, at, same_segment, step_x};
-ghost use Rattle.plane_model.specs.Arrangement.{IsArrangement, IsDistinct, IsFree};
+ghost use Rattle.plane_model.specs.Points.{GridPoint, Path, RationalPoint, Segment, at, same_segment, step_x};
+ghost use Rattle.plane_model.specs.Arrangement.{IsArrangement, IsBefore, IsDistinct, IsFree};
 ghost use Rattle.plane_model.specs.EvenList.{IsEven};
 ghost use Rattle.plane_model.specs.Sees.{SeesLeft, SeesRight};
 ghost use Rattle.plane_model.specs.ParityBoundary.{boundary};
-ghost use Rattle.plane_model.specs.Parity.{odd, odd_count, xor};
+ghost use Rattle.plane_model.specs.Parity.{links_of_paths, odd, odd_count, xor};
 ghost use Rattle.plane_model.specs.Sides.{odd_left, odd_right};
 ghost use Rattle.plane_faces.specs.Places.{
   AgreesAround,
   AgreesWherePlacesMeet,
   IsBeside,
   IsFirst,
+  IsLowest,
   IsMinimum,
   IsPlaceOf,
   Place,
@@ -32,7 +36,17 @@ ghost use Rattle.plane_faces.specs.Places.{
   outside,
   right_side,
 };
-ghost use Rattle.plane_faces.specs.Labels.{IsFaceLabelling, IsJoining, relabel};
+ghost use Rattle.plane_faces.specs.Labels.{IsFaceLabelling, IsJoining, IsPartLabelling, among, in_part, relabel};
+ghost use Rattle.plane_faces.specs.Rings.{
+  IsPolygon,
+  IsRing,
+  IsSeparating,
+  StartsLeast,
+  darts_of_path,
+  darts_of_paths,
+  links_of_path,
+  turns_left,
+};
 ghost use Rattle.plane_faces.specs.Around.{IsRotation, opposite};
 
 // ---- rotations and places
@@ -161,6 +175,13 @@ pub fn faces_are_separated()
         (L : List Segment) × All (Contains S) L × IsEven L × (odd L z ≡ not (odd L z')) }
 {}
 
+/// So they are by a ring.
+pub fn faces_are_separated_by_a_ring()
+    ensures { (S : List Segment) → IsArrangement S → IsDistinct S → (label : Place → ℕ) → AgreesWherePlacesMeet S label →
+        (z z' : RationalPoint) → (a a' : Place) → IsPlaceOf S z a → IsPlaceOf S z' a' → (label a ≡ label a' → ⊥) →
+        (ring : Path) × IsSeparating S z z' ring }
+{}
+
 /// Points of one label are not separated by any even list.
 pub fn faces_are_not_separated()
     ensures { (S : List Segment) → IsArrangement S → (label : Place → ℕ) → IsFaceLabelling S label → (L : List Segment) →
@@ -233,4 +254,107 @@ pub fn region_of_a_place()
 pub fn boundary_is_a_border()
     ensures { (S : List Segment) → (Rs : List (List Segment)) → (f : List Bool → Bool) →
         border (in_region f Rs) S ≡ boundary f Rs S }
+{}
+
+// ---- parts
+
+/// Every set of faces has a labelling of its parts.
+pub fn each_set_of_faces_has_parts()
+    ensures { (S : List Segment) → (label : Place → ℕ) → (F : ℕ → Bool) → (part : ℕ → ℕ) × IsPartLabelling S label F part }
+{}
+
+/// The border of a part belongs to the border of the whole.
+pub fn part_border_belongs_to_the_border()
+    ensures { (S : List Segment) → (label : Place → ℕ) → (F : ℕ → Bool) → (part : ℕ → ℕ) → IsPartLabelling S label F part →
+        (n : ℕ) → All (Contains (border (among label F) S)) (border (among label (in_part F part n)) S) }
+{}
+
+/// A point is odd for the border of a part exactly if its label is in the part.
+pub fn parity_of_a_part()
+    ensures { (S : List Segment) → IsArrangement S → IsDistinct S → (label : Place → ℕ) → AgreesWherePlacesMeet S label → (F : ℕ → Bool) →
+        F (label outside) ≡ false → (part : ℕ → ℕ) → (n : ℕ) → (z : RationalPoint) → (a : Place) → IsPlaceOf S z a →
+        odd (border (among label (in_part F part n)) S) z ≡ in_part F part n (label a) }
+{}
+
+/// Points of two parts are separated by an even list of links of the border of the whole.
+pub fn parts_are_separated()
+    ensures { (S : List Segment) → IsArrangement S → IsDistinct S → (label : Place → ℕ) → AgreesWherePlacesMeet S label → (F : ℕ → Bool) →
+        F (label outside) ≡ false → (part : ℕ → ℕ) → IsPartLabelling S label F part → (z z' : RationalPoint) →
+        (a a' : Place) → IsPlaceOf S z a → IsPlaceOf S z' a' → among label F a ≡ true → among label F a' ≡ true →
+        (part (label a) ≡ part (label a') → ⊥) →
+        (L : List Segment) × All (Contains (border (among label F) S)) L × IsEven L × (odd L z ≡ true) × (odd L z' ≡ false) }
+{}
+
+/// So they are by a ring.
+pub fn parts_are_separated_by_a_ring()
+    ensures { (S : List Segment) → IsArrangement S → IsDistinct S → (label : Place → ℕ) → AgreesWherePlacesMeet S label → (F : ℕ → Bool) →
+        F (label outside) ≡ false → (part : ℕ → ℕ) → IsPartLabelling S label F part → (z z' : RationalPoint) →
+        (a a' : Place) → IsPlaceOf S z a → IsPlaceOf S z' a' → among label F a ≡ true → among label F a' ≡ true →
+        (part (label a) ≡ part (label a') → ⊥) →
+        (ring : Path) × IsSeparating (border (among label F) S) z z' ring }
+{}
+
+/// Points of one part are not separated by any even list of links of the border of the whole.
+pub fn parts_are_not_separated()
+    ensures { (S : List Segment) → IsArrangement S → (label : Place → ℕ) → IsFaceLabelling S label → (F : ℕ → Bool) →
+        (part : ℕ → ℕ) → IsPartLabelling S label F part → (L : List Segment) → All (Contains (border (among label F) S)) L →
+        IsEven L → (z z' : RationalPoint) → (a a' : Place) → IsPlaceOf S z a → IsPlaceOf S z' a' → among label F a ≡ true →
+        among label F a' ≡ true → part (label a) ≡ part (label a') → odd L z ≡ odd L z' }
+{}
+
+// ---- rings
+
+/// An even list of links is, in some order, the links of rings.
+pub fn even_lists_are_rings()
+    ensures { (L : List Segment) → All (λ l. IsBefore l.start l.stop) L → IsEven L →
+        (rings : List Path) × All IsRing rings × IsPermutation (links_of_paths rings) L }
+{}
+
+/// A border is, in some order, the links of rings that have the inside on their left, each from its least vertex on.
+pub fn borders_are_rings()
+    ensures { (S : List Segment) → IsArrangement S → IsDistinct S → (f : Place → Bool) → AgreesWherePlacesMeet S f →
+        (rings : List Path) × All IsRing rings × All StartsLeast rings ×
+        IsPermutation (links_of_paths rings) (border f S) × All (λ d. f (left_of d) ≡ true) (darts_of_paths rings) }
+{}
+
+/// An even list of links of a part's border is odd on the part exactly if it has the border's lowest link an odd number of
+/// times.
+pub fn lowest_link_counts_for_the_part()
+    ensures { (S : List Segment) → IsArrangement S → IsDistinct S → (label : Place → ℕ) → IsFaceLabelling S label →
+        (F : ℕ → Bool) → F (label outside) ≡ false → (part : ℕ → ℕ) → IsPartLabelling S label F part → (n : ℕ) →
+        (a : Segment) → Contains (border (among label (in_part F part n)) S) a →
+        IsLowest (border (among label (in_part F part n)) S) a → (R : List Segment) →
+        All (Contains (border (among label (in_part F part n)) S)) R → IsEven R → (z : RationalPoint) → (b : Place) →
+        IsPlaceOf S z b → in_part F part n (label b) ≡ true → odd R z ≡ odd_count (same_segment a) R }
+{}
+
+/// A ring of a part's border, from its least vertex on and with the part on its left, is odd on the part exactly if it turns
+/// left there.
+pub fn orientation_of_a_ring()
+    ensures { (S : List Segment) → IsArrangement S → (label : Place → ℕ) → IsFaceLabelling S label → (F : ℕ → Bool) →
+        (part : ℕ → ℕ) → IsPartLabelling S label F part → (n : ℕ) → (ring : Path) → StartsLeast ring →
+        All (Contains (border (among label (in_part F part n)) S)) (links_of_path ring) →
+        All (λ d. in_part F part n (label (left_of d)) ≡ true) (darts_of_path ring) → (z : RationalPoint) → (b : Place) →
+        IsPlaceOf S z b → in_part F part n (label b) ≡ true → odd (links_of_path ring) z ≡ turns_left ring }
+{}
+
+/// The rings of a part are a polygon: one exterior, which turns left, and holes, which do not, and together they hold the
+/// part.
+pub fn rings_of_a_part_are_a_polygon()
+    ensures { (S : List Segment) → IsArrangement S → IsDistinct S → (label : Place → ℕ) → IsFaceLabelling S label →
+        (F : ℕ → Bool) → F (label outside) ≡ false → (part : ℕ → ℕ) → IsPartLabelling S label F part → (n : ℕ) →
+        (rings : List Path) → All StartsLeast rings →
+        All (λ d. in_part F part n (label (left_of d)) ≡ true) (darts_of_paths rings) →
+        IsPermutation (links_of_paths rings) (border (among label (in_part F part n)) S) → (b : Place) → IsBeside S b →
+        in_part F part n (label b) ≡ true → IsPolygon S (among label (in_part F part n)) rings }
+{}
+
+/// Every part is a polygon.
+pub fn each_part_is_a_polygon()
+    ensures { (S : List Segment) → IsArrangement S → IsDistinct S → (label : Place → ℕ) → IsFaceLabelling S label →
+        (F : ℕ → Bool) → F (label outside) ≡ false → (part : ℕ → ℕ) → IsPartLabelling S label F part → (n : ℕ) →
+        (b : Place) → IsBeside S b → in_part F part n (label b) ≡ true →
+        (rings : List Path) × All IsRing rings ×
+        IsPermutation (links_of_paths rings) (border (among label (in_part F part n)) S) ×
+        IsPolygon S (among label (in_part F part n)) rings }
 {}

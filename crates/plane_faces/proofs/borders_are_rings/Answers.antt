@@ -1,0 +1,6 @@
+-- Each vertex has as many links of the border that arrive as leave.
+use Rattle.plane_faces.proofs.Laws.{border_paths}
+use Rattle.plane_faces.proofs.borders_are_rings.Goals as goal
+
+pub returns : goal.returns
+returns c = border_paths
