@@ -23,4 +23,5 @@ pub mod Nesting
 pub mod Polygon
 pub mod Laws
 pub mod Separating
+pub mod Classes
 pub mod Examples

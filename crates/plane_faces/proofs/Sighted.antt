@@ -66,24 +66,40 @@ module _ (S : List Segment) (arr : IsArrangement S) (distinct : IsDistinct S) (r
       one_label (right_side l) a cl (place_beside S (at l.start) a h)
       (λ L within even. first_gap S L arr within even l cl (λ k c s. subst (λ (q : GridPoint). int_lt (pos 0) (turn (at q) (at k.stop) (at l.stop)) ≡ false) s (first k c s)) ∙ parity_at_place S L arr within even (at l.start) a h)
 
--- the same for a test
-pub test_along_a_ray : (S : List Segment) → IsArrangement S → IsDistinct S → HasRotations S → (f : Place → Bool) → AgreesWherePlacesMeet S f → (l : Segment) → Contains S l → IsFirst S l → (a : Place) → IsPlaceOf S (at l.start) a → f (right_side l) ≡ f a
-test_along_a_ray S arr distinct rotations f agrees l cl first a h = back (f (right_side l)) (f a) (label_along_a_ray S arr distinct rotations (λ b. one (f b)) numbers l cl first a h)
-  where
-    one : Bool → ℕ
-    one b = cond b 1 0
+-- ---- the same for a test
 
-    back : (x y : Bool) → one x ≡ one y → x ≡ y
-    back true true e = refl
-    back false false e = refl
-    back true false e = absurd (omega (arith, e))
-    back false true e = absurd (omega (arith, e))
+one : Bool → ℕ
+one b = cond b 1 0
 
-    numbers : AgreesWherePlacesMeet S (λ b. one (f b))
-    numbers = record {
-      sector = λ d e cd ce next. ap one (agrees.sector d e cd ce next);
-      ray = λ k ck least fk b hb. ap one (agrees.ray k ck least fk b hb);
-    }
+one_tells : (x y : Bool) → one x ≡ one y → x ≡ y
+unfolding one
+one_tells true true e = refl
+one_tells false false e = refl
+one_tells true false e = absurd (omega (arith, e))
+one_tells false true e = absurd (omega (arith, e))
+
+module _ (S : List Segment) (arr : IsArrangement S) (distinct : IsDistinct S) (rotations : HasRotations S) (f : Place → Bool) (agrees : AgreesWherePlacesMeet S f) where
+  number : Place → ℕ
+  number a = one (f a)
+
+  numbers_agree : AgreesWherePlacesMeet S number
+  unfolding number
+  numbers_agree = record {
+    sector = λ d e cd ce next. ap one (agrees.sector d e cd ce next);
+    ray = λ k ck least fk b hb. ap one (agrees.ray k ck least fk b hb);
+  }
+
+  pub test_along_a_ray : (l : Segment) → Contains S l → IsFirst S l → (a : Place) → IsPlaceOf S (at l.start) a → f (right_side l) ≡ f a
+  unfolding number
+  test_along_a_ray l cl first a h = one_tells (f (right_side l)) (f a) (label_along_a_ray S arr distinct rotations number numbers_agree l cl first a h)
+
+  pub test_from_left : (l : Segment) → Contains S l → (z : RationalPoint) → SeesLeft S l z → (a : Place) → IsPlaceOf S z a → f a ≡ f (left_side l)
+  unfolding number
+  test_from_left l cl z sees a h = one_tells (f a) (f (left_side l)) (label_from_left S arr distinct rotations number numbers_agree l cl z sees a h)
+
+  pub test_from_right : (l : Segment) → Contains S l → (z : RationalPoint) → SeesRight S l z → (a : Place) → IsPlaceOf S z a → f a ≡ f (right_side l)
+  unfolding number
+  test_from_right l cl z sees a h = one_tells (f a) (f (right_side l)) (label_from_right S arr distinct rotations number numbers_agree l cl z sees a h)
 
 -- a point left of all vertices is outside
 pub far_left : (S : List Segment) (z : RationalPoint) → ((l : Segment) → Contains S l → pos 0 <ℤ step_x z (at l.start)) → IsPlaceOf S z outside

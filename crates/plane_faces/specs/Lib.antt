@@ -2,3 +2,4 @@ pub mod Around
 pub mod Places
 pub mod Labels
 pub mod Rings
+pub mod Classes

@@ -36,6 +36,13 @@ ghost use Rattle.plane_faces.specs.Places.{
   outside,
   right_side,
 };
+ghost use Rattle.plane_faces.specs.Classes.{
+  BordersAreBoundaries,
+  LabelsAreFaces,
+  LabelsHaveOneListOfHolders,
+  PartsAreJoined,
+  SidesAreTested,
+};
 ghost use Rattle.plane_faces.specs.Labels.{IsFaceLabelling, IsJoining, IsPartLabelling, among, in_part, relabel};
 ghost use Rattle.plane_faces.specs.Rings.{
   IsPolygon,
@@ -357,4 +364,31 @@ pub fn each_part_is_a_polygon()
         (rings : List Path) × All IsRing rings ×
         IsPermutation (links_of_paths rings) (border (among label (in_part F part n)) S) ×
         IsPolygon S (among label (in_part F part n)) rings }
+{}
+
+// ---- faces and parts as classes of points
+
+/// Two points have one label exactly if they are of one face: no closed runs of links separate them.
+pub fn labels_are_the_faces()
+    ensures { LabelsAreFaces }
+{}
+
+/// In a snapped drawing points of one label are held by the same features and boxes.
+pub fn labels_have_one_list_of_holders()
+    ensures { LabelsHaveOneListOfHolders }
+{}
+
+/// The sides of a link that belong to the points of a test are those where the test holds.
+pub fn sides_are_tested()
+    ensures { SidesAreTested }
+{}
+
+/// The border of a test is the boundary of its points.
+pub fn borders_are_boundaries()
+    ensures { BordersAreBoundaries }
+{}
+
+/// Two points of a set of faces are in one part exactly if they are joined in it: no closed runs of its boundary separate them.
+pub fn parts_are_the_joined_points()
+    ensures { PartsAreJoined }
 {}
