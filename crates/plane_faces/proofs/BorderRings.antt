@@ -166,7 +166,7 @@ border_balanced S rotations f sector p =
 abbrev pub link_of : Dart → Segment
 link_of d = d.link
 
-links_of_border : (f : Place → Bool) (xs : List Segment) → map link_of (map (λ l. record { link = l; forward = f (left_side l) }) xs) ≡ xs
+pub links_of_border : (f : Place → Bool) (xs : List Segment) → map link_of (map (λ l. record { link = l; forward = f (left_side l) }) xs) ≡ xs
 links_of_border f [] = refl
 links_of_border f (x ∷ xs) = ap (λ (ls : List Segment). x ∷ ls) (links_of_border f xs)
 
@@ -183,7 +183,7 @@ links_of_darts (run ∷ runs) = map-append link_of (darts_of_path run) (darts_of
     one_run (p ∷ run) = from p run
 
 -- f holds on the left of each
-left_held : (f : Place → Bool) (S : List Segment) → All (λ d. f (left_of d) ≡ true) (border_darts f S)
+pub left_held : (f : Place → Bool) (S : List Segment) → All (λ d. f (left_of d) ≡ true) (border_darts f S)
 left_held f S = All-map (λ d. f (left_of d) ≡ true) (λ l. record { link = l; forward = f (left_side l) }) (border f S)
     (All-weaker (Contains (border f S)) (λ l. f (left_of (record { link = l; forward = f (left_side l) })) ≡ true)
     (λ l c. go l (f (left_side l)) refl (passes_filter (λ k. xor (f (left_side k)) (f (right_side k))) S l c)) (border f S) (All-contains_itself (border f S)))
@@ -193,7 +193,7 @@ left_held f S = All-map (λ d. f (left_of d) ≡ true) (λ l. record { link = l;
     go l false e h = subst (λ (x : Bool). xor x (f (right_side l)) ≡ true) e h
 
 pub rings_of_border : (S : List Segment) → IsArrangement S → HasRotations S → (f : Place → Bool) → ((d e : Dart) → Contains S d.link → Contains S e.link → IsNext S d e → f (left_of d) ≡ f (left_of (opposite e)))
-    → (runs : List Path) × All IsRing runs × IsPermutation (links_of_runs runs) (border f S) × All (λ d. f (left_of d) ≡ true) (darts_of_runs runs)
+    → (runs : List Path) × All IsRing runs × IsPermutation (links_of_runs runs) (border f S) × All (λ d. f (left_of d) ≡ true) (darts_of_runs runs) × IsPermutation (darts_of_runs runs) (border_darts f S)
 rings_of_border S arr rotations f sector =
     let r = rings_of_balanced (border_darts f S) ordered (border_balanced S rotations f sector) in (
       r.0,
@@ -201,6 +201,7 @@ rings_of_border S arr rotations f sector =
       subst (λ (ls : List Segment). IsPermutation ls (border f S)) (links_of_darts r.0)
           (subst (IsPermutation (map link_of (darts_of_runs r.0))) (links_of_border f (border f S)) (IsPermutation-map link_of (darts_of_runs r.0) (border_darts f S) r.2)),
       All-permutation (λ d. f (left_of d) ≡ true) (border_darts f S) (darts_of_runs r.0) (IsPermutation-sym (darts_of_runs r.0) (border_darts f S) r.2) (left_held f S),
+      r.2,
     )
   where
     ordered : All (λ d. IsBefore d.link.start d.link.stop) (border_darts f S)

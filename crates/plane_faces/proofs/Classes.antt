@@ -31,7 +31,7 @@ use Rattle.plane_faces.proofs.Separating.{faces_by_ring, parts_by_ring}
 equal_or : {G : Type 0} (m n : ℕ) → (m ≡ n → G) → ((m ≡ n → ⊥) → G) → G
 equal_or m n f g = by_test (nat_eq m n) (λ e. f (eqb-true m n e)) (λ e. g (λ h. let c : true ≡ false = sym (eq-eqb m n h) ∙ e in absurd (cc)))
 
-ring_closed : (ring : Path) → IsRing ring → IsClosed ring
+pub ring_closed : (ring : Path) → IsRing ring → IsClosed ring
 ring_closed [] h = absurd h
 ring_closed (p ∷ []) h = absurd h
 ring_closed (p ∷ q ∷ rest) h = h.0

@@ -12,7 +12,7 @@ use Rattle.plane_model.specs.Parity.{odd, links_of_paths}
 use Rattle.plane_model.specs.Rotation.{Dart}
 use Rattle.plane_faces.specs.Rings.{links_of_path, IsRing, StartsLeast, darts_of_path, darts_of_paths, turns_left, IsPolygon}
 use Rattle.plane_faces.proofs.Runs.{links_of_runs, darts_of_runs, links_are, darts_are}
-use Rattle.plane_faces.specs.Places.{Place, outside, IsBeside, left_of, IsPlaceOf, AgreesWherePlacesMeet, border}
+use Rattle.plane_faces.specs.Places.{Place, outside, IsBeside, left_of, IsPlaceOf, AgreesWherePlacesMeet, border, border_darts}
 use Rattle.plane_faces.specs.Labels.{IsFaceLabelling, IsPartLabelling, among, in_part}
 use Rattle.plane_faces.proofs.Lists.{contains_head, contains_tail, contains_cases, contains_none}
 use Rattle.plane_faces.proofs.EvenRings.{rings_of_even}
@@ -41,7 +41,7 @@ ring_orientation S arr label faces F part parts n run s within left z b h e =
 
 -- the rings of a border, each from its least vertex on
 pub border_rings : (S : List Segment) → IsArrangement S → IsDistinct S → (f : Place → Bool) → AgreesWherePlacesMeet S f
-    → (rings : List Path) × All IsRing rings × All StartsLeast rings × IsPermutation (links_of_runs rings) (border f S) × All (λ d. f (left_of d) ≡ true) (darts_of_runs rings)
+    → (rings : List Path) × All IsRing rings × All StartsLeast rings × IsPermutation (links_of_runs rings) (border f S) × All (λ d. f (left_of d) ≡ true) (darts_of_runs rings) × IsPermutation (darts_of_runs rings) (border_darts f S)
 border_rings S arr distinct f agrees =
     let r = rings_of_border S arr (rotations_exist S arr distinct) f agrees.sector in
     let t = all_turned S arr f r.0 r.1 (bordering r.0 r.2 r.3) in (
@@ -50,6 +50,7 @@ border_rings S arr distinct f agrees =
       t.2,
       IsPermutation-trans (links_of_runs t.0) (links_of_runs r.0) (border f S) (IsPermutation-sym (links_of_runs r.0) (links_of_runs t.0) (by_links r.0 t.0 t.3)) r.2,
       All-permutation (λ d. f (left_of d) ≡ true) (darts_of_runs r.0) (darts_of_runs t.0) t.3 r.3,
+      IsPermutation-trans (darts_of_runs t.0) (darts_of_runs r.0) (border_darts f S) (IsPermutation-sym (darts_of_runs r.0) (darts_of_runs t.0) t.3) r.4,
     )
   where
     by_links : (xs ys : List Path) → IsPermutation (darts_of_runs xs) (darts_of_runs ys) → IsPermutation (links_of_runs xs) (links_of_runs ys)

@@ -24,4 +24,5 @@ pub mod Polygon
 pub mod Laws
 pub mod Separating
 pub mod Classes
+pub mod UsedOnce
 pub mod Examples

@@ -3,3 +3,4 @@ pub mod Places
 pub mod Labels
 pub mod Rings
 pub mod Classes
+pub mod UsedOnce

@@ -43,6 +43,7 @@ ghost use Rattle.plane_faces.specs.Classes.{
   PartsAreJoined,
   SidesAreTested,
 };
+ghost use Rattle.plane_faces.specs.UsedOnce.{BordersAreUsedOnce, PartsUsedOnceArePolygons};
 ghost use Rattle.plane_faces.specs.Labels.{IsFaceLabelling, IsJoining, IsPartLabelling, among, in_part, relabel};
 ghost use Rattle.plane_faces.specs.Rings.{
   IsPolygon,
@@ -391,4 +392,16 @@ pub fn borders_are_boundaries()
 /// Two points of a set of faces are in one part exactly if they are joined in it: no closed runs of its boundary separate them.
 pub fn parts_are_the_joined_points()
     ensures { PartsAreJoined }
+{}
+
+// ---- the steps of a border, used once
+
+/// The steps of every border are used once by rings.
+pub fn borders_are_used_once()
+    ensures { BordersAreUsedOnce }
+{}
+
+/// Any rings that use the steps of a part's border once, each from its least vertex on, are a polygon that holds the part.
+pub fn parts_used_once_are_polygons()
+    ensures { PartsUsedOnceArePolygons }
 {}
