@@ -1,10 +1,13 @@
 -- A ring that has the part on its left turns left at its least vertex just if the part is inside.
-use Rattle.std.proofs.Common.{◌≡◌, ◌⊎◌, inl, inr, ℕ, refl, sym, ap, subst, ◌∙◌, Bool, true, false, not, cond, List, [], ◌∷◌, ◌++◌}
-use Rattle.std.proofs.Math.IntN.{pos}
-use Rattle.std.specs.Prelude.{All, Contains, int_lt, nat_eq}
+use Rattle.std.proofs.Common.{◌≡◌, ◌⊎◌, inl, inr, ℕ, refl, sym, ap, subst, ◌∙◌, Bool, true, false, not, cond, List, [], ◌∷◌, ◌++◌, arith}
+use Rattle.std.proofs.Math.IntN.{pos, neg_ℤ, ℤ}
+use Rattle.std.specs.Prelude.{All, Contains, int_lt, nat_eq, ◌<ℤ◌}
 use Rattle.std.proofs.lemmas.Bool.{eqb-true, and_parts}
 use Rattle.std.proofs.lemmas.List.Elements.{All-head, All-tail, All-nil, All-cons, All-weaker, All-contains}
 use Rattle.lists.specs.Lists.{last_of}
+use Rattle.std.proofs.lemmas.Int.{ints}
+use Rattle.plane_parity.proofs.Sector.{turn_other}
+use Rattle.plane_algebra.proofs.Tests.{lt_from}
 use Rattle.plane_parity.proofs.ClosedRun.{closed_run_even}
 use Rattle.plane_parity.proofs.Abscissa.{same_link-self}
 use Rattle.plane_model.proofs.PointOrder.{before_to}
@@ -138,6 +141,19 @@ module _ (S : List Segment) (arr : IsArrangement S) (label : Place → ℕ) (fac
         let f = and_parts (F (label b)) (nat_eq (part (label b)) n) e in
         let g = and_parts (F (label b')) (nat_eq (part (label b')) n) e' in
         one_part_at S label F part arr faces parts R withinS bordering even b b' hb hb' f.0 g.0 (eqb-true (part (label b)) n f.1 ∙ sym (eqb-true (part (label b')) n g.1))
+
+    -- it does not go straight on there
+    pub turns : (pos 0 <ℤ turn (at p) (at r) (at q)) ⊎ (turn (at p) (at r) (at q) <ℤ pos 0)
+    turns = elim (precedes_total S arr (link p r) (link p q) (in_S (link p r) in_B_r) (in_S (link p q) in_B_q) refl) [
+      | inl i ↦ absurd (differ i)
+      | inr c ↦ elim c [
+        | inl h ↦ inl (lt_from (pos 0) (turn (at p) (at r) (at q)) h)
+        | inr h ↦ inr (below (turn (at p) (at r) (at q)) (turn (at p) (at q) (at r)) (turn_other (at p) (at r) (at q)) (lt_from (pos 0) (turn (at p) (at q) (at r)) h))
+      ]
+    ]
+      where
+        below : (a b : ℤ) → a ≡ neg_ℤ b → pos 0 <ℤ b → a <ℤ pos 0
+        below a b e h = omega (arith, ints)
 
     -- inside the ring if one turns left at the least vertex, outside if one turns right
     pub oriented_at : (b : Place) → IsBeside S b → held b ≡ true → odd_at R b ≡ int_lt (pos 0) (turn (at p) (at r) (at q))

@@ -1,9 +1,12 @@
 -- The rings of a part: exactly one turns left and holds the part, the others turn right and are its holes.
-use Rattle.std.proofs.Common.{◌≡◌, ℕ, refl, sym, ap, subst, ◌∙◌, Bool, true, false, List, [], ◌∷◌, ◌++◌}
-use Rattle.std.specs.Prelude.{All, Contains}
+use Rattle.std.proofs.Common.{int_lt, pos, ◌≡◌, ℕ, refl, sym, ap, subst, ◌∙◌, Bool, true, false, List, [], ◌∷◌, ◌++◌, ◌⊎◌, inl, inr}
+use Rattle.std.specs.Prelude.{All, Contains, ◌<ℤ◌}
 use Rattle.std.specs.List.Sorted.{IsPermutation}
 use Rattle.std.proofs.lemmas.List.Elements.{All-head, All-tail, All-cons, All-nil, All-append, All-weaker, All-contains, All-contains_itself}
 use Rattle.std.proofs.lemmas.List.Sorted.{All-permutation, IsPermutation-sym}
+use Rattle.std.proofs.Math.IntN.{ℤ}
+use Rattle.plane_model.specs.Rings.{turn_at_least}
+use Rattle.plane_algebra.proofs.Tests.{lt_from, lt_to}
 use Rattle.plane_parity.proofs.ClosedRun.{closed_run_even}
 use Rattle.plane_parity.proofs.Boundary.{filter_distinct}
 use Rattle.plane_model.specs.Points.{RationalPoint, GridPoint, Segment, Path}
@@ -12,7 +15,7 @@ use Rattle.plane_model.specs.Arrangement.{IsArrangement, IsDistinct}
 use Rattle.plane_model.specs.Joined.{IsClosed}
 use Rattle.plane_model.specs.Rotation.{odd_left_of}
 use Rattle.plane_faces.specs.Rings.{links_of_path, ring_by, darts_of_path, StartsLeast, turns_left, IsPolygon}
-use Rattle.plane_faces.proofs.Runs.{links_of_runs, dart_between, darts_from, darts_of_runs, turns_by_ends, passes}
+use Rattle.plane_faces.proofs.Runs.{links_of_runs, dart_between, darts_from, darts_of_runs, passes, turn_by_ends}
 use Rattle.plane_faces.specs.Places.{Place, outside, left_of, left_side, right_side, IsBeside, border, odd_at, IsLowest}
 use Rattle.plane_faces.specs.Labels.{IsFaceLabelling, among, IsPartLabelling, in_part}
 use Rattle.plane_faces.proofs.Lists.{contains_head, contains_tail, all_left, all_right}
@@ -21,7 +24,7 @@ use Rattle.plane_faces.proofs.Parts.{border_in}
 use Rattle.plane_faces.proofs.Corner.{lowest_exists}
 use Rattle.plane_faces.proofs.Nesting.{counted_at_part, held_by_rings, held_agrees, held_none, run_within}
 use Rattle.plane_faces.proofs.Exterior.{OnePasses, one_passes}
-use Rattle.plane_faces.proofs.Orientation.{last_is, oriented_at}
+use Rattle.plane_faces.proofs.Orientation.{last_is, oriented_at, turns}
 
 last_dart : (r : GridPoint) (ps : List GridPoint) (q p : GridPoint) → Contains (darts_from r (ps ++ (q ∷ (p ∷ [])))) (dart_between q p)
 last_dart r [] q p = contains_tail (dart_between r q) (dart_between q p ∷ []) (dart_between q p) (contains_head (dart_between q p) [])
@@ -48,7 +51,20 @@ module _ (S : List Segment) (arr : IsArrangement S) (label : Place → ℕ) (fac
       (All-contains (λ d. held (left_of d) ≡ true) (darts_from s.next (s.others ++ (s.last ∷ (s.least ∷ [])))) (dart_between s.last s.least)
       (All-tail (λ d. held (left_of d) ≡ true) (dart_between s.least s.next) (darts_from s.next (s.others ++ (s.last ∷ (s.least ∷ [])))) left') (last_dart s.next s.others s.last s.least))
       b hb e
-      ∙ sym (turns_by_ends s.least s.next s.last s.next_after s.last_after s.others s.others_after))
+      ∙ sym (ap (int_lt (pos 0)) (turn_by_ends s.least s.next s.last s.next_after s.last_after s.others s.others_after)))
+    where
+      left' : All (λ d. held (left_of d) ≡ true) (darts_of_path (ring_by s.least s.next s.others s.last))
+      left' = subst (λ (r : List GridPoint). All (λ d. held (left_of d) ≡ true) (darts_of_path r)) s.is left
+
+  -- it turns one way or the other there
+  turns_there : (run : List GridPoint) → StartsLeast run → All (Contains B) (links_of_path run) → All (λ d. held (left_of d) ≡ true) (darts_of_path run) → (pos 0 <ℤ turn_at_least run) ⊎ (turn_at_least run <ℤ pos 0)
+  turns_there run s within left =
+      subst (λ (t : ℤ). (pos 0 <ℤ t) ⊎ (t <ℤ pos 0)) (sym (ap turn_at_least s.is ∙ turn_by_ends s.least s.next s.last s.next_after s.last_after s.others s.others_after))
+      (turns S arr label faces F part parts n s.least s.next s.others s.last s.next_after s.others_after s.last_after
+      (subst (λ (r : List GridPoint). All (Contains B) (links_of_path r)) s.is within)
+      (All-head (λ d. held (left_of d) ≡ true) (dart_between s.least s.next) (darts_from s.next (s.others ++ (s.last ∷ (s.least ∷ [])))) left')
+      (All-contains (λ d. held (left_of d) ≡ true) (darts_from s.next (s.others ++ (s.last ∷ (s.least ∷ [])))) (dart_between s.last s.least)
+      (All-tail (λ d. held (left_of d) ≡ true) (dart_between s.least s.next) (darts_from s.next (s.others ++ (s.last ∷ (s.least ∷ [])))) left') (last_dart s.next s.others s.last s.least)))
     where
       left' : All (λ d. held (left_of d) ≡ true) (darts_of_path (ring_by s.least s.next s.others s.last))
       left' = subst (λ (r : List GridPoint). All (λ d. held (left_of d) ≡ true) (darts_of_path r)) s.is left
@@ -82,14 +98,32 @@ module _ (S : List Segment) (arr : IsArrangement S) (distinct : IsDistinct S) (r
       same = same_of runs starts
           (run_within S arr distinct rotations label faces F none part parts n a ca lowest runs (All-permutation (Contains border_of) border_of (links_of_runs runs) (IsPermutation-sym (links_of_runs runs) border_of tracing) (All-contains_itself border_of))) left
 
+      abbrev Turns : List GridPoint → Type 0
+      Turns run = (pos 0 <ℤ turn_at_least run) ⊎ (turn_at_least run <ℤ pos 0)
+
+      turns_of : (rs : List Path) → All StartsLeast rs → All (λ run. All (Contains border_of) (links_of_path run)) rs → All (λ d. part_of (left_of d) ≡ true) (darts_of_runs rs) → All Turns rs
+      turns_of [] s w l = All-nil Turns
+      turns_of (run ∷ rs) s w l =
+          All-cons Turns run rs
+          (turns_there S arr label faces F part parts n run (All-head StartsLeast run rs s) (All-head (λ r. All (Contains border_of) (links_of_path r)) run rs w) (all_left (λ d. part_of (left_of d) ≡ true) (darts_of_path run) (darts_of_runs rs) l))
+          (turns_of rs (All-tail StartsLeast run rs s) (All-tail (λ r. All (Contains border_of) (links_of_path r)) run rs w) (all_right (λ d. part_of (left_of d) ≡ true) (darts_of_path run) (darts_of_runs rs) l))
+
+      within' : All (λ run. All (Contains border_of) (links_of_path run)) runs
+      within' = run_within S arr distinct rotations label faces F none part parts n a ca lowest runs (All-permutation (Contains border_of) border_of (links_of_runs runs) (IsPermutation-sym (links_of_runs runs) border_of tracing) (All-contains_itself border_of))
+
+      turned_right : (t : ℤ) → (pos 0 <ℤ t) ⊎ (t <ℤ pos 0) → int_lt (pos 0) t ≡ false → t <ℤ pos 0
+      turned_right t (inl h) e = let f : true ≡ false = sym (lt_to (pos 0) t h) ∙ e in absurd (cc)
+      turned_right t (inr h) e = h
+
       from_one : OnePasses a runs → IsPolygon S part_of runs
       from_one o = record {
         before = o.0;
         exterior = o.1;
         after = o.2;
         are = o.3;
-        exterior_turns_left = sym (All-head Same o.1 o.2 (all_right Same o.0 (o.1 ∷ o.2) there)) ∙ o.4;
-        holes_do_not = All-weaker (Contains (o.0 ++ o.2)) (λ r. turns_left r ≡ false) (λ r c. sym (All-contains Same (o.0 ++ o.2) r others c) ∙ All-contains (λ q. passes a q ≡ false) (o.0 ++ o.2) r o.5 c) (o.0 ++ o.2) (All-contains_itself (o.0 ++ o.2));
+        exterior_turns_left = lt_from (pos 0) (turn_at_least o.1) (sym (All-head Same o.1 o.2 (all_right Same o.0 (o.1 ∷ o.2) there)) ∙ o.4);
+        holes_turn_right = All-weaker (Contains (o.0 ++ o.2)) (λ r. turn_at_least r <ℤ pos 0)
+            (λ r c. turned_right (turn_at_least r) (All-contains Turns (o.0 ++ o.2) r turning c) (sym (All-contains Same (o.0 ++ o.2) r others c) ∙ All-contains (λ q. passes a q ≡ false) (o.0 ++ o.2) r o.5 c)) (o.0 ++ o.2) (All-contains_itself (o.0 ++ o.2));
         inside = λ z c h e.
             let g : All (Agrees z) (o.0 ++ (o.1 ∷ o.2)) = subst (All (Agrees z)) o.3 ((held_by_rings S arr distinct rotations label faces F none part parts n a ca lowest runs closed tracing z c h).0 e) in (
               All-head (Agrees z) o.1 o.2 (all_right (Agrees z) o.0 (o.1 ∷ o.2) g) ∙ o.4,
@@ -108,6 +142,11 @@ module _ (S : List Segment) (arr : IsArrangement S) (distinct : IsDistinct S) (r
 
           there : All Same (o.0 ++ (o.1 ∷ o.2))
           there = subst (All Same) o.3 same
+
+          turning : All Turns (o.0 ++ o.2)
+          turning =
+              let all : All Turns (o.0 ++ (o.1 ∷ o.2)) = subst (All Turns) o.3 (turns_of runs starts within' left) in
+              All-append Turns o.0 o.2 (all_left Turns o.0 (o.1 ∷ o.2) all) (All-tail Turns o.1 o.2 (all_right Turns o.0 (o.1 ∷ o.2) all))
 
           others : All Same (o.0 ++ o.2)
           others = All-append Same o.0 o.2 (all_left Same o.0 (o.1 ∷ o.2) there) (All-tail Same o.1 o.2 (all_right Same o.0 (o.1 ∷ o.2) there))

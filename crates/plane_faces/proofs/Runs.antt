@@ -1,7 +1,6 @@
 -- Paths, one step after another: their links and darts, points that differ, and the turn at the least vertex.
 use Rattle.std.proofs.Common.{◌≡◌, ◌≢◌, suc, refl, sym, ap, subst, ◌∙◌, arith, Bool, true, false, cond, List, [], ◌∷◌, ◌++◌}
-use Rattle.std.proofs.Math.IntN.{pos}
-use Rattle.std.specs.Prelude.{All, AllPairs, int_lt, if◌then◌else◌}
+use Rattle.std.specs.Prelude.{All, AllPairs, if◌then◌else◌}
 use Rattle.std.proofs.lemmas.List.{map-append}
 use Rattle.std.proofs.lemmas.List.Elements.{All-head, All-tail}
 use Rattle.std.proofs.lemmas.List.Kept.{AllPairs-cons}
@@ -11,11 +10,11 @@ use Rattle.plane_model.specs.Arrangement.{IsBefore}
 use Rattle.plane_model.specs.Drawing.{steps, steps_of_paths}
 use Rattle.plane_model.specs.Parity.{odd_count, links_of_paths}
 use Rattle.plane_model.specs.Rotation.{Dart}
-use Rattle.plane_model.specs.Rings.{turn_at}
+use Rattle.plane_model.specs.Rings.{turn_at, turn_at_least}
 use Rattle.plane_model.proofs.PointOrder.{before_to}
 use Rattle.plane_parity.proofs.Determinant.{turn-rotate}
 use Rattle.plane_parity.proofs.Telescope.{same_point-self, same_point-true}
-use Rattle.plane_faces.specs.Rings.{links_of_path, dart_of_step, darts_of_path, darts_of_paths, ring_by, turns_left}
+use Rattle.plane_faces.specs.Rings.{links_of_path, dart_of_step, darts_of_path, darts_of_paths, ring_by}
 use Rattle.plane_faces.proofs.Order.{before_not_itself}
 
 -- ---- links and darts
@@ -97,7 +96,7 @@ module _ (p r q : GridPoint) (hr : IsBefore p r) (hq : IsBefore p q) where
       ap (λ (b : Bool). cond b (turn (at a) (at x) (at y)) (turn_at p (x ∷ (y ∷ ((ys ++ (q ∷ (p ∷ []))) ++ (r ∷ [])))))) (not_least x hx)
       ∙ turn_is x y ys (All-head (IsBefore p) y ys h) (All-tail (IsBefore p) y ys h)
 
-  pub turns_by_ends : (ps : List GridPoint) → All (IsBefore p) ps → turns_left (ring_by p r ps q) ≡ int_lt (pos 0) (turn (at p) (at r) (at q))
-  turns_by_ends ps h =
-      ap (λ (least : GridPoint). int_lt (pos 0) (turn_at least (ring_by p r ps q ++ (r ∷ [])))) (least_is p r ps hr h)
-      ∙ ap (int_lt (pos 0)) (turn_is p r ps hr h ∙ turn-rotate (at q) (at p) (at r))
+  pub turn_by_ends : (ps : List GridPoint) → All (IsBefore p) ps → turn_at_least (ring_by p r ps q) ≡ turn (at p) (at r) (at q)
+  turn_by_ends ps h =
+      ap (λ (least : GridPoint). turn_at least (ring_by p r ps q ++ (r ∷ []))) (least_is p r ps hr h)
+      ∙ turn_is p r ps hr h ∙ turn-rotate (at q) (at p) (at r)

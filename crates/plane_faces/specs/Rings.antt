@@ -1,5 +1,5 @@
 -- Rings, their darts, and the polygons that they make.
-use Rattle.std.specs.Prelude.{◌≡◌, Bool, true, false, not, pos, int_lt, List, [], ◌∷◌, ◌++◌, map, All, Contains}
+use Rattle.std.specs.Prelude.{◌≡◌, Bool, true, false, not, pos, ◌<ℤ◌, int_lt, List, [], ◌∷◌, ◌++◌, map, All, Contains}
 use Rattle.plane_model.specs.Points.{GridPoint, RationalPoint, Segment, Path, is_before, link_between}
 use Rattle.plane_model.specs.Arrangement.{IsBefore}
 use Rattle.plane_model.specs.Drawing.{steps, steps_of_paths}
@@ -49,15 +49,15 @@ pub record StartsLeast (ring : Path) : Type 0 where
 abbrev pub turns_left : Path → Bool
 turns_left ring = int_lt (pos 0) (turn_at_least ring)
 
--- of the rings one is the exterior, which turns left at its least vertex, the others are holes, which do not, and a point is where f holds
--- just if it is inside the exterior and in no hole
+-- of the rings one is the exterior, which turns left at its least vertex, the others are holes, which turn right, and a point is where f
+-- holds just if it is inside the exterior and in no hole
 pub record IsPolygon (S : List Segment) (f : Place → Bool) (rings : List Path) : Type 0 where
   pub before : List Path
   pub exterior : Path
   pub after : List Path
   pub are : rings ≡ before ++ (exterior ∷ after)
-  pub exterior_turns_left : turns_left exterior ≡ true
-  pub holes_do_not : All (λ hole. turns_left hole ≡ false) (before ++ after)
+  pub exterior_turns_left : pos 0 <ℤ turn_at_least exterior
+  pub holes_turn_right : All (λ hole. turn_at_least hole <ℤ pos 0) (before ++ after)
   pub inside : (z : RationalPoint) (a : Place) → IsPlaceOf S z a → f a ≡ true → (odd (links_of_path exterior) z ≡ true) × All (λ hole. odd (links_of_path hole) z ≡ false) (before ++ after)
   pub held : (z : RationalPoint) (a : Place) → IsPlaceOf S z a → odd (links_of_path exterior) z ≡ true → All (λ hole. odd (links_of_path hole) z ≡ false) (before ++ after) → f a ≡ true
 
