@@ -13,12 +13,12 @@ use Rattle.plane_model.specs.Arrangement.{IsArrangement, IsDistinct}
 use Rattle.plane_model.specs.Parity.{xor, odd, links_of_paths}
 use Rattle.plane_model.specs.Snapped.{snapped, links_of}
 use Rattle.plane_model.specs.Sides.{LeftIn, RightIn}
-use Rattle.plane_model.specs.Joined.{IsClosed, IsClosedRun, AreJoinedPast, IsBoundaryLink}
+use Rattle.plane_model.specs.Joined.{IsClosedRun, AreJoinedPast, IsBoundaryLink}
 use Rattle.plane_faces.specs.Places.{Place, left_side, right_side, AgreesWherePlacesMeet, border}
 use Rattle.plane_faces.specs.Labels.{among}
-use Rattle.plane_faces.specs.Rings.{links_of_path, IsRing, IsSeparating}
+use Rattle.plane_faces.specs.Rings.{links_of_path, IsSeparating}
 use Rattle.plane_faces.specs.Classes.{PointsWhere, LabelsAreFaces, LabelsHaveOneListOfHolders, SidesAreTested, BordersAreBoundaries, PartsAreJoined}
-use Rattle.plane_faces.proofs.Runs.{links_are}
+use Rattle.plane_faces.proofs.Runs.{links_are, ring_closed}
 use Rattle.plane_faces.proofs.Order.{place_exists}
 use Rattle.plane_faces.proofs.Sorting.{rotations_exist}
 use Rattle.plane_faces.proofs.FaceLaws.{one_face, among_agrees}
@@ -30,11 +30,6 @@ use Rattle.plane_faces.proofs.Separating.{faces_by_ring, parts_by_ring}
 -- numbers are equal, or are not
 equal_or : {G : Type 0} (m n : ℕ) → (m ≡ n → G) → ((m ≡ n → ⊥) → G) → G
 equal_or m n f g = by_test (nat_eq m n) (λ e. f (eqb-true m n e)) (λ e. g (λ h. let c : true ≡ false = sym (eq-eqb m n h) ∙ e in absurd (cc)))
-
-pub ring_closed : (ring : Path) → IsRing ring → IsClosed ring
-ring_closed [] h = absurd h
-ring_closed (p ∷ []) h = absurd h
-ring_closed (p ∷ q ∷ rest) h = h.0
 
 -- what one ring separates is not joined
 ring_parts : (T : List Segment) (u v : RationalPoint) → (ring : Path) × IsSeparating T u v ring → AreJoinedPast T u v → ⊥

@@ -1,9 +1,9 @@
 -- The laws in the form of the contracts: with the rotations that every arrangement has.
-use Rattle.std.proofs.Common.{◌≡◌, inl, inr, ℕ, sym, ap, subst, ◌∙◌, Bool, true, false, List, [], ◌∷◌, map}
+use Rattle.std.proofs.Common.{◌≡◌, refl, inl, inr, ℕ, sym, ap, subst, ◌∙◌, Bool, true, false, List, [], ◌∷◌, map}
 use Rattle.std.specs.Prelude.{All, Contains}
 use Rattle.std.specs.List.Sorted.{IsPermutation}
 use Rattle.std.proofs.lemmas.List.Elements.{All-weaker, All-contains, All-contains_itself}
-use Rattle.std.proofs.lemmas.List.Sorted.{IsPermutation-sym, IsPermutation-trans, IsPermutation-map, All-permutation}
+use Rattle.std.proofs.lemmas.List.Sorted.{IsPermutation-refl, IsPermutation-sym, IsPermutation-trans, IsPermutation-map, All-permutation}
 use Rattle.plane_parity.proofs.ClosedRun.{closed_run_even}
 use Rattle.plane_model.specs.Points.{RationalPoint, GridPoint, Segment, Path}
 use Rattle.plane_model.specs.Arrangement.{IsBefore, IsArrangement, IsDistinct}
@@ -22,6 +22,7 @@ use Rattle.plane_faces.proofs.FaceLaws.{place_beside}
 use Rattle.plane_faces.proofs.Parts.{one_part, border_in}
 use Rattle.plane_faces.proofs.BorderRings.{rings_of_border, link_of, links_of_darts}
 use Rattle.plane_faces.proofs.LeastFirst.{Bordering, all_turned}
+use Rattle.plane_faces.proofs.Turns.{HasLeastStart}
 use Rattle.plane_faces.proofs.Polygon.{starts_closed, turned_at, polygon}
 
 pub parts_not_separated : (S : List Segment) → IsArrangement S → (label : Place → ℕ) → IsFaceLabelling S label → (F : ℕ → Bool) → (part : ℕ → ℕ) → IsPartLabelling S label F part → (L : List Segment) → All (Contains (border (among label F) S)) L
@@ -89,9 +90,17 @@ border_paths S arr distinct f agrees =
     (r.0, r.1, r.2, subst (λ (ls : List Segment). IsPermutation ls (border f S)) (links_are r.0) r.3, subst (All (λ d. f (left_of d) ≡ true)) (darts_are r.0) r.4)
 
 pub part_paths : (S : List Segment) → IsArrangement S → IsDistinct S → (label : Place → ℕ) → IsFaceLabelling S label → (F : ℕ → Bool) → F (label outside) ≡ false → (part : ℕ → ℕ) → IsPartLabelling S label F part → (n : ℕ)
-    → (rings : List Path) → All StartsLeast rings → All (λ d. in_part F part n (label (left_of d)) ≡ true) (darts_of_paths rings)
+    → (rings : List Path) → All HasLeastStart rings → All (λ d. in_part F part n (label (left_of d)) ≡ true) (darts_of_paths rings)
     → IsPermutation (links_of_paths rings) (border (among label (in_part F part n)) S) → (b : Place) → IsBeside S b → in_part F part n (label b) ≡ true → IsPolygon S (among label (in_part F part n)) rings
 part_paths S arr distinct label faces F none part parts n rings starts left tracing =
     polygon S arr distinct (rotations_exist S arr distinct) label faces F none part parts n rings starts
     (subst (All (λ d. in_part F part n (label (left_of d)) ≡ true)) (sym (darts_are rings)) left)
     (subst (λ (ls : List Segment). IsPermutation ls (border (among label (in_part F part n)) S)) (sym (links_are rings)) tracing)
+
+pub least_start : (ring : Path) → StartsLeast ring → HasLeastStart ring
+least_start ring s = record { closed = starts_closed ring s; begun = ring; least = s; same_darts = IsPermutation-refl (darts_of_path ring); same_turn = refl }
+
+pub least_paths : (S : List Segment) → IsArrangement S → IsDistinct S → (label : Place → ℕ) → IsFaceLabelling S label → (F : ℕ → Bool) → F (label outside) ≡ false → (part : ℕ → ℕ) → IsPartLabelling S label F part → (n : ℕ)
+    → (rings : List Path) → All StartsLeast rings → All (λ d. in_part F part n (label (left_of d)) ≡ true) (darts_of_paths rings)
+    → IsPermutation (links_of_paths rings) (border (among label (in_part F part n)) S) → (b : Place) → IsBeside S b → in_part F part n (label b) ≡ true → IsPolygon S (among label (in_part F part n)) rings
+least_paths S arr distinct label faces F none part parts n rings starts = part_paths S arr distinct label faces F none part parts n rings (All-weaker StartsLeast HasLeastStart least_start rings starts)

@@ -1,21 +1,24 @@
 -- A ring can start at its least vertex.
 use Rattle.std.proofs.Common.{◌≡◌, ◌⊎◌, inl, inr, refl, sym, ap, subst, ◌∙◌, Bool, true, false, cond, List, [], ◌∷◌, ◌++◌}
-use Rattle.std.specs.Prelude.{All, Contains}
+use Rattle.std.specs.Prelude.{All, Contains, if◌then◌else◌}
 use Rattle.std.specs.List.Sorted.{IsPermutation}
 use Rattle.std.proofs.lemmas.List.{append_assoc}
 use Rattle.std.proofs.lemmas.List.Elements.{All-head, All-tail, All-cons, All-nil, All-append, All-weaker, All-contains, All-contains_itself}
 use Rattle.std.proofs.lemmas.List.Sorted.{IsPermutation-append_comm, IsPermutation-append, IsPermutation-refl, All-permutation}
-use Rattle.lists.specs.Lists.{last_of}
+use Rattle.lists.specs.Lists.{last_of, least_of}
 use Rattle.plane_model.specs.Points.{GridPoint, Segment, is_before, Path}
 use Rattle.plane_model.specs.Parity.{xor}
 use Rattle.plane_model.specs.Arrangement.{IsBefore, IsArrangement}
 use Rattle.plane_model.specs.Rotation.{Dart}
 use Rattle.plane_faces.specs.Around.{forward_dart, backward_dart}
 use Rattle.plane_faces.specs.Places.{Place, left_of, left_side, right_side, border}
-use Rattle.plane_faces.proofs.Runs.{AreDifferent, pairs_differ, differ_pairwise, dart_between, darts_from, darts_of_runs}
+use Rattle.plane_faces.proofs.Runs.{AreDifferent, pairs_differ, differ_pairwise, ring_closed, dart_between, darts_from, darts_of_runs}
 use Rattle.plane_faces.specs.Rings.{IsRing, darts_of_path, StartsLeast}
 use Rattle.plane_faces.proofs.Lists.{all_left, all_right}
-use Rattle.plane_faces.proofs.Order.{before_trans, before_not_itself, order_cases}
+use Rattle.plane_model.specs.Rings.{turn_at_least}
+use Rattle.plane_model.proofs.PointOrder.{before_to}
+use Rattle.plane_faces.proofs.Turns.{HasLeastStart, Other, turn_begun_at}
+use Rattle.plane_faces.proofs.Order.{before_trans, before_not_itself, before_not_back, order_cases}
 use Rattle.plane_faces.proofs.Orientation.{dart_on, dart_back}
 use Rattle.plane_faces.proofs.Parts.{passes_filter, border_in}
 
@@ -68,15 +71,33 @@ different_turned xs p ys h =
 AtLeast : GridPoint → GridPoint → Type 0
 AtLeast p x = (x ≡ p) ⊎ IsBefore p x
 
-least_in : (q : GridPoint) (run : List GridPoint) → (xs : List GridPoint) × (p : GridPoint) × (ys : List GridPoint) × (q ∷ run ≡ xs ++ (p ∷ ys)) × All (AtLeast p) (q ∷ run)
+least_in : (q : GridPoint) (run : List GridPoint) → (xs : List GridPoint) × (p : GridPoint) × (ys : List GridPoint) × (q ∷ run ≡ xs ++ (p ∷ ys)) × All (AtLeast p) (q ∷ run) × ((d : GridPoint) → least_of is_before d (q ∷ run) ≡ p)
 unfolding AtLeast
-least_in q [] = ([], q, [], refl, All-cons (AtLeast q) q [] (inl refl) (All-nil (AtLeast q)))
+least_in q [] = ([], q, [], refl, All-cons (AtLeast q) q [] (inl refl) (All-nil (AtLeast q)), λ d. refl)
 least_in q (r ∷ run) =
-    let t : (xs : List GridPoint) × (p : GridPoint) × (ys : List GridPoint) × (r ∷ run ≡ xs ++ (p ∷ ys)) × All (AtLeast p) (r ∷ run) = least_in r run in
+    let t : (xs : List GridPoint) × (p : GridPoint) × (ys : List GridPoint) × (r ∷ run ≡ xs ++ (p ∷ ys)) × All (AtLeast p) (r ∷ run) × ((d : GridPoint) → least_of is_before d (r ∷ run) ≡ p) = least_in r run in
     elim (order_cases q t.1) [
-      | inl h ↦ ([], q, r ∷ run, refl, All-cons (AtLeast q) q (r ∷ run) (inl refl) (All-weaker (AtLeast t.1) (AtLeast q) (λ x k. elim k [ inl e ↦ inr (subst (IsBefore q) (sym e) h) | inr b ↦ inr (before_trans q t.1 x h b) ]) (r ∷ run) t.4))
-      | inr s ↦ (q ∷ t.0, t.1, t.2, ap (λ (ps : List GridPoint). q ∷ ps) t.3, All-cons (AtLeast t.1) q (r ∷ run) s t.4)
+      | inl h ↦ (
+        [],
+        q,
+        r ∷ run,
+        refl,
+        All-cons (AtLeast q) q (r ∷ run) (inl refl) (All-weaker (AtLeast t.1) (AtLeast q) (λ x k. elim k [ inl e ↦ inr (subst (IsBefore q) (sym e) h) | inr b ↦ inr (before_trans q t.1 x h b) ]) (r ∷ run) t.4),
+        λ d. ap (λ (m : GridPoint). if is_before m q then m else q) (t.5 d) ∙ ap (λ (b : Bool). if b then t.1 else q) (before_not_back q t.1 h),
+      )
+      | inr s ↦ (
+        q ∷ t.0,
+        t.1,
+        t.2,
+        ap (λ (ps : List GridPoint). q ∷ ps) t.3,
+        All-cons (AtLeast t.1) q (r ∷ run) s t.4,
+        λ d. ap (λ (m : GridPoint). if is_before m q then m else q) (t.5 d) ∙ elim s [ inl e ↦ either (is_before t.1 q) q t.1 e | inr h ↦ ap (λ (b : Bool). if b then t.1 else q) (before_to t.1 q h) ],
+      )
     ]
+  where
+    either : (b : Bool) (x m : GridPoint) → x ≡ m → (if b then m else x) ≡ m
+    either true x m e = refl
+    either false x m e = e
 
 after_least : (p : GridPoint) (zs : List GridPoint) → All (AtLeast p) zs → NotIn zs p → All (IsBefore p) zs
 unfolding AtLeast
@@ -142,12 +163,12 @@ module _ (S : List Segment) (arr : IsArrangement S) (f : Place → Bool) where
       rest : All (IsBefore p) (t.0 ++ (t.1 ∷ []))
       rest = subst (All (IsBefore p)) t.2 (All-tail (IsBefore p) r (s ∷ m) after)
 
-  pub turned : (run : List GridPoint) → IsRing run → All Bordering (darts_of_path run) → (run' : List GridPoint) × IsRing run' × StartsLeast run' × IsPermutation (darts_of_path run) (darts_of_path run')
+  pub turned : (run : List GridPoint) → IsRing run → All Bordering (darts_of_path run) → (run' : List GridPoint) × IsRing run' × StartsLeast run' × IsPermutation (darts_of_path run) (darts_of_path run') × (turn_at_least run ≡ turn_at_least run')
   turned [] h b = absurd h
   turned (c ∷ []) h b = absurd h
-  turned (c ∷ (q ∷ run)) h b = (p ∷ (mid ++ (p ∷ [])), r.0, r.1, perm)
+  turned (c ∷ (q ∷ run)) h b = (p ∷ (mid ++ (p ∷ [])), r.0, r.1, perm, turn_begun_at c q p run t.0 t.2 t.3 closes (t.5 c) (all_right (Other p) t.2 t.0 others) others after)
     where
-      t : (xs : List GridPoint) × (p : GridPoint) × (ys : List GridPoint) × (q ∷ run ≡ xs ++ (p ∷ ys)) × All (AtLeast p) (q ∷ run)
+      t : (xs : List GridPoint) × (p : GridPoint) × (ys : List GridPoint) × (q ∷ run ≡ xs ++ (p ∷ ys)) × All (AtLeast p) (q ∷ run) × ((d : GridPoint) → least_of is_before d (q ∷ run) ≡ p)
       t = least_in q run
 
       p : GridPoint
@@ -173,12 +194,26 @@ module _ (S : List Segment) (arr : IsArrangement S) (f : Place → Bool) where
       after = after_least p mid (All-append (AtLeast p) t.2 t.0 (All-tail (AtLeast p) p t.2 (all_right (AtLeast p) t.0 (p ∷ t.2) at_least)) (all_left (AtLeast p) t.0 (p ∷ t.2) at_least))
           (All-weaker (NotIn (p ∷ [])) (λ x. x ≡ p → ⊥) (λ x n e. All-head (λ y. y ≡ x → ⊥) p [] n (sym e)) mid (different_parts mid (p ∷ []) different).2)
 
+      closes : last_of p t.2 ≡ c
+      closes = sym (last_cut c t.0 p t.2) ∙ sym (ap (last_of c) t.3) ∙ h.0
+
+      others : All (Other p) mid
+      others = All-weaker (NotIn (p ∷ [])) (Other p) (λ x n e. All-head (λ y. y ≡ x → ⊥) p [] n (sym e)) mid (different_parts mid (p ∷ []) different).2
+
       r : IsRing (p ∷ (mid ++ (p ∷ []))) × StartsLeast (p ∷ (mid ++ (p ∷ [])))
       r = begun p mid after different (All-permutation Bordering (darts_from c (q ∷ run)) (darts_from p (mid ++ (p ∷ []))) perm b)
 
   pub all_turned : (runs : List Path) → All IsRing runs → All Bordering (darts_of_runs runs) → (runs' : List Path) × All IsRing runs' × All StartsLeast runs' × IsPermutation (darts_of_runs runs) (darts_of_runs runs')
   all_turned [] h b = ([], All-nil IsRing, All-nil StartsLeast, IsPermutation-refl [])
   all_turned (run ∷ runs) h b =
-      let r : (run' : List GridPoint) × IsRing run' × StartsLeast run' × IsPermutation (darts_of_path run) (darts_of_path run') = turned run (All-head IsRing run runs h) (all_left Bordering (darts_of_path run) (darts_of_runs runs) b) in
+      let r : (run' : List GridPoint) × IsRing run' × StartsLeast run' × IsPermutation (darts_of_path run) (darts_of_path run') × (turn_at_least run ≡ turn_at_least run') = turned run (All-head IsRing run runs h) (all_left Bordering (darts_of_path run) (darts_of_runs runs) b) in
       let s : (runs' : List Path) × All IsRing runs' × All StartsLeast runs' × IsPermutation (darts_of_runs runs) (darts_of_runs runs') = all_turned runs (All-tail IsRing run runs h) (all_right Bordering (darts_of_path run) (darts_of_runs runs) b) in
       (r.0 ∷ s.0, All-cons IsRing r.0 s.0 r.1 s.1, All-cons StartsLeast r.0 s.0 r.2 s.2, IsPermutation-append (darts_of_path run) (darts_of_path r.0) (darts_of_runs runs) (darts_of_runs s.0) r.3 s.3)
+
+  pub least_starts : (runs : List Path) → All IsRing runs → All Bordering (darts_of_runs runs) → All HasLeastStart runs
+  least_starts [] h b = All-nil HasLeastStart
+  least_starts (run ∷ runs) h b =
+      let ring = All-head IsRing run runs h in
+      let r = turned run ring (all_left Bordering (darts_of_path run) (darts_of_runs runs) b) in
+      All-cons HasLeastStart run runs (record { closed = ring_closed run ring; begun = r.0; least = r.2; same_darts = r.3; same_turn = r.4 })
+      (least_starts runs (All-tail IsRing run runs h) (all_right Bordering (darts_of_path run) (darts_of_runs runs) b))

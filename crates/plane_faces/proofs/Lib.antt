@@ -13,6 +13,7 @@ pub mod Joining
 pub mod OneJoin
 pub mod Parts
 pub mod Runs
+pub mod Turns
 pub mod Tracing
 pub mod EvenRings
 pub mod BorderRings

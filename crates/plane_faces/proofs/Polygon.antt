@@ -1,24 +1,29 @@
 -- The rings of a part: exactly one turns left and holds the part, the others turn right and are its holes.
-use Rattle.std.proofs.Common.{int_lt, pos, ◌≡◌, ℕ, refl, sym, ap, subst, ◌∙◌, Bool, true, false, List, [], ◌∷◌, ◌++◌, ◌⊎◌, inl, inr}
+use Rattle.std.proofs.Common.{int_lt, pos, ◌≡◌, ℕ, refl, sym, ap, subst, ◌∙◌, Bool, true, false, List, [], ◌∷◌, ◌++◌, ◌⊎◌, inl, inr, map}
 use Rattle.std.specs.Prelude.{All, Contains, ◌<ℤ◌}
 use Rattle.std.specs.List.Sorted.{IsPermutation}
 use Rattle.std.proofs.lemmas.List.Elements.{All-head, All-tail, All-cons, All-nil, All-append, All-weaker, All-contains, All-contains_itself}
-use Rattle.std.proofs.lemmas.List.Sorted.{All-permutation, IsPermutation-sym}
+use Rattle.std.proofs.lemmas.List.Sorted.{All-permutation, IsPermutation-sym, IsPermutation-map}
 use Rattle.std.proofs.Math.IntN.{ℤ}
+use Rattle.plane_model.specs.Sees.{midpoint}
+use Rattle.plane_model.specs.Sides.{counts_on_left}
+use Rattle.plane_model.specs.Drawing.{steps}
+use Rattle.plane_faces.proofs.BorderRings.{link_of}
+use Rattle.plane_faces.proofs.Turns.{HasLeastStart}
 use Rattle.plane_model.specs.Rings.{turn_at_least}
 use Rattle.plane_algebra.proofs.Tests.{lt_from, lt_to}
 use Rattle.plane_parity.proofs.ClosedRun.{closed_run_even}
 use Rattle.plane_parity.proofs.Boundary.{filter_distinct}
 use Rattle.plane_model.specs.Points.{RationalPoint, GridPoint, Segment, Path}
-use Rattle.plane_model.specs.Parity.{xor, odd}
+use Rattle.plane_model.specs.Parity.{xor, odd, is_below}
 use Rattle.plane_model.specs.Arrangement.{IsArrangement, IsDistinct}
 use Rattle.plane_model.specs.Joined.{IsClosed}
 use Rattle.plane_model.specs.Rotation.{odd_left_of}
 use Rattle.plane_faces.specs.Rings.{links_of_path, ring_by, darts_of_path, StartsLeast, turns_left, IsPolygon}
-use Rattle.plane_faces.proofs.Runs.{links_of_runs, dart_between, darts_from, darts_of_runs, passes, turn_by_ends}
+use Rattle.plane_faces.proofs.Runs.{links_of_runs, dart_between, darts_from, darts_of_runs, passes, turn_by_ends, all_links}
 use Rattle.plane_faces.specs.Places.{Place, outside, left_of, left_side, right_side, IsBeside, border, odd_at, IsLowest}
 use Rattle.plane_faces.specs.Labels.{IsFaceLabelling, among, IsPartLabelling, in_part}
-use Rattle.plane_faces.proofs.Lists.{contains_head, contains_tail, all_left, all_right}
+use Rattle.plane_faces.proofs.Lists.{contains_head, contains_tail, all_left, all_right, odd_count-permutation}
 use Rattle.plane_faces.proofs.Connected.{HasRotations, border_at}
 use Rattle.plane_faces.proofs.Parts.{border_in}
 use Rattle.plane_faces.proofs.Corner.{lowest_exists}
@@ -69,6 +74,37 @@ module _ (S : List Segment) (arr : IsArrangement S) (label : Place → ℕ) (fac
       left' : All (λ d. held (left_of d) ≡ true) (darts_of_path (ring_by s.least s.next s.others s.last))
       left' = subst (λ (r : List GridPoint). All (λ d. held (left_of d) ≡ true) (darts_of_path r)) s.is left
 
+  -- ---- the same for a ring that may begin elsewhere
+
+  links_begun : (run : Path) (s : HasLeastStart run) → IsPermutation (links_of_path run) (links_of_path s.begun)
+  links_begun run s =
+      subst (IsPermutation (links_of_path run)) (all_links (steps s.begun))
+      (subst (λ (ls : List Segment). IsPermutation ls (map link_of (darts_of_path s.begun))) (all_links (steps run)) (IsPermutation-map link_of (darts_of_path run) (darts_of_path s.begun) s.same_darts))
+
+  odd_at-permutation : (L M : List Segment) → IsPermutation L M → (b : Place) → odd_at L b ≡ odd_at M b
+  odd_at-permutation L M h outside = refl
+  odd_at-permutation L M h (left_of d) = go d.link d.forward
+    where
+      go : (l : Segment) (forward : Bool) → odd_left_of L (record { link = l; forward = forward }) ≡ odd_left_of M (record { link = l; forward = forward })
+      go l true = odd_count-permutation (counts_on_left l) L M h
+      go l false = odd_count-permutation (is_below (midpoint l)) L M h
+
+  module _ (run : Path) (s : HasLeastStart run) (within : All (Contains B) (links_of_path run)) (left : All (λ d. held (left_of d) ≡ true) (darts_of_path run)) where
+    within_begun : All (Contains B) (links_of_path s.begun)
+    within_begun = All-permutation (Contains B) (links_of_path run) (links_of_path s.begun) (links_begun run s) within
+
+    left_begun : All (λ d. held (left_of d) ≡ true) (darts_of_path s.begun)
+    left_begun = All-permutation (λ d. held (left_of d) ≡ true) (darts_of_path run) (darts_of_path s.begun) s.same_darts left
+
+    pub turned_anywhere : (b : Place) → IsBeside S b → held b ≡ true → odd_at (links_of_path run) b ≡ turns_left run
+    turned_anywhere b hb e =
+        odd_at-permutation (links_of_path run) (links_of_path s.begun) (links_begun run s) b
+        ∙ turned_at s.begun s.least within_begun left_begun b hb e
+        ∙ ap (int_lt (pos 0)) (sym s.same_turn)
+
+    pub turns_anywhere : (pos 0 <ℤ turn_at_least run) ⊎ (turn_at_least run <ℤ pos 0)
+    turns_anywhere = subst (λ (t : ℤ). (pos 0 <ℤ t) ⊎ (t <ℤ pos 0)) (sym s.same_turn) (turns_there s.begun s.least within_begun left_begun)
+
 module _ (S : List Segment) (arr : IsArrangement S) (distinct : IsDistinct S) (rotations : HasRotations S) (label : Place → ℕ) (faces : IsFaceLabelling S label)
     (F : ℕ → Bool) (none : F (label outside) ≡ false) (part : ℕ → ℕ) (parts : IsPartLabelling S label F part) (n : ℕ) where
   abbrev part_of : Place → Bool
@@ -77,22 +113,22 @@ module _ (S : List Segment) (arr : IsArrangement S) (distinct : IsDistinct S) (r
   abbrev border_of : List Segment
   border_of = border part_of S
 
-  module _ (runs : List Path) (starts : All StartsLeast runs) (left : All (λ d. part_of (left_of d) ≡ true) (darts_of_runs runs)) (tracing : IsPermutation (links_of_runs runs) border_of)
+  module _ (runs : List Path) (starts : All HasLeastStart runs) (left : All (λ d. part_of (left_of d) ≡ true) (darts_of_runs runs)) (tracing : IsPermutation (links_of_runs runs) border_of)
       (b : Place) (hb : IsBeside S b) (some' : part_of b ≡ true) where
     closed : All IsClosed runs
-    closed = All-weaker StartsLeast IsClosed starts_closed runs starts
+    closed = All-weaker HasLeastStart IsClosed (λ run s. s.closed) runs starts
 
     module _ (a : Segment) (ca : Contains border_of a) (lowest : IsLowest border_of a) where
       abbrev Same : List GridPoint → Type 0
       Same run = passes a run ≡ turns_left run
 
-      same_of : (rs : List Path) → All StartsLeast rs → All (λ run. All (Contains border_of) (links_of_path run)) rs → All (λ d. part_of (left_of d) ≡ true) (darts_of_runs rs) → All Same rs
+      same_of : (rs : List Path) → All HasLeastStart rs → All (λ run. All (Contains border_of) (links_of_path run)) rs → All (λ d. part_of (left_of d) ≡ true) (darts_of_runs rs) → All Same rs
       same_of [] s w l = All-nil Same
       same_of (run ∷ rs) s w l =
           All-cons Same run rs
-          (sym (counted_at_part S arr distinct rotations label faces F none part parts n a ca lowest (links_of_path run) (All-head (λ r. All (Contains border_of) (links_of_path r)) run rs w) (closed_run_even run (starts_closed run (All-head StartsLeast run rs s))) b hb some')
-          ∙ turned_at S arr label faces F part parts n run (All-head StartsLeast run rs s) (All-head (λ r. All (Contains border_of) (links_of_path r)) run rs w) (all_left (λ d. part_of (left_of d) ≡ true) (darts_of_path run) (darts_of_runs rs) l) b hb some')
-          (same_of rs (All-tail StartsLeast run rs s) (All-tail (λ r. All (Contains border_of) (links_of_path r)) run rs w) (all_right (λ d. part_of (left_of d) ≡ true) (darts_of_path run) (darts_of_runs rs) l))
+          (sym (counted_at_part S arr distinct rotations label faces F none part parts n a ca lowest (links_of_path run) (All-head (λ r. All (Contains border_of) (links_of_path r)) run rs w) (closed_run_even run ((All-head HasLeastStart run rs s).closed)) b hb some')
+          ∙ turned_anywhere S arr label faces F part parts n run (All-head HasLeastStart run rs s) (All-head (λ r. All (Contains border_of) (links_of_path r)) run rs w) (all_left (λ d. part_of (left_of d) ≡ true) (darts_of_path run) (darts_of_runs rs) l) b hb some')
+          (same_of rs (All-tail HasLeastStart run rs s) (All-tail (λ r. All (Contains border_of) (links_of_path r)) run rs w) (all_right (λ d. part_of (left_of d) ≡ true) (darts_of_path run) (darts_of_runs rs) l))
 
       same : All Same runs
       same = same_of runs starts
@@ -101,12 +137,12 @@ module _ (S : List Segment) (arr : IsArrangement S) (distinct : IsDistinct S) (r
       abbrev Turns : List GridPoint → Type 0
       Turns run = (pos 0 <ℤ turn_at_least run) ⊎ (turn_at_least run <ℤ pos 0)
 
-      turns_of : (rs : List Path) → All StartsLeast rs → All (λ run. All (Contains border_of) (links_of_path run)) rs → All (λ d. part_of (left_of d) ≡ true) (darts_of_runs rs) → All Turns rs
+      turns_of : (rs : List Path) → All HasLeastStart rs → All (λ run. All (Contains border_of) (links_of_path run)) rs → All (λ d. part_of (left_of d) ≡ true) (darts_of_runs rs) → All Turns rs
       turns_of [] s w l = All-nil Turns
       turns_of (run ∷ rs) s w l =
           All-cons Turns run rs
-          (turns_there S arr label faces F part parts n run (All-head StartsLeast run rs s) (All-head (λ r. All (Contains border_of) (links_of_path r)) run rs w) (all_left (λ d. part_of (left_of d) ≡ true) (darts_of_path run) (darts_of_runs rs) l))
-          (turns_of rs (All-tail StartsLeast run rs s) (All-tail (λ r. All (Contains border_of) (links_of_path r)) run rs w) (all_right (λ d. part_of (left_of d) ≡ true) (darts_of_path run) (darts_of_runs rs) l))
+          (turns_anywhere S arr label faces F part parts n run (All-head HasLeastStart run rs s) (All-head (λ r. All (Contains border_of) (links_of_path r)) run rs w) (all_left (λ d. part_of (left_of d) ≡ true) (darts_of_path run) (darts_of_runs rs) l))
+          (turns_of rs (All-tail HasLeastStart run rs s) (All-tail (λ r. All (Contains border_of) (links_of_path r)) run rs w) (all_right (λ d. part_of (left_of d) ≡ true) (darts_of_path run) (darts_of_runs rs) l))
 
       within' : All (λ run. All (Contains border_of) (links_of_path run)) runs
       within' = run_within S arr distinct rotations label faces F none part parts n a ca lowest runs (All-permutation (Contains border_of) border_of (links_of_runs runs) (IsPermutation-sym (links_of_runs runs) border_of tracing) (All-contains_itself border_of))

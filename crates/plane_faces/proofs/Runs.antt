@@ -1,5 +1,5 @@
 -- Paths, one step after another: their links and darts, points that differ, and the turn at the least vertex.
-use Rattle.std.proofs.Common.{◌≡◌, ◌≢◌, suc, refl, sym, ap, subst, ◌∙◌, arith, Bool, true, false, cond, List, [], ◌∷◌, ◌++◌}
+use Rattle.std.proofs.Common.{◌≡◌, ◌≢◌, suc, refl, sym, ap, subst, ◌∙◌, arith, Bool, true, false, cond, List, [], ◌∷◌, ◌++◌, map}
 use Rattle.std.specs.Prelude.{All, AllPairs, if◌then◌else◌}
 use Rattle.std.proofs.lemmas.List.{map-append}
 use Rattle.std.proofs.lemmas.List.Elements.{All-head, All-tail}
@@ -9,12 +9,13 @@ use Rattle.plane_model.specs.Points.{GridPoint, Segment, Path, at, turn, same_po
 use Rattle.plane_model.specs.Arrangement.{IsBefore}
 use Rattle.plane_model.specs.Drawing.{steps, steps_of_paths}
 use Rattle.plane_model.specs.Parity.{odd_count, links_of_paths}
+use Rattle.plane_model.specs.Joined.{IsClosed}
 use Rattle.plane_model.specs.Rotation.{Dart}
 use Rattle.plane_model.specs.Rings.{turn_at, turn_at_least}
 use Rattle.plane_model.proofs.PointOrder.{before_to}
 use Rattle.plane_parity.proofs.Determinant.{turn-rotate}
 use Rattle.plane_parity.proofs.Telescope.{same_point-self, same_point-true}
-use Rattle.plane_faces.specs.Rings.{links_of_path, dart_of_step, darts_of_path, darts_of_paths, ring_by}
+use Rattle.plane_faces.specs.Rings.{IsRing, links_of_path, dart_of_step, darts_of_path, darts_of_paths, ring_by}
 use Rattle.plane_faces.proofs.Order.{before_not_itself}
 
 -- ---- links and darts
@@ -53,6 +54,11 @@ darts_are (run ∷ runs) = ap (λ (ds : List Dart). darts_of_path run ++ ds) (da
 abbrev pub passes : Segment → Path → Bool
 passes a run = odd_count (same_segment a) (links_of_path run)
 
+-- the links of darts
+pub all_links : (xs : List Segment) → map (λ (d : Dart). d.link) (map dart_of_step xs) ≡ map link_between xs
+all_links [] = refl
+all_links (s ∷ xs) = ap (λ (ls : List Segment). link_between s ∷ ls) (all_links xs)
+
 -- ---- points that differ
 
 abbrev pub AreDifferent : List GridPoint → Type 0
@@ -69,6 +75,11 @@ differ_pairwise (p ∷ ps) h = (
   λ k d within e. h 0 (suc k) d (omega arith) (omega arith) (sym e),
   differ_pairwise ps (λ i j d lt within. h (suc i) (suc j) d (omega arith) (omega arith)),
 )
+
+pub ring_closed : (ring : Path) → IsRing ring → IsClosed ring
+ring_closed [] h = absurd h
+ring_closed (p ∷ []) h = absurd h
+ring_closed (p ∷ q ∷ rest) h = h.0
 
 -- ---- the turn at the least vertex, where a closed path starts and ends there
 

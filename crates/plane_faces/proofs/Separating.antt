@@ -18,7 +18,7 @@ use Rattle.plane_faces.proofs.EvenRings.{rings_of_even}
 use Rattle.plane_faces.proofs.Sorting.{rotations_exist}
 use Rattle.plane_faces.proofs.FaceLaws.{different_faces, among_agrees}
 use Rattle.plane_faces.proofs.Parts.{different_parts, border_in}
-use Rattle.plane_faces.proofs.Laws.{border_paths, part_paths}
+use Rattle.plane_faces.proofs.Laws.{border_paths, least_paths}
 
 module _ (z z' : RationalPoint) where
   abbrev Differs : List Segment → Type 0
@@ -84,4 +84,4 @@ pub part_polygon : (S : List Segment) → IsArrangement S → IsDistinct S → (
     → (rings : List Path) × All IsRing rings × IsPermutation (links_of_paths rings) (border (among label (in_part F part n)) S) × IsPolygon S (among label (in_part F part n)) rings
 part_polygon S arr distinct label faces F none part parts n b hb e =
     let r = border_paths S arr distinct (among label (in_part F part n)) (among_agrees S label faces.agrees (in_part F part n)) in
-    (r.0, r.1, r.3, part_paths S arr distinct label faces F none part parts n r.0 r.2 r.4 r.3 b hb e)
+    (r.0, r.1, r.3, least_paths S arr distinct label faces F none part parts n r.0 r.2 r.4 r.3 b hb e)

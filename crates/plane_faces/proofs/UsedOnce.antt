@@ -1,11 +1,11 @@
 -- Steps and darts are one and the same, so rings that use the darts of a border once use its steps once, and back.
 use Rattle.std.proofs.Common.{◌≡◌, refl, sym, ap, subst, ◌∙◌, Bool, true, false, cond, List, [], ◌∷◌, map}
-use Rattle.std.specs.Prelude.{All}
+use Rattle.std.specs.Prelude.{All, Contains}
 use Rattle.std.specs.List.{cons_option}
 use Rattle.std.specs.List.Sorted.{IsPermutation}
-use Rattle.std.proofs.lemmas.List.Elements.{All-head, All-tail, All-weaker}
+use Rattle.std.proofs.lemmas.List.Elements.{All-head, All-tail, All-map, All-contains_itself, All-weaker}
 use Rattle.std.proofs.lemmas.List.Sorted.{IsPermutation-sym, IsPermutation-map, All-permutation}
-use Rattle.plane_model.specs.Points.{Segment, Path, link_between}
+use Rattle.plane_model.specs.Points.{Segment, Path}
 use Rattle.plane_model.specs.Arrangement.{IsBefore}
 use Rattle.plane_model.specs.Drawing.{steps_of_paths}
 use Rattle.plane_model.specs.Parity.{xor, links_of_paths}
@@ -16,12 +16,12 @@ use Rattle.plane_faces.specs.Places.{Place, left_of, left_side, right_side, bord
 use Rattle.plane_faces.specs.Labels.{among, in_part}
 use Rattle.plane_faces.specs.Rings.{dart_of_step, darts_of_paths, IsRing}
 use Rattle.plane_faces.specs.UsedOnce.{border_steps, BordersAreUsedOnce, PartsUsedOnceArePolygons}
-use Rattle.plane_faces.proofs.Runs.{darts_are}
+use Rattle.plane_faces.proofs.Runs.{darts_are, all_links, ring_closed}
 use Rattle.plane_faces.proofs.EvenRings.{between_tail, between_head}
 use Rattle.plane_faces.proofs.BorderRings.{link_of, links_of_border, left_held}
 use Rattle.plane_faces.proofs.Orientation.{dart_on, dart_back}
+use Rattle.plane_faces.proofs.LeastFirst.{Bordering, least_starts}
 use Rattle.plane_faces.proofs.Laws.{border_rings, part_paths}
-use Rattle.plane_faces.proofs.Classes.{ring_closed}
 
 abbrev step_of_dart : Dart → Segment
 step_of_dart d = record { start = tail d; stop = head d }
@@ -33,10 +33,6 @@ same_step s = λ i. record { start = between_tail s.start s.stop i; stop = betwe
 all_steps : (xs : List Segment) → map step_of_dart (map dart_of_step xs) ≡ xs
 all_steps [] = refl
 all_steps (s ∷ xs) = λ i. same_step s i ∷ all_steps xs i
-
-all_links : (xs : List Segment) → map link_of (map dart_of_step xs) ≡ map link_between xs
-all_links [] = refl
-all_links (s ∷ xs) = ap (λ (ls : List Segment). link_between s ∷ ls) (all_links xs)
 
 module _ (f : Place → Bool) where
   abbrev directed : Segment → Dart
@@ -91,9 +87,23 @@ borders_are_used_once S arr distinct f agrees =
     (r.0, record { closed = All-weaker IsRing IsClosed ring_closed r.0 r.1; steps_once = once_by_steps f S r.0 once }, r.1, r.2)
 
 pub parts_used_once_are_polygons : PartsUsedOnceArePolygons
-parts_used_once_are_polygons S arr distinct label faces F none part parts n rings uses starts b hb e =
-    let f = among label (in_part F part n) in
-    let once = once_by_darts f S rings arr.ordered uses.steps_once in
-    part_paths S arr distinct label faces F none part parts n rings starts
-    (All-permutation (λ d. f (left_of d) ≡ true) (border_darts f S) (darts_of_paths rings) once (left_held f S))
-    (once_by_links f S rings once) b hb e
+parts_used_once_are_polygons S arr distinct label faces F none part parts n rings uses are_rings b hb e =
+    part_paths S arr distinct label faces F none part parts n rings
+    (least_starts S arr f rings are_rings (subst (All (Bordering S arr f)) (sym (darts_are rings)) bordering))
+    left (once_by_links f S rings once) b hb e
+  where
+    f : Place → Bool
+    f = among label (in_part F part n)
+
+    once : IsPermutation (border_darts f S) (darts_of_paths rings)
+    once = once_by_darts f S rings arr.ordered uses.steps_once
+
+    left : All (λ d. f (left_of d) ≡ true) (darts_of_paths rings)
+    left = All-permutation (λ d. f (left_of d) ≡ true) (border_darts f S) (darts_of_paths rings) once (left_held f S)
+
+    there : All (λ d. Contains (border f S) d.link) (darts_of_paths rings)
+    there = All-permutation (λ d. Contains (border f S) d.link) (border_darts f S) (darts_of_paths rings) once
+        (All-map (λ d. Contains (border f S) d.link) (directed f) (border f S) (All-contains_itself (border f S)))
+
+    bordering : All (Bordering S arr f) (darts_of_paths rings)
+    bordering = λ k d lt. (there k d lt, left k d lt)

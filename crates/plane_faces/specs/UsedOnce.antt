@@ -19,8 +19,8 @@ abbrev pub BordersAreUsedOnce : Type 0
 BordersAreUsedOnce = (S : List Segment) → IsArrangement S → IsDistinct S → (f : Place → Bool) → AgreesWherePlacesMeet S f →
     (rings : List Path) × UsesOnce (border_steps f S) rings × All IsRing rings × All StartsLeast rings
 
--- any rings that use the border of a part once, each from its least vertex on, are one exterior and holes, which together hold the part
+-- any rings that use the border of a part once are one exterior and holes, which together hold the part
 abbrev pub PartsUsedOnceArePolygons : Type 0
 PartsUsedOnceArePolygons = (S : List Segment) → IsArrangement S → IsDistinct S → (label : Place → ℕ) → IsFaceLabelling S label → (F : ℕ → Bool) → F (label outside) ≡ false →
-    (part : ℕ → ℕ) → IsPartLabelling S label F part → (n : ℕ) → (rings : List Path) → UsesOnce (border_steps (among label (in_part F part n)) S) rings → All StartsLeast rings →
+    (part : ℕ → ℕ) → IsPartLabelling S label F part → (n : ℕ) → (rings : List Path) → UsesOnce (border_steps (among label (in_part F part n)) S) rings → All IsRing rings →
     (b : Place) → IsBeside S b → in_part F part n (label b) ≡ true → IsPolygon S (among label (in_part F part n)) rings

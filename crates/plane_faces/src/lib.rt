@@ -401,7 +401,7 @@ pub fn borders_are_used_once()
     ensures { BordersAreUsedOnce }
 {}
 
-/// Any rings that use the steps of a part's border once, each from its least vertex on, are a polygon that holds the part.
+/// Any rings that use the steps of a part's border once are a polygon that holds the part, wherever each begins.
 pub fn parts_used_once_are_polygons()
     ensures { PartsUsedOnceArePolygons }
 {}
