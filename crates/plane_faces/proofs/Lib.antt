@@ -26,4 +26,6 @@ pub mod Laws
 pub mod Separating
 pub mod Classes
 pub mod UsedOnce
+pub mod Quarters
+pub mod Axis
 pub mod Examples

@@ -10,8 +10,9 @@ use Rattle.plane_model.specs.Arrangement.{IsBefore}
 use Rattle.plane_model.specs.Drawing.{steps_of_paths}
 use Rattle.plane_model.specs.Parity.{xor, links_of_paths}
 use Rattle.plane_model.specs.Boundary.{boundary_step}
-use Rattle.plane_model.specs.Rotation.{Dart, tail, head}
+use Rattle.plane_model.specs.Rotation.{Dart}
 use Rattle.plane_model.specs.Joined.{IsClosed}
+use Rattle.plane_faces.specs.Around.{step_of_dart}
 use Rattle.plane_faces.specs.Places.{Place, left_of, left_side, right_side, border, border_darts}
 use Rattle.plane_faces.specs.Labels.{among, in_part}
 use Rattle.plane_faces.specs.Rings.{dart_of_step, darts_of_paths, IsRing}
@@ -22,9 +23,6 @@ use Rattle.plane_faces.proofs.BorderRings.{link_of, links_of_border, left_held}
 use Rattle.plane_faces.proofs.Orientation.{dart_on, dart_back}
 use Rattle.plane_faces.proofs.LeastFirst.{Bordering, least_starts}
 use Rattle.plane_faces.proofs.Laws.{border_rings, part_paths}
-
-abbrev step_of_dart : Dart → Segment
-step_of_dart d = record { start = tail d; stop = head d }
 
 -- a step has one dart, and a dart one step
 same_step : (s : Segment) → step_of_dart (dart_of_step s) ≡ s

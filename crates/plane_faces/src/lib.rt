@@ -55,7 +55,7 @@ ghost use Rattle.plane_faces.specs.Rings.{
   links_of_path,
   turns_left,
 };
-ghost use Rattle.plane_faces.specs.Around.{IsRotation, opposite};
+ghost use Rattle.plane_faces.specs.Around.{IsRotation, IsTurn, opposite};
 
 // ---- rotations and places
 
@@ -86,6 +86,13 @@ pub fn each_point_has_one_place()
 pub fn sectors_by_tables()
     ensures { (S : List Segment) → IsArrangement S → (f : Place → ℕ) →
         ((p : GridPoint) → (ds : List Dart) × IsRotation S p ds × AgreesAround f ds) → (d e : Dart) → Contains S d.link →
+        Contains S e.link → IsNext S d e → f (left_of d) ≡ f (left_of (opposite e)) }
+{}
+
+/// So is what is one in each row of a vertex that goes counterclockwise from the positive x axis.
+pub fn sectors_by_turns()
+    ensures { (S : List Segment) → IsArrangement S → (f : Place → ℕ) →
+        ((p : GridPoint) → (ds : List Dart) × IsTurn S p ds × AgreesAround f ds) → (d e : Dart) → Contains S d.link →
         Contains S e.link → IsNext S d e → f (left_of d) ≡ f (left_of (opposite e)) }
 {}
 
