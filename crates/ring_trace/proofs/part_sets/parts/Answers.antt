@@ -1,0 +1,25 @@
+use Rattle.std.proofs.Common.{sym, subst, ℕ, List, All, Contains, IfOk}
+use Rattle.std.proofs.lemmas.List.Elements.{All-weaker, All-contains}
+use Rattle.std.proofs.lemmas.Result.{IfOk-weaker}
+use Rattle.face_walk.specs.Places.{FaceTable}
+use Rattle.ring_trace.specs.declared.part_sets.PartFace.{PartFace}
+use Rattle.ring_trace.specs.Parts.{IsFaceOf, IsPieceOf}
+use Rattle.ring_trace.specs.Sets.{IsInnerFace, IsSetOf}
+use Rattle.ring_trace.proofs.part_sets.parts.Goals as goal
+
+of_parts : (c : goal.After-drop-sides-2) → IfOk c.sets_of.result (All (IsPieceOf c.args.set.now))
+of_parts c = c.sets_of.ensures.of_them c.args.set.now
+    (subst (λ (xs : List ℕ). All (IsFaceOf xs) c.deref-2.result.now) c.faces-faces.ensures.all
+    (subst (λ (ps : List PartFace). All (IsFaceOf c.faces-faces.result.now) ps) (sym c.deref-2.ensures.value) c.in_ok-numbered.ensures.of_them))
+
+-- what holds of each face of a set holds of each face of its pieces
+pieces_inner : (faces : FaceTable) (set : List ℕ) → IsSetOf faces set → (piece : List ℕ) → IsPieceOf set piece → IsSetOf faces piece
+pieces_inner faces set inner piece h = All-weaker (Contains set) (IsInnerFace faces) (λ k there. All-contains (IsInnerFace faces) set k inner there) piece h.faces
+
+pub returns-clause-of_the_set : goal.returns-clause-of_the_set
+returns-clause-of_the_set c = of_parts c
+
+pub returns-clause-inner : goal.returns-clause-inner
+returns-clause-inner c = IfOk-weaker c.sets_of.result (All (IsPieceOf c.args.set.now)) (All (IsSetOf c.args.f.now))
+    (λ sets h. All-weaker (IsPieceOf c.args.set.now) (IsSetOf c.args.f.now) (pieces_inner c.args.f.now c.args.set.now c.requires.faces) sets h)
+    (of_parts c)
