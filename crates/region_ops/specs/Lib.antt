@@ -1,2 +1,3 @@
 pub mod Cut
 pub mod Dissolved
+pub mod Cleaned

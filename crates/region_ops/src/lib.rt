@@ -9,8 +9,16 @@
 //! clean and mosaic look at each set once, and then go from face to face. No command compares all pairs of sets.
 #![tactic(auto)]
 
+mod cleaned_sets;
 mod cut_sets;
 mod dissolved_sets;
+mod exploded_sets;
+mod item_lists;
+mod shared_faces;
 
+pub use cleaned_sets::clean_sets;
 pub use cut_sets::{clip_sets, erase_sets};
 pub use dissolved_sets::dissolve_sets;
+pub use exploded_sets::explode_sets;
+pub use item_lists::{MosaicItem, MosaicList, PartItem, PartList};
+pub use shared_faces::mosaic_sets;

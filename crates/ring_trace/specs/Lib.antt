@@ -2,3 +2,4 @@ pub mod Parts
 pub mod Sets
 pub mod Rings
 pub mod Keys
+pub mod Owners

@@ -1,4 +1,4 @@
-ghost use Rattle.std.specs.Prelude.{◌≡◌, ◌<◌, IfOk, OnOk, length, slice_index_or, []};
+ghost use Rattle.std.specs.Prelude.{◌≡◌, IfOk, OnOk, length, slice_index_or, []};
 
 use crate::set_list::SetList;
 use face_walk::Faces;
@@ -36,12 +36,14 @@ impl FaceOwners {
         Ok(FaceOwners { lists })
     }
 
-    /// The numbers of the sets that have a face, ascending. Takes no memory.
+    /// The numbers of the sets that have a face, ascending; none for a face that isn't there. Takes no memory.
     pub fn at(&self, f: FaceId) -> &[u32]
-        requires { f < length self.now }
         ensures exact { result.now ≡ slice_index_or self.now f [] }
     {
-        &self.lists[f.num() as usize]
+        match self.lists.get(f.num() as usize) {
+            Some(list) => list,
+            None => &[],
+        }
     }
 }
 

@@ -1,4 +1,4 @@
-use Rattle.std.proofs.Common.{◌≡◌, take, map, All}
+use Rattle.std.proofs.Common.{◌≡◌, take, map}
 use Rattle.region_ops.specs.Cut.{meet}
 use Rattle.region_ops.proofs.cut_sets.clip_sets.Given as goal
 

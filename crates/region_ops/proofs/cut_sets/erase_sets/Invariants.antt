@@ -1,4 +1,4 @@
-use Rattle.std.proofs.Common.{◌≡◌, take, map, All}
+use Rattle.std.proofs.Common.{◌≡◌, take, map}
 use Rattle.region_ops.specs.Cut.{minus}
 use Rattle.region_ops.proofs.cut_sets.erase_sets.Given as goal
 

@@ -11,5 +11,9 @@ loop-i-preserved c = λ faces h.
     subst (λ (xs : List ℕ). All (Contains faces) xs) (sym c.in_ok-push.ensures.items) (All-push (Contains faces) c.loop-i.faces.items (get_or c.args.numbered.now c.loop-i.i read.result).face (c.loop-i.invariant faces h) one.listed)
 
 pub returns : goal.returns
-returns c = record { of_them = λ faces h. record { faces =
-    subst (λ (xs : List ℕ). All (Contains faces) xs) (sym c.from_faces.ensures.exact) (All-ascending (Contains faces) c.loop-i.faces.items (c.loop-i.invariant faces h)) } }
+returns c = record {
+  of_them = λ faces h. record {
+    faces =
+        subst (λ (xs : List ℕ). All (Contains faces) xs) (sym c.from_faces.ensures.exact) (All-ascending (Contains faces) c.loop-i.faces.items (c.loop-i.invariant faces h));
+  };
+}

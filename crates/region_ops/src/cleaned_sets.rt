@@ -1,0 +1,135 @@
+ghost use Rattle.std.specs.Prelude.{◌≡◌, All, IfOk, length, pos, slice_index_or};
+ghost use Rattle.ring_trace.specs.Sets.{IsSetOf};
+ghost use Rattle.region_ops.specs.Cleaned.{ranks_before};
+
+use face_walk::Faces;
+use grid_base::{FaceId, OverlapRule};
+use ring_trace::{FaceOwners, FaceSet, SetList};
+use std::alloc::{AllocError, Global};
+
+/// For each set its faces that no set has which the rule ranks before it.
+///
+/// Areas are those of the sets as they come. Sets of equal areas are ranked by their numbers, the lowest first. A set
+/// may become empty.
+/// Cost: one step for each face of each set, and one for each face of the table.
+pub fn clean_sets(
+    alloc: Global,
+    f: &Faces,
+    old: &SetList,
+    rule: OverlapRule,
+) -> Result<SetList, AllocError>
+    requires faces { All (IsSetOf f.now) old.now }
+    ensures each { IfOk result (λ sets. length sets ≡ length old.now) }
+{
+    let areas = areas_of(alloc, f, old)?;
+    let owners = FaceOwners::of(alloc, f, old)?;
+    let firsts = firsts_of(alloc, f.count(), &owners, &areas, rule)?;
+    let mut sets = SetList::new(alloc);
+    for n in 0..old.len() {
+        if let Some(set) = old.get(n) {
+            sets.push(faces_won(alloc, set.faces(), &firsts, n)?)?;
+        }
+    }
+    Ok(sets)
+}
+
+// Twice the area of each set.
+fn areas_of(alloc: Global, f: &Faces, sets: &SetList) -> Result<Vec<i128>, AllocError>
+    requires faces { All (IsSetOf f.now) sets.now }
+    ensures count { IfOk result (λ v. length v.items ≡ length sets.now) }
+{
+    let mut areas = Vec::new(alloc);
+    for set in sets.as_slice() {
+        areas.push(twice_area(f, set.faces())?)?;
+    }
+    Ok(areas)
+}
+
+// Twice the area of the faces together.
+fn twice_area(f: &Faces, faces: &[FaceId]) -> Result<i128, AllocError>
+    requires faces { IsSetOf f.now faces.now }
+{
+    let mut sum = 0i128;
+    for face in faces {
+        sum = sum.checked_add(f.twice_area(*face)).ok_or(AllocError)?;
+    }
+    Ok(sum)
+}
+
+// For each face the first of the sets that have it.
+fn firsts_of(
+    alloc: Global,
+    count: u32,
+    owners: &FaceOwners,
+    areas: &[i128],
+    rule: OverlapRule,
+) -> Result<Vec<Option<u32>>, AllocError>
+    requires each { length owners.now ≡ count }
+    ensures count { IfOk result (λ v. length v.items ≡ count) }
+{
+    let mut firsts = Vec::with_capacity(alloc, count as usize)?;
+    for n in 0..count {
+        firsts.push(first_of(owners.at(FaceId::new(n)), areas, rule))?;
+    }
+    Ok(firsts)
+}
+
+// The set of a list that no other ranks before.
+fn first_of(numbers: &[u32], areas: &[i128], rule: OverlapRule) -> Option<u32> {
+    let mut first = None;
+    for n in numbers {
+        first = Some(earlier(first, *n, areas, rule));
+    }
+    first
+}
+
+fn earlier(first: Option<u32>, n: u32, areas: &[i128], rule: OverlapRule) -> u32 {
+    match first {
+        Some(m) if is_before(rule, m, area_at(areas, m), n, area_at(areas, n)) => m,
+        _ => n,
+    }
+}
+
+fn area_at(areas: &[i128], n: u32) -> i128
+    ensures { result ≡ slice_index_or areas.now n (pos 0) }
+{
+    match areas.get(n as usize) {
+        Some(area) => *area,
+        None => 0,
+    }
+}
+
+// Whether set `m`, of twice the area `a`, ranks before set `n`, of twice the area `b`.
+fn is_before(rule: OverlapRule, m: u32, a: i128, n: u32, b: i128) -> bool
+    ensures exact { result ≡ ranks_before rule m a n b }
+{
+    match rule {
+        OverlapRule::MinId => m < n,
+        OverlapRule::MaxId => n < m,
+        OverlapRule::MinArea => a < b || a == b && m < n,
+        OverlapRule::MaxArea => b < a || a == b && m < n,
+    }
+}
+
+// The faces that a set is the first to have.
+fn faces_won(
+    alloc: Global,
+    faces: &[FaceId],
+    firsts: &[Option<u32>],
+    number: u32,
+) -> Result<FaceSet, AllocError> {
+    let mut won = Vec::new(alloc);
+    for face in faces {
+        if is_first(firsts, *face, number) {
+            won.push(*face)?;
+        }
+    }
+    Ok(FaceSet::from_faces(won))
+}
+
+fn is_first(firsts: &[Option<u32>], face: FaceId, number: u32) -> bool {
+    match firsts.get(face.num() as usize) {
+        Some(Some(first)) => *first == number,
+        _ => false,
+    }
+}

@@ -1,0 +1,114 @@
+ghost use Rattle.std.specs.Prelude.{◌≡◌, ◌<◌, All, IfOk, length};
+ghost use Rattle.face_walk.specs.Places.{IsBuiltOf};
+ghost use Rattle.ring_trace.specs.Sets.{IsSetOf};
+
+use crate::item_lists::{MosaicItem, MosaicList};
+use arc_table::ArcTable;
+use face_walk::Faces;
+use grid_base::{FaceId, IdList};
+use ring_trace::{FaceOwners, FaceSet, SetList, parts};
+use std::alloc::{AllocError, Global};
+
+/// For each list of sets that are all the sets that have some face, in lexicographic order of lists, the parts of
+/// those faces in order.
+///
+/// Cost: n log n for n faces, each with the length of its list.
+pub fn mosaic_sets(
+    alloc: Global,
+    t: &ArcTable,
+    f: &Faces,
+    old: &SetList,
+) -> Result<MosaicList, AllocError>
+    requires built { IsBuiltOf t.now f.now }
+    requires faces { All (IsSetOf f.now) old.now }
+{
+    let owners = FaceOwners::of(alloc, f, old)?;
+    let shared = faces_by_owners(alloc, f, &owners)?;
+    let mut items = MosaicList::new(alloc);
+    for i in 0..shared.len() {
+        if i == 0 || owners.at(shared[i - 1]) != owners.at(shared[i]) {
+            push_pieces(alloc, t, f, &mut items, &owners, &shared, i)?;
+        }
+    }
+    Ok(items)
+}
+
+// The inner faces that some set has, ascending.
+fn owned_faces(alloc: Global, f: &Faces, owners: &FaceOwners) -> Result<Vec<FaceId>, AllocError>
+    ensures inner { IfOk result (λ v. IsSetOf f.now v.items) }
+{
+    let mut faces = Vec::new(alloc);
+    for n in 0..f.count() {
+        let face = FaceId::new(n);
+        if face != f.outer() && !owners.at(face).is_empty() {
+            faces.push(face)?;
+        }
+    }
+    Ok(faces)
+}
+
+// These faces by the lists of the sets that have them, in lexicographic order.
+fn faces_by_owners(alloc: Global, f: &Faces, owners: &FaceOwners) -> Result<Vec<FaceId>, AllocError>
+    ensures inner { IfOk result (λ v. IsSetOf f.now v.items) }
+{
+    let mut faces = owned_faces(alloc, f, owners)?;
+    faces.sort_by(|a, b| owners.at(*a).cmp(owners.at(*b)))?;
+    Ok(faces)
+}
+
+// The parts of the faces from a place on, as far as the same sets have them.
+fn push_pieces(
+    alloc: Global,
+    t: &ArcTable,
+    f: &Faces,
+    items: &mut MosaicList,
+    owners: &FaceOwners,
+    shared: &[FaceId],
+    first: usize,
+) -> Result<(), AllocError>
+    requires built { IsBuiltOf t.now f.now }
+    requires place { first < length shared.now }
+    requires inner { IsSetOf f.now shared.now }
+{
+    let ids = owners.at(shared[first]);
+    let set = set_with(alloc, f, owners, shared, first)?;
+    for piece in parts(alloc, t, f, &set)?.as_slice() {
+        items.push(MosaicItem {
+            ids: id_list(alloc, ids)?,
+            set: piece.copy(alloc)?,
+        })?;
+    }
+    Ok(())
+}
+
+// The faces from a place on, as far as the same sets have them.
+fn set_with(
+    alloc: Global,
+    f: &Faces,
+    owners: &FaceOwners,
+    shared: &[FaceId],
+    first: usize,
+) -> Result<FaceSet, AllocError>
+    requires place { first < length shared.now }
+    requires inner { IsSetOf f.now shared.now }
+    ensures inner { IfOk result (IsSetOf f.now) }
+{
+    let mut faces = Vec::new(alloc);
+    for i in first..shared.len() {
+        if owners.at(shared[i]) != owners.at(shared[first]) {
+            break;
+        }
+        faces.push(shared[i])?;
+    }
+    Ok(FaceSet::from_faces(faces))
+}
+
+fn id_list(alloc: Global, ids: &[u32]) -> Result<IdList, AllocError>
+    ensures same { IfOk result (λ l. l ≡ ids.now) }
+{
+    let mut list = IdList::new(alloc);
+    for id in ids {
+        list.push(*id)?;
+    }
+    Ok(list)
+}
