@@ -1,3 +1,4 @@
 pub mod Cut
 pub mod Dissolved
 pub mod Cleaned
+pub mod Items

@@ -20,15 +20,14 @@ pub fn clean_sets(
 ) -> Result<SetList, AllocError>
     requires faces { All (IsSetOf f.now) old.now }
     ensures each { IfOk result (λ sets. length sets ≡ length old.now) }
+    ensures inner { IfOk result (All (IsSetOf f.now)) }
 {
     let areas = areas_of(alloc, f, old)?;
     let owners = FaceOwners::of(alloc, f, old)?;
     let firsts = firsts_of(alloc, f.count(), &owners, &areas, rule)?;
     let mut sets = SetList::new(alloc);
     for n in 0..old.len() {
-        if let Some(set) = old.get(n) {
-            sets.push(faces_won(alloc, set.faces(), &firsts, n)?)?;
-        }
+        sets.push(faces_won(alloc, f, &old.as_slice()[n as usize], &firsts, n)?)?;
     }
     Ok(sets)
 }
@@ -114,12 +113,16 @@ fn is_before(rule: OverlapRule, m: u32, a: i128, n: u32, b: i128) -> bool
 // The faces that a set is the first to have.
 fn faces_won(
     alloc: Global,
-    faces: &[FaceId],
+    f: &Faces,
+    set: &FaceSet,
     firsts: &[Option<u32>],
     number: u32,
-) -> Result<FaceSet, AllocError> {
+) -> Result<FaceSet, AllocError>
+    requires inner { IsSetOf f.now set.now }
+    ensures inner { IfOk result (IsSetOf f.now) }
+{
     let mut won = Vec::new(alloc);
-    for face in faces {
+    for face in set.faces() {
         if is_first(firsts, *face, number) {
             won.push(*face)?;
         }

@@ -1,4 +1,6 @@
-ghost use Rattle.std.specs.Prelude.{◌≡◌, IfOk, map};
+ghost use Rattle.std.specs.Prelude.{◌≡◌, All, IfOk, map};
+ghost use Rattle.face_walk.specs.Places.{FaceTable};
+ghost use Rattle.ring_trace.specs.Sets.{IsSetOf};
 ghost use Rattle.region_ops.specs.Cut.{meet, minus};
 
 use ring_trace::{FaceSet, SetList};
@@ -7,6 +9,7 @@ use std::alloc::{AllocError, Global};
 /// For each set its faces that are in the source too. A set may become empty.
 pub fn clip_sets(alloc: Global, old: &SetList, source: &FaceSet) -> Result<SetList, AllocError>
     ensures exact { IfOk result (λ sets. sets ≡ map (meet source.now) old.now) }
+    ensures inner { (t : FaceTable) → All (IsSetOf t) old.now → IfOk result (All (IsSetOf t)) }
 {
     let mut sets = SetList::new(alloc);
     for set in old.as_slice() {
@@ -18,6 +21,7 @@ pub fn clip_sets(alloc: Global, old: &SetList, source: &FaceSet) -> Result<SetLi
 /// For each set its faces that aren't in the source. A set may become empty.
 pub fn erase_sets(alloc: Global, old: &SetList, source: &FaceSet) -> Result<SetList, AllocError>
     ensures exact { IfOk result (λ sets. sets ≡ map (minus source.now) old.now) }
+    ensures inner { (t : FaceTable) → All (IsSetOf t) old.now → IfOk result (All (IsSetOf t)) }
 {
     let mut sets = SetList::new(alloc);
     for set in old.as_slice() {

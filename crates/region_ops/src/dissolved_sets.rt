@@ -1,5 +1,7 @@
 ghost use Rattle.std.specs.Prelude.{◌≡◌, ◌<◌, All, IfOk, length, map};
 ghost use Rattle.std.specs.List.{flat_map};
+ghost use Rattle.face_walk.specs.Places.{FaceTable};
+ghost use Rattle.ring_trace.specs.Sets.{IsSetOf};
 ghost use Rattle.region_ops.specs.Dissolved.{set_at, union_of};
 
 use grid_base::{FaceId, GroupList};
@@ -16,6 +18,7 @@ pub fn dissolve_sets(
 ) -> Result<SetList, AllocError>
     requires members { All (All (λ n. n < length old.now)) groups.now }
     ensures exact { IfOk result (λ sets. sets ≡ map (union_of old.now) groups.now) }
+    ensures inner { (t : FaceTable) → All (IsSetOf t) old.now → IfOk result (All (IsSetOf t)) }
 {
     let mut sets = SetList::new(alloc);
     for group in groups.as_slice() {

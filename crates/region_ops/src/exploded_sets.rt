@@ -1,6 +1,7 @@
-ghost use Rattle.std.specs.Prelude.{◌<◌, All, IfOk, length};
+ghost use Rattle.std.specs.Prelude.{◌<◌, All, IfOk, OnOk, length};
 ghost use Rattle.face_walk.specs.Places.{IsBuiltOf};
 ghost use Rattle.ring_trace.specs.Sets.{IsSetOf};
+ghost use Rattle.region_ops.specs.Items.{IsPart};
 
 use crate::item_lists::{PartItem, PartList};
 use arc_table::ArcTable;
@@ -17,12 +18,11 @@ pub fn explode_sets(
 ) -> Result<PartList, AllocError>
     requires built { IsBuiltOf t.now f.now }
     requires faces { All (IsSetOf f.now) old.now }
+    ensures parts { IfOk result (All (IsPart f.now (length old.now))) }
 {
     let mut items = PartList::new(alloc);
     for n in 0..old.len() {
-        if let Some(set) = old.get(n) {
-            push_pieces(alloc, &mut items, n, &pieces_of(alloc, t, f, set)?)?;
-        }
+        push_pieces(alloc, t, f, &mut items, old, n)?;
     }
     Ok(items)
 }
@@ -31,6 +31,7 @@ pub fn explode_sets(
 fn pieces_of(alloc: Global, t: &ArcTable, f: &Faces, set: &FaceSet) -> Result<SetList, AllocError>
     requires built { IsBuiltOf t.now f.now }
     requires faces { IsSetOf f.now set.now }
+    ensures inner { IfOk result (All (IsSetOf f.now)) }
 {
     if set.is_empty() {
         let mut sets = SetList::new(alloc);
@@ -40,15 +41,39 @@ fn pieces_of(alloc: Global, t: &ArcTable, f: &Faces, set: &FaceSet) -> Result<Se
     parts(alloc, t, f, set)
 }
 
+// Adds the pieces of one set.
 fn push_pieces(
     alloc: Global,
+    t: &ArcTable,
+    f: &Faces,
     items: &mut PartList,
-    feature: u32,
-    pieces: &SetList,
-) -> Result<(), AllocError> {
+    old: &SetList,
+    n: u32,
+) -> Result<(), AllocError>
+    requires built { IsBuiltOf t.now f.now }
+    requires faces { All (IsSetOf f.now) old.now }
+    requires number { n < length old.now }
+    requires so_far { All (IsPart f.now (length old.now)) items.old }
+    ensures parts { OnOk result (All (IsPart f.now (length old.now)) items.new) }
+{
+    let pieces = pieces_of(alloc, t, f, &old.as_slice()[n as usize])?;
     for piece in pieces.as_slice() {
-        let set = piece.copy(alloc)?;
-        items.push(PartItem { feature, set })?;
+        items.push(part_item(alloc, f, old, n, piece)?)?;
     }
     Ok(())
+}
+
+fn part_item(
+    alloc: Global,
+    f: &Faces,
+    old: &SetList,
+    n: u32,
+    piece: &FaceSet,
+) -> Result<PartItem, AllocError>
+    requires number { n < length old.now }
+    requires piece { IsSetOf f.now piece.now }
+    ensures part { IfOk result (IsPart f.now (length old.now)) }
+{
+    let set = piece.copy(alloc)?;
+    Ok(PartItem { feature: n, set })
 }

@@ -1,6 +1,7 @@
-ghost use Rattle.std.specs.Prelude.{◌≡◌, ◌<◌, All, IfOk, length};
+ghost use Rattle.std.specs.Prelude.{◌≡◌, ◌<◌, All, IfOk, OnOk, length};
 ghost use Rattle.face_walk.specs.Places.{IsBuiltOf};
 ghost use Rattle.ring_trace.specs.Sets.{IsSetOf};
+ghost use Rattle.region_ops.specs.Items.{IsPiece};
 
 use crate::item_lists::{MosaicItem, MosaicList};
 use arc_table::ArcTable;
@@ -21,6 +22,7 @@ pub fn mosaic_sets(
 ) -> Result<MosaicList, AllocError>
     requires built { IsBuiltOf t.now f.now }
     requires faces { All (IsSetOf f.now) old.now }
+    ensures inner { IfOk result (All (IsPiece f.now)) }
 {
     let owners = FaceOwners::of(alloc, f, old)?;
     let shared = faces_by_owners(alloc, f, &owners)?;
@@ -69,14 +71,13 @@ fn push_pieces(
     requires built { IsBuiltOf t.now f.now }
     requires place { first < length shared.now }
     requires inner { IsSetOf f.now shared.now }
+    requires so_far { All (IsPiece f.now) items.old }
+    ensures inner { OnOk result (All (IsPiece f.now) items.new) }
 {
     let ids = owners.at(shared[first]);
     let set = set_with(alloc, f, owners, shared, first)?;
     for piece in parts(alloc, t, f, &set)?.as_slice() {
-        items.push(MosaicItem {
-            ids: id_list(alloc, ids)?,
-            set: piece.copy(alloc)?,
-        })?;
+        items.push(mosaic_item(alloc, f, ids, piece)?)?;
     }
     Ok(())
 }
@@ -101,6 +102,21 @@ fn set_with(
         faces.push(shared[i])?;
     }
     Ok(FaceSet::from_faces(faces))
+}
+
+fn mosaic_item(
+    alloc: Global,
+    f: &Faces,
+    ids: &[u32],
+    piece: &FaceSet,
+) -> Result<MosaicItem, AllocError>
+    requires piece { IsSetOf f.now piece.now }
+    ensures ids { IfOk result (λ item. item.ids ≡ ids.now) }
+    ensures piece { IfOk result (IsPiece f.now) }
+{
+    let ids = id_list(alloc, ids)?;
+    let set = piece.copy(alloc)?;
+    Ok(MosaicItem { ids, set })
 }
 
 fn id_list(alloc: Global, ids: &[u32]) -> Result<IdList, AllocError>

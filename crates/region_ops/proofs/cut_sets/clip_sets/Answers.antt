@@ -1,0 +1,11 @@
+use Rattle.std.proofs.Common.{sym, subst, ℕ, List, All}
+use Rattle.std.specs.Prelude.{nat_eq}
+use Rattle.lists.specs.Lists.{has}
+use Rattle.ring_trace.specs.Sets.{IsSetOf}
+use Rattle.region_ops.proofs.Inner.{filtered_inner}
+use Rattle.region_ops.proofs.cut_sets.clip_sets.Goals as goal
+
+pub returns-clause-inner : goal.returns-clause-inner
+returns-clause-inner c = λ t h.
+    subst (λ (sets : List (List ℕ)). All (IsSetOf t) sets) (sym c.loop-set.invariant)
+    (filtered_inner t (λ (k : ℕ). has nat_eq c.args.source.now k) c.args.old.now c.loop-set.set-index h)

@@ -1,0 +1,6 @@
+use Rattle.std.proofs.Common.{All, length}
+use Rattle.region_ops.specs.Items.{IsPart}
+use Rattle.region_ops.proofs.exploded_sets.explode_sets.Given as goal
+
+abbrev pub invariant-loop-n : goal.invariant-loop-n
+invariant-loop-n l = All (IsPart l.f (length l.old)) l.items
