@@ -1,5 +1,5 @@
 -- Which sets of a list have a face.
-use Rattle.std.specs.Prelude.{◌≡◌, ℕ, ◌<◌, nat_eq, List, [], length, slice_index_or}
+use Rattle.std.specs.Prelude.{◌≡◌, ℕ, ◌<◌, nat_eq, List, [], ◌∷◌, ◌++◌, length, slice_index_or, slice_set, if◌then◌else◌}
 use Rattle.lists.specs.Lists.{has, numbers_where}
 
 -- the numbers of the sets that have the face, ascending
@@ -10,3 +10,12 @@ owners_of sets k = numbers_where (λ (set : List ℕ). has nat_eq set k) sets
 pub record AreOwners (sets : List (List ℕ)) (count : ℕ) (owners : List (List ℕ)) : Type 0 where
   pub each : length owners ≡ count
   pub exact : (k : ℕ) → k < count → slice_index_or owners k [] ≡ owners_of sets k
+
+-- the number put behind the list at a place, where there is one
+abbrev pub with_number : ℕ → ℕ → List (List ℕ) → List (List ℕ)
+with_number n place lists = slice_set lists place (slice_index_or lists place [] ++ n ∷ [])
+
+-- the lists of faces, with the number behind those of the faces of a set
+pub record IsNumbered (n : ℕ) (set : List ℕ) (old new : List (List ℕ)) : Type 0 where
+  pub each : length new ≡ length old
+  pub exact : (k : ℕ) → k < length old → slice_index_or new k [] ≡ slice_index_or old k [] ++ (if has nat_eq set k then n ∷ [] else [])

@@ -1,4 +1,6 @@
-ghost use Rattle.std.specs.Prelude.{◌≡◌, IfOk, OnOk, length, slice_index_or, []};
+ghost use Rattle.std.specs.Prelude.{◌≡◌, ◌<◌, [], All, IfOk, OnOk, length, map, slice_index_or};
+ghost use Rattle.std.specs.List.Sorted.{IsStrictlyIncreasing};
+ghost use Rattle.ring_trace.specs.Owners.{AreOwners, IsNumbered, with_number};
 
 use crate::set_list::SetList;
 use face_walk::Faces;
@@ -25,13 +27,13 @@ impl FaceOwners {
     ///
     /// Cost: one step for each face of each set, and one for each face of the table.
     pub fn of(alloc: Global, f: &Faces, sets: &SetList) -> Result<FaceOwners, AllocError>
+        ensures exact { IfOk result (AreOwners sets.now f.now.count) }
         ensures each { IfOk result (λ o. length o ≡ f.now.count) }
+        ensures numbers { IfOk result (All (All (λ n. n < length sets.now))) }
     {
         let mut lists = empty_lists(alloc, f.count())?;
         for n in 0..sets.len() {
-            if let Some(set) = sets.get(n) {
-                add_owner(&mut lists, set.faces(), n)?;
-            }
+            add_owner(&mut lists, sets.as_slice()[n as usize].faces(), n)?;
         }
         Ok(FaceOwners { lists })
     }
@@ -49,6 +51,7 @@ impl FaceOwners {
 
 fn empty_lists(alloc: Global, count: u32) -> Result<Vec<Vec<u32>>, AllocError>
     ensures each { IfOk result (λ v. length v.items ≡ count) }
+    ensures empty { IfOk result (λ v. All (λ list. list ≡ []) (map (λ list. list.items) v.items)) }
 {
     let mut lists = Vec::with_capacity(alloc, count as usize)?;
     for _face in 0..count {
@@ -58,13 +61,22 @@ fn empty_lists(alloc: Global, count: u32) -> Result<Vec<Vec<u32>>, AllocError>
 }
 
 // Puts the number of a set to the owners of each of its faces.
-fn add_owner(lists: &mut [Vec<u32>], faces: &[FaceId], n: u32) -> Result<(), AllocError>
-    ensures each { OnOk result (length lists.new ≡ length lists.old) }
+fn add_owner(lists: &mut Vec<Vec<u32>>, faces: &[FaceId], n: u32) -> Result<(), AllocError>
+    requires { IsStrictlyIncreasing faces.now }
+    ensures { OnOk result (IsNumbered n faces.now (map (λ list. list.items) lists.old.items) (map (λ list. list.items) lists.new.items)) }
 {
     for face in faces {
-        if let Some(list) = lists.get_mut(face.num() as usize) {
-            list.push(n)?;
-        }
+        put_number(lists, face.num() as usize, n)?;
+    }
+    Ok(())
+}
+
+// Puts a number behind the list at a place, where there is one.
+fn put_number(lists: &mut Vec<Vec<u32>>, place: usize, n: u32) -> Result<(), AllocError>
+    ensures { OnOk result (map (λ list. list.items) lists.new.items ≡ with_number n place (map (λ list. list.items) lists.old.items)) }
+{
+    if place < lists.len() {
+        lists[place].push(n)?;
     }
     Ok(())
 }
