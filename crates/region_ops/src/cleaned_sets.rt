@@ -1,6 +1,6 @@
-ghost use Rattle.std.specs.Prelude.{◌≡◌, All, IfOk, length, pos, slice_index_or};
+ghost use Rattle.std.specs.Prelude.{◌≡◌, ◌+ℤ◌, All, IfOk, filter, length, map, pos, slice_index_or};
 ghost use Rattle.ring_trace.specs.Sets.{IsSetOf};
-ghost use Rattle.region_ops.specs.Cleaned.{ranks_before};
+ghost use Rattle.region_ops.specs.Cleaned.{AreFirsts, IsCleaned, IsFirst, area_of, earlier, is_first, ranks_before};
 
 use face_walk::Faces;
 use grid_base::{FaceId, OverlapRule};
@@ -19,6 +19,7 @@ pub fn clean_sets(
     rule: OverlapRule,
 ) -> Result<SetList, AllocError>
     requires faces { All (IsSetOf f.now) old.now }
+    ensures exact { IfOk result (IsCleaned rule f.now.areas old.now) }
     ensures each { IfOk result (λ sets. length sets ≡ length old.now) }
     ensures inner { IfOk result (All (IsSetOf f.now)) }
 {
@@ -35,7 +36,7 @@ pub fn clean_sets(
 // Twice the area of each set.
 fn areas_of(alloc: Global, f: &Faces, sets: &SetList) -> Result<Vec<i128>, AllocError>
     requires faces { All (IsSetOf f.now) sets.now }
-    ensures count { IfOk result (λ v. length v.items ≡ length sets.now) }
+    ensures exact { IfOk result (λ v. v.items ≡ map (area_of f.now.areas) sets.now) }
 {
     let mut areas = Vec::new(alloc);
     for set in sets.as_slice() {
@@ -47,12 +48,19 @@ fn areas_of(alloc: Global, f: &Faces, sets: &SetList) -> Result<Vec<i128>, Alloc
 // Twice the area of the faces together.
 fn twice_area(f: &Faces, faces: &[FaceId]) -> Result<i128, AllocError>
     requires faces { IsSetOf f.now faces.now }
+    ensures exact { IfOk result (λ area. area ≡ area_of f.now.areas faces.now) }
 {
     let mut sum = 0i128;
     for face in faces {
-        sum = sum.checked_add(f.twice_area(*face)).ok_or(AllocError)?;
+        sum = added(sum, f.twice_area(*face))?;
     }
     Ok(sum)
+}
+
+fn added(sum: i128, area: i128) -> Result<i128, AllocError>
+    ensures exact { IfOk result (λ more. more ≡ sum +ℤ area) }
+{
+    sum.checked_add(area).ok_or(AllocError)
 }
 
 // For each face the first of the sets that have it.
@@ -63,8 +71,7 @@ fn firsts_of(
     areas: &[i128],
     rule: OverlapRule,
 ) -> Result<Vec<Option<u32>>, AllocError>
-    requires each { length owners.now ≡ count }
-    ensures count { IfOk result (λ v. length v.items ≡ count) }
+    ensures exact { IfOk result (λ v. AreFirsts rule areas.now owners.now count v.items) }
 {
     let mut firsts = Vec::with_capacity(alloc, count as usize)?;
     for n in 0..count {
@@ -74,7 +81,9 @@ fn firsts_of(
 }
 
 // The set of a list that no other ranks before.
-fn first_of(numbers: &[u32], areas: &[i128], rule: OverlapRule) -> Option<u32> {
+fn first_of(numbers: &[u32], areas: &[i128], rule: OverlapRule) -> Option<u32>
+    ensures exact { IsFirst rule areas.now numbers.now result }
+{
     let mut first = None;
     for n in numbers {
         first = Some(earlier(first, *n, areas, rule));
@@ -82,10 +91,18 @@ fn first_of(numbers: &[u32], areas: &[i128], rule: OverlapRule) -> Option<u32> {
     first
 }
 
-fn earlier(first: Option<u32>, n: u32, areas: &[i128], rule: OverlapRule) -> u32 {
+fn earlier(first: Option<u32>, n: u32, areas: &[i128], rule: OverlapRule) -> u32
+    ensures exact { result ≡ earlier rule areas.now first n }
+{
     match first {
-        Some(m) if is_before(rule, m, area_at(areas, m), n, area_at(areas, n)) => m,
-        _ => n,
+        None => n,
+        Some(m) => {
+            if is_before(rule, m, area_at(areas, m), n, area_at(areas, n)) {
+                m
+            } else {
+                n
+            }
+        }
     }
 }
 
@@ -119,6 +136,7 @@ fn faces_won(
     number: u32,
 ) -> Result<FaceSet, AllocError>
     requires inner { IsSetOf f.now set.now }
+    ensures exact { IfOk result (λ s. s ≡ filter (is_first firsts.now number) set.now) }
     ensures inner { IfOk result (IsSetOf f.now) }
 {
     let mut won = Vec::new(alloc);
@@ -130,7 +148,9 @@ fn faces_won(
     Ok(FaceSet::from_faces(won))
 }
 
-fn is_first(firsts: &[Option<u32>], face: FaceId, number: u32) -> bool {
+fn is_first(firsts: &[Option<u32>], face: FaceId, number: u32) -> bool
+    ensures exact { result ≡ is_first firsts.now number face }
+{
     match firsts.get(face.num() as usize) {
         Some(Some(first)) => *first == number,
         _ => false,
