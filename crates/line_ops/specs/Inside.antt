@@ -3,6 +3,8 @@ use Rattle.std.specs.Prelude.{ℕ, Bool, not, ◌||◌, nat_eq, List, slice_inde
 use Rattle.lists.specs.Lists.{has}
 use Rattle.plane_model.specs.Arcs.{SignedArc}
 use Rattle.face_walk.specs.Places.{FaceTable, place_of}
+use Rattle.line_ops.specs.declared.runs.Keeps.{Keeps}
+use Rattle.line_ops.specs.declared.runs.Keeps.TheVariants.{Inside, Outside}
 
 -- the face on the left of a signed arc
 abbrev pub left_of : FaceTable → SignedArc → ℕ
@@ -18,3 +20,8 @@ is_inside t set a = has nat_eq set (left_of t a) || has nat_eq set (right_of t a
 
 abbrev pub is_outside : FaceTable → List ℕ → SignedArc → Bool
 is_outside t set a = not (is_inside t set a)
+
+-- a run takes in the arc
+abbrev pub is_kept : Keeps → FaceTable → List ℕ → SignedArc → Bool
+is_kept Inside t set a = is_inside t set a
+is_kept Outside t set a = is_outside t set a

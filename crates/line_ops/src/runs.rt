@@ -1,7 +1,8 @@
 ghost use Rattle.std.specs.Prelude.{◌≡◌, ◌++◌, ◌<◌, [], All, IfOk, OnOk, ℕ, length};
 ghost use Rattle.face_walk.specs.Places.{HasArc};
-ghost use Rattle.line_ops.specs.Inside.{is_inside, is_outside};
-ghost use Rattle.line_ops.specs.Runs.{ended, runs_after, runs_where};
+ghost use Rattle.std.specs.List.{flat_map};
+ghost use Rattle.line_ops.specs.Inside.{is_inside, is_kept, is_outside};
+ghost use Rattle.line_ops.specs.Runs.{ended, runs_where};
 
 use crate::inside::is_inside;
 use arc_table::{SignedPath, SignedPaths};
@@ -27,6 +28,7 @@ pub fn clip_paths(
     source: &FaceSet,
 ) -> Result<SignedPaths, AllocError>
     requires arcs { All (All (HasArc f.now)) paths.now }
+    ensures exact { IfOk result (λ runs. runs ≡ flat_map (runs_where (is_inside f.now source.now)) paths.now) }
     ensures there { (n : ℕ) → All (All (λ a. a.arc < n)) paths.now → IfOk result (All (All (λ a. a.arc < n))) }
 {
     runs_of_paths(alloc, f, paths, source, Keeps::Inside)
@@ -42,6 +44,7 @@ pub fn erase_paths(
     source: &FaceSet,
 ) -> Result<SignedPaths, AllocError>
     requires arcs { All (All (HasArc f.now)) paths.now }
+    ensures exact { IfOk result (λ runs. runs ≡ flat_map (runs_where (is_outside f.now source.now)) paths.now) }
     ensures there { (n : ℕ) → All (All (λ a. a.arc < n)) paths.now → IfOk result (All (All (λ a. a.arc < n))) }
 {
     runs_of_paths(alloc, f, paths, source, Keeps::Outside)
@@ -55,7 +58,7 @@ fn runs_of_paths(
     keeps: Keeps,
 ) -> Result<SignedPaths, AllocError>
     requires arcs { All (All (HasArc f.now)) paths.now }
-    ensures there { (n : ℕ) → All (All (λ a. a.arc < n)) paths.now → IfOk result (All (All (λ a. a.arc < n))) }
+    ensures exact { IfOk result (λ runs. runs ≡ flat_map (runs_where (is_kept keeps f.now source.now)) paths.now) }
 {
     let mut runs = SignedPaths::new(alloc);
     for path in paths.as_slice() {
@@ -74,7 +77,7 @@ fn push_runs(
     keeps: Keeps,
 ) -> Result<(), AllocError>
     requires arcs { All (HasArc f.now) path.now }
-    ensures there { OnOk result ((n : ℕ) → All (λ a. a.arc < n) path.now → All (All (λ a. a.arc < n)) runs.old → All (All (λ a. a.arc < n)) runs.new) }
+    ensures exact { OnOk result (runs.new ≡ runs.old ++ runs_where (is_kept keeps f.now source.now) path.now) }
 {
     let mut begun = SignedPath::new(alloc);
     for a in path {
@@ -90,6 +93,7 @@ fn push_runs(
 
 fn is_kept(f: &Faces, source: &FaceSet, a: SignedArc, keeps: Keeps) -> bool
     requires arc { HasArc f.now a }
+    ensures exact { result ≡ is_kept keeps f.now source.now a }
 {
     match keeps {
         Keeps::Inside => is_inside(f, source, a),
@@ -100,7 +104,6 @@ fn is_kept(f: &Faces, source: &FaceSet, a: SignedArc, keeps: Keeps) -> bool
 // Adds a run, where it is one.
 fn push_run(runs: &mut SignedPaths, run: SignedPath) -> Result<(), AllocError>
     ensures ok { OnOk result (runs.new ≡ runs.old ++ ended run) }
-    ensures there { OnOk result ((n : ℕ) → All (λ a. a.arc < n) run → All (All (λ a. a.arc < n)) runs.old → All (All (λ a. a.arc < n)) runs.new) }
 {
     if run.len() > 0 {
         runs.push(run)?;

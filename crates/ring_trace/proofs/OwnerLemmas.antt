@@ -26,10 +26,10 @@ not_before : (faces : List ℕ) (j k d : ℕ) → IsStrictlyIncreasing faces →
 not_before faces j k d up within e =
     let same : k ≡ get_or faces j d = eqb-true k (get_or faces j d) e in
     list_any_none (nat_eq k) (take j faces) (All-from_get_or (λ y. nat_eq k y ≡ false) (take j faces) d (λ i l. ne_eqb k (get_or (take j faces) i d) (λ there.
-      let before : i < j = omega (arith, length-take j faces) in
-      let less : get_or faces i d < get_or faces j d = AllPairs-from_increasing faces up i j d before within in
-      let here : get_or (take j faces) i d ≡ get_or faces i d = get_or-take j faces i d before in
-      omega arith)))
+    let before : i < j = omega (arith, length-take j faces) in
+    let less : get_or faces i d < get_or faces j d = AllPairs-from_increasing faces up i j d before within in
+    let here : get_or (take j faces) i d ≡ get_or faces i d = get_or-take j faces i d before in
+    omega arith)))
 
 pub numbered_none : (n : ℕ) (lists : List (List ℕ)) → IsNumbered n [] lists lists
 numbered_none n lists = record { each = refl; exact = λ k l. sym (append-nil (get_or lists k [])) }
@@ -52,9 +52,9 @@ pub owners_more : (sets : List (List ℕ)) (count n : ℕ) (set d : List ℕ) (o
 owners_more sets count n set d old new within is before more = record {
   each = more.each ∙ before.each;
   exact = λ k l.
-    more.exact k (let e = before.each in omega arith)
-    ∙ (λ i. before.exact k l i ++ cond (has nat_eq (is i) k) (n ∷ []) [])
-    ∙ sym (numbers_where_more (λ (s : List ℕ). has nat_eq s k) sets n d within);
+      more.exact k (let e = before.each in omega arith)
+      ∙ (λ i. before.exact k l i ++ cond (has nat_eq (is i) k) (n ∷ []) [])
+      ∙ sym (numbers_where_more (λ (s : List ℕ). has nat_eq s k) sets n d within);
 }
 
 -- the number of an owner is that of a set

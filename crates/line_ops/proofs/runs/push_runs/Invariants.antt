@@ -1,8 +1,7 @@
-use Rattle.std.proofs.Common.{ℕ, ◌<◌, All}
-use Rattle.plane_model.specs.Arcs.{SignedArc}
+use Rattle.std.proofs.Common.{◌≡◌, ◌++◌, drop}
+use Rattle.line_ops.specs.Inside.{is_kept}
+use Rattle.line_ops.specs.Runs.{runs_after, runs_where}
 use Rattle.line_ops.proofs.runs.push_runs.Given as goal
 
 abbrev pub invariant-loop-a : goal.invariant-loop-a
-invariant-loop-a l =
-    ((n : ℕ) → All (λ (a : SignedArc). a.arc < n) l.path → All (λ (a : SignedArc). a.arc < n) l.begun)
-    × ((n : ℕ) → All (λ (a : SignedArc). a.arc < n) l.path → All (All (λ (a : SignedArc). a.arc < n)) l.fn.runs → All (All (λ (a : SignedArc). a.arc < n)) l.runs)
+invariant-loop-a l = l.runs ++ runs_after (is_kept l.keeps l.f l.source) l.begun (drop l.a-index l.path) ≡ l.fn.runs ++ runs_where (is_kept l.keeps l.f l.source) l.path

@@ -2,7 +2,6 @@ use Rattle.std.proofs.Common.{◌∙◌, sym, ap, arith, ℕ, ◌<◌, List, [],
 use Rattle.std.proofs.lemmas.List.{get_or-map, map-set}
 use Rattle.ring_trace.proofs.face_owners.put_number.Goals as goal
 
-
 pub returns-in_ok-push : goal.returns-in_ok-push
 returns-in_ok-push c =
     let lists = c.args.lists.now.items in
