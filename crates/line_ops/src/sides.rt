@@ -1,5 +1,8 @@
-ghost use Rattle.std.specs.Prelude.{◌≡◌, ◌++◌, ◌∷◌, ◌<◌, [], false, All, IfOk, IfSome, OnOk, OnErr, length, slice_get};
-ghost use Rattle.std.specs.Option.{option_copied};
+ghost use Rattle.std.specs.Prelude.{◌≡◌, ◌++◌, ◌∷◌, ◌<◌, [], false, ℕ, List, All, IfOk, OnOk, OnErr, filter, length, map, slice_get};
+ghost use Rattle.std.specs.Option.{option_copied, option_to_list};
+ghost use Rattle.ring_trace.specs.Owners.{AreOwners, owners_of};
+ghost use Rattle.line_ops.specs.Inside.{left_of};
+ghost use Rattle.line_ops.specs.Sided.{has_both, sided, sided_among};
 ghost use Rattle.face_walk.specs.Places.{HasArc, IsBuiltOf};
 
 use arc_table::{ArcList, ArcTable};
@@ -83,26 +86,34 @@ pub fn sided_arcs(
     sets: &SetList,
 ) -> Result<SidedArcs, AllocError>
     requires built { IsBuiltOf t.now f.now }
+    ensures exact { IfOk result (λ arcs. arcs ≡ sided_among f.now sets.now (length t.now)) }
     ensures there { IfOk result (All (λ a. a.arc < length t.now)) }
 {
     let owners = FaceOwners::of(alloc, f, sets)?;
     let mut arcs = SidedArcs::new(alloc);
     for n in 0..t.count() {
-        if let Some(sided) = sides_of(f, &owners, ArcId::new(n)) {
-            arcs.push(sided)?;
-        }
+        push_sided(&mut arcs, sides_of(f, &owners, ArcId::new(n)))?;
     }
     Ok(arcs)
+}
+
+// Adds an arc, where there is one.
+fn push_sided(arcs: &mut SidedArcs, found: Option<SidedArc>) -> Result<(), AllocError>
+    ensures { OnOk result (arcs.new ≡ arcs.old ++ option_to_list found) }
+{
+    if let Some(sided) = found {
+        arcs.push(sided)?;
+    }
+    Ok(())
 }
 
 // The least sets at the sides of an arc; `None` where both sides are in the same sets.
 fn sides_of(f: &Faces, owners: &FaceOwners, arc: ArcId) -> Option<SidedArc>
     requires arc { HasArc f.now (record { arc = arc; is_reversed = false }) }
-    requires owners { length owners.now ≡ f.now.count }
-    ensures there { IfSome result (λ s. s.arc ≡ arc) }
+    ensures { (sets : List (List ℕ)) → AreOwners sets f.now.count owners.now → result ≡ sided f.now sets arc }
 {
-    let left = owners.at(f.left_of(SignedArc::forward(arc)));
-    let right = owners.at(f.left_of(SignedArc::backward(arc)));
+    let left = sets_left_of(f, owners, SignedArc::forward(arc));
+    let right = sets_left_of(f, owners, SignedArc::backward(arc));
     if left == right {
         return None;
     }
@@ -113,6 +124,14 @@ fn sides_of(f: &Faces, owners: &FaceOwners, arc: ArcId) -> Option<SidedArc>
     })
 }
 
+// The sets that have the left side of an arc.
+fn sets_left_of<'a>(f: &Faces, owners: &'a FaceOwners, a: SignedArc) -> &'a [u32]
+    requires { HasArc f.now a }
+    ensures { (sets : List (List ℕ)) → AreOwners sets f.now.count owners.now → result.now ≡ owners_of sets (left_of f.now a) }
+{
+    owners.at(f.left_of(a))
+}
+
 /// The arcs whose two sides are in different sets of the list, ascending.
 pub fn boundary_arcs(
     alloc: Global,
@@ -121,6 +140,7 @@ pub fn boundary_arcs(
     sets: &SetList,
 ) -> Result<ArcList, AllocError>
     requires built { IsBuiltOf t.now f.now }
+    ensures exact { IfOk result (λ arcs. arcs ≡ map (λ s. s.arc) (sided_among f.now sets.now (length t.now))) }
     ensures there { IfOk result (All (λ a. a < length t.now)) }
 {
     let sided = sided_arcs(alloc, t, f, sets)?;
@@ -139,6 +159,7 @@ pub fn inner_arcs(
     sets: &SetList,
 ) -> Result<ArcList, AllocError>
     requires built { IsBuiltOf t.now f.now }
+    ensures exact { IfOk result (λ arcs. arcs ≡ map (λ s. s.arc) (filter has_both (sided_among f.now sets.now (length t.now)))) }
     ensures there { IfOk result (All (λ a. a < length t.now)) }
 {
     let sided = sided_arcs(alloc, t, f, sets)?;

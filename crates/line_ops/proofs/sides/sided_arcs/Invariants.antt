@@ -1,6 +1,6 @@
-use Rattle.std.proofs.Common.{◌<◌, All, length}
-use Rattle.line_ops.specs.declared.sides.SidedArc.{SidedArc}
+use Rattle.std.proofs.Common.{◌≡◌}
+use Rattle.line_ops.specs.Sided.{sided_among}
 use Rattle.line_ops.proofs.sides.sided_arcs.Given as goal
 
 abbrev pub invariant-loop-n : goal.invariant-loop-n
-invariant-loop-n l = All (λ (a : SidedArc). a.arc < length l.t) l.arcs
+invariant-loop-n l = l.arcs ≡ sided_among l.f l.sets l.n
