@@ -6,3 +6,6 @@ pub mod Merging
 pub mod Testing
 pub mod Numbers
 pub mod Inserted
+pub mod Renaming
+pub mod Grouping
+pub mod Pieces

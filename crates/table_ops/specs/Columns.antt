@@ -1,5 +1,5 @@
 -- Kept and renamed columns.
-use Rattle.std.specs.Prelude.{Bool, nat_lt, List, [], map, find, count_by, Result, Ok, None, option_map, unwrap_or}
+use Rattle.std.specs.Prelude.{Bool, nat_lt, List, [], map, find, count_by, Result, Ok, Option, None, option_map, unwrap_or}
 use Rattle.std.specs.Str.{bytes_eq}
 use Rattle.std.specs.List.{last_or}
 use Rattle.lists.specs.Lists.{numbers_where}
@@ -34,9 +34,12 @@ is_twice names name = nat_lt 1 (count_by (bytes_eq name) names)
 abbrev pub fields_of_pairs : List Rename → List Text
 fields_of_pairs pairs = map (λ (p : Rename). p.field) pairs
 
--- all pairs at once: columns keep their places. The names that result are distinct; else the last item whose new name stands twice is refused
+-- the last item whose new name stands twice
+abbrev pub refused_label : List Text → List Rename → Option TableWhy
+refused_label names pairs = option_map FieldTwice (last_or None (numbers_where (λ (p : Rename). is_twice names p.label) pairs))
+
+-- all pairs at once: columns keep their places, and no name stands twice
 abbrev pub rename_fields : TableContent → List Rename → Result TableContent TableWhy
 rename_fields t pairs =
-    unless (first_refusal (refused_item t.names [] 0 (fields_of_pairs pairs))
-    (option_map FieldTwice (last_or None (numbers_where (λ (p : Rename). is_twice (new_names t pairs) p.label) pairs))))
+    unless (first_refusal (refused_item t.names [] 0 (fields_of_pairs pairs)) (refused_label (new_names t pairs) pairs))
     (Ok (record { names = new_names t pairs; rows = t.rows }))

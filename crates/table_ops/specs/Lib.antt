@@ -7,3 +7,4 @@ pub mod Keys
 pub mod Same
 pub mod Filtering
 pub mod Groups
+pub mod Splitting

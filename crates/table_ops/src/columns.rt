@@ -19,6 +19,7 @@ use std::alloc::{AllocError, Global};
 /// Cost: in proportion to the cells that are copied and the names.
 pub fn keep_fields(alloc: Global, t: &Table, names: &NameList) -> Result<Table, TableFault>
     ensures exact { Answers result (keep_fields t.now names.now) }
+    ensures each { IfOk result (λ kept. length kept.rows ≡ length t.now.rows) }
 {
     let columns = NameSet::of(alloc, t.names())?;
     let mut seen = NameSet::new(alloc);

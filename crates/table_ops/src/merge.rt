@@ -87,6 +87,7 @@ impl TableList {
 pub fn merge_tables(alloc: Global, tables: &TableList, force: bool) -> Result<Table, TableFault>
     requires some { 0 < length tables.now }
     ensures exact { Answers result (merge_tables tables.now force) }
+    ensures rows { IfOk result (λ m. m.rows ≡ merged_rows m.names tables.now) }
 {
     if force {
         return Ok(merged(alloc, tables.as_slice())?);

@@ -1,5 +1,6 @@
-ghost use Rattle.std.specs.Prelude.{◌≡◌, ◌++◌, ◌<◌, IfOk, OnOk, slice_get, Some, length, map, All};
-ghost use Rattle.table_ops.specs.Rows.{picked, row_at, take_rows};
+ghost use Rattle.std.specs.Prelude.{◌≡◌, ◌++◌, ◌<◌, [], IfOk, OnOk, slice_get, Some, length, map, All, unwrap_or};
+ghost use Rattle.std.specs.Option.{option_copied};
+ghost use Rattle.table_ops.specs.Rows.{first_of, picked, row_at, take_rows};
 ghost use Rattle.table_ops.specs.Names.{value_at};
 
 use grid_base::IdList;
@@ -105,6 +106,9 @@ pub(crate) fn copy_rows(alloc: Global, rows: &RowList) -> Result<RowList, AllocE
 }
 
 /// The row with the first of these numbers.
-pub(crate) fn first_row<'a>(rows: &'a RowList, numbers: &IdList) -> Option<&'a Row> {
+#[tactic(auto, using(crate::proofs::TakenRows::first_none, crate::proofs::TakenRows::first_some))]
+pub(crate) fn first_row<'a>(rows: &'a RowList, numbers: &IdList) -> Option<&'a Row>
+    ensures first { unwrap_or (option_copied result) [] ≡ first_of rows.now numbers.now }
+{
     rows.get(*numbers.get(0)?)
 }

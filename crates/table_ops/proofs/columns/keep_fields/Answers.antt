@@ -19,8 +19,8 @@ new-requires-clause-widths c =
     subst (AreRows (length c.in_ok-copy_names.field-0)) (sym (c.in_ok-rows.ensures.taken ∙ (λ i. map (picked (c.as_slice-3.ensures.value i)) c.rows.result.now)))
     (subst (λ (n : ℕ). AreRows n (map (picked places) c.rows.result.now)) long (picked_long places c.rows.result.now))
 
-pub returns : goal.returns
-returns c =
+pub returns-clause-exact : goal.returns-clause-exact
+returns-clause-exact c =
     let t = c.args.t.now in
     let fields = c.args.names.now in
     let names : c.in_ok-columns.columns ≡ t.names = c.in_ok-columns.ensures.all ∙ c.names.ensures.names in
@@ -30,4 +30,8 @@ returns c =
     c.new.ensures.rows ∙ c.in_ok-rows.ensures.taken
     ∙ (λ i. map (picked ((c.as_slice-3.ensures.value ∙ c.in_ok-places.ensures.places ∙ (λ j. map (place_of (names j)) (c.as_slice-2.ensures.all j))) i)) (c.rows.ensures.rows i))
     ∙ picked_cells t.names fields t.rows in
-    record { exact = ap (λ (o : Option _). unless o (Ok (kept_columns t fields))) accepted ∙ (λ i. Ok (record { names = sym (c.new.ensures.names ∙ c.in_ok-copy_names.ensures.copied) i; rows = sym rows i })) }
+    ap (λ (o : Option _). unless o (Ok (kept_columns t fields))) accepted ∙ (λ i. Ok (record { names = sym (c.new.ensures.names ∙ c.in_ok-copy_names.ensures.copied) i; rows = sym rows i }))
+
+pub returns-clause-each : goal.returns-clause-each
+returns-clause-each c =
+    ap length (c.new.ensures.rows ∙ c.in_ok-rows.ensures.taken) ∙ length-map c.rows.result.now (picked c.as_slice-3.result.now) ∙ ap length c.rows.ensures.rows

@@ -1,4 +1,4 @@
-use Rattle.std.proofs.Common.{ℕ, ◌<◌, All, Bool, length, take, sym, subst, arith, length-take-le, length-take}
+use Rattle.std.proofs.Common.{◌<◌, All, Bool, length, take, sym, subst, arith, length-take}
 use Rattle.std.specs.Bool.{beq}
 use Rattle.table_ops.proofs.Numbers.{numbers_from-below}
 use Rattle.table_ops.proofs.filter.numbers_of.Goals as goal

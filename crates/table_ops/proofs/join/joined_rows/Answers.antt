@@ -1,5 +1,5 @@
-use Rattle.std.proofs.Common.{sym, subst, length, [], ◌∷◌, ◌++◌, ◌∙◌, ap, arith, length-append}
-use Rattle.json_read.specs.Table.{AreRows, RowValues}
+use Rattle.std.proofs.Common.{sym, subst, length, [], ◌∷◌, ◌∙◌, arith, length-append}
+use Rattle.json_read.specs.Table.{AreRows}
 use Rattle.table_ops.proofs.Cells.{rows_long-append}
 use Rattle.table_ops.proofs.join.joined_rows.Goals as goal
 

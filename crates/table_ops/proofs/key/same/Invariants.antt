@@ -1,4 +1,4 @@
-use Rattle.std.proofs.Common.{◌≡◌, drop, length}
+use Rattle.std.proofs.Common.{◌≡◌, drop}
 use Rattle.table_ops.specs.Keys.{same_values}
 use Rattle.table_ops.proofs.key.same.Given as goal
 

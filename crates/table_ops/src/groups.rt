@@ -1,0 +1,86 @@
+ghost use Rattle.std.specs.Prelude.{◌≡◌, ◌<◌, ◌≤◌, All, IfOk, OnOk, length, map};
+ghost use Rattle.std.specs.List.{IsDistinct, position_or_len};
+ghost use Rattle.indexmap.specs.IndexSet.{insert_key};
+ghost use Rattle.table_ops.specs.Groups.{groups_of, with_member};
+ghost use Rattle.table_ops.specs.Keys.{same_values};
+ghost use Rattle.table_ops.specs.Rows.{picked};
+
+use crate::key::Key;
+use crate::rows::row_of;
+use grid_base::{GroupList, IdList};
+use indexmap::IndexSet;
+use json_read::RowList;
+use std::alloc::{AllocError, Global};
+
+/// Rows in groups of the same values, in order of first appearance: the numbers of the rows of each
+/// group, and for each row the number of its group.
+#[derive(Drop)]
+pub(crate) struct Groups {
+    pub(crate) members: Vec<IdList>,
+    pub(crate) group_of: Vec<usize>,
+}
+
+/// The rows in groups of the same values at these places.
+pub(crate) fn groups_at(alloc: Global, rows: &RowList, places: &[u32]) -> Result<Groups, AllocError>
+    ensures members { IfOk result (λ g. g.members.items ≡ groups_of (map (picked places.now) rows.now)) }
+    ensures below { IfOk result (λ g. All (All (λ n. n < length rows.now)) g.members.items) }
+{
+    let mut keys = IndexSet::new(alloc);
+    let mut members = Vec::new(alloc);
+    let mut group_of = Vec::new(alloc);
+    for i in 0..rows.len() {
+        let key = Key::of(alloc, row_of(rows, i), places)?;
+        let group = add_row(alloc, &mut keys, &mut members, key, i)?;
+        group_of.push(group)?;
+    }
+    Ok(Groups { members, group_of })
+}
+
+/// Adds a row to the group of its key, and gives the number of the group.
+fn add_row(
+    alloc: Global,
+    keys: &mut IndexSet<Key>,
+    members: &mut Vec<IdList>,
+    key: Key,
+    row: u32,
+) -> Result<usize, AllocError>
+    requires counts { length keys.old.keys ≡ length members.old.items }
+    ensures counts { OnOk result (length keys.new.keys ≡ length members.new.items) }
+    ensures keys { OnOk result (keys.new.keys ≡ insert_key same_values keys.old.keys key) }
+    ensures distinct { OnOk result (IsDistinct same_values keys.new.keys) }
+    ensures members { OnOk result (members.new.items ≡ with_member members.old.items (position_or_len (same_values key) keys.old.keys) row) }
+{
+    let (group, _) = keys.insert_full(key)?;
+    add_member(alloc, members, group, row)?;
+    Ok(group)
+}
+
+/// Adds a number to the group with a number, or to a new last group.
+#[tactic(auto, using(crate::proofs::Grouping::member_there, crate::proofs::Grouping::member_new))]
+fn add_member(
+    alloc: Global,
+    members: &mut Vec<IdList>,
+    group: usize,
+    number: u32,
+) -> Result<(), AllocError>
+    requires within { group ≤ length members.old.items }
+    ensures members { OnOk result (members.new.items ≡ with_member members.old.items group number) }
+{
+    if group < members.len() {
+        return members[group].push(number);
+    }
+    let mut first = IdList::new(alloc);
+    first.push(number)?;
+    members.push(first)?;
+    Ok(())
+}
+
+pub(crate) fn group_list(alloc: Global, members: Vec<IdList>) -> Result<GroupList, AllocError>
+    ensures all { IfOk result (λ list. list ≡ members.items) }
+{
+    let mut list = GroupList::new(alloc);
+    for group in members {
+        list.push(group)?;
+    }
+    Ok(list)
+}
