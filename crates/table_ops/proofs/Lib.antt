@@ -9,3 +9,4 @@ pub mod Inserted
 pub mod Renaming
 pub mod Grouping
 pub mod Pieces
+pub mod Joining

@@ -8,3 +8,5 @@ pub mod Same
 pub mod Filtering
 pub mod Groups
 pub mod Splitting
+pub mod Join
+pub mod JoinColumns

@@ -1,17 +1,29 @@
-ghost use Rattle.std.specs.Prelude.{◌≡◌, ◌+◌, IfOk, OnOk, length};
+ghost use Rattle.std.specs.Prelude.{◌≡◌, ◌<◌, ◌∷◌, [], All, None, Some, true, IfOk, OnOk, length, map, unwrap_or};
 ghost use Rattle.std.specs.List.{IsDistinct};
+ghost use Rattle.std.specs.Option.{option_copied};
 ghost use Rattle.std.specs.Str.{bytes_eq};
-ghost use Rattle.json_read.specs.Table.{AreRows};
+ghost use Rattle.indexmap.specs.IndexMap.{get};
+ghost use Rattle.json_read.specs.Table.{RowValues};
+ghost use Rattle.lists.specs.Lists.{numbers_where};
+ghost use Rattle.table_ops.specs.Join.{candidates, join_tables, joined_table, refused_join, refused_key};
+ghost use Rattle.table_ops.specs.JoinColumns.{column_value, row_found};
+ghost use Rattle.table_ops.specs.Keys.{same_values};
+ghost use Rattle.table_ops.specs.Names.{value_at};
+ghost use Rattle.table_ops.specs.Refusals.{Answers, Refuses, refused_item};
 
 use crate::fault::{TableFault, TableWhy};
-use crate::filter::tests_of;
+use crate::filter::filter_rows;
 use crate::items::check_items;
+use crate::join_columns::{Column, columns_of};
+use crate::join_matches::{first_rows, match_of};
 use crate::key::Key;
 use crate::names::NameSet;
-use crate::rows::{copy_at, copy_names};
+use crate::rows::copy_at;
 use crate::specifications::JoinSpec;
+use expr_lang::Expr;
+use grid_base::IdList;
 use indexmap::IndexMap;
-use io_core::{NameList, Text};
+use io_core::NameList;
 use json_read::{Row, RowList, Table, Value};
 use std::alloc::{AllocError, Global};
 
@@ -32,43 +44,42 @@ pub fn join_tables(
     source: &Table,
     spec: &JoinSpec,
 ) -> Result<Table, TableFault>
+    ensures exact { Answers result (join_tables target.now source.now spec.now) }
     ensures each { IfOk result (λ joined. length joined.rows ≡ length target.now.rows) }
 {
-    let target_names = NameSet::of(alloc, target.names())?;
-    let source_names = NameSet::of(alloc, source.names())?;
-    check_join(alloc, &target_names, &source_names, spec)?;
-    let tests = match &spec.test {
-        Some(test) => Some(tests_of(alloc, source, test)?),
-        None => None,
-    };
-    let key = source_names.place_or_end(spec.source_key.as_str());
-    let matches = first_rows(alloc, source.rows(), &tests, key)?;
-    let fields = copied_fields(alloc, source.names(), spec)?;
-    let columns = Columns::of(alloc, target.names(), &source_names, &fields, spec)?;
-    let key = target_names.place_or_end(spec.target_key.as_str());
-    let rows = joined_rows(alloc, target.rows(), source.rows(), key, &matches, &columns)?;
-    Ok(Table::new(columns.names, rows))
+    let targets = NameSet::of(alloc, target.names())?;
+    let sources = NameSet::of(alloc, source.names())?;
+    check_join(alloc, &targets, &sources, spec)?;
+    let numbers = candidates(alloc, source, &spec.test)?;
+    Ok(joined_table(
+        alloc,
+        target,
+        &targets,
+        source,
+        &sources,
+        spec,
+        numbers.as_slice(),
+    )?)
 }
 
 /// Tests the two keys, items 0 and 1, and the listed fields, which are counted from 2.
 fn check_join(
     alloc: Global,
-    target: &NameSet,
-    source: &NameSet,
+    targets: &NameSet,
+    sources: &NameSet,
     spec: &JoinSpec,
-) -> Result<(), TableFault> {
-    check_key(target, spec.target_key.as_str(), 0)?;
-    check_key(source, spec.source_key.as_str(), 1)?;
-    match &spec.fields {
-        Some(fields) => {
-            let mut seen = NameSet::new(alloc);
-            check_items(alloc, source, &mut seen, 2, fields.as_slice())
-        }
-        None => Ok(()),
-    }
+) -> Result<(), TableFault>
+    ensures exact { Refuses result (refused_join targets.now sources.now spec.now) }
+    ensures distinct { OnOk result (IsDistinct bytes_eq (unwrap_or spec.now.fields [])) }
+{
+    check_key(targets, spec.target_key.as_str(), 0)?;
+    check_key(sources, spec.source_key.as_str(), 1)?;
+    check_fields(alloc, sources, &spec.fields)
 }
 
-fn check_key(names: &NameSet, key: &str, item: u32) -> Result<(), TableFault> {
+fn check_key(names: &NameSet, key: &str, item: u32) -> Result<(), TableFault>
+    ensures exact { Refuses result (refused_key names.now key.now item) }
+{
     if names.has(key) {
         return Ok(());
     }
@@ -76,198 +87,86 @@ fn check_key(names: &NameSet, key: &str, item: u32) -> Result<(), TableFault> {
     Err(TableFault::Bad { why })
 }
 
-/// The number of the first row with each key, among the rows that passed the tests.
-fn first_rows(
+fn check_fields(
     alloc: Global,
-    rows: &RowList,
-    tests: &Option<Vec<bool>>,
-    place: u32,
-) -> Result<IndexMap<Key, u32>, AllocError> {
-    let mut matches = IndexMap::new(alloc);
+    sources: &NameSet,
+    fields: &Option<NameList>,
+) -> Result<(), TableFault>
+    ensures exact { Refuses result (refused_item sources.now [] 2 (unwrap_or fields.now [])) }
+    ensures distinct { OnOk result (IsDistinct bytes_eq (unwrap_or fields.now [])) }
+{
+    match fields {
+        Some(fields) => check_list(alloc, sources, fields),
+        None => Ok(()),
+    }
+}
+
+fn check_list(alloc: Global, sources: &NameSet, fields: &NameList) -> Result<(), TableFault>
+    ensures exact { Refuses result (refused_item sources.now [] 2 fields.now) }
+    ensures distinct { OnOk result (IsDistinct bytes_eq fields.now) }
+{
+    let mut seen = NameSet::new(alloc);
+    check_items(alloc, sources, &mut seen, 2, fields.as_slice())
+}
+
+/// The numbers of the source rows that take part: all, or those for which the test is true.
+fn candidates(alloc: Global, source: &Table, test: &Option<Expr>) -> Result<IdList, TableFault>
+    ensures exact { Answers result (candidates source.now test.now) }
+    ensures within { IfOk result (λ numbers. All (λ n. n < length source.now.rows) numbers) }
+{
+    match test {
+        Some(test) => filter_rows(alloc, source, test, false),
+        None => Ok(all_numbers(alloc, source.rows())?),
+    }
+}
+
+fn all_numbers(alloc: Global, rows: &RowList) -> Result<IdList, AllocError>
+    ensures all { IfOk result (λ numbers. numbers ≡ numbers_where (λ (row : RowValues). true) rows.now) }
+    ensures within { IfOk result (λ numbers. All (λ n. n < length rows.now) numbers) }
+{
+    let mut numbers = IdList::new(alloc);
     for n in 0..rows.len() {
-        if let (Some(row), true) = (rows.get(n), is_in(tests, n)) {
-            add_first(alloc, &mut matches, row, place, n)?;
-        }
+        numbers.push(n)?;
     }
-    Ok(matches)
+    Ok(numbers)
 }
 
-fn is_in(tests: &Option<Vec<bool>>, n: u32) -> bool {
-    match tests {
-        Some(tests) => tests.get(n as usize) == Some(&true),
-        None => true,
-    }
-}
-
-/// Notes a row for its key, unless an earlier row has it; null is no key.
-fn add_first(
+/// The target with the copied fields, of the first of these source rows with the same key.
+fn joined_table(
     alloc: Global,
-    matches: &mut IndexMap<Key, u32>,
-    row: &Row,
-    place: u32,
-    n: u32,
-) -> Result<(), AllocError> {
-    if is_null(row, place) {
-        return Ok(());
-    }
-    let key = Key::of(alloc, row, &[place])?;
-    if !matches.contains_key(&key) {
-        matches.insert(key, n)?;
-    }
-    Ok(())
-}
-
-fn is_null(row: &Row, place: u32) -> bool {
-    matches!(row.get(place), None | Some(Value::Null))
-}
-
-/// The source fields that are copied: the listed ones, else all but the key.
-fn copied_fields(alloc: Global, names: &NameList, spec: &JoinSpec) -> Result<NameList, AllocError> {
-    match &spec.fields {
-        Some(fields) => copy_names(alloc, fields),
-        None => names_without(alloc, names, spec.source_key.as_str()),
-    }
-}
-
-fn names_without(alloc: Global, names: &NameList, key: &str) -> Result<NameList, AllocError> {
-    let mut others = NameList::new(alloc);
-    for name in names.as_slice() {
-        if name.as_str() != key {
-            others.push(Text::of(alloc, name.as_str())?)?;
-        }
-    }
-    Ok(others)
-}
-
-/// The columns of the joined table: which source columns go to those of the target, and which stand
-/// behind them. A place is that of a source column.
-#[derive(Drop)]
-struct Columns {
-    names: NameList,
-    forced: Vec<Option<u32>>,
-    added: Vec<u32>,
-}
-
-impl Columns {
-    fn of(
-        alloc: Global,
-        target: &NameList,
-        source: &NameSet,
-        fields: &NameList,
-        spec: &JoinSpec,
-    ) -> Result<Columns, AllocError>
-        requires distinct { IsDistinct bytes_eq target.now }
-        ensures distinct { IfOk result (λ c. IsDistinct bytes_eq c.names) }
-        ensures counts { IfOk result (λ c. length c.names ≡ length c.forced.items + length c.added.items) }
-    {
-        let copied = copied_names(alloc, fields, spec.prefix.as_str())?;
-        let forced = forced_places(alloc, target, source, fields, &copied, spec.force)?;
-        let mut names = copy_names(alloc, target)?;
-        let added = add_columns(alloc, &mut names, source, fields, &copied)?;
-        Ok(Columns {
-            names,
-            forced,
-            added,
-        })
-    }
-}
-
-/// The names that the copied fields get: each behind the prefix.
-fn copied_names(alloc: Global, fields: &NameList, prefix: &str) -> Result<NameList, AllocError>
-    ensures count { IfOk result (λ names. length names ≡ length fields.now) }
+    target: &Table,
+    targets: &NameSet,
+    source: &Table,
+    sources: &NameSet,
+    spec: &JoinSpec,
+    numbers: &[u32],
+) -> Result<Table, AllocError>
+    requires target { targets.now ≡ target.now.names }
+    requires source { sources.now ≡ source.now.names }
+    requires fields_differ { IsDistinct bytes_eq (unwrap_or spec.now.fields []) }
+    requires within { All (λ n. n < length source.now.rows) numbers.now }
+    ensures exact { IfOk result (λ joined. joined ≡ joined_table target.now source.now spec.now numbers.now) }
 {
-    let mut names = NameList::new(alloc);
-    for field in fields.as_slice() {
-        let mut name = String::from_str(alloc, prefix)?;
-        name.push_str(field.as_str())?;
-        names.push(Text::from_string(name))?;
-    }
-    Ok(names)
-}
-
-/// For each column of the target the place of the source column that is forced on it.
-fn forced_places(
-    alloc: Global,
-    target: &NameList,
-    source: &NameSet,
-    fields: &NameList,
-    copied: &NameList,
-    force: bool,
-) -> Result<Vec<Option<u32>>, AllocError>
-    ensures count { IfOk result (λ forced. length forced.items ≡ length target.now) }
-{
-    let copied = names_once(alloc, copied)?;
-    let mut forced = Vec::new(alloc);
-    for name in target.as_slice() {
-        let place = if force {
-            place_under(source, fields, copied.place_or_end(name.as_str()))
-        } else {
-            None
-        };
-        forced.push(place)?;
-    }
-    Ok(forced)
-}
-
-/// The place in the source of the field with this number, if there is one.
-fn place_under(source: &NameSet, fields: &NameList, n: u32) -> Option<u32> {
-    let field = fields.get(n)?;
-    Some(source.place_or_end(field.as_str()))
-}
-
-fn names_once(alloc: Global, names: &NameList) -> Result<NameSet, AllocError> {
-    let mut once = NameSet::new(alloc);
-    for name in names.as_slice() {
-        once.add(alloc, name.as_str())?;
-    }
-    Ok(once)
-}
-
-/// Adds the names that are new, and gives the places of their fields in the source.
-fn add_columns(
-    alloc: Global,
-    names: &mut NameList,
-    source: &NameSet,
-    fields: &NameList,
-    copied: &NameList,
-) -> Result<Vec<u32>, AllocError>
-    requires distinct { IsDistinct bytes_eq names.old }
-    ensures distinct { OnOk result (IsDistinct bytes_eq names.new) }
-    ensures counts { IfOk result (λ added. length names.new ≡ length names.old + length added.items) }
-{
-    let mut seen = NameSet::of(alloc, names)?;
-    let mut added = Vec::new(alloc);
-    for i in 0..fields.len() {
-        let place = place_under(source, fields, i);
-        add_column(alloc, &mut seen, names, &mut added, copied.get(i), place)?;
-    }
-    Ok(added)
-}
-
-/// Adds a name that is new, and the place of its field.
-fn add_column(
-    alloc: Global,
-    seen: &mut NameSet,
-    names: &mut NameList,
-    added: &mut Vec<u32>,
-    name: Option<&Text>,
-    place: Option<u32>,
-) -> Result<(), AllocError>
-    requires same { names.old ≡ seen.old }
-    requires distinct { IsDistinct bytes_eq seen.old }
-    ensures same { OnOk result (names.new ≡ seen.new) }
-    ensures distinct { OnOk result (IsDistinct bytes_eq seen.new) }
-    ensures counts { OnOk result (length names.new + length added.old.items ≡ length names.old + length added.new.items) }
-{
-    let (Some(name), Some(place)) = (name, place) else {
-        return Ok(());
-    };
-    if !seen.add(alloc, name.as_str())? {
-        return Ok(());
-    }
-    names.push(Text::of(alloc, name.as_str())?)?;
-    added.push(place)?;
-    Ok(())
+    let source_key = sources.place_or_end(spec.source_key.as_str());
+    let firsts = first_rows(alloc, source.rows(), numbers, source_key)?;
+    let columns = columns_of(
+        alloc,
+        target.names(),
+        targets,
+        source.names(),
+        sources,
+        spec,
+    )?;
+    let key = targets.place_or_end(spec.target_key.as_str());
+    let rows = joined_rows(
+        alloc,
+        target.rows(),
+        source.rows(),
+        key,
+        &firsts,
+        columns.cells.as_slice(),
+    )?;
+    Ok(Table::new(columns.names, rows))
 }
 
 /// The rows of the target with the copied fields of their matches.
@@ -276,37 +175,17 @@ fn joined_rows(
     target: &RowList,
     source: &RowList,
     key: u32,
-    matches: &IndexMap<Key, u32>,
-    columns: &Columns,
+    firsts: &IndexMap<Key, u32>,
+    columns: &[Column],
 ) -> Result<RowList, AllocError>
-    requires counts { length columns.now.names ≡ length columns.now.forced.items + length columns.now.added.items }
-    ensures widths { IfOk result (λ rows. AreRows (length columns.now.names) rows) }
-    ensures each { IfOk result (λ rows. length rows ≡ length target.now) }
+    ensures rows { IfOk result (λ rows. rows ≡ map (λ (row : RowValues). map (column_value row (row_found source.now (get same_values firsts.now (value_at row key ∷ [])))) columns.now) target.now) }
 {
     let mut rows = RowList::new(alloc);
     for row in target.as_slice() {
-        let matched = match_of(alloc, row, source, key, matches)?;
+        let matched = match_of(alloc, row, source, key, firsts)?;
         rows.push(joined_row(alloc, row, matched, columns)?)?;
     }
     Ok(rows)
-}
-
-/// The source row that a row matches.
-fn match_of<'a>(
-    alloc: Global,
-    row: &Row,
-    source: &'a RowList,
-    place: u32,
-    matches: &IndexMap<Key, u32>,
-) -> Result<Option<&'a Row>, AllocError> {
-    if is_null(row, place) {
-        return Ok(None);
-    }
-    let key = Key::of(alloc, row, &[place])?;
-    match matches.get(&key) {
-        Some(n) => Ok(source.get(*n)),
-        None => Ok(None),
-    }
 }
 
 /// A row of the target, with the copied fields of its match.
@@ -314,52 +193,50 @@ fn joined_row(
     alloc: Global,
     row: &Row,
     matched: Option<&Row>,
-    columns: &Columns,
+    columns: &[Column],
 ) -> Result<Row, AllocError>
-    ensures width { IfOk result (λ r. length r ≡ length columns.now.forced.items + length columns.now.added.items) }
+    ensures cells { IfOk result (λ cells. cells ≡ map (column_value row.now (option_copied matched.entry)) columns.now) }
 {
-    let mut joined = Row::new(alloc);
-    append_kept(alloc, &mut joined, row, matched, columns.forced.as_slice())?;
-    append_copied(alloc, &mut joined, matched, columns.added.as_slice())?;
-    Ok(joined)
+    match matched {
+        Some(source) => row_with(alloc, row, source, columns),
+        None => row_without(alloc, row, columns),
+    }
 }
 
-/// The values of the target's columns, each the forced one where a row matched.
-fn append_kept(
-    alloc: Global,
-    out: &mut Row,
-    row: &Row,
-    matched: Option<&Row>,
-    forced: &[Option<u32>],
-) -> Result<(), AllocError>
-    ensures width { OnOk result (length out.new ≡ length out.old + length forced.now) }
+fn row_with(alloc: Global, row: &Row, source: &Row, columns: &[Column]) -> Result<Row, AllocError>
+    ensures cells { IfOk result (λ cells. cells ≡ map (column_value row.now (Some source.now)) columns.now) }
 {
-    for place in forced {
-        let own = out.len();
-        let value = match (matched, *place) {
-            (Some(source), Some(place)) => copy_at(alloc, source, place)?,
-            _ => copy_at(alloc, row, own)?,
-        };
-        out.push(value)?;
+    let mut cells = Row::new(alloc);
+    for column in columns {
+        cells.push(value_with(alloc, row, source, *column)?)?;
     }
-    Ok(())
+    Ok(cells)
 }
 
-/// The values of a matched row at these places, or null for each.
-fn append_copied(
-    alloc: Global,
-    out: &mut Row,
-    matched: Option<&Row>,
-    places: &[u32],
-) -> Result<(), AllocError>
-    ensures width { OnOk result (length out.new ≡ length out.old + length places.now) }
+fn row_without(alloc: Global, row: &Row, columns: &[Column]) -> Result<Row, AllocError>
+    ensures cells { IfOk result (λ cells. cells ≡ map (column_value row.now None) columns.now) }
 {
-    for place in places {
-        let value = match matched {
-            Some(source) => copy_at(alloc, source, *place)?,
-            None => Value::Null,
-        };
-        out.push(value)?;
+    let mut cells = Row::new(alloc);
+    for column in columns {
+        cells.push(value_without(alloc, row, *column)?)?;
     }
-    Ok(())
+    Ok(cells)
+}
+
+fn value_with(alloc: Global, row: &Row, source: &Row, column: Column) -> Result<Value, AllocError>
+    ensures value { IfOk result (λ value. value ≡ column_value row.now (Some source.now) column) }
+{
+    match column {
+        Column::Kept { own } => copy_at(alloc, row, own),
+        Column::Forced { own: _, place } | Column::Added { place } => copy_at(alloc, source, place),
+    }
+}
+
+fn value_without(alloc: Global, row: &Row, column: Column) -> Result<Value, AllocError>
+    ensures value { IfOk result (λ value. value ≡ column_value row.now None column) }
+{
+    match column {
+        Column::Kept { own } | Column::Forced { own, place: _ } => copy_at(alloc, row, own),
+        Column::Added { place: _ } => Ok(Value::Null),
+    }
 }

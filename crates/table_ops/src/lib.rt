@@ -11,6 +11,8 @@ mod group;
 mod groups;
 mod items;
 mod join;
+mod join_columns;
+mod join_matches;
 mod key;
 mod merge;
 mod names;

@@ -1,9 +1,10 @@
-use Rattle.std.proofs.Common.{◌≡◌, length}
-use Rattle.json_read.specs.Table.{AreRows}
+use Rattle.std.proofs.Common.{◌≡◌, ◌∷◌, [], map, take}
+use Rattle.indexmap.specs.IndexMap.{get}
+use Rattle.json_read.specs.Table.{RowValues}
+use Rattle.table_ops.specs.JoinColumns.{column_value, row_found}
+use Rattle.table_ops.specs.Keys.{same_values}
+use Rattle.table_ops.specs.Names.{value_at}
 use Rattle.table_ops.proofs.join.joined_rows.Given as goal
 
 abbrev pub invariant-loop-row : goal.invariant-loop-row
-invariant-loop-row l = record {
-  widths : AreRows (length l.columns.names) l.rows;
-  each : length l.rows ≡ l.row-index;
-}
+invariant-loop-row l = l.rows ≡ map (λ (row : RowValues). map (column_value row (row_found l.source (get same_values l.firsts (value_at row l.key ∷ [])))) l.columns) (take l.row-index l.row-items)

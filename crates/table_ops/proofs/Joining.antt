@@ -1,0 +1,255 @@
+-- Joins by keys: the first row with a key, and the columns of a joined row.
+use Rattle.std.proofs.Common.{◌≡◌, ℕ, suc, ◌+◌, ◌<◌, All, Bool, true, false, cond, not, ◌&&◌, ◌||◌, List, [], ◌∷◌, ◌++◌, map, length, take, get_or, slice_get, filter, find, Option, Some, None, option_map, unwrap_or, refl, sym, ap, subst, ◌∙◌, true≢false, is_some, arith, length-append}
+use Rattle.std.specs.Bool.{Decides}
+use Rattle.std.specs.List.{IsDistinct, AllByRecursion, list_any, position_or_len}
+use Rattle.std.specs.Option.{option_or}
+use Rattle.std.specs.Str.{bytes_eq}
+use Rattle.std.specs.Cmp.{unsigned_Decides}
+use Rattle.std.specs.Cmp.Lexicographic.{pointwise_decides, nat_list_eq_equiv}
+use Rattle.std.proofs.lemmas.List.{take_more, length-map, map-append, append_cancel_left}
+use Rattle.std.proofs.lemmas.List.Folds.{find_at, find-append}
+use Rattle.std.proofs.lemmas.Option.{slice_get-get_or}
+use Rattle.lists.specs.Lists.{numbers_where}
+use Rattle.json_read.specs.Table.{RowValues, AreRows}
+use Rattle.json_read.specs.Value.{same}
+use Rattle.json_read.specs.declared.value.Value.{Value}
+use Rattle.table_ops.specs.Names.{Text, has_name, value_at, place_of}
+use Rattle.table_ops.specs.Rows.{row_at}
+use Rattle.table_ops.specs.Keys.{same_values}
+use Rattle.table_ops.specs.Same.{same_decides, rows_decide}
+use Rattle.table_ops.specs.Join.{copied_fields, copied_name, new_fields, forced_field, is_null, matches, kept_cell, new_cell, joined_row}
+use Rattle.table_ops.specs.JoinColumns.{kept_at, kept_column, added_column, columns_of, column_value, row_found}
+use Rattle.table_ops.specs.declared.specifications.JoinSpec.{JoinSpec}
+use Rattle.table_ops.specs.declared.join_columns.Column.{Column}
+use Rattle.table_ops.proofs.Cells.{map_map}
+use Rattle.table_ops.proofs.Distinct.{IsDistinct-map}
+use Rattle.table_ops.proofs.Mapped.{position_or_len-map}
+use Rattle.table_ops.proofs.Numbers.{numbers_where_more}
+
+texts_decide : (s t : Text) → Decides (bytes_eq s t) (s ≡ t)
+texts_decide = pointwise_decides unsigned_Decides
+
+-- ---- the first row with a key
+
+-- keys of one value each
+alone : (v w : Value) → same_values (w ∷ []) (v ∷ []) ≡ same v w
+alone v w = by (same v w) refl (same_values (w ∷ []) (v ∷ [])) refl
+  where
+    by : (a : Bool) → same v w ≡ a → (b : Bool) → same_values (w ∷ []) (v ∷ []) ≡ b → same_values (w ∷ []) (v ∷ []) ≡ same v w
+    by true e true f = f ∙ sym e
+    by false e false f = f ∙ sym e
+    by true e false f =
+        let equal : w ∷ [] ≡ v ∷ [] = ap (λ (u : Value). u ∷ []) (sym ((same_decides v w).0 e)) in
+        absurd (true≢false (sym ((rows_decide (w ∷ []) (v ∷ [])).1 equal) ∙ f))
+    by false e true f =
+        let equal : w ≡ v = ap (λ (r : RowValues). get_or r 0 w) ((rows_decide (w ∷ []) (v ∷ [])).0 f) in
+        absurd (true≢false (sym ((same_decides v w).1 (sym equal)) ∙ e))
+
+-- null is no key
+pub null_matches_none : (v w : Value) (n : ℕ) (o : Option ℕ) → is_null w ≡ true → o ≡ option_or o (cond (matches v w) (Some n) None)
+null_matches_none v w n o e =
+    sym (ap (λ (b : Bool). option_or o (cond (not b && same v w) (Some n) None)) e ∙ or_none o)
+  where
+    or_none : (p : Option ℕ) → option_or p None ≡ p
+    or_none None = refl
+    or_none (Some m) = refl
+
+-- another value is
+pub others_match : (v w : Value) (n : ℕ) (o : Option ℕ) → is_null w ≡ false
+    → option_or o (cond (same_values (w ∷ []) (v ∷ [])) (Some n) None) ≡ option_or o (cond (matches v w) (Some n) None)
+others_match v w n o e =
+    ap (λ (b : Bool). option_or o (cond b (Some n) None)) (alone v w)
+    ∙ sym (ap (λ (b : Bool). option_or o (cond (not b && same v w) (Some n) None)) e)
+
+-- a key that is there already
+pub noted_before : (key k : RowValues) (found : RowValues → Option ℕ) (n : ℕ) → is_some (found key) ≡ true → found k ≡ option_or (found k) (cond (same_values key k) (Some n) None)
+noted_before key k found n there = by (same_values key k) refl
+  where
+    stays : (o : Option ℕ) (p : Option ℕ) → is_some o ≡ true → o ≡ option_or o p
+    stays None p e = absurd (true≢false (sym e))
+    stays (Some m) p e = refl
+
+    or_none : (p : Option ℕ) → p ≡ option_or p None
+    or_none None = refl
+    or_none (Some m) = refl
+
+    by : (b : Bool) → same_values key k ≡ b → found k ≡ option_or (found k) (cond (same_values key k) (Some n) None)
+    by true e = stays (found k) (cond (same_values key k) (Some n) None) (ap (λ (r : RowValues). is_some (found r)) (sym ((rows_decide key k).0 e)) ∙ there)
+    by false e = or_none (found k) ∙ sym (ap (λ (b : Bool). option_or (found k) (cond b (Some n) None)) e)
+
+-- a key that is new
+pub noted_new : (key k : RowValues) (found : RowValues → Option ℕ) (n : ℕ) → is_some (found key) ≡ false → cond (same_values key k) (Some n) (found k) ≡ option_or (found k) (cond (same_values key k) (Some n) None)
+noted_new key k found n new = by (same_values key k) refl
+  where
+    none : (o : Option ℕ) → is_some o ≡ false → (p : Option ℕ) → p ≡ option_or o p
+    none None e p = refl
+    none (Some m) e p = absurd (true≢false e)
+
+    or_none : (p : Option ℕ) → p ≡ option_or p None
+    or_none None = refl
+    or_none (Some m) = refl
+
+    by : (b : Bool) → same_values key k ≡ b → cond b (Some n) (found k) ≡ option_or (found k) (cond b (Some n) None)
+    by true e = none (found k) (ap (λ (r : RowValues). is_some (found r)) (sym ((rows_decide key k).0 e)) ∙ new) (Some n)
+    by false e = or_none (found k)
+
+-- one more of the numbers
+pub find_more : (p : ℕ → Bool) (ns : List ℕ) (i d : ℕ) → i < length ns → find p (take (i + 1) ns) ≡ option_or (find p (take i ns)) (cond (p (get_or ns i d)) (Some (get_or ns i d)) None)
+find_more p ns i d less = ap (find p) (take_more ns i d less) ∙ find-append p (take i ns) (get_or ns i d ∷ [])
+
+-- the row that is found, where the numbers are numbers of rows
+pub found_row : (rows : List RowValues) (p : ℕ → Bool) (ns : List ℕ) → All (λ n. n < length rows) ns → row_found rows (find p ns) ≡ option_map (row_at rows) (find p ns)
+found_row rows p [] h = refl
+found_row rows p (n ∷ ns) h = by (p n) (found_row rows p ns (λ j d less. h (suc j) d (omega arith)))
+  where
+    by : (b : Bool) → row_found rows (find p ns) ≡ option_map (row_at rows) (find p ns) → row_found rows (cond b (Some n) (find p ns)) ≡ option_map (row_at rows) (cond b (Some n) (find p ns))
+    by true rest = slice_get-get_or rows n [] (h 0 0 (omega arith))
+    by false rest = rest
+
+-- ---- all rows
+
+pub all_numbers_more : (rows : List RowValues) (i : ℕ) → i < length rows → numbers_where (λ (row : RowValues). true) (take (i + 1) rows) ≡ numbers_where (λ (row : RowValues). true) (take i rows) ++ i ∷ []
+all_numbers_more rows i less = numbers_where_more (λ (row : RowValues). true) rows i [] less
+
+-- ---- columns
+
+-- the field whose copied name is at the place of a name
+pub field_found : (spec : JoinSpec) (fields : List Text) (name : Text)
+    → slice_get fields (position_or_len (bytes_eq name) (map (copied_name spec) fields)) ≡ find (λ (f : Text). bytes_eq name (copied_name spec f)) fields
+field_found spec fields name =
+    ap (slice_get fields) (position_or_len-map (copied_name spec) (bytes_eq name) fields) ∙ sym (find_at (λ (f : Text). bytes_eq name (copied_name spec f)) fields)
+
+kept_value : (source : List Text) (row : RowValues) (own : ℕ) (o : Option Text) (matched : Option RowValues)
+    → column_value row matched (kept_at own (option_map (place_of source) o)) ≡ kept_cell source (value_at row own) o matched
+kept_value source row own None matched = refl
+kept_value source row own (Some f) None = refl
+kept_value source row own (Some f) (Some other) = refl
+
+added_value : (source : List Text) (row : RowValues) (f : Text) (matched : Option RowValues) → column_value row matched (added_column source f) ≡ new_cell source matched f
+added_value source row f None = refl
+added_value source row f (Some other) = refl
+
+-- the values of the columns are the joined row
+pub values_joined : (target source : List Text) (spec : JoinSpec) (row : RowValues) (matched : Option RowValues)
+    → map (column_value row matched) (columns_of target source spec) ≡ joined_row target source spec row matched
+values_joined target source spec row matched =
+    map-append (column_value row matched) (map (kept_column target source spec) target) (map (added_column source) (new_fields target source spec))
+    ∙ (λ i. map_map (column_value row matched) (kept_column target source spec) target i ++ map_map (column_value row matched) (added_column source) (new_fields target source spec) i)
+    ∙ (λ i. map (λ (name : Text). kept_value source row (place_of target name) (forced_field source spec name) matched i) target
+    ++ map (λ (f : Text). added_value source row f matched i) (new_fields target source spec))
+
+pub values_long : (columns : List Column) (value : RowValues → Column → Value) (rows : List RowValues) → AreRows (length columns) (map (λ (row : RowValues). map (value row) columns) rows)
+values_long columns value [] = tt
+values_long columns value (row ∷ rows) = (length-map columns (value row), values_long columns value rows)
+
+-- ---- names stay distinct
+
+-- texts behind the same text
+same_behind : (p s t : Text) → bytes_eq (p ++ s) (p ++ t) ≡ bytes_eq s t
+same_behind p s t = by (bytes_eq (p ++ s) (p ++ t)) refl (bytes_eq s t) refl
+  where
+    by : (a : Bool) → bytes_eq (p ++ s) (p ++ t) ≡ a → (b : Bool) → bytes_eq s t ≡ b → bytes_eq (p ++ s) (p ++ t) ≡ bytes_eq s t
+    by true e true f = e ∙ sym f
+    by false e false f = e ∙ sym f
+    by true e false f =
+        let equal : s ≡ t = append_cancel_left p s t ((texts_decide (p ++ s) (p ++ t)).0 e) in
+        absurd (true≢false (sym ((texts_decide s t).1 equal) ∙ f))
+    by false e true f =
+        let equal : p ++ s ≡ p ++ t = ap (λ (r : Text). p ++ r) ((texts_decide s t).0 f) in
+        absurd (true≢false (sym ((texts_decide (p ++ s) (p ++ t)).1 equal) ∙ e))
+
+all_filter : (P : Text → Type 0) (p : Text → Bool) (xs : List Text) → AllByRecursion P xs → AllByRecursion P (filter p xs)
+all_filter P p [] h = tt
+all_filter P p (x ∷ xs) h = by (p x) (all_filter P p xs h.1)
+  where
+    by : (b : Bool) → AllByRecursion P (filter p xs) → AllByRecursion P (cond b (x ∷ filter p xs) (filter p xs))
+    by true rest = (h.0, rest)
+    by false rest = rest
+
+distinct-filter : (p : Text → Bool) (xs : List Text) → IsDistinct bytes_eq xs → IsDistinct bytes_eq (filter p xs)
+unfolding IsDistinct
+distinct-filter p [] h = tt
+distinct-filter p (x ∷ xs) h = by (p x) (distinct-filter p xs h.1)
+  where
+    by : (b : Bool) → IsDistinct bytes_eq (filter p xs) → IsDistinct bytes_eq (cond b (x ∷ filter p xs) (filter p xs))
+    by true rest = (all_filter (λ (y : Text). bytes_eq x y ≡ false) p xs h.0, rest)
+    by false rest = rest
+
+copied_differ : (spec : JoinSpec) (fields : List Text) → IsDistinct bytes_eq fields → IsDistinct bytes_eq (map (copied_name spec) fields)
+copied_differ spec fields h =
+    IsDistinct-map (copied_name spec) bytes_eq fields
+    (subst (λ (eq : Text → Text → Bool). IsDistinct eq fields) (λ i. λ (s t : Text). sym (same_behind spec.prefix s t) i) h)
+
+-- the copied fields differ, where the listed ones do
+pub fields_differ : (names : List Text) (spec : JoinSpec) → IsDistinct bytes_eq names → IsDistinct bytes_eq (unwrap_or spec.fields []) → IsDistinct bytes_eq (copied_fields names spec)
+fields_differ names spec h k = by spec.fields k
+  where
+    by : (o : Option (List Text)) → IsDistinct bytes_eq (unwrap_or o []) → IsDistinct bytes_eq (unwrap_or o (filter (λ (f : Text). not (bytes_eq f spec.source_key)) names))
+    by None l = distinct-filter (λ (f : Text). not (bytes_eq f spec.source_key)) names h
+    by (Some fields) l = l
+
+pub copied_names_differ : (spec : JoinSpec) (fields : List Text) → IsDistinct bytes_eq fields → IsDistinct bytes_eq (map (copied_name spec) fields)
+copied_names_differ spec fields h = copied_differ spec fields h
+
+abbrev AreNew : List Text → List Text → Type 0
+AreNew target names = AllByRecursion (λ (y : Text). has_name target y ≡ false) names
+
+not_true : (b : Bool) → not b ≡ true → b ≡ false
+not_true true e = absurd (true≢false (sym e))
+not_true false e = refl
+
+are_new : (target : List Text) (spec : JoinSpec) (fields : List Text) → AreNew target (map (copied_name spec) (filter (λ (f : Text). not (has_name target (copied_name spec f))) fields))
+are_new target spec [] = tt
+are_new target spec (f ∷ fields) = by (has_name target (copied_name spec f)) refl (are_new target spec fields)
+  where
+    rest : List Text
+    rest = filter (λ (g : Text). not (has_name target (copied_name spec g))) fields
+
+    by : (b : Bool) → has_name target (copied_name spec f) ≡ b → AreNew target (map (copied_name spec) rest) → AreNew target (map (copied_name spec) (cond (not b) (f ∷ rest) rest))
+    by true e h = h
+    by false e h = (e, h)
+
+all_append : (P : Text → Type 0) (xs ys : List Text) → AllByRecursion P xs → AllByRecursion P ys → AllByRecursion P (xs ++ ys)
+all_append P [] ys h k = k
+all_append P (x ∷ xs) ys h k = (h.0, all_append P xs ys h.1 k)
+
+or_first : (a b : Bool) → (a || b) ≡ false → a ≡ false
+or_first true b e = absurd (true≢false e)
+or_first false b e = refl
+
+or_second : (a b : Bool) → (a || b) ≡ false → b ≡ false
+or_second true b e = absurd (true≢false e)
+or_second false b e = e
+
+new_to_first : (x : Text) (xs ys : List Text) → AreNew (x ∷ xs) ys → AllByRecursion (λ (y : Text). bytes_eq x y ≡ false) ys
+new_to_first x xs [] h = tt
+new_to_first x xs (y ∷ ys) h = (nat_list_eq_equiv.symm x y ∙ or_first (bytes_eq y x) (list_any (bytes_eq y) xs) h.0, new_to_first x xs ys h.1)
+
+new_to_rest : (x : Text) (xs ys : List Text) → AreNew (x ∷ xs) ys → AreNew xs ys
+new_to_rest x xs [] h = tt
+new_to_rest x xs (y ∷ ys) h = (or_second (bytes_eq y x) (list_any (bytes_eq y) xs) h.0, new_to_rest x xs ys h.1)
+
+distinct-behind : (xs ys : List Text) → IsDistinct bytes_eq xs → IsDistinct bytes_eq ys → AreNew xs ys → IsDistinct bytes_eq (xs ++ ys)
+unfolding IsDistinct
+distinct-behind [] ys h k new = k
+distinct-behind (x ∷ xs) ys h k new =
+    (all_append (λ (y : Text). bytes_eq x y ≡ false) xs ys h.0 (new_to_first x xs ys new), distinct-behind xs ys h.1 k (new_to_rest x xs ys new))
+
+-- the names of a joined table differ
+pub joined_names_differ : (target source : List Text) (spec : JoinSpec) → IsDistinct bytes_eq target → IsDistinct bytes_eq (copied_fields source spec)
+    → IsDistinct bytes_eq (target ++ map (copied_name spec) (new_fields target source spec))
+joined_names_differ target source spec h k =
+    distinct-behind target (map (copied_name spec) (new_fields target source spec)) h
+    (copied_differ spec (new_fields target source spec) (distinct-filter (λ (f : Text). not (has_name target (copied_name spec f))) (copied_fields source spec) k))
+    (are_new target spec (copied_fields source spec))
+
+-- there are as many names as columns
+pub as_many_names : (target source : List Text) (spec : JoinSpec) → length (target ++ map (copied_name spec) (new_fields target source spec)) ≡ length (columns_of target source spec)
+as_many_names target source spec =
+    let new : List Text = new_fields target source spec in
+    let a = length-append target (map (copied_name spec) new) in
+    let b = length-append (map (kept_column target source spec) target) (map (added_column source) new) in
+    let c = length-map new (copied_name spec) in
+    let d = length-map target (kept_column target source spec) in
+    let e = length-map new (added_column source) in
+    omega (arith, a, b, c, d, e)
