@@ -10,3 +10,4 @@ pub mod Renaming
 pub mod Grouping
 pub mod Pieces
 pub mod Joining
+pub mod Summing

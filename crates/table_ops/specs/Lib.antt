@@ -10,3 +10,4 @@ pub mod Groups
 pub mod Splitting
 pub mod Join
 pub mod JoinColumns
+pub mod Grouping

@@ -1,20 +1,22 @@
-ghost use Rattle.std.specs.Prelude.{◌≡◌, ◌<◌, ◌+◌, ◌++◌, All, IfOk, OnOk, length, map};
-ghost use Rattle.std.specs.List.{IsDistinct};
+ghost use Rattle.std.specs.Prelude.{◌≡◌, ◌<◌, ◌++◌, ◌∷◌, [], All, Ok, IfOk, OnOk, fold, length, map};
+ghost use Rattle.std.specs.List.{IsDistinct, flat_map};
 ghost use Rattle.std.specs.Str.{bytes_eq};
-ghost use Rattle.json_read.specs.Table.{AreRows};
 ghost use Rattle.table_ops.specs.Columns.{cells};
+ghost use Rattle.table_ops.specs.Grouping.{earlier, group_row, group_rows, table_of_groups, groups_by, field_places, listed_fields, refusals, refused_sums};
 ghost use Rattle.table_ops.specs.Groups.{groups_of};
-ghost use Rattle.table_ops.specs.Names.{place_of};
+ghost use Rattle.table_ops.specs.Refusals.{Answers, Refuses, refused_item, unless};
+ghost use Rattle.table_ops.specs.Rows.{first_of, picked};
 
 use crate::fault::{TableFault, TableWhy};
-use crate::groups::{Groups, group_list, groups_at};
+use crate::group_sums::append_sums;
+use crate::groups::{group_list, groups_at};
 use crate::items::{check_items, places_of};
 use crate::names::NameSet;
 use crate::rows::{append_picked, first_row};
 use crate::specifications::GroupSpec;
 use grid_base::{GroupList, IdList};
 use io_core::{NameList, Text};
-use json_read::{Decimal, Row, RowList, Table, Value};
+use json_read::{Row, RowList, Table};
 use std::alloc::{AllocError, Global};
 
 /// Rows in groups, and a table with a row for each group.
@@ -24,82 +26,35 @@ pub struct Grouped {
     pub table: Table,
 }
 
-/// Where the columns of a grouping stand in the table.
-#[derive(Drop)]
-struct Places {
-    by: Vec<u32>,
-    copy: Vec<u32>,
-    sum: Vec<u32>,
-}
-
 /// Rows with the same values in the listed fields, in order of first appearance; without fields all
 /// rows are one group, and no rows are none. The columns are the listed fields, the copied ones with
 /// the values of the first row of the group, and the summed ones, where null counts as 0.
 ///
 /// Errors: `NoField` and `FieldTwice` at the first item, counted through the three lists, that the
-/// table lacks or that stands earlier; then, row by row and in a row column by column, `NotNumber` and
-/// `SumRange`.
+/// table lacks or that stands earlier; then `NotNumber` or `SumRange` at the lowest row that cannot be
+/// added to the sums of its group, and in it for the first column.
 /// Cost: in proportion to the cells of the listed fields, and one look-up for each row.
 pub fn group_rows(alloc: Global, t: &Table, spec: &GroupSpec) -> Result<Grouped, TableFault>
+    ensures exact { Answers result (group_rows t.now spec.now) }
     ensures members { IfOk result (λ g. g.groups ≡ groups_of (map (cells t.now.names spec.now.by) t.now.rows)) }
     ensures below { IfOk result (λ g. All (All (λ n. n < length t.now.rows)) g.groups) }
     ensures each { IfOk result (λ g. length g.table.rows ≡ length g.groups) }
 {
     let columns = NameSet::of(alloc, t.names())?;
-    let names = checked_names(alloc, &columns, spec)?;
-    let places = Places::of(alloc, &columns, spec)?;
-    let groups = groups_at(alloc, t.rows(), places.by.as_slice())?;
-    let sums = sums_of(alloc, t.rows(), &groups, places.sum.as_slice())?;
-    let rows = group_table(alloc, t.rows(), groups.members.as_slice(), &places, &sums)?;
-    let groups = group_list(alloc, groups.members)?;
-    let table = Table::new(names, rows);
-    Ok(Grouped { groups, table })
+    let names = listed_fields(alloc, spec)?;
+    check_names(alloc, &columns, &names)?;
+    table_of_groups(alloc, t, &columns, spec, names)
 }
 
-impl Places {
-    #[tactic(auto, using(crate::proofs::Cells::map_long))]
-    fn of(alloc: Global, columns: &NameSet, spec: &GroupSpec) -> Result<Places, AllocError>
-        ensures by { IfOk result (λ p. p.by.items ≡ map (place_of columns.now) spec.now.by) }
-        ensures counts { IfOk result (λ p. length p.by.items + length p.copy.items + length p.sum.items ≡ length spec.now.by + length spec.now.copy + length spec.now.sum) }
-    {
-        Ok(Places {
-            by: places_of(alloc, columns, spec.by.as_slice())?,
-            copy: places_of(alloc, columns, spec.copy.as_slice())?,
-            sum: places_of(alloc, columns, spec.sum.as_slice())?,
-        })
-    }
-}
-
-/// The items of the three lists, one list behind the other.
-fn checked_names(alloc: Global, columns: &NameSet, spec: &GroupSpec) -> Result<NameList, TableFault>
-    ensures count { IfOk result (λ names. length names ≡ length spec.now.by + length spec.now.copy + length spec.now.sum) }
-    ensures distinct { IfOk result (λ names. IsDistinct bytes_eq names) }
+/// The fields of the three lists, one list behind the other.
+fn listed_fields(alloc: Global, spec: &GroupSpec) -> Result<NameList, AllocError>
+    ensures names { IfOk result (λ names. names ≡ listed_fields spec.now) }
 {
-    let mut seen = NameSet::new(alloc);
     let mut names = NameList::new(alloc);
-    check_list(alloc, columns, &mut seen, &mut names, &spec.by)?;
-    check_list(alloc, columns, &mut seen, &mut names, &spec.copy)?;
-    check_list(alloc, columns, &mut seen, &mut names, &spec.sum)?;
+    append_names(alloc, &mut names, &spec.by)?;
+    append_names(alloc, &mut names, &spec.copy)?;
+    append_names(alloc, &mut names, &spec.sum)?;
     Ok(names)
-}
-
-/// Tests the items of one list, and adds them to the names.
-fn check_list(
-    alloc: Global,
-    columns: &NameSet,
-    seen: &mut NameSet,
-    names: &mut NameList,
-    items: &NameList,
-) -> Result<(), TableFault>
-    requires same { names.old ≡ seen.old }
-    requires distinct { IsDistinct bytes_eq seen.old }
-    ensures same { OnOk result (names.new ≡ seen.new) }
-    ensures count { OnOk result (length names.new ≡ length names.old + length items.now) }
-    ensures distinct { OnOk result (IsDistinct bytes_eq seen.new) }
-{
-    check_items(alloc, columns, seen, 0, items.as_slice())?;
-    append_names(alloc, names, items)?;
-    Ok(())
 }
 
 fn append_names(alloc: Global, names: &mut NameList, more: &NameList) -> Result<(), AllocError>
@@ -111,91 +66,111 @@ fn append_names(alloc: Global, names: &mut NameList, more: &NameList) -> Result<
     Ok(())
 }
 
-/// For each group the sums of its rows at these places.
-fn sums_of(
-    alloc: Global,
-    rows: &RowList,
-    groups: &Groups,
-    places: &[u32],
-) -> Result<Vec<Vec<Decimal>>, TableFault> {
-    let mut sums = no_sums(alloc, groups.members.len(), places.len())?;
-    for n in 0..rows.len() {
-        if let (Some(row), Some(group)) = (rows.get(n), groups.group_of.get(n as usize)) {
-            add_to_group(&mut sums, *group, row, places, n)?;
-        }
-    }
-    Ok(sums)
+fn check_names(alloc: Global, columns: &NameSet, names: &NameList) -> Result<(), TableFault>
+    ensures exact { Refuses result (refused_item columns.now [] 0 names.now) }
+    ensures distinct { OnOk result (IsDistinct bytes_eq names.now) }
+{
+    let mut seen = NameSet::new(alloc);
+    check_items(alloc, columns, &mut seen, 0, names.as_slice())
 }
 
-fn add_to_group(
-    sums: &mut Vec<Vec<Decimal>>,
-    group: usize,
-    row: &Row,
-    places: &[u32],
-    n: u32,
-) -> Result<(), TableFault> {
-    match sums.get_mut(group) {
-        Some(totals) => add_row(totals, row, places, n),
+/// The rows in groups, and the table of the groups under these names.
+fn table_of_groups(
+    alloc: Global,
+    t: &Table,
+    columns: &NameSet,
+    spec: &GroupSpec,
+    names: NameList,
+) -> Result<Grouped, TableFault>
+    requires columns { columns.now ≡ t.now.names }
+    requires names { names ≡ listed_fields spec.now }
+    requires distinct { IsDistinct bytes_eq names }
+    ensures exact { Answers result (unless (refused_sums t.now.rows (field_places t.now spec.now.sum) (groups_by t.now spec.now.by)) (Ok (table_of_groups t.now spec.now (groups_by t.now spec.now.by)))) }
+    ensures members { IfOk result (λ g. g.groups ≡ groups_by t.now spec.now.by) }
+    ensures below { IfOk result (λ g. All (All (λ n. n < length t.now.rows)) g.groups) }
+    ensures each { IfOk result (λ g. length g.table.rows ≡ length g.groups) }
+{
+    let members = members_of(alloc, t, columns, &spec.by)?;
+    let mut refused = None;
+    let rows = rows_of_groups(alloc, t, columns, spec, members.as_slice(), &mut refused)?;
+    refuse(refused)?;
+    let groups = group_list(alloc, members)?;
+    let table = Table::new(names, rows);
+    Ok(Grouped { groups, table })
+}
+
+/// The numbers of the rows of each group.
+fn members_of(
+    alloc: Global,
+    t: &Table,
+    columns: &NameSet,
+    fields: &NameList,
+) -> Result<Vec<IdList>, AllocError>
+    requires columns { columns.now ≡ t.now.names }
+    ensures members { IfOk result (λ members. members.items ≡ groups_by t.now fields.now) }
+    ensures below { IfOk result (λ members. All (All (λ n. n < length t.now.rows)) members.items) }
+{
+    let places = places_of(alloc, columns, fields.as_slice())?;
+    let members = groups_at(alloc, t.rows(), places.as_slice())?;
+    Ok(members)
+}
+
+/// The row of each group, and the refusal of the lowest row.
+fn rows_of_groups(
+    alloc: Global,
+    t: &Table,
+    columns: &NameSet,
+    spec: &GroupSpec,
+    members: &[IdList],
+    refused: &mut Option<TableWhy>,
+) -> Result<RowList, AllocError>
+    requires columns { columns.now ≡ t.now.names }
+    requires below { All (All (λ n. n < length t.now.rows)) members.now }
+    ensures rows { IfOk result (λ rows. rows ≡ map (group_row t.now.rows (field_places t.now spec.now.by) (field_places t.now spec.now.copy) (field_places t.now spec.now.sum)) members.now) }
+    ensures refused { OnOk result (refused.new ≡ fold earlier refused.old (flat_map (refusals t.now.rows (field_places t.now spec.now.sum)) members.now)) }
+{
+    let by = places_of(alloc, columns, spec.by.as_slice())?;
+    let copied = places_of(alloc, columns, spec.copy.as_slice())?;
+    let summed = places_of(alloc, columns, spec.sum.as_slice())?;
+    let rows = group_rows_of(
+        alloc,
+        t.rows(),
+        members,
+        by.as_slice(),
+        copied.as_slice(),
+        summed.as_slice(),
+        refused,
+    )?;
+    Ok(rows)
+}
+
+fn refuse(refused: Option<TableWhy>) -> Result<(), TableFault>
+    ensures exact { Refuses result refused }
+{
+    match refused {
+        Some(why) => Err(TableFault::Bad { why }),
         None => Ok(()),
     }
 }
 
-/// So many zeros for each of so many groups.
-fn no_sums(alloc: Global, groups: usize, count: usize) -> Result<Vec<Vec<Decimal>>, AllocError> {
-    let mut sums = Vec::new(alloc);
-    for _group in 0..groups {
-        sums.push(zeros(alloc, count)?)?;
-    }
-    Ok(sums)
-}
-
-fn zeros(alloc: Global, count: usize) -> Result<Vec<Decimal>, AllocError> {
-    let mut zeros = Vec::new(alloc);
-    for _place in 0..count {
-        zeros.push(Decimal::of_grid(0, 0))?;
-    }
-    Ok(zeros)
-}
-
-/// Adds the values of the row with this number to the totals of its group.
-fn add_row(totals: &mut Vec<Decimal>, row: &Row, places: &[u32], n: u32) -> Result<(), TableFault> {
-    for i in 0..places.len() {
-        let value = row.get(places[i]);
-        if let Some(total) = totals.get_mut(i) {
-            *total = sum_with(total, value, n)?;
-        }
-    }
-    Ok(())
-}
-
-/// A sum with one more value, of the row with this number.
-fn sum_with(total: &Decimal, value: Option<&Value>, row: u32) -> Result<Decimal, TableFault> {
-    let why = match value {
-        None | Some(Value::Null) => return Ok(*total),
-        Some(Value::Num(summand)) => match total.checked_add(summand) {
-            Some(sum) => return Ok(sum),
-            None => TableWhy::SumRange { row },
-        },
-        _ => TableWhy::NotNumber { row },
-    };
-    Err(TableFault::Bad { why })
-}
-
-/// The row of each group.
-fn group_table(
+/// The row of each group, and the refusal of the lowest row, where it is below an earlier one.
+fn group_rows_of(
     alloc: Global,
     rows: &RowList,
     members: &[IdList],
-    places: &Places,
-    sums: &Vec<Vec<Decimal>>,
+    by: &[u32],
+    copied: &[u32],
+    summed: &[u32],
+    refused: &mut Option<TableWhy>,
 ) -> Result<RowList, AllocError>
-    ensures widths { IfOk result (λ rows. AreRows (length places.now.by.items + length places.now.copy.items + length places.now.sum.items) rows) }
-    ensures each { IfOk result (λ rows. length rows ≡ length members.now) }
+    requires below { All (All (λ n. n < length rows.now)) members.now }
+    ensures rows { IfOk result (λ out. out ≡ map (group_row rows.now by.now copied.now summed.now) members.now) }
+    ensures refused { OnOk result (refused.new ≡ fold earlier refused.old (flat_map (refusals rows.now summed.now) members.now)) }
 {
     let mut out = RowList::new(alloc);
     for i in 0..members.len() {
-        let first = first_row(rows, &members[i]);
-        out.push(group_row(alloc, first, places, sums.get(i))?)?;
+        let row = group_row(alloc, rows, &members[i], by, copied, summed, refused)?;
+        out.push(row)?;
     }
     Ok(out)
 }
@@ -203,40 +178,32 @@ fn group_table(
 /// The listed and the copied values of the first row of a group, and its sums.
 fn group_row(
     alloc: Global,
-    first: Option<&Row>,
-    places: &Places,
-    sums: Option<&Vec<Decimal>>,
+    rows: &RowList,
+    members: &IdList,
+    by: &[u32],
+    copied: &[u32],
+    summed: &[u32],
+    refused: &mut Option<TableWhy>,
 ) -> Result<Row, AllocError>
-    ensures width { IfOk result (λ row. length row ≡ length places.now.by.items + length places.now.copy.items + length places.now.sum.items) }
+    requires within { All (λ n. n < length rows.now) members.now }
+    ensures row { IfOk result (λ row. row ≡ group_row rows.now by.now copied.now summed.now members.now) }
+    ensures refused { OnOk result (refused.new ≡ fold earlier refused.old (refusals rows.now summed.now members.now)) }
 {
-    // Each group has a row, and as many sums as columns.
-    let (Some(first), Some(sums)) = (first, sums) else {
-        return Err(AllocError);
-    };
+    let none = Row::new(alloc);
+    let first = first_or(rows, members, &none);
     let mut row = Row::new(alloc);
-    append_wide(alloc, &mut row, first, places.by.as_slice())?;
-    append_wide(alloc, &mut row, first, places.copy.as_slice())?;
-    append_sums(&mut row, sums.as_slice(), places.sum.len())?;
+    append_picked(alloc, &mut row, first, by)?;
+    append_picked(alloc, &mut row, first, copied)?;
+    append_sums(&mut row, rows, members, summed, refused)?;
     Ok(row)
 }
 
-#[tactic(auto, using(crate::proofs::Cells::map_long))]
-fn append_wide(alloc: Global, out: &mut Row, row: &Row, places: &[u32]) -> Result<(), AllocError>
-    ensures width { OnOk result (length out.new ≡ length out.old + length places.now) }
+fn first_or<'a>(rows: &'a RowList, members: &IdList, none: &'a Row) -> &'a Row
+    requires none { none.now ≡ [] }
+    ensures first { result.now ≡ first_of rows.now members.now }
 {
-    append_picked(alloc, out, row, places)
-}
-
-/// Appends so many sums.
-fn append_sums(out: &mut Row, sums: &[Decimal], count: usize) -> Result<(), AllocError>
-    ensures width { OnOk result (length out.new ≡ length out.old + count) }
-{
-    for i in 0..count {
-        let sum = match sums.get(i) {
-            Some(sum) => *sum,
-            None => Decimal::of_grid(0, 0),
-        };
-        out.push(Value::Num(sum))?;
+    match first_row(rows, members) {
+        Some(first) => first,
+        None => none,
     }
-    Ok(())
 }

@@ -12,38 +12,33 @@ use indexmap::IndexSet;
 use json_read::RowList;
 use std::alloc::{AllocError, Global};
 
-/// Rows in groups of the same values, in order of first appearance: the numbers of the rows of each
-/// group, and for each row the number of its group.
-#[derive(Drop)]
-pub(crate) struct Groups {
-    pub(crate) members: Vec<IdList>,
-    pub(crate) group_of: Vec<usize>,
-}
-
-/// The rows in groups of the same values at these places.
-pub(crate) fn groups_at(alloc: Global, rows: &RowList, places: &[u32]) -> Result<Groups, AllocError>
-    ensures members { IfOk result (λ g. g.members.items ≡ groups_of (map (picked places.now) rows.now)) }
-    ensures below { IfOk result (λ g. All (All (λ n. n < length rows.now)) g.members.items) }
+/// The rows in groups of the same values at these places, in order of first appearance: the numbers
+/// of the rows of each group.
+pub(crate) fn groups_at(
+    alloc: Global,
+    rows: &RowList,
+    places: &[u32],
+) -> Result<Vec<IdList>, AllocError>
+    ensures members { IfOk result (λ members. members.items ≡ groups_of (map (picked places.now) rows.now)) }
+    ensures below { IfOk result (λ members. All (All (λ n. n < length rows.now)) members.items) }
 {
     let mut keys = IndexSet::new(alloc);
     let mut members = Vec::new(alloc);
-    let mut group_of = Vec::new(alloc);
     for i in 0..rows.len() {
         let key = Key::of(alloc, row_of(rows, i), places)?;
-        let group = add_row(alloc, &mut keys, &mut members, key, i)?;
-        group_of.push(group)?;
+        add_row(alloc, &mut keys, &mut members, key, i)?;
     }
-    Ok(Groups { members, group_of })
+    Ok(members)
 }
 
-/// Adds a row to the group of its key, and gives the number of the group.
+/// Adds a row to the group of its key.
 fn add_row(
     alloc: Global,
     keys: &mut IndexSet<Key>,
     members: &mut Vec<IdList>,
     key: Key,
     row: u32,
-) -> Result<usize, AllocError>
+) -> Result<(), AllocError>
     requires counts { length keys.old.keys ≡ length members.old.items }
     ensures counts { OnOk result (length keys.new.keys ≡ length members.new.items) }
     ensures keys { OnOk result (keys.new.keys ≡ insert_key same_values keys.old.keys key) }
@@ -52,7 +47,7 @@ fn add_row(
 {
     let (group, _) = keys.insert_full(key)?;
     add_member(alloc, members, group, row)?;
-    Ok(group)
+    Ok(())
 }
 
 /// Adds a number to the group with a number, or to a new last group.

@@ -8,6 +8,7 @@ mod csv_writing;
 mod fault;
 mod filter;
 mod group;
+mod group_sums;
 mod groups;
 mod items;
 mod join;

@@ -104,8 +104,8 @@ fn split_by(alloc: Global, t: &Table, field: &str) -> Result<SplitList, TableFau
     let mut seen = NameSet::new(alloc);
     check_item(alloc, &columns, &mut seen, 0, field)?;
     let place = columns.place_or_end(field);
-    let groups = groups_at(alloc, t.rows(), &[place])?;
-    Ok(with_values(alloc, t.rows(), place, groups.members)?)
+    let members = groups_at(alloc, t.rows(), &[place])?;
+    Ok(with_values(alloc, t.rows(), place, members)?)
 }
 
 /// Each group with the value that its first row has at a place.

@@ -16,10 +16,10 @@ loop-i-preserved c =
     let less : i < length rows = search rules in
     let key : c.in_ok-key.key ≡ picked places (get_or rows i []) = c.in_ok-key.ensures.picked ∙ ap (picked places) c.row_of.ensures.lent in
     record {
-      counts = c.in_ok-group.ensures.counts;
-      distinct = c.in_ok-group.ensures.distinct;
-      keys = c.in_ok-group.ensures.keys ∙ (λ j. insert_key same_values (done.keys j) (key j)) ∙ sym (keys_row places rows i [] less);
-      members = c.in_ok-group.ensures.members ∙ (λ j. with_member (done.members j) (position_or_len (same_values (key j)) (done.keys j)) i)
+      counts = c.in_ok-add_row.ensures.counts;
+      distinct = c.in_ok-add_row.ensures.distinct;
+      keys = c.in_ok-add_row.ensures.keys ∙ (λ j. insert_key same_values (done.keys j) (key j)) ∙ sym (keys_row places rows i [] less);
+      members = c.in_ok-add_row.ensures.members ∙ (λ j. with_member (done.members j) (position_or_len (same_values (key j)) (done.keys j)) i)
           ∙ sym (groups_row places rows i [] less (subst (IsDistinct same_values) done.keys done.distinct));
     }
 

@@ -20,8 +20,8 @@ returns-clause-exact c =
     sym (λ i. refused_item (names i) (c.new-seen.ensures.empty i) (0 + length (c.new-seen.ensures.empty i)) (field ∷ [])) ∙ c.in_ok-check_item.ensures.exact in
     let place : c.place_or_end-place.result ≡ place_of t.names field =
     c.place_or_end-place.ensures.place ∙ (λ i. place_of (names i) field) in
-    let members : c.in_ok-groups.groups.members.items ≡ groups_of (map (picked (place_of t.names field ∷ [])) t.rows) =
-    c.in_ok-groups.ensures.members ∙ (λ i. groups_of (map (picked (place i ∷ [])) (c.rows.ensures.rows i))) in
+    let members : c.in_ok-members.members.items ≡ groups_of (map (picked (place_of t.names field ∷ [])) t.rows) =
+    c.in_ok-members.ensures.members ∙ (λ i. groups_of (map (picked (place i ∷ [])) (c.rows.ensures.rows i))) in
     let items : c.in_ok-with_values.field-0 ≡ pieces_by t field =
     c.in_ok-with_values.ensures.pieces ∙ (λ i. map (piece (c.rows-2.ensures.rows i) (place i)) (members i))
     ∙ ap (λ (keys : List RowValues). map (piece t.rows (place_of t.names field)) (groups_of keys)) (picked_cells t.names (field ∷ []) t.rows) in
@@ -29,7 +29,7 @@ returns-clause-exact c =
 
 pub returns-clause-below : goal.returns-clause-below
 returns-clause-below c =
-    let below : All (All (λ k. k < length c.args.t.now.rows)) c.in_ok-groups.groups.members.items =
-    subst (λ (rows : List RowValues). All (All (λ k. k < length rows)) c.in_ok-groups.groups.members.items) c.rows.ensures.rows c.in_ok-groups.ensures.below in
+    let below : All (All (λ k. k < length c.args.t.now.rows)) c.in_ok-members.members.items =
+    subst (λ (rows : List RowValues). All (All (λ k. k < length rows)) c.in_ok-members.members.items) c.rows.ensures.rows c.in_ok-members.ensures.below in
     subst (All (λ (item : SplitItem). All (λ k. k < length c.args.t.now.rows) item.rows)) (sym c.in_ok-with_values.ensures.pieces)
-    (pieces_below (length c.args.t.now.rows) c.rows-2.result.now c.place_or_end-place.result c.in_ok-groups.groups.members.items below)
+    (pieces_below (length c.args.t.now.rows) c.rows-2.result.now c.place_or_end-place.result c.in_ok-members.members.items below)
