@@ -14,5 +14,12 @@ pub use reading::read_geojson;
 pub use shape::{GeoShape, GeoShapeList};
 pub use writing::write_geojson;
 
+// Parts for another format of the same features.
+pub use reading::{
+    Feature, GeoType, is_closed, layers_of, place, properties_of, push_polygon, some_lines,
+    some_points, some_polygons, type_of,
+};
+pub use writing::{keys_of, write_comma, write_point, write_properties};
+
 #[cfg(test)]
 mod tests;

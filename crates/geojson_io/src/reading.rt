@@ -12,9 +12,13 @@ mod types;
 use crate::fault::{ShapeFault, ShapeWhy};
 use crate::layer::{GeoLayers, Room};
 use features::{members, top_members};
+pub use features::{Feature, properties_of};
+pub use geometries::{push_polygon, some_lines, some_points, some_polygons};
 use json_read::Json;
-use layering::layers_of;
+pub use layering::layers_of;
+pub use positions::{is_closed, place};
 use std::alloc::Global;
+pub use types::{GeoType, type_of};
 
 /// The layers of a GeoJSON value, named by `name`.
 ///

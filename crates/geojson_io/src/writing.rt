@@ -8,9 +8,10 @@ mod properties;
 use crate::layer::GeoLayer;
 use crate::shape::GeoShape;
 use geometries::write_geometry;
+pub use geometries::{write_comma, write_point};
 use io_core::Bytes;
 use json_read::Row;
-use properties::{keys_of, write_properties};
+pub use properties::{keys_of, write_properties};
 use std::alloc::{AllocError, Global};
 
 /// About how many bytes the text of a position takes.

@@ -45,8 +45,8 @@ fn put_property(
     }
 }
 
-// The members of an object as named values.
-fn properties_of(alloc: Global, object: &JsonFields) -> Result<Fields, AllocError>
+/// The members of an object as named values.
+pub fn properties_of(alloc: Global, object: &JsonFields) -> Result<Fields, AllocError>
     ensures { IfOk result (λ fields. fields ≡ map property (fields_list object.now)) }
 {
     let mut fields = Fields::new(alloc);

@@ -62,8 +62,8 @@ fn several_lines(alloc: Global, json: &Json, places: u8, left: &mut u32) -> Resu
     }
 }
 
-// Adds a polygon, unless it has no rings.
-fn push_polygon(polygons: &mut RingsList, polygon: PolygonRings) -> Result<(), AllocError>
+/// Adds a polygon, unless it has no rings.
+pub fn push_polygon(polygons: &mut RingsList, polygon: PolygonRings) -> Result<(), AllocError>
     ensures { OnOk result (polygons.new ≡ polygons.old ++ filter has_rings (polygon ∷ [])) }
 {
     if polygon.len() > 0 {
@@ -111,7 +111,8 @@ fn several_polygons(
     }
 }
 
-fn some_points(points: PtList) -> GeoShape
+/// The shape of these points, or nothing where there is none.
+pub fn some_points(points: PtList) -> GeoShape
     ensures { result ≡ some_points points }
 {
     if points.len() == 0 {
@@ -120,7 +121,8 @@ fn some_points(points: PtList) -> GeoShape
     GeoShape::Points(points)
 }
 
-fn some_lines(lines: PathList) -> GeoShape
+/// The shape of these lines, or nothing where there is none.
+pub fn some_lines(lines: PathList) -> GeoShape
     ensures { result ≡ some_lines lines }
 {
     if lines.len() == 0 {
@@ -129,7 +131,8 @@ fn some_lines(lines: PathList) -> GeoShape
     GeoShape::Lines(lines)
 }
 
-fn some_polygons(polygons: RingsList) -> GeoShape
+/// The shape of these polygons, or nothing where there is none.
+pub fn some_polygons(polygons: RingsList) -> GeoShape
     ensures { result ≡ some_polygons polygons }
 {
     if polygons.len() == 0 {

@@ -8,8 +8,8 @@ use grid_base::{PolygonRings, Pt, PtList};
 use json_read::{Json, JsonList, numeral_to_grid};
 use std::alloc::Global;
 
-// The point of a position, which begins with two numbers.
-fn place(json: &Json, places: u8) -> Result<Pt, ShapeWhy>
+/// The point of a position, which begins with two numbers.
+pub fn place(json: &Json, places: u8) -> Result<Pt, ShapeWhy>
     ensures { result ≡ place places (json_value json.now) }
 {
     let Json::List(list) = json else {
@@ -74,8 +74,8 @@ pub fn line(alloc: Global, json: &Json, places: u8, left: &mut u32) -> Result<Pt
     Ok(path)
 }
 
-// Whether a path ends where it starts.
-fn is_closed(path: &PtList) -> bool
+/// Whether a path ends where it starts.
+pub fn is_closed(path: &PtList) -> bool
     ensures { result ≡ is_closed path.now }
 {
     match path.as_slice() {

@@ -7,7 +7,8 @@ use io_core::Bytes;
 use json_read::Decimal;
 use std::alloc::AllocError;
 
-fn write_point(point: &Pt, places: u8, out: &mut Bytes) -> Result<(), AllocError>
+/// A point as a pair of numbers in brackets.
+pub fn write_point(point: &Pt, places: u8, out: &mut Bytes) -> Result<(), AllocError>
     requires { places ≤ 7 }
     ensures { OnOk result (out.new ≡ out.old ++ point_text places point.now) }
 {

@@ -1,0 +1,4 @@
+pub mod ArcLayerContent
+pub mod Reads
+pub mod Transform
+pub mod Arcs

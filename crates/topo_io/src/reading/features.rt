@@ -1,0 +1,122 @@
+ghost use Rattle.std.specs.Prelude.{◌≤◌, ◌<◌, ◌+◌, OnOk, IfOk, length};
+
+use crate::fault::{Stop, TopoFault, TopoPlace, TopoWhy};
+use crate::reading::Topology;
+use crate::reading::shapes::shape_in;
+use geojson_io::{Feature, GeoShape, GeoType, properties_of, type_of};
+use json_read::{Fields, Json, JsonFields};
+use std::alloc::Global;
+
+fn properties(alloc: Global, json: Option<&Json>) -> Result<Fields, Stop> {
+    match json {
+        None | Some(Json::Null) => Ok(Fields::new(alloc)),
+        Some(Json::Object(object)) => Ok(properties_of(alloc, object)?),
+        _ => Err(Stop::Why(TopoWhy::NotTopology)),
+    }
+}
+
+fn typed_geometry(
+    alloc: Global,
+    object: &JsonFields,
+    topology: &Topology,
+    left: &mut u32,
+) -> Result<GeoShape, Stop>
+    requires { topology.now.frame.places ≤ 7 }
+{
+    let name = type_of(object);
+    if name == "GeometryCollection" {
+        return Err(Stop::Why(TopoWhy::Collection));
+    }
+    let Some(kind) = GeoType::named(name) else {
+        return Err(Stop::Why(TopoWhy::NotTopology));
+    };
+    shape_in(alloc, kind, object, topology, left)
+}
+
+// A geometry whose type is null is none.
+fn geometry(
+    alloc: Global,
+    object: &JsonFields,
+    topology: &Topology,
+    left: &mut u32,
+) -> Result<GeoShape, Stop>
+    requires { topology.now.frame.places ≤ 7 }
+{
+    match object.find("type") {
+        Some(Json::Null) => Ok(GeoShape::Nothing),
+        _ => typed_geometry(alloc, object, topology, left),
+    }
+}
+
+fn read_feature(
+    alloc: Global,
+    json: &Json,
+    topology: &Topology,
+    left: &mut u32,
+) -> Result<Feature, Stop>
+    requires { topology.now.frame.places ≤ 7 }
+{
+    let Json::Object(object) = json else {
+        return Err(Stop::Why(TopoWhy::NotTopology));
+    };
+    let shape = geometry(alloc, object, topology, left)?;
+    let fields = properties(alloc, object.find("properties"))?;
+    Ok(Feature { shape, fields })
+}
+
+/// Where the features of an object stand: the number of the object, how many features stand before it, and how many
+/// there may be.
+#[derive(Clone, Copy)]
+pub struct Numbers {
+    pub object: u32,
+    pub before: u32,
+    pub limit: u32,
+}
+
+// Feature number `n` of an object, where there is room for it.
+fn numbered(
+    alloc: Global,
+    numbers: Numbers,
+    n: u32,
+    json: &Json,
+    topology: &Topology,
+    left: &mut u32,
+) -> Result<Feature, TopoFault>
+    requires places { topology.now.frame.places ≤ 7 }
+    requires room { numbers.before + n ≤ numbers.limit }
+    ensures room { OnOk result (numbers.before + n < numbers.limit) }
+{
+    let place = TopoPlace::Shape {
+        object: numbers.object,
+        feature: n,
+    };
+    if numbers.before + n == numbers.limit {
+        return Err(Stop::Why(TopoWhy::TooManyFeatures).at(place));
+    }
+    match read_feature(alloc, json, topology, left) {
+        Ok(feature) => Ok(feature),
+        Err(stop) => Err(stop.at(place)),
+    }
+}
+
+/// The features of an object, in order.
+pub fn features_of(
+    alloc: Global,
+    numbers: Numbers,
+    items: &[Json],
+    topology: &Topology,
+    left: &mut u32,
+) -> Result<Vec<Feature>, TopoFault>
+    requires places { topology.now.frame.places ≤ 7 }
+    requires room { numbers.before ≤ numbers.limit }
+    ensures room { IfOk result (λ features. numbers.before + length features.items ≤ numbers.limit) }
+{
+    let mut features = Vec::new(alloc);
+    let mut n = 0;
+    for item in items {
+        let feature = numbered(alloc, numbers, n, item, topology, left)?;
+        features.push(feature)?;
+        n += 1;
+    }
+    Ok(features)
+}

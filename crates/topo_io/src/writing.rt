@@ -1,0 +1,93 @@
+ghost use Rattle.std.specs.Prelude.{◌≡◌, ◌≤◌, ◌++◌, All, OnOk, codes, length};
+ghost use Rattle.topo_io.specs.Arcs.{LayerIsBelow};
+
+mod arcs;
+mod numbering;
+mod shapes;
+
+use crate::arc_layer::{ArcLayer, ArcLayers};
+use arc_table::ArcTable;
+use arcs::write_arcs;
+use geojson_io::{keys_of, write_comma};
+use io_core::{Bytes, Text};
+use json_read::{Decimal, Value};
+use numbering::Numbering;
+use shapes::write_geometries;
+use std::alloc::{AllocError, Global};
+
+/// The TopoJSON text of layers: one object for each, by its name, and the arcs that they use.
+///
+/// Shape and units: grid numbers, with 10^-`places` as the scale. The arcs are numbered anew from 0, in order of their
+/// numbers; the first position of an arc stands by itself, each other as a difference.
+/// Source: TopoJSON 1.0; the exact text is ours.
+pub fn write_topojson(
+    alloc: Global,
+    layers: &ArcLayers,
+    arcs: &ArcTable,
+    places: u8,
+) -> Result<Bytes, AllocError>
+    requires places { places ≤ 7 }
+    requires there { All (LayerIsBelow (length arcs.now)) layers.now }
+{
+    let numbering = Numbering::of(alloc, layers.as_slice(), arcs.count())?;
+    let mut out = Bytes::new(alloc);
+    write_head(places, &mut out)?;
+    write_objects(alloc, layers.as_slice(), &numbering, &mut out)?;
+    out.extend(b"},\"arcs\":[")?;
+    write_arcs(arcs, &numbering, &mut out)?;
+    out.extend(b"]}\n")?;
+    Ok(out)
+}
+
+fn write_head(places: u8, out: &mut Bytes) -> Result<(), AllocError>
+    requires { places ≤ 7 }
+{
+    let scale = Decimal::of_grid(1, places);
+    out.extend(b"{\"type\":\"Topology\",\"transform\":{\"scale\":[")?;
+    scale.print_into(out)?;
+    out.push(b',')?;
+    scale.print_into(out)?;
+    out.extend(b"],\"translate\":[0,0]},\"objects\":{")
+}
+
+fn write_objects(
+    alloc: Global,
+    layers: &[ArcLayer],
+    numbering: &Numbering,
+    out: &mut Bytes,
+) -> Result<(), AllocError>
+    requires { All (LayerIsBelow (length numbering.now.numbers.items)) layers.now }
+{
+    for (i, layer) in layers.iter().enumerate() {
+        write_comma(i, out)?;
+        write_object(alloc, layer, numbering, out)?;
+    }
+    Ok(())
+}
+
+fn write_object(
+    alloc: Global,
+    layer: &ArcLayer,
+    numbering: &Numbering,
+    out: &mut Bytes,
+) -> Result<(), AllocError>
+    requires { LayerIsBelow (length numbering.now.numbers.items) layer.now }
+{
+    write_name(alloc, layer.name.as_str(), out)?;
+    out.extend(b":{\"type\":\"GeometryCollection\",\"geometries\":[")?;
+    let keys = keys_of(alloc, layer.table.names().as_slice())?;
+    let rows = layer.table.rows().as_slice();
+    write_geometries(
+        keys.as_slice(),
+        rows,
+        layer.shapes.as_slice(),
+        numbering,
+        out,
+    )?;
+    out.extend(b"]}")
+}
+
+// A name as a JSON string.
+fn write_name(alloc: Global, name: &str, out: &mut Bytes) -> Result<(), AllocError> {
+    Value::Text(Text::of(alloc, name)?).print_json(out)
+}
