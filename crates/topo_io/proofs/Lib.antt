@@ -1,1 +1,4 @@
 pub mod Bounds
+pub mod TextLemmas
+pub mod MarkLemmas
+pub mod DifferenceLemmas

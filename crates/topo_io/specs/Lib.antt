@@ -2,3 +2,4 @@ pub mod ArcLayerContent
 pub mod Reads
 pub mod Transform
 pub mod Arcs
+pub mod Texts

@@ -1,5 +1,8 @@
-ghost use Rattle.std.specs.Prelude.{◌≡◌, ◌≤◌, ◌++◌, All, OnOk, codes, length};
+ghost use Rattle.std.specs.Prelude.{◌≡◌, ◌≤◌, ◌++◌, ◌∷◌, [], All, IfOk, OnOk, length, map};
+ghost use Rattle.json_read.specs.Text.{string_text};
+ghost use Rattle.geojson_io.specs.Texts.{separated};
 ghost use Rattle.topo_io.specs.Arcs.{LayerIsBelow};
+ghost use Rattle.topo_io.specs.Texts.{head_text, object_text, topojson_text};
 
 mod arcs;
 mod numbering;
@@ -28,19 +31,21 @@ pub fn write_topojson(
 ) -> Result<Bytes, AllocError>
     requires places { places ≤ 7 }
     requires there { All (LayerIsBelow (length arcs.now)) layers.now }
+    ensures exact { IfOk result (λ text. text ≡ topojson_text places arcs.now layers.now) }
 {
     let numbering = Numbering::of(alloc, layers.as_slice(), arcs.count())?;
     let mut out = Bytes::new(alloc);
     write_head(places, &mut out)?;
     write_objects(alloc, layers.as_slice(), &numbering, &mut out)?;
     out.extend(b"},\"arcs\":[")?;
-    write_arcs(arcs, &numbering, &mut out)?;
+    write_arcs(arcs, numbering.used.as_slice(), &mut out)?;
     out.extend(b"]}\n")?;
     Ok(out)
 }
 
 fn write_head(places: u8, out: &mut Bytes) -> Result<(), AllocError>
     requires { places ≤ 7 }
+    ensures { OnOk result (out.new ≡ out.old ++ head_text places) }
 {
     let scale = Decimal::of_grid(1, places);
     out.extend(b"{\"type\":\"Topology\",\"transform\":{\"scale\":[")?;
@@ -57,6 +62,7 @@ fn write_objects(
     out: &mut Bytes,
 ) -> Result<(), AllocError>
     requires { All (LayerIsBelow (length numbering.now.numbers.items)) layers.now }
+    ensures { OnOk result (out.new ≡ out.old ++ separated (44 ∷ []) (map (object_text numbering.now.numbers.items) layers.now)) }
 {
     for (i, layer) in layers.iter().enumerate() {
         write_comma(i, out)?;
@@ -72,6 +78,7 @@ fn write_object(
     out: &mut Bytes,
 ) -> Result<(), AllocError>
     requires { LayerIsBelow (length numbering.now.numbers.items) layer.now }
+    ensures { OnOk result (out.new ≡ out.old ++ object_text numbering.now.numbers.items layer.now) }
 {
     write_name(alloc, layer.name.as_str(), out)?;
     out.extend(b":{\"type\":\"GeometryCollection\",\"geometries\":[")?;
@@ -88,6 +95,8 @@ fn write_object(
 }
 
 // A name as a JSON string.
-fn write_name(alloc: Global, name: &str, out: &mut Bytes) -> Result<(), AllocError> {
+fn write_name(alloc: Global, name: &str, out: &mut Bytes) -> Result<(), AllocError>
+    ensures { OnOk result (out.new ≡ out.old ++ string_text name.now) }
+{
     Value::Text(Text::of(alloc, name)?).print_json(out)
 }

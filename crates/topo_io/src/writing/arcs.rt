@@ -1,6 +1,7 @@
-ghost use Rattle.std.specs.Prelude.{◌≡◌, ◌≤◌, ◌<◌, ◌^◌, length, unsigned_abs};
+ghost use Rattle.std.specs.Prelude.{◌≡◌, ◌≤◌, ◌<◌, ◌^◌, ◌++◌, ◌-ℤ◌, All, OnOk, length, unsigned_abs};
+ghost use Rattle.geojson_io.specs.Texts.{grid_text, point_text};
+ghost use Rattle.topo_io.specs.Texts.{arc_text, numbered_arc_text, arcs_text};
 
-use crate::writing::numbering::Numbering;
 use arc_table::ArcTable;
 use geojson_io::write_comma;
 use grid_base::{ArcId, Pt};
@@ -11,6 +12,7 @@ use std::alloc::AllocError;
 /// A whole number.
 pub fn write_whole(n: i64, out: &mut Bytes) -> Result<(), AllocError>
     requires { unsigned_abs n < 10 ^ 18 }
+    ensures { OnOk result (out.new ≡ out.old ++ grid_text 0 n) }
 {
     Decimal::of_grid(n, 0).print_into(out)
 }
@@ -18,6 +20,7 @@ pub fn write_whole(n: i64, out: &mut Bytes) -> Result<(), AllocError>
 fn write_pair(x: i64, y: i64, out: &mut Bytes) -> Result<(), AllocError>
     requires across { unsigned_abs x < 10 ^ 18 }
     requires upward { unsigned_abs y < 10 ^ 18 }
+    ensures { OnOk result (out.new ≡ out.old ++ point_text 0 (record { x = x; y = y })) }
 {
     out.push(b'[')?;
     write_whole(x, out)?;
@@ -26,31 +29,46 @@ fn write_pair(x: i64, y: i64, out: &mut Bytes) -> Result<(), AllocError>
     out.push(b']')
 }
 
+// The way to a point from (x, y).
+fn write_difference(point: &Pt, x: i64, y: i64, out: &mut Bytes) -> Result<(), AllocError>
+    requires across { unsigned_abs x ≤ 2000000000 }
+    requires upward { unsigned_abs y ≤ 2000000000 }
+    ensures { OnOk result (out.new ≡ out.old ++ point_text 0 (record { x = point.now.x -ℤ x; y = point.now.y -ℤ y })) }
+{
+    write_pair(point.x() - x, point.y() - y, out)
+}
+
 // The first position by itself, each other as a difference.
-fn write_arc(points: &[Pt], out: &mut Bytes) -> Result<(), AllocError> {
+fn write_arc(points: &[Pt], out: &mut Bytes) -> Result<(), AllocError>
+    ensures { OnOk result (out.new ≡ out.old ++ arc_text points.now) }
+{
     out.push(b'[')?;
+    let mut x: i64 = 0;
+    let mut y: i64 = 0;
     for (i, point) in points.iter().enumerate() {
         write_comma(i, out)?;
-        if i == 0 {
-            write_pair(point.x(), point.y(), out)?;
-        } else {
-            let before = points[i - 1];
-            write_pair(point.x() - before.x(), point.y() - before.y(), out)?;
-        }
+        write_difference(point, x, y, out)?;
+        x = point.x();
+        y = point.y();
     }
     out.push(b']')
 }
 
-/// The arcs that are used, in order, with commas between them.
-pub fn write_arcs(arcs: &ArcTable, numbering: &Numbering, out: &mut Bytes) -> Result<(), AllocError>
-    requires used { length numbering.now.is_used.items ≡ length arcs.now }
-    requires numbers { length numbering.now.numbers.items ≡ length arcs.now }
+fn write_numbered(arcs: &ArcTable, id: ArcId, out: &mut Bytes) -> Result<(), AllocError>
+    requires { id < length arcs.now }
+    ensures { OnOk result (out.new ≡ out.old ++ numbered_arc_text arcs.now id) }
 {
-    for n in 0..arcs.count() {
-        if numbering.is_used[n as usize] {
-            write_comma(numbering.numbers[n as usize] as usize, out)?;
-            write_arc(arcs.points_of(ArcId::new(n)), out)?;
-        }
+    write_arc(arcs.points_of(id), out)
+}
+
+/// The arcs with these numbers, with commas between them.
+pub fn write_arcs(arcs: &ArcTable, used: &[ArcId], out: &mut Bytes) -> Result<(), AllocError>
+    requires { All (λ n. n < length arcs.now) used.now }
+    ensures { OnOk result (out.new ≡ out.old ++ arcs_text used.now arcs.now) }
+{
+    for (i, id) in used.iter().enumerate() {
+        write_comma(i, out)?;
+        write_numbered(arcs, *id, out)?;
     }
     Ok(())
 }

@@ -1,0 +1,7 @@
+use Rattle.std.proofs.Common.{◌≡◌, ◌++◌, ◌∷◌, []}
+use Rattle.topo_io.specs.Texts.{index_text}
+use Rattle.geojson_io.proofs.TextLemmas.{shown_to}
+use Rattle.topo_io.proofs.writing.shapes.write_path.Given as goal
+
+abbrev pub invariant-loop-i : goal.invariant-loop-i
+invariant-loop-i l = l.out ≡ l.initial.out ++ shown_to (index_text l.numbering.numbers.items) (44 ∷ []) l.path l.i
