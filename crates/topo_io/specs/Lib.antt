@@ -3,3 +3,4 @@ pub mod Reads
 pub mod Transform
 pub mod Arcs
 pub mod Texts
+pub mod Sound

@@ -43,3 +43,8 @@ IsFault r topo.Memory = Unit {0}
 abbrev pub AnswersIn : {A : Type 0} → Reads Fault A → ℕ → Result A TopoFault → ℕ → Type 0
 AnswersIn r old (Ok v) new = r old ≡ Ok (v, new)
 AnswersIn r old (Err e) new = IsFault (r old) e
+
+-- a fault that stands at this place
+abbrev pub StandsAt : TopoPlace → TopoFault → Type 0
+StandsAt place (Bad why p) = p ≡ place
+StandsAt place topo.Memory = Unit {0}

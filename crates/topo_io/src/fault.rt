@@ -1,5 +1,5 @@
 ghost use Rattle.std.specs.Prelude.{◌≡◌};
-ghost use Rattle.topo_io.specs.Reads.{stopped_at};
+ghost use Rattle.topo_io.specs.Reads.{stopped_at, StandsAt};
 
 use std::alloc::{AllocError, AllocFailed};
 use thiserror::Error;
@@ -112,7 +112,8 @@ impl From<TopoWhy> for Stop {
 impl Stop {
     /// The fault that stopped a part of the reader at this place.
     pub(crate) fn at(self, place: TopoPlace) -> TopoFault
-        ensures { result ≡ stopped_at place self }
+        ensures exact { result ≡ stopped_at place self }
+        ensures place { StandsAt place result }
     {
         match self {
             Stop::Why(why) => TopoFault::Bad { why, place },

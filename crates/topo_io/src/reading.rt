@@ -1,4 +1,5 @@
-ghost use Rattle.std.specs.Prelude.{◌≡◌, ◌≤◌, IfOk};
+ghost use Rattle.std.specs.Prelude.{◌≡◌, ◌≤◌, All, IfOk};
+ghost use Rattle.topo_io.specs.Sound.{LayerIsSound};
 
 mod arcs;
 mod features;
@@ -31,6 +32,7 @@ pub fn read_topojson(
     room: Room,
 ) -> Result<GeoLayers, TopoFault>
     requires { places ≤ 7 }
+    ensures sound { IfOk result (λ layers. All LayerIsSound layers) }
 {
     let top = match top_of(json, places) {
         Ok(top) => top,

@@ -1,4 +1,7 @@
-ghost use Rattle.std.specs.Prelude.{◌≤◌, ◌<◌, ◌+◌, OnOk, IfOk, length};
+ghost use Rattle.std.specs.Prelude.{◌≤◌, ◌<◌, ◌+◌, All, OnOk, IfErr, IfOk, length};
+ghost use Rattle.topo_io.specs.Reads.{StandsAt};
+ghost use Rattle.topo_io.specs.Sound.{ShapeIsSound, FeatureIsSound};
+ghost use Rattle.topo_io.specs.declared.fault.TopoPlace.TheVariants.{Shape};
 
 use crate::fault::{Stop, TopoFault, TopoPlace, TopoWhy};
 use crate::reading::Topology;
@@ -22,6 +25,7 @@ fn typed_geometry(
     left: &mut u32,
 ) -> Result<GeoShape, Stop>
     requires { topology.now.frame.places ≤ 7 }
+    ensures { IfOk result (λ shape. ShapeIsSound shape) }
 {
     let name = type_of(object);
     if name == "GeometryCollection" {
@@ -41,6 +45,7 @@ fn geometry(
     left: &mut u32,
 ) -> Result<GeoShape, Stop>
     requires { topology.now.frame.places ≤ 7 }
+    ensures { IfOk result (λ shape. ShapeIsSound shape) }
 {
     match object.find("type") {
         Some(Json::Null) => Ok(GeoShape::Nothing),
@@ -55,6 +60,7 @@ fn read_feature(
     left: &mut u32,
 ) -> Result<Feature, Stop>
     requires { topology.now.frame.places ≤ 7 }
+    ensures { IfOk result (λ feature. FeatureIsSound feature) }
 {
     let Json::Object(object) = json else {
         return Err(Stop::Why(TopoWhy::NotTopology));
@@ -85,6 +91,8 @@ fn numbered(
     requires places { topology.now.frame.places ≤ 7 }
     requires room { numbers.before + n ≤ numbers.limit }
     ensures room { OnOk result (numbers.before + n < numbers.limit) }
+    ensures sound { IfOk result (λ feature. FeatureIsSound feature) }
+    ensures place { IfErr result (StandsAt (Shape numbers.object n)) }
 {
     let place = TopoPlace::Shape {
         object: numbers.object,
@@ -110,6 +118,7 @@ pub fn features_of(
     requires places { topology.now.frame.places ≤ 7 }
     requires room { numbers.before ≤ numbers.limit }
     ensures room { IfOk result (λ features. numbers.before + length features.items ≤ numbers.limit) }
+    ensures sound { IfOk result (λ features. All FeatureIsSound features.items) }
 {
     let mut features = Vec::new(alloc);
     let mut n = 0;

@@ -1,9 +1,10 @@
-ghost use Rattle.std.specs.Prelude.{◌≤◌, OnOk};
+ghost use Rattle.std.specs.Prelude.{◌≡◌, ◌≤◌, ◌++◌, All, IfOk, OnOk};
+ghost use Rattle.topo_io.specs.Sound.{FeatureIsSound, LayerIsSound};
 
 use crate::fault::{Stop, TopoFault, TopoPlace, TopoWhy};
 use crate::reading::Topology;
 use crate::reading::features::{Numbers, features_of};
-use geojson_io::{GeoLayers, Room, layers_of, type_of};
+use geojson_io::{Feature, GeoLayers, Room, layers_of, type_of};
 use json_read::{Json, JsonFields};
 use std::alloc::{AllocError, Global};
 use std::slice;
@@ -33,11 +34,28 @@ fn geometries_of(json: &Json) -> Option<&[Json]> {
     }
 }
 
-fn append_layers(layers: &mut GeoLayers, more: GeoLayers) -> Result<(), AllocError> {
+fn append_layers(layers: &mut GeoLayers, more: GeoLayers) -> Result<(), AllocError>
+    ensures { OnOk result (layers.new ≡ layers.old ++ more) }
+{
     for layer in more.into_vec() {
         layers.push(layer)?;
     }
     Ok(())
+}
+
+// Adds the layers of an object with these features.
+fn add_layers(
+    alloc: Global,
+    name: &str,
+    features: Vec<Feature>,
+    layers: &mut GeoLayers,
+) -> Result<(), AllocError>
+    requires features { All FeatureIsSound features.items }
+    requires layers { All LayerIsSound layers.old }
+    ensures { OnOk result (All LayerIsSound layers.new) }
+{
+    let more = layers_of(alloc, name, features)?;
+    append_layers(layers, more)
 }
 
 /// The layers of the objects, in order.
@@ -48,6 +66,7 @@ pub fn layers_of_objects(
     room: Room,
 ) -> Result<GeoLayers, TopoFault>
     requires { topology.now.frame.places ≤ 7 }
+    ensures sound { IfOk result (λ layers. All LayerIsSound layers) }
 {
     let mut layers = GeoLayers::new(alloc);
     let mut left = room.positions;
@@ -81,7 +100,9 @@ fn add_object(
 ) -> Result<(), TopoFault>
     requires places { topology.now.frame.places ≤ 7 }
     requires room { numbers.old.before ≤ numbers.old.limit }
+    requires sound { All LayerIsSound layers.old }
     ensures room { OnOk result (numbers.new.before ≤ numbers.new.limit) }
+    ensures sound { OnOk result (All LayerIsSound layers.new) }
 {
     let Some(name) = objects.name_at(numbers.object) else {
         return Ok(());
@@ -97,6 +118,6 @@ fn add_object(
     };
     let features = features_of(alloc, *numbers, items, topology, left)?;
     numbers.before += features.len() as u32;
-    append_layers(layers, layers_of(alloc, name, features)?)?;
+    add_layers(alloc, name, features, layers)?;
     Ok(())
 }

@@ -1,11 +1,12 @@
-ghost use Rattle.std.specs.Prelude.{◌≤◌};
+ghost use Rattle.std.specs.Prelude.{◌≤◌, All, IfOk, OnOk};
+ghost use Rattle.topo_io.specs.Sound.{HasPoints, IsRing, ShapeIsSound};
 
 use crate::fault::{Stop, TopoWhy};
 use crate::reading::Topology;
 use crate::reading::positions::{Sums, position_after};
 use crate::reading::stitching::{path_of, rings_of, stitched};
 use geojson_io::{GeoShape, GeoType, push_polygon, some_lines, some_points, some_polygons};
-use grid_base::{PathList, Pt, PtList, RingsList};
+use grid_base::{PathList, PolygonRings, Pt, PtList, RingsList};
 use json_read::{Json, JsonFields, JsonList};
 use std::alloc::{AllocError, Global};
 
@@ -67,7 +68,10 @@ fn several_points(
 }
 
 // Adds a line, unless it has no positions.
-fn push_line(lines: &mut PathList, line: PtList) -> Result<(), AllocError> {
+fn push_line(lines: &mut PathList, line: PtList) -> Result<(), AllocError>
+    requires { All HasPoints lines.old }
+    ensures { OnOk result (All HasPoints lines.new) }
+{
     if line.len() > 0 {
         lines.push(line)?;
     }
@@ -79,7 +83,9 @@ fn one_line(
     list: &JsonList,
     arcs: &PathList,
     left: &mut u32,
-) -> Result<PathList, Stop> {
+) -> Result<PathList, Stop>
+    ensures { IfOk result (λ lines. All HasPoints lines) }
+{
     let mut lines = PathList::new(alloc);
     let line = stitched(alloc, list.as_slice(), arcs, left)?;
     push_line(&mut lines, line)?;
@@ -91,7 +97,9 @@ fn several_lines(
     list: &JsonList,
     arcs: &PathList,
     left: &mut u32,
-) -> Result<PathList, Stop> {
+) -> Result<PathList, Stop>
+    ensures { IfOk result (λ lines. All HasPoints lines) }
+{
     let mut lines = PathList::new(alloc);
     for item in list.as_slice() {
         let line = path_of(alloc, item, arcs, left)?;
@@ -100,15 +108,26 @@ fn several_lines(
     Ok(lines)
 }
 
+// Adds a polygon, unless it has no rings.
+fn add_polygon(polygons: &mut RingsList, polygon: PolygonRings) -> Result<(), AllocError>
+    requires polygons { All (All IsRing) polygons.old }
+    requires rings { All IsRing polygon }
+    ensures { OnOk result (All (All IsRing) polygons.new) }
+{
+    push_polygon(polygons, polygon)
+}
+
 fn one_polygon(
     alloc: Global,
     list: &JsonList,
     arcs: &PathList,
     left: &mut u32,
-) -> Result<RingsList, Stop> {
+) -> Result<RingsList, Stop>
+    ensures { IfOk result (λ polygons. All (All IsRing) polygons) }
+{
     let mut polygons = RingsList::new(alloc);
     let polygon = rings_of(alloc, list.as_slice(), arcs, left)?;
-    push_polygon(&mut polygons, polygon)?;
+    add_polygon(&mut polygons, polygon)?;
     Ok(polygons)
 }
 
@@ -117,14 +136,36 @@ fn several_polygons(
     list: &JsonList,
     arcs: &PathList,
     left: &mut u32,
-) -> Result<RingsList, Stop> {
+) -> Result<RingsList, Stop>
+    ensures { IfOk result (λ polygons. All (All IsRing) polygons) }
+{
     let mut polygons = RingsList::new(alloc);
     for item in list.as_slice() {
         let list = list_in(Some(item), TopoWhy::NotTopology)?;
         let polygon = rings_of(alloc, list.as_slice(), arcs, left)?;
-        push_polygon(&mut polygons, polygon)?;
+        add_polygon(&mut polygons, polygon)?;
     }
     Ok(polygons)
+}
+
+fn shape_of_points(points: PtList) -> GeoShape
+    ensures { ShapeIsSound result }
+{
+    some_points(points)
+}
+
+fn shape_of_lines(lines: PathList) -> GeoShape
+    requires { All HasPoints lines }
+    ensures { ShapeIsSound result }
+{
+    some_lines(lines)
+}
+
+fn shape_of_polygons(polygons: RingsList) -> GeoShape
+    requires { All (All IsRing) polygons }
+    ensures { ShapeIsSound result }
+{
+    some_polygons(polygons)
 }
 
 /// The shape of a geometry of this type. A geometry of which nothing remains is none.
@@ -136,15 +177,16 @@ pub fn shape_in(
     left: &mut u32,
 ) -> Result<GeoShape, Stop>
     requires { topology.now.frame.places ≤ 7 }
+    ensures { IfOk result (λ shape. ShapeIsSound shape) }
 {
     match kind {
         GeoType::Point => {
             let points = one_point(alloc, object.find("coordinates"), topology, left)?;
-            Ok(some_points(points))
+            Ok(shape_of_points(points))
         }
         GeoType::MultiPoint => {
             let points = several_points(alloc, object.find("coordinates"), topology, left)?;
-            Ok(some_points(points))
+            Ok(shape_of_points(points))
         }
         _ => {
             let list = list_in(object.find("arcs"), TopoWhy::NotTopology)?;
@@ -160,12 +202,14 @@ fn stitched_shape(
     list: &JsonList,
     arcs: &PathList,
     left: &mut u32,
-) -> Result<GeoShape, Stop> {
+) -> Result<GeoShape, Stop>
+    ensures { IfOk result (λ shape. ShapeIsSound shape) }
+{
     match kind {
-        GeoType::LineString => Ok(some_lines(one_line(alloc, list, arcs, left)?)),
-        GeoType::MultiLineString => Ok(some_lines(several_lines(alloc, list, arcs, left)?)),
-        GeoType::Polygon => Ok(some_polygons(one_polygon(alloc, list, arcs, left)?)),
-        GeoType::MultiPolygon => Ok(some_polygons(several_polygons(alloc, list, arcs, left)?)),
+        GeoType::LineString => Ok(shape_of_lines(one_line(alloc, list, arcs, left)?)),
+        GeoType::MultiLineString => Ok(shape_of_lines(several_lines(alloc, list, arcs, left)?)),
+        GeoType::Polygon => Ok(shape_of_polygons(one_polygon(alloc, list, arcs, left)?)),
+        GeoType::MultiPolygon => Ok(shape_of_polygons(several_polygons(alloc, list, arcs, left)?)),
         GeoType::Point | GeoType::MultiPoint => Ok(GeoShape::Nothing),
     }
 }

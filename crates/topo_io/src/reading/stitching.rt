@@ -1,3 +1,7 @@
+ghost use Rattle.std.specs.Prelude.{◌≡◌, All, IfOk, OnOk, true};
+ghost use Rattle.geojson_io.specs.Positions.{is_closed as ends_meet};
+ghost use Rattle.topo_io.specs.Sound.{IsRing};
+
 use crate::fault::{Stop, TopoWhy};
 use crate::reading::positions::whole_number;
 use geojson_io::is_closed;
@@ -101,7 +105,9 @@ pub fn path_of(
     stitched(alloc, list.as_slice(), arcs, left)
 }
 
-fn ring_of(alloc: Global, json: &Json, arcs: &PathList, left: &mut u32) -> Result<PtList, Stop> {
+fn ring_of(alloc: Global, json: &Json, arcs: &PathList, left: &mut u32) -> Result<PtList, Stop>
+    ensures { IfOk result (λ path. ends_meet path ≡ true) }
+{
     let path = path_of(alloc, json, arcs, left)?;
     if !is_closed(&path) {
         return Err(Stop::Why(TopoWhy::RingOpen));
@@ -110,7 +116,11 @@ fn ring_of(alloc: Global, json: &Json, arcs: &PathList, left: &mut u32) -> Resul
 }
 
 // Adds a ring, unless it has no positions.
-fn push_ring(rings: &mut PolygonRings, ring: PtList) -> Result<(), AllocError> {
+fn push_ring(rings: &mut PolygonRings, ring: PtList) -> Result<(), AllocError>
+    requires rings { All IsRing rings.old }
+    requires closed { ends_meet ring ≡ true }
+    ensures { OnOk result (All IsRing rings.new) }
+{
     if ring.len() > 0 {
         rings.push(ring)?;
     }
@@ -123,7 +133,9 @@ pub fn rings_of(
     items: &[Json],
     arcs: &PathList,
     left: &mut u32,
-) -> Result<PolygonRings, Stop> {
+) -> Result<PolygonRings, Stop>
+    ensures { IfOk result (λ rings. All IsRing rings) }
+{
     let mut rings = PolygonRings::new(alloc);
     for item in items {
         let ring = ring_of(alloc, item, arcs, left)?;

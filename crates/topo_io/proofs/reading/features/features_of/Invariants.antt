@@ -1,5 +1,6 @@
-use Rattle.std.proofs.Common.{◌≡◌, ◌≤◌, ◌+◌, length}
+use Rattle.std.proofs.Common.{◌≡◌, ◌≤◌, ◌+◌, All, length}
+use Rattle.topo_io.specs.Sound.{FeatureIsSound}
 use Rattle.topo_io.proofs.reading.features.features_of.Given as goal
 
 abbrev pub invariant-loop-item : goal.invariant-loop-item
-invariant-loop-item l = (l.n ≡ length l.features.items) × (l.numbers.before + l.n ≤ l.numbers.limit)
+invariant-loop-item l = (l.n ≡ length l.features.items) × (l.numbers.before + l.n ≤ l.numbers.limit) × All FeatureIsSound l.features.items

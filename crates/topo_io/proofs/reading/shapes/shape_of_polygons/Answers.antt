@@ -1,0 +1,7 @@
+use Rattle.std.proofs.Common.{sym, subst}
+use Rattle.topo_io.specs.Sound.{ShapeIsSound}
+use Rattle.topo_io.proofs.SoundLemmas.{sound_polygons}
+use Rattle.topo_io.proofs.reading.shapes.shape_of_polygons.Goals as goal
+
+pub returns : goal.returns
+returns c = subst ShapeIsSound (sym c.some_polygons.ensures) (sound_polygons c.args.polygons c.requires)
