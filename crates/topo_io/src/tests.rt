@@ -1,11 +1,17 @@
 //! What no clause says: that the definitions are those of the format, by texts that were worked by hand; and that
 //! the calls succeed where memory is there.
-ghost use Rattle.std.specs.Prelude.{◌≤◌};
+ghost use Rattle.std.specs.Prelude.{◌≡◌, ◌≢◌, ◌≤◌, ◌<◌, ◌∷◌, [], All, IfOk, length};
+ghost use Rattle.grid_base.specs.Drawn.{without_repeats};
+ghost use Rattle.arc_table.specs.OneLink.{one_line};
+ghost use Rattle.topo_io.specs.Arcs.{ShapeIsBelow, LayerIsBelow};
 
 use super::*;
+use arc_table::{ArcTable, SignedPaths};
 use geojson_io::{GeoLayers, Room, write_geojson};
-use json_read::Json;
-use std::alloc::Global;
+use grid_base::{Drawing, Kind, Link, LinkList, Path, Pt, PtList, Snapped};
+use io_core::Text;
+use json_read::{Fields, FieldsList, Json, Table, Value};
+use std::alloc::{AllocError, Global};
 use std::process::Abort;
 use std::test::Fail;
 
@@ -365,5 +371,113 @@ fn counts_features_of_all_objects_and_positions_after_stitching(
         )
         .is_ok()
     );
+    Ok(())
+}
+
+fn two_points(alloc: Global, a: Pt, b: Pt) -> Result<Path, AllocError>
+    ensures { IfOk result (λ path. path ≡ a ∷ b ∷ []) }
+{
+    let mut path = PtList::new(alloc);
+    path.push(a)?;
+    path.push(b)?;
+    Ok(path)
+}
+
+fn drawn(alloc: Global, line: Path) -> Result<Drawing, AllocError>
+    requires { line ≢ [] }
+    ensures { IfOk result (λ d. d ≡ one_line (without_repeats line)) }
+{
+    let mut paths = Drawing::new(alloc);
+    paths.add_feature(Kind::Line)?;
+    paths.add_line(line)?;
+    Ok(paths)
+}
+
+fn link_list(alloc: Global, link: Link) -> Result<LinkList, AllocError>
+    ensures { IfOk result (λ l. l ≡ link ∷ []) }
+{
+    let mut links = LinkList::new(alloc);
+    links.push(link)?;
+    Ok(links)
+}
+
+// One link, drawn by one line.
+fn one_link(alloc: Global, link: Link) -> Result<Snapped, Fail> {
+    let line = two_points(alloc, link.low(), link.high())?;
+    let paths = drawn(alloc, line)?;
+    let links = link_list(alloc, link)?;
+    Ok(Snapped::new(paths, links))
+}
+
+// A table of one row, with a value for each of the names.
+fn one_row(alloc: Global, names: &[&str]) -> Result<Table, AllocError>
+    ensures { IfOk result (λ t. length t.rows ≡ 1) }
+{
+    let mut fields = Fields::new(alloc);
+    for name in names {
+        fields.put(Text::of(alloc, name)?, Value::Null)?;
+    }
+    let mut rows = FieldsList::new(alloc);
+    rows.push(fields)?;
+    Table::from_fields(alloc, &rows)
+}
+
+// A list of one layer with one feature.
+fn one_layer(
+    alloc: Global,
+    kind: Kind,
+    names: &[&str],
+    shape: ArcShape,
+    count: u32,
+) -> Result<ArcLayers, AllocError>
+    requires { ShapeIsBelow count shape }
+    ensures { IfOk result (λ layers. All (LayerIsBelow count) layers) }
+{
+    let table = one_row(alloc, names)?;
+    let mut shapes = ArcShapeList::new(alloc);
+    shapes.push(shape)?;
+    let name = Text::of(alloc, "in")?;
+    let mut layers = ArcLayers::new(alloc);
+    layers.push(ArcLayer {
+        name,
+        kind,
+        table,
+        shapes,
+    })?;
+    Ok(layers)
+}
+
+// The shape of one path there and one back along the arc from `a` to `b`.
+fn there_and_back(alloc: Global, t: &ArcTable, a: Pt, b: Pt) -> Result<ArcShape, AllocError>
+    ensures { IfOk result (λ shape. ShapeIsBelow (length t.now) shape) }
+{
+    let mut lines = SignedPaths::new(alloc);
+    lines.push(t.path_arcs(alloc, &two_points(alloc, a, b)?)?)?;
+    lines.push(t.path_arcs(alloc, &two_points(alloc, b, a)?)?)?;
+    Ok(ArcShape::Lines(lines))
+}
+
+const THERE_AND_BACK: &str =
+    r#"{"type":"Topology","transform":{"scale":[0.01,0.01],"translate":[0,0]},"objects":{"in":{"type":"GeometryCollection","geometries":[{"type":"MultiLineString","arcs":[[0],[-1]],"properties":{"n":null}}]}},"arcs":[[[2,0],[0,2]]]}
+"#;
+
+const NOTHING: &str =
+    r#"{"type":"Topology","transform":{"scale":[1,1],"translate":[0,0]},"objects":{"in":{"type":"GeometryCollection","geometries":[{"type":null}]}},"arcs":[]}
+"#;
+
+#[test]
+fn writes_arcs_by_differences(rt: HostRuntime) -> Result<(), Fail> {
+    let alloc = rt.alloc();
+    let a = Pt::new(2, 0).ok_or("off the grid")?;
+    let b = Pt::new(2, 2).ok_or("off the grid")?;
+    let link = Link::of(a, b).ok_or("one point")?;
+    let arcs = ArcTable::build(alloc, &one_link(alloc, link)?)?;
+    let shape = there_and_back(alloc, &arcs, a, b)?;
+    let layers = one_layer(alloc, Kind::Line, &["n"], shape, arcs.count())?;
+    let text = write_topojson(alloc, &layers, &arcs, 2)?;
+    assert_eq!(rt; text.as_slice(), THERE_AND_BACK.as_bytes());
+    let nothing = one_layer(alloc, Kind::Table, &[], ArcShape::Nothing, arcs.count())?;
+    let text = write_topojson(alloc, &nothing, &arcs, 0)?;
+    assert_eq!(rt; text.as_slice(), NOTHING.as_bytes());
     Ok(())
 }
