@@ -1,4 +1,4 @@
-ghost use Rattle.std.specs.Prelude.{◌≡◌, ◌++◌, ◌∷◌, [], OnOk, OnErr, length, slice_get};
+ghost use Rattle.std.specs.Prelude.{◌≡◌, ◌++◌, ◌∷◌, ◌<◌, ◌^◌, [], OnOk, OnErr, length, slice_get};
 ghost use Rattle.std.specs.Option.{option_copied};
 
 use crate::job::{Command, SourceWord};
@@ -56,6 +56,7 @@ impl SourceList {
 
     pub fn as_slice(&self) -> &[SourceWord]
         ensures all { result.now ≡ self.now }
+        ensures few { length self.now < 2 ^ 32 }
     {
         &self.items
     }
@@ -116,6 +117,7 @@ impl CommandList {
 
     pub fn as_slice(&self) -> &[Command]
         ensures all { result.now ≡ self.now }
+        ensures few { length self.now < 2 ^ 32 }
     {
         &self.items
     }
