@@ -1,0 +1,8 @@
+use Rattle.std.proofs.Common.{◌≡◌, ◌<◌, All, length}
+use Rattle.ms_chain.proofs.features.numbers_below.Given as goal
+
+abbrev pub invariant-loop-number : goal.invariant-loop-number
+invariant-loop-number l = record {
+  below : All (λ n. n < l.number) l.numbers;
+  each : length l.numbers ≡ l.number;
+}

@@ -1,0 +1,13 @@
+use Rattle.std.proofs.Common.{◌≤◌}
+use Rattle.io_core.specs.Counts.{NoneFell}
+use Rattle.ms_chain.specs.Sources.{Grew, most_bytes}
+use Rattle.ms_chain.proofs.sources.read_sources.Given as goal
+
+abbrev pub invariant-loop-i : goal.invariant-loop-i
+invariant-loop-i g l = record {
+  grew : Grew
+      (record { files = g.F.Files.held l.fn.files; file_faults = g.F.Files.read_faults l.fn.files; file_bytes = g.F.Files.bytes_read l.fn.files; input = g.I.Source.left l.fn.input; input_faults = g.I.Source.faults l.fn.input; input_bytes = g.I.Source.bytes_read l.fn.input })
+      (record { files = g.F.Files.held l.files; file_faults = g.F.Files.read_faults l.files; file_bytes = g.F.Files.bytes_read l.files; input = g.I.Source.left l.input; input_faults = g.I.Source.faults l.input; input_bytes = g.I.Source.bytes_read l.input });
+  writes : NoneFell (g.F.Files.write_faults l.fn.files) (g.F.Files.write_faults l.files);
+  within : l.budget.bytes ≤ most_bytes;
+}

@@ -1,0 +1,10 @@
+pub mod Decoding
+pub mod Effects
+pub mod Formats
+pub mod Gathering
+pub mod Messages
+pub mod Running
+pub mod Sources
+pub mod Status
+pub mod Telling
+pub mod Looks

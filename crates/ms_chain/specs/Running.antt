@@ -1,0 +1,153 @@
+-- A run of commands in order: what is written, and how it ends.
+use Rattle.std.specs.Prelude.{◌≡◌, ℕ, ◌+◌, ◌⊎◌, ⊤, Bool, List, [], ◌∷◌, Result, Ok, Err}
+use Rattle.io_core.specs.Contents.{Content, SameFiles}
+use Rattle.cmd_words.specs.Expressions.{Refusals, AreRefusals}
+use Rattle.cmd_words.specs.Tells.{Tells, FitsJob}
+use Rattle.cmd_words.specs.Words.{read_words}
+use Rattle.cmd_words.specs.declared.fault.WordFault.{WordFault}
+use Rattle.cmd_words.specs.declared.fault.WordFault.TheVariants as words
+use Rattle.cmd_words.specs.declared.job.Job.{Job}
+use Rattle.cmd_words.specs.declared.job.Job.TheVariants as job
+use Rattle.cmd_words.specs.declared.job.Chain.{Chain}
+use Rattle.cmd_words.specs.declared.job.Command.{Command}
+use Rattle.cmd_words.specs.declared.job.Action.{Action}
+use Rattle.cmd_words.specs.declared.job.Action.TheVariants as action
+use Rattle.ms_chain.specs.Effects.{OutsideSeen, CountsGrew, WroteText, WriteRose, CutsText}
+use Rattle.std.specs.Io.KnownBytes.{Appends}
+use Rattle.io_core.specs.Counts.{Rose}
+use Rattle.ms_chain.specs.Sources.{SourcesSeen, StopsAtSource}
+use Rattle.ms_chain.specs.Telling.{StreamSeen, AddsFront}
+use Rattle.ms_chain.specs.declared.outcome.Outcome.{Outcome}
+use Rattle.ms_chain.specs.declared.outcome.Outcome.TheVariants as outcome
+use Rattle.ms_chain.specs.declared.outcome.RefuseWhy.{RefuseWhy}
+
+-- ---- one command
+
+-- the command with this number is refused, or finds no memory
+abbrev pub Stops : ℕ → Outcome → Type 0
+Stops n o = ((why : RefuseWhy) × (o ≡ outcome.Refused n why)) ⊎ (o ≡ outcome.Memory)
+
+-- it writes a text, the count of its place rises, and of the text a front is there
+pub record FailsToWrite (n : ℕ) (standard : Bool) (name : Content) (before after : OutsideSeen) (o : Outcome) : Type 0 where
+  pub fault : o ≡ outcome.WriteFault n
+  pub text : Content
+  pub rose : WriteRose standard name before after
+  pub cut : CutsText standard name text before after
+  pub counts : CountsGrew before after
+
+-- how a command with this number ends a run
+abbrev pub EndsRun : ℕ → Action → OutsideSeen → OutsideSeen → Outcome → Type 0
+EndsRun n (action.Write to standard form) before after o = (Stops n o × (after ≡ before)) ⊎ FailsToWrite n standard to before after o
+EndsRun n _ before after o = Stops n o × (after ≡ before)
+
+-- some text is written whole
+pub record WritesWhole (standard : Bool) (name : Content) (before after : OutsideSeen) : Type 0 where
+  pub text : Content
+  pub wrote : WroteText standard name text before after
+  pub counts : CountsGrew before after
+
+-- what a command that ends no run changes: an output writes a whole text, and no other command writes
+abbrev pub GoesOn : Action → OutsideSeen → OutsideSeen → Type 0
+GoesOn (action.Write to standard form) before after = WritesWhole standard to before after
+GoesOn _ before after = after ≡ before
+
+-- what a command with this number answers: a state of layers, or the outcome of the run
+abbrev pub StepMeans : {S : Type 0} → ℕ → Action → OutsideSeen → OutsideSeen → Result S Outcome → Type 0
+StepMeans n a before after (Ok state) = GoesOn a before after
+StepMeans n a before after (Err o) = EndsRun n a before after o
+
+-- ---- commands in order
+
+-- the commands behind so many done ones: the first that ends the run is the last that changes anything
+abbrev pub CommandsRun : ℕ → List Command → OutsideSeen → OutsideSeen → Outcome → Type 0
+CommandsRun done [] before after o = (o ≡ outcome.Done) × (after ≡ before)
+CommandsRun done (c ∷ cs) before after o =
+    EndsRun (done + 1) c.action before after o ⊎ ((middle : OutsideSeen) × GoesOn c.action before middle × CommandsRun (done + 1) cs middle after o)
+
+-- ---- the whole chain
+
+-- no file and no stream holds anything else than before, and no count of failed writes fell
+pub record Keeps (before after : OutsideSeen) : Type 0 where
+  pub files : SameFiles before.files after.files
+  pub stream : after.stream ≡ before.stream
+  pub counts : CountsGrew before after
+
+-- the accepted sources give no plane
+abbrev pub IsUnbegun : Outcome → Type 0
+IsUnbegun (outcome.TooDense count) = ⊤
+IsUnbegun outcome.Memory = ⊤
+IsUnbegun outcome.Done = ⊥
+IsUnbegun (outcome.BadWords word why) = ⊥
+IsUnbegun (outcome.ReadFault source) = ⊥
+IsUnbegun (outcome.Missing source) = ⊥
+IsUnbegun (outcome.TooLong source) = ⊥
+IsUnbegun (outcome.BadInput source why) = ⊥
+IsUnbegun (outcome.Refused command why) = ⊥
+IsUnbegun (outcome.WriteFault command) = ⊥
+
+-- a source ends the run before anything is written, or the density of the snapped paths or memory does
+pub record EndsBefore (chain : Chain) (sources sources' : SourcesSeen) (before after : OutsideSeen) (o : Outcome) : Type 0 where
+  pub kept : Keeps before after
+  pub stops : StopsAtSource chain.places chain.sources sources sources' o ⊎ IsUnbegun o
+
+-- the commands run from the first, or memory ends the run before it
+abbrev pub BegunRuns : List Command → OutsideSeen → OutsideSeen → Outcome → Type 0
+BegunRuns commands before after o = CommandsRun 0 commands before after o ⊎ ((o ≡ outcome.Memory) × (after ≡ before))
+
+-- all sources are accepted, and the commands run
+pub record RunsCommands (chain : Chain) (before after : OutsideSeen) (o : Outcome) : Type 0 where
+  pub middle : OutsideSeen
+  pub kept : Keeps before middle
+  pub ran : BegunRuns chain.commands middle after o
+
+abbrev pub ChainRuns : Chain → SourcesSeen → SourcesSeen → OutsideSeen → OutsideSeen → Outcome → Type 0
+ChainRuns chain sources sources' before after o = EndsBefore chain sources sources' before after o ⊎ RunsCommands chain before after o
+
+-- ---- the words
+
+-- what the words of a command line ask for, or why they are refused
+abbrev pub ReadsWords : List Content → Result Job WordFault → Type 0
+ReadsWords words answer = (refuses : Refusals) → AreRefusals refuses → Tells FitsJob (read_words refuses words) answer
+
+-- nothing is read and nothing changes
+pub record EndsUnread (end : Outcome) (seen seen' : SourcesSeen) (before after : OutsideSeen) (o : Outcome) : Type 0 where
+  pub ends : o ≡ end
+  pub sources : seen' ≡ seen
+  pub outside : after ≡ before
+
+-- a line is written to the standard stream, or a front of it and the count of its failed writes rises; or nothing is
+-- written, where there is no such line
+abbrev pub SynthRuns : StreamSeen → StreamSeen → Outcome → Type 0
+SynthRuns before after outcome.Done = (text : Content) × Appends before.told after.told text
+SynthRuns before after (outcome.WriteFault n) = (n ≡ 1) × Rose before.faults after.faults × ((text : Content) × AddsFront before.told after.told text)
+SynthRuns before after (outcome.TooDense count) = after ≡ before
+SynthRuns before after outcome.Memory = after ≡ before
+SynthRuns before after (outcome.BadWords word why) = ⊥
+SynthRuns before after (outcome.ReadFault source) = ⊥
+SynthRuns before after (outcome.Missing source) = ⊥
+SynthRuns before after (outcome.TooLong source) = ⊥
+SynthRuns before after (outcome.BadInput source why) = ⊥
+SynthRuns before after (outcome.Refused command why) = ⊥
+
+abbrev pub stream_of : OutsideSeen → StreamSeen
+stream_of seen = record { told = seen.stream; faults = seen.stream_faults }
+
+-- nothing is read, and nothing but the standard stream changes
+pub record ToldAlone (seen seen' : SourcesSeen) (before after : OutsideSeen) (o : Outcome) : Type 0 where
+  pub sources : seen' ≡ seen
+  pub files : after.files ≡ before.files
+  pub file_faults : after.file_faults ≡ before.file_faults
+  pub stream : SynthRuns (stream_of before) (stream_of after) o
+
+-- refused words end the run; a made-up mosaic is told of; a chain runs
+abbrev pub JobRuns : Result Job WordFault → SourcesSeen → SourcesSeen → OutsideSeen → OutsideSeen → Outcome → Type 0
+JobRuns (Err (words.Bad n why)) seen seen' before after o = EndsUnread (outcome.BadWords n why) seen seen' before after o
+JobRuns (Err words.Memory) seen seen' before after o = EndsUnread outcome.Memory seen seen' before after o
+JobRuns (Ok (job.Synth seed n)) seen seen' before after o = ToldAlone seen seen' before after o
+JobRuns (Ok (job.Chain chain)) seen seen' before after o = ChainRuns chain seen seen' before after o
+
+-- what a run of these words does
+pub record WordsRun (line : List Content) (seen seen' : SourcesSeen) (before after : OutsideSeen) (o : Outcome) : Type 0 where
+  pub answer : Result Job WordFault
+  pub reads : ReadsWords line answer
+  pub runs : JobRuns answer seen seen' before after o

@@ -1,0 +1,158 @@
+ghost use Rattle.std.specs.Prelude.{◌≡◌, ◌<◌, IfOk, All, length};
+
+use crate::layer::{Layer, Shape};
+use arc_table::{SignedPath, SignedPaths};
+use grid_base::{ArcId, IdList, PtList, SignedArc};
+use io_core::Text;
+use std::alloc::{AllocError, Global};
+use table_ops::take_rows;
+
+/// The features with these numbers, counted from 0, as a layer of the same name and kind.
+pub(crate) fn take_features(
+    alloc: Global,
+    layer: &Layer,
+    numbers: &IdList,
+) -> Result<Layer, AllocError>
+    requires { All (λ n. n < length layer.now.table.rows) numbers.now }
+{
+    let shapes = take_shapes(alloc, &layer.shapes, numbers.as_slice())?;
+    with_shapes(alloc, layer, numbers, shapes)
+}
+
+/// The features of a layer with other shapes, in order; those without geometry are left out.
+pub(crate) fn nonempty(
+    alloc: Global,
+    layer: &Layer,
+    shapes: Vec<Shape>,
+) -> Result<Layer, AllocError>
+    requires { length shapes.items ≡ length layer.now.table.rows }
+{
+    let all = numbers_below(alloc, layer.table.row_count())?;
+    let kept = with_geometry(alloc, &shapes, &all)?;
+    let left = take_shapes(alloc, &shapes, kept.as_slice())?;
+    with_shapes(alloc, layer, &kept, left)
+}
+
+/// The numbers from 0 below a count.
+pub(crate) fn numbers_below(alloc: Global, count: u32) -> Result<IdList, AllocError>
+    ensures below { IfOk result (λ numbers. All (λ n. n < count) numbers) }
+    ensures each { IfOk result (λ numbers. length numbers ≡ count) }
+{
+    let mut numbers = IdList::new(alloc);
+    for number in 0..count {
+        numbers.push(number)?;
+    }
+    Ok(numbers)
+}
+
+/// Those of the numbers whose shape is something.
+pub(crate) fn with_geometry(
+    alloc: Global,
+    shapes: &[Shape],
+    numbers: &IdList,
+) -> Result<IdList, AllocError>
+    requires { All (λ n. n < length shapes.now) numbers.now }
+    ensures below { IfOk result (λ kept. All (λ n. n < length shapes.now) kept) }
+{
+    let mut kept = IdList::new(alloc);
+    for number in numbers.as_slice() {
+        if !shapes[*number as usize].is_empty() {
+            kept.push(*number)?;
+        }
+    }
+    Ok(kept)
+}
+
+/// A layer of the same name and kind, with the rows of these numbers and a shape for each.
+pub(crate) fn with_shapes(
+    alloc: Global,
+    layer: &Layer,
+    numbers: &IdList,
+    shapes: Vec<Shape>,
+) -> Result<Layer, AllocError>
+    requires there { All (λ n. n < length layer.now.table.rows) numbers.now }
+    requires each { length shapes.items ≡ length numbers.now }
+{
+    let table = take_rows(alloc, &layer.table, numbers)?;
+    Ok(Layer {
+        name: copy_text(alloc, &layer.name)?,
+        kind: layer.kind,
+        table,
+        shapes,
+    })
+}
+
+/// The path along one arc in its direction.
+pub(crate) fn path_along(alloc: Global, arc: ArcId) -> Result<SignedPath, AllocError> {
+    let mut path = SignedPath::new(alloc);
+    path.push(SignedArc::forward(arc))?;
+    Ok(path)
+}
+
+pub(crate) fn copy_text(alloc: Global, text: &Text) -> Result<Text, AllocError>
+    ensures copied { IfOk result (λ copy. copy ≡ text.now) }
+{
+    Text::of(alloc, text.as_str())
+}
+
+fn take_shapes(alloc: Global, shapes: &[Shape], numbers: &[u32]) -> Result<Vec<Shape>, AllocError>
+    requires { All (λ n. n < length shapes.now) numbers.now }
+    ensures count { IfOk result (λ taken. length taken.items ≡ length numbers.now) }
+{
+    let mut taken = Vec::new(alloc);
+    for number in numbers {
+        taken.push(copy_shape(alloc, &shapes[*number as usize])?)?;
+    }
+    Ok(taken)
+}
+
+pub(crate) fn copy_shapes(alloc: Global, shapes: &[Shape]) -> Result<Vec<Shape>, AllocError>
+    ensures copied { IfOk result (λ copy. copy.items ≡ shapes.now) }
+{
+    let mut copy = Vec::new(alloc);
+    for shape in shapes {
+        copy.push(copy_shape(alloc, shape)?)?;
+    }
+    Ok(copy)
+}
+
+pub(crate) fn copy_shape(alloc: Global, shape: &Shape) -> Result<Shape, AllocError>
+    ensures copied { IfOk result (λ copy. copy ≡ shape.now) }
+{
+    Ok(match shape {
+        Shape::Nothing => Shape::Nothing,
+        Shape::Faces(faces) => Shape::Faces(faces.copy(alloc)?),
+        Shape::Paths(paths) => Shape::Paths(copy_paths(alloc, paths)?),
+        Shape::Points(points) => Shape::Points(copy_points(alloc, points)?),
+    })
+}
+
+pub(crate) fn copy_paths(alloc: Global, paths: &SignedPaths) -> Result<SignedPaths, AllocError>
+    ensures copied { IfOk result (λ copy. copy ≡ paths.now) }
+{
+    let mut copy = SignedPaths::new(alloc);
+    for path in paths.as_slice() {
+        copy.push(copy_path(alloc, path.as_slice())?)?;
+    }
+    Ok(copy)
+}
+
+pub(crate) fn copy_path(alloc: Global, path: &[SignedArc]) -> Result<SignedPath, AllocError>
+    ensures copied { IfOk result (λ copy. copy ≡ path.now) }
+{
+    let mut copy = SignedPath::new(alloc);
+    for arc in path {
+        copy.push(*arc)?;
+    }
+    Ok(copy)
+}
+
+pub(crate) fn copy_points(alloc: Global, points: &PtList) -> Result<PtList, AllocError>
+    ensures copied { IfOk result (λ copy. copy ≡ points.now) }
+{
+    let mut copy = PtList::new(alloc);
+    for point in points.as_slice() {
+        copy.push(*point)?;
+    }
+    Ok(copy)
+}

@@ -1,0 +1,151 @@
+ghost use Rattle.ms_chain.specs.Gathering.{all_rows};
+ghost use Rattle.std.specs.Prelude.{◌≡◌, ◌<◌, ◌++◌, IfOk, OnOk, All, length};
+
+use crate::features::{
+    copy_shape, copy_shapes, copy_text, numbers_below, take_features, with_geometry,
+};
+use crate::layer::{Layer, Shape};
+use crate::outcome::RefuseWhy;
+use crate::state::{CommandStop, State, is_selected};
+use cmd_words::Target;
+use expr_lang::Expr;
+use grid_base::IdList;
+use io_core::NameList;
+use json_read::Table;
+use std::alloc::{AllocError, Global};
+use table_ops::{
+    JoinSpec, RenameList, TableList, filter_rows, join_tables, keep_fields, merge_tables,
+    rename_fields, take_rows,
+};
+
+/// The features for which the expression is true, or, with `invert`, false; with `remove_empty` those without
+/// geometry go too.
+pub(crate) fn filtered(
+    alloc: Global,
+    layer: &Layer,
+    test: Option<&Expr>,
+    invert: bool,
+    remove_empty: bool,
+) -> Result<Layer, CommandStop> {
+    let kept = match test {
+        Some(test) => filter_rows(alloc, &layer.table, test, invert)?,
+        None => numbers_below(alloc, layer.table.row_count())?,
+    };
+    if !remove_empty {
+        return Ok(take_features(alloc, layer, &kept)?);
+    }
+    let kept = with_geometry(alloc, &layer.shapes, &kept)?;
+    Ok(take_features(alloc, layer, &kept)?)
+}
+
+/// The layer with these columns alone, in this order.
+pub(crate) fn with_fields(
+    alloc: Global,
+    layer: &Layer,
+    fields: &NameList,
+) -> Result<Layer, CommandStop> {
+    let table = keep_fields(alloc, &layer.table, fields)?;
+    Ok(with_table(alloc, layer, table)?)
+}
+
+/// The layer with columns under other names.
+pub(crate) fn renamed(
+    alloc: Global,
+    layer: &Layer,
+    pairs: &RenameList,
+) -> Result<Layer, CommandStop> {
+    let table = rename_fields(alloc, &layer.table, pairs)?;
+    Ok(with_table(alloc, layer, table)?)
+}
+
+/// The layer with the columns of the rows of `source` whose key is the same.
+pub(crate) fn joined(
+    alloc: Global,
+    layer: &Layer,
+    source: &Layer,
+    spec: &JoinSpec,
+) -> Result<Layer, CommandStop> {
+    let table = join_tables(alloc, &layer.table, &source.table, spec)?;
+    Ok(with_table(alloc, layer, table)?)
+}
+
+// The layer with another table, which has as many rows.
+fn with_table(alloc: Global, layer: &Layer, table: Table) -> Result<Layer, AllocError>
+    requires { length table.rows ≡ length layer.now.table.rows }
+{
+    let shapes = copy_shapes(alloc, &layer.shapes)?;
+    Ok(Layer {
+        name: copy_text(alloc, &layer.name)?,
+        kind: layer.kind,
+        table,
+        shapes,
+    })
+}
+
+/// The features of the target's layers, in order, in a layer like the first.
+#[tactic(auto, using(crate::proofs::Gathering::merged_count))]
+pub(crate) fn merged(
+    alloc: Global,
+    state: &State,
+    target: &Target,
+    force: bool,
+) -> Result<Layer, CommandStop> {
+    let Gathered { tables, shapes } = gather(alloc, state, target)?;
+    match first_target(state, target) {
+        Some(first) if tables.len() > 0 => {
+            let table = merge_tables(alloc, &tables, force)?;
+            Ok(Layer {
+                name: copy_text(alloc, &first.name)?,
+                kind: first.kind,
+                table,
+                shapes,
+            })
+        }
+        _ => Err(CommandStop::Refused(RefuseWhy::NoLayer)),
+    }
+}
+
+// The tables of layers, and their shapes one behind another.
+#[derive(Drop)]
+struct Gathered {
+    tables: TableList,
+    shapes: Vec<Shape>,
+    ghost each: { length shapes.items ≡ length (all_rows tables) },
+}
+
+fn gather(alloc: Global, state: &State, target: &Target) -> Result<Gathered, AllocError> {
+    let mut tables = TableList::new(alloc);
+    let mut shapes = Vec::new(alloc);
+    for held in &state.layers {
+        if is_selected(target, held) {
+            tables.push(copy_table(alloc, &held.layer.table)?)?;
+            append_shapes(alloc, &mut shapes, &held.layer.shapes)?;
+        }
+    }
+    Ok(Gathered { tables, shapes })
+}
+
+fn first_target<'a>(state: &'a State, target: &Target) -> Option<&'a Layer> {
+    for held in &state.layers {
+        if is_selected(target, held) {
+            return Some(&held.layer);
+        }
+    }
+    None
+}
+
+pub(crate) fn copy_table(alloc: Global, table: &Table) -> Result<Table, AllocError>
+    ensures count { IfOk result (λ copy. length copy.rows ≡ length table.now.rows) }
+{
+    let all = numbers_below(alloc, table.row_count())?;
+    take_rows(alloc, table, &all)
+}
+
+fn append_shapes(alloc: Global, out: &mut Vec<Shape>, shapes: &[Shape]) -> Result<(), AllocError>
+    ensures appended { OnOk result (out.new.items ≡ out.old.items ++ shapes.now) }
+{
+    for shape in shapes {
+        out.push(copy_shape(alloc, shape)?)?;
+    }
+    Ok(())
+}
