@@ -4,3 +4,4 @@ pub mod LinkOrder
 pub mod LinkLemmas
 pub mod PathLemmas
 pub mod CountLemmas
+pub mod SpotCount

@@ -1,7 +1,7 @@
-ghost use Rattle.std.specs.Prelude.{◌≡◌, ◌++◌, IfOk, OnOk, filter_map};
+ghost use Rattle.std.specs.Prelude.{◌≡◌, ◌≤◌, ◌++◌, IfOk, OnOk, IfSome, filter_map};
 ghost use Rattle.std.specs.Option.{option_to_list};
 ghost use Rattle.std.specs.List.{flat_map};
-ghost use Rattle.plane_model.specs.Snapped.{links_of};
+ghost use Rattle.plane_model.specs.Snapped.{links_of, link_count};
 ghost use Rattle.snap_round.specs.Linking.{link_along, AllStepsMove};
 
 use grid_base::{Drawing, Link, LinkList, Seg};
@@ -38,14 +38,25 @@ fn list_of(alloc: Global, links: &[Link]) -> Result<LinkList, AllocError>
     Ok(list)
 }
 
-/// The links of a drawing's paths, ascending, each once.
-pub fn links_of(alloc: Global, paths: &Drawing) -> Result<LinkList, AllocError>
+/// The links of a drawing's paths, ascending, each once; `None` where the paths may have more than `most` together,
+/// repeats counted.
+pub fn few_links_of(
+    alloc: Global,
+    paths: &Drawing,
+    most: u64,
+) -> Result<Option<LinkList>, AllocError>
     requires { AllStepsMove paths.now }
-    ensures { IfOk result (λ links. links ≡ links_of paths.now) }
+    ensures exact { IfOk result (λ found. IfSome found (λ links. links ≡ links_of paths.now)) }
+    ensures few { IfOk result (λ found. IfSome found (λ links. link_count paths.now ≤ most)) }
 {
+    // A path has more spots than links.
     let spots = spots_of(alloc, paths)?;
+    if spots.len() as u64 > most {
+        return Ok(None);
+    }
     let mut links = links_along(alloc, &spots)?;
     links.sort_unstable();
     links.dedup();
-    list_of(alloc, &links)
+    let list = list_of(alloc, &links)?;
+    Ok(Some(list))
 }

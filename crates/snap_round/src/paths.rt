@@ -4,24 +4,25 @@ ghost use Rattle.plane_model.specs.Snapped.{snapped_path, snapped_by};
 ghost use Rattle.snap_round.specs.Joining.{IsHotPath, IsHotRing};
 ghost use Rattle.snap_round.specs.Paths.{with_rings, with_polygons, with_lines, with_points, HasHotPaths};
 
-use crate::joining::joined_chains;
+use crate::joining::{PathStop, joined_chains};
 use grid_base::{Drawing, FeatId, Kind, PolygonRings, Pt, PtList};
 use hot_pixels::HotSet;
-use std::alloc::{AllocError, Global};
+use std::alloc::Global;
 
 // Adds the snapped rings of a polygon to the last polygon.
 fn add_rings(
     alloc: Global,
     out: &mut Drawing,
+    room: &mut u64,
     hot: &HotSet,
     rings: &[PtList],
-) -> Result<(), AllocError>
+) -> Result<(), PathStop>
     requires polygon { 0 < length (last_of [] out.old.polygons) }
     requires hot { All (IsHotRing hot.now) rings.now }
     ensures { OnOk result (out.new ≡ with_rings (map (snapped_path hot.now) rings.now) out.old) }
 {
     for ring in rings {
-        let joined = joined_chains(alloc, hot, ring.as_slice())?;
+        let joined = joined_chains(alloc, room, hot, ring.as_slice())?;
         out.add_ring(joined)?;
     }
     Ok(())
@@ -31,16 +32,17 @@ fn add_rings(
 fn add_polygons(
     alloc: Global,
     out: &mut Drawing,
+    room: &mut u64,
     hot: &HotSet,
     polygons: &[PolygonRings],
-) -> Result<(), AllocError>
+) -> Result<(), PathStop>
     requires feature { 0 < length out.old.polygons }
     requires hot { All (All (IsHotRing hot.now)) polygons.now }
     ensures { OnOk result (out.new ≡ with_polygons (map (map (snapped_path hot.now)) polygons.now) out.old) }
 {
     for polygon in polygons {
         out.add_polygon()?;
-        add_rings(alloc, out, hot, polygon.as_slice())?;
+        add_rings(alloc, out, room, hot, polygon.as_slice())?;
     }
     Ok(())
 }
@@ -48,16 +50,17 @@ fn add_polygons(
 fn add_polygon_features(
     alloc: Global,
     out: &mut Drawing,
+    room: &mut u64,
     hot: &HotSet,
     d: &Drawing,
-) -> Result<(), AllocError>
+) -> Result<(), PathStop>
     requires hot { All (All (All (IsHotRing hot.now))) d.now.polygons }
     ensures { OnOk result (out.new ≡ record out.old { polygons = out.old.polygons ++ map (map (map (snapped_path hot.now))) d.now.polygons }) }
 {
     for f in 0..d.polygon_count() {
         let polygons = d.rings_of(FeatId::new(f));
         out.add_feature(Kind::Polygon)?;
-        add_polygons(alloc, out, hot, polygons.as_slice())?;
+        add_polygons(alloc, out, room, hot, polygons.as_slice())?;
     }
     Ok(())
 }
@@ -66,15 +69,16 @@ fn add_polygon_features(
 fn add_lines(
     alloc: Global,
     out: &mut Drawing,
+    room: &mut u64,
     hot: &HotSet,
     lines: &[PtList],
-) -> Result<(), AllocError>
+) -> Result<(), PathStop>
     requires feature { 0 < length out.old.lines }
     requires hot { All (IsHotPath hot.now) lines.now }
     ensures { OnOk result (out.new ≡ with_lines (map (snapped_path hot.now) lines.now) out.old) }
 {
     for line in lines {
-        let joined = joined_chains(alloc, hot, line.as_slice())?;
+        let joined = joined_chains(alloc, room, hot, line.as_slice())?;
         out.add_line(joined)?;
     }
     Ok(())
@@ -83,22 +87,23 @@ fn add_lines(
 fn add_line_features(
     alloc: Global,
     out: &mut Drawing,
+    room: &mut u64,
     hot: &HotSet,
     d: &Drawing,
-) -> Result<(), AllocError>
+) -> Result<(), PathStop>
     requires hot { All (All (IsHotPath hot.now)) d.now.lines }
     ensures { OnOk result (out.new ≡ record out.old { lines = out.old.lines ++ map (map (snapped_path hot.now)) d.now.lines }) }
 {
     for f in 0..d.line_count() {
         let lines = d.lines_of(FeatId::new(f));
         out.add_feature(Kind::Line)?;
-        add_lines(alloc, out, hot, lines.as_slice())?;
+        add_lines(alloc, out, room, hot, lines.as_slice())?;
     }
     Ok(())
 }
 
 // Adds the points to the last point feature.
-fn add_points(out: &mut Drawing, points: &[Pt]) -> Result<(), AllocError>
+fn add_points(out: &mut Drawing, points: &[Pt]) -> Result<(), PathStop>
     requires feature { 0 < length out.old.points }
     ensures { OnOk result (out.new ≡ with_points points.now out.old) }
 {
@@ -108,7 +113,7 @@ fn add_points(out: &mut Drawing, points: &[Pt]) -> Result<(), AllocError>
     Ok(())
 }
 
-fn add_point_features(out: &mut Drawing, d: &Drawing) -> Result<(), AllocError>
+fn add_point_features(out: &mut Drawing, d: &Drawing) -> Result<(), PathStop>
     ensures { OnOk result (out.new ≡ record out.old { points = out.old.points ++ d.now.points }) }
 {
     for f in 0..d.point_count() {
@@ -119,26 +124,37 @@ fn add_point_features(out: &mut Drawing, d: &Drawing) -> Result<(), AllocError>
     Ok(())
 }
 
-fn add_boxes(alloc: Global, out: &mut Drawing, hot: &HotSet, d: &Drawing) -> Result<(), AllocError>
+fn add_boxes(
+    alloc: Global,
+    out: &mut Drawing,
+    room: &mut u64,
+    hot: &HotSet,
+    d: &Drawing,
+) -> Result<(), PathStop>
     requires hot { All (IsHotRing hot.now) d.now.boxes }
     ensures { OnOk result (out.new ≡ record out.old { boxes = out.old.boxes ++ map (snapped_path hot.now) d.now.boxes }) }
 {
     for b in 0..d.box_count() {
-        let joined = joined_chains(alloc, hot, d.box_of(b).as_slice())?;
+        let joined = joined_chains(alloc, room, hot, d.box_of(b).as_slice())?;
         out.add_box_path(joined)?;
     }
     Ok(())
 }
 
-/// The drawing with each path snapped to these hot points.
-pub fn snapped_paths(alloc: Global, hot: &HotSet, d: &Drawing) -> Result<Drawing, AllocError>
+/// The drawing with each path snapped to these hot points, of whose chains all together have at most `room` points.
+pub fn snapped_paths(
+    alloc: Global,
+    room: &mut u64,
+    hot: &HotSet,
+    d: &Drawing,
+) -> Result<Drawing, PathStop>
     requires { HasHotPaths hot.now d.now }
     ensures { IfOk result (λ paths. paths ≡ snapped_by hot.now d.now) }
 {
     let mut paths = Drawing::new(alloc);
-    add_polygon_features(alloc, &mut paths, hot, d)?;
-    add_line_features(alloc, &mut paths, hot, d)?;
+    add_polygon_features(alloc, &mut paths, room, hot, d)?;
+    add_line_features(alloc, &mut paths, room, hot, d)?;
     add_point_features(&mut paths, d)?;
-    add_boxes(alloc, &mut paths, hot, d)?;
+    add_boxes(alloc, &mut paths, room, hot, d)?;
     Ok(paths)
 }

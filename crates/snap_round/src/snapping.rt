@@ -1,4 +1,4 @@
-ghost use Rattle.std.specs.Prelude.{◌≡◌, ◌≤◌, IfOk, IfErr};
+ghost use Rattle.std.specs.Prelude.{◌≡◌, ◌≤◌, IfOk, IfErr, IfSome};
 ghost use Rattle.lists.specs.Lists.{ascending};
 ghost use Rattle.plane_model.specs.Points.{is_before};
 ghost use Rattle.plane_model.specs.Hot.{hot_points};
@@ -8,7 +8,8 @@ ghost use Rattle.snap_round.specs.Snapping.{FaultMeans};
 
 use crate::counting::count_links;
 use crate::fault::SnapFault;
-use crate::links::links_of;
+use crate::joining::PathStop;
+use crate::links::few_links_of;
 use crate::paths::snapped_paths;
 use grid_base::{Drawing, Snapped};
 use hot_pixels::{HotSet, spots_of};
@@ -16,6 +17,9 @@ use std::alloc::{AllocError, Global};
 
 // The most links that snapped paths may have together, repeats counted.
 const MOST_LINKS: u64 = 8_000_000;
+// The points of chains that are made before their links are counted: those of as many links, with an end for each
+// segment.
+const CHAIN_ROOM: u64 = 2 * MOST_LINKS;
 
 // How many links the snapped paths will have together, repeats counted.
 fn count_of(alloc: Global, hot: &HotSet, d: &Drawing) -> Result<u64, AllocError>
@@ -27,21 +31,48 @@ fn count_of(alloc: Global, hot: &HotSet, d: &Drawing) -> Result<u64, AllocError>
     count_links(hot, &spots)
 }
 
-// The snapped drawing with its links.
-fn snapped_with_links(alloc: Global, hot: &HotSet, d: &Drawing) -> Result<Snapped, AllocError>
+// The drawing of these snapped paths; `None` where they may have more than `most` links, repeats counted.
+fn few_snapped(
+    alloc: Global,
+    paths: Drawing,
+    d: &Drawing,
+    most: u64,
+) -> Result<Option<Snapped>, AllocError>
+    requires snapped { paths ≡ snapped d.now }
+    ensures exact { IfOk result (λ found. IfSome found (λ s. s ≡ snapped d.now)) }
+    ensures few { IfOk result (λ found. IfSome found (λ s. link_count (snapped d.now) ≤ most)) }
+{
+    match few_links_of(alloc, &paths, most)? {
+        Some(links) => Ok(Some(Snapped::new(paths, links))),
+        None => Ok(None),
+    }
+}
+
+// The snapped drawing; `None` where its chains have more points than there is room for, or its paths may have more
+// than `most` links, repeats counted.
+fn snapped_within(
+    alloc: Global,
+    hot: &HotSet,
+    d: &Drawing,
+    mut room: u64,
+    most: u64,
+) -> Result<Option<Snapped>, AllocError>
     requires paths { HasPaths d.now }
     requires hot { hot.now ≡ ascending is_before (hot_points d.now) }
-    ensures { IfOk result (λ s. s ≡ snapped d.now) }
+    ensures exact { IfOk result (λ found. IfSome found (λ s. s ≡ snapped d.now)) }
+    ensures few { IfOk result (λ found. IfSome found (λ s. link_count (snapped d.now) ≤ most)) }
 {
-    let paths = snapped_paths(alloc, hot, d)?;
-    let links = links_of(alloc, &paths)?;
-    Ok(Snapped::new(paths, links))
+    match snapped_paths(alloc, &mut room, hot, d) {
+        Ok(paths) => few_snapped(alloc, paths, d, most),
+        Err(PathStop::Full) => Ok(None),
+        Err(PathStop::Memory) => Err(AllocError),
+    }
 }
 
 /// The snapped drawing: each path by the chains of its segments, joined end to end, and each point as it is.
 ///
 /// `TooDense` comes exactly where the snapped paths have more than 8,000,000 links together, repeats counted, and says
-/// how many; it takes no more memory than the hot points. `Memory` may come at any size.
+/// how many; it takes no more memory than the hot points and paths of that many links. `Memory` may come at any size.
 /// Cost: with n segments, m crossings and l links, sorting n + m and l, and a search among the hot points for each
 /// segment.
 pub fn snap(alloc: Global, d: &Drawing) -> Result<Snapped, SnapFault>
@@ -51,10 +82,15 @@ pub fn snap(alloc: Global, d: &Drawing) -> Result<Snapped, SnapFault>
 {
     d.keeps_paths();
     let hot = HotSet::of(alloc, d)?;
+    if let Some(s) = snapped_within(alloc, &hot, d, CHAIN_ROOM, MOST_LINKS)? {
+        return Ok(s);
+    }
     let count = count_of(alloc, &hot, d)?;
     if count > MOST_LINKS {
         return Err(SnapFault::TooDense { count });
     }
-    let s = snapped_with_links(alloc, &hot, d)?;
-    Ok(s)
+    match snapped_within(alloc, &hot, d, u64::MAX, u64::MAX)? {
+        Some(s) => Ok(s),
+        None => Err(SnapFault::Memory),
+    }
 }

@@ -1,8 +1,7 @@
-use Rattle.std.proofs.Common.{◌≡◌, ◌∙◌, ap, subst, List}
+use Rattle.std.proofs.Common.{◌≡◌, ◌∙◌, ap, subst, List, length, arith}
 use Rattle.std.specs.List.{dedup, flat_map}
 use Rattle.std.specs.List.Sorted.{IsPermutation}
 use Rattle.std.specs.Option.{option_to_list}
-use Rattle.std.proofs.lemmas.Result.{IfOk-weaker}
 use Rattle.std.proofs.lemmas.List.Filters.{dedup_is}
 use Rattle.plane_model.specs.Points.{Segment}
 use Rattle.plane_model.specs.Snapped.{links_of}
@@ -10,7 +9,8 @@ use Rattle.hot_pixels.specs.Spots.{spots_of}
 use Rattle.snap_round.specs.Linking.{link_along}
 use Rattle.snap_round.proofs.LinkOrder.{equal_links}
 use Rattle.snap_round.proofs.LinkLemmas.{links_are}
-use Rattle.snap_round.proofs.links.links_of.Goals as goal
+use Rattle.snap_round.proofs.SpotCount.{no_more_links}
+use Rattle.snap_round.proofs.links.few_links_of.Goals as goal
 
 pub returns : goal.returns
 returns c =
@@ -20,4 +20,9 @@ returns c =
     let made : c.in_ok-links.links.items ≡ flat_map f (spots_of d) = c.in_ok-links.ensures ∙ ap (flat_map f) (c.deref.ensures.value ∙ c.in_ok-spots.ensures) in
     let is : c.dedup.new.self.items ≡ dedup equal_links sorted = dedup_is equal_links _ _ c.dedup.ensures.filtered in
     let all : dedup equal_links sorted ≡ links_of d = links_are d c.requires sorted (subst (λ (xs : List Segment). IsPermutation xs sorted) made c.sort_unstable.ensures.permutation) c.sort_unstable.ensures.sorted in
-    IfOk-weaker _ (λ (links : List Segment). links ≡ c.deref-2.result.now) (λ (links : List Segment). links ≡ links_of d) (λ links e. e ∙ c.deref-2.ensures.value ∙ is ∙ all) c.list_of.ensures
+    let spots = ap length c.in_ok-spots.ensures in
+    let more = no_more_links d in
+    record {
+      exact = c.in_ok-list.ensures ∙ c.deref-2.ensures.value ∙ is ∙ all;
+      few = omega arith;
+    }
