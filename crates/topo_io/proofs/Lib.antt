@@ -3,3 +3,9 @@ pub mod TextLemmas
 pub mod MarkLemmas
 pub mod DifferenceLemmas
 pub mod SoundLemmas
+pub mod WholeLemmas
+pub mod PlaceLemmas
+pub mod ReadLemmas
+pub mod ObjectLemmas
+pub mod StitchLemmas
+pub mod CountLemmas

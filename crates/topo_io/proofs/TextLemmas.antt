@@ -1,12 +1,9 @@
 -- Texts of topologies, piece by piece.
-use Rattle.std.proofs.Common.{◌≡◌, ℕ, zero, suc, codes, zip, ◌+◌, ◌<◌, ◌≤◌, Bool, true, false, ℤ, pos, List, [], ◌∷◌, ◌++◌, length, take, drop, map, get_or, refl, sym, ap, ◌∙◌, arith}
+use Rattle.std.proofs.Common.{◌≡◌, codes, ◌<◌, ◌≤◌, List, [], ◌∷◌, ◌++◌, length, get_or, ap, ◌∙◌, arith}
 use Rattle.std.proofs.lemmas.List.{append_assoc}
-use Rattle.json_read.specs.Text.{string_text}
 use Rattle.json_read.specs.Table.{RowValues}
-use Rattle.geojson_io.specs.Texts.{Text, separated, list_text, grid_text, key_text, properties_text}
-use Rattle.topo_io.specs.ArcLayerContent.{ArcLayerContent}
-use Rattle.topo_io.specs.Texts.{type_text, one_or_many, shape_text, row_member, geometry_text, geometries_text, object_text, head_text}
-use Rattle.topo_io.specs.declared.arc_layer.ArcShape.{ArcShape}
+use Rattle.geojson_io.specs.Texts.{Text, list_text, properties_text}
+use Rattle.topo_io.specs.Texts.{type_text, one_or_many, row_member}
 
 -- four pieces behind a text
 pub four : (old p q r s a b c d : Text) → a ≡ old ++ p → b ≡ a ++ q → c ≡ b ++ r → d ≡ c ++ s → d ≡ old ++ (p ++ (q ++ (r ++ s)))

@@ -4,3 +4,8 @@ pub mod Transform
 pub mod Arcs
 pub mod Texts
 pub mod Sound
+pub mod Numerals
+pub mod Positions
+pub mod Stitching
+pub mod Shapes
+pub mod Topologies

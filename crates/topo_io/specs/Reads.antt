@@ -1,6 +1,6 @@
 -- Faults of a topology, and what a part of the reader answers. Reading in order is that of GeoJSON.
-use Rattle.std.specs.Prelude.{◌≡◌, ℕ, List, Result, Ok, Err}
-use Rattle.geojson_io.specs.Reads.{Reads}
+use Rattle.std.specs.Prelude.{◌≡◌, ℕ, List, [], ◌∷◌, Result, Ok, Err}
+use Rattle.geojson_io.specs.Reads.{Reads, on_ok}
 use Rattle.topo_io.specs.declared.fault.TopoWhy.{TopoWhy}
 use Rattle.topo_io.specs.declared.fault.TopoPlace.{TopoPlace}
 use Rattle.topo_io.specs.declared.fault.TopoFault.{TopoFault}
@@ -12,6 +12,11 @@ use Rattle.topo_io.specs.declared.fault.Stop.TheVariants.{Why, Memory}
 -- a fault, and where it stands
 abbrev pub Fault : Type 0
 Fault = TopoWhy × TopoPlace
+
+-- each item of a list, with what goes on from each to the next
+abbrev pub along : {E A S X : Type 0} → (X → S → Result (A × S) E) → List X → S → Result (List A) E
+along read [] s = Ok []
+along read (x ∷ xs) s = on_ok (read x s) (λ p. on_ok (along read xs p.1) (λ vs. Ok (p.0 ∷ vs)))
 
 abbrev pub stopped_at : TopoPlace → Stop → TopoFault
 stopped_at place (Why why) = Bad why place
@@ -48,3 +53,8 @@ AnswersIn r old (Err e) new = IsFault (r old) e
 abbrev pub StandsAt : TopoPlace → TopoFault → Type 0
 StandsAt place (Bad why p) = p ≡ place
 StandsAt place topo.Memory = Unit {0}
+
+-- a part that takes none of the room, and tells the place of its fault
+abbrev pub AnswersAt : {A : Type 0} → Result A Fault → Result A TopoFault → Type 0
+AnswersAt r (Ok v) = r ≡ Ok v
+AnswersAt r (Err e) = IsFault r e

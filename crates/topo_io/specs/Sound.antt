@@ -1,5 +1,5 @@
 -- What is read is fit to be drawn: no path is empty, and rings end where they start.
-use Rattle.std.specs.Prelude.{◌≡◌, ℕ, ◌<◌, true, All, length}
+use Rattle.std.specs.Prelude.{◌≡◌, ◌<◌, true, All, length}
 use Rattle.plane_model.specs.Points.{Path}
 use Rattle.geojson_io.specs.Positions.{is_closed}
 use Rattle.geojson_io.specs.LayerContent.{LayerContent}

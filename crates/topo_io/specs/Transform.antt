@@ -1,7 +1,12 @@
 -- The transform of a topology, after TopoJSON 1.0, section 2.1.2: quantized numbers and their places on the grid.
-use Rattle.std.specs.Prelude.{ℤ}
+use Rattle.std.specs.Prelude.{ℕ, ℤ, pos, ◌+ℤ◌, ◌-ℤ◌, ◌*ℤ◌}
+use Rattle.json_read.specs.Numeral.{rounded}
 
 -- n stands for n * scale + offset; both in units of 10^-28
 pub record AxisUnits : Type 0 where
   pub scale : ℤ
   pub offset : ℤ
+
+-- the place of a quantized number on the grid, in so many decimal places, halves upwards
+abbrev pub axis_place : AxisUnits → ℕ → ℤ → ℤ
+axis_place a places n = rounded (n *ℤ a.scale +ℤ a.offset) (pos places -ℤ pos 28)

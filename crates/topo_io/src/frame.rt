@@ -1,5 +1,8 @@
 ghost use Rattle.std.specs.Prelude.{◌≡◌, ◌≤◌, ◌<◌, ◌*◌, ◌-◌, ◌^◌, ℤ, pos, ◌+ℤ◌, ◌*ℤ◌, ◌<ℤ◌, IfSome, unsigned_abs};
 ghost use Rattle.std.specs.Int.{int_div_euclid, int_rem_euclid};
+ghost use Rattle.json_read.specs.Numeral.{checked_grid};
+ghost use Rattle.topo_io.specs.Transform.{axis_place};
+ghost use Rattle.topo_io.specs.Positions.{axis_with, quantized_point};
 
 use grid_base::Pt;
 use std::marker::Model;
@@ -9,7 +12,7 @@ const TRANSFORM_PLACES: u8 = 28;
 /// Numbers of a transform are below this, in units of 10^-28, either way: 10^37.
 const TRANSFORM_END: u128 = 10_000_000_000_000_000_000_000_000_000_000_000_000;
 /// Grid numbers go this far, either way.
-const GRID_LIMIT: i128 = 2_000_000_000;
+const GRID_LIMIT: u128 = 2_000_000_000;
 
 /// One axis of a transform: a quantized number n stands for n * scale + offset. Both are in units of 10^-28.
 #[derive(Clone, Copy)]
@@ -33,7 +36,9 @@ impl Model for Axis {
 
 impl Axis {
     /// `None` where a number is not below 10^9.
-    pub fn of(scale: i128, offset: i128) -> Option<Axis> {
+    pub fn of(scale: i128, offset: i128) -> Option<Axis>
+        ensures { result ≡ axis_with scale offset }
+    {
         if scale.unsigned_abs() < TRANSFORM_END && offset.unsigned_abs() < TRANSFORM_END {
             Some(Axis { scale, offset })
         } else {
@@ -47,10 +52,11 @@ impl Axis {
     pub fn place(&self, number: i64, places: u8) -> Option<i64>
         requires small { unsigned_abs number ≤ 4000000000 }
         requires places { places ≤ 7 }
+        ensures { result ≡ checked_grid (axis_place self.now places number) }
     {
         let number = i128::from(number);
         let place = place_of(number, self.scale, self.offset, unit_of(places));
-        if -GRID_LIMIT <= place && place <= GRID_LIMIT {
+        if place.unsigned_abs() <= GRID_LIMIT {
             Some(place as i64)
         } else {
             None
@@ -122,8 +128,7 @@ fn place_of(number: i128, scale: i128, offset: i128, unit: i128) -> i128
     requires number_small { unsigned_abs number ≤ 4000000000 }
     requires scale_small { unsigned_abs scale < 10 ^ 37 }
     requires offset_small { unsigned_abs offset < 10 ^ 37 }
-    ensures value { result ≡ (number *ℤ int_div_euclid scale unit +ℤ int_div_euclid offset unit)
-        +ℤ int_div_euclid (pos 2 *ℤ (number *ℤ int_rem_euclid scale unit +ℤ int_rem_euclid offset unit) +ℤ unit) (pos 2 *ℤ unit) }
+    ensures value { result ≡ int_div_euclid (pos 2 *ℤ (number *ℤ scale +ℤ offset) +ℤ unit) (pos 2 *ℤ unit) }
 {
     let units = line(number, below(scale, unit), below(offset, unit));
     let parts = line(number, left_of(scale, unit), left_of(offset, unit));
@@ -143,6 +148,7 @@ impl Transform {
         requires across { unsigned_abs x ≤ 4000000000 }
         requires upward { unsigned_abs y ≤ 4000000000 }
         requires places { places ≤ 7 }
+        ensures { result ≡ quantized_point self.now places x y }
     {
         let x = self.x.place(x, places)?;
         let y = self.y.place(y, places)?;

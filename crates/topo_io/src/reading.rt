@@ -1,5 +1,9 @@
-ghost use Rattle.std.specs.Prelude.{◌≡◌, ◌≤◌, All, IfOk};
+ghost use Rattle.std.specs.Prelude.{◌≡◌, ◌≤◌, All, Err, IfErr, IfOk, Ok};
+ghost use Rattle.json_read.specs.Lists.{items_list};
+ghost use Rattle.json_read.specs.Seen.{json_value};
+ghost use Rattle.topo_io.specs.Reads.{AnswersAt, IsFault};
 ghost use Rattle.topo_io.specs.Sound.{LayerIsSound};
+ghost use Rattle.topo_io.specs.Topologies.{Members, layers_in, members, read_topojson as topology_layers};
 
 mod arcs;
 mod features;
@@ -9,8 +13,8 @@ mod shapes;
 mod stitching;
 mod transform;
 
-use crate::fault::{Stop, TopoFault, TopoPlace, TopoWhy};
-use crate::frame::Frame;
+use crate::fault::{TopoFault, TopoPlace, TopoWhy};
+use crate::frame::{Frame, Transform};
 use arcs::arcs_of;
 use geojson_io::{GeoLayers, Room, type_of};
 use grid_base::PathList;
@@ -32,18 +36,17 @@ pub fn read_topojson(
     room: Room,
 ) -> Result<GeoLayers, TopoFault>
     requires { places ≤ 7 }
+    ensures ok { IfOk result (λ layers. topology_layers places room.positions room.features (json_value json.now) ≡ Ok layers) }
+    ensures fault { IfErr result (IsFault (topology_layers places room.positions room.features (json_value json.now))) }
     ensures sound { IfOk result (λ layers. All LayerIsSound layers) }
 {
-    let top = match top_of(json, places) {
-        Ok(top) => top,
-        Err(why) => return Err(Stop::Why(why).at(TopoPlace::Top)),
-    };
-    let arcs = arcs_of(alloc, top.arcs, &top.frame)?;
-    let topology = Topology {
-        frame: top.frame,
-        arcs,
-    };
-    layers_of_objects(alloc, top.objects, &topology, room)
+    match top_of(json) {
+        Ok(top) => layers_of_top(alloc, top, places, room),
+        Err(why) => Err(TopoFault::Bad {
+            why,
+            place: TopoPlace::Top,
+        }),
+    }
 }
 
 /// A topology whose arcs have been read.
@@ -58,12 +61,12 @@ pub struct Topology {
 struct Top<'a> {
     objects: &'a JsonFields,
     arcs: &'a JsonList,
-    frame: Frame,
+    transform: Option<Transform>,
 }
 
-fn top_of(json: &Json, places: u8) -> Result<Top<'_>, TopoWhy>
-    requires { places ≤ 7 }
-    ensures { IfOk result (λ top. top.frame.places ≡ places) }
+fn top_of(json: &Json) -> Result<Top<'_>, TopoWhy>
+    ensures ok { IfOk result (λ top. let m : Members = record { objects = top.objects.now; arcs = items_list top.arcs.now; transform = top.transform } in members (json_value json.now) ≡ Ok m) }
+    ensures fault { IfErr result (λ why. members (json_value json.now) ≡ Err why) }
 {
     let Json::Object(members) = json else {
         return Err(TopoWhy::NotTopology);
@@ -77,10 +80,34 @@ fn top_of(json: &Json, places: u8) -> Result<Top<'_>, TopoWhy>
     let Some(Json::List(arcs)) = members.find("arcs") else {
         return Err(TopoWhy::NotTopology);
     };
-    let transform = transform_of(members.find("transform"))?;
-    Ok(Top {
-        objects,
-        arcs,
-        frame: Frame { transform, places },
-    })
+    match transform_of(members.find("transform")) {
+        Ok(transform) => Ok(Top {
+            objects,
+            arcs,
+            transform,
+        }),
+        Err(why) => Err(why),
+    }
+}
+
+fn layers_of_top(
+    alloc: Global,
+    top: Top<'_>,
+    places: u8,
+    room: Room,
+) -> Result<GeoLayers, TopoFault>
+    requires { places ≤ 7 }
+    ensures read { let m : Members = record { objects = top.entry.objects.now; arcs = items_list top.entry.arcs.now; transform = top.entry.transform } in AnswersAt (layers_in places room.positions room.features m) result }
+    ensures sound { IfOk result (λ layers. All LayerIsSound layers) }
+{
+    let frame = Frame {
+        transform: top.transform,
+        places,
+    };
+    let arcs = match arcs_of(alloc, top.arcs, &frame) {
+        Ok(arcs) => arcs,
+        Err(fault) => return Err(fault),
+    };
+    let topology = Topology { frame, arcs };
+    layers_of_objects(alloc, top.objects, &topology, room)
 }

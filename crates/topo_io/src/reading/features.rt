@@ -1,6 +1,11 @@
-ghost use Rattle.std.specs.Prelude.{◌≤◌, ◌<◌, ◌+◌, All, OnOk, IfErr, IfOk, length};
-ghost use Rattle.topo_io.specs.Reads.{StandsAt};
+ghost use Rattle.std.specs.Prelude.{◌≡◌, ◌≤◌, ◌<◌, ◌+◌, All, OnOk, IfErr, IfOk, Ok, length, map};
+ghost use Rattle.std.specs.Option.{option_copied, option_map};
+ghost use Rattle.json_read.specs.Lists.{fields_list, value_named};
+ghost use Rattle.json_read.specs.Seen.{json_value};
+ghost use Rattle.topo_io.specs.Reads.{Answers, AnswersIn, AnswersPlain, IsFault, StandsAt};
+ghost use Rattle.topo_io.specs.Shapes.{geometry, typed_geometry};
 ghost use Rattle.topo_io.specs.Sound.{ShapeIsSound, FeatureIsSound};
+ghost use Rattle.topo_io.specs.Topologies.{feature, features, numbered_feature, properties};
 ghost use Rattle.topo_io.specs.declared.fault.TopoPlace.TheVariants.{Shape};
 
 use crate::fault::{Stop, TopoFault, TopoPlace, TopoWhy};
@@ -10,7 +15,9 @@ use geojson_io::{Feature, GeoShape, GeoType, properties_of, type_of};
 use json_read::{Fields, Json, JsonFields};
 use std::alloc::Global;
 
-fn properties(alloc: Global, json: Option<&Json>) -> Result<Fields, Stop> {
+fn properties(alloc: Global, json: Option<&Json>) -> Result<Fields, Stop>
+    ensures { AnswersPlain (properties (option_map json_value (option_copied json.entry))) result }
+{
     match json {
         None | Some(Json::Null) => Ok(Fields::new(alloc)),
         Some(Json::Object(object)) => Ok(properties_of(alloc, object)?),
@@ -25,7 +32,8 @@ fn typed_geometry(
     left: &mut u32,
 ) -> Result<GeoShape, Stop>
     requires { topology.now.frame.places ≤ 7 }
-    ensures { IfOk result (λ shape. ShapeIsSound shape) }
+    ensures read { Answers (typed_geometry topology.now object.now) left.old result left.new }
+    ensures sound { IfOk result (λ shape. ShapeIsSound shape) }
 {
     let name = type_of(object);
     if name == "GeometryCollection" {
@@ -45,7 +53,8 @@ fn geometry(
     left: &mut u32,
 ) -> Result<GeoShape, Stop>
     requires { topology.now.frame.places ≤ 7 }
-    ensures { IfOk result (λ shape. ShapeIsSound shape) }
+    ensures read { Answers (geometry topology.now object.now) left.old result left.new }
+    ensures sound { IfOk result (λ shape. ShapeIsSound shape) }
 {
     match object.find("type") {
         Some(Json::Null) => Ok(GeoShape::Nothing),
@@ -60,7 +69,8 @@ fn read_feature(
     left: &mut u32,
 ) -> Result<Feature, Stop>
     requires { topology.now.frame.places ≤ 7 }
-    ensures { IfOk result (λ feature. FeatureIsSound feature) }
+    ensures read { Answers (feature topology.now (json_value json.now)) left.old result left.new }
+    ensures sound { IfOk result (λ feature. FeatureIsSound feature) }
 {
     let Json::Object(object) = json else {
         return Err(Stop::Why(TopoWhy::NotTopology));
@@ -90,20 +100,24 @@ fn numbered(
 ) -> Result<Feature, TopoFault>
     requires places { topology.now.frame.places ≤ 7 }
     requires room { numbers.before + n ≤ numbers.limit }
+    ensures read { AnswersIn (numbered_feature topology.now numbers (n, json_value json.now)) left.old result left.new }
     ensures room { OnOk result (numbers.before + n < numbers.limit) }
     ensures sound { IfOk result (λ feature. FeatureIsSound feature) }
-    ensures place { IfErr result (StandsAt (Shape numbers.object n)) }
 {
     let place = TopoPlace::Shape {
         object: numbers.object,
         feature: n,
     };
     if numbers.before + n == numbers.limit {
-        return Err(Stop::Why(TopoWhy::TooManyFeatures).at(place));
+        return Err(TopoFault::Bad {
+            why: TopoWhy::TooManyFeatures,
+            place,
+        });
     }
     match read_feature(alloc, json, topology, left) {
         Ok(feature) => Ok(feature),
-        Err(stop) => Err(stop.at(place)),
+        Err(Stop::Memory) => Err(TopoFault::Memory),
+        Err(Stop::Why(why)) => Err(TopoFault::Bad { why, place }),
     }
 }
 
@@ -117,8 +131,10 @@ pub fn features_of(
 ) -> Result<Vec<Feature>, TopoFault>
     requires places { topology.now.frame.places ≤ 7 }
     requires room { numbers.before ≤ numbers.limit }
-    ensures room { IfOk result (λ features. numbers.before + length features.items ≤ numbers.limit) }
-    ensures sound { IfOk result (λ features. All FeatureIsSound features.items) }
+    ensures ok { IfOk result (λ read. features topology.now numbers (map json_value items.now) left.old ≡ Ok (read.items, left.new)) }
+    ensures fault { IfErr result (IsFault (features topology.now numbers (map json_value items.now) left.old)) }
+    ensures room { IfOk result (λ read. numbers.before + length read.items ≤ numbers.limit) }
+    ensures sound { IfOk result (λ read. All FeatureIsSound read.items) }
 {
     let mut features = Vec::new(alloc);
     let mut n = 0;

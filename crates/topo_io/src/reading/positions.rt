@@ -1,4 +1,8 @@
-ghost use Rattle.std.specs.Prelude.{◌≤◌, ◌^◌, IfOk, IfSome, unsigned_abs};
+ghost use Rattle.std.specs.Prelude.{◌≡◌, ◌≤◌, ℤ, ◌+ℤ◌, IfOk, IfSome, None, Some, MatchOption, unsigned_abs, if◌then◌else◌};
+ghost use Rattle.json_read.specs.Seen.{json_value};
+ghost use Rattle.geojson_io.specs.Reads.{on_ok};
+ghost use Rattle.topo_io.specs.Numerals.{counted, size_cap};
+ghost use Rattle.topo_io.specs.Positions.{at_sums, is_sum, lone_position, plain, position_after, sums_after, whole_pair};
 
 use crate::fault::TopoWhy;
 use crate::frame::{Frame, Transform};
@@ -8,7 +12,7 @@ use grid_base::Pt;
 use json_read::Json;
 
 /// The sums of quantized positions stay within this, either way.
-const SUM_LIMIT: i128 = 4_000_000_000;
+const SUM_LIMIT: u128 = 4_000_000_000;
 
 /// The sums of the quantized positions of an arc, up to some position.
 #[derive(Clone, Copy)]
@@ -24,21 +28,32 @@ impl Sums {
 /// The point of a position behind such sums, and the sums up to it.
 pub fn position_after(json: &Json, frame: &Frame, before: Sums) -> Result<(Pt, Sums), TopoWhy>
     requires { frame.now.places ≤ 7 }
+    ensures { result ≡ position_after frame.now (json_value json.now) before }
 {
     match &frame.transform {
-        None => Ok((plain(json, frame.places)?, before)),
-        Some(transform) => {
-            let sums = sums_after(json, before)?;
-            match transform.point(sums.x, sums.y, frame.places) {
-                Some(point) => Ok((point, sums)),
-                None => Err(TopoWhy::Range),
-            }
-        }
+        None => match plain(json, frame.places) {
+            Ok(point) => Ok((point, before)),
+            Err(why) => Err(why),
+        },
+        Some(transform) => quantized(json, transform, frame.places, before),
+    }
+}
+
+/// The point of a position by itself.
+pub fn lone_position(json: &Json, frame: &Frame) -> Result<Pt, TopoWhy>
+    requires { frame.now.places ≤ 7 }
+    ensures { result ≡ lone_position frame.now (json_value json.now) }
+{
+    match position_after(json, frame, Sums::START) {
+        Ok((point, _)) => Ok(point),
+        Err(why) => Err(why),
     }
 }
 
 // The point of a position without a transform.
-fn plain(json: &Json, places: u8) -> Result<Pt, TopoWhy> {
+fn plain(json: &Json, places: u8) -> Result<Pt, TopoWhy>
+    ensures { result ≡ plain places (json_value json.now) }
+{
     match place(json, places) {
         Ok(point) => Ok(point),
         Err(ShapeWhy::Range) => Err(TopoWhy::Range),
@@ -46,36 +61,73 @@ fn plain(json: &Json, places: u8) -> Result<Pt, TopoWhy> {
     }
 }
 
-fn sums_after(json: &Json, before: Sums) -> Result<Sums, TopoWhy>
-    ensures across { IfOk result (λ s. unsigned_abs s.x ≤ 4000000000) }
-    ensures upward { IfOk result (λ s. unsigned_abs s.y ≤ 4000000000) }
+fn quantized(
+    json: &Json,
+    transform: &Transform,
+    places: u8,
+    before: Sums,
+) -> Result<(Pt, Sums), TopoWhy>
+    requires { places ≤ 7 }
+    ensures { result ≡ on_ok (sums_after (json_value json.now) before) (at_sums transform.now places) }
 {
-    let Json::List(list) = json else {
-        return Err(TopoWhy::BadPosition);
-    };
-    let x = whole_number(list.get(0)).ok_or(TopoWhy::BadPosition)?;
-    let y = whole_number(list.get(1)).ok_or(TopoWhy::BadPosition)?;
-    let x = sum(before.x, x).ok_or(TopoWhy::TransformRange)?;
-    let y = sum(before.y, y).ok_or(TopoWhy::TransformRange)?;
-    Ok(Sums { x, y })
-}
-
-/// The whole number that a value is; it is counted no further than 10^37, either way.
-pub fn whole_number(json: Option<&Json>) -> Option<i128>
-    ensures small { IfSome result (λ n. unsigned_abs n ≤ 10 ^ 37) }
-{
-    match json {
-        Some(Json::Num(text)) => whole_units(text.as_str(), 0),
-        _ => None,
+    match sums_after(json, before) {
+        Ok(sums) => match transform.point(sums.x, sums.y, places) {
+            Some(point) => Ok((point, sums)),
+            None => Err(TopoWhy::Range),
+        },
+        Err(why) => Err(why),
     }
 }
 
+fn sums_after(json: &Json, before: Sums) -> Result<Sums, TopoWhy>
+    ensures exact { result ≡ sums_after (json_value json.now) before }
+    ensures across { IfOk result (λ s. unsigned_abs s.x ≤ 4000000000) }
+    ensures upward { IfOk result (λ s. unsigned_abs s.y ≤ 4000000000) }
+{
+    let Some((x, y)) = whole_pair(json) else {
+        return Err(TopoWhy::BadPosition);
+    };
+    let Some(x) = sum(before.x, x) else {
+        return Err(TopoWhy::TransformRange);
+    };
+    let Some(y) = sum(before.y, y) else {
+        return Err(TopoWhy::TransformRange);
+    };
+    Ok(Sums { x, y })
+}
+
+// The two whole numbers that a position begins with; they are counted no further than 10^37, either way.
+fn whole_pair(json: &Json) -> Option<(i128, i128)>
+    ensures exact { MatchOption result (whole_pair (json_value json.now) ≡ None)
+        (λ p. (x y : ℤ) × (whole_pair (json_value json.now) ≡ Some (x, y)) × (p.0 ≡ counted x) × (p.1 ≡ counted y)) }
+    ensures across { IfSome result (λ p. unsigned_abs p.0 ≤ size_cap) }
+    ensures upward { IfSome result (λ p. unsigned_abs p.1 ≤ size_cap) }
+{
+    let Json::List(list) = json else {
+        return None;
+    };
+    let Some(Json::Num(x)) = list.get(0) else {
+        return None;
+    };
+    let Some(Json::Num(y)) = list.get(1) else {
+        return None;
+    };
+    let Some(x) = whole_units(x.as_str(), 0) else {
+        return None;
+    };
+    let Some(y) = whole_units(y.as_str(), 0) else {
+        return None;
+    };
+    Some((x, y))
+}
+
 fn sum(before: i64, step: i128) -> Option<i64>
-    requires { unsigned_abs step ≤ 10 ^ 37 }
-    ensures { IfSome result (λ n. unsigned_abs n ≤ 4000000000) }
+    requires { unsigned_abs step ≤ size_cap }
+    ensures exact { (z : ℤ) → step ≡ counted z → result ≡ (if is_sum (before +ℤ z) then Some (before +ℤ z) else None) }
+    ensures small { IfSome result (λ n. unsigned_abs n ≤ 4000000000) }
 {
     let sum = i128::from(before) + step;
-    if -SUM_LIMIT <= sum && sum <= SUM_LIMIT {
+    if sum.unsigned_abs() <= SUM_LIMIT {
         Some(sum as i64)
     } else {
         None

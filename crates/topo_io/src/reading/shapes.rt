@@ -1,76 +1,84 @@
-ghost use Rattle.std.specs.Prelude.{◌≤◌, All, IfOk, OnOk};
+ghost use Rattle.std.specs.Prelude.{◌≡◌, ◌≤◌, [], ◌∷◌, ◌++◌, filter, map, All, IfOk, OnOk};
+ghost use Rattle.std.specs.Option.{option_copied, option_map};
+ghost use Rattle.json_read.specs.Lists.{items_list};
+ghost use Rattle.json_read.specs.Seen.{json_value};
+ghost use Rattle.geojson_io.specs.Geometries.{has_rings, some_lines, some_points, some_polygons};
+ghost use Rattle.geojson_io.specs.Reads.{each};
+ghost use Rattle.topo_io.specs.Reads.{Answers};
+ghost use Rattle.topo_io.specs.Shapes.{one_line, one_point, one_polygon, paths_in, points_in, polygon_of, position, several_lines, several_points, several_polygons, shape_in, stitched_shape};
 ghost use Rattle.topo_io.specs.Sound.{HasPoints, IsRing, ShapeIsSound};
+ghost use Rattle.topo_io.specs.Stitching.{has_points};
 
 use crate::fault::{Stop, TopoWhy};
+use crate::frame::Frame;
 use crate::reading::Topology;
-use crate::reading::positions::{Sums, position_after};
+use crate::reading::positions::lone_position;
 use crate::reading::stitching::{path_of, rings_of, stitched};
 use geojson_io::{GeoShape, GeoType, push_polygon, some_lines, some_points, some_polygons};
 use grid_base::{PathList, PolygonRings, Pt, PtList, RingsList};
-use json_read::{Json, JsonFields, JsonList};
+use json_read::{Json, JsonFields};
 use std::alloc::{AllocError, Global};
 
 // A position by itself, which takes one of the room that is left.
-fn position(json: &Json, topology: &Topology, left: &mut u32) -> Result<Pt, Stop>
-    requires { topology.now.frame.places ≤ 7 }
+fn position(json: &Json, frame: &Frame, left: &mut u32) -> Result<Pt, Stop>
+    requires { frame.now.places ≤ 7 }
+    ensures { Answers (position frame.now (json_value json.now)) left.old result left.new }
 {
     if *left == 0 {
         return Err(Stop::Why(TopoWhy::TooManyPositions));
     }
-    let (point, _) = position_after(json, &topology.frame, Sums::START)?;
-    *left -= 1;
-    Ok(point)
-}
-
-// The list that a member is.
-fn list_in(json: Option<&Json>, why: TopoWhy) -> Result<&JsonList, TopoWhy> {
-    match json {
-        Some(Json::List(list)) => Ok(list),
-        _ => Err(why),
+    match lone_position(json, frame) {
+        Ok(point) => {
+            *left -= 1;
+            Ok(point)
+        }
+        Err(why) => Err(Stop::Why(why)),
     }
 }
 
-fn one_point(
-    alloc: Global,
-    coordinates: Option<&Json>,
-    topology: &Topology,
-    left: &mut u32,
-) -> Result<PtList, Stop>
-    requires { topology.now.frame.places ≤ 7 }
+fn one_point(alloc: Global, json: &Json, frame: &Frame, left: &mut u32) -> Result<PtList, Stop>
+    requires { frame.now.places ≤ 7 }
+    ensures { Answers (one_point frame.now (json_value json.now)) left.old result left.new }
 {
-    let Some(json) = coordinates else {
+    let Json::List(list) = json else {
         return Err(Stop::Why(TopoWhy::BadPosition));
     };
-    let list = list_in(coordinates, TopoWhy::BadPosition)?;
     let mut points = PtList::new(alloc);
-    if list.len() > 0 {
-        let point = position(json, topology, left)?;
+    if list.len() == 0 {
+        return Ok(points);
+    }
+    let point = position(json, frame, left)?;
+    points.push(point)?;
+    Ok(points)
+}
+
+fn each_point(alloc: Global, items: &[Json], frame: &Frame, left: &mut u32) -> Result<PtList, Stop>
+    requires { frame.now.places ≤ 7 }
+    ensures { Answers (each (position frame.now) (map json_value items.now)) left.old result left.new }
+{
+    let mut points = PtList::new(alloc);
+    for item in items {
+        let point = position(item, frame, left)?;
         points.push(point)?;
     }
     Ok(points)
 }
 
-fn several_points(
-    alloc: Global,
-    coordinates: Option<&Json>,
-    topology: &Topology,
-    left: &mut u32,
-) -> Result<PtList, Stop>
-    requires { topology.now.frame.places ≤ 7 }
+fn several_points(alloc: Global, json: &Json, frame: &Frame, left: &mut u32) -> Result<PtList, Stop>
+    requires { frame.now.places ≤ 7 }
+    ensures { Answers (several_points frame.now (json_value json.now)) left.old result left.new }
 {
-    let list = list_in(coordinates, TopoWhy::BadPosition)?;
-    let mut points = PtList::new(alloc);
-    for item in list.as_slice() {
-        let point = position(item, topology, left)?;
-        points.push(point)?;
+    match json {
+        Json::List(list) => each_point(alloc, list.as_slice(), frame, left),
+        _ => Err(Stop::Why(TopoWhy::BadPosition)),
     }
-    Ok(points)
 }
 
 // Adds a line, unless it has no positions.
 fn push_line(lines: &mut PathList, line: PtList) -> Result<(), AllocError>
     requires { All HasPoints lines.old }
-    ensures { OnOk result (All HasPoints lines.new) }
+    ensures exact { OnOk result (lines.new ≡ lines.old ++ filter has_points (line ∷ [])) }
+    ensures sound { OnOk result (All HasPoints lines.new) }
 {
     if line.len() > 0 {
         lines.push(line)?;
@@ -80,28 +88,30 @@ fn push_line(lines: &mut PathList, line: PtList) -> Result<(), AllocError>
 
 fn one_line(
     alloc: Global,
-    list: &JsonList,
+    items: &[Json],
     arcs: &PathList,
     left: &mut u32,
 ) -> Result<PathList, Stop>
-    ensures { IfOk result (λ lines. All HasPoints lines) }
+    ensures read { Answers (one_line arcs.now (map json_value items.now)) left.old result left.new }
+    ensures sound { IfOk result (λ lines. All HasPoints lines) }
 {
     let mut lines = PathList::new(alloc);
-    let line = stitched(alloc, list.as_slice(), arcs, left)?;
+    let line = stitched(alloc, items, arcs, left)?;
     push_line(&mut lines, line)?;
     Ok(lines)
 }
 
 fn several_lines(
     alloc: Global,
-    list: &JsonList,
+    items: &[Json],
     arcs: &PathList,
     left: &mut u32,
 ) -> Result<PathList, Stop>
-    ensures { IfOk result (λ lines. All HasPoints lines) }
+    ensures read { Answers (several_lines arcs.now (map json_value items.now)) left.old result left.new }
+    ensures sound { IfOk result (λ lines. All HasPoints lines) }
 {
     let mut lines = PathList::new(alloc);
-    for item in list.as_slice() {
+    for item in items {
         let line = path_of(alloc, item, arcs, left)?;
         push_line(&mut lines, line)?;
     }
@@ -112,60 +122,148 @@ fn several_lines(
 fn add_polygon(polygons: &mut RingsList, polygon: PolygonRings) -> Result<(), AllocError>
     requires polygons { All (All IsRing) polygons.old }
     requires rings { All IsRing polygon }
-    ensures { OnOk result (All (All IsRing) polygons.new) }
+    ensures exact { OnOk result (polygons.new ≡ polygons.old ++ filter has_rings (polygon ∷ [])) }
+    ensures sound { OnOk result (All (All IsRing) polygons.new) }
 {
     push_polygon(polygons, polygon)
 }
 
 fn one_polygon(
     alloc: Global,
-    list: &JsonList,
+    items: &[Json],
     arcs: &PathList,
     left: &mut u32,
 ) -> Result<RingsList, Stop>
-    ensures { IfOk result (λ polygons. All (All IsRing) polygons) }
+    ensures read { Answers (one_polygon arcs.now (map json_value items.now)) left.old result left.new }
+    ensures sound { IfOk result (λ polygons. All (All IsRing) polygons) }
 {
     let mut polygons = RingsList::new(alloc);
-    let polygon = rings_of(alloc, list.as_slice(), arcs, left)?;
+    let polygon = rings_of(alloc, items, arcs, left)?;
     add_polygon(&mut polygons, polygon)?;
     Ok(polygons)
 }
 
+fn polygon_of(
+    alloc: Global,
+    json: &Json,
+    arcs: &PathList,
+    left: &mut u32,
+) -> Result<PolygonRings, Stop>
+    ensures read { Answers (polygon_of arcs.now (json_value json.now)) left.old result left.new }
+    ensures sound { IfOk result (λ rings. All IsRing rings) }
+{
+    match json {
+        Json::List(list) => rings_of(alloc, list.as_slice(), arcs, left),
+        _ => Err(Stop::Why(TopoWhy::NotTopology)),
+    }
+}
+
 fn several_polygons(
     alloc: Global,
-    list: &JsonList,
+    items: &[Json],
     arcs: &PathList,
     left: &mut u32,
 ) -> Result<RingsList, Stop>
-    ensures { IfOk result (λ polygons. All (All IsRing) polygons) }
+    ensures read { Answers (several_polygons arcs.now (map json_value items.now)) left.old result left.new }
+    ensures sound { IfOk result (λ polygons. All (All IsRing) polygons) }
 {
     let mut polygons = RingsList::new(alloc);
-    for item in list.as_slice() {
-        let list = list_in(Some(item), TopoWhy::NotTopology)?;
-        let polygon = rings_of(alloc, list.as_slice(), arcs, left)?;
+    for item in items {
+        let polygon = polygon_of(alloc, item, arcs, left)?;
         add_polygon(&mut polygons, polygon)?;
     }
     Ok(polygons)
 }
 
 fn shape_of_points(points: PtList) -> GeoShape
-    ensures { ShapeIsSound result }
+    ensures exact { result ≡ some_points points }
+    ensures sound { ShapeIsSound result }
 {
     some_points(points)
 }
 
 fn shape_of_lines(lines: PathList) -> GeoShape
     requires { All HasPoints lines }
-    ensures { ShapeIsSound result }
+    ensures exact { result ≡ some_lines lines }
+    ensures sound { ShapeIsSound result }
 {
     some_lines(lines)
 }
 
 fn shape_of_polygons(polygons: RingsList) -> GeoShape
     requires { All (All IsRing) polygons }
-    ensures { ShapeIsSound result }
+    ensures exact { result ≡ some_polygons polygons }
+    ensures sound { ShapeIsSound result }
 {
     some_polygons(polygons)
+}
+
+// The shape of lists of arc indexes.
+fn stitched_shape(
+    alloc: Global,
+    kind: GeoType,
+    items: &[Json],
+    arcs: &PathList,
+    left: &mut u32,
+) -> Result<GeoShape, Stop>
+    ensures read { Answers (stitched_shape kind arcs.now (map json_value items.now)) left.old result left.new }
+    ensures sound { IfOk result (λ shape. ShapeIsSound shape) }
+{
+    match kind {
+        GeoType::LineString => Ok(shape_of_lines(one_line(alloc, items, arcs, left)?)),
+        GeoType::MultiLineString => Ok(shape_of_lines(several_lines(alloc, items, arcs, left)?)),
+        GeoType::Polygon => Ok(shape_of_polygons(one_polygon(alloc, items, arcs, left)?)),
+        GeoType::MultiPolygon => Ok(shape_of_polygons(several_polygons(alloc, items, arcs, left)?)),
+        GeoType::Point | GeoType::MultiPoint => Ok(GeoShape::Nothing),
+    }
+}
+
+fn paths_in(
+    alloc: Global,
+    kind: GeoType,
+    json: Option<&Json>,
+    arcs: &PathList,
+    left: &mut u32,
+) -> Result<GeoShape, Stop>
+    ensures read { Answers (paths_in kind arcs.now (option_map json_value (option_copied json.entry))) left.old result left.new }
+    ensures sound { IfOk result (λ shape. ShapeIsSound shape) }
+{
+    match json {
+        Some(Json::List(list)) => stitched_shape(alloc, kind, list.as_slice(), arcs, left),
+        _ => Err(Stop::Why(TopoWhy::NotTopology)),
+    }
+}
+
+fn point_in(
+    alloc: Global,
+    json: Option<&Json>,
+    frame: &Frame,
+    left: &mut u32,
+) -> Result<GeoShape, Stop>
+    requires { frame.now.places ≤ 7 }
+    ensures read { Answers (points_in (one_point frame.now) (option_map json_value (option_copied json.entry))) left.old result left.new }
+    ensures sound { IfOk result (λ shape. ShapeIsSound shape) }
+{
+    match json {
+        Some(json) => Ok(shape_of_points(one_point(alloc, json, frame, left)?)),
+        None => Err(Stop::Why(TopoWhy::BadPosition)),
+    }
+}
+
+fn points_in(
+    alloc: Global,
+    json: Option<&Json>,
+    frame: &Frame,
+    left: &mut u32,
+) -> Result<GeoShape, Stop>
+    requires { frame.now.places ≤ 7 }
+    ensures read { Answers (points_in (several_points frame.now) (option_map json_value (option_copied json.entry))) left.old result left.new }
+    ensures sound { IfOk result (λ shape. ShapeIsSound shape) }
+{
+    match json {
+        Some(json) => Ok(shape_of_points(several_points(alloc, json, frame, left)?)),
+        None => Err(Stop::Why(TopoWhy::BadPosition)),
+    }
 }
 
 /// The shape of a geometry of this type. A geometry of which nothing remains is none.
@@ -177,39 +275,14 @@ pub fn shape_in(
     left: &mut u32,
 ) -> Result<GeoShape, Stop>
     requires { topology.now.frame.places ≤ 7 }
-    ensures { IfOk result (λ shape. ShapeIsSound shape) }
+    ensures read { Answers (shape_in kind topology.now object.now) left.old result left.new }
+    ensures sound { IfOk result (λ shape. ShapeIsSound shape) }
 {
     match kind {
-        GeoType::Point => {
-            let points = one_point(alloc, object.find("coordinates"), topology, left)?;
-            Ok(shape_of_points(points))
-        }
+        GeoType::Point => point_in(alloc, object.find("coordinates"), &topology.frame, left),
         GeoType::MultiPoint => {
-            let points = several_points(alloc, object.find("coordinates"), topology, left)?;
-            Ok(shape_of_points(points))
+            points_in(alloc, object.find("coordinates"), &topology.frame, left)
         }
-        _ => {
-            let list = list_in(object.find("arcs"), TopoWhy::NotTopology)?;
-            stitched_shape(alloc, kind, list, &topology.arcs, left)
-        }
-    }
-}
-
-// The shape of lists of arc indexes.
-fn stitched_shape(
-    alloc: Global,
-    kind: GeoType,
-    list: &JsonList,
-    arcs: &PathList,
-    left: &mut u32,
-) -> Result<GeoShape, Stop>
-    ensures { IfOk result (λ shape. ShapeIsSound shape) }
-{
-    match kind {
-        GeoType::LineString => Ok(shape_of_lines(one_line(alloc, list, arcs, left)?)),
-        GeoType::MultiLineString => Ok(shape_of_lines(several_lines(alloc, list, arcs, left)?)),
-        GeoType::Polygon => Ok(shape_of_polygons(one_polygon(alloc, list, arcs, left)?)),
-        GeoType::MultiPolygon => Ok(shape_of_polygons(several_polygons(alloc, list, arcs, left)?)),
-        GeoType::Point | GeoType::MultiPoint => Ok(GeoShape::Nothing),
+        _ => paths_in(alloc, kind, object.find("arcs"), &topology.arcs, left),
     }
 }

@@ -1,40 +1,71 @@
+ghost use Rattle.std.specs.Prelude.{◌≡◌, codes, None, Some, MatchOption};
+ghost use Rattle.std.specs.Option.{option_copied, option_map};
+ghost use Rattle.json_read.specs.Lists.{fields_list, value_named};
+ghost use Rattle.json_read.specs.Seen.{json_value};
+ghost use Rattle.topo_io.specs.Positions.{axis_of, number_pair, transform_by, transform_of};
+
 use crate::fault::TopoWhy;
 use crate::frame::{Axis, Transform};
 use crate::numerals::whole_units;
-use json_read::Json;
+use json_read::{Json, JsonFields};
 
 /// The transform of a topology, which may be absent.
-pub fn transform_of(json: Option<&Json>) -> Result<Option<Transform>, TopoWhy> {
+pub fn transform_of(json: Option<&Json>) -> Result<Option<Transform>, TopoWhy>
+    ensures { result ≡ transform_of (option_map json_value (option_copied json.entry)) }
+{
     match json {
         None => Ok(None),
-        Some(Json::Object(members)) => {
-            let Some((kx, ky)) = pair_of(members.find("scale")) else {
-                return Err(TopoWhy::NotTopology);
-            };
-            let Some((tx, ty)) = pair_of(members.find("translate")) else {
-                return Err(TopoWhy::NotTopology);
-            };
-            let x = axis_of(kx, tx)?;
-            let y = axis_of(ky, ty)?;
-            Ok(Some(Transform { x, y }))
-        }
+        Some(Json::Object(members)) => transform_in(members),
         _ => Err(TopoWhy::NotTopology),
     }
 }
 
-// A list of two numbers.
-fn pair_of(json: Option<&Json>) -> Option<(&str, &str)> {
+fn transform_in(members: &JsonFields) -> Result<Option<Transform>, TopoWhy>
+    ensures { result ≡ transform_by (number_pair (value_named (codes "scale") (fields_list members.now))) (number_pair (value_named (codes "translate") (fields_list members.now))) }
+{
+    let Some((kx, ky)) = pair_of(members.find("scale")) else {
+        return Err(TopoWhy::NotTopology);
+    };
+    let Some((tx, ty)) = pair_of(members.find("translate")) else {
+        return Err(TopoWhy::NotTopology);
+    };
+    let Some(x) = axis_of(kx, tx) else {
+        return Err(TopoWhy::TransformRange);
+    };
+    let Some(y) = axis_of(ky, ty) else {
+        return Err(TopoWhy::TransformRange);
+    };
+    Ok(Some(Transform { x, y }))
+}
+
+// A list of just two numbers.
+fn pair_of(json: Option<&Json>) -> Option<(&str, &str)>
+    ensures { MatchOption result (number_pair (option_map json_value (option_copied json.entry)) ≡ None)
+        (λ p. number_pair (option_map json_value (option_copied json.entry)) ≡ Some (p.0.now, p.1.now)) }
+{
     let Some(Json::List(list)) = json else {
         return None;
     };
-    match list.as_slice() {
-        [Json::Num(first), Json::Num(second)] => Some((first.as_str(), second.as_str())),
-        _ => None,
+    if list.len() != 2 {
+        return None;
     }
+    let Some(Json::Num(first)) = list.get(0) else {
+        return None;
+    };
+    let Some(Json::Num(second)) = list.get(1) else {
+        return None;
+    };
+    Some((first.as_str(), second.as_str()))
 }
 
-fn axis_of(scale: &str, offset: &str) -> Result<Axis, TopoWhy> {
-    let scale = whole_units(scale, 28).ok_or(TopoWhy::TransformRange)?;
-    let offset = whole_units(offset, 28).ok_or(TopoWhy::TransformRange)?;
-    Axis::of(scale, offset).ok_or(TopoWhy::TransformRange)
+fn axis_of(scale: &str, offset: &str) -> Option<Axis>
+    ensures { result ≡ axis_of scale.now offset.now }
+{
+    let Some(scale) = whole_units(scale, 28) else {
+        return None;
+    };
+    let Some(offset) = whole_units(offset, 28) else {
+        return None;
+    };
+    Axis::of(scale, offset)
 }

@@ -1,4 +1,4 @@
-use Rattle.std.proofs.Common.{◌≡◌, ◌≤◌, ◌^◌, ◌∙◌, sym, subst, rules, ℤ, pos, unsigned_abs, FitsSigned, to_z-of_z, lit<}
+use Rattle.std.proofs.Common.{◌≡◌, ◌≤◌, ◌^◌, sym, subst, ℤ, unsigned_abs, FitsSigned, to_z-of_z}
 use Rattle.std.specs.Int.{w128, int_div_euclid}
 use Rattle.topo_io.proofs.Bounds.{quotient_bound, pos_is}
 use Rattle.topo_io.proofs.frame.below.Goals as goal

@@ -1,4 +1,4 @@
-use Rattle.std.proofs.Common.{◌≡◌, ◌≤◌, ◌*◌, ◌+◌, ◌^◌, refl, ℤ, pos, ◌+ℤ◌, ◌*ℤ◌, unsigned_abs, FitsSigned, to_z-of_z, lit<, arith}
+use Rattle.std.proofs.Common.{◌≤◌, ◌*◌, ◌+◌, ◌^◌, refl, ℤ, ◌+ℤ◌, ◌*ℤ◌, unsigned_abs, FitsSigned, to_z-of_z, lit<, arith}
 use Rattle.std.specs.Int.{w128}
 use Rattle.topo_io.proofs.Bounds.{fits_128, product_bound, sum_bound}
 use Rattle.topo_io.proofs.frame.line.Goals as goal

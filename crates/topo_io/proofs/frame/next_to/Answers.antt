@@ -1,4 +1,4 @@
-use Rattle.std.proofs.Common.{◌≡◌, ◌*◌, ◌+◌, ◌^◌, ℤ, pos, ◌+ℤ◌, ◌*ℤ◌, FitsSigned, to_z-of_z, lit<}
+use Rattle.std.proofs.Common.{◌≡◌, ◌*◌, ◌+◌, ◌^◌, pos, ◌+ℤ◌, ◌*ℤ◌, FitsSigned, to_z-of_z, lit<}
 use Rattle.std.specs.Int.{w128, int_div_euclid}
 use Rattle.topo_io.proofs.Bounds.{fits_128, sum_bound, double_bound}
 use Rattle.topo_io.proofs.frame.next_to.Goals as goal

@@ -1,6 +1,7 @@
-use Rattle.std.proofs.Common.{◌≡◌, ◌∙◌, ◌*◌, ◌+◌, ◌^◌, ℤ, pos, ◌+ℤ◌, ◌*ℤ◌, FitsSigned, to_z-of_z, lit<}
+use Rattle.std.proofs.Common.{◌≡◌, ◌∙◌, ◌*◌, ◌+◌, ◌^◌, pos, ◌+ℤ◌, ◌*ℤ◌, FitsSigned, to_z-of_z, lit<}
 use Rattle.std.specs.Int.{w128, int_div_euclid, int_rem_euclid}
 use Rattle.topo_io.proofs.Bounds.{fits_128, sum_bound}
+use Rattle.topo_io.proofs.PlaceLemmas.{parts_round}
 use Rattle.topo_io.proofs.frame.place_of.Goals as goal
 
 pub returns : goal.returns
@@ -26,8 +27,9 @@ returns c =
     let v : c.line-units.result ≡ n *ℤ c.below.result +ℤ c.below-2.result = simp to_z-of_z at c.line-units.ensures.value in
     let p : c.line-parts.result ≡ n *ℤ c.left_of.result +ℤ c.left_of-2.result = simp to_z-of_z at c.line-parts.ensures.value in
     let q : c.next_to.result ≡ int_div_euclid (pos 2 *ℤ c.line-parts.result +ℤ u) (pos 2 *ℤ u) = simp to_z-of_z at c.next_to.ensures.value in
-    let all : c.line-units.result +ℤ c.next_to.result ≡ (n *ℤ int_div_euclid c.args.scale u +ℤ int_div_euclid c.args.offset u) +ℤ int_div_euclid (pos 2 *ℤ (n *ℤ int_rem_euclid c.args.scale u +ℤ int_rem_euclid c.args.offset u) +ℤ u) (pos 2 *ℤ u) =
+    let all : c.line-units.result +ℤ c.next_to.result ≡ int_div_euclid (pos 2 *ℤ (n *ℤ c.args.scale +ℤ c.args.offset) +ℤ u) (pos 2 *ℤ u) =
     (λ i. v i +ℤ q i)
     ∙ (λ i. (n *ℤ b₁ i +ℤ b₂ i) +ℤ int_div_euclid (pos 2 *ℤ p i +ℤ u) (pos 2 *ℤ u))
-    ∙ (λ i. (n *ℤ int_div_euclid c.args.scale u +ℤ int_div_euclid c.args.offset u) +ℤ int_div_euclid (pos 2 *ℤ (n *ℤ r₁ i +ℤ r₂ i) +ℤ u) (pos 2 *ℤ u)) in
+    ∙ (λ i. (n *ℤ int_div_euclid c.args.scale u +ℤ int_div_euclid c.args.offset u) +ℤ int_div_euclid (pos 2 *ℤ (n *ℤ r₁ i +ℤ r₂ i) +ℤ u) (pos 2 *ℤ u))
+    ∙ parts_round n c.args.scale c.args.offset u c.requires.positive in
     record { value = simp to_z-of_z all }

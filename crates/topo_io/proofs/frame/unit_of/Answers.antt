@@ -1,4 +1,4 @@
-use Rattle.std.proofs.Common.{◌≡◌, ◌≤◌, ◌<◌, ◌-◌, ◌^◌, ◌<ℤ◌, arith, rules, ℤ, pos, sym, subst, unsigned_abs, to_z, of_z, lit<, lit≤}
+use Rattle.std.proofs.Common.{◌≡◌, ◌≤◌, ◌-◌, ◌^◌, ◌<ℤ◌, arith, rules, ℤ, pos, sym, subst, unsigned_abs, to_z, of_z, lit<}
 use Rattle.std.specs.Int.{w128}
 use Rattle.std.proofs.Math.Nat.{pow-le-pow_right, one-le-pow}
 use Rattle.topo_io.proofs.Bounds.{fits_128, above_zero}

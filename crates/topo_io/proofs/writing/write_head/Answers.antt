@@ -1,4 +1,4 @@
-use Rattle.std.proofs.Common.{◌≡◌, ◌∙◌, ◌∷◌, [], ◌++◌, ap, pos, codes, to_z-of_z}
+use Rattle.std.proofs.Common.{◌≡◌, ◌∙◌, ◌∷◌, [], ◌++◌, ap, pos, codes}
 use Rattle.std.proofs.lemmas.Result.{on_ok_weaker}
 use Rattle.json_read.specs.Decimal.{of_grid, decimal_text}
 use Rattle.geojson_io.specs.Texts.{grid_text}

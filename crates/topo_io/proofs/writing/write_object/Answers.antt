@@ -1,10 +1,8 @@
-use Rattle.std.proofs.Common.{◌≡◌, ◌∙◌, ◌++◌, List, ℕ, ap, map, codes}
+use Rattle.std.proofs.Common.{◌≡◌, ◌∙◌, ◌++◌, ap, map, codes}
 use Rattle.std.proofs.lemmas.Result.{on_ok_weaker}
 use Rattle.json_read.specs.Text.{string_text}
-use Rattle.json_read.specs.Table.{RowValues}
 use Rattle.geojson_io.specs.Texts.{key_text}
 use Rattle.topo_io.specs.Texts.{geometries_text}
-use Rattle.topo_io.specs.declared.arc_layer.ArcShape.{ArcShape}
 use Rattle.topo_io.proofs.TextLemmas.{four}
 use Rattle.topo_io.proofs.writing.write_object.Goals as goal
 

@@ -1,8 +1,8 @@
-use Rattle.std.proofs.Common.{◌≡◌, ◌∙◌, ◌++◌, ◌∷◌, [], List, ℕ, Bool, All, ap, sym, subst, map, length, codes}
-use Rattle.geojson_io.specs.Texts.{Text, separated}
+use Rattle.std.proofs.Common.{◌≡◌, ◌∙◌, ◌++◌, ◌∷◌, [], List, ℕ, All, ap, sym, subst, map, length, codes}
+use Rattle.geojson_io.specs.Texts.{separated}
 use Rattle.topo_io.specs.ArcLayerContent.{ArcLayerContent}
 use Rattle.topo_io.specs.Arcs.{LayerIsBelow, is_named, marks_before, numbers_of_marks}
-use Rattle.topo_io.specs.Texts.{head_text, object_text, arcs_text, topojson_text}
+use Rattle.topo_io.specs.Texts.{head_text, object_text, arcs_text}
 use Rattle.topo_io.proofs.TextLemmas.{five}
 use Rattle.topo_io.proofs.writing.write_topojson.Goals as goal
 

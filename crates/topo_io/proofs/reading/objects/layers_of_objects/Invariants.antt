@@ -1,6 +1,8 @@
 use Rattle.std.proofs.Common.{◌≤◌, All}
+use Rattle.json_read.specs.Lists.{fields_list}
 use Rattle.topo_io.specs.Sound.{LayerIsSound}
+use Rattle.topo_io.proofs.ObjectLemmas.{AreLayersTo}
 use Rattle.topo_io.proofs.reading.objects.layers_of_objects.Given as goal
 
 abbrev pub invariant-loop-object : goal.invariant-loop-object
-invariant-loop-object l = (l.numbers.before ≤ l.numbers.limit) × All LayerIsSound l.layers
+invariant-loop-object l = (l.before ≤ l.room.features) × All LayerIsSound l.layers × AreLayersTo l.topology l.room.features (fields_list l.objects) l.room.positions l.object l.before l.layers l.left

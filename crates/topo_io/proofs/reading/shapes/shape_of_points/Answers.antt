@@ -4,4 +4,7 @@ use Rattle.topo_io.proofs.SoundLemmas.{sound_points}
 use Rattle.topo_io.proofs.reading.shapes.shape_of_points.Goals as goal
 
 pub returns : goal.returns
-returns c = subst ShapeIsSound (sym c.some_points.ensures) (sound_points c.args.points)
+returns c = record {
+  exact = c.some_points.ensures;
+  sound = subst ShapeIsSound (sym c.some_points.ensures) (sound_points c.args.points);
+}

@@ -1,4 +1,4 @@
-use Rattle.std.proofs.Common.{◌≡◌, ◌≤◌, ◌+◌, ◌++◌, ◌∷◌, [], ◌∙◌, rules, subst, sym, ap, arith, drop, ℤ, pos, ◌-ℤ◌, unsigned_abs, w64, FitsSigned, to_z-of_z}
+use Rattle.std.proofs.Common.{◌≡◌, ◌≤◌, ◌+◌, ◌++◌, ◌∷◌, [], ◌∙◌, rules, subst, sym, arith, drop, ℤ, pos, ◌-ℤ◌, unsigned_abs, w64, FitsSigned, to_z-of_z}
 use Rattle.std.proofs.lemmas.Result.{on_ok_weaker}
 use Rattle.plane_model.specs.Points.{GridPoint}
 use Rattle.geojson_io.specs.Texts.{point_text}

@@ -1,4 +1,4 @@
-use Rattle.std.proofs.Common.{◌≡◌, ◌∙◌, ap, flat_map}
+use Rattle.std.proofs.Common.{◌∙◌, ap, flat_map}
 use Rattle.std.specs.List.{flat_map}
 use Rattle.topo_io.specs.Arcs.{marked, named_in_shape, named_in_layer}
 use Rattle.topo_io.proofs.MarkLemmas.{mark_more, all_marked}

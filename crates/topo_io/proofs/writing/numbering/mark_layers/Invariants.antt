@@ -1,6 +1,6 @@
 use Rattle.std.proofs.Common.{◌≡◌, length, drop}
 use Rattle.std.specs.List.{flat_map}
-use Rattle.topo_io.specs.Arcs.{marked, named_in_shape, named_in_layer}
+use Rattle.topo_io.specs.Arcs.{marked, named_in_layer}
 use Rattle.topo_io.proofs.writing.numbering.mark_layers.Given as goal
 
 abbrev pub invariant-loop-layer : goal.invariant-loop-layer

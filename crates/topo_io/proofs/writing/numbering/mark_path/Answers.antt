@@ -1,4 +1,4 @@
-use Rattle.std.proofs.Common.{◌≡◌, ◌∙◌, ◌+◌, ap, sym, drop, List, Bool}
+use Rattle.std.proofs.Common.{◌∙◌, ◌+◌, ap, sym, drop, List, Bool}
 use Rattle.std.proofs.Math.ListN.{drop_of_length-le}
 use Rattle.topo_io.specs.Arcs.{marked, named_in_path}
 use Rattle.topo_io.proofs.MarkLemmas.{left_after}

@@ -1,4 +1,4 @@
-use Rattle.std.proofs.Common.{codes, ◌∙◌, ap, ◌++◌}
+use Rattle.std.proofs.Common.{codes}
 use Rattle.std.proofs.lemmas.Result.{on_ok_weaker}
 use Rattle.geojson_io.specs.Texts.{point_text}
 use Rattle.topo_io.proofs.TextLemmas.{one_written, many_written}

@@ -1,0 +1,35 @@
+use Rattle.std.proofs.Common.{◌∙◌, All, ap, sym, subst, map, List, Err}
+use Rattle.std.proofs.lemmas.List.Elements.{All-nil}
+use Rattle.std.proofs.lemmas.Result.{err_from_is_err_and}
+use Rattle.json_read.specs.Seen.{json_value}
+use Rattle.plane_model.specs.Drawing.{Polygon}
+use Rattle.geojson_io.specs.Geometries.{has_rings}
+use Rattle.topo_io.specs.Shapes.{polygon_of, several_polygons}
+use Rattle.topo_io.specs.Sound.{IsRing}
+use Rattle.topo_io.proofs.ReadLemmas.{IsKeptTo, all_kept, kept_stops, none_kept, one_kept_more, passes_on}
+use Rattle.topo_io.proofs.reading.shapes.several_polygons.Goals as goal
+
+pub returns-in_err-polygon-clause-read : goal.returns-in_err-polygon-clause-read
+returns-in_err-polygon-clause-read c =
+    let p = err_from_is_err_and c.from_residual.result c.from_residual.ensures.1 in
+    passes_on (several_polygons c.args.arcs.now (map json_value c.args.items.now)) (polygon_of c.args.arcs.now (json_value c.item-item.result)) c.args.left.now c.loop-item.left c.from_residual.result c.in_err-polygon.field-0.0 c.polygon_of.new.left c.polygon_of.new.left
+    (p.1 ∙ ap Err p.2) c.in_err-polygon.ensures.read
+    (λ why e. kept_stops has_rings (polygon_of c.args.arcs.now) c.args.items.now c.loop-item.item-index c.item-item.result c.args.left.now c.loop-item.polygons c.loop-item.left why c.loop-item-test.true c.item-item.is c.loop-item.invariant.0 e)
+
+pub loop-item-init : goal.loop-item-init
+loop-item-init c =
+    subst (λ (ps : List Polygon). IsKeptTo has_rings (polygon_of c.args.arcs.now) c.args.items.now 0 c.args.left.now ps c.args.left.now × All (All IsRing) ps) (sym c.new-polygons.ensures.empty)
+    (none_kept has_rings (polygon_of c.args.arcs.now) c.args.items.now c.args.left.now, All-nil (All IsRing))
+
+pub loop-item-preserved : goal.loop-item-preserved
+loop-item-preserved c = (
+  one_kept_more has_rings (polygon_of c.args.arcs.now) c.args.items.now c.loop-item.item-index c.item-item.result c.args.left.now c.loop-item.polygons c.add_polygon.new.polygons c.loop-item.left c.in_ok-polygon.polygon c.polygon_of.new.left
+      c.loop-item-test.true c.item-item.is c.loop-item.invariant.0 c.in_ok-polygon.ensures.read c.in_ok-add_polygon.ensures.exact,
+  c.in_ok-add_polygon.ensures.sound,
+)
+
+pub returns : goal.returns
+returns c = record {
+  read = all_kept has_rings (polygon_of c.args.arcs.now) c.args.items.now c.loop-item.item-index c.args.left.now c.loop-item.polygons c.loop-item.left c.loop-item-test.false c.loop-item.invariant.0;
+  sound = c.loop-item.invariant.1;
+}

@@ -1,0 +1,34 @@
+use Rattle.std.proofs.Common.{◌∙◌, All, ap, sym, subst, map, List, Err}
+use Rattle.std.proofs.lemmas.List.Elements.{All-nil}
+use Rattle.std.proofs.lemmas.Result.{err_from_is_err_and}
+use Rattle.json_read.specs.Seen.{json_value}
+use Rattle.plane_model.specs.Points.{Path}
+use Rattle.topo_io.specs.Stitching.{has_points, ring_of, rings_of}
+use Rattle.topo_io.specs.Sound.{IsRing}
+use Rattle.topo_io.proofs.ReadLemmas.{IsKeptTo, all_kept, kept_stops, none_kept, one_kept_more, passes_on}
+use Rattle.topo_io.proofs.reading.stitching.rings_of.Goals as goal
+
+pub returns-in_err-ring-clause-read : goal.returns-in_err-ring-clause-read
+returns-in_err-ring-clause-read c =
+    let p = err_from_is_err_and c.from_residual.result c.from_residual.ensures.1 in
+    passes_on (rings_of c.args.arcs.now (map json_value c.args.items.now)) (ring_of c.args.arcs.now (json_value c.item-item.result)) c.args.left.now c.loop-item.left c.from_residual.result c.in_err-ring.field-0.0 c.ring_of.new.left c.ring_of.new.left
+    (p.1 ∙ ap Err p.2) c.in_err-ring.ensures.read
+    (λ why e. kept_stops has_points (ring_of c.args.arcs.now) c.args.items.now c.loop-item.item-index c.item-item.result c.args.left.now c.loop-item.rings c.loop-item.left why c.loop-item-test.true c.item-item.is c.loop-item.invariant.0 e)
+
+pub loop-item-init : goal.loop-item-init
+loop-item-init c =
+    subst (λ (ps : List Path). IsKeptTo has_points (ring_of c.args.arcs.now) c.args.items.now 0 c.args.left.now ps c.args.left.now × All IsRing ps) (sym c.new-rings.ensures.empty)
+    (none_kept has_points (ring_of c.args.arcs.now) c.args.items.now c.args.left.now, All-nil IsRing)
+
+pub loop-item-preserved : goal.loop-item-preserved
+loop-item-preserved c = (
+  one_kept_more has_points (ring_of c.args.arcs.now) c.args.items.now c.loop-item.item-index c.item-item.result c.args.left.now c.loop-item.rings c.push_ring.new.rings c.loop-item.left c.in_ok-ring.ring c.ring_of.new.left
+      c.loop-item-test.true c.item-item.is c.loop-item.invariant.0 c.in_ok-ring.ensures.read c.in_ok-push_ring.ensures.exact,
+  c.in_ok-push_ring.ensures.sound,
+)
+
+pub returns : goal.returns
+returns c = record {
+  read = all_kept has_points (ring_of c.args.arcs.now) c.args.items.now c.loop-item.item-index c.args.left.now c.loop-item.rings c.loop-item.left c.loop-item-test.false c.loop-item.invariant.0;
+  sound = c.loop-item.invariant.1;
+}
