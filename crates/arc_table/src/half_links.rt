@@ -1,7 +1,7 @@
-ghost use Rattle.std.specs.Prelude.{◌≡◌, ◌+◌, ◌<◌, ◌≤◌, ◌^◌, All, IfOk, OnSome, IfSome, length, slice_get, vec_len};
-ghost use Rattle.plane_model.specs.Points.{Segment};
+ghost use Rattle.std.specs.Prelude.{◌≡◌, ◌+◌, ◌<◌, ◌≤◌, ◌^◌, true, All, IfOk, OnOk, OnSome, IfSome, length, slice_get, vec_len, map};
+ghost use Rattle.plane_model.specs.Points.{Segment, reversed};
 
-use grid_base::{LinkList, Pt};
+use grid_base::{Link, LinkList, Pt};
 use std::alloc::{AllocError, Global};
 use std::marker::Model;
 
@@ -13,7 +13,7 @@ pub struct Step {
 }
 
 impl Model for Step {
-    ghost use Rattle.plane_model.specs.Points.{Segment};
+    ghost use Rattle.plane_model.specs.Points.{Segment, reversed};
 
     ghost Value = { Segment };
 
@@ -40,6 +40,16 @@ impl Step {
     {
         self.to
     }
+
+    /// The step back.
+    pub fn back(&self) -> Step
+        ensures exact { result ≡ reversed self.now }
+    {
+        Step {
+            from: self.to,
+            to: self.from,
+        }
+    }
 }
 
 /// The steps along the links, in order, each with its twin, which goes back, and the step that follows it on its
@@ -59,9 +69,11 @@ pub struct Net {
 impl Net {
     /// The steps along the links, where `turns` are in order the vertices that are nodes whatever their number of links.
     pub fn of(alloc: Global, links: &LinkList, turns: &[Pt]) -> Result<Net, AllocError> {
-        let steps = steps_of(alloc, links)?;
-        let twins = twins_of(alloc, &steps)?;
-        let onward = onward_of(alloc, &steps, turns)?;
+        let linked = linked_steps(alloc, links.as_slice())?;
+        let guesses = twin_guesses(alloc, &linked)?;
+        let steps = steps_of(alloc, &linked)?;
+        let twins = twins_of(alloc, &steps, &guesses)?;
+        let onward = onward_of(alloc, &steps, &twins, turns)?;
         Ok(Net {
             steps,
             twins,
@@ -101,36 +113,125 @@ impl Net {
     }
 }
 
-// Both steps along each link, in order.
-fn steps_of(alloc: Global, links: &LinkList) -> Result<Vec<Step>, AllocError>
+/// A step along a link, with the number of the link.
+#[derive(Clone, Copy, PartialEq, Eq, PartialOrd, Ord, Debug)]
+pub struct LinkedStep {
+    pub step: Step,
+    pub link: u32,
+}
+
+// Both steps along each link, in order. The steps up stand in order already, as the links do.
+fn linked_steps(alloc: Global, links: &[Link]) -> Result<Vec<LinkedStep>, AllocError>
     ensures few { IfOk result (λ v. length v.items < 2 ^ 32) }
 {
-    let links = links.as_slice();
     if links.len() > (u32::MAX / 2) as usize {
         return Err(AllocError);
     }
     let mut steps = Vec::with_capacity(alloc, 2 * links.len())?;
-    for link in links {
-        steps.push(Step::new(link.low(), link.high()))?;
-        steps.push(Step::new(link.high(), link.low()))?;
-    }
+    push_up(&mut steps, links)?;
+    push_down(&mut steps, links)?;
     steps.sort()?;
     Ok(steps)
 }
 
-// The place of the twin of each step.
-fn twins_of(alloc: Global, steps: &[Step]) -> Result<Vec<u32>, AllocError>
+fn push_up(steps: &mut Vec<LinkedStep>, links: &[Link]) -> Result<(), AllocError>
+    requires few { length links.now < 2 ^ 31 }
+    ensures count { OnOk result (length steps.new.items ≡ length steps.old.items + length links.now) }
+{
+    for i in 0..links.len() {
+        steps.push(LinkedStep {
+            step: Step::new(links[i].low(), links[i].high()),
+            link: i as u32,
+        })?;
+    }
+    Ok(())
+}
+
+fn push_down(steps: &mut Vec<LinkedStep>, links: &[Link]) -> Result<(), AllocError>
+    requires few { length links.now < 2 ^ 31 }
+    ensures count { OnOk result (length steps.new.items ≡ length steps.old.items + length links.now) }
+{
+    for i in 0..links.len() {
+        steps.push(LinkedStep {
+            step: Step::new(links[i].high(), links[i].low()),
+            link: i as u32,
+        })?;
+    }
+    Ok(())
+}
+
+// Where the twin of each step is to be looked for first: the step up along a link comes before the step down.
+fn twin_guesses(alloc: Global, steps: &[LinkedStep]) -> Result<Vec<u32>, AllocError>
     requires { length steps.now < 2 ^ 32 }
+    ensures each { IfOk result (λ v. length v.items ≡ length steps.now) }
+{
+    let mut ups = Vec::with_capacity(alloc, steps.len() / 2)?;
+    let mut guesses = Vec::with_capacity(alloc, steps.len())?;
+    for h in 0..steps.len() {
+        guesses.push(h as u32)?;
+        if steps[h].step.from() < steps[h].step.to() {
+            ups.push(h as u32)?;
+        } else if let Some(up) = ups.get(steps[h].link as usize) {
+            pair(&mut guesses, *up as usize, h);
+        }
+    }
+    Ok(guesses)
+}
+
+fn pair(guesses: &mut Vec<u32>, g: usize, h: usize)
+    requires few { length guesses.old.items < 2 ^ 32 }
+    ensures each { length guesses.new.items ≡ length guesses.old.items }
+{
+    if g < guesses.len() && h < guesses.len() {
+        guesses[g] = h as u32;
+        guesses[h] = g as u32;
+    }
+}
+
+fn steps_of(alloc: Global, linked: &[LinkedStep]) -> Result<Vec<Step>, AllocError>
+    ensures { IfOk result (λ v. v.items ≡ map (λ s. s.step) linked.now) }
+{
+    linked.iter().map(|s| s.step).collect(alloc)
+}
+
+// The place of the twin of each step.
+fn twins_of(alloc: Global, steps: &[Step], guesses: &[u32]) -> Result<Vec<u32>, AllocError>
+    requires few { length steps.now < 2 ^ 32 }
+    requires guesses { length guesses.now ≡ length steps.now }
     ensures each { IfOk result (λ v. length v.items ≡ length steps.now) }
     ensures there { IfOk result (λ v. All (λ t. t < length steps.now) v.items) }
 {
     let mut twins = Vec::with_capacity(alloc, steps.len())?;
     for h in 0..steps.len() {
-        let step = steps[h];
-        let twin = place_of(steps, Step::new(step.to(), step.from())).unwrap_or(h);
+        let twin = place_from(steps, guesses[h] as usize, steps[h].back()).unwrap_or(h);
         twins.push(twin as u32)?;
     }
     Ok(twins)
+}
+
+// The place of a step, looked for at `guess` first.
+fn place_from(steps: &[Step], guess: usize, step: Step) -> Option<usize>
+    ensures there { IfSome result (λ h. h < length steps.now) }
+{
+    if guess < steps.len() && steps[guess] == step {
+        Some(guess)
+    } else {
+        place_of(steps, step)
+    }
+}
+
+/// The place of a step, looked for in the neighbourhood of `near` first; `None` where it goes along no link.
+pub fn place_near(steps: &[Step], near: usize, step: Step) -> Option<usize>
+    ensures there { IfSome result (λ h. h < length steps.now) }
+{
+    let low = near.saturating_sub(3).min(steps.len());
+    let high = near.saturating_add(4).min(steps.len());
+    for h in low..high {
+        if steps[h] == step {
+            return Some(h);
+        }
+    }
+    place_of(steps, step)
 }
 
 /// The place of a step; `None` where it goes along no link.
@@ -141,47 +242,58 @@ pub fn place_of(steps: &[Step], step: Step) -> Option<usize>
 }
 
 // The place of the step that follows each step on its arc.
-fn onward_of(alloc: Global, steps: &[Step], turns: &[Pt]) -> Result<Vec<u32>, AllocError>
-    requires { length steps.now < 2 ^ 32 }
+fn onward_of(
+    alloc: Global,
+    steps: &[Step],
+    twins: &[u32],
+    turns: &[Pt],
+) -> Result<Vec<u32>, AllocError>
+    requires few { length steps.now < 2 ^ 32 }
+    requires each { length twins.now ≡ length steps.now }
+    requires there { All (λ t. t < length steps.now) twins.now }
     ensures each { IfOk result (λ v. length v.items ≡ length steps.now) }
     ensures there { IfOk result (λ v. All (λ t. t < length steps.now) v.items) }
 {
     let mut onward = Vec::with_capacity(alloc, steps.len())?;
     for h in 0..steps.len() {
-        let next = step_after(steps, turns, h);
+        let next = step_after(steps, turns, h, twins[h] as usize);
         onward.push(next as u32)?;
     }
     Ok(onward)
 }
 
-// The place of the step that goes on from step `h`, where its end is no node, else `h`.
-fn step_after(steps: &[Step], turns: &[Pt], h: usize) -> usize
-    requires { h < length steps.now }
+// The place of the step that goes on from step `h`, whose twin is `twin`, where its end is no node, else `h`.
+fn step_after(steps: &[Step], turns: &[Pt], h: usize, twin: usize) -> usize
+    requires here { h < length steps.now }
+    requires twin { twin < length steps.now }
     ensures there { result < length steps.now }
 {
-    let step = steps[h];
-    let there = step.to();
-    let first = first_at(steps, there);
-    let count = count_at(&steps[first..], there);
-    if count != 2 || turns.binary_search(&there).is_ok() {
-        h
-    } else if steps[first].to() == step.from() {
-        first + 1
-    } else {
-        first
+    match other_at(steps, twin) {
+        Some(other) if turns.binary_search(&steps[h].to()).is_err() => other,
+        _ => h,
     }
 }
 
-// The place of the first step from `p`, or where it would stand.
-fn first_at(steps: &[Step], p: Pt) -> usize
-    ensures within { result ≤ length steps.now }
+// The place of the other step from the start of step `h`, where there are just two.
+fn other_at(steps: &[Step], h: usize) -> Option<usize>
+    requires here { h < length steps.now }
+    ensures there { IfSome result (λ k. k < length steps.now) }
 {
-    steps.partition_point(|s| s.from() < p)
+    let from = steps[h].from();
+    let is_second = 0 < h && starts_at(steps, h - 1, from);
+    let is_first = starts_at(steps, h + 1, from);
+    if is_first && !is_second && !starts_at(steps, h + 2, from) {
+        Some(h + 1)
+    } else if is_second && !is_first && !(1 < h && starts_at(steps, h - 2, from)) {
+        Some(h - 1)
+    } else {
+        None
+    }
 }
 
-// How many steps from `p` stand first.
-fn count_at(steps: &[Step], p: Pt) -> usize
-    ensures within { result ≤ length steps.now }
+// There is a step at `k`, and it starts at `p`.
+fn starts_at(steps: &[Step], k: usize, p: Pt) -> bool
+    ensures there { result ≡ true → k < length steps.now }
 {
-    steps.partition_point(|s| s.from() == p)
+    k < steps.len() && steps[k].from() == p
 }

@@ -3,7 +3,7 @@ ghost use Rattle.arc_table.specs.Direction.{IsForward};
 ghost use Rattle.arc_table.specs.Numbering.{IsWay, IsNumbering, points_of_way};
 
 use crate::direction::turn_forward;
-use crate::half_links::{Net, Step, place_of};
+use crate::half_links::{Net, Step, place_near};
 use grid_base::{FeatId, Pt, PtList, RingsList, Snapped};
 use span_pool::SpanPool;
 use std::alloc::{AllocError, Global};
@@ -74,23 +74,39 @@ fn number_path(numbering: &mut Numbering, net: &Net, path: &[Pt]) -> Result<(), 
     requires { IsNumbering net.now numbering.old }
     ensures { OnOk result (IsNumbering net.now numbering.new) }
 {
+    let mut near = 0;
     for i in 1..path.len() {
-        number_step(numbering, net, Step::new(path[i - 1], path[i]))?;
+        near = number_step(numbering, net, near, Step::new(path[i - 1], path[i]))?;
     }
     Ok(())
 }
 
-// Gives the arc along a step the next number, where it has none.
-fn number_step(numbering: &mut Numbering, net: &Net, step: Step) -> Result<(), AllocError>
+// Gives the arc along a step the next number, where it has none. The step is looked for in the neighbourhood of
+// `near`, and the answer is where to look for the step that follows.
+fn number_step(
+    numbering: &mut Numbering,
+    net: &Net,
+    near: usize,
+    step: Step,
+) -> Result<usize, AllocError>
     requires { IsNumbering net.now numbering.old }
     ensures { OnOk result (IsNumbering net.now numbering.new) }
 {
-    let Some(h) = place_of(&net.steps, step) else {
-        return Ok(());
+    let Some(h) = place_near(&net.steps, near, step) else {
+        return Ok(near);
     };
-    if numbering.is_numbered[h] {
-        return Ok(());
+    if !numbering.is_numbered[h] {
+        number_along(numbering, net, h)?;
     }
+    Ok(net.twin(h))
+}
+
+// Gives the arc along step `h` the next number.
+fn number_along(numbering: &mut Numbering, net: &Net, h: usize) -> Result<(), AllocError>
+    requires there { h < length net.now.steps.items }
+    requires numbering { IsNumbering net.now numbering.old }
+    ensures { OnOk result (IsNumbering net.now numbering.new) }
+{
     let start = start_of(net, h);
     let steps = mark_way(&mut numbering.is_numbered, net, start);
     let way = Way {

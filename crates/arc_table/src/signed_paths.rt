@@ -14,10 +14,14 @@ impl ArcTable {
     {
         let points = path.as_slice();
         let mut arcs = SignedPath::new(alloc);
+        // An arc begins at each node on the way, so no step before the first node begins one, and none inside an arc.
+        let mut inside = 0;
         for i in 1..points.len() {
-            // An arc begins at each node on the way, so no step before the first node begins one.
-            if let Some(arc) = self.begun_by(Step::new(points[i - 1], points[i])) {
+            if inside > 0 {
+                inside -= 1;
+            } else if let Some(arc) = self.begun_by(Step::new(points[i - 1], points[i])) {
                 arcs.push(arc)?;
+                inside = self.points_of(arc.id()).len() - 2;
             }
         }
         Ok(arcs)
