@@ -1,10 +1,10 @@
 -- The drawing of one link: its links are that link, which is an arrangement.
-use Rattle.std.proofs.Common.{◌≡◌, ◌⊎◌, inl, inr, Bool, true, false, List, [], ◌∷◌, refl, sym, ap, ◌∙◌, subst, Contains, pos, arith}
+use Rattle.std.proofs.Common.{◌≡◌, inl, inr, Bool, true, false, List, [], ◌∷◌, refl, sym, ap, ◌∙◌, subst, Contains}
 use Rattle.std.specs.Prelude.{if◌then◌else◌}
 use Rattle.std.proofs.lemmas.List.Elements.{All-cons, All-nil}
 use Rattle.lists.proofs.Members.{Contains-cases, Contains-nil}
 use Rattle.plane_algebra.proofs.Order.{order}
-use Rattle.plane_model.specs.Points.{GridPoint, Segment, Path, IsOn, at, same_point, is_before, reversed, SamePlace}
+use Rattle.plane_model.specs.Points.{GridPoint, Segment, IsOn, at, same_point, is_before, reversed, SamePlace}
 use Rattle.plane_model.specs.Drawing.{Drawing, vertices_of}
 use Rattle.plane_model.specs.Snapped.{links_of}
 use Rattle.plane_model.specs.Arrangement.{IsBefore, IsArrangement, IsEnd}

@@ -1,3 +1,4 @@
+pub mod Around
 pub mod Direction
 pub mod FirstSteps
 pub mod Numbering

@@ -33,13 +33,13 @@ fn is_backward(points: &[Pt]) -> bool
         || is_same(points[last], points[0]) && is_before(points[last - 1], points[1])
 }
 
-fn is_before(p: Pt, q: Pt) -> bool
+pub fn is_before(p: Pt, q: Pt) -> bool
     ensures { result ≡ is_before p q }
 {
     p < q
 }
 
-fn is_same(p: Pt, q: Pt) -> bool
+pub fn is_same(p: Pt, q: Pt) -> bool
     ensures { result ≡ same_point p q }
 {
     p == q

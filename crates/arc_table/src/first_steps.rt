@@ -1,7 +1,9 @@
-ghost use Rattle.std.specs.Prelude.{◌≡◌, ◌+◌, ◌<◌, ◌≤◌, All, IfOk, length};
-ghost use Rattle.arc_table.specs.FirstSteps.{IsThere};
+ghost use Rattle.std.specs.Prelude.{◌≡◌, ◌+◌, ◌<◌, ◌≤◌, All, IfOk, length, map};
+ghost use Rattle.std.specs.Ordering.{is_lt};
+ghost use Rattle.arc_table.specs.Around.{signed_below, first_of, half_of, comes_round_first, comes_first};
 ghost use Rattle.plane_model.specs.Arcs.{goes_up};
 
+use crate::direction::{is_before, is_same};
 use crate::half_links::Step;
 use grid_base::{ArcId, Pt, SignedArc, turn};
 use span_pool::{SpanId, SpanPool};
@@ -18,7 +20,7 @@ pub struct FirstStep {
 /// The first steps of all arcs, of each forward and then reversed.
 pub fn first_steps(alloc: Global, arcs: &SpanPool) -> Result<Vec<FirstStep>, AllocError>
     requires { All (λ arc. 1 < length arc) arcs.now.spans }
-    ensures there { IfOk result (λ v. All (IsThere (length arcs.now.spans)) v.items) }
+    ensures exact { IfOk result (λ v. v.items ≡ map (first_of arcs.now.spans) (signed_below (length arcs.now.spans))) }
 {
     let mut firsts = Vec::new(alloc);
     for n in 0..arcs.count() {
@@ -41,16 +43,44 @@ fn starting(from: Pt, to: Pt, arc: SignedArc) -> FirstStep
 }
 
 /// The order by start, and at one start counterclockwise from the direction of the positive x axis.
-pub fn turning(a: &FirstStep, b: &FirstStep) -> Ordering {
-    let by_start = a.step.from().cmp(&b.step.from());
-    if by_start != Ordering::Equal {
-        return by_start;
+pub fn turning(a: &FirstStep, b: &FirstStep) -> Ordering
+    ensures less { is_lt result ≡ comes_first a.now.step b.now.step }
+{
+    if comes_first(&a.step, &b.step) {
+        Ordering::Less
+    } else if comes_first(&b.step, &a.step) {
+        Ordering::Greater
+    } else {
+        Ordering::Equal
     }
-    let by_half = goes_up(&b.step).cmp(&goes_up(&a.step));
-    if by_half != Ordering::Equal {
-        return by_half;
+}
+
+fn comes_first(a: &Step, b: &Step) -> bool
+    ensures { result ≡ comes_first a.now b.now }
+{
+    is_before(a.from(), b.from()) || is_same(a.from(), b.from()) && comes_round_first(a, b)
+}
+
+// Counterclockwise from the direction of the positive x axis, for steps from one point.
+fn comes_round_first(a: &Step, b: &Step) -> bool
+    requires { a.now.start ≡ b.now.start }
+    ensures { result ≡ comes_round_first a.now b.now }
+{
+    let (half, other) = (half_of(a), half_of(b));
+    half < other || half == other && 0 < turn(a.from(), a.to(), b.to())
+}
+
+// 0 for a step up or along the positive x axis, 1 for another, and 2 for one that stays where it is.
+fn half_of(step: &Step) -> u32
+    ensures { result ≡ half_of step.now }
+{
+    if goes_up(step) {
+        0
+    } else if is_same(step.from(), step.to()) {
+        2
+    } else {
+        1
     }
-    0i128.cmp(&turn(a.step.from(), a.step.to(), b.step.to()))
 }
 
 // The step goes up, or along the positive x axis.

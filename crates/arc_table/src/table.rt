@@ -1,7 +1,9 @@
 ghost use Rattle.std.specs.Prelude.{◌≡◌, ◌+◌, ◌<◌, ◌≤◌, [], ◌++◌, All, IfOk, IfSome, OnOk, Some, length, map, slice_get, slice_index_or};
 ghost use Rattle.plane_model.specs.Arcs.{points_of};
 ghost use Rattle.arc_table.specs.Direction.{IsForward};
+ghost use Rattle.arc_table.specs.Around.{IsAround};
 
+use crate::direction::{is_before, is_same};
 use crate::first_steps::{FirstStep, first_steps, turning};
 use crate::half_links::{Net, Step};
 use crate::nodes::turns_of;
@@ -37,6 +39,7 @@ impl Model for ArcTable {
     ghost use Rattle.plane_model.specs.Points.{GridPoint};
     ghost use Rattle.arc_table.specs.Direction.{IsForward};
     ghost use Rattle.arc_table.specs.FirstSteps.{IsThere};
+    ghost use Rattle.arc_table.specs.Around.{IsTurned};
 
     ghost Value = { List (List GridPoint) };
 
@@ -47,7 +50,8 @@ impl Model for ArcTable {
         × (length t.starts.items ≡ length t.outs.items)
         × All (λ a. a.arc < length t.arcs.spans) t.outs.items
         × All (λ v. v.arc < length t.arcs.spans) t.vertices.items
-        × All IsForward t.arcs.spans };
+        × All IsForward t.arcs.spans
+        × IsTurned t.arcs.spans t.starts.items t.outs.items };
 }
 
 impl ArcTable {
@@ -118,9 +122,10 @@ impl ArcTable {
     /// included. Takes no memory.
     pub fn around(&self, p: Pt) -> &[SignedArc]
         ensures there { All (λ a. a.arc < length self.now) result.now }
+        ensures exact { IsAround self.now p result.now }
     {
-        let first = self.starts.partition_point(|q| *q < p);
-        let count = self.starts[first..].partition_point(|q| *q == p);
+        let first = self.starts.partition_point(|q| is_before(*q, p));
+        let count = self.starts[first..].partition_point(|q| is_same(*q, p));
         &self.outs[first..first + count]
     }
 

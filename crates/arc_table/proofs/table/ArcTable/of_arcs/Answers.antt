@@ -1,13 +1,18 @@
-use Rattle.std.proofs.Common.{◌≡◌, ◌<◌, ℕ, List, length, map, sym, ap, ◌∙◌}
+use Rattle.std.proofs.Common.{rules, ◌≡◌, ◌<◌, ℕ, List, length, map, sym, ap, subst, ◌∙◌}
+use Rattle.std.specs.List.Sorted.{IsPermutation}
 use Rattle.std.proofs.lemmas.List.{length-map}
 use Rattle.std.proofs.lemmas.List.Elements.{All-same}
-use Rattle.std.proofs.lemmas.List.Sorted.{All-permutation}
+use Rattle.std.proofs.lemmas.List.Sorted.{All-permutation, answers_always}
 use Rattle.plane_model.specs.Points.{GridPoint}
 use Rattle.plane_model.specs.Arcs.{SignedArc}
 use Rattle.arc_table.specs.FirstSteps.{IsThere}
+use Rattle.arc_table.specs.Around.{signed_below, comes_first, first_of}
 use Rattle.arc_table.specs.declared.first_steps.FirstStep.{FirstStep}
 use Rattle.arc_table.specs.declared.table.ArcVertex.{ArcVertex}
 use Rattle.arc_table.proofs.Everywhere.{All-mapped}
+use Rattle.arc_table.proofs.SignedArcs.{firsts_there}
+use Rattle.arc_table.proofs.TurnOrder.{comes_first-IsStrictWeakOrder}
+use Rattle.arc_table.proofs.TurnTable.{is_turned}
 use Rattle.arc_table.proofs.table.ArcTable.of_arcs.Goals as goal
 
 pub invariant_of-result : goal.invariant_of-result
@@ -16,13 +21,19 @@ invariant_of-result c =
     let turned = c.sort_by.new.self.items in
     let there = IsThere n in
     let below : SignedArc → Type 0 = λ a. a.arc < n in
-    let turned_there = All-permutation there c.in_ok-by_turn.by_turn.items turned c.sort_by.ensures.permutation c.in_ok-by_turn.ensures.there in
+    let all_there = firsts_there c.args.arcs.spans in
+    let made : List FirstStep = map (first_of c.args.arcs.spans) (signed_below n) in
+    let moved : IsPermutation made turned = subst (λ (fs : List FirstStep). IsPermutation fs turned) c.in_ok-by_turn.ensures.exact c.sort_by.ensures.permutation in
+    let in_order = c.in_ok-sort_by.ensures.sorted (λ (f : FirstStep) (g : FirstStep). comes_first f.step g.step) (comes_first-IsStrictWeakOrder (λ (f : FirstStep). f.step))
+    (answers_always _ _ _ (λ f a r g k. search rules)) in
+    let turned_there = All-permutation there made turned moved all_there in
     let starts : c.in_ok-starts.starts.items ≡ map (λ (f : FirstStep). f.step.start) turned = c.in_ok-starts.ensures ∙ ap (map (λ (f : FirstStep). f.step.start)) c.deref.ensures.value in
     let outs : c.in_ok-outs.outs.items ≡ map (λ (f : FirstStep). f.arc) turned = c.in_ok-outs.ensures ∙ ap (map (λ (f : FirstStep). f.arc)) c.deref-2.ensures.value in (
       c.requires.long,
-      All-permutation there c.in_ok-firsts.firsts.items c.sort.new.self.items c.sort.ensures.permutation c.in_ok-firsts.ensures.there,
+      All-permutation there made c.sort.new.self.items (subst (λ (fs : List FirstStep). IsPermutation fs c.sort.new.self.items) c.in_ok-firsts.ensures.exact c.sort.ensures.permutation) all_there,
       ap (λ (xs : List GridPoint). length xs) starts ∙ length-map turned (λ (f : FirstStep). f.step.start) ∙ sym (length-map turned (λ (f : FirstStep). f.arc)) ∙ sym (ap (λ (xs : List SignedArc). length xs) outs),
       All-same below c.in_ok-outs.outs.items (map (λ (f : FirstStep). f.arc) turned) outs (All-mapped there below (λ (f : FirstStep). f.arc) (λ f h. h) turned turned_there),
       All-permutation (λ (v : ArcVertex). v.arc < n) c.in_ok-vertices.vertices.items c.sort-2.new.self.items c.sort-2.ensures.permutation c.in_ok-vertices.ensures.there,
       c.requires.forward,
+      is_turned c.args.arcs.spans turned moved in_order c.in_ok-starts.starts.items c.in_ok-outs.outs.items starts outs,
     )
