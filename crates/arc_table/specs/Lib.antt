@@ -3,3 +3,4 @@ pub mod Direction
 pub mod FirstSteps
 pub mod Numbering
 pub mod OneLink
+pub mod Steps

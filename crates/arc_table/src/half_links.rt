@@ -1,6 +1,9 @@
-ghost use Rattle.std.specs.Prelude.{◌≡◌, ◌+◌, ◌<◌, ◌≤◌, ◌^◌, true, All, IfOk, OnOk, OnSome, IfSome, length, slice_get, vec_len, map};
+ghost use Rattle.std.specs.Prelude.{◌≡◌, ◌+◌, ◌<◌, ◌≤◌, ◌^◌, ◌++◌, true, All, IfOk, OnOk, OnSome, IfSome, length, slice_get, vec_len, map};
 ghost use Rattle.plane_model.specs.Points.{Segment, reversed};
+ghost use Rattle.std.specs.List.Sorted.{IsSorted};
+ghost use Rattle.arc_table.specs.Steps.{step_cmp, AreSteps, IsPlace, HasBoth, AreTwins};
 
+use crate::direction::is_same;
 use grid_base::{Link, LinkList, Pt};
 use std::alloc::{AllocError, Global};
 use std::marker::Model;
@@ -64,11 +67,15 @@ pub struct Net {
     ghost onward_each: { length onward.items ≡ length steps.items },
     ghost twins_there: { All (λ t. t < length steps.items) twins.items },
     ghost onward_there: { All (λ t. t < length steps.items) onward.items },
+    ghost sorted: { IsSorted step_cmp steps.items },
+    ghost twins_back: { AreTwins steps.items twins.items (length steps.items) },
 }
 
 impl Net {
     /// The steps along the links, where `turns` are in order the vertices that are nodes whatever their number of links.
-    pub fn of(alloc: Global, links: &LinkList, turns: &[Pt]) -> Result<Net, AllocError> {
+    pub fn of(alloc: Global, links: &LinkList, turns: &[Pt]) -> Result<Net, AllocError>
+        ensures steps { IfOk result (λ n. AreSteps links.now n.steps.items) }
+    {
         let linked = linked_steps(alloc, links.as_slice())?;
         let guesses = twin_guesses(alloc, &linked)?;
         let steps = steps_of(alloc, &linked)?;
@@ -99,6 +106,7 @@ impl Net {
     /// The place of the step that goes back.
     pub fn twin(&self, h: usize) -> usize
         requires { h < length self.now.steps.items }
+        ensures back { (s : Segment) → slice_get self.now.steps.items h ≡ Some s → slice_get self.now.steps.items result ≡ Some (reversed s) }
         ensures there { result < length self.now.steps.items }
     {
         self.twins[h] as usize
@@ -122,6 +130,7 @@ pub struct LinkedStep {
 
 // Both steps along each link, in order. The steps up stand in order already, as the links do.
 fn linked_steps(alloc: Global, links: &[Link]) -> Result<Vec<LinkedStep>, AllocError>
+    ensures exact { IfOk result (λ v. AreSteps links.now (map (λ s. s.step) v.items)) }
     ensures few { IfOk result (λ v. length v.items < 2 ^ 32) }
 {
     if links.len() > (u32::MAX / 2) as usize {
@@ -137,6 +146,7 @@ fn linked_steps(alloc: Global, links: &[Link]) -> Result<Vec<LinkedStep>, AllocE
 fn push_up(steps: &mut Vec<LinkedStep>, links: &[Link]) -> Result<(), AllocError>
     requires few { length links.now < 2 ^ 31 }
     ensures count { OnOk result (length steps.new.items ≡ length steps.old.items + length links.now) }
+    ensures pushed { OnOk result (map (λ s. s.step) steps.new.items ≡ map (λ s. s.step) steps.old.items ++ links.now) }
 {
     for i in 0..links.len() {
         steps.push(LinkedStep {
@@ -150,6 +160,7 @@ fn push_up(steps: &mut Vec<LinkedStep>, links: &[Link]) -> Result<(), AllocError
 fn push_down(steps: &mut Vec<LinkedStep>, links: &[Link]) -> Result<(), AllocError>
     requires few { length links.now < 2 ^ 31 }
     ensures count { OnOk result (length steps.new.items ≡ length steps.old.items + length links.now) }
+    ensures pushed { OnOk result (map (λ s. s.step) steps.new.items ≡ map (λ s. s.step) steps.old.items ++ map reversed links.now) }
 {
     for i in 0..links.len() {
         steps.push(LinkedStep {
@@ -198,36 +209,75 @@ fn steps_of(alloc: Global, linked: &[LinkedStep]) -> Result<Vec<Step>, AllocErro
 fn twins_of(alloc: Global, steps: &[Step], guesses: &[u32]) -> Result<Vec<u32>, AllocError>
     requires few { length steps.now < 2 ^ 32 }
     requires guesses { length guesses.now ≡ length steps.now }
+    requires sorted { IsSorted step_cmp steps.now }
+    requires both { HasBoth steps.now }
+    ensures back { IfOk result (λ v. AreTwins steps.now v.items (length steps.now)) }
     ensures each { IfOk result (λ v. length v.items ≡ length steps.now) }
     ensures there { IfOk result (λ v. All (λ t. t < length steps.now) v.items) }
 {
     let mut twins = Vec::with_capacity(alloc, steps.len())?;
     for h in 0..steps.len() {
-        let twin = place_from(steps, guesses[h] as usize, steps[h].back()).unwrap_or(h);
+        let twin = twin_of(steps, h, guesses[h] as usize);
         twins.push(twin as u32)?;
     }
     Ok(twins)
 }
 
+// The place of the twin of step `h`, looked for at `guess` first.
+fn twin_of(steps: &[Step], h: usize, guess: usize) -> usize
+    requires here { h < length steps.now }
+    requires sorted { IsSorted step_cmp steps.now }
+    requires both { HasBoth steps.now }
+    ensures back { (s : Segment) → slice_get steps.now h ≡ Some s → slice_get steps.now result ≡ Some (reversed s) }
+    ensures there { result < length steps.now }
+{
+    match place_from(steps, guess, steps[h].back()) {
+        Some(twin) => twin,
+        None => h,
+    }
+}
+
 // The place of a step, looked for at `guess` first.
 fn place_from(steps: &[Step], guess: usize, step: Step) -> Option<usize>
+    requires sorted { IsSorted step_cmp steps.now }
+    ensures exact { IsPlace steps.now step result }
     ensures there { IfSome result (λ h. h < length steps.now) }
 {
-    if guess < steps.len() && steps[guess] == step {
+    if stands_at(steps, guess, step) {
         Some(guess)
     } else {
         place_of(steps, step)
     }
 }
 
+// The step stands at `h`.
+fn stands_at(steps: &[Step], h: usize, step: Step) -> bool
+    ensures there { result ≡ true → h < length steps.now }
+    ensures found { result ≡ true → slice_get steps.now h ≡ Some step }
+{
+    match steps.get(h) {
+        Some(found) => is_step(*found, step),
+        None => false,
+    }
+}
+
+#[tactic(auto, using(crate::proofs::StepSearch::same_ends))]
+fn is_step(a: Step, b: Step) -> bool
+    ensures same { result ≡ true → a ≡ b }
+{
+    is_same(a.from(), b.from()) && is_same(a.to(), b.to())
+}
+
 /// The place of a step, looked for in the neighbourhood of `near` first; `None` where it goes along no link.
 pub fn place_near(steps: &[Step], near: usize, step: Step) -> Option<usize>
+    requires sorted { IsSorted step_cmp steps.now }
+    ensures exact { IsPlace steps.now step result }
     ensures there { IfSome result (λ h. h < length steps.now) }
 {
     let low = near.saturating_sub(3).min(steps.len());
     let high = near.saturating_add(4).min(steps.len());
     for h in low..high {
-        if steps[h] == step {
+        if stands_at(steps, h, step) {
             return Some(h);
         }
     }
@@ -236,9 +286,14 @@ pub fn place_near(steps: &[Step], near: usize, step: Step) -> Option<usize>
 
 /// The place of a step; `None` where it goes along no link.
 pub fn place_of(steps: &[Step], step: Step) -> Option<usize>
+    requires sorted { IsSorted step_cmp steps.now }
+    ensures exact { IsPlace steps.now step result }
     ensures there { IfSome result (λ h. h < length steps.now) }
 {
-    steps.binary_search(&step).ok()
+    match steps.binary_search(&step) {
+        Ok(h) => Some(h),
+        Err(_) => None,
+    }
 }
 
 // The place of the step that follows each step on its arc.

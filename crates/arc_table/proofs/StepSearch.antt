@@ -1,0 +1,117 @@
+-- A search in sorted steps.
+use Rattle.std.proofs.Common.{◌≡◌, inl, inr, refl, sym, ap, ◌∙◌, subst, ℕ, true, ◌&&◌, ◌++◌, ◌∷◌, ◌+◌, ◌<◌, false, List, [], map, length, get_or, Some, None, Contains, ◌<ℤ◌, Ordering, int_cmp, arith}
+use Rattle.std.specs.Prelude.{slice_get}
+use Rattle.std.specs.List.{HoldsAt}
+use Rattle.std.specs.List.Sorted.{IsSorted, IsNonDecreasingBy, IsPartitionPoint}
+use Rattle.std.specs.Ordering.{ordering_then, ordering_index, is_lt, nat_cmp, MatchOrdering}
+use Rattle.std.specs.declared.cmp.Ordering.TheVariants.{Less, Equal, Greater}
+use Rattle.std.specs.Cmp.{IsTotalOrder}
+use Rattle.std.proofs.lemmas.Bool.{cases_lt}
+use Rattle.std.proofs.lemmas.Cmp.{int_cmp_total, on_total, then_total, int_ranked, tied_itself}
+use Rattle.std.proofs.lemmas.List.{get_or-map, length-map}
+use Rattle.std.proofs.lemmas.List.Sorted.{searchable_from_sorted, Contains-permutation, IsPermutation-sym}
+use Rattle.std.proofs.lemmas.Option.{slice_get-get_or, slice_get_cases, get_or_from_slice_get}
+use Rattle.std.proofs.lemmas.Bool.{and_parts}
+use Rattle.std.proofs.Math.ListN.{get_or-append}
+use Rattle.std.proofs.lemmas.List.Elements.{Contains-append_left, Contains-append_right, Contains-append_cases}
+use Rattle.lists.proofs.Members.{Contains-map, map-Contains}
+use Rattle.plane_model.specs.Points.{GridPoint, Segment, same_point, reversed}
+use Rattle.plane_model.proofs.PointOrder.{point_is, segment_is, same_point_from}
+use Rattle.arc_table.specs.Steps.{point_cmp, step_cmp, AreSteps, HasBoth, AreTwins}
+use Rattle.arc_table.specs.declared.half_links.LinkedStep.{LinkedStep}
+
+point_cmp-total : IsTotalOrder point_cmp
+point_cmp-total = then_total (on_total (λ (p : GridPoint). p.x) int_cmp_total) (on_total (λ (p : GridPoint). p.y) int_cmp_total)
+
+pub step_cmp-total : IsTotalOrder step_cmp
+step_cmp-total = then_total (on_total (λ (s : Segment). s.start) point_cmp-total) (on_total (λ (s : Segment). s.stop) point_cmp-total)
+
+same_point_is : (p q : GridPoint) → point_cmp p q ≡ Equal → p ≡ q
+same_point_is p q e = go (int_cmp p.x q.x) (int_cmp p.y q.y) (int_ranked p.x q.x (int_cmp p.x q.x) refl) (int_ranked p.y q.y (int_cmp p.y q.y) refl) e
+  where
+    go : (a b : Ordering) → MatchOrdering a (p.x <ℤ q.x) (p.x ≡ q.x) (q.x <ℤ p.x) → MatchOrdering b (p.y <ℤ q.y) (p.y ≡ q.y) (q.y <ℤ p.y) → ordering_then a b ≡ Equal → p ≡ q
+    go Less b h k e = absurd cc
+    go Equal Less h k e = absurd cc
+    go Equal Equal h k e = point_is p q h k
+    go Equal Greater h k e = absurd cc
+    go Greater b h k e = absurd cc
+
+same_step_is : (s t : Segment) → step_cmp s t ≡ Equal → s ≡ t
+same_step_is s t e = go (point_cmp s.start t.start) (point_cmp s.stop t.stop) refl refl e
+  where
+    go : (a b : Ordering) → point_cmp s.start t.start ≡ a → point_cmp s.stop t.stop ≡ b → ordering_then a b ≡ Equal → s ≡ t
+    go Less b f g e = absurd cc
+    go Equal Less f g e = absurd cc
+    go Equal Equal f g e = segment_is s t (same_point_is s.start t.start f) (same_point_is s.stop t.stop g)
+    go Equal Greater f g e = absurd cc
+    go Greater b f g e = absurd cc
+
+pub search_found : (xs : List Segment) (x : Segment) (i : ℕ) → i < length xs → HoldsAt (λ y. step_cmp y x ≡ Equal) xs i → slice_get xs i ≡ Some x
+search_found xs x i l h = slice_get-get_or xs i x l ∙ ap Some (same_step_is (get_or xs i x) x (h x))
+
+pub search_misses : (xs : List Segment) (x : Segment) → IsSorted step_cmp xs → (i : ℕ)
+    → (IsNonDecreasingBy (λ y. ordering_index (step_cmp y x)) xs → IsPartitionPoint (λ y. step_cmp y x ≡ Less) (λ y. step_cmp y x ≡ Greater) xs i) → Contains xs x → ⊥
+search_misses xs x up i h c =
+    let s = h (searchable_from_sorted step_cmp-total (λ (y : Segment). y) xs x up) in
+    let itself = tied_itself step_cmp-total x in
+    elim (cases_lt c.0 i) [
+      | inl m ↦ (let e : Less ≡ Equal = sym (subst (λ (y : Segment). step_cmp y x ≡ Less) c.2 (s.0 c.0 x (omega arith) m)) ∙ itself in absurd (cc))
+      | inr m ↦ (let e : Greater ≡ Equal = sym (subst (λ (y : Segment). step_cmp y x ≡ Greater) c.2 (s.1 c.0 x m c.1)) ∙ itself in absurd (cc))
+    ]
+
+-- ---- steps with the numbers of their links
+
+abbrev linked_cmp : LinkedStep → LinkedStep → Ordering
+linked_cmp a b = ordering_then (step_cmp a.step b.step) (nat_cmp a.link b.link)
+
+first_counts : (o p : Ordering) → is_lt (ordering_then o p) ≡ false → is_lt o ≡ false
+first_counts Less p e = e
+first_counts Equal p e = refl
+first_counts Greater p e = refl
+
+pub sorted_steps : (xs : List LinkedStep) → IsSorted linked_cmp xs → IsSorted step_cmp (map (λ (s : LinkedStep). s.step) xs)
+sorted_steps xs up k d l m =
+    let step : LinkedStep → Segment = λ s. s.step in
+    let n = length-map xs step in
+    let none : LinkedStep = record { step = d; link = 0 } in
+    let here : k < length xs = omega arith in
+    let next : k + 1 < length xs = omega arith in
+    let e = get_or-map step xs k none d here in
+    let f = get_or-map step xs (k + 1) none d next in
+    (λ i. is_lt (step_cmp (f i) (e i))) ∙ first_counts (step_cmp (get_or xs (k + 1) none).step (get_or xs k none).step) (nat_cmp (get_or xs (k + 1) none).link (get_or xs k none).link) (up k none l next)
+
+pub same_ends : (s t : Segment) → (same_point s.start t.start && same_point s.stop t.stop) ≡ true → s ≡ t
+same_ends s t e =
+    let p = and_parts (same_point s.start t.start) (same_point s.stop t.stop) e in
+    segment_is s t (same_point_from s.start t.start p.0) (same_point_from s.stop t.stop p.1)
+
+-- ---- both steps along each link
+
+pub both_of : (S steps : List Segment) → AreSteps S steps → HasBoth steps
+both_of S steps h s c =
+    Contains-permutation (S ++ map reversed S) steps (reversed s) h.all
+    (elim (Contains-append_cases S (map reversed S) s (Contains-permutation steps (S ++ map reversed S) s (IsPermutation-sym (S ++ map reversed S) steps h.all) c)) [
+      | inl d ↦ Contains-append_right S (map reversed S) (reversed s) (Contains-map reversed S s d)
+      | inr d ↦ (let m = map-Contains reversed S s d in Contains-append_left S (map reversed S) (reversed s) (subst (λ (k : Segment). Contains S (reversed k)) m.2 m.1))
+    ])
+
+pub contains_at : (xs : List Segment) (h : ℕ) (s : Segment) → slice_get xs h ≡ Some s → Contains xs s
+contains_at xs h s e = elim (slice_get_cases xs h).1 [
+  | inl r ↦ (h, r.1, get_or_from_slice_get xs h s s e)
+  | inr r ↦ absurd (let f : Some s ≡ None = sym e ∙ r.1 in cc)
+]
+
+pub one_twin_more : (steps : List Segment) (twins all : List ℕ) (n t : ℕ) → length twins ≡ n → all ≡ twins ++ t ∷ [] → AreTwins steps twins n
+    → ((s : Segment) → slice_get steps n ≡ Some s → slice_get steps t ≡ Some (reversed s)) → AreTwins steps all (n + 1)
+one_twin_more steps twins all n t l a before last h s m e = elim (cases_lt h n) [
+  | inl k ↦ ap (λ (xs : List ℕ). slice_get steps (get_or xs h 0)) a ∙ ap (slice_get steps) (get_or-append twins (t ∷ []) 0 h (omega arith)) ∙ before h s k e
+  | inr k ↦ (
+      let f : h ≡ n = omega arith in
+      let g : h ≡ length twins = omega arith in
+      ap (λ (xs : List ℕ). slice_get steps (get_or xs h 0)) a ∙ ap (λ (j : ℕ). slice_get steps (get_or (twins ++ t ∷ []) j 0)) g ∙ ap (slice_get steps) (at_end twins t)
+      ∙ last s (ap (slice_get steps) (sym f) ∙ e))
+]
+  where
+    at_end : (xs : List ℕ) (x : ℕ) → get_or (xs ++ x ∷ []) (length xs) 0 ≡ x
+    at_end [] x = refl
+    at_end (y ∷ xs) x = at_end xs x

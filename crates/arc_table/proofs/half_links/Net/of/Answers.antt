@@ -1,0 +1,28 @@
+use Rattle.std.proofs.Common.{◌≡◌, ◌<◌, ℕ, List, All, length, map, ap, sym, subst, ◌∙◌}
+use Rattle.std.specs.List.Sorted.{IsSorted}
+use Rattle.plane_model.specs.Points.{Segment}
+use Rattle.arc_table.specs.Steps.{step_cmp, HasBoth, AreTwins}
+use Rattle.arc_table.specs.declared.half_links.LinkedStep.{LinkedStep}
+use Rattle.arc_table.proofs.StepSearch.{both_of}
+use Rattle.arc_table.proofs.half_links.Net.of.Goals as goal
+
+pub twins_of-requires-clause-both : goal.twins_of-requires-clause-both
+twins_of-requires-clause-both c =
+    let step : LinkedStep → Segment = λ s. s.step in
+    let steps_is : c.in_ok-steps.steps.items ≡ map step c.in_ok-linked.linked.items = c.in_ok-steps.ensures ∙ ap (map step) c.deref-2.ensures.value in
+    subst HasBoth (sym (c.deref-3.ensures.value ∙ steps_is)) (both_of c.as_slice.result.now (map step c.in_ok-linked.linked.items) c.in_ok-linked.ensures.exact)
+
+pub invariant_of-result-clause-sorted : goal.invariant_of-result-clause-sorted
+invariant_of-result-clause-sorted c =
+    let step : LinkedStep → Segment = λ s. s.step in
+    let steps_is : c.in_ok-steps.steps.items ≡ map step c.in_ok-linked.linked.items = c.in_ok-steps.ensures ∙ ap (map step) c.deref-2.ensures.value in
+    subst (IsSorted step_cmp) (sym steps_is) c.in_ok-linked.ensures.exact.sorted
+
+pub invariant_of-result-clause-twins_back : goal.invariant_of-result-clause-twins_back
+invariant_of-result-clause-twins_back c = subst (λ (xs : List Segment). AreTwins xs c.in_ok-twins.twins.items (length xs)) c.deref-3.ensures.value c.in_ok-twins.ensures.back
+
+pub invariant_of-result-clause-twins_there : goal.invariant_of-result-clause-twins_there
+invariant_of-result-clause-twins_there c = subst (λ (xs : List Segment). All (λ (t : ℕ). t < length xs) c.in_ok-twins.twins.items) c.deref-3.ensures.value c.in_ok-twins.ensures.there
+
+pub invariant_of-result-clause-onward_there : goal.invariant_of-result-clause-onward_there
+invariant_of-result-clause-onward_there c = subst (λ (xs : List Segment). All (λ (t : ℕ). t < length xs) c.in_ok-onward.onward.items) c.deref-5.ensures.value c.in_ok-onward.ensures.there
