@@ -1,1 +1,4 @@
 pub mod Bounds
+pub mod JoiningLemmas
+pub mod NumberingLemmas
+pub mod AreaLemmas

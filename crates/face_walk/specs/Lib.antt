@@ -3,3 +3,5 @@ pub mod Places
 pub mod Under
 pub mod Crossings
 pub mod Holders
+pub mod Numbering
+pub mod Areas

@@ -1,4 +1,6 @@
 ghost use Rattle.std.specs.Prelude.{◌≡◌, ◌+◌, ◌*◌, ◌<◌, ◌≤◌, ◌^◌, ◌-ℤ◌, ◌*ℤ◌, All, IfOk, length, unsigned_abs};
+ghost use Rattle.plane_model.specs.Arcs.{points_of};
+ghost use Rattle.face_walk.specs.Areas.{area_along, area_within};
 ghost use Rattle.face_walk.specs.Under.{IsGridNumber, IsTriangle};
 
 use arc_table::ArcTable;
@@ -27,6 +29,7 @@ fn numbers(p: Pt) -> (i128, i128)
 
 // Twice the signed area of the triangle from the origin to `p` and `q`.
 fn triangle(p: Pt, q: Pt) -> i128
+    ensures value { result ≡ p.x *ℤ q.y -ℤ p.y *ℤ q.x }
     ensures small { IsTriangle result }
 {
     let (a, b) = numbers(p);
@@ -37,6 +40,7 @@ fn triangle(p: Pt, q: Pt) -> i128
 // Twice the area that a path adds to what it goes round.
 fn area_along(points: &[Pt]) -> i128
     requires few { length points.now < 2 ^ 32 }
+    ensures exact { result ≡ area_along points.now }
     ensures small { unsigned_abs result ≤ 2 ^ 32 * 8000000000000000000 }
 {
     let mut area = 0i128;
@@ -49,6 +53,7 @@ fn area_along(points: &[Pt]) -> i128
 // The same of an arc; it has fewer points than 2^32.
 fn area_of_arc(t: &ArcTable, a: SignedArc) -> Result<i128, AllocError>
     requires { a.arc < length t.now }
+    ensures exact { IfOk result (λ area. area ≡ area_along (points_of t.now a)) }
     ensures small { IfOk result (λ area. unsigned_abs area ≤ 2 ^ 32 * 8000000000000000000) }
 {
     let points = t.points_of(a.id());
@@ -62,6 +67,7 @@ fn area_of_arc(t: &ArcTable, a: SignedArc) -> Result<i128, AllocError>
 /// Twice the area of a face, by the arcs that it is left of: `x1 * y2 - y1 * x2` over their steps.
 pub fn area_of_face(t: &ArcTable, arcs: &[SignedArc]) -> Result<i128, AllocError>
     requires { All (λ a. a.arc < length t.now) arcs.now }
+    ensures exact { IfOk result (λ area. area ≡ area_within t.now arcs.now) }
 {
     if arcs.len() > u32::MAX as usize {
         return Err(AllocError);

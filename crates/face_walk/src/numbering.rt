@@ -1,4 +1,5 @@
-ghost use Rattle.std.specs.Prelude.{◌≡◌, ◌+◌, ◌*◌, ◌<◌, ◌≤◌, All, IfOk, length, map};
+ghost use Rattle.std.specs.Prelude.{◌≡◌, ◌+◌, ◌*◌, ◌<◌, ◌≤◌, All, IfOk, length, map, slice_index};
+ghost use Rattle.face_walk.specs.Numbering.{IsNumbering};
 
 use crate::joining::Joining;
 use crate::places::place_of;
@@ -23,13 +24,14 @@ pub struct FaceSide {
 /// Numbers the classes of places in the order of their least places.
 pub fn numbering_of(alloc: Global, joining: &Joining) -> Result<Numbering, AllocError>
     ensures each { IfOk result (λ n. length n.places.items ≡ length joining.now) }
+    ensures exact { IfOk result (λ n. IsNumbering joining.now n.places.items n.count) }
 {
     let mut places = Vec::with_capacity(alloc, joining.count() as usize)?;
     let mut count = 0u32;
     for n in 0..joining.count() {
         let least = joining.least(n);
         if least < n {
-            let face = places[least as usize];
+            let face = face_at(&places, least);
             places.push(face)?;
         } else {
             places.push(count)?;
@@ -37,6 +39,13 @@ pub fn numbering_of(alloc: Global, joining: &Joining) -> Result<Numbering, Alloc
         }
     }
     Ok(Numbering { places, count })
+}
+
+fn face_at(places: &[u32], n: u32) -> u32
+    requires { n < length places.now }
+    ensures { result ≡ slice_index places.now n }
+{
+    places[n as usize]
 }
 
 /// The faces left of the signed arcs, in order.

@@ -1,0 +1,14 @@
+-- Twice the area that signed arcs go round, by their steps.
+use Rattle.std.specs.Prelude.{ℤ, List}
+use Rattle.std.specs.List.{flat_map}
+use Rattle.plane_model.specs.Points.{Path}
+use Rattle.plane_model.specs.Drawing.{steps}
+use Rattle.plane_model.specs.Arcs.{SignedArc, points_of}
+use Rattle.plane_model.specs.Boundary.{twice_area}
+
+-- the sum of x1 * y2 - y1 * x2 over the steps of a path, and over those of signed arcs
+abbrev pub area_along : Path → ℤ
+area_along path = twice_area (steps path)
+
+abbrev pub area_within : List Path → List SignedArc → ℤ
+area_within arcs along = twice_area (flat_map (λ (a : SignedArc). steps (points_of arcs a)) along)

@@ -1,0 +1,10 @@
+-- Numbers of classes, from 0.
+use Rattle.std.specs.Prelude.{◌≡◌, ◌↔◌, ℕ, ◌<◌, List, length, slice_index}
+
+-- So many numbers are given to the elements of classes: one to each class, a lesser one to a class with a lesser least number, and none is left out.
+pub record IsNumbering (classes numbers : List ℕ) (count : ℕ) : Type 0 where
+  pub each : length numbers ≡ length classes
+  pub same : (j k : ℕ) → j < length classes → k < length classes → (slice_index numbers j ≡ slice_index numbers k) ↔ (slice_index classes j ≡ slice_index classes k)
+  pub order : (j k : ℕ) → j < length classes → k < length classes → slice_index classes j < slice_index classes k → slice_index numbers j < slice_index numbers k
+  pub below : (j : ℕ) → j < length classes → slice_index numbers j < count
+  pub used : (n : ℕ) → n < count → (j : ℕ) × (j < length classes) × (slice_index numbers j ≡ n)
