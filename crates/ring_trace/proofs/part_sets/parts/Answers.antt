@@ -3,7 +3,8 @@ use Rattle.std.proofs.lemmas.List.Elements.{All-weaker, All-contains}
 use Rattle.std.proofs.lemmas.Result.{IfOk-weaker}
 use Rattle.face_walk.specs.Places.{FaceTable}
 use Rattle.ring_trace.specs.declared.part_sets.PartFace.{PartFace}
-use Rattle.ring_trace.specs.Parts.{IsFaceOf, IsPieceOf}
+use Rattle.ring_trace.specs.Parts.{AreGroups, AreNumbered, IsDivided, IsFaceOf, IsPieceOf}
+use Rattle.ring_trace.proofs.PartLemmas.{divided}
 use Rattle.ring_trace.specs.Sets.{IsInnerFace, IsSetOf}
 use Rattle.ring_trace.proofs.part_sets.parts.Goals as goal
 
@@ -23,3 +24,15 @@ pub returns-clause-inner : goal.returns-clause-inner
 returns-clause-inner c = IfOk-weaker c.sets_of.result (All (IsPieceOf c.args.set.now)) (All (IsSetOf c.args.f.now))
     (λ sets h. All-weaker (IsPieceOf c.args.set.now) (IsSetOf c.args.f.now) (pieces_inner c.args.f.now c.args.set.now c.requires.faces) sets h)
     (of_parts c)
+
+pub returns-clause-divided : goal.returns-clause-divided
+returns-clause-divided c =
+    let numbered = c.deref-2.result.now in
+    let faces_are = c.faces-faces.ensures.all in
+    let items_are = sym c.deref-2.ensures.value in
+    IfOk-weaker c.sets_of.result (AreGroups numbered numbered) (IsDivided c.args.set.now)
+    (λ sets g. divided c.args.set.now numbered sets
+    (subst (λ (xs : List ℕ). All (IsFaceOf xs) numbered) faces_are (subst (λ (ps : List PartFace). All (IsFaceOf c.faces-faces.result.now) ps) items_are c.in_ok-numbered.ensures.of_them))
+    (subst (λ (xs : List ℕ). AreNumbered xs numbered) faces_are (subst (λ (ps : List PartFace). AreNumbered c.faces-faces.result.now ps) items_are c.in_ok-numbered.ensures.numbered))
+    g)
+    c.sets_of.ensures.groups

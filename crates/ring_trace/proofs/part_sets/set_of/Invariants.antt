@@ -1,6 +1,10 @@
-use Rattle.std.proofs.Common.{ℕ, List, All, Contains}
+use Rattle.std.proofs.Common.{◌≡◌, ℕ, List, map, filter, take, get_or, All, Contains}
+use Rattle.ring_trace.specs.declared.part_sets.PartFace.{PartFace}
 use Rattle.ring_trace.specs.Parts.{IsFaceOf}
+use Rattle.ring_trace.proofs.PartLemmas.{has_part}
 use Rattle.ring_trace.proofs.part_sets.set_of.Given as goal
 
 abbrev pub invariant-loop-i : goal.invariant-loop-i
-invariant-loop-i l = (faces : List ℕ) → All (IsFaceOf faces) l.numbered → All (Contains faces) l.faces.items
+invariant-loop-i l =
+    ((faces : List ℕ) → All (IsFaceOf faces) l.numbered → All (Contains faces) l.faces.items)
+    × ((n : ℕ) → ((d : PartFace) → (get_or l.numbered l.first d).part ≡ n) → l.faces.items ≡ map (λ (p : PartFace). p.face) (filter (has_part n) (take l.i l.numbered)))
