@@ -1,3 +1,4 @@
 pub mod Inner
 pub mod Ranks
 pub mod FirstLemmas
+pub mod ExplodedLemmas

@@ -2,3 +2,4 @@ pub mod Cut
 pub mod Dissolved
 pub mod Cleaned
 pub mod Items
+pub mod Exploded

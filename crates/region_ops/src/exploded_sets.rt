@@ -1,6 +1,7 @@
-ghost use Rattle.std.specs.Prelude.{◌<◌, All, IfOk, OnOk, length};
+ghost use Rattle.std.specs.Prelude.{◌≡◌, ◌<◌, [], All, IfOk, OnOk, length, slice_index_or};
 ghost use Rattle.face_walk.specs.Places.{IsBuiltOf};
 ghost use Rattle.ring_trace.specs.Sets.{IsSetOf};
+ghost use Rattle.region_ops.specs.Exploded.{ArePieces, IsExploded, IsPushed};
 ghost use Rattle.region_ops.specs.Items.{IsPart};
 
 use crate::item_lists::{PartItem, PartList};
@@ -18,6 +19,7 @@ pub fn explode_sets(
 ) -> Result<PartList, AllocError>
     requires built { IsBuiltOf t.now f.now }
     requires faces { All (IsSetOf f.now) old.now }
+    ensures exact { IfOk result (IsExploded old.now) }
     ensures parts { IfOk result (All (IsPart f.now (length old.now))) }
 {
     let mut items = PartList::new(alloc);
@@ -31,6 +33,7 @@ pub fn explode_sets(
 fn pieces_of(alloc: Global, t: &ArcTable, f: &Faces, set: &FaceSet) -> Result<SetList, AllocError>
     requires built { IsBuiltOf t.now f.now }
     requires faces { IsSetOf f.now set.now }
+    ensures exact { IfOk result (ArePieces set.now) }
     ensures inner { IfOk result (All (IsSetOf f.now)) }
 {
     if set.is_empty() {
@@ -54,6 +57,7 @@ fn push_pieces(
     requires faces { All (IsSetOf f.now) old.now }
     requires number { n < length old.now }
     requires so_far { All (IsPart f.now (length old.now)) items.old }
+    ensures exact { OnOk result (IsPushed n (slice_index_or old.now n []) items.old items.new) }
     ensures parts { OnOk result (All (IsPart f.now (length old.now)) items.new) }
 {
     let pieces = pieces_of(alloc, t, f, &old.as_slice()[n as usize])?;
@@ -72,6 +76,8 @@ fn part_item(
 ) -> Result<PartItem, AllocError>
     requires number { n < length old.now }
     requires piece { IsSetOf f.now piece.now }
+    ensures feature { IfOk result (λ item. item.feature ≡ n) }
+    ensures set { IfOk result (λ item. item.set ≡ piece.now) }
     ensures part { IfOk result (IsPart f.now (length old.now)) }
 {
     let set = piece.copy(alloc)?;

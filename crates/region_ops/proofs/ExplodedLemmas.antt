@@ -1,0 +1,52 @@
+-- Items for the pieces of one set after another.
+use Rattle.std.proofs.Common.{◌≡◌, refl, sym, ap, ◌∙◌, subst, arith, ℕ, ◌+◌, ◌<◌, List, [], ◌∷◌, ◌++◌, length, get_or, take, inl, inr, append-nil, append_assoc}
+use Rattle.std.specs.List.{flat_map, enumerate_from}
+use Rattle.std.proofs.lemmas.Bool.{cases_lt}
+use Rattle.std.proofs.lemmas.Grind.{flat_map-append}
+use Rattle.std.proofs.lemmas.List.{length_push, get_or_append_left, get_or_push, take_more, map-append}
+use Rattle.region_ops.specs.declared.item_lists.PartItem.{PartItem}
+use Rattle.region_ops.specs.Exploded.{ArePieces, items_of, IsPushed, AreExploded}
+
+enumerate_push : {A : Type 0} (k n : ℕ) (xs : List A) (x : A) → n ≡ k + length xs → enumerate_from k (xs ++ x ∷ []) ≡ enumerate_from k xs ++ (n, x) ∷ []
+enumerate_push k n [] x e = (let f : k ≡ n = omega arith in ap (λ (m : ℕ). (m, x) ∷ []) f)
+enumerate_push k n (y ∷ ys) x e = ap (λ (zs : List (ℕ × _)). (k, y) ∷ zs) (enumerate_push (k + 1) n ys x (omega arith))
+
+abbrev items_of_set : ℕ × List (List ℕ) → List PartItem
+items_of_set f = items_of f.0 f.1
+
+pub exploded_none : (sets : List (List ℕ)) → AreExploded sets 0 []
+exploded_none sets = record { pieces = []; each = refl; are = λ n l. absurd (omega arith); listed = refl }
+
+pub exploded_more : (sets : List (List ℕ)) (n : ℕ) (old new : List PartItem) → AreExploded sets n old → IsPushed n (get_or sets n []) old new → AreExploded sets (n + 1) new
+exploded_more sets n old new h p =
+    let e = h.each in
+    let pushed = length_push h.pieces p.pieces in
+    record {
+      pieces = h.pieces ++ p.pieces ∷ [];
+      each = omega arith;
+      are = λ k l. elim (cases_lt k n) [
+        | inl less ↦ subst (λ (ps : List (List ℕ)). ArePieces (get_or sets k []) ps) (sym (get_or_append_left h.pieces (p.pieces ∷ []) [] k (omega arith))) (h.are k less)
+        | inr more ↦
+            (let same : n ≡ k = omega arith in
+            subst (λ (m : ℕ). ArePieces (get_or sets m []) (get_or (h.pieces ++ p.pieces ∷ []) m [])) same
+            (subst (λ (ps : List (List ℕ)). ArePieces (get_or sets n []) ps) (sym (get_or_push h.pieces p.pieces [] n e)) p.are))
+      ];
+      listed = p.items ∙ ap (λ (is : List PartItem). is ++ items_of n p.pieces) h.listed
+          ∙ ap (λ (is : List PartItem). flat_map items_of_set (enumerate_from 0 h.pieces) ++ is) (sym (append-nil (items_of n p.pieces)))
+          ∙ sym (ap (flat_map items_of_set) (enumerate_push 0 n h.pieces p.pieces (omega arith)) ∙ flat_map-append items_of_set (enumerate_from 0 h.pieces) ((n, p.pieces) ∷ []));
+    }
+
+-- one piece more
+pub pieces_more : (n i : ℕ) (pieces : List (List ℕ)) (d piece : List ℕ) (old so_far : List PartItem) (item : PartItem) → i < length pieces → piece ≡ get_or pieces i d → item.feature ≡ n → item.set ≡ piece →
+    so_far ≡ old ++ items_of n (take i pieces) → so_far ++ item ∷ [] ≡ old ++ items_of n (take (i + 1) pieces)
+pieces_more n i pieces d piece old so_far item l is feature set before =
+    ap (λ (is : List PartItem). is ++ item ∷ []) before ∙ append_assoc old (items_of n (take i pieces)) (item ∷ [])
+    ∙ ap (λ (is : List PartItem). old ++ is)
+    (ap (λ (x : PartItem). items_of n (take i pieces) ++ x ∷ []) one
+    ∙ sym (ap (items_of n) (take_more pieces i d l) ∙ map-append (λ (p : List ℕ). record { feature = n; set = p }) (take i pieces) (get_or pieces i d ∷ [])))
+  where
+    one : item ≡ record { feature = n; set = get_or pieces i d }
+    one = λ j. record { feature = feature j; set = (set ∙ is) j }
+
+pub pieces_of_empty : (set : List ℕ) (pieces : List (List ℕ)) → set ≡ [] → pieces ≡ [] ∷ [] → ArePieces set pieces
+pieces_of_empty set pieces e f = record { empty = λ _. f; parts = λ n. absurd (n e) }
