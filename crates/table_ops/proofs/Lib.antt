@@ -11,3 +11,9 @@ pub mod Grouping
 pub mod Pieces
 pub mod Joining
 pub mod Summing
+pub mod CsvUtf8
+pub mod CsvCells
+pub mod CsvTable
+pub mod CsvRecords
+pub mod CsvText
+pub mod CsvReading

@@ -11,3 +11,7 @@ pub mod Splitting
 pub mod Join
 pub mod JoinColumns
 pub mod Grouping
+pub mod CsvCells
+pub mod CsvTable
+pub mod CsvText
+pub mod CsvUtf8

@@ -3,7 +3,10 @@
 #![tactic(auto)]
 
 mod columns;
+mod csv_cells;
+mod csv_columns;
 mod csv_reading;
+mod csv_utf8;
 mod csv_writing;
 mod fault;
 mod filter;
@@ -37,5 +40,7 @@ pub use rows::take_rows;
 pub use specifications::{GroupSpec, JoinSpec};
 pub use split::{SplitItem, SplitList, split_rows};
 
+#[cfg(test)]
+mod table_tests;
 #[cfg(test)]
 mod tests;
