@@ -6,3 +6,4 @@ pub mod StepSearch
 pub mod Turned
 pub mod TurnOrder
 pub mod TurnTable
+pub mod WayPoints

@@ -1,4 +1,4 @@
-ghost use Rattle.std.specs.Prelude.{◌≡◌, ◌+◌, ◌<◌, ◌≤◌, ◌^◌, ◌++◌, true, All, IfOk, OnOk, OnSome, IfSome, length, slice_get, vec_len, map};
+ghost use Rattle.std.specs.Prelude.{◌≡◌, ◌+◌, ◌<◌, ◌≤◌, ◌^◌, ◌++◌, true, All, IfOk, OnOk, OnSome, IfSome, length, slice_get, slice_index, vec_len, map};
 ghost use Rattle.plane_model.specs.Points.{Segment, reversed};
 ghost use Rattle.std.specs.List.Sorted.{IsSorted};
 ghost use Rattle.arc_table.specs.Steps.{step_cmp, AreSteps, IsPlace, HasBoth, AreTwins};
@@ -115,6 +115,7 @@ impl Net {
     /// The place of the step that goes on, or `h` where the arc ends.
     pub fn next(&self, h: usize) -> usize
         requires { h < length self.now.steps.items }
+        ensures exact { result ≡ slice_index self.now.onward.items h }
         ensures there { result < length self.now.steps.items }
     {
         self.onward[h] as usize

@@ -1,6 +1,6 @@
-ghost use Rattle.std.specs.Prelude.{◌≡◌, ◌+◌, ◌-◌, ◌<◌, ◌≤◌, ◌^◌, [], ◌∷◌, ◌++◌, All, IfOk, OnOk, IfSome, length, sum_by};
+ghost use Rattle.std.specs.Prelude.{◌≡◌, ◌+◌, ◌-◌, ◌<◌, ◌≤◌, ◌^◌, [], ◌∷◌, ◌++◌, All, IfOk, OnOk, IfSome, length, map, sum_by};
 ghost use Rattle.arc_table.specs.Direction.{IsForward};
-ghost use Rattle.arc_table.specs.Numbering.{IsWay, IsNumbering, points_of_way};
+ghost use Rattle.arc_table.specs.Numbering.{IsWay, IsNumbering, points_of_way, points_along, arc_points};
 
 use crate::direction::turn_forward;
 use crate::half_links::{Net, Step, place_near};
@@ -190,6 +190,7 @@ fn mark_way(is_numbered: &mut Vec<bool>, net: &Net, start: usize) -> u32
 /// The points of the arcs, in one pool, whose room is taken before the first arc is pushed.
 pub fn pool_of(alloc: Global, net: &Net, ways: &[Way]) -> Result<SpanPool, AllocError>
     requires { All (IsWay net.now) ways.now }
+    ensures exact { IfOk result (λ p. p.spans ≡ map (arc_points net.now) ways.now) }
     ensures each { IfOk result (λ p. length p.spans ≡ length ways.now) }
     ensures long { IfOk result (λ p. All (λ arc. 1 < length arc) p.spans) }
     ensures forward { IfOk result (λ p. All IsForward p.spans) }
@@ -241,6 +242,7 @@ fn point_count(ways: &[Way]) -> u64
 // The points of an arc in its direction, in place of those that `points` held.
 fn arc_points(points: &mut Vec<Pt>, net: &Net, way: Way) -> Result<(), AllocError>
     requires { IsWay net.now way }
+    ensures exact { OnOk result (points.new.items ≡ arc_points net.now way) }
     ensures count { OnOk result (length points.new.items ≡ points_of_way way) }
     ensures forward { OnOk result (IsForward points.new.items) }
 {
@@ -252,7 +254,8 @@ fn arc_points(points: &mut Vec<Pt>, net: &Net, way: Way) -> Result<(), AllocErro
 // The points along an arc, from the end that its first step begins at.
 fn points_along(points: &mut Vec<Pt>, net: &Net, way: Way) -> Result<(), AllocError>
     requires { IsWay net.now way }
-    ensures { OnOk result (length points.new.items ≡ points_of_way way) }
+    ensures exact { OnOk result (points.new.items ≡ points_along net.now way) }
+    ensures count { OnOk result (length points.new.items ≡ points_of_way way) }
 {
     points.clear();
     let mut at = way.start as usize;

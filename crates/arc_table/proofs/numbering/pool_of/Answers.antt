@@ -4,7 +4,8 @@ use Rattle.std.proofs.lemmas.List.Sums.{sum_by_push, sum_by-take-le}
 use Rattle.std.proofs.lemmas.List.Elements.{All-same, All-append, All-cons, All-nil}
 use Rattle.plane_model.specs.Points.{Path}
 use Rattle.span_pool.specs.SpanPool.{Pool}
-use Rattle.arc_table.specs.Numbering.{points_of_way}
+use Rattle.arc_table.specs.Numbering.{points_of_way, arc_points}
+use Rattle.arc_table.proofs.WayPoints.{one_more_of}
 use Rattle.arc_table.specs.declared.numbering.Way.{Way}
 use Rattle.arc_table.proofs.numbering.pool_of.Goals as goal
 
@@ -46,4 +47,5 @@ loop-way-preserved c =
           (All-append long c.loop-way.pool.spans (points ∷ []) c.loop-way.invariant.2 (All-cons long points [] (omega arith) (All-nil long))),
       omega arith,
       omega arith,
+      one_more_of (arc_points c.args.net.now) c.args.ways.now c.loop-way.way-index no_way c.loop-way.pool.spans c.push_arc.new.pool.spans points here c.loop-way.invariant.5 c.in_ok-arc_points.ensures.exact spans,
     )
