@@ -1,5 +1,6 @@
 pub mod AroundRows
 pub mod Everywhere
+pub mod Others
 pub mod SignedArcs
 pub mod SingleLink
 pub mod StepSearch

@@ -20,13 +20,13 @@ use Rattle.plane_model.proofs.PointOrder.{point_is, segment_is, same_point_from}
 use Rattle.arc_table.specs.Steps.{point_cmp, step_cmp, AreSteps, HasBoth, AreTwins}
 use Rattle.arc_table.specs.declared.half_links.LinkedStep.{LinkedStep}
 
-point_cmp-total : IsTotalOrder point_cmp
+pub point_cmp-total : IsTotalOrder point_cmp
 point_cmp-total = then_total (on_total (λ (p : GridPoint). p.x) int_cmp_total) (on_total (λ (p : GridPoint). p.y) int_cmp_total)
 
 pub step_cmp-total : IsTotalOrder step_cmp
 step_cmp-total = then_total (on_total (λ (s : Segment). s.start) point_cmp-total) (on_total (λ (s : Segment). s.stop) point_cmp-total)
 
-same_point_is : (p q : GridPoint) → point_cmp p q ≡ Equal → p ≡ q
+pub same_point_is : (p q : GridPoint) → point_cmp p q ≡ Equal → p ≡ q
 same_point_is p q e = go (int_cmp p.x q.x) (int_cmp p.y q.y) (int_ranked p.x q.x (int_cmp p.x q.x) refl) (int_ranked p.y q.y (int_cmp p.y q.y) refl) e
   where
     go : (a b : Ordering) → MatchOrdering a (p.x <ℤ q.x) (p.x ≡ q.x) (q.x <ℤ p.x) → MatchOrdering b (p.y <ℤ q.y) (p.y ≡ q.y) (q.y <ℤ p.y) → ordering_then a b ≡ Equal → p ≡ q

@@ -1,7 +1,7 @@
-ghost use Rattle.std.specs.Prelude.{◌≡◌, ◌+◌, ◌<◌, ◌≤◌, ◌^◌, ◌++◌, true, All, IfOk, OnOk, OnSome, IfSome, length, slice_get, slice_index, vec_len, map};
+ghost use Rattle.std.specs.Prelude.{◌≡◌, ◌≢◌, ◌+◌, ◌<◌, ◌≤◌, ◌^◌, ◌-◌, ◌++◌, true, false, All, IfOk, OnOk, OnSome, IfSome, length, slice_get, slice_index, vec_len, map};
 ghost use Rattle.plane_model.specs.Points.{Segment, reversed};
 ghost use Rattle.std.specs.List.Sorted.{IsSorted};
-ghost use Rattle.arc_table.specs.Steps.{step_cmp, AreSteps, IsPlace, HasBoth, AreTwins};
+ghost use Rattle.arc_table.specs.Steps.{step_cmp, StartsAt, IsOther, AreOnward, AreSteps, IsPlace, HasBoth, AreTwins};
 
 use crate::direction::is_same;
 use grid_base::{Link, LinkList, Pt};
@@ -75,6 +75,7 @@ impl Net {
     /// The steps along the links, where `turns` are in order the vertices that are nodes whatever their number of links.
     pub fn of(alloc: Global, links: &LinkList, turns: &[Pt]) -> Result<Net, AllocError>
         ensures steps { IfOk result (λ n. AreSteps links.now n.steps.items) }
+        ensures on { IfOk result (λ n. AreOnward n.steps.items n.twins.items n.onward.items (length n.steps.items)) }
     {
         let linked = linked_steps(alloc, links.as_slice())?;
         let guesses = twin_guesses(alloc, &linked)?;
@@ -307,7 +308,9 @@ fn onward_of(
     requires few { length steps.now < 2 ^ 32 }
     requires each { length twins.now ≡ length steps.now }
     requires there { All (λ t. t < length steps.now) twins.now }
+    requires sorted { IsSorted step_cmp steps.now }
     ensures each { IfOk result (λ v. length v.items ≡ length steps.now) }
+    ensures on { IfOk result (λ v. AreOnward steps.now twins.now v.items (length steps.now)) }
     ensures there { IfOk result (λ v. All (λ t. t < length steps.now) v.items) }
 {
     let mut onward = Vec::with_capacity(alloc, steps.len())?;
@@ -320,36 +323,106 @@ fn onward_of(
 
 // The place of the step that goes on from step `h`, whose twin is `twin`, where its end is no node, else `h`.
 fn step_after(steps: &[Step], turns: &[Pt], h: usize, twin: usize) -> usize
+    requires sorted { IsSorted step_cmp steps.now }
     requires here { h < length steps.now }
     requires twin { twin < length steps.now }
     ensures there { result < length steps.now }
+    ensures on { result ≢ h → IsOther steps.now twin result }
 {
     match other_at(steps, twin) {
-        Some(other) if turns.binary_search(&steps[h].to()).is_err() => other,
-        _ => h,
+        Some(other) => {
+            if turns.binary_search(&steps[h].to()).is_ok() {
+                h
+            } else {
+                other
+            }
+        }
+        None => h,
     }
 }
 
 // The place of the other step from the start of step `h`, where there are just two.
 fn other_at(steps: &[Step], h: usize) -> Option<usize>
     requires here { h < length steps.now }
+    requires sorted { IsSorted step_cmp steps.now }
     ensures there { IfSome result (λ k. k < length steps.now) }
+    ensures only { IfSome result (IsOther steps.now h) }
+{
+    match after_in_two(steps, h) {
+        Some(k) => Some(k),
+        None => before_in_two(steps, h),
+    }
+}
+
+// The place behind `h`, where a step from the same start stands there, and no third.
+fn after_in_two(steps: &[Step], h: usize) -> Option<usize>
+    requires here { h < length steps.now }
+    requires sorted { IsSorted step_cmp steps.now }
+    ensures there { IfSome result (λ k. k < length steps.now) }
+    ensures only { IfSome result (IsOther steps.now h) }
 {
     let from = steps[h].from();
-    let is_second = 0 < h && starts_at(steps, h - 1, from);
-    let is_first = starts_at(steps, h + 1, from);
-    if is_first && !is_second && !starts_at(steps, h + 2, from) {
-        Some(h + 1)
-    } else if is_second && !is_first && !(1 < h && starts_at(steps, h - 2, from)) {
-        Some(h - 1)
+    if !starts_at(steps, h + 1, from) {
+        return None;
+    }
+    if starts_at(steps, h + 2, from) {
+        return None;
+    }
+    if starts_before(steps, h, 1, from) {
+        return None;
+    }
+    Some(h + 1)
+}
+
+// The place before `h`, where a step from the same start stands there, and no third.
+fn before_in_two(steps: &[Step], h: usize) -> Option<usize>
+    requires here { h < length steps.now }
+    requires sorted { IsSorted step_cmp steps.now }
+    ensures there { IfSome result (λ k. k < length steps.now) }
+    ensures only { IfSome result (IsOther steps.now h) }
+{
+    let from = steps[h].from();
+    if !starts_before(steps, h, 1, from) {
+        return None;
+    }
+    if starts_before(steps, h, 2, from) {
+        return None;
+    }
+    if starts_at(steps, h + 1, from) {
+        return None;
+    }
+    Some(h - 1)
+}
+
+// There is a step `k` places before `h`, and it starts at `p`.
+fn starts_before(steps: &[Step], h: usize, k: usize, p: Pt) -> bool
+    ensures there { result ≡ true → k ≤ h }
+    ensures yes { result ≡ true → StartsAt steps.now (h - k) p }
+    ensures no { result ≡ false → k ≤ h → StartsAt steps.now (h - k) p → ⊥ }
+{
+    if k <= h {
+        starts_at(steps, h - k, p)
     } else {
-        None
+        false
     }
 }
 
 // There is a step at `k`, and it starts at `p`.
 fn starts_at(steps: &[Step], k: usize, p: Pt) -> bool
     ensures there { result ≡ true → k < length steps.now }
+    ensures yes { result ≡ true → StartsAt steps.now k p }
+    ensures no { result ≡ false → StartsAt steps.now k p → ⊥ }
 {
-    k < steps.len() && steps[k].from() == p
+    match steps.get(k) {
+        Some(step) => starts_from(*step, p),
+        None => false,
+    }
+}
+
+#[tactic(auto, using(crate::proofs::Others::starts_yes, crate::proofs::Others::starts_no))]
+fn starts_from(step: Step, p: Pt) -> bool
+    ensures yes { result ≡ true → step.start ≡ p }
+    ensures no { result ≡ false → step.start ≡ p → ⊥ }
+{
+    is_same(step.from(), p)
 }

@@ -1,7 +1,7 @@
 use Rattle.std.proofs.Common.{◌≡◌, ◌<◌, ℕ, List, All, length, map, ap, sym, subst, ◌∙◌}
 use Rattle.std.specs.List.Sorted.{IsSorted}
 use Rattle.plane_model.specs.Points.{Segment}
-use Rattle.arc_table.specs.Steps.{step_cmp, HasBoth, AreTwins}
+use Rattle.arc_table.specs.Steps.{step_cmp, HasBoth, AreTwins, AreOnward}
 use Rattle.arc_table.specs.declared.half_links.LinkedStep.{LinkedStep}
 use Rattle.arc_table.proofs.StepSearch.{both_of}
 use Rattle.arc_table.proofs.half_links.Net.of.Goals as goal
@@ -26,3 +26,8 @@ invariant_of-result-clause-twins_there c = subst (λ (xs : List Segment). All (�
 
 pub invariant_of-result-clause-onward_there : goal.invariant_of-result-clause-onward_there
 invariant_of-result-clause-onward_there c = subst (λ (xs : List Segment). All (λ (t : ℕ). t < length xs) c.in_ok-onward.onward.items) c.deref-5.ensures.value c.in_ok-onward.ensures.there
+
+pub returns-clause-on : goal.returns-clause-on
+returns-clause-on c =
+    subst (λ (xs : List Segment). AreOnward xs c.in_ok-twins.twins.items c.in_ok-onward.onward.items (length xs)) c.deref-5.ensures.value
+    (subst (λ (ts : List ℕ). AreOnward c.deref-5.result.now ts c.in_ok-onward.onward.items (length c.deref-5.result.now)) c.deref-6.ensures.value c.in_ok-onward.ensures.on)

@@ -1,0 +1,110 @@
+-- The steps from one start stand together among sorted steps.
+use Rattle.std.proofs.Common.{◌≡◌, inl, inr, refl, sym, ap, ◌∙◌, subst, arith, ℕ, ◌+◌, ◌-◌, ◌<◌, ◌≤◌, true, false, List, [], ◌∷◌, ◌++◌, length, get_or, Some, None, Ordering}
+use Rattle.std.specs.Prelude.{◌≢◌}
+use Rattle.std.proofs.Math.ListN.{get_or-append}
+use Rattle.std.specs.List.Sorted.{IsSorted}
+use Rattle.std.specs.Ordering.{ordering_then, ordering_reverse, is_lt}
+use Rattle.std.specs.declared.cmp.Ordering.TheVariants.{Less, Equal, Greater}
+use Rattle.std.proofs.lemmas.Bool.{cases_lt}
+use Rattle.std.proofs.lemmas.List.MinMax.{ranks_by}
+use Rattle.std.proofs.lemmas.List.Sorted.{sorted_far}
+use Rattle.std.proofs.lemmas.Option.{slice_get-get_or, slice_get_cases, get_or_from_slice_get}
+use Rattle.plane_model.specs.Points.{GridPoint, Segment, same_point}
+use Rattle.plane_model.proofs.PointOrder.{clash, same_point_from, same_point_to}
+use Rattle.arc_table.specs.Steps.{point_cmp, step_cmp, StartsAt, IsOther, AreOnward}
+use Rattle.arc_table.proofs.StepSearch.{point_cmp-total, step_cmp-total, same_point_is}
+
+pub starts_yes : (p q : GridPoint) → same_point p q ≡ true → p ≡ q
+starts_yes p q e = same_point_from p q e
+
+pub starts_no : (p q : GridPoint) → same_point p q ≡ false → p ≡ q → ⊥
+starts_no p q e f = clash (same_point p q) (same_point_to p q f) e
+
+within : (steps : List Segment) (k : ℕ) (p : GridPoint) → StartsAt steps k p → k < length steps
+within steps k p c = elim (slice_get_cases steps k).1 [ inl r ↦ r.1 | inr r ↦ absurd (let f : Some c.0 ≡ None = sym c.1 ∙ r.1 in cc) ]
+
+start_is : (steps : List Segment) (k : ℕ) (p : GridPoint) (d : Segment) → StartsAt steps k p → (get_or steps k d).start ≡ p
+start_is steps k p d c = ap (λ (s : Segment). s.start) (get_or_from_slice_get steps k c.0 d c.1) ∙ c.2
+
+not_less : (s t : Segment) → is_lt (step_cmp s t) ≡ false → is_lt (point_cmp s.start t.start) ≡ false
+not_less s t e = go (point_cmp s.start t.start) (point_cmp s.stop t.stop) e
+  where
+    go : (a b : Ordering) → is_lt (ordering_then a b) ≡ false → is_lt a ≡ false
+    go Less b e = e
+    go Equal b e = refl
+    go Greater b e = refl
+
+same_from_both : (p q : GridPoint) → is_lt (point_cmp p q) ≡ false → is_lt (point_cmp q p) ≡ false → p ≡ q
+same_from_both p q e f = go (point_cmp p q) (point_cmp q p) refl e f (point_cmp-total.antisymm p q)
+  where
+    go : (a b : Ordering) → point_cmp p q ≡ a → is_lt a ≡ false → is_lt b ≡ false → a ≡ ordering_reverse b → p ≡ q
+    go Less b g e f h = absurd (cc)
+    go Equal b g e f h = same_point_is p q g
+    go Greater Less g e f h = absurd (cc)
+    go Greater Equal g e f h = absurd (cc)
+    go Greater Greater g e f h = absurd (cc)
+
+module _ (steps : List Segment) (up : IsSorted step_cmp steps) (p : GridPoint) where
+  -- what stands between two steps from p starts at p
+  between : (i m j : ℕ) → i ≤ m → m ≤ j → StartsAt steps i p → StartsAt steps j p → StartsAt steps m p
+  between i m j l k ci cj =
+      let last = within steps j p cj in
+      let here : m < length steps = omega arith in
+      let d = ci.0 in
+      let order = ranks_by step_cmp-total (λ (s : Segment). s) in
+      let lower = not_less (get_or steps m d) (get_or steps i d) (sorted_far (λ (s : Segment) (t : Segment). is_lt (step_cmp s t)) order steps up i m d l here) in
+      let upper = not_less (get_or steps j d) (get_or steps m d) (sorted_far (λ (s : Segment) (t : Segment). is_lt (step_cmp s t)) order steps up m j d k last) in (
+        get_or steps m d,
+        slice_get-get_or steps m d here,
+        same_from_both (get_or steps m d).start p
+            (subst (λ (q : GridPoint). is_lt (point_cmp (get_or steps m d).start q) ≡ false) (start_is steps i p d ci) lower)
+            (subst (λ (q : GridPoint). is_lt (point_cmp q (get_or steps m d).start) ≡ false) (start_is steps j p d cj) upper),
+      )
+
+  pub after_is_other : (h : ℕ) → StartsAt steps h p → StartsAt steps (h + 1) p → (StartsAt steps (h + 2) p → ⊥) → (1 ≤ h → StartsAt steps (h - 1) p → ⊥) → IsOther steps h (h + 1)
+  after_is_other h here next third before = record {
+    start = p;
+    here = here;
+    other = next;
+    apart = λ e. omega arith;
+    only = λ j c. elim (cases_lt j h) [
+      | inl l ↦ absurd (before (omega arith) (between j (h - 1) h (omega arith) (omega arith) c here))
+      | inr l ↦ elim (cases_lt (h + 1) j) [
+        | inl m ↦ absurd (third (between h (h + 2) j (omega arith) (omega arith) here c))
+        | inr m ↦ elim (cases_lt h j) [ inl n ↦ inr (omega arith) | inr n ↦ inl (omega arith) ]
+      ]
+    ];
+  }
+
+  pub before_is_other : (h : ℕ) → 1 ≤ h → StartsAt steps h p → StartsAt steps (h - 1) p → (2 ≤ h → StartsAt steps (h - 2) p → ⊥) → (StartsAt steps (h + 1) p → ⊥) → IsOther steps h (h - 1)
+  before_is_other h some here next third after = record {
+    start = p;
+    here = here;
+    other = next;
+    apart = λ e. omega arith;
+    only = λ j c. elim (cases_lt h j) [
+      | inl l ↦ absurd (after (between h (h + 1) j (omega arith) (omega arith) here c))
+      | inr l ↦ elim (cases_lt j (h - 1)) [
+        | inl m ↦ absurd (third (omega arith) (between j (h - 2) h (omega arith) (omega arith) c here))
+        | inr m ↦ elim (cases_lt j h) [ inl n ↦ inr (omega arith) | inr n ↦ inl (omega arith) ]
+      ]
+    ];
+  }
+
+pub one_onward_more : (steps : List Segment) (twins onward all : List ℕ) (n t : ℕ) → length onward ≡ n → all ≡ onward ++ t ∷ [] → AreOnward steps twins onward n
+    → (t ≢ n → IsOther steps (get_or twins n 0) t) → AreOnward steps twins all (n + 1)
+one_onward_more steps twins onward all n t l a before last h m differs = elim (cases_lt h n) [
+  | inl k ↦ (
+      let e : get_or all h 0 ≡ get_or onward h 0 = ap (λ (xs : List ℕ). get_or xs h 0) a ∙ get_or-append onward (t ∷ []) 0 h (omega arith) in
+      subst (λ (j : ℕ). IsOther steps (get_or twins h 0) j) (sym e) (before h k (λ f. differs (e ∙ f))))
+  | inr k ↦ (
+      let same : h ≡ n = omega arith in
+      let at : h ≡ length onward = omega arith in
+      let e : get_or all h 0 ≡ t = ap (λ (xs : List ℕ). get_or xs h 0) a ∙ ap (λ (j : ℕ). get_or (onward ++ t ∷ []) j 0) at ∙ at_end onward t in
+      subst (λ (j : ℕ). IsOther steps (get_or twins h 0) j) (sym e)
+      (subst (λ (j : ℕ). IsOther steps (get_or twins j 0) t) (sym same) (last (λ f. differs (e ∙ f ∙ sym same)))))
+]
+  where
+    at_end : (xs : List ℕ) (x : ℕ) → get_or (xs ++ x ∷ []) (length xs) 0 ≡ x
+    at_end [] x = refl
+    at_end (y ∷ xs) x = at_end xs x

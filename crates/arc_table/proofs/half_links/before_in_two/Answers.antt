@@ -1,0 +1,12 @@
+use Rattle.std.proofs.Common.{Some, refl, sym, ap, ◌∙◌}
+use Rattle.std.proofs.lemmas.Option.{slice_get-get_or}
+use Rattle.arc_table.specs.Steps.{StartsAt}
+use Rattle.arc_table.proofs.Others.{before_is_other}
+use Rattle.arc_table.proofs.half_links.before_in_two.Goals as goal
+
+pub returns-clause-only : goal.returns-clause-only
+returns-clause-only c =
+    let steps = c.args.steps.now in
+    let step = c.index-steps-h.result in
+    let here : StartsAt steps c.args.h c.from-from.result = (step, slice_get-get_or steps c.args.h step c.requires.here ∙ ap Some (sym c.index-steps-h.is), sym c.from-from.ensures.exact) in
+    before_is_other steps c.requires.sorted c.from-from.result c.args.h (c.if-not-starts_before.ensures.there refl) here (c.if-not-starts_before.ensures.yes refl) (c.if-starts_before.ensures.no refl) (c.if-starts_at.ensures.no refl)
