@@ -2,3 +2,4 @@ pub mod Inner
 pub mod Ranks
 pub mod FirstLemmas
 pub mod ExplodedLemmas
+pub mod MosaicLemmas

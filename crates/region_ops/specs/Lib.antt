@@ -3,3 +3,4 @@ pub mod Dissolved
 pub mod Cleaned
 pub mod Items
 pub mod Exploded
+pub mod Mosaic

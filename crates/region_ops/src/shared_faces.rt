@@ -1,7 +1,8 @@
-ghost use Rattle.std.specs.Prelude.{◌≡◌, ◌<◌, All, IfOk, OnOk, length};
+ghost use Rattle.std.specs.Prelude.{◌≡◌, ◌<◌, [], All, IfOk, OnOk, length, true};
 ghost use Rattle.face_walk.specs.Places.{IsBuiltOf};
 ghost use Rattle.ring_trace.specs.Sets.{IsSetOf};
 ghost use Rattle.region_ops.specs.Items.{IsPiece};
+ghost use Rattle.region_ops.specs.Mosaic.{HasOwners, IsOwned, IsOwnedPiece, IsShared};
 
 use crate::item_lists::{MosaicItem, MosaicList};
 use arc_table::ArcTable;
@@ -22,14 +23,33 @@ pub fn mosaic_sets(
 ) -> Result<MosaicList, AllocError>
     requires built { IsBuiltOf t.now f.now }
     requires faces { All (IsSetOf f.now) old.now }
+    ensures shared { IfOk result (All (IsShared old.now)) }
     ensures inner { IfOk result (All (IsPiece f.now)) }
 {
     let owners = FaceOwners::of(alloc, f, old)?;
     let shared = faces_by_owners(alloc, f, &owners)?;
+    let items = pieces_by_owners(alloc, t, f, &owners, &shared)?;
+    Ok(items)
+}
+
+// The parts of the faces that the same sets have, of faces in the order of these.
+fn pieces_by_owners(
+    alloc: Global,
+    t: &ArcTable,
+    f: &Faces,
+    owners: &FaceOwners,
+    shared: &[FaceId],
+) -> Result<MosaicList, AllocError>
+    requires built { IsBuiltOf t.now f.now }
+    requires inner { IsSetOf f.now shared.now }
+    requires owned { All (IsOwned owners.now) shared.now }
+    ensures owned { IfOk result (All (IsOwnedPiece owners.now)) }
+    ensures inner { IfOk result (All (IsPiece f.now)) }
+{
     let mut items = MosaicList::new(alloc);
     for i in 0..shared.len() {
         if i == 0 || owners.at(shared[i - 1]) != owners.at(shared[i]) {
-            push_pieces(alloc, t, f, &mut items, &owners, &shared, i)?;
+            push_pieces(alloc, t, f, &mut items, owners, shared, i)?;
         }
     }
     Ok(items)
@@ -37,20 +57,28 @@ pub fn mosaic_sets(
 
 // The inner faces that some set has, ascending.
 fn owned_faces(alloc: Global, f: &Faces, owners: &FaceOwners) -> Result<Vec<FaceId>, AllocError>
+    ensures owned { IfOk result (λ v. All (IsOwned owners.now) v.items) }
     ensures inner { IfOk result (λ v. IsSetOf f.now v.items) }
 {
     let mut faces = Vec::new(alloc);
     for n in 0..f.count() {
         let face = FaceId::new(n);
-        if face != f.outer() && !owners.at(face).is_empty() {
+        if face != f.outer() && is_owned(owners, face) {
             faces.push(face)?;
         }
     }
     Ok(faces)
 }
 
+fn is_owned(owners: &FaceOwners, face: FaceId) -> bool
+    ensures { result ≡ true → IsOwned owners.now face }
+{
+    !owners.at(face).is_empty()
+}
+
 // These faces by the lists of the sets that have them, in lexicographic order.
 fn faces_by_owners(alloc: Global, f: &Faces, owners: &FaceOwners) -> Result<Vec<FaceId>, AllocError>
+    ensures owned { IfOk result (λ v. All (IsOwned owners.now) v.items) }
     ensures inner { IfOk result (λ v. IsSetOf f.now v.items) }
 {
     let mut faces = owned_faces(alloc, f, owners)?;
@@ -71,37 +99,49 @@ fn push_pieces(
     requires built { IsBuiltOf t.now f.now }
     requires place { first < length shared.now }
     requires inner { IsSetOf f.now shared.now }
+    requires owned { All (IsOwned owners.now) shared.now }
     requires so_far { All (IsPiece f.now) items.old }
+    requires owned_so_far { All (IsOwnedPiece owners.now) items.old }
+    ensures owned { OnOk result (All (IsOwnedPiece owners.now) items.new) }
     ensures inner { OnOk result (All (IsPiece f.now) items.new) }
 {
     let ids = owners.at(shared[first]);
-    let set = set_with(alloc, f, owners, shared, first)?;
+    let set = set_with(alloc, f, owners, ids, shared, first)?;
     for piece in parts(alloc, t, f, &set)?.as_slice() {
         items.push(mosaic_item(alloc, f, ids, piece)?)?;
     }
     Ok(())
 }
 
-// The faces from a place on, as far as the same sets have them.
+// The faces from a place on, as far as the sets of a list have them and no others.
 fn set_with(
     alloc: Global,
     f: &Faces,
     owners: &FaceOwners,
+    ids: &[u32],
     shared: &[FaceId],
     first: usize,
 ) -> Result<FaceSet, AllocError>
     requires place { first < length shared.now }
     requires inner { IsSetOf f.now shared.now }
+    ensures alike { IfOk result (All (HasOwners owners.now ids.now)) }
     ensures inner { IfOk result (IsSetOf f.now) }
 {
     let mut faces = Vec::new(alloc);
     for i in first..shared.len() {
-        if owners.at(shared[i]) != owners.at(shared[first]) {
+        let face = shared[i];
+        if !has_owners(owners, face, ids) {
             break;
         }
-        faces.push(shared[i])?;
+        faces.push(face)?;
     }
     Ok(FaceSet::from_faces(faces))
+}
+
+fn has_owners(owners: &FaceOwners, face: FaceId, ids: &[u32]) -> bool
+    ensures { result ≡ true → HasOwners owners.now ids.now face }
+{
+    owners.at(face) == ids
 }
 
 fn mosaic_item(
@@ -112,6 +152,7 @@ fn mosaic_item(
 ) -> Result<MosaicItem, AllocError>
     requires piece { IsSetOf f.now piece.now }
     ensures ids { IfOk result (λ item. item.ids ≡ ids.now) }
+    ensures set { IfOk result (λ item. item.set ≡ piece.now) }
     ensures piece { IfOk result (IsPiece f.now) }
 {
     let ids = id_list(alloc, ids)?;

@@ -1,13 +1,7 @@
-use Rattle.std.proofs.Common.{sym, subst, List, All}
-use Rattle.region_ops.specs.declared.item_lists.MosaicItem.{MosaicItem}
-use Rattle.region_ops.specs.Items.{IsPiece}
-use Rattle.region_ops.proofs.shared_faces.mosaic_sets.Goals.{then-i-eq0+in_ok-push_pieces, else-i-eq0+else-ne}
+use Rattle.region_ops.proofs.MosaicLemmas.{shared_pieces}
 use Rattle.region_ops.proofs.shared_faces.mosaic_sets.Goals as goal
 
-pub loop-i-preserved : goal.loop-i-preserved
-loop-i-preserved c =
-    let P : List MosaicItem → Type 0 = λ items. All (IsPiece c.args.f.now) items in
-    elim c.if-i-eq0.branch [
-      | then-i-eq0+in_ok-push_pieces w ↦ subst P (sym w.items-is) w.in_ok-push_pieces.ensures.inner
-      | else-i-eq0+else-ne w ↦ subst P (sym w.items-is) c.loop-i.invariant
-    ]
+pub returns-clause-shared : goal.returns-clause-shared
+returns-clause-shared c =
+    let made = c.in_ok-items.ensures in
+    shared_pieces c.args.f.now c.args.old.now c.in_ok-owners.owners c.in_ok-items.items c.in_ok-owners.ensures.exact made.inner made.owned
