@@ -2,3 +2,4 @@ pub mod Bounds
 pub mod JoiningLemmas
 pub mod NumberingLemmas
 pub mod AreaLemmas
+pub mod SideLemmas

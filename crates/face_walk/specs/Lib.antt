@@ -5,3 +5,4 @@ pub mod Crossings
 pub mod Holders
 pub mod Numbering
 pub mod Areas
+pub mod Sides

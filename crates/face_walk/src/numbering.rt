@@ -1,5 +1,7 @@
 ghost use Rattle.std.specs.Prelude.{◌≡◌, ◌+◌, ◌*◌, ◌<◌, ◌≤◌, All, IfOk, length, map, slice_index};
 ghost use Rattle.face_walk.specs.Numbering.{IsNumbering};
+ghost use Rattle.face_walk.specs.Places.{place_of};
+ghost use Rattle.face_walk.specs.Sides.{AreInOrder, AreSides};
 
 use crate::joining::Joining;
 use crate::places::place_of;
@@ -14,8 +16,8 @@ pub struct Numbering {
     ghost below: { All (λ n. n < count) places.items },
 }
 
-/// The face on the left of a signed arc. They are ordered by the face, then by the arc.
-#[derive(Clone, Copy, PartialEq, Eq, PartialOrd, Ord, Debug)]
+/// The face on the left of a signed arc.
+#[derive(Clone, Copy, Debug)]
 pub struct FaceSide {
     pub face: u32,
     pub arc: SignedArc,
@@ -48,10 +50,12 @@ fn face_at(places: &[u32], n: u32) -> u32
     places[n as usize]
 }
 
-/// The faces left of the signed arcs, in order.
+/// The faces left of the signed arcs, in the order of the faces; those of one face in the order of the arcs.
 pub fn sides_of(alloc: Global, arc_count: u32, places: &[u32]) -> Result<Vec<FaceSide>, AllocError>
     requires few { arc_count ≤ 2000000000 }
     requires each { length places.now ≡ 2 * arc_count + 1 }
+    ensures exact { IfOk result (λ v. AreSides places.now arc_count v.items) }
+    ensures in_order { IfOk result (λ v. AreInOrder v.items) }
     ensures there { IfOk result (λ v. All (λ s. s.arc.arc < arc_count) v.items) }
 {
     let mut sides = Vec::with_capacity(alloc, places.len())?;
@@ -60,7 +64,7 @@ pub fn sides_of(alloc: Global, arc_count: u32, places: &[u32]) -> Result<Vec<Fac
         sides.push(side_of(places, SignedArc::forward(id)))?;
         sides.push(side_of(places, SignedArc::backward(id)))?;
     }
-    sides.sort()?;
+    sides.sort_by_key(|s| s.face)?;
     Ok(sides)
 }
 
@@ -68,6 +72,7 @@ fn side_of(places: &[u32], arc: SignedArc) -> FaceSide
     requires few { length places.now ≤ 4000000001 }
     requires there { 2 * arc.arc + 2 < length places.now }
     ensures arc { result.arc ≡ arc }
+    ensures face { result.face ≡ slice_index places.now (place_of arc) }
 {
     let place = place_of(arc);
     FaceSide {

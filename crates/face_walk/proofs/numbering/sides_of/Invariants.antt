@@ -1,6 +1,5 @@
-use Rattle.std.proofs.Common.{◌<◌, All}
-use Rattle.face_walk.specs.declared.numbering.FaceSide.{FaceSide}
+use Rattle.face_walk.specs.Sides.{AreSides}
 use Rattle.face_walk.proofs.numbering.sides_of.Given as goal
 
 abbrev pub invariant-loop-n : goal.invariant-loop-n
-invariant-loop-n l = All (λ (s : FaceSide). s.arc.arc < l.arc_count) l.sides.items
+invariant-loop-n l = AreSides l.places l.n l.sides.items

@@ -1,0 +1,40 @@
+use Rattle.std.proofs.Common.{rules, ◌≡◌, ◌∙◌, sym, ap, subst, arith, ℕ, ◌+◌, List, [], ◌∷◌, ◌++◌, get_or}
+use Rattle.std.proofs.lemmas.List.Sorted.{IsNonDecreasingBy-from_sort_by_key}
+use Rattle.plane_model.specs.Arcs.{SignedArc, forward, backward}
+use Rattle.face_walk.specs.Places.{place_of}
+use Rattle.face_walk.specs.declared.numbering.FaceSide.{FaceSide}
+use Rattle.face_walk.specs.Sides.{AreSides, HasLeft}
+use Rattle.face_walk.proofs.SideLemmas.{sides_more, sides_moved}
+use Rattle.face_walk.proofs.numbering.sides_of.Goals as goal
+
+pub loop-n-preserved : goal.loop-n-preserved
+loop-n-preserved c =
+    let places = c.args.places.now in
+    let n = c.loop-n.n in
+    let s = c.side_of.result in
+    let t = c.side_of-in-loop-n.result in
+    let sl : HasLeft places s = c.side_of.ensures.face ∙ ap (λ (a : SignedArc). get_or places (place_of a) 0) (sym c.side_of.ensures.arc) in
+    let tl : HasLeft places t = c.side_of-in-loop-n.ensures.face ∙ ap (λ (a : SignedArc). get_or places (place_of a) 0) (sym c.side_of-in-loop-n.ensures.arc) in
+    subst (λ (xs : List FaceSide). AreSides places (n + 1) xs) (sym (c.in_ok-push-2.ensures.items ∙ ap (λ (xs : List FaceSide). xs ++ t ∷ []) c.in_ok-push.ensures.items))
+    (sides_more places n c.loop-n.sides.items s t c.loop-n.invariant sl tl
+    (c.side_of.ensures.arc ∙ c.forward.ensures.made ∙ ap forward c.new-id.ensures.made)
+    (c.side_of-in-loop-n.ensures.arc ∙ c.backward.ensures.made ∙ ap backward c.new-id.ensures.made))
+
+pub returns-clause-exact : goal.returns-clause-exact
+returns-clause-exact c =
+    let end = c.loop-n.auto.n-end in
+    let done = c.loop-n-test.false in
+    let all : c.loop-n.n ≡ c.args.arc_count = omega arith in
+    sides_moved c.args.places.now c.args.arc_count c.loop-n.sides.items c.sort_by_key.new.self.items c.in_ok-sort_by_key.ensures.permutation
+    (subst (λ (n : ℕ). AreSides c.args.places.now n c.loop-n.sides.items) all c.loop-n.invariant)
+
+pub returns-clause-in_order : goal.returns-clause-in_order
+returns-clause-in_order c = IsNonDecreasingBy-from_sort_by_key (λ (s : FaceSide). s.face) c.sort_by_key.new.self.items c.in_ok-sort_by_key.ensures.sorted (λ a r q k. search rules)
+
+pub returns-clause-there : goal.returns-clause-there
+returns-clause-there c =
+    let end = c.loop-n.auto.n-end in
+    let done = c.loop-n-test.false in
+    let all : c.loop-n.n ≡ c.args.arc_count = omega arith in
+    (sides_moved c.args.places.now c.args.arc_count c.loop-n.sides.items c.sort_by_key.new.self.items c.in_ok-sort_by_key.ensures.permutation
+    (subst (λ (n : ℕ). AreSides c.args.places.now n c.loop-n.sides.items) all c.loop-n.invariant)).there
