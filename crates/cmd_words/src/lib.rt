@@ -21,6 +21,8 @@ mod options;
 mod reading;
 mod so_far;
 mod synth;
+#[cfg(test)]
+mod tests;
 mod texts;
 mod values;
 mod word_groups;
