@@ -8,4 +8,4 @@ pub mod PlaceLemmas
 pub mod ReadLemmas
 pub mod ObjectLemmas
 pub mod StitchLemmas
-pub mod CountLemmas
+pub mod SumLemmas

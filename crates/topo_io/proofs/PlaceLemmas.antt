@@ -1,19 +1,14 @@
 -- Places on the grid, taken apart at the grid's unit.
-use Rattle.std.proofs.Common.{ℕ, suc, ◌≡◌, ◌+◌, ◌-◌, ◌*◌, ◌/◌, ◌%◌, ◌^◌, ◌<◌, ◌≤◌, arith, ℤ, pos, negsuc, ◌+ℤ◌, ◌-ℤ◌, ◌*ℤ◌, ◌<ℤ◌, Bool, true, false, cond, Option, Some, None, refl, ap, sym, subst, ◌∙◌}
-use Rattle.std.specs.Prelude.{unsigned_abs}
-use Rattle.std.proofs.lemmas.Bool.Decides.{nat_tests}
+use Rattle.std.proofs.Common.{◌≡◌, ◌+◌, ◌*◌, ◌/◌, ◌%◌, ℤ, pos, negsuc, ◌+ℤ◌, ◌*ℤ◌, ◌<ℤ◌, Option, Some, sym, subst, ◌∙◌}
 use Rattle.std.specs.Int.{int_div_euclid, int_rem_euclid}
-use Rattle.std.proofs.lemmas.Int.{ints}
 use Rattle.std.proofs.lemmas.Nat.{div-add-mod'}
 use Rattle.plane_algebra.specs.Rounding.{Rounds}
 use Rattle.plane_algebra.proofs.Order.{order}
 use Rattle.plane_algebra.proofs.Ring.{ring, ◌≐◌, ◌⊞◌, ◌⊠◌}
 use Rattle.plane_algebra.proofs.Rounding.{rounds-add, rounds_by_quotient, rounds_unique}
-use Rattle.json_read.specs.Numeral.{checked_grid, fits_grid, floor_div, rounded}
 use Rattle.plane_model.specs.Points.{GridPoint}
 use Rattle.grid_base.specs.Grid.{grid_point}
 use Rattle.geojson_io.specs.Positions.{numbered_point}
-use Rattle.topo_io.specs.Transform.{AxisUnits, axis_place}
 
 -- a number is its quotient times the divisor, and the remainder
 quotient_and_rest : (z u : ℤ) → pos 0 <ℤ u → z ≡ u *ℤ int_div_euclid z u +ℤ int_rem_euclid z u
@@ -38,33 +33,6 @@ parts_round n s o u h =
     let by_parts : Rounds u (n *ℤ s +ℤ o) (k +ℤ int_div_euclid (pos 2 *ℤ x +ℤ u) (pos 2 *ℤ u)) =
     subst (λ (z : ℤ). Rounds u z (k +ℤ int_div_euclid (pos 2 *ℤ x +ℤ u) (pos 2 *ℤ u))) all (rounds-add u x (int_div_euclid (pos 2 *ℤ x +ℤ u) (pos 2 *ℤ u)) k (rounds_by_quotient u x h)) in
     rounds_unique u (n *ℤ s +ℤ o) (k +ℤ int_div_euclid (pos 2 *ℤ x +ℤ u) (pos 2 *ℤ u)) (int_div_euclid (pos 2 *ℤ (n *ℤ s +ℤ o) +ℤ u) (pos 2 *ℤ u)) h by_parts (rounds_by_quotient u (n *ℤ s +ℤ o) h)
-
-floor_is : (z : ℤ) (d : ℕ) → int_div_euclid z (pos d) ≡ floor_div z d
-floor_is (pos n) d = refl
-floor_is (negsuc n) d = refl
-
--- a number in units of 10^-28, rounded to so many places
-pub place_rounds : (m : ℤ) (places : ℕ) → places ≤ 7 → int_div_euclid (pos 2 *ℤ m +ℤ pos (10 ^ (28 - places))) (pos 2 *ℤ pos (10 ^ (28 - places))) ≡ rounded m (pos places -ℤ pos 28)
-place_rounds m places h =
-    let digits : 28 - places ≡ suc (27 - places) = omega (arith, h) in
-    let shift : pos places -ℤ pos 28 ≡ negsuc (27 - places) = omega (arith, ints, h) in
-    ap (λ (d : ℕ). int_div_euclid (pos 2 *ℤ m +ℤ pos (10 ^ d)) (pos 2 *ℤ pos (10 ^ d))) digits
-    ∙ floor_is (pos 2 *ℤ m +ℤ pos (10 ^ suc (27 - places))) (2 * 10 ^ suc (27 - places)) ∙ ap (rounded m) (sym shift)
-
-pub placed : (a : AxisUnits) (number : ℤ) (places : ℕ) (unit place : ℤ) → places ≤ 7 → unit ≡ pos (10 ^ (28 - places)) → place ≡ int_div_euclid (pos 2 *ℤ (number *ℤ a.scale +ℤ a.offset) +ℤ unit) (pos 2 *ℤ unit)
-    → place ≡ axis_place a places number
-placed a number places unit place h u e =
-    e ∙ ap (λ (w : ℤ). int_div_euclid (pos 2 *ℤ (number *ℤ a.scale +ℤ a.offset) +ℤ w) (pos 2 *ℤ w)) u ∙ place_rounds (number *ℤ a.scale +ℤ a.offset) places h
-
-pub on_grid : (g place : ℤ) → place ≡ g → unsigned_abs place ≤ 2000000000 → Some place ≡ checked_grid g
-on_grid g place e h =
-    let fits : fits_grid place ≡ true = grind (arith, nat_tests) in
-    sym (ap (λ (t : Bool). cond t (Some place) None) fits) ∙ ap checked_grid e
-
-pub off_grid : (g place : ℤ) → place ≡ g → 2000000000 < unsigned_abs place → None ≡ checked_grid g
-off_grid g place e h =
-    let past : fits_grid place ≡ false = grind (arith, nat_tests) in
-    sym (ap (λ (t : Bool). cond t (Some place) None) past) ∙ ap checked_grid e
 
 -- the point of two numbers that the grid has
 pub point_is : (a b : Option ℤ) (x y : ℤ) (r : Option GridPoint) → Some x ≡ a → Some y ≡ b → r ≡ grid_point x y → r ≡ numbered_point a b

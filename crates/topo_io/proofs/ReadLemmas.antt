@@ -103,11 +103,6 @@ pub passes_on : {A B : Type 0} (outer : Reads TopoWhy A) (inner : Reads TopoWhy 
 passes_on {A} outer inner room old r (Why why) mid new is e on = subst (λ (s : Result A Stop). Answers outer room s new) (sym is) (on why e)
 passes_on {A} outer inner room old r Memory mid new is e on = subst (λ (s : Result A Stop). Answers outer room s new) (sym is) tt
 
-pub plain_passes_on : {A B : Type 0} (outer : Result A TopoWhy) (inner : Result B TopoWhy) (r : Result A Stop) (stop : Stop)
-    → r ≡ Err stop → AnswersPlain inner (Err stop) → ((why : TopoWhy) → inner ≡ Err why → outer ≡ Err why) → AnswersPlain outer r
-plain_passes_on {A} outer inner r (Why why) is e on = subst (λ (s : Result A Stop). AnswersPlain outer s) (sym is) (on why e)
-plain_passes_on {A} outer inner r Memory is e on = subst (λ (s : Result A Stop). AnswersPlain outer s) (sym is) tt
-
 -- the same with the place of the fault
 pub fault_passes_on : {A B : Type 0} (outer : Result A Fault) (inner : Result B Fault) (e : TopoFault) → IsFault inner e → ((f : Fault) → inner ≡ Err f → outer ≡ Err f) → IsFault outer e
 fault_passes_on outer inner (Bad why place) h on = let f : Fault = (why, place) in on f h

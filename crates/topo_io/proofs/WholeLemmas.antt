@@ -1,6 +1,6 @@
 -- Numerals as whole numbers of units: a pass over the digits finds them, with numbers counted no further than a cap.
-use Rattle.std.proofs.Common.{ℕ, zero, suc, ◌≡◌, ◌+◌, ◌-◌, ◌*◌, ◌/◌, ◌%◌, ◌^◌, ◌<◌, ◌≤◌, List, ◌++◌, Bool, true, false, cond, ◌==◌, min, refl, ap, ◌∙◌, sym, subst, length, arith, zero-mul, lit<, lit≤, ℤ, pos, negsuc, neg_ℤ, ◌<ℤ◌, Option, Some, None, ◌⊎◌, inl, inr}
-use Rattle.std.specs.Prelude.{option_map, unsigned_abs}
+use Rattle.std.proofs.Common.{ℕ, zero, suc, ◌≡◌, ◌+◌, ◌-◌, ◌*◌, ◌/◌, ◌%◌, ◌^◌, ◌<◌, ◌≤◌, List, ◌++◌, Bool, true, false, cond, ◌==◌, min, refl, ap, ◌∙◌, sym, subst, length, arith, zero-mul, lit<, lit≤, ℤ, pos, negsuc, neg_ℤ, Option, Some, None, ◌⊎◌, inl, inr}
+use Rattle.std.specs.Prelude.{option_map}
 use Rattle.std.proofs.lemmas.Bool.{cases_lt}
 use Rattle.std.proofs.lemmas.Int.{ints}
 use Rattle.std.proofs.lemmas.Nat.{div-mul-add, mod-mul-add}
@@ -163,11 +163,6 @@ size_down m (negsuc j) f places k d lf ld small lp s = go (cases_lt (suc j) powe
         let at : shifted (negsuc j) f places ≡ negsuc i = omega (arith, ints, l, lp) in
         let power : 10 ^ d ≤ 10 ^ suc k = pow-le-pow_right (lit< tt) far in
         cut_further m i k (omega (arith, small, power)) further ∙ ap (size_at m) (sym at)
-
--- a number below zero
-pub below_zero : (z : ℤ) → z <ℤ pos 0 → (k : ℕ) × (z ≡ negsuc k) × (unsigned_abs z ≡ suc k)
-below_zero (pos n) h = absurd (omega (arith, ints, h))
-below_zero (negsuc n) h = (n, refl, refl)
 
 -- ## The sign
 

@@ -2,7 +2,7 @@ use Rattle.std.proofs.Common.{rules, ◌≡◌, ◌+ℤ◌, Some, None, if◌the
 use Rattle.std.specs.Int.{w64}
 use Rattle.json_read.specs.Seen.{json_value}
 use Rattle.topo_io.specs.Positions.{is_sum}
-use Rattle.topo_io.proofs.CountLemmas.{sums_are, sums_past}
+use Rattle.topo_io.proofs.SumLemmas.{sums_are, sums_past}
 use Rattle.topo_io.proofs.reading.positions.sums_after.Goals as goal
 
 pub returns-in_default-sum-2-clause-exact : goal.returns-in_default-sum-2-clause-exact
