@@ -3,3 +3,4 @@ pub mod JoiningLemmas
 pub mod NumberingLemmas
 pub mod AreaLemmas
 pub mod SideLemmas
+pub mod ListedLemmas

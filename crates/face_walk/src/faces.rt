@@ -1,5 +1,8 @@
-ghost use Rattle.std.specs.Prelude.{◌≡◌, ◌+◌, ◌*◌, ◌<◌, ◌≤◌, All, IfOk, Some, ℕ, length, slice_get};
-ghost use Rattle.face_walk.specs.Places.{HasArc, HasPlaces, IsBuiltOf, place_of};
+ghost use Rattle.std.specs.Prelude.{◌≡◌, ◌+◌, ◌*◌, ◌<◌, ◌≤◌, All, IfOk, List, Some, ℕ, length, map, slice_get};
+ghost use Rattle.plane_model.specs.Points.{Path};
+ghost use Rattle.face_walk.specs.Areas.{area_within};
+ghost use Rattle.face_walk.specs.Places.{HasArc, HasPlaces, IsBuiltOf, areas_of_faces, arcs_with_left, place_of};
+ghost use Rattle.face_walk.specs.Sides.{AreListed};
 
 use crate::areas::area_of_face;
 use crate::joining::Joining;
@@ -28,6 +31,7 @@ pub struct Faces {
 impl Model for Faces {
     ghost use Rattle.std.specs.Prelude.{◌≡◌, ◌<◌, ◌≤◌, All, length};
     ghost use Rattle.face_walk.specs.Places.{FaceTable, HasPlaces};
+    ghost use Rattle.face_walk.specs.Sides.{AreListed};
 
     ghost Value = { FaceTable };
 
@@ -39,7 +43,8 @@ impl Model for Faces {
         × (length f.side_faces.items ≡ length f.side_arcs.items)
         × All (HasPlaces (length f.places.items)) f.side_arcs.items
         × (length f.areas.items ≡ f.count)
-        × All (λ l. HasPlaces (length f.places.items) l.along) f.search.links.items };
+        × All (λ l. HasPlaces (length f.places.items) l.along) f.search.links.items
+        × AreListed f.places.items f.side_faces.items f.side_arcs.items };
 }
 
 impl Faces {
@@ -71,6 +76,7 @@ impl Faces {
         requires few { length t.now ≤ 2000000000 }
         requires places { length numbering.places.items ≡ 2 * length t.now + 1 }
         requires sides { All (λ s. s.arc.arc < length t.now) sides.now }
+        requires listed { AreListed numbering.places.items (map (λ s. s.face) sides.now) (map (λ s. s.arc) sides.now) }
         requires links { All (λ l. HasPlaces (length numbering.places.items) l.along) search.links.items }
         ensures built { IfOk result (IsBuiltOf t.now) }
     {
@@ -114,6 +120,7 @@ impl Faces {
 
     /// The signed arcs that a face is left of, in order.
     pub fn arcs_of(&self, f: FaceId) -> &[SignedArc]
+        ensures exact { (arcs : List Path) → IsBuiltOf arcs self.now → result.now ≡ arcs_with_left self.now.places (length arcs) f }
         ensures there { All (HasArc self.now) result.now }
     {
         arcs_left(&self.side_faces, &self.side_arcs, f.num())
@@ -123,6 +130,7 @@ impl Faces {
     pub fn twice_area(&self, f: FaceId) -> i128
         requires { f < self.now.count }
         ensures exact { slice_get self.now.areas f ≡ Some result }
+        ensures summed { (arcs : List Path) → IsBuiltOf arcs self.now → result ≡ area_within arcs (arcs_with_left self.now.places (length arcs) f) }
     {
         self.areas[f.num() as usize]
     }
@@ -142,6 +150,8 @@ impl Faces {
 // Of arcs that stand by the faces on their left, in order, those of one face.
 fn arcs_left<'a>(faces: &[u32], arcs: &'a [SignedArc], f: u32) -> &'a [SignedArc]
     requires { length faces.now ≡ length arcs.now }
+    ensures exact { (places : List ℕ) (many : ℕ) → AreListed places faces.now arcs.now → length places ≡ 2 * many + 1 →
+        result.now ≡ arcs_with_left places many f }
     ensures below { (n : ℕ) → All (λ a. a.arc < n) arcs.now → All (λ a. a.arc < n) result.now }
     ensures there { (m : ℕ) → All (HasPlaces m) arcs.now → All (HasPlaces m) result.now }
 {
@@ -161,6 +171,8 @@ fn areas_of(
     requires each { length faces.now ≡ length arcs.now }
     requires there { All (λ a. a.arc < length t.now) arcs.now }
     ensures count { IfOk result (λ v. length v.items ≡ count) }
+    ensures exact { (places : List ℕ) → AreListed places faces.now arcs.now → length places ≡ 2 * length t.now + 1 →
+        IfOk result (λ v. v.items ≡ areas_of_faces t.now places count) }
 {
     let mut areas = Vec::with_capacity(alloc, count as usize)?;
     for f in 0..count {

@@ -1,7 +1,7 @@
 ghost use Rattle.std.specs.Prelude.{◌≡◌, ◌+◌, ◌*◌, ◌<◌, ◌≤◌, All, IfOk, length, map, slice_index};
 ghost use Rattle.face_walk.specs.Numbering.{IsNumbering};
 ghost use Rattle.face_walk.specs.Places.{place_of};
-ghost use Rattle.face_walk.specs.Sides.{AreInOrder, AreSides};
+ghost use Rattle.face_walk.specs.Sides.{AreInOrder, AreListed, AreSides};
 
 use crate::joining::Joining;
 use crate::places::place_of;
@@ -57,6 +57,7 @@ pub fn sides_of(alloc: Global, arc_count: u32, places: &[u32]) -> Result<Vec<Fac
     ensures exact { IfOk result (λ v. AreSides places.now arc_count v.items) }
     ensures in_order { IfOk result (λ v. AreInOrder v.items) }
     ensures there { IfOk result (λ v. All (λ s. s.arc.arc < arc_count) v.items) }
+    ensures listed { IfOk result (λ v. AreListed places.now (map (λ s. s.face) v.items) (map (λ s. s.arc) v.items)) }
 {
     let mut sides = Vec::with_capacity(alloc, places.len())?;
     for n in 0..arc_count {

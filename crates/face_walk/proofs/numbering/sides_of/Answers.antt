@@ -1,10 +1,12 @@
-use Rattle.std.proofs.Common.{rules, ◌≡◌, ◌∙◌, sym, ap, subst, arith, ℕ, ◌+◌, List, [], ◌∷◌, ◌++◌, get_or}
+use Rattle.std.proofs.Common.{rules, ◌≡◌, ◌∙◌, sym, ap, subst, arith, ℕ, ◌+◌, List, [], ◌∷◌, ◌++◌, get_or, map}
+use Rattle.std.proofs.lemmas.Fn.{always_returns_same}
 use Rattle.std.proofs.lemmas.List.Sorted.{IsNonDecreasingBy-from_sort_by_key}
 use Rattle.plane_model.specs.Arcs.{SignedArc, forward, backward}
-use Rattle.face_walk.specs.Places.{place_of}
+use Rattle.face_walk.specs.Places.{place_of, signed_below}
 use Rattle.face_walk.specs.declared.numbering.FaceSide.{FaceSide}
-use Rattle.face_walk.specs.Sides.{AreSides, HasLeft}
+use Rattle.face_walk.specs.Sides.{AreInOrder, AreSides, HasLeft}
 use Rattle.face_walk.proofs.SideLemmas.{sides_more, sides_moved}
+use Rattle.face_walk.proofs.ListedLemmas.{side_with, sides_with_more, sides_are_listed}
 use Rattle.face_walk.proofs.numbering.sides_of.Goals as goal
 
 pub loop-n-preserved : goal.loop-n-preserved
@@ -15,10 +17,12 @@ loop-n-preserved c =
     let t = c.side_of-in-loop-n.result in
     let sl : HasLeft places s = c.side_of.ensures.face ∙ ap (λ (a : SignedArc). get_or places (place_of a) 0) (sym c.side_of.ensures.arc) in
     let tl : HasLeft places t = c.side_of-in-loop-n.ensures.face ∙ ap (λ (a : SignedArc). get_or places (place_of a) 0) (sym c.side_of-in-loop-n.ensures.arc) in
-    subst (λ (xs : List FaceSide). AreSides places (n + 1) xs) (sym (c.in_ok-push-2.ensures.items ∙ ap (λ (xs : List FaceSide). xs ++ t ∷ []) c.in_ok-push.ensures.items))
-    (sides_more places n c.loop-n.sides.items s t c.loop-n.invariant sl tl
-    (c.side_of.ensures.arc ∙ c.forward.ensures.made ∙ ap forward c.new-id.ensures.made)
-    (c.side_of-in-loop-n.ensures.arc ∙ c.backward.ensures.made ∙ ap backward c.new-id.ensures.made))
+    let se : s.arc ≡ forward n = c.side_of.ensures.arc ∙ c.forward.ensures.made ∙ ap forward c.new-id.ensures.made in
+    let te : t.arc ≡ backward n = c.side_of-in-loop-n.ensures.arc ∙ c.backward.ensures.made ∙ ap backward c.new-id.ensures.made in
+    let items = sym (c.in_ok-push-2.ensures.items ∙ ap (λ (xs : List FaceSide). xs ++ t ∷ []) c.in_ok-push.ensures.items) in (
+      subst (λ (xs : List FaceSide). AreSides places (n + 1) xs) items (sides_more places n c.loop-n.sides.items s t c.loop-n.invariant.0 sl tl se te),
+      sym items ∙ sides_with_more places n c.loop-n.sides.items s t c.loop-n.invariant.1 sl tl se te,
+    )
 
 pub returns-clause-exact : goal.returns-clause-exact
 returns-clause-exact c =
@@ -26,7 +30,7 @@ returns-clause-exact c =
     let done = c.loop-n-test.false in
     let all : c.loop-n.n ≡ c.args.arc_count = omega arith in
     sides_moved c.args.places.now c.args.arc_count c.loop-n.sides.items c.sort_by_key.new.self.items c.in_ok-sort_by_key.ensures.permutation
-    (subst (λ (n : ℕ). AreSides c.args.places.now n c.loop-n.sides.items) all c.loop-n.invariant)
+    (subst (λ (n : ℕ). AreSides c.args.places.now n c.loop-n.sides.items) all c.loop-n.invariant.0)
 
 pub returns-clause-in_order : goal.returns-clause-in_order
 returns-clause-in_order c = IsNonDecreasingBy-from_sort_by_key (λ (s : FaceSide). s.face) c.sort_by_key.new.self.items c.in_ok-sort_by_key.ensures.sorted (λ a r q k. search rules)
@@ -37,4 +41,19 @@ returns-clause-there c =
     let done = c.loop-n-test.false in
     let all : c.loop-n.n ≡ c.args.arc_count = omega arith in
     (sides_moved c.args.places.now c.args.arc_count c.loop-n.sides.items c.sort_by_key.new.self.items c.in_ok-sort_by_key.ensures.permutation
-    (subst (λ (n : ℕ). AreSides c.args.places.now n c.loop-n.sides.items) all c.loop-n.invariant)).there
+    (subst (λ (n : ℕ). AreSides c.args.places.now n c.loop-n.sides.items) all c.loop-n.invariant.0)).there
+
+pub returns-clause-listed : goal.returns-clause-listed
+returns-clause-listed c =
+    let end = c.loop-n.auto.n-end in
+    let done = c.loop-n-test.false in
+    let places = c.args.places.now in
+    let old = c.loop-n.sides.items in
+    let new = c.sort_by_key.new.self.items in
+    let all : c.loop-n.n ≡ c.args.arc_count = omega arith in
+    let is : old ≡ map (side_with places) (signed_below c.args.arc_count) = c.loop-n.invariant.1 ∙ ap (λ (n : ℕ). map (side_with places) (signed_below n)) all in
+    let sides = sides_moved places c.args.arc_count old new c.in_ok-sort_by_key.ensures.permutation (subst (λ (n : ℕ). AreSides places n old) all c.loop-n.invariant.0) in
+    let up : AreInOrder new = IsNonDecreasingBy-from_sort_by_key (λ (s : FaceSide). s.face) new c.in_ok-sort_by_key.ensures.sorted (λ a r q k. search rules) in
+    sides_are_listed places c.args.arc_count old new is sides.left
+    (c.in_ok-sort_by_key.ensures.stable (λ (s : FaceSide). s.face) (always_returns_same _ (λ a r. r ≡ a.0.now.face) _ (λ a r q k. search rules)))
+    c.requires.each up

@@ -1,8 +1,9 @@
-use Rattle.std.proofs.Common.{◌≡◌, ◌∙◌, sym, ap, ◌<◌, List, ℕ, All, arith, length, map}
+use Rattle.std.proofs.Common.{◌≡◌, ◌∙◌, sym, ap, subst, ◌<◌, List, ℕ, All, arith, length, map}
 use Rattle.std.proofs.lemmas.List.{length-map}
 use Rattle.std.proofs.lemmas.List.Elements.{All-same, All-map, All-weaker}
 use Rattle.plane_model.specs.Arcs.{SignedArc}
 use Rattle.face_walk.specs.Places.{HasPlaces}
+use Rattle.face_walk.specs.Sides.{AreListed}
 use Rattle.face_walk.specs.declared.numbering.FaceSide.{FaceSide}
 use Rattle.face_walk.proofs.faces.Faces.of_sides.Goals as goal
 
@@ -31,4 +32,6 @@ invariant_of-result c =
       All-weaker (below n) (HasPlaces (length c.args.numbering.places.items)) (λ a h. omega arith) c.in_ok-side_arcs.side_arcs.items (arcs_below n sides c.in_ok-side_arcs.side_arcs.items arcs c.requires.sides),
       c.in_ok-areas.ensures.count,
       c.requires.links,
+      subst (λ (xs : List ℕ). AreListed c.args.numbering.places.items xs c.in_ok-side_arcs.side_arcs.items) (sym faces)
+          (subst (λ (xs : List SignedArc). AreListed c.args.numbering.places.items (map (λ (s : FaceSide). s.face) sides) xs) (sym arcs) c.requires.listed),
     )
