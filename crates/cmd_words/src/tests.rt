@@ -103,7 +103,11 @@ fn a_thousand_words_are_read(rt: HostRuntime) -> Result<(), Fail> {
 fn counts(alloc: Global, line: &[&str]) -> Result<(u32, u32, usize), Fail> {
     match read_chain(alloc, &words(alloc, line)?)? {
         Job::Chain(chain) => {
-            Ok((chain.sources.len(), chain.boxes.len(), chain.commands.as_slice().len()))
+            Ok((
+                chain.sources.len(),
+                chain.boxes.len(),
+                chain.commands.as_slice().len(),
+            ))
         }
         _ => Err("no chain")?,
     }
@@ -112,7 +116,17 @@ fn counts(alloc: Global, line: &[&str]) -> Result<(u32, u32, usize), Fail> {
 #[test]
 fn a_chain_has_its_sources_boxes_and_commands(rt: HostRuntime) -> Result<(), Fail> {
     let line = [
-        "-i", "a.json", "-", "-clip", "x.JSON", "+", "-erase", "bbox=0.4,0.5,2,4", "-o", "y", "format=csv",
+        "-i",
+        "a.json",
+        "-",
+        "-clip",
+        "x.JSON",
+        "+",
+        "-erase",
+        "bbox=0.4,0.5,2,4",
+        "-o",
+        "y",
+        "format=csv",
     ];
     let (sources, boxes, commands) = counts(rt.alloc(), &line)?;
     assert_eq!(rt; sources, 3);

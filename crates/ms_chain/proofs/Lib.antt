@@ -1,3 +1,5 @@
+pub mod Decoded
+pub mod Given
 pub mod Drawings
 pub mod Ending
 pub mod Gathering

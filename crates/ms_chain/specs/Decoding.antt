@@ -1,5 +1,5 @@
 -- What becomes of the bytes of a source: layers, or why they are refused.
-use Rattle.std.specs.Prelude.{◌≡◌, ℕ, ⊤, ◌⊎◌, Bool, false, List, codes, Option, Some, None, Result, Ok, Err, MatchBool}
+use Rattle.std.specs.Prelude.{◌≡◌, ℕ, ⊤, ◌⊎◌, Bool, false, List, [], ◌∷◌, length, replicate, codes, Option, Some, None, Result, Ok, Err, MatchBool}
 use Rattle.std.specs.Str.{bytes_eq}
 use Rattle.json_read.specs.Json.{JsonValue, null, boolean, number, string, array, object}
 use Rattle.json_read.specs.Lists.{fields_list, value_named}
@@ -12,6 +12,12 @@ use Rattle.geojson_io.specs.Reads.{Fault}
 use Rattle.geojson_io.specs.LayerContent.{LayerContent}
 use Rattle.geojson_io.specs.Layers.{read_geojson}
 use Rattle.geojson_io.specs.declared.layer.Room.{Room}
+use Rattle.topo_io.specs.Reads.{Fault as TopologyFault}
+use Rattle.topo_io.specs.Topologies.{read_topojson}
+use Rattle.json_read.specs.Table.{TableContent}
+use Rattle.grid_base.specs.declared.kinds.Kind.TheVariants as Kind
+use Rattle.geojson_io.specs.declared.shape.GeoShape.TheVariants.{Nothing}
+use Rattle.table_ops.specs.CsvTable.{ReadsText}
 use Rattle.table_ops.specs.declared.fault.CsvFault.{CsvFault}
 use Rattle.table_ops.specs.declared.fault.CsvFault.TheVariants as csv
 use Rattle.cmd_words.specs.declared.job.SourceWord.{SourceWord}
@@ -77,16 +83,18 @@ abbrev pub or_shape_fault : Result (List LayerContent) Fault → Layers
 or_shape_fault (Ok layers) = Ok layers
 or_shape_fault (Err bad) = Err (Shape bad.0 bad.1)
 
--- of a topology nothing is said yet but that it is accepted, or refused as one
-abbrev pub TopologyAnswers : Layers → Type 0
-TopologyAnswers (Ok layers) = ⊤
-TopologyAnswers (Err (Topo why place)) = ⊤
-TopologyAnswers (Err _) = ⊥
+abbrev pub or_topology_fault : Result (List LayerContent) TopologyFault → Layers
+or_topology_fault (Ok layers) = Ok layers
+or_topology_fault (Err bad) = Err (Topo bad.0 bad.1)
+
+-- what becomes of a topology
+abbrev pub TopologyAnswers : ℕ → Room → JsonValue → Layers → Type 0
+TopologyAnswers places room value result = or_topology_fault (read_topojson places room.positions room.features value) ≡ result
 
 -- what becomes of a value of JSON
 abbrev pub ValueAnswers : ℕ → Room → Content → JsonValue → Layers → Type 0
 ValueAnswers places room title value result =
-    MatchBool (is_topology value) (TopologyAnswers result) (or_shape_fault (read_geojson places title room.positions room.features value) ≡ result)
+    MatchBool (is_topology value) (TopologyAnswers places room value result) (or_shape_fault (read_geojson places title room.positions room.features value) ≡ result)
 
 -- ---- bytes
 
@@ -108,16 +116,41 @@ GivesBy P (Err Memory) = ⊤
 abbrev pub ValueGives : ℕ → Room → Content → JsonValue → Result (List LayerContent) DecodeStop → Type 0
 ValueGives places room title value = GivesBy (ValueAnswers places room title value)
 
-abbrev pub TopologyGives : Result (List LayerContent) DecodeStop → Type 0
-TopologyGives = GivesBy TopologyAnswers
+abbrev pub TopologyGives : ℕ → Room → JsonValue → Result (List LayerContent) DecodeStop → Type 0
+TopologyGives places room value = GivesBy (TopologyAnswers places room value)
 
 abbrev pub DecodesJson : ℕ → Room → Content → Content → Result (List LayerContent) DecodeStop → Type 0
 DecodesJson places room title bytes = GivesBy (JsonGives places room title bytes)
+
+-- ---- comma-separated text
+
+-- the layer of a table: rows without geometry
+abbrev pub table_layer : Content → TableContent → LayerContent
+table_layer title t = record { name = title; kind = Kind.Table; table = t; shapes = replicate (length t.rows) Nothing }
+
+-- the bytes are the text of a table, of which this is the one layer, under some title
+pub record IsTableText (room : Room) (source : SourceWord) (bytes : Content) (layers : List LayerContent) : Type 0 where
+  pub title : Content
+  pub table : TableContent
+  pub read : ReadsText source.string_fields room.features bytes (Ok table)
+  pub one : layers ≡ table_layer title table ∷ []
+
+-- the bytes are refused as comma-separated text, for this reason
+pub record IsRefusedTable (room : Room) (source : SourceWord) (bytes : Content) (why : InputWhy) : Type 0 where
+  pub fault : CsvFault
+  pub found : ReadsText source.string_fields room.features bytes (Err fault)
+  pub told : table_stop fault ≡ Refused why
+
+abbrev pub DecodesTable : Room → SourceWord → Content → Result (List LayerContent) DecodeStop → Type 0
+DecodesTable room source bytes (Ok layers) = IsTableText room source bytes layers
+DecodesTable room source bytes (Err (Refused why)) = IsRefusedTable room source bytes why
+DecodesTable room source bytes (Err Memory) = ⊤
+
+-- ---- what becomes of the bytes of a source
 
 -- some title, in which the layers of a JSON source are named
 abbrev pub DecodesTitled : ℕ → Room → Content → Result (List LayerContent) DecodeStop → Type 0
 DecodesTitled places room bytes result = (title : Content) × DecodesJson places room title bytes result
 
--- What becomes of the bytes of a source. Of comma-separated text nothing is said yet.
 abbrev pub Decodes : ℕ → Room → SourceWord → Content → Result (List LayerContent) DecodeStop → Type 0
-Decodes places room source bytes result = MatchBool (is_csv source bytes) ⊤ (DecodesTitled places room bytes result)
+Decodes places room source bytes result = MatchBool (is_csv source bytes) (DecodesTable room source bytes result) (DecodesTitled places room bytes result)

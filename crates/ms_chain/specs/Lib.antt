@@ -1,6 +1,7 @@
 pub mod Decoding
 pub mod Effects
 pub mod Formats
+pub mod Budget
 pub mod Gathering
 pub mod Messages
 pub mod Running

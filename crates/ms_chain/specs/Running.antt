@@ -15,7 +15,8 @@ use Rattle.cmd_words.specs.declared.job.Action.TheVariants as action
 use Rattle.ms_chain.specs.Effects.{OutsideSeen, CountsGrew, WroteText, WriteRose, CutsText}
 use Rattle.std.specs.Io.KnownBytes.{Appends}
 use Rattle.io_core.specs.Counts.{Rose}
-use Rattle.ms_chain.specs.Sources.{SourcesSeen, StopsAtSource}
+use Rattle.geojson_io.specs.LayerContent.{LayerContent}
+use Rattle.ms_chain.specs.Sources.{SourcesSeen, StopsAtSource, GivesAll}
 use Rattle.ms_chain.specs.Telling.{StreamSeen, AddsFront}
 use Rattle.ms_chain.specs.declared.outcome.Outcome.{Outcome}
 use Rattle.ms_chain.specs.declared.outcome.Outcome.TheVariants as outcome
@@ -85,10 +86,16 @@ IsUnbegun (outcome.BadInput source why) = ⊥
 IsUnbegun (outcome.Refused command why) = ⊥
 IsUnbegun (outcome.WriteFault command) = ⊥
 
--- a source ends the run before anything is written, or the density of the snapped paths or memory does
+-- all sources are accepted, and the density of the snapped paths or memory ends the run
+pub record EndsUnbegun (chain : Chain) (sources sources' : SourcesSeen) (o : Outcome) : Type 0 where
+  pub layers : List (List LayerContent)
+  pub given : GivesAll chain.places chain.sources sources sources' layers
+  pub unbegun : IsUnbegun o
+
+-- a source ends the run before anything is written, or what it gives does
 pub record EndsBefore (chain : Chain) (sources sources' : SourcesSeen) (before after : OutsideSeen) (o : Outcome) : Type 0 where
   pub kept : Keeps before after
-  pub stops : StopsAtSource chain.places chain.sources sources sources' o ⊎ IsUnbegun o
+  pub stops : StopsAtSource chain.places chain.sources sources sources' o ⊎ EndsUnbegun chain sources sources' o
 
 -- the commands run from the first, or memory ends the run before it
 abbrev pub BegunRuns : List Command → OutsideSeen → OutsideSeen → Outcome → Type 0

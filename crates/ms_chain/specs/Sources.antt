@@ -1,21 +1,20 @@
 -- Reading the sources of a run: what was read of files and of standard input, and why the first source that isn't
 -- accepted ends the run.
-use Rattle.std.specs.Prelude.{◌≡◌, ℕ, ◌+◌, ◌<◌, ◌≤◌, ⊤, List, length, slice_get, Option, Some, Result, Ok, Err, MatchOption, MatchBool}
+use Rattle.std.specs.Prelude.{◌≡◌, ℕ, ◌+◌, ◌<◌, ◌≤◌, ⊤, List, [], ◌∷◌, take, length, slice_get, Option, Some, Result, Ok, Err, MatchOption, MatchBool}
 use Rattle.io_core.specs.Counts.{raised, Rose, NeverFell, NoneFell}
 use Rattle.io_core.specs.Contents.{Content, FileMap, SameFiles}
 use Rattle.io_core.specs.Whole.{AtName, MissesName}
 use Rattle.io_core.specs.declared.whole.FileStop.{FileStop}
 use Rattle.io_core.specs.declared.whole.FileStop.TheVariants as stop
-use Rattle.geojson_io.specs.declared.layer.Room.{Room}
+use Rattle.geojson_io.specs.LayerContent.{LayerContent}
 use Rattle.cmd_words.specs.declared.job.SourceWord.{SourceWord}
+use Rattle.ms_chain.specs.Budget.{whole_budget, budget_behind}
 use Rattle.ms_chain.specs.Decoding.{Decodes}
 use Rattle.ms_chain.specs.declared.decoding.DecodeStop.TheVariants.{Refused}
+use Rattle.ms_chain.specs.declared.sources.Budget.{Budget}
+use Rattle.ms_chain.specs.declared.outcome.InputWhy.{InputWhy}
 use Rattle.ms_chain.specs.declared.outcome.Outcome.{Outcome}
 use Rattle.ms_chain.specs.declared.outcome.Outcome.TheVariants.{Done, BadWords, ReadFault, Missing, TooLong, BadInput, TooDense, Refused as RefusedCommand, WriteFault, Memory}
-
--- the most bytes that the sources of a run have together
-abbrev pub most_bytes : ℕ
-most_bytes = 67108864
 
 -- files and standard input, as far as they tell what they hold, with their counts of failed reads and the numbers of
 -- bytes read
@@ -66,34 +65,55 @@ stopped stop.TooLong source = TooLong source
 stopped stop.Memory source = Memory
 
 -- the bytes of the source were read, and are refused for this reason
-pub record IsRefusedInput (places limit : ℕ) (room : Room) (seen : SourcesSeen) (source : SourceWord) (why : Rattle.ms_chain.specs.declared.outcome.InputWhy.InputWhy) : Type 0 where
+pub record IsRefusedInput (places : ℕ) (budget : Budget) (seen : SourcesSeen) (source : SourceWord) (why : InputWhy) : Type 0 where
   pub bytes : Content
   pub there : AtSource seen source (λ content. bytes ≡ content)
-  pub within : length bytes ≤ limit
-  pub refused : Decodes places room source bytes (Err (Refused why))
+  pub within : length bytes ≤ budget.bytes
+  pub refused : Decodes places budget.room source bytes (Err (Refused why))
 
--- why a source with this number, of which so many bytes may be read, ends a run
-abbrev pub SourceStops : ℕ → ℕ → Room → ℕ → SourceWord → SourcesSeen → SourcesSeen → Outcome → Type 0
-SourceStops places limit room number source before after (ReadFault n) = (n ≡ number) × SourceRose before after source
-SourceStops places limit room number source before after (Missing n) = (n ≡ number) × SourceMissing before after source
-SourceStops places limit room number source before after (TooLong n) = (n ≡ number) × AtSource before source (λ there. limit < length there) × ReadsMore limit before after source
-SourceStops places limit room number source before after (BadInput n why) = (n ≡ number) × IsRefusedInput places limit room before source why
-SourceStops places limit room number source before after Memory = ⊤
-SourceStops places limit room number source before after Done = ⊥
-SourceStops places limit room number source before after (BadWords word why) = ⊥
-SourceStops places limit room number source before after (TooDense count) = ⊥
-SourceStops places limit room number source before after (RefusedCommand command why) = ⊥
-SourceStops places limit room number source before after (WriteFault command) = ⊥
+-- why a source with this number, of which so much may be read, ends a run
+abbrev pub SourceStops : ℕ → Budget → ℕ → SourceWord → SourcesSeen → SourcesSeen → Outcome → Type 0
+SourceStops places budget number source before after (ReadFault n) = (n ≡ number) × SourceRose before after source
+SourceStops places budget number source before after (Missing n) = (n ≡ number) × SourceMissing before after source
+SourceStops places budget number source before after (TooLong n) = (n ≡ number) × AtSource before source (λ there. budget.bytes < length there) × ReadsMore budget.bytes before after source
+SourceStops places budget number source before after (BadInput n why) = (n ≡ number) × IsRefusedInput places budget before source why
+SourceStops places budget number source before after Memory = ⊤
+SourceStops places budget number source before after Done = ⊥
+SourceStops places budget number source before after (BadWords word why) = ⊥
+SourceStops places budget number source before after (TooDense count) = ⊥
+SourceStops places budget number source before after (RefusedCommand command why) = ⊥
+SourceStops places budget number source before after (WriteFault command) = ⊥
 
--- the sources before one with this number were read, and it ends the run
+-- ---- the sources before it
+
+-- the bytes of the source were read, gave these layers, and this may be read behind them
+pub record SourceGives (places : ℕ) (source : SourceWord) (budget left : Budget) (seen : SourcesSeen) (layers : List LayerContent) : Type 0 where
+  pub bytes : Content
+  pub there : AtSource seen source (λ content. bytes ≡ content)
+  pub within : length bytes ≤ budget.bytes
+  pub decoded : Decodes places budget.room source bytes (Ok layers)
+  pub left_behind : left ≡ budget_behind budget (length bytes) layers
+
+-- sources that were read in order, each with what the ones before it left, and the layers of each
+abbrev pub SourcesGive : ℕ → List SourceWord → Budget → SourcesSeen → Budget → SourcesSeen → List (List LayerContent) → Type 0
+SourcesGive places [] budget seen left after [] = (left ≡ budget) × (after ≡ seen)
+SourcesGive places [] budget seen left after (layers ∷ more) = ⊥
+SourcesGive places (source ∷ sources) budget seen left after [] = ⊥
+SourcesGive places (source ∷ sources) budget seen left after (layers ∷ more) =
+    (behind : Budget) × (middle : SourcesSeen) × SourceGives places source budget behind seen layers × Grew seen middle × SourcesGive places sources behind middle left after more
+
+-- all sources of a run gave layers
+abbrev pub GivesAll : ℕ → List SourceWord → SourcesSeen → SourcesSeen → List (List LayerContent) → Type 0
+GivesAll places sources before after layers = (left : Budget) × SourcesGive places sources whole_budget before left after layers
+
+-- the sources before one with this number gave layers, and with what they left it ends the run
 pub record StopsAtSource (places : ℕ) (sources : List SourceWord) (before after : SourcesSeen) (outcome : Outcome) : Type 0 where
   pub place : ℕ
   pub source : SourceWord
   pub is_there : slice_get sources place ≡ Some source
-  pub limit : ℕ
-  pub within : limit ≤ most_bytes
-  pub room : Room
+  pub layers : List (List LayerContent)
+  pub left : Budget
   -- what was seen when its reading began
   pub middle : SourcesSeen
-  pub grew : Grew before middle
-  pub stops : SourceStops places limit room (place + 1) source middle after outcome
+  pub given : SourcesGive places (take place sources) whole_budget before left middle layers
+  pub stops : SourceStops places left (place + 1) source middle after outcome

@@ -1,6 +1,7 @@
-ghost use Rattle.std.specs.Prelude.{◌≡◌, ◌≤◌, IfOk, length};
+ghost use Rattle.std.specs.Prelude.{◌≡◌, ◌≤◌, ◌∷◌, [], IfOk, replicate};
 ghost use Rattle.json_read.specs.Seen.{json_value};
-ghost use Rattle.ms_chain.specs.Decoding.{json_stop, table_stop, is_topology, Decodes, DecodesJson, TopologyGives, ValueGives};
+ghost use Rattle.ms_chain.specs.Decoding.{json_stop, table_stop, is_topology, table_layer, Decodes, DecodesJson, DecodesTable, TopologyGives, ValueGives};
+ghost use Rattle.geojson_io.specs.declared.shape.GeoShape.TheVariants.{Nothing};
 
 use crate::formats::{is_csv, title_of};
 use crate::outcome::InputWhy;
@@ -105,7 +106,7 @@ fn topology_layers(
     json: &Json,
 ) -> Result<GeoLayers, DecodeStop>
     requires { places ≤ 7 }
-    ensures gives { TopologyGives result }
+    ensures gives { TopologyGives places room (json_value json.now) result }
 {
     match read_topojson(alloc, json, places, room) {
         Ok(layers) => Ok(layers),
@@ -134,16 +135,14 @@ fn table_layers(
     source: &SourceWord,
     room: Room,
     bytes: &[u8],
-) -> Result<GeoLayers, DecodeStop> {
+) -> Result<GeoLayers, DecodeStop>
+    ensures gives { DecodesTable room source.now bytes.now result }
+{
     let rows = Room2 {
         rows: room.features,
     };
     match read_csv(alloc, bytes, &source.string_fields, rows) {
-        Ok(table) => {
-            let mut layers = GeoLayers::new(alloc);
-            layers.push(table_layer(alloc, title_of(source), table)?)?;
-            Ok(layers)
-        }
+        Ok(table) => Ok(layers_of_table(alloc, title_of(source), table)?),
         Err(fault) => Err(table_stop(fault)),
     }
 }
@@ -163,19 +162,24 @@ fn table_stop(fault: CsvFault) -> DecodeStop
     }
 }
 
-// A layer of rows without geometry.
-fn table_layer(alloc: Global, title: &str, table: Table) -> Result<GeoLayer, AllocError> {
+// The one layer of a table: rows without geometry.
+fn layers_of_table(alloc: Global, title: &str, table: Table) -> Result<GeoLayers, AllocError>
+    ensures made { IfOk result (λ layers. layers ≡ table_layer title.now table ∷ []) }
+{
     let shapes = nothings(alloc, table.row_count())?;
-    Ok(GeoLayer {
+    let layer = GeoLayer {
         name: Text::of(alloc, title)?,
         kind: Kind::Table,
         table,
         shapes,
-    })
+    };
+    let mut layers = GeoLayers::new(alloc);
+    layers.push(layer)?;
+    Ok(layers)
 }
 
 fn nothings(alloc: Global, count: u32) -> Result<GeoShapeList, AllocError>
-    ensures count { IfOk result (λ shapes. length shapes ≡ count) }
+    ensures exact { IfOk result (λ shapes. shapes ≡ replicate count Nothing) }
 {
     let mut shapes = GeoShapeList::new(alloc);
     for _row in 0..count {

@@ -87,11 +87,7 @@ fn add_outcome(line: &mut Line, outcome: &Outcome)
             add_place(line, "source", *source);
             add_input_why(line, *why);
         }
-        Outcome::TooDense { count } => {
-            line.push_str("TooDense with ");
-            add_number(line, *count);
-            line.push_str(" links");
-        }
+        Outcome::TooDense { count } => add_density(line, *count),
         Outcome::Refused { command, why } => {
             add_place(line, "command", *command);
             add_refuse_why(line, *why);
@@ -102,6 +98,16 @@ fn add_outcome(line: &mut Line, outcome: &Outcome)
         }
         Outcome::Memory => line.push_str("Memory"),
     }
+}
+
+fn add_density(line: &mut Line, count: u64)
+    requires room { length line.old.bytes ≤ 8 }
+    ensures added { line.new.bytes ≡ line.old.bytes ++ (codes "TooDense with " ++ (decimal count ++ codes " links")) }
+    ensures short { length line.new.bytes ≤ 150 }
+{
+    line.push_str("TooDense with ");
+    add_number(line, count);
+    line.push_str(" links");
 }
 
 // A kind, and the number behind it.

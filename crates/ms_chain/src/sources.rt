@@ -1,12 +1,14 @@
-ghost use Rattle.std.specs.Prelude.{◌≡◌, ◌≤◌, ◌<◌, ◌-◌, ◌^◌, length, IfErr};
+ghost use Rattle.std.specs.Prelude.{◌≡◌, ◌≤◌, ◌<◌, ◌-◌, ◌^◌, ◌++◌, ◌∷◌, [], length, map, sum_by, Err, IfErr, IfOk, OnOk, OnErr};
+ghost use Rattle.ms_chain.specs.declared.outcome.Outcome.TheVariants.{Memory};
 ghost use Rattle.io_core.specs.Counts.{NoneFell};
-ghost use Rattle.ms_chain.specs.Sources.{most_bytes, Grew, BytesMean, stopped, SourceStops, StopsAtSource};
+ghost use Rattle.ms_chain.specs.Budget.{whole_budget, budget_behind, feature_count, position_count, positions_in, positions_along};
+ghost use Rattle.ms_chain.specs.Sources.{Grew, BytesMean, stopped, SourceGives, SourceStops, GivesAll, StopsAtSource};
 
 use crate::decoding::{DecodeStop, decoded};
 use crate::outcome::Outcome;
 use cmd_words::{Owner, SourceWord};
 use geojson_io::{GeoLayer, GeoLayers, GeoShape, Room};
-use grid_base::PtList;
+use grid_base::{PolygonRings, PtList};
 use io_core::{Bytes, FileStop, Files, ReadStop, Source, read_file, read_whole};
 use std::alloc::Global;
 
@@ -34,7 +36,7 @@ struct Budget {
 
 impl Budget {
     fn whole() -> Budget
-        ensures whole { result.bytes ≡ most_bytes }
+        ensures whole { result ≡ whole_budget }
     {
         Budget {
             bytes: MAX_SOURCE_BYTES,
@@ -44,49 +46,78 @@ impl Budget {
 
     // What is left behind so many bytes, which gave these layers.
     fn behind(self, bytes: u64, layers: &GeoLayers) -> Budget
-        ensures bytes { result.bytes ≡ self.bytes - bytes }
+        ensures left { result ≡ budget_behind self bytes layers.now }
     {
-        let mut room = self.room;
-        for layer in layers.as_slice() {
-            room.features = room.features.saturating_sub(layer.shapes.len());
-            room.positions = room.positions.saturating_sub(positions_of(layer));
-        }
+        let layers = layers.as_slice();
         Budget {
             bytes: self.bytes.saturating_sub(bytes),
-            room,
+            room: Room {
+                positions: behind_layers(self.room.positions, layers),
+                features: behind_features(self.room.features, layers),
+            },
         }
     }
 }
 
-fn positions_of(layer: &GeoLayer) -> u32 {
-    let mut count = 0u32;
-    for shape in layer.shapes.as_slice() {
-        count = count.saturating_add(positions_in(shape));
+fn behind_features(room: u32, layers: &[GeoLayer]) -> u32
+    ensures left { result ≡ room - sum_by feature_count layers.now }
+{
+    let mut left = room;
+    for layer in layers {
+        left = left.saturating_sub(layer.shapes.len());
     }
-    count
+    left
 }
 
-fn positions_in(shape: &GeoShape) -> u32 {
+fn behind_layers(room: u32, layers: &[GeoLayer]) -> u32
+    ensures left { result ≡ room - sum_by position_count layers.now }
+{
+    let mut left = room;
+    for layer in layers {
+        left = behind_shapes(left, layer.shapes.as_slice());
+    }
+    left
+}
+
+fn behind_shapes(room: u32, shapes: &[GeoShape]) -> u32
+    ensures left { result ≡ room - sum_by positions_in shapes.now }
+{
+    let mut left = room;
+    for shape in shapes {
+        left = behind_shape(left, shape);
+    }
+    left
+}
+
+fn behind_shape(room: u32, shape: &GeoShape) -> u32
+    ensures left { result ≡ room - positions_in shape.now }
+{
     match shape {
-        GeoShape::Nothing => 0,
-        GeoShape::Points(points) => points.len(),
-        GeoShape::Lines(lines) => positions_along(lines.as_slice()),
-        GeoShape::Polygons(polygons) => {
-            let mut count = 0u32;
-            for polygon in polygons.as_slice() {
-                count = count.saturating_add(positions_along(polygon.as_slice()));
-            }
-            count
-        }
+        GeoShape::Nothing => room,
+        GeoShape::Points(points) => room.saturating_sub(points.len()),
+        GeoShape::Lines(lines) => behind_paths(room, lines.as_slice()),
+        GeoShape::Polygons(polygons) => behind_polygons(room, polygons.as_slice()),
     }
 }
 
-fn positions_along(paths: &[PtList]) -> u32 {
-    let mut count = 0u32;
-    for path in paths {
-        count = count.saturating_add(path.len());
+fn behind_polygons(room: u32, polygons: &[PolygonRings]) -> u32
+    ensures left { result ≡ room - sum_by positions_along polygons.now }
+{
+    let mut left = room;
+    for polygon in polygons {
+        left = behind_paths(left, polygon.as_slice());
     }
-    count
+    left
+}
+
+fn behind_paths(room: u32, paths: &[PtList]) -> u32
+    ensures left { result ≡ room - positions_along paths.now }
+{
+    let mut left = room;
+    for path in paths {
+        left = left.saturating_sub(path.len());
+    }
+    left
 }
 
 /// Reads the sources in order, on a grid of so many decimal places.
@@ -109,6 +140,9 @@ pub(crate) fn read_sources<F: Files, I: Source>(
         (record { files = F.held files.old; file_faults = F.read_faults files.old; file_bytes = F.bytes_read files.old; input = I.left input.old; input_faults = I.faults input.old; input_bytes = I.bytes_read input.old })
         (record { files = F.held files.new; file_faults = F.read_faults files.new; file_bytes = F.bytes_read files.new; input = I.left input.new; input_faults = I.faults input.new; input_bytes = I.bytes_read input.new }) }
     ensures writes { NoneFell (F.write_faults files.old) (F.write_faults files.new) }
+    ensures gives { IfOk result (λ all. GivesAll places sources.now
+        (record { files = F.held files.old; file_faults = F.read_faults files.old; file_bytes = F.bytes_read files.old; input = I.left input.old; input_faults = I.faults input.old; input_bytes = I.bytes_read input.old })
+        (record { files = F.held files.new; file_faults = F.read_faults files.new; file_bytes = F.bytes_read files.new; input = I.left input.new; input_faults = I.faults input.new; input_bytes = I.bytes_read input.new }) (map (λ read. read.layers) all.items)) }
 {
     let mut all = Vec::new(alloc);
     let mut budget = Budget::whole();
@@ -119,15 +153,26 @@ pub(crate) fn read_sources<F: Files, I: Source>(
             Ok(layers) => layers,
             Err(outcome) => return Err(outcome),
         };
-        let source = ReadSource {
+        let found = ReadSource {
             owner: source.owner,
             layers,
         };
-        if all.push(source).is_err() {
-            return Err(Outcome::Memory);
+        match keep(&mut all, found) {
+            Ok(()) => {}
+            Err(outcome) => return Err(outcome),
         }
     }
     Ok(all)
+}
+
+fn keep(all: &mut Vec<ReadSource>, read: ReadSource) -> Result<(), Outcome>
+    ensures kept { OnOk result (all.new.items ≡ all.old.items ++ read ∷ []) }
+    ensures memory { OnErr result (result ≡ Err Memory) }
+{
+    match all.push(read) {
+        Ok(()) => Ok(()),
+        Err(_) => Err(Outcome::Memory),
+    }
 }
 
 // The layers of one source, and what may be read behind it.
@@ -141,14 +186,15 @@ fn read_source<F: Files, I: Source>(
     input: &mut I,
 ) -> Result<GeoLayers, Outcome>
     requires { places ≤ 7 }
-    ensures stops { IfErr result (SourceStops places budget.old.bytes budget.old.room number source.now
+    ensures stops { IfErr result (SourceStops places budget.old number source.now
         (record { files = F.held files.old; file_faults = F.read_faults files.old; file_bytes = F.bytes_read files.old; input = I.left input.old; input_faults = I.faults input.old; input_bytes = I.bytes_read input.old })
         (record { files = F.held files.new; file_faults = F.read_faults files.new; file_bytes = F.bytes_read files.new; input = I.left input.new; input_faults = I.faults input.new; input_bytes = I.bytes_read input.new })) }
     ensures grew { Grew
         (record { files = F.held files.old; file_faults = F.read_faults files.old; file_bytes = F.bytes_read files.old; input = I.left input.old; input_faults = I.faults input.old; input_bytes = I.bytes_read input.old })
         (record { files = F.held files.new; file_faults = F.read_faults files.new; file_bytes = F.bytes_read files.new; input = I.left input.new; input_faults = I.faults input.new; input_bytes = I.bytes_read input.new }) }
     ensures writes { NoneFell (F.write_faults files.old) (F.write_faults files.new) }
-    ensures less { budget.new.bytes ≤ budget.old.bytes }
+    ensures gives { IfOk result (λ layers. SourceGives places source.now budget.old budget.new
+        (record { files = F.held files.old; file_faults = F.read_faults files.old; file_bytes = F.bytes_read files.old; input = I.left input.old; input_faults = I.faults input.old; input_bytes = I.bytes_read input.old }) layers) }
 {
     let bytes = match read_bytes(alloc, source, budget.bytes, files, input) {
         Ok(bytes) => bytes,

@@ -1,6 +1,7 @@
-use Rattle.std.proofs.Common.{◌≤◌}
+use Rattle.std.proofs.Common.{take, map}
 use Rattle.io_core.specs.Counts.{NoneFell}
-use Rattle.ms_chain.specs.Sources.{Grew, most_bytes}
+use Rattle.ms_chain.specs.Budget.{whole_budget}
+use Rattle.ms_chain.specs.Sources.{Grew, SourcesGive}
 use Rattle.ms_chain.proofs.sources.read_sources.Given as goal
 
 abbrev pub invariant-loop-i : goal.invariant-loop-i
@@ -9,5 +10,9 @@ invariant-loop-i g l = record {
       (record { files = g.F.Files.held l.fn.files; file_faults = g.F.Files.read_faults l.fn.files; file_bytes = g.F.Files.bytes_read l.fn.files; input = g.I.Source.left l.fn.input; input_faults = g.I.Source.faults l.fn.input; input_bytes = g.I.Source.bytes_read l.fn.input })
       (record { files = g.F.Files.held l.files; file_faults = g.F.Files.read_faults l.files; file_bytes = g.F.Files.bytes_read l.files; input = g.I.Source.left l.input; input_faults = g.I.Source.faults l.input; input_bytes = g.I.Source.bytes_read l.input });
   writes : NoneFell (g.F.Files.write_faults l.fn.files) (g.F.Files.write_faults l.files);
-  within : l.budget.bytes ≤ most_bytes;
+  given : SourcesGive l.places (take l.i l.sources) whole_budget
+      (record { files = g.F.Files.held l.fn.files; file_faults = g.F.Files.read_faults l.fn.files; file_bytes = g.F.Files.bytes_read l.fn.files; input = g.I.Source.left l.fn.input; input_faults = g.I.Source.faults l.fn.input; input_bytes = g.I.Source.bytes_read l.fn.input })
+      l.budget
+      (record { files = g.F.Files.held l.files; file_faults = g.F.Files.read_faults l.files; file_bytes = g.F.Files.bytes_read l.files; input = g.I.Source.left l.input; input_faults = g.I.Source.faults l.input; input_bytes = g.I.Source.bytes_read l.input })
+      (map (λ read. read.layers) l.all.items);
 }
