@@ -61,7 +61,7 @@ pub fn bytes_of(alloc: Global, value: &Json) -> Result<Vec<u8>, AllocError> {
 fn bytes_in(alloc: Global, list: &JsonList) -> Result<Vec<u8>, AllocError> {
     let mut bytes = Vec::new(alloc);
     for item in list.as_slice() {
-        bytes.push(number_of(item) as u8)?;
+        bytes.push(number_of(item).min(255) as u8)?;
     }
     Ok(bytes)
 }

@@ -1,3 +1,5 @@
+ghost use Rattle.std.specs.Prelude.{◌≤◌};
+
 use crate::cases::{bytes_of, fields, items, member, number_of, numbers, text_of};
 use io_core::{MemFiles, MemSink, MemSource, Text, Words};
 use json_read::{Json, JsonFields};
