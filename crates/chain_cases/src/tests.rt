@@ -52,7 +52,7 @@ fn outcome_of(alloc: Global, words: &Words, bytes: &[u8]) -> Result<Outcome, All
 
 // What a JSON text gives that ends with a line feed, of which so many bytes are left, not all.
 fn cut_json(whole: &[u8], left: usize) -> Outcome {
-    if left + 1 == whole.len() {
+    if left.saturating_add(1) == whole.len() {
         return Outcome::Done;
     }
     let at = left as u64;
@@ -92,7 +92,7 @@ fn cut_table(left: usize) -> Outcome {
     if left <= HEADER {
         return Outcome::Done;
     }
-    let row = ((left - HEADER - 1) / ROW) as u32;
+    let row = ((left - HEADER - 1) / ROW).min(2) as u32;
     let in_row = (left - HEADER - 1) % ROW + 1;
     if in_row > 4 {
         return Outcome::Done;
