@@ -115,17 +115,17 @@ listed_crosses spots near g c =
 same_spot : (spots : List Segment) (i j : ℕ) (s t : Segment) → j ≡ i → i < length spots → get_or spots i s ≡ s → get_or spots j t ≡ t → t ≡ s
 same_spot spots i j s t e l f g = sym g ∙ ap (λ (n : ℕ). get_or spots n t) e ∙ get_or-alike spots i t s l ∙ f
 
+-- spot i is near an area that holds a point of its box
+pub near_area : (spots : List Segment) (i : ℕ) (s : Segment) (area : Corners) (g : GridPoint) → i < length spots → get_or spots i s ≡ s → Holds area g → IsInBox s g → Contains (boxes_near (map box_of spots) area) i
+near_area spots i s area g l e a b =
+    Contains-numbers_where (share_point area) (map box_of spots) i (box_of s) (let n : length (map box_of spots) ≡ length spots = simp length-map in omega arith)
+    (ap (share_point area) (get_or-map box_of spots i s (box_of s) l ∙ ap box_of e) ∙ shared area (box_of s) g a (box_holds s g b))
+
 -- ---- what crosses is listed
 
 module _ (spots : List Segment) (old new : List GridPoint) (h : HasAllCrossings spots old new) where
   abbrev boxes : List Corners
   boxes = map box_of spots
-
-  -- spot i is near an area that holds a point of its box
-  near_area : (i : ℕ) (s : Segment) (area : Corners) (g : GridPoint) → i < length spots → get_or spots i s ≡ s → Holds area g → IsInBox s g → Contains (boxes_near boxes area) i
-  near_area i s area g l e a b =
-      Contains-numbers_where (share_point area) boxes i (box_of s) (let n : length boxes ≡ length spots = simp length-map in omega arith)
-      (ap (share_point area) (get_or-map box_of spots i s (box_of s) l ∙ ap box_of e) ∙ shared area (box_of s) g a (box_holds s g b))
 
   ordered : (i j : ℕ) (s t : Segment) (g : GridPoint) → i < j → i < length spots → j < length spots → get_or spots i s ≡ s → get_or spots j t ≡ t → crossing_pixel s t ≡ Some g → Contains new g
   ordered i j s t g l li lj ei ej e =
@@ -136,8 +136,8 @@ module _ (spots : List Segment) (old new : List GridPoint) (h : HasAllCrossings 
       let held = place.1.held (box_of s) in
       let near : List ℕ = boxes_near boxes area in
       let listed : Contains (map (boxes_near boxes) h.areas) near = Contains-map (boxes_near boxes) h.areas area (Contains-get_or h.areas place.0 (box_of s) place.1.below) in
-      let at_i = near_area i s area g li ei held in_boxes.0 in
-      let at_j = near_area j t area g lj ej held in_boxes.1 in
+      let at_i = near_area spots i s area g li ei held in_boxes.0 in
+      let at_j = near_area spots j t area g lj ej held in_boxes.1 in
       let si : slice_get spots i ≡ Some s = slice_get-get_or spots i s li ∙ ap Some ei in
       let sj : slice_get spots j ≡ Some t = slice_get-get_or spots j t lj ∙ ap Some ej in
       let crossing : crossing_at spots i j ≡ Some g = ap (λ (b : Bool). cond b (crossing_between (slice_get spots i) (slice_get spots j)) None) (lt-ltb i j l) ∙ (λ k. crossing_between (si k) (sj k)) ∙ e in

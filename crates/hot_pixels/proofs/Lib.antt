@@ -7,3 +7,4 @@ pub mod HotLemmas
 pub mod SortLemmas
 pub mod ChainLemmas
 pub mod NearLemmas
+pub mod QuietLemmas

@@ -6,3 +6,4 @@ pub mod Found
 pub mod Stops
 pub mod Chains
 pub mod Near
+pub mod Quiet

@@ -1,14 +1,16 @@
-ghost use Rattle.std.specs.Prelude.{◌≡◌, ◌↔◌, ◌-◌, IfOk, IsTrue, Contains, AllPairs, map, length};
+ghost use Rattle.std.specs.Prelude.{◌≡◌, ◌↔◌, ◌++◌, ◌-◌, true, false, Some, slice_get, IfOk, OnOk, IsTrue, Contains, AllPairs, map, length};
 ghost use Rattle.lists.specs.Lists.{ascending};
 ghost use Rattle.plane_model.specs.Points.{GridPoint as Point, is_before};
 ghost use Rattle.plane_model.specs.Drawing.{Drawing as Map};
 ghost use Rattle.plane_model.specs.Hot.{hot_points, chain_among, chain_of};
 ghost use Rattle.hot_pixels.specs.Chains.{AreHotPointsOf};
+ghost use Rattle.hot_pixels.specs.Quiet.{MeetsEndsAlone};
 ghost use Rattle.hot_pixels.specs.Stops.{stop_of};
 
 use crate::chains::sorted_along;
 use crate::near::{Run, along_curve, count_near, met_near, runs_over};
-use crate::pairs::add_crossings;
+use crate::pairs::{add_crossings, buckets_over};
+use crate::quiet::{append_ends, marks_of};
 use crate::spots::spots_of;
 use grid_base::{Drawing, Pt, PtList, Seg};
 use std::alloc::{AllocError, Global};
@@ -20,18 +22,22 @@ pub struct HotSet {
     points: Vec<Pt>,
     mixed: Vec<Pt>,
     runs: Vec<Run>,
+    // the segments of the drawing, with a mark for each that may meet hot pixels besides those of its ends
+    spots: Vec<Seg>,
+    marks: Vec<bool>,
 }
 
 impl Model for HotSet {
     ghost use Rattle.std.specs.Prelude.{List};
     ghost use Rattle.plane_model.specs.Points.{GridPoint};
     ghost use Rattle.hot_pixels.specs.Near.{IsSearchable};
+    ghost use Rattle.hot_pixels.specs.Quiet.{AreMarks};
 
     ghost Value = { List GridPoint };
 
     ghost view = { λ s. s.points.items };
 
-    ghost invariant = { λ s. IsSearchable s.points.items s.mixed.items s.runs.items };
+    ghost invariant = { λ s. IsSearchable s.points.items s.mixed.items s.runs.items × AreMarks s.points.items s.spots.items s.marks.items };
 }
 
 impl HotSet {
@@ -43,15 +49,19 @@ impl HotSet {
     {
         let spots = spots_of(alloc, d)?;
         let mut points = stops_of(alloc, &spots)?;
-        add_crossings(alloc, &mut points, &spots)?;
+        let buckets = buckets_over(alloc, &spots)?;
+        add_crossings(&mut points, &spots, &buckets)?;
         points.sort_unstable();
         points.dedup();
+        let marks = marks_of(alloc, &points, &spots, &buckets)?;
         let mixed = along_curve(alloc, &points)?;
         let runs = runs_over(alloc, &mixed)?;
         Ok(HotSet {
             points,
             mixed,
             runs,
+            spots,
+            marks,
         })
     }
 
@@ -64,6 +74,35 @@ impl HotSet {
     {
         let met = met_near(alloc, &self.mixed, &self.runs, s)?;
         sorted_along(alloc, met, s)
+    }
+
+    /// Appends the chain of a segment between hot points to a path.
+    ///
+    /// `place` is where the segment stands among the drawing's (`spots_of`): another number costs time alone.
+    pub fn append_chain(
+        &self,
+        alloc: Global,
+        path: &mut PtList,
+        s: &Seg,
+        place: usize,
+    ) -> Result<(), AllocError>
+        requires start { Contains self.now s.now.start }
+        requires stop { Contains self.now s.now.stop }
+        ensures appended { OnOk result (path.new ≡ path.old ++ chain_among self.now s.now) }
+    {
+        if self.is_quiet(s, place) {
+            return append_ends(path, s);
+        }
+        let chain = self.chain_of(alloc, s)?;
+        path.append(chain.as_slice())
+    }
+
+    // Whether the segment stands at this place, and meets no hot pixel besides those of its ends.
+    fn is_quiet(&self, s: &Seg, place: usize) -> bool
+        ensures quiet { result ≡ true → MeetsEndsAlone self.now s.now }
+        ensures ascending { AllPairs (λ (p q : Point). IsTrue (is_before p q)) self.now }
+    {
+        is_unmarked(&self.spots, &self.marks, place, s)
     }
 
     /// How many links the chain of a segment has: one less than its points, and none where it has no point.
@@ -82,6 +121,23 @@ impl HotSet {
     {
         is_listed(&self.points, p)
     }
+}
+
+// Whether a segment stands at this place, and has no mark.
+fn is_unmarked(spots: &[Seg], marks: &[bool], place: usize, s: &Seg) -> bool
+    requires { length marks.now ≡ length spots.now }
+    ensures { result ≡ true → (slice_get spots.now place ≡ Some s.now) × (slice_get marks.now place ≡ Some false) }
+{
+    if place >= spots.len() {
+        return false;
+    }
+    !marks[place] && is_same(&spots[place], s)
+}
+
+fn is_same(s: &Seg, t: &Seg) -> bool
+    ensures { result ≡ true → s.now ≡ t.now }
+{
+    s.a() == t.a() && s.b() == t.b()
 }
 
 fn is_listed(points: &[Pt], p: Pt) -> bool

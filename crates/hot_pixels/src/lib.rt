@@ -24,6 +24,7 @@ mod half_open;
 mod hot_set;
 mod near;
 mod pairs;
+mod quiet;
 mod spots;
 
 pub use crossing::crossing_pixel;

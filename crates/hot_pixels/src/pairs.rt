@@ -1,7 +1,7 @@
 ghost use Rattle.std.specs.Prelude.{◌≡◌, ◌++◌, OnOk, IfOk, All, map, length, ◌<◌, Some, slice_get};
 ghost use Rattle.std.specs.List.{flat_map};
 ghost use Rattle.std.specs.Option.{option_to_list};
-ghost use Rattle.hot_pixels.specs.Found.{HasAllCrossings};
+ghost use Rattle.hot_pixels.specs.Found.{AreBucketsOver, HasAllCrossings};
 ghost use Rattle.hot_pixels.specs.Boxes.{box_of, lesser, greater};
 ghost use Rattle.hot_pixels.specs.Crossing.{HasGridEnds};
 ghost use Rattle.hot_pixels.specs.Spots.{crossing_at, crossings_with, crossings_among};
@@ -107,8 +107,8 @@ fn add_crossings_among(points: &mut Vec<Pt>, spots: &[Seg], near: &[u32]) -> Res
     Ok(())
 }
 
-// The boxes of a bucket.
-fn near_of(buckets: &Buckets, place: u32) -> &[u32]
+/// The boxes of a bucket.
+pub fn near_of(buckets: &Buckets, place: u32) -> &[u32]
     requires { place < length buckets.now.near }
     ensures { slice_get buckets.now.near place ≡ Some result.now }
 {
@@ -131,12 +131,22 @@ fn add_crossings_in(
     Ok(())
 }
 
-/// Adds the pixels of all crossings of the spots to `points`, some of them often.
-pub fn add_crossings(alloc: Global, points: &mut Vec<Pt>, spots: &[Seg]) -> Result<(), AllocError>
-    ensures { OnOk result (HasAllCrossings spots.now points.old.items points.new.items) }
+/// Buckets over the boxes of the spots.
+pub fn buckets_over(alloc: Global, spots: &[Seg]) -> Result<Buckets, AllocError>
+    ensures { IfOk result (AreBucketsOver spots.now) }
 {
     let boxes = boxes_of(alloc, spots)?;
-    let buckets = Buckets::build(alloc, &boxes)?;
-    add_crossings_in(points, spots, &buckets)?;
-    Ok(())
+    Buckets::build(alloc, &boxes)
+}
+
+/// Adds the pixels of all crossings of the spots to `points`, some of them often.
+pub fn add_crossings(
+    points: &mut Vec<Pt>,
+    spots: &[Seg],
+    buckets: &Buckets,
+) -> Result<(), AllocError>
+    requires { AreBucketsOver spots.now buckets.now }
+    ensures { OnOk result (HasAllCrossings spots.now points.old.items points.new.items) }
+{
+    add_crossings_in(points, spots, buckets)
 }

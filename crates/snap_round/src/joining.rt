@@ -24,11 +24,19 @@ impl From<AllocError> for PathStop {
     }
 }
 
-// Takes the points of a chain out of the room.
-fn take_room(room: &mut u64, points: u32) -> Result<(), PathStop> {
-    match room.checked_sub(u64::from(points)) {
+/// How far paths are made: for so many points of chains there is room, and the next step is at this place among the
+/// drawing's.
+pub struct Progress {
+    pub room: u64,
+    pub place: usize,
+}
+
+// Takes the points of a chain out of the room, and goes on to the next step.
+fn go_on(progress: &mut Progress, points: u32) -> Result<(), PathStop> {
+    progress.place = progress.place.wrapping_add(1);
+    match progress.room.checked_sub(u64::from(points)) {
         Some(left) => {
-            *room = left;
+            progress.room = left;
             Ok(())
         }
         None => Err(PathStop::Full),
@@ -39,7 +47,7 @@ fn take_room(room: &mut u64, points: u32) -> Result<(), PathStop> {
 fn append_chains(
     alloc: Global,
     joined: &mut PtList,
-    room: &mut u64,
+    progress: &mut Progress,
     hot: &HotSet,
     from: Pt,
     rest: &[Pt],
@@ -48,9 +56,9 @@ fn append_chains(
 {
     let mut last = from;
     for p in rest {
-        let chain = hot.chain_of(alloc, &Seg::new(last, *p))?;
-        take_room(room, chain.len())?;
-        joined.append(chain.as_slice())?;
+        let before = joined.len();
+        hot.append_chain(alloc, joined, &Seg::new(last, *p), progress.place)?;
+        go_on(progress, joined.len() - before)?;
         last = *p;
     }
     Ok(())
@@ -61,15 +69,16 @@ fn append_chains(
 /// Some neighbours in it are equal. Where these count once, it is the snapped path. Its points are taken out of `room`.
 pub fn joined_chains(
     alloc: Global,
-    room: &mut u64,
+    progress: &mut Progress,
     hot: &HotSet,
     path: &[Pt],
 ) -> Result<PtList, PathStop>
     requires { IsHotPath hot.now path.now }
     ensures { IfOk result (AreChainsOf hot.now path.now) }
 {
-    let mut joined = PtList::new(alloc);
+    let mut joined = PtList::with_capacity(alloc, path.len())?;
     joined.push(path[0])?;
-    append_chains(alloc, &mut joined, room, hot, path[0], &path[1..])?;
+    go_on(progress, 0)?;
+    append_chains(alloc, &mut joined, progress, hot, path[0], &path[1..])?;
     Ok(joined)
 }

@@ -4,7 +4,7 @@ ghost use Rattle.plane_model.specs.Snapped.{snapped_path, snapped_by};
 ghost use Rattle.snap_round.specs.Joining.{IsHotPath, IsHotRing};
 ghost use Rattle.snap_round.specs.Paths.{with_rings, with_polygons, with_lines, with_points, HasHotPaths};
 
-use crate::joining::{PathStop, joined_chains};
+use crate::joining::{PathStop, Progress, joined_chains};
 use grid_base::{Drawing, FeatId, Kind, PolygonRings, Pt, PtList};
 use hot_pixels::HotSet;
 use std::alloc::Global;
@@ -13,7 +13,7 @@ use std::alloc::Global;
 fn add_rings(
     alloc: Global,
     out: &mut Drawing,
-    room: &mut u64,
+    progress: &mut Progress,
     hot: &HotSet,
     rings: &[PtList],
 ) -> Result<(), PathStop>
@@ -22,7 +22,7 @@ fn add_rings(
     ensures { OnOk result (out.new ≡ with_rings (map (snapped_path hot.now) rings.now) out.old) }
 {
     for ring in rings {
-        let joined = joined_chains(alloc, room, hot, ring.as_slice())?;
+        let joined = joined_chains(alloc, progress, hot, ring.as_slice())?;
         out.add_ring(joined)?;
     }
     Ok(())
@@ -32,7 +32,7 @@ fn add_rings(
 fn add_polygons(
     alloc: Global,
     out: &mut Drawing,
-    room: &mut u64,
+    progress: &mut Progress,
     hot: &HotSet,
     polygons: &[PolygonRings],
 ) -> Result<(), PathStop>
@@ -42,7 +42,7 @@ fn add_polygons(
 {
     for polygon in polygons {
         out.add_polygon()?;
-        add_rings(alloc, out, room, hot, polygon.as_slice())?;
+        add_rings(alloc, out, progress, hot, polygon.as_slice())?;
     }
     Ok(())
 }
@@ -50,7 +50,7 @@ fn add_polygons(
 fn add_polygon_features(
     alloc: Global,
     out: &mut Drawing,
-    room: &mut u64,
+    progress: &mut Progress,
     hot: &HotSet,
     d: &Drawing,
 ) -> Result<(), PathStop>
@@ -60,7 +60,7 @@ fn add_polygon_features(
     for f in 0..d.polygon_count() {
         let polygons = d.rings_of(FeatId::new(f));
         out.add_feature(Kind::Polygon)?;
-        add_polygons(alloc, out, room, hot, polygons.as_slice())?;
+        add_polygons(alloc, out, progress, hot, polygons.as_slice())?;
     }
     Ok(())
 }
@@ -69,7 +69,7 @@ fn add_polygon_features(
 fn add_lines(
     alloc: Global,
     out: &mut Drawing,
-    room: &mut u64,
+    progress: &mut Progress,
     hot: &HotSet,
     lines: &[PtList],
 ) -> Result<(), PathStop>
@@ -78,7 +78,7 @@ fn add_lines(
     ensures { OnOk result (out.new ≡ with_lines (map (snapped_path hot.now) lines.now) out.old) }
 {
     for line in lines {
-        let joined = joined_chains(alloc, room, hot, line.as_slice())?;
+        let joined = joined_chains(alloc, progress, hot, line.as_slice())?;
         out.add_line(joined)?;
     }
     Ok(())
@@ -87,7 +87,7 @@ fn add_lines(
 fn add_line_features(
     alloc: Global,
     out: &mut Drawing,
-    room: &mut u64,
+    progress: &mut Progress,
     hot: &HotSet,
     d: &Drawing,
 ) -> Result<(), PathStop>
@@ -97,7 +97,7 @@ fn add_line_features(
     for f in 0..d.line_count() {
         let lines = d.lines_of(FeatId::new(f));
         out.add_feature(Kind::Line)?;
-        add_lines(alloc, out, room, hot, lines.as_slice())?;
+        add_lines(alloc, out, progress, hot, lines.as_slice())?;
     }
     Ok(())
 }
@@ -127,7 +127,7 @@ fn add_point_features(out: &mut Drawing, d: &Drawing) -> Result<(), PathStop>
 fn add_boxes(
     alloc: Global,
     out: &mut Drawing,
-    room: &mut u64,
+    progress: &mut Progress,
     hot: &HotSet,
     d: &Drawing,
 ) -> Result<(), PathStop>
@@ -135,7 +135,7 @@ fn add_boxes(
     ensures { OnOk result (out.new ≡ record out.old { boxes = out.old.boxes ++ map (snapped_path hot.now) d.now.boxes }) }
 {
     for b in 0..d.box_count() {
-        let joined = joined_chains(alloc, room, hot, d.box_of(b).as_slice())?;
+        let joined = joined_chains(alloc, progress, hot, d.box_of(b).as_slice())?;
         out.add_box_path(joined)?;
     }
     Ok(())
@@ -144,7 +144,7 @@ fn add_boxes(
 /// The drawing with each path snapped to these hot points, of whose chains all together have at most `room` points.
 pub fn snapped_paths(
     alloc: Global,
-    room: &mut u64,
+    progress: &mut Progress,
     hot: &HotSet,
     d: &Drawing,
 ) -> Result<Drawing, PathStop>
@@ -152,9 +152,9 @@ pub fn snapped_paths(
     ensures { IfOk result (λ paths. paths ≡ snapped_by hot.now d.now) }
 {
     let mut paths = Drawing::new(alloc);
-    add_polygon_features(alloc, &mut paths, room, hot, d)?;
-    add_line_features(alloc, &mut paths, room, hot, d)?;
+    add_polygon_features(alloc, &mut paths, progress, hot, d)?;
+    add_line_features(alloc, &mut paths, progress, hot, d)?;
     add_point_features(&mut paths, d)?;
-    add_boxes(alloc, &mut paths, room, hot, d)?;
+    add_boxes(alloc, &mut paths, progress, hot, d)?;
     Ok(paths)
 }

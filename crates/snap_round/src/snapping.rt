@@ -8,7 +8,7 @@ ghost use Rattle.snap_round.specs.Snapping.{FaultMeans};
 
 use crate::counting::count_links;
 use crate::fault::SnapFault;
-use crate::joining::PathStop;
+use crate::joining::{PathStop, Progress};
 use crate::links::few_links_of;
 use crate::paths::snapped_paths;
 use grid_base::{Drawing, Snapped};
@@ -54,7 +54,7 @@ fn snapped_within(
     alloc: Global,
     hot: &HotSet,
     d: &Drawing,
-    mut room: u64,
+    room: u64,
     most: u64,
 ) -> Result<Option<Snapped>, AllocError>
     requires paths { HasPaths d.now }
@@ -62,7 +62,8 @@ fn snapped_within(
     ensures exact { IfOk result (λ found. IfSome found (λ s. s ≡ snapped d.now)) }
     ensures few { IfOk result (λ found. IfSome found (λ s. link_count (snapped d.now) ≤ most)) }
 {
-    match snapped_paths(alloc, &mut room, hot, d) {
+    let mut progress = Progress { room, place: 0 };
+    match snapped_paths(alloc, &mut progress, hot, d) {
         Ok(paths) => few_snapped(alloc, paths, d, most),
         Err(PathStop::Full) => Ok(None),
         Err(PathStop::Memory) => Err(AllocError),
