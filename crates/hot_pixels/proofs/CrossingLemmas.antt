@@ -1,5 +1,5 @@
 -- The crossings of boxes near each area are all crossings.
-use Rattle.std.proofs.Common.{◌≡◌, inl, inr, refl, sym, ap, ◌∙◌, subst, arith, ℕ, ◌<◌, ltb, Bool, true, false, cond, List, [], length, get_or, map, Option, Some, None, Contains, ℤ, pos, ◌-ℤ◌, ◌*ℤ◌, ◌≤ℤ◌, int_le}
+use Rattle.std.proofs.Common.{◌≡◌, inl, inr, refl, sym, ap, ◌∙◌, subst, arith, ℕ, ◌<◌, ltb, Bool, true, false, cond, List, [], length, get_or, map, Option, Some, None, Contains, ℤ, pos, ◌+ℤ◌, ◌-ℤ◌, ◌*ℤ◌, ◌≤ℤ◌, int_le, ◌||◌}
 use Rattle.std.specs.List.{flat_map, slice_get}
 use Rattle.std.specs.Option.{option_to_list}
 use Rattle.std.proofs.lemmas.Bool.{lt-ltb, cases_lt}
@@ -7,19 +7,23 @@ use Rattle.std.proofs.lemmas.List.{get_or-map, length-map}
 use Rattle.std.proofs.lemmas.Option.{slice_get-get_or, slice_get_within, get_or_from_slice_get}
 use Rattle.std.proofs.lemmas.List.Elements.{Contains-append_right, All-contains, Contains-get_or}
 use Rattle.lists.proofs.Members.{Contains-head, Contains-nil, Contains-cases, Contains-flat_map, flat_map-Contains, Contains-map}
-use Rattle.plane_algebra.proofs.Ring.{ring, ◌⊟◌, ◌⊠◌, num, ◌≐◌}
+use Rattle.plane_algebra.proofs.Ring.{ring, ◌⊞◌, ◌⊟◌, ◌⊠◌, num, ◌≐◌}
 use Rattle.plane_algebra.proofs.Order.{order, order_cases}
-use Rattle.plane_algebra.proofs.Tests.{le_from, le_to, by_test}
-use Rattle.plane_model.specs.Points.{GridPoint, Segment, SameWay, cross}
+use Rattle.plane_algebra.proofs.Tests.{le_from, le_to, by_test, or_cases}
+use Rattle.plane_model.specs.Points.{GridPoint, Segment, SameWay, IsOn, at, cross, same_point}
 use Rattle.plane_model.specs.Pixel.{crossing_pixel, IsInBox}
+use Rattle.plane_model.proofs.PointOrder.{same_point_from, same_point_to}
 use Rattle.plane_snapping.proofs.CrossingComputed.{crossing_is_computed}
+use Rattle.plane_snapping.proofs.Readings.{on_of_mean}
+use Rattle.plane_snapping.proofs.PixelOf.{in_own_pixel}
 use Rattle.plane_snapping.proofs.Boxes.{crossings_lie_in_both_boxes}
 use Rattle.grid_base.specs.Grid.{Corners}
 use Rattle.bucket_grid.specs.Areas.{Holds, share_point, boxes_near}
 use Rattle.bucket_grid.proofs.SharedPoints.{overlap_to}
 use Rattle.bucket_grid.proofs.Numbers.{Contains-numbers_where}
 use Rattle.hot_pixels.specs.Boxes.{box_of, lesser, greater}
-use Rattle.hot_pixels.specs.Spots.{crossing_at, crossing_between, crossings_with, crossings_among}
+use Rattle.hot_pixels.specs.Spots.{is_end, share_end, crossing_at, crossing_between, crossings_with, crossings_among}
+use Rattle.hot_pixels.specs.Quiet.{IsEndOf}
 use Rattle.hot_pixels.specs.Crossing.{HasGridEnds}
 use Rattle.hot_pixels.specs.Found.{HasAllCrossings}
 use Rattle.hot_pixels.proofs.Shares.{crossing_on_grid}
@@ -53,6 +57,63 @@ short_cross s t e =
 
 pub short_meets_none : {G : Type 0} (s t : Segment) (g : GridPoint) → s.start ≡ s.stop → crossing_pixel s t ≡ Some g → G
 short_meets_none s t g e f = absurd (((crossing_is_computed s t g).0 f).0 (short_cross s t e))
+
+-- ---- segments with a common end cross there
+
+start_on : (s : Segment) → IsOn s (at s.start)
+start_on s = on_of_mean s (at s.start) (
+  pos 1,
+  pos 0,
+  record { weights = record { first = omega order; second = omega order; some = omega order }; across = one s.start.x s.stop.x; upward = one s.start.y s.stop.y },
+)
+  where
+    one : (p q : ℤ) → (pos 1 +ℤ pos 0) *ℤ p ≡ pos 1 *ℤ (pos 1 *ℤ p +ℤ pos 0 *ℤ q)
+    one = ring 2 (λ p q. (num (pos 1) ⊞ num (pos 0)) ⊠ p ≐ num (pos 1) ⊠ (num (pos 1) ⊠ p ⊞ num (pos 0) ⊠ q)) tt
+
+stop_on : (s : Segment) → IsOn s (at s.stop)
+stop_on s = on_of_mean s (at s.stop) (
+  pos 0,
+  pos 1,
+  record { weights = record { first = omega order; second = omega order; some = omega order }; across = one s.start.x s.stop.x; upward = one s.start.y s.stop.y },
+)
+  where
+    one : (p q : ℤ) → (pos 0 +ℤ pos 1) *ℤ q ≡ pos 1 *ℤ (pos 0 *ℤ p +ℤ pos 1 *ℤ q)
+    one = ring 2 (λ p q. (num (pos 0) ⊞ num (pos 1)) ⊠ q ≐ num (pos 1) ⊠ (num (pos 0) ⊠ p ⊞ num (pos 1) ⊠ q)) tt
+
+module _ (s t : Segment) (g : GridPoint) (e : crossing_pixel s t ≡ Some g) where
+  at_common : (p : GridPoint) → IsOn s (at p) → IsOn t (at p) → p ≡ g
+  at_common p on_s on_t =
+      let f : Some p ≡ Some g = sym ((crossing_is_computed s t p).1 (((crossing_is_computed s t g).0 e).0, (at p, on_s, on_t, in_own_pixel p))) ∙ e in
+      cc
+
+  on_other : (p : GridPoint) → is_end t p ≡ true → IsOn t (at p)
+  on_other p k = or_cases (same_point p t.start) (same_point p t.stop) k
+      (λ f. subst (λ (q : GridPoint). IsOn t (at q)) (sym (same_point_from p t.start f)) (start_on t))
+      (λ f. subst (λ (q : GridPoint). IsOn t (at q)) (sym (same_point_from p t.stop f)) (stop_on t))
+
+  pub common_end : share_end s t ≡ true → IsEndOf s g
+  common_end k = or_cases (is_end t s.start) (is_end t s.stop) k
+      (λ f. inl (sym (at_common s.start (start_on s) (on_other s.start f))))
+      (λ f. inr (sym (at_common s.stop (stop_on s) (on_other s.stop f))))
+
+same_point-turned : (p q : GridPoint) → same_point p q ≡ true → same_point q p ≡ true
+same_point-turned p q e = same_point_to q p (sym (same_point_from p q e))
+
+or_left : (a b : Bool) → a ≡ true → (a || b) ≡ true
+or_left a b e = ap (λ (c : Bool). c || b) e
+
+or_right : (a b : Bool) → b ≡ true → (a || b) ≡ true
+or_right true b e = refl
+or_right false b e = e
+
+pub share_end-turned : (s t : Segment) → share_end s t ≡ true → share_end t s ≡ true
+share_end-turned s t e = or_cases (is_end t s.start) (is_end t s.stop) e
+    (λ f. or_cases (same_point s.start t.start) (same_point s.start t.stop) f
+    (λ k. or_left (is_end s t.start) (is_end s t.stop) (or_left (same_point t.start s.start) (same_point t.start s.stop) (same_point-turned s.start t.start k)))
+    (λ k. or_right (is_end s t.start) (is_end s t.stop) (or_left (same_point t.stop s.start) (same_point t.stop s.stop) (same_point-turned s.start t.stop k))))
+    (λ f. or_cases (same_point s.stop t.start) (same_point s.stop t.stop) f
+    (λ k. or_left (is_end s t.start) (is_end s t.stop) (or_right (same_point t.start s.start) (same_point t.start s.stop) (same_point-turned s.stop t.start k)))
+    (λ k. or_right (is_end s t.start) (is_end s t.stop) (or_right (same_point t.stop s.start) (same_point t.stop s.stop) (same_point-turned s.stop t.stop k))))
 
 -- ---- a point in the box of a segment
 
@@ -99,7 +160,11 @@ listed_crosses spots near g c =
         (s : Segment) × (t : Segment) × Contains spots s × Contains spots t × (crossing_pixel s t ≡ Some g)
     found i j None p e f h = absurd (let k : None ≡ Some g = h in cc)
     found i j (Some s) None e f h = absurd (let k : None ≡ Some g = h in cc)
-    found i j (Some s) (Some t) e f h = (s, t, (i, slice_get_within spots i s e, get_or_from_slice_get spots i s s e), (j, slice_get_within spots j t f, get_or_from_slice_get spots j t t f), h)
+    found i j (Some s) (Some t) e f h = (s, t, (i, slice_get_within spots i s e, get_or_from_slice_get spots i s s e), (j, slice_get_within spots j t f, get_or_from_slice_get spots j t t f), apart (share_end s t) h)
+      where
+        apart : (b : Bool) → cond b None (crossing_pixel s t) ≡ Some g → crossing_pixel s t ≡ Some g
+        apart true k = absurd (let m : None ≡ Some g = k in cc)
+        apart false k = k
 
     tested : (i j : ℕ) (b : Bool) → cond b (crossing_between (slice_get spots i) (slice_get spots j)) None ≡ Some g →
         (s : Segment) × (t : Segment) × Contains spots s × Contains spots t × (crossing_pixel s t ≡ Some g)
@@ -127,8 +192,8 @@ module _ (spots : List Segment) (old new : List GridPoint) (h : HasAllCrossings 
   abbrev boxes : List Corners
   boxes = map box_of spots
 
-  ordered : (i j : ℕ) (s t : Segment) (g : GridPoint) → i < j → i < length spots → j < length spots → get_or spots i s ≡ s → get_or spots j t ≡ t → crossing_pixel s t ≡ Some g → Contains new g
-  ordered i j s t g l li lj ei ej e =
+  ordered : (i j : ℕ) (s t : Segment) (g : GridPoint) → i < j → i < length spots → j < length spots → get_or spots i s ≡ s → get_or spots j t ≡ t → share_end s t ≡ false → crossing_pixel s t ≡ Some g → Contains new g
+  ordered i j s t g l li lj ei ej apart e =
       let in_boxes = crossings_lie_in_both_boxes s t g e in
       let on_grid = crossing_on_grid s t (All-contains HasGridEnds spots s h.on_grid (i, li, ei)) g e in
       let place = h.places g on_grid in
@@ -140,7 +205,7 @@ module _ (spots : List Segment) (old new : List GridPoint) (h : HasAllCrossings 
       let at_j = near_area spots j t area g lj ej held in_boxes.1 in
       let si : slice_get spots i ≡ Some s = slice_get-get_or spots i s li ∙ ap Some ei in
       let sj : slice_get spots j ≡ Some t = slice_get-get_or spots j t lj ∙ ap Some ej in
-      let crossing : crossing_at spots i j ≡ Some g = ap (λ (b : Bool). cond b (crossing_between (slice_get spots i) (slice_get spots j)) None) (lt-ltb i j l) ∙ (λ k. crossing_between (si k) (sj k)) ∙ e in
+      let crossing : crossing_at spots i j ≡ Some g = ap (λ (b : Bool). cond b (crossing_between (slice_get spots i) (slice_get spots j)) None) (lt-ltb i j l) ∙ (λ k. crossing_between (si k) (sj k)) ∙ ap (λ (b : Bool). cond b None (crossing_pixel s t)) apart ∙ e in
       subst (λ (xs : List GridPoint). Contains xs g) (sym h.added)
       (Contains-append_right old (flat_map (crossings_among spots) (map (boxes_near boxes) h.areas)) g
       (Contains-flat_map (crossings_among spots) (map (boxes_near boxes) h.areas) near g listed
@@ -148,11 +213,11 @@ module _ (spots : List Segment) (old new : List GridPoint) (h : HasAllCrossings 
       (Contains-flat_map (λ b. option_to_list (crossing_at spots i b)) near j g at_j
       (subst (λ (o : Option GridPoint). Contains (option_to_list o) g) (sym crossing) (Contains-head g []))))))
 
-  pub crossing_listed : (s t : Segment) (g : GridPoint) → Contains spots s → Contains spots t → crossing_pixel s t ≡ Some g → Contains new g
-  crossing_listed s t g c d e = elim (cases_lt c.0 d.0) [
-    | inl l ↦ ordered c.0 d.0 s t g l c.1 d.1 c.2 d.2 e
+  pub crossing_listed : (s t : Segment) (g : GridPoint) → Contains spots s → Contains spots t → share_end s t ≡ false → crossing_pixel s t ≡ Some g → Contains new g
+  crossing_listed s t g c d apart e = elim (cases_lt c.0 d.0) [
+    | inl l ↦ ordered c.0 d.0 s t g l c.1 d.1 c.2 d.2 apart e
     | inr l ↦ elim (cases_lt d.0 c.0) [
-      | inl m ↦ ordered d.0 c.0 t s g m d.1 c.1 d.2 c.2 (crossing_turned s t g e)
+      | inl m ↦ ordered d.0 c.0 t s g m d.1 c.1 d.2 c.2 (by_test (share_end t s) (λ f. absurd (let k : true ≡ false = sym (share_end-turned t s f) ∙ apart in cc)) (λ f. f)) (crossing_turned s t g e)
       | inr m ↦ not_itself s g (subst (λ (u : Segment). crossing_pixel s u ≡ Some g) (same_spot spots c.0 d.0 s t (omega arith) c.1 c.2 d.2) e)
     ]
   ]

@@ -1,5 +1,5 @@
 -- The stops of the spots, with all crossings added, are the hot points.
-use Rattle.std.proofs.Common.{◌≡◌, inl, inr, sym, subst, List, map, Contains}
+use Rattle.std.proofs.Common.{◌≡◌, inl, inr, sym, subst, true, false, List, map, Contains, Some}
 use Rattle.std.specs.List.{flat_map}
 use Rattle.std.proofs.lemmas.List.Elements.{Contains-append_left, Contains-append_cases}
 use Rattle.lists.specs.Lists.{ascending}
@@ -7,17 +7,20 @@ use Rattle.lists.proofs.Members.{Contains-map, map-Contains}
 use Rattle.lists.proofs.Ascending.{IsAscending, one_ascending, ascending-IsAscending, ascending-Contains, Contains-ascending}
 use Rattle.plane_model.specs.Points.{GridPoint, at, is_before}
 use Rattle.plane_model.specs.Drawing.{Drawing, vertices_of}
+use Rattle.plane_model.specs.Pixel.{crossing_pixel}
 use Rattle.plane_model.specs.Hot.{hot_points}
+use Rattle.plane_algebra.proofs.Tests.{by_test}
 use Rattle.plane_model.proofs.PointOrder.{is_before-IsStrictOrder}
 use Rattle.plane_snapping.proofs.CrossingComputed.{crossing_is_computed}
 use Rattle.plane_snapping.proofs.HotComputed.{vertex_is_hot, listed_is_hot, hot_is_listed}
+use Rattle.plane_snapping.proofs.SnappedPaths.{ends_are_vertices}
 use Rattle.plane_snapping.proofs.PixelOf.{one_pixel, in_own_pixel}
 use Rattle.bucket_grid.specs.Areas.{boxes_near}
 use Rattle.hot_pixels.specs.Boxes.{box_of}
-use Rattle.hot_pixels.specs.Spots.{spots_of, crossings_among}
+use Rattle.hot_pixels.specs.Spots.{share_end, spots_of, crossings_among}
 use Rattle.hot_pixels.specs.Found.{HasAllCrossings}
 use Rattle.hot_pixels.specs.Stops.{stop_of}
-use Rattle.hot_pixels.proofs.CrossingLemmas.{listed_crosses, crossing_listed, crossing_turned, short_meets_none}
+use Rattle.hot_pixels.proofs.CrossingLemmas.{listed_crosses, crossing_listed, crossing_turned, common_end, short_meets_none}
 use Rattle.hot_pixels.proofs.SpotLemmas.{spot_is_segment, spot_stops, segment_is_spot, vertex_is_stop}
 
 module _ (d : Drawing) (points : List GridPoint) (h : HasAllCrossings (spots_of d) (map stop_of (spots_of d)) points) where
@@ -37,14 +40,26 @@ module _ (d : Drawing) (points : List GridPoint) (h : HasAllCrossings (spots_of 
         ]
   ])
 
+  vertex_is_point : (g : GridPoint) → Contains (vertices_of d) g → Contains points g
+  vertex_is_point g c =
+      let m = vertex_is_stop d g c in
+      subst (λ (xs : List GridPoint). Contains xs g) (sym h.added) (Contains-append_left (map stop_of (spots_of d)) (flat_map (crossings_among (spots_of d)) (map (boxes_near (map box_of (spots_of d))) h.areas)) g
+      (subst (Contains (map stop_of (spots_of d))) m.2 (Contains-map stop_of (spots_of d) m.0 m.1)))
+
   pub hot_is_point : (g : GridPoint) → Contains (hot_points d) g → Contains points g
   hot_is_point g c = elim (listed_is_hot d g c) [
     | inl v ↦
         let same : v.vertex ≡ g = one_pixel (at v.vertex) v.vertex g (in_own_pixel v.vertex) v.held in
-        let m = vertex_is_stop d g (subst (Contains (vertices_of d)) same v.listed) in
-        subst (λ (xs : List GridPoint). Contains xs g) (sym h.added) (Contains-append_left (map stop_of (spots_of d)) (flat_map (crossings_among (spots_of d)) (map (boxes_near (map box_of (spots_of d))) h.areas)) g
-        (subst (Contains (map stop_of (spots_of d))) m.2 (Contains-map stop_of (spots_of d) m.0 m.1)))
-    | inr k ↦ crossing_listed (spots_of d) (map stop_of (spots_of d)) points h k.s k.t g (segment_is_spot d k.s k.s_drawn) (segment_is_spot d k.t k.t_drawn) ((crossing_is_computed k.s k.t g).1 k.meet)
+        vertex_is_point g (subst (Contains (vertices_of d)) same v.listed)
+    | inr k ↦
+        let e : crossing_pixel k.s k.t ≡ Some g = (crossing_is_computed k.s k.t g).1 k.meet in
+        by_test (share_end k.s k.t)
+        (λ f. let v = ends_are_vertices d k.s k.s_drawn in
+        elim (common_end k.s k.t g e f) [
+          | inl same ↦ vertex_is_point g (subst (Contains (vertices_of d)) (sym same) v.0)
+          | inr same ↦ vertex_is_point g (subst (Contains (vertices_of d)) (sym same) v.1)
+        ])
+        (λ f. crossing_listed (spots_of d) (map stop_of (spots_of d)) points h k.s k.t g (segment_is_spot d k.s k.s_drawn) (segment_is_spot d k.t k.t_drawn) f e)
   ]
 
   -- an ascending list with the same elements is the list of the hot points in order

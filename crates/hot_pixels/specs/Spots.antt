@@ -1,8 +1,8 @@
 -- The segments of a drawing, and each first point of a path as a segment of no length, so that the vertices are where they stop.
-use Rattle.std.specs.Prelude.{ℕ, List, [], ◌∷◌, ◌++◌, map, nat_lt, if◌then◌else◌, Option, Some, None, slice_get}
+use Rattle.std.specs.Prelude.{ℕ, Bool, ◌||◌, List, [], ◌∷◌, ◌++◌, map, nat_lt, if◌then◌else◌, Option, Some, None, slice_get}
 use Rattle.std.specs.List.{flat_map}
 use Rattle.std.specs.Option.{option_to_list}
-use Rattle.plane_model.specs.Points.{GridPoint, Path, Segment}
+use Rattle.plane_model.specs.Points.{GridPoint, Path, Segment, same_point}
 use Rattle.plane_model.specs.Pixel.{crossing_pixel}
 use Rattle.plane_model.specs.Drawing.{Drawing, Polygon, point_segment}
 
@@ -27,12 +27,19 @@ points_spots points = map point_segment points
 abbrev pub spots_of : Drawing → List Segment
 spots_of d = flat_map feature_spots d.polygons ++ flat_map rings_spots d.lines ++ flat_map points_spots d.points ++ flat_map path_spots d.boxes
 
--- ---- crossings of spots that are near each other
+-- ---- crossings of spots that are near each other, besides those at common ends, which are vertices
+
+-- p is an end of s
+abbrev pub is_end : Segment → GridPoint → Bool
+is_end s p = same_point p s.start || same_point p s.stop
+
+abbrev pub share_end : Segment → Segment → Bool
+share_end s t = is_end t s.start || is_end t s.stop
 
 abbrev pub crossing_between : Option Segment → Option Segment → Option GridPoint
 crossing_between None t = None
 crossing_between (Some s) None = None
-crossing_between (Some s) (Some t) = crossing_pixel s t
+crossing_between (Some s) (Some t) = if share_end s t then None else crossing_pixel s t
 
 -- the crossing of spots i and j, where i comes first
 abbrev pub crossing_at : List Segment → ℕ → ℕ → Option GridPoint

@@ -1,6 +1,8 @@
 ghost use Rattle.std.specs.Prelude.{◌≡◌, None, IsTrue};
+ghost use Rattle.plane_model.specs.Points.{same_point};
 ghost use Rattle.plane_model.specs.Pixel.{meets, crossing_pixel};
 ghost use Rattle.hot_pixels.specs.Near.{is_outside};
+ghost use Rattle.hot_pixels.specs.Spots.{is_end, share_end};
 
 use crate::half_open::meets;
 use crate::pairs::{greater, lesser};
@@ -37,4 +39,24 @@ pub fn is_met(s: &Seg, p: Pt) -> bool
         return false;
     }
     meets(s, p)
+}
+
+fn is_same(p: Pt, q: Pt) -> bool
+    ensures { result ≡ same_point p q }
+{
+    p == q
+}
+
+/// Whether a point is an end of a segment.
+pub fn is_end(s: &Seg, p: Pt) -> bool
+    ensures { result ≡ is_end s.now p }
+{
+    is_same(p, s.a()) || is_same(p, s.b())
+}
+
+/// Whether two segments have an end in common.
+pub fn share_end(s: &Seg, t: &Seg) -> bool
+    ensures { result ≡ share_end s.now t.now }
+{
+    is_end(t, s.a()) || is_end(t, s.b())
 }

@@ -6,7 +6,7 @@ ghost use Rattle.hot_pixels.specs.Boxes.{box_of, lesser, greater};
 ghost use Rattle.hot_pixels.specs.Crossing.{HasGridEnds};
 ghost use Rattle.hot_pixels.specs.Spots.{crossing_at, crossings_with, crossings_among};
 
-use crate::beside::is_beside;
+use crate::beside::{is_beside, share_end};
 use crate::crossing::crossing_pixel;
 use bucket_grid::Buckets;
 use grid_base::{BoxList, Pt, Rect, Seg};
@@ -56,7 +56,7 @@ fn spot_at(spots: &[Seg], i: u32) -> Option<Seg>
     spots.get(i as usize).copied()
 }
 
-// The crossing of spots i and j, where i comes first.
+// The crossing of spots i and j, where i comes first, if it is no end of both.
 fn crossing_of(spots: &[Seg], i: u32, j: u32) -> Option<Pt>
     ensures { result ≡ crossing_at spots.now i j }
 {
@@ -70,6 +70,9 @@ fn crossing_of(spots: &[Seg], i: u32, j: u32) -> Option<Pt>
         return None;
     };
     if is_beside(&s, &t) {
+        return None;
+    }
+    if share_end(&s, &t) {
         return None;
     }
     crossing_pixel(&s, &t)

@@ -3,7 +3,7 @@ ghost use Rattle.plane_model.specs.Pixel.{meets};
 ghost use Rattle.hot_pixels.specs.Found.{AreBucketsOver};
 ghost use Rattle.hot_pixels.specs.Quiet.{IsEndOf, IsMarked, IsSeen, KeepMarks, AreMarks, AreCrowdsMarked, ends_of};
 
-use crate::beside::is_met;
+use crate::beside::{is_end, is_met};
 use crate::pairs::near_of;
 use bucket_grid::Buckets;
 use grid_base::{Pt, PtList, Seg};
@@ -111,22 +111,10 @@ fn mark_if_met(marks: &mut Vec<bool>, spots: &[Seg], i: u32, p: Pt)
 fn is_met_inside(s: &Seg, p: Pt) -> bool
     ensures { result ≡ false → meets s.now p ≡ true → IsEndOf s.now p }
 {
-    if is_end_of(s, p) {
+    if is_end(s, p) {
         return false;
     }
     is_met(s, p)
-}
-
-fn is_end_of(s: &Seg, p: Pt) -> bool
-    ensures { result ≡ true → IsEndOf s.now p }
-{
-    is_same(p, s.a()) || is_same(p, s.b())
-}
-
-fn is_same(p: Pt, q: Pt) -> bool
-    ensures { result ≡ true → p ≡ q }
-{
-    p == q
 }
 
 /// Appends the ends of a segment to a path.

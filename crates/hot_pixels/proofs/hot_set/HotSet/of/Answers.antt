@@ -19,13 +19,15 @@ same p q = int_eq p.x q.x && int_eq p.y q.y
 
 pub invariant_of-result : goal.invariant_of-result
 invariant_of-result c =
-    let is : c.dedup.new.self.items ≡ dedup same c.sort_unstable.new.self.items = dedup_is same _ _ c.dedup.ensures.filtered in
-    (record {
-      up = subst (λ (xs : List GridPoint). AllPairs (λ p q. IsTrue (is_before p q)) xs) (sym is) (deduped_pairs same point_ties c.add_crossings.new.points.items c.sort_unstable.new.self.items c.sort_unstable.ensures.permutation c.sort_unstable.ensures.sorted);
-      moved = subst (λ (xs : List GridPoint). IsPermutation xs c.in_ok-mixed.mixed.items) c.deref-6.ensures.value c.in_ok-mixed.ensures;
-      held = subst (λ (xs : List GridPoint). All (HoldsRun xs) c.in_ok-runs.runs.items) c.deref-7.ensures.value c.in_ok-runs.ensures;
-    }, subst (λ (xs : List GridPoint). AreMarks xs c.in_ok-spots.spots.items c.in_ok-marks.marks.items) c.deref-4.ensures.value
-    (subst (λ (xs : List Segment). AreMarks c.deref-4.result.now xs c.in_ok-marks.marks.items) c.deref-5.ensures.value c.in_ok-marks.ensures.exact))
+    let is : c.dedup.new.self.items ≡ dedup same c.sort_unstable.new.self.items = dedup_is same _ _ c.dedup.ensures.filtered in (
+      record {
+        up = subst (λ (xs : List GridPoint). AllPairs (λ p q. IsTrue (is_before p q)) xs) (sym is) (deduped_pairs same point_ties c.add_crossings.new.points.items c.sort_unstable.new.self.items c.sort_unstable.ensures.permutation c.sort_unstable.ensures.sorted);
+        moved = subst (λ (xs : List GridPoint). IsPermutation xs c.in_ok-mixed.mixed.items) c.deref-6.ensures.value c.in_ok-mixed.ensures;
+        held = subst (λ (xs : List GridPoint). All (HoldsRun xs) c.in_ok-runs.runs.items) c.deref-7.ensures.value c.in_ok-runs.ensures;
+      },
+      subst (λ (xs : List GridPoint). AreMarks xs c.in_ok-spots.spots.items c.in_ok-marks.marks.items) c.deref-4.ensures.value
+          (subst (λ (xs : List Segment). AreMarks c.deref-4.result.now xs c.in_ok-marks.marks.items) c.deref-5.ensures.value c.in_ok-marks.ensures.exact),
+    )
 
 pub returns : goal.returns
 returns c =
