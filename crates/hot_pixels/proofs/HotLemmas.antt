@@ -1,5 +1,5 @@
 -- The stops of the spots, with all crossings added, are the hot points.
-use Rattle.std.proofs.Common.{◌≡◌, inl, inr, sym, subst, true, false, List, map, Contains, Some}
+use Rattle.std.proofs.Common.{◌≡◌, inl, inr, sym, subst, List, map, Contains, Some}
 use Rattle.std.specs.List.{flat_map}
 use Rattle.std.proofs.lemmas.List.Elements.{Contains-append_left, Contains-append_cases}
 use Rattle.lists.specs.Lists.{ascending}

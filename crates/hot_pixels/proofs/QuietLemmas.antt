@@ -1,5 +1,5 @@
 -- Segments that meet their ends alone: what marks keep, and what their chains are.
-use Rattle.std.proofs.Common.{◌≡◌, ◌≢◌, ◌⊎◌, inl, inr, refl, sym, ap, ◌∙◌, subst, arith, ℕ, ◌+◌, ◌<◌, ◌≤◌, Bool, true, false, cond, List, [], ◌∷◌, length, get_or, set, map, take, filter, All, AllPairs, Contains, IsTrue, Option, Some, None, ◌++◌}
+use Rattle.std.proofs.Common.{◌≡◌, ◌≢◌, inl, inr, refl, sym, ap, ◌∙◌, subst, arith, ℕ, ◌+◌, ◌<◌, ◌≤◌, Bool, true, false, cond, List, [], ◌∷◌, length, get_or, set, map, take, filter, All, Contains, Option, Some, None, ◌++◌}
 use Rattle.std.specs.List.{slice_get}
 use Rattle.std.specs.Option.{option_map}
 use Rattle.std.proofs.lemmas.Bool.{cases_lt}
@@ -8,9 +8,9 @@ use Rattle.std.proofs.lemmas.List.{take_all}
 use Rattle.std.proofs.lemmas.List.Elements.{All-contains, All-weaker, All-more, Contains-append_cases}
 use Rattle.std.proofs.lemmas.Option.{slice_get-get_or, slice_get-map, slice_get_within, get_or_from_slice_get}
 use Rattle.lists.proofs.Members.{Contains-head, Contains-later, Contains-nil, Contains-cases, Contains-filter, filter-Contains}
-use Rattle.lists.proofs.Ascending.{IsStrictOrder, IsAscending, ascending_of_pairs, ascending-IsAscending, ascending-Contains, Contains-ascending, one_ascending}
+use Rattle.lists.proofs.Ascending.{IsStrictOrder, IsAscending, ascending-IsAscending, ascending-Contains, Contains-ascending, one_ascending}
 use Rattle.plane_algebra.proofs.Tests.{by_test}
-use Rattle.plane_model.specs.Points.{GridPoint, Segment, Path, same_point, is_before}
+use Rattle.plane_model.specs.Points.{GridPoint, Segment, Path, same_point}
 use Rattle.plane_model.specs.Pixel.{meets}
 use Rattle.plane_model.specs.Hot.{is_passed_before, chain_among}
 use Rattle.plane_model.proofs.PointOrder.{same_point_from, same_point_to}

@@ -95,6 +95,18 @@ chains_of_slice hot (x ∷ xs) none first joined p q h e f m n k =
     let begun : first ≡ x ∷ [] = n ∙ (λ i. m i ++ e i ∷ []) in
     chains_of_path hot x xs joined h (k ∙ (λ i. begun i ++ flat_map (chain_among hot) (steps_after (f i) (rest i))))
 
+-- the points of a path's slice are hot
+pub hot_slice : (hot : List GridPoint) (path : Path) (q : GridPoint) → IsHotPath hot path → q ≡ get_or path 0 q → (p : GridPoint) → Contains (q ∷ take (length path - 1) (drop 1 path)) p → Contains hot p
+hot_slice hot [] q h e p c = absurd (h.is_path.not_empty refl)
+hot_slice hot (x ∷ xs) q h e p c =
+    let long : length (x ∷ xs) - 1 ≡ length xs = omega arith in
+    let rest : take (length (x ∷ xs) - 1) xs ≡ xs = ap (λ (t : ℕ). take t xs) long ∙ take-length xs in
+    h.all_hot p (subst (λ (ys : Path). Contains ys p) (λ i. e i ∷ rest i) c)
+
+-- the points that are hot before a step and behind it
+pub step_hot : (hot : List GridPoint) (from : GridPoint) (rest : Path) (k : ℕ) (p : GridPoint) → ((q : GridPoint) → Contains (from ∷ rest) q → Contains hot q) → k < length rest → p ≡ get_or rest k p → Contains hot p
+step_hot hot from rest k p h l e = h p (Contains-later from rest p (k, l, sym e))
+
 -- ---- a segment of no length has no link
 
 last_there : (x : GridPoint) (xs : Path) → Contains (x ∷ xs) (last_of x xs)

@@ -1,4 +1,5 @@
-ghost use Rattle.std.specs.Prelude.{◌≡◌, ◌<◌, ◌++◌, ◌∷◌, IfOk, OnOk, length};
+ghost use Rattle.std.specs.Prelude.{◌≡◌, ◌<◌, ◌++◌, ◌∷◌, Contains, IfOk, OnOk, length};
+ghost use Rattle.plane_model.specs.Points.{GridPoint};
 ghost use Rattle.std.specs.List.{flat_map};
 ghost use Rattle.plane_model.specs.Hot.{chain_among};
 ghost use Rattle.snap_round.specs.Joining.{steps_after, IsHotPath, AreChainsOf};
@@ -25,7 +26,8 @@ impl From<AllocError> for PathStop {
 }
 
 /// How far paths are made: for so many points of chains there is room, and the next step is at this place among the
-/// drawing's.
+/// segments of the drawing. A wrong place costs time alone; with points, that of a box is wrong.
+#[derive(Clone, Copy)]
 pub struct Progress {
     pub room: u64,
     pub place: usize,
@@ -43,6 +45,23 @@ fn go_on(progress: &mut Progress, points: u32) -> Result<(), PathStop> {
     }
 }
 
+// Appends the chain of a step between hot points.
+fn append_step(
+    alloc: Global,
+    joined: &mut PtList,
+    progress: &mut Progress,
+    hot: &HotSet,
+    s: &Seg,
+) -> Result<(), PathStop>
+    requires start { Contains hot.now s.now.start }
+    requires stop { Contains hot.now s.now.stop }
+    ensures { OnOk result (joined.new ≡ joined.old ++ chain_among hot.now s.now) }
+{
+    let before = joined.len();
+    hot.append_chain(alloc, joined, s, progress.place)?;
+    go_on(progress, joined.len().saturating_sub(before))
+}
+
 // Appends the chains of the steps from a point to the first of the rest, and on.
 fn append_chains(
     alloc: Global,
@@ -52,13 +71,12 @@ fn append_chains(
     from: Pt,
     rest: &[Pt],
 ) -> Result<(), PathStop>
+    requires hot { (p : GridPoint) → Contains (from ∷ rest.now) p → Contains hot.now p }
     ensures { OnOk result (joined.new ≡ joined.old ++ flat_map (chain_among hot.now) (steps_after from rest.now)) }
 {
     let mut last = from;
     for p in rest {
-        let before = joined.len();
-        hot.append_chain(alloc, joined, &Seg::new(last, *p), progress.place)?;
-        go_on(progress, joined.len() - before)?;
+        append_step(alloc, joined, progress, hot, &Seg::new(last, *p))?;
         last = *p;
     }
     Ok(())
@@ -66,7 +84,7 @@ fn append_chains(
 
 /// The chains of a path's steps, end to end, behind its first vertex.
 ///
-/// Some neighbours in it are equal. Where these count once, it is the snapped path. Its points are taken out of `room`.
+/// Some neighbours in it are equal. Where these count once, it is the snapped path. Its points are taken out of the room.
 pub fn joined_chains(
     alloc: Global,
     progress: &mut Progress,

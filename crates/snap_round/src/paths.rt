@@ -141,7 +141,7 @@ fn add_boxes(
     Ok(())
 }
 
-/// The drawing with each path snapped to these hot points, of whose chains all together have at most `room` points.
+/// The drawing with each path snapped to these hot points, whose chains have no more points than there is room for.
 pub fn snapped_paths(
     alloc: Global,
     progress: &mut Progress,

@@ -1,4 +1,4 @@
-use Rattle.std.proofs.Common.{◌≡◌, ◌∙◌, inl, inr, sym, true, false}
+use Rattle.std.proofs.Common.{◌∙◌, inl, inr, sym}
 use Rattle.plane_algebra.proofs.Tests.{or_cases}
 use Rattle.plane_model.specs.Points.{same_point}
 use Rattle.plane_model.proofs.PointOrder.{same_point_from}

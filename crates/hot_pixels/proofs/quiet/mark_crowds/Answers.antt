@@ -1,4 +1,4 @@
-use Rattle.std.proofs.Common.{◌∙◌, sym, subst, ℕ, ◌<◌, length, All}
+use Rattle.std.proofs.Common.{sym, subst, ℕ, ◌<◌, All}
 use Rattle.hot_pixels.proofs.QuietLemmas.{near_there}
 use Rattle.hot_pixels.proofs.quiet.mark_crowds.Goals as goal
 

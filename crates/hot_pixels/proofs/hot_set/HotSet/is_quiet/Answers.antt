@@ -1,6 +1,6 @@
-use Rattle.std.proofs.Common.{rules, ◌≡◌, ◌∙◌, sym, ap, subst, List, Some, false}
+use Rattle.std.proofs.Common.{rules, ◌≡◌, subst, List, Some, false}
 use Rattle.std.specs.List.{slice_get}
-use Rattle.plane_model.specs.Points.{GridPoint, Segment}
+use Rattle.plane_model.specs.Points.{GridPoint}
 use Rattle.hot_pixels.specs.Quiet.{MeetsEndsAlone}
 use Rattle.hot_pixels.proofs.QuietLemmas.{quiet_at}
 use Rattle.hot_pixels.proofs.hot_set.HotSet.is_quiet.Goals as goal
