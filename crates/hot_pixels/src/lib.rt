@@ -15,6 +15,8 @@
 //! - `chain_of` lists the hot points whose pixels a segment meets, in the order in which the segment passes them, and
 //!   `chain_links` counts the links between them without memory. Both pass over runs of hot points that lie beside the
 //!   segment's box.
+//! - `append_chain` appends the chain of a segment of the drawing to a path. Segments that meet their ends alone, as
+//!   most do in a drawing of areas, were found when the set was made, and are not searched for.
 #![tactic(auto)]
 
 mod beside;

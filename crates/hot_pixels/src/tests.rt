@@ -1,6 +1,6 @@
 // What no clause says: that hot points and chains are found where there is memory.
 use crate::{HotSet, crossing_pixel, meets};
-use grid_base::{Drawing, Pt, Rect, Seg};
+use grid_base::{Drawing, Pt, PtList, Rect, Seg};
 use std::test::Fail;
 
 fn point(x: i64, y: i64) -> Result<Pt, Fail> {
@@ -61,5 +61,51 @@ fn corners_of_a_box_are_hot(rt: HostRuntime) -> Result<(), Fail> {
     let set = HotSet::of(rt.alloc(), &d)?;
     assert!(rt; set.contains(point(4, 3)?));
     assert!(rt; !set.contains(point(2, 0)?));
+    Ok(())
+}
+
+// Appends the chain of a segment between hot points.
+fn append(
+    rt: &HostRuntime,
+    set: &HotSet,
+    path: &mut PtList,
+    s: Seg,
+    place: usize,
+) -> Result<(), Fail> {
+    if !set.contains(s.a()) {
+        return Err(Fail::from("starts at no hot point"));
+    }
+    if !set.contains(s.b()) {
+        return Err(Fail::from("stops at no hot point"));
+    }
+    set.append_chain(rt.alloc(), path, &s, place)?;
+    Ok(())
+}
+
+#[test]
+fn sides_of_a_box_are_appended(rt: HostRuntime) -> Result<(), Fail> {
+    let mut d = Drawing::new(rt.alloc());
+    d.add_box(Rect::new(point(0, 0)?, point(6, 1)?).ok_or("no box")?)?;
+    d.add_box(Rect::new(point(3, 1)?, point(4, 2)?).ok_or("no box")?)?;
+    let set = HotSet::of(rt.alloc(), &d)?;
+    let mut path = PtList::new(rt.alloc());
+    append(
+        &rt,
+        &set,
+        &mut path,
+        Seg::new(point(0, 0)?, point(6, 0)?),
+        1,
+    )?;
+    assert_eq!(rt; path.len(), 2);
+    append(
+        &rt,
+        &set,
+        &mut path,
+        Seg::new(point(6, 1)?, point(0, 1)?),
+        3,
+    )?;
+    assert_eq!(rt; path.len(), 6);
+    assert_eq!(rt; path.get(3).copied(), Some(point(4, 1)?));
+    assert_eq!(rt; path.get(4).copied(), Some(point(3, 1)?));
     Ok(())
 }
