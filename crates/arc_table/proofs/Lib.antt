@@ -1,5 +1,7 @@
 pub mod AroundRows
+pub mod Begun
 pub mod Everywhere
+pub mod LeastAt
 pub mod Others
 pub mod SignedArcs
 pub mod SingleLink

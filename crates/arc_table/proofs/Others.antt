@@ -34,7 +34,7 @@ not_less s t e = go (point_cmp s.start t.start) (point_cmp s.stop t.stop) e
     go Equal b e = refl
     go Greater b e = refl
 
-same_from_both : (p q : GridPoint) → is_lt (point_cmp p q) ≡ false → is_lt (point_cmp q p) ≡ false → p ≡ q
+pub same_from_both : (p q : GridPoint) → is_lt (point_cmp p q) ≡ false → is_lt (point_cmp q p) ≡ false → p ≡ q
 same_from_both p q e f = go (point_cmp p q) (point_cmp q p) refl e f (point_cmp-total.antisymm p q)
   where
     go : (a b : Ordering) → point_cmp p q ≡ a → is_lt a ≡ false → is_lt b ≡ false → a ≡ ordering_reverse b → p ≡ q

@@ -64,7 +64,7 @@ search_misses xs x up i h c =
 abbrev linked_cmp : LinkedStep → LinkedStep → Ordering
 linked_cmp a b = ordering_then (step_cmp a.step b.step) (nat_cmp a.link b.link)
 
-first_counts : (o p : Ordering) → is_lt (ordering_then o p) ≡ false → is_lt o ≡ false
+pub first_counts : (o p : Ordering) → is_lt (ordering_then o p) ≡ false → is_lt o ≡ false
 first_counts Less p e = e
 first_counts Equal p e = refl
 first_counts Greater p e = refl
@@ -84,6 +84,21 @@ pub same_ends : (s t : Segment) → (same_point s.start t.start && same_point s.
 same_ends s t e =
     let p = and_parts (same_point s.start t.start) (same_point s.stop t.stop) e in
     segment_is s t (same_point_from s.start t.start p.0) (same_point_from s.stop t.stop p.1)
+
+-- what is in order first by a step is in order by it
+pub sorted_by_first : {X : Type 0} (step : X → Segment) (second : X → X → Ordering) (xs : List X) → IsSorted (λ (a : X) (b : X). ordering_then (step_cmp (step a) (step b)) (second a b)) xs → IsSorted step_cmp (map step xs)
+sorted_by_first step second xs up k d l m =
+    let n = length-map xs step in
+    let here : k < length xs = omega arith in
+    let next : k + 1 < length xs = omega arith in
+    let some = get_or_some xs k here in
+    let e = get_or-map step xs k some d here in
+    let f = get_or-map step xs (k + 1) some d next in
+    (λ i. is_lt (step_cmp (f i) (e i))) ∙ first_counts (step_cmp (step (get_or xs (k + 1) some)) (step (get_or xs k some))) (second (get_or xs (k + 1) some) (get_or xs k some)) (up k some l next)
+  where
+    get_or_some : {X : Type 0} (xs : List X) (k : ℕ) → k < length xs → X
+    get_or_some [] k l = absurd (omega arith)
+    get_or_some (x ∷ xs) k l = x
 
 -- ---- both steps along each link
 

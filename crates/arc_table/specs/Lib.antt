@@ -1,6 +1,7 @@
 pub mod Around
 pub mod Direction
 pub mod FirstSteps
+pub mod Lookup
 pub mod Numbering
 pub mod OneLink
 pub mod Steps

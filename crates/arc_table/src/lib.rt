@@ -17,6 +17,7 @@ mod nodes;
 mod numbering;
 mod signed_paths;
 mod table;
+mod vertices;
 
 pub use list_types::{ArcList, Polys, SignedPath, SignedPaths};
 pub use table::ArcTable;

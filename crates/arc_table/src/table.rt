@@ -2,12 +2,14 @@ ghost use Rattle.std.specs.Prelude.{◌≡◌, ◌+◌, ◌<◌, ◌≤◌, [], 
 ghost use Rattle.plane_model.specs.Arcs.{points_of};
 ghost use Rattle.arc_table.specs.Direction.{IsForward};
 ghost use Rattle.arc_table.specs.Around.{IsAround};
+ghost use Rattle.arc_table.specs.Lookup.{IsArcAt, IsBegunBy};
 
 use crate::direction::{is_before, is_same};
 use crate::first_steps::{FirstStep, first_steps, turning};
-use crate::half_links::{Net, Step};
+use crate::half_links::{Net, Step, place_of};
 use crate::nodes::turns_of;
 use crate::numbering::{pool_of, ways_of};
+use crate::vertices::{ArcVertex, least_at, vertices_in_order};
 use grid_base::{ArcId, Pt, SignedArc, Snapped};
 use span_pool::{SpanId, SpanPool};
 use std::alloc::{AllocError, Global};
@@ -18,7 +20,9 @@ use std::marker::Model;
 pub struct ArcTable {
     arcs: SpanPool,
     // the first steps of the signed arcs, in order
-    firsts: Vec<FirstStep>,
+    begins: Vec<Step>,
+    // the signed arc of each of `begins`
+    begun: Vec<SignedArc>,
     // where each signed arc of `outs` starts
     starts: Vec<Pt>,
     // the signed arcs by their starts, and counterclockwise at each
@@ -27,29 +31,22 @@ pub struct ArcTable {
     vertices: Vec<ArcVertex>,
 }
 
-/// A vertex of an arc.
-#[derive(Clone, Copy, PartialEq, Eq, PartialOrd, Ord, Debug)]
-pub struct ArcVertex {
-    pub at: Pt,
-    pub arc: ArcId,
-}
-
 impl Model for ArcTable {
     ghost use Rattle.std.specs.Prelude.{◌≡◌, ◌<◌, All, List, length};
     ghost use Rattle.plane_model.specs.Points.{GridPoint};
     ghost use Rattle.arc_table.specs.Direction.{IsForward};
-    ghost use Rattle.arc_table.specs.FirstSteps.{IsThere};
     ghost use Rattle.arc_table.specs.Around.{IsTurned};
+    ghost use Rattle.arc_table.specs.Lookup.{AreBegun, AreVertices};
 
     ghost Value = { List (List GridPoint) };
 
     ghost view = { λ t. t.arcs.spans };
 
     ghost invariant = { λ t. All (λ arc. 1 < length arc) t.arcs.spans
-        × All (IsThere (length t.arcs.spans)) t.firsts.items
+        × AreBegun t.arcs.spans t.begins.items t.begun.items
         × (length t.starts.items ≡ length t.outs.items)
         × All (λ a. a.arc < length t.arcs.spans) t.outs.items
-        × All (λ v. v.arc < length t.arcs.spans) t.vertices.items
+        × AreVertices t.arcs.spans t.vertices.items
         × All IsForward t.arcs.spans
         × IsTurned t.arcs.spans t.starts.items t.outs.items };
 }
@@ -74,15 +71,17 @@ impl ArcTable {
     {
         let mut firsts = first_steps(alloc, &arcs)?;
         firsts.sort()?;
+        let begins = steps_of(alloc, &firsts)?;
+        let begun = arcs_of(alloc, &firsts)?;
         let mut by_turn = first_steps(alloc, &arcs)?;
         by_turn.sort_by(turning)?;
         let starts = starts_of(alloc, &by_turn)?;
         let outs = arcs_of(alloc, &by_turn)?;
-        let mut vertices = vertices_of(alloc, &arcs)?;
-        vertices.sort()?;
+        let vertices = vertices_in_order(alloc, &arcs)?;
         Ok(ArcTable {
             arcs,
-            firsts,
+            begins,
+            begun,
             starts,
             outs,
             vertices,
@@ -131,27 +130,28 @@ impl ArcTable {
 
     /// The least arc that has `p` as a vertex; `None` exactly where there is none. Takes no memory.
     pub fn arc_at(&self, p: Pt) -> Option<ArcId>
+        ensures exact { IsArcAt self.now p result }
         ensures there { IfSome result (λ id. id < length self.now) }
     {
-        let first = self.vertices.partition_point(|v| v.at < p);
-        if first < self.vertices.len() && self.vertices[first].at == p {
-            Some(self.vertices[first].arc)
-        } else {
-            None
-        }
+        least_at(&self.vertices, p)
     }
 
-    // The signed arc that begins with a step, where there is one.
+    // The signed arc that begins with a step; `None` exactly where none does.
     pub(crate) fn begun_by(&self, step: Step) -> Option<SignedArc>
+        ensures exact { IsBegunBy self.now step result }
         ensures there { IfSome result (λ a. a.arc < length self.now) }
     {
-        let first = self.firsts.partition_point(|f| f.step < step);
-        if first < self.firsts.len() && self.firsts[first].step == step {
-            Some(self.firsts[first].arc)
-        } else {
-            None
+        match place_of(&self.begins, step) {
+            Some(k) => Some(self.begun[k]),
+            None => None,
         }
     }
+}
+
+fn steps_of(alloc: Global, firsts: &[FirstStep]) -> Result<Vec<Step>, AllocError>
+    ensures { IfOk result (λ v. v.items ≡ map (λ f. f.step) firsts.now) }
+{
+    firsts.iter().map(|f| f.step).collect(alloc)
 }
 
 fn starts_of(alloc: Global, firsts: &[FirstStep]) -> Result<Vec<Pt>, AllocError>
@@ -164,25 +164,4 @@ fn arcs_of(alloc: Global, firsts: &[FirstStep]) -> Result<Vec<SignedArc>, AllocE
     ensures { IfOk result (λ v. v.items ≡ map (λ f. f.arc) firsts.now) }
 {
     firsts.iter().map(|f| f.arc).collect(alloc)
-}
-
-// The vertices of all arcs, arc by arc.
-fn vertices_of(alloc: Global, arcs: &SpanPool) -> Result<Vec<ArcVertex>, AllocError>
-    ensures there { IfOk result (λ v. All (λ x. x.arc < length arcs.now.spans) v.items) }
-{
-    let mut vertices = Vec::new(alloc);
-    for n in 0..arcs.count() {
-        push_vertices(&mut vertices, ArcId::new(n), arcs.get(SpanId::new(n)))?;
-    }
-    Ok(vertices)
-}
-
-fn push_vertices(vertices: &mut Vec<ArcVertex>, arc: ArcId, points: &[Pt]) -> Result<(), AllocError>
-    ensures { OnOk result (vertices.new.items ≡ vertices.old.items ++ map (λ p. record { at = p; arc = arc }) points.now) }
-{
-    vertices.reserve(points.len())?;
-    for p in points {
-        vertices.push(ArcVertex { at: *p, arc })?;
-    }
-    Ok(())
 }

@@ -1,5 +1,6 @@
 use Rattle.std.proofs.Common.{rules, ◌≡◌, ◌<◌, ℕ, List, length, map, sym, ap, subst, ◌∙◌}
 use Rattle.std.specs.List.Sorted.{IsPermutation}
+use Rattle.std.specs.Ordering.{ordering_then, nat_cmp, bool_cmp}
 use Rattle.std.proofs.lemmas.List.{length-map}
 use Rattle.std.proofs.lemmas.List.Elements.{All-same}
 use Rattle.std.proofs.lemmas.List.Sorted.{All-permutation, answers_always}
@@ -8,9 +9,10 @@ use Rattle.plane_model.specs.Arcs.{SignedArc}
 use Rattle.arc_table.specs.FirstSteps.{IsThere}
 use Rattle.arc_table.specs.Around.{signed_below, comes_first, first_of}
 use Rattle.arc_table.specs.declared.first_steps.FirstStep.{FirstStep}
-use Rattle.arc_table.specs.declared.table.ArcVertex.{ArcVertex}
+use Rattle.arc_table.proofs.Begun.{are_begun}
 use Rattle.arc_table.proofs.Everywhere.{All-mapped}
 use Rattle.arc_table.proofs.SignedArcs.{firsts_there}
+use Rattle.arc_table.proofs.StepSearch.{sorted_by_first}
 use Rattle.arc_table.proofs.TurnOrder.{comes_first-IsStrictWeakOrder}
 use Rattle.arc_table.proofs.TurnTable.{is_turned}
 use Rattle.arc_table.proofs.table.ArcTable.of_arcs.Goals as goal
@@ -27,13 +29,16 @@ invariant_of-result c =
     let in_order = c.in_ok-sort_by.ensures.sorted (λ (f : FirstStep) (g : FirstStep). comes_first f.step g.step) (comes_first-IsStrictWeakOrder (λ (f : FirstStep). f.step))
     (answers_always _ _ _ (λ f a r g k. search rules)) in
     let turned_there = All-permutation there made turned moved all_there in
-    let starts : c.in_ok-starts.starts.items ≡ map (λ (f : FirstStep). f.step.start) turned = c.in_ok-starts.ensures ∙ ap (map (λ (f : FirstStep). f.step.start)) c.deref.ensures.value in
-    let outs : c.in_ok-outs.outs.items ≡ map (λ (f : FirstStep). f.arc) turned = c.in_ok-outs.ensures ∙ ap (map (λ (f : FirstStep). f.arc)) c.deref-2.ensures.value in (
+    let starts : c.in_ok-starts.starts.items ≡ map (λ (f : FirstStep). f.step.start) turned = c.in_ok-starts.ensures ∙ ap (map (λ (f : FirstStep). f.step.start)) c.deref-3.ensures.value in
+    let outs : c.in_ok-outs.outs.items ≡ map (λ (f : FirstStep). f.arc) turned = c.in_ok-outs.ensures ∙ ap (map (λ (f : FirstStep). f.arc)) c.deref-4.ensures.value in (
       c.requires.long,
-      All-permutation there made c.sort.new.self.items (subst (λ (fs : List FirstStep). IsPermutation fs c.sort.new.self.items) c.in_ok-firsts.ensures.exact c.sort.ensures.permutation) all_there,
+      are_begun c.args.arcs.spans c.sort.new.self.items c.in_ok-begins.begins.items c.in_ok-begun.begun.items
+          (subst (λ (fs : List FirstStep). IsPermutation fs c.sort.new.self.items) c.in_ok-firsts.ensures.exact c.sort.ensures.permutation)
+          (sorted_by_first (λ (f : FirstStep). f.step) (λ (f : FirstStep) (g : FirstStep). ordering_then (nat_cmp f.arc.arc g.arc.arc) (bool_cmp f.arc.is_reversed g.arc.is_reversed)) c.sort.new.self.items c.in_ok-sort.ensures.sorted)
+          (c.in_ok-begins.ensures ∙ ap (map (λ (f : FirstStep). f.step)) c.deref.ensures.value) (c.in_ok-begun.ensures ∙ ap (map (λ (f : FirstStep). f.arc)) c.deref-2.ensures.value),
       ap (λ (xs : List GridPoint). length xs) starts ∙ length-map turned (λ (f : FirstStep). f.step.start) ∙ sym (length-map turned (λ (f : FirstStep). f.arc)) ∙ sym (ap (λ (xs : List SignedArc). length xs) outs),
       All-same below c.in_ok-outs.outs.items (map (λ (f : FirstStep). f.arc) turned) outs (All-mapped there below (λ (f : FirstStep). f.arc) (λ f h. h) turned turned_there),
-      All-permutation (λ (v : ArcVertex). v.arc < n) c.in_ok-vertices.vertices.items c.sort-2.new.self.items c.sort-2.ensures.permutation c.in_ok-vertices.ensures.there,
+      c.in_ok-vertices.ensures.exact,
       c.requires.forward,
       is_turned c.args.arcs.spans turned moved in_order c.in_ok-starts.starts.items c.in_ok-outs.outs.items starts outs,
     )

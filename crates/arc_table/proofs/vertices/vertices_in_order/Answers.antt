@@ -1,0 +1,15 @@
+use Rattle.std.proofs.Common.{◌≡◌, List, length, sym, subst}
+use Rattle.std.specs.List.Sorted.{IsPermutation}
+use Rattle.arc_table.specs.Lookup.{vertices_below}
+use Rattle.arc_table.specs.declared.vertices.ArcVertex.{ArcVertex}
+use Rattle.arc_table.proofs.vertices.vertices_in_order.Goals as goal
+
+pub returns : goal.returns
+returns c =
+    let arcs = c.args.arcs.now.spans in
+    record {
+      exact = record {
+        all = subst (λ (vs : List ArcVertex). IsPermutation vs c.sort.new.self.items) c.in_ok-vertices.ensures.exact c.sort.ensures.permutation;
+        sorted = c.in_ok-sort.ensures.sorted;
+      };
+    }

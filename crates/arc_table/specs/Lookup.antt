@@ -1,0 +1,57 @@
+-- The least arc at a vertex, and the signed arc that a step begins.
+use Rattle.std.specs.Prelude.{◌≡◌, ◌<◌, ◌≤◌, ℕ, zero, suc, List, [], ◌++◌, map, Contains, Option, Some, None, length, slice_index_or}
+use Rattle.std.specs.List.Sorted.{IsPermutation, IsSorted}
+use Rattle.std.specs.Ordering.{ordering_then, nat_cmp}
+use Rattle.std.specs.declared.cmp.Ordering.{Ordering}
+use Rattle.plane_model.specs.Points.{GridPoint, Segment, Path}
+use Rattle.plane_model.specs.Arcs.{SignedArc}
+use Rattle.arc_table.specs.Steps.{point_cmp, step_cmp}
+use Rattle.arc_table.specs.Around.{signed_below, first_step}
+use Rattle.arc_table.specs.declared.vertices.ArcVertex.{ArcVertex}
+
+-- p is a vertex of arc n
+abbrev pub HasVertex : List Path → ℕ → GridPoint → Type 0
+HasVertex arcs n p = Contains (slice_index_or arcs n []) p
+
+-- arc n has p as a vertex, and no lesser arc has
+pub record IsLeastAt (arcs : List Path) (p : GridPoint) (n : ℕ) : Type 0 where
+  pub there : n < length arcs
+  pub on : HasVertex arcs n p
+  pub least : (m : ℕ) → m < length arcs → HasVertex arcs m p → n ≤ m
+
+-- the least arc at p; none exactly where no arc has p as a vertex
+abbrev pub IsArcAt : List Path → GridPoint → Option ℕ → Type 0
+IsArcAt arcs p None = (n : ℕ) → n < length arcs → HasVertex arcs n p → ⊥
+IsArcAt arcs p (Some n) = IsLeastAt arcs p n
+
+-- the vertices of the first n arcs, arc by arc
+abbrev pub vertices_below : List Path → ℕ → List ArcVertex
+vertices_below arcs zero = []
+vertices_below arcs (suc n) = vertices_below arcs n ++ map (λ (p : GridPoint). record { at = p; arc = n }) (slice_index_or arcs n [])
+
+-- vertices are ordered by their point, then by their arc
+abbrev pub vertex_cmp : ArcVertex → ArcVertex → Ordering
+vertex_cmp v w = ordering_then (point_cmp v.at w.at) (nat_cmp v.arc w.arc)
+
+-- the vertices of all arcs, in order
+pub record AreVertices (arcs : List Path) (vertices : List ArcVertex) : Type 0 where
+  pub all : IsPermutation (vertices_below arcs (length arcs)) vertices
+  pub sorted : IsSorted vertex_cmp vertices
+
+-- among vertices in order, the least arc of those at p, if there is one
+abbrev pub IsFirstAt : List ArcVertex → GridPoint → Option ℕ → Type 0
+IsFirstAt vertices p None = (n : ℕ) → Contains vertices (record { at = p; arc = n }) → ⊥
+IsFirstAt vertices p (Some n) = Contains vertices (record { at = p; arc = n }) × ((m : ℕ) → Contains vertices (record { at = p; arc = m }) → n ≤ m)
+
+-- ---- the signed arc that begins with a step
+
+-- the signed arc that begins with a step; none exactly where no signed arc does
+abbrev pub IsBegunBy : List Path → Segment → Option SignedArc → Type 0
+IsBegunBy arcs s None = (a : SignedArc) → a.arc < length arcs → first_step arcs a ≡ s → ⊥
+IsBegunBy arcs s (Some a) = (a.arc < length arcs) × (first_step arcs a ≡ s)
+
+-- the first steps of all signed arcs in order, and the signed arc of each
+pub record AreBegun (arcs : List Path) (begins : List Segment) (begun : List SignedArc) : Type 0 where
+  pub begins_of : begins ≡ map (first_step arcs) begun
+  pub all : IsPermutation (signed_below (length arcs)) begun
+  pub sorted : IsSorted step_cmp begins

@@ -1,0 +1,66 @@
+ghost use Rattle.std.specs.Prelude.{◌≡◌, ◌++◌, IfOk, OnOk, map, length};
+ghost use Rattle.std.specs.List.Sorted.{IsSorted};
+ghost use Rattle.arc_table.specs.Lookup.{AreVertices, IsFirstAt, vertices_below, vertex_cmp};
+
+use crate::direction::is_same;
+use grid_base::{ArcId, Pt};
+use span_pool::{SpanId, SpanPool};
+use std::alloc::{AllocError, Global};
+
+/// A vertex of an arc.
+#[derive(Clone, Copy, PartialEq, Eq, PartialOrd, Ord, Debug)]
+pub struct ArcVertex {
+    pub at: Pt,
+    pub arc: ArcId,
+}
+
+/// The vertices of all arcs, in order.
+pub fn vertices_in_order(alloc: Global, arcs: &SpanPool) -> Result<Vec<ArcVertex>, AllocError>
+    ensures exact { IfOk result (λ v. AreVertices arcs.now.spans v.items) }
+{
+    let mut vertices = vertices_of(alloc, arcs)?;
+    vertices.sort()?;
+    Ok(vertices)
+}
+
+// The vertices of all arcs, arc by arc.
+fn vertices_of(alloc: Global, arcs: &SpanPool) -> Result<Vec<ArcVertex>, AllocError>
+    ensures exact { IfOk result (λ v. v.items ≡ vertices_below arcs.now.spans (length arcs.now.spans)) }
+{
+    let mut vertices = Vec::new(alloc);
+    for n in 0..arcs.count() {
+        push_vertices(&mut vertices, ArcId::new(n), arcs.get(SpanId::new(n)))?;
+    }
+    Ok(vertices)
+}
+
+fn push_vertices(vertices: &mut Vec<ArcVertex>, arc: ArcId, points: &[Pt]) -> Result<(), AllocError>
+    ensures { OnOk result (vertices.new.items ≡ vertices.old.items ++ map (λ p. record { at = p; arc = arc }) points.now) }
+{
+    vertices.reserve(points.len())?;
+    for p in points {
+        vertices.push(ArcVertex { at: *p, arc })?;
+    }
+    Ok(())
+}
+
+/// The least arc of the vertices at `p`; `None` where there is none.
+pub fn least_at(vertices: &[ArcVertex], p: Pt) -> Option<ArcId>
+    requires sorted { IsSorted vertex_cmp vertices.now }
+    ensures exact { IsFirstAt vertices.now p result }
+{
+    let low = ArcVertex {
+        at: p,
+        arc: ArcId::new(0),
+    };
+    let first = vertices.partition_point(|v| *v < low);
+    if first >= vertices.len() {
+        return None;
+    }
+    let found = vertices[first];
+    if is_same(found.at, p) {
+        Some(found.arc)
+    } else {
+        None
+    }
+}
