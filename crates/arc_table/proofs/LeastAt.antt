@@ -1,5 +1,5 @@
 -- The least arc at a vertex, among vertices in order.
-use Rattle.std.proofs.Common.{◌≡◌, inl, inr, refl, sym, ap, subst, ◌∙◌, ℕ, zero, suc, ◌<◌, ◌≤◌, List, [], ◌∷◌, ◌++◌, map, length, get_or, arith, Bool, true, false, Contains, Option, Some, None, Ordering}
+use Rattle.std.proofs.Common.{◌≡◌, inl, inr, refl, sym, ap, subst, ◌∙◌, ℕ, zero, suc, ◌<◌, ◌≤◌, List, [], map, length, get_or, arith, Bool, true, false, Contains, Option, Some, None, Ordering}
 use Rattle.std.specs.Prelude.{IfSome}
 use Rattle.std.specs.List.Sorted.{IsSorted, IsPartitionedBy, IsPartitionPoint}
 use Rattle.std.specs.Ordering.{ordering_then, nat_cmp, is_lt}

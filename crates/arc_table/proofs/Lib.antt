@@ -1,8 +1,11 @@
+pub mod Along
 pub mod AroundRows
 pub mod Begun
 pub mod Everywhere
 pub mod LeastAt
+pub mod Marks
 pub mod Others
+pub mod Proper
 pub mod SignedArcs
 pub mod SingleLink
 pub mod StepSearch

@@ -23,7 +23,7 @@ starts_no p q e f = clash (same_point p q) (same_point_to p q f) e
 within : (steps : List Segment) (k : ℕ) (p : GridPoint) → StartsAt steps k p → k < length steps
 within steps k p c = elim (slice_get_cases steps k).1 [ inl r ↦ r.1 | inr r ↦ absurd (let f : Some c.0 ≡ None = sym c.1 ∙ r.1 in cc) ]
 
-start_is : (steps : List Segment) (k : ℕ) (p : GridPoint) (d : Segment) → StartsAt steps k p → (get_or steps k d).start ≡ p
+pub start_is : (steps : List Segment) (k : ℕ) (p : GridPoint) (d : Segment) → StartsAt steps k p → (get_or steps k d).start ≡ p
 start_is steps k p d c = ap (λ (s : Segment). s.start) (get_or_from_slice_get steps k c.0 d c.1) ∙ c.2
 
 not_less : (s t : Segment) → is_lt (step_cmp s t) ≡ false → is_lt (point_cmp s.start t.start) ≡ false

@@ -1,3 +1,4 @@
+pub mod Along
 pub mod Around
 pub mod Direction
 pub mod FirstSteps

@@ -1,34 +1,91 @@
 -- Arcs as places in a table of steps: where each starts, and how many steps it has.
-use Rattle.std.specs.Prelude.{◌≡◌, ℕ, zero, suc, pos, ◌+◌, ◌<◌, List, [], ◌∷◌, map, All, length, slice_index, slice_index_or}
-use Rattle.plane_model.specs.Points.{Segment, Path}
+use Rattle.std.specs.Prelude.{◌≡◌, ◌≢◌, ◌++◌, Bool, true, false, ℕ, zero, suc, pos, ◌+◌, ◌<◌, List, [], ◌∷◌, map, All, AllPairs, Contains, length, slice_index, slice_index_or}
+use Rattle.std.specs.List.{flat_map}
+use Rattle.plane_model.specs.Points.{Segment, Path, link_between}
 use Rattle.arc_table.specs.Direction.{in_direction}
 use Rattle.arc_table.specs.declared.half_links.Net.{Net}
 use Rattle.arc_table.specs.declared.numbering.Way.{Way}
 use Rattle.arc_table.specs.declared.numbering.Numbering.{Numbering}
 
--- an arc starts at a step of the table, and has a step
-pub record IsWay (net : Net) (way : Way) : Type 0 where
-  pub there : way.start < length net.steps.items
-  pub some : 0 < way.steps
-
-abbrev pub points_of_way : Way → ℕ
-points_of_way way = way.steps + 1
-
--- arcs of the table, and a mark for each of its steps
-pub record IsNumbering (net : Net) (numbering : Numbering) : Type 0 where
-  pub ways : All (IsWay net) numbering.ways.items
-  pub each : length numbering.is_numbered.items ≡ length net.steps.items
-
--- ---- the points of an arc
+-- ---- steps one after another
 
 -- the places of n steps from h on, each the one onward from the one before
 abbrev pub walk : List ℕ → ℕ → ℕ → List ℕ
 walk onward zero h = []
 walk onward (suc n) h = h ∷ walk onward n (slice_index onward h)
 
+-- the place n steps on from h
+abbrev pub place_after : List ℕ → ℕ → ℕ → ℕ
+place_after onward zero h = h
+place_after onward (suc n) h = place_after onward n (slice_index onward h)
+
+-- each of the n steps from h on goes on, but the last
+abbrev pub GoesOn : List ℕ → ℕ → ℕ → Type 0
+GoesOn onward zero h = Unit {0}
+GoesOn onward (suc zero) h = Unit {0}
+GoesOn onward (suc (suc n)) h = (slice_index onward h ≢ h) × GoesOn onward (suc n) (slice_index onward h)
+
 -- the step at a place, with a step for a place past the end
 abbrev pub step_at : List Segment → ℕ → Segment
 step_at steps h = slice_index_or steps h (record { start = record { x = pos 0; y = pos 0 }; stop = record { x = pos 0; y = pos 0 } })
+
+-- ---- arcs
+
+-- an arc starts at a step of the table, has a step, and goes on to its last
+pub record IsWay (net : Net) (way : Way) : Type 0 where
+  pub there : way.start < length net.steps.items
+  pub some : 0 < way.steps
+  pub on : GoesOn net.onward.items way.steps way.start
+
+abbrev pub points_of_way : Way → ℕ
+points_of_way way = way.steps + 1
+
+-- the link that the step at a place goes along
+abbrev pub link_at : Net → ℕ → Segment
+link_at net h = link_between (step_at net.steps.items h)
+
+-- the links along n steps from h on
+abbrev pub links_from : Net → ℕ → ℕ → List Segment
+links_from net n h = map (link_at net) (walk net.onward.items n h)
+
+-- the links along arcs, one arc after another
+abbrev pub links_along : Net → List Way → List Segment
+links_along net ways = flat_map (λ (way : Way). links_from net way.steps way.start) ways
+
+-- the arcs of a table: together they go along each of its links, and along none twice
+pub record AreWays (net : Net) (arcs : List Way) : Type 0 where
+  pub ways : All (IsWay net) arcs
+  pub once : AllPairs (λ k l. k ≢ l) (links_along net arcs)
+  pub all : (h : ℕ) → h < length net.steps.items → Contains (links_along net arcs) (link_at net h)
+
+-- ---- marks
+
+-- the step at a place has a mark
+abbrev pub HasMark : List Bool → ℕ → Type 0
+HasMark marks h = slice_index_or marks h false ≡ true
+
+-- exactly the steps along the links have a mark
+abbrev pub AreMarked : Net → List Bool → List Segment → Type 0
+AreMarked net marks links = (h : ℕ) → h < length net.steps.items → (HasMark marks h → Contains links (link_at net h)) × (Contains links (link_at net h) → HasMark marks h)
+
+-- where links that differ are marked, now also those along n steps from h on are, and all differ
+abbrev pub AddsMarks : Net → List Bool → List Bool → ℕ → ℕ → Type 0
+AddsMarks net old new n h = (links : List Segment) → AreMarked net old links → AllPairs (λ k l. k ≢ l) links
+    → AreMarked net new (links ++ links_from net n h) × AllPairs (λ k l. k ≢ l) (links ++ links_from net n h)
+
+-- arcs of the table, of which no two go along one link, and a mark for each step along them, either way
+pub record IsNumbering (net : Net) (numbering : Numbering) : Type 0 where
+  pub ways : All (IsWay net) numbering.ways.items
+  pub each : length numbering.is_numbered.items ≡ length net.steps.items
+  pub once : AllPairs (λ k l. k ≢ l) (links_along net numbering.ways.items)
+  pub marks : AreMarked net numbering.is_numbered.items (links_along net numbering.ways.items)
+
+-- a numbering goes on, and keeps its marks
+pub record GoesFrom (net : Net) (old new : Numbering) : Type 0 where
+  pub numbering : IsNumbering net new
+  pub kept : (h : ℕ) → h < length net.steps.items → HasMark old.is_numbered.items h → HasMark new.is_numbered.items h
+
+-- ---- the points of an arc
 
 -- where n steps from h on lead, one after another
 abbrev pub ends_along : Net → ℕ → ℕ → Path

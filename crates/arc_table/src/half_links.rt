@@ -1,7 +1,7 @@
 ghost use Rattle.std.specs.Prelude.{◌≡◌, ◌≢◌, ◌+◌, ◌<◌, ◌≤◌, ◌^◌, ◌-◌, ◌++◌, true, false, All, IfOk, OnOk, OnSome, IfSome, length, slice_get, slice_index, vec_len, map};
 ghost use Rattle.plane_model.specs.Points.{Segment, reversed};
 ghost use Rattle.std.specs.List.Sorted.{IsSorted};
-ghost use Rattle.arc_table.specs.Steps.{step_cmp, StartsAt, IsOther, AreOnward, AreSteps, IsPlace, HasBoth, AreTwins};
+ghost use Rattle.arc_table.specs.Steps.{step_cmp, StartsAt, IsOther, AreLinks, AreOnward, AreProper, AreSteps, IsPlace, HasBoth, AreTwins};
 
 use crate::direction::is_same;
 use grid_base::{Link, LinkList, Pt};
@@ -68,12 +68,14 @@ pub struct Net {
     ghost twins_there: { All (λ t. t < length steps.items) twins.items },
     ghost onward_there: { All (λ t. t < length steps.items) onward.items },
     ghost sorted: { IsSorted step_cmp steps.items },
+    ghost proper: { AreProper steps.items },
     ghost twins_back: { AreTwins steps.items twins.items (length steps.items) },
 }
 
 impl Net {
     /// The steps along the links, where `turns` are in order the vertices that are nodes whatever their number of links.
     pub fn of(alloc: Global, links: &LinkList, turns: &[Pt]) -> Result<Net, AllocError>
+        requires { AreLinks links.now }
         ensures steps { IfOk result (λ n. AreSteps links.now n.steps.items) }
         ensures on { IfOk result (λ n. AreOnward n.steps.items n.twins.items n.onward.items (length n.steps.items)) }
     {

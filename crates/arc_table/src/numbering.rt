@@ -1,6 +1,6 @@
-ghost use Rattle.std.specs.Prelude.{◌≡◌, ◌+◌, ◌-◌, ◌<◌, ◌≤◌, ◌^◌, [], ◌∷◌, ◌++◌, All, IfOk, OnOk, IfSome, length, map, sum_by};
+ghost use Rattle.std.specs.Prelude.{◌≡◌, ◌≢◌, true, false, slice_index, slice_index_or, slice_set, ℕ, ◌+◌, ◌-◌, ◌<◌, ◌≤◌, ◌^◌, [], ◌∷◌, ◌++◌, All, IfOk, OnOk, IfSome, length, map, sum_by};
 ghost use Rattle.arc_table.specs.Direction.{IsForward};
-ghost use Rattle.arc_table.specs.Numbering.{IsWay, IsNumbering, points_of_way, points_along, arc_points};
+ghost use Rattle.arc_table.specs.Numbering.{AddsMarks, AreWays, GoesFrom, GoesOn, HasMark, IsNumbering, IsWay, arc_points, points_along, points_of_way};
 
 use crate::direction::turn_forward;
 use crate::half_links::{Net, Step, place_near};
@@ -24,12 +24,9 @@ pub struct Numbering {
 
 /// The arcs in the order in which the paths first step along them: those of polygons, then lines, then boxes.
 pub fn ways_of(alloc: Global, net: &Net, s: &Snapped) -> Result<Vec<Way>, AllocError>
-    ensures there { IfOk result (λ v. All (IsWay net.now) v.items) }
+    ensures exact { IfOk result (λ v. AreWays net.now v.items) }
 {
-    let mut numbering = Numbering {
-        ways: Vec::new(alloc),
-        is_numbered: vec![in alloc; false; net.step_count()]?,
-    };
+    let mut numbering = none_numbered(alloc, net)?;
     for f in 0..s.polygon_count() {
         number_polygons(&mut numbering, net, s.rings_of(FeatId::new(f)))?;
     }
@@ -39,11 +36,22 @@ pub fn ways_of(alloc: Global, net: &Net, s: &Snapped) -> Result<Vec<Way>, AllocE
     for b in 0..s.box_count() {
         number_path(&mut numbering, net, s.box_of(b).as_slice())?;
     }
+    number_rest(&mut numbering, net)?;
     let Numbering {
         ways,
         is_numbered: _,
     } = numbering;
     Ok(ways)
+}
+
+fn none_numbered(alloc: Global, net: &Net) -> Result<Numbering, AllocError>
+    ensures { IfOk result (IsNumbering net.now) }
+{
+    let is_numbered = vec![in alloc; false; net.step_count()]?;
+    Ok(Numbering {
+        ways: Vec::new(alloc),
+        is_numbered,
+    })
 }
 
 fn number_polygons(
@@ -95,19 +103,50 @@ fn number_step(
     let Some(h) = place_near(&net.steps, near, step) else {
         return Ok(near);
     };
-    if !numbering.is_numbered[h] {
-        number_along(numbering, net, h)?;
-    }
+    number_along(numbering, net, h)?;
     Ok(net.twin(h))
 }
 
-// Gives the arc along step `h` the next number.
+// Gives numbers to the arcs that no path goes along. Each link of a snapped drawing is a step of one of its paths,
+// so none is left there.
+#[tactic(auto, using(crate::proofs::Marks::all_of))]
+fn number_rest(numbering: &mut Numbering, net: &Net) -> Result<(), AllocError>
+    requires { IsNumbering net.now numbering.old }
+    ensures { OnOk result (AreWays net.now numbering.new.ways.items) }
+{
+    for h in 0..net.step_count() {
+        number_along(numbering, net, h)?;
+    }
+    Ok(())
+}
+
+// Gives the arc along step `h` the next number, where it has none.
+#[tactic(auto, using(crate::proofs::Marks::kept_all, crate::proofs::Marks::kept_twice))]
 fn number_along(numbering: &mut Numbering, net: &Net, h: usize) -> Result<(), AllocError>
     requires there { h < length net.now.steps.items }
     requires numbering { IsNumbering net.now numbering.old }
-    ensures { OnOk result (IsNumbering net.now numbering.new) }
+    ensures on { OnOk result (GoesFrom net.now numbering.old numbering.new) }
+    ensures here { OnOk result (HasMark numbering.new.is_numbered.items h) }
 {
-    let start = start_of(net, h);
+    if numbering.is_numbered[h] {
+        return Ok(());
+    }
+    number_from(numbering, net, start_of(net, h))?;
+    // The arc from there goes along `h`, so nothing is left to number.
+    number_from(numbering, net, h)
+}
+
+// Gives the arc that starts with step `start` the next number, where it has none.
+#[tactic(auto, using(crate::proofs::Marks::kept_all))]
+fn number_from(numbering: &mut Numbering, net: &Net, start: usize) -> Result<(), AllocError>
+    requires there { start < length net.now.steps.items }
+    requires numbering { IsNumbering net.now numbering.old }
+    ensures on { OnOk result (GoesFrom net.now numbering.old numbering.new) }
+    ensures here { OnOk result (HasMark numbering.new.is_numbered.items start) }
+{
+    if numbering.is_numbered[start] {
+        return Ok(());
+    }
     let steps = mark_way(&mut numbering.is_numbered, net, start);
     let way = Way {
         start: start as u32,
@@ -168,23 +207,54 @@ fn least_round(net: &Net, first: usize) -> usize
 fn mark_way(is_numbered: &mut Vec<bool>, net: &Net, start: usize) -> u32
     requires each { length is_numbered.old.items ≡ length net.now.steps.items }
     requires there { start < length net.now.steps.items }
+    requires unmarked { slice_index_or is_numbered.old.items start false ≡ false }
     ensures each { length is_numbered.new.items ≡ length net.now.steps.items }
     ensures some { 0 < result }
+    ensures on { GoesOn net.now.onward.items result start }
+    ensures marks { AddsMarks net.now is_numbered.old.items is_numbered.new.items result start }
 {
     let mut at = start;
     let mut steps = 0u32;
     for _step in 0..net.step_count() {
-        is_numbered[at] = true;
-        let twin = net.twin(at);
-        is_numbered[twin] = true;
+        mark_both(is_numbered, at, net.twin(at));
         steps += 1;
-        let next = net.next(at);
-        if next == at || next == start {
-            return steps;
+        match next_unmarked(is_numbered, net, at) {
+            Some(next) => {
+                at = next;
+            }
+            None => {
+                return steps;
+            }
         }
-        at = next;
     }
     steps
+}
+
+fn mark_both(marks: &mut Vec<bool>, h: usize, twin: usize)
+    requires here { h < length marks.old.items }
+    requires there { twin < length marks.old.items }
+    ensures exact { marks.new.items ≡ slice_set (slice_set marks.old.items h true) twin true }
+    ensures each { length marks.new.items ≡ length marks.old.items }
+{
+    marks[h] = true;
+    marks[twin] = true;
+}
+
+// The step onward from step `at`, where the arc does not end and has not come round.
+fn next_unmarked(marks: &[bool], net: &Net, at: usize) -> Option<usize>
+    requires each { length marks.now ≡ length net.now.steps.items }
+    requires there { at < length net.now.steps.items }
+    ensures there { IfSome result (λ next. next < length net.now.steps.items) }
+    ensures onward { IfSome result (λ next. next ≡ slice_index net.now.onward.items at) }
+    ensures on { IfSome result (λ next. next ≢ at) }
+    ensures unmarked { IfSome result (λ next. slice_index_or marks.now next false ≡ false) }
+{
+    let next = net.next(at);
+    if next == at || marks[next] {
+        None
+    } else {
+        Some(next)
+    }
 }
 
 /// The points of the arcs, in one pool, whose room is taken before the first arc is pushed.

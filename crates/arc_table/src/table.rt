@@ -1,5 +1,7 @@
 ghost use Rattle.std.specs.Prelude.{◌≡◌, ◌+◌, ◌<◌, ◌≤◌, [], ◌++◌, All, IfOk, IfSome, OnOk, Some, length, map, slice_get, slice_index_or};
 ghost use Rattle.plane_model.specs.Arcs.{points_of};
+ghost use Rattle.plane_model.specs.Snapped.{links_of};
+ghost use Rattle.arc_table.specs.Along.{GoAlong};
 ghost use Rattle.arc_table.specs.Direction.{IsForward};
 ghost use Rattle.arc_table.specs.Around.{IsAround};
 ghost use Rattle.arc_table.specs.Lookup.{IsArcAt, IsBegunBy};
@@ -56,6 +58,7 @@ impl ArcTable {
     pub fn build(alloc: Global, s: &Snapped) -> Result<ArcTable, AllocError>
         ensures long { IfOk result (λ t. All (λ arc. 1 < length arc) t) }
         ensures forward { IfOk result (λ t. All IsForward t) }
+        ensures links { IfOk result (λ t. GoAlong (links_of s.now) t) }
     {
         let turns = turns_of(alloc, s)?;
         let net = Net::of(alloc, s.links(), &turns)?;

@@ -1,6 +1,5 @@
-use Rattle.std.proofs.Common.{◌≡◌, List, length, sym, subst}
+use Rattle.std.proofs.Common.{List, subst}
 use Rattle.std.specs.List.Sorted.{IsPermutation}
-use Rattle.arc_table.specs.Lookup.{vertices_below}
 use Rattle.arc_table.specs.declared.vertices.ArcVertex.{ArcVertex}
 use Rattle.arc_table.proofs.vertices.vertices_in_order.Goals as goal
 

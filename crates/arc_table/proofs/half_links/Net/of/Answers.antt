@@ -1,8 +1,9 @@
 use Rattle.std.proofs.Common.{◌≡◌, ◌<◌, ℕ, List, All, length, map, ap, sym, subst, ◌∙◌}
 use Rattle.std.specs.List.Sorted.{IsSorted}
 use Rattle.plane_model.specs.Points.{Segment}
-use Rattle.arc_table.specs.Steps.{step_cmp, HasBoth, AreTwins, AreOnward}
+use Rattle.arc_table.specs.Steps.{AreLinks, AreProper, step_cmp, HasBoth, AreTwins, AreOnward}
 use Rattle.arc_table.specs.declared.half_links.LinkedStep.{LinkedStep}
+use Rattle.arc_table.proofs.Proper.{proper_steps}
 use Rattle.arc_table.proofs.StepSearch.{both_of}
 use Rattle.arc_table.proofs.half_links.Net.of.Goals as goal
 
@@ -17,6 +18,13 @@ invariant_of-result-clause-sorted c =
     let step : LinkedStep → Segment = λ s. s.step in
     let steps_is : c.in_ok-steps.steps.items ≡ map step c.in_ok-linked.linked.items = c.in_ok-steps.ensures ∙ ap (map step) c.deref-2.ensures.value in
     subst (IsSorted step_cmp) (sym steps_is) c.in_ok-linked.ensures.exact.sorted
+
+pub invariant_of-result-clause-proper : goal.invariant_of-result-clause-proper
+invariant_of-result-clause-proper c =
+    let step : LinkedStep → Segment = λ s. s.step in
+    let steps_is : c.in_ok-steps.steps.items ≡ map step c.in_ok-linked.linked.items = c.in_ok-steps.ensures ∙ ap (map step) c.deref-2.ensures.value in
+    let links : AreLinks c.as_slice.result.now = subst AreLinks (sym c.as_slice.ensures.all) c.requires in
+    subst AreProper (sym steps_is) (proper_steps c.as_slice.result.now links (map step c.in_ok-linked.linked.items) c.in_ok-linked.ensures.exact)
 
 pub invariant_of-result-clause-twins_back : goal.invariant_of-result-clause-twins_back
 invariant_of-result-clause-twins_back c = subst (λ (xs : List Segment). AreTwins xs c.in_ok-twins.twins.items (length xs)) c.deref-3.ensures.value c.in_ok-twins.ensures.back

@@ -1,4 +1,4 @@
-use Rattle.std.proofs.Common.{◌≡◌, sym, subst, List}
+use Rattle.std.proofs.Common.{subst, List}
 use Rattle.plane_model.specs.Points.{Path}
 use Rattle.arc_table.specs.Lookup.{IsArcAt, IsFirstAt}
 use Rattle.arc_table.specs.declared.vertices.ArcVertex.{ArcVertex}

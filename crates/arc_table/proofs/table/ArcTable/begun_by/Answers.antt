@@ -1,4 +1,4 @@
-use Rattle.std.proofs.Common.{rules, ◌≡◌, ◌<◌, ap, sym, subst, List, length, get_or, Contains, Some, None, arith}
+use Rattle.std.proofs.Common.{rules, ◌≡◌, ◌<◌, subst, List, length, Contains, Some, None}
 use Rattle.std.specs.Prelude.{slice_get}
 use Rattle.plane_model.specs.Points.{Segment, Path}
 use Rattle.arc_table.specs.Lookup.{IsBegunBy}
