@@ -1,17 +1,18 @@
 -- The signed arc that a step begins, among first steps in order.
-use Rattle.std.proofs.Common.{◌≡◌, refl, sym, ap, subst, ◌∙◌, ℕ, ◌<◌, List, [], ◌∷◌, map, length, get_or, arith, All, Contains, Some, None}
+use Rattle.std.proofs.Common.{◌≡◌, refl, sym, ap, subst, ◌∙◌, ℕ, zero, suc, ◌-◌, ◌<◌, List, [], ◌∷◌, ◌++◌, map, length, get_or, arith, All, Contains, Some, None}
 use Rattle.std.specs.Prelude.{slice_get}
 use Rattle.std.specs.List.Sorted.{IsPermutation, IsSorted}
 use Rattle.std.proofs.lemmas.List.{get_or-map, length-map}
-use Rattle.std.proofs.lemmas.List.Elements.{All-head, All-tail}
+use Rattle.std.proofs.lemmas.List.Elements.{All-head, All-tail, All-append, All-cons, All-nil}
 use Rattle.std.proofs.lemmas.List.Sorted.{All-permutation, Contains-permutation, IsPermutation-map}
 use Rattle.std.proofs.lemmas.Option.{get_or_from_slice_get}
-use Rattle.lists.proofs.Members.{Contains-map}
-use Rattle.plane_model.specs.Points.{Segment, Path}
+use Rattle.lists.proofs.Members.{Contains-map, Contains-head, Contains-later}
+use Rattle.plane_model.specs.Points.{GridPoint, Segment, Path}
+use Rattle.plane_model.specs.Drawing.{step_of, steps}
 use Rattle.plane_model.specs.Arcs.{SignedArc}
 use Rattle.arc_table.specs.Steps.{step_cmp}
 use Rattle.arc_table.specs.Around.{signed_below, first_step, first_of}
-use Rattle.arc_table.specs.Lookup.{AreBegun, IsBegunBy}
+use Rattle.arc_table.specs.Lookup.{AreBegun, BeginAlong, IsBegunBy}
 use Rattle.arc_table.specs.declared.first_steps.FirstStep.{FirstStep}
 use Rattle.arc_table.proofs.Everywhere.{All-map_any}
 use Rattle.arc_table.proofs.SignedArcs.{all_below, Contains-signed_below}
@@ -60,3 +61,22 @@ module _ (arcs : List Path) where
     none_begun h = λ a l e. h
         (subst (λ (x : Segment). Contains begins x) e (subst (λ (xs : List Segment). Contains xs (first_step arcs a)) (sym t.begins_of)
         (Contains-map (first_step arcs) begun a (Contains-permutation (signed_below (length arcs)) begun a t.all (Contains-signed_below (length arcs) a l)))))
+
+-- ---- steps of a path
+
+pub step_there : (path : Path) (k : ℕ) (p q : GridPoint) → suc k < length path → p ≡ get_or path k p → q ≡ get_or path (suc k) q → Contains (steps path) (record { start = p; stop = q })
+step_there [] k p q l e f = absurd (omega arith)
+step_there (x ∷ []) k p q l e f = absurd (omega arith)
+step_there (x ∷ y ∷ rest) zero p q l e f = subst (λ (s : Segment). Contains (steps (x ∷ y ∷ rest)) s) (λ i. record { start = sym e i; stop = sym f i }) (Contains-head (step_of (x, y)) (steps (y ∷ rest)))
+step_there (x ∷ y ∷ rest) (suc k) p q l e f = Contains-later (step_of (x, y)) (steps (y ∷ rest)) (record { start = p; stop = q }) (step_there (y ∷ rest) k p q (omega arith) e f)
+
+pub one_begun : (arcs : List Path) (path points : Path) (named all : List SignedArc) (a : SignedArc) (i : ℕ) (p q : GridPoint) (s : Segment) → points ≡ path → 0 < i → i < length points
+    → p ≡ get_or points (i - 1) p → q ≡ get_or points i q → s ≡ record { start = p; stop = q } → (a.arc < length arcs) × (first_step arcs a ≡ s) → all ≡ named ++ a ∷ []
+    → BeginAlong arcs path named → BeginAlong arcs path all
+one_begun arcs path points named all a i p q s same some l e f made begun pushed before =
+    let P : SignedArc → Type 0 = λ b. (b.arc < length arcs) × Contains (steps path) (first_step arcs b) in
+    let n = ap (λ (ps : Path). length ps) same in
+    let next : i ≡ suc (i - 1) = omega arith in
+    let there : Contains (steps path) (record { start = p; stop = q }) =
+    step_there path (i - 1) p q (omega arith) (e ∙ ap (λ (ps : Path). get_or ps (i - 1) p) same) (f ∙ ap (λ (ps : Path). get_or ps i q) same ∙ ap (λ (k : ℕ). get_or path k q) next) in
+    subst (All P) (sym pushed) (All-append P named (a ∷ []) before (All-cons P a [] (begun.0, subst (λ (t : Segment). Contains (steps path) t) (sym (begun.1 ∙ made)) there) (All-nil P)))

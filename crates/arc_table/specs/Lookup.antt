@@ -1,9 +1,10 @@
 -- The least arc at a vertex, and the signed arc that a step begins.
-use Rattle.std.specs.Prelude.{◌≡◌, ◌<◌, ◌≤◌, ℕ, zero, suc, List, [], ◌++◌, map, Contains, Option, Some, None, length, slice_index_or}
+use Rattle.std.specs.Prelude.{◌≡◌, ◌<◌, ◌≤◌, ℕ, zero, suc, List, [], ◌++◌, map, All, Contains, Option, Some, None, length, slice_index_or}
 use Rattle.std.specs.List.Sorted.{IsPermutation, IsSorted}
 use Rattle.std.specs.Ordering.{ordering_then, nat_cmp}
 use Rattle.std.specs.declared.cmp.Ordering.{Ordering}
 use Rattle.plane_model.specs.Points.{GridPoint, Segment, Path}
+use Rattle.plane_model.specs.Drawing.{steps}
 use Rattle.plane_model.specs.Arcs.{SignedArc}
 use Rattle.arc_table.specs.Steps.{point_cmp, step_cmp}
 use Rattle.arc_table.specs.Around.{signed_below, first_step}
@@ -49,6 +50,10 @@ IsFirstAt vertices p (Some n) = Contains vertices (record { at = p; arc = n }) �
 abbrev pub IsBegunBy : List Path → Segment → Option SignedArc → Type 0
 IsBegunBy arcs s None = (a : SignedArc) → a.arc < length arcs → first_step arcs a ≡ s → ⊥
 IsBegunBy arcs s (Some a) = (a.arc < length arcs) × (first_step arcs a ≡ s)
+
+-- each signed arc begins with a step of the path
+abbrev pub BeginAlong : List Path → Path → List SignedArc → Type 0
+BeginAlong arcs path named = All (λ (a : SignedArc). (a.arc < length arcs) × Contains (steps path) (first_step arcs a)) named
 
 -- the first steps of all signed arcs in order, and the signed arc of each
 pub record AreBegun (arcs : List Path) (begins : List Segment) (begun : List SignedArc) : Type 0 where

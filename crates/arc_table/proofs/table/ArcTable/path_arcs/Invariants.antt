@@ -1,5 +1,5 @@
-use Rattle.std.proofs.Common.{◌<◌, length, All}
+use Rattle.arc_table.specs.Lookup.{BeginAlong}
 use Rattle.arc_table.proofs.table.ArcTable.path_arcs.Given as goal
 
 abbrev pub invariant-loop-i : goal.invariant-loop-i
-invariant-loop-i l = All (λ a. a.arc < length l.self) l.arcs
+invariant-loop-i l = BeginAlong l.self l.path l.arcs
