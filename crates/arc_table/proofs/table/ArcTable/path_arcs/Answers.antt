@@ -1,5 +1,4 @@
-use Rattle.std.proofs.Common.{◌≡◌, ◌<◌, List, sym, subst, ◌∙◌, arith}
-use Rattle.plane_model.specs.Arcs.{SignedArc}
+use Rattle.std.proofs.Common.{sym, subst, ◌∙◌, arith}
 use Rattle.arc_table.specs.Lookup.{BeginAlong}
 use Rattle.arc_table.proofs.Begun.{one_begun}
 use Rattle.arc_table.proofs.table.ArcTable.path_arcs.Goals as goal
