@@ -1,7 +1,7 @@
-ghost use Rattle.std.specs.Prelude.{◌≡◌, ◌+◌, ◌<◌, ◌≤◌, [], ◌++◌, All, IfOk, IfSome, OnOk, Some, length, map, slice_get, slice_index_or};
+ghost use Rattle.std.specs.Prelude.{◌≡◌, ◌≢◌, AllPairs, ◌+◌, ◌<◌, ◌≤◌, [], ◌++◌, All, IfOk, IfSome, OnOk, Some, length, map, slice_get, slice_index_or};
 ghost use Rattle.plane_model.specs.Arcs.{points_of};
 ghost use Rattle.plane_model.specs.Snapped.{links_of};
-ghost use Rattle.arc_table.specs.Along.{GoAlong};
+ghost use Rattle.arc_table.specs.Along.{GoAlong, links_of_arcs};
 ghost use Rattle.arc_table.specs.Direction.{IsForward};
 ghost use Rattle.arc_table.specs.Around.{IsAround};
 ghost use Rattle.arc_table.specs.Lookup.{IsArcAt, IsBegunBy};
@@ -34,9 +34,10 @@ pub struct ArcTable {
 }
 
 impl Model for ArcTable {
-    ghost use Rattle.std.specs.Prelude.{◌≡◌, ◌<◌, All, List, length};
+    ghost use Rattle.std.specs.Prelude.{◌≡◌, ◌≢◌, ◌<◌, All, AllPairs, List, length};
     ghost use Rattle.plane_model.specs.Points.{GridPoint};
     ghost use Rattle.arc_table.specs.Direction.{IsForward};
+    ghost use Rattle.arc_table.specs.Along.{links_of_arcs};
     ghost use Rattle.arc_table.specs.Around.{IsTurned};
     ghost use Rattle.arc_table.specs.Lookup.{AreBegun, AreVertices};
 
@@ -50,7 +51,8 @@ impl Model for ArcTable {
         × All (λ a. a.arc < length t.arcs.spans) t.outs.items
         × AreVertices t.arcs.spans t.vertices.items
         × All IsForward t.arcs.spans
-        × IsTurned t.arcs.spans t.starts.items t.outs.items };
+        × IsTurned t.arcs.spans t.starts.items t.outs.items
+        × AllPairs (λ k l. k ≢ l) (links_of_arcs t.arcs.spans) };
 }
 
 impl ArcTable {
@@ -70,6 +72,7 @@ impl ArcTable {
     fn of_arcs(alloc: Global, arcs: SpanPool) -> Result<ArcTable, AllocError>
         requires long { All (λ arc. 1 < length arc) arcs.spans }
         requires forward { All IsForward arcs.spans }
+        requires once { AllPairs (λ k l. k ≢ l) (links_of_arcs arcs.spans) }
         ensures same { IfOk result (λ t. t ≡ arcs.spans) }
     {
         let mut firsts = first_steps(alloc, &arcs)?;
@@ -91,8 +94,10 @@ impl ArcTable {
         })
     }
 
+    /// How many arcs there are. No link is in two of them, or in one twice.
     pub fn count(&self) -> u32
         ensures exact { result ≡ length self.now }
+        ensures once { AllPairs (λ k l. k ≢ l) (links_of_arcs self.now) }
     {
         self.arcs.count()
     }

@@ -11,6 +11,15 @@ use Rattle.arc_table.proofs.table.ArcTable.build.Goals as goal
 pub of-requires : goal.of-requires
 of-requires c = subst AreLinks (sym c.links.ensures.exact) (are_links c.args.s.now c.links.ensures.snapped.arrangement)
 
+pub of_arcs-requires-clause-once : goal.of_arcs-requires-clause-once
+of_arcs-requires-clause-once c =
+    let S = links_of c.args.s.now in
+    let net = c.in_ok-net.net in
+    let made : AreSteps S net.steps.items = subst (λ (xs : List Segment). AreSteps xs net.steps.items) c.links.ensures.exact c.in_ok-net.ensures.steps in
+    let arcs : c.in_ok-arcs.arcs.spans ≡ map (arc_points net) c.in_ok-ways.ways.items = c.in_ok-arcs.ensures.exact ∙ ap (λ (ways : List Way). map (arc_points net) ways) c.deref-2.ensures.value in
+    let along : GoAlong S c.in_ok-arcs.arcs.spans = go_along net c.in_ok-net.ensures.on S (are_links c.args.s.now c.links.ensures.snapped.arrangement) made c.in_ok-ways.ways.items c.in_ok-arcs.arcs.spans c.in_ok-ways.ensures.exact arcs in
+    along.once
+
 pub returns-clause-links : goal.returns-clause-links
 returns-clause-links c =
     let S = links_of c.args.s.now in

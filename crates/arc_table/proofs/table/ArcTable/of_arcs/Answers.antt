@@ -41,4 +41,5 @@ invariant_of-result c =
       c.in_ok-vertices.ensures.exact,
       c.requires.forward,
       is_turned c.args.arcs.spans turned moved in_order c.in_ok-starts.starts.items c.in_ok-outs.outs.items starts outs,
+      c.requires.once,
     )
