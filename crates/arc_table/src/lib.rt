@@ -15,6 +15,7 @@ mod half_links;
 mod list_types;
 mod nodes;
 mod numbering;
+mod rows;
 mod signed_paths;
 mod table;
 mod vertices;

@@ -26,9 +26,9 @@ pub struct ArcTable {
     // the signed arc of each of `begins`
     begun: Vec<SignedArc>,
     // where each signed arc of `outs` starts
-    starts: Vec<Pt>,
+    pub(crate) starts: Vec<Pt>,
     // the signed arcs by their starts, and counterclockwise at each
-    outs: Vec<SignedArc>,
+    pub(crate) outs: Vec<SignedArc>,
     // the vertices of all arcs, in order
     vertices: Vec<ArcVertex>,
 }

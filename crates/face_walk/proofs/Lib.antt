@@ -4,3 +4,7 @@ pub mod NumberingLemmas
 pub mod AreaLemmas
 pub mod SideLemmas
 pub mod ListedLemmas
+pub mod JoinLemmas
+pub mod SectorLemmas
+pub mod UnderLemmas
+pub mod RayLemmas

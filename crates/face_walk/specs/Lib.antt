@@ -6,3 +6,7 @@ pub mod Holders
 pub mod Numbering
 pub mod Areas
 pub mod Sides
+pub mod Joins
+pub mod Sectors
+pub mod Rays
+pub mod Descent

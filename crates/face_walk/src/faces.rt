@@ -59,7 +59,8 @@ impl Faces {
         }
         let search = LinkSearch::of(alloc, t)?;
         let mut joining = Joining::new(alloc, 2 * t.count() + 1)?;
-        join_sectors(&mut joining, t);
+        let (starts, outs) = t.rows();
+        join_sectors(&mut joining, starts, outs);
         join_rays(alloc, &mut joining, &search)?;
         let numbering = numbering_of(alloc, &joining)?;
         let sides = sides_of(alloc, t.count(), &numbering.places)?;

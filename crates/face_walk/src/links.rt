@@ -1,4 +1,5 @@
 ghost use Rattle.std.specs.Prelude.{◌≡◌, ◌<◌, All, IfOk, IfSome, OnOk, ℕ, length};
+ghost use Rattle.face_walk.specs.Rays.{HasGridEnds, IsOnTheGrid, box_of, boxes_of, greater, lesser};
 
 use arc_table::ArcTable;
 use grid_base::{ArcId, BoxList, Link, Pt, Rect, SignedArc};
@@ -51,20 +52,40 @@ fn step_along(id: ArcId, from: Pt, to: Pt) -> Option<ArcLink>
 }
 
 /// The boxes of links, in their order.
-pub fn boxes_of(alloc: Global, links: &[ArcLink]) -> Result<BoxList, AllocError> {
+pub fn boxes_of(alloc: Global, links: &[ArcLink]) -> Result<BoxList, AllocError>
+    ensures exact { IfOk result (λ boxes. boxes ≡ boxes_of links.now) }
+    ensures on_grid { IfOk result (λ boxes. All HasGridEnds links.now) }
+{
     let mut boxes = BoxList::new(alloc);
     for l in links {
-        boxes.push(box_of(l.link)?)?;
+        let area = box_of(l.link)?;
+        boxes.push(area)?;
     }
     Ok(boxes)
 }
 
 // The least rectangle that holds a link.
-fn box_of(link: Link) -> Result<Rect, AllocError> {
+fn box_of(link: Link) -> Result<Rect, AllocError>
+    ensures exact { IfOk result (λ area. area ≡ box_of link) }
+    ensures on_grid { IfOk result (λ area. IsOnTheGrid link) }
+{
     let (a, b) = (link.low(), link.high());
-    let low = Pt::new(a.x().min(b.x()), a.y().min(b.y())).ok_or(AllocError)?;
-    let high = Pt::new(a.x().max(b.x()), a.y().max(b.y())).ok_or(AllocError)?;
-    Rect::new(low, high).ok_or(AllocError)
+    let low = Pt::new(lesser(a.x(), b.x()), lesser(a.y(), b.y())).ok_or(AllocError)?;
+    let high = Pt::new(greater(a.x(), b.x()), greater(a.y(), b.y())).ok_or(AllocError)?;
+    let area = Rect::new(low, high).ok_or(AllocError)?;
+    Ok(area)
+}
+
+fn lesser(m: i64, n: i64) -> i64
+    ensures { result ≡ lesser m n }
+{
+    if m <= n { m } else { n }
+}
+
+fn greater(m: i64, n: i64) -> i64
+    ensures { result ≡ greater m n }
+{
+    if m <= n { n } else { m }
 }
 
 /// The greater ends of links, in order.

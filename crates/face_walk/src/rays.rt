@@ -1,5 +1,12 @@
-ghost use Rattle.std.specs.Prelude.{◌≡◌, ◌+◌, ◌*◌, ◌<◌, ◌≤◌, All, IfOk, IfSome, ℕ, length};
+ghost use Rattle.std.specs.Prelude.{◌≡◌, ◌+◌, ◌*◌, ◌<◌, ◌≤◌, All, Contains, IfOk, IfSome, List, Some, ℕ, length, map, slice_get, slice_index_or, true, false, pos, ◌-ℤ◌};
+ghost use Rattle.plane_model.specs.Points.{at};
+ghost use Rattle.plane_model.specs.Parity.{is_below};
+ghost use Rattle.bucket_grid.specs.Areas.{boxes_near, whole};
+ghost use Rattle.grid_base.specs.Grid.{IsOnGrid, grid_point};
+ghost use Rattle.face_walk.specs.Descent.{IsBelowPoint, IsFound, IsNextBelow, IsNotAbove, IsSettled, IsUpper};
 ghost use Rattle.face_walk.specs.Places.{HasPlaces};
+ghost use Rattle.face_walk.specs.Rays.{HasGridEnds, IsTopmostBelow, boxes_of};
+ghost use Rattle.face_walk.specs.declared.links.ArcLink.{ArcLink};
 
 use crate::joining::Joining;
 use crate::links::{ArcLink, boxes_of, highs_of, links_of};
@@ -15,6 +22,8 @@ use std::alloc::{AllocError, Global};
 pub struct LinkSearch {
     pub links: Vec<ArcLink>,
     pub buckets: Buckets,
+    ghost near: { buckets.near ≡ map (boxes_near (boxes_of links.items)) buckets.areas },
+    ghost on_grid: { All HasGridEnds links.items },
 }
 
 impl LinkSearch {
@@ -31,55 +40,100 @@ impl LinkSearch {
     ///
     /// The buckets are gone through downwards, until a link is found that no link in a lower one can pass.
     pub fn topmost_below(&self, p: Pt) -> Option<ArcLink>
+        ensures exact { IsTopmostBelow self.now.links.items p result }
         ensures there { (m : ℕ) → All (λ l. HasPlaces m l.along) self.now.links.items → IfSome result (λ l. HasPlaces m l.along) }
     {
         let mut best = None;
-        let mut at = p;
-        for _bucket in 0..self.buckets.count() {
+        let mut next = Some(p);
+        while let Some(at) = next {
             let place = self.buckets.bucket_of(at);
             best = self.topmost_in(place, p, best);
-            match self.next_below(place, p, &best) {
-                Some(below) => at = below,
-                None => return best,
-            }
+            next = self.next_below(place, p, &best);
         }
         best
     }
 
     // The next point to look from, below a bucket; `None` where no link in a lower bucket can pass `best`.
-    fn next_below(&self, place: u32, p: Pt, best: &Option<ArcLink>) -> Option<Pt> {
-        let bottom = self.bottom_of(place, p)?;
+    fn next_below(&self, place: u32, p: Pt, best: &Option<ArcLink>) -> Option<Pt>
+        requires place { place < length self.now.buckets.areas }
+        ensures exact { IsNextBelow (slice_index_or self.now.buckets.areas place whole) p best.now result }
+        ensures on_grid { IsOnGrid p }
+    {
+        let area = self.buckets.area_of(place)?;
+        let bottom = straight_below(p, area.low())?;
         if is_settled(best, bottom) {
             return None;
         }
-        Pt::new(bottom.x(), bottom.y() - 1)
-    }
-
-    // The lowest point below `p` in a bucket's area.
-    fn bottom_of(&self, place: u32, p: Pt) -> Option<Pt> {
-        let area = self.buckets.area_of(place)?;
-        Pt::new(p.x(), area.low().y())
+        point_below(bottom)
     }
 
     // The topmost link below `p`, of `best` and the links in a bucket.
     fn topmost_in(&self, place: u32, p: Pt, best: Option<ArcLink>) -> Option<ArcLink>
-        ensures there { (m : ℕ) → All (λ l. HasPlaces m l.along) self.now.links.items → IfSome best (λ l. HasPlaces m l.along) → IfSome result (λ l. HasPlaces m l.along) }
+        requires best { IsFound self.now.links.items p best }
+        ensures found { IsFound self.now.links.items p result }
+        ensures kept { (k : ArcLink) → is_below (at p) k.link ≡ true → IsNotAbove p k best → IsNotAbove p k result }
+        ensures near { (ids : List ℕ) → slice_get self.now.buckets.near place ≡ Some ids → (i : ℕ) → (k : ArcLink) → Contains ids i →
+            slice_get self.now.links.items i ≡ Some k → is_below (at p) k.link ≡ true → IsNotAbove p k result }
     {
-        let Some(near) = self.buckets.each_near(place) else {
-            return best;
-        };
-        let mut topmost = best;
-        for i in near {
-            if let Some(l) = self.links.get(*i as usize) {
-                topmost = upper(topmost, *l, p);
-            }
+        match self.buckets.each_near(place) {
+            Some(near) => topmost_of(&self.links, near, p, best),
+            None => best,
         }
-        topmost
     }
 }
 
+// The topmost link below `p`, of `best` and the links with these numbers.
+fn topmost_of(links: &[ArcLink], near: &[u32], p: Pt, best: Option<ArcLink>) -> Option<ArcLink>
+    requires best { IsFound links.now p best }
+    ensures found { IsFound links.now p result }
+    ensures kept { (k : ArcLink) → is_below (at p) k.link ≡ true → IsNotAbove p k best → IsNotAbove p k result }
+    ensures near { (i : ℕ) → (k : ArcLink) → Contains near.now i → slice_get links.now i ≡ Some k → is_below (at p) k.link ≡ true → IsNotAbove p k result }
+{
+    let mut topmost = best;
+    for i in near {
+        topmost = upper_at(links, *i, p, topmost);
+    }
+    topmost
+}
+
+// The same after one link more.
+fn upper_at(links: &[ArcLink], i: u32, p: Pt, topmost: Option<ArcLink>) -> Option<ArcLink>
+    requires best { IsFound links.now p topmost }
+    ensures found { IsFound links.now p result }
+    ensures kept { (k : ArcLink) → is_below (at p) k.link ≡ true → IsNotAbove p k topmost → IsNotAbove p k result }
+    ensures this { (k : ArcLink) → slice_get links.now i ≡ Some k → is_below (at p) k.link ≡ true → IsNotAbove p k result }
+{
+    match link_at(links, i) {
+        Some(l) => upper(topmost, l, p),
+        None => topmost,
+    }
+}
+
+fn link_at(links: &[ArcLink], i: u32) -> Option<ArcLink>
+    ensures { result ≡ slice_get links.now i }
+{
+    links.get(i as usize).copied()
+}
+
+// The point straight below `p`, as low as `q`.
+fn straight_below(p: Pt, q: Pt) -> Option<Pt>
+    ensures exact { result ≡ Some (record { x = p.x; y = q.y }) }
+    ensures on_grid { IsOnGrid p }
+{
+    Pt::new(p.x(), q.y())
+}
+
+// The point just below; `None` where the grid ends.
+fn point_below(p: Pt) -> Option<Pt>
+    ensures exact { result ≡ grid_point p.x (p.y -ℤ pos 1) }
+{
+    Pt::new(p.x(), p.y() - 1)
+}
+
 // Whether the topmost link so far passes through a point or above it.
-fn is_settled(topmost: &Option<ArcLink>, bottom: Pt) -> bool {
+fn is_settled(topmost: &Option<ArcLink>, bottom: Pt) -> bool
+    ensures yes { result ≡ true → IsSettled topmost.now bottom }
+{
     match *topmost {
         Some(l) => is_at_or_above(l.link, bottom),
         None => false,
@@ -88,14 +142,28 @@ fn is_settled(topmost: &Option<ArcLink>, bottom: Pt) -> bool {
 
 // The link, where it is below `p` and no lower than the topmost one so far.
 fn upper(topmost: Option<ArcLink>, l: ArcLink, p: Pt) -> Option<ArcLink>
-    ensures there { (m : ℕ) → HasPlaces m l.along → IfSome topmost (λ k. HasPlaces m k.along) → IfSome result (λ k. HasPlaces m k.along) }
+    requires below { IsBelowPoint p topmost }
+    ensures exact { IsUpper p topmost l result }
 {
     if !is_below(l.link, p) {
         return topmost;
     }
     match topmost {
-        Some(k) if goes_under(k.link, l.link, p) => Some(k),
-        _ => Some(l),
+        Some(k) => upper_of_two(k, l, p),
+        None => Some(l),
+    }
+}
+
+// Of two links below `p`, the second unless it runs below the first.
+fn upper_of_two(k: ArcLink, l: ArcLink, p: Pt) -> Option<ArcLink>
+    requires first { is_below (at p) k.link ≡ true }
+    requires second { is_below (at p) l.link ≡ true }
+    ensures exact { IsUpper p (Some k) l result }
+{
+    if goes_under(k.link, l.link, p) {
+        Some(k)
+    } else {
+        Some(l)
     }
 }
 

@@ -1,49 +1,57 @@
 ghost use Rattle.std.specs.Prelude.{◌≡◌, ◌+◌, ◌*◌, ◌<◌, ◌≤◌, All, length};
-ghost use Rattle.face_walk.specs.Places.{HasPlaces};
+ghost use Rattle.arc_table.specs.Around.{IsTurned};
+ghost use Rattle.plane_model.specs.Points.{same_point};
+ghost use Rattle.face_walk.specs.Joining.{made_one};
+ghost use Rattle.face_walk.specs.Joins.{joined_by};
+ghost use Rattle.face_walk.specs.Places.{HasPlaces, place_of};
+ghost use Rattle.face_walk.specs.Sectors.{arc_at, goes_on, place_right_of, sectors};
 
 use crate::joining::Joining;
 use crate::places::place_of;
-use arc_table::ArcTable;
-use grid_base::{ArcId, SignedArc};
+use grid_base::{Pt, SignedArc};
 
-/// Joins round each vertex where arcs end the places of each sector between two arcs.
-pub fn join_sectors(joining: &mut Joining, t: &ArcTable)
-    requires few { length t.now ≤ 2000000000 }
-    requires places { length joining.old ≡ 2 * length t.now + 1 }
+/// Joins round each vertex where arcs start the places of each sector between two arcs, of all signed arcs by their
+/// starts.
+pub fn join_sectors(joining: &mut Joining, starts: &[Pt], outs: &[SignedArc])
+    requires few { length joining.old ≤ 4000000001 }
+    requires each { length starts.now ≡ length outs.now }
+    requires there { All (HasPlaces (length joining.old)) outs.now }
     ensures count { length joining.new ≡ length joining.old }
+    ensures exact { joining.new ≡ joined_by (sectors starts.now outs.now) joining.old }
 {
-    for n in 0..t.count() {
-        let id = ArcId::new(n);
-        join_at_start(joining, t, SignedArc::forward(id));
-        join_at_start(joining, t, SignedArc::backward(id));
-    }
-}
-
-// Joins the sectors round the start of an arc, where the arc is the first round it: so once for each vertex.
-fn join_at_start(joining: &mut Joining, t: &ArcTable, a: SignedArc)
-    requires there { a.arc < length t.now }
-    requires few { length t.now ≤ 2000000000 }
-    requires places { length joining.old ≡ 2 * length t.now + 1 }
-    ensures count { length joining.new ≡ length joining.old }
-{
-    let around = t.around(t.start_of(a));
-    if let (Some(first), Some(last)) = (around.first(), around.last()) {
-        if *first == a {
-            join_round(joining, around, *last);
+    let mut first = 0;
+    for i in 0..outs.len() {
+        if goes_on(starts, i) {
+            join_sector(joining, outs, i, i + 1);
+        } else {
+            join_sector(joining, outs, i, first);
+            first = i + 1;
         }
     }
 }
 
-// Joins the left of each arc with the right of the next, where `last` comes before the first.
-fn join_round(joining: &mut Joining, around: &[SignedArc], last: SignedArc)
-    requires few { length joining.old ≤ 4000000001 }
-    requires there { All (HasPlaces (length joining.old)) around.now }
-    requires last { HasPlaces (length joining.old) last }
-    ensures count { length joining.new ≡ length joining.old }
+// Whether the arc after the one at place `i` starts where that one does.
+fn goes_on(starts: &[Pt], i: usize) -> bool
+    requires { i < length starts.now }
+    ensures exact { result ≡ goes_on starts.now i }
 {
-    let mut before = last;
-    for a in around {
-        joining.join(place_of(before), place_of(a.flip()));
-        before = *a;
-    }
+    i + 1 < starts.len() && is_same(starts[i], starts[i + 1])
+}
+
+fn is_same(p: Pt, q: Pt) -> bool
+    ensures { result ≡ same_point p q }
+{
+    p == q
+}
+
+// Joins the left of the arc at place `i` with the right of the one at place `next`.
+fn join_sector(joining: &mut Joining, outs: &[SignedArc], i: usize, next: usize)
+    requires few { length joining.old ≤ 4000000001 }
+    requires there { All (HasPlaces (length joining.old)) outs.now }
+    requires first { i < length outs.now }
+    requires second { next < length outs.now }
+    ensures count { length joining.new ≡ length joining.old }
+    ensures exact { joining.new ≡ made_one (place_of (arc_at outs.now i)) (place_right_of (arc_at outs.now next)) joining.old }
+{
+    joining.join(place_of(outs[i]), place_of(outs[next].flip()));
 }

@@ -1,4 +1,7 @@
-ghost use Rattle.std.specs.Prelude.{◌≡◌, ◌≤◌, ◌-ℤ◌, ◌*ℤ◌, unsigned_abs};
+ghost use Rattle.std.specs.Prelude.{◌≡◌, ◌≤◌, ◌-ℤ◌, ◌*ℤ◌, int_le, pos, unsigned_abs};
+ghost use Rattle.plane_model.specs.Points.{at, step_x, turn};
+ghost use Rattle.plane_model.specs.Parity.{is_below, is_over};
+ghost use Rattle.plane_model.specs.Below.{rise, rises};
 ghost use Rattle.face_walk.specs.Under.{IsStep, IsCross};
 
 use grid_base::{Link, Pt};
@@ -30,6 +33,7 @@ fn determinant(a: i128, b: i128, c: i128, d: i128) -> i128
 
 // How the point `p` stands to a link: above 0 where it is strictly left of it, from its lesser to its greater end.
 fn side_of(l: Link, p: Pt) -> i128
+    ensures exact { result ≡ turn (at l.start) (at l.stop) (at p) }
     ensures small { IsCross result }
 {
     let (ax, ay) = step(l.low(), l.high());
@@ -39,20 +43,33 @@ fn side_of(l: Link, p: Pt) -> i128
 
 // How far a link goes to the right.
 fn width_of(l: Link) -> i128
+    ensures exact { result ≡ step_x (at l.start) (at l.stop) }
     ensures small { IsStep result }
 {
     let (across, _) = step(l.low(), l.high());
     across
 }
 
+// Whether a link stands over or under the abscissa of a point: its lesser end left of the point or under it, its
+// greater end right of the point.
+fn is_over(l: Link, p: Pt) -> bool
+    ensures exact { result ≡ is_over (at p) l }
+{
+    l.low().x() <= p.x() && p.x() < l.high().x()
+}
+
 /// Whether a link passes strictly below a point: its lesser end stands left of the point or under it, its greater
 /// end right of the point.
-pub fn is_below(l: Link, p: Pt) -> bool {
-    l.low().x() <= p.x() && p.x() < l.high().x() && 0 < side_of(l, p)
+pub fn is_below(l: Link, p: Pt) -> bool
+    ensures exact { result ≡ is_below (at p) l }
+{
+    is_over(l, p) && 0 < side_of(l, p)
 }
 
 /// Whether a link passes through a point or above it.
-pub fn is_at_or_above(l: Link, p: Pt) -> bool {
+pub fn is_at_or_above(l: Link, p: Pt) -> bool
+    ensures exact { result ≡ int_le (turn (at l.start) (at l.stop) (at p)) (pos 0) }
+{
     side_of(l, p) <= 0
 }
 
@@ -66,8 +83,30 @@ fn scaled(across: i128, side: i128) -> i128
     across * side
 }
 
+// How high `l` runs above `k` at the abscissa of `p`, times positive numbers.
+fn rise(l: Link, k: Link, p: Pt) -> i128
+    ensures exact { result ≡ rise (at p) k l }
+    ensures small { unsigned_abs result ≤ 256000000000000000000000000000 }
+{
+    scaled(width_of(l), side_of(k, p)) - scaled(width_of(k), side_of(l, p))
+}
+
+// Above 0, or 0 beside a number below 0.
+fn rises(height: i128, bend: i128) -> bool
+    ensures exact { result ≡ rises height bend }
+{
+    if 0 < height {
+        return true;
+    }
+    if height < 0 {
+        return false;
+    }
+    bend < 0
+}
+
 /// Whether just right of the abscissa of `p` the link `k` runs below `l`, where both are over that abscissa.
-pub fn goes_under(l: Link, k: Link, p: Pt) -> bool {
-    let rise = scaled(width_of(l), side_of(k, p)) - scaled(width_of(k), side_of(l, p));
-    0 < rise || rise == 0 && side_of(l, k.high()) < 0
+pub fn goes_under(l: Link, k: Link, p: Pt) -> bool
+    ensures exact { result ≡ rises (rise (at p) k l) (turn (at l.start) (at l.stop) (at k.stop)) }
+{
+    rises(rise(l, k, p), side_of(l, k.high()))
 }

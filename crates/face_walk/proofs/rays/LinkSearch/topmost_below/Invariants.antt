@@ -1,8 +1,19 @@
-use Rattle.std.proofs.Common.{ℕ, All}
-use Rattle.face_walk.specs.Places.{HasPlaces}
-use Rattle.std.specs.Prelude.{IfSome}
-use Rattle.face_walk.specs.declared.links.ArcLink.{ArcLink}
+use Rattle.std.proofs.Common.{ℕ, suc, zero, unsigned_abs, pos, ◌+ℤ◌, Option, Some, None}
+use Rattle.plane_model.specs.Points.{GridPoint}
+use Rattle.face_walk.specs.Descent.{IsFound}
+use Rattle.face_walk.proofs.RayLemmas.{IsReached}
 use Rattle.face_walk.proofs.rays.LinkSearch.topmost_below.Given as goal
 
-abbrev pub invariant-loop-bucket : goal.invariant-loop-bucket
-invariant-loop-bucket l = (m : ℕ) → All (λ (k : ArcLink). HasPlaces m k.along) l.self.links.items → IfSome l.best (λ (k : ArcLink). HasPlaces m k.along)
+-- how many points of the grid lie below
+abbrev pub points_left : Option GridPoint → ℕ
+points_left None = 0
+points_left (Some q) = suc (unsigned_abs (q.y +ℤ pos 2000000000))
+
+abbrev pub invariant-loop-next : goal.invariant-loop-next
+invariant-loop-next l = record {
+  found : IsFound l.self.links.items l.p l.best;
+  reached : IsReached l.self.links.items l.p l.best l.next;
+}
+
+abbrev pub decreases-loop-next : goal.decreases-loop-next
+decreases-loop-next l = points_left l.next
