@@ -8,3 +8,5 @@ pub mod JoinLemmas
 pub mod SectorLemmas
 pub mod UnderLemmas
 pub mod RayLemmas
+pub mod CornerLemmas
+pub mod RowLemmas

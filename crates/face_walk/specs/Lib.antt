@@ -10,3 +10,4 @@ pub mod Joins
 pub mod Sectors
 pub mod Rays
 pub mod Descent
+pub mod Rows

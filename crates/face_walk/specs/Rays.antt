@@ -1,5 +1,5 @@
 -- The links of arcs, and which of them a ray that goes straight down from a point meets first.
-use Rattle.std.specs.Prelude.{◌≡◌, ℕ, zero, suc, int_le, ℤ, pos, ◌≤ℤ◌, true, false, List, [], ◌++◌, filter_map, Contains, All, length, slice_index_or, map, Option, Some, None, if◌then◌else◌}
+use Rattle.std.specs.Prelude.{◌≡◌, ℕ, zero, suc, int_le, ℤ, pos, ◌≤ℤ◌, true, false, List, [], ◌++◌, filter_map, Contains, All, length, slice_index_or, map, Option, Some, None, if◌then◌else◌, IsTrue}
 use Rattle.std.specs.List.Sorted.{IsPermutation}
 use Rattle.plane_model.specs.Points.{GridPoint, Segment, Path, at, same_point, is_before, link_between, cross}
 use Rattle.plane_model.specs.Drawing.{steps}
@@ -94,8 +94,9 @@ box_of l = record {
 abbrev pub boxes_of : List ArcLink → List Corners
 boxes_of links = map (λ (l : ArcLink). box_of l.link) links
 
--- both ends lie on the grid
+-- both ends lie on the grid, in order
 pub record IsOnTheGrid (l : Segment) : Type 0 where
+  pub ordered : IsTrue (is_before l.start l.stop)
   pub start : IsOnGrid l.start
   pub stop : IsOnGrid l.stop
 

@@ -22,6 +22,7 @@ mod numbering;
 mod places;
 mod rays;
 mod ring_steps;
+mod rows;
 mod sectors;
 mod under;
 

@@ -1,4 +1,5 @@
 ghost use Rattle.std.specs.Prelude.{◌≡◌, ◌<◌, All, IfOk, IfSome, OnOk, ℕ, length};
+ghost use Rattle.face_walk.specs.Rows.{AreByStart, AreStops};
 ghost use Rattle.face_walk.specs.Rays.{HasGridEnds, IsOnTheGrid, box_of, boxes_of, greater, lesser};
 
 use arc_table::ArcTable;
@@ -16,6 +17,7 @@ pub struct ArcLink {
 /// The links of all arcs, in order.
 pub fn links_of(alloc: Global, t: &ArcTable) -> Result<Vec<ArcLink>, AllocError>
     ensures there { IfOk result (λ v. All (λ l. l.along.arc < length t.now) v.items) }
+    ensures sorted { IfOk result (λ v. AreByStart v.items) }
 {
     let mut links = Vec::new(alloc);
     for n in 0..t.count() {
@@ -89,7 +91,9 @@ fn greater(m: i64, n: i64) -> i64
 }
 
 /// The greater ends of links, in order.
-pub fn highs_of(alloc: Global, links: &[ArcLink]) -> Result<Vec<Pt>, AllocError> {
+pub fn highs_of(alloc: Global, links: &[ArcLink]) -> Result<Vec<Pt>, AllocError>
+    ensures exact { IfOk result (λ v. AreStops links.now v.items) }
+{
     let mut highs = Vec::with_capacity(alloc, links.len())?;
     for l in links {
         highs.push(l.link.high())?;

@@ -1,20 +1,24 @@
-ghost use Rattle.std.specs.Prelude.{◌≡◌, ◌+◌, ◌*◌, ◌<◌, ◌≤◌, All, Contains, IfOk, IfSome, List, Some, ℕ, length, map, slice_get, slice_index_or, true, false, pos, ◌-ℤ◌};
+ghost use Rattle.std.specs.Prelude.{◌≡◌, ◌+◌, ◌*◌, ◌<◌, ◌≤◌, All, Contains, IfOk, IfSome, OnOk, List, Some, ℕ, length, map, slice_get, slice_index_or, true, false, pos, ◌-ℤ◌};
 ghost use Rattle.plane_model.specs.Points.{at};
 ghost use Rattle.plane_model.specs.Parity.{is_below};
 ghost use Rattle.bucket_grid.specs.Areas.{boxes_near, whole};
 ghost use Rattle.grid_base.specs.Grid.{IsOnGrid, grid_point};
 ghost use Rattle.face_walk.specs.Descent.{IsBelowPoint, IsFound, IsNextBelow, IsNotAbove, IsSettled, IsUpper};
 ghost use Rattle.face_walk.specs.Places.{HasPlaces};
-ghost use Rattle.face_walk.specs.Rays.{HasGridEnds, IsTopmostBelow, boxes_of};
+ghost use Rattle.face_walk.specs.Joining.{made_one};
+ghost use Rattle.face_walk.specs.Joins.{joined_by};
+ghost use Rattle.face_walk.specs.Rays.{AreRays, HasGridEnds, IsMinimum, IsRay, IsTopmostBelow, boxes_of, place_met};
+ghost use Rattle.face_walk.specs.Rows.{AreByStart, start_at, starts_row};
 ghost use Rattle.face_walk.specs.declared.links.ArcLink.{ArcLink};
 
 use crate::joining::Joining;
 use crate::links::{ArcLink, boxes_of, highs_of, links_of};
 use crate::places::{OUTSIDE, place_of};
+use crate::rows::{first_round, is_lowest};
 use crate::under::{goes_under, is_at_or_above, is_below};
 use arc_table::ArcTable;
 use bucket_grid::Buckets;
-use grid_base::{Pt, turn};
+use grid_base::Pt;
 use std::alloc::{AllocError, Global};
 
 /// The links of all arcs, in order, and buckets over them.
@@ -24,6 +28,7 @@ pub struct LinkSearch {
     pub buckets: Buckets,
     ghost near: { buckets.near ≡ map (boxes_near (boxes_of links.items)) buckets.areas },
     ghost on_grid: { All HasGridEnds links.items },
+    ghost sorted: { AreByStart links.items },
 }
 
 impl LinkSearch {
@@ -177,12 +182,11 @@ pub fn join_rays(
     requires few { length joining.old ≤ 4000000001 }
     requires there { All (λ l. HasPlaces (length joining.old) l.along) search.now.links.items }
     ensures count { length joining.new ≡ length joining.old }
+    ensures exact { OnOk result ((rays : List (ℕ × ℕ)) × AreRays search.now.links.items rays × (joining.new ≡ joined_by rays joining.old)) }
 {
     let highs = highs_of(alloc, &search.links)?;
     for i in 0..search.links.len() {
-        let low = search.links[i].link.low();
-        let is_first = i == 0 || search.links[i - 1].link.low() != low;
-        if is_first && highs.binary_search(&low).is_err() {
+        if is_lowest(&search.links, &highs, i) {
             join_ray(joining, search, i);
         }
     }
@@ -194,29 +198,24 @@ fn join_ray(joining: &mut Joining, search: &LinkSearch, i: usize)
     requires few { length joining.old ≤ 4000000001 }
     requires there { All (λ l. HasPlaces (length joining.old) l.along) search.now.links.items }
     requires link { i < length search.now.links.items }
+    requires row { starts_row search.now.links.items i ≡ true }
+    requires vertex { IsMinimum search.now.links.items (start_at search.now.links.items i) }
     ensures count { length joining.new ≡ length joining.old }
+    ensures exact { (ray : ℕ × ℕ) × IsRay search.now.links.items (start_at search.now.links.items i) ray × (joining.new ≡ made_one ray.0 ray.1 joining.old) }
 {
-    let first = first_round(&search.links[i..], search.links[i]);
-    let above = match search.topmost_below(first.link.low()) {
-        Some(l) => place_of(l.along),
-        None => OUTSIDE,
-    };
-    joining.join(above, place_of(first.along.flip()));
+    let first = first_round(&search.links, i);
+    let met = search.topmost_below(first.link.low());
+    joining.join(place_met(met), place_of(first.along.flip()));
 }
 
-// Of the links that stand first and leave one vertex with `l`, the first counterclockwise from straight down.
-fn first_round(links: &[ArcLink], l: ArcLink) -> ArcLink
-    ensures there { (m : ℕ) → HasPlaces m l.along → All (λ k. HasPlaces m k.along) links.now → HasPlaces m result.along }
+// The place that a ray ends at.
+fn place_met(met: Option<ArcLink>) -> u32
+    requires few { IfSome met (λ l. l.along.arc < 2000000000) }
+    ensures exact { result ≡ place_met met }
+    ensures within { (m : ℕ) → 0 < m → IfSome met (λ l. HasPlaces m l.along) → result < m }
 {
-    let vertex = l.link.low();
-    let mut first = l;
-    for k in links {
-        if k.link.low() != vertex {
-            return first;
-        }
-        if turn(vertex, first.link.high(), k.link.high()) < 0 {
-            first = *k;
-        }
+    match met {
+        Some(l) => place_of(l.along),
+        None => OUTSIDE,
     }
-    first
 }

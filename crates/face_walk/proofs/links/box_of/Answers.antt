@@ -42,6 +42,7 @@ returns-clause-exact c =
 
 pub returns-clause-on_grid : goal.returns-clause-on_grid
 returns-clause-on_grid c = record {
+  ordered = c.low-a.ensures.ordered;
   start = subst IsOnGrid c.low-a.ensures.lesser c.x.ensures.bounded;
   stop = subst IsOnGrid c.high-b.ensures.greater c.x-2.ensures.bounded;
 }

@@ -1,62 +1,31 @@
-use Rattle.std.proofs.Common.{rules, ◌-◌, ap, ℕ, length, drop, arith}
-use Rattle.std.proofs.lemmas.List.Elements.{All-same, All-take, All-drop}
-use Rattle.plane_model.specs.Arcs.{SignedArc}
-use Rattle.face_walk.specs.Places.{HasPlaces}
+use Rattle.std.proofs.Common.{◌≡◌, ◌∙◌, refl, ap, subst, List}
+use Rattle.plane_model.specs.Points.{GridPoint}
+use Rattle.face_walk.specs.Joining.{made_one}
+use Rattle.face_walk.specs.Places.{place_of}
+use Rattle.face_walk.specs.Sectors.{place_right_of}
+use Rattle.face_walk.specs.Rays.{IsTopmostBelow, place_met}
+use Rattle.face_walk.specs.Rows.{IsFirstOfRow, start_at}
 use Rattle.face_walk.specs.declared.links.ArcLink.{ArcLink}
+use Rattle.face_walk.proofs.RowLemmas.{first_from}
 use Rattle.face_walk.proofs.rays.join_ray.Goals as goal
-use Rattle.face_walk.proofs.rays.join_ray.Goals.{After-flip, After-place_of, in-Some, in-None}
 
-abbrev reach : ℕ → ArcLink → Type 0
-reach m l = HasPlaces m l.along
-
-pub place_of-above-requires : goal.place_of-above-requires
-place_of-above-requires c =
-    let h = c.in-Some.ensures.there (length c.args.joining.now) c.requires.there in
-    let few = c.requires.few in
-    omega arith
-
-module _ (c : After-flip) where
-  flipped : HasPlaces (length c.args.joining.now) c.flip.result
-  flipped =
-      let m = length c.args.joining.now in
-      let links = c.deref.result.now in
-      let all = All-same (reach m) links c.args.search.now.links.items c.deref.ensures.value c.requires.there in
-      let rest = All-take (reach m) (length links - c.args.i) (drop c.args.i links) (All-drop (reach m) c.args.i links all) in
-      let h = c.first_round-first.ensures.there m (search rules) rest in
-      let e = ap (λ (a : SignedArc). a.arc) c.flip.ensures.turned in
-      omega arith
-
-module _ (c : After-place_of) where
-  flipped_then : HasPlaces (length c.args.joining.now) c.flip.result
-  flipped_then =
-      let m = length c.args.joining.now in
-      let links = c.deref.result.now in
-      let all = All-same (reach m) links c.args.search.now.links.items c.deref.ensures.value c.requires.there in
-      let rest = All-take (reach m) (length links - c.args.i) (drop c.args.i links) (All-drop (reach m) c.args.i links all) in
-      let h = c.first_round-first.ensures.there m (search rules) rest in
-      let e = ap (λ (a : SignedArc). a.arc) c.flip.ensures.turned in
-      omega arith
-
-pub place_of-requires : goal.place_of-requires
-place_of-requires c =
-    let h = flipped c in
-    let few = c.requires.few in
-    omega arith
-
-pub join-requires-clause-first : goal.join-requires-clause-first
-join-requires-clause-first c =
-    let h = flipped_then c in
-    elim c.match-topmost_below.branch [
-      | in-Some w ↦
-          let k = w.in-Some.ensures.there (length c.args.joining.now) c.requires.there in
-          let within = w.place_of-above.ensures.within in
-          let e = w.above-is in
-          omega arith
-      | in-None w ↦ let e = w.above-is in omega arith
-    ]
-
-pub join-requires-clause-second : goal.join-requires-clause-second
-join-requires-clause-second c =
-    let h = flipped_then c in
-    let within = c.place_of.ensures.within in
-    omega arith
+pub returns-clause-exact : goal.returns-clause-exact
+returns-clause-exact c =
+    let links = c.args.search.now.links.items in
+    let i = c.args.i in
+    let first = c.first_round-first.result in
+    let met = c.topmost_below-met.result in
+    let row : IsFirstOfRow links i first = subst (λ (xs : List ArcLink). IsFirstOfRow xs i first) c.deref.ensures.value c.first_round-first.ensures.exact in
+    let low : c.low.result ≡ start_at links i = c.low.ensures.lesser ∙ row.leaves in (
+      (place_met met, place_right_of first.along),
+      record {
+        vertex = c.requires.vertex;
+        first = first;
+        is_first = first_from links c.args.search.now.sorted i first c.requires.row c.requires.link row;
+        met = met;
+        is_met = subst (λ (q : GridPoint). IsTopmostBelow links q met) low c.topmost_below-met.ensures.exact;
+        ends = refl;
+        starts = refl;
+      },
+      c.join.ensures.exact ∙ (λ t. made_one (c.place_met.ensures.exact t) ((c.place_of.ensures.exact ∙ ap place_of c.flip.ensures.turned) t) c.args.joining.now),
+    )

@@ -1,0 +1,160 @@
+-- Links by their starts, and sorted points.
+use Rattle.std.proofs.Common.{◌≡◌, ◌⊎◌, inl, inr, refl, sym, ap, ◌∙◌, subst, arith, ℕ, zero, suc, ◌+◌, ◌-◌, ◌<◌, ◌≤◌, Bool, true, false, cond, not, List, map, length, get_or, [], ◌∷◌, ◌++◌, pos, All, Some, Contains, Ordering}
+use Rattle.std.specs.List.{HoldsAt}
+use Rattle.std.specs.List.Sorted.{IsSorted, IsSortedBy, IsNonDecreasingBy, IsPartitionPoint}
+use Rattle.std.specs.Ordering.{ordering_then, ordering_index, ordering_reverse, is_lt}
+use Rattle.std.specs.declared.cmp.Ordering.TheVariants.{Less, Equal, Greater}
+use Rattle.std.proofs.lemmas.Bool.{cases_lt}
+use Rattle.std.proofs.lemmas.Cmp.{tied_itself}
+use Rattle.std.proofs.lemmas.List.Sorted.{searchable_from_sorted, sorted_far}
+use Rattle.std.proofs.lemmas.List.MinMax.{ranks_by}
+use Rattle.std.proofs.lemmas.List.{length-map, get_or-map}
+use Rattle.std.proofs.lemmas.List.Elements.{All-nil, All-cons, All-append, Contains-append_left, Contains-append_right}
+use Rattle.std.proofs.lemmas.Option.{slice_get-get_or}
+use Rattle.plane_model.specs.Points.{GridPoint, same_point}
+use Rattle.plane_model.specs.Arcs.{forward}
+use Rattle.plane_model.proofs.PointOrder.{clash, same_point_from, same_point_to}
+use Rattle.face_walk.specs.Rays.{IsMinimum, IsFirstFrom, IsRay, AreRays}
+use Rattle.face_walk.specs.Rows.{starts_of, start_at, starts_row, AreByStart, IsFirstOfRow}
+use Rattle.face_walk.specs.declared.links.ArcLink.{ArcLink}
+use Rattle.arc_table.specs.Steps.{point_cmp}
+use Rattle.arc_table.proofs.StepSearch.{point_cmp-total, same_point_is}
+
+pub point_found : (xs : List GridPoint) (x : GridPoint) (i : ℕ) → i < length xs → HoldsAt (λ y. point_cmp y x ≡ Equal) xs i → Contains xs x
+point_found xs x i l h = (i, l, same_point_is (get_or xs i x) x (h x))
+
+pub point_misses : (xs : List GridPoint) (x : GridPoint) → IsSorted point_cmp xs → (i : ℕ)
+    → (IsNonDecreasingBy (λ y. ordering_index (point_cmp y x)) xs → IsPartitionPoint (λ y. point_cmp y x ≡ Less) (λ y. point_cmp y x ≡ Greater) xs i) → Contains xs x → ⊥
+point_misses xs x up i h c =
+    let s = h (searchable_from_sorted point_cmp-total (λ (y : GridPoint). y) xs x up) in
+    let itself = tied_itself point_cmp-total x in
+    elim (cases_lt c.0 i) [
+      | inl m ↦ (let e : Less ≡ Equal = sym (subst (λ (y : GridPoint). point_cmp y x ≡ Less) c.2 (s.0 c.0 x (omega arith) m)) ∙ itself in absurd (cc))
+      | inr m ↦ (let e : Greater ≡ Equal = sym (subst (λ (y : GridPoint). point_cmp y x ≡ Greater) c.2 (s.1 c.0 x m c.1)) ∙ itself in absurd (cc))
+    ]
+
+-- ---- links by their starts
+
+neither : (p q : GridPoint) → is_lt (point_cmp p q) ≡ false → is_lt (point_cmp q p) ≡ false → p ≡ q
+neither p q h k = go (point_cmp p q) (point_cmp q p) refl refl (point_cmp-total.antisymm p q) h k
+  where
+    go : (a b : Ordering) → point_cmp p q ≡ a → point_cmp q p ≡ b → point_cmp p q ≡ ordering_reverse (point_cmp q p) → is_lt (point_cmp p q) ≡ false → is_lt (point_cmp q p) ≡ false → p ≡ q
+    go Less b e f r h k = absurd (let g : true ≡ false = ap is_lt (sym e) ∙ h in cc)
+    go Equal b e f r h k = same_point_is p q e
+    go Greater Less e f r h k = absurd (let g : true ≡ false = ap is_lt (sym f) ∙ k in cc)
+    go Greater Equal e f r h k = sym (same_point_is q p f)
+    go Greater Greater e f r h k = absurd (let g : Greater ≡ Less = sym e ∙ r ∙ ap ordering_reverse f in cc)
+
+first_counts : (o p : Ordering) → is_lt (ordering_then o p) ≡ false → is_lt o ≡ false
+first_counts Less p e = e
+first_counts Equal p e = refl
+first_counts Greater p e = refl
+
+-- what is sorted by starts first is sorted by starts
+pub by_start : (xs : List ArcLink) (then other : ArcLink → ArcLink → Ordering) → IsSorted (λ a b. ordering_then (ordering_then (point_cmp a.link.start b.link.start) (then a b)) (other a b)) xs → AreByStart xs
+by_start xs then other up k d l m =
+    let start : ArcLink → GridPoint = λ a. a.link.start in
+    let n = length-map xs start in
+    let none : ArcLink = record { link = record { start = d; stop = d }; along = forward 0 } in
+    let here : k < length xs = omega arith in
+    let next : k + 1 < length xs = omega arith in
+    let e = get_or-map start xs k none d here in
+    let f = get_or-map start xs (k + 1) none d next in
+    let a = get_or xs (k + 1) none in
+    let b = get_or xs k none in
+    (λ i. is_lt (point_cmp (f i) (e i)))
+    ∙ first_counts (point_cmp a.link.start b.link.start) (then a b) (first_counts (ordering_then (point_cmp a.link.start b.link.start) (then a b)) (other a b) (up k none l next))
+
+pub start_is : (links : List ArcLink) (j : ℕ) (k : ArcLink) → j < length links → get_or links j k ≡ k → start_at links j ≡ k.link.start
+start_is links j k l e = get_or-map (λ (a : ArcLink). a.link.start) links j k (record { x = pos 0; y = pos 0 }) l ∙ ap (λ (a : ArcLink). a.link.start) e
+
+pub starts_row_at : (links : List ArcLink) (i : ℕ) → (i ≡ 0 → ⊥) → starts_row links i ≡ not (same_point (start_at links (i - 1)) (start_at links i))
+starts_row_at links zero n = absurd (n refl)
+starts_row_at links (suc i) n = ap (λ (j : ℕ). not (same_point (start_at links j) (start_at links (suc i)))) (let e : i ≡ suc i - 1 = omega arith in e)
+
+module _ (links : List ArcLink) (up : AreByStart links) where
+  many : length (starts_of links) ≡ length links
+  many = length-map links (λ (l : ArcLink). l.link.start)
+
+  never_back : (i j : ℕ) → i ≤ j → j < length links → is_lt (point_cmp (start_at links j) (start_at links i)) ≡ false
+  never_back i j l m = let n = many in sorted_far (λ (p : GridPoint) (q : GridPoint). is_lt (point_cmp p q)) (ranks_by point_cmp-total (λ (p : GridPoint). p)) (starts_of links) up i j (record { x = pos 0; y = pos 0 }) l (omega arith)
+
+  -- between two links from one vertex all links leave it
+  between : (i m j : ℕ) → i ≤ m → m ≤ j → j < length links → start_at links i ≡ start_at links j → start_at links m ≡ start_at links i
+  between i m j l h k e = neither (start_at links m) (start_at links i) (never_back i m l (omega arith)) (subst (λ (p : GridPoint). is_lt (point_cmp p (start_at links m)) ≡ false) (sym e) (never_back m j h k))
+
+  -- where a row starts, no link before leaves its vertex
+  none_before : (i j : ℕ) → starts_row links i ≡ true → j < i → i < length links → start_at links j ≡ start_at links i → ⊥
+  none_before zero j s l h e = absurd (omega arith)
+  none_before (suc i) j s l h e =
+      let same : start_at links i ≡ start_at links j = between j i (suc i) (omega arith) (omega arith) h e in
+      clash (same_point (start_at links i) (start_at links (suc i))) (same_point_to (start_at links i) (start_at links (suc i)) (same ∙ e)) (of_not (same_point (start_at links i) (start_at links (suc i))) s)
+    where
+      of_not : (b : Bool) → not b ≡ true → b ≡ false
+      of_not true e = absurd (cc)
+      of_not false e = refl
+
+  -- the first of a row is the first of all that leave its vertex
+  pub first_from : (i : ℕ) (l : ArcLink) → starts_row links i ≡ true → i < length links → IsFirstOfRow links i l → IsFirstFrom links (start_at links i) l
+  first_from i l s h r = record {
+    there = r.there;
+    leaves = r.leaves;
+    first = λ k c e. elim (cases_lt c.0 i) [
+      | inl less ↦ absurd (none_before i c.0 s less h (start_is links c.0 k c.1 c.2 ∙ e))
+      | inr more ↦ r.first c.0 k more (slice_get-get_or links c.0 k c.1 ∙ ap Some c.2) (λ m a b. between i m c.0 a b c.1 (sym (start_is links c.0 k c.1 c.2 ∙ e)))
+    ];
+  }
+
+-- the row of a link starts at or before it
+pub row_of : (links : List ArcLink) (j : ℕ) → (i : ℕ) × (i ≤ j) × (starts_row links i ≡ true) × (start_at links i ≡ start_at links j)
+row_of links zero = (0, omega arith, refl, refl)
+row_of links (suc j) = go (same_point (start_at links j) (start_at links (suc j))) refl (row_of links j)
+  where
+    go : (b : Bool) → same_point (start_at links j) (start_at links (suc j)) ≡ b → (i : ℕ) × (i ≤ j) × (starts_row links i ≡ true) × (start_at links i ≡ start_at links j) →
+        (i : ℕ) × (i ≤ suc j) × (starts_row links i ≡ true) × (start_at links i ≡ start_at links (suc j))
+    go true e r = let (i, l, s, f) = r in (i, omega arith, s, f ∙ same_point_from (start_at links j) (start_at links (suc j)) e)
+    go false e r = (suc j, omega arith, ap not e, refl)
+
+-- ---- rays, one more place of the list at a time
+
+pub record AreRaysBelow (links : List ArcLink) (n : ℕ) (rays : List (ℕ × ℕ)) : Type 0 where
+  pub each : All (λ (ray : ℕ × ℕ). (p : GridPoint) × IsRay links p ray) rays
+  pub all : (j : ℕ) → j < n → starts_row links j ≡ true → IsMinimum links (start_at links j) → (ray : ℕ × ℕ) × Contains rays ray × IsRay links (start_at links j) ray
+
+pub no_rays : (links : List ArcLink) → AreRaysBelow links 0 []
+no_rays links = record { each = All-nil (λ (ray : ℕ × ℕ). (p : GridPoint) × IsRay links p ray); all = λ j l. absurd (omega arith) }
+
+pub no_more_rays : (links : List ArcLink) (n : ℕ) (rays : List (ℕ × ℕ)) → AreRaysBelow links n rays → (starts_row links n ≡ true → IsMinimum links (start_at links n) → ⊥) → AreRaysBelow links (n + 1) rays
+no_more_rays links n rays h none = record {
+  each = h.each;
+  all = λ j l s m. elim (cases_lt j n) [
+    | inl less ↦ h.all j less s m
+    | inr more ↦ (let e : j ≡ n = omega arith in absurd (none (ap (starts_row links) (sym e) ∙ s) (subst (λ (i : ℕ). IsMinimum links (start_at links i)) e m)))
+  ];
+}
+
+pub one_more_ray : (links : List ArcLink) (n : ℕ) (rays : List (ℕ × ℕ)) (ray : ℕ × ℕ) → AreRaysBelow links n rays → IsRay links (start_at links n) ray → AreRaysBelow links (n + 1) (rays ++ ray ∷ [])
+one_more_ray links n rays ray h r = record {
+  each = All-append is_ray rays (ray ∷ []) h.each (All-cons is_ray ray [] (start_at links n, r) (All-nil is_ray));
+  all = λ j l s m. elim (cases_lt j n) [
+    | inl less ↦ (let (q, c, i) = h.all j less s m in (q, Contains-append_left rays (ray ∷ []) q c, i))
+    | inr more ↦ (let e : n ≡ j = omega arith in (ray, Contains-append_right rays (ray ∷ []) ray (contains_head ray []), subst (λ (i : ℕ). IsRay links (start_at links i) ray) e r))
+  ];
+}
+  where
+    is_ray : ℕ × ℕ → Type 0
+    is_ray q = (p : GridPoint) × IsRay links p q
+
+    contains_head : {A : Type 0} (x : A) (xs : List A) → Contains (x ∷ xs) x
+    contains_head x xs = (0, omega arith, refl)
+
+pub all_rays : (links : List ArcLink) (rays : List (ℕ × ℕ)) (up : AreByStart links) → AreRaysBelow links (length links) rays → AreRays links rays
+all_rays links rays up h = record {
+  each = h.each;
+  all = λ l c m.
+      (let (i, le, s, e) = row_of links c.0 in
+      let here : start_at links i ≡ l.link.start = e ∙ start_is links c.0 l c.1 c.2 in
+      let there : i < length links = (let x = c.1 in omega arith) in
+      let (ray, at, r) = h.all i there s (subst (IsMinimum links) (sym here) m) in
+      (ray, at, subst (λ (p : GridPoint). IsRay links p ray) here r));
+}
