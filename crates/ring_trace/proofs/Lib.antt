@@ -1,3 +1,6 @@
 pub mod SetLemmas
 pub mod OwnerLemmas
 pub mod PartLemmas
+pub mod BoundaryLemmas
+pub mod JoinedLemmas
+pub mod RankedLemmas

@@ -46,6 +46,9 @@ search_found xs x i up r = let s = searched xs x (Ok i) r (rises xs up) in has_a
 pub search_misses : (xs : List ℕ) (x i : ℕ) → IsStrictlyIncreasing xs → IsBinarySearchResult (λ y. nat_cmp y x) xs (Err i) → has nat_eq xs x ≡ false
 search_misses xs x i up r = let s = searched xs x (Err i) r (rises xs up) in has_not xs x i s.1 s.2
 
+pub search_place : (xs : List ℕ) (x i : ℕ) → IsStrictlyIncreasing xs → IsBinarySearchResult (λ y. nat_cmp y x) xs (Ok i) → get_or xs i 0 ≡ x
+search_place xs x i up r = (searched xs x (Ok i) r (rises xs up)).1
+
 -- ---- what is put in its place
 
 abbrev placed : ℕ → ℕ → List ℕ → Bool → Bool → List ℕ

@@ -3,3 +3,5 @@ pub mod Sets
 pub mod Rings
 pub mod Keys
 pub mod Owners
+pub mod Boundary
+pub mod Joined

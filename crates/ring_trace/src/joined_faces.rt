@@ -1,5 +1,18 @@
-ghost use Rattle.std.specs.Prelude.{◌≡◌, ◌<◌, ◌≤◌, ◌^◌, All, IfOk, IfSome, OnOk, length};
-ghost use Rattle.face_walk.specs.Places.{HasArc};
+ghost use Rattle.std.specs.Prelude.{◌≡◌, ◌++◌, ◌<◌, ◌≤◌, ◌^◌, All, Contains, IfOk, IfSome, List, None, OnOk, length, map, slice_index};
+ghost use Rattle.std.specs.List.Sorted.{IsStrictlyIncreasing};
+ghost use Rattle.plane_model.specs.Points.{Path};
+ghost use Rattle.face_walk.specs.Joining.{AreClasses};
+ghost use Rattle.face_walk.specs.Places.{HasArc, IsBuiltOf, face_left_of};
+ghost use Rattle.ring_trace.specs.Boundary.{face_right_of, is_outward, outward_at, side_at, sides_of};
+ghost use Rattle.ring_trace.specs.Joined.{
+  AreJoinedBy,
+  AreLeastNumbers,
+  AreSound,
+  IsCoarser,
+  IsJoinedAround,
+  IsJoinedOver,
+  rank_of,
+};
 ghost use Rattle.ring_trace.specs.Parts.{IsSide};
 
 use face_walk::{Faces, Joining};
@@ -24,7 +37,9 @@ pub struct Parts {
 
 /// The boundary of a set, whose faces stand in order.
 pub fn boundary_of(alloc: Global, f: &Faces, faces: &[FaceId]) -> Result<Vec<Side>, AllocError>
-    requires { length faces.now < 2 ^ 32 }
+    requires few { length faces.now < 2 ^ 32 }
+    requires ascending { IsStrictlyIncreasing faces.now }
+    ensures exact { (arcs : List Path) → IsBuiltOf arcs f.now → IfOk result (λ v. v.items ≡ sides_of f.now.places (length arcs) faces.now) }
     ensures there { IfOk result (λ v. All (IsSide f.now (length faces.now)) v.items) }
 {
     let mut sides = Vec::new(alloc);
@@ -42,12 +57,16 @@ fn push_sides(
     i: usize,
 ) -> Result<(), AllocError>
     requires few { length faces.now < 2 ^ 32 }
+    requires ascending { IsStrictlyIncreasing faces.now }
     requires face { i < length faces.now }
     requires there { All (IsSide f.now (length faces.now)) sides.old.items }
+    ensures exact { (arcs : List Path) → IsBuiltOf arcs f.now →
+        OnOk result (sides.new.items ≡ sides.old.items ++ map (side_at i) (outward_at f.now.places (length arcs) faces.now (slice_index faces.now i))) }
     ensures there { OnOk result (All (IsSide f.now (length faces.now)) sides.new.items) }
 {
-    for arc in f.arcs_of(faces[i]) {
-        if place_across(f, faces, *arc).is_none() {
+    let round = f.arcs_of(faces[i]);
+    for arc in round {
+        if leads_out(f, faces, *arc) {
             sides.push(Side {
                 place: i as u32,
                 arc: *arc,
@@ -57,11 +76,27 @@ fn push_sides(
     Ok(())
 }
 
+// Whether no face of the set is on the right of a signed arc.
+fn leads_out(f: &Faces, faces: &[FaceId], arc: SignedArc) -> bool
+    requires few { length faces.now < 2 ^ 32 }
+    requires ascending { IsStrictlyIncreasing faces.now }
+    requires arc { HasArc f.now arc }
+    ensures exact { result ≡ is_outward f.now.places faces.now arc }
+{
+    match place_across(f, faces, arc) {
+        Some(_) => false,
+        None => true,
+    }
+}
+
 // The place of the face on the right of a signed arc, where it is in the set.
 fn place_across(f: &Faces, faces: &[FaceId], arc: SignedArc) -> Option<u32>
     requires few { length faces.now < 2 ^ 32 }
+    requires ascending { IsStrictlyIncreasing faces.now }
     requires arc { HasArc f.now arc }
     ensures there { IfSome result (λ i. i < length faces.now) }
+    ensures found { IfSome result (λ i. slice_index faces.now i ≡ face_right_of f.now.places arc) }
+    ensures missed { result ≡ None → Contains faces.now (face_right_of f.now.places arc) → ⊥ }
 {
     match faces.binary_search(&f.left_of(arc.flip())) {
         Ok(i) => Some(i as u32),
@@ -78,8 +113,13 @@ impl Parts {
         sides: &[Side],
     ) -> Result<Parts, AllocError>
         requires few { length faces.now < 2 ^ 32 }
+        requires ascending { IsStrictlyIncreasing faces.now }
         requires there { All (IsSide f.now (length faces.now)) sides.now }
         ensures each { IfOk result (λ p. length p.joining ≡ length faces.now) }
+        ensures joined { (arcs : List Path) → IsBuiltOf arcs f.now → IfOk result (λ p. AreJoinedBy f.now faces.now p.joining) }
+        ensures least { IfOk result (λ p. AreLeastNumbers p.joining sides.now p.numbers.items) }
+        ensures numbers { IfOk result (λ p. length p.numbers.items ≡ length p.joining) }
+        ensures classes { IfOk result (λ p. AreClasses p.joining) }
     {
         let joining = joined(alloc, f, faces)?;
         let numbers = numbers_of(alloc, &joining, sides)?;
@@ -89,15 +129,27 @@ impl Parts {
     /// The number of the part that the face at a place is in.
     pub fn number_of(&self, place: u32) -> u32
         requires { place < length self.now.joining }
+        ensures exact { result ≡ slice_index self.now.numbers.items (slice_index self.now.joining place) }
     {
         self.numbers[self.joining.least(place) as usize]
+    }
+
+    /// Where the part stands that the face at a place is in: by its number, and by the least place of its faces.
+    pub fn rank_of(&self, place: u32) -> u64
+        requires { place < length self.now.joining }
+        ensures exact { result ≡ rank_of self.now.joining self.now.numbers.items place }
+    {
+        let least = self.joining.least(place);
+        u64::from(self.numbers[least as usize]) * 4294967296 + u64::from(least)
     }
 }
 
 // The places of the faces, joined where the faces share an arc.
 fn joined(alloc: Global, f: &Faces, faces: &[FaceId]) -> Result<Joining, AllocError>
-    requires { length faces.now < 2 ^ 32 }
+    requires few { length faces.now < 2 ^ 32 }
+    requires ascending { IsStrictlyIncreasing faces.now }
     ensures count { IfOk result (λ j. length j ≡ length faces.now) }
+    ensures exact { (arcs : List Path) → IsBuiltOf arcs f.now → IfOk result (AreJoinedBy f.now faces.now) }
 {
     let mut joining = Joining::new(alloc, faces.len() as u32)?;
     for i in 0..faces.len() {
@@ -109,14 +161,34 @@ fn joined(alloc: Global, f: &Faces, faces: &[FaceId]) -> Result<Joining, AllocEr
 // Joins a face with those of the set across its arcs.
 fn join_across(joining: &mut Joining, f: &Faces, faces: &[FaceId], i: usize)
     requires few { length faces.now < 2 ^ 32 }
+    requires ascending { IsStrictlyIncreasing faces.now }
     requires face { i < length faces.now }
     requires count { length joining.old ≡ length faces.now }
     ensures count { length joining.new ≡ length faces.now }
+    ensures kept { IsCoarser joining.old joining.new }
+    ensures sound { (arcs : List Path) → IsBuiltOf arcs f.now → AreSound f.now faces.now joining.old → AreSound f.now faces.now joining.new }
+    ensures around { (arcs : List Path) → IsBuiltOf arcs f.now → IsJoinedAround f.now faces.now i joining.new }
 {
-    for arc in f.arcs_of(faces[i]) {
-        if let Some(place) = place_across(f, faces, *arc) {
-            joining.join(i as u32, place);
-        }
+    let round = f.arcs_of(faces[i]);
+    for arc in round {
+        join_over(joining, f, faces, i, *arc);
+    }
+}
+
+// Joins a face with that of the set across one of its arcs.
+fn join_over(joining: &mut Joining, f: &Faces, faces: &[FaceId], i: usize, arc: SignedArc)
+    requires few { length faces.now < 2 ^ 32 }
+    requires ascending { IsStrictlyIncreasing faces.now }
+    requires face { i < length faces.now }
+    requires arc { HasArc f.now arc }
+    requires count { length joining.old ≡ length faces.now }
+    ensures count { length joining.new ≡ length faces.now }
+    ensures kept { IsCoarser joining.old joining.new }
+    ensures sound { face_left_of f.now.places arc ≡ slice_index faces.now i → AreSound f.now faces.now joining.old → AreSound f.now faces.now joining.new }
+    ensures over { IsJoinedOver f.now faces.now i arc joining.new }
+{
+    if let Some(place) = place_across(f, faces, arc) {
+        joining.join(i as u32, place);
     }
 }
 
@@ -124,6 +196,8 @@ fn join_across(joining: &mut Joining, f: &Faces, faces: &[FaceId], i: usize)
 fn numbers_of(alloc: Global, joining: &Joining, sides: &[Side]) -> Result<Vec<u32>, AllocError>
     requires { All (λ s. s.place < length joining.now) sides.now }
     ensures each { IfOk result (λ v. length v.items ≡ length joining.now) }
+    ensures least { IfOk result (λ v. AreLeastNumbers joining.now sides.now v.items) }
+    ensures classes { IfOk result (λ v. AreClasses joining.now) }
 {
     let mut numbers = vec![in alloc; u32::MAX; joining.count() as usize]?;
     for side in sides {

@@ -14,6 +14,7 @@ ghost use Rattle.ring_trace.specs.Parts.{
   IsRun,
 };
 ghost use Rattle.face_walk.specs.Places.{IsBuiltOf};
+ghost use Rattle.ring_trace.specs.Joined.{AreParts, IsRanked};
 ghost use Rattle.ring_trace.specs.Sets.{IsSetOf};
 
 use crate::face_set::FaceSet;
@@ -24,10 +25,10 @@ use face_walk::Faces;
 use grid_base::FaceId;
 use std::alloc::{AllocError, Global};
 
-/// A face of a set, with the number of its part.
+/// A face of a set, with the number of its part: greater for a part that stands later.
 #[derive(Clone, Copy, Debug)]
 struct PartFace {
-    part: u32,
+    part: u64,
     face: FaceId,
 }
 
@@ -37,6 +38,7 @@ struct PartFace {
 pub fn parts(alloc: Global, t: &ArcTable, f: &Faces, set: &FaceSet) -> Result<SetList, AllocError>
     requires built { IsBuiltOf t.now f.now }
     requires faces { IsSetOf f.now set.now }
+    ensures exact { IfOk result (AreParts f.now set.now) }
     ensures divided { IfOk result (IsDivided set.now) }
     ensures of_the_set { IfOk result (All (IsPieceOf set.now)) }
     ensures inner { IfOk result (All (IsSetOf f.now)) }
@@ -63,6 +65,7 @@ fn numbered_faces(
     ensures in_order { IfOk result (λ v. AreInOrder v.items) }
     ensures numbered { IfOk result (λ v. AreNumbered faces.now v.items) }
     ensures of_them { IfOk result (λ v. All (IsFaceOf faces.now) v.items) }
+    ensures ranked { IfOk result (λ v. All (IsRanked faces.now parts.now.joining parts.now.numbers.items) v.items) }
 {
     let mut numbered = Vec::with_capacity(alloc, faces.len())?;
     for i in 0..faces.len() {
@@ -78,9 +81,10 @@ fn numbered_face(parts: &Parts, faces: &[FaceId], i: usize) -> PartFace
     requires place { i < length faces.now }
     ensures face { result.face ≡ slice_index faces.now i }
     ensures of_them { IsFaceOf faces.now result }
+    ensures ranked { IsRanked faces.now parts.now.joining parts.now.numbers.items result }
 {
     PartFace {
-        part: parts.number_of(i as u32),
+        part: parts.rank_of(i as u32),
         face: faces[i],
     }
 }
@@ -100,7 +104,7 @@ fn sets_of(alloc: Global, numbered: &[PartFace]) -> Result<SetList, AllocError>
     Ok(sets)
 }
 
-fn part_at(numbered: &[PartFace], i: usize) -> u32
+fn part_at(numbered: &[PartFace], i: usize) -> u64
     requires { i < length numbered.now }
     ensures exact { HasPart numbered.now i result }
 {
@@ -118,7 +122,7 @@ fn begins_part(numbered: &[PartFace], i: usize) -> bool
 }
 
 // How far from a place on the faces are of one part.
-fn end_of_part(numbered: &[PartFace], part: u32, first: usize) -> usize
+fn end_of_part(numbered: &[PartFace], part: u64, first: usize) -> usize
     requires in_order { AreInOrder numbered.now }
     requires place { first < length numbered.now }
     requires part { HasPart numbered.now first part }

@@ -4,6 +4,7 @@ use Rattle.std.proofs.lemmas.List.Elements.{All-push}
 use Rattle.std.proofs.lemmas.List.Sorted.{All-permutation, IsNonDecreasingBy-from_sort_by_key}
 use Rattle.ring_trace.specs.declared.part_sets.PartFace.{PartFace}
 use Rattle.ring_trace.specs.Parts.{IsFaceOf}
+use Rattle.ring_trace.specs.Joined.{IsRanked}
 use Rattle.ring_trace.proofs.PartLemmas.{face_pushed, numbered_each, numbered_moved}
 use Rattle.ring_trace.proofs.part_sets.numbered_faces.Goals as goal
 
@@ -19,6 +20,7 @@ loop-i-preserved c =
       subst (λ (xs : List PartFace). All (IsFaceOf faces) xs) (sym items) (All-push (IsFaceOf faces) old one c.loop-i.invariant.0 c.numbered_face.ensures.of_them),
       ap (λ (xs : List PartFace). length xs) items ∙ (omega arith),
       subst (λ (xs : List PartFace). (k : ℕ) (d : PartFace) → k < i + 1 → (get_or xs k d).face ≡ get_or faces k 0) (sym items) (face_pushed old one faces i each c.numbered_face.ensures.face c.loop-i.invariant.2),
+      subst (λ (xs : List PartFace). All (IsRanked faces c.args.parts.now.joining c.args.parts.now.numbers.items) xs) (sym items) (All-push (IsRanked faces c.args.parts.now.joining c.args.parts.now.numbers.items) old one c.loop-i.invariant.3 c.numbered_face.ensures.ranked),
     )
 
 pub returns-clause-in_order : goal.returns-clause-in_order
@@ -36,3 +38,6 @@ returns-clause-numbered c =
 
 pub returns-clause-of_them : goal.returns-clause-of_them
 returns-clause-of_them c = All-permutation (IsFaceOf c.args.faces.now) c.loop-i.numbered.items c.sort_unstable_by_key.new.self.items c.sort_unstable_by_key.ensures.permutation c.loop-i.invariant.0
+
+pub returns-clause-ranked : goal.returns-clause-ranked
+returns-clause-ranked c = All-permutation (IsRanked c.args.faces.now c.args.parts.now.joining c.args.parts.now.numbers.items) c.loop-i.numbered.items c.sort_unstable_by_key.new.self.items c.sort_unstable_by_key.ensures.permutation c.loop-i.invariant.3
