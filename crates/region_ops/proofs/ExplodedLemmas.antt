@@ -4,6 +4,7 @@ use Rattle.std.specs.List.{flat_map, enumerate_from}
 use Rattle.std.proofs.lemmas.Bool.{cases_lt}
 use Rattle.std.proofs.lemmas.Grind.{flat_map-append}
 use Rattle.std.proofs.lemmas.List.{length_push, get_or_append_left, get_or_push, take_more, map-append}
+use Rattle.face_walk.specs.Places.{FaceTable}
 use Rattle.region_ops.specs.declared.item_lists.PartItem.{PartItem}
 use Rattle.region_ops.specs.Exploded.{ArePieces, items_of, IsPushed, AreExploded}
 
@@ -14,22 +15,22 @@ enumerate_push k n (y ∷ ys) x e = ap (λ (zs : List (ℕ × _)). (k, y) ∷ zs
 abbrev items_of_set : ℕ × List (List ℕ) → List PartItem
 items_of_set f = items_of f.0 f.1
 
-pub exploded_none : (sets : List (List ℕ)) → AreExploded sets 0 []
-exploded_none sets = record { pieces = []; each = refl; are = λ n l. absurd (omega arith); listed = refl }
+pub exploded_none : (faces : FaceTable) (sets : List (List ℕ)) → AreExploded faces sets 0 []
+exploded_none faces sets = record { pieces = []; each = refl; are = λ n l. absurd (omega arith); listed = refl }
 
-pub exploded_more : (sets : List (List ℕ)) (n : ℕ) (old new : List PartItem) → AreExploded sets n old → IsPushed n (get_or sets n []) old new → AreExploded sets (n + 1) new
-exploded_more sets n old new h p =
+pub exploded_more : (faces : FaceTable) (sets : List (List ℕ)) (n : ℕ) (old new : List PartItem) → AreExploded faces sets n old → IsPushed faces n (get_or sets n []) old new → AreExploded faces sets (n + 1) new
+exploded_more faces sets n old new h p =
     let e = h.each in
     let pushed = length_push h.pieces p.pieces in
     record {
       pieces = h.pieces ++ p.pieces ∷ [];
       each = omega arith;
       are = λ k l. elim (cases_lt k n) [
-        | inl less ↦ subst (λ (ps : List (List ℕ)). ArePieces (get_or sets k []) ps) (sym (get_or_append_left h.pieces (p.pieces ∷ []) [] k (omega arith))) (h.are k less)
+        | inl less ↦ subst (λ (ps : List (List ℕ)). ArePieces faces (get_or sets k []) ps) (sym (get_or_append_left h.pieces (p.pieces ∷ []) [] k (omega arith))) (h.are k less)
         | inr more ↦
             (let same : n ≡ k = omega arith in
-            subst (λ (m : ℕ). ArePieces (get_or sets m []) (get_or (h.pieces ++ p.pieces ∷ []) m [])) same
-            (subst (λ (ps : List (List ℕ)). ArePieces (get_or sets n []) ps) (sym (get_or_push h.pieces p.pieces [] n e)) p.are))
+            subst (λ (m : ℕ). ArePieces faces (get_or sets m []) (get_or (h.pieces ++ p.pieces ∷ []) m [])) same
+            (subst (λ (ps : List (List ℕ)). ArePieces faces (get_or sets n []) ps) (sym (get_or_push h.pieces p.pieces [] n e)) p.are))
       ];
       listed = p.items ∙ ap (λ (is : List PartItem). is ++ items_of n p.pieces) h.listed
           ∙ ap (λ (is : List PartItem). flat_map items_of_set (enumerate_from 0 h.pieces) ++ is) (sym (append-nil (items_of n p.pieces)))
@@ -48,5 +49,5 @@ pieces_more n i pieces d piece old so_far item l is feature set before =
     one : item ≡ record { feature = n; set = get_or pieces i d }
     one = λ j. record { feature = feature j; set = (set ∙ is) j }
 
-pub pieces_of_empty : (set : List ℕ) (pieces : List (List ℕ)) → set ≡ [] → pieces ≡ [] ∷ [] → ArePieces set pieces
-pieces_of_empty set pieces e f = record { empty = λ _. f; parts = λ n. absurd (n e) }
+pub pieces_of_empty : (faces : FaceTable) (set : List ℕ) (pieces : List (List ℕ)) → set ≡ [] → pieces ≡ [] ∷ [] → ArePieces faces set pieces
+pieces_of_empty faces set pieces e f = record { empty = λ _. f; parts = λ n. absurd (n e) }

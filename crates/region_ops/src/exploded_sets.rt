@@ -19,7 +19,7 @@ pub fn explode_sets(
 ) -> Result<PartList, AllocError>
     requires built { IsBuiltOf t.now f.now }
     requires faces { All (IsSetOf f.now) old.now }
-    ensures exact { IfOk result (IsExploded old.now) }
+    ensures exact { IfOk result (IsExploded f.now old.now) }
     ensures parts { IfOk result (All (IsPart f.now (length old.now))) }
 {
     let mut items = PartList::new(alloc);
@@ -33,7 +33,7 @@ pub fn explode_sets(
 fn pieces_of(alloc: Global, t: &ArcTable, f: &Faces, set: &FaceSet) -> Result<SetList, AllocError>
     requires built { IsBuiltOf t.now f.now }
     requires faces { IsSetOf f.now set.now }
-    ensures exact { IfOk result (ArePieces set.now) }
+    ensures exact { IfOk result (ArePieces f.now set.now) }
     ensures inner { IfOk result (All (IsSetOf f.now)) }
 {
     if set.is_empty() {
@@ -57,7 +57,7 @@ fn push_pieces(
     requires faces { All (IsSetOf f.now) old.now }
     requires number { n < length old.now }
     requires so_far { All (IsPart f.now (length old.now)) items.old }
-    ensures exact { OnOk result (IsPushed n (slice_index_or old.now n []) items.old items.new) }
+    ensures exact { OnOk result (IsPushed f.now n (slice_index_or old.now n []) items.old items.new) }
     ensures parts { OnOk result (All (IsPart f.now (length old.now)) items.new) }
 {
     let pieces = pieces_of(alloc, t, f, &old.as_slice()[n as usize])?;
