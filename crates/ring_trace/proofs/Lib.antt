@@ -4,3 +4,6 @@ pub mod PartLemmas
 pub mod BoundaryLemmas
 pub mod JoinedLemmas
 pub mod RankedLemmas
+pub mod UsedLemmas
+pub mod TileLemmas
+pub mod TracedLemmas

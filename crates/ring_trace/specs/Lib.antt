@@ -5,3 +5,4 @@ pub mod Keys
 pub mod Owners
 pub mod Boundary
 pub mod Joined
+pub mod Traced

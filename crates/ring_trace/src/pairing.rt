@@ -1,4 +1,5 @@
-ghost use Rattle.std.specs.Prelude.{◌≡◌, ◌<◌, ◌^◌, All, IfOk, length};
+ghost use Rattle.std.specs.Prelude.{◌≡◌, ◌<◌, ◌^◌, All, IfOk, length, map};
+ghost use Rattle.std.specs.List.Sorted.{IsPermutation};
 ghost use Rattle.face_walk.specs.Places.{IsBuiltOf};
 ghost use Rattle.ring_trace.specs.Parts.{IsSide};
 
@@ -34,6 +35,7 @@ pub fn edges_of(
     requires places { All (λ s. s.place < length parts.now.joining) sides.now }
     ensures each { IfOk result (λ v. length v.items ≡ length sides.now) }
     ensures there { IfOk result (λ v. All (λ e. e.arc.arc < length t.now) v.items) }
+    ensures arcs { IfOk result (λ v. IsPermutation (map (λ s. s.arc) sides.now) (map (λ e. e.arc) v.items)) }
 {
     let mut edges = Vec::with_capacity(alloc, sides.len())?;
     for side in sides {

@@ -1,6 +1,7 @@
-ghost use Rattle.std.specs.Prelude.{◌≡◌, ◌+◌, ◌<◌, ◌≤◌, All, IfOk, IfSome, OnOk, length};
+ghost use Rattle.std.specs.Prelude.{◌≡◌, ◌+◌, ◌<◌, ◌≤◌, All, IfOk, IfSome, OnOk, length, ℕ};
+ghost use Rattle.std.specs.List.{sum_by};
 ghost use Rattle.ring_trace.specs.Rings.{IsSpan, IsWhole};
-ghost use Rattle.ring_trace.specs.Keys.{IsKey};
+ghost use Rattle.ring_trace.specs.Keys.{IsKey, IsKeyOf, along_key, along_span};
 
 use crate::pairing::Edge;
 use crate::simple_rings::{RingSpan, Rings};
@@ -30,6 +31,7 @@ pub fn keys_of(
     requires rings { IsWhole (length edges.now) rings.now }
     requires there { All (λ e. e.arc.arc < length t.now) edges.now }
     ensures there { IfOk result (λ v. All (IsKey rings.now) v.items) }
+    ensures once { (g : ℕ → ℕ) → IfOk result (λ v. sum_by (along_key g rings.now) v.items ≡ sum_by (along_span g rings.now) rings.now.spans.items) }
 {
     let mut keys = Vec::with_capacity(alloc, rings.spans.len())?;
     for span in &rings.spans {
@@ -53,6 +55,7 @@ fn key_of(
     requires span { IsSpan (length rings.now.edges.items) span }
     requires there { All (λ e. e.arc.arc < length t.now) edges.now }
     ensures there { IfOk result (λ key. IfSome key (IsKey rings.now)) }
+    ensures span { IfOk result (IsKeyOf span) }
 {
     if span.begin >= span.end {
         return Ok(None);

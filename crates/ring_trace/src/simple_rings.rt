@@ -1,5 +1,6 @@
-ghost use Rattle.std.specs.Prelude.{◌≡◌, ◌<◌, ◌≤◌, ◌^◌, All, IfOk, OnOk, length};
-ghost use Rattle.ring_trace.specs.Rings.{IsWalk, IsWhole};
+ghost use Rattle.std.specs.Prelude.{◌≡◌, [], ◌<◌, ◌≤◌, ◌^◌, All, IfOk, OnOk, false, length, slice_index_or, slice_set, true};
+ghost use Rattle.std.specs.List.Sorted.{IsPermutation};
+ghost use Rattle.ring_trace.specs.Rings.{AreTiled, HasEachOnce, IsKept, IsSpan, IsWalk, IsWhole, StaysGone};
 
 use crate::pairing::{Edge, onward_of, vertices_of};
 use arc_table::ArcTable;
@@ -37,6 +38,8 @@ pub fn rings_of(alloc: Global, t: &ArcTable, edges: &[Edge]) -> Result<Rings, Al
     requires few { length edges.now < 2 ^ 32 }
     requires there { All (λ e. e.arc.arc < length t.now) edges.now }
     ensures whole { IfOk result (IsWhole (length edges.now)) }
+    ensures once { IfOk result (HasEachOnce edges.now) }
+    ensures tiled { IfOk result (λ rings. AreTiled 0 rings.spans.items (length rings.edges.items)) }
 {
     let mut walk = Walk {
         onward: onward_of(alloc, t, edges)?,
@@ -57,33 +60,43 @@ pub fn rings_of(alloc: Global, t: &ArcTable, edges: &[Edge]) -> Result<Rings, Al
     Ok(rings)
 }
 
-// Goes along the closed run of an edge.
+// Goes along the closed run of an edge, and takes what is left of it for a ring.
 fn go_round(walk: &mut Walk, rings: &mut Rings, first: usize) -> Result<(), AllocError>
     requires walk { IsWalk walk.old }
     requires rings { IsWhole (length walk.old.onward.items) rings.old }
+    requires kept { IsKept walk.old rings.old }
     requires first { first < length walk.old.onward.items }
+    requires new { slice_index_or walk.old.is_gone.items first false ≡ false }
     ensures walk { OnOk result (IsWalk walk.new) }
     ensures count { OnOk result (length walk.new.onward.items ≡ length walk.old.onward.items) }
     ensures rings { OnOk result (IsWhole (length walk.old.onward.items) rings.new) }
+    ensures kept { OnOk result (IsKept walk.new rings.new) }
+    ensures done { OnOk result (walk.new.way.items ≡ []) }
+    ensures gone { OnOk result (slice_index_or walk.new.is_gone.items first false ≡ true) }
+    ensures stays { OnOk result (StaysGone walk.old.is_gone.items walk.new.is_gone.items) }
 {
-    let mut at = first;
-    for _step in 0..walk.onward.len() {
-        at = go_along(walk, rings, at)?;
-        if at == first {
+    let mut at = go_along(walk, rings, first)?;
+    for _step in 1..walk.onward.len() {
+        if walk.is_gone[at] {
             break;
         }
+        at = go_along(walk, rings, at)?;
     }
-    close(walk, rings, first)
+    close(walk, rings)
 }
 
 // Goes along one edge, and answers the next; cuts a ring first, where the edge starts at a vertex on the way.
 fn go_along(walk: &mut Walk, rings: &mut Rings, edge: usize) -> Result<usize, AllocError>
     requires walk { IsWalk walk.old }
     requires rings { IsWhole (length walk.old.onward.items) rings.old }
+    requires kept { IsKept walk.old rings.old }
     requires edge { edge < length walk.old.onward.items }
+    requires new { slice_index_or walk.old.is_gone.items edge false ≡ false }
     ensures walk { OnOk result (IsWalk walk.new) }
     ensures count { OnOk result (length walk.new.onward.items ≡ length walk.old.onward.items) }
     ensures rings { OnOk result (IsWhole (length walk.old.onward.items) rings.new) }
+    ensures kept { OnOk result (IsKept walk.new rings.new) }
+    ensures gone { OnOk result (walk.new.is_gone.items ≡ slice_set walk.old.is_gone.items edge true) }
     ensures next { IfOk result (λ next. next < length walk.old.onward.items) }
 {
     let vertex = walk.vertices[edge] as usize;
@@ -96,26 +109,16 @@ fn go_along(walk: &mut Walk, rings: &mut Rings, edge: usize) -> Result<usize, Al
     Ok(walk.onward[edge] as usize)
 }
 
-// Takes the way from the start of an edge on for a ring.
-fn close(walk: &mut Walk, rings: &mut Rings, edge: usize) -> Result<(), AllocError>
-    requires walk { IsWalk walk.old }
-    requires rings { IsWhole (length walk.old.onward.items) rings.old }
-    requires edge { edge < length walk.old.onward.items }
-    ensures walk { OnOk result (IsWalk walk.new) }
-    ensures count { OnOk result (length walk.new.onward.items ≡ length walk.old.onward.items) }
-    ensures rings { OnOk result (IsWhole (length walk.old.onward.items) rings.new) }
-{
-    let vertex = walk.vertices[edge] as usize;
-    cut_ring(walk, rings, vertex)
-}
-
 // Takes the way from a vertex on for a ring.
 fn cut_ring(walk: &mut Walk, rings: &mut Rings, vertex: usize) -> Result<(), AllocError>
     requires walk { IsWalk walk.old }
     requires rings { IsWhole (length walk.old.onward.items) rings.old }
+    requires kept { IsKept walk.old rings.old }
     ensures walk { OnOk result (IsWalk walk.new) }
     ensures count { OnOk result (length walk.new.onward.items ≡ length walk.old.onward.items) }
     ensures rings { OnOk result (IsWhole (length walk.old.onward.items) rings.new) }
+    ensures kept { OnOk result (IsKept walk.new rings.new) }
+    ensures gone { OnOk result (walk.new.is_gone.items ≡ walk.old.is_gone.items) }
 {
     let begin = rings.edges.len();
     while let Some(edge) = walk.way.pop() {
@@ -126,8 +129,49 @@ fn cut_ring(walk: &mut Walk, rings: &mut Rings, vertex: usize) -> Result<(), All
             break;
         }
     }
+    add_ring(rings, begin)
+}
+
+// Takes the whole way for a ring.
+fn close(walk: &mut Walk, rings: &mut Rings) -> Result<(), AllocError>
+    requires walk { IsWalk walk.old }
+    requires rings { IsWhole (length walk.old.onward.items) rings.old }
+    requires kept { IsKept walk.old rings.old }
+    ensures walk { OnOk result (IsWalk walk.new) }
+    ensures count { OnOk result (length walk.new.onward.items ≡ length walk.old.onward.items) }
+    ensures rings { OnOk result (IsWhole (length walk.old.onward.items) rings.new) }
+    ensures kept { OnOk result (IsKept walk.new rings.new) }
+    ensures gone { OnOk result (walk.new.is_gone.items ≡ walk.old.is_gone.items) }
+    ensures done { OnOk result (walk.new.way.items ≡ []) }
+{
+    let begin = rings.edges.len();
+    while let Some(edge) = walk.way.pop() {
+        let start = walk.vertices[edge as usize] as usize;
+        rings.edges.push(edge)?;
+        walk.is_passed[start] = false;
+    }
+    add_ring(rings, begin)
+}
+
+// Makes a ring of the edges from a place on, which stand from the last to the first.
+fn add_ring(rings: &mut Rings, begin: usize) -> Result<(), AllocError>
+    requires place { begin ≤ length rings.old.edges.items }
+    requires tiled { AreTiled 0 rings.old.spans.items begin }
+    requires spans { All (IsSpan (length rings.old.edges.items)) rings.old.spans.items }
+    ensures edges { OnOk result (IsPermutation rings.old.edges.items rings.new.edges.items) }
+    ensures tiled { OnOk result (AreTiled 0 rings.new.spans.items (length rings.new.edges.items)) }
+    ensures spans { OnOk result (All (IsSpan (length rings.new.edges.items)) rings.new.spans.items) }
+{
     let end = rings.edges.len();
-    rings.edges[begin..].reverse();
+    turn_back(&mut rings.edges, begin);
     rings.spans.push(RingSpan { begin, end })?;
     Ok(())
+}
+
+// Turns the order of the edges from a place on.
+fn turn_back(edges: &mut Vec<u32>, begin: usize)
+    requires { begin ≤ length edges.old.items }
+    ensures { IsPermutation edges.old.items edges.new.items }
+{
+    edges[begin..].reverse();
 }

@@ -1,8 +1,11 @@
-ghost use Rattle.std.specs.Prelude.{◌≡◌, ◌<◌, ◌≤◌, ◌^◌, All, IfOk, IfSome, OnOk, ℕ, length};
+ghost use Rattle.std.specs.Prelude.{◌≡◌, ◌+◌, ◌<◌, ◌≤◌, ◌^◌, All, IfOk, IfSome, OnOk, ℕ, length};
+ghost use Rattle.std.specs.List.{sum_by};
+ghost use Rattle.plane_model.specs.Arcs.{SignedArc};
 ghost use Rattle.face_walk.specs.Places.{IsBuiltOf};
 ghost use Rattle.ring_trace.specs.Sets.{IsSetOf};
 ghost use Rattle.ring_trace.specs.Rings.{IsSpan, IsWhole};
-ghost use Rattle.ring_trace.specs.Keys.{IsKey};
+ghost use Rattle.ring_trace.specs.Keys.{IsKey, along_key};
+ghost use Rattle.ring_trace.specs.Traced.{UsesBoundary, times, times_along, times_traced};
 
 use crate::face_set::FaceSet;
 use crate::joined_faces::{Parts, boundary_of};
@@ -21,6 +24,7 @@ use std::alloc::{AllocError, Global};
 pub fn trace(alloc: Global, t: &ArcTable, f: &Faces, set: &FaceSet) -> Result<Polys, AllocError>
     requires built { IsBuiltOf t.now f.now }
     requires faces { IsSetOf f.now set.now }
+    ensures boundary { IfOk result (UsesBoundary f.now.places (length t.now) set.now) }
     ensures there { IfOk result (λ polygons. All (λ rings. All (λ ring. All (λ a. a.arc < length t.now) ring) rings) polygons) }
 {
     let faces = set.faces();
@@ -48,35 +52,21 @@ fn polygons_of(
     requires rings { IsWhole (length edges.now) rings.now }
     requires keys { All (IsKey rings.now) keys.now }
     ensures there { (n : ℕ) → All (λ e. e.arc.arc < n) edges.now → IfOk result (All (All (All (λ a. a.arc < n)))) }
+    ensures once { (a : SignedArc) → IfOk result (λ polygons. times_traced a polygons ≡ sum_by (along_key (times_along a edges.now) rings.now) keys.now) }
 {
     let mut polygons = Polys::new(alloc);
+    let mut polygon = SignedPaths::new(alloc);
     for i in 0..keys.len() {
-        if i == 0 || keys[i - 1].part != keys[i].part {
-            polygons.push(polygon_of(alloc, edges, rings, &keys[i..])?)?;
+        if i > 0 && keys[i - 1].part != keys[i].part {
+            polygons.push(polygon)?;
+            polygon = SignedPaths::new(alloc);
         }
+        polygon.push(path_of(alloc, edges, rings, keys[i])?)?;
+    }
+    if polygon.len() > 0 {
+        polygons.push(polygon)?;
     }
     Ok(polygons)
-}
-
-// The rings that stand first, as far as they are of one part.
-fn polygon_of(
-    alloc: Global,
-    edges: &[Edge],
-    rings: &Rings,
-    keys: &[RingKey],
-) -> Result<SignedPaths, AllocError>
-    requires rings { IsWhole (length edges.now) rings.now }
-    requires keys { All (IsKey rings.now) keys.now }
-    ensures there { (n : ℕ) → All (λ e. e.arc.arc < n) edges.now → IfOk result (All (All (λ a. a.arc < n))) }
-{
-    let mut polygon = SignedPaths::new(alloc);
-    for key in keys {
-        if key.part != keys[0].part {
-            break;
-        }
-        polygon.push(path_of(alloc, edges, rings, *key)?)?;
-    }
-    Ok(polygon)
 }
 
 // The arcs of a ring, from the least on.
@@ -89,6 +79,7 @@ fn path_of(
     requires rings { IsWhole (length edges.now) rings.now }
     requires key { IsKey rings.now key }
     ensures there { (n : ℕ) → All (λ e. e.arc.arc < n) edges.now → IfOk result (All (λ a. a.arc < n)) }
+    ensures once { (a : SignedArc) → IfOk result (λ path. times a path ≡ along_key (times_along a edges.now) rings.now key) }
 {
     let mut path = SignedPath::new(alloc);
     push_arcs(&mut path, edges, &rings.edges[key.first..key.end])?;
@@ -99,6 +90,7 @@ fn path_of(
 fn push_arcs(path: &mut SignedPath, edges: &[Edge], ring: &[u32]) -> Result<(), AllocError>
     requires { All (λ e. e < length edges.now) ring.now }
     ensures there { OnOk result ((n : ℕ) → All (λ e. e.arc.arc < n) edges.now → All (λ a. a.arc < n) path.old → All (λ a. a.arc < n) path.new) }
+    ensures once { OnOk result ((a : SignedArc) → times a path.new ≡ times a path.old + sum_by (times_along a edges.now) ring.now) }
 {
     for e in ring {
         path.push(edges[*e as usize].arc)?;

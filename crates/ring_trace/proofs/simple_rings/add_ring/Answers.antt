@@ -1,0 +1,30 @@
+use Rattle.std.proofs.Common.{rules, ◌≡◌, ◌∙◌, sym, ap, subst, refl, arith, ℕ, ◌≤◌, List, [], ◌∷◌, ◌++◌, length, All}
+use Rattle.std.proofs.lemmas.List.Elements.{All-push}
+use Rattle.std.proofs.lemmas.List.Sorted.{length_permutation}
+use Rattle.ring_trace.specs.declared.simple_rings.RingSpan.{RingSpan}
+use Rattle.ring_trace.specs.Rings.{AreTiled, IsSpan}
+use Rattle.ring_trace.proofs.TileLemmas.{tiled_more}
+use Rattle.ring_trace.proofs.simple_rings.add_ring.Goals as goal
+
+pub returns-clause-tiled : goal.returns-clause-tiled
+returns-clause-tiled c =
+    let old = c.args.rings.now.edges.items in
+    let new = c.turn_back.new.edges.items in
+    let size : length new ≡ length old = length_permutation old new c.turn_back.ensures in
+    let end : c.len-end.result ≡ length old = search rules in
+    let place = c.requires.place in
+    let s : RingSpan = record { begin = c.args.begin; end = c.len-end.result } in
+    subst (λ (ss : List RingSpan). AreTiled 0 ss (length new)) (sym c.in_ok-push.ensures.items)
+    (tiled_more 0 c.args.begin (length new) c.args.rings.now.spans.items s c.requires.tiled refl (omega arith) (omega arith))
+
+pub returns-clause-spans : goal.returns-clause-spans
+returns-clause-spans c =
+    let old = c.args.rings.now.edges.items in
+    let new = c.turn_back.new.edges.items in
+    let size : length new ≡ length old = length_permutation old new c.turn_back.ensures in
+    let end : c.len-end.result ≡ length old = search rules in
+    let place = c.requires.place in
+    let s : RingSpan = record { begin = c.args.begin; end = c.len-end.result } in
+    subst (λ (ss : List RingSpan). All (IsSpan (length new)) ss) (sym c.in_ok-push.ensures.items)
+    (All-push (IsSpan (length new)) c.args.rings.now.spans.items s (subst (λ (n : ℕ). All (IsSpan n) c.args.rings.now.spans.items) (sym size) c.requires.spans)
+    (record { ordered = omega arith; within = omega arith }))

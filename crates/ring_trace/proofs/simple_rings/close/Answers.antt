@@ -1,0 +1,73 @@
+use Rattle.std.proofs.Common.{rules, ◌≡◌, ◌∙◌, sym, ap, subst, arith, ℕ, ◌+◌, ◌<◌, Some, List, [], ◌∷◌, ◌++◌, length, All, length-set}
+use Rattle.std.specs.List.{sum_by}
+use Rattle.std.specs.List.Sorted.{IsPermutation}
+use Rattle.std.proofs.lemmas.Result.{on_ok_weaker}
+use Rattle.std.proofs.lemmas.List.{length_push}
+use Rattle.std.proofs.lemmas.List.Elements.{All-pop}
+use Rattle.std.proofs.lemmas.List.Sums.{sum_by_push}
+use Rattle.std.proofs.lemmas.List.Sorted.{sum_by-IsPermutation, All-permutation}
+use Rattle.ring_trace.specs.declared.simple_rings.Rings.{Rings}
+use Rattle.ring_trace.specs.declared.simple_rings.Walk.{Walk}
+use Rattle.ring_trace.specs.Rings.{AreTiled, IsSpan, IsWhole, IsKept, sum_where}
+use Rattle.ring_trace.proofs.TileLemmas.{on_ok_both, whole_pushed, AreBelow}
+use Rattle.ring_trace.proofs.simple_rings.close.Goals as goal
+
+pub loop-edge-preserved : goal.loop-edge-preserved
+loop-edge-preserved c =
+    let w = c.loop-edge.invariant.0 in
+    let count = c.loop-edge.invariant.1 in
+    let n = length c.args.walk.now.onward.items in
+    let e = c.in-Some.edge in
+    let popped = All-pop (λ k. k < length c.loop-edge.walk.onward.items) c.loop-edge.walk.way.items c.pop.new.self.items (Some e) c.in-Some.ensures.items w.way in
+    let here : e < n = (let l = popped.1 in omega arith) in
+    let more = whole_pushed n c.loop-edge.rings.edges.items c.push.new.self.items c.loop-edge.rings.spans.items e c.in_ok-push.ensures.items here c.loop-edge.invariant.2.edges c.loop-edge.invariant.2.spans in
+    let size = ap (λ (xs : List ℕ). length xs) c.in_ok-push.ensures.items ∙ length_push c.loop-edge.rings.edges.items e in
+    let begin = c.loop-edge.invariant.3 in (
+      record {
+        few = w.few;
+        onward = w.onward;
+        vertices_each = w.vertices_each;
+        vertices = w.vertices;
+        gone_each = w.gone_each;
+        way = popped.0;
+        passed_each = length-set c.loop-edge.walk.is_passed.items c.index.result.now _ ∙ w.passed_each;
+      },
+      count,
+      record { edges = more.0; spans = more.1 },
+      (omega arith),
+      λ g.
+          let p = ap (sum_by g) c.in_ok-push.ensures.items ∙ sum_by_push g c.loop-edge.rings.edges.items e in
+          let v = ap (sum_by g) c.in-Some.ensures.items ∙ sum_by_push g c.pop.new.self.items e in
+          let h = c.loop-edge.invariant.4 g in
+          omega arith,
+      c.loop-edge.invariant.5,
+      c.loop-edge.invariant.6,
+      c.loop-edge.invariant.7,
+    )
+
+pub returns-clause-rings : goal.returns-clause-rings
+returns-clause-rings c =
+    let old = c.loop-edge.rings.edges.items in
+    let new = c.add_ring.new.rings.edges.items in
+    let n = length c.args.walk.now.onward.items in
+    on_ok_weaker c.add_ring.result
+    (λ h. record { edges = All-permutation (λ e. e < n) old new h.0 c.loop-edge.invariant.2.edges; spans = h.1 })
+    (on_ok_both (IsPermutation old new) (All (IsSpan (length new)) c.add_ring.new.rings.spans.items) c.add_ring.result c.add_ring.ensures.edges c.add_ring.ensures.spans)
+
+pub returns-clause-kept : goal.returns-clause-kept
+returns-clause-kept c =
+    let old = c.loop-edge.rings.edges.items in
+    let new = c.add_ring.new.rings.edges.items in
+    let rest : c.loop-edge.walk.way.items ≡ c.pop.new.self.items = search rules in
+    on_ok_weaker c.add_ring.result
+    (λ h. record {
+      once = λ g.
+          let m = sum_by-IsPermutation g old new h.0 in
+          let w = ap (sum_by g) rest in
+          let i = c.loop-edge.invariant.4 g in
+          let k = c.requires.kept.once g in
+          let e = ap (sum_where g 0) c.loop-edge.invariant.5 in
+          omega arith;
+      tiled = h.1;
+    })
+    (on_ok_both (IsPermutation old new) (AreTiled 0 c.add_ring.new.rings.spans.items (length new)) c.add_ring.result c.add_ring.ensures.edges c.add_ring.ensures.tiled)
