@@ -10,3 +10,4 @@ pub mod UnderLemmas
 pub mod RayLemmas
 pub mod CornerLemmas
 pub mod RowLemmas
+pub mod BuiltLemmas

@@ -1,3 +1,4 @@
+pub mod PlaceNumbers
 pub mod Joining
 pub mod Places
 pub mod Under

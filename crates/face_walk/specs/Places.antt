@@ -1,17 +1,15 @@
 -- Places beside arcs, the faces that they belong to, and the faces of a table of arcs.
-use Rattle.std.specs.Prelude.{◌≡◌, ℕ, zero, suc, ◌+◌, ◌*◌, ◌<◌, ℤ, Bool, nat_eq, List, [], ◌∷◌, ◌++◌, if◌then◌else◌, filter, length, map, slice_index}
+use Rattle.std.specs.Prelude.{◌≡◌, ℕ, zero, suc, ◌+◌, ◌*◌, ◌<◌, ℤ, Bool, nat_eq, List, [], ◌∷◌, ◌++◌, if◌then◌else◌, filter, length, map, slice_index, Option}
 use Rattle.std.specs.List.{range_with_len}
-use Rattle.plane_model.specs.Points.{Path}
+use Rattle.plane_model.specs.Points.{GridPoint, Path}
 use Rattle.plane_model.specs.Arcs.{SignedArc, forward, backward}
+use Rattle.arc_table.specs.Around.{IsTurned}
 use Rattle.face_walk.specs.Areas.{area_within}
-
--- the number of the place left of a signed arc; the outside has number 0
-abbrev pub place_of : SignedArc → ℕ
-place_of a = if a.is_reversed then 2 * a.arc + 2 else 2 * a.arc + 1
-
--- so many places are enough for both sides of an arc
-abbrev pub HasPlaces : ℕ → SignedArc → Type 0
-HasPlaces places a = 2 * a.arc + 2 < places
+pub use Rattle.face_walk.specs.PlaceNumbers.{place_of, HasPlaces}
+use Rattle.face_walk.specs.Joins.{AreJoinedBy}
+use Rattle.face_walk.specs.Sectors.{sectors}
+use Rattle.face_walk.specs.Rays.{AreRays, IsTopmostBelow, place_met}
+use Rattle.face_walk.specs.declared.links.ArcLink.{ArcLink}
 
 -- the first n arcs, each forward and then reversed
 abbrev pub signed_below : ℕ → List SignedArc
@@ -33,17 +31,35 @@ arcs_with_left places many f = filter (has_left places f) (signed_below many)
 abbrev pub areas_of_faces : List Path → List ℕ → ℕ → List ℤ
 areas_of_faces arcs places count = map (λ (f : ℕ). area_within arcs (arcs_with_left places (length arcs) f)) (range_with_len 0 count)
 
--- what faces show: the face of each place, the number of faces, and twice the area of each
+-- what faces show: the face of each place, the number of faces, twice the area of each, and the links that part them
 pub record FaceTable : Type 0 where
   pub places : List ℕ
   pub count : ℕ
   pub areas : List ℤ
+  pub links : List ArcLink
 
 -- the faces have this arc
 abbrev pub HasArc : FaceTable → SignedArc → Type 0
 HasArc faces a = HasPlaces (length faces.places) a
 
+-- Two places have one face exactly where a chain of joins connects them: of the sectors round the vertices where arcs start, and of the
+-- rays that go straight down from the vertices that all their links leave.
+pub record HasJoins (arcs : List Path) (links : List ArcLink) (places : List ℕ) : Type 0 where
+  pub starts : List GridPoint
+  pub outs : List SignedArc
+  pub turned : IsTurned arcs starts outs
+  pub rays : List (ℕ × ℕ)
+  pub are_rays : AreRays links rays
+  pub joined : AreJoinedBy (sectors starts outs ++ rays) places
+
+-- the face f is that of the place left of the topmost link below p, or where there is none that of the outside
+pub record IsFaceOver (faces : FaceTable) (p : GridPoint) (f : ℕ) : Type 0 where
+  pub met : Option ArcLink
+  pub is_met : IsTopmostBelow faces.links p met
+  pub face : f ≡ slice_index faces.places (place_met met)
+
 -- the faces were built of these arcs
 pub record IsBuiltOf (arcs : List Path) (faces : FaceTable) : Type 0 where
   pub places_counted : length faces.places ≡ 2 * length arcs + 1
+  pub joined : HasJoins arcs faces.links faces.places
   pub areas_summed : faces.areas ≡ areas_of_faces arcs faces.places faces.count

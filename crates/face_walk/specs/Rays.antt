@@ -7,7 +7,7 @@ use Rattle.plane_model.specs.Arcs.{forward, backward}
 use Rattle.plane_model.specs.Parity.{is_below}
 use Rattle.plane_model.specs.Below.{is_under}
 use Rattle.grid_base.specs.Grid.{Corners, IsOnGrid}
-use Rattle.face_walk.specs.Places.{place_of}
+use Rattle.face_walk.specs.PlaceNumbers.{place_of}
 use Rattle.face_walk.specs.Sectors.{place_right_of}
 use Rattle.face_walk.specs.declared.links.ArcLink.{ArcLink}
 

@@ -1,7 +1,7 @@
 ghost use Rattle.std.specs.Prelude.{◌≡◌, ◌+◌, ◌*◌, ◌<◌, ◌≤◌, All, IfOk, List, Some, ℕ, length, map, slice_get};
 ghost use Rattle.plane_model.specs.Points.{Path};
 ghost use Rattle.face_walk.specs.Areas.{area_within};
-ghost use Rattle.face_walk.specs.Places.{HasArc, HasPlaces, IsBuiltOf, areas_of_faces, arcs_with_left, place_of};
+ghost use Rattle.face_walk.specs.Places.{HasArc, HasJoins, HasPlaces, IsBuiltOf, IsFaceOver, areas_of_faces, arcs_with_left, place_of};
 ghost use Rattle.face_walk.specs.Sides.{AreListed};
 
 use crate::areas::area_of_face;
@@ -35,7 +35,7 @@ impl Model for Faces {
 
     ghost Value = { FaceTable };
 
-    ghost view = { λ f. record { places = f.places.items; count = f.count; areas = f.areas.items } };
+    ghost view = { λ f. record { places = f.places.items; count = f.count; areas = f.areas.items; links = f.search.links.items } };
 
     ghost invariant = { λ f. (0 < length f.places.items)
         × (length f.places.items ≤ 4000000001)
@@ -78,6 +78,7 @@ impl Faces {
         requires places { length numbering.places.items ≡ 2 * length t.now + 1 }
         requires sides { All (λ s. s.arc.arc < length t.now) sides.now }
         requires listed { AreListed numbering.places.items (map (λ s. s.face) sides.now) (map (λ s. s.arc) sides.now) }
+        requires joined { HasJoins t.now search.links.items numbering.places.items }
         requires links { All (λ l. HasPlaces (length numbering.places.items) l.along) search.links.items }
         ensures built { IfOk result (IsBuiltOf t.now) }
     {
@@ -136,9 +137,10 @@ impl Faces {
         self.areas[f.num() as usize]
     }
 
-    /// The face that a point lies in which is on no link.
+    /// The face that a point lies in which is on no link: the one left of the topmost link below it, or the outer face.
     pub fn at(&self, t: &ArcTable, p: Pt) -> FaceId
         requires built { IsBuiltOf t.now self.now }
+        ensures exact { IsFaceOver self.now p result }
         ensures there { result < self.now.count }
     {
         match self.search.topmost_below(p) {

@@ -1,0 +1,25 @@
+use Rattle.std.proofs.Common.{◌∙◌, ◌<◌, ap, arith, length}
+use Rattle.std.proofs.lemmas.List.Elements.{All-weaker}
+use Rattle.plane_model.specs.Arcs.{SignedArc}
+use Rattle.face_walk.specs.Joins.{joined_by}
+use Rattle.face_walk.specs.PlaceNumbers.{HasPlaces}
+use Rattle.face_walk.specs.declared.links.ArcLink.{ArcLink}
+use Rattle.face_walk.proofs.BuiltLemmas.{built_by}
+use Rattle.face_walk.proofs.faces.Faces.build.Goals as goal
+
+pub of_sides-requires-clause-joined : goal.of_sides-requires-clause-joined
+of_sides-requires-clause-joined c =
+    let arcs = c.args.t.now in
+    let links = c.in_ok-search.search.links.items in
+    let outs = c.rows.result.1.now in
+    let alone = c.in_ok-joining.joining in
+    let numbering = c.in_ok-numbering.numbering in
+    let few = c.if-count-gt-MAX_ARCS.false in
+    let counted = c.count.ensures.exact in
+    let again = c.count-2.ensures.exact in
+    let many = c.in_ok-joining.ensures.count in
+    let (rays, r, e) = c.in_ok-join_rays.ensures.exact in
+    built_by arcs links c.rows.result.0.now outs alone _ numbering.places.items numbering.count c.rows.ensures.turned c.rows.ensures.each
+    (All-weaker (λ (a : SignedArc). a.arc < length arcs) (HasPlaces (length alone)) (λ a h. omega arith) outs c.rows.ensures.there)
+    (All-weaker (λ (l : ArcLink). l.along.arc < length arcs) (λ (l : ArcLink). HasPlaces (length alone) l.along) (λ l h. omega arith) links c.in_ok-search.ensures.there)
+    (omega arith) c.in_ok-joining.ensures.alone rays r (e ∙ ap (joined_by rays) c.join_sectors.ensures.exact) c.in_ok-numbering.ensures.exact
