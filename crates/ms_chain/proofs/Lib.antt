@@ -7,3 +7,4 @@ pub mod Growing
 pub mod Looks
 pub mod Rows
 pub mod Steps
+pub mod Titles

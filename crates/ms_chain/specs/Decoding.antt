@@ -23,6 +23,7 @@ use Rattle.table_ops.specs.declared.fault.CsvFault.TheVariants as csv
 use Rattle.cmd_words.specs.declared.job.SourceWord.{SourceWord}
 use Rattle.io_core.specs.Contents.{Content}
 use Rattle.ms_chain.specs.Formats.{is_csv}
+use Rattle.ms_chain.specs.Titles.{title_of}
 use Rattle.ms_chain.specs.declared.outcome.InputWhy.{InputWhy}
 use Rattle.ms_chain.specs.declared.outcome.InputWhy.TheVariants.{Syntax, Depth, Utf8, Shape, NoHeader, RepeatedName, TooManyRows, UnequalRow, Topo}
 use Rattle.ms_chain.specs.declared.decoding.DecodeStop.{DecodeStop}
@@ -128,12 +129,11 @@ DecodesJson places room title bytes = GivesBy (JsonGives places room title bytes
 abbrev pub table_layer : Content → TableContent → LayerContent
 table_layer title t = record { name = title; kind = Kind.Table; table = t; shapes = replicate (length t.rows) Nothing }
 
--- the bytes are the text of a table, of which this is the one layer, under some title
+-- the bytes are the text of a table, of which this is the one layer, under the title of the source
 pub record IsTableText (room : Room) (source : SourceWord) (bytes : Content) (layers : List LayerContent) : Type 0 where
-  pub title : Content
   pub table : TableContent
   pub read : ReadsText source.string_fields room.features bytes (Ok table)
-  pub one : layers ≡ table_layer title table ∷ []
+  pub one : layers ≡ table_layer (title_of source) table ∷ []
 
 -- the bytes are refused as comma-separated text, for this reason
 pub record IsRefusedTable (room : Room) (source : SourceWord) (bytes : Content) (why : InputWhy) : Type 0 where
@@ -148,9 +148,5 @@ DecodesTable room source bytes (Err Memory) = ⊤
 
 -- ---- what becomes of the bytes of a source
 
--- some title, in which the layers of a JSON source are named
-abbrev pub DecodesTitled : ℕ → Room → Content → Result (List LayerContent) DecodeStop → Type 0
-DecodesTitled places room bytes result = (title : Content) × DecodesJson places room title bytes result
-
 abbrev pub Decodes : ℕ → Room → SourceWord → Content → Result (List LayerContent) DecodeStop → Type 0
-Decodes places room source bytes result = MatchBool (is_csv source bytes) (DecodesTable room source bytes result) (DecodesTitled places room bytes result)
+Decodes places room source bytes result = MatchBool (is_csv source bytes) (DecodesTable room source bytes result) (DecodesJson places room (title_of source) bytes result)

@@ -9,3 +9,4 @@ pub mod Sources
 pub mod Status
 pub mod Telling
 pub mod Looks
+pub mod Titles

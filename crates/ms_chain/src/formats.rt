@@ -1,5 +1,6 @@
 ghost use Rattle.std.specs.Prelude.{◌≡◌};
 ghost use Rattle.ms_chain.specs.Formats.{is_white, skip_mark, opens_json, ends_in_csv, is_csv};
+ghost use Rattle.ms_chain.specs.Titles.{behind_slash, before_point, title_of};
 
 use cmd_words::SourceWord;
 
@@ -54,20 +55,30 @@ fn is_white(byte: u8) -> bool
 }
 
 /// The name of the layers of a source: that of its file without folders and ending, or `layer` for standard input.
-pub(crate) fn title_of(source: &SourceWord) -> &str {
+pub(crate) fn title_of(source: &SourceWord) -> &str
+    ensures exact { result.now ≡ title_of source.now }
+{
     if source.standard {
         "layer"
     } else {
-        file_title(source.name.as_str())
+        before_point(behind_slash(source.name.as_str()))
     }
 }
 
-// The part behind the last slash, without its last point and what follows that.
-fn file_title(name: &str) -> &str {
-    let file = match name.rsplit_once('/') {
+// The whole name where it has no slash.
+fn behind_slash(name: &str) -> &str
+    ensures exact { result.now ≡ behind_slash name.now }
+{
+    match name.rsplit_once('/') {
         Some((_, file)) => file,
         None => name,
-    };
+    }
+}
+
+// The whole name where it has no point.
+fn before_point(file: &str) -> &str
+    ensures exact { result.now ≡ before_point file.now }
+{
     match file.rsplit_once('.') {
         Some((title, _)) => title,
         None => file,

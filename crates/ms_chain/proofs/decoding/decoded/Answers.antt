@@ -1,18 +1,20 @@
 use Rattle.std.proofs.Common.{Bool, sym, subst, ◌∙◌}
 use Rattle.std.specs.Prelude.{MatchBool}
-use Rattle.ms_chain.specs.Decoding.{DecodesTable, DecodesTitled}
+use Rattle.io_core.specs.Contents.{Content}
+use Rattle.ms_chain.specs.Decoding.{DecodesJson, DecodesTable}
+use Rattle.ms_chain.specs.Titles.{title_of}
 use Rattle.ms_chain.proofs.decoding.decoded.Goals as goal
 
 pub returns-then-is_csv : goal.returns-then-is_csv
 returns-then-is_csv c = record {
-  gives = subst (λ (b : Bool). MatchBool b (DecodesTable c.args.room c.args.source.now c.args.bytes.now c.table_layers.result) (DecodesTitled c.args.places c.args.room c.args.bytes.now c.table_layers.result))
+  gives = subst (λ (b : Bool). MatchBool b (DecodesTable c.args.room c.args.source.now c.args.bytes.now c.table_layers.result) (DecodesJson c.args.places c.args.room (title_of c.args.source.now) c.args.bytes.now c.table_layers.result))
       (sym c.if-is_csv.true ∙ c.is_csv.ensures.exact) c.table_layers.ensures.gives;
 }
 
 pub returns-else-is_csv : goal.returns-else-is_csv
 returns-else-is_csv c =
-    let titled : DecodesTitled c.args.places c.args.room c.args.bytes.now c.json_layers.result = (c.title_of.result.now, c.json_layers.ensures.gives) in
+    let titled = subst (λ (title : Content). DecodesJson c.args.places c.args.room title c.args.bytes.now c.json_layers.result) c.title_of.ensures.exact c.json_layers.ensures.gives in
     record {
-      gives = subst (λ (b : Bool). MatchBool b (DecodesTable c.args.room c.args.source.now c.args.bytes.now c.json_layers.result) (DecodesTitled c.args.places c.args.room c.args.bytes.now c.json_layers.result))
+      gives = subst (λ (b : Bool). MatchBool b (DecodesTable c.args.room c.args.source.now c.args.bytes.now c.json_layers.result) (DecodesJson c.args.places c.args.room (title_of c.args.source.now) c.args.bytes.now c.json_layers.result))
           (sym c.if-is_csv.false ∙ c.is_csv.ensures.exact) titled;
     }

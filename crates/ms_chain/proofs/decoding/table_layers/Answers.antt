@@ -1,12 +1,17 @@
-use Rattle.std.proofs.Common.{sym, subst, Err}
-use Rattle.ms_chain.specs.Decoding.{DecodesTable}
+use Rattle.std.proofs.Common.{List, ◌∷◌, [], sym, subst, ap, ◌∙◌, Err}
+use Rattle.io_core.specs.Contents.{Content}
+use Rattle.ms_chain.specs.Decoding.{DecodesTable, table_layer}
 use Rattle.ms_chain.specs.declared.decoding.DecodeStop.{DecodeStop}
 use Rattle.ms_chain.proofs.Decoded.{table_refused}
 use Rattle.ms_chain.proofs.decoding.table_layers.Goals as goal
 
 pub returns-in_ok-layers_of_table-in-Ok : goal.returns-in_ok-layers_of_table-in-Ok
 returns-in_ok-layers_of_table-in-Ok c = record {
-  gives = record { title = c.title_of.result.now; table = c.in-Ok.table; read = c.in-Ok.ensures.exact; one = c.in_ok-layers_of_table-in-Ok.ensures.made };
+  gives = record {
+    table = c.in-Ok.table;
+    read = c.in-Ok.ensures.exact;
+    one = c.in_ok-layers_of_table-in-Ok.ensures.made ∙ ap (λ (title : Content). table_layer title c.in-Ok.table ∷ []) c.title_of.ensures.exact;
+  };
 }
 
 pub returns-in-Err : goal.returns-in-Err
