@@ -102,15 +102,17 @@ abbrev pub BegunRuns : List Command → OutsideSeen → OutsideSeen → Outcome 
 BegunRuns commands before after o = CommandsRun 0 commands before after o ⊎ ((o ≡ outcome.Memory) × (after ≡ before))
 
 -- all sources are accepted, and the commands run
-pub record RunsCommands (chain : Chain) (sources sources' : SourcesSeen) (before after : OutsideSeen) (o : Outcome) : Type 0 where
+pub record RunsCommands (chain : Chain) (sources : SourcesSeen) (before after : OutsideSeen) (o : Outcome) : Type 0 where
   pub layers : List (List LayerContent)
-  pub given : GivesAll chain.places chain.sources sources sources' layers
+  -- what was seen when all of them were read
+  pub read : SourcesSeen
+  pub given : GivesAll chain.places chain.sources sources read layers
   pub middle : OutsideSeen
   pub kept : Keeps before middle
   pub ran : BegunRuns chain.commands middle after o
 
 abbrev pub ChainRuns : Chain → SourcesSeen → SourcesSeen → OutsideSeen → OutsideSeen → Outcome → Type 0
-ChainRuns chain sources sources' before after o = EndsBefore chain sources sources' before after o ⊎ RunsCommands chain sources sources' before after o
+ChainRuns chain sources sources' before after o = EndsBefore chain sources sources' before after o ⊎ RunsCommands chain sources before after o
 
 -- ---- the words
 

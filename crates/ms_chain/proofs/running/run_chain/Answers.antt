@@ -1,15 +1,20 @@
-use Rattle.std.proofs.Common.{inr, map, refl}
+use Rattle.std.proofs.Common.{List, inr, map, refl, subst}
+use Rattle.cmd_words.specs.declared.job.SourceWord.{SourceWord}
 use Rattle.io_core.proofs.Reading.{NeverFell-refl}
 use Rattle.ms_chain.specs.Effects.{OutsideSeen}
+use Rattle.ms_chain.specs.Sources.{SourcesSeen, GivesAll}
 use Rattle.ms_chain.proofs.running.run_chain.Goals as goal
 
 pub returns-in-Ok-begin : goal.returns-in-Ok-begin
 returns-in-Ok-begin g c =
     let middle : OutsideSeen = record { files = g.F.Files.held c.read_sources.new.files; file_faults = g.F.Files.write_faults c.read_sources.new.files; stream = g.K.Sink.held c.args.output.now; stream_faults = g.K.Sink.faults c.args.output.now } in
+    let seen : SourcesSeen = record { files = g.F.Files.held c.args.files.now; file_faults = g.F.Files.read_faults c.args.files.now; file_bytes = g.F.Files.bytes_read c.args.files.now; input = g.I.Source.left c.args.input.now; input_faults = g.I.Source.faults c.args.input.now; input_bytes = g.I.Source.bytes_read c.args.input.now } in
+    let read : SourcesSeen = record { files = g.F.Files.held c.read_sources.new.files; file_faults = g.F.Files.read_faults c.read_sources.new.files; file_bytes = g.F.Files.bytes_read c.read_sources.new.files; input = g.I.Source.left c.read_sources.new.input; input_faults = g.I.Source.faults c.read_sources.new.input; input_bytes = g.I.Source.bytes_read c.read_sources.new.input } in
     record {
       runs = inr (record {
-        layers = map (λ read. read.layers) c.in-Ok.sources.items;
-        given = c.in-Ok.ensures.gives;
+        layers = map (λ source. source.layers) c.in-Ok.sources.items;
+        read = read;
+        given = subst (λ (words : List SourceWord). GivesAll c.args.chain.now.places words seen read (map (λ source. source.layers) c.in-Ok.sources.items)) c.as_slice.ensures.all c.in-Ok.ensures.gives;
         middle = middle;
         kept = record {
           files = c.read_sources.ensures.grew.files;
