@@ -61,5 +61,5 @@ pub record IsFaceOver (faces : FaceTable) (p : GridPoint) (f : ℕ) : Type 0 whe
 -- the faces were built of these arcs
 pub record IsBuiltOf (arcs : List Path) (faces : FaceTable) : Type 0 where
   pub places_counted : length faces.places ≡ 2 * length arcs + 1
-  pub joined : HasJoins arcs faces.links faces.places
+  pub joined : ∥ HasJoins arcs faces.links faces.places ∥₁
   pub areas_summed : faces.areas ≡ areas_of_faces arcs faces.places faces.count
