@@ -5,6 +5,7 @@ pub mod AreaLemmas
 pub mod SideLemmas
 pub mod ListedLemmas
 pub mod JoinLemmas
+pub mod LinkLemmas
 pub mod SectorLemmas
 pub mod UnderLemmas
 pub mod RayLemmas

@@ -8,7 +8,7 @@ use Rattle.face_walk.specs.Areas.{area_within}
 pub use Rattle.face_walk.specs.PlaceNumbers.{place_of, HasPlaces}
 use Rattle.face_walk.specs.Joins.{AreJoinedBy}
 use Rattle.face_walk.specs.Sectors.{sectors}
-use Rattle.face_walk.specs.Rays.{AreRays, IsTopmostBelow, place_met}
+use Rattle.face_walk.specs.Rays.{AreLinksOf, AreRays, IsTopmostBelow, place_met}
 use Rattle.face_walk.specs.declared.links.ArcLink.{ArcLink}
 
 -- the first n arcs, each forward and then reversed
@@ -61,5 +61,6 @@ pub record IsFaceOver (faces : FaceTable) (p : GridPoint) (f : ℕ) : Type 0 whe
 -- the faces were built of these arcs
 pub record IsBuiltOf (arcs : List Path) (faces : FaceTable) : Type 0 where
   pub places_counted : length faces.places ≡ 2 * length arcs + 1
+  pub all_links : ∥ AreLinksOf arcs faces.links ∥₁
   pub joined : ∥ HasJoins arcs faces.links faces.places ∥₁
   pub areas_summed : faces.areas ≡ areas_of_faces arcs faces.places faces.count

@@ -1,6 +1,8 @@
-ghost use Rattle.std.specs.Prelude.{◌≡◌, ◌<◌, All, IfOk, IfSome, OnOk, ℕ, length};
+ghost use Rattle.std.specs.Prelude.{◌≡◌, ◌++◌, ◌<◌, All, IfOk, IfSome, OnOk, ℕ, length};
+ghost use Rattle.std.specs.Option.{option_to_list};
+ghost use Rattle.plane_model.specs.Points.{is_before};
 ghost use Rattle.face_walk.specs.Rows.{AreByStart, AreStops};
-ghost use Rattle.face_walk.specs.Rays.{HasGridEnds, IsOnTheGrid, box_of, boxes_of, greater, lesser};
+ghost use Rattle.face_walk.specs.Rays.{AreLinksOf, HasGridEnds, IsOnTheGrid, box_of, boxes_of, greater, lesser, link_at, links_along};
 
 use arc_table::ArcTable;
 use grid_base::{ArcId, BoxList, Link, Pt, Rect, SignedArc};
@@ -16,6 +18,7 @@ pub struct ArcLink {
 
 /// The links of all arcs, in order.
 pub fn links_of(alloc: Global, t: &ArcTable) -> Result<Vec<ArcLink>, AllocError>
+    ensures all { IfOk result (λ v. AreLinksOf t.now v.items) }
     ensures there { IfOk result (λ v. All (λ l. l.along.arc < length t.now) v.items) }
     ensures sorted { IfOk result (λ v. AreByStart v.items) }
 {
@@ -28,29 +31,45 @@ pub fn links_of(alloc: Global, t: &ArcTable) -> Result<Vec<ArcLink>, AllocError>
     Ok(links)
 }
 
+// The links of an arc with more points than one.
 fn push_links(links: &mut Vec<ArcLink>, id: ArcId, points: &[Pt]) -> Result<(), AllocError>
+    ensures exact { OnOk result (links.new.items ≡ links.old.items ++ links_along id points.now) }
     ensures there { OnOk result ((n : ℕ) → id < n → All (λ l. l.along.arc < n) links.old.items → All (λ l. l.along.arc < n) links.new.items) }
 {
     links.reserve(points.len())?;
     for i in 1..points.len() {
-        if let Some(l) = step_along(id, points[i - 1], points[i]) {
-            links.push(l)?;
-        }
+        push_some(links, step_along(id, points[i - 1], points[i]))?;
+    }
+    Ok(())
+}
+
+fn push_some(links: &mut Vec<ArcLink>, found: Option<ArcLink>) -> Result<(), AllocError>
+    ensures { OnOk result (links.new.items ≡ links.old.items ++ option_to_list found) }
+{
+    if let Some(l) = found {
+        links.push(l)?;
     }
     Ok(())
 }
 
 // The link of a step of an arc; `None` where the step stands still.
 fn step_along(id: ArcId, from: Pt, to: Pt) -> Option<ArcLink>
+    ensures exact { result ≡ link_at id (record { start = from; stop = to }) }
     ensures there { IfSome result (λ l. l.along.arc ≡ id) }
 {
     let link = Link::of(from, to)?;
-    let along = if from == link.low() {
+    let along = if is_before(from, to) {
         SignedArc::forward(id)
     } else {
         SignedArc::backward(id)
     };
     Some(ArcLink { link, along })
+}
+
+fn is_before(p: Pt, q: Pt) -> bool
+    ensures { result ≡ is_before p q }
+{
+    p < q
 }
 
 /// The boxes of links, in their order.

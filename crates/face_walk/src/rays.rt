@@ -7,7 +7,7 @@ ghost use Rattle.face_walk.specs.Descent.{IsBelowPoint, IsFound, IsNextBelow, Is
 ghost use Rattle.face_walk.specs.Places.{HasPlaces};
 ghost use Rattle.face_walk.specs.Joining.{made_one};
 ghost use Rattle.face_walk.specs.Joins.{joined_by};
-ghost use Rattle.face_walk.specs.Rays.{AreRays, HasGridEnds, IsMinimum, IsRay, IsTopmostBelow, boxes_of, place_met};
+ghost use Rattle.face_walk.specs.Rays.{AreLinksOf, AreRays, HasGridEnds, IsMinimum, IsRay, IsTopmostBelow, boxes_of, place_met};
 ghost use Rattle.face_walk.specs.Rows.{AreByStart, start_at, starts_row};
 ghost use Rattle.face_walk.specs.declared.links.ArcLink.{ArcLink};
 
@@ -33,6 +33,7 @@ pub struct LinkSearch {
 
 impl LinkSearch {
     pub fn of(alloc: Global, t: &ArcTable) -> Result<LinkSearch, AllocError>
+        ensures all { IfOk result (λ s. AreLinksOf t.now s.links.items) }
         ensures there { IfOk result (λ s. All (λ l. l.along.arc < length t.now) s.links.items) }
     {
         let links = links_of(alloc, t)?;
