@@ -88,11 +88,11 @@ module _ (net : Net) where
   twice [] = refl
   twice (k ∷ ks) = ap (λ (ls : List Segment). link_at net k ∷ ls) (twice ks)
 
-  module _ (on : AreOnward steps net.twins.items onward (length steps)) where
+  module _ (turns : List GridPoint) (on : AreOnward steps net.twins.items turns onward (length steps)) where
     -- a step starts where the step before it stops
     meets : (h : ℕ) → h < length steps → get_or onward h 0 ≢ h → (step_at steps (get_or onward h 0)).start ≡ (step_at steps h).stop
     meets h l differs =
-        let other = on h l differs in
+        let other = ((on h l).leads differs).other in
         let twin = get_or net.twins.items h 0 in
         let back : step_at steps twin ≡ reversed (step_at steps h) = back_at steps h twin l (λ s e. net.twins_back h s l e) in
         start_is steps (get_or onward h 0) other.start _ other.other ∙ sym (start_is steps twin other.start _ other.here) ∙ ap (λ (s : Segment). s.start) back

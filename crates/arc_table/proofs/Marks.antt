@@ -11,13 +11,13 @@ use Rattle.lists.proofs.Members.{Contains-head, Contains-nil, Contains-cases}
 use Rattle.plane_model.specs.Points.{Segment, reversed, link_between}
 use Rattle.plane_model.proofs.PointOrder.{clash}
 use Rattle.arc_table.specs.Steps.{AreProper}
-use Rattle.arc_table.specs.Numbering.{walk, place_after, GoesOn, step_at, IsWay, link_at, links_from, links_along, HasMark, AreMarked, AddsMarks, IsNumbering, GoesFrom, AreWays}
+use Rattle.arc_table.specs.Numbering.{walk, place_after, GoesOn, step_at, IsWay, link_at, links_from, links_along, HasMark, AreMarked, AreWhole, AddsMarks, IsNumbering, GoesFrom, AreWays}
 use Rattle.arc_table.specs.declared.half_links.Net.{Net}
 use Rattle.arc_table.specs.declared.numbering.Way.{Way}
 use Rattle.arc_table.specs.declared.numbering.Numbering.{Numbering}
 use Rattle.arc_table.proofs.Proper.{place_once, link_turned, one_link}
 
-same_or_not : (a b : ℕ) → (a ≡ b) ⊎ (a ≢ b)
+pub same_or_not : (a b : ℕ) → (a ≡ b) ⊎ (a ≢ b)
 same_or_not a b = elim (cases_lt a b) [
   | inl l ↦ inr (λ e. omega arith)
   | inr l ↦ elim (cases_lt b a) [ inl m ↦ inr (λ e. omega arith) | inr m ↦ inl (omega arith) ]
@@ -136,8 +136,8 @@ module _ (net : Net) where
   kept_twice a b c h k = record { numbering = k.numbering; kept = λ j l m. k.kept j l (h.kept j l m) }
 
   pub one_way_more : (old new : Numbering) (way : Way) → IsNumbering net old → IsWay net way → new.ways.items ≡ old.ways.items ++ way ∷ [] → length new.is_numbered.items ≡ length net.steps.items
-      → AddsMarks net old.is_numbered.items new.is_numbered.items way.steps way.start → GoesFrom net old new
-  one_way_more old new way h w pushed each adds =
+      → AddsMarks net old.is_numbered.items new.is_numbered.items way.steps way.start → AreWhole net new.is_numbered.items → GoesFrom net old new
+  one_way_more old new way h w pushed each adds whole =
       let both = adds (links_along net old.ways.items) h.marks h.once in
       let along : links_along net old.ways.items ++ links_from net way.steps way.start ≡ links_along net new.ways.items = sym (along_more old.ways.items way) ∙ sym (ap (links_along net) pushed) in
       let marks : AreMarked net new.is_numbered.items (links_along net new.ways.items) = subst (AreMarked net new.is_numbered.items) along both.0 in
@@ -147,6 +147,7 @@ module _ (net : Net) where
           each = each;
           once = subst (AllPairs (λ (k l : Segment). k ≢ l)) along both.1;
           marks = marks;
+          whole = whole;
         };
         kept = λ k l m. (marks k l).1 (subst (λ (xs : List Segment). Contains xs (link_at net k)) along (Contains-append_left (links_along net old.ways.items) (links_from net way.steps way.start) (link_at net k) ((h.marks k l).0 m)));
       }
@@ -173,4 +174,8 @@ module _ (net : Net) where
       (λ m. clash (get_or numbering.is_numbered.items h false) m (none h l)),
       (λ c. Contains-nil (link_at net h) (subst (λ (ways : List Way). Contains (links_along net ways) (link_at net h)) e c)),
     );
+    whole = record {
+      on = λ h l m. clash (get_or numbering.is_numbered.items h false) m (none h l);
+      back = λ h l m. clash (get_or numbering.is_numbered.items h false) m (none h l);
+    };
   }

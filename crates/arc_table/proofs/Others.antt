@@ -1,17 +1,19 @@
 -- The steps from one start stand together among sorted steps.
-use Rattle.std.proofs.Common.{◌≡◌, inl, inr, refl, sym, ap, ◌∙◌, subst, arith, ℕ, ◌+◌, ◌-◌, ◌<◌, ◌≤◌, true, false, List, [], ◌∷◌, ◌++◌, length, get_or, Some, None, Ordering}
+use Rattle.std.proofs.Common.{◌≡◌, ◌⊎◌, inl, inr, refl, sym, ap, ◌∙◌, subst, arith, ℕ, ◌+◌, ◌-◌, ◌<◌, ◌≤◌, true, false, List, [], ◌∷◌, ◌++◌, length, get_or, Some, None, Option, IfSome, Contains, Ordering}
 use Rattle.std.specs.Prelude.{◌≢◌}
 use Rattle.std.proofs.Math.ListN.{get_or-append}
-use Rattle.std.specs.List.Sorted.{IsSorted}
-use Rattle.std.specs.Ordering.{ordering_then, ordering_reverse, is_lt}
+use Rattle.std.specs.List.{HoldsAt}
+use Rattle.std.specs.List.Sorted.{IsSorted, IsNonDecreasingBy, IsPartitionPoint}
+use Rattle.std.specs.Ordering.{ordering_then, ordering_reverse, ordering_index, is_lt}
 use Rattle.std.specs.declared.cmp.Ordering.TheVariants.{Less, Equal, Greater}
 use Rattle.std.proofs.lemmas.Bool.{cases_lt}
+use Rattle.std.proofs.lemmas.Cmp.{tied_itself}
 use Rattle.std.proofs.lemmas.List.MinMax.{ranks_by}
-use Rattle.std.proofs.lemmas.List.Sorted.{sorted_far}
+use Rattle.std.proofs.lemmas.List.Sorted.{sorted_far, searchable_from_sorted}
 use Rattle.std.proofs.lemmas.Option.{slice_get-get_or, slice_get_cases, get_or_from_slice_get}
 use Rattle.plane_model.specs.Points.{GridPoint, Segment, same_point}
 use Rattle.plane_model.proofs.PointOrder.{clash, same_point_from, same_point_to}
-use Rattle.arc_table.specs.Steps.{point_cmp, step_cmp, StartsAt, IsOther, AreOnward}
+use Rattle.arc_table.specs.Steps.{point_cmp, step_cmp, StartsAt, IsOther, IsOtherAt, LeadsOn, IsOnward, AreOnward}
 use Rattle.arc_table.proofs.StepSearch.{point_cmp-total, step_cmp-total, same_point_is}
 
 pub starts_yes : (p q : GridPoint) → same_point p q ≡ true → p ≡ q
@@ -91,20 +93,99 @@ module _ (steps : List Segment) (up : IsSorted step_cmp steps) (p : GridPoint) w
     ];
   }
 
-pub one_onward_more : (steps : List Segment) (twins onward all : List ℕ) (n t : ℕ) → length onward ≡ n → all ≡ onward ++ t ∷ [] → AreOnward steps twins onward n
-    → (t ≢ n → IsOther steps (get_or twins n 0) t) → AreOnward steps twins all (n + 1)
-one_onward_more steps twins onward all n t l a before last h m differs = elim (cases_lt h n) [
-  | inl k ↦ (
-      let e : get_or all h 0 ≡ get_or onward h 0 = ap (λ (xs : List ℕ). get_or xs h 0) a ∙ get_or-append onward (t ∷ []) 0 h (omega arith) in
-      subst (λ (j : ℕ). IsOther steps (get_or twins h 0) j) (sym e) (before h k (λ f. differs (e ∙ f))))
-  | inr k ↦ (
-      let same : h ≡ n = omega arith in
-      let at : h ≡ length onward = omega arith in
-      let e : get_or all h 0 ≡ t = ap (λ (xs : List ℕ). get_or xs h 0) a ∙ ap (λ (j : ℕ). get_or (onward ++ t ∷ []) j 0) at ∙ at_end onward t in
-      subst (λ (j : ℕ). IsOther steps (get_or twins h 0) j) (sym e)
-      (subst (λ (j : ℕ). IsOther steps (get_or twins j 0) t) (sym same) (last (λ f. differs (e ∙ f ∙ sym same)))))
-]
-  where
-    at_end : (xs : List ℕ) (x : ℕ) → get_or (xs ++ x ∷ []) (length xs) 0 ≡ x
-    at_end [] x = refl
-    at_end (y ∷ xs) x = at_end xs x
+-- ---- where there are not just two steps
+
+same_start : (steps : List Segment) (h : ℕ) (p q : GridPoint) → StartsAt steps h p → StartsAt steps h q → p ≡ q
+same_start steps h p q c d =
+    let e : Some c.0 ≡ Some d.0 = sym c.1 ∙ d.1 in
+    let f : c.0 ≡ d.0 = cc in
+    sym c.2 ∙ ap (λ (s : Segment). s.start) f ∙ d.2
+
+pub not_just_two : (steps : List Segment) (h k j : ℕ) (p : GridPoint) → StartsAt steps h p → IsOther steps h k → j ≢ h → j ≢ k → StartsAt steps j p → ⊥
+not_just_two steps h k j p here o differs apart c =
+    elim (o.only j (subst (StartsAt steps j) (same_start steps h p o.start here o.here) c)) [ inl e ↦ differs e | inr e ↦ apart e ]
+
+pub other_there : (steps : List Segment) (h k : ℕ) (p : GridPoint) → StartsAt steps h p → IsOther steps h k → StartsAt steps k p
+other_there steps h k p here o = subst (StartsAt steps k) (same_start steps h o.start p o.here here) o.other
+
+pub one_other : (steps : List Segment) (h j k : ℕ) → IsOther steps h j → IsOther steps h k → j ≡ k
+one_other steps h j k a b = elim (a.only k (other_there steps h k a.start a.here b)) [ inl e ↦ absurd (b.apart (sym e)) | inr e ↦ sym e ]
+
+module _ (steps : List Segment) (up : IsSorted step_cmp steps) where
+  -- the other of just two steps stands beside the first
+  pub beside : (h k : ℕ) → IsOther steps h k → (k ≡ h + 1) ⊎ ((1 ≤ h) × (k ≡ h - 1))
+  beside h k o = elim (cases_lt h k) [
+    | inl l ↦ elim (cases_lt (h + 1) k) [
+      | inl m ↦ elim (o.only (h + 1) (between steps up o.start h (h + 1) k (omega arith) (omega arith) o.here o.other)) [ inl e ↦ absurd (omega arith) | inr e ↦ absurd (omega arith) ]
+      | inr m ↦ inl (omega arith)
+    ]
+    | inr l ↦ elim (cases_lt k h) [
+      | inl m ↦ elim (cases_lt (k + 1) h) [
+        | inl n ↦ elim (o.only (h - 1) (between steps up o.start k (h - 1) h (omega arith) (omega arith) o.other o.here)) [ inl e ↦ absurd (omega arith) | inr e ↦ absurd (omega arith) ]
+        | inr n ↦ inr (omega arith, omega arith)
+      ]
+      | inr m ↦ absurd (o.apart (omega arith))
+    ]
+  ]
+
+  pub none_beside : (h : ℕ) → (IsOther steps h (h + 1) → ⊥) → (IsOther steps h (h - 1) → ⊥) → (k : ℕ) → IsOther steps h k → ⊥
+  none_beside h after before k o = elim (beside h k o) [
+    | inl e ↦ after (subst (IsOther steps h) e o)
+    | inr e ↦ before (subst (IsOther steps h) e.1 o)
+  ]
+
+  pub other_either : (h : ℕ) (r : Option ℕ) → IfSome r (IsOther steps h) → (r ≡ None → IsOther steps h (h - 1) → ⊥) → (IsOther steps h (h + 1) → ⊥) → IsOtherAt steps h r
+  other_either h (Some k) other before after = other
+  other_either h None other before after = none_beside h after (before refl)
+
+-- ---- a turn looked for
+
+module _ (points : List GridPoint) (p : GridPoint) where
+  pub point_found : (i : ℕ) → i < length points → HoldsAt (λ (q : GridPoint). point_cmp q p ≡ Equal) points i → Contains points p
+  point_found i l h = (i, l, same_point_is (get_or points i p) p (h p))
+
+  pub point_misses : IsSorted point_cmp points → (i : ℕ)
+      → (IsNonDecreasingBy (λ (q : GridPoint). ordering_index (point_cmp q p)) points → IsPartitionPoint (λ (q : GridPoint). point_cmp q p ≡ Less) (λ (q : GridPoint). point_cmp q p ≡ Greater) points i) → Contains points p → ⊥
+  point_misses up i h c =
+      let s = h (searchable_from_sorted point_cmp-total (λ (q : GridPoint). q) points p up) in
+      let itself = tied_itself point_cmp-total p in
+      elim (cases_lt c.0 i) [
+        | inl m ↦ (let e : Less ≡ Equal = sym (subst (λ (q : GridPoint). point_cmp q p ≡ Less) c.2 (s.0 c.0 p (omega arith) m)) ∙ itself in absurd (cc))
+        | inr m ↦ (let e : Greater ≡ Equal = sym (subst (λ (q : GridPoint). point_cmp q p ≡ Greater) c.2 (s.1 c.0 p m c.1)) ∙ itself in absurd (cc))
+      ]
+
+-- ---- steps onward
+
+module _ (steps : List Segment) (turns : List GridPoint) where
+  pub one_lead : (h j k : ℕ) → LeadsOn steps turns h j → LeadsOn steps turns h k → j ≡ k
+  one_lead h j k a b = one_other steps h j k a.other b.other
+
+  pub leads_there : (h twin next : ℕ) → LeadsOn steps turns twin next → IsOnward steps turns h twin next
+  leads_there h twin next a = record { leads = λ differs. a; only = λ k b. one_lead twin next k a b }
+
+  pub leads_nowhere : (h twin : ℕ) → ((k : ℕ) → LeadsOn steps turns twin k → ⊥) → IsOnward steps turns h twin h
+  leads_nowhere h twin none = record { leads = λ differs. absurd (differs refl); only = λ k b. absurd (none k b) }
+
+  pub is_plain : (h k : ℕ) (p : GridPoint) → StartsAt steps h p → IsOther steps h k → (Contains turns p → ⊥) → LeadsOn steps turns h k
+  is_plain h k p here o none = record { other = o; plain = λ c. none (subst (Contains turns) (same_start steps h o.start p o.here here) c) }
+
+  pub is_no_lead : (h : ℕ) (p : GridPoint) → StartsAt steps h p → Contains turns p → (k : ℕ) → LeadsOn steps turns h k → ⊥
+  is_no_lead h p here c k b = b.plain (subst (Contains turns) (same_start steps h p b.other.start here b.other.here) c)
+
+  pub one_onward_more : (twins onward all : List ℕ) (n t : ℕ) → length onward ≡ n → all ≡ onward ++ t ∷ [] → AreOnward steps twins turns onward n
+      → IsOnward steps turns n (get_or twins n 0) t → AreOnward steps twins turns all (n + 1)
+  one_onward_more twins onward all n t l a before last h m = elim (cases_lt h n) [
+    | inl k ↦ (
+        let e : get_or all h 0 ≡ get_or onward h 0 = ap (λ (xs : List ℕ). get_or xs h 0) a ∙ get_or-append onward (t ∷ []) 0 h (omega arith) in
+        subst (λ (j : ℕ). IsOnward steps turns h (get_or twins h 0) j) (sym e) (before h k))
+    | inr k ↦ (
+        let same : h ≡ n = omega arith in
+        let at : h ≡ length onward = omega arith in
+        let e : get_or all h 0 ≡ t = ap (λ (xs : List ℕ). get_or xs h 0) a ∙ ap (λ (j : ℕ). get_or (onward ++ t ∷ []) j 0) at ∙ at_end onward t in
+        subst (λ (j : ℕ). IsOnward steps turns h (get_or twins h 0) j) (sym e)
+        (subst (λ (j : ℕ). IsOnward steps turns j (get_or twins j 0) t) (sym same) last))
+  ]
+    where
+      at_end : (xs : List ℕ) (x : ℕ) → get_or (xs ++ x ∷ []) (length xs) 0 ≡ x
+      at_end [] x = refl
+      at_end (y ∷ xs) x = at_end xs x

@@ -3,6 +3,7 @@ pub mod Around
 pub mod Direction
 pub mod FirstSteps
 pub mod Lookup
+pub mod Nodes
 pub mod Numbering
 pub mod OneLink
 pub mod Steps

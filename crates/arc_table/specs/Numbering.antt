@@ -1,5 +1,5 @@
 -- Arcs as places in a table of steps: where each starts, and how many steps it has.
-use Rattle.std.specs.Prelude.{◌≡◌, ◌≢◌, ◌++◌, Bool, true, false, ℕ, zero, suc, pos, ◌+◌, ◌<◌, List, [], ◌∷◌, map, All, AllPairs, Contains, length, slice_index, slice_index_or}
+use Rattle.std.specs.Prelude.{◌≡◌, ◌≢◌, ◌⊎◌, ◌++◌, Bool, true, false, ℕ, zero, suc, pos, ◌+◌, ◌-◌, ◌<◌, ◌≤◌, Option, Some, None, List, [], ◌∷◌, map, All, AllPairs, Contains, length, slice_index, slice_index_or}
 use Rattle.std.specs.List.{flat_map}
 use Rattle.plane_model.specs.Points.{Segment, Path, link_between}
 use Rattle.arc_table.specs.Direction.{in_direction}
@@ -25,17 +25,65 @@ GoesOn onward zero h = Unit {0}
 GoesOn onward (suc zero) h = Unit {0}
 GoesOn onward (suc (suc n)) h = (slice_index onward h ≢ h) × GoesOn onward (suc n) (slice_index onward h)
 
+-- a way on from h leads to k, from where no step goes on
+pub record LeadsTo (onward : List ℕ) (h k : ℕ) : Type 0 where
+  pub steps : ℕ
+  pub there : k ≡ place_after onward steps h
+  pub ends : slice_index onward k ≡ k
+
+-- the way on from h comes round to h
+pub record ComesRound (onward : List ℕ) (h : ℕ) : Type 0 where
+  pub steps : ℕ
+  pub goes : (j : ℕ) → j ≤ steps → slice_index onward (place_after onward j h) ≢ place_after onward j h
+  pub round : slice_index onward (place_after onward steps h) ≡ h
+
+-- the last step on the way on from h; none where that way comes round
+abbrev pub IsLastOn : List ℕ → ℕ → Option ℕ → Type 0
+IsLastOn onward h None = ComesRound onward h
+IsLastOn onward h (Some k) = LeadsTo onward h k
+
 -- the step at a place, with a step for a place past the end
 abbrev pub step_at : List Segment → ℕ → Segment
 step_at steps h = slice_index_or steps h (record { start = record { x = pos 0; y = pos 0 }; stop = record { x = pos 0; y = pos 0 } })
 
 -- ---- arcs
 
--- an arc starts at a step of the table, has a step, and goes on to its last
+-- the place of the step back
+abbrev pub twin_at : Net → ℕ → ℕ
+twin_at net h = slice_index net.twins.items h
+
+-- no step goes on to step h: the step back goes on to none
+abbrev pub StartsThere : Net → ℕ → Type 0
+StartsThere net h = slice_index net.onward.items (twin_at net h) ≡ twin_at net h
+
+-- from step h on each step goes on
+abbrev pub GoesRound : Net → ℕ → Type 0
+GoesRound net h = (k : ℕ) → slice_index net.onward.items (place_after net.onward.items k h) ≢ place_after net.onward.items k h
+
+-- step h begins an arc
+abbrev pub IsBegin : Net → ℕ → Type 0
+IsBegin net h = StartsThere net h ⊎ GoesRound net h
+
+-- step k is along the way on from h, or is the step back of such a step
+abbrev pub IsRoundFrom : Net → ℕ → ℕ → Type 0
+IsRoundFrom net h k = (i : ℕ) × ((k ≡ place_after net.onward.items i h) ⊎ (k ≡ twin_at net (place_after net.onward.items i h)))
+
+-- the place of the last of n steps from h on
+abbrev pub last_of_run : Net → ℕ → ℕ → ℕ
+last_of_run net n h = place_after net.onward.items (n - 1) h
+
+-- no step goes on to the first of n steps from h on, and the last goes on to none; or the last goes on to the first
+abbrev pub IsWholeRun : Net → ℕ → ℕ → Type 0
+IsWholeRun net n h =
+    let last = last_of_run net n h in
+    (StartsThere net h × (slice_index net.onward.items last ≡ last)) ⊎ ((slice_index net.onward.items last ≢ last) × (slice_index net.onward.items last ≡ h))
+
+-- an arc starts at a step of the table, has a step, goes on to its last, and is whole
 pub record IsWay (net : Net) (way : Way) : Type 0 where
   pub there : way.start < length net.steps.items
   pub some : 0 < way.steps
   pub on : GoesOn net.onward.items way.steps way.start
+  pub whole : IsWholeRun net way.steps way.start
 
 abbrev pub points_of_way : Way → ℕ
 points_of_way way = way.steps + 1
@@ -68,6 +116,20 @@ HasMark marks h = slice_index_or marks h false ≡ true
 abbrev pub AreMarked : Net → List Bool → List Segment → Type 0
 AreMarked net marks links = (h : ℕ) → h < length net.steps.items → (HasMark marks h → Contains links (link_at net h)) × (Contains links (link_at net h) → HasMark marks h)
 
+-- each step on from a step with a mark has a mark, and each step back
+pub record AreWhole (net : Net) (marks : List Bool) : Type 0 where
+  pub on : (h : ℕ) → h < length net.steps.items → HasMark marks h → HasMark marks (slice_index net.onward.items h)
+  pub back : (h : ℕ) → h < length net.steps.items → HasMark marks h → HasMark marks (twin_at net h)
+
+-- where whole arcs have marks, and step k has one, step h has one
+abbrev pub HaveMarksTogether : Net → ℕ → ℕ → Type 0
+HaveMarksTogether net h k = (marks : List Bool) → AreWhole net marks → HasMark marks k → HasMark marks h
+
+-- where links that differ are marked, n steps from h on lead to a step that goes on to none, or to one with a mark
+abbrev pub StopsAtMark : Net → List Bool → List Bool → ℕ → ℕ → Type 0
+StopsAtMark net old new n h = (links : List Segment) → AreMarked net old links → AllPairs (λ k l. k ≢ l) links
+    → (slice_index net.onward.items (last_of_run net n h) ≡ last_of_run net n h) ⊎ HasMark new (slice_index net.onward.items (last_of_run net n h))
+
 -- where links that differ are marked, now also those along n steps from h on are, and all differ
 abbrev pub AddsMarks : Net → List Bool → List Bool → ℕ → ℕ → Type 0
 AddsMarks net old new n h = (links : List Segment) → AreMarked net old links → AllPairs (λ k l. k ≢ l) links
@@ -79,6 +141,7 @@ pub record IsNumbering (net : Net) (numbering : Numbering) : Type 0 where
   pub each : length numbering.is_numbered.items ≡ length net.steps.items
   pub once : AllPairs (λ k l. k ≢ l) (links_along net numbering.ways.items)
   pub marks : AreMarked net numbering.is_numbered.items (links_along net numbering.ways.items)
+  pub whole : AreWhole net numbering.is_numbered.items
 
 -- a numbering goes on, and keeps its marks
 pub record GoesFrom (net : Net) (old new : Numbering) : Type 0 where

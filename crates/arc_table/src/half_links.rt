@@ -1,7 +1,7 @@
-ghost use Rattle.std.specs.Prelude.{◌≡◌, ◌≢◌, ◌+◌, ◌<◌, ◌≤◌, ◌^◌, ◌-◌, ◌++◌, true, false, All, IfOk, OnOk, OnSome, IfSome, length, slice_get, slice_index, vec_len, map};
+ghost use Rattle.std.specs.Prelude.{◌≡◌, ◌≢◌, ◌+◌, ◌<◌, ◌≤◌, ◌^◌, ◌-◌, ◌++◌, true, false, All, Contains, IfOk, OnOk, OnSome, IfSome, None, length, slice_get, slice_index, vec_len, map};
 ghost use Rattle.plane_model.specs.Points.{Segment, reversed};
 ghost use Rattle.std.specs.List.Sorted.{IsSorted};
-ghost use Rattle.arc_table.specs.Steps.{step_cmp, StartsAt, IsOther, AreLinks, AreOnward, AreProper, AreSteps, IsPlace, HasBoth, AreTwins};
+ghost use Rattle.arc_table.specs.Steps.{point_cmp, step_cmp, StartsAt, IsOther, IsOtherAt, LeadsOnAt, IsOnward, AreLinks, AreOnward, AreBothWays, NoneTurnsBack, AreProper, AreSteps, IsPlace, HasBoth, AreTwins};
 
 use crate::direction::is_same;
 use grid_base::{Link, LinkList, Pt};
@@ -70,14 +70,17 @@ pub struct Net {
     ghost sorted: { IsSorted step_cmp steps.items },
     ghost proper: { AreProper steps.items },
     ghost twins_back: { AreTwins steps.items twins.items (length steps.items) },
+    ghost both_ways: { AreBothWays twins.items onward.items (length steps.items) },
+    ghost none_back: { NoneTurnsBack twins.items onward.items (length steps.items) },
 }
 
 impl Net {
     /// The steps along the links, where `turns` are in order the vertices that are nodes whatever their number of links.
     pub fn of(alloc: Global, links: &LinkList, turns: &[Pt]) -> Result<Net, AllocError>
-        requires { AreLinks links.now }
+        requires links { AreLinks links.now }
+        requires turns { IsSorted point_cmp turns.now }
         ensures steps { IfOk result (λ n. AreSteps links.now n.steps.items) }
-        ensures on { IfOk result (λ n. AreOnward n.steps.items n.twins.items n.onward.items (length n.steps.items)) }
+        ensures on { IfOk result (λ n. AreOnward n.steps.items n.twins.items turns.now n.onward.items (length n.steps.items)) }
     {
         let linked = linked_steps(alloc, links.as_slice())?;
         let guesses = twin_guesses(alloc, &linked)?;
@@ -109,6 +112,7 @@ impl Net {
     /// The place of the step that goes back.
     pub fn twin(&self, h: usize) -> usize
         requires { h < length self.now.steps.items }
+        ensures exact { result ≡ slice_index self.now.twins.items h }
         ensures back { (s : Segment) → slice_get self.now.steps.items h ≡ Some s → slice_get self.now.steps.items result ≡ Some (reversed s) }
         ensures there { result < length self.now.steps.items }
     {
@@ -311,8 +315,9 @@ fn onward_of(
     requires each { length twins.now ≡ length steps.now }
     requires there { All (λ t. t < length steps.now) twins.now }
     requires sorted { IsSorted step_cmp steps.now }
+    requires turns { IsSorted point_cmp turns.now }
     ensures each { IfOk result (λ v. length v.items ≡ length steps.now) }
-    ensures on { IfOk result (λ v. AreOnward steps.now twins.now v.items (length steps.now)) }
+    ensures on { IfOk result (λ v. AreOnward steps.now twins.now turns.now v.items (length steps.now)) }
     ensures there { IfOk result (λ v. All (λ t. t < length steps.now) v.items) }
 {
     let mut onward = Vec::with_capacity(alloc, steps.len())?;
@@ -326,20 +331,47 @@ fn onward_of(
 // The place of the step that goes on from step `h`, whose twin is `twin`, where its end is no node, else `h`.
 fn step_after(steps: &[Step], turns: &[Pt], h: usize, twin: usize) -> usize
     requires sorted { IsSorted step_cmp steps.now }
+    requires turns { IsSorted point_cmp turns.now }
     requires here { h < length steps.now }
     requires twin { twin < length steps.now }
     ensures there { result < length steps.now }
-    ensures on { result ≢ h → IsOther steps.now twin result }
+    ensures on { IsOnward steps.now turns.now h twin result }
 {
-    match other_at(steps, twin) {
-        Some(other) => {
-            if turns.binary_search(&steps[h].to()).is_ok() {
-                h
+    match leads_on(steps, turns, twin) {
+        Some(next) => next,
+        None => h,
+    }
+}
+
+// The place of the other step from the start of step `h`, where there are just two and no turn is.
+fn leads_on(steps: &[Step], turns: &[Pt], h: usize) -> Option<usize>
+    requires here { h < length steps.now }
+    requires sorted { IsSorted step_cmp steps.now }
+    requires turns { IsSorted point_cmp turns.now }
+    ensures there { IfSome result (λ k. k < length steps.now) }
+    ensures exact { LeadsOnAt steps.now turns.now h result }
+{
+    match other_at(steps, h) {
+        Some(k) => {
+            if has_point(turns, steps[h].from()) {
+                None
             } else {
-                other
+                Some(k)
             }
         }
-        None => h,
+        None => None,
+    }
+}
+
+// The point is one of these, which stand in order.
+fn has_point(points: &[Pt], p: Pt) -> bool
+    requires sorted { IsSorted point_cmp points.now }
+    ensures yes { result ≡ true → Contains points.now p }
+    ensures no { result ≡ false → Contains points.now p → ⊥ }
+{
+    match points.binary_search(&p) {
+        Ok(_) => true,
+        Err(_) => false,
     }
 }
 
@@ -348,7 +380,7 @@ fn other_at(steps: &[Step], h: usize) -> Option<usize>
     requires here { h < length steps.now }
     requires sorted { IsSorted step_cmp steps.now }
     ensures there { IfSome result (λ k. k < length steps.now) }
-    ensures only { IfSome result (IsOther steps.now h) }
+    ensures exact { IsOtherAt steps.now h result }
 {
     match after_in_two(steps, h) {
         Some(k) => Some(k),
@@ -362,6 +394,7 @@ fn after_in_two(steps: &[Step], h: usize) -> Option<usize>
     requires sorted { IsSorted step_cmp steps.now }
     ensures there { IfSome result (λ k. k < length steps.now) }
     ensures only { IfSome result (IsOther steps.now h) }
+    ensures none { result ≡ None → IsOther steps.now h (h + 1) → ⊥ }
 {
     let from = steps[h].from();
     if !starts_at(steps, h + 1, from) {
@@ -382,6 +415,7 @@ fn before_in_two(steps: &[Step], h: usize) -> Option<usize>
     requires sorted { IsSorted step_cmp steps.now }
     ensures there { IfSome result (λ k. k < length steps.now) }
     ensures only { IfSome result (IsOther steps.now h) }
+    ensures none { result ≡ None → IsOther steps.now h (h - 1) → ⊥ }
 {
     let from = steps[h].from();
     if !starts_before(steps, h, 1, from) {

@@ -1,6 +1,6 @@
-ghost use Rattle.std.specs.Prelude.{◌≡◌, ◌≢◌, true, false, slice_index, slice_index_or, slice_set, ℕ, ◌+◌, ◌-◌, ◌<◌, ◌≤◌, ◌^◌, [], ◌∷◌, ◌++◌, All, IfOk, OnOk, IfSome, length, map, sum_by};
+ghost use Rattle.std.specs.Prelude.{◌≡◌, ◌≢◌, ◌⊎◌, None, true, false, slice_index, slice_index_or, slice_set, ℕ, ◌+◌, ◌-◌, ◌<◌, ◌≤◌, ◌^◌, [], ◌∷◌, ◌++◌, All, IfOk, OnOk, IfSome, length, map, sum_by};
 ghost use Rattle.arc_table.specs.Direction.{IsForward};
-ghost use Rattle.arc_table.specs.Numbering.{AddsMarks, AreWays, GoesFrom, GoesOn, HasMark, IsNumbering, IsWay, arc_points, points_along, points_of_way};
+ghost use Rattle.arc_table.specs.Numbering.{AddsMarks, AreWays, GoesFrom, GoesOn, HasMark, HaveMarksTogether, IsBegin, IsLastOn, IsNumbering, IsRoundFrom, IsWay, StopsAtMark, arc_points, points_along, points_of_way};
 
 use crate::direction::turn_forward;
 use crate::half_links::{Net, Step, place_near};
@@ -110,7 +110,6 @@ fn number_step(
 
 // Gives numbers to the arcs that no path goes along. Each link of a snapped drawing is a step of one of its paths,
 // so none is left there.
-#[tactic(auto, using(crate::proofs::Marks::all_of))]
 fn number_rest(numbering: &mut Numbering, net: &Net) -> Result<(), AllocError>
     requires { IsNumbering net.now numbering.old }
     ensures { OnOk result (AreWays net.now numbering.new.ways.items) }
@@ -122,7 +121,7 @@ fn number_rest(numbering: &mut Numbering, net: &Net) -> Result<(), AllocError>
 }
 
 // Gives the arc along step `h` the next number, where it has none.
-#[tactic(auto, using(crate::proofs::Marks::kept_all, crate::proofs::Marks::kept_twice))]
+#[tactic(auto, using(crate::proofs::Marks::kept_all))]
 fn number_along(numbering: &mut Numbering, net: &Net, h: usize) -> Result<(), AllocError>
     requires there { h < length net.now.steps.items }
     requires numbering { IsNumbering net.now numbering.old }
@@ -133,14 +132,14 @@ fn number_along(numbering: &mut Numbering, net: &Net, h: usize) -> Result<(), Al
         return Ok(());
     }
     number_from(numbering, net, start_of(net, h))?;
-    // The arc from there goes along `h`, so nothing is left to number.
-    number_from(numbering, net, h)
+    Ok(())
 }
 
 // Gives the arc that starts with step `start` the next number, where it has none.
 #[tactic(auto, using(crate::proofs::Marks::kept_all))]
 fn number_from(numbering: &mut Numbering, net: &Net, start: usize) -> Result<(), AllocError>
     requires there { start < length net.now.steps.items }
+    requires begins { IsBegin net.now start }
     requires numbering { IsNumbering net.now numbering.old }
     ensures on { OnOk result (GoesFrom net.now numbering.old numbering.new) }
     ensures here { OnOk result (HasMark numbering.new.is_numbered.items start) }
@@ -160,7 +159,9 @@ fn number_from(numbering: &mut Numbering, net: &Net, start: usize) -> Result<(),
 // The place of a step that begins the arc along step `h`, from either of its ends.
 fn start_of(net: &Net, h: usize) -> usize
     requires { h < length net.now.steps.items }
-    ensures { result < length net.now.steps.items }
+    ensures there { result < length net.now.steps.items }
+    ensures begins { IsBegin net.now result }
+    ensures together { HaveMarksTogether net.now h result }
 {
     match last_on(net, net.twin(h)) {
         None => least_round(net, h),
@@ -171,7 +172,8 @@ fn start_of(net: &Net, h: usize) -> usize
 // The last step on the way on from step `first`; `None` where it comes round to `first`.
 fn last_on(net: &Net, first: usize) -> Option<usize>
     requires { first < length net.now.steps.items }
-    ensures { IfSome result (λ h. h < length net.now.steps.items) }
+    ensures there { IfSome result (λ h. h < length net.now.steps.items) }
+    ensures exact { IsLastOn net.now.onward.items first result }
 {
     let mut at = first;
     for _step in 0..net.step_count() {
@@ -190,7 +192,8 @@ fn last_on(net: &Net, first: usize) -> Option<usize>
 // The least place of a step along a closed run, either way round.
 fn least_round(net: &Net, first: usize) -> usize
     requires { first < length net.now.steps.items }
-    ensures { result < length net.now.steps.items }
+    ensures there { result < length net.now.steps.items }
+    ensures round { IsRoundFrom net.now first result }
 {
     let mut least = first;
     let mut at = first;
@@ -213,6 +216,7 @@ fn mark_way(is_numbered: &mut Vec<bool>, net: &Net, start: usize) -> u32
     ensures some { 0 < result }
     ensures on { GoesOn net.now.onward.items result start }
     ensures marks { AddsMarks net.now is_numbered.old.items is_numbered.new.items result start }
+    ensures stops { StopsAtMark net.now is_numbered.old.items is_numbered.new.items result start }
 {
     let mut at = start;
     let mut steps = 0u32;
@@ -249,13 +253,16 @@ fn next_unmarked(marks: &[bool], net: &Net, at: usize) -> Option<usize>
     ensures onward { IfSome result (λ next. next ≡ slice_index net.now.onward.items at) }
     ensures on { IfSome result (λ next. next ≢ at) }
     ensures unmarked { IfSome result (λ next. slice_index_or marks.now next false ≡ false) }
+    ensures none { result ≡ None → (slice_index net.now.onward.items at ≡ at) ⊎ HasMark marks.now (slice_index net.now.onward.items at) }
 {
     let next = net.next(at);
-    if next == at || marks[next] {
-        None
-    } else {
-        Some(next)
+    if next == at {
+        return None;
     }
+    if marks[next] {
+        return None;
+    }
+    Some(next)
 }
 
 /// The points of the arcs, in one pool, whose room is taken before the first arc is pushed.

@@ -14,5 +14,5 @@ loop-h-preserved c =
       omega arith,
       All-same below c.push.new.self.items (c.loop-h.onward.items ++ next ∷ []) pushed
           (All-append below c.loop-h.onward.items (next ∷ []) c.loop-h.invariant.1 (All-cons below next [] c.step_after-next.ensures.there (All-nil below))),
-      one_onward_more c.args.steps.now c.args.twins.now c.loop-h.onward.items c.push.new.self.items c.loop-h.h next number pushed c.loop-h.invariant.2 c.step_after-next.ensures.on,
+      one_onward_more c.args.steps.now c.args.turns.now c.args.twins.now c.loop-h.onward.items c.push.new.self.items c.loop-h.h next number pushed c.loop-h.invariant.2 c.step_after-next.ensures.on,
     )

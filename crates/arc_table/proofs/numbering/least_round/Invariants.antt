@@ -1,5 +1,7 @@
-use Rattle.std.proofs.Common.{◌<◌, length}
+use Rattle.std.proofs.Common.{◌≡◌, ◌<◌, length}
+use Rattle.arc_table.specs.Numbering.{place_after, IsRoundFrom}
 use Rattle.arc_table.proofs.numbering.least_round.Given as goal
 
 abbrev pub invariant-loop-step : goal.invariant-loop-step
-invariant-loop-step l = (l.at < length l.net.steps.items) × (l.least < length l.net.steps.items)
+invariant-loop-step l =
+    (l.at < length l.net.steps.items) × (l.least < length l.net.steps.items) × (l.at ≡ place_after l.net.onward.items l._step l.first) × IsRoundFrom l.net l.first l.least

@@ -1,15 +1,30 @@
-use Rattle.arc_table.specs.Numbering.{IsWay}
+use Rattle.std.proofs.Common.{◌≡◌, ℕ, ◌<◌, length, get_or, List, Bool}
+use Rattle.arc_table.specs.Numbering.{IsWay, IsWholeRun, AreWhole, HasMark, links_along}
 use Rattle.arc_table.specs.declared.numbering.Way.{Way}
 use Rattle.arc_table.specs.declared.numbering.Numbering.{Numbering}
 use Rattle.arc_table.proofs.Marks.{one_way_more, start_marked}
+use Rattle.arc_table.proofs.WholeRuns.{whole_run, whole_after}
 use Rattle.arc_table.proofs.numbering.number_from.Goals as goal
 
 pub returns-clause-on : goal.returns-clause-on
 returns-clause-on c =
+    let net = c.args.net.now in
+    let old = c.args.numbering.now in
+    let start = c.args.start in
+    let n = c.mark_way-steps.result in
+    let marks = c.mark_way-steps.new.is_numbered.items in
+    let before = c.requires.numbering in
+    let links = links_along net old.ways.items in
     let new : Numbering = record { ways = c.push.new.self; is_numbered = c.mark_way-steps.new.is_numbered } in
-    let way : Way = record { start = c.args.start; steps = c.mark_way-steps.result } in
-    let fits : IsWay c.args.net.now way = record { there = c.requires.there; some = c.mark_way-steps.ensures.some; on = c.mark_way-steps.ensures.on } in
-    one_way_more c.args.net.now c.args.numbering.now new way c.requires.numbering fits c.in_ok-push.ensures.items c.mark_way-steps.ensures.each c.mark_way-steps.ensures.marks
+    let way : Way = record { start = start; steps = n } in
+    let added = c.mark_way-steps.ensures.marks links before.marks before.once in
+    let run : IsWholeRun net n start =
+        whole_run net old.is_numbered.items marks links start n c.mark_way-steps.ensures.some c.requires.there c.requires.begins before.marks before.whole.on added.0 added.1 c.mark_way-steps.ensures.on
+        (c.mark_way-steps.ensures.stops links before.marks before.once) in
+    let whole : AreWhole net marks =
+        whole_after net old.is_numbered.items marks links start n c.mark_way-steps.ensures.some c.requires.there c.requires.begins before.marks before.whole.on added.0 added.1 c.mark_way-steps.ensures.on run in
+    let fits : IsWay net way = record { there = c.requires.there; some = c.mark_way-steps.ensures.some; on = c.mark_way-steps.ensures.on; whole = run } in
+    one_way_more net old new way before fits c.in_ok-push.ensures.items c.mark_way-steps.ensures.each c.mark_way-steps.ensures.marks whole
 
 pub returns-clause-here : goal.returns-clause-here
 returns-clause-here c =

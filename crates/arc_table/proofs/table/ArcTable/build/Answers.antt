@@ -1,15 +1,19 @@
 use Rattle.std.proofs.Common.{◌≡◌, List, map, sym, ap, subst, ◌∙◌}
+use Rattle.std.specs.List.Sorted.{IsSorted}
 use Rattle.plane_model.specs.Points.{Segment}
 use Rattle.plane_model.specs.Snapped.{links_of}
-use Rattle.arc_table.specs.Steps.{AreLinks, AreSteps}
+use Rattle.arc_table.specs.Steps.{AreLinks, AreSteps, point_cmp}
 use Rattle.arc_table.specs.Numbering.{arc_points}
 use Rattle.arc_table.specs.Along.{GoAlong}
 use Rattle.arc_table.specs.declared.numbering.Way.{Way}
 use Rattle.arc_table.proofs.Along.{are_links, go_along, if_ok_more}
 use Rattle.arc_table.proofs.table.ArcTable.build.Goals as goal
 
-pub of-requires : goal.of-requires
-of-requires c = subst AreLinks (sym c.links.ensures.exact) (are_links c.args.s.now c.links.ensures.snapped.arrangement)
+pub of-requires-clause-turns : goal.of-requires-clause-turns
+of-requires-clause-turns c = subst (IsSorted point_cmp) (sym c.deref.ensures.value) c.in_ok-turns.ensures.exact.sorted
+
+pub of-requires-clause-links : goal.of-requires-clause-links
+of-requires-clause-links c = subst AreLinks (sym c.links.ensures.exact) (are_links c.args.s.now c.links.ensures.snapped.arrangement)
 
 pub of_arcs-requires-clause-once : goal.of_arcs-requires-clause-once
 of_arcs-requires-clause-once c =
@@ -17,7 +21,7 @@ of_arcs-requires-clause-once c =
     let net = c.in_ok-net.net in
     let made : AreSteps S net.steps.items = subst (λ (xs : List Segment). AreSteps xs net.steps.items) c.links.ensures.exact c.in_ok-net.ensures.steps in
     let arcs : c.in_ok-arcs.arcs.spans ≡ map (arc_points net) c.in_ok-ways.ways.items = c.in_ok-arcs.ensures.exact ∙ ap (λ (ways : List Way). map (arc_points net) ways) c.deref-2.ensures.value in
-    let along : GoAlong S c.in_ok-arcs.arcs.spans = go_along net c.in_ok-net.ensures.on S (are_links c.args.s.now c.links.ensures.snapped.arrangement) made c.in_ok-ways.ways.items c.in_ok-arcs.arcs.spans c.in_ok-ways.ensures.exact arcs in
+    let along : GoAlong S c.in_ok-arcs.arcs.spans = go_along net c.deref.result.now c.in_ok-net.ensures.on S (are_links c.args.s.now c.links.ensures.snapped.arrangement) made c.in_ok-ways.ways.items c.in_ok-arcs.arcs.spans c.in_ok-ways.ensures.exact arcs in
     along.once
 
 pub returns-clause-links : goal.returns-clause-links
@@ -26,5 +30,5 @@ returns-clause-links c =
     let net = c.in_ok-net.net in
     let made : AreSteps S net.steps.items = subst (λ (xs : List Segment). AreSteps xs net.steps.items) c.links.ensures.exact c.in_ok-net.ensures.steps in
     let arcs : c.in_ok-arcs.arcs.spans ≡ map (arc_points net) c.in_ok-ways.ways.items = c.in_ok-arcs.ensures.exact ∙ ap (λ (ways : List Way). map (arc_points net) ways) c.deref-2.ensures.value in
-    let along : GoAlong S c.in_ok-arcs.arcs.spans = go_along net c.in_ok-net.ensures.on S (are_links c.args.s.now c.links.ensures.snapped.arrangement) made c.in_ok-ways.ways.items c.in_ok-arcs.arcs.spans c.in_ok-ways.ensures.exact arcs in
+    let along : GoAlong S c.in_ok-arcs.arcs.spans = go_along net c.deref.result.now c.in_ok-net.ensures.on S (are_links c.args.s.now c.links.ensures.snapped.arrangement) made c.in_ok-ways.ways.items c.in_ok-arcs.arcs.spans c.in_ok-ways.ensures.exact arcs in
     if_ok_more c.of_arcs.result (λ t e. subst (GoAlong S) (sym e) along) c.of_arcs.ensures.same
