@@ -63,7 +63,7 @@ links_turned path h =
     (subst (λ (ss : List Segment). IsPermutation (map link_between back) (map link_between ss)) (sym (steps_back path))
     (IsPermutation-map link_between back (reverse back) (IsPermutation-reverse back)))
 
-link_of_up : (l : Segment) → IsBefore l.start l.stop → link_between l ≡ l
+pub link_of_up : (l : Segment) → IsBefore l.start l.stop → link_between l ≡ l
 link_of_up l u = go (is_before l.start l.stop) (before_to l.start l.stop u)
   where
     go : (b : Bool) → b ≡ true → (if b then l else reversed l) ≡ l
@@ -90,7 +90,7 @@ module _ (net : Net) where
 
   module _ (turns : List GridPoint) (on : AreOnward steps net.twins.items turns onward (length steps)) where
     -- a step starts where the step before it stops
-    meets : (h : ℕ) → h < length steps → get_or onward h 0 ≢ h → (step_at steps (get_or onward h 0)).start ≡ (step_at steps h).stop
+    pub meets : (h : ℕ) → h < length steps → get_or onward h 0 ≢ h → (step_at steps (get_or onward h 0)).start ≡ (step_at steps h).stop
     meets h l differs =
         let other = ((on h l).leads differs).other in
         let twin = get_or net.twins.items h 0 in
@@ -133,7 +133,7 @@ module _ (net : Net) where
         (one_arc way (All-head (IsWay net) way ways h)) (all_arcs ways (All-tail (IsWay net) way ways h)))
 
     module _ (S : List Segment) (links : AreLinks S) (made : AreSteps S steps) where
-      link_there : (k : ℕ) → k < length steps → Contains S (link_at net k)
+      pub link_there : (k : ℕ) → k < length steps → Contains S (link_at net k)
       link_there k l =
           elim (Contains-append_cases S (map reversed S) (step_at steps k) (Contains-permutation steps (S ++ map reversed S) (step_at steps k) (IsPermutation-sym (S ++ map reversed S) steps made.all) (Contains-get_or steps k _ l))) [
             | inl c ↦ subst (Contains S) (sym (link_of_up (step_at steps k) (ordered_at (step_at steps k) c))) c

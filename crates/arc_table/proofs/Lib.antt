@@ -18,4 +18,5 @@ pub mod TurnOrder
 pub mod TurnsBack
 pub mod TurnTable
 pub mod WayPoints
+pub mod WholeArcs
 pub mod WholeRuns

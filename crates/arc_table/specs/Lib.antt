@@ -7,3 +7,4 @@ pub mod Nodes
 pub mod Numbering
 pub mod OneLink
 pub mod Steps
+pub mod WholeArcs

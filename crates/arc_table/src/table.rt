@@ -5,6 +5,7 @@ ghost use Rattle.arc_table.specs.Along.{GoAlong, links_of_arcs};
 ghost use Rattle.arc_table.specs.Direction.{IsForward};
 ghost use Rattle.arc_table.specs.Around.{IsAround};
 ghost use Rattle.arc_table.specs.Lookup.{IsArcAt, IsBegunBy};
+ghost use Rattle.arc_table.specs.WholeArcs.{IsWholeArc};
 
 use crate::direction::{is_before, is_same};
 use crate::first_steps::{FirstStep, first_steps, turning};
@@ -61,6 +62,7 @@ impl ArcTable {
         ensures long { IfOk result (λ t. All (λ arc. 1 < length arc) t) }
         ensures forward { IfOk result (λ t. All IsForward t) }
         ensures links { IfOk result (λ t. GoAlong (links_of s.now) t) }
+        ensures whole { IfOk result (λ t. All (IsWholeArc s.now) t) }
     {
         let turns = turns_of(alloc, s)?;
         let net = Net::of(alloc, s.links(), &turns)?;

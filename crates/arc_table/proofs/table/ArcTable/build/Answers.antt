@@ -1,12 +1,15 @@
-use Rattle.std.proofs.Common.{◌≡◌, List, map, sym, ap, subst, ◌∙◌}
+use Rattle.std.proofs.Common.{◌≡◌, List, All, map, sym, ap, subst, ◌∙◌}
 use Rattle.std.specs.List.Sorted.{IsSorted}
 use Rattle.plane_model.specs.Points.{Segment}
 use Rattle.plane_model.specs.Snapped.{links_of}
 use Rattle.arc_table.specs.Steps.{AreLinks, AreSteps, point_cmp}
 use Rattle.arc_table.specs.Numbering.{arc_points}
 use Rattle.arc_table.specs.Along.{GoAlong}
+use Rattle.arc_table.specs.Nodes.{AreTurns}
+use Rattle.arc_table.specs.WholeArcs.{IsWholeArc}
 use Rattle.arc_table.specs.declared.numbering.Way.{Way}
 use Rattle.arc_table.proofs.Along.{are_links, go_along, if_ok_more}
+use Rattle.arc_table.proofs.WholeArcs.{arcs_whole}
 use Rattle.arc_table.proofs.table.ArcTable.build.Goals as goal
 
 pub of-requires-clause-turns : goal.of-requires-clause-turns
@@ -32,3 +35,14 @@ returns-clause-links c =
     let arcs : c.in_ok-arcs.arcs.spans ≡ map (arc_points net) c.in_ok-ways.ways.items = c.in_ok-arcs.ensures.exact ∙ ap (λ (ways : List Way). map (arc_points net) ways) c.deref-2.ensures.value in
     let along : GoAlong S c.in_ok-arcs.arcs.spans = go_along net c.deref.result.now c.in_ok-net.ensures.on S (are_links c.args.s.now c.links.ensures.snapped.arrangement) made c.in_ok-ways.ways.items c.in_ok-arcs.arcs.spans c.in_ok-ways.ensures.exact arcs in
     if_ok_more c.of_arcs.result (λ t e. subst (GoAlong S) (sym e) along) c.of_arcs.ensures.same
+
+pub returns-clause-whole : goal.returns-clause-whole
+returns-clause-whole c =
+    let d = c.args.s.now in
+    let net = c.in_ok-net.net in
+    let turns = c.deref.result.now in
+    let made : AreSteps (links_of d) net.steps.items = subst (λ (xs : List Segment). AreSteps xs net.steps.items) c.links.ensures.exact c.in_ok-net.ensures.steps in
+    let turned : AreTurns d turns = subst (AreTurns d) (sym c.deref.ensures.value) c.in_ok-turns.ensures.exact in
+    let arcs : c.in_ok-arcs.arcs.spans ≡ map (arc_points net) c.in_ok-ways.ways.items = c.in_ok-arcs.ensures.exact ∙ ap (λ (ways : List Way). map (arc_points net) ways) c.deref-2.ensures.value in
+    let whole : All (IsWholeArc d) c.in_ok-arcs.arcs.spans = arcs_whole d net turns turned c.in_ok-net.ensures.on (are_links d c.links.ensures.snapped.arrangement) made c.in_ok-ways.ways.items c.in_ok-arcs.arcs.spans c.in_ok-ways.ensures.exact.ways arcs in
+    if_ok_more c.of_arcs.result (λ t e. subst (All (IsWholeArc d)) (sym e) whole) c.of_arcs.ensures.same
