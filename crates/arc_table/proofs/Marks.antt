@@ -132,9 +132,6 @@ module _ (net : Net) where
   pub kept_all : (old : Numbering) → IsNumbering net old → GoesFrom net old old
   kept_all old h = record { numbering = h; kept = λ k l m. m }
 
-  pub kept_twice : (a b c : Numbering) → GoesFrom net a b → GoesFrom net b c → GoesFrom net a c
-  kept_twice a b c h k = record { numbering = k.numbering; kept = λ j l m. k.kept j l (h.kept j l m) }
-
   pub one_way_more : (old new : Numbering) (way : Way) → IsNumbering net old → IsWay net way → new.ways.items ≡ old.ways.items ++ way ∷ [] → length new.is_numbered.items ≡ length net.steps.items
       → AddsMarks net old.is_numbered.items new.is_numbered.items way.steps way.start → AreWhole net new.is_numbered.items → GoesFrom net old new
   one_way_more old new way h w pushed each adds whole =
@@ -164,18 +161,3 @@ module _ (net : Net) where
 
   pub all_of : (numbering : Numbering) → IsNumbering net numbering → ((h : ℕ) → h < length net.steps.items → HasMark numbering.is_numbered.items h) → AreWays net numbering.ways.items
   all_of numbering h m = record { ways = h.ways; once = h.once; all = λ k l. (h.marks k l).0 (m k l) }
-
-  pub none_yet : (numbering : Numbering) → numbering.ways.items ≡ [] → length numbering.is_numbered.items ≡ length net.steps.items → ((h : ℕ) → h < length net.steps.items → get_or numbering.is_numbered.items h false ≡ false) → IsNumbering net numbering
-  none_yet numbering e each none = record {
-    ways = subst (All (IsWay net)) (sym e) (All-nil (IsWay net));
-    each = each;
-    once = subst (λ (ways : List Way). AllPairs (λ (k l : Segment). k ≢ l) (links_along net ways)) (sym e) (λ i j d l m. absurd (omega arith));
-    marks = λ h l. (
-      (λ m. clash (get_or numbering.is_numbered.items h false) m (none h l)),
-      (λ c. Contains-nil (link_at net h) (subst (λ (ways : List Way). Contains (links_along net ways) (link_at net h)) e c)),
-    );
-    whole = record {
-      on = λ h l m. clash (get_or numbering.is_numbered.items h false) m (none h l);
-      back = λ h l m. clash (get_or numbering.is_numbered.items h false) m (none h l);
-    };
-  }

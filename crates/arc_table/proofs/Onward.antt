@@ -1,12 +1,11 @@
 -- Steps onward, and back.
-use Rattle.std.proofs.Common.{◌≡◌, ◌⊎◌, inl, inr, refl, sym, ap, ◌∙◌, subst, arith, ℕ, ◌<◌, List, length, get_or, Contains, Some, pos}
-use Rattle.std.specs.Prelude.{◌≢◌, slice_get}
-use Rattle.std.proofs.lemmas.Option.{slice_get-get_or, get_or_from_slice_get}
+use Rattle.std.proofs.Common.{◌≡◌, inl, inr, refl, sym, ap, ◌∙◌, subst, ℕ, ◌<◌, List, length, get_or}
+use Rattle.std.specs.Prelude.{◌≢◌}
+use Rattle.std.proofs.lemmas.Option.{slice_get-get_or}
 use Rattle.plane_model.specs.Points.{GridPoint, Segment, reversed}
-use Rattle.arc_table.specs.Steps.{StartsAt, IsOther, LeadsOn, AreOnward, AreProper, AreTwins, AreBothWays, NoneTurnsBack}
+use Rattle.arc_table.specs.Steps.{StartsAt, LeadsOn, AreOnward, AreProper, AreTwins, AreBothWays, NoneTurnsBack}
 use Rattle.arc_table.specs.Numbering.{step_at}
 use Rattle.arc_table.proofs.Marks.{back_at, same_or_not}
-use Rattle.arc_table.proofs.Others.{start_is, other_there}
 use Rattle.arc_table.proofs.Proper.{place_once}
 
 module _ (steps : List Segment) (twins onward : List ℕ) (turns : List GridPoint) (proper : AreProper steps) (back : AreTwins steps twins (length steps))

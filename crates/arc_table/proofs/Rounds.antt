@@ -1,9 +1,9 @@
 -- Where an arc begins: before its first step, or anywhere on a way that comes round.
-use Rattle.std.proofs.Common.{◌≡◌, ◌⊎◌, inl, inr, refl, sym, ap, ◌∙◌, subst, arith, ℕ, zero, suc, ◌+◌, ◌-◌, ◌<◌, ◌≤◌, min, Bool, List, ◌∷◌, length, get_or, All, AllPairs}
+use Rattle.std.proofs.Common.{◌≡◌, ◌⊎◌, inl, inr, sym, ap, ◌∙◌, subst, arith, ℕ, zero, suc, ◌<◌, ◌≤◌, min, Bool, List, length, All, AllPairs}
 use Rattle.std.specs.Prelude.{◌≢◌}
 use Rattle.std.proofs.lemmas.Bool.{cases_lt}
 use Rattle.std.proofs.lemmas.List.Elements.{All-nil, All-cons}
-use Rattle.arc_table.specs.Numbering.{walk, place_after, LeadsTo, ComesRound, StartsThere, GoesRound, IsBegin, IsRoundFrom, HasMark, AreWhole, HaveMarksTogether}
+use Rattle.arc_table.specs.Numbering.{walk, LeadsTo, ComesRound, IsBegin, IsRoundFrom, HasMark, AreWhole, HaveMarksTogether}
 use Rattle.arc_table.specs.declared.half_links.Net.{Net}
 use Rattle.arc_table.proofs.Marks.{same_or_not, place_more}
 use Rattle.arc_table.proofs.Runs.{length_walk, walk_at, too_many, twin, next, after, twin_there, next_there, after_there, twin_twice, one_twin, one_before}

@@ -1,18 +1,17 @@
 -- Runs of steps, each the one onward from the one before.
-use Rattle.std.proofs.Common.{◌≡◌, ◌⊎◌, inl, inr, refl, sym, ap, ◌∙◌, subst, arith, ℕ, zero, suc, ◌+◌, ◌-◌, ◌<◌, ◌≤◌, Bool, true, false, ◌||◌, eqb, List, [], ◌∷◌, ◌++◌, map, length, get_or, All, AllPairs, Contains, Some}
-use Rattle.std.specs.Prelude.{◌≢◌, slice_get}
-use Rattle.std.specs.List.{IsDistinct, list_any}
-use Rattle.std.proofs.lemmas.Bool.{cases_lt}
+use Rattle.std.proofs.Common.{◌≡◌, ◌⊎◌, inl, inr, refl, sym, ap, ◌∙◌, subst, arith, ℕ, zero, suc, ◌+◌, ◌<◌, ◌≤◌, Bool, true, false, ◌||◌, eqb, List, [], ◌∷◌, ◌++◌, length, get_or, All, AllPairs, Contains}
+use Rattle.std.specs.Prelude.{◌≢◌}
+use Rattle.std.specs.List.{list_any}
 use Rattle.std.proofs.lemmas.Bool.Decides.{Decides-eqb}
-use Rattle.std.proofs.lemmas.List.{length-append, length-map, get_or-map, get_or-append-add, get_or_append_left, get_or_default}
-use Rattle.std.proofs.lemmas.List.Elements.{Contains-append_left, Contains-append_right, Contains-append_cases, All-nil, All-cons, All-contains}
+use Rattle.std.proofs.lemmas.List.{length-append, length-map, get_or-map, get_or-append-add}
+use Rattle.std.proofs.lemmas.List.Elements.{All-nil, All-cons, All-contains}
 use Rattle.std.proofs.lemmas.Map.Made.{IsDistinct-from_AllPairs}
 use Rattle.std.proofs.lemmas.Map.Steps.{length-le_from_distinct_below}
 use Rattle.lists.proofs.Members.{Contains-head, Contains-later}
-use Rattle.plane_model.specs.Points.{GridPoint, Segment, Path, reversed, link_between}
+use Rattle.plane_model.specs.Points.{Segment, reversed, link_between}
 use Rattle.arc_table.specs.Numbering.{walk, place_after, GoesOn, step_at, link_at, links_from}
 use Rattle.arc_table.specs.declared.half_links.Net.{Net}
-use Rattle.arc_table.proofs.Marks.{back_at, same_or_not, place_more}
+use Rattle.arc_table.proofs.Marks.{back_at}
 use Rattle.arc_table.proofs.Proper.{place_once, link_turned, one_link}
 
 pub length_walk : (onward : List ℕ) (n h : ℕ) → length (walk onward n h) ≡ n

@@ -1,10 +1,10 @@
 -- The arcs of a table are whole: nodes are their ends alone.
-use Rattle.std.proofs.Common.{◌≡◌, ◌⊎◌, inl, inr, refl, sym, ap, ◌∙◌, subst, arith, ℕ, zero, suc, ◌+◌, ◌-◌, ◌<◌, ◌≤◌, Bool, true, false, List, ◌∷◌, ◌++◌, map, reverse, length, get_or, All, Contains, Some, None}
-use Rattle.std.specs.Prelude.{◌≢◌, slice_get, if◌then◌else◌}
+use Rattle.std.proofs.Common.{◌≡◌, ◌⊎◌, inl, inr, sym, ap, ◌∙◌, subst, arith, ℕ, zero, suc, ◌+◌, ◌-◌, ◌<◌, Bool, true, false, List, ◌++◌, map, reverse, length, All, Contains, Some, None}
+use Rattle.std.specs.Prelude.{◌≢◌, if◌then◌else◌}
 use Rattle.std.proofs.lemmas.List.{get_or_default, get_or-map, get_or-reverse, length-map, length-reverse}
 use Rattle.std.proofs.lemmas.List.Elements.{Contains-append_left, Contains-append_right}
 use Rattle.std.proofs.lemmas.List.Sorted.{Contains-permutation, IsPermutation-sym}
-use Rattle.std.proofs.lemmas.Option.{slice_get-get_or, slice_get_cases, get_or_from_slice_get}
+use Rattle.std.proofs.lemmas.Option.{slice_get-get_or, slice_get_cases}
 use Rattle.lists.proofs.Members.{Contains-map}
 use Rattle.plane_model.specs.Points.{GridPoint, Segment, Path, reversed, link_between}
 use Rattle.plane_model.specs.Drawing.{Drawing}
@@ -13,7 +13,7 @@ use Rattle.plane_model.specs.Snapped.{links_of}
 use Rattle.arc_table.specs.Direction.{point_at, is_backward}
 use Rattle.arc_table.specs.Steps.{StartsAt, LeadsOn, AreOnward, AreLinks, AreSteps}
 use Rattle.arc_table.specs.Nodes.{turns_of_drawing, AreTurns}
-use Rattle.arc_table.specs.Numbering.{walk, step_at, link_at, ends_along, points_along, arc_points, IsWay}
+use Rattle.arc_table.specs.Numbering.{walk, step_at, link_at, points_along, arc_points, IsWay}
 use Rattle.arc_table.specs.WholeArcs.{EndsAt, IsPassed, IsNode, IsWholeArc}
 use Rattle.arc_table.specs.declared.half_links.Net.{Net}
 use Rattle.arc_table.specs.declared.numbering.Way.{Way}
@@ -22,7 +22,7 @@ use Rattle.arc_table.proofs.Everywhere.{All-mapped}
 use Rattle.arc_table.proofs.Marks.{back_at}
 use Rattle.arc_table.proofs.Others.{start_is}
 use Rattle.arc_table.proofs.Proper.{link_turned, link_is, moves}
-use Rattle.arc_table.proofs.Runs.{goes_at, length_walk, walk_at, twin, next, after, twin_there, after_there, twin_twice, one_of, one_twin}
+use Rattle.arc_table.proofs.Runs.{goes_at, length_walk, walk_at, twin, next, after, twin_there, after_there, one_of}
 
 module _ (d : Drawing) (net : Net) (turns : List GridPoint) (turned : AreTurns d turns) (on : AreOnward net.steps.items net.twins.items turns net.onward.items (length net.steps.items))
     (links : AreLinks (links_of d)) (made : AreSteps (links_of d) net.steps.items) where
@@ -206,9 +206,9 @@ module _ (d : Drawing) (net : Net) (turns : List GridPoint) (turned : AreTurns d
       inner = λ k l m. inside k l m;
       ends = elim w.whole [
         | inl e ↦ inl (
-            subst (IsNode d) (sym first_is) (is_node (twin net way.start) (twin_there net way.start w.there) e.0),
-            subst (IsNode d) (sym last_is) (is_node (at (n - 1)) (at_there (n - 1)) e.1),
-          )
+          subst (IsNode d) (sym first_is) (is_node (twin net way.start) (twin_there net way.start w.there) e.0),
+          subst (IsNode d) (sym last_is) (is_node (at (n - 1)) (at_there (n - 1)) e.1),
+        )
         | inr e ↦ (
             let joined : point_at P 0 ≡ (step (at (n - 1))).stop =
             ap (λ (k : ℕ). (step k).start) (sym e.1) ∙ meets net turns on (at (n - 1)) (at_there (n - 1)) e.0 in

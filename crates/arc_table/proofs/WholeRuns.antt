@@ -1,11 +1,11 @@
 -- A run of steps that begins where an arc does, and stops before a mark or where no step goes on, is a whole arc.
-use Rattle.std.proofs.Common.{◌≡◌, ◌⊎◌, inl, inr, refl, sym, ap, ◌∙◌, subst, arith, ℕ, zero, suc, ◌+◌, ◌-◌, ◌<◌, ◌≤◌, Bool, List, ◌++◌, length, get_or, AllPairs, Contains}
+use Rattle.std.proofs.Common.{◌≡◌, ◌⊎◌, inl, inr, sym, ap, ◌∙◌, subst, arith, ℕ, zero, suc, ◌+◌, ◌-◌, ◌<◌, Bool, List, ◌++◌, length, get_or, AllPairs, Contains}
 use Rattle.std.specs.Prelude.{◌≢◌}
 use Rattle.std.proofs.lemmas.Bool.{cases_lt}
-use Rattle.std.proofs.lemmas.List.{length-append, get_or-append-add, get_or_append_left, get_or_default}
+use Rattle.std.proofs.lemmas.List.{length-append, get_or-append-add, get_or_append_left}
 use Rattle.std.proofs.lemmas.List.Elements.{Contains-append_left, Contains-append_right, Contains-append_cases}
 use Rattle.plane_model.specs.Points.{Segment}
-use Rattle.arc_table.specs.Numbering.{walk, GoesOn, IsBegin, IsWholeRun, link_at, links_from, HasMark, AreMarked, AreWhole}
+use Rattle.arc_table.specs.Numbering.{GoesOn, IsBegin, IsWholeRun, link_at, links_from, HasMark, AreMarked, AreWhole}
 use Rattle.arc_table.specs.declared.half_links.Net.{Net}
 use Rattle.arc_table.proofs.Marks.{same_or_not, place_more}
 use Rattle.arc_table.proofs.Runs.{goes_at, twin, next, after, twin_there, next_there, after_there, twin_twice, twin_apart, twin_link, one_of, one_twin, one_before, length_links, link_along}

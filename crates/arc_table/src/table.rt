@@ -57,7 +57,8 @@ impl Model for ArcTable {
 }
 
 impl ArcTable {
-    /// The arcs of a snapped drawing: the whole table, or for want of memory nothing.
+    /// The arcs of a snapped drawing: the whole table, or for want of memory nothing. Each arc is a run of links from
+    /// node to node with no node between, or a closed run without a node.
     pub fn build(alloc: Global, s: &Snapped) -> Result<ArcTable, AllocError>
         ensures long { IfOk result (λ t. All (λ arc. 1 < length arc) t) }
         ensures forward { IfOk result (λ t. All IsForward t) }

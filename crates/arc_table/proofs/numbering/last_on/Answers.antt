@@ -1,4 +1,4 @@
-use Rattle.std.proofs.Common.{◌≡◌, ◌+◌, ◌<◌, ◌≤◌, ℕ, length, get_or, inl, inr, sym, ap, subst, ◌∙◌, add-one, arith}
+use Rattle.std.proofs.Common.{◌≡◌, ℕ, length, get_or, inl, inr, sym, ap, subst, ◌∙◌, add-one, arith}
 use Rattle.std.specs.Prelude.{◌≢◌}
 use Rattle.std.proofs.lemmas.Bool.{cases_lt}
 use Rattle.arc_table.specs.Numbering.{place_after}
@@ -37,9 +37,9 @@ loop-step-preserved c =
       (λ j l. elim (cases_lt j k) [
         | inl m ↦ inv.2 j m
         | inr m ↦ (let e : k ≡ j = omega arith in (
-            subst (λ (i : ℕ). get_or onward (place_after onward i first) 0 ≢ place_after onward i first) e moves,
-            subst (λ (i : ℕ). get_or onward (place_after onward i first) 0 ≢ first) e leaves,
-          ))
+          subst (λ (i : ℕ). get_or onward (place_after onward i first) 0 ≢ place_after onward i first) e moves,
+          subst (λ (i : ℕ). get_or onward (place_after onward i first) 0 ≢ first) e leaves,
+        ))
       ]),
     )
 

@@ -1,4 +1,4 @@
-use Rattle.std.proofs.Common.{◌≡◌, ◌+◌, ◌<◌, ℕ, length, get_or, inl, inr, sym, ap, subst, ◌∙◌, add-one, arith}
+use Rattle.std.proofs.Common.{ℕ, get_or, inl, inr, sym, ap, subst, ◌∙◌, add-one, arith}
 use Rattle.arc_table.specs.Numbering.{place_after, IsRoundFrom}
 use Rattle.arc_table.proofs.Marks.{place_more}
 use Rattle.arc_table.proofs.Rounds.{round_less}

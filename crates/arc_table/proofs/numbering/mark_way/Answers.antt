@@ -54,7 +54,7 @@ returns-in-None-clause-stops c =
     let count : c.loop-step._step ≡ c.loop-step.steps + 1 - 1 = (let e = inv.2 in omega arith) in
     let here : at ≡ place_after onward (c.loop-step.steps + 1 - 1) start = inv.3 ∙ ap (λ (j : ℕ). place_after onward j start) count in
     λ links m once. subst (λ (j : ℕ). (get_or onward j 0 ≡ j) ⊎ HasMark marks (get_or onward j 0)) here
-        (subst (λ (ms : List Bool). (get_or onward at 0 ≡ at) ⊎ HasMark ms (get_or onward at 0)) c.deref.ensures.value (c.in-None.ensures.none refl))
+    (subst (λ (ms : List Bool). (get_or onward at 0 ≡ at) ⊎ HasMark ms (get_or onward at 0)) c.deref.ensures.value (c.in-None.ensures.none refl))
 
 pub returns-clause-stops : goal.returns-clause-stops
 returns-clause-stops c =
@@ -63,4 +63,4 @@ returns-clause-stops c =
     let inv = c.loop-step.invariant in
     let whole : c.loop-step._step ≡ length net.steps.items = omega arith in
     λ links m once. absurd (too_long net links start c.requires.there
-        (subst (λ (n : ℕ). AllPairs (λ (k l : Segment). k ≢ l) (links ++ links_from net n start)) whole (inv.6 links m once).1))
+    (subst (λ (n : ℕ). AllPairs (λ (k l : Segment). k ≢ l) (links ++ links_from net n start)) whole (inv.6 links m once).1))

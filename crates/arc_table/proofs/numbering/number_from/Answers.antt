@@ -1,5 +1,4 @@
-use Rattle.std.proofs.Common.{◌≡◌, ℕ, ◌<◌, length, get_or, List, Bool}
-use Rattle.arc_table.specs.Numbering.{IsWay, IsWholeRun, AreWhole, HasMark, links_along}
+use Rattle.arc_table.specs.Numbering.{IsWay, IsWholeRun, AreWhole, links_along}
 use Rattle.arc_table.specs.declared.numbering.Way.{Way}
 use Rattle.arc_table.specs.declared.numbering.Numbering.{Numbering}
 use Rattle.arc_table.proofs.Marks.{one_way_more, start_marked}
@@ -19,10 +18,10 @@ returns-clause-on c =
     let way : Way = record { start = start; steps = n } in
     let added = c.mark_way-steps.ensures.marks links before.marks before.once in
     let run : IsWholeRun net n start =
-        whole_run net old.is_numbered.items marks links start n c.mark_way-steps.ensures.some c.requires.there c.requires.begins before.marks before.whole.on added.0 added.1 c.mark_way-steps.ensures.on
-        (c.mark_way-steps.ensures.stops links before.marks before.once) in
+    whole_run net old.is_numbered.items marks links start n c.mark_way-steps.ensures.some c.requires.there c.requires.begins before.marks before.whole.on added.0 added.1 c.mark_way-steps.ensures.on
+    (c.mark_way-steps.ensures.stops links before.marks before.once) in
     let whole : AreWhole net marks =
-        whole_after net old.is_numbered.items marks links start n c.mark_way-steps.ensures.some c.requires.there c.requires.begins before.marks before.whole.on added.0 added.1 c.mark_way-steps.ensures.on run in
+    whole_after net old.is_numbered.items marks links start n c.mark_way-steps.ensures.some c.requires.there c.requires.begins before.marks before.whole.on added.0 added.1 c.mark_way-steps.ensures.on run in
     let fits : IsWay net way = record { there = c.requires.there; some = c.mark_way-steps.ensures.some; on = c.mark_way-steps.ensures.on; whole = run } in
     one_way_more net old new way before fits c.in_ok-push.ensures.items c.mark_way-steps.ensures.each c.mark_way-steps.ensures.marks whole
 

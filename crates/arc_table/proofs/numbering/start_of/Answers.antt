@@ -1,4 +1,4 @@
-use Rattle.std.proofs.Common.{◌≡◌, sym, subst, ap, ◌∙◌, List, ℕ}
+use Rattle.std.proofs.Common.{sym, subst, ℕ}
 use Rattle.arc_table.specs.Numbering.{ComesRound, LeadsTo, IsBegin, HaveMarksTogether}
 use Rattle.arc_table.proofs.Rounds.{goes_round, together_round, starts_there, together_first}
 use Rattle.arc_table.proofs.Runs.{twin}
