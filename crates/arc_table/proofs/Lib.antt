@@ -15,6 +15,7 @@ pub mod SingleLink
 pub mod StepSearch
 pub mod Turned
 pub mod TurnOrder
+pub mod Turns
 pub mod TurnsBack
 pub mod TurnTable
 pub mod WayPoints

@@ -12,7 +12,7 @@ use Rattle.plane_model.specs.Arrangement.{IsBefore}
 use Rattle.plane_model.specs.Snapped.{links_of}
 use Rattle.arc_table.specs.Direction.{point_at, is_backward}
 use Rattle.arc_table.specs.Steps.{StartsAt, LeadsOn, AreOnward, AreLinks, AreSteps}
-use Rattle.arc_table.specs.Nodes.{turns_of_drawing, AreTurns}
+use Rattle.arc_table.specs.Nodes.{turns_of_drawing, IsTurn, AreTurns}
 use Rattle.arc_table.specs.Numbering.{walk, step_at, link_at, points_along, arc_points, IsWay}
 use Rattle.arc_table.specs.WholeArcs.{EndsAt, IsPassed, IsNode, IsWholeArc}
 use Rattle.arc_table.specs.declared.half_links.Net.{Net}
@@ -22,6 +22,7 @@ use Rattle.arc_table.proofs.Everywhere.{All-mapped}
 use Rattle.arc_table.proofs.Marks.{back_at}
 use Rattle.arc_table.proofs.Others.{start_is}
 use Rattle.arc_table.proofs.Proper.{link_turned, link_is, moves}
+use Rattle.arc_table.proofs.Turns.{turn_of_listed, listed_of_turn}
 use Rattle.arc_table.proofs.Runs.{goes_at, length_walk, walk_at, twin, next, after, twin_there, after_there, one_of}
 
 module _ (d : Drawing) (net : Net) (turns : List GridPoint) (turned : AreTurns d turns) (on : AreOnward net.steps.items net.twins.items turns net.onward.items (length net.steps.items))
@@ -114,11 +115,11 @@ module _ (d : Drawing) (net : Net) (turns : List GridPoint) (turned : AreTurns d
                 | inr e ↦ inr (sym w.2 ∙ ap (link_at net) e)
               ]);
         };
-        plain = λ c. lead.plain (Contains-permutation (turns_of_drawing d) turns p turned.all c);
+        plain = λ c. lead.plain (Contains-permutation (turns_of_drawing d) turns p turned.all (listed_of_turn d p c));
       } in
       subst (IsPassed d) is here
 
-  module _ (h : ℕ) (l : h < N) (stays : next net h ≡ h) (plain : Contains (turns_of_drawing d) (step h).stop → ⊥) where
+  module _ (h : ℕ) (l : h < N) (stays : next net h ≡ h) (plain : IsTurn d (step h).stop → ⊥) where
     abbrev t : ℕ
     t = twin net h
 
@@ -146,7 +147,7 @@ module _ (d : Drawing) (net : Net) (turns : List GridPoint) (turned : AreTurns d
                   | inr e ↦ inr (one_step i w.0 i_there w.1 (e ∙ sym w.2) (i_start ∙ sym w.3))
                 ]);
           };
-          plain = λ b. plain (Contains-permutation turns (turns_of_drawing d) v (IsPermutation-sym (turns_of_drawing d) turns turned.all) b);
+          plain = λ b. plain (turn_of_listed d v (Contains-permutation turns (turns_of_drawing d) v (IsPermutation-sym (turns_of_drawing d) turns turned.all) b));
         } in
         let same : h ≡ w.0 = sym stays ∙ (on h l).only w.0 lead in
         moving h l (ap (λ (k : ℕ). (step k).start) same ∙ w.3)
