@@ -7,3 +7,7 @@ pub mod RankedLemmas
 pub mod UsedLemmas
 pub mod TileLemmas
 pub mod TracedLemmas
+pub mod BalanceLemmas
+pub mod EdgeBalance
+pub mod SortedLists
+pub mod PairLemmas

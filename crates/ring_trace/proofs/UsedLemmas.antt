@@ -119,7 +119,7 @@ times_below a (suc n) =
 -- ---- the boundary
 
 -- a number that comes first in an ascending list is not later in it
-not_later : (x f : ℕ) (fs : List ℕ) → ((y : ℕ) → Contains fs y → nat_lt f y ≡ true) → x ≡ f → has nat_eq fs x ≡ false
+pub not_later : (x f : ℕ) (fs : List ℕ) → ((y : ℕ) → Contains fs y → nat_lt f y ≡ true) → x ≡ f → has nat_eq fs x ≡ false
 not_later x f fs up e = list_any_none (nat_eq x) fs (All-from_get_or (λ (y : ℕ). nat_eq x y ≡ false) fs 0 (λ k l. ne_eqb x (get_or fs k 0) (λ same.
     let less = ltb-true f (get_or fs k 0) (up (get_or fs k 0) (Contains-get_or fs k 0 l)) in omega arith)))
 

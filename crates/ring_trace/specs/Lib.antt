@@ -5,4 +5,5 @@ pub mod Keys
 pub mod Owners
 pub mod Boundary
 pub mod Joined
+pub mod Pairing
 pub mod Traced

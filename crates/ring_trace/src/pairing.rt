@@ -1,7 +1,21 @@
-ghost use Rattle.std.specs.Prelude.{◌≡◌, ◌<◌, ◌^◌, All, IfOk, length, map};
-ghost use Rattle.std.specs.List.Sorted.{IsPermutation};
-ghost use Rattle.face_walk.specs.Places.{IsBuiltOf};
+ghost use Rattle.std.specs.Prelude.{◌≡◌, ◌<◌, ◌^◌, ℕ, All, IfOk, List, length, map};
+ghost use Rattle.std.specs.List.{range_with_len};
+ghost use Rattle.std.specs.List.Sorted.{IsPermutation, IsSorted, IsStrictlyIncreasing};
+ghost use Rattle.face_walk.specs.Places.{FaceTable, IsBuiltOf};
+ghost use Rattle.ring_trace.specs.Boundary.{sides_of};
+ghost use Rattle.ring_trace.specs.Joined.{AreJoinedBy};
+ghost use Rattle.ring_trace.specs.Pairing.{
+  AreApart,
+  AreBalanced,
+  AreByStart,
+  AreEdgesOf,
+  LeadOn,
+  corner_cmp,
+  end_corner,
+  stop_corner,
+};
 ghost use Rattle.ring_trace.specs.Parts.{IsSide};
+ghost use Rattle.ring_trace.specs.Rings.{edge_at};
 
 use crate::joined_faces::{Parts, Side};
 use arc_table::ArcTable;
@@ -36,6 +50,10 @@ pub fn edges_of(
     ensures each { IfOk result (λ v. length v.items ≡ length sides.now) }
     ensures there { IfOk result (λ v. All (λ e. e.arc.arc < length t.now) v.items) }
     ensures arcs { IfOk result (λ v. IsPermutation (map (λ s. s.arc) sides.now) (map (λ e. e.arc) v.items)) }
+    ensures made { IfOk result (λ v. AreEdgesOf t.now parts.now.joining parts.now.numbers.items sides.now v.items) }
+    ensures in_order { IfOk result (λ v. AreByStart v.items) }
+    ensures balanced { (faces : FaceTable) (set : List ℕ) → IsBuiltOf t.now faces → IsStrictlyIncreasing set → AreJoinedBy faces set parts.now.joining →
+        sides.now ≡ sides_of faces.places (length t.now) set → IfOk result (λ v. AreBalanced t.now v.items) }
 {
     let mut edges = Vec::with_capacity(alloc, sides.len())?;
     for side in sides {
@@ -57,6 +75,8 @@ pub fn onward_of(alloc: Global, t: &ArcTable, edges: &[Edge]) -> Result<Vec<u32>
     requires there { All (λ e. e.arc.arc < length t.now) edges.now }
     ensures each { IfOk result (λ v. length v.items ≡ length edges.now) }
     ensures there { IfOk result (λ v. All (λ k. k < length edges.now) v.items) }
+    ensures apart { IfOk result (λ v. AreApart v.items) }
+    ensures leads { AreBalanced t.now edges.now → AreByStart edges.now → IfOk result (λ v. LeadOn t.now edges.now v.items) }
 {
     let ends = ends_of(alloc, t, edges)?;
     let mut onward = vec![in alloc; 0u32; edges.len()]?;
@@ -71,6 +91,10 @@ fn ends_of(alloc: Global, t: &ArcTable, edges: &[Edge]) -> Result<Vec<EdgeEnd>, 
     requires there { All (λ e. e.arc.arc < length t.now) edges.now }
     ensures each { IfOk result (λ v. length v.items ≡ length edges.now) }
     ensures there { IfOk result (λ v. All (λ e. e.edge < length edges.now) v.items) }
+    ensures places { IfOk result (λ v. IsPermutation (range_with_len 0 (length edges.now)) (map (λ e. e.edge) v.items)) }
+    ensures stops { IfOk result (λ v. All (λ e. end_corner e ≡ stop_corner t.now (edge_at edges.now e.edge)) v.items) }
+    ensures corners { IfOk result (λ v. IsPermutation (map (stop_corner t.now) edges.now) (map end_corner v.items)) }
+    ensures in_order { IfOk result (λ v. IsSorted corner_cmp (map end_corner v.items)) }
 {
     let mut ends = Vec::with_capacity(alloc, edges.len())?;
     for k in 0..edges.len() {
