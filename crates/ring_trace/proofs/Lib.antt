@@ -11,3 +11,5 @@ pub mod BalanceLemmas
 pub mod EdgeBalance
 pub mod SortedLists
 pub mod PairLemmas
+pub mod VertexLemmas
+pub mod WayLemmas

@@ -122,3 +122,12 @@ same_corner_is v w e = let p = and_parts (nat_eq v.part w.part) (same_point v.po
 
 pub one_corners : (xs ys : List Corner) → IsSorted corner_cmp xs → IsSorted corner_cmp ys → ((v : Corner) → count_by (same_corner v) xs ≡ count_by (same_corner v) ys) → xs ≡ ys
 one_corners = one_sorted corner_cmp corner_total tied_corner same_corner corner_itself same_corner_is
+
+-- between two places that hold one corner all places hold it
+pub corners_between : (xs : List Corner) → IsSorted corner_cmp xs → (i m j : ℕ) (d : Corner) → i ≤ m → m ≤ j → j < length xs → get_or xs i d ≡ get_or xs j d → get_or xs m d ≡ get_or xs i d
+corners_between xs up i m j d l h k e =
+    let far : (a b : ℕ) → a ≤ b → b < length xs → is_lt (corner_cmp (get_or xs b d) (get_or xs a d)) ≡ false =
+    (λ a b p q. sorted_far (λ (x : Corner) (y : Corner). is_lt (corner_cmp x y)) (ranks_by corner_total (λ (x : Corner). x)) xs up a b d p q) in
+    neither corner_cmp corner_total tied_corner same_corner corner_itself same_corner_is (get_or xs m d) (get_or xs i d)
+    (far i m l (omega arith))
+    (subst (λ (x : Corner). is_lt (corner_cmp x (get_or xs m d)) ≡ false) (sym e) (far m j h k))

@@ -1,6 +1,7 @@
 pub mod Parts
 pub mod Sets
 pub mod Rings
+pub mod Ways
 pub mod Keys
 pub mod Owners
 pub mod Boundary

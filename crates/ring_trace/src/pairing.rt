@@ -1,6 +1,7 @@
-ghost use Rattle.std.specs.Prelude.{◌≡◌, ◌<◌, ◌^◌, ℕ, All, IfOk, List, length, map};
+ghost use Rattle.std.specs.Prelude.{◌≡◌, ◌<◌, ◌≤◌, ◌^◌, ℕ, All, IfOk, List, false, length, map, true};
 ghost use Rattle.std.specs.List.{range_with_len};
 ghost use Rattle.std.specs.List.Sorted.{IsPermutation, IsSorted, IsStrictlyIncreasing};
+ghost use Rattle.plane_model.specs.Points.{same_point};
 ghost use Rattle.face_walk.specs.Places.{FaceTable, IsBuiltOf};
 ghost use Rattle.ring_trace.specs.Boundary.{sides_of};
 ghost use Rattle.ring_trace.specs.Joined.{AreJoinedBy};
@@ -9,9 +10,12 @@ ghost use Rattle.ring_trace.specs.Pairing.{
   AreBalanced,
   AreByStart,
   AreEdgesOf,
+  AreVertices,
   LeadOn,
   corner_cmp,
   end_corner,
+  same_corner,
+  start_corner,
   stop_corner,
 };
 ghost use Rattle.ring_trace.specs.Parts.{IsSide};
@@ -113,14 +117,50 @@ pub fn vertices_of(alloc: Global, edges: &[Edge]) -> Result<Vec<u32>, AllocError
     requires few { length edges.now < 2 ^ 32 }
     ensures each { IfOk result (λ v. length v.items ≡ length edges.now) }
     ensures there { IfOk result (λ v. All (λ k. k < length edges.now) v.items) }
+    ensures exact { AreByStart edges.now → IfOk result (λ v. AreVertices edges.now v.items) }
 {
     let mut vertices = Vec::with_capacity(alloc, edges.len())?;
     let mut first = 0;
     for k in 0..edges.len() {
-        if edges[k].part != edges[first].part || edges[k].start != edges[first].start {
-            first = k;
-        }
-        vertices.push(first as u32)?;
+        let vertex = vertex_of(edges, first, k);
+        vertices.push(vertex as u32)?;
+        first = vertex;
     }
     Ok(vertices)
+}
+
+// The place of the first edge that starts where the one at place `k` does, where that is at `first` or at `k`.
+fn vertex_of(edges: &[Edge], first: usize, k: usize) -> usize
+    requires first { first ≤ k }
+    requires place { k < length edges.now }
+    ensures within { result ≤ k }
+    ensures on { same_corner (start_corner (edge_at edges.now k)) (start_corner (edge_at edges.now first)) ≡ true → result ≡ first }
+    ensures anew { same_corner (start_corner (edge_at edges.now k)) (start_corner (edge_at edges.now first)) ≡ false → result ≡ k }
+{
+    if start_together(edges, k, first) {
+        first
+    } else {
+        k
+    }
+}
+
+// Whether two edges of one part start at one point.
+fn start_together(edges: &[Edge], j: usize, k: usize) -> bool
+    requires first { j < length edges.now }
+    requires second { k < length edges.now }
+    ensures exact { result ≡ same_corner (start_corner (edge_at edges.now j)) (start_corner (edge_at edges.now k)) }
+{
+    is_same_start(edges[j], edges[k])
+}
+
+fn is_same_start(a: Edge, b: Edge) -> bool
+    ensures exact { result ≡ same_corner (start_corner a) (start_corner b) }
+{
+    a.part == b.part && is_same(a.start, b.start)
+}
+
+fn is_same(p: Pt, q: Pt) -> bool
+    ensures exact { result ≡ same_point p q }
+{
+    p == q
 }

@@ -1,6 +1,7 @@
-ghost use Rattle.std.specs.Prelude.{◌≡◌, [], ◌<◌, ◌≤◌, ◌^◌, All, IfOk, OnOk, false, length, slice_index_or, slice_set, true};
+ghost use Rattle.std.specs.Prelude.{◌≡◌, [], ◌++◌, ◌<◌, ◌≤◌, ◌^◌, ℕ, All, IfOk, OnOk, drop, false, length, reverse, slice_index_or, slice_set, take, true};
 ghost use Rattle.std.specs.List.Sorted.{IsPermutation};
 ghost use Rattle.ring_trace.specs.Rings.{AreTiled, HasEachOnce, IsKept, IsSpan, IsWalk, IsWhole, StaysGone};
+ghost use Rattle.ring_trace.specs.Ways.{AreClosedWays, AreOnWay, AreRingsClosed, IsClosedWay, IsMarkedWay, IsWay, start_in, stop_in};
 
 use crate::pairing::{Edge, onward_of, vertices_of};
 use arc_table::ArcTable;
@@ -119,6 +120,14 @@ fn cut_ring(walk: &mut Walk, rings: &mut Rings, vertex: usize) -> Result<(), All
     ensures rings { OnOk result (IsWhole (length walk.old.onward.items) rings.new) }
     ensures kept { OnOk result (IsKept walk.new rings.new) }
     ensures gone { OnOk result (walk.new.is_gone.items ≡ walk.old.is_gone.items) }
+    ensures onward { OnOk result (walk.new.onward.items ≡ walk.old.onward.items) }
+    ensures vertices { OnOk result (walk.new.vertices.items ≡ walk.old.vertices.items) }
+    ensures marked { AreOnWay walk.old.vertices.items walk.old.is_passed.items walk.old.way.items →
+        OnOk result (AreOnWay walk.old.vertices.items walk.new.is_passed.items walk.new.way.items) }
+    ensures leads { (from : ℕ) → IsMarkedWay walk.old from vertex → slice_index_or walk.old.is_passed.items vertex false ≡ true →
+        OnOk result (IsWay (start_in walk.old.vertices.items) (stop_in walk.old.onward.items walk.old.vertices.items) from walk.new.way.items vertex) }
+    ensures closed { (from : ℕ) → IsMarkedWay walk.old from vertex → slice_index_or walk.old.is_passed.items vertex false ≡ true → AreRingsClosed walk.old rings.old →
+        OnOk result (AreRingsClosed walk.old rings.new) }
 {
     let begin = rings.edges.len();
     while let Some(edge) = walk.way.pop() {
@@ -143,6 +152,8 @@ fn close(walk: &mut Walk, rings: &mut Rings) -> Result<(), AllocError>
     ensures kept { OnOk result (IsKept walk.new rings.new) }
     ensures gone { OnOk result (walk.new.is_gone.items ≡ walk.old.is_gone.items) }
     ensures done { OnOk result (walk.new.way.items ≡ []) }
+    ensures closed { (from : ℕ) → IsWay (start_in walk.old.vertices.items) (stop_in walk.old.onward.items walk.old.vertices.items) from walk.old.way.items from → AreRingsClosed walk.old rings.old →
+        OnOk result (AreRingsClosed walk.old rings.new) }
 {
     let begin = rings.edges.len();
     while let Some(edge) = walk.way.pop() {
@@ -161,6 +172,8 @@ fn add_ring(rings: &mut Rings, begin: usize) -> Result<(), AllocError>
     ensures edges { OnOk result (IsPermutation rings.old.edges.items rings.new.edges.items) }
     ensures tiled { OnOk result (AreTiled 0 rings.new.spans.items (length rings.new.edges.items)) }
     ensures spans { OnOk result (All (IsSpan (length rings.new.edges.items)) rings.new.spans.items) }
+    ensures closed { (start stop : ℕ → ℕ) → AreClosedWays start stop (take begin rings.old.edges.items) rings.old.spans.items →
+        IsClosedWay start stop (reverse (drop begin rings.old.edges.items)) → OnOk result (AreClosedWays start stop rings.new.edges.items rings.new.spans.items) }
 {
     let end = rings.edges.len();
     turn_back(&mut rings.edges, begin);
@@ -171,7 +184,8 @@ fn add_ring(rings: &mut Rings, begin: usize) -> Result<(), AllocError>
 // Turns the order of the edges from a place on.
 fn turn_back(edges: &mut Vec<u32>, begin: usize)
     requires { begin ≤ length edges.old.items }
-    ensures { IsPermutation edges.old.items edges.new.items }
+    ensures moved { IsPermutation edges.old.items edges.new.items }
+    ensures exact { edges.new.items ≡ take begin edges.old.items ++ reverse (drop begin edges.old.items) }
 {
     edges[begin..].reverse();
 }

@@ -1,8 +1,11 @@
-use Rattle.std.proofs.Common.{rules, ◌≡◌, ◌∙◌, sym, ap, subst, arith, ℕ, ◌+◌, ◌<◌, Some, List, [], ◌∷◌, ◌++◌, length, All, length-set}
+use Rattle.std.proofs.Common.{rules, refl, drop, reverse, ◌≡◌, ◌∙◌, sym, ap, subst, arith, ℕ, ◌+◌, ◌<◌, Some, List, [], ◌∷◌, ◌++◌, length, All, length-set}
 use Rattle.std.specs.List.{sum_by}
 use Rattle.std.specs.List.Sorted.{IsPermutation}
 use Rattle.std.proofs.lemmas.Result.{on_ok_weaker}
 use Rattle.std.proofs.lemmas.List.{length_push}
+use Rattle.ring_trace.specs.declared.simple_rings.RingSpan.{RingSpan}
+use Rattle.ring_trace.specs.Ways.{IsWay, IsClosedWay, AreClosedWays, start_in, stop_in}
+use Rattle.ring_trace.proofs.WayLemmas.{IsMoved, none_moved, moved_more}
 use Rattle.std.proofs.lemmas.List.Elements.{All-pop}
 use Rattle.std.proofs.lemmas.List.Sums.{sum_by_push}
 use Rattle.std.proofs.lemmas.List.Sorted.{sum_by-IsPermutation, All-permutation}
@@ -11,6 +14,22 @@ use Rattle.ring_trace.specs.declared.simple_rings.Walk.{Walk}
 use Rattle.ring_trace.specs.Rings.{AreTiled, IsSpan, IsWhole, IsKept, sum_where}
 use Rattle.ring_trace.proofs.TileLemmas.{on_ok_both, whole_pushed, AreBelow}
 use Rattle.ring_trace.proofs.simple_rings.close.Goals as goal
+
+pub loop-edge-init : goal.loop-edge-init
+loop-edge-init c =
+    let way = c.args.walk.now.way.items in
+    let edges = c.args.rings.now.edges.items in
+    let begin : c.len-begin.result ≡ length edges = search rules in (
+      c.requires.walk,
+      refl,
+      c.requires.rings,
+      (omega arith),
+      λ g. refl,
+      refl,
+      refl,
+      begin,
+      subst (λ (n : ℕ). IsMoved n way edges edges way) (sym begin) (none_moved way edges),
+    )
 
 pub loop-edge-preserved : goal.loop-edge-preserved
 loop-edge-preserved c =
@@ -43,6 +62,7 @@ loop-edge-preserved c =
       c.loop-edge.invariant.5,
       c.loop-edge.invariant.6,
       c.loop-edge.invariant.7,
+      moved_more c.len-begin.result c.args.walk.now.way.items c.args.rings.now.edges.items c.loop-edge.rings.edges.items c.push.new.self.items c.loop-edge.walk.way.items c.pop.new.self.items e begin c.in_ok-push.ensures.items c.in-Some.ensures.items c.loop-edge.invariant.8,
     )
 
 pub returns-clause-rings : goal.returns-clause-rings
@@ -71,3 +91,15 @@ returns-clause-kept c =
       tiled = h.1;
     })
     (on_ok_both (IsPermutation old new) (AreTiled 0 c.add_ring.new.rings.spans.items (length new)) c.add_ring.result c.add_ring.ensures.edges c.add_ring.ensures.tiled)
+
+pub returns-clause-closed : goal.returns-clause-closed
+returns-clause-closed c = λ from leads old.
+    let start : ℕ → ℕ = start_in c.args.walk.now.vertices.items in
+    let stop : ℕ → ℕ = stop_in c.args.walk.now.onward.items c.args.walk.now.vertices.items in
+    let none : c.loop-edge.walk.way.items ≡ [] = search rules in
+    let moved = c.loop-edge.invariant.8 in
+    let ring : List ℕ = reverse (drop c.len-begin.result c.loop-edge.rings.edges.items) in
+    let whole : ring ≡ c.args.walk.now.way.items = ap (λ (ys : List ℕ). ys ++ ring) (sym none) ∙ moved.back in
+    c.add_ring.ensures.closed start stop
+    (subst (λ (es : List ℕ). AreClosedWays start stop es c.loop-edge.rings.spans.items) (sym moved.front) (subst (λ (ss : List RingSpan). AreClosedWays start stop c.args.rings.now.edges.items ss) (sym c.loop-edge.invariant.6) old))
+    (record { at = from; way = subst (λ (xs : List ℕ). IsWay start stop from xs from) (sym whole) leads })

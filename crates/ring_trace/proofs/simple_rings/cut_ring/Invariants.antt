@@ -1,6 +1,8 @@
-use Rattle.std.proofs.Common.{◌≡◌, ℕ, ◌+◌, ◌≤◌, length, vec_len}
+use Rattle.std.proofs.Common.{◌≡◌, ℕ, ◌+◌, ◌≤◌, false, true, length, get_or, map, Contains, vec_len}
 use Rattle.std.specs.List.{sum_by}
 use Rattle.ring_trace.specs.Rings.{IsWalk, IsWhole}
+use Rattle.ring_trace.specs.Ways.{AreOnWay, start_in}
+use Rattle.ring_trace.proofs.WayLemmas.{IsMoved}
 use Rattle.ring_trace.proofs.simple_rings.cut_ring.Given as goal
 
 abbrev pub invariant-loop-edge : goal.invariant-loop-edge
@@ -13,6 +15,12 @@ invariant-loop-edge l =
     × (l.walk.is_gone.items ≡ l.fn.walk.is_gone.items)
     × (l.rings.spans.items ≡ l.fn.rings.spans.items)
     × (l.begin ≡ length l.fn.rings.edges.items)
+    × (l.walk.onward.items ≡ l.fn.walk.onward.items)
+    × (l.walk.vertices.items ≡ l.fn.walk.vertices.items)
+    × IsMoved l.begin l.fn.walk.way.items l.fn.rings.edges.items l.rings.edges.items l.walk.way.items
+    × (AreOnWay l.fn.walk.vertices.items l.fn.walk.is_passed.items l.fn.walk.way.items → AreOnWay l.fn.walk.vertices.items l.walk.is_passed.items l.walk.way.items)
+    × (AreOnWay l.fn.walk.vertices.items l.fn.walk.is_passed.items l.fn.walk.way.items → get_or l.fn.walk.is_passed.items l.vertex false ≡ true →
+    Contains (map (start_in l.fn.walk.vertices.items) l.walk.way.items) l.vertex)
 
 abbrev pub decreases-loop-edge : goal.decreases-loop-edge
 decreases-loop-edge l = vec_len l.walk.way
