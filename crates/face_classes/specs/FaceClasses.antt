@@ -1,0 +1,38 @@
+-- The faces of a table as labels of the places of the plane.
+use Rattle.std.specs.Prelude.{◌≡◌, ◌⊎◌, ℕ, ◌+◌, ◌<◌, List, All, Contains, [], length, slice_get, slice_index, slice_index_or, Some}
+use Rattle.plane_model.specs.Points.{Segment, Path, link_between}
+use Rattle.plane_model.specs.Drawing.{steps}
+use Rattle.plane_model.specs.Arcs.{forward, backward}
+use Rattle.plane_model.specs.Arrangement.{IsArrangement}
+use Rattle.plane_faces.specs.Around.{opposite}
+use Rattle.plane_faces.specs.Labels.{IsFaceLabelling}
+use Rattle.plane_faces.specs.Places.{Place, outside, left_of}
+use Rattle.plane_faces.specs.Rings.{darts_of_path}
+use Rattle.arc_table.specs.Along.{GoAlong}
+use Rattle.face_walk.specs.Places.{FaceTable, IsBuiltOf, place_of}
+
+-- the steps i and i + 1 of arc n
+pub record AreNeighbours (arcs : List Path) (n i : ℕ) (s t : Segment) : Type 0 where
+  pub first : slice_get (steps (slice_index_or arcs n [])) i ≡ Some s
+  pub second : slice_get (steps (slice_index_or arcs n [])) (i + 1) ≡ Some t
+
+-- where two steps of an arc follow each other, no other link ends
+abbrev pub AreFreeInside : List Segment → List Path → Type 0
+AreFreeInside S arcs = (n i : ℕ) (s t : Segment) → AreNeighbours arcs n i s t → (l : Segment) → Contains S l → (l.start ≡ t.start) ⊎ (l.stop ≡ t.start) → (l ≡ link_between s) ⊎ (l ≡ link_between t)
+
+-- f has at the places beside the arcs what g has at their numbers: left of each dart of an arc that of the place left of the arc, and right of
+-- it that of the place right of the arc
+pub record IsByNumber {A : Type 0} (arcs : List Path) (g : ℕ → A) (f : Place → A) : Type 0 where
+  pub outside_all : f outside ≡ g 0
+  pub left : (n : ℕ) → n < length arcs → All (λ d. f (left_of d) ≡ g (place_of (forward n))) (darts_of_path (slice_index_or arcs n []))
+  pub right : (n : ℕ) → n < length arcs → All (λ d. f (left_of (opposite d)) ≡ g (place_of (backward n))) (darts_of_path (slice_index_or arcs n []))
+
+-- the label of a place is its face
+abbrev pub IsFaceOfPlace : List Path → FaceTable → (Place → ℕ) → Type 0
+IsFaceOfPlace arcs faces label = IsByNumber arcs (λ n. slice_index faces.places n) label
+
+-- ---- law: the faces of a table of the arcs of an arrangement are the classes of the plane
+
+abbrev pub FacesAreClasses : Type 0
+FacesAreClasses = (S : List Segment) → IsArrangement S → (arcs : List Path) → All (λ arc. 1 < length arc) arcs → GoAlong S arcs → AreFreeInside S arcs →
+    (faces : FaceTable) → IsBuiltOf arcs faces → (label : Place → ℕ) → IsFaceOfPlace arcs faces label → IsFaceLabelling S label
