@@ -6,3 +6,4 @@ pub mod DrawnLemmas
 pub mod AlongLemmas
 pub mod SectorRows
 pub mod ClassLemmas
+pub mod LabelLemmas

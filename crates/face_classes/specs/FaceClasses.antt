@@ -31,8 +31,13 @@ pub record IsByNumber {A : Type 0} (arcs : List Path) (g : ℕ → A) (f : Place
 abbrev pub IsFaceOfPlace : List Path → FaceTable → (Place → ℕ) → Type 0
 IsFaceOfPlace arcs faces label = IsByNumber arcs (λ n. slice_index faces.places n) label
 
--- ---- law: the faces of a table of the arcs of an arrangement are the classes of the plane
+-- ---- laws
 
+-- the places of the plane can be labelled so
+abbrev pub EachTableHasLabels : Type 0
+EachTableHasLabels = (S : List Segment) → IsArrangement S → (arcs : List Path) → GoAlong S arcs → (faces : FaceTable) → (label : Place → ℕ) × IsFaceOfPlace arcs faces label
+
+-- the faces of a table of the arcs of an arrangement are the classes of the plane
 abbrev pub FacesAreClasses : Type 0
 FacesAreClasses = (S : List Segment) → IsArrangement S → (arcs : List Path) → All (λ arc. 1 < length arc) arcs → GoAlong S arcs → AreFreeInside S arcs →
     (faces : FaceTable) → IsBuiltOf arcs faces → (label : Place → ℕ) → IsFaceOfPlace arcs faces label → IsFaceLabelling S label
