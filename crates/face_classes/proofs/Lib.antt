@@ -7,3 +7,4 @@ pub mod AlongLemmas
 pub mod SectorRows
 pub mod ClassLemmas
 pub mod LabelLemmas
+pub mod PointLemmas

@@ -1,15 +1,16 @@
 -- The faces of a table as labels of the places of the plane.
-use Rattle.std.specs.Prelude.{◌≡◌, ◌⊎◌, ℕ, ◌+◌, ◌<◌, List, All, Contains, [], length, slice_get, slice_index, slice_index_or, Some}
-use Rattle.plane_model.specs.Points.{Segment, Path, link_between}
+use Rattle.std.specs.Prelude.{◌≡◌, ◌⊎◌, ◌↔◌, ℕ, ◌+◌, ◌<◌, List, All, Contains, [], length, slice_get, slice_index, slice_index_or, Some}
+use Rattle.plane_model.specs.Points.{GridPoint, Segment, Path, at, link_between}
 use Rattle.plane_model.specs.Drawing.{steps}
 use Rattle.plane_model.specs.Arcs.{forward, backward}
-use Rattle.plane_model.specs.Arrangement.{IsArrangement}
+use Rattle.plane_model.specs.Arrangement.{IsArrangement, IsDistinct}
+use Rattle.plane_model.specs.Joined.{AreOfOneFace}
 use Rattle.plane_faces.specs.Around.{opposite}
 use Rattle.plane_faces.specs.Labels.{IsFaceLabelling}
 use Rattle.plane_faces.specs.Places.{Place, outside, left_of}
 use Rattle.plane_faces.specs.Rings.{darts_of_path}
 use Rattle.arc_table.specs.Along.{GoAlong}
-use Rattle.face_walk.specs.Places.{FaceTable, IsBuiltOf, place_of}
+use Rattle.face_walk.specs.Places.{FaceTable, IsBuiltOf, IsFaceOver, place_of}
 
 -- the steps i and i + 1 of arc n
 pub record AreNeighbours (arcs : List Path) (n i : ℕ) (s t : Segment) : Type 0 where
@@ -41,3 +42,8 @@ EachTableHasLabels = (S : List Segment) → IsArrangement S → (arcs : List Pat
 abbrev pub FacesAreClasses : Type 0
 FacesAreClasses = (S : List Segment) → IsArrangement S → (arcs : List Path) → All (λ arc. 1 < length arc) arcs → GoAlong S arcs → AreFreeInside S arcs →
     (faces : FaceTable) → IsBuiltOf arcs faces → (label : Place → ℕ) → IsFaceOfPlace arcs faces label → IsFaceLabelling S label
+
+-- so two points have one face in the table exactly if they are of one face: no closed runs of links separate them
+abbrev pub PointsHaveOneFace : Type 0
+PointsHaveOneFace = (S : List Segment) → IsArrangement S → IsDistinct S → (arcs : List Path) → All (λ arc. 1 < length arc) arcs → GoAlong S arcs → AreFreeInside S arcs →
+    (faces : FaceTable) → IsBuiltOf arcs faces → (p q : GridPoint) (f g : ℕ) → IsFaceOver faces p f → IsFaceOver faces q g → (f ≡ g) ↔ AreOfOneFace S (at p) (at q)

@@ -4,7 +4,7 @@
 //! Each function carries one law in its contract, and does nothing.
 #![tactic(auto)]
 
-ghost use Rattle.face_classes.specs.FaceClasses.{EachTableHasLabels, FacesAreClasses};
+ghost use Rattle.face_classes.specs.FaceClasses.{EachTableHasLabels, FacesAreClasses, PointsHaveOneFace};
 
 /// The places of the plane can be labelled by the faces of a table of arcs that go along each link of an arrangement once.
 pub fn each_table_has_labels()
@@ -15,4 +15,10 @@ pub fn each_table_has_labels()
 /// arc no other link ends.
 pub fn faces_are_classes()
     ensures { FacesAreClasses }
+{}
+
+/// Two points of the grid have one face in a table exactly if they are of one face of the plane: no closed runs of links
+/// separate them.
+pub fn points_have_one_face()
+    ensures { PointsHaveOneFace }
 {}
