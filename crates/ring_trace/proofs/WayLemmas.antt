@@ -5,7 +5,7 @@ use Rattle.std.proofs.lemmas.List.{map_push, get_or-set_same, get_or-set_other, 
 use Rattle.std.proofs.lemmas.List.Elements.{All-push, All-nil, All-cons, Contains-push_cases, Contains-append_left, Contains-push}
 use Rattle.ring_trace.specs.declared.simple_rings.RingSpan.{RingSpan}
 use Rattle.ring_trace.specs.Rings.{AreTiled}
-use Rattle.ring_trace.specs.Ways.{IsWay, IsClosedWay, AreClosedWays, AreOnWay, edges_in, start_in}
+use Rattle.ring_trace.specs.Ways.{IsWay, IsClosedWay, AreClosedWays, AreOnWay, edges_in, start_in, stop_in}
 
 module _ {E V : Type 0} (start stop : E → V) where
   pub way_split : (v w : V) (xs ys : List E) → IsWay start stop v (xs ++ ys) w → (u : V) × IsWay start stop v xs u × IsWay start stop u ys w
@@ -44,6 +44,19 @@ marks_popped vertices is_passed way e l h v m = elim (cases_eq v (start_in verti
         | inr same ↦ absurd (other (sym same))
       ]
 ]
+
+-- one edge more on the way
+pub gone_along : (onward vertices o v : List ℕ) (from vertex edge : ℕ) (way new : List ℕ) (passed : List Bool) → o ≡ onward → v ≡ vertices → new ≡ way ++ edge ∷ [] → vertex ≡ start_in vertices edge →
+    IsWay (start_in vertices) (stop_in onward vertices) from way vertex → AreOnWay vertices passed way → IsWay (start_in v) (stop_in o v) from new (stop_in onward vertices edge) × AreOnWay v (set passed vertex true) new
+gone_along onward vertices o v from vertex edge way new passed same_onward same_vertices items is leads marks = (
+  subst (λ (z : List ℕ). IsWay (start_in z) (stop_in o z) from new (stop_in onward vertices edge)) (sym same_vertices)
+      (subst (λ (y : List ℕ). IsWay (start_in vertices) (stop_in y vertices) from new (stop_in onward vertices edge)) (sym same_onward)
+      (subst (λ (xs : List ℕ). IsWay (start_in vertices) (stop_in onward vertices) from xs (stop_in onward vertices edge)) (sym items)
+      (way_push (start_in vertices) (stop_in onward vertices) from way edge (subst (λ (x : ℕ). IsWay (start_in vertices) (stop_in onward vertices) from way x) is leads)))),
+  subst (λ (z : List ℕ). AreOnWay z (set passed vertex true) new) (sym same_vertices)
+      (subst (λ (xs : List ℕ). AreOnWay vertices (set passed vertex true) xs) (sym items)
+      (subst (λ (x : ℕ). AreOnWay vertices (set passed x true) (way ++ edge ∷ [])) (sym is) (marks_pushed vertices passed way edge marks))),
+)
 
 -- another vertex than the one of the edge that is taken away is still on the way
 pub still_on : (vertices way : List ℕ) (e v : ℕ) → Contains (map (start_in vertices) (way ++ e ∷ [])) v → (start_in vertices e ≡ v → ⊥) → Contains (map (start_in vertices) way) v

@@ -1,4 +1,4 @@
-ghost use Rattle.std.specs.Prelude.{◌≡◌, [], ◌++◌, ◌<◌, ◌≤◌, ◌^◌, ℕ, All, IfOk, OnOk, drop, false, length, reverse, slice_index_or, slice_set, take, true};
+ghost use Rattle.std.specs.Prelude.{◌≡◌, [], ◌++◌, ◌<◌, ◌≤◌, ◌^◌, ℕ, All, IfOk, OnOk, drop, false, length, reverse, slice_index, slice_index_or, slice_set, take, true};
 ghost use Rattle.std.specs.List.Sorted.{IsPermutation};
 ghost use Rattle.ring_trace.specs.Rings.{AreTiled, HasEachOnce, IsKept, IsSpan, IsWalk, IsWhole, StaysGone};
 ghost use Rattle.ring_trace.specs.Ways.{AreClosedWays, AreOnWay, AreRingsClosed, IsClosedWay, IsMarkedWay, IsWay, start_in, stop_in};
@@ -99,6 +99,12 @@ fn go_along(walk: &mut Walk, rings: &mut Rings, edge: usize) -> Result<usize, Al
     ensures kept { OnOk result (IsKept walk.new rings.new) }
     ensures gone { OnOk result (walk.new.is_gone.items ≡ slice_set walk.old.is_gone.items edge true) }
     ensures next { IfOk result (λ next. next < length walk.old.onward.items) }
+    ensures onward { OnOk result (walk.new.onward.items ≡ walk.old.onward.items) }
+    ensures vertices { OnOk result (walk.new.vertices.items ≡ walk.old.vertices.items) }
+    ensures leads { (from : ℕ) → IsMarkedWay walk.old from (start_in walk.old.vertices.items edge) →
+        OnOk result (IsMarkedWay walk.new from (stop_in walk.old.onward.items walk.old.vertices.items edge)) }
+    ensures closed { (from : ℕ) → IsMarkedWay walk.old from (start_in walk.old.vertices.items edge) → AreRingsClosed walk.old rings.old → OnOk result (AreRingsClosed walk.old rings.new) }
+    ensures follows { IfOk result (λ next. next ≡ slice_index walk.old.onward.items edge) }
 {
     let vertex = walk.vertices[edge] as usize;
     if walk.is_passed[vertex] {
