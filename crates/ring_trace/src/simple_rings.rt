@@ -158,6 +158,10 @@ fn close(walk: &mut Walk, rings: &mut Rings) -> Result<(), AllocError>
     ensures kept { OnOk result (IsKept walk.new rings.new) }
     ensures gone { OnOk result (walk.new.is_gone.items ≡ walk.old.is_gone.items) }
     ensures done { OnOk result (walk.new.way.items ≡ []) }
+    ensures onward { OnOk result (walk.new.onward.items ≡ walk.old.onward.items) }
+    ensures vertices { OnOk result (walk.new.vertices.items ≡ walk.old.vertices.items) }
+    ensures marked { AreOnWay walk.old.vertices.items walk.old.is_passed.items walk.old.way.items →
+        OnOk result (AreOnWay walk.old.vertices.items walk.new.is_passed.items walk.new.way.items) }
     ensures closed { (from : ℕ) → IsWay (start_in walk.old.vertices.items) (stop_in walk.old.onward.items walk.old.vertices.items) from walk.old.way.items from → AreRingsClosed walk.old rings.old →
         OnOk result (AreRingsClosed walk.old rings.new) }
 {

@@ -1,11 +1,11 @@
-use Rattle.std.proofs.Common.{rules, refl, drop, reverse, ◌≡◌, ◌∙◌, sym, ap, subst, arith, ℕ, ◌+◌, ◌<◌, Some, List, [], ◌∷◌, ◌++◌, length, All, length-set}
+use Rattle.std.proofs.Common.{rules, refl, false, get_or, set, drop, reverse, ◌≡◌, ◌∙◌, sym, ap, subst, arith, ℕ, ◌+◌, ◌<◌, Some, List, [], ◌∷◌, ◌++◌, length, All, length-set}
 use Rattle.std.specs.List.{sum_by}
 use Rattle.std.specs.List.Sorted.{IsPermutation}
 use Rattle.std.proofs.lemmas.Result.{on_ok_weaker}
-use Rattle.std.proofs.lemmas.List.{length_push}
+use Rattle.std.proofs.lemmas.List.{length_push, get_or_default}
 use Rattle.ring_trace.specs.declared.simple_rings.RingSpan.{RingSpan}
-use Rattle.ring_trace.specs.Ways.{IsWay, IsClosedWay, AreClosedWays, start_in, stop_in}
-use Rattle.ring_trace.proofs.WayLemmas.{IsMoved, none_moved, moved_more}
+use Rattle.ring_trace.specs.Ways.{IsWay, IsClosedWay, AreClosedWays, AreOnWay, start_in, stop_in}
+use Rattle.ring_trace.proofs.WayLemmas.{IsMoved, none_moved, moved_more, marks_popped}
 use Rattle.std.proofs.lemmas.List.Elements.{All-pop}
 use Rattle.std.proofs.lemmas.List.Sums.{sum_by_push}
 use Rattle.std.proofs.lemmas.List.Sorted.{sum_by-IsPermutation, All-permutation}
@@ -29,6 +29,9 @@ loop-edge-init c =
       refl,
       begin,
       subst (λ (n : ℕ). IsMoved n way edges edges way) (sym begin) (none_moved way edges),
+      refl,
+      refl,
+      λ h. h,
     )
 
 pub loop-edge-preserved : goal.loop-edge-preserved
@@ -41,7 +44,12 @@ loop-edge-preserved c =
     let here : e < n = (let l = popped.1 in omega arith) in
     let more = whole_pushed n c.loop-edge.rings.edges.items c.push.new.self.items c.loop-edge.rings.spans.items e c.in_ok-push.ensures.items here c.loop-edge.invariant.2.edges c.loop-edge.invariant.2.spans in
     let size = ap (λ (xs : List ℕ). length xs) c.in_ok-push.ensures.items ∙ length_push c.loop-edge.rings.edges.items e in
-    let begin = c.loop-edge.invariant.3 in (
+    let begin = c.loop-edge.invariant.3 in
+    let vertices = c.args.walk.now.vertices.items in
+    let there : e < length c.loop-edge.walk.vertices.items = (let v = w.vertices_each in omega arith) in
+    let same_list = c.loop-edge.invariant.10 in
+    let is : c.index.result.now ≡ start_in vertices e = c.index.ensures ∙ get_or_default c.loop-edge.walk.vertices.items e c.index.result.now 0 there ∙ ap (λ (xs : List ℕ). get_or xs e 0) same_list in
+    let small : start_in vertices e < length c.loop-edge.walk.is_passed.items = subst (λ (xs : List ℕ). get_or xs e 0 < length c.loop-edge.walk.is_passed.items) same_list (let v = w.vertices e 0 there in let q = w.passed_each in omega arith) in (
       record {
         few = w.few;
         onward = w.onward;
@@ -63,6 +71,10 @@ loop-edge-preserved c =
       c.loop-edge.invariant.6,
       c.loop-edge.invariant.7,
       moved_more c.len-begin.result c.args.walk.now.way.items c.args.rings.now.edges.items c.loop-edge.rings.edges.items c.push.new.self.items c.loop-edge.walk.way.items c.pop.new.self.items e begin c.in_ok-push.ensures.items c.in-Some.ensures.items c.loop-edge.invariant.8,
+      c.loop-edge.invariant.9,
+      c.loop-edge.invariant.10,
+      λ h. subst (λ (x : ℕ). AreOnWay vertices (set c.loop-edge.walk.is_passed.items x false) c.pop.new.self.items) (sym is)
+          (marks_popped vertices c.loop-edge.walk.is_passed.items c.pop.new.self.items e small (subst (λ (xs : List ℕ). AreOnWay vertices c.loop-edge.walk.is_passed.items xs) c.in-Some.ensures.items (c.loop-edge.invariant.11 h))),
     )
 
 pub returns-clause-rings : goal.returns-clause-rings
@@ -103,3 +115,14 @@ returns-clause-closed c = λ from leads old.
     c.add_ring.ensures.closed start stop
     (subst (λ (es : List ℕ). AreClosedWays start stop es c.loop-edge.rings.spans.items) (sym moved.front) (subst (λ (ss : List RingSpan). AreClosedWays start stop c.args.rings.now.edges.items ss) (sym c.loop-edge.invariant.6) old))
     (record { at = from; way = subst (λ (xs : List ℕ). IsWay start stop from xs from) (sym whole) leads })
+
+pub returns-clause-onward : goal.returns-clause-onward
+returns-clause-onward c = on_ok_weaker c.add_ring.result (λ h. c.loop-edge.invariant.9) c.add_ring.ensures.edges
+
+pub returns-clause-vertices : goal.returns-clause-vertices
+returns-clause-vertices c = on_ok_weaker c.add_ring.result (λ h. c.loop-edge.invariant.10) c.add_ring.ensures.edges
+
+pub returns-clause-marked : goal.returns-clause-marked
+returns-clause-marked c = λ h.
+    let rest : c.loop-edge.walk.way.items ≡ c.pop.new.self.items = search rules in
+    on_ok_weaker c.add_ring.result (λ _. subst (λ (ys : List ℕ). AreOnWay c.args.walk.now.vertices.items c.loop-edge.walk.is_passed.items ys) rest (c.loop-edge.invariant.11 h)) c.add_ring.ensures.edges
