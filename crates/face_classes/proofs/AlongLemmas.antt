@@ -13,7 +13,7 @@ use Rattle.arc_table.specs.Along.{GoAlong}
 use Rattle.face_classes.specs.FaceClasses.{AreFreeInside, IsByNumber}
 use Rattle.face_walk.specs.PlaceNumbers.{place_of}
 use Rattle.face_classes.proofs.DartLemmas.{twice_opposite, on_next, back_next}
-use Rattle.face_classes.proofs.StepLemmas.{IsStep, arc_of, step_at, step_on, step_moves, steps_are_neighbours, they_meet}
+use Rattle.face_classes.proofs.StepLemmas.{IsStep, arc_of, step_at, step_on, step_moves, alone_inside, they_meet}
 
 none : Segment
 none = record { start = record { x = pos 0; y = pos 0 }; stop = record { x = pos 0; y = pos 0 } }
@@ -59,10 +59,10 @@ IsOneInSectors S f = (d e : Dart) → Contains S d.link → Contains S e.link �
 
 module _ (S : List Segment) (arr : IsArrangement S) (arcs : List Path) (long : All (λ arc. 1 < length arc) arcs) (along : GoAlong S arcs) (free : AreFreeInside S arcs) where
   pub inner_on : (n i : ℕ) (s t : Segment) → IsStep arcs n i s → IsStep arcs n (i + 1) t → IsNext S (dart_of_step t) (opposite (dart_of_step s))
-  inner_on n i s t h k = on_next S s t (they_meet arcs n i s t h k) (step_moves arcs S arr long along n i s h) (step_moves arcs S arr long along n (i + 1) t k) (free n i s t (steps_are_neighbours arcs n i s t h k))
+  inner_on n i s t h k = on_next S s t (they_meet arcs n i s t h k) (step_moves arcs S arr long along n i s h) (step_moves arcs S arr long along n (i + 1) t k) (alone_inside S arr arcs long along free n i s t h k)
 
   pub inner_back : (n i : ℕ) (s t : Segment) → IsStep arcs n i s → IsStep arcs n (i + 1) t → IsNext S (opposite (dart_of_step s)) (dart_of_step t)
-  inner_back n i s t h k = back_next S s t (they_meet arcs n i s t h k) (step_moves arcs S arr long along n i s h) (step_moves arcs S arr long along n (i + 1) t k) (free n i s t (steps_are_neighbours arcs n i s t h k))
+  inner_back n i s t h k = back_next S s t (they_meet arcs n i s t h k) (step_moves arcs S arr long along n i s h) (step_moves arcs S arr long along n (i + 1) t k) (alone_inside S arr arcs long along free n i s t h k)
 
   module _ {A : Type 0} (f : Place → A) (sector : IsOneInSectors S f) where
     abbrev Sides : Segment → Segment → Type 0

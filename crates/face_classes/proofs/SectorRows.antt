@@ -20,7 +20,7 @@ use Rattle.face_walk.specs.PlaceNumbers.{place_of}
 use Rattle.face_walk.specs.Sectors.{arc_at, first_in_row, goes_on, next_in_row, place_right_of}
 use Rattle.face_walk.proofs.SectorLemmas.{first_within, next_on, next_off}
 use Rattle.face_classes.proofs.DartLemmas.{Moves, dart_back, ends_differ, step_back, step_head, step_tail, twice_opposite}
-use Rattle.face_classes.proofs.StepLemmas.{IsInnerDart, IsStep, arc_of, begins_with, first_link, none_starts_inside, one_place, step_moves, step_on, steps_are_neighbours, they_meet, where_it_starts}
+use Rattle.face_classes.proofs.StepLemmas.{IsInnerDart, IsStep, arc_of, begins_with, first_link, none_starts_inside, one_place, step_moves, step_on, alone_inside, they_meet, where_it_starts}
 use Rattle.face_classes.proofs.RoundLemmas.{IsRow, first_after_last, next_is_next, turns_first}
 use Rattle.face_classes.proofs.TurnedRows.{first_starts, in_turn, is_there, none_after, none_before, on_starts, stands, start_is}
 use Rattle.face_classes.proofs.DrawnLemmas.{left_at, right_at}
@@ -104,7 +104,7 @@ module _ (S : List Segment) (arr : IsArrangement S) (arcs : List Path) (long : A
           (k, (l, ap (start_of arcs) is ∙ sym (step_tail (first_step arcs a)) ∙ ap tail (sym first.dart) ∙ e), ap dart_of is ∙ sym first.dart))
       | inr r ↦ (
           let (n, j, s, u, inner) = r in
-          absurd (none_starts_inside S arr arcs long along n j s u inner.before inner.after (free n j s u (steps_are_neighbours arcs n j s u inner.before inner.after)) (arc_at outs i) (there i w.0)
+          absurd (none_starts_inside S arr arcs long along n j s u inner.before inner.after (alone_inside S arr arcs long along free n j s u inner.before inner.after) (arc_at outs i) (there i w.0)
           (w.1 ∙ sym e ∙ starts_there n j s u inner)))
     ]
       where

@@ -1,10 +1,9 @@
 -- The steps of arcs, and the links and darts of a drawing along them.
-use Rattle.std.proofs.Common.{◌≡◌, ◌⊎◌, inl, inr, refl, sym, ap, ◌∙◌, subst, arith, ℕ, zero, suc, ◌+◌, ◌-◌, ◌<◌, Bool, true, false, cond, List, [], ◌∷◌, ◌++◌, map, length, get_or, All, AllPairs, Contains, Some, pos}
+use Rattle.std.proofs.Common.{◌≡◌, ◌⊎◌, inl, inr, refl, sym, ap, ◌∙◌, subst, arith, ℕ, zero, suc, ◌+◌, ◌-◌, ◌<◌, Bool, true, false, cond, List, [], ◌∷◌, ◌++◌, map, length, get_or, All, AllPairs, Contains, pos}
 use Rattle.std.specs.Prelude.{◌≢◌}
 use Rattle.std.proofs.lemmas.Bool.{cases_lt}
 use Rattle.std.proofs.lemmas.List.{get_or_default, get_or-map, length-map, get_or_append_left, get_or-append-add, length-append}
 use Rattle.std.proofs.lemmas.List.Elements.{All-contains}
-use Rattle.std.proofs.lemmas.Option.{slice_get-get_or}
 use Rattle.lists.proofs.Members.{Contains-map, map-Contains, Contains-flat_map, flat_map-Contains}
 use Rattle.plane_model.specs.Points.{GridPoint, Segment, Path, is_before, link_between, reversed}
 use Rattle.plane_model.specs.Drawing.{steps, steps_of_paths}
@@ -15,7 +14,7 @@ use Rattle.plane_faces.specs.Around.{opposite}
 use Rattle.plane_faces.specs.Rings.{dart_of_step}
 use Rattle.arc_table.specs.Along.{GoAlong, links_of_arcs}
 use Rattle.arc_table.specs.Around.{first_step, start_of}
-use Rattle.face_classes.specs.FaceClasses.{AreNeighbours}
+use Rattle.face_classes.specs.FaceClasses.{AreFreeInside}
 use Rattle.face_classes.proofs.DartLemmas.{Moves, one_of_two, dart_back, ends_differ}
 
 -- ---- the steps of a path
@@ -32,6 +31,15 @@ step_between (p ∷ q ∷ rest) zero s d l = refl
 step_between (p ∷ q ∷ rest) (suc j) s d l =
     let e : suc (j + 1) ≡ suc j + 1 = omega arith in
     step_between (q ∷ rest) j s d (omega arith) ∙ (λ i. record { start = get_or (q ∷ rest) j d; stop = get_or (p ∷ q ∷ rest) (e i) d })
+
+-- the link of a step ends where the step starts or stops
+pub link_ends : (s : Segment) (p : GridPoint) → (s.start ≡ p) ⊎ (s.stop ≡ p) → ((link_between s).start ≡ p) ⊎ ((link_between s).stop ≡ p)
+link_ends s p h = go (is_before s.start s.stop) h
+  where
+    go : (b : Bool) → (s.start ≡ p) ⊎ (s.stop ≡ p) → ((cond b s (reversed s)).start ≡ p) ⊎ ((cond b s (reversed s)).stop ≡ p)
+    go true h = h
+    go false (inl e) = inr e
+    go false (inr e) = inl e
 
 -- ---- the steps of arcs
 
@@ -59,12 +67,6 @@ module _ (arcs : List Path) where
   pub step_at : (n j : ℕ) (d : Segment) → n < length arcs → j < length (steps (arc_of arcs n)) → IsStep arcs n j (get_or (steps (arc_of arcs n)) j d)
   step_at n j d a l =
       let xs : List Segment = steps (arc_of arcs n) in record { arc = a; there = l; is = get_or_default xs j (get_or xs j d) d l }
-
-  pub steps_are_neighbours : (n i : ℕ) (s t : Segment) → IsStep arcs n i s → IsStep arcs n (i + 1) t → AreNeighbours arcs n i s t
-  steps_are_neighbours n i s t h k = record {
-    first = slice_get-get_or (steps (arc_of arcs n)) i s h.there ∙ ap Some h.is;
-    second = slice_get-get_or (steps (arc_of arcs n)) (i + 1) t k.there ∙ ap Some k.is;
-  }
 
   pub they_meet : (n i : ℕ) (s t : Segment) → IsStep arcs n i s → IsStep arcs n (i + 1) t → s.stop ≡ t.start
   they_meet n i s t h k =
@@ -210,6 +212,32 @@ module _ (S : List Segment) (arr : IsArrangement S) (arcs : List Path) (long : A
       go true = ap (λ (d : Dart). d.link) (dart_back s (step_moves arcs S arr long along a.arc j s h.step))
       go false = refl
 
+  -- where two steps of an arc follow each other, no other link ends
+  pub alone_inside : AreFreeInside S arcs → (n i : ℕ) (s t : Segment) → IsStep arcs n i s → IsStep arcs n (i + 1) t
+      → (l : Segment) → Contains S l → (l.start ≡ t.start) ⊎ (l.stop ≡ t.start) → (l ≡ link_between s) ⊎ (l ≡ link_between t)
+  alone_inside free n i s t h k l c e =
+      let arc : Path = arc_of arcs n in
+      let o : GridPoint = record { x = pos 0; y = pos 0 } in
+      let there = k.there in
+      let longer : 1 < length arc = long n [] h.arc in
+      let many = steps_counted arc (omega arith) in
+      let p_is : t.start ≡ get_or arc (i + 1) o = λ x. ((sym k.is ∙ step_between arc (i + 1) t o k.there) x).start in
+      let (one, another, only) = free n (i + 1) h.arc (omega arith) (omega arith) in
+      let of : (m : Segment) → Contains S m → (m.start ≡ t.start) ⊎ (m.stop ≡ t.start) → (m ≡ one) ⊎ (m ≡ another) = λ m d f.
+      only m d (subst (λ (p : GridPoint). (m.start ≡ p) ⊎ (m.stop ≡ p)) p_is f) in
+      pick one another l (link_between s) (link_between t) (of l c e)
+      (of (link_between s) (step_on arcs S arr long along n i s h) (link_ends s t.start (inr (they_meet arcs n i s t h k))))
+      (of (link_between t) (step_on arcs S arr long along n (i + 1) t k) (link_ends t t.start (inl refl)))
+      (λ f. let m = one_place arcs along.once n n i (i + 1) s t h k f in let g = m.1 in omega arith)
+    where
+      pick : (one another l u v : Segment) → (l ≡ one) ⊎ (l ≡ another) → (u ≡ one) ⊎ (u ≡ another) → (v ≡ one) ⊎ (v ≡ another) → (u ≡ v → ⊥) → (l ≡ u) ⊎ (l ≡ v)
+      pick one another l u v (inl a) (inl b) c n = inl (a ∙ sym b)
+      pick one another l u v (inr a) (inr b) c n = inl (a ∙ sym b)
+      pick one another l u v (inl a) (inr b) (inl c) n = inr (a ∙ sym c)
+      pick one another l u v (inl a) (inr b) (inr c) n = absurd (n (b ∙ sym c))
+      pick one another l u v (inr a) (inl b) (inr c) n = inr (a ∙ sym c)
+      pick one another l u v (inr a) (inl b) (inl c) n = absurd (n (b ∙ sym c))
+
   -- a signed arc that starts at a vertex inside an arc is none
   pub none_starts_inside : (n i : ℕ) (s t : Segment) → IsStep arcs n i s → IsStep arcs n (i + 1) t
       → ((l : Segment) → Contains S l → (l.start ≡ t.start) ⊎ (l.stop ≡ t.start) → (l ≡ link_between s) ⊎ (l ≡ link_between t))
@@ -218,7 +246,7 @@ module _ (S : List Segment) (arr : IsArrangement S) (arcs : List Path) (long : A
       let (j, u, h) = begins_with a l in
       let first = first_link a j u h in
       let there : Contains S (link_between u) = step_on arcs S arr long along a.arc j u h.step in
-      elim (alone (link_between u) there (end_there u (either a.is_reversed u (ap (λ (x : Segment). x.start) (sym h.is) ∙ e)))) [
+      elim (alone (link_between u) there (link_ends u t.start (either a.is_reversed u (ap (λ (x : Segment). x.start) (sym h.is) ∙ e)))) [
         | inl f ↦ (
             let (same, at) = one_place arcs along.once a.arc n j i u s h.step hs f in
             at_first a.is_reversed j u h.last h.is at (one_step u s a.arc n j i same at h.step hs) same)
@@ -230,14 +258,6 @@ module _ (S : List Segment) (arr : IsArrangement S) (arcs : List Path) (long : A
       either : (b : Bool) (u : Segment) → (cond b (reversed u) u).start ≡ t.start → (u.start ≡ t.start) ⊎ (u.stop ≡ t.start)
       either true u f = inr f
       either false u f = inl f
-
-      end_there : (u : Segment) → (u.start ≡ t.start) ⊎ (u.stop ≡ t.start) → ((link_between u).start ≡ t.start) ⊎ ((link_between u).stop ≡ t.start)
-      end_there u h = go (is_before u.start u.stop) h
-        where
-          go : (b : Bool) → (u.start ≡ t.start) ⊎ (u.stop ≡ t.start) → ((cond b u (reversed u)).start ≡ t.start) ⊎ ((cond b u (reversed u)).stop ≡ t.start)
-          go true h = h
-          go false (inl f) = inr f
-          go false (inr f) = inl f
 
       one_step : (u v : Segment) (m k p q : ℕ) → m ≡ k → p ≡ q → IsStep arcs m p u → IsStep arcs k q v → u ≡ v
       one_step u v m k p q f g h o = sym h.is ∙ get_or_default (steps (arc_of arcs m)) p u v h.there ∙ (λ x. get_or (steps (arc_of arcs (f x))) (g x) v) ∙ o.is

@@ -1,7 +1,6 @@
 -- The faces of a table as labels of the places of the plane.
-use Rattle.std.specs.Prelude.{◌≡◌, ◌⊎◌, ◌↔◌, ℕ, ◌+◌, ◌<◌, List, All, Contains, [], length, slice_get, slice_index, slice_index_or, Some}
-use Rattle.plane_model.specs.Points.{GridPoint, Segment, Path, at, link_between}
-use Rattle.plane_model.specs.Drawing.{steps}
+use Rattle.std.specs.Prelude.{◌≡◌, ◌⊎◌, ◌↔◌, ℕ, ◌+◌, ◌<◌, List, All, Contains, [], length, slice_index, slice_index_or}
+use Rattle.plane_model.specs.Points.{GridPoint, Segment, Path, at}
 use Rattle.plane_model.specs.Arcs.{forward, backward}
 use Rattle.plane_model.specs.Arrangement.{IsArrangement, IsDistinct}
 use Rattle.plane_model.specs.Joined.{AreOfOneFace}
@@ -10,16 +9,16 @@ use Rattle.plane_faces.specs.Labels.{IsFaceLabelling}
 use Rattle.plane_faces.specs.Places.{Place, outside, left_of}
 use Rattle.plane_faces.specs.Rings.{darts_of_path}
 use Rattle.arc_table.specs.Along.{GoAlong}
+use Rattle.arc_table.specs.Direction.{point_at}
 use Rattle.face_walk.specs.Places.{FaceTable, IsBuiltOf, IsFaceOver, place_of}
 
--- the steps i and i + 1 of arc n
-pub record AreNeighbours (arcs : List Path) (n i : ℕ) (s t : Segment) : Type 0 where
-  pub first : slice_get (steps (slice_index_or arcs n [])) i ≡ Some s
-  pub second : slice_get (steps (slice_index_or arcs n [])) (i + 1) ≡ Some t
+-- at most two links of S end at p
+abbrev pub HasTwoAtMost : List Segment → GridPoint → Type 0
+HasTwoAtMost S p = (one : Segment) × (another : Segment) × ((l : Segment) → Contains S l → (l.start ≡ p) ⊎ (l.stop ≡ p) → (l ≡ one) ⊎ (l ≡ another))
 
--- where two steps of an arc follow each other, no other link ends
+-- no vertex inside an arc has more links than two
 abbrev pub AreFreeInside : List Segment → List Path → Type 0
-AreFreeInside S arcs = (n i : ℕ) (s t : Segment) → AreNeighbours arcs n i s t → (l : Segment) → Contains S l → (l.start ≡ t.start) ⊎ (l.stop ≡ t.start) → (l ≡ link_between s) ⊎ (l ≡ link_between t)
+AreFreeInside S arcs = (n k : ℕ) → n < length arcs → 0 < k → k + 1 < length (slice_index_or arcs n []) → HasTwoAtMost S (point_at (slice_index_or arcs n []) k)
 
 -- f has at the places beside the arcs what g has at their numbers: left of each dart of an arc that of the place left of the arc, and right of
 -- it that of the place right of the arc

@@ -11,8 +11,8 @@ pub fn each_table_has_labels()
     ensures { EachTableHasLabels }
 {}
 
-/// Labels by the faces that are built of the arcs of an arrangement are those of the faces of the plane, where inside an
-/// arc no other link ends.
+/// Labels by the faces that are built of the arcs of an arrangement are those of the faces of the plane, where no vertex
+/// inside an arc has more links than two.
 pub fn faces_are_classes()
     ensures { FacesAreClasses }
 {}
