@@ -1,3 +1,4 @@
 pub mod Inside
+pub mod Points
 pub mod Runs
 pub mod Sided
