@@ -4,12 +4,15 @@ use Rattle.plane_model.specs.Points.{GridPoint, Segment, Path, at}
 use Rattle.plane_model.specs.Arcs.{forward, backward}
 use Rattle.plane_model.specs.Arrangement.{IsArrangement, IsDistinct}
 use Rattle.plane_model.specs.Joined.{AreOfOneFace}
+use Rattle.plane_model.specs.Drawing.{Drawing}
+use Rattle.plane_model.specs.Snapped.{links_of, snapped}
 use Rattle.plane_faces.specs.Around.{opposite}
 use Rattle.plane_faces.specs.Labels.{IsFaceLabelling}
 use Rattle.plane_faces.specs.Places.{Place, outside, left_of}
 use Rattle.plane_faces.specs.Rings.{darts_of_path}
 use Rattle.arc_table.specs.Along.{GoAlong}
 use Rattle.arc_table.specs.Direction.{point_at}
+use Rattle.arc_table.specs.WholeArcs.{IsWholeArc}
 use Rattle.face_walk.specs.Places.{FaceTable, IsBuiltOf, IsFaceOver, place_of}
 
 -- at most two links of S end at p
@@ -46,3 +49,8 @@ FacesAreClasses = (S : List Segment) → IsArrangement S → (arcs : List Path) 
 abbrev pub PointsHaveOneFace : Type 0
 PointsHaveOneFace = (S : List Segment) → IsArrangement S → IsDistinct S → (arcs : List Path) → All (λ arc. 1 < length arc) arcs → GoAlong S arcs → AreFreeInside S arcs →
     (faces : FaceTable) → IsBuiltOf arcs faces → (p q : GridPoint) (f g : ℕ) → IsFaceOver faces p f → IsFaceOver faces q g → (f ≡ g) ↔ AreOfOneFace S (at p) (at q)
+
+-- so it is in the table of the whole arcs of a snapped drawing
+abbrev pub PointsOfADrawing : Type 0
+PointsOfADrawing = (d : Drawing) → (arcs : List Path) → All (λ arc. 1 < length arc) arcs → GoAlong (links_of (snapped d)) arcs → All (IsWholeArc (snapped d)) arcs →
+    (faces : FaceTable) → IsBuiltOf arcs faces → (p q : GridPoint) (f g : ℕ) → IsFaceOver faces p f → IsFaceOver faces q g → (f ≡ g) ↔ AreOfOneFace (links_of (snapped d)) (at p) (at q)

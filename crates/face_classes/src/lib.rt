@@ -4,7 +4,7 @@
 //! Each function carries one law in its contract, and does nothing.
 #![tactic(auto)]
 
-ghost use Rattle.face_classes.specs.FaceClasses.{EachTableHasLabels, FacesAreClasses, PointsHaveOneFace};
+ghost use Rattle.face_classes.specs.FaceClasses.{EachTableHasLabels, FacesAreClasses, PointsHaveOneFace, PointsOfADrawing};
 
 /// The places of the plane can be labelled by the faces of a table of arcs that go along each link of an arrangement once.
 pub fn each_table_has_labels()
@@ -21,4 +21,9 @@ pub fn faces_are_classes()
 /// separate them.
 pub fn points_have_one_face()
     ensures { PointsHaveOneFace }
+{}
+
+/// So it is in a table of the whole arcs of a snapped drawing.
+pub fn points_of_a_drawing()
+    ensures { PointsOfADrawing }
 {}
