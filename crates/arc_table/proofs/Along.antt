@@ -107,7 +107,7 @@ module _ (net : Net) where
     moving_along : (n h : ℕ) → h < length steps → All (λ (s : Segment). s.start ≢ s.stop) (map (step_at steps) (walk onward n h))
     moving_along n h l = All-mapped (λ (k : ℕ). k < length steps) (λ (s : Segment). s.start ≢ s.stop) (step_at steps) (λ k m. net.proper.moving k _ m) (walk onward n h) (walk_there n h l)
 
-    one_arc : (way : Way) → IsWay net way → IsPermutation (links_from net way.steps way.start) (map link_between (steps_of (arc_points net way)))
+    pub one_arc : (way : Way) → IsWay net way → IsPermutation (links_from net way.steps way.start) (map link_between (steps_of (arc_points net way)))
     one_arc way w = go (is_backward (points_along net way))
       where
         path : Path

@@ -1,11 +1,16 @@
 pub mod Along
+pub mod ArcSteps
 pub mod AroundRows
 pub mod Begun
+pub mod DrawnPaths
 pub mod Everywhere
 pub mod FlatMore
+pub mod FoundArcs
 pub mod LeastAt
 pub mod Marks
+pub mod Numbered
 pub mod Onward
+pub mod Order
 pub mod Others
 pub mod Proper
 pub mod Rounds
@@ -18,6 +23,8 @@ pub mod TurnOrder
 pub mod Turns
 pub mod TurnsBack
 pub mod TurnTable
+pub mod Walks
 pub mod WayPoints
+pub mod WholeBack
 pub mod WholeArcs
 pub mod WholeRuns

@@ -67,7 +67,7 @@ module _ (net : Net) where
   after_there zero h l = l
   after_there (suc k) h l = after_there k (next h) (next_there h l)
 
-  twin_is : (h : ℕ) → h < N → step_at net.steps.items (twin h) ≡ reversed (step_at net.steps.items h)
+  pub twin_is : (h : ℕ) → h < N → step_at net.steps.items (twin h) ≡ reversed (step_at net.steps.items h)
   twin_is h l = back_at net.steps.items h (twin h) l (λ s e. net.twins_back h s l e)
 
   pub twin_twice : (h : ℕ) → h < N → twin (twin h) ≡ h

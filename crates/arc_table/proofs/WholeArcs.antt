@@ -1,7 +1,7 @@
 -- The arcs of a table are whole: nodes are their ends alone.
 use Rattle.std.proofs.Common.{◌≡◌, ◌⊎◌, inl, inr, sym, ap, ◌∙◌, subst, arith, ℕ, zero, suc, ◌+◌, ◌-◌, ◌<◌, Bool, true, false, List, ◌++◌, map, reverse, length, All, Contains, Some, None}
 use Rattle.std.specs.Prelude.{◌≢◌, if◌then◌else◌}
-use Rattle.std.proofs.lemmas.List.{get_or_default, get_or-map, get_or-reverse, length-map, length-reverse}
+use Rattle.std.proofs.lemmas.List.{get_or_default, get_or-map, length-map}
 use Rattle.std.proofs.lemmas.List.Elements.{Contains-append_left, Contains-append_right}
 use Rattle.std.proofs.lemmas.List.Sorted.{Contains-permutation, IsPermutation-sym}
 use Rattle.std.proofs.lemmas.Option.{slice_get-get_or, slice_get_cases}
@@ -23,6 +23,7 @@ use Rattle.arc_table.proofs.Marks.{back_at}
 use Rattle.arc_table.proofs.Others.{start_is}
 use Rattle.arc_table.proofs.Proper.{link_turned, link_is, moves}
 use Rattle.arc_table.proofs.Turns.{turn_of_listed, listed_of_turn}
+use Rattle.arc_table.proofs.WholeBack.{back_whole}
 use Rattle.arc_table.proofs.Runs.{goes_at, length_walk, walk_at, twin, next, after, twin_there, after_there, one_of}
 
 module _ (d : Drawing) (net : Net) (turns : List GridPoint) (turned : AreTurns d turns) (on : AreOnward net.steps.items net.twins.items turns net.onward.items (length net.steps.items))
@@ -220,35 +221,11 @@ module _ (d : Drawing) (net : Net) (turns : List GridPoint) (turned : AreTurns d
     long : 1 < length P
     long = let s = size in let m = w.some in omega arith
 
-  back_whole : (path : Path) → 1 < length path → IsWholeArc d path → IsWholeArc d (reverse path)
-  back_whole path long h = record {
-    inner = λ k l m. subst (IsPassed d) (sym (turned_at k (let s = same in omega arith))) (h.inner (length path - 1 - k) (let s = same in omega arith) (let s = same in omega arith));
-    ends = elim h.ends [
-      | inl e ↦ inl (subst (IsNode d) (sym first) e.1, subst (IsNode d) (sym last) e.0)
-      | inr e ↦ inr (first ∙ sym e.0 ∙ sym last, subst (IsPassed d) (e.0 ∙ sym first) e.1)
-    ];
-  }
-    where
-      same : length (reverse path) ≡ length path
-      same = length-reverse path
-
-      turned_at : (k : ℕ) → k < length path → point_at (reverse path) k ≡ point_at path (length path - 1 - k)
-      turned_at k l = get_or-reverse path k _ l
-
-      first : point_at (reverse path) 0 ≡ point_at path (length path - 1)
-      first = turned_at 0 (omega arith) ∙ ap (point_at path) (let e : length path - 1 - 0 ≡ length path - 1 = omega arith in e)
-
-      last : point_at (reverse path) (length (reverse path) - 1) ≡ point_at path 0
-      last =
-          let s = same in
-          ap (point_at (reverse path)) (let e : length (reverse path) - 1 ≡ length path - 1 = omega arith in e) ∙ turned_at (length path - 1) (omega arith)
-          ∙ ap (point_at path) (let e : length path - 1 - (length path - 1) ≡ 0 = omega arith in e)
-
   arc_whole : (way : Way) → IsWay net way → IsWholeArc d (arc_points net way)
   arc_whole way w = go (is_backward (points_along net way))
     where
       go : (b : Bool) → IsWholeArc d (if b then reverse (points_along net way) else points_along net way)
-      go true = back_whole (points_along net way) (long way w) (along_whole way w)
+      go true = back_whole d (points_along net way) (long way w) (along_whole way w)
       go false = along_whole way w
 
   pub arcs_whole : (ways : List Way) (arcs : List Path) → All (IsWay net) ways → arcs ≡ map (arc_points net) ways → All (IsWholeArc d) arcs

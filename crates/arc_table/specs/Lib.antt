@@ -6,5 +6,7 @@ pub mod Lookup
 pub mod Nodes
 pub mod Numbering
 pub mod OneLink
+pub mod Order
+pub mod PathArcs
 pub mod Steps
 pub mod WholeArcs

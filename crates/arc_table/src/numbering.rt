@@ -1,6 +1,10 @@
-ghost use Rattle.std.specs.Prelude.{◌≡◌, ◌≢◌, ◌⊎◌, None, true, false, slice_index, slice_index_or, slice_set, ℕ, ◌+◌, ◌-◌, ◌<◌, ◌≤◌, ◌^◌, [], ◌∷◌, ◌++◌, All, IfOk, OnOk, IfSome, length, map, sum_by};
+ghost use Rattle.std.specs.Prelude.{◌≡◌, ◌≢◌, ◌⊎◌, None, true, false, slice_index, slice_index_or, slice_set, ℕ, ◌+◌, ◌-◌, ◌<◌, ◌≤◌, ◌^◌, [], ◌∷◌, ◌++◌, All, Contains, IfOk, OnOk, IfSome, length, map, sum_by};
+ghost use Rattle.std.specs.List.{flat_map};
+ghost use Rattle.plane_model.specs.Points.{link_between};
+ghost use Rattle.plane_model.specs.Drawing.{steps, paths_of, rings_of};
 ghost use Rattle.arc_table.specs.Direction.{IsForward};
-ghost use Rattle.arc_table.specs.Numbering.{AddsMarks, AreWays, GoesFrom, GoesOn, HasMark, HaveMarksTogether, IsBegin, IsLastOn, IsNumbering, IsRoundFrom, IsWay, StopsAtMark, arc_points, points_along, points_of_way};
+ghost use Rattle.arc_table.specs.Order.{AreInOrder, GoesAlong, HasOneMore, links_stepped};
+ghost use Rattle.arc_table.specs.Numbering.{AddsMarks, AreWays, GoesFrom, GoesOn, HasMark, HaveMarksTogether, IsBegin, IsLastOn, IsNumbering, IsRoundFrom, IsWay, StopsAtMark, arc_points, link_at, points_along, points_of_way};
 
 use crate::direction::turn_forward;
 use crate::half_links::{Net, Step, place_near};
@@ -24,19 +28,14 @@ pub struct Numbering {
 
 /// The arcs in the order in which the paths first step along them: those of polygons, then lines, then boxes.
 pub fn ways_of(alloc: Global, net: &Net, s: &Snapped) -> Result<Vec<Way>, AllocError>
+    requires covered { (h : ℕ) → h < length net.now.steps.items → Contains (links_stepped (paths_of s.now)) (link_at net.now h) }
     ensures exact { IfOk result (λ v. AreWays net.now v.items) }
+    ensures order { IfOk result (λ v. AreInOrder net.now (links_stepped (paths_of s.now)) v.items) }
 {
     let mut numbering = none_numbered(alloc, net)?;
-    for f in 0..s.polygon_count() {
-        number_polygons(&mut numbering, net, s.rings_of(FeatId::new(f)))?;
-    }
-    for f in 0..s.line_count() {
-        number_paths(&mut numbering, net, s.lines_of(FeatId::new(f)).as_slice())?;
-    }
-    for b in 0..s.box_count() {
-        number_path(&mut numbering, net, s.box_of(b).as_slice())?;
-    }
-    number_rest(&mut numbering, net)?;
+    number_polygon_features(&mut numbering, net, s)?;
+    number_line_features(&mut numbering, net, s)?;
+    number_boxes(&mut numbering, net, s)?;
     let Numbering {
         ways,
         is_numbered: _,
@@ -46,7 +45,8 @@ pub fn ways_of(alloc: Global, net: &Net, s: &Snapped) -> Result<Vec<Way>, AllocE
 
 // No arc has a number yet.
 fn none_numbered(alloc: Global, net: &Net) -> Result<Numbering, AllocError>
-    ensures { IfOk result (IsNumbering net.now) }
+    ensures numbering { IfOk result (IsNumbering net.now) }
+    ensures none { IfOk result (λ n. n.ways.items ≡ []) }
 {
     let is_numbered = vec![in alloc; false; net.step_count()]?;
     Ok(Numbering {
@@ -55,13 +55,59 @@ fn none_numbered(alloc: Global, net: &Net) -> Result<Numbering, AllocError>
     })
 }
 
+#[tactic(auto, using(crate::proofs::Order::along_none))]
+fn number_polygon_features(
+    numbering: &mut Numbering,
+    net: &Net,
+    s: &Snapped,
+) -> Result<(), AllocError>
+    requires { IsNumbering net.now numbering.old }
+    ensures numbering { OnOk result (IsNumbering net.now numbering.new) }
+    ensures along { OnOk result (GoesAlong net.now numbering.old numbering.new (links_stepped (flat_map rings_of s.now.polygons))) }
+{
+    for f in 0..s.polygon_count() {
+        number_polygons(numbering, net, s.rings_of(FeatId::new(f)))?;
+    }
+    Ok(())
+}
+
+#[tactic(auto, using(crate::proofs::Order::along_none))]
+fn number_line_features(
+    numbering: &mut Numbering,
+    net: &Net,
+    s: &Snapped,
+) -> Result<(), AllocError>
+    requires { IsNumbering net.now numbering.old }
+    ensures numbering { OnOk result (IsNumbering net.now numbering.new) }
+    ensures along { OnOk result (GoesAlong net.now numbering.old numbering.new (links_stepped (flat_map (λ feature. feature) s.now.lines))) }
+{
+    for f in 0..s.line_count() {
+        number_paths(numbering, net, s.lines_of(FeatId::new(f)).as_slice())?;
+    }
+    Ok(())
+}
+
+#[tactic(auto, using(crate::proofs::Order::along_none))]
+fn number_boxes(numbering: &mut Numbering, net: &Net, s: &Snapped) -> Result<(), AllocError>
+    requires { IsNumbering net.now numbering.old }
+    ensures numbering { OnOk result (IsNumbering net.now numbering.new) }
+    ensures along { OnOk result (GoesAlong net.now numbering.old numbering.new (links_stepped (flat_map (λ path. path ∷ []) s.now.boxes))) }
+{
+    for b in 0..s.box_count() {
+        number_path(numbering, net, s.box_of(b).as_slice())?;
+    }
+    Ok(())
+}
+
+#[tactic(auto, using(crate::proofs::Order::along_none))]
 fn number_polygons(
     numbering: &mut Numbering,
     net: &Net,
     polygons: &RingsList,
 ) -> Result<(), AllocError>
     requires { IsNumbering net.now numbering.old }
-    ensures { OnOk result (IsNumbering net.now numbering.new) }
+    ensures numbering { OnOk result (IsNumbering net.now numbering.new) }
+    ensures along { OnOk result (GoesAlong net.now numbering.old numbering.new (links_stepped (flat_map (λ polygon. polygon) polygons.now))) }
 {
     for polygon in polygons.as_slice() {
         number_paths(numbering, net, polygon.as_slice())?;
@@ -69,9 +115,11 @@ fn number_polygons(
     Ok(())
 }
 
+#[tactic(auto, using(crate::proofs::Order::along_none))]
 fn number_paths(numbering: &mut Numbering, net: &Net, paths: &[PtList]) -> Result<(), AllocError>
     requires { IsNumbering net.now numbering.old }
-    ensures { OnOk result (IsNumbering net.now numbering.new) }
+    ensures numbering { OnOk result (IsNumbering net.now numbering.new) }
+    ensures along { OnOk result (GoesAlong net.now numbering.old numbering.new (links_stepped (flat_map (λ path. path ∷ []) paths.now))) }
 {
     for path in paths {
         number_path(numbering, net, path.as_slice())?;
@@ -81,7 +129,8 @@ fn number_paths(numbering: &mut Numbering, net: &Net, paths: &[PtList]) -> Resul
 
 fn number_path(numbering: &mut Numbering, net: &Net, path: &[Pt]) -> Result<(), AllocError>
     requires { IsNumbering net.now numbering.old }
-    ensures { OnOk result (IsNumbering net.now numbering.new) }
+    ensures numbering { OnOk result (IsNumbering net.now numbering.new) }
+    ensures along { OnOk result (GoesAlong net.now numbering.old numbering.new (map link_between (steps path.now))) }
 {
     let mut near = 0;
     for i in 1..path.len() {
@@ -92,6 +141,7 @@ fn number_path(numbering: &mut Numbering, net: &Net, path: &[Pt]) -> Result<(), 
 
 // Gives the arc along a step the next number, where it has none. The step is looked for in the neighbourhood of
 // `near`, and the answer is where to look for the step that follows.
+#[tactic(auto, using(crate::proofs::Order::along_step, crate::proofs::Order::along_missing))]
 fn number_step(
     numbering: &mut Numbering,
     net: &Net,
@@ -99,7 +149,8 @@ fn number_step(
     step: Step,
 ) -> Result<usize, AllocError>
     requires { IsNumbering net.now numbering.old }
-    ensures { OnOk result (IsNumbering net.now numbering.new) }
+    ensures numbering { OnOk result (IsNumbering net.now numbering.new) }
+    ensures along { OnOk result (GoesAlong net.now numbering.old numbering.new (link_between step ∷ [])) }
 {
     let Some(h) = place_near(&net.steps, near, step) else {
         return Ok(near);
@@ -108,25 +159,14 @@ fn number_step(
     Ok(net.twin(h))
 }
 
-// Gives numbers to the arcs that no path goes along. Each link of a snapped drawing is a step of one of its paths,
-// so none is left there.
-fn number_rest(numbering: &mut Numbering, net: &Net) -> Result<(), AllocError>
-    requires { IsNumbering net.now numbering.old }
-    ensures { OnOk result (AreWays net.now numbering.new.ways.items) }
-{
-    for h in 0..net.step_count() {
-        number_along(numbering, net, h)?;
-    }
-    Ok(())
-}
-
 // Gives the arc along step `h` the next number, where it has none.
-#[tactic(auto, using(crate::proofs::Marks::kept_all))]
+#[tactic(auto, using(crate::proofs::Marks::kept_all, crate::proofs::Order::along_marked))]
 fn number_along(numbering: &mut Numbering, net: &Net, h: usize) -> Result<(), AllocError>
     requires there { h < length net.now.steps.items }
     requires numbering { IsNumbering net.now numbering.old }
     ensures on { OnOk result (GoesFrom net.now numbering.old numbering.new) }
     ensures here { OnOk result (HasMark numbering.new.is_numbered.items h) }
+    ensures along { OnOk result (GoesAlong net.now numbering.old numbering.new (link_at net.now h ∷ [])) }
 {
     if numbering.is_numbered[h] {
         return Ok(());
@@ -143,6 +183,7 @@ fn number_from(numbering: &mut Numbering, net: &Net, start: usize) -> Result<(),
     requires numbering { IsNumbering net.now numbering.old }
     ensures on { OnOk result (GoesFrom net.now numbering.old numbering.new) }
     ensures here { OnOk result (HasMark numbering.new.is_numbered.items start) }
+    ensures one { OnOk result (HasOneMore numbering.old numbering.new) }
 {
     if numbering.is_numbered[start] {
         return Ok(());

@@ -1,5 +1,6 @@
 ghost use Rattle.std.specs.Prelude.{◌≡◌, ◌<◌, All, IfOk, length};
 ghost use Rattle.arc_table.specs.Lookup.{BeginAlong};
+ghost use Rattle.arc_table.specs.PathArcs.{AreArcsAlong};
 
 use crate::half_links::Step;
 use crate::list_types::SignedPath;
@@ -11,6 +12,7 @@ impl ArcTable {
     /// The arcs that a snapped path goes along, in order. A closed path is gone along from its first node, or where
     /// it has none from its least vertex: then it is one closed arc, named as often as the path goes round it.
     pub fn path_arcs(&self, alloc: Global, path: &Path) -> Result<SignedPath, AllocError>
+        ensures exact { IfOk result (AreArcsAlong self.now path.now) }
         ensures begun { IfOk result (BeginAlong self.now path.now) }
         ensures there { IfOk result (λ arcs. All (λ a. a.arc < length self.now) arcs) }
     {

@@ -1,3 +1,4 @@
+use Rattle.std.proofs.Common.{inr}
 use Rattle.arc_table.specs.Numbering.{IsWay, IsWholeRun, AreWhole, links_along}
 use Rattle.arc_table.specs.declared.numbering.Way.{Way}
 use Rattle.arc_table.specs.declared.numbering.Numbering.{Numbering}
@@ -24,6 +25,9 @@ returns-clause-on c =
     whole_after net old.is_numbered.items marks links start n c.mark_way-steps.ensures.some c.requires.there c.requires.begins before.marks before.whole.on added.0 added.1 c.mark_way-steps.ensures.on run in
     let fits : IsWay net way = record { there = c.requires.there; some = c.mark_way-steps.ensures.some; on = c.mark_way-steps.ensures.on; whole = run } in
     one_way_more net old new way before fits c.in_ok-push.ensures.items c.mark_way-steps.ensures.each c.mark_way-steps.ensures.marks whole
+
+pub returns-clause-one : goal.returns-clause-one
+returns-clause-one c = inr (record { start = c.args.start; steps = c.mark_way-steps.result }, c.in_ok-push.ensures.items)
 
 pub returns-clause-here : goal.returns-clause-here
 returns-clause-here c =

@@ -1,5 +1,8 @@
+use Rattle.std.proofs.Common.{take, [], ◌∷◌}
+use Rattle.std.specs.List.{flat_map}
 use Rattle.arc_table.specs.Numbering.{IsNumbering}
+use Rattle.arc_table.specs.Order.{GoesAlong, links_stepped}
 use Rattle.arc_table.proofs.numbering.number_paths.Given as goal
 
 abbrev pub invariant-loop-path : goal.invariant-loop-path
-invariant-loop-path l = IsNumbering l.net l.numbering
+invariant-loop-path l = IsNumbering l.net l.numbering × GoesAlong l.net l.fn.numbering l.numbering (links_stepped (flat_map (λ path. path ∷ []) (take l.path-index l.paths)))

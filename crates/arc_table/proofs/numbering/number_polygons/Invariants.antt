@@ -1,5 +1,8 @@
+use Rattle.std.proofs.Common.{take, [], ◌∷◌}
+use Rattle.std.specs.List.{flat_map}
 use Rattle.arc_table.specs.Numbering.{IsNumbering}
+use Rattle.arc_table.specs.Order.{GoesAlong, links_stepped}
 use Rattle.arc_table.proofs.numbering.number_polygons.Given as goal
 
 abbrev pub invariant-loop-polygon : goal.invariant-loop-polygon
-invariant-loop-polygon l = IsNumbering l.net l.numbering
+invariant-loop-polygon l = IsNumbering l.net l.numbering × GoesAlong l.net l.fn.numbering l.numbering (links_stepped (flat_map (λ polygon. polygon) (take l.polygon-index l.polygons)))

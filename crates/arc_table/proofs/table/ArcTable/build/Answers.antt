@@ -6,9 +6,11 @@ use Rattle.arc_table.specs.Steps.{AreLinks, AreSteps, point_cmp}
 use Rattle.arc_table.specs.Numbering.{arc_points}
 use Rattle.arc_table.specs.Along.{GoAlong}
 use Rattle.arc_table.specs.Nodes.{AreTurns}
+use Rattle.arc_table.specs.Order.{AreNumbered}
 use Rattle.arc_table.specs.WholeArcs.{IsWholeArc}
 use Rattle.arc_table.specs.declared.numbering.Way.{Way}
 use Rattle.arc_table.proofs.Along.{are_links, go_along, if_ok_more}
+use Rattle.arc_table.proofs.Numbered.{covered, numbered}
 use Rattle.arc_table.proofs.WholeArcs.{arcs_whole}
 use Rattle.arc_table.proofs.table.ArcTable.build.Goals as goal
 
@@ -17,6 +19,13 @@ of-requires-clause-turns c = subst (IsSorted point_cmp) (sym c.deref.ensures.val
 
 pub of-requires-clause-links : goal.of-requires-clause-links
 of-requires-clause-links c = subst AreLinks (sym c.links.ensures.exact) (are_links c.args.s.now c.links.ensures.snapped.arrangement)
+
+pub ways_of-requires : goal.ways_of-requires
+ways_of-requires c =
+    let d = c.args.s.now in
+    let net = c.in_ok-net.net in
+    let made : AreSteps (links_of d) net.steps.items = subst (λ (xs : List Segment). AreSteps xs net.steps.items) c.links.ensures.exact c.in_ok-net.ensures.steps in
+    record { covered = covered net c.deref.result.now c.in_ok-net.ensures.on d (are_links d c.links.ensures.snapped.arrangement) made }
 
 pub of_arcs-requires-clause-once : goal.of_arcs-requires-clause-once
 of_arcs-requires-clause-once c =
@@ -46,3 +55,11 @@ returns-clause-whole c =
     let arcs : c.in_ok-arcs.arcs.spans ≡ map (arc_points net) c.in_ok-ways.ways.items = c.in_ok-arcs.ensures.exact ∙ ap (λ (ways : List Way). map (arc_points net) ways) c.deref-2.ensures.value in
     let whole : All (IsWholeArc d) c.in_ok-arcs.arcs.spans = arcs_whole d net turns turned c.in_ok-net.ensures.on (are_links d c.links.ensures.snapped.arrangement) made c.in_ok-ways.ways.items c.in_ok-arcs.arcs.spans c.in_ok-ways.ensures.exact.ways arcs in
     if_ok_more c.of_arcs.result (λ t e. subst (All (IsWholeArc d)) (sym e) whole) c.of_arcs.ensures.same
+
+pub returns-clause-numbered : goal.returns-clause-numbered
+returns-clause-numbered c =
+    let d = c.args.s.now in
+    let net = c.in_ok-net.net in
+    let arcs : c.in_ok-arcs.arcs.spans ≡ map (arc_points net) c.in_ok-ways.ways.items = c.in_ok-arcs.ensures.exact ∙ ap (λ (ways : List Way). map (arc_points net) ways) c.deref-2.ensures.value in
+    let order : AreNumbered d c.in_ok-arcs.arcs.spans = numbered net c.deref.result.now c.in_ok-net.ensures.on c.in_ok-ways.ways.items c.in_ok-arcs.arcs.spans c.in_ok-ways.ensures.exact.ways arcs d c.in_ok-ways.ensures.order in
+    if_ok_more c.of_arcs.result (λ t e. subst (AreNumbered d) (sym e) order) c.of_arcs.ensures.same

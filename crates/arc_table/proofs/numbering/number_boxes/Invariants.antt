@@ -1,0 +1,8 @@
+use Rattle.std.proofs.Common.{take, [], ◌∷◌}
+use Rattle.std.specs.List.{flat_map}
+use Rattle.arc_table.specs.Numbering.{IsNumbering}
+use Rattle.arc_table.specs.Order.{GoesAlong, links_stepped}
+use Rattle.arc_table.proofs.numbering.number_boxes.Given as goal
+
+abbrev pub invariant-loop-b : goal.invariant-loop-b
+invariant-loop-b l = IsNumbering l.net l.numbering × GoesAlong l.net l.fn.numbering l.numbering (links_stepped (flat_map (λ path. path ∷ []) (take l.b l.s.boxes)))
