@@ -48,12 +48,16 @@ module _ (d : Drawing) (arcs : List Path) (table : AreArcsOf d arcs) where
     line_on = step_in d line (line_in d line c)
 
     line_plain : (k : ℕ) → suc (suc k) < length line → IsPassed d (point_at line (suc k)) → point_at line (suc (suc k)) ≢ point_at line k
-    line_plain k l p e = p.plain (inl (line, c, inr (record {
-      place = k;
-      inside = omega arith;
-      same = sym e ∙ ap (point_at line) (let f : suc (suc k) ≡ k + 2 = omega arith in f);
-      here = ap (point_at line) (let f : k + 1 ≡ suc k = omega arith in f);
-    })))
+    line_plain k l p e = p.plain (inl (
+      line,
+      c,
+      inr (record {
+        place = k;
+        inside = omega arith;
+        same = sym e ∙ ap (point_at line) (let f : suc (suc k) ≡ k + 2 = omega arith in f);
+        here = ap (point_at line) (let f : k + 1 ≡ suc k = omega arith in f);
+      }),
+    ))
 
     line_ends : IsPassed d (point_at line n) → ⊥
     line_ends p = p.plain (inl (line, c, inl (record { some = omega arith; ends = inr (ap (point_at line) (let e : length line - 1 ≡ n = omega arith in e)) })))
@@ -140,19 +144,27 @@ module _ (d : Drawing) (arcs : List Path) (table : AreArcsOf d arcs) where
 
     -- where the ring turns back
     turns : (j : ℕ) → suc (suc j) < length ring → point_at ring (suc (suc j)) ≡ point_at ring j → IsPassed d (point_at ring (suc j)) → ⊥
-    turns j l e p = p.plain (inr (ring, c, inr (record {
-      place = j;
-      inside = omega arith;
-      same = sym e ∙ ap (point_at ring) (let f : suc (suc j) ≡ j + 2 = omega arith in f);
-      here = ap (point_at ring) (let f : j + 1 ≡ suc j = omega arith in f);
-    })))
+    turns j l e p = p.plain (inr (
+      ring,
+      c,
+      inr (record {
+        place = j;
+        inside = omega arith;
+        same = sym e ∙ ap (point_at ring) (let f : suc (suc j) ≡ j + 2 = omega arith in f);
+        here = ap (point_at ring) (let f : j + 1 ≡ suc j = omega arith in f);
+      }),
+    ))
 
     turns_first : 1 < n → point_at ring 1 ≡ point_at ring (n - 1) → IsPassed d (point_at ring 0) → ⊥
-    turns_first l e p = p.plain (inr (ring, c, inl (record {
-      long = omega arith;
-      same = ap (point_at ring) (let f : length ring - 2 ≡ n - 1 = omega arith in f) ∙ sym e;
-      here = refl;
-    })))
+    turns_first l e p = p.plain (inr (
+      ring,
+      c,
+      inl (record {
+        long = omega arith;
+        same = ap (point_at ring) (let f : length ring - 2 ≡ n - 1 = omega arith in f) ∙ sym e;
+        here = refl;
+      }),
+    ))
 
     ring_plain : (k : ℕ) → suc (suc k) < length Q → IsPassed d (point_at Q (suc k)) → point_at Q (suc (suc k)) ≢ point_at Q k
     ring_plain k l p e =

@@ -116,9 +116,12 @@ module _ (net : Net) where
                 let u = b.1 in
                 (b.0, omega arith, subst (λ (ls : List Segment). Contains ls (step_at (stepped ++ l ∷ []) b.0)) (sym (links_old n t)) (subst (Contains (links_of_way net old.ways.items n)) (sym (at_old stepped l b.0 b.1)) b.2)))
             | inr t ↦ (
-                let e : n ≡ length old.ways.items = omega arith in
-                (length stepped, omega arith, subst (λ (ls : List Segment). Contains ls (step_at (stepped ++ l ∷ []) (length stepped))) (sym (links_new n e))
-                (subst (Contains (links_from net way.steps way.start)) (sym (at_new stepped l (length stepped) refl)) on)))
+                let e : n ≡ length old.ways.items = omega arith in (
+                  length stepped,
+                  omega arith,
+                  subst (λ (ls : List Segment). Contains ls (step_at (stepped ++ l ∷ []) (length stepped))) (sym (links_new n e))
+                      (subst (Contains (links_from net way.steps way.start)) (sym (at_new stepped l (length stepped) refl)) on),
+                ))
           ];
           order = λ m n j p q r c. earlier m n j p q r c;
         }
@@ -175,14 +178,14 @@ module _ (net : Net) where
       elim one [
         | inl e ↦ absurd (none (subst (λ (ws : List Way). Contains (links_along net ws) (link_at net h)) e there))
         | inr e ↦ record {
-            more = λ stepped before. way_more old new e.0 n from.numbering e.1 from.kept stepped (link_at net h)
-                (elim (Contains-append_cases (links_along net old.ways.items) (links_from net e.0.steps e.0.start) (link_at net h)
-                (subst (λ (ls : List Segment). Contains ls (link_at net h)) (ap (links_along net) e.1 ∙ along_more net old.ways.items e.0) there)) [
-                  | inl c ↦ absurd (none c)
-                  | inr c ↦ c
-                ])
-                (λ k t f. (from.numbering.marks k t).1 (subst (Contains (links_along net new.ways.items)) (sym f) there)) before;
-          }
+          more = λ stepped before. way_more old new e.0 n from.numbering e.1 from.kept stepped (link_at net h)
+              (elim (Contains-append_cases (links_along net old.ways.items) (links_from net e.0.steps e.0.start) (link_at net h)
+              (subst (λ (ls : List Segment). Contains ls (link_at net h)) (ap (links_along net) e.1 ∙ along_more net old.ways.items e.0) there)) [
+                | inl c ↦ absurd (none c)
+                | inr c ↦ c
+              ])
+              (λ k t f. (from.numbering.marks k t).1 (subst (Contains (links_along net new.ways.items)) (sym f) there)) before;
+        }
       ]
 
   pub along_step : (old new : Numbering) (h : ℕ) (s : Segment) → slice_get net.steps.items h ≡ Some s → GoesAlong net old new (link_at net h ∷ []) → GoesAlong net old new (link_between s ∷ [])

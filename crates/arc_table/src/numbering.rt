@@ -72,11 +72,7 @@ fn number_polygon_features(
 }
 
 #[tactic(auto, using(crate::proofs::Order::along_none))]
-fn number_line_features(
-    numbering: &mut Numbering,
-    net: &Net,
-    s: &Snapped,
-) -> Result<(), AllocError>
+fn number_line_features(numbering: &mut Numbering, net: &Net, s: &Snapped) -> Result<(), AllocError>
     requires { IsNumbering net.now numbering.old }
     ensures numbering { OnOk result (IsNumbering net.now numbering.new) }
     ensures along { OnOk result (GoesAlong net.now numbering.old numbering.new (links_stepped (flat_map (λ feature. feature) s.now.lines))) }

@@ -23,7 +23,7 @@ loop-i-preserved c =
       | then-inside-gt0 w ↦ (
         subst (BeginAlong arcs path) (sym w.arcs-is) before,
         subst (Follows arcs path (i + 1 - 1) c.if-inside-gt0.inside) (sym w.arcs-is)
-        (follows_inside arcs path (i - 1) c.loop-i.inside c.if-inside-gt0.inside (i + 1 - 1) c.loop-i.arcs w.if-inside-gt0.true w.inside-is (omega arith) found),
+            (follows_inside arcs path (i - 1) c.loop-i.inside c.if-inside-gt0.inside (i + 1 - 1) c.loop-i.arcs w.if-inside-gt0.true w.inside-is (omega arith) found),
       )
       | else-inside-gt0+in-Some+in_ok-push w ↦ (
         one_begun arcs path points c.loop-i.arcs c.if-inside-gt0.arcs w.in-Some.arc i w.index-points-i.result w.index-points-i-else-inside-gt0.result w.new.result
@@ -35,9 +35,9 @@ loop-i-preserved c =
       | else-inside-gt0+in_default w ↦ (
         subst (BeginAlong arcs path) (sym w.arcs-is) before,
         subst (Follows arcs path (i + 1 - 1) c.if-inside-gt0.inside) (sym w.arcs-is) (subst (λ (k : ℕ). Follows arcs path (i + 1 - 1) k c.loop-i.arcs) (sym w.inside-is)
-        (follows_on arcs path i w.index-points-i.result w.index-points-i-else-inside-gt0.result w.new.result (omega arith) (omega arith) (read (i - 1) w.index-points-i.result w.index-points-i.is)
-        (read i w.index-points-i-else-inside-gt0.result w.index-points-i-else-inside-gt0.is) w.new.ensures.made c.loop-i.inside (i + 1 - 1) c.loop-i.arcs (omega arith)
-        (none_of arcs w.new.result w.begun_by.result w.begun_by.ensures.exact w.in_default.not-Some) (omega arith) found)),
+            (follows_on arcs path i w.index-points-i.result w.index-points-i-else-inside-gt0.result w.new.result (omega arith) (omega arith) (read (i - 1) w.index-points-i.result w.index-points-i.is)
+            (read i w.index-points-i-else-inside-gt0.result w.index-points-i-else-inside-gt0.is) w.new.ensures.made c.loop-i.inside (i + 1 - 1) c.loop-i.arcs (omega arith)
+            (none_of arcs w.new.result w.begun_by.result w.begun_by.ensures.exact w.in_default.not-Some) (omega arith) found)),
       )
     ]
 
