@@ -1,11 +1,11 @@
 -- Each step along a link is a step of just one signed arc, at one place.
-use Rattle.std.proofs.Common.{◌≡◌, ◌⊎◌, inl, inr, refl, sym, ap, ◌∙◌, subst, arith, ℕ, zero, suc, ◌+◌, ◌-◌, ◌<◌, Bool, true, false, List, [], ◌∷◌, ◌++◌, map, reverse, length, get_or, All, AllPairs, Contains}
+use Rattle.std.proofs.Common.{◌≡◌, inl, inr, refl, sym, ap, ◌∙◌, subst, arith, ℕ, zero, suc, ◌+◌, ◌-◌, ◌<◌, Bool, true, false, List, [], ◌∷◌, ◌++◌, map, reverse, length, get_or, All, AllPairs, Contains}
 use Rattle.std.specs.Prelude.{◌≢◌}
 use Rattle.std.proofs.lemmas.Bool.{cases_lt}
 use Rattle.std.proofs.lemmas.List.{get_or_default, get_or-map, get_or-reverse, length-map, length-reverse, get_or_append_left, get_or-append-add, length-append}
 use Rattle.std.proofs.lemmas.List.Elements.{All-contains}
 use Rattle.lists.proofs.Members.{Contains-map, map-Contains, Contains-flat_map, flat_map-Contains}
-use Rattle.plane_model.specs.Points.{GridPoint, Segment, Path, link_between, reversed}
+use Rattle.plane_model.specs.Points.{Segment, Path, link_between, reversed}
 use Rattle.plane_model.specs.Drawing.{steps, steps_of_paths}
 use Rattle.plane_model.specs.Arcs.{SignedArc, forward, backward, points_of}
 use Rattle.plane_model.specs.Arrangement.{IsBefore}
@@ -78,7 +78,7 @@ offset_once (arc ∷ arcs) (suc m) zero i j a b l k e = absurd (omega arith)
 offset_once (arc ∷ arcs) (suc m) (suc n) i j a b l k e = let (f, g) = offset_once arcs m n i j (omega arith) (omega arith) l k (omega arith) in (ap suc f, g)
 
 -- each link stands at one place
-one_place : (arcs : List Path) → AllPairs (λ k l. k ≢ l) (links_of_arcs arcs) → (m n i j : ℕ) (s t : Segment) → IsStep arcs m i s → IsStep arcs n j t → link_between s ≡ link_between t → (m ≡ n) × (i ≡ j)
+pub one_place : (arcs : List Path) → AllPairs (λ k l. k ≢ l) (links_of_arcs arcs) → (m n i j : ℕ) (s t : Segment) → IsStep arcs m i s → IsStep arcs n j t → link_between s ≡ link_between t → (m ≡ n) × (i ≡ j)
 one_place arcs once m n i j s t h k e =
     let all : List Segment = steps_of_paths arcs in
     let (lu, su) = offset_step arcs m i s h in
@@ -159,7 +159,7 @@ module _ (S : List Segment) (arcs : List Path) (ordered : All (λ (l : Segment).
         | inr f ↦ (backward n, length (arc_of arcs n) - 2 - j, of_step_back arcs n j s (subst (IsStep arcs n j) (sym (ap reversed f)) here))
       ]
 
-  on_link : (n j : ℕ) (s : Segment) → IsStep arcs n j s → Contains S (link_between s)
+  pub on_link : (n j : ℕ) (s : Segment) → IsStep arcs n j s → Contains S (link_between s)
   on_link n j s h =
       All-contains (Contains S) (links_of_arcs arcs) (link_between s) along.others
       (Contains-map link_between (steps_of_paths arcs) s (Contains-flat_map steps arcs (arc_of arcs n) s (n, h.arc, get_or_default arcs n (arc_of arcs n) [] h.arc) (j, (listed arcs n j s h).0, (listed arcs n j s h).1)))

@@ -1,5 +1,5 @@
 -- The arcs found on a line, a ring or a box are those that it goes along.
-use Rattle.std.proofs.Common.{◌≡◌, ◌⊎◌, inl, inr, refl, sym, ap, ◌∙◌, subst, arith, ℕ, zero, suc, ◌+◌, ◌-◌, ◌<◌, ◌≤◌, Bool, true, false, List, [], ◌∷◌, ◌++◌, map, take, drop, length, get_or, All, Contains, Option, Some, None, pos}
+use Rattle.std.proofs.Common.{◌≡◌, ◌⊎◌, inl, inr, refl, sym, ap, ◌∙◌, subst, arith, ℕ, zero, suc, ◌+◌, ◌-◌, ◌<◌, ◌≤◌, Bool, true, false, List, [], ◌∷◌, ◌++◌, map, take, drop, length, get_or, Contains, Option, Some, None, pos}
 use Rattle.std.specs.Prelude.{◌≢◌}
 use Rattle.std.specs.List.{flat_map}
 use Rattle.std.proofs.lemmas.Bool.{cases_lt}
@@ -19,9 +19,9 @@ use Rattle.arc_table.specs.Around.{first_step}
 use Rattle.arc_table.specs.Lookup.{IsBegunBy, BeginAlong}
 use Rattle.arc_table.specs.Nodes.{IsLineOf, IsRingOf}
 use Rattle.arc_table.specs.PathArcs.{AreArcsOf, IsDrawn, round_from, RunsFrom, ArePathArcs, AreArcsAlong}
-use Rattle.arc_table.specs.WholeArcs.{IsPassed}
+use Rattle.arc_table.specs.WholeArcs.{IsPassed, IsNode}
 use Rattle.arc_table.proofs.ArcSteps.{step_between, steps_many, moving}
-use Rattle.arc_table.proofs.FoundArcs.{path_step, BeginsArc, NoneYet, IsUnderWay, IsFound, found_at_first, found_inside, found_begun, found_none, passed_before, some_begins, comes_round}
+use Rattle.arc_table.proofs.FoundArcs.{path_step, BeginsArc, IsFound, found_at_first, found_inside, found_begun, found_none, passed_before, node_or_round, some_begins, comes_round}
 
 -- ---- the steps of a drawing's paths go along its links
 
@@ -94,6 +94,7 @@ module _ (d : Drawing) (arcs : List Path) (table : AreArcsOf d arcs) where
           first = 0;
           there = omega arith;
           passed = λ k l. absurd (omega arith);
+          node = inl line_starts;
           joined = all ∙ sym (append-nil line);
         }
 
@@ -211,12 +212,24 @@ module _ (d : Drawing) (arcs : List Path) (table : AreArcsOf d arcs) where
         let size_drop : length (drop w.first ring) ≡ suc n - w.first = length-drop w.first ring ∙ ap (λ (q : ℕ). q - w.first) (sym size) in
         let size_take : length (take w.first (tail ring)) ≡ w.first = length-take-le w.first (tail ring) (let e = tail-length ring in omega arith) in
         let size_all = length-append (drop w.first ring) (take w.first (tail ring)) in
+        let passed_first : (k : ℕ) → k < w.first → IsPassed d (point_at ring k) = λ k l. subst (IsPassed d) (lower k (omega arith))
+        (passed_before d arcs table.arrangement.ordered table.links table.whole table.long Q n ring_on ring_plain ring_kind k (omega arith) (w.before k l)) in
         let sizes : length (joined_points arcs named) ≡ length (drop w.first ring ++ take w.first (tail ring)) = omega arith in
         record {
           first = w.first;
           there = omega arith;
-          passed = λ k l. subst (IsPassed d) (lower k (omega arith))
-              (passed_before d arcs table.arrangement.ordered table.links table.whole table.long Q n ring_on ring_plain ring_kind k (omega arith) (w.before k l));
+          passed = passed_first;
+          node = elim (node_or_round d arcs table.arrangement.ordered table.links table.whole table.long Q n ring_on ring_plain ring_kind n inside named w) [
+            | inl e ↦ inl (subst (IsNode d) (lower w.first (omega arith)) e)
+            | inr e ↦ inr (record {
+              passed = λ k l. elim (cases_lt k w.first) [
+                | inl m ↦ passed_first k m
+                | inr m ↦ subst (IsPassed d) (lower k (omega arith)) (e.0 k m (let t = twice in omega arith))
+              ];
+              one = e.1;
+              same = e.2;
+            })
+          ];
           joined = ext_get_or o (joined_points arcs named) (round_from w.first ring) sizes
               (λ t l. w.points t (omega arith) ∙ elim (cases_lt (w.first + t) (suc n)) [
                 | inl v ↦ lower (w.first + t) (omega arith) ∙ sym (get_or-drop w.first ring t o) ∙ sym (get_or_append_left (drop w.first ring) (take w.first (tail ring)) o t (omega arith))

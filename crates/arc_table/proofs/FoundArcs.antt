@@ -1,11 +1,11 @@
 -- The arcs found on a path so far.
-use Rattle.std.proofs.Common.{◌≡◌, ◌⊎◌, inl, inr, refl, sym, ap, ◌∙◌, subst, arith, ℕ, zero, suc, ◌+◌, ◌-◌, ◌<◌, ◌≤◌, Bool, true, false, List, [], ◌∷◌, ◌++◌, length, get_or, All, Contains, append_assoc}
+use Rattle.std.proofs.Common.{◌≡◌, ◌⊎◌, inl, inr, refl, sym, ap, ◌∙◌, subst, arith, ℕ, zero, suc, ◌+◌, ◌-◌, ◌<◌, ◌≤◌, List, [], ◌∷◌, ◌++◌, length, get_or, All, Contains, append_assoc}
 use Rattle.std.specs.Prelude.{◌≢◌}
 use Rattle.std.proofs.lemmas.Bool.{cases_lt}
 use Rattle.std.proofs.lemmas.List.{length-append, get_or_append_left, get_or-append_right}
 use Rattle.std.proofs.lemmas.List.Elements.{All-head, All-tail, All-nil, All-cons, All-append}
 use Rattle.lists.specs.Lists.{without_last}
-use Rattle.plane_model.specs.Points.{GridPoint, Segment, Path, link_between}
+use Rattle.plane_model.specs.Points.{Segment, Path, link_between}
 use Rattle.plane_model.specs.Drawing.{Drawing}
 use Rattle.plane_model.specs.Arcs.{SignedArc, points_of, joined_points}
 use Rattle.plane_model.specs.Arrangement.{IsBefore}
@@ -13,9 +13,9 @@ use Rattle.plane_model.specs.Snapped.{links_of}
 use Rattle.arc_table.specs.Direction.{point_at}
 use Rattle.arc_table.specs.Along.{GoAlong}
 use Rattle.arc_table.specs.Around.{first_step}
-use Rattle.arc_table.specs.WholeArcs.{IsPassed, IsWholeArc}
-use Rattle.arc_table.proofs.ArcSteps.{IsStepOf, find}
-use Rattle.arc_table.proofs.Walks.{all_long, fits, walk, begins_next, passed_between, starts_arc, none_inside}
+use Rattle.arc_table.specs.WholeArcs.{IsPassed, IsNode, IsWholeArc}
+use Rattle.arc_table.proofs.ArcSteps.{IsStepOf, find, one_arc_of}
+use Rattle.arc_table.proofs.Walks.{all_whole, fits, walk, begins_next, stays_round, passed_on, passed_between, starts_arc, none_inside}
 
 abbrev pub path_step : Path → ℕ → Segment
 path_step path k = record { start = point_at path k; stop = point_at path (suc k) }
@@ -63,6 +63,10 @@ module _ (arcs : List Path) where
       ap (λ (ps : Path). A ++ ps) (joined_more b rest z later) ∙ sym (append_assoc A (without_last B) (points_of arcs z))
       ∙ ap (λ (ps : Path). ps ++ points_of arcs z) (sym (without_last-append A B (joined_some b rest later)))
 
+-- the arc begins with a step of the path, not before vertex `first`
+abbrev pub BeginsFrom : List Path → Path → ℕ → SignedArc → Type 0
+BeginsFrom arcs Q first a = (k : ℕ) × (first ≤ k) × (suc k < length Q) × IsStepOf arcs a 0 (path_step Q k)
+
 -- after so many steps of the path no arc has begun
 pub record NoneYet (arcs : List Path) (Q : Path) (at inside : ℕ) (named : List SignedArc) : Type 0 where
   pub none : named ≡ []
@@ -82,6 +86,7 @@ pub record IsUnderWay (arcs : List Path) (Q : Path) (at inside : ℕ) (named : L
   pub others : List SignedArc
   pub is : named ≡ one ∷ others
   pub full : All (HasPoints arcs) named
+  pub each : All (BeginsFrom arcs Q first) named
   pub size : length (joined_points arcs named) + first ≡ suc (at + inside)
   pub points : (t : ℕ) → first + t ≤ at + inside → point_at (joined_points arcs named) t ≡ point_at Q (first + t)
 
@@ -110,6 +115,7 @@ found_inside arcs Q at inside left next_at named some less next (inr w) =
       others = w.others;
       is = w.is;
       full = w.full;
+      each = w.each;
       size = omega arith;
       points = λ t l. w.points t (omega arith);
     })
@@ -157,6 +163,9 @@ module _ (d : Drawing) (arcs : List Path) (ordered : All (λ (l : Segment). IsBe
     has_points : HasPoints arcs a
     has_points = let m = h.there in omega arith
 
+    begins_here : (first : ℕ) → first ≤ at → BeginsFrom arcs Q first a
+    begins_here first m = (at, m, fits d arcs ordered along whole long Q n on plain kind at l, h)
+
     pub first_begun : ((k : ℕ) → k < at → BeginsArc arcs (path_step Q k) → ⊥) → BeginsArc arcs (path_step Q at) → IsUnderWay arcs Q (suc at) left (a ∷ [])
     first_begun before here =
         let some = h.there in
@@ -172,7 +181,8 @@ module _ (d : Drawing) (arcs : List Path) (ordered : All (λ (l : Segment). IsBe
           others = [];
           is = refl;
           full = All-cons (HasPoints arcs) a [] has_points (All-nil (HasPoints arcs));
-          size = omega arith;
+          each = All-cons (BeginsFrom arcs Q at) a [] (begins_here at (omega arith)) (All-nil (BeginsFrom arcs Q at));
+          size = (let e : length P + at ≡ suc (suc at + left) = omega arith in e);
           points = λ t m. along_points t (omega arith);
         }
 
@@ -219,6 +229,8 @@ module _ (d : Drawing) (arcs : List Path) (ordered : All (λ (l : Segment). IsBe
             others = w.others ++ a ∷ [];
             is = ap (λ (xs : List SignedArc). xs ++ a ∷ []) w.is;
             full = All-append (HasPoints arcs) named (a ∷ []) w.full (All-cons (HasPoints arcs) a [] has_points (All-nil (HasPoints arcs)));
+            each = All-append (BeginsFrom arcs Q w.first) named (a ∷ []) w.each
+                (All-cons (BeginsFrom arcs Q w.first) a [] (begins_here w.first (let b = w.below in omega arith)) (All-nil (BeginsFrom arcs Q w.first)));
             size = omega arith;
             points = new_points;
           }
@@ -253,6 +265,26 @@ module _ (d : Drawing) (arcs : List Path) (ordered : All (λ (l : Segment). IsBe
 
   pub passed_before : (k : ℕ) → k < n → (BeginsArc arcs (path_step Q k) → ⊥) → IsPassed d (point_at Q k)
   passed_before k l none = passed_between d arcs ordered along whole long Q n on plain kind k (fits d arcs ordered along whole long Q n on plain kind k l) none
+
+  -- the first vertex is a node, or the path has none and goes along one arc
+  pub node_or_round : (at inside : ℕ) (named : List SignedArc) → (w : IsUnderWay arcs Q at inside named)
+      → IsNode d (point_at Q w.first) ⊎ (((k : ℕ) → w.first ≤ k → suc k < length Q → IsPassed d (point_at Q k)) × (one : SignedArc) × All (λ (b : SignedArc). b ≡ one) named)
+  node_or_round at inside named w =
+      let h = starts_arc d arcs ordered along whole long Q n on plain kind w.begins.0 w.first w.begins.1 w.begins.2 in
+      elim (all_whole d arcs ordered along whole long w.begins.0 w.begins.1).ends [
+        | inl e ↦ inl (subst (IsNode d) (sym (ap (λ (s : Segment). s.start) h.is)) e.0)
+        | inr e ↦ inr (
+          (λ k l m.
+              (let r = stays_round d arcs ordered along whole long Q n on plain kind w.begins.0 w.first h e.0 e.1 (k - w.first) k (omega arith) m in
+              passed_on d arcs ordered along whole long Q n on plain kind w.begins.0 r.0 k r.1 e.1)),
+          w.begins.0,
+          (λ i b l.
+              (let c = w.each i b l in
+              let below = c.1 in
+              let r = stays_round d arcs ordered along whole long Q n on plain kind w.begins.0 w.first h e.0 e.1 (c.0 - w.first) c.0 (omega arith) c.2 in
+              sym (one_arc_of (links_of d) arcs ordered along w.begins.0 (get_or named i b) r.0 0 (path_step Q c.0) r.1 c.3).0)),
+        )
+      ]
 
   -- on a closed path some arc begins
   pub some_begins : 0 < n → suc (n + n) ≡ length Q → ((k : ℕ) → k ≤ n → point_at Q (n + k) ≡ point_at Q k) → ((k : ℕ) → k < n → BeginsArc arcs (path_step Q k) → ⊥) → ⊥

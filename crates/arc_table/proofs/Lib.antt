@@ -1,3 +1,4 @@
+pub mod AloneInside
 pub mod Along
 pub mod ArcSteps
 pub mod AroundRows

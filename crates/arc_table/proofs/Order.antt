@@ -1,17 +1,17 @@
 -- Arcs are numbered in the order of the first steps along them.
-use Rattle.std.proofs.Common.{◌≡◌, ◌⊎◌, inl, inr, refl, sym, ap, ◌∙◌, subst, arith, ℕ, zero, suc, ◌+◌, ◌-◌, ◌<◌, ◌≤◌, Bool, false, List, [], ◌∷◌, ◌++◌, map, take, length, get_or, AllPairs, Contains, Some, append_assoc}
+use Rattle.std.proofs.Common.{◌≡◌, inl, inr, refl, sym, ap, ◌∙◌, subst, arith, ℕ, zero, suc, ◌+◌, ◌-◌, ◌<◌, false, List, [], ◌∷◌, ◌++◌, map, take, length, get_or, AllPairs, Contains, Some, append_assoc}
 use Rattle.std.specs.Prelude.{◌≢◌, slice_get}
 use Rattle.std.proofs.lemmas.Bool.{cases_lt}
-use Rattle.std.proofs.lemmas.List.{append-nil, length-append, length_push, get_or_append_left, get_or_at, get_or-append-add, get_or_default, map-append, take_all, take_more, get_or_read}
+use Rattle.std.proofs.lemmas.List.{append-nil, length-append, length_push, get_or_append_left, get_or_at, get_or-append-add, map-append, get_or_read}
 use Rattle.std.proofs.lemmas.List.Elements.{Contains-push_cases, Contains-append_cases, Contains-get_or}
-use Rattle.std.proofs.lemmas.Option.{get_or_from_slice_get, slice_get-get_or}
+use Rattle.std.proofs.lemmas.Option.{get_or_from_slice_get}
 use Rattle.std.specs.List.{flat_map}
 use Rattle.std.proofs.lemmas.Grind.{flat_map-append}
 use Rattle.plane_model.proofs.PointOrder.{clash}
 use Rattle.plane_model.specs.Points.{GridPoint, Segment, Path, reversed, link_between}
 use Rattle.plane_model.specs.Drawing.{step_of, steps, steps_of_paths}
 use Rattle.arc_table.specs.Numbering.{step_at, link_at, links_from, links_along, HasMark, IsNumbering, GoesFrom}
-use Rattle.arc_table.specs.Order.{way_at, links_of_way, links_stepped, AreInOrder, IsAfter, GoesAlong, HasOneMore}
+use Rattle.arc_table.specs.Order.{way_at, links_of_way, links_stepped, IsAfter, GoesAlong, HasOneMore}
 use Rattle.arc_table.specs.declared.half_links.Net.{Net}
 use Rattle.arc_table.specs.declared.numbering.Way.{Way}
 use Rattle.arc_table.specs.declared.numbering.Numbering.{Numbering}

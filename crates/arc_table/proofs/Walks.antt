@@ -3,7 +3,7 @@ use Rattle.std.proofs.Common.{◌≡◌, ◌⊎◌, inl, inr, refl, sym, ap, ◌
 use Rattle.std.specs.Prelude.{◌≢◌}
 use Rattle.std.proofs.lemmas.Bool.{cases_lt}
 use Rattle.std.proofs.lemmas.List.{length-reverse}
-use Rattle.plane_model.specs.Points.{GridPoint, Segment, Path, link_between, reversed}
+use Rattle.plane_model.specs.Points.{GridPoint, Segment, Path, link_between}
 use Rattle.plane_model.specs.Drawing.{Drawing}
 use Rattle.plane_model.specs.Arcs.{SignedArc, points_of}
 use Rattle.plane_model.specs.Arrangement.{IsBefore}
@@ -17,20 +17,20 @@ use Rattle.arc_table.proofs.ArcSteps.{arc_of, IsStepOf, moving, find, on_link_of
 use Rattle.arc_table.proofs.WholeBack.{back_whole}
 
 -- the link of a step ends where the step starts, and where it stops
-ends_at_start : (s : Segment) (p : GridPoint) → s.start ≡ p → EndsAt p (link_between s)
+pub ends_at_start : (s : Segment) (p : GridPoint) → s.start ≡ p → EndsAt p (link_between s)
 ends_at_start s p e = elim (link_is s) [
   | inl f ↦ inl (ap (λ (t : Segment). t.start) f ∙ e)
   | inr f ↦ inr (ap (λ (t : Segment). t.stop) f ∙ e)
 ]
 
-ends_at_stop : (s : Segment) (p : GridPoint) → s.stop ≡ p → EndsAt p (link_between s)
+pub ends_at_stop : (s : Segment) (p : GridPoint) → s.stop ≡ p → EndsAt p (link_between s)
 ends_at_stop s p e = elim (link_is s) [
   | inl f ↦ inr (ap (λ (t : Segment). t.stop) f ∙ e)
   | inr f ↦ inl (ap (λ (t : Segment). t.start) f ∙ e)
 ]
 
 -- of two, one is the first or the second, where these differ
-pick : (one another l u v : Segment) → (l ≡ one) ⊎ (l ≡ another) → (u ≡ one) ⊎ (u ≡ another) → (v ≡ one) ⊎ (v ≡ another) → u ≢ v → (l ≡ u) ⊎ (l ≡ v)
+pub pick : (one another l u v : Segment) → (l ≡ one) ⊎ (l ≡ another) → (u ≡ one) ⊎ (u ≡ another) → (v ≡ one) ⊎ (v ≡ another) → u ≢ v → (l ≡ u) ⊎ (l ≡ v)
 pick one another l u v (inl a) (inl b) c n = inl (a ∙ sym b)
 pick one another l u v (inr a) (inr b) c n = inl (a ∙ sym b)
 pick one another l u v (inl a) (inr b) (inl c) n = inr (a ∙ sym c)
@@ -158,6 +158,44 @@ module _ (d : Drawing) (arcs : List Path) (ordered : All (λ (l : Segment). IsBe
           ]
         ]
 
+    -- from its end a closed arc without a node goes on from its start
+    again : (a : SignedArc) (i k : ℕ) → IsStepOf arcs a i (step k) → suc (suc i) ≡ length (points_of arcs a) → point_at (points_of arcs a) 0 ≡ point_at (points_of arcs a) (length (points_of arcs a) - 1)
+        → IsPassed d (point_at (points_of arcs a) 0) → suc (suc k) < length Q → IsStepOf arcs a 0 (step (suc k))
+    again a i k h m closed passed there =
+        let P = points_of arcs a in
+        let last : point_at Q (suc k) ≡ point_at P (length P - 1) = ap (λ (x : Segment). x.stop) h.is ∙ ap (point_at P) (let e : suc i ≡ length P - 1 = omega arith in e) in
+        let t : Segment = record { start = point_at P 0; stop = point_at P 1 } in
+        let h_t : IsStepOf arcs a 0 t = record { arc = h.arc; there = omega arith; is = refl } in
+        let meets : point_at P 0 ≡ point_at Q (suc k) = closed ∙ sym last in
+        let here : IsPassed d (point_at Q (suc k)) = subst (IsPassed d) meets passed in
+        let on_t = on_link_of S arcs ordered along a 0 t h_t in
+        let apart : link_between (step k) ≢ link_between t = λ f.
+        (let z = one_place_of S arcs ordered along a i 0 (step k) t h h_t f in
+        moving S arcs ordered along t on_t (closed ∙ ap (point_at P) (let y : length P - 1 ≡ 1 = omega arith in y))) in
+        let same : step (suc k) ≡ t = next_step (point_at Q (suc k)) here (step k) t (step (suc k)) refl meets refl (on k (omega arith)) on_t (on (suc k) there) apart (plain k there here) in
+        record { arc = h.arc; there = omega arith; is = same }
+
+    -- from a closed arc without a node the path does not part
+    pub stays_round : (a : SignedArc) (j : ℕ) → IsStepOf arcs a 0 (step j) → point_at (points_of arcs a) 0 ≡ point_at (points_of arcs a) (length (points_of arcs a) - 1) → IsPassed d (point_at (points_of arcs a) 0)
+        → (u k : ℕ) → k ≡ j + u → suc k < length Q → (i : ℕ) × IsStepOf arcs a i (step k)
+    stays_round a j h closed passed zero k e m = (0, moved a 0 0 j k refl (omega arith) h)
+    stays_round a j h closed passed (suc u) k e m =
+        let before = stays_round a j h closed passed u (j + u) refl (omega arith) in
+        let g = before.1 in
+        let f : suc (j + u) ≡ k = omega arith in
+        elim (cases_lt (suc (suc before.0)) (length (points_of arcs a))) [
+          | inl l ↦ (suc before.0, moved a (suc before.0) (suc before.0) (suc (j + u)) k refl f (one_more a before.0 (j + u) g l (omega arith)))
+          | inr l ↦ (0, moved a 0 0 (suc (j + u)) k refl f (again a before.0 (j + u) g (let there = g.there in omega arith) closed passed (omega arith)))
+        ]
+
+    pub passed_on : (a : SignedArc) (i k : ℕ) → IsStepOf arcs a i (step k) → IsPassed d (point_at (points_of arcs a) 0) → IsPassed d (point_at Q k)
+    passed_on a i k h passed =
+        let start = ap (λ (x : Segment). x.start) h.is in
+        elim (cases_lt 0 i) [
+          | inl l ↦ (let there = h.there in subst (IsPassed d) (sym start) ((all_whole a h.arc).inner i l (omega arith)))
+          | inr l ↦ subst (IsPassed d) (sym (start ∙ ap (point_at (points_of arcs a)) (let e : i ≡ 0 = omega arith in e))) passed
+        ]
+
     -- a step that begins an arc, where an arc ends
     pub begins_next : (a : SignedArc) (i k : ℕ) → IsStepOf arcs a i (step k) → suc (suc i) ≡ length (points_of arcs a) → suc (suc k) < length Q → Begins (step (suc k))
     begins_next a i k h m there =
@@ -176,16 +214,7 @@ module _ (d : Drawing) (arcs : List Path) (ordered : All (λ (l : Segment). IsBe
             let last : point_at Q (suc k) ≡ point_at P (length P - 1) = ap (λ (x : Segment). x.stop) h.is ∙ ap (point_at P) (let e : suc i ≡ length P - 1 = omega arith in e) in
             elim (all_whole a h.arc).ends [
               | inl e ↦ absurd (e.1 (subst (IsPassed d) last passed))
-              | inr e ↦ (
-                  let t : Segment = record { start = point_at P 0; stop = point_at P 1 } in
-                  let h_t : IsStepOf arcs a 0 t = record { arc = h.arc; there = omega arith; is = refl } in
-                  let meets : point_at P 0 ≡ point_at Q (suc k) = e.0 ∙ sym last in
-                  let on_t = on_link_of S arcs ordered along a 0 t h_t in
-                  let apart : link_between (step k) ≢ link_between t = λ f.
-                  (let z = one_place_of S arcs ordered along a i 0 (step k) t h h_t f in
-                  moving S arcs ordered along t on_t (e.0 ∙ ap (point_at P) (let y : length P - 1 ≡ 1 = omega arith in y))) in
-                  let same : step (suc k) ≡ t = next_step (point_at Q (suc k)) passed (step k) t (step (suc k)) refl meets refl (on k (omega arith)) on_t (on (suc k) there) apart (plain k there passed) in
-                  (a, h.arc, begins_with S arcs ordered along a (step (suc k)) (long a.arc [] h.arc) (record { arc = h.arc; there = omega arith; is = same })))
+              | inr e ↦ (a, h.arc, begins_with S arcs ordered along a (step (suc k)) (long a.arc [] h.arc) (again a i k h m e.0 e.1 there))
             ]
 
     -- where no arc begins at a step, it starts at no node

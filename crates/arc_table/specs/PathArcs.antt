@@ -1,16 +1,18 @@
 -- The arcs that a path of a drawing goes along.
-use Rattle.std.specs.Prelude.{◌≡◌, ◌⊎◌, ◌+◌, ◌<◌, ℕ, List, [], ◌++◌, All, Contains, length, take, drop}
+use Rattle.std.specs.Prelude.{◌≡◌, ◌⊎◌, ◌+◌, ◌<◌, ℕ, List, [], ◌++◌, All, length, take, drop}
 use Rattle.lists.specs.Lists.{tail}
-use Rattle.plane_model.specs.Points.{Path}
+use Rattle.plane_model.specs.Points.{GridPoint, Path}
 use Rattle.plane_model.specs.Drawing.{Drawing}
 use Rattle.plane_model.specs.Arcs.{SignedArc, joined_points}
 use Rattle.plane_model.specs.Arrangement.{IsArrangement}
 use Rattle.plane_model.specs.Joined.{IsClosed}
 use Rattle.plane_model.specs.Snapped.{links_of}
 use Rattle.arc_table.specs.Along.{GoAlong}
+use Rattle.arc_table.specs.Around.{start_of}
 use Rattle.arc_table.specs.Direction.{point_at}
+use Rattle.arc_table.specs.Lookup.{HasVertex}
 use Rattle.arc_table.specs.Nodes.{IsLineOf, IsRingOf}
-use Rattle.arc_table.specs.WholeArcs.{IsPassed, IsWholeArc}
+use Rattle.arc_table.specs.WholeArcs.{IsPassed, IsNode, IsWholeArc}
 
 -- the whole arcs of a drawing whose links meet at common ends alone
 pub record AreArcsOf (d : Drawing) (arcs : List Path) : Type 0 where
@@ -27,11 +29,18 @@ IsDrawn d path = IsLineOf d path ⊎ (IsRingOf d path × IsClosed path)
 abbrev pub round_from : ℕ → Path → Path
 round_from k path = drop k path ++ take k (tail path)
 
--- the arcs, joined, are the path from one of its vertices round, and no vertex before that one is a node
+-- no vertex of the path is a node, and it goes along one arc, perhaps more than once
+pub record IsOneRound (d : Drawing) (path : Path) (named : List SignedArc) : Type 0 where
+  pub passed : (k : ℕ) → k < length path → IsPassed d (point_at path k)
+  pub one : SignedArc
+  pub same : All (λ (a : SignedArc). a ≡ one) named
+
+-- the arcs, joined, are the path from its first node round, or where it has none from one of its vertices
 pub record RunsFrom (d : Drawing) (arcs : List Path) (path : Path) (named : List SignedArc) : Type 0 where
   pub first : ℕ
   pub there : first + 1 < length path
   pub passed : (k : ℕ) → k < first → IsPassed d (point_at path k)
+  pub node : IsNode d (point_at path first) ⊎ IsOneRound d path named
   pub joined : joined_points arcs named ≡ round_from first path
 
 -- the arcs along a path, in order; a single vertex has none
@@ -42,3 +51,12 @@ pub record ArePathArcs (d : Drawing) (arcs : List Path) (path : Path) (named : L
 -- whatever drawing these are the arcs of, and the path is drawn in
 abbrev pub AreArcsAlong : List Path → Path → List SignedArc → Type 0
 AreArcsAlong arcs path named = (d : Drawing) → AreArcsOf d arcs → IsDrawn d path → ArePathArcs d arcs path named
+
+-- ---- vertices inside arcs
+
+abbrev pub NoneStartsAt : List Path → GridPoint → Type 0
+NoneStartsAt arcs p = (a : SignedArc) → a.arc < length arcs → start_of arcs a ≡ p → ⊥
+
+-- whatever drawing these are the arcs of: where no arc starts at p, no other arc than arc n has p as a vertex
+abbrev pub IsAloneAt : List Path → GridPoint → ℕ → Type 0
+IsAloneAt arcs p n = (d : Drawing) → AreArcsOf d arcs → NoneStartsAt arcs p → (m : ℕ) → m < length arcs → HasVertex arcs m p → m ≡ n

@@ -6,6 +6,7 @@ ghost use Rattle.arc_table.specs.Direction.{IsForward};
 ghost use Rattle.arc_table.specs.Around.{IsAround};
 ghost use Rattle.arc_table.specs.Lookup.{IsArcAt, IsBegunBy};
 ghost use Rattle.arc_table.specs.Order.{AreNumbered};
+ghost use Rattle.arc_table.specs.PathArcs.{IsAloneAt};
 ghost use Rattle.arc_table.specs.WholeArcs.{IsWholeArc};
 
 use crate::direction::{is_before, is_same};
@@ -142,9 +143,11 @@ impl ArcTable {
         &self.outs[first..first + count]
     }
 
-    /// The least arc that has `p` as a vertex; `None` exactly where there is none. Takes no memory.
+    /// The least arc that has `p` as a vertex; `None` exactly where there is none. Where no arc starts at `p`, it is the
+    /// only one. Takes no memory.
     pub fn arc_at(&self, p: Pt) -> Option<ArcId>
         ensures exact { IsArcAt self.now p result }
+        ensures alone { IfSome result (IsAloneAt self.now p) }
         ensures there { IfSome result (λ id. id < length self.now) }
     {
         least_at(&self.vertices, p)

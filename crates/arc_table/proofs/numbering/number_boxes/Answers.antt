@@ -1,5 +1,4 @@
 use Rattle.std.proofs.Common.{arith, ap, ◌∙◌, refl, map, [], ◌∷◌}
-use Rattle.std.specs.List.{flat_map}
 use Rattle.plane_model.specs.Points.{Path, link_between}
 use Rattle.plane_model.specs.Drawing.{steps}
 use Rattle.arc_table.proofs.Order.{along_lists}

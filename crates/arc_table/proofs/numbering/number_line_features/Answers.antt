@@ -1,4 +1,4 @@
-use Rattle.std.proofs.Common.{arith, ap, ◌∙◌, refl, map, [], ◌∷◌}
+use Rattle.std.proofs.Common.{arith, ap, ◌∙◌, [], ◌∷◌}
 use Rattle.std.specs.List.{flat_map}
 use Rattle.plane_model.specs.Points.{Path}
 use Rattle.arc_table.specs.Order.{links_stepped}

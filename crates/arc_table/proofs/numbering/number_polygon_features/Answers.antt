@@ -1,6 +1,5 @@
-use Rattle.std.proofs.Common.{arith, ap, ◌∙◌, refl, map, [], ◌∷◌}
+use Rattle.std.proofs.Common.{arith, ap}
 use Rattle.std.specs.List.{flat_map}
-use Rattle.plane_model.specs.Points.{Path}
 use Rattle.plane_model.specs.Drawing.{rings_of}
 use Rattle.arc_table.specs.Order.{links_stepped}
 use Rattle.arc_table.proofs.Order.{along_lists}

@@ -1,4 +1,4 @@
-use Rattle.std.proofs.Common.{take, [], ◌∷◌}
+use Rattle.std.proofs.Common.{take}
 use Rattle.std.specs.List.{flat_map}
 use Rattle.arc_table.specs.Numbering.{IsNumbering}
 use Rattle.arc_table.specs.Order.{GoesAlong, links_stepped}

@@ -2,6 +2,7 @@ use Rattle.std.proofs.Common.{subst, List}
 use Rattle.plane_model.specs.Points.{Path}
 use Rattle.arc_table.specs.Lookup.{IsArcAt, IsFirstAt}
 use Rattle.arc_table.specs.declared.vertices.ArcVertex.{ArcVertex}
+use Rattle.arc_table.proofs.AloneInside.{alone_from}
 use Rattle.arc_table.proofs.LeastAt.{arc_at_from, there_from}
 use Rattle.arc_table.proofs.table.ArcTable.arc_at.Goals as goal
 
@@ -14,3 +15,6 @@ returns-clause-exact c =
 
 pub returns-clause-there : goal.returns-clause-there
 returns-clause-there c = there_from c.args.self.now c.args.p c.least_at.result (returns-clause-exact c)
+
+pub returns-clause-alone : goal.returns-clause-alone
+returns-clause-alone c = alone_from c.args.self.now c.args.p c.least_at.result (returns-clause-exact c)
