@@ -13,3 +13,5 @@ pub mod SortedLists
 pub mod PairLemmas
 pub mod VertexLemmas
 pub mod WayLemmas
+pub mod RoundLemmas
+pub mod CornerLemmas

@@ -88,7 +88,7 @@ range_once m a (suc n) = go (nat_eq m a) refl (range_counted m a n) (range_once 
         omega arith
     go false e c r = let d : tick (nat_eq m a) ≡ 0 = ap tick e in omega arith
 
-two_counted : (m : ℕ) (xs : List ℕ) (i j : ℕ) → i < j → j < length xs → get_or xs i 0 ≡ m → get_or xs j 0 ≡ m → 2 ≤ count_by (nat_eq m) xs
+pub two_counted : (m : ℕ) (xs : List ℕ) (i j : ℕ) → i < j → j < length xs → get_or xs i 0 ≡ m → get_or xs j 0 ≡ m → 2 ≤ count_by (nat_eq m) xs
 two_counted m xs i j l k e f =
     let g : ℕ → ℕ = λ x. tick (nat_eq m x) in
     let one : g m ≡ 1 = ap tick (eq-eqb m m refl) in

@@ -1,7 +1,8 @@
 ghost use Rattle.std.specs.Prelude.{◌≡◌, [], ◌++◌, ◌<◌, ◌≤◌, ◌^◌, ℕ, All, IfOk, OnOk, drop, false, length, reverse, slice_index, slice_index_or, slice_set, take, true};
 ghost use Rattle.std.specs.List.Sorted.{IsPermutation};
 ghost use Rattle.ring_trace.specs.Rings.{AreTiled, HasEachOnce, IsKept, IsSpan, IsWalk, IsWhole, StaysGone};
-ghost use Rattle.ring_trace.specs.Ways.{AreClosedWays, AreOnWay, AreRingsClosed, IsClosedWay, IsMarkedWay, IsWay, start_in, stop_in};
+ghost use Rattle.ring_trace.specs.Pairing.{AreApart, AreBalanced, AreByStart};
+ghost use Rattle.ring_trace.specs.Ways.{AreRingsByCorners, AreSimpleRings, AreMarked, AreRingsByVertices, IsAtRest, IsSimpleRing, IsMarkedWay, IsWay, start_in, stop_in};
 
 use crate::pairing::{Edge, onward_of, vertices_of};
 use arc_table::ArcTable;
@@ -41,6 +42,7 @@ pub fn rings_of(alloc: Global, t: &ArcTable, edges: &[Edge]) -> Result<Rings, Al
     ensures whole { IfOk result (IsWhole (length edges.now)) }
     ensures once { IfOk result (HasEachOnce edges.now) }
     ensures tiled { IfOk result (λ rings. AreTiled 0 rings.spans.items (length rings.edges.items)) }
+    ensures simple { AreBalanced t.now edges.now → AreByStart edges.now → IfOk result (AreRingsByCorners t.now edges.now) }
 {
     let mut walk = Walk {
         onward: onward_of(alloc, t, edges)?,
@@ -68,19 +70,20 @@ fn go_round(walk: &mut Walk, rings: &mut Rings, first: usize) -> Result<(), Allo
     requires kept { IsKept walk.old rings.old }
     requires first { first < length walk.old.onward.items }
     requires new { slice_index_or walk.old.is_gone.items first false ≡ false }
+    requires apart { AreApart walk.old.onward.items }
+    requires rest { IsAtRest walk.old rings.old }
     ensures walk { OnOk result (IsWalk walk.new) }
     ensures count { OnOk result (length walk.new.onward.items ≡ length walk.old.onward.items) }
     ensures rings { OnOk result (IsWhole (length walk.old.onward.items) rings.new) }
     ensures kept { OnOk result (IsKept walk.new rings.new) }
-    ensures done { OnOk result (walk.new.way.items ≡ []) }
     ensures gone { OnOk result (slice_index_or walk.new.is_gone.items first false ≡ true) }
     ensures stays { OnOk result (StaysGone walk.old.is_gone.items walk.new.is_gone.items) }
+    ensures onward { OnOk result (walk.new.onward.items ≡ walk.old.onward.items) }
+    ensures vertices { OnOk result (walk.new.vertices.items ≡ walk.old.vertices.items) }
+    ensures rest { OnOk result (IsAtRest walk.new rings.new) }
 {
     let mut at = go_along(walk, rings, first)?;
-    for _step in 1..walk.onward.len() {
-        if walk.is_gone[at] {
-            break;
-        }
+    while !walk.is_gone[at] {
         at = go_along(walk, rings, at)?;
     }
     close(walk, rings)
@@ -103,7 +106,7 @@ fn go_along(walk: &mut Walk, rings: &mut Rings, edge: usize) -> Result<usize, Al
     ensures vertices { OnOk result (walk.new.vertices.items ≡ walk.old.vertices.items) }
     ensures leads { (from : ℕ) → IsMarkedWay walk.old from (start_in walk.old.vertices.items edge) →
         OnOk result (IsMarkedWay walk.new from (stop_in walk.old.onward.items walk.old.vertices.items edge)) }
-    ensures closed { (from : ℕ) → IsMarkedWay walk.old from (start_in walk.old.vertices.items edge) → AreRingsClosed walk.old rings.old → OnOk result (AreRingsClosed walk.old rings.new) }
+    ensures simple { (from : ℕ) → IsMarkedWay walk.old from (start_in walk.old.vertices.items edge) → AreRingsByVertices walk.old rings.old → OnOk result (AreRingsByVertices walk.old rings.new) }
     ensures follows { IfOk result (λ next. next ≡ slice_index walk.old.onward.items edge) }
 {
     let vertex = walk.vertices[edge] as usize;
@@ -128,12 +131,13 @@ fn cut_ring(walk: &mut Walk, rings: &mut Rings, vertex: usize) -> Result<(), All
     ensures gone { OnOk result (walk.new.is_gone.items ≡ walk.old.is_gone.items) }
     ensures onward { OnOk result (walk.new.onward.items ≡ walk.old.onward.items) }
     ensures vertices { OnOk result (walk.new.vertices.items ≡ walk.old.vertices.items) }
-    ensures marked { AreOnWay walk.old.vertices.items walk.old.is_passed.items walk.old.way.items →
-        OnOk result (AreOnWay walk.old.vertices.items walk.new.is_passed.items walk.new.way.items) }
+    ensures marked { AreMarked walk.old.vertices.items walk.old.is_passed.items walk.old.way.items →
+        OnOk result (AreMarked walk.old.vertices.items walk.new.is_passed.items walk.new.way.items) }
+    ensures freed { AreMarked walk.old.vertices.items walk.old.is_passed.items walk.old.way.items → OnOk result (slice_index_or walk.new.is_passed.items vertex false ≡ false) }
     ensures leads { (from : ℕ) → IsMarkedWay walk.old from vertex → slice_index_or walk.old.is_passed.items vertex false ≡ true →
         OnOk result (IsWay (start_in walk.old.vertices.items) (stop_in walk.old.onward.items walk.old.vertices.items) from walk.new.way.items vertex) }
-    ensures closed { (from : ℕ) → IsMarkedWay walk.old from vertex → slice_index_or walk.old.is_passed.items vertex false ≡ true → AreRingsClosed walk.old rings.old →
-        OnOk result (AreRingsClosed walk.old rings.new) }
+    ensures simple { (from : ℕ) → IsMarkedWay walk.old from vertex → slice_index_or walk.old.is_passed.items vertex false ≡ true → AreRingsByVertices walk.old rings.old →
+        OnOk result (AreRingsByVertices walk.old rings.new) }
 {
     let begin = rings.edges.len();
     while let Some(edge) = walk.way.pop() {
@@ -160,10 +164,10 @@ fn close(walk: &mut Walk, rings: &mut Rings) -> Result<(), AllocError>
     ensures done { OnOk result (walk.new.way.items ≡ []) }
     ensures onward { OnOk result (walk.new.onward.items ≡ walk.old.onward.items) }
     ensures vertices { OnOk result (walk.new.vertices.items ≡ walk.old.vertices.items) }
-    ensures marked { AreOnWay walk.old.vertices.items walk.old.is_passed.items walk.old.way.items →
-        OnOk result (AreOnWay walk.old.vertices.items walk.new.is_passed.items walk.new.way.items) }
-    ensures closed { (from : ℕ) → IsWay (start_in walk.old.vertices.items) (stop_in walk.old.onward.items walk.old.vertices.items) from walk.old.way.items from → AreRingsClosed walk.old rings.old →
-        OnOk result (AreRingsClosed walk.old rings.new) }
+    ensures marked { AreMarked walk.old.vertices.items walk.old.is_passed.items walk.old.way.items →
+        OnOk result (AreMarked walk.old.vertices.items walk.new.is_passed.items walk.new.way.items) }
+    ensures simple { (from : ℕ) → IsMarkedWay walk.old from from → AreRingsByVertices walk.old rings.old →
+        OnOk result (AreRingsByVertices walk.old rings.new) }
 {
     let begin = rings.edges.len();
     while let Some(edge) = walk.way.pop() {
@@ -182,8 +186,8 @@ fn add_ring(rings: &mut Rings, begin: usize) -> Result<(), AllocError>
     ensures edges { OnOk result (IsPermutation rings.old.edges.items rings.new.edges.items) }
     ensures tiled { OnOk result (AreTiled 0 rings.new.spans.items (length rings.new.edges.items)) }
     ensures spans { OnOk result (All (IsSpan (length rings.new.edges.items)) rings.new.spans.items) }
-    ensures closed { (start stop : ℕ → ℕ) → AreClosedWays start stop (take begin rings.old.edges.items) rings.old.spans.items →
-        IsClosedWay start stop (reverse (drop begin rings.old.edges.items)) → OnOk result (AreClosedWays start stop rings.new.edges.items rings.new.spans.items) }
+    ensures simple { (start stop : ℕ → ℕ) → AreSimpleRings start stop (take begin rings.old.edges.items) rings.old.spans.items →
+        IsSimpleRing start stop (reverse (drop begin rings.old.edges.items)) → OnOk result (AreSimpleRings start stop rings.new.edges.items rings.new.spans.items) }
 {
     let end = rings.edges.len();
     turn_back(&mut rings.edges, begin);

@@ -4,7 +4,7 @@ use Rattle.std.proofs.lemmas.List.Sorted.{length_permutation}
 use Rattle.ring_trace.specs.declared.simple_rings.RingSpan.{RingSpan}
 use Rattle.ring_trace.specs.Rings.{AreTiled, IsSpan}
 use Rattle.std.proofs.lemmas.List.{length-take-le, length-drop, length-reverse}
-use Rattle.ring_trace.specs.Ways.{AreClosedWays}
+use Rattle.ring_trace.specs.Ways.{AreSimpleRings}
 use Rattle.ring_trace.proofs.TileLemmas.{tiled_more}
 use Rattle.ring_trace.proofs.WayLemmas.{rings_more}
 use Rattle.ring_trace.proofs.simple_rings.add_ring.Goals as goal
@@ -32,8 +32,8 @@ returns-clause-spans c =
     (All-push (IsSpan (length new)) c.args.rings.now.spans.items s (subst (λ (n : ℕ). All (IsSpan n) c.args.rings.now.spans.items) (sym size) c.requires.spans)
     (record { ordered = omega arith; within = omega arith }))
 
-pub returns-clause-closed : goal.returns-clause-closed
-returns-clause-closed c = λ start stop before ring.
+pub returns-clause-simple : goal.returns-clause-simple
+returns-clause-simple c = λ start stop before ring.
     let old = c.args.rings.now.edges.items in
     let begin = c.args.begin in
     let front : List ℕ = take begin old in
@@ -45,6 +45,6 @@ returns-clause-closed c = λ start stop before ring.
     let end : c.len-end.result ≡ length old = search rules in
     let spans = c.args.rings.now.spans.items in
     let s : RingSpan = record { begin = begin; end = c.len-end.result } in
-    subst (λ (ss : List RingSpan). AreClosedWays start stop c.turn_back.new.edges.items ss) (sym c.in_ok-push.ensures.items)
-    (subst (λ (es : List ℕ). AreClosedWays start stop es (spans ++ s ∷ [])) (sym c.turn_back.ensures.exact)
+    subst (λ (ss : List RingSpan). AreSimpleRings start stop c.turn_back.new.edges.items ss) (sym c.in_ok-push.ensures.items)
+    (subst (λ (es : List ℕ). AreSimpleRings start stop es (spans ++ s ∷ [])) (sym c.turn_back.ensures.exact)
     (rings_more start stop front back spans s (subst (λ (n : ℕ). AreTiled 0 spans n) (sym size_front) c.requires.tiled) (sym size_front) (omega arith) before ring))

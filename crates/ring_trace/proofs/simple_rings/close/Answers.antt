@@ -4,8 +4,8 @@ use Rattle.std.specs.List.Sorted.{IsPermutation}
 use Rattle.std.proofs.lemmas.Result.{on_ok_weaker}
 use Rattle.std.proofs.lemmas.List.{length_push, get_or_default}
 use Rattle.ring_trace.specs.declared.simple_rings.RingSpan.{RingSpan}
-use Rattle.ring_trace.specs.Ways.{IsWay, IsClosedWay, AreClosedWays, AreOnWay, start_in, stop_in}
-use Rattle.ring_trace.proofs.WayLemmas.{IsMoved, none_moved, moved_more, marks_popped}
+use Rattle.ring_trace.specs.Ways.{IsWay, IsSimpleRing, AreSimpleRings, AreMarked, start_in, stop_in}
+use Rattle.ring_trace.proofs.WayLemmas.{IsMoved, none_moved, moved_more, marks_popped, part_once, starts_apart}
 use Rattle.std.proofs.lemmas.List.Elements.{All-pop}
 use Rattle.std.proofs.lemmas.List.Sums.{sum_by_push}
 use Rattle.std.proofs.lemmas.List.Sorted.{sum_by-IsPermutation, All-permutation}
@@ -73,8 +73,8 @@ loop-edge-preserved c =
       moved_more c.len-begin.result c.args.walk.now.way.items c.args.rings.now.edges.items c.loop-edge.rings.edges.items c.push.new.self.items c.loop-edge.walk.way.items c.pop.new.self.items e begin c.in_ok-push.ensures.items c.in-Some.ensures.items c.loop-edge.invariant.8,
       c.loop-edge.invariant.9,
       c.loop-edge.invariant.10,
-      λ h. subst (λ (x : ℕ). AreOnWay vertices (set c.loop-edge.walk.is_passed.items x false) c.pop.new.self.items) (sym is)
-          (marks_popped vertices c.loop-edge.walk.is_passed.items c.pop.new.self.items e small (subst (λ (xs : List ℕ). AreOnWay vertices c.loop-edge.walk.is_passed.items xs) c.in-Some.ensures.items (c.loop-edge.invariant.11 h))),
+      λ h. subst (λ (x : ℕ). AreMarked vertices (set c.loop-edge.walk.is_passed.items x false) c.pop.new.self.items) (sym is)
+          (marks_popped vertices c.loop-edge.walk.is_passed.items c.pop.new.self.items e small (subst (λ (xs : List ℕ). AreMarked vertices c.loop-edge.walk.is_passed.items xs) c.in-Some.ensures.items (c.loop-edge.invariant.11 h))),
     )
 
 pub returns-clause-rings : goal.returns-clause-rings
@@ -104,17 +104,21 @@ returns-clause-kept c =
     })
     (on_ok_both (IsPermutation old new) (AreTiled 0 c.add_ring.new.rings.spans.items (length new)) c.add_ring.result c.add_ring.ensures.edges c.add_ring.ensures.tiled)
 
-pub returns-clause-closed : goal.returns-clause-closed
-returns-clause-closed c = λ from leads old.
+pub returns-clause-simple : goal.returns-clause-simple
+returns-clause-simple c = λ from leads old.
     let start : ℕ → ℕ = start_in c.args.walk.now.vertices.items in
     let stop : ℕ → ℕ = stop_in c.args.walk.now.onward.items c.args.walk.now.vertices.items in
     let none : c.loop-edge.walk.way.items ≡ [] = search rules in
     let moved = c.loop-edge.invariant.8 in
     let ring : List ℕ = reverse (drop c.len-begin.result c.loop-edge.rings.edges.items) in
     let whole : ring ≡ c.args.walk.now.way.items = ap (λ (ys : List ℕ). ys ++ ring) (sym none) ∙ moved.back in
-    c.add_ring.ensures.closed start stop
-    (subst (λ (es : List ℕ). AreClosedWays start stop es c.loop-edge.rings.spans.items) (sym moved.front) (subst (λ (ss : List RingSpan). AreClosedWays start stop c.args.rings.now.edges.items ss) (sym c.loop-edge.invariant.6) old))
-    (record { at = from; way = subst (λ (xs : List ℕ). IsWay start stop from xs from) (sym whole) leads })
+    c.add_ring.ensures.simple start stop
+    (subst (λ (es : List ℕ). AreSimpleRings start stop es c.loop-edge.rings.spans.items) (sym moved.front) (subst (λ (ss : List RingSpan). AreSimpleRings start stop c.args.rings.now.edges.items ss) (sym c.loop-edge.invariant.6) old))
+    (record {
+      at = from;
+      way = subst (λ (xs : List ℕ). IsWay start stop from xs from) (sym whole) leads.leads;
+      apart = starts_apart c.args.walk.now.vertices.items ring (part_once c.args.walk.now.vertices.items c.args.walk.now.is_passed.items c.loop-edge.walk.way.items ring c.args.walk.now.way.items moved.back leads.marked);
+    })
 
 pub returns-clause-onward : goal.returns-clause-onward
 returns-clause-onward c = on_ok_weaker c.add_ring.result (λ h. c.loop-edge.invariant.9) c.add_ring.ensures.edges
@@ -125,4 +129,4 @@ returns-clause-vertices c = on_ok_weaker c.add_ring.result (λ h. c.loop-edge.in
 pub returns-clause-marked : goal.returns-clause-marked
 returns-clause-marked c = λ h.
     let rest : c.loop-edge.walk.way.items ≡ c.pop.new.self.items = search rules in
-    on_ok_weaker c.add_ring.result (λ _. subst (λ (ys : List ℕ). AreOnWay c.args.walk.now.vertices.items c.loop-edge.walk.is_passed.items ys) rest (c.loop-edge.invariant.11 h)) c.add_ring.ensures.edges
+    on_ok_weaker c.add_ring.result (λ _. subst (λ (ys : List ℕ). AreMarked c.args.walk.now.vertices.items c.loop-edge.walk.is_passed.items ys) rest (c.loop-edge.invariant.11 h)) c.add_ring.ensures.edges

@@ -1,7 +1,7 @@
 use Rattle.std.proofs.Common.{◌≡◌, ℕ, ◌+◌, ◌≤◌, length, vec_len}
 use Rattle.std.specs.List.{sum_by}
 use Rattle.ring_trace.specs.Rings.{IsWalk, IsWhole}
-use Rattle.ring_trace.specs.Ways.{AreOnWay}
+use Rattle.ring_trace.specs.Ways.{AreMarked}
 use Rattle.ring_trace.proofs.WayLemmas.{IsMoved}
 use Rattle.ring_trace.proofs.simple_rings.close.Given as goal
 
@@ -18,7 +18,7 @@ invariant-loop-edge l =
     × IsMoved l.begin l.fn.walk.way.items l.fn.rings.edges.items l.rings.edges.items l.walk.way.items
     × (l.walk.onward.items ≡ l.fn.walk.onward.items)
     × (l.walk.vertices.items ≡ l.fn.walk.vertices.items)
-    × (AreOnWay l.fn.walk.vertices.items l.fn.walk.is_passed.items l.fn.walk.way.items → AreOnWay l.fn.walk.vertices.items l.walk.is_passed.items l.walk.way.items)
+    × (AreMarked l.fn.walk.vertices.items l.fn.walk.is_passed.items l.fn.walk.way.items → AreMarked l.fn.walk.vertices.items l.walk.is_passed.items l.walk.way.items)
 
 abbrev pub decreases-loop-edge : goal.decreases-loop-edge
 decreases-loop-edge l = vec_len l.walk.way

@@ -2,10 +2,10 @@ use Rattle.std.proofs.Common.{rules, refl, Bool, false, true, get_or, set, map, 
 use Rattle.std.specs.List.{sum_by}
 use Rattle.std.specs.List.Sorted.{IsPermutation}
 use Rattle.std.proofs.lemmas.Result.{on_ok_weaker}
-use Rattle.std.proofs.lemmas.List.{length_push, get_or_default}
+use Rattle.std.proofs.lemmas.List.{length_push, get_or_default, get_or-set_same}
 use Rattle.ring_trace.specs.declared.simple_rings.RingSpan.{RingSpan}
-use Rattle.ring_trace.specs.Ways.{IsWay, IsClosedWay, AreClosedWays, AreOnWay, IsMarkedWay, start_in, stop_in}
-use Rattle.ring_trace.proofs.WayLemmas.{IsMoved, none_moved, moved_more, moved_back, marks_popped, still_on, way_cut}
+use Rattle.ring_trace.specs.Ways.{IsWay, IsSimpleRing, AreSimpleRings, AreMarked, IsMarkedWay, start_in, stop_in, times_at}
+use Rattle.ring_trace.proofs.WayLemmas.{IsMoved, none_moved, moved_more, moved_back, marks_popped, marked_on, tick_none, still_on, way_cut, part_once, starts_apart}
 use Rattle.std.proofs.lemmas.List.Elements.{All-pop}
 use Rattle.std.proofs.lemmas.List.Sums.{sum_by_push}
 use Rattle.std.proofs.lemmas.List.Sorted.{sum_by-IsPermutation, All-permutation}
@@ -33,7 +33,7 @@ loop-edge-init c =
       refl,
       subst (λ (n : ℕ). IsMoved n way edges edges way) (sym begin) (none_moved way edges),
       λ h. h,
-      λ h p. h c.args.vertex p,
+      λ h p. marked_on c.args.walk.now.vertices.items c.args.walk.now.is_passed.items way c.args.vertex h p,
     )
 
 pub loop-edge-preserved : goal.loop-edge-preserved
@@ -75,8 +75,8 @@ loop-edge-preserved c =
       c.loop-edge.invariant.8,
       c.loop-edge.invariant.9,
       moved_more c.len-begin.result c.args.walk.now.way.items c.args.rings.now.edges.items c.loop-edge.rings.edges.items c.push.new.self.items c.loop-edge.walk.way.items c.pop.new.self.items e begin c.in_ok-push.ensures.items c.in-Some.ensures.items c.loop-edge.invariant.10,
-      λ h. subst (λ (x : ℕ). AreOnWay vertices (set c.loop-edge.walk.is_passed.items x false) c.pop.new.self.items) (sym is)
-          (marks_popped vertices c.loop-edge.walk.is_passed.items c.pop.new.self.items e small (subst (λ (xs : List ℕ). AreOnWay vertices c.loop-edge.walk.is_passed.items xs) c.in-Some.ensures.items (c.loop-edge.invariant.11 h))),
+      λ h. subst (λ (x : ℕ). AreMarked vertices (set c.loop-edge.walk.is_passed.items x false) c.pop.new.self.items) (sym is)
+          (marks_popped vertices c.loop-edge.walk.is_passed.items c.pop.new.self.items e small (subst (λ (xs : List ℕ). AreMarked vertices c.loop-edge.walk.is_passed.items xs) c.in-Some.ensures.items (c.loop-edge.invariant.11 h))),
       λ h p. still_on vertices c.pop.new.self.items e c.args.vertex (subst (λ (xs : List ℕ). Contains (map (start_in vertices) xs) c.args.vertex) c.in-Some.ensures.items (c.loop-edge.invariant.12 h p))
           (λ same. let t = c.if-start-vertex.false in let f = is in absurd (omega arith)),
     )
@@ -89,8 +89,9 @@ record IsCut (before : Walk) (so_far : Rings) (vertex begin : ℕ) (walk : Walk)
   vertices : walk.vertices.items ≡ before.vertices.items
   spans : rings.spans.items ≡ so_far.spans.items
   moved : IsMoved begin before.way.items so_far.edges.items rings.edges.items walk.way.items
-  marked : AreOnWay before.vertices.items before.is_passed.items before.way.items → AreOnWay before.vertices.items walk.is_passed.items walk.way.items
-  first : AreOnWay before.vertices.items before.is_passed.items before.way.items → get_or before.is_passed.items vertex false ≡ true →
+  marked : AreMarked before.vertices.items before.is_passed.items before.way.items → AreMarked before.vertices.items walk.is_passed.items walk.way.items
+  freed : AreMarked before.vertices.items before.is_passed.items before.way.items → get_or walk.is_passed.items vertex false ≡ false
+  first : AreMarked before.vertices.items before.is_passed.items before.way.items → get_or before.is_passed.items vertex false ≡ true →
       (e : ℕ) × (ys : List ℕ) × (reverse (drop begin rings.edges.items) ≡ e ∷ ys) × (start_in before.vertices.items e ≡ vertex)
 
 cut : (c : goal.After-add_ring) → IsCut c.args.walk.now c.args.rings.now c.args.vertex c.len-begin.result c.match-pop.walk c.match-pop.rings
@@ -119,9 +120,13 @@ cut c = elim c.match-pop.branch [
         moved = subst (λ (xs : List ℕ). IsMoved c.len-begin.result c.args.walk.now.way.items c.args.rings.now.edges.items xs c.match-pop.walk.way.items) (sym edges)
             (subst (λ (ys : List ℕ). IsMoved c.len-begin.result c.args.walk.now.way.items c.args.rings.now.edges.items w.push.new.self.items ys) (sym way)
             (moved_more c.len-begin.result c.args.walk.now.way.items c.args.rings.now.edges.items c.loop-edge.rings.edges.items w.push.new.self.items c.loop-edge.walk.way.items c.pop.new.self.items e begin w.in_ok-push.ensures.items w.in-Some.ensures.items c.loop-edge.invariant.10));
-        marked = λ h. subst (λ (bs : List Bool). AreOnWay vertices bs c.match-pop.walk.way.items) (sym passed) (subst (λ (ys : List ℕ). AreOnWay vertices (set c.loop-edge.walk.is_passed.items w.index.result.now false) ys) (sym way)
-            (subst (λ (x : ℕ). AreOnWay vertices (set c.loop-edge.walk.is_passed.items x false) c.pop.new.self.items) (sym is)
-            (marks_popped vertices c.loop-edge.walk.is_passed.items c.pop.new.self.items e small (subst (λ (xs : List ℕ). AreOnWay vertices c.loop-edge.walk.is_passed.items xs) w.in-Some.ensures.items (c.loop-edge.invariant.11 h)))));
+        marked = λ h. subst (λ (bs : List Bool). AreMarked vertices bs c.match-pop.walk.way.items) (sym passed) (subst (λ (ys : List ℕ). AreMarked vertices (set c.loop-edge.walk.is_passed.items w.index.result.now false) ys) (sym way)
+            (subst (λ (x : ℕ). AreMarked vertices (set c.loop-edge.walk.is_passed.items x false) c.pop.new.self.items) (sym is)
+            (marks_popped vertices c.loop-edge.walk.is_passed.items c.pop.new.self.items e small (subst (λ (xs : List ℕ). AreMarked vertices c.loop-edge.walk.is_passed.items xs) w.in-Some.ensures.items (c.loop-edge.invariant.11 h)))));
+        freed = λ h.
+            ap (λ (bs : List Bool). get_or bs c.args.vertex false) passed
+            ∙ ap (λ (x : ℕ). get_or (set c.loop-edge.walk.is_passed.items x false) c.args.vertex false) w.if-start-vertex.true
+            ∙ get_or-set_same c.loop-edge.walk.is_passed.items c.args.vertex false false (let same : start_in vertices e ≡ c.args.vertex = sym is ∙ w.if-start-vertex.true in omega arith);
         first = λ h p. (
           e,
           reverse (drop c.len-begin.result c.loop-edge.rings.edges.items),
@@ -150,8 +155,11 @@ cut c = elim c.match-pop.branch [
         spans = ap (λ (r : Rings). r.spans.items) w.rings-is ∙ c.loop-edge.invariant.6;
         moved = subst (λ (xs : List ℕ). IsMoved c.len-begin.result c.args.walk.now.way.items c.args.rings.now.edges.items xs c.match-pop.walk.way.items) (sym edges)
             (subst (λ (ys : List ℕ). IsMoved c.len-begin.result c.args.walk.now.way.items c.args.rings.now.edges.items c.loop-edge.rings.edges.items ys) (rest ∙ sym way) c.loop-edge.invariant.10);
-        marked = λ h. subst (λ (bs : List Bool). AreOnWay vertices bs c.match-pop.walk.way.items) (sym passed)
-            (subst (λ (ys : List ℕ). AreOnWay vertices c.loop-edge.walk.is_passed.items ys) (rest ∙ sym way) (c.loop-edge.invariant.11 h));
+        marked = λ h. subst (λ (bs : List Bool). AreMarked vertices bs c.match-pop.walk.way.items) (sym passed)
+            (subst (λ (ys : List ℕ). AreMarked vertices c.loop-edge.walk.is_passed.items ys) (rest ∙ sym way) (c.loop-edge.invariant.11 h));
+        freed = λ h.
+            ap (λ (bs : List Bool). get_or bs c.args.vertex false) passed
+            ∙ tick_none (get_or c.loop-edge.walk.is_passed.items c.args.vertex false) (sym (c.loop-edge.invariant.11 h c.args.vertex) ∙ ap (times_at vertices c.args.vertex) none);
         first = λ h p.
             let on : Contains [] c.args.vertex = subst (λ (xs : List ℕ). Contains (map (start_in vertices) xs) c.args.vertex) none (c.loop-edge.invariant.12 h p) in
             let l = on.1 in
@@ -211,13 +219,22 @@ returns-clause-vertices c = on_ok_weaker c.add_ring.result (λ h. (cut c).vertic
 pub returns-clause-marked : goal.returns-clause-marked
 returns-clause-marked c = λ h. on_ok_weaker c.add_ring.result (λ _. (cut c).marked h) c.add_ring.ensures.edges
 
+pub returns-clause-freed : goal.returns-clause-freed
+returns-clause-freed c = λ h. on_ok_weaker c.add_ring.result (λ _. (cut c).freed h) c.add_ring.ensures.edges
+
 pub returns-clause-leads : goal.returns-clause-leads
 returns-clause-leads c = λ from h p. on_ok_weaker c.add_ring.result (λ _. (split c from h p).0) c.add_ring.ensures.edges
 
-pub returns-clause-closed : goal.returns-clause-closed
-returns-clause-closed c = λ from h p old.
+pub returns-clause-simple : goal.returns-clause-simple
+returns-clause-simple c = λ from h p old.
     let start : ℕ → ℕ = start_in c.args.walk.now.vertices.items in
     let stop : ℕ → ℕ = stop_in c.args.walk.now.onward.items c.args.walk.now.vertices.items in
-    c.add_ring.ensures.closed start stop
-    (subst (λ (es : List ℕ). AreClosedWays start stop es c.match-pop.rings.spans.items) (sym (cut c).moved.front) (subst (λ (ss : List RingSpan). AreClosedWays start stop c.args.rings.now.edges.items ss) (sym (cut c).spans) old))
-    (record { at = c.args.vertex; way = (split c from h p).1 })
+    let vertices = c.args.walk.now.vertices.items in
+    let ring : List ℕ = reverse (drop c.len-begin.result c.match-pop.rings.edges.items) in
+    c.add_ring.ensures.simple start stop
+    (subst (λ (es : List ℕ). AreSimpleRings start stop es c.match-pop.rings.spans.items) (sym (cut c).moved.front) (subst (λ (ss : List RingSpan). AreSimpleRings start stop c.args.rings.now.edges.items ss) (sym (cut c).spans) old))
+    (record {
+      at = c.args.vertex;
+      way = (split c from h p).1;
+      apart = starts_apart vertices ring (part_once vertices c.args.walk.now.is_passed.items c.match-pop.walk.way.items ring c.args.walk.now.way.items (cut c).moved.back h.marked);
+    })

@@ -1,7 +1,7 @@
 use Rattle.std.proofs.Common.{◌≡◌, ℕ, ◌+◌, ◌≤◌, false, true, length, get_or, map, Contains, vec_len}
 use Rattle.std.specs.List.{sum_by}
 use Rattle.ring_trace.specs.Rings.{IsWalk, IsWhole}
-use Rattle.ring_trace.specs.Ways.{AreOnWay, start_in}
+use Rattle.ring_trace.specs.Ways.{AreMarked, start_in}
 use Rattle.ring_trace.proofs.WayLemmas.{IsMoved}
 use Rattle.ring_trace.proofs.simple_rings.cut_ring.Given as goal
 
@@ -18,8 +18,8 @@ invariant-loop-edge l =
     × (l.walk.onward.items ≡ l.fn.walk.onward.items)
     × (l.walk.vertices.items ≡ l.fn.walk.vertices.items)
     × IsMoved l.begin l.fn.walk.way.items l.fn.rings.edges.items l.rings.edges.items l.walk.way.items
-    × (AreOnWay l.fn.walk.vertices.items l.fn.walk.is_passed.items l.fn.walk.way.items → AreOnWay l.fn.walk.vertices.items l.walk.is_passed.items l.walk.way.items)
-    × (AreOnWay l.fn.walk.vertices.items l.fn.walk.is_passed.items l.fn.walk.way.items → get_or l.fn.walk.is_passed.items l.vertex false ≡ true →
+    × (AreMarked l.fn.walk.vertices.items l.fn.walk.is_passed.items l.fn.walk.way.items → AreMarked l.fn.walk.vertices.items l.walk.is_passed.items l.walk.way.items)
+    × (AreMarked l.fn.walk.vertices.items l.fn.walk.is_passed.items l.fn.walk.way.items → get_or l.fn.walk.is_passed.items l.vertex false ≡ true →
     Contains (map (start_in l.fn.walk.vertices.items) l.walk.way.items) l.vertex)
 
 abbrev pub decreases-loop-edge : goal.decreases-loop-edge
