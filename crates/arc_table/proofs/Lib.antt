@@ -17,7 +17,6 @@ pub mod Proper
 pub mod Rounds
 pub mod Runs
 pub mod SignedArcs
-pub mod SingleLink
 pub mod StepSearch
 pub mod Turned
 pub mod TurnOrder

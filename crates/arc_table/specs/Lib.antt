@@ -5,7 +5,6 @@ pub mod FirstSteps
 pub mod Lookup
 pub mod Nodes
 pub mod Numbering
-pub mod OneLink
 pub mod Order
 pub mod PathArcs
 pub mod Steps

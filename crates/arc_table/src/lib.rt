@@ -22,6 +22,3 @@ mod vertices;
 
 pub use list_types::{ArcList, Polys, SignedPath, SignedPaths};
 pub use table::ArcTable;
-
-#[cfg(test)]
-mod tests;

@@ -15,6 +15,3 @@ mod tree;
 
 pub use buckets::Buckets;
 pub use laws::sharing_is_computed;
-
-#[cfg(test)]
-mod tests;

@@ -21,8 +21,6 @@ mod options;
 mod reading;
 mod so_far;
 mod synth;
-#[cfg(test)]
-mod tests;
 mod texts;
 mod values;
 mod word_groups;

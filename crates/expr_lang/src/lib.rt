@@ -23,6 +23,3 @@ mod token;
 pub use evaluation::eval;
 pub use expr::Expr;
 pub use fault::{EvalFault, ExprFault};
-
-#[cfg(test)]
-mod tests;

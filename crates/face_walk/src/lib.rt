@@ -29,6 +29,3 @@ mod under;
 pub use faces::Faces;
 pub use joining::Joining;
 pub use labels::Labels;
-
-#[cfg(test)]
-mod tests;

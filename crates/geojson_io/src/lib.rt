@@ -20,6 +20,3 @@ pub use reading::{
     some_points, some_polygons, type_of,
 };
 pub use writing::{keys_of, write_comma, write_point, write_properties};
-
-#[cfg(test)]
-mod tests;

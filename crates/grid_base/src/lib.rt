@@ -27,6 +27,3 @@ pub use point::{Pt, turn};
 pub use segment::Seg;
 pub use signed_arc::SignedArc;
 pub use snapped::Snapped;
-
-#[cfg(test)]
-mod tests;

@@ -33,6 +33,3 @@ pub use crossing::crossing_pixel;
 pub use half_open::meets;
 pub use hot_set::HotSet;
 pub use spots::spots_of;
-
-#[cfg(test)]
-mod tests;

@@ -18,8 +18,6 @@ mod memory_sink;
 mod memory_source;
 mod name_list;
 mod outside;
-#[cfg(test)]
-mod tests;
 mod text;
 mod whole;
 

@@ -39,6 +39,3 @@ pub use json::{Json, JsonFields, JsonList};
 pub use numerals::is_numeral;
 pub use table::{Row, RowList, Table};
 pub use value::Value;
-
-#[cfg(test)]
-mod tests;

@@ -23,6 +23,3 @@ pub use face_set::FaceSet;
 pub use part_sets::parts;
 pub use set_list::SetList;
 pub use tracing::trace;
-
-#[cfg(test)]
-mod tests;

@@ -18,6 +18,3 @@ mod snapping;
 
 pub use fault::SnapFault;
 pub use snapping::snap;
-
-#[cfg(test)]
-mod tests;

@@ -10,6 +10,3 @@ mod pool;
 
 pub use ids::SpanId;
 pub use pool::SpanPool;
-
-#[cfg(test)]
-mod tests;

@@ -39,8 +39,3 @@ pub use renames::{Rename, RenameList};
 pub use rows::take_rows;
 pub use specifications::{GroupSpec, JoinSpec};
 pub use split::{SplitItem, SplitList, split_rows};
-
-#[cfg(test)]
-mod table_tests;
-#[cfg(test)]
-mod tests;

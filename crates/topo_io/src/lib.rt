@@ -16,6 +16,3 @@ pub use arc_layer::{ArcLayer, ArcLayers, ArcShape, ArcShapeList};
 pub use fault::{TopoFault, TopoPlace, TopoWhy};
 pub use reading::read_topojson;
 pub use writing::write_topojson;
-
-#[cfg(test)]
-mod tests;

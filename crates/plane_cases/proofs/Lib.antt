@@ -1,0 +1,2 @@
+pub mod SingleLink
+pub mod SquareLemmas
