@@ -1,5 +1,5 @@
 -- Which signed arcs there are, and which of them are of the boundary of a set.
-use Rattle.std.proofs.Common.{◌≡◌, ◌⊎◌, inl, inr, refl, sym, ap, ◌∙◌, subst, arith, ℕ, zero, suc, ◌+◌, ◌*◌, ◌<◌, ◌≤◌, Bool, true, false, not, List, [], ◌∷◌, ◌++◌, length, get_or, map, filter, take, nat_eq, All, Contains, Option, Some, cond, append_assoc, append-nil}
+use Rattle.std.proofs.Common.{◌≡◌, ◌⊎◌, inl, inr, refl, sym, ap, ◌∙◌, subst, arith, ℕ, zero, suc, ◌+◌, ◌<◌, Bool, true, false, not, List, [], ◌∷◌, ◌++◌, length, get_or, map, filter, take, nat_eq, All, Contains, Some, cond, append_assoc, append-nil}
 use Rattle.std.specs.Prelude.{slice_get}
 use Rattle.std.specs.List.Sorted.{IsStrictlyIncreasing}
 use Rattle.std.proofs.lemmas.Bool.{cases_lt, eq-eqb, eqb-true, not-true, not_from_false, false_from_ne_true}
@@ -9,7 +9,7 @@ use Rattle.std.proofs.lemmas.List.Elements.{Contains-append_left, Contains-appen
 use Rattle.std.proofs.lemmas.List.Folds.{list_any_at, Any-from_list_any}
 use Rattle.std.proofs.lemmas.List.Kept.{AllPairs-from_increasing}
 use Rattle.lists.specs.Lists.{has}
-use Rattle.lists.proofs.Members.{Contains-head, Contains-later, Contains-nil, Contains-cases, Contains-filter, filter-Contains, Contains-map, map-Contains}
+use Rattle.lists.proofs.Members.{Contains-nil, Contains-cases, Contains-filter, filter-Contains, Contains-map, map-Contains}
 use Rattle.plane_model.specs.Points.{Path}
 use Rattle.plane_model.specs.Arcs.{SignedArc, forward, backward}
 use Rattle.face_walk.specs.Places.{FaceTable, HasArc, IsBuiltOf, place_of, face_left_of, has_left, signed_below, arcs_with_left}

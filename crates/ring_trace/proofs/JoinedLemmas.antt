@@ -1,15 +1,15 @@
 -- Chains of arcs between faces of a set, and the classes that joining makes of its places.
-use Rattle.std.proofs.Common.{◌≡◌, ◌⊎◌, inl, inr, refl, sym, ap, ◌∙◌, subst, arith, ℕ, zero, suc, ◌+◌, ◌*◌, ◌^◌, ◌<◌, ◌≤◌, Bool, true, false, cond, List, [], ◌∷◌, ◌++◌, length, get_or, map, set, nat_eq, nat_lt, All, Contains, length-set}
+use Rattle.std.proofs.Common.{◌≡◌, ◌⊎◌, inl, inr, refl, sym, ap, ◌∙◌, subst, arith, ℕ, ◌^◌, ◌<◌, ◌≤◌, Bool, cond, List, [], ◌∷◌, ◌++◌, length, get_or, map, set, nat_lt, Contains, length-set}
 use Rattle.std.specs.List.Sorted.{IsStrictlyIncreasing}
 use Rattle.std.proofs.lemmas.Bool.{cases_lt, cases_eq, eq-eqb, ne_eqb, lt-ltb, le-ltb}
-use Rattle.std.proofs.lemmas.List.{length-map, get_or-map, get_or_default, get_or-set_same, get_or-set_other}
+use Rattle.std.proofs.lemmas.List.{get_or-map, get_or-set_same, get_or-set_other}
 use Rattle.std.proofs.lemmas.List.Elements.{Contains-get_or, Contains-append_left, Contains-push, Contains-push_cases}
 use Rattle.plane_model.specs.Arcs.{SignedArc}
-use Rattle.face_walk.specs.Places.{FaceTable, HasArc, face_left_of}
+use Rattle.face_walk.specs.Places.{FaceTable, face_left_of}
 use Rattle.face_walk.specs.Joining.{AreAlone, renamed, made_one}
 use Rattle.ring_trace.specs.declared.joined_faces.Side.{Side}
 use Rattle.ring_trace.specs.Boundary.{other_way, face_right_of}
-use Rattle.ring_trace.specs.Joined.{LeadsOver, IsChain, AreJoined, AreJoinedBy, AreSound, IsCoarser, IsJoinedOver, IsJoinedAround, IsOfClass, AreLeastNumbers}
+use Rattle.ring_trace.specs.Joined.{LeadsOver, IsChain, AreJoined, AreJoinedBy, AreSound, IsCoarser, IsJoinedOver, IsJoinedAround, AreLeastNumbers}
 use Rattle.ring_trace.proofs.BoundaryLemmas.{back_again, one_place, place_in}
 
 -- ---- chains

@@ -15,3 +15,7 @@ pub mod VertexLemmas
 pub mod WayLemmas
 pub mod RoundLemmas
 pub mod CornerLemmas
+pub mod TurnLemmas
+pub mod GatherLemmas
+pub mod PartSides
+pub mod PolygonLemmas

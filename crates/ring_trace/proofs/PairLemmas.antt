@@ -40,7 +40,7 @@ start_is arcs a p h = go a.is_reversed h
 
 -- ---- in order
 
-first_counts : (o p : Ordering) → is_lt (ordering_then o p) ≡ false → is_lt o ≡ false
+pub first_counts : (o p : Ordering) → is_lt (ordering_then o p) ≡ false → is_lt o ≡ false
 first_counts Less p e = e
 first_counts Equal p e = refl
 first_counts Greater p e = refl

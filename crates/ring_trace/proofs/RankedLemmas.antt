@@ -1,5 +1,5 @@
 -- Sets of faces of equal rank: the parts, in the order of their least arcs.
-use Rattle.std.proofs.Common.{◌≡◌, ◌⊎◌, ◌↔◌, inl, inr, refl, sym, ap, ◌∙◌, subst, arith, ℕ, ◌+◌, ◌*◌, ◌^◌, ◌<◌, ◌≤◌, List, [], ◌∷◌, length, get_or, map, filter, nat_eq, nat_lt, All, Contains}
+use Rattle.std.proofs.Common.{◌≡◌, ◌↔◌, inl, inr, refl, sym, ap, ◌∙◌, subst, arith, ℕ, ◌+◌, ◌*◌, ◌^◌, ◌<◌, ◌≤◌, List, [], length, get_or, map, filter, nat_lt, All, Contains}
 use Rattle.std.specs.List.Sorted.{IsStrictlyIncreasing}
 use Rattle.std.proofs.lemmas.Bool.{cases_lt}
 use Rattle.std.proofs.lemmas.List.{length-map, get_or-map, get_or_default}
@@ -7,17 +7,17 @@ use Rattle.std.proofs.lemmas.List.Elements.{Contains-get_or, All-from_get_or, Al
 use Rattle.std.proofs.lemmas.List.Kept.{AllPairs-from_increasing}
 use Rattle.lists.proofs.Ascending.{ascending-IsAscending}
 use Rattle.plane_model.specs.Arcs.{SignedArc}
-use Rattle.face_walk.specs.Places.{FaceTable, HasArc, face_left_of}
+use Rattle.face_walk.specs.Places.{FaceTable, face_left_of}
 use Rattle.face_walk.specs.Joining.{AreClasses}
 use Rattle.ring_trace.specs.declared.joined_faces.Side.{Side}
 use Rattle.ring_trace.specs.declared.part_sets.PartFace.{PartFace}
-use Rattle.ring_trace.specs.Parts.{AreNumbered, faces_of_part, AreGroups, IsDivided, IsFaceOf, IsPieceOf}
-use Rattle.ring_trace.specs.Boundary.{other_way, face_right_of, IsOnBoundary, IsLeastArc}
-use Rattle.ring_trace.specs.Joined.{AreJoined, AreJoinedBy, IsOfClass, AreLeastNumbers, rank_of, IsRanked, AreParts, LeadsOver}
+use Rattle.ring_trace.specs.Parts.{AreNumbered, faces_of_part, AreGroups, IsDivided, IsFaceOf}
+use Rattle.ring_trace.specs.Boundary.{face_right_of, IsOnBoundary, IsLeastArc}
+use Rattle.ring_trace.specs.Joined.{AreJoined, AreJoinedBy, IsOfClass, AreLeastNumbers, rank_of, IsRanked, AreParts}
 use Rattle.ring_trace.proofs.SetLemmas.{nat_order, from_ascending}
 use Rattle.ring_trace.proofs.PartLemmas.{divided, of_part, in_part, has_part}
 use Rattle.ring_trace.proofs.BoundaryLemmas.{AreSidesOf, same_or_other, one_place}
-use Rattle.ring_trace.proofs.JoinedLemmas.{joined_over, joined_itself}
+use Rattle.ring_trace.proofs.JoinedLemmas.{joined_over}
 
 module _ (faces : FaceTable) (inside classes numbers : List ℕ) (sides : List Side) (numbered : List PartFace) (sets : List (List ℕ)) (up : IsStrictlyIncreasing inside) (few : length inside < 2 ^ 32)
     (each : length classes ≡ length inside) (each_number : length numbers ≡ length classes) (are_classes : AreClasses classes) (joined : AreJoinedBy faces inside classes)

@@ -1,12 +1,11 @@
 -- What is added along rings, and along the spans that they are.
 use Rattle.std.proofs.Common.{◌≡◌, refl, sym, ap, ◌∙◌, subst, arith, ℕ, zero, suc, ◌+◌, ◌-◌, ◌<◌, ◌≤◌, Bool, true, false, cond, List, [], ◌∷◌, ◌++◌, length, get_or, set, take, drop, Result, Ok, Err, OnOk, All}
-use Rattle.std.specs.List.{sum_by, range_with_len}
+use Rattle.std.specs.List.{sum_by}
 use Rattle.std.proofs.lemmas.List.Elements.{All-push, All-weaker}
-use Rattle.std.proofs.lemmas.List.{length_push, take-append-drop, drop-drop, drop_all, length-drop}
-use Rattle.std.proofs.lemmas.List.Sums.{sum_by-cons, sum_by-append, sum_by_push, sum_by-take-drop}
+use Rattle.std.proofs.lemmas.List.{length_push, drop-drop, drop_all}
+use Rattle.std.proofs.lemmas.List.Sums.{sum_by-cons, sum_by-take-drop}
 use Rattle.ring_trace.specs.declared.simple_rings.RingSpan.{RingSpan}
-use Rattle.ring_trace.specs.declared.pairing.Edge.{Edge}
-use Rattle.ring_trace.specs.Rings.{sum_where, AreTiled, IsSpan, edge_at}
+use Rattle.ring_trace.specs.Rings.{sum_where, AreTiled, IsSpan}
 
 -- ---- edges gone along
 

@@ -1,5 +1,5 @@
 -- Rings go along each arc of the boundary once.
-use Rattle.std.proofs.Common.{◌≡◌, refl, sym, ap, ◌∙◌, subst, ℕ, List, length, map, Result, Ok, Err, IfOk}
+use Rattle.std.proofs.Common.{◌≡◌, sym, ap, ◌∙◌, ℕ, List, length, map, Result, Ok, Err, IfOk}
 use Rattle.std.specs.List.{sum_by}
 use Rattle.std.specs.List.Sorted.{IsPermutation, IsStrictlyIncreasing}
 use Rattle.std.proofs.lemmas.List.Sorted.{sum_by-IsPermutation}

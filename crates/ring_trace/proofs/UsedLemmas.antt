@@ -1,9 +1,8 @@
 -- How often signed arcs are in lists: among all of them, on the boundary of a set, and along edges.
-use Rattle.std.proofs.Common.{◌≡◌, ◌⊎◌, inl, inr, refl, sym, ap, ◌∙◌, subst, arith, ℕ, zero, suc, ◌+◌, ◌*◌, ◌<◌, ◌≤◌, Bool, true, false, not, ◌&&◌, ◌||◌, cond, List, [], ◌∷◌, ◌++◌, length, get_or, set, map, filter, nat_eq, nat_lt, All, Contains}
-use Rattle.std.specs.List.{sum_by, count_by, range_with_len}
+use Rattle.std.proofs.Common.{◌≡◌, ◌⊎◌, inl, inr, refl, sym, ap, ◌∙◌, arith, ℕ, zero, suc, ◌+◌, ◌*◌, Bool, true, false, ◌&&◌, ◌||◌, cond, List, [], ◌∷◌, get_or, map, filter, nat_eq, nat_lt, Contains}
+use Rattle.std.specs.List.{sum_by}
 use Rattle.std.specs.List.Sorted.{IsStrictlyIncreasing}
-use Rattle.std.proofs.lemmas.Bool.{cases_lt, cases_eq, eq-eqb, eqb-true, ne_eqb, lt-ltb, le-ltb, ltb-true, cases_Bool}
-use Rattle.std.proofs.lemmas.List.{map-append}
+use Rattle.std.proofs.lemmas.Bool.{cases_lt, cases_eq, eq-eqb, eqb-true, ne_eqb, lt-ltb, le-ltb, ltb-true}
 use Rattle.std.proofs.lemmas.List.Elements.{All-from_get_or, Contains-get_or}
 use Rattle.std.proofs.lemmas.List.Folds.{list_any_none}
 use Rattle.std.proofs.lemmas.List.Sums.{sum_by-cons, sum_by-append}
@@ -18,7 +17,7 @@ use Rattle.ring_trace.proofs.SetLemmas.{to_ascending}
 
 -- ---- one arc
 
-same_place : (a b : SignedArc) → place_of a ≡ place_of b → a ≡ b
+pub same_place : (a b : SignedArc) → place_of a ≡ place_of b → a ≡ b
 same_place a b e = go a.is_reversed b.is_reversed refl refl
   where
     place : (c : SignedArc) (t : Bool) → c.is_reversed ≡ t → place_of c ≡ cond t (2 * c.arc + 2) (2 * c.arc + 1)

@@ -1,5 +1,5 @@
 -- The boundary of a set of faces: the signed arcs with a face of the set on their left and none on their right.
-use Rattle.std.specs.Prelude.{◌≡◌, ℕ, ◌+◌, ◌<◌, ◌≤◌, Bool, not, ◌&&◌, nat_eq, List, [], ◌∷◌, ◌++◌, All, Contains, filter, length, map, slice_index}
+use Rattle.std.specs.Prelude.{◌≡◌, ℕ, ◌+◌, ◌≤◌, Bool, not, ◌&&◌, nat_eq, List, [], ◌∷◌, ◌++◌, Contains, filter, map}
 use Rattle.lists.specs.Lists.{has}
 use Rattle.plane_model.specs.Arcs.{SignedArc}
 use Rattle.face_walk.specs.Places.{FaceTable, HasArc, face_left_of, signed_below, arcs_with_left}

@@ -1,5 +1,5 @@
 -- Rings as places of edges, and the way along edges from which they are cut.
-use Rattle.std.specs.Prelude.{◌≡◌, ℕ, ◌+◌, ◌-◌, ◌<◌, ◌≤◌, ◌^◌, pos, Bool, true, false, List, [], ◌∷◌, All, if◌then◌else◌, length, slice_index_or, take, drop}
+use Rattle.std.specs.Prelude.{◌≡◌, ℕ, ◌+◌, ◌<◌, ◌≤◌, ◌^◌, pos, Bool, true, false, List, [], ◌∷◌, All, if◌then◌else◌, length, slice_index_or}
 use Rattle.std.specs.List.{sum_by}
 use Rattle.ring_trace.specs.declared.pairing.Edge.{Edge}
 use Rattle.ring_trace.specs.declared.simple_rings.RingSpan.{RingSpan}

@@ -1,11 +1,11 @@
 -- How often the rings of polygons use a signed arc.
-use Rattle.std.specs.Prelude.{◌≡◌, ℕ, ◌<◌, Bool, ◌&&◌, nat_eq, nat_lt, List, [], if◌then◌else◌, count_by}
+use Rattle.std.specs.Prelude.{◌≡◌, ℕ, ◌<◌, ◌≤◌, Bool, ◌&&◌, nat_eq, nat_lt, List, [], ◌∷◌, All, if◌then◌else◌, count_by, filter, length, slice_index_or}
 use Rattle.std.specs.List.{sum_by}
 use Rattle.lists.specs.Lists.{has}
 use Rattle.plane_model.specs.Arcs.{SignedArc}
 use Rattle.face_walk.specs.Places.{place_of, face_left_of}
 use Rattle.ring_trace.specs.declared.pairing.Edge.{Edge}
-use Rattle.ring_trace.specs.Boundary.{is_outward}
+use Rattle.ring_trace.specs.Boundary.{is_outward, boundary}
 use Rattle.ring_trace.specs.Rings.{edge_at}
 
 -- the same arc in the same direction
@@ -36,3 +36,17 @@ times_along a edges k = once_if (same_arc a (edge_at edges k).arc)
 -- the rings use each signed arc of the boundary once, and no other
 pub record UsesBoundary (places : List ℕ) (many : ℕ) (set : List ℕ) (polygons : List (List (List SignedArc))) : Type 0 where
   pub once : (a : SignedArc) → times_traced a polygons ≡ once_if (is_of_boundary places many set a)
+
+-- the ring begins with its arc of least number
+abbrev pub BeginsWithLeast : List SignedArc → Type 0
+BeginsWithLeast [] = ⊥
+BeginsWithLeast (a ∷ rest) = All (λ b. a.arc ≤ b.arc) rest
+
+-- the parts that have arcs in their boundaries
+abbrev pub bounded : List ℕ → ℕ → List (List ℕ) → List (List ℕ)
+bounded places many parts = filter (λ (part : List ℕ). nat_lt 0 (length (boundary places many part))) parts
+
+-- One polygon for each of these parts, in their order: its rings use each signed arc of the boundary of the part once, and no other.
+pub record UseParts (places : List ℕ) (many : ℕ) (parts : List (List ℕ)) (polygons : List (List (List SignedArc))) : Type 0 where
+  pub each : length polygons ≡ length (bounded places many parts)
+  pub once : (k : ℕ) (a : SignedArc) → k < length polygons → times_round a (slice_index_or polygons k []) ≡ once_if (is_of_boundary places many (slice_index_or (bounded places many parts) k []) a)

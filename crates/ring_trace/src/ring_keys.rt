@@ -1,7 +1,8 @@
-ghost use Rattle.std.specs.Prelude.{◌≡◌, ◌+◌, ◌<◌, ◌≤◌, All, IfOk, IfSome, OnOk, length, ℕ};
+ghost use Rattle.std.specs.Prelude.{◌≡◌, ◌+◌, ◌<◌, ◌≤◌, All, IfOk, IfSome, OnOk, length, ℕ, slice_index};
 ghost use Rattle.std.specs.List.{sum_by};
+ghost use Rattle.std.specs.List.Sorted.{IsNonDecreasingBy};
 ghost use Rattle.ring_trace.specs.Rings.{IsSpan, IsWhole};
-ghost use Rattle.ring_trace.specs.Keys.{IsKey, IsKeyOf, along_key, along_span};
+ghost use Rattle.ring_trace.specs.Keys.{IsKey, IsKeyOf, IsKeyOfSome, IsLeastFirst, along_key, along_span, arc_number};
 
 use crate::pairing::Edge;
 use crate::simple_rings::{RingSpan, Rings};
@@ -31,6 +32,9 @@ pub fn keys_of(
     requires rings { IsWhole (length edges.now) rings.now }
     requires there { All (λ e. e.arc.arc < length t.now) edges.now }
     ensures there { IfOk result (λ v. All (IsKey rings.now) v.items) }
+    ensures spans { IfOk result (λ v. All (IsKeyOfSome rings.now.spans.items) v.items) }
+    ensures least { IfOk result (λ v. All (IsLeastFirst edges.now rings.now) v.items) }
+    ensures in_order { IfOk result (λ v. IsNonDecreasingBy (λ key. key.part) v.items) }
     ensures once { (g : ℕ → ℕ) → IfOk result (λ v. sum_by (along_key g rings.now) v.items ≡ sum_by (along_span g rings.now) rings.now.spans.items) }
 {
     let mut keys = Vec::with_capacity(alloc, rings.spans.len())?;
@@ -56,6 +60,7 @@ fn key_of(
     requires there { All (λ e. e.arc.arc < length t.now) edges.now }
     ensures there { IfOk result (λ key. IfSome key (IsKey rings.now)) }
     ensures span { IfOk result (IsKeyOf span) }
+    ensures least { IfOk result (λ key. IfSome key (IsLeastFirst edges.now rings.now)) }
 {
     if span.begin >= span.end {
         return Ok(None);
@@ -77,15 +82,24 @@ fn key_of(
 fn least_of(edges: &[Edge], ring: &[u32]) -> usize
     requires some { 0 < length ring.now }
     requires there { All (λ e. e < length edges.now) ring.now }
-    ensures { result < length ring.now }
+    ensures within { result < length ring.now }
+    ensures least { All (λ e. arc_number edges.now (slice_index ring.now result) ≤ arc_number edges.now e) ring.now }
 {
     let mut least = 0;
     for k in 1..ring.len() {
-        if edges[ring[k] as usize].arc.id() < edges[ring[least] as usize].arc.id() {
+        if number_along(edges, ring[k]) < number_along(edges, ring[least]) {
             least = k;
         }
     }
     least
+}
+
+// The number of the arc that an edge goes along.
+fn number_along(edges: &[Edge], e: u32) -> u32
+    requires { e < length edges.now }
+    ensures exact { result ≡ arc_number edges.now e }
+{
+    edges[e as usize].arc.id().num()
 }
 
 // The points of a ring, each once.

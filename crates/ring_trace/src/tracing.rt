@@ -1,11 +1,17 @@
-ghost use Rattle.std.specs.Prelude.{◌≡◌, ◌+◌, ◌<◌, ◌≤◌, ◌^◌, All, IfOk, IfSome, OnOk, ℕ, length};
+ghost use Rattle.std.specs.Prelude.{◌≡◌, ◌+◌, ◌++◌, ◌<◌, ◌≤◌, ◌^◌, All, IfOk, IfSome, List, OnOk, ℕ, false, length, true};
 ghost use Rattle.std.specs.List.{sum_by};
+ghost use Rattle.std.specs.List.Sorted.{IsNonDecreasingBy};
 ghost use Rattle.plane_model.specs.Arcs.{SignedArc};
+ghost use Rattle.plane_model.specs.Points.{Path};
+ghost use Rattle.arc_table.specs.Around.{start_of};
 ghost use Rattle.face_walk.specs.Places.{IsBuiltOf};
 ghost use Rattle.ring_trace.specs.Sets.{IsSetOf};
 ghost use Rattle.ring_trace.specs.Rings.{IsSpan, IsWhole};
-ghost use Rattle.ring_trace.specs.Keys.{IsKey, along_key};
-ghost use Rattle.ring_trace.specs.Traced.{UsesBoundary, times, times_along, times_traced};
+ghost use Rattle.ring_trace.specs.Joined.{AreParts};
+ghost use Rattle.ring_trace.specs.Keys.{AreByPart, BeginsPart, HasKeyPart, IsKey, StaysInPart, along_key, arcs_along, path_along};
+ghost use Rattle.ring_trace.specs.Pairing.{stop_of};
+ghost use Rattle.ring_trace.specs.Ways.{IsSimpleRing};
+ghost use Rattle.ring_trace.specs.Traced.{BeginsWithLeast, UseParts, UsesBoundary, times, times_along, times_traced};
 
 use crate::face_set::FaceSet;
 use crate::joined_faces::{Parts, boundary_of};
@@ -25,6 +31,9 @@ pub fn trace(alloc: Global, t: &ArcTable, f: &Faces, set: &FaceSet) -> Result<Po
     requires built { IsBuiltOf t.now f.now }
     requires faces { IsSetOf f.now set.now }
     ensures boundary { IfOk result (UsesBoundary f.now.places (length t.now) set.now) }
+    ensures simple { IfOk result (All (All (IsSimpleRing (start_of t.now) (stop_of t.now)))) }
+    ensures least_first { IfOk result (All (All BeginsWithLeast)) }
+    ensures parts { (parts : List (List ℕ)) → AreParts f.now set.now parts → IfOk result (UseParts f.now.places (length t.now) parts) }
     ensures there { IfOk result (λ polygons. All (λ rings. All (λ ring. All (λ a. a.arc < length t.now) ring) rings) polygons) }
 {
     let faces = set.faces();
@@ -51,13 +60,15 @@ fn polygons_of(
 ) -> Result<Polys, AllocError>
     requires rings { IsWhole (length edges.now) rings.now }
     requires keys { All (IsKey rings.now) keys.now }
+    requires in_order { IsNonDecreasingBy (λ key. key.part) keys.now }
     ensures there { (n : ℕ) → All (λ e. e.arc.arc < n) edges.now → IfOk result (All (All (All (λ a. a.arc < n)))) }
+    ensures by_part { IfOk result (AreByPart edges.now rings.now keys.now) }
     ensures once { (a : SignedArc) → IfOk result (λ polygons. times_traced a polygons ≡ sum_by (along_key (times_along a edges.now) rings.now) keys.now) }
 {
     let mut polygons = Polys::new(alloc);
     let mut polygon = SignedPaths::new(alloc);
     for i in 0..keys.len() {
-        if i > 0 && keys[i - 1].part != keys[i].part {
+        if begins_part(keys, i) {
             polygons.push(polygon)?;
             polygon = SignedPaths::new(alloc);
         }
@@ -67,6 +78,23 @@ fn polygons_of(
         polygons.push(polygon)?;
     }
     Ok(polygons)
+}
+
+// Whether the ring at a place is the first of its part, and rings of other parts come before it.
+fn begins_part(keys: &[RingKey], i: usize) -> bool
+    requires in_order { IsNonDecreasingBy (λ key. key.part) keys.now }
+    requires place { i < length keys.now }
+    ensures begins { result ≡ true → BeginsPart keys.now i }
+    ensures stays { result ≡ false → StaysInPart keys.now i }
+{
+    i > 0 && part_at(keys, i - 1) != part_at(keys, i)
+}
+
+fn part_at(keys: &[RingKey], i: usize) -> u32
+    requires { i < length keys.now }
+    ensures exact { HasKeyPart keys.now i result }
+{
+    keys[i].part
 }
 
 // The arcs of a ring, from the least on.
@@ -79,6 +107,7 @@ fn path_of(
     requires rings { IsWhole (length edges.now) rings.now }
     requires key { IsKey rings.now key }
     ensures there { (n : ℕ) → All (λ e. e.arc.arc < n) edges.now → IfOk result (All (λ a. a.arc < n)) }
+    ensures exact { IfOk result (λ path. path ≡ path_along edges.now rings.now key) }
     ensures once { (a : SignedArc) → IfOk result (λ path. times a path ≡ along_key (times_along a edges.now) rings.now key) }
 {
     let mut path = SignedPath::new(alloc);
@@ -90,6 +119,7 @@ fn path_of(
 fn push_arcs(path: &mut SignedPath, edges: &[Edge], ring: &[u32]) -> Result<(), AllocError>
     requires { All (λ e. e < length edges.now) ring.now }
     ensures there { OnOk result ((n : ℕ) → All (λ e. e.arc.arc < n) edges.now → All (λ a. a.arc < n) path.old → All (λ a. a.arc < n) path.new) }
+    ensures exact { OnOk result (path.new ≡ path.old ++ arcs_along edges.now ring.now) }
     ensures once { OnOk result ((a : SignedArc) → times a path.new ≡ times a path.old + sum_by (times_along a edges.now) ring.now) }
 {
     for e in ring {

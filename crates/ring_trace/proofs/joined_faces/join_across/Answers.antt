@@ -1,6 +1,6 @@
-use Rattle.std.proofs.Common.{◌≡◌, ◌∙◌, sym, ap, arith, ℕ, ◌+◌, ◌<◌, List, length, get_or, take, subst, All, Contains}
+use Rattle.std.proofs.Common.{◌≡◌, ◌∙◌, sym, ap, arith, ◌<◌, List, length, get_or, take, subst, All, Contains}
 use Rattle.std.proofs.lemmas.List.{take_all, get_or_default}
-use Rattle.std.proofs.lemmas.List.Elements.{All-more, All-weaker, All-contains, All-get_or, All-nil}
+use Rattle.std.proofs.lemmas.List.Elements.{All-more, All-weaker, All-contains, All-nil}
 use Rattle.plane_model.specs.Arcs.{SignedArc}
 use Rattle.face_walk.specs.Places.{face_left_of, arcs_with_left}
 use Rattle.ring_trace.specs.Joined.{IsJoinedOver}

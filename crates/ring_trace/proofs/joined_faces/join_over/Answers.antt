@@ -1,4 +1,4 @@
-use Rattle.std.proofs.Common.{◌≡◌, ◌∙◌, sym, ap, subst, arith, ℕ, List, get_or, length, Contains}
+use Rattle.std.proofs.Common.{◌≡◌, ◌∙◌, sym, subst, arith, ℕ, List, get_or, Contains}
 use Rattle.std.proofs.lemmas.List.{get_or_default}
 use Rattle.ring_trace.specs.Boundary.{face_right_of}
 use Rattle.ring_trace.specs.Joined.{AreJoined, AreSound}

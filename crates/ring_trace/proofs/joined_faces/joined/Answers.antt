@@ -1,4 +1,4 @@
-use Rattle.std.proofs.Common.{◌≡◌, ◌∙◌, sym, ap, arith, ℕ, ◌+◌, ◌<◌, ◌≤◌, inl, inr, List, length, subst}
+use Rattle.std.proofs.Common.{◌≡◌, arith, ℕ, ◌<◌, inl, inr, length, subst}
 use Rattle.std.proofs.lemmas.Bool.{cases_lt}
 use Rattle.ring_trace.specs.Joined.{IsJoinedAround}
 use Rattle.ring_trace.proofs.JoinedLemmas.{alone_sound, around_kept, joined_by}

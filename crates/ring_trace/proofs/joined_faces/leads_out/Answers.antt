@@ -1,4 +1,4 @@
-use Rattle.std.proofs.Common.{◌≡◌, ◌∙◌, sym, ap, not}
+use Rattle.std.proofs.Common.{◌∙◌, sym, ap, not}
 use Rattle.std.proofs.lemmas.List.{get_or_default}
 use Rattle.ring_trace.specs.Boundary.{face_right_of}
 use Rattle.ring_trace.proofs.BoundaryLemmas.{Contains_has, outward_if}

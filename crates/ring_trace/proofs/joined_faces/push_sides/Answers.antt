@@ -1,10 +1,10 @@
-use Rattle.std.proofs.Common.{◌≡◌, ◌∙◌, sym, ap, subst, arith, ℕ, ◌+◌, ◌<◌, Bool, true, false, cond, List, [], ◌∷◌, ◌++◌, get_or, length, map, filter, take, All, append-nil}
+use Rattle.std.proofs.Common.{◌≡◌, ◌∙◌, sym, ap, subst, arith, ◌<◌, Bool, true, false, List, [], ◌∷◌, ◌++◌, get_or, length, map, filter, take, All, append-nil}
 use Rattle.std.proofs.lemmas.List.{take_all, get_or_default}
 use Rattle.std.proofs.lemmas.List.Elements.{All-push, All-get_or}
 use Rattle.plane_model.specs.Arcs.{SignedArc}
 use Rattle.face_walk.specs.Places.{HasArc, arcs_with_left}
 use Rattle.ring_trace.specs.declared.joined_faces.Side.{Side}
-use Rattle.ring_trace.specs.Boundary.{is_outward, side_at, outward_at}
+use Rattle.ring_trace.specs.Boundary.{is_outward, side_at}
 use Rattle.ring_trace.specs.Parts.{IsSide}
 use Rattle.ring_trace.proofs.BoundaryLemmas.{outward_more}
 use Rattle.ring_trace.proofs.joined_faces.push_sides.Goals.{then-leads_out+in_ok-push, else-leads_out}

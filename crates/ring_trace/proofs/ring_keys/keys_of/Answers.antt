@@ -1,20 +1,21 @@
-use Rattle.std.proofs.Common.{◌≡◌, ◌∙◌, refl, sym, ap, subst, arith, ℕ, ◌+◌, ◌-◌, ◌<◌, ◌≤◌, Option, Some, None, IfSome, List, [], ◌∷◌, ◌++◌, length, get_or, take, drop, All}
+use Rattle.std.proofs.Common.{◌≡◌, ◌∙◌, refl, sym, ap, subst, arith, ◌-◌, ◌<◌, ◌≤◌, Option, Some, None, IfSome, List, length, get_or, take, drop, All}
 use Rattle.std.specs.List.{sum_by}
 use Rattle.std.proofs.lemmas.List.{take_all}
-use Rattle.std.proofs.lemmas.List.Elements.{All-push}
+use Rattle.std.proofs.lemmas.List.Elements.{All-push, Contains-get_or}
 use Rattle.std.proofs.lemmas.List.Sums.{sum_by_push, sum_by_more}
 use Rattle.std.proofs.lemmas.List.Sorted.{sum_by-IsPermutation, All-permutation}
 use Rattle.ring_trace.specs.declared.simple_rings.RingSpan.{RingSpan}
-use Rattle.ring_trace.specs.declared.simple_rings.Rings.{Rings}
 use Rattle.ring_trace.specs.declared.ring_keys.RingKey.{RingKey}
-use Rattle.ring_trace.specs.Keys.{IsKey, IsKeyOf, along_key, along_span}
+use Rattle.ring_trace.specs.Keys.{IsKey, IsKeyOf, IsKeyOfSome, IsLeastFirst, along_key, along_span}
 use Rattle.ring_trace.proofs.TileLemmas.{along_none}
+use Rattle.ring_trace.proofs.GatherLemmas.{by_part}
 use Rattle.ring_trace.proofs.ring_keys.keys_of.Goals.{in-Some+in_ok-push, in_default}
 use Rattle.ring_trace.proofs.ring_keys.keys_of.Goals as goal
 
 pub loop-span-preserved : goal.loop-span-preserved
 loop-span-preserved c =
     let rings = c.args.rings.now in
+    let edges = c.args.edges.now in
     let spans = rings.spans.items in
     let none : RingSpan = record { begin = 0; end = 0 } in
     let i = c.loop-span.span-index in
@@ -35,6 +36,10 @@ loop-span-preserved c =
                 let h = c.loop-span.invariant.1 g in
                 let e : along_key g rings key ≡ along_span g rings s = λ j. sum_by g (take (of_span.1 j - of_span.0 j) (drop (of_span.0 j) rings.edges.items)) in
                 omega arith,
+            subst (λ (ks : List RingKey). All (IsKeyOfSome spans) ks) (sym items)
+                (All-push (IsKeyOfSome spans) c.loop-span.keys.items key c.loop-span.invariant.2 (record { span = s; listed = Contains-get_or spans i none l; begins = of_span.0; ends = of_span.1 })),
+            subst (λ (ks : List RingKey). All (IsLeastFirst edges rings) ks) (sym items)
+                (All-push (IsLeastFirst edges rings) c.loop-span.keys.items key c.loop-span.invariant.3 (subst (λ (o : Option RingKey). IfSome o (IsLeastFirst edges rings)) w.in-Some.is c.in_ok-key.ensures.least)),
           ))
       | in_default w ↦
           (let items = ap (λ v. v.items) w.keys-is in
@@ -46,6 +51,8 @@ loop-span-preserved c =
                 let h = c.loop-span.invariant.1 g in
                 let e : along_span g rings s ≡ 0 = along_none g rings.edges.items s.begin s.end nothing in
                 omega arith,
+            subst (λ (ks : List RingKey). All (IsKeyOfSome spans) ks) (sym items) c.loop-span.invariant.2,
+            subst (λ (ks : List RingKey). All (IsLeastFirst edges rings) ks) (sym items) c.loop-span.invariant.3,
           ))
     ]
   where
@@ -55,6 +62,17 @@ loop-span-preserved c =
 
 pub returns-clause-there : goal.returns-clause-there
 returns-clause-there c = All-permutation (IsKey c.args.rings.now) c.loop-span.keys.items c.sort_unstable.new.self.items c.sort_unstable.ensures.permutation c.loop-span.invariant.0
+
+pub returns-clause-spans : goal.returns-clause-spans
+returns-clause-spans c =
+    All-permutation (IsKeyOfSome c.args.rings.now.spans.items) c.loop-span.keys.items c.sort_unstable.new.self.items c.sort_unstable.ensures.permutation c.loop-span.invariant.2
+
+pub returns-clause-least : goal.returns-clause-least
+returns-clause-least c =
+    All-permutation (IsLeastFirst c.args.edges.now c.args.rings.now) c.loop-span.keys.items c.sort_unstable.new.self.items c.sort_unstable.ensures.permutation c.loop-span.invariant.3
+
+pub returns-clause-in_order : goal.returns-clause-in_order
+returns-clause-in_order c = by_part c.sort_unstable.new.self.items c.sort_unstable.ensures.sorted
 
 pub returns-clause-once : goal.returns-clause-once
 returns-clause-once c = λ g.

@@ -1,4 +1,4 @@
-use Rattle.std.proofs.Common.{rules, ◌≡◌, ◌∙◌, sym, ap, subst, refl, arith, ℕ, ◌≤◌, List, [], ◌∷◌, ◌++◌, length, take, drop, reverse, All}
+use Rattle.std.proofs.Common.{rules, ◌≡◌, sym, subst, refl, arith, ℕ, List, [], ◌∷◌, ◌++◌, length, take, drop, reverse, All}
 use Rattle.std.proofs.lemmas.List.Elements.{All-push}
 use Rattle.std.proofs.lemmas.List.Sorted.{length_permutation}
 use Rattle.ring_trace.specs.declared.simple_rings.RingSpan.{RingSpan}

@@ -1,18 +1,16 @@
-use Rattle.std.proofs.Common.{rules, refl, false, get_or, set, drop, reverse, ◌≡◌, ◌∙◌, sym, ap, subst, arith, ℕ, ◌+◌, ◌<◌, Some, List, [], ◌∷◌, ◌++◌, length, All, length-set}
+use Rattle.std.proofs.Common.{rules, refl, false, get_or, set, drop, reverse, ◌≡◌, ◌∙◌, sym, ap, subst, arith, ℕ, ◌<◌, Some, List, [], ◌++◌, length, All, length-set}
 use Rattle.std.specs.List.{sum_by}
 use Rattle.std.specs.List.Sorted.{IsPermutation}
 use Rattle.std.proofs.lemmas.Result.{on_ok_weaker}
 use Rattle.std.proofs.lemmas.List.{length_push, get_or_default}
 use Rattle.ring_trace.specs.declared.simple_rings.RingSpan.{RingSpan}
-use Rattle.ring_trace.specs.Ways.{IsWay, IsSimpleRing, AreSimpleRings, AreMarked, start_in, stop_in}
+use Rattle.ring_trace.specs.Ways.{IsWay, AreSimpleRings, AreMarked, start_in, stop_in}
 use Rattle.ring_trace.proofs.WayLemmas.{IsMoved, none_moved, moved_more, marks_popped, part_once, starts_apart}
 use Rattle.std.proofs.lemmas.List.Elements.{All-pop}
 use Rattle.std.proofs.lemmas.List.Sums.{sum_by_push}
 use Rattle.std.proofs.lemmas.List.Sorted.{sum_by-IsPermutation, All-permutation}
-use Rattle.ring_trace.specs.declared.simple_rings.Rings.{Rings}
-use Rattle.ring_trace.specs.declared.simple_rings.Walk.{Walk}
-use Rattle.ring_trace.specs.Rings.{AreTiled, IsSpan, IsWhole, IsKept, sum_where}
-use Rattle.ring_trace.proofs.TileLemmas.{on_ok_both, whole_pushed, AreBelow}
+use Rattle.ring_trace.specs.Rings.{AreTiled, IsSpan, sum_where}
+use Rattle.ring_trace.proofs.TileLemmas.{on_ok_both, whole_pushed}
 use Rattle.ring_trace.proofs.simple_rings.close.Goals as goal
 
 pub loop-edge-init : goal.loop-edge-init

@@ -4,14 +4,14 @@ use Rattle.std.specs.List.Sorted.{IsPermutation}
 use Rattle.std.proofs.lemmas.Result.{on_ok_weaker}
 use Rattle.std.proofs.lemmas.List.{length_push, get_or_default, get_or-set_same}
 use Rattle.ring_trace.specs.declared.simple_rings.RingSpan.{RingSpan}
-use Rattle.ring_trace.specs.Ways.{IsWay, IsSimpleRing, AreSimpleRings, AreMarked, IsMarkedWay, start_in, stop_in, times_at}
+use Rattle.ring_trace.specs.Ways.{IsWay, AreSimpleRings, AreMarked, IsMarkedWay, start_in, stop_in, times_at}
 use Rattle.ring_trace.proofs.WayLemmas.{IsMoved, none_moved, moved_more, moved_back, marks_popped, marked_on, tick_none, still_on, way_cut, part_once, starts_apart}
 use Rattle.std.proofs.lemmas.List.Elements.{All-pop}
 use Rattle.std.proofs.lemmas.List.Sums.{sum_by_push}
 use Rattle.std.proofs.lemmas.List.Sorted.{sum_by-IsPermutation, All-permutation}
 use Rattle.ring_trace.specs.declared.simple_rings.Rings.{Rings}
 use Rattle.ring_trace.specs.declared.simple_rings.Walk.{Walk}
-use Rattle.ring_trace.specs.Rings.{AreTiled, IsSpan, IsWhole, IsKept, sum_where}
+use Rattle.ring_trace.specs.Rings.{AreTiled, IsSpan, sum_where}
 use Rattle.ring_trace.proofs.TileLemmas.{on_ok_both, whole_pushed, AreBelow}
 use Rattle.ring_trace.proofs.simple_rings.cut_ring.Goals.{in-Some+in_ok-push+then-start-vertex, in_default}
 use Rattle.ring_trace.proofs.simple_rings.cut_ring.Goals as goal

@@ -2,10 +2,9 @@ use Rattle.std.proofs.Common.{rules, refl, All, ◌≡◌, ◌∙◌, sym, ap, s
 use Rattle.std.specs.List.{sum_by}
 use Rattle.std.proofs.lemmas.List.{get_or-replicate, get_or_default, length-replicate}
 use Rattle.ring_trace.specs.declared.simple_rings.RingSpan.{RingSpan}
-use Rattle.ring_trace.specs.declared.pairing.Edge.{Edge}
 use Rattle.ring_trace.specs.declared.simple_rings.Rings.{Rings}
 use Rattle.ring_trace.specs.declared.simple_rings.Walk.{Walk}
-use Rattle.ring_trace.specs.Rings.{AreTiled, edge_at, sum_where}
+use Rattle.ring_trace.specs.Rings.{AreTiled, edge_at}
 use Rattle.ring_trace.proofs.TileLemmas.{sum_where-none, sum_where-all}
 use Rattle.std.proofs.lemmas.List.Elements.{All-nil}
 use Rattle.ring_trace.specs.Ways.{IsSimpleRing, AreSimpleRings, edges_in, start_in, stop_in, times_at}

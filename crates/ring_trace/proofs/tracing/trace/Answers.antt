@@ -1,16 +1,22 @@
-use Rattle.std.proofs.Common.{rules, ◌≡◌, ◌∙◌, sym, ap, subst, ℕ, List, length, map, IfOk}
+use Rattle.std.proofs.Common.{rules, ◌≡◌, ◌∙◌, sym, ap, subst, ℕ, ◌<◌, List, length, get_or, map, All, IfOk}
 use Rattle.std.specs.List.{sum_by}
 use Rattle.std.specs.List.Sorted.{IsPermutation, IsStrictlyIncreasing}
 use Rattle.std.proofs.lemmas.Result.{IfOk-weaker}
 use Rattle.plane_model.specs.Arcs.{SignedArc}
+use Rattle.arc_table.specs.Around.{start_of}
 use Rattle.ring_trace.specs.declared.joined_faces.Side.{Side}
 use Rattle.ring_trace.specs.declared.pairing.Edge.{Edge}
 use Rattle.ring_trace.specs.declared.ring_keys.RingKey.{RingKey}
-use Rattle.ring_trace.specs.Boundary.{sides_of}
-use Rattle.ring_trace.specs.Keys.{along_key, along_span}
+use Rattle.ring_trace.specs.Joined.{AreLeastNumbers, AreParts}
+use Rattle.ring_trace.specs.Keys.{AreByPart, IsLeastFirst, along_key}
+use Rattle.ring_trace.specs.Pairing.{AreBalanced, AreByStart, AreEdgesOf, stop_of}
 use Rattle.ring_trace.specs.Rings.{HasEachOnce}
-use Rattle.ring_trace.specs.Traced.{UsesBoundary, times_along, times_traced, is_of_boundary, once_if}
+use Rattle.ring_trace.specs.Traced.{BeginsWithLeast, UseParts, UsesBoundary, times_along, times_traced, is_of_boundary, once_if}
+use Rattle.ring_trace.specs.Ways.{IsSimpleRing, AreRingsByCorners}
+use Rattle.ring_trace.proofs.BoundaryLemmas.{sides_are}
+use Rattle.ring_trace.proofs.PolygonLemmas.{keyed_least, keyed_part, parts_used, rings_all}
 use Rattle.ring_trace.proofs.TracedLemmas.{traced_once, all_ok}
+use Rattle.ring_trace.proofs.TurnLemmas.{made_starts, keyed_ring}
 use Rattle.ring_trace.proofs.tracing.trace.Goals as goal
 
 pub returns-clause-there : goal.returns-clause-there
@@ -41,3 +47,82 @@ returns-clause-boundary c =
     ∙ ap (λ (xs : List ℕ). once_if (is_of_boundary places many xs a)) c.faces-faces.ensures.all)
     (c.polygons_of.ensures.once a) in
     IfOk-weaker polygons (λ ps. (a : SignedArc) → P a ps) (UsesBoundary places many inside) (λ ps h. record { once = h }) (all_ok polygons P one)
+
+pub returns-clause-simple : goal.returns-clause-simple
+returns-clause-simple c =
+    let arcs = c.args.t.now in
+    let faces = c.faces-faces.result.now in
+    let sides = c.in_ok-sides.sides.items in
+    let edges = c.in_ok-edges.edges.items in
+    let rings = c.in_ok-rings.rings in
+    let classes = c.in_ok-parts.parts.joining in
+    let numbers = c.in_ok-parts.parts.numbers.items in
+    let keys = c.in_ok-keys.keys.items in
+    let polygons = c.polygons_of.result in
+    let grouped : IfOk polygons (AreByPart edges rings keys) =
+    subst (λ (es : List Edge). IfOk polygons (AreByPart es rings keys)) c.deref-5.ensures.value (subst (λ (ks : List RingKey). IfOk polygons (AreByPart c.deref-5.result.now rings ks)) c.deref-6.ensures.value c.polygons_of.ensures.by_part) in
+    let up : IsStrictlyIncreasing faces = subst IsStrictlyIncreasing (sym c.faces-faces.ensures.all) c.faces-faces.ensures.ascending in
+    let made : AreEdgesOf arcs classes numbers sides edges = subst (λ (ss : List Side). AreEdgesOf arcs classes numbers ss edges) c.deref-2.ensures.value c.in_ok-edges.ensures.made in
+    let starts : All (λ (e : Edge). e.start ≡ start_of arcs e.arc) edges = made_starts arcs classes numbers sides edges made in
+    let balanced : AreBalanced arcs edges =
+    c.in_ok-edges.ensures.balanced c.args.f.now faces c.requires.built up (c.in_ok-parts.ensures.joined arcs c.requires.built) (c.deref-2.ensures.value ∙ c.in_ok-sides.ensures.exact arcs c.requires.built) in
+    let simple : AreRingsByCorners arcs edges rings =
+    subst (λ (es : List Edge). AreRingsByCorners arcs es rings) c.deref-3.ensures.value
+    (c.in_ok-rings.ensures.simple (subst (λ (es : List Edge). AreBalanced arcs es) (sym c.deref-3.ensures.value) balanced) (subst (λ (es : List Edge). AreByStart es) (sym c.deref-3.ensures.value) c.in_ok-edges.ensures.in_order)) in
+    let below : All (λ k. k < length edges) rings.edges.items = subst (λ (es : List Edge). All (λ k. k < length es) rings.edges.items) c.deref-3.ensures.value c.in_ok-rings.ensures.whole.edges in
+    let P : List SignedArc → Type 0 = IsSimpleRing (start_of arcs) (stop_of arcs) in
+    IfOk-weaker polygons (AreByPart edges rings keys) (All (All P))
+    (λ ps g. rings_all P edges rings keys ps g (λ k d l. keyed_ring arcs edges rings (get_or keys k d) starts below simple (c.in_ok-keys.ensures.there k d l) (c.in_ok-keys.ensures.spans k d l)))
+    grouped
+
+pub returns-clause-least_first : goal.returns-clause-least_first
+returns-clause-least_first c =
+    let arcs = c.args.t.now in
+    let faces = c.faces-faces.result.now in
+    let sides = c.in_ok-sides.sides.items in
+    let edges = c.in_ok-edges.edges.items in
+    let rings = c.in_ok-rings.rings in
+    let classes = c.in_ok-parts.parts.joining in
+    let numbers = c.in_ok-parts.parts.numbers.items in
+    let keys = c.in_ok-keys.keys.items in
+    let polygons = c.polygons_of.result in
+    let grouped : IfOk polygons (AreByPart edges rings keys) =
+    subst (λ (es : List Edge). IfOk polygons (AreByPart es rings keys)) c.deref-5.ensures.value (subst (λ (ks : List RingKey). IfOk polygons (AreByPart c.deref-5.result.now rings ks)) c.deref-6.ensures.value c.polygons_of.ensures.by_part) in
+    let first : All (IsLeastFirst edges rings) keys = subst (λ (es : List Edge). All (IsLeastFirst es rings) keys) c.deref-4.ensures.value c.in_ok-keys.ensures.least in
+    IfOk-weaker polygons (AreByPart edges rings keys) (All (All BeginsWithLeast))
+    (λ ps g. rings_all BeginsWithLeast edges rings keys ps g (λ k d l. keyed_least edges rings (get_or keys k d) (c.in_ok-keys.ensures.there k d l) (first k d l)))
+    grouped
+
+pub returns-clause-parts : goal.returns-clause-parts
+returns-clause-parts c = λ parts are_parts.
+    let arcs = c.args.t.now in
+    let faces = c.faces-faces.result.now in
+    let sides = c.in_ok-sides.sides.items in
+    let edges = c.in_ok-edges.edges.items in
+    let rings = c.in_ok-rings.rings in
+    let classes = c.in_ok-parts.parts.joining in
+    let numbers = c.in_ok-parts.parts.numbers.items in
+    let keys = c.in_ok-keys.keys.items in
+    let polygons = c.polygons_of.result in
+    let grouped : IfOk polygons (AreByPart edges rings keys) =
+    subst (λ (es : List Edge). IfOk polygons (AreByPart es rings keys)) c.deref-5.ensures.value (subst (λ (ks : List RingKey). IfOk polygons (AreByPart c.deref-5.result.now rings ks)) c.deref-6.ensures.value c.polygons_of.ensures.by_part) in
+    let up : IsStrictlyIncreasing faces = subst IsStrictlyIncreasing (sym c.faces-faces.ensures.all) c.faces-faces.ensures.ascending in
+    let made : AreEdgesOf arcs classes numbers sides edges = subst (λ (ss : List Side). AreEdgesOf arcs classes numbers ss edges) c.deref-2.ensures.value c.in_ok-edges.ensures.made in
+    let starts : All (λ (e : Edge). e.start ≡ start_of arcs e.arc) edges = made_starts arcs classes numbers sides edges made in
+    let balanced : AreBalanced arcs edges =
+    c.in_ok-edges.ensures.balanced c.args.f.now faces c.requires.built up (c.in_ok-parts.ensures.joined arcs c.requires.built) (c.deref-2.ensures.value ∙ c.in_ok-sides.ensures.exact arcs c.requires.built) in
+    let simple : AreRingsByCorners arcs edges rings =
+    subst (λ (es : List Edge). AreRingsByCorners arcs es rings) c.deref-3.ensures.value
+    (c.in_ok-rings.ensures.simple (subst (λ (es : List Edge). AreBalanced arcs es) (sym c.deref-3.ensures.value) balanced) (subst (λ (es : List Edge). AreByStart es) (sym c.deref-3.ensures.value) c.in_ok-edges.ensures.in_order)) in
+    let below : All (λ k. k < length edges) rings.edges.items = subst (λ (es : List Edge). All (λ k. k < length es) rings.edges.items) c.deref-3.ensures.value c.in_ok-rings.ensures.whole.edges in
+    let first : All (IsLeastFirst edges rings) keys = subst (λ (es : List Edge). All (IsLeastFirst es rings) keys) c.deref-4.ensures.value c.in_ok-keys.ensures.least in
+    let is = c.in_ok-sides.ensures.exact arcs c.requires.built in
+    let lowest : AreLeastNumbers classes sides numbers = subst (λ (ss : List Side). AreLeastNumbers classes ss numbers) c.deref.ensures.value c.in_ok-parts.ensures.least in
+    let once : HasEachOnce edges rings = subst (λ (es : List Edge). HasEachOnce es rings) c.deref-3.ensures.value c.in_ok-rings.ensures.once in
+    IfOk-weaker polygons (AreByPart edges rings keys) (UseParts c.args.f.now.places (length arcs) parts)
+    (λ ps g.
+    parts_used arcs c.args.f.now faces classes numbers sides edges rings keys c.requires.built.places_counted up c.in_ok-parts.ensures.each c.in_ok-parts.ensures.numbers c.in_ok-parts.ensures.classes
+    (c.in_ok-parts.ensures.joined arcs c.requires.built) lowest is (sides_are arcs c.args.f.now faces sides c.requires.built is) made once c.in_ok-rings.ensures.tiled below c.in_ok-keys.ensures.there first
+    (λ k d l. keyed_part arcs edges rings (get_or keys k d) starts simple (c.in_ok-keys.ensures.there k d l) (c.in_ok-keys.ensures.spans k d l) (first k d l))
+    c.in_ok-keys.ensures.once ps g parts (subst (λ (xs : List ℕ). AreParts c.args.f.now xs parts) (sym c.faces-faces.ensures.all) are_parts))
+    grouped
