@@ -181,9 +181,10 @@ fn is_digit(byte: u8) -> bool
     byte.is_ascii_digit()
 }
 
-// How many digits stand at the front.
-fn digit_count(text: &[u8]) -> usize
-    ensures { result ≡ length (digits_at text.now) }
+/// How many digits stand at the front.
+pub(crate) fn digit_count(text: &[u8]) -> usize
+    ensures count { result ≡ length (digits_at text.now) }
+    ensures fits { result ≤ length text.now }
 {
     let mut n = 0;
     while n < text.len() && is_digit(text[n]) {

@@ -9,6 +9,7 @@ ghost use Rattle.json_read.specs.declared.reader.Stop.TheVariants.{Memory};
 
 use crate::growing_fields::GrowingFields;
 use crate::json::{Json, JsonFields, JsonList};
+use crate::numerals::digit_count;
 use io_core::Text;
 use std::alloc::{AllocError, Global};
 
@@ -85,9 +86,7 @@ impl<'a> Reader<'a> {
     fn digits(&mut self)
         ensures { self.new.rest.now ≡ drop_while is_digit self.old.rest.now }
     {
-        while let Some(b'0'..=b'9') = self.peek() {
-            self.advance();
-        }
+        self.rest = &self.rest[digit_count(self.rest)..];
     }
 
     /// One or more digits.
@@ -536,10 +535,7 @@ fn numeral_text(text: &[u8]) -> &str
     requires { Number text.now }
     ensures { result.now ≡ text.now }
 {
-    match str::from_utf8(text) {
-        Ok(text) => text,
-        Err(_) => unreachable!(),
-    }
+    unsafe { str::from_utf8_unchecked(text) }
 }
 
 impl From<AllocError> for Stop {

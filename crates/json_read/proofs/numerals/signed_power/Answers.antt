@@ -9,4 +9,4 @@ pub returns : goal.returns
 returns c =
     let some : length c.args.digits.now ≢ 0 = grind (arith, nat_tests, c.is_empty.ensures, c.if-is_empty.false) in
     let capped : c.with_sign.result ≡ capped_power (signed c.args.minus (number_of c.args.digits.now)) = c.with_sign.ensures ∙ capped_sign c.args.minus (number_of c.args.digits.now) _ c.power_of.ensures in
-    (signed c.args.minus (number_of c.args.digits.now), exponent_some c.args.minus c.args.digits.now some (omega (arith, c.if-digit_count-digits.false, c.digit_count.ensures)), search rules)
+    (signed c.args.minus (number_of c.args.digits.now), exponent_some c.args.minus c.args.digits.now some (omega (arith, c.if-digit_count-digits.false, c.digit_count.ensures.count)), search rules)
