@@ -8,3 +8,4 @@ pub mod SortLemmas
 pub mod ChainLemmas
 pub mod NearLemmas
 pub mod QuietLemmas
+pub mod KeyLemmas

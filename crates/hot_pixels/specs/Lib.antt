@@ -7,3 +7,4 @@ pub mod Stops
 pub mod Chains
 pub mod Near
 pub mod Quiet
+pub mod Keys

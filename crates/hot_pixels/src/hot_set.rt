@@ -8,6 +8,7 @@ ghost use Rattle.hot_pixels.specs.Quiet.{MeetsEndsAlone};
 ghost use Rattle.hot_pixels.specs.Stops.{stop_of};
 
 use crate::chains::sorted_along;
+use crate::keys::each_once;
 use crate::near::{Run, along_curve, count_near, met_near, runs_over};
 use crate::pairs::{add_crossings, buckets_over};
 use crate::quiet::{append_ends, marks_of};
@@ -48,11 +49,10 @@ impl HotSet {
         ensures exact { IfOk result (λ s. s ≡ ascending is_before (hot_points d.now)) }
     {
         let spots = spots_of(alloc, d)?;
-        let mut points = stops_of(alloc, &spots)?;
+        let mut found = stops_of(alloc, &spots)?;
         let buckets = buckets_over(alloc, &spots)?;
-        add_crossings(&mut points, &spots, &buckets)?;
-        points.sort_unstable();
-        points.dedup();
+        add_crossings(&mut found, &spots, &buckets)?;
+        let points = each_once(alloc, &found)?;
         let marks = marks_of(alloc, &points, &spots, &buckets)?;
         let mixed = along_curve(alloc, &points)?;
         let runs = runs_over(alloc, &mixed)?;

@@ -24,6 +24,7 @@ mod chains;
 mod crossing;
 mod half_open;
 mod hot_set;
+mod keys;
 mod near;
 mod pairs;
 mod quiet;
