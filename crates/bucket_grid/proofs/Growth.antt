@@ -1,18 +1,17 @@
--- A tree over an area grows out of trees over its two parts.
-use Rattle.std.proofs.Common.{◌≡◌, inl, inr, refl, sym, ap, ◌∙◌, subst, arith, ℕ, zero, suc, ◌+◌, ◌-◌, ◌<◌, Bool, true, false, cond, List, [], ◌∷◌, ◌++◌, length, get_or, map, Option, Some, None, ℤ, ◌≤ℤ◌, ◌<ℤ◌, int_le, append_assoc, length-append}
+-- A tree over an area grows out of trees over its slabs.
+use Rattle.std.proofs.Common.{◌≡◌, ◌⊎◌, inl, inr, refl, sym, ap, ◌∙◌, subst, arith, ℕ, zero, suc, ◌+◌, ◌-◌, ◌<◌, ◌≤◌, List, [], ◌∷◌, ◌++◌, length, get_or, map, Option, Some, None, append_assoc, length-append}
 use Rattle.std.specs.List.{slice_get}
 use Rattle.std.proofs.lemmas.Bool.{cases_lt}
-use Rattle.std.proofs.lemmas.List.{get_or_append_left, get_or-append_right, get_or-append-add, map-append}
+use Rattle.std.proofs.lemmas.List.{append-nil, get_or_append_left, get_or-append_right, get_or-append-add, map-append}
 use Rattle.plane_model.specs.Points.{GridPoint}
-use Rattle.plane_algebra.proofs.Order.{order, order_cases}
-use Rattle.plane_algebra.proofs.Tests.{le_from, le_to, by_test}
 use Rattle.grid_base.specs.Grid.{Corners}
-use Rattle.bucket_grid.specs.declared.tree.Axis.{Axis}
-use Rattle.bucket_grid.specs.declared.tree.Axis.TheVariants.{Across, Upward}
+use Rattle.bucket_grid.specs.declared.tree.Slabs.{Slabs}
 use Rattle.bucket_grid.specs.declared.tree.Node.{Node}
-use Rattle.bucket_grid.specs.declared.tree.Node.TheVariants.{Leaf, Fork}
+use Rattle.bucket_grid.specs.declared.tree.Node.TheVariants.{Leaf, Split}
 use Rattle.bucket_grid.specs.Areas.{Holds, IsPlaceOf, boxes_near}
-use Rattle.bucket_grid.specs.Tree.{along, below_cut, above_cut, Parts, place_by, place_from, Grew}
+use Rattle.bucket_grid.specs.Slabs.{along, slab_at, DividesArea, slab_part}
+use Rattle.bucket_grid.specs.Tree.{place_by, place_from, place_under, Grew}
+use Rattle.bucket_grid.proofs.SlabLemmas.{at_most_last, slab_holds_to, slab_holds_from}
 
 -- ---- items of joined lists
 
@@ -21,9 +20,14 @@ slice_get-append_left [] ys i x e = absurd (let f : None ≡ Some x = e in cc)
 slice_get-append_left (y ∷ xs) ys zero x e = e
 slice_get-append_left (y ∷ xs) ys (suc i) x e = slice_get-append_left xs ys i x e
 
-pub slice_get-append_end : {A : Type 0} (xs : List A) (x : A) → slice_get (xs ++ x ∷ []) (length xs) ≡ Some x
-slice_get-append_end [] x = refl
-slice_get-append_end (y ∷ xs) x = slice_get-append_end xs x
+pub slice_get-append_right : {A : Type 0} (xs ys : List A) (i : ℕ) → slice_get (xs ++ ys) (length xs + i) ≡ slice_get ys i
+slice_get-append_right [] ys i = ap (slice_get ys) (let e : 0 + i ≡ i = omega arith in e)
+slice_get-append_right (x ∷ xs) ys i = ap (slice_get (x ∷ (xs ++ ys))) (let e : suc (length xs) + i ≡ suc (length xs + i) = omega arith in e) ∙ slice_get-append_right xs ys i
+
+pub slice_get-within : {A : Type 0} (xs : List A) (i : ℕ) (d : A) → i < length xs → slice_get xs i ≡ Some (get_or xs i d)
+slice_get-within [] i d l = absurd (omega arith)
+slice_get-within (x ∷ xs) zero d l = refl
+slice_get-within (x ∷ xs) (suc i) d l = slice_get-within xs i d (omega arith)
 
 -- ---- more nodes lead where the first ones did
 
@@ -36,14 +40,13 @@ place_from-more (suc steps) nodes more i g k e = go (slice_get nodes i) refl e (
         place_by (λ j. place_from steps (nodes ++ more) j g) (slice_get (nodes ++ more) i) g ≡ Some k
     go None h f rest = absurd (let f' : None ≡ Some k = f in cc)
     go (Some (Leaf place)) h f rest = ap (λ (o : Option Node). place_by (λ j. place_from steps (nodes ++ more) j g) o g) (slice_get-append_left nodes more i (Leaf place) h) ∙ f
-    go (Some (Fork axis at low high)) h f rest =
-        ap (λ (o : Option Node). place_by (λ j. place_from steps (nodes ++ more) j g) o g) (slice_get-append_left nodes more i (Fork axis at low high) h)
-        ∙ way (int_le (along axis g) at) f
-      where
-        way : (b : Bool) → cond b (place_from steps nodes low g) (place_from steps nodes high g) ≡ Some k →
-            cond b (place_from steps (nodes ++ more) low g) (place_from steps (nodes ++ more) high g) ≡ Some k
-        way true e = rest low e
-        way false e = rest high e
+    go (Some (Split s children)) h f rest =
+        ap (λ (o : Option Node). place_by (λ j. place_from steps (nodes ++ more) j g) o g) (slice_get-append_left nodes more i (Split s children) h)
+        ∙ rest (children + (s.last - slab_at s (along s.axis g))) f
+
+pub place_under-more : (steps : ℕ) (nodes more : List Node) (top : Node) (g : GridPoint) (k : ℕ) → place_under steps nodes top g ≡ Some k → place_under steps (nodes ++ more) top g ≡ Some k
+place_under-more steps nodes more (Leaf place) g k e = e
+place_under-more steps nodes more (Split s children) g k e = place_from-more steps nodes more (children + (s.last - slab_at s (along s.axis g))) g k e
 
 -- ---- places in joined lists of areas
 
@@ -67,39 +70,20 @@ place_right ks bs g k p none = record {
   ];
 }
 
--- ---- the two parts of an area
-
-pub holds_below : (axis : Axis) (at : ℤ) (area : Corners) (g : GridPoint) → Holds area g → along axis g ≤ℤ at → Holds (below_cut axis at area) g
-holds_below Across at area g h l = record { left = h.left; right = l; lower = h.lower; upper = h.upper }
-holds_below Upward at area g h l = record { left = h.left; right = h.right; lower = h.lower; upper = l }
-
-pub holds_above : (axis : Axis) (at : ℤ) (area : Corners) (g : GridPoint) → Holds area g → at <ℤ along axis g → Holds (above_cut axis at area) g
-holds_above Across at area g h l = record { left = omega order; right = h.right; lower = h.lower; upper = h.upper }
-holds_above Upward at area g h l = record { left = h.left; right = h.right; lower = omega order; upper = h.upper }
-
-pub inside_below : (axis : Axis) (at : ℤ) (area : Corners) (g : GridPoint) → Parts area axis at → Holds (below_cut axis at area) g → Holds area g × (along axis g ≤ℤ at)
-inside_below Across at area g p h = let u = h.right in let v = p.high in (record { left = h.left; right = omega order; lower = h.lower; upper = h.upper }, h.right)
-inside_below Upward at area g p h = let u = h.upper in let v = p.high in (record { left = h.left; right = h.right; lower = h.lower; upper = omega order }, h.upper)
-
-pub inside_above : (axis : Axis) (at : ℤ) (area : Corners) (g : GridPoint) → Parts area axis at → Holds (above_cut axis at area) g → Holds area g × (at <ℤ along axis g)
-inside_above Across at area g p h = let u = h.left in let v = p.low in (record { left = omega order; right = h.right; lower = h.lower; upper = h.upper }, omega order)
-inside_above Upward at area g p h = let u = h.lower in let v = p.low in (record { left = h.left; right = h.right; lower = omega order; upper = h.upper }, omega order)
-
 -- ---- a leaf
 
-pub leaf_grows : (boxes : List Corners) (area : Corners) (nodes : List Node) (areas : List Corners) (near : List (List ℕ)) (steps : ℕ) →
-    Grew steps boxes area nodes (nodes ++ Leaf (length areas) ∷ []) areas (areas ++ area ∷ []) near (near ++ boxes_near boxes area ∷ []) (length nodes)
-leaf_grows boxes area nodes areas near steps = record {
-  more_nodes = Leaf (length areas) ∷ [];
+pub leaf_grown : (boxes : List Corners) (area : Corners) (nodes : List Node) (areas new_areas : List Corners) (near new_near : List (List ℕ)) (steps : ℕ) (ids : List ℕ) (place : ℕ) →
+    ids ≡ boxes_near boxes area → place ≡ length areas → new_areas ≡ areas ++ area ∷ [] → new_near ≡ near ++ ids ∷ [] →
+    Grew steps boxes (Holds area) nodes nodes areas new_areas near new_near (λ g. Leaf place)
+leaf_grown boxes area nodes areas new_areas near new_near steps ids place e f h i = record {
+  more_nodes = [];
   more_areas = area ∷ [];
-  nodes_are = refl;
-  areas_are = refl;
-  near_are = refl;
+  nodes_are = sym (append-nil nodes);
+  areas_are = h;
+  near_are = i ∙ ap (λ (l : List ℕ). near ++ l ∷ []) e;
   leads = λ g h. (
     0,
-    (let e = slice_get-append_end nodes (Leaf (length areas)) in
-        let f : place_from (suc steps) (nodes ++ Leaf (length areas) ∷ []) (length nodes) g ≡ Some (length areas) = ap (λ (o : Option Node). place_by (λ j. place_from steps (nodes ++ Leaf (length areas) ∷ []) j g) o g) e in
-        let n : length areas ≡ length areas + 0 = omega arith in f ∙ ap Some n),
+    ap Some (let n : place ≡ length areas + 0 = omega arith in n),
     record { below = omega arith; held = λ d. h; only = λ k d l i. omega arith },
   );
   inside = λ k d g l h. alone k d g l h;
@@ -109,82 +93,105 @@ leaf_grows boxes area nodes areas near steps = record {
     alone zero d g l h = h
     alone (suc k) d g l h = absurd (omega arith)
 
--- ---- a fork
+-- ---- two regions
 
-module _ (boxes : List Corners) (area : Corners) (axis : Axis) (at : ℤ) (parts : Parts area axis at) (steps : ℕ)
-    (n₀ n₁ n₂ : List Node) (a₀ a₁ a₂ : List Corners) (b₀ b₁ b₂ : List (List ℕ)) (low high : ℕ)
-    (l : Grew steps boxes (below_cut axis at area) n₀ n₁ a₀ a₁ b₀ b₁ low)
-    (h : Grew steps boxes (above_cut axis at area) n₁ n₂ a₁ a₂ b₁ b₂ high) where
-  abbrev node : Node
-  node = Fork axis at low high
+module _ (steps : ℕ) (boxes : List Corners) (R R₁ R₂ : GridPoint → Type 0) (n₀ n₁ n₂ : List Node) (a₀ a₁ a₂ : List Corners) (b₀ b₁ b₂ : List (List ℕ)) (top top₁ top₂ : GridPoint → Node)
+    (l : Grew steps boxes R₁ n₀ n₁ a₀ a₁ b₀ b₁ top₁) (h : Grew steps boxes R₂ n₁ n₂ a₁ a₂ b₁ b₂ top₂)
+    (splits : (g : GridPoint) → R g → R₁ g ⊎ R₂ g) (in₁ : (g : GridPoint) → R₁ g → R g) (in₂ : (g : GridPoint) → R₂ g → R g) (apart : (g : GridPoint) → R₁ g → R₂ g → ⊥)
+    (top₁_is : (g : GridPoint) → R₁ g → top₁ g ≡ top g) (top₂_is : (g : GridPoint) → R₂ g → top₂ g ≡ top g) where
+  first_leads : (g : GridPoint) (k : ℕ) → R₁ g → place_under steps n₁ (top₁ g) g ≡ Some k → place_under steps n₂ (top g) g ≡ Some k
+  first_leads g k r e =
+      subst (λ (n : Node). place_under steps n₂ n g ≡ Some k) (top₁_is g r)
+      (subst (λ (n : List Node). place_under steps n (top₁ g) g ≡ Some k) (sym h.nodes_are) (place_under-more steps n₁ h.more_nodes (top₁ g) g k e))
 
-  abbrev all : List Node
-  all = n₂ ++ node ∷ []
-
-  fork_sends : (g : GridPoint) (k : ℕ) → cond (int_le (along axis g) at) (place_from (suc steps) all low g) (place_from (suc steps) all high g) ≡ Some k →
-      place_from (suc (suc steps)) all (length n₂) g ≡ Some k
-  fork_sends g k e = ap (λ (o : Option Node). place_by (λ j. place_from (suc steps) all j g) o g) (slice_get-append_end n₂ node) ∙ e
-
-  low_leads : (g : GridPoint) (k : ℕ) → place_from (suc steps) n₁ low g ≡ Some k → place_from (suc steps) all low g ≡ Some k
-  low_leads g k e =
-      place_from-more (suc steps) n₂ (node ∷ []) low g k
-      (subst (λ (n : List Node). place_from (suc steps) n low g ≡ Some k) (sym h.nodes_are) (place_from-more (suc steps) n₁ h.more_nodes low g k e))
-
-  high_leads : (g : GridPoint) (k : ℕ) → place_from (suc steps) n₂ high g ≡ Some k → place_from (suc steps) all high g ≡ Some k
-  high_leads g k e = place_from-more (suc steps) n₂ (node ∷ []) high g k e
-
-  not_high : (g : GridPoint) → along axis g ≤ℤ at → (j : ℕ) (d : Corners) → j < length h.more_areas → Holds (get_or h.more_areas j d) g → ⊥
-  not_high g m j d b i = let p = (inside_above axis at area g parts (h.inside j d g b i)).1 in omega order
-
-  not_low : (g : GridPoint) → at <ℤ along axis g → (j : ℕ) (d : Corners) → j < length l.more_areas → Holds (get_or l.more_areas j d) g → ⊥
-  not_low g m j d b i = let p = (inside_below axis at area g parts (l.inside j d g b i)).1 in omega order
-
-  leads_on : (g : GridPoint) → Holds area g → (k : ℕ) × (place_from (suc (suc steps)) all (length n₂) g ≡ Some (length a₀ + k)) × IsPlaceOf (l.more_areas ++ h.more_areas) g k
-  leads_on g i = by_test (int_le (along axis g) at)
-      (λ e. let m = le_from (along axis g) at e in
-      let w = l.leads g (holds_below axis at area g i m) in (
-        w.0,
-        fork_sends g (length a₀ + w.0) (ap (λ (b : Bool). cond b (place_from (suc steps) all low g) (place_from (suc steps) all high g)) e ∙ low_leads g (length a₀ + w.0) w.1),
-        place_left l.more_areas h.more_areas g w.0 w.2 (not_high g m),
-      ))
-      (λ e. let m : at <ℤ along axis g = order_cases (along axis g) at (λ r. absurd (let t : true ≡ false = sym (le_to (along axis g) at r) ∙ e in cc)) (λ r. r) in
-      let w = h.leads g (holds_above axis at area g i m) in
-      let n : length a₁ + w.0 ≡ length a₀ + (length l.more_areas + w.0) = omega (arith, ap length l.areas_are, length-append a₀ l.more_areas) in (
-        length l.more_areas + w.0,
-        fork_sends g (length a₀ + (length l.more_areas + w.0)) (ap (λ (b : Bool). cond b (place_from (suc steps) all low g) (place_from (suc steps) all high g)) e ∙ high_leads g (length a₁ + w.0) w.1 ∙ ap Some n),
-        place_right l.more_areas h.more_areas g w.0 w.2 (not_low g m),
-      ))
-
-  all_inside : (k : ℕ) (d : Corners) (g : GridPoint) → k < length (l.more_areas ++ h.more_areas) → Holds (get_or (l.more_areas ++ h.more_areas) k d) g → Holds area g
-  all_inside k d g b i = elim (cases_lt k (length l.more_areas)) [
-    | inl m ↦ (inside_below axis at area g parts (l.inside k d g m (subst (λ (r : Corners). Holds r g) (get_or_append_left l.more_areas h.more_areas d k m) i))).0
-    | inr m ↦ (inside_above axis at area g parts (h.inside (k - length l.more_areas) d g (omega (arith, length-append l.more_areas h.more_areas)) (subst (λ (r : Corners). Holds r g) (get_or-append_right l.more_areas h.more_areas (length l.more_areas) k d refl m) i))).0
+  leads_on : (g : GridPoint) → R g → (k : ℕ) × (place_under steps n₂ (top g) g ≡ Some (length a₀ + k)) × IsPlaceOf (l.more_areas ++ h.more_areas) g k
+  leads_on g r = elim (splits g r) [
+    | inl i ↦ (let w = l.leads g i in
+        (w.0, first_leads g (length a₀ + w.0) i w.1, place_left l.more_areas h.more_areas g w.0 w.2 (λ j d b m. apart g i (h.inside j d g b m))))
+    | inr i ↦ (let w = h.leads g i in
+        let n : length a₁ + w.0 ≡ length a₀ + (length l.more_areas + w.0) = omega (arith, ap length l.areas_are, length-append a₀ l.more_areas) in (
+          length l.more_areas + w.0,
+          subst (λ (n : Node). place_under steps n₂ n g ≡ Some (length a₀ + (length l.more_areas + w.0))) (top₂_is g i) (w.1 ∙ ap Some n),
+          place_right l.more_areas h.more_areas g w.0 w.2 (λ j d b m. apart g (l.inside j d g b m) i),
+        ))
   ]
 
-  pub fork_grows : Grew (suc steps) boxes area n₀ all a₀ a₂ b₀ b₂ (length n₂)
-  fork_grows = record {
-    more_nodes = l.more_nodes ++ h.more_nodes ++ node ∷ [];
+  all_inside : (k : ℕ) (d : Corners) (g : GridPoint) → k < length (l.more_areas ++ h.more_areas) → Holds (get_or (l.more_areas ++ h.more_areas) k d) g → R g
+  all_inside k d g b i = elim (cases_lt k (length l.more_areas)) [
+    | inl m ↦ in₁ g (l.inside k d g m (subst (λ (r : Corners). Holds r g) (get_or_append_left l.more_areas h.more_areas d k m) i))
+    | inr m ↦ in₂ g (h.inside (k - length l.more_areas) d g (omega (arith, length-append l.more_areas h.more_areas)) (subst (λ (r : Corners). Holds r g) (get_or-append_right l.more_areas h.more_areas (length l.more_areas) k d refl m) i))
+  ]
+
+  pub joined_grown : Grew steps boxes R n₀ n₂ a₀ a₂ b₀ b₂ top
+  joined_grown = record {
+    more_nodes = l.more_nodes ++ h.more_nodes;
     more_areas = l.more_areas ++ h.more_areas;
-    nodes_are = ap (λ (n : List Node). n ++ node ∷ []) (h.nodes_are ∙ ap (λ (n : List Node). n ++ h.more_nodes) l.nodes_are) ∙ simp append_assoc;
+    nodes_are = h.nodes_are ∙ ap (λ (n : List Node). n ++ h.more_nodes) l.nodes_are ∙ append_assoc n₀ l.more_nodes h.more_nodes;
     areas_are = h.areas_are ∙ ap (λ (a : List Corners). a ++ h.more_areas) l.areas_are ∙ append_assoc a₀ l.more_areas h.more_areas;
     near_are = h.near_are ∙ ap (λ (b : List (List ℕ)). b ++ map (boxes_near boxes) h.more_areas) l.near_are ∙ append_assoc b₀ (map (boxes_near boxes) l.more_areas) (map (boxes_near boxes) h.more_areas) ∙ ap (λ (b : List (List ℕ)). b₀ ++ b) (sym (map-append (boxes_near boxes) l.more_areas h.more_areas));
     leads = leads_on;
     inside = all_inside;
   }
 
--- ---- as the code has them
+-- ---- the slabs of an area, from the last to the first
 
-pub leaf_grown : (boxes : List Corners) (area : Corners) (nodes new_nodes : List Node) (areas new_areas : List Corners) (near new_near : List (List ℕ)) (steps : ℕ) (ids : List ℕ) (root place : ℕ) →
-    ids ≡ boxes_near boxes area → place ≡ length areas → root ≡ length nodes → new_nodes ≡ nodes ++ Leaf place ∷ [] → new_areas ≡ areas ++ area ∷ [] → new_near ≡ near ++ ids ∷ [] →
-    Grew steps boxes area nodes new_nodes areas new_areas near new_near root
-leaf_grown boxes area nodes new_nodes areas new_areas near new_near steps ids root place e f g h i j = rw (h, i, j, e, f, g) (leaf_grows boxes area nodes areas near steps)
+-- a point of the area lies in slab k or past it
+pub record IsFrom (area : Corners) (s : Slabs) (k : ℕ) (g : GridPoint) : Type 0 where
+  pub held : Holds area g
+  pub past : k ≤ slab_at s (along s.axis g)
 
-pub fork_grown : (boxes : List Corners) (area below above : Corners) (axis : Axis) (at : ℤ) (steps : ℕ) (n₀ n₁ n₂ n₃ : List Node) (a₀ a₁ a₂ a₃ : List Corners) (b₀ b₁ b₂ b₃ : List (List ℕ)) (low high root : ℕ) →
-    Parts area axis at → below ≡ below_cut axis at area → above ≡ above_cut axis at area →
-    Grew steps boxes below n₀ n₁ a₀ a₁ b₀ b₁ low → Grew steps boxes above n₁ n₂ a₁ a₂ b₁ b₂ high →
-    n₃ ≡ n₂ ++ Fork axis at low high ∷ [] → a₃ ≡ a₂ → b₃ ≡ b₂ → root ≡ length n₂ →
-    Grew (suc steps) boxes area n₀ n₃ a₀ a₃ b₀ b₃ root
-fork_grown boxes area below above axis at steps n₀ n₁ n₂ n₃ a₀ a₁ a₂ a₃ b₀ b₁ b₂ b₃ low high root parts e f l h g i j k =
-    let l' : Grew steps boxes (below_cut axis at area) n₀ n₁ a₀ a₁ b₀ b₁ low = rw e at l in
-    let h' : Grew steps boxes (above_cut axis at area) n₁ n₂ a₁ a₂ b₁ b₂ high = rw f at h in
-    rw (g, i, j, k) (fork_grows boxes area axis at parts steps n₀ n₁ n₂ a₀ a₁ a₂ b₀ b₁ b₂ low high l' h')
+-- the top node of the slab of a point, among those from the last slab's on
+abbrev pub top_of : Slabs → List Node → GridPoint → Node
+top_of s tops g = get_or tops (s.last - slab_at s (along s.axis g)) (Leaf 0)
+
+pub nothing_grown : (steps : ℕ) (boxes : List Corners) (area : Corners) (s : Slabs) (k : ℕ) (nodes : List Node) (areas : List Corners) (near : List (List ℕ)) (tops : List Node) → s.last < k →
+    Grew steps boxes (IsFrom area s k) nodes nodes areas areas near near (top_of s tops)
+nothing_grown steps boxes area s k nodes areas near tops l = record {
+  more_nodes = [];
+  more_areas = [];
+  nodes_are = sym (append-nil nodes);
+  areas_are = sym (append-nil areas);
+  near_are = sym (append-nil near);
+  leads = λ g r. absurd (let p = r.past in let m = at_most_last s (along s.axis g) in omega arith);
+  inside = λ k d g b h. absurd (omega arith);
+}
+
+pub slab_grown : (steps : ℕ) (boxes : List Corners) (area : Corners) (s : Slabs) (n₀ n₁ n₂ : List Node) (a₀ a₁ a₂ : List Corners) (b₀ b₁ b₂ : List (List ℕ)) (tops : List Node) (top : Node) (k : ℕ) →
+    DividesArea area s → length tops + k ≡ s.last →
+    Grew steps boxes (IsFrom area s (k + 1)) n₀ n₁ a₀ a₁ b₀ b₁ (top_of s tops) → Grew steps boxes (Holds (slab_part s k area)) n₁ n₂ a₁ a₂ b₁ b₂ (λ g. top) →
+    Grew steps boxes (IsFrom area s k) n₀ n₂ a₀ a₂ b₀ b₂ (top_of s (tops ++ top ∷ []))
+slab_grown steps boxes area s n₀ n₁ n₂ a₀ a₁ a₂ b₀ b₁ b₂ tops top k divides count l h =
+    joined_grown steps boxes (IsFrom area s k) (IsFrom area s (k + 1)) (Holds (slab_part s k area)) n₀ n₁ n₂ a₀ a₁ a₂ b₀ b₁ b₂ (top_of s (tops ++ top ∷ [])) (top_of s tops) (λ g. top) l h
+    (λ g r. elim (cases_lt k (slab_at s (along s.axis g))) [
+      | inl m ↦ inl (record { held = r.held; past = omega arith })
+      | inr m ↦ inr (slab_holds_from area s divides k g (omega arith) r.held (let p = r.past in omega arith))
+    ])
+    (λ g r. record { held = r.held; past = let p = r.past in omega arith })
+    (λ g r. let w = slab_holds_to area s divides k g (omega arith) r in record { held = w.0; past = let e = w.1 in omega arith })
+    (λ g r i. let w = slab_holds_to area s divides k g (omega arith) i in let e = w.1 in let p = r.past in omega arith)
+    (λ g r. let p = r.past in let m = at_most_last s (along s.axis g) in sym (get_or_append_left tops (top ∷ []) (Leaf 0) (s.last - slab_at s (along s.axis g)) (omega arith)))
+    (λ g r. let w = slab_holds_to area s divides k g (omega arith) r in let e = w.1 in
+    let n : length tops + 0 ≡ s.last - slab_at s (along s.axis g) = omega arith in
+    sym (get_or-append-add tops (top ∷ []) 0 (Leaf 0)) ∙ ap (λ (i : ℕ). get_or (tops ++ top ∷ []) i (Leaf 0)) n)
+
+pub split_grown : (steps : ℕ) (boxes : List Corners) (area : Corners) (s : Slabs) (n₀ n₁ n₂ : List Node) (a₀ a₁ : List Corners) (b₀ b₁ : List (List ℕ)) (tops : List Node) (children : ℕ) →
+    length tops ≡ s.last + 1 → children ≡ length n₁ → n₂ ≡ n₁ ++ tops →
+    Grew steps boxes (IsFrom area s 0) n₀ n₁ a₀ a₁ b₀ b₁ (top_of s tops) →
+    Grew (suc steps) boxes (Holds area) n₀ n₂ a₀ a₁ b₀ b₁ (λ g. Split s children)
+split_grown steps boxes area s n₀ n₁ n₂ a₀ a₁ b₀ b₁ tops children count c n l = record {
+  more_nodes = l.more_nodes ++ tops;
+  more_areas = l.more_areas;
+  nodes_are = n ∙ ap (λ (m : List Node). m ++ tops) l.nodes_are ∙ append_assoc n₀ l.more_nodes tops;
+  areas_are = l.areas_are;
+  near_are = l.near_are;
+  leads = λ g h. (let w = l.leads g (record { held = h; past = omega arith }) in (w.0, way g (length a₀ + w.0) w.1, w.2));
+  inside = λ k d g b h. (l.inside k d g b h).held;
+}
+  where
+    way : (g : GridPoint) (k : ℕ) → place_under steps n₁ (top_of s tops g) g ≡ Some k → place_under (suc steps) n₂ (Split s children) g ≡ Some k
+    way g k e =
+        let i = s.last - slab_at s (along s.axis g) in
+        let f : slice_get (n₁ ++ tops) (length n₁ + i) ≡ Some (top_of s tops g) = slice_get-append_right n₁ tops i ∙ slice_get-within tops i (Leaf 0) (omega arith) in
+        let m : slice_get n₂ (children + i) ≡ Some (top_of s tops g) = ap (λ (x : List Node). slice_get x (children + i)) n ∙ ap (λ (j : ℕ). slice_get (n₁ ++ tops) (j + i)) c ∙ f in
+        ap (λ (o : Option Node). place_by (λ j. place_from steps n₂ j g) o g) m
+        ∙ subst (λ (x : List Node). place_under steps x (top_of s tops g) g ≡ Some k) (sym n) (place_under-more steps n₁ tops (top_of s tops g) g k e)

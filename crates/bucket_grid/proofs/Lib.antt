@@ -1,5 +1,7 @@
-pub mod Growth
 pub mod Numbers
 pub mod SharedPoints
+pub mod SlabLemmas
 pub mod MadeAreas
+pub mod Growth
 pub mod OnTheWay
+pub mod ListLemmas

@@ -1,5 +1,5 @@
 -- The numbers of the items that pass a test, item by item; those that pass a stronger test are among them.
-use Rattle.std.proofs.Common.{◌≡◌, refl, sym, ap, ◌∙◌, subst, arith, ℕ, zero, suc, ◌+◌, ◌<◌, Bool, true, false, cond, List, [], ◌∷◌, ◌++◌, length, get_or, take, filter, All, Contains, append_assoc, length-append, length-take}
+use Rattle.std.proofs.Common.{◌≡◌, refl, sym, ap, ◌∙◌, subst, arith, ℕ, zero, suc, ◌+◌, ◌<◌, Bool, true, false, cond, ◌&&◌, List, [], ◌∷◌, ◌++◌, length, get_or, take, filter, All, Contains, append_assoc, length-append, length-take}
 use Rattle.std.proofs.lemmas.List.{take_more, get_or-append-add}
 use Rattle.std.proofs.lemmas.List.Elements.{All-nil, All-cons, All-weaker}
 use Rattle.lists.proofs.Members.{Contains-head, Contains-later}
@@ -46,29 +46,31 @@ module _ {A : Type 0} where
   pub Contains-numbers_where : (p : A → Bool) (xs : List A) (i : ℕ) (d : A) → i < length xs → p (get_or xs i d) ≡ true → Contains (numbers_where p xs) i
   Contains-numbers_where p xs i d l e = subst (λ (m : ℕ). Contains (numbers_where p xs) m) (let f : 0 + i ≡ i = omega arith in f) (numbers_from-Contains 0 p xs i d l e)
 
-  module _ (p q : A → Bool) (stronger : (x : A) → q x ≡ true → p x ≡ true) (d : A) where
-    -- at one item, with the rest of the list done
-    at_item : (full : List A) (n : ℕ) (x : A) (xs : List A) (b c : Bool) → get_or full n d ≡ x → p x ≡ b → q x ≡ c →
-        filter (λ i. q (get_or full i d)) (numbers_from (n + 1) p xs) ≡ numbers_from (n + 1) q xs →
-        filter (λ i. q (get_or full i d)) (cond b (n ∷ numbers_from (n + 1) p xs) (numbers_from (n + 1) p xs)) ≡ cond c (n ∷ numbers_from (n + 1) q xs) (numbers_from (n + 1) q xs)
-    at_item full n x xs true true here e f r =
-        ap (λ (t : Bool). cond t (n ∷ filter (λ i. q (get_or full i d)) (numbers_from (n + 1) p xs)) (filter (λ i. q (get_or full i d)) (numbers_from (n + 1) p xs))) (ap q here ∙ f) ∙ ap (λ (l : List ℕ). n ∷ l) r
-    at_item full n x xs true false here e f r =
-        ap (λ (t : Bool). cond t (n ∷ filter (λ i. q (get_or full i d)) (numbers_from (n + 1) p xs)) (filter (λ i. q (get_or full i d)) (numbers_from (n + 1) p xs))) (ap q here ∙ f) ∙ r
-    at_item full n x xs false true here e f r = absurd (let t : false ≡ true = sym e ∙ stronger x f in cc)
-    at_item full n x xs false false here e f r = r
+  module _ (p q : A → Bool) (d : A) where
+    abbrev both : A → Bool
+    both x = p x && q x
 
-    filter_numbers : (before xs : List A) → filter (λ i. q (get_or (before ++ xs) i d)) (numbers_from (length before) p xs) ≡ numbers_from (length before) q xs
+    -- at one item, with the rest of the list done
+    at_item : (full : List A) (n : ℕ) (x : A) (xs : List A) (b c : Bool) → get_or full n d ≡ x → q x ≡ c →
+        filter (λ i. q (get_or full i d)) (numbers_from (n + 1) p xs) ≡ numbers_from (n + 1) both xs →
+        filter (λ i. q (get_or full i d)) (cond b (n ∷ numbers_from (n + 1) p xs) (numbers_from (n + 1) p xs)) ≡ cond (b && c) (n ∷ numbers_from (n + 1) both xs) (numbers_from (n + 1) both xs)
+    at_item full n x xs true true here f r =
+        ap (λ (t : Bool). cond t (n ∷ filter (λ i. q (get_or full i d)) (numbers_from (n + 1) p xs)) (filter (λ i. q (get_or full i d)) (numbers_from (n + 1) p xs))) (ap q here ∙ f) ∙ ap (λ (l : List ℕ). n ∷ l) r
+    at_item full n x xs true false here f r =
+        ap (λ (t : Bool). cond t (n ∷ filter (λ i. q (get_or full i d)) (numbers_from (n + 1) p xs)) (filter (λ i. q (get_or full i d)) (numbers_from (n + 1) p xs))) (ap q here ∙ f) ∙ r
+    at_item full n x xs false c here f r = r
+
+    filter_numbers : (before xs : List A) → filter (λ i. q (get_or (before ++ xs) i d)) (numbers_from (length before) p xs) ≡ numbers_from (length before) both xs
     filter_numbers before [] = refl
     filter_numbers before (x ∷ xs) =
         let here : get_or (before ++ x ∷ xs) (length before) d ≡ x = ap (λ (m : ℕ). get_or (before ++ x ∷ xs) m d) (let e : length before ≡ length before + 0 = omega arith in e) ∙ get_or-append-add before (x ∷ xs) 0 d in
         let e : length (before ++ x ∷ []) ≡ length before + 1 = omega (arith, length-append before (x ∷ [])) in
         let f : (before ++ x ∷ []) ++ xs ≡ before ++ x ∷ xs = append_assoc before (x ∷ []) xs in
-        let rest : filter (λ i. q (get_or (before ++ x ∷ xs) i d)) (numbers_from (length before + 1) p xs) ≡ numbers_from (length before + 1) q xs =
-        subst (λ (l : List A). filter (λ i. q (get_or l i d)) (numbers_from (length before + 1) p xs) ≡ numbers_from (length before + 1) q xs) f
-        (subst (λ (m : ℕ). filter (λ i. q (get_or ((before ++ x ∷ []) ++ xs) i d)) (numbers_from m p xs) ≡ numbers_from m q xs) e (filter_numbers (before ++ x ∷ []) xs)) in
-        at_item (before ++ x ∷ xs) (length before) x xs (p x) (q x) here refl refl rest
+        let rest : filter (λ i. q (get_or (before ++ x ∷ xs) i d)) (numbers_from (length before + 1) p xs) ≡ numbers_from (length before + 1) both xs =
+        subst (λ (l : List A). filter (λ i. q (get_or l i d)) (numbers_from (length before + 1) p xs) ≡ numbers_from (length before + 1) both xs) f
+        (subst (λ (m : ℕ). filter (λ i. q (get_or ((before ++ x ∷ []) ++ xs) i d)) (numbers_from m p xs) ≡ numbers_from m both xs) e (filter_numbers (before ++ x ∷ []) xs)) in
+        at_item (before ++ x ∷ xs) (length before) x xs (p x) (q x) here refl rest
 
     -- among the numbers of the items that pass p, those whose items pass q
-    pub filter-numbers_where : (xs : List A) → filter (λ i. q (get_or xs i d)) (numbers_where p xs) ≡ numbers_where q xs
+    pub filter-numbers_where : (xs : List A) → filter (λ i. q (get_or xs i d)) (numbers_where p xs) ≡ numbers_where both xs
     filter-numbers_where xs = filter_numbers [] xs

@@ -1,16 +1,13 @@
 -- Rectangles that share a grid point: by their sides, and in a part of an area.
-use Rattle.std.proofs.Common.{◌≡◌, ap, ◌∙◌, ℕ, ◌<◌, true, ℤ, ◌≤ℤ◌, int_le, ◌&&◌, List, length, get_or, filter, All}
+use Rattle.std.proofs.Common.{◌≡◌, ℕ, ◌<◌, true, ℤ, ◌≤ℤ◌, int_le, ◌&&◌, List, length, All}
 use Rattle.std.proofs.lemmas.List.Elements.{All-same}
-use Rattle.bucket_grid.proofs.Numbers.{numbers_where_below, filter-numbers_where}
+use Rattle.bucket_grid.proofs.Numbers.{numbers_where_below}
 use Rattle.std.proofs.lemmas.Bool.{and_parts, and_from}
 use Rattle.plane_algebra.proofs.Order.{order, order_cases}
 use Rattle.plane_algebra.proofs.Tests.{le_from, le_to}
 use Rattle.plane_model.specs.Points.{GridPoint}
 use Rattle.grid_base.specs.Grid.{Corners}
-use Rattle.bucket_grid.specs.declared.tree.Axis.{Axis}
-use Rattle.bucket_grid.specs.declared.tree.Axis.TheVariants.{Across, Upward}
 use Rattle.bucket_grid.specs.Areas.{share_point, boxes_near, SharingIsComputed}
-use Rattle.bucket_grid.specs.Tree.{Parts, below_cut, above_cut}
 
 -- neither rectangle is past the other
 pub record Overlap (a b : Corners) : Type 0 where
@@ -30,19 +27,6 @@ pub overlap_to : (a b : Corners) → Overlap a b → share_point a b ≡ true
 overlap_to a b o = and_from (int_le a.low.x b.high.x && int_le b.low.x a.high.x) (int_le a.low.y b.high.y && int_le b.low.y a.high.y)
     (and_from (int_le a.low.x b.high.x) (int_le b.low.x a.high.x) (le_to a.low.x b.high.x o.left) (le_to b.low.x a.high.x o.right))
     (and_from (int_le a.low.y b.high.y) (int_le b.low.y a.high.y) (le_to a.low.y b.high.y o.lower) (le_to b.low.y a.high.y o.upper))
-
--- what shares a point with a part of an area shares one with the area
-pub share_below : (axis : Axis) (at : ℤ) (area : Corners) → Parts area axis at → (b : Corners) → share_point (below_cut axis at area) b ≡ true → share_point area b ≡ true
-share_below Across at area p b e = let o = overlap_from (below_cut Across at area) b e in let u = o.right in let v = p.high in
-    overlap_to area b (record { left = o.left; right = omega order; lower = o.lower; upper = o.upper })
-share_below Upward at area p b e = let o = overlap_from (below_cut Upward at area) b e in let u = o.upper in let v = p.high in
-    overlap_to area b (record { left = o.left; right = o.right; lower = o.lower; upper = omega order })
-
-pub share_above : (axis : Axis) (at : ℤ) (area : Corners) → Parts area axis at → (b : Corners) → share_point (above_cut axis at area) b ≡ true → share_point area b ≡ true
-share_above Across at area p b e = let o = overlap_from (above_cut Across at area) b e in let u = o.left in let v = p.low in
-    overlap_to area b (record { left = omega order; right = o.right; lower = o.lower; upper = o.upper })
-share_above Upward at area p b e = let o = overlap_from (above_cut Upward at area) b e in let u = o.lower in let v = p.low in
-    overlap_to area b (record { left = o.left; right = o.right; lower = omega order; upper = o.upper })
 
 -- a number in both of two ranges that overlap
 both : (a b c d : ℤ) → a ≤ℤ b → c ≤ℤ d → a ≤ℤ d → c ≤ℤ b → (z : ℤ) × (a ≤ℤ z) × (z ≤ℤ b) × (c ≤ℤ z) × (z ≤ℤ d)
@@ -64,10 +48,6 @@ sharing_is_computed a b ordered_a ordered_b = (
   }),
 )
 
--- the boxes near a part of an area, picked out of those near the area
-pub narrowed_is : (boxes : List Corners) (area part : Corners) (near ids : List ℕ) → near ≡ boxes_near boxes area → ((b : Corners) → share_point part b ≡ true → share_point area b ≡ true) →
-    ids ≡ filter (λ i. share_point part (get_or boxes i part)) near → ids ≡ boxes_near boxes part
-narrowed_is boxes area part near ids e s f = f ∙ ap (filter (λ i. share_point part (get_or boxes i part))) e ∙ filter-numbers_where (share_point area) (share_point part) s part boxes
-
+-- the numbers of boxes near an area are numbers of boxes
 pub near_below : (boxes : List Corners) (area : Corners) (near : List ℕ) → near ≡ boxes_near boxes area → All (λ i. i < length boxes) near
 near_below boxes area near e = All-same (λ i. i < length boxes) near (boxes_near boxes area) e (numbers_where_below (share_point area) boxes)

@@ -9,12 +9,12 @@ use Rattle.bucket_grid.specs.Tree.{place_from}
 pub record LeadsEach (nodes : List Node) (areas : List Corners) (near : List (List ℕ)) (root : ℕ) : Type 0 where
   pub lists : length near ≡ length areas
   pub count : length areas < 2 ^ 32
-  pub leads : (g : GridPoint) → IsOnGrid g → (k : ℕ) × (place_from 41 nodes root g ≡ Some k) × IsPlaceOf areas g k
+  pub leads : (g : GridPoint) → IsOnGrid g → (k : ℕ) × (place_from 43 nodes root g ≡ Some k) × IsPlaceOf areas g k
 
 -- after so many steps, at this node, g is still on the way to its place
 pub record IsOnWay (nodes : List Node) (areas : List Corners) (g : GridPoint) (node step : ℕ) : Type 0 where
   pub left : ℕ
   pub place : ℕ
-  pub counted : left + step ≡ 41
+  pub counted : left + step ≡ 43
   pub leads : place_from left nodes node g ≡ Some place
   pub is_place : IsPlaceOf areas g place

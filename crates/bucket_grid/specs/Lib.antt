@@ -1,4 +1,4 @@
 pub mod Areas
+pub mod Slabs
 pub mod Tree
-pub mod Cut
 pub mod Leading

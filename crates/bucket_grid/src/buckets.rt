@@ -4,15 +4,12 @@ ghost use Rattle.plane_model.specs.Points.{GridPoint};
 ghost use Rattle.grid_base.specs.Grid.{IsOnGrid};
 ghost use Rattle.bucket_grid.specs.Areas.{IsPlaceOf, boxes_near, whole};
 
-use crate::growing::{Forest, grow};
+use crate::growing::{Forest, MAX_STEPS, grow};
 use crate::sharing::all_near;
-use crate::tree::{Node, is_below};
+use crate::tree::{Node, child_of, coordinate};
 use grid_base::{BoxList, IdList, Pt, Rect};
 use std::alloc::{AllocError, Global};
 use std::marker::Model;
-
-// So many cuts at most lead to a bucket.
-const MAX_CUTS: u32 = 40;
 
 /// Areas that part the grid, each with the boxes near it.
 #[derive(Drop)]
@@ -20,7 +17,7 @@ pub struct Buckets {
     nodes: Vec<Node>,
     areas: Vec<Rect>,
     near: Vec<IdList>,
-    root: u32,
+    root: usize,
 }
 
 impl Model for Buckets {
@@ -49,8 +46,14 @@ impl Buckets {
             areas: Vec::new(alloc),
             near: Vec::new(alloc),
         };
-        let root = grow(&mut forest, alloc, boxes.as_slice(), whole, near, MAX_CUTS)?;
-        let Forest { nodes, areas, near } = forest;
+        let top = grow(&mut forest, alloc, boxes.as_slice(), whole, near, MAX_STEPS)?;
+        let Forest {
+            mut nodes,
+            areas,
+            near,
+        } = forest;
+        let root = nodes.len();
+        nodes.push(top)?;
         if areas.len() > u32::MAX as usize {
             return Err(AllocError);
         }
@@ -74,17 +77,13 @@ impl Buckets {
     pub fn bucket_of(&self, p: Pt) -> u32
         ensures place { IsPlaceOf self.now.areas p result }
     {
-        let (x, y) = (p.x(), p.y());
         let mut node = self.root;
-        for _step in 0..MAX_CUTS + 1 {
-            match self.nodes[node as usize] {
+        for _step in 0..MAX_STEPS + 1 {
+            match self.nodes[node] {
                 Node::Leaf(place) => return place,
-                Node::Fork {
-                    axis,
-                    at,
-                    low,
-                    high,
-                } => node = if is_below(axis, at, x, y) { low } else { high },
+                Node::Split { slabs, children } => {
+                    node = child_of(&slabs, children, coordinate(p, slabs.axis));
+                }
             }
         }
         unreachable!()

@@ -1,4 +1,4 @@
-ghost use Rattle.std.specs.Prelude.{◌≡◌, ◌<◌, ◌&&◌, int_le, All, IfOk, filter, length, slice_index_or};
+ghost use Rattle.std.specs.Prelude.{◌≡◌, ◌&&◌, int_le, IfOk};
 ghost use Rattle.bucket_grid.specs.Areas.{share_point, boxes_near};
 
 use grid_base::{BoxList, IdList, Rect};
@@ -28,25 +28,6 @@ pub fn all_near(alloc: Global, boxes: &BoxList, area: Rect) -> Result<IdList, Al
     for i in 0..boxes.len() {
         if share(area, items[i as usize]) {
             ids.push(i)?;
-        }
-    }
-    Ok(ids)
-}
-
-/// The boxes near a part of an area, out of those near that area.
-pub fn narrowed(
-    alloc: Global,
-    boxes: &[Rect],
-    near: &[u32],
-    area: Rect,
-) -> Result<IdList, AllocError>
-    requires { All (λ i. i < length boxes.now) near.now }
-    ensures { IfOk result (λ ids. ids ≡ filter (λ i. share_point area (slice_index_or boxes.now i area)) near.now) }
-{
-    let mut ids = IdList::new(alloc);
-    for i in near {
-        if share(area, boxes[*i as usize]) {
-            ids.push(*i)?;
         }
     }
     Ok(ids)

@@ -1,47 +1,102 @@
-use Rattle.std.proofs.Common.{◌≡◌, ◌∙◌, ◌-◌, suc, ℕ, arith, subst, true, Option, IfSome}
+use Rattle.std.proofs.Common.{◌≡◌, sym, ap, ◌∙◌, subst, arith, ℕ, suc, ◌+◌, ◌-◌, List, [], ◌∷◌, ◌++◌, length, get_or, Option, IfSome, MatchOption, vec_len, length-append}
+use Rattle.std.proofs.lemmas.List.{get_or_append_left, get_or-append-add}
 use Rattle.grid_base.specs.Grid.{Corners}
-use Rattle.bucket_grid.specs.Areas.{share_point}
+use Rattle.bucket_grid.specs.declared.tree.Slabs.{Slabs}
+use Rattle.bucket_grid.specs.declared.tree.Node.{Node}
+use Rattle.bucket_grid.specs.declared.tree.Node.TheVariants.{Split}
+use Rattle.bucket_grid.specs.Areas.{Holds, boxes_near}
 use Rattle.bucket_grid.specs.Tree.{Grew}
-use Rattle.bucket_grid.specs.declared.cutting.Cut.{Cut}
-use Rattle.bucket_grid.specs.Cut.{IsCutOf}
-use Rattle.bucket_grid.proofs.SharedPoints.{near_below, narrowed_is, share_below, share_above}
-use Rattle.bucket_grid.proofs.Growth.{fork_grown}
+use Rattle.bucket_grid.specs.Slabs.{DividesArea, AreListed, slab_part}
+use Rattle.bucket_grid.proofs.SharedPoints.{near_below}
+use Rattle.bucket_grid.proofs.ListLemmas.{list_is}
+use Rattle.bucket_grid.proofs.Growth.{IsFrom, top_of, nothing_grown, slab_grown, split_grown}
 use Rattle.bucket_grid.proofs.growing.+grow.Goals as goal
 
--- what shares a point with either part of a cut area shares one with the area
-below_stronger : (area : Corners) (cut : Cut) → IsCutOf area cut → (b : Corners) → share_point cut.below b ≡ true → share_point area b ≡ true
-below_stronger area cut h b e = share_below cut.axis cut.at area h.parts b (subst (λ (r : Corners). share_point r b ≡ true) h.below e)
+pub slab_lists-requires : goal.slab_lists-requires
+slab_lists-requires t c = record { near = near_below c.args.boxes.now c.args.area c.as_slice-2.result.now (c.as_slice-2.ensures.all ∙ c.requires) }
 
-above_stronger : (area : Corners) (cut : Cut) → IsCutOf area cut → (b : Corners) → share_point cut.above b ≡ true → share_point area b ≡ true
-above_stronger area cut h b e = share_above cut.axis cut.at area h.parts b (subst (λ (r : Corners). share_point r b ≡ true) h.above e)
+pub loop-part-init : goal.loop-part-init
+loop-part-init t c =
+    let s = c.in-Some.slabs in
+    let lists = c.in_ok-lists.lists.items in
+    let d : DividesArea c.args.area s = subst (λ (o : Option Slabs). IfSome o (DividesArea c.args.area)) c.in-Some.is c.in_ok-slabs.ensures in
+    let h : AreListed s c.args.boxes.now c.as_slice-2.result.now lists = c.in_ok-lists.ensures.exact in
+    let n = h.count in
+    let forest = c.args.forest.now in (
+      list_is s c.args.boxes.now c.args.area c.as_slice-2.result.now lists d (c.as_slice-2.ensures.all ∙ c.requires) h,
+      omega (arith, ap length c.in_ok-tops.ensures.items),
+      nothing_grown (c.args.steps - 1) c.args.boxes.now c.args.area s (length lists) forest.nodes.items forest.areas.items forest.near.items c.in_ok-tops.tops.items (omega arith),
+    )
 
-pub narrowed-requires : goal.narrowed-requires
-narrowed-requires t c = near_below c.args.boxes.now c.args.area c.as_slice.result.now (c.as_slice.ensures.all ∙ c.requires)
+-- the popped list is the last one
+popped : (xs ys : List (List ℕ)) (x : List ℕ) → xs ≡ ys ++ x ∷ [] → x ≡ get_or xs (length ys) []
+popped xs ys x e =
+    sym (get_or-append-add ys (x ∷ []) 0 []) ∙ ap (λ (i : ℕ). get_or (ys ++ x ∷ []) i []) (let n : length ys + 0 ≡ length ys = omega arith in n) ∙ ap (λ (l : List (List ℕ)). get_or l (length ys) []) (sym e)
 
-pub narrowed-requires-2 : goal.narrowed-requires-2
-narrowed-requires-2 t c = near_below c.args.boxes.now c.args.area c.as_slice-2.result.now (c.as_slice-2.ensures.all ∙ c.requires)
+longer : (xs ys : List (List ℕ)) (x : List ℕ) → xs ≡ ys ++ x ∷ [] → length xs ≡ length ys + 1
+longer xs ys x e = ap length e ∙ (let n : length (ys ++ x ∷ []) ≡ length ys + 1 = omega (arith, length-append ys (x ∷ [])) in n)
 
 pub grow-requires : goal.grow-requires
 grow-requires t c =
-    let h : IsCutOf c.args.area c.in-Some.cut = subst (λ (o : Option Cut). IfSome o (IsCutOf c.args.area)) c.in-Some.is c.in_ok-cut.ensures in
-    (omega arith, narrowed_is c.args.boxes.now c.args.area c.in-Some.cut.below c.as_slice.result.now c.in_ok-below.below (c.as_slice.ensures.all ∙ c.requires) (below_stronger c.args.area c.in-Some.cut h) c.in_ok-below.ensures)
+    let s = c.in-Some.slabs in
+    let xs = c.loop-part.lists.items in
+    let ys = c.pop.new.self.items in
+    let e = c.in-Some-pop.ensures.items in
+    let m = longer xs ys c.in-Some-pop.part e in
+    let n : c.len-in-Some-pop.result ≡ length ys = omega (arith, c.len-in-Some-pop.ensures, c.pop.new.self.ok.0) in
+    let f : c.in_ok-slab.slab ≡ slab_part s c.len-in-Some-pop.result c.args.area =
+    subst (λ (o : Option Corners). IfSome o (λ part. part ≡ slab_part s c.len-in-Some-pop.result c.args.area)) c.in_ok-slab.ensures.ok_part c.slab_area.ensures.exact in (
+      omega arith,
+      popped xs ys c.in-Some-pop.part e ∙ c.loop-part.invariant.0 (length ys) (omega arith) ∙ ap (λ (k : ℕ). boxes_near c.args.boxes.now (slab_part s k c.args.area)) (sym n) ∙ ap (boxes_near c.args.boxes.now) (sym f),
+    )
 
-pub grow-requires-2 : goal.grow-requires-2
-grow-requires-2 t c =
-    let h : IsCutOf c.args.area c.in-Some.cut = subst (λ (o : Option Cut). IfSome o (IsCutOf c.args.area)) c.in-Some.is c.in_ok-cut.ensures in
-    (omega arith, narrowed_is c.args.boxes.now c.args.area c.in-Some.cut.above c.as_slice-2.result.now c.in_ok-above.above (c.as_slice-2.ensures.all ∙ c.requires) (above_stronger c.args.area c.in-Some.cut h) c.in_ok-above.ensures)
+pub loop-part-preserved : goal.loop-part-preserved
+loop-part-preserved t c =
+    let s = c.in-Some.slabs in
+    let boxes = c.args.boxes.now in
+    let area = c.args.area in
+    let xs = c.loop-part.lists.items in
+    let ys = c.pop.new.self.items in
+    let e = c.in-Some-pop.ensures.items in
+    let m = longer xs ys c.in-Some-pop.part e in
+    let n : c.len-in-Some-pop.result ≡ length ys = omega (arith, c.len-in-Some-pop.ensures, c.pop.new.self.ok.0) in
+    let f : c.in_ok-slab.slab ≡ slab_part s c.len-in-Some-pop.result area =
+    subst (λ (o : Option Corners). IfSome o (λ part. part ≡ slab_part s c.len-in-Some-pop.result area)) c.in_ok-slab.ensures.ok_part c.slab_area.ensures.exact in
+    let d : DividesArea area s = subst (λ (o : Option Slabs). IfSome o (DividesArea area)) c.in-Some.is c.in_ok-slabs.ensures in
+    let count = c.loop-part.invariant.1 in
+    let tops = c.loop-part.tops.items in
+    let top = c.in_ok-grow.field-0 in
+    let tops_are : c.push.new.self.items ≡ tops ++ top ∷ [] = c.in_ok-push.ensures.items in
+    let old = c.args.forest.now in
+    let mid = c.loop-part.forest in
+    let new = c.grow.new.forest in
+    let slab_is : c.in_ok-slab.slab ≡ slab_part s (length ys) area = f ∙ ap (λ (k : ℕ). slab_part s k area) n in
+    let l : Grew (c.args.steps - 1) boxes (IsFrom area s (length ys + 1)) old.nodes.items mid.nodes.items old.areas.items mid.areas.items old.near.items mid.near.items (top_of s tops) =
+    subst (λ (k : ℕ). Grew (c.args.steps - 1) boxes (IsFrom area s k) old.nodes.items mid.nodes.items old.areas.items mid.areas.items old.near.items mid.near.items (top_of s tops)) m c.loop-part.invariant.2 in
+    let h : Grew (c.args.steps - 1) boxes (Holds (slab_part s (length ys) area)) mid.nodes.items new.nodes.items mid.areas.items new.areas.items mid.near.items new.near.items (λ g. top) =
+    subst (λ (r : Corners). Grew (c.args.steps - 1) boxes (Holds r) mid.nodes.items new.nodes.items mid.areas.items new.areas.items mid.near.items new.near.items (λ g. top)) slab_is c.in_ok-grow.ensures in (
+      λ k b. sym (ap (λ (l : List (List ℕ)). get_or l k []) e ∙ get_or_append_left ys (c.in-Some-pop.part ∷ []) [] k b) ∙ c.loop-part.invariant.0 k (omega arith),
+      omega (arith, ap length tops_are, length-append tops (top ∷ [])),
+      subst (λ (l : List Node). Grew (c.args.steps - 1) boxes (IsFrom area s (length ys)) old.nodes.items new.nodes.items old.areas.items new.areas.items old.near.items new.near.items (top_of s l)) (sym tops_are)
+          (slab_grown (c.args.steps - 1) boxes area s old.nodes.items mid.nodes.items new.nodes.items old.areas.items mid.areas.items new.areas.items old.near.items mid.near.items new.near.items tops top (length ys)
+          d (omega arith) l h),
+    )
 
 pub returns : goal.returns
 returns t c =
-    let forest = c.args.forest.now in
-    let cut = c.in-Some.cut in
-    let h : IsCutOf c.args.area cut = subst (λ (o : Option Cut). IfSome o (IsCutOf c.args.area)) c.in-Some.is c.in_ok-cut.ensures in
-    let e : suc (c.args.steps - 1) ≡ c.args.steps = omega arith in
-    subst (λ (n : ℕ). Grew n c.args.boxes.now c.args.area forest.nodes.items c.add_fork.new.forest.nodes.items forest.areas.items c.add_fork.new.forest.areas.items forest.near.items c.add_fork.new.forest.near.items c.in_ok-root.root) e
-    (fork_grown c.args.boxes.now c.args.area cut.below cut.above cut.axis cut.at (c.args.steps - 1)
-    forest.nodes.items c.grow.new.forest.nodes.items c.grow-2.new.forest.nodes.items c.add_fork.new.forest.nodes.items
-    forest.areas.items c.grow.new.forest.areas.items c.grow-2.new.forest.areas.items c.add_fork.new.forest.areas.items
-    forest.near.items c.grow.new.forest.near.items c.grow-2.new.forest.near.items c.add_fork.new.forest.near.items
-    c.in_ok-low.low c.in_ok-high.high c.in_ok-root.root
-    h.parts h.below h.above c.in_ok-low.ensures c.in_ok-high.ensures
-    c.in_ok-root.ensures.nodes c.in_ok-root.ensures.areas c.in_ok-root.ensures.near c.in_ok-root.ensures.root)
+    let s = c.in-Some.slabs in
+    let old = c.args.forest.now in
+    let mid = c.loop-part.forest in
+    let tops = c.loop-part.tops.items in
+    let xs = c.loop-part.lists.items in
+    let none = subst (λ (o : Option (List ℕ)). MatchOption o ((vec_len c.loop-part.lists ≡ 0) × (vec_len c.pop.new.self ≡ 0)) (λ _. vec_len c.pop.new.self + 1 ≡ vec_len c.loop-part.lists)) c.in_default-pop.is c.pop.ensures.cases in
+    let empty : length xs ≡ 0 = omega (arith, none.0, c.loop-part.lists.ok.0) in
+    let count = c.loop-part.invariant.1 in
+    let children : c.in_ok-children.children ≡ length mid.nodes.items = omega (arith, c.in_ok-children.ensures, c.len-3.ensures, mid.nodes.ok.0) in
+    let nodes : c.extend_from_slice.new.self.items ≡ mid.nodes.items ++ tops = c.in_ok-extend_from_slice.ensures.items ∙ ap (λ (l : List Node). mid.nodes.items ++ l) c.deref-2.ensures.value in
+    let l : Grew (c.args.steps - 1) c.args.boxes.now (IsFrom c.args.area s 0) old.nodes.items mid.nodes.items old.areas.items mid.areas.items old.near.items mid.near.items (top_of s tops) =
+    subst (λ (k : ℕ). Grew (c.args.steps - 1) c.args.boxes.now (IsFrom c.args.area s k) old.nodes.items mid.nodes.items old.areas.items mid.areas.items old.near.items mid.near.items (top_of s tops)) empty c.loop-part.invariant.2 in
+    let steps : suc (c.args.steps - 1) ≡ c.args.steps = omega arith in
+    subst (λ (n : ℕ). Grew n c.args.boxes.now (Holds c.args.area) old.nodes.items c.extend_from_slice.new.self.items old.areas.items mid.areas.items old.near.items mid.near.items (λ g. Split s c.in_ok-children.children)) steps
+    (split_grown (c.args.steps - 1) c.args.boxes.now c.args.area s old.nodes.items mid.nodes.items c.extend_from_slice.new.self.items old.areas.items mid.areas.items old.near.items mid.near.items tops c.in_ok-children.children
+    (omega arith) children nodes l)

@@ -6,7 +6,6 @@ pub returns : goal.returns
 returns c =
     let forest = c.args.forest.now in
     let place : c.in_ok-place.place ≡ length forest.areas.items = omega (arith, c.in_ok-place.ensures, c.len.ensures, forest.areas.ok.0) in
-    let root : c.in_ok-node.node ≡ length forest.nodes.items = omega (arith, c.in_ok-node.ensures, c.len-2.ensures, forest.nodes.ok.0) in
     let v = c.near.view_is in
-    λ steps boxes e. leaf_grown boxes c.args.area forest.nodes.items c.push-3.new.self.items forest.areas.items c.push.new.self.items forest.near.items c.push-2.new.self.items steps c.args.near c.in_ok-node.node c.in_ok-place.place
-    e place root c.in_ok-push-3.ensures.items c.in_ok-push.ensures.items c.in_ok-push-2.ensures.items
+    λ steps boxes e. leaf_grown boxes c.args.area forest.nodes.items forest.areas.items c.push.new.self.items forest.near.items c.push-2.new.self.items steps c.args.near c.in_ok-place.place
+    e place c.in_ok-push.ensures.items c.in_ok-push-2.ensures.items

@@ -1,0 +1,103 @@
+ghost use Rattle.std.specs.Prelude.{◌≡◌, ◌<◌, ◌≤◌, [], All, IfOk, IfSome, OnOk, length, slice_index_or, ℕ};
+ghost use Rattle.bucket_grid.specs.Slabs.{AreListed, DividesArea, IsPutInto, slab_high, slab_low, slab_part, start_of as start_of_slab, strip as strip_of};
+
+use crate::tree::{Axis, Slabs, coordinate, slab_of};
+use grid_base::{IdList, Pt, Rect};
+use std::alloc::{AllocError, Global};
+
+// Where a slab begins.
+fn start_of(slabs: &Slabs, slab: u32) -> Option<i64>
+    ensures exact { IfSome result (λ start. start ≡ start_of_slab slabs.now slab) }
+{
+    let past = i64::from(slab).checked_mul(i64::from(slabs.reach) + 1)?;
+    slabs.first.checked_add(past)
+}
+
+// The part of an area from `low` to `high` along an axis.
+fn strip(area: Rect, axis: Axis, low: i64, high: i64) -> Option<Rect>
+    ensures exact { IfSome result (λ part. part ≡ strip_of axis low high area) }
+{
+    match axis {
+        Axis::Across => Rect::new(
+            Pt::new(low, area.low().y())?,
+            Pt::new(high, area.high().y())?,
+        ),
+        Axis::Upward => Rect::new(
+            Pt::new(area.low().x(), low)?,
+            Pt::new(area.high().x(), high)?,
+        ),
+    }
+}
+
+// The least number along the axis in the part of an area that lies in a slab.
+fn low_of(area: Rect, slabs: &Slabs, slab: u32) -> Option<i64>
+    ensures exact { IfSome result (λ low. low ≡ slab_low slabs.now slab area) }
+{
+    if slab == 0 {
+        return Some(coordinate(area.low(), slabs.axis));
+    }
+    start_of(slabs, slab)
+}
+
+// The greatest number there.
+fn high_of(area: Rect, slabs: &Slabs, slab: u32) -> Option<i64>
+    ensures exact { IfSome result (λ high. high ≡ slab_high slabs.now slab area) }
+{
+    if slab == slabs.last {
+        return Some(coordinate(area.high(), slabs.axis));
+    }
+    let next = start_of(slabs, slab.checked_add(1)?)?;
+    next.checked_sub(1)
+}
+
+/// The part of an area that lies in a slab.
+pub fn slab_area(area: Rect, slabs: &Slabs, slab: u32) -> Option<Rect>
+    ensures exact { IfSome result (λ part. part ≡ slab_part slabs.now slab area) }
+{
+    let low = low_of(area, slabs, slab)?;
+    let high = high_of(area, slabs, slab)?;
+    strip(area, slabs.axis, low, high)
+}
+
+// So many empty lists.
+fn empty_lists(alloc: Global, count: usize) -> Result<Vec<IdList>, AllocError>
+    ensures count { IfOk result (λ lists. length lists.items ≡ count) }
+    ensures empty { IfOk result (λ lists. (k : ℕ) → slice_index_or lists.items k [] ≡ []) }
+{
+    let mut lists = Vec::with_capacity(alloc, count)?;
+    for _i in 0..count {
+        lists.push(IdList::new(alloc))?;
+    }
+    Ok(lists)
+}
+
+// Adds a number to each list from `from` to before `end`.
+fn add_to_lists(lists: &mut Vec<IdList>, from: usize, end: usize, id: u32) -> Result<(), AllocError>
+    requires within { end ≤ length lists.old.items }
+    ensures exact { OnOk result (IsPutInto from end id lists.old.items lists.new.items) }
+{
+    for k in from..end {
+        lists[k].push(id)?;
+    }
+    Ok(())
+}
+
+/// For each slab of an area the boxes near it, out of those near the area.
+pub fn slab_lists(
+    alloc: Global,
+    boxes: &[Rect],
+    near: &[u32],
+    slabs: &Slabs,
+) -> Result<Vec<IdList>, AllocError>
+    requires near { All (λ i. i < length boxes.now) near.now }
+    ensures exact { IfOk result (λ lists. AreListed slabs.now boxes.now near.now lists.items) }
+{
+    let mut lists = empty_lists(alloc, slabs.last as usize + 1)?;
+    for i in near {
+        let area = boxes[*i as usize];
+        let from = slab_of(slabs, coordinate(area.low(), slabs.axis));
+        let to = slab_of(slabs, coordinate(area.high(), slabs.axis));
+        add_to_lists(&mut lists, from as usize, to as usize + 1, *i)?;
+    }
+    Ok(lists)
+}
