@@ -14,6 +14,9 @@ pub struct Extent {
 // So many slabs at most divide an area.
 const MAX_SLABS: u64 = 4096;
 
+// With fewer slabs boxes that lie in several of them can cost more than the division saves: a cut is left to do it.
+const MIN_SLABS: u64 = 4;
+
 // From where to where the boxes reach.
 fn extent_of(boxes: &[Rect], near: &[u32], axis: Axis) -> Option<Extent> {
     let first = boxes.get(*near.first()? as usize)?;
@@ -78,7 +81,7 @@ pub fn slabs_of(boxes: &[Rect], near: &[u32], area: Rect, axis: Axis, count: u64
 {
     let extent = extent_of(boxes, near, axis)?;
     let mut count = count.min(MAX_SLABS);
-    while count > 1 {
+    while count >= MIN_SLABS {
         let slabs = even_slabs(area, axis, extent, count)?;
         if listed(boxes, near, &slabs) <= near.len() as u64 / 2 * 3 {
             return Some(slabs);

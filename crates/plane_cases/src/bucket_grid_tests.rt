@@ -22,3 +22,24 @@ fn a_row_of_boxes_is_cut(rt: HostRuntime) -> Result<(), Fail> {
     assert!(rt; near.len() <= 20);
     Ok(())
 }
+
+#[test]
+fn a_square_of_boxes_is_divided_into_cells(rt: HostRuntime) -> Result<(), Fail> {
+    let mut boxes = BoxList::new(rt.alloc());
+    for i in 0..1600u32 {
+        let (x, y) = (i64::from(i % 40 * 10), i64::from(i / 40 * 10));
+        boxes.push(Rect::new(point(x, y)?, point(x + 9, y + 9)?).ok_or("no box")?)?;
+    }
+    let buckets = Buckets::build(rt.alloc(), &boxes)?;
+    assert!(rt; buckets.count() > 100);
+    for i in [0, 20, 817, 1599] {
+        let place = buckets.bucket_of(point(
+            i64::from(i % 40 * 10 + 5),
+            i64::from(i / 40 * 10 + 5),
+        )?);
+        let near = buckets.each_near(place).ok_or("no bucket")?;
+        assert!(rt; near.contains(&i));
+        assert!(rt; near.len() <= 40);
+    }
+    Ok(())
+}
