@@ -1,47 +1,39 @@
-ghost use Rattle.std.specs.Prelude.{◌<◌, IfSome};
+ghost use Rattle.std.specs.Prelude.{IfSome};
 ghost use Rattle.bucket_grid.specs.Slabs.{DividesArea};
 
-use crate::tree::{Axis, Slabs, coordinate, slab_of};
+use crate::tree::{Axis, Slabs, coordinate};
 use grid_base::Rect;
 
-/// From where to where something reaches along an axis.
+/// From where to where some boxes reach along an axis, and how long they are together.
 #[derive(Clone, Copy)]
-pub struct Extent {
-    pub low: i64,
-    pub high: i64,
+struct Extent {
+    low: i64,
+    high: i64,
+    lengths: u64,
 }
 
 // So many slabs at most divide an area.
 const MAX_SLABS: u64 = 4096;
 
 // With fewer slabs boxes that lie in several of them can cost more than the division saves: a cut is left to do it.
-const MIN_SLABS: u64 = 4;
+const MIN_SLABS: u32 = 4;
 
-// From where to where the boxes reach.
 fn extent_of(boxes: &[Rect], near: &[u32], axis: Axis) -> Option<Extent> {
     let first = boxes.get(*near.first()? as usize)?;
-    let mut low = coordinate(first.low(), axis);
-    let mut high = coordinate(first.high(), axis);
+    let mut extent = Extent {
+        low: coordinate(first.low(), axis),
+        high: coordinate(first.high(), axis),
+        lengths: 0,
+    };
     for i in near {
         if let Some(area) = boxes.get(*i as usize) {
-            low = low.min(coordinate(area.low(), axis));
-            high = high.max(coordinate(area.high(), axis));
+            let (low, high) = (coordinate(area.low(), axis), coordinate(area.high(), axis));
+            extent.low = extent.low.min(low);
+            extent.high = extent.high.max(high);
+            extent.lengths = extent.lengths.saturating_add(high.abs_diff(low));
         }
     }
-    Some(Extent { low, high })
-}
-
-// How many boxes the slabs list together.
-fn listed(boxes: &[Rect], near: &[u32], slabs: &Slabs) -> u64 {
-    let mut count = 0u64;
-    for i in near {
-        if let Some(area) = boxes.get(*i as usize) {
-            let from = slab_of(slabs, coordinate(area.low(), slabs.axis));
-            let to = slab_of(slabs, coordinate(area.high(), slabs.axis));
-            count = count.saturating_add(1 + u64::from(to.saturating_sub(from)));
-        }
-    }
-    count
+    Some(extent)
 }
 
 /// The slabs, where they begin and end within the area.
@@ -58,14 +50,21 @@ pub fn dividing(area: Rect, slabs: Slabs) -> Option<Slabs>
     }
 }
 
-// At most so many slabs of one width, from where the boxes begin to where they end.
-fn even_slabs(area: Rect, axis: Axis, extent: Extent, count: u64) -> Option<Slabs>
-    requires { 0 < count }
+/// About so many slabs of one width, from where the boxes begin to where they end, or fewer of them, at least twice as
+/// wide as the boxes are on the average: in most layouts a box then lies in one and a half of them, and never in more
+/// than two and a half, on the average.
+pub fn slabs_of(boxes: &[Rect], near: &[u32], area: Rect, axis: Axis, count: u64) -> Option<Slabs>
     ensures { IfSome result (DividesArea area) }
 {
-    let length = extent.high.abs_diff(extent.low);
-    let reach = u32::try_from(length / count).ok()?;
-    let last = u32::try_from(length / (u64::from(reach) + 1)).ok()?;
+    let extent = extent_of(boxes, near, axis)?;
+    let span = extent.high.abs_diff(extent.low);
+    let mean = extent.lengths / (near.len() as u64 + 1);
+    let wanted = span / (count.min(MAX_SLABS) + 1);
+    let reach = u32::try_from(wanted.max(mean.saturating_mul(2))).ok()?;
+    let last = u32::try_from(span / (u64::from(reach) + 1)).ok()?;
+    if last < MIN_SLABS - 1 {
+        return None;
+    }
     let slabs = Slabs {
         axis,
         first: extent.low,
@@ -73,20 +72,4 @@ fn even_slabs(area: Rect, axis: Axis, extent: Extent, count: u64) -> Option<Slab
         last,
     };
     dividing(area, slabs)
-}
-
-/// At most so many slabs of one width that part boxes well: few boxes lie in several of them.
-pub fn slabs_of(boxes: &[Rect], near: &[u32], area: Rect, axis: Axis, count: u64) -> Option<Slabs>
-    ensures { IfSome result (DividesArea area) }
-{
-    let extent = extent_of(boxes, near, axis)?;
-    let mut count = count.min(MAX_SLABS);
-    while count >= MIN_SLABS {
-        let slabs = even_slabs(area, axis, extent, count)?;
-        if listed(boxes, near, &slabs) <= near.len() as u64 / 2 * 3 {
-            return Some(slabs);
-        }
-        count /= 2;
-    }
-    None
 }
