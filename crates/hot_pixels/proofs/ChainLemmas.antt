@@ -1,12 +1,12 @@
 -- The points that a segment meets, sorted by their keys, are its chain.
-use Rattle.std.proofs.Common.{◌≡◌, ◌≢◌, refl, sym, ap, ◌∙◌, subst, arith, ℕ, zero, suc, ◌+◌, ◌<◌, ◌≤◌, Bool, true, false, not, cond, List, [], ◌∷◌, length, get_or, filter, Contains, AllPairs, IsTrue, Ordering, int_cmp, ℤ, ◌<ℤ◌, ◌≤ℤ◌}
+use Rattle.std.proofs.Common.{◌≡◌, ◌≢◌, refl, sym, ap, ◌∙◌, subst, arith, ℕ, zero, suc, ◌+◌, ◌<◌, ◌≤◌, Bool, true, false, not, cond, List, [], ◌∷◌, ◌++◌, length, get_or, filter, Contains, AllPairs, IsTrue, Ordering, int_cmp, ℤ, ◌<ℤ◌, ◌≤ℤ◌}
 use Rattle.std.specs.List.{count_by}
 use Rattle.std.specs.List.Sorted.{IsPermutation, IsSortedByKey}
 use Rattle.std.specs.Ordering.{is_lt, MatchOrdering}
 use Rattle.std.specs.declared.cmp.Ordering.TheVariants.{Less, Equal, Greater}
 use Rattle.std.proofs.lemmas.Cmp.{int_cmp_total, int_ranked}
 use Rattle.std.proofs.lemmas.List.Kept.{AllPairs-filter}
-use Rattle.std.proofs.lemmas.List.Sums.{sum_by-cons, get_or-le-sum_by, length-filter}
+use Rattle.std.proofs.lemmas.List.Sums.{sum_by-cons, sum_by-append, get_or-le-sum_by, length-filter}
 use Rattle.std.proofs.lemmas.List.Filters.{sum_by-filter_both}
 use Rattle.std.proofs.lemmas.List.Sorted.{IsPermutation-sym, Contains-permutation, sum_by-IsPermutation, sorted_far, ranks_by}
 use Rattle.lists.specs.Lists.{ascending, put_in_order}
@@ -26,16 +26,22 @@ use Rattle.hot_pixels.specs.Chains.{AreHotPointsOf}
 
 -- ---- how often a point stands in a list
 
-abbrev times : GridPoint → List GridPoint → ℕ
+abbrev pub times : GridPoint → List GridPoint → ℕ
 times g xs = count_by (same_point g) xs
 
-abbrev once_if : Bool → ℕ
+abbrev pub once_if : Bool → ℕ
 once_if b = cond b 1 0
 
-times-cons : (g x : GridPoint) (xs : List GridPoint) → times g (x ∷ xs) ≡ once_if (same_point g x) + times g xs
+pub times-cons : (g x : GridPoint) (xs : List GridPoint) → times g (x ∷ xs) ≡ once_if (same_point g x) + times g xs
 times-cons g x xs = sum_by-cons (λ y. cond (same_point g y) 1 0) x xs
 
-never : (g : GridPoint) (xs : List GridPoint) → ((y : GridPoint) → Contains xs y → same_point g y ≡ false) → times g xs ≡ 0
+pub times-joined : (g : GridPoint) (xs ys : List GridPoint) → times g (xs ++ ys) ≡ times g xs + times g ys
+times-joined g xs ys = sum_by-append (λ y. cond (same_point g y) 1 0) xs ys
+
+pub times-last : (g : GridPoint) (xs : List GridPoint) (x : GridPoint) → times g (xs ++ x ∷ []) ≡ times g xs + once_if (same_point g x)
+times-last g xs x = let e = times-joined g xs (x ∷ []) in let f = times-cons g x [] in omega arith
+
+pub never : (g : GridPoint) (xs : List GridPoint) → ((y : GridPoint) → Contains xs y → same_point g y ≡ false) → times g xs ≡ 0
 never g [] h = refl
 never g (x ∷ xs) h =
     let e = times-cons g x xs in
@@ -65,6 +71,18 @@ at_least_once g xs j d l e =
     let k : once_if (same_point g (get_or xs j d)) ≡ 1 = ap once_if (same_point_to g (get_or xs j d) (sym e)) in
     omega arith
 
+pub counts : (g : GridPoint) (xs : List GridPoint) → Contains xs g → 1 ≤ times g xs
+counts g xs c = at_least_once g xs c.0 g c.1 c.2
+
+pub counted : (g : GridPoint) (xs : List GridPoint) → 1 ≤ times g xs → Contains xs g
+counted g [] l = absurd (omega arith)
+counted g (x ∷ xs) l = by_test (same_point g x)
+    (λ e. subst (λ (y : GridPoint). Contains (x ∷ xs) y) (sym (same_point_from g x e)) (Contains-head x xs))
+    (λ e.
+    let c = times-cons g x xs in
+    let f : once_if (same_point g x) ≡ 0 = ap once_if e in
+    Contains-later x xs g (counted g xs (omega arith)))
+
 twice : (g : GridPoint) (xs : List GridPoint) (i j : ℕ) (d : GridPoint) → i < j → j < length xs → get_or xs i d ≡ g → get_or xs j d ≡ g → 2 ≤ times g xs
 twice g [] i j d l m e f = absurd (omega arith)
 twice g (x ∷ xs) i zero d l m e f = absurd (omega arith)
@@ -78,10 +96,10 @@ twice g (x ∷ xs) (suc i) (suc j) d l m e f =
     let n = twice g xs i j d (omega arith) (omega arith) e f in
     omega arith
 
-moved_times : (g : GridPoint) (xs ys : List GridPoint) → IsPermutation xs ys → times g ys ≡ times g xs
+pub moved_times : (g : GridPoint) (xs ys : List GridPoint) → IsPermutation xs ys → times g ys ≡ times g xs
 moved_times g xs ys moved = sum_by-IsPermutation (λ y. cond (same_point g y) 1 0) xs ys moved
 
-kept_times : (g : GridPoint) (p : GridPoint → Bool) (xs : List GridPoint) → times g (filter p xs) ≤ times g xs
+pub kept_times : (g : GridPoint) (p : GridPoint → Bool) (xs : List GridPoint) → times g (filter p xs) ≤ times g xs
 kept_times g p xs = let e = sum_by-filter_both p (λ y. not (p y)) (λ _. refl) (λ y. cond (same_point g y) 1 0) xs in omega arith
 
 -- where no point stands twice, all places differ
@@ -132,23 +150,21 @@ not_less a b e = go (int_cmp a b) (int_ranked a b (int_cmp a b) refl) e
     go Equal h e = omega order
     go Greater h e = omega order
 
-module _ (s : Segment) (points mixed sorted : List GridPoint) (up : AllPairs (λ p q. IsTrue (is_before p q)) points) (placed_so : IsPermutation points mixed) (moved : IsPermutation (filter (meets s) mixed) sorted) (in_order : IsSortedByKey (order_key s) int_cmp sorted) where
-  abbrev met : List GridPoint
-  met = filter (meets s) mixed
+-- each of these points is one of the points that s meets, and the other way round, and none stands there twice
+pub record AreMetOnce (s : Segment) (points met : List GridPoint) : Type 0 where
+  pub from : (g : GridPoint) → Contains met g → Contains points g × (meets s g ≡ true)
+  pub to : (g : GridPoint) → Contains points g → meets s g ≡ true → Contains met g
+  pub once : (g : GridPoint) → times g met ≤ 1
 
-  from_sorted : (g : GridPoint) → Contains sorted g → Contains mixed g × (meets s g ≡ true)
-  from_sorted g c = filter-Contains (meets s) mixed g (Contains-permutation sorted met g (IsPermutation-sym met sorted moved) c)
+module _ (s : Segment) (points met sorted : List GridPoint) (h : AreMetOnce s points met) (moved : IsPermutation met sorted) (in_order : IsSortedByKey (order_key s) int_cmp sorted) where
+  from_sorted : (g : GridPoint) → Contains sorted g → Contains points g × (meets s g ≡ true)
+  from_sorted g c = h.from g (Contains-permutation sorted met g (IsPermutation-sym met sorted moved) c)
 
   is_met : (g : GridPoint) → Contains sorted g → Meets s g
   is_met g c = (meets_is_computed s g).0 (from_sorted g c).1
 
   sorted_once : (g : GridPoint) → times g sorted ≤ 1
-  sorted_once g =
-      let a = moved_times g met sorted moved in
-      let b = kept_times g (meets s) mixed in
-      let c = moved_times g points mixed placed_so in
-      let d = at_most_once points (ascending_of_pairs is_before (λ p q. IsTrue (is_before p q)) points up (λ x y c d r. r)) g in
-      omega arith
+  sorted_once g = let a = moved_times g met sorted moved in let b = h.once g in omega arith
 
   -- points with one key are one point
   one_key : (g h : GridPoint) → Meets s g → Meets s h → order_key s g ≡ order_key s h → g ≡ h
@@ -172,13 +188,26 @@ module _ (s : Segment) (points mixed sorted : List GridPoint) (up : AllPairs (λ
       ))
       (λ g h c k r. keys_rise g h (is_met g c) (is_met h k) r.1 r.0)
 
-  pub sorted_is_chain : sorted ≡ chain_among points s
-  sorted_is_chain =
+  pub once_is_chain : sorted ≡ chain_among points s
+  once_is_chain =
       one_ascending (is_passed_before s) (passed-IsStrictOrder s) sorted (chain_among points s) sorted_ascending (ascending-IsAscending (is_passed_before s) (passed-IsStrictOrder s) (filter (meets s) points))
-      (λ g c. let m = from_sorted g c in
-      Contains-ascending (is_passed_before s) (passed-IsStrictOrder s) (filter (meets s) points) g (Contains-filter (meets s) points g (Contains-permutation mixed points g (IsPermutation-sym points mixed placed_so) m.0) m.1))
+      (λ g c. let m = from_sorted g c in Contains-ascending (is_passed_before s) (passed-IsStrictOrder s) (filter (meets s) points) g (Contains-filter (meets s) points g m.0 m.1))
       (λ g c. let m = filter-Contains (meets s) points g (ascending-Contains (is_passed_before s) (passed-IsStrictOrder s) (filter (meets s) points) g c) in
-      Contains-permutation met sorted g moved (Contains-filter (meets s) mixed g (Contains-permutation points mixed g placed_so m.0) m.1))
+      Contains-permutation met sorted g moved (h.to g m.0 m.1))
+
+pub up_once : (points : List GridPoint) → AllPairs (λ p q. IsTrue (is_before p q)) points → (g : GridPoint) → times g points ≤ 1
+up_once points up g = at_most_once points (ascending_of_pairs is_before (λ p q. IsTrue (is_before p q)) points up (λ x y c d r. r)) g
+
+module _ (s : Segment) (points mixed sorted : List GridPoint) (up : AllPairs (λ p q. IsTrue (is_before p q)) points) (placed_so : IsPermutation points mixed) (moved : IsPermutation (filter (meets s) mixed) sorted) (in_order : IsSortedByKey (order_key s) int_cmp sorted) where
+  met_once : AreMetOnce s points (filter (meets s) mixed)
+  met_once = record {
+    from = λ g c. let m = filter-Contains (meets s) mixed g c in (Contains-permutation mixed points g (IsPermutation-sym points mixed placed_so) m.0, m.1);
+    to = λ g c m. Contains-filter (meets s) mixed g (Contains-permutation points mixed g placed_so c) m;
+    once = λ g. let b = kept_times g (meets s) mixed in let c = moved_times g points mixed placed_so in let d = up_once points up g in omega arith;
+  }
+
+  pub sorted_is_chain : sorted ≡ chain_among points s
+  sorted_is_chain = once_is_chain s points (filter (meets s) mixed) sorted met_once moved in_order
 
 -- ---- the chains of a drawing are those of its hot points, ascending
 

@@ -9,3 +9,4 @@ pub mod ChainLemmas
 pub mod NearLemmas
 pub mod QuietLemmas
 pub mod KeyLemmas
+pub mod InnerLemmas

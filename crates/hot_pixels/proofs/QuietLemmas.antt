@@ -1,11 +1,13 @@
 -- Segments that meet their ends alone: what marks keep, and what their chains are.
-use Rattle.std.proofs.Common.{◌≡◌, ◌≢◌, inl, inr, refl, sym, ap, ◌∙◌, subst, arith, ℕ, ◌+◌, ◌<◌, ◌≤◌, Bool, true, false, cond, List, [], ◌∷◌, length, get_or, set, map, take, filter, All, Contains, Option, Some, None, ◌++◌}
+use Rattle.std.proofs.Common.{◌≡◌, ◌≢◌, ◌⊎◌, inl, inr, refl, sym, ap, ◌∙◌, subst, arith, ℕ, ◌+◌, ◌<◌, ◌≤◌, Bool, true, false, cond, List, [], ◌∷◌, length, get_or, set, map, take, filter, All, Contains, Option, Some, None, ◌++◌}
 use Rattle.std.specs.List.{slice_get}
 use Rattle.std.specs.Option.{option_map}
 use Rattle.std.proofs.lemmas.Bool.{cases_lt}
 use Rattle.std.proofs.lemmas.List.{length-set, length-map, get_or-set_same, get_or-set_other, take_more}
 use Rattle.std.proofs.lemmas.List.{take_all}
-use Rattle.std.proofs.lemmas.List.Elements.{All-contains, All-weaker, All-more, Contains-append_cases}
+use Rattle.std.proofs.lemmas.List.Elements.{All-contains, All-weaker, All-more, Contains-append_cases, Contains-append_left, Contains-append_right}
+use Rattle.std.specs.List.Sorted.{IsPermutation}
+use Rattle.std.proofs.lemmas.List.Sorted.{Contains-permutation}
 use Rattle.std.proofs.lemmas.Option.{slice_get-get_or, slice_get-map, slice_get_within, get_or_from_slice_get}
 use Rattle.lists.proofs.Members.{Contains-head, Contains-later, Contains-nil, Contains-cases, Contains-filter, filter-Contains}
 use Rattle.lists.proofs.Ascending.{IsStrictOrder, IsAscending, ascending-IsAscending, ascending-Contains, Contains-ascending, one_ascending}
@@ -24,6 +26,7 @@ use Rattle.hot_pixels.specs.Boxes.{box_of}
 use Rattle.hot_pixels.specs.Found.{AreBucketsOver}
 use Rattle.hot_pixels.specs.Quiet.{IsEndOf, IsMarked, IsSeen, KeepMarks, AreMarks, AreCrowdsMarked, MeetsEndsAlone, ends_of}
 use Rattle.hot_pixels.proofs.CrossingLemmas.{near_area}
+use Rattle.hot_pixels.proofs.ChainLemmas.{times, times-last, moved_times}
 
 -- ---- marks
 
@@ -33,9 +36,9 @@ kept_all marks = record { each = refl; kept = λ i m. m }
 pub kept_twice : (old mid new : List Bool) → KeepMarks old mid → KeepMarks mid new → KeepMarks old new
 kept_twice old mid new h k = record { each = k.each ∙ h.each; kept = λ i m. k.kept i (h.kept i m) }
 
-pub seen_later : (spots : List Segment) (old new : List Bool) (p : GridPoint) (i : ℕ) → KeepMarks old new → IsSeen spots old p i → IsSeen spots new p i
-seen_later spots old new p i k h = record {
-  seen = λ s e m. elim (h.seen s e m) [ inl f ↦ inl f | inr f ↦ inr (k.kept i f) ];
+pub seen_later : (spots : List Segment) (old new : List Bool) (a b : Bool) (p : GridPoint) (i : ℕ) → KeepMarks old new → (a ≡ true → b ≡ true) → IsSeen spots old a p i → IsSeen spots new b p i
+seen_later spots old new a b p i k grows h = record {
+  seen = λ s e m. elim (h.seen s e m) [ inl f ↦ inl f | inr f ↦ inr (k.kept i f.0, grows f.1) ];
 }
 
 marked_at : (marks : List Bool) (i : ℕ) → i < length marks → get_or marks i false ≡ true → IsMarked marks i
@@ -70,11 +73,11 @@ marked_more old mid new near k l kept here h = (
   All-more (IsMarked new) near k 0 l (All-weaker (IsMarked mid) (IsMarked new) kept.kept (take k near) h.1) here,
 )
 
-pub seen_more : (spots : List Segment) (p : GridPoint) (old mid new : List Bool) (near : List ℕ) (k : ℕ) → k < length near → KeepMarks mid new → IsSeen spots new p (get_or near k 0) →
-    KeepMarks old mid × All (IsSeen spots mid p) (take k near) → KeepMarks old new × All (IsSeen spots new p) (take (k + 1) near)
-seen_more spots p old mid new near k l kept here h = (
+pub seen_more : (spots : List Segment) (p : GridPoint) (old mid new : List Bool) (a b : Bool) (near : List ℕ) (k : ℕ) → k < length near → KeepMarks mid new → (a ≡ true → b ≡ true) → IsSeen spots new b p (get_or near k 0) →
+    KeepMarks old mid × All (IsSeen spots mid a p) (take k near) → KeepMarks old new × All (IsSeen spots new b p) (take (k + 1) near)
+seen_more spots p old mid new a b near k l kept grows here h = (
   kept_twice old mid new h.0 kept,
-  All-more (IsSeen spots new p) near k 0 l (All-weaker (IsSeen spots mid p) (IsSeen spots new p) (λ j s. seen_later spots mid new p j kept s) (take k near) h.1) here,
+  All-more (IsSeen spots new b p) near k 0 l (All-weaker (IsSeen spots mid a p) (IsSeen spots new b p) (λ j s. seen_later spots mid new a b p j kept grows s) (take k near) h.1) here,
 )
 
 pub all_taken : (P : ℕ → Type 0) (xs : List ℕ) (k : ℕ) → length xs ≤ k → All P (take k xs) → All P xs
@@ -100,27 +103,73 @@ crowds_more n near old new list k is here h = record {
   ];
 }
 
--- marks, as far as the first points say
-pub record IsMarking (near : List (List ℕ)) (spots : List Segment) (points : List GridPoint) (marks : List Bool) : Type 0 where
-  pub each : length marks ≡ length spots
+-- marks and inner points, as far as the first points say
+pub record IsMarking (near : List (List ℕ)) (spots : List Segment) (points : List GridPoint) (marks : List Bool) (inner : List GridPoint) : Type 0 where
   pub crowds : AreCrowdsMarked (length near) near marks
-  pub seen : (p : GridPoint) → Contains points p → (i : ℕ) → IsSeen spots marks p i
+  pub are_marks : AreMarks points spots marks inner
 
-pub marking_more : (near : List (List ℕ)) (spots : List Segment) (points : List GridPoint) (old new : List Bool) (k : ℕ) (p : GridPoint) → k < length points → p ≡ get_or points k p →
-    KeepMarks old new → ((i : ℕ) → IsSeen spots new p i) → IsMarking near spots (take k points) old → IsMarking near spots (take (k + 1) points) new
-marking_more near spots points old new k p l e kept here h = record {
-  each = kept.each ∙ h.each;
-  crowds = crowds_kept (length near) near old new kept h.crowds;
-  seen = λ q c i. elim (Contains-append_cases (take k points) (p ∷ []) q (subst (λ (xs : List GridPoint). Contains xs q) (take_more points k p l ∙ ap (λ (x : GridPoint). take k points ++ x ∷ []) (sym e)) c)) [
-    | inl d ↦ seen_later spots old new q i kept (h.seen q d i)
-    | inr d ↦ elim (Contains-cases p [] q d) [ inl f ↦ subst (λ (x : GridPoint). IsSeen spots new x i) f (here i) | inr f ↦ Contains-nil q f ]
-  ];
+-- p at the end of a list, if it is wanted
+abbrev pub with_wanted : List GridPoint → GridPoint → Bool → List GridPoint
+with_wanted points p b = cond b (points ++ p ∷ []) points
+
+module _ (spots : List Segment) (points : List GridPoint) (old new : List Bool) (b : Bool) (inner more : List GridPoint) (k : ℕ) (p : GridPoint) (l : k < length points) (e : p ≡ get_or points k p)
+    (kept : KeepMarks old new) (here : (i : ℕ) → IsSeen spots new b p i) (is : more ≡ with_wanted inner p b) (h : AreMarks (take k points) spots old inner) where
+  next : take (k + 1) points ≡ take k points ++ p ∷ []
+  next = take_more points k p l ∙ ap (λ (x : GridPoint). take k points ++ x ∷ []) (sym e)
+
+  still_wanted : (q : GridPoint) → Contains inner q → Contains more q
+  still_wanted q c = subst (λ (xs : List GridPoint). Contains xs q) (sym is) (go b)
+    where
+      go : (b : Bool) → Contains (with_wanted inner p b) q
+      go true = Contains-append_left inner (p ∷ []) q c
+      go false = c
+
+  wanted_now : b ≡ true → Contains more p
+  wanted_now t = subst (λ (xs : List GridPoint). Contains xs p) (sym (is ∙ ap (with_wanted inner p) t)) (Contains-append_right inner (p ∷ []) p (Contains-head p []))
+
+  seen_of : (q : GridPoint) (i : ℕ) (s : Segment) → Contains (take k points) q → slice_get spots i ≡ Some s → meets s q ≡ true → IsEndOf s q ⊎ (IsMarked new i × Contains more q)
+  seen_of q i s d f m = elim (h.seen q d i s f m) [ inl n ↦ inl n | inr n ↦ inr (kept.kept i n.0, still_wanted q n.1) ]
+
+  seen_now : (i : ℕ) (s : Segment) → slice_get spots i ≡ Some s → meets s p ≡ true → IsEndOf s p ⊎ (IsMarked new i × Contains more p)
+  seen_now i s f m = elim ((here i).seen s f m) [ inl n ↦ inl n | inr n ↦ inr (n.0, wanted_now n.1) ]
+
+  listed_of : (q : GridPoint) → times q more ≤ times q (take (k + 1) points)
+  listed_of q =
+      let f = ap (times q) is in
+      let g = ap (times q) next in
+      let n = times-last q (take k points) p in
+      let m = go b in
+      omega arith
+    where
+      go : (b : Bool) → times q (with_wanted inner p b) ≤ times q (take k points ++ p ∷ [])
+      go true = let n = times-last q (take k points) p in let m = times-last q inner p in let o = h.listed q in omega arith
+      go false = let n = times-last q (take k points) p in let o = h.listed q in omega arith
+
+  pub are_marks_more : AreMarks (take (k + 1) points) spots new more
+  are_marks_more = record {
+    each = kept.each ∙ h.each;
+    seen = λ q c i s f m. elim (Contains-append_cases (take k points) (p ∷ []) q (subst (λ (xs : List GridPoint). Contains xs q) next c)) [
+      | inl d ↦ seen_of q i s d f m
+      | inr d ↦ elim (Contains-cases p [] q d) [
+        | inl same ↦ subst (λ (x : GridPoint). IsEndOf s x ⊎ (IsMarked new i × Contains more x)) same (seen_now i s f (subst (λ (x : GridPoint). meets s x ≡ true) (sym same) m))
+        | inr none ↦ Contains-nil q none
+      ]
+    ];
+    listed = listed_of;
+  }
+
+-- moved points are listed as well
+pub marks_moved : (points : List GridPoint) (spots : List Segment) (marks : List Bool) (inner moved : List GridPoint) → IsPermutation inner moved → AreMarks points spots marks inner → AreMarks points spots marks moved
+marks_moved points spots marks inner moved same h = record {
+  each = h.each;
+  seen = λ p c i s f m. elim (h.seen p c i s f m) [ inl n ↦ inl n | inr n ↦ inr (n.0, Contains-permutation inner moved p same n.1) ];
+  listed = λ p. let e = moved_times p inner moved same in let l = h.listed p in omega arith;
 }
 
 -- a segment without a mark meets its ends alone
-pub quiet_at : (points : List GridPoint) (spots : List Segment) (marks : List Bool) (i : ℕ) (s : Segment) → AreMarks points spots marks → slice_get spots i ≡ Some s → slice_get marks i ≡ Some false → MeetsEndsAlone points s
-quiet_at points spots marks i s h at none = record {
-  others = λ p c m. elim ((h.seen p c i).seen s at m) [ inl e ↦ e | inr e ↦ absurd (let f : Some false ≡ Some true = sym none ∙ e in cc) ];
+pub quiet_at : (points : List GridPoint) (spots : List Segment) (marks : List Bool) (inner : List GridPoint) (i : ℕ) (s : Segment) → AreMarks points spots marks inner → slice_get spots i ≡ Some s → slice_get marks i ≡ Some false → MeetsEndsAlone points s
+quiet_at points spots marks inner i s h at none = record {
+  others = λ p c m. elim (h.seen p c i s at m) [ inl e ↦ e | inr e ↦ absurd (let f : Some false ≡ Some true = sym none ∙ e.0 in cc) ];
 }
 
 -- ---- the spots near a point
@@ -152,16 +201,16 @@ module _ (spots : List Segment) (b : AreaLists) (h : AreBucketsOver spots b) (pl
       (met_pixels_lie_in_the_box s p ((meets_is_computed s p).0 m)))
 
   -- where the segments that are near are seen, all are
-  pub all_seen : (p : GridPoint) → IsPlaceOf b.areas p place → (marks : List Bool) → All (IsSeen spots marks p) near → (i : ℕ) → IsSeen spots marks p i
-  all_seen p at marks h i = record {
-    seen = λ s e m. (All-contains (IsSeen spots marks p) near i h (met_is_near p at i s e m)).seen s e m;
+  pub all_seen : (p : GridPoint) → IsPlaceOf b.areas p place → (marks : List Bool) (is_inner : Bool) → All (IsSeen spots marks is_inner p) near → (i : ℕ) → IsSeen spots marks is_inner p i
+  all_seen p at marks is_inner h i = record {
+    seen = λ s e m. (All-contains (IsSeen spots marks is_inner p) near i h (met_is_near p at i s e m)).seen s e m;
   }
 
-  crowd_seen : (p : GridPoint) (marks : List Bool) → All (IsMarked marks) near → All (IsSeen spots marks p) near
-  crowd_seen p marks h = All-weaker (IsMarked marks) (IsSeen spots marks p) (λ i m. record { seen = λ s e f. inr m }) near h
+  crowd_seen : (p : GridPoint) (marks : List Bool) → All (IsMarked marks) near → All (IsSeen spots marks true p) near
+  crowd_seen p marks h = All-weaker (IsMarked marks) (IsSeen spots marks true p) (λ i m. record { seen = λ s e f. inr (m, refl) }) near h
 
-  pub all_seen_in_crowd : (p : GridPoint) → IsPlaceOf b.areas p place → (marks : List Bool) → AreCrowdsMarked (length b.near) b.near marks → 64 < length near → (i : ℕ) → IsSeen spots marks p i
-  all_seen_in_crowd p at marks h many = all_seen p at marks (crowd_seen p marks (h.all place (slice_get_within b.near place near is) near is many))
+  pub all_seen_in_crowd : (p : GridPoint) → IsPlaceOf b.areas p place → (marks : List Bool) → AreCrowdsMarked (length b.near) b.near marks → 64 < length near → (i : ℕ) → IsSeen spots marks true p i
+  all_seen_in_crowd p at marks h many = all_seen p at marks true (crowd_seen p marks (h.all place (slice_get_within b.near place near is) near is many))
 
 -- ---- chains of the ends alone
 

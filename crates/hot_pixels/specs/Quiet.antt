@@ -1,7 +1,9 @@
 -- Segments that meet no hot pixels besides those of their ends; the others have a mark.
-use Rattle.std.specs.Prelude.{◌≡◌, ◌⊎◌, ◌<◌, ℕ, Bool, true, List, [], ◌∷◌, All, Contains, Some, length, slice_get, if◌then◌else◌}
+use Rattle.std.specs.Prelude.{◌≡◌, ◌⊎◌, ◌<◌, ◌≤◌, ℕ, Bool, true, not, filter, List, [], ◌∷◌, All, Contains, Some, length, slice_get, if◌then◌else◌}
+use Rattle.std.specs.List.{count_by}
 use Rattle.plane_model.specs.Points.{GridPoint, Segment, Path, same_point}
 use Rattle.plane_model.specs.Pixel.{meets}
+use Rattle.hot_pixels.specs.Spots.{is_end}
 
 abbrev pub IsEndOf : Segment → GridPoint → Type 0
 IsEndOf s p = (p ≡ s.start) ⊎ (p ≡ s.stop)
@@ -14,6 +16,10 @@ pub record MeetsEndsAlone (points : List GridPoint) (s : Segment) : Type 0 where
 abbrev pub ends_of : Segment → Path
 ends_of s = if same_point s.start s.stop then s.start ∷ [] else s.start ∷ s.stop ∷ []
 
+-- the points that are no ends of a segment
+abbrev pub others_of : Segment → List GridPoint → List GridPoint
+others_of s points = filter (λ p. not (is_end s p)) points
+
 -- ---- marks
 
 abbrev pub IsMarked : List Bool → ℕ → Type 0
@@ -24,14 +30,16 @@ pub record KeepMarks (old new : List Bool) : Type 0 where
   pub each : length new ≡ length old
   pub kept : (i : ℕ) → IsMarked old i → IsMarked new i
 
--- segment i has a mark, if it meets p and doesn't end there
-pub record IsSeen (spots : List Segment) (marks : List Bool) (p : GridPoint) (i : ℕ) : Type 0 where
-  pub seen : (s : Segment) → slice_get spots i ≡ Some s → meets s p ≡ true → IsEndOf s p ⊎ IsMarked marks i
+-- segment i has a mark and p is inner, if the segment meets p and doesn't end there
+pub record IsSeen (spots : List Segment) (marks : List Bool) (is_inner : Bool) (p : GridPoint) (i : ℕ) : Type 0 where
+  pub seen : (s : Segment) → slice_get spots i ≡ Some s → meets s p ≡ true → IsEndOf s p ⊎ (IsMarked marks i × (is_inner ≡ true))
 
--- marks of segments: one that meets a point besides its ends has a mark
-pub record AreMarks (points : List GridPoint) (spots : List Segment) (marks : List Bool) : Type 0 where
+-- Marks of segments, and a part of the points: a segment that meets a point besides its ends has a mark, and the point
+-- is listed. No point is listed more often than it stands among the points.
+pub record AreMarks (points : List GridPoint) (spots : List Segment) (marks : List Bool) (inner : List GridPoint) : Type 0 where
   pub each : length marks ≡ length spots
-  pub seen : (p : GridPoint) → Contains points p → (i : ℕ) → IsSeen spots marks p i
+  pub seen : (p : GridPoint) → Contains points p → (i : ℕ) (s : Segment) → slice_get spots i ≡ Some s → meets s p ≡ true → IsEndOf s p ⊎ (IsMarked marks i × Contains inner p)
+  pub listed : (p : GridPoint) → count_by (same_point p) inner ≤ count_by (same_point p) points
 
 -- of so many lists, the segments of each that is too long have marks
 pub record AreCrowdsMarked (count : ℕ) (near : List (List ℕ)) (marks : List Bool) : Type 0 where

@@ -4,14 +4,15 @@ ghost use Rattle.plane_model.specs.Points.{GridPoint as Point, is_before};
 ghost use Rattle.plane_model.specs.Drawing.{Drawing as Map};
 ghost use Rattle.plane_model.specs.Hot.{hot_points, chain_among, chain_of};
 ghost use Rattle.hot_pixels.specs.Chains.{AreHotPointsOf};
-ghost use Rattle.hot_pixels.specs.Quiet.{MeetsEndsAlone};
+ghost use Rattle.hot_pixels.specs.Near.{IsSearchable};
+ghost use Rattle.hot_pixels.specs.Quiet.{MeetsEndsAlone, AreMarks};
 ghost use Rattle.hot_pixels.specs.Stops.{stop_of};
 
 use crate::chains::sorted_along;
 use crate::keys::each_once;
 use crate::near::{Run, along_curve, count_near, met_near, runs_over};
 use crate::pairs::{add_crossings, buckets_over};
-use crate::quiet::{append_ends, marks_of};
+use crate::quiet::{Marking, append_ends, marks_of, with_ends};
 use crate::spots::spots_of;
 use grid_base::{Drawing, Pt, PtList, Seg};
 use std::alloc::{AllocError, Global};
@@ -26,19 +27,22 @@ pub struct HotSet {
     // the segments of the drawing, with a mark for each that may meet hot pixels besides those of its ends
     spots: Vec<Seg>,
     marks: Vec<bool>,
+    // the hot points that these may meet besides their ends
+    inner: Vec<Pt>,
+    inner_runs: Vec<Run>,
 }
 
 impl Model for HotSet {
-    ghost use Rattle.std.specs.Prelude.{List};
+    ghost use Rattle.std.specs.Prelude.{List, All};
     ghost use Rattle.plane_model.specs.Points.{GridPoint};
-    ghost use Rattle.hot_pixels.specs.Near.{IsSearchable};
+    ghost use Rattle.hot_pixels.specs.Near.{IsSearchable, HoldsRun};
     ghost use Rattle.hot_pixels.specs.Quiet.{AreMarks};
 
     ghost Value = { List GridPoint };
 
     ghost view = { λ s. s.points.items };
 
-    ghost invariant = { λ s. IsSearchable s.points.items s.mixed.items s.runs.items × AreMarks s.points.items s.spots.items s.marks.items };
+    ghost invariant = { λ s. IsSearchable s.points.items s.mixed.items s.runs.items × (AreMarks s.points.items s.spots.items s.marks.items s.inner.items × All (HoldsRun s.inner.items) s.inner_runs.items) };
 }
 
 impl HotSet {
@@ -48,21 +52,59 @@ impl HotSet {
     pub fn of(alloc: Global, d: &Drawing) -> Result<HotSet, AllocError>
         ensures exact { IfOk result (λ s. s ≡ ascending is_before (hot_points d.now)) }
     {
+        let set = HotSet::for_spots(alloc, d)?;
+        set.for_all(alloc)
+    }
+
+    /// The hot points, made for the chains of the drawing's own segments: that of another is found by trying each point.
+    pub fn for_spots(alloc: Global, d: &Drawing) -> Result<HotSet, AllocError>
+        ensures exact { IfOk result (λ s. s ≡ ascending is_before (hot_points d.now)) }
+    {
         let spots = spots_of(alloc, d)?;
         let mut found = stops_of(alloc, &spots)?;
         let buckets = buckets_over(alloc, &spots)?;
         add_crossings(&mut found, &spots, &buckets)?;
         let points = each_once(alloc, &found)?;
-        let marks = marks_of(alloc, &points, &spots, &buckets)?;
-        let mixed = along_curve(alloc, &points)?;
-        let runs = runs_over(alloc, &mixed)?;
+        let marking = marks_of(alloc, &points, &spots, &buckets)?;
+        let mixed = copy_of(alloc, &points)?;
+        HotSet::over(alloc, points, mixed, Vec::new(alloc), spots, marking)
+    }
+
+    // The set of these points, with runs of the inner ones.
+    fn over(
+        alloc: Global,
+        points: Vec<Pt>,
+        mixed: Vec<Pt>,
+        runs: Vec<Run>,
+        spots: Vec<Seg>,
+        marking: Marking,
+    ) -> Result<HotSet, AllocError>
+        requires searchable { IsSearchable points.items mixed.items runs.items }
+        requires marked { AreMarks points.items spots.items marking.marks.items marking.inner.items }
+        ensures exact { IfOk result (λ s. s ≡ points.items) }
+    {
+        let Marking { marks, inner } = marking;
+        let inner = along_curve(alloc, &inner)?;
+        let inner_runs = runs_over(alloc, &inner)?;
         Ok(HotSet {
             points,
             mixed,
             runs,
             spots,
             marks,
+            inner,
+            inner_runs,
         })
+    }
+
+    /// The same set, made for the chains of all segments.
+    pub fn for_all(self, alloc: Global) -> Result<HotSet, AllocError>
+        ensures exact { IfOk result (λ s. s ≡ self) }
+    {
+        let mut set = self;
+        set.mixed = along_curve(alloc, &set.points)?;
+        set.runs = runs_over(alloc, &set.mixed)?;
+        Ok(set)
     }
 
     /// The chain of a segment: the hot points whose pixels it meets, in the order in which it passes them.
@@ -93,8 +135,22 @@ impl HotSet {
         if self.is_quiet(s, place) {
             return append_ends(path, s);
         }
-        let chain = self.chain_of(alloc, s)?;
+        let chain = self.chain_at(alloc, s, place)?;
         path.append(chain.as_slice())
+    }
+
+    // The chain of a segment between hot points. Where the segment stands at this place, only inner points are tried.
+    fn chain_at(&self, alloc: Global, s: &Seg, place: usize) -> Result<PtList, AllocError>
+        requires start { Contains self.now s.now.start }
+        requires stop { Contains self.now s.now.stop }
+        ensures exact { IfOk result (λ chain. chain ≡ chain_among self.now s.now) }
+    {
+        if !is_at(&self.spots, place, s) {
+            return self.chain_of(alloc, s);
+        }
+        let met = met_near(alloc, &self.inner, &self.inner_runs, s)?;
+        let all = with_ends(alloc, &met, s)?;
+        sorted_along(alloc, all, s)
     }
 
     // Whether the segment stands at this place, and meets no hot pixel besides those of its ends.
@@ -123,6 +179,16 @@ impl HotSet {
     }
 }
 
+// Whether a segment stands at this place.
+fn is_at(spots: &[Seg], place: usize, s: &Seg) -> bool
+    ensures { result ≡ true → slice_get spots.now place ≡ Some s.now }
+{
+    if place >= spots.len() {
+        return false;
+    }
+    is_same(&spots[place], s)
+}
+
 // Whether a segment stands at this place, and has no mark.
 fn is_unmarked(spots: &[Seg], marks: &[bool], place: usize, s: &Seg) -> bool
     requires { length marks.now ≡ length spots.now }
@@ -148,6 +214,14 @@ fn is_listed(points: &[Pt], p: Pt) -> bool
         Ok(_) => true,
         Err(_) => false,
     }
+}
+
+fn copy_of(alloc: Global, points: &[Pt]) -> Result<Vec<Pt>, AllocError>
+    ensures { IfOk result (λ copy. copy.items ≡ points.now) }
+{
+    let mut copy = Vec::with_capacity(alloc, points.len())?;
+    copy.extend_from_slice(points)?;
+    Ok(copy)
 }
 
 fn stops_of(alloc: Global, spots: &[Seg]) -> Result<Vec<Pt>, AllocError>

@@ -16,7 +16,10 @@
 //!   `chain_links` counts the links between them without memory. Both pass over runs of hot points that lie beside the
 //!   segment's box.
 //! - `append_chain` appends the chain of a segment of the drawing to a path. Segments that meet their ends alone, as
-//!   most do in a drawing of areas, were found when the set was made, and are not searched for.
+//!   most do in a drawing of areas, were found when the set was made, and are not searched for. For the others the inner
+//!   points are searched alone: those that some segment of the drawing meets and doesn't end at.
+//! - `HotSet::for_spots` makes the same set in less time, where the chains of the drawing's own segments are all that is
+//!   asked for.
 #![tactic(auto)]
 
 mod beside;

@@ -26,7 +26,7 @@ impl From<AllocError> for PathStop {
 }
 
 /// How far paths are made: for so many points of chains there is room, and the next step is at this place among the
-/// segments of the drawing. A wrong place costs time alone; with points, that of a box is wrong.
+/// segments of the drawing. A wrong place costs time alone.
 #[derive(Clone, Copy)]
 pub struct Progress {
     pub room: u64,

@@ -102,24 +102,29 @@ fn add_line_features(
     Ok(())
 }
 
-// Adds the points to the last point feature.
-fn add_points(out: &mut Drawing, points: &[Pt]) -> Result<(), PathStop>
+// Adds the points to the last point feature, and goes on past their places.
+fn add_points(out: &mut Drawing, progress: &mut Progress, points: &[Pt]) -> Result<(), PathStop>
     requires feature { 0 < length out.old.points }
     ensures { OnOk result (out.new ≡ with_points points.now out.old) }
 {
     for p in points {
         out.add_point(*p)?;
     }
+    progress.place = progress.place.wrapping_add(points.len());
     Ok(())
 }
 
-fn add_point_features(out: &mut Drawing, d: &Drawing) -> Result<(), PathStop>
+fn add_point_features(
+    out: &mut Drawing,
+    progress: &mut Progress,
+    d: &Drawing,
+) -> Result<(), PathStop>
     ensures { OnOk result (out.new ≡ record out.old { points = out.old.points ++ d.now.points }) }
 {
     for f in 0..d.point_count() {
         let points = d.points_of(FeatId::new(f));
         out.add_feature(Kind::Point)?;
-        add_points(out, points.as_slice())?;
+        add_points(out, progress, points.as_slice())?;
     }
     Ok(())
 }
@@ -154,7 +159,7 @@ pub fn snapped_paths(
     let mut paths = Drawing::new(alloc);
     add_polygon_features(alloc, &mut paths, progress, hot, d)?;
     add_line_features(alloc, &mut paths, progress, hot, d)?;
-    add_point_features(&mut paths, d)?;
+    add_point_features(&mut paths, progress, d)?;
     add_boxes(alloc, &mut paths, progress, hot, d)?;
     Ok(paths)
 }

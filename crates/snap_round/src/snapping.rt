@@ -82,10 +82,11 @@ pub fn snap(alloc: Global, d: &Drawing) -> Result<Snapped, SnapFault>
     ensures fault { IfErr result (FaultMeans d.now) }
 {
     d.keeps_paths();
-    let hot = HotSet::of(alloc, d)?;
+    let hot = HotSet::for_spots(alloc, d)?;
     if let Some(s) = snapped_within(alloc, &hot, d, CHAIN_ROOM, MOST_LINKS)? {
         return Ok(s);
     }
+    let hot = hot.for_all(alloc)?;
     let count = count_of(alloc, &hot, d)?;
     if count > MOST_LINKS {
         return Err(SnapFault::TooDense { count });

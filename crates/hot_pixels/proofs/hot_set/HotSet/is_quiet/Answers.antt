@@ -11,4 +11,4 @@ returns-clause-quiet c e =
     let same : c.self.inside.points.items ≡ c.args.self.now = search rules in
     let spots : slice_get c.self.inside.spots.items c.args.place ≡ Some c.args.s.now = search rules in
     let marks : slice_get c.self.inside.marks.items c.args.place ≡ Some false = search rules in
-    subst (λ (points : List GridPoint). MeetsEndsAlone points c.args.s.now) same (quiet_at c.self.inside.points.items c.self.inside.spots.items c.self.inside.marks.items c.args.place c.args.s.now c.self.invariant.1 spots marks)
+    subst (λ (points : List GridPoint). MeetsEndsAlone points c.args.s.now) same (quiet_at c.self.inside.points.items c.self.inside.spots.items c.self.inside.marks.items c.self.inside.inner.items c.args.place c.args.s.now c.self.invariant.1.0 spots marks)

@@ -1,0 +1,18 @@
+use Rattle.std.proofs.Common.{List, subst}
+use Rattle.std.specs.Prelude.{All}
+use Rattle.std.specs.List.Sorted.{IsPermutation}
+use Rattle.plane_model.specs.Points.{GridPoint}
+use Rattle.hot_pixels.specs.Near.{HoldsRun}
+use Rattle.hot_pixels.proofs.QuietLemmas.{marks_moved}
+use Rattle.hot_pixels.proofs.hot_set.HotSet.over.Goals as goal
+
+pub invariant_of-result : goal.invariant_of-result
+invariant_of-result c =
+    let moved = c.in_ok-inner.inner.items in (
+      c.requires.searchable,
+      (
+        marks_moved c.args.points.items c.args.spots.items c.args.marking.marks.items c.args.marking.inner.items moved
+            (subst (λ (xs : List GridPoint). IsPermutation xs moved) c.deref.ensures.value c.in_ok-inner.ensures) c.requires.marked,
+        subst (λ (xs : List GridPoint). All (HoldsRun xs) c.in_ok-inner_runs.inner_runs.items) c.deref-2.ensures.value c.in_ok-inner_runs.ensures,
+      ),
+    )
