@@ -19,3 +19,5 @@ pub mod TurnLemmas
 pub mod GatherLemmas
 pub mod PartSides
 pub mod PolygonLemmas
+pub mod LeastTurn
+pub mod OrderLemmas

@@ -45,7 +45,7 @@ first_counts Less p e = e
 first_counts Equal p e = refl
 first_counts Greater p e = refl
 
-both_count : (o p q : Ordering) → is_lt (ordering_then o (ordering_then p q)) ≡ false → is_lt (ordering_then o p) ≡ false
+pub both_count : (o p q : Ordering) → is_lt (ordering_then o (ordering_then p q)) ≡ false → is_lt (ordering_then o p) ≡ false
 both_count Less p q e = e
 both_count Equal p q e = first_counts p q e
 both_count Greater p q e = refl

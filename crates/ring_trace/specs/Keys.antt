@@ -1,13 +1,17 @@
 -- Rings with what they are ordered by.
-use Rattle.std.specs.Prelude.{◌≡◌, ◌⊎◌, ℕ, ◌-◌, ◌<◌, ◌≤◌, nat_eq, List, ◌++◌, All, Contains, Option, Some, None, filter, length, map, slice_index, slice_index_or, take, drop}
+use Rattle.std.specs.Prelude.{◌≡◌, ◌⊎◌, ℕ, ◌-◌, ◌<◌, ◌≤◌, nat_eq, not, List, ◌++◌, All, Contains, Option, Some, None, filter, length, map, slice_index, slice_index_or, take, drop}
 use Rattle.std.specs.List.{sum_by}
 use Rattle.std.specs.List.Sorted.{IsStrictlyIncreasing}
+use Rattle.std.specs.Ordering.{bool_cmp, nat_cmp, ordering_then}
+use Rattle.std.specs.declared.cmp.Ordering.{Ordering}
 use Rattle.plane_model.specs.Arcs.{SignedArc}
+use Rattle.plane_model.specs.Points.{Path}
 use Rattle.ring_trace.specs.declared.pairing.Edge.{Edge}
 use Rattle.ring_trace.specs.declared.simple_rings.Rings.{Rings}
 use Rattle.ring_trace.specs.declared.simple_rings.RingSpan.{RingSpan}
 use Rattle.ring_trace.specs.declared.ring_keys.RingKey.{RingKey}
 use Rattle.ring_trace.specs.Rings.{edge_at}
+use Rattle.ring_trace.specs.Turns.{is_left}
 
 -- a place within a span of the edges of rings
 pub record IsKey (rings : Rings) (key : RingKey) : Type 0 where
@@ -34,9 +38,13 @@ pub record IsKeyOfSome (spans : List RingSpan) (key : RingKey) : Type 0 where
   pub begins : key.begin ≡ span.begin
   pub ends : key.end ≡ span.end
 
+-- the edges from a place to an end, and then those from where they begin up to the place
+abbrev pub edges_between : Rings → ℕ → ℕ → ℕ → List ℕ
+edges_between rings begin first end = take (end - first) (drop first rings.edges.items) ++ take (first - begin) (drop begin rings.edges.items)
+
 -- the edges of the ring of a key, from its first one on
 abbrev pub edges_from : Rings → RingKey → List ℕ
-edges_from rings key = take (key.end - key.first) (drop key.first rings.edges.items) ++ take (key.first - key.begin) (drop key.begin rings.edges.items)
+edges_from rings key = edges_between rings key.begin key.first key.end
 
 -- the arcs of some edges, and those of the ring of a key
 abbrev pub arcs_along : List Edge → List ℕ → List SignedArc
@@ -55,6 +63,14 @@ pub record IsLeastFirst (edges : List Edge) (rings : Rings) (key : RingKey) : Ty
   pub part : key.part ≡ (edge_at edges (slice_index rings.edges.items key.first)).part
   pub least : key.least ≡ arc_number edges (slice_index rings.edges.items key.first)
   pub lowest : All (λ e. key.least ≤ arc_number edges e) (take (key.end - key.begin) (drop key.begin rings.edges.items))
+
+-- the key says whether its ring is a hole
+abbrev pub IsHoleBy : List Path → List Edge → Rings → RingKey → Type 0
+IsHoleBy arcs edges rings key = key.is_hole ≡ not (is_left arcs (path_along edges rings key))
+
+-- by part, then exteriors first, then by the least arcs
+abbrev pub key_cmp : RingKey → RingKey → Ordering
+key_cmp a b = ordering_then (nat_cmp a.part b.part) (ordering_then (bool_cmp a.is_hole b.is_hole) (nat_cmp a.least b.least))
 
 -- the key at a place is of the part n
 abbrev pub HasKeyPart : List RingKey → ℕ → ℕ → Type 0

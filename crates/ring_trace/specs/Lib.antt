@@ -8,3 +8,4 @@ pub mod Boundary
 pub mod Joined
 pub mod Pairing
 pub mod Traced
+pub mod Turns

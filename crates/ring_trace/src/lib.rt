@@ -17,6 +17,7 @@ mod ring_keys;
 mod set_list;
 mod simple_rings;
 mod tracing;
+mod turns;
 
 pub use face_owners::FaceOwners;
 pub use face_set::FaceSet;

@@ -1,13 +1,13 @@
-ghost use Rattle.std.specs.Prelude.{◌≡◌, ◌+◌, ◌<◌, ◌≤◌, All, IfOk, IfSome, OnOk, length, ℕ, slice_index};
+ghost use Rattle.std.specs.Prelude.{◌≡◌, ◌+◌, ◌<◌, ◌≤◌, All, IfOk, IfSome, length, ℕ, slice_index};
 ghost use Rattle.std.specs.List.{sum_by};
-ghost use Rattle.std.specs.List.Sorted.{IsNonDecreasingBy};
+ghost use Rattle.std.specs.List.Sorted.{IsNonDecreasingBy, IsSorted};
 ghost use Rattle.ring_trace.specs.Rings.{IsSpan, IsWhole};
-ghost use Rattle.ring_trace.specs.Keys.{IsKey, IsKeyOf, IsKeyOfSome, IsLeastFirst, along_key, along_span, arc_number};
+ghost use Rattle.ring_trace.specs.Keys.{IsKey, IsKeyOf, IsHoleBy, IsKeyOfSome, IsLeastFirst, along_key, along_span, arc_number, key_cmp};
 
 use crate::pairing::Edge;
 use crate::simple_rings::{RingSpan, Rings};
+use crate::turns::{points_round, turns_left};
 use arc_table::ArcTable;
-use grid_base::{Pt, SignedArc, turn};
 use std::alloc::{AllocError, Global};
 
 /// A ring of a part, with the place of its edge along the least arc. They are ordered by the part; then the exterior
@@ -34,7 +34,9 @@ pub fn keys_of(
     ensures there { IfOk result (λ v. All (IsKey rings.now) v.items) }
     ensures spans { IfOk result (λ v. All (IsKeyOfSome rings.now.spans.items) v.items) }
     ensures least { IfOk result (λ v. All (IsLeastFirst edges.now rings.now) v.items) }
+    ensures holes { IfOk result (λ v. All (IsHoleBy t.now edges.now rings.now) v.items) }
     ensures in_order { IfOk result (λ v. IsNonDecreasingBy (λ key. key.part) v.items) }
+    ensures sorted { IfOk result (λ v. IsSorted key_cmp v.items) }
     ensures once { (g : ℕ → ℕ) → IfOk result (λ v. sum_by (along_key g rings.now) v.items ≡ sum_by (along_span g rings.now) rings.now.spans.items) }
 {
     let mut keys = Vec::with_capacity(alloc, rings.spans.len())?;
@@ -61,13 +63,14 @@ fn key_of(
     ensures there { IfOk result (λ key. IfSome key (IsKey rings.now)) }
     ensures span { IfOk result (IsKeyOf span) }
     ensures least { IfOk result (λ key. IfSome key (IsLeastFirst edges.now rings.now)) }
+    ensures hole { IfOk result (λ key. IfSome key (IsHoleBy t.now edges.now rings.now)) }
 {
     if span.begin >= span.end {
         return Ok(None);
     }
     let first = span.begin + least_of(edges, &rings.edges[span.begin..span.end]);
     let edge = edges[rings.edges[first] as usize];
-    let points = points_round(alloc, t, edges, &rings.edges[span.begin..span.end])?;
+    let points = points_round(alloc, t, edges, rings, span, first)?;
     Ok(Some(RingKey {
         part: edge.part,
         is_hole: !turns_left(&points),
@@ -100,71 +103,4 @@ fn number_along(edges: &[Edge], e: u32) -> u32
     ensures exact { result ≡ arc_number edges.now e }
 {
     edges[e as usize].arc.id().num()
-}
-
-// The points of a ring, each once.
-fn points_round(
-    alloc: Global,
-    t: &ArcTable,
-    edges: &[Edge],
-    ring: &[u32],
-) -> Result<Vec<Pt>, AllocError>
-    requires there { All (λ e. e < length edges.now) ring.now }
-    requires arcs { All (λ e. e.arc.arc < length t.now) edges.now }
-{
-    let mut points = Vec::new(alloc);
-    for e in ring {
-        push_points(&mut points, t, edges[*e as usize].arc)?;
-    }
-    Ok(points)
-}
-
-// Pushes the points of a signed arc but the last.
-fn push_points(points: &mut Vec<Pt>, t: &ArcTable, arc: SignedArc) -> Result<(), AllocError>
-    requires { arc.arc < length t.now }
-{
-    let along = t.points_of(arc.id());
-    points.reserve(along.len())?;
-    for k in 1..along.len() {
-        let place = if arc.is_reversed() {
-            along.len() - k
-        } else {
-            k - 1
-        };
-        points.push(along[place])?;
-    }
-    Ok(())
-}
-
-// Whether a ring turns left at its least point.
-fn turns_left(points: &[Pt]) -> bool {
-    if points.is_empty() {
-        return false;
-    }
-    let least = least_point(points);
-    let before = if least == 0 {
-        points[points.len() - 1]
-    } else {
-        points[least - 1]
-    };
-    let after = if least + 1 < points.len() {
-        points[least + 1]
-    } else {
-        points[0]
-    };
-    0 < turn(before, points[least], after)
-}
-
-// The place of the least of some points.
-fn least_point(points: &[Pt]) -> usize
-    requires { 0 < length points.now }
-    ensures { result < length points.now }
-{
-    let mut least = 0;
-    for k in 1..points.len() {
-        if points[k] < points[least] {
-            least = k;
-        }
-    }
-    least
 }

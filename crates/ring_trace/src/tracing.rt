@@ -1,4 +1,4 @@
-ghost use Rattle.std.specs.Prelude.{◌≡◌, ◌+◌, ◌++◌, ◌<◌, ◌≤◌, ◌^◌, All, IfOk, IfSome, List, OnOk, ℕ, false, length, true};
+ghost use Rattle.std.specs.Prelude.{◌≡◌, ◌+◌, ◌++◌, ◌<◌, All, AllPairs, IfOk, List, OnOk, ℕ, false, length, true};
 ghost use Rattle.std.specs.List.{sum_by};
 ghost use Rattle.std.specs.List.Sorted.{IsNonDecreasingBy};
 ghost use Rattle.plane_model.specs.Arcs.{SignedArc};
@@ -6,11 +6,12 @@ ghost use Rattle.plane_model.specs.Points.{Path};
 ghost use Rattle.arc_table.specs.Around.{start_of};
 ghost use Rattle.face_walk.specs.Places.{IsBuiltOf};
 ghost use Rattle.ring_trace.specs.Sets.{IsSetOf};
-ghost use Rattle.ring_trace.specs.Rings.{IsSpan, IsWhole};
+ghost use Rattle.ring_trace.specs.Rings.{IsWhole};
 ghost use Rattle.ring_trace.specs.Joined.{AreParts};
 ghost use Rattle.ring_trace.specs.Keys.{AreByPart, BeginsPart, HasKeyPart, IsKey, StaysInPart, along_key, arcs_along, path_along};
 ghost use Rattle.ring_trace.specs.Pairing.{stop_of};
 ghost use Rattle.ring_trace.specs.Ways.{IsSimpleRing};
+ghost use Rattle.ring_trace.specs.Turns.{MayStandBefore};
 ghost use Rattle.ring_trace.specs.Traced.{BeginsWithLeast, UseParts, UsesBoundary, times, times_along, times_traced};
 
 use crate::face_set::FaceSet;
@@ -33,6 +34,7 @@ pub fn trace(alloc: Global, t: &ArcTable, f: &Faces, set: &FaceSet) -> Result<Po
     ensures boundary { IfOk result (UsesBoundary f.now.places (length t.now) set.now) }
     ensures simple { IfOk result (All (All (IsSimpleRing (start_of t.now) (stop_of t.now)))) }
     ensures least_first { IfOk result (All (All BeginsWithLeast)) }
+    ensures in_order { IfOk result (All (AllPairs (MayStandBefore t.now))) }
     ensures parts { (parts : List (List ℕ)) → AreParts f.now set.now parts → IfOk result (UseParts f.now.places (length t.now) parts) }
     ensures there { IfOk result (λ polygons. All (λ rings. All (λ ring. All (λ a. a.arc < length t.now) ring) rings) polygons) }
 {

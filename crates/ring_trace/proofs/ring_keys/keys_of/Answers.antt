@@ -6,9 +6,10 @@ use Rattle.std.proofs.lemmas.List.Sums.{sum_by_push, sum_by_more}
 use Rattle.std.proofs.lemmas.List.Sorted.{sum_by-IsPermutation, All-permutation}
 use Rattle.ring_trace.specs.declared.simple_rings.RingSpan.{RingSpan}
 use Rattle.ring_trace.specs.declared.ring_keys.RingKey.{RingKey}
-use Rattle.ring_trace.specs.Keys.{IsKey, IsKeyOf, IsKeyOfSome, IsLeastFirst, along_key, along_span}
+use Rattle.ring_trace.specs.Keys.{IsKey, IsKeyOf, IsKeyOfSome, IsLeastFirst, IsHoleBy, along_key, along_span}
 use Rattle.ring_trace.proofs.TileLemmas.{along_none}
 use Rattle.ring_trace.proofs.GatherLemmas.{by_part}
+use Rattle.ring_trace.proofs.OrderLemmas.{by_key}
 use Rattle.ring_trace.proofs.ring_keys.keys_of.Goals.{in-Some+in_ok-push, in_default}
 use Rattle.ring_trace.proofs.ring_keys.keys_of.Goals as goal
 
@@ -16,6 +17,7 @@ pub loop-span-preserved : goal.loop-span-preserved
 loop-span-preserved c =
     let rings = c.args.rings.now in
     let edges = c.args.edges.now in
+    let arcs = c.args.t.now in
     let spans = rings.spans.items in
     let none : RingSpan = record { begin = 0; end = 0 } in
     let i = c.loop-span.span-index in
@@ -40,6 +42,8 @@ loop-span-preserved c =
                 (All-push (IsKeyOfSome spans) c.loop-span.keys.items key c.loop-span.invariant.2 (record { span = s; listed = Contains-get_or spans i none l; begins = of_span.0; ends = of_span.1 })),
             subst (λ (ks : List RingKey). All (IsLeastFirst edges rings) ks) (sym items)
                 (All-push (IsLeastFirst edges rings) c.loop-span.keys.items key c.loop-span.invariant.3 (subst (λ (o : Option RingKey). IfSome o (IsLeastFirst edges rings)) w.in-Some.is c.in_ok-key.ensures.least)),
+            subst (λ (ks : List RingKey). All (IsHoleBy arcs edges rings) ks) (sym items)
+                (All-push (IsHoleBy arcs edges rings) c.loop-span.keys.items key c.loop-span.invariant.4 (subst (λ (o : Option RingKey). IfSome o (IsHoleBy arcs edges rings)) w.in-Some.is c.in_ok-key.ensures.hole)),
           ))
       | in_default w ↦
           (let items = ap (λ v. v.items) w.keys-is in
@@ -53,6 +57,7 @@ loop-span-preserved c =
                 omega arith,
             subst (λ (ks : List RingKey). All (IsKeyOfSome spans) ks) (sym items) c.loop-span.invariant.2,
             subst (λ (ks : List RingKey). All (IsLeastFirst edges rings) ks) (sym items) c.loop-span.invariant.3,
+            subst (λ (ks : List RingKey). All (IsHoleBy arcs edges rings) ks) (sym items) c.loop-span.invariant.4,
           ))
     ]
   where
@@ -71,8 +76,15 @@ pub returns-clause-least : goal.returns-clause-least
 returns-clause-least c =
     All-permutation (IsLeastFirst c.args.edges.now c.args.rings.now) c.loop-span.keys.items c.sort_unstable.new.self.items c.sort_unstable.ensures.permutation c.loop-span.invariant.3
 
+pub returns-clause-holes : goal.returns-clause-holes
+returns-clause-holes c =
+    All-permutation (IsHoleBy c.args.t.now c.args.edges.now c.args.rings.now) c.loop-span.keys.items c.sort_unstable.new.self.items c.sort_unstable.ensures.permutation c.loop-span.invariant.4
+
 pub returns-clause-in_order : goal.returns-clause-in_order
 returns-clause-in_order c = by_part c.sort_unstable.new.self.items c.sort_unstable.ensures.sorted
+
+pub returns-clause-sorted : goal.returns-clause-sorted
+returns-clause-sorted c = by_key c.sort_unstable.new.self.items c.sort_unstable.ensures.sorted
 
 pub returns-clause-once : goal.returns-clause-once
 returns-clause-once c = λ g.

@@ -1,5 +1,5 @@
 use Rattle.std.proofs.Common.{rules, ◌≡◌, ◌∙◌, sym, ap, subst, ℕ, ◌<◌, List, length, get_or, map, All, IfOk}
-use Rattle.std.specs.List.{sum_by}
+use Rattle.std.specs.List.{AllPairs, sum_by}
 use Rattle.std.specs.List.Sorted.{IsPermutation, IsStrictlyIncreasing}
 use Rattle.std.proofs.lemmas.Result.{IfOk-weaker}
 use Rattle.plane_model.specs.Arcs.{SignedArc}
@@ -8,12 +8,14 @@ use Rattle.ring_trace.specs.declared.joined_faces.Side.{Side}
 use Rattle.ring_trace.specs.declared.pairing.Edge.{Edge}
 use Rattle.ring_trace.specs.declared.ring_keys.RingKey.{RingKey}
 use Rattle.ring_trace.specs.Joined.{AreLeastNumbers, AreParts}
-use Rattle.ring_trace.specs.Keys.{AreByPart, IsLeastFirst, along_key}
+use Rattle.ring_trace.specs.Keys.{AreByPart, IsHoleBy, IsLeastFirst, along_key}
 use Rattle.ring_trace.specs.Pairing.{AreBalanced, AreByStart, AreEdgesOf, stop_of}
 use Rattle.ring_trace.specs.Rings.{HasEachOnce}
 use Rattle.ring_trace.specs.Traced.{BeginsWithLeast, UseParts, UsesBoundary, times_along, times_traced, is_of_boundary, once_if}
+use Rattle.ring_trace.specs.Turns.{MayStandBefore}
 use Rattle.ring_trace.specs.Ways.{IsSimpleRing, AreRingsByCorners}
 use Rattle.ring_trace.proofs.BoundaryLemmas.{sides_are}
+use Rattle.ring_trace.proofs.OrderLemmas.{polygons_in_order}
 use Rattle.ring_trace.proofs.PolygonLemmas.{keyed_least, keyed_part, parts_used, rings_all}
 use Rattle.ring_trace.proofs.TracedLemmas.{traced_once, all_ok}
 use Rattle.ring_trace.proofs.TurnLemmas.{made_starts, keyed_ring}
@@ -91,6 +93,25 @@ returns-clause-least_first c =
     let first : All (IsLeastFirst edges rings) keys = subst (λ (es : List Edge). All (IsLeastFirst es rings) keys) c.deref-4.ensures.value c.in_ok-keys.ensures.least in
     IfOk-weaker polygons (AreByPart edges rings keys) (All (All BeginsWithLeast))
     (λ ps g. rings_all BeginsWithLeast edges rings keys ps g (λ k d l. keyed_least edges rings (get_or keys k d) (c.in_ok-keys.ensures.there k d l) (first k d l)))
+    grouped
+
+pub returns-clause-in_order : goal.returns-clause-in_order
+returns-clause-in_order c =
+    let arcs = c.args.t.now in
+    let faces = c.faces-faces.result.now in
+    let sides = c.in_ok-sides.sides.items in
+    let edges = c.in_ok-edges.edges.items in
+    let rings = c.in_ok-rings.rings in
+    let classes = c.in_ok-parts.parts.joining in
+    let numbers = c.in_ok-parts.parts.numbers.items in
+    let keys = c.in_ok-keys.keys.items in
+    let polygons = c.polygons_of.result in
+    let grouped : IfOk polygons (AreByPart edges rings keys) =
+    subst (λ (es : List Edge). IfOk polygons (AreByPart es rings keys)) c.deref-5.ensures.value (subst (λ (ks : List RingKey). IfOk polygons (AreByPart c.deref-5.result.now rings ks)) c.deref-6.ensures.value c.polygons_of.ensures.by_part) in
+    let first : All (IsLeastFirst edges rings) keys = subst (λ (es : List Edge). All (IsLeastFirst es rings) keys) c.deref-4.ensures.value c.in_ok-keys.ensures.least in
+    let holes : All (IsHoleBy arcs edges rings) keys = subst (λ (es : List Edge). All (IsHoleBy arcs es rings) keys) c.deref-4.ensures.value c.in_ok-keys.ensures.holes in
+    IfOk-weaker polygons (AreByPart edges rings keys) (All (AllPairs (MayStandBefore arcs)))
+    (λ ps g. polygons_in_order arcs edges rings keys c.in_ok-keys.ensures.there first holes c.in_ok-keys.ensures.sorted ps g)
     grouped
 
 pub returns-clause-parts : goal.returns-clause-parts
