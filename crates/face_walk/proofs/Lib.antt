@@ -12,3 +12,5 @@ pub mod RayLemmas
 pub mod CornerLemmas
 pub mod RowLemmas
 pub mod BuiltLemmas
+pub mod RingStepLemmas
+pub mod RunLemmas

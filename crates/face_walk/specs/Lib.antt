@@ -3,6 +3,7 @@ pub mod Joining
 pub mod Places
 pub mod Under
 pub mod Crossings
+pub mod RingSteps
 pub mod Holders
 pub mod Numbering
 pub mod Areas

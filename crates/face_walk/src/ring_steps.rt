@@ -1,3 +1,9 @@
+ghost use Rattle.std.specs.Prelude.{◌≡◌, ℕ, ◌∷◌, ◌++◌, [], IfOk, List, OnOk, filter, length, map, nat_eq};
+ghost use Rattle.std.specs.List.Sorted.{IsNonDecreasingBy};
+ghost use Rattle.lists.specs.Lists.{joined_up};
+ghost use Rattle.plane_model.specs.Points.{Path as Way};
+ghost use Rattle.face_walk.specs.RingSteps.{AreAdded, AreStepsFrom, AreStepsOf, owners_from};
+
 use arc_table::ArcTable;
 use grid_base::{ArcId, FeatId, Path, PtList, RingsList, Snapped};
 use std::alloc::{AllocError, Global};
@@ -17,7 +23,11 @@ pub struct PolygonSteps {
     pub owners: Vec<FeatId>,
 }
 
-pub fn polygon_steps(alloc: Global, t: &ArcTable, s: &Snapped) -> Result<PolygonSteps, AllocError> {
+/// The steps of the polygons of a drawing, which are numbered feature by feature.
+pub fn polygon_steps(alloc: Global, t: &ArcTable, s: &Snapped) -> Result<PolygonSteps, AllocError>
+    ensures steps { IfOk result (λ all. AreStepsOf t.now (joined_up s.now.polygons) all.steps.items) }
+    ensures owners { IfOk result (λ all. all.owners.items ≡ owners_from 0 s.now.polygons) }
+{
     let mut all = PolygonSteps {
         steps: Vec::new(alloc),
         owners: Vec::new(alloc),
@@ -31,7 +41,9 @@ pub fn polygon_steps(alloc: Global, t: &ArcTable, s: &Snapped) -> Result<Polygon
 }
 
 /// The steps of all boxes, in order.
-pub fn box_steps(alloc: Global, t: &ArcTable, s: &Snapped) -> Result<Vec<RingStep>, AllocError> {
+pub fn box_steps(alloc: Global, t: &ArcTable, s: &Snapped) -> Result<Vec<RingStep>, AllocError>
+    ensures steps { IfOk result (λ v. AreStepsOf t.now (map (λ path. path ∷ []) s.now.boxes) v.items) }
+{
     let mut steps = Vec::new(alloc);
     for b in 0..s.box_count() {
         push_steps(alloc, &mut steps, t, b, s.box_of(b))?;
@@ -40,13 +52,19 @@ pub fn box_steps(alloc: Global, t: &ArcTable, s: &Snapped) -> Result<Vec<RingSte
     Ok(steps)
 }
 
+// The polygons of one feature more.
 fn push_polygons(
     alloc: Global,
     all: &mut PolygonSteps,
     t: &ArcTable,
     feature: FeatId,
     polygons: &RingsList,
-) -> Result<(), AllocError> {
+) -> Result<(), AllocError>
+    ensures owners { OnOk result (all.new.owners.items ≡ all.old.owners.items ++ map (λ p. feature) polygons.now) }
+    ensures steps { (before : List (List Way)) → length all.old.owners.items ≡ length before →
+        AreStepsFrom t.now 0 before all.old.steps.items →
+        OnOk result (AreStepsFrom t.now 0 (before ++ polygons.now) all.new.steps.items) }
+{
     for polygon in polygons.as_slice() {
         let number = next_number(all.owners.len())?;
         all.owners.push(feature)?;
@@ -56,7 +74,9 @@ fn push_polygons(
 }
 
 // The number of the next item of a list.
-fn next_number(count: usize) -> Result<u32, AllocError> {
+fn next_number(count: usize) -> Result<u32, AllocError>
+    ensures exact { IfOk result (λ n. n ≡ count) }
+{
     if count >= u32::MAX as usize {
         return Err(AllocError);
     }
@@ -69,7 +89,9 @@ fn push_rings(
     t: &ArcTable,
     item: u32,
     rings: &[PtList],
-) -> Result<(), AllocError> {
+) -> Result<(), AllocError>
+    ensures added { OnOk result (AreAdded t.now item rings.now steps.old.items steps.new.items) }
+{
     for ring in rings {
         push_steps(alloc, steps, t, item, ring)?;
     }
@@ -82,7 +104,9 @@ fn push_steps(
     t: &ArcTable,
     item: u32,
     path: &Path,
-) -> Result<(), AllocError> {
+) -> Result<(), AllocError>
+    ensures added { OnOk result (AreAdded t.now item (path.now ∷ []) steps.old.items steps.new.items) }
+{
     let arcs = t.path_arcs(alloc, path)?;
     for a in arcs.as_slice() {
         steps.push(RingStep { arc: a.id(), item })?;
@@ -91,8 +115,10 @@ fn push_steps(
 }
 
 /// The steps along one arc, of steps in order.
-pub fn steps_along(steps: &[RingStep], arc: ArcId) -> &[RingStep] {
-    let first = steps.partition_point(|s| s.arc < arc);
-    let count = steps[first..].partition_point(|s| s.arc == arc);
+pub fn steps_along(steps: &[RingStep], arc: ArcId) -> &[RingStep]
+    ensures exact { IsNonDecreasingBy (λ s. s.arc) steps.now → result.now ≡ filter (λ s. nat_eq s.arc arc) steps.now }
+{
+    let first = steps.partition_point(|s| s.arc.num() < arc.num());
+    let count = steps[first..].partition_point(|s| s.arc.num() == arc.num());
     &steps[first..first + count]
 }

@@ -1,8 +1,7 @@
 use Rattle.std.proofs.Common.{arith, subst}
 use Rattle.std.proofs.lemmas.Grind.{common_steps}
 use Rattle.std.proofs.lemmas.List.Elements.{All-more}
-use Rattle.face_walk.specs.Rays.{HasGridEnds, IsOnTheGrid}
-use Rattle.face_walk.specs.declared.links.ArcLink.{ArcLink}
+use Rattle.face_walk.specs.Rays.{HasGridEnds}
 use Rattle.face_walk.proofs.links.boxes_of.Goals as goal
 
 pub loop-l-preserved : goal.loop-l-preserved

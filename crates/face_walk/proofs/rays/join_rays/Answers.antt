@@ -1,4 +1,4 @@
-use Rattle.std.proofs.Common.{◌≡◌, ◌∙◌, ◌+◌, ◌∷◌, [], ◌++◌, sym, ap, subst, arith, ℕ, List, length, true}
+use Rattle.std.proofs.Common.{◌≡◌, ◌∙◌, ◌∷◌, [], ◌++◌, sym, ap, subst, arith, ℕ, List, length, true}
 use Rattle.face_walk.specs.Joining.{made_one}
 use Rattle.face_walk.specs.Rays.{IsMinimum}
 use Rattle.face_walk.specs.Rows.{start_at, starts_row}

@@ -1,4 +1,4 @@
-use Rattle.std.proofs.Common.{◌≡◌, ◌∙◌, sym, ap, arith, ℕ, List, length}
+use Rattle.std.proofs.Common.{◌∙◌, sym, ap, arith, ℕ, List, length}
 use Rattle.face_walk.specs.Joining.{made_one}
 use Rattle.face_walk.specs.Places.{place_of}
 use Rattle.face_walk.specs.Sectors.{arc_at, place_right_of, sector_after}

@@ -1,9 +1,8 @@
-use Rattle.std.proofs.Common.{◌≡◌, sym, subst, Option, get_or}
+use Rattle.std.proofs.Common.{sym, subst, get_or}
 use Rattle.std.proofs.lemmas.List.{get_or_default}
-use Rattle.plane_model.specs.Points.{GridPoint}
 use Rattle.grid_base.specs.Grid.{Corners}
 use Rattle.bucket_grid.specs.Areas.{whole}
-use Rattle.face_walk.proofs.RayLemmas.{IsDownTo, IsReached, reached_after, near_of, at_first, is_topmost}
+use Rattle.face_walk.proofs.RayLemmas.{IsDownTo, IsReached, reached_after, near_of}
 use Rattle.face_walk.proofs.rays.LinkSearch.topmost_below.Goals as goal
 
 pub loop-next-preserved : goal.loop-next-preserved

@@ -1,4 +1,4 @@
-use Rattle.std.proofs.Common.{ℕ, suc, zero, unsigned_abs, pos, ◌+ℤ◌, Option, Some, None}
+use Rattle.std.proofs.Common.{ℕ, suc, unsigned_abs, pos, ◌+ℤ◌, Option, Some, None}
 use Rattle.plane_model.specs.Points.{GridPoint}
 use Rattle.face_walk.specs.Descent.{IsFound}
 use Rattle.face_walk.proofs.RayLemmas.{IsReached}
