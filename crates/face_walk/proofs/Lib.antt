@@ -14,3 +14,4 @@ pub mod RowLemmas
 pub mod BuiltLemmas
 pub mod RingStepLemmas
 pub mod RunLemmas
+pub mod OddLemmas

@@ -1,5 +1,5 @@
 -- Which polygon features, and which boxes, hold each face.
-use Rattle.std.specs.Prelude.{◌≡◌, ◌↔◌, ℕ, Bool, nat_eq, ◌&&◌, List, [], All, Contains, Some, slice_get, slice_index_or}
+use Rattle.std.specs.Prelude.{◌≡◌, ◌⊎◌, ◌↔◌, ℕ, ◌<◌, Bool, nat_eq, List, [], All, Contains, Some, filter, length, slice_get, slice_index_or}
 use Rattle.std.specs.List.Sorted.{IsStrictlyIncreasing}
 use Rattle.plane_model.specs.Parity.{xor, odd_count}
 use Rattle.face_walk.specs.declared.crossings.Crossing.{Crossing}
@@ -9,40 +9,48 @@ pub record HolderTable : Type 0 where
   pub holders : List (List ℕ)
   pub boxes : List (List ℕ)
 
--- n stands in the list an odd number of times; in an ascending list, that it is there
+-- n stands in the list an odd number of times; in a list that rises, that it is there
 abbrev pub stands_oddly : List ℕ → ℕ → Bool
 stands_oddly numbers n = odd_count (nat_eq n) numbers
 
--- the numbers that stand in a list an odd number of times, ascending
+-- the numbers that stand in a list an odd number of times, rising
 pub record AreOddOnes (numbers odd : List ℕ) : Type 0 where
-  pub ascending : IsStrictlyIncreasing odd
+  pub rising : IsStrictlyIncreasing odd
   pub parity : (n : ℕ) → stands_oddly odd n ≡ stands_oddly numbers n
 
--- one number more: it comes into the list, or goes out of it where it is the last
-pub record IsTurned (old : List ℕ) (n : ℕ) (new : List ℕ) : Type 0 where
-  pub ascending : IsStrictlyIncreasing new
+-- the list with n, or where it has n without it
+pub record IsFlipped (old : List ℕ) (n : ℕ) (new : List ℕ) : Type 0 where
+  pub rising : IsStrictlyIncreasing new
   pub parity : (m : ℕ) → stands_oddly new m ≡ xor (stands_oddly old m) (nat_eq m n)
 
--- item i steps along the arc an odd number of times
-abbrev pub steps_oddly : List RingStep → ℕ → ℕ → Bool
-steps_oddly steps arc i = odd_count (λ (s : RingStep). nat_eq s.arc arc && nat_eq i s.item) steps
+-- the steps along an arc
+abbrev pub steps_on : List RingStep → ℕ → List RingStep
+steps_on steps arc = filter (λ (s : RingStep). nat_eq s.arc arc) steps
 
--- the ascending items of the face across an arc: of two faces beside it, an item is in the list of just one exactly where it steps along
--- the arc an odd number of times
-pub record AreAcross (steps : List RingStep) (arc : ℕ) (from into : List ℕ) : Type 0 where
-  pub ascending : IsStrictlyIncreasing into
-  pub parity : (i : ℕ) → stands_oddly into i ≡ xor (stands_oddly from i) (steps_oddly steps arc i)
+-- the items across an arc, rising: an item is in just one of the two lists exactly where it steps along the arc an odd number of times
+pub record AreAcross (along : List RingStep) (from into : List ℕ) : Type 0 where
+  pub rising : IsStrictlyIncreasing into
+  pub parity : (i : ℕ) → stands_oddly into i ≡ xor (stands_oddly from i) (odd_count (λ (s : RingStep). nat_eq i s.item) along)
 
--- the items of a face
-abbrev pub items_at : List (List ℕ) → ℕ → List ℕ
-items_at lists f = slice_index_or lists f []
+-- the list of a face
+abbrev pub list_at : List (List ℕ) → ℕ → List ℕ
+list_at lists f = slice_index_or lists f []
 
 -- lists of items for faces: the outer face has none, and each crossing leads on by the steps along its arc
 pub record AreHeldBy (steps : List RingStep) (outer : ℕ) (crossings : List Crossing) (held : List (List ℕ)) : Type 0 where
-  pub outer_free : items_at held outer ≡ []
-  pub across : All (λ (c : Crossing). AreAcross steps c.arc (items_at held c.from) (items_at held c.into)) crossings
+  pub outer_free : list_at held outer ≡ []
+  pub across : All (λ (c : Crossing). AreAcross (steps_on steps c.arc) (list_at held c.from) (list_at held c.into)) crossings
 
--- the features that own some item of a list, ascending
+-- the list with n in it
+pub record IsPut (old : List ℕ) (n : ℕ) (new : List ℕ) : Type 0 where
+  pub rising : IsStrictlyIncreasing new
+  pub each : (m : ℕ) → Contains new m ↔ (Contains old m ⊎ (m ≡ n))
+
+-- the features that own some item of a list, rising
 pub record AreOwnersOf (owners items features : List ℕ) : Type 0 where
-  pub ascending : IsStrictlyIncreasing features
+  pub rising : IsStrictlyIncreasing features
   pub each : (f : ℕ) → Contains features f ↔ ((i : ℕ) × Contains items i × (slice_get owners i ≡ Some f))
+
+-- the same for each face
+abbrev pub AreOwnersOfEach : List ℕ → List (List ℕ) → List (List ℕ) → Type 0
+AreOwnersOfEach owners items features = (f : ℕ) → f < length items → AreOwnersOf owners (list_at items f) (list_at features f)

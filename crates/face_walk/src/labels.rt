@@ -1,4 +1,6 @@
-ghost use Rattle.std.specs.Prelude.{◌≡◌, ◌<◌, [], All, IfOk, length, slice_index_or};
+ghost use Rattle.std.specs.Prelude.{◌≡◌, ◌-◌, ◌<◌, ◌≤◌, [], true, false, All, IfOk, OnOk, Some, length, slice_get, slice_index_or};
+ghost use Rattle.std.specs.List.Sorted.{IsNonDecreasing, IsStrictlyIncreasing};
+ghost use Rattle.face_walk.specs.Holders.{AreAcross, AreOddOnes, AreOwnersOf, IsFlipped, IsPut};
 ghost use Rattle.face_walk.specs.Places.{IsBuiltOf};
 ghost use Rattle.face_walk.specs.Crossings.{IsCrossing};
 
@@ -93,7 +95,9 @@ fn empty_lists(alloc: Global, count: u32) -> Result<Vec<Vec<u32>>, AllocError>
 
 // The items that hold a face across an arc from a face that `held` holds: those that are in one of the two lists, or
 // that step along the arc an even number of times and are in `held`.
-fn flipped(alloc: Global, held: &[u32], steps: &[RingStep]) -> Result<Vec<u32>, AllocError> {
+fn flipped(alloc: Global, held: &[u32], steps: &[RingStep]) -> Result<Vec<u32>, AllocError>
+    ensures exact { IfOk result (λ v. AreAcross steps.now held.now v.items) }
+{
     let mut items = Vec::from_slice(alloc, held)?;
     for s in steps {
         items.push(s.item)?;
@@ -103,16 +107,39 @@ fn flipped(alloc: Global, held: &[u32], steps: &[RingStep]) -> Result<Vec<u32>, 
 }
 
 // Of numbers in order, those that stand an odd number of times, each once.
-fn odd_ones(alloc: Global, sorted: &[u32]) -> Result<Vec<u32>, AllocError> {
+fn odd_ones(alloc: Global, sorted: &[u32]) -> Result<Vec<u32>, AllocError>
+    requires sorted { IsNonDecreasing sorted.now }
+    ensures exact { IfOk result (λ v. AreOddOnes sorted.now v.items) }
+{
     let mut odd = Vec::new(alloc);
     for n in sorted {
-        if odd.last() == Some(n) {
-            odd.pop();
-        } else {
-            odd.push(*n)?;
-        }
+        flip_number(&mut odd, *n)?;
     }
     Ok(odd)
+}
+
+// Puts a number behind lesser ones, or takes it away where it is there.
+fn flip_number(odd: &mut Vec<u32>, n: u32) -> Result<(), AllocError>
+    requires rising { IsStrictlyIncreasing odd.old.items }
+    requires low { All (λ m. m ≤ n) odd.old.items }
+    ensures flipped { OnOk result (IsFlipped odd.old.items n odd.new.items) }
+{
+    if ends_in(odd, n) {
+        odd.pop();
+    } else {
+        odd.push(n)?;
+    }
+    Ok(())
+}
+
+fn ends_in(numbers: &[u32], n: u32) -> bool
+    ensures yes { result ≡ true → slice_get numbers.now (length numbers.now - 1) ≡ Some n }
+    ensures no { result ≡ false → slice_get numbers.now (length numbers.now - 1) ≡ Some n → ⊥ }
+{
+    match numbers.last() {
+        Some(last) => *last == n,
+        None => false,
+    }
 }
 
 // The features of polygons, for each face.
@@ -130,15 +157,42 @@ fn owner_lists(
     Ok(lists)
 }
 
-// The features of ascending polygons, each once.
-fn owners_of(alloc: Global, owners: &[FeatId], items: &[u32]) -> Result<Vec<FeatId>, AllocError> {
+// The features of rising polygons, each once.
+fn owners_of(alloc: Global, owners: &[FeatId], items: &[u32]) -> Result<Vec<FeatId>, AllocError>
+    ensures exact { IsNonDecreasing owners.now → IsStrictlyIncreasing items.now → IfOk result (λ v. AreOwnersOf owners.now items.now v.items) }
+{
     let mut features = Vec::new(alloc);
     for i in items {
-        if let Some(owner) = owners.get(*i as usize) {
-            if features.last() != Some(owner) {
-                features.push(*owner)?;
-            }
+        if let Some(owner) = owner_of(owners, *i) {
+            put_owner(&mut features, owner)?;
         }
     }
     Ok(features)
+}
+
+fn owner_of(owners: &[FeatId], i: u32) -> Option<FeatId>
+    ensures exact { result ≡ slice_get owners.now i }
+{
+    owners.get(i as usize).copied()
+}
+
+// Puts a feature behind lesser ones where it is not there.
+fn put_owner(features: &mut Vec<FeatId>, owner: FeatId) -> Result<(), AllocError>
+    ensures put { IsStrictlyIncreasing features.old.items → All (λ m. m ≤ owner) features.old.items →
+        OnOk result (IsPut features.old.items owner features.new.items) }
+{
+    if !ends_in_feature(features, owner) {
+        features.push(owner)?;
+    }
+    Ok(())
+}
+
+fn ends_in_feature(features: &[FeatId], f: FeatId) -> bool
+    ensures yes { result ≡ true → slice_get features.now (length features.now - 1) ≡ Some f }
+    ensures no { result ≡ false → slice_get features.now (length features.now - 1) ≡ Some f → ⊥ }
+{
+    match features.last() {
+        Some(last) => last.num() == f.num(),
+        None => false,
+    }
 }
