@@ -26,7 +26,7 @@ pub const MAX_STEPS: u32 = 42;
 const MAX_CUTS: u32 = 40;
 
 // An area that meets so few boxes is not divided.
-const BUCKET_SIZE: u32 = 16;
+const BUCKET_SIZE: u32 = 24;
 
 // So many boxes are to come into a cell of a column, on the average.
 const CELL_SIZE: u64 = 8;
