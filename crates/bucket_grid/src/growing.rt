@@ -74,7 +74,7 @@ fn division_of(
     cut_of(alloc, boxes, near, area)
 }
 
-// Whether a division leaves each part with fewer boxes, and does not list too many boxes twice.
+// Whether a cut leaves each part with fewer boxes, and does not list too many boxes twice.
 fn is_helpful(all: u32, lists: &[IdList]) -> bool {
     let mut count = 0u64;
     let mut largest = 0;
@@ -105,7 +105,8 @@ pub fn grow(
         return add_leaf(forest, area, near);
     };
     let mut lists = slab_lists(alloc, boxes, near.as_slice(), &slabs)?;
-    if steps <= MAX_CUTS && !is_helpful(near.len(), &lists) {
+    // Many slabs have their width from the boxes; only the lists of a cut show whether it parts them.
+    if slabs.last == 1 && !is_helpful(near.len(), &lists) {
         return add_leaf(forest, area, near);
     }
     drop(near);
