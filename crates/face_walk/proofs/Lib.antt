@@ -15,3 +15,4 @@ pub mod BuiltLemmas
 pub mod RingStepLemmas
 pub mod RunLemmas
 pub mod OddLemmas
+pub mod CrossingLemmas

@@ -87,6 +87,9 @@ module _ (faces : List ℕ) (arcs : List SignedArc) (key : SignedArc → ℕ) (i
       let size = length-take-le count rest (omega arith) in
       (λ i. test (get_or-take count rest k d (omega arith) i)) ∙ (λ i. nat_eq (rest_key k d (omega arith) i) f) ∙ at_count.0 k 0 (omega arith) (omega arith)
 
+  pub all_of_one : All (λ (a : SignedArc). key a ≡ f) (take count rest)
+  all_of_one k d l = eqb-true (key (get_or (take count rest) k d)) f (inside k d l)
+
   after : All (λ (a : SignedArc). test a ≡ false) (drop count rest)
   after k d l =
       let n = rest_size in

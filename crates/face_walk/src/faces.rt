@@ -1,7 +1,7 @@
 ghost use Rattle.std.specs.Prelude.{◌≡◌, ◌+◌, ◌*◌, ◌<◌, ◌≤◌, All, IfOk, List, Some, ℕ, length, map, slice_get};
 ghost use Rattle.plane_model.specs.Points.{Path};
 ghost use Rattle.face_walk.specs.Areas.{area_within};
-ghost use Rattle.face_walk.specs.Places.{HasArc, HasJoins, HasPlaces, IsBuiltOf, IsFaceOver, areas_of_faces, arcs_with_left, place_of};
+ghost use Rattle.face_walk.specs.Places.{HasArc, HasJoins, HasPlaces, IsBuiltOf, IsFaceOver, areas_of_faces, arcs_with_left, face_left_of, place_of};
 ghost use Rattle.face_walk.specs.Rays.{AreLinksOf};
 ghost use Rattle.face_walk.specs.Sides.{AreListed};
 
@@ -125,6 +125,7 @@ impl Faces {
     /// The signed arcs that a face is left of, in order.
     pub fn arcs_of(&self, f: FaceId) -> &[SignedArc]
         ensures exact { (arcs : List Path) → IsBuiltOf arcs self.now → result.now ≡ arcs_with_left self.now.places (length arcs) f }
+        ensures left { All (λ a. face_left_of self.now.places a ≡ f) result.now }
         ensures there { All (HasArc self.now) result.now }
     {
         arcs_left(&self.side_faces, &self.side_arcs, f.num())
@@ -157,6 +158,7 @@ fn arcs_left<'a>(faces: &[u32], arcs: &'a [SignedArc], f: u32) -> &'a [SignedArc
     requires { length faces.now ≡ length arcs.now }
     ensures exact { (places : List ℕ) (many : ℕ) → AreListed places faces.now arcs.now → length places ≡ 2 * many + 1 →
         result.now ≡ arcs_with_left places many f }
+    ensures left { (places : List ℕ) → AreListed places faces.now arcs.now → All (λ a. face_left_of places a ≡ f) result.now }
     ensures below { (n : ℕ) → All (λ a. a.arc < n) arcs.now → All (λ a. a.arc < n) result.now }
     ensures there { (m : ℕ) → All (HasPlaces m) arcs.now → All (HasPlaces m) result.now }
 {

@@ -2,7 +2,7 @@ ghost use Rattle.std.specs.Prelude.{◌≡◌, ◌-◌, ◌<◌, ◌≤◌, [], 
 ghost use Rattle.std.specs.List.Sorted.{IsNonDecreasing, IsStrictlyIncreasing};
 ghost use Rattle.face_walk.specs.Holders.{AreAcross, AreOddOnes, AreOwnersOf, IsFlipped, IsPut};
 ghost use Rattle.face_walk.specs.Places.{IsBuiltOf};
-ghost use Rattle.face_walk.specs.Crossings.{IsCrossing};
+ghost use Rattle.face_walk.specs.Crossings.{AreCrossings};
 
 use crate::crossings::{Crossing, crossings_of};
 use crate::faces::Faces;
@@ -71,7 +71,7 @@ fn held_lists(
     crossings: &[Crossing],
     steps: &[RingStep],
 ) -> Result<Vec<Vec<u32>>, AllocError>
-    requires there { All (IsCrossing f.now) crossings.now }
+    requires crossings { AreCrossings f.now crossings.now }
     ensures each { IfOk result (λ v. length v.items ≡ f.now.count) }
 {
     let mut held = empty_lists(alloc, f.count())?;
