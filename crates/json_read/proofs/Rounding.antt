@@ -7,7 +7,8 @@ use Rattle.std.proofs.lemmas.Int.{ints}
 use Rattle.std.proofs.lemmas.Nat.{div-mul-add, mod-mul-add, div-add-mod'}
 use Rattle.std.proofs.Math.Nat.{mul_comm, mod-lt, one-le-pow, mul-le-mul_right}
 use Rattle.json_read.specs.Numeral.{signed, numeral_of, number_of, rounded, floor_div, checked_grid, grid_at, grid_of_text}
-use Rattle.json_read.specs.Scaling.{IsRead, IsScaled, goes_up, one_if, units_cap}
+use Rattle.json_read.specs.Plain.{IsSize}
+use Rattle.json_read.specs.Scaling.{IsScaled, goes_up, one_if, units_cap}
 use Rattle.json_read.specs.declared.numerals.Scaled.{Scaled}
 use Rattle.json_read.proofs.Scaling.{div-small, mod-small, pow_ten}
 use Rattle.json_read.proofs.Shifts.{shifted}
@@ -331,9 +332,9 @@ grid_none minus n s r size h e l =
     let large : 2000000000 < g.0 + one_if (goes_up minus r) = omega (arith, g.1, e, l) in
     ap (λ (z : ℤ). checked_grid z) g.2 ∙ ap (λ (b : Bool). cond b (Some (signed minus (g.0 + one_if (goes_up minus r)))) None) (ap (λ (x : ℕ). nat_le x 2000000000) (signed_size minus (g.0 + one_if (goes_up minus r))) ∙ too_large (g.0 + one_if (goes_up minus r)) large)
 
-pub text_grid : (places : ℕ) (bytes text whole fraction : List ℕ) (minus : Bool) (p : ℤ) → bytes ≡ text → (h : IsRead (numeral_of bytes) minus whole fraction p) → grid_of_text places text ≡ checked_grid (rounded (signed minus (number_of (whole ++ fraction))) (shifted h.exponent (length fraction) places))
+pub size_grid : (places : ℕ) (bytes text : List ℕ) (minus : Bool) (r : Scaled) → bytes ≡ text → (h : IsSize places (numeral_of bytes) minus r) → grid_of_text places text ≡ checked_grid (rounded (signed minus h.number) (h.exponent +ℤ pos places))
 unfolding grid_of_text
-text_grid places bytes text whole fraction minus p e h = ap (λ (t : List ℕ). grid_at places (numeral_of t)) (sym e) ∙ ap (grid_at places) h.numeral_is
+size_grid places bytes text minus r e h = ap (λ (t : List ℕ). grid_at places (numeral_of t)) (sym e) ∙ ap (grid_at places) h.numeral_is
 
 pub no_grid : (places : ℕ) (bytes text : List ℕ) → bytes ≡ text → numeral_of bytes ≡ None → grid_of_text places text ≡ None
 unfolding grid_of_text

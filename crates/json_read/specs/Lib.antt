@@ -14,6 +14,7 @@ pub mod Numeral
 pub mod Decimal
 pub mod Text
 pub mod Scaling
+pub mod Plain
 pub mod Value
 pub mod Table
 pub mod Proper

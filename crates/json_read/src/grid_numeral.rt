@@ -1,8 +1,10 @@
-ghost use Rattle.std.specs.Prelude.{◌≡◌, ◌≤◌, ◌<◌, ◌^◌};
-ghost use Rattle.json_read.specs.Numeral.{grid_of_text, signed};
+ghost use Rattle.std.specs.Prelude.{◌≡◌, ◌≤◌, ◌<◌, ◌^◌, None, MatchOption};
+ghost use Rattle.json_read.specs.Numeral.{grid_of_text, numeral_of, signed};
+ghost use Rattle.json_read.specs.Plain.{IsSize};
 ghost use Rattle.json_read.specs.Scaling.{goes_up, one_if};
 
 use crate::numerals::{Numeral, Scaled};
+use crate::plain_numeral::Plain;
 
 /// Grid numbers go this far, either way.
 const GRID_LIMIT: u128 = 2_000_000_000;
@@ -16,13 +18,29 @@ const GRID_LIMIT: u128 = 2_000_000_000;
 pub fn numeral_to_grid(text: &str, places: u8) -> Option<i64>
     ensures exact { result ≡ grid_of_text places text.now }
 {
-    let numeral = Numeral::read(text.as_bytes())?;
-    let scaled = numeral.scaled(places);
-    let size = scaled.units + rounding(&scaled, numeral.minus);
+    let (minus, scaled) = size_of(text.as_bytes(), places)?;
+    let size = scaled.units + rounding(&scaled, minus);
     if size > GRID_LIMIT {
         return None;
     }
-    Some(with_sign(numeral.minus, size))
+    Some(with_sign(minus, size))
+}
+
+// Whether a numeral has a minus, and its size in units of 10^-`places`.
+fn size_of(text: &[u8], places: u8) -> Option<(bool, Scaled)>
+    ensures { MatchOption result (numeral_of text.now ≡ None) (λ r. IsSize places (numeral_of text.now) r.0 r.1) }
+{
+    match Plain::read(text) {
+        Some(plain) => Some((plain.minus, plain.scaled(places))),
+        None => any_size_of(text, places),
+    }
+}
+
+fn any_size_of(text: &[u8], places: u8) -> Option<(bool, Scaled)>
+    ensures { MatchOption result (numeral_of text.now ≡ None) (λ r. IsSize places (numeral_of text.now) r.0 r.1) }
+{
+    let numeral = Numeral::read(text)?;
+    Some((numeral.minus, numeral.scaled(places)))
 }
 
 // What rounding adds to the size. Halves go up: away from zero above it, towards zero below it.

@@ -26,6 +26,7 @@ mod json;
 pub mod laws;
 mod numerals;
 mod parsing;
+mod plain_numeral;
 mod printing;
 mod reader;
 mod table;

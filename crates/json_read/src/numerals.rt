@@ -193,8 +193,8 @@ pub(crate) fn digit_count(text: &[u8]) -> usize
     n
 }
 
-// One digit, or digits that do not begin with zero.
-fn is_whole(digits: &[u8]) -> bool
+/// One digit, or digits that do not begin with zero.
+pub(crate) fn is_whole(digits: &[u8]) -> bool
     ensures { result ≡ is_whole_part digits.now }
 {
     match digits {
@@ -204,8 +204,8 @@ fn is_whole(digits: &[u8]) -> bool
     }
 }
 
-// A point and digits, or nothing; and what stands behind.
-fn read_fraction(text: &[u8]) -> Option<(&[u8], &[u8])>
+/// A point and digits, or nothing; and what stands behind.
+pub(crate) fn read_fraction(text: &[u8]) -> Option<(&[u8], &[u8])>
     ensures { MatchOption result (fraction_part text.now ≡ None) (λ p. fraction_part text.now ≡ Some (p.0.now, p.1.now)) }
 {
     let [b'.', behind @ ..] = text else {
@@ -290,8 +290,8 @@ fn holds_zeros(digits: &[u8]) -> bool
     digits.iter().all(|digit| *digit == b'0')
 }
 
-// n * 10^power, counted no further than 10^36.
-fn raised(n: u128, power: u128) -> u128
+/// n * 10^power, counted no further than 10^36.
+pub(crate) fn raised(n: u128, power: u128) -> u128
     requires { n ≤ units_cap }
     ensures { result ≡ min (n * 10 ^ power) units_cap }
 {
