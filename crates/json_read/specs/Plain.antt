@@ -1,9 +1,17 @@
 -- Numerals by the number of their digits.
-use Rattle.std.specs.Prelude.{ℕ, ℤ, Bool, ◌≡◌, ◌≤◌, pos, ◌+ℤ◌, ◌-ℤ◌, Option, Some}
-use Rattle.json_read.specs.Numeral.{Numeral, signed}
+use Rattle.std.specs.Prelude.{ℕ, ℤ, Bool, ◌≡◌, ◌≤◌, pos, ◌+ℤ◌, ◌-ℤ◌, List, [], length, Option, Some}
+use Rattle.json_read.specs.Numeral.{Numeral, fraction_part, number_onto, signed}
 use Rattle.json_read.specs.Scaling.{IsScaled}
 use Rattle.json_read.specs.declared.numerals.Scaled.{Scaled}
 use Rattle.json_read.specs.declared.plain_numeral.Plain.{Plain}
+
+-- the text is a point and digits, or nothing: so many digits, and their number behind n
+pub record HasFraction (n : ℕ) (text : List ℕ) (number count : ℕ) : Type 0 where
+  pub digits : List ℕ
+  pub fraction_is : fraction_part text ≡ Some (digits, [])
+  pub number_is : number ≡ number_onto n digits
+  pub count_is : count ≡ length digits
+  pub few : count ≤ 18
 
 -- the numeral is the number of its digits, so many of them behind the point
 pub record IsPlain (v : Option Numeral) (p : Plain) : Type 0 where

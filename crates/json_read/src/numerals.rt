@@ -175,7 +175,7 @@ fn cut_behind(units: u128, tenths: u8, rest: &[u8], rest_end: &[u8]) -> Scaled
     }
 }
 
-fn is_digit(byte: u8) -> bool
+pub(crate) fn is_digit(byte: u8) -> bool
     ensures { result ≡ is_a_digit byte }
 {
     byte.is_ascii_digit()
@@ -204,8 +204,8 @@ pub(crate) fn is_whole(digits: &[u8]) -> bool
     }
 }
 
-/// A point and digits, or nothing; and what stands behind.
-pub(crate) fn read_fraction(text: &[u8]) -> Option<(&[u8], &[u8])>
+// A point and digits, or nothing; and what stands behind.
+fn read_fraction(text: &[u8]) -> Option<(&[u8], &[u8])>
     ensures { MatchOption result (fraction_part text.now ≡ None) (λ p. fraction_part text.now ≡ Some (p.0.now, p.1.now)) }
 {
     let [b'.', behind @ ..] = text else {

@@ -1,9 +1,9 @@
-ghost use Rattle.std.specs.Prelude.{◌≡◌, ℕ, suc, ◌<◌, ◌≤◌, ◌^◌, pos, ◌+ℤ◌, ◌-ℤ◌, IfSome};
-ghost use Rattle.json_read.specs.Numeral.{number_onto, numeral_of, unsigned_numeral};
-ghost use Rattle.json_read.specs.Plain.{IsPlain};
+ghost use Rattle.std.specs.Prelude.{◌≡◌, ℕ, suc, ◌<◌, ◌≤◌, ◌^◌, pos, ◌+ℤ◌, ◌-ℤ◌, IfSome, length, take};
+ghost use Rattle.json_read.specs.Numeral.{digits_at, number_onto, numeral_of, unsigned_numeral};
+ghost use Rattle.json_read.specs.Plain.{HasFraction, IsPlain};
 ghost use Rattle.json_read.specs.Scaling.{IsScaled, IsCut};
 
-use crate::numerals::{Scaled, digit_count, is_whole, raised, read_fraction};
+use crate::numerals::{Scaled, is_digit, is_whole, raised};
 
 /// A digit may follow a number below this: 10^17.
 const NUMBER_LIMIT: u64 = 100_000_000_000_000_000;
@@ -34,19 +34,16 @@ impl Plain {
     fn read_unsigned(minus: bool, text: &[u8]) -> Option<Plain>
         ensures { IfSome result (λ p. IsPlain (unsigned_numeral minus text.now) p) }
     {
-        let (whole, rest) = text.split_at(digit_count(text));
+        let (number, count) = front_number(0, text)?;
+        let (whole, rest) = text.split_at(count);
         if !is_whole(whole) {
             return None;
         }
-        let (fraction, rest) = read_fraction(rest)?;
-        if !rest.is_empty() || fraction.len() > GREATEST_FRACTION {
-            return None;
-        }
-        let number = short_number(short_number(0, whole)?, fraction)?;
+        let (number, fraction) = fraction_number(number, rest)?;
         Some(Plain {
             minus,
             number,
-            fraction: fraction.len(),
+            fraction,
         })
     }
 
@@ -67,18 +64,37 @@ impl Plain {
     }
 }
 
-// The number of these digits behind those that `n` counts, unless it might pass a machine word.
-fn short_number(n: u64, digits: &[u8]) -> Option<u64>
-    ensures { IfSome result (λ r. r ≡ number_onto n digits.now) }
+// The number of the digits at the front behind those that `n` counts, and how many they are; none where the
+// number might pass a machine word.
+fn front_number(n: u64, text: &[u8]) -> Option<(u64, usize)>
+    ensures number { IfSome result (λ r. r.0 ≡ number_onto n (take r.1 text.now)) }
+    ensures count { IfSome result (λ r. r.1 ≡ length (digits_at text.now)) }
+    ensures fits { IfSome result (λ r. r.1 ≤ length text.now) }
 {
-    let mut n = n;
-    for digit in digits {
-        if n >= NUMBER_LIMIT {
+    let mut number = n;
+    let mut count = 0;
+    while count < text.len() && is_digit(text[count]) {
+        if number >= NUMBER_LIMIT {
             return None;
         }
-        n = n * 10 + u64::from(digit.saturating_sub(b'0'));
+        number = number * 10 + u64::from(text[count] - b'0');
+        count += 1;
     }
-    Some(n)
+    Some((number, count))
+}
+
+// The same of a point and digits up to the end, or of nothing.
+fn fraction_number(n: u64, text: &[u8]) -> Option<(u64, usize)>
+    ensures { IfSome result (λ r. HasFraction n text.now r.0 r.1) }
+{
+    let [b'.', behind @ ..] = text else {
+        return if text.is_empty() { Some((n, 0)) } else { None };
+    };
+    let (number, count) = front_number(n, behind)?;
+    if count == 0 || count < behind.len() || count > GREATEST_FRACTION {
+        return None;
+    }
+    Some((number, count))
 }
 
 // The size of a number whose last `dropped` digits stand behind the units.
