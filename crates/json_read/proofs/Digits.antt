@@ -1,9 +1,12 @@
 -- The digits of a number, written from the last one on.
-use Rattle.std.proofs.Common.{ℕ, zero, suc, ◌≡◌, ◌+◌, ◌/◌, ◌%◌, ◌<◌, ◌≤◌, List, [], ◌∷◌, ◌++◌, Bool, false, cond, ◌==◌, refl, ap, ◌∙◌, sym, length, drop, set, length-set, add-one, ne_eqb, arith, append_assoc, ◌^◌, ◌⊎◌, inl, inr, ◌≢◌, ℤ, decimal, Option, Some, None}
+use Rattle.std.proofs.Common.{ℕ, zero, suc, ◌≡◌, ◌+◌, ◌*◌, lit<, ◌/◌, ◌%◌, ◌<◌, ◌≤◌, List, [], ◌∷◌, ◌++◌, Bool, false, cond, ◌==◌, refl, ap, ◌∙◌, sym, length, drop, set, length-set, add-one, ne_eqb, arith, append_assoc, ◌^◌, ◌⊎◌, inl, inr, ◌≢◌, ℤ, decimal, Option, Some, None}
 use Rattle.std.specs.Prelude.{unsigned_abs}
 use Rattle.std.proofs.lemmas.List.{drop-set}
+use Rattle.std.proofs.Math.Nat.{div-div-eq-div-mul, one-le-pow, mul_comm, div-one}
+use Rattle.std.proofs.Math.Arith.{mod-mul}
 use Rattle.json_read.specs.Decimal.{last_digits, trimmed_digits, fraction_text, decimal_text, decimal_of_text, sign_text, is_negative}
 use Rattle.json_read.specs.Text.{number_text}
+use Rattle.json_read.proofs.Scaling.{pow_ten}
 
 -- one more digit, in front of those that stand already
 pub last_digits-suc : (k n : ℕ) (rest : List ℕ) → last_digits (suc k) n ++ rest ≡ last_digits k (n / 10) ++ ((48 + n % 10) ∷ rest)
@@ -50,6 +53,25 @@ digits_step room j i n n0 e l h =
 -- a step of the loop that drops a zero
 pub trim_step : (i j n : ℕ) → i ≡ j + 1 → n % 10 ≡ 0 → trimmed_digits i n ≡ trimmed_digits j (n / 10)
 trim_step i j n e z = ap (λ (k : ℕ). trimmed_digits k n) (e ∙ add-one j) ∙ trimmed_digits-zero j n z
+
+-- many zeros at the end fall away at once
+trim_many : (k j n : ℕ) → n % 10 ^ k ≡ 0 → trimmed_digits (j + k) n ≡ trimmed_digits j (n / 10 ^ k)
+trim_many zero j n e =
+    let none : j + 0 ≡ j = omega arith in
+    ap (λ (i : ℕ). trimmed_digits i n) none ∙ ap (λ (m : ℕ). trimmed_digits j m) (sym (div-one n))
+trim_many (suc k) j n e =
+    let P : ℕ = 10 ^ k in
+    let positive : 0 < P = one-le-pow k 10 (lit< tt) in
+    let split : n % (P * 10) ≡ (n / 10 % P) * 10 + n % 10 = mod-mul n positive (lit< tt) in
+    let whole : n % (P * 10) ≡ 0 = ap (λ (x : ℕ). n % x) (sym (pow_ten k)) ∙ e in
+    let last : n % 10 ≡ 0 = omega (arith, split, whole) in
+    let front : n / 10 % P ≡ 0 = omega (arith, split, whole) in
+    let one_more : j + suc k ≡ suc (j + k) = omega arith in
+    ap (λ (i : ℕ). trimmed_digits i n) one_more ∙ trimmed_digits-zero (j + k) n last ∙ trim_many k j (n / 10) front
+    ∙ ap (λ (m : ℕ). trimmed_digits j m) (div-div-eq-div-mul n 10 P ∙ ap (λ (x : ℕ). n / x) (mul_comm 10 P ∙ sym (pow_ten k)))
+
+pub trim_nine : (n : ℕ) → n % 1000000000 ≡ 0 → trimmed_digits 18 n ≡ trimmed_digits 9 (n / 1000000000)
+trim_nine n e = trim_many 9 9 n e
 
 -- where it ends: no digits are left, or the last one is no zero
 pub trim_end : (i n : ℕ) → (i ≡ 0) ⊎ (n % 10 ≢ 0) → trimmed_digits i n ≡ last_digits i n

@@ -14,6 +14,8 @@ use std::marker::Model;
 const ONE: u128 = 1_000_000_000_000_000_000;
 
 const DECIMAL_PLACES: u8 = 18;
+/// A multiple of this ends in nine zeros.
+const NINE_ZEROS: u64 = 1_000_000_000;
 /// Units are below this, either way: 10^36.
 const UNITS_END: u128 = 1_000_000_000_000_000_000_000_000_000_000_000_000;
 
@@ -166,13 +168,27 @@ fn print_fraction(fraction: u64, out: &mut Bytes) -> Result<(), AllocError>
     print_digits(fraction, out)
 }
 
-// Eighteen digits, without the zeros at their end.
+// Eighteen digits, without the zeros at their end. Most fractions have no more than nine places.
+#[tactic(auto, using(crate::proofs::Digits::trim_nine))]
 fn print_digits(fraction: u64, out: &mut Bytes) -> Result<(), AllocError>
     ensures ok { OnOk result (out.new ≡ out.old ++ trimmed_digits 18 fraction) }
     ensures err { OnErr result (out.new ≡ out.old) }
 {
-    let mut n = fraction;
-    let mut count = usize::from(DECIMAL_PLACES);
+    if fraction % NINE_ZEROS == 0 {
+        print_trimmed(fraction / NINE_ZEROS, 9, out)
+    } else {
+        print_trimmed(fraction, 18, out)
+    }
+}
+
+// The last `count` digits of `n`, without the zeros at their end.
+fn print_trimmed(n: u64, count: usize, out: &mut Bytes) -> Result<(), AllocError>
+    requires { count ≤ 18 }
+    ensures ok { OnOk result (out.new ≡ out.old ++ trimmed_digits count n) }
+    ensures err { OnErr result (out.new ≡ out.old) }
+{
+    let mut n = n;
+    let mut count = count;
     while count > 0 && n % 10 == 0 {
         n /= 10;
         count -= 1;

@@ -2,8 +2,8 @@ use Rattle.std.proofs.Common.{arith, ap, length, take, replicate, length-take-le
 use Rattle.std.proofs.lemmas.Result.{on_ok_weaker}
 use Rattle.json_read.specs.Decimal.{last_digits}
 use Rattle.json_read.proofs.Digits.{trim_step, trim_end}
-use Rattle.json_read.proofs.decimal.print_digits.Goals.{then-loop-count-test+else-n-eq0, else-loop-count-test}
-use Rattle.json_read.proofs.decimal.print_digits.Goals as goal
+use Rattle.json_read.proofs.decimal.print_trimmed.Goals.{then-loop-count-test+else-n-eq0, else-loop-count-test}
+use Rattle.json_read.proofs.decimal.print_trimmed.Goals as goal
 
 pub loop-count-preserved : goal.loop-count-preserved
 loop-count-preserved c = (omega arith, c.loop-count.invariant.1 ∙ trim_step c.loop-count.count _ c.loop-count.n (omega arith) c.if-n-eq0.true)
