@@ -120,41 +120,6 @@ marked_more faces xs marks c h is from unmarked = record {
         let before = h.counted in
         omega arith
 
--- ---- the first mark
-
-pub marked_first : (faces : FaceTable) (marks : List Bool) → outer_of faces < faces.count → marks ≡ set (replicate faces.count false) (outer_of faces) true → AreMarked faces [] marks
-marked_first faces marks there e = record {
-  crossings_are = record {
-    each = λ k d l. absurd (omega arith);
-    onward = λ k c f. absurd (let l = slice_get_within [] k c f in omega arith);
-    new = λ k c f r. absurd (let l = slice_get_within [] k c f in omega arith);
-  };
-  each = size;
-  marked = λ f l. elim (cases_eq f (outer_of faces)) [
-    | inl same ↦ (
-      λ _. inl same,
-      λ _. ap (λ (ms : List Bool). get_or ms f false) e ∙ ap (λ (n : ℕ). get_or (set (replicate faces.count false) (outer_of faces) true) n false) same
-          ∙ get_or-set_same (replicate faces.count false) (outer_of faces) true false (let many = length-replicate faces.count false in omega arith),
-    )
-    | inr other ↦ (
-      λ g. absurd (let h : false ≡ true = sym (get_or-replicate faces.count f false false l) ∙ sym (get_or-set_other (replicate faces.count false) (outer_of faces) f true false other) ∙ sym (ap (λ (ms : List Bool). get_or ms f false) e) ∙ g in cc),
-      λ r. absurd (elim r [ inl same ↦ other same | inr h ↦ (let less = h.2 in omega arith) ]),
-    )
-  ];
-  counted = counted;
-}
-  where
-    size : length marks ≡ faces.count
-    size = ap (λ (ms : List Bool). length ms) e ∙ length-set (replicate faces.count false) (outer_of faces) true ∙ length-replicate faces.count false
-
-    counted : count_by (λ (b : Bool). b) marks ≡ 0 + 1
-    counted =
-        let many = length-replicate faces.count false in
-        let one = sum_by-set one_if (replicate faces.count false) (outer_of faces) true false (omega arith) in
-        let was : one_if (get_or (replicate faces.count false) (outer_of faces) false) ≡ 0 = ap one_if (get_or-replicate faces.count (outer_of faces) false false there) in
-        let before = sum_by-replicate one_if faces.count false in
-        ap (λ (ms : List Bool). count_by (λ (b : Bool). b) ms) e ∙ omega arith
-
 -- ---- at the end
 
 -- there are fewer crossings than faces

@@ -16,3 +16,4 @@ pub mod RingStepLemmas
 pub mod RunLemmas
 pub mod OddLemmas
 pub mod CrossingLemmas
+pub mod HeldLemmas

@@ -1,7 +1,13 @@
 -- Which polygon features, and which boxes, hold each face.
-use Rattle.std.specs.Prelude.{◌≡◌, ◌⊎◌, ◌↔◌, ℕ, ◌<◌, Bool, nat_eq, List, [], All, Contains, Some, filter, length, slice_get, slice_index_or}
+use Rattle.std.specs.Prelude.{◌≡◌, ◌⊎◌, ◌↔◌, ℕ, ◌<◌, Bool, nat_eq, List, [], ◌∷◌, All, Contains, Some, filter, map, slice_get, slice_index_or}
 use Rattle.std.specs.List.Sorted.{IsStrictlyIncreasing}
+use Rattle.lists.specs.Lists.{joined_up}
+use Rattle.plane_model.specs.Points.{Path}
+use Rattle.plane_model.specs.Drawing.{Drawing}
 use Rattle.plane_model.specs.Parity.{xor, odd_count}
+use Rattle.face_walk.specs.Places.{FaceTable}
+use Rattle.face_walk.specs.Crossings.{AreCrossings, LeaveNone, outer_of}
+use Rattle.face_walk.specs.RingSteps.{AreStepsOf, owners_from}
 use Rattle.face_walk.specs.declared.crossings.Crossing.{Crossing}
 use Rattle.face_walk.specs.declared.ring_steps.RingStep.{RingStep}
 
@@ -51,6 +57,21 @@ pub record AreOwnersOf (owners items features : List ℕ) : Type 0 where
   pub rising : IsStrictlyIncreasing features
   pub each : (f : ℕ) → Contains features f ↔ ((i : ℕ) × Contains items i × (slice_get owners i ≡ Some f))
 
--- the same for each face
-abbrev pub AreOwnersOfEach : List ℕ → List (List ℕ) → List (List ℕ) → Type 0
-AreOwnersOfEach owners items features = (f : ℕ) → f < length items → AreOwnersOf owners (list_at items f) (list_at features f)
+-- the same for each of the first n faces
+abbrev pub AreOwnersOfEach : List ℕ → ℕ → List (List ℕ) → List (List ℕ) → Type 0
+AreOwnersOfEach owners n items features = (f : ℕ) → f < n → AreOwnersOf owners (list_at items f) (list_at features f)
+
+-- The holders of the faces of a table of arcs, by the polygons and boxes of a drawing: crossings lead from the outer face to all that arcs
+-- lead to, the polygons and boxes of each face follow from those of the face before it, and its features are the owners of its polygons.
+pub record AreHolders (arcs : List Path) (d : Drawing) (faces : FaceTable) (labels : HolderTable) : Type 0 where
+  pub crossings : List Crossing
+  pub crossed : AreCrossings faces crossings
+  pub all : LeaveNone faces crossings
+  pub polygon_steps : List RingStep
+  pub of_polygons : AreStepsOf arcs (joined_up d.polygons) polygon_steps
+  pub polygons : List (List ℕ)
+  pub held : AreHeldBy polygon_steps (outer_of faces) crossings polygons
+  pub owned : AreOwnersOfEach (owners_from 0 d.polygons) faces.count polygons labels.holders
+  pub box_steps : List RingStep
+  pub of_boxes : AreStepsOf arcs (map (λ (path : Path). path ∷ []) d.boxes) box_steps
+  pub boxed : AreHeldBy box_steps (outer_of faces) crossings labels.boxes

@@ -1,8 +1,8 @@
-ghost use Rattle.std.specs.Prelude.{◌≡◌, ◌-◌, ◌<◌, ◌≤◌, [], true, false, All, IfOk, OnOk, Some, length, slice_get, slice_index_or};
-ghost use Rattle.std.specs.List.Sorted.{IsNonDecreasing, IsStrictlyIncreasing};
-ghost use Rattle.face_walk.specs.Holders.{AreAcross, AreOddOnes, AreOwnersOf, IsFlipped, IsPut};
+ghost use Rattle.std.specs.Prelude.{◌≡◌, ◌-◌, ◌<◌, ◌≤◌, [], true, false, All, IfOk, OnOk, Some, length, map, slice_get, slice_index_or};
+ghost use Rattle.std.specs.List.Sorted.{IsNonDecreasing, IsNonDecreasingBy, IsStrictlyIncreasing};
+ghost use Rattle.face_walk.specs.Holders.{AreAcross, AreHeldBy, AreHolders, AreOddOnes, AreOwnersOf, AreOwnersOfEach, IsFlipped, IsPut, list_at};
 ghost use Rattle.face_walk.specs.Places.{IsBuiltOf};
-ghost use Rattle.face_walk.specs.Crossings.{AreCrossings};
+ghost use Rattle.face_walk.specs.Crossings.{AreCrossings, outer_of};
 
 use crate::crossings::{Crossing, crossings_of};
 use crate::faces::Faces;
@@ -35,6 +35,8 @@ impl Labels {
     /// an odd number of crossings of its rings.
     pub fn of(alloc: Global, t: &ArcTable, f: &Faces, s: &Snapped) -> Result<Labels, AllocError>
         requires built { IsBuiltOf t.now f.now }
+        ensures exact { IfOk result (AreHolders t.now s.now f.now) }
+        ensures outer_free { IfOk result (λ l. (list_at l.holders (outer_of f.now) ≡ []) × (list_at l.boxes (outer_of f.now) ≡ [])) }
         ensures holders_each { IfOk result (λ l. length l.holders ≡ f.now.count) }
         ensures boxes_each { IfOk result (λ l. length l.boxes ≡ f.now.count) }
     {
@@ -72,6 +74,9 @@ fn held_lists(
     steps: &[RingStep],
 ) -> Result<Vec<Vec<u32>>, AllocError>
     requires crossings { AreCrossings f.now crossings.now }
+    requires by_arc { IsNonDecreasingBy (λ s. s.arc) steps.now }
+    ensures held { IfOk result (λ v. AreHeldBy steps.now (outer_of f.now) crossings.now (map (λ w. w.items) v.items)) }
+    ensures rising { IfOk result (λ v. All (λ w. IsStrictlyIncreasing w.items) v.items) }
     ensures each { IfOk result (λ v. length v.items ≡ f.now.count) }
 {
     let mut held = empty_lists(alloc, f.count())?;
@@ -84,6 +89,7 @@ fn held_lists(
 }
 
 fn empty_lists(alloc: Global, count: u32) -> Result<Vec<Vec<u32>>, AllocError>
+    ensures free { IfOk result (λ v. All (λ w. w.items ≡ []) v.items) }
     ensures each { IfOk result (λ v. length v.items ≡ count) }
 {
     let mut lists = Vec::with_capacity(alloc, count as usize)?;
@@ -148,6 +154,9 @@ fn owner_lists(
     owners: &[FeatId],
     polygons: &[Vec<u32>],
 ) -> Result<Vec<Vec<FeatId>>, AllocError>
+    requires owners { IsNonDecreasing owners.now }
+    requires rising { All (λ w. IsStrictlyIncreasing w.items) polygons.now }
+    ensures exact { IfOk result (λ v. AreOwnersOfEach owners.now (length polygons.now) (map (λ w. w.items) polygons.now) (map (λ w. w.items) v.items)) }
     ensures each { IfOk result (λ v. length v.items ≡ length polygons.now) }
 {
     let mut lists = Vec::with_capacity(alloc, polygons.len())?;
@@ -159,7 +168,9 @@ fn owner_lists(
 
 // The features of rising polygons, each once.
 fn owners_of(alloc: Global, owners: &[FeatId], items: &[u32]) -> Result<Vec<FeatId>, AllocError>
-    ensures exact { IsNonDecreasing owners.now → IsStrictlyIncreasing items.now → IfOk result (λ v. AreOwnersOf owners.now items.now v.items) }
+    requires owners { IsNonDecreasing owners.now }
+    requires rising { IsStrictlyIncreasing items.now }
+    ensures exact { IfOk result (λ v. AreOwnersOf owners.now items.now v.items) }
 {
     let mut features = Vec::new(alloc);
     for i in items {
@@ -178,8 +189,9 @@ fn owner_of(owners: &[FeatId], i: u32) -> Option<FeatId>
 
 // Puts a feature behind lesser ones where it is not there.
 fn put_owner(features: &mut Vec<FeatId>, owner: FeatId) -> Result<(), AllocError>
-    ensures put { IsStrictlyIncreasing features.old.items → All (λ m. m ≤ owner) features.old.items →
-        OnOk result (IsPut features.old.items owner features.new.items) }
+    requires rising { IsStrictlyIncreasing features.old.items }
+    requires low { All (λ m. m ≤ owner) features.old.items }
+    ensures put { OnOk result (IsPut features.old.items owner features.new.items) }
 {
     if !ends_in_feature(features, owner) {
         features.push(owner)?;

@@ -1,5 +1,12 @@
-use Rattle.std.proofs.Common.{◌≡◌, length}
+use Rattle.std.proofs.Common.{◌≡◌, All, length, map, take}
+use Rattle.std.specs.List.Sorted.{IsStrictlyIncreasing}
+use Rattle.face_walk.specs.Crossings.{outer_of}
+use Rattle.face_walk.specs.Holders.{AreHeldBy}
 use Rattle.face_walk.proofs.labels.held_lists.Given as goal
 
 abbrev pub invariant-loop-c : goal.invariant-loop-c
-invariant-loop-c l = length l.held.items ≡ l.f.count
+invariant-loop-c l = record {
+  each : length l.held.items ≡ l.f.count;
+  held : AreHeldBy l.steps (outer_of l.f) (take l.c-index l.crossings) (map (λ w. w.items) l.held.items);
+  rising : All (λ w. IsStrictlyIncreasing w.items) l.held.items;
+}

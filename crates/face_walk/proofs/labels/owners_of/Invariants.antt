@@ -1,7 +1,6 @@
 use Rattle.std.proofs.Common.{take}
-use Rattle.std.specs.List.Sorted.{IsNonDecreasing, IsStrictlyIncreasing}
 use Rattle.face_walk.specs.Holders.{AreOwnersOf}
 use Rattle.face_walk.proofs.labels.owners_of.Given as goal
 
 abbrev pub invariant-loop-i : goal.invariant-loop-i
-invariant-loop-i l = IsNonDecreasing l.owners → IsStrictlyIncreasing l.items → AreOwnersOf l.owners (take l.i-index l.items) l.features.items
+invariant-loop-i l = AreOwnersOf l.owners (take l.i-index l.items) l.features.items
