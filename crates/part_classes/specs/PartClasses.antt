@@ -1,0 +1,22 @@
+-- The parts of a set of faces as parts of the plane.
+use Rattle.std.specs.Prelude.{ℕ, ◌<◌, nat_eq, List, All, length}
+use Rattle.lists.specs.Lists.{has, place_of}
+use Rattle.plane_model.specs.Points.{Segment, Path}
+use Rattle.plane_model.specs.Arrangement.{IsArrangement}
+use Rattle.plane_faces.specs.Labels.{IsPartLabelling}
+use Rattle.plane_faces.specs.Places.{Place}
+use Rattle.arc_table.specs.Along.{GoAlong}
+use Rattle.face_walk.specs.Places.{FaceTable, IsBuiltOf}
+use Rattle.face_classes.specs.FaceClasses.{IsFaceOfPlace}
+use Rattle.ring_trace.specs.Joined.{AreParts}
+
+-- where the first part stands that has the face, or the count of the parts
+abbrev pub number_of : List (List ℕ) → ℕ → ℕ
+number_of parts k = place_of (λ (part : List ℕ). has nat_eq part k) parts
+
+-- ---- laws
+
+-- labels of places by faces, numbered by the parts of a set of faces, number the parts of the region of these faces
+abbrev pub PartsAreClasses : Type 0
+PartsAreClasses = (S : List Segment) → IsArrangement S → (arcs : List Path) → All (λ arc. 1 < length arc) arcs → GoAlong S arcs → (faces : FaceTable) → IsBuiltOf arcs faces →
+    (label : Place → ℕ) → IsFaceOfPlace arcs faces label → (set : List ℕ) → (parts : List (List ℕ)) → AreParts faces set parts → IsPartLabelling S label (has nat_eq set) (number_of parts)
