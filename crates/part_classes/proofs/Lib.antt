@@ -1,2 +1,3 @@
 pub mod LinkLemmas
 pub mod ClassLemmas
+pub mod RingLemmas

@@ -3,10 +3,16 @@
 //! Each function carries one law in its contract, and does nothing.
 #![tactic(auto)]
 
-ghost use Rattle.part_classes.specs.PartClasses.{PartsAreClasses};
+ghost use Rattle.part_classes.specs.PartClasses.{PartsAreClasses, RingsGoRound};
 
 /// The parts of a set of faces, numbered as they stand, are the parts of the region of these faces: links within the
 /// region join parts, and nothing else does.
 pub fn parts_are_classes()
     ensures { PartsAreClasses }
+{}
+
+/// A closed run of signed arcs of which no two start at one vertex, and no two are of one arc, goes round a path that
+/// passes each of its points once.
+pub fn rings_go_round()
+    ensures { RingsGoRound }
 {}
