@@ -1,4 +1,5 @@
 pub mod Areas
 pub mod Slabs
+pub mod Division
 pub mod Tree
 pub mod Leading

@@ -1,6 +1,7 @@
-ghost use Rattle.std.specs.Prelude.{◌≡◌, List, IfOk, IfSome, ℕ};
+ghost use Rattle.std.specs.Prelude.{◌≡◌, ◌<◌, List, All, IfOk, IfSome, length, ℕ};
 ghost use Rattle.grid_base.specs.Grid.{Corners};
 ghost use Rattle.bucket_grid.specs.Areas.{Holds, boxes_near};
+ghost use Rattle.bucket_grid.specs.Division.{IsDivisionOf};
 ghost use Rattle.bucket_grid.specs.Slabs.{DividesArea};
 ghost use Rattle.bucket_grid.specs.Tree.{Grew};
 
@@ -17,6 +18,13 @@ pub struct Forest {
     pub nodes: Vec<Node>,
     pub areas: Vec<Rect>,
     pub near: Vec<IdList>,
+}
+
+/// A division of an area, and for each slab the boxes near it.
+#[derive(Drop)]
+pub struct Division {
+    pub slabs: Slabs,
+    pub lists: Vec<IdList>,
 }
 
 /// So many divisions at most lead to a leaf: into columns, into rows, then by cuts.
@@ -51,29 +59,6 @@ fn add_leaf(forest: &mut Forest, area: Rect, near: IdList) -> Result<Node, Alloc
     Ok(Node::Leaf(place))
 }
 
-// A division into many slabs for the first two steps; for those after them a cut.
-fn division_of(
-    alloc: Global,
-    boxes: &[Rect],
-    near: &[u32],
-    area: Rect,
-    steps: u32,
-) -> Result<Option<Slabs>, AllocError>
-    ensures { IfOk result (λ found. IfSome found (DividesArea area)) }
-{
-    let cells = near.len() as u64 / CELL_SIZE;
-    if steps > MAX_CUTS + 1 {
-        if let Some(slabs) = slabs_of(boxes, near, area, Axis::Across, cells.isqrt()) {
-            return Ok(Some(slabs));
-        }
-    } else if steps > MAX_CUTS {
-        if let Some(slabs) = slabs_of(boxes, near, area, Axis::Upward, cells) {
-            return Ok(Some(slabs));
-        }
-    }
-    cut_of(alloc, boxes, near, area)
-}
-
 // Whether a cut leaves each part with fewer boxes, and does not list too many boxes twice.
 fn is_helpful(all: u32, lists: &[IdList]) -> bool {
     let mut count = 0u64;
@@ -83,6 +68,58 @@ fn is_helpful(all: u32, lists: &[IdList]) -> bool {
         largest = near.len().max(largest);
     }
     largest < all && count <= all as u64 + all as u64 / 2
+}
+
+// Whether many slabs leave at most half of the pairs of boxes in one list.
+fn is_even(all: u32, lists: &[IdList]) -> bool {
+    let mut pairs = 0u64;
+    for near in lists {
+        let count = u64::from(near.len());
+        pairs = pairs.saturating_add(count.saturating_mul(count));
+    }
+    pairs <= u64::from(all).saturating_mul(u64::from(all)) / 2
+}
+
+// Columns for the first step and cells of a column for the second, each where the boxes suit them.
+fn slabs_at(boxes: &[Rect], near: &[u32], area: Rect, steps: u32) -> Option<Slabs>
+    ensures { IfSome result (DividesArea area) }
+{
+    let cells = near.len() as u64 / CELL_SIZE;
+    if steps > MAX_CUTS + 1 {
+        slabs_of(boxes, near, area, Axis::Across, cells.isqrt())
+    } else if steps > MAX_CUTS {
+        slabs_of(boxes, near, area, Axis::Upward, cells)
+    } else {
+        None
+    }
+}
+
+// The division for a step, as far as it parts the boxes well: into slabs of one width, or else by a cut.
+fn division_of(
+    alloc: Global,
+    boxes: &[Rect],
+    near: &IdList,
+    area: Rect,
+    steps: u32,
+) -> Result<Option<Division>, AllocError>
+    requires { All (λ i. i < length boxes.now) near.now }
+    ensures { IfOk result (λ found. IfSome found (IsDivisionOf boxes.now area near.now)) }
+{
+    let ids = near.as_slice();
+    if let Some(slabs) = slabs_at(boxes, ids, area, steps) {
+        let lists = slab_lists(alloc, boxes, ids, &slabs)?;
+        if is_even(near.len(), &lists) {
+            return Ok(Some(Division { slabs, lists }));
+        }
+    }
+    let Some(slabs) = cut_of(alloc, boxes, ids, area)? else {
+        return Ok(None);
+    };
+    let lists = slab_lists(alloc, boxes, ids, &slabs)?;
+    if !is_helpful(near.len(), &lists) {
+        return Ok(None);
+    }
+    Ok(Some(Division { slabs, lists }))
 }
 
 /// Grows a tree over an area, divided in at most so many steps, and answers its top node, which is not among the nodes.
@@ -101,15 +138,11 @@ pub fn grow(
     if steps == 0 || near.len() <= BUCKET_SIZE {
         return add_leaf(forest, area, near);
     }
-    let Some(slabs) = division_of(alloc, boxes, near.as_slice(), area, steps)? else {
+    let Some(division) = division_of(alloc, boxes, &near, area, steps)? else {
         return add_leaf(forest, area, near);
     };
-    let mut lists = slab_lists(alloc, boxes, near.as_slice(), &slabs)?;
-    // Many slabs have their width from the boxes; only the lists of a cut show whether it parts them.
-    if slabs.last == 1 && !is_helpful(near.len(), &lists) {
-        return add_leaf(forest, area, near);
-    }
     drop(near);
+    let Division { slabs, mut lists } = division;
     let mut tops = Vec::with_capacity(alloc, lists.len())?;
     while let Some(part) = lists.pop() {
         let slab = slab_area(area, &slabs, lists.len() as u32).ok_or(AllocError)?;

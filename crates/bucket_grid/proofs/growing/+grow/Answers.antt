@@ -1,29 +1,30 @@
 use Rattle.std.proofs.Common.{◌≡◌, sym, ap, ◌∙◌, subst, arith, ℕ, suc, ◌+◌, ◌-◌, List, [], ◌∷◌, ◌++◌, length, get_or, Option, IfSome, MatchOption, vec_len, length-append}
 use Rattle.std.proofs.lemmas.List.{get_or_append_left, get_or-append-add}
 use Rattle.grid_base.specs.Grid.{Corners}
-use Rattle.bucket_grid.specs.declared.tree.Slabs.{Slabs}
+use Rattle.bucket_grid.specs.declared.growing.Division.{Division}
 use Rattle.bucket_grid.specs.declared.tree.Node.{Node}
 use Rattle.bucket_grid.specs.declared.tree.Node.TheVariants.{Split}
 use Rattle.bucket_grid.specs.Areas.{Holds, boxes_near}
+use Rattle.bucket_grid.specs.Division.{IsDivisionOf}
 use Rattle.bucket_grid.specs.Tree.{Grew}
-use Rattle.bucket_grid.specs.Slabs.{DividesArea, AreListed, slab_part}
+use Rattle.bucket_grid.specs.Slabs.{slab_part}
 use Rattle.bucket_grid.proofs.SharedPoints.{near_below}
 use Rattle.bucket_grid.proofs.ListLemmas.{list_is}
 use Rattle.bucket_grid.proofs.Growth.{IsFrom, top_of, nothing_grown, slab_grown, split_grown}
 use Rattle.bucket_grid.proofs.growing.+grow.Goals as goal
 
-pub slab_lists-requires : goal.slab_lists-requires
-slab_lists-requires t c = record { near = near_below c.args.boxes.now c.args.area c.as_slice-2.result.now (c.as_slice-2.ensures.all ∙ c.requires) }
+pub division_of-requires : goal.division_of-requires
+division_of-requires t c = near_below c.args.boxes.now c.args.area c.args.near c.requires
 
 pub loop-part-init : goal.loop-part-init
 loop-part-init t c =
-    let s = c.in-Some.slabs in
-    let lists = c.in_ok-lists.lists.items in
-    let d : DividesArea c.args.area s = subst (λ (o : Option Slabs). IfSome o (DividesArea c.args.area)) c.in-Some.is c.in_ok-slabs.ensures in
-    let h : AreListed s c.args.boxes.now c.as_slice-2.result.now lists = c.in_ok-lists.ensures.exact in
-    let n = h.count in
+    let s = c.in-Some.division.slabs in
+    let lists = c.in-Some.division.lists.items in
+    let d : IsDivisionOf c.args.boxes.now c.args.area c.args.near c.in-Some.division =
+    subst (λ (o : Option Division). IfSome o (IsDivisionOf c.args.boxes.now c.args.area c.args.near)) c.in-Some.is c.in_ok-division.ensures in
+    let n = d.listed.count in
     let forest = c.args.forest.now in (
-      list_is s c.args.boxes.now c.args.area c.as_slice-2.result.now lists d (c.as_slice-2.ensures.all ∙ c.requires) h,
+      list_is s c.args.boxes.now c.args.area c.args.near lists d.divides c.requires d.listed,
       omega (arith, ap length c.in_ok-tops.ensures.items),
       nothing_grown (c.args.steps - 1) c.args.boxes.now c.args.area s (length lists) forest.nodes.items forest.areas.items forest.near.items c.in_ok-tops.tops.items (omega arith),
     )
@@ -38,7 +39,7 @@ longer xs ys x e = ap length e ∙ (let n : length (ys ++ x ∷ []) ≡ length y
 
 pub grow-requires : goal.grow-requires
 grow-requires t c =
-    let s = c.in-Some.slabs in
+    let s = c.in-Some.division.slabs in
     let xs = c.loop-part.lists.items in
     let ys = c.pop.new.self.items in
     let e = c.in-Some-pop.ensures.items in
@@ -52,7 +53,7 @@ grow-requires t c =
 
 pub loop-part-preserved : goal.loop-part-preserved
 loop-part-preserved t c =
-    let s = c.in-Some.slabs in
+    let s = c.in-Some.division.slabs in
     let boxes = c.args.boxes.now in
     let area = c.args.area in
     let xs = c.loop-part.lists.items in
@@ -62,7 +63,7 @@ loop-part-preserved t c =
     let n : c.len-in-Some-pop.result ≡ length ys = omega (arith, c.len-in-Some-pop.ensures, c.pop.new.self.ok.0) in
     let f : c.in_ok-slab.slab ≡ slab_part s c.len-in-Some-pop.result area =
     subst (λ (o : Option Corners). IfSome o (λ part. part ≡ slab_part s c.len-in-Some-pop.result area)) c.in_ok-slab.ensures.ok_part c.slab_area.ensures.exact in
-    let d : DividesArea area s = subst (λ (o : Option Slabs). IfSome o (DividesArea area)) c.in-Some.is c.in_ok-slabs.ensures in
+    let d : IsDivisionOf boxes area c.args.near c.in-Some.division = subst (λ (o : Option Division). IfSome o (IsDivisionOf boxes area c.args.near)) c.in-Some.is c.in_ok-division.ensures in
     let count = c.loop-part.invariant.1 in
     let tops = c.loop-part.tops.items in
     let top = c.in_ok-grow.field-0 in
@@ -79,12 +80,12 @@ loop-part-preserved t c =
       omega (arith, ap length tops_are, length-append tops (top ∷ [])),
       subst (λ (l : List Node). Grew (c.args.steps - 1) boxes (IsFrom area s (length ys)) old.nodes.items new.nodes.items old.areas.items new.areas.items old.near.items new.near.items (top_of s l)) (sym tops_are)
           (slab_grown (c.args.steps - 1) boxes area s old.nodes.items mid.nodes.items new.nodes.items old.areas.items mid.areas.items new.areas.items old.near.items mid.near.items new.near.items tops top (length ys)
-          d (omega arith) l h),
+          d.divides (omega arith) l h),
     )
 
 pub returns : goal.returns
 returns t c =
-    let s = c.in-Some.slabs in
+    let s = c.in-Some.division.slabs in
     let old = c.args.forest.now in
     let mid = c.loop-part.forest in
     let tops = c.loop-part.tops.items in
@@ -93,7 +94,7 @@ returns t c =
     let empty : length xs ≡ 0 = omega (arith, none.0, c.loop-part.lists.ok.0) in
     let count = c.loop-part.invariant.1 in
     let children : c.in_ok-children.children ≡ length mid.nodes.items = omega (arith, c.in_ok-children.ensures, c.len-3.ensures, mid.nodes.ok.0) in
-    let nodes : c.extend_from_slice.new.self.items ≡ mid.nodes.items ++ tops = c.in_ok-extend_from_slice.ensures.items ∙ ap (λ (l : List Node). mid.nodes.items ++ l) c.deref-2.ensures.value in
+    let nodes : c.extend_from_slice.new.self.items ≡ mid.nodes.items ++ tops = c.in_ok-extend_from_slice.ensures.items ∙ ap (λ (l : List Node). mid.nodes.items ++ l) c.deref.ensures.value in
     let l : Grew (c.args.steps - 1) c.args.boxes.now (IsFrom c.args.area s 0) old.nodes.items mid.nodes.items old.areas.items mid.areas.items old.near.items mid.near.items (top_of s tops) =
     subst (λ (k : ℕ). Grew (c.args.steps - 1) c.args.boxes.now (IsFrom c.args.area s k) old.nodes.items mid.nodes.items old.areas.items mid.areas.items old.near.items mid.near.items (top_of s tops)) empty c.loop-part.invariant.2 in
     let steps : suc (c.args.steps - 1) ≡ c.args.steps = omega arith in
