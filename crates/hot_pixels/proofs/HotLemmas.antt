@@ -1,11 +1,11 @@
--- The stops of the spots, with all crossings added, are the hot points.
+-- The stops of the spots, with all crossings of their edges added, are the hot points.
 use Rattle.std.proofs.Common.{◌≡◌, inl, inr, sym, subst, List, map, Contains, Some}
 use Rattle.std.specs.List.{flat_map}
 use Rattle.std.proofs.lemmas.List.Elements.{Contains-append_left, Contains-append_cases}
 use Rattle.lists.specs.Lists.{ascending}
 use Rattle.lists.proofs.Members.{Contains-map, map-Contains}
 use Rattle.lists.proofs.Ascending.{IsAscending, one_ascending, ascending-IsAscending, ascending-Contains, Contains-ascending}
-use Rattle.plane_model.specs.Points.{GridPoint, at, is_before}
+use Rattle.plane_model.specs.Points.{GridPoint, Segment, at, is_before}
 use Rattle.plane_model.specs.Drawing.{Drawing, vertices_of}
 use Rattle.plane_model.specs.Pixel.{crossing_pixel}
 use Rattle.plane_model.specs.Hot.{hot_points}
@@ -21,19 +21,21 @@ use Rattle.hot_pixels.specs.Spots.{share_end, spots_of, crossings_among}
 use Rattle.hot_pixels.specs.Found.{HasAllCrossings}
 use Rattle.hot_pixels.specs.Stops.{stop_of}
 use Rattle.hot_pixels.proofs.CrossingLemmas.{listed_crosses, crossing_listed, crossing_turned, common_end, short_meets_none}
+use Rattle.hot_pixels.specs.Edges.{AreEdgesOf}
+use Rattle.hot_pixels.proofs.EdgeLemmas.{crossing_along_both, end_along}
 use Rattle.hot_pixels.proofs.SpotLemmas.{spot_is_segment, spot_stops, segment_is_spot, vertex_is_stop}
 
-module _ (d : Drawing) (points : List GridPoint) (h : HasAllCrossings (spots_of d) (map stop_of (spots_of d)) points) where
+module _ (d : Drawing) (edges : List Segment) (k : AreEdgesOf (spots_of d) edges) (points : List GridPoint) (h : HasAllCrossings edges (map stop_of (spots_of d)) points) where
   pub point_is_hot : (g : GridPoint) → Contains points g → Contains (hot_points d) g
-  point_is_hot g c = hot_is_listed d g (elim (Contains-append_cases (map stop_of (spots_of d)) (flat_map (crossings_among (spots_of d)) (map (boxes_near (map box_of (spots_of d))) h.areas)) g (subst (λ (xs : List GridPoint). Contains xs g) h.added c)) [
-    | inl k ↦ (let m = map-Contains stop_of (spots_of d) g k in vertex_is_hot d g (subst (Contains (vertices_of d)) m.2 (spot_stops d m.0 m.1)))
-    | inr k ↦
-        let m = listed_crosses (spots_of d) (map (boxes_near (map box_of (spots_of d))) h.areas) g k in
+  point_is_hot g c = hot_is_listed d g (elim (Contains-append_cases (map stop_of (spots_of d)) (flat_map (crossings_among edges) (map (boxes_near (map box_of edges)) h.areas)) g (subst (λ (xs : List GridPoint). Contains xs g) h.added c)) [
+    | inl l ↦ (let m = map-Contains stop_of (spots_of d) g l in vertex_is_hot d g (subst (Contains (vertices_of d)) m.2 (spot_stops d m.0 m.1)))
+    | inr l ↦
+        let m = listed_crosses edges (map (boxes_near (map box_of edges)) h.areas) g l in
         let s = m.0 in
         let t = m.1 in
-        elim (spot_is_segment d s m.2) [
+        elim (spot_is_segment d s (k.from s m.2)) [
           | inr e ↦ short_meets_none s t g e m.4
-          | inl s_drawn ↦ elim (spot_is_segment d t m.3) [
+          | inl s_drawn ↦ elim (spot_is_segment d t (k.from t m.3)) [
             | inr e ↦ short_meets_none t s g e (crossing_turned s t g m.4)
             | inl t_drawn ↦ inr (record { s = s; t = t; s_drawn = s_drawn; t_drawn = t_drawn; meet = (crossing_is_computed s t g).0 m.4 })
           ]
@@ -43,7 +45,7 @@ module _ (d : Drawing) (points : List GridPoint) (h : HasAllCrossings (spots_of 
   vertex_is_point : (g : GridPoint) → Contains (vertices_of d) g → Contains points g
   vertex_is_point g c =
       let m = vertex_is_stop d g c in
-      subst (λ (xs : List GridPoint). Contains xs g) (sym h.added) (Contains-append_left (map stop_of (spots_of d)) (flat_map (crossings_among (spots_of d)) (map (boxes_near (map box_of (spots_of d))) h.areas)) g
+      subst (λ (xs : List GridPoint). Contains xs g) (sym h.added) (Contains-append_left (map stop_of (spots_of d)) (flat_map (crossings_among edges) (map (boxes_near (map box_of edges)) h.areas)) g
       (subst (Contains (map stop_of (spots_of d))) m.2 (Contains-map stop_of (spots_of d) m.0 m.1)))
 
   pub hot_is_point : (g : GridPoint) → Contains (hot_points d) g → Contains points g
@@ -51,15 +53,18 @@ module _ (d : Drawing) (points : List GridPoint) (h : HasAllCrossings (spots_of 
     | inl v ↦
         let same : v.vertex ≡ g = one_pixel (at v.vertex) v.vertex g (in_own_pixel v.vertex) v.held in
         vertex_is_point g (subst (Contains (vertices_of d)) same v.listed)
-    | inr k ↦
-        let e : crossing_pixel k.s k.t ≡ Some g = (crossing_is_computed k.s k.t g).1 k.meet in
-        by_test (share_end k.s k.t)
-        (λ f. let v = ends_are_vertices d k.s k.s_drawn in
-        elim (common_end k.s k.t g e f) [
+    | inr m ↦
+        let e : crossing_pixel m.s m.t ≡ Some g = (crossing_is_computed m.s m.t g).1 m.meet in
+        let a = k.to m.s (segment_is_spot d m.s m.s_drawn) in
+        let b = k.to m.t (segment_is_spot d m.t m.t_drawn) in
+        let f : crossing_pixel a.0 b.0 ≡ Some g = crossing_along_both m.s a.0 m.t b.0 g a.2 b.2 e in
+        by_test (share_end a.0 b.0)
+        (λ common. let v = ends_are_vertices d m.s m.s_drawn in
+        elim (end_along m.s a.0 g a.2 (common_end a.0 b.0 g f common)) [
           | inl same ↦ vertex_is_point g (subst (Contains (vertices_of d)) (sym same) v.0)
           | inr same ↦ vertex_is_point g (subst (Contains (vertices_of d)) (sym same) v.1)
         ])
-        (λ f. crossing_listed (spots_of d) (map stop_of (spots_of d)) points h k.s k.t g (segment_is_spot d k.s k.s_drawn) (segment_is_spot d k.t k.t_drawn) f e)
+        (λ apart. crossing_listed edges (map stop_of (spots_of d)) points h a.0 b.0 g a.1 b.1 apart f)
   ]
 
   -- an ascending list with the same elements is the list of the hot points in order

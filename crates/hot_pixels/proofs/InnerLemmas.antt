@@ -1,6 +1,5 @@
 -- The ends of a segment of the drawing, and the inner points that it meets, are the points of its chain.
-use Rattle.std.proofs.Common.{◌≡◌, inl, inr, refl, sym, ap, ◌∙◌, subst, arith, ℕ, ◌≤◌, Bool, true, false, not, ◌||◌, cond, List, [], ◌∷◌, ◌++◌, filter, AllPairs, IsTrue, Contains, Some}
-use Rattle.std.specs.List.{slice_get}
+use Rattle.std.proofs.Common.{◌≡◌, inl, inr, refl, sym, ap, ◌∙◌, subst, arith, ℕ, ◌≤◌, Bool, true, false, not, ◌||◌, cond, List, [], ◌∷◌, ◌++◌, filter, AllPairs, IsTrue, Contains}
 use Rattle.std.proofs.lemmas.List.Elements.{Contains-append_left, Contains-append_right, Contains-append_cases}
 use Rattle.lists.proofs.Members.{Contains-head, Contains-later, Contains-nil, Contains-cases, Contains-filter, filter-Contains}
 use Rattle.plane_algebra.proofs.Tests.{by_test, or_cases}
@@ -10,7 +9,9 @@ use Rattle.plane_model.proofs.PointOrder.{same_point_from, same_point_to, clash}
 use Rattle.plane_snapping.proofs.MeetsComputed.{meets_is_computed}
 use Rattle.plane_snapping.proofs.Passing.{meets_start, meets_stop}
 use Rattle.hot_pixels.specs.Spots.{is_end}
+use Rattle.hot_pixels.specs.Edges.{HasEdgeAt}
 use Rattle.hot_pixels.specs.Quiet.{IsEndOf, AreMarks, ends_of, others_of}
+use Rattle.hot_pixels.proofs.EdgeLemmas.{meets_along, end_along}
 use Rattle.hot_pixels.proofs.ChainLemmas.{AreMetOnce, times, once_if, times-cons, times-joined, never, kept_times, counts, counted, up_once}
 
 -- ---- ends
@@ -91,7 +92,7 @@ other_is : (b : Bool) → not b ≡ true → b ≡ false
 other_is true e = absurd cc
 other_is false e = refl
 
-module _ (points : List GridPoint) (spots : List Segment) (marks : List Bool) (inner : List GridPoint) (i : ℕ) (s : Segment) (h : AreMarks points spots marks inner) (here : slice_get spots i ≡ Some s)
+module _ (points : List GridPoint) (edges : List Segment) (marks : List Bool) (inner : List GridPoint) (i : ℕ) (s : Segment) (h : AreMarks points edges marks inner) (at : HasEdgeAt edges s i)
     (from : Contains points s.start) (to : Contains points s.stop) (up : AllPairs (λ p q. IsTrue (is_before p q)) points) where
   abbrev met : List GridPoint
   met = filter (meets s) inner
@@ -117,8 +118,8 @@ module _ (points : List GridPoint) (spots : List Segment) (marks : List Bool) (i
   met_is_listed : (g : GridPoint) → Contains points g → meets s g ≡ true → Contains (ends_of s ++ others) g
   met_is_listed g c m = by_test (is_end s g)
       (λ e. Contains-append_left (ends_of s) others g (end_listed s g (end_from s g e)))
-      (λ e. elim (h.seen g c i s here m) [
-        | inl f ↦ Contains-append_left (ends_of s) others g (end_listed s g f)
+      (λ e. elim (h.seen g c i at.edge at.there (meets_along s at.edge g at.along m)) [
+        | inl f ↦ Contains-append_left (ends_of s) others g (end_listed s g (end_along s at.edge g at.along f))
         | inr f ↦ Contains-append_right (ends_of s) others g (Contains-filter (λ p. not (is_end s p)) met g (Contains-filter (meets s) inner g f.1 m) (ap not e))
       ])
 

@@ -9,4 +9,5 @@ pub mod ChainLemmas
 pub mod NearLemmas
 pub mod QuietLemmas
 pub mod KeyLemmas
+pub mod EdgeLemmas
 pub mod InnerLemmas

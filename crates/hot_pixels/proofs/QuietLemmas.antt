@@ -24,7 +24,8 @@ use Rattle.bucket_grid.specs.Areas.{AreaLists, Holds, IsPlaceOf, boxes_near, sha
 use Rattle.bucket_grid.proofs.Numbers.{numbers_where_below}
 use Rattle.hot_pixels.specs.Boxes.{box_of}
 use Rattle.hot_pixels.specs.Found.{AreBucketsOver}
-use Rattle.hot_pixels.specs.Quiet.{IsEndOf, IsMarked, IsSeen, KeepMarks, AreMarks, AreCrowdsMarked, MeetsEndsAlone, ends_of}
+use Rattle.hot_pixels.specs.Quiet.{IsEndOf, IsMarked, IsSeen, KeepMarks, AreMarks, AreCrowdsMarked, MeetsEndsAlone, HasUnmarkedEdge, ends_of}
+use Rattle.hot_pixels.proofs.EdgeLemmas.{alone_along}
 use Rattle.hot_pixels.proofs.CrossingLemmas.{near_area}
 use Rattle.hot_pixels.proofs.ChainLemmas.{times, times-last, moved_times}
 
@@ -166,11 +167,11 @@ marks_moved points spots marks inner moved same h = record {
   listed = λ p. let e = moved_times p inner moved same in let l = h.listed p in omega arith;
 }
 
--- a segment without a mark meets its ends alone
-pub quiet_at : (points : List GridPoint) (spots : List Segment) (marks : List Bool) (inner : List GridPoint) (i : ℕ) (s : Segment) → AreMarks points spots marks inner → slice_get spots i ≡ Some s → slice_get marks i ≡ Some false → MeetsEndsAlone points s
-quiet_at points spots marks inner i s h at none = record {
-  others = λ p c m. elim (h.seen p c i s at m) [ inl e ↦ e | inr e ↦ absurd (let f : Some false ≡ Some true = sym none ∙ e.0 in cc) ];
-}
+-- a segment whose edge has no mark meets its ends alone
+pub quiet_at : (points : List GridPoint) (edges : List Segment) (marks : List Bool) (inner : List GridPoint) (s : Segment) → AreMarks points edges marks inner → HasUnmarkedEdge edges marks s → MeetsEndsAlone points s
+quiet_at points edges marks inner s h at = alone_along points s at.has_edge.edge at.has_edge.along (record {
+  others = λ p c m. elim (h.seen p c at.number at.has_edge.edge at.has_edge.there m) [ inl e ↦ e | inr e ↦ absurd (let f : Some false ≡ Some true = sym at.unmarked ∙ e.0 in cc) ];
+})
 
 -- ---- the spots near a point
 

@@ -8,3 +8,4 @@ pub mod Chains
 pub mod Near
 pub mod Quiet
 pub mod Keys
+pub mod Edges

@@ -1,9 +1,10 @@
 -- Segments that meet no hot pixels besides those of their ends; the others have a mark.
-use Rattle.std.specs.Prelude.{◌≡◌, ◌⊎◌, ◌<◌, ◌≤◌, ℕ, Bool, true, not, filter, List, [], ◌∷◌, All, Contains, Some, length, slice_get, if◌then◌else◌}
+use Rattle.std.specs.Prelude.{◌≡◌, ◌⊎◌, ◌<◌, ◌≤◌, ℕ, Bool, true, false, not, filter, List, [], ◌∷◌, All, Contains, Some, length, slice_get, if◌then◌else◌}
 use Rattle.std.specs.List.{count_by}
 use Rattle.plane_model.specs.Points.{GridPoint, Segment, Path, same_point}
 use Rattle.plane_model.specs.Pixel.{meets}
 use Rattle.hot_pixels.specs.Spots.{is_end}
+use Rattle.hot_pixels.specs.Edges.{HasEdgeAt}
 
 abbrev pub IsEndOf : Segment → GridPoint → Type 0
 IsEndOf s p = (p ≡ s.start) ⊎ (p ≡ s.stop)
@@ -40,6 +41,12 @@ pub record AreMarks (points : List GridPoint) (spots : List Segment) (marks : Li
   pub each : length marks ≡ length spots
   pub seen : (p : GridPoint) → Contains points p → (i : ℕ) (s : Segment) → slice_get spots i ≡ Some s → meets s p ≡ true → IsEndOf s p ⊎ (IsMarked marks i × Contains inner p)
   pub listed : (p : GridPoint) → count_by (same_point p) inner ≤ count_by (same_point p) points
+
+-- the edge of s has no mark
+pub record HasUnmarkedEdge (edges : List Segment) (marks : List Bool) (s : Segment) : Type 0 where
+  pub number : ℕ
+  pub has_edge : HasEdgeAt edges s number
+  pub unmarked : slice_get marks number ≡ Some false
 
 -- of so many lists, the segments of each that is too long have marks
 pub record AreCrowdsMarked (count : ℕ) (near : List (List ℕ)) (marks : List Bool) : Type 0 where

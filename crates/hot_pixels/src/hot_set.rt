@@ -5,10 +5,11 @@ ghost use Rattle.plane_model.specs.Drawing.{Drawing as Map};
 ghost use Rattle.plane_model.specs.Hot.{hot_points, chain_among, chain_of};
 ghost use Rattle.hot_pixels.specs.Chains.{AreHotPointsOf};
 ghost use Rattle.hot_pixels.specs.Near.{IsSearchable};
-ghost use Rattle.hot_pixels.specs.Quiet.{MeetsEndsAlone, AreMarks};
+ghost use Rattle.hot_pixels.specs.Quiet.{MeetsEndsAlone, HasUnmarkedEdge, AreMarks};
 ghost use Rattle.hot_pixels.specs.Stops.{stop_of};
 
 use crate::chains::sorted_along;
+use crate::edges::{Edges, edges_of, known_edge};
 use crate::keys::each_once;
 use crate::near::{Run, along_curve, count_near, met_near, runs_over};
 use crate::pairs::{add_crossings, buckets_over};
@@ -24,9 +25,11 @@ pub struct HotSet {
     points: Vec<Pt>,
     mixed: Vec<Pt>,
     runs: Vec<Run>,
-    // the segments of the drawing, with a mark for each that may meet hot pixels besides those of its ends
-    spots: Vec<Seg>,
+    // the edges of the drawing, with a mark for each that may meet hot pixels besides those of its ends
+    edges: Vec<Seg>,
     marks: Vec<bool>,
+    // for each segment of the drawing the number of its edge
+    numbers: Vec<u32>,
     // the hot points that these may meet besides their ends
     inner: Vec<Pt>,
     inner_runs: Vec<Run>,
@@ -42,7 +45,7 @@ impl Model for HotSet {
 
     ghost view = { λ s. s.points.items };
 
-    ghost invariant = { λ s. IsSearchable s.points.items s.mixed.items s.runs.items × (AreMarks s.points.items s.spots.items s.marks.items s.inner.items × All (HoldsRun s.inner.items) s.inner_runs.items) };
+    ghost invariant = { λ s. IsSearchable s.points.items s.mixed.items s.runs.items × (AreMarks s.points.items s.edges.items s.marks.items s.inner.items × All (HoldsRun s.inner.items) s.inner_runs.items) };
 }
 
 impl HotSet {
@@ -62,12 +65,13 @@ impl HotSet {
     {
         let spots = spots_of(alloc, d)?;
         let mut found = stops_of(alloc, &spots)?;
-        let buckets = buckets_over(alloc, &spots)?;
-        add_crossings(&mut found, &spots, &buckets)?;
+        let edges = edges_of(alloc, &spots)?;
+        let buckets = buckets_over(alloc, &edges.segments)?;
+        add_crossings(&mut found, &edges.segments, &buckets)?;
         let points = each_once(alloc, &found)?;
-        let marking = marks_of(alloc, &points, &spots, &buckets)?;
+        let marking = marks_of(alloc, &points, &edges.segments, &buckets)?;
         let mixed = copy_of(alloc, &points)?;
-        HotSet::over(alloc, points, mixed, Vec::new(alloc), spots, marking)
+        HotSet::over(alloc, points, mixed, Vec::new(alloc), edges, marking)
     }
 
     // The set of these points, with runs of the inner ones.
@@ -76,22 +80,24 @@ impl HotSet {
         points: Vec<Pt>,
         mixed: Vec<Pt>,
         runs: Vec<Run>,
-        spots: Vec<Seg>,
+        edges: Edges,
         marking: Marking,
     ) -> Result<HotSet, AllocError>
         requires searchable { IsSearchable points.items mixed.items runs.items }
-        requires marked { AreMarks points.items spots.items marking.marks.items marking.inner.items }
+        requires marked { AreMarks points.items edges.segments.items marking.marks.items marking.inner.items }
         ensures exact { IfOk result (λ s. s ≡ points.items) }
     {
         let Marking { marks, inner } = marking;
         let inner = along_curve(alloc, &inner)?;
         let inner_runs = runs_over(alloc, &inner)?;
+        let Edges { segments, numbers } = edges;
         Ok(HotSet {
             points,
             mixed,
             runs,
-            spots,
+            edges: segments,
             marks,
+            numbers,
             inner,
             inner_runs,
         })
@@ -145,9 +151,9 @@ impl HotSet {
         requires stop { Contains self.now s.now.stop }
         ensures exact { IfOk result (λ chain. chain ≡ chain_among self.now s.now) }
     {
-        if !is_at(&self.spots, place, s) {
+        let Some(_number) = known_edge(&self.edges, &self.numbers, place, s) else {
             return self.chain_of(alloc, s);
-        }
+        };
         let met = met_near(alloc, &self.inner, &self.inner_runs, s)?;
         let all = with_ends(alloc, &met, s)?;
         sorted_along(alloc, all, s)
@@ -158,7 +164,7 @@ impl HotSet {
         ensures quiet { result ≡ true → MeetsEndsAlone self.now s.now }
         ensures ascending { AllPairs (λ (p q : Point). IsTrue (is_before p q)) self.now }
     {
-        is_unmarked(&self.spots, &self.marks, place, s)
+        is_unmarked(&self.edges, &self.numbers, &self.marks, place, s)
     }
 
     /// How many links the chain of a segment has: one less than its points, and none where it has no point.
@@ -179,31 +185,24 @@ impl HotSet {
     }
 }
 
-// Whether a segment stands at this place.
-fn is_at(spots: &[Seg], place: usize, s: &Seg) -> bool
-    ensures { result ≡ true → slice_get spots.now place ≡ Some s.now }
+// Whether there is no mark with this number.
+fn has_no_mark(marks: &[bool], i: u32) -> bool
+    ensures { result ≡ true → slice_get marks.now i ≡ Some false }
 {
-    if place >= spots.len() {
-        return false;
+    match marks.get(i as usize) {
+        Some(mark) => !*mark,
+        None => false,
     }
-    is_same(&spots[place], s)
 }
 
-// Whether a segment stands at this place, and has no mark.
-fn is_unmarked(spots: &[Seg], marks: &[bool], place: usize, s: &Seg) -> bool
-    requires { length marks.now ≡ length spots.now }
-    ensures { result ≡ true → (slice_get spots.now place ≡ Some s.now) × (slice_get marks.now place ≡ Some false) }
+// Whether the edge of a segment, with the number that stands at this place, has no mark.
+fn is_unmarked(edges: &[Seg], numbers: &[u32], marks: &[bool], place: usize, s: &Seg) -> bool
+    ensures { result ≡ true → HasUnmarkedEdge edges.now marks.now s.now }
 {
-    if place >= spots.len() {
-        return false;
+    match known_edge(edges, numbers, place, s) {
+        Some(i) => has_no_mark(marks, i),
+        None => false,
     }
-    !marks[place] && is_same(&spots[place], s)
-}
-
-fn is_same(s: &Seg, t: &Seg) -> bool
-    ensures { result ≡ true → s.now ≡ t.now }
-{
-    s.a() == t.a() && s.b() == t.b()
 }
 
 fn is_listed(points: &[Pt], p: Pt) -> bool

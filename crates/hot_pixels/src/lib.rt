@@ -11,7 +11,8 @@
 //! - `crossing_pixel` rounds the meeting point of two segments, and `meets` tests a segment against a pixel, in whole
 //!   numbers.
 //! - `HotSet::of` lists the hot points of a drawing: its vertices, and the crossings of segments that are near each
-//!   other, found by buckets.
+//!   other, found by buckets. A border that two areas share is tried once: a segment and the one that runs back along it
+//!   have one edge.
 //! - `chain_of` lists the hot points whose pixels a segment meets, in the order in which the segment passes them, and
 //!   `chain_links` counts the links between them without memory. Both pass over runs of hot points that lie beside the
 //!   segment's box.
@@ -25,6 +26,7 @@
 mod beside;
 mod chains;
 mod crossing;
+mod edges;
 mod half_open;
 mod hot_set;
 mod keys;

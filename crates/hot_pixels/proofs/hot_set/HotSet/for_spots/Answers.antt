@@ -8,6 +8,7 @@ use Rattle.lists.specs.Lists.{ascending}
 use Rattle.lists.proofs.Ascending.{ascending-IsAscending, ascending-Contains, Contains-ascending}
 use Rattle.std.specs.List.Sorted.{IsPermutation}
 use Rattle.hot_pixels.specs.Spots.{spots_of}
+use Rattle.hot_pixels.specs.Edges.{AreEdgesOf}
 use Rattle.hot_pixels.specs.Stops.{stop_of}
 use Rattle.hot_pixels.specs.Found.{HasAllCrossings}
 use Rattle.hot_pixels.proofs.SortLemmas.{ascending_pairs}
@@ -16,25 +17,30 @@ use Rattle.hot_pixels.proofs.hot_set.HotSet.for_spots.Goals as goal
 
 pub returns : goal.returns
 returns c =
+    let d = c.args.d.now in
+    let spots = spots_of d in
+    let edges = c.in_ok-edges.edges.segments.items in
     let made = c.add_crossings.new.points.items in
-    let is : c.in_ok-points.points.items ≡ ascending is_before made = c.in_ok-points.ensures.exact ∙ ap (ascending is_before) c.deref-4.ensures.value in
-    let spots : c.deref-3.result.now ≡ spots_of c.args.d.now = c.deref-3.ensures.value ∙ c.in_ok-spots.ensures in
-    let stops : c.in_ok-found.found.items ≡ map stop_of (spots_of c.args.d.now) = c.in_ok-found.ensures ∙ ap (map stop_of) (c.deref.ensures.value ∙ c.in_ok-spots.ensures) in
-    let h : HasAllCrossings (spots_of c.args.d.now) (map stop_of (spots_of c.args.d.now)) made = subst (λ (xs : List GridPoint). HasAllCrossings (spots_of c.args.d.now) xs made) stops (subst (λ (xs : List Segment). HasAllCrossings xs c.in_ok-found.found.items made) spots c.in_ok-add_crossings.ensures) in
-    let exact : c.in_ok-points.points.items ≡ ascending is_before (hot_points c.args.d.now) = is ∙ ascending_is_hot c.args.d.now made h (ascending is_before made)
+    let is : c.in_ok-points.points.items ≡ ascending is_before made = c.in_ok-points.ensures.exact ∙ ap (ascending is_before) c.deref-5.ensures.value in
+    let along : AreEdgesOf spots edges = subst (λ (xs : List Segment). AreEdgesOf xs edges) (c.deref-2.ensures.value ∙ c.in_ok-spots.ensures) c.in_ok-edges.ensures in
+    let stops : c.in_ok-found.found.items ≡ map stop_of spots = c.in_ok-found.ensures ∙ ap (map stop_of) (c.deref.ensures.value ∙ c.in_ok-spots.ensures) in
+    let h : HasAllCrossings edges (map stop_of spots) made =
+    subst (λ (xs : List GridPoint). HasAllCrossings edges xs made) stops (subst (λ (xs : List Segment). HasAllCrossings xs c.in_ok-found.found.items made) c.deref-4.ensures.value c.in_ok-add_crossings.ensures) in
+    let exact : c.in_ok-points.points.items ≡ ascending is_before (hot_points d) =
+    is ∙ ascending_is_hot d edges along made h (ascending is_before made)
     (ascending-IsAscending is_before is_before-IsStrictOrder made)
     (ascending-Contains is_before is_before-IsStrictOrder made)
     (Contains-ascending is_before is_before-IsStrictOrder made) in
     record {
-      exact = IfOk-weaker _ (λ (s : List GridPoint). s ≡ c.in_ok-points.points.items) (λ (s : List GridPoint). s ≡ ascending is_before (hot_points c.args.d.now)) (λ s e. e ∙ exact) c.over.ensures.exact;
+      exact = IfOk-weaker _ (λ (s : List GridPoint). s ≡ c.in_ok-points.points.items) (λ (s : List GridPoint). s ≡ ascending is_before (hot_points d)) (λ s e. e ∙ exact) c.over.ensures.exact;
     }
 
 pub over-requires-clause-searchable : goal.over-requires-clause-searchable
 over-requires-clause-searchable c =
     let made = c.add_crossings.new.points.items in
-    let is : c.in_ok-points.points.items ≡ ascending is_before made = c.in_ok-points.ensures.exact ∙ ap (ascending is_before) c.deref-4.ensures.value in
+    let is : c.in_ok-points.points.items ≡ ascending is_before made = c.in_ok-points.ensures.exact ∙ ap (ascending is_before) c.deref-5.ensures.value in
     record {
       up = subst (λ (xs : List GridPoint). AllPairs (λ p q. IsTrue (is_before p q)) xs) (sym is) (ascending_pairs made);
-      moved = subst (λ (xs : List GridPoint). IsPermutation c.in_ok-points.points.items xs) (sym (c.in_ok-mixed.ensures ∙ c.deref-7.ensures.value)) (IsPermutation-refl c.in_ok-points.points.items);
+      moved = subst (λ (xs : List GridPoint). IsPermutation c.in_ok-points.points.items xs) (sym (c.in_ok-mixed.ensures ∙ c.deref-8.ensures.value)) (IsPermutation-refl c.in_ok-points.points.items);
       held = λ k d l. absurd (let e = ap length c.new.ensures.items in omega arith);
     }

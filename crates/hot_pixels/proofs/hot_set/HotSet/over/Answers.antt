@@ -11,7 +11,7 @@ invariant_of-result c =
     let moved = c.in_ok-inner.inner.items in (
       c.requires.searchable,
       (
-        marks_moved c.args.points.items c.args.spots.items c.args.marking.marks.items c.args.marking.inner.items moved
+        marks_moved c.args.points.items c.args.edges.segments.items c.args.marking.marks.items c.args.marking.inner.items moved
             (subst (λ (xs : List GridPoint). IsPermutation xs moved) c.deref.ensures.value c.in_ok-inner.ensures) c.requires.marked,
         subst (λ (xs : List GridPoint). All (HoldsRun xs) c.in_ok-inner_runs.inner_runs.items) c.deref-2.ensures.value c.in_ok-inner_runs.ensures,
       ),

@@ -1,0 +1,91 @@
+ghost use Rattle.std.specs.Prelude.{◌≡◌, true, IfOk, IfSome, OnOk};
+ghost use Rattle.hot_pixels.specs.Edges.{IsEdgeOf, HasEdgeAt, IsEdgeAdded, AreEdgesOf};
+
+use crate::keys::key_of;
+use grid_base::Seg;
+use std::alloc::{AllocError, Global};
+
+/// Segments without direction, most of them once, and for each segment of a list the number of its edge.
+#[derive(Drop)]
+pub struct Edges {
+    pub segments: Vec<Seg>,
+    pub numbers: Vec<u32>,
+}
+
+fn is_same(s: &Seg, t: &Seg) -> bool
+    ensures { result ≡ true → s.now ≡ t.now }
+{
+    s.a() == t.a() && s.b() == t.b()
+}
+
+// Whether an edge is a segment, or runs back along it.
+fn is_along(edge: &Seg, s: &Seg) -> bool
+    ensures { result ≡ true → IsEdgeOf s.now edge.now }
+{
+    is_same(edge, s) || is_same(edge, &Seg::new(s.b(), s.a()))
+}
+
+fn scattered(key: u64) -> u64 {
+    let product = key.wrapping_mul(0x9E37_79B9_7F4A_7C15);
+    product ^ product >> 32
+}
+
+// A slot of so many, the same for a segment and the one that runs back along it.
+fn slot_of(s: &Seg, slots: usize) -> usize {
+    let sum = scattered(key_of(s.a())).wrapping_add(scattered(key_of(s.b())));
+    let high = sum.wrapping_mul(0x9E37_79B9_7F4A_7C15) >> 32;
+    (high.wrapping_mul(slots as u64) >> 32) as usize
+}
+
+/// The number of a segment's edge, if it is the one that stands at this place of a list of numbers.
+pub fn known_edge(edges: &[Seg], numbers: &[u32], place: usize, s: &Seg) -> Option<u32>
+    ensures { IfSome result (λ i. HasEdgeAt edges.now s.now i) }
+{
+    let i = *numbers.get(place)?;
+    let edge = edges.get(i as usize)?;
+    if is_along(edge, s) { Some(i) } else { None }
+}
+
+// A count as a number of 32 bits. More edges are out of memory.
+fn next_number(count: usize) -> Result<u32, AllocError> {
+    if count > u32::MAX as usize {
+        return Err(AllocError);
+    }
+    Ok(count as u32)
+}
+
+// The number of a segment's edge, which is added if the table doesn't lead to it.
+fn add_edge(edges: &mut Vec<Seg>, table: &mut Vec<u32>, s: &Seg) -> Result<u32, AllocError>
+    ensures { OnOk result (IsEdgeAdded edges.old.items edges.new.items s.now) }
+{
+    let slot = slot_of(s, table.len());
+    if let Some(i) = known_edge(edges, table, slot, s) {
+        return Ok(i);
+    }
+    let i = next_number(edges.len())?;
+    if slot < table.len() {
+        table[slot] = i;
+    }
+    edges.push(*s)?;
+    Ok(i)
+}
+
+/// The edges of segments. The numbers are not proved: a wrong one costs time alone.
+///
+/// A table with two slots for each segment leads to the edges. A slot is the latest edge's that falls on it, so an edge
+/// may stand twice.
+pub fn edges_of(alloc: Global, segments: &[Seg]) -> Result<Edges, AllocError>
+    ensures { IfOk result (λ found. AreEdgesOf segments.now found.segments.items) }
+{
+    let mut table = vec![in alloc; 0; segments.len().saturating_mul(2)]?;
+    let mut edges = Vec::new(alloc);
+    let mut numbers = Vec::with_capacity(alloc, segments.len())?;
+    for s in segments {
+        let i = add_edge(&mut edges, &mut table, s)?;
+        numbers.push(i)?;
+    }
+    Ok(Edges {
+        segments: edges,
+        numbers,
+    })
+}
