@@ -36,6 +36,7 @@ mod quiet;
 mod spots;
 
 pub use crossing::crossing_pixel;
+pub use edges::{Edges, edges_of};
 pub use half_open::meets;
 pub use hot_set::HotSet;
 pub use spots::spots_of;

@@ -5,7 +5,7 @@ ghost use Rattle.plane_model.specs.Snapped.{links_of, link_count};
 ghost use Rattle.snap_round.specs.Linking.{link_along, AllStepsMove};
 
 use grid_base::{Drawing, Link, LinkList, Seg};
-use hot_pixels::spots_of;
+use hot_pixels::{edges_of, spots_of};
 use std::alloc::{AllocError, Global};
 
 fn push_some(links: &mut Vec<Link>, found: Option<Link>) -> Result<(), AllocError>
@@ -54,7 +54,8 @@ pub fn few_links_of(
     if spots.len() as u64 > most {
         return Ok(None);
     }
-    let mut links = links_along(alloc, &spots)?;
+    let edges = edges_of(alloc, &spots)?;
+    let mut links = links_along(alloc, &edges.segments)?;
     links.sort_unstable();
     links.dedup();
     let list = list_of(alloc, &links)?;
