@@ -1,4 +1,4 @@
-ghost use Rattle.std.specs.Prelude.{◌≡◌, None, IsTrue};
+ghost use Rattle.std.specs.Prelude.{◌≡◌, true, false, None, IsTrue};
 ghost use Rattle.plane_model.specs.Points.{same_point};
 ghost use Rattle.plane_model.specs.Pixel.{meets, crossing_pixel};
 ghost use Rattle.hot_pixels.specs.Near.{is_outside};
@@ -27,15 +27,22 @@ pub fn is_beside(s: &Seg, t: &Seg) -> bool
     is_outside(a.y(), b.y(), lesser(c.y(), d.y()), greater(c.y(), d.y()))
 }
 
+/// Whether a point lies beside the box of a segment, so that the segment doesn't meet its pixel.
+pub fn is_off(s: &Seg, p: Pt) -> bool
+    ensures { result ≡ true → meets s.now p ≡ false }
+{
+    let (a, b) = (s.a(), s.b());
+    if is_outside(a.x(), b.x(), p.x(), p.x()) {
+        return true;
+    }
+    is_outside(a.y(), b.y(), p.y(), p.y())
+}
+
 /// Whether a segment meets the pixel of a point. A point beside the segment's box is passed over.
 pub fn is_met(s: &Seg, p: Pt) -> bool
     ensures { result ≡ meets s.now p }
 {
-    let (a, b) = (s.a(), s.b());
-    if is_outside(a.x(), b.x(), p.x(), p.x()) {
-        return false;
-    }
-    if is_outside(a.y(), b.y(), p.y(), p.y()) {
+    if is_off(s, p) {
         return false;
     }
     meets(s, p)

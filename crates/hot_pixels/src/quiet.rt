@@ -3,7 +3,8 @@ ghost use Rattle.plane_model.specs.Pixel.{meets};
 ghost use Rattle.hot_pixels.specs.Found.{AreBucketsOver};
 ghost use Rattle.hot_pixels.specs.Quiet.{IsEndOf, IsMarked, IsSeen, KeepMarks, AreMarks, AreCrowdsMarked, ends_of, others_of};
 
-use crate::beside::{is_end, is_met};
+use crate::beside::{is_end, is_off};
+use crate::half_open::meets;
 use crate::pairs::near_of;
 use bucket_grid::Buckets;
 use grid_base::{Pt, PtList, Seg};
@@ -142,10 +143,13 @@ fn mark_if_met(marks: &mut Vec<bool>, spots: &[Seg], i: u32, p: Pt, is_inner: bo
 fn is_met_inside(s: &Seg, p: Pt) -> bool
     ensures { result ≡ false → meets s.now p ≡ true → IsEndOf s.now p }
 {
+    if is_off(s, p) {
+        return false;
+    }
     if is_end(s, p) {
         return false;
     }
-    is_met(s, p)
+    meets(s, p)
 }
 
 /// Appends the ends of a segment to a path.
