@@ -8,3 +8,4 @@ pub mod SectorRows
 pub mod ClassLemmas
 pub mod LabelLemmas
 pub mod PointLemmas
+pub mod HolderLemmas

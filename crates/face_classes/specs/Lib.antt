@@ -1,1 +1,2 @@
 pub mod FaceClasses
+pub mod FaceHolders

@@ -5,6 +5,7 @@
 #![tactic(auto)]
 
 ghost use Rattle.face_classes.specs.FaceClasses.{EachTableHasLabels, FacesAreClasses, PointsHaveOneFace, PointsOfADrawing};
+ghost use Rattle.face_classes.specs.FaceHolders.{ItemsHoldByParity};
 
 /// The places of the plane can be labelled by the faces of a table of arcs that go along each link of an arrangement once.
 pub fn each_table_has_labels()
@@ -26,4 +27,10 @@ pub fn points_have_one_face()
 /// So it is in a table of the whole arcs of a snapped drawing.
 pub fn points_of_a_drawing()
     ensures { PointsOfADrawing }
+{}
+
+/// An item is in the list of the face over a point exactly if an odd number of its links pass below the point, for lists
+/// that follow from the outer face along crossings.
+pub fn items_hold_by_parity()
+    ensures { ItemsHoldByParity }
 {}

@@ -1,0 +1,30 @@
+-- Items that hold the faces of a table, and the parity of their links at points.
+use Rattle.std.specs.Prelude.{◌≡◌, ℕ, ◌<◌, nat_eq, List, All, length}
+use Rattle.plane_model.specs.Points.{GridPoint, Segment, Path, at, same_segment}
+use Rattle.plane_model.specs.Arrangement.{IsArrangement, IsDistinct}
+use Rattle.plane_model.specs.EvenList.{IsEvenListOf}
+use Rattle.plane_model.specs.Joined.{links_of_arc}
+use Rattle.plane_model.specs.Parity.{odd, odd_count}
+use Rattle.arc_table.specs.Along.{GoAlong}
+use Rattle.face_walk.specs.Crossings.{AreCrossings, LeaveNone, outer_of}
+use Rattle.face_walk.specs.Holders.{AreHeldBy, list_at, stands_oddly, steps_on}
+use Rattle.face_walk.specs.Places.{FaceTable, IsBuiltOf, IsFaceOver}
+use Rattle.face_walk.specs.declared.crossings.Crossing.{Crossing}
+use Rattle.face_walk.specs.declared.ring_steps.RingStep.{RingStep}
+use Rattle.face_classes.specs.FaceClasses.{AreFreeInside}
+
+-- item i steps along an arc an odd number of times exactly where each link of the arc stands in L an odd number of times
+abbrev pub StepAlong : List Path → List RingStep → ℕ → List Segment → Type 0
+StepAlong arcs steps i L = (n : ℕ) → n < length arcs → All (λ (l : Segment). odd_count (same_segment l) L ≡ odd_count (λ (s : RingStep). nat_eq i s.item) (steps_on steps n)) (links_of_arc arcs n)
+
+-- ---- law
+
+-- An item is in the list of the face over a point exactly if an odd number of its links pass below the point: in a table of the arcs of an
+-- arrangement, for lists that follow along crossings that leave no face out, and an item whose links are an even list and whose steps are
+-- along them.
+abbrev pub ItemsHoldByParity : Type 0
+ItemsHoldByParity = (S : List Segment) → IsArrangement S → IsDistinct S → (arcs : List Path) → All (λ arc. 1 < length arc) arcs → GoAlong S arcs → AreFreeInside S arcs →
+    (faces : FaceTable) → IsBuiltOf arcs faces → (crossings : List Crossing) → AreCrossings faces crossings → LeaveNone faces crossings →
+    (steps : List RingStep) (held : List (List ℕ)) → AreHeldBy steps (outer_of faces) crossings held →
+    (i : ℕ) (L : List Segment) → IsEvenListOf S L → StepAlong arcs steps i L →
+    (p : GridPoint) (f : ℕ) → IsFaceOver faces p f → stands_oddly (list_at held f) i ≡ odd L (at p)
