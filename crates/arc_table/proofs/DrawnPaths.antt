@@ -96,6 +96,7 @@ module _ (d : Drawing) (arcs : List Path) (table : AreArcsOf d arcs) where
           passed = λ k l. absurd (omega arith);
           node = inl line_starts;
           joined = all ∙ sym (append-nil line);
+          stepped = ap steps (sym (all ∙ sym (append-nil line))) ∙ w.stepped;
         }
 
   -- ---- a ring or a box
@@ -215,6 +216,14 @@ module _ (d : Drawing) (arcs : List Path) (table : AreArcsOf d arcs) where
         let passed_first : (k : ℕ) → k < w.first → IsPassed d (point_at ring k) = λ k l. subst (IsPassed d) (lower k (omega arith))
         (passed_before d arcs table.arrangement.ordered table.links table.whole table.long Q n ring_on ring_plain ring_kind k (omega arith) (w.before k l)) in
         let sizes : length (joined_points arcs named) ≡ length (drop w.first ring ++ take w.first (tail ring)) = omega arith in
+        let all : joined_points arcs named ≡ round_from w.first ring =
+        ext_get_or o (joined_points arcs named) (round_from w.first ring) sizes
+        (λ t l. w.points t (omega arith) ∙ elim (cases_lt (w.first + t) (suc n)) [
+          | inl v ↦ lower (w.first + t) (omega arith) ∙ sym (get_or-drop w.first ring t o) ∙ sym (get_or_append_left (drop w.first ring) (take w.first (tail ring)) o t (omega arith))
+          | inr v ↦ get_or-append_right ring (tail ring) (suc n) (w.first + t) o (sym size) (omega arith)
+              ∙ sym (get_or-append_right (drop w.first ring) (take w.first (tail ring)) (suc n - w.first) t o size_drop (omega arith)
+              ∙ get_or-take w.first (tail ring) (t - (suc n - w.first)) o (omega arith) ∙ ap (point_at (tail ring)) (let e : t - (suc n - w.first) ≡ w.first + t - suc n = omega arith in e))
+        ]) in
         record {
           first = w.first;
           there = omega arith;
@@ -230,13 +239,8 @@ module _ (d : Drawing) (arcs : List Path) (table : AreArcsOf d arcs) where
               same = e.2;
             })
           ];
-          joined = ext_get_or o (joined_points arcs named) (round_from w.first ring) sizes
-              (λ t l. w.points t (omega arith) ∙ elim (cases_lt (w.first + t) (suc n)) [
-                | inl v ↦ lower (w.first + t) (omega arith) ∙ sym (get_or-drop w.first ring t o) ∙ sym (get_or_append_left (drop w.first ring) (take w.first (tail ring)) o t (omega arith))
-                | inr v ↦ get_or-append_right ring (tail ring) (suc n) (w.first + t) o (sym size) (omega arith)
-                    ∙ sym (get_or-append_right (drop w.first ring) (take w.first (tail ring)) (suc n - w.first) t o size_drop (omega arith)
-                    ∙ get_or-take w.first (tail ring) (t - (suc n - w.first)) o (omega arith) ∙ ap (point_at (tail ring)) (let e : t - (suc n - w.first) ≡ w.first + t - suc n = omega arith in e))
-              ]);
+          joined = all;
+          stepped = ap steps (sym all) ∙ w.stepped;
         }
 
 -- ---- closed paths

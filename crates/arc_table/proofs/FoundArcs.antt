@@ -2,11 +2,13 @@
 use Rattle.std.proofs.Common.{◌≡◌, ◌⊎◌, inl, inr, refl, sym, ap, ◌∙◌, subst, arith, ℕ, zero, suc, ◌+◌, ◌-◌, ◌<◌, ◌≤◌, List, [], ◌∷◌, ◌++◌, length, get_or, All, Contains, append_assoc}
 use Rattle.std.specs.Prelude.{◌≢◌}
 use Rattle.std.proofs.lemmas.Bool.{cases_lt}
-use Rattle.std.proofs.lemmas.List.{length-append, get_or_append_left, get_or-append_right}
+use Rattle.std.specs.List.{flat_map}
+use Rattle.std.proofs.lemmas.Grind.{flat_map-append}
+use Rattle.std.proofs.lemmas.List.{append-nil, length-append, get_or_append_left, get_or-append_right}
 use Rattle.std.proofs.lemmas.List.Elements.{All-head, All-tail, All-nil, All-cons, All-append}
 use Rattle.lists.specs.Lists.{without_last}
 use Rattle.plane_model.specs.Points.{Segment, Path, link_between}
-use Rattle.plane_model.specs.Drawing.{Drawing}
+use Rattle.plane_model.specs.Drawing.{Drawing, steps}
 use Rattle.plane_model.specs.Arcs.{SignedArc, points_of, joined_points}
 use Rattle.plane_model.specs.Arrangement.{IsBefore}
 use Rattle.plane_model.specs.Snapped.{links_of}
@@ -63,6 +65,19 @@ module _ (arcs : List Path) where
       ap (λ (ps : Path). A ++ ps) (joined_more b rest z later) ∙ sym (append_assoc A (without_last B) (points_of arcs z))
       ∙ ap (λ (ps : Path). ps ++ points_of arcs z) (sym (without_last-append A B (joined_some b rest later)))
 
+-- the steps of a path that ends where another begins, and of that one
+steps_over : (J P : Path) (t : ℕ) → suc t ≡ length J → 0 < length P → point_at J t ≡ point_at P 0 → steps (without_last J ++ P) ≡ steps J ++ steps P
+steps_over [] P t size some e = absurd (omega arith)
+steps_over (x ∷ []) P t size some e = refl
+steps_over (x ∷ y ∷ []) [] t size some e = absurd (omega arith)
+steps_over (x ∷ y ∷ []) (p ∷ ps) zero size some e = absurd (omega arith)
+steps_over (x ∷ y ∷ []) (p ∷ ps) (suc t) size some e =
+    let same : t ≡ 0 = omega arith in
+    let meets : y ≡ p = ap (λ (k : ℕ). point_at (y ∷ []) k) (sym same) ∙ e in
+    λ i. record { start = x; stop = sym meets i } ∷ steps (p ∷ ps)
+steps_over (x ∷ y ∷ z ∷ rest) P zero size some e = absurd (omega arith)
+steps_over (x ∷ y ∷ z ∷ rest) P (suc t) size some e = ap (λ (ss : List Segment). record { start = x; stop = y } ∷ ss) (steps_over (y ∷ z ∷ rest) P t (omega arith) some e)
+
 -- the arc begins with a step of the path, not before vertex `first`
 abbrev pub BeginsFrom : List Path → Path → ℕ → SignedArc → Type 0
 BeginsFrom arcs Q first a = (k : ℕ) × (first ≤ k) × (suc k < length Q) × IsStepOf arcs a 0 (path_step Q k)
@@ -89,6 +104,7 @@ pub record IsUnderWay (arcs : List Path) (Q : Path) (at inside : ℕ) (named : L
   pub each : All (BeginsFrom arcs Q first) named
   pub size : length (joined_points arcs named) + first ≡ suc (at + inside)
   pub points : (t : ℕ) → first + t ≤ at + inside → point_at (joined_points arcs named) t ≡ point_at Q (first + t)
+  pub stepped : steps (joined_points arcs named) ≡ flat_map (λ (b : SignedArc). steps (points_of arcs b)) named
 
 abbrev pub IsFound : List Path → Path → ℕ → ℕ → List SignedArc → Type 0
 IsFound arcs Q at inside named = NoneYet arcs Q at inside named ⊎ IsUnderWay arcs Q at inside named
@@ -118,6 +134,7 @@ found_inside arcs Q at inside left next_at named some less next (inr w) =
       each = w.each;
       size = omega arith;
       points = λ t l. w.points t (omega arith);
+      stepped = w.stepped;
     })
 
 module _ (d : Drawing) (arcs : List Path) (ordered : All (λ (l : Segment). IsBefore l.start l.stop) (links_of d)) (along : GoAlong (links_of d) arcs) (whole : All (IsWholeArc d) arcs)
@@ -184,6 +201,7 @@ module _ (d : Drawing) (arcs : List Path) (ordered : All (λ (l : Segment). IsBe
           each = All-cons (BeginsFrom arcs Q at) a [] (begins_here at (omega arith)) (All-nil (BeginsFrom arcs Q at));
           size = (let e : length P + at ≡ suc (suc at + left) = omega arith in e);
           points = λ t m. along_points t (omega arith);
+          stepped = sym (append-nil (steps P));
         }
 
     module _ (named : List SignedArc) (w : IsUnderWay arcs Q at 0 named) where
@@ -212,6 +230,11 @@ module _ (d : Drawing) (arcs : List Path) (ordered : All (λ (l : Segment). IsBe
                 ∙ along_points (t - length (without_last J)) (omega arith) ∙ ap (point_at Q) (let g : at + (t - length (without_last J)) ≡ w.first + t = omega arith in g)
           ]
 
+      they_meet : point_at J (at - w.first) ≡ point_at P 0
+      they_meet =
+          let b = w.below in
+          w.points (at - w.first) (omega arith) ∙ ap (point_at Q) (let g : w.first + (at - w.first) ≡ at + 0 = omega arith in g) ∙ sym (along_points 0 (omega arith))
+
       pub another_begun : IsUnderWay arcs Q (suc at) left (named ++ a ∷ [])
       another_begun =
           let some = h.there in
@@ -233,6 +256,8 @@ module _ (d : Drawing) (arcs : List Path) (ordered : All (λ (l : Segment). IsBe
                 (All-cons (BeginsFrom arcs Q w.first) a [] (begins_here w.first (let b = w.below in omega arith)) (All-nil (BeginsFrom arcs Q w.first)));
             size = omega arith;
             points = new_points;
+            stepped = ap steps joined_is ∙ steps_over J P (at - w.first) (let g = w.size in let b = w.below in omega arith) has_points they_meet
+                ∙ (λ k. w.stepped k ++ sym (append-nil (steps P)) k) ∙ sym (flat_map-append (λ (b : SignedArc). steps (points_of arcs b)) named (a ∷ []));
           }
 
   -- a step that begins an arc

@@ -1,9 +1,10 @@
 -- The arcs that a path of a drawing goes along.
 use Rattle.std.specs.Prelude.{◌≡◌, ◌⊎◌, ◌+◌, ◌<◌, ℕ, List, [], ◌++◌, All, length, take, drop}
+use Rattle.std.specs.List.{flat_map}
 use Rattle.lists.specs.Lists.{tail}
 use Rattle.plane_model.specs.Points.{GridPoint, Path}
-use Rattle.plane_model.specs.Drawing.{Drawing}
-use Rattle.plane_model.specs.Arcs.{SignedArc, joined_points}
+use Rattle.plane_model.specs.Drawing.{Drawing, steps}
+use Rattle.plane_model.specs.Arcs.{SignedArc, joined_points, points_of}
 use Rattle.plane_model.specs.Arrangement.{IsArrangement}
 use Rattle.plane_model.specs.Joined.{IsClosed}
 use Rattle.plane_model.specs.Snapped.{links_of}
@@ -35,13 +36,15 @@ pub record IsOneRound (d : Drawing) (path : Path) (named : List SignedArc) : Typ
   pub one : SignedArc
   pub same : All (λ (a : SignedArc). a ≡ one) named
 
--- the arcs, joined, are the path from its first node round, or where it has none from one of its vertices
+-- the arcs, joined, are the path from its first node round, or where it has none from one of its vertices; each begins where the one before
+-- it ends, so that the steps of the path are theirs
 pub record RunsFrom (d : Drawing) (arcs : List Path) (path : Path) (named : List SignedArc) : Type 0 where
   pub first : ℕ
   pub there : first + 1 < length path
   pub passed : (k : ℕ) → k < first → IsPassed d (point_at path k)
   pub node : IsNode d (point_at path first) ⊎ IsOneRound d path named
   pub joined : joined_points arcs named ≡ round_from first path
+  pub stepped : steps (round_from first path) ≡ flat_map (λ (a : SignedArc). steps (points_of arcs a)) named
 
 -- the arcs along a path, in order; a single vertex has none
 pub record ArePathArcs (d : Drawing) (arcs : List Path) (path : Path) (named : List SignedArc) : Type 0 where
