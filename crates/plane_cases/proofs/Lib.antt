@@ -1,2 +1,3 @@
+pub mod InnerFaces
 pub mod SingleLink
 pub mod SquareLemmas

@@ -1,10 +1,10 @@
 -- The drawing of one link: its links are that link, which is an arrangement.
-use Rattle.std.proofs.Common.{◌≡◌, inl, inr, Bool, true, false, List, [], ◌∷◌, refl, sym, ap, ◌∙◌, subst, Contains}
+use Rattle.std.proofs.Common.{◌≡◌, inl, inr, Bool, true, false, Option, Some, None, List, [], ◌∷◌, refl, sym, ap, ◌∙◌, subst, Contains}
 use Rattle.std.specs.Prelude.{if◌then◌else◌}
 use Rattle.std.proofs.lemmas.List.Elements.{All-cons, All-nil}
 use Rattle.lists.proofs.Members.{Contains-cases, Contains-nil}
 use Rattle.plane_algebra.proofs.Order.{order}
-use Rattle.plane_model.specs.Points.{GridPoint, Segment, IsOn, at, same_point, is_before, reversed, SamePlace}
+use Rattle.plane_model.specs.Points.{GridPoint, Segment, IsOn, at, same_point, is_before, reversed, link_between, SamePlace}
 use Rattle.plane_model.specs.Drawing.{Drawing, vertices_of}
 use Rattle.plane_model.specs.Snapped.{links_of}
 use Rattle.plane_model.specs.Arrangement.{IsBefore, IsArrangement, IsEnd}
@@ -18,6 +18,21 @@ apart a b h = go (same_point a b) refl
     go : (t : Bool) → same_point a b ≡ t → t ≡ false
     go true e = absurd (is_before-IsStrictOrder.irreflexive b (subst (λ (p : GridPoint). is_before p b ≡ true) (same_point_from a b e) h))
     go false e = refl
+
+-- what is between two points: nothing where they are the same
+abbrev between_when : Segment → Bool → Bool → Option Segment
+between_when s same before = if same then None else Some (if before then s else reversed s)
+
+segment_or : Segment → Option Segment → Segment
+segment_or s (Some found) = found
+segment_or s None = s
+
+-- the link between a point and a later one
+pub link_is : (p q : GridPoint) (l : Segment) → is_before p q ≡ true → Some l ≡ (if same_point p q then None else Some (link_between (record { start = p; stop = q }))) → l ≡ record { start = p; stop = q }
+unfolding segment_or
+link_is p q l h e =
+    let s : Segment = record { start = p; stop = q } in
+    ap (segment_or l) (e ∙ ap (λ (t : Bool). between_when s t (is_before p q)) (apart p q h) ∙ ap (between_when s false) h)
 
 module _ (l : Segment) (h : is_before l.start l.stop ≡ true) where
   pub same_line : without_repeats (l.start ∷ l.stop ∷ []) ≡ l.start ∷ l.stop ∷ []

@@ -1,4 +1,4 @@
--- The drawing of a square and one diagonal, by one line: its links meet at common ends alone.
+-- A square with a diagonal, drawn by one line: its links meet at common ends alone.
 use Rattle.std.proofs.Common.{◌≡◌, ◌⊎◌, inl, inr, refl, arith, sym, ap, ◌∙◌, subst, ℤ, pos, negsuc, ◌-ℤ◌, ◌*ℤ◌, neg_ℤ, ◌≤ℤ◌, ◌<ℤ◌, List, [], ◌∷◌, All, Contains}
 use Rattle.std.proofs.lemmas.List.Elements.{All-nil, All-cons}
 use Rattle.lists.proofs.Members.{Contains-cases, Contains-nil}
@@ -8,6 +8,7 @@ use Rattle.plane_model.specs.Points.{GridPoint, RationalPoint, Segment, Path, Is
 use Rattle.plane_model.specs.Drawing.{Drawing, vertices_of}
 use Rattle.plane_model.specs.Snapped.{links_of}
 use Rattle.plane_model.specs.Arrangement.{IsBefore, IsArrangement, IsEnd, MeetAtEnds}
+use Rattle.grid_base.specs.Drawn.{without_repeats}
 use Rattle.plane_cases.specs.OneLink.{one_line}
 use Rattle.plane_cases.specs.Square.{lower_left, lower_right, upper_right, upper_left, square_line, square_links}
 
@@ -193,6 +194,9 @@ arranged = record {
 
 pub links_are : links_of (one_line square_line) ≡ square_links
 links_are = refl
+
+pub drawn_is : (d : Drawing) (line : Path) → line ≡ square_line → d ≡ one_line (without_repeats line) → d ≡ one_line square_line
+drawn_is d line l h = h ∙ ap (λ (path : Path). one_line (without_repeats path)) l
 
 -- ---- the corners lie inside no link
 

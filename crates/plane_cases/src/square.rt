@@ -61,7 +61,8 @@ fn square_links(alloc: Global) -> Result<LinkList, Fail>
 
 /// The square with its diagonal.
 pub fn square(alloc: Global) -> Result<Snapped, Fail> {
-    let paths = drawn(alloc, square_line(alloc)?)?;
+    let line = square_line(alloc)?;
+    let paths = drawn(alloc, line)?;
     let links = square_links(alloc)?;
     Ok(Snapped::new(paths, links))
 }

@@ -3,16 +3,18 @@ ghost use Rattle.std.specs.Prelude.{◌≡◌, ◌∷◌, [], All, IfOk};
 ghost use Rattle.face_walk.specs.Places.{HasArc, IsBuiltOf};
 
 use crate::square::{corner, square, square_line};
-use crate::triangles::{both, left_of, pair};
+use crate::triangles::{both, face_left_of, left_of, pair};
 use arc_table::{ArcTable, Polys, SignedPaths};
 use face_walk::Faces;
 use grid_base::{ArcId, FaceId, GroupList, IdList, OverlapRule, SignedArc};
-use line_ops::{boundary_arcs, clip_paths, erase_paths, inner_arcs, point_inside};
+use line_ops::{
+    SidedArc, boundary_arcs, clip_paths, erase_paths, inner_arcs, point_inside, sided_arcs,
+};
 use region_ops::{
     MosaicItem, PartItem, clean_sets, clip_sets, dissolve_sets, erase_sets, explode_sets,
     mosaic_sets,
 };
-use ring_trace::{FaceSet, SetList, parts, trace};
+use ring_trace::{FaceOwners, FaceSet, SetList, parts, trace};
 use std::alloc::{AllocError, Global};
 use std::test::Fail;
 
@@ -53,11 +55,40 @@ fn is_shared(item: Option<&MosaicItem>, ids: &[u32], set: &FaceSet) -> bool {
     }
 }
 
+fn is_between(arc: Option<&SidedArc>, left: Option<u32>, right: Option<u32>) -> bool {
+    match arc {
+        Some(arc) => arc.left == left && arc.right == right,
+        None => false,
+    }
+}
+
 fn is_part(item: Option<&PartItem>, feature: u32, set: &FaceSet) -> bool {
     match item {
         Some(item) => item.feature == feature && item.set.faces() == set.faces(),
         None => false,
     }
+}
+
+#[test]
+fn faces_have_arcs_areas_and_owners(rt: HostRuntime) -> Result<(), Fail> {
+    let alloc = rt.alloc();
+    let table = ArcTable::build(alloc, &square(alloc)?)?;
+    let faces = Faces::build(alloc, &table)?;
+    let lower = left_of(alloc, &table, &faces, forward(0))?;
+    let upper = left_of(alloc, &table, &faces, backward(1))?;
+    let all = both(alloc, &faces, &lower, &upper)?;
+    let below = face_left_of(&table, &faces, forward(0))?;
+    let above = face_left_of(&table, &faces, backward(1))?;
+    assert!(rt; faces.arcs_of(below) == [forward(0), backward(2)].as_slice());
+    assert!(rt; faces.arcs_of(above) == [backward(1), forward(2)].as_slice());
+    // Each is half a square of the grid.
+    assert_eq!(rt; faces.twice_area(below), 1);
+    assert_eq!(rt; faces.twice_area(above), 1);
+    let owners = FaceOwners::of(alloc, &faces, &pair(alloc, &faces, &all, &upper)?)?;
+    assert!(rt; owners.at(below) == [0].as_slice());
+    assert!(rt; owners.at(above) == [0, 1].as_slice());
+    assert!(rt; owners.at(faces.outer()).is_empty());
+    Ok(())
 }
 
 #[test]
@@ -151,6 +182,10 @@ fn lines_and_points_lie_beside_sets(rt: HostRuntime) -> Result<(), Fail> {
     let sets = pair(alloc, &faces, &lower, &upper)?;
     let borders = boundary_arcs(alloc, &table, &faces, &sets)?;
     assert!(rt; borders.as_slice() == [ArcId::new(0), ArcId::new(1), ArcId::new(2)].as_slice());
+    let sided = sided_arcs(alloc, &table, &faces, &sets)?;
+    assert!(rt; is_between(sided.get(0), Some(0), None));
+    assert!(rt; is_between(sided.get(1), None, Some(1)));
+    assert!(rt; is_between(sided.get(2), Some(1), Some(0)));
     let inner = inner_arcs(alloc, &table, &faces, &sets)?;
     assert!(rt; inner.as_slice() == [ArcId::new(2)].as_slice());
     // On arc 0, on arc 1, and at the node where all three begin.

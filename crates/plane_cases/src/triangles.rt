@@ -1,24 +1,32 @@
 // Sets of the faces of a table, and lists of them.
-ghost use Rattle.std.specs.Prelude.{◌≡◌, All, IfOk, length};
+ghost use Rattle.std.specs.Prelude.{◌≡◌, ◌<◌, All, IfOk, length};
 ghost use Rattle.face_walk.specs.Places.{IsBuiltOf};
 ghost use Rattle.ring_trace.specs.Sets.{IsSetOf};
 
 use arc_table::ArcTable;
 use face_walk::Faces;
-use grid_base::SignedArc;
+use grid_base::{FaceId, SignedArc};
 use ring_trace::{FaceSet, SetList};
 use std::alloc::{AllocError, Global};
 use std::test::Fail;
+
+/// The face on the left of a signed arc.
+pub fn face_left_of(t: &ArcTable, f: &Faces, a: SignedArc) -> Result<FaceId, Fail>
+    requires { IsBuiltOf t.now f.now }
+    ensures { IfOk result (λ face. face < f.now.count) }
+{
+    if a.id().num() >= t.count() {
+        return Err(Fail::from("no such arc"));
+    }
+    Ok(f.left_of(a))
+}
 
 /// The set of the face on the left of a signed arc.
 pub fn left_of(alloc: Global, t: &ArcTable, f: &Faces, a: SignedArc) -> Result<FaceSet, Fail>
     requires { IsBuiltOf t.now f.now }
     ensures { IfOk result (IsSetOf f.now) }
 {
-    if a.id().num() >= t.count() {
-        return Err(Fail::from("no such arc"));
-    }
-    let face = f.left_of(a);
+    let face = face_left_of(t, f, a)?;
     if face == f.outer() {
         return Err(Fail::from("outside"));
     }
@@ -33,7 +41,8 @@ pub fn both(alloc: Global, f: &Faces, one: &FaceSet, other: &FaceSet) -> Result<
     requires other { IsSetOf f.now other.now }
     ensures { IfOk result (IsSetOf f.now) }
 {
-    one.union(alloc, other)
+    let set = one.union(alloc, other)?;
+    Ok(set)
 }
 
 /// The list of two sets.
