@@ -13,7 +13,7 @@ made false x y e = absurd cc
 pub point_made : (x y : ℤ) (p : GridPoint) → Some p ≡ grid_point x y → p ≡ record { x = x; y = y }
 point_made x y p e = made (is_on_grid (record { x = x; y = y })) (record { x = x; y = y }) p e
 
-corners_made : (p q : GridPoint) (r : Corners) → Some r ≡ corners_of p q → r ≡ record { low = p; high = q }
+pub corners_made : (p q : GridPoint) (r : Corners) → Some r ≡ corners_of p q → r ≡ record { low = p; high = q }
 corners_made p q r e = made (int_le p.x q.x && int_le p.y q.y) (record { low = p; high = q }) r e
 
 pub across_made : (area : Corners) (axis : Axis) (low high u v : ℤ) (p q : GridPoint) (o : Option Corners) → axis ≡ Across → u ≡ area.low.y → v ≡ area.high.y →
