@@ -1,3 +1,6 @@
 pub mod LinkLemmas
 pub mod ClassLemmas
 pub mod RingLemmas
+pub mod CountLemmas
+pub mod ArcCounts
+pub mod PolygonLaws

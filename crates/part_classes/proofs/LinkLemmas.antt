@@ -18,14 +18,14 @@ use Rattle.ring_trace.specs.Boundary.{other_way}
 
 module _ (S : List Segment) (arr : IsArrangement S) (arcs : List Path) (long : All (λ arc. 1 < length arc) arcs) (along : GoAlong S arcs) (faces : FaceTable) (label : Place → ℕ) (by : IsFaceOfPlace arcs faces label) where
   -- left of the dart of a step is the face left of the arc, and right of it that right of the arc
-  left_at : (n j : ℕ) (s : Segment) → IsStep arcs n j s → label (left_of (dart_of_step s)) ≡ face_left_of faces.places (forward n)
+  pub left_at : (n j : ℕ) (s : Segment) → IsStep arcs n j s → label (left_of (dart_of_step s)) ≡ face_left_of faces.places (forward n)
   left_at n j s h =
       let xs = steps (arc_of arcs n) in
       let size = length-map xs dart_of_step in
       let there = h.there in
       ap (λ (d : Dart). label (left_of d)) (sym (get_or-map dart_of_step xs j s (dart_of_step s) h.there ∙ ap dart_of_step h.is)) ∙ by.left n h.arc j (dart_of_step s) (omega arith)
 
-  right_at : (n j : ℕ) (s : Segment) → IsStep arcs n j s → label (left_of (opposite (dart_of_step s))) ≡ face_left_of faces.places (backward n)
+  pub right_at : (n j : ℕ) (s : Segment) → IsStep arcs n j s → label (left_of (opposite (dart_of_step s))) ≡ face_left_of faces.places (backward n)
   right_at n j s h =
       let xs = steps (arc_of arcs n) in
       let size = length-map xs dart_of_step in

@@ -113,7 +113,7 @@ module _ (S : List Segment) (arr : IsArrangement S) (arcs : List Path) (long : A
     inner : ((0 < place) × (place + 1 < length (arc_of arcs a.arc))) ⊎ (p ≡ start_of arcs a)
     way : ((a.is_reversed ≡ false) × (place ≡ v)) ⊎ ((a.is_reversed ≡ true) × (place ≡ length (arc_of arcs a.arc) - 1 - v))
 
-  size_of : (a : SignedArc) → a.arc < length arcs → length (without_last (points_of arcs a)) + 1 ≡ length (arc_of arcs a.arc)
+  pub size_of : (a : SignedArc) → a.arc < length arcs → length (without_last (points_of arcs a)) + 1 ≡ length (arc_of arcs a.arc)
   size_of a l =
       let longer : 1 < length (arc_of arcs a.arc) = long a.arc [] l in
       let counted = points_counted arcs a in

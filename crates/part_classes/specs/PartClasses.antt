@@ -1,18 +1,21 @@
 -- The parts of a set of faces as parts of the plane.
-use Rattle.std.specs.Prelude.{◌≢◌, ℕ, ◌<◌, nat_eq, List, All, AllPairs, length}
+use Rattle.std.specs.Prelude.{◌≡◌, ◌≢◌, ℕ, ◌<◌, nat_eq, List, [], All, AllPairs, length, map, slice_index_or}
 use Rattle.lists.specs.Lists.{has, place_of}
 use Rattle.plane_model.specs.Points.{Segment, Path}
 use Rattle.plane_model.specs.Arcs.{SignedArc}
-use Rattle.plane_model.specs.Arrangement.{IsArrangement}
+use Rattle.plane_model.specs.Arrangement.{IsArrangement, IsDistinct}
 use Rattle.plane_faces.specs.Labels.{IsPartLabelling}
 use Rattle.plane_faces.specs.Places.{Place}
-use Rattle.plane_faces.specs.Rings.{IsRing}
+use Rattle.plane_faces.specs.Rings.{IsPolygon, IsRing}
 use Rattle.arc_table.specs.Along.{GoAlong}
 use Rattle.arc_table.specs.Around.{start_of}
 use Rattle.face_walk.specs.Places.{FaceTable, IsBuiltOf}
 use Rattle.face_classes.specs.FaceClasses.{AreFreeInside, IsFaceOfPlace}
+use Rattle.ring_trace.specs.Boundary.{IsOnBoundary}
 use Rattle.ring_trace.specs.Joined.{AreParts}
 use Rattle.ring_trace.specs.Pairing.{stop_of}
+use Rattle.ring_trace.specs.Sets.{IsSetOf}
+use Rattle.ring_trace.specs.Traced.{is_of_boundary, once_if, times_round}
 use Rattle.ring_trace.specs.Turns.{round_of}
 use Rattle.ring_trace.specs.Ways.{IsSimpleRing}
 
@@ -31,3 +34,13 @@ PartsAreClasses = (S : List Segment) → IsArrangement S → (arcs : List Path) 
 abbrev pub RingsGoRound : Type 0
 RingsGoRound = (S : List Segment) → IsArrangement S → (arcs : List Path) → All (λ arc. 1 < length arc) arcs → GoAlong S arcs → AreFreeInside S arcs → (ring : List SignedArc) → 0 < length ring →
     All (λ a. a.arc < length arcs) ring → IsSimpleRing (start_of arcs) (stop_of arcs) ring → AllPairs (λ a b. a.arc ≢ b.arc) ring → IsRing (round_of arcs ring)
+
+-- The rings of a part: closed runs of signed arcs, no two of a run from one vertex, which together use each signed arc of the boundary of the part
+-- once and no other. They are an exterior, which turns left at its least vertex, and holes, which turn right, and a point is in the part just where
+-- it is inside the exterior and in no hole.
+abbrev pub PolygonsHaveExteriors : Type 0
+PolygonsHaveExteriors = (S : List Segment) → IsArrangement S → IsDistinct S → (arcs : List Path) → All (λ arc. 1 < length arc) arcs → GoAlong S arcs → AreFreeInside S arcs → (faces : FaceTable) → IsBuiltOf arcs faces →
+    (label : Place → ℕ) → IsFaceOfPlace arcs faces label → (set : List ℕ) → IsSetOf faces set → (parts : List (List ℕ)) → AreParts faces set parts → (n : ℕ) → n < length parts → (polygon : List (List SignedArc)) →
+    All (All (λ a. a.arc < length arcs)) polygon → All (λ ring. 0 < length ring) polygon → All (IsSimpleRing (start_of arcs) (stop_of arcs)) polygon →
+    ((a : SignedArc) → times_round a polygon ≡ once_if (is_of_boundary faces.places (length arcs) (slice_index_or parts n []) a)) → (a : SignedArc) → IsOnBoundary faces (slice_index_or parts n []) a →
+    IsPolygon S (λ place. has nat_eq (slice_index_or parts n []) (label place)) (map (round_of arcs) polygon)

@@ -1,9 +1,10 @@
-//! The parts of a set of faces are the parts that the plane has of their region.
+//! The parts of a set of faces are the parts that the plane has of their region, and the rings that are traced for a part
+//! are an exterior and holes that together hold it.
 //!
 //! Each function carries one law in its contract, and does nothing.
 #![tactic(auto)]
 
-ghost use Rattle.part_classes.specs.PartClasses.{PartsAreClasses, RingsGoRound};
+ghost use Rattle.part_classes.specs.PartClasses.{PartsAreClasses, PolygonsHaveExteriors, RingsGoRound};
 
 /// The parts of a set of faces, numbered as they stand, are the parts of the region of these faces: links within the
 /// region join parts, and nothing else does.
@@ -15,4 +16,10 @@ pub fn parts_are_classes()
 /// passes each of its points once.
 pub fn rings_go_round()
     ensures { RingsGoRound }
+{}
+
+/// The rings that are traced for a part are one exterior, which turns left at its least vertex, and holes, which turn
+/// right, and a point is in the part just where it is inside the exterior and in no hole.
+pub fn polygons_have_exteriors()
+    ensures { PolygonsHaveExteriors }
 {}
