@@ -1,4 +1,4 @@
-ghost use Rattle.std.specs.Prelude.{◌≡◌, ◌++◌, ◌∷◌, [], List, IfNone, IfSome, None, OnErr, OnOk, ◌<◌, length, map, slice_get, slice_set};
+ghost use Rattle.std.specs.Prelude.{◌≡◌, ◌++◌, ◌∷◌, [], List, IfNone, IfOk, IfSome, None, OnErr, OnOk, ◌<◌, length, map, slice_get, slice_set};
 ghost use Rattle.std.specs.Option.{option_copied, option_map};
 ghost use Rattle.json_read.specs.Seen.{members_seen};
 ghost use Rattle.json_read.specs.Putting.{PutsLast, PutsAt, HasValueAt};
@@ -95,6 +95,15 @@ impl JsonList {
         JsonList {
             items: Vec::new(alloc),
         }
+    }
+
+    /// No items, and room for so many.
+    pub(crate) fn with_capacity(alloc: Global, capacity: usize) -> Result<Self, AllocError>
+        ensures { IfOk result (λ l. l ≡ no_items) }
+    {
+        Ok(JsonList {
+            items: Vec::with_capacity(alloc, capacity)?,
+        })
     }
 
     /// A refused push changes nothing.

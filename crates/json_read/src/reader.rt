@@ -481,11 +481,12 @@ impl<'a> Reader<'a> {
     fn array(&mut self, depth: u32) -> Result<JsonList, Stop>
         ensures { PartAt (ArrayText depth) (inside in_array depth first_value) (behind depth) result self.old.rest.now self.new.rest.now }
     {
-        let mut items = JsonList::new(self.alloc);
         self.skip_white();
         if self.take(b']') {
-            return Ok(items);
+            return Ok(JsonList::new(self.alloc));
         }
+        // Most arrays are positions.
+        let mut items = JsonList::with_capacity(self.alloc, 2)?;
         loop {
             let item = self.padded(depth)?;
             items.push(item)?;

@@ -95,14 +95,14 @@ value-returns-in_default-first t c =
     ]
 
 pub array-returns-then-take : goal.array-returns-then-take
-array-returns-then-take t c = array_empty c.args.depth c.new-items.result _ _ _ c.new-items.ensures c.skip_white.ensures (c.take.ensures.taken c.if-take.true)
+array-returns-then-take t c = array_empty c.args.depth c.new.result _ _ _ c.new.ensures c.skip_white.ensures (c.take.ensures.taken c.if-take.true)
 
 pub array-loop-items-init : goal.array-loop-items-init
-array-loop-items-init t c = array_init c.args.depth c.new-items.result _ _ _ c.new-items.ensures c.skip_white.ensures (c.take.ensures.stays c.if-take.false) (c.take.ensures.other c.if-take.false)
+array-loop-items-init t c = array_init c.args.depth c.in_ok-items.items _ _ _ c.in_ok-items.ensures c.skip_white.ensures (c.take.ensures.stays c.if-take.false) (c.take.ensures.other c.if-take.false)
 
 pub array-returns-in_err-item : goal.array-returns-in_err-item
 array-returns-in_err-item t c =
-    at_exit _ _ c.from_residual.result c.in_err-item.field-0.0 c.from_residual.ensures.1 (array_item_breaks c.args.depth c.loop-items.items c.in_err-item.field-0.0 _ _ _ c.loop-items.invariant c.in_err-item.ensures.part)
+    at_exit _ _ c.from_residual-in_err-item.result c.in_err-item.field-0.0 c.from_residual-in_err-item.ensures.1 (array_item_breaks c.args.depth c.loop-items.items c.in_err-item.field-0.0 _ _ _ c.loop-items.invariant c.in_err-item.ensures.part)
 
 pub array-returns-then-take-2 : goal.array-returns-then-take-2
 array-returns-then-take-2 t c =
