@@ -4,3 +4,4 @@ pub mod RingLemmas
 pub mod CountLemmas
 pub mod ArcCounts
 pub mod PolygonLaws
+pub mod TracedLaws

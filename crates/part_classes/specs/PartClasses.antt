@@ -1,9 +1,10 @@
 -- The parts of a set of faces as parts of the plane.
-use Rattle.std.specs.Prelude.{◌≡◌, ◌≢◌, ℕ, ◌<◌, nat_eq, List, [], All, AllPairs, length, map, slice_index_or}
+use Rattle.std.specs.Prelude.{◌≡◌, ◌≢◌, ℕ, ◌<◌, ◌≤◌, pos, ◌<ℤ◌, nat_eq, List, [], ◌∷◌, All, AllPairs, length, map, slice_index_or}
 use Rattle.lists.specs.Lists.{has, place_of}
 use Rattle.plane_model.specs.Points.{Segment, Path}
 use Rattle.plane_model.specs.Arcs.{SignedArc}
 use Rattle.plane_model.specs.Arrangement.{IsArrangement, IsDistinct}
+use Rattle.plane_model.specs.Rings.{turn_at_least}
 use Rattle.plane_faces.specs.Labels.{IsPartLabelling}
 use Rattle.plane_faces.specs.Places.{Place}
 use Rattle.plane_faces.specs.Rings.{IsPolygon, IsRing}
@@ -15,13 +16,23 @@ use Rattle.ring_trace.specs.Boundary.{IsOnBoundary}
 use Rattle.ring_trace.specs.Joined.{AreParts}
 use Rattle.ring_trace.specs.Pairing.{stop_of}
 use Rattle.ring_trace.specs.Sets.{IsSetOf}
-use Rattle.ring_trace.specs.Traced.{is_of_boundary, once_if, times_round}
-use Rattle.ring_trace.specs.Turns.{round_of}
+use Rattle.ring_trace.specs.Traced.{BeginsWithLeast, UseParts, bounded, is_of_boundary, once_if, times_round}
+use Rattle.ring_trace.specs.Turns.{MayStandBefore, first_number, round_of}
 use Rattle.ring_trace.specs.Ways.{IsSimpleRing}
 
 -- where the first part stands that has the face, or the count of the parts
 abbrev pub number_of : List (List ℕ) → ℕ → ℕ
 number_of parts k = place_of (λ (part : List ℕ). has nat_eq part k) parts
+
+-- The first ring of a polygon is its exterior, which turns left at its least vertex, the others are holes, which turn right, and the holes stand in
+-- the order of the arcs that they begin with.
+pub record HasExteriorFirst (arcs : List Path) (polygon : List (List SignedArc)) : Type 0 where
+  pub exterior : List SignedArc
+  pub holes : List (List SignedArc)
+  pub are : polygon ≡ exterior ∷ holes
+  pub exterior_turns_left : pos 0 <ℤ turn_at_least (round_of arcs exterior)
+  pub holes_turn_right : All (λ hole. turn_at_least (round_of arcs hole) <ℤ pos 0) holes
+  pub in_order : AllPairs (λ g h. first_number g ≤ first_number h) holes
 
 -- ---- laws
 
@@ -44,3 +55,11 @@ PolygonsHaveExteriors = (S : List Segment) → IsArrangement S → IsDistinct S 
     All (All (λ a. a.arc < length arcs)) polygon → All (λ ring. 0 < length ring) polygon → All (IsSimpleRing (start_of arcs) (stop_of arcs)) polygon →
     ((a : SignedArc) → times_round a polygon ≡ once_if (is_of_boundary faces.places (length arcs) (slice_index_or parts n []) a)) → (a : SignedArc) → IsOnBoundary faces (slice_index_or parts n []) a →
     IsPolygon S (λ place. has nat_eq (slice_index_or parts n []) (label place)) (map (round_of arcs) polygon)
+
+-- Polygons of a set, as its trace answers them: for each part with a boundary, in order, one exterior and then its holes, which together hold the part.
+abbrev pub TracedPolygonsHaveExteriors : Type 0
+TracedPolygonsHaveExteriors = (S : List Segment) → IsArrangement S → IsDistinct S → (arcs : List Path) → All (λ arc. 1 < length arc) arcs → GoAlong S arcs → AreFreeInside S arcs → (faces : FaceTable) → IsBuiltOf arcs faces →
+    (label : Place → ℕ) → IsFaceOfPlace arcs faces label → (set : List ℕ) → IsSetOf faces set → (parts : List (List ℕ)) → AreParts faces set parts → (polygons : List (List (List SignedArc))) →
+    All (All (All (λ a. a.arc < length arcs))) polygons → All (All BeginsWithLeast) polygons → All (All (IsSimpleRing (start_of arcs) (stop_of arcs))) polygons → All (AllPairs (MayStandBefore arcs)) polygons →
+    UseParts faces.places (length arcs) parts polygons → (k : ℕ) → k < length polygons →
+    HasExteriorFirst arcs (slice_index_or polygons k []) × IsPolygon S (λ place. has nat_eq (slice_index_or (bounded faces.places (length arcs) parts) k []) (label place)) (map (round_of arcs) (slice_index_or polygons k []))

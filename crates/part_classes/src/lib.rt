@@ -4,7 +4,7 @@
 //! Each function carries one law in its contract, and does nothing.
 #![tactic(auto)]
 
-ghost use Rattle.part_classes.specs.PartClasses.{PartsAreClasses, PolygonsHaveExteriors, RingsGoRound};
+ghost use Rattle.part_classes.specs.PartClasses.{PartsAreClasses, PolygonsHaveExteriors, RingsGoRound, TracedPolygonsHaveExteriors};
 
 /// The parts of a set of faces, numbered as they stand, are the parts of the region of these faces: links within the
 /// region join parts, and nothing else does.
@@ -22,4 +22,10 @@ pub fn rings_go_round()
 /// right, and a point is in the part just where it is inside the exterior and in no hole.
 pub fn polygons_have_exteriors()
     ensures { PolygonsHaveExteriors }
+{}
+
+/// So each polygon that `trace` answers has its exterior first and then its holes, in the order of the arcs that they
+/// begin with, and holds the part that it stands for.
+pub fn traced_polygons_have_exteriors()
+    ensures { TracedPolygonsHaveExteriors }
 {}
