@@ -5,3 +5,4 @@ pub mod CountLemmas
 pub mod ArcCounts
 pub mod PolygonLaws
 pub mod TracedLaws
+pub mod DrawnLaws

@@ -34,7 +34,7 @@ module _ (arcs : List Path) where
   not_both ring e h = let f : true ≡ false = sym e ∙ right_is_not_left (turn_of ring) h in absurd (cc)
 
   -- the rings behind a place
-  split_map : (polygon : List (List SignedArc)) (exterior : Path) (after : List Path) → map (round_of arcs) polygon ≡ exterior ∷ after →
+  pub split_map : (polygon : List (List SignedArc)) (exterior : Path) (after : List Path) → map (round_of arcs) polygon ≡ exterior ∷ after →
       (first : List SignedArc) × (rest : List (List SignedArc)) × (polygon ≡ first ∷ rest) × (round_of arcs first ≡ exterior) × (map (round_of arcs) rest ≡ after)
   split_map [] exterior after e = absurd (let f = ap (λ (ps : List Path). length ps) e in omega arith)
   split_map (r ∷ rest) exterior after e = (r, rest, refl, ap (λ (ps : List Path). get_or ps 0 exterior) e, ap tail_of e)
@@ -43,13 +43,13 @@ module _ (arcs : List Path) where
       tail_of [] = []
       tail_of (p ∷ ps) = ps
 
-  all_back : (P : Path → Type 0) (rings : List (List SignedArc)) → All P (map (round_of arcs) rings) → All (λ ring. P (round_of arcs ring)) rings
+  pub all_back : (P : Path → Type 0) (rings : List (List SignedArc)) → All P (map (round_of arcs) rings) → All (λ ring. P (round_of arcs ring)) rings
   all_back P [] h k d l = absurd (omega arith)
   all_back P (r ∷ rings) h zero d l = h 0 (round_of arcs r) (omega arith)
   all_back P (r ∷ rings) h (suc k) d l = all_back P rings (λ i e m. h (suc i) e (omega arith)) k d (omega arith)
 
   -- what stands before the exterior would turn left
-  nothing_before : (S : List Segment) (f : Place → Bool) (polygon : List (List SignedArc)) → AllPairs (MayStandBefore arcs) polygon → (h : IsPolygon S f (map (round_of arcs) polygon)) → h.before ≡ []
+  pub nothing_before : (S : List Segment) (f : Place → Bool) (polygon : List (List SignedArc)) → AllPairs (MayStandBefore arcs) polygon → (h : IsPolygon S f (map (round_of arcs) polygon)) → h.before ≡ []
   nothing_before S f polygon pairs h = go h.before refl
     where
       go : (xs : List Path) → h.before ≡ xs → xs ≡ []

@@ -1,16 +1,20 @@
 -- The parts of a set of faces as parts of the plane.
-use Rattle.std.specs.Prelude.{◌≡◌, ◌≢◌, ℕ, ◌<◌, ◌≤◌, pos, ◌<ℤ◌, nat_eq, List, [], ◌∷◌, All, AllPairs, length, map, slice_index_or}
+use Rattle.std.specs.Prelude.{◌≡◌, ◌≢◌, ◌↔◌, true, false, ℕ, ◌<◌, ◌≤◌, pos, ◌<ℤ◌, nat_eq, List, [], ◌∷◌, All, AllPairs, Contains, length, map, slice_index_or}
 use Rattle.lists.specs.Lists.{has, place_of}
-use Rattle.plane_model.specs.Points.{Segment, Path}
+use Rattle.plane_model.specs.Points.{GridPoint, RationalPoint, Segment, Path, at}
 use Rattle.plane_model.specs.Arcs.{SignedArc}
 use Rattle.plane_model.specs.Arrangement.{IsArrangement, IsDistinct}
+use Rattle.plane_model.specs.Drawing.{Drawing}
+use Rattle.plane_model.specs.Parity.{odd}
+use Rattle.plane_model.specs.Snapped.{links_of, snapped}
 use Rattle.plane_model.specs.Rings.{turn_at_least}
 use Rattle.plane_faces.specs.Labels.{IsPartLabelling}
 use Rattle.plane_faces.specs.Places.{Place}
-use Rattle.plane_faces.specs.Rings.{IsPolygon, IsRing}
+use Rattle.plane_faces.specs.Rings.{IsPolygon, IsRing, links_of_path}
 use Rattle.arc_table.specs.Along.{GoAlong}
 use Rattle.arc_table.specs.Around.{start_of}
-use Rattle.face_walk.specs.Places.{FaceTable, IsBuiltOf}
+use Rattle.arc_table.specs.WholeArcs.{IsWholeArc}
+use Rattle.face_walk.specs.Places.{FaceTable, IsBuiltOf, IsFaceOver}
 use Rattle.face_classes.specs.FaceClasses.{AreFreeInside, IsFaceOfPlace}
 use Rattle.ring_trace.specs.Boundary.{IsOnBoundary}
 use Rattle.ring_trace.specs.Joined.{AreParts}
@@ -33,6 +37,11 @@ pub record HasExteriorFirst (arcs : List Path) (polygon : List (List SignedArc))
   pub exterior_turns_left : pos 0 <ℤ turn_at_least (round_of arcs exterior)
   pub holes_turn_right : All (λ hole. turn_at_least (round_of arcs hole) <ℤ pos 0) holes
   pub in_order : AllPairs (λ g h. first_number g ≤ first_number h) holes
+
+-- z is inside the first ring of a polygon, by its links, and in no other
+abbrev pub IsWithin : List Path → List (List SignedArc) → RationalPoint → Type 0
+IsWithin arcs [] z = ⊥
+IsWithin arcs (exterior ∷ holes) z = (odd (links_of_path (round_of arcs exterior)) z ≡ true) × All (λ hole. odd (links_of_path (round_of arcs hole)) z ≡ false) holes
 
 -- ---- laws
 
@@ -63,3 +72,12 @@ TracedPolygonsHaveExteriors = (S : List Segment) → IsArrangement S → IsDisti
     All (All (All (λ a. a.arc < length arcs))) polygons → All (All BeginsWithLeast) polygons → All (All (IsSimpleRing (start_of arcs) (stop_of arcs))) polygons → All (AllPairs (MayStandBefore arcs)) polygons →
     UseParts faces.places (length arcs) parts polygons → (k : ℕ) → k < length polygons →
     HasExteriorFirst arcs (slice_index_or polygons k []) × IsPolygon S (λ place. has nat_eq (slice_index_or (bounded faces.places (length arcs) parts) k []) (label place)) (map (round_of arcs) (slice_index_or polygons k []))
+
+-- So it is in the table of the whole arcs of a snapped drawing: a grid point is within a polygon just where its face is in the part.
+abbrev pub TracedPolygonsOfADrawing : Type 0
+TracedPolygonsOfADrawing = (d : Drawing) → (arcs : List Path) → All (λ arc. 1 < length arc) arcs → GoAlong (links_of (snapped d)) arcs → All (IsWholeArc (snapped d)) arcs → (faces : FaceTable) → IsBuiltOf arcs faces →
+    (set : List ℕ) → IsSetOf faces set → (parts : List (List ℕ)) → AreParts faces set parts → (polygons : List (List (List SignedArc))) →
+    All (All (All (λ a. a.arc < length arcs))) polygons → All (All BeginsWithLeast) polygons → All (All (IsSimpleRing (start_of arcs) (stop_of arcs))) polygons → All (AllPairs (MayStandBefore arcs)) polygons →
+    UseParts faces.places (length arcs) parts polygons → (k : ℕ) → k < length polygons →
+    HasExteriorFirst arcs (slice_index_or polygons k []) ×
+    ((p : GridPoint) (f : ℕ) → IsFaceOver faces p f → Contains (slice_index_or (bounded faces.places (length arcs) parts) k []) f ↔ IsWithin arcs (slice_index_or polygons k []) (at p))

@@ -4,7 +4,7 @@
 //! Each function carries one law in its contract, and does nothing.
 #![tactic(auto)]
 
-ghost use Rattle.part_classes.specs.PartClasses.{PartsAreClasses, PolygonsHaveExteriors, RingsGoRound, TracedPolygonsHaveExteriors};
+ghost use Rattle.part_classes.specs.PartClasses.{PartsAreClasses, PolygonsHaveExteriors, RingsGoRound, TracedPolygonsHaveExteriors, TracedPolygonsOfADrawing};
 
 /// The parts of a set of faces, numbered as they stand, are the parts of the region of these faces: links within the
 /// region join parts, and nothing else does.
@@ -28,4 +28,10 @@ pub fn polygons_have_exteriors()
 /// begin with, and holds the part that it stands for.
 pub fn traced_polygons_have_exteriors()
     ensures { TracedPolygonsHaveExteriors }
+{}
+
+/// So it is in a table of the whole arcs of a snapped drawing: a grid point is within a polygon, inside its exterior and
+/// in no hole, exactly if its face is in the part.
+pub fn traced_polygons_of_a_drawing()
+    ensures { TracedPolygonsOfADrawing }
 {}
