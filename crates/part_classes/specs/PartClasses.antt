@@ -1,4 +1,4 @@
--- The parts of a set of faces as parts of the plane.
+-- The parts of a set of faces as parts of the plane, and what their traced rings hold.
 use Rattle.std.specs.Prelude.{◌≡◌, ◌≢◌, ◌↔◌, true, false, ℕ, ◌<◌, ◌≤◌, pos, ◌<ℤ◌, nat_eq, List, [], ◌∷◌, All, AllPairs, Contains, length, map, slice_index_or}
 use Rattle.lists.specs.Lists.{has, place_of}
 use Rattle.plane_model.specs.Points.{GridPoint, RationalPoint, Segment, Path, at}
