@@ -9,3 +9,4 @@ pub mod ClassLemmas
 pub mod LabelLemmas
 pub mod PointLemmas
 pub mod HolderLemmas
+pub mod RingLemmas
