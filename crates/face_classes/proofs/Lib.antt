@@ -10,3 +10,4 @@ pub mod LabelLemmas
 pub mod PointLemmas
 pub mod HolderLemmas
 pub mod RingLemmas
+pub mod ItemLemmas
