@@ -143,7 +143,7 @@ module _ (S : List Segment) (arr : IsArrangement S) (distinct : IsDistinct S) (a
       ]
 
   -- so each place is of a face that is reached
-  each_reached : (a : Place) → IsBeside S a → IsReached (outer_of faces) crossings (length crossings) (label a)
+  pub each_reached : (a : Place) → IsBeside S a → IsReached (outer_of faces) crossings (length crossings) (label a)
   each_reached a beside = reached_from (outer_of faces) crossings (label a)
       (connected S arr (rotations_exist S arr distinct) (among label reached) (among_agrees S label labelling.agrees reached) over_links a beside ∙ reached_to (outer_of faces) crossings (label outside) (inl outer_label))
 
@@ -223,7 +223,7 @@ module _ (S : List Segment) (arr : IsArrangement S) (distinct : IsDistinct S) (a
 
 -- ---- at points
 
-beside_of : (S : List Segment) (z : RationalPoint) (a : Place) → IsPlaceOf S z a → IsBeside S a
+pub beside_of : (S : List Segment) (z : RationalPoint) (a : Place) → IsPlaceOf S z a → IsBeside S a
 beside_of S z outside h = tt
 beside_of S z (left_of d) h = h.1
 

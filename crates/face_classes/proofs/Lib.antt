@@ -11,3 +11,4 @@ pub mod PointLemmas
 pub mod HolderLemmas
 pub mod RingLemmas
 pub mod ItemLemmas
+pub mod HoldingLemmas

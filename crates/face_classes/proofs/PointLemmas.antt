@@ -53,7 +53,7 @@ points_have_one_face S arr distinct arcs long along free faces built p q f g ove
     )
 
 -- no vertex inside a whole arc has more links than two
-whole_are_free : (d : Drawing) (arcs : List Path) → All (IsWholeArc d) arcs → AreFreeInside (links_of d) arcs
+pub whole_are_free : (d : Drawing) (arcs : List Path) → All (IsWholeArc d) arcs → AreFreeInside (links_of d) arcs
 whole_are_free d arcs whole n k l some last = let two = ((whole n [] l).inner k some last).two in (two.one, two.another, two.only)
 
 pub points_of_a_drawing : PointsOfADrawing

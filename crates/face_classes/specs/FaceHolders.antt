@@ -1,13 +1,18 @@
 -- Items that hold the faces of a table, and the parity of their links at points.
-use Rattle.std.specs.Prelude.{◌≡◌, ℕ, ◌<◌, nat_eq, List, All, length}
+use Rattle.std.specs.Prelude.{◌≡◌, ◌↔◌, ℕ, ◌<◌, true, nat_eq, Some, List, [], ◌∷◌, All, Contains, length, map, slice_get}
 use Rattle.plane_model.specs.Points.{GridPoint, Segment, Path, at, same_segment}
 use Rattle.plane_model.specs.Arrangement.{IsArrangement, IsDistinct}
 use Rattle.plane_model.specs.EvenList.{IsEvenListOf}
 use Rattle.plane_model.specs.Joined.{links_of_arc}
-use Rattle.plane_model.specs.Parity.{odd, odd_count}
+use Rattle.plane_model.specs.Parity.{odd, odd_count, rings_hold}
+use Rattle.plane_model.specs.Drawing.{Drawing}
+use Rattle.plane_model.specs.Snapped.{snapped}
+use Rattle.lists.specs.Lists.{joined_up}
+use Rattle.grid_base.specs.Drawn.{HasPaths}
 use Rattle.arc_table.specs.Along.{GoAlong}
+use Rattle.arc_table.specs.PathArcs.{AreArcsOf}
 use Rattle.face_walk.specs.Crossings.{AreCrossings, LeaveNone, outer_of}
-use Rattle.face_walk.specs.Holders.{AreHeldBy, list_at, stands_oddly, steps_on}
+use Rattle.face_walk.specs.Holders.{AreHeldBy, AreHolders, HolderTable, list_at, stands_oddly, steps_on}
 use Rattle.face_walk.specs.Places.{FaceTable, IsBuiltOf, IsFaceOver}
 use Rattle.face_walk.specs.declared.crossings.Crossing.{Crossing}
 use Rattle.face_walk.specs.declared.ring_steps.RingStep.{RingStep}
@@ -17,7 +22,11 @@ use Rattle.face_classes.specs.FaceClasses.{AreFreeInside}
 abbrev pub StepAlong : List Path → List RingStep → ℕ → List Segment → Type 0
 StepAlong arcs steps i L = (n : ℕ) → n < length arcs → All (λ (l : Segment). odd_count (same_segment l) L ≡ odd_count (λ (s : RingStep). nat_eq i s.item) (steps_on steps n)) (links_of_arc arcs n)
 
--- ---- law
+-- the list has the items whose paths hold p by odd crossings
+abbrev pub AreHeldAt : List (List Path) → List ℕ → GridPoint → Type 0
+AreHeldAt items list p = (i : ℕ) → Contains list i ↔ ((paths : List Path) × (slice_get items i ≡ Some paths) × (rings_hold (at p) paths ≡ true))
+
+-- ---- laws
 
 -- An item is in the list of the face over a point exactly if an odd number of its links pass below the point: in a table of the arcs of an
 -- arrangement, for lists that follow along crossings that leave no face out, and an item whose links are an even list and whose steps are
@@ -28,3 +37,9 @@ ItemsHoldByParity = (S : List Segment) → IsArrangement S → IsDistinct S → 
     (steps : List RingStep) (held : List (List ℕ)) → AreHeldBy steps (outer_of faces) crossings held →
     (i : ℕ) (L : List Segment) → IsEvenListOf S L → StepAlong arcs steps i L →
     (p : GridPoint) (f : ℕ) → IsFaceOver faces p f → stands_oddly (list_at held f) i ≡ odd L (at p)
+
+-- so in a table of the arcs of a snapped drawing the lists of the face over a point have just the polygons and the boxes that hold the point
+abbrev pub ItemsOfADrawing : Type 0
+ItemsOfADrawing = (d : Drawing) → HasPaths (snapped d) → (arcs : List Path) → AreArcsOf (snapped d) arcs → (faces : FaceTable) → IsBuiltOf arcs faces →
+    (labels : HolderTable) (h : AreHolders arcs (snapped d) faces labels) → (p : GridPoint) (f : ℕ) → IsFaceOver faces p f →
+    AreHeldAt (joined_up (snapped d).polygons) (list_at h.polygons f) p × AreHeldAt (map (λ (path : Path). path ∷ []) (snapped d).boxes) (list_at labels.boxes f) p

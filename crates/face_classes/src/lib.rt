@@ -5,7 +5,7 @@
 #![tactic(auto)]
 
 ghost use Rattle.face_classes.specs.FaceClasses.{EachTableHasLabels, FacesAreClasses, PointsHaveOneFace, PointsOfADrawing};
-ghost use Rattle.face_classes.specs.FaceHolders.{ItemsHoldByParity};
+ghost use Rattle.face_classes.specs.FaceHolders.{ItemsHoldByParity, ItemsOfADrawing};
 
 /// The places of the plane can be labelled by the faces of a table of arcs that go along each link of an arrangement once.
 pub fn each_table_has_labels()
@@ -33,4 +33,10 @@ pub fn points_of_a_drawing()
 /// that follow from the outer face along crossings.
 pub fn items_hold_by_parity()
     ensures { ItemsHoldByParity }
+{}
+
+/// So in a table of the arcs of a snapped drawing the lists of the face over a point have just the polygons and the boxes
+/// that hold the point.
+pub fn items_of_a_drawing()
+    ensures { ItemsOfADrawing }
 {}
