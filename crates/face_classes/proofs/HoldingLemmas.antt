@@ -1,5 +1,5 @@
 -- The polygons and the boxes in the lists of a face are those that hold its points.
-use Rattle.std.proofs.Common.{◌≡◌, ◌≢◌, inl, inr, refl, sym, ap, subst, ◌∙◌, arith, ℕ, ◌+◌, ◌*◌, ◌<◌, ◌≤◌, true, false, Some, List, [], ◌∷◌, ◌++◌, All, Contains, length, get_or, map}
+use Rattle.std.proofs.Common.{◌≡◌, ◌≢◌, inl, inr, refl, sym, ap, subst, ◌∙◌, arith, ℕ, ◌<◌, ◌≤◌, true, false, Some, List, [], ◌∷◌, ◌++◌, All, Contains, length, get_or, map}
 use Rattle.std.proofs.Math.Logic.{∥∥₁_elim}
 use Rattle.std.proofs.Math.Bool.{Bool-set}
 use Rattle.std.specs.Prelude.{slice_get}
@@ -12,7 +12,7 @@ use Rattle.lists.specs.Lists.{joined_up}
 use Rattle.lists.proofs.Ascending.{Contains-ascending}
 use Rattle.lists.proofs.Members.{Contains-cases, Contains-nil, Contains-flat_map, Contains-joined_up, Contains-map, joined_up-Contains, map-Contains}
 use Rattle.plane_model.specs.Points.{GridPoint, Segment, Path, at, link_between, link_before}
-use Rattle.plane_model.specs.Drawing.{Drawing, Polygon, paths_of, rings_of, steps, steps_of_paths}
+use Rattle.plane_model.specs.Drawing.{Drawing, paths_of, rings_of, steps, steps_of_paths}
 use Rattle.plane_model.specs.Arrangement.{IsArrangement, IsDistinct}
 use Rattle.plane_model.specs.EvenList.{IsEvenListOf}
 use Rattle.plane_model.specs.Joined.{IsClosed, IsClosedRun}
@@ -22,7 +22,6 @@ use Rattle.plane_model.proofs.PointOrder.{link_before-IsStrictOrder}
 use Rattle.plane_snapping.proofs.SnappedLinks.{snapped_links_are_an_arrangement}
 use Rattle.plane_parity.proofs.SnappedRings.{closed_runs_are_even_lists}
 use Rattle.grid_base.specs.Drawn.{HasPaths, IsRing}
-use Rattle.arc_table.specs.Along.{GoAlong}
 use Rattle.arc_table.specs.PathArcs.{AreArcsOf, IsDrawn}
 use Rattle.face_walk.specs.Crossings.{AreCrossings, IsReached, LeaveNone, outer_of}
 use Rattle.face_walk.specs.Holders.{AreHeldBy, list_at, stands_oddly}

@@ -12,3 +12,4 @@ pub mod HolderLemmas
 pub mod RingLemmas
 pub mod ItemLemmas
 pub mod HoldingLemmas
+pub mod FeatureLemmas

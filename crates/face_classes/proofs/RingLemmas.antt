@@ -1,10 +1,10 @@
 -- Rings go along each link of an arc as often as they go along the arc.
-use Rattle.std.proofs.Common.{◌≡◌, ◌≢◌, inl, inr, refl, sym, ap, subst, ◌∙◌, arith, ℕ, zero, suc, ◌+◌, ◌<◌, ◌≤◌, Bool, true, false, cond, List, [], ◌∷◌, ◌++◌, All, AllPairs, length, get_or, map, take, drop, reverse}
+use Rattle.std.proofs.Common.{◌≡◌, ◌≢◌, inl, inr, refl, sym, ap, subst, ◌∙◌, arith, ℕ, zero, suc, ◌<◌, Bool, true, false, List, [], ◌∷◌, ◌++◌, All, length, get_or, map, take, drop, reverse}
 use Rattle.std.specs.Prelude.{nat_eq}
 use Rattle.std.specs.List.{flat_map}
 use Rattle.std.proofs.lemmas.Bool.{cases_eq, cases_lt, eq-eqb, ne_eqb}
-use Rattle.std.proofs.lemmas.List.{append-nil, get_or_default, get_or_past, get_or-map, length-map, map-append}
-use Rattle.lists.specs.Lists.{tail, last_of}
+use Rattle.std.proofs.lemmas.List.{get_or_past, get_or-map, length-map, map-append}
+use Rattle.lists.specs.Lists.{last_of}
 use Rattle.plane_model.specs.Points.{GridPoint, Segment, Path, link_between, same_segment}
 use Rattle.plane_model.specs.Drawing.{Drawing, steps, steps_of_paths}
 use Rattle.plane_model.specs.Arcs.{SignedArc, points_of}
@@ -14,8 +14,8 @@ use Rattle.plane_model.specs.Parity.{xor, odd_count, links_of_paths}
 use Rattle.plane_parity.proofs.Telescope.{odd_count-append, xor_comm}
 use Rattle.plane_parity.proofs.Abscissa.{same_link-self, same_link-false}
 use Rattle.plane_faces.proofs.Lists.{odd_count-permutation}
-use Rattle.arc_table.specs.Along.{GoAlong, links_of_arcs}
-use Rattle.arc_table.specs.PathArcs.{AreArcsOf, IsDrawn, ArePathArcs, AreArcsAlong, round_from}
+use Rattle.arc_table.specs.Along.{GoAlong}
+use Rattle.arc_table.specs.PathArcs.{AreArcsOf, IsDrawn, ArePathArcs, round_from}
 use Rattle.arc_table.proofs.Along.{links_turned}
 use Rattle.face_walk.specs.RingSteps.{AreArcsOfAll}
 use Rattle.face_classes.proofs.DartLemmas.{ends_differ}

@@ -4,8 +4,8 @@ use Rattle.plane_model.specs.Points.{GridPoint, Segment, Path, at, same_segment}
 use Rattle.plane_model.specs.Arrangement.{IsArrangement, IsDistinct}
 use Rattle.plane_model.specs.EvenList.{IsEvenListOf}
 use Rattle.plane_model.specs.Joined.{links_of_arc}
-use Rattle.plane_model.specs.Parity.{odd, odd_count, rings_hold}
-use Rattle.plane_model.specs.Drawing.{Drawing}
+use Rattle.plane_model.specs.Parity.{feature_holds, odd, odd_count, rings_hold}
+use Rattle.plane_model.specs.Drawing.{Drawing, Polygon}
 use Rattle.plane_model.specs.Snapped.{snapped}
 use Rattle.lists.specs.Lists.{joined_up}
 use Rattle.grid_base.specs.Drawn.{HasPaths}
@@ -43,3 +43,9 @@ abbrev pub ItemsOfADrawing : Type 0
 ItemsOfADrawing = (d : Drawing) → HasPaths (snapped d) → (arcs : List Path) → AreArcsOf (snapped d) arcs → (faces : FaceTable) → IsBuiltOf arcs faces →
     (labels : HolderTable) (h : AreHolders arcs (snapped d) faces labels) → (p : GridPoint) (f : ℕ) → IsFaceOver faces p f →
     AreHeldAt (joined_up (snapped d).polygons) (list_at h.polygons f) p × AreHeldAt (map (λ (path : Path). path ∷ []) (snapped d).boxes) (list_at labels.boxes f) p
+
+-- and its holders are just the features of which a polygon holds the point
+abbrev pub FeaturesOfADrawing : Type 0
+FeaturesOfADrawing = (d : Drawing) → HasPaths (snapped d) → (arcs : List Path) → AreArcsOf (snapped d) arcs → (faces : FaceTable) → IsBuiltOf arcs faces →
+    (labels : HolderTable) → AreHolders arcs (snapped d) faces labels → (p : GridPoint) (f : ℕ) → IsFaceOver faces p f → f < faces.count →
+    (n : ℕ) → Contains (list_at labels.holders f) n ↔ ((feature : List Polygon) × (slice_get (snapped d).polygons n ≡ Some feature) × (feature_holds (at p) feature ≡ true))

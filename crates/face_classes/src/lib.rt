@@ -5,7 +5,7 @@
 #![tactic(auto)]
 
 ghost use Rattle.face_classes.specs.FaceClasses.{EachTableHasLabels, FacesAreClasses, PointsHaveOneFace, PointsOfADrawing};
-ghost use Rattle.face_classes.specs.FaceHolders.{ItemsHoldByParity, ItemsOfADrawing};
+ghost use Rattle.face_classes.specs.FaceHolders.{FeaturesOfADrawing, ItemsHoldByParity, ItemsOfADrawing};
 
 /// The places of the plane can be labelled by the faces of a table of arcs that go along each link of an arrangement once.
 pub fn each_table_has_labels()
@@ -39,4 +39,9 @@ pub fn items_hold_by_parity()
 /// that hold the point.
 pub fn items_of_a_drawing()
     ensures { ItemsOfADrawing }
+{}
+
+/// And the holders of the face over a point are just the features of which a polygon holds the point.
+pub fn features_of_a_drawing()
+    ensures { FeaturesOfADrawing }
 {}
