@@ -5,6 +5,7 @@ use Rattle.std.proofs.Math.Bool.{Bool-set}
 use Rattle.std.specs.Prelude.{nat_eq, slice_get}
 use Rattle.std.specs.List.{list_any}
 use Rattle.std.proofs.lemmas.Bool.{eqb-true, eq-eqb}
+use Rattle.std.proofs.lemmas.List.{get_or-map, length-map}
 use Rattle.std.proofs.lemmas.List.Elements.{All-contains}
 use Rattle.std.proofs.lemmas.Option.{get_or_from_slice_get, slice_get_within}
 use Rattle.lists.proofs.Members.{Contains-map}
@@ -14,7 +15,7 @@ use Rattle.plane_model.specs.Arcs.{SignedArc, forward, backward}
 use Rattle.plane_model.specs.Arrangement.{IsArrangement, IsDistinct}
 use Rattle.plane_model.specs.EvenList.{IsEvenListOf}
 use Rattle.plane_model.specs.Parity.{xor, odd, odd_count}
-use Rattle.plane_model.specs.Rotation.{Dart}
+use Rattle.plane_model.specs.Rotation.{Dart, odd_right_of}
 use Rattle.plane_model.specs.Sides.{odd_left, odd_right}
 use Rattle.plane_faces.specs.Around.{opposite}
 use Rattle.plane_faces.specs.Labels.{IsFaceLabelling, among}
@@ -31,7 +32,7 @@ use Rattle.face_walk.specs.Places.{FaceTable, face_left_of}
 use Rattle.face_walk.specs.declared.crossings.Crossing.{Crossing}
 use Rattle.face_walk.specs.declared.ring_steps.RingStep.{RingStep}
 use Rattle.face_classes.specs.FaceClasses.{IsFaceOfPlace}
-use Rattle.face_classes.specs.FaceHolders.{StepAlong, ItemsHoldByParity}
+use Rattle.face_classes.specs.FaceHolders.{StepAlong, ItemsBesideArcs, ItemsHoldByParity}
 use Rattle.face_classes.proofs.ClassLemmas.{faces_are_classes}
 use Rattle.face_classes.proofs.DartLemmas.{one_of_two, twice_opposite}
 use Rattle.face_classes.proofs.LabelLemmas.{each_table_has_labels}
@@ -237,3 +238,26 @@ items_hold_by_parity S arr distinct arcs long along free faces built crossings a
     ap (λ (n : ℕ). stands_oddly (list_at held n) i) (sym is_f)
     ∙ odd_of_place S arr distinct arcs long along faces built.places_counted label by labelling crossings are closed steps held lists i L even agree a (beside_of S (at p) a at_p)
     ∙ sym (parity_at_place S L arr even.within even.even (at p) a at_p))
+
+-- ---- beside arcs
+
+right_of_dart : (L : List Segment) (d : Dart) → odd_at L (left_of (opposite d)) ≡ odd_right_of L d
+right_of_dart L d = go d.forward
+  where
+    go : (b : Bool) → cond (not b) (odd_left L d.link) (odd_right L d.link) ≡ cond b (odd_right L d.link) (odd_left L d.link)
+    go true = refl
+    go false = refl
+
+pub items_beside_arcs : ItemsBesideArcs
+items_beside_arcs S arr distinct arcs long along free faces built crossings are closed steps held lists i L even agree n below j e there =
+    let (label, by) = each_table_has_labels S arr arcs along faces in
+    let labelling = faces_are_classes S arr arcs long along free faces built label by in
+    let d : Dart = get_or (map dart_of_step (steps_of (arc_of arcs n))) j e in
+    let many = length-map (steps_of (arc_of arcs n)) dart_of_step in
+    let step = step_at arcs n j e.link below (omega arith) in
+    let is : d ≡ dart_of_step (get_or (steps_of (arc_of arcs n)) j e.link) = get_or-map dart_of_step (steps_of (arc_of arcs n)) j e.link e (omega arith) in
+    let on : Contains S d.link = subst (λ (c : Dart). Contains S c.link) (sym is) (step_on arcs S arr long along n j (get_or (steps_of (arc_of arcs n)) j e.link) step) in
+    let odd_of : (a : Place) → IsBeside S a → stands_oddly (list_at held (label a)) i ≡ odd_at L a = odd_of_place S arr distinct arcs long along faces built.places_counted label by labelling crossings are closed steps held lists i L even agree in (
+      ap (λ (f : ℕ). stands_oddly (list_at held f) i) (sym (by.left n below j e there)) ∙ odd_of (left_of d) on,
+      ap (λ (f : ℕ). stands_oddly (list_at held f) i) (sym (by.right n below j e there)) ∙ odd_of (left_of (opposite d)) on ∙ right_of_dart L d,
+    )

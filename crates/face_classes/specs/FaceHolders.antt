@@ -1,5 +1,5 @@
 -- Items that hold the faces of a table, and the parity of their links at points.
-use Rattle.std.specs.Prelude.{◌≡◌, ◌↔◌, ℕ, ◌<◌, true, nat_eq, Some, List, [], ◌∷◌, All, Contains, length, map, slice_get}
+use Rattle.std.specs.Prelude.{◌≡◌, ◌↔◌, ℕ, ◌<◌, true, nat_eq, Some, List, [], ◌∷◌, All, Contains, length, map, slice_get, slice_index_or}
 use Rattle.plane_model.specs.Points.{GridPoint, Segment, Path, at, same_segment}
 use Rattle.plane_model.specs.Arrangement.{IsArrangement, IsDistinct}
 use Rattle.plane_model.specs.EvenList.{IsEvenListOf}
@@ -7,13 +7,16 @@ use Rattle.plane_model.specs.Joined.{links_of_arc}
 use Rattle.plane_model.specs.Parity.{feature_holds, odd, odd_count, rings_hold}
 use Rattle.plane_model.specs.Drawing.{Drawing, Polygon}
 use Rattle.plane_model.specs.Snapped.{snapped}
+use Rattle.plane_model.specs.Arcs.{forward, backward}
+use Rattle.plane_model.specs.Rotation.{Dart, odd_left_of, odd_right_of}
+use Rattle.plane_faces.specs.Rings.{darts_of_path}
 use Rattle.lists.specs.Lists.{joined_up}
 use Rattle.grid_base.specs.Drawn.{HasPaths}
 use Rattle.arc_table.specs.Along.{GoAlong}
 use Rattle.arc_table.specs.PathArcs.{AreArcsOf}
 use Rattle.face_walk.specs.Crossings.{AreCrossings, LeaveNone, outer_of}
 use Rattle.face_walk.specs.Holders.{AreHeldBy, AreHolders, HolderTable, list_at, stands_oddly, steps_on}
-use Rattle.face_walk.specs.Places.{FaceTable, IsBuiltOf, IsFaceOver}
+use Rattle.face_walk.specs.Places.{FaceTable, IsBuiltOf, IsFaceOver, face_left_of}
 use Rattle.face_walk.specs.declared.crossings.Crossing.{Crossing}
 use Rattle.face_walk.specs.declared.ring_steps.RingStep.{RingStep}
 use Rattle.face_classes.specs.FaceClasses.{AreFreeInside}
@@ -37,6 +40,15 @@ ItemsHoldByParity = (S : List Segment) → IsArrangement S → IsDistinct S → 
     (steps : List RingStep) (held : List (List ℕ)) → AreHeldBy steps (outer_of faces) crossings held →
     (i : ℕ) (L : List Segment) → IsEvenListOf S L → StepAlong arcs steps i L →
     (p : GridPoint) (f : ℕ) → IsFaceOver faces p f → stands_oddly (list_at held f) i ≡ odd L (at p)
+
+-- and in the list of the face beside an arc exactly if its links are odd on that side of each link of the arc
+abbrev pub ItemsBesideArcs : Type 0
+ItemsBesideArcs = (S : List Segment) → IsArrangement S → IsDistinct S → (arcs : List Path) → All (λ arc. 1 < length arc) arcs → GoAlong S arcs → AreFreeInside S arcs →
+    (faces : FaceTable) → IsBuiltOf arcs faces → (crossings : List Crossing) → AreCrossings faces crossings → LeaveNone faces crossings →
+    (steps : List RingStep) (held : List (List ℕ)) → AreHeldBy steps (outer_of faces) crossings held →
+    (i : ℕ) (L : List Segment) → IsEvenListOf S L → StepAlong arcs steps i L →
+    (n : ℕ) → n < length arcs → All (λ (d : Dart). (stands_oddly (list_at held (face_left_of faces.places (forward n))) i ≡ odd_left_of L d)
+    × (stands_oddly (list_at held (face_left_of faces.places (backward n))) i ≡ odd_right_of L d)) (darts_of_path (slice_index_or arcs n []))
 
 -- so in a table of the arcs of a snapped drawing the lists of the face over a point have just the polygons and the boxes that hold the point
 abbrev pub ItemsOfADrawing : Type 0

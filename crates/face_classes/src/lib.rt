@@ -5,7 +5,7 @@
 #![tactic(auto)]
 
 ghost use Rattle.face_classes.specs.FaceClasses.{EachTableHasLabels, FacesAreClasses, PointsHaveOneFace, PointsOfADrawing};
-ghost use Rattle.face_classes.specs.FaceHolders.{FeaturesOfADrawing, ItemsHoldByParity, ItemsOfADrawing};
+ghost use Rattle.face_classes.specs.FaceHolders.{FeaturesOfADrawing, ItemsBesideArcs, ItemsHoldByParity, ItemsOfADrawing};
 
 /// The places of the plane can be labelled by the faces of a table of arcs that go along each link of an arrangement once.
 pub fn each_table_has_labels()
@@ -33,6 +33,11 @@ pub fn points_of_a_drawing()
 /// that follow from the outer face along crossings.
 pub fn items_hold_by_parity()
     ensures { ItemsHoldByParity }
+{}
+
+/// It is in the list of the face beside an arc exactly if its links are odd on that side of each link of the arc.
+pub fn items_beside_arcs()
+    ensures { ItemsBesideArcs }
 {}
 
 /// So in a table of the arcs of a snapped drawing the lists of the face over a point have just the polygons and the boxes
