@@ -154,16 +154,16 @@ top_right z a b = let p = on_top z a in let q = on_right z b in let c = at_upper
 -- ---- all of them
 
 -- one of the five
-five_cases : {P : Segment → Type 0} (l : Segment) → Contains square_links l → P left → P bottom → P diagonal → P top → P right → P l
-five_cases {P} l c on_left on_bottom on_diagonal on_top on_right = elim (Contains-cases left (bottom ∷ diagonal ∷ top ∷ right ∷ []) l c) [
-  | inl e ↦ subst P e on_left
+five_cases : (P : Segment → Type 0) (l : Segment) → Contains square_links l → P left → P bottom → P diagonal → P top → P right → P l
+five_cases P l c at_left at_bottom at_diagonal at_top at_right = elim (Contains-cases left (bottom ∷ diagonal ∷ top ∷ right ∷ []) l c) [
+  | inl e ↦ subst P e at_left
   | inr c1 ↦ elim (Contains-cases bottom (diagonal ∷ top ∷ right ∷ []) l c1) [
-    | inl e ↦ subst P e on_bottom
+    | inl e ↦ subst P e at_bottom
     | inr c2 ↦ elim (Contains-cases diagonal (top ∷ right ∷ []) l c2) [
-      | inl e ↦ subst P e on_diagonal
+      | inl e ↦ subst P e at_diagonal
       | inr c3 ↦ elim (Contains-cases top (right ∷ []) l c3) [
-        | inl e ↦ subst P e on_top
-        | inr c4 ↦ elim (Contains-cases right [] l c4) [ inl e ↦ subst P e on_right | inr none ↦ Contains-nil l none ]
+        | inl e ↦ subst P e at_top
+        | inr c4 ↦ elim (Contains-cases right [] l c4) [ inl e ↦ subst P e at_right | inr none ↦ Contains-nil l none ]
       ]
     ]
   ]
@@ -173,12 +173,12 @@ abbrev MeetsAt : Segment → Segment → Type 0
 MeetsAt l k = MeetAtEnds k l
 
 links_apart : (k l : Segment) → Contains square_links k → Contains square_links l → MeetAtEnds k l
-links_apart k l ck cl = five_cases {P = MeetsAt l} k ck
-    (five_cases {P = MeetAtEnds left} l cl (same left) left_bottom left_diagonal left_top left_right)
-    (five_cases {P = MeetAtEnds bottom} l cl (turned left bottom left_bottom) (same bottom) bottom_diagonal bottom_top bottom_right)
-    (five_cases {P = MeetAtEnds diagonal} l cl (turned left diagonal left_diagonal) (turned bottom diagonal bottom_diagonal) (same diagonal) diagonal_top diagonal_right)
-    (five_cases {P = MeetAtEnds top} l cl (turned left top left_top) (turned bottom top bottom_top) (turned diagonal top diagonal_top) (same top) top_right)
-    (five_cases {P = MeetAtEnds right} l cl (turned left right left_right) (turned bottom right bottom_right) (turned diagonal right diagonal_right) (turned top right top_right) (same right))
+links_apart k l ck cl = five_cases (MeetsAt l) k ck
+    (five_cases (MeetAtEnds left) l cl (same left) left_bottom left_diagonal left_top left_right)
+    (five_cases (MeetAtEnds bottom) l cl (turned left bottom left_bottom) (same bottom) bottom_diagonal bottom_top bottom_right)
+    (five_cases (MeetAtEnds diagonal) l cl (turned left diagonal left_diagonal) (turned bottom diagonal bottom_diagonal) (same diagonal) diagonal_top diagonal_right)
+    (five_cases (MeetAtEnds top) l cl (turned left top left_top) (turned bottom top bottom_top) (turned diagonal top diagonal_top) (same top) top_right)
+    (five_cases (MeetAtEnds right) l cl (turned left right left_right) (turned bottom right bottom_right) (turned diagonal right diagonal_right) (turned top right top_right) (same right))
 
 abbrev Ordered : Segment → Type 0
 Ordered l = IsBefore l.start l.stop
