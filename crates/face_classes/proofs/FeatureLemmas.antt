@@ -1,6 +1,6 @@
 -- The features of a face are those that have a polygon which holds its points.
 use Rattle.std.proofs.Common.{◌≡◌, inl, inr, refl, sym, ap, subst, ◌∙◌, arith, ℕ, zero, suc, ◌+◌, ◌-◌, ◌<◌, Bool, true, false, ◌||◌, Some, None, List, [], ◌∷◌, ◌++◌, Contains, length, map}
-use Rattle.std.specs.Prelude.{slice_get}
+use Rattle.std.specs.Prelude.{◌↔◌, slice_get}
 use Rattle.std.specs.List.{list_any}
 use Rattle.std.proofs.lemmas.Bool.{cases_lt}
 use Rattle.std.proofs.lemmas.List.{get_or_append_left, length-map}
@@ -12,6 +12,7 @@ use Rattle.plane_model.specs.Drawing.{Polygon}
 use Rattle.plane_model.specs.Parity.{rings_hold}
 use Rattle.plane_model.specs.Snapped.{snapped}
 use Rattle.bucket_grid.proofs.Growth.{slice_get-append_left}
+use Rattle.face_walk.specs.Holders.{AreOwnersOf, list_at}
 use Rattle.face_walk.specs.RingSteps.{owners_from}
 use Rattle.face_classes.specs.FaceHolders.{FeaturesOfADrawing}
 use Rattle.face_classes.proofs.HoldingLemmas.{items_of_a_drawing}
@@ -98,20 +99,24 @@ has_owned k (polygons ∷ features) (suc j) feature polygon e c =
       ap (slice_get (map (λ (p : Polygon). k) polygons ++ owners_from (k + 1) features)) moved ∙ get_later (map (λ (p : Polygon). k) polygons) (owners_from (k + 1) features) i ∙ owned ∙ ap Some value,
     )
 
+-- the owners of the polygons that pass a test are the features of which a polygon passes it
+pub owners_with : (holds : Polygon → Bool) (features : List (List Polygon)) (items list : List ℕ) →
+    ((i : ℕ) → Contains items i ↔ ((polygon : Polygon) × (slice_get (joined_up features) i ≡ Some polygon) × (holds polygon ≡ true))) → AreOwnersOf (owners_from 0 features) items list →
+    (n : ℕ) → Contains list n ↔ ((feature : List Polygon) × (slice_get features n ≡ Some feature) × (list_any holds feature ≡ true))
+owners_with holds features items list held owned n = (
+  λ c.
+      (let (i, there, owner) = (owned.each n).0 c in
+      let (polygon, found, is_held) = (held i).0 there in
+      let (j, feature, is, at_j, in_feature) = owner_has 0 features i n polygon found owner in
+      let same : j ≡ n = omega arith in
+      (feature, ap (slice_get features) (sym same) ∙ at_j, there_any holds feature polygon in_feature is_held)),
+  λ (feature, at_n, has).
+      (let (polygon, in_feature, is_held) = any_there holds feature has in
+      let (i, found, owner) = has_owned 0 features n feature polygon at_n in_feature in
+      let zeroth : 0 + n ≡ n = omega arith in
+      (owned.each n).1 (i, (held i).1 (polygon, found, is_held), owner ∙ ap Some zeroth)),
+)
+
 pub features_of_a_drawing : FeaturesOfADrawing
-features_of_a_drawing d has arcs table faces built labels h p f over below n =
-    let features = (snapped d).polygons in
-    let items = (items_of_a_drawing d has arcs table faces built labels h p f over).0 in
-    let owned = (h.owned f below).each n in (
-      λ c.
-          (let (i, there, owner) = owned.0 c in
-          let (polygon, found, holds) = (items i).0 there in
-          let (j, feature, is, at_j, in_feature) = owner_has 0 features i n polygon found owner in
-          let same : j ≡ n = omega arith in
-          (feature, ap (slice_get features) (sym same) ∙ at_j, there_any (rings_hold (at p)) feature polygon in_feature holds)),
-      λ (feature, at_n, holds).
-          (let (polygon, in_feature, holds_it) = any_there (rings_hold (at p)) feature holds in
-          let (i, found, owner) = has_owned 0 features n feature polygon at_n in_feature in
-          let zeroth : 0 + n ≡ n = omega arith in
-          owned.1 (i, (items i).1 (polygon, found, holds_it), owner ∙ ap Some zeroth)),
-    )
+features_of_a_drawing d has arcs table faces built labels h p f over below =
+    owners_with (rings_hold (at p)) (snapped d).polygons (list_at h.polygons f) (list_at labels.holders f) (items_of_a_drawing d has arcs table faces built labels h p f over).0 (h.owned f below)

@@ -40,7 +40,7 @@ use Rattle.face_classes.proofs.PointLemmas.{face_of_point, whole_are_free}
 
 -- ---- the list of a face that is reached rises
 
-rising_at : (steps : List RingStep) (outer : ℕ) (crossings : List Crossing) (held : List (List ℕ)) → AreHeldBy steps outer crossings held → (k f : ℕ) → IsReached outer crossings k f → IsStrictlyIncreasing (list_at held f)
+pub rising_at : (steps : List RingStep) (outer : ℕ) (crossings : List Crossing) (held : List (List ℕ)) → AreHeldBy steps outer crossings held → (k f : ℕ) → IsReached outer crossings k f → IsStrictlyIncreasing (list_at held f)
 rising_at steps outer crossings held lists k f (inl e) = subst (λ (xs : List ℕ). IsStrictlyIncreasing xs) (sym (ap (list_at held) e ∙ lists.outer_free)) (λ i l. absurd (omega arith))
 rising_at steps outer crossings held lists k f (inr r) =
     let within = slice_get_within crossings r.0 r.1 r.3 in
@@ -116,7 +116,7 @@ sound_from s paths h = record {
 found_there : {X : Type 0} (xs : List X) (i : ℕ) (x : X) → slice_get xs i ≡ Some x → Contains xs x
 found_there xs i x e = (i, slice_get_within xs i x e, get_or_from_slice_get xs i x x e)
 
-polygons_sound : (s : Drawing) → HasPaths s → (i : ℕ) (paths : List Path) → slice_get (joined_up s.polygons) i ≡ Some paths → IsSound s paths
+pub polygons_sound : (s : Drawing) → HasPaths s → (i : ℕ) (paths : List Path) → slice_get (joined_up s.polygons) i ≡ Some paths → IsSound s paths
 polygons_sound s has i paths found =
     let (feature, in_all, in_feature) = joined_up-Contains s.polygons paths (found_there (joined_up s.polygons) i paths found) in
     sound_from s paths (λ path c.
@@ -126,7 +126,7 @@ polygons_sound s has i paths found =
       Contains-append_left (flat_map rings_of s.polygons ++ joined_up s.lines) s.boxes path (Contains-append_left (flat_map rings_of s.polygons) (joined_up s.lines) path there),
     ))
 
-boxes_sound : (s : Drawing) → HasPaths s → (i : ℕ) (paths : List Path) → slice_get (map (λ (path : Path). path ∷ []) s.boxes) i ≡ Some paths → IsSound s paths
+pub boxes_sound : (s : Drawing) → HasPaths s → (i : ℕ) (paths : List Path) → slice_get (map (λ (path : Path). path ∷ []) s.boxes) i ≡ Some paths → IsSound s paths
 boxes_sound s has i paths found =
     let (box, there, is) = map-Contains (λ (path : Path). path ∷ []) s.boxes paths (found_there (map (λ (path : Path). path ∷ []) s.boxes) i paths found) in
     subst (IsSound s) is (sound_from s (box ∷ []) (λ path c.

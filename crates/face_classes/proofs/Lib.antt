@@ -14,3 +14,4 @@ pub mod RingLemmas
 pub mod ItemLemmas
 pub mod HoldingLemmas
 pub mod FeatureLemmas
+pub mod SideLemmas

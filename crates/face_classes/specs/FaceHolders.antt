@@ -1,14 +1,16 @@
 -- Items that hold the faces of a table, and the parity of their links at points.
-use Rattle.std.specs.Prelude.{◌≡◌, ◌↔◌, ℕ, ◌<◌, true, nat_eq, Some, List, [], ◌∷◌, All, Contains, length, map, slice_get, slice_index_or}
+use Rattle.std.specs.Prelude.{◌≡◌, ◌↔◌, ℕ, ◌<◌, true, cond, nat_eq, Some, List, [], ◌∷◌, All, Contains, length, map, slice_get, slice_index_or}
+use Rattle.std.specs.List.{list_any}
 use Rattle.plane_model.specs.Points.{GridPoint, Segment, Path, at, same_segment}
 use Rattle.plane_model.specs.Arrangement.{IsArrangement, IsDistinct}
 use Rattle.plane_model.specs.EvenList.{IsEvenListOf}
 use Rattle.plane_model.specs.Joined.{links_of_arc}
-use Rattle.plane_model.specs.Parity.{feature_holds, odd, odd_count, rings_hold}
+use Rattle.plane_model.specs.Parity.{feature_holds, links_of_paths, odd, odd_count, rings_hold}
 use Rattle.plane_model.specs.Drawing.{Drawing, Polygon}
 use Rattle.plane_model.specs.Snapped.{snapped}
-use Rattle.plane_model.specs.Arcs.{forward, backward}
+use Rattle.plane_model.specs.Arcs.{SignedArc, forward, backward}
 use Rattle.plane_model.specs.Rotation.{Dart, odd_left_of, odd_right_of}
+use Rattle.plane_faces.specs.Around.{opposite}
 use Rattle.plane_faces.specs.Rings.{darts_of_path}
 use Rattle.lists.specs.Lists.{joined_up}
 use Rattle.grid_base.specs.Drawn.{HasPaths}
@@ -28,6 +30,19 @@ StepAlong arcs steps i L = (n : ℕ) → n < length arcs → All (λ (l : Segmen
 -- the list has the items whose paths hold p by odd crossings
 abbrev pub AreHeldAt : List (List Path) → List ℕ → GridPoint → Type 0
 AreHeldAt items list p = (i : ℕ) → Contains list i ↔ ((paths : List Path) × (slice_get items i ≡ Some paths) × (rings_hold (at p) paths ≡ true))
+
+-- a dart along an arc, directed as the signed arc
+abbrev pub directed_as : SignedArc → Dart → Dart
+directed_as a e = cond a.is_reversed (opposite e) e
+
+-- the list has the items whose paths hold the left side of a dart: their links are odd on it
+abbrev pub HoldLeftOf : List (List Path) → List ℕ → Dart → Type 0
+HoldLeftOf items list side = (i : ℕ) → Contains list i ↔ ((paths : List Path) × (slice_get items i ≡ Some paths) × (odd_left_of (links_of_paths paths) side ≡ true))
+
+-- the list has the features of which a polygon holds the left side of a dart
+abbrev pub FeaturesHoldLeftOf : List (List Polygon) → List ℕ → Dart → Type 0
+FeaturesHoldLeftOf features list side = (n : ℕ) → Contains list n
+    ↔ ((feature : List Polygon) × (slice_get features n ≡ Some feature) × (list_any (λ (polygon : Polygon). odd_left_of (links_of_paths polygon) side) feature ≡ true))
 
 -- ---- laws
 
@@ -61,3 +76,10 @@ abbrev pub FeaturesOfADrawing : Type 0
 FeaturesOfADrawing = (d : Drawing) → HasPaths (snapped d) → (arcs : List Path) → AreArcsOf (snapped d) arcs → (faces : FaceTable) → IsBuiltOf arcs faces →
     (labels : HolderTable) → AreHolders arcs (snapped d) faces labels → (p : GridPoint) (f : ℕ) → IsFaceOver faces p f → f < faces.count →
     (n : ℕ) → Contains (list_at labels.holders f) n ↔ ((feature : List Polygon) × (slice_get (snapped d).polygons n ≡ Some feature) × (feature_holds (at p) feature ≡ true))
+
+-- beside each link of a signed arc, its lists are just the features and the boxes that hold the left side of the link
+abbrev pub FeaturesBesideArcs : Type 0
+FeaturesBesideArcs = (d : Drawing) → HasPaths (snapped d) → (arcs : List Path) → AreArcsOf (snapped d) arcs → (faces : FaceTable) → IsBuiltOf arcs faces →
+    (labels : HolderTable) → AreHolders arcs (snapped d) faces labels → (a : SignedArc) → a.arc < length arcs → face_left_of faces.places a < faces.count →
+    All (λ (e : Dart). FeaturesHoldLeftOf (snapped d).polygons (list_at labels.holders (face_left_of faces.places a)) (directed_as a e)
+    × HoldLeftOf (map (λ (path : Path). path ∷ []) (snapped d).boxes) (list_at labels.boxes (face_left_of faces.places a)) (directed_as a e)) (darts_of_path (slice_index_or arcs a.arc []))

@@ -5,7 +5,7 @@
 #![tactic(auto)]
 
 ghost use Rattle.face_classes.specs.FaceClasses.{EachTableHasLabels, FacesAreClasses, PointsHaveOneFace, PointsOfADrawing};
-ghost use Rattle.face_classes.specs.FaceHolders.{FeaturesOfADrawing, ItemsBesideArcs, ItemsHoldByParity, ItemsOfADrawing};
+ghost use Rattle.face_classes.specs.FaceHolders.{FeaturesBesideArcs, FeaturesOfADrawing, ItemsBesideArcs, ItemsHoldByParity, ItemsOfADrawing};
 
 /// The places of the plane can be labelled by the faces of a table of arcs that go along each link of an arrangement once.
 pub fn each_table_has_labels()
@@ -49,4 +49,10 @@ pub fn items_of_a_drawing()
 /// And the holders of the face over a point are just the features of which a polygon holds the point.
 pub fn features_of_a_drawing()
     ensures { FeaturesOfADrawing }
+{}
+
+/// Beside each link of a signed arc, the holders and boxes of the face on its left are just the features and boxes that
+/// hold the left side of the link.
+pub fn features_beside_arcs()
+    ensures { FeaturesBesideArcs }
 {}
