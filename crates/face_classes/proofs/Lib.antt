@@ -15,3 +15,4 @@ pub mod ItemLemmas
 pub mod HoldingLemmas
 pub mod FeatureLemmas
 pub mod SideLemmas
+pub mod ShownLemmas

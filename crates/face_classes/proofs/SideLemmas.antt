@@ -26,8 +26,8 @@ use Rattle.face_walk.specs.RingSteps.{AreStepsOf}
 use Rattle.face_walk.specs.declared.crossings.Crossing.{Crossing}
 use Rattle.face_walk.specs.declared.ring_steps.RingStep.{RingStep}
 use Rattle.face_walk.proofs.OddLemmas.{stands_once, stands_there}
-use Rattle.face_classes.specs.FaceClasses.{IsFaceOfPlace}
-use Rattle.face_classes.specs.FaceHolders.{FeaturesBesideArcs, directed_as}
+use Rattle.face_classes.specs.FaceClasses.{IsFaceOfPlace, directed_as}
+use Rattle.face_classes.specs.FaceHolders.{FeaturesBesideArcs}
 use Rattle.face_classes.proofs.ClassLemmas.{faces_are_classes}
 use Rattle.face_classes.proofs.FeatureLemmas.{owners_with}
 use Rattle.face_classes.proofs.HolderLemmas.{each_reached, odd_of_place}

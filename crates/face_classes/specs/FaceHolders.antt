@@ -1,5 +1,5 @@
 -- Items that hold the faces of a table, and the parity of their links at points.
-use Rattle.std.specs.Prelude.{◌≡◌, ◌↔◌, ℕ, ◌<◌, true, cond, nat_eq, Some, List, [], ◌∷◌, All, Contains, length, map, slice_get, slice_index_or}
+use Rattle.std.specs.Prelude.{◌≡◌, ◌↔◌, ℕ, ◌<◌, true, nat_eq, Some, List, [], ◌∷◌, All, Contains, length, map, slice_get, slice_index_or}
 use Rattle.std.specs.List.{list_any}
 use Rattle.plane_model.specs.Points.{GridPoint, Segment, Path, at, same_segment}
 use Rattle.plane_model.specs.Arrangement.{IsArrangement, IsDistinct}
@@ -10,7 +10,6 @@ use Rattle.plane_model.specs.Drawing.{Drawing, Polygon}
 use Rattle.plane_model.specs.Snapped.{snapped}
 use Rattle.plane_model.specs.Arcs.{SignedArc, forward, backward}
 use Rattle.plane_model.specs.Rotation.{Dart, odd_left_of, odd_right_of}
-use Rattle.plane_faces.specs.Around.{opposite}
 use Rattle.plane_faces.specs.Rings.{darts_of_path}
 use Rattle.lists.specs.Lists.{joined_up}
 use Rattle.grid_base.specs.Drawn.{HasPaths}
@@ -21,7 +20,7 @@ use Rattle.face_walk.specs.Holders.{AreHeldBy, AreHolders, HolderTable, list_at,
 use Rattle.face_walk.specs.Places.{FaceTable, IsBuiltOf, IsFaceOver, face_left_of}
 use Rattle.face_walk.specs.declared.crossings.Crossing.{Crossing}
 use Rattle.face_walk.specs.declared.ring_steps.RingStep.{RingStep}
-use Rattle.face_classes.specs.FaceClasses.{AreFreeInside}
+use Rattle.face_classes.specs.FaceClasses.{AreFreeInside, directed_as}
 
 -- item i steps along an arc an odd number of times exactly where each link of the arc stands in L an odd number of times
 abbrev pub StepAlong : List Path → List RingStep → ℕ → List Segment → Type 0
@@ -30,10 +29,6 @@ StepAlong arcs steps i L = (n : ℕ) → n < length arcs → All (λ (l : Segmen
 -- the list has the items whose paths hold p by odd crossings
 abbrev pub AreHeldAt : List (List Path) → List ℕ → GridPoint → Type 0
 AreHeldAt items list p = (i : ℕ) → Contains list i ↔ ((paths : List Path) × (slice_get items i ≡ Some paths) × (rings_hold (at p) paths ≡ true))
-
--- a dart along an arc, directed as the signed arc
-abbrev pub directed_as : SignedArc → Dart → Dart
-directed_as a e = cond a.is_reversed (opposite e) e
 
 -- the list has the items whose paths hold the left side of a dart: their links are odd on it
 abbrev pub HoldLeftOf : List (List Path) → List ℕ → Dart → Type 0

@@ -4,7 +4,7 @@
 //! Each function carries one law in its contract, and does nothing.
 #![tactic(auto)]
 
-ghost use Rattle.face_classes.specs.FaceClasses.{EachTableHasLabels, FacesAreClasses, PointsHaveOneFace, PointsOfADrawing};
+ghost use Rattle.face_classes.specs.FaceClasses.{EachTableHasLabels, FacesAreClasses, FacesHaveArcs, FacesOfADrawing, PointsHaveOneFace, PointsOfADrawing};
 ghost use Rattle.face_classes.specs.FaceHolders.{FeaturesBesideArcs, FeaturesOfADrawing, ItemsBesideArcs, ItemsHoldByParity, ItemsOfADrawing};
 
 /// The places of the plane can be labelled by the faces of a table of arcs that go along each link of an arrangement once.
@@ -27,6 +27,17 @@ pub fn points_have_one_face()
 /// So it is in a table of the whole arcs of a snapped drawing.
 pub fn points_of_a_drawing()
     ensures { PointsOfADrawing }
+{}
+
+/// So it is with all points that show a face there: that see a link of a signed arc from its left, whose face is left of the
+/// arc, that are points of the grid, or that are left of all links, whose face is the outer one.
+pub fn faces_of_a_drawing()
+    ensures { FacesOfADrawing }
+{}
+
+/// Each face but the outer one is left of some signed arc, where no number of a face is left out.
+pub fn faces_have_arcs()
+    ensures { FacesHaveArcs }
 {}
 
 /// An item is in the list of the face over a point exactly if an odd number of its links pass below the point, for lists
