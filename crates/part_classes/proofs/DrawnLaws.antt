@@ -24,7 +24,7 @@ use Rattle.part_classes.specs.PartClasses.{IsWithin, TracedPolygonsOfADrawing}
 use Rattle.part_classes.proofs.TracedLaws.{all_back, nothing_before, split_map, traced_polygons_have_exteriors}
 
 -- no vertex inside a whole arc has more links than two
-whole_are_free : (d : Drawing) (arcs : List Path) → All (IsWholeArc d) arcs → AreFreeInside (links_of d) arcs
+pub whole_are_free : (d : Drawing) (arcs : List Path) → All (IsWholeArc d) arcs → AreFreeInside (links_of d) arcs
 whole_are_free d arcs whole n k l some last = let two = ((whole n [] l).inner k some last).two in (two.one, two.another, two.only)
 
 -- a point is within the rings just where f holds
@@ -32,7 +32,7 @@ module _ (arcs : List Path) (S : List Segment) (f : Place → Bool) (polygon : L
   abbrev Outside : Path → Type 0
   Outside p = odd (links_of_path p) z ≡ false
 
-  within : f a ≡ true → IsWithin arcs polygon z
+  pub within : f a ≡ true → IsWithin arcs polygon z
   within e =
       let none = nothing_before arcs S f polygon pairs h in
       let (first, rest, is, first_is, rest_is) = split_map arcs polygon h.exterior h.after (h.are ∙ ap (λ (ps : List Path). ps ++ (h.exterior ∷ h.after)) none) in
@@ -42,7 +42,7 @@ module _ (arcs : List Path) (S : List Segment) (f : Place → Bool) (polygon : L
         all_back arcs Outside rest (subst (λ (ps : List Path). All Outside ps) (ap (λ (ps : List Path). ps ++ h.after) none ∙ sym rest_is) in_no_hole),
       )
 
-  without : IsWithin arcs polygon z → f a ≡ true
+  pub without : IsWithin arcs polygon z → f a ≡ true
   without w =
       let none = nothing_before arcs S f polygon pairs h in
       let (first, rest, is, first_is, rest_is) = split_map arcs polygon h.exterior h.after (h.are ∙ ap (λ (ps : List Path). ps ++ (h.exterior ∷ h.after)) none) in

@@ -6,3 +6,4 @@ pub mod ArcCounts
 pub mod PolygonLaws
 pub mod TracedLaws
 pub mod DrawnLaws
+pub mod BoundedLaws

@@ -101,7 +101,7 @@ module _ (arcs : List Path) where
 
 -- ---- the polygons of a set
 
-on_boundary : (faces : FaceTable) (many : ℕ) → length faces.places ≡ 2 * many + 1 → (set : List ℕ) (a : SignedArc) → Contains (boundary faces.places many set) a → IsOnBoundary faces set a
+pub on_boundary : (faces : FaceTable) (many : ℕ) → length faces.places ≡ 2 * many + 1 → (set : List ℕ) (a : SignedArc) → Contains (boundary faces.places many set) a → IsOnBoundary faces set a
 on_boundary faces many size set a c =
     let test : SignedArc → Bool = λ b. has nat_eq set (face_left_of faces.places b) && is_outward faces.places set b in
     let (there, rest) = filter-Contains test (signed_below many) a c in

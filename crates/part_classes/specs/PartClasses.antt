@@ -5,11 +5,13 @@ use Rattle.plane_model.specs.Points.{GridPoint, RationalPoint, Segment, Path, at
 use Rattle.plane_model.specs.Arcs.{SignedArc}
 use Rattle.plane_model.specs.Arrangement.{IsArrangement, IsDistinct}
 use Rattle.plane_model.specs.Drawing.{Drawing}
+use Rattle.plane_model.specs.Joined.{AreJoinedIn}
 use Rattle.plane_model.specs.Parity.{odd}
 use Rattle.plane_model.specs.Snapped.{links_of, snapped}
 use Rattle.plane_model.specs.Rings.{turn_at_least}
+use Rattle.plane_faces.specs.Classes.{PointsWhere}
 use Rattle.plane_faces.specs.Labels.{IsPartLabelling}
-use Rattle.plane_faces.specs.Places.{Place}
+use Rattle.plane_faces.specs.Places.{Place, IsPlaceOf}
 use Rattle.plane_faces.specs.Rings.{IsPolygon, IsRing, links_of_path}
 use Rattle.arc_table.specs.Along.{GoAlong}
 use Rattle.arc_table.specs.Around.{start_of}
@@ -42,6 +44,37 @@ pub record HasExteriorFirst (arcs : List Path) (polygon : List (List SignedArc))
 abbrev pub IsWithin : List Path → List (List SignedArc) → RationalPoint → Type 0
 IsWithin arcs [] z = ⊥
 IsWithin arcs (exterior ∷ holes) z = (odd (links_of_path (round_of arcs exterior)) z ≡ true) × All (λ hole. odd (links_of_path (round_of arcs hole)) z ≡ false) holes
+
+-- it is within one of the polygons
+abbrev pub IsInSome : List Path → List (List (List SignedArc)) → RationalPoint → Type 0
+IsInSome arcs polygons z = (k : ℕ) × (k < length polygons) × IsWithin arcs (slice_index_or polygons k []) z
+
+-- one of the polygons has both points in it
+abbrev pub AreInOne : List Path → List (List (List SignedArc)) → RationalPoint → RationalPoint → Type 0
+AreInOne arcs polygons u v = (k : ℕ) × (k < length polygons) × IsWithin arcs (slice_index_or polygons k []) u × IsWithin arcs (slice_index_or polygons k []) v
+
+-- the faces of a table of arcs that go along the links of an arrangement
+pub record AreFacesOf (S : List Segment) (arcs : List Path) (faces : FaceTable) : Type 0 where
+  pub arrangement : IsArrangement S
+  pub distinct : IsDistinct S
+  pub long : All (λ arc. 1 < length arc) arcs
+  pub along : GoAlong S arcs
+  pub free : AreFreeInside S arcs
+  pub built : IsBuiltOf arcs faces
+
+-- polygons as a trace answers them for a set of faces and its parts
+pub record AreTraced (arcs : List Path) (faces : FaceTable) (set : List ℕ) (parts : List (List ℕ)) (polygons : List (List (List SignedArc))) : Type 0 where
+  pub inner : IsSetOf faces set
+  pub parted : AreParts faces set parts
+  pub there : All (All (All (λ a. a.arc < length arcs))) polygons
+  pub least_first : All (All BeginsWithLeast) polygons
+  pub simple : All (All (IsSimpleRing (start_of arcs) (stop_of arcs))) polygons
+  pub in_order : All (AllPairs (MayStandBefore arcs)) polygons
+  pub used : UseParts faces.places (length arcs) parts polygons
+
+-- each face of the set is that of some place
+abbrev pub ArePlaced : FaceTable → List ℕ → Type 0
+ArePlaced faces set = All (Contains faces.places) set
 
 -- ---- laws
 
@@ -81,3 +114,25 @@ TracedPolygonsOfADrawing = (d : Drawing) → (arcs : List Path) → All (λ arc.
     UseParts faces.places (length arcs) parts polygons → (k : ℕ) → k < length polygons →
     HasExteriorFirst arcs (slice_index_or polygons k []) ×
     ((p : GridPoint) (f : ℕ) → IsFaceOver faces p f → Contains (slice_index_or (bounded faces.places (length arcs) parts) k []) f ↔ IsWithin arcs (slice_index_or polygons k []) (at p))
+
+-- Each part of a set without the outer face has an arc in its boundary. So no part is left out, and a trace has as many polygons as there are parts.
+abbrev pub PartsHaveBoundaries : Type 0
+PartsHaveBoundaries = (S : List Segment) (arcs : List Path) (faces : FaceTable) → AreFacesOf S arcs faces → (set : List ℕ) → IsSetOf faces set → ArePlaced faces set → (parts : List (List ℕ)) → AreParts faces set parts →
+    All (λ part. (a : SignedArc) × IsOnBoundary faces part a) parts × (bounded faces.places (length arcs) parts ≡ parts)
+    × ((polygons : List (List (List SignedArc))) → UseParts faces.places (length arcs) parts polygons → length polygons ≡ length parts)
+
+-- no point is within two traced polygons
+abbrev pub PolygonsAreApart : Type 0
+PolygonsAreApart = (S : List Segment) (arcs : List Path) (faces : FaceTable) → AreFacesOf S arcs faces → (set : List ℕ) (parts : List (List ℕ)) (polygons : List (List (List SignedArc))) → AreTraced arcs faces set parts polygons →
+    (i j : ℕ) → i < length polygons → j < length polygons → (z : RationalPoint) → IsWithin arcs (slice_index_or polygons i []) z → IsWithin arcs (slice_index_or polygons j []) z → i ≡ j
+
+-- a point is within some traced polygon exactly if its face is in the set
+abbrev pub PolygonsHoldTheSet : Type 0
+PolygonsHoldTheSet = (S : List Segment) (arcs : List Path) (faces : FaceTable) → AreFacesOf S arcs faces → (set : List ℕ) (parts : List (List ℕ)) (polygons : List (List (List SignedArc))) → AreTraced arcs faces set parts polygons →
+    ArePlaced faces set → (label : Place → ℕ) → IsFaceOfPlace arcs faces label → (z : RationalPoint) (a : Place) → IsPlaceOf S z a → Contains set (label a) ↔ IsInSome arcs polygons z
+
+-- two points of the region of the set are within one traced polygon exactly if they are joined in the region: no closed runs of its boundary separate them
+abbrev pub PolygonsAreJoinedPoints : Type 0
+PolygonsAreJoinedPoints = (S : List Segment) (arcs : List Path) (faces : FaceTable) → AreFacesOf S arcs faces → (set : List ℕ) (parts : List (List ℕ)) (polygons : List (List (List SignedArc))) → AreTraced arcs faces set parts polygons →
+    ArePlaced faces set → (label : Place → ℕ) → IsFaceOfPlace arcs faces label → (u v : RationalPoint) (a b : Place) → IsPlaceOf S u a → IsPlaceOf S v b → Contains set (label a) → Contains set (label b) →
+    AreInOne arcs polygons u v ↔ AreJoinedIn S (PointsWhere S (λ place. has nat_eq set (label place))) u v

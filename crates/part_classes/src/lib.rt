@@ -4,7 +4,7 @@
 //! Each function carries one law in its contract, and does nothing.
 #![tactic(auto)]
 
-ghost use Rattle.part_classes.specs.PartClasses.{PartsAreClasses, PolygonsHaveExteriors, RingsGoRound, TracedPolygonsHaveExteriors, TracedPolygonsOfADrawing};
+ghost use Rattle.part_classes.specs.PartClasses.{PartsAreClasses, PartsHaveBoundaries, PolygonsHaveExteriors, RingsGoRound, TracedPolygonsHaveExteriors, TracedPolygonsOfADrawing};
 
 /// The parts of a set of faces, numbered as they stand, are the parts of the region of these faces: links within the
 /// region join parts, and nothing else does.
@@ -34,4 +34,10 @@ pub fn traced_polygons_have_exteriors()
 /// in no hole, exactly if its face is in the part.
 pub fn traced_polygons_of_a_drawing()
     ensures { TracedPolygonsOfADrawing }
+{}
+
+/// Each part of a set without the outer face has an arc in its boundary, so that `trace` answers one polygon for each
+/// part, in their order.
+pub fn parts_have_boundaries()
+    ensures { PartsHaveBoundaries }
 {}
