@@ -23,9 +23,9 @@ use Rattle.face_classes.proofs.LabelLemmas.{each_table_has_labels}
 use Rattle.ring_trace.specs.Boundary.{IsOnBoundary, boundary, face_right_of, is_outward, other_way}
 use Rattle.ring_trace.specs.Joined.{AreParts}
 use Rattle.ring_trace.specs.Sets.{IsInnerFace, IsSetOf}
-use Rattle.ring_trace.specs.Traced.{UseParts, bounded}
+use Rattle.ring_trace.specs.Traced.{bounded}
 use Rattle.ring_trace.proofs.BoundaryLemmas.{arc_below, back_again, has_Contains, Contains_has, same_or_other}
-use Rattle.part_classes.specs.PartClasses.{AreFacesOf, ArePlaced, PartsHaveBoundaries}
+use Rattle.part_classes.specs.PartClasses.{ArePlaced, PartsHaveBoundaries}
 use Rattle.part_classes.proofs.LinkLemmas.{arc_of_link, link_of_arc}
 use Rattle.part_classes.proofs.TracedLaws.{on_boundary}
 

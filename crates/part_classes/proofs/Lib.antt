@@ -7,3 +7,4 @@ pub mod PolygonLaws
 pub mod TracedLaws
 pub mod DrawnLaws
 pub mod BoundedLaws
+pub mod ApartLaws

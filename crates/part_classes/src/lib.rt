@@ -4,7 +4,17 @@
 //! Each function carries one law in its contract, and does nothing.
 #![tactic(auto)]
 
-ghost use Rattle.part_classes.specs.PartClasses.{PartsAreClasses, PartsHaveBoundaries, PolygonsHaveExteriors, RingsGoRound, TracedPolygonsHaveExteriors, TracedPolygonsOfADrawing};
+ghost use Rattle.part_classes.specs.PartClasses.{
+  PartsAreClasses,
+  PartsHaveBoundaries,
+  PolygonsAreApart,
+  PolygonsAreJoinedPoints,
+  PolygonsHaveExteriors,
+  PolygonsHoldTheSet,
+  RingsGoRound,
+  TracedPolygonsHaveExteriors,
+  TracedPolygonsOfADrawing,
+};
 
 /// The parts of a set of faces, numbered as they stand, are the parts of the region of these faces: links within the
 /// region join parts, and nothing else does.
@@ -40,4 +50,20 @@ pub fn traced_polygons_of_a_drawing()
 /// part, in their order.
 pub fn parts_have_boundaries()
     ensures { PartsHaveBoundaries }
+{}
+
+/// No point is within two polygons that `trace` answers for one set.
+pub fn polygons_are_apart()
+    ensures { PolygonsAreApart }
+{}
+
+/// A point is within some polygon that `trace` answers for a set exactly if its face is in the set.
+pub fn polygons_hold_the_set()
+    ensures { PolygonsHoldTheSet }
+{}
+
+/// Two points of the region of a set are within one polygon of its trace exactly if they are joined in the region: no
+/// closed runs of its boundary separate them.
+pub fn polygons_are_joined_points()
+    ensures { PolygonsAreJoinedPoints }
 {}

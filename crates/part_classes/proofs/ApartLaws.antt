@@ -1,0 +1,154 @@
+-- Traced polygons are apart, and together they hold the region of the set.
+use Rattle.std.proofs.Common.{◌≡◌, inl, inr, sym, ap, ◌∙◌, subst, arith, ℕ, ◌<◌, List, [], map, length, get_or, nat_eq, nat_lt, AllPairs, Contains}
+use Rattle.std.proofs.lemmas.Bool.{cases_lt}
+use Rattle.std.proofs.lemmas.List.{get_or_default}
+use Rattle.std.proofs.lemmas.List.Elements.{All-contains, Contains-get_or}
+use Rattle.std.proofs.lemmas.List.Kept.{AllPairs-filter}
+use Rattle.lists.specs.Lists.{has}
+use Rattle.lists.proofs.Members.{filter-Contains}
+use Rattle.plane_model.specs.Points.{RationalPoint, Segment, Path}
+use Rattle.plane_model.specs.Arcs.{SignedArc}
+use Rattle.plane_faces.specs.Labels.{IsFaceLabelling}
+use Rattle.plane_faces.specs.Places.{Place, IsPlaceOf}
+use Rattle.plane_faces.specs.Rings.{IsPolygon}
+use Rattle.plane_faces.proofs.Classes.{parts_are_joined}
+use Rattle.plane_faces.proofs.Order.{place_exists}
+use Rattle.face_walk.specs.Places.{FaceTable}
+use Rattle.face_classes.specs.FaceClasses.{IsFaceOfPlace}
+use Rattle.face_classes.proofs.ClassLemmas.{faces_are_classes}
+use Rattle.face_classes.proofs.LabelLemmas.{each_table_has_labels}
+use Rattle.ring_trace.specs.Boundary.{boundary}
+use Rattle.ring_trace.specs.Parts.{IsPieceOf}
+use Rattle.ring_trace.specs.Traced.{bounded}
+use Rattle.ring_trace.specs.Turns.{round_of}
+use Rattle.ring_trace.proofs.BoundaryLemmas.{has_Contains, Contains_has}
+use Rattle.part_classes.specs.PartClasses.{AreFacesOf, AreInOne, ArePlaced, AreTraced, IsInSome, IsWithin, PolygonsAreApart, PolygonsAreJoinedPoints, PolygonsHoldTheSet, number_of}
+use Rattle.part_classes.proofs.BoundedLaws.{all_bounded, outside_is_not}
+use Rattle.part_classes.proofs.ClassLemmas.{are_classes, numbered}
+use Rattle.part_classes.proofs.DrawnLaws.{within, without}
+use Rattle.part_classes.proofs.TracedLaws.{traced_polygons_have_exteriors}
+
+-- no face is in both
+abbrev AreApart : List ℕ → List ℕ → Type 0
+AreApart p q = (k : ℕ) → Contains p k → Contains q k → ⊥
+
+module _ (S : List Segment) (arcs : List Path) (faces : FaceTable) (table : AreFacesOf S arcs faces) (set : List ℕ) (parts : List (List ℕ)) (polygons : List (List (List SignedArc))) (traced : AreTraced arcs faces set parts polygons)
+    (label : Place → ℕ) (by : IsFaceOfPlace arcs faces label) where
+  abbrev kept : List (List ℕ)
+  kept = bounded faces.places (length arcs) parts
+
+  -- ---- one polygon
+
+  holds : (k : ℕ) → k < length polygons → IsPolygon S (λ place. has nat_eq (get_or kept k []) (label place)) (map (round_of arcs) (get_or polygons k []))
+  holds k l =
+      let (first, is) = traced_polygons_have_exteriors S table.arrangement table.distinct arcs table.long table.along table.free faces table.built label by set traced.inner parts traced.parted polygons traced.there traced.least_first traced.simple traced.in_order traced.used k l in
+      is
+
+  pub within_polygon : (k : ℕ) → k < length polygons → (z : RationalPoint) (a : Place) → IsPlaceOf S z a → Contains (get_or kept k []) (label a) → IsWithin arcs (get_or polygons k []) z
+  within_polygon k l z a place c =
+      within arcs S (λ p. has nat_eq (get_or kept k []) (label p)) (get_or polygons k []) (traced.in_order k [] l) (holds k l) z a place (Contains_has (get_or kept k []) (label a) c)
+
+  pub face_within : (k : ℕ) → k < length polygons → (z : RationalPoint) (a : Place) → IsPlaceOf S z a → IsWithin arcs (get_or polygons k []) z → Contains (get_or kept k []) (label a)
+  face_within k l z a place w =
+      has_Contains (get_or kept k []) (label a) (without arcs S (λ p. has nat_eq (get_or kept k []) (label p)) (get_or polygons k []) (traced.in_order k [] l) (holds k l) z a place w)
+
+  -- ---- two polygons
+
+  parts_apart : AllPairs AreApart parts
+  parts_apart i j d less l k c e =
+      let same = traced.parted.divided.once i j k (omega arith) l (subst (λ (p : List ℕ). Contains p k) (get_or_default parts i d [] (omega arith)) c) (subst (λ (p : List ℕ). Contains p k) (get_or_default parts j d [] l) e) in
+      omega arith
+
+  kept_apart : AllPairs AreApart kept
+  kept_apart = AllPairs-filter AreApart (λ (part : List ℕ). nat_lt 0 (length (boundary faces.places (length arcs) part))) parts parts_apart
+
+  pub apart : (i j : ℕ) → i < length polygons → j < length polygons → (z : RationalPoint) → IsWithin arcs (get_or polygons i []) z → IsWithin arcs (get_or polygons j []) z → i ≡ j
+  apart i j l m z w v =
+      let (a, place) = place_exists S table.arrangement z in
+      let c = face_within i l z a place w in
+      let e = face_within j m z a place v in
+      let size = traced.used.each in
+      elim (cases_lt i j) [
+        | inl less ↦ absurd (kept_apart i j [] less (omega arith) (label a) c e)
+        | inr more ↦ elim (cases_lt j i) [
+          | inl less ↦ absurd (kept_apart j i [] less (omega arith) (label a) e c)
+          | inr same ↦ omega arith
+        ]
+      ]
+
+  -- ---- all polygons
+
+  -- what is in a part with a boundary is in the set
+  of_set : (k f : ℕ) → k < length polygons → Contains (get_or kept k []) f → Contains set f
+  of_set k f l c =
+      let size = traced.used.each in
+      let (there, some) = filter-Contains (λ (p : List ℕ). nat_lt 0 (length (boundary faces.places (length arcs) p))) parts (get_or kept k []) (Contains-get_or kept k [] (omega arith)) in
+      All-contains (Contains set) (get_or kept k []) f (All-contains (IsPieceOf set) parts (get_or kept k []) traced.parted.divided.faces there).faces c
+
+  module _ (placed : ArePlaced faces set) where
+    all_parts : kept ≡ parts
+    all_parts = all_bounded S table.arrangement table.distinct arcs table.long table.along table.free faces table.built label by set traced.inner placed parts traced.parted
+
+    as_many : length polygons ≡ length parts
+    as_many = traced.used.each ∙ ap (λ (ps : List (List ℕ)). length ps) all_parts
+
+    to_kept : (i f : ℕ) → Contains (get_or parts i []) f → Contains (get_or kept i []) f
+    to_kept i f c = subst (λ (ps : List (List ℕ)). Contains (get_or ps i []) f) (sym all_parts) c
+
+    from_kept : (i f : ℕ) → Contains (get_or kept i []) f → Contains (get_or parts i []) f
+    from_kept i f c = subst (λ (ps : List (List ℕ)). Contains (get_or ps i []) f) all_parts c
+
+    pub held : (z : RationalPoint) (a : Place) → IsPlaceOf S z a → Contains set (label a) → IsInSome arcs polygons z
+    held z a place c =
+        let (i, l, d) = traced.parted.divided.each (label a) c in
+        let size = as_many in
+        let below : i < length polygons = omega arith in
+        (i, below, within_polygon i below z a place (to_kept i (label a) d))
+
+    pub in_set : (z : RationalPoint) (a : Place) → IsPlaceOf S z a → IsInSome arcs polygons z → Contains set (label a)
+    in_set z a place (k, l, w) = of_set k (label a) l (face_within k l z a place w)
+
+    -- the number of a face of a polygon
+    number_is : (k f : ℕ) → k < length polygons → Contains (get_or kept k []) f → number_of parts f ≡ k
+    number_is k f l c =
+        let size = as_many in
+        let (m, there) = numbered S table.arrangement arcs table.long table.along faces table.built label by set parts traced.parted f (of_set k f l c) in
+        traced.parted.divided.once (number_of parts f) k f m (omega arith) there (from_kept k f c)
+
+    abbrev IsOfOne : Place → Place → Type 0
+    IsOfOne a b = number_of parts (label a) ≡ number_of parts (label b)
+
+    pub in_one : (u v : RationalPoint) (a b : Place) → IsPlaceOf S u a → IsPlaceOf S v b → AreInOne arcs polygons u v → IsOfOne a b
+    in_one u v a b of_u of_v (k, l, in_u, in_v) = number_is k (label a) l (face_within k l u a of_u in_u) ∙ sym (number_is k (label b) l (face_within k l v b of_v in_v))
+
+    pub of_one : (u v : RationalPoint) (a b : Place) → IsPlaceOf S u a → IsPlaceOf S v b → Contains set (label a) → Contains set (label b) → IsOfOne a b → AreInOne arcs polygons u v
+    of_one u v a b of_u of_v c d e =
+        let size = as_many in
+        let (l, here) = numbered S table.arrangement arcs table.long table.along faces table.built label by set parts traced.parted (label a) c in
+        let (m, there) = numbered S table.arrangement arcs table.long table.along faces table.built label by set parts traced.parted (label b) d in
+        let k = number_of parts (label a) in
+        let below : k < length polygons = omega arith in (
+          k,
+          below,
+          within_polygon k below u a of_u (to_kept k (label a) here),
+          within_polygon k below v b of_v (to_kept k (label b) (subst (λ (i : ℕ). Contains (get_or parts i []) (label b)) (sym e) there)),
+        )
+
+pub polygons_are_apart : PolygonsAreApart
+polygons_are_apart S arcs faces table set parts polygons traced =
+    let (label, by) = each_table_has_labels S table.arrangement arcs table.along faces in
+    apart S arcs faces table set parts polygons traced label by
+
+pub polygons_hold_the_set : PolygonsHoldTheSet
+polygons_hold_the_set S arcs faces table set parts polygons traced placed label by z a place =
+    (held S arcs faces table set parts polygons traced label by placed z a place, in_set S arcs faces table set parts polygons traced label by placed z a place)
+
+pub polygons_are_joined_points : PolygonsAreJoinedPoints
+polygons_are_joined_points S arcs faces table set parts polygons traced placed label by u v a b of_u of_v c d =
+    let labels : IsFaceLabelling S label = faces_are_classes S table.arrangement arcs table.long table.along table.free faces table.built label by in
+    let out = outside_is_not S table.arrangement table.distinct arcs table.long table.along table.free faces table.built label by set traced.inner in
+    let classes = are_classes S table.arrangement arcs table.long table.along faces table.built label by set parts traced.parted in
+    let by_number = parts_are_joined S table.arrangement table.distinct label labels (has nat_eq set) out (number_of parts) classes u v a b of_u of_v (Contains_has set (label a) c) (Contains_has set (label b) d) in (
+      λ one. by_number.0 (in_one S arcs faces table set parts polygons traced label by placed u v a b of_u of_v one),
+      λ joined. of_one S arcs faces table set parts polygons traced label by placed u v a b of_u of_v c d (by_number.1 joined),
+    )
