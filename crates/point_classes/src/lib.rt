@@ -1,0 +1,26 @@
+//! A grid point is inside a set of faces exactly if some rational point of these faces sees it.
+//!
+//! Each function carries one law in its contract, and does nothing.
+#![tactic(auto)]
+
+ghost use Rattle.point_classes.specs.PointClasses.{FreePointsAreInside, FreePointsAreSeen, FreePointsOfADrawing, SeenFromOneFace};
+
+/// What sees a point that lies on no link is of one face with it.
+pub fn seen_from_one_face()
+    ensures { SeenFromOneFace }
+{}
+
+/// Some point off the links sees each point that lies on no link.
+pub fn free_points_are_seen()
+    ensures { FreePointsAreSeen }
+{}
+
+/// A point on no link is inside a set of faces exactly if its own face is in the set.
+pub fn free_points_are_inside()
+    ensures { FreePointsAreInside }
+{}
+
+/// So it is in a table of the whole arcs of a snapped drawing, for a vertex that no arc has.
+pub fn free_points_of_a_drawing()
+    ensures { FreePointsOfADrawing }
+{}
