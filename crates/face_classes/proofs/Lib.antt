@@ -16,3 +16,4 @@ pub mod HoldingLemmas
 pub mod FeatureLemmas
 pub mod SideLemmas
 pub mod ShownLemmas
+pub mod CountLemmas

@@ -3,7 +3,7 @@ use Rattle.std.specs.Prelude.{◌≡◌, ◌⊎◌, ◌↔◌, ℕ, ◌+◌, ◌
 use Rattle.plane_model.specs.Points.{GridPoint, RationalPoint, Segment, Path, at, step_x}
 use Rattle.plane_model.specs.Arcs.{SignedArc, forward, backward}
 use Rattle.plane_model.specs.Arrangement.{IsArrangement, IsDistinct}
-use Rattle.plane_model.specs.Joined.{AreOfOneFace}
+use Rattle.plane_model.specs.Joined.{AreOfOneFace, IsFaceCount}
 use Rattle.plane_model.specs.Drawing.{Drawing}
 use Rattle.plane_model.specs.Rotation.{Dart}
 use Rattle.plane_model.specs.Sees.{SeesLeft, SeesRight}
@@ -105,3 +105,8 @@ FacesOfADrawing = (d : Drawing) → (arcs : List Path) → All (λ arc. 1 < leng
 abbrev pub FacesHaveArcs : Type 0
 FacesHaveArcs = (arcs : List Path) → (faces : FaceTable) → IsBuiltOf arcs faces → AreNumbered faces → (f : ℕ) → f < faces.count →
     (f ≡ outer_of faces) ⊎ ((a : SignedArc) × (a.arc < length arcs) × (face_left_of faces.places a ≡ f))
+
+-- and the count is the number of faces of the plane: each number below it is that of just one class of points, and each class has one
+abbrev pub CountIsExact : Type 0
+CountIsExact = (d : Drawing) → (arcs : List Path) → All (λ arc. 1 < length arc) arcs → GoAlong (links_of (snapped d)) arcs → All (IsWholeArc (snapped d)) arcs →
+    (faces : FaceTable) → IsBuiltOf arcs faces → AreNumbered faces → IsFaceCount (links_of (snapped d)) faces.count

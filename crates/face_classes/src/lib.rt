@@ -4,7 +4,7 @@
 //! Each function carries one law in its contract, and does nothing.
 #![tactic(auto)]
 
-ghost use Rattle.face_classes.specs.FaceClasses.{EachTableHasLabels, FacesAreClasses, FacesHaveArcs, FacesOfADrawing, PointsHaveOneFace, PointsOfADrawing};
+ghost use Rattle.face_classes.specs.FaceClasses.{CountIsExact, EachTableHasLabels, FacesAreClasses, FacesHaveArcs, FacesOfADrawing, PointsHaveOneFace, PointsOfADrawing};
 ghost use Rattle.face_classes.specs.FaceHolders.{FeaturesBesideArcs, FeaturesOfADrawing, ItemsBesideArcs, ItemsHoldByParity, ItemsOfADrawing};
 
 /// The places of the plane can be labelled by the faces of a table of arcs that go along each link of an arrangement once.
@@ -38,6 +38,11 @@ pub fn faces_of_a_drawing()
 /// Each face but the outer one is left of some signed arc, where no number of a face is left out.
 pub fn faces_have_arcs()
     ensures { FacesHaveArcs }
+{}
+
+/// And the count of faces is the number of faces of the plane.
+pub fn count_is_exact()
+    ensures { CountIsExact }
 {}
 
 /// An item is in the list of the face over a point exactly if an odd number of its links pass below the point, for lists
