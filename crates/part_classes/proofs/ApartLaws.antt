@@ -1,31 +1,39 @@
 -- Traced polygons are apart, and together they hold the region of the set.
 use Rattle.std.proofs.Common.{◌≡◌, inl, inr, sym, ap, ◌∙◌, subst, arith, ℕ, ◌<◌, List, [], map, length, get_or, nat_eq, nat_lt, AllPairs, Contains}
-use Rattle.std.proofs.lemmas.Bool.{cases_lt}
+use Rattle.std.specs.Prelude.{◌↔◌}
+use Rattle.std.proofs.Math.Logic.{∥∥₁_elim}
+use Rattle.std.proofs.Math.Nat.{ℕ_set}
+use Rattle.std.proofs.lemmas.Bool.{cases_lt, lt-ltb}
 use Rattle.std.proofs.lemmas.List.{get_or_default}
 use Rattle.std.proofs.lemmas.List.Elements.{All-contains, Contains-get_or}
 use Rattle.std.proofs.lemmas.List.Kept.{AllPairs-filter}
 use Rattle.lists.specs.Lists.{has}
-use Rattle.lists.proofs.Members.{filter-Contains}
-use Rattle.plane_model.specs.Points.{RationalPoint, Segment, Path}
+use Rattle.lists.proofs.Members.{Contains-filter, filter-Contains}
+use Rattle.plane_model.specs.Points.{RationalPoint, Segment, Path, at}
 use Rattle.plane_model.specs.Arcs.{SignedArc}
+use Rattle.plane_model.specs.Snapped.{links_of, snapped}
+use Rattle.plane_snapping.proofs.SnappedLinks.{snapped_links_are_an_arrangement}
 use Rattle.plane_faces.specs.Labels.{IsFaceLabelling}
-use Rattle.plane_faces.specs.Places.{Place, IsPlaceOf}
+use Rattle.plane_faces.specs.Places.{Place, IsBeside, IsPlaceOf}
 use Rattle.plane_faces.specs.Rings.{IsPolygon}
 use Rattle.plane_faces.proofs.Classes.{parts_are_joined}
+use Rattle.plane_faces.proofs.FaceLaws.{place_beside}
 use Rattle.plane_faces.proofs.Order.{place_exists}
+use Rattle.plane_faces.proofs.Tables.{place_is_one}
 use Rattle.face_walk.specs.Places.{FaceTable}
 use Rattle.face_classes.specs.FaceClasses.{IsFaceOfPlace}
 use Rattle.face_classes.proofs.ClassLemmas.{faces_are_classes}
 use Rattle.face_classes.proofs.LabelLemmas.{each_table_has_labels}
+use Rattle.face_classes.proofs.PointLemmas.{face_of_point}
 use Rattle.ring_trace.specs.Boundary.{boundary}
 use Rattle.ring_trace.specs.Parts.{IsPieceOf}
 use Rattle.ring_trace.specs.Traced.{bounded}
 use Rattle.ring_trace.specs.Turns.{round_of}
 use Rattle.ring_trace.proofs.BoundaryLemmas.{has_Contains, Contains_has}
-use Rattle.part_classes.specs.PartClasses.{AreFacesOf, AreInOne, ArePlaced, AreTraced, IsInSome, IsWithin, PolygonsAreApart, PolygonsAreJoinedPoints, PolygonsHoldTheSet, number_of}
-use Rattle.part_classes.proofs.BoundedLaws.{all_bounded, outside_is_not}
+use Rattle.part_classes.specs.PartClasses.{AreFacesOf, AreInOne, AreTraced, IsInSome, IsWithin, PolygonsAreApart, PolygonsAreJoinedPoints, PolygonsHoldTheSet, PolygonsOfADrawing, number_of}
+use Rattle.part_classes.proofs.BoundedLaws.{bounded_at, outside_is_not}
 use Rattle.part_classes.proofs.ClassLemmas.{are_classes, numbered}
-use Rattle.part_classes.proofs.DrawnLaws.{within, without}
+use Rattle.part_classes.proofs.DrawnLaws.{whole_are_free, within, without}
 use Rattle.part_classes.proofs.TracedLaws.{traced_polygons_have_exteriors}
 
 -- no face is in both
@@ -85,54 +93,58 @@ module _ (S : List Segment) (arcs : List Path) (faces : FaceTable) (table : AreF
       let (there, some) = filter-Contains (λ (p : List ℕ). nat_lt 0 (length (boundary faces.places (length arcs) p))) parts (get_or kept k []) (Contains-get_or kept k [] (omega arith)) in
       All-contains (Contains set) (get_or kept k []) f (All-contains (IsPieceOf set) parts (get_or kept k []) traced.parted.divided.faces there).faces c
 
-  module _ (placed : ArePlaced faces set) where
-    all_parts : kept ≡ parts
-    all_parts = all_bounded S table.arrangement table.distinct arcs table.long table.along table.free faces table.built label by set traced.inner placed parts traced.parted
+  -- the part that a polygon stands for
+  part_of : (k : ℕ) → k < length polygons → (i : ℕ) × (i < length parts) × (get_or parts i [] ≡ get_or kept k [])
+  part_of k l =
+      let size = traced.used.each in
+      let ((i, m, is), some) = filter-Contains (λ (p : List ℕ). nat_lt 0 (length (boundary faces.places (length arcs) p))) parts (get_or kept k []) (Contains-get_or kept k [] (omega arith)) in
+      (i, m, get_or_default parts i [] (get_or kept k []) m ∙ is)
 
-    as_many : length polygons ≡ length parts
-    as_many = traced.used.each ∙ ap (λ (ps : List (List ℕ)). length ps) all_parts
+  -- the polygon that stands for a part with the face of a place
+  polygon_of : (n : ℕ) → n < length parts → (b : Place) → IsBeside S b → Contains (get_or parts n []) (label b) → (k : ℕ) × (k < length polygons) × (get_or kept k [] ≡ get_or parts n [])
+  polygon_of n l b beside c =
+      let size = traced.used.each in
+      let some = bounded_at S table.arrangement table.distinct arcs table.long table.along table.free faces table.built label by set traced.inner parts traced.parted n l b beside c in
+      let (k, m, is) = Contains-filter (λ (p : List ℕ). nat_lt 0 (length (boundary faces.places (length arcs) p))) parts (get_or parts n []) (Contains-get_or parts n [] l) (lt-ltb 0 _ some) in
+      (k, omega arith, get_or_default kept k [] (get_or parts n []) m ∙ is)
 
-    to_kept : (i f : ℕ) → Contains (get_or parts i []) f → Contains (get_or kept i []) f
-    to_kept i f c = subst (λ (ps : List (List ℕ)). Contains (get_or ps i []) f) (sym all_parts) c
+  pub held : (z : RationalPoint) (a : Place) → IsPlaceOf S z a → Contains set (label a) → IsInSome arcs polygons z
+  held z a place c =
+      let (i, l, d) = traced.parted.divided.each (label a) c in
+      let (k, m, same) = polygon_of i l a (place_beside S z a place) d in
+      (k, m, within_polygon k m z a place (subst (λ (p : List ℕ). Contains p (label a)) (sym same) d))
 
-    from_kept : (i f : ℕ) → Contains (get_or kept i []) f → Contains (get_or parts i []) f
-    from_kept i f c = subst (λ (ps : List (List ℕ)). Contains (get_or ps i []) f) all_parts c
+  pub in_set : (z : RationalPoint) (a : Place) → IsPlaceOf S z a → IsInSome arcs polygons z → Contains set (label a)
+  in_set z a place (k, l, w) = of_set k (label a) l (face_within k l z a place w)
 
-    pub held : (z : RationalPoint) (a : Place) → IsPlaceOf S z a → Contains set (label a) → IsInSome arcs polygons z
-    held z a place c =
-        let (i, l, d) = traced.parted.divided.each (label a) c in
-        let size = as_many in
-        let below : i < length polygons = omega arith in
-        (i, below, within_polygon i below z a place (to_kept i (label a) d))
+  -- ---- two points
 
-    pub in_set : (z : RationalPoint) (a : Place) → IsPlaceOf S z a → IsInSome arcs polygons z → Contains set (label a)
-    in_set z a place (k, l, w) = of_set k (label a) l (face_within k l z a place w)
+  -- the number of a face of a part
+  number_is : (i f : ℕ) → i < length parts → Contains (get_or parts i []) f → number_of parts f ≡ i
+  number_is i f l c =
+      let in_set : Contains set f = All-contains (Contains set) (get_or parts i []) f (traced.parted.divided.faces i [] l).faces c in
+      let (m, there) = numbered S table.arrangement arcs table.long table.along faces table.built label by set parts traced.parted f in_set in
+      traced.parted.divided.once (number_of parts f) i f m l there c
 
-    -- the number of a face of a polygon
-    number_is : (k f : ℕ) → k < length polygons → Contains (get_or kept k []) f → number_of parts f ≡ k
-    number_is k f l c =
-        let size = as_many in
-        let (m, there) = numbered S table.arrangement arcs table.long table.along faces table.built label by set parts traced.parted f (of_set k f l c) in
-        traced.parted.divided.once (number_of parts f) k f m (omega arith) there (from_kept k f c)
+  abbrev IsOfOne : Place → Place → Type 0
+  IsOfOne a b = number_of parts (label a) ≡ number_of parts (label b)
 
-    abbrev IsOfOne : Place → Place → Type 0
-    IsOfOne a b = number_of parts (label a) ≡ number_of parts (label b)
+  pub in_one : (u v : RationalPoint) (a b : Place) → IsPlaceOf S u a → IsPlaceOf S v b → AreInOne arcs polygons u v → IsOfOne a b
+  in_one u v a b of_u of_v (k, l, in_u, in_v) =
+      let (i, m, same) = part_of k l in
+      number_is i (label a) m (subst (λ (p : List ℕ). Contains p (label a)) (sym same) (face_within k l u a of_u in_u))
+      ∙ sym (number_is i (label b) m (subst (λ (p : List ℕ). Contains p (label b)) (sym same) (face_within k l v b of_v in_v)))
 
-    pub in_one : (u v : RationalPoint) (a b : Place) → IsPlaceOf S u a → IsPlaceOf S v b → AreInOne arcs polygons u v → IsOfOne a b
-    in_one u v a b of_u of_v (k, l, in_u, in_v) = number_is k (label a) l (face_within k l u a of_u in_u) ∙ sym (number_is k (label b) l (face_within k l v b of_v in_v))
-
-    pub of_one : (u v : RationalPoint) (a b : Place) → IsPlaceOf S u a → IsPlaceOf S v b → Contains set (label a) → Contains set (label b) → IsOfOne a b → AreInOne arcs polygons u v
-    of_one u v a b of_u of_v c d e =
-        let size = as_many in
-        let (l, here) = numbered S table.arrangement arcs table.long table.along faces table.built label by set parts traced.parted (label a) c in
-        let (m, there) = numbered S table.arrangement arcs table.long table.along faces table.built label by set parts traced.parted (label b) d in
-        let k = number_of parts (label a) in
-        let below : k < length polygons = omega arith in (
-          k,
-          below,
-          within_polygon k below u a of_u (to_kept k (label a) here),
-          within_polygon k below v b of_v (to_kept k (label b) (subst (λ (i : ℕ). Contains (get_or parts i []) (label b)) (sym e) there)),
-        )
+  pub of_one : (u v : RationalPoint) (a b : Place) → IsPlaceOf S u a → IsPlaceOf S v b → Contains set (label a) → Contains set (label b) → IsOfOne a b → AreInOne arcs polygons u v
+  of_one u v a b of_u of_v c d e =
+      let (l, here) = numbered S table.arrangement arcs table.long table.along faces table.built label by set parts traced.parted (label a) c in
+      let (m, there) = numbered S table.arrangement arcs table.long table.along faces table.built label by set parts traced.parted (label b) d in
+      let (k, below, same) = polygon_of (number_of parts (label a)) l a (place_beside S u a of_u) here in (
+        k,
+        below,
+        within_polygon k below u a of_u (subst (λ (p : List ℕ). Contains p (label a)) (sym same) here),
+        within_polygon k below v b of_v (subst (λ (p : List ℕ). Contains p (label b)) (sym same) (subst (λ (i : ℕ). Contains (get_or parts i []) (label b)) (sym e) there)),
+      )
 
 pub polygons_are_apart : PolygonsAreApart
 polygons_are_apart S arcs faces table set parts polygons traced =
@@ -140,15 +152,33 @@ polygons_are_apart S arcs faces table set parts polygons traced =
     apart S arcs faces table set parts polygons traced label by
 
 pub polygons_hold_the_set : PolygonsHoldTheSet
-polygons_hold_the_set S arcs faces table set parts polygons traced placed label by z a place =
-    (held S arcs faces table set parts polygons traced label by placed z a place, in_set S arcs faces table set parts polygons traced label by placed z a place)
+polygons_hold_the_set S arcs faces table set parts polygons traced label by z a place =
+    (held S arcs faces table set parts polygons traced label by z a place, in_set S arcs faces table set parts polygons traced label by z a place)
 
 pub polygons_are_joined_points : PolygonsAreJoinedPoints
-polygons_are_joined_points S arcs faces table set parts polygons traced placed label by u v a b of_u of_v c d =
+polygons_are_joined_points S arcs faces table set parts polygons traced label by u v a b of_u of_v c d =
     let labels : IsFaceLabelling S label = faces_are_classes S table.arrangement arcs table.long table.along table.free faces table.built label by in
     let out = outside_is_not S table.arrangement table.distinct arcs table.long table.along table.free faces table.built label by set traced.inner in
     let classes = are_classes S table.arrangement arcs table.long table.along faces table.built label by set parts traced.parted in
     let by_number = parts_are_joined S table.arrangement table.distinct label labels (has nat_eq set) out (number_of parts) classes u v a b of_u of_v (Contains_has set (label a) c) (Contains_has set (label b) d) in (
-      λ one. by_number.0 (in_one S arcs faces table set parts polygons traced label by placed u v a b of_u of_v one),
-      λ joined. of_one S arcs faces table set parts polygons traced label by placed u v a b of_u of_v c d (by_number.1 joined),
+      λ one. by_number.0 (in_one S arcs faces table set parts polygons traced label by u v a b of_u of_v one),
+      λ joined. of_one S arcs faces table set parts polygons traced label by u v a b of_u of_v c d (by_number.1 joined),
+    )
+
+-- ---- in a snapped drawing
+
+pub polygons_of_a_drawing : PolygonsOfADrawing
+polygons_of_a_drawing d arcs long along whole faces built =
+    let s = snapped_links_are_an_arrangement d in
+    let S = links_of (snapped d) in
+    let table : AreFacesOf S arcs faces = record { arrangement = s.0; distinct = s.1; long = long; along = along; free = whole_are_free (snapped d) arcs whole; built = built } in (
+      table,
+      λ set parts polygons traced p f over.
+          let (label, by) = each_table_has_labels S s.0 arcs along faces in
+          let (a, place) = place_exists S s.0 (at p) in
+          let is : label a ≡ f =
+          ∥∥₁_elim built.all_links (ℕ_set (label a) f) (λ all.
+          let (b, at_p, is_f) = face_of_point S s.0 arcs long along faces all label by p f over in
+          ap label (place_is_one S s.0 (at p) a b place at_p) ∙ is_f) in
+          subst (λ (k : ℕ). Contains set k ↔ IsInSome arcs polygons (at p)) is (polygons_hold_the_set S arcs faces table set parts polygons traced label by (at p) a place),
     )

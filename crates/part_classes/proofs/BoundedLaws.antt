@@ -107,28 +107,37 @@ module _ (S : List Segment) (arr : IsArrangement S) (distinct : IsDistinct S) (a
         (λ x y. not_bounding (other_way a) goes.arc x (ap (has nat_eq part) back ∙ y))
         ∙ ap (has nat_eq part) (sym goes.right)
 
-    no_such_part : IsSetOf faces part → (k : ℕ) → Contains part k → Contains faces.places k → ⊥
-    no_such_part inner k c placed =
+    no_such_part : IsSetOf faces part → (b : Place) → IsBeside S b → Contains part (label b) → ⊥
+    no_such_part inner b beside c =
         let labels : IsFaceLabelling S label = faces_are_classes S arr arcs long along free faces built label by in
-        let h : IsInnerFace faces k = All-contains (IsInnerFace faces) part k inner c in
-        let (b, beside, is) = place_of_face k placed h.not_outer in
         let one = connected S arr (rotations_exist S arr distinct) (λ place. has nat_eq part (label place)) (among_agrees S label labels.agrees (has nat_eq part)) not_crossed b beside in
-        let bad : true ≡ false = sym (ap (has nat_eq part) is ∙ Contains_has part k c) ∙ one ∙ outside_is_not part inner in
+        let bad : true ≡ false = sym (Contains_has part (label b) c) ∙ one ∙ outside_is_not part inner in
         absurd (cc)
 
   -- ---- the parts of a set
 
+  module _ (set : List ℕ) (inner : IsSetOf faces set) (parts : List (List ℕ)) (are : AreParts faces set parts) where
+    of_set : (n : ℕ) → n < length parts → (k : ℕ) → Contains (get_or parts n []) k → Contains set k
+    of_set n l k c = All-contains (Contains set) (get_or parts n []) k (are.divided.faces n [] l).faces c
+
+    inner_part : (n : ℕ) → n < length parts → IsSetOf faces (get_or parts n [])
+    inner_part n l i d m = All-contains (IsInnerFace faces) set (get_or (get_or parts n []) i d) inner ((are.divided.faces n [] l).faces i d m)
+
+    -- a part that has the face of a place has a boundary
+    pub bounded_at : (n : ℕ) → n < length parts → (b : Place) → IsBeside S b → Contains (get_or parts n []) (label b) → 0 < length (boundary faces.places (length arcs) (get_or parts n []))
+    bounded_at n l b beside c = elim (cases_lt 0 (length (boundary faces.places (length arcs) (get_or parts n [])))) [
+      | inl more ↦ more
+      | inr none ↦ absurd (no_such_part (get_or parts n []) (omega arith) (inner_part n l) b beside c)
+    ]
+
   module _ (set : List ℕ) (inner : IsSetOf faces set) (placed : ArePlaced faces set) (parts : List (List ℕ)) (are : AreParts faces set parts) where
     has_boundary : (n : ℕ) → n < length parts → 0 < length (boundary faces.places (length arcs) (get_or parts n []))
-    has_boundary n l = elim (cases_lt 0 (length (boundary faces.places (length arcs) (get_or parts n [])))) [
-      | inl more ↦ more
-      | inr none ↦
-          (let part = get_or parts n [] in
-          let (k, c) = some_face (get_or parts n []) (are.divided.some n l) in
-          let of_set : All (Contains set) part = (are.divided.faces n [] l).faces in
-          let inside : IsSetOf faces part = (λ i d m. All-contains (IsInnerFace faces) set (get_or part i d) inner (of_set i d m)) in
-          absurd (no_such_part part (omega arith) inside k c (All-contains (Contains faces.places) set k placed (All-contains (Contains set) part k of_set c))))
-    ]
+    has_boundary n l =
+        let (k, c) = some_face (get_or parts n []) (are.divided.some n l) in
+        let in_set = of_set set inner parts are n l k c in
+        let h : IsInnerFace faces k = All-contains (IsInnerFace faces) set k inner in_set in
+        let (b, beside, is) = place_of_face k (All-contains (Contains faces.places) set k placed in_set) h.not_outer in
+        bounded_at set inner parts are n l b beside (subst (λ (f : ℕ). Contains (get_or parts n []) f) (sym is) c)
 
     each_has_boundary : All (λ part. 0 < length (boundary faces.places (length arcs) part)) parts
     each_has_boundary n d l = subst (λ (part : List ℕ). 0 < length (boundary faces.places (length arcs) part)) (get_or_default parts n [] d l) (has_boundary n l)

@@ -129,10 +129,17 @@ PolygonsAreApart = (S : List Segment) (arcs : List Path) (faces : FaceTable) →
 -- a point is within some traced polygon exactly if its face is in the set
 abbrev pub PolygonsHoldTheSet : Type 0
 PolygonsHoldTheSet = (S : List Segment) (arcs : List Path) (faces : FaceTable) → AreFacesOf S arcs faces → (set : List ℕ) (parts : List (List ℕ)) (polygons : List (List (List SignedArc))) → AreTraced arcs faces set parts polygons →
-    ArePlaced faces set → (label : Place → ℕ) → IsFaceOfPlace arcs faces label → (z : RationalPoint) (a : Place) → IsPlaceOf S z a → Contains set (label a) ↔ IsInSome arcs polygons z
+    (label : Place → ℕ) → IsFaceOfPlace arcs faces label → (z : RationalPoint) (a : Place) → IsPlaceOf S z a → Contains set (label a) ↔ IsInSome arcs polygons z
 
 -- two points of the region of the set are within one traced polygon exactly if they are joined in the region: no closed runs of its boundary separate them
 abbrev pub PolygonsAreJoinedPoints : Type 0
 PolygonsAreJoinedPoints = (S : List Segment) (arcs : List Path) (faces : FaceTable) → AreFacesOf S arcs faces → (set : List ℕ) (parts : List (List ℕ)) (polygons : List (List (List SignedArc))) → AreTraced arcs faces set parts polygons →
-    ArePlaced faces set → (label : Place → ℕ) → IsFaceOfPlace arcs faces label → (u v : RationalPoint) (a b : Place) → IsPlaceOf S u a → IsPlaceOf S v b → Contains set (label a) → Contains set (label b) →
+    (label : Place → ℕ) → IsFaceOfPlace arcs faces label → (u v : RationalPoint) (a b : Place) → IsPlaceOf S u a → IsPlaceOf S v b → Contains set (label a) → Contains set (label b) →
     AreInOne arcs polygons u v ↔ AreJoinedIn S (PointsWhere S (λ place. has nat_eq set (label place))) u v
+
+-- The faces of a table of the whole arcs of a snapped drawing are such faces, so that these laws are true of them; and a grid point is within some
+-- traced polygon exactly if the face over it is in the set.
+abbrev pub PolygonsOfADrawing : Type 0
+PolygonsOfADrawing = (d : Drawing) (arcs : List Path) → All (λ arc. 1 < length arc) arcs → GoAlong (links_of (snapped d)) arcs → All (IsWholeArc (snapped d)) arcs → (faces : FaceTable) → IsBuiltOf arcs faces →
+    AreFacesOf (links_of (snapped d)) arcs faces
+    × ((set : List ℕ) (parts : List (List ℕ)) (polygons : List (List (List SignedArc))) → AreTraced arcs faces set parts polygons → (p : GridPoint) (f : ℕ) → IsFaceOver faces p f → Contains set f ↔ IsInSome arcs polygons (at p))

@@ -11,6 +11,7 @@ ghost use Rattle.part_classes.specs.PartClasses.{
   PolygonsAreJoinedPoints,
   PolygonsHaveExteriors,
   PolygonsHoldTheSet,
+  PolygonsOfADrawing,
   RingsGoRound,
   TracedPolygonsHaveExteriors,
   TracedPolygonsOfADrawing,
@@ -66,4 +67,10 @@ pub fn polygons_hold_the_set()
 /// closed runs of its boundary separate them.
 pub fn polygons_are_joined_points()
     ensures { PolygonsAreJoinedPoints }
+{}
+
+/// The faces of a table of the whole arcs of a snapped drawing are such faces, so that these laws are true of them; and a
+/// grid point is within some polygon of a trace exactly if the face that `at` answers for it is in the set.
+pub fn polygons_of_a_drawing()
+    ensures { PolygonsOfADrawing }
 {}
