@@ -1,6 +1,8 @@
 -- Traced polygons are apart, and together they hold the region of the set.
-use Rattle.std.proofs.Common.{◌≡◌, inl, inr, sym, ap, ◌∙◌, subst, arith, ℕ, ◌<◌, List, [], map, length, get_or, nat_eq, nat_lt, AllPairs, Contains}
+use Rattle.std.proofs.Common.{◌≡◌, inl, inr, sym, ap, ◌∙◌, subst, arith, ℕ, ◌<◌, Bool, List, [], map, length, get_or, nat_eq, nat_lt, AllPairs, Contains}
 use Rattle.std.specs.Prelude.{◌↔◌}
+use Rattle.std.specs.List.Sorted.{IsPermutation}
+use Rattle.std.proofs.lemmas.List.Sorted.{IsPermutation-map}
 use Rattle.std.proofs.Math.Logic.{∥∥₁_elim}
 use Rattle.std.proofs.Math.Nat.{ℕ_set}
 use Rattle.std.proofs.lemmas.Bool.{cases_lt, lt-ltb}
@@ -11,13 +13,20 @@ use Rattle.lists.specs.Lists.{has}
 use Rattle.lists.proofs.Members.{Contains-filter, filter-Contains}
 use Rattle.plane_model.specs.Points.{RationalPoint, Segment, Path, at}
 use Rattle.plane_model.specs.Arcs.{SignedArc}
+use Rattle.plane_model.specs.Drawing.{steps_of_paths}
+use Rattle.plane_model.specs.Parity.{is_below, links_of_paths, rings_hold}
 use Rattle.plane_model.specs.Snapped.{links_of, snapped}
 use Rattle.plane_snapping.proofs.SnappedLinks.{snapped_links_are_an_arrangement}
 use Rattle.plane_faces.specs.Labels.{IsFaceLabelling}
-use Rattle.plane_faces.specs.Places.{Place, IsBeside, IsPlaceOf}
-use Rattle.plane_faces.specs.Rings.{IsPolygon}
+use Rattle.plane_faces.specs.Places.{Place, IsBeside, IsPlaceOf, border, border_darts}
+use Rattle.plane_faces.specs.Rings.{IsPolygon, darts_of_paths}
 use Rattle.plane_faces.proofs.Classes.{parts_are_joined}
-use Rattle.plane_faces.proofs.FaceLaws.{place_beside}
+use Rattle.plane_faces.proofs.FaceLaws.{among_agrees, place_beside}
+use Rattle.plane_faces.proofs.BorderRings.{link_of, links_of_border}
+use Rattle.plane_faces.proofs.Connected.{border_parity}
+use Rattle.plane_faces.proofs.Lists.{odd_count-permutation}
+use Rattle.plane_faces.proofs.Runs.{all_links}
+use Rattle.plane_faces.proofs.Sorting.{rotations_exist}
 use Rattle.plane_faces.proofs.Order.{place_exists}
 use Rattle.plane_faces.proofs.Tables.{place_is_one}
 use Rattle.face_walk.specs.Places.{FaceTable}
@@ -27,14 +36,17 @@ use Rattle.face_classes.proofs.LabelLemmas.{each_table_has_labels}
 use Rattle.face_classes.proofs.PointLemmas.{face_of_point}
 use Rattle.ring_trace.specs.Boundary.{boundary}
 use Rattle.ring_trace.specs.Parts.{IsPieceOf}
+use Rattle.ring_trace.specs.Sets.{IsInnerFace, IsSetOf}
 use Rattle.ring_trace.specs.Traced.{bounded}
 use Rattle.ring_trace.specs.Turns.{round_of}
 use Rattle.ring_trace.proofs.BoundaryLemmas.{has_Contains, Contains_has}
-use Rattle.part_classes.specs.PartClasses.{AreFacesOf, AreInOne, AreTraced, IsInSome, IsWithin, PolygonsAreApart, PolygonsAreJoinedPoints, PolygonsHoldTheSet, PolygonsOfADrawing, number_of}
+use Rattle.part_classes.specs.PartClasses.{AreFacesOf, AreInOne, AreTraced, IsInSome, IsWithin, PolygonsAreApart, PolygonsAreJoinedPoints, PolygonsHoldByParity, PolygonsHoldTheSet, PolygonsOfADrawing, number_of}
 use Rattle.part_classes.proofs.BoundedLaws.{bounded_at, outside_is_not}
 use Rattle.part_classes.proofs.ClassLemmas.{are_classes, numbered}
+use Rattle.part_classes.proofs.CountLemmas.{permuted}
 use Rattle.part_classes.proofs.DrawnLaws.{whole_are_free, within, without}
-use Rattle.part_classes.proofs.TracedLaws.{traced_polygons_have_exteriors}
+use Rattle.part_classes.proofs.PolygonLaws.{same_counts}
+use Rattle.part_classes.proofs.TracedLaws.{some_arc, traced_polygons_have_exteriors}
 
 -- no face is in both
 abbrev AreApart : List ℕ → List ℕ → Type 0
@@ -117,6 +129,29 @@ module _ (S : List Segment) (arcs : List Path) (faces : FaceTable) (table : AreF
   pub in_set : (z : RationalPoint) (a : Place) → IsPlaceOf S z a → IsInSome arcs polygons z → Contains set (label a)
   in_set z a place (k, l, w) = of_set k (label a) l (face_within k l z a place w)
 
+  -- ---- by parity
+
+  links_used : (k : ℕ) → k < length polygons → IsPermutation (links_of_paths (map (round_of arcs) (get_or polygons k []))) (border (λ place. has nat_eq (get_or kept k []) (label place)) S)
+  links_used k l =
+      let f : Place → Bool = λ place. has nat_eq (get_or kept k []) (label place) in
+      let rings = map (round_of arcs) (get_or polygons k []) in
+      let counts =
+      same_counts S table.arrangement table.distinct arcs table.long table.along table.free faces table.built label by (get_or kept k []) (get_or polygons k []) (traced.there k [] l) (λ j d n. some_arc (get_or (get_or polygons k []) j d) (traced.least_first k [] l j d n)) (traced.simple k [] l)
+      (λ c. traced.used.once k c l) in
+      subst (λ (ls : List Segment). IsPermutation ls (border f S)) (all_links (steps_of_paths rings))
+      (subst (IsPermutation (map link_of (darts_of_paths rings))) (links_of_border f (border f S)) (IsPermutation-map link_of (darts_of_paths rings) (border_darts f S) (permuted (darts_of_paths rings) (border_darts f S) counts)))
+
+  inner_part : (k : ℕ) → k < length polygons → IsSetOf faces (get_or kept k [])
+  inner_part k l i d m = All-contains (IsInnerFace faces) set (get_or (get_or kept k []) i d) traced.inner (of_set k (get_or (get_or kept k []) i d) l (Contains-get_or (get_or kept k []) i d m))
+
+  pub by_parity : (k : ℕ) → k < length polygons → (z : RationalPoint) (a : Place) → IsPlaceOf S z a → rings_hold z (map (round_of arcs) (get_or polygons k [])) ≡ has nat_eq (get_or kept k []) (label a)
+  by_parity k l z a place =
+      let f : Place → Bool = λ p. has nat_eq (get_or kept k []) (label p) in
+      let labels : IsFaceLabelling S label = faces_are_classes S table.arrangement arcs table.long table.along table.free faces table.built label by in
+      let none = outside_is_not S table.arrangement table.distinct arcs table.long table.along table.free faces table.built label by (get_or kept k []) (inner_part k l) in
+      odd_count-permutation (is_below z) (links_of_paths (map (round_of arcs) (get_or polygons k []))) (border f S) (links_used k l)
+      ∙ border_parity S table.arrangement table.distinct (rotations_exist S table.arrangement table.distinct) f (among_agrees S label labels.agrees (has nat_eq (get_or kept k []))) none z a place
+
   -- ---- two points
 
   -- the number of a face of a part
@@ -163,6 +198,16 @@ polygons_are_joined_points S arcs faces table set parts polygons traced label by
     let by_number = parts_are_joined S table.arrangement table.distinct label labels (has nat_eq set) out (number_of parts) classes u v a b of_u of_v (Contains_has set (label a) c) (Contains_has set (label b) d) in (
       λ one. by_number.0 (in_one S arcs faces table set parts polygons traced label by u v a b of_u of_v one),
       λ joined. of_one S arcs faces table set parts polygons traced label by u v a b of_u of_v c d (by_number.1 joined),
+    )
+
+pub polygons_hold_by_parity : PolygonsHoldByParity
+polygons_hold_by_parity S arcs faces table set parts polygons traced k l z =
+    let (label, by) = each_table_has_labels S table.arrangement arcs table.along faces in
+    let (a, place) = place_exists S table.arrangement z in
+    let part = get_or (bounded faces.places (length arcs) parts) k [] in
+    let same = by_parity S arcs faces table set parts polygons traced label by k l z a place in (
+      λ e. within_polygon S arcs faces table set parts polygons traced label by k l z a place (has_Contains part (label a) (sym same ∙ e)),
+      λ w. same ∙ Contains_has part (label a) (face_within S arcs faces table set parts polygons traced label by k l z a place w),
     )
 
 -- ---- in a snapped drawing

@@ -125,7 +125,7 @@ module _ (S : List Segment) (arr : IsArrangement S) (distinct : IsDistinct S) (a
   tested : (c : SignedArc) (x y : Bool) → c.arc < length arcs → x ≡ has nat_eq part (face_left_of faces.places c) → y ≡ has nat_eq part (face_right_of faces.places c) → is_of_boundary faces.places (length arcs) part c ≡ (x && not y)
   tested c x y l e f = (λ i. lt-ltb c.arc (length arcs) l i && (sym e i && not (sym f i)))
 
-  same_counts : (d : Dart) → count_by (same_dart d) (darts_of_paths (map (round_of arcs) polygon)) ≡ count_by (same_dart d) (border_darts inside S)
+  pub same_counts : (d : Dart) → count_by (same_dart d) (darts_of_paths (map (round_of arcs) polygon)) ≡ count_by (same_dart d) (border_darts inside S)
   same_counts d = elim (decided d.link S) [
     | inr out ↦
         polygon_count d (λ (x : SignedArc). let z : ℕ = 0 in z) (λ x l. none_on_arc S arr arcs long along d out x l)

@@ -107,7 +107,7 @@ on_boundary faces many size set a c =
     let (there, rest) = filter-Contains test (signed_below many) a c in
     of_test faces many set a size (and_from (nat_lt a.arc many) (test a) (lt-ltb a.arc many (below_arc many a there)) rest)
 
-some_arc : (ring : List SignedArc) → BeginsWithLeast ring → 0 < length ring
+pub some_arc : (ring : List SignedArc) → BeginsWithLeast ring → 0 < length ring
 some_arc [] h = absurd h
 some_arc (a ∷ rest) h = omega arith
 

@@ -6,7 +6,7 @@ use Rattle.plane_model.specs.Arcs.{SignedArc}
 use Rattle.plane_model.specs.Arrangement.{IsArrangement, IsDistinct}
 use Rattle.plane_model.specs.Drawing.{Drawing}
 use Rattle.plane_model.specs.Joined.{AreJoinedIn}
-use Rattle.plane_model.specs.Parity.{odd}
+use Rattle.plane_model.specs.Parity.{odd, rings_hold}
 use Rattle.plane_model.specs.Snapped.{links_of, snapped}
 use Rattle.plane_model.specs.Rings.{turn_at_least}
 use Rattle.plane_faces.specs.Classes.{PointsWhere}
@@ -136,6 +136,11 @@ abbrev pub PolygonsAreJoinedPoints : Type 0
 PolygonsAreJoinedPoints = (S : List Segment) (arcs : List Path) (faces : FaceTable) → AreFacesOf S arcs faces → (set : List ℕ) (parts : List (List ℕ)) (polygons : List (List (List SignedArc))) → AreTraced arcs faces set parts polygons →
     (label : Place → ℕ) → IsFaceOfPlace arcs faces label → (u v : RationalPoint) (a b : Place) → IsPlaceOf S u a → IsPlaceOf S v b → Contains set (label a) → Contains set (label b) →
     AreInOne arcs polygons u v ↔ AreJoinedIn S (PointsWhere S (λ place. has nat_eq set (label place))) u v
+
+-- a point is within a traced polygon exactly if, of the links of its rings together, an odd number is below it
+abbrev pub PolygonsHoldByParity : Type 0
+PolygonsHoldByParity = (S : List Segment) (arcs : List Path) (faces : FaceTable) → AreFacesOf S arcs faces → (set : List ℕ) (parts : List (List ℕ)) (polygons : List (List (List SignedArc))) → AreTraced arcs faces set parts polygons →
+    (k : ℕ) → k < length polygons → (z : RationalPoint) → (rings_hold z (map (round_of arcs) (slice_index_or polygons k [])) ≡ true) ↔ IsWithin arcs (slice_index_or polygons k []) z
 
 -- The faces of a table of the whole arcs of a snapped drawing are such faces, so that these laws are true of them; and a grid point is within some
 -- traced polygon exactly if the face over it is in the set.

@@ -1,5 +1,5 @@
 //! The parts of a set of faces are the parts that the plane has of their region, and the rings that are traced for a part
-//! are an exterior and holes that together hold it.
+//! are an exterior and holes that together hold it. So traced polygons share no point, and together they hold the set.
 //!
 //! Each function carries one law in its contract, and does nothing.
 #![tactic(auto)]
@@ -10,6 +10,7 @@ ghost use Rattle.part_classes.specs.PartClasses.{
   PolygonsAreApart,
   PolygonsAreJoinedPoints,
   PolygonsHaveExteriors,
+  PolygonsHoldByParity,
   PolygonsHoldTheSet,
   PolygonsOfADrawing,
   RingsGoRound,
@@ -67,6 +68,12 @@ pub fn polygons_hold_the_set()
 /// closed runs of its boundary separate them.
 pub fn polygons_are_joined_points()
     ensures { PolygonsAreJoinedPoints }
+{}
+
+/// A point is within a polygon of a trace, inside its exterior and in no hole, exactly if an odd number of the links of
+/// all its rings is below the point: both readings of a polygon agree.
+pub fn polygons_hold_by_parity()
+    ensures { PolygonsHoldByParity }
 {}
 
 /// The faces of a table of the whole arcs of a snapped drawing are such faces, so that these laws are true of them; and a
