@@ -1,12 +1,12 @@
 -- What sees a point that lies on no link, and that some point does.
-use Rattle.std.proofs.Common.{◌≡◌, sym, ◌∙◌, arith, List}
+use Rattle.std.proofs.Common.{◌≡◌, arith, List}
 use Rattle.std.proofs.Math.IntN.{ℤ, pos, neg_ℤ}
-use Rattle.std.specs.Prelude.{Contains, ◌<ℤ◌}
+use Rattle.std.specs.Prelude.{◌<ℤ◌}
 use Rattle.std.proofs.lemmas.Int.{ints}
-use Rattle.plane_model.specs.Points.{GridPoint, RationalPoint, Segment, step_x, at, IsOn}
-use Rattle.plane_model.specs.Arrangement.{IsArrangement, IsFree}
+use Rattle.plane_model.specs.Points.{GridPoint, RationalPoint, Segment, step_x, at}
+use Rattle.plane_model.specs.Arrangement.{IsFree}
 use Rattle.plane_model.specs.Parity.{links_of_paths}
-use Rattle.plane_model.specs.Sees.{IsClear, IsOffLinks, SeesPoint}
+use Rattle.plane_model.specs.Sees.{IsOffLinks, SeesPoint}
 use Rattle.plane_parity.proofs.Cut.{IsOnSegment-swap}
 use Rattle.plane_parity.proofs.Determinant.{step_x-swap}
 use Rattle.plane_parity.proofs.FreeSegment.{same_parity}

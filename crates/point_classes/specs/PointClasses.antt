@@ -7,13 +7,14 @@ use Rattle.plane_model.specs.Joined.{AreOfOneFace}
 use Rattle.plane_model.specs.Sees.{IsOffLinks, SeesPoint}
 use Rattle.plane_model.specs.Sides.{Points, IsInside}
 use Rattle.plane_model.specs.Snapped.{links_of, snapped}
-use Rattle.plane_faces.specs.Places.{Place, IsPlaceOf}
+use Rattle.plane_model.specs.Rotation.{Dart, tail}
+use Rattle.plane_faces.specs.Places.{Place, left_of, IsPlaceOf, AgreesWherePlacesMeet}
 use Rattle.arc_table.specs.Along.{GoAlong}
 use Rattle.arc_table.specs.Lookup.{IsArcAt}
 use Rattle.arc_table.specs.WholeArcs.{IsWholeArc}
 use Rattle.face_walk.specs.Places.{FaceTable, IsBuiltOf, IsFaceOver}
 use Rattle.face_classes.specs.FaceClasses.{AreFreeInside, IsFaceOfPlace}
-use Rattle.line_ops.specs.Points.{IsInsideAt, IsNode}
+use Rattle.line_ops.specs.Points.{IsInsideAt}
 
 -- the rational points off the links whose faces are in the set
 abbrev pub PointsOf : List Segment → (Place → ℕ) → List ℕ → Points
@@ -41,3 +42,10 @@ abbrev pub FreePointsOfADrawing : Type 0
 FreePointsOfADrawing = (d : Drawing) → (arcs : List Path) → All (λ arc. 1 < length arc) arcs → GoAlong (links_of (snapped d)) arcs → All (IsWholeArc (snapped d)) arcs →
     (faces : FaceTable) → IsBuiltOf arcs faces → (label : Place → ℕ) → IsFaceOfPlace arcs faces label → (set : List ℕ) → (p : GridPoint) → Contains (vertices_of (snapped d)) p → IsArcAt arcs p None →
     (inside : Bool) → IsInsideAt arcs faces p set inside → (inside ≡ true) ↔ IsInside (links_of (snapped d)) (PointsOf (links_of (snapped d)) label set) p
+
+-- ---- vertices of links
+
+-- what sees an end of a link has the label of a sector there: that on the left of a link directed away from it
+abbrev pub SeenFromSectors : Type 0
+SeenFromSectors = (S : List Segment) → IsArrangement S → IsDistinct S → (label : Place → ℕ) → AgreesWherePlacesMeet S label → (d : Dart) → Contains S d.link → (z : RationalPoint) → SeesPoint S (tail d) z →
+    (a : Place) → IsPlaceOf S z a → (e : Dart) × Contains S e.link × (tail e ≡ tail d) × (label a ≡ label (left_of e))

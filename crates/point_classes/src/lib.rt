@@ -3,7 +3,7 @@
 //! Each function carries one law in its contract, and does nothing.
 #![tactic(auto)]
 
-ghost use Rattle.point_classes.specs.PointClasses.{FreePointsAreInside, FreePointsAreSeen, FreePointsOfADrawing, SeenFromOneFace};
+ghost use Rattle.point_classes.specs.PointClasses.{FreePointsAreInside, FreePointsAreSeen, FreePointsOfADrawing, SeenFromOneFace, SeenFromSectors};
 
 /// What sees a point that lies on no link is of one face with it.
 pub fn seen_from_one_face()
@@ -23,4 +23,9 @@ pub fn free_points_are_inside()
 /// So it is in a table of the whole arcs of a snapped drawing, for a vertex that no arc has.
 pub fn free_points_of_a_drawing()
     ensures { FreePointsOfADrawing }
+{}
+
+/// What sees a vertex has the label of a sector there, on the left of a link directed away from it.
+pub fn seen_from_sectors()
+    ensures { SeenFromSectors }
 {}
