@@ -4,3 +4,4 @@ pub mod FreePoints
 pub mod Grown
 pub mod Spoke
 pub mod Sectors
+pub mod Nodes

@@ -14,7 +14,7 @@ use Rattle.arc_table.specs.Lookup.{IsArcAt}
 use Rattle.arc_table.specs.WholeArcs.{IsWholeArc}
 use Rattle.face_walk.specs.Places.{FaceTable, IsBuiltOf, IsFaceOver}
 use Rattle.face_classes.specs.FaceClasses.{AreFreeInside, IsFaceOfPlace}
-use Rattle.line_ops.specs.Points.{IsInsideAt}
+use Rattle.line_ops.specs.Points.{IsInsideAt, IsNode}
 
 -- the rational points off the links whose faces are in the set
 abbrev pub PointsOf : List Segment → (Place → ℕ) → List ℕ → Points
@@ -49,3 +49,9 @@ FreePointsOfADrawing = (d : Drawing) → (arcs : List Path) → All (λ arc. 1 <
 abbrev pub SeenFromSectors : Type 0
 SeenFromSectors = (S : List Segment) → IsArrangement S → IsDistinct S → (label : Place → ℕ) → AgreesWherePlacesMeet S label → (d : Dart) → Contains S d.link → (z : RationalPoint) → SeesPoint S (tail d) z →
     (a : Place) → IsPlaceOf S z a → (e : Dart) × Contains S e.link × (tail e ≡ tail d) × (label a ≡ label (left_of e))
+
+-- so a node that some point of a set sees is inside the set, as it is answered for it
+abbrev pub SeenNodesAreInside : Type 0
+SeenNodesAreInside = (S : List Segment) → IsArrangement S → IsDistinct S → (arcs : List Path) → All (λ arc. 1 < length arc) arcs → GoAlong S arcs → AreFreeInside S arcs →
+    (faces : FaceTable) → IsBuiltOf arcs faces → (label : Place → ℕ) → IsFaceOfPlace arcs faces label → (set : List ℕ) → (p : GridPoint) → IsNode arcs p →
+    (inside : Bool) → IsInsideAt arcs faces p set inside → IsInside S (PointsOf S label set) p → inside ≡ true

@@ -3,7 +3,7 @@
 //! Each function carries one law in its contract, and does nothing.
 #![tactic(auto)]
 
-ghost use Rattle.point_classes.specs.PointClasses.{FreePointsAreInside, FreePointsAreSeen, FreePointsOfADrawing, SeenFromOneFace, SeenFromSectors};
+ghost use Rattle.point_classes.specs.PointClasses.{FreePointsAreInside, FreePointsAreSeen, FreePointsOfADrawing, SeenFromOneFace, SeenFromSectors, SeenNodesAreInside};
 
 /// What sees a point that lies on no link is of one face with it.
 pub fn seen_from_one_face()
@@ -28,4 +28,9 @@ pub fn free_points_of_a_drawing()
 /// What sees a vertex has the label of a sector there, on the left of a link directed away from it.
 pub fn seen_from_sectors()
     ensures { SeenFromSectors }
+{}
+
+/// So a node that some point of a set sees is inside the set, as it is answered for it.
+pub fn seen_nodes_are_inside()
+    ensures { SeenNodesAreInside }
 {}

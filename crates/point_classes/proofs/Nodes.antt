@@ -1,0 +1,60 @@
+-- A node that some point of a set sees is inside the set.
+use Rattle.std.proofs.Common.{◌≡◌, inl, inr, sym, ap, ◌∙◌, subst, ℕ, ◌<◌, Bool, true, List, length, get_or, All, Contains}
+use Rattle.std.proofs.Math.Logic.{∥∥₁_elim}
+use Rattle.std.proofs.Math.Nat.{ℕ_set}
+use Rattle.plane_model.specs.Points.{GridPoint, RationalPoint, Segment, Path}
+use Rattle.plane_model.specs.Arcs.{SignedArc}
+use Rattle.plane_model.specs.Arrangement.{IsArrangement, IsDistinct}
+use Rattle.plane_model.specs.Rotation.{Dart, tail}
+use Rattle.plane_model.specs.Sees.{SeesPoint}
+use Rattle.plane_faces.specs.Places.{Place, left_of}
+use Rattle.arc_table.specs.Along.{GoAlong}
+use Rattle.arc_table.specs.Around.{first_step, start_of}
+use Rattle.face_walk.specs.Places.{FaceTable, IsBuiltOf}
+use Rattle.face_classes.specs.FaceClasses.{AreFreeInside, IsFaceOfPlace}
+use Rattle.face_classes.proofs.ClassLemmas.{faces_are_classes}
+use Rattle.face_classes.proofs.DartLemmas.{step_head, step_tail}
+use Rattle.face_classes.proofs.SectorRows.{dart_of, dart_on, first_sides}
+use Rattle.face_classes.proofs.StepLemmas.{IsInnerDart, alone_inside, none_starts_inside, they_meet, where_it_starts}
+use Rattle.line_ops.specs.Inside as sides
+use Rattle.line_ops.specs.Points.{IsInsideAt, IsNode, Leaves}
+use Rattle.point_classes.specs.PointClasses.{SeenNodesAreInside}
+use Rattle.point_classes.proofs.Sectors.{seen_from_sectors}
+
+module _ (S : List Segment) (arr : IsArrangement S) (distinct : IsDistinct S) (arcs : List Path) (long : All (λ arc. 1 < length arc) arcs) (along : GoAlong S arcs) (free : AreFreeInside S arcs)
+    (faces : FaceTable) (built : IsBuiltOf arcs faces) (label : Place → ℕ) (by : IsFaceOfPlace arcs faces label) (p : GridPoint) where
+  -- a dart at a node begins a signed arc, whose left face is its label
+  arc_of_dart : IsNode arcs p → (e : Dart) → Contains S e.link → tail e ≡ p → (b : SignedArc) × Leaves arcs p b × (label (left_of e) ≡ sides.left_of faces b)
+  arc_of_dart node e there at_p = elim (where_it_starts arcs S arr long along e there) [
+    | inl r ↦ (
+        let (b, first) = r in (
+          b,
+          record { there = first.arc; start = sym (step_tail (first_step arcs b)) ∙ ap tail (sym first.dart) ∙ at_p },
+          ap (λ (x : Dart). label (left_of x)) first.dart
+              ∙ ∥∥₁_elim built.all_links (ℕ_set (label (left_of (dart_of S arr arcs long along b))) (sides.left_of faces b))
+              (λ all. (first_sides S arr arcs long along faces.links all (λ n. get_or faces.places n 0) label by b first.arc).0),
+        ))
+    | inr r ↦ (
+        let (n, j, s, u, inner) = r in
+        let (a, leaves) = node in
+        absurd (none_starts_inside S arr arcs long along n j s u inner.before inner.after (alone_inside S arr arcs long along free n j s u inner.before inner.after) a leaves.there
+        (leaves.start ∙ sym at_p ∙ starts_there n j s u inner)))
+  ]
+    where
+      starts_there : (n j : ℕ) (s u : Segment) → IsInnerDart arcs n j s u e → tail e ≡ u.start
+      starts_there n j s u inner = elim inner.dart [
+        | inl f ↦ ap tail f ∙ step_tail u
+        | inr f ↦ ap tail f ∙ step_head s ∙ they_meet arcs n j s u inner.before inner.after
+      ]
+
+pub seen_nodes_are_inside : SeenNodesAreInside
+seen_nodes_are_inside S arr distinct arcs long along free faces built label by set p node inside is h =
+    let (z, sees, held) = h in
+    let (off_links, placed) = held in
+    let (x, here, has_label) = placed in
+    let (a, leaves) = node in
+    let agrees = (faces_are_classes S arr arcs long along free faces built label by).agrees in
+    let start : tail (dart_of S arr arcs long along a) ≡ p = step_tail (first_step arcs a) ∙ leaves.start in
+    let (e, there, at_start, same) = seen_from_sectors S arr distinct label agrees (dart_of S arr arcs long along a) (dart_on S arr arcs long along a leaves.there) z (subst (λ (g : GridPoint). SeesPoint S g z) (sym start) sees) x here in
+    let (b, leaves_too, face) = arc_of_dart S arr distinct arcs long along free faces built label by p node e there (at_start ∙ start) in
+    (is.at_node node).1 (b, leaves_too, subst (Contains set) (same ∙ face) has_label)
