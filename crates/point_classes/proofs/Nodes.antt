@@ -1,15 +1,15 @@
 -- A node that some point of a set sees is inside the set.
-use Rattle.std.proofs.Common.{◌≡◌, inl, inr, sym, ap, ◌∙◌, subst, ℕ, ◌<◌, Bool, true, List, length, get_or, All, Contains}
+use Rattle.std.proofs.Common.{◌≡◌, inl, inr, sym, ap, ◌∙◌, subst, ℕ, ◌<◌, List, length, get_or, All, Contains}
 use Rattle.std.proofs.Math.Logic.{∥∥₁_elim}
 use Rattle.std.proofs.Math.Nat.{ℕ_set}
-use Rattle.plane_model.specs.Points.{GridPoint, RationalPoint, Segment, Path}
+use Rattle.plane_model.specs.Points.{GridPoint, Segment, Path}
 use Rattle.plane_model.specs.Arcs.{SignedArc}
 use Rattle.plane_model.specs.Arrangement.{IsArrangement, IsDistinct}
 use Rattle.plane_model.specs.Rotation.{Dart, tail}
 use Rattle.plane_model.specs.Sees.{SeesPoint}
 use Rattle.plane_faces.specs.Places.{Place, left_of}
 use Rattle.arc_table.specs.Along.{GoAlong}
-use Rattle.arc_table.specs.Around.{first_step, start_of}
+use Rattle.arc_table.specs.Around.{first_step}
 use Rattle.face_walk.specs.Places.{FaceTable, IsBuiltOf}
 use Rattle.face_classes.specs.FaceClasses.{AreFreeInside, IsFaceOfPlace}
 use Rattle.face_classes.proofs.ClassLemmas.{faces_are_classes}
@@ -17,7 +17,7 @@ use Rattle.face_classes.proofs.DartLemmas.{step_head, step_tail}
 use Rattle.face_classes.proofs.SectorRows.{dart_of, dart_on, first_sides}
 use Rattle.face_classes.proofs.StepLemmas.{IsInnerDart, alone_inside, none_starts_inside, they_meet, where_it_starts}
 use Rattle.line_ops.specs.Inside as sides
-use Rattle.line_ops.specs.Points.{IsInsideAt, IsNode, Leaves}
+use Rattle.line_ops.specs.Points.{IsNode, Leaves}
 use Rattle.point_classes.specs.PointClasses.{SeenNodesAreInside}
 use Rattle.point_classes.proofs.Sectors.{seen_from_sectors}
 
