@@ -156,7 +156,7 @@ module _ (w : ℤ) (h : pos 0 <ℤ w) where
       let a = middle_step w l.start.x l.stop.x k.start.x in
       let b = middle_step w l.start.x l.stop.x k.stop.x in
       let t = turn_grown w k.start.x k.start.y k.stop.x k.stop.y (w *ℤ l.start.x +ℤ w *ℤ l.stop.x) (w *ℤ l.start.y +ℤ w *ℤ l.stop.y) (pos 2)
-          ∙ ap (λ (t : ℤ). w *ℤ t) (middle_turn w (k.start.y *ℤ pos 1 -ℤ k.stop.y *ℤ pos 1) (k.stop.x *ℤ pos 1 -ℤ k.start.x *ℤ pos 1) (k.start.x *ℤ k.stop.y -ℤ k.start.y *ℤ k.stop.x) l.start.x l.start.y l.stop.x l.stop.y) in
+      ∙ ap (λ (t : ℤ). w *ℤ t) (middle_turn w (k.start.y *ℤ pos 1 -ℤ k.stop.y *ℤ pos 1) (k.stop.x *ℤ pos 1 -ℤ k.start.x *ℤ pos 1) (k.start.x *ℤ k.stop.y -ℤ k.start.y *ℤ k.stop.x) l.start.x l.start.y l.stop.x l.stop.y) in
       (λ i. ((ap (λ (t : ℤ). int_le t (pos 0)) a ∙ below_zero_is (w *ℤ step_x (midpoint l) (at k.start)) (step_x (midpoint l) (at k.start)) (less_grown w (step_x (midpoint l) (at k.start)) h)) i
       && (ap (int_lt (pos 0)) b ∙ less_grown w (step_x (midpoint l) (at k.stop)) h) i)
       && (ap (int_lt (pos 0)) t ∙ less_grown w (w *ℤ turn (at k.start) (at k.stop) (midpoint l)) h ∙ less_grown w (turn (at k.start) (at k.stop) (midpoint l)) h) i)
