@@ -1,3 +1,1 @@
-pub mod InnerFaces
 pub mod SingleLink
-pub mod SquareLemmas

@@ -1,2 +1,1 @@
 pub mod OneLink
-pub mod Square

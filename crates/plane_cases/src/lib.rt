@@ -1,8 +1,7 @@
 //! What no clause says of the crates of the plane: that their calls succeed where there is memory, and that what they
 //! answer for small drawings is what was worked out by hand.
 //!
-//! There are tests alone: of points, buckets, hot pixels, snapped drawings, spans, arcs, faces, sets of faces and the
-//! commands on them.
+//! There are tests alone: of points, buckets, hot pixels, snapped drawings, spans, arcs, faces and sets of faces.
 #![tactic(auto)]
 
 #[cfg(test)]
@@ -23,9 +22,3 @@ mod ring_trace_tests;
 mod snap_round_tests;
 #[cfg(test)]
 mod span_pool_tests;
-#[cfg(test)]
-mod square;
-#[cfg(test)]
-mod square_tests;
-#[cfg(test)]
-mod triangles;
