@@ -28,7 +28,7 @@ use Rattle.plane_faces.proofs.FaceLaws.{place_beside}
 use Rattle.plane_faces.proofs.Order.{place_exists}
 use Rattle.arc_table.specs.Along.{GoAlong}
 use Rattle.face_walk.specs.Places.{FaceTable, IsBuiltOf, face_left_of, place_of}
-use Rattle.face_classes.specs.FaceClasses.{AreNumbered, CountIsExact, IsFaceOfPlace, SeesFace, SeesSide, ShowsFace, directed_as}
+use Rattle.face_classes.specs.FaceClasses.{CountIsExact, IsFaceOfPlace, SeesFace, SeesSide, ShowsFace, directed_as}
 use Rattle.face_classes.proofs.ClassLemmas.{faces_are_classes}
 use Rattle.face_classes.proofs.DartLemmas.{one_of_two}
 use Rattle.face_classes.proofs.LabelLemmas.{each_table_has_labels}
@@ -111,7 +111,7 @@ choose {X} P (suc n) h =
     go x xs is each zero d l = is
     go x xs is each (suc i) d l = each i d (omega arith)
 
-module _ (S : List Segment) (arr : IsArrangement S) (arcs : List Path) (long : All (λ arc. 1 < length arc) arcs) (along : GoAlong S arcs) (faces : FaceTable) (built : IsBuiltOf arcs faces) (numbered : AreNumbered faces)
+module _ (S : List Segment) (arr : IsArrangement S) (arcs : List Path) (long : All (λ arc. 1 < length arc) arcs) (along : GoAlong S arcs) (faces : FaceTable) (built : IsBuiltOf arcs faces)
     (label : Place → ℕ) (by : IsFaceOfPlace arcs faces label) where
   seen_arc : (a : SignedArc) → a.arc < length arcs → (z : RationalPoint) × SeesFace S arcs faces z (face_left_of faces.places a) × IsOffLinks S z
   seen_arc a l =
@@ -127,7 +127,7 @@ module _ (S : List Segment) (arr : IsArrangement S) (arcs : List Path) (long : A
       (z, record { along = a; there = l; dart = e; of_arc = Contains-get_or darts 0 none there; sees = sees; face = refl }, off)
 
   shown : (f : ℕ) → f < faces.count → (z : RationalPoint) × (ShowsFace S arcs faces z f × IsOffLinks S z)
-  shown f below = elim (faces_have_arcs arcs faces built numbered f below) [
+  shown f below = elim (faces_have_arcs arcs faces built f below) [
     | inl e ↦ (
         let (x, left) = less_than_all S in
         (at (record { x = x; y = pos 0 }), (inr (inr ((λ l c. plain_up x l.start.x (left l c)), sym e)), off_far_left S arr x left)))
@@ -136,7 +136,7 @@ module _ (S : List Segment) (arr : IsArrangement S) (arcs : List Path) (long : A
 
   -- each label is below the count
   label_below : (a : Place) → IsBeside S a → label a < faces.count
-  label_below outside h = subst (λ (f : ℕ). f < faces.count) (sym by.outside_all) (numbered.below 0 0 (let counted = built.places_counted in omega arith))
+  label_below outside h = subst (λ (f : ℕ). f < faces.count) (sym by.outside_all) (built.numbered.below 0 0 (let counted = built.places_counted in omega arith))
   label_below (left_of d) c =
       let (n, j, s, h, e) = step_of_link arcs S arr long along d.link c in
       let darts : List Dart = map dart_of_step (steps_of (arc_of arcs n)) in
@@ -144,17 +144,17 @@ module _ (S : List Segment) (arr : IsArrangement S) (arcs : List Path) (long : A
       let counted = built.places_counted in
       let there = h.arc in
       elim (one_of_two s d (sym e)) [
-        | inl f ↦ subst (λ (g : ℕ). g < faces.count) (sym (ap (λ (k : Dart). label (left_of k)) f ∙ All-contains (λ (k : Dart). label (left_of k) ≡ face_left_of faces.places (forward n)) darts (dart_of_step s) (by.left n h.arc) in_darts)) (numbered.below (place_of (forward n)) 0 (omega arith))
-        | inr f ↦ subst (λ (g : ℕ). g < faces.count) (sym (ap (λ (k : Dart). label (left_of k)) f ∙ All-contains (λ (k : Dart). label (left_of (opposite k)) ≡ face_left_of faces.places (backward n)) darts (dart_of_step s) (by.right n h.arc) in_darts)) (numbered.below (place_of (backward n)) 0 (omega arith))
+        | inl f ↦ subst (λ (g : ℕ). g < faces.count) (sym (ap (λ (k : Dart). label (left_of k)) f ∙ All-contains (λ (k : Dart). label (left_of k) ≡ face_left_of faces.places (forward n)) darts (dart_of_step s) (by.left n h.arc) in_darts)) (built.numbered.below (place_of (forward n)) 0 (omega arith))
+        | inr f ↦ subst (λ (g : ℕ). g < faces.count) (sym (ap (λ (k : Dart). label (left_of k)) f ∙ All-contains (λ (k : Dart). label (left_of (opposite k)) ≡ face_left_of faces.places (backward n)) darts (dart_of_step s) (by.right n h.arc) in_darts)) (built.numbered.below (place_of (backward n)) 0 (omega arith))
       ]
 
 pub count_is_exact : CountIsExact
-count_is_exact d arcs long along whole faces built numbered =
+count_is_exact d arcs long along whole faces built =
     let s = snapped_links_are_an_arrangement d in
     let S : List Segment = links_of (snapped d) in
     let (label, by) = each_table_has_labels S s.0 arcs along faces in
     let labelling = faces_are_classes S s.0 arcs long along (whole_are_free (snapped d) arcs whole) faces built label by in
-    let (zs, many, each) = choose (λ (z : RationalPoint) (f : ℕ). ShowsFace S arcs faces z f × IsOffLinks S z) faces.count (shown S s.0 arcs long along faces built numbered label by) in (
+    let (zs, many, each) = choose (λ (z : RationalPoint) (f : ℕ). ShowsFace S arcs faces z f × IsOffLinks S z) faces.count (shown S s.0 arcs long along faces built label by) in (
       zs,
       record {
         off = λ k e l. (each k e (omega arith)).1;
@@ -163,7 +163,7 @@ count_is_exact d arcs long along whole faces built numbered =
             omega arith);
         all = λ z off.
             (let (a, at_z) = place_exists S s.0 z in
-            let below : label a < faces.count = label_below S s.0 arcs long along faces built numbered label by a (place_beside S z a at_z) in
+            let below : label a < faces.count = label_below S s.0 arcs long along faces built label by a (place_beside S z a at_z) in
             let x : RationalPoint = get_or zs (label a) z in (
               label a,
               x,

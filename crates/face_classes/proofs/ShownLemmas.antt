@@ -20,6 +20,7 @@ use Rattle.plane_faces.proofs.Sorting.{rotations_exist}
 use Rattle.arc_table.specs.Along.{GoAlong}
 use Rattle.face_walk.specs.Places.{FaceTable, face_left_of}
 use Rattle.face_walk.specs.Rays.{AreLinksOf}
+use Rattle.face_walk.proofs.NumberingLemmas.{number_there}
 use Rattle.face_classes.specs.FaceClasses.{FacesHaveArcs, FacesOfADrawing, IsFaceOfPlace, SeesSide, SeesFace, ShowsFace, directed_as}
 use Rattle.face_classes.proofs.ClassLemmas.{faces_are_classes}
 use Rattle.face_classes.proofs.LabelLemmas.{each_table_has_labels}
@@ -80,8 +81,8 @@ halves (suc (suc k)) = elim (halves k) [
 ]
 
 pub faces_have_arcs : FacesHaveArcs
-faces_have_arcs arcs faces built numbered f below =
-    let (k, there, is) = numbered.used f below in
+faces_have_arcs arcs faces built f below =
+    let (k, there, is) = number_there faces.count faces.places built.numbered f below in
     let counted = built.places_counted in
     let at_k : get_or faces.places k 0 ≡ f = get_or_default faces.places k 0 f there ∙ is in
     elim (halves k) [

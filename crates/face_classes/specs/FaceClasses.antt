@@ -69,11 +69,6 @@ IsFarLeft S faces z f = ((l : Segment) → Contains S l → pos 0 <ℤ step_x z 
 abbrev pub ShowsFace : List Segment → List Path → FaceTable → RationalPoint → ℕ → Type 0
 ShowsFace S arcs faces z f = SeesFace S arcs faces z f ⊎ (IsOverAt faces z f ⊎ IsFarLeft S faces z f)
 
--- the faces are numbered from 0, each number below the count is that of some place, and the places have no other
-pub record AreNumbered (faces : FaceTable) : Type 0 where
-  pub below : All (λ f. f < faces.count) faces.places
-  pub used : (f : ℕ) → f < faces.count → Contains faces.places f
-
 -- ---- laws
 
 -- the places of the plane can be labelled so
@@ -103,10 +98,10 @@ FacesOfADrawing = (d : Drawing) → (arcs : List Path) → All (λ arc. 1 < leng
 
 -- each face but the outer one is left of some signed arc
 abbrev pub FacesHaveArcs : Type 0
-FacesHaveArcs = (arcs : List Path) → (faces : FaceTable) → IsBuiltOf arcs faces → AreNumbered faces → (f : ℕ) → f < faces.count →
+FacesHaveArcs = (arcs : List Path) → (faces : FaceTable) → IsBuiltOf arcs faces → (f : ℕ) → f < faces.count →
     (f ≡ outer_of faces) ⊎ ((a : SignedArc) × (a.arc < length arcs) × (face_left_of faces.places a ≡ f))
 
 -- and the count is the number of faces of the plane: each number below it is that of just one class of points, and each class has one
 abbrev pub CountIsExact : Type 0
 CountIsExact = (d : Drawing) → (arcs : List Path) → All (λ arc. 1 < length arc) arcs → GoAlong (links_of (snapped d)) arcs → All (IsWholeArc (snapped d)) arcs →
-    (faces : FaceTable) → IsBuiltOf arcs faces → AreNumbered faces → IsFaceCount (links_of (snapped d)) faces.count
+    (faces : FaceTable) → IsBuiltOf arcs faces → IsFaceCount (links_of (snapped d)) faces.count

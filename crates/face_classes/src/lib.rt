@@ -35,12 +35,12 @@ pub fn faces_of_a_drawing()
     ensures { FacesOfADrawing }
 {}
 
-/// Each face but the outer one is left of some signed arc, where no number of a face is left out.
+/// Each face but the outer one is left of some signed arc.
 pub fn faces_have_arcs()
     ensures { FacesHaveArcs }
 {}
 
-/// And the count of faces is the number of faces of the plane.
+/// And the count of faces is the number of faces of the plane, in a table of the whole arcs of a snapped drawing.
 pub fn count_is_exact()
     ensures { CountIsExact }
 {}

@@ -1,9 +1,10 @@
 -- Numbering classes one element after another.
-use Rattle.std.proofs.Common.{◌≡◌, ◌⊎◌, refl, sym, ap, ◌∙◌, subst, arith, ℕ, ◌+◌, ◌<◌, ◌≤◌, List, [], ◌∷◌, ◌++◌, length, get_or, take, All, inl, inr, length-take}
-use Rattle.std.proofs.lemmas.Bool.{cases_lt}
+use Rattle.std.proofs.Common.{◌≡◌, ◌⊎◌, refl, sym, ap, ◌∙◌, subst, arith, ℕ, ◌+◌, ◌<◌, ◌≤◌, List, [], ◌∷◌, ◌++◌, length, get_or, nat_eq, take, All, Contains, inl, inr, length-take}
+use Rattle.std.proofs.lemmas.Bool.{cases_lt, eq-eqb, eqb-true}
 use Rattle.std.proofs.lemmas.List.{length_push, get_or_append_left, get_or_push, get_or_default, get_or-take, take_more}
+use Rattle.std.proofs.lemmas.List.Folds.{list_any_at, Any-from_list_any}
 use Rattle.face_walk.specs.Joining.{AreClasses}
-use Rattle.face_walk.specs.Numbering.{IsNumbering}
+use Rattle.face_walk.specs.Numbering.{AreAllBelow, IsNumbering}
 
 -- an element of two lists, each with one more
 abbrev IsOld : List ℕ → List ℕ → List ℕ → List ℕ → ℕ → ℕ → Type 0
@@ -119,6 +120,20 @@ numbers_below classes numbers count h k d l =
     let e = h.each in
     let b : get_or numbers k 0 < count = h.below k (omega arith) in
     subst (λ (m : ℕ). m < count) (get_or_default numbers k 0 d l) b
+
+-- none is left out
+pub none_left_out : (classes numbers : List ℕ) (count : ℕ) → IsNumbering classes numbers count → AreAllBelow count numbers
+none_left_out classes numbers count h = record {
+  below = numbers_below classes numbers count h;
+  used = λ n l.
+      let (j, there, is) = h.used n l in
+      let e = h.each in list_any_at (nat_eq n) numbers j 0 (omega arith) (eq-eqb n (get_or numbers j 0) (sym is));
+}
+
+pub number_there : (count : ℕ) (numbers : List ℕ) → AreAllBelow count numbers → (n : ℕ) → n < count → Contains numbers n
+number_there count numbers h n below =
+    let (i, d, l, at, same) = Any-from_list_any (nat_eq n) numbers (h.used n below) in
+    (i, l, get_or_default numbers i n d l ∙ at ∙ sym (eqb-true n d same))
 
 pub numbered_step : (classes numbers : List ℕ) (count n : ℕ) → n < length classes → count ≤ n + 1 → IsNumbering (take (n + 1) classes) numbers count →
     (length numbers ≡ n + 1) × (count ≤ n + 1) × All (λ k. k < count) numbers × IsNumbering (take (n + 1) classes) numbers count

@@ -1,5 +1,11 @@
 -- Numbers of classes, from 0.
-use Rattle.std.specs.Prelude.{◌≡◌, ◌↔◌, ℕ, ◌<◌, List, length, slice_index}
+use Rattle.std.specs.Prelude.{◌≡◌, ◌↔◌, ℕ, ◌<◌, true, nat_eq, List, All, length, slice_index}
+use Rattle.lists.specs.Lists.{has}
+
+-- the numbers in a list are just those below the count: none is left out, and there is no other
+pub record AreAllBelow (count : ℕ) (numbers : List ℕ) : Type 0 where
+  pub below : All (λ n. n < count) numbers
+  pub used : (n : ℕ) → n < count → has nat_eq numbers n ≡ true
 
 -- So many numbers are given to the elements of classes: one to each class, a lesser one to a class with a lesser least number, and none is left out.
 pub record IsNumbering (classes numbers : List ℕ) (count : ℕ) : Type 0 where

@@ -7,6 +7,7 @@ use Rattle.arc_table.specs.Around.{IsTurned}
 use Rattle.face_walk.specs.Areas.{area_within}
 pub use Rattle.face_walk.specs.PlaceNumbers.{place_of, HasPlaces}
 use Rattle.face_walk.specs.Joins.{AreJoinedBy}
+use Rattle.face_walk.specs.Numbering.{AreAllBelow}
 use Rattle.face_walk.specs.Sectors.{sectors}
 use Rattle.face_walk.specs.Rays.{AreLinksOf, AreRays, IsTopmostBelow, place_met}
 use Rattle.face_walk.specs.declared.links.ArcLink.{ArcLink}
@@ -63,4 +64,5 @@ pub record IsBuiltOf (arcs : List Path) (faces : FaceTable) : Type 0 where
   pub places_counted : length faces.places ≡ 2 * length arcs + 1
   pub all_links : ∥ AreLinksOf arcs faces.links ∥₁
   pub joined : ∥ HasJoins arcs faces.links faces.places ∥₁
+  pub numbered : AreAllBelow faces.count faces.places
   pub areas_summed : faces.areas ≡ areas_of_faces arcs faces.places faces.count

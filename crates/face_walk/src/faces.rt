@@ -1,6 +1,7 @@
 ghost use Rattle.std.specs.Prelude.{◌≡◌, ◌+◌, ◌*◌, ◌<◌, ◌≤◌, All, IfOk, List, Some, ℕ, length, map, slice_get};
 ghost use Rattle.plane_model.specs.Points.{Path};
 ghost use Rattle.face_walk.specs.Areas.{area_within};
+ghost use Rattle.face_walk.specs.Numbering.{AreAllBelow};
 ghost use Rattle.face_walk.specs.Places.{HasArc, HasJoins, HasPlaces, IsBuiltOf, IsFaceOver, areas_of_faces, arcs_with_left, face_left_of, place_of};
 ghost use Rattle.face_walk.specs.Rays.{AreLinksOf};
 ghost use Rattle.face_walk.specs.Sides.{AreListed};
@@ -80,6 +81,7 @@ impl Faces {
         requires sides { All (λ s. s.arc.arc < length t.now) sides.now }
         requires listed { AreListed numbering.places.items (map (λ s. s.face) sides.now) (map (λ s. s.arc) sides.now) }
         requires joined { HasJoins t.now search.links.items numbering.places.items }
+        requires numbered { AreAllBelow numbering.count numbering.places.items }
         requires all { AreLinksOf t.now search.links.items }
         requires links { All (λ l. HasPlaces (length numbering.places.items) l.along) search.links.items }
         ensures built { IfOk result (IsBuiltOf t.now) }

@@ -33,7 +33,7 @@ use Rattle.face_walk.specs.Places.{FaceTable}
 use Rattle.face_classes.specs.FaceClasses.{IsFaceOfPlace}
 use Rattle.face_classes.proofs.ClassLemmas.{faces_are_classes}
 use Rattle.face_classes.proofs.LabelLemmas.{each_table_has_labels}
-use Rattle.face_classes.proofs.PointLemmas.{face_of_point}
+use Rattle.face_classes.proofs.PointLemmas.{face_of_point, whole_are_free}
 use Rattle.ring_trace.specs.Boundary.{boundary}
 use Rattle.ring_trace.specs.Parts.{IsPieceOf}
 use Rattle.ring_trace.specs.Sets.{IsInnerFace, IsSetOf}
@@ -44,7 +44,7 @@ use Rattle.part_classes.specs.PartClasses.{AreFacesOf, AreInOne, AreTraced, IsIn
 use Rattle.part_classes.proofs.BoundedLaws.{bounded_at, outside_is_not}
 use Rattle.part_classes.proofs.ClassLemmas.{are_classes, numbered}
 use Rattle.part_classes.proofs.CountLemmas.{permuted}
-use Rattle.part_classes.proofs.DrawnLaws.{whole_are_free, within, without}
+use Rattle.part_classes.proofs.DrawnLaws.{within, without}
 use Rattle.part_classes.proofs.PolygonLaws.{same_counts}
 use Rattle.part_classes.proofs.TracedLaws.{some_arc, traced_polygons_have_exteriors}
 

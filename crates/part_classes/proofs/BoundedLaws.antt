@@ -17,6 +17,7 @@ use Rattle.plane_faces.proofs.FaceLaws.{among_agrees}
 use Rattle.plane_faces.proofs.Sorting.{rotations_exist}
 use Rattle.arc_table.specs.Along.{GoAlong}
 use Rattle.face_walk.specs.Places.{FaceTable, IsBuiltOf, face_left_of, signed_below}
+use Rattle.face_walk.proofs.NumberingLemmas.{number_there}
 use Rattle.face_classes.specs.FaceClasses.{AreFreeInside, IsFaceOfPlace}
 use Rattle.face_classes.proofs.ClassLemmas.{faces_are_classes}
 use Rattle.face_classes.proofs.LabelLemmas.{each_table_has_labels}
@@ -25,7 +26,7 @@ use Rattle.ring_trace.specs.Joined.{AreParts}
 use Rattle.ring_trace.specs.Sets.{IsInnerFace, IsSetOf}
 use Rattle.ring_trace.specs.Traced.{bounded}
 use Rattle.ring_trace.proofs.BoundaryLemmas.{arc_below, back_again, has_Contains, Contains_has, same_or_other}
-use Rattle.part_classes.specs.PartClasses.{ArePlaced, PartsHaveBoundaries}
+use Rattle.part_classes.specs.PartClasses.{PartsHaveBoundaries}
 use Rattle.part_classes.proofs.LinkLemmas.{arc_of_link, link_of_arc}
 use Rattle.part_classes.proofs.TracedLaws.{on_boundary}
 
@@ -130,13 +131,13 @@ module _ (S : List Segment) (arr : IsArrangement S) (distinct : IsDistinct S) (a
       | inr none ↦ absurd (no_such_part (get_or parts n []) (omega arith) (inner_part n l) b beside c)
     ]
 
-  module _ (set : List ℕ) (inner : IsSetOf faces set) (placed : ArePlaced faces set) (parts : List (List ℕ)) (are : AreParts faces set parts) where
+  module _ (set : List ℕ) (inner : IsSetOf faces set) (parts : List (List ℕ)) (are : AreParts faces set parts) where
     has_boundary : (n : ℕ) → n < length parts → 0 < length (boundary faces.places (length arcs) (get_or parts n []))
     has_boundary n l =
         let (k, c) = some_face (get_or parts n []) (are.divided.some n l) in
         let in_set = of_set set inner parts are n l k c in
         let h : IsInnerFace faces k = All-contains (IsInnerFace faces) set k inner in_set in
-        let (b, beside, is) = place_of_face k (All-contains (Contains faces.places) set k placed in_set) h.not_outer in
+        let (b, beside, is) = place_of_face k (number_there faces.count faces.places built.numbered k h.there) h.not_outer in
         bounded_at set inner parts are n l b beside (subst (λ (f : ℕ). Contains (get_or parts n []) f) (sym is) c)
 
     each_has_boundary : All (λ part. 0 < length (boundary faces.places (length arcs) part)) parts
@@ -153,10 +154,10 @@ module _ (S : List Segment) (arr : IsArrangement S) (distinct : IsDistinct S) (a
     all_bounded = all_kept (λ (part : List ℕ). nat_lt 0 (length (boundary faces.places (length arcs) part))) parts (λ n d l. lt-ltb 0 _ (each_has_boundary n d l))
 
 pub parts_have_boundaries : PartsHaveBoundaries
-parts_have_boundaries S arcs faces table set inner placed parts are =
+parts_have_boundaries S arcs faces table set inner parts are =
     let (label, by) = each_table_has_labels S table.arrangement arcs table.along faces in
-    let all = all_bounded S table.arrangement table.distinct arcs table.long table.along table.free faces table.built label by set inner placed parts are in (
-      each_has_arc S table.arrangement table.distinct arcs table.long table.along table.free faces table.built label by set inner placed parts are,
+    let all = all_bounded S table.arrangement table.distinct arcs table.long table.along table.free faces table.built label by set inner parts are in (
+      each_has_arc S table.arrangement table.distinct arcs table.long table.along table.free faces table.built label by set inner parts are,
       all,
       λ polygons used. used.each ∙ ap (λ (ps : List (List ℕ)). length ps) all,
     )

@@ -6,26 +6,19 @@ use Rattle.std.proofs.lemmas.List.Elements.{All-map}
 use Rattle.lists.specs.Lists.{has}
 use Rattle.plane_model.specs.Points.{RationalPoint, Segment, Path, at}
 use Rattle.plane_model.specs.Arcs.{SignedArc}
-use Rattle.plane_model.specs.Drawing.{Drawing}
 use Rattle.plane_model.specs.Parity.{odd}
 use Rattle.plane_model.specs.Snapped.{links_of, snapped}
 use Rattle.plane_snapping.proofs.SnappedLinks.{snapped_links_are_an_arrangement}
 use Rattle.plane_faces.specs.Places.{Place, IsPlaceOf}
 use Rattle.plane_faces.specs.Rings.{IsPolygon, links_of_path}
-use Rattle.arc_table.specs.WholeArcs.{IsWholeArc}
 use Rattle.face_walk.specs.Rays.{AreLinksOf}
-use Rattle.face_classes.specs.FaceClasses.{AreFreeInside}
 use Rattle.face_classes.proofs.LabelLemmas.{each_table_has_labels}
-use Rattle.face_classes.proofs.PointLemmas.{face_of_point}
+use Rattle.face_classes.proofs.PointLemmas.{face_of_point, whole_are_free}
 use Rattle.ring_trace.specs.Traced.{bounded}
 use Rattle.ring_trace.specs.Turns.{MayStandBefore, round_of}
 use Rattle.ring_trace.proofs.BoundaryLemmas.{has_Contains, Contains_has}
 use Rattle.part_classes.specs.PartClasses.{IsWithin, TracedPolygonsOfADrawing}
 use Rattle.part_classes.proofs.TracedLaws.{all_back, nothing_before, split_map, traced_polygons_have_exteriors}
-
--- no vertex inside a whole arc has more links than two
-pub whole_are_free : (d : Drawing) (arcs : List Path) → All (IsWholeArc d) arcs → AreFreeInside (links_of d) arcs
-whole_are_free d arcs whole n k l some last = let two = ((whole n [] l).inner k some last).two in (two.one, two.another, two.only)
 
 -- a point is within the rings just where f holds
 module _ (arcs : List Path) (S : List Segment) (f : Place → Bool) (polygon : List (List SignedArc)) (pairs : AllPairs (MayStandBefore arcs) polygon) (h : IsPolygon S f (map (round_of arcs) polygon)) (z : RationalPoint) (a : Place) (place : IsPlaceOf S z a) where

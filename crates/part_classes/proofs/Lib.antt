@@ -8,3 +8,4 @@ pub mod TracedLaws
 pub mod DrawnLaws
 pub mod BoundedLaws
 pub mod ApartLaws
+pub mod TogetherLaws

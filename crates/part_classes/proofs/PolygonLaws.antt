@@ -102,7 +102,7 @@ module _ (S : List Segment) (arr : IsArrangement S) (distinct : IsDistinct S) (a
         | inr e ↦ on_b.right (subst (λ (c : SignedArc). Contains part (face_left_of faces.places c)) e on_a.left)
       ]
 
-  are_rings : All IsRing (map (round_of arcs) polygon)
+  pub are_rings : All IsRing (map (round_of arcs) polygon)
   are_rings = All-map IsRing (round_of arcs) polygon (λ k d l.
       rings_go_round S arr arcs long along free (get_or polygon k d) (some k d l) (below k d l) (simple k d l) (ring_once (get_or polygon k d) (Contains-get_or polygon k d l)))
 

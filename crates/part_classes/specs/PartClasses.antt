@@ -1,6 +1,6 @@
 -- The parts of a set of faces as parts of the plane, and what their traced rings hold.
 use Rattle.std.specs.Prelude.{◌≡◌, ◌≢◌, ◌↔◌, true, false, ℕ, ◌<◌, ◌≤◌, pos, ◌<ℤ◌, nat_eq, List, [], ◌∷◌, All, AllPairs, Contains, length, map, slice_index_or}
-use Rattle.lists.specs.Lists.{has, place_of}
+use Rattle.lists.specs.Lists.{has, joined_up, place_of}
 use Rattle.plane_model.specs.Points.{GridPoint, RationalPoint, Segment, Path, at}
 use Rattle.plane_model.specs.Arcs.{SignedArc}
 use Rattle.plane_model.specs.Arrangement.{IsArrangement, IsDistinct}
@@ -8,11 +8,12 @@ use Rattle.plane_model.specs.Drawing.{Drawing}
 use Rattle.plane_model.specs.Joined.{AreJoinedIn}
 use Rattle.plane_model.specs.Parity.{odd, rings_hold}
 use Rattle.plane_model.specs.Snapped.{links_of, snapped}
-use Rattle.plane_model.specs.Rings.{turn_at_least}
+use Rattle.plane_model.specs.Rings.{UsesOnce, turn_at_least}
 use Rattle.plane_faces.specs.Classes.{PointsWhere}
 use Rattle.plane_faces.specs.Labels.{IsPartLabelling}
 use Rattle.plane_faces.specs.Places.{Place, IsPlaceOf}
 use Rattle.plane_faces.specs.Rings.{IsPolygon, IsRing, links_of_path}
+use Rattle.plane_faces.specs.UsedOnce.{border_steps}
 use Rattle.arc_table.specs.Along.{GoAlong}
 use Rattle.arc_table.specs.Around.{start_of}
 use Rattle.arc_table.specs.WholeArcs.{IsWholeArc}
@@ -22,7 +23,7 @@ use Rattle.ring_trace.specs.Boundary.{IsOnBoundary}
 use Rattle.ring_trace.specs.Joined.{AreParts}
 use Rattle.ring_trace.specs.Pairing.{stop_of}
 use Rattle.ring_trace.specs.Sets.{IsSetOf}
-use Rattle.ring_trace.specs.Traced.{BeginsWithLeast, UseParts, bounded, is_of_boundary, once_if, times_round}
+use Rattle.ring_trace.specs.Traced.{BeginsWithLeast, UseParts, UsesBoundary, bounded, is_of_boundary, once_if, times_round}
 use Rattle.ring_trace.specs.Turns.{MayStandBefore, first_number, round_of}
 use Rattle.ring_trace.specs.Ways.{IsSimpleRing}
 
@@ -72,10 +73,6 @@ pub record AreTraced (arcs : List Path) (faces : FaceTable) (set : List ℕ) (pa
   pub in_order : All (AllPairs (MayStandBefore arcs)) polygons
   pub used : UseParts faces.places (length arcs) parts polygons
 
--- each face of the set is that of some place
-abbrev pub ArePlaced : FaceTable → List ℕ → Type 0
-ArePlaced faces set = All (Contains faces.places) set
-
 -- ---- laws
 
 -- labels of places by faces, numbered by the parts of a set of faces, number the parts of the region of these faces
@@ -117,7 +114,7 @@ TracedPolygonsOfADrawing = (d : Drawing) → (arcs : List Path) → All (λ arc.
 
 -- Each part of a set without the outer face has an arc in its boundary. So no part is left out, and a trace has as many polygons as there are parts.
 abbrev pub PartsHaveBoundaries : Type 0
-PartsHaveBoundaries = (S : List Segment) (arcs : List Path) (faces : FaceTable) → AreFacesOf S arcs faces → (set : List ℕ) → IsSetOf faces set → ArePlaced faces set → (parts : List (List ℕ)) → AreParts faces set parts →
+PartsHaveBoundaries = (S : List Segment) (arcs : List Path) (faces : FaceTable) → AreFacesOf S arcs faces → (set : List ℕ) → IsSetOf faces set → (parts : List (List ℕ)) → AreParts faces set parts →
     All (λ part. (a : SignedArc) × IsOnBoundary faces part a) parts × (bounded faces.places (length arcs) parts ≡ parts)
     × ((polygons : List (List (List SignedArc))) → UseParts faces.places (length arcs) parts polygons → length polygons ≡ length parts)
 
@@ -141,6 +138,22 @@ PolygonsAreJoinedPoints = (S : List Segment) (arcs : List Path) (faces : FaceTab
 abbrev pub PolygonsHoldByParity : Type 0
 PolygonsHoldByParity = (S : List Segment) (arcs : List Path) (faces : FaceTable) → AreFacesOf S arcs faces → (set : List ℕ) (parts : List (List ℕ)) (polygons : List (List (List SignedArc))) → AreTraced arcs faces set parts polygons →
     (k : ℕ) → k < length polygons → (z : RationalPoint) → (rings_hold z (map (round_of arcs) (slice_index_or polygons k [])) ≡ true) ↔ IsWithin arcs (slice_index_or polygons k []) z
+
+-- a point is within some traced polygon exactly if, of the links of all rings of the trace together, an odd number is below it
+abbrev pub TracesHoldByParity : Type 0
+TracesHoldByParity = (S : List Segment) (arcs : List Path) (faces : FaceTable) → AreFacesOf S arcs faces → (set : List ℕ) (parts : List (List ℕ)) (polygons : List (List (List SignedArc))) → AreTraced arcs faces set parts polygons →
+    (z : RationalPoint) → (rings_hold z (map (round_of arcs) (joined_up polygons)) ≡ true) ↔ IsInSome arcs polygons z
+
+-- each ring of a trace is a closed path that passes each of its points once
+abbrev pub TracedRingsGoRound : Type 0
+TracedRingsGoRound = (S : List Segment) (arcs : List Path) (faces : FaceTable) → AreFacesOf S arcs faces → (set : List ℕ) (parts : List (List ℕ)) (polygons : List (List (List SignedArc))) → AreTraced arcs faces set parts polygons →
+    All (All (λ ring. IsRing (round_of arcs ring))) polygons
+
+-- all rings of a trace together use each link once that has the set on one side alone, directed with the set on its left, and no other
+abbrev pub TracesUseTheBorder : Type 0
+TracesUseTheBorder = (S : List Segment) (arcs : List Path) (faces : FaceTable) → AreFacesOf S arcs faces → (set : List ℕ) (parts : List (List ℕ)) (polygons : List (List (List SignedArc))) → AreTraced arcs faces set parts polygons →
+    UsesBoundary faces.places (length arcs) set polygons → (label : Place → ℕ) → IsFaceOfPlace arcs faces label →
+    UsesOnce (border_steps (λ place. has nat_eq set (label place)) S) (map (round_of arcs) (joined_up polygons))
 
 -- The faces of a table of the whole arcs of a snapped drawing are such faces, so that these laws are true of them; and a grid point is within some
 -- traced polygon exactly if the face over it is in the set.

@@ -16,6 +16,9 @@ ghost use Rattle.part_classes.specs.PartClasses.{
   RingsGoRound,
   TracedPolygonsHaveExteriors,
   TracedPolygonsOfADrawing,
+  TracedRingsGoRound,
+  TracesHoldByParity,
+  TracesUseTheBorder,
 };
 
 /// The parts of a set of faces, numbered as they stand, are the parts of the region of these faces: links within the
@@ -74,6 +77,23 @@ pub fn polygons_are_joined_points()
 /// all its rings is below the point: both readings of a polygon agree.
 pub fn polygons_hold_by_parity()
     ensures { PolygonsHoldByParity }
+{}
+
+/// A point is within some polygon of a trace exactly if an odd number of the links of all rings of all polygons is below
+/// it.
+pub fn traces_hold_by_parity()
+    ensures { TracesHoldByParity }
+{}
+
+/// Each ring that `trace` answers passes each of its points once.
+pub fn traced_rings_go_round()
+    ensures { TracedRingsGoRound }
+{}
+
+/// All rings of a trace together use each link once that has the set on one side alone, with the set on their left, and no
+/// other link.
+pub fn traces_use_the_border()
+    ensures { TracesUseTheBorder }
 {}
 
 /// The faces of a table of the whole arcs of a snapped drawing are such faces, so that these laws are true of them; and a

@@ -5,6 +5,7 @@ use Rattle.face_walk.specs.Joins.{joined_by}
 use Rattle.face_walk.specs.PlaceNumbers.{HasPlaces}
 use Rattle.face_walk.specs.declared.links.ArcLink.{ArcLink}
 use Rattle.face_walk.proofs.BuiltLemmas.{built_by}
+use Rattle.face_walk.proofs.NumberingLemmas.{none_left_out}
 use Rattle.face_walk.proofs.faces.Faces.build.Goals as goal
 
 pub of_sides-requires-clause-joined : goal.of_sides-requires-clause-joined
@@ -23,3 +24,7 @@ of_sides-requires-clause-joined c =
     (All-weaker (λ (a : SignedArc). a.arc < length arcs) (HasPlaces (length alone)) (λ a h. omega arith) outs c.rows.ensures.there)
     (All-weaker (λ (l : ArcLink). l.along.arc < length arcs) (λ (l : ArcLink). HasPlaces (length alone) l.along) (λ l h. omega arith) links c.in_ok-search.ensures.there)
     (omega arith) c.in_ok-joining.ensures.alone rays r (e ∙ ap (joined_by rays) c.join_sectors.ensures.exact) c.in_ok-numbering.ensures.exact
+
+pub of_sides-requires-clause-numbered : goal.of_sides-requires-clause-numbered
+of_sides-requires-clause-numbered c =
+    let numbering = c.in_ok-numbering.numbering in none_left_out _ numbering.places.items numbering.count c.in_ok-numbering.ensures.exact
