@@ -4,7 +4,7 @@ use Rattle.std.proofs.Math.Logic.{∥∥₁_elim}
 use Rattle.std.proofs.Math.Nat.{ℕ_set}
 use Rattle.plane_model.specs.Points.{GridPoint, RationalPoint, Segment, Path, at, is_before, reversed}
 use Rattle.plane_model.specs.Arrangement.{IsArrangement, IsDistinct, IsEnd}
-use Rattle.plane_model.specs.Drawing.{Drawing, steps}
+use Rattle.plane_model.specs.Drawing.{steps}
 use Rattle.plane_model.specs.Sees.{IsOffLinks, SeesPoint}
 use Rattle.plane_model.specs.Sides.{IsInside}
 use Rattle.plane_model.specs.Snapped.{links_of, snapped}
@@ -16,11 +16,10 @@ use Rattle.plane_faces.proofs.Sighted.{label_along_a_segment}
 use Rattle.plane_faces.proofs.Sorting.{rotations_exist}
 use Rattle.arc_table.specs.Along.{GoAlong}
 use Rattle.arc_table.specs.Lookup.{HasVertex, IsArcAt}
-use Rattle.arc_table.specs.WholeArcs.{IsWholeArc}
 use Rattle.face_walk.specs.Places.{FaceTable, IsBuiltOf, IsFaceOver}
 use Rattle.face_classes.specs.FaceClasses.{AreFreeInside, IsFaceOfPlace}
 use Rattle.face_classes.proofs.ClassLemmas.{faces_are_classes}
-use Rattle.face_classes.proofs.PointLemmas.{face_of_point}
+use Rattle.face_classes.proofs.PointLemmas.{face_of_point, whole_are_free}
 use Rattle.face_classes.proofs.StepLemmas.{IsStep, arc_of, begins_with, step_between, step_of_link, steps_counted}
 use Rattle.line_ops.specs.Points.{IsNode}
 use Rattle.ring_trace.proofs.BoundaryLemmas.{has_Contains, Contains_has}
@@ -95,10 +94,6 @@ module _ (S : List Segment) (arr : IsArrangement S) (arcs : List Path) (long : A
       either : (b : Bool) (s : Segment) → (cond b (reversed s) s).start ≡ p → (s.start ≡ p) ⊎ (s.stop ≡ p)
       either true s e = inr e
       either false s e = inl e
-
--- no vertex inside a whole arc has more links than two
-whole_are_free : (d : Drawing) (arcs : List Path) → All (IsWholeArc d) arcs → AreFreeInside (links_of d) arcs
-whole_are_free d arcs whole n k l some last = let two = ((whole n [] l).inner k some last).two in (two.one, two.another, two.only)
 
 pub free_points_of_a_drawing : FreePointsOfADrawing
 free_points_of_a_drawing d arcs long along whole faces built label by set p vertex none inside is =
