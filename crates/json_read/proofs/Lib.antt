@@ -19,6 +19,7 @@ pub mod Accepts
 pub mod Viability
 pub mod AcceptsNumbers
 pub mod AcceptsStrings
+pub mod AsciiStrings
 pub mod Depths
 pub mod Unique
 pub mod Products

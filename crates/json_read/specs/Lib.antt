@@ -7,6 +7,7 @@ pub mod Bytes
 pub mod Grammar
 pub mod Machine
 pub mod Reading
+pub mod AsciiStrings
 pub mod Putting
 pub mod Faults
 pub mod Laws

@@ -1,9 +1,11 @@
-ghost use Rattle.std.specs.Prelude.{◌≡◌, ◌++◌, ◌∷◌, ◌<◌, ◌≤◌, IfSome, [], List, ℕ, true, false, length, MatchOption, MatchResult, OnOk, OnErr, IfOk, IfErr, IsTrue, if◌then◌else◌};
+ghost use Rattle.std.specs.Prelude.{◌≡◌, ◌++◌, ◌∷◌, ◌<◌, ◌≤◌, IfSome, IfNone, [], List, ℕ, true, false, length, MatchOption, MatchResult, OnOk, OnErr, IfOk, IfErr, IsTrue, if◌then◌else◌};
 ghost use Rattle.std.specs.String.{string_bytes};
+ghost use Rattle.std.specs.List.{prefix_len};
 ghost use Rattle.json_read.specs.Bytes.{is_white, is_digit, is_hex, is_exponent_letter};
 ghost use Rattle.json_read.specs.Grammar.{Minus, Whole, Fraction, Exponent, Number, Sign, short_escape, Mark, is_high, is_low, mended as mended_char, pair as pair_char};
 ghost use Rattle.json_read.specs.Machine.{behind_minus, behind_zero, behind_mantissa, behind_letter, behind_sign, value, start, after, first_value, first_name, next_name, in_word, in_array, in_object, Role, in_string, in_escape, in_hex, closed, second_bounds as bounds_of};
 ghost use Rattle.json_read.specs.Reading.{NextFails, NextIsNot, drop_while, Passes, Part, ReadsDigits, NumberBegins, NumeralOf, ClosesAs, StandsFor, StandsEscaped, StandsInHex, ReadsHexDigit, ReadsFollowing, joined_onto, PartAt, Shows, ShowsPadded, ArrayText, ObjectText, NameText, ReadsByte, ReadsText, outside, inside, behind};
+ghost use Rattle.json_read.specs.AsciiStrings.{stands_alone, AllAlone, ClosesAsAscii};
 ghost use Rattle.json_read.specs.declared.reader.Fault.TheVariants.{Syntax};
 ghost use Rattle.json_read.specs.declared.reader.Stop.TheVariants.{Memory};
 
@@ -169,6 +171,31 @@ impl<'a> Reader<'a> {
 
     /// A string, behind its first quote.
     fn string(&mut self) -> Result<Text, Stop>
+        ensures { (r : Role) → Part ClosesAs (in_string r) (closed r) result self.old.rest.now self.new.rest.now }
+    {
+        match self.ascii_string() {
+            Some(text) => Ok(Text::of(self.alloc, text)?),
+            None => self.string_by_units(),
+        }
+    }
+
+    /// A string of ASCII without escapes; where it is another, nothing is read.
+    fn ascii_string(&mut self) -> Option<&'a str>
+        ensures some { IfSome result (λ text. ClosesAsAscii text.now self.old.rest.now self.new.rest.now) }
+        ensures none { IfNone result (self.new.rest.now ≡ self.old.rest.now) }
+    {
+        let (text, rest) = self.rest.split_at(ascii_count(self.rest));
+        match behind_quote(rest) {
+            Some(behind) => {
+                self.rest = behind;
+                Some(ascii_text(text))
+            }
+            None => None,
+        }
+    }
+
+    /// A string, one character or escape after another.
+    fn string_by_units(&mut self) -> Result<Text, Stop>
         ensures { (r : Role) → Part ClosesAs (in_string r) (closed r) result self.old.rest.now self.new.rest.now }
     {
         let mut text = String::new(self.alloc);
@@ -529,6 +556,40 @@ impl<'a> Reader<'a> {
         self.expect(b':')?;
         Ok(name)
     }
+}
+
+// How many bytes at the front stand for themselves in a string, each a character.
+fn ascii_count(bytes: &[u8]) -> usize
+    ensures count { result ≡ prefix_len stands_alone bytes.now }
+    ensures within { result ≤ length bytes.now }
+{
+    let mut n = 0;
+    while n < bytes.len() && is_alone(bytes[n]) {
+        n += 1;
+    }
+    n
+}
+
+fn is_alone(byte: u8) -> bool
+    ensures { result ≡ stands_alone byte }
+{
+    (0x20..0x80).contains(&byte) && byte != b'"' && byte != b'\\'
+}
+
+fn behind_quote(bytes: &[u8]) -> Option<&[u8]>
+    ensures { IfSome result (λ behind. bytes.now ≡ 34 ∷ behind.now) }
+{
+    match bytes {
+        [b'"', behind @ ..] => Some(behind),
+        _ => None,
+    }
+}
+
+fn ascii_text(bytes: &[u8]) -> &str
+    requires { AllAlone bytes.now }
+    ensures { result.now ≡ bytes.now }
+{
+    unsafe { str::from_utf8_unchecked(bytes) }
 }
 
 // A numeral is ASCII.
