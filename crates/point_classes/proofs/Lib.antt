@@ -3,5 +3,8 @@ pub mod SightLemmas
 pub mod FreePoints
 pub mod Grown
 pub mod Spoke
+pub mod Ways
 pub mod Sectors
+pub mod NextTo
+pub mod SeenSectors
 pub mod Nodes

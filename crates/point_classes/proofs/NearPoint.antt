@@ -1,19 +1,21 @@
--- Near each point that lies on no link, to its right, stands a point that sees it.
-use Rattle.std.proofs.Common.{◌≡◌, ◌∙◌, ℕ, zero, suc, max, ◌≤◌, ◌⊎◌, inl, inr, arith, List, [], ◌∷◌}
+-- The way from a point to one near it misses each link that does not go through the point.
+use Rattle.std.proofs.Common.{◌≡◌, ap, ◌∙◌, ℕ, zero, suc, max, ◌≤◌, ◌⊎◌, inl, inr, arith, List, [], ◌∷◌}
 use Rattle.std.proofs.Math.IntN.{ℤ, pos, negsuc, nat_abs, ◌+ℤ◌, ◌*ℤ◌, ◌-ℤ◌, neg_ℤ}
 use Rattle.std.specs.Prelude.{All, Contains, ◌≤ℤ◌, ◌<ℤ◌}
 use Rattle.std.proofs.lemmas.Int.{ints}
 use Rattle.std.proofs.lemmas.List.Elements.{All-head, All-tail, All-weaker, All-contains, All-cons, All-nil, All-contains_itself}
 use Rattle.plane_algebra.proofs.Differences.{as_dif, same_dif, difs}
+use Rattle.plane_algebra.proofs.Ring.{ring, ◌⊞◌, ◌⊟◌, ◌⊠◌, ⊖◌, ◌≐◌}
 use Rattle.plane_algebra.proofs.Sign.{signs, mul-positive, mul-nonneg, positive_of_mul}
 use Rattle.plane_parity.proofs.Mix.{nonneg_of_positive, strip-IsOnSegment}
+use Rattle.plane_parity.proofs.Cut.{IsOnSegment-swap}
 use Rattle.plane_parity.proofs.Determinant.{step_x-swap, step_y-swap}
 use Rattle.plane_parity.proofs.Place.{between_x-forward, form_on_line}
 use Rattle.plane_parity.proofs.FreeSegment.{link_order}
 use Rattle.plane_parity.proofs.Sector.{in_order_x, in_order_y}
 use Rattle.plane_parity.proofs.Sight.{plain_up}
 use Rattle.plane_parity.proofs.Visible.{away}
-use Rattle.plane_model.specs.Points.{RationalPoint, Segment, step_x, step_y, turn, at, IsOn, IsOnSegment}
+use Rattle.plane_model.specs.Points.{GridPoint, RationalPoint, Segment, step_x, step_y, turn, at, IsOn, IsOnSegment}
 use Rattle.plane_model.specs.Arrangement.{IsArrangement, IsBefore, IsFree}
 use Rattle.plane_model.specs.Sees.{IsOffLinks}
 
@@ -196,81 +198,103 @@ separates m k before n = elim (signs (turn (at k.start) (at k.stop) m)) [
           | inr u ↦ upright u h i
         ]
 
--- ---- a point near m, to its right
+-- ---- a point near m, in a direction
 
-pub near : RationalPoint → ℕ → RationalPoint
-near m n = record {
-  X = pos (suc n) *ℤ m.X +ℤ pos 1;
-  Y = pos (suc n) *ℤ m.Y;
+unfoldable pub near : GridPoint → RationalPoint → ℕ → RationalPoint
+near a m n = record {
+  X = pos (suc n) *ℤ m.X +ℤ a.x;
+  Y = pos (suc n) *ℤ m.Y +ℤ a.y;
   W = pos (suc n) *ℤ m.W;
   positive = mul-positive (pos (suc n)) m.W (omega (arith, ints)) m.positive;
 }
 
-near_form : (t g h k x y w : ℤ) → g *ℤ (t *ℤ x +ℤ pos 1) +ℤ h *ℤ (t *ℤ y) +ℤ k *ℤ (t *ℤ w) ≡ t *ℤ (g *ℤ x +ℤ h *ℤ y +ℤ k *ℤ w) +ℤ g
-near_form t g h k x y w =
-    rw (as_dif t, as_dif g, as_dif h, as_dif k, as_dif x, as_dif y, as_dif w, as_dif (pos 1)) (simp difs (same_dif _ _ _ _ (omega arith)))
+near_form : (t g h k x y w a b : ℤ) → g *ℤ (t *ℤ x +ℤ a) +ℤ h *ℤ (t *ℤ y +ℤ b) +ℤ k *ℤ (t *ℤ w) ≡ t *ℤ (g *ℤ x +ℤ h *ℤ y +ℤ k *ℤ w) +ℤ (g *ℤ a +ℤ h *ℤ b)
+near_form = ring 9 (λ t g h k x y w a b. g ⊠ (t ⊠ x ⊞ a) ⊞ h ⊠ (t ⊠ y ⊞ b) ⊞ k ⊠ (t ⊠ w) ≐ t ⊠ (g ⊠ x ⊞ h ⊠ y ⊞ k ⊠ w) ⊞ (g ⊠ a ⊞ h ⊠ b)) tt
 
-form-near : (g h k : ℤ) (m : RationalPoint) (n : ℕ) → form g h k (near m n) ≡ pos (suc n) *ℤ form g h k m +ℤ g
+form-near : (g h k : ℤ) (a : GridPoint) (m : RationalPoint) (n : ℕ) → form g h k (near a m n) ≡ pos (suc n) *ℤ form g h k m +ℤ (g *ℤ a.x +ℤ h *ℤ a.y)
 unfolding near
-form-near g h k m n = near_form (pos (suc n)) g h k m.X m.Y m.W
+form-near g h k a m n = near_form (pos (suc n)) g h k m.X m.Y m.W a.x a.y
 
-near_step : (t x w : ℤ) → (t *ℤ x +ℤ pos 1) *ℤ w -ℤ x *ℤ (t *ℤ w) ≡ w
-near_step t x w = rw (as_dif t, as_dif x, as_dif w, as_dif (pos 1)) (simp difs (same_dif _ _ _ _ (omega arith)))
+near_step : (t x w a : ℤ) → (t *ℤ x +ℤ a) *ℤ w -ℤ x *ℤ (t *ℤ w) ≡ w *ℤ a
+near_step = ring 4 (λ t x w a. (t ⊠ x ⊞ a) ⊠ w ⊟ x ⊠ (t ⊠ w) ≐ w ⊠ a) tt
 
-pub step_x-near : (m : RationalPoint) (n : ℕ) → step_x m (near m n) ≡ m.W
+pub step_x-near : (a : GridPoint) (m : RationalPoint) (n : ℕ) → step_x m (near a m n) ≡ m.W *ℤ a.x
 unfolding near
-step_x-near m n = near_step (pos (suc n)) m.X m.W
+step_x-near a m n = near_step (pos (suc n)) m.X m.W a.x
 
-pub near_right : (m : RationalPoint) (n : ℕ) → pos 0 <ℤ step_x m (near m n)
-near_right m n = moved_positive (step_x m (near m n)) m.W (step_x-near m n) m.positive
+pub near_right : (a : GridPoint) (m : RationalPoint) (n : ℕ) → pos 0 <ℤ a.x → pos 0 <ℤ step_x m (near a m n)
+near_right a m n h = moved_positive (step_x m (near a m n)) (m.W *ℤ a.x) (step_x-near a m n) (mul-positive m.W a.x m.positive h)
+
+pub near_left : (a : GridPoint) (m : RationalPoint) (n : ℕ) → a.x <ℤ pos 0 → pos 0 <ℤ step_x (near a m n) m
+near_left a m n h =
+    moved_positive (step_x (near a m n) m) (m.W *ℤ neg_ℤ a.x) (step_x-swap (near a m n) m ∙ ap neg_ℤ (step_x-near a m n) ∙ turned m.W a.x)
+    (mul-positive m.W (neg_ℤ a.x) m.positive (neg_positive a.x h))
+  where
+    turned : (w a : ℤ) → neg_ℤ (w *ℤ a) ≡ w *ℤ neg_ℤ a
+    turned = ring 2 (λ w a. ⊖ (w ⊠ a) ≐ w ⊠ ⊖ a) tt
 
 -- near enough, a form that is positive at the point is positive
-overcome : (n : ℕ) (f c : ℤ) → pos 0 <ℤ f → nat_abs c ≤ n → pos 0 <ℤ (pos (suc n) *ℤ f +ℤ c)
+pub overcome : (n : ℕ) (f c : ℤ) → pos 0 <ℤ f → nat_abs c ≤ n → pos 0 <ℤ (pos (suc n) *ℤ f +ℤ c)
 overcome n (pos zero) c h k = absurd (omega (arith, ints))
 overcome n (pos (suc f)) (pos c) h k = omega (arith, ints)
 overcome n (pos (suc f)) (negsuc c) h k = omega (arith, ints)
 overcome n (negsuc f) c h k = absurd (omega (arith, ints))
 
--- from n on the way from m to the point near it meets the link nowhere
-record Misses (m : RationalPoint) (k : Segment) : Type 0 where
-  from : ℕ
-  misses : (n : ℕ) → from ≤ n → (r : RationalPoint) → IsOnSegment m (near m n) r → IsOn k r → ⊥
+-- a direction that is not upright
+abbrev pub IsAslant : GridPoint → Type 0
+IsAslant a = (pos 0 <ℤ a.x) ⊎ (a.x <ℤ pos 0)
+
+-- a form that is positive at a point and at one near it is positive between the two
+form_on_way : (g h k : ℤ) (a : GridPoint) → IsAslant a → (m : RationalPoint) (n : ℕ) (r : RationalPoint) → IsOnSegment m (near a m n) r → pos 0 <ℤ form g h k m → pos 0 <ℤ form g h k (near a m n) → pos 0 <ℤ form g h k r
+form_on_way g h k a (inl i) m n r on hm hn = form_between g h k m (near a m n) r (near_right a m n i) on hm hn
+form_on_way g h k a (inr i) m n r on hm hn = form_between g h k (near a m n) m r (near_left a m n i) (IsOnSegment-swap m (near a m n) r on) hn hm
+
+-- near enough, the way from m to the point near it meets the link nowhere
+abbrev pub Misses : GridPoint → RationalPoint → Segment → ℕ → Type 0
+Misses a m k n = (r : RationalPoint) → IsOnSegment m (near a m n) r → IsOn k r → ⊥
+
+abbrev pub FromSome : (ℕ → Type 0) → Type 0
+FromSome P = (n : ℕ) × ((j : ℕ) → n ≤ j → P j)
 
 positive_not_low : (a : ℤ) → pos 0 <ℤ a → a ≤ℤ pos 0 → ⊥
 positive_not_low a h k = omega (arith, ints)
 
-misses_link : (m : RationalPoint) (k : Segment) → IsBefore k.start k.stop → (IsOn k m → ⊥) → Misses m k
-misses_link m k before off = record {
-  from = nat_abs s.g;
-  misses = λ n len r on onk. positive_not_low (form s.g s.h s.i r) (form_between s.g s.h s.i m (near m n) r (near_right m n) on s.at_point (there n len)) (s.at_link r onk);
-}
+pub misses_link : (a : GridPoint) → IsAslant a → (m : RationalPoint) (k : Segment) → IsBefore k.start k.stop → (IsOn k m → ⊥) → FromSome (Misses a m k)
+misses_link a slant m k before off =
+    (nat_abs (s.g *ℤ a.x +ℤ s.h *ℤ a.y), λ n len r on onk. positive_not_low (form s.g s.h s.i r) (form_on_way s.g s.h s.i a slant m n r on s.at_point (there n len)) (s.at_link r onk))
   where
     s : Separates m k
     s = separates m k before off
 
-    there : (n : ℕ) → nat_abs s.g ≤ n → pos 0 <ℤ form s.g s.h s.i (near m n)
-    there n len = moved_positive (form s.g s.h s.i (near m n)) (pos (suc n) *ℤ form s.g s.h s.i m +ℤ s.g) (form-near s.g s.h s.i m n) (overcome n (form s.g s.h s.i m) s.g s.at_point len)
+    there : (n : ℕ) → nat_abs (s.g *ℤ a.x +ℤ s.h *ℤ a.y) ≤ n → pos 0 <ℤ form s.g s.h s.i (near a m n)
+    there n len = moved_positive (form s.g s.h s.i (near a m n)) (pos (suc n) *ℤ form s.g s.h s.i m +ℤ (s.g *ℤ a.x +ℤ s.h *ℤ a.y)) (form-near s.g s.h s.i a m n)
+        (overcome n (form s.g s.h s.i m) (s.g *ℤ a.x +ℤ s.h *ℤ a.y) s.at_point len)
 
-abbrev IsFreeOf : RationalPoint → ℕ → Segment → Type 0
-IsFreeOf m n k = (r : RationalPoint) → IsOnSegment m (near m n) r → IsOn k r → ⊥
+-- ---- one bound for all links
 
-both_below : (a b n : ℕ) → max a b ≤ n → (a ≤ n) × (b ≤ n)
+pub both_below : (a b n : ℕ) → max a b ≤ n → (a ≤ n) × (b ≤ n)
 both_below a b n h = omega arith
 
-bound : (m : RationalPoint) (ks : List Segment) → All (Misses m) ks → (n : ℕ) × ((j : ℕ) → n ≤ j → All (IsFreeOf m j) ks)
-bound m [] h = (0, λ j len. All-nil (IsFreeOf m j))
-bound m (k ∷ ks) h =
-    let b : (n : ℕ) × ((j : ℕ) → n ≤ j → All (IsFreeOf m j) ks) = bound m ks (All-tail (Misses m) k ks h) in
-    let c : Misses m k = All-head (Misses m) k ks h in (
-      max c.from b.0,
-      λ j len. All-cons (IsFreeOf m j) k ks (c.misses j (both_below c.from b.0 j len).0) (b.1 j (both_below c.from b.0 j len).1),
+-- what holds of each link from some number on holds of all from some number on
+from_all : (P : Segment → ℕ → Type 0) (ks : List Segment) → All (λ k. FromSome (P k)) ks → FromSome (λ n. All (λ k. P k n) ks)
+from_all P [] h = (0, λ j len. All-nil (λ k. P k j))
+from_all P (k ∷ ks) h =
+    let b : FromSome (λ n. All (λ k. P k n) ks) = from_all P ks (All-tail (λ k. FromSome (P k)) k ks h) in
+    let c : FromSome (P k) = All-head (λ k. FromSome (P k)) k ks h in (
+      max c.0 b.0,
+      λ j len. All-cons (λ k. P k j) k ks (c.1 j (both_below c.0 b.0 j len).0) (b.1 j (both_below c.0 b.0 j len).1),
     )
+
+pub from_each : (P : Segment → ℕ → Type 0) (S : List Segment) → ((k : Segment) → Contains S k → FromSome (P k)) → FromSome (λ n. (k : Segment) → Contains S k → P k n)
+from_each P S each =
+    let b = from_all P S (All-weaker (Contains S) (λ k. FromSome (P k)) each S (All-contains_itself S)) in
+    (b.0, λ j len k c. All-contains (λ k. P k j) S k (b.1 j len) c)
 
 -- some point to the right of a point off the links has no link between the two
 pub free_to_right : (S : List Segment) → IsArrangement S → (m : RationalPoint) → IsOffLinks S m → (z : RationalPoint) × (pos 0 <ℤ step_x m z) × IsFree S m z
 free_to_right S arr m off =
-    let b : (n : ℕ) × ((j : ℕ) → n ≤ j → All (IsFreeOf m j) S) = bound m S (All-weaker (Contains S) (Misses m) each S (All-contains_itself S)) in
-    (near m b.0, near_right m b.0, λ k c. All-contains (IsFreeOf m b.0) S k (b.1 b.0 (omega arith)) c)
+    let b = from_each (Misses right m) S (λ k c. misses_link right (inl (omega (arith, ints))) m k (All-contains (λ j. IsBefore j.start j.stop) S k arr.ordered c) (off k c)) in
+    (near right m b.0, near_right right m b.0 (omega (arith, ints)), b.1 b.0 (omega arith))
   where
-    each : (k : Segment) → Contains S k → Misses m k
-    each k c = misses_link m k (All-contains (λ j. IsBefore j.start j.stop) S k arr.ordered c) (off k c)
+    right : GridPoint
+    right = record { x = pos 1; y = pos 0 }

@@ -1,5 +1,5 @@
 -- What sees a vertex has the label of a sector about it.
-use Rattle.std.proofs.Common.{◌≡◌, ◌⊎◌, inl, inr, refl, sym, ap, subst, ◌∙◌, Bool, true, false, cond, ◌&&◌, ◌||◌, List, [], ◌∷◌, map}
+use Rattle.std.proofs.Common.{◌≡◌, ◌⊎◌, inl, inr, refl, sym, ap, subst, ◌∙◌, Bool, true, false, cond, ◌&&◌, ◌||◌, ℕ, List, [], ◌∷◌, map}
 use Rattle.std.specs.Prelude.{All, Contains}
 use Rattle.std.proofs.lemmas.List.Elements.{All-head, All-tail, All-weaker, All-map, All-contains_itself}
 use Rattle.lists.proofs.Members.{Contains-map}
@@ -16,7 +16,7 @@ use Rattle.plane_model.specs.Rotation.{Dart, tail, precedes, IsNext, odd_left_of
 use Rattle.plane_model.specs.Sees.{SeesPoint, midpoint}
 use Rattle.plane_model.specs.Sides.{odd_left, odd_right}
 use Rattle.plane_faces.specs.Around.{IsRotation}
-use Rattle.plane_faces.specs.Places.{left_of, Consecutive}
+use Rattle.plane_faces.specs.Places.{Place, left_of, IsPlaceOf, AgreesWherePlacesMeet, Consecutive}
 use Rattle.plane_faces.proofs.Lists.{contains_cases, contains_none, contains_head, contains_tail}
 use Rattle.plane_faces.proofs.Around.{precedes_not_itself, rotation-here, rotation-all, rotation-consecutive, rotation-round, last-All}
 use Rattle.plane_faces.proofs.Connected.{parity_at_place}
@@ -56,16 +56,16 @@ module _ (S : List Segment) (arr : IsArrangement S) (distinct : IsDistinct S) wh
 -- ---- the sector that a point sees a vertex from
 
 module _ (S : List Segment) (arr : IsArrangement S) (distinct : IsDistinct S) (d : Dart) (cd : Contains S d.link) (z : RationalPoint) (sees : SeesPoint S (tail d) z) where
-  abbrev q : Dart
+  abbrev pub q : Dart
   q = (spoke S arr d cd z sees).dart
 
-  abbrev all : List Segment
+  abbrev pub all : List Segment
   all = grown z.W z.positive S arr (spoke S arr d cd z sees).dart.link (spoke S arr d cd z sees).before (spoke_aside S arr d cd z sees)
 
-  all_arranged : IsArrangement all
+  pub all_arranged : IsArrangement all
   all_arranged = grown_arrangement z.W z.positive S arr (spoke S arr d cd z sees).dart.link (spoke S arr d cd z sees).before (spoke_aside S arr d cd z sees)
 
-  q_there : Contains all q.link
+  pub q_there : Contains all q.link
   q_there = contains_head q.link (map (grow_link z.W) S)
 
   all_distinct : IsDistinct all
@@ -79,17 +79,17 @@ module _ (S : List Segment) (arr : IsArrangement S) (distinct : IsDistinct S) (d
       go (l ∷ ls) h = (All-map (λ k. k ≡ grow_link z.W l → ⊥) (grow_link z.W) ls (All-weaker (λ k. k ≡ l → ⊥) (λ k. grow_link z.W k ≡ grow_link z.W l → ⊥) (λ k n e. n (link_ungrown z.W z.positive k l e)) ls h.0), go ls h.1)
 
   -- a dart of S, grown
-  abbrev grow_dart : Dart → Dart
+  abbrev pub grow_dart : Dart → Dart
   grow_dart e = record { link = grow_link z.W e.link; forward = e.forward }
 
-  tail_grown : (e : Dart) → tail (grow_dart e) ≡ grow z.W (tail e)
+  pub tail_grown : (e : Dart) → tail (grow_dart e) ≡ grow z.W (tail e)
   tail_grown e = go e.forward
     where
       go : (b : Bool) → cond b (grow z.W e.link.start) (grow z.W e.link.stop) ≡ grow z.W (cond b e.link.start e.link.stop)
       go true = refl
       go false = refl
 
-  grown_there : (l : Segment) → Contains S l → Contains all (grow_link z.W l)
+  pub grown_there : (l : Segment) → Contains S l → Contains all (grow_link z.W l)
   grown_there l c = contains_tail q.link (map (grow_link z.W) S) (grow_link z.W l) (Contains-map (grow_link z.W) S l c)
 
   -- the spoke does not follow itself
@@ -111,11 +111,11 @@ module _ (S : List Segment) (arr : IsArrangement S) (distinct : IsDistinct S) (d
       both false false false e f (inr r) = let g : true ≡ false = sym r in absurd (cc)
 
   -- a dart of S at the vertex, before the spoke in rotation
-  record Clockwise : Type 0 where
-    e : Dart
-    there : Contains S e.link
-    at_vertex : tail e ≡ tail d
-    next : IsNext all (grow_dart e) q
+  pub record Clockwise : Type 0 where
+    pub e : Dart
+    pub there : Contains S e.link
+    pub at_vertex : tail e ≡ tail d
+    pub next : IsNext all (grow_dart e) q
 
   clockwise : Clockwise
   clockwise =
@@ -176,21 +176,22 @@ module _ (S : List Segment) (arr : IsArrangement S) (distinct : IsDistinct S) (d
         go true = refl
         go false = both_sides
 
-    parity_seen : odd_left_of L clockwise.e ≡ odd L z
-    parity_seen =
-        sym (of_dart clockwise.e clockwise.there)
-        ∙ sector_law all M all_arranged M_within M_even (grow_dart clockwise.e) q (grown_there clockwise.e.link clockwise.there) q_there clockwise.next
+    parity_seen : (t : Clockwise) → odd_left_of L t.e ≡ odd L z
+    parity_seen t =
+        sym (of_dart t.e t.there)
+        ∙ sector_law all M all_arranged M_within M_even (grow_dart t.e) q (grown_there t.e.link t.there) q_there t.next
         ∙ of_spoke
         ∙ ap (odd M) (spoke S arr d cd z sees).middle
         ∙ odd-grown z.W z.positive L (midpoint (record { start = grow z.W (tail d); stop = grown_point z }))
         ∙ same_parity S L arr within even (shrink z.W z.positive (midpoint (record { start = grow z.W (tail d); stop = grown_point z }))) z (middle_is_free S arr d cd z sees)
 
+  -- the point has the label of that sector
+  pub label_seen : (t : Clockwise) (label : Place → ℕ) → AgreesWherePlacesMeet S label → (a : Place) → IsPlaceOf S z a → label a ≡ label (left_of t.e)
+  label_seen t label agrees a here =
+      one_label S arr distinct (rotations_exist S arr distinct) label agrees a (left_of t.e) (place_beside S z a here) t.there
+      (λ L within even. sym (parity_at_place S L arr within even z a here) ∙ sym (parity_seen L within even t))
+
 pub seen_from_sectors : SeenFromSectors
 seen_from_sectors S arr distinct label agrees d cd z sees a here =
-    let turn = clockwise S arr distinct d cd z sees in (
-      turn.e,
-      turn.there,
-      turn.at_vertex,
-      one_label S arr distinct (rotations_exist S arr distinct) label agrees a (left_of turn.e) (place_beside S z a here) turn.there
-          (λ L within even. sym (parity_at_place S L arr within even z a here) ∙ sym (parity_seen S arr distinct d cd z sees L within even)),
-    )
+    let t = clockwise S arr distinct d cd z sees in
+    (t.e, t.there, t.at_vertex, label_seen S arr distinct d cd z sees t label agrees a here)

@@ -50,8 +50,31 @@ abbrev pub SeenFromSectors : Type 0
 SeenFromSectors = (S : List Segment) → IsArrangement S → IsDistinct S → (label : Place → ℕ) → AgreesWherePlacesMeet S label → (d : Dart) → Contains S d.link → (z : RationalPoint) → SeesPoint S (tail d) z →
     (a : Place) → IsPlaceOf S z a → (e : Dart) × Contains S e.link × (tail e ≡ tail d) × (label a ≡ label (left_of e))
 
+-- each sector has a point, off the links, that sees the vertex: its label is that of the sector, on the left of a link directed away from the vertex
+abbrev pub SectorsAreSeen : Type 0
+SectorsAreSeen = (S : List Segment) → IsArrangement S → IsDistinct S → (d : Dart) → Contains S d.link →
+    (z : RationalPoint) × SeesPoint S (tail d) z × IsOffLinks S z × ((label : Place → ℕ) → AgreesWherePlacesMeet S label → (a : Place) → IsPlaceOf S z a → label a ≡ label (left_of d))
+
 -- so a node that some point of a set sees is inside the set, as it is answered for it
 abbrev pub SeenNodesAreInside : Type 0
 SeenNodesAreInside = (S : List Segment) → IsArrangement S → IsDistinct S → (arcs : List Path) → All (λ arc. 1 < length arc) arcs → GoAlong S arcs → AreFreeInside S arcs →
     (faces : FaceTable) → IsBuiltOf arcs faces → (label : Place → ℕ) → IsFaceOfPlace arcs faces label → (set : List ℕ) → (p : GridPoint) → IsNode arcs p →
     (inside : Bool) → IsInsideAt arcs faces p set inside → IsInside S (PointsOf S label set) p → inside ≡ true
+
+-- and some point of the set sees each node that is inside it, as it is answered for it
+abbrev pub NodesAreSeen : Type 0
+NodesAreSeen = (S : List Segment) → IsArrangement S → IsDistinct S → (arcs : List Path) → All (λ arc. 1 < length arc) arcs → GoAlong S arcs → AreFreeInside S arcs →
+    (faces : FaceTable) → IsBuiltOf arcs faces → (label : Place → ℕ) → IsFaceOfPlace arcs faces label → (set : List ℕ) → (p : GridPoint) → IsNode arcs p →
+    (inside : Bool) → IsInsideAt arcs faces p set inside → inside ≡ true → IsInside S (PointsOf S label set) p
+
+-- so a node is inside a set, as it is answered for it, exactly if some point of the set sees it
+abbrev pub NodesAreInside : Type 0
+NodesAreInside = (S : List Segment) → IsArrangement S → IsDistinct S → (arcs : List Path) → All (λ arc. 1 < length arc) arcs → GoAlong S arcs → AreFreeInside S arcs →
+    (faces : FaceTable) → IsBuiltOf arcs faces → (label : Place → ℕ) → IsFaceOfPlace arcs faces label → (set : List ℕ) → (p : GridPoint) → IsNode arcs p →
+    (inside : Bool) → IsInsideAt arcs faces p set inside → (inside ≡ true) ↔ IsInside S (PointsOf S label set) p
+
+-- so it is in the table of the whole arcs of a snapped drawing
+abbrev pub NodesOfADrawing : Type 0
+NodesOfADrawing = (d : Drawing) → (arcs : List Path) → All (λ arc. 1 < length arc) arcs → GoAlong (links_of (snapped d)) arcs → All (IsWholeArc (snapped d)) arcs →
+    (faces : FaceTable) → IsBuiltOf arcs faces → (label : Place → ℕ) → IsFaceOfPlace arcs faces label → (set : List ℕ) → (p : GridPoint) → IsNode arcs p →
+    (inside : Bool) → IsInsideAt arcs faces p set inside → (inside ≡ true) ↔ IsInside (links_of (snapped d)) (PointsOf (links_of (snapped d)) label set) p

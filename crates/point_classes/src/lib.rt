@@ -3,7 +3,7 @@
 //! Each function carries one law in its contract, and does nothing.
 #![tactic(auto)]
 
-ghost use Rattle.point_classes.specs.PointClasses.{FreePointsAreInside, FreePointsAreSeen, FreePointsOfADrawing, SeenFromOneFace, SeenFromSectors, SeenNodesAreInside};
+ghost use Rattle.point_classes.specs.PointClasses.{FreePointsAreInside, FreePointsAreSeen, FreePointsOfADrawing, NodesAreInside, NodesAreSeen, NodesOfADrawing, SectorsAreSeen, SeenFromOneFace, SeenFromSectors, SeenNodesAreInside};
 
 /// What sees a point that lies on no link is of one face with it.
 pub fn seen_from_one_face()
@@ -30,7 +30,27 @@ pub fn seen_from_sectors()
     ensures { SeenFromSectors }
 {}
 
+/// Each sector at a vertex has a point, off the links, that sees the vertex and has the label of the sector.
+pub fn sectors_are_seen()
+    ensures { SectorsAreSeen }
+{}
+
 /// So a node that some point of a set sees is inside the set, as it is answered for it.
 pub fn seen_nodes_are_inside()
     ensures { SeenNodesAreInside }
+{}
+
+/// And some point of the set sees each node that is inside it.
+pub fn nodes_are_seen()
+    ensures { NodesAreSeen }
+{}
+
+/// So a node is inside a set, as it is answered for it, exactly if some point of the set sees it.
+pub fn nodes_are_inside()
+    ensures { NodesAreInside }
+{}
+
+/// So it is in a table of the whole arcs of a snapped drawing.
+pub fn nodes_of_a_drawing()
+    ensures { NodesOfADrawing }
 {}
