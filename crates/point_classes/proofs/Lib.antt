@@ -8,3 +8,5 @@ pub mod Sectors
 pub mod NextTo
 pub mod SeenSectors
 pub mod Nodes
+pub mod InnerVertices
+pub mod Vertices

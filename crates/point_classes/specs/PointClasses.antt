@@ -10,7 +10,7 @@ use Rattle.plane_model.specs.Snapped.{links_of, snapped}
 use Rattle.plane_model.specs.Rotation.{Dart, tail}
 use Rattle.plane_faces.specs.Places.{Place, left_of, IsPlaceOf, AgreesWherePlacesMeet}
 use Rattle.arc_table.specs.Along.{GoAlong}
-use Rattle.arc_table.specs.Lookup.{IsArcAt}
+use Rattle.arc_table.specs.Lookup.{IsArcAt, IsLeastAt}
 use Rattle.arc_table.specs.WholeArcs.{IsWholeArc}
 use Rattle.face_walk.specs.Places.{FaceTable, IsBuiltOf, IsFaceOver}
 use Rattle.face_classes.specs.FaceClasses.{AreFreeInside, IsFaceOfPlace}
@@ -77,4 +77,19 @@ NodesAreInside = (S : List Segment) → IsArrangement S → IsDistinct S → (ar
 abbrev pub NodesOfADrawing : Type 0
 NodesOfADrawing = (d : Drawing) → (arcs : List Path) → All (λ arc. 1 < length arc) arcs → GoAlong (links_of (snapped d)) arcs → All (IsWholeArc (snapped d)) arcs →
     (faces : FaceTable) → IsBuiltOf arcs faces → (label : Place → ℕ) → IsFaceOfPlace arcs faces label → (set : List ℕ) → (p : GridPoint) → IsNode arcs p →
+    (inside : Bool) → IsInsideAt arcs faces p set inside → (inside ≡ true) ↔ IsInside (links_of (snapped d)) (PointsOf (links_of (snapped d)) label set) p
+
+-- a vertex inside an arc is inside a set, as it is answered for it, exactly if some point of the set sees it
+abbrev pub InnerVerticesAreInside : Type 0
+InnerVerticesAreInside = (S : List Segment) → IsArrangement S → IsDistinct S → (arcs : List Path) → All (λ arc. 1 < length arc) arcs → GoAlong S arcs → AreFreeInside S arcs →
+    (faces : FaceTable) → IsBuiltOf arcs faces → (label : Place → ℕ) → IsFaceOfPlace arcs faces label → (set : List ℕ) → (p : GridPoint) → (IsNode arcs p → ⊥) → (n : ℕ) → IsLeastAt arcs p n →
+    (inside : Bool) → IsInsideAt arcs faces p set inside → (inside ≡ true) ↔ IsInside S (PointsOf S label set) p
+
+-- ---- all vertices
+
+-- each vertex of a snapped drawing is inside a set of faces of its whole arcs, as it is answered for it, exactly if some point of the set sees it:
+-- whether it is a node, or inside an arc, or on no arc
+abbrev pub VerticesOfADrawing : Type 0
+VerticesOfADrawing = (d : Drawing) → (arcs : List Path) → All (λ arc. 1 < length arc) arcs → GoAlong (links_of (snapped d)) arcs → All (IsWholeArc (snapped d)) arcs →
+    (faces : FaceTable) → IsBuiltOf arcs faces → (label : Place → ℕ) → IsFaceOfPlace arcs faces label → (set : List ℕ) → (p : GridPoint) → Contains (vertices_of (snapped d)) p →
     (inside : Bool) → IsInsideAt arcs faces p set inside → (inside ≡ true) ↔ IsInside (links_of (snapped d)) (PointsOf (links_of (snapped d)) label set) p

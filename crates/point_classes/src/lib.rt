@@ -3,7 +3,7 @@
 //! Each function carries one law in its contract, and does nothing.
 #![tactic(auto)]
 
-ghost use Rattle.point_classes.specs.PointClasses.{FreePointsAreInside, FreePointsAreSeen, FreePointsOfADrawing, NodesAreInside, NodesAreSeen, NodesOfADrawing, SectorsAreSeen, SeenFromOneFace, SeenFromSectors, SeenNodesAreInside};
+ghost use Rattle.point_classes.specs.PointClasses.{FreePointsAreInside, FreePointsAreSeen, FreePointsOfADrawing, InnerVerticesAreInside, NodesAreInside, NodesAreSeen, NodesOfADrawing, SectorsAreSeen, SeenFromOneFace, SeenFromSectors, SeenNodesAreInside, VerticesOfADrawing};
 
 /// What sees a point that lies on no link is of one face with it.
 pub fn seen_from_one_face()
@@ -53,4 +53,14 @@ pub fn nodes_are_inside()
 /// So it is in a table of the whole arcs of a snapped drawing.
 pub fn nodes_of_a_drawing()
     ensures { NodesOfADrawing }
+{}
+
+/// And a vertex inside an arc is inside a set, as it is answered for it, exactly if some point of the set sees it.
+pub fn inner_vertices_are_inside()
+    ensures { InnerVerticesAreInside }
+{}
+
+/// So it is with each vertex of a snapped drawing, over a table of its whole arcs.
+pub fn vertices_of_a_drawing()
+    ensures { VerticesOfADrawing }
 {}
