@@ -1,0 +1,29 @@
+//! What lines and arcs are inside is what rational points show: an arc is inside a set of faces exactly if each of its
+//! links has a side that points of these faces see.
+//!
+//! Each function carries one law in its contract, and does nothing.
+#![tactic(auto)]
+
+ghost use Rattle.line_classes.specs.LineClasses.{ArcsAreInside, BoundaryOfArcs, DrawingsAreLabelled, SidesOfArcs};
+
+/// These laws are true of the faces of the arcs of a snapped drawing.
+pub fn drawings_are_labelled()
+    ensures { DrawingsAreLabelled }
+{}
+
+/// A side of a link of a signed arc is in the points of a set of faces exactly if the set has the face on that side of the
+/// arc.
+pub fn sides_of_arcs()
+    ensures { SidesOfArcs }
+{}
+
+/// So an arc is inside a set, as it is answered for it, exactly if each of its links is: at least one side of it belongs to
+/// the points of the set.
+pub fn arcs_are_inside()
+    ensures { ArcsAreInside }
+{}
+
+/// A link is on the boundary of the points of a set exactly if the set has just one of the faces beside its arc.
+pub fn boundary_of_arcs()
+    ensures { BoundaryOfArcs }
+{}
