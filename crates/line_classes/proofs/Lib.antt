@@ -1,1 +1,4 @@
 pub mod LinkSides
+pub mod RunPieces
+pub mod RunSteps
+pub mod PathRuns

@@ -98,10 +98,10 @@ module _ (S : List Segment) (arr : IsArrangement S) (distinct : IsDistinct S) (l
 
 -- ---- the links of an arc
 
-module _ (S : List Segment) (arcs : List Path) (faces : FaceTable) (label : Place → ℕ) (h : AreLabelled S arcs faces label) (set : List ℕ) (n : ℕ) (below : n < length arcs) where
-  abbrev agrees : AgreesWherePlacesMeet S label
-  agrees = (faces_are_classes S h.arrangement arcs h.long h.along h.free faces h.built label h.by_face).agrees
+pub labels_agree : (S : List Segment) (arcs : List Path) (faces : FaceTable) (label : Place → ℕ) → AreLabelled S arcs faces label → AgreesWherePlacesMeet S label
+labels_agree S arcs faces label h = (faces_are_classes S h.arrangement arcs h.long h.along h.free faces h.built label h.by_face).agrees
 
+module _ (S : List Segment) (arcs : List Path) (faces : FaceTable) (label : Place → ℕ) (h : AreLabelled S arcs faces label) (set : List ℕ) (n : ℕ) (below : n < length arcs) where
   abbrev pub HasSide : Dart → SignedArc → Type 0
   HasSide d a = LeftSideIn S (PointsOf S label set) d ↔ Contains set (sides.left_of faces a)
 
@@ -114,7 +114,7 @@ module _ (S : List Segment) (arcs : List Path) (faces : FaceTable) (label : Plac
       let d : Dart = cond b (opposite (get_or (darts_of_path (get_or arcs n [])) j e)) (get_or (darts_of_path (get_or arcs n [])) j e) in
       let on : Contains S d.link = dart_there S h.arrangement arcs h.long h.along faces label h.by_face n below j e there b in
       let is : label (left_of d) ≡ sides.left_of faces (signed b) = label_there S h.arrangement arcs h.long h.along faces label h.by_face n below j e there b in
-      subst (λ (f : ℕ). LeftSideIn S (PointsOf S label set) d ↔ Contains set f) is (side_of_dart S h.arrangement h.distinct label agrees set d on)
+      subst (λ (f : ℕ). LeftSideIn S (PointsOf S label set) d ↔ Contains set f) is (side_of_dart S h.arrangement h.distinct label (labels_agree S arcs faces label h) set d on)
 
   pub both_sides : (b : Bool) (j : ℕ) (e : Dart) → j < length (darts_of_path (get_or arcs n [])) →
       HasSide (directed_as (signed b) (get_or (darts_of_path (get_or arcs n [])) j e)) (signed b) × HasSide (opposite (directed_as (signed b) (get_or (darts_of_path (get_or arcs n [])) j e))) (signed (not b))

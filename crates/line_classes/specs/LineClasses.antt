@@ -1,9 +1,9 @@
 -- The links of arcs by the sides that belong to a set of faces: what is inside, and what is on the boundary.
-use Rattle.std.specs.Prelude.{◌≡◌, ◌⊎◌, ◌↔◌, ℕ, ◌<◌, true, List, [], All, Contains, length, slice_index_or}
-use Rattle.plane_model.specs.Points.{RationalPoint, Segment, Path}
-use Rattle.plane_model.specs.Arcs.{SignedArc}
+use Rattle.std.specs.Prelude.{◌≡◌, ◌⊎◌, ◌↔◌, ℕ, ◌<◌, Bool, true, not, List, [], All, Contains, length, map, slice_index_or}
+use Rattle.plane_model.specs.Points.{RationalPoint, Segment, Path, link_between}
+use Rattle.plane_model.specs.Arcs.{SignedArc, joined_points}
 use Rattle.plane_model.specs.Arrangement.{IsArrangement, IsDistinct}
-use Rattle.plane_model.specs.Drawing.{Drawing}
+use Rattle.plane_model.specs.Drawing.{Drawing, steps}
 use Rattle.plane_model.specs.Joined.{IsBoundaryLink, links_of_arc}
 use Rattle.plane_model.specs.Rotation.{Dart}
 use Rattle.plane_model.specs.Sides.{Points, LeftIn, RightIn}
@@ -11,11 +11,14 @@ use Rattle.plane_model.specs.Snapped.{links_of, snapped}
 use Rattle.plane_faces.specs.Around.{opposite}
 use Rattle.plane_faces.specs.Places.{Place}
 use Rattle.plane_faces.specs.Rings.{darts_of_path}
+use Rattle.grid_base.specs.Drawn.{HasPaths}
 use Rattle.arc_table.specs.Along.{GoAlong}
-use Rattle.arc_table.specs.PathArcs.{AreArcsOf}
+use Rattle.arc_table.specs.Nodes.{IsLineOf}
+use Rattle.arc_table.specs.PathArcs.{AreArcsOf, ArePathArcs, RunsFrom, round_from}
 use Rattle.face_walk.specs.Places.{FaceTable, IsBuiltOf}
 use Rattle.face_classes.specs.FaceClasses.{AreFreeInside, IsFaceOfPlace, SeesSide, directed_as}
-use Rattle.line_ops.specs.Inside.{is_inside, left_of, right_of}
+use Rattle.line_ops.specs.Inside.{is_inside, is_outside, left_of, right_of}
+use Rattle.line_ops.specs.Runs.{runs_where}
 use Rattle.point_classes.specs.PointClasses.{PointsOf}
 
 -- the faces of a table of arcs that go along the links of an arrangement, and labels of the places of the plane by them
@@ -40,6 +43,27 @@ IsLinkInside S R l = LeftIn S R l ⊎ RightIn S R l
 abbrev pub HasJustOne : List ℕ → ℕ → ℕ → Type 0
 HasJustOne set f g = (Contains set f × (Contains set g → ⊥)) ⊎ (Contains set g × (Contains set f → ⊥))
 
+-- a test that holds of just those links of S that are inside R
+abbrev pub TestsInside : List Segment → Points → (Segment → Bool) → Type 0
+TestsInside S R test = (l : Segment) → Contains S l → (test l ≡ true) ↔ IsLinkInside S R l
+
+-- the step goes along a link that passes the test, or that doesn't
+abbrev pub goes_inside : (Segment → Bool) → Segment → Bool
+goes_inside test s = test (link_between s)
+
+abbrev pub goes_outside : (Segment → Bool) → Segment → Bool
+goes_outside test s = not (test (link_between s))
+
+-- the steps of a run of signed arcs, joined
+abbrev pub steps_of_run : List Path → List SignedArc → List Segment
+steps_of_run arcs run = steps (joined_points arcs run)
+
+-- Signed arcs along a path of which these are the steps, cut into what is inside a set and what isn't: the runs of arcs, joined, have for their
+-- steps the maximal runs of steps along links that are inside the region, and of steps along links that are not.
+pub record AreCutInto (S : List Segment) (R : Points) (arcs : List Path) (faces : FaceTable) (set : List ℕ) (named : List SignedArc) (along : List Segment) : Type 0 where
+  pub clipped : (test : Segment → Bool) → TestsInside S R test → map (steps_of_run arcs) (runs_where (is_inside faces set) named) ≡ runs_where (goes_inside test) along
+  pub erased : (test : Segment → Bool) → TestsInside S R test → map (steps_of_run arcs) (runs_where (is_outside faces set) named) ≡ runs_where (goes_outside test) along
+
 -- ---- laws
 
 -- the faces of a table of the arcs of a snapped drawing are such faces
@@ -62,3 +86,22 @@ ArcsAreInside = (S : List Segment) (arcs : List Path) (faces : FaceTable) (label
 abbrev pub BoundaryOfArcs : Type 0
 BoundaryOfArcs = (S : List Segment) (arcs : List Path) (faces : FaceTable) (label : Place → ℕ) → AreLabelled S arcs faces label → (set : List ℕ) → (a : SignedArc) → a.arc < length arcs →
     All (λ (l : Segment). IsBoundaryLink S (PointsOf S label set) l ↔ HasJustOne set (left_of faces a) (right_of faces a)) (links_of_arc arcs a.arc)
+
+-- ---- paths
+
+-- some test holds of just the links that are inside the points of a set
+abbrev pub InsideIsTested : Type 0
+InsideIsTested = (S : List Segment) (arcs : List Path) (faces : FaceTable) (label : Place → ℕ) → AreLabelled S arcs faces label → (set : List ℕ) → (test : Segment → Bool) × TestsInside S (PointsOf S label set) test
+
+-- The arcs of any path of a snapped drawing that is read from vertex `first` on, cut by a set of faces, are its maximal runs of steps along links
+-- that are inside the points of the set, and of steps along links that are not.
+abbrev pub PathsAreCut : Type 0
+PathsAreCut = (d : Drawing) (arcs : List Path) → AreArcsOf (snapped d) arcs → (faces : FaceTable) → IsBuiltOf arcs faces → (label : Place → ℕ) → IsFaceOfPlace arcs faces label → (set : List ℕ) →
+    (path : Path) (named : List SignedArc) → All (λ a. a.arc < length arcs) named → (along : RunsFrom (snapped d) arcs path named) →
+    AreCutInto (links_of (snapped d)) (PointsOf (links_of (snapped d)) label set) arcs faces set named (steps (round_from along.first path))
+
+-- so it is with each path of a line of the drawing, read from its start
+abbrev pub LinesAreCut : Type 0
+LinesAreCut = (d : Drawing) → HasPaths (snapped d) → (arcs : List Path) → AreArcsOf (snapped d) arcs → (faces : FaceTable) → IsBuiltOf arcs faces → (label : Place → ℕ) → IsFaceOfPlace arcs faces label → (set : List ℕ) →
+    (line : Path) → IsLineOf (snapped d) line → (named : List SignedArc) → All (λ a. a.arc < length arcs) named → ArePathArcs (snapped d) arcs line named →
+    AreCutInto (links_of (snapped d)) (PointsOf (links_of (snapped d)) label set) arcs faces set named (steps line)

@@ -4,7 +4,7 @@
 //! Each function carries one law in its contract, and does nothing.
 #![tactic(auto)]
 
-ghost use Rattle.line_classes.specs.LineClasses.{ArcsAreInside, BoundaryOfArcs, DrawingsAreLabelled, SidesOfArcs};
+ghost use Rattle.line_classes.specs.LineClasses.{ArcsAreInside, BoundaryOfArcs, DrawingsAreLabelled, InsideIsTested, LinesAreCut, PathsAreCut, SidesOfArcs};
 
 /// These laws are true of the faces of the arcs of a snapped drawing.
 pub fn drawings_are_labelled()
@@ -26,4 +26,20 @@ pub fn arcs_are_inside()
 /// A link is on the boundary of the points of a set exactly if the set has just one of the faces beside its arc.
 pub fn boundary_of_arcs()
     ensures { BoundaryOfArcs }
+{}
+
+/// Some test holds of just those links that are inside the points of a set.
+pub fn inside_is_tested()
+    ensures { InsideIsTested }
+{}
+
+/// The arcs of a path, cut by a set of faces, are its maximal runs of steps along links that are inside the points of the
+/// set, and of steps along links that are not.
+pub fn paths_are_cut()
+    ensures { PathsAreCut }
+{}
+
+/// So it is with each path of a line of a snapped drawing, read from its start.
+pub fn lines_are_cut()
+    ensures { LinesAreCut }
 {}

@@ -1,0 +1,125 @@
+-- The steps of arcs that follow each other, joined, are the steps of the arcs.
+use Rattle.std.proofs.Common.{◌≡◌, refl, sym, ap, ◌∙◌, subst, arith, ℕ, zero, suc, ◌-◌, ◌<◌, Bool, true, false, cond, List, [], ◌∷◌, ◌++◌, length, All, append_assoc, append-nil}
+use Rattle.std.specs.List.{flat_map}
+use Rattle.std.proofs.lemmas.List.Elements.{All-nil, All-cons, All-head, All-tail, All-append}
+use Rattle.lists.specs.Lists.{without_last}
+use Rattle.plane_model.specs.Points.{Segment, Path}
+use Rattle.plane_model.specs.Drawing.{steps}
+use Rattle.plane_model.specs.Arcs.{SignedArc, joined_points, points_of}
+use Rattle.arc_table.specs.Direction.{point_at}
+use Rattle.line_ops.specs.Runs.{ended, runs_after}
+
+-- ---- steps that follow each other
+
+abbrev pub IsChain : List Segment → Type 0
+IsChain [] = Unit {0}
+IsChain (s ∷ []) = Unit {0}
+IsChain (s ∷ t ∷ rest) = (s.stop ≡ t.start) × IsChain (t ∷ rest)
+
+pub steps_chain : (path : Path) → IsChain (steps path)
+steps_chain [] = tt
+steps_chain (p ∷ []) = tt
+steps_chain (p ∷ q ∷ []) = tt
+steps_chain (p ∷ q ∷ r ∷ rest) = (refl, steps_chain (q ∷ r ∷ rest))
+
+-- the first of two paths ends where the second starts, if their steps follow each other
+chain_over : (P Q : Path) (more : List Segment) (t : ℕ) → suc t ≡ length P → 1 < length P → 1 < length Q → IsChain (steps P ++ (steps Q ++ more)) → (point_at P t ≡ point_at Q 0) × IsChain (steps Q ++ more)
+chain_over [] Q more t size l m h = absurd (omega arith)
+chain_over (p ∷ []) Q more t size l m h = absurd (omega arith)
+chain_over (p ∷ q ∷ rest) [] more t size l m h = absurd (omega arith)
+chain_over (p ∷ q ∷ rest) (x ∷ []) more t size l m h = absurd (omega arith)
+chain_over (p ∷ q ∷ []) (x ∷ y ∷ Q) more t size l m h = (ap (point_at (p ∷ q ∷ [])) (let e : t ≡ 1 = omega arith in e) ∙ h.0, h.1)
+chain_over (p ∷ q ∷ r ∷ rest) (x ∷ y ∷ Q) more zero size l m h = absurd (omega arith)
+chain_over (p ∷ q ∷ r ∷ rest) (x ∷ y ∷ Q) more (suc t) size l m h = chain_over (q ∷ r ∷ rest) (x ∷ y ∷ Q) more t (omega arith) (omega arith) m h.1
+
+-- ---- paths joined
+
+-- the steps of a path that ends where another begins, and of that one
+steps_over : (J P : Path) (t : ℕ) → suc t ≡ length J → 0 < length P → point_at J t ≡ point_at P 0 → steps (without_last J ++ P) ≡ steps J ++ steps P
+steps_over [] P t size some e = absurd (omega arith)
+steps_over (x ∷ []) P t size some e = refl
+steps_over (x ∷ y ∷ rest) [] t size some e = absurd (omega arith)
+steps_over (x ∷ y ∷ rest) (p ∷ ps) zero size some e = absurd (omega arith)
+steps_over (x ∷ y ∷ []) (p ∷ ps) (suc t) size some e =
+    let meets : y ≡ p = ap (λ (k : ℕ). point_at (y ∷ []) k) (let z : 0 ≡ t = omega arith in z) ∙ e in
+    λ i. record { start = x; stop = sym meets i } ∷ steps (p ∷ ps)
+steps_over (x ∷ y ∷ z ∷ rest) (p ∷ ps) (suc t) size some e = ap (λ (ss : List Segment). record { start = x; stop = y } ∷ ss) (steps_over (y ∷ z ∷ rest) (p ∷ ps) t (omega arith) some e)
+
+first_kept : (P Q : Path) → 1 < length P → (point_at (without_last P ++ Q) 0 ≡ point_at P 0) × (0 < length (without_last P ++ Q))
+first_kept [] Q l = absurd (omega arith)
+first_kept (p ∷ []) Q l = absurd (omega arith)
+first_kept (p ∷ q ∷ rest) Q l = (refl, omega arith)
+
+-- ---- arcs that follow each other
+
+module _ (arcs : List Path) where
+  abbrev pub last_point : SignedArc → ℕ
+  last_point a = length (points_of arcs a) - 1
+
+  -- each has a step, and each but the first starts where the one before it ends
+  abbrev pub AreLinked : List SignedArc → Type 0
+  AreLinked [] = Unit {0}
+  AreLinked (a ∷ []) = 1 < length (points_of arcs a)
+  AreLinked (a ∷ b ∷ rest) = (1 < length (points_of arcs a)) × (point_at (points_of arcs a) (last_point a) ≡ point_at (points_of arcs b) 0) × AreLinked (b ∷ rest)
+
+  abbrev pub steps_along : SignedArc → List Segment
+  steps_along a = steps (points_of arcs a)
+
+  first_long : (a : SignedArc) (rest : List SignedArc) → AreLinked (a ∷ rest) → 1 < length (points_of arcs a)
+  first_long a [] h = h
+  first_long a (b ∷ rest) h = h.0
+
+  joined_first : (a : SignedArc) (rest : List SignedArc) → AreLinked (a ∷ rest) → (point_at (joined_points arcs (a ∷ rest)) 0 ≡ point_at (points_of arcs a) 0) × (0 < length (joined_points arcs (a ∷ rest)))
+  joined_first a [] h = (refl, let l : 1 < length (points_of arcs a) = h in omega arith)
+  joined_first a (b ∷ rest) h = first_kept (points_of arcs a) (joined_points arcs (b ∷ rest)) h.0
+
+  pub linked_steps : (run : List SignedArc) → AreLinked run → steps (joined_points arcs run) ≡ flat_map steps_along run
+  linked_steps [] h = refl
+  linked_steps (a ∷ []) h = sym (append-nil (steps_along a))
+  linked_steps (a ∷ b ∷ rest) h =
+      let P = points_of arcs a in
+      let l : 1 < length (points_of arcs a) = h.0 in
+      let first = joined_first b rest h.2 in
+      steps_over P (joined_points arcs (b ∷ rest)) (last_point a) (omega arith) first.1 (h.1 ∙ sym first.0)
+      ∙ ap (λ (ss : List Segment). steps_along a ++ ss) (linked_steps (b ∷ rest) h.2)
+
+  pub chain_linked : (named : List SignedArc) → All (λ a. 1 < length (points_of arcs a)) named → IsChain (flat_map steps_along named) → AreLinked named
+  chain_linked [] long h = tt
+  chain_linked (a ∷ []) long h = All-head (λ b. 1 < length (points_of arcs b)) a [] long
+  chain_linked (a ∷ b ∷ rest) long h =
+      let later = All-tail (λ c. 1 < length (points_of arcs c)) a (b ∷ rest) long in
+      let l : 1 < length (points_of arcs a) = All-head (λ c. 1 < length (points_of arcs c)) a (b ∷ rest) long in
+      let m : 1 < length (points_of arcs b) = All-head (λ c. 1 < length (points_of arcs c)) b rest later in
+      let on = chain_over (points_of arcs a) (points_of arcs b) (flat_map steps_along rest) (last_point a) (omega arith) l m h in
+      (l, on.0, chain_linked (b ∷ rest) later on.1)
+
+  -- ---- runs of them
+
+  linked_before : (xs ys : List SignedArc) → AreLinked (xs ++ ys) → AreLinked xs
+  linked_before [] ys h = tt
+  linked_before (x ∷ []) ys h = first_long x ys h
+  linked_before (x ∷ y ∷ xs) ys h = (h.0, h.1, linked_before (y ∷ xs) ys h.2)
+
+  linked_after : (x : SignedArc) (xs ys : List SignedArc) → AreLinked ((x ∷ xs) ++ ys) → AreLinked ys
+  linked_after x [] [] h = tt
+  linked_after x [] (y ∷ ys) h = h.2
+  linked_after x (y ∷ xs) ys h = linked_after y xs ys h.2
+
+  linked_rest : (xs : List SignedArc) (x : SignedArc) (ys : List SignedArc) → AreLinked (xs ++ x ∷ ys) → AreLinked ys
+  linked_rest [] x ys h = linked_after x [] ys h
+  linked_rest (y ∷ xs) x ys h = linked_rest xs x ys (linked_after y [] (xs ++ x ∷ ys) h)
+
+  ended_linked : (begun : List SignedArc) → AreLinked begun → All AreLinked (ended begun)
+  ended_linked [] h = All-nil AreLinked
+  ended_linked (x ∷ xs) h = All-cons AreLinked (x ∷ xs) [] h (All-nil AreLinked)
+
+  either : (b : Bool) (rs ss : List (List SignedArc)) → All AreLinked rs → All AreLinked ss → All AreLinked (cond b rs ss)
+  either true rs ss p q = p
+  either false rs ss p q = q
+
+  pub runs_linked : (test : SignedArc → Bool) (xs begun : List SignedArc) → AreLinked (begun ++ xs) → All AreLinked (runs_after test begun xs)
+  runs_linked test [] begun h = ended_linked begun (subst AreLinked (append-nil begun) h)
+  runs_linked test (x ∷ xs) begun h =
+      either (test x) (runs_after test (begun ++ x ∷ []) xs) (ended begun ++ runs_after test [] xs)
+      (runs_linked test xs (begun ++ x ∷ []) (subst AreLinked (sym (append_assoc begun (x ∷ []) xs)) h))
+      (All-append AreLinked (ended begun) (runs_after test [] xs) (ended_linked begun (linked_before begun (x ∷ xs) h)) (runs_linked test xs [] (linked_rest begun x xs h)))
