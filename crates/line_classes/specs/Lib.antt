@@ -1,1 +1,2 @@
 pub mod LineClasses
+pub mod ArcsBetween

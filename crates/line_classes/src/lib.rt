@@ -4,6 +4,7 @@
 //! Each function carries one law in its contract, and does nothing.
 #![tactic(auto)]
 
+ghost use Rattle.line_classes.specs.ArcsBetween.{ArcsBetweenFeatures, ArcsBetweenSets, SetsStandForFeatures, SetsStandForPoints};
 ghost use Rattle.line_classes.specs.LineClasses.{ArcsAreInside, BoundaryOfArcs, DrawingsAreLabelled, InsideIsTested, LinesAreCut, PathsAreCut, SidesOfArcs};
 
 /// These laws are true of the faces of the arcs of a snapped drawing.
@@ -42,4 +43,27 @@ pub fn paths_are_cut()
 /// So it is with each path of a line of a snapped drawing, read from its start.
 pub fn lines_are_cut()
     ensures { LinesAreCut }
+{}
+
+/// The sets of a list stand for their points: the sets at the two sides of an arc are those whose points see the two sides
+/// of each of its links.
+pub fn sets_stand_for_points()
+    ensures { SetsStandForPoints }
+{}
+
+/// The sets of the faces that the features of a snapped drawing hold stand so for the points that the features hold.
+pub fn sets_stand_for_features()
+    ensures { SetsStandForFeatures }
+{}
+
+/// So the arcs whose two sides are in different sets are those of whose links the lists of the sets that have points at the
+/// left and at the right side differ, each once; and the inner ones those for which, besides, neither list is empty.
+pub fn arcs_between_sets()
+    ensures { ArcsBetweenSets }
+{}
+
+/// And in a snapped drawing they are the arcs of whose links the lists of the features that have the left and the right
+/// side differ, with the lowest feature at each side.
+pub fn arcs_between_features()
+    ensures { ArcsBetweenFeatures }
 {}

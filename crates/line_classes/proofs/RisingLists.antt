@@ -1,0 +1,120 @@
+-- Rising lists of numbers, and the numbers of what passes a test.
+use Rattle.std.proofs.Common.{◌≡◌, inl, inr, refl, sym, subst, arith, ℕ, zero, suc, ◌+◌, ◌<◌, ◌≤◌, Bool, true, false, cond, ◌&&◌, nat_eq, List, [], ◌∷◌, length, get_or, All, AllPairs, Contains}
+use Rattle.std.specs.List.{range_with_len}
+use Rattle.std.specs.List.Sorted.{IsStrictlyIncreasing}
+use Rattle.std.proofs.lemmas.Bool.{eq-eqb, eqb-true, and_parts}
+use Rattle.std.proofs.lemmas.List.Elements.{All-nil, All-cons, All-weaker}
+use Rattle.std.proofs.lemmas.List.Kept.{AllPairs-cons, AllPairs-from_increasing}
+use Rattle.lists.specs.Lists.{numbers_from, numbers_where, same_list}
+use Rattle.lists.proofs.Members.{Contains-head, Contains-later, Contains-cases, Contains-nil}
+
+abbrev pub Rises : List ℕ → Type 0
+Rises xs = AllPairs (λ (x y : ℕ). x < y) xs
+
+pub increasing : (xs : List ℕ) → Rises xs → IsStrictlyIncreasing xs
+increasing xs h k within = h k (k + 1) 0 (omega arith) within
+
+-- ---- rising lists with the same elements are one
+
+head_below : (x : ℕ) (xs : List ℕ) → Rises (x ∷ xs) → (y : ℕ) → Contains xs y → x < y
+head_below x xs h y (k, l, e) = subst (λ (n : ℕ). x < n) e (h 0 (suc k) y (omega arith) (omega arith))
+
+tail_rises : (x : ℕ) (xs : List ℕ) → Rises (x ∷ xs) → Rises xs
+tail_rises x xs h i j d l m = h (suc i) (suc j) d (omega arith) (omega arith)
+
+tail_has : (x : ℕ) (xs ys : List ℕ) → Rises (x ∷ xs) → ((z : ℕ) → Contains (x ∷ xs) z → Contains (x ∷ ys) z) → (z : ℕ) → Contains xs z → Contains ys z
+tail_has x xs ys h to z c =
+    let l = head_below x xs h z c in
+    elim (Contains-cases x ys z (to z (Contains-later x xs z c))) [ inl e ↦ absurd (omega arith) | inr d ↦ d ]
+
+same_rising : (xs ys : List ℕ) → Rises xs → Rises ys → ((z : ℕ) → Contains xs z → Contains ys z) → ((z : ℕ) → Contains ys z → Contains xs z) → xs ≡ ys
+same_rising [] [] h k to from = refl
+same_rising [] (y ∷ ys) h k to from = Contains-nil y (from y (Contains-head y ys))
+same_rising (x ∷ xs) [] h k to from = Contains-nil x (to x (Contains-head x xs))
+same_rising (x ∷ xs) (y ∷ ys) h k to from =
+    let same : x ≡ y = elim (Contains-cases y ys x (to x (Contains-head x xs))) [
+      | inl e ↦ sym e
+      | inr c ↦ elim (Contains-cases x xs y (from y (Contains-head y ys))) [
+        | inl e ↦ e
+        | inr d ↦ (let l = head_below y ys k x c in let m = head_below x xs h y d in absurd (omega arith))
+      ]
+    ] in
+    let k' : Rises (x ∷ ys) = subst (λ (n : ℕ). Rises (n ∷ ys)) (sym same) k in
+    let rest : xs ≡ ys = same_rising xs ys (tail_rises x xs h) (tail_rises y ys k)
+    (tail_has x xs ys h (λ z c. subst (λ (n : ℕ). Contains (n ∷ ys) z) (sym same) (to z c)))
+    (tail_has x ys xs k' (λ z c. from z (subst (λ (n : ℕ). Contains (n ∷ ys) z) same c))) in
+    λ i. same i ∷ rest i
+
+pub one_rising_list : (xs ys : List ℕ) → IsStrictlyIncreasing xs → IsStrictlyIncreasing ys → ((z : ℕ) → Contains xs z → Contains ys z) → ((z : ℕ) → Contains ys z → Contains xs z) → xs ≡ ys
+one_rising_list xs ys h k to from = same_rising xs ys (AllPairs-from_increasing xs h) (AllPairs-from_increasing ys k) to from
+
+-- ---- the same list
+
+pub same_itself : (xs : List ℕ) → same_list nat_eq xs xs ≡ true
+same_itself [] = refl
+same_itself (x ∷ xs) = (λ i. eq-eqb x x refl i && same_itself xs i)
+
+pub same_means : (xs ys : List ℕ) → same_list nat_eq xs ys ≡ true → xs ≡ ys
+same_means [] [] e = refl
+same_means [] (y ∷ ys) e = absurd (let f : false ≡ true = e in cc)
+same_means (x ∷ xs) [] e = absurd (let f : false ≡ true = e in cc)
+same_means (x ∷ xs) (y ∷ ys) e =
+    let one : x ≡ y = eqb-true x y (and_parts (nat_eq x y) (same_list nat_eq xs ys) e).0 in
+    let rest : xs ≡ ys = same_means xs ys (and_parts (nat_eq x y) (same_list nat_eq xs ys) e).1 in
+    λ i. one i ∷ rest i
+
+-- ---- the numbers of what passes
+
+module _ {A : Type 0} (p : A → Bool) where
+  numbers_above : (n : ℕ) (xs : List A) → All (λ (i : ℕ). n ≤ i) (numbers_from n p xs)
+  numbers_above n [] = All-nil (λ (i : ℕ). n ≤ i)
+  numbers_above n (x ∷ xs) = go (p x) (All-weaker (λ (i : ℕ). n + 1 ≤ i) (λ (i : ℕ). n ≤ i) (λ i l. omega arith) (numbers_from (n + 1) p xs) (numbers_above (n + 1) xs))
+    where
+      go : (b : Bool) → All (λ (i : ℕ). n ≤ i) (numbers_from (n + 1) p xs) → All (λ (i : ℕ). n ≤ i) (cond b (n ∷ numbers_from (n + 1) p xs) (numbers_from (n + 1) p xs))
+      go true h = All-cons (λ (i : ℕ). n ≤ i) n (numbers_from (n + 1) p xs) (omega arith) h
+      go false h = h
+
+  numbers_rise : (n : ℕ) (xs : List A) → Rises (numbers_from n p xs)
+  numbers_rise n [] = λ i j d l m. absurd (omega arith)
+  numbers_rise n (x ∷ xs) = go (p x) (numbers_rise (n + 1) xs)
+    where
+      go : (b : Bool) → Rises (numbers_from (n + 1) p xs) → Rises (cond b (n ∷ numbers_from (n + 1) p xs) (numbers_from (n + 1) p xs))
+      go true h = AllPairs-cons (λ (i j : ℕ). i < j) n (numbers_from (n + 1) p xs) (All-weaker (λ (i : ℕ). n + 1 ≤ i) (λ (i : ℕ). n < i) (λ i l. omega arith) (numbers_from (n + 1) p xs) (numbers_above (n + 1) xs)) h
+      go false h = h
+
+  pub numbers_where_rise : (xs : List A) → IsStrictlyIncreasing (numbers_where p xs)
+  numbers_where_rise xs = increasing (numbers_where p xs) (numbers_rise 0 xs)
+
+  -- item j passes, and has the number i
+  pub record Passes (n : ℕ) (xs : List A) (i : ℕ) : Type 0 where
+    pub place : ℕ
+    pub item : A
+    pub number : i ≡ n + place
+    pub within : place < length xs
+    pub is : get_or xs place item ≡ item
+    pub passes : p item ≡ true
+
+  numbers_pass : (n : ℕ) (xs : List A) (i : ℕ) → Contains (numbers_from n p xs) i → Passes n xs i
+  numbers_pass n [] i c = Contains-nil i c
+  numbers_pass n (x ∷ xs) i c = go (p x) refl c (λ d. later (numbers_pass (n + 1) xs i d))
+    where
+      later : Passes (n + 1) xs i → Passes n (x ∷ xs) i
+      later h = let e = h.number in let l = h.within in record { place = suc h.place; item = h.item; number = omega arith; within = omega arith; is = h.is; passes = h.passes }
+
+      go : (b : Bool) → p x ≡ b → Contains (cond b (n ∷ numbers_from (n + 1) p xs) (numbers_from (n + 1) p xs)) i → (Contains (numbers_from (n + 1) p xs) i → Passes n (x ∷ xs) i) → Passes n (x ∷ xs) i
+      go true e c more = elim (Contains-cases n (numbers_from (n + 1) p xs) i c) [
+        | inl f ↦ record { place = 0; item = x; number = omega arith; within = omega arith; is = refl; passes = e }
+        | inr d ↦ more d
+      ]
+      go false e c more = more c
+
+  pub numbers_where_pass : (xs : List A) (i : ℕ) → Contains (numbers_where p xs) i → Passes 0 xs i
+  numbers_where_pass xs i c = numbers_pass 0 xs i c
+
+-- ---- numbers in a row
+
+pub range_has : (a n k : ℕ) → k < n → Contains (range_with_len a n) (a + k)
+range_has a zero k l = absurd (omega arith)
+range_has a (suc n) zero l = subst (Contains (range_with_len a (suc n))) (let e : a ≡ a + 0 = omega arith in e) (Contains-head a (range_with_len (a + 1) n))
+range_has a (suc n) (suc k) l =
+    subst (Contains (range_with_len a (suc n))) (let e : a + 1 + k ≡ a + suc k = omega arith in e) (Contains-later a (range_with_len (a + 1) n) (a + 1 + k) (range_has (a + 1) n k (omega arith)))
