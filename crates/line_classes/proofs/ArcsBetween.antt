@@ -115,28 +115,32 @@ module _ (d : Drawing) (drawn : HasPaths (snapped d)) (feature : List Polygon) (
 
 -- ---- sets of the faces that features hold
 
-module _ (d : Drawing) (drawn : HasPaths (snapped d)) (sets : List (List ℕ)) (count : ℕ) (holders : List (List ℕ)) (held : AreFacesHeld count holders (snapped d).polygons sets) where
+module _ (d : Drawing) (drawn : HasPaths (snapped d)) (layer : List ℕ) (sets : List (List ℕ)) (count : ℕ) (holders : List (List ℕ)) (held : AreFacesHeld count holders layer sets) where
   there_is : (i : ℕ) (feature : List Polygon) → slice_get (snapped d).polygons i ≡ Some feature → Contains (snapped d).polygons feature
   there_is i feature found = (i, slice_get_within (snapped d).polygons i feature found, get_or_from_slice_get (snapped d).polygons i feature feature found)
 
   features_at_side : (e : Dart) → Contains (links_of (snapped d)) e.link → (k : ℕ) → k < count → FeaturesHoldLeftOf (snapped d).polygons (list_at holders k) e →
-      AreAtSide (links_of (snapped d)) (PointsOfFeature (snapped d).polygons) e (owners_of sets k)
+      AreAtSide (links_of (snapped d)) (PointsOfFeature (snapped d).polygons layer) e (owners_of sets k)
   features_at_side e on k below by_count = record {
     rising = numbers_where_rise (λ (set : List ℕ). has nat_eq set k) sets;
     each = λ i. (
       λ c.
           let (set, found, there) = found_set sets k i c in
-          let (feature, is_feature, holds) = (by_count i).0 ((held.held i set found k below).0 there) in
-          let (z, sees, inside) = counted_then_seen d drawn feature (there_is i feature is_feature) e on holds in
-          (z, sees, (feature, is_feature, inside)),
+          let l = slice_get_within sets i set found in
+          let many = held.each in
+          let number : ℕ = get_or layer i 0 in
+          let listed : slice_get layer i ≡ Some number = slice_get-get_or layer i 0 (omega arith) in
+          let (feature, is_feature, holds) = (by_count number).0 ((held.held i number set listed found k below).0 there) in
+          let (z, sees, inside) = counted_then_seen d drawn feature (there_is number feature is_feature) e on holds in
+          (z, sees, (number, listed, feature, is_feature, inside)),
       λ h.
           let (z, sees, of_some) = h in
-          let (feature, is_feature, inside) = of_some in
-          let listed : Contains (list_at holders k) i = (by_count i).1 (feature, is_feature, seen_then_counted d drawn feature (there_is i feature is_feature) e on z sees inside) in
-          let l = slice_get_within (snapped d).polygons i feature is_feature in
+          let (number, listed, feature, is_feature, inside) = of_some in
+          let has_number : Contains (list_at holders k) number = (by_count number).1 (feature, is_feature, seen_then_counted d drawn feature (there_is number feature is_feature) e on z sees inside) in
+          let l = slice_get_within layer i number listed in
           let many = held.each in
           let found : slice_get sets i ≡ Some (get_or sets i []) = slice_get-get_or sets i [] (omega arith) in
-          set_found sets k i (get_or sets i []) found ((held.held i (get_or sets i []) found k below).1 listed),
+          set_found sets k i (get_or sets i []) found ((held.held i number (get_or sets i []) listed found k below).1 has_number),
     );
   }
 
@@ -148,14 +152,14 @@ face_below arcs faces built below a l = go a.is_reversed
     go true = let many = built.places_counted in All-get_or (λ f. f < faces.count) faces.places (place_of (backward a.arc)) 0 (omega arith) below
 
 pub sets_stand_for_features : SetsStandForFeatures
-sets_stand_for_features d drawn arcs table faces built below labels h sets held n l j e there =
+sets_stand_for_features d drawn arcs table faces built below labels h layer sets held n l j e there =
     let s = snapped_links_are_an_arrangement d in
     let (label, by) = each_table_has_labels (links_of (snapped d)) s.0 arcs table.links faces in
     let x : Dart = get_or (darts_of_path (get_or arcs n [])) j e in
     let ahead = (features_beside_arcs d drawn arcs table faces built labels h (forward n) l (face_below arcs faces built below (forward n) l) j e there).0 in
     let back = (features_beside_arcs d drawn arcs table faces built labels h (backward n) l (face_below arcs faces built below (backward n) l) j e there).0 in (
-      features_at_side d drawn sets faces.count labels.holders held x (dart_there (links_of (snapped d)) s.0 arcs table.long table.links faces label by n l j e there false) (sides.left_of faces (forward n)) (face_below arcs faces built below (forward n) l) ahead,
-      features_at_side d drawn sets faces.count labels.holders held (opposite x) (dart_there (links_of (snapped d)) s.0 arcs table.long table.links faces label by n l j e there true) (sides.left_of faces (backward n)) (face_below arcs faces built below (backward n) l) back,
+      features_at_side d drawn layer sets faces.count labels.holders held x (dart_there (links_of (snapped d)) s.0 arcs table.long table.links faces label by n l j e there false) (sides.left_of faces (forward n)) (face_below arcs faces built below (forward n) l) ahead,
+      features_at_side d drawn layer sets faces.count labels.holders held (opposite x) (dart_there (links_of (snapped d)) s.0 arcs table.long table.links faces label by n l j e there true) (sides.left_of faces (backward n)) (face_below arcs faces built below (backward n) l) back,
     )
 
 -- ---- the arcs between them
@@ -178,5 +182,5 @@ pub arcs_between_sets : ArcsBetweenSets
 arcs_between_sets S arcs faces label h sets = arcs_between S (PointsOfSet S label sets) arcs faces sets (sets_stand_for_points S arcs faces label h sets)
 
 pub arcs_between_features : ArcsBetweenFeatures
-arcs_between_features d drawn arcs table faces built below labels h sets held =
-    arcs_between (links_of (snapped d)) (PointsOfFeature (snapped d).polygons) arcs faces sets (sets_stand_for_features d drawn arcs table faces built below labels h sets held)
+arcs_between_features d drawn arcs table faces built below labels h layer sets held =
+    arcs_between (links_of (snapped d)) (PointsOfFeature (snapped d).polygons layer) arcs faces sets (sets_stand_for_features d drawn arcs table faces built below labels h layer sets held)

@@ -1,5 +1,5 @@
 -- The sides of the links of an arc, by the faces beside the arc.
-use Rattle.std.proofs.Common.{◌≡◌, ◌↔◌, inl, inr, sym, subst, arith, ℕ, ◌<◌, Bool, true, false, not, cond, nat_eq, List, [], map, length, get_or, Contains}
+use Rattle.std.proofs.Common.{◌≡◌, ◌↔◌, inl, inr, sym, subst, arith, ℕ, ◌+◌, ◌*◌, ◌<◌, Bool, true, false, not, cond, nat_eq, List, [], map, length, get_or, Contains}
 use Rattle.std.proofs.Math.IntN.{ℤ, pos, ◌*ℤ◌}
 use Rattle.std.specs.Prelude.{◌<ℤ◌}
 use Rattle.std.proofs.lemmas.Int.{ints}
@@ -25,8 +25,8 @@ use Rattle.plane_faces.specs.Rings.{dart_of_step, darts_of_path}
 use Rattle.plane_faces.proofs.Order.{place_exists}
 use Rattle.plane_faces.proofs.Sighted.{label_from_left, label_from_right}
 use Rattle.plane_faces.proofs.Sorting.{rotations_exist}
-use Rattle.face_walk.specs.Places.{FaceTable}
-use Rattle.face_classes.specs.FaceClasses.{directed_as}
+use Rattle.face_walk.specs.Places.{FaceTable, HasArc}
+use Rattle.face_classes.specs.FaceClasses.{SeesSide, directed_as}
 use Rattle.face_classes.proofs.ClassLemmas.{faces_are_classes}
 use Rattle.face_classes.proofs.DartLemmas.{twice_opposite}
 use Rattle.face_classes.proofs.PointLemmas.{whole_are_free}
@@ -34,7 +34,7 @@ use Rattle.face_classes.proofs.SideLemmas.{dart_there, label_there}
 use Rattle.ring_trace.proofs.BoundaryLemmas.{has_Contains, Contains_has}
 use Rattle.line_ops.specs.Inside as sides
 use Rattle.point_classes.specs.PointClasses.{PointsOf}
-use Rattle.line_classes.specs.LineClasses.{AreLabelled, LeftSideIn, IsLinkInside, HasJustOne, DrawingsAreLabelled, SidesOfArcs, ArcsAreInside, BoundaryOfArcs}
+use Rattle.line_classes.specs.LineClasses.{AreLabelled, LeftSideIn, IsLinkInside, HasJustOne, DrawingsAreLabelled, SidesOfArcs, ArcsAreInside, BoundaryOfArcs, BoundaryIsDirected, SidesAreWhole}
 
 pub drawings_are_labelled : DrawingsAreLabelled
 drawings_are_labelled d arcs table faces built label by =
@@ -95,6 +95,15 @@ module _ (S : List Segment) (arr : IsArrangement S) (distinct : IsDistinct S) (l
 
   pub side_of_dart : (d : Dart) → Contains S d.link → LeftSideIn S (PointsOf S label set) d ↔ Contains set (label (left_of d))
   side_of_dart d c = side_of_link d.forward d.link c
+
+  -- what sees a side of a link is in the points of a set if the set has its label
+  seen_side : (b : Bool) (l : Segment) → Contains S l → Contains set (label (left_of (record { link = l; forward = b }))) → (z : RationalPoint) → SeesSide S b l z → PointsOf S label set z
+  seen_side true l c has_label z sees =
+      let (a, here) = place_exists S arr z in
+      (left_off S l z sees.0 sees.1, (a, here, subst (Contains set) (sym (label_from_left S arr distinct (rotations_exist S arr distinct) label agrees l c z sees a here)) has_label))
+  seen_side false l c has_label z sees =
+      let (a, here) = place_exists S arr z in
+      (right_off S l z sees.0 sees.1, (a, here, subst (Contains set) (sym (label_from_right S arr distinct (rotations_exist S arr distinct) label agrees l c z sees a here)) has_label))
 
 -- ---- the links of an arc
 
@@ -192,3 +201,20 @@ arcs_are_inside S arcs faces label h set a below j l there =
 pub boundary_of_arcs : BoundaryOfArcs
 boundary_of_arcs S arcs faces label h set a below j l there =
     boundary_by_sides S arcs faces label h set a below (get_or (links_of_arc arcs a.arc) j l) (sides_at S arcs faces label h set a below j l there)
+
+-- ---- the boundary as it is directed, and all that sees a side
+
+has_arc : (arcs : List Path) (faces : FaceTable) → length faces.places ≡ 2 * length arcs + 1 → (a : SignedArc) → a.arc < length arcs → HasArc faces a
+has_arc arcs faces many a below = omega arith
+
+pub boundary_is_directed : BoundaryIsDirected
+boundary_is_directed S arcs faces label h set a below j e there =
+    let (on_left, on_right) = sides_of_arcs S arcs faces label h set a below j e there in (
+      λ b. (on_left.1 b.left, λ r. b.right (on_right.0 r)),
+      λ p. record { arc = has_arc arcs faces h.built.places_counted a below; left = on_left.0 p.0; right = λ r. p.1 (on_right.1 r) },
+    )
+
+pub sides_are_whole : SidesAreWhole
+sides_are_whole S arcs faces label h set d c in_set z sees =
+    let agrees = labels_agree S arcs faces label h in
+    seen_side S h.arrangement h.distinct label agrees set d.forward d.link c ((side_of_dart S h.arrangement h.distinct label agrees set d c).0 in_set) z sees

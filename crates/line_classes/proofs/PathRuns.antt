@@ -1,8 +1,8 @@
 -- Paths cut by a set of faces: from runs of arcs to runs of steps.
-use Rattle.std.proofs.Common.{◌≡◌, ◌↔◌, inl, inr, refl, sym, ap, ◌∙◌, subst, arith, ℕ, suc, ◌-◌, ◌<◌, Bool, true, false, not, ◌||◌, nat_eq, List, [], ◌∷◌, map, reverse, length, get_or, All, Contains, append-nil}
+use Rattle.std.proofs.Common.{◌≡◌, ◌↔◌, inl, inr, refl, sym, ap, ◌∙◌, subst, arith, ℕ, suc, ◌-◌, ◌<◌, Bool, true, false, not, ◌||◌, nat_eq, List, [], ◌∷◌, ◌++◌, map, reverse, length, get_or, All, Contains, append-nil}
 use Rattle.std.specs.List.{flat_map}
 use Rattle.std.proofs.lemmas.Bool.{cases_lt, or_cases, or_left, or_right}
-use Rattle.std.proofs.lemmas.List.{get_or-reverse, length-reverse}
+use Rattle.std.proofs.lemmas.List.{get_or-reverse, length-reverse, map-append}
 use Rattle.std.proofs.lemmas.List.Elements.{All-contains, All-weaker}
 use Rattle.lists.specs.Lists.{has}
 use Rattle.lists.proofs.Members.{Contains-map, joined_up-Contains}
@@ -25,7 +25,7 @@ use Rattle.ring_trace.proofs.BoundaryLemmas.{has_Contains, Contains_has}
 use Rattle.line_ops.specs.Inside.{is_inside, is_outside}
 use Rattle.line_ops.specs.Runs.{runs_where}
 use Rattle.point_classes.specs.PointClasses.{PointsOf}
-use Rattle.line_classes.specs.LineClasses.{AreLabelled, AreCutInto, TestsInside, IsLinkInside, goes_inside, goes_outside, steps_of_run, InsideIsTested, PathsAreCut, LinesAreCut}
+use Rattle.line_classes.specs.LineClasses.{AreLabelled, AreCutInto, TestsInside, IsLinkInside, goes_inside, goes_outside, steps_of_run, InsideIsTested, PathsAreCut, LinesAreCut, LineFeaturesAreCut}
 use Rattle.line_classes.proofs.LinkSides.{arcs_are_inside, drawings_are_labelled, labels_agree, side_of_dart}
 use Rattle.line_classes.proofs.RunPieces.{IsPiece, map_alike, runs_are_pieces}
 use Rattle.line_classes.proofs.RunSteps.{AreLinked, IsChain, chain_linked, linked_steps, runs_linked, steps_along, steps_chain}
@@ -161,3 +161,25 @@ lines_are_cut d drawn arcs table faces built label by set line is_line named the
         let whole : round_from along.first line ≡ line = ap (λ (k : ℕ). round_from k line) at_start ∙ append-nil line in
         subst (λ (path : Path). AreCutInto (links_of (snapped d)) (PointsOf (links_of (snapped d)) label set) arcs faces set named (steps path)) whole
         (paths_are_cut d arcs table faces built label by set line named there along)
+
+-- ---- line features
+
+-- lists that are cut one by one, for the lines one by one
+cut_each : (cut : List SignedArc → List (List SignedArc)) (join : List SignedArc → List Segment) (runs : Path → List (List Segment)) (lines : List Path) (named : List (List SignedArc)) → length named ≡ length lines →
+    ((k : ℕ) → k < length lines → map join (cut (get_or named k [])) ≡ runs (get_or lines k [])) → map join (flat_map cut named) ≡ flat_map runs lines
+cut_each cut join runs [] [] size h = refl
+cut_each cut join runs [] (a ∷ named) size h = absurd (omega arith)
+cut_each cut join runs (line ∷ lines) [] size h = absurd (omega arith)
+cut_each cut join runs (line ∷ lines) (a ∷ named) size h =
+    map-append join (cut a) (flat_map cut named) ∙ (λ i. h 0 (omega arith) i ++ cut_each cut join runs lines named (omega arith) (λ k l. h (suc k) (omega arith)) i)
+
+pub line_features_are_cut : LineFeaturesAreCut
+line_features_are_cut d drawn arcs table faces built label by set lines named h test tests = (
+  cut_each (runs_where (is_inside faces set)) (steps_of_run arcs) (λ (line : Path). runs_where (goes_inside test) (steps line)) lines named h.each (λ k l. (one k l).clipped test tests),
+  cut_each (runs_where (is_outside faces set)) (steps_of_run arcs) (λ (line : Path). runs_where (goes_outside test) (steps line)) lines named h.each (λ k l. (one k l).erased test tests),
+)
+  where
+    one : (k : ℕ) → k < length lines → AreCutInto (links_of (snapped d)) (PointsOf (links_of (snapped d)) label set) arcs faces set (get_or named k []) (steps (get_or lines k []))
+    one k l =
+        let many = h.each in
+        lines_are_cut d drawn arcs table faces built label by set (get_or lines k []) (h.of_drawing k [] l) (get_or named k []) (h.there k [] (omega arith)) (h.along k l)

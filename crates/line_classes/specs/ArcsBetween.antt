@@ -23,9 +23,9 @@ use Rattle.line_classes.specs.LineClasses.{AreLabelled, LeftSideIn}
 abbrev pub PointsOfSet : List Segment → (Place → ℕ) → List (List ℕ) → ℕ → Points
 PointsOfSet S label sets i z = (set : List ℕ) × (slice_get sets i ≡ Some set) × PointsOf S label set z
 
--- the points that a feature holds, by its number
-abbrev pub PointsOfFeature : List (List Polygon) → ℕ → Points
-PointsOfFeature features i z = (feature : List Polygon) × (slice_get features i ≡ Some feature) × (feature_holds z feature ≡ true)
+-- the points that a feature of a layer holds, by its number there: the layer has these numbers of features of the drawing
+abbrev pub PointsOfFeature : List (List Polygon) → List ℕ → ℕ → Points
+PointsOfFeature features layer i z = (number : ℕ) × (slice_get layer i ≡ Some number) × (feature : List Polygon) × (slice_get features number ≡ Some feature) × (feature_holds z feature ≡ true)
 
 -- the numbers, rising, of the regions that have the left side of a directed link
 pub record AreAtSide (S : List Segment) (R : ℕ → Points) (d : Dart) (numbers : List ℕ) : Type 0 where
@@ -51,10 +51,10 @@ pub record AreBetween (S : List Segment) (R : ℕ → Points) (arcs : List Path)
   pub there : All (λ (s : SidedArc). s.arc < length arcs) sided
   pub by_sides : (n : ℕ) → n < length arcs → All (λ (e : Dart). (left right : List ℕ) → AreAtSide S R e left → AreAtSide S R (opposite e) right → IsSidedBy sided n left right) (darts_of_path (slice_index_or arcs n []))
 
--- the sets of faces that so many faces with lists of holders give: the set of a feature has the faces that it holds
-pub record AreFacesHeld (count : ℕ) (holders : List (List ℕ)) (features : List (List Polygon)) (sets : List (List ℕ)) : Type 0 where
-  pub each : length sets ≡ length features
-  pub held : (i : ℕ) (set : List ℕ) → slice_get sets i ≡ Some set → (f : ℕ) → f < count → Contains set f ↔ Contains (list_at holders f) i
+-- the sets of a layer of features: the set of each has the faces of so many that have the feature among their holders
+pub record AreFacesHeld (count : ℕ) (holders : List (List ℕ)) (layer : List ℕ) (sets : List (List ℕ)) : Type 0 where
+  pub each : length sets ≡ length layer
+  pub held : (i number : ℕ) (set : List ℕ) → slice_get layer i ≡ Some number → slice_get sets i ≡ Some set → (f : ℕ) → f < count → Contains set f ↔ Contains (list_at holders f) number
 
 -- ---- laws
 
@@ -62,20 +62,20 @@ pub record AreFacesHeld (count : ℕ) (holders : List (List ℕ)) (features : Li
 abbrev pub SetsStandForPoints : Type 0
 SetsStandForPoints = (S : List Segment) (arcs : List Path) (faces : FaceTable) (label : Place → ℕ) → AreLabelled S arcs faces label → (sets : List (List ℕ)) → SetsStandFor S (PointsOfSet S label sets) arcs faces sets
 
--- the sets of the faces that the features of a snapped drawing hold stand for the points that they hold
+-- the sets of the faces that features of a snapped drawing hold stand for the points that they hold
 abbrev pub SetsStandForFeatures : Type 0
 SetsStandForFeatures = (d : Drawing) → HasPaths (snapped d) → (arcs : List Path) → AreArcsOf (snapped d) arcs → (faces : FaceTable) → IsBuiltOf arcs faces → All (λ f. f < faces.count) faces.places →
-    (labels : HolderTable) → AreHolders arcs (snapped d) faces labels → (sets : List (List ℕ)) → AreFacesHeld faces.count labels.holders (snapped d).polygons sets →
-    SetsStandFor (links_of (snapped d)) (PointsOfFeature (snapped d).polygons) arcs faces sets
+    (labels : HolderTable) → AreHolders arcs (snapped d) faces labels → (layer : List ℕ) (sets : List (List ℕ)) → AreFacesHeld faces.count labels.holders layer sets →
+    SetsStandFor (links_of (snapped d)) (PointsOfFeature (snapped d).polygons layer) arcs faces sets
 
 -- so the arcs whose two sides are in different sets are those between the points of the sets
 abbrev pub ArcsBetweenSets : Type 0
 ArcsBetweenSets = (S : List Segment) (arcs : List Path) (faces : FaceTable) (label : Place → ℕ) → AreLabelled S arcs faces label → (sets : List (List ℕ)) →
     AreBetween S (PointsOfSet S label sets) arcs (sided_among faces sets (length arcs))
 
--- and in a snapped drawing they are the arcs for which the lists of the features that have the left and the right side differ, and the inner ones
--- those for which, besides, neither list is empty
+-- and for features of a snapped drawing they are the arcs for which the lists of the features that have the left and the right side differ, and
+-- the inner ones those for which, besides, neither list is empty
 abbrev pub ArcsBetweenFeatures : Type 0
 ArcsBetweenFeatures = (d : Drawing) → HasPaths (snapped d) → (arcs : List Path) → AreArcsOf (snapped d) arcs → (faces : FaceTable) → IsBuiltOf arcs faces → All (λ f. f < faces.count) faces.places →
-    (labels : HolderTable) → AreHolders arcs (snapped d) faces labels → (sets : List (List ℕ)) → AreFacesHeld faces.count labels.holders (snapped d).polygons sets →
-    AreBetween (links_of (snapped d)) (PointsOfFeature (snapped d).polygons) arcs (sided_among faces sets (length arcs))
+    (labels : HolderTable) → AreHolders arcs (snapped d) faces labels → (layer : List ℕ) (sets : List (List ℕ)) → AreFacesHeld faces.count labels.holders layer sets →
+    AreBetween (links_of (snapped d)) (PointsOfFeature (snapped d).polygons layer) arcs (sided_among faces sets (length arcs))

@@ -1,4 +1,5 @@
 -- The links of arcs by the sides that belong to a set of faces: what is inside, and what is on the boundary.
+use Rattle.std.specs.List.{flat_map}
 use Rattle.std.specs.Prelude.{◌≡◌, ◌⊎◌, ◌↔◌, ℕ, ◌<◌, Bool, true, not, List, [], All, Contains, length, map, slice_index_or}
 use Rattle.plane_model.specs.Points.{RationalPoint, Segment, Path, link_between}
 use Rattle.plane_model.specs.Arcs.{SignedArc, joined_points}
@@ -17,6 +18,7 @@ use Rattle.arc_table.specs.Nodes.{IsLineOf}
 use Rattle.arc_table.specs.PathArcs.{AreArcsOf, ArePathArcs, RunsFrom, round_from}
 use Rattle.face_walk.specs.Places.{FaceTable, IsBuiltOf}
 use Rattle.face_classes.specs.FaceClasses.{AreFreeInside, IsFaceOfPlace, SeesSide, directed_as}
+use Rattle.ring_trace.specs.Boundary.{IsOnBoundary}
 use Rattle.line_ops.specs.Inside.{is_inside, is_outside, left_of, right_of}
 use Rattle.line_ops.specs.Runs.{runs_where}
 use Rattle.point_classes.specs.PointClasses.{PointsOf}
@@ -87,6 +89,17 @@ abbrev pub BoundaryOfArcs : Type 0
 BoundaryOfArcs = (S : List Segment) (arcs : List Path) (faces : FaceTable) (label : Place → ℕ) → AreLabelled S arcs faces label → (set : List ℕ) → (a : SignedArc) → a.arc < length arcs →
     All (λ (l : Segment). IsBoundaryLink S (PointsOf S label set) l ↔ HasJustOne set (left_of faces a) (right_of faces a)) (links_of_arc arcs a.arc)
 
+-- a signed arc is on the boundary of a set, as it is traced, exactly if of each of its links, directed as the arc, the left side is in the points
+-- of the set and the right side is not
+abbrev pub BoundaryIsDirected : Type 0
+BoundaryIsDirected = (S : List Segment) (arcs : List Path) (faces : FaceTable) (label : Place → ℕ) → AreLabelled S arcs faces label → (set : List ℕ) → (a : SignedArc) → a.arc < length arcs →
+    All (λ (e : Dart). IsOnBoundary faces set a ↔ (LeftSideIn S (PointsOf S label set) (directed_as a e) × (LeftSideIn S (PointsOf S label set) (opposite (directed_as a e)) → ⊥))) (darts_of_path (slice_index_or arcs a.arc []))
+
+-- if some point that sees a side of a link is in the points of a set, each point that sees it is
+abbrev pub SidesAreWhole : Type 0
+SidesAreWhole = (S : List Segment) (arcs : List Path) (faces : FaceTable) (label : Place → ℕ) → AreLabelled S arcs faces label → (set : List ℕ) → (d : Dart) → Contains S d.link →
+    LeftSideIn S (PointsOf S label set) d → (z : RationalPoint) → SeesSide S d.forward d.link z → PointsOf S label set z
+
 -- ---- paths
 
 -- some test holds of just the links that are inside the points of a set
@@ -105,3 +118,17 @@ abbrev pub LinesAreCut : Type 0
 LinesAreCut = (d : Drawing) → HasPaths (snapped d) → (arcs : List Path) → AreArcsOf (snapped d) arcs → (faces : FaceTable) → IsBuiltOf arcs faces → (label : Place → ℕ) → IsFaceOfPlace arcs faces label → (set : List ℕ) →
     (line : Path) → IsLineOf (snapped d) line → (named : List SignedArc) → All (λ a. a.arc < length arcs) named → ArePathArcs (snapped d) arcs line named →
     AreCutInto (links_of (snapped d)) (PointsOf (links_of (snapped d)) label set) arcs faces set named (steps line)
+
+-- the arcs of each of these lines
+pub record AreArcsOfLines (d : Drawing) (arcs : List Path) (lines : List Path) (named : List (List SignedArc)) : Type 0 where
+  pub each : length named ≡ length lines
+  pub of_drawing : All (IsLineOf d) lines
+  pub there : All (All (λ a. a.arc < length arcs)) named
+  pub along : (k : ℕ) → k < length lines → ArePathArcs d arcs (slice_index_or lines k []) (slice_index_or named k [])
+
+-- and so it is with a line feature, path by path, in order
+abbrev pub LineFeaturesAreCut : Type 0
+LineFeaturesAreCut = (d : Drawing) → HasPaths (snapped d) → (arcs : List Path) → AreArcsOf (snapped d) arcs → (faces : FaceTable) → IsBuiltOf arcs faces → (label : Place → ℕ) → IsFaceOfPlace arcs faces label → (set : List ℕ) →
+    (lines : List Path) (named : List (List SignedArc)) → AreArcsOfLines (snapped d) arcs lines named → (test : Segment → Bool) → TestsInside (links_of (snapped d)) (PointsOf (links_of (snapped d)) label set) test →
+    (map (steps_of_run arcs) (flat_map (runs_where (is_inside faces set)) named) ≡ flat_map (λ (line : Path). runs_where (goes_inside test) (steps line)) lines)
+    × (map (steps_of_run arcs) (flat_map (runs_where (is_outside faces set)) named) ≡ flat_map (λ (line : Path). runs_where (goes_outside test) (steps line)) lines)

@@ -1,11 +1,12 @@
-//! What lines and arcs are inside is what rational points show: an arc is inside a set of faces exactly if each of its
-//! links has a side that points of these faces see.
+//! What lines and arcs are inside is what rational points show: an arc is inside a set of faces exactly if points of these
+//! faces see a side of each of its links. So the paths that a set cuts out are maximal runs of steps along such links, and
+//! the arcs between features are those whose links have different features at their two sides.
 //!
 //! Each function carries one law in its contract, and does nothing.
 #![tactic(auto)]
 
 ghost use Rattle.line_classes.specs.ArcsBetween.{ArcsBetweenFeatures, ArcsBetweenSets, SetsStandForFeatures, SetsStandForPoints};
-ghost use Rattle.line_classes.specs.LineClasses.{ArcsAreInside, BoundaryOfArcs, DrawingsAreLabelled, InsideIsTested, LinesAreCut, PathsAreCut, SidesOfArcs};
+ghost use Rattle.line_classes.specs.LineClasses.{ArcsAreInside, BoundaryIsDirected, BoundaryOfArcs, DrawingsAreLabelled, InsideIsTested, LineFeaturesAreCut, LinesAreCut, PathsAreCut, SidesAreWhole, SidesOfArcs};
 
 /// These laws are true of the faces of the arcs of a snapped drawing.
 pub fn drawings_are_labelled()
@@ -29,6 +30,17 @@ pub fn boundary_of_arcs()
     ensures { BoundaryOfArcs }
 {}
 
+/// A signed arc is on the boundary of a set, as it is traced, exactly if the left sides of its links are in the points of the
+/// set, and the right sides are not.
+pub fn boundary_is_directed()
+    ensures { BoundaryIsDirected }
+{}
+
+/// If some point that sees a side of a link is in the points of a set, each point that sees it is.
+pub fn sides_are_whole()
+    ensures { SidesAreWhole }
+{}
+
 /// Some test holds of just those links that are inside the points of a set.
 pub fn inside_is_tested()
     ensures { InsideIsTested }
@@ -45,13 +57,18 @@ pub fn lines_are_cut()
     ensures { LinesAreCut }
 {}
 
+/// And with a line feature, path by path.
+pub fn line_features_are_cut()
+    ensures { LineFeaturesAreCut }
+{}
+
 /// The sets of a list stand for their points: the sets at the two sides of an arc are those whose points see the two sides
 /// of each of its links.
 pub fn sets_stand_for_points()
     ensures { SetsStandForPoints }
 {}
 
-/// The sets of the faces that the features of a snapped drawing hold stand so for the points that the features hold.
+/// The sets of the faces that features of a snapped drawing hold stand so for the points that the features hold.
 pub fn sets_stand_for_features()
     ensures { SetsStandForFeatures }
 {}
@@ -62,7 +79,7 @@ pub fn arcs_between_sets()
     ensures { ArcsBetweenSets }
 {}
 
-/// And in a snapped drawing they are the arcs of whose links the lists of the features that have the left and the right
+/// And for features of a snapped drawing they are the arcs of whose links the lists of the features that have the left and the right
 /// side differ, with the lowest feature at each side.
 pub fn arcs_between_features()
     ensures { ArcsBetweenFeatures }
