@@ -1,0 +1,10 @@
+pub mod Walked
+pub mod Held
+pub mod Numbers
+pub mod Sets
+pub mod Least
+pub mod OffLinks
+pub mod Sides
+pub mod Parts
+pub mod PartLaws
+pub mod Mosaics

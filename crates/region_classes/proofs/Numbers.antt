@@ -1,0 +1,96 @@
+-- Numbers of elements that pass a test.
+use Rattle.std.proofs.Common.{◌≡◌, inl, inr, refl, sym, ap, subst, ◌∙◌, arith, ℕ, zero, suc, ◌+◌, ◌<◌, Bool, true, false, cond, ◌||◌, List, [], ◌∷◌, Contains, length, get_or, nat_eq, nat_lt}
+use Rattle.std.specs.List.{list_any, range_with_len}
+use Rattle.std.proofs.lemmas.Bool.{lt-ltb}
+use Rattle.std.proofs.lemmas.List.FromFn.{get_or-range_with_len, length-range_with_len}
+use Rattle.lists.specs.Lists.{has, numbers_from}
+use Rattle.lists.proofs.Ascending.{IsAscending}
+use Rattle.lists.proofs.Members.{Contains-cases, Contains-head, Contains-later, Contains-nil}
+use Rattle.ring_trace.specs.Owners.{owners_of}
+use Rattle.ring_trace.proofs.BoundaryLemmas.{Contains_has, has_Contains}
+
+pub any_there : {X : Type 0} (t : X → Bool) (xs : List X) → list_any t xs ≡ true → (x : X) × Contains xs x × (t x ≡ true)
+any_there t [] e = absurd (let f : false ≡ true = e in cc)
+any_there {X} t (x ∷ xs) e = go (t x) refl e (any_there t xs)
+  where
+    go : (b : Bool) → t x ≡ b → (b || list_any t xs) ≡ true → (list_any t xs ≡ true → (y : X) × Contains xs y × (t y ≡ true)) → (y : X) × Contains (x ∷ xs) y × (t y ≡ true)
+    go true is f later = (x, Contains-head x xs, is)
+    go false is f later = let (y, there, passes) = later f in (y, Contains-later x xs y there, passes)
+
+pub there_any : {X : Type 0} (t : X → Bool) (xs : List X) (x : X) → Contains xs x → t x ≡ true → list_any t xs ≡ true
+there_any t [] x c e = Contains-nil x c
+there_any t (y ∷ xs) x c e = elim (Contains-cases y xs x c) [
+  | inl same ↦ ap (λ (b : Bool). b || list_any t xs) (ap t same ∙ e)
+  | inr d ↦ go (t y) (there_any t xs x d e)
+]
+  where
+    go : (b : Bool) → list_any t xs ≡ true → (b || list_any t xs) ≡ true
+    go true f = refl
+    go false f = f
+
+-- the numbers below n
+pub in_range : (n m : ℕ) → m < n → Contains (range_with_len 0 n) m
+in_range n m l = (m, (let e = length-range_with_len 0 n in omega arith), get_or-range_with_len 0 n m m l ∙ (let same : 0 + m ≡ m = omega arith in same))
+
+pub of_range : (n m : ℕ) → Contains (range_with_len 0 n) m → m < n
+of_range n m (i, l, e) =
+    let size = length-range_with_len 0 n in
+    let is = get_or-range_with_len 0 n i m (omega arith) in
+    omega arith
+
+-- the numbers of the elements that pass
+pub in_numbers : {X : Type 0} (k : ℕ) (test : X → Bool) (xs : List X) (n : ℕ) (d : X) → n < length xs → test (get_or xs n d) ≡ true → Contains (numbers_from k test xs) (k + n)
+in_numbers k test [] n d l e = absurd (omega arith)
+in_numbers k test (x ∷ xs) zero d l e =
+    let same : k ≡ k + 0 = omega arith in
+    subst (λ (b : Bool). Contains (cond b (k ∷ numbers_from (k + 1) test xs) (numbers_from (k + 1) test xs)) (k + 0)) (sym e) (0, omega arith, same)
+in_numbers k test (x ∷ xs) (suc n) d l e =
+    let same : k + 1 + n ≡ k + suc n = omega arith in
+    go (test x) (subst (λ (m : ℕ). Contains (numbers_from (k + 1) test xs) m) same (in_numbers (k + 1) test xs n d (omega arith) e))
+  where
+    go : (b : Bool) → Contains (numbers_from (k + 1) test xs) (k + suc n) → Contains (cond b (k ∷ numbers_from (k + 1) test xs) (numbers_from (k + 1) test xs)) (k + suc n)
+    go true c = Contains-later k (numbers_from (k + 1) test xs) (k + suc n) c
+    go false c = c
+
+pub of_numbers : {X : Type 0} (k : ℕ) (test : X → Bool) (xs : List X) (m : ℕ) (d : X) → Contains (numbers_from k test xs) m → (n : ℕ) × (m ≡ k + n) × (n < length xs) × (test (get_or xs n d) ≡ true)
+of_numbers k test [] m d c = Contains-nil m c
+of_numbers {X} k test (x ∷ xs) m d c = go (test x) refl (of_numbers (k + 1) test xs m d) c
+  where
+    later : ((n : ℕ) × (m ≡ k + 1 + n) × (n < length xs) × (test (get_or xs n d) ≡ true)) → (n : ℕ) × (m ≡ k + n) × (n < length (x ∷ xs)) × (test (get_or (x ∷ xs) n d) ≡ true)
+    later (n, is, below, passes) = (suc n, omega arith, omega arith, passes)
+
+    go : (b : Bool) → test x ≡ b → (Contains (numbers_from (k + 1) test xs) m → (n : ℕ) × (m ≡ k + 1 + n) × (n < length xs) × (test (get_or xs n d) ≡ true)) →
+        Contains (cond b (k ∷ numbers_from (k + 1) test xs) (numbers_from (k + 1) test xs)) m → (n : ℕ) × (m ≡ k + n) × (n < length (x ∷ xs)) × (test (get_or (x ∷ xs) n d) ≡ true)
+    go true e more c = elim (Contains-cases k (numbers_from (k + 1) test xs) m c) [
+      | inl same ↦ (0, omega arith, omega arith, e)
+      | inr rest ↦ later (more rest)
+    ]
+    go false e more c = later (more c)
+
+-- the sets that have a face
+pub in_owners : (sets : List (List ℕ)) (k m : ℕ) → m < length sets → Contains (get_or sets m []) k → Contains (owners_of sets k) m
+in_owners sets k m below there =
+    let same : 0 + m ≡ m = omega arith in
+    subst (λ (i : ℕ). Contains (owners_of sets k) i) same (in_numbers 0 (λ (set : List ℕ). has nat_eq set k) sets m [] below (Contains_has (get_or sets m []) k there))
+
+pub of_owners : (sets : List (List ℕ)) (k m : ℕ) → Contains (owners_of sets k) m → (m < length sets) × Contains (get_or sets m []) k
+of_owners sets k m c =
+    let (j, same, below, has_face) = of_numbers 0 (λ (set : List ℕ). has nat_eq set k) sets m [] c in
+    let is_j : j ≡ m = omega arith in
+    (omega arith, has_Contains (get_or sets m []) k (subst (λ (i : ℕ). has nat_eq (get_or sets i []) k ≡ true) is_j has_face))
+
+-- they rise
+pub numbers_rise : {X : Type 0} (k : ℕ) (test : X → Bool) (xs : List X) → IsAscending nat_lt (numbers_from k test xs)
+numbers_rise k test [] = tt
+numbers_rise {X} k test (x ∷ xs) = go (test x) (λ m c. later m (of_numbers (k + 1) test xs m x c)) (numbers_rise (k + 1) test xs)
+  where
+    later : (m : ℕ) → ((n : ℕ) × (m ≡ k + 1 + n) × (n < length xs) × (test (get_or xs n x) ≡ true)) → nat_lt k m ≡ true
+    later m (n, is, below, passes) = lt-ltb k m (omega arith)
+
+    go : (b : Bool) → ((m : ℕ) → Contains (numbers_from (k + 1) test xs) m → nat_lt k m ≡ true) → IsAscending nat_lt (numbers_from (k + 1) test xs) →
+        IsAscending nat_lt (cond b (k ∷ numbers_from (k + 1) test xs) (numbers_from (k + 1) test xs))
+    go true first rest = (first, rest)
+    go false first rest = rest
+
+pub owners_rise : (sets : List (List ℕ)) (k : ℕ) → IsAscending nat_lt (owners_of sets k)
+owners_rise sets k = numbers_rise 0 (λ (set : List ℕ). has nat_eq set k) sets

@@ -1,0 +1,90 @@
+//! The sets of faces that commands on polygons answer follow the regions of the plane that the commands stand for: a
+//! rational point on no link is in the region exactly if its face is in the set.
+//!
+//! Each function carries one law in its contract, and does nothing.
+#![tactic(auto)]
+
+ghost use Rattle.region_classes.specs.RegionClasses.{
+  BoxesAreFollowed,
+  CleanedSetsAreFollowed,
+  ClippedSetsAreFollowed,
+  DissolvedSetsAreFollowed,
+  ErasedSetsAreFollowed,
+  ExactlyHasPoints,
+  ExplodedSetsAreFollowed,
+  FeaturesAreFollowed,
+  MeetsAreFollowed,
+  MosaicsAreFollowed,
+  PartsAreFollowed,
+  RemaindersAreFollowed,
+  UnionsAreFollowed,
+};
+
+/// The faces that a polygon feature holds follow the feature.
+pub fn features_are_followed()
+    ensures { FeaturesAreFollowed }
+{}
+
+/// The faces that a box holds follow the box.
+pub fn boxes_are_followed()
+    ensures { BoxesAreFollowed }
+{}
+
+/// The union of two sets follows any of their regions.
+pub fn unions_are_followed()
+    ensures { UnionsAreFollowed }
+{}
+
+/// The faces of two sets follow both of their regions.
+pub fn meets_are_followed()
+    ensures { MeetsAreFollowed }
+{}
+
+/// The faces of a set that are not in another follow its region less that of the other.
+pub fn remainders_are_followed()
+    ensures { RemaindersAreFollowed }
+{}
+
+/// The sets that `clip_sets` answers follow their regions within that of the source.
+pub fn clipped_sets_are_followed()
+    ensures { ClippedSetsAreFollowed }
+{}
+
+/// The sets that `erase_sets` answers follow their regions less that of the source.
+pub fn erased_sets_are_followed()
+    ensures { ErasedSetsAreFollowed }
+{}
+
+/// The sets that `dissolve_sets` answers follow any of the regions of the members of their groups.
+pub fn dissolved_sets_are_followed()
+    ensures { DissolvedSetsAreFollowed }
+{}
+
+/// The sets that `clean_sets` answers follow their regions less any of those that rank before them.
+pub fn cleaned_sets_are_followed()
+    ensures { CleanedSetsAreFollowed }
+{}
+
+/// The sets that `parts` answers for a set follow the parts of its region, in their order: two points of the region are in
+/// one part where no closed runs of its boundary separate them, and parts are numbered by the least arcs in their
+/// boundaries.
+pub fn parts_are_followed()
+    ensures { PartsAreFollowed }
+{}
+
+/// The items that `explode_sets` answers follow the parts of the regions, region by region; an empty region stays one item.
+pub fn exploded_sets_are_followed()
+    ensures { ExplodedSetsAreFollowed }
+{}
+
+/// What just some of the regions have, as meets, unions and what is left of them, has a point exactly if these regions have
+/// it and no others.
+pub fn exactly_has_points()
+    ensures { ExactlyHasPoints }
+{}
+
+/// The items that `mosaic_sets` answers are, for each list of numbers of which just the regions have some point, in
+/// lexicographic order, those of the parts of what these regions have.
+pub fn mosaics_are_followed()
+    ensures { MosaicsAreFollowed }
+{}
