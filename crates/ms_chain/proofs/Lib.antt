@@ -8,3 +8,5 @@ pub mod Looks
 pub mod Rows
 pub mod Steps
 pub mod Titles
+pub mod Growth
+pub mod LayerByLayer

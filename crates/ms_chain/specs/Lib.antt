@@ -1,5 +1,6 @@
 pub mod Decoding
 pub mod Effects
+pub mod Begun
 pub mod Formats
 pub mod Budget
 pub mod Gathering
@@ -10,3 +11,8 @@ pub mod Status
 pub mod Telling
 pub mod Looks
 pub mod Titles
+pub mod Commands
+pub mod Features
+pub mod Shapes
+pub mod Targets
+pub mod Written

@@ -1,5 +1,5 @@
 -- A run of commands in order: what is written, and how it ends.
-use Rattle.std.specs.Prelude.{◌≡◌, ℕ, ◌+◌, ◌⊎◌, ⊤, Bool, List, [], ◌∷◌, Result, Ok, Err}
+use Rattle.std.specs.Prelude.{◌≡◌, ℕ, ◌+◌, ◌⊎◌, Bool, true, false, List, [], ◌∷◌, Result, Ok, Err}
 use Rattle.io_core.specs.Contents.{Content, SameFiles}
 use Rattle.cmd_words.specs.Expressions.{Refusals, AreRefusals}
 use Rattle.cmd_words.specs.Tells.{Tells, FitsJob}
@@ -11,16 +11,25 @@ use Rattle.cmd_words.specs.declared.job.Job.TheVariants as job
 use Rattle.cmd_words.specs.declared.job.Chain.{Chain}
 use Rattle.cmd_words.specs.declared.job.Command.{Command}
 use Rattle.cmd_words.specs.declared.job.Action.{Action}
+use Rattle.cmd_words.specs.declared.job.OutForm.{OutForm}
 use Rattle.cmd_words.specs.declared.job.Action.TheVariants as action
 use Rattle.ms_chain.specs.Effects.{OutsideSeen, CountsGrew, WroteText, WriteRose, CutsText}
 use Rattle.std.specs.Io.KnownBytes.{Appends}
 use Rattle.io_core.specs.Counts.{Rose}
 use Rattle.geojson_io.specs.LayerContent.{LayerContent}
+use Rattle.ms_chain.specs.Begun.{IsUnbegun}
 use Rattle.ms_chain.specs.Sources.{SourcesSeen, StopsAtSource, GivesAll}
 use Rattle.ms_chain.specs.Telling.{StreamSeen, AddsFront}
 use Rattle.ms_chain.specs.declared.outcome.Outcome.{Outcome}
 use Rattle.ms_chain.specs.declared.outcome.Outcome.TheVariants as outcome
 use Rattle.ms_chain.specs.declared.outcome.RefuseWhy.{RefuseWhy}
+use Rattle.ms_chain.specs.Targets.{first_layers, has_target, targets}
+use Rattle.ms_chain.specs.Commands.{Base, Changes}
+use Rattle.ms_chain.specs.Written.{OutputSays}
+use Rattle.ms_chain.specs.declared.layer.Layer.{Layer}
+use Rattle.ms_chain.specs.declared.outcome.RefuseWhy.TheVariants.{NoLayer}
+use Rattle.ms_chain.specs.declared.state.Held.{Held}
+use Rattle.ms_chain.specs.declared.state.State.{State}
 
 -- ---- one command
 
@@ -41,29 +50,42 @@ abbrev pub EndsRun : ℕ → Action → OutsideSeen → OutsideSeen → Outcome 
 EndsRun n (action.Write to standard form) before after o = (Stops n o × (after ≡ before)) ⊎ FailsToWrite n standard to before after o
 EndsRun n _ before after o = Stops n o × (after ≡ before)
 
--- some text is written whole
-pub record WritesWhole (standard : Bool) (name : Content) (before after : OutsideSeen) : Type 0 where
+-- the text of an output is written whole
+pub record WritesWhole (base : Base) (form : OutForm) (layers : List Layer) (standard : Bool) (name : Content) (before after : OutsideSeen) : Type 0 where
   pub text : Content
+  pub says : OutputSays base form layers text
   pub wrote : WroteText standard name text before after
   pub counts : CountsGrew before after
 
--- what a command that ends no run changes: an output writes a whole text, and no other command writes
-abbrev pub GoesOn : Action → OutsideSeen → OutsideSeen → Type 0
-GoesOn (action.Write to standard form) before after = WritesWhole standard to before after
-GoesOn _ before after = after ≡ before
+-- a command without a target is refused as no layer
+pub record Ends (n : ℕ) (c : Command) (layers : List Held) (before after : OutsideSeen) (o : Outcome) : Type 0 where
+  pub ends : EndsRun n c.action before after o
+  pub absent : has_target c.target layers ≡ false → o ≡ outcome.Refused n NoLayer
+
+-- what a command that ends no run changes: an output writes a whole text and leaves the layers; any other changes them
+-- and writes nothing
+abbrev pub GoesOn : Base → Command → Action → List Held → List Held → OutsideSeen → OutsideSeen → Type 0
+GoesOn base c (action.Write to standard form) layers layers' before after =
+    (layers' ≡ layers) × WritesWhole base form (targets c.target layers) standard to before after
+GoesOn base c _ layers layers' before after = Changes base c layers layers' × (after ≡ before)
+
+-- its target is there
+pub record Passes (base : Base) (c : Command) (layers layers' : List Held) (before after : OutsideSeen) : Type 0 where
+  pub there : has_target c.target layers ≡ true
+  pub goes : GoesOn base c c.action layers layers' before after
 
 -- what a command with this number answers: a state of layers, or the outcome of the run
-abbrev pub StepMeans : {S : Type 0} → ℕ → Action → OutsideSeen → OutsideSeen → Result S Outcome → Type 0
-StepMeans n a before after (Ok state) = GoesOn a before after
-StepMeans n a before after (Err o) = EndsRun n a before after o
+abbrev pub StepMeans : Base → ℕ → Command → List Held → OutsideSeen → OutsideSeen → Result State Outcome → Type 0
+StepMeans base n c layers before after (Ok state) = Passes base c layers state.layers.items before after
+StepMeans base n c layers before after (Err o) = Ends n c layers before after o
 
 -- ---- commands in order
 
 -- the commands behind so many done ones: the first that ends the run is the last that changes anything
-abbrev pub CommandsRun : ℕ → List Command → OutsideSeen → OutsideSeen → Outcome → Type 0
-CommandsRun done [] before after o = (o ≡ outcome.Done) × (after ≡ before)
-CommandsRun done (c ∷ cs) before after o =
-    EndsRun (done + 1) c.action before after o ⊎ ((middle : OutsideSeen) × GoesOn c.action before middle × CommandsRun (done + 1) cs middle after o)
+abbrev pub CommandsRun : Base → ℕ → List Held → List Command → OutsideSeen → OutsideSeen → Outcome → Type 0
+CommandsRun base done layers [] before after o = (o ≡ outcome.Done) × (after ≡ before)
+CommandsRun base done layers (c ∷ cs) before after o = Ends (done + 1) c layers before after o
+    ⊎ ((layers' : List Held) × (middle : OutsideSeen) × Passes base c layers layers' before middle × CommandsRun base (done + 1) layers' cs middle after o)
 
 -- ---- the whole chain
 
@@ -72,19 +94,6 @@ pub record Keeps (before after : OutsideSeen) : Type 0 where
   pub files : SameFiles before.files after.files
   pub stream : after.stream ≡ before.stream
   pub counts : CountsGrew before after
-
--- the accepted sources give no plane
-abbrev pub IsUnbegun : Outcome → Type 0
-IsUnbegun (outcome.TooDense count) = ⊤
-IsUnbegun outcome.Memory = ⊤
-IsUnbegun outcome.Done = ⊥
-IsUnbegun (outcome.BadWords word why) = ⊥
-IsUnbegun (outcome.ReadFault source) = ⊥
-IsUnbegun (outcome.Missing source) = ⊥
-IsUnbegun (outcome.TooLong source) = ⊥
-IsUnbegun (outcome.BadInput source why) = ⊥
-IsUnbegun (outcome.Refused command why) = ⊥
-IsUnbegun (outcome.WriteFault command) = ⊥
 
 -- all sources are accepted, and the density of the snapped paths or memory ends the run
 pub record EndsUnbegun (chain : Chain) (sources sources' : SourcesSeen) (o : Outcome) : Type 0 where
@@ -97,9 +106,10 @@ pub record EndsBefore (chain : Chain) (sources sources' : SourcesSeen) (before a
   pub kept : Keeps before after
   pub stops : StopsAtSource chain.places chain.sources sources sources' o ⊎ EndsUnbegun chain sources sources' o
 
--- the commands run from the first, or memory ends the run before it
-abbrev pub BegunRuns : List Command → OutsideSeen → OutsideSeen → Outcome → Type 0
-BegunRuns commands before after o = CommandsRun 0 commands before after o ⊎ ((o ≡ outcome.Memory) × (after ≡ before))
+-- the commands run from the first, on these layers and those of sources that belong to commands, or memory ends the run
+-- before it
+abbrev pub BegunRuns : Base → List Layer → List Command → OutsideSeen → OutsideSeen → Outcome → Type 0
+BegunRuns base layers commands before after o = CommandsRun base 0 (first_layers layers) commands before after o ⊎ ((o ≡ outcome.Memory) × (after ≡ before))
 
 -- all sources are accepted, and the commands run
 pub record RunsCommands (chain : Chain) (sources : SourcesSeen) (before after : OutsideSeen) (o : Outcome) : Type 0 where
@@ -109,7 +119,10 @@ pub record RunsCommands (chain : Chain) (sources : SourcesSeen) (before after : 
   pub given : GivesAll chain.places chain.sources sources read layers
   pub middle : OutsideSeen
   pub kept : Keeps before middle
-  pub ran : BegunRuns chain.commands middle after o
+  pub begun : List Layer
+  pub base : Base
+  pub places : base.places ≡ chain.places
+  pub ran : BegunRuns base begun chain.commands middle after o
 
 abbrev pub ChainRuns : Chain → SourcesSeen → SourcesSeen → OutsideSeen → OutsideSeen → Outcome → Type 0
 ChainRuns chain sources sources' before after o = EndsBefore chain sources sources' before after o ⊎ RunsCommands chain sources before after o

@@ -5,7 +5,7 @@ use crate::commands::source_layer;
 use crate::ground::Ground;
 use crate::layer::Shape;
 use crate::plane::Plane;
-use crate::state::{CommandStop, State};
+use crate::state::{CommandStop, Held};
 use cmd_words::Origin;
 use ring_trace::{FaceSet, SetList};
 use std::alloc::{AllocError, Global};
@@ -14,7 +14,7 @@ use std::alloc::{AllocError, Global};
 pub(crate) fn area_of(
     alloc: Global,
     ground: &Ground<'_>,
-    state: &State,
+    layers: &[Held],
     from: &Origin,
 ) -> Result<FaceSet, CommandStop> {
     if let Origin::Area(number) = from {
@@ -23,7 +23,7 @@ pub(crate) fn area_of(
             None => FaceSet::new(alloc),
         });
     }
-    match source_layer(state, ground.sources, from) {
+    match source_layer(layers, ground.sources, from) {
         Ok(layer) => Ok(union_of(alloc, &layer.shapes)?),
         Err(why) => Err(CommandStop::Refused(why)),
     }

@@ -1,5 +1,5 @@
 ghost use Rattle.std.specs.Prelude.{◌≡◌, IfErr, IfOk, length};
-ghost use Rattle.ms_chain.specs.Running.{IsUnbegun};
+ghost use Rattle.ms_chain.specs.Begun.{IsUnbegun};
 
 use crate::drawing::drawing_of;
 use crate::features::copy_points;

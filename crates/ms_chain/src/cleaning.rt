@@ -1,5 +1,6 @@
 ghost use Rattle.std.specs.Prelude.{◌≡◌, IfOk, length};
 ghost use Rattle.json_read.specs.Table.{AreRows};
+ghost use Rattle.ms_chain.specs.Commands.{IsCleaned, IsLike};
 
 use crate::areas::{sets_of, shapes_of};
 use crate::features::{copy_text, nonempty, numbers_below, with_shapes};
@@ -20,7 +21,9 @@ pub(crate) fn cleaned(
     layer: &Layer,
     rule: OverlapRule,
     allow_empty: bool,
-) -> Result<Layer, AllocError> {
+) -> Result<Layer, AllocError>
+    ensures made { IfOk result (IsCleaned allow_empty layer.now) }
+{
     let sets = sets_of(alloc, plane, &layer.shapes)?;
     let cleaned = clean_sets(alloc, &plane.faces, &sets, rule)?;
     let shapes = shapes_of(alloc, cleaned.as_slice())?;
@@ -33,7 +36,9 @@ pub(crate) fn cleaned(
 
 /// A feature for each part of the faces that just the same features hold, in the order of the lists of their numbers,
 /// which stand in the one column `ids`, joined by commas.
-pub(crate) fn mosaic(alloc: Global, plane: &Plane, layer: &Layer) -> Result<Layer, AllocError> {
+pub(crate) fn mosaic(alloc: Global, plane: &Plane, layer: &Layer) -> Result<Layer, AllocError>
+    ensures like { IfOk result (IsLike Kind.Polygon layer.now) }
+{
     let sets = sets_of(alloc, plane, &layer.shapes)?;
     let items = mosaic_sets(alloc, &plane.arcs, &plane.faces, &sets)?;
     let rows = holder_rows(alloc, items.as_slice())?;

@@ -1,20 +1,17 @@
-use crate::areas::area_of;
-use crate::cleaning::{cleaned, mosaic};
-use crate::cutting::{CutKeeps, cut};
-use crate::dissolving::dissolved;
-use crate::exploding::exploded;
-use crate::features::copy_text;
+ghost use Rattle.std.specs.Prelude.{◌≡◌, ◌-◌, ◌∷◌, [], IfErr, IfOk, false, map, slice_index_or, true};
+ghost use Rattle.ms_chain.specs.Targets.{has_target};
+ghost use Rattle.ms_chain.specs.Commands.{base_of, Changes, named_layers, one_layer, origin_layers};
+
 use crate::ground::Ground;
 use crate::layer::Layer;
 use crate::outcome::RefuseWhy;
-use crate::outlines::{inner_lines, outlines};
-use crate::splitting::split;
-use crate::state::{CommandStop, Held, State, check_target, is_selected};
-use crate::table_commands::{filtered, joined, merged, renamed, with_fields};
-use cmd_words::{Action, Command, Origin, Target};
+use crate::outputs::outputs_of;
+use crate::placing::placed;
+use crate::state::{CommandStop, Held, State};
+use crate::targets::{check_target, is_layer, is_selected};
+use cmd_words::{Action, Command, Origin};
 use grid_base::Kind;
-use io_core::Text;
-use std::alloc::{AllocError, Global};
+use std::alloc::Global;
 
 /// The most layers that a command may leave.
 const MAX_LAYERS: usize = 1_000;
@@ -25,34 +22,62 @@ pub(crate) fn changed(
     ground: &Ground<'_>,
     command: &Command,
     state: State,
-) -> Result<State, CommandStop> {
-    if let Err(why) = check(&state, ground.sources, command) {
-        return Err(CommandStop::Refused(why));
+) -> Result<State, CommandStop>
+    ensures changes { IfOk result (λ after. Changes (base_of ground.now) command.now state.layers.items after.layers.items) }
+    ensures there { IfOk result (λ after. has_target command.now.target state.layers.items ≡ true) }
+    ensures absent { has_target command.now.target state.layers.items ≡ false → result ≡ Err (CommandStop.Refused RefuseWhy.NoLayer) }
+{
+    match check(&state.layers, ground.sources, command) {
+        Ok(()) => changed_layers(alloc, ground, command, state),
+        Err(why) => Err(CommandStop::Refused(why)),
     }
-    let outputs = outputs_of(alloc, ground, &state, command)?;
-    let state = placed(alloc, state, command, outputs)?;
-    if state.layers.len() > MAX_LAYERS {
+}
+
+fn changed_layers(
+    alloc: Global,
+    ground: &Ground<'_>,
+    command: &Command,
+    state: State,
+) -> Result<State, CommandStop>
+    ensures changes { IfOk result (λ after. Changes (base_of ground.now) command.now state.layers.items after.layers.items) }
+{
+    let outputs = outputs_of(alloc, ground, &state.layers, command)?;
+    let layers = placed(alloc, state.layers, command, outputs)?;
+    if layers.len() > MAX_LAYERS {
         return Err(CommandStop::Refused(RefuseWhy::TooManyLayers));
     }
-    Ok(state)
+    Ok(State { layers })
 }
 
 // The target, then the source, then the kinds of the target's layers.
-fn check(state: &State, sources: &[Vec<Layer>], command: &Command) -> Result<(), RefuseWhy> {
-    check_target(state, &command.target)?;
-    check_source(state, sources, &command.action)?;
-    check_kinds(state, command)
+fn check(layers: &[Held], sources: &[Vec<Layer>], command: &Command) -> Result<(), RefuseWhy>
+    ensures there { IfOk result (λ done. has_target command.now.target layers.now ≡ true) }
+    ensures absent { has_target command.now.target layers.now ≡ false → result ≡ Err RefuseWhy.NoLayer }
+{
+    match check_target(layers, &command.target) {
+        Ok(()) => check_layers(layers, sources, command),
+        Err(why) => Err(why),
+    }
+}
+
+fn check_layers(
+    layers: &[Held],
+    sources: &[Vec<Layer>],
+    command: &Command,
+) -> Result<(), RefuseWhy> {
+    check_source(layers, sources, &command.action)?;
+    check_kinds(layers, command)
 }
 
 // That the source is there, and has polygons where the command cuts by it. A box always is.
-fn check_source(state: &State, sources: &[Vec<Layer>], action: &Action) -> Result<(), RefuseWhy> {
+fn check_source(layers: &[Held], sources: &[Vec<Layer>], action: &Action) -> Result<(), RefuseWhy> {
     match action {
         Action::Join { from, .. } => {
-            source_layer(state, sources, from)?;
+            source_layer(layers, sources, from)?;
         }
         Action::Clip { from } | Action::Erase { from } => {
             if !matches!(from, Origin::Area(_))
-                && source_layer(state, sources, from)?.kind != Kind::Polygon
+                && source_layer(layers, sources, from)?.kind != Kind::Polygon
             {
                 return Err(RefuseWhy::WrongKind);
             }
@@ -64,12 +89,15 @@ fn check_source(state: &State, sources: &[Vec<Layer>], action: &Action) -> Resul
 
 /// The one layer of a source.
 pub(crate) fn source_layer<'a>(
-    state: &'a State,
+    layers: &'a [Held],
     sources: &'a [Vec<Layer>],
     origin: &Origin,
-) -> Result<&'a Layer, RefuseWhy> {
+) -> Result<&'a Layer, RefuseWhy>
+    ensures ok { IfOk result (λ layer. one_layer (origin_layers (map (λ own. own.items) sources.now) layers.now origin.now) ≡ Ok layer.now) }
+    ensures err { IfErr result (λ why. one_layer (origin_layers (map (λ own. own.items) sources.now) layers.now origin.now) ≡ Err why) }
+{
     match origin {
-        Origin::Layer(name) => named_layer(state, name.as_str()),
+        Origin::Layer(name) => named_layer(layers, name.as_str()),
         Origin::Source(number) => match layers_of(sources, *number) {
             [layer] => Ok(layer),
             [] => Err(RefuseWhy::NoLayer),
@@ -80,29 +108,45 @@ pub(crate) fn source_layer<'a>(
 }
 
 // The layers of the source with this number, from 1.
-fn layers_of(sources: &[Vec<Layer>], number: u32) -> &[Layer] {
+fn layers_of(sources: &[Vec<Layer>], number: u32) -> &[Layer]
+    ensures exact { result.now ≡ slice_index_or (map (λ own. own.items) sources.now) (number - 1) [] }
+{
     match sources.get((number as usize).saturating_sub(1)) {
         Some(layers) => layers,
         None => &[],
     }
 }
 
-fn named_layer<'a>(state: &'a State, name: &str) -> Result<&'a Layer, RefuseWhy> {
-    let mut found = None;
-    for held in &state.layers {
-        if held.layer.name.as_str() == name {
-            if found.is_some() {
-                return Err(RefuseWhy::ManyLayers);
-            }
-            found = Some(&held.layer);
-        }
+#[tactic(auto, using(crate::proofs::Growth::named_first, crate::proofs::Growth::unnamed_first))]
+fn named_layer<'a>(layers: &'a [Held], name: &str) -> Result<&'a Layer, RefuseWhy>
+    ensures ok { IfOk result (λ layer. one_layer (named_layers name.now layers.now) ≡ Ok layer.now) }
+    ensures err { IfErr result (λ why. one_layer (named_layers name.now layers.now) ≡ Err why) }
+{
+    let [held, rest @ ..] = layers else {
+        return Err(RefuseWhy::NoLayer);
+    };
+    if name == held.layer.name.as_str() {
+        return only(&held.layer, rest, name);
     }
-    found.ok_or(RefuseWhy::NoLayer)
+    named_layer(rest, name)
 }
 
-fn check_kinds(state: &State, command: &Command) -> Result<(), RefuseWhy> {
+// The first layer of a name, where none behind it has the name too.
+#[tactic(auto, using(crate::proofs::Growth::none_named, crate::proofs::Growth::some_named))]
+fn only<'a>(first: &'a Layer, rest: &[Held], name: &str) -> Result<&'a Layer, RefuseWhy>
+    ensures ok { IfOk result (λ layer. one_layer (first.now ∷ named_layers name.now rest.now) ≡ Ok layer.now) }
+    ensures err { IfErr result (λ why. one_layer (first.now ∷ named_layers name.now rest.now) ≡ Err why) }
+{
+    if is_layer(rest, name) {
+        Err(RefuseWhy::ManyLayers)
+    } else {
+        Ok(first)
+    }
+}
+
+fn check_kinds(layers: &[Held], command: &Command) -> Result<(), RefuseWhy> {
     let mut first = None;
-    for held in &state.layers {
+    for held in layers {
         if is_selected(&command.target, held) {
             let kind = held.layer.kind;
             if !takes(&command.action, *first.get_or_insert(kind), kind) {
@@ -124,175 +168,4 @@ fn takes(action: &Action, first: Kind, kind: Kind) -> bool {
         Action::MergeLayers { .. } => kind == first,
         _ => true,
     }
-}
-
-// What the command puts out for each of its layers, in order.
-fn outputs_of(
-    alloc: Global,
-    ground: &Ground<'_>,
-    state: &State,
-    command: &Command,
-) -> Result<Vec<Vec<Layer>>, CommandStop> {
-    let target = &command.target;
-    match &command.action {
-        Action::MergeLayers { force } => merged_outputs(alloc, state, target, *force),
-        Action::Clip { from } => cut_outputs(alloc, ground, state, target, from, CutKeeps::Inside),
-        Action::Erase { from } => cut_outputs(
-            alloc,
-            ground,
-            state,
-            target,
-            from,
-            CutKeeps::Outside,
-        ),
-        action => each_output(alloc, ground, state, target, action),
-    }
-}
-
-fn each_output(
-    alloc: Global,
-    ground: &Ground<'_>,
-    state: &State,
-    target: &Target,
-    action: &Action,
-) -> Result<Vec<Vec<Layer>>, CommandStop> {
-    let mut outputs = Vec::new(alloc);
-    for held in &state.layers {
-        if is_selected(target, held) {
-            outputs.push(layer_outputs(alloc, ground, state, action, &held.layer)?)?;
-        }
-    }
-    Ok(outputs)
-}
-
-// What a cut leaves of each of the target's layers.
-fn cut_outputs(
-    alloc: Global,
-    ground: &Ground<'_>,
-    state: &State,
-    target: &Target,
-    from: &Origin,
-    keeps: CutKeeps,
-) -> Result<Vec<Vec<Layer>>, CommandStop> {
-    let area = area_of(alloc, ground, state, from)?;
-    let mut outputs = Vec::new(alloc);
-    for held in &state.layers {
-        if is_selected(target, held) {
-            outputs.push(one_output(alloc, cut(alloc, ground.plane, &held.layer, &area, keeps)?)?)?;
-        }
-    }
-    Ok(outputs)
-}
-
-fn one_output(alloc: Global, layer: Layer) -> Result<Vec<Layer>, AllocError> {
-    let mut outputs = Vec::new(alloc);
-    outputs.push(layer)?;
-    Ok(outputs)
-}
-
-// What the command puts out for one layer.
-fn layer_outputs(
-    alloc: Global,
-    ground: &Ground<'_>,
-    state: &State,
-    action: &Action,
-    layer: &Layer,
-) -> Result<Vec<Layer>, CommandStop> {
-    let output = match action {
-        Action::Dissolve { spec, group_points } => {
-            dissolved(alloc, ground.plane, layer, spec, *group_points)?
-        }
-        Action::Clean { rule, allow_empty } => {
-            cleaned(alloc, ground.plane, layer, *rule, *allow_empty)?
-        }
-        Action::Mosaic => mosaic(alloc, ground.plane, layer)?,
-        Action::Explode => exploded(alloc, ground.plane, layer)?,
-        Action::InnerLines => inner_lines(alloc, ground.plane, layer)?,
-        Action::Lines { fields } => outlines(alloc, ground.plane, layer, fields)?,
-        Action::Join { from, spec } => match source_layer(state, ground.sources, from) {
-            Ok(source) => joined(alloc, layer, source, spec)?,
-            Err(why) => return Err(CommandStop::Refused(why)),
-        },
-        Action::Filter {
-            test,
-            invert,
-            remove_empty,
-        } => filtered(alloc, layer, test.as_ref(), *invert, *remove_empty)?,
-        Action::FilterFields { fields } => with_fields(alloc, layer, fields)?,
-        Action::RenameFields { pairs } => renamed(alloc, layer, pairs)?,
-        Action::Split { field } => return split(alloc, layer, field.as_ref()),
-        // These put nothing out layer by layer.
-        Action::Clip { .. }
-        | Action::Erase { .. }
-        | Action::MergeLayers { .. }
-        | Action::Write { .. } => return Ok(Vec::new(alloc)),
-    };
-    Ok(one_output(alloc, output)?)
-}
-
-// All features of the target's layers in the place of the first, and nothing in that of the others.
-fn merged_outputs(
-    alloc: Global,
-    state: &State,
-    target: &Target,
-    force: bool,
-) -> Result<Vec<Vec<Layer>>, CommandStop> {
-    let layer = merged(alloc, state, target, force)?;
-    let mut outputs = Vec::new(alloc);
-    outputs.push(one_output(alloc, layer)?)?;
-    Ok(outputs)
-}
-
-// The outputs in the places of their targets, or, with `+`, behind all layers.
-fn placed(
-    alloc: Global,
-    state: State,
-    command: &Command,
-    outputs: Vec<Vec<Layer>>,
-) -> Result<State, AllocError> {
-    let mut layers = Vec::new(alloc);
-    let mut behind = Vec::new(alloc);
-    let mut outputs = outputs.into_iter();
-    for held in state.layers {
-        let mut put_out = Vec::new(alloc);
-        let stays = command.keep || !is_selected(&command.target, &held);
-        if is_selected(&command.target, &held) {
-            put_out = outputs.next().unwrap_or(put_out);
-        }
-        if stays {
-            layers.push(Held {
-                layer: held.layer,
-                is_default: false,
-            })?;
-        }
-        let place = if command.keep {
-            &mut behind
-        } else {
-            &mut layers
-        };
-        put_in(alloc, place, put_out, command.name.as_ref())?;
-    }
-    for held in behind {
-        layers.push(held)?;
-    }
-    Ok(State { layers })
-}
-
-// Layers that a command puts out, under the name of `name=` where it stands.
-fn put_in(
-    alloc: Global,
-    place: &mut Vec<Held>,
-    outputs: Vec<Layer>,
-    name: Option<&Text>,
-) -> Result<(), AllocError> {
-    for mut layer in outputs {
-        if let Some(name) = name {
-            layer.name = copy_text(alloc, name)?;
-        }
-        place.push(Held {
-            layer,
-            is_default: true,
-        })?;
-    }
-    Ok(())
 }

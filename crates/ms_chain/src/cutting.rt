@@ -1,4 +1,5 @@
 ghost use Rattle.std.specs.Prelude.{◌≡◌, IfOk, length};
+ghost use Rattle.ms_chain.specs.Commands.{IsReshaped};
 
 use crate::areas::{sets_of, shapes_of};
 use crate::features::nonempty;
@@ -25,7 +26,9 @@ pub(crate) fn cut(
     layer: &Layer,
     area: &FaceSet,
     keeps: CutKeeps,
-) -> Result<Layer, AllocError> {
+) -> Result<Layer, AllocError>
+    ensures made { IfOk result (IsReshaped layer.now) }
+{
     let shapes = match layer.kind {
         Kind::Polygon => cut_polygons(alloc, plane, &layer.shapes, area, keeps)?,
         _ => cut_shapes(alloc, plane, &layer.shapes, area, keeps)?,

@@ -1,4 +1,5 @@
 ghost use Rattle.std.specs.Prelude.{◌≡◌, ◌<◌, IfOk, All, length};
+ghost use Rattle.ms_chain.specs.Commands.{IsGrouped};
 
 use crate::areas::{sets_of, shapes_of};
 use crate::features::{copy_text, path_along};
@@ -22,7 +23,9 @@ pub(crate) fn dissolved(
     layer: &Layer,
     spec: &GroupSpec,
     group_points: bool,
-) -> Result<Layer, CommandStop> {
+) -> Result<Layer, CommandStop>
+    ensures made { IfOk result (IsGrouped spec.now layer.now) }
+{
     if layer.kind == Kind::Point && !group_points {
         return Err(CommandStop::Refused(RefuseWhy::NoGroupPoints));
     }

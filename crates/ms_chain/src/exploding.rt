@@ -1,4 +1,5 @@
 ghost use Rattle.std.specs.Prelude.{◌≡◌, ◌<◌, ◌≤◌, IfOk, OnOk, All, length};
+ghost use Rattle.ms_chain.specs.Commands.{IsLike};
 
 use crate::features::{copy_path, copy_shape, with_shapes};
 use crate::layer::{Layer, Shape};
@@ -9,7 +10,9 @@ use ring_trace::parts;
 use std::alloc::{AllocError, Global};
 
 /// One feature for each part, path or point, in order, with the row copied; a feature without geometry stays.
-pub(crate) fn exploded(alloc: Global, plane: &Plane, layer: &Layer) -> Result<Layer, AllocError> {
+pub(crate) fn exploded(alloc: Global, plane: &Plane, layer: &Layer) -> Result<Layer, AllocError>
+    ensures like { IfOk result (IsLike layer.now.kind layer.now) }
+{
     let mut numbers = IdList::new(alloc);
     let mut shapes = Vec::new(alloc);
     for number in 0..layer.table.row_count() {

@@ -1,4 +1,7 @@
-ghost use Rattle.std.specs.Prelude.{◌≡◌, ◌<◌, IfOk, All, length};
+ghost use Rattle.std.specs.Prelude.{◌≡◌, ◌<◌, IfOk, All, length, map};
+ghost use Rattle.std.specs.List.{range_with_len};
+ghost use Rattle.ms_chain.specs.Features.{HasRows, LeavesOut, TakesFeatures};
+ghost use Rattle.ms_chain.specs.Shapes.{shape_at, with_geometry};
 
 use crate::layer::{Layer, Shape};
 use arc_table::{SignedPath, SignedPaths};
@@ -14,6 +17,7 @@ pub(crate) fn take_features(
     numbers: &IdList,
 ) -> Result<Layer, AllocError>
     requires { All (λ n. n < length layer.now.table.rows) numbers.now }
+    ensures taken { IfOk result (TakesFeatures layer.now numbers.now) }
 {
     let shapes = take_shapes(alloc, &layer.shapes, numbers.as_slice())?;
     with_shapes(alloc, layer, numbers, shapes)
@@ -26,6 +30,7 @@ pub(crate) fn nonempty(
     shapes: Vec<Shape>,
 ) -> Result<Layer, AllocError>
     requires { length shapes.items ≡ length layer.now.table.rows }
+    ensures left { IfOk result (LeavesOut layer.now shapes.items) }
 {
     let all = numbers_below(alloc, layer.table.row_count())?;
     let kept = with_geometry(alloc, &shapes, &all)?;
@@ -34,7 +39,9 @@ pub(crate) fn nonempty(
 }
 
 /// The numbers from 0 below a count.
+#[tactic(auto, using(crate::proofs::Growth::range_more))]
 pub(crate) fn numbers_below(alloc: Global, count: u32) -> Result<IdList, AllocError>
+    ensures all { IfOk result (λ numbers. numbers ≡ range_with_len 0 count) }
     ensures below { IfOk result (λ numbers. All (λ n. n < count) numbers) }
     ensures each { IfOk result (λ numbers. length numbers ≡ count) }
 {
@@ -52,6 +59,7 @@ pub(crate) fn with_geometry(
     numbers: &IdList,
 ) -> Result<IdList, AllocError>
     requires { All (λ n. n < length shapes.now) numbers.now }
+    ensures kept { IfOk result (λ kept. kept ≡ with_geometry shapes.now numbers.now) }
     ensures below { IfOk result (λ kept. All (λ n. n < length shapes.now) kept) }
 {
     let mut kept = IdList::new(alloc);
@@ -72,6 +80,7 @@ pub(crate) fn with_shapes(
 ) -> Result<Layer, AllocError>
     requires there { All (λ n. n < length layer.now.table.rows) numbers.now }
     requires each { length shapes.items ≡ length numbers.now }
+    ensures made { IfOk result (HasRows layer.now numbers.now shapes.items) }
 {
     let table = take_rows(alloc, &layer.table, numbers)?;
     Ok(Layer {
@@ -97,6 +106,7 @@ pub(crate) fn copy_text(alloc: Global, text: &Text) -> Result<Text, AllocError>
 
 fn take_shapes(alloc: Global, shapes: &[Shape], numbers: &[u32]) -> Result<Vec<Shape>, AllocError>
     requires { All (λ n. n < length shapes.now) numbers.now }
+    ensures taken { IfOk result (λ taken. taken.items ≡ map (shape_at shapes.now) numbers.now) }
     ensures count { IfOk result (λ taken. length taken.items ≡ length numbers.now) }
 {
     let mut taken = Vec::new(alloc);

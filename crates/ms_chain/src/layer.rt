@@ -18,7 +18,12 @@ pub(crate) enum Shape {
 }
 
 impl Shape {
-    pub(crate) fn is_empty(&self) -> bool {
+    ghost use Rattle.std.specs.Prelude.{◌≡◌};
+    ghost use Rattle.ms_chain.specs.Shapes.{is_empty};
+
+    pub(crate) fn is_empty(&self) -> bool
+        ensures exact { result ≡ is_empty self.now }
+    {
         match self {
             Shape::Nothing => true,
             Shape::Faces(set) => set.is_empty(),

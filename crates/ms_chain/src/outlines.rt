@@ -1,5 +1,6 @@
 ghost use Rattle.std.specs.Prelude.{◌≡◌, ◌≤◌, ◌<◌, [], IfOk, length};
 ghost use Rattle.json_read.specs.Table.{AreRows};
+ghost use Rattle.ms_chain.specs.Commands.{IsLike};
 
 use crate::areas::sets_of;
 use crate::features::{copy_text, path_along};
@@ -15,11 +16,9 @@ use std::alloc::{AllocError, Global};
 use table_ops::keep_fields;
 
 /// A line for each arc with holders at both sides, not the same ones; without columns.
-pub(crate) fn inner_lines(
-    alloc: Global,
-    plane: &Plane,
-    layer: &Layer,
-) -> Result<Layer, AllocError> {
+pub(crate) fn inner_lines(alloc: Global, plane: &Plane, layer: &Layer) -> Result<Layer, AllocError>
+    ensures like { IfOk result (IsLike Kind.Line layer.now) }
+{
     let sets = sets_of(alloc, plane, &layer.shapes)?;
     let arcs = inner_arcs(alloc, &plane.arcs, &plane.faces, &sets)?;
     let shapes = inner_shapes(alloc, arcs.as_slice())?;
@@ -71,7 +70,9 @@ pub(crate) fn outlines(
     plane: &Plane,
     layer: &Layer,
     fields: &NameList,
-) -> Result<Layer, CommandStop> {
+) -> Result<Layer, CommandStop>
+    ensures like { IfOk result (IsLike Kind.Line layer.now) }
+{
     let listed = keep_fields(alloc, &layer.table, fields)?;
     let sets = sets_of(alloc, plane, &layer.shapes)?;
     let arcs = sided_arcs(alloc, &plane.arcs, &plane.faces, &sets)?;

@@ -1,4 +1,5 @@
 ghost use Rattle.std.specs.Prelude.{◌≡◌, IfOk, length};
+ghost use Rattle.ms_chain.specs.Written.{IsPicture};
 
 use crate::features::{copy_points, copy_text};
 use crate::layer::{Layer, Shape};
@@ -15,7 +16,9 @@ pub(crate) fn picture_of(
     alloc: Global,
     plane: &Plane,
     layer: &Layer,
-) -> Result<GeoLayer, AllocError> {
+) -> Result<GeoLayer, AllocError>
+    ensures shows { IfOk result (IsPicture layer.now) }
+{
     let shapes = shapes_of(alloc, plane, &layer.shapes)?;
     Ok(GeoLayer {
         name: copy_text(alloc, &layer.name)?,

@@ -3,7 +3,7 @@ ghost use Rattle.face_walk.specs.Places.{HasArc, IsBuiltOf};
 ghost use Rattle.std.specs.List.{list_all};
 ghost use Rattle.ring_trace.specs.Sets.{IsSetOf};
 ghost use Rattle.ms_chain.specs.Looks.{is_inner, is_below};
-ghost use Rattle.ms_chain.specs.Running.{IsUnbegun};
+ghost use Rattle.ms_chain.specs.Begun.{IsUnbegun};
 
 use crate::outcome::Outcome;
 use arc_table::{ArcTable, SignedPath, SignedPaths};

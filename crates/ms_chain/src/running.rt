@@ -1,4 +1,5 @@
-ghost use Rattle.std.specs.Prelude.{◌≡◌, ◌≤◌, ◌+◌, ◌^◌, ◌<◌, length};
+ghost use Rattle.std.specs.Prelude.{◌≡◌, ◌≤◌, ◌+◌, ◌^◌, ◌<◌, length, map};
+ghost use Rattle.ms_chain.specs.Commands.{base_of};
 ghost use Rattle.ms_chain.specs.Running.{StepMeans, CommandsRun, BegunRuns, ChainRuns, SynthRuns, WordsRun};
 ghost use Rattle.ms_chain.specs.Telling.{TellsOutcome};
 
@@ -106,7 +107,7 @@ fn run_begun<F: Files, K: Sink>(
     output: &mut K,
 ) -> Outcome
     requires { chain.now.places ≤ 7 }
-    ensures ran { BegunRuns chain.now.commands
+    ensures ran { BegunRuns (record { places = chain.now.places; plane = begun.plane; sources = map (λ own. own.items) begun.sources.items }) begun.layers.items chain.now.commands
         (record { files = F.held files.old; file_faults = F.write_faults files.old; stream = K.held output.old; stream_faults = K.faults output.old })
         (record { files = F.held files.new; file_faults = F.write_faults files.new; stream = K.held output.new; stream_faults = K.faults output.new }) result }
 {
@@ -146,7 +147,7 @@ fn run_commands<F: Files, K: Sink>(
 ) -> Outcome
     requires places { ground.now.places ≤ 7 }
     requires few { done + length commands.now < 2 ^ 32 }
-    ensures ran { CommandsRun done commands.now
+    ensures ran { CommandsRun (base_of ground.now) done state.layers.items commands.now
         (record { files = F.held files.old; file_faults = F.write_faults files.old; stream = K.held output.old; stream_faults = K.faults output.old })
         (record { files = F.held files.new; file_faults = F.write_faults files.new; stream = K.held output.new; stream_faults = K.faults output.new }) result }
 {
@@ -160,6 +161,7 @@ fn run_commands<F: Files, K: Sink>(
 }
 
 // The state after a command, or the outcome of the run that it stops.
+#[tactic(auto, using(crate::proofs::Ending::changes_quietly))]
 fn step<F: Files, K: Sink>(
     alloc: Global,
     ground: &Ground<'_>,
@@ -170,7 +172,7 @@ fn step<F: Files, K: Sink>(
     output: &mut K,
 ) -> Result<State, Outcome>
     requires { ground.now.places ≤ 7 }
-    ensures means { StepMeans number command.now.action
+    ensures means { StepMeans (base_of ground.now) number command.now state.layers.items
         (record { files = F.held files.old; file_faults = F.write_faults files.old; stream = K.held output.old; stream_faults = K.faults output.old })
         (record { files = F.held files.new; file_faults = F.write_faults files.new; stream = K.held output.new; stream_faults = K.faults output.new }) result }
 {
@@ -180,7 +182,7 @@ fn step<F: Files, K: Sink>(
             Err(stop) => Err(stop.at(number)),
         };
     };
-    match output_text(alloc, ground, &state, &command.target, *form) {
+    match output_text(alloc, ground, &state.layers, &command.target, *form) {
         Ok(text) => match write_text(files, output, *standard, to.as_str(), &text) {
             Ok(()) => Ok(state),
             Err(Failed) => Err(Outcome::WriteFault { command: number }),

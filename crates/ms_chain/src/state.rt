@@ -1,7 +1,5 @@
 use crate::layer::Layer;
 use crate::outcome::{Outcome, RefuseWhy};
-use cmd_words::Target;
-use io_core::NameList;
 use std::alloc::{AllocError, AllocFailed, Global};
 use table_ops::TableFault;
 
@@ -58,11 +56,14 @@ impl From<TableFault> for CommandStop {
 }
 
 impl CommandStop {
+    ghost use Rattle.std.specs.Prelude.{◌≡◌};
     ghost use Rattle.ms_chain.specs.Running.{Stops};
+    ghost use Rattle.ms_chain.specs.declared.outcome.RefuseWhy.{RefuseWhy};
 
     /// The outcome of a run that the command with this number, from 1, stops.
     pub(crate) fn at(self, command: u32) -> Outcome
         ensures stops { Stops command result }
+        ensures refused { (why : RefuseWhy) → self ≡ CommandStop.Refused why → result ≡ Outcome.Refused command why }
     {
         match self {
             CommandStop::Refused(why) => Outcome::Refused { command, why },
@@ -72,8 +73,13 @@ impl CommandStop {
 }
 
 impl State {
+    ghost use Rattle.std.specs.Prelude.{◌≡◌, IfOk};
+    ghost use Rattle.ms_chain.specs.Targets.{first_layers};
+
     /// The state with which the commands begin: all layers are default targets.
-    pub(crate) fn new(alloc: Global, layers: Vec<Layer>) -> Result<State, AllocError> {
+    pub(crate) fn new(alloc: Global, layers: Vec<Layer>) -> Result<State, AllocError>
+        ensures held { IfOk result (λ state. state.layers.items ≡ first_layers layers.items) }
+    {
         let mut held = Vec::new(alloc);
         for layer in layers {
             held.push(Held {
@@ -83,40 +89,4 @@ impl State {
         }
         Ok(State { layers: held })
     }
-}
-
-/// Refuses a target that names a layer that isn't there, or selects none.
-pub(crate) fn check_target(state: &State, target: &Target) -> Result<(), RefuseWhy> {
-    if let Target::Names(names) = target {
-        for name in names.as_slice() {
-            if !has_layer(state, name.as_str()) {
-                return Err(RefuseWhy::NoLayer);
-            }
-        }
-    }
-    if state.layers.iter().any(|held| is_selected(target, held)) {
-        Ok(())
-    } else {
-        Err(RefuseWhy::NoLayer)
-    }
-}
-
-fn has_layer(state: &State, name: &str) -> bool {
-    state
-        .layers
-        .iter()
-        .any(|held| held.layer.name.as_str() == name)
-}
-
-/// Whether the command of this target works on the layer.
-pub(crate) fn is_selected(target: &Target, held: &Held) -> bool {
-    match target {
-        Target::Default => held.is_default,
-        Target::All => true,
-        Target::Names(names) => is_among(names, held.layer.name.as_str()),
-    }
-}
-
-fn is_among(names: &NameList, name: &str) -> bool {
-    names.as_slice().iter().any(|n| n.as_str() == name)
 }

@@ -1,5 +1,5 @@
 ghost use Rattle.std.specs.Prelude.{◌≤ℤ◌, pos, IfErr};
-ghost use Rattle.ms_chain.specs.Running.{IsUnbegun};
+ghost use Rattle.ms_chain.specs.Begun.{IsUnbegun};
 
 use crate::areas::{sets_of, shapes_of, union_of};
 use crate::drawing::add_polygons;

@@ -1,12 +1,18 @@
 ghost use Rattle.ms_chain.specs.Gathering.{all_rows};
-ghost use Rattle.std.specs.Prelude.{◌≡◌, ◌<◌, ◌++◌, IfOk, OnOk, All, length};
+ghost use Rattle.std.specs.Prelude.{◌≡◌, ◌<◌, ◌++◌, IfOk, OnOk, All, length, map, option_copied, slice_get};
+ghost use Rattle.std.specs.List.{flat_map};
+ghost use Rattle.ms_chain.specs.Targets.{targets};
+ghost use Rattle.table_ops.specs.Columns.{keep_fields, rename_fields};
+ghost use Rattle.table_ops.specs.Join.{join_tables};
+ghost use Rattle.ms_chain.specs.Commands.{GivesTable, HasTable, IsFiltered, IsMerged, kept_numbers};
 
 use crate::features::{
     copy_shape, copy_shapes, copy_text, numbers_below, take_features, with_geometry,
 };
 use crate::layer::{Layer, Shape};
 use crate::outcome::RefuseWhy;
-use crate::state::{CommandStop, State, is_selected};
+use crate::state::{CommandStop, Held};
+use crate::targets::is_selected;
 use cmd_words::Target;
 use expr_lang::Expr;
 use grid_base::IdList;
@@ -26,11 +32,10 @@ pub(crate) fn filtered(
     test: Option<&Expr>,
     invert: bool,
     remove_empty: bool,
-) -> Result<Layer, CommandStop> {
-    let kept = match test {
-        Some(test) => filter_rows(alloc, &layer.table, test, invert)?,
-        None => numbers_below(alloc, layer.table.row_count())?,
-    };
+) -> Result<Layer, CommandStop>
+    ensures made { IfOk result (IsFiltered (option_copied test.entry) invert remove_empty layer.now) }
+{
+    let kept = kept_numbers(alloc, layer, test, invert)?;
     if !remove_empty {
         return Ok(take_features(alloc, layer, &kept)?);
     }
@@ -38,12 +43,29 @@ pub(crate) fn filtered(
     Ok(take_features(alloc, layer, &kept)?)
 }
 
+fn kept_numbers(
+    alloc: Global,
+    layer: &Layer,
+    test: Option<&Expr>,
+    invert: bool,
+) -> Result<IdList, CommandStop>
+    ensures kept { IfOk result (λ kept. kept_numbers (option_copied test.entry) invert layer.now ≡ Ok kept) }
+    ensures within { IfOk result (λ kept. All (λ n. n < length layer.now.table.rows) kept) }
+{
+    match test {
+        Some(test) => Ok(filter_rows(alloc, &layer.table, test, invert)?),
+        None => Ok(numbers_below(alloc, layer.table.row_count())?),
+    }
+}
+
 /// The layer with these columns alone, in this order.
 pub(crate) fn with_fields(
     alloc: Global,
     layer: &Layer,
     fields: &NameList,
-) -> Result<Layer, CommandStop> {
+) -> Result<Layer, CommandStop>
+    ensures made { IfOk result (GivesTable (keep_fields layer.now.table fields.now) layer.now) }
+{
     let table = keep_fields(alloc, &layer.table, fields)?;
     Ok(with_table(alloc, layer, table)?)
 }
@@ -53,7 +75,9 @@ pub(crate) fn renamed(
     alloc: Global,
     layer: &Layer,
     pairs: &RenameList,
-) -> Result<Layer, CommandStop> {
+) -> Result<Layer, CommandStop>
+    ensures made { IfOk result (GivesTable (rename_fields layer.now.table pairs.now) layer.now) }
+{
     let table = rename_fields(alloc, &layer.table, pairs)?;
     Ok(with_table(alloc, layer, table)?)
 }
@@ -64,7 +88,9 @@ pub(crate) fn joined(
     layer: &Layer,
     source: &Layer,
     spec: &JoinSpec,
-) -> Result<Layer, CommandStop> {
+) -> Result<Layer, CommandStop>
+    ensures made { IfOk result (GivesTable (join_tables layer.now.table source.now.table spec.now) layer.now) }
+{
     let table = join_tables(alloc, &layer.table, &source.table, spec)?;
     Ok(with_table(alloc, layer, table)?)
 }
@@ -72,6 +98,7 @@ pub(crate) fn joined(
 // The layer with another table, which has as many rows.
 fn with_table(alloc: Global, layer: &Layer, table: Table) -> Result<Layer, AllocError>
     requires { length table.rows ≡ length layer.now.table.rows }
+    ensures made { IfOk result (HasTable layer.now table) }
 {
     let shapes = copy_shapes(alloc, &layer.shapes)?;
     Ok(Layer {
@@ -86,12 +113,14 @@ fn with_table(alloc: Global, layer: &Layer, table: Table) -> Result<Layer, Alloc
 #[tactic(auto, using(crate::proofs::Gathering::merged_count))]
 pub(crate) fn merged(
     alloc: Global,
-    state: &State,
+    layers: &[Held],
     target: &Target,
     force: bool,
-) -> Result<Layer, CommandStop> {
-    let Gathered { tables, shapes } = gather(alloc, state, target)?;
-    match first_target(state, target) {
+) -> Result<Layer, CommandStop>
+    ensures made { IfOk result (IsMerged force (targets target.now layers.now)) }
+{
+    let Gathered { tables, shapes } = gather(alloc, layers, target)?;
+    match first_target(layers, target) {
         Some(first) if tables.len() > 0 => {
             let table = merge_tables(alloc, &tables, force)?;
             Ok(Layer {
@@ -113,10 +142,14 @@ struct Gathered {
     ghost each: { length shapes.items ≡ length (all_rows tables) },
 }
 
-fn gather(alloc: Global, state: &State, target: &Target) -> Result<Gathered, AllocError> {
+#[tactic(auto, using(crate::proofs::Growth::targets_on, crate::proofs::Growth::targets_off))]
+fn gather(alloc: Global, layers: &[Held], target: &Target) -> Result<Gathered, AllocError>
+    ensures tables { IfOk result (λ all. all.tables ≡ map (λ layer. layer.table) (targets target.now layers.now)) }
+    ensures shapes { IfOk result (λ all. all.shapes.items ≡ flat_map (λ layer. layer.shapes.items) (targets target.now layers.now)) }
+{
     let mut tables = TableList::new(alloc);
     let mut shapes = Vec::new(alloc);
-    for held in &state.layers {
+    for held in layers {
         if is_selected(target, held) {
             tables.push(copy_table(alloc, &held.layer.table)?)?;
             append_shapes(alloc, &mut shapes, &held.layer.shapes)?;
@@ -125,8 +158,10 @@ fn gather(alloc: Global, state: &State, target: &Target) -> Result<Gathered, All
     Ok(Gathered { tables, shapes })
 }
 
-fn first_target<'a>(state: &'a State, target: &Target) -> Option<&'a Layer> {
-    for held in &state.layers {
+fn first_target<'a>(layers: &'a [Held], target: &Target) -> Option<&'a Layer>
+    ensures first { option_copied result ≡ slice_get (targets target.now layers.now) 0 }
+{
+    for held in layers {
         if is_selected(target, held) {
             return Some(&held.layer);
         }
@@ -134,7 +169,9 @@ fn first_target<'a>(state: &'a State, target: &Target) -> Option<&'a Layer> {
     None
 }
 
+#[tactic(auto, using(crate::proofs::Growth::whole_table))]
 pub(crate) fn copy_table(alloc: Global, table: &Table) -> Result<Table, AllocError>
+    ensures copied { IfOk result (λ copy. copy ≡ table.now) }
     ensures count { IfOk result (λ copy. length copy.rows ≡ length table.now.rows) }
 {
     let all = numbers_below(alloc, table.row_count())?;

@@ -21,6 +21,9 @@ returns-in-Ok-begin g c =
           stream = refl;
           counts = record { files = c.read_sources.ensures.writes; stream = NeverFell-refl (g.K.Sink.faults c.args.output.now) };
         };
+        begun = c.in-Ok-begin.begun.layers.items;
+        base = record { places = c.args.chain.now.places; plane = c.in-Ok-begin.begun.plane; sources = map (λ own. own.items) c.in-Ok-begin.begun.sources.items };
+        places = refl;
         ran = c.run_begun.ensures.ran;
       });
     }

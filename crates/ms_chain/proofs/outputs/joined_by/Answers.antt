@@ -1,0 +1,20 @@
+use Rattle.std.proofs.Common.{◌≡◌, ◌∷◌, [], List, subst, sym}
+use Rattle.table_ops.specs.Join.{join_tables}
+use Rattle.ms_chain.specs.Commands.{base_of, GivesTable, Joins, One}
+use Rattle.ms_chain.specs.declared.layer.Layer.{Layer}
+use Rattle.ms_chain.proofs.Growth.{if_ok_on}
+use Rattle.ms_chain.proofs.outputs.joined_by.Goals as goal
+
+pub returns-in_ok-joined-in-Ok : goal.returns-in_ok-joined-in-Ok
+returns-in_ok-joined-in-Ok c =
+    let layer : Layer = c.args.layer.now in
+    let source : Layer = c.in-Ok.source.now in
+    let made : Layer = c.in_ok-joined-in-Ok.field-0 in
+    record {
+      joins = if_ok_on (λ outputs. outputs.items ≡ made ∷ []) (λ outputs. Joins (base_of c.args.ground.now) c.args.layers.now c.args.from.now c.args.spec.now layer outputs.items) c.one.result
+      (λ outputs e. record {
+        source = source;
+        found = c.in-Ok.ensures.ok;
+        joined = subst (One (GivesTable (join_tables layer.table source.table c.args.spec.now) layer)) (sym e) c.in_ok-joined-in-Ok.ensures.made;
+      }) c.one.ensures.one;
+    }

@@ -1,0 +1,13 @@
+use Rattle.ms_chain.proofs.writing.geo_text.Goals as goal
+
+pub returns-in_ok-write_geojson-in-Ok : goal.returns-in_ok-write_geojson-in-Ok
+returns-in_ok-write_geojson-in-Ok c =
+    record {
+      says = record {
+        layer = c.in-Ok.layer.now;
+        one = c.in-Ok.ensures.ok;
+        picture = c.in_ok-picture-in-Ok.picture;
+        shows = c.in_ok-picture-in-Ok.ensures.shows;
+        is = c.in_ok-write_geojson-in-Ok.ensures.exact;
+      };
+    }

@@ -1,0 +1,11 @@
+use Rattle.ms_chain.proofs.writing.table_text.Goals as goal
+
+pub returns-in_ok-write_csv-in-Ok : goal.returns-in_ok-write_csv-in-Ok
+returns-in_ok-write_csv-in-Ok c =
+    record {
+      says = record {
+        layer = c.in-Ok.layer.now;
+        one = c.in-Ok.ensures.ok;
+        is = c.in_ok-write_csv-in-Ok.ensures.exact;
+      };
+    }
