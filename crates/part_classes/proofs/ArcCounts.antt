@@ -180,7 +180,7 @@ module _ (S : List Segment) (arr : IsArrangement S) (arcs : List Path) (long : A
   take_first [] w z zs l e = absurd (omega arith)
   take_first (p ∷ ps) w z zs l e = ap (λ (x : GridPoint). x ∷ []) (ap (λ (xs : Path). get_or xs 0 p) e)
 
-  ring_steps : (ring : List SignedArc) → 0 < length ring → All (λ a. a.arc < length arcs) ring → IsSimpleRing (start_of arcs) (stop_of arcs) ring → steps (round_of arcs ring) ≡ flat_map steps_of_arc ring
+  pub ring_steps : (ring : List SignedArc) → 0 < length ring → All (λ a. a.arc < length arcs) ring → IsSimpleRing (start_of arcs) (stop_of arcs) ring → steps (round_of arcs ring) ≡ flat_map steps_of_arc ring
   ring_steps [] some below h = absurd (omega arith)
   ring_steps (a ∷ ring) some below h =
       let (all, (rest, head)) = way_steps h.at h.at (a ∷ ring) below h.way in

@@ -9,3 +9,5 @@ pub mod DrawnLaws
 pub mod BoundedLaws
 pub mod ApartLaws
 pub mod TogetherLaws
+pub mod NumberLaws
+pub mod FitLaws

@@ -45,7 +45,7 @@ use Rattle.part_classes.proofs.RingLemmas.{rings_go_round}
 
 -- ---- arcs of a ring
 
-at_least_one : (a : SignedArc) (xs : List SignedArc) → Contains xs a → 1 ≤ times a xs
+pub at_least_one : (a : SignedArc) (xs : List SignedArc) → Contains xs a → 1 ≤ times a xs
 at_least_one a xs (k, l, is) =
     let r = get_or-le-sum_by (λ (y : SignedArc). cond (same_arc a y) 1 0) xs k a l in
     let e : cond (same_arc a (get_or xs k a)) 1 0 ≡ tick true = ap tick (ap (same_arc a) is ∙ eq-eqb _ _ refl) in
@@ -65,11 +65,11 @@ at_least_two a (x ∷ xs) (suc i) (suc j) d less l e f =
     let r = at_least_two a xs i j d (omega arith) (omega arith) e f in
     omega arith
 
-once_most : (b : Bool) → once_if b ≤ 1
+pub once_most : (b : Bool) → once_if b ≤ 1
 once_most true = omega arith
 once_most false = omega arith
 
-used_true : (b : Bool) → 1 ≤ once_if b → b ≡ true
+pub used_true : (b : Bool) → 1 ≤ once_if b → b ≡ true
 used_true true l = refl
 used_true false l = absurd (omega arith)
 

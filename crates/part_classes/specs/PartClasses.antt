@@ -8,7 +8,7 @@ use Rattle.plane_model.specs.Drawing.{Drawing}
 use Rattle.plane_model.specs.Joined.{AreJoinedIn}
 use Rattle.plane_model.specs.Parity.{odd, rings_hold}
 use Rattle.plane_model.specs.Snapped.{links_of, snapped}
-use Rattle.plane_model.specs.Rings.{UsesOnce, turn_at_least}
+use Rattle.plane_model.specs.Rings.{FitsPart, UsesOnce, turn_at_least}
 use Rattle.plane_faces.specs.Classes.{PointsWhere}
 use Rattle.plane_faces.specs.Labels.{IsPartLabelling}
 use Rattle.plane_faces.specs.Places.{Place, IsPlaceOf}
@@ -138,6 +138,13 @@ PolygonsAreJoinedPoints = (S : List Segment) (arcs : List Path) (faces : FaceTab
 abbrev pub PolygonsHoldByParity : Type 0
 PolygonsHoldByParity = (S : List Segment) (arcs : List Path) (faces : FaceTable) → AreFacesOf S arcs faces → (set : List ℕ) (parts : List (List ℕ)) (polygons : List (List (List SignedArc))) → AreTraced arcs faces set parts polygons →
     (k : ℕ) → k < length polygons → (z : RationalPoint) → (rings_hold z (map (round_of arcs) (slice_index_or polygons k [])) ≡ true) ↔ IsWithin arcs (slice_index_or polygons k []) z
+
+-- The rings of each traced polygon fit the part that it stands for: they use the part's border once, pass each vertex once, an exterior stands first and
+-- turns left, holes turn right and rise by their least arcs, and each ring begins with its least arc.
+abbrev pub TracedPolygonsFit : Type 0
+TracedPolygonsFit = (S : List Segment) (arcs : List Path) (faces : FaceTable) → AreFacesOf S arcs faces → (set : List ℕ) (parts : List (List ℕ)) (polygons : List (List (List SignedArc))) → AreTraced arcs faces set parts polygons →
+    (label : Place → ℕ) → IsFaceOfPlace arcs faces label → (k : ℕ) → k < length polygons →
+    FitsPart arcs (border_steps (λ place. has nat_eq (slice_index_or (bounded faces.places (length arcs) parts) k []) (label place)) S) (map (round_of arcs) (slice_index_or polygons k []))
 
 -- a point is within some traced polygon exactly if, of the links of all rings of the trace together, an odd number is below it
 abbrev pub TracesHoldByParity : Type 0

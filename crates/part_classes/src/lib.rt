@@ -14,6 +14,7 @@ ghost use Rattle.part_classes.specs.PartClasses.{
   PolygonsHoldTheSet,
   PolygonsOfADrawing,
   RingsGoRound,
+  TracedPolygonsFit,
   TracedPolygonsHaveExteriors,
   TracedPolygonsOfADrawing,
   TracedRingsGoRound,
@@ -77,6 +78,13 @@ pub fn polygons_are_joined_points()
 /// all its rings is below the point: both readings of a polygon agree.
 pub fn polygons_hold_by_parity()
     ensures { PolygonsHoldByParity }
+{}
+
+/// The rings of each polygon of a trace fit the part that it stands for: they use its border once, each passes its vertices
+/// once and begins with its arc of least number, the exterior stands first and turns left, and the holes turn right and
+/// stand in the order of their least arcs.
+pub fn traced_polygons_fit()
+    ensures { TracedPolygonsFit }
 {}
 
 /// A point is within some polygon of a trace exactly if an odd number of the links of all rings of all polygons is below
