@@ -56,7 +56,7 @@ links_back (s ∷ ss) h =
     λ i. one i ∷ rest i
 
 -- gone along either way, a path has the same links
-links_turned : (path : Path) → All (λ (s : Segment). s.start ≢ s.stop) (steps_of path) → IsPermutation (map link_between (steps_of path)) (map link_between (steps_of (reverse path)))
+pub links_turned : (path : Path) → All (λ (s : Segment). s.start ≢ s.stop) (steps_of path) → IsPermutation (map link_between (steps_of path)) (map link_between (steps_of (reverse path)))
 links_turned path h =
     let back = map reversed (steps_of path) in
     subst (λ (ls : List Segment). IsPermutation ls (map link_between (steps_of (reverse path)))) (links_back (steps_of path) h)

@@ -10,6 +10,7 @@ pub mod FoundArcs
 pub mod LeastAt
 pub mod Marks
 pub mod Numbered
+pub mod OneRound
 pub mod Onward
 pub mod Order
 pub mod Others

@@ -11,10 +11,10 @@ use Rattle.std.proofs.lemmas.Cmp.{tied_itself}
 use Rattle.std.proofs.lemmas.List.MinMax.{ranks_by}
 use Rattle.std.proofs.lemmas.List.Sorted.{sorted_far, searchable_from_sorted}
 use Rattle.std.proofs.lemmas.Option.{slice_get-get_or, slice_get_cases, get_or_from_slice_get}
-use Rattle.plane_model.specs.Points.{GridPoint, Segment, same_point}
+use Rattle.plane_model.specs.Points.{GridPoint, Segment, same_point, is_before}
 use Rattle.plane_model.proofs.PointOrder.{clash, same_point_from, same_point_to}
 use Rattle.arc_table.specs.Steps.{point_cmp, step_cmp, StartsAt, IsOther, IsOtherAt, LeadsOn, IsOnward, AreOnward}
-use Rattle.arc_table.proofs.StepSearch.{point_cmp-total, step_cmp-total, same_point_is}
+use Rattle.arc_table.proofs.StepSearch.{point_cmp-total, step_cmp-total, same_point_is, not_before}
 
 pub starts_yes : (p q : GridPoint) → same_point p q ≡ true → p ≡ q
 starts_yes p q e = same_point_from p q e
@@ -92,6 +92,12 @@ module _ (steps : List Segment) (up : IsSorted step_cmp steps) (p : GridPoint) w
       ]
     ];
   }
+
+-- no later step starts before an earlier one
+pub none_starts_before : (steps : List Segment) (up : IsSorted step_cmp steps) (i j : ℕ) (d : Segment) → i ≤ j → j < length steps → is_before (get_or steps j d).start (get_or steps i d).start ≡ false
+none_starts_before steps up i j d l m =
+    not_before (get_or steps j d).start (get_or steps i d).start
+    (not_less (get_or steps j d) (get_or steps i d) (sorted_far (λ (s : Segment) (t : Segment). is_lt (step_cmp s t)) (ranks_by step_cmp-total (λ (s : Segment). s)) steps up i j d l m))
 
 -- ---- where there are not just two steps
 

@@ -1,9 +1,9 @@
 -- Where an arc begins: before its first step, or anywhere on a way that comes round.
-use Rattle.std.proofs.Common.{◌≡◌, ◌⊎◌, inl, inr, sym, ap, ◌∙◌, subst, arith, ℕ, zero, suc, ◌<◌, ◌≤◌, min, Bool, List, length, All, AllPairs}
+use Rattle.std.proofs.Common.{◌≡◌, ◌⊎◌, inl, inr, refl, sym, ap, ◌∙◌, subst, arith, ℕ, zero, suc, ◌+◌, ◌<◌, ◌≤◌, min, Bool, List, length, All, AllPairs}
 use Rattle.std.specs.Prelude.{◌≢◌}
 use Rattle.std.proofs.lemmas.Bool.{cases_lt}
 use Rattle.std.proofs.lemmas.List.Elements.{All-nil, All-cons}
-use Rattle.arc_table.specs.Numbering.{walk, LeadsTo, ComesRound, IsBegin, IsRoundFrom, HasMark, AreWhole, HaveMarksTogether}
+use Rattle.arc_table.specs.Numbering.{walk, LeadsTo, ComesRound, GoesRound, IsBegin, BeginsLeast, IsLeastAlong, IsRoundFrom, HasMark, AreWhole, HaveMarksTogether}
 use Rattle.arc_table.specs.declared.half_links.Net.{Net}
 use Rattle.arc_table.proofs.Marks.{same_or_not, place_more}
 use Rattle.arc_table.proofs.Runs.{length_walk, walk_at, too_many, twin, next, after, twin_there, next_there, after_there, twin_twice, one_twin, one_before}
@@ -95,17 +95,27 @@ module _ (net : Net) where
       | inr g ↦ (on.0, on.1, inl (ap (twin net) g ∙ twin_twice net (after net on.0 f) (at_there on.0)))
     ]
 
-    h_on : IsOnIt h
-    h_on = (0, omega arith, inr (sym (twin_twice net h here)))
+    f_on : IsOnIt f
+    f_on = (0, omega arith, inl refl)
 
-    on_it : (k : ℕ) → IsRoundFrom net h k → IsOnIt k
+    on_it : (k : ℕ) → IsRoundFrom net f k → IsOnIt k
     on_it k from = elim from.1 [
-      | inl e ↦ subst IsOnIt (sym e) (all_on from.0 h h_on)
-      | inr e ↦ subst IsOnIt (sym e) (turned_on (after net from.0 h) (all_on from.0 h h_on))
+      | inl e ↦ subst IsOnIt (sym e) (all_on from.0 f f_on)
+      | inr e ↦ subst IsOnIt (sym e) (turned_on (after net from.0 f) (all_on from.0 f f_on))
     ]
 
-    pub goes_round : (k : ℕ) → IsRoundFrom net h k → IsBegin net k
+    pub goes_round : (k : ℕ) → IsRoundFrom net f k → IsBegin net k
     goes_round k from = inr (λ j. moves (after net j k) (all_on j k (on_it k from)))
+
+    -- the least along the way, either way round, is the least along the way on from it
+    pub least_round : (k : ℕ) → IsRoundFrom net f k → (GoesRound net f → IsLeastAlong net f k) → BeginsLeast net k
+    least_round k from least goes j =
+        let on = all_on j k (on_it k from) in
+        let (ahead, back) = least (λ i. moves (after net i f) (all_on i f f_on)) on.0 in
+        elim on.2 [
+          | inl g ↦ (subst (λ (n : ℕ). k ≤ n) (sym g) ahead, subst (λ (n : ℕ). k ≤ n) (sym (ap (twin net) g)) back)
+          | inr g ↦ (subst (λ (n : ℕ). k ≤ n) (sym g) back, subst (λ (n : ℕ). k ≤ n) (sym (ap (twin net) g ∙ twin_twice net (after net on.0 f) (at_there on.0))) ahead)
+        ]
 
   -- ---- marks of whole arcs
 
@@ -126,11 +136,14 @@ module _ (net : Net) where
     mark_turned : (k : ℕ) → k < N → HasMark marks (twin net k) → HasMark marks k
     mark_turned k l m = subst (HasMark marks) (twin_twice net k l) (whole.back (twin net k) (twin_there net k l) m)
 
-  pub together_round : (h k : ℕ) → h < N → IsRoundFrom net h k → HaveMarksTogether net h k
+  together_round : (h k : ℕ) → h < N → IsRoundFrom net h k → HaveMarksTogether net h k
   together_round h k l from marks whole m = elim from.1 [
     | inl e ↦ mark_from marks whole from.0 h l (subst (HasMark marks) e m)
     | inr e ↦ mark_from marks whole from.0 h l (mark_turned marks whole (after net from.0 h) (after_there net from.0 h l) (subst (HasMark marks) e m))
   ]
+
+  pub together_back : (h k : ℕ) → h < N → IsRoundFrom net (twin net h) k → HaveMarksTogether net h k
+  together_back h k l from marks whole m = mark_turned marks whole h l (together_round (twin net h) k (twin_there net h l) from marks whole m)
 
   module _ (h k : ℕ) (here : h < N) (lead : LeadsTo net.onward.items (twin net h) k) where
     k_there : k < N
@@ -143,7 +156,50 @@ module _ (net : Net) where
     together_first marks whole m =
         mark_turned marks whole h here (mark_from marks whole lead.steps (twin net h) (twin_there net h here) (subst (HasMark marks) lead.there (mark_turned marks whole k k_there m)))
 
+    -- a way from where an arc starts does not come round
+    stuck : (j : ℕ) → next net (after net j (twin net k)) ≢ after net j (twin net k) → next net (after net j (twin net k)) ≢ twin net k
+    stuck j moves back =
+        let a = after net j (twin net k) in
+        let a_there = after_there net j (twin net k) (twin_there net k k_there) in
+        let turned : k ≡ twin net a = sym lead.ends ∙ ap (next net) (sym (twin_twice net k k_there) ∙ ap (twin net) (sym back)) ∙ net.both_ways a a_there moves in
+        moves (back ∙ ap (twin net) turned ∙ twin_twice net a a_there)
+
+    pub least_first : BeginsLeast net (twin net k)
+    least_first goes = absurd (not_round (twin net k) (twin_there net k k_there) (λ j l. (goes j, stuck j (goes j))))
+
   -- ---- the least of places along a way
+
+  -- a way that has come back has no other steps
+  pub came_back : (first k : ℕ) → next net (after net k first) ≡ first → (i : ℕ) → (j : ℕ) × (j ≤ k) × (after net i first ≡ after net j first)
+  came_back first k back zero = (0, omega arith, refl)
+  came_back first k back (suc i) =
+      let (j, l, e) = came_back first k back i in
+      let on : after net (suc i) first ≡ next net (after net j first) = place_more net.onward.items i first ∙ ap (next net) e in
+      elim (cases_lt j k) [
+        | inl less ↦ (suc j, omega arith, on ∙ sym (place_more net.onward.items j first))
+        | inr last ↦ (0, omega arith, on ∙ ap (λ (n : ℕ). next net (after net n first)) (let s : j ≡ k = omega arith in s) ∙ back)
+      ]
+
+  -- no less than a step and the step back of it
+  abbrev pub IsLeastAt : ℕ → ℕ → Type 0
+  IsLeastAt least at = (least ≤ at) × (least ≤ twin net at)
+
+  pub least_all : (first k least : ℕ) → next net (after net k first) ≡ first → ((j : ℕ) → j ≤ k → IsLeastAt least (after net j first)) → IsLeastAlong net first least
+  least_all first k least back h i =
+      let (j, l, e) = came_back first k back i in
+      subst (IsLeastAt least) (sym e) (h j l)
+
+  pub least_more : (first k at least new : ℕ) → at ≡ after net k first → new ≤ least → IsLeastAt new at → ((j : ℕ) → j < k → IsLeastAt least (after net j first)) → (j : ℕ) → j < k + 1 → IsLeastAt new (after net j first)
+  least_more first k at least new e a b h j l = elim (cases_lt j k) [
+    | inl less ↦ (let (x, y) = h j less in (omega arith, omega arith))
+    | inr last ↦ subst (IsLeastAt new) (e ∙ ap (λ (n : ℕ). after net n first) (let s : k ≡ j = omega arith in s)) b
+  ]
+
+  pub away_more : (first k at new : ℕ) → at ≡ after net k first → new ≡ next net at → new ≢ first → ((j : ℕ) → j < k → next net (after net j first) ≢ first) → (j : ℕ) → j < k + 1 → next net (after net j first) ≢ first
+  away_more first k at new e n away h j l back = elim (cases_lt j k) [
+    | inl less ↦ h j less back
+    | inr last ↦ away (n ∙ ap (next net) (e ∙ ap (λ (i : ℕ). after net i first) (let s : k ≡ j = omega arith in s)) ∙ back)
+  ]
 
   pub round_less : (h a b : ℕ) → IsRoundFrom net h a → IsRoundFrom net h b → IsRoundFrom net h (min a b)
   round_less h a b u v = elim (cases_lt a b) [

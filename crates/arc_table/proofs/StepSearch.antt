@@ -6,7 +6,7 @@ use Rattle.std.specs.List.Sorted.{IsSorted, IsNonDecreasingBy, IsPartitionPoint}
 use Rattle.std.specs.Ordering.{ordering_then, ordering_index, is_lt, nat_cmp, MatchOrdering}
 use Rattle.std.specs.declared.cmp.Ordering.TheVariants.{Less, Equal, Greater}
 use Rattle.std.specs.Cmp.{IsTotalOrder}
-use Rattle.std.proofs.lemmas.Bool.{cases_lt}
+use Rattle.std.proofs.lemmas.Bool.{cases_lt, false_from_ne_true}
 use Rattle.std.proofs.lemmas.Cmp.{int_cmp_total, on_total, then_total, int_ranked, tied_itself}
 use Rattle.std.proofs.lemmas.List.{get_or-map, length-map}
 use Rattle.std.proofs.lemmas.List.Sorted.{searchable_from_sorted, Contains-permutation, IsPermutation-sym}
@@ -15,8 +15,9 @@ use Rattle.std.proofs.lemmas.Bool.{and_parts}
 use Rattle.std.proofs.Math.ListN.{get_or-append}
 use Rattle.std.proofs.lemmas.List.Elements.{Contains-append_left, Contains-append_right, Contains-append_cases}
 use Rattle.lists.proofs.Members.{Contains-map, map-Contains}
-use Rattle.plane_model.specs.Points.{GridPoint, Segment, same_point, reversed}
-use Rattle.plane_model.proofs.PointOrder.{point_is, segment_is, same_point_from}
+use Rattle.plane_model.specs.Points.{GridPoint, Segment, same_point, is_before, reversed}
+use Rattle.plane_model.specs.Arrangement.{IsBefore}
+use Rattle.plane_model.proofs.PointOrder.{point_is, segment_is, same_point_from, before_to, is_before-IsStrictOrder}
 use Rattle.arc_table.specs.Steps.{point_cmp, step_cmp, AreSteps, HasBoth, AreTwins}
 use Rattle.arc_table.specs.declared.half_links.LinkedStep.{LinkedStep}
 
@@ -35,6 +36,19 @@ same_point_is p q e = go (int_cmp p.x q.x) (int_cmp p.y q.y) (int_ranked p.x q.x
     go Equal Equal h k e = point_is p q h k
     go Equal Greater h k e = absurd cc
     go Greater b h k e = absurd cc
+
+pub not_before : (p q : GridPoint) → is_lt (point_cmp p q) ≡ false → is_before p q ≡ false
+not_before p q e = go (int_cmp p.x q.x) (int_cmp p.y q.y) (int_ranked p.x q.x (int_cmp p.x q.x) refl) (int_ranked p.y q.y (int_cmp p.y q.y) refl) e
+  where
+    behind : IsBefore q p → is_before p q ≡ false
+    behind u = false_from_ne_true (is_before p q) (λ b. is_before-IsStrictOrder.irreflexive p (is_before-IsStrictOrder.trans p q p b (before_to q p u)))
+
+    go : (a b : Ordering) → MatchOrdering a (p.x <ℤ q.x) (p.x ≡ q.x) (q.x <ℤ p.x) → MatchOrdering b (p.y <ℤ q.y) (p.y ≡ q.y) (q.y <ℤ p.y) → is_lt (ordering_then a b) ≡ false → is_before p q ≡ false
+    go Less b h k e = absurd (let f : true ≡ false = e in cc)
+    go Equal Less h k e = absurd (let f : true ≡ false = e in cc)
+    go Equal Equal h k e = false_from_ne_true (is_before p q) (λ b. is_before-IsStrictOrder.irreflexive q (subst (λ (r : GridPoint). is_before r q ≡ true) (point_is p q h k) b))
+    go Equal Greater h k e = behind (inr (sym h, k))
+    go Greater b h k e = behind (inl h)
 
 same_step_is : (s t : Segment) → step_cmp s t ≡ Equal → s ≡ t
 same_step_is s t e = go (point_cmp s.start t.start) (point_cmp s.stop t.stop) refl refl e

@@ -1,29 +1,31 @@
 -- The arcs of a table are whole: nodes are their ends alone.
 use Rattle.std.proofs.Common.{◌≡◌, ◌⊎◌, inl, inr, sym, ap, ◌∙◌, subst, arith, ℕ, zero, suc, ◌+◌, ◌-◌, ◌<◌, Bool, true, false, List, ◌++◌, map, reverse, length, All, Contains, Some, None}
 use Rattle.std.specs.Prelude.{◌≢◌, if◌then◌else◌}
+use Rattle.std.proofs.lemmas.Bool.{cases_lt}
 use Rattle.std.proofs.lemmas.List.{get_or_default, get_or-map, length-map}
 use Rattle.std.proofs.lemmas.List.Elements.{Contains-append_left, Contains-append_right}
 use Rattle.std.proofs.lemmas.List.Sorted.{Contains-permutation, IsPermutation-sym}
 use Rattle.std.proofs.lemmas.Option.{slice_get-get_or, slice_get_cases}
 use Rattle.lists.proofs.Members.{Contains-map}
-use Rattle.plane_model.specs.Points.{GridPoint, Segment, Path, reversed, link_between}
+use Rattle.plane_model.specs.Points.{GridPoint, Segment, Path, is_before, reversed, link_between}
 use Rattle.plane_model.specs.Drawing.{Drawing}
 use Rattle.plane_model.specs.Arrangement.{IsBefore}
 use Rattle.plane_model.specs.Snapped.{links_of}
 use Rattle.arc_table.specs.Direction.{point_at, is_backward}
 use Rattle.arc_table.specs.Steps.{StartsAt, LeadsOn, AreOnward, AreLinks, AreSteps}
 use Rattle.arc_table.specs.Nodes.{turns_of_drawing, IsTurn, AreTurns}
-use Rattle.arc_table.specs.Numbering.{walk, step_at, link_at, points_along, arc_points, IsWay}
-use Rattle.arc_table.specs.WholeArcs.{EndsAt, IsPassed, IsNode, IsWholeArc}
+use Rattle.arc_table.specs.Numbering.{walk, step_at, link_at, points_along, arc_points, GoesRound, IsWay}
+use Rattle.arc_table.specs.WholeArcs.{EndsAt, IsPassed, IsNode, IsWholeArc, StartsAtLeast}
 use Rattle.arc_table.specs.declared.half_links.Net.{Net}
 use Rattle.arc_table.specs.declared.numbering.Way.{Way}
 use Rattle.arc_table.proofs.Along.{link_of_up, link_there, meets}
 use Rattle.arc_table.proofs.Everywhere.{All-mapped}
 use Rattle.arc_table.proofs.Marks.{back_at}
-use Rattle.arc_table.proofs.Others.{start_is}
+use Rattle.arc_table.proofs.Others.{start_is, none_starts_before}
 use Rattle.arc_table.proofs.Proper.{link_turned, link_is, moves}
 use Rattle.arc_table.proofs.Turns.{turn_of_listed, listed_of_turn}
-use Rattle.arc_table.proofs.WholeBack.{back_whole}
+use Rattle.arc_table.proofs.WholeBack.{back_least, back_whole}
+use Rattle.arc_table.proofs.Rounds.{came_back}
 use Rattle.arc_table.proofs.Runs.{goes_at, length_walk, walk_at, twin, next, after, twin_there, after_there, one_of}
 
 module _ (d : Drawing) (net : Net) (turns : List GridPoint) (turned : AreTurns d turns) (on : AreOnward net.steps.items net.twins.items turns net.onward.items (length net.steps.items))
@@ -221,6 +223,29 @@ module _ (d : Drawing) (net : Net) (turns : List GridPoint) (turned : AreTurns d
     long : 1 < length P
     long = let s = size in let m = w.some in omega arith
 
+    -- an arc that starts at no node goes round
+    goes_round : IsPassed d (point_at P 0) → GoesRound net way.start
+    goes_round here i = elim w.whole [
+      | inl e ↦ absurd (subst (IsNode d) (sym first_is) (is_node (twin net way.start) (twin_there net way.start w.there) e.0) here)
+      | inr e ↦ (
+          let (j, l, same) = came_back net way.start (n - 1) e.1 i in
+          let some = w.some in
+          elim (cases_lt j (n - 1)) [
+            | inl less ↦ (λ stays. goes_at net.onward.items n way.start j w.on (omega arith) (ap (next net) (sym same) ∙ stays ∙ same))
+            | inr last ↦ (λ stays.
+                let there : at i ≡ at (n - 1) = same ∙ ap at (let s : j ≡ n - 1 = omega arith in s) in e.0 (ap (next net) (sym there) ∙ stays ∙ there))
+          ])
+    ]
+
+    along_least : StartsAtLeast d P
+    along_least here zero l = none_starts_before net.steps.items made.sorted way.start way.start _ (omega arith) w.there
+    along_least here (suc j) l =
+        let s = size in
+        let m : j < n = omega arith in
+        let (ahead, behind) = w.least (goes_round here) j in
+        let back : point_at P (suc j) ≡ (step (twin net (at j))).start = point_after j m ∙ ap (λ (t : Segment). t.start) (sym (twin_step (at j) (at_there j))) in
+        ap (λ (p : GridPoint). is_before p (point_at P 0)) back ∙ none_starts_before net.steps.items made.sorted way.start (twin net (at j)) _ behind (twin_there net (at j) (at_there j))
+
   arc_whole : (way : Way) → IsWay net way → IsWholeArc d (arc_points net way)
   arc_whole way w = go (is_backward (points_along net way))
     where
@@ -230,3 +255,13 @@ module _ (d : Drawing) (net : Net) (turns : List GridPoint) (turned : AreTurns d
 
   pub arcs_whole : (ways : List Way) (arcs : List Path) → All (IsWay net) ways → arcs ≡ map (arc_points net) ways → All (IsWholeArc d) arcs
   arcs_whole ways arcs h e = subst (All (IsWholeArc d)) (sym e) (All-mapped (IsWay net) (IsWholeArc d) (arc_points net) (λ way w. arc_whole way w) ways h)
+
+  arc_least : (way : Way) → IsWay net way → StartsAtLeast d (arc_points net way)
+  arc_least way w = go (is_backward (points_along net way))
+    where
+      go : (b : Bool) → StartsAtLeast d (if b then reverse (points_along net way) else points_along net way)
+      go true = back_least d (points_along net way) (long way w) (along_whole way w) (along_least way w)
+      go false = along_least way w
+
+  pub arcs_least : (ways : List Way) (arcs : List Path) → All (IsWay net) ways → arcs ≡ map (arc_points net) ways → All (StartsAtLeast d) arcs
+  arcs_least ways arcs h e = subst (All (StartsAtLeast d)) (sym e) (All-mapped (IsWay net) (StartsAtLeast d) (arc_points net) (λ way w. arc_least way w) ways h)

@@ -68,6 +68,14 @@ IsBegin net h = StartsThere net h ⊎ GoesRound net h
 abbrev pub IsRoundFrom : Net → ℕ → ℕ → Type 0
 IsRoundFrom net h k = (i : ℕ) × ((k ≡ place_after net.onward.items i h) ⊎ (k ≡ twin_at net (place_after net.onward.items i h)))
 
+-- no step along the way on from h, and no step back of one, stands before step k
+abbrev pub IsLeastAlong : Net → ℕ → ℕ → Type 0
+IsLeastAlong net h k = (i : ℕ) → (k ≤ place_after net.onward.items i h) × (k ≤ twin_at net (place_after net.onward.items i h))
+
+-- where each step from h on goes on, step h is the least along that way
+abbrev pub BeginsLeast : Net → ℕ → Type 0
+BeginsLeast net h = GoesRound net h → IsLeastAlong net h h
+
 -- the place of the last of n steps from h on
 abbrev pub last_of_run : Net → ℕ → ℕ → ℕ
 last_of_run net n h = place_after net.onward.items (n - 1) h
@@ -78,9 +86,10 @@ IsWholeRun net n h =
     let last = last_of_run net n h in
     (StartsThere net h × (slice_index net.onward.items last ≡ last)) ⊎ ((slice_index net.onward.items last ≢ last) × (slice_index net.onward.items last ≡ h))
 
--- an arc starts at a step of the table, has a step, goes on to its last, and is whole
+-- an arc starts at a step of the table, at the least where it comes round, has a step, goes on to its last, and is whole
 pub record IsWay (net : Net) (way : Way) : Type 0 where
   pub there : way.start < length net.steps.items
+  pub least : BeginsLeast net way.start
   pub some : 0 < way.steps
   pub on : GoesOn net.onward.items way.steps way.start
   pub whole : IsWholeRun net way.steps way.start

@@ -1,8 +1,8 @@
 -- The arcs that a path of a drawing goes along.
-use Rattle.std.specs.Prelude.{◌≡◌, ◌⊎◌, ◌+◌, ◌<◌, ℕ, List, [], ◌++◌, All, length, take, drop}
+use Rattle.std.specs.Prelude.{◌≡◌, ◌⊎◌, ◌+◌, ◌<◌, ℕ, false, List, [], ◌++◌, All, length, take, drop}
 use Rattle.std.specs.List.{flat_map}
 use Rattle.lists.specs.Lists.{tail}
-use Rattle.plane_model.specs.Points.{GridPoint, Path}
+use Rattle.plane_model.specs.Points.{GridPoint, Path, is_before}
 use Rattle.plane_model.specs.Drawing.{Drawing, steps}
 use Rattle.plane_model.specs.Arcs.{SignedArc, joined_points, points_of}
 use Rattle.plane_model.specs.Arrangement.{IsArrangement}
@@ -13,7 +13,7 @@ use Rattle.arc_table.specs.Around.{start_of}
 use Rattle.arc_table.specs.Direction.{point_at}
 use Rattle.arc_table.specs.Lookup.{HasVertex}
 use Rattle.arc_table.specs.Nodes.{IsLineOf, IsRingOf}
-use Rattle.arc_table.specs.WholeArcs.{IsPassed, IsNode, IsWholeArc}
+use Rattle.arc_table.specs.WholeArcs.{IsPassed, IsNode, IsWholeArc, StartsAtLeast}
 
 -- the whole arcs of a drawing whose links meet at common ends alone
 pub record AreArcsOf (d : Drawing) (arcs : List Path) : Type 0 where
@@ -54,6 +54,12 @@ pub record ArePathArcs (d : Drawing) (arcs : List Path) (path : Path) (named : L
 -- whatever drawing these are the arcs of, and the path is drawn in
 abbrev pub AreArcsAlong : List Path → Path → List SignedArc → Type 0
 AreArcsAlong arcs path named = (d : Drawing) → AreArcsOf d arcs → IsDrawn d path → ArePathArcs d arcs path named
+
+-- whatever drawing these are the arcs of, and the path is drawn in: if it passes no node, and arcs without a node start at their least vertices,
+-- it is gone along from its least vertex
+abbrev pub BeginsAtLeast : List Path → Path → List SignedArc → Type 0
+BeginsAtLeast arcs path named = (d : Drawing) → AreArcsOf d arcs → All (StartsAtLeast d) arcs → IsDrawn d path → 1 < length path → IsOneRound d path named →
+    All (λ p. is_before p (point_at (joined_points arcs named) 0) ≡ false) path
 
 -- ---- vertices inside arcs
 

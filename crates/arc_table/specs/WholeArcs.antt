@@ -1,6 +1,6 @@
 -- Whole arcs: runs of links from node to node, or closed without a node.
-use Rattle.std.specs.Prelude.{◌≡◌, ◌≢◌, ◌⊎◌, ◌+◌, ◌-◌, ◌<◌, ℕ, List, Contains, length}
-use Rattle.plane_model.specs.Points.{GridPoint, Segment, Path}
+use Rattle.std.specs.Prelude.{◌≡◌, ◌≢◌, ◌⊎◌, ◌+◌, ◌-◌, ◌<◌, ℕ, false, List, Contains, length}
+use Rattle.plane_model.specs.Points.{GridPoint, Segment, Path, is_before}
 use Rattle.plane_model.specs.Drawing.{Drawing}
 use Rattle.plane_model.specs.Snapped.{links_of}
 use Rattle.arc_table.specs.Direction.{point_at}
@@ -33,3 +33,7 @@ IsNode d p = IsPassed d p → ⊥
 pub record IsWholeArc (d : Drawing) (arc : Path) : Type 0 where
   pub inner : (k : ℕ) → 0 < k → k + 1 < length arc → IsPassed d (point_at arc k)
   pub ends : (IsNode d (point_at arc 0) × IsNode d (point_at arc (length arc - 1))) ⊎ ((point_at arc 0 ≡ point_at arc (length arc - 1)) × IsPassed d (point_at arc 0))
+
+-- an arc that starts at no node, as only a closed one can, starts at its least vertex
+abbrev pub StartsAtLeast : Drawing → Path → Type 0
+StartsAtLeast d arc = IsPassed d (point_at arc 0) → (k : ℕ) → k < length arc → is_before (point_at arc k) (point_at arc 0) ≡ false

@@ -4,7 +4,7 @@ ghost use Rattle.plane_model.specs.Points.{link_between};
 ghost use Rattle.plane_model.specs.Drawing.{steps, paths_of, rings_of};
 ghost use Rattle.arc_table.specs.Direction.{IsForward};
 ghost use Rattle.arc_table.specs.Order.{AreInOrder, GoesAlong, HasOneMore, links_stepped};
-ghost use Rattle.arc_table.specs.Numbering.{AddsMarks, AreWays, GoesFrom, GoesOn, HasMark, HaveMarksTogether, IsBegin, IsLastOn, IsNumbering, IsRoundFrom, IsWay, StopsAtMark, arc_points, link_at, points_along, points_of_way};
+ghost use Rattle.arc_table.specs.Numbering.{AddsMarks, AreWays, BeginsLeast, GoesFrom, GoesOn, GoesRound, HasMark, HaveMarksTogether, IsBegin, IsLastOn, IsLeastAlong, IsNumbering, IsRoundFrom, IsWay, StopsAtMark, arc_points, link_at, points_along, points_of_way};
 
 use crate::direction::turn_forward;
 use crate::half_links::{Net, Step, place_near};
@@ -176,6 +176,7 @@ fn number_along(numbering: &mut Numbering, net: &Net, h: usize) -> Result<(), Al
 fn number_from(numbering: &mut Numbering, net: &Net, start: usize) -> Result<(), AllocError>
     requires there { start < length net.now.steps.items }
     requires begins { IsBegin net.now start }
+    requires least { BeginsLeast net.now start }
     requires numbering { IsNumbering net.now numbering.old }
     ensures on { OnOk result (GoesFrom net.now numbering.old numbering.new) }
     ensures here { OnOk result (HasMark numbering.new.is_numbered.items start) }
@@ -193,16 +194,18 @@ fn number_from(numbering: &mut Numbering, net: &Net, start: usize) -> Result<(),
     Ok(())
 }
 
-// The place of a step that begins the arc along step `h`, from either of its ends.
+// The place of a step that begins the arc along step `h`, from either of its ends; of a closed run the least.
 fn start_of(net: &Net, h: usize) -> usize
     requires { h < length net.now.steps.items }
     ensures there { result < length net.now.steps.items }
     ensures begins { IsBegin net.now result }
+    ensures least { BeginsLeast net.now result }
     ensures together { HaveMarksTogether net.now h result }
 {
-    match last_on(net, net.twin(h)) {
-        None => least_round(net, h),
-        Some(back) => net.twin(back),
+    let back = net.twin(h);
+    match last_on(net, back) {
+        None => least_round(net, back),
+        Some(last) => net.twin(last),
     }
 }
 
@@ -231,6 +234,7 @@ fn least_round(net: &Net, first: usize) -> usize
     requires { first < length net.now.steps.items }
     ensures there { result < length net.now.steps.items }
     ensures round { IsRoundFrom net.now first result }
+    ensures least { GoesRound net.now first → IsLeastAlong net.now first result }
 {
     let mut least = first;
     let mut at = first;

@@ -1,6 +1,6 @@
 ghost use Rattle.std.specs.Prelude.{◌≡◌, ◌<◌, All, IfOk, length};
 ghost use Rattle.arc_table.specs.Lookup.{BeginAlong};
-ghost use Rattle.arc_table.specs.PathArcs.{AreArcsAlong};
+ghost use Rattle.arc_table.specs.PathArcs.{AreArcsAlong, BeginsAtLeast};
 
 use crate::half_links::Step;
 use crate::list_types::SignedPath;
@@ -13,6 +13,7 @@ impl ArcTable {
     /// it has none from its least vertex: then it is one closed arc, named as often as the path goes round it.
     pub fn path_arcs(&self, alloc: Global, path: &Path) -> Result<SignedPath, AllocError>
         ensures exact { IfOk result (AreArcsAlong self.now path.now) }
+        ensures least { IfOk result (BeginsAtLeast self.now path.now) }
         ensures begun { IfOk result (BeginAlong self.now path.now) }
         ensures there { IfOk result (λ arcs. All (λ a. a.arc < length self.now) arcs) }
     {

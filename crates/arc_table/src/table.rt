@@ -7,7 +7,7 @@ ghost use Rattle.arc_table.specs.Around.{IsAround};
 ghost use Rattle.arc_table.specs.Lookup.{IsArcAt, IsBegunBy};
 ghost use Rattle.arc_table.specs.Order.{AreNumbered};
 ghost use Rattle.arc_table.specs.PathArcs.{IsAloneAt};
-ghost use Rattle.arc_table.specs.WholeArcs.{IsWholeArc};
+ghost use Rattle.arc_table.specs.WholeArcs.{IsWholeArc, StartsAtLeast};
 
 use crate::direction::{is_before, is_same};
 use crate::first_steps::{FirstStep, first_steps, turning};
@@ -60,13 +60,14 @@ impl Model for ArcTable {
 
 impl ArcTable {
     /// The arcs of a snapped drawing: the whole table, or for want of memory nothing. Each arc is a run of links from
-    /// node to node with no node between, or a closed run without a node. They are numbered in the order in which the
+    /// node to node with no node between, or a closed run without a node, from its least vertex on. They are numbered in the order in which the
     /// paths first step along them: those of polygons, then lines, then boxes, each from its first vertex on.
     pub fn build(alloc: Global, s: &Snapped) -> Result<ArcTable, AllocError>
         ensures long { IfOk result (λ t. All (λ arc. 1 < length arc) t) }
         ensures forward { IfOk result (λ t. All IsForward t) }
         ensures links { IfOk result (λ t. GoAlong (links_of s.now) t) }
         ensures whole { IfOk result (λ t. All (IsWholeArc s.now) t) }
+        ensures least { IfOk result (λ t. All (StartsAtLeast s.now) t) }
         ensures numbered { IfOk result (λ t. AreNumbered s.now t) }
     {
         let turns = turns_of(alloc, s)?;

@@ -9,7 +9,6 @@ pub mod ClassLemmas
 pub mod LabelLemmas
 pub mod PointLemmas
 pub mod HolderLemmas
-pub mod TurnedLinks
 pub mod RingLemmas
 pub mod ItemLemmas
 pub mod HoldingLemmas

@@ -16,7 +16,7 @@ use Rattle.plane_parity.proofs.Abscissa.{same_link-self, same_link-false}
 use Rattle.plane_faces.proofs.Lists.{odd_count-permutation}
 use Rattle.arc_table.specs.Along.{GoAlong}
 use Rattle.arc_table.specs.PathArcs.{AreArcsOf, IsDrawn, ArePathArcs, round_from}
-use Rattle.face_classes.proofs.TurnedLinks.{links_turned}
+use Rattle.arc_table.proofs.Along.{links_turned}
 use Rattle.face_walk.specs.RingSteps.{AreArcsOfAll}
 use Rattle.face_classes.proofs.DartLemmas.{ends_differ}
 use Rattle.face_classes.proofs.StepLemmas.{IsStep, arc_of, one_place, step_at, step_moves}

@@ -23,7 +23,7 @@ returns-clause-on c =
     (c.mark_way-steps.ensures.stops links before.marks before.once) in
     let whole : AreWhole net marks =
     whole_after net old.is_numbered.items marks links start n c.mark_way-steps.ensures.some c.requires.there c.requires.begins before.marks before.whole.on added.0 added.1 c.mark_way-steps.ensures.on run in
-    let fits : IsWay net way = record { there = c.requires.there; some = c.mark_way-steps.ensures.some; on = c.mark_way-steps.ensures.on; whole = run } in
+    let fits : IsWay net way = record { there = c.requires.there; least = c.requires.least; some = c.mark_way-steps.ensures.some; on = c.mark_way-steps.ensures.on; whole = run } in
     one_way_more net old new way before fits c.in_ok-push.ensures.items c.mark_way-steps.ensures.each c.mark_way-steps.ensures.marks whole
 
 pub returns-clause-one : goal.returns-clause-one

@@ -3,6 +3,7 @@ use Rattle.plane_model.specs.Points.{GridPoint, Path}
 use Rattle.arc_table.specs.Lookup.{BeginAlong}
 use Rattle.arc_table.proofs.Begun.{one_begun}
 use Rattle.arc_table.proofs.DrawnPaths.{Follows, nothing_begun, follows_none, follows_inside, follows_begun, follows_on, follows_all, none_of}
+use Rattle.arc_table.proofs.OneRound.{begins_at_least}
 use Rattle.arc_table.proofs.table.ArcTable.path_arcs.Goals as goal
 use Rattle.arc_table.proofs.table.ArcTable.path_arcs.Goals.{then-inside-gt0, else-inside-gt0+in-Some+in_ok-push, else-inside-gt0+in_default}
 
@@ -45,3 +46,6 @@ pub returns-clause-exact : goal.returns-clause-exact
 returns-clause-exact c =
     let n : length c.as_slice-points.result.now ≡ length c.args.path.now = ap (λ (ps : Path). length ps) c.as_slice-points.ensures.all in
     follows_all c.args.self.now c.args.path.now (c.loop-i.i - 1) c.loop-i.inside c.loop-i.arcs (λ l. omega arith) c.loop-i.invariant.1
+
+pub returns-clause-least : goal.returns-clause-least
+returns-clause-least c = begins_at_least c.args.self.now c.args.path.now c.loop-i.arcs (λ k e l. (c.loop-i.invariant.0 k e l).0) (returns-clause-exact c)
