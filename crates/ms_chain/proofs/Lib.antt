@@ -1,6 +1,6 @@
 pub mod Decoded
 pub mod Given
-pub mod Drawings
+pub mod DrawingLemmas
 pub mod Ending
 pub mod Gathering
 pub mod Growing

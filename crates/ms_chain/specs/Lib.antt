@@ -1,4 +1,5 @@
 pub mod Decoding
+pub mod Drawing
 pub mod Effects
 pub mod Begun
 pub mod Formats

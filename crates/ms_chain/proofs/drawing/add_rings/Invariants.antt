@@ -1,9 +1,7 @@
-use Rattle.std.proofs.Common.{◌≡◌, ◌<◌, [], length}
-use Rattle.lists.specs.Lists.{last_of}
+use Rattle.std.proofs.Common.{◌≡◌, take}
+use Rattle.snap_round.specs.Paths.{with_rings}
+use Rattle.ms_chain.specs.Drawing.{drawn_rings}
 use Rattle.ms_chain.proofs.drawing.add_rings.Given as goal
 
 abbrev pub invariant-loop-ring : goal.invariant-loop-ring
-invariant-loop-ring l = record {
-  kept : length l.drawing.polygons ≡ length l.fn.drawing.polygons;
-  polygon : 0 < length (last_of [] l.drawing.polygons);
-}
+invariant-loop-ring l = l.drawing ≡ with_rings (drawn_rings (take l.ring-index l.rings)) l.initial.drawing
