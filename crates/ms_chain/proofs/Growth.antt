@@ -1,6 +1,6 @@
 -- Lists that grow at their end, and the layers of a name.
-use Rattle.std.proofs.Common.{◌||◌, Bool, true, false, Result, Ok, Err, if◌then◌else◌, true≢false, ◌≡◌, ℕ, ◌+◌, suc, zero, List, [], ◌∷◌, ◌++◌, length, refl, ap, sym, ◌∙◌, arith, append-nil, map}
-use Rattle.std.proofs.lemmas.List.{map-append}
+use Rattle.std.proofs.Common.{◌||◌, Bool, true, false, Result, Ok, Err, if◌then◌else◌, true≢false, ◌≡◌, ℕ, ◌+◌, suc, zero, List, [], ◌∷◌, ◌++◌, length, ◌<◌, get_or, take, refl, ap, sym, subst, ◌∙◌, arith, append-nil, map}
+use Rattle.std.proofs.lemmas.List.{map-append, take_more}
 use Rattle.std.proofs.lemmas.List.Elements.{filter-append}
 use Rattle.std.specs.List.{AllZip, filter, list_any, range_with_len}
 use Rattle.std.specs.Str.{bytes_eq}
@@ -26,6 +26,12 @@ zipped_on R [] [] x y h r = (r, tt)
 zipped_on R [] (b ∷ ys) x y h r = absurd h
 zipped_on R (a ∷ xs) [] x y h r = absurd h
 zipped_on R (a ∷ xs) (b ∷ ys) x y h r = (h.0, zipped_on R xs ys x y h.1 r)
+
+-- the next of a list, with its partner
+pub zipped_next : {A B : Type 0} (R : A → B → Type 0) (xs : List A) (i : ℕ) (x : A) (ys : List B) (y : B) → i < length xs → x ≡ get_or xs i x → AllZip R (take i xs) ys → R x y → AllZip R (take (i + 1) xs) (ys ++ y ∷ [])
+zipped_next {A} {B} R xs i x ys y there is h r =
+    let more : take (i + 1) xs ≡ take i xs ++ x ∷ [] = take_more xs i x there ∙ ap (λ (z : A). take i xs ++ z ∷ []) (sym is) in
+    subst (λ (zs : List A). AllZip R zs (ys ++ y ∷ [])) (sym more) (zipped_on R (take i xs) ys x y h r)
 
 range_pushed : (a n m : ℕ) → m ≡ a + n → range_with_len a (suc n) ≡ range_with_len a n ++ m ∷ []
 range_pushed a zero m e = ap (λ (k : ℕ). k ∷ []) (let f : a ≡ m = omega arith in f)
@@ -111,3 +117,14 @@ targets_on t front held e = both t front held ∙ ap (λ (ls : List Layer). targ
 
 pub targets_off : (t : Target) (front : List Held) (held : Held) → is_selected t held ≡ false → targets t (front ++ held ∷ []) ≡ targets t front
 targets_off t front held e = both t front held ∙ (ap (λ (ls : List Layer). targets t front ++ ls) (other_first t held [] e) ∙ append-nil (targets t front))
+
+-- the layer at a place
+
+next_held : (all : List Held) (i : ℕ) (held : Held) → i < length all → held ≡ get_or all i held → take (i + 1) all ≡ take i all ++ held ∷ []
+next_held all i held there is = take_more all i held there ∙ ap (λ (h : Held). take i all ++ h ∷ []) (sym is)
+
+pub target_next : (t : Target) (all : List Held) (i : ℕ) (held : Held) → i < length all → held ≡ get_or all i held → is_selected t held ≡ true → targets t (take (i + 1) all) ≡ targets t (take i all) ++ held.layer ∷ []
+target_next t all i held there is e = ap (targets t) (next_held all i held there is) ∙ targets_on t (take i all) held e
+
+pub other_next : (t : Target) (all : List Held) (i : ℕ) (held : Held) → i < length all → held ≡ get_or all i held → is_selected t held ≡ false → targets t (take (i + 1) all) ≡ targets t (take i all)
+other_next t all i held there is e = ap (targets t) (next_held all i held there is) ∙ targets_off t (take i all) held e

@@ -1,12 +1,15 @@
+pub mod Along
 pub mod Decoded
 pub mod Given
 pub mod DrawingLemmas
 pub mod Ending
 pub mod Gathering
 pub mod Growing
+pub mod LayerNames
 pub mod Looks
 pub mod Rows
 pub mod Steps
 pub mod Titles
+pub mod Tracing
 pub mod Growth
 pub mod LayerByLayer

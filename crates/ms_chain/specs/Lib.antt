@@ -11,6 +11,9 @@ pub mod Sources
 pub mod Status
 pub mod Telling
 pub mod Looks
+pub mod OnPlane
+pub mod Tracing
+pub mod Pictures
 pub mod Titles
 pub mod Commands
 pub mod Features

@@ -1,21 +1,27 @@
-ghost use Rattle.std.specs.Prelude.{◌≡◌, All, IfOk, length};
+ghost use Rattle.std.specs.Prelude.{◌≡◌, ℕ, All, IfOk, length};
+ghost use Rattle.std.specs.List.{AllZip};
 ghost use Rattle.topo_io.specs.Arcs.{LayerIsBelow, ShapeIsBelow};
+ghost use Rattle.ms_chain.specs.OnPlane.{list_on, set_on};
+ghost use Rattle.ms_chain.specs.Tracing.{AreTraced, IsTraced, IsTracedLayer, lines_along, points_alone};
 
 use crate::features::{copy_paths, copy_points, copy_text};
 use crate::layer::{Layer, Shape};
 use crate::plane::Plane;
 use crate::table_commands::copy_table;
-use ring_trace::trace;
+use arc_table::SignedPaths;
+use grid_base::PtList;
+use ring_trace::{FaceSet, trace};
 use std::alloc::{AllocError, Global};
 use topo_io::{ArcLayer, ArcShape, ArcShapeList};
 
-/// A layer with its shapes as arcs: rings of faces, and paths.
+/// A layer with its shapes as arcs of the plane: rings of faces, and paths.
 pub(crate) fn arc_layer_of(
     alloc: Global,
     plane: &Plane,
     layer: &Layer,
 ) -> Result<ArcLayer, AllocError>
     ensures below { IfOk result (LayerIsBelow (length plane.now.arcs)) }
+    ensures traced { IfOk result (IsTracedLayer plane.now layer.now) }
 {
     let shapes = arc_shapes(alloc, plane, &layer.shapes)?;
     Ok(ArcLayer {
@@ -27,28 +33,68 @@ pub(crate) fn arc_layer_of(
 }
 
 fn arc_shapes(alloc: Global, plane: &Plane, shapes: &[Shape]) -> Result<ArcShapeList, AllocError>
-    ensures count { IfOk result (λ drawn. length drawn ≡ length shapes.now) }
+    ensures count { IfOk result (λ traced. length traced ≡ length shapes.now) }
     ensures below { IfOk result (All (ShapeIsBelow (length plane.now.arcs))) }
+    ensures traced { IfOk result (AllZip (IsTraced plane.now) shapes.now) }
 {
-    let mut drawn = ArcShapeList::new(alloc);
+    let mut traced = ArcShapeList::new(alloc);
     for shape in shapes {
-        drawn.push(arc_shape(alloc, plane, shape)?)?;
+        traced.push(arc_shape(alloc, plane, shape)?)?;
     }
-    Ok(drawn)
+    Ok(traced)
 }
 
-fn arc_shape(alloc: Global, plane: &Plane, shape: &Shape) -> Result<ArcShape, AllocError>
+/// A shape as arcs of the plane; nothing for one that is empty, or not on the plane.
+pub(crate) fn arc_shape(alloc: Global, plane: &Plane, shape: &Shape) -> Result<ArcShape, AllocError>
     ensures below { IfOk result (ShapeIsBelow (length plane.now.arcs)) }
+    ensures traced { IfOk result (IsTraced plane.now shape.now) }
 {
-    if shape.is_empty() {
+    match shape {
+        Shape::Nothing => Ok(ArcShape::Nothing),
+        Shape::Faces(faces) => rings_round(alloc, plane, faces),
+        Shape::Paths(paths) => lines_along(alloc, plane, paths),
+        Shape::Points(points) => points_alone(alloc, points),
+    }
+}
+
+#[tactic(auto, using(crate::proofs::Tracing::none_traced, crate::proofs::Tracing::foreign_traced, crate::proofs::Tracing::rings_traced))]
+fn rings_round(alloc: Global, plane: &Plane, faces: &FaceSet) -> Result<ArcShape, AllocError>
+    ensures below { IfOk result (ShapeIsBelow (length plane.now.arcs)) }
+    ensures traced { IfOk result (AreTraced plane.now (set_on plane.now faces.now)) }
+{
+    if faces.is_empty() {
         return Ok(ArcShape::Nothing);
     }
-    Ok(match shape {
-        Shape::Faces(faces) if plane.has_all(faces) => {
-            ArcShape::Polygons(trace(alloc, &plane.arcs, &plane.faces, faces)?)
-        }
-        Shape::Paths(paths) if plane.has_arcs(paths) => ArcShape::Lines(copy_paths(alloc, paths)?),
-        Shape::Points(points) => ArcShape::Points(copy_points(alloc, points)?),
-        Shape::Nothing | Shape::Faces(_) | Shape::Paths(_) => ArcShape::Nothing,
-    })
+    if !plane.has_all(faces) {
+        return Ok(ArcShape::Nothing);
+    }
+    let polygons = trace(alloc, &plane.arcs, &plane.faces, faces)?;
+    Ok(ArcShape::Polygons(polygons))
+}
+
+#[tactic(auto, using(crate::proofs::Tracing::no_lines, crate::proofs::Tracing::foreign_lines, crate::proofs::Tracing::some_lines))]
+fn lines_along(alloc: Global, plane: &Plane, paths: &SignedPaths) -> Result<ArcShape, AllocError>
+    ensures below { IfOk result (ShapeIsBelow (length plane.now.arcs)) }
+    ensures traced { IfOk result (λ traced. traced ≡ lines_along (list_on plane.now paths.now)) }
+{
+    if paths.len() == 0 {
+        return Ok(ArcShape::Nothing);
+    }
+    if !plane.has_arcs(paths) {
+        return Ok(ArcShape::Nothing);
+    }
+    let lines = copy_paths(alloc, paths)?;
+    Ok(ArcShape::Lines(lines))
+}
+
+#[tactic(auto, using(crate::proofs::Tracing::no_points, crate::proofs::Tracing::some_points))]
+fn points_alone(alloc: Global, points: &PtList) -> Result<ArcShape, AllocError>
+    ensures below { IfOk result (λ traced. (n : ℕ) → ShapeIsBelow n traced) }
+    ensures traced { IfOk result (λ traced. traced ≡ points_alone points.now) }
+{
+    if points.len() == 0 {
+        return Ok(ArcShape::Nothing);
+    }
+    let copy = copy_points(alloc, points)?;
+    Ok(ArcShape::Points(copy))
 }

@@ -1,15 +1,19 @@
-ghost use Rattle.std.specs.Prelude.{◌≡◌, IfOk, length};
-ghost use Rattle.ms_chain.specs.Written.{IsPicture};
+ghost use Rattle.std.specs.Prelude.{◌≡◌, ◌<◌, ◌==◌, ◌++◌, All, IfOk, OnOk, if◌then◌else◌, length, map, reverse};
+ghost use Rattle.std.specs.List.{AllZip};
+ghost use Rattle.plane_model.specs.Arcs.{points_of};
+ghost use Rattle.topo_io.specs.Arcs.{ShapeIsBelow};
+ghost use Rattle.ms_chain.specs.Pictures.{IsDrawn, IsPicture, on_grid, points_along, without_shared};
 
-use crate::features::{copy_points, copy_text};
+use crate::arc_pictures::arc_shape;
+use crate::features::copy_text;
 use crate::layer::{Layer, Shape};
 use crate::plane::Plane;
 use crate::table_commands::copy_table;
-use arc_table::{ArcTable, SignedPath};
+use arc_table::{ArcTable, SignedPath, SignedPaths};
 use geojson_io::{GeoLayer, GeoShape, GeoShapeList};
 use grid_base::{PathList, PolygonRings, Pt, PtList, RingsList, SignedArc};
-use ring_trace::{FaceSet, trace};
 use std::alloc::{AllocError, Global};
+use topo_io::ArcShape;
 
 /// A layer with its shapes as grid points: rings of faces, points along arcs.
 pub(crate) fn picture_of(
@@ -17,7 +21,7 @@ pub(crate) fn picture_of(
     plane: &Plane,
     layer: &Layer,
 ) -> Result<GeoLayer, AllocError>
-    ensures shows { IfOk result (IsPicture layer.now) }
+    ensures shows { IfOk result (IsPicture plane.now layer.now) }
 {
     let shapes = shapes_of(alloc, plane, &layer.shapes)?;
     Ok(GeoLayer {
@@ -30,6 +34,7 @@ pub(crate) fn picture_of(
 
 fn shapes_of(alloc: Global, plane: &Plane, shapes: &[Shape]) -> Result<GeoShapeList, AllocError>
     ensures count { IfOk result (λ drawn. length drawn ≡ length shapes.now) }
+    ensures drawn { IfOk result (AllZip (IsDrawn plane.now) shapes.now) }
 {
     let mut drawn = GeoShapeList::new(alloc);
     for shape in shapes {
@@ -38,84 +43,109 @@ fn shapes_of(alloc: Global, plane: &Plane, shapes: &[Shape]) -> Result<GeoShapeL
     Ok(drawn)
 }
 
-fn shape_of(alloc: Global, plane: &Plane, shape: &Shape) -> Result<GeoShape, AllocError> {
-    if shape.is_empty() {
-        return Ok(GeoShape::Nothing);
-    }
-    Ok(match shape {
-        Shape::Nothing => GeoShape::Nothing,
-        Shape::Faces(faces) => GeoShape::Polygons(polygons_of(alloc, plane, faces)?),
-        Shape::Paths(paths) => {
-            GeoShape::Lines(lines_along(alloc, &plane.arcs, paths.as_slice())?)
+fn shape_of(alloc: Global, plane: &Plane, shape: &Shape) -> Result<GeoShape, AllocError>
+    ensures drawn { IfOk result (IsDrawn plane.now shape.now) }
+{
+    let traced = arc_shape(alloc, plane, shape)?;
+    let drawn = on_grid(alloc, &plane.arcs, traced)?;
+    Ok(drawn)
+}
+
+fn on_grid(alloc: Global, arcs: &ArcTable, traced: ArcShape) -> Result<GeoShape, AllocError>
+    requires { ShapeIsBelow (length arcs.now) traced }
+    ensures exact { IfOk result (λ drawn. drawn ≡ on_grid arcs.now traced) }
+{
+    Ok(match traced {
+        ArcShape::Nothing => GeoShape::Nothing,
+        ArcShape::Polygons(polygons) => {
+            GeoShape::Polygons(polygons_along(alloc, arcs, polygons.as_slice())?)
         }
-        Shape::Points(points) => GeoShape::Points(copy_points(alloc, points)?),
+        ArcShape::Lines(paths) => GeoShape::Lines(lines_along(alloc, arcs, paths.as_slice())?),
+        ArcShape::Points(points) => GeoShape::Points(points),
     })
 }
 
-fn polygons_of(alloc: Global, plane: &Plane, faces: &FaceSet) -> Result<RingsList, AllocError> {
-    if !plane.has_all(faces) {
-        return Ok(RingsList::new(alloc));
+fn polygons_along(
+    alloc: Global,
+    arcs: &ArcTable,
+    polygons: &[SignedPaths],
+) -> Result<RingsList, AllocError>
+    requires { All (All (All (λ a. a.arc < length arcs.now))) polygons.now }
+    ensures exact { IfOk result (λ drawn. drawn ≡ map (map (points_along arcs.now)) polygons.now) }
+{
+    let mut drawn = RingsList::new(alloc);
+    for rings in polygons {
+        drawn.push(rings_along(alloc, arcs, rings.as_slice())?)?;
     }
-    let traced = trace(alloc, &plane.arcs, &plane.faces, faces)?;
-    let mut polygons = RingsList::new(alloc);
-    for rings in traced.as_slice() {
-        polygons.push(rings_along(alloc, &plane.arcs, rings.as_slice())?)?;
-    }
-    Ok(polygons)
+    Ok(drawn)
 }
 
 fn rings_along(
     alloc: Global,
     arcs: &ArcTable,
     rings: &[SignedPath],
-) -> Result<PolygonRings, AllocError> {
-    let mut points = PolygonRings::new(alloc);
+) -> Result<PolygonRings, AllocError>
+    requires { All (All (λ a. a.arc < length arcs.now)) rings.now }
+    ensures exact { IfOk result (λ drawn. drawn ≡ map (points_along arcs.now) rings.now) }
+{
+    let mut drawn = PolygonRings::new(alloc);
     for ring in rings {
-        points.push(points_along(alloc, arcs, ring.as_slice())?)?;
+        drawn.push(points_along(alloc, arcs, ring.as_slice())?)?;
     }
-    Ok(points)
+    Ok(drawn)
 }
 
-fn lines_along(
-    alloc: Global,
-    arcs: &ArcTable,
-    paths: &[SignedPath],
-) -> Result<PathList, AllocError> {
-    let mut lines = PathList::new(alloc);
+fn lines_along(alloc: Global, arcs: &ArcTable, paths: &[SignedPath]) -> Result<PathList, AllocError>
+    requires { All (All (λ a. a.arc < length arcs.now)) paths.now }
+    ensures exact { IfOk result (λ drawn. drawn ≡ map (points_along arcs.now) paths.now) }
+{
+    let mut drawn = PathList::new(alloc);
     for path in paths {
-        lines.push(points_along(alloc, arcs, path.as_slice())?)?;
+        drawn.push(points_along(alloc, arcs, path.as_slice())?)?;
     }
-    Ok(lines)
+    Ok(drawn)
 }
 
 // The points of arcs that follow one another, each shared end once.
-fn points_along(alloc: Global, arcs: &ArcTable, path: &[SignedArc]) -> Result<PtList, AllocError> {
+fn points_along(alloc: Global, arcs: &ArcTable, path: &[SignedArc]) -> Result<PtList, AllocError>
+    requires { All (λ a. a.arc < length arcs.now) path.now }
+    ensures exact { IfOk result (λ points. points ≡ points_along arcs.now path.now) }
+{
     let mut points = PtList::new(alloc);
     for arc in path {
-        append_arc(&mut points, points_of(arcs, *arc), arc.is_reversed())?;
+        append_arc(&mut points, arcs, *arc)?;
     }
     Ok(points)
 }
 
-// None for an arc that the table lacks.
-fn points_of(arcs: &ArcTable, arc: SignedArc) -> &[Pt] {
-    if arc.id().num() < arcs.count() {
-        arcs.points_of(arc.id())
+// Adds the points of an arc, without the first where others stand before it.
+#[tactic(auto, using(crate::proofs::Along::shared_forward, crate::proofs::Along::shared_backward))]
+fn append_arc(points: &mut PtList, arcs: &ArcTable, arc: SignedArc) -> Result<(), AllocError>
+    requires { arc.arc < length arcs.now }
+    ensures exact { OnOk result (points.new ≡ points.old ++ without_shared points.old (points_of arcs.now arc)) }
+    ensures some { OnOk result (0 < length points.new) }
+{
+    let way = arcs.points_of(arc.id());
+    let shared = shared_ends(points);
+    if arc.is_reversed() {
+        append_reversed(points, &way[..way.len() - shared])
     } else {
-        &[]
+        points.append(&way[shared..])
     }
 }
 
-fn append_arc(points: &mut PtList, arc: &[Pt], is_reversed: bool) -> Result<(), AllocError> {
-    let shared = usize::from(points.len() > 0);
-    if is_reversed {
-        for point in arc.iter().rev().skip(shared) {
-            points.push(*point)?;
-        }
-    } else {
-        for point in arc.iter().skip(shared) {
-            points.push(*point)?;
-        }
+// One where points stand before an arc, since it begins at the last of them.
+fn shared_ends(points: &PtList) -> usize
+    ensures exact { result ≡ (if length points.now == 0 then 0 else 1) }
+{
+    if points.len() == 0 { 0 } else { 1 }
+}
+
+fn append_reversed(points: &mut PtList, way: &[Pt]) -> Result<(), AllocError>
+    ensures exact { OnOk result (points.new ≡ points.old ++ reverse way.now) }
+{
+    for k in 0..way.len() {
+        points.push(way[way.len() - 1 - k])?;
     }
     Ok(())
 }

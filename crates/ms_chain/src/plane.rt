@@ -24,9 +24,15 @@ pub(crate) struct Plane {
 }
 
 impl Plane {
+    ghost use Rattle.std.specs.Prelude.{◌≡◌, ◌<◌, All, IsTrue, length};
+    ghost use Rattle.face_walk.specs.Places.{HasArc};
+    ghost use Rattle.ring_trace.specs.Sets.{IsSetOf};
+    ghost use Rattle.ms_chain.specs.OnPlane.{has_arcs, has_faces};
+
     /// Whether all faces of a set are faces of the plane, other than the outer one.
     #[tactic(auto, using(crate::proofs::Looks::set_of_faces))]
     pub(crate) fn has_all(&self, set: &FaceSet) -> bool
+        ensures exact { result ≡ has_faces self.now set.now }
         ensures inner { IsTrue result → IsSetOf self.now.faces set.now }
     {
         are_inner(&self.faces, set.faces())
@@ -35,6 +41,7 @@ impl Plane {
     /// Whether all arcs of the paths are arcs of the plane.
     #[tactic(auto, using(crate::proofs::Looks::paths_of_faces, crate::proofs::Looks::paths_below))]
     pub(crate) fn has_arcs(&self, paths: &SignedPaths) -> bool
+        ensures exact { result ≡ has_arcs self.now paths.now }
         ensures there { IsTrue result → All (All (HasArc self.now.faces)) paths.now }
         ensures below { IsTrue result → All (All (λ a. a.arc < length self.now.arcs)) paths.now }
     {

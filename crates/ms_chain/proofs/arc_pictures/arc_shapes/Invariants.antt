@@ -1,9 +1,12 @@
-use Rattle.std.proofs.Common.{◌≡◌, All, length}
+use Rattle.std.proofs.Common.{◌≡◌, All, length, take}
+use Rattle.std.specs.List.{AllZip}
 use Rattle.topo_io.specs.Arcs.{ShapeIsBelow}
+use Rattle.ms_chain.specs.Tracing.{IsTraced}
 use Rattle.ms_chain.proofs.arc_pictures.arc_shapes.Given as goal
 
 abbrev pub invariant-loop-shape : goal.invariant-loop-shape
 invariant-loop-shape l = record {
-  count : length l.drawn ≡ l.shape-index;
-  below : All (ShapeIsBelow (length l.plane.arcs)) l.drawn;
+  count : length l.traced ≡ l.shape-index;
+  below : All (ShapeIsBelow (length l.plane.arcs)) l.traced;
+  traced : AllZip (IsTraced l.plane) (take l.shape-index l.shapes) l.traced;
 }

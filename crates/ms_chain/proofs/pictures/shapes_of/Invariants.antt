@@ -1,5 +1,10 @@
-use Rattle.std.proofs.Common.{◌≡◌, length}
+use Rattle.std.proofs.Common.{◌≡◌, length, take}
+use Rattle.std.specs.List.{AllZip}
+use Rattle.ms_chain.specs.Pictures.{IsDrawn}
 use Rattle.ms_chain.proofs.pictures.shapes_of.Given as goal
 
 abbrev pub invariant-loop-shape : goal.invariant-loop-shape
-invariant-loop-shape l = length l.drawn ≡ l.shape-index
+invariant-loop-shape l = record {
+  count : length l.drawn ≡ l.shape-index;
+  drawn : AllZip (IsDrawn l.plane) (take l.shape-index l.shapes) l.drawn;
+}

@@ -1,6 +1,12 @@
-use Rattle.std.proofs.Common.{All, length}
+use Rattle.std.proofs.Common.{All, length, take}
+use Rattle.std.specs.List.{AllZip}
 use Rattle.topo_io.specs.Arcs.{LayerIsBelow}
+use Rattle.ms_chain.specs.Targets.{targets}
+use Rattle.ms_chain.specs.Tracing.{IsTracedLayer}
 use Rattle.ms_chain.proofs.writing.arc_layers.Given as goal
 
 abbrev pub invariant-loop-held : goal.invariant-loop-held
-invariant-loop-held l = All (LayerIsBelow (length l.plane.arcs)) l.layers
+invariant-loop-held l = record {
+  below : All (LayerIsBelow (length l.plane.arcs)) l.layers;
+  each : AllZip (IsTracedLayer l.plane) (targets l.target (take l.held-index l.all)) l.layers;
+}

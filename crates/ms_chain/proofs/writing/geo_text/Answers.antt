@@ -1,13 +1,11 @@
 use Rattle.ms_chain.proofs.writing.geo_text.Goals as goal
 
-pub returns-in_ok-write_geojson-in-Ok : goal.returns-in_ok-write_geojson-in-Ok
-returns-in_ok-write_geojson-in-Ok c =
+pub returns-in_ok-write_geojson-in-Ok-clause-says : goal.returns-in_ok-write_geojson-in-Ok-clause-says
+returns-in_ok-write_geojson-in-Ok-clause-says c =
     record {
-      says = record {
-        layer = c.in-Ok.layer.now;
-        one = c.in-Ok.ensures.ok;
-        picture = c.in_ok-picture-in-Ok.picture;
-        shows = c.in_ok-picture-in-Ok.ensures.shows;
-        is = c.in_ok-write_geojson-in-Ok.ensures.exact;
-      };
+      layer = c.in-Ok.layer.now;
+      one = c.in-Ok.ensures.ok;
+      picture = c.in_ok-picture-in-Ok.picture;
+      shows = c.in_ok-picture-in-Ok.ensures.shows;
+      is = c.in_ok-write_geojson-in-Ok.ensures.exact;
     }

@@ -1,11 +1,9 @@
 use Rattle.ms_chain.proofs.writing.table_text.Goals as goal
 
-pub returns-in_ok-write_csv-in-Ok : goal.returns-in_ok-write_csv-in-Ok
-returns-in_ok-write_csv-in-Ok c =
+pub returns-in_ok-write_csv-in-Ok-clause-says : goal.returns-in_ok-write_csv-in-Ok-clause-says
+returns-in_ok-write_csv-in-Ok-clause-says c =
     record {
-      says = record {
-        layer = c.in-Ok.layer.now;
-        one = c.in-Ok.ensures.ok;
-        is = c.in_ok-write_csv-in-Ok.ensures.exact;
-      };
+      layer = c.in-Ok.layer.now;
+      one = c.in-Ok.ensures.ok;
+      is = c.in_ok-write_csv-in-Ok.ensures.exact;
     }
