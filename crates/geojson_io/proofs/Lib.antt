@@ -2,6 +2,7 @@ pub mod ReadLemmas
 pub mod PathLemmas
 pub mod GeometryLemmas
 pub mod TextLemmas
+pub mod NumberLemmas
 pub mod FeatureLemmas
 pub mod PropertyLemmas
 pub mod KindLemmas

@@ -6,3 +6,4 @@ pub mod LayerContent
 pub mod Layers
 pub mod Layering
 pub mod Texts
+pub mod Numbers

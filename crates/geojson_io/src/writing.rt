@@ -3,6 +3,7 @@ ghost use Rattle.json_read.specs.Table.{AreRows};
 ghost use Rattle.geojson_io.specs.Texts.{before_item, feature_text, features_text, line_end, geojson_text};
 
 mod geometries;
+mod numbers;
 mod properties;
 
 use crate::layer::GeoLayer;

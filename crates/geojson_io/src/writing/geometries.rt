@@ -2,9 +2,9 @@ ghost use Rattle.std.specs.Prelude.{◌≡◌, ◌≤◌, ◌++◌, ◌∷◌, [
 ghost use Rattle.geojson_io.specs.Texts.{point_text, path_text, polygon_text, list_text, geometry_text, before_item, type_text, one_or_many};
 
 use crate::shape::GeoShape;
+use crate::writing::numbers::write_number;
 use grid_base::{PolygonRings, Pt, PtList};
 use io_core::Bytes;
-use json_read::Decimal;
 use std::alloc::AllocError;
 
 /// A point as a pair of numbers in brackets.
@@ -13,10 +13,8 @@ pub fn write_point(point: &Pt, places: u8, out: &mut Bytes) -> Result<(), AllocE
     ensures { OnOk result (out.new ≡ out.old ++ point_text places point.now) }
 {
     out.push(b'[')?;
-    Decimal::of_grid(point.x(), places).print_into(out)?;
-    out.push(b',')?;
-    Decimal::of_grid(point.y(), places).print_into(out)?;
-    out.push(b']')
+    write_number(point.x(), places, b',', out)?;
+    write_number(point.y(), places, b']', out)
 }
 
 /// A comma before each item but the first.

@@ -1,0 +1,7 @@
+-- The text of a grid number, in parts: a sign, the whole part, and the fraction.
+use Rattle.std.specs.Prelude.{ℕ, ◌==◌, List, [], ◌∷◌, if◌then◌else◌}
+use Rattle.json_read.specs.Decimal.{trimmed_digits}
+
+-- a point and the digits of a fraction of 10 ^ places, without the zeros at their end; nothing where it is zero
+abbrev pub fraction_text : ℕ → ℕ → List ℕ
+fraction_text places n = if n == 0 then [] else 46 ∷ trimmed_digits places n
