@@ -17,7 +17,6 @@ use Rattle.plane_model.specs.Snapped.{links_of, snapped}
 use Rattle.plane_snapping.proofs.SnappedLinks.{snapped_links_are_an_arrangement}
 use Rattle.plane_parity.proofs.Sight.{sight_from_left, sight_from_right}
 use Rattle.plane_parity.proofs.SnappedRings.{list_any_same}
-use Rattle.plane_parity.proofs.Visible.{seen_from_left, seen_from_right}
 use Rattle.plane_faces.specs.Around.{opposite}
 use Rattle.plane_faces.specs.Places.{Place}
 use Rattle.plane_faces.specs.Rings.{darts_of_path}
@@ -38,7 +37,7 @@ use Rattle.line_ops.proofs.SideLemmas.{among_below}
 use Rattle.point_classes.specs.PointClasses.{PointsOf}
 use Rattle.line_classes.specs.LineClasses.{LeftSideIn}
 use Rattle.line_classes.specs.ArcsBetween.{AreAtSide, AreFacesHeld, AreBetween, IsSidedBy, PointsOfFeature, PointsOfSet, SetsStandFor, SetsStandForPoints, SetsStandForFeatures, ArcsBetweenSets, ArcsBetweenFeatures}
-use Rattle.line_classes.proofs.LinkSides.{sides_of_arcs}
+use Rattle.line_classes.proofs.LinkSides.{side_is_seen, sides_of_arcs}
 use Rattle.line_classes.proofs.RisingLists.{numbers_where_pass, numbers_where_rise, one_rising_list}
 use Rattle.line_classes.proofs.SidedRows.{inner_once, is_sided, sided_once}
 
@@ -101,24 +100,20 @@ module _ (d : Drawing) (drawn : HasPaths (snapped d)) (feature : List Polygon) (
       list_any_same (rings_hold z) (λ (polygon : Polygon). odd_left_of (links_of_paths polygon) (record { link = l; forward = false })) feature
       (λ polygon k. let e = even polygon k in sight_from_right (links_of (snapped d)) (links_of_paths polygon) (snapped_links_are_an_arrangement d).0 e.within e.even l c z sees)
 
-  sight : (b : Bool) (l : Segment) → Contains (links_of (snapped d)) l → (z : RationalPoint) × SeesSide (links_of (snapped d)) b l z
-  sight true l c = seen_from_left (links_of (snapped d)) (snapped_links_are_an_arrangement d).0 l c
-  sight false l c = seen_from_right (links_of (snapped d)) (snapped_links_are_an_arrangement d).0 l c
-
-  counted_then_seen : (e : Dart) → Contains (links_of (snapped d)) e.link → list_any (λ (polygon : Polygon). odd_left_of (links_of_paths polygon) e) feature ≡ true
+  pub counted_then_seen : (e : Dart) → Contains (links_of (snapped d)) e.link → list_any (λ (polygon : Polygon). odd_left_of (links_of_paths polygon) e) feature ≡ true
       → (z : RationalPoint) × SeesSide (links_of (snapped d)) e.forward e.link z × (feature_holds z feature ≡ true)
-  counted_then_seen e c h = let (z, sees) = sight e.forward e.link c in (z, sees, held_by_count e.forward e.link c z sees ∙ h)
+  counted_then_seen e c h = let (z, sees) = side_is_seen (links_of (snapped d)) (snapped_links_are_an_arrangement d).0 e.forward e.link c in (z, sees, held_by_count e.forward e.link c z sees ∙ h)
 
-  seen_then_counted : (e : Dart) → Contains (links_of (snapped d)) e.link → (z : RationalPoint) → SeesSide (links_of (snapped d)) e.forward e.link z → feature_holds z feature ≡ true
+  pub seen_then_counted : (e : Dart) → Contains (links_of (snapped d)) e.link → (z : RationalPoint) → SeesSide (links_of (snapped d)) e.forward e.link z → feature_holds z feature ≡ true
       → list_any (λ (polygon : Polygon). odd_left_of (links_of_paths polygon) e) feature ≡ true
   seen_then_counted e c z sees h = sym (held_by_count e.forward e.link c z sees) ∙ h
 
 -- ---- sets of the faces that features hold
 
-module _ (d : Drawing) (drawn : HasPaths (snapped d)) (layer : List ℕ) (sets : List (List ℕ)) (count : ℕ) (holders : List (List ℕ)) (held : AreFacesHeld count holders layer sets) where
-  there_is : (i : ℕ) (feature : List Polygon) → slice_get (snapped d).polygons i ≡ Some feature → Contains (snapped d).polygons feature
-  there_is i feature found = (i, slice_get_within (snapped d).polygons i feature found, get_or_from_slice_get (snapped d).polygons i feature feature found)
+pub there_is : {A : Type 0} (xs : List A) (i : ℕ) (x : A) → slice_get xs i ≡ Some x → Contains xs x
+there_is xs i x found = (i, slice_get_within xs i x found, get_or_from_slice_get xs i x x found)
 
+module _ (d : Drawing) (drawn : HasPaths (snapped d)) (layer : List ℕ) (sets : List (List ℕ)) (count : ℕ) (holders : List (List ℕ)) (held : AreFacesHeld count holders layer sets) where
   features_at_side : (e : Dart) → Contains (links_of (snapped d)) e.link → (k : ℕ) → k < count → FeaturesHoldLeftOf (snapped d).polygons (list_at holders k) e →
       AreAtSide (links_of (snapped d)) (PointsOfFeature (snapped d).polygons layer) e (owners_of sets k)
   features_at_side e on k below by_count = record {
@@ -131,12 +126,12 @@ module _ (d : Drawing) (drawn : HasPaths (snapped d)) (layer : List ℕ) (sets :
           let number : ℕ = get_or layer i 0 in
           let listed : slice_get layer i ≡ Some number = slice_get-get_or layer i 0 (omega arith) in
           let (feature, is_feature, holds) = (by_count number).0 ((held.held i number set listed found k below).0 there) in
-          let (z, sees, inside) = counted_then_seen d drawn feature (there_is number feature is_feature) e on holds in
+          let (z, sees, inside) = counted_then_seen d drawn feature (there_is (snapped d).polygons number feature is_feature) e on holds in
           (z, sees, (number, listed, feature, is_feature, inside)),
       λ h.
           let (z, sees, of_some) = h in
           let (number, listed, feature, is_feature, inside) = of_some in
-          let has_number : Contains (list_at holders k) number = (by_count number).1 (feature, is_feature, seen_then_counted d drawn feature (there_is number feature is_feature) e on z sees inside) in
+          let has_number : Contains (list_at holders k) number = (by_count number).1 (feature, is_feature, seen_then_counted d drawn feature (there_is (snapped d).polygons number feature is_feature) e on z sees inside) in
           let l = slice_get_within layer i number listed in
           let many = held.each in
           let found : slice_get sets i ≡ Some (get_or sets i []) = slice_get-get_or sets i [] (omega arith) in
@@ -144,7 +139,7 @@ module _ (d : Drawing) (drawn : HasPaths (snapped d)) (layer : List ℕ) (sets :
     );
   }
 
-face_below : (arcs : List Path) (faces : FaceTable) → IsBuiltOf arcs faces → All (λ f. f < faces.count) faces.places → (a : SignedArc) → a.arc < length arcs → face_left_of faces.places a < faces.count
+pub face_below : (arcs : List Path) (faces : FaceTable) → IsBuiltOf arcs faces → All (λ f. f < faces.count) faces.places → (a : SignedArc) → a.arc < length arcs → face_left_of faces.places a < faces.count
 face_below arcs faces built below a l = go a.is_reversed
   where
     go : (b : Bool) → face_left_of faces.places (record { arc = a.arc; is_reversed = b }) < faces.count
@@ -152,14 +147,14 @@ face_below arcs faces built below a l = go a.is_reversed
     go true = let many = built.places_counted in All-get_or (λ f. f < faces.count) faces.places (place_of (backward a.arc)) 0 (omega arith) below
 
 pub sets_stand_for_features : SetsStandForFeatures
-sets_stand_for_features d drawn arcs table faces built below labels h layer sets held n l j e there =
+sets_stand_for_features d arcs faces labels laid layer sets held n l j e there =
     let s = snapped_links_are_an_arrangement d in
-    let (label, by) = each_table_has_labels (links_of (snapped d)) s.0 arcs table.links faces in
+    let (label, by) = each_table_has_labels (links_of (snapped d)) s.0 arcs laid.table.links faces in
     let x : Dart = get_or (darts_of_path (get_or arcs n [])) j e in
-    let ahead = (features_beside_arcs d drawn arcs table faces built labels h (forward n) l (face_below arcs faces built below (forward n) l) j e there).0 in
-    let back = (features_beside_arcs d drawn arcs table faces built labels h (backward n) l (face_below arcs faces built below (backward n) l) j e there).0 in (
-      features_at_side d drawn layer sets faces.count labels.holders held x (dart_there (links_of (snapped d)) s.0 arcs table.long table.links faces label by n l j e there false) (sides.left_of faces (forward n)) (face_below arcs faces built below (forward n) l) ahead,
-      features_at_side d drawn layer sets faces.count labels.holders held (opposite x) (dart_there (links_of (snapped d)) s.0 arcs table.long table.links faces label by n l j e there true) (sides.left_of faces (backward n)) (face_below arcs faces built below (backward n) l) back,
+    let ahead = (features_beside_arcs d laid.drawn arcs laid.table faces laid.built labels laid.holders (forward n) l (face_below arcs faces laid.built laid.below (forward n) l) j e there).0 in
+    let back = (features_beside_arcs d laid.drawn arcs laid.table faces laid.built labels laid.holders (backward n) l (face_below arcs faces laid.built laid.below (backward n) l) j e there).0 in (
+      features_at_side d laid.drawn layer sets faces.count labels.holders held x (dart_there (links_of (snapped d)) s.0 arcs laid.table.long laid.table.links faces label by n l j e there false) (sides.left_of faces (forward n)) (face_below arcs faces laid.built laid.below (forward n) l) ahead,
+      features_at_side d laid.drawn layer sets faces.count labels.holders held (opposite x) (dart_there (links_of (snapped d)) s.0 arcs laid.table.long laid.table.links faces label by n l j e there true) (sides.left_of faces (backward n)) (face_below arcs faces laid.built laid.below (backward n) l) back,
     )
 
 -- ---- the arcs between them
@@ -182,5 +177,5 @@ pub arcs_between_sets : ArcsBetweenSets
 arcs_between_sets S arcs faces label h sets = arcs_between S (PointsOfSet S label sets) arcs faces sets (sets_stand_for_points S arcs faces label h sets)
 
 pub arcs_between_features : ArcsBetweenFeatures
-arcs_between_features d drawn arcs table faces built below labels h layer sets held =
-    arcs_between (links_of (snapped d)) (PointsOfFeature (snapped d).polygons layer) arcs faces sets (sets_stand_for_features d drawn arcs table faces built below labels h layer sets held)
+arcs_between_features d arcs faces labels laid layer sets held =
+    arcs_between (links_of (snapped d)) (PointsOfFeature (snapped d).polygons layer) arcs faces sets (sets_stand_for_features d arcs faces labels laid layer sets held)

@@ -5,3 +5,4 @@ pub mod PathRuns
 pub mod RisingLists
 pub mod SidedRows
 pub mod ArcsBetween
+pub mod Sources

@@ -66,6 +66,11 @@ right_off S l z h clear = seeing_is_off S l z (below (turn (at l.start) (at l.st
     below : (t : ℤ) → t <ℤ pos 0 → t ≡ pos 0 → ⊥
     below t h e = omega (arith, ints)
 
+-- each side of a link is seen
+pub side_is_seen : (S : List Segment) → IsArrangement S → (b : Bool) (l : Segment) → Contains S l → (z : RationalPoint) × SeesSide S b l z
+side_is_seen S arr true l c = seen_from_left S arr l c
+side_is_seen S arr false l c = seen_from_right S arr l c
+
 -- ---- a side of a link belongs to the points of a set exactly if the set has its label
 
 module _ (S : List Segment) (arr : IsArrangement S) (distinct : IsDistinct S) (label : Place → ℕ) (agrees : AgreesWherePlacesMeet S label) (set : List ℕ) where

@@ -174,10 +174,10 @@ cut_each cut join runs (line ∷ lines) (a ∷ named) size h =
     map-append join (cut a) (flat_map cut named) ∙ (λ i. h 0 (omega arith) i ++ cut_each cut join runs lines named (omega arith) (λ k l. h (suc k) (omega arith)) i)
 
 pub line_features_are_cut : LineFeaturesAreCut
-line_features_are_cut d drawn arcs table faces built label by set lines named h test tests = (
-  cut_each (runs_where (is_inside faces set)) (steps_of_run arcs) (λ (line : Path). runs_where (goes_inside test) (steps line)) lines named h.each (λ k l. (one k l).clipped test tests),
-  cut_each (runs_where (is_outside faces set)) (steps_of_run arcs) (λ (line : Path). runs_where (goes_outside test) (steps line)) lines named h.each (λ k l. (one k l).erased test tests),
-)
+line_features_are_cut d drawn arcs table faces built label by set lines named h test tests = record {
+  clipped = cut_each (runs_where (is_inside faces set)) (steps_of_run arcs) (λ (line : Path). runs_where (goes_inside test) (steps line)) lines named h.each (λ k l. (one k l).clipped test tests);
+  erased = cut_each (runs_where (is_outside faces set)) (steps_of_run arcs) (λ (line : Path). runs_where (goes_outside test) (steps line)) lines named h.each (λ k l. (one k l).erased test tests);
+}
   where
     one : (k : ℕ) → k < length lines → AreCutInto (links_of (snapped d)) (PointsOf (links_of (snapped d)) label set) arcs faces set (get_or named k []) (steps (get_or lines k []))
     one k l =

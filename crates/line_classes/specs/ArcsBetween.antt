@@ -10,14 +10,12 @@ use Rattle.plane_model.specs.Snapped.{links_of, snapped}
 use Rattle.plane_faces.specs.Around.{opposite}
 use Rattle.plane_faces.specs.Places.{Place}
 use Rattle.plane_faces.specs.Rings.{darts_of_path}
-use Rattle.grid_base.specs.Drawn.{HasPaths}
-use Rattle.arc_table.specs.PathArcs.{AreArcsOf}
-use Rattle.face_walk.specs.Holders.{AreHolders, HolderTable, list_at}
-use Rattle.face_walk.specs.Places.{FaceTable, IsBuiltOf}
+use Rattle.face_walk.specs.Holders.{HolderTable, list_at}
+use Rattle.face_walk.specs.Places.{FaceTable}
 use Rattle.line_ops.specs.Sided.{has_both, left_sets, right_sets, sided_among}
 use Rattle.line_ops.specs.declared.sides.SidedArc.{SidedArc}
 use Rattle.point_classes.specs.PointClasses.{PointsOf}
-use Rattle.line_classes.specs.LineClasses.{AreLabelled, LeftSideIn}
+use Rattle.line_classes.specs.LineClasses.{AreLabelled, AreLaid, LeftSideIn}
 
 -- the points of a set of a list, by its number
 abbrev pub PointsOfSet : List Segment → (Place → ℕ) → List (List ℕ) → ℕ → Points
@@ -64,8 +62,7 @@ SetsStandForPoints = (S : List Segment) (arcs : List Path) (faces : FaceTable) (
 
 -- the sets of the faces that features of a snapped drawing hold stand for the points that they hold
 abbrev pub SetsStandForFeatures : Type 0
-SetsStandForFeatures = (d : Drawing) → HasPaths (snapped d) → (arcs : List Path) → AreArcsOf (snapped d) arcs → (faces : FaceTable) → IsBuiltOf arcs faces → All (λ f. f < faces.count) faces.places →
-    (labels : HolderTable) → AreHolders arcs (snapped d) faces labels → (layer : List ℕ) (sets : List (List ℕ)) → AreFacesHeld faces.count labels.holders layer sets →
+SetsStandForFeatures = (d : Drawing) (arcs : List Path) (faces : FaceTable) (labels : HolderTable) → AreLaid d arcs faces labels → (layer : List ℕ) (sets : List (List ℕ)) → AreFacesHeld faces.count labels.holders layer sets →
     SetsStandFor (links_of (snapped d)) (PointsOfFeature (snapped d).polygons layer) arcs faces sets
 
 -- so the arcs whose two sides are in different sets are those between the points of the sets
@@ -76,6 +73,5 @@ ArcsBetweenSets = (S : List Segment) (arcs : List Path) (faces : FaceTable) (lab
 -- and for features of a snapped drawing they are the arcs for which the lists of the features that have the left and the right side differ, and
 -- the inner ones those for which, besides, neither list is empty
 abbrev pub ArcsBetweenFeatures : Type 0
-ArcsBetweenFeatures = (d : Drawing) → HasPaths (snapped d) → (arcs : List Path) → AreArcsOf (snapped d) arcs → (faces : FaceTable) → IsBuiltOf arcs faces → All (λ f. f < faces.count) faces.places →
-    (labels : HolderTable) → AreHolders arcs (snapped d) faces labels → (layer : List ℕ) (sets : List (List ℕ)) → AreFacesHeld faces.count labels.holders layer sets →
+ArcsBetweenFeatures = (d : Drawing) (arcs : List Path) (faces : FaceTable) (labels : HolderTable) → AreLaid d arcs faces labels → (layer : List ℕ) (sets : List (List ℕ)) → AreFacesHeld faces.count labels.holders layer sets →
     AreBetween (links_of (snapped d)) (PointsOfFeature (snapped d).polygons layer) arcs (sided_among faces sets (length arcs))

@@ -1,2 +1,3 @@
 pub mod LineClasses
 pub mod ArcsBetween
+pub mod Sources

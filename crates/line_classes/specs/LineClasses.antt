@@ -16,6 +16,7 @@ use Rattle.grid_base.specs.Drawn.{HasPaths}
 use Rattle.arc_table.specs.Along.{GoAlong}
 use Rattle.arc_table.specs.Nodes.{IsLineOf}
 use Rattle.arc_table.specs.PathArcs.{AreArcsOf, ArePathArcs, RunsFrom, round_from}
+use Rattle.face_walk.specs.Holders.{AreHolders, HolderTable}
 use Rattle.face_walk.specs.Places.{FaceTable, IsBuiltOf}
 use Rattle.face_classes.specs.FaceClasses.{AreFreeInside, IsFaceOfPlace, SeesSide, directed_as}
 use Rattle.ring_trace.specs.Boundary.{IsOnBoundary}
@@ -32,6 +33,14 @@ pub record AreLabelled (S : List Segment) (arcs : List Path) (faces : FaceTable)
   pub free : AreFreeInside S arcs
   pub built : IsBuiltOf arcs faces
   pub by_face : IsFaceOfPlace arcs faces label
+
+-- the arcs and the faces of a snapped drawing, and the features and boxes that hold each face
+pub record AreLaid (d : Drawing) (arcs : List Path) (faces : FaceTable) (labels : HolderTable) : Type 0 where
+  pub drawn : HasPaths (snapped d)
+  pub table : AreArcsOf (snapped d) arcs
+  pub built : IsBuiltOf arcs faces
+  pub below : All (λ f. f < faces.count) faces.places
+  pub holders : AreHolders arcs (snapped d) faces labels
 
 -- some point that sees a directed link from its left is in R
 abbrev pub LeftSideIn : List Segment → Points → Dart → Type 0
@@ -126,9 +135,14 @@ pub record AreArcsOfLines (d : Drawing) (arcs : List Path) (lines : List Path) (
   pub there : All (All (λ a. a.arc < length arcs)) named
   pub along : (k : ℕ) → k < length lines → ArePathArcs d arcs (slice_index_or lines k []) (slice_index_or named k [])
 
+-- arcs of lines, cut by a set: the runs of arcs, joined, have for their steps the maximal runs of steps of the lines, line by line, along links that
+-- pass the test, and along links that don't
+pub record AreCutBy (test : Segment → Bool) (arcs : List Path) (faces : FaceTable) (set : List ℕ) (lines : List Path) (named : List (List SignedArc)) : Type 0 where
+  pub clipped : map (steps_of_run arcs) (flat_map (runs_where (is_inside faces set)) named) ≡ flat_map (λ (line : Path). runs_where (goes_inside test) (steps line)) lines
+  pub erased : map (steps_of_run arcs) (flat_map (runs_where (is_outside faces set)) named) ≡ flat_map (λ (line : Path). runs_where (goes_outside test) (steps line)) lines
+
 -- and so it is with a line feature, path by path, in order
 abbrev pub LineFeaturesAreCut : Type 0
 LineFeaturesAreCut = (d : Drawing) → HasPaths (snapped d) → (arcs : List Path) → AreArcsOf (snapped d) arcs → (faces : FaceTable) → IsBuiltOf arcs faces → (label : Place → ℕ) → IsFaceOfPlace arcs faces label → (set : List ℕ) →
     (lines : List Path) (named : List (List SignedArc)) → AreArcsOfLines (snapped d) arcs lines named → (test : Segment → Bool) → TestsInside (links_of (snapped d)) (PointsOf (links_of (snapped d)) label set) test →
-    (map (steps_of_run arcs) (flat_map (runs_where (is_inside faces set)) named) ≡ flat_map (λ (line : Path). runs_where (goes_inside test) (steps line)) lines)
-    × (map (steps_of_run arcs) (flat_map (runs_where (is_outside faces set)) named) ≡ flat_map (λ (line : Path). runs_where (goes_outside test) (steps line)) lines)
+    AreCutBy test arcs faces set lines named

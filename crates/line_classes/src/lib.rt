@@ -7,6 +7,7 @@
 
 ghost use Rattle.line_classes.specs.ArcsBetween.{ArcsBetweenFeatures, ArcsBetweenSets, SetsStandForFeatures, SetsStandForPoints};
 ghost use Rattle.line_classes.specs.LineClasses.{ArcsAreInside, BoundaryIsDirected, BoundaryOfArcs, DrawingsAreLabelled, InsideIsTested, LineFeaturesAreCut, LinesAreCut, PathsAreCut, SidesAreWhole, SidesOfArcs};
+ghost use Rattle.line_classes.specs.Sources.{LinesCutByBoxes, LinesCutByLayers, SidesOfBoxes, SidesOfLayers};
 
 /// These laws are true of the faces of the arcs of a snapped drawing.
 pub fn drawings_are_labelled()
@@ -79,8 +80,30 @@ pub fn arcs_between_sets()
     ensures { ArcsBetweenSets }
 {}
 
-/// And for features of a snapped drawing they are the arcs of whose links the lists of the features that have the left and the right
-/// side differ, with the lowest feature at each side.
+/// And for features of a snapped drawing they are the arcs of whose links the lists of the features that have the left and
+/// the right side differ, with the lowest feature at each side.
 pub fn arcs_between_features()
     ensures { ArcsBetweenFeatures }
+{}
+
+/// The sides of links that belong to the points of a set of the faces that features of a layer hold are those that belong to
+/// the points that some feature of the layer holds.
+pub fn sides_of_layers()
+    ensures { SidesOfLayers }
+{}
+
+/// And those of a set of the faces that a box holds are those that belong to the points in the box.
+pub fn sides_of_boxes()
+    ensures { SidesOfBoxes }
+{}
+
+/// So line features cut by a layer are their maximal runs of steps along links of which some feature of the layer has a side,
+/// and of steps along links of which none has.
+pub fn lines_cut_by_layers()
+    ensures { LinesCutByLayers }
+{}
+
+/// And so it is with a box.
+pub fn lines_cut_by_boxes()
+    ensures { LinesCutByBoxes }
 {}
