@@ -85,8 +85,8 @@ module _ (d : Drawing) (drawn : HasPaths (snapped d)) (feature : List Polygon) (
   abbrev S : List Segment
   S = links_of (snapped d)
 
-  even : (polygon : Polygon) → Contains feature polygon → IsEvenListOf (links_of (snapped d)) (links_of_paths polygon)
-  even polygon c =
+  pub polygon_even : (polygon : Polygon) → Contains feature polygon → IsEvenListOf (links_of (snapped d)) (links_of_paths polygon)
+  polygon_even polygon c =
       let (i, l, is) = Contains-joined_up (snapped d).polygons feature polygon of_drawing c in
       (polygons_sound (snapped d) drawn i polygon (slice_get-get_or (joined_up (snapped d).polygons) i polygon l ∙ ap Some is)).even
 
@@ -95,10 +95,10 @@ module _ (d : Drawing) (drawn : HasPaths (snapped d)) (feature : List Polygon) (
       → feature_holds z feature ≡ list_any (λ (polygon : Polygon). odd_left_of (links_of_paths polygon) (record { link = l; forward = b })) feature
   held_by_count true l c z sees =
       list_any_same (rings_hold z) (λ (polygon : Polygon). odd_left_of (links_of_paths polygon) (record { link = l; forward = true })) feature
-      (λ polygon k. let e = even polygon k in sight_from_left (links_of (snapped d)) (links_of_paths polygon) (snapped_links_are_an_arrangement d).0 e.within e.even l c z sees)
+      (λ polygon k. let e = polygon_even polygon k in sight_from_left (links_of (snapped d)) (links_of_paths polygon) (snapped_links_are_an_arrangement d).0 e.within e.even l c z sees)
   held_by_count false l c z sees =
       list_any_same (rings_hold z) (λ (polygon : Polygon). odd_left_of (links_of_paths polygon) (record { link = l; forward = false })) feature
-      (λ polygon k. let e = even polygon k in sight_from_right (links_of (snapped d)) (links_of_paths polygon) (snapped_links_are_an_arrangement d).0 e.within e.even l c z sees)
+      (λ polygon k. let e = polygon_even polygon k in sight_from_right (links_of (snapped d)) (links_of_paths polygon) (snapped_links_are_an_arrangement d).0 e.within e.even l c z sees)
 
   pub counted_then_seen : (e : Dart) → Contains (links_of (snapped d)) e.link → list_any (λ (polygon : Polygon). odd_left_of (links_of_paths polygon) e) feature ≡ true
       → (z : RationalPoint) × SeesSide (links_of (snapped d)) e.forward e.link z × (feature_holds z feature ≡ true)

@@ -6,3 +6,4 @@ pub mod RisingLists
 pub mod SidedRows
 pub mod ArcsBetween
 pub mod Sources
+pub mod SourcePoints

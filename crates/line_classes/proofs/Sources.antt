@@ -82,7 +82,7 @@ module _ (d : Drawing) (arcs : List Path) (faces : FaceTable) (labels : HolderTa
 
   -- ---- layers
 
-  layer_side : (layer set : List ℕ) → HasFacesOfLayer faces.count labels layer set → (e : Dart) → Contains (links_of (snapped d)) e.link →
+  pub layer_side : (layer set : List ℕ) → HasFacesOfLayer faces.count labels layer set → (e : Dart) → Contains (links_of (snapped d)) e.link →
       LeftSideIn (links_of (snapped d)) (PointsOf (links_of (snapped d)) label set) e ↔ LeftSideIn (links_of (snapped d)) (PointsOfLayer (snapped d).polygons layer) e
   layer_side layer set has_faces e c =
       let (k, face) = face_at e c in (
@@ -117,19 +117,22 @@ module _ (d : Drawing) (arcs : List Path) (faces : FaceTable) (labels : HolderTa
         sym (get_or-map (λ (path : Path). path ∷ []) (snapped d).boxes number [] paths (omega arith)) ∙ get_or_from_slice_get (map (λ (path : Path). path ∷ []) (snapped d).boxes) number paths paths found,
       )
 
+  pub box_even : (number : ℕ) (box : Path) → slice_get (snapped d).boxes number ≡ Some box → IsEvenListOf (links_of (snapped d)) (links_of_paths (box ∷ []))
+  box_even number box found = (boxes_sound (snapped d) laid.drawn number (box ∷ []) (from_listed number box found)).even
+
   -- what sees a side of a link is in a box exactly if the side is, by its count
-  boxed_by_count : (number : ℕ) (box : Path) → slice_get (snapped d).boxes number ≡ Some box → (b : Bool) (l : Segment) → Contains (links_of (snapped d)) l → (z : RationalPoint) → SeesSide (links_of (snapped d)) b l z
+  pub boxed_by_count : (number : ℕ) (box : Path) → slice_get (snapped d).boxes number ≡ Some box → (b : Bool) (l : Segment) → Contains (links_of (snapped d)) l → (z : RationalPoint) → SeesSide (links_of (snapped d)) b l z
       → rings_hold z (box ∷ []) ≡ odd_left_of (links_of_paths (box ∷ [])) (record { link = l; forward = b })
   boxed_by_count number box found b l c z sees = go b sees
     where
       even : IsEvenListOf (links_of (snapped d)) (links_of_paths (box ∷ []))
-      even = (boxes_sound (snapped d) laid.drawn number (box ∷ []) (from_listed number box found)).even
+      even = box_even number box found
 
       go : (f : Bool) → SeesSide (links_of (snapped d)) f l z → rings_hold z (box ∷ []) ≡ odd_left_of (links_of_paths (box ∷ [])) (record { link = l; forward = f })
       go true s = sight_from_left (links_of (snapped d)) (links_of_paths (box ∷ [])) (snapped_links_are_an_arrangement d).0 even.within even.even l c z s
       go false s = sight_from_right (links_of (snapped d)) (links_of_paths (box ∷ [])) (snapped_links_are_an_arrangement d).0 even.within even.even l c z s
 
-  box_side : (number : ℕ) (set : List ℕ) → HasFacesOfBox faces.count labels number set → (e : Dart) → Contains (links_of (snapped d)) e.link →
+  pub box_side : (number : ℕ) (set : List ℕ) → HasFacesOfBox faces.count labels number set → (e : Dart) → Contains (links_of (snapped d)) e.link →
       LeftSideIn (links_of (snapped d)) (PointsOf (links_of (snapped d)) label set) e ↔ LeftSideIn (links_of (snapped d)) (PointsOfBox (snapped d).boxes number) e
   box_side number set has_faces e c =
       let (k, face) = face_at e c in (

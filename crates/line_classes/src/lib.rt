@@ -1,13 +1,14 @@
 //! What lines and arcs are inside is what rational points show: an arc is inside a set of faces exactly if points of these
 //! faces see a side of each of its links. So the paths that a set cuts out are maximal runs of steps along such links, and
-//! the arcs between features are those whose links have different features at their two sides.
+//! the arcs between features are those whose links have different features at their two sides. A source is a layer of
+//! features, or a box: what is inside its faces is what points see that it holds.
 //!
 //! Each function carries one law in its contract, and does nothing.
 #![tactic(auto)]
 
 ghost use Rattle.line_classes.specs.ArcsBetween.{ArcsBetweenFeatures, ArcsBetweenSets, SetsStandForFeatures, SetsStandForPoints};
 ghost use Rattle.line_classes.specs.LineClasses.{ArcsAreInside, BoundaryIsDirected, BoundaryOfArcs, DrawingsAreLabelled, InsideIsTested, LineFeaturesAreCut, LinesAreCut, PathsAreCut, SidesAreWhole, SidesOfArcs};
-ghost use Rattle.line_classes.specs.Sources.{LinesCutByBoxes, LinesCutByLayers, SidesOfBoxes, SidesOfLayers};
+ghost use Rattle.line_classes.specs.Sources.{LinesCutByBoxes, LinesCutByLayers, PointsAreOfBoxes, PointsAreOfLayers, SidesOfBoxes, SidesOfLayers, VerticesInsideBoxes, VerticesInsideLayers};
 
 /// These laws are true of the faces of the arcs of a snapped drawing.
 pub fn drawings_are_labelled()
@@ -106,4 +107,26 @@ pub fn lines_cut_by_layers()
 /// And so it is with a box.
 pub fn lines_cut_by_boxes()
     ensures { LinesCutByBoxes }
+{}
+
+/// Off the links, the points of a set of the faces that features of a layer hold are those that some feature of the layer
+/// holds.
+pub fn points_are_of_layers()
+    ensures { PointsAreOfLayers }
+{}
+
+/// And those of a set of the faces that a box holds are those in the box.
+pub fn points_are_of_boxes()
+    ensures { PointsAreOfBoxes }
+{}
+
+/// So a vertex of a snapped drawing is inside a layer, as it is answered for it, exactly if some point that a feature of the
+/// layer holds sees it.
+pub fn vertices_inside_layers()
+    ensures { VerticesInsideLayers }
+{}
+
+/// And so it is with a box.
+pub fn vertices_inside_boxes()
+    ensures { VerticesInsideBoxes }
 {}
