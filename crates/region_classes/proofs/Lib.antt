@@ -8,3 +8,5 @@ pub mod Sides
 pub mod Parts
 pub mod PartLaws
 pub mod Mosaics
+pub mod Totals
+pub mod Areas

@@ -1,11 +1,13 @@
 -- Sets of faces follow regions.
-use Rattle.std.specs.Prelude.{◌≡◌, ◌↔◌, ℕ, ◌<◌, nat_eq, nat_lt, not, List, [], ◌∷◌, ◌++◌, All, Contains, filter, length, map, slice_index_or, ℤ}
+use Rattle.std.specs.Prelude.{◌≡◌, ◌↔◌, ℕ, ◌<◌, Bool, true, nat_eq, nat_lt, not, List, [], ◌∷◌, ◌++◌, All, Contains, filter, length, map, slice_index_or, ℤ}
 use Rattle.std.specs.List.{enumerate_from, flat_map, range_with_len}
 use Rattle.std.specs.List.Sorted.{IsStrictlyIncreasing}
 use Rattle.lists.specs.Lists.{ascending, has}
-use Rattle.plane_model.specs.Points.{RationalPoint, Path}
+use Rattle.plane_model.specs.Points.{RationalPoint, Segment, Path}
+use Rattle.plane_model.specs.Boundary.{boundary_by, twice_area}
 use Rattle.plane_model.specs.Drawing.{Drawing}
 use Rattle.plane_model.specs.Sees.{IsOffLinks}
+use Rattle.plane_model.specs.Sides.{LeftIn, Points, RightIn}
 use Rattle.plane_model.specs.Snapped.{links_of, snapped}
 use Rattle.plane_faces.specs.Places.{Place}
 use Rattle.grid_base.specs.Drawn.{HasPaths}
@@ -144,3 +146,17 @@ pub record FollowMosaic (d : Drawing) (arcs : List Path) (label : Place → ℕ)
 abbrev pub MosaicsAreFollowed : Type 0
 MosaicsAreFollowed = (d : Drawing) (arcs : List Path) (faces : FaceTable) (label : Place → ℕ) → IsWalked d arcs faces label → (sets : List (List ℕ)) → All (IsSetOf faces) sets → (region : ℕ → Region) →
     FollowEach (snapped d) arcs label sets region → (items : List MosaicItem) → IsMosaic faces sets items → FollowMosaic (snapped d) arcs label (length sets) region items
+
+-- ---- the areas of regions
+
+-- tests of the sides of links: whether the left, or right, side belongs to R
+pub record AreSides (S : List Segment) (R : Points) (left right : Segment → Bool) : Type 0 where
+  pub left_side : (l : Segment) → Contains S l → (left l ≡ true) ↔ LeftIn S R l
+  pub right_side : (l : Segment) → Contains S l → (right l ≡ true) ↔ RightIn S R l
+
+-- twice the area of a set of faces, as each face gives its own, is that within the boundary of its region: the links with one side in the region
+-- alone, each directed with the region on its left
+abbrev pub AreasAreThoseOfRegions : Type 0
+AreasAreThoseOfRegions = (d : Drawing) (arcs : List Path) (faces : FaceTable) (label : Place → ℕ) → IsWalked d arcs faces label → (set : List ℕ) → IsStrictlyIncreasing set → IsSetOf faces set → (r : Region) →
+    Follows (snapped d) arcs label set r → (left right : Segment → Bool) → AreSides (links_of (snapped d)) (Has (snapped d) arcs r) left right →
+    area_of faces.areas set ≡ twice_area (boundary_by left right (links_of (snapped d)))

@@ -5,6 +5,7 @@
 #![tactic(auto)]
 
 ghost use Rattle.region_classes.specs.RegionClasses.{
+  AreasAreThoseOfRegions,
   BoxesAreFollowed,
   CleanedSetsAreFollowed,
   ClippedSetsAreFollowed,
@@ -87,4 +88,10 @@ pub fn exactly_has_points()
 /// lexicographic order, those of the parts of what these regions have.
 pub fn mosaics_are_followed()
     ensures { MosaicsAreFollowed }
+{}
+
+/// Twice the area of a set of faces, as each face gives its own, is the sum of `x1 * y2 - y1 * x2` over the steps of the
+/// boundary of its region, with the region on the left.
+pub fn areas_are_those_of_regions()
+    ensures { AreasAreThoseOfRegions }
 {}
