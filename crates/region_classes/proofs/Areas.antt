@@ -30,7 +30,7 @@ use Rattle.part_classes.proofs.LinkLemmas.{left_at, right_at}
 use Rattle.region_ops.specs.Cleaned.{area_of}
 use Rattle.region_classes.specs.Regions.{Has}
 use Rattle.region_classes.specs.RegionClasses.{AreasAreThoseOfRegions}
-use Rattle.region_classes.proofs.Sides.{left_belongs, right_belongs}
+use Rattle.region_classes.proofs.SideTests.{left_same, right_same}
 use Rattle.region_classes.proofs.Totals.{distinct_from_pairs, total, total_append, total_filter, total_flat_map, total_map, total_of_same, total_once, total_same, total_swap}
 use Rattle.region_classes.proofs.Walked.{labels_faces, links_arranged, links_distinct}
 
@@ -192,23 +192,10 @@ module _ (arcs : List Path) (faces : FaceTable) (built : IsBuiltOf arcs faces) (
     area_is : area_of faces.areas set ≡ total weight S
     area_is = faces_total ∙ sym links_total
 
-one_value : (a b : Bool) → (a ≡ true → b ≡ true) → (b ≡ true → a ≡ true) → a ≡ b
-one_value true b to from = sym (to refl)
-one_value false true to from = from refl
-one_value false false to from = refl
-
 pub areas_are_those_of_regions : AreasAreThoseOfRegions
 areas_are_those_of_regions d arcs faces label walked set up inner r follows left right sides =
     let S : List Segment = links_of (snapped d) in
-    let labelling = labels_faces d arcs faces label walked in
     area_is arcs faces walked.built set up inner S (links_arranged d) (links_distinct d) walked.table.long walked.table.links label walked.labelled
     ∙ total_same (λ (l : Segment). weighed (has nat_eq set (label (left_side l))) (has nat_eq set (label (right_side l))) (cross_of l)) (λ (l : Segment). weighed (left l) (right l) (cross_of l)) S
-    (λ l c.
-    let on_left = left_belongs S (links_arranged d) (links_distinct d) label labelling set (Has (snapped d) arcs r) follows l c in
-    let on_right = right_belongs S (links_arranged d) (links_distinct d) label labelling set (Has (snapped d) arcs r) follows l c in
-    let same_left : has nat_eq set (label (left_side l)) ≡ left l = one_value (has nat_eq set (label (left_side l))) (left l)
-    (λ e. (sides.left_side l c).1 (on_left.1 (has_Contains set (label (left_side l)) e))) (λ e. Contains_has set (label (left_side l)) (on_left.0 ((sides.left_side l c).0 e))) in
-    let same_right : has nat_eq set (label (right_side l)) ≡ right l = one_value (has nat_eq set (label (right_side l))) (right l)
-    (λ e. (sides.right_side l c).1 (on_right.1 (has_Contains set (label (right_side l)) e))) (λ e. Contains_has set (label (right_side l)) (on_right.0 ((sides.right_side l c).0 e))) in
-    (λ i. weighed (same_left i) (same_right i) (cross_of l)))
+    (λ l c. λ i. weighed (left_same d arcs faces label walked set r follows left right sides l c i) (right_same d arcs faces label walked set r follows left right sides l c i) (cross_of l))
     ∙ sym (boundary_area left right S)

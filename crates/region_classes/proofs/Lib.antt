@@ -9,4 +9,6 @@ pub mod Parts
 pub mod PartLaws
 pub mod Mosaics
 pub mod Totals
+pub mod SideTests
 pub mod Areas
+pub mod Prints

@@ -20,6 +20,7 @@ ghost use Rattle.region_classes.specs.RegionClasses.{
   RemaindersAreFollowed,
   UnionsAreFollowed,
 };
+ghost use Rattle.region_classes.specs.Printed.{PolygonsPrintParts, TracesPrintRegions, TracesUseBoundaries};
 
 /// The faces that a polygon feature holds follow the feature.
 pub fn features_are_followed()
@@ -94,4 +95,21 @@ pub fn mosaics_are_followed()
 /// boundary of its region, with the region on the left.
 pub fn areas_are_those_of_regions()
     ensures { AreasAreThoseOfRegions }
+{}
+
+/// All rings that `trace` answers for a set together hold a point on no link exactly if the region of the set has it.
+pub fn traces_print_regions()
+    ensures { TracesPrintRegions }
+{}
+
+/// Of the polygons that `trace` answers there is one for each part of the region, in order, and its rings hold the points
+/// of this part.
+pub fn polygons_print_parts()
+    ensures { PolygonsPrintParts }
+{}
+
+/// The rings that `trace` answers use each step of the boundary of the region once, with the region on its left, and no
+/// other.
+pub fn traces_use_boundaries()
+    ensures { TracesUseBoundaries }
 {}
