@@ -1,7 +1,9 @@
 pub mod Along
 pub mod Decoded
 pub mod Given
+pub mod BegunLemmas
 pub mod DrawingLemmas
+pub mod FacesHeld
 pub mod Ending
 pub mod Gathering
 pub mod Growing
@@ -13,3 +15,4 @@ pub mod Titles
 pub mod Tracing
 pub mod Growth
 pub mod LayerByLayer
+pub mod Unbegun

@@ -2,6 +2,7 @@ pub mod Decoding
 pub mod Drawing
 pub mod Effects
 pub mod Begun
+pub mod BegunLayers
 pub mod Formats
 pub mod Budget
 pub mod Gathering
@@ -10,6 +11,7 @@ pub mod Running
 pub mod Sources
 pub mod Status
 pub mod Telling
+pub mod LaidOut
 pub mod Looks
 pub mod OnPlane
 pub mod Tracing

@@ -1,5 +1,5 @@
 -- A run of commands in order: what is written, and how it ends.
-use Rattle.std.specs.Prelude.{◌≡◌, ℕ, ◌+◌, ◌⊎◌, Bool, true, false, List, [], ◌∷◌, Result, Ok, Err}
+use Rattle.std.specs.Prelude.{◌≡◌, ℕ, ◌+◌, ◌⊎◌, Bool, true, false, List, [], ◌∷◌, map, Result, Ok, Err}
 use Rattle.io_core.specs.Contents.{Content, SameFiles}
 use Rattle.cmd_words.specs.Expressions.{Refusals, AreRefusals}
 use Rattle.cmd_words.specs.Tells.{Tells, FitsJob}
@@ -17,7 +17,12 @@ use Rattle.ms_chain.specs.Effects.{OutsideSeen, CountsGrew, WroteText, WriteRose
 use Rattle.std.specs.Io.KnownBytes.{Appends}
 use Rattle.io_core.specs.Counts.{Rose}
 use Rattle.geojson_io.specs.LayerContent.{LayerContent}
-use Rattle.ms_chain.specs.Begun.{IsUnbegun}
+use Rattle.lists.specs.Lists.{joined_up}
+use Rattle.ms_chain.specs.Begun.{IsUnbegun, IsFew}
+use Rattle.ms_chain.specs.BegunLayers.{BeginsOver}
+use Rattle.ms_chain.specs.Drawing.{drawing_of}
+use Rattle.plane_model.specs.Snapped.{snapped}
+use Rattle.cmd_words.specs.declared.job.SourceWord.{SourceWord}
 use Rattle.ms_chain.specs.Sources.{SourcesSeen, StopsAtSource, GivesAll}
 use Rattle.ms_chain.specs.Telling.{StreamSeen, AddsFront}
 use Rattle.ms_chain.specs.declared.outcome.Outcome.{Outcome}
@@ -95,11 +100,11 @@ pub record Keeps (before after : OutsideSeen) : Type 0 where
   pub stream : after.stream ≡ before.stream
   pub counts : CountsGrew before after
 
--- all sources are accepted, and the density of the snapped paths or memory ends the run
+-- all sources are accepted, and the snapped paths of their drawing, which are too many, or memory end the run
 pub record EndsUnbegun (chain : Chain) (sources sources' : SourcesSeen) (o : Outcome) : Type 0 where
   pub layers : List (List LayerContent)
   pub given : GivesAll chain.places chain.sources sources sources' layers
-  pub unbegun : IsUnbegun o
+  pub unbegun : IsUnbegun (drawing_of (joined_up layers) chain.boxes) o
 
 -- a source ends the run before anything is written, or what it gives does
 pub record EndsBefore (chain : Chain) (sources sources' : SourcesSeen) (before after : OutsideSeen) (o : Outcome) : Type 0 where
@@ -119,8 +124,10 @@ pub record RunsCommands (chain : Chain) (sources : SourcesSeen) (before after : 
   pub given : GivesAll chain.places chain.sources sources read layers
   pub middle : OutsideSeen
   pub kept : Keeps before middle
+  pub few : IsFew (drawing_of (joined_up layers) chain.boxes)
   pub begun : List Layer
   pub base : Base
+  pub over : BeginsOver (snapped (drawing_of (joined_up layers) chain.boxes)) (map (λ (source : SourceWord). source.owner) chain.sources) layers base.plane.arcs base.plane.faces base.plane.boxes.items begun base.sources
   pub places : base.places ≡ chain.places
   pub ran : BegunRuns base begun chain.commands middle after o
 

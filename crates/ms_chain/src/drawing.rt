@@ -171,11 +171,7 @@ fn add_line_features(
     Ok(())
 }
 
-fn add_shape_lines(
-    alloc: Global,
-    drawing: &mut Drawing,
-    shape: &GeoShape,
-) -> Result<(), AllocError>
+fn add_shape_lines(alloc: Global, drawing: &mut Drawing, shape: &GeoShape) -> Result<(), AllocError>
     requires feature { 0 < length drawing.old.lines }
     ensures added { OnOk result (drawing.new ≡ with_lines (lines_of shape.now) drawing.old) }
 {

@@ -1,14 +1,19 @@
-ghost use Rattle.std.specs.Prelude.{◌≡◌, ◌<◌, All, length, IfErr, IsTrue};
+ghost use Rattle.std.specs.Prelude.{◌≡◌, ◌<◌, ◌≤◌, [], All, length, nat_lt, replicate, slice_set, IfErr, IfOk, IsTrue, OnOk};
 ghost use Rattle.face_walk.specs.Places.{HasArc, IsBuiltOf};
 ghost use Rattle.std.specs.List.{list_all};
 ghost use Rattle.ring_trace.specs.Sets.{IsSetOf};
 ghost use Rattle.ms_chain.specs.Looks.{is_inner, is_below};
-ghost use Rattle.ms_chain.specs.Begun.{IsUnbegun};
+ghost use Rattle.lists.specs.Lists.{put_in_order};
+ghost use Rattle.plane_model.specs.Snapped.{snapped};
+ghost use Rattle.arc_table.specs.PathArcs.{AreArcsOf};
+ghost use Rattle.face_walk.specs.Holders.{list_at};
+ghost use Rattle.ms_chain.specs.Begun.{IsFew, IsUnbegun};
+ghost use Rattle.ms_chain.specs.LaidOut.{AreHeld, AreHeldFaces, IsLaidOut, PutsInto};
 
 use crate::outcome::Outcome;
 use arc_table::{ArcTable, SignedPath, SignedPaths};
 use face_walk::{Faces, Labels};
-use grid_base::{Drawing, FaceId, SignedArc, Snapped};
+use grid_base::{Drawing, FaceId, FeatId, SignedArc, Snapped};
 use ring_trace::FaceSet;
 use snap_round::{SnapFault, snap};
 use std::alloc::{AllocError, Global};
@@ -98,22 +103,30 @@ pub(crate) struct Laid {
 
 /// Snaps a drawing, and builds its arcs and faces.
 ///
-/// Errors: `TooDense`, and `Memory`.
+/// Errors: `TooDense`, where its snapped paths have more than 8,000,000 links, and `Memory`.
 pub(crate) fn laid_out(alloc: Global, drawing: &Drawing) -> Result<Laid, Outcome>
-    ensures unbegun { IfErr result IsUnbegun }
+    ensures unbegun { IfErr result (IsUnbegun drawing.now) }
+    ensures few { IfOk result (λ laid. IsFew drawing.now) }
+    ensures snapped { IfOk result (λ laid. laid.snapped ≡ snapped drawing.now) }
+    ensures laid { IfOk result (λ laid. IsLaidOut laid.snapped laid.plane.arcs laid.plane.faces laid.plane.boxes.items laid.features.items) }
 {
     match snap(alloc, drawing) {
-        Ok(snapped) => Ok(built(alloc, snapped)?),
+        Ok(snapped) => match built(alloc, snapped) {
+            Ok(laid) => Ok(laid),
+            Err(_) => Err(Outcome::Memory),
+        },
         Err(SnapFault::TooDense { count }) => Err(Outcome::TooDense { count }),
         Err(SnapFault::Memory) => Err(Outcome::Memory),
     }
 }
 
-fn built(alloc: Global, snapped: Snapped) -> Result<Laid, AllocError> {
-    let arcs = ArcTable::build(alloc, &snapped)?;
+fn built(alloc: Global, snapped: Snapped) -> Result<Laid, AllocError>
+    ensures snapped { IfOk result (λ laid. laid.snapped ≡ snapped) }
+    ensures laid { IfOk result (λ laid. IsLaidOut snapped laid.plane.arcs laid.plane.faces laid.plane.boxes.items laid.features.items) }
+{
+    let arcs = arcs_of(alloc, &snapped)?;
     let faces = Faces::build(alloc, &arcs)?;
-    let labels = Labels::of(alloc, &arcs, &faces, &snapped)?;
-    let held = HeldFaces::of(alloc, &snapped, &faces, &labels)?;
+    let held = HeldFaces::of(alloc, &arcs, &faces, &snapped)?;
     Ok(Laid {
         plane: Plane {
             arcs,
@@ -135,29 +148,88 @@ struct HeldFaces {
 impl HeldFaces {
     fn of(
         alloc: Global,
-        snapped: &Snapped,
+        arcs: &ArcTable,
         faces: &Faces,
-        labels: &Labels,
+        snapped: &Snapped,
     ) -> Result<HeldFaces, AllocError>
-        requires holders { length labels.now.holders ≡ faces.now.count }
-        requires boxes { length labels.now.boxes ≡ faces.now.count }
+        requires built { IsBuiltOf arcs.now faces.now }
+        ensures held { IfOk result (λ held. AreHeld snapped.now arcs.now faces.now held.boxes.items held.features.items) }
     {
-        let mut features = empty_sets(alloc, snapped.polygon_count())?;
-        let mut boxes = empty_sets(alloc, snapped.box_count())?;
-        for number in 0..faces.count() {
-            let face = FaceId::new(number);
-            for feature in labels.holders(face) {
-                put_face(&mut features, feature.num(), face)?;
-            }
-            for area in labels.boxes(face) {
-                put_face(&mut boxes, *area, face)?;
-            }
-        }
+        let labels = Labels::of(alloc, arcs, faces, snapped)?;
+        let features = features_held(alloc, snapped.polygon_count(), faces, &labels)?;
+        let boxes = boxes_held(alloc, snapped.box_count(), faces, &labels)?;
         Ok(HeldFaces { features, boxes })
     }
 }
 
-fn empty_sets(alloc: Global, count: u32) -> Result<Vec<FaceSet>, AllocError> {
+fn arcs_of(alloc: Global, snapped: &Snapped) -> Result<ArcTable, AllocError>
+    ensures exact { IfOk result (AreArcsOf snapped.now) }
+{
+    let _ = snapped.links();
+    ArcTable::build(alloc, snapped)
+}
+
+// The faces that each of so many polygon features holds, by its number.
+fn features_held(
+    alloc: Global,
+    count: u32,
+    faces: &Faces,
+    labels: &Labels,
+) -> Result<Vec<FaceSet>, AllocError>
+    requires each { length labels.now.holders ≡ faces.now.count }
+    ensures held { IfOk result (λ sets. AreHeldFaces labels.now.holders faces.now.count count sets.items) }
+{
+    let mut sets = empty_sets(alloc, count)?;
+    for number in 0..faces.count() {
+        let face = FaceId::new(number);
+        put_in_features(&mut sets, labels.holders(face), face)?;
+    }
+    Ok(sets)
+}
+
+fn put_in_features(
+    sets: &mut Vec<FaceSet>,
+    features: &[FeatId],
+    face: FaceId,
+) -> Result<(), AllocError>
+    ensures put { OnOk result (PutsInto features.now face sets.old.items sets.new.items) }
+{
+    for feature in features {
+        put_face(sets, feature.num(), face)?;
+    }
+    Ok(())
+}
+
+// The faces that each of so many boxes holds, by its number.
+fn boxes_held(
+    alloc: Global,
+    count: u32,
+    faces: &Faces,
+    labels: &Labels,
+) -> Result<Vec<FaceSet>, AllocError>
+    requires each { length labels.now.boxes ≡ faces.now.count }
+    ensures held { IfOk result (λ sets. AreHeldFaces labels.now.boxes faces.now.count count sets.items) }
+{
+    let mut sets = empty_sets(alloc, count)?;
+    for number in 0..faces.count() {
+        let face = FaceId::new(number);
+        put_in_boxes(&mut sets, labels.boxes(face), face)?;
+    }
+    Ok(sets)
+}
+
+fn put_in_boxes(sets: &mut Vec<FaceSet>, boxes: &[u32], face: FaceId) -> Result<(), AllocError>
+    ensures put { OnOk result (PutsInto boxes.now face sets.old.items sets.new.items) }
+{
+    for area in boxes {
+        put_face(sets, *area, face)?;
+    }
+    Ok(())
+}
+
+fn empty_sets(alloc: Global, count: u32) -> Result<Vec<FaceSet>, AllocError>
+    ensures empty { IfOk result (λ sets. sets.items ≡ replicate count []) }
+{
     let mut sets = Vec::new(alloc);
     for _number in 0..count {
         sets.push(FaceSet::new(alloc))?;
@@ -165,7 +237,10 @@ fn empty_sets(alloc: Global, count: u32) -> Result<Vec<FaceSet>, AllocError> {
     Ok(sets)
 }
 
-fn put_face(sets: &mut Vec<FaceSet>, number: u32, face: FaceId) -> Result<(), AllocError> {
+// The face into the set with this number, where there is one.
+fn put_face(sets: &mut Vec<FaceSet>, number: u32, face: FaceId) -> Result<(), AllocError>
+    ensures put { OnOk result (sets.new.items ≡ slice_set sets.old.items number (put_in_order nat_lt face (list_at sets.old.items number))) }
+{
     match sets.get_mut(number as usize) {
         Some(set) => set.insert(face),
         None => Ok(()),

@@ -140,6 +140,7 @@ pub(crate) fn read_sources<F: Files, I: Source>(
         (record { files = F.held files.old; file_faults = F.read_faults files.old; file_bytes = F.bytes_read files.old; input = I.left input.old; input_faults = I.faults input.old; input_bytes = I.bytes_read input.old })
         (record { files = F.held files.new; file_faults = F.read_faults files.new; file_bytes = F.bytes_read files.new; input = I.left input.new; input_faults = I.faults input.new; input_bytes = I.bytes_read input.new }) }
     ensures writes { NoneFell (F.write_faults files.old) (F.write_faults files.new) }
+    ensures owners { IfOk result (λ all. map (λ read. read.owner) all.items ≡ map (λ source. source.owner) sources.now) }
     ensures gives { IfOk result (λ all. GivesAll places sources.now
         (record { files = F.held files.old; file_faults = F.read_faults files.old; file_bytes = F.bytes_read files.old; input = I.left input.old; input_faults = I.faults input.old; input_bytes = I.bytes_read input.old })
         (record { files = F.held files.new; file_faults = F.read_faults files.new; file_bytes = F.bytes_read files.new; input = I.left input.new; input_faults = I.faults input.new; input_bytes = I.bytes_read input.new }) (map (λ read. read.layers) all.items)) }

@@ -1,5 +1,5 @@
 ghost use Rattle.std.specs.Prelude.{◌≤ℤ◌, pos, IfErr};
-ghost use Rattle.ms_chain.specs.Begun.{IsUnbegun};
+ghost use Rattle.ms_chain.specs.Begun.{IsTooMuch};
 
 use crate::areas::{sets_of, shapes_of, union_of};
 use crate::drawing::add_polygons;
@@ -15,8 +15,9 @@ use std::alloc::{AllocError, Global};
 /// squares of the grid.
 ///
 /// Errors: `TooDense`, and `Memory`.
+#[tactic(auto, using(crate::proofs::Unbegun::too_much))]
 pub(crate) fn synth_line(alloc: Global, seed: u32, n: u32) -> Result<String, Outcome>
-    ensures stops { IfErr result IsUnbegun }
+    ensures stops { IfErr result IsTooMuch }
 {
     let cells = cells_of(alloc, seed, n)?;
     let laid = laid_out(alloc, &cells)?;

@@ -2,6 +2,7 @@ use Rattle.std.proofs.Common.{◌≡◌, ◌++◌, ◌∷◌, [], ◌∙◌, ◌
 use Rattle.std.proofs.lemmas.List.{map-append, take_more}
 use Rattle.std.proofs.lemmas.Option.{slice_get_read, get_or_from_slice_get}
 use Rattle.geojson_io.specs.LayerContent.{LayerContent}
+use Rattle.cmd_words.specs.declared.job.Owner.{Owner}
 use Rattle.cmd_words.specs.declared.job.SourceWord.{SourceWord}
 use Rattle.ms_chain.specs.Budget.{whole_budget}
 use Rattle.ms_chain.specs.Sources.{SourcesSeen, SourcesGive}
@@ -13,12 +14,19 @@ use Rattle.ms_chain.proofs.sources.read_sources.Goals as goal
 abbrev layers_of : ReadSource → List LayerContent
 layers_of read = read.layers
 
+abbrev owner_of : ReadSource → Owner
+owner_of read = read.owner
+
+abbrev word_owner : SourceWord → Owner
+word_owner source = source.owner
+
 pub loop-i-init : goal.loop-i-init
 loop-i-init g c =
     let seen : SourcesSeen = record { files = g.F.Files.held c.args.files.now; file_faults = g.F.Files.read_faults c.args.files.now; file_bytes = g.F.Files.bytes_read c.args.files.now; input = g.I.Source.left c.args.input.now; input_faults = g.I.Source.faults c.args.input.now; input_bytes = g.I.Source.bytes_read c.args.input.now } in
     record {
       grew = grew_same seen;
       writes = none_fell_same (g.F.Files.write_faults c.args.files.now);
+      owners = ap (map owner_of) c.new-all.ensures.items;
       given = subst (λ (items : List ReadSource). SourcesGive c.args.places [] whole_budget seen c.whole-budget.result seen (map layers_of items)) (sym c.new-all.ensures.items) (c.whole-budget.ensures.whole, refl);
     }
 
@@ -65,5 +73,10 @@ loop-i-preserved g c =
     record {
       grew = grew_on before middle after c.loop-i.invariant.grew c.read_source-read.ensures.grew;
       writes = none_fell_on _ _ _ c.loop-i.invariant.writes c.read_source-read.ensures.writes;
+      owners =
+          ap (map owner_of) c.in-Ok-keep.ensures.kept
+          ∙ map-append owner_of c.loop-i.all.items (found ∷ [])
+          ∙ ap (λ (owners : List Owner). owners ++ source.owner ∷ []) c.loop-i.invariant.owners
+          ∙ sym (ap (map word_owner) more ∙ map-append word_owner (take c.loop-i.i xs) (source ∷ []));
       given = subst (λ (ls : List (List LayerContent)). SourcesGive c.args.places (take (c.loop-i.i + 1) xs) whole_budget before behind after ls) (sym kept) in_order;
     }
