@@ -1,8 +1,7 @@
 -- What a shape has on a plane, by what a look at it finds.
-use Rattle.std.proofs.Common.{◌≡◌, ◌==◌, ℕ, Bool, true, false, cond, List, [], ◌∷◌, length, refl, sym, ap, subst, ◌∙◌, arith, true≢false}
+use Rattle.std.proofs.Common.{◌≡◌, ℕ, Bool, true, false, cond, List, [], ◌∷◌, length, refl, sym, ap, subst, ◌∙◌, arith}
 use Rattle.plane_model.specs.Arcs.{SignedArc}
-use Rattle.plane_model.specs.Points.{GridPoint, Path}
-use Rattle.topo_io.specs.declared.arc_layer.ArcShape.{ArcShape}
+use Rattle.plane_model.specs.Points.{Path}
 use Rattle.topo_io.specs.declared.arc_layer.ArcShape.TheVariants as arcs
 use Rattle.ms_chain.specs.OnPlane.{has_arcs, has_faces, list_on, set_on}
 use Rattle.ms_chain.specs.Tracing.{AreRingsOf, AreTraced, lines_along, points_alone}

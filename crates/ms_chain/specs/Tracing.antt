@@ -12,7 +12,7 @@ use Rattle.ring_trace.specs.Ways.{IsSimpleRing}
 use Rattle.topo_io.specs.ArcLayerContent.{ArcLayerContent}
 use Rattle.topo_io.specs.declared.arc_layer.ArcShape.{ArcShape}
 use Rattle.topo_io.specs.declared.arc_layer.ArcShape.TheVariants as arcs
-use Rattle.ms_chain.specs.OnPlane.{faces_on, paths_on, points_in}
+use Rattle.ms_chain.specs.OnPlane.{faces_on, paths_on}
 use Rattle.ms_chain.specs.declared.layer.Layer.{Layer}
 use Rattle.ms_chain.specs.declared.layer.Shape.{Shape}
 use Rattle.ms_chain.specs.declared.layer.Shape.TheVariants as shape

@@ -1,5 +1,5 @@
 -- What the text of an output says of the layers of its target, and which outputs are refused.
-use Rattle.std.specs.Prelude.{◌≡◌, ◌||◌, Bool, true, false, if◌then◌else◌, List, [], ◌∷◌, map, Option, Some, None, Result, Ok, Err}
+use Rattle.std.specs.Prelude.{◌≡◌, ◌||◌, Bool, false, if◌then◌else◌, List, [], ◌∷◌, map, Option, Some, None, Result, Ok, Err}
 use Rattle.std.specs.List.{AllZip}
 use Rattle.io_core.specs.Contents.{Content}
 use Rattle.geojson_io.specs.LayerContent.{LayerContent}

@@ -1,5 +1,4 @@
-use Rattle.std.proofs.Common.{◌≡◌, ◌++◌, ◌∷◌, [], Bool, true, false, not, cond, List, ℕ, map, refl, sym, ap, ◌∙◌, string_bytes, true≢false}
-use Rattle.std.specs.List.{list_any}
+use Rattle.std.proofs.Common.{◌≡◌, ◌++◌, ◌∷◌, [], Bool, true, false, not, cond, List, ℕ, map, refl, sym, ap, ◌∙◌, string_bytes}
 use Rattle.std.specs.Str.{bytes_eq}
 use Rattle.table_ops.proofs.Mapped.{list_any-map, insert_key-map}
 use Rattle.table_ops.specs.Names.{has_name}

@@ -1,10 +1,8 @@
-use Rattle.std.proofs.Common.{◌≡◌, ◌∷◌, ◌+◌, ◌++◌, [], All, List, false, length, sym, subst, subst₂, take, true, ◌∙◌}
+use Rattle.std.proofs.Common.{◌≡◌, All, false, length, sym, subst, subst₂, take, true, ◌∙◌}
 use Rattle.std.specs.List.{AllZip}
-use Rattle.topo_io.specs.ArcLayerContent.{ArcLayerContent}
 use Rattle.topo_io.specs.Arcs.{LayerIsBelow}
 use Rattle.ms_chain.specs.Targets.{is_selected, targets}
 use Rattle.ms_chain.specs.Tracing.{IsTracedLayer}
-use Rattle.ms_chain.specs.declared.layer.Layer.{Layer}
 use Rattle.ms_chain.proofs.Growth.{other_next, target_next, zipped_on}
 use Rattle.ms_chain.proofs.Looks.{layers_grown}
 use Rattle.ms_chain.proofs.writing.arc_layers.Goals.{then-is_selected+in_ok-arc_layer_of+in_ok-push, else-is_selected}

@@ -1,4 +1,4 @@
-use Rattle.std.proofs.Common.{◌≡◌, ◌+◌, ◌++◌, ◌∷◌, [], Bool, List, ap, arith, false, map, not, refl, string_bytes, sym, take, true, ◌∙◌, ℕ}
+use Rattle.std.proofs.Common.{◌≡◌, ◌++◌, ◌∷◌, [], Bool, List, ap, arith, false, map, not, refl, string_bytes, sym, take, true, ◌∙◌, ℕ}
 use Rattle.std.proofs.lemmas.List.{take_more}
 use Rattle.table_ops.specs.Names.{has_name}
 use Rattle.ms_chain.proofs.LayerNames.{name_differs}
