@@ -45,7 +45,7 @@ pub record Base : Type 0 where
   pub sources : Owned
 
 abbrev pub base_of : Ground → Base
-base_of ground = record { places = ground.places; plane = ground.plane.now; sources = map (λ own. own.items) ground.sources.now }
+base_of under = record { places = under.places; plane = under.plane.now; sources = map (λ own. own.items) under.sources.now }
 
 -- ---- the layer that a command takes from elsewhere
 
