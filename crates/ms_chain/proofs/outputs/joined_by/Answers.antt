@@ -12,9 +12,9 @@ returns-in_ok-joined-in-Ok c =
     let made : Layer = c.in_ok-joined-in-Ok.field-0 in
     record {
       joins = if_ok_on (λ outputs. outputs.items ≡ made ∷ []) (λ outputs. Joins (base_of c.args.ground.now) c.args.layers.now c.args.from.now c.args.spec.now layer outputs.items) c.one.result
-      (λ outputs e. record {
-        source = source;
-        found = c.in-Ok.ensures.ok;
-        joined = subst (One (GivesTable (join_tables layer.table source.table c.args.spec.now) layer)) (sym e) c.in_ok-joined-in-Ok.ensures.made;
-      }) c.one.ensures.one;
+          (λ outputs e. record {
+            source = source;
+            found = c.in-Ok.ensures.ok;
+            joined = subst (One (GivesTable (join_tables layer.table source.table c.args.spec.now) layer)) (sym e) c.in_ok-joined-in-Ok.ensures.made;
+          }) c.one.ensures.one;
     }
