@@ -24,15 +24,13 @@ use Rattle.face_walk.proofs.AreaLemmas.{area_of_signed}
 use Rattle.face_classes.specs.FaceClasses.{IsFaceOfPlace}
 use Rattle.face_classes.proofs.StepLemmas.{IsStep, arc_of}
 use Rattle.ring_trace.specs.Sets.{IsInnerFace, IsSetOf}
-use Rattle.ring_trace.proofs.BoundaryLemmas.{Contains_has, has_Contains}
 use Rattle.ring_trace.proofs.SetLemmas.{to_ascending}
 use Rattle.part_classes.proofs.LinkLemmas.{left_at, right_at}
 use Rattle.region_ops.specs.Cleaned.{area_of}
-use Rattle.region_classes.specs.Regions.{Has}
 use Rattle.region_classes.specs.RegionClasses.{AreasAreThoseOfRegions}
 use Rattle.region_classes.proofs.SideTests.{left_same, right_same}
 use Rattle.region_classes.proofs.Totals.{distinct_from_pairs, total, total_append, total_filter, total_flat_map, total_map, total_of_same, total_once, total_same, total_swap}
-use Rattle.region_classes.proofs.Walked.{labels_faces, links_arranged, links_distinct}
+use Rattle.region_classes.proofs.Walked.{links_arranged, links_distinct}
 
 -- ---- what a step adds, by the sides that belong to the region
 

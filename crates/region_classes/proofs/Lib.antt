@@ -12,3 +12,4 @@ pub mod Totals
 pub mod SideTests
 pub mod Areas
 pub mod Prints
+pub mod TieLaws

@@ -1,6 +1,5 @@
 -- What is traced for a set prints the region that it follows.
-use Rattle.std.proofs.Common.{◌≡◌, sym, subst, ◌∙◌, arith, ℕ, Bool, true, List, [], Contains, length, get_or, map, nat_eq}
-use Rattle.std.specs.Prelude.{◌↔◌}
+use Rattle.std.proofs.Common.{sym, subst, arith, ℕ, List, [], Contains, get_or, map, nat_eq}
 use Rattle.lists.specs.Lists.{has, joined_up}
 use Rattle.plane_model.specs.Points.{Segment, Path}
 use Rattle.plane_model.specs.Drawing.{Drawing}

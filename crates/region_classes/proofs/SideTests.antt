@@ -1,6 +1,5 @@
 -- Tests of the sides of links, for a region that a set of faces follows.
-use Rattle.std.proofs.Common.{◌≡◌, sym, refl, ap, ◌∙◌, ℕ, Bool, true, false, List, [], ◌∷◌, Contains, nat_eq}
-use Rattle.std.specs.Prelude.{Option}
+use Rattle.std.proofs.Common.{◌≡◌, sym, refl, ℕ, Bool, true, false, List, [], ◌∷◌, Contains, nat_eq}
 use Rattle.std.specs.List.{cons_option}
 use Rattle.lists.specs.Lists.{has}
 use Rattle.lists.proofs.Members.{Contains-head, Contains-later}

@@ -1,3 +1,4 @@
 pub mod Regions
 pub mod RegionClasses
 pub mod Printed
+pub mod Ties

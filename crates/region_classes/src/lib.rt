@@ -21,6 +21,7 @@ ghost use Rattle.region_classes.specs.RegionClasses.{
   UnionsAreFollowed,
 };
 ghost use Rattle.region_classes.specs.Printed.{PolygonsPrintParts, TracesPrintRegions, TracesUseBoundaries};
+ghost use Rattle.region_classes.specs.Ties.{CleanedByRegions, EmptySetsAreEmptyRegions, SetsAreOfSides};
 
 /// The faces that a polygon feature holds follow the feature.
 pub fn features_are_followed()
@@ -112,4 +113,20 @@ pub fn polygons_print_parts()
 /// other.
 pub fn traces_use_boundaries()
     ensures { TracesUseBoundaries }
+{}
+
+/// The faces of a set are just those on the sides of links that belong to its region.
+pub fn sets_are_of_sides()
+    ensures { SetsAreOfSides }
+{}
+
+/// A set has no faces exactly if its region has no points, and exactly if the boundary of its region is empty.
+pub fn empty_sets_are_empty_regions()
+    ensures { EmptySetsAreEmptyRegions }
+{}
+
+/// The sets that `clean_sets` answers follow their regions less any of those that rank before them, where the areas that
+/// rank them are those within the boundaries of the regions.
+pub fn cleaned_by_regions()
+    ensures { CleanedByRegions }
 {}
