@@ -12,4 +12,5 @@ pub mod Totals
 pub mod SideTests
 pub mod Areas
 pub mod Prints
+pub mod OnePart
 pub mod TieLaws

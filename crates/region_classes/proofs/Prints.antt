@@ -19,7 +19,7 @@ use Rattle.region_classes.proofs.PartLaws.{parts_are_followed}
 use Rattle.region_classes.proofs.SideTests.{left_same, one_boundary, right_same}
 use Rattle.region_classes.proofs.Walked.{arcs_free, links_arranged, links_distinct}
 
-faces_of_links : (d : Drawing) (arcs : List Path) (faces : FaceTable) (label : Place → ℕ) → IsWalked d arcs faces label → AreFacesOf (links_of (snapped d)) arcs faces
+pub faces_of_links : (d : Drawing) (arcs : List Path) (faces : FaceTable) (label : Place → ℕ) → IsWalked d arcs faces label → AreFacesOf (links_of (snapped d)) arcs faces
 faces_of_links d arcs faces label walked = record {
   arrangement = links_arranged d;
   distinct = links_distinct d;

@@ -35,3 +35,9 @@ abbrev pub TracesUseBoundaries : Type 0
 TracesUseBoundaries = (d : Drawing) (arcs : List Path) (faces : FaceTable) (label : Place → ℕ) → IsWalked d arcs faces label → (set : List ℕ) (parts : List (List ℕ)) (polygons : List (List (List SignedArc))) →
     AreTraced arcs faces set parts polygons → UsesBoundary faces.places (length arcs) set polygons → (r : Region) → Follows (snapped d) arcs label set r → (left right : Segment → Bool) →
     AreSides (links_of (snapped d)) (Has (snapped d) arcs r) left right → UsesOnce (boundary_by left right (links_of (snapped d))) (map (round_of arcs) (joined_up polygons))
+
+-- and so do the rings of one polygon those of the boundary of its part
+abbrev pub PolygonsUseBoundaries : Type 0
+PolygonsUseBoundaries = (d : Drawing) (arcs : List Path) (faces : FaceTable) (label : Place → ℕ) → IsWalked d arcs faces label → (set : List ℕ) (parts : List (List ℕ)) (polygons : List (List (List SignedArc))) →
+    AreTraced arcs faces set parts polygons → (r : Region) → Follows (snapped d) arcs label set r → (k : ℕ) → k < length polygons → (left right : Segment → Bool) →
+    AreSides (links_of (snapped d)) (Has (snapped d) arcs (part r k)) left right → UsesOnce (boundary_by left right (links_of (snapped d))) (map (round_of arcs) (slice_index_or polygons k []))

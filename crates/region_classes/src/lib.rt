@@ -20,7 +20,7 @@ ghost use Rattle.region_classes.specs.RegionClasses.{
   RemaindersAreFollowed,
   UnionsAreFollowed,
 };
-ghost use Rattle.region_classes.specs.Printed.{PolygonsPrintParts, TracesPrintRegions, TracesUseBoundaries};
+ghost use Rattle.region_classes.specs.Printed.{PolygonsPrintParts, PolygonsUseBoundaries, TracesPrintRegions, TracesUseBoundaries};
 ghost use Rattle.region_classes.specs.Ties.{CleanedByRegions, EmptySetsAreEmptyRegions, SetsAreOfSides};
 
 /// The faces that a polygon feature holds follow the feature.
@@ -129,4 +129,9 @@ pub fn empty_sets_are_empty_regions()
 /// rank them are those within the boundaries of the regions.
 pub fn cleaned_by_regions()
     ensures { CleanedByRegions }
+{}
+
+/// The rings of one polygon use each step of the boundary of its part once, with the part on its left, and no other.
+pub fn polygons_use_boundaries()
+    ensures { PolygonsUseBoundaries }
 {}
