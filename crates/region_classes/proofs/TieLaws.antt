@@ -1,10 +1,11 @@
 -- Sets of faces and the sides that belong to their regions.
-use Rattle.std.proofs.Common.{◌≡◌, ◌⊎◌, inl, inr, refl, sym, ap, subst, ◌∙◌, arith, ℕ, ◌<◌, Bool, true, false, cond, Some, List, [], ◌∷◌, Contains, length, filter, get_or, map, nat_eq}
+use Rattle.std.proofs.Common.{◌≡◌, ◌⊎◌, inl, inr, refl, sym, ap, subst, ◌∙◌, arith, ℕ, ◌<◌, Bool, true, false, cond, Some, List, [], ◌∷◌, Contains, length, filter, get_or, map, nat_eq, nat_lt}
 use Rattle.std.specs.Prelude.{◌↔◌}
 use Rattle.std.specs.List.{cons_option, range_with_len}
 use Rattle.std.proofs.lemmas.List.Elements.{All-contains}
 use Rattle.std.proofs.lemmas.Option.{slice_get-get_or}
 use Rattle.lists.specs.Lists.{has}
+use Rattle.lists.proofs.Ascending.{one_ascending}
 use Rattle.lists.proofs.Members.{Contains-cases, Contains-head, Contains-later, Contains-nil}
 use Rattle.plane_model.specs.Points.{RationalPoint, Segment, Path}
 use Rattle.plane_model.specs.Arcs.{SignedArc}
@@ -26,13 +27,14 @@ use Rattle.face_classes.proofs.SideLemmas.{dart_there, label_there}
 use Rattle.face_classes.proofs.StepLemmas.{arc_of}
 use Rattle.ring_trace.specs.Sets.{IsInnerFace, IsSetOf}
 use Rattle.ring_trace.proofs.BoundaryLemmas.{Contains_has, same_or_other}
+use Rattle.ring_trace.proofs.SetLemmas.{nat_order, to_ascending}
 use Rattle.region_ops.specs.Cleaned.{area_of, ranks_before}
 use Rattle.region_ops.specs.Dissolved.{set_at}
 use Rattle.part_classes.proofs.BoundedLaws.{outside_is_not}
 use Rattle.part_classes.proofs.LinkLemmas.{link_of_arc}
 use Rattle.region_classes.specs.Regions.{Region, any_of, less, Follows, Has}
 use Rattle.region_classes.specs.RegionClasses.{IsWalked, regions_at}
-use Rattle.region_classes.specs.Ties.{CleanedByRegions, EmptySetsAreEmptyRegions, SetsAreOfSides, SideBelongs, area_within}
+use Rattle.region_classes.specs.Ties.{CleanedByRegions, EmptySetsAreEmptyRegions, OneSetFollows, SetsAreOfSides, SideBelongs, area_within}
 use Rattle.region_classes.proofs.Areas.{areas_are_those_of_regions}
 use Rattle.region_classes.proofs.Numbers.{of_range}
 use Rattle.region_classes.proofs.OffLinks.{off_from_left, off_from_right}
@@ -152,6 +154,24 @@ empty_sets_are_empty_regions d arcs faces label walked set inner r follows = (
         left_same d arcs faces label walked set r follows left right sides l c ∙ apart_none left right (links_of (snapped d)) none l c ∙ sym (right_same d arcs faces label walked set r follows left right sides l c))),
   ),
 )
+
+-- ---- one set
+
+pub one_set_follows : OneSetFollows
+one_set_follows d arcs faces label walked f g up_f up_g inner_f inner_g r in_f in_g =
+    one_ascending nat_lt nat_order f g (to_ascending f up_f) (to_ascending g up_g) (λ k c. to f g inner_f in_f in_g k c) (λ k c. to g f inner_g in_g in_f k c)
+  where
+    to : (p q : List ℕ) → IsSetOf faces p → Follows (snapped d) arcs label p r → Follows (snapped d) arcs label q r → (k : ℕ) → Contains p k → Contains q k
+    to p q inner in_p in_q k c =
+        let S : List Segment = links_of (snapped d) in
+        let labelling = labels_faces d arcs faces label walked in
+        let (l, there, side) = side_of_inner d arcs faces label walked k (All-contains (IsInnerFace faces) p k inner c) in
+        elim side [
+          | inl e ↦ subst (Contains q) e ((left_belongs S (links_arranged d) (links_distinct d) label labelling q (Has (snapped d) arcs r) in_q l there).0
+              ((left_belongs S (links_arranged d) (links_distinct d) label labelling p (Has (snapped d) arcs r) in_p l there).1 (subst (Contains p) (sym e) c)))
+          | inr e ↦ subst (Contains q) e ((right_belongs S (links_arranged d) (links_distinct d) label labelling q (Has (snapped d) arcs r) in_q l there).0
+              ((right_belongs S (links_arranged d) (links_distinct d) label labelling p (Has (snapped d) arcs r) in_p l there).1 (subst (Contains p) (sym e) c)))
+        ]
 
 -- ---- sets cleaned by the areas of regions
 

@@ -50,3 +50,8 @@ CleanedByRegions = (d : Drawing) (arcs : List Path) (faces : FaceTable) (label :
     (rule : OverlapRule) (cleaned : List (List ℕ)) → IsCleaned rule faces.areas sets cleaned →
     FollowEach (snapped d) arcs label cleaned (λ n. less (region n) (any_of (regions_at region
     (filter (λ (m : ℕ). ranks_before rule m (area_within (links_of (snapped d)) left right m) n (area_within (links_of (snapped d)) left right n)) (range_with_len 0 (length sets))))))
+
+-- only one set follows a region
+abbrev pub OneSetFollows : Type 0
+OneSetFollows = (d : Drawing) (arcs : List Path) (faces : FaceTable) (label : Place → ℕ) → IsWalked d arcs faces label → (f g : List ℕ) → IsStrictlyIncreasing f → IsStrictlyIncreasing g → IsSetOf faces f → IsSetOf faces g →
+    (r : Region) → Follows (snapped d) arcs label f r → Follows (snapped d) arcs label g r → f ≡ g

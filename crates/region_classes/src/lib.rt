@@ -21,7 +21,7 @@ ghost use Rattle.region_classes.specs.RegionClasses.{
   UnionsAreFollowed,
 };
 ghost use Rattle.region_classes.specs.Printed.{PolygonsPrintParts, PolygonsUseBoundaries, TracesPrintRegions, TracesUseBoundaries};
-ghost use Rattle.region_classes.specs.Ties.{CleanedByRegions, EmptySetsAreEmptyRegions, SetsAreOfSides};
+ghost use Rattle.region_classes.specs.Ties.{CleanedByRegions, EmptySetsAreEmptyRegions, OneSetFollows, SetsAreOfSides};
 
 /// The faces that a polygon feature holds follow the feature.
 pub fn features_are_followed()
@@ -134,4 +134,9 @@ pub fn cleaned_by_regions()
 /// The rings of one polygon use each step of the boundary of its part once, with the part on its left, and no other.
 pub fn polygons_use_boundaries()
     ensures { PolygonsUseBoundaries }
+{}
+
+/// Only one ascending set of inner faces follows a region.
+pub fn one_set_follows()
+    ensures { OneSetFollows }
 {}
