@@ -17,10 +17,10 @@ use Rattle.plane_model.specs.Rings.{least_arc}
 use Rattle.plane_model.proofs.PointOrder.{same_point_from, segment_is}
 use Rattle.arc_table.specs.Along.{GoAlong}
 use Rattle.arc_table.specs.Around.{start_of}
+use Rattle.arc_table.proofs.Along.{links_turned}
 use Rattle.arc_table.proofs.Proper.{link_turned, one_link}
 use Rattle.face_classes.proofs.DartLemmas.{Moves, ends_differ}
 use Rattle.face_classes.proofs.StepLemmas.{IsStep, arc_of, one_place, step_at, step_moves, steps_counted}
-use Rattle.face_classes.proofs.TurnedLinks.{links_turned}
 use Rattle.ring_trace.specs.Pairing.{stop_of}
 use Rattle.ring_trace.specs.Traced.{BeginsWithLeast}
 use Rattle.ring_trace.specs.Turns.{first_number, round_of}
