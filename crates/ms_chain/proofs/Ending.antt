@@ -5,11 +5,12 @@ use Rattle.cmd_words.specs.declared.job.Action.{Action}
 use Rattle.cmd_words.specs.declared.job.Action.TheVariants as action
 use Rattle.cmd_words.specs.declared.job.Command.{Command}
 use Rattle.cmd_words.specs.declared.job.OutForm.{OutForm}
-use Rattle.ms_chain.specs.Commands.{Base, Changes}
+use Rattle.run_state.specs.Origins.{Base}
+use Rattle.run_steps.specs.Commands.{Changes}
 use Rattle.ms_chain.specs.Effects.{OutsideSeen}
 use Rattle.ms_chain.specs.Running.{Stops, EndsRun, GoesOn}
-use Rattle.ms_chain.specs.declared.outcome.Outcome.{Outcome}
-use Rattle.ms_chain.specs.declared.state.Held.{Held}
+use Rattle.run_outcome.specs.declared.outcome.Outcome.{Outcome}
+use Rattle.run_state.specs.declared.state.Held.{Held}
 
 pub ends_quietly : (n : ℕ) (a : Action) (seen : OutsideSeen) (o : Outcome) → Stops n o → EndsRun n a seen seen o
 ends_quietly n (action.Clip from) seen o h = (h, refl)

@@ -1,59 +1,84 @@
 -- A run of commands in order: what is written, and how it ends.
-use Rattle.std.specs.Prelude.{◌≡◌, ℕ, ◌+◌, ◌⊎◌, Bool, true, false, List, [], ◌∷◌, map, Result, Ok, Err}
+use Rattle.std.specs.Prelude.{◌≡◌, ℕ, ◌+◌, ◌⊎◌, Bool, true, false, List, [], ◌∷◌, map, None, Result, Ok, Err}
+use Rattle.std.specs.Io.KnownBytes.{Appends}
+use Rattle.lists.specs.Lists.{joined_up}
 use Rattle.io_core.specs.Contents.{Content, SameFiles}
+use Rattle.io_core.specs.Counts.{Rose}
+use Rattle.plane_model.specs.Snapped.{snapped}
+use Rattle.geojson_io.specs.LayerContent.{LayerContent}
+use Rattle.snap_round.specs.Snapping.{FaultMeans}
+use Rattle.snap_round.specs.declared.fault.SnapFault.{SnapFault}
 use Rattle.cmd_words.specs.Expressions.{Refusals, AreRefusals}
 use Rattle.cmd_words.specs.Tells.{Tells, FitsJob}
 use Rattle.cmd_words.specs.Words.{read_words}
 use Rattle.cmd_words.specs.declared.fault.WordFault.{WordFault}
-use Rattle.cmd_words.specs.declared.fault.WordFault.TheVariants as words
 use Rattle.cmd_words.specs.declared.job.Job.{Job}
 use Rattle.cmd_words.specs.declared.job.Job.TheVariants as job
 use Rattle.cmd_words.specs.declared.job.Chain.{Chain}
 use Rattle.cmd_words.specs.declared.job.Command.{Command}
 use Rattle.cmd_words.specs.declared.job.Action.{Action}
-use Rattle.cmd_words.specs.declared.job.OutForm.{OutForm}
 use Rattle.cmd_words.specs.declared.job.Action.TheVariants as action
-use Rattle.ms_chain.specs.Effects.{OutsideSeen, CountsGrew, WroteText, WriteRose, CutsText}
-use Rattle.std.specs.Io.KnownBytes.{Appends}
-use Rattle.io_core.specs.Counts.{Rose}
-use Rattle.geojson_io.specs.LayerContent.{LayerContent}
-use Rattle.lists.specs.Lists.{joined_up}
-use Rattle.ms_chain.specs.Begun.{IsUnbegun, IsFew}
-use Rattle.ms_chain.specs.BegunLayers.{BeginsOver}
-use Rattle.ms_chain.specs.Drawing.{drawing_of}
-use Rattle.plane_model.specs.Snapped.{snapped}
+use Rattle.cmd_words.specs.declared.job.OutForm.{OutForm}
 use Rattle.cmd_words.specs.declared.job.SourceWord.{SourceWord}
-use Rattle.ms_chain.specs.Sources.{SourcesSeen, StopsAtSource, GivesAll}
-use Rattle.ms_chain.specs.Telling.{StreamSeen, AddsFront}
-use Rattle.ms_chain.specs.declared.outcome.Outcome.{Outcome}
-use Rattle.ms_chain.specs.declared.outcome.Outcome.TheVariants as outcome
-use Rattle.ms_chain.specs.declared.outcome.RefuseWhy.{RefuseWhy}
-use Rattle.ms_chain.specs.Targets.{first_layers, has_target, targets}
-use Rattle.ms_chain.specs.Commands.{Base, Changes}
-use Rattle.ms_chain.specs.Written.{OutputSays}
-use Rattle.ms_chain.specs.declared.layer.Layer.{Layer}
-use Rattle.ms_chain.specs.declared.outcome.RefuseWhy.TheVariants.{NoLayer}
-use Rattle.ms_chain.specs.declared.state.Held.{Held}
-use Rattle.ms_chain.specs.declared.state.State.{State}
+use Rattle.run_sources.specs.Sources.{SourcesSeen, StopsAtSource, GivesAll}
+use Rattle.run_sources.specs.declared.fault.SourceFault.{SourceFault}
+use Rattle.run_plane.specs.Begun.{IsFew}
+use Rattle.run_plane.specs.declared.layer.Layer.{Layer}
+use Rattle.run_beginning.specs.BegunLayers.{BeginsOver}
+use Rattle.run_beginning.specs.Drawing.{drawing_of}
+use Rattle.run_state.specs.Origins.{Base}
+use Rattle.run_state.specs.Targets.{first_layers, has_target, targets}
+use Rattle.run_state.specs.declared.refusal.RefuseWhy.TheVariants.{NoLayer}
+use Rattle.run_state.specs.declared.state.CommandStop.{CommandStop}
+use Rattle.run_state.specs.declared.state.CommandStop.TheVariants.{Refused}
+use Rattle.run_state.specs.declared.state.Held.{Held}
+use Rattle.run_state.specs.declared.state.State.{State}
+use Rattle.run_steps.specs.Commands.{ChangesEach, ChangesTogether}
+use Rattle.run_synth.specs.Told.{IsTooMuch}
+use Rattle.run_texts.specs.Written.{OutputSays, StopsFor, refused_output}
+use Rattle.run_outcome.specs.Ends.{of_command, of_drawing, of_sources, of_words}
+use Rattle.run_outcome.specs.Telling.{StreamSeen, AddsFront}
+use Rattle.run_outcome.specs.declared.outcome.Outcome.{Outcome}
+use Rattle.run_outcome.specs.declared.outcome.Outcome.TheVariants as outcome
+use Rattle.ms_chain.specs.Effects.{OutsideSeen, CountsGrew, WroteText, WriteRose, CutsText}
 
 -- ---- one command
 
--- the command with this number is refused, or finds no memory
-abbrev pub Stops : ℕ → Outcome → Type 0
-Stops n o = ((why : RefuseWhy) × (o ≡ outcome.Refused n why)) ⊎ (o ≡ outcome.Memory)
+-- a command that changes layers and has no target is refused as no layer
+abbrev pub StopsChange : Command → List Held → CommandStop → Type 0
+StopsChange c layers stop = has_target c.target layers ≡ false → stop ≡ Refused NoLayer
 
--- it writes a text, the count of its place rises, and of the text a front is there
-pub record FailsToWrite (n : ℕ) (standard : Bool) (name : Content) (before after : OutsideSeen) (o : Outcome) : Type 0 where
+-- why a command stops: an output for its refusal alone, or for want of memory
+abbrev pub StopsBy : Command → Action → List Held → CommandStop → Type 0
+StopsBy c (action.Write to standard form) layers stop = StopsFor (refused_output c.target form layers) stop
+StopsBy c (action.Each a) layers stop = StopsChange c layers stop
+StopsBy c (action.Together a) layers stop = StopsChange c layers stop
+
+-- the command with this number stops the run, and nothing changes
+pub record IsStopped (n : ℕ) (c : Command) (layers : List Held) (before after : OutsideSeen) (o : Outcome) : Type 0 where
+  pub stop : CommandStop
+  pub why : StopsBy c c.action layers stop
+  pub ends : o ≡ of_command n stop
+  pub kept : after ≡ before
+
+-- it writes the text of its output, the count of its place rises, and of the text a front is there
+pub record FailsToWrite (base : Base) (n : ℕ) (form : OutForm) (layers : List Layer) (standard : Bool) (name : Content) (before after : OutsideSeen) (o : Outcome) : Type 0 where
   pub fault : o ≡ outcome.WriteFault n
   pub text : Content
+  pub says : OutputSays base form layers text
   pub rose : WriteRose standard name before after
   pub cut : CutsText standard name text before after
   pub counts : CountsGrew before after
 
+-- a command with this number whose writing fails
+abbrev pub EndsWriting : Base → ℕ → Command → Action → List Held → OutsideSeen → OutsideSeen → Outcome → Type 0
+EndsWriting base n c (action.Write to standard form) layers before after o = FailsToWrite base n form (targets c.target layers) standard to before after o
+EndsWriting base n c (action.Each a) layers before after o = ⊥
+EndsWriting base n c (action.Together a) layers before after o = ⊥
+
 -- how a command with this number ends a run
-abbrev pub EndsRun : ℕ → Action → OutsideSeen → OutsideSeen → Outcome → Type 0
-EndsRun n (action.Write to standard form) before after o = (Stops n o × (after ≡ before)) ⊎ FailsToWrite n standard to before after o
-EndsRun n _ before after o = Stops n o × (after ≡ before)
+abbrev pub Ends : Base → ℕ → Command → List Held → OutsideSeen → OutsideSeen → Outcome → Type 0
+Ends base n c layers before after o = IsStopped n c layers before after o ⊎ EndsWriting base n c c.action layers before after o
 
 -- the text of an output is written whole
 pub record WritesWhole (base : Base) (form : OutForm) (layers : List Layer) (standard : Bool) (name : Content) (before after : OutsideSeen) : Type 0 where
@@ -62,34 +87,34 @@ pub record WritesWhole (base : Base) (form : OutForm) (layers : List Layer) (sta
   pub wrote : WroteText standard name text before after
   pub counts : CountsGrew before after
 
--- a command without a target is refused as no layer
-pub record Ends (n : ℕ) (c : Command) (layers : List Held) (before after : OutsideSeen) (o : Outcome) : Type 0 where
-  pub ends : EndsRun n c.action before after o
-  pub absent : has_target c.target layers ≡ false → o ≡ outcome.Refused n NoLayer
+-- an output that isn't refused writes a whole text and leaves the layers; any other command changes them and writes
+-- nothing
+pub record GoesOnWriting (base : Base) (c : Command) (form : OutForm) (standard : Bool) (name : Content) (layers layers' : List Held) (before after : OutsideSeen) : Type 0 where
+  pub accepted : refused_output c.target form layers ≡ None
+  pub kept : layers' ≡ layers
+  pub writes : WritesWhole base form (targets c.target layers) standard name before after
 
--- what a command that ends no run changes: an output writes a whole text and leaves the layers; any other changes them
--- and writes nothing
 abbrev pub GoesOn : Base → Command → Action → List Held → List Held → OutsideSeen → OutsideSeen → Type 0
-GoesOn base c (action.Write to standard form) layers layers' before after =
-    (layers' ≡ layers) × WritesWhole base form (targets c.target layers) standard to before after
-GoesOn base c _ layers layers' before after = Changes base c layers layers' × (after ≡ before)
+GoesOn base c (action.Write to standard form) layers layers' before after = GoesOnWriting base c form standard to layers layers' before after
+GoesOn base c (action.Each a) layers layers' before after = ChangesEach base c a layers layers' × (after ≡ before)
+GoesOn base c (action.Together a) layers layers' before after = ChangesTogether c a layers layers' × (after ≡ before)
 
 -- its target is there
 pub record Passes (base : Base) (c : Command) (layers layers' : List Held) (before after : OutsideSeen) : Type 0 where
   pub there : has_target c.target layers ≡ true
   pub goes : GoesOn base c c.action layers layers' before after
 
--- what a command with this number answers: a state of layers, or the outcome of the run
+-- what a command with this number does: it gives the state behind it, or the outcome of the run
 abbrev pub StepMeans : Base → ℕ → Command → List Held → OutsideSeen → OutsideSeen → Result State Outcome → Type 0
 StepMeans base n c layers before after (Ok state) = Passes base c layers state.layers.items before after
-StepMeans base n c layers before after (Err o) = Ends n c layers before after o
+StepMeans base n c layers before after (Err o) = Ends base n c layers before after o
 
 -- ---- commands in order
 
 -- the commands behind so many done ones: the first that ends the run is the last that changes anything
 abbrev pub CommandsRun : Base → ℕ → List Held → List Command → OutsideSeen → OutsideSeen → Outcome → Type 0
 CommandsRun base done layers [] before after o = (o ≡ outcome.Done) × (after ≡ before)
-CommandsRun base done layers (c ∷ cs) before after o = Ends (done + 1) c layers before after o
+CommandsRun base done layers (c ∷ cs) before after o = Ends base (done + 1) c layers before after o
     ⊎ ((layers' : List Held) × (middle : OutsideSeen) × Passes base c layers layers' before middle × CommandsRun base (done + 1) layers' cs middle after o)
 
 -- ---- the whole chain
@@ -104,12 +129,20 @@ pub record Keeps (before after : OutsideSeen) : Type 0 where
 pub record EndsUnbegun (chain : Chain) (sources sources' : SourcesSeen) (o : Outcome) : Type 0 where
   pub layers : List (List LayerContent)
   pub given : GivesAll chain.places chain.sources sources sources' layers
-  pub unbegun : IsUnbegun (drawing_of (joined_up layers) chain.boxes) o
+  pub fault : SnapFault
+  pub unbegun : FaultMeans (drawing_of (joined_up layers) chain.boxes) fault
+  pub ends : o ≡ of_drawing fault
+
+-- a source ends the run
+pub record EndsAtSource (chain : Chain) (sources sources' : SourcesSeen) (o : Outcome) : Type 0 where
+  pub fault : SourceFault
+  pub stops : StopsAtSource chain.places chain.sources sources sources' fault
+  pub ends : o ≡ of_sources fault
 
 -- a source ends the run before anything is written, or what it gives does
 pub record EndsBefore (chain : Chain) (sources sources' : SourcesSeen) (before after : OutsideSeen) (o : Outcome) : Type 0 where
   pub kept : Keeps before after
-  pub stops : StopsAtSource chain.places chain.sources sources sources' o ⊎ EndsUnbegun chain sources sources' o
+  pub stops : EndsAtSource chain sources sources' o ⊎ EndsUnbegun chain sources sources' o
 
 -- the commands run from the first, on these layers and those of sources that belong to commands, or memory ends the run
 -- before it
@@ -146,19 +179,20 @@ pub record EndsUnread (end : Outcome) (seen seen' : SourcesSeen) (before after :
   pub sources : seen' ≡ seen
   pub outside : after ≡ before
 
--- a line is written to the standard stream, or a front of it and the count of its failed writes rises; or nothing is
--- written, where there is no such line
+-- a made-up mosaic is too much, and nothing is written
+pub record IsUntold (before after : StreamSeen) (o : Outcome) : Type 0 where
+  pub fault : SnapFault
+  pub too_much : IsTooMuch fault
+  pub ends : o ≡ of_drawing fault
+  pub kept : after ≡ before
+
+-- a line goes whole to the standard stream, or a front of it does and the count of its failed writes rises
+pub record TellsLine (before after : StreamSeen) (o : Outcome) : Type 0 where
+  pub line : Content
+  pub told : ((o ≡ outcome.Done) × Appends before.told after.told line) ⊎ ((o ≡ outcome.WriteFault 1) × Rose before.faults after.faults × AddsFront before.told after.told line)
+
 abbrev pub SynthRuns : StreamSeen → StreamSeen → Outcome → Type 0
-SynthRuns before after outcome.Done = (text : Content) × Appends before.told after.told text
-SynthRuns before after (outcome.WriteFault n) = (n ≡ 1) × Rose before.faults after.faults × ((text : Content) × AddsFront before.told after.told text)
-SynthRuns before after (outcome.TooDense count) = after ≡ before
-SynthRuns before after outcome.Memory = after ≡ before
-SynthRuns before after (outcome.BadWords word why) = ⊥
-SynthRuns before after (outcome.ReadFault source) = ⊥
-SynthRuns before after (outcome.Missing source) = ⊥
-SynthRuns before after (outcome.TooLong source) = ⊥
-SynthRuns before after (outcome.BadInput source why) = ⊥
-SynthRuns before after (outcome.Refused command why) = ⊥
+SynthRuns before after o = IsUntold before after o ⊎ TellsLine before after o
 
 abbrev pub stream_of : OutsideSeen → StreamSeen
 stream_of seen = record { told = seen.stream; faults = seen.stream_faults }
@@ -172,8 +206,7 @@ pub record ToldAlone (seen seen' : SourcesSeen) (before after : OutsideSeen) (o 
 
 -- refused words end the run; a made-up mosaic is told of; a chain runs
 abbrev pub JobRuns : Result Job WordFault → SourcesSeen → SourcesSeen → OutsideSeen → OutsideSeen → Outcome → Type 0
-JobRuns (Err (words.Bad n why)) seen seen' before after o = EndsUnread (outcome.BadWords n why) seen seen' before after o
-JobRuns (Err words.Memory) seen seen' before after o = EndsUnread outcome.Memory seen seen' before after o
+JobRuns (Err fault) seen seen' before after o = EndsUnread (of_words fault) seen seen' before after o
 JobRuns (Ok (job.Synth seed n)) seen seen' before after o = ToldAlone seen seen' before after o
 JobRuns (Ok (job.Chain chain)) seen seen' before after o = ChainRuns chain seen seen' before after o
 

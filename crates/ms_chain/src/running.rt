@@ -1,19 +1,18 @@
 ghost use Rattle.std.specs.Prelude.{◌≡◌, ◌≤◌, ◌+◌, ◌^◌, ◌<◌, length, map};
-ghost use Rattle.ms_chain.specs.Commands.{base_of};
+ghost use Rattle.run_state.specs.Origins.{base_of};
 ghost use Rattle.ms_chain.specs.Running.{StepMeans, CommandsRun, BegunRuns, ChainRuns, SynthRuns, WordsRun};
-ghost use Rattle.ms_chain.specs.Telling.{TellsOutcome};
+ghost use Rattle.run_outcome.specs.Telling.{TellsOutcome};
 
-use crate::beginning::{Begun, begin};
-use crate::commands::changed;
-use crate::ground::Ground;
-use crate::message::tell;
-use crate::outcome::Outcome;
-use crate::sources::read_sources;
-use crate::state::State;
-use crate::synth::synth_line;
-use crate::writing::{output_text, write_text};
-use cmd_words::{Action, Chain, Command, Job, WordFault, read_chain};
+use crate::writing::write_text;
+use cmd_words::{Action, Chain, Command, Job, read_chain};
 use io_core::{Failed, Files, Sink, Source, Words, write_whole};
+use run_beginning::{Begun, begin};
+use run_outcome::{Outcome, tell};
+use run_sources::read_sources;
+use run_state::{Ground, State};
+use run_steps::{changed_each, changed_together};
+use run_synth::synth_line;
+use run_texts::output_text;
 use std::alloc::Global;
 
 /// Does what the words ask for: reads the sources, runs the commands in order, and writes the outputs.
@@ -56,8 +55,7 @@ fn run_words<F: Files, I: Source, K: Sink>(
     match read_chain(alloc, words) {
         Ok(Job::Chain(chain)) => run_chain(alloc, &chain, files, input, output),
         Ok(Job::Synth { seed, n }) => run_synth(alloc, seed, n, output),
-        Err(WordFault::Bad { word, why }) => Outcome::BadWords { word, why },
-        Err(WordFault::Memory) => Outcome::Memory,
+        Err(fault) => Outcome::of_words(fault),
     }
 }
 
@@ -70,7 +68,7 @@ fn run_synth<K: Sink>(alloc: Global, seed: u32, n: u32, output: &mut K) -> Outco
             Ok(()) => Outcome::Done,
             Err(Failed) => Outcome::WriteFault { command: 1 },
         },
-        Err(outcome) => outcome,
+        Err(fault) => Outcome::of_drawing(fault),
     }
 }
 
@@ -90,11 +88,11 @@ fn run_chain<F: Files, I: Source, K: Sink>(
 {
     let sources = match read_sources(alloc, chain.places, chain.sources.as_slice(), files, input) {
         Ok(sources) => sources,
-        Err(outcome) => return outcome,
+        Err(fault) => return Outcome::of_sources(fault),
     };
     match begin(alloc, sources, &chain.boxes) {
         Ok(begun) => run_begun(alloc, chain, begun, files, output),
-        Err(outcome) => outcome,
+        Err(fault) => Outcome::of_drawing(fault),
     }
 }
 
@@ -161,7 +159,6 @@ fn run_commands<F: Files, K: Sink>(
 }
 
 // The state after a command, or the outcome of the run that it stops.
-#[tactic(auto, using(crate::proofs::Ending::changes_quietly))]
 fn step<F: Files, K: Sink>(
     alloc: Global,
     ground: &Ground<'_>,
@@ -176,17 +173,23 @@ fn step<F: Files, K: Sink>(
         (record { files = F.held files.old; file_faults = F.write_faults files.old; stream = K.held output.old; stream_faults = K.faults output.old })
         (record { files = F.held files.new; file_faults = F.write_faults files.new; stream = K.held output.new; stream_faults = K.faults output.new }) result }
 {
-    let Action::Write { to, standard, form } = &command.action else {
-        return match changed(alloc, ground, command, state) {
+    match &command.action {
+        Action::Write { to, standard, form } => {
+            match output_text(alloc, ground, &state.layers, &command.target, *form) {
+                Ok(text) => match write_text(files, output, *standard, to.as_str(), &text) {
+                    Ok(()) => Ok(state),
+                    Err(Failed) => Err(Outcome::WriteFault { command: number }),
+                },
+                Err(stop) => Err(Outcome::of_command(number, stop)),
+            }
+        }
+        Action::Each(action) => match changed_each(alloc, ground, command, action, state) {
             Ok(state) => Ok(state),
-            Err(stop) => Err(stop.at(number)),
-        };
-    };
-    match output_text(alloc, ground, &state.layers, &command.target, *form) {
-        Ok(text) => match write_text(files, output, *standard, to.as_str(), &text) {
-            Ok(()) => Ok(state),
-            Err(Failed) => Err(Outcome::WriteFault { command: number }),
+            Err(stop) => Err(Outcome::of_command(number, stop)),
         },
-        Err(stop) => Err(stop.at(number)),
+        Action::Together(action) => match changed_together(alloc, command, action, state) {
+            Ok(state) => Ok(state),
+            Err(stop) => Err(Outcome::of_command(number, stop)),
+        },
     }
 }

@@ -1,6 +1,6 @@
 ghost use Rattle.std.specs.Prelude.{◌≡◌, IfSome};
 ghost use Rattle.ms_cli.specs.Status.{status_number};
-ghost use Rattle.ms_chain.specs.Status.{status_number as chain_status_number};
+ghost use Rattle.run_outcome.specs.Status.{status_number as chain_status_number};
 
 use crate::outcome::{InputWhy, Outcome};
 use ms_chain::{InputWhy as ChainInputWhy, Outcome as ChainOutcome};

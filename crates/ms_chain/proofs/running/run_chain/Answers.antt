@@ -2,12 +2,12 @@ use Rattle.std.proofs.Common.{◌∙◌, List, ap, inl, inr, map, refl, subst}
 use Rattle.lists.specs.Lists.{joined_up}
 use Rattle.plane_model.specs.Snapped.{snapped}
 use Rattle.cmd_words.specs.declared.job.Owner.{Owner}
-use Rattle.ms_chain.specs.BegunLayers.{BeginsOver}
-use Rattle.ms_chain.specs.Drawing.{drawing_of}
+use Rattle.run_beginning.specs.BegunLayers.{BeginsOver}
+use Rattle.run_beginning.specs.Drawing.{drawing_of}
 use Rattle.cmd_words.specs.declared.job.SourceWord.{SourceWord}
 use Rattle.io_core.proofs.Reading.{NeverFell-refl}
 use Rattle.ms_chain.specs.Effects.{OutsideSeen}
-use Rattle.ms_chain.specs.Sources.{SourcesSeen, GivesAll}
+use Rattle.run_sources.specs.Sources.{SourcesSeen, GivesAll}
 use Rattle.ms_chain.proofs.running.run_chain.Goals as goal
 
 pub returns-in-Ok-begin : goal.returns-in-Ok-begin

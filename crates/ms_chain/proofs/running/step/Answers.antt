@@ -1,8 +1,8 @@
 use Rattle.std.proofs.Common.{◌≡◌, List, false, subst, sym}
 use Rattle.ms_chain.specs.Effects.{OutsideSeen}
-use Rattle.ms_chain.specs.Targets.{has_target}
-use Rattle.ms_chain.specs.declared.state.Held.{Held}
-use Rattle.ms_chain.specs.declared.outcome.RefuseWhy.TheVariants.{NoLayer}
+use Rattle.run_state.specs.Targets.{has_target}
+use Rattle.run_state.specs.declared.state.Held.{Held}
+use Rattle.run_state.specs.declared.refusal.RefuseWhy.TheVariants.{NoLayer}
 use Rattle.ms_chain.proofs.Ending.{ends_quietly}
 use Rattle.ms_chain.proofs.running.step.Goals as goal
 

@@ -1,6 +1,0 @@
-use Rattle.std.proofs.Common.{◌≡◌, map, take}
-use Rattle.ms_chain.specs.BegunLayers.{point_shape}
-use Rattle.ms_chain.proofs.beginning.begun_points.Given as goal
-
-abbrev pub invariant-loop-shape : goal.invariant-loop-shape
-invariant-loop-shape l = l.begun.items ≡ map point_shape (take l.shape-index l.shapes)

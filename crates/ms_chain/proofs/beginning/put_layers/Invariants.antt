@@ -1,9 +1,0 @@
-use Rattle.std.proofs.Common.{◌≡◌, ◌++◌, length}
-use Rattle.std.specs.Vec.Iter.{into_iter_items, into_iter_len}
-use Rattle.ms_chain.proofs.beginning.put_layers.Given as goal
-
-abbrev pub invariant-loop-layer : goal.invariant-loop-layer
-invariant-loop-layer l = record {
-  put : l.layers.items ++ into_iter_items l.layer-iterator ≡ l.fn.layers.items ++ l.fn.more.items;
-  left : into_iter_len l.layer-iterator ≡ length (into_iter_items l.layer-iterator);
-}

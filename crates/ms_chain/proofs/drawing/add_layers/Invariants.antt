@@ -1,6 +1,0 @@
-use Rattle.std.proofs.Common.{◌≡◌, take}
-use Rattle.ms_chain.specs.Drawing.{with_layers}
-use Rattle.ms_chain.proofs.drawing.add_layers.Given as goal
-
-abbrev pub invariant-loop-layer : goal.invariant-loop-layer
-invariant-loop-layer l = l.drawing ≡ with_layers (take l.layer-index l.layers) l.initial.drawing

@@ -1,7 +1,0 @@
-use Rattle.std.proofs.Common.{◌≡◌, take}
-use Rattle.snap_round.specs.Paths.{with_lines}
-use Rattle.ms_chain.specs.Drawing.{drawn_lines}
-use Rattle.ms_chain.proofs.drawing.add_lines.Given as goal
-
-abbrev pub invariant-loop-line : goal.invariant-loop-line
-invariant-loop-line l = l.drawing ≡ with_lines (drawn_lines (take l.line-index l.lines)) l.initial.drawing

@@ -1,5 +1,0 @@
-use Rattle.ms_chain.proofs.DrawingLemmas.{other_lines}
-use Rattle.ms_chain.proofs.drawing.add_shape_lines.Goals as goal
-
-pub returns-in_default : goal.returns-in_default
-returns-in_default c = record { added = other_lines c.args.drawing.now c.args.shape.now c.in_default.not-Lines }

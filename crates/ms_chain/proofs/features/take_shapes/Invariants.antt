@@ -1,9 +1,0 @@
-use Rattle.std.proofs.Common.{◌≡◌, length, map, take}
-use Rattle.ms_chain.specs.Shapes.{shape_at}
-use Rattle.ms_chain.proofs.features.take_shapes.Given as goal
-
-abbrev pub invariant-loop-number : goal.invariant-loop-number
-invariant-loop-number l = record {
-  taken : l.taken.items ≡ map (shape_at l.shapes) (take l.number-index l.numbers);
-  count : length l.taken.items ≡ l.number-index;
-}

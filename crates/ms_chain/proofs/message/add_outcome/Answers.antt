@@ -1,8 +1,0 @@
-use Rattle.std.proofs.Common.{◌++◌, ap, sym, ◌∙◌}
-use Rattle.ms_chain.specs.Messages.{outcome_text}
-use Rattle.ms_chain.specs.declared.outcome.Outcome.{Outcome}
-use Rattle.ms_chain.proofs.message.add_outcome.Goals as goal
-
-pub returns-in-TooDense-clause-added : goal.returns-in-TooDense-clause-added
-returns-in-TooDense-clause-added c =
-    c.add_density.ensures.added ∙ sym (ap (λ (o : Outcome). c.args.line.now.bytes ++ outcome_text o) c.in-TooDense.is)

@@ -1,9 +1,0 @@
-use Rattle.std.proofs.Common.{◌≡◌, length}
-use Rattle.json_read.specs.Table.{AreRows}
-use Rattle.ms_chain.proofs.outlines.bare_table.Given as goal
-
-abbrev pub invariant-loop-row : goal.invariant-loop-row
-invariant-loop-row l = record {
-  count : length l.rows ≡ l._row;
-  widths : AreRows 0 l.rows;
-}

@@ -1,5 +1,0 @@
-use Rattle.std.proofs.Common.{◌≡◌, length}
-use Rattle.ms_chain.proofs.outlines.inner_shapes.Given as goal
-
-abbrev pub invariant-loop-arc : goal.invariant-loop-arc
-invariant-loop-arc l = length l.shapes.items ≡ l.arc-index

@@ -1,5 +1,0 @@
-use Rattle.std.proofs.Common.{◌≡◌, length}
-use Rattle.ms_chain.proofs.outlines.outline_shapes.Given as goal
-
-abbrev pub invariant-loop-sided : goal.invariant-loop-sided
-invariant-loop-sided l = length l.shapes.items ≡ l.sided-index

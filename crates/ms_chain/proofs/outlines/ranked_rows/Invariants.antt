@@ -1,9 +1,0 @@
-use Rattle.std.proofs.Common.{◌≡◌, length}
-use Rattle.json_read.specs.Table.{AreRows}
-use Rattle.ms_chain.proofs.outlines.ranked_rows.Given as goal
-
-abbrev pub invariant-loop-sided : goal.invariant-loop-sided
-invariant-loop-sided l = record {
-  count : length l.rows ≡ l.sided-index;
-  widths : AreRows 2 l.rows;
-}

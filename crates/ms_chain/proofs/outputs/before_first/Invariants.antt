@@ -1,7 +1,0 @@
-use Rattle.std.proofs.Common.{◌≡◌, ◌+◌, drop}
-use Rattle.std.specs.List.{position_or_len}
-use Rattle.ms_chain.specs.Targets.{is_selected}
-use Rattle.ms_chain.proofs.outputs.before_first.Given as goal
-
-abbrev pub invariant-loop-held : goal.invariant-loop-held
-invariant-loop-held l = (l.count ≡ l.held-index) × (position_or_len (is_selected l.target) l.layers ≡ l.count + position_or_len (is_selected l.target) (drop l.held-index l.layers))

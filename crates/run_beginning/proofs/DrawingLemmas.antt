@@ -1,0 +1,237 @@
+-- What is put behind a drawing, or into its last feature, piece by piece.
+use Rattle.std.proofs.Common.{◌≡◌, refl, sym, ap, ◌∙◌, subst, arith, Bool, false, cond, ℕ, ◌+◌, ◌<◌, List, [], ◌∷◌, ◌++◌, map, take, length, get_or, append_assoc}
+use Rattle.std.proofs.lemmas.List.{append-nil, map-append}
+use Rattle.std.proofs.lemmas.List.Concat.{flat_map-append}
+use Rattle.std.proofs.lemmas.List.Elements.{filter-append}
+use Rattle.std.specs.List.{filter}
+use Rattle.lists.specs.Lists.{joined_up, last_of}
+use Rattle.plane_model.specs.Points.{GridPoint, Path}
+use Rattle.plane_model.specs.Drawing.{Drawing, Polygon}
+use Rattle.grid_base.specs.Drawn.{with_last, without_repeats, add_item, add_polygon, outline}
+use Rattle.grid_base.specs.Grid.{Corners}
+use Rattle.grid_base.specs.declared.kinds.Kind.{Kind}
+use Rattle.grid_base.specs.declared.kinds.Kind.TheVariants as kinds
+use Rattle.geojson_io.specs.LayerContent.{LayerContent}
+use Rattle.geojson_io.specs.declared.shape.GeoShape.{GeoShape}
+use Rattle.geojson_io.specs.declared.shape.GeoShape.TheVariants as shape
+use Rattle.snap_round.specs.Paths.{with_lines, with_points, with_polygons, with_rings}
+use Rattle.snap_round.proofs.LastLemmas.{in_new, last_length, last_stays, mapped_more, new_more_in, new_there, nothing_added, nothing_added_in, put_more, taken_more}
+use Rattle.run_beginning.specs.Drawing.{drawn_boxes, drawn_lines, drawn_rings, has_points, is_ring, line_features, lines_in, lines_of, point_features, points_in, points_of, polygon_features, polygons_in, polygons_of, with_layers}
+
+last_twice : {A : Type 0} (f g : A → A) (xs : List A) → with_last f (with_last g xs) ≡ with_last (λ x. f (g x)) xs
+last_twice f g [] = refl
+last_twice f g (x ∷ []) = refl
+last_twice f g (x ∷ y ∷ []) = refl
+last_twice {A} f g (x ∷ y ∷ z ∷ rest) = ap (λ (ys : List A). x ∷ ys) (last_twice f g (y ∷ z ∷ rest))
+
+last_same : {A : Type 0} (f g : A → A) (xs : List A) → ((x : A) → f x ≡ g x) → with_last f xs ≡ with_last g xs
+last_same {A} f g xs e = ap (λ (h : A → A). with_last h xs) (λ i x. e x i)
+
+module _ {A : Type 0} where
+  -- more in the last list
+  more : (ys zs : List A) (xss : List (List A)) → with_last (λ (xs : List A). xs ++ zs) (with_last (λ (xs : List A). xs ++ ys) xss) ≡ with_last (λ (xs : List A). xs ++ (ys ++ zs)) xss
+  more ys zs xss =
+      last_twice (λ (xs : List A). xs ++ zs) (λ (xs : List A). xs ++ ys) xss
+      ∙ last_same (λ (xs : List A). (xs ++ ys) ++ zs) (λ (xs : List A). xs ++ (ys ++ zs)) xss (λ xs. append_assoc xs ys zs)
+
+  more_in : (ys zs : List A) (xsss : List (List (List A))) → with_last (with_last (λ (xs : List A). xs ++ zs)) (with_last (with_last (λ (xs : List A). xs ++ ys)) xsss) ≡ with_last (with_last (λ (xs : List A). xs ++ (ys ++ zs))) xsss
+  more_in ys zs xsss =
+      last_twice (with_last (λ (xs : List A). xs ++ zs)) (with_last (λ (xs : List A). xs ++ ys)) xsss
+      ∙ last_same (λ (xss : List (List A)). with_last (λ (xs : List A). xs ++ zs) (with_last (λ (xs : List A). xs ++ ys) xss)) (with_last (λ (xs : List A). xs ++ (ys ++ zs))) xsss (more ys zs)
+
+  -- one piece more of what a list gives piece by piece
+  part_more : {B : Type 0} (F : List B → List A) → ((xs ys : List B) → F (xs ++ ys) ≡ F xs ++ F ys) → (xs : List B) (i : ℕ) (x : B) → i < length xs → x ≡ get_or xs i x → F (take i xs) ++ F (x ∷ []) ≡ F (take (i + 1) xs)
+  part_more F apart xs i x l e = sym (apart (take i xs) (x ∷ [])) ∙ ap F (taken_more xs i x l e)
+
+drawn_rings_apart : (xs ys : List Path) → drawn_rings (xs ++ ys) ≡ drawn_rings xs ++ drawn_rings ys
+drawn_rings_apart xs ys = ap (map without_repeats) (filter-append is_ring xs ys) ∙ map-append without_repeats (filter is_ring xs) (filter is_ring ys)
+
+drawn_lines_apart : (xs ys : List Path) → drawn_lines (xs ++ ys) ≡ drawn_lines xs ++ drawn_lines ys
+drawn_lines_apart xs ys = ap (map without_repeats) (filter-append has_points xs ys) ∙ map-append without_repeats (filter has_points xs) (filter has_points ys)
+
+-- ---- into the last feature
+
+pub rings_more : (d : Drawing) (rings : List Path) (i : ℕ) (ring : Path) → i < length rings → ring ≡ get_or rings i ring →
+    with_rings (drawn_rings (ring ∷ [])) (with_rings (drawn_rings (take i rings)) d) ≡ with_rings (drawn_rings (take (i + 1) rings)) d
+rings_more d rings i ring l e =
+    let same = more_in (drawn_rings (take i rings)) (drawn_rings (ring ∷ [])) d.polygons in
+    let next = part_more drawn_rings drawn_rings_apart rings i ring l e in
+    λ j. record d { polygons = (same ∙ ap (λ (ps : Polygon). with_last (with_last (λ (qs : Polygon). qs ++ ps)) d.polygons) next) j }
+
+pub no_rings : (d : Drawing) → d ≡ with_rings [] d
+no_rings d = λ i. record d { polygons = sym (nothing_added_in d.polygons) i }
+
+-- a path that is no ring is left out
+pub open_ring : (d : Drawing) (ring : Path) → is_ring ring ≡ false → d ≡ with_rings (drawn_rings (ring ∷ [])) d
+open_ring d ring e = no_rings d ∙ ap (λ (b : Bool). with_rings (map without_repeats (cond b (ring ∷ []) [])) d) (sym e)
+
+-- rings leave as many polygons in the last feature
+pub rings_stay : (rings : Polygon) (d : Drawing) → length (last_of [] (with_rings rings d).polygons) ≡ length (last_of [] d.polygons)
+rings_stay rings d = last_stays (λ (ps : Polygon). ps ++ rings) d.polygons
+
+pub polygons_more : (d : Drawing) (polygons : List (List Path)) (i : ℕ) (polygon : List Path) → i < length polygons → polygon ≡ get_or polygons i polygon →
+    with_rings (drawn_rings polygon) (record d { polygons = add_polygon (with_polygons (map drawn_rings (take i polygons)) d).polygons }) ≡ with_polygons (map drawn_rings (take (i + 1) polygons)) d
+polygons_more d polygons i polygon l e =
+    let same = new_more_in (drawn_rings polygon) (map drawn_rings (take i polygons)) d.polygons in
+    let next = mapped_more drawn_rings polygons i polygon l e in
+    λ j. record d { polygons = (same ∙ ap (λ (ps : List Polygon). with_last (λ (qs : List Polygon). qs ++ ps) d.polygons) next) j }
+
+pub no_polygons : (d : Drawing) → d ≡ with_polygons [] d
+no_polygons d = λ i. record d { polygons = sym (nothing_added d.polygons) i }
+
+-- and polygons as many features
+pub polygons_stay : (polygons : List Polygon) (d : Drawing) → length (with_polygons polygons d).polygons ≡ length d.polygons
+polygons_stay polygons d = last_length (λ (ps : List Polygon). ps ++ polygons) d.polygons
+
+-- a new polygon is there
+pub polygon_there : (d : Drawing) → 0 < length d.polygons → 0 < length (last_of [] (add_polygon d.polygons))
+polygon_there d l = new_there [] d.polygons l
+
+pub lines_more : (d : Drawing) (lines : List Path) (i : ℕ) (line : Path) → i < length lines → line ≡ get_or lines i line →
+    with_lines (drawn_lines (line ∷ [])) (with_lines (drawn_lines (take i lines)) d) ≡ with_lines (drawn_lines (take (i + 1) lines)) d
+lines_more d lines i line l e =
+    let same = more (drawn_lines (take i lines)) (drawn_lines (line ∷ [])) d.lines in
+    let next = part_more drawn_lines drawn_lines_apart lines i line l e in
+    λ j. record d { lines = (same ∙ ap (λ (ps : List Path). with_last (λ (qs : List Path). qs ++ ps) d.lines) next) j }
+
+pub no_lines : (d : Drawing) → d ≡ with_lines [] d
+no_lines d = λ i. record d { lines = sym (nothing_added d.lines) i }
+
+-- a line that has points, and one that has none
+pub some_line : (d : Drawing) (line : Path) → 0 < length line → record d { lines = add_item (without_repeats line) d.lines } ≡ with_lines (drawn_lines (line ∷ [])) d
+some_line d [] l = absurd (omega arith)
+some_line d (p ∷ line) l = refl
+
+pub empty_line : (d : Drawing) (line : Path) → length line ≡ 0 → d ≡ with_lines (drawn_lines (line ∷ [])) d
+empty_line d [] e = no_lines d
+empty_line d (p ∷ line) e = absurd (omega arith)
+
+pub lines_stay : (lines : List Path) (d : Drawing) → length (with_lines lines d).lines ≡ length d.lines
+lines_stay lines d = last_length (λ (ps : List Path). ps ++ lines) d.lines
+
+pub points_more : (d : Drawing) (points : List GridPoint) (i : ℕ) (point : GridPoint) → i < length points → point ≡ get_or points i point →
+    with_points (point ∷ []) (with_points (take i points) d) ≡ with_points (take (i + 1) points) d
+points_more d points i point l e =
+    let same = more (take i points) (point ∷ []) d.points in
+    let next = taken_more points i point l e in
+    λ j. record d { points = (same ∙ ap (λ (ps : List GridPoint). with_last (λ (qs : List GridPoint). qs ++ ps) d.points) next) j }
+
+pub no_points : (d : Drawing) → d ≡ with_points [] d
+no_points d = λ i. record d { points = sym (nothing_added d.points) i }
+
+pub points_stay : (points : List GridPoint) (d : Drawing) → length (with_points points d).points ≡ length d.points
+points_stay points d = last_length (λ (ps : List GridPoint). ps ++ points) d.points
+
+-- ---- shapes of another kind
+
+pub other_polygons : (d : Drawing) (s : GeoShape) → ((polygons : List (List Path)) → s ≡ shape.Polygons polygons → ⊥) → d ≡ with_polygons (polygons_of s) d
+other_polygons d shape.Nothing n = no_polygons d
+other_polygons d (shape.Polygons polygons) n = absurd (n polygons refl)
+other_polygons d (shape.Lines lines) n = no_polygons d
+other_polygons d (shape.Points points) n = no_polygons d
+
+pub other_lines : (d : Drawing) (s : GeoShape) → ((lines : List Path) → s ≡ shape.Lines lines → ⊥) → d ≡ with_lines (lines_of s) d
+other_lines d shape.Nothing n = no_lines d
+other_lines d (shape.Polygons polygons) n = no_lines d
+other_lines d (shape.Lines lines) n = absurd (n lines refl)
+other_lines d (shape.Points points) n = no_lines d
+
+pub other_points : (d : Drawing) (s : GeoShape) → ((points : List GridPoint) → s ≡ shape.Points points → ⊥) → d ≡ with_points (points_of s) d
+other_points d shape.Nothing n = no_points d
+other_points d (shape.Polygons polygons) n = no_points d
+other_points d (shape.Lines lines) n = no_points d
+other_points d (shape.Points points) n = absurd (n points refl)
+
+-- ---- features
+
+pub polygon_features_more : (d : Drawing) (shapes : List GeoShape) (i : ℕ) (shape : GeoShape) → i < length shapes → shape ≡ get_or shapes i shape →
+    with_polygons (polygons_of shape) (record d { polygons = (d.polygons ++ map polygons_of (take i shapes)) ++ [] ∷ [] }) ≡ record d { polygons = d.polygons ++ map polygons_of (take (i + 1) shapes) }
+polygon_features_more d shapes i shape l e =
+    let same = in_new (polygons_of shape) (d.polygons ++ map polygons_of (take i shapes)) in
+    let next = put_more (polygons_of shape) d.polygons (map polygons_of (take i shapes)) (map polygons_of (take (i + 1) shapes)) (mapped_more polygons_of shapes i shape l e) in
+    λ j. record d { polygons = (same ∙ next) j }
+
+pub line_features_more : (d : Drawing) (shapes : List GeoShape) (i : ℕ) (shape : GeoShape) → i < length shapes → shape ≡ get_or shapes i shape →
+    with_lines (lines_of shape) (record d { lines = (d.lines ++ map lines_of (take i shapes)) ++ [] ∷ [] }) ≡ record d { lines = d.lines ++ map lines_of (take (i + 1) shapes) }
+line_features_more d shapes i shape l e =
+    let same = in_new (lines_of shape) (d.lines ++ map lines_of (take i shapes)) in
+    let next = put_more (lines_of shape) d.lines (map lines_of (take i shapes)) (map lines_of (take (i + 1) shapes)) (mapped_more lines_of shapes i shape l e) in
+    λ j. record d { lines = (same ∙ next) j }
+
+pub point_features_more : (d : Drawing) (shapes : List GeoShape) (i : ℕ) (shape : GeoShape) → i < length shapes → shape ≡ get_or shapes i shape →
+    with_points (points_of shape) (record d { points = (d.points ++ map points_of (take i shapes)) ++ [] ∷ [] }) ≡ record d { points = d.points ++ map points_of (take (i + 1) shapes) }
+point_features_more d shapes i shape l e =
+    let same = in_new (points_of shape) (d.points ++ map points_of (take i shapes)) in
+    let next = put_more (points_of shape) d.points (map points_of (take i shapes)) (map points_of (take (i + 1) shapes)) (mapped_more points_of shapes i shape l e) in
+    λ j. record d { points = (same ∙ next) j }
+
+pub boxes_more : (d : Drawing) (boxes : List Corners) (i : ℕ) (box : Corners) → i < length boxes → box ≡ get_or boxes i box →
+    record d { boxes = (d.boxes ++ drawn_boxes (take i boxes)) ++ drawn_boxes (box ∷ []) } ≡ record d { boxes = d.boxes ++ drawn_boxes (take (i + 1) boxes) }
+boxes_more d boxes i box l e =
+    let same = append_assoc d.boxes (drawn_boxes (take i boxes)) (drawn_boxes (box ∷ [])) in
+    let next = part_more drawn_boxes (map-append (λ (box : Corners). without_repeats (outline box))) boxes i box l e in
+    λ j. record d { boxes = (same ∙ ap (λ (ps : List Path). d.boxes ++ ps) next) j }
+
+-- ---- layers
+
+-- the features of a layer of each kind
+module _ (d : Drawing) (layer : LayerContent) where
+  abbrev put : Kind → Drawing
+  put kind = record d {
+    polygons = d.polygons ++ (polygon_features kind layer.shapes ++ []);
+    lines = d.lines ++ (line_features kind layer.shapes ++ []);
+    points = d.points ++ (point_features kind layer.shapes ++ []);
+  }
+
+  pub polygon_layer : layer.kind ≡ kinds.Polygon → record d { polygons = d.polygons ++ map polygons_of layer.shapes } ≡ with_layers (layer ∷ []) d
+  polygon_layer e =
+      let all = map polygons_of layer.shapes in
+      let here : record d { polygons = d.polygons ++ all } ≡ put kinds.Polygon = λ j. record d { polygons = d.polygons ++ sym (append-nil all) j; lines = sym (append-nil d.lines) j; points = sym (append-nil d.points) j } in
+      here ∙ ap put (sym e)
+
+  pub line_layer : layer.kind ≡ kinds.Line → record d { lines = d.lines ++ map lines_of layer.shapes } ≡ with_layers (layer ∷ []) d
+  line_layer e =
+      let all = map lines_of layer.shapes in
+      let here : record d { lines = d.lines ++ all } ≡ put kinds.Line = λ j. record d { polygons = sym (append-nil d.polygons) j; lines = d.lines ++ sym (append-nil all) j; points = sym (append-nil d.points) j } in
+      here ∙ ap put (sym e)
+
+  pub point_layer : layer.kind ≡ kinds.Point → record d { points = d.points ++ map points_of layer.shapes } ≡ with_layers (layer ∷ []) d
+  point_layer e =
+      let all = map points_of layer.shapes in
+      let here : record d { points = d.points ++ all } ≡ put kinds.Point = λ j. record d { polygons = sym (append-nil d.polygons) j; lines = sym (append-nil d.lines) j; points = d.points ++ sym (append-nil all) j } in
+      here ∙ ap put (sym e)
+
+  pub table_layer : layer.kind ≡ kinds.Table → d ≡ with_layers (layer ∷ []) d
+  table_layer e =
+      let here : d ≡ put kinds.Table = λ j. record d { polygons = sym (append-nil d.polygons) j; lines = sym (append-nil d.lines) j; points = sym (append-nil d.points) j } in
+      here ∙ ap put (sym e)
+
+pub no_layers : (d : Drawing) → d ≡ with_layers [] d
+no_layers d = λ j. record d { polygons = sym (append-nil d.polygons) j; lines = sym (append-nil d.lines) j; points = sym (append-nil d.points) j }
+
+-- layers behind layers
+layers_apart : (d : Drawing) (xs ys : List LayerContent) → with_layers ys (with_layers xs d) ≡ with_layers (xs ++ ys) d
+layers_apart d xs ys =
+    let polygons = flat_map-append (λ (layer : LayerContent). polygon_features layer.kind layer.shapes) xs ys in
+    let lines = flat_map-append (λ (layer : LayerContent). line_features layer.kind layer.shapes) xs ys in
+    let points = flat_map-append (λ (layer : LayerContent). point_features layer.kind layer.shapes) xs ys in
+    λ j. record d {
+      polygons = (append_assoc d.polygons (polygons_in xs) (polygons_in ys) ∙ ap (λ (ws : List (List Polygon)). d.polygons ++ ws) (sym polygons)) j;
+      lines = (append_assoc d.lines (lines_in xs) (lines_in ys) ∙ ap (λ (ws : List (List Path)). d.lines ++ ws) (sym lines)) j;
+      points = (append_assoc d.points (points_in xs) (points_in ys) ∙ ap (λ (ws : List (List GridPoint)). d.points ++ ws) (sym points)) j;
+    }
+
+pub layers_more : (d : Drawing) (layers : List LayerContent) (i : ℕ) (layer : LayerContent) → i < length layers → layer ≡ get_or layers i layer →
+    with_layers (layer ∷ []) (with_layers (take i layers) d) ≡ with_layers (take (i + 1) layers) d
+layers_more d layers i layer l e = layers_apart d (take i layers) (layer ∷ []) ∙ ap (λ (ls : List LayerContent). with_layers ls d) (taken_more layers i layer l e)
+
+joined_apart : {A : Type 0} (xss : List (List A)) (xs : List A) → joined_up (xss ++ xs ∷ []) ≡ joined_up xss ++ xs
+joined_apart [] xs = append-nil xs
+joined_apart {A} (ys ∷ xss) xs = ap (λ (zs : List A). ys ++ zs) (joined_apart xss xs) ∙ sym (append_assoc ys (joined_up xss) xs)
+
+-- the layers of one source more
+pub sources_more : {S : Type 0} (f : S → List LayerContent) (d : Drawing) (sources : List S) (i : ℕ) (source : S) → i < length sources → source ≡ get_or sources i source →
+    with_layers (f source) (with_layers (joined_up (map f (take i sources))) d) ≡ with_layers (joined_up (map f (take (i + 1) sources))) d
+sources_more f d sources i source l e =
+    layers_apart d (joined_up (map f (take i sources))) (f source)
+    ∙ ap (λ (ls : List LayerContent). with_layers ls d) (sym (joined_apart (map f (take i sources)) (f source)) ∙ ap (λ (ls : List (List LayerContent)). joined_up ls) (mapped_more f sources i source l e))

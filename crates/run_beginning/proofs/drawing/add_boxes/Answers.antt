@@ -1,0 +1,16 @@
+use Rattle.std.proofs.Common.{◌≡◌, ◌++◌, ◌∙◌, sym, ap, arith, take, [], ◌∷◌}
+use Rattle.std.proofs.lemmas.List.{append-nil}
+use Rattle.plane_model.specs.Drawing.{Drawing}
+use Rattle.run_beginning.specs.Drawing.{drawn_boxes}
+use Rattle.run_beginning.proofs.DrawingLemmas.{boxes_more}
+use Rattle.run_beginning.proofs.drawing.add_boxes.Goals as goal
+
+pub loop-area-init : goal.loop-area-init
+loop-area-init c = λ i. record c.args.drawing.now { boxes = sym (append-nil c.args.drawing.now.boxes) i }
+
+pub loop-area-preserved : goal.loop-area-preserved
+loop-area-preserved c =
+    let area = c.area-item.result in
+    c.in_ok-add_box.ensures.ok
+    ∙ ap (λ (d : Drawing). record d { boxes = d.boxes ++ drawn_boxes (area ∷ []) }) c.loop-area.invariant
+    ∙ boxes_more c.args.drawing.now c.args.boxes.now c.loop-area.area-index area (omega arith) c.area-item.is

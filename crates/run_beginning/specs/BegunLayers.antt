@@ -1,0 +1,151 @@
+-- The layers that the commands of a run begin with: those of its sources, over the plane of their drawing.
+use Rattle.std.specs.Prelude.{◌≡◌, ◌++◌, ℕ, Bool, nat_lt, ⊤, List, [], ◌∷◌, drop, filter, length, map, slice_index_or, MatchBool}
+use Rattle.std.specs.List.{AllZip, range_with_len}
+use Rattle.plane_model.specs.Points.{Path}
+use Rattle.plane_model.specs.Arcs.{SignedArc}
+use Rattle.plane_model.specs.Drawing.{Drawing}
+use Rattle.arc_table.specs.PathArcs.{AreArcsAlong}
+use Rattle.face_walk.specs.Holders.{list_at}
+use Rattle.face_walk.specs.Places.{FaceTable}
+use Rattle.grid_base.specs.declared.kinds.Kind.{Kind}
+use Rattle.grid_base.specs.declared.kinds.Kind.TheVariants as kinds
+use Rattle.geojson_io.specs.LayerContent.{LayerContent}
+use Rattle.geojson_io.specs.declared.shape.GeoShape.{GeoShape}
+use Rattle.cmd_words.specs.declared.job.Owner.{Owner}
+use Rattle.cmd_words.specs.declared.job.Owner.TheVariants as owner
+use Rattle.run_beginning.specs.Drawing.{points_of}
+use Rattle.run_plane.specs.LaidOut.{IsLaidOut}
+use Rattle.run_plane.specs.declared.layer.Layer.{Layer}
+use Rattle.run_plane.specs.declared.layer.Shape.{Shape}
+use Rattle.run_plane.specs.declared.layer.Shape.TheVariants as shape
+
+-- what is left of the features of a drawing, the next ones first: the faces of its polygon features, and the snapped
+-- paths of its line features
+pub record Left : Type 0 where
+  pub faces : List (List ℕ)
+  pub lines : List (List Path)
+
+-- how many polygon features, and how many line features, a layer of some kind has, of so many features
+abbrev pub polygon_count : Kind → ℕ → ℕ
+polygon_count kinds.Polygon n = n
+polygon_count kinds.Line n = 0
+polygon_count kinds.Point n = 0
+polygon_count kinds.Table n = 0
+
+abbrev pub line_count : Kind → ℕ → ℕ
+line_count kinds.Polygon n = 0
+line_count kinds.Line n = n
+line_count kinds.Point n = 0
+line_count kinds.Table n = 0
+
+-- what is left behind those of a layer
+abbrev pub behind : LayerContent → Left → Left
+behind layer left = record {
+  faces = drop (polygon_count layer.kind (length layer.shapes)) left.faces;
+  lines = drop (line_count layer.kind (length layer.shapes)) left.lines;
+}
+
+-- ---- shapes
+
+abbrev pub has_links : Path → Bool
+has_links path = nat_lt 1 (length path)
+
+-- the paths with links, each as arcs
+abbrev pub AreLineArcs : List Path → List Path → List (List SignedArc) → Type 0
+AreLineArcs arcs lines paths = AllZip (AreArcsAlong arcs) (filter has_links lines) paths
+
+-- the next path, where it has links, goes behind the others
+abbrev pub GoesAlong : List Path → Path → List (List SignedArc) → List (List SignedArc) → Type 0
+GoesAlong arcs path old new = MatchBool (has_links path) ((along : List SignedArc) × AreArcsAlong arcs path along × (new ≡ old ++ along ∷ [])) (new ≡ old)
+
+abbrev pub IsLineShape : List Path → List Path → Shape → Type 0
+IsLineShape arcs lines (shape.Paths paths) = AreLineArcs arcs lines paths
+IsLineShape arcs lines shape.Nothing = ⊥
+IsLineShape arcs lines (shape.Faces set) = ⊥
+IsLineShape arcs lines (shape.Points points) = ⊥
+
+-- the shape of the k-th of the next features
+abbrev pub face_shape : List (List ℕ) → ℕ → Shape
+face_shape faces k = shape.Faces (list_at faces k)
+
+abbrev pub IsLineOf : List Path → List (List Path) → ℕ → Shape → Type 0
+IsLineOf arcs lines k = IsLineShape arcs (slice_index_or lines k [])
+
+abbrev pub point_shape : GeoShape → Shape
+point_shape given = shape.Points (points_of given)
+
+abbrev pub row_shape : GeoShape → Shape
+row_shape given = shape.Nothing
+
+abbrev pub numbers_of : List GeoShape → List ℕ
+numbers_of given = range_with_len 0 (length given)
+
+-- the shapes of a layer of some kind, in order: the sets of the next polygon features, the paths of the next line
+-- features as arcs, the points themselves, or nothing
+abbrev pub AreShapes : List Path → Left → Kind → List GeoShape → List Shape → Type 0
+AreShapes arcs left kinds.Polygon given begun = begun ≡ map (face_shape left.faces) (numbers_of given)
+AreShapes arcs left kinds.Line given begun = AllZip (IsLineOf arcs left.lines) (numbers_of given) begun
+AreShapes arcs left kinds.Point given begun = begun ≡ map point_shape given
+AreShapes arcs left kinds.Table given begun = begun ≡ map row_shape given
+
+-- ---- layers
+
+pub record IsBegunLayer (arcs : List Path) (left : Left) (given : LayerContent) (begun : Layer) : Type 0 where
+  pub name : begun.name ≡ given.name
+  pub kind : begun.kind ≡ given.kind
+  pub table : begun.table ≡ given.table
+  pub shapes : AreShapes arcs left given.kind given.shapes begun.shapes.items
+
+-- each layer behind those before it
+abbrev pub AreBegun : List Path → Left → List LayerContent → List Layer → Type 0
+AreBegun arcs left [] [] = ⊤
+AreBegun arcs left [] (layer ∷ begun) = ⊥
+AreBegun arcs left (layer ∷ given) [] = ⊥
+AreBegun arcs left (layer ∷ given) (first ∷ begun) = IsBegunLayer arcs left layer first × AreBegun arcs (behind layer left) given begun
+
+abbrev pub behind_all : List LayerContent → Left → Left
+behind_all [] left = left
+behind_all (layer ∷ layers) left = behind_all layers (behind layer left)
+
+-- ---- sources
+
+-- the layers of each source behind those of the sources before it
+abbrev pub AreBegunOfEach : List Path → Left → List (List LayerContent) → List (List Layer) → Type 0
+AreBegunOfEach arcs left [] [] = ⊤
+AreBegunOfEach arcs left [] (layers ∷ begun) = ⊥
+AreBegunOfEach arcs left (layers ∷ given) [] = ⊥
+AreBegunOfEach arcs left (layers ∷ given) (first ∷ begun) = AreBegun arcs left layers first × AreBegunOfEach arcs (behind_all layers left) given begun
+
+-- the layers of a source that was read for the import, or for a command
+abbrev pub of_import : Owner → List Layer → List Layer
+of_import owner.Import layers = layers
+of_import (owner.Command n) layers = []
+
+abbrev pub of_command : Owner → List Layer → List Layer
+of_command owner.Import layers = []
+of_command (owner.Command n) layers = layers
+
+-- the layers of the import, source by source
+abbrev pub imported : List Owner → List (List Layer) → List Layer
+imported [] begun = []
+imported (o ∷ owners) [] = []
+imported (o ∷ owners) (layers ∷ begun) = of_import o layers ++ imported owners begun
+
+-- the layers of each source that was read for a command, and none of one for the import
+abbrev pub owned : List Owner → List (List Layer) → List (List Layer)
+owned [] begun = []
+owned (o ∷ owners) [] = []
+owned (o ∷ owners) (layers ∷ begun) = of_command o layers ∷ owned owners begun
+
+-- what the sources, read for these owners, begin as: the layers of the import, and those of each source for a command
+pub record AreSourcesBegun (arcs : List Path) (left : Left) (owners : List Owner) (given : List (List LayerContent)) (layers : List Layer) (sources : List (List Layer)) : Type 0 where
+  pub begun : List (List Layer)
+  pub each : AreBegunOfEach arcs left given begun
+  pub of_imports : layers ≡ imported owners begun
+  pub of_commands : sources ≡ owned owners begun
+
+-- all this over the snapped drawing s of the sources, laid out
+pub record BeginsOver (s : Drawing) (owners : List Owner) (given : List (List LayerContent)) (arcs : List Path) (faces : FaceTable) (boxes : List (List ℕ)) (layers : List Layer) (sources : List (List Layer)) : Type 0 where
+  pub features : List (List ℕ)
+  pub laid : IsLaidOut s arcs faces boxes features
+  pub begun : AreSourcesBegun arcs (record { faces = features; lines = s.lines }) owners given layers sources

@@ -1,0 +1,2 @@
+pub mod BegunLayers
+pub mod Drawing

@@ -1,0 +1,12 @@
+//! What a run has when its commands begin: the plane of the one drawing of all its sources and boxes, and their layers
+//! over it.
+//!
+//! 1. `drawing` puts the features of all sources, and the boxes, into one drawing.
+//! 2. `beginning` has it laid out, and makes a layer over the plane of each layer that was read.
+#![tactic(auto)]
+
+mod beginning;
+mod drawing;
+
+pub use beginning::{Begun, begin};
+pub use drawing::add_polygons;

@@ -1,0 +1,4 @@
+pub mod Ends
+pub mod Messages
+pub mod Status
+pub mod Telling

@@ -1,0 +1,3 @@
+pub mod FacesHeld
+pub mod Growth
+pub mod Looks

@@ -1,0 +1,5 @@
+pub mod Begun
+pub mod LaidOut
+pub mod Looks
+pub mod OnPlane
+pub mod Shapes

@@ -1,0 +1,44 @@
+ghost use Rattle.std.specs.Prelude.{◌≡◌, length};
+
+use arc_table::SignedPaths;
+use grid_base::{Kind, PtList};
+use io_core::Text;
+use json_read::Table;
+use ring_trace::FaceSet;
+
+/// What a feature has of the plane that all layers of a run share. A shape may be empty: the feature then has no
+/// geometry, and keeps its row.
+#[derive(Drop)]
+pub enum Shape {
+    /// Of a layer of kind Table.
+    Nothing,
+    Faces(FaceSet),
+    Paths(SignedPaths),
+    Points(PtList),
+}
+
+impl Shape {
+    ghost use Rattle.std.specs.Prelude.{◌≡◌};
+    ghost use Rattle.run_plane.specs.Shapes.{is_empty};
+
+    pub fn is_empty(&self) -> bool
+        ensures exact { result ≡ is_empty self.now }
+    {
+        match self {
+            Shape::Nothing => true,
+            Shape::Faces(set) => set.is_empty(),
+            Shape::Paths(paths) => paths.len() == 0,
+            Shape::Points(points) => points.len() == 0,
+        }
+    }
+}
+
+/// A layer of a run: a row and a shape for each feature, in order.
+#[derive(Drop)]
+pub struct Layer {
+    pub name: Text,
+    pub kind: Kind,
+    pub table: Table,
+    pub shapes: Vec<Shape>,
+    ghost each: { length shapes.items ≡ length table.rows },
+}

@@ -1,0 +1,18 @@
+//! The plane of a run, and layers over it.
+//!
+//! In: the drawing of all sources and boxes. Out: the arcs and faces of the snapped drawing, and the faces that each
+//! polygon feature and each box holds.
+//!
+//! 1. `plane` snaps a drawing, builds its arcs and faces, and gathers the faces that features and boxes hold.
+//! 2. `layer` is a layer of a run: a row and a shape for each feature, where a shape is a set of faces, a list of signed
+//!    paths, or points.
+//! 3. `copies` makes copies of shapes and texts.
+#![tactic(auto)]
+
+mod copies;
+mod layer;
+mod plane;
+
+pub use copies::{copy_path, copy_paths, copy_points, copy_shape, copy_shapes, copy_text};
+pub use layer::{Layer, Shape};
+pub use plane::{Laid, Plane, laid_out};

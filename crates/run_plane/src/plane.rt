@@ -1,0 +1,245 @@
+ghost use Rattle.std.specs.Prelude.{◌≡◌, ◌<◌, ◌≤◌, [], All, length, nat_lt, replicate, slice_set, IfErr, IfOk, IsTrue, OnOk};
+ghost use Rattle.face_walk.specs.Places.{HasArc, IsBuiltOf};
+ghost use Rattle.std.specs.List.{list_all};
+ghost use Rattle.ring_trace.specs.Sets.{IsSetOf};
+ghost use Rattle.run_plane.specs.Looks.{is_inner, is_below};
+ghost use Rattle.lists.specs.Lists.{put_in_order};
+ghost use Rattle.plane_model.specs.Snapped.{snapped};
+ghost use Rattle.arc_table.specs.PathArcs.{AreArcsOf};
+ghost use Rattle.face_walk.specs.Holders.{list_at};
+ghost use Rattle.snap_round.specs.Snapping.{FaultMeans};
+ghost use Rattle.run_plane.specs.Begun.{IsFew};
+ghost use Rattle.run_plane.specs.LaidOut.{AreHeld, AreHeldFaces, IsLaidOut, PutsInto};
+
+use arc_table::{ArcTable, SignedPath, SignedPaths};
+use face_walk::{Faces, Labels};
+use grid_base::{Drawing, FaceId, FeatId, SignedArc, Snapped};
+use ring_trace::FaceSet;
+use snap_round::{SnapFault, snap};
+use std::alloc::{AllocError, Global};
+
+/// The snapped drawing of all sources and boxes of a run, as arcs and faces.
+#[derive(Drop)]
+pub struct Plane {
+    pub arcs: ArcTable,
+    pub faces: Faces,
+    /// The faces that each box holds, by its number.
+    pub boxes: Vec<FaceSet>,
+    ghost built: { IsBuiltOf arcs faces },
+}
+
+impl Plane {
+    ghost use Rattle.std.specs.Prelude.{◌≡◌, ◌<◌, All, IsTrue, length};
+    ghost use Rattle.face_walk.specs.Places.{HasArc};
+    ghost use Rattle.ring_trace.specs.Sets.{IsSetOf};
+    ghost use Rattle.run_plane.specs.OnPlane.{has_arcs, has_faces};
+
+    /// Whether all faces of a set are faces of the plane, other than the outer one.
+    #[tactic(auto, using(crate::proofs::Looks::set_of_faces))]
+    pub fn has_all(&self, set: &FaceSet) -> bool
+        ensures exact { result ≡ has_faces self.now set.now }
+        ensures inner { IsTrue result → IsSetOf self.now.faces set.now }
+    {
+        are_inner(&self.faces, set.faces())
+    }
+
+    /// Whether all arcs of the paths are arcs of the plane.
+    #[tactic(auto, using(crate::proofs::Looks::paths_of_faces, crate::proofs::Looks::paths_below))]
+    pub fn has_arcs(&self, paths: &SignedPaths) -> bool
+        ensures exact { result ≡ has_arcs self.now paths.now }
+        ensures there { IsTrue result → All (All (HasArc self.now.faces)) paths.now }
+        ensures below { IsTrue result → All (All (λ a. a.arc < length self.now.arcs)) paths.now }
+    {
+        are_below(self.arcs.count(), paths.as_slice())
+    }
+}
+
+fn are_inner(faces: &Faces, set: &[FaceId]) -> bool
+    ensures exact { result ≡ list_all (is_inner faces.now) set.now }
+{
+    for face in set {
+        if !is_inner(faces, *face) {
+            return false;
+        }
+    }
+    true
+}
+
+fn is_inner(faces: &Faces, face: FaceId) -> bool
+    ensures exact { result ≡ is_inner faces.now face }
+{
+    face.num() < faces.count() && face != faces.outer()
+}
+
+fn are_below(count: u32, paths: &[SignedPath]) -> bool
+    ensures exact { result ≡ list_all (list_all (is_below count)) paths.now }
+{
+    for path in paths {
+        if !is_path_below(count, path.as_slice()) {
+            return false;
+        }
+    }
+    true
+}
+
+fn is_path_below(count: u32, path: &[SignedArc]) -> bool
+    ensures exact { result ≡ list_all (is_below count) path.now }
+{
+    for arc in path {
+        if arc.id().num() >= count {
+            return false;
+        }
+    }
+    true
+}
+
+/// A drawing laid out: its plane, its snapped paths, and the faces that each polygon feature holds, by its number.
+#[derive(Drop)]
+pub struct Laid {
+    pub plane: Plane,
+    pub snapped: Snapped,
+    pub features: Vec<FaceSet>,
+}
+
+/// Snaps a drawing, and builds its arcs and faces.
+///
+/// Errors: `TooDense`, where its snapped paths have more than 8,000,000 links, and `Memory`.
+pub fn laid_out(alloc: Global, drawing: &Drawing) -> Result<Laid, SnapFault>
+    ensures fault { IfErr result (FaultMeans drawing.now) }
+    ensures few { IfOk result (λ laid. IsFew drawing.now) }
+    ensures snapped { IfOk result (λ laid. laid.snapped ≡ snapped drawing.now) }
+    ensures laid { IfOk result (λ laid. IsLaidOut laid.snapped laid.plane.arcs laid.plane.faces laid.plane.boxes.items laid.features.items) }
+{
+    let snapped = snap(alloc, drawing)?;
+    match built(alloc, snapped) {
+        Ok(laid) => Ok(laid),
+        Err(_) => Err(SnapFault::Memory),
+    }
+}
+
+fn built(alloc: Global, snapped: Snapped) -> Result<Laid, AllocError>
+    ensures snapped { IfOk result (λ laid. laid.snapped ≡ snapped) }
+    ensures laid { IfOk result (λ laid. IsLaidOut snapped laid.plane.arcs laid.plane.faces laid.plane.boxes.items laid.features.items) }
+{
+    let arcs = arcs_of(alloc, &snapped)?;
+    let faces = Faces::build(alloc, &arcs)?;
+    let held = HeldFaces::of(alloc, &arcs, &faces, &snapped)?;
+    Ok(Laid {
+        plane: Plane {
+            arcs,
+            faces,
+            boxes: held.boxes,
+        },
+        snapped,
+        features: held.features,
+    })
+}
+
+// The faces that each polygon feature holds, and each box, by their numbers.
+#[derive(Drop)]
+struct HeldFaces {
+    features: Vec<FaceSet>,
+    boxes: Vec<FaceSet>,
+}
+
+impl HeldFaces {
+    fn of(
+        alloc: Global,
+        arcs: &ArcTable,
+        faces: &Faces,
+        snapped: &Snapped,
+    ) -> Result<HeldFaces, AllocError>
+        requires built { IsBuiltOf arcs.now faces.now }
+        ensures held { IfOk result (λ held. AreHeld snapped.now arcs.now faces.now held.boxes.items held.features.items) }
+    {
+        let labels = Labels::of(alloc, arcs, faces, snapped)?;
+        let features = features_held(alloc, snapped.polygon_count(), faces, &labels)?;
+        let boxes = boxes_held(alloc, snapped.box_count(), faces, &labels)?;
+        Ok(HeldFaces { features, boxes })
+    }
+}
+
+fn arcs_of(alloc: Global, snapped: &Snapped) -> Result<ArcTable, AllocError>
+    ensures exact { IfOk result (AreArcsOf snapped.now) }
+{
+    let _ = snapped.links();
+    ArcTable::build(alloc, snapped)
+}
+
+// The faces that each of so many polygon features holds, by its number.
+fn features_held(
+    alloc: Global,
+    count: u32,
+    faces: &Faces,
+    labels: &Labels,
+) -> Result<Vec<FaceSet>, AllocError>
+    requires each { length labels.now.holders ≡ faces.now.count }
+    ensures held { IfOk result (λ sets. AreHeldFaces labels.now.holders faces.now.count count sets.items) }
+{
+    let mut sets = empty_sets(alloc, count)?;
+    for number in 0..faces.count() {
+        let face = FaceId::new(number);
+        put_in_features(&mut sets, labels.holders(face), face)?;
+    }
+    Ok(sets)
+}
+
+fn put_in_features(
+    sets: &mut Vec<FaceSet>,
+    features: &[FeatId],
+    face: FaceId,
+) -> Result<(), AllocError>
+    ensures put { OnOk result (PutsInto features.now face sets.old.items sets.new.items) }
+{
+    for feature in features {
+        put_face(sets, feature.num(), face)?;
+    }
+    Ok(())
+}
+
+// The faces that each of so many boxes holds, by its number.
+fn boxes_held(
+    alloc: Global,
+    count: u32,
+    faces: &Faces,
+    labels: &Labels,
+) -> Result<Vec<FaceSet>, AllocError>
+    requires each { length labels.now.boxes ≡ faces.now.count }
+    ensures held { IfOk result (λ sets. AreHeldFaces labels.now.boxes faces.now.count count sets.items) }
+{
+    let mut sets = empty_sets(alloc, count)?;
+    for number in 0..faces.count() {
+        let face = FaceId::new(number);
+        put_in_boxes(&mut sets, labels.boxes(face), face)?;
+    }
+    Ok(sets)
+}
+
+fn put_in_boxes(sets: &mut Vec<FaceSet>, boxes: &[u32], face: FaceId) -> Result<(), AllocError>
+    ensures put { OnOk result (PutsInto boxes.now face sets.old.items sets.new.items) }
+{
+    for area in boxes {
+        put_face(sets, *area, face)?;
+    }
+    Ok(())
+}
+
+fn empty_sets(alloc: Global, count: u32) -> Result<Vec<FaceSet>, AllocError>
+    ensures empty { IfOk result (λ sets. sets.items ≡ replicate count []) }
+{
+    let mut sets = Vec::new(alloc);
+    for _number in 0..count {
+        sets.push(FaceSet::new(alloc))?;
+    }
+    Ok(sets)
+}
+
+// The face into the set with this number, where there is one.
+fn put_face(sets: &mut Vec<FaceSet>, number: u32, face: FaceId) -> Result<(), AllocError>
+    ensures put { OnOk result (sets.new.items ≡ slice_set sets.old.items number (put_in_order nat_lt face (list_at sets.old.items number))) }
+{
+    match sets.get_mut(number as usize) {
+        Some(set) => set.insert(face),
+        None => Ok(()),
+    }
+}

@@ -1,0 +1,9 @@
+use Rattle.std.proofs.Common.{◌≡◌, length}
+use Rattle.json_read.specs.Table.{AreRows}
+use Rattle.run_shapes.proofs.cleaning.holder_rows.Given as goal
+
+abbrev pub invariant-loop-item : goal.invariant-loop-item
+invariant-loop-item l = record {
+  count : length l.rows ≡ l.item-index;
+  widths : AreRows 1 l.rows;
+}

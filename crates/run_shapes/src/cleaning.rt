@@ -1,0 +1,92 @@
+ghost use Rattle.std.specs.Prelude.{◌≡◌, IfOk, length};
+ghost use Rattle.json_read.specs.Table.{AreRows};
+ghost use Rattle.run_shapes.specs.Made.{IsCleaned, IsLike};
+
+use crate::face_sets::{sets_of, shapes_of};
+use grid_base::{Kind, OverlapRule};
+use io_core::{NameList, Text};
+use itoa::Buffer;
+use json_read::{Row, RowList, Table, Value};
+use region_ops::{MosaicItem, clean_sets, mosaic_sets};
+use run_plane::{Layer, Plane, Shape, copy_text};
+use run_state::{nonempty, numbers_below, with_shapes};
+use std::alloc::{AllocError, Global};
+
+/// The layer with each face that several features hold left with the one that the rule ranks first. Features without
+/// geometry afterwards are left out, unless `allow_empty`.
+pub fn cleaned(
+    alloc: Global,
+    plane: &Plane,
+    layer: &Layer,
+    rule: OverlapRule,
+    allow_empty: bool,
+) -> Result<Layer, AllocError>
+    ensures made { IfOk result (IsCleaned allow_empty layer.now) }
+{
+    let sets = sets_of(alloc, plane, &layer.shapes)?;
+    let cleaned = clean_sets(alloc, &plane.faces, &sets, rule)?;
+    let shapes = shapes_of(alloc, cleaned.as_slice())?;
+    if allow_empty {
+        let all = numbers_below(alloc, layer.table.row_count())?;
+        return with_shapes(alloc, layer, &all, shapes);
+    }
+    nonempty(alloc, layer, shapes)
+}
+
+/// A feature for each part of the faces that just the same features hold, in the order of the lists of their numbers,
+/// which stand in the one column `ids`, joined by commas.
+pub fn mosaic(alloc: Global, plane: &Plane, layer: &Layer) -> Result<Layer, AllocError>
+    ensures like { IfOk result (IsLike Kind.Polygon layer.now) }
+{
+    let sets = sets_of(alloc, plane, &layer.shapes)?;
+    let items = mosaic_sets(alloc, &plane.arcs, &plane.faces, &sets)?;
+    let rows = holder_rows(alloc, items.as_slice())?;
+    let shapes = mosaic_shapes(alloc, items.as_slice())?;
+    let mut names = NameList::new(alloc);
+    names.push(Text::of(alloc, "ids")?)?;
+    Ok(Layer {
+        name: copy_text(alloc, &layer.name)?,
+        kind: Kind::Polygon,
+        table: Table::new(names, rows),
+        shapes,
+    })
+}
+
+fn mosaic_shapes(alloc: Global, items: &[MosaicItem]) -> Result<Vec<Shape>, AllocError>
+    ensures count { IfOk result (λ shapes. length shapes.items ≡ length items.now) }
+{
+    let mut shapes = Vec::new(alloc);
+    for item in items {
+        shapes.push(Shape::Faces(item.set.copy(alloc)?))?;
+    }
+    Ok(shapes)
+}
+
+#[tactic(auto, using(crate::proofs::Rows::rows_grown))]
+fn holder_rows(alloc: Global, items: &[MosaicItem]) -> Result<RowList, AllocError>
+    ensures count { IfOk result (λ rows. length rows ≡ length items.now) }
+    ensures widths { IfOk result (λ rows. AreRows 1 rows) }
+{
+    let mut rows = RowList::new(alloc);
+    for item in items {
+        rows.push(holder_row(alloc, item)?)?;
+    }
+    Ok(rows)
+}
+
+// The numbers of the holders in one text, joined by commas.
+fn holder_row(alloc: Global, item: &MosaicItem) -> Result<Row, AllocError>
+    ensures width { IfOk result (λ row. length row ≡ 1) }
+{
+    let mut text = String::new(alloc);
+    for number in item.ids.as_slice() {
+        let mut buffer = Buffer::new();
+        if !text.is_empty() {
+            text.push_str(",")?;
+        }
+        text.push_str(buffer.format(*number))?;
+    }
+    let mut row = Row::new(alloc);
+    row.push(Value::Text(Text::from_string(text)))?;
+    Ok(row)
+}

@@ -1,0 +1,10 @@
+use arc_table::SignedPath;
+use grid_base::{ArcId, SignedArc};
+use std::alloc::{AllocError, Global};
+
+/// The path along one arc in its direction.
+pub(crate) fn path_along(alloc: Global, arc: ArcId) -> Result<SignedPath, AllocError> {
+    let mut path = SignedPath::new(alloc);
+    path.push(SignedArc::forward(arc))?;
+    Ok(path)
+}

@@ -1,0 +1,4 @@
+pub mod Decoded
+pub mod Given
+pub mod Growing
+pub mod Titles

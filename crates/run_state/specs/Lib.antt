@@ -1,0 +1,3 @@
+pub mod Features
+pub mod Origins
+pub mod Targets

@@ -1,0 +1,41 @@
+-- What the commands of a run stand on, and the layer that a command takes from elsewhere.
+use Rattle.std.specs.Prelude.{ℕ, ◌-◌, List, [], ◌∷◌, map, filter, slice_index_or, Result, Ok, Err}
+use Rattle.std.specs.Str.{bytes_eq}
+use Rattle.io_core.specs.Contents.{Content}
+use Rattle.cmd_words.specs.declared.job.Origin.{Origin}
+use Rattle.cmd_words.specs.declared.job.Origin.TheVariants as origin
+use Rattle.run_plane.specs.declared.layer.Layer.{Layer}
+use Rattle.run_plane.specs.declared.plane.Plane.{Plane}
+use Rattle.run_state.specs.declared.ground.Ground.{Ground}
+use Rattle.run_state.specs.declared.refusal.RefuseWhy.{RefuseWhy}
+use Rattle.run_state.specs.declared.refusal.RefuseWhy.TheVariants.{NoLayer, ManyLayers}
+use Rattle.run_state.specs.declared.state.Held.{Held}
+
+-- the layers of each source, in order
+abbrev pub Owned : Type 0
+Owned = List (List Layer)
+
+-- what the commands of a run stand on: the decimal places of its grid, its plane, and the layers of its sources
+pub record Base : Type 0 where
+  pub places : ℕ
+  pub plane : Plane
+  pub sources : Owned
+
+abbrev pub base_of : Ground → Base
+base_of under = record { places = under.places; plane = under.plane.now; sources = map (λ own. own.items) under.sources.now }
+
+-- ---- the layer that a command takes from elsewhere
+
+abbrev pub named_layers : Content → List Held → List Layer
+named_layers name layers = map (λ (held : Held). held.layer) (filter (λ (held : Held). bytes_eq name held.layer.name) layers)
+
+-- those of a name, or those of the source with this number, from 1
+abbrev pub origin_layers : Owned → List Held → Origin → List Layer
+origin_layers sources layers (origin.Layer name) = named_layers name layers
+origin_layers sources layers (origin.Source n) = slice_index_or sources (n - 1) []
+origin_layers sources layers (origin.Area n) = []
+
+abbrev pub one_layer : List Layer → Result Layer RefuseWhy
+one_layer [] = Err NoLayer
+one_layer (layer ∷ []) = Ok layer
+one_layer (layer ∷ other ∷ rest) = Err ManyLayers

@@ -1,0 +1,26 @@
+//! The state of a run between two commands, and what every command asks of it.
+//!
+//! 1. `state` is the list of layers, and why a command stops a run (`refusal`).
+//! 2. `ground` is what all commands of a run stand on: the grid, the plane, and the layers of the sources of commands.
+//! 3. `targets` says which layers a command works on, `origins` which one it takes from elsewhere, and `placing` where
+//!    the layers go that it puts out.
+//! 4. `features` takes features out of a layer by their numbers.
+#![tactic(auto)]
+
+mod features;
+mod ground;
+mod origins;
+mod placing;
+mod refusal;
+mod state;
+mod targets;
+
+pub use features::{
+    copy_table, nonempty, numbers_below, take_features, with_geometry, with_shapes,
+};
+pub use ground::Ground;
+pub use origins::source_layer;
+pub use placing::placed;
+pub use refusal::RefuseWhy;
+pub use state::{CommandStop, Held, State};
+pub use targets::{check_target, is_selected, only_target};

@@ -1,0 +1,119 @@
+ghost use Rattle.std.specs.Prelude.{◌≡◌, ◌∷◌, IfErr, IfOk};
+ghost use Rattle.std.specs.List.{list_all, list_any};
+ghost use Rattle.table_ops.specs.Names.{has_name};
+ghost use Rattle.run_state.specs.Origins.{one_layer};
+ghost use Rattle.run_state.specs.Targets.{TargetAnswers, are_layers, is_layer, is_selected, targets};
+
+use crate::refusal::RefuseWhy;
+use crate::state::Held;
+use cmd_words::Target;
+use io_core::Text;
+use run_plane::Layer;
+
+/// Refuses a target that names a layer that isn't there, or selects none.
+pub fn check_target(layers: &[Held], target: &Target) -> Result<(), RefuseWhy>
+    ensures answers { TargetAnswers target.now layers.now result }
+{
+    if !are_layers(layers, target) {
+        return Err(RefuseWhy::NoLayer);
+    }
+    if !selects_some(layers, target) {
+        return Err(RefuseWhy::NoLayer);
+    }
+    Ok(())
+}
+
+fn are_layers(layers: &[Held], target: &Target) -> bool
+    ensures exact { result ≡ are_layers target.now layers.now }
+{
+    match target {
+        Target::Default => true,
+        Target::All => true,
+        Target::Names(names) => are_names(layers, names.as_slice()),
+    }
+}
+
+fn are_names(layers: &[Held], names: &[Text]) -> bool
+    ensures exact { result ≡ list_all (is_layer layers.now) names.now }
+{
+    for name in names {
+        if !is_layer(layers, name.as_str()) {
+            return false;
+        }
+    }
+    true
+}
+
+/// Whether some layer has the name.
+pub fn is_layer(layers: &[Held], name: &str) -> bool
+    ensures exact { result ≡ is_layer layers.now name.now }
+{
+    for held in layers {
+        if name == held.layer.name.as_str() {
+            return true;
+        }
+    }
+    false
+}
+
+/// Whether the target has some layer.
+pub fn selects_some(layers: &[Held], target: &Target) -> bool
+    ensures exact { result ≡ list_any (is_selected target.now) layers.now }
+{
+    for held in layers {
+        if is_selected(target, held) {
+            return true;
+        }
+    }
+    false
+}
+
+/// Whether the command of this target works on the layer.
+pub fn is_selected(target: &Target, held: &Held) -> bool
+    ensures exact { result ≡ is_selected target.now held.now }
+{
+    match target {
+        Target::Default => held.is_default,
+        Target::All => true,
+        Target::Names(names) => is_among(names.as_slice(), held.layer.name.as_str()),
+    }
+}
+
+fn is_among(names: &[Text], name: &str) -> bool
+    ensures exact { result ≡ has_name names.now name.now }
+{
+    for listed in names {
+        if name == listed.as_str() {
+            return true;
+        }
+    }
+    false
+}
+
+/// The one layer of a target.
+#[tactic(auto, using(crate::proofs::TargetLemmas::target_first, crate::proofs::TargetLemmas::other_first))]
+pub fn only_target<'a>(layers: &'a [Held], target: &Target) -> Result<&'a Layer, RefuseWhy>
+    ensures ok { IfOk result (λ layer. one_layer (targets target.now layers.now) ≡ Ok layer.now) }
+    ensures err { IfErr result (λ why. one_layer (targets target.now layers.now) ≡ Err why) }
+{
+    let [held, rest @ ..] = layers else {
+        return Err(RefuseWhy::NoLayer);
+    };
+    if is_selected(target, held) {
+        return sole(&held.layer, rest, target);
+    }
+    only_target(rest, target)
+}
+
+// The first layer of a target, where none behind it is of the target too.
+#[tactic(auto, using(crate::proofs::TargetLemmas::no_targets, crate::proofs::TargetLemmas::some_targets))]
+fn sole<'a>(first: &'a Layer, rest: &[Held], target: &Target) -> Result<&'a Layer, RefuseWhy>
+    ensures ok { IfOk result (λ layer. one_layer (first.now ∷ targets target.now rest.now) ≡ Ok layer.now) }
+    ensures err { IfErr result (λ why. one_layer (first.now ∷ targets target.now rest.now) ≡ Err why) }
+{
+    if selects_some(rest, target) {
+        Err(RefuseWhy::ManyLayers)
+    } else {
+        Ok(first)
+    }
+}

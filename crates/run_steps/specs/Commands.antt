@@ -1,0 +1,108 @@
+-- What a command makes of the layers that it works on.
+use Rattle.std.specs.Prelude.{◌≡◌, ◌≤◌, ⊤, List, [], ◌∷◌, ◌++◌, length, replicate, Option, Some, None, Ok, MatchBool}
+use Rattle.std.specs.List.{AllZip, position_or_len}
+use Rattle.io_core.specs.Contents.{Content}
+use Rattle.grid_base.specs.declared.kinds.Kind.TheVariants as kinds
+use Rattle.table_ops.specs.Columns.{keep_fields, rename_fields}
+use Rattle.table_ops.specs.Join.{join_tables}
+use Rattle.table_ops.specs.declared.specifications.JoinSpec.{JoinSpec}
+use Rattle.cmd_words.specs.declared.job.Origin.{Origin}
+use Rattle.cmd_words.specs.declared.job.Target.{Target}
+use Rattle.cmd_words.specs.declared.job.Command.{Command}
+use Rattle.cmd_words.specs.declared.job.JointAction.{JointAction}
+use Rattle.cmd_words.specs.declared.job.JointAction.TheVariants as joint
+use Rattle.cmd_words.specs.declared.job.LayerAction.{LayerAction}
+use Rattle.cmd_words.specs.declared.job.LayerAction.TheVariants as action
+use Rattle.run_plane.specs.declared.layer.Layer.{Layer}
+use Rattle.run_shapes.specs.Made.{IsCleaned, IsGrouped, IsLike, IsReshaped}
+use Rattle.run_state.specs.Origins.{Base, one_layer, origin_layers}
+use Rattle.run_state.specs.Targets.{is_selected, placed, targets}
+use Rattle.run_state.specs.declared.state.Held.{Held}
+use Rattle.run_tables.specs.Made.{GivesTable, IsFiltered, IsMerged}
+
+-- ---- what is put out for a layer
+
+-- one layer, of which this holds
+abbrev pub One : (Layer → Type 0) → List Layer → Type 0
+One P [] = ⊥
+One P (made ∷ []) = P made
+One P (made ∷ other ∷ rest) = ⊥
+
+-- what a join puts out: the layer joined with the one of its source
+pub record Joins (base : Base) (layers : List Held) (from : Origin) (spec : JoinSpec) (layer : Layer) (outputs : List Layer) : Type 0 where
+  pub source : Layer
+  pub found : one_layer (origin_layers base.sources layers from) ≡ Ok source
+  pub joined : One (GivesTable (join_tables layer.table source.table spec) layer) outputs
+
+-- what a command that changes each layer puts out for a layer of its target, beside all layers of the state
+abbrev pub PutsOut : Base → List Held → LayerAction → Layer → List Layer → Type 0
+PutsOut base layers (action.Clip from) layer outputs = One (IsReshaped layer) outputs
+PutsOut base layers (action.Erase from) layer outputs = One (IsReshaped layer) outputs
+PutsOut base layers (action.Dissolve spec group_points) layer outputs = One (IsGrouped spec layer) outputs
+PutsOut base layers (action.Clean rule allow_empty) layer outputs = One (IsCleaned allow_empty layer) outputs
+PutsOut base layers action.Mosaic layer outputs = One (IsLike kinds.Polygon layer) outputs
+PutsOut base layers action.InnerLines layer outputs = One (IsLike kinds.Line layer) outputs
+PutsOut base layers (action.Lines fields) layer outputs = One (IsLike kinds.Line layer) outputs
+PutsOut base layers action.Explode layer outputs = One (IsLike layer.kind layer) outputs
+PutsOut base layers (action.Join from spec) layer outputs = Joins base layers from spec layer outputs
+PutsOut base layers (action.Filter test invert remove_empty) layer outputs = One (IsFiltered test invert remove_empty layer) outputs
+PutsOut base layers (action.FilterFields fields) layer outputs = One (GivesTable (keep_fields layer.table fields) layer) outputs
+PutsOut base layers (action.RenameFields pairs) layer outputs = One (GivesTable (rename_fields layer.table pairs) layer) outputs
+PutsOut base layers (action.Split field) layer outputs = ⊤
+
+-- the name of `name=`, where it stands
+abbrev pub title_or : Option Content → Content → Content
+title_or None name = name
+title_or (Some title) name = title
+
+-- a layer under that name
+pub record IsTitled (title : Option Content) (layer titled : Layer) : Type 0 where
+  pub name : titled.name ≡ title_or title layer.name
+  pub kind : titled.kind ≡ layer.kind
+  pub table : titled.table ≡ layer.table
+  pub shapes : titled.shapes ≡ layer.shapes
+
+-- for a layer of the target what the command puts out, under the name of `name=`
+pub record Titles (base : Base) (layers : List Held) (c : Command) (a : LayerAction) (layer : Layer) (outputs : List Layer) : Type 0 where
+  pub made : List Layer
+  pub puts : PutsOut base layers a layer made
+  pub titled : AllZip (IsTitled c.name) made outputs
+
+-- and for any other nothing
+abbrev pub PutsFor : Base → List Held → Command → LayerAction → Held → List Layer → Type 0
+PutsFor base layers c a held outputs = MatchBool (is_selected c.target held) (Titles base layers c a held.layer outputs) (outputs ≡ [])
+
+-- ---- what is put out for several layers
+
+-- the layer that a command makes of these together
+abbrev pub MadeTogether : JointAction → List Layer → Layer → Type 0
+MadeTogether (joint.MergeLayers force) layers made = IsMerged force layers made
+
+-- a layer in the place of the first target
+abbrev pub at_first : Target → List Held → Layer → List (List Layer)
+at_first t layers made = replicate (position_or_len (is_selected t) layers) [] ++ (made ∷ []) ∷ []
+
+-- it is put out for all targets, in the place of the first, under the name of `name=`
+pub record PutsTogether (c : Command) (a : JointAction) (layers : List Held) (outputs : List (List Layer)) : Type 0 where
+  pub made : Layer
+  pub titled : Layer
+  pub of_all : MadeTogether a (targets c.target layers) made
+  pub title : IsTitled c.name made titled
+  pub place : outputs ≡ at_first c.target layers titled
+
+-- ---- the layers after a command
+
+-- those that it puts out for each layer stand in their places, or behind all
+pub record Changes (Puts : List (List Layer) → Type 0) (c : Command) (before after : List Held) : Type 0 where
+  pub outputs : List (List Layer)
+  pub puts : Puts outputs
+  pub placed : after ≡ placed c before outputs
+  pub few : length after ≤ 1000
+
+-- after one that changes each layer of its target by itself
+abbrev pub ChangesEach : Base → Command → LayerAction → List Held → List Held → Type 0
+ChangesEach base c a before after = Changes (AllZip (PutsFor base before c a) before) c before after
+
+-- after one that changes them together
+abbrev pub ChangesTogether : Command → JointAction → List Held → List Held → Type 0
+ChangesTogether c a before after = Changes (PutsTogether c a before) c before after

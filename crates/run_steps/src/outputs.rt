@@ -1,0 +1,247 @@
+ghost use Rattle.std.specs.Prelude.{◌≡◌, ◌∷◌, [], IfOk, map, option_copied, replicate};
+ghost use Rattle.std.specs.List.{AllZip, position_or_len};
+ghost use Rattle.run_state.specs.Targets.{is_selected, targets};
+ghost use Rattle.run_state.specs.Origins.{base_of};
+ghost use Rattle.run_steps.specs.Commands.{IsTitled, Joins, MadeTogether, PutsFor, PutsOut, PutsTogether, at_first};
+
+use cmd_words::{Command, JointAction, LayerAction, Origin, Target};
+use io_core::Text;
+use ring_trace::FaceSet;
+use run_plane::{Layer, copy_text};
+use run_shapes::{
+    CutKeeps, area_of, cleaned, cut, dissolved, exploded, inner_lines, mosaic, outlines,
+};
+use run_state::{CommandStop, Ground, Held, is_selected, source_layer};
+use run_tables::{filtered, joined, merged, renamed, split, with_fields};
+use std::alloc::{AllocError, Global};
+use table_ops::JoinSpec;
+
+/// All features of the target's layers in the place of the first, under the name of `name=` where it stands.
+pub(crate) fn joint_output(
+    alloc: Global,
+    layers: &[Held],
+    command: &Command,
+    action: &JointAction,
+) -> Result<Vec<Vec<Layer>>, CommandStop>
+    ensures puts { IfOk result (λ outputs. PutsTogether command.now action.now layers.now (map (λ out. out.items) outputs.items)) }
+{
+    let layer = made_together(alloc, layers, &command.target, action)?;
+    let layer = titled(alloc, layer, command.name.as_ref())?;
+    Ok(at_first(alloc, layers, &command.target, layer)?)
+}
+
+fn made_together(
+    alloc: Global,
+    layers: &[Held],
+    target: &Target,
+    action: &JointAction,
+) -> Result<Layer, CommandStop>
+    ensures made { IfOk result (MadeTogether action.now (targets target.now layers.now)) }
+{
+    match action {
+        JointAction::MergeLayers { force } => merged(alloc, layers, target, *force),
+    }
+}
+
+// A layer in the place of the first target.
+fn at_first(
+    alloc: Global,
+    layers: &[Held],
+    target: &Target,
+    layer: Layer,
+) -> Result<Vec<Vec<Layer>>, AllocError>
+    ensures placed { IfOk result (λ outputs. map (λ out. out.items) outputs.items ≡ at_first target.now layers.now layer) }
+{
+    let mut outputs = nothings(alloc, before_first(layers, target))?;
+    outputs.push(one_output(alloc, layer)?)?;
+    Ok(outputs)
+}
+
+// How many layers stand before the first target.
+fn before_first(layers: &[Held], target: &Target) -> usize
+    ensures exact { result ≡ position_or_len (is_selected target.now) layers.now }
+{
+    let mut count = 0;
+    for held in layers {
+        if is_selected(target, held) {
+            return count;
+        }
+        count += 1;
+    }
+    count
+}
+
+fn nothings(alloc: Global, count: usize) -> Result<Vec<Vec<Layer>>, AllocError>
+    ensures exact { IfOk result (λ outputs. map (λ out. out.items) outputs.items ≡ replicate count []) }
+{
+    let mut outputs = Vec::new(alloc);
+    for _place in 0..count {
+        outputs.push(Vec::new(alloc))?;
+    }
+    Ok(outputs)
+}
+
+/// What the command puts out for each layer, in order, under the name of `name=` where it stands: nothing for one that
+/// is no target of it.
+pub(crate) fn each_outputs(
+    alloc: Global,
+    ground: &Ground<'_>,
+    layers: &[Held],
+    command: &Command,
+    action: &LayerAction,
+) -> Result<Vec<Vec<Layer>>, CommandStop>
+    ensures puts { IfOk result (λ outputs. AllZip (PutsFor (base_of ground.now) layers.now command.now action.now) layers.now (map (λ out. out.items) outputs.items)) }
+{
+    let area = cut_area(alloc, ground, layers, action)?;
+    let mut outputs = Vec::new(alloc);
+    for held in layers {
+        outputs.push(held_outputs(
+            alloc, ground, layers, command, action, &area, held,
+        )?)?;
+    }
+    Ok(outputs)
+}
+
+// The faces that a command cuts by; none where it doesn't cut.
+fn cut_area(
+    alloc: Global,
+    ground: &Ground<'_>,
+    layers: &[Held],
+    action: &LayerAction,
+) -> Result<FaceSet, CommandStop> {
+    match action {
+        LayerAction::Clip { from } | LayerAction::Erase { from } => {
+            area_of(alloc, ground, layers, from)
+        }
+        _ => Ok(FaceSet::new(alloc)),
+    }
+}
+
+fn held_outputs(
+    alloc: Global,
+    ground: &Ground<'_>,
+    layers: &[Held],
+    command: &Command,
+    action: &LayerAction,
+    area: &FaceSet,
+    held: &Held,
+) -> Result<Vec<Layer>, CommandStop>
+    ensures puts { IfOk result (λ outputs. PutsFor (base_of ground.now) layers.now command.now action.now held.now outputs.items) }
+{
+    if !is_selected(&command.target, held) {
+        return Ok(Vec::new(alloc));
+    }
+    let made = layer_outputs(alloc, ground, layers, action, area, &held.layer)?;
+    Ok(all_titled(alloc, made, command.name.as_ref())?)
+}
+
+// Layers under the name of `name=`, where it stands.
+fn all_titled(
+    alloc: Global,
+    layers: Vec<Layer>,
+    name: Option<&Text>,
+) -> Result<Vec<Layer>, AllocError>
+    ensures titled { IfOk result (λ all. AllZip (IsTitled (option_copied name.entry)) layers.items all.items) }
+{
+    let mut all = Vec::new(alloc);
+    for layer in layers {
+        all.push(titled(alloc, layer, name)?)?;
+    }
+    Ok(all)
+}
+
+fn titled(alloc: Global, layer: Layer, name: Option<&Text>) -> Result<Layer, AllocError>
+    ensures titled { IfOk result (IsTitled (option_copied name.entry) layer) }
+{
+    match name {
+        Some(name) => Ok(under(layer, copy_text(alloc, name)?)),
+        None => Ok(layer),
+    }
+}
+
+fn under(layer: Layer, name: Text) -> Layer
+    ensures titled { IsTitled (Some name) layer result }
+{
+    let Layer {
+        kind,
+        table,
+        shapes,
+        ..
+    } = layer;
+    Layer {
+        name,
+        kind,
+        table,
+        shapes,
+    }
+}
+
+// What the command puts out for one layer of its target.
+fn layer_outputs(
+    alloc: Global,
+    ground: &Ground<'_>,
+    layers: &[Held],
+    action: &LayerAction,
+    area: &FaceSet,
+    layer: &Layer,
+) -> Result<Vec<Layer>, CommandStop>
+    ensures puts { IfOk result (λ outputs. PutsOut (base_of ground.now) layers.now action.now layer.now outputs.items) }
+{
+    let plane = ground.plane;
+    match action {
+        LayerAction::Clip { .. } => one(alloc, cut(alloc, plane, layer, area, CutKeeps::Inside)?),
+        LayerAction::Erase { .. } => one(alloc, cut(alloc, plane, layer, area, CutKeeps::Outside)?),
+        LayerAction::Dissolve { spec, group_points } => {
+            one(alloc, dissolved(alloc, plane, layer, spec, *group_points)?)
+        }
+        LayerAction::Clean { rule, allow_empty } => {
+            one(alloc, cleaned(alloc, plane, layer, *rule, *allow_empty)?)
+        }
+        LayerAction::Mosaic => one(alloc, mosaic(alloc, plane, layer)?),
+        LayerAction::Explode => one(alloc, exploded(alloc, plane, layer)?),
+        LayerAction::InnerLines => one(alloc, inner_lines(alloc, plane, layer)?),
+        LayerAction::Lines { fields } => one(alloc, outlines(alloc, plane, layer, fields)?),
+        LayerAction::Join { from, spec } => joined_by(alloc, ground, layers, from, spec, layer),
+        LayerAction::Filter {
+            test,
+            invert,
+            remove_empty,
+        } => one(
+            alloc,
+            filtered(alloc, layer, test.as_ref(), *invert, *remove_empty)?,
+        ),
+        LayerAction::FilterFields { fields } => one(alloc, with_fields(alloc, layer, fields)?),
+        LayerAction::RenameFields { pairs } => one(alloc, renamed(alloc, layer, pairs)?),
+        LayerAction::Split { field } => split(alloc, layer, field.as_ref()),
+    }
+}
+
+fn joined_by(
+    alloc: Global,
+    ground: &Ground<'_>,
+    layers: &[Held],
+    from: &Origin,
+    spec: &JoinSpec,
+    layer: &Layer,
+) -> Result<Vec<Layer>, CommandStop>
+    ensures joins { IfOk result (λ outputs. Joins (base_of ground.now) layers.now from.now spec.now layer.now outputs.items) }
+{
+    match source_layer(layers, ground.sources, from) {
+        Ok(source) => one(alloc, joined(alloc, layer, source, spec)?),
+        Err(why) => Err(CommandStop::Refused(why)),
+    }
+}
+
+fn one(alloc: Global, layer: Layer) -> Result<Vec<Layer>, CommandStop>
+    ensures one { IfOk result (λ outputs. outputs.items ≡ layer ∷ []) }
+{
+    Ok(one_output(alloc, layer)?)
+}
+
+fn one_output(alloc: Global, layer: Layer) -> Result<Vec<Layer>, AllocError>
+    ensures one { IfOk result (λ outputs. outputs.items ≡ layer ∷ []) }
+{
+    let mut outputs = Vec::new(alloc);
+    outputs.push(layer)?;
+    Ok(outputs)
+}

@@ -1,0 +1,35 @@
+-- A merged table has as many rows as the tables together.
+use Rattle.std.proofs.Common.{◌≡◌, Bool, true, false, List, [], ◌∷◌, ◌++◌, length, map, Option, Some, None, Ok, refl, ap, sym, ◌∙◌, arith, length-append}
+use Rattle.std.proofs.lemmas.List.{length-map}
+use Rattle.json_read.specs.Table.{TableContent}
+use Rattle.table_ops.specs.Columns.{cells}
+use Rattle.table_ops.specs.Merge.{merge_tables, merged_names, merged_rows, refused_merge}
+use Rattle.table_ops.specs.Names.{Text}
+use Rattle.table_ops.specs.Refusals.{unless}
+use Rattle.cmd_words.specs.declared.job.Target.{Target}
+use Rattle.run_state.specs.Targets.{is_selected, targets}
+use Rattle.run_state.specs.declared.state.Held.{Held}
+use Rattle.run_state.proofs.TargetLemmas.{targets_off, targets_on}
+use Rattle.run_tables.specs.Gathering.{all_rows}
+
+-- an answer behind no refusal
+answered : {T E : Type 0} (refusal : Option E) (v t : T) → unless refusal (Ok v) ≡ Ok t → v ≡ t
+answered None v t h = grind arith
+answered (Some why) v t h = grind arith
+
+rows_counted : (names : List Text) (ts : List TableContent) → length (merged_rows names ts) ≡ length (all_rows ts)
+rows_counted names [] = refl
+rows_counted names (t ∷ ts) = omega (arith, length-append (map (cells t.names names) t.rows) (merged_rows names ts), length-append t.rows (all_rows ts), length-map t.rows (cells t.names names), rows_counted names ts)
+
+pub merged_count : (ts : List TableContent) (force : Bool) (t : TableContent) → merge_tables ts force ≡ Ok t → length t.rows ≡ length (all_rows ts)
+merged_count ts force t h =
+    let e = answered (refused_merge force ts) (record { names = merged_names ts; rows = merged_rows (merged_names ts) ts }) t h in
+    sym (ap (λ (x : TableContent). length x.rows) e) ∙ rows_counted (merged_names ts) ts
+
+-- one layer more, which is a target or is none
+
+pub target_taken : (t : Target) (front : List Held) (held : Held) → is_selected t held ≡ true → targets t (front ++ held ∷ []) ≡ targets t front ++ held.layer ∷ []
+target_taken t front held e = targets_on t front held e
+
+pub target_passed : (t : Target) (front : List Held) (held : Held) → is_selected t held ≡ false → targets t (front ++ held ∷ []) ≡ targets t front
+target_passed t front held e = targets_off t front held e

@@ -1,0 +1,177 @@
+ghost use Rattle.run_tables.specs.Gathering.{all_rows};
+ghost use Rattle.std.specs.Prelude.{◌≡◌, ◌<◌, ◌++◌, IfOk, OnOk, All, length, map, option_copied, slice_get};
+ghost use Rattle.std.specs.List.{flat_map};
+ghost use Rattle.run_state.specs.Targets.{targets};
+ghost use Rattle.table_ops.specs.Columns.{keep_fields, rename_fields};
+ghost use Rattle.table_ops.specs.Join.{join_tables};
+ghost use Rattle.run_tables.specs.Made.{GivesTable, HasTable, IsFiltered, IsMerged, kept_numbers};
+
+use cmd_words::Target;
+use expr_lang::Expr;
+use grid_base::IdList;
+use io_core::NameList;
+use json_read::Table;
+use run_plane::{Layer, Shape, copy_shape, copy_shapes, copy_text};
+use run_state::{
+    CommandStop, Held, RefuseWhy, copy_table, is_selected, numbers_below, take_features,
+    with_geometry,
+};
+use std::alloc::{AllocError, Global};
+use table_ops::{
+    JoinSpec, RenameList, TableList, filter_rows, join_tables, keep_fields, merge_tables,
+    rename_fields,
+};
+
+/// The features for which the expression is true, or, with `invert`, false; with `remove_empty` those without
+/// geometry go too.
+pub fn filtered(
+    alloc: Global,
+    layer: &Layer,
+    test: Option<&Expr>,
+    invert: bool,
+    remove_empty: bool,
+) -> Result<Layer, CommandStop>
+    ensures made { IfOk result (IsFiltered (option_copied test.entry) invert remove_empty layer.now) }
+{
+    let kept = kept_numbers(alloc, layer, test, invert)?;
+    if !remove_empty {
+        return Ok(take_features(alloc, layer, &kept)?);
+    }
+    let kept = with_geometry(alloc, &layer.shapes, &kept)?;
+    Ok(take_features(alloc, layer, &kept)?)
+}
+
+fn kept_numbers(
+    alloc: Global,
+    layer: &Layer,
+    test: Option<&Expr>,
+    invert: bool,
+) -> Result<IdList, CommandStop>
+    ensures kept { IfOk result (λ kept. kept_numbers (option_copied test.entry) invert layer.now ≡ Ok kept) }
+    ensures within { IfOk result (λ kept. All (λ n. n < length layer.now.table.rows) kept) }
+{
+    match test {
+        Some(test) => Ok(filter_rows(alloc, &layer.table, test, invert)?),
+        None => Ok(numbers_below(alloc, layer.table.row_count())?),
+    }
+}
+
+/// The layer with these columns alone, in this order.
+pub fn with_fields(
+    alloc: Global,
+    layer: &Layer,
+    fields: &NameList,
+) -> Result<Layer, CommandStop>
+    ensures made { IfOk result (GivesTable (keep_fields layer.now.table fields.now) layer.now) }
+{
+    let table = keep_fields(alloc, &layer.table, fields)?;
+    Ok(with_table(alloc, layer, table)?)
+}
+
+/// The layer with columns under other names.
+pub fn renamed(
+    alloc: Global,
+    layer: &Layer,
+    pairs: &RenameList,
+) -> Result<Layer, CommandStop>
+    ensures made { IfOk result (GivesTable (rename_fields layer.now.table pairs.now) layer.now) }
+{
+    let table = rename_fields(alloc, &layer.table, pairs)?;
+    Ok(with_table(alloc, layer, table)?)
+}
+
+/// The layer with the columns of the rows of `source` whose key is the same.
+pub fn joined(
+    alloc: Global,
+    layer: &Layer,
+    source: &Layer,
+    spec: &JoinSpec,
+) -> Result<Layer, CommandStop>
+    ensures made { IfOk result (GivesTable (join_tables layer.now.table source.now.table spec.now) layer.now) }
+{
+    let table = join_tables(alloc, &layer.table, &source.table, spec)?;
+    Ok(with_table(alloc, layer, table)?)
+}
+
+// The layer with another table, which has as many rows.
+fn with_table(alloc: Global, layer: &Layer, table: Table) -> Result<Layer, AllocError>
+    requires { length table.rows ≡ length layer.now.table.rows }
+    ensures made { IfOk result (HasTable layer.now table) }
+{
+    let shapes = copy_shapes(alloc, &layer.shapes)?;
+    Ok(Layer {
+        name: copy_text(alloc, &layer.name)?,
+        kind: layer.kind,
+        table,
+        shapes,
+    })
+}
+
+/// The features of the target's layers, in order, in a layer like the first.
+#[tactic(auto, using(crate::proofs::Gathering::merged_count))]
+pub fn merged(
+    alloc: Global,
+    layers: &[Held],
+    target: &Target,
+    force: bool,
+) -> Result<Layer, CommandStop>
+    ensures made { IfOk result (IsMerged force (targets target.now layers.now)) }
+{
+    let Gathered { tables, shapes } = gather(alloc, layers, target)?;
+    match first_target(layers, target) {
+        Some(first) if tables.len() > 0 => {
+            let table = merge_tables(alloc, &tables, force)?;
+            Ok(Layer {
+                name: copy_text(alloc, &first.name)?,
+                kind: first.kind,
+                table,
+                shapes,
+            })
+        }
+        _ => Err(CommandStop::Refused(RefuseWhy::NoLayer)),
+    }
+}
+
+// The tables of layers, and their shapes one behind another.
+#[derive(Drop)]
+struct Gathered {
+    tables: TableList,
+    shapes: Vec<Shape>,
+    ghost each: { length shapes.items ≡ length (all_rows tables) },
+}
+
+#[tactic(auto, using(crate::proofs::Gathering::target_taken, crate::proofs::Gathering::target_passed))]
+fn gather(alloc: Global, layers: &[Held], target: &Target) -> Result<Gathered, AllocError>
+    ensures tables { IfOk result (λ all. all.tables ≡ map (λ layer. layer.table) (targets target.now layers.now)) }
+    ensures shapes { IfOk result (λ all. all.shapes.items ≡ flat_map (λ layer. layer.shapes.items) (targets target.now layers.now)) }
+{
+    let mut tables = TableList::new(alloc);
+    let mut shapes = Vec::new(alloc);
+    for held in layers {
+        if is_selected(target, held) {
+            tables.push(copy_table(alloc, &held.layer.table)?)?;
+            append_shapes(alloc, &mut shapes, &held.layer.shapes)?;
+        }
+    }
+    Ok(Gathered { tables, shapes })
+}
+
+fn first_target<'a>(layers: &'a [Held], target: &Target) -> Option<&'a Layer>
+    ensures first { option_copied result ≡ slice_get (targets target.now layers.now) 0 }
+{
+    for held in layers {
+        if is_selected(target, held) {
+            return Some(&held.layer);
+        }
+    }
+    None
+}
+
+fn append_shapes(alloc: Global, out: &mut Vec<Shape>, shapes: &[Shape]) -> Result<(), AllocError>
+    ensures appended { OnOk result (out.new.items ≡ out.old.items ++ shapes.now) }
+{
+    for shape in shapes {
+        out.push(copy_shape(alloc, shape)?)?;
+    }
+    Ok(())
+}

@@ -1,0 +1,4 @@
+pub mod Along
+pub mod Grown
+pub mod LayerNames
+pub mod Tracing

@@ -1,0 +1,11 @@
+use Rattle.run_texts.proofs.texts.geo_text.Goals as goal
+
+pub returns-in_ok-write_geojson-in-Ok-clause-says : goal.returns-in_ok-write_geojson-in-Ok-clause-says
+returns-in_ok-write_geojson-in-Ok-clause-says c =
+    record {
+      layer = c.in-Ok.layer.now;
+      one = c.in-Ok.ensures.ok;
+      picture = c.in_ok-picture-in-Ok.picture;
+      shows = c.in_ok-picture-in-Ok.ensures.shows;
+      is = c.in_ok-write_geojson-in-Ok.ensures.exact;
+    }

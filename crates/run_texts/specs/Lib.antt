@@ -1,0 +1,3 @@
+pub mod Pictures
+pub mod Tracing
+pub mod Written

@@ -1,0 +1,98 @@
+ghost use Rattle.std.specs.Prelude.{◌≡◌, ℕ, All, IfOk, length};
+ghost use Rattle.std.specs.List.{AllZip};
+ghost use Rattle.topo_io.specs.Arcs.{LayerIsBelow, ShapeIsBelow};
+ghost use Rattle.run_plane.specs.OnPlane.{list_on, set_on};
+ghost use Rattle.run_texts.specs.Tracing.{AreTraced, IsTraced, IsTracedLayer, lines_along, points_alone};
+
+use arc_table::SignedPaths;
+use grid_base::PtList;
+use ring_trace::{FaceSet, trace};
+use run_plane::{Layer, Plane, Shape, copy_paths, copy_points, copy_text};
+use run_state::copy_table;
+use std::alloc::{AllocError, Global};
+use topo_io::{ArcLayer, ArcShape, ArcShapeList};
+
+/// A layer with its shapes as arcs of the plane: rings of faces, and paths.
+pub(crate) fn arc_layer_of(
+    alloc: Global,
+    plane: &Plane,
+    layer: &Layer,
+) -> Result<ArcLayer, AllocError>
+    ensures below { IfOk result (LayerIsBelow (length plane.now.arcs)) }
+    ensures traced { IfOk result (IsTracedLayer plane.now layer.now) }
+{
+    let shapes = arc_shapes(alloc, plane, &layer.shapes)?;
+    Ok(ArcLayer {
+        name: copy_text(alloc, &layer.name)?,
+        kind: layer.kind,
+        table: copy_table(alloc, &layer.table)?,
+        shapes,
+    })
+}
+
+fn arc_shapes(alloc: Global, plane: &Plane, shapes: &[Shape]) -> Result<ArcShapeList, AllocError>
+    ensures count { IfOk result (λ traced. length traced ≡ length shapes.now) }
+    ensures below { IfOk result (All (ShapeIsBelow (length plane.now.arcs))) }
+    ensures traced { IfOk result (AllZip (IsTraced plane.now) shapes.now) }
+{
+    let mut traced = ArcShapeList::new(alloc);
+    for shape in shapes {
+        traced.push(arc_shape(alloc, plane, shape)?)?;
+    }
+    Ok(traced)
+}
+
+/// A shape as arcs of the plane; nothing for one that is empty, or not on the plane.
+pub(crate) fn arc_shape(alloc: Global, plane: &Plane, shape: &Shape) -> Result<ArcShape, AllocError>
+    ensures below { IfOk result (ShapeIsBelow (length plane.now.arcs)) }
+    ensures traced { IfOk result (IsTraced plane.now shape.now) }
+{
+    match shape {
+        Shape::Nothing => Ok(ArcShape::Nothing),
+        Shape::Faces(faces) => rings_round(alloc, plane, faces),
+        Shape::Paths(paths) => lines_along(alloc, plane, paths),
+        Shape::Points(points) => points_alone(alloc, points),
+    }
+}
+
+#[tactic(auto, using(crate::proofs::Tracing::none_traced, crate::proofs::Tracing::foreign_traced, crate::proofs::Tracing::rings_traced))]
+fn rings_round(alloc: Global, plane: &Plane, faces: &FaceSet) -> Result<ArcShape, AllocError>
+    ensures below { IfOk result (ShapeIsBelow (length plane.now.arcs)) }
+    ensures traced { IfOk result (AreTraced plane.now (set_on plane.now faces.now)) }
+{
+    if faces.is_empty() {
+        return Ok(ArcShape::Nothing);
+    }
+    if !plane.has_all(faces) {
+        return Ok(ArcShape::Nothing);
+    }
+    let polygons = trace(alloc, &plane.arcs, &plane.faces, faces)?;
+    Ok(ArcShape::Polygons(polygons))
+}
+
+#[tactic(auto, using(crate::proofs::Tracing::no_lines, crate::proofs::Tracing::foreign_lines, crate::proofs::Tracing::some_lines))]
+fn lines_along(alloc: Global, plane: &Plane, paths: &SignedPaths) -> Result<ArcShape, AllocError>
+    ensures below { IfOk result (ShapeIsBelow (length plane.now.arcs)) }
+    ensures traced { IfOk result (λ traced. traced ≡ lines_along (list_on plane.now paths.now)) }
+{
+    if paths.len() == 0 {
+        return Ok(ArcShape::Nothing);
+    }
+    if !plane.has_arcs(paths) {
+        return Ok(ArcShape::Nothing);
+    }
+    let lines = copy_paths(alloc, paths)?;
+    Ok(ArcShape::Lines(lines))
+}
+
+#[tactic(auto, using(crate::proofs::Tracing::no_points, crate::proofs::Tracing::some_points))]
+fn points_alone(alloc: Global, points: &PtList) -> Result<ArcShape, AllocError>
+    ensures below { IfOk result (λ traced. (n : ℕ) → ShapeIsBelow n traced) }
+    ensures traced { IfOk result (λ traced. traced ≡ points_alone points.now) }
+{
+    if points.len() == 0 {
+        return Ok(ArcShape::Nothing);
+    }
+    let copy = copy_points(alloc, points)?;
+    Ok(ArcShape::Points(copy))
+}

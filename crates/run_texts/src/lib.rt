@@ -1,0 +1,12 @@
+//! The texts of outputs.
+//!
+//! 1. `texts` checks an output, and makes its text: one layer as GeoJSON or as comma-separated text, or all layers of the
+//!    target as a topology.
+//! 2. `arc_pictures` shows a layer as rings and paths of arcs, `pictures` as rings and paths of points.
+#![tactic(auto)]
+
+mod arc_pictures;
+mod pictures;
+mod texts;
+
+pub use texts::output_text;

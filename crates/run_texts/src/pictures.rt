@@ -1,0 +1,149 @@
+ghost use Rattle.std.specs.Prelude.{◌≡◌, ◌<◌, ◌==◌, ◌++◌, All, IfOk, OnOk, if◌then◌else◌, length, map, reverse};
+ghost use Rattle.std.specs.List.{AllZip};
+ghost use Rattle.plane_model.specs.Arcs.{points_of};
+ghost use Rattle.topo_io.specs.Arcs.{ShapeIsBelow};
+ghost use Rattle.run_texts.specs.Pictures.{IsDrawn, IsPicture, on_grid, points_along, without_shared};
+
+use crate::arc_pictures::arc_shape;
+use arc_table::{ArcTable, SignedPath, SignedPaths};
+use geojson_io::{GeoLayer, GeoShape, GeoShapeList};
+use grid_base::{PathList, PolygonRings, Pt, PtList, RingsList, SignedArc};
+use run_plane::{Layer, Plane, Shape, copy_text};
+use run_state::copy_table;
+use std::alloc::{AllocError, Global};
+use topo_io::ArcShape;
+
+/// A layer with its shapes as grid points: rings of faces, points along arcs.
+pub(crate) fn picture_of(
+    alloc: Global,
+    plane: &Plane,
+    layer: &Layer,
+) -> Result<GeoLayer, AllocError>
+    ensures shows { IfOk result (IsPicture plane.now layer.now) }
+{
+    let shapes = shapes_of(alloc, plane, &layer.shapes)?;
+    Ok(GeoLayer {
+        name: copy_text(alloc, &layer.name)?,
+        kind: layer.kind,
+        table: copy_table(alloc, &layer.table)?,
+        shapes,
+    })
+}
+
+fn shapes_of(alloc: Global, plane: &Plane, shapes: &[Shape]) -> Result<GeoShapeList, AllocError>
+    ensures count { IfOk result (λ drawn. length drawn ≡ length shapes.now) }
+    ensures drawn { IfOk result (AllZip (IsDrawn plane.now) shapes.now) }
+{
+    let mut drawn = GeoShapeList::new(alloc);
+    for shape in shapes {
+        drawn.push(shape_of(alloc, plane, shape)?)?;
+    }
+    Ok(drawn)
+}
+
+fn shape_of(alloc: Global, plane: &Plane, shape: &Shape) -> Result<GeoShape, AllocError>
+    ensures drawn { IfOk result (IsDrawn plane.now shape.now) }
+{
+    let traced = arc_shape(alloc, plane, shape)?;
+    let drawn = on_grid(alloc, &plane.arcs, traced)?;
+    Ok(drawn)
+}
+
+fn on_grid(alloc: Global, arcs: &ArcTable, traced: ArcShape) -> Result<GeoShape, AllocError>
+    requires { ShapeIsBelow (length arcs.now) traced }
+    ensures exact { IfOk result (λ drawn. drawn ≡ on_grid arcs.now traced) }
+{
+    Ok(match traced {
+        ArcShape::Nothing => GeoShape::Nothing,
+        ArcShape::Polygons(polygons) => {
+            GeoShape::Polygons(polygons_along(alloc, arcs, polygons.as_slice())?)
+        }
+        ArcShape::Lines(paths) => GeoShape::Lines(lines_along(alloc, arcs, paths.as_slice())?),
+        ArcShape::Points(points) => GeoShape::Points(points),
+    })
+}
+
+fn polygons_along(
+    alloc: Global,
+    arcs: &ArcTable,
+    polygons: &[SignedPaths],
+) -> Result<RingsList, AllocError>
+    requires { All (All (All (λ a. a.arc < length arcs.now))) polygons.now }
+    ensures exact { IfOk result (λ drawn. drawn ≡ map (map (points_along arcs.now)) polygons.now) }
+{
+    let mut drawn = RingsList::new(alloc);
+    for rings in polygons {
+        drawn.push(rings_along(alloc, arcs, rings.as_slice())?)?;
+    }
+    Ok(drawn)
+}
+
+fn rings_along(
+    alloc: Global,
+    arcs: &ArcTable,
+    rings: &[SignedPath],
+) -> Result<PolygonRings, AllocError>
+    requires { All (All (λ a. a.arc < length arcs.now)) rings.now }
+    ensures exact { IfOk result (λ drawn. drawn ≡ map (points_along arcs.now) rings.now) }
+{
+    let mut drawn = PolygonRings::new(alloc);
+    for ring in rings {
+        drawn.push(points_along(alloc, arcs, ring.as_slice())?)?;
+    }
+    Ok(drawn)
+}
+
+fn lines_along(alloc: Global, arcs: &ArcTable, paths: &[SignedPath]) -> Result<PathList, AllocError>
+    requires { All (All (λ a. a.arc < length arcs.now)) paths.now }
+    ensures exact { IfOk result (λ drawn. drawn ≡ map (points_along arcs.now) paths.now) }
+{
+    let mut drawn = PathList::new(alloc);
+    for path in paths {
+        drawn.push(points_along(alloc, arcs, path.as_slice())?)?;
+    }
+    Ok(drawn)
+}
+
+// The points of arcs that follow one another, each shared end once.
+fn points_along(alloc: Global, arcs: &ArcTable, path: &[SignedArc]) -> Result<PtList, AllocError>
+    requires { All (λ a. a.arc < length arcs.now) path.now }
+    ensures exact { IfOk result (λ points. points ≡ points_along arcs.now path.now) }
+{
+    let mut points = PtList::new(alloc);
+    for arc in path {
+        append_arc(&mut points, arcs, *arc)?;
+    }
+    Ok(points)
+}
+
+// Adds the points of an arc, without the first where others stand before it.
+#[tactic(auto, using(crate::proofs::Along::shared_forward, crate::proofs::Along::shared_backward))]
+fn append_arc(points: &mut PtList, arcs: &ArcTable, arc: SignedArc) -> Result<(), AllocError>
+    requires { arc.arc < length arcs.now }
+    ensures exact { OnOk result (points.new ≡ points.old ++ without_shared points.old (points_of arcs.now arc)) }
+    ensures some { OnOk result (0 < length points.new) }
+{
+    let way = arcs.points_of(arc.id());
+    let shared = shared_ends(points);
+    if arc.is_reversed() {
+        append_reversed(points, &way[..way.len() - shared])
+    } else {
+        points.append(&way[shared..])
+    }
+}
+
+// One where points stand before an arc, since it begins at the last of them.
+fn shared_ends(points: &PtList) -> usize
+    ensures exact { result ≡ (if length points.now == 0 then 0 else 1) }
+{
+    if points.len() == 0 { 0 } else { 1 }
+}
+
+fn append_reversed(points: &mut PtList, way: &[Pt]) -> Result<(), AllocError>
+    ensures exact { OnOk result (points.new ≡ points.old ++ reverse way.now) }
+{
+    for k in 0..way.len() {
+        points.push(way[way.len() - 1 - k])?;
+    }
+    Ok(())
+}

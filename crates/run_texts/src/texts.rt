@@ -1,0 +1,170 @@
+ghost use Rattle.std.specs.Prelude.{◌≡◌, ◌≤◌, ◌++◌, ◌∷◌, [], All, IfErr, IfOk, None, false, length, map, not, string_bytes, true};
+ghost use Rattle.std.specs.List.{AllZip};
+ghost use Rattle.table_ops.specs.Names.{has_name};
+ghost use Rattle.topo_io.specs.Arcs.{LayerIsBelow};
+ghost use Rattle.run_state.specs.Origins.{base_of, one_layer};
+ghost use Rattle.run_state.specs.Targets.{has_target, targets};
+ghost use Rattle.run_texts.specs.Tracing.{IsTracedLayer};
+ghost use Rattle.run_texts.specs.Written.{IsCsvText, IsGeoText, IsTopoText, OutputSays, StopsFor, has_name_twice, names_of_layers, refused_form, refused_names, refused_one, refused_output};
+
+use crate::arc_pictures::arc_layer_of;
+use crate::pictures::picture_of;
+use cmd_words::{OutForm, Target};
+use geojson_io::write_geojson;
+use indexmap::IndexSet;
+use io_core::{Bytes, NameList, Text};
+use run_plane::{Plane, copy_text};
+use run_state::{
+    CommandStop, Ground, Held, RefuseWhy, check_target, is_selected, only_target,
+};
+use std::alloc::{AllocError, Global};
+use table_ops::write_csv;
+use topo_io::{ArcLayers, write_topojson};
+
+/// The text of an output: a topology of the layers of the target, or its one layer in another form.
+pub fn output_text(
+    alloc: Global,
+    ground: &Ground<'_>,
+    layers: &[Held],
+    target: &Target,
+    form: OutForm,
+) -> Result<Bytes, CommandStop>
+    requires { ground.now.places ≤ 7 }
+    ensures says { IfOk result (OutputSays (base_of ground.now) form (targets target.now layers.now)) }
+    ensures there { IfOk result (λ text. has_target target.now layers.now ≡ true) }
+    ensures absent { has_target target.now layers.now ≡ false → result ≡ Err (CommandStop.Refused RefuseWhy.NoLayer) }
+    ensures accepted { IfOk result (λ text. refused_output target.now form layers.now ≡ None) }
+    ensures stops { IfErr result (StopsFor (refused_output target.now form layers.now)) }
+{
+    match check_target(layers, target) {
+        Ok(()) => text_of(alloc, ground, layers, target, form),
+        Err(why) => Err(CommandStop::Refused(why)),
+    }
+}
+
+fn text_of(
+    alloc: Global,
+    ground: &Ground<'_>,
+    layers: &[Held],
+    target: &Target,
+    form: OutForm,
+) -> Result<Bytes, CommandStop>
+    requires { ground.now.places ≤ 7 }
+    ensures says { IfOk result (OutputSays (base_of ground.now) form (targets target.now layers.now)) }
+    ensures accepted { IfOk result (λ text. refused_form form (targets target.now layers.now) ≡ None) }
+    ensures stops { IfErr result (StopsFor (refused_form form (targets target.now layers.now))) }
+{
+    match form {
+        OutForm::Topo => topology_text(alloc, ground, layers, target),
+        OutForm::Geo => geo_text(alloc, ground, layers, target),
+        OutForm::Csv => table_text(alloc, layers, target),
+    }
+}
+
+fn geo_text(
+    alloc: Global,
+    ground: &Ground<'_>,
+    layers: &[Held],
+    target: &Target,
+) -> Result<Bytes, CommandStop>
+    requires { ground.now.places ≤ 7 }
+    ensures says { IfOk result (IsGeoText (base_of ground.now) (targets target.now layers.now)) }
+    ensures accepted { IfOk result (λ text. refused_one (targets target.now layers.now) ≡ None) }
+    ensures stops { IfErr result (StopsFor (refused_one (targets target.now layers.now))) }
+{
+    match only_target(layers, target) {
+        Ok(layer) => {
+            let picture = picture_of(alloc, ground.plane, layer)?;
+            Ok(write_geojson(alloc, &picture, ground.places)?)
+        }
+        Err(why) => Err(CommandStop::Refused(why)),
+    }
+}
+
+fn table_text(alloc: Global, layers: &[Held], target: &Target) -> Result<Bytes, CommandStop>
+    ensures says { IfOk result (IsCsvText (targets target.now layers.now)) }
+    ensures accepted { IfOk result (λ text. refused_one (targets target.now layers.now) ≡ None) }
+    ensures stops { IfErr result (StopsFor (refused_one (targets target.now layers.now))) }
+{
+    match only_target(layers, target) {
+        Ok(layer) => Ok(write_csv(alloc, &layer.table)?),
+        Err(why) => Err(CommandStop::Refused(why)),
+    }
+}
+
+fn topology_text(
+    alloc: Global,
+    ground: &Ground<'_>,
+    layers: &[Held],
+    target: &Target,
+) -> Result<Bytes, CommandStop>
+    requires { ground.now.places ≤ 7 }
+    ensures says { IfOk result (IsTopoText (base_of ground.now) (targets target.now layers.now)) }
+    ensures accepted { IfOk result (λ text. refused_names (targets target.now layers.now) ≡ None) }
+    ensures stops { IfErr result (StopsFor (refused_names (targets target.now layers.now))) }
+{
+    let names = target_names(alloc, layers, target)?;
+    if has_repeat(alloc, names.as_slice())? {
+        return Err(CommandStop::Refused(RefuseWhy::NameTwice));
+    }
+    let drawn = arc_layers(alloc, ground.plane, layers, target)?;
+    let text = write_topojson(alloc, &drawn, &ground.plane.arcs, ground.places)?;
+    Ok(text)
+}
+
+// The names of the layers of the target, in order.
+#[tactic(auto, using(crate::proofs::LayerNames::target_named, crate::proofs::LayerNames::other_passed))]
+fn target_names(alloc: Global, layers: &[Held], target: &Target) -> Result<NameList, AllocError>
+    ensures exact { IfOk result (λ names. names ≡ names_of_layers (targets target.now layers.now)) }
+{
+    let mut names = NameList::new(alloc);
+    for held in layers {
+        if is_selected(target, held) {
+            names.push(copy_text(alloc, &held.layer.name)?)?;
+        }
+    }
+    Ok(names)
+}
+
+// Whether two of the names are one.
+#[tactic(auto, using(crate::proofs::LayerNames::name_repeats, crate::proofs::LayerNames::name_differs))]
+fn has_repeat(alloc: Global, names: &[Text]) -> Result<bool, AllocError>
+    ensures exact { IfOk result (λ twice. twice ≡ has_name_twice names.now) }
+{
+    let mut seen = IndexSet::new(alloc);
+    for name in names {
+        if !add_name(alloc, &mut seen, name.as_str())? {
+            return Ok(true);
+        }
+    }
+    Ok(false)
+}
+
+// Adds a name, and says whether it is new.
+fn add_name(alloc: Global, names: &mut IndexSet<String>, name: &str) -> Result<bool, AllocError>
+    ensures new { IfOk result (λ is_new. is_new ≡ not (has_name (map string_bytes names.old.keys) name.now)) }
+    ensures added { IfOk result (λ is_new. is_new ≡ true → map string_bytes names.new.keys ≡ map string_bytes names.old.keys ++ name.now ∷ []) }
+{
+    let own = String::from_str(alloc, name)?;
+    let (_, added) = names.insert_full(own)?;
+    Ok(added)
+}
+
+// The layers of the target as arcs.
+fn arc_layers(
+    alloc: Global,
+    plane: &Plane,
+    all: &[Held],
+    target: &Target,
+) -> Result<ArcLayers, AllocError>
+    ensures below { IfOk result (All (LayerIsBelow (length plane.now.arcs))) }
+    ensures each { IfOk result (AllZip (IsTracedLayer plane.now) (targets target.now all.now)) }
+{
+    let mut layers = ArcLayers::new(alloc);
+    for held in all {
+        if is_selected(target, held) {
+            layers.push(arc_layer_of(alloc, plane, &held.layer)?)?;
+        }
+    }
+    Ok(layers)
+}
