@@ -8,6 +8,10 @@ use Rattle.table_ops.specs.declared.specifications.GroupSpec.{GroupSpec}
 use Rattle.table_ops.specs.declared.specifications.JoinSpec.{JoinSpec}
 use Rattle.cmd_words.specs.declared.commands.Keyword.{Keyword}
 use Rattle.cmd_words.specs.declared.commands.Keyword.TheVariants as k
+use Rattle.cmd_words.specs.declared.commands.LayerKeyword.{LayerKeyword}
+use Rattle.cmd_words.specs.declared.commands.LayerKeyword.TheVariants as l
+use Rattle.cmd_words.specs.declared.commands.JointKeyword.{JointKeyword}
+use Rattle.cmd_words.specs.declared.commands.JointKeyword.TheVariants as j
 use Rattle.cmd_words.specs.declared.job.Target.{Target}
 use Rattle.cmd_words.specs.declared.job.Target.TheVariants as target
 use Rattle.cmd_words.specs.declared.job.Origin.{Origin}
@@ -18,6 +22,10 @@ use Rattle.cmd_words.specs.declared.job.Owner.TheVariants as owner
 use Rattle.cmd_words.specs.declared.job.SourceWord.{SourceWord}
 use Rattle.cmd_words.specs.declared.job.Action.{Action}
 use Rattle.cmd_words.specs.declared.job.Action.TheVariants as action
+use Rattle.cmd_words.specs.declared.job.LayerAction.{LayerAction}
+use Rattle.cmd_words.specs.declared.job.LayerAction.TheVariants as layer
+use Rattle.cmd_words.specs.declared.job.JointAction.{JointAction}
+use Rattle.cmd_words.specs.declared.job.JointAction.TheVariants as joint
 use Rattle.cmd_words.specs.declared.job.Command.{Command}
 use Rattle.cmd_words.specs.Rows.{Text}
 use Rattle.cmd_words.specs.Texts.{pieces, is_standard, names_file, form_by_ending}
@@ -87,22 +95,31 @@ origin_of sources boxes g =
     else if names_file (argument_text g) then origin.Source (sources + 1)
     else origin.Layer (argument_text g)
 
+abbrev pub write_of : Group → Action
+write_of g = action.Write (argument_text g) (is_standard (argument_text g)) (unwrap_or (out_form g) form.Geo)
+
+abbrev pub layer_action_of : ℕ → ℕ → LayerKeyword → Group → LayerAction
+layer_action_of sources boxes l.Clip g = layer.Clip (origin_of sources boxes g)
+layer_action_of sources boxes l.Erase g = layer.Erase (origin_of sources boxes g)
+layer_action_of sources boxes l.Dissolve g = layer.Dissolve (group_spec g) (has_bare g (codes "group-points"))
+layer_action_of sources boxes l.Clean g = layer.Clean (rule_from (value_in g (codes "overlap-rule"))) (has_bare g (codes "allow-empty"))
+layer_action_of sources boxes l.Mosaic g = layer.Mosaic
+layer_action_of sources boxes l.InnerLines g = layer.InnerLines
+layer_action_of sources boxes l.Explode g = layer.Explode
+layer_action_of sources boxes l.Lines g = layer.Lines (list_or_empty (argument_in g))
+layer_action_of sources boxes l.Join g = layer.Join (origin_of sources boxes g) (join_spec g)
+layer_action_of sources boxes l.Filter g = layer.Filter None (has_bare g (codes "invert")) (has_bare g (codes "remove-empty"))
+layer_action_of sources boxes l.FilterFields g = layer.FilterFields (list_or_empty (argument_in g))
+layer_action_of sources boxes l.RenameFields g = layer.RenameFields g.renames
+layer_action_of sources boxes l.Split g = layer.Split (argument_in g)
+
+abbrev pub joint_action_of : JointKeyword → Group → JointAction
+joint_action_of j.MergeLayers g = joint.MergeLayers (has_bare g (codes "force"))
+
 abbrev pub action_of : ℕ → ℕ → Keyword → Group → Action
-action_of sources boxes k.Clip g = action.Clip (origin_of sources boxes g)
-action_of sources boxes k.Erase g = action.Erase (origin_of sources boxes g)
-action_of sources boxes k.Dissolve g = action.Dissolve (group_spec g) (has_bare g (codes "group-points"))
-action_of sources boxes k.Clean g = action.Clean (rule_from (value_in g (codes "overlap-rule"))) (has_bare g (codes "allow-empty"))
-action_of sources boxes k.Mosaic g = action.Mosaic
-action_of sources boxes k.InnerLines g = action.InnerLines
-action_of sources boxes k.Explode g = action.Explode
-action_of sources boxes k.Lines g = action.Lines (list_or_empty (argument_in g))
-action_of sources boxes k.Join g = action.Join (origin_of sources boxes g) (join_spec g)
-action_of sources boxes k.Filter g = action.Filter None (has_bare g (codes "invert")) (has_bare g (codes "remove-empty"))
-action_of sources boxes k.FilterFields g = action.FilterFields (list_or_empty (argument_in g))
-action_of sources boxes k.RenameFields g = action.RenameFields g.renames
-action_of sources boxes k.Split g = action.Split (argument_in g)
-action_of sources boxes k.MergeLayers g = action.MergeLayers (has_bare g (codes "force"))
-action_of sources boxes k.Write g = action.Write (argument_text g) (is_standard (argument_text g)) (unwrap_or (out_form g) form.Geo)
+action_of sources boxes k.Write g = write_of g
+action_of sources boxes (k.Each keyword) g = action.Each (layer_action_of sources boxes keyword g)
+action_of sources boxes (k.Together keyword) g = action.Together (joint_action_of keyword g)
 
 abbrev pub command_words : ℕ → ℕ → Keyword → Group → CommandWords
 command_words sources boxes keyword g = record {
@@ -112,23 +129,28 @@ command_words sources boxes keyword g = record {
 
 -- ## What a command lacks, and what it adds
 
+abbrev pub layer_lacks_argument : LayerKeyword → Group → Bool
+layer_lacks_argument l.Clip g = not (is_some (argument_in g) || is_some g.area)
+layer_lacks_argument l.Erase g = not (is_some (argument_in g) || is_some g.area)
+layer_lacks_argument l.Join g = not (is_some (argument_in g) && is_some (value_in g (codes "keys")))
+layer_lacks_argument l.Filter g = not (is_some (argument_in g) || has_bare g (codes "remove-empty"))
+layer_lacks_argument l.RenameFields g = not (is_some (argument_in g))
+layer_lacks_argument _ g = false
+
 abbrev pub lacks_argument : Keyword → Group → Bool
-lacks_argument k.Clip g = not (is_some (argument_in g) || is_some g.area)
-lacks_argument k.Erase g = not (is_some (argument_in g) || is_some g.area)
-lacks_argument k.Join g = not (is_some (argument_in g) && is_some (value_in g (codes "keys")))
-lacks_argument k.Filter g = not (is_some (argument_in g) || has_bare g (codes "remove-empty"))
-lacks_argument k.RenameFields g = not (is_some (argument_in g))
 lacks_argument k.Write g = not (is_some (argument_in g))
-lacks_argument _ g = false
+lacks_argument (k.Each keyword) g = layer_lacks_argument keyword g
+lacks_argument (k.Together j.MergeLayers) g = false
 
 abbrev pub lacks_form : Keyword → Group → Bool
 lacks_form k.Write g = not (is_some (out_form g))
-lacks_form _ g = false
+lacks_form (k.Each keyword) g = false
+lacks_form (k.Together keyword) g = false
 
 abbrev pub takes_source : Keyword → Bool
-takes_source k.Clip = true
-takes_source k.Erase = true
-takes_source k.Join = true
+takes_source (k.Each l.Clip) = true
+takes_source (k.Each l.Erase) = true
+takes_source (k.Each l.Join) = true
 takes_source _ = false
 
 -- the file that the command of this number reads

@@ -4,6 +4,9 @@ use Rattle.std.specs.List.{list_any}
 use Rattle.std.specs.Str.{bytes_eq}
 use Rattle.cmd_words.specs.declared.commands.Keyword.{Keyword}
 use Rattle.cmd_words.specs.declared.commands.Keyword.TheVariants as keyword
+use Rattle.cmd_words.specs.declared.commands.LayerKeyword.{LayerKeyword}
+use Rattle.cmd_words.specs.declared.commands.LayerKeyword.TheVariants as layer
+use Rattle.cmd_words.specs.declared.commands.JointKeyword.TheVariants as joint
 use Rattle.cmd_words.specs.declared.commands.ValueForm.{ValueForm}
 use Rattle.cmd_words.specs.declared.commands.ValueForm.TheVariants as value
 use Rattle.cmd_words.specs.declared.commands.ArgumentForm.{ArgumentForm}
@@ -51,22 +54,25 @@ import_form = record { argument = argument.Files; options = (codes "precision", 
 abbrev pub row : Text → Keyword → ArgumentForm → List (Text × ValueForm) → List Text → Row
 row w k a os bs = record { word = w; keyword = k; form = record { argument = a; options = os; bare = bs } }
 
+abbrev pub layer_row : Text → LayerKeyword → ArgumentForm → List (Text × ValueForm) → List Text → Row
+layer_row w k a os bs = row w (keyword.Each k) a os bs
+
 unfoldable pub rows : List Row
 rows =
-    row (codes "-clip") keyword.Clip argument.Source ((codes "bbox", value.Area) ∷ TARGET ∷ NAME ∷ []) (codes "+" ∷ [])
-    ∷ row (codes "-erase") keyword.Erase argument.Source ((codes "bbox", value.Area) ∷ TARGET ∷ NAME ∷ []) (codes "+" ∷ [])
-    ∷ row (codes "-dissolve") keyword.Dissolve argument.List ((codes "sum-fields", value.List) ∷ (codes "copy-fields", value.List) ∷ TARGET ∷ NAME ∷ []) (codes "group-points" ∷ codes "+" ∷ [])
-    ∷ row (codes "-clean") keyword.Clean argument.Nothing ((codes "overlap-rule", value.Rule) ∷ TARGET ∷ NAME ∷ []) (codes "allow-empty" ∷ codes "+" ∷ [])
-    ∷ row (codes "-mosaic") keyword.Mosaic argument.Nothing (TARGET ∷ NAME ∷ []) (codes "+" ∷ [])
-    ∷ row (codes "-innerlines") keyword.InnerLines argument.Nothing (TARGET ∷ NAME ∷ []) (codes "+" ∷ [])
-    ∷ row (codes "-explode") keyword.Explode argument.Nothing (TARGET ∷ NAME ∷ []) (codes "+" ∷ [])
-    ∷ row (codes "-lines") keyword.Lines argument.List (TARGET ∷ NAME ∷ []) (codes "+" ∷ [])
-    ∷ row (codes "-join") keyword.Join argument.Source ((codes "keys", value.Keys) ∷ (codes "fields", value.List) ∷ (codes "where", value.Expression) ∷ (codes "prefix", value.Text) ∷ STRING_FIELDS ∷ TARGET ∷ []) (codes "force" ∷ [])
-    ∷ row (codes "-filter") keyword.Filter argument.Expression (TARGET ∷ NAME ∷ []) (codes "invert" ∷ codes "remove-empty" ∷ codes "+" ∷ [])
-    ∷ row (codes "-filter-fields") keyword.FilterFields argument.List (TARGET ∷ []) []
-    ∷ row (codes "-rename-fields") keyword.RenameFields argument.Renames (TARGET ∷ []) []
-    ∷ row (codes "-split") keyword.Split argument.Text (TARGET ∷ []) (codes "+" ∷ [])
-    ∷ row (codes "-merge-layers") keyword.MergeLayers argument.Nothing (TARGET ∷ NAME ∷ []) (codes "force" ∷ codes "+" ∷ [])
+    layer_row (codes "-clip") layer.Clip argument.Source ((codes "bbox", value.Area) ∷ TARGET ∷ NAME ∷ []) (codes "+" ∷ [])
+    ∷ layer_row (codes "-erase") layer.Erase argument.Source ((codes "bbox", value.Area) ∷ TARGET ∷ NAME ∷ []) (codes "+" ∷ [])
+    ∷ layer_row (codes "-dissolve") layer.Dissolve argument.List ((codes "sum-fields", value.List) ∷ (codes "copy-fields", value.List) ∷ TARGET ∷ NAME ∷ []) (codes "group-points" ∷ codes "+" ∷ [])
+    ∷ layer_row (codes "-clean") layer.Clean argument.Nothing ((codes "overlap-rule", value.Rule) ∷ TARGET ∷ NAME ∷ []) (codes "allow-empty" ∷ codes "+" ∷ [])
+    ∷ layer_row (codes "-mosaic") layer.Mosaic argument.Nothing (TARGET ∷ NAME ∷ []) (codes "+" ∷ [])
+    ∷ layer_row (codes "-innerlines") layer.InnerLines argument.Nothing (TARGET ∷ NAME ∷ []) (codes "+" ∷ [])
+    ∷ layer_row (codes "-explode") layer.Explode argument.Nothing (TARGET ∷ NAME ∷ []) (codes "+" ∷ [])
+    ∷ layer_row (codes "-lines") layer.Lines argument.List (TARGET ∷ NAME ∷ []) (codes "+" ∷ [])
+    ∷ layer_row (codes "-join") layer.Join argument.Source ((codes "keys", value.Keys) ∷ (codes "fields", value.List) ∷ (codes "where", value.Expression) ∷ (codes "prefix", value.Text) ∷ STRING_FIELDS ∷ TARGET ∷ []) (codes "force" ∷ [])
+    ∷ layer_row (codes "-filter") layer.Filter argument.Expression (TARGET ∷ NAME ∷ []) (codes "invert" ∷ codes "remove-empty" ∷ codes "+" ∷ [])
+    ∷ layer_row (codes "-filter-fields") layer.FilterFields argument.List (TARGET ∷ []) []
+    ∷ layer_row (codes "-rename-fields") layer.RenameFields argument.Renames (TARGET ∷ []) []
+    ∷ layer_row (codes "-split") layer.Split argument.Text (TARGET ∷ []) (codes "+" ∷ [])
+    ∷ row (codes "-merge-layers") (keyword.Together joint.MergeLayers) argument.Nothing (TARGET ∷ NAME ∷ []) (codes "force" ∷ codes "+" ∷ [])
     ∷ row (codes "-o") keyword.Write argument.Text ((codes "format", value.Format) ∷ TARGET ∷ []) (codes "force" ∷ [])
     ∷ []
 

@@ -7,6 +7,8 @@ use Rattle.cmd_words.specs.declared.fault.Refusal.{Refusal}
 use Rattle.cmd_words.specs.declared.fault.Refusal.TheVariants as refusal
 use Rattle.cmd_words.specs.declared.job.Action.{Action}
 use Rattle.cmd_words.specs.declared.job.Action.TheVariants as action
+use Rattle.cmd_words.specs.declared.job.LayerAction.{LayerAction}
+use Rattle.cmd_words.specs.declared.job.LayerAction.TheVariants as layer
 use Rattle.cmd_words.specs.declared.job.Command.{Command}
 use Rattle.cmd_words.specs.declared.job.Chain.{Chain}
 use Rattle.cmd_words.specs.declared.job.Job.{Job}
@@ -41,21 +43,37 @@ fault_at_word n refusal.Memory = fault.Memory
 
 -- ## Jobs
 
-abbrev pub without_test : Action → Action
-without_test (action.Join from spec) = action.Join from (record spec { test = None })
-without_test (action.Filter test invert remove_empty) = action.Filter None invert remove_empty
-without_test a = a
+abbrev pub layer_without_test : LayerAction → LayerAction
+layer_without_test (layer.Join from spec) = layer.Join from (record spec { test = None })
+layer_without_test (layer.Filter test invert remove_empty) = layer.Filter None invert remove_empty
+layer_without_test a = a
 
-abbrev pub test_of : Action → Option Expr
-test_of (action.Join from spec) = spec.test
-test_of (action.Filter test invert remove_empty) = test
-test_of a = None
+abbrev pub layer_test_of : LayerAction → Option Expr
+layer_test_of (layer.Join from spec) = spec.test
+layer_test_of (layer.Filter test invert remove_empty) = test
+layer_test_of a = None
 
 -- the text of its expression, where the action has one
+abbrev pub layer_text_for : LayerAction → Option Text → Option Text
+layer_text_for (layer.Join from spec) test = test
+layer_text_for (layer.Filter e invert remove_empty) test = test
+layer_text_for a test = None
+
+-- the same of any action: only those of one layer have an expression
+abbrev pub without_test : Action → Action
+without_test (action.Each a) = action.Each (layer_without_test a)
+without_test (action.Together a) = action.Together a
+without_test (action.Write to standard form) = action.Write to standard form
+
+abbrev pub test_of : Action → Option Expr
+test_of (action.Each a) = layer_test_of a
+test_of (action.Together a) = None
+test_of (action.Write to standard form) = None
+
 abbrev pub text_for : Action → Option Text → Option Text
-text_for (action.Join from spec) test = test
-text_for (action.Filter e invert remove_empty) test = test
-text_for a test = None
+text_for (action.Each a) test = layer_text_for a test
+text_for (action.Together a) test = None
+text_for (action.Write to standard form) test = None
 
 abbrev pub without : Command → Command
 without c = record c { action = without_test c.action }

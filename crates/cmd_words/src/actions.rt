@@ -1,10 +1,10 @@
 ghost use Rattle.std.specs.Prelude.{◌≡◌, ◌+◌, IfOk, option_map, unwrap_or, is_some, [], List, ℕ, length};
 ghost use Rattle.std.specs.Option.{option_copied};
 ghost use Rattle.cmd_words.specs.Texts.{pieces};
-ghost use Rattle.cmd_words.specs.Chains.{list_or_empty, target_of, argument_text, key_at, group_spec, join_spec, out_form, rule_from, origin_of, action_of, lacks_argument, lacks_form, takes_source};
+ghost use Rattle.cmd_words.specs.Chains.{list_or_empty, target_of, argument_text, key_at, group_spec, join_spec, out_form, rule_from, origin_of, write_of, layer_action_of, joint_action_of, action_of, layer_lacks_argument, lacks_argument, lacks_form, takes_source};
 
-use crate::commands::Keyword;
-use crate::job::{Action, Origin, OutForm, Target};
+use crate::commands::{JointKeyword, Keyword, LayerKeyword};
+use crate::job::{Action, JointAction, LayerAction, Origin, OutForm, Target};
 use crate::texts::{form_by_ending, is_standard, names_file, pieces};
 use crate::values::{form_named, rule_of};
 use crate::word_groups::Group;
@@ -25,53 +25,16 @@ pub(crate) fn action(
     ensures test { group.new.test ≡ group.old.test }
 {
     Ok(match keyword {
-        Keyword::Clip => Action::Clip {
-            from: origin(alloc, sources, boxes, group)?,
-        },
-        Keyword::Erase => Action::Erase {
-            from: origin(alloc, sources, boxes, group)?,
-        },
-        Keyword::Dissolve => Action::Dissolve {
-            spec: group_spec(alloc, group)?,
-            group_points: group.has_bare("group-points"),
-        },
-        Keyword::Clean => Action::Clean {
-            rule: rule_from(group.value("overlap-rule")),
-            allow_empty: group.has_bare("allow-empty"),
-        },
-        Keyword::Mosaic => Action::Mosaic,
-        Keyword::InnerLines => Action::InnerLines,
-        Keyword::Explode => Action::Explode,
-        Keyword::Lines => Action::Lines {
-            fields: list_or_empty(alloc, group.argument())?,
-        },
-        Keyword::Join => Action::Join {
-            from: origin(alloc, sources, boxes, group)?,
-            spec: join_spec(alloc, group)?,
-        },
-        Keyword::Filter => Action::Filter {
-            test: None,
-            invert: group.has_bare("invert"),
-            remove_empty: group.has_bare("remove-empty"),
-        },
-        Keyword::FilterFields => Action::FilterFields {
-            fields: list_or_empty(alloc, group.argument())?,
-        },
-        Keyword::RenameFields => Action::RenameFields {
-            pairs: group.take_renames(alloc),
-        },
-        Keyword::Split => Action::Split {
-            field: copy_of(alloc, group.argument())?,
-        },
-        Keyword::MergeLayers => Action::MergeLayers {
-            force: group.has_bare("force"),
-        },
         Keyword::Write => write(alloc, group)?,
+        Keyword::Each(keyword) => {
+            Action::Each(layer_action(alloc, sources, boxes, keyword, group)?)
+        }
+        Keyword::Together(keyword) => Action::Together(joint_action(keyword, group)),
     })
 }
 
 fn write(alloc: Global, group: &Group) -> Result<Action, AllocError>
-    ensures exact { IfOk result (λ a. a ≡ action_of 0 0 Keyword.Write group.now) }
+    ensures exact { IfOk result (λ a. a ≡ write_of group.now) }
 {
     let name = argument_text(group);
     Ok(Action::Write {
@@ -79,6 +42,68 @@ fn write(alloc: Global, group: &Group) -> Result<Action, AllocError>
         standard: is_standard(name),
         form: out_form(group).unwrap_or(OutForm::Geo),
     })
+}
+
+fn layer_action(
+    alloc: Global,
+    sources: u32,
+    boxes: u32,
+    keyword: LayerKeyword,
+    group: &mut Group,
+) -> Result<LayerAction, AllocError>
+    ensures exact { IfOk result (λ a. a ≡ layer_action_of sources boxes keyword group.old) }
+    ensures test { group.new.test ≡ group.old.test }
+{
+    Ok(match keyword {
+        LayerKeyword::Clip => LayerAction::Clip {
+            from: origin(alloc, sources, boxes, group)?,
+        },
+        LayerKeyword::Erase => LayerAction::Erase {
+            from: origin(alloc, sources, boxes, group)?,
+        },
+        LayerKeyword::Dissolve => LayerAction::Dissolve {
+            spec: group_spec(alloc, group)?,
+            group_points: group.has_bare("group-points"),
+        },
+        LayerKeyword::Clean => LayerAction::Clean {
+            rule: rule_from(group.value("overlap-rule")),
+            allow_empty: group.has_bare("allow-empty"),
+        },
+        LayerKeyword::Mosaic => LayerAction::Mosaic,
+        LayerKeyword::InnerLines => LayerAction::InnerLines,
+        LayerKeyword::Explode => LayerAction::Explode,
+        LayerKeyword::Lines => LayerAction::Lines {
+            fields: list_or_empty(alloc, group.argument())?,
+        },
+        LayerKeyword::Join => LayerAction::Join {
+            from: origin(alloc, sources, boxes, group)?,
+            spec: join_spec(alloc, group)?,
+        },
+        LayerKeyword::Filter => LayerAction::Filter {
+            test: None,
+            invert: group.has_bare("invert"),
+            remove_empty: group.has_bare("remove-empty"),
+        },
+        LayerKeyword::FilterFields => LayerAction::FilterFields {
+            fields: list_or_empty(alloc, group.argument())?,
+        },
+        LayerKeyword::RenameFields => LayerAction::RenameFields {
+            pairs: group.take_renames(alloc),
+        },
+        LayerKeyword::Split => LayerAction::Split {
+            field: copy_of(alloc, group.argument())?,
+        },
+    })
+}
+
+fn joint_action(keyword: JointKeyword, group: &Group) -> JointAction
+    ensures exact { result ≡ joint_action_of keyword group.now }
+{
+    match keyword {
+        JointKeyword::MergeLayers => JointAction::MergeLayers {
+            force: group.has_bare("force"),
+        },
+    }
 }
 
 fn origin(alloc: Global, sources: u32, boxes: u32, group: &Group) -> Result<Origin, AllocError>
@@ -198,11 +223,30 @@ pub(crate) fn lacks_argument(keyword: Keyword, group: &Group) -> bool
     ensures exact { result ≡ lacks_argument keyword group.now }
 {
     match keyword {
-        Keyword::Clip | Keyword::Erase => !(group.has_argument() || group.area().is_some()),
-        Keyword::Join => !(group.has_argument() && group.has_option("keys")),
-        Keyword::Filter => !(group.has_argument() || group.has_bare("remove-empty")),
-        Keyword::RenameFields | Keyword::Write => !group.has_argument(),
-        _ => false,
+        Keyword::Write => !group.has_argument(),
+        Keyword::Each(keyword) => layer_lacks_argument(keyword, group),
+        Keyword::Together(JointKeyword::MergeLayers) => false,
+    }
+}
+
+fn layer_lacks_argument(keyword: LayerKeyword, group: &Group) -> bool
+    ensures exact { result ≡ layer_lacks_argument keyword group.now }
+{
+    match keyword {
+        LayerKeyword::Clip | LayerKeyword::Erase => {
+            !(group.has_argument() || group.area().is_some())
+        }
+        LayerKeyword::Join => !(group.has_argument() && group.has_option("keys")),
+        LayerKeyword::Filter => !(group.has_argument() || group.has_bare("remove-empty")),
+        LayerKeyword::RenameFields => !group.has_argument(),
+        LayerKeyword::Dissolve
+        | LayerKeyword::Clean
+        | LayerKeyword::Mosaic
+        | LayerKeyword::InnerLines
+        | LayerKeyword::Explode
+        | LayerKeyword::Lines
+        | LayerKeyword::FilterFields
+        | LayerKeyword::Split => false,
     }
 }
 
@@ -217,5 +261,8 @@ pub(crate) fn lacks_form(keyword: Keyword, group: &Group) -> bool
 pub(crate) fn takes_source(keyword: Keyword) -> bool
     ensures exact { result ≡ takes_source keyword }
 {
-    matches!(keyword, Keyword::Clip | Keyword::Erase | Keyword::Join)
+    matches!(
+        keyword,
+        Keyword::Each(LayerKeyword::Clip | LayerKeyword::Erase | LayerKeyword::Join)
+    )
 }

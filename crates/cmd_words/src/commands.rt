@@ -2,9 +2,17 @@ ghost use Rattle.std.specs.Prelude.{◌≡◌, option_map, map};
 ghost use Rattle.cmd_words.specs.Rows.{row_of, row_named, form_of, has_name};
 ghost use Rattle.cmd_words.specs.Seen.{row_seen, options_seen, names_seen};
 
-/// A command.
+/// A command, by the shape of its action.
 #[derive(Clone, Copy)]
 pub(crate) enum Keyword {
+    Write,
+    Each(LayerKeyword),
+    Together(JointKeyword),
+}
+
+/// A command that works on one layer.
+#[derive(Clone, Copy)]
+pub(crate) enum LayerKeyword {
     Clip,
     Erase,
     Dissolve,
@@ -18,8 +26,12 @@ pub(crate) enum Keyword {
     FilterFields,
     RenameFields,
     Split,
+}
+
+/// A command that works on all layers of its target together.
+#[derive(Clone, Copy)]
+pub(crate) enum JointKeyword {
     MergeLayers,
-    Write,
 }
 
 /// What the argument of a group is.
@@ -102,10 +114,10 @@ pub(crate) static IMPORT: GroupForm = GroupForm {
 };
 
 macro_rules! row {
-    ($word:literal, $keyword:ident, $argument:ident, [$($option:ident),*], [$($bare:literal),*]) => {
+    ($word:literal, $keyword:expr, $argument:ident, [$($option:ident),*], [$($bare:literal),*]) => {
         CommandRow {
             word: $word,
-            keyword: Keyword::$keyword,
+            keyword: $keyword,
             form: GroupForm {
                 argument: ArgumentForm::$argument,
                 options: &[$($option),*],
@@ -115,54 +127,66 @@ macro_rules! row {
     };
 }
 
-/// The commands: word, meaning, argument, options and bare words. A new one is a row here and an arm of
-/// `action`.
+macro_rules! layer_row {
+    ($word:literal, $keyword:ident, $argument:ident, $options:tt, $bare:tt) => {
+        row!(
+            $word,
+            Keyword::Each(LayerKeyword::$keyword),
+            $argument,
+            $options,
+            $bare
+        )
+    };
+}
+
+/// The commands: word, meaning, argument, options and bare words. A new one is a row here, and an arm of
+/// `layer_action` or `joint_action`.
 static COMMANDS: [CommandRow; 15] = [
-    row!("-clip", Clip, Source, [BOX, TARGET, NAME], ["+"]),
-    row!("-erase", Erase, Source, [BOX, TARGET, NAME], ["+"]),
-    row!(
+    layer_row!("-clip", Clip, Source, [BOX, TARGET, NAME], ["+"]),
+    layer_row!("-erase", Erase, Source, [BOX, TARGET, NAME], ["+"]),
+    layer_row!(
         "-dissolve",
         Dissolve,
         List,
         [SUM_FIELDS, COPY_FIELDS, TARGET, NAME],
         ["group-points", "+"]
     ),
-    row!(
+    layer_row!(
         "-clean",
         Clean,
         Nothing,
         [RULE, TARGET, NAME],
         ["allow-empty", "+"]
     ),
-    row!("-mosaic", Mosaic, Nothing, [TARGET, NAME], ["+"]),
-    row!("-innerlines", InnerLines, Nothing, [TARGET, NAME], ["+"]),
-    row!("-explode", Explode, Nothing, [TARGET, NAME], ["+"]),
-    row!("-lines", Lines, List, [TARGET, NAME], ["+"]),
-    row!(
+    layer_row!("-mosaic", Mosaic, Nothing, [TARGET, NAME], ["+"]),
+    layer_row!("-innerlines", InnerLines, Nothing, [TARGET, NAME], ["+"]),
+    layer_row!("-explode", Explode, Nothing, [TARGET, NAME], ["+"]),
+    layer_row!("-lines", Lines, List, [TARGET, NAME], ["+"]),
+    layer_row!(
         "-join",
         Join,
         Source,
         [KEYS, FIELDS, WHERE, PREFIX, STRING_FIELDS, TARGET],
         ["force"]
     ),
-    row!(
+    layer_row!(
         "-filter",
         Filter,
         Expression,
         [TARGET, NAME],
         ["invert", "remove-empty", "+"]
     ),
-    row!("-filter-fields", FilterFields, List, [TARGET], []),
-    row!("-rename-fields", RenameFields, Renames, [TARGET], []),
-    row!("-split", Split, Text, [TARGET], ["+"]),
+    layer_row!("-filter-fields", FilterFields, List, [TARGET], []),
+    layer_row!("-rename-fields", RenameFields, Renames, [TARGET], []),
+    layer_row!("-split", Split, Text, [TARGET], ["+"]),
     row!(
         "-merge-layers",
-        MergeLayers,
+        Keyword::Together(JointKeyword::MergeLayers),
         Nothing,
         [TARGET, NAME],
         ["force", "+"]
     ),
-    row!("-o", Write, Text, [FORMAT, TARGET], ["force"]),
+    row!("-o", Keyword::Write, Text, [FORMAT, TARGET], ["force"]),
 ];
 
 /// The row of a command word.

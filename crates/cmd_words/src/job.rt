@@ -81,8 +81,24 @@ pub enum OutForm {
     Csv,
 }
 
+/// What a command does.
 #[derive(Drop)]
 pub enum Action {
+    /// A text is written, and no layer changes. `standard` says that the word was `-`, and the standard stream is meant.
+    Write {
+        to: Text,
+        standard: bool,
+        form: OutForm,
+    },
+    /// Each layer of the target is changed by itself.
+    Each(LayerAction),
+    /// The layers of the target are changed together.
+    Together(JointAction),
+}
+
+/// What is made of one layer.
+#[derive(Drop)]
+pub enum LayerAction {
     Clip {
         from: Origin,
     },
@@ -121,13 +137,10 @@ pub enum Action {
     Split {
         field: Option<Text>,
     },
-    MergeLayers {
-        force: bool,
-    },
-    /// `standard` says that the word was `-`, and the standard stream is meant.
-    Write {
-        to: Text,
-        standard: bool,
-        form: OutForm,
-    },
+}
+
+/// What is made of all layers of a target together.
+#[derive(Drop)]
+pub enum JointAction {
+    MergeLayers { force: bool },
 }

@@ -27,5 +27,8 @@ mod word_groups;
 
 pub use chain_lists::{CommandList, SourceList};
 pub use fault::{ExprWhy, WordFault, WordWhy};
-pub use job::{Action, Chain, Command, Job, Origin, OutForm, Owner, SourceWord, Target};
+pub use job::{
+    Action, Chain, Command, Job, JointAction, LayerAction, Origin, OutForm, Owner, SourceWord,
+    Target,
+};
 pub use reading::read_chain;

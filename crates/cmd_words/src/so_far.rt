@@ -2,13 +2,13 @@ ghost use Rattle.std.specs.Prelude.{◌≡◌, ◌+◌, ◌++◌, IfOk, OnOk, le
 ghost use Rattle.cmd_words.specs.Chains.{command_words, source_of, with_command};
 ghost use Rattle.cmd_words.specs.Words.{imported};
 ghost use Rattle.cmd_words.specs.Expressions.{FitsTest};
-ghost use Rattle.cmd_words.specs.Tells.{FitsCommand, FitEach, without_test, test_of, text_for};
+ghost use Rattle.cmd_words.specs.Tells.{FitsCommand, FitEach, without_test, test_of, text_for, layer_without_test, layer_test_of, layer_text_for};
 
 use crate::actions::{action, argument_text, copy_of, list_or_empty, takes_source, target_of};
 use crate::chain_lists::{CommandList, SourceList};
 use crate::commands::Keyword;
 use crate::expressions::Expression;
-use crate::job::{Action, Chain, Command, Owner, SourceWord};
+use crate::job::{Action, Chain, Command, LayerAction, Owner, SourceWord};
 use crate::texts::{is_standard, names_file};
 use crate::word_groups::Group;
 use expr_lang::Expr;
@@ -207,7 +207,17 @@ fn with_test(action: Action, test: Option<Expression>) -> Action
     ensures test { FitsTest (text_for action test) (test_of result) }
 {
     match action {
-        Action::Join { from, spec } => Action::Join {
+        Action::Each(action) => Action::Each(layer_with_test(action, test)),
+        other => other,
+    }
+}
+
+fn layer_with_test(action: LayerAction, test: Option<Expression>) -> LayerAction
+    ensures same { layer_without_test result ≡ layer_without_test action }
+    ensures test { FitsTest (layer_text_for action test) (layer_test_of result) }
+{
+    match action {
+        LayerAction::Join { from, spec } => LayerAction::Join {
             from,
             spec: JoinSpec {
                 target_key: spec.target_key,
@@ -218,11 +228,11 @@ fn with_test(action: Action, test: Option<Expression>) -> Action
                 prefix: spec.prefix,
             },
         },
-        Action::Filter {
+        LayerAction::Filter {
             test: _,
             invert,
             remove_empty,
-        } => Action::Filter {
+        } => LayerAction::Filter {
             test: tree_of(test),
             invert,
             remove_empty,
