@@ -2,20 +2,20 @@
 //!
 //! 1. `face_sets` has the sets of faces of a layer, and those that `-clip` and `-erase` cut by.
 //! 2. `cutting` is `-clip` and `-erase`, `cleaning` is `-clean` and `-mosaic`, `dissolving` is `-dissolve`, `exploding` is
-//!    `-explode`, `outlines` is `-innerlines` and `-lines`.
+//!    `-explode`, `borders` is `-innerlines` and `-lines`.
 #![tactic(auto)]
 
+mod borders;
 mod cleaning;
 mod cutting;
 mod dissolving;
 mod exploding;
 mod face_sets;
-mod outlines;
 mod paths;
 
+pub use borders::{inner_lines, outlines};
 pub use cleaning::{cleaned, mosaic};
 pub use cutting::{CutKeeps, cut};
 pub use dissolving::dissolved;
 pub use exploding::exploded;
 pub use face_sets::{area_of, sets_of, shapes_of, union_of};
-pub use outlines::{inner_lines, outlines};

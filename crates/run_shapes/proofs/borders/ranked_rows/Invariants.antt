@@ -1,6 +1,6 @@
 use Rattle.std.proofs.Common.{◌≡◌, length}
 use Rattle.json_read.specs.Table.{AreRows}
-use Rattle.run_shapes.proofs.outlines.ranked_rows.Given as goal
+use Rattle.run_shapes.proofs.borders.ranked_rows.Given as goal
 
 abbrev pub invariant-loop-sided : goal.invariant-loop-sided
 invariant-loop-sided l = record {

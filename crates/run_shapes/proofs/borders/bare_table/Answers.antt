@@ -1,7 +1,7 @@
 use Rattle.std.proofs.Common.{[], ◌∷◌, length, sym, ap, subst, arith, length-append}
 use Rattle.json_read.specs.Table.{AreRows, AreDistinctNames}
 use Rattle.run_shapes.proofs.Rows.{no_names, rows_grown}
-use Rattle.run_shapes.proofs.outlines.bare_table.Goals as goal
+use Rattle.run_shapes.proofs.borders.bare_table.Goals as goal
 
 pub loop-row-preserved : goal.loop-row-preserved
 loop-row-preserved c =

@@ -1,7 +1,7 @@
 use Rattle.std.proofs.Common.{[], ◌∷◌, length, sym, ap, subst, arith, length-append}
 use Rattle.json_read.specs.Table.{AreRows}
 use Rattle.run_shapes.proofs.Rows.{rows_grown}
-use Rattle.run_shapes.proofs.outlines.ranked_rows.Goals as goal
+use Rattle.run_shapes.proofs.borders.ranked_rows.Goals as goal
 
 pub loop-sided-preserved : goal.loop-sided-preserved
 loop-sided-preserved c =

@@ -1,6 +1,6 @@
 use Rattle.std.proofs.Common.{◌≡◌, length}
 use Rattle.json_read.specs.Table.{AreRows}
-use Rattle.run_shapes.proofs.outlines.bare_table.Given as goal
+use Rattle.run_shapes.proofs.borders.bare_table.Given as goal
 
 abbrev pub invariant-loop-row : goal.invariant-loop-row
 invariant-loop-row l = record {

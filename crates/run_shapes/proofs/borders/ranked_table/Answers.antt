@@ -2,7 +2,7 @@ use Rattle.std.proofs.Common.{ℕ, List, [], ◌∷◌, ◌++◌, codes, sym, ap
 use Rattle.std.specs.Str.{bytes_eq}
 use Rattle.json_read.specs.Table.{AreDistinctNames}
 use Rattle.run_shapes.proofs.Rows.{two_names}
-use Rattle.run_shapes.proofs.outlines.ranked_table.Goals as goal
+use Rattle.run_shapes.proofs.borders.ranked_table.Goals as goal
 
 pub new-requires-clause-distinct : goal.new-requires-clause-distinct
 new-requires-clause-distinct c =

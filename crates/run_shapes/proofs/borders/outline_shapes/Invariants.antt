@@ -1,5 +1,5 @@
 use Rattle.std.proofs.Common.{◌≡◌, length}
-use Rattle.run_shapes.proofs.outlines.outline_shapes.Given as goal
+use Rattle.run_shapes.proofs.borders.outline_shapes.Given as goal
 
 abbrev pub invariant-loop-sided : goal.invariant-loop-sided
 invariant-loop-sided l = length l.shapes.items ≡ l.sided-index
