@@ -4,7 +4,7 @@ ghost use Rattle.plane_model.specs.Arcs.{points_of};
 ghost use Rattle.geojson_io.specs.Positions.{is_closed as ends_meet};
 ghost use Rattle.topo_io.specs.Numerals.{units_of_text};
 ghost use Rattle.topo_io.specs.Reads.{Answers};
-ghost use Rattle.topo_io.specs.Sound.{IsRing};
+ghost use Rattle.geojson_io.specs.Sound.{IsRing};
 ghost use Rattle.topo_io.specs.Stitching.{arc_at, fresh_points, has_points, named_arc, path_of, ring_of, rings_of, stitched, with_arc, with_points};
 
 use crate::fault::{Stop, TopoWhy};
