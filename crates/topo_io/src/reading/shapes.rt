@@ -75,6 +75,7 @@ fn several_points(alloc: Global, json: &Json, frame: &Frame, left: &mut u32) -> 
 }
 
 // Adds a line, unless it has no positions.
+#[tactic(auto, using(geojson_io::proofs::SoundLemmas::has_points))]
 fn push_line(lines: &mut PathList, line: PtList) -> Result<(), AllocError>
     requires { All HasPoints lines.old }
     ensures exact { OnOk result (lines.new ≡ lines.old ++ filter has_points (line ∷ [])) }

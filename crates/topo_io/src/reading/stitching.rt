@@ -165,6 +165,7 @@ fn ring_of(alloc: Global, json: &Json, arcs: &PathList, left: &mut u32) -> Resul
 }
 
 // Adds a ring, unless it has no positions.
+#[tactic(auto, using(geojson_io::proofs::SoundLemmas::has_points, geojson_io::proofs::SoundLemmas::ends_at_start))]
 fn push_ring(rings: &mut PolygonRings, ring: PtList) -> Result<(), AllocError>
     requires rings { All IsRing rings.old }
     requires closed { ends_meet ring ≡ true }
