@@ -6,3 +6,5 @@ pub mod NumberLemmas
 pub mod FeatureLemmas
 pub mod PropertyLemmas
 pub mod KindLemmas
+pub mod SoundLemmas
+pub mod SoundReads

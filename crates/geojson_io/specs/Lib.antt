@@ -5,5 +5,6 @@ pub mod Features
 pub mod LayerContent
 pub mod Layers
 pub mod Layering
+pub mod Sound
 pub mod Texts
 pub mod Numbers

@@ -1,7 +1,8 @@
-ghost use Rattle.std.specs.Prelude.{◌≡◌, ◌≤◌, IfOk, IfErr, Ok};
+ghost use Rattle.std.specs.Prelude.{◌≡◌, ◌≤◌, All, IfOk, IfErr, Ok};
 ghost use Rattle.json_read.specs.Seen.{json_value};
 ghost use Rattle.geojson_io.specs.Reads.{IsFault};
 ghost use Rattle.geojson_io.specs.Layers.{read_geojson as geojson_layers};
+ghost use Rattle.geojson_io.specs.Sound.{LayerIsSound};
 
 mod features;
 mod geometries;
@@ -36,6 +37,7 @@ pub fn read_geojson(
     requires { places ≤ 7 }
     ensures ok { IfOk result (λ layers. geojson_layers places name.now room.positions room.features (json_value json.now) ≡ Ok layers) }
     ensures fault { IfErr result (IsFault (geojson_layers places name.now room.positions room.features (json_value json.now))) }
+    ensures sound { IfOk result (λ layers. All LayerIsSound layers) }
 {
     let Some((kind, items)) = top_members(json) else {
         return Err(ShapeFault::Bad {

@@ -2,7 +2,7 @@ ghost use Rattle.std.specs.Prelude.{◌≡◌, ◌≤◌, All, Err, IfErr, IfOk,
 ghost use Rattle.json_read.specs.Lists.{items_list};
 ghost use Rattle.json_read.specs.Seen.{json_value};
 ghost use Rattle.topo_io.specs.Reads.{AnswersAt, IsFault};
-ghost use Rattle.topo_io.specs.Sound.{LayerIsSound};
+ghost use Rattle.geojson_io.specs.Sound.{LayerIsSound};
 ghost use Rattle.topo_io.specs.Topologies.{Members, layers_in, members, read_topojson as topology_layers};
 
 mod arcs;

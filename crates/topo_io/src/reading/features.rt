@@ -4,7 +4,7 @@ ghost use Rattle.json_read.specs.Lists.{fields_list, value_named};
 ghost use Rattle.json_read.specs.Seen.{json_value};
 ghost use Rattle.topo_io.specs.Reads.{Answers, AnswersIn, AnswersPlain, IsFault, StandsAt};
 ghost use Rattle.topo_io.specs.Shapes.{geometry, typed_geometry};
-ghost use Rattle.topo_io.specs.Sound.{ShapeIsSound, FeatureIsSound};
+ghost use Rattle.geojson_io.specs.Sound.{ShapeIsSound, FeatureIsSound};
 ghost use Rattle.topo_io.specs.Topologies.{feature, features, numbered_feature, properties};
 ghost use Rattle.topo_io.specs.declared.fault.TopoPlace.TheVariants.{Shape};
 

@@ -4,7 +4,7 @@ ghost use Rattle.json_read.specs.Lists.{fields_list, value_named};
 ghost use Rattle.json_read.specs.Seen.{json_value};
 ghost use Rattle.geojson_io.specs.Layers.{layers_of};
 ghost use Rattle.topo_io.specs.Reads.{AnswersAt, IsFault};
-ghost use Rattle.topo_io.specs.Sound.{FeatureIsSound, LayerIsSound};
+ghost use Rattle.geojson_io.specs.Sound.{FeatureIsSound, LayerIsSound};
 ghost use Rattle.topo_io.specs.Topologies.{IsAdded, geometries, layers_of_members, members_in, object_features};
 
 use crate::fault::{TopoFault, TopoPlace, TopoWhy};

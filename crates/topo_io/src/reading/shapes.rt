@@ -6,7 +6,7 @@ ghost use Rattle.geojson_io.specs.Geometries.{has_rings, some_lines, some_points
 ghost use Rattle.geojson_io.specs.Reads.{each};
 ghost use Rattle.topo_io.specs.Reads.{Answers};
 ghost use Rattle.topo_io.specs.Shapes.{one_line, one_point, one_polygon, paths_in, points_in, polygon_of, position, several_lines, several_points, several_polygons, shape_in, stitched_shape};
-ghost use Rattle.topo_io.specs.Sound.{HasPoints, IsRing, ShapeIsSound};
+ghost use Rattle.geojson_io.specs.Sound.{HasPoints, IsRing, ShapeIsSound};
 ghost use Rattle.topo_io.specs.Stitching.{has_points};
 
 use crate::fault::{Stop, TopoWhy};
@@ -75,6 +75,7 @@ fn several_points(alloc: Global, json: &Json, frame: &Frame, left: &mut u32) -> 
 }
 
 // Adds a line, unless it has no positions.
+#[tactic(auto, using(geojson_io::proofs::SoundLemmas::has_points))]
 fn push_line(lines: &mut PathList, line: PtList) -> Result<(), AllocError>
     requires { All HasPoints lines.old }
     ensures exact { OnOk result (lines.new ≡ lines.old ++ filter has_points (line ∷ [])) }

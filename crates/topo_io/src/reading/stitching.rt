@@ -4,7 +4,7 @@ ghost use Rattle.plane_model.specs.Arcs.{points_of};
 ghost use Rattle.geojson_io.specs.Positions.{is_closed as ends_meet};
 ghost use Rattle.topo_io.specs.Numerals.{units_of_text};
 ghost use Rattle.topo_io.specs.Reads.{Answers};
-ghost use Rattle.topo_io.specs.Sound.{IsRing};
+ghost use Rattle.geojson_io.specs.Sound.{IsRing};
 ghost use Rattle.topo_io.specs.Stitching.{arc_at, fresh_points, has_points, named_arc, path_of, ring_of, rings_of, stitched, with_arc, with_points};
 
 use crate::fault::{Stop, TopoWhy};
@@ -165,6 +165,7 @@ fn ring_of(alloc: Global, json: &Json, arcs: &PathList, left: &mut u32) -> Resul
 }
 
 // Adds a ring, unless it has no positions.
+#[tactic(auto, using(geojson_io::proofs::SoundLemmas::has_points, geojson_io::proofs::SoundLemmas::ends_at_start))]
 fn push_ring(rings: &mut PolygonRings, ring: PtList) -> Result<(), AllocError>
     requires rings { All IsRing rings.old }
     requires closed { ends_meet ring ≡ true }

@@ -4,7 +4,7 @@ use Rattle.std.proofs.lemmas.Result.{err_from_is_err_and}
 use Rattle.json_read.specs.Seen.{json_value}
 use Rattle.geojson_io.specs.declared.reading.features.Feature.{Feature}
 use Rattle.geojson_io.proofs.FeatureLemmas.{IsNumberedTo, member_stops, one_member_more}
-use Rattle.topo_io.specs.Sound.{FeatureIsSound}
+use Rattle.geojson_io.specs.Sound.{FeatureIsSound}
 use Rattle.topo_io.specs.Topologies.{features, numbered_feature}
 use Rattle.topo_io.proofs.ReadLemmas.{err_fault, fault_passes_on}
 use Rattle.topo_io.proofs.reading.features.features_of.Goals as goal

@@ -1,6 +1,6 @@
 use Rattle.std.proofs.Common.{◌≡◌, ◌≤◌, ◌+◌, All, length}
 use Rattle.geojson_io.proofs.FeatureLemmas.{IsNumberedTo}
-use Rattle.topo_io.specs.Sound.{FeatureIsSound}
+use Rattle.geojson_io.specs.Sound.{FeatureIsSound}
 use Rattle.topo_io.specs.Topologies.{numbered_feature}
 use Rattle.topo_io.proofs.reading.features.features_of.Given as goal
 

@@ -2,8 +2,8 @@ use Rattle.std.proofs.Common.{◌∙◌, ◌++◌, List, All, ap, sym, subst}
 use Rattle.std.proofs.lemmas.List.Elements.{All-append}
 use Rattle.std.proofs.lemmas.Result.{on_ok_weaker}
 use Rattle.geojson_io.specs.LayerContent.{LayerContent}
-use Rattle.topo_io.specs.Sound.{LayerIsSound}
-use Rattle.topo_io.proofs.SoundLemmas.{sound_layers}
+use Rattle.geojson_io.specs.Sound.{LayerIsSound}
+use Rattle.geojson_io.proofs.SoundLemmas.{sound_layers}
 use Rattle.topo_io.proofs.reading.objects.add_layers.Goals as goal
 
 pub returns : goal.returns

@@ -5,7 +5,7 @@ use Rattle.json_read.specs.Json.{JsonValue}
 use Rattle.json_read.specs.Lists.{fields_list}
 use Rattle.json_read.specs.Seen.{json_value}
 use Rattle.geojson_io.specs.LayerContent.{LayerContent}
-use Rattle.topo_io.specs.Sound.{LayerIsSound}
+use Rattle.geojson_io.specs.Sound.{LayerIsSound}
 use Rattle.topo_io.proofs.ObjectLemmas.{AreLayersTo, all_layers, no_layers, numbers_at, object_more, object_stops}
 use Rattle.topo_io.specs.Topologies.{layers_of_members, object_features}
 use Rattle.topo_io.proofs.ReadLemmas.{at_fault, fault_passes_on}

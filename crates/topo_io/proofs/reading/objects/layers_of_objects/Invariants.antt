@@ -1,6 +1,6 @@
 use Rattle.std.proofs.Common.{◌≤◌, All}
 use Rattle.json_read.specs.Lists.{fields_list}
-use Rattle.topo_io.specs.Sound.{LayerIsSound}
+use Rattle.geojson_io.specs.Sound.{LayerIsSound}
 use Rattle.topo_io.proofs.ObjectLemmas.{AreLayersTo}
 use Rattle.topo_io.proofs.reading.objects.layers_of_objects.Given as goal
 

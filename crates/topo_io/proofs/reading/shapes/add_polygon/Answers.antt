@@ -3,7 +3,7 @@ use Rattle.std.proofs.lemmas.List.Elements.{All-append, All-filter, All-cons, Al
 use Rattle.std.proofs.lemmas.Result.{on_ok_weaker}
 use Rattle.plane_model.specs.Drawing.{Polygon}
 use Rattle.geojson_io.specs.Geometries.{has_rings}
-use Rattle.topo_io.specs.Sound.{IsRing}
+use Rattle.geojson_io.specs.Sound.{IsRing}
 use Rattle.topo_io.proofs.reading.shapes.add_polygon.Goals as goal
 
 pub returns : goal.returns

@@ -5,7 +5,7 @@ use Rattle.json_read.specs.Seen.{json_value}
 use Rattle.plane_model.specs.Points.{Path}
 use Rattle.topo_io.specs.Shapes.{several_lines}
 use Rattle.topo_io.specs.Stitching.{has_points, path_of}
-use Rattle.topo_io.specs.Sound.{HasPoints}
+use Rattle.geojson_io.specs.Sound.{HasPoints}
 use Rattle.topo_io.proofs.ReadLemmas.{IsKeptTo, all_kept, kept_stops, none_kept, one_kept_more, passes_on}
 use Rattle.topo_io.proofs.reading.shapes.several_lines.Goals as goal
 

@@ -1,5 +1,5 @@
 use Rattle.std.proofs.Common.{All}
-use Rattle.topo_io.specs.Sound.{HasPoints}
+use Rattle.geojson_io.specs.Sound.{HasPoints}
 use Rattle.topo_io.specs.Stitching.{has_points, path_of}
 use Rattle.topo_io.proofs.ReadLemmas.{IsKeptTo}
 use Rattle.topo_io.proofs.reading.shapes.several_lines.Given as goal

@@ -5,7 +5,7 @@ use Rattle.json_read.specs.Seen.{json_value}
 use Rattle.plane_model.specs.Drawing.{Polygon}
 use Rattle.geojson_io.specs.Geometries.{has_rings}
 use Rattle.topo_io.specs.Shapes.{polygon_of, several_polygons}
-use Rattle.topo_io.specs.Sound.{IsRing}
+use Rattle.geojson_io.specs.Sound.{IsRing}
 use Rattle.topo_io.proofs.ReadLemmas.{IsKeptTo, all_kept, kept_stops, none_kept, one_kept_more, passes_on}
 use Rattle.topo_io.proofs.reading.shapes.several_polygons.Goals as goal
 

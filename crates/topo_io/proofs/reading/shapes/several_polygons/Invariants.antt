@@ -1,7 +1,7 @@
 use Rattle.std.proofs.Common.{All}
 use Rattle.geojson_io.specs.Geometries.{has_rings}
 use Rattle.topo_io.specs.Shapes.{polygon_of}
-use Rattle.topo_io.specs.Sound.{IsRing}
+use Rattle.geojson_io.specs.Sound.{IsRing}
 use Rattle.topo_io.proofs.ReadLemmas.{IsKeptTo}
 use Rattle.topo_io.proofs.reading.shapes.several_polygons.Given as goal
 

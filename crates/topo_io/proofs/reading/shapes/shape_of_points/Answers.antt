@@ -1,6 +1,6 @@
 use Rattle.std.proofs.Common.{sym, subst}
-use Rattle.topo_io.specs.Sound.{ShapeIsSound}
-use Rattle.topo_io.proofs.SoundLemmas.{sound_points}
+use Rattle.geojson_io.specs.Sound.{ShapeIsSound}
+use Rattle.geojson_io.proofs.SoundLemmas.{sound_points}
 use Rattle.topo_io.proofs.reading.shapes.shape_of_points.Goals as goal
 
 pub returns : goal.returns

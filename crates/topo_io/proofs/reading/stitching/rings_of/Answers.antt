@@ -4,7 +4,7 @@ use Rattle.std.proofs.lemmas.Result.{err_from_is_err_and}
 use Rattle.json_read.specs.Seen.{json_value}
 use Rattle.plane_model.specs.Points.{Path}
 use Rattle.topo_io.specs.Stitching.{has_points, ring_of, rings_of}
-use Rattle.topo_io.specs.Sound.{IsRing}
+use Rattle.geojson_io.specs.Sound.{IsRing}
 use Rattle.topo_io.proofs.ReadLemmas.{IsKeptTo, all_kept, kept_stops, none_kept, one_kept_more, passes_on}
 use Rattle.topo_io.proofs.reading.stitching.rings_of.Goals as goal
 

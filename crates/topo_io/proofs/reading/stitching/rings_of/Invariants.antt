@@ -1,5 +1,5 @@
 use Rattle.std.proofs.Common.{All}
-use Rattle.topo_io.specs.Sound.{IsRing}
+use Rattle.geojson_io.specs.Sound.{IsRing}
 use Rattle.topo_io.specs.Stitching.{has_points, ring_of}
 use Rattle.topo_io.proofs.ReadLemmas.{IsKeptTo}
 use Rattle.topo_io.proofs.reading.stitching.rings_of.Given as goal

@@ -1,17 +1,17 @@
 -- What is read is fit to be drawn: no path is empty, and rings end where they start.
-use Rattle.std.specs.Prelude.{◌≡◌, ◌<◌, true, All, length}
+use Rattle.std.specs.Prelude.{◌≢◌, [], All}
 use Rattle.plane_model.specs.Points.{Path}
-use Rattle.geojson_io.specs.Positions.{is_closed}
+use Rattle.plane_model.specs.Joined.{IsClosed}
 use Rattle.geojson_io.specs.LayerContent.{LayerContent}
 use Rattle.geojson_io.specs.declared.shape.GeoShape.{GeoShape}
 use Rattle.geojson_io.specs.declared.shape.GeoShape.TheVariants.{Nothing, Polygons, Lines, Points}
 use Rattle.geojson_io.specs.declared.reading.features.Feature.{Feature}
 
 abbrev pub HasPoints : Path → Type 0
-HasPoints path = 0 < length path
+HasPoints path = path ≢ []
 
 abbrev pub IsRing : Path → Type 0
-IsRing path = HasPoints path × (is_closed path ≡ true)
+IsRing path = HasPoints path × IsClosed path
 
 abbrev pub ShapeIsSound : GeoShape → Type 0
 ShapeIsSound Nothing = Unit {0}
