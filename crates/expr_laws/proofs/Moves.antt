@@ -82,35 +82,16 @@ begins_at {n} {k = k} m p at token.False y o e f h s = there n (operator, k) y _
 begins_at {n} {k = k} m p at token.Null y o e f h s = there n (operator, k) y _ s (one_operand p (at, token.Null) o f h (_, atom (leaf refl)))
 begins_at {n} {k = k} m p at token.This y o e f h s = there n (behind_this, k) y _ s (at_member behind_this p (front.this at ∷ []) o (longer _ _ p (at, token.This) f) h (front.a_this at))
 begins_at {n} {k = k} m p at (token.Name u) y o e f h s = there n (operator, k) y _ s (one_operand p (at, token.Name u) o f h (_, atom (leaf refl)))
-begins_at m p at (token.Operator op.Either) y o e f h s = cc
-begins_at m p at (token.Operator op.Both) y o e f h s = cc
-begins_at m p at (token.Operator op.Same) y o e f h s = cc
-begins_at m p at (token.Operator op.NotSame) y o e f h s = cc
-begins_at m p at (token.Operator op.Equal) y o e f h s = cc
-begins_at m p at (token.Operator op.NotEqual) y o e f h s = cc
-begins_at m p at (token.Operator op.AtMost) y o e f h s = cc
-begins_at m p at (token.Operator op.AtLeast) y o e f h s = cc
-begins_at m p at (token.Operator op.Less) y o e f h s = cc
-begins_at m p at (token.Operator op.Greater) y o e f h s = cc
-begins_at m p at (token.Operator op.Plus) y o e f h s = cc
 begins_at {n} {b} {k = k} m p at (token.Operator op.Minus) y o e f h s =
     let d : Deeper (levels k + m) n (operand (suc m), k) y = deeper n (levels k + m) (operand (suc m)) k y s in
     there n (operand (suc m), k) y _ d.same (one_sign b at (token.Operator op.Minus) _ p refl d.below o e f h)
-begins_at m p at (token.Operator op.Times) y o e f h s = cc
 begins_at {n} {b} {k = k} m p at (token.Mark mark.Not) y o e f h s =
     let d : Deeper (levels k + m) n (operand (suc m), k) y = deeper n (levels k + m) (operand (suc m)) k y s in
     there n (operand (suc m), k) y _ d.same (one_sign b at (token.Mark mark.Not) _ p refl d.below o e f h)
 begins_at {n} {b} {k = k} m p at (token.Mark mark.Open) y o e f h s =
     let d : Deeper (levels k + m) n (operand 0, in_parentheses m ∷ k) y = deeper n (levels k + m) (operand 0) (in_parentheses m ∷ k) y s in
     there n (operand 0, in_parentheses m ∷ k) y _ d.same (parenthesis b at p d.below o e f h)
-begins_at m p at (token.Mark mark.Close) y o e f h s = cc
-begins_at m p at (token.Mark mark.Question) y o e f h s = cc
-begins_at m p at (token.Mark mark.Colon) y o e f h s = cc
-begins_at m p at (token.Mark mark.Dot) y o e f h s = cc
-begins_at m p at (token.Mark mark.OpenBracket) y o e f h s = cc
-begins_at m p at (token.Mark mark.CloseBracket) y o e f h s = cc
-begins_at m p at token.Other y o e f h s = cc
-begins_at m p at token.Stray y o e f h s = cc
+begins_at m p at _ y o e f h s = cc
 
 -- ---- behind an operand
 
@@ -142,26 +123,13 @@ close_at (first q o e f i) s at y g x h = cc
 close_at (last q o e f i) s at y g x h = close_at o (q ++ s) at y (rw (g, f) (simp append_assoc)) (i s x) h
 
 goes_on_at : {n c : ℕ} {k : List Open} {base front : Toks} (s : Toks) (at : ℕ) (t : Token) (y : Spot) → Opened n k c base → front ≡ base ++ s → Operands c s → step n operator k t ≡ Some y → AtSpot n y (front ++ (at, t) ∷ [])
-goes_on_at s at (token.Number u) y o f h g = cc
-goes_on_at s at (token.Text u) y o f h g = cc
-goes_on_at s at token.True y o f h g = cc
-goes_on_at s at token.False y o f h g = cc
-goes_on_at s at token.Null y o f h g = cc
-goes_on_at s at token.This y o f h g = cc
-goes_on_at s at (token.Name u) y o f h g = cc
 goes_on_at {n} {c} {k} s at (token.Operator p) y o f h g = there n (operand 0, k) y _ g (at_operand (s ++ (at, token.Operator p) ∷ []) o (omega arith) (longer _ _ s (at, token.Operator p) f) (operator_before c at p s h))
-goes_on_at s at (token.Mark mark.Not) y o f h g = cc
-goes_on_at s at (token.Mark mark.Open) y o f h g = cc
 goes_on_at {n} {c} s at (token.Mark mark.Close) y o f h g = close_at o s at y f (condition_of c s h) g
 goes_on_at {n} {c} {k} s at (token.Mark mark.Question) y o f h g =
     let d : Deeper (levels k) n (operand 0, first_branch ∷ k) y = deeper n (levels k) (operand 0) (first_branch ∷ k) y g in
     there n (operand 0, first_branch ∷ k) y _ d.same (question c at s d.below o f h)
 goes_on_at {n} {c} s at (token.Mark mark.Colon) y o f h g = colon_at o s at y f (condition_of c s h) g
-goes_on_at s at (token.Mark mark.Dot) y o f h g = cc
-goes_on_at s at (token.Mark mark.OpenBracket) y o f h g = cc
-goes_on_at s at (token.Mark mark.CloseBracket) y o f h g = cc
-goes_on_at s at token.Other y o f h g = cc
-goes_on_at s at token.Stray y o f h g = cc
+goes_on_at s at _ y o f h g = cc
 
 -- ---- in this.id and this.properties["name"]
 

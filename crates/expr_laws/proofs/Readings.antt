@@ -1,7 +1,8 @@
 -- What the machine answers for a text of tokens: a tree, or where the text is stuck.
-use Rattle.std.proofs.Common.{ℕ, suc, ◌≡◌, ◌⊎◌, inl, inr, List, [], ◌∷◌, ◌++◌, Some, None, refl, ap, ◌∙◌, sym, subst, append_assoc, arith}
+use Rattle.std.proofs.Common.{ℕ, suc, ◌≡◌, List, [], ◌∷◌, ◌++◌, Some, None, refl, ap, ◌∙◌, sym, subst, append_assoc, arith}
 use Rattle.expr_lang.specs.declared.parser.Misfit.{Misfit}
 use Rattle.expr_lang.specs.declared.parser.Misfit.TheVariants.{TooDeep, Unfit}
+use Rattle.expr_lang.specs.Tree.{Tree}
 use Rattle.expr_lang.specs.Grammar.{Placed, Toks, Cond}
 use Rattle.expr_lang.specs.Machine.{Place, Open, Moves, Outcome, accepted, stopped, run, step, at_end, ends, operand}
 use Rattle.expr_lang.specs.Stuck.{GoesOn, Stuck}
@@ -62,23 +63,13 @@ run_tells (t ∷ ts) n p k front a b = go (step n p k t.1) refl (λ q l a' b'. r
 at_start : (n : ℕ) → At n (operand 0) [] []
 at_start n = at_operand [] (nothing refl refl) (omega arith) refl (λ u h. operands_of n u h)
 
--- tokens are an expression, or stuck
-pub record IsStuck (n : ℕ) (tokens : Toks) : Type 0 where
-  pub front : Toks
-  pub left : Toks
-  pub misfit : Misfit
-  pub cut : tokens ≡ front ++ left
-  pub stuck : Stuck n misfit front left
+tells : (n : ℕ) (tokens : Toks) (r : Outcome) → run n (operand 0) [] tokens ≡ r → Tells n tokens r
+tells n tokens r e = subst (Tells n tokens) e (run_tells tokens n (operand 0) [] [] (at_start n) (at_start (suc n)))
 
-pub tree_or_stuck : (n : ℕ) (tokens : Toks) → Condition n tokens ⊎ IsStuck n tokens
-tree_or_stuck n tokens = go (run n (operand 0) [] tokens) refl (run_tells tokens n (operand 0) [] [] (at_start n) (at_start (suc n)))
-  where
-    go : (r : Outcome) → run n (operand 0) [] tokens ≡ r → Tells n tokens r → Condition n tokens ⊎ IsStuck n tokens
-    go accepted e h = inl h
-    go (stopped m left) e h = inr (record {
-      front = h.front;
-      left = left;
-      misfit = m;
-      cut = h.cut;
-      stuck = stuck n m h.front left h.goes_on.0 h.goes_on.1 h.goes_on.2 (ap (run n (operand 0) []) (sym h.cut) ∙ e) h.deeper;
-    })
+pub accepted_tree : (n : ℕ) (tokens : Toks) → run n (operand 0) [] tokens ≡ accepted → (e : Tree) × Cond n tokens e
+accepted_tree n tokens e = tells n tokens accepted e
+
+pub stopped_stuck : (n : ℕ) (tokens : Toks) (m : Misfit) (left : Toks) → run n (operand 0) [] tokens ≡ stopped m left → (front : Toks) × (tokens ≡ front ++ left) × Stuck n m front left
+stopped_stuck n tokens m left e =
+    let h : Halted n m tokens left = tells n tokens (stopped m left) e in
+    (h.front, h.cut, stuck n m h.front left h.goes_on.0 h.goes_on.1 h.goes_on.2 (ap (run n (operand 0) []) (sym h.cut) ∙ e) h.deeper)
