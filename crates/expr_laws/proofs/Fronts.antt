@@ -1,0 +1,127 @@
+-- Fronts of expressions at each place of the machine: what was read there, and what is open around it.
+use Rattle.std.proofs.Common.{ℕ, suc, ◌≡◌, ◌+◌, List, [], ◌∷◌, ◌++◌, codes, refl, ap, ◌∙◌, sym, subst, append_assoc, arith}
+use Rattle.expr_lang.specs.declared.token.Mark.TheVariants as mark
+use Rattle.expr_lang.specs.declared.token.Token.TheVariants as token
+use Rattle.expr_lang.specs.Tree.{column, feature_number}
+use Rattle.expr_lang.specs.Grammar.{Placed, Toks, Cond, atom, leaf, this_id, this_property}
+use Rattle.expr_lang.specs.Machine.{Place, Open, levels, operand, operator, behind_this, behind_dot, behind_properties, behind_bracket, behind_name, in_parentheses, first_branch, last_branch}
+use Rattle.expr_lang.specs.Stuck.{GoesOn}
+use Rattle.expr_lang.proofs.Parts.{append_nil}
+use Rattle.expr_laws.proofs.Trees.{Condition, Operands, Operand, condition_of, operands_of}
+
+-- with an operand of b levels behind them, the tokens are operands of c levels
+abbrev pub Begins : ℕ → ℕ → Toks → Type 0
+Begins c b p = (u : Toks) → Operand b u → Operands c (p ++ u)
+
+-- with a condition and a parenthesis behind them
+abbrev pub Encloses : ℕ → ℕ → Toks → Type 0
+Encloses c d q = (s : Toks) (at : ℕ) → Condition d s → Operands c (q ++ (s ++ (at, token.Mark mark.Close) ∷ []))
+
+-- with two branches behind them
+abbrev pub Chooses : ℕ → ℕ → Toks → Type 0
+Chooses c d q = (s t : Toks) (at : ℕ) → Condition d s → Condition d t → Condition c (q ++ (s ++ (at, token.Mark mark.Colon) ∷ t))
+
+-- with a last branch behind them
+abbrev pub Continues : ℕ → ℕ → Toks → Type 0
+Continues c d q = (s : Toks) → Condition d s → Condition c (q ++ s)
+
+-- a front of a text of n levels, behind which a condition of d levels stands, by what is open there
+pub data Opened (n : ℕ) : List Open → ℕ → Toks → Type 0 where
+  nothing : {d : ℕ} {front : Toks} → d ≡ n → front ≡ [] → Opened n [] d front
+  inside : {m c d : ℕ} {k : List Open} {base front : Toks} (q : Toks)
+      → Opened n k c base → c ≡ suc (m + d) → front ≡ base ++ q → Encloses c d q → Opened n (in_parentheses m ∷ k) d front
+  first : {c d : ℕ} {k : List Open} {base front : Toks} (q : Toks)
+      → Opened n k c base → c ≡ suc d → front ≡ base ++ q → Chooses c d q → Opened n (first_branch ∷ k) d front
+  last : {c d : ℕ} {k : List Open} {base front : Toks} (q : Toks)
+      → Opened n k c base → c ≡ suc d → front ≡ base ++ q → Continues c d q → Opened n (last_branch ∷ k) d front
+
+abbrev pub this : ℕ → Placed
+this at = (at, token.This)
+
+abbrev pub dot : ℕ → Placed
+dot at = (at, token.Mark mark.Dot)
+
+abbrev pub id : ℕ → Placed
+id at = (at, token.Name (codes "id"))
+
+abbrev pub properties : ℕ → Placed
+properties at = (at, token.Name (codes "properties"))
+
+abbrev pub bracket : ℕ → Placed
+bracket at = (at, token.Mark mark.OpenBracket)
+
+abbrev pub end : ℕ → Placed
+end at = (at, token.Mark mark.CloseBracket)
+
+-- what was read of this.id and this.properties["name"] at a place within
+pub data Member : Place → Toks → Type 0 where
+  a_this : (at : ℕ) → Member behind_this (this at ∷ [])
+  a_dot : (at b : ℕ) → Member behind_dot (this at ∷ dot b ∷ [])
+  a_properties : (at b c : ℕ) → Member behind_properties (this at ∷ dot b ∷ properties c ∷ [])
+  a_bracket : (at b c d : ℕ) → Member behind_bracket (this at ∷ dot b ∷ properties c ∷ bracket d ∷ [])
+  a_name : (at b c d e : ℕ) (s : List ℕ) → Member behind_name (this at ∷ dot b ∷ properties c ∷ bracket d ∷ (e, token.Text s) ∷ [])
+
+-- a front of a text of n levels, at a place
+pub data At (n : ℕ) : Place → List Open → Toks → Type 0 where
+  at_operand : {m b c : ℕ} {k : List Open} {base front : Toks} (p : Toks)
+      → Opened n k c base → c ≡ m + b → front ≡ base ++ p → Begins c b p → At n (operand m) k front
+  at_operator : {c : ℕ} {k : List Open} {base front : Toks} (s : Toks)
+      → Opened n k c base → front ≡ base ++ s → Operands c s → At n operator k front
+  at_member : {b c : ℕ} {k : List Open} {base front : Toks} (place : Place) (p w : Toks)
+      → Opened n k c base → front ≡ base ++ (p ++ w) → Begins c b p → Member place w → At n place k front
+
+pub levels_are : {n d : ℕ} {k : List Open} {front : Toks} → Opened n k d front → levels k + d ≡ n
+levels_are (nothing e f) = omega arith
+levels_are (inside q o e f h) = omega (arith, levels_are o)
+levels_are (first q o e f h) = omega (arith, levels_are o)
+levels_are (last q o e f h) = omega (arith, levels_are o)
+
+-- ---- each front begins an expression
+
+a_name_there : (b : ℕ) → Operand b ((0, token.Name []) ∷ [])
+a_name_there b = (column 0 [], atom (leaf refl))
+
+a_branch : (n : ℕ) → Condition n ((0, token.Name []) ∷ [])
+a_branch n = condition_of n ((0, token.Name []) ∷ []) (operands_of n ((0, token.Name []) ∷ []) (a_name_there n))
+
+-- what is open is closed
+pub finished : {n d : ℕ} {k : List Open} {base : Toks} → Opened n k d base → (s : Toks) → Condition d s → (more : Toks) × Condition n ((base ++ s) ++ more)
+finished {n} (nothing {front = front} e f) s c =
+    ([], (c.0, subst (λ (z : Toks). Cond n z c.0) (sym (append_nil (front ++ s) ∙ ap (λ (z : Toks). z ++ s) f)) (subst (λ (x : ℕ). Cond x s c.0) e c.1)))
+finished {n} (inside {c = c} {base = base} {front = front} q o e f h) s cs =
+    let text : Toks = q ++ (s ++ (0, token.Mark mark.Close) ∷ []) in
+    let r : (more : Toks) × Condition n ((base ++ text) ++ more) = finished o text (condition_of c text (h s 0 cs)) in
+    let same : (base ++ text) ++ r.0 ≡ (front ++ s) ++ (0, token.Mark mark.Close) ∷ r.0 = rw f (simp append_assoc) in
+    ((0, token.Mark mark.Close) ∷ r.0, subst (Condition n) same r.1)
+finished {n} (first {d = d} {base = base} {front = front} q o e f h) s cs =
+    let branch : Toks = (0, token.Name []) ∷ [] in
+    let text : Toks = q ++ (s ++ (0, token.Mark mark.Colon) ∷ branch) in
+    let r : (more : Toks) × Condition n ((base ++ text) ++ more) = finished o text (h s branch 0 cs (a_branch d)) in
+    let same : (base ++ text) ++ r.0 ≡ (front ++ s) ++ (0, token.Mark mark.Colon) ∷ (branch ++ r.0) = rw f (simp append_assoc) in
+    ((0, token.Mark mark.Colon) ∷ (branch ++ r.0), subst (Condition n) same r.1)
+finished {n} (last {base = base} {front = front} q o e f h) s cs =
+    let r : (more : Toks) × Condition n ((base ++ (q ++ s)) ++ more) = finished o (q ++ s) (h s cs) in
+    let same : (base ++ (q ++ s)) ++ r.0 ≡ (front ++ s) ++ r.0 = rw f (simp append_assoc) in
+    (r.0, subst (Condition n) same r.1)
+
+-- with operands behind what was open
+operands_finish : {n c : ℕ} {k : List Open} {base : Toks} (front more : Toks) → Opened n k c base → (s : Toks) → Operands c s → base ++ s ≡ front ++ more → GoesOn n front
+operands_finish {n} {c} {base = base} front more o s h e =
+    let r : (rest : Toks) × Condition n ((base ++ s) ++ rest) = finished o s (condition_of c s h) in
+    (more ++ r.0, r.1.0, subst (λ (z : Toks). Cond n z r.1.0) (ap (λ (z : Toks). z ++ r.0) e ∙ append_assoc front more r.0) r.1.1)
+
+member_ends : {place : Place} {w : Toks} (b : ℕ) → Member place w → (more : Toks) × Operand b (w ++ more)
+member_ends b (a_this at) = (dot 0 ∷ id 0 ∷ [], (feature_number, atom this_id))
+member_ends b (a_dot at x) = (id 0 ∷ [], (feature_number, atom this_id))
+member_ends b (a_properties at x y) = (bracket 0 ∷ (0, token.Text []) ∷ end 0 ∷ [], (column at [], atom this_property))
+member_ends b (a_bracket at x y z) = ((0, token.Text []) ∷ end 0 ∷ [], (column at [], atom this_property))
+member_ends b (a_name at x y z v s) = (end 0 ∷ [], (column at s, atom this_property))
+
+pub goes_on_there : {n : ℕ} {p : Place} {k : List Open} {front : Toks} → At n p k front → GoesOn n front
+goes_on_there (at_operand {b = b} {base = base} {front = front} p o e f h) =
+    let branch : Toks = (0, token.Name []) ∷ [] in
+    operands_finish front branch o (p ++ branch) (h branch (a_name_there b)) (rw f (simp append_assoc))
+goes_on_there (at_operator {base = base} {front = front} s o f h) = operands_finish front [] o s h (sym (append_nil front ∙ f))
+goes_on_there (at_member {b = b} {base = base} {front = front} place p w o f h m) =
+    let r : (more : Toks) × Operand b (w ++ more) = member_ends b m in
+    operands_finish front r.0 o (p ++ (w ++ r.0)) (h (w ++ r.0) r.1) (rw f (simp append_assoc))

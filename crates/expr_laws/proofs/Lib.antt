@@ -1,0 +1,6 @@
+pub mod Trees
+pub mod Fronts
+pub mod Moves
+pub mod Readings
+pub mod Faults
+pub mod OneFault

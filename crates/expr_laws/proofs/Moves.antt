@@ -1,0 +1,221 @@
+-- A move of the machine takes a front of an expression to a longer one.
+use Rattle.std.proofs.Common.{ℕ, zero, suc, ◌≡◌, ◌+◌, ◌<◌, Bool, true, false, List, [], ◌∷◌, ◌++◌, codes, Some, None, refl, ap, ◌∙◌, sym, subst, append_assoc, arith}
+use Rattle.std.proofs.lemmas.Bool.Decides.{nat_tests}
+use Rattle.std.proofs.lemmas.Slice.Eq.{bytes_eq-Decides}
+use Rattle.std.specs.Prelude.{nat_lt, if◌then◌else◌}
+use Rattle.std.specs.Str.{bytes_eq}
+use Rattle.expr_lang.specs.declared.token.Operator.{Operator}
+use Rattle.expr_lang.specs.declared.token.Operator.TheVariants as op
+use Rattle.expr_lang.specs.declared.token.Sign.{Sign}
+use Rattle.expr_lang.specs.declared.token.Mark.TheVariants as mark
+use Rattle.expr_lang.specs.declared.token.Token.{Token}
+use Rattle.expr_lang.specs.declared.token.Token.TheVariants as token
+use Rattle.expr_lang.specs.declared.parser.Misfit.TheVariants.{TooDeep}
+use Rattle.expr_lang.specs.Tree.{unary, feature_number, column}
+use Rattle.expr_lang.specs.Grammar.{Placed, Toks, Unary, atom, signed, leaf, this_id, this_property, enclosed, sign_of}
+use Rattle.expr_lang.specs.Machine.{Place, Open, levels, opens, colon, close, step, misfit_of, operand, operator, behind_this, behind_dot, behind_properties, behind_bracket, behind_name, in_parentheses, first_branch, last_branch}
+use Rattle.expr_lang.proofs.Parts.{append_nil}
+use Rattle.expr_lang.proofs.Steps.{opens_more}
+use Rattle.expr_laws.proofs.Trees.{Condition, Operands, Operand, condition_of, operands_of, operands_on, choice_of}
+use Rattle.expr_laws.proofs.Fronts as front
+use Rattle.expr_laws.proofs.Fronts.{Begins, Encloses, Chooses, Continues, Opened, inside, first, last, Member, At, at_operand, at_operator, at_member, levels_are}
+
+-- where the machine goes
+abbrev Spot : Type 0
+Spot = Place × List Open
+
+-- at the spot that a move leads to
+abbrev AtSpot : ℕ → Spot → Toks → Type 0
+AtSpot n x text = At n x.0 x.1 text
+
+same_spot : (x y : Spot) → Some x ≡ Some y → x ≡ y
+same_spot x y e = cc
+
+there : (n : ℕ) (x y : Spot) (text : Toks) → Some x ≡ Some y → AtSpot n x text → AtSpot n y text
+there n x y text e h = subst (λ (z : Spot). AtSpot n z text) (same_spot x y e) h
+
+-- a level was open, and the machine goes there
+record Deeper (now n : ℕ) (x y : Spot) : Type 0 where
+  below : now < n
+  same : Some x ≡ Some y
+
+deeper : (n now : ℕ) (p : Place) (k : List Open) (y : Spot) → opens n now p k ≡ Some y → Deeper now n (p, k) y
+deeper n now p k y e = go (nat_lt now n) refl
+  where
+    go : (t : Bool) → nat_lt now n ≡ t → Deeper now n (p, k) y
+    go true h = record { below = grind (arith, nat_tests); same = ap (λ (t : Bool). if t then Some (p, k) else None) (sym h) ∙ e }
+    go false h = let no : None ≡ Some y = ap (λ (t : Bool). if t then Some (p, k) else None) (sym h) ∙ e in cc
+
+-- with no token before it an operand stands by itself
+alone : (n : ℕ) → Begins n n []
+alone n = λ u h. operands_of n u h
+
+longer : (base front p : Toks) (t : Placed) → front ≡ base ++ p → front ++ t ∷ [] ≡ base ++ (p ++ t ∷ [])
+longer base front p t f = rw f (simp append_assoc)
+
+-- ---- before an operand
+
+-- a whole operand
+one_operand : {n b c : ℕ} {k : List Open} {base front : Toks} (p : Toks) (t : Placed) → Opened n k c base → front ≡ base ++ p → Begins c b p → Operand b (t ∷ []) → At n operator k (front ++ t ∷ [])
+one_operand p t o f h u = at_operator (p ++ t ∷ []) o (longer _ _ p t f) (h (t ∷ []) u)
+
+sign_before : (c b at : ℕ) (t : Token) (s : Sign) (p : Toks) → sign_of t ≡ Some s → Begins c (suc b) p → Begins c b (p ++ (at, t) ∷ [])
+sign_before c b at t s p g h = λ u x. subst (Operands c) (sym (append_assoc p ((at, t) ∷ []) u)) (h ((at, t) ∷ u) (unary at s x.0, signed g x.1))
+
+one_sign : {n m c : ℕ} {k : List Open} {base front : Toks} (b at : ℕ) (t : Token) (s : Sign) (p : Toks) → sign_of t ≡ Some s → levels k + m < n → Opened n k c base → c ≡ m + b → front ≡ base ++ p → Begins c b p → At n (operand (suc m)) k (front ++ (at, t) ∷ [])
+one_sign zero at t s p g l o e f h = absurd (omega (arith, levels_are o))
+one_sign {c = c} (suc b) at t s p g l o e f h = at_operand (p ++ (at, t) ∷ []) o (omega arith) (longer _ _ p (at, t) f) (sign_before c b at t s p g h)
+
+encloses : (c b at : ℕ) (p : Toks) → Begins c (suc b) p → Encloses c b (p ++ (at, token.Mark mark.Open) ∷ [])
+encloses c b at p h = λ s to x. subst (Operands c) (sym (append_assoc p ((at, token.Mark mark.Open) ∷ []) (s ++ (to, token.Mark mark.Close) ∷ []))) (h ((at, token.Mark mark.Open) ∷ (s ++ (to, token.Mark mark.Close) ∷ [])) (x.0, atom (enclosed to x.1)))
+
+parenthesis : {n m c : ℕ} {k : List Open} {base front : Toks} (b at : ℕ) (p : Toks) → levels k + m < n → Opened n k c base → c ≡ m + b → front ≡ base ++ p → Begins c b p → At n (operand 0) (in_parentheses m ∷ k) (front ++ (at, token.Mark mark.Open) ∷ [])
+parenthesis zero at p l o e f h = absurd (omega (arith, levels_are o))
+parenthesis {c = c} (suc b) at p l o e f h =
+    at_operand [] (inside (p ++ (at, token.Mark mark.Open) ∷ []) o (omega arith) (longer _ _ p (at, token.Mark mark.Open) f) (encloses c b at p h)) (omega arith) (sym (append_nil _)) (alone b)
+
+begins_at : {n b c : ℕ} {k : List Open} {base front : Toks} (m : ℕ) (p : Toks) (at : ℕ) (t : Token) (y : Spot) → Opened n k c base → c ≡ m + b → front ≡ base ++ p → Begins c b p → step n (operand m) k t ≡ Some y → AtSpot n y (front ++ (at, t) ∷ [])
+begins_at {n} {k = k} m p at (token.Number u) y o e f h s = there n (operator, k) y _ s (one_operand p (at, token.Number u) o f h (_, atom (leaf refl)))
+begins_at {n} {k = k} m p at (token.Text u) y o e f h s = there n (operator, k) y _ s (one_operand p (at, token.Text u) o f h (_, atom (leaf refl)))
+begins_at {n} {k = k} m p at token.True y o e f h s = there n (operator, k) y _ s (one_operand p (at, token.True) o f h (_, atom (leaf refl)))
+begins_at {n} {k = k} m p at token.False y o e f h s = there n (operator, k) y _ s (one_operand p (at, token.False) o f h (_, atom (leaf refl)))
+begins_at {n} {k = k} m p at token.Null y o e f h s = there n (operator, k) y _ s (one_operand p (at, token.Null) o f h (_, atom (leaf refl)))
+begins_at {n} {k = k} m p at token.This y o e f h s = there n (behind_this, k) y _ s (at_member behind_this p (front.this at ∷ []) o (longer _ _ p (at, token.This) f) h (front.a_this at))
+begins_at {n} {k = k} m p at (token.Name u) y o e f h s = there n (operator, k) y _ s (one_operand p (at, token.Name u) o f h (_, atom (leaf refl)))
+begins_at {n} {b} {k = k} m p at (token.Operator op.Minus) y o e f h s =
+    let d : Deeper (levels k + m) n (operand (suc m), k) y = deeper n (levels k + m) (operand (suc m)) k y s in
+    there n (operand (suc m), k) y _ d.same (one_sign b at (token.Operator op.Minus) _ p refl d.below o e f h)
+begins_at {n} {b} {k = k} m p at (token.Mark mark.Not) y o e f h s =
+    let d : Deeper (levels k + m) n (operand (suc m), k) y = deeper n (levels k + m) (operand (suc m)) k y s in
+    there n (operand (suc m), k) y _ d.same (one_sign b at (token.Mark mark.Not) _ p refl d.below o e f h)
+begins_at {n} {b} {k = k} m p at (token.Mark mark.Open) y o e f h s =
+    let d : Deeper (levels k + m) n (operand 0, in_parentheses m ∷ k) y = deeper n (levels k + m) (operand 0) (in_parentheses m ∷ k) y s in
+    there n (operand 0, in_parentheses m ∷ k) y _ d.same (parenthesis b at p d.below o e f h)
+begins_at m p at _ y o e f h s = cc
+
+-- ---- behind an operand
+
+operator_before : (c at : ℕ) (o : Operator) (s : Toks) → Operands c s → Begins c c (s ++ (at, token.Operator o) ∷ [])
+operator_before c at o s h = λ u x. subst (Operands c) (sym (append_assoc s ((at, token.Operator o) ∷ []) u)) (operands_on c at o s u h x)
+
+chooses : (d at : ℕ) (s : Toks) → Operands (suc d) s → Chooses (suc d) d (s ++ (at, token.Mark mark.Question) ∷ [])
+chooses d at s h = λ t u to x y. subst (Condition (suc d)) (sym (append_assoc s ((at, token.Mark mark.Question) ∷ []) (t ++ (to, token.Mark mark.Colon) ∷ u))) (choice_of d at to s t u h x y)
+
+question : {n : ℕ} {k : List Open} {base front : Toks} (c at : ℕ) (s : Toks) → levels k < n → Opened n k c base → front ≡ base ++ s → Operands c s → At n (operand 0) (first_branch ∷ k) (front ++ (at, token.Mark mark.Question) ∷ [])
+question zero at s l o f h = absurd (omega (arith, levels_are o))
+question (suc d) at s l o f h = at_operand [] (first (s ++ (at, token.Mark mark.Question) ∷ []) o refl (longer _ _ s (at, token.Mark mark.Question) f) (chooses d at s h)) (omega arith) (sym (append_nil _)) (alone d)
+
+last_from : (c d at : ℕ) (q s : Toks) → Chooses c d q → Condition d s → Continues c d (q ++ (s ++ (at, token.Mark mark.Colon) ∷ []))
+last_from c d at q s h x = λ t y. subst (Condition c) (sym (append_assoc q (s ++ (at, token.Mark mark.Colon) ∷ []) t ∙ ap (λ (z : Toks). q ++ z) (append_assoc s ((at, token.Mark mark.Colon) ∷ []) t))) (h s t at x y)
+
+colon_at : {n d : ℕ} {k : List Open} {base front : Toks} → Opened n k d base → (s : Toks) (at : ℕ) (y : Spot) → front ≡ base ++ s → Condition d s → colon k ≡ Some y → AtSpot n y (front ++ (at, token.Mark mark.Colon) ∷ [])
+colon_at (front.nothing e f) s at y g x h = cc
+colon_at (inside q o e f i) s at y g x h = cc
+colon_at {n} {front = w} (first {c = c} {d = d} {k = k} {base = base} q o e f i) s at y g x h =
+    let same : w ++ (at, token.Mark mark.Colon) ∷ [] ≡ base ++ (q ++ (s ++ (at, token.Mark mark.Colon) ∷ [])) = rw (g, f) (simp append_assoc) in
+    there n (operand 0, last_branch ∷ k) y _ h (at_operand [] (last (q ++ (s ++ (at, token.Mark mark.Colon) ∷ [])) o e same (last_from c d at q s i x)) (omega arith) (sym (append_nil _)) (alone d))
+colon_at (last q o e f i) s at y g x h = colon_at o (q ++ s) at y (rw (g, f) (simp append_assoc)) (i s x) h
+
+close_at : {n d : ℕ} {k : List Open} {base front : Toks} → Opened n k d base → (s : Toks) (at : ℕ) (y : Spot) → front ≡ base ++ s → Condition d s → close k ≡ Some y → AtSpot n y (front ++ (at, token.Mark mark.Close) ∷ [])
+close_at (front.nothing e f) s at y g x h = cc
+close_at {n} (inside {k = k} q o e f i) s at y g x h = there n (operator, k) y _ h (at_operator (q ++ (s ++ (at, token.Mark mark.Close) ∷ [])) o (rw (g, f) (simp append_assoc)) (i s at x))
+close_at (first q o e f i) s at y g x h = cc
+close_at (last q o e f i) s at y g x h = close_at o (q ++ s) at y (rw (g, f) (simp append_assoc)) (i s x) h
+
+goes_on_at : {n c : ℕ} {k : List Open} {base front : Toks} (s : Toks) (at : ℕ) (t : Token) (y : Spot) → Opened n k c base → front ≡ base ++ s → Operands c s → step n operator k t ≡ Some y → AtSpot n y (front ++ (at, t) ∷ [])
+goes_on_at {n} {c} {k} s at (token.Operator p) y o f h g = there n (operand 0, k) y _ g (at_operand (s ++ (at, token.Operator p) ∷ []) o (omega arith) (longer _ _ s (at, token.Operator p) f) (operator_before c at p s h))
+goes_on_at {n} {c} s at (token.Mark mark.Close) y o f h g = close_at o s at y f (condition_of c s h) g
+goes_on_at {n} {c} {k} s at (token.Mark mark.Question) y o f h g =
+    let d : Deeper (levels k) n (operand 0, first_branch ∷ k) y = deeper n (levels k) (operand 0) (first_branch ∷ k) y g in
+    there n (operand 0, first_branch ∷ k) y _ d.same (question c at s d.below o f h)
+goes_on_at {n} {c} s at (token.Mark mark.Colon) y o f h g = colon_at o s at y f (condition_of c s h) g
+goes_on_at s at _ y o f h g = cc
+
+-- ---- in this.id and this.properties["name"]
+
+-- one token more of it, or its last
+data MemberMoves (k : List Open) (y : Spot) (w : Toks) : Type 0 where
+  within : (q : Place) → Some (q, k) ≡ Some y → Member q w → MemberMoves k y w
+  whole : Some (operator, k) ≡ Some y → ((b : ℕ) → Operand b w) → MemberMoves k y w
+
+name_there : (s : List ℕ) (w : List ℕ) → bytes_eq s w ≡ true → s ≡ w
+name_there s w e = (bytes_eq-Decides s w).0 e
+
+member_at : (k : List Open) (y : Spot) (at b c : ℕ) (s : List ℕ) → step 0 behind_dot k (token.Name s) ≡ Some y → MemberMoves k y (front.this at ∷ front.dot b ∷ (c, token.Name s) ∷ [])
+member_at k y at b c s e = go (bytes_eq s (codes "id")) (bytes_eq s (codes "properties")) refl refl
+  where
+    go : (v w : Bool) → bytes_eq s (codes "id") ≡ v → bytes_eq s (codes "properties") ≡ w → MemberMoves k y (front.this at ∷ front.dot b ∷ (c, token.Name s) ∷ [])
+    go true w h g = whole (ap (λ (v : Bool). if v then Some (operator, k) else (if bytes_eq s (codes "properties") then Some (behind_properties, k) else None)) (sym h) ∙ e)
+        (λ n. (feature_number, subst (λ (z : List ℕ). Unary n (front.this at ∷ front.dot b ∷ (c, token.Name z) ∷ []) feature_number) (sym (name_there s (codes "id") h)) (atom this_id)))
+    go false true h g = within behind_properties
+        (ap (λ (w : Bool). if w then Some (behind_properties, k) else None) (sym g) ∙ ap (λ (v : Bool). if v then Some (operator, k) else (if bytes_eq s (codes "properties") then Some (behind_properties, k) else None)) (sym h) ∙ e)
+        (subst (λ (z : List ℕ). Member behind_properties (front.this at ∷ front.dot b ∷ (c, token.Name z) ∷ [])) (sym (name_there s (codes "properties") g)) (front.a_properties at b c))
+    go false false h g =
+        let no : None ≡ Some y = ap (λ (w : Bool). if w then Some (behind_properties, k) else None) (sym g) ∙ ap (λ (v : Bool). if v then Some (operator, k) else (if bytes_eq s (codes "properties") then Some (behind_properties, k) else None)) (sym h) ∙ e in
+        cc
+
+dot_at : (k : List Open) (y : Spot) (at b : ℕ) (t : Token) → step 0 behind_this k t ≡ Some y → MemberMoves k y (front.this at ∷ (b, t) ∷ [])
+dot_at k y at b (token.Mark mark.Dot) e = within behind_dot e (front.a_dot at b)
+dot_at k y at b _ e = cc
+
+bracket_at : (k : List Open) (y : Spot) (at b c d : ℕ) (t : Token) → step 0 behind_properties k t ≡ Some y → MemberMoves k y (front.this at ∷ front.dot b ∷ front.properties c ∷ (d, t) ∷ [])
+bracket_at k y at b c d (token.Mark mark.OpenBracket) e = within behind_bracket e (front.a_bracket at b c d)
+bracket_at k y at b c d _ e = cc
+
+text_at : (k : List Open) (y : Spot) (at b c d x : ℕ) (t : Token) → step 0 behind_bracket k t ≡ Some y → MemberMoves k y (front.this at ∷ front.dot b ∷ front.properties c ∷ front.bracket d ∷ (x, t) ∷ [])
+text_at k y at b c d x (token.Text s) e = within behind_name e (front.a_name at b c d x s)
+text_at k y at b c d x _ e = cc
+
+end_at : (k : List Open) (y : Spot) (at b c d x z : ℕ) (s : List ℕ) (t : Token) → step 0 behind_name k t ≡ Some y → MemberMoves k y (front.this at ∷ front.dot b ∷ front.properties c ∷ front.bracket d ∷ (x, token.Text s) ∷ (z, t) ∷ [])
+end_at k y at b c d x z s (token.Mark mark.CloseBracket) e = whole e (λ n. (column at s, atom this_property))
+end_at k y at b c d x z s _ e = cc
+
+name_at : (k : List Open) (y : Spot) (at b c : ℕ) (t : Token) → step 0 behind_dot k t ≡ Some y → MemberMoves k y (front.this at ∷ front.dot b ∷ (c, t) ∷ [])
+name_at k y at b c (token.Name s) e = member_at k y at b c s e
+name_at k y at b c _ e = cc
+
+member_moves : {place : Place} {w : Toks} (n : ℕ) (k : List Open) (at : ℕ) (t : Token) (y : Spot) → Member place w → step n place k t ≡ Some y → MemberMoves k y (w ++ (at, t) ∷ [])
+member_moves n k at t y (front.a_this b) e = dot_at k y b at t e
+member_moves n k at t y (front.a_dot b c) e = name_at k y b c at t e
+member_moves n k at t y (front.a_properties b c d) e = bracket_at k y b c d at t e
+member_moves n k at t y (front.a_bracket b c d x) e = text_at k y b c d x at t e
+member_moves n k at t y (front.a_name b c d x z s) e = end_at k y b c d x z at s t e
+
+member_goes : {n b c : ℕ} {k : List Open} {base front : Toks} (p w : Toks) (t : Placed) (y : Spot) → Opened n k c base → front ≡ base ++ (p ++ w) → Begins c b p → MemberMoves k y (w ++ t ∷ []) → AtSpot n y (front ++ t ∷ [])
+member_goes {n} {k = k} p w t y o f h (within q e m) = there n (q, k) y _ e (at_member q p (w ++ t ∷ []) o (rw f (simp append_assoc)) h m)
+member_goes {n} {b} {k = k} p w t y o f h (whole e u) = there n (operator, k) y _ e (at_operator (p ++ (w ++ t ∷ [])) o (rw f (simp append_assoc)) (h (w ++ t ∷ []) (u b)))
+
+-- ---- each move
+
+pub moves_to : {n : ℕ} {p : Place} {k : List Open} {front : Toks} (t : Placed) (y : Spot) → At n p k front → step n p k t.1 ≡ Some y → At n y.0 y.1 (front ++ t ∷ [])
+moves_to t y (at_operand {m = m} p o e f h) s = begins_at m p t.0 t.1 y o e f h s
+moves_to t y (at_operator u o f h) s = goes_on_at u t.0 t.1 y o f h s
+moves_to {n} t y (at_member place p w o f h m) s = member_goes p w t y o f h (member_moves n _ t.0 t.1 y m s)
+
+opens_up : (d now : ℕ) (p : Place) (k : List Open) (y : Spot) → opens d now p k ≡ Some y → opens (suc d) now p k ≡ Some y
+opens_up d now p k y e =
+    let x : Deeper now d (p, k) y = deeper d now p k y e in
+    let l : now < suc d = omega (arith, x.below) in
+    opens_more (suc d) now p k l ∙ x.same
+
+-- what moves with some levels moves with one more
+pub moves_up : (p : Place) (t : Token) (d : ℕ) (k : List Open) (y : Spot) → step d p k t ≡ Some y → step (suc d) p k t ≡ Some y
+moves_up (operand n) (token.Operator op.Minus) d k y e = opens_up d (levels k + n) (operand (suc n)) k y e
+moves_up (operand n) (token.Mark mark.Not) d k y e = opens_up d (levels k + n) (operand (suc n)) k y e
+moves_up (operand n) (token.Mark mark.Open) d k y e = opens_up d (levels k + n) (operand 0) (in_parentheses n ∷ k) y e
+moves_up operator (token.Mark mark.Question) d k y e = opens_up d (levels k) (operand 0) (first_branch ∷ k) y e
+moves_up _ _ d k y e = e
+
+-- where a token is too deep, it is not with one level more
+pub moves_deeper : {n : ℕ} {p : Place} {k : List Open} {front : Toks} (t : Token) → At n p k front → misfit_of p t ≡ TooDeep → (y : Spot) × (step (suc n) p k t ≡ Some y)
+moves_deeper {n} {k = k} (token.Mark mark.Not) (at_operand {m = m} p o e f h) d = ((operand (suc m), k), opens_more (suc n) (levels k + m) (operand (suc m)) k (omega (arith, levels_are o)))
+moves_deeper {n} {k = k} (token.Operator op.Minus) (at_operand {m = m} p o e f h) d = ((operand (suc m), k), opens_more (suc n) (levels k + m) (operand (suc m)) k (omega (arith, levels_are o)))
+moves_deeper {n} {k = k} (token.Mark mark.Open) (at_operand {m = m} p o e f h) d = ((operand 0, in_parentheses m ∷ k), opens_more (suc n) (levels k + m) (operand 0) (in_parentheses m ∷ k) (omega (arith, levels_are o)))
+moves_deeper {n} {k = k} (token.Mark mark.Question) (at_operator s o f h) d = ((operand 0, first_branch ∷ k), opens_more (suc n) (levels k) (operand 0) (first_branch ∷ k) (omega (arith, levels_are o)))
+moves_deeper _ (at_operand p o e f h) d = cc
+moves_deeper _ (at_operator s o f h) d = cc
+moves_deeper _ (at_member place p w o f h (front.a_this b)) d = cc
+moves_deeper _ (at_member place p w o f h (front.a_dot b c)) d = cc
+moves_deeper _ (at_member place p w o f h (front.a_properties b c x)) d = cc
+moves_deeper _ (at_member place p w o f h (front.a_bracket b c x y)) d = cc
+moves_deeper _ (at_member place p w o f h (front.a_name b c x y z s)) d = cc

@@ -1,0 +1,5 @@
+use Rattle.expr_laws.proofs.Readings.{accepted_tree}
+use Rattle.expr_laws.proofs.accepted_tokens_are_expressions.Goals as goal
+
+pub returns : goal.returns
+returns c = accepted_tree

@@ -1,0 +1,45 @@
+//! Each text is an expression or has a fault, one of the two and one fault alone: so a text decides by itself whether it
+//! is refused, for what and where.
+//!
+//! Each function carries one law in its contract, and does nothing.
+#![tactic(auto)]
+
+ghost use Rattle.expr_laws.specs.Laws.{
+  AcceptedTokensAreExpressions,
+  EachTextHasATreeOrAFault,
+  EachTextHasOneFault,
+  NoFaultIsOfMemory,
+  NoTreeHasAFault,
+  StoppedTokensAreStuck,
+};
+
+/// A text is an expression, with its tree, or has a fault, at its place.
+pub fn each_text_has_a_tree_or_a_fault()
+    ensures { EachTextHasATreeOrAFault }
+{}
+
+/// A text that is an expression has no fault.
+pub fn no_tree_has_a_fault()
+    ensures { NoTreeHasAFault }
+{}
+
+/// A text has one fault at most.
+pub fn each_text_has_one_fault()
+    ensures { EachTextHasOneFault }
+{}
+
+/// No text has a lack of memory as its fault.
+pub fn no_fault_is_of_memory()
+    ensures { NoFaultIsOfMemory }
+{}
+
+/// Tokens that the machine accepts are an expression, whatever the number of levels.
+pub fn accepted_tokens_are_expressions()
+    ensures { AcceptedTokensAreExpressions }
+{}
+
+/// Where the machine stops, the tokens before begin an expression, and no expression goes on: with so many levels where
+/// the next token is too deep, with any number where it does not fit.
+pub fn stopped_tokens_are_stuck()
+    ensures { StoppedTokensAreStuck }
+{}
