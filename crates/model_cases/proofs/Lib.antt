@@ -1,0 +1,9 @@
+mod Drawings
+mod PolygonRows
+mod LineRows
+mod LaterRows
+mod RunRows
+mod RingRow
+mod SynthRow
+mod TextRows
+mod MessageRows
