@@ -7,6 +7,8 @@ pub mod Sources
 pub mod Beginning
 pub mod Pictures
 pub mod Synth
+pub mod CommandTable
+pub mod Words
 pub mod Running
 pub mod Messages
 pub mod Headline

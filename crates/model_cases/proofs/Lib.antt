@@ -7,3 +7,6 @@ mod RingRow
 mod SynthRow
 mod TextRows
 mod MessageRows
+mod WordRows
+mod RandomWords
+mod SameWords
