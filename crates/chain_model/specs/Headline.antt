@@ -13,7 +13,9 @@ use Rattle.cmd_words.specs.declared.job.Action.TheVariants as action
 use Rattle.cmd_words.specs.declared.job.SourceWord.{SourceWord}
 use Rattle.chain_model.specs.Outcome.{Outcome, done, read_fault, missing, too_long, write_fault, memory}
 use Rattle.chain_model.specs.Sources.{Readings, byte_limit}
+use Rattle.chain_model.specs.Messages.{TellsOutcome}
 use Rattle.chain_model.specs.Running.{Effect, WordsTell}
+use Rattle.chain_model.specs.Words.{words_say}
 
 -- ---- what effects leave
 
@@ -180,3 +182,19 @@ abbrev pub IsComplete : Readings → Reading JobWords → Option Content → Out
 IsComplete read words input before counts counts' outcome = (files : FileMap) (bytes : Content) (effects : List Effect) →
     needed_files words before.files ≡ Some files → needed_input words input ≡ Some bytes → WordsTell read files bytes words done effects →
     NothingFailed counts counts' words → (outcome ≡ done) ⊎ (outcome ≡ memory)
+
+-- ---- the whole
+
+-- what is seen of the outside before or after a run, as far as it is told
+pub record Seen : Type 0 where
+  pub outside : Outside
+  pub input : Option Content
+  pub messages : Option Content
+  pub counts : Counts
+
+-- All that binds a run of these words: what its answer means, what each fault has as its cause, when it has to be Done, and its message.
+pub record IsRunOf (read : Readings) (words : List Text) (before after : Seen) (outcome : Outcome) : Type 0 where
+  pub means : Headline read (words_say read.refusals words) before.input before.outside outcome after.outside
+  pub cause : HasCause before.counts after.counts (are_told (words_say read.refusals words) before.outside.files before.input) (words_say read.refusals words) outcome
+  pub complete : IsComplete read (words_say read.refusals words) before.input before.outside before.counts after.counts outcome
+  pub message : TellsOutcome outcome before.messages after.messages

@@ -20,10 +20,11 @@ use Rattle.chain_model.specs.Outcome.{Outcome, done, bad_words, too_dense, refus
 use Rattle.chain_model.specs.State.{State}
 use Rattle.chain_model.specs.Targets.{SourceLayers}
 use Rattle.chain_model.specs.Steps.{Written, step}
-use Rattle.chain_model.specs.Sources.{Readings, imported, whole_room}
+use Rattle.chain_model.specs.Sources.{AreReadings, Readings, imported, whole_room}
 use Rattle.chain_model.specs.Beginning.{drawing_of, first_sources, import_layers, first_state}
 use Rattle.chain_model.specs.Pictures.{IsTextOf}
 use Rattle.chain_model.specs.Synth.{cells, IsSynthLine}
+use Rattle.chain_model.specs.Words.{words_say}
 
 -- ---- the commands
 
@@ -129,3 +130,16 @@ JobTells read files input (job.Chain c) outcome effects = RunsOrStops (begins re
 abbrev pub WordsTell : Readings → FileMap → Content → Reading JobWords → Outcome → List Effect → Type 0
 WordsTell read files input (Err e) outcome effects = Stops (bad_words e.0 e.1) outcome effects
 WordsTell read files input (Ok w) outcome effects = (j : Job) × FitsJob w j × JobTells read files input j outcome effects
+
+-- The words and contents tell this outcome and these effects.
+abbrev pub Tells : Readings → List Text → FileMap → Content → Outcome → List Effect → Type 0
+Tells read words files input outcome effects = WordsTell read files input (words_say read.refusals words) outcome effects
+
+-- ---- laws: words and contents tell some outcome, and no other
+
+abbrev pub EachRunTells : Type 0
+EachRunTells = (read : Readings) → AreReadings read → (words : List Text) (files : FileMap) (input : Content) → (outcome : Outcome) × (effects : List Effect) × Tells read words files input outcome effects
+
+abbrev pub OutcomeIsOne : Type 0
+OutcomeIsOne = (read other : Readings) → AreReadings read → AreReadings other → (words : List Text) (files : FileMap) (input : Content) (o o' : Outcome) (es es' : List Effect) →
+    Tells read words files input o es → Tells other words files input o' es' → o ≡ o'

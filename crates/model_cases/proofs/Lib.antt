@@ -10,3 +10,5 @@ mod MessageRows
 mod WordRows
 mod RandomWords
 mod SameWords
+mod WholeRows
+mod HeadlineRow
