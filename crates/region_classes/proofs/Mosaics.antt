@@ -22,8 +22,10 @@ use Rattle.ring_trace.proofs.BoundaryLemmas.{Contains_has, has_Contains}
 use Rattle.ring_trace.proofs.SetLemmas.{from_ascending, nat_order, to_ascending}
 use Rattle.region_ops.specs.Mosaic.{Group, faces_of}
 use Rattle.region_ops.proofs.ListOrder.{same_from_test, test_from_same}
-use Rattle.region_classes.specs.Regions.{Region, Follows, FollowEach, Has}
-use Rattle.region_classes.specs.RegionClasses.{ExactlyHasPoints, FollowParts, IsWalked, MosaicsAreFollowed, all_of, exactly, regions_at}
+use Rattle.region_model.specs.Region.{Region, Has}
+use Rattle.region_classes.specs.Regions.{Follows, FollowEach}
+use Rattle.region_model.specs.PolygonCommands.{all_of, exactly, regions_at}
+use Rattle.region_classes.specs.RegionClasses.{ExactlyHasPoints, FollowParts, IsWalked, MosaicsAreFollowed}
 use Rattle.region_classes.proofs.Numbers.{in_owners, in_range, of_owners, of_range, owners_rise}
 use Rattle.region_classes.proofs.PartLaws.{parts_are_followed}
 use Rattle.region_classes.proofs.Sets.{at_some, some_at}

@@ -28,7 +28,7 @@ use Rattle.ring_trace.proofs.JoinedLemmas.{joined_over}
 use Rattle.part_classes.specs.PartClasses.{AreFacesOf, AreTraced}
 use Rattle.part_classes.proofs.BoundedLaws.{parts_have_boundaries}
 use Rattle.part_classes.proofs.TogetherLaws.{traces_use_the_border}
-use Rattle.region_classes.specs.Regions.{part}
+use Rattle.region_model.specs.Region.{part}
 use Rattle.region_classes.specs.Printed.{PolygonsUseBoundaries}
 use Rattle.region_classes.proofs.PartLaws.{parts_are_followed}
 use Rattle.region_classes.proofs.Prints.{faces_of_links}

@@ -4,7 +4,7 @@ use Rattle.lists.proofs.Members.{Contains-nil}
 use Rattle.plane_model.specs.Snapped.{links_of, snapped}
 use Rattle.plane_faces.proofs.Order.{place_exists}
 use Rattle.region_ops.specs.Dissolved.{set_at}
-use Rattle.region_classes.specs.Regions.{Has}
+use Rattle.region_model.specs.Region.{Has}
 use Rattle.region_classes.specs.RegionClasses.{ExplodedSetsAreFollowed, PartsAreFollowed}
 use Rattle.region_classes.proofs.Parts.{part_followed, some_part, some_point}
 use Rattle.region_classes.proofs.Walked.{arcs_free, labels_faces, links_arranged, links_distinct}

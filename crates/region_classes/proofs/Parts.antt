@@ -40,7 +40,7 @@ use Rattle.part_classes.proofs.BoundedLaws.{each_has_arc, outside_is_not}
 use Rattle.part_classes.proofs.ClassLemmas.{are_classes, numbered}
 use Rattle.part_classes.proofs.LinkLemmas.{GoesAlong, left_at, right_at}
 use Rattle.part_classes.proofs.TracedLaws.{on_boundary}
-use Rattle.region_classes.specs.Regions.{IsInPart, IsLeastOfSome}
+use Rattle.region_model.specs.Region.{IsInPart, IsLeastOfSome}
 use Rattle.region_classes.proofs.Least.{lowest, lowest_least, lowest_there}
 use Rattle.region_classes.proofs.Numbers.{in_range, of_range}
 use Rattle.region_classes.proofs.OffLinks.{off_from_side}

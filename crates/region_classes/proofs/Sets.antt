@@ -16,8 +16,10 @@ use Rattle.ring_trace.proofs.SetLemmas.{nat_order}
 use Rattle.region_ops.specs.Cleaned.{area_of, is_lost, ranks_before}
 use Rattle.region_ops.specs.Cut.{meet, minus}
 use Rattle.region_ops.specs.Dissolved.{set_at, union_of}
-use Rattle.region_classes.specs.Regions.{Region, any_of, both, less, regions_of, Follows, Has, SomeHas}
-use Rattle.region_classes.specs.RegionClasses.{before, regions_at, CleanedSetsAreFollowed, ClippedSetsAreFollowed, DissolvedSetsAreFollowed, ErasedSetsAreFollowed, MeetsAreFollowed, RemaindersAreFollowed, UnionsAreFollowed}
+use Rattle.region_model.specs.Region.{Region, any_of, both, less, regions_of, Has, SomeHas}
+use Rattle.region_classes.specs.Regions.{Follows}
+use Rattle.region_model.specs.PolygonCommands.{regions_at}
+use Rattle.region_classes.specs.RegionClasses.{before, CleanedSetsAreFollowed, ClippedSetsAreFollowed, DissolvedSetsAreFollowed, ErasedSetsAreFollowed, MeetsAreFollowed, RemaindersAreFollowed, UnionsAreFollowed}
 use Rattle.region_classes.proofs.Numbers.{any_there, in_owners, in_range, of_owners, of_range, there_any}
 
 -- ---- any of some regions

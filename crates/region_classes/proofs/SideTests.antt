@@ -10,8 +10,10 @@ use Rattle.plane_model.specs.Snapped.{links_of, snapped}
 use Rattle.plane_faces.specs.Places.{Place, left_side, right_side}
 use Rattle.face_walk.specs.Places.{FaceTable}
 use Rattle.ring_trace.proofs.BoundaryLemmas.{Contains_has, has_Contains}
-use Rattle.region_classes.specs.Regions.{Region, Follows, Has}
-use Rattle.region_classes.specs.RegionClasses.{AreSides, IsWalked}
+use Rattle.region_model.specs.Region.{Region, Has}
+use Rattle.region_classes.specs.Regions.{Follows}
+use Rattle.region_model.specs.Answers.{AreSides}
+use Rattle.region_classes.specs.RegionClasses.{IsWalked}
 use Rattle.region_classes.proofs.Sides.{left_belongs, right_belongs}
 use Rattle.region_classes.proofs.Walked.{labels_faces, links_arranged, links_distinct}
 

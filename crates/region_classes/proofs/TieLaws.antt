@@ -32,8 +32,10 @@ use Rattle.region_ops.specs.Cleaned.{area_of, ranks_before}
 use Rattle.region_ops.specs.Dissolved.{set_at}
 use Rattle.part_classes.proofs.BoundedLaws.{outside_is_not}
 use Rattle.part_classes.proofs.LinkLemmas.{link_of_arc}
-use Rattle.region_classes.specs.Regions.{Region, any_of, less, Follows, Has}
-use Rattle.region_classes.specs.RegionClasses.{IsWalked, regions_at}
+use Rattle.region_model.specs.Region.{Region, any_of, less, Has}
+use Rattle.region_classes.specs.Regions.{Follows}
+use Rattle.region_model.specs.PolygonCommands.{regions_at}
+use Rattle.region_classes.specs.RegionClasses.{IsWalked}
 use Rattle.region_classes.specs.Ties.{CleanedByRegions, EmptySetsAreEmptyRegions, OneSetFollows, SetsAreOfSides, SideBelongs, area_within}
 use Rattle.region_classes.proofs.Areas.{areas_are_those_of_regions}
 use Rattle.region_classes.proofs.Numbers.{of_range}

@@ -14,8 +14,10 @@ use Rattle.face_walk.specs.Places.{FaceTable}
 use Rattle.ring_trace.specs.Traced.{UsesBoundary}
 use Rattle.ring_trace.specs.Turns.{round_of}
 use Rattle.part_classes.specs.PartClasses.{AreTraced}
-use Rattle.region_classes.specs.Regions.{Region, part, Follows, Has}
-use Rattle.region_classes.specs.RegionClasses.{AreSides, IsWalked}
+use Rattle.region_model.specs.Region.{Region, part, Has}
+use Rattle.region_classes.specs.Regions.{Follows}
+use Rattle.region_model.specs.Answers.{AreSides}
+use Rattle.region_classes.specs.RegionClasses.{IsWalked}
 
 -- all rings of a trace together hold a point on no link exactly if the region has it
 abbrev pub TracesPrintRegions : Type 0

@@ -1,13 +1,12 @@
 -- Sets of faces follow regions.
-use Rattle.std.specs.Prelude.{◌≡◌, ◌↔◌, ℕ, ◌<◌, Bool, true, nat_eq, nat_lt, not, List, [], ◌∷◌, ◌++◌, All, Contains, filter, length, map, slice_index_or, ℤ}
+use Rattle.std.specs.Prelude.{◌≡◌, ◌↔◌, ℕ, ◌<◌, Bool, nat_lt, List, [], ◌∷◌, ◌++◌, All, Contains, filter, length, map, slice_index_or, ℤ}
 use Rattle.std.specs.List.{enumerate_from, flat_map, range_with_len}
 use Rattle.std.specs.List.Sorted.{IsStrictlyIncreasing}
-use Rattle.lists.specs.Lists.{ascending, has}
+use Rattle.lists.specs.Lists.{ascending}
 use Rattle.plane_model.specs.Points.{RationalPoint, Segment, Path}
 use Rattle.plane_model.specs.Boundary.{boundary_by, twice_area}
 use Rattle.plane_model.specs.Drawing.{Drawing}
 use Rattle.plane_model.specs.Sees.{IsOffLinks}
-use Rattle.plane_model.specs.Sides.{LeftIn, Points, RightIn}
 use Rattle.plane_model.specs.Snapped.{links_of, snapped}
 use Rattle.plane_faces.specs.Places.{Place}
 use Rattle.grid_base.specs.Drawn.{HasPaths}
@@ -25,7 +24,8 @@ use Rattle.region_ops.specs.Exploded.{IsExploded, items_of}
 use Rattle.region_ops.specs.Mosaic.{AreAscending, Group, IsMosaic, items_of_groups}
 use Rattle.region_ops.specs.declared.item_lists.MosaicItem.{MosaicItem}
 use Rattle.region_ops.specs.declared.item_lists.PartItem.{PartItem}
-use Rattle.region_classes.specs.Regions.{Region, feature, box, both, less, part, any_of, Follows, FollowEach, Has}
+use Rattle.region_model.specs.Region.{Region, feature, box, both, less, part, any_of, Has}
+use Rattle.region_classes.specs.Regions.{Follows, FollowEach}
 
 -- the table of the whole arcs of a snapped drawing, its faces, and places labelled by them
 pub record IsWalked (d : Drawing) (arcs : List Path) (faces : FaceTable) (label : Place → ℕ) : Type 0 where
@@ -70,10 +70,6 @@ abbrev pub ErasedSetsAreFollowed : Type 0
 ErasedSetsAreFollowed = (d : Drawing) (arcs : List Path) (label : Place → ℕ) (sets : List (List ℕ)) (region : ℕ → Region) (source : List ℕ) (s : Region) → FollowEach d arcs label sets region → Follows d arcs label source s →
     FollowEach d arcs label (map (minus source) sets) (λ n. less (region n) s)
 
--- the regions of these numbers
-abbrev pub regions_at : (ℕ → Region) → List ℕ → List Region
-regions_at region numbers = map region numbers
-
 -- what is dissolved follows any of the regions of the members of its group
 abbrev pub DissolvedSetsAreFollowed : Type 0
 DissolvedSetsAreFollowed = (d : Drawing) (arcs : List Path) (label : Place → ℕ) (sets : List (List ℕ)) (region : ℕ → Region) (groups : List (List ℕ)) → FollowEach d arcs label sets region → All (All (λ n. n < length sets)) groups →
@@ -115,16 +111,6 @@ ExplodedSetsAreFollowed = (d : Drawing) (arcs : List Path) (faces : FaceTable) (
 
 -- ---- laws of mosaics
 
--- all of some regions, at least one
-abbrev pub all_of : List Region → Region
-all_of [] = any_of []
-all_of (r ∷ []) = r
-all_of (r ∷ s ∷ rs) = both r (all_of (s ∷ rs))
-
--- of so many regions, what just those of the numbers have
-abbrev pub exactly : (ℕ → Region) → ℕ → List ℕ → Region
-exactly region many numbers = less (all_of (regions_at region numbers)) (any_of (regions_at region (filter (λ (n : ℕ). not (has nat_eq numbers n)) (range_with_len 0 many))))
-
 -- it has a point exactly if the regions that have the point are those of the numbers
 abbrev pub ExactlyHasPoints : Type 0
 ExactlyHasPoints = (d : Drawing) (arcs : List Path) (region : ℕ → Region) (many : ℕ) (numbers : List ℕ) → (numbers ≡ [] → ⊥) → All (λ n. n < many) numbers → (z : RationalPoint) →
@@ -148,11 +134,6 @@ MosaicsAreFollowed = (d : Drawing) (arcs : List Path) (faces : FaceTable) (label
     FollowEach (snapped d) arcs label sets region → (items : List MosaicItem) → IsMosaic faces sets items → FollowMosaic (snapped d) arcs label (length sets) region items
 
 -- ---- the areas of regions
-
--- tests of the sides of links: whether the left, or right, side belongs to R
-pub record AreSides (S : List Segment) (R : Points) (left right : Segment → Bool) : Type 0 where
-  pub left_side : (l : Segment) → Contains S l → (left l ≡ true) ↔ LeftIn S R l
-  pub right_side : (l : Segment) → Contains S l → (right l ≡ true) ↔ RightIn S R l
 
 -- twice the area of a set of faces, as each face gives its own, is that within the boundary of its region: the links with one side in the region
 -- alone, each directed with the region on its left

@@ -17,8 +17,11 @@ use Rattle.face_walk.specs.Places.{FaceTable, face_left_of}
 use Rattle.face_classes.specs.FaceClasses.{directed_as}
 use Rattle.ring_trace.specs.Sets.{IsSetOf}
 use Rattle.region_ops.specs.Cleaned.{IsCleaned, ranks_before}
-use Rattle.region_classes.specs.Regions.{Region, less, any_of, Follows, FollowEach, Has}
-use Rattle.region_classes.specs.RegionClasses.{AreSides, IsWalked, regions_at}
+use Rattle.region_model.specs.Region.{Region, less, any_of, Has}
+use Rattle.region_classes.specs.Regions.{Follows, FollowEach}
+use Rattle.region_model.specs.Answers.{AreSides}
+use Rattle.region_model.specs.PolygonCommands.{regions_at}
+use Rattle.region_classes.specs.RegionClasses.{IsWalked}
 
 -- the side on the left of a link, directed forward or back, belongs to R: some point that sees the link from there is in R
 abbrev pub SideBelongs : List Segment → Points → Bool → Segment → Type 0

@@ -1,0 +1,189 @@
+-- The table of commands: what argument, options and bare words each takes, what it needs, and what it asks for.
+use Rattle.std.specs.Prelude.{ℕ, Bool, true, false, ◌||◌, ◌&&◌, List, [], ◌∷◌, find, codes, slice_index_or, Option, Some, None, is_some, option_map, option_and_then, unwrap_or, Ok, Err, if◌then◌else◌}
+use Rattle.std.specs.List.{list_any}
+use Rattle.std.specs.Str.{bytes_eq}
+use Rattle.grid_base.specs.declared.kinds.OverlapRule.TheVariants.{MaxArea}
+use Rattle.table_ops.specs.Names.{Text}
+use Rattle.table_ops.specs.declared.renames.Rename.{Rename}
+use Rattle.table_ops.specs.declared.specifications.GroupSpec.{GroupSpec}
+use Rattle.table_ops.specs.declared.specifications.JoinSpec.{JoinSpec}
+use Rattle.cmd_words.specs.Texts.{form_by_ending, is_standard, pieces}
+use Rattle.cmd_words.specs.Values.{form_named, renames_of, rule_of}
+use Rattle.cmd_words.specs.declared.job.Action.{Action}
+use Rattle.cmd_words.specs.declared.job.Action.TheVariants as ask
+use Rattle.cmd_words.specs.declared.job.Origin.{Origin}
+use Rattle.cmd_words.specs.declared.job.OutForm.{OutForm}
+use Rattle.cmd_words.specs.declared.job.OutForm.TheVariants.{Geo}
+use Rattle.cmd_words.specs.declared.job.Target.{Target}
+use Rattle.cmd_words.specs.declared.job.Target.TheVariants as target
+
+-- ---- what the words of a group say
+
+pub data Item : Type 0 where
+  -- name=value
+  option : Text → Text → Item
+  bare : Text → Item
+  argument : Text → Item
+
+abbrev pub Said : Type 0
+Said = List Item
+
+abbrev pub value_of : Text → Item → Option Text
+value_of name (option n v) = if bytes_eq n name then Some v else None
+value_of name _ = None
+
+-- the value of an option
+abbrev pub value_in : Said → Text → Option Text
+value_in [] name = None
+value_in (i ∷ said) name = elim (value_of name i) [ Some v ↦ Some v | None ↦ value_in said name ]
+
+abbrev pub has_option : Said → Text → Bool
+has_option said name = is_some (value_in said name)
+
+abbrev pub is_bare : Text → Item → Bool
+is_bare word (bare w) = bytes_eq w word
+is_bare word _ = false
+
+abbrev pub has_bare : Said → Text → Bool
+has_bare said word = list_any (is_bare word) said
+
+-- the first argument
+abbrev pub argument_in : Said → Option Text
+argument_in [] = None
+argument_in (argument s ∷ said) = Some s
+argument_in (_ ∷ said) = argument_in said
+
+abbrev pub has_argument : Said → Bool
+has_argument said = is_some (argument_in said)
+
+abbrev pub argument_text : Said → Text
+argument_text said = unwrap_or (argument_in said) []
+
+-- ---- lists, targets and the parts of actions
+
+abbrev pub list_or_empty : Option Text → List Text
+list_or_empty None = []
+list_or_empty (Some s) = pieces s
+
+abbrev pub target_of : Option Text → Target
+target_of None = target.Default
+target_of (Some s) = if bytes_eq s (codes "*") then target.All else target.Names (pieces s)
+
+abbrev pub group_spec : Said → GroupSpec
+group_spec said = record { by = list_or_empty (argument_in said); copy = list_or_empty (value_in said (codes "copy-fields")); sum = list_or_empty (value_in said (codes "sum-fields")) }
+
+abbrev pub key_at : Said → ℕ → Text
+key_at said n = slice_index_or (list_or_empty (value_in said (codes "keys"))) n []
+
+-- its expression stands beside it
+abbrev pub join_spec : Said → JoinSpec
+join_spec said = record {
+  target_key = key_at said 0;
+  source_key = key_at said 1;
+  fields = option_map pieces (value_in said (codes "fields"));
+  force = has_bare said (codes "force");
+  test = None;
+  prefix = unwrap_or (value_in said (codes "prefix")) [];
+}
+
+abbrev pub renames_in : Said → List Rename
+renames_in said = elim (renames_of (argument_text said)) [ Ok renames ↦ renames | Err why ↦ [] ]
+
+-- the form of an output: by `format=`, else by the name
+abbrev pub form_in : Said → Option OutForm
+form_in said = elim (value_in said (codes "format")) [ None ↦ form_by_ending (argument_text said) | Some s ↦ form_named s ]
+
+-- ---- the table
+
+pub data ValueForm : Type 0 where
+  a_text : ValueForm
+  a_list : ValueForm
+  two_names : ValueForm
+  a_precision : ValueForm
+  a_rule : ValueForm
+  a_format : ValueForm
+  a_box : ValueForm
+  an_expression : ValueForm
+
+pub data ArgumentForm : Type 0 where
+  nothing : ArgumentForm
+  -- one file or more
+  files : ArgumentForm
+  -- a file or a layer
+  source : ArgumentForm
+  list : ArgumentForm
+  expression : ArgumentForm
+  renames : ArgumentForm
+  text : ArgumentForm
+
+-- what may stand in a group
+pub record Line : Type 0 where
+  pub argument : ArgumentForm
+  pub options : List (Text × ValueForm)
+  pub bare : List Text
+
+pub record CommandLine : Type 0 where
+  pub word : Text
+  pub line : Line
+  -- what it needs is there
+  pub has_needed : Said → Bool
+  -- what it asks for, by the source that it names
+  pub asks : Origin → Said → Action
+
+abbrev pub TARGET : Text × ValueForm
+TARGET = (codes "target", a_list)
+
+-- `target=` and `name=`, and `+`
+abbrev pub usual : List (Text × ValueForm)
+usual = TARGET ∷ (codes "name", a_text) ∷ []
+
+abbrev pub PLUS : Text
+PLUS = codes "+"
+
+abbrev pub import_line : Line
+import_line = record { argument = files; options = (codes "precision", a_precision) ∷ (codes "string-fields", a_list) ∷ []; bare = codes "combine-files" ∷ [] }
+
+abbrev pub line : ArgumentForm → List (Text × ValueForm) → List Text → Line
+line form options words = record { argument = form; options = options; bare = words }
+
+abbrev pub anything : Said → Bool
+anything said = true
+
+-- a source, or a box in its place
+abbrev pub needs_source : Said → Bool
+needs_source said = has_argument said || has_option said (codes "bbox")
+
+abbrev pub command_lines : List CommandLine
+command_lines =
+    record { word = codes "-clip"; line = line source ((codes "bbox", a_box) ∷ usual) (PLUS ∷ []); has_needed = needs_source; asks = λ from said. ask.Clip from }
+    ∷ record { word = codes "-erase"; line = line source ((codes "bbox", a_box) ∷ usual) (PLUS ∷ []); has_needed = needs_source; asks = λ from said. ask.Erase from }
+    ∷ record { word = codes "-dissolve"; line = line list ((codes "sum-fields", a_list) ∷ (codes "copy-fields", a_list) ∷ usual) (codes "group-points" ∷ PLUS ∷ []); has_needed = anything; asks = λ from said. ask.Dissolve (group_spec said) (has_bare said (codes "group-points")) }
+    ∷ record { word = codes "-clean"; line = line nothing ((codes "overlap-rule", a_rule) ∷ usual) (codes "allow-empty" ∷ PLUS ∷ []); has_needed = anything; asks = λ from said. ask.Clean (unwrap_or (option_and_then rule_of (value_in said (codes "overlap-rule"))) MaxArea) (has_bare said (codes "allow-empty")) }
+    ∷ record { word = codes "-mosaic"; line = line nothing usual (PLUS ∷ []); has_needed = anything; asks = λ from said. ask.Mosaic }
+    ∷ record { word = codes "-innerlines"; line = line nothing usual (PLUS ∷ []); has_needed = anything; asks = λ from said. ask.InnerLines }
+    ∷ record { word = codes "-explode"; line = line nothing usual (PLUS ∷ []); has_needed = anything; asks = λ from said. ask.Explode }
+    ∷ record { word = codes "-lines"; line = line list usual (PLUS ∷ []); has_needed = anything; asks = λ from said. ask.Lines (list_or_empty (argument_in said)) }
+    ∷ record {
+      word = codes "-join";
+      line = line source ((codes "keys", two_names) ∷ (codes "fields", a_list) ∷ (codes "where", an_expression) ∷ (codes "prefix", a_text) ∷ (codes "string-fields", a_list) ∷ TARGET ∷ []) (codes "force" ∷ []);
+      has_needed = λ said. has_argument said && has_option said (codes "keys");
+      asks = λ from said. ask.Join from (join_spec said);
+    }
+    ∷ record {
+      word = codes "-filter";
+      line = line expression usual (codes "invert" ∷ codes "remove-empty" ∷ PLUS ∷ []);
+      has_needed = λ said. has_argument said || has_bare said (codes "remove-empty");
+      asks = λ from said. ask.Filter None (has_bare said (codes "invert")) (has_bare said (codes "remove-empty"));
+    }
+    ∷ record { word = codes "-filter-fields"; line = line list (TARGET ∷ []) []; has_needed = anything; asks = λ from said. ask.FilterFields (list_or_empty (argument_in said)) }
+    ∷ record { word = codes "-rename-fields"; line = line renames (TARGET ∷ []) []; has_needed = has_argument; asks = λ from said. ask.RenameFields (renames_in said) }
+    ∷ record { word = codes "-split"; line = line text (TARGET ∷ []) (PLUS ∷ []); has_needed = anything; asks = λ from said. ask.Split (argument_in said) }
+    ∷ record { word = codes "-merge-layers"; line = line nothing usual (codes "force" ∷ PLUS ∷ []); has_needed = anything; asks = λ from said. ask.MergeLayers (has_bare said (codes "force")) }
+    ∷ record { word = codes "-o"; line = line text ((codes "format", a_format) ∷ TARGET ∷ []) (codes "force" ∷ []); has_needed = has_argument; asks = λ from said. ask.Write (argument_text said) (is_standard (argument_text said)) (unwrap_or (form_in said) Geo) }
+    ∷ []
+
+abbrev pub line_of : Text → Option CommandLine
+line_of word = find (λ (c : CommandLine). bytes_eq c.word word) command_lines
+
+abbrev pub form_of : Line → Text → Option ValueForm
+form_of l name = option_map (λ (o : Text × ValueForm). o.1) (find (λ (o : Text × ValueForm). bytes_eq o.0 name) l.options)

@@ -1,0 +1,14 @@
+pub mod Outcome
+pub mod State
+pub mod Targets
+pub mod Features
+pub mod Steps
+pub mod Sources
+pub mod Beginning
+pub mod Pictures
+pub mod Synth
+pub mod CommandTable
+pub mod Words
+pub mod Running
+pub mod Messages
+pub mod Headline

@@ -1,0 +1,142 @@
+-- One step of a run: the state after a command, or its first refusal.
+use Rattle.std.specs.Prelude.{ℕ, Bool, true, not, ◌||◌, nat_lt, List, [], ◌∷◌, map, length, Option, Some, None, Result, Ok, Err, if◌then◌else◌, unwrap_or}
+use Rattle.std.specs.Str.{bytes_eq}
+use Rattle.lists.specs.Lists.{each_once}
+use Rattle.grid_base.specs.declared.kinds.Kind.{Kind}
+use Rattle.grid_base.specs.declared.kinds.Kind.TheVariants as kind
+use Rattle.geojson_io.specs.Layers.{same_kind}
+use Rattle.table_ops.specs.Names.{Text}
+use Rattle.table_ops.specs.Refusals.{unless, first_refusal, on_ok}
+use Rattle.cmd_words.specs.declared.job.Action.{Action}
+use Rattle.cmd_words.specs.declared.job.Action.TheVariants as action
+use Rattle.cmd_words.specs.declared.job.Command.{Command}
+use Rattle.cmd_words.specs.declared.job.Origin.{Origin}
+use Rattle.cmd_words.specs.declared.job.Origin.TheVariants as origin
+use Rattle.cmd_words.specs.declared.job.OutForm.{OutForm}
+use Rattle.cmd_words.specs.declared.job.OutForm.TheVariants as form
+use Rattle.region_model.specs.Region.{Region, any_of, box}
+use Rattle.region_model.specs.Answers.{Plane, Answers}
+use Rattle.chain_model.specs.Outcome.{RefuseWhy, many_layers, wrong_kind, name_twice}
+use Rattle.chain_model.specs.State.{State, StateLayer, regions_in}
+use Rattle.chain_model.specs.Targets.{SourceLayers, selected, one_layer, origin_layers, layer_names, layers_at, need_kinds, with_outputs}
+use Rattle.chain_model.specs.Features
+
+-- ---- sources
+
+-- any of the regions of a polygon layer's features
+abbrev pub layer_region : StateLayer → Result Region RefuseWhy
+layer_region l = if same_kind l.kind kind.Polygon then Ok (any_of (regions_in l)) else Err wrong_kind
+
+-- the region that clips or erases: a layer's, or a box
+abbrev pub source_region : SourceLayers → State → Origin → Result Region RefuseWhy
+source_region sources s (origin.Area b) = Ok (box b)
+source_region sources s o = on_ok (one_layer (origin_layers sources s o)) layer_region
+
+-- ---- kinds
+
+abbrev pub has_geometry : Kind → Bool
+has_geometry k = not (same_kind k kind.Table)
+
+abbrev pub is_polygon : Kind → Bool
+is_polygon k = same_kind k kind.Polygon
+
+-- the kinds that a command takes, among layers of which the first has the kind `first`
+abbrev pub takes : Action → Kind → Kind → Bool
+takes (action.Clip from) first k = has_geometry k
+takes (action.Erase from) first k = has_geometry k
+takes (action.Clean rule allow_empty) first k = is_polygon k
+takes action.Mosaic first k = is_polygon k
+takes action.InnerLines first k = is_polygon k
+takes (action.Lines fields) first k = is_polygon k
+takes action.Explode first k = has_geometry k
+takes (action.Filter test invert remove_empty) first k = not remove_empty || has_geometry k
+takes (action.MergeLayers force) first k = same_kind first k
+takes _ first k = true
+
+-- ---- outputs
+
+-- the outputs for each layer, in order, up to the first refusal
+abbrev pub each_layer : (StateLayer → Features.Outputs) → List StateLayer → Result (List (List StateLayer)) RefuseWhy
+each_layer f [] = Ok []
+each_layer f (l ∷ ls) = on_ok (f l) (λ (out : List StateLayer). on_ok (each_layer f ls) (λ (outs : List (List StateLayer)). Ok (out ∷ outs)))
+
+-- by the region of a source
+abbrev pub by_source : SourceLayers → State → Origin → (Region → StateLayer → Features.Outputs) → List StateLayer → Result (List (List StateLayer)) RefuseWhy
+by_source sources s o f ls = on_ok (source_region sources s o) (λ (r : Region). each_layer (f r) ls)
+
+-- the outputs for the targets
+abbrev pub outputs_of : Plane → Answers → SourceLayers → State → Action → List StateLayer → Result (List (List StateLayer)) RefuseWhy
+outputs_of P A sources s (action.Clip o) ls = by_source sources s o (Features.clip_layer P A) ls
+outputs_of P A sources s (action.Erase o) ls = by_source sources s o (Features.erase_layer P A) ls
+outputs_of P A sources s (action.Dissolve spec group_points) ls = each_layer (Features.dissolve_layer P spec group_points) ls
+outputs_of P A sources s (action.Clean rule allow_empty) ls = each_layer (Features.clean_layer P A rule allow_empty) ls
+outputs_of P A sources s action.Mosaic ls = each_layer (Features.mosaic_layer P A) ls
+outputs_of P A sources s action.InnerLines ls = each_layer (Features.inner_lines_layer P A) ls
+outputs_of P A sources s (action.Lines fields) ls = each_layer (Features.lines_layer P A fields) ls
+outputs_of P A sources s action.Explode ls = each_layer (Features.explode_layer P A) ls
+outputs_of P A sources s (action.Join o spec) ls = on_ok (one_layer (origin_layers sources s o)) (λ (l : StateLayer). each_layer (Features.join_layer l spec) ls)
+outputs_of P A sources s (action.Filter test invert remove_empty) ls = each_layer (Features.filter_layer P A test invert remove_empty) ls
+outputs_of P A sources s (action.FilterFields fields) ls = each_layer (Features.filter_fields_layer fields) ls
+outputs_of P A sources s (action.RenameFields pairs) ls = each_layer (Features.rename_fields_layer pairs) ls
+outputs_of P A sources s (action.Split field) ls = each_layer (Features.split_layer field) ls
+outputs_of P A sources s (action.MergeLayers force) ls = Features.merged_layers force ls
+outputs_of P A sources s (action.Write to standard form) ls = Ok []
+
+-- ---- refusals: the source, then the kinds of the targets, then the layers one by one, then too many layers
+
+abbrev pub refusal_of : {T E : Type 0} → Result T E → Option E
+refusal_of (Ok v) = None
+refusal_of (Err why) = Some why
+
+abbrev pub refused_source : SourceLayers → State → Action → Option RefuseWhy
+refused_source sources s (action.Clip o) = refusal_of (source_region sources s o)
+refused_source sources s (action.Erase o) = refusal_of (source_region sources s o)
+refused_source sources s (action.Join o spec) = refusal_of (one_layer (origin_layers sources s o))
+refused_source sources s _ = None
+
+abbrev pub first_kind : List StateLayer → Kind
+first_kind [] = kind.Table
+first_kind (l ∷ ls) = l.kind
+
+abbrev pub refused_kinds : Action → List StateLayer → Option RefuseWhy
+refused_kinds a ls = need_kinds (takes a (first_kind ls)) ls
+
+-- an output has the target's name, or that of `name=`
+abbrev pub titled : Option Text → StateLayer → StateLayer
+titled name l = record l { name = unwrap_or name l.name }
+
+-- the state after a command other than an output
+abbrev pub changed : Plane → Answers → SourceLayers → State → Command → List ℕ → Result State RefuseWhy
+changed P A sources s c ns =
+    unless (first_refusal (refused_source sources s c.action) (refused_kinds c.action (layers_at s ns)))
+    (on_ok (outputs_of P A sources s c.action (layers_at s ns)) (λ (outs : List (List StateLayer)).
+    with_outputs s c.keep ns (map (map (titled c.name)) outs)))
+
+-- ---- what an output writes
+
+pub record Written : Type 0 where
+  pub to : Text
+  -- the standard stream is meant
+  pub standard : Bool
+  pub form : OutForm
+  pub layers : List StateLayer
+
+-- GeoJSON and comma-separated text hold one layer, TopoJSON layers of distinct names
+abbrev pub refused_write : OutForm → List StateLayer → Option RefuseWhy
+refused_write form.Topo ls = if nat_lt (length (each_once bytes_eq (layer_names ls))) (length ls) then Some name_twice else None
+refused_write _ ls = if nat_lt 1 (length ls) then Some many_layers else None
+
+-- ---- the step of a command
+
+pub record Stepped : Type 0 where
+  pub state : State
+  pub written : Option Written
+
+abbrev pub by_action : Plane → Answers → SourceLayers → State → Command → List ℕ → Action → Result Stepped RefuseWhy
+by_action P A sources s c ns (action.Write to standard form) =
+    unless (refused_write form (layers_at s ns)) (Ok (record { state = s; written = Some (record { to = to; standard = standard; form = form; layers = layers_at s ns }) }))
+by_action P A sources s c ns _ = on_ok (changed P A sources s c ns) (λ (t : State). Ok (record { state = t; written = None }))
+
+-- first the target
+abbrev pub step : Plane → Answers → SourceLayers → State → Command → Result Stepped RefuseWhy
+step P A sources s c = on_ok (selected s c.target) (λ (ns : List ℕ). by_action P A sources s c ns c.action)

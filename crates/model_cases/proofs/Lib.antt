@@ -1,0 +1,14 @@
+mod Drawings
+mod PolygonRows
+mod LineRows
+mod LaterRows
+mod RunRows
+mod RingRow
+mod SynthRow
+mod TextRows
+mod MessageRows
+mod WordRows
+mod RandomWords
+mod SameWords
+mod WholeRows
+mod HeadlineRow
