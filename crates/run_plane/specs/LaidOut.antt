@@ -1,10 +1,13 @@
 -- The plane of a snapped drawing: its arcs, its faces, and the faces that each feature and each box holds.
-use Rattle.std.specs.Prelude.{◌≡◌, ◌<◌, ℕ, Bool, true, false, nat_eq, nat_lt, List, filter, length}
+use Rattle.std.specs.Prelude.{◌≡◌, ◌<◌, ℕ, All, Bool, true, false, nat_eq, nat_lt, List, filter, length}
 use Rattle.std.specs.List.{range_with_len}
 use Rattle.lists.specs.Lists.{has, put_in_order}
 use Rattle.plane_model.specs.Points.{Path}
 use Rattle.plane_model.specs.Drawing.{Drawing}
+use Rattle.arc_table.specs.Direction.{IsForward}
+use Rattle.arc_table.specs.Order.{AreNumbered}
 use Rattle.arc_table.specs.PathArcs.{AreArcsOf}
+use Rattle.arc_table.specs.WholeArcs.{StartsAtLeast}
 use Rattle.face_walk.specs.Holders.{AreHolders, HolderTable, list_at}
 use Rattle.face_walk.specs.Places.{FaceTable, IsBuiltOf}
 
@@ -27,6 +30,12 @@ pub record AreHeld (s : Drawing) (arcs : List Path) (faces : FaceTable) (boxes f
 -- the arcs and the faces of a snapped drawing, and what they hold
 pub record IsLaidOut (s : Drawing) (arcs : List Path) (faces : FaceTable) (boxes features : List (List ℕ)) : Type 0 where
   pub are_arcs : AreArcsOf s arcs
+  -- an arc runs from its lesser end, or, where its ends are one, towards the lesser neighbour
+  pub forward : All IsForward arcs
+  -- a closed one without a node starts at its least vertex
+  pub least : All (StartsAtLeast s) arcs
+  -- arcs are numbered as the paths of the drawing come to them
+  pub numbered : AreNumbered s arcs
   pub are_faces : IsBuiltOf arcs faces
   pub held : AreHeld s arcs faces boxes features
 

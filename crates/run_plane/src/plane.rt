@@ -5,7 +5,10 @@ ghost use Rattle.ring_trace.specs.Sets.{IsSetOf};
 ghost use Rattle.run_plane.specs.Looks.{is_inner, is_below};
 ghost use Rattle.lists.specs.Lists.{put_in_order};
 ghost use Rattle.plane_model.specs.Snapped.{snapped};
+ghost use Rattle.arc_table.specs.Direction.{IsForward};
+ghost use Rattle.arc_table.specs.Order.{AreNumbered};
 ghost use Rattle.arc_table.specs.PathArcs.{AreArcsOf};
+ghost use Rattle.arc_table.specs.WholeArcs.{StartsAtLeast};
 ghost use Rattle.face_walk.specs.Holders.{list_at};
 ghost use Rattle.snap_round.specs.Snapping.{FaultMeans};
 ghost use Rattle.run_plane.specs.Begun.{IsFew};
@@ -161,6 +164,9 @@ impl HeldFaces {
 
 fn arcs_of(alloc: Global, snapped: &Snapped) -> Result<ArcTable, AllocError>
     ensures exact { IfOk result (AreArcsOf snapped.now) }
+    ensures forward { IfOk result (λ arcs. All IsForward arcs) }
+    ensures least { IfOk result (λ arcs. All (StartsAtLeast snapped.now) arcs) }
+    ensures numbered { IfOk result (λ arcs. AreNumbered snapped.now arcs) }
 {
     let _ = snapped.links();
     ArcTable::build(alloc, snapped)

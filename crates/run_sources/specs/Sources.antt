@@ -50,9 +50,13 @@ SourceMissing before after source = MatchBool source.standard ⊥ (MissesName be
 abbrev pub ReadsMore : ℕ → SourcesSeen → SourcesSeen → SourceWord → Type 0
 ReadsMore limit before after source = MatchBool source.standard (raised (limit + 1) before.input_bytes ≤ after.input_bytes) (raised (limit + 1) before.file_bytes ≤ after.file_bytes)
 
+-- just so many bytes were read
+abbrev pub ReadsCount : ℕ → SourcesSeen → SourcesSeen → SourceWord → Type 0
+ReadsCount count before after source = MatchBool source.standard (after.input_bytes ≡ raised count before.input_bytes) (after.file_bytes ≡ raised count before.file_bytes)
+
 -- what reading a source, so many bytes at most, answers
 abbrev pub BytesMean : SourceWord → ℕ → SourcesSeen → SourcesSeen → Result Content FileStop → Type 0
-BytesMean source limit before after (Ok bytes) = AtSource before source (λ there. bytes ≡ there) × (length bytes ≤ limit)
+BytesMean source limit before after (Ok bytes) = AtSource before source (λ there. bytes ≡ there) × (length bytes ≤ limit) × ReadsCount (length bytes) before after source
 BytesMean source limit before after (Err stop.Fault) = SourceRose before after source
 BytesMean source limit before after (Err stop.Missing) = SourceMissing before after source
 BytesMean source limit before after (Err stop.TooLong) = AtSource before source (λ there. limit < length there) × ReadsMore limit before after source
@@ -64,11 +68,12 @@ stopped stop.Missing source = Missing source
 stopped stop.TooLong source = TooLong source
 stopped stop.Memory source = Memory
 
--- the bytes of the source were read, and are refused for this reason
-pub record IsRefusedInput (places : ℕ) (budget : Budget) (seen : SourcesSeen) (source : SourceWord) (why : InputWhy) : Type 0 where
+-- the bytes of the source were read and counted, and are refused for this reason
+pub record IsRefusedInput (places : ℕ) (budget : Budget) (seen seen' : SourcesSeen) (source : SourceWord) (why : InputWhy) : Type 0 where
   pub bytes : Content
   pub there : AtSource seen source (λ content. bytes ≡ content)
   pub within : length bytes ≤ budget.bytes
+  pub counted : ReadsCount (length bytes) seen seen' source
   pub refused : Decodes places budget.room source bytes (Err (Refused why))
 
 -- why a source with this number, of which so much may be read, is the last that is read
@@ -76,16 +81,17 @@ abbrev pub SourceStops : ℕ → Budget → ℕ → SourceWord → SourcesSeen �
 SourceStops places budget number source before after (ReadFault n) = (n ≡ number) × SourceRose before after source
 SourceStops places budget number source before after (Missing n) = (n ≡ number) × SourceMissing before after source
 SourceStops places budget number source before after (TooLong n) = (n ≡ number) × AtSource before source (λ there. budget.bytes < length there) × ReadsMore budget.bytes before after source
-SourceStops places budget number source before after (BadInput n why) = (n ≡ number) × IsRefusedInput places budget before source why
+SourceStops places budget number source before after (BadInput n why) = (n ≡ number) × IsRefusedInput places budget before after source why
 SourceStops places budget number source before after Memory = ⊤
 
 -- ---- the sources before it
 
--- the bytes of the source were read, gave these layers, and this may be read behind them
-pub record SourceGives (places : ℕ) (source : SourceWord) (budget left : Budget) (seen : SourcesSeen) (layers : List LayerContent) : Type 0 where
+-- the bytes of the source were read and counted, gave these layers, and this may be read behind them
+pub record SourceGives (places : ℕ) (source : SourceWord) (budget left : Budget) (seen seen' : SourcesSeen) (layers : List LayerContent) : Type 0 where
   pub bytes : Content
   pub there : AtSource seen source (λ content. bytes ≡ content)
   pub within : length bytes ≤ budget.bytes
+  pub counted : ReadsCount (length bytes) seen seen' source
   pub decoded : Decodes places budget.room source bytes (Ok layers)
   pub left_behind : left ≡ budget_behind budget (length bytes) layers
 
@@ -95,7 +101,7 @@ SourcesGive places [] budget seen left after [] = (left ≡ budget) × (after �
 SourcesGive places [] budget seen left after (layers ∷ more) = ⊥
 SourcesGive places (source ∷ sources) budget seen left after [] = ⊥
 SourcesGive places (source ∷ sources) budget seen left after (layers ∷ more) =
-    (behind : Budget) × (middle : SourcesSeen) × SourceGives places source budget behind seen layers × Grew seen middle × SourcesGive places sources behind middle left after more
+    (behind : Budget) × (middle : SourcesSeen) × SourceGives places source budget behind seen middle layers × Grew seen middle × SourcesGive places sources behind middle left after more
 
 -- all sources of a run gave layers
 abbrev pub GivesAll : ℕ → List SourceWord → SourcesSeen → SourcesSeen → List (List LayerContent) → Type 0

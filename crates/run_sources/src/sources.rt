@@ -195,7 +195,8 @@ fn read_source<F: Files, I: Source>(
         (record { files = F.held files.new; file_faults = F.read_faults files.new; file_bytes = F.bytes_read files.new; input = I.left input.new; input_faults = I.faults input.new; input_bytes = I.bytes_read input.new }) }
     ensures writes { NoneFell (F.write_faults files.old) (F.write_faults files.new) }
     ensures gives { IfOk result (λ layers. SourceGives places source.now budget.old budget.new
-        (record { files = F.held files.old; file_faults = F.read_faults files.old; file_bytes = F.bytes_read files.old; input = I.left input.old; input_faults = I.faults input.old; input_bytes = I.bytes_read input.old }) layers) }
+        (record { files = F.held files.old; file_faults = F.read_faults files.old; file_bytes = F.bytes_read files.old; input = I.left input.old; input_faults = I.faults input.old; input_bytes = I.bytes_read input.old })
+        (record { files = F.held files.new; file_faults = F.read_faults files.new; file_bytes = F.bytes_read files.new; input = I.left input.new; input_faults = I.faults input.new; input_bytes = I.bytes_read input.new }) layers) }
 {
     let bytes = match read_bytes(alloc, source, budget.bytes, files, input) {
         Ok(bytes) => bytes,
