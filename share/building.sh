@@ -74,7 +74,7 @@ build_in_turn() {
   touch "$mark.new"
   : >"$log"
   # A made-up mosaic of one cell stands for a run: rt ends with the program's status.
-  (cd "$top/crates/ms_cli" && exec rt run -- synth 1 1) </dev/null >>"$log" 2>&1 &
+  (cd "$top/crates/ms_cli" && exec rt run -- synth 1 1) </dev/null >>"$log" 2>&1 9>&- &
   builder=$!
   for signal in INT TERM HUP; do
     # shellcheck disable=SC2064
