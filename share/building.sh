@@ -73,20 +73,21 @@ build_in_turn() {
   tell_what_comes
   touch "$mark.new"
   : >"$log"
-  # A made-up mosaic of one cell stands for a run: rt ends with the program's status.
-  (cd "$top/crates/ms_cli" && exec rt run -- synth 1 1) </dev/null >>"$log" 2>&1 9>&- &
-  builder=$!
+  builder=
   for signal in INT TERM HUP; do
     # shellcheck disable=SC2064
     trap "interrupt $signal" "$signal"
   done
+  # A made-up mosaic of one cell stands for a run: rt ends with the program's status.
+  (cd "$top/crates/ms_cli" && exec rt run -- synth 1 1) </dev/null >>"$log" 2>&1 9>&- &
+  builder=$!
   follow
   wait "$builder"
   local status=$?
   trap - INT TERM HUP
   clear_line
   if [ "$status" != 0 ] || [ ! -x "$program" ]; then
-    fail "$status"
+    tell_failure "$status"
   fi
   mv "$mark.new" "$mark"
   say "built in $(time_taken): $program"
@@ -166,8 +167,10 @@ time_taken() {
 
 interrupt() {
   trap '' INT TERM HUP
-  kill -TERM "$builder" 2>/dev/null
-  wait "$builder"
+  if [ "$builder" ]; then
+    kill -TERM "$builder" 2>/dev/null
+    wait "$builder"
+  fi
   clear_line
   say "the build was interrupted; the crates that were proved are kept, and the next run goes on from there"
   trap - "$1"
@@ -175,7 +178,7 @@ interrupt() {
 }
 
 # The lines of the log that say why, the first ten of them.
-fail() {
+tell_failure() {
   say "the program was not built: rt ended with status $1; its first lines that tell of a fault:"
   local faults
   faults=$(grep -E 'error(\[|:)|: not proved|: no proof|^rt: |Killed' "$log" | grep -vE '^rt: (chose|running|waiting|[^ ]+: begins with)' | head -n 10)

@@ -50,6 +50,10 @@ print_help() {
 
 # Runs the program and ends as it does. At a terminal a refusal is followed by a line that says where it is explained.
 run() {
+  if [ ! -x "$program" ]; then
+    say "the program is missing: $program"
+    exit "$NO_RUN"
+  fi
   [ -t 2 ] || exec "$program" "$@"
   "$program" "$@"
   local status=$?
