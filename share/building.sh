@@ -6,6 +6,9 @@
 # Measured from nothing, of a whole build; docs/install.md says the same.
 FIRST_BUILD_TAKES="about 45 to 75 minutes on four processors"
 
+# The kit that the proofs were made with, as rt version prints it; README.md and docs/install.md name it too.
+KIT="rattle-kit-13f logic dac8208d650f15bf"
+
 out="$top/crates/ms_cli/out"
 # Its time is that at which the last build that passed began.
 mark="$out/ms_cli.begun"
@@ -94,8 +97,10 @@ build_in_turn() {
 }
 
 tell_what_comes() {
-  local what="not built yet"
+  local what="not built yet" kit
   [ ! -e "$program" ] || what="older than its sources"
+  kit=$(rt version </dev/null 2>/dev/null)
+  [ "$kit" = "$KIT" ] || say "the kit here is ${kit:-of no known line}; the proofs were made with $KIT, and another may refuse them"
   say "the program is $what: proving ${#crates[@]} crates, then compiling it"
   say "from nothing this takes $FIRST_BUILD_TAKES; crates that are proved already are kept, also where this is interrupted"
 }
@@ -144,12 +149,15 @@ come_to() {
   done
 }
 
-# One line that is written anew.
+# One line that is written anew, cut where the terminal ends.
 show_place() {
-  local what="reading the sources"
+  local what="reading the sources" width
   [ "$place" = 0 ] || what="crate $place of ${#crates[@]}: proving ${crates[place - 1]}, $functions functions so far"
+  what="ms_cli: $what, $(time_taken)"
+  width=$(stty size <&2 2>/dev/null | cut -d ' ' -f 2)
+  [ "${width:-0}" -gt 0 ] || width=80
   clear_line
-  printf 'ms_cli: %s, %s' "$what" "$(time_taken)" >&2
+  printf '%s' "${what:0:width - 1}" >&2
 }
 
 clear_line() {
