@@ -16,3 +16,4 @@ pub mod Tracing
 pub mod Growth
 pub mod LayerByLayer
 pub mod Unbegun
+pub mod Refused
