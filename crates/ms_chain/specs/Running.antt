@@ -169,9 +169,9 @@ ChainRuns chain sources sources' before after o = EndsBefore chain sources sourc
 
 -- ---- the words
 
--- what the words of a command line ask for, or why they are refused
+-- what the words of a command line ask for, or why they are refused, by the fault of each text that has one
 abbrev pub ReadsWords : List Content → Result Job WordFault → Type 0
-ReadsWords words answer = (refuses : Refusals) → AreRefusals refuses → Tells FitsJob (read_words refuses words) answer
+ReadsWords words answer = (refuses : Refusals) × AreRefusals refuses × Tells FitsJob (read_words refuses words) answer
 
 -- nothing is read and nothing changes
 pub record EndsUnread (end : Outcome) (seen seen' : SourcesSeen) (before after : OutsideSeen) (o : Outcome) : Type 0 where

@@ -39,6 +39,7 @@ pub fn run<F: Files, I: Source, K: Sink, M: Sink>(
     outcome
 }
 
+#[tactic(auto, using(crate::proofs::Refused::reads_words))]
 fn run_words<F: Files, I: Source, K: Sink>(
     alloc: Global,
     words: &Words,
