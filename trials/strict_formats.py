@@ -159,7 +159,8 @@ def check_polygon(value):
         places = hole + [middle(side) for side in sides(hole)]
         need(all(where(p, rings[0]) >= 0 for p in places), "a hole outside its exterior")
         for other in rings[1:place]:
-            need(where(middle(sides(hole)[0]), other) < 0 and where(middle(sides(other)[0]), hole) < 0, "a hole in a hole")
+            ends = middle(sides(hole)[0]), middle(sides(other)[0])
+            need(where(ends[0], other) < 0 and where(ends[1], hole) < 0, "a hole in a hole")
     return rings
 
 
@@ -216,7 +217,8 @@ def geojson_features(content):
 def check_transform(value):
     members(value, "the transform", ("scale", "translate"))
     for pair in value.values():
-        need(len(listed(pair, "a pair of the transform")) == 2 and all(is_number(v) for v in pair), "a pair is no two numbers")
+        need(len(listed(pair, "a pair of the transform")) == 2, "a pair of the transform has not two items")
+        need(all(is_number(v) for v in pair), "a pair of the transform holds something else than numbers")
     need(all(v != 0 for v in value["scale"]), "a scale of 0")
     return value["scale"], value["translate"]
 
@@ -285,7 +287,8 @@ def topology_objects(content):
     for name, item in value["objects"].items():
         members(item, "an object", ("type", "geometries"))
         need(item["type"] == "GeometryCollection", "an object's type is %s", item["type"])
-        objects[name] = [topology_feature(g, arcs, used, scale, shift) for g in listed(item["geometries"], "geometries")]
+        members_of = listed(item["geometries"], "geometries")
+        objects[name] = [topology_feature(g, arcs, used, scale, shift) for g in members_of]
     need(len(used) == len(arcs), "an arc that nothing names")
     return objects
 
