@@ -15,7 +15,7 @@ use Rattle.chain_model.specs.Outcome.{Outcome, done, read_fault, missing, too_lo
 use Rattle.chain_model.specs.Sources.{Readings, byte_limit}
 use Rattle.chain_model.specs.Messages.{TellsOutcome}
 use Rattle.chain_model.specs.Running.{Effect, WordsTell}
-use Rattle.chain_model.specs.Words.{words_say}
+use Rattle.word_model.specs.Words.{words_say}
 
 -- ---- what effects leave
 

@@ -22,7 +22,7 @@ use Rattle.chain_model.specs.State as st
 use Rattle.chain_model.specs.State.{StateLayer, Shape}
 use Rattle.chain_model.specs.Beginning.{drawing_of}
 use Rattle.chain_model.specs.Running.{Begun, Output, begun_with, run_from}
-use Rattle.chain_model.specs.Words.{words_say}
+use Rattle.word_model.specs.Words.{words_say}
 use Rattle.model_cases.specs.Counted.{counted}
 use Rattle.model_cases.proofs.WholeRows.{chain_of}
 
