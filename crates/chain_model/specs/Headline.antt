@@ -5,6 +5,7 @@ use Rattle.std.specs.Io.KnownBytes.{Appends}
 use Rattle.std.specs.Str.{bytes_eq}
 use Rattle.io_core.specs.Contents.{Content, FileMap}
 use Rattle.io_core.specs.Counts.{Rose, raised}
+use Rattle.io_core.specs.Whole.{MissesName}
 use Rattle.table_ops.specs.Names.{Text}
 use Rattle.cmd_words.specs.Chains.{CommandWords}
 use Rattle.cmd_words.specs.Words.{JobWords, Reading, synth, chain}
@@ -15,7 +16,7 @@ use Rattle.chain_model.specs.Outcome.{Outcome, done, read_fault, missing, too_lo
 use Rattle.chain_model.specs.Sources.{Readings, byte_limit}
 use Rattle.chain_model.specs.Messages.{TellsOutcome}
 use Rattle.chain_model.specs.Running.{Effect, WordsTell}
-use Rattle.chain_model.specs.Words.{words_say}
+use Rattle.word_model.specs.Words.{words_say}
 
 -- ---- what effects leave
 
@@ -162,13 +163,18 @@ WriteFailed before after (Err e) n = ⊥
 abbrev pub ReadTooMuch : Counts → Counts → Type 0
 ReadTooMuch before after = raised (byte_limit + 1) (before.file_bytes + before.input_bytes) ≤ after.file_bytes + after.input_bytes
 
--- A fault is answered only where its count rose; Missing and TooLong so where the contents are not told.
-abbrev pub HasCause : Counts → Counts → Bool → Reading JobWords → Outcome → Type 0
-HasCause before after told words (read_fault n) = SourceFailed before after words n
-HasCause before after told words (write_fault n) = WriteFailed before after words n
-HasCause before after told words (missing n) = MatchBool told ⊤ (SourceFailed before after words n)
-HasCause before after told words (too_long n) = MatchBool told ⊤ (ReadTooMuch before after)
-HasCause before after told words _ = ⊤
+-- source n is a file: told files lack its name, or, where they don't tell, its count rose
+abbrev pub SourceMissing : Option FileMap → Counts → Counts → SourceWord → Type 0
+SourceMissing told before after s = MatchBool s.standard ⊥ (MissesName told s.name (Rose (before.reads s.name) (after.reads s.name)))
+
+-- A fault is answered only where its count rose. Missing needs a name that told files lack, or else a count that rose; TooLong needs that too much
+-- was read, where the sources are not all told.
+abbrev pub HasCause : Reading JobWords → Option FileMap → Option Content → Counts → Counts → Outcome → Type 0
+HasCause words files input before after (read_fault n) = SourceFailed before after words n
+HasCause words files input before after (write_fault n) = WriteFailed before after words n
+HasCause words files input before after (missing n) = HasAt (sources_of words) n (SourceMissing files before after)
+HasCause words files input before after (too_long n) = MatchBool (are_told words files input) ⊤ (ReadTooMuch before after)
+HasCause words files input before after _ = ⊤
 
 -- ---- completeness
 
@@ -195,6 +201,6 @@ pub record Seen : Type 0 where
 -- All that binds a run of these words: what its answer means, what each fault has as its cause, when it has to be Done, and its message.
 pub record IsRunOf (read : Readings) (words : List Text) (before after : Seen) (outcome : Outcome) : Type 0 where
   pub means : Headline read (words_say read.refusals words) before.input before.outside outcome after.outside
-  pub cause : HasCause before.counts after.counts (are_told (words_say read.refusals words) before.outside.files before.input) (words_say read.refusals words) outcome
+  pub cause : HasCause (words_say read.refusals words) before.outside.files before.input before.counts after.counts outcome
   pub complete : IsComplete read (words_say read.refusals words) before.input before.outside before.counts after.counts outcome
   pub message : TellsOutcome outcome before.messages after.messages

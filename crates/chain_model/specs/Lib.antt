@@ -7,8 +7,6 @@ pub mod Sources
 pub mod Beginning
 pub mod Pictures
 pub mod Synth
-pub mod CommandTable
-pub mod Words
 pub mod Running
 pub mod Messages
 pub mod Headline

@@ -24,7 +24,7 @@ use Rattle.chain_model.specs.Sources.{AreReadings, Readings, imported, whole_roo
 use Rattle.chain_model.specs.Beginning.{drawing_of, first_sources, import_layers, first_state}
 use Rattle.chain_model.specs.Pictures.{IsTextOf}
 use Rattle.chain_model.specs.Synth.{cells, IsSynthLine}
-use Rattle.chain_model.specs.Words.{words_say}
+use Rattle.word_model.specs.Words.{words_say}
 
 -- ---- the commands
 

@@ -27,7 +27,7 @@ use Rattle.region_model.specs.Region.{Region, Regions, feature, box, any, both, 
 use Rattle.region_model.specs.Answers.{Answers, AreRight, Plane, plane_of}
 use Rattle.chain_model.specs.Outcome.{done, bad_words, missing}
 use Rattle.chain_model.specs.Headline.{Outside, Headline}
-use Rattle.chain_model.specs.Words.{words_say}
+use Rattle.word_model.specs.Words.{words_say}
 use Rattle.model_cases.proofs.WholeRows.{read, as_csv, chain_of}
 
 abbrev said : List Text → Reading JobWords

@@ -12,3 +12,5 @@ mod RandomWords
 mod SameWords
 mod WholeRows
 mod HeadlineRow
+mod RandomRuns
+mod RandomRings

@@ -11,7 +11,7 @@ use Rattle.cmd_words.specs.declared.fault.ExprWhy.{ExprWhy}
 use Rattle.cmd_words.specs.declared.fault.ExprWhy.TheVariants.{Syntax, Unsupported}
 use Rattle.cmd_words.specs.declared.fault.WordWhy.{WordWhy}
 use Rattle.cmd_words.specs.declared.fault.WordWhy.TheVariants as why
-use Rattle.chain_model.specs.Words.{words_say}
+use Rattle.word_model.specs.Words.{words_say}
 
 -- the texts that occur and are no expressions
 abbrev pub refuses : Text → Option (ℕ × ExprWhy)

@@ -6,7 +6,7 @@ use Rattle.table_ops.specs.Names.{Text}
 use Rattle.cmd_words.specs.Areas.{places_of, area_of}
 use Rattle.cmd_words.specs.Rows.{rows}
 use Rattle.cmd_words.specs.Words.{read_words}
-use Rattle.chain_model.specs.Words.{words_say}
+use Rattle.word_model.specs.Words.{words_say}
 use Rattle.model_cases.proofs.RandomWords.{refuses}
 
 abbrev AgreeOn : List Text → Type 0

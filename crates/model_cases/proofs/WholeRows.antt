@@ -14,7 +14,7 @@ use Rattle.cmd_words.specs.declared.job.Chain.{Chain}
 use Rattle.chain_model.specs.Outcome.{Outcome, done, bad_words, bad_input, missing, syntax, repeated_name, unequal_row, no_header}
 use Rattle.chain_model.specs.Running.{run_from, Output, Begun, begins}
 use Rattle.chain_model.specs.Sources.{Readings}
-use Rattle.chain_model.specs.Words.{words_say}
+use Rattle.word_model.specs.Words.{words_say}
 use Rattle.model_cases.specs.Counted.{counted}
 
 -- no expression and no JSON text is read here, and all bytes are UTF-8

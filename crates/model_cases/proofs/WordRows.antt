@@ -12,7 +12,7 @@ use Rattle.cmd_words.specs.declared.job.Origin.TheVariants as origin
 use Rattle.cmd_words.specs.declared.job.OutForm.TheVariants.{Geo, Csv}
 use Rattle.cmd_words.specs.declared.job.Owner.TheVariants as owner
 use Rattle.cmd_words.specs.declared.job.Target.TheVariants as target
-use Rattle.chain_model.specs.Words.{words_say}
+use Rattle.word_model.specs.Words.{words_say}
 
 -- no text is an expression
 abbrev reads : List Text → Reading JobWords

@@ -25,6 +25,8 @@ use Rattle.region_ops.specs.Mosaic.{AreAscending, Group, IsMosaic, items_of_grou
 use Rattle.region_ops.specs.declared.item_lists.MosaicItem.{MosaicItem}
 use Rattle.region_ops.specs.declared.item_lists.PartItem.{PartItem}
 use Rattle.region_model.specs.Region.{Region, feature, box, both, less, part, any_of, Has}
+use Rattle.region_model.specs.Answers.{AreSides}
+use Rattle.region_model.specs.PolygonCommands.{exactly, regions_at}
 use Rattle.region_classes.specs.Regions.{Follows, FollowEach}
 
 -- the table of the whole arcs of a snapped drawing, its faces, and places labelled by them

@@ -19,7 +19,7 @@ use Rattle.cmd_words.specs.declared.job.Origin.{Origin}
 use Rattle.cmd_words.specs.declared.job.Origin.TheVariants as origin
 use Rattle.cmd_words.specs.declared.job.Owner.TheVariants as owner
 use Rattle.cmd_words.specs.declared.job.SourceWord.{SourceWord}
-use Rattle.chain_model.specs.CommandTable.{Item, option, bare, argument, Said, ValueForm, a_text, a_list, two_names, a_precision, a_rule, a_format, a_box, an_expression, ArgumentForm, nothing, files, source, list, expression, renames, Line, CommandLine, value_in, has_option, has_bare, has_argument, argument_in, argument_text, list_or_empty, target_of, form_in, import_line, line_of, form_of}
+use Rattle.word_model.specs.CommandTable.{Item, option, bare, argument, Said, ValueForm, a_text, a_list, two_names, a_precision, a_rule, a_format, a_box, an_expression, ArgumentForm, nothing, files, source, list, expression, renames, Line, CommandLine, value_in, has_option, has_bare, has_argument, argument_in, argument_text, list_or_empty, target_of, form_in, import_line, line_of, form_of}
 
 -- ---- what a word is in its group
 

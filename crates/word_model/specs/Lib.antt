@@ -1,0 +1,2 @@
+pub mod CommandTable
+pub mod Words
