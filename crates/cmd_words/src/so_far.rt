@@ -1,4 +1,5 @@
-ghost use Rattle.std.specs.Prelude.{◌≡◌, ◌+◌, ◌++◌, IfOk, OnOk, length};
+ghost use Rattle.std.specs.Prelude.{◌≡◌, ◌+◌, ◌++◌, ◌∷◌, [], IfOk, OnOk, length};
+ghost use Rattle.std.specs.Option.{option_to_list};
 ghost use Rattle.cmd_words.specs.Chains.{command_words, source_of, with_command};
 ghost use Rattle.cmd_words.specs.Words.{imported};
 ghost use Rattle.cmd_words.specs.Expressions.{FitsTest};
@@ -12,7 +13,7 @@ use crate::job::{Action, Chain, Command, LayerAction, Owner, SourceWord};
 use crate::texts::{is_standard, names_file};
 use crate::word_groups::Group;
 use expr_lang::Expr;
-use grid_base::BoxList;
+use grid_base::{BoxList, Rect};
 use io_core::Text;
 use std::alloc::{AllocError, Global};
 use std::marker::Model;
@@ -50,12 +51,15 @@ pub(crate) struct SoFar {
 
 impl Model for SoFar {
     ghost use Rattle.cmd_words.specs.Chains.{SoFar as SoFarWords};
-    ghost use Rattle.cmd_words.specs.contracts.job.Command as command_type;
-    ghost use Rattle.std.specs.Coded.{codes};
+    ghost use Rattle.cmd_words.specs.contracts.chain_lists.SourceList as sources_type;
+    ghost use Rattle.grid_base.specs.contracts.list_types.BoxList as boxes_type;
+    ghost use Rattle.cmd_words.specs.contracts.so_far.ReadCommand as command_type;
+    ghost use Rattle.std.specs.Prelude.{refl};
+    ghost use Rattle.std.specs.Coded.{code_by, coded×, coded_list, coded_bool};
 
     ghost Value = { SoFarWords };
 
-    ghost coded = { Prim.hlevel (codes, command_type.the_row.coded) };
+    ghost coded = { code_by _ (coded× (coded× sources_type.the_row.coded boxes_type.the_row.coded) (coded× (coded_list command_type.the_row.coded) coded_bool)) (λ s. ((s.sources, s.boxes), (s.commands, s.reads_standard))) (λ p. record { sources = p.0.0; boxes = p.0.1; commands = p.1.0; reads_standard = p.1.1 }) (λ _. refl) };
 
     ghost view = { λ s. record { sources = s.sources; boxes = s.boxes; commands = s.commands.items; reads_standard = s.reads_standard } };
 }
@@ -88,18 +92,50 @@ impl SoFar {
     ) -> Result<(), AllocError>
         ensures ok { OnOk result (self.new ≡ with_command self.old keyword group) }
     {
-        let reads_standard = group.reads_standard();
-        let area = group.area();
-        let source = source_of(alloc, self.commands.len(), keyword, &group)?;
-        let command = read_command(alloc, self.sources.len(), self.boxes.len(), keyword, group)?;
-        if let Some(source) = source {
+        let (sources, boxes) = (self.sources.len(), self.boxes.len());
+        self.add_source(alloc, keyword, &group)?;
+        self.add_box(group.area())?;
+        self.reads_standard = group.reads_standard();
+        self.add_command(alloc, sources, boxes, keyword, group)
+    }
+
+    // The file that the next command reads, if it reads one.
+    fn add_source(
+        &mut self,
+        alloc: Global,
+        keyword: Keyword,
+        group: &Group,
+    ) -> Result<(), AllocError>
+        ensures ok { OnOk result (self.new ≡ record self.old { sources = self.old.sources ++ option_to_list (source_of (length self.old.commands + 1) keyword group.now) }) }
+    {
+        if let Some(source) = source_of(alloc, self.commands.len(), keyword, group)? {
             self.sources.push(source)?;
         }
+        Ok(())
+    }
+
+    fn add_box(&mut self, area: Option<Rect>) -> Result<(), AllocError>
+        ensures ok { OnOk result (self.new ≡ record self.old { boxes = self.old.boxes ++ option_to_list area }) }
+    {
         if let Some(area) = area {
             self.boxes.push(area)?;
         }
+        Ok(())
+    }
+
+    // The command of a group, where so many sources and boxes stand before it.
+    fn add_command(
+        &mut self,
+        alloc: Global,
+        sources: u32,
+        boxes: u32,
+        keyword: Keyword,
+        group: Group,
+    ) -> Result<(), AllocError>
+        ensures ok { OnOk result (self.new ≡ record self.old { commands = self.old.commands ++ command_words sources boxes keyword group ∷ [] }) }
+    {
+        let command = read_command(alloc, sources, boxes, keyword, group)?;
         self.commands.push(command)?;
-        self.reads_standard = reads_standard;
         Ok(())
     }
 
