@@ -10,11 +10,7 @@ use std::alloc::{AllocError, Global};
 use table_ops::take_rows;
 
 /// The features with these numbers, counted from 0, as a layer of the same name and kind.
-pub fn take_features(
-    alloc: Global,
-    layer: &Layer,
-    numbers: &IdList,
-) -> Result<Layer, AllocError>
+pub fn take_features(alloc: Global, layer: &Layer, numbers: &IdList) -> Result<Layer, AllocError>
     requires { All (λ n. n < length layer.now.table.rows) numbers.now }
     ensures taken { IfOk result (TakesFeatures layer.now numbers.now) }
 {
@@ -23,11 +19,7 @@ pub fn take_features(
 }
 
 /// The features of a layer with other shapes, in order; those without geometry are left out.
-pub fn nonempty(
-    alloc: Global,
-    layer: &Layer,
-    shapes: Vec<Shape>,
-) -> Result<Layer, AllocError>
+pub fn nonempty(alloc: Global, layer: &Layer, shapes: Vec<Shape>) -> Result<Layer, AllocError>
     requires { length shapes.items ≡ length layer.now.table.rows }
     ensures left { IfOk result (LeavesOut layer.now shapes.items) }
 {

@@ -95,9 +95,7 @@ pub(crate) fn each_outputs(
     let area = cut_area(alloc, ground, layers, action)?;
     let mut outputs = Vec::new(alloc);
     for held in layers {
-        outputs.push(held_outputs(
-            alloc, ground, layers, command, action, &area, held,
-        )?)?;
+        outputs.push(held_outputs(alloc, ground, layers, command, action, &area, held)?)?;
     }
     Ok(outputs)
 }

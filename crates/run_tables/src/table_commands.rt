@@ -57,11 +57,7 @@ fn kept_numbers(
 }
 
 /// The layer with these columns alone, in this order.
-pub fn with_fields(
-    alloc: Global,
-    layer: &Layer,
-    fields: &NameList,
-) -> Result<Layer, CommandStop>
+pub fn with_fields(alloc: Global, layer: &Layer, fields: &NameList) -> Result<Layer, CommandStop>
     ensures made { IfOk result (GivesTable (keep_fields layer.now.table fields.now) layer.now) }
 {
     let table = keep_fields(alloc, &layer.table, fields)?;
@@ -69,11 +65,7 @@ pub fn with_fields(
 }
 
 /// The layer with columns under other names.
-pub fn renamed(
-    alloc: Global,
-    layer: &Layer,
-    pairs: &RenameList,
-) -> Result<Layer, CommandStop>
+pub fn renamed(alloc: Global, layer: &Layer, pairs: &RenameList) -> Result<Layer, CommandStop>
     ensures made { IfOk result (GivesTable (rename_fields layer.now.table pairs.now) layer.now) }
 {
     let table = rename_fields(alloc, &layer.table, pairs)?;

@@ -14,9 +14,7 @@ use geojson_io::write_geojson;
 use indexmap::IndexSet;
 use io_core::{Bytes, NameList, Text};
 use run_plane::{Plane, copy_text};
-use run_state::{
-    CommandStop, Ground, Held, RefuseWhy, check_target, is_selected, only_target,
-};
+use run_state::{CommandStop, Ground, Held, RefuseWhy, check_target, is_selected, only_target};
 use std::alloc::{AllocError, Global};
 use table_ops::write_csv;
 use topo_io::{ArcLayers, write_topojson};
