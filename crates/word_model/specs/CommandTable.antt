@@ -133,7 +133,7 @@ pub record CommandLine : Type 0 where
 abbrev pub TARGET : Text × ValueForm
 TARGET = (codes "target", a_list)
 
--- `target=` and `name=`, and `+`
+-- the options of most commands
 abbrev pub usual : List (Text × ValueForm)
 usual = TARGET ∷ (codes "name", a_text) ∷ []
 
