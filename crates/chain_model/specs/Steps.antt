@@ -9,6 +9,8 @@ use Rattle.table_ops.specs.Names.{Text}
 use Rattle.table_ops.specs.Refusals.{unless, first_refusal, on_ok}
 use Rattle.cmd_words.specs.declared.job.Action.{Action}
 use Rattle.cmd_words.specs.declared.job.Action.TheVariants as action
+use Rattle.cmd_words.specs.declared.job.LayerAction.TheVariants as each
+use Rattle.cmd_words.specs.declared.job.JointAction.TheVariants as joint
 use Rattle.cmd_words.specs.declared.job.Command.{Command}
 use Rattle.cmd_words.specs.declared.job.Origin.{Origin}
 use Rattle.cmd_words.specs.declared.job.Origin.TheVariants as origin
@@ -42,15 +44,15 @@ is_polygon k = same_kind k kind.Polygon
 
 -- the kinds that a command takes, among layers of which the first has the kind `first`
 abbrev pub takes : Action → Kind → Kind → Bool
-takes (action.Clip from) first k = has_geometry k
-takes (action.Erase from) first k = has_geometry k
-takes (action.Clean rule allow_empty) first k = is_polygon k
-takes action.Mosaic first k = is_polygon k
-takes action.InnerLines first k = is_polygon k
-takes (action.Lines fields) first k = is_polygon k
-takes action.Explode first k = has_geometry k
-takes (action.Filter test invert remove_empty) first k = not remove_empty || has_geometry k
-takes (action.MergeLayers force) first k = same_kind first k
+takes (action.Each (each.Clip from)) first k = has_geometry k
+takes (action.Each (each.Erase from)) first k = has_geometry k
+takes (action.Each (each.Clean rule allow_empty)) first k = is_polygon k
+takes (action.Each each.Mosaic) first k = is_polygon k
+takes (action.Each each.InnerLines) first k = is_polygon k
+takes (action.Each (each.Lines fields)) first k = is_polygon k
+takes (action.Each each.Explode) first k = has_geometry k
+takes (action.Each (each.Filter test invert remove_empty)) first k = not remove_empty || has_geometry k
+takes (action.Together (joint.MergeLayers force)) first k = same_kind first k
 takes _ first k = true
 
 -- ---- outputs
@@ -66,20 +68,20 @@ by_source sources s o f ls = on_ok (source_region sources s o) (λ (r : Region).
 
 -- the outputs for the targets
 abbrev pub outputs_of : Plane → Answers → SourceLayers → State → Action → List StateLayer → Result (List (List StateLayer)) RefuseWhy
-outputs_of P A sources s (action.Clip o) ls = by_source sources s o (Features.clip_layer P A) ls
-outputs_of P A sources s (action.Erase o) ls = by_source sources s o (Features.erase_layer P A) ls
-outputs_of P A sources s (action.Dissolve spec group_points) ls = each_layer (Features.dissolve_layer P spec group_points) ls
-outputs_of P A sources s (action.Clean rule allow_empty) ls = each_layer (Features.clean_layer P A rule allow_empty) ls
-outputs_of P A sources s action.Mosaic ls = each_layer (Features.mosaic_layer P A) ls
-outputs_of P A sources s action.InnerLines ls = each_layer (Features.inner_lines_layer P A) ls
-outputs_of P A sources s (action.Lines fields) ls = each_layer (Features.lines_layer P A fields) ls
-outputs_of P A sources s action.Explode ls = each_layer (Features.explode_layer P A) ls
-outputs_of P A sources s (action.Join o spec) ls = on_ok (one_layer (origin_layers sources s o)) (λ (l : StateLayer). each_layer (Features.join_layer l spec) ls)
-outputs_of P A sources s (action.Filter test invert remove_empty) ls = each_layer (Features.filter_layer P A test invert remove_empty) ls
-outputs_of P A sources s (action.FilterFields fields) ls = each_layer (Features.filter_fields_layer fields) ls
-outputs_of P A sources s (action.RenameFields pairs) ls = each_layer (Features.rename_fields_layer pairs) ls
-outputs_of P A sources s (action.Split field) ls = each_layer (Features.split_layer field) ls
-outputs_of P A sources s (action.MergeLayers force) ls = Features.merged_layers force ls
+outputs_of P A sources s (action.Each (each.Clip o)) ls = by_source sources s o (Features.clip_layer P A) ls
+outputs_of P A sources s (action.Each (each.Erase o)) ls = by_source sources s o (Features.erase_layer P A) ls
+outputs_of P A sources s (action.Each (each.Dissolve spec group_points)) ls = each_layer (Features.dissolve_layer P spec group_points) ls
+outputs_of P A sources s (action.Each (each.Clean rule allow_empty)) ls = each_layer (Features.clean_layer P A rule allow_empty) ls
+outputs_of P A sources s (action.Each each.Mosaic) ls = each_layer (Features.mosaic_layer P A) ls
+outputs_of P A sources s (action.Each each.InnerLines) ls = each_layer (Features.inner_lines_layer P A) ls
+outputs_of P A sources s (action.Each (each.Lines fields)) ls = each_layer (Features.lines_layer P A fields) ls
+outputs_of P A sources s (action.Each each.Explode) ls = each_layer (Features.explode_layer P A) ls
+outputs_of P A sources s (action.Each (each.Join o spec)) ls = on_ok (one_layer (origin_layers sources s o)) (λ (l : StateLayer). each_layer (Features.join_layer l spec) ls)
+outputs_of P A sources s (action.Each (each.Filter test invert remove_empty)) ls = each_layer (Features.filter_layer P A test invert remove_empty) ls
+outputs_of P A sources s (action.Each (each.FilterFields fields)) ls = each_layer (Features.filter_fields_layer fields) ls
+outputs_of P A sources s (action.Each (each.RenameFields pairs)) ls = each_layer (Features.rename_fields_layer pairs) ls
+outputs_of P A sources s (action.Each (each.Split field)) ls = each_layer (Features.split_layer field) ls
+outputs_of P A sources s (action.Together (joint.MergeLayers force)) ls = Features.merged_layers force ls
 outputs_of P A sources s (action.Write to standard form) ls = Ok []
 
 -- ---- refusals: the source, then the kinds of the targets, then the layers one by one, then too many layers
@@ -89,9 +91,9 @@ refusal_of (Ok v) = None
 refusal_of (Err why) = Some why
 
 abbrev pub refused_source : SourceLayers → State → Action → Option RefuseWhy
-refused_source sources s (action.Clip o) = refusal_of (source_region sources s o)
-refused_source sources s (action.Erase o) = refusal_of (source_region sources s o)
-refused_source sources s (action.Join o spec) = refusal_of (one_layer (origin_layers sources s o))
+refused_source sources s (action.Each (each.Clip o)) = refusal_of (source_region sources s o)
+refused_source sources s (action.Each (each.Erase o)) = refusal_of (source_region sources s o)
+refused_source sources s (action.Each (each.Join o spec)) = refusal_of (one_layer (origin_layers sources s o))
 refused_source sources s _ = None
 
 abbrev pub first_kind : List StateLayer → Kind

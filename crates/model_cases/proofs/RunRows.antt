@@ -14,6 +14,8 @@ use Rattle.table_ops.specs.declared.fault.TableWhy.TheVariants.{NoField, NotNumb
 use Rattle.table_ops.specs.declared.specifications.GroupSpec.{GroupSpec}
 use Rattle.cmd_words.specs.declared.job.Action.{Action}
 use Rattle.cmd_words.specs.declared.job.Action.TheVariants as c
+use Rattle.cmd_words.specs.declared.job.LayerAction.TheVariants as each
+use Rattle.cmd_words.specs.declared.job.JointAction.TheVariants as joint
 use Rattle.cmd_words.specs.declared.job.Command.{Command}
 use Rattle.cmd_words.specs.declared.job.Origin.TheVariants as origin
 use Rattle.cmd_words.specs.declared.job.OutForm.TheVariants.{Geo}
@@ -64,7 +66,7 @@ states = record {
 abbrev by_state : GroupSpec
 by_state = record { by = codes "STATE" ∷ []; copy = []; sum = codes "pop" ∷ [] }
 
-dissolved : printed (run_over (states ∷ []) [] [] (apply (c.Dissolve by_state false) ∷ print ∷ []))
+dissolved : printed (run_over (states ∷ []) [] [] (apply (c.Each (each.Dissolve by_state false)) ∷ print ∷ []))
     ≡ (record {
       name = codes "in";
       kind = kind.Polygon;
@@ -73,23 +75,23 @@ dissolved : printed (run_over (states ∷ []) [] [] (apply (c.Dissolve by_state 
     } ∷ []) ∷ []
 dissolved = refl
 
-not_a_number : (run_over (states ∷ []) [] [] (apply (c.Dissolve (record { by = []; copy = []; sum = codes "STATE" ∷ [] }) false) ∷ print ∷ [])).1 ≡ refused 1 (in_table (NotNumber 0))
+not_a_number : (run_over (states ∷ []) [] [] (apply (c.Each (each.Dissolve (record { by = []; copy = []; sum = codes "STATE" ∷ [] }) false)) ∷ print ∷ [])).1 ≡ refused 1 (in_table (NotNumber 0))
 not_a_number = refl
 
 -- split by STATE gives a layer for each value; without a target the two are too many
 abbrev names_printed : List Output × Outcome → List (List Text)
 names_printed r = map (map (λ (l : StateLayer). l.name)) (printed r)
 
-split_names : names_printed (run_over (states ∷ []) [] [] (apply (c.Split (Some (codes "STATE"))) ∷ record print { target = target.Names (codes "X" ∷ []) } ∷ [])) ≡ (codes "X" ∷ []) ∷ []
+split_names : names_printed (run_over (states ∷ []) [] [] (apply (c.Each (each.Split (Some (codes "STATE")))) ∷ record print { target = target.Names (codes "X" ∷ []) } ∷ [])) ≡ (codes "X" ∷ []) ∷ []
 split_names = refl
 
-split_needs_a_target : (run_over (states ∷ []) [] [] (apply (c.Split (Some (codes "STATE"))) ∷ print ∷ [])).1 ≡ refused 2 many_layers
+split_needs_a_target : (run_over (states ∷ []) [] [] (apply (c.Each (each.Split (Some (codes "STATE")))) ∷ print ∷ [])).1 ≡ refused 2 many_layers
 split_needs_a_target = refl
 
-no_such_layer : (run_over (states ∷ []) [] [] (apply (c.Clip (origin.Layer (codes "other"))) ∷ print ∷ [])).1 ≡ refused 1 no_layer
+no_such_layer : (run_over (states ∷ []) [] [] (apply (c.Each (each.Clip (origin.Layer (codes "other")))) ∷ print ∷ [])).1 ≡ refused 1 no_layer
 no_such_layer = refl
 
-no_such_field : (run_over (states ∷ []) [] [] (apply (c.FilterFields (codes "nope" ∷ [])) ∷ print ∷ [])).1 ≡ refused 1 (in_table (NoField 0))
+no_such_field : (run_over (states ∷ []) [] [] (apply (c.Each (each.FilterFields (codes "nope" ∷ []))) ∷ print ∷ [])).1 ≡ refused 1 (in_table (NoField 0))
 no_such_field = refl
 
 -- ---- two overlapping squares, erased by themselves
@@ -103,7 +105,7 @@ overlapping = record {
 }
 
 -- by a source file with the same squares, whose features have the numbers 2 and 3: nothing is left
-erased : printed (run_over (overlapping ∷ []) (overlapping ∷ []) [] (apply (c.Erase (origin.Source 2)) ∷ print ∷ []))
+erased : printed (run_over (overlapping ∷ []) (overlapping ∷ []) [] (apply (c.Each (each.Erase (origin.Source 2))) ∷ print ∷ []))
     ≡ (record { name = codes "in"; kind = kind.Polygon; table = record { names = codes "n" ∷ []; rows = [] }; shapes = [] } ∷ []) ∷ []
 erased = refl
 
@@ -111,7 +113,7 @@ erased = refl
 abbrev equal_squares : LayerContent
 equal_squares = record overlapping { shapes = square 0 0 4 4 ∷ square 0 0 4 4 ∷ [] }
 
-cleaned : printed (run_over (equal_squares ∷ []) [] [] (apply (c.Clean MaxArea false) ∷ print ∷ []))
+cleaned : printed (run_over (equal_squares ∷ []) [] [] (apply (c.Each (each.Clean MaxArea false)) ∷ print ∷ []))
     ≡ (record { name = codes "in"; kind = kind.Polygon; table = record { names = codes "n" ∷ []; rows = (Words (codes "a") ∷ []) ∷ [] }; shapes = st.region (less (feature 0) (any_of [])) ∷ [] } ∷ []) ∷ []
 cleaned = refl
 
@@ -123,11 +125,11 @@ one_square = record { name = codes "in"; kind = kind.Polygon; table = record { n
 abbrev rect : ℕ → ℕ → ℕ → ℕ → Corners
 rect a b d e = record { low = point a b; high = point d e }
 
-flat_box : printed (run_over (one_square ∷ []) [] (rect 2 0 2 4 ∷ []) (apply (c.Clip (origin.Area 0)) ∷ print ∷ []))
+flat_box : printed (run_over (one_square ∷ []) [] (rect 2 0 2 4 ∷ []) (apply (c.Each (each.Clip (origin.Area 0))) ∷ print ∷ []))
     ≡ (record { name = codes "in"; kind = kind.Polygon; table = record { names = []; rows = [] }; shapes = [] } ∷ []) ∷ []
 flat_box = refl
 
-clipped : printed (run_over (one_square ∷ []) [] (rect 0 0 2 4 ∷ []) (apply (c.Clip (origin.Area 0)) ∷ print ∷ []))
+clipped : printed (run_over (one_square ∷ []) [] (rect 0 0 2 4 ∷ []) (apply (c.Each (each.Clip (origin.Area 0))) ∷ print ∷ []))
     ≡ (record { name = codes "in"; kind = kind.Polygon; table = record { names = []; rows = [] ∷ [] }; shapes = st.region (both (feature 0) (box 0)) ∷ [] } ∷ []) ∷ []
 clipped = refl
 
@@ -137,17 +139,17 @@ abbrev two_points : LayerContent
 two_points = record { name = codes "in"; kind = kind.Point; table = record { names = []; rows = [] ∷ [] ∷ [] }; shapes = Points (point 0 2 ∷ []) ∷ Points (point 5 5 ∷ []) ∷ [] }
 
 -- a point on the side of the box is inside
-clipped_points : printed (run_over (two_points ∷ []) [] (rect 0 0 4 4 ∷ []) (apply (c.Clip (origin.Area 0)) ∷ print ∷ []))
+clipped_points : printed (run_over (two_points ∷ []) [] (rect 0 0 4 4 ∷ []) (apply (c.Each (each.Clip (origin.Area 0))) ∷ print ∷ []))
     ≡ (record { name = codes "in"; kind = kind.Point; table = record { names = []; rows = [] ∷ [] }; shapes = st.points (point 0 2 ∷ []) ∷ [] } ∷ []) ∷ []
 clipped_points = refl
 
-no_lines_of_points : (run_over (two_points ∷ []) [] [] (apply c.InnerLines ∷ print ∷ [])).1 ≡ refused 1 wrong_kind
+no_lines_of_points : (run_over (two_points ∷ []) [] [] (apply (c.Each each.InnerLines) ∷ print ∷ [])).1 ≡ refused 1 wrong_kind
 no_lines_of_points = refl
 
-points_need_a_word : (run_over (two_points ∷ []) [] [] (apply (c.Dissolve (record { by = []; copy = []; sum = [] }) false) ∷ print ∷ [])).1 ≡ refused 1 no_group_points
+points_need_a_word : (run_over (two_points ∷ []) [] [] (apply (c.Each (each.Dissolve (record { by = []; copy = []; sum = [] }) false)) ∷ print ∷ [])).1 ≡ refused 1 no_group_points
 points_need_a_word = refl
 
-grouped_points : printed (run_over (two_points ∷ []) [] [] (apply (c.Dissolve (record { by = []; copy = []; sum = [] }) true) ∷ print ∷ []))
+grouped_points : printed (run_over (two_points ∷ []) [] [] (apply (c.Each (each.Dissolve (record { by = []; copy = []; sum = [] }) true)) ∷ print ∷ []))
     ≡ (record { name = codes "in"; kind = kind.Point; table = record { names = []; rows = [] ∷ [] }; shapes = st.points (point 0 2 ∷ point 5 5 ∷ []) ∷ [] } ∷ []) ∷ []
 grouped_points = refl
 
@@ -156,10 +158,10 @@ grouped_points = refl
 abbrev with_column : Text → Text → LayerContent
 with_column name column = record { name = name; kind = kind.Point; table = record { names = column ∷ []; rows = (n 1 ∷ []) ∷ [] }; shapes = Points (point 1 1 ∷ []) ∷ [] }
 
-differing : (run_over (with_column (codes "a") (codes "x") ∷ with_column (codes "b") (codes "y") ∷ []) [] [] (apply (c.MergeLayers false) ∷ print ∷ [])).1 ≡ refused 1 (in_table (FieldsDiffer 1))
+differing : (run_over (with_column (codes "a") (codes "x") ∷ with_column (codes "b") (codes "y") ∷ []) [] [] (apply (c.Together (joint.MergeLayers false)) ∷ print ∷ [])).1 ≡ refused 1 (in_table (FieldsDiffer 1))
 differing = refl
 
-forced : printed (run_over (with_column (codes "a") (codes "x") ∷ with_column (codes "b") (codes "y") ∷ []) [] [] (apply (c.MergeLayers true) ∷ print ∷ []))
+forced : printed (run_over (with_column (codes "a") (codes "x") ∷ with_column (codes "b") (codes "y") ∷ []) [] [] (apply (c.Together (joint.MergeLayers true)) ∷ print ∷ []))
     ≡ (record { name = codes "a"; kind = kind.Point; table = record { names = codes "x" ∷ codes "y" ∷ []; rows = (n 1 ∷ Null ∷ []) ∷ (Null ∷ n 1 ∷ []) ∷ [] }; shapes = st.points (point 1 1 ∷ []) ∷ st.points (point 1 1 ∷ []) ∷ [] } ∷ []) ∷ []
 forced = refl
 
@@ -168,7 +170,7 @@ forced = refl
 abbrev two_squares : LayerContent
 two_squares = record { name = codes "in"; kind = kind.Polygon; table = record { names = []; rows = [] ∷ [] ∷ [] }; shapes = square 0 0 2 2 ∷ square 2 0 4 2 ∷ [] }
 
-outer_inner_outer : printed (run_over (two_squares ∷ []) [] [] (apply (c.Lines []) ∷ print ∷ []))
+outer_inner_outer : printed (run_over (two_squares ∷ []) [] [] (apply (c.Each (each.Lines [])) ∷ print ∷ []))
     ≡ (record {
       name = codes "in";
       kind = kind.Line;

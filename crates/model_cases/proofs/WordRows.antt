@@ -8,6 +8,7 @@ use Rattle.cmd_words.specs.Words.{JobWords, Reading, chain}
 use Rattle.cmd_words.specs.declared.fault.ExprWhy.TheVariants.{Unsupported}
 use Rattle.cmd_words.specs.declared.fault.WordWhy.TheVariants as why
 use Rattle.cmd_words.specs.declared.job.Action.TheVariants as ask
+use Rattle.cmd_words.specs.declared.job.LayerAction.TheVariants as each
 use Rattle.cmd_words.specs.declared.job.Origin.TheVariants as origin
 use Rattle.cmd_words.specs.declared.job.OutForm.TheVariants.{Geo, Csv}
 use Rattle.cmd_words.specs.declared.job.Owner.TheVariants as owner
@@ -49,7 +50,7 @@ boxed : reads (codes "in.json" ∷ codes "precision=1" ∷ codes "-clip" ∷ cod
   so_far = record {
     sources = record { name = codes "in.json"; standard = false; owner = owner.Import; string_fields = [] } ∷ [];
     boxes = record { low = record { x = pos 0; y = pos 0 }; high = record { x = pos 2; y = pos 4 } } ∷ [];
-    commands = record { command = record { target = target.Default; name = None; keep = false; action = ask.Clip (origin.Area 0) }; test = None }
+    commands = record { command = record { target = target.Default; name = None; keep = false; action = ask.Each (each.Clip (origin.Area 0)) }; test = None }
         ∷ record { command = record { target = target.Names (codes "a" ∷ codes "b" ∷ []); name = None; keep = false; action = ask.Write (codes "-") true Geo }; test = None } ∷ [];
     reads_standard = false;
   };
@@ -63,7 +64,7 @@ sourced : reads (codes "-" ∷ codes "-clip" ∷ codes "x.JSON" ∷ codes "+" �
   so_far = record {
     sources = record { name = codes "-"; standard = true; owner = owner.Import; string_fields = [] } ∷ record { name = codes "x.JSON"; standard = false; owner = owner.Command 1; string_fields = [] } ∷ [];
     boxes = [];
-    commands = record { command = record { target = target.Default; name = Some (codes "c"); keep = true; action = ask.Clip (origin.Source 2) }; test = None }
+    commands = record { command = record { target = target.Default; name = Some (codes "c"); keep = true; action = ask.Each (each.Clip (origin.Source 2)) }; test = None }
         ∷ record { command = record { target = target.Default; name = None; keep = false; action = ask.Write (codes "y.csv") false Csv }; test = None } ∷ [];
     reads_standard = true;
   };

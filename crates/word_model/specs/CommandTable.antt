@@ -11,6 +11,8 @@ use Rattle.cmd_words.specs.Texts.{form_by_ending, is_standard, pieces}
 use Rattle.cmd_words.specs.Values.{form_named, renames_of, rule_of}
 use Rattle.cmd_words.specs.declared.job.Action.{Action}
 use Rattle.cmd_words.specs.declared.job.Action.TheVariants as ask
+use Rattle.cmd_words.specs.declared.job.LayerAction.TheVariants as each
+use Rattle.cmd_words.specs.declared.job.JointAction.TheVariants as joint
 use Rattle.cmd_words.specs.declared.job.Origin.{Origin}
 use Rattle.cmd_words.specs.declared.job.OutForm.{OutForm}
 use Rattle.cmd_words.specs.declared.job.OutForm.TheVariants.{Geo}
@@ -155,30 +157,30 @@ needs_source said = has_argument said || has_option said (codes "bbox")
 
 abbrev pub command_lines : List CommandLine
 command_lines =
-    record { word = codes "-clip"; line = line source ((codes "bbox", a_box) ∷ usual) (PLUS ∷ []); has_needed = needs_source; asks = λ from said. ask.Clip from }
-    ∷ record { word = codes "-erase"; line = line source ((codes "bbox", a_box) ∷ usual) (PLUS ∷ []); has_needed = needs_source; asks = λ from said. ask.Erase from }
-    ∷ record { word = codes "-dissolve"; line = line list ((codes "sum-fields", a_list) ∷ (codes "copy-fields", a_list) ∷ usual) (codes "group-points" ∷ PLUS ∷ []); has_needed = anything; asks = λ from said. ask.Dissolve (group_spec said) (has_bare said (codes "group-points")) }
-    ∷ record { word = codes "-clean"; line = line nothing ((codes "overlap-rule", a_rule) ∷ usual) (codes "allow-empty" ∷ PLUS ∷ []); has_needed = anything; asks = λ from said. ask.Clean (unwrap_or (option_and_then rule_of (value_in said (codes "overlap-rule"))) MaxArea) (has_bare said (codes "allow-empty")) }
-    ∷ record { word = codes "-mosaic"; line = line nothing usual (PLUS ∷ []); has_needed = anything; asks = λ from said. ask.Mosaic }
-    ∷ record { word = codes "-innerlines"; line = line nothing usual (PLUS ∷ []); has_needed = anything; asks = λ from said. ask.InnerLines }
-    ∷ record { word = codes "-explode"; line = line nothing usual (PLUS ∷ []); has_needed = anything; asks = λ from said. ask.Explode }
-    ∷ record { word = codes "-lines"; line = line list usual (PLUS ∷ []); has_needed = anything; asks = λ from said. ask.Lines (list_or_empty (argument_in said)) }
+    record { word = codes "-clip"; line = line source ((codes "bbox", a_box) ∷ usual) (PLUS ∷ []); has_needed = needs_source; asks = λ from said. ask.Each (each.Clip from) }
+    ∷ record { word = codes "-erase"; line = line source ((codes "bbox", a_box) ∷ usual) (PLUS ∷ []); has_needed = needs_source; asks = λ from said. ask.Each (each.Erase from) }
+    ∷ record { word = codes "-dissolve"; line = line list ((codes "sum-fields", a_list) ∷ (codes "copy-fields", a_list) ∷ usual) (codes "group-points" ∷ PLUS ∷ []); has_needed = anything; asks = λ from said. ask.Each (each.Dissolve (group_spec said) (has_bare said (codes "group-points"))) }
+    ∷ record { word = codes "-clean"; line = line nothing ((codes "overlap-rule", a_rule) ∷ usual) (codes "allow-empty" ∷ PLUS ∷ []); has_needed = anything; asks = λ from said. ask.Each (each.Clean (unwrap_or (option_and_then rule_of (value_in said (codes "overlap-rule"))) MaxArea) (has_bare said (codes "allow-empty"))) }
+    ∷ record { word = codes "-mosaic"; line = line nothing usual (PLUS ∷ []); has_needed = anything; asks = λ from said. (ask.Each each.Mosaic) }
+    ∷ record { word = codes "-innerlines"; line = line nothing usual (PLUS ∷ []); has_needed = anything; asks = λ from said. (ask.Each each.InnerLines) }
+    ∷ record { word = codes "-explode"; line = line nothing usual (PLUS ∷ []); has_needed = anything; asks = λ from said. (ask.Each each.Explode) }
+    ∷ record { word = codes "-lines"; line = line list usual (PLUS ∷ []); has_needed = anything; asks = λ from said. ask.Each (each.Lines (list_or_empty (argument_in said))) }
     ∷ record {
       word = codes "-join";
       line = line source ((codes "keys", two_names) ∷ (codes "fields", a_list) ∷ (codes "where", an_expression) ∷ (codes "prefix", a_text) ∷ (codes "string-fields", a_list) ∷ TARGET ∷ []) (codes "force" ∷ []);
       has_needed = λ said. has_argument said && has_option said (codes "keys");
-      asks = λ from said. ask.Join from (join_spec said);
+      asks = λ from said. ask.Each (each.Join from (join_spec said));
     }
     ∷ record {
       word = codes "-filter";
       line = line expression usual (codes "invert" ∷ codes "remove-empty" ∷ PLUS ∷ []);
       has_needed = λ said. has_argument said || has_bare said (codes "remove-empty");
-      asks = λ from said. ask.Filter None (has_bare said (codes "invert")) (has_bare said (codes "remove-empty"));
+      asks = λ from said. ask.Each (each.Filter None (has_bare said (codes "invert")) (has_bare said (codes "remove-empty")));
     }
-    ∷ record { word = codes "-filter-fields"; line = line list (TARGET ∷ []) []; has_needed = anything; asks = λ from said. ask.FilterFields (list_or_empty (argument_in said)) }
-    ∷ record { word = codes "-rename-fields"; line = line renames (TARGET ∷ []) []; has_needed = has_argument; asks = λ from said. ask.RenameFields (renames_in said) }
-    ∷ record { word = codes "-split"; line = line text (TARGET ∷ []) (PLUS ∷ []); has_needed = anything; asks = λ from said. ask.Split (argument_in said) }
-    ∷ record { word = codes "-merge-layers"; line = line nothing usual (codes "force" ∷ PLUS ∷ []); has_needed = anything; asks = λ from said. ask.MergeLayers (has_bare said (codes "force")) }
+    ∷ record { word = codes "-filter-fields"; line = line list (TARGET ∷ []) []; has_needed = anything; asks = λ from said. ask.Each (each.FilterFields (list_or_empty (argument_in said))) }
+    ∷ record { word = codes "-rename-fields"; line = line renames (TARGET ∷ []) []; has_needed = has_argument; asks = λ from said. ask.Each (each.RenameFields (renames_in said)) }
+    ∷ record { word = codes "-split"; line = line text (TARGET ∷ []) (PLUS ∷ []); has_needed = anything; asks = λ from said. ask.Each (each.Split (argument_in said)) }
+    ∷ record { word = codes "-merge-layers"; line = line nothing usual (codes "force" ∷ PLUS ∷ []); has_needed = anything; asks = λ from said. ask.Together (joint.MergeLayers (has_bare said (codes "force"))) }
     ∷ record { word = codes "-o"; line = line text ((codes "format", a_format) ∷ TARGET ∷ []) (codes "force" ∷ []); has_needed = has_argument; asks = λ from said. ask.Write (argument_text said) (is_standard (argument_text said)) (unwrap_or (form_in said) Geo) }
     ∷ []
 
