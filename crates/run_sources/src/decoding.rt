@@ -1,10 +1,11 @@
-ghost use Rattle.std.specs.Prelude.{◌≡◌, ◌≤◌, ◌∷◌, [], IfOk, replicate};
+ghost use Rattle.std.specs.Prelude.{◌≡◌, ◌≤◌, ◌∷◌, [], All, IfOk, replicate};
 ghost use Rattle.json_read.specs.Seen.{json_value};
 ghost use Rattle.run_sources.specs.Decoding.{json_stop, table_stop, is_topology, table_layer, Decodes, DecodesJson, DecodesTable, TopologyGives, ValueGives};
+ghost use Rattle.geojson_io.specs.Sound.{LayerIsSound};
 ghost use Rattle.geojson_io.specs.declared.shape.GeoShape.TheVariants.{Nothing};
 
-use crate::formats::{is_csv, title_of};
 use crate::fault::InputWhy;
+use crate::formats::{is_csv, title_of};
 use cmd_words::SourceWord;
 use geojson_io::{GeoLayer, GeoLayers, GeoShape, GeoShapeList, Room, ShapeFault, read_geojson};
 use grid_base::Kind;
@@ -42,6 +43,7 @@ pub(crate) fn decoded(
 ) -> Result<GeoLayers, DecodeStop>
     requires { places ≤ 7 }
     ensures gives { Decodes places room source.now bytes.now result }
+    ensures sound { IfOk result (λ layers. All LayerIsSound layers) }
 {
     if is_csv(source, bytes) {
         table_layers(alloc, source, room, bytes)
@@ -59,6 +61,7 @@ fn json_layers(
 ) -> Result<GeoLayers, DecodeStop>
     requires { places ≤ 7 }
     ensures gives { DecodesJson places room title.now bytes.now result }
+    ensures sound { IfOk result (λ layers. All LayerIsSound layers) }
 {
     match Json::parse(alloc, bytes) {
         Ok(json) => value_layers(alloc, title, places, room, &json),
@@ -86,6 +89,7 @@ fn value_layers(
 ) -> Result<GeoLayers, DecodeStop>
     requires { places ≤ 7 }
     ensures gives { ValueGives places room title.now (json_value json.now) result }
+    ensures sound { IfOk result (λ layers. All LayerIsSound layers) }
 {
     if is_topology(json) {
         return topology_layers(alloc, places, room, json);
@@ -107,6 +111,7 @@ fn topology_layers(
 ) -> Result<GeoLayers, DecodeStop>
     requires { places ≤ 7 }
     ensures gives { TopologyGives places room (json_value json.now) result }
+    ensures sound { IfOk result (λ layers. All LayerIsSound layers) }
 {
     match read_topojson(alloc, json, places, room) {
         Ok(layers) => Ok(layers),
@@ -137,6 +142,7 @@ fn table_layers(
     bytes: &[u8],
 ) -> Result<GeoLayers, DecodeStop>
     ensures gives { DecodesTable room source.now bytes.now result }
+    ensures sound { IfOk result (λ layers. All LayerIsSound layers) }
 {
     let rows = Room2 {
         rows: room.features,

@@ -1,6 +1,7 @@
-ghost use Rattle.std.specs.Prelude.{◌≡◌, ◌≤◌, ◌<◌, ◌-◌, ◌^◌, ◌++◌, ◌∷◌, [], length, map, sum_by, Err, IfErr, IfOk, OnOk, OnErr};
+ghost use Rattle.std.specs.Prelude.{◌≡◌, ◌≤◌, ◌<◌, ◌-◌, ◌^◌, ◌++◌, ◌∷◌, [], length, map, sum_by, All, Err, IfErr, IfOk, OnOk, OnErr};
 ghost use Rattle.run_sources.specs.declared.fault.SourceFault.TheVariants.{Memory};
 ghost use Rattle.io_core.specs.Counts.{NoneFell};
+ghost use Rattle.geojson_io.specs.Sound.{LayerIsSound};
 ghost use Rattle.run_sources.specs.Budget.{whole_budget, budget_behind, feature_count, position_count, positions_in, positions_along};
 ghost use Rattle.run_sources.specs.Sources.{Grew, BytesMean, stopped, SourceGives, SourceStops, GivesAll, StopsAtSource};
 
@@ -140,6 +141,7 @@ pub fn read_sources<F: Files, I: Source>(
         (record { files = F.held files.old; file_faults = F.read_faults files.old; file_bytes = F.bytes_read files.old; input = I.left input.old; input_faults = I.faults input.old; input_bytes = I.bytes_read input.old })
         (record { files = F.held files.new; file_faults = F.read_faults files.new; file_bytes = F.bytes_read files.new; input = I.left input.new; input_faults = I.faults input.new; input_bytes = I.bytes_read input.new }) }
     ensures writes { NoneFell (F.write_faults files.old) (F.write_faults files.new) }
+    ensures sound { IfOk result (λ all. All (λ read. All LayerIsSound read.layers) all.items) }
     ensures owners { IfOk result (λ all. map (λ read. read.owner) all.items ≡ map (λ source. source.owner) sources.now) }
     ensures gives { IfOk result (λ all. GivesAll places sources.now
         (record { files = F.held files.old; file_faults = F.read_faults files.old; file_bytes = F.bytes_read files.old; input = I.left input.old; input_faults = I.faults input.old; input_bytes = I.bytes_read input.old })
@@ -194,6 +196,7 @@ fn read_source<F: Files, I: Source>(
         (record { files = F.held files.old; file_faults = F.read_faults files.old; file_bytes = F.bytes_read files.old; input = I.left input.old; input_faults = I.faults input.old; input_bytes = I.bytes_read input.old })
         (record { files = F.held files.new; file_faults = F.read_faults files.new; file_bytes = F.bytes_read files.new; input = I.left input.new; input_faults = I.faults input.new; input_bytes = I.bytes_read input.new }) }
     ensures writes { NoneFell (F.write_faults files.old) (F.write_faults files.new) }
+    ensures sound { IfOk result (λ layers. All LayerIsSound layers) }
     ensures gives { IfOk result (λ layers. SourceGives places source.now budget.old budget.new
         (record { files = F.held files.old; file_faults = F.read_faults files.old; file_bytes = F.bytes_read files.old; input = I.left input.old; input_faults = I.faults input.old; input_bytes = I.bytes_read input.old })
         (record { files = F.held files.new; file_faults = F.read_faults files.new; file_bytes = F.bytes_read files.new; input = I.left input.new; input_faults = I.faults input.new; input_bytes = I.bytes_read input.new }) layers) }

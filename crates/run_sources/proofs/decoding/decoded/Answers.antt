@@ -9,6 +9,7 @@ pub returns-then-is_csv : goal.returns-then-is_csv
 returns-then-is_csv c = record {
   gives = subst (λ (b : Bool). MatchBool b (DecodesTable c.args.room c.args.source.now c.args.bytes.now c.table_layers.result) (DecodesJson c.args.places c.args.room (title_of c.args.source.now) c.args.bytes.now c.table_layers.result))
       (sym c.if-is_csv.true ∙ c.is_csv.ensures.exact) c.table_layers.ensures.gives;
+  sound = c.table_layers.ensures.sound;
 }
 
 pub returns-else-is_csv : goal.returns-else-is_csv
@@ -17,4 +18,5 @@ returns-else-is_csv c =
     record {
       gives = subst (λ (b : Bool). MatchBool b (DecodesTable c.args.room c.args.source.now c.args.bytes.now c.json_layers.result) (DecodesJson c.args.places c.args.room (title_of c.args.source.now) c.args.bytes.now c.json_layers.result))
           (sym c.if-is_csv.false ∙ c.is_csv.ensures.exact) titled;
+      sound = c.json_layers.ensures.sound;
     }

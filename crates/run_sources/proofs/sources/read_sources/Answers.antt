@@ -1,7 +1,10 @@
 use Rattle.std.proofs.Common.{◌≡◌, ◌++◌, ◌∷◌, [], ◌∙◌, ◌+◌, List, length, map, take, refl, sym, ap, subst}
+use Rattle.std.specs.Prelude.{All}
 use Rattle.std.proofs.lemmas.List.{map-append, take_more}
+use Rattle.std.proofs.lemmas.List.Elements.{All-nil, All-push}
 use Rattle.std.proofs.lemmas.Option.{slice_get_read, get_or_from_slice_get}
 use Rattle.geojson_io.specs.LayerContent.{LayerContent}
+use Rattle.geojson_io.specs.Sound.{LayerIsSound}
 use Rattle.cmd_words.specs.declared.job.Owner.{Owner}
 use Rattle.cmd_words.specs.declared.job.SourceWord.{SourceWord}
 use Rattle.run_sources.specs.Budget.{whole_budget}
@@ -17,6 +20,9 @@ layers_of read = read.layers
 abbrev owner_of : ReadSource → Owner
 owner_of read = read.owner
 
+abbrev is_sound : ReadSource → Type 0
+is_sound read = All LayerIsSound read.layers
+
 abbrev word_owner : SourceWord → Owner
 word_owner source = source.owner
 
@@ -26,6 +32,7 @@ loop-i-init g c =
     record {
       grew = grew_same seen;
       writes = none_fell_same (g.F.Files.write_faults c.args.files.now);
+      sound = subst (All is_sound) (sym c.new-all.ensures.items) (All-nil is_sound);
       owners = ap (map owner_of) c.new-all.ensures.items;
       given = subst (λ (items : List ReadSource). SourcesGive c.args.places [] whole_budget seen c.whole-budget.result seen (map layers_of items)) (sym c.new-all.ensures.items) (c.whole-budget.ensures.whole, refl);
     }
@@ -73,6 +80,7 @@ loop-i-preserved g c =
     record {
       grew = grew_on before middle after c.loop-i.invariant.grew c.read_source-read.ensures.grew;
       writes = none_fell_on _ _ _ c.loop-i.invariant.writes c.read_source-read.ensures.writes;
+      sound = subst (All is_sound) (sym c.in-Ok-keep.ensures.kept) (All-push is_sound c.loop-i.all.items found c.loop-i.invariant.sound c.in-Ok.ensures.sound);
       owners =
           ap (map owner_of) c.in-Ok-keep.ensures.kept
           ∙ map-append owner_of c.loop-i.all.items (found ∷ [])
