@@ -19,10 +19,10 @@ add_ring-requires-clause-polygon c =
     c.in_ok-add_polygon.ensures.ok ∙ (λ i. let d : Drawing = (c.in_ok-add_feature.ensures.ok i).1 in record d { polygons = add_polygon d.polygons }) in
     subst (λ (d : Drawing). 0 < length (last_of [] d.polygons)) (sym grown) (polygon_there old.polygons)
 
-pub returns-clause-added : goal.returns-clause-added
-returns-clause-added c =
+pub returns : goal.returns
+returns c =
     let old = c.args.drawing.now in
     let ring = c.args.ring in
     let grown : c.add_polygon.new.self ≡ record old { polygons = add_polygon (old.polygons ++ [] ∷ []) } =
     c.in_ok-add_polygon.ensures.ok ∙ (λ i. let d : Drawing = (c.in_ok-add_feature.ensures.ok i).1 in record d { polygons = add_polygon d.polygons }) in
-    on_ok_weaker c.add_ring.result (λ h. h ∙ ap (λ (d : Drawing). record d { polygons = add_ring ring d.polygons }) grown ∙ (λ i. record old { polygons = ring_there old.polygons ring i })) c.add_ring.ensures.ok
+    record { added = on_ok_weaker c.add_ring.result (λ h. h ∙ ap (λ (d : Drawing). record d { polygons = add_ring ring d.polygons }) grown ∙ (λ i. record old { polygons = ring_there old.polygons ring i })) c.add_ring.ensures.ok }
