@@ -7,7 +7,7 @@ use Rattle.run_beginning.specs.Drawing.{drawing_of}
 use Rattle.cmd_words.specs.declared.job.SourceWord.{SourceWord}
 use Rattle.io_core.proofs.Reading.{NeverFell-refl}
 use Rattle.ms_chain.specs.Effects.{OutsideSeen}
-use Rattle.run_sources.specs.Sources.{SourcesSeen, GivesAll}
+use Rattle.run_sources.specs.Sources.{SourcesSeen, GivesAll, StopsAtSource}
 use Rattle.ms_chain.proofs.running.run_chain.Goals as goal
 
 pub returns-in-Ok-begin : goal.returns-in-Ok-begin
@@ -53,6 +53,25 @@ returns-in-Err-begin g c =
           fault = c.in-Err-begin.fault;
           unbegun = c.in-Err-begin.ensures.fault;
           ends = c.of_drawing.ensures.exact;
+        });
+      });
+    }
+
+pub returns-in-Err : goal.returns-in-Err
+returns-in-Err g c =
+    let seen : SourcesSeen = record { files = g.F.Files.held c.args.files.now; file_faults = g.F.Files.read_faults c.args.files.now; file_bytes = g.F.Files.bytes_read c.args.files.now; input = g.I.Source.left c.args.input.now; input_faults = g.I.Source.faults c.args.input.now; input_bytes = g.I.Source.bytes_read c.args.input.now } in
+    let read : SourcesSeen = record { files = g.F.Files.held c.read_sources.new.files; file_faults = g.F.Files.read_faults c.read_sources.new.files; file_bytes = g.F.Files.bytes_read c.read_sources.new.files; input = g.I.Source.left c.read_sources.new.input; input_faults = g.I.Source.faults c.read_sources.new.input; input_bytes = g.I.Source.bytes_read c.read_sources.new.input } in
+    record {
+      runs = inl (record {
+        kept = record {
+          files = c.read_sources.ensures.grew.files;
+          stream = refl;
+          counts = record { files = c.read_sources.ensures.writes; stream = NeverFell-refl (g.K.Sink.faults c.args.output.now) };
+        };
+        stops = inl (record {
+          fault = c.in-Err.fault;
+          stops = subst (λ (words : List SourceWord). StopsAtSource c.args.chain.now.places words seen read c.in-Err.fault) c.as_slice.ensures.all c.in-Err.ensures.stops;
+          ends = c.of_sources.ensures.exact;
         });
       });
     }
