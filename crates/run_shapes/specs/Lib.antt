@@ -1,3 +1,4 @@
+pub mod Cleaning
 pub mod Cutting
 pub mod FaceSets
 pub mod Made
