@@ -1,4 +1,5 @@
 pub mod Cleaning
 pub mod Cutting
+pub mod Dissolving
 pub mod FaceSets
 pub mod Made

@@ -16,8 +16,9 @@ use Rattle.cmd_words.specs.declared.job.LayerAction.TheVariants as action
 use Rattle.run_plane.specs.declared.layer.Layer.{Layer}
 use Rattle.run_shapes.specs.Cleaning.{IsCleaned, IsMosaicOf}
 use Rattle.run_shapes.specs.Cutting.{IsCut}
+use Rattle.run_shapes.specs.Dissolving.{IsGrouped}
 use Rattle.run_shapes.specs.FaceSets.{area_of}
-use Rattle.run_shapes.specs.Made.{IsGrouped, IsLike}
+use Rattle.run_shapes.specs.Made.{IsLike}
 use Rattle.run_shapes.specs.declared.cutting.CutKeeps.TheVariants as keeps
 use Rattle.run_state.specs.Origins.{Base, one_layer, origin_layers}
 use Rattle.run_state.specs.Targets.{is_selected, placed, targets}
@@ -48,7 +49,7 @@ pub record Joins (base : Base) (layers : List Held) (from : Origin) (spec : Join
 abbrev pub PutsOut : Base → List Held → LayerAction → Layer → List Layer → Type 0
 PutsOut base layers (action.Clip from) layer outputs = One (IsCut keeps.Inside base.plane (area_of base layers from) layer) outputs
 PutsOut base layers (action.Erase from) layer outputs = One (IsCut keeps.Outside base.plane (area_of base layers from) layer) outputs
-PutsOut base layers (action.Dissolve spec group_points) layer outputs = One (IsGrouped spec layer) outputs
+PutsOut base layers (action.Dissolve spec group_points) layer outputs = One (IsGrouped base.plane spec layer) outputs
 PutsOut base layers (action.Clean rule allow_empty) layer outputs = One (IsCleaned rule allow_empty base.plane layer) outputs
 PutsOut base layers action.Mosaic layer outputs = One (IsMosaicOf base.plane layer) outputs
 PutsOut base layers action.InnerLines layer outputs = One (IsLike kinds.Line layer) outputs
