@@ -17,6 +17,7 @@ use Rattle.run_plane.specs.declared.layer.Layer.{Layer}
 use Rattle.run_shapes.specs.Cleaning.{IsCleaned, IsMosaicOf}
 use Rattle.run_shapes.specs.Cutting.{IsCut}
 use Rattle.run_shapes.specs.Dissolving.{IsGrouped}
+use Rattle.run_shapes.specs.Exploding.{IsExploded}
 use Rattle.run_shapes.specs.FaceSets.{area_of}
 use Rattle.run_shapes.specs.Made.{IsLike}
 use Rattle.run_shapes.specs.declared.cutting.CutKeeps.TheVariants as keeps
@@ -54,7 +55,7 @@ PutsOut base layers (action.Clean rule allow_empty) layer outputs = One (IsClean
 PutsOut base layers action.Mosaic layer outputs = One (IsMosaicOf base.plane layer) outputs
 PutsOut base layers action.InnerLines layer outputs = One (IsLike kinds.Line layer) outputs
 PutsOut base layers (action.Lines fields) layer outputs = One (IsLike kinds.Line layer) outputs
-PutsOut base layers action.Explode layer outputs = One (IsLike layer.kind layer) outputs
+PutsOut base layers action.Explode layer outputs = One (IsExploded base.plane layer) outputs
 PutsOut base layers (action.Join from spec) layer outputs = Joins base layers from spec layer outputs
 PutsOut base layers (action.Filter test invert remove_empty) layer outputs = One (IsFiltered test invert remove_empty layer) outputs
 PutsOut base layers (action.FilterFields fields) layer outputs = One (GivesTable (keep_fields layer.table fields) layer) outputs
