@@ -1,13 +1,11 @@
 -- What is put behind a drawing, or into its last feature, piece by piece.
-use Rattle.std.proofs.Common.{◌≡◌, refl, sym, ap, ◌∙◌, subst, arith, Bool, false, cond, ℕ, ◌+◌, ◌<◌, List, [], ◌∷◌, ◌++◌, map, take, length, get_or, append_assoc}
+use Rattle.std.proofs.Common.{◌≡◌, refl, sym, ap, ◌∙◌, ℕ, ◌+◌, ◌<◌, List, [], ◌∷◌, ◌++◌, map, take, length, get_or, append_assoc}
 use Rattle.std.proofs.lemmas.List.{append-nil, map-append}
 use Rattle.std.proofs.lemmas.List.Concat.{flat_map-append}
-use Rattle.std.proofs.lemmas.List.Elements.{filter-append}
-use Rattle.std.specs.List.{filter}
 use Rattle.lists.specs.Lists.{joined_up, last_of}
 use Rattle.plane_model.specs.Points.{GridPoint, Path}
 use Rattle.plane_model.specs.Drawing.{Drawing, Polygon}
-use Rattle.grid_base.specs.Drawn.{with_last, without_repeats, add_item, add_polygon, outline}
+use Rattle.grid_base.specs.Drawn.{with_last, without_repeats, add_polygon, outline}
 use Rattle.grid_base.specs.Grid.{Corners}
 use Rattle.grid_base.specs.declared.kinds.Kind.{Kind}
 use Rattle.grid_base.specs.declared.kinds.Kind.TheVariants as kinds
@@ -16,7 +14,7 @@ use Rattle.geojson_io.specs.declared.shape.GeoShape.{GeoShape}
 use Rattle.geojson_io.specs.declared.shape.GeoShape.TheVariants as shape
 use Rattle.snap_round.specs.Paths.{with_lines, with_points, with_polygons, with_rings}
 use Rattle.snap_round.proofs.LastLemmas.{in_new, last_length, last_stays, mapped_more, new_more_in, new_there, nothing_added, nothing_added_in, put_more, taken_more}
-use Rattle.run_beginning.specs.Drawing.{drawn_boxes, drawn_lines, drawn_rings, has_points, is_ring, line_features, lines_in, lines_of, point_features, points_in, points_of, polygon_features, polygons_in, polygons_of, with_layers}
+use Rattle.run_beginning.specs.Drawing.{drawn_boxes, drawn_lines, drawn_rings, line_features, lines_in, lines_of, point_features, points_in, points_of, polygon_features, polygons_in, polygons_of, with_layers}
 
 last_twice : {A : Type 0} (f g : A → A) (xs : List A) → with_last f (with_last g xs) ≡ with_last (λ x. f (g x)) xs
 last_twice f g [] = refl
@@ -44,10 +42,10 @@ module _ {A : Type 0} where
   part_more F apart xs i x l e = sym (apart (take i xs) (x ∷ [])) ∙ ap F (taken_more xs i x l e)
 
 drawn_rings_apart : (xs ys : List Path) → drawn_rings (xs ++ ys) ≡ drawn_rings xs ++ drawn_rings ys
-drawn_rings_apart xs ys = ap (map without_repeats) (filter-append is_ring xs ys) ∙ map-append without_repeats (filter is_ring xs) (filter is_ring ys)
+drawn_rings_apart xs ys = map-append without_repeats xs ys
 
 drawn_lines_apart : (xs ys : List Path) → drawn_lines (xs ++ ys) ≡ drawn_lines xs ++ drawn_lines ys
-drawn_lines_apart xs ys = ap (map without_repeats) (filter-append has_points xs ys) ∙ map-append without_repeats (filter has_points xs) (filter has_points ys)
+drawn_lines_apart xs ys = map-append without_repeats xs ys
 
 -- ---- into the last feature
 
@@ -60,10 +58,6 @@ rings_more d rings i ring l e =
 
 pub no_rings : (d : Drawing) → d ≡ with_rings [] d
 no_rings d = λ i. record d { polygons = sym (nothing_added_in d.polygons) i }
-
--- a path that is no ring is left out
-pub open_ring : (d : Drawing) (ring : Path) → is_ring ring ≡ false → d ≡ with_rings (drawn_rings (ring ∷ [])) d
-open_ring d ring e = no_rings d ∙ ap (λ (b : Bool). with_rings (map without_repeats (cond b (ring ∷ []) [])) d) (sym e)
 
 -- rings leave as many polygons in the last feature
 pub rings_stay : (rings : Polygon) (d : Drawing) → length (last_of [] (with_rings rings d).polygons) ≡ length (last_of [] d.polygons)
@@ -96,15 +90,6 @@ lines_more d lines i line l e =
 
 pub no_lines : (d : Drawing) → d ≡ with_lines [] d
 no_lines d = λ i. record d { lines = sym (nothing_added d.lines) i }
-
--- a line that has points, and one that has none
-pub some_line : (d : Drawing) (line : Path) → 0 < length line → record d { lines = add_item (without_repeats line) d.lines } ≡ with_lines (drawn_lines (line ∷ [])) d
-some_line d [] l = absurd (omega arith)
-some_line d (p ∷ line) l = refl
-
-pub empty_line : (d : Drawing) (line : Path) → length line ≡ 0 → d ≡ with_lines (drawn_lines (line ∷ [])) d
-empty_line d [] e = no_lines d
-empty_line d (p ∷ line) e = absurd (omega arith)
 
 pub lines_stay : (lines : List Path) (d : Drawing) → length (with_lines lines d).lines ≡ length d.lines
 lines_stay lines d = last_length (λ (ps : List Path). ps ++ lines) d.lines

@@ -1,8 +1,7 @@
 -- The one drawing of all features that the sources of a run gave, in order, and of its boxes.
-use Rattle.std.specs.Prelude.{Bool, true, false, List, [], ◌∷◌, ◌++◌, filter, map}
+use Rattle.std.specs.Prelude.{List, [], ◌++◌, map}
 use Rattle.std.specs.List.{flat_map}
-use Rattle.lists.specs.Lists.{last_of}
-use Rattle.plane_model.specs.Points.{GridPoint, Path, same_point}
+use Rattle.plane_model.specs.Points.{GridPoint, Path}
 use Rattle.plane_model.specs.Drawing.{Drawing, Polygon}
 use Rattle.grid_base.specs.Drawn.{outline, without_repeats}
 use Rattle.grid_base.specs.Grid.{Corners}
@@ -12,22 +11,13 @@ use Rattle.geojson_io.specs.LayerContent.{LayerContent}
 use Rattle.geojson_io.specs.declared.shape.GeoShape.{GeoShape}
 use Rattle.geojson_io.specs.declared.shape.GeoShape.TheVariants as shape
 
--- ---- paths, whose equal neighbours count once
-
--- some points, of which the last is the first
-abbrev pub is_ring : Path → Bool
-is_ring [] = false
-is_ring (p ∷ rest) = same_point (last_of p rest) p
-
-abbrev pub has_points : Path → Bool
-has_points [] = false
-has_points (p ∷ rest) = true
+-- ---- paths: each ring and each line is drawn; equal neighbours count once
 
 abbrev pub drawn_rings : List Path → Polygon
-drawn_rings rings = map without_repeats (filter is_ring rings)
+drawn_rings rings = map without_repeats rings
 
 abbrev pub drawn_lines : List Path → List Path
-drawn_lines lines = map without_repeats (filter has_points lines)
+drawn_lines lines = map without_repeats lines
 
 -- ---- features
 

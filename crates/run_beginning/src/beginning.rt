@@ -1,8 +1,9 @@
-ghost use Rattle.std.specs.Prelude.{◌≡◌, ◌++◌, ◌∷◌, [], drop, length, map, slice_index_or, IfErr, IfOk, OnOk};
+ghost use Rattle.std.specs.Prelude.{◌≡◌, ◌++◌, ◌∷◌, [], drop, length, map, slice_index_or, All, IfErr, IfOk, OnOk};
 ghost use Rattle.std.specs.List.{AllZip, range_with_len};
 ghost use Rattle.std.specs.Vec.Iter.{into_iter_items, into_iter_len};
 ghost use Rattle.lists.specs.Lists.{first_or, joined_up};
 ghost use Rattle.plane_model.specs.Snapped.{snapped};
+ghost use Rattle.geojson_io.specs.Sound.{LayerIsSound};
 ghost use Rattle.snap_round.specs.Snapping.{FaultMeans};
 ghost use Rattle.run_plane.specs.Begun.{IsFew};
 ghost use Rattle.run_plane.specs.LaidOut.{IsLaidOut};
@@ -34,11 +35,8 @@ pub struct Begun {
 /// Snaps all sources and boxes together, and builds their arcs and faces.
 ///
 /// Errors: `TooDense`, and `Memory`.
-pub fn begin(
-    alloc: Global,
-    sources: Vec<ReadSource>,
-    boxes: &BoxList,
-) -> Result<Begun, SnapFault>
+pub fn begin(alloc: Global, sources: Vec<ReadSource>, boxes: &BoxList) -> Result<Begun, SnapFault>
+    requires sound { All (λ read. All LayerIsSound read.layers) sources.items }
     ensures few { IfOk result (λ begun. IsFew (drawing_of (joined_up (map (λ read. read.layers) sources.items)) boxes.now)) }
     ensures over { IfOk result (λ begun. BeginsOver (snapped (drawing_of (joined_up (map (λ read. read.layers) sources.items)) boxes.now)) (map (λ read. read.owner) sources.items) (map (λ read. read.layers) sources.items) begun.plane.arcs begun.plane.faces begun.plane.boxes.items begun.layers.items (map (λ own. own.items) begun.sources.items)) }
     ensures fault { IfErr result (FaultMeans (drawing_of (joined_up (map (λ read. read.layers) sources.items)) boxes.now)) }

@@ -1,9 +1,8 @@
-ghost use Rattle.std.specs.Prelude.{◌≡◌, ◌≢◌, ◌<◌, ◌++◌, ◌∷◌, [], length, map, IfOk, OnOk, IsTrue};
+ghost use Rattle.std.specs.Prelude.{◌≡◌, ◌<◌, ◌++◌, ◌∷◌, [], length, map, All, IfOk, OnOk};
 ghost use Rattle.lists.specs.Lists.{joined_up, last_of};
-ghost use Rattle.plane_model.specs.Joined.{IsClosed};
-ghost use Rattle.grid_base.specs.Drawn.{add_item};
+ghost use Rattle.geojson_io.specs.Sound.{HasPoints, IsRing, LayerIsSound, ShapeIsSound};
 ghost use Rattle.snap_round.specs.Paths.{with_lines, with_points, with_polygons, with_rings};
-ghost use Rattle.run_beginning.specs.Drawing.{drawing_of, drawn_boxes, drawn_lines, drawn_rings, is_ring, lines_of, points_of, polygons_of, with_layers};
+ghost use Rattle.run_beginning.specs.Drawing.{drawing_of, drawn_boxes, drawn_lines, drawn_rings, lines_of, points_of, polygons_of, with_layers};
 
 use geojson_io::{GeoLayer, GeoShape};
 use grid_base::{BoxList, Drawing, Kind, PolygonRings, Pt, PtList, Rect};
@@ -17,6 +16,7 @@ pub(crate) fn drawing_of(
     sources: &[ReadSource],
     boxes: &BoxList,
 ) -> Result<Drawing, AllocError>
+    requires sound { All (λ read. All LayerIsSound read.layers) sources.now }
     ensures exact { IfOk result (λ d. d ≡ drawing_of (joined_up (map (λ read. read.layers) sources.now)) boxes.now) }
 {
     let mut drawing = Drawing::new(alloc);
@@ -30,6 +30,7 @@ fn add_sources(
     drawing: &mut Drawing,
     sources: &[ReadSource],
 ) -> Result<(), AllocError>
+    requires sound { All (λ read. All LayerIsSound read.layers) sources.now }
     ensures added { OnOk result (drawing.new ≡ with_layers (joined_up (map (λ read. read.layers) sources.now)) drawing.old) }
 {
     for source in sources {
@@ -39,6 +40,7 @@ fn add_sources(
 }
 
 fn add_layers(alloc: Global, drawing: &mut Drawing, layers: &[GeoLayer]) -> Result<(), AllocError>
+    requires sound { All LayerIsSound layers.now }
     ensures added { OnOk result (drawing.new ≡ with_layers layers.now drawing.old) }
 {
     for layer in layers {
@@ -57,6 +59,7 @@ fn add_boxes(drawing: &mut Drawing, boxes: &[Rect]) -> Result<(), AllocError>
 }
 
 fn add_layer(alloc: Global, drawing: &mut Drawing, layer: &GeoLayer) -> Result<(), AllocError>
+    requires sound { LayerIsSound layer.now }
     ensures added { OnOk result (drawing.new ≡ with_layers (layer.now ∷ []) drawing.old) }
 {
     let shapes = layer.shapes.as_slice();
@@ -73,6 +76,7 @@ fn add_polygon_features(
     drawing: &mut Drawing,
     shapes: &[GeoShape],
 ) -> Result<(), AllocError>
+    requires sound { All ShapeIsSound shapes.now }
     ensures added { OnOk result (drawing.new ≡ record drawing.old { polygons = drawing.old.polygons ++ map polygons_of shapes.now }) }
 {
     for shape in shapes {
@@ -88,6 +92,7 @@ fn add_shape_polygons(
     shape: &GeoShape,
 ) -> Result<(), AllocError>
     requires feature { 0 < length drawing.old.polygons }
+    requires sound { ShapeIsSound shape.now }
     ensures added { OnOk result (drawing.new ≡ with_polygons (polygons_of shape.now) drawing.old) }
 {
     match shape {
@@ -96,13 +101,13 @@ fn add_shape_polygons(
     }
 }
 
-/// Adds polygons to the last feature, with those of their rings that are closed.
-pub fn add_polygons(
+fn add_polygons(
     alloc: Global,
     drawing: &mut Drawing,
     polygons: &[PolygonRings],
 ) -> Result<(), AllocError>
     requires feature { 0 < length drawing.old.polygons }
+    requires rings { All (All IsRing) polygons.now }
     ensures added { OnOk result (drawing.new ≡ with_polygons (map drawn_rings polygons.now) drawing.old) }
 {
     for polygon in polygons {
@@ -112,49 +117,16 @@ pub fn add_polygons(
     Ok(())
 }
 
-// The rings of the last polygon. The reader lets no ring through that isn't closed.
+// The rings of the last polygon.
 fn add_rings(alloc: Global, drawing: &mut Drawing, rings: &[PtList]) -> Result<(), AllocError>
     requires polygon { 0 < length (last_of [] drawing.old.polygons) }
+    requires rings { All IsRing rings.now }
     ensures added { OnOk result (drawing.new ≡ with_rings (drawn_rings rings.now) drawing.old) }
 {
     for ring in rings {
-        let copy = copy_points(alloc, ring)?;
-        add_closed(drawing, copy)?;
+        drawing.add_ring(copy_points(alloc, ring)?)?;
     }
     Ok(())
-}
-
-// Adds a ring to the last polygon, where it is closed.
-fn add_closed(drawing: &mut Drawing, ring: PtList) -> Result<(), AllocError>
-    requires polygon { 0 < length (last_of [] drawing.old.polygons) }
-    ensures added { OnOk result (drawing.new ≡ with_rings (drawn_rings (ring ∷ [])) drawing.old) }
-{
-    if is_closed(&ring) {
-        drawing.add_ring(ring)
-    } else {
-        Ok(())
-    }
-}
-
-fn is_closed(ring: &PtList) -> bool
-    ensures exact { result ≡ is_ring ring.now }
-    ensures closed { IsTrue result → IsClosed ring.now × (ring.now ≢ []) }
-{
-    match ring.as_slice() {
-        [first, rest @ ..] => last_of(*first, rest) == *first,
-        [] => false,
-    }
-}
-
-// The last of the points, or the given one where there are none.
-fn last_of(none: Pt, points: &[Pt]) -> Pt
-    ensures exact { result ≡ last_of none points.now }
-{
-    let mut last = none;
-    for point in points {
-        last = *point;
-    }
-    last
 }
 
 fn add_line_features(
@@ -162,6 +134,7 @@ fn add_line_features(
     drawing: &mut Drawing,
     shapes: &[GeoShape],
 ) -> Result<(), AllocError>
+    requires sound { All ShapeIsSound shapes.now }
     ensures added { OnOk result (drawing.new ≡ record drawing.old { lines = drawing.old.lines ++ map lines_of shapes.now }) }
 {
     for shape in shapes {
@@ -173,6 +146,7 @@ fn add_line_features(
 
 fn add_shape_lines(alloc: Global, drawing: &mut Drawing, shape: &GeoShape) -> Result<(), AllocError>
     requires feature { 0 < length drawing.old.lines }
+    requires sound { ShapeIsSound shape.now }
     ensures added { OnOk result (drawing.new ≡ with_lines (lines_of shape.now) drawing.old) }
 {
     match shape {
@@ -183,22 +157,11 @@ fn add_shape_lines(alloc: Global, drawing: &mut Drawing, shape: &GeoShape) -> Re
 
 fn add_lines(alloc: Global, drawing: &mut Drawing, lines: &[PtList]) -> Result<(), AllocError>
     requires feature { 0 < length drawing.old.lines }
+    requires points { All HasPoints lines.now }
     ensures added { OnOk result (drawing.new ≡ with_lines (drawn_lines lines.now) drawing.old) }
 {
     for line in lines {
-        let copy = copy_points(alloc, line)?;
-        add_some_line(drawing, copy)?;
-    }
-    Ok(())
-}
-
-// Adds a line to the last feature, where it has points.
-fn add_some_line(drawing: &mut Drawing, line: PtList) -> Result<(), AllocError>
-    requires feature { 0 < length drawing.old.lines }
-    ensures added { OnOk result (drawing.new ≡ with_lines (drawn_lines (line ∷ [])) drawing.old) }
-{
-    if line.len() > 0 {
-        drawing.add_line(line)?;
+        drawing.add_line(copy_points(alloc, line)?)?;
     }
     Ok(())
 }

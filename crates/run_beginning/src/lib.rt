@@ -9,4 +9,3 @@ mod beginning;
 mod drawing;
 
 pub use beginning::{Begun, begin};
-pub use drawing::add_polygons;

@@ -1,10 +1,12 @@
-ghost use Rattle.std.specs.Prelude.{◌≤ℤ◌, pos, IfErr};
+ghost use Rattle.std.specs.Prelude.{◌≡◌, ◌≢◌, ◌≤◌, ◌<◌, ◌≤ℤ◌, ◌++◌, ◌∷◌, [], pos, IfErr, IfOk, OnOk};
+ghost use Rattle.plane_model.specs.Joined.{IsClosed};
+ghost use Rattle.grid_base.specs.Drawn.{without_repeats};
+ghost use Rattle.run_synth.specs.Cells.{ring_through};
 ghost use Rattle.run_synth.specs.Told.{IsTooMuch};
 
-use grid_base::{Drawing, Kind, OverlapRule, PolygonRings, Pt, PtList, RingsList};
+use grid_base::{Drawing, Kind, OverlapRule, Pt, PtList};
 use region_ops::clean_sets;
 use ring_trace::FaceSet;
-use run_beginning::add_polygons;
 use run_plane::{Laid, Plane, laid_out};
 use run_shapes::{sets_of, shapes_of, union_of};
 use snap_round::SnapFault;
@@ -17,6 +19,7 @@ use std::alloc::{AllocError, Global};
 /// Errors: `TooDense`, and `Memory`.
 #[tactic(auto, using(crate::proofs::Told::too_much))]
 pub fn synth_line(alloc: Global, seed: u32, n: u32) -> Result<String, SnapFault>
+    requires few { n ≤ 300 }
     ensures stops { IfErr result IsTooMuch }
 {
     let cells = cells_of(alloc, seed, n)?;
@@ -70,7 +73,9 @@ impl Draws {
     }
 }
 
-fn cells_of(alloc: Global, seed: u32, n: u32) -> Result<Drawing, AllocError> {
+fn cells_of(alloc: Global, seed: u32, n: u32) -> Result<Drawing, AllocError>
+    requires few { n ≤ 300 }
+{
     let mut drawing = Drawing::new(alloc);
     let mut draws = Draws { state: seed };
     for i in 0..n {
@@ -85,30 +90,70 @@ fn add_column(
     draws: &mut Draws,
     i: u32,
     n: u32,
-) -> Result<(), AllocError> {
+) -> Result<(), AllocError>
+    requires column { i < 300 }
+    requires few { n ≤ 300 }
+{
     for j in 0..n {
-        drawing.add_feature(Kind::Polygon)?;
-        let cell = cell(alloc, draws, i, j)?;
-        add_polygons(alloc, drawing, cell.as_slice())?;
+        add_cell(drawing, cell(alloc, draws, i, j)?)?;
     }
     Ok(())
 }
 
+// Adds a feature of one polygon, which has this one ring.
+fn add_cell(drawing: &mut Drawing, ring: PtList) -> Result<(), AllocError>
+    requires not_empty { ring ≢ [] }
+    requires closed { IsClosed ring }
+    ensures added { OnOk result (drawing.new ≡ record drawing.old { polygons = drawing.old.polygons ++ ((without_repeats ring ∷ []) ∷ []) ∷ [] }) }
+{
+    drawing.add_feature(Kind::Polygon)?;
+    drawing.add_polygon()?;
+    drawing.add_ring(ring)
+}
+
 // A cell: a corner that stands fast, and three that six draws move.
-fn cell(alloc: Global, draws: &mut Draws, i: u32, j: u32) -> Result<RingsList, AllocError> {
+fn cell(alloc: Global, draws: &mut Draws, i: u32, j: u32) -> Result<PtList, AllocError>
+    requires column { i < 300 }
+    requires row { j < 300 }
+    ensures not_empty { IfOk result (λ ring. ring ≢ []) }
+    ensures closed { IfOk result IsClosed }
+{
     let (x, y) = (100 * i64::from(i), 100 * i64::from(j));
-    let second = (x + 140 + draws.next(), y + draws.next());
-    let third = (x + 140 + draws.next(), y + 140 + draws.next());
-    let fourth = (x + draws.next(), y + 140 + draws.next());
+    let first = corner(x, y);
+    let second = corner(x + 140 + draws.next(), y + draws.next());
+    let third = corner(x + 140 + draws.next(), y + 140 + draws.next());
+    let fourth = corner(x + draws.next(), y + 140 + draws.next());
+    ring_through(alloc, first, second, third, fourth)
+}
+
+fn ring_through(
+    alloc: Global,
+    first: Pt,
+    second: Pt,
+    third: Pt,
+    fourth: Pt,
+) -> Result<PtList, AllocError>
+    ensures exact { IfOk result (λ ring. ring ≡ ring_through first second third fourth) }
+{
     let mut ring = PtList::new(alloc);
-    for (x, y) in [(x, y), second, third, fourth, (x, y)] {
-        if let Some(point) = Pt::new(x, y) {
-            ring.push(point)?;
-        }
+    ring.push(first)?;
+    ring.push(second)?;
+    ring.push(third)?;
+    ring.push(fourth)?;
+    ring.push(first)?;
+    Ok(ring)
+}
+
+// The last cell's corners lie at 30,080 at most.
+fn corner(x: i64, y: i64) -> Pt
+    requires left { pos 0 ≤ℤ x }
+    requires right { x ≤ℤ pos 30080 }
+    requires low { pos 0 ≤ℤ y }
+    requires high { y ≤ℤ pos 30080 }
+    ensures exact { result ≡ record { x = x; y = y } }
+{
+    match Pt::new(x, y) {
+        Some(point) => point,
+        None => unreachable!(),
     }
-    let mut rings = PolygonRings::new(alloc);
-    rings.push(ring)?;
-    let mut polygons = RingsList::new(alloc);
-    polygons.push(rings)?;
-    Ok(polygons)
 }

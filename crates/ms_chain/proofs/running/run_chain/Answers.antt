@@ -50,7 +50,9 @@ returns-in-Err-begin g c =
         stops = inr (record {
           layers = map (λ source. source.layers) c.in-Ok.sources.items;
           given = subst (λ (words : List SourceWord). GivesAll c.args.chain.now.places words seen read (map (λ source. source.layers) c.in-Ok.sources.items)) c.as_slice.ensures.all c.in-Ok.ensures.gives;
-          unbegun = c.in-Err-begin.ensures.unbegun;
+          fault = c.in-Err-begin.fault;
+          unbegun = c.in-Err-begin.ensures.fault;
+          ends = c.of_drawing.ensures.exact;
         });
       });
     }

@@ -1,5 +1,7 @@
-use Rattle.std.proofs.Common.{◌≡◌, ◌++◌, ◌∙◌, sym, ap, arith, map, take, [], ◌∷◌}
+use Rattle.std.proofs.Common.{◌≡◌, ◌++◌, ◌∙◌, sym, ap, arith, map, subst, take, [], ◌∷◌}
 use Rattle.std.proofs.lemmas.List.{append-nil}
+use Rattle.std.proofs.lemmas.List.Elements.{All-get_or}
+use Rattle.geojson_io.specs.Sound.{ShapeIsSound}
 use Rattle.snap_round.specs.Paths.{with_polygons}
 use Rattle.run_beginning.specs.Drawing.{polygons_of}
 use Rattle.run_beginning.proofs.DrawingLemmas.{polygon_features_more}
@@ -16,3 +18,8 @@ loop-shape-preserved c =
     ∙ (λ i. with_polygons (polygons_of shape) (grown i))
     ∙ (λ i. with_polygons (polygons_of shape) (record (c.loop-shape.invariant i) { polygons = (c.loop-shape.invariant i).polygons ++ [] ∷ [] }))
     ∙ polygon_features_more c.args.drawing.now c.args.shapes.now c.loop-shape.shape-index shape (omega arith) c.shape-item.is
+
+pub add_shape_polygons-requires-clause-sound : goal.add_shape_polygons-requires-clause-sound
+add_shape_polygons-requires-clause-sound c =
+    let shape = c.shape-item.result in
+    subst ShapeIsSound (sym c.shape-item.is) (All-get_or ShapeIsSound c.args.shapes.now c.loop-shape.shape-index shape (omega arith) c.requires.sound)

@@ -1,7 +1,10 @@
 use Rattle.std.proofs.Common.{◌≡◌, ◌<◌, ◌∙◌, ap, sym, subst, arith, length, map, take, []}
+use Rattle.std.specs.Prelude.{All}
+use Rattle.std.proofs.lemmas.List.Elements.{All-get_or}
 use Rattle.lists.specs.Lists.{last_of}
 use Rattle.plane_model.specs.Drawing.{Drawing}
 use Rattle.grid_base.specs.Drawn.{add_polygon}
+use Rattle.geojson_io.specs.Sound.{IsRing}
 use Rattle.snap_round.specs.Paths.{with_rings}
 use Rattle.run_beginning.specs.Drawing.{drawn_rings}
 use Rattle.run_beginning.proofs.DrawingLemmas.{no_polygons, polygon_there, polygons_more, polygons_stay}
@@ -15,7 +18,7 @@ add_polygon-requires c =
     let done = map drawn_rings (take c.loop-polygon.polygon-index c.args.polygons.now) in
     let e : length c.loop-polygon.drawing.polygons ≡ length c.args.drawing.now.polygons =
     ap (λ (d : Drawing). length d.polygons) c.loop-polygon.invariant ∙ polygons_stay done c.args.drawing.now in
-    let l = c.requires in
+    let l = c.requires.feature in
     omega arith
 
 pub add_rings-requires : goal.add_rings-requires
@@ -23,8 +26,13 @@ add_rings-requires c =
     let done = map drawn_rings (take c.loop-polygon.polygon-index c.args.polygons.now) in
     let e : length c.loop-polygon.drawing.polygons ≡ length c.args.drawing.now.polygons =
     ap (λ (d : Drawing). length d.polygons) c.loop-polygon.invariant ∙ polygons_stay done c.args.drawing.now in
-    let l = c.requires in
-    record { polygon = subst (λ (d : Drawing). 0 < length (last_of [] d.polygons)) (sym c.in_ok-add_polygon.ensures.ok) (polygon_there c.loop-polygon.drawing (omega arith)) }
+    let l = c.requires.feature in
+    let polygon = c.polygon-item.result in
+    let here : All IsRing polygon = subst (All IsRing) (sym c.polygon-item.is) (All-get_or (All IsRing) c.args.polygons.now c.loop-polygon.polygon-index polygon (omega arith) c.requires.rings) in
+    record {
+      polygon = subst (λ (d : Drawing). 0 < length (last_of [] d.polygons)) (sym c.in_ok-add_polygon.ensures.ok) (polygon_there c.loop-polygon.drawing (omega arith));
+      rings = subst (All IsRing) (sym c.as_slice.ensures.all) here;
+    }
 
 pub loop-polygon-preserved : goal.loop-polygon-preserved
 loop-polygon-preserved c =
