@@ -1,1 +1,6 @@
+pub mod Cleaning
+pub mod Cutting
+pub mod Dissolving
+pub mod Exploding
+pub mod FaceSets
 pub mod Made

@@ -1,6 +1,8 @@
-ghost use Rattle.std.specs.Prelude.{◌≡◌, IfOk, length};
+ghost use Rattle.std.specs.Prelude.{◌≡◌, ◌++◌, IfOk, OnOk, decimal, length, map};
+ghost use Rattle.std.specs.List.{flat_map};
+ghost use Rattle.std.specs.String.{string_bytes};
 ghost use Rattle.json_read.specs.Table.{AreRows};
-ghost use Rattle.run_shapes.specs.Made.{IsCleaned, IsLike};
+ghost use Rattle.run_shapes.specs.Cleaning.{IsCleaned, IsMosaicOf, after_comma, ids_row, ids_text, piece_shape};
 
 use crate::face_sets::{sets_of, shapes_of};
 use grid_base::{Kind, OverlapRule};
@@ -21,7 +23,7 @@ pub fn cleaned(
     rule: OverlapRule,
     allow_empty: bool,
 ) -> Result<Layer, AllocError>
-    ensures made { IfOk result (IsCleaned allow_empty layer.now) }
+    ensures made { IfOk result (IsCleaned rule allow_empty plane.now layer.now) }
 {
     let sets = sets_of(alloc, plane, &layer.shapes)?;
     let cleaned = clean_sets(alloc, &plane.faces, &sets, rule)?;
@@ -36,7 +38,7 @@ pub fn cleaned(
 /// A feature for each part of the faces that just the same features hold, in the order of the lists of their numbers,
 /// which stand in the one column `ids`, joined by commas.
 pub fn mosaic(alloc: Global, plane: &Plane, layer: &Layer) -> Result<Layer, AllocError>
-    ensures like { IfOk result (IsLike Kind.Polygon layer.now) }
+    ensures made { IfOk result (IsMosaicOf plane.now layer.now) }
 {
     let sets = sets_of(alloc, plane, &layer.shapes)?;
     let items = mosaic_sets(alloc, &plane.arcs, &plane.faces, &sets)?;
@@ -53,6 +55,7 @@ pub fn mosaic(alloc: Global, plane: &Plane, layer: &Layer) -> Result<Layer, Allo
 }
 
 fn mosaic_shapes(alloc: Global, items: &[MosaicItem]) -> Result<Vec<Shape>, AllocError>
+    ensures exact { IfOk result (λ shapes. shapes.items ≡ map piece_shape items.now) }
     ensures count { IfOk result (λ shapes. length shapes.items ≡ length items.now) }
 {
     let mut shapes = Vec::new(alloc);
@@ -64,6 +67,7 @@ fn mosaic_shapes(alloc: Global, items: &[MosaicItem]) -> Result<Vec<Shape>, Allo
 
 #[tactic(auto, using(crate::proofs::Rows::rows_grown))]
 fn holder_rows(alloc: Global, items: &[MosaicItem]) -> Result<RowList, AllocError>
+    ensures exact { IfOk result (λ rows. rows ≡ map ids_row items.now) }
     ensures count { IfOk result (λ rows. length rows ≡ length items.now) }
     ensures widths { IfOk result (λ rows. AreRows 1 rows) }
 {
@@ -76,17 +80,46 @@ fn holder_rows(alloc: Global, items: &[MosaicItem]) -> Result<RowList, AllocErro
 
 // The numbers of the holders in one text, joined by commas.
 fn holder_row(alloc: Global, item: &MosaicItem) -> Result<Row, AllocError>
+    ensures exact { IfOk result (λ row. row ≡ ids_row item.now) }
     ensures width { IfOk result (λ row. length row ≡ 1) }
 {
-    let mut text = String::new(alloc);
-    for number in item.ids.as_slice() {
-        let mut buffer = Buffer::new();
-        if !text.is_empty() {
-            text.push_str(",")?;
-        }
-        text.push_str(buffer.format(*number))?;
-    }
+    let text = ids_text(alloc, item.ids.as_slice())?;
     let mut row = Row::new(alloc);
     row.push(Value::Text(Text::from_string(text)))?;
     Ok(row)
+}
+
+fn ids_text(alloc: Global, numbers: &[u32]) -> Result<String, AllocError>
+    ensures exact { IfOk result (λ text. string_bytes text ≡ ids_text numbers.now) }
+{
+    let mut text = String::new(alloc);
+    let [first, rest @ ..] = numbers else {
+        return Ok(text);
+    };
+    push_number(&mut text, *first)?;
+    push_others(&mut text, rest)?;
+    Ok(text)
+}
+
+fn push_others(text: &mut String, numbers: &[u32]) -> Result<(), AllocError>
+    ensures pushed { OnOk result (string_bytes text.new ≡ string_bytes text.old ++ flat_map after_comma numbers.now) }
+{
+    for number in numbers {
+        push_after_comma(text, *number)?;
+    }
+    Ok(())
+}
+
+fn push_after_comma(text: &mut String, number: u32) -> Result<(), AllocError>
+    ensures pushed { OnOk result (string_bytes text.new ≡ string_bytes text.old ++ after_comma number) }
+{
+    text.push_str(",")?;
+    push_number(text, number)
+}
+
+fn push_number(text: &mut String, number: u32) -> Result<(), AllocError>
+    ensures pushed { OnOk result (string_bytes text.new ≡ string_bytes text.old ++ decimal number) }
+{
+    let mut buffer = Buffer::new();
+    text.push_str(buffer.format(number))
 }

@@ -1,12 +1,18 @@
-ghost use Rattle.std.specs.Prelude.{◌≡◌, IfOk, length};
-ghost use Rattle.run_shapes.specs.Made.{IsReshaped};
+ghost use Rattle.std.specs.Prelude.{◌≡◌, ◌++◌, ◌∷◌, [], All, IfOk, OnOk, if◌then◌else◌, length, map};
+ghost use Rattle.std.specs.List.{AllZip, flat_map};
+ghost use Rattle.face_walk.specs.Places.{HasArc};
+ghost use Rattle.line_ops.specs.Runs.{runs_where};
+ghost use Rattle.run_plane.specs.OnPlane.{list_on};
+ghost use Rattle.run_shapes.specs.Cutting.{ArePointsLeft, AreShapesLeft, IsCut, IsShapeLeft, StaysAt, cut_faces, cut_paths, stays_along};
+ghost use Rattle.run_shapes.specs.FaceSets.{face_shapes, sets_on};
 
 use crate::face_sets::{sets_of, shapes_of};
 use arc_table::SignedPaths;
-use grid_base::{Kind, PtList};
+use face_walk::Faces;
+use grid_base::{Kind, Pt, PtList};
 use line_ops::{clip_paths, erase_paths, point_inside};
 use region_ops::{clip_sets, erase_sets};
-use ring_trace::FaceSet;
+use ring_trace::{FaceSet, SetList};
 use run_plane::{Layer, Plane, Shape};
 use run_state::nonempty;
 use std::alloc::{AllocError, Global};
@@ -26,13 +32,28 @@ pub fn cut(
     area: &FaceSet,
     keeps: CutKeeps,
 ) -> Result<Layer, AllocError>
-    ensures made { IfOk result (IsReshaped layer.now) }
+    ensures made { IfOk result (IsCut keeps plane.now area.now layer.now) }
 {
-    let shapes = match layer.kind {
-        Kind::Polygon => cut_polygons(alloc, plane, &layer.shapes, area, keeps)?,
-        _ => cut_shapes(alloc, plane, &layer.shapes, area, keeps)?,
-    };
+    let shapes = shapes_left(alloc, plane, layer, area, keeps)?;
     nonempty(alloc, layer, shapes)
+}
+
+fn shapes_left(
+    alloc: Global,
+    plane: &Plane,
+    layer: &Layer,
+    area: &FaceSet,
+    keeps: CutKeeps,
+) -> Result<Vec<Shape>, AllocError>
+    ensures exact { IfOk result (λ left. AreShapesLeft layer.now.kind keeps plane.now area.now layer.now.shapes.items left.items) }
+    ensures count { IfOk result (λ left. length left.items ≡ length layer.now.shapes.items) }
+{
+    match layer.kind {
+        Kind::Polygon => cut_polygons(alloc, plane, &layer.shapes, area, keeps),
+        Kind::Line | Kind::Point | Kind::Table => {
+            cut_shapes(alloc, plane, &layer.shapes, area, keeps)
+        }
+    }
 }
 
 fn cut_polygons(
@@ -42,14 +63,27 @@ fn cut_polygons(
     area: &FaceSet,
     keeps: CutKeeps,
 ) -> Result<Vec<Shape>, AllocError>
+    ensures exact { IfOk result (λ left. left.items ≡ face_shapes (map (cut_faces keeps area.now) (sets_on plane.now shapes.now))) }
     ensures count { IfOk result (λ left. length left.items ≡ length shapes.now) }
 {
     let sets = sets_of(alloc, plane, shapes)?;
-    let left = match keeps {
-        CutKeeps::Inside => clip_sets(alloc, &sets, area)?,
-        CutKeeps::Outside => erase_sets(alloc, &sets, area)?,
-    };
+    let left = cut_sets(alloc, &sets, area, keeps)?;
     shapes_of(alloc, left.as_slice())
+}
+
+fn cut_sets(
+    alloc: Global,
+    sets: &SetList,
+    area: &FaceSet,
+    keeps: CutKeeps,
+) -> Result<SetList, AllocError>
+    ensures exact { IfOk result (λ left. left ≡ map (cut_faces keeps area.now) sets.now) }
+    ensures count { IfOk result (λ left. length left ≡ length sets.now) }
+{
+    match keeps {
+        CutKeeps::Inside => clip_sets(alloc, sets, area),
+        CutKeeps::Outside => erase_sets(alloc, sets, area),
+    }
 }
 
 fn cut_shapes(
@@ -59,17 +93,30 @@ fn cut_shapes(
     area: &FaceSet,
     keeps: CutKeeps,
 ) -> Result<Vec<Shape>, AllocError>
+    ensures exact { IfOk result (λ left. AllZip (IsShapeLeft keeps plane.now area.now) shapes.now left.items) }
     ensures count { IfOk result (λ left. length left.items ≡ length shapes.now) }
 {
     let mut left = Vec::new(alloc);
     for shape in shapes {
-        left.push(match shape {
-            Shape::Paths(paths) => Shape::Paths(cut_paths(alloc, plane, paths, area, keeps)?),
-            Shape::Points(points) => Shape::Points(cut_points(alloc, plane, points, area, keeps)?),
-            Shape::Nothing | Shape::Faces(_) => Shape::Nothing,
-        })?;
+        left.push(cut_shape(alloc, plane, shape, area, keeps)?)?;
     }
     Ok(left)
+}
+
+fn cut_shape(
+    alloc: Global,
+    plane: &Plane,
+    shape: &Shape,
+    area: &FaceSet,
+    keeps: CutKeeps,
+) -> Result<Shape, AllocError>
+    ensures exact { IfOk result (IsShapeLeft keeps plane.now area.now shape.now) }
+{
+    match shape {
+        Shape::Paths(paths) => Ok(Shape::Paths(cut_paths(alloc, plane, paths, area, keeps)?)),
+        Shape::Points(points) => Ok(Shape::Points(cut_points(alloc, plane, points, area, keeps)?)),
+        Shape::Nothing | Shape::Faces(_) => Ok(Shape::Nothing),
+    }
 }
 
 fn cut_paths(
@@ -78,13 +125,29 @@ fn cut_paths(
     paths: &SignedPaths,
     area: &FaceSet,
     keeps: CutKeeps,
-) -> Result<SignedPaths, AllocError> {
-    if !plane.has_arcs(paths) {
-        return Ok(SignedPaths::new(alloc));
+) -> Result<SignedPaths, AllocError>
+    ensures exact { IfOk result (λ left. left ≡ cut_paths keeps plane.now area.now (list_on plane.now paths.now)) }
+{
+    if plane.has_arcs(paths) {
+        runs_left(alloc, &plane.faces, paths, area, keeps)
+    } else {
+        Ok(SignedPaths::new(alloc))
     }
+}
+
+fn runs_left(
+    alloc: Global,
+    faces: &Faces,
+    paths: &SignedPaths,
+    area: &FaceSet,
+    keeps: CutKeeps,
+) -> Result<SignedPaths, AllocError>
+    requires arcs { All (All (HasArc faces.now)) paths.now }
+    ensures exact { IfOk result (λ left. left ≡ flat_map (runs_where (stays_along keeps faces.now area.now)) paths.now) }
+{
     match keeps {
-        CutKeeps::Inside => clip_paths(alloc, &plane.faces, paths, area),
-        CutKeeps::Outside => erase_paths(alloc, &plane.faces, paths, area),
+        CutKeeps::Inside => clip_paths(alloc, faces, paths, area),
+        CutKeeps::Outside => erase_paths(alloc, faces, paths, area),
     }
 }
 
@@ -94,12 +157,30 @@ fn cut_points(
     points: &PtList,
     area: &FaceSet,
     keeps: CutKeeps,
-) -> Result<PtList, AllocError> {
+) -> Result<PtList, AllocError>
+    ensures exact { IfOk result (ArePointsLeft keeps plane.now area.now points.now) }
+{
     let mut left = PtList::new(alloc);
     for point in points.as_slice() {
-        if point_inside(&plane.arcs, &plane.faces, *point, area) == (keeps == CutKeeps::Inside) {
-            left.push(*point)?;
-        }
+        push_if(&mut left, *point, stays(plane, *point, area, keeps))?;
     }
     Ok(left)
+}
+
+fn push_if(points: &mut PtList, point: Pt, stays: bool) -> Result<(), AllocError>
+    ensures pushed { OnOk result (points.new ≡ points.old ++ (if stays then point ∷ [] else [])) }
+{
+    if stays {
+        points.push(point)?;
+    }
+    Ok(())
+}
+
+fn stays(plane: &Plane, point: Pt, area: &FaceSet, keeps: CutKeeps) -> bool
+    ensures exact { StaysAt keeps plane.now area.now point result }
+{
+    match keeps {
+        CutKeeps::Inside => point_inside(&plane.arcs, &plane.faces, point, area),
+        CutKeeps::Outside => !point_inside(&plane.arcs, &plane.faces, point, area),
+    }
 }

@@ -1,10 +1,27 @@
-ghost use Rattle.std.specs.Prelude.{◌≡◌, ◌<◌, IfOk, All, length};
-ghost use Rattle.run_shapes.specs.Made.{IsGrouped};
+ghost use Rattle.std.specs.Prelude.{◌≡◌, ◌<◌, ◌++◌, IfOk, OnOk, All, length, map, nat_lt};
+ghost use Rattle.std.specs.List.{flat_map};
+ghost use Rattle.lists.specs.Lists.{ascending};
+ghost use Rattle.region_ops.specs.Dissolved.{union_of};
+ghost use Rattle.run_plane.specs.OnPlane.{points_in};
+ghost use Rattle.run_plane.specs.Shapes.{shape_at};
+ghost use Rattle.run_shapes.specs.Dissolving.{
+  IsGrouped,
+  arcs_along,
+  arcs_in,
+  grouped_shapes,
+  line_shape,
+  member_arcs,
+  member_points,
+  no_shape,
+  path_along,
+  point_shape,
+};
+ghost use Rattle.run_shapes.specs.FaceSets.{face_shapes, sets_on};
 
 use crate::face_sets::{sets_of, shapes_of};
 use crate::paths::path_along;
 use arc_table::{SignedPath, SignedPaths};
-use grid_base::{ArcId, GroupList, Kind, PtList};
+use grid_base::{ArcId, GroupList, Kind, Pt, PtList, SignedArc};
 use region_ops::dissolve_sets;
 use run_plane::{Layer, Plane, Shape, copy_text};
 use run_state::{CommandStop, RefuseWhy};
@@ -22,7 +39,7 @@ pub fn dissolved(
     spec: &GroupSpec,
     group_points: bool,
 ) -> Result<Layer, CommandStop>
-    ensures made { IfOk result (IsGrouped spec.now layer.now) }
+    ensures made { IfOk result (IsGrouped plane.now spec.now layer.now) }
 {
     if layer.kind == Kind::Point && !group_points {
         return Err(CommandStop::Refused(RefuseWhy::NoGroupPoints));
@@ -45,16 +62,15 @@ fn grouped_shapes(
     groups: &GroupList,
 ) -> Result<Vec<Shape>, AllocError>
     requires members { All (All (λ n. n < length shapes.now)) groups.now }
+    ensures exact { IfOk result (λ list. list.items ≡ grouped_shapes kind plane.now shapes.now groups.now) }
     ensures count { IfOk result (λ list. length list.items ≡ length groups.now) }
 {
-    if kind == Kind::Polygon {
-        return united(alloc, plane, shapes, groups);
+    match kind {
+        Kind::Polygon => united(alloc, plane, shapes, groups),
+        Kind::Line => lines_of_groups(alloc, shapes, groups),
+        Kind::Point => points_of_groups(alloc, shapes, groups),
+        Kind::Table => nothings(alloc, groups),
     }
-    let mut list = Vec::new(alloc);
-    for group in groups.as_slice() {
-        list.push(grouped_shape(alloc, kind, shapes, group.as_slice())?)?;
-    }
-    Ok(list)
 }
 
 fn united(
@@ -64,6 +80,7 @@ fn united(
     groups: &GroupList,
 ) -> Result<Vec<Shape>, AllocError>
     requires members { All (All (λ n. n < length shapes.now)) groups.now }
+    ensures exact { IfOk result (λ list. list.items ≡ face_shapes (map (union_of (sets_on plane.now shapes.now)) groups.now)) }
     ensures count { IfOk result (λ list. length list.items ≡ length groups.now) }
 {
     let sets = sets_of(alloc, plane, shapes)?;
@@ -71,58 +88,151 @@ fn united(
     shapes_of(alloc, united.as_slice())
 }
 
-fn grouped_shape(
+fn lines_of_groups(
     alloc: Global,
-    kind: Kind,
     shapes: &[Shape],
-    members: &[u32],
-) -> Result<Shape, AllocError> {
-    Ok(match kind {
-        Kind::Line => Shape::Paths(arcs_of(alloc, shapes, members)?),
-        Kind::Point => Shape::Points(points_of(alloc, shapes, members)?),
-        Kind::Polygon | Kind::Table => Shape::Nothing,
-    })
+    groups: &GroupList,
+) -> Result<Vec<Shape>, AllocError>
+    ensures exact { IfOk result (λ list. list.items ≡ map (line_shape shapes.now) groups.now) }
+    ensures count { IfOk result (λ list. length list.items ≡ length groups.now) }
+{
+    let mut list = Vec::new(alloc);
+    for group in groups.as_slice() {
+        let arcs = arcs_of(alloc, shapes, group.as_slice())?;
+        list.push(Shape::Paths(paths_along(alloc, &arcs)?))?;
+    }
+    Ok(list)
 }
 
-// Each arc of the members once, ascending, as a path of its own in its direction.
-fn arcs_of(alloc: Global, shapes: &[Shape], members: &[u32]) -> Result<SignedPaths, AllocError> {
+fn points_of_groups(
+    alloc: Global,
+    shapes: &[Shape],
+    groups: &GroupList,
+) -> Result<Vec<Shape>, AllocError>
+    ensures exact { IfOk result (λ list. list.items ≡ map (point_shape shapes.now) groups.now) }
+    ensures count { IfOk result (λ list. length list.items ≡ length groups.now) }
+{
+    let mut list = Vec::new(alloc);
+    for group in groups.as_slice() {
+        list.push(Shape::Points(points_of(alloc, shapes, group.as_slice())?))?;
+    }
+    Ok(list)
+}
+
+fn nothings(alloc: Global, groups: &GroupList) -> Result<Vec<Shape>, AllocError>
+    ensures exact { IfOk result (λ list. list.items ≡ map no_shape groups.now) }
+    ensures count { IfOk result (λ list. length list.items ≡ length groups.now) }
+{
+    let mut list = Vec::new(alloc);
+    for _group in groups.as_slice() {
+        list.push(Shape::Nothing)?;
+    }
+    Ok(list)
+}
+
+// Each arc of the members once, ascending.
+fn arcs_of(alloc: Global, shapes: &[Shape], members: &[u32]) -> Result<Vec<ArcId>, AllocError>
+    ensures exact { IfOk result (λ arcs. arcs.items ≡ member_arcs shapes.now members.now) }
+{
     let mut arcs = Vec::new(alloc);
     for member in members {
-        if let Some(Shape::Paths(paths)) = shapes.get(*member as usize) {
-            append_arcs(&mut arcs, paths.as_slice())?;
-        }
+        append_arcs(&mut arcs, paths_in(shapes, *member))?;
     }
+    Ok(each_once(arcs))
+}
+
+// The arcs of a list, ascending, each once.
+fn each_once(arcs: Vec<ArcId>) -> Vec<ArcId>
+    ensures exact { result.items ≡ ascending nat_lt arcs.items }
+{
+    let mut arcs = arcs;
     arcs.sort_unstable();
     arcs.dedup();
+    arcs
+}
+
+// A path of its own along each arc, in its direction.
+fn paths_along(alloc: Global, arcs: &[ArcId]) -> Result<SignedPaths, AllocError>
+    ensures exact { IfOk result (λ paths. paths ≡ map path_along arcs.now) }
+{
     let mut paths = SignedPaths::new(alloc);
     for arc in arcs {
-        paths.push(path_along(alloc, arc)?)?;
+        paths.push(path_along(alloc, *arc)?)?;
     }
     Ok(paths)
 }
 
-fn append_arcs(arcs: &mut Vec<ArcId>, paths: &[SignedPath]) -> Result<(), AllocError> {
+// The paths of the shape with this number.
+fn paths_in(shapes: &[Shape], number: u32) -> &[SignedPath]
+    ensures exact { flat_map arcs_along result.now ≡ arcs_in (shape_at shapes.now number) }
+{
+    match shapes.get(number as usize) {
+        Some(shape) => paths_of(shape),
+        None => &[],
+    }
+}
+
+fn paths_of(shape: &Shape) -> &[SignedPath]
+    ensures exact { flat_map arcs_along result.now ≡ arcs_in shape.now }
+{
+    match shape {
+        Shape::Paths(paths) => paths.as_slice(),
+        Shape::Nothing | Shape::Faces(_) | Shape::Points(_) => &[],
+    }
+}
+
+fn append_arcs(arcs: &mut Vec<ArcId>, paths: &[SignedPath]) -> Result<(), AllocError>
+    ensures all { OnOk result (arcs.new.items ≡ arcs.old.items ++ flat_map arcs_along paths.now) }
+{
     for path in paths {
-        for arc in path.as_slice() {
-            arcs.push(arc.id())?;
-        }
+        append_arcs_along(arcs, path.as_slice())?;
+    }
+    Ok(())
+}
+
+fn append_arcs_along(arcs: &mut Vec<ArcId>, path: &[SignedArc]) -> Result<(), AllocError>
+    ensures all { OnOk result (arcs.new.items ≡ arcs.old.items ++ arcs_along path.now) }
+{
+    for arc in path {
+        arcs.push(arc.id())?;
     }
     Ok(())
 }
 
 // The points of the members, in order.
-fn points_of(alloc: Global, shapes: &[Shape], members: &[u32]) -> Result<PtList, AllocError> {
+fn points_of(alloc: Global, shapes: &[Shape], members: &[u32]) -> Result<PtList, AllocError>
+    ensures exact { IfOk result (λ points. points ≡ member_points shapes.now members.now) }
+{
     let mut points = PtList::new(alloc);
     for member in members {
-        if let Some(Shape::Points(more)) = shapes.get(*member as usize) {
-            append_points(&mut points, more)?;
-        }
+        append_points(&mut points, points_at(shapes, *member))?;
     }
     Ok(points)
 }
 
-fn append_points(points: &mut PtList, more: &PtList) -> Result<(), AllocError> {
-    for point in more.as_slice() {
+// The points of the shape with this number.
+fn points_at(shapes: &[Shape], number: u32) -> &[Pt]
+    ensures exact { result.now ≡ points_in (shape_at shapes.now number) }
+{
+    match shapes.get(number as usize) {
+        Some(shape) => points_in(shape),
+        None => &[],
+    }
+}
+
+fn points_in(shape: &Shape) -> &[Pt]
+    ensures exact { result.now ≡ points_in shape.now }
+{
+    match shape {
+        Shape::Points(points) => points.as_slice(),
+        Shape::Nothing | Shape::Faces(_) | Shape::Paths(_) => &[],
+    }
+}
+
+fn append_points(points: &mut PtList, more: &[Pt]) -> Result<(), AllocError>
+    ensures all { OnOk result (points.new ≡ points.old ++ more.now) }
+{
+    for point in more {
         points.push(*point)?;
     }
     Ok(())

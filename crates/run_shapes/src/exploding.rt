@@ -1,88 +1,205 @@
-ghost use Rattle.std.specs.Prelude.{◌≡◌, ◌<◌, ◌≤◌, IfOk, OnOk, All, length};
-ghost use Rattle.run_shapes.specs.Made.{IsLike};
+ghost use Rattle.std.specs.Prelude.{◌≡◌, ◌++◌, ◌∷◌, ◌<◌, [], IfOk, OnOk, All, length, map, replicate};
+ghost use Rattle.run_shapes.specs.Exploding.{
+  AreSplitOf,
+  ArePartsOf,
+  ArePieces,
+  IsExploded,
+  one_path,
+  one_point,
+  part_shape,
+  repeated,
+  split_paths,
+  split_points,
+  split_shape,
+};
 
-use arc_table::SignedPaths;
-use grid_base::{IdList, Pt, PtList, SignedArc};
-use ring_trace::parts;
+use crate::face_sets::sets_of;
+use arc_table::{SignedPath, SignedPaths};
+use grid_base::{IdList, Kind, Pt, PtList, SignedArc};
+use region_ops::{PartItem, explode_sets};
 use run_plane::{Layer, Plane, Shape, copy_path, copy_shape};
 use run_state::with_shapes;
 use std::alloc::{AllocError, Global};
 
+/// Pieces of features, with the numbers of their features.
+#[derive(Drop)]
+struct Pieces {
+    numbers: IdList,
+    shapes: Vec<Shape>,
+}
+
 /// One feature for each part, path or point, in order, with the row copied; a feature without geometry stays.
 pub fn exploded(alloc: Global, plane: &Plane, layer: &Layer) -> Result<Layer, AllocError>
-    ensures like { IfOk result (IsLike layer.now.kind layer.now) }
+    ensures made { IfOk result (IsExploded plane.now layer.now) }
 {
-    let mut numbers = IdList::new(alloc);
-    let mut shapes = Vec::new(alloc);
-    for number in 0..layer.table.row_count() {
-        let parts = parts_of(alloc, plane, &layer.shapes[number as usize])?;
-        push_parts(
-            &mut numbers,
-            &mut shapes,
-            layer.table.row_count(),
-            number,
-            parts,
-        )?;
-    }
+    let Pieces { numbers, shapes } = pieces_of(alloc, plane, layer)?;
     with_shapes(alloc, layer, &numbers, shapes)
 }
 
-// Puts parts of the feature with this number, one of so many, behind others.
-fn push_parts(
-    numbers: &mut IdList,
-    shapes: &mut Vec<Shape>,
-    count: u32,
-    number: u32,
-    parts: Vec<Shape>,
-) -> Result<(), AllocError>
-    requires there { number < count }
-    requires below { All (λ n. n < count) numbers.old }
-    requires each { length shapes.old.items ≡ length numbers.old }
-    ensures below { OnOk result (All (λ n. n < count) numbers.new) }
-    ensures each { OnOk result (length shapes.new.items ≡ length numbers.new) }
+fn pieces_of(alloc: Global, plane: &Plane, layer: &Layer) -> Result<Pieces, AllocError>
+    ensures are { IfOk result (λ p. ArePieces layer.now.kind plane.now layer.now.shapes.items p.numbers p.shapes.items) }
+    ensures below { IfOk result (λ p. All (λ n. n < length layer.now.shapes.items) p.numbers) }
+    ensures each { IfOk result (λ p. length p.shapes.items ≡ length p.numbers) }
 {
-    for part in parts {
+    match layer.kind {
+        Kind::Polygon => parts_of(alloc, plane, &layer.shapes),
+        Kind::Line | Kind::Point | Kind::Table => split(
+            alloc,
+            layer.table.row_count(),
+            &layer.shapes,
+        ),
+    }
+}
+
+// ---- polygons
+
+fn parts_of(alloc: Global, plane: &Plane, shapes: &[Shape]) -> Result<Pieces, AllocError>
+    ensures are { IfOk result (λ p. ArePartsOf plane.now shapes.now p.numbers p.shapes.items) }
+    ensures below { IfOk result (λ p. All (λ n. n < length shapes.now) p.numbers) }
+    ensures each { IfOk result (λ p. length p.shapes.items ≡ length p.numbers) }
+{
+    let sets = sets_of(alloc, plane, shapes)?;
+    let items = explode_sets(alloc, &plane.arcs, &plane.faces, &sets)?;
+    let numbers = part_numbers(alloc, items.as_slice())?;
+    let shapes = part_shapes(alloc, items.as_slice())?;
+    Ok(Pieces { numbers, shapes })
+}
+
+fn part_numbers(alloc: Global, items: &[PartItem]) -> Result<IdList, AllocError>
+    ensures exact { IfOk result (λ numbers. numbers ≡ map (λ item. item.feature) items.now) }
+    ensures count { IfOk result (λ numbers. length numbers ≡ length items.now) }
+{
+    let mut numbers = IdList::new(alloc);
+    for item in items {
+        numbers.push(item.feature)?;
+    }
+    Ok(numbers)
+}
+
+fn part_shapes(alloc: Global, items: &[PartItem]) -> Result<Vec<Shape>, AllocError>
+    ensures exact { IfOk result (λ shapes. shapes.items ≡ map part_shape items.now) }
+    ensures count { IfOk result (λ shapes. length shapes.items ≡ length items.now) }
+{
+    let mut shapes = Vec::new(alloc);
+    for item in items {
+        shapes.push(Shape::Faces(item.set.copy(alloc)?))?;
+    }
+    Ok(shapes)
+}
+
+// ---- lines and points
+
+fn split(alloc: Global, count: u32, shapes: &[Shape]) -> Result<Pieces, AllocError>
+    requires count { length shapes.now ≡ count }
+    ensures are { IfOk result (λ p. AreSplitOf shapes.now p.numbers p.shapes.items) }
+    ensures below { IfOk result (λ p. All (λ n. n < length shapes.now) p.numbers) }
+    ensures each { IfOk result (λ p. length p.shapes.items ≡ length p.numbers) }
+{
+    let mut numbers = IdList::new(alloc);
+    let mut pieces = Vec::new(alloc);
+    for number in 0..count {
+        let added = push_split(alloc, &mut pieces, &shapes[number as usize])?;
+        repeat(&mut numbers, number, added)?;
+    }
+    Ok(Pieces {
+        numbers,
+        shapes: pieces,
+    })
+}
+
+// Puts a number behind others so many times.
+fn repeat(numbers: &mut IdList, number: u32, times: usize) -> Result<(), AllocError>
+    ensures repeated { OnOk result (numbers.new ≡ numbers.old ++ replicate times number) }
+{
+    for _time in 0..times {
         numbers.push(number)?;
-        shapes.push(part)?;
     }
     Ok(())
 }
 
-// The parts of a shape, or the shape itself where it is empty.
-fn parts_of(alloc: Global, plane: &Plane, shape: &Shape) -> Result<Vec<Shape>, AllocError> {
-    let mut all = Vec::new(alloc);
-    if shape.is_empty() {
-        all.push(copy_shape(alloc, shape)?)?;
-        return Ok(all);
-    }
+// Puts the pieces of a shape behind others, and tells how many there are.
+fn push_split(alloc: Global, pieces: &mut Vec<Shape>, shape: &Shape) -> Result<usize, AllocError>
+    ensures pushed { OnOk result (pieces.new.items ≡ pieces.old.items ++ split_shape shape.now) }
+    ensures count { IfOk result (λ count. count ≡ length (split_shape shape.now)) }
+{
     match shape {
-        Shape::Faces(faces) if plane.has_all(faces) => {
-            for part in parts(alloc, &plane.arcs, &plane.faces, faces)?.as_slice() {
-                all.push(Shape::Faces(part.copy(alloc)?))?;
-            }
-        }
-        Shape::Paths(paths) => {
-            for path in paths.as_slice() {
-                all.push(one_path(alloc, path.as_slice())?)?;
-            }
-        }
-        Shape::Points(points) => {
-            for point in points.as_slice() {
-                all.push(one_point(alloc, *point)?)?;
-            }
-        }
-        Shape::Nothing | Shape::Faces(_) => {}
+        Shape::Paths(paths) => push_paths(alloc, pieces, paths),
+        Shape::Points(points) => push_points(alloc, pieces, points),
+        Shape::Nothing | Shape::Faces(_) => push_whole(alloc, pieces, shape),
     }
-    Ok(all)
 }
 
-fn one_path(alloc: Global, path: &[SignedArc]) -> Result<Shape, AllocError> {
+fn push_whole(alloc: Global, pieces: &mut Vec<Shape>, shape: &Shape) -> Result<usize, AllocError>
+    ensures pushed { OnOk result (pieces.new.items ≡ pieces.old.items ++ shape.now ∷ []) }
+    ensures count { IfOk result (λ count. count ≡ 1) }
+{
+    pieces.push(copy_shape(alloc, shape)?)?;
+    Ok(1)
+}
+
+#[tactic(auto, using(crate::proofs::Pieces::some_paths))]
+fn push_paths(
+    alloc: Global,
+    pieces: &mut Vec<Shape>,
+    paths: &SignedPaths,
+) -> Result<usize, AllocError>
+    ensures pushed { OnOk result (pieces.new.items ≡ pieces.old.items ++ split_paths paths.now) }
+    ensures count { IfOk result (λ count. count ≡ length (split_paths paths.now)) }
+{
+    if paths.len() == 0 {
+        pieces.push(Shape::Paths(SignedPaths::new(alloc)))?;
+        return Ok(1);
+    }
+    push_each_path(alloc, pieces, paths.as_slice())?;
+    Ok(paths.len() as usize)
+}
+
+fn push_each_path(
+    alloc: Global,
+    pieces: &mut Vec<Shape>,
+    paths: &[SignedPath],
+) -> Result<(), AllocError>
+    ensures pushed { OnOk result (pieces.new.items ≡ pieces.old.items ++ map one_path paths.now) }
+{
+    for path in paths {
+        pieces.push(one_path(alloc, path.as_slice())?)?;
+    }
+    Ok(())
+}
+
+fn one_path(alloc: Global, path: &[SignedArc]) -> Result<Shape, AllocError>
+    ensures exact { IfOk result (λ shape. shape ≡ one_path path.now) }
+{
     let mut paths = SignedPaths::new(alloc);
     paths.push(copy_path(alloc, path)?)?;
     Ok(Shape::Paths(paths))
 }
 
-fn one_point(alloc: Global, point: Pt) -> Result<Shape, AllocError> {
+#[tactic(auto, using(crate::proofs::Pieces::some_points))]
+fn push_points(alloc: Global, pieces: &mut Vec<Shape>, points: &PtList) -> Result<usize, AllocError>
+    ensures pushed { OnOk result (pieces.new.items ≡ pieces.old.items ++ split_points points.now) }
+    ensures count { IfOk result (λ count. count ≡ length (split_points points.now)) }
+{
+    if points.len() == 0 {
+        pieces.push(Shape::Points(PtList::new(alloc)))?;
+        return Ok(1);
+    }
+    push_each_point(alloc, pieces, points.as_slice())?;
+    Ok(points.len() as usize)
+}
+
+fn push_each_point(alloc: Global, pieces: &mut Vec<Shape>, points: &[Pt]) -> Result<(), AllocError>
+    ensures pushed { OnOk result (pieces.new.items ≡ pieces.old.items ++ map one_point points.now) }
+{
+    for point in points {
+        pieces.push(one_point(alloc, *point)?)?;
+    }
+    Ok(())
+}
+
+fn one_point(alloc: Global, point: Pt) -> Result<Shape, AllocError>
+    ensures exact { IfOk result (λ shape. shape ≡ one_point point) }
+{
     let mut points = PtList::new(alloc);
     points.push(point)?;
     Ok(Shape::Points(points))

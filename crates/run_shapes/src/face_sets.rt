@@ -1,7 +1,11 @@
-ghost use Rattle.std.specs.Prelude.{◌≡◌, All, IfOk, length};
+ghost use Rattle.std.specs.Prelude.{◌≡◌, [], All, IfOk, length, slice_index_or};
 ghost use Rattle.ring_trace.specs.Sets.{IsSetOf};
+ghost use Rattle.run_plane.specs.OnPlane.{faces_on, set_on};
+ghost use Rattle.run_shapes.specs.FaceSets.{any_faces, area_of, face_shapes, faces_in, sets_on};
+ghost use Rattle.run_state.specs.Origins.{base_of};
 
 use cmd_words::Origin;
+use grid_base::FaceId;
 use ring_trace::{FaceSet, SetList};
 use run_plane::{Plane, Shape};
 use run_state::{CommandStop, Ground, Held, source_layer};
@@ -13,12 +17,11 @@ pub fn area_of(
     ground: &Ground<'_>,
     layers: &[Held],
     from: &Origin,
-) -> Result<FaceSet, CommandStop> {
+) -> Result<FaceSet, CommandStop>
+    ensures exact { IfOk result (λ faces. faces ≡ area_of (base_of ground.now) layers.now from.now) }
+{
     if let Origin::Area(number) = from {
-        return Ok(match ground.plane.boxes.get(*number as usize) {
-            Some(faces) => faces.copy(alloc)?,
-            None => FaceSet::new(alloc),
-        });
+        return Ok(box_faces(alloc, &ground.plane.boxes, *number)?);
     }
     match source_layer(layers, ground.sources, from) {
         Ok(layer) => Ok(union_of(alloc, &layer.shapes)?),
@@ -26,40 +29,74 @@ pub fn area_of(
     }
 }
 
+// The faces in the box with this number, from 0.
+fn box_faces(alloc: Global, boxes: &[FaceSet], number: u32) -> Result<FaceSet, AllocError>
+    ensures exact { IfOk result (λ faces. faces ≡ slice_index_or boxes.now number []) }
+{
+    match boxes.get(number as usize) {
+        Some(faces) => faces.copy(alloc),
+        None => Ok(FaceSet::new(alloc)),
+    }
+}
+
 /// The faces of any of the shapes.
-pub fn union_of(alloc: Global, shapes: &[Shape]) -> Result<FaceSet, AllocError> {
+pub fn union_of(alloc: Global, shapes: &[Shape]) -> Result<FaceSet, AllocError>
+    ensures exact { IfOk result (λ faces. faces ≡ any_faces shapes.now) }
+{
     let mut faces = Vec::new(alloc);
     for shape in shapes {
-        if let Shape::Faces(set) = shape {
-            faces.extend_from_slice(set.faces())?;
-        }
+        faces.extend_from_slice(faces_in(shape))?;
     }
     Ok(FaceSet::from_faces(faces))
 }
 
-/// The sets of faces of a layer's shapes, in order; an empty one for a shape without faces.
+fn faces_in(shape: &Shape) -> &[FaceId]
+    ensures exact { result.now ≡ faces_in shape.now }
+{
+    match shape {
+        Shape::Faces(set) => set.faces(),
+        Shape::Nothing | Shape::Paths(_) | Shape::Points(_) => &[],
+    }
+}
+
+/// For each shape of a layer its faces on the plane.
 pub fn sets_of(alloc: Global, plane: &Plane, shapes: &[Shape]) -> Result<SetList, AllocError>
+    ensures exact { IfOk result (λ sets. sets ≡ sets_on plane.now shapes.now) }
     ensures count { IfOk result (λ sets. length sets ≡ length shapes.now) }
     ensures there { IfOk result (All (IsSetOf plane.now.faces)) }
 {
     let mut sets = SetList::new(alloc);
     for shape in shapes {
-        sets.push(faces_of(alloc, plane, shape)?)?;
+        sets.push(faces_on(alloc, plane, shape)?)?;
     }
     Ok(sets)
 }
 
-fn faces_of(alloc: Global, plane: &Plane, shape: &Shape) -> Result<FaceSet, AllocError>
+fn faces_on(alloc: Global, plane: &Plane, shape: &Shape) -> Result<FaceSet, AllocError>
+    ensures exact { IfOk result (λ set. set ≡ faces_on plane.now shape.now) }
     ensures there { IfOk result (IsSetOf plane.now.faces) }
 {
     match shape {
-        Shape::Faces(faces) if plane.has_all(faces) => faces.copy(alloc),
-        _ => Ok(FaceSet::new(alloc)),
+        Shape::Faces(faces) => kept_faces(alloc, plane, faces),
+        Shape::Nothing | Shape::Paths(_) | Shape::Points(_) => Ok(FaceSet::new(alloc)),
+    }
+}
+
+// The faces, where all are on the plane.
+fn kept_faces(alloc: Global, plane: &Plane, faces: &FaceSet) -> Result<FaceSet, AllocError>
+    ensures exact { IfOk result (λ set. set ≡ set_on plane.now faces.now) }
+    ensures there { IfOk result (IsSetOf plane.now.faces) }
+{
+    if plane.has_all(faces) {
+        faces.copy(alloc)
+    } else {
+        Ok(FaceSet::new(alloc))
     }
 }
 
 /// A shape for each set.
 pub fn shapes_of(alloc: Global, sets: &[FaceSet]) -> Result<Vec<Shape>, AllocError>
+    ensures exact { IfOk result (λ shapes. shapes.items ≡ face_shapes sets.now) }
     ensures count { IfOk result (λ shapes. length shapes.items ≡ length sets.now) }
 {
     let mut shapes = Vec::new(alloc);

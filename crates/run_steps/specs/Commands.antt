@@ -1,5 +1,5 @@
 -- What a command makes of the layers that it works on.
-use Rattle.std.specs.Prelude.{◌≡◌, ◌≤◌, ⊤, List, [], ◌∷◌, ◌++◌, length, replicate, Option, Some, None, Ok, MatchBool}
+use Rattle.std.specs.Prelude.{◌≡◌, ◌≤◌, ℕ, ⊤, List, [], ◌∷◌, ◌++◌, length, replicate, Option, Some, None, Ok, MatchBool}
 use Rattle.std.specs.List.{AllZip, position_or_len}
 use Rattle.io_core.specs.Contents.{Content}
 use Rattle.grid_base.specs.declared.kinds.Kind.TheVariants as kinds
@@ -14,7 +14,13 @@ use Rattle.cmd_words.specs.declared.job.JointAction.TheVariants as joint
 use Rattle.cmd_words.specs.declared.job.LayerAction.{LayerAction}
 use Rattle.cmd_words.specs.declared.job.LayerAction.TheVariants as action
 use Rattle.run_plane.specs.declared.layer.Layer.{Layer}
-use Rattle.run_shapes.specs.Made.{IsCleaned, IsGrouped, IsLike, IsReshaped}
+use Rattle.run_shapes.specs.Cleaning.{IsCleaned, IsMosaicOf}
+use Rattle.run_shapes.specs.Cutting.{IsCut}
+use Rattle.run_shapes.specs.Dissolving.{IsGrouped}
+use Rattle.run_shapes.specs.Exploding.{IsExploded}
+use Rattle.run_shapes.specs.FaceSets.{area_of}
+use Rattle.run_shapes.specs.Made.{IsLike}
+use Rattle.run_shapes.specs.declared.cutting.CutKeeps.TheVariants as keeps
 use Rattle.run_state.specs.Origins.{Base, one_layer, origin_layers}
 use Rattle.run_state.specs.Targets.{is_selected, placed, targets}
 use Rattle.run_state.specs.declared.state.Held.{Held}
@@ -28,6 +34,12 @@ One P [] = ⊥
 One P (made ∷ []) = P made
 One P (made ∷ other ∷ rest) = ⊥
 
+-- the faces are those that the command cuts by, where it cuts
+abbrev pub CutsBy : Base → List Held → LayerAction → List ℕ → Type 0
+CutsBy base layers (action.Clip from) area = area ≡ area_of base layers from
+CutsBy base layers (action.Erase from) area = area ≡ area_of base layers from
+CutsBy base layers _ area = ⊤
+
 -- what a join puts out: the layer joined with the one of its source
 pub record Joins (base : Base) (layers : List Held) (from : Origin) (spec : JoinSpec) (layer : Layer) (outputs : List Layer) : Type 0 where
   pub source : Layer
@@ -36,14 +48,14 @@ pub record Joins (base : Base) (layers : List Held) (from : Origin) (spec : Join
 
 -- what a command that changes each layer puts out for a layer of its target, beside all layers of the state
 abbrev pub PutsOut : Base → List Held → LayerAction → Layer → List Layer → Type 0
-PutsOut base layers (action.Clip from) layer outputs = One (IsReshaped layer) outputs
-PutsOut base layers (action.Erase from) layer outputs = One (IsReshaped layer) outputs
-PutsOut base layers (action.Dissolve spec group_points) layer outputs = One (IsGrouped spec layer) outputs
-PutsOut base layers (action.Clean rule allow_empty) layer outputs = One (IsCleaned allow_empty layer) outputs
-PutsOut base layers action.Mosaic layer outputs = One (IsLike kinds.Polygon layer) outputs
+PutsOut base layers (action.Clip from) layer outputs = One (IsCut keeps.Inside base.plane (area_of base layers from) layer) outputs
+PutsOut base layers (action.Erase from) layer outputs = One (IsCut keeps.Outside base.plane (area_of base layers from) layer) outputs
+PutsOut base layers (action.Dissolve spec group_points) layer outputs = One (IsGrouped base.plane spec layer) outputs
+PutsOut base layers (action.Clean rule allow_empty) layer outputs = One (IsCleaned rule allow_empty base.plane layer) outputs
+PutsOut base layers action.Mosaic layer outputs = One (IsMosaicOf base.plane layer) outputs
 PutsOut base layers action.InnerLines layer outputs = One (IsLike kinds.Line layer) outputs
 PutsOut base layers (action.Lines fields) layer outputs = One (IsLike kinds.Line layer) outputs
-PutsOut base layers action.Explode layer outputs = One (IsLike layer.kind layer) outputs
+PutsOut base layers action.Explode layer outputs = One (IsExploded base.plane layer) outputs
 PutsOut base layers (action.Join from spec) layer outputs = Joins base layers from spec layer outputs
 PutsOut base layers (action.Filter test invert remove_empty) layer outputs = One (IsFiltered test invert remove_empty layer) outputs
 PutsOut base layers (action.FilterFields fields) layer outputs = One (GivesTable (keep_fields layer.table fields) layer) outputs

@@ -2,7 +2,7 @@ ghost use Rattle.std.specs.Prelude.{◌≡◌, ◌∷◌, [], IfOk, map, option_
 ghost use Rattle.std.specs.List.{AllZip, position_or_len};
 ghost use Rattle.run_state.specs.Targets.{is_selected, targets};
 ghost use Rattle.run_state.specs.Origins.{base_of};
-ghost use Rattle.run_steps.specs.Commands.{IsTitled, Joins, MadeTogether, PutsFor, PutsOut, PutsTogether, at_first};
+ghost use Rattle.run_steps.specs.Commands.{CutsBy, IsTitled, Joins, MadeTogether, PutsFor, PutsOut, PutsTogether, at_first};
 
 use cmd_words::{Command, JointAction, LayerAction, Origin, Target};
 use io_core::Text;
@@ -106,11 +106,12 @@ fn cut_area(
     ground: &Ground<'_>,
     layers: &[Held],
     action: &LayerAction,
-) -> Result<FaceSet, CommandStop> {
+) -> Result<FaceSet, CommandStop>
+    ensures area { IfOk result (CutsBy (base_of ground.now) layers.now action.now) }
+{
     match action {
-        LayerAction::Clip { from } | LayerAction::Erase { from } => {
-            area_of(alloc, ground, layers, from)
-        }
+        LayerAction::Clip { from } => area_of(alloc, ground, layers, from),
+        LayerAction::Erase { from } => area_of(alloc, ground, layers, from),
         _ => Ok(FaceSet::new(alloc)),
     }
 }
@@ -124,6 +125,7 @@ fn held_outputs(
     area: &FaceSet,
     held: &Held,
 ) -> Result<Vec<Layer>, CommandStop>
+    requires area { CutsBy (base_of ground.now) layers.now action.now area.now }
     ensures puts { IfOk result (λ outputs. PutsFor (base_of ground.now) layers.now command.now action.now held.now outputs.items) }
 {
     if !is_selected(&command.target, held) {
@@ -183,6 +185,7 @@ fn layer_outputs(
     area: &FaceSet,
     layer: &Layer,
 ) -> Result<Vec<Layer>, CommandStop>
+    requires area { CutsBy (base_of ground.now) layers.now action.now area.now }
     ensures puts { IfOk result (λ outputs. PutsOut (base_of ground.now) layers.now action.now layer.now outputs.items) }
 {
     let plane = ground.plane;
