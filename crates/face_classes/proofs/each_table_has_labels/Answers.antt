@@ -1,6 +1,0 @@
--- By the darts along the arcs, each with its number.
-use Rattle.face_classes.proofs.LabelLemmas.{each_table_has_labels}
-use Rattle.face_classes.proofs.each_table_has_labels.Goals as goal
-
-pub returns : goal.returns
-returns c = each_table_has_labels

@@ -1,6 +1,0 @@
--- By the joins of the table.
-use Rattle.face_classes.proofs.ClassLemmas.{faces_are_classes}
-use Rattle.face_classes.proofs.faces_are_classes.Goals as goal
-
-pub returns : goal.returns
-returns c = faces_are_classes

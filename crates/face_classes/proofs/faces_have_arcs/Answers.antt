@@ -1,6 +1,0 @@
--- By the place that has the number.
-use Rattle.face_classes.proofs.ShownLemmas.{faces_have_arcs}
-use Rattle.face_classes.proofs.faces_have_arcs.Goals as goal
-
-pub returns : goal.returns
-returns c = faces_have_arcs

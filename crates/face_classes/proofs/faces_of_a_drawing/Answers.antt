@@ -1,6 +1,0 @@
--- By the places of the points.
-use Rattle.face_classes.proofs.ShownLemmas.{faces_of_a_drawing}
-use Rattle.face_classes.proofs.faces_of_a_drawing.Goals as goal
-
-pub returns : goal.returns
-returns c = faces_of_a_drawing

@@ -1,6 +1,0 @@
--- By the labels of the places beside the links.
-use Rattle.face_classes.proofs.SideLemmas.{features_beside_arcs}
-use Rattle.face_classes.proofs.features_beside_arcs.Goals as goal
-
-pub returns : goal.returns
-returns c = features_beside_arcs

@@ -1,6 +1,0 @@
--- By the owners of the polygons.
-use Rattle.face_classes.proofs.FeatureLemmas.{features_of_a_drawing}
-use Rattle.face_classes.proofs.features_of_a_drawing.Goals as goal
-
-pub returns : goal.returns
-returns c = features_of_a_drawing

@@ -1,6 +1,0 @@
--- By the labels of the places beside the arc.
-use Rattle.face_classes.proofs.HolderLemmas.{items_beside_arcs}
-use Rattle.face_classes.proofs.items_beside_arcs.Goals as goal
-
-pub returns : goal.returns
-returns c = items_beside_arcs

@@ -1,6 +1,0 @@
--- Crossing by crossing.
-use Rattle.face_classes.proofs.HolderLemmas.{items_hold_by_parity}
-use Rattle.face_classes.proofs.items_hold_by_parity.Goals as goal
-
-pub returns : goal.returns
-returns c = items_hold_by_parity

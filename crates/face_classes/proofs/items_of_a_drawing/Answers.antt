@@ -1,6 +1,0 @@
--- By the links of their rings, which are even lists.
-use Rattle.face_classes.proofs.HoldingLemmas.{items_of_a_drawing}
-use Rattle.face_classes.proofs.items_of_a_drawing.Goals as goal
-
-pub returns : goal.returns
-returns c = items_of_a_drawing

@@ -1,6 +1,0 @@
--- By the labels of their places.
-use Rattle.face_classes.proofs.PointLemmas.{points_have_one_face}
-use Rattle.face_classes.proofs.points_have_one_face.Goals as goal
-
-pub returns : goal.returns
-returns c = points_have_one_face

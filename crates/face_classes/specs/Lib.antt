@@ -1,2 +1,0 @@
-pub mod FaceClasses
-pub mod FaceHolders

@@ -1,0 +1,6 @@
+-- By the labels of the places beside the arc.
+use Rattle.face_laws.proofs.HolderLemmas.{items_beside_arcs}
+use Rattle.face_laws.proofs.items_beside_arcs.Goals as goal
+
+pub returns : goal.returns
+returns c = items_beside_arcs

@@ -1,6 +1,0 @@
--- The law is proved by itself.
-use Rattle.line_classes.proofs.LinkSides.{arcs_are_inside}
-use Rattle.line_classes.proofs.arcs_are_inside.Goals as goal
-
-pub returns : goal.returns
-returns c = arcs_are_inside

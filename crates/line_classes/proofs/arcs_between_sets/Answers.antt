@@ -1,6 +1,0 @@
--- The law is proved by itself.
-use Rattle.line_classes.proofs.ArcsBetween.{arcs_between_sets}
-use Rattle.line_classes.proofs.arcs_between_sets.Goals as goal
-
-pub returns : goal.returns
-returns c = arcs_between_sets

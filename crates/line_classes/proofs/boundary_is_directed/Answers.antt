@@ -1,6 +1,0 @@
--- The law is proved by itself.
-use Rattle.line_classes.proofs.LinkSides.{boundary_is_directed}
-use Rattle.line_classes.proofs.boundary_is_directed.Goals as goal
-
-pub returns : goal.returns
-returns c = boundary_is_directed

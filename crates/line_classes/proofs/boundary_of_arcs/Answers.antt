@@ -1,6 +1,0 @@
--- The law is proved by itself.
-use Rattle.line_classes.proofs.LinkSides.{boundary_of_arcs}
-use Rattle.line_classes.proofs.boundary_of_arcs.Goals as goal
-
-pub returns : goal.returns
-returns c = boundary_of_arcs

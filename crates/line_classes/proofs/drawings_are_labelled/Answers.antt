@@ -1,6 +1,0 @@
--- The law is proved by itself.
-use Rattle.line_classes.proofs.LinkSides.{drawings_are_labelled}
-use Rattle.line_classes.proofs.drawings_are_labelled.Goals as goal
-
-pub returns : goal.returns
-returns c = drawings_are_labelled

@@ -1,6 +1,0 @@
--- The law is proved by itself.
-use Rattle.line_classes.proofs.PathRuns.{line_features_are_cut}
-use Rattle.line_classes.proofs.line_features_are_cut.Goals as goal
-
-pub returns : goal.returns
-returns c = line_features_are_cut

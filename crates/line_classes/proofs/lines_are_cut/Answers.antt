@@ -1,6 +1,0 @@
--- The law is proved by itself.
-use Rattle.line_classes.proofs.PathRuns.{lines_are_cut}
-use Rattle.line_classes.proofs.lines_are_cut.Goals as goal
-
-pub returns : goal.returns
-returns c = lines_are_cut

@@ -1,6 +1,0 @@
--- The law is proved by itself.
-use Rattle.line_classes.proofs.Sources.{lines_cut_by_boxes}
-use Rattle.line_classes.proofs.lines_cut_by_boxes.Goals as goal
-
-pub returns : goal.returns
-returns c = lines_cut_by_boxes

@@ -1,6 +1,0 @@
--- The law is proved by itself.
-use Rattle.line_classes.proofs.PathRuns.{paths_are_cut}
-use Rattle.line_classes.proofs.paths_are_cut.Goals as goal
-
-pub returns : goal.returns
-returns c = paths_are_cut

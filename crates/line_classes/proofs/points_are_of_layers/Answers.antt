@@ -1,6 +1,0 @@
--- The law is proved by itself.
-use Rattle.line_classes.proofs.SourcePoints.{points_are_of_layers}
-use Rattle.line_classes.proofs.points_are_of_layers.Goals as goal
-
-pub returns : goal.returns
-returns c = points_are_of_layers

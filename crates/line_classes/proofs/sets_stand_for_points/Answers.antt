@@ -1,6 +1,0 @@
--- The law is proved by itself.
-use Rattle.line_classes.proofs.ArcsBetween.{sets_stand_for_points}
-use Rattle.line_classes.proofs.sets_stand_for_points.Goals as goal
-
-pub returns : goal.returns
-returns c = sets_stand_for_points

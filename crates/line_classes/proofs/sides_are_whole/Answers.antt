@@ -1,6 +1,0 @@
--- The law is proved by itself.
-use Rattle.line_classes.proofs.LinkSides.{sides_are_whole}
-use Rattle.line_classes.proofs.sides_are_whole.Goals as goal
-
-pub returns : goal.returns
-returns c = sides_are_whole

@@ -1,6 +1,0 @@
--- The law is proved by itself.
-use Rattle.line_classes.proofs.SourcePoints.{vertices_inside_layers}
-use Rattle.line_classes.proofs.vertices_inside_layers.Goals as goal
-
-pub returns : goal.returns
-returns c = vertices_inside_layers

@@ -1,3 +1,0 @@
-pub mod LineClasses
-pub mod ArcsBetween
-pub mod Sources

@@ -1,0 +1,6 @@
+-- The law is proved by itself.
+use Rattle.line_laws.proofs.LinkSides.{arcs_are_inside}
+use Rattle.line_laws.proofs.arcs_are_inside.Goals as goal
+
+pub returns : goal.returns
+returns c = arcs_are_inside

@@ -1,0 +1,6 @@
+-- The law is proved by itself.
+use Rattle.line_laws.proofs.ArcsBetween.{arcs_between_sets}
+use Rattle.line_laws.proofs.arcs_between_sets.Goals as goal
+
+pub returns : goal.returns
+returns c = arcs_between_sets

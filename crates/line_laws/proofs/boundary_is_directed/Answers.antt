@@ -1,0 +1,6 @@
+-- The law is proved by itself.
+use Rattle.line_laws.proofs.LinkSides.{boundary_is_directed}
+use Rattle.line_laws.proofs.boundary_is_directed.Goals as goal
+
+pub returns : goal.returns
+returns c = boundary_is_directed

@@ -1,0 +1,6 @@
+-- The law is proved by itself.
+use Rattle.line_laws.proofs.LinkSides.{boundary_of_arcs}
+use Rattle.line_laws.proofs.boundary_of_arcs.Goals as goal
+
+pub returns : goal.returns
+returns c = boundary_of_arcs

@@ -1,0 +1,6 @@
+-- The law is proved by itself.
+use Rattle.line_laws.proofs.LinkSides.{drawings_are_labelled}
+use Rattle.line_laws.proofs.drawings_are_labelled.Goals as goal
+
+pub returns : goal.returns
+returns c = drawings_are_labelled

@@ -1,0 +1,6 @@
+-- The law is proved by itself.
+use Rattle.line_laws.proofs.PathRuns.{line_features_are_cut}
+use Rattle.line_laws.proofs.line_features_are_cut.Goals as goal
+
+pub returns : goal.returns
+returns c = line_features_are_cut

@@ -1,0 +1,6 @@
+-- The law is proved by itself.
+use Rattle.line_laws.proofs.PathRuns.{lines_are_cut}
+use Rattle.line_laws.proofs.lines_are_cut.Goals as goal
+
+pub returns : goal.returns
+returns c = lines_are_cut

@@ -1,0 +1,6 @@
+-- The law is proved by itself.
+use Rattle.line_laws.proofs.PathRuns.{paths_are_cut}
+use Rattle.line_laws.proofs.paths_are_cut.Goals as goal
+
+pub returns : goal.returns
+returns c = paths_are_cut

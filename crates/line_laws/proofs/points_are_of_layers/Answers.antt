@@ -1,0 +1,6 @@
+-- The law is proved by itself.
+use Rattle.line_laws.proofs.SourcePoints.{points_are_of_layers}
+use Rattle.line_laws.proofs.points_are_of_layers.Goals as goal
+
+pub returns : goal.returns
+returns c = points_are_of_layers

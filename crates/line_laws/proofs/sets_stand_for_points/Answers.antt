@@ -1,0 +1,6 @@
+-- The law is proved by itself.
+use Rattle.line_laws.proofs.ArcsBetween.{sets_stand_for_points}
+use Rattle.line_laws.proofs.sets_stand_for_points.Goals as goal
+
+pub returns : goal.returns
+returns c = sets_stand_for_points

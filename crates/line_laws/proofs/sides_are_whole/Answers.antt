@@ -1,0 +1,6 @@
+-- The law is proved by itself.
+use Rattle.line_laws.proofs.LinkSides.{sides_are_whole}
+use Rattle.line_laws.proofs.sides_are_whole.Goals as goal
+
+pub returns : goal.returns
+returns c = sides_are_whole

@@ -1,0 +1,6 @@
+-- The law is proved by itself.
+use Rattle.line_laws.proofs.Sources.{sides_of_layers}
+use Rattle.line_laws.proofs.sides_of_layers.Goals as goal
+
+pub returns : goal.returns
+returns c = sides_of_layers

@@ -1,0 +1,6 @@
+-- The law is proved by itself.
+use Rattle.line_laws.proofs.SourcePoints.{vertices_inside_boxes}
+use Rattle.line_laws.proofs.vertices_inside_boxes.Goals as goal
+
+pub returns : goal.returns
+returns c = vertices_inside_boxes

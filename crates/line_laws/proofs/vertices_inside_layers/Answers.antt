@@ -1,0 +1,6 @@
+-- The law is proved by itself.
+use Rattle.line_laws.proofs.SourcePoints.{vertices_inside_layers}
+use Rattle.line_laws.proofs.vertices_inside_layers.Goals as goal
+
+pub returns : goal.returns
+returns c = vertices_inside_layers

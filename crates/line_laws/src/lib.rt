@@ -1,0 +1,132 @@
+//! What lines and arcs are inside is what rational points show: an arc is inside a set of faces exactly if points of these
+//! faces see a side of each of its links. So the paths that a set cuts out are maximal runs of steps along such links, and
+//! the arcs between features are those whose links have different features at their two sides. A source is a layer of
+//! features, or a box: what is inside its faces is what points see that it holds.
+//!
+//! Each function carries one law in its contract, and does nothing.
+#![tactic(auto)]
+
+ghost use Rattle.line_laws.specs.ArcsBetween.{ArcsBetweenFeatures, ArcsBetweenSets, SetsStandForFeatures, SetsStandForPoints};
+ghost use Rattle.line_laws.specs.Lines.{ArcsAreInside, BoundaryIsDirected, BoundaryOfArcs, DrawingsAreLabelled, InsideIsTested, LineFeaturesAreCut, LinesAreCut, PathsAreCut, SidesAreWhole, SidesOfArcs};
+ghost use Rattle.line_laws.specs.Sources.{LinesCutByBoxes, LinesCutByLayers, PointsAreOfBoxes, PointsAreOfLayers, SidesOfBoxes, SidesOfLayers, VerticesInsideBoxes, VerticesInsideLayers};
+
+/// These laws are true of the faces of the arcs of a snapped drawing.
+pub fn drawings_are_labelled()
+    ensures { DrawingsAreLabelled }
+{}
+
+/// A side of a link of a signed arc is in the points of a set of faces exactly if the set has the face on that side of the
+/// arc.
+pub fn sides_of_arcs()
+    ensures { SidesOfArcs }
+{}
+
+/// So an arc is inside a set, as it is answered for it, exactly if each of its links is: at least one side of it belongs to
+/// the points of the set.
+pub fn arcs_are_inside()
+    ensures { ArcsAreInside }
+{}
+
+/// A link is on the boundary of the points of a set exactly if the set has just one of the faces beside its arc.
+pub fn boundary_of_arcs()
+    ensures { BoundaryOfArcs }
+{}
+
+/// A signed arc is on the boundary of a set, as it is traced, exactly if the left sides of its links are in the points of the
+/// set, and the right sides are not.
+pub fn boundary_is_directed()
+    ensures { BoundaryIsDirected }
+{}
+
+/// If some point that sees a side of a link is in the points of a set, each point that sees it is.
+pub fn sides_are_whole()
+    ensures { SidesAreWhole }
+{}
+
+/// Some test holds of just those links that are inside the points of a set.
+pub fn inside_is_tested()
+    ensures { InsideIsTested }
+{}
+
+/// The arcs of a path, cut by a set of faces, are its maximal runs of steps along links that are inside the points of the
+/// set, and of steps along links that are not.
+pub fn paths_are_cut()
+    ensures { PathsAreCut }
+{}
+
+/// So it is with each path of a line of a snapped drawing, read from its start.
+pub fn lines_are_cut()
+    ensures { LinesAreCut }
+{}
+
+/// And with a line feature, path by path.
+pub fn line_features_are_cut()
+    ensures { LineFeaturesAreCut }
+{}
+
+/// The sets of a list stand for their points: the sets at the two sides of an arc are those whose points see the two sides
+/// of each of its links.
+pub fn sets_stand_for_points()
+    ensures { SetsStandForPoints }
+{}
+
+/// The sets of the faces that features of a snapped drawing hold stand so for the points that the features hold.
+pub fn sets_stand_for_features()
+    ensures { SetsStandForFeatures }
+{}
+
+/// So the arcs whose two sides are in different sets are those of whose links the lists of the sets that have points at the
+/// left and at the right side differ, each once; and the inner ones those for which, besides, neither list is empty.
+pub fn arcs_between_sets()
+    ensures { ArcsBetweenSets }
+{}
+
+/// And for features of a snapped drawing they are the arcs of whose links the lists of the features that have the left and
+/// the right side differ, with the lowest feature at each side.
+pub fn arcs_between_features()
+    ensures { ArcsBetweenFeatures }
+{}
+
+/// The sides of links that belong to the points of a set of the faces that features of a layer hold are those that belong to
+/// the points that some feature of the layer holds.
+pub fn sides_of_layers()
+    ensures { SidesOfLayers }
+{}
+
+/// And those of a set of the faces that a box holds are those that belong to the points in the box.
+pub fn sides_of_boxes()
+    ensures { SidesOfBoxes }
+{}
+
+/// So line features cut by a layer are their maximal runs of steps along links of which some feature of the layer has a side,
+/// and of steps along links of which none has.
+pub fn lines_cut_by_layers()
+    ensures { LinesCutByLayers }
+{}
+
+/// And so it is with a box.
+pub fn lines_cut_by_boxes()
+    ensures { LinesCutByBoxes }
+{}
+
+/// Off the links, the points of a set of the faces that features of a layer hold are those that some feature of the layer
+/// holds.
+pub fn points_are_of_layers()
+    ensures { PointsAreOfLayers }
+{}
+
+/// And those of a set of the faces that a box holds are those in the box.
+pub fn points_are_of_boxes()
+    ensures { PointsAreOfBoxes }
+{}
+
+/// So a vertex of a snapped drawing is inside a layer, as it is answered for it, exactly if some point that a feature of the
+/// layer holds sees it.
+pub fn vertices_inside_layers()
+    ensures { VerticesInsideLayers }
+{}
+
+/// And so it is with a box.
+pub fn vertices_inside_boxes()
+    ensures { VerticesInsideBoxes }
+{}

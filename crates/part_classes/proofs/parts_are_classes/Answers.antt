@@ -1,6 +1,0 @@
--- By the chains of arcs between faces.
-use Rattle.part_classes.proofs.ClassLemmas.{parts_are_classes}
-use Rattle.part_classes.proofs.parts_are_classes.Goals as goal
-
-pub returns : goal.returns
-returns c = parts_are_classes

@@ -1,6 +1,0 @@
--- Two parts have no face in common.
-use Rattle.part_classes.proofs.ApartLaws.{polygons_are_apart}
-use Rattle.part_classes.proofs.polygons_are_apart.Goals as goal
-
-pub returns : goal.returns
-returns c = polygons_are_apart

@@ -1,6 +1,0 @@
--- Parts are the classes of joined points.
-use Rattle.part_classes.proofs.ApartLaws.{polygons_are_joined_points}
-use Rattle.part_classes.proofs.polygons_are_joined_points.Goals as goal
-
-pub returns : goal.returns
-returns c = polygons_are_joined_points

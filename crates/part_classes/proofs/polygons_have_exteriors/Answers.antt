@@ -1,6 +1,0 @@
--- By counts of darts along the rings and in the border of the part.
-use Rattle.part_classes.proofs.PolygonLaws.{polygons_have_exteriors}
-use Rattle.part_classes.proofs.polygons_have_exteriors.Goals as goal
-
-pub returns : goal.returns
-returns c = polygons_have_exteriors

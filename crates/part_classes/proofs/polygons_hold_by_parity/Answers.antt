@@ -1,6 +1,0 @@
--- The links of the rings are the border of the part, which is odd just within it.
-use Rattle.part_classes.proofs.ApartLaws.{polygons_hold_by_parity}
-use Rattle.part_classes.proofs.polygons_hold_by_parity.Goals as goal
-
-pub returns : goal.returns
-returns c = polygons_hold_by_parity

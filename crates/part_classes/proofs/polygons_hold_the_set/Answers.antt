@@ -1,6 +1,0 @@
--- Each face of the set is in one part, and each part has a polygon.
-use Rattle.part_classes.proofs.ApartLaws.{polygons_hold_the_set}
-use Rattle.part_classes.proofs.polygons_hold_the_set.Goals as goal
-
-pub returns : goal.returns
-returns c = polygons_hold_the_set

@@ -1,6 +1,0 @@
--- By the links that end at each vertex.
-use Rattle.part_classes.proofs.RingLemmas.{rings_go_round}
-use Rattle.part_classes.proofs.rings_go_round.Goals as goal
-
-pub returns : goal.returns
-returns c = rings_go_round

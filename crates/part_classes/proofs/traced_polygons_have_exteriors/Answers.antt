@@ -1,6 +1,0 @@
--- By the order of rings: none that turns right stands before one that turns left.
-use Rattle.part_classes.proofs.TracedLaws.{traced_polygons_have_exteriors}
-use Rattle.part_classes.proofs.traced_polygons_have_exteriors.Goals as goal
-
-pub returns : goal.returns
-returns c = traced_polygons_have_exteriors

@@ -1,6 +1,0 @@
--- The links of a snapped drawing are an arrangement, and whole arcs are free inside.
-use Rattle.part_classes.proofs.DrawnLaws.{traced_polygons_of_a_drawing}
-use Rattle.part_classes.proofs.traced_polygons_of_a_drawing.Goals as goal
-
-pub returns : goal.returns
-returns c = traced_polygons_of_a_drawing

@@ -1,6 +1,0 @@
--- By counts of darts, as for a part.
-use Rattle.part_classes.proofs.TogetherLaws.{traces_use_the_border}
-use Rattle.part_classes.proofs.traces_use_the_border.Goals as goal
-
-pub returns : goal.returns
-returns c = traces_use_the_border

@@ -1,0 +1,203 @@
+-- How often darts are in lists.
+use Rattle.std.proofs.Common.{◌≡◌, inl, inr, refl, sym, ap, ◌∙◌, subst, arith, ℕ, zero, suc, ◌+◌, ◌<◌, Bool, true, false, not, ◌&&◌, cond, List, [], ◌∷◌, ◌++◌, map, filter, length, get_or, reverse, All, Contains, append_assoc}
+use Rattle.std.specs.List.{sum_by, count_by, flat_map}
+use Rattle.std.specs.List.Sorted.{IsPermutation}
+use Rattle.std.proofs.lemmas.Bool.{and_from, and_parts, cases_Bool, false_from_ne_true}
+use Rattle.std.proofs.lemmas.List.{reverse-append}
+use Rattle.std.proofs.lemmas.List.Sums.{sum_by-cons, sum_by-append}
+use Rattle.std.proofs.lemmas.List.Sorted.{IsPermutation-refl, IsPermutation-cons, IsPermutation-sym, IsPermutation-trans, sum_by-IsPermutation}
+use Rattle.lists.proofs.Members.{Contains-head, Contains-later, Contains-cases, Contains-nil}
+use Rattle.plane_model.specs.Points.{GridPoint, Segment, Path, same_point, same_segment}
+use Rattle.plane_model.specs.Drawing.{steps}
+use Rattle.plane_model.specs.Arrangement.{IsDistinct}
+use Rattle.plane_model.specs.Rotation.{Dart}
+use Rattle.plane_model.proofs.PointOrder.{same_point_from, same_point_to, segment_is}
+use Rattle.plane_faces.specs.Around.{opposite}
+use Rattle.plane_faces.specs.Rings.{dart_of_step, darts_of_path}
+use Rattle.plane_faces.proofs.Tracing.{take_out}
+use Rattle.face_laws.proofs.DartLemmas.{Moves, dart_back}
+
+-- ---- one dart
+
+abbrev pub same_dart : Dart → Dart → Bool
+same_dart d e = same_segment d.link e.link && cond d.forward e.forward (not e.forward)
+
+pub dart_from : (d e : Dart) → same_dart d e ≡ true → d ≡ e
+dart_from d e h =
+    let (links, ways) = and_parts (same_segment d.link e.link) (cond d.forward e.forward (not e.forward)) h in
+    let (starts, stops) = and_parts (same_point d.link.start e.link.start) (same_point d.link.stop e.link.stop) links in
+    let link : d.link ≡ e.link = segment_is d.link e.link (same_point_from d.link.start e.link.start starts) (same_point_from d.link.stop e.link.stop stops) in
+    let way : d.forward ≡ e.forward = go d.forward e.forward ways in
+    (λ i. record { link = link i; forward = way i })
+  where
+    go : (b c : Bool) → cond b c (not c) ≡ true → b ≡ c
+    go true true h = refl
+    go true false h = absurd (let g : false ≡ true = h in cc)
+    go false true h = absurd (let g : false ≡ true = h in cc)
+    go false false h = refl
+
+pub same_link : (l : Segment) → same_segment l l ≡ true
+same_link l = and_from (same_point l.start l.start) (same_point l.stop l.stop) (same_point_to l.start l.start refl) (same_point_to l.stop l.stop refl)
+
+pub dart_itself : (d : Dart) → same_dart d d ≡ true
+dart_itself d = and_from (same_segment d.link d.link) (cond d.forward d.forward (not d.forward)) (same_link d.link) (go d.forward)
+  where
+    go : (b : Bool) → cond b b (not b) ≡ true
+    go true = refl
+    go false = refl
+
+turned_test : (d e : Dart) → same_dart d (opposite e) ≡ same_dart (opposite d) e
+turned_test d e = ap (λ (b : Bool). same_segment d.link e.link && b) (go d.forward e.forward)
+  where
+    go : (b c : Bool) → cond b (not c) (not (not c)) ≡ cond (not b) c (not c)
+    go true true = refl
+    go true false = refl
+    go false true = refl
+    go false false = refl
+
+-- ---- sums
+
+abbrev pub tick : Bool → ℕ
+tick b = cond b 1 0
+
+pub sum_over_map : {X Y : Type 0} (f : Y → ℕ) (g : X → Y) (xs : List X) → sum_by f (map g xs) ≡ sum_by (λ (x : X). f (g x)) xs
+sum_over_map f g [] = refl
+sum_over_map f g (x ∷ xs) =
+    let m = sum_by-cons f (g x) (map g xs) in
+    let n = sum_by-cons (λ (y : _). f (g y)) x xs in
+    let r = sum_over_map f g xs in
+    omega arith
+
+pub sum_over_flat : {X Y : Type 0} (f : Y → ℕ) (g : X → List Y) (xs : List X) → sum_by f (flat_map g xs) ≡ sum_by (λ (x : X). sum_by f (g x)) xs
+sum_over_flat f g [] = refl
+sum_over_flat f g (x ∷ xs) =
+    let m = sum_by-append f (g x) (flat_map g xs) in
+    let n = sum_by-cons (λ (y : _). sum_by f (g y)) x xs in
+    let r = sum_over_flat f g xs in
+    omega arith
+
+pub sum_over_filter : {X : Type 0} (q : X → Bool) (g : X → ℕ) (xs : List X) → sum_by g (filter q xs) ≡ sum_by (λ (x : X). cond (q x) (g x) 0) xs
+sum_over_filter q g [] = refl
+sum_over_filter q g (x ∷ xs) = go (q x) (sum_over_filter q g xs) ∙ sym (sum_by-cons (λ (y : _). cond (q y) (g y) 0) x xs)
+  where
+    go : (b : Bool) → sum_by g (filter q xs) ≡ sum_by (λ (y : _). cond (q y) (g y) 0) xs → sum_by g (cond b (x ∷ filter q xs) (filter q xs)) ≡ cond b (g x) 0 + sum_by (λ (y : _). cond (q y) (g y) 0) xs
+    go true e = let m = sum_by-cons g x (filter q xs) in omega arith
+    go false e = let f : sum_by g (filter q xs) ≡ 0 + sum_by (λ (y : _). cond (q y) (g y) 0) xs = omega arith in f
+
+-- of distinct links all but one add nothing
+pub sum_of_none : (g : Segment → ℕ) (S : List Segment) → ((l : Segment) → Contains S l → g l ≡ 0) → sum_by g S ≡ 0
+sum_of_none g [] h = refl
+sum_of_none g (l ∷ ls) h =
+    let m = sum_by-cons g l ls in
+    let e = h l (Contains-head l ls) in
+    let r = sum_of_none g ls (λ k c. h k (Contains-later l ls k c)) in
+    omega arith
+
+pub sum_of_one : (g : Segment → ℕ) (S : List Segment) (x : Segment) → IsDistinct S → Contains S x → ((l : Segment) → Contains S l → (l ≡ x → ⊥) → g l ≡ 0) → sum_by g S ≡ g x
+sum_of_one g [] x distinct c h = Contains-nil x c
+sum_of_one g (l ∷ ls) x distinct c h =
+    let m = sum_by-cons g l ls in
+    elim (Contains-cases l ls x c) [
+      | inl e ↦
+          (let r = sum_of_none g ls (λ k n. h k (Contains-later l ls k n) (λ f. distinct.0 n.0 k n.1 (n.2 ∙ f ∙ sym e))) in
+          let v : g l ≡ g x = ap g e in
+          omega arith)
+      | inr n ↦
+          (let r = sum_of_one g ls x distinct.1 n (λ k d f. h k (Contains-later l ls k d) f) in
+          let z = h l (Contains-head l ls) (λ f. distinct.0 n.0 x n.1 (n.2 ∙ sym f)) in
+          omega arith)
+    ]
+
+pub none_at : {X : Type 0} (t : X → Bool) (xs : List X) (d : X) → ((i : ℕ) → i < length xs → t (get_or xs i d) ≡ true → ⊥) → count_by t xs ≡ 0
+none_at t [] d h = refl
+none_at t (x ∷ xs) d h =
+    let m = sum_by-cons (λ (y : _). cond (t y) 1 0) x xs in
+    let e : tick (t x) ≡ 0 = ap tick (false_from_ne_true (t x) (λ f. h 0 (omega arith) f)) in
+    let r = none_at t xs d (λ i l f. h (suc i) (omega arith) f) in
+    omega arith
+
+pub once_at : {X : Type 0} (t : X → Bool) (xs : List X) (j : ℕ) (d : X) → j < length xs → t (get_or xs j d) ≡ true → ((i : ℕ) → i < length xs → t (get_or xs i d) ≡ true → i ≡ j) → count_by t xs ≡ 1
+once_at t [] j d l e h = absurd (omega arith)
+once_at t (x ∷ xs) zero d l e h =
+    let m = sum_by-cons (λ (y : _). cond (t y) 1 0) x xs in
+    let f : tick (t x) ≡ 1 = ap tick e in
+    let r = none_at t xs d (λ i k g. let z = h (suc i) (omega arith) g in omega arith) in
+    omega arith
+once_at t (x ∷ xs) (suc j) d l e h =
+    let m = sum_by-cons (λ (y : _). cond (t y) 1 0) x xs in
+    let f : tick (t x) ≡ 0 = ap tick (false_from_ne_true (t x) (λ g. let z = h 0 (omega arith) g in omega arith)) in
+    let r = once_at t xs j d (omega arith) e (λ i k g. let z = h (suc i) (omega arith) g in omega arith) in
+    omega arith
+
+-- ---- lists that have each dart equally often
+
+counted_there : (d : Dart) (xs : List Dart) → 0 < count_by (same_dart d) xs → Contains xs d
+counted_there d [] l = absurd (omega arith)
+counted_there d (x ∷ xs) l = elim (cases_Bool (same_dart d x)) [
+  | inl e ↦ subst (λ (y : Dart). Contains (x ∷ xs) y) (sym (dart_from d x e)) (Contains-head x xs)
+  | inr e ↦
+      (let m = sum_by-cons (λ (y : Dart). cond (same_dart d y) 1 0) x xs in
+      let f : tick (same_dart d x) ≡ 0 = ap tick e in
+      Contains-later x xs d (counted_there d xs (omega arith)))
+]
+
+head_there : (x : Dart) (xs : List Dart) → 0 < count_by (same_dart x) (x ∷ xs)
+head_there x xs =
+    let m = sum_by-cons (λ (y : Dart). cond (same_dart x y) 1 0) x xs in
+    let f : tick (same_dart x x) ≡ 1 = ap tick (dart_itself x) in
+    omega arith
+
+pub permuted : (xs ys : List Dart) → ((d : Dart) → count_by (same_dart d) xs ≡ count_by (same_dart d) ys) → IsPermutation xs ys
+permuted [] [] h = IsPermutation-refl []
+permuted [] (y ∷ ys) h = absurd (let e = h y in let l = head_there y ys in omega arith)
+permuted (x ∷ xs) ys h =
+    let there : Contains ys x = counted_there x ys (let e = h x in let l = head_there x xs in omega arith) in
+    let (rest, moved) = take_out ys x there in
+    let smaller : IsPermutation xs rest = permuted xs rest (λ d.
+    let e = h d in
+    let m = sum_by-cons (λ (y : Dart). cond (same_dart d y) 1 0) x xs in
+    let n = sum_by-cons (λ (y : Dart). cond (same_dart d y) 1 0) x rest in
+    let p = sum_by-IsPermutation (λ (y : Dart). cond (same_dart d y) 1 0) ys (x ∷ rest) moved in
+    omega arith) in
+    IsPermutation-trans (x ∷ xs) (x ∷ rest) ys (IsPermutation-cons x xs rest smaller) (IsPermutation-sym ys (x ∷ rest) moved)
+
+-- ---- steps of joined paths, and of a path the other way round
+
+pub steps_joined : (xs : Path) (y : GridPoint) (ys : Path) → steps (xs ++ (y ∷ ys)) ≡ steps (xs ++ y ∷ []) ++ steps (y ∷ ys)
+steps_joined [] y ys = refl
+steps_joined (x ∷ []) y ys = refl
+steps_joined (x ∷ z ∷ xs) y ys = ap (λ (ss : List Segment). record { start = x; stop = z } ∷ ss) (steps_joined (z ∷ xs) y ys)
+
+abbrev pub dart_count : Dart → Path → ℕ
+dart_count d path = count_by (same_dart d) (darts_of_path path)
+
+count_split : (d : Dart) (xs ys : List Segment) → count_by (same_dart d) (map dart_of_step (xs ++ ys)) ≡ count_by (same_dart d) (map dart_of_step xs) + count_by (same_dart d) (map dart_of_step ys)
+count_split d xs ys =
+    let f : Dart → ℕ = λ e. cond (same_dart d e) 1 0 in
+    let all = sum_over_map f dart_of_step (xs ++ ys) in
+    let one = sum_over_map f dart_of_step xs in
+    let two = sum_over_map f dart_of_step ys in
+    let both = sum_by-append (λ (s : Segment). f (dart_of_step s)) xs ys in
+    omega arith
+
+pub count_back : (d : Dart) (path : Path) → All Moves (steps path) → dart_count d (reverse path) ≡ dart_count (opposite d) path
+count_back d [] moves = refl
+count_back d (p ∷ []) moves = refl
+count_back d (p ∷ q ∷ rest) moves =
+    let s : Segment = record { start = p; stop = q } in
+    let back : Segment = record { start = q; stop = p } in
+    let turned : reverse (q ∷ rest) ≡ reverse rest ++ q ∷ [] = reverse-append (q ∷ []) rest in
+    let split : steps (reverse (p ∷ q ∷ rest)) ≡ steps (reverse rest ++ q ∷ []) ++ back ∷ [] =
+    ap steps (reverse-append (p ∷ []) (q ∷ rest) ∙ ap (λ (xs : Path). xs ++ p ∷ []) turned ∙ append_assoc (reverse rest) (q ∷ []) (p ∷ [])) ∙ steps_joined (reverse rest) q (p ∷ []) in
+    let first : dart_count d (reverse (p ∷ q ∷ rest)) ≡ dart_count d (reverse (q ∷ rest)) + count_by (same_dart d) (dart_of_step back ∷ []) =
+    ap (λ (ss : List Segment). count_by (same_dart d) (map dart_of_step ss)) split ∙ count_split d (steps (reverse rest ++ q ∷ [])) (back ∷ [])
+    ∙ ap (λ (xs : Path). dart_count d xs + count_by (same_dart d) (dart_of_step back ∷ [])) (sym turned) in
+    let r : dart_count d (reverse (q ∷ rest)) ≡ dart_count (opposite d) (q ∷ rest) = count_back d (q ∷ rest) (λ k e l. moves (suc k) e (omega arith)) in
+    let last : count_by (same_dart d) (dart_of_step back ∷ []) ≡ tick (same_dart (opposite d) (dart_of_step s)) =
+    sum_by-cons (λ (e : Dart). cond (same_dart d e) 1 0) (dart_of_step back) []
+    ∙ (let z : tick (same_dart d (dart_of_step back)) + 0 ≡ tick (same_dart d (dart_of_step back)) = omega arith in z)
+    ∙ ap (λ (e : Dart). tick (same_dart d e)) (dart_back s (moves 0 s (omega arith)))
+    ∙ ap tick (turned_test d (dart_of_step s)) in
+    let head : dart_count (opposite d) (p ∷ q ∷ rest) ≡ tick (same_dart (opposite d) (dart_of_step s)) + dart_count (opposite d) (q ∷ rest) =
+    sum_by-cons (λ (e : Dart). cond (same_dart (opposite d) e) 1 0) (dart_of_step s) (map dart_of_step (steps (q ∷ rest))) in
+    omega arith

@@ -1,6 +1,0 @@
--- A point near it, to its right.
-use Rattle.point_classes.proofs.SightLemmas.{free_points_are_seen}
-use Rattle.point_classes.proofs.free_points_are_seen.Goals as goal
-
-pub returns : goal.returns
-returns c = free_points_are_seen

@@ -1,6 +1,0 @@
--- From each side of the arc some point sees the vertex.
-use Rattle.point_classes.proofs.InnerVertices.{inner_vertices_are_inside}
-use Rattle.point_classes.proofs.inner_vertices_are_inside.Goals as goal
-
-pub returns : goal.returns
-returns c = inner_vertices_are_inside

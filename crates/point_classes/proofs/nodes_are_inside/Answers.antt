@@ -1,6 +1,0 @@
--- What sees it, and what is seen.
-use Rattle.point_classes.proofs.Nodes.{nodes_are_inside}
-use Rattle.point_classes.proofs.nodes_are_inside.Goals as goal
-
-pub returns : goal.returns
-returns c = nodes_are_inside

@@ -1,6 +1,0 @@
--- The first dart of an arc that has its face on the left begins a sector, and a point sees the vertex from there.
-use Rattle.point_classes.proofs.Nodes.{nodes_are_seen}
-use Rattle.point_classes.proofs.nodes_are_seen.Goals as goal
-
-pub returns : goal.returns
-returns c = nodes_are_seen

@@ -1,6 +1,0 @@
--- A point just left of the link that the sector begins with, near enough to the vertex.
-use Rattle.point_classes.proofs.SeenSectors.{sectors_are_seen}
-use Rattle.point_classes.proofs.sectors_are_seen.Goals as goal
-
-pub returns : goal.returns
-returns c = sectors_are_seen

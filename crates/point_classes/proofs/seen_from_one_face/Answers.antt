@@ -1,6 +1,0 @@
--- No link comes between them.
-use Rattle.point_classes.proofs.SightLemmas.{seen_from_one_face}
-use Rattle.point_classes.proofs.seen_from_one_face.Goals as goal
-
-pub returns : goal.returns
-returns c = seen_from_one_face

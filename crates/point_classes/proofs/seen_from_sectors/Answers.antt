@@ -1,6 +1,0 @@
--- By the plane grown so that the point is a grid point, with one link more, between it and the vertex.
-use Rattle.point_classes.proofs.Sectors.{seen_from_sectors}
-use Rattle.point_classes.proofs.seen_from_sectors.Goals as goal
-
-pub returns : goal.returns
-returns c = seen_from_sectors

@@ -1,6 +1,0 @@
--- The sector that it is seen from begins with the first dart of an arc.
-use Rattle.point_classes.proofs.Nodes.{seen_nodes_are_inside}
-use Rattle.point_classes.proofs.seen_nodes_are_inside.Goals as goal
-
-pub returns : goal.returns
-returns c = seen_nodes_are_inside

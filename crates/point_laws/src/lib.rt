@@ -1,0 +1,66 @@
+//! A grid point is inside a set of faces exactly if some rational point of these faces sees it.
+//!
+//! Each function carries one law in its contract, and does nothing.
+#![tactic(auto)]
+
+ghost use Rattle.point_laws.specs.Sight.{FreePointsAreInside, FreePointsAreSeen, FreePointsOfADrawing, InnerVerticesAreInside, NodesAreInside, NodesAreSeen, NodesOfADrawing, SectorsAreSeen, SeenFromOneFace, SeenFromSectors, SeenNodesAreInside, VerticesOfADrawing};
+
+/// What sees a point that lies on no link is of one face with it.
+pub fn seen_from_one_face()
+    ensures { SeenFromOneFace }
+{}
+
+/// Some point off the links sees each point that lies on no link.
+pub fn free_points_are_seen()
+    ensures { FreePointsAreSeen }
+{}
+
+/// A point on no link is inside a set of faces exactly if its own face is in the set.
+pub fn free_points_are_inside()
+    ensures { FreePointsAreInside }
+{}
+
+/// So it is in a table of the whole arcs of a snapped drawing, for a vertex that no arc has.
+pub fn free_points_of_a_drawing()
+    ensures { FreePointsOfADrawing }
+{}
+
+/// What sees a vertex has the label of a sector there, on the left of a link directed away from it.
+pub fn seen_from_sectors()
+    ensures { SeenFromSectors }
+{}
+
+/// Each sector at a vertex has a point, off the links, that sees the vertex and has the label of the sector.
+pub fn sectors_are_seen()
+    ensures { SectorsAreSeen }
+{}
+
+/// So a node that some point of a set sees is inside the set, as it is answered for it.
+pub fn seen_nodes_are_inside()
+    ensures { SeenNodesAreInside }
+{}
+
+/// And some point of the set sees each node that is inside it.
+pub fn nodes_are_seen()
+    ensures { NodesAreSeen }
+{}
+
+/// So a node is inside a set, as it is answered for it, exactly if some point of the set sees it.
+pub fn nodes_are_inside()
+    ensures { NodesAreInside }
+{}
+
+/// So it is in a table of the whole arcs of a snapped drawing.
+pub fn nodes_of_a_drawing()
+    ensures { NodesOfADrawing }
+{}
+
+/// And a vertex inside an arc is inside a set, as it is answered for it, exactly if some point of the set sees it.
+pub fn inner_vertices_are_inside()
+    ensures { InnerVerticesAreInside }
+{}
+
+/// So it is with each vertex of a snapped drawing, over a table of its whole arcs.
+pub fn vertices_of_a_drawing()
+    ensures { VerticesOfADrawing }
+{}

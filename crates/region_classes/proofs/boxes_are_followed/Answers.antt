@@ -1,6 +1,0 @@
--- A point has the parity of its place, and so have its holders.
-use Rattle.region_classes.proofs.Held.{boxes_are_followed}
-use Rattle.region_classes.proofs.boxes_are_followed.Goals as goal
-
-pub returns : goal.returns
-returns c = boxes_are_followed

@@ -1,6 +1,0 @@
--- The side of a link has the label of the points that see the link from there.
-use Rattle.region_classes.proofs.TieLaws.{cleaned_by_regions}
-use Rattle.region_classes.proofs.cleaned_by_regions.Goals as goal
-
-pub returns : goal.returns
-returns c = cleaned_by_regions

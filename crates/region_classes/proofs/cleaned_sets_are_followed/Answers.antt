@@ -1,6 +1,0 @@
--- A face is in the set exactly by the rule that its points are in the region.
-use Rattle.region_classes.proofs.Sets.{cleaned_sets_are_followed}
-use Rattle.region_classes.proofs.cleaned_sets_are_followed.Goals as goal
-
-pub returns : goal.returns
-returns c = cleaned_sets_are_followed

@@ -1,6 +1,0 @@
--- The side of a link has the label of the points that see the link from there.
-use Rattle.region_classes.proofs.TieLaws.{empty_sets_are_empty_regions}
-use Rattle.region_classes.proofs.empty_sets_are_empty_regions.Goals as goal
-
-pub returns : goal.returns
-returns c = empty_sets_are_empty_regions

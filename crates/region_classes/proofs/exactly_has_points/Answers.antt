@@ -1,6 +1,0 @@
--- The sets that have the face of a point are those whose regions have the point.
-use Rattle.region_classes.proofs.Mosaics.{exactly_has_points}
-use Rattle.region_classes.proofs.exactly_has_points.Goals as goal
-
-pub returns : goal.returns
-returns c = exactly_has_points

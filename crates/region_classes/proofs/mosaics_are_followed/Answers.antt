@@ -1,6 +1,0 @@
--- The sets that have the face of a point are those whose regions have the point.
-use Rattle.region_classes.proofs.Mosaics.{mosaics_are_followed}
-use Rattle.region_classes.proofs.mosaics_are_followed.Goals as goal
-
-pub returns : goal.returns
-returns c = mosaics_are_followed

@@ -1,6 +1,0 @@
--- The side of a link belongs to the region exactly if its face is in each of the sets.
-use Rattle.region_classes.proofs.TieLaws.{one_set_follows}
-use Rattle.region_classes.proofs.one_set_follows.Goals as goal
-
-pub returns : goal.returns
-returns c = one_set_follows

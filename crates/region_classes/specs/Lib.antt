@@ -1,4 +1,0 @@
-pub mod Regions
-pub mod RegionClasses
-pub mod Printed
-pub mod Ties

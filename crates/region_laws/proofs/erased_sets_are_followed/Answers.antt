@@ -1,0 +1,6 @@
+-- A face is in the set exactly by the rule that its points are in the region.
+use Rattle.region_laws.proofs.Sets.{erased_sets_are_followed}
+use Rattle.region_laws.proofs.erased_sets_are_followed.Goals as goal
+
+pub returns : goal.returns
+returns c = erased_sets_are_followed

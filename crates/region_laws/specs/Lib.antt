@@ -1,0 +1,4 @@
+pub mod Regions
+pub mod Followed
+pub mod Printed
+pub mod Ties

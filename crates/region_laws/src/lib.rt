@@ -1,0 +1,142 @@
+//! The sets of faces that commands on polygons answer follow the regions of the plane that the commands stand for: a
+//! rational point on no link is in the region exactly if its face is in the set.
+//!
+//! Each function carries one law in its contract, and does nothing.
+#![tactic(auto)]
+
+ghost use Rattle.region_laws.specs.Followed.{
+  AreasAreThoseOfRegions,
+  BoxesAreFollowed,
+  CleanedSetsAreFollowed,
+  ClippedSetsAreFollowed,
+  DissolvedSetsAreFollowed,
+  ErasedSetsAreFollowed,
+  ExactlyHasPoints,
+  ExplodedSetsAreFollowed,
+  FeaturesAreFollowed,
+  MeetsAreFollowed,
+  MosaicsAreFollowed,
+  PartsAreFollowed,
+  RemaindersAreFollowed,
+  UnionsAreFollowed,
+};
+ghost use Rattle.region_laws.specs.Printed.{PolygonsPrintParts, PolygonsUseBoundaries, TracesPrintRegions, TracesUseBoundaries};
+ghost use Rattle.region_laws.specs.Ties.{CleanedByRegions, EmptySetsAreEmptyRegions, OneSetFollows, SetsAreOfSides};
+
+/// The faces that a polygon feature holds follow the feature.
+pub fn features_are_followed()
+    ensures { FeaturesAreFollowed }
+{}
+
+/// The faces that a box holds follow the box.
+pub fn boxes_are_followed()
+    ensures { BoxesAreFollowed }
+{}
+
+/// The union of two sets follows any of their regions.
+pub fn unions_are_followed()
+    ensures { UnionsAreFollowed }
+{}
+
+/// The faces of two sets follow both of their regions.
+pub fn meets_are_followed()
+    ensures { MeetsAreFollowed }
+{}
+
+/// The faces of a set that are not in another follow its region less that of the other.
+pub fn remainders_are_followed()
+    ensures { RemaindersAreFollowed }
+{}
+
+/// The sets that `clip_sets` answers follow their regions within that of the source.
+pub fn clipped_sets_are_followed()
+    ensures { ClippedSetsAreFollowed }
+{}
+
+/// The sets that `erase_sets` answers follow their regions less that of the source.
+pub fn erased_sets_are_followed()
+    ensures { ErasedSetsAreFollowed }
+{}
+
+/// The sets that `dissolve_sets` answers follow any of the regions of the members of their groups.
+pub fn dissolved_sets_are_followed()
+    ensures { DissolvedSetsAreFollowed }
+{}
+
+/// The sets that `clean_sets` answers follow their regions less any of those that rank before them.
+pub fn cleaned_sets_are_followed()
+    ensures { CleanedSetsAreFollowed }
+{}
+
+/// The sets that `parts` answers for a set follow the parts of its region, in their order: two points of the region are in
+/// one part where no closed runs of its boundary separate them, and parts are numbered by the least arcs in their
+/// boundaries.
+pub fn parts_are_followed()
+    ensures { PartsAreFollowed }
+{}
+
+/// The items that `explode_sets` answers follow the parts of the regions, region by region; an empty region stays one item.
+pub fn exploded_sets_are_followed()
+    ensures { ExplodedSetsAreFollowed }
+{}
+
+/// What just some of the regions have, as meets, unions and what is left of them, has a point exactly if these regions have
+/// it and no others.
+pub fn exactly_has_points()
+    ensures { ExactlyHasPoints }
+{}
+
+/// The items that `mosaic_sets` answers are, for each list of numbers of which just the regions have some point, in
+/// lexicographic order, those of the parts of what these regions have.
+pub fn mosaics_are_followed()
+    ensures { MosaicsAreFollowed }
+{}
+
+/// Twice the area of a set of faces, as each face gives its own, is the sum of `x1 * y2 - y1 * x2` over the steps of the
+/// boundary of its region, with the region on the left.
+pub fn areas_are_those_of_regions()
+    ensures { AreasAreThoseOfRegions }
+{}
+
+/// All rings that `trace` answers for a set together hold a point on no link exactly if the region of the set has it.
+pub fn traces_print_regions()
+    ensures { TracesPrintRegions }
+{}
+
+/// Of the polygons that `trace` answers there is one for each part of the region, in order, and its rings hold the points
+/// of this part.
+pub fn polygons_print_parts()
+    ensures { PolygonsPrintParts }
+{}
+
+/// The rings that `trace` answers use each step of the boundary of the region once, with the region on its left, and no
+/// other.
+pub fn traces_use_boundaries()
+    ensures { TracesUseBoundaries }
+{}
+
+/// The faces of a set are just those on the sides of links that belong to its region.
+pub fn sets_are_of_sides()
+    ensures { SetsAreOfSides }
+{}
+
+/// A set has no faces exactly if its region has no points, and exactly if the boundary of its region is empty.
+pub fn empty_sets_are_empty_regions()
+    ensures { EmptySetsAreEmptyRegions }
+{}
+
+/// The sets that `clean_sets` answers follow their regions less any of those that rank before them, where the areas that
+/// rank them are those within the boundaries of the regions.
+pub fn cleaned_by_regions()
+    ensures { CleanedByRegions }
+{}
+
+/// The rings of one polygon use each step of the boundary of its part once, with the part on its left, and no other.
+pub fn polygons_use_boundaries()
+    ensures { PolygonsUseBoundaries }
+{}
+
+/// Only one ascending set of inner faces follows a region.
+pub fn one_set_follows()
+    ensures { OneSetFollows }
+{}
