@@ -21,11 +21,11 @@ pub fn arc_goes(arcs: &ArcTable, number: u32, places: &[(i64, i64)]) -> bool {
     goes(&[SignedArc::forward(ArcId::new(number))], arcs, places)
 }
 
-/// Whether signed arcs, one behind another, go through just these points.
+/// Whether signed arcs, one after another, go through just these points.
 pub fn goes(path: &[SignedArc], arcs: &ArcTable, places: &[(i64, i64)]) -> bool {
     let mut ahead = places;
     for arc in path {
-        match behind(arcs, *arc, ahead) {
+        match rest_after(arcs, *arc, ahead) {
             Some(rest) => ahead = rest,
             None => return false,
         }
@@ -34,7 +34,7 @@ pub fn goes(path: &[SignedArc], arcs: &ArcTable, places: &[(i64, i64)]) -> bool 
 }
 
 // The points from the end of the arc on, where it goes through the first of them.
-fn behind<'a>(
+fn rest_after<'a>(
     arcs: &ArcTable,
     arc: SignedArc,
     places: &'a [(i64, i64)],

@@ -50,7 +50,7 @@ fn outcome_of(alloc: Global, words: &Words, bytes: &[u8]) -> Result<Outcome, All
     ))
 }
 
-// What a JSON text gives that ends with a line feed, of which so many bytes are left, not all.
+// What a JSON text that ends with a line feed gives where `left` of its bytes are left, not all.
 fn cut_json(whole: &[u8], left: usize) -> Outcome {
     if left.saturating_add(1) == whole.len() {
         return Outcome::Done;
@@ -82,7 +82,7 @@ fn a_cut_topology_is_refused_at_its_end(rt: HostRuntime) -> Result<(), Fail> {
     Ok(())
 }
 
-// What the table gives of which so many bytes are left: a row needs the two commas of its cells.
+// What the table gives where `left` of its bytes are left: a row needs the two commas of its cells.
 fn cut_table(left: usize) -> Outcome {
     let source = 1;
     if left == 0 {

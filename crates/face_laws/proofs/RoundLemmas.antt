@@ -196,7 +196,7 @@ module _ (S : List Segment) (arr : IsArrangement S) (p : GridPoint) where
           apart false u = less (cross (record { start = l.start; stop = l.stop }) (record { start = k.stop; stop = k.start })) level'
               (mixed_down l.start l.stop k.stop k.start oe od (down_means (record { start = l.start; stop = l.stop }) u) (down_means (record { start = k.stop; stop = k.start }) (same ∙ u)))
 
-  -- of two that differ, the one that does not come behind turns first
+  -- of two that differ, the one that does not come later turns first
   module _ (d e : Dart) where
     abbrev c : ℤ
     c = cross (step_of_dart d) (step_of_dart e)

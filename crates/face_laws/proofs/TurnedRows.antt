@@ -67,7 +67,7 @@ module _ (arcs : List Path) (starts : List GridPoint) (outs : List SignedArc) (t
           let same : point_at starts i ≡ point_at starts k = between k i (suc i) (omega arith) (omega arith) l e in
           clash (goes_on starts i) (on_to i (omega arith) (same ∙ e ∙ ap (point_at starts) (let g : suc i ≡ i + 1 = omega arith in g))) f
 
-  -- the last of a row has none of its start behind it
+  -- no link after the last of a row has its start
   pub none_after : (i k : ℕ) → goes_on starts i ≡ false → i < k → k < length outs → point_at starts k ≡ point_at starts i → ⊥
   none_after i k f l m e =
       let same : point_at starts (i + 1) ≡ point_at starts i = between i (i + 1) k (omega arith) (omega arith) m (sym e) in

@@ -1,7 +1,16 @@
-//! The faces of a table of arcs are the classes of the plane: two places have one face exactly where no test that takes
-//! one value where places meet tells them apart.
+//! Laws of faces: the faces of a table of arcs are those of the plane, and what the table lists for a face are the features
+//! and boxes that hold it.
 //!
-//! Each function carries one law in its contract, and does nothing.
+//! They are laws over what `ArcTable::build`, `Faces::build`, `at` and `Labels::of` answer.
+//!
+//! - Two places have one face exactly where no test that takes one value where places meet tells them apart
+//!   (`faces_are_classes`). So two points have one face exactly where no closed runs of links separate them
+//!   (`points_have_one_face`, `faces_of_a_drawing`), and the plane has as many faces as the table (`count_is_exact`).
+//! - The holders of the face over a point are just the features that hold the point (`features_of_a_drawing`), those of
+//!   the face beside an arc just the features that hold that side of its links (`features_beside_arcs`).
+//!
+//! Each function carries one law in its contract, and does nothing. The laws are stated in `specs/Faces.antt` and
+//! `specs/Holders.antt`.
 #![tactic(auto)]
 
 ghost use Rattle.face_laws.specs.Faces.{CountIsExact, EachTableHasLabels, FacesAreClasses, FacesHaveArcs, FacesOfADrawing, PointsHaveOneFace, PointsOfADrawing};

@@ -49,7 +49,7 @@ pub record AreBetween (S : List Segment) (R : ℕ → Points) (arcs : List Path)
   pub there : All (λ (s : SidedArc). s.arc < length arcs) sided
   pub by_sides : (n : ℕ) → n < length arcs → All (λ (e : Dart). (left right : List ℕ) → AreAtSide S R e left → AreAtSide S R (opposite e) right → IsSidedBy sided n left right) (darts_of_path (slice_index_or arcs n []))
 
--- the sets of a layer of features: the set of each has the faces of so many that have the feature among their holders
+-- the sets of a layer of features: of `count` faces, the set of a feature has those with the feature among their holders
 pub record AreFacesHeld (count : ℕ) (holders : List (List ℕ)) (layer : List ℕ) (sets : List (List ℕ)) : Type 0 where
   pub each : length sets ≡ length layer
   pub held : (i number : ℕ) (set : List ℕ) → slice_get layer i ≡ Some number → slice_get sets i ≡ Some set → (f : ℕ) → f < count → Contains set f ↔ Contains (list_at holders f) number

@@ -24,7 +24,7 @@ PointsOfLayer features layer z = (number : ℕ) × Contains layer number × (fea
 abbrev pub PointsOfBox : List Path → ℕ → Points
 PointsOfBox boxes number z = (box : Path) × (slice_get boxes number ≡ Some box) × (rings_hold z (box ∷ []) ≡ true)
 
--- of so many faces the set has those that some feature of the layer holds
+-- of `count` faces, the set has those that some feature of the layer holds
 abbrev pub HasFacesOfLayer : ℕ → HolderTable → List ℕ → List ℕ → Type 0
 HasFacesOfLayer count labels layer set = (f : ℕ) → f < count → Contains set f ↔ ((number : ℕ) × Contains layer number × Contains (list_at labels.holders f) number)
 

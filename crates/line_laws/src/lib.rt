@@ -1,9 +1,16 @@
-//! What lines and arcs are inside is what rational points show: an arc is inside a set of faces exactly if points of these
-//! faces see a side of each of its links. So the paths that a set cuts out are maximal runs of steps along such links, and
-//! the arcs between features are those whose links have different features at their two sides. A source is a layer of
-//! features, or a box: what is inside its faces is what points see that it holds.
+//! Laws of lines: what arcs, paths and vertices are inside is what rational points show.
 //!
-//! Each function carries one law in its contract, and does nothing.
+//! They are laws over what `ArcTable::build`, `Faces::build`, `Labels::of` and the calls of `line_ops` answer.
+//!
+//! - An arc is inside a set of faces exactly if points of these faces see a side of each of its links (`arcs_are_inside`).
+//!   So the paths that a set cuts out are maximal runs of steps along such links (`line_features_are_cut`).
+//! - The arcs between features are those whose links have different features at their two sides
+//!   (`arcs_between_features`).
+//! - A source is a layer of features, or a box: what is inside its faces is what points see that it holds
+//!   (`lines_cut_by_layers`, `lines_cut_by_boxes`, `vertices_inside_layers`, `vertices_inside_boxes`).
+//!
+//! Each function carries one law in its contract, and does nothing. The laws are stated in `specs/Lines.antt`,
+//! `specs/ArcsBetween.antt` and `specs/Sources.antt`.
 #![tactic(auto)]
 
 ghost use Rattle.line_laws.specs.ArcsBetween.{ArcsBetweenFeatures, ArcsBetweenSets, SetsStandForFeatures, SetsStandForPoints};

@@ -33,7 +33,7 @@ module _ (arcs : List Path) where
   not_both : (ring : List SignedArc) → is_left arcs ring ≡ true → turn_of ring <ℤ pos 0 → ⊥
   not_both ring e h = let f : true ≡ false = sym e ∙ right_is_not_left (turn_of ring) h in absurd (cc)
 
-  -- the rings behind a place
+  -- the ring of the exterior, and the rings after it
   pub split_map : (polygon : List (List SignedArc)) (exterior : Path) (after : List Path) → map (round_of arcs) polygon ≡ exterior ∷ after →
       (first : List SignedArc) × (rest : List (List SignedArc)) × (polygon ≡ first ∷ rest) × (round_of arcs first ≡ exterior) × (map (round_of arcs) rest ≡ after)
   split_map [] exterior after e = absurd (let f = ap (λ (ps : List Path). length ps) e in omega arith)

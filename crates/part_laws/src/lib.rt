@@ -1,7 +1,14 @@
-//! The parts of a set of faces are the parts that the plane has of their region, and the rings that are traced for a part
-//! are an exterior and holes that together hold it. So traced polygons share no point, and together they hold the set.
+//! Laws of parts and rings: the parts of a set of faces are the parts that the plane has of their region, and the polygons
+//! that are traced for them hold just these parts.
 //!
-//! Each function carries one law in its contract, and does nothing.
+//! They are laws over what `ArcTable::build`, `Faces::build`, `at`, `parts` and `trace` answer.
+//!
+//! - Two faces of a set are in one part exactly where links within their region join them (`parts_are_classes`).
+//! - The rings of a part are one exterior, which comes first, and holes (RFC 7946, section 3.1.6), and a point is in the
+//!   part just where it is inside the exterior and in no hole (`traced_polygons_have_exteriors`).
+//! - Traced polygons share no point (`polygons_are_apart`), and together they hold the set (`polygons_hold_the_set`).
+//!
+//! Each function carries one law in its contract, and does nothing. The laws are stated in `specs/Parts.antt`.
 #![tactic(auto)]
 
 ghost use Rattle.part_laws.specs.Parts.{

@@ -251,7 +251,7 @@ module _ (d e : Dart) (od : IsBefore d.link.start d.link.stop) (oe : IsBefore e.
   clash : {G : Type 0} → false ≡ true → G
   clash e = let i : false ≡ true = e in absurd (cc)
 
-  -- what comes behind a low dart is low
+  -- what comes after a low dart is low
   pub low_stays : turns_before (step_of_dart d) (step_of_dart e) ≡ true → is_low d ≡ true → is_low e ≡ true
   low_stays = go d.forward refl (is_up d) refl e.forward refl (is_up e) refl turns refl
     where

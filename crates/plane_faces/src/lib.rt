@@ -1,12 +1,12 @@
-// The faces of an arrangement of links in the plane, the parts of a set of faces, and the rings of a part.
-//
-// - A test that takes one value where places meet has an even border, and holds exactly at the points that are odd for it.
-// - Points of one label are separated by no even list of links, and points of two labels by one.
-// - So it is with the parts of a set of faces, and the links of its border.
-// - The border of a part is rings: one exterior, which turns left at its least vertex, and holes, which do not.
-// - What a table has to say of each vertex, so that labels made by joins are those of the faces.
-//
-// Each function carries one law in its contract, and does nothing.
+//! The faces of an arrangement of links in the plane, the parts of a set of faces, and the rings of a part.
+//!
+//! - A test that takes one value where places meet has an even border, and holds exactly at the points that are odd for it.
+//! - Points of one label are separated by no even list of links, and points of two labels by one.
+//! - So it is with the parts of a set of faces, and the links of its border.
+//! - The border of a part is rings: one exterior, which turns left at its least vertex, and holes, which do not.
+//! - What a table has to say of each vertex, so that labels made by joins are those of the faces.
+//!
+//! Each function carries one law in its contract, and does nothing.
 #![tactic(auto)]
 
 ghost use Rattle.std.specs.Prelude.{◌≡◌, ◌<ℤ◌, [], ◌∷◌, All, Bool, Contains, List, ℕ, false, true, not, map, pos};

@@ -1,6 +1,15 @@
-//! A grid point is inside a set of faces exactly if some rational point of these faces sees it.
+//! Laws of points: a vertex is inside a set of faces, as `point_inside` answers, exactly if some rational point of these
+//! faces sees it.
 //!
-//! Each function carries one law in its contract, and does nothing.
+//! They are laws over what `snap`, `ArcTable::build`, `Faces::build` and `point_inside` answer.
+//!
+//! - A point on no link is inside a set exactly if its own face is in the set (`free_points_are_inside`).
+//! - What sees a vertex has the face of a sector there (`seen_from_sectors`), and each sector has a point that sees the
+//!   vertex (`sectors_are_seen`): so it is with nodes (`nodes_are_inside`), and with vertices inside an arc
+//!   (`inner_vertices_are_inside`).
+//! - These are all vertices of a snapped drawing (`vertices_of_a_drawing`).
+//!
+//! Each function carries one law in its contract, and does nothing. The laws are stated in `specs/Sight.antt`.
 #![tactic(auto)]
 
 ghost use Rattle.point_laws.specs.Sight.{FreePointsAreInside, FreePointsAreSeen, FreePointsOfADrawing, InnerVerticesAreInside, NodesAreInside, NodesAreSeen, NodesOfADrawing, SectorsAreSeen, SeenFromOneFace, SeenFromSectors, SeenNodesAreInside, VerticesOfADrawing};

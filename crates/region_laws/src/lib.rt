@@ -1,7 +1,17 @@
-//! The sets of faces that commands on polygons answer follow the regions of the plane that the commands stand for: a
-//! rational point on no link is in the region exactly if its face is in the set.
+//! Laws of regions: the sets of faces that commands on polygons answer follow the regions that the commands stand for. A
+//! set follows a region where a rational point on no link is in the region exactly if its face is in the set.
 //!
-//! Each function carries one law in its contract, and does nothing.
+//! They are laws over what `Labels::of`, `parts`, `trace` and the calls of `region_ops` answer.
+//!
+//! - The faces that a feature or a box holds follow it (`features_are_followed`, `boxes_are_followed`), and only one set
+//!   of inner faces follows a region (`one_set_follows`).
+//! - So it is after each command: `clipped_sets_are_followed`, `erased_sets_are_followed`, `dissolved_sets_are_followed`,
+//!   `cleaned_by_regions`, `mosaics_are_followed`, `exploded_sets_are_followed`.
+//! - What is traced for a set prints its region: the rings use each step of the region's boundary once, and hold just its
+//!   points (`traces_use_boundaries`, `traces_print_regions`), part by part (`polygons_print_parts`).
+//!
+//! Each function carries one law in its contract, and does nothing. Regions are those of `region_model`; the laws are stated
+//! in `specs/Followed.antt`, `specs/Printed.antt` and `specs/Ties.antt`.
 #![tactic(auto)]
 
 ghost use Rattle.region_laws.specs.Followed.{

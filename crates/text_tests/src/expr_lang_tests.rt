@@ -7,7 +7,7 @@ use json_read::{Decimal, Row, Value};
 use std::alloc::{AllocError, Global};
 use std::process::Abort;
 
-// `part` so many times, `middle`, and `close` so many times.
+// `part` as often as `times` says, `middle`, and `close` as often.
 fn nested(
     alloc: Global,
     times: u32,

@@ -130,7 +130,7 @@ fn counts_what_it_reads(rt: HostRuntime) {
     );
 }
 
-// The texts of the layers of a text, each behind its name.
+// The texts of the layers of a text, each after its name.
 fn prints(
     rt: &impl Abort,
     alloc: Global,

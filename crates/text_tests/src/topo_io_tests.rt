@@ -40,7 +40,7 @@ fn read(
     }
 }
 
-// The texts of the layers of a topology, each behind its name.
+// The texts of the layers of a topology, each after its name.
 fn prints(
     rt: &impl Abort,
     alloc: Global,
