@@ -4,7 +4,7 @@
 # shellcheck shell=bash disable=SC2154
 
 # Measured from nothing, of a whole build; README.md and docs/install.md say the same.
-FIRST_BUILD_TAKES="about 45 to 75 minutes on four processors"
+FIRST_BUILD_TAKES="about an hour on four processors"
 
 # The kit that the proofs were made with, as rt version prints it; README.md and docs/install.md name it too.
 KIT="rattle-kit-13f logic dac8208d650f15bf"
