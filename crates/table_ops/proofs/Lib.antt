@@ -1,3 +1,4 @@
+pub mod Answering
 pub mod Mapped
 pub mod TakenRows
 pub mod Distinct
