@@ -17,7 +17,7 @@ use grid_base::{BoxList, Rect};
 use io_core::Text;
 use std::alloc::{AllocError, Global};
 use std::marker::Model;
-use table_ops::JoinSpec;
+use table_terms::JoinSpec;
 
 /// A command without its expression, and that expression.
 #[derive(Drop)]

@@ -14,7 +14,7 @@ use io_core::{NameList, Text};
 use std::alloc::{AllocError, Global};
 use std::marker::Model;
 use std::mem;
-use table_ops::RenameList;
+use table_terms::RenameList;
 
 /// A word, and its number from 1.
 #[derive(Drop)]

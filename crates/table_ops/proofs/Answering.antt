@@ -1,7 +1,8 @@
 -- What a call answers behind a test that may refuse.
 use Rattle.std.proofs.Common.{◌≡◌, refl, sym, subst}
 use Rattle.std.specs.Prelude.{Option, Some, None, Result, Ok, Err}
-use Rattle.table_ops.specs.Refusals.{Answers, AnswersAs, Refuses, first_refusal, unless}
+use Rattle.table_terms.specs.Refusals.{first_refusal, unless}
+use Rattle.table_ops.specs.Refusals.{Answers, AnswersAs, Refuses}
 use Rattle.table_ops.specs.declared.fault.TableWhy.{TableWhy}
 use Rattle.table_ops.specs.declared.fault.TableFault.{TableFault}
 use Rattle.table_ops.specs.declared.fault.TableFault.TheVariants.{Bad, Memory}

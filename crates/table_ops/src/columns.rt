@@ -1,17 +1,18 @@
 ghost use Rattle.std.specs.Prelude.{◌≡◌, [], Ok, IfOk, map, length, vec_items};
 ghost use Rattle.table_ops.specs.Columns.{keep_fields};
-ghost use Rattle.table_ops.specs.Names.{place_of};
-ghost use Rattle.table_ops.specs.Refusals.{Answers, AnswersAs, refused_item, unless};
+ghost use Rattle.table_terms.specs.Names.{place_of};
+ghost use Rattle.table_terms.specs.Refusals.{unless};
+ghost use Rattle.table_ops.specs.Refusals.{Answers, AnswersAs, refused_item};
 ghost use Rattle.table_ops.specs.Rows.{picked};
 ghost use Rattle.json_read.specs.Table.{AreDistinctNames};
 
 use crate::fault::TableFault;
 use crate::items::{check_list, places_of};
-use crate::names::NameSet;
 use crate::rows::{copy_names, pick_row};
 use io_core::NameList;
 use json_read::{RowList, Table};
 use std::alloc::{AllocError, Global};
+use table_terms::NameSet;
 
 /// The listed columns, in the listed order.
 ///

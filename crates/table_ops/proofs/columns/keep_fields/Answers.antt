@@ -4,9 +4,10 @@ use Rattle.std.proofs.lemmas.List.{length-map}
 use Rattle.std.proofs.lemmas.Result.{err_from_is_err_and}
 use Rattle.json_read.specs.Table.{AreRows}
 use Rattle.table_ops.specs.Rows.{picked}
-use Rattle.table_ops.specs.Names.{place_of}
+use Rattle.table_terms.specs.Names.{place_of}
 use Rattle.table_ops.specs.Columns.{cells, kept_columns}
-use Rattle.table_ops.specs.Refusals.{refused_item, unless}
+use Rattle.table_terms.specs.Refusals.{unless}
+use Rattle.table_ops.specs.Refusals.{refused_item}
 use Rattle.table_ops.proofs.Answering.{answers_seen, refused_alone, unless_parts, unless_refused}
 use Rattle.table_ops.proofs.Cells.{picked_cells, picked_long}
 use Rattle.table_ops.proofs.columns.keep_fields.Goals as goal

@@ -1,8 +1,9 @@
 use Rattle.std.proofs.Common.{◌≡◌, [], map, sym, ap, ◌∙◌}
 use Rattle.std.specs.Prelude.{Option, None, Ok, Err, vec_items}
 use Rattle.std.proofs.lemmas.Result.{err_from_is_err_and}
-use Rattle.table_ops.specs.Names.{place_of}
-use Rattle.table_ops.specs.Refusals.{refused_item, unless}
+use Rattle.table_terms.specs.Names.{place_of}
+use Rattle.table_terms.specs.Refusals.{unless}
+use Rattle.table_ops.specs.Refusals.{refused_item}
 use Rattle.table_ops.proofs.Answering.{seen_refusal, refused_alone}
 use Rattle.table_ops.proofs.columns.listed_places.Goals as goal
 

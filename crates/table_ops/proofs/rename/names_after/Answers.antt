@@ -6,7 +6,7 @@ use Rattle.std.proofs.lemmas.Result.{err_from_is_err_and}
 use Rattle.lists.specs.Lists.{numbers_where}
 use Rattle.json_read.specs.Table.{AreDistinctNames}
 use Rattle.table_ops.specs.Columns.{renamed, is_twice, refused_label}
-use Rattle.table_ops.specs.declared.renames.Rename.{Rename}
+use Rattle.table_terms.specs.declared.renames.Rename.{Rename}
 use Rattle.table_ops.specs.declared.fault.TableWhy.TheVariants.{FieldTwice}
 use Rattle.table_ops.proofs.Answering.{answers_refusal, refused_first, refused_second, none_refused}
 use Rattle.table_ops.proofs.Renaming.{none_mapped, renamed_distinct}

@@ -3,7 +3,7 @@ use Rattle.std.specs.Prelude.{Option, None, Ok, Err}
 use Rattle.std.proofs.lemmas.Result.{err_from_is_err_and}
 use Rattle.json_read.specs.Table.{AreRows}
 use Rattle.table_ops.specs.Columns.{renamed, refused_renames}
-use Rattle.table_ops.specs.Refusals.{unless}
+use Rattle.table_terms.specs.Refusals.{unless}
 use Rattle.table_ops.proofs.Answering.{answers_other, refused_alone, unless_parts, unless_refused}
 use Rattle.table_ops.proofs.rename.rename_fields.Goals as goal
 
