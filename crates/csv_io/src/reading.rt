@@ -3,7 +3,7 @@ ghost use Rattle.std.specs.Str.{bytes_eq};
 ghost use Rattle.indexmap.specs.IndexSet.{insert_all};
 ghost use Rattle.csv.specs.Reading.{default_config, records, strip_bom};
 ghost use Rattle.csv.specs.Records.{fields_of};
-ghost use Rattle.csv_io.specs.CsvTable.{Gives, ReadsText, row_values, table_of_records};
+ghost use Rattle.csv_io.specs.CsvTable.{Gives, ReadsText, number_columns, row_values, table_of_records};
 
 use crate::cells::{cell_of, value_of};
 use crate::columns::{check_rows, header_names, number_columns};
@@ -68,10 +68,23 @@ fn table_of(
     };
     let names = header_names(alloc, header)?;
     check_rows(rows, header.len(), room)?;
-    let texts = texts_of(alloc, string_fields)?;
-    let numbers = number_columns(alloc, &names, &texts, rows)?;
-    let rows = rows_of(alloc, rows, numbers.as_slice())?;
+    let rows = rows_under(alloc, &names, string_fields, rows)?;
     Ok(Table::new(names, rows))
+}
+
+/// The values of rows under these names, of which some are listed as columns of texts.
+fn rows_under(
+    alloc: Global,
+    names: &NameList,
+    string_fields: &NameList,
+    rows: &[ByteRecord],
+) -> Result<RowList, AllocError>
+    ensures exact { IfOk result (λ out. out ≡ map (row_values (number_columns string_fields.now names.now (map fields_of rows.now))) (map fields_of rows.now)) }
+{
+    let texts = texts_of(alloc, string_fields)?;
+    let numbers = number_columns(alloc, names, &texts, rows)?;
+    let out = rows_of(alloc, rows, numbers.as_slice())?;
+    Ok(out)
 }
 
 #[tactic(auto, using(table_terms::proofs::Inserted::insert_all_more))]

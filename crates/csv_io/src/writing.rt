@@ -1,4 +1,4 @@
-ghost use Rattle.std.specs.Prelude.{◌≡◌, ◌++◌, IfOk, OnOk};
+ghost use Rattle.std.specs.Prelude.{◌≡◌, ◌++◌, [], IfOk, OnOk};
 ghost use Rattle.csv.specs.Records.{fields_of};
 ghost use Rattle.csv.specs.Writing.{default_writer, row_text};
 ghost use Rattle.csv_io.specs.CsvText.{IsBetweenRecords, csv_text, records_text, row_cells, text_so_far};
@@ -23,19 +23,57 @@ pub fn write_csv(alloc: Global, t: &Table) -> Result<Bytes, AllocError>
     Ok(text)
 }
 
-#[tactic(auto, using(crate::proofs::CsvText::records_none, crate::proofs::CsvText::records_more))]
 fn records_text(alloc: Global, names: &NameList, rows: &RowList) -> Result<Vec<u8>, AllocError>
     ensures exact { IfOk result (λ text. text.items ≡ records_text names.now rows.now) }
 {
     let mut writer = WriterBuilder::new().from_writer(Vec::new(alloc));
-    write_record(&mut writer, &name_record(alloc, names)?)?;
-    for row in rows.as_slice() {
-        write_record(&mut writer, &row_record(alloc, row)?)?;
-    }
+    write_records(alloc, &mut writer, names, rows)?;
     match writer.into_inner() {
         Ok(text) => Ok(text),
         Err(_) => Err(AllocError),
     }
+}
+
+/// Writes a record of the names, and one for each row.
+#[tactic(auto, using(crate::proofs::CsvText::records_none, crate::proofs::CsvText::records_more))]
+fn write_records(
+    alloc: Global,
+    writer: &mut Writer<Vec<u8>>,
+    names: &NameList,
+    rows: &RowList,
+) -> Result<(), AllocError>
+    requires between { IsBetweenRecords writer.old }
+    requires begins { text_so_far writer.old ≡ [] }
+    ensures between { OnOk result (IsBetweenRecords writer.new) }
+    ensures text { OnOk result (text_so_far writer.new ≡ records_text names.now rows.now) }
+{
+    write_names(alloc, writer, names)?;
+    for row in rows.as_slice() {
+        write_row(alloc, writer, row)?;
+    }
+    Ok(())
+}
+
+fn write_names(
+    alloc: Global,
+    writer: &mut Writer<Vec<u8>>,
+    names: &NameList,
+) -> Result<(), AllocError>
+    requires between { IsBetweenRecords writer.old }
+    ensures between { OnOk result (IsBetweenRecords writer.new) }
+    ensures text { OnOk result (text_so_far writer.new ≡ text_so_far writer.old ++ row_text default_writer names.now) }
+{
+    let cells = name_record(alloc, names)?;
+    write_record(writer, &cells)
+}
+
+fn write_row(alloc: Global, writer: &mut Writer<Vec<u8>>, row: &Row) -> Result<(), AllocError>
+    requires between { IsBetweenRecords writer.old }
+    ensures between { OnOk result (IsBetweenRecords writer.new) }
+    ensures text { OnOk result (text_so_far writer.new ≡ text_so_far writer.old ++ row_text default_writer (row_cells row.now)) }
+{
+    let cells = row_record(alloc, row)?;
+    write_record(writer, &cells)
 }
 
 fn write_record(writer: &mut Writer<Vec<u8>>, cells: &ByteRecord) -> Result<(), AllocError>

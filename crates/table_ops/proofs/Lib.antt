@@ -1,3 +1,4 @@
+pub mod Answering
 pub mod TakenRows
 pub mod Cells
 pub mod Merging

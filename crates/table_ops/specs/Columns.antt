@@ -39,8 +39,10 @@ fields_of_pairs pairs = map (λ (p : Rename). p.field) pairs
 abbrev pub refused_label : List Text → List Rename → Option TableWhy
 refused_label names pairs = option_map FieldTwice (last_or None (numbers_where (λ (p : Rename). is_twice names p.label) pairs))
 
+-- an old name that is none or stands twice, and then a new name that stands twice
+abbrev pub refused_renames : List Text → List Rename → Option TableWhy
+refused_renames names pairs = first_refusal (refused_item names [] 0 (fields_of_pairs pairs)) (refused_label (map (renamed pairs) names) pairs)
+
 -- all pairs at once: columns keep their places, and no name stands twice
 abbrev pub rename_fields : TableContent → List Rename → Result TableContent TableWhy
-rename_fields t pairs =
-    unless (first_refusal (refused_item t.names [] 0 (fields_of_pairs pairs)) (refused_label (new_names t pairs) pairs))
-    (Ok (record { names = new_names t pairs; rows = t.rows }))
+rename_fields t pairs = unless (refused_renames t.names pairs) (Ok (record { names = new_names t pairs; rows = t.rows }))

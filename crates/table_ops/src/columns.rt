@@ -1,12 +1,13 @@
-ghost use Rattle.std.specs.Prelude.{◌≡◌, IfOk, map, length};
-ghost use Rattle.std.specs.List.{IsDistinct};
+ghost use Rattle.std.specs.Prelude.{◌≡◌, [], Ok, IfOk, map, length, vec_items};
 ghost use Rattle.table_ops.specs.Columns.{keep_fields};
-ghost use Rattle.table_ops.specs.Refusals.{Answers};
+ghost use Rattle.table_terms.specs.Names.{place_of};
+ghost use Rattle.table_terms.specs.Refusals.{unless};
+ghost use Rattle.table_ops.specs.Refusals.{Answers, AnswersAs, refused_item};
 ghost use Rattle.table_ops.specs.Rows.{picked};
 ghost use Rattle.json_read.specs.Table.{AreDistinctNames};
 
 use crate::fault::TableFault;
-use crate::items::{check_items, places_of};
+use crate::items::{check_list, places_of};
 use crate::rows::{copy_names, pick_row};
 use io_core::NameList;
 use json_read::{RowList, Table};
@@ -21,12 +22,21 @@ pub fn keep_fields(alloc: Global, t: &Table, names: &NameList) -> Result<Table, 
     ensures exact { Answers result (keep_fields t.now names.now) }
     ensures each { IfOk result (λ kept. length kept.rows ≡ length t.now.rows) }
 {
-    let columns = NameSet::of(alloc, t.names())?;
-    let mut seen = NameSet::new(alloc);
-    check_items(alloc, &columns, &mut seen, 0, names.as_slice())?;
-    let places = places_of(alloc, &columns, names.as_slice())?;
+    let places = listed_places(alloc, t.names(), names)?;
     let rows = pick_rows(alloc, t.rows(), places.as_slice())?;
     Ok(Table::new(copy_names(alloc, names)?, rows))
+}
+
+/// The places of the listed names, each of which is a name and stands once.
+fn listed_places(alloc: Global, names: &NameList, listed: &NameList) -> Result<Vec<u32>, TableFault>
+    requires distinct { AreDistinctNames names.now }
+    ensures exact { AnswersAs vec_items result (unless (refused_item names.now [] 0 listed.now) (Ok (map (place_of names.now) listed.now))) }
+    ensures distinct { IfOk result (λ _. AreDistinctNames listed.now) }
+{
+    let columns = NameSet::of(alloc, names)?;
+    check_list(alloc, &columns, 0, listed)?;
+    let places = places_of(alloc, &columns, listed.as_slice())?;
+    Ok(places)
 }
 
 /// The values at these places of each row.

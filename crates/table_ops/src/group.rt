@@ -5,13 +5,13 @@ ghost use Rattle.table_ops.specs.Columns.{cells};
 ghost use Rattle.table_ops.specs.Grouping.{earlier, group_row, group_rows, table_of_groups, groups_by, field_places, listed_fields, refusals, refused_sums};
 ghost use Rattle.table_ops.specs.Groups.{groups_of};
 ghost use Rattle.table_terms.specs.Refusals.{unless};
-ghost use Rattle.table_ops.specs.Refusals.{Answers, Refuses, refused_item};
+ghost use Rattle.table_ops.specs.Refusals.{Answers, Refuses};
 ghost use Rattle.table_ops.specs.Rows.{first_of, picked};
 
 use crate::fault::{TableFault, TableWhy};
 use crate::group_sums::append_sums;
 use crate::groups::{group_list, groups_at};
-use crate::items::{check_items, places_of};
+use crate::items::{check_list, places_of};
 use crate::rows::{append_picked, first_row};
 use grid_base::{GroupList, IdList};
 use io_core::{NameList, Text};
@@ -42,7 +42,7 @@ pub fn group_rows(alloc: Global, t: &Table, spec: &GroupSpec) -> Result<Grouped,
 {
     let columns = NameSet::of(alloc, t.names())?;
     let names = listed_fields(alloc, spec)?;
-    check_names(alloc, &columns, &names)?;
+    check_list(alloc, &columns, 0, &names)?;
     table_of_groups(alloc, t, &columns, spec, names)
 }
 
@@ -64,14 +64,6 @@ fn append_names(alloc: Global, names: &mut NameList, more: &NameList) -> Result<
         names.push(Text::of(alloc, name.as_str())?)?;
     }
     Ok(())
-}
-
-fn check_names(alloc: Global, columns: &NameSet, names: &NameList) -> Result<(), TableFault>
-    ensures exact { Refuses result (refused_item columns.now [] 0 names.now) }
-    ensures distinct { OnOk result (IsDistinct bytes_eq names.now) }
-{
-    let mut seen = NameSet::new(alloc);
-    check_items(alloc, columns, &mut seen, 0, names.as_slice())
 }
 
 /// The rows in groups, and the table of the groups under these names.

@@ -5,9 +5,23 @@ ghost use Rattle.table_terms.specs.Names.{place_of};
 ghost use Rattle.table_ops.specs.Refusals.{refused_item, Refuses};
 
 use crate::fault::{TableFault, TableWhy};
-use io_core::Text;
+use io_core::{NameList, Text};
 use std::alloc::{AllocError, Global};
 use table_terms::NameSet;
+
+/// Tests the items of a list, which count from `first`: each is a name, and stands once.
+pub(crate) fn check_list(
+    alloc: Global,
+    names: &NameSet,
+    first: u32,
+    items: &NameList,
+) -> Result<(), TableFault>
+    ensures exact { Refuses result (refused_item names.now [] first items.now) }
+    ensures distinct { OnOk result (IsDistinct bytes_eq items.now) }
+{
+    let mut seen = NameSet::new(alloc);
+    check_items(alloc, names, &mut seen, first, items.as_slice())
+}
 
 /// Tests the items of a list one by one: each is a name, and none stands among those `seen`.
 ///

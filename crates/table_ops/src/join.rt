@@ -13,7 +13,7 @@ ghost use Rattle.table_ops.specs.Refusals.{Answers, Refuses, refused_item};
 
 use crate::fault::{TableFault, TableWhy};
 use crate::filter::filter_rows;
-use crate::items::check_items;
+use crate::items::check_list;
 use crate::join_columns::{Column, columns_of};
 use crate::join_matches::{first_rows, match_of};
 use crate::key::Key;
@@ -95,17 +95,9 @@ fn check_fields(
     ensures distinct { OnOk result (IsDistinct bytes_eq (unwrap_or fields.now [])) }
 {
     match fields {
-        Some(fields) => check_list(alloc, sources, fields),
+        Some(fields) => check_list(alloc, sources, 2, fields),
         None => Ok(()),
     }
-}
-
-fn check_list(alloc: Global, sources: &NameSet, fields: &NameList) -> Result<(), TableFault>
-    ensures exact { Refuses result (refused_item sources.now [] 2 fields.now) }
-    ensures distinct { OnOk result (IsDistinct bytes_eq fields.now) }
-{
-    let mut seen = NameSet::new(alloc);
-    check_items(alloc, sources, &mut seen, 2, fields.as_slice())
 }
 
 /// The numbers of the source rows that take part: all, or those for which the test is true.

@@ -1,11 +1,13 @@
-ghost use Rattle.std.specs.Prelude.{◌≡◌, ◌<◌, ℕ, List, Some, None, true, false, if◌then◌else◌, IfOk, OnOk, length, map, slice_index_or};
+ghost use Rattle.std.specs.Prelude.{◌≡◌, ◌<◌, [], ℕ, List, Ok, Some, None, true, false, if◌then◌else◌, IfOk, OnOk, length, map, slice_index_or};
 ghost use Rattle.std.specs.List.{last_or};
 ghost use Rattle.std.specs.Str.{bytes_eq};
 ghost use Rattle.indexmap.specs.IndexSet.{insert_key};
+ghost use Rattle.json_read.specs.Table.{AreDistinctNames};
 ghost use Rattle.lists.specs.Lists.{numbers_where};
-ghost use Rattle.table_ops.specs.Columns.{fields_of_pairs, is_twice, refused_label, rename_fields, renamed};
+ghost use Rattle.table_ops.specs.Columns.{fields_of_pairs, is_twice, refused_label, refused_renames, rename_fields, renamed};
 ghost use Rattle.table_terms.specs.Names.{has_name};
-ghost use Rattle.table_ops.specs.Refusals.{Answers, Refuses};
+ghost use Rattle.table_terms.specs.Refusals.{unless};
+ghost use Rattle.table_ops.specs.Refusals.{Answers, Refuses, refused_item};
 
 use crate::fault::{TableFault, TableWhy};
 use crate::items::check_items;
@@ -24,14 +26,40 @@ pub fn rename_fields(alloc: Global, t: &Table, pairs: &RenameList) -> Result<Tab
     ensures exact { Answers result (rename_fields t.now pairs.now) }
     ensures rows { IfOk result (λ r. r.rows ≡ t.now.rows) }
 {
-    let columns = NameSet::of(alloc, t.names())?;
-    let old_names = fields_of(alloc, pairs)?;
-    let mut fields = NameSet::new(alloc);
-    check_items(alloc, &columns, &mut fields, 0, old_names.as_slice())?;
-    let names = new_names(alloc, t.names(), &fields, pairs)?;
-    check_labels(alloc, pairs, &names)?;
+    let names = names_after(alloc, t.names(), pairs)?;
     let rows = copy_rows(alloc, t.rows())?;
     Ok(Table::new(names, rows))
+}
+
+/// The names of the columns after the renames.
+fn names_after(alloc: Global, names: &NameList, pairs: &RenameList) -> Result<NameList, TableFault>
+    requires distinct { AreDistinctNames names.now }
+    ensures exact { Answers result (unless (refused_renames names.now pairs.now) (Ok (map (renamed pairs.now) names.now))) }
+    ensures distinct { IfOk result (λ out. AreDistinctNames out) }
+    ensures each { IfOk result (λ out. length out ≡ length names.now) }
+{
+    let mut fields = NameSet::new(alloc);
+    note_fields(alloc, names, pairs, &mut fields)?;
+    let out = new_names(alloc, names, &fields, pairs)?;
+    check_labels(alloc, pairs, &out)?;
+    Ok(out)
+}
+
+/// Notes the old names, each of which is one of these names and stands once.
+fn note_fields(
+    alloc: Global,
+    names: &NameList,
+    pairs: &RenameList,
+    fields: &mut NameSet,
+) -> Result<(), TableFault>
+    requires distinct { AreDistinctNames names.now }
+    requires none { fields.old ≡ [] }
+    ensures exact { Refuses result (refused_item names.now [] 0 (fields_of_pairs pairs.now)) }
+    ensures noted { OnOk result (fields.new ≡ fields_of_pairs pairs.now) }
+{
+    let columns = NameSet::of(alloc, names)?;
+    let old_names = fields_of(alloc, pairs)?;
+    check_items(alloc, &columns, fields, 0, old_names.as_slice())
 }
 
 /// Refuses the last item whose new name stands twice among these names.
