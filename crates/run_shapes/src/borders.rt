@@ -1,6 +1,18 @@
-ghost use Rattle.std.specs.Prelude.{◌≡◌, ◌≤◌, ◌<◌, [], IfOk, length};
+ghost use Rattle.std.specs.Prelude.{◌≡◌, ◌+◌, ◌<◌, ◌^◌, All, IfOk, codes, length, map, slice_index_or};
 ghost use Rattle.json_read.specs.Table.{AreRows};
-ghost use Rattle.run_shapes.specs.Made.{IsLike};
+ghost use Rattle.run_shapes.specs.Borders.{
+  AreInnerLines,
+  AreOutlines,
+  IsAmong,
+  bare_table,
+  border_line,
+  first_difference,
+  line_along,
+  ranked_row,
+  ranked_table,
+  row_between,
+  type_and_rank,
+};
 
 use crate::face_sets::sets_of;
 use crate::paths::path_along;
@@ -16,7 +28,7 @@ use table_ops::keep_fields;
 
 /// A line for each arc with holders at both sides, not the same ones; without columns.
 pub fn inner_lines(alloc: Global, plane: &Plane, layer: &Layer) -> Result<Layer, AllocError>
-    ensures like { IfOk result (IsLike Kind.Line layer.now) }
+    ensures made { IfOk result (AreInnerLines plane.now layer.now) }
 {
     let sets = sets_of(alloc, plane, &layer.shapes)?;
     let arcs = inner_arcs(alloc, &plane.arcs, &plane.faces, &sets)?;
@@ -30,6 +42,7 @@ pub fn inner_lines(alloc: Global, plane: &Plane, layer: &Layer) -> Result<Layer,
 }
 
 fn inner_shapes(alloc: Global, arcs: &[ArcId]) -> Result<Vec<Shape>, AllocError>
+    ensures exact { IfOk result (λ shapes. shapes.items ≡ map line_along arcs.now) }
     ensures count { IfOk result (λ shapes. length shapes.items ≡ length arcs.now) }
 {
     let mut shapes = Vec::new(alloc);
@@ -39,7 +52,10 @@ fn inner_shapes(alloc: Global, arcs: &[ArcId]) -> Result<Vec<Shape>, AllocError>
     Ok(shapes)
 }
 
-fn line_along(alloc: Global, arc: ArcId) -> Result<Shape, AllocError> {
+// The line along one arc in its direction.
+fn line_along(alloc: Global, arc: ArcId) -> Result<Shape, AllocError>
+    ensures exact { IfOk result (λ shape. shape ≡ line_along arc) }
+{
     let mut paths = SignedPaths::new(alloc);
     paths.push(path_along(alloc, arc)?)?;
     Ok(Shape::Paths(paths))
@@ -48,6 +64,7 @@ fn line_along(alloc: Global, arc: ArcId) -> Result<Shape, AllocError> {
 // So many rows without columns.
 #[tactic(auto, using(crate::proofs::Rows::rows_grown))]
 fn bare_table(alloc: Global, count: u32) -> Result<Table, AllocError>
+    ensures exact { IfOk result (λ table. table ≡ bare_table count) }
     ensures count { IfOk result (λ table. length table.rows ≡ count) }
 {
     let mut rows = RowList::new(alloc);
@@ -70,7 +87,7 @@ pub fn outlines(
     layer: &Layer,
     fields: &NameList,
 ) -> Result<Layer, CommandStop>
-    ensures like { IfOk result (IsLike Kind.Line layer.now) }
+    ensures made { IfOk result (AreOutlines plane.now fields.now layer.now) }
 {
     let listed = keep_fields(alloc, &layer.table, fields)?;
     let sets = sets_of(alloc, plane, &layer.shapes)?;
@@ -86,6 +103,7 @@ pub fn outlines(
 }
 
 fn outline_shapes(alloc: Global, arcs: &[SidedArc]) -> Result<Vec<Shape>, AllocError>
+    ensures exact { IfOk result (λ shapes. shapes.items ≡ map border_line arcs.now) }
     ensures count { IfOk result (λ shapes. length shapes.items ≡ length arcs.now) }
 {
     let mut shapes = Vec::new(alloc);
@@ -96,6 +114,8 @@ fn outline_shapes(alloc: Global, arcs: &[SidedArc]) -> Result<Vec<Shape>, AllocE
 }
 
 fn ranked_table(alloc: Global, listed: &Table, arcs: &[SidedArc]) -> Result<Table, AllocError>
+    requires rows { All (IsAmong (length listed.now.rows)) arcs.now }
+    ensures exact { IfOk result (λ table. table ≡ ranked_table listed.now arcs.now) }
     ensures count { IfOk result (λ table. length table.rows ≡ length arcs.now) }
 {
     let rows = ranked_rows(alloc, listed, arcs)?;
@@ -107,55 +127,82 @@ fn ranked_table(alloc: Global, listed: &Table, arcs: &[SidedArc]) -> Result<Tabl
 
 #[tactic(auto, using(crate::proofs::Rows::rows_grown))]
 fn ranked_rows(alloc: Global, listed: &Table, arcs: &[SidedArc]) -> Result<RowList, AllocError>
+    requires rows { All (IsAmong (length listed.now.rows)) arcs.now }
+    ensures exact { IfOk result (λ rows. rows ≡ map (ranked_row listed.now) arcs.now) }
     ensures count { IfOk result (λ rows. length rows ≡ length arcs.now) }
     ensures widths { IfOk result (λ rows. AreRows 2 rows) }
 {
     let mut rows = RowList::new(alloc);
     for sided in arcs {
-        rows.push(ranked_row(alloc, listed, rank_of(listed, sided))?)?;
+        rows.push(ranked_row(alloc, listed, sided)?)?;
     }
     Ok(rows)
 }
 
-fn ranked_row(alloc: Global, listed: &Table, rank: u32) -> Result<Row, AllocError>
+// The type and rank of an arc, by the rows of the lowest holders of its sides.
+fn ranked_row(alloc: Global, listed: &Table, sided: &SidedArc) -> Result<Row, AllocError>
+    requires rows { IsAmong (length listed.now.rows) sided.now }
+    ensures exact { IfOk result (λ row. row ≡ ranked_row listed.now sided.now) }
+    ensures width { IfOk result (λ row. length row ≡ 2) }
+{
+    match (sided.left, sided.right) {
+        (Some(left), Some(right)) => {
+            let rows = listed.rows().as_slice();
+            row_between(
+                alloc,
+                listed.names(),
+                &rows[left as usize],
+                &rows[right as usize],
+            )
+        }
+        _ => type_and_rank(alloc, "outer", 0),
+    }
+}
+
+// The type and rank of an arc between features with these rows of one length.
+fn row_between(alloc: Global, fields: &NameList, left: &Row, right: &Row) -> Result<Row, AllocError>
+    requires alike { length left.now ≡ length right.now }
+    ensures exact { IfOk result (λ row. row ≡ row_between fields.now left.now right.now) }
+    ensures width { IfOk result (λ row. length row ≡ 2) }
+{
+    let number = first_difference(left, right);
+    type_and_rank(alloc, name_or_inner(fields, number), u64::from(number) + 1)
+}
+
+fn type_and_rank(alloc: Global, name: &str, rank: u64) -> Result<Row, AllocError>
+    requires small { rank < 10 ^ 18 }
+    ensures exact { IfOk result (λ row. row ≡ type_and_rank name.now rank) }
     ensures width { IfOk result (λ row. length row ≡ 2) }
 {
     let mut row = Row::new(alloc);
-    row.push(Value::Text(Text::of(alloc, type_of(listed, rank))?))?;
-    row.push(Value::Num(Decimal::of_grid(i64::from(rank), 0)))?;
+    row.push(Value::Text(Text::of(alloc, name)?))?;
+    row.push(Value::Num(Decimal::of_grid(rank as i64, 0)))?;
     Ok(row)
 }
 
-// The name that stands for a rank.
-fn type_of(listed: &Table, rank: u32) -> &str {
-    if rank == 0 {
-        return "outer";
-    }
-    match listed.names().get(rank - 1) {
+// The name of the field with this number, from 0; `inner` behind the last.
+fn name_or_inner(fields: &NameList, number: u32) -> &str
+    ensures exact { result.now ≡ slice_index_or fields.now number (codes "inner") }
+{
+    match fields.get(number) {
         Some(name) => name.as_str(),
         None => "inner",
     }
 }
 
-// 0 for an arc with no holder at one side; else the number of the first field in which the rows differ, from 1.
-fn rank_of(listed: &Table, sided: &SidedArc) -> u32 {
-    match (sided.left, sided.right) {
-        (Some(left), Some(right)) => match (listed.row(left), listed.row(right)) {
-            (Some(left), Some(right)) => first_difference(left, right).saturating_add(1),
-            _ => 0,
-        },
-        _ => 0,
-    }
-}
-
-// The number of the first cell, from 0, in which two rows differ, or that of their cells.
-fn first_difference(left: &Row, right: &Row) -> u32 {
-    let mut number = 0u32;
-    for (a, b) in left.as_slice().iter().zip(right.as_slice()) {
-        if !a.same(b) {
+// The number of the first value, from 0, in which two rows of one length differ, or that of their values.
+fn first_difference(left: &Row, right: &Row) -> u32
+    requires alike { length left.now ≡ length right.now }
+    ensures exact { result ≡ first_difference left.now right.now }
+{
+    let count = left.len();
+    let ours = left.as_slice();
+    let theirs = right.as_slice();
+    for number in 0..count {
+        let place = number as usize;
+        if !ours[place].same(&theirs[place]) {
             return number;
         }
-        number = number.saturating_add(1);
     }
-    number
+    count
 }

@@ -2,7 +2,6 @@
 use Rattle.std.specs.Prelude.{◌≡◌, ◌≤◌, ℕ, ⊤, List, [], ◌∷◌, ◌++◌, length, replicate, Option, Some, None, Ok, MatchBool}
 use Rattle.std.specs.List.{AllZip, position_or_len}
 use Rattle.io_core.specs.Contents.{Content}
-use Rattle.grid_base.specs.declared.kinds.Kind.TheVariants as kinds
 use Rattle.table_ops.specs.Columns.{keep_fields, rename_fields}
 use Rattle.table_ops.specs.Join.{join_tables}
 use Rattle.table_terms.specs.declared.specifications.JoinSpec.{JoinSpec}
@@ -14,12 +13,12 @@ use Rattle.cmd_words.specs.declared.job.JointAction.TheVariants as joint
 use Rattle.cmd_words.specs.declared.job.LayerAction.{LayerAction}
 use Rattle.cmd_words.specs.declared.job.LayerAction.TheVariants as action
 use Rattle.run_plane.specs.declared.layer.Layer.{Layer}
+use Rattle.run_shapes.specs.Borders.{AreInnerLines, AreOutlines}
 use Rattle.run_shapes.specs.Cleaning.{IsCleaned, IsMosaicOf}
 use Rattle.run_shapes.specs.Cutting.{IsCut}
 use Rattle.run_shapes.specs.Dissolving.{IsGrouped}
 use Rattle.run_shapes.specs.Exploding.{IsExploded}
 use Rattle.run_shapes.specs.FaceSets.{area_of}
-use Rattle.run_shapes.specs.Made.{IsLike}
 use Rattle.run_shapes.specs.declared.cutting.CutKeeps.TheVariants as keeps
 use Rattle.run_state.specs.Origins.{Base, one_layer, origin_layers}
 use Rattle.run_state.specs.Targets.{is_selected, placed, targets}
@@ -53,8 +52,8 @@ PutsOut base layers (action.Erase from) layer outputs = One (IsCut keeps.Outside
 PutsOut base layers (action.Dissolve spec group_points) layer outputs = One (IsGrouped base.plane spec layer) outputs
 PutsOut base layers (action.Clean rule allow_empty) layer outputs = One (IsCleaned rule allow_empty base.plane layer) outputs
 PutsOut base layers action.Mosaic layer outputs = One (IsMosaicOf base.plane layer) outputs
-PutsOut base layers action.InnerLines layer outputs = One (IsLike kinds.Line layer) outputs
-PutsOut base layers (action.Lines fields) layer outputs = One (IsLike kinds.Line layer) outputs
+PutsOut base layers action.InnerLines layer outputs = One (AreInnerLines base.plane layer) outputs
+PutsOut base layers (action.Lines fields) layer outputs = One (AreOutlines base.plane fields layer) outputs
 PutsOut base layers action.Explode layer outputs = One (IsExploded base.plane layer) outputs
 PutsOut base layers (action.Join from spec) layer outputs = Joins base layers from spec layer outputs
 PutsOut base layers (action.Filter test invert remove_empty) layer outputs = One (IsFiltered test invert remove_empty layer) outputs

@@ -1,0 +1,12 @@
+use Rattle.std.proofs.Common.{◌≡◌, ◌∙◌, length, ap, arith}
+use Rattle.run_shapes.proofs.Beside.{sides_among}
+use Rattle.run_shapes.proofs.borders.outlines.Goals as goal
+
+pub ranked_table-requires : goal.ranked_table-requires
+ranked_table-requires c =
+    let plane = c.args.plane.now in
+    let many : length c.in_ok-sets.sets ≡ length c.in_ok-listed.listed.rows =
+    omega (arith, c.in_ok-sets.ensures.count, ap length c.deref.ensures.value, c.in_ok-listed.ensures.each, c.args.layer.now.each)
+    in record {
+      rows = sides_among plane.faces c.in_ok-sets.sets (length c.in_ok-listed.listed.rows) many (length plane.arcs) c.as_slice.result.now (c.as_slice.ensures.all ∙ c.in_ok-arcs.ensures.exact);
+    }
