@@ -3,19 +3,18 @@
 #   program   the built program
 # shellcheck shell=bash disable=SC2154
 
-# Measured from nothing, of a whole build; docs/install.md says the same.
-FIRST_BUILD_TAKES="about 45 to 75 minutes on four processors"
+# Measured from nothing, of a whole build; README.md and docs/install.md say the same.
+FIRST_BUILD_TAKES="about an hour on four processors"
 
 # The kit that the proofs were made with, as rt version prints it; README.md and docs/install.md name it too.
 KIT="rattle-kit-13f logic dac8208d650f15bf"
 
 out="$top/crates/ms_cli/out"
-# Its time is that at which the last build that passed began.
-mark="$out/ms_cli.begun"
 log="$out/build.log"
+# Names the folder outside the repository that the build under way works in.
+room_file="$out/build.room"
 
 # The crates that the program stands on, each after those that it uses itself, and the program's own last.
-# rt builds them in this order.
 crates_of_program() {
   awk -F: '
     { sub(/#.*/, "") }
@@ -38,13 +37,12 @@ sources_of() {
   done
 }
 
-# Nothing that the program is made of is newer than the program, or than the begin of a build that passed.
+# Nothing that the program is made of is newer than the program, whose time is that at which its build began.
 is_current() {
   [ -x "$program" ] || return 1
-  local sources name than=(-newer "$program")
+  local sources name
   mapfile -t sources < <(for name in $(crates_of_program); do sources_of "$name"; done)
-  [ ! -e "$mark" ] || than+=(-newer "$mark")
-  [ -z "$(find "$top/crates.txt" "${sources[@]}" "${than[@]}" -print -quit)" ]
+  [ -z "$(find "$top/crates.txt" "${sources[@]}" -newer "$program" -print -quit)" ]
 }
 
 build() {
@@ -62,6 +60,7 @@ build() {
 }
 
 # Two builds at once would do the same work twice. Without flock rt itself makes the second wait, crate by crate.
+# rt holds the turn too: where this script alone is killed, the next run lets it end and then takes what it kept.
 wait_for_turn() {
   exec 9>"$out/build.lock"
   command -v flock >/dev/null || return 0
@@ -72,27 +71,27 @@ wait_for_turn() {
 
 build_in_turn() {
   mapfile -t crates < <(crates_of_program)
-  place=0 functions=0 began=$SECONDS
+  ended=0 place='' room='' builder='' began=$SECONDS
   tell_what_comes
-  touch "$mark.new"
   : >"$log"
-  builder=
   for signal in INT TERM HUP; do
     # shellcheck disable=SC2064
     trap "interrupt $signal" "$signal"
   done
-  # A made-up mosaic of one cell stands for a run: rt ends with the program's status.
-  (cd "$top/crates/ms_cli" && exec rt run -- synth 1 1) </dev/null >>"$log" 2>&1 9>&- &
+  if ! lay_out 2>>"$log"; then
+    tell_failure "the crates were not copied to ${room:-a folder for temporary files}"
+  fi
+  (cd "$room" && exec rt ci) </dev/null >>"$log" 2>&1 &
   builder=$!
   follow
   wait "$builder"
   local status=$?
-  trap - INT TERM HUP
+  builder=
   clear_line
-  if [ "$status" != 0 ] || [ ! -x "$program" ]; then
-    tell_failure "$status"
-  fi
-  mv "$mark.new" "$mark"
+  [ "$status" = 0 ] || tell_failure "rt ended with status $status"
+  put_program 2>>"$log" || tell_failure "what rt built can't be put to $program"
+  remove_room
+  trap - INT TERM HUP
   say "built in $(time_taken): $program"
 }
 
@@ -101,8 +100,61 @@ tell_what_comes() {
   [ ! -e "$program" ] || what="older than its sources"
   kit=$(rt version </dev/null 2>/dev/null)
   [ "$kit" = "$KIT" ] || say "the kit here is ${kit:-of no known line}; the proofs were made with $KIT, and another may refuse them"
+  find_keeping
   say "the program is $what: proving ${#crates[@]} crates, then compiling it"
-  say "from nothing this takes $FIRST_BUILD_TAKES; crates that are proved already are kept, also where this is interrupted"
+  say "from nothing this takes $FIRST_BUILD_TAKES; $keeping"
+}
+
+# rt keeps each crate that it proved in a folder beside the kit, where whoever runs it may write.
+find_keeping() {
+  local kit store
+  kit=$(dirname "$(rt doc </dev/null 2>/dev/null)")
+  store=$(dirname "$kit")/rattle-kept
+  keeping="the crates that were proved are kept, and the next run goes on from there"
+  if [ -e "$store" ]; then
+    [ -d "$store" ] && [ -O "$store" ] && return
+  elif [ -w "$(dirname "$store")" ]; then
+    return
+  fi
+  keeping="$store is not yours to write, so nothing is kept, and the next run begins anew"
+}
+
+# A repository of the program's crates alone, without their must-fail edits. It lies outside this one, in which rt ci
+# allows no second crates.txt, and has an empty .git, the sign of a repository's top.
+lay_out() {
+  local name
+  if command -v flock >/dev/null; then remove_room; fi
+  room=$(mktemp -d "${TMPDIR:-/var/tmp}/ms_cli-build.XXXXXX") || return
+  printf '%s\n' "$room" >"$room_file" && touch "$room/begun" && mkdir "$room/.git" || return
+  cp "$top/HANDLES" "$room" && lines_of_program >"$room/crates.txt" || return
+  for name in "${crates[@]}"; do
+    mkdir -p "$room/crates/$name" || return
+    find "$top/crates/$name" -mindepth 1 -maxdepth 1 ! -name out ! -name must-fail \
+      -exec cp -R -t "$room/crates/$name" {} + || return
+  done
+}
+
+lines_of_program() {
+  printf '%s\n' "${crates[@]}" | awk -F: '
+    NR == FNR { wanted[$1]; next }
+    { sub(/#.*/, "") }
+    split($1, head, " ") && head[1] in wanted' - "$top/crates.txt"
+}
+
+put_program() {
+  mkdir -p "$out" && cp "$room/crates/ms_cli/out/ms_cli" "$program.new" &&
+    touch -r "$room/begun" "$program.new" && mv -f "$program.new" "$program"
+}
+
+# The folder of this build, or that of one before it that was killed.
+remove_room() {
+  [ "$room" ] || room=$(cat "$room_file" 2>/dev/null)
+  case ${room##*/} in
+    # What rt started may still write for a moment after it was killed.
+    ms_cli-build.*) rm -rf "$room" 2>/dev/null || { sleep 1 && rm -rf "$room"; } ;;
+  esac
+  rm -f "$room_file"
+  room=
 }
 
 # Reads the log as it grows, until the build ends.
@@ -122,38 +174,34 @@ follow() {
   exec 8<&-
 }
 
-# Takes from a line of the log which crate is in work, and how many of its functions are proved.
+# Takes from a line of the log which crate is done. They are proved side by side, and so end in no order of ours.
 note() {
+  local name=${1#rt: }
   case $1 in
-    "rt: chose --jobs "*" for "*) come_to "${1##* }" ;;
-    "rt: waiting for "* | "rt: "*": another "*)
+    "rt: "*": another run on this machine "*)
       clear_line
-      say "$1"
+      say "$name"
       ;;
-    "fn "*": proved")
-      local name=${1#fn }
-      come_to "${name%%::*}"
-      functions=$((functions + 1))
-      ;;
+    "rt: "*" proved") come_to "${name% proved}" proved ;;
+    "rt: "*" is kept: "*) come_to "${name%% is kept: *}" kept ;;
   esac
 }
 
 come_to() {
-  local at
-  if [ "$place" != 0 ] && [ "${crates[place - 1]}" = "$1" ]; then return; fi
-  for at in "${!crates[@]}"; do
-    if [ "${crates[at]}" = "$1" ]; then
-      place=$((at + 1)) functions=0
-      [ -t 2 ] || say "crate $place of ${#crates[@]}: proving $1, $(time_taken) so far"
+  local name
+  for name in "${crates[@]}"; do
+    if [ "$name" = "$1" ]; then
+      ended=$((ended + 1))
+      place="crate $ended of ${#crates[@]} $2: $1"
+      [ -t 2 ] || say "$place, $(time_taken) so far"
     fi
   done
 }
 
 # One line that is written anew, cut where the terminal ends.
 show_place() {
-  local what="reading the sources" width
-  [ "$place" = 0 ] || what="crate $place of ${#crates[@]}: proving ${crates[place - 1]}, $functions functions so far"
-  what="ms_cli: $what, $(time_taken)"
+  local what width
+  what="ms_cli: ${place:-none of ${#crates[@]} crates proved yet}, $(time_taken) so far"
   width=$(stty size <&2 2>/dev/null | cut -d ' ' -f 2)
   [ "${width:-0}" -gt 0 ] || width=80
   clear_line
@@ -179,18 +227,21 @@ interrupt() {
     kill -TERM "$builder" 2>/dev/null
     wait "$builder"
   fi
+  remove_room
   clear_line
-  say "the build was interrupted; the crates that were proved are kept, and the next run goes on from there"
+  say "the build was interrupted; $keeping"
   trap - "$1"
   kill -s "$1" $$
 }
 
 # The lines of the log that say why, the first ten of them.
 tell_failure() {
-  say "the program was not built: rt ended with status $1; its first lines that tell of a fault:"
+  trap '' INT TERM HUP
+  remove_room
+  say "the program was not built: $1; the first lines that tell of a fault:"
   local faults
-  faults=$(grep -E 'error(\[|:)|: not proved|: no proof|^rt: |Killed' "$log" | grep -vE '^rt: (chose|running|waiting|[^ ]+: begins with)' | head -n 10)
+  faults=$(grep -E 'error(\[|:)|: not proved|: no proof|^rt: |Killed' "$log" | grep -vE '^rt: (note: |[^ ]+ (proved$|is kept: )|[^ ]+: another run )' | head -n 10)
   printf '%s\n' "${faults:-$(tail -n 10 "$log")}" >&2
-  say "the whole log: $log; the crates that were proved are kept, and the next run goes on from there"
+  say "the whole log: $log; $keeping"
   exit "$NO_RUN"
 }

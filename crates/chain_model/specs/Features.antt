@@ -15,9 +15,10 @@ use Rattle.geojson_io.specs.Layers.{same_kind}
 use Rattle.geojson_io.specs.Texts.{separated}
 use Rattle.expr_lang.specs.Tree.{tree_of}
 use Rattle.expr_lang.specs.declared.expr.Expr.{Expr}
-use Rattle.table_ops.specs.Names.{Text, cell}
+use Rattle.table_terms.specs.Names.{Text, cell}
 use Rattle.table_ops.specs.Rows.{row_at}
-use Rattle.table_ops.specs.Refusals.{refused_item, unless, on_ok}
+use Rattle.table_terms.specs.Refusals.{unless, on_ok}
+use Rattle.table_ops.specs.Refusals.{refused_item}
 use Rattle.table_ops.specs.Filtering.{filter_rows}
 use Rattle.table_ops.specs.Columns.{keep_fields, rename_fields}
 use Rattle.table_ops.specs.Grouping.{group_rows}
@@ -26,9 +27,9 @@ use Rattle.table_ops.specs.Splitting.{split_rows}
 use Rattle.table_ops.specs.Merge.{merge_tables}
 use Rattle.table_ops.specs.declared.fault.TableWhy.{TableWhy}
 use Rattle.table_ops.specs.declared.group.Grouped.{Grouped}
-use Rattle.table_ops.specs.declared.renames.Rename.{Rename}
-use Rattle.table_ops.specs.declared.specifications.GroupSpec.{GroupSpec}
-use Rattle.table_ops.specs.declared.specifications.JoinSpec.{JoinSpec}
+use Rattle.table_terms.specs.declared.renames.Rename.{Rename}
+use Rattle.table_terms.specs.declared.specifications.GroupSpec.{GroupSpec}
+use Rattle.table_terms.specs.declared.specifications.JoinSpec.{JoinSpec}
 use Rattle.table_ops.specs.declared.split.SplitItem.{SplitItem}
 use Rattle.region_model.specs.Region.{Region}
 use Rattle.region_model.specs.Answers.{Plane, Answers, is_nil}

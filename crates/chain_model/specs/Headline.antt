@@ -6,7 +6,7 @@ use Rattle.std.specs.Str.{bytes_eq}
 use Rattle.io_core.specs.Contents.{Content, FileMap}
 use Rattle.io_core.specs.Counts.{Rose, raised}
 use Rattle.io_core.specs.Whole.{MissesName}
-use Rattle.table_ops.specs.Names.{Text}
+use Rattle.table_terms.specs.Names.{Text}
 use Rattle.cmd_words.specs.Chains.{CommandWords}
 use Rattle.cmd_words.specs.Words.{JobWords, Reading, synth, chain}
 use Rattle.cmd_words.specs.declared.job.Action.{Action}

@@ -7,7 +7,7 @@ use Rattle.topo_io.specs.declared.fault.TopoWhy.{TopoWhy}
 use Rattle.topo_io.specs.declared.fault.TopoWhy.TheVariants as topo
 use Rattle.topo_io.specs.declared.fault.TopoPlace.{TopoPlace}
 use Rattle.topo_io.specs.declared.fault.TopoPlace.TheVariants as place
-use Rattle.table_ops.specs.Names.{Text}
+use Rattle.table_terms.specs.Names.{Text}
 use Rattle.table_ops.specs.declared.fault.EvalWhy.{EvalWhy}
 use Rattle.table_ops.specs.declared.fault.EvalWhy.TheVariants as eval
 use Rattle.table_ops.specs.declared.fault.TableWhy.{TableWhy}

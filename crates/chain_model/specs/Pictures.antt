@@ -13,8 +13,8 @@ use Rattle.topo_io.specs.ArcLayerContent.{ArcLayerContent}
 use Rattle.topo_io.specs.Texts.{topojson_text}
 use Rattle.topo_io.specs.declared.arc_layer.ArcShape.{ArcShape}
 use Rattle.topo_io.specs.declared.arc_layer.ArcShape.TheVariants as arcs
-use Rattle.table_ops.specs.CsvText.{csv_text}
-use Rattle.table_ops.specs.Names.{Text}
+use Rattle.csv_io.specs.CsvText.{csv_text}
+use Rattle.table_terms.specs.Names.{Text}
 use Rattle.cmd_words.specs.declared.job.OutForm.{OutForm}
 use Rattle.cmd_words.specs.declared.job.OutForm.TheVariants as form
 use Rattle.region_model.specs.Region.{Region}

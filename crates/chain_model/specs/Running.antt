@@ -7,8 +7,8 @@ use Rattle.plane_model.specs.Drawing.{Drawing}
 use Rattle.plane_model.specs.Snapped.{snapped, link_count}
 use Rattle.io_core.specs.Contents.{Content, FileMap}
 use Rattle.geojson_io.specs.LayerContent.{LayerContent}
-use Rattle.table_ops.specs.Names.{Text}
-use Rattle.table_ops.specs.Refusals.{on_ok}
+use Rattle.table_terms.specs.Names.{Text}
+use Rattle.table_terms.specs.Refusals.{on_ok}
 use Rattle.cmd_words.specs.Tells.{FitsJob}
 use Rattle.cmd_words.specs.Words.{JobWords, Reading}
 use Rattle.cmd_words.specs.declared.job.Chain.{Chain}

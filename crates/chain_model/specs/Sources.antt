@@ -19,11 +19,11 @@ use Rattle.geojson_io.specs.declared.shape.GeoShape.{GeoShape}
 use Rattle.geojson_io.specs.declared.shape.GeoShape.TheVariants as shape
 use Rattle.topo_io.specs.Reads.{Fault as TopologyFault}
 use Rattle.topo_io.specs.Topologies.{read_topojson}
-use Rattle.table_ops.specs.CsvTable.{table_of_text}
-use Rattle.table_ops.specs.CsvUtf8.{EndsUtf8At}
-use Rattle.table_ops.specs.Refusals.{on_ok}
-use Rattle.table_ops.specs.declared.fault.CsvFault.{CsvFault}
-use Rattle.table_ops.specs.declared.fault.CsvFault.TheVariants as csv
+use Rattle.csv_io.specs.CsvTable.{table_of_text}
+use Rattle.csv_io.specs.CsvUtf8.{EndsUtf8At}
+use Rattle.table_terms.specs.Refusals.{on_ok}
+use Rattle.csv_io.specs.declared.fault.CsvFault.{CsvFault}
+use Rattle.csv_io.specs.declared.fault.CsvFault.TheVariants as csv
 use Rattle.cmd_words.specs.Expressions.{AreRefusals, Refusals}
 use Rattle.cmd_words.specs.Texts.{ends_in}
 use Rattle.cmd_words.specs.declared.job.SourceWord.{SourceWord}

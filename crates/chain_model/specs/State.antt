@@ -4,7 +4,7 @@ use Rattle.lists.specs.Lists.{numbers_where}
 use Rattle.plane_model.specs.Points.{GridPoint, Path}
 use Rattle.grid_base.specs.declared.kinds.Kind.{Kind}
 use Rattle.json_read.specs.Table.{TableContent}
-use Rattle.table_ops.specs.Names.{Text}
+use Rattle.table_terms.specs.Names.{Text}
 use Rattle.table_ops.specs.Rows.{take_rows}
 use Rattle.region_model.specs.Region.{Region, any_of}
 use Rattle.region_model.specs.Answers.{Plane, Answers, is_empty, is_nil}

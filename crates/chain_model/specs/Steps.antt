@@ -5,8 +5,8 @@ use Rattle.lists.specs.Lists.{each_once}
 use Rattle.grid_base.specs.declared.kinds.Kind.{Kind}
 use Rattle.grid_base.specs.declared.kinds.Kind.TheVariants as kind
 use Rattle.geojson_io.specs.Layers.{same_kind}
-use Rattle.table_ops.specs.Names.{Text}
-use Rattle.table_ops.specs.Refusals.{unless, first_refusal, on_ok}
+use Rattle.table_terms.specs.Names.{Text}
+use Rattle.table_terms.specs.Refusals.{unless, first_refusal, on_ok}
 use Rattle.cmd_words.specs.declared.job.Action.{Action}
 use Rattle.cmd_words.specs.declared.job.Action.TheVariants as action
 use Rattle.cmd_words.specs.declared.job.LayerAction.TheVariants as each

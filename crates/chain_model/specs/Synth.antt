@@ -6,7 +6,7 @@ use Rattle.plane_model.specs.Drawing.{Drawing}
 use Rattle.plane_model.specs.Joined.{IsFaceCount}
 use Rattle.grid_base.specs.declared.kinds.OverlapRule.TheVariants as rule
 use Rattle.geojson_io.specs.Texts.{grid_text}
-use Rattle.table_ops.specs.Names.{Text}
+use Rattle.table_terms.specs.Names.{Text}
 use Rattle.region_model.specs.Region.{Region, feature}
 use Rattle.region_model.specs.Answers.{Plane, Answers, is_empty, area_of}
 use Rattle.region_model.specs.PolygonCommands.{cleaned, dissolved}

@@ -4,7 +4,7 @@ use Rattle.std.specs.List.{list_all, enumerate_from, range_with_len}
 use Rattle.std.specs.Str.{bytes_eq}
 use Rattle.lists.specs.Lists.{numbers_where, has, joined_up}
 use Rattle.grid_base.specs.declared.kinds.Kind.{Kind}
-use Rattle.table_ops.specs.Names.{Text, has_name}
+use Rattle.table_terms.specs.Names.{Text, has_name}
 use Rattle.cmd_words.specs.declared.job.Target.{Target}
 use Rattle.cmd_words.specs.declared.job.Target.TheVariants as target
 use Rattle.cmd_words.specs.declared.job.Origin.{Origin}

@@ -1,7 +1,7 @@
 -- The words of one group that were read so far.
 use Rattle.std.specs.Prelude.{ℕ, Bool, List, [], ◌∷◌, Option, Some, None}
 use Rattle.grid_base.specs.Grid.{Corners}
-use Rattle.table_ops.specs.declared.renames.Rename.{Rename}
+use Rattle.table_terms.specs.declared.renames.Rename.{Rename}
 use Rattle.cmd_words.specs.declared.word_groups.Word.{Word}
 use Rattle.cmd_words.specs.declared.word_groups.Setting.{Setting}
 use Rattle.cmd_words.specs.Rows.{Text, has_name}

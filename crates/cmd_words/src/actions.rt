@@ -11,7 +11,7 @@ use crate::word_groups::Group;
 use grid_base::OverlapRule;
 use io_core::{NameList, Text};
 use std::alloc::{AllocError, Global};
-use table_ops::{GroupSpec, JoinSpec};
+use table_terms::{GroupSpec, JoinSpec};
 
 /// What a command does, where its chain so far has so many sources and boxes. Its expression is left out.
 pub(crate) fn action(

@@ -2,7 +2,7 @@ use crate::chain_lists::{CommandList, SourceList};
 use expr_lang::Expr;
 use grid_base::{BoxList, OverlapRule};
 use io_core::{NameList, Text};
-use table_ops::{GroupSpec, JoinSpec, RenameList};
+use table_terms::{GroupSpec, JoinSpec, RenameList};
 
 /// What a command line asks for.
 #[derive(Drop)]

@@ -239,7 +239,7 @@ fn take_command(
     };
     let mut group = Group::new(alloc, so_far.reads_standard());
     take_words(alloc, places, &row.form, &mut group, number + 1, rest)?;
-    finish(alloc, so_far, row.keyword, number, group)
+    finish(alloc, so_far, row.keyword, number, &mut group)
 }
 
 fn finish(
@@ -247,14 +247,14 @@ fn finish(
     so_far: &mut SoFar,
     keyword: Keyword,
     number: u32,
-    group: Group,
+    group: &mut Group,
 ) -> Result<(), WordFault>
-    ensures exact { Turns (finished so_far.old keyword number group) so_far.new result }
+    ensures exact { Turns (finished so_far.old keyword number group.old) so_far.new result }
 {
-    if lacks_argument(keyword, &group) {
+    if lacks_argument(keyword, group) {
         return Err(bad(number, WordWhy::MissingArgument));
     }
-    if lacks_form(keyword, &group) {
+    if lacks_form(keyword, group) {
         return Err(bad(group.first_number(), WordWhy::UnsupportedFile));
     }
     so_far.add(alloc, keyword, group)?;

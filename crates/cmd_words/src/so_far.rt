@@ -17,7 +17,7 @@ use grid_base::{BoxList, Rect};
 use io_core::Text;
 use std::alloc::{AllocError, Global};
 use std::marker::Model;
-use table_ops::JoinSpec;
+use table_terms::JoinSpec;
 
 /// A command without its expression, and that expression.
 #[derive(Drop)]
@@ -83,17 +83,17 @@ impl SoFar {
         self.reads_standard
     }
 
-    /// Adds the command of a group.
+    /// Adds the command of a group, and takes its renames and its expression.
     pub(crate) fn add(
         &mut self,
         alloc: Global,
         keyword: Keyword,
-        group: Group,
+        group: &mut Group,
     ) -> Result<(), AllocError>
-        ensures ok { OnOk result (self.new ≡ with_command self.old keyword group) }
+        ensures ok { OnOk result (self.new ≡ with_command self.old keyword group.old) }
     {
         let (sources, boxes) = (self.sources.len(), self.boxes.len());
-        self.add_source(alloc, keyword, &group)?;
+        self.add_source(alloc, keyword, group)?;
         self.add_box(group.area())?;
         self.reads_standard = group.reads_standard();
         self.add_command(alloc, sources, boxes, keyword, group)
@@ -130,9 +130,9 @@ impl SoFar {
         sources: u32,
         boxes: u32,
         keyword: Keyword,
-        group: Group,
+        group: &mut Group,
     ) -> Result<(), AllocError>
-        ensures ok { OnOk result (self.new ≡ record self.old { commands = self.old.commands ++ command_words sources boxes keyword group ∷ [] }) }
+        ensures ok { OnOk result (self.new ≡ record self.old { commands = self.old.commands ++ command_words sources boxes keyword group.old ∷ [] }) }
     {
         let command = read_command(alloc, sources, boxes, keyword, group)?;
         self.commands.push(command)?;
@@ -189,15 +189,14 @@ fn read_command(
     sources: u32,
     boxes: u32,
     keyword: Keyword,
-    group: Group,
+    group: &mut Group,
 ) -> Result<ReadCommand, AllocError>
-    ensures exact { IfOk result (λ r. r ≡ command_words sources boxes keyword group) }
+    ensures exact { IfOk result (λ r. r ≡ command_words sources boxes keyword group.old) }
 {
-    let mut group = group;
     let target = target_of(alloc, group.value("target"))?;
     let name = copy_of(alloc, group.value("name"))?;
     let keep = group.has_bare("+");
-    let action = action(alloc, sources, boxes, keyword, &mut group)?;
+    let action = action(alloc, sources, boxes, keyword, group)?;
     Ok(ReadCommand {
         command: Command {
             target,
@@ -205,7 +204,7 @@ fn read_command(
             keep,
             action,
         },
-        test: group.into_test(),
+        test: group.take_test(),
     })
 }
 

@@ -1,4 +1,4 @@
-ghost use Rattle.std.specs.Prelude.{◌≡◌, ◌++◌, ◌∷◌, [], OnOk, IfOk, Some, is_some, ◌||◌, map};
+ghost use Rattle.std.specs.Prelude.{◌≡◌, ◌++◌, ◌∷◌, [], OnOk, IfOk, None, Some, is_some, ◌||◌, map};
 ghost use Rattle.std.specs.Option.{option_copied};
 ghost use Rattle.cmd_words.specs.Rows.{has_name};
 ghost use Rattle.cmd_words.specs.Settings.{value_named};
@@ -14,7 +14,7 @@ use io_core::{NameList, Text};
 use std::alloc::{AllocError, Global};
 use std::marker::Model;
 use std::mem;
-use table_ops::RenameList;
+use table_terms::RenameList;
 
 /// A word, and its number from 1.
 #[derive(Drop)]
@@ -200,19 +200,11 @@ impl Group {
     }
 
     /// The expression of the group, of its argument or of an option.
-    pub(crate) fn into_test(self) -> Option<Expression>
-        ensures exact { result ≡ self.test }
+    pub(crate) fn take_test(&mut self) -> Option<Expression>
+        ensures exact { result ≡ self.old.test }
+        ensures after { self.new ≡ record self.old { test = None } }
     {
-        let Group {
-            arguments: _,
-            options: _,
-            bare: _,
-            reads_standard: _,
-            area: _,
-            renames: _,
-            test,
-        } = self;
-        test
+        self.test.take()
     }
 }
 

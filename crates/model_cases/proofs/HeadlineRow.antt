@@ -12,7 +12,7 @@ use Rattle.json_read.specs.Numeral.{numeral_of}
 use Rattle.json_read.specs.declared.value.Value.TheVariants.{Null, Num}
 use Rattle.geojson_io.specs.LayerContent.{LayerContent}
 use Rattle.geojson_io.specs.declared.shape.GeoShape.TheVariants.{Nothing}
-use Rattle.table_ops.specs.Names.{Text}
+use Rattle.table_terms.specs.Names.{Text}
 use Rattle.cmd_words.specs.Tells.{FitsJob}
 use Rattle.cmd_words.specs.Words.{ChainWords, JobWords, Reading, chain}
 use Rattle.cmd_words.specs.declared.job.Job.TheVariants as job

@@ -2,7 +2,7 @@
 use Rattle.std.proofs.Common.{◌≡◌, refl, ℕ, List, [], ◌∷◌, Some, None, Ok, Err, codes, Option}
 use Rattle.std.specs.Prelude.{if◌then◌else◌}
 use Rattle.std.specs.Str.{bytes_eq}
-use Rattle.table_ops.specs.Names.{Text}
+use Rattle.table_terms.specs.Names.{Text}
 use Rattle.json_read.specs.Decimal.{decimal_of_text}
 use Rattle.json_read.specs.Numeral.{numeral_of, grid_of_text}
 use Rattle.cmd_words.specs.Areas.{places_of, area_of}

@@ -9,9 +9,9 @@ use Rattle.json_read.specs.declared.value.Value.TheVariants.{Null, Num, Text as 
 use Rattle.geojson_io.specs.LayerContent.{LayerContent}
 use Rattle.geojson_io.specs.declared.shape.GeoShape.{GeoShape}
 use Rattle.geojson_io.specs.declared.shape.GeoShape.TheVariants.{Polygons, Points}
-use Rattle.table_ops.specs.Names.{Text}
+use Rattle.table_terms.specs.Names.{Text}
 use Rattle.table_ops.specs.declared.fault.TableWhy.TheVariants.{NoField, NotNumber, FieldsDiffer}
-use Rattle.table_ops.specs.declared.specifications.GroupSpec.{GroupSpec}
+use Rattle.table_terms.specs.declared.specifications.GroupSpec.{GroupSpec}
 use Rattle.cmd_words.specs.declared.job.Action.{Action}
 use Rattle.cmd_words.specs.declared.job.Action.TheVariants as c
 use Rattle.cmd_words.specs.declared.job.LayerAction.TheVariants as each

@@ -2,7 +2,7 @@
 use Rattle.std.proofs.Common.{◌≡◌, refl, List, [], ◌∷◌, codes}
 use Rattle.json_read.specs.Decimal.{decimal_of_text}
 use Rattle.json_read.specs.Numeral.{numeral_of, grid_of_text}
-use Rattle.table_ops.specs.Names.{Text}
+use Rattle.table_terms.specs.Names.{Text}
 use Rattle.cmd_words.specs.Areas.{places_of, area_of}
 use Rattle.cmd_words.specs.Rows.{rows}
 use Rattle.cmd_words.specs.Words.{read_words}

@@ -6,8 +6,8 @@ use Rattle.csv.specs.Reading.{records_from, strip_bom}
 use Rattle.csv.specs.Writing.{escaped, fields_text, is_blank}
 use Rattle.json_read.specs.Decimal.{decimal_of_text, decimal_text, fraction_text, last_digits, trimmed_digits}
 use Rattle.json_read.specs.Numeral.{numeral_of}
-use Rattle.table_ops.specs.CsvText.{csv_text}
-use Rattle.table_ops.specs.Names.{Text}
+use Rattle.csv_io.specs.CsvText.{csv_text}
+use Rattle.table_terms.specs.Names.{Text}
 use Rattle.cmd_words.specs.Chains.{CommandWords}
 use Rattle.cmd_words.specs.Words.{ChainWords, JobWords, Reading, synth, chain}
 use Rattle.cmd_words.specs.declared.job.Chain.{Chain}

@@ -1,6 +1,6 @@
 -- Words that are refused, and chains, by the table of commands.
 use Rattle.std.proofs.Common.{◌≡◌, refl, pos, List, [], ◌∷◌, Some, None, Ok, Err, codes, true, false}
-use Rattle.table_ops.specs.Names.{Text}
+use Rattle.table_terms.specs.Names.{Text}
 use Rattle.json_read.specs.Decimal.{decimal_of_text}
 use Rattle.json_read.specs.Numeral.{numeral_of, grid_of_text}
 use Rattle.cmd_words.specs.Areas.{places_of, area_of}

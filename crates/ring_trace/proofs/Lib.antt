@@ -4,6 +4,7 @@ pub mod PartLemmas
 pub mod BoundaryLemmas
 pub mod JoinedLemmas
 pub mod RankedLemmas
+pub mod SomeParts
 pub mod UsedLemmas
 pub mod TileLemmas
 pub mod TracedLemmas

@@ -3,9 +3,10 @@ use Rattle.std.specs.Prelude.{◌≡◌, ℕ, ◌<◌, ◌≤◌, Bool, ◌&&◌
 use Rattle.std.specs.List.{sum_by}
 use Rattle.lists.specs.Lists.{has}
 use Rattle.plane_model.specs.Arcs.{SignedArc}
-use Rattle.face_walk.specs.Places.{place_of, face_left_of}
+use Rattle.face_walk.specs.Places.{FaceTable, place_of, face_left_of}
 use Rattle.ring_trace.specs.declared.pairing.Edge.{Edge}
 use Rattle.ring_trace.specs.Boundary.{is_outward, boundary}
+use Rattle.ring_trace.specs.Joined.{AreParts}
 use Rattle.ring_trace.specs.Rings.{edge_at}
 
 -- the same arc in the same direction
@@ -50,3 +51,9 @@ bounded places many parts = filter (λ (part : List ℕ). nat_lt 0 (length (boun
 pub record UseParts (places : List ℕ) (many : ℕ) (parts : List (List ℕ)) (polygons : List (List (List SignedArc))) : Type 0 where
   pub each : length polygons ≡ length (bounded places many parts)
   pub once : (k : ℕ) (a : SignedArc) → k < length polygons → times_round a (slice_index_or polygons k []) ≡ once_if (is_of_boundary places many (slice_index_or (bounded places many parts) k []) a)
+
+-- some lists are the parts of the set, and there is one polygon for each of them
+pub record HasPolygonsOfParts (faces : FaceTable) (many : ℕ) (set : List ℕ) (polygons : List (List (List SignedArc))) : Type 0 where
+  pub parts : List (List ℕ)
+  pub are_parts : AreParts faces set parts
+  pub for_each : UseParts faces.places many parts polygons

@@ -12,7 +12,7 @@ ghost use Rattle.ring_trace.specs.Keys.{AreByPart, BeginsPart, HasKeyPart, IsKey
 ghost use Rattle.ring_trace.specs.Pairing.{stop_of};
 ghost use Rattle.ring_trace.specs.Ways.{IsSimpleRing};
 ghost use Rattle.ring_trace.specs.Turns.{MayStandBefore};
-ghost use Rattle.ring_trace.specs.Traced.{BeginsWithLeast, UseParts, UsesBoundary, times, times_along, times_traced};
+ghost use Rattle.ring_trace.specs.Traced.{BeginsWithLeast, HasPolygonsOfParts, UseParts, UsesBoundary, times, times_along, times_traced};
 
 use crate::face_set::FaceSet;
 use crate::joined_faces::{Parts, boundary_of};
@@ -36,6 +36,7 @@ pub fn trace(alloc: Global, t: &ArcTable, f: &Faces, set: &FaceSet) -> Result<Po
     ensures least_first { IfOk result (All (All BeginsWithLeast)) }
     ensures in_order { IfOk result (All (AllPairs (MayStandBefore t.now))) }
     ensures parts { (parts : List (List ℕ)) → AreParts f.now set.now parts → IfOk result (UseParts f.now.places (length t.now) parts) }
+    ensures has_parts { IfOk result (HasPolygonsOfParts f.now (length t.now) set.now) }
     ensures there { IfOk result (λ polygons. All (λ rings. All (λ ring. All (λ a. a.arc < length t.now) ring) rings) polygons) }
 {
     let faces = set.faces();

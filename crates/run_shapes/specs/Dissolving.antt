@@ -9,7 +9,7 @@ use Rattle.plane_model.specs.Arcs.{SignedArc, forward}
 use Rattle.region_ops.specs.Dissolved.{union_of}
 use Rattle.table_ops.specs.Grouping.{group_rows}
 use Rattle.table_ops.specs.declared.group.Grouped.{Grouped}
-use Rattle.table_ops.specs.declared.specifications.GroupSpec.{GroupSpec}
+use Rattle.table_terms.specs.declared.specifications.GroupSpec.{GroupSpec}
 use Rattle.run_shapes.specs.FaceSets.{sets_on, face_shapes}
 use Rattle.run_plane.specs.OnPlane.{points_in}
 use Rattle.run_plane.specs.Shapes.{shape_at}

@@ -26,7 +26,8 @@ use region_ops::dissolve_sets;
 use run_plane::{Layer, Plane, Shape, copy_text};
 use run_state::{CommandStop, RefuseWhy};
 use std::alloc::{AllocError, Global};
-use table_ops::{GroupSpec, group_rows};
+use table_ops::group_rows;
+use table_terms::GroupSpec;
 
 /// A feature for each group of rows that have the same values in the listed columns: the faces of any member, each arc
 /// that a member uses once, or all points of the members in order.

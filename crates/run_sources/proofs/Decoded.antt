@@ -7,9 +7,9 @@ use Rattle.geojson_io.specs.Sound.{LayerIsSound, ShapeIsSound}
 use Rattle.geojson_io.specs.declared.layer.Room.{Room}
 use Rattle.geojson_io.specs.declared.shape.GeoShape.TheVariants.{Nothing}
 use Rattle.cmd_words.specs.declared.job.SourceWord.{SourceWord}
-use Rattle.table_ops.specs.CsvTable.{ReadsText}
-use Rattle.table_ops.specs.declared.fault.CsvFault.{CsvFault}
-use Rattle.table_ops.specs.declared.fault.CsvFault.TheVariants as csv
+use Rattle.csv_io.specs.CsvTable.{ReadsText}
+use Rattle.csv_io.specs.declared.fault.CsvFault.{CsvFault}
+use Rattle.csv_io.specs.declared.fault.CsvFault.TheVariants as csv
 use Rattle.run_sources.specs.Decoding.{DecodesTable, table_layer, table_stop}
 
 pub table_refused : (room : Room) (source : SourceWord) (bytes : Content) (fault : CsvFault) → ReadsText source.string_fields room.features bytes (Err fault) → DecodesTable room source bytes (Err (table_stop fault))

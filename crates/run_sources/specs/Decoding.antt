@@ -17,9 +17,9 @@ use Rattle.topo_io.specs.Topologies.{read_topojson}
 use Rattle.json_read.specs.Table.{TableContent}
 use Rattle.grid_base.specs.declared.kinds.Kind.TheVariants as Kind
 use Rattle.geojson_io.specs.declared.shape.GeoShape.TheVariants.{Nothing}
-use Rattle.table_ops.specs.CsvTable.{ReadsText}
-use Rattle.table_ops.specs.declared.fault.CsvFault.{CsvFault}
-use Rattle.table_ops.specs.declared.fault.CsvFault.TheVariants as csv
+use Rattle.csv_io.specs.CsvTable.{ReadsText}
+use Rattle.csv_io.specs.declared.fault.CsvFault.{CsvFault}
+use Rattle.csv_io.specs.declared.fault.CsvFault.TheVariants as csv
 use Rattle.cmd_words.specs.declared.job.SourceWord.{SourceWord}
 use Rattle.io_core.specs.Contents.{Content}
 use Rattle.run_sources.specs.Formats.{is_csv}

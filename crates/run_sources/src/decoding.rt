@@ -12,7 +12,7 @@ use grid_base::Kind;
 use io_core::Text;
 use json_read::{Json, JsonFault, Table};
 use std::alloc::{AllocError, Global};
-use table_ops::{CsvFault, Room2, read_csv};
+use csv_io::{CsvFault, Room2, read_csv};
 use topo_io::{TopoFault, read_topojson};
 
 /// Why the bytes of a source give no layers.

@@ -4,7 +4,7 @@ use Rattle.std.specs.List.{list_all, list_any, flat_map}
 use Rattle.std.specs.Str.{bytes_eq}
 use Rattle.lists.specs.Lists.{first_or}
 use Rattle.io_core.specs.Contents.{Content}
-use Rattle.table_ops.specs.Names.{has_name}
+use Rattle.table_terms.specs.Names.{has_name}
 use Rattle.cmd_words.specs.declared.job.Target.{Target}
 use Rattle.cmd_words.specs.declared.job.Target.TheVariants as target
 use Rattle.cmd_words.specs.declared.job.Command.{Command}

@@ -1,6 +1,6 @@
 ghost use Rattle.std.specs.Prelude.{◌≡◌, ◌∷◌, IfErr, IfOk};
 ghost use Rattle.std.specs.List.{list_all, list_any};
-ghost use Rattle.table_ops.specs.Names.{has_name};
+ghost use Rattle.table_terms.specs.Names.{has_name};
 ghost use Rattle.run_state.specs.Origins.{one_layer};
 ghost use Rattle.run_state.specs.Targets.{TargetAnswers, are_layers, is_layer, is_selected, targets};
 

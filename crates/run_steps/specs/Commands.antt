@@ -5,7 +5,7 @@ use Rattle.io_core.specs.Contents.{Content}
 use Rattle.grid_base.specs.declared.kinds.Kind.TheVariants as kinds
 use Rattle.table_ops.specs.Columns.{keep_fields, rename_fields}
 use Rattle.table_ops.specs.Join.{join_tables}
-use Rattle.table_ops.specs.declared.specifications.JoinSpec.{JoinSpec}
+use Rattle.table_terms.specs.declared.specifications.JoinSpec.{JoinSpec}
 use Rattle.cmd_words.specs.declared.job.Origin.{Origin}
 use Rattle.cmd_words.specs.declared.job.Target.{Target}
 use Rattle.cmd_words.specs.declared.job.Command.{Command}

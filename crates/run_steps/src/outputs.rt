@@ -14,7 +14,7 @@ use run_shapes::{
 use run_state::{CommandStop, Ground, Held, is_selected, source_layer};
 use run_tables::{filtered, joined, merged, renamed, split, with_fields};
 use std::alloc::{AllocError, Global};
-use table_ops::JoinSpec;
+use table_terms::JoinSpec;
 
 /// All features of the target's layers in the place of the first, under the name of `name=` where it stands.
 pub(crate) fn joint_output(

@@ -4,8 +4,8 @@ use Rattle.std.proofs.lemmas.List.{length-map}
 use Rattle.json_read.specs.Table.{TableContent}
 use Rattle.table_ops.specs.Columns.{cells}
 use Rattle.table_ops.specs.Merge.{merge_tables, merged_names, merged_rows, refused_merge}
-use Rattle.table_ops.specs.Names.{Text}
-use Rattle.table_ops.specs.Refusals.{unless}
+use Rattle.table_terms.specs.Names.{Text}
+use Rattle.table_terms.specs.Refusals.{unless}
 use Rattle.cmd_words.specs.declared.job.Target.{Target}
 use Rattle.run_state.specs.Targets.{is_selected, targets}
 use Rattle.run_state.specs.declared.state.Held.{Held}

@@ -17,10 +17,8 @@ use run_state::{
     with_geometry,
 };
 use std::alloc::{AllocError, Global};
-use table_ops::{
-    JoinSpec, RenameList, TableList, filter_rows, join_tables, keep_fields, merge_tables,
-    rename_fields,
-};
+use table_ops::{TableList, filter_rows, join_tables, keep_fields, merge_tables, rename_fields};
+use table_terms::{JoinSpec, RenameList};
 
 /// The features for which the expression is true, or, with `invert`, false; with `remove_empty` those without
 /// geometry go too.

@@ -4,9 +4,8 @@ use Rattle.std.specs.List.{AllZip}
 use Rattle.plane_model.specs.Arcs.{SignedArc}
 use Rattle.plane_model.specs.Points.{Path}
 use Rattle.arc_table.specs.Around.{start_of}
-use Rattle.ring_trace.specs.Joined.{AreParts}
 use Rattle.ring_trace.specs.Pairing.{stop_of}
-use Rattle.ring_trace.specs.Traced.{BeginsWithLeast, UseParts, UsesBoundary}
+use Rattle.ring_trace.specs.Traced.{BeginsWithLeast, HasPolygonsOfParts, UsesBoundary}
 use Rattle.ring_trace.specs.Turns.{MayStandBefore}
 use Rattle.ring_trace.specs.Ways.{IsSimpleRing}
 use Rattle.topo_io.specs.ArcLayerContent.{ArcLayerContent}
@@ -28,8 +27,8 @@ pub record AreRingsOf (plane : Plane) (set : List ℕ) (polygons : List (List (L
   pub least_first : All (All BeginsWithLeast) polygons
   -- in a polygon the exterior stands first, and the holes in order of their first arcs
   pub in_order : All (AllPairs (MayStandBefore plane.arcs)) polygons
-  -- there is one polygon for each part of the set, in order of parts
-  pub parts : (parts : List (List ℕ)) → AreParts plane.faces set parts → UseParts plane.faces.places (length plane.arcs) parts polygons
+  -- the set has parts, and there is one polygon for each of them, in their order
+  pub of_parts : HasPolygonsOfParts plane.faces (length plane.arcs) set polygons
 
 pub record HasRings (plane : Plane) (set : List ℕ) (traced : ArcShape) : Type 0 where
   pub polygons : List (List (List SignedArc))

@@ -4,8 +4,8 @@ use Rattle.std.specs.List.{AllZip}
 use Rattle.io_core.specs.Contents.{Content}
 use Rattle.geojson_io.specs.LayerContent.{LayerContent}
 use Rattle.geojson_io.specs.Texts.{geojson_text}
-use Rattle.table_ops.specs.CsvText.{csv_text}
-use Rattle.table_ops.specs.Names.{has_name}
+use Rattle.csv_io.specs.CsvText.{csv_text}
+use Rattle.table_terms.specs.Names.{has_name}
 use Rattle.topo_io.specs.ArcLayerContent.{ArcLayerContent}
 use Rattle.topo_io.specs.Texts.{topojson_text}
 use Rattle.cmd_words.specs.declared.job.OutForm.{OutForm}

@@ -1,6 +1,6 @@
 ghost use Rattle.std.specs.Prelude.{◌≡◌, ◌≤◌, ◌++◌, ◌∷◌, [], All, IfErr, IfOk, None, false, length, map, not, string_bytes, true};
 ghost use Rattle.std.specs.List.{AllZip};
-ghost use Rattle.table_ops.specs.Names.{has_name};
+ghost use Rattle.table_terms.specs.Names.{has_name};
 ghost use Rattle.topo_io.specs.Arcs.{LayerIsBelow};
 ghost use Rattle.run_state.specs.Origins.{base_of, one_layer};
 ghost use Rattle.run_state.specs.Targets.{has_target, targets};
@@ -16,7 +16,7 @@ use io_core::{Bytes, NameList, Text};
 use run_plane::{Plane, copy_text};
 use run_state::{CommandStop, Ground, Held, RefuseWhy, check_target, is_selected, only_target};
 use std::alloc::{AllocError, Global};
-use table_ops::write_csv;
+use csv_io::write_csv;
 use topo_io::{ArcLayers, write_topojson};
 
 /// The text of an output: a topology of the layers of the target, or its one layer in another form.

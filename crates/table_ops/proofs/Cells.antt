@@ -3,7 +3,7 @@ use Rattle.std.proofs.Common.{◌≡◌, ◌++◌, ◌∷◌, ℕ, List, [], map
 use Rattle.std.proofs.lemmas.List.{length-map}
 use Rattle.std.proofs.lemmas.Option.{get_or_from_slice_get}
 use Rattle.json_read.specs.Table.{RowValues, AreRows}
-use Rattle.table_ops.specs.Names.{Text, value_at, place_of}
+use Rattle.table_terms.specs.Names.{Text, value_at, place_of}
 use Rattle.table_ops.specs.Rows.{picked}
 use Rattle.table_ops.specs.Columns.{cells}
 use Rattle.json_read.specs.declared.value.Value.{Value}

@@ -9,7 +9,7 @@ use Rattle.json_read.specs.Table.{RowValues}
 use Rattle.table_ops.specs.Keys.{same_values}
 use Rattle.table_ops.specs.Groups.{keys_once, groups_of, with_member}
 use Rattle.table_ops.specs.Same.{rows_decide, rows_equivalent}
-use Rattle.table_ops.proofs.Inserted.{inserted_all, insert_all-push}
+use Rattle.table_terms.proofs.Inserted.{inserted_all, insert_all-push}
 use Rattle.table_ops.specs.Rows.{picked}
 use Rattle.table_ops.proofs.Numbers.{numbers_where-push, numbers_where-none, numbers_from-below}
 

@@ -3,19 +3,13 @@ use Rattle.std.proofs.Common.{◌≡◌, ℕ, ◌+◌, ◌<◌, List, [], ◌∷
 use Rattle.std.specs.List.{flat_map}
 use Rattle.std.specs.Str.{bytes_eq}
 use Rattle.std.proofs.lemmas.List.{take_more}
-use Rattle.indexmap.specs.IndexSet.{insert_key, insert_all}
+use Rattle.indexmap.specs.IndexSet.{insert_all}
 use Rattle.json_read.specs.Table.{TableContent, AreRows}
-use Rattle.table_ops.specs.Names.{Text}
+use Rattle.table_terms.specs.Names.{Text}
 use Rattle.table_ops.specs.Columns.{cells}
 use Rattle.table_ops.specs.Merge.{all_names, merged_rows}
 use Rattle.table_ops.proofs.Cells.{rows_long-append, cells_long}
-
-pub insert_all-append : (ks xs ys : List Text) → insert_all bytes_eq ks (xs ++ ys) ≡ insert_all bytes_eq (insert_all bytes_eq ks xs) ys
-insert_all-append ks [] ys = refl
-insert_all-append ks (x ∷ xs) ys = insert_all-append (insert_key bytes_eq ks x) xs ys
-
-pub insert_all_more : (ks xs : List Text) (i : ℕ) (d : Text) → i < length xs → insert_all bytes_eq ks (take (i + 1) xs) ≡ insert_key bytes_eq (insert_all bytes_eq ks (take i xs)) (get_or xs i d)
-insert_all_more ks xs i d less = ap (insert_all bytes_eq ks) (take_more xs i d less) ∙ insert_all-append ks (take i xs) (get_or xs i d ∷ [])
+use Rattle.table_terms.proofs.Inserted.{insert_all-append}
 
 append_nil : {A : Type 0} (zs : List A) → zs ++ [] ≡ zs
 append_nil [] = refl

@@ -8,10 +8,10 @@ use Rattle.std.specs.Cmp.Lexicographic.{pointwise_decides, nat_list_eq_equiv}
 use Rattle.std.proofs.lemmas.List.Recursion.{is_count_by}
 use Rattle.indexmap.specs.IndexSet.{insert_key}
 use Rattle.lists.specs.Lists.{numbers_from, numbers_where}
-use Rattle.table_ops.specs.Names.{Text}
+use Rattle.table_terms.specs.Names.{Text}
 use Rattle.table_ops.specs.Columns.{renamed, is_twice}
-use Rattle.table_ops.specs.declared.renames.Rename.{Rename}
-use Rattle.table_ops.proofs.Inserted.{inserted}
+use Rattle.table_terms.specs.declared.renames.Rename.{Rename}
+use Rattle.table_terms.proofs.Inserted.{inserted}
 use Rattle.table_ops.proofs.Numbers.{numbers_where_more}
 
 texts_decide : (s t : Text) → Decides (bytes_eq s t) (s ≡ t)

@@ -4,7 +4,7 @@ use Rattle.std.specs.Prelude.{pos}
 use Rattle.std.proofs.lemmas.List.{length-map}
 use Rattle.json_read.specs.Table.{RowValues, AreRows}
 use Rattle.json_read.specs.declared.value.Value.TheVariants as is
-use Rattle.table_ops.specs.Names.{value_at}
+use Rattle.table_terms.specs.Names.{value_at}
 use Rattle.table_ops.specs.Rows.{first_of, picked}
 use Rattle.table_ops.specs.Grouping.{column_sum, sum_or_zero, sums, group_row}
 

@@ -4,8 +4,8 @@ use Rattle.std.specs.Prelude.{Result, Ok, Err}
 use Rattle.expr_lang.specs.Meaning.{evaluated}
 use Rattle.expr_lang.specs.Tree.{Tree}
 use Rattle.json_read.specs.Table.{RowValues}
-use Rattle.table_ops.specs.Names.{Text}
-use Rattle.table_ops.specs.Refusals.{on_ok}
+use Rattle.table_terms.specs.Names.{Text}
+use Rattle.table_terms.specs.Refusals.{on_ok}
 use Rattle.table_ops.specs.Filtering.{says, tests_from}
 use Rattle.table_ops.specs.declared.fault.TableWhy.{TableWhy}
 

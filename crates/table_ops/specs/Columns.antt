@@ -3,12 +3,13 @@ use Rattle.std.specs.Prelude.{Bool, nat_lt, List, [], map, find, count_by, Resul
 use Rattle.std.specs.Str.{bytes_eq}
 use Rattle.std.specs.List.{last_or}
 use Rattle.lists.specs.Lists.{numbers_where}
-use Rattle.table_ops.specs.Names.{Text, cell}
+use Rattle.table_terms.specs.Names.{Text, cell}
 use Rattle.json_read.specs.Table.{TableContent, RowValues}
-use Rattle.table_ops.specs.Refusals.{refused_item, unless, first_refusal}
+use Rattle.table_terms.specs.Refusals.{unless, first_refusal}
+use Rattle.table_ops.specs.Refusals.{refused_item}
 use Rattle.table_ops.specs.declared.fault.TableWhy.{TableWhy}
 use Rattle.table_ops.specs.declared.fault.TableWhy.TheVariants.{FieldTwice}
-use Rattle.table_ops.specs.declared.renames.Rename.{Rename}
+use Rattle.table_terms.specs.declared.renames.Rename.{Rename}
 
 -- the values of a row in these columns
 abbrev pub cells : List Text → List Text → RowValues → RowValues

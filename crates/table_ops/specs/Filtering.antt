@@ -7,8 +7,8 @@ use Rattle.expr_lang.specs.Tree.{Tree}
 use Rattle.expr_lang.specs.declared.fault.EvalFault.TheVariants as fault
 use Rattle.json_read.specs.Table.{TableContent, RowValues}
 use Rattle.json_read.specs.declared.value.Value.TheVariants as cell
-use Rattle.table_ops.specs.Names.{Text}
-use Rattle.table_ops.specs.Refusals.{on_ok}
+use Rattle.table_terms.specs.Names.{Text}
+use Rattle.table_terms.specs.Refusals.{on_ok}
 use Rattle.table_ops.specs.declared.fault.EvalWhy.TheVariants as why
 use Rattle.table_ops.specs.declared.fault.TableWhy.{TableWhy}
 use Rattle.table_ops.specs.declared.fault.TableWhy.TheVariants.{Eval, NotBoolean}

@@ -5,12 +5,13 @@ use Rattle.json_read.specs.Decimal.{checked}
 use Rattle.json_read.specs.Table.{TableContent, RowValues}
 use Rattle.json_read.specs.declared.value.Value.{Value}
 use Rattle.json_read.specs.declared.value.Value.TheVariants as is
-use Rattle.table_ops.specs.Names.{Text, value_at, place_of}
+use Rattle.table_terms.specs.Names.{Text, value_at, place_of}
 use Rattle.table_ops.specs.Rows.{row_at, first_of, picked}
 use Rattle.table_ops.specs.Columns.{cells}
 use Rattle.table_ops.specs.Groups.{groups_of}
-use Rattle.table_ops.specs.Refusals.{refused_item, unless, first_refusal, on_ok}
-use Rattle.table_ops.specs.declared.specifications.GroupSpec.{GroupSpec}
+use Rattle.table_terms.specs.Refusals.{unless, first_refusal, on_ok}
+use Rattle.table_ops.specs.Refusals.{refused_item}
+use Rattle.table_terms.specs.declared.specifications.GroupSpec.{GroupSpec}
 use Rattle.table_ops.specs.declared.group.Grouped.{Grouped}
 use Rattle.table_ops.specs.declared.fault.TableWhy.{TableWhy}
 use Rattle.table_ops.specs.declared.fault.TableWhy.TheVariants.{NotNumber, SumRange}

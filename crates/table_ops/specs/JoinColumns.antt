@@ -3,9 +3,9 @@ use Rattle.std.specs.Prelude.{ℕ, List, ◌++◌, map, Option, Some, None, opti
 use Rattle.json_read.specs.Table.{RowValues}
 use Rattle.json_read.specs.declared.value.Value.{Value}
 use Rattle.json_read.specs.declared.value.Value.TheVariants as is
-use Rattle.table_ops.specs.Names.{Text, value_at, place_of}
+use Rattle.table_terms.specs.Names.{Text, value_at, place_of}
 use Rattle.table_ops.specs.Join.{forced_field, new_fields}
-use Rattle.table_ops.specs.declared.specifications.JoinSpec.{JoinSpec}
+use Rattle.table_terms.specs.declared.specifications.JoinSpec.{JoinSpec}
 use Rattle.table_ops.specs.declared.join_columns.Column.{Column}
 use Rattle.table_ops.specs.declared.join_columns.Column.TheVariants.{Kept, Forced, Added}
 

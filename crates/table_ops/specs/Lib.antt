@@ -1,4 +1,3 @@
-pub mod Names
 pub mod Refusals
 pub mod Rows
 pub mod Columns
@@ -11,7 +10,3 @@ pub mod Splitting
 pub mod Join
 pub mod JoinColumns
 pub mod Grouping
-pub mod CsvCells
-pub mod CsvTable
-pub mod CsvText
-pub mod CsvUtf8

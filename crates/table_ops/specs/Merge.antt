@@ -4,9 +4,9 @@ use Rattle.std.specs.List.{list_all, flat_map}
 use Rattle.std.specs.Str.{bytes_eq}
 use Rattle.indexmap.specs.IndexSet.{insert_all}
 use Rattle.json_read.specs.Table.{TableContent, RowValues}
-use Rattle.table_ops.specs.Names.{Text, has_name}
+use Rattle.table_terms.specs.Names.{Text, has_name}
 use Rattle.table_ops.specs.Columns.{cells}
-use Rattle.table_ops.specs.Refusals.{unless}
+use Rattle.table_terms.specs.Refusals.{unless}
 use Rattle.table_ops.specs.declared.fault.TableWhy.{TableWhy}
 use Rattle.table_ops.specs.declared.fault.TableWhy.TheVariants.{FieldsDiffer}
 

@@ -1,6 +1,6 @@
 -- Why a table call refuses, and what comes first.
 use Rattle.std.specs.Prelude.{◌≡◌, ℕ, ◌+◌, not, List, [], ◌∷◌, ◌++◌, Option, Some, None, Result, Ok, Err, if◌then◌else◌}
-use Rattle.table_ops.specs.Names.{Text, has_name}
+use Rattle.table_terms.specs.Names.{Text, has_name}
 use Rattle.table_ops.specs.declared.fault.TableWhy.{TableWhy}
 use Rattle.table_ops.specs.declared.fault.TableWhy.TheVariants.{NoField, FieldTwice}
 use Rattle.table_ops.specs.declared.fault.TableFault.{TableFault}
@@ -13,21 +13,6 @@ refused_item names earlier n (i ∷ rest) =
     if not (has_name names i) then Some (NoField n)
     else (if has_name earlier i then Some (FieldTwice n)
     else refused_item names (earlier ++ i ∷ []) (n + 1) rest)
-
--- a refusal goes before the answer
-abbrev pub unless : {T E : Type 0} → Option E → Result T E → Result T E
-unless None r = r
-unless (Some why) r = Err why
-
--- the first of two refusals
-abbrev pub first_refusal : {E : Type 0} → Option E → Option E → Option E
-first_refusal None e = e
-first_refusal (Some e) _ = Some e
-
--- go on with an answer
-abbrev pub on_ok : {T U E : Type 0} → Result T E → (T → Result U E) → Result U E
-on_ok (Ok v) go = go v
-on_ok (Err why) go = Err why
 
 -- a call gives just this answer or refusal, where memory is not wanting
 abbrev pub Answers : {T : Type 0} → Result T TableFault → Result T TableWhy → Type 0

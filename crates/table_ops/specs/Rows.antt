@@ -1,7 +1,7 @@
 -- Rows taken from a table.
 use Rattle.std.specs.Prelude.{ℕ, List, [], ◌∷◌, map, slice_index_or}
 use Rattle.json_read.specs.Table.{TableContent, RowValues}
-use Rattle.table_ops.specs.Names.{value_at}
+use Rattle.table_terms.specs.Names.{value_at}
 
 abbrev pub row_at : List RowValues → ℕ → RowValues
 row_at rows n = slice_index_or rows n []

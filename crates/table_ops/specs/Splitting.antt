@@ -1,10 +1,11 @@
 -- A table in pieces: a piece for each value of a field, or for each row.
 use Rattle.std.specs.Prelude.{ℕ, ◌+◌, List, [], ◌∷◌, map, Result, Ok, Option, Some, None}
 use Rattle.json_read.specs.Table.{TableContent, RowValues}
-use Rattle.table_ops.specs.Names.{Text, value_at, place_of}
+use Rattle.table_terms.specs.Names.{Text, value_at, place_of}
 use Rattle.table_ops.specs.Columns.{cells}
 use Rattle.table_ops.specs.Groups.{groups_of}
-use Rattle.table_ops.specs.Refusals.{refused_item, unless}
+use Rattle.table_terms.specs.Refusals.{unless}
+use Rattle.table_ops.specs.Refusals.{refused_item}
 use Rattle.table_ops.specs.Rows.{first_of}
 use Rattle.table_ops.specs.declared.split.SplitItem.{SplitItem}
 use Rattle.table_ops.specs.declared.fault.TableWhy.{TableWhy}

@@ -7,11 +7,11 @@ ghost use Rattle.json_read.specs.Table.{AreDistinctNames};
 
 use crate::fault::TableFault;
 use crate::items::{check_items, places_of};
-use crate::names::NameSet;
 use crate::rows::{copy_names, pick_row};
 use io_core::NameList;
 use json_read::{RowList, Table};
 use std::alloc::{AllocError, Global};
+use table_terms::NameSet;
 
 /// The listed columns, in the listed order.
 ///

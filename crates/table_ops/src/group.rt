@@ -4,20 +4,20 @@ ghost use Rattle.std.specs.Str.{bytes_eq};
 ghost use Rattle.table_ops.specs.Columns.{cells};
 ghost use Rattle.table_ops.specs.Grouping.{earlier, group_row, group_rows, table_of_groups, groups_by, field_places, listed_fields, refusals, refused_sums};
 ghost use Rattle.table_ops.specs.Groups.{groups_of};
-ghost use Rattle.table_ops.specs.Refusals.{Answers, Refuses, refused_item, unless};
+ghost use Rattle.table_terms.specs.Refusals.{unless};
+ghost use Rattle.table_ops.specs.Refusals.{Answers, Refuses, refused_item};
 ghost use Rattle.table_ops.specs.Rows.{first_of, picked};
 
 use crate::fault::{TableFault, TableWhy};
 use crate::group_sums::append_sums;
 use crate::groups::{group_list, groups_at};
 use crate::items::{check_items, places_of};
-use crate::names::NameSet;
 use crate::rows::{append_picked, first_row};
-use crate::specifications::GroupSpec;
 use grid_base::{GroupList, IdList};
 use io_core::{NameList, Text};
 use json_read::{Row, RowList, Table};
 use std::alloc::{AllocError, Global};
+use table_terms::{GroupSpec, NameSet};
 
 /// Rows in groups, and a table with a row for each group.
 #[derive(Drop)]

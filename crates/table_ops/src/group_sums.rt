@@ -1,6 +1,6 @@
 ghost use Rattle.std.specs.Prelude.{◌≡◌, ◌<◌, ◌++◌, pos, All, OnOk, fold, length};
 ghost use Rattle.table_ops.specs.Grouping.{column_sum, earlier, lower, refusal_of, refusals, refused_row, sum_after, sum_or_zero, sum_with, sums};
-ghost use Rattle.table_ops.specs.Names.{value_at};
+ghost use Rattle.table_terms.specs.Names.{value_at};
 
 use crate::fault::TableWhy;
 use crate::rows::row_of;

@@ -1,13 +1,13 @@
 ghost use Rattle.std.specs.Prelude.{◌≡◌, ◌++◌, ◌∷◌, [], ◌+◌, IfOk, OnOk, length, map};
 ghost use Rattle.std.specs.List.{IsDistinct};
 ghost use Rattle.std.specs.Str.{bytes_eq};
-ghost use Rattle.table_ops.specs.Names.{place_of};
+ghost use Rattle.table_terms.specs.Names.{place_of};
 ghost use Rattle.table_ops.specs.Refusals.{refused_item, Refuses};
 
 use crate::fault::{TableFault, TableWhy};
-use crate::names::NameSet;
 use io_core::Text;
 use std::alloc::{AllocError, Global};
+use table_terms::NameSet;
 
 /// Tests the items of a list one by one: each is a name, and none stands among those `seen`.
 ///

@@ -8,7 +8,7 @@ ghost use Rattle.lists.specs.Lists.{numbers_where};
 ghost use Rattle.table_ops.specs.Join.{candidates, join_tables, joined_table, refused_join, refused_key};
 ghost use Rattle.table_ops.specs.JoinColumns.{column_value, row_found};
 ghost use Rattle.table_ops.specs.Keys.{same_values};
-ghost use Rattle.table_ops.specs.Names.{value_at};
+ghost use Rattle.table_terms.specs.Names.{value_at};
 ghost use Rattle.table_ops.specs.Refusals.{Answers, Refuses, refused_item};
 
 use crate::fault::{TableFault, TableWhy};
@@ -17,15 +17,14 @@ use crate::items::check_items;
 use crate::join_columns::{Column, columns_of};
 use crate::join_matches::{first_rows, match_of};
 use crate::key::Key;
-use crate::names::NameSet;
 use crate::rows::copy_at;
-use crate::specifications::JoinSpec;
 use expr_lang::Expr;
 use grid_base::IdList;
 use indexmap::IndexMap;
 use io_core::NameList;
 use json_read::{Row, RowList, Table, Value};
 use std::alloc::{AllocError, Global};
+use table_terms::{JoinSpec, NameSet};
 
 /// Fields of the source go to the rows of the target: to each from the first source row whose key is
 /// the same, where null is the same as nothing.

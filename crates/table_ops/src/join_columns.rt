@@ -3,13 +3,12 @@ ghost use Rattle.std.specs.List.{IsDistinct};
 ghost use Rattle.std.specs.Str.{bytes_eq};
 ghost use Rattle.table_ops.specs.Join.{copied_fields, copied_name, forced_field, new_fields};
 ghost use Rattle.table_ops.specs.JoinColumns.{added_column, columns_of, kept_column};
-ghost use Rattle.table_ops.specs.Names.{Text, has_name, place_of};
+ghost use Rattle.table_terms.specs.Names.{Text, has_name, place_of};
 
-use crate::names::NameSet;
 use crate::rows::copy_names;
-use crate::specifications::JoinSpec;
 use io_core::{NameList, Text};
 use std::alloc::{AllocError, Global};
+use table_terms::{JoinSpec, NameSet};
 
 /// Where a column of a joined table comes from; places are counted from 0.
 #[derive(Clone, Copy)]

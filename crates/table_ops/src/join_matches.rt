@@ -6,7 +6,7 @@ ghost use Rattle.json_read.specs.declared.value.Value.{Value};
 ghost use Rattle.table_ops.specs.Join.{is_null, matches};
 ghost use Rattle.table_ops.specs.JoinColumns.{row_found};
 ghost use Rattle.table_ops.specs.Keys.{same_values};
-ghost use Rattle.table_ops.specs.Names.{value_at};
+ghost use Rattle.table_terms.specs.Names.{value_at};
 ghost use Rattle.table_ops.specs.Rows.{row_at};
 
 use crate::key::Key;

@@ -5,18 +5,18 @@ ghost use Rattle.std.specs.Str.{bytes_eq};
 ghost use Rattle.indexmap.specs.IndexSet.{insert_all};
 ghost use Rattle.table_ops.specs.Columns.{cells};
 ghost use Rattle.table_ops.specs.Merge.{all_names, differing, merge_tables, merged_rows, refused_merge};
-ghost use Rattle.table_ops.specs.Names.{has_name};
+ghost use Rattle.table_terms.specs.Names.{has_name};
 ghost use Rattle.table_ops.specs.Refusals.{Answers, Refuses};
 ghost use Rattle.table_ops.specs.Rows.{picked};
 
 use crate::fault::{TableFault, TableWhy};
 use crate::items::places_of;
-use crate::names::NameSet;
 use crate::rows::pick_row;
 use io_core::{NameList, Text};
 use json_read::{RowList, Table};
 use std::alloc::{AllocError, Global};
 use std::marker::Model;
+use table_terms::NameSet;
 
 /// A list of tables; counted from 0.
 #[derive(Drop)]
@@ -165,7 +165,7 @@ fn merged_names(alloc: Global, tables: &[Table]) -> Result<NameList, AllocError>
     Ok(names)
 }
 
-#[tactic(auto, using(crate::proofs::Merging::insert_all_more))]
+#[tactic(auto, using(table_terms::proofs::Inserted::insert_all_more))]
 fn add_names(
     alloc: Global,
     seen: &mut NameSet,

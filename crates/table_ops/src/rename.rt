@@ -4,17 +4,16 @@ ghost use Rattle.std.specs.Str.{bytes_eq};
 ghost use Rattle.indexmap.specs.IndexSet.{insert_key};
 ghost use Rattle.lists.specs.Lists.{numbers_where};
 ghost use Rattle.table_ops.specs.Columns.{fields_of_pairs, is_twice, refused_label, rename_fields, renamed};
-ghost use Rattle.table_ops.specs.Names.{has_name};
+ghost use Rattle.table_terms.specs.Names.{has_name};
 ghost use Rattle.table_ops.specs.Refusals.{Answers, Refuses};
 
 use crate::fault::{TableFault, TableWhy};
 use crate::items::check_items;
-use crate::names::NameSet;
-use crate::renames::{Rename, RenameList};
 use crate::rows::copy_rows;
 use io_core::{NameList, Text};
 use json_read::Table;
 use std::alloc::{AllocError, Global};
+use table_terms::{NameSet, Rename, RenameList};
 
 /// All pairs at once: each old name gets its new one, and columns keep their places.
 ///

@@ -1,7 +1,7 @@
 ghost use Rattle.std.specs.Prelude.{◌≡◌, ◌++◌, ◌<◌, [], IfOk, OnOk, slice_get, Some, length, map, All, unwrap_or};
 ghost use Rattle.std.specs.Option.{option_copied};
 ghost use Rattle.table_ops.specs.Rows.{first_of, picked, row_at, take_rows};
-ghost use Rattle.table_ops.specs.Names.{value_at};
+ghost use Rattle.table_terms.specs.Names.{value_at};
 
 use grid_base::IdList;
 use io_core::{NameList, Text};

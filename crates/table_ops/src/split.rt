@@ -1,6 +1,6 @@
 ghost use Rattle.std.specs.Prelude.{◌≡◌, ◌<◌, ◌++◌, ◌∷◌, [], All, IfOk, OnOk, OnErr, Some, length, map, slice_get};
 ghost use Rattle.std.specs.Option.{option_copied};
-ghost use Rattle.table_ops.specs.Names.{value_at};
+ghost use Rattle.table_terms.specs.Names.{value_at};
 ghost use Rattle.table_ops.specs.Refusals.{Answers};
 ghost use Rattle.table_ops.specs.Rows.{first_of};
 ghost use Rattle.table_ops.specs.Splitting.{piece, single_rows, split_rows};
@@ -8,12 +8,12 @@ ghost use Rattle.table_ops.specs.Splitting.{piece, single_rows, split_rows};
 use crate::fault::TableFault;
 use crate::groups::groups_at;
 use crate::items::check_item;
-use crate::names::NameSet;
 use crate::rows::{copy_at, first_row};
 use grid_base::IdList;
 use json_read::{RowList, Table, Value};
 use std::alloc::{AllocError, Global};
 use std::marker::Model;
+use table_terms::NameSet;
 
 /// The rows of one value of a field, or without a field one row.
 #[derive(Drop)]

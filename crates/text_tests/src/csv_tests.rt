@@ -2,7 +2,7 @@
 use io_core::{NameList, Text};
 use std::alloc::Global;
 use std::test::Fail;
-use table_ops::{CsvFault, Room2, read_csv, write_csv};
+use csv_io::{CsvFault, Room2, read_csv, write_csv};
 
 fn text_again(alloc: Global, text: &[u8], strings: &NameList) -> Result<Vec<u8>, Fail> {
     let table = read_csv(alloc, text, strings, Room2 { rows: 9 })?;

@@ -5,11 +5,9 @@ use io_core::{NameList, Text};
 use json_read::Table;
 use std::alloc::Global;
 use std::test::Fail;
-use table_ops::{
-    GroupSpec, Grouped, JoinSpec, Rename, RenameList, Room2, SplitItem, TableFault, TableList,
-    TableWhy, filter_rows, group_rows, join_tables, keep_fields, merge_tables, read_csv,
-    rename_fields, split_rows, take_rows, write_csv,
-};
+use csv_io::{Room2, read_csv, write_csv};
+use table_ops::{Grouped, SplitItem, TableFault, TableList, TableWhy, filter_rows, group_rows, join_tables, keep_fields, merge_tables, rename_fields, split_rows, take_rows};
+use table_terms::{GroupSpec, JoinSpec, Rename, RenameList};
 
 /// A table whose column `code` has texts.
 fn table_of(alloc: Global, text: &[u8]) -> Result<Table, Fail> {

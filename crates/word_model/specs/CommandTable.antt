@@ -3,10 +3,10 @@ use Rattle.std.specs.Prelude.{ℕ, Bool, true, false, ◌||◌, ◌&&◌, List, 
 use Rattle.std.specs.List.{list_any}
 use Rattle.std.specs.Str.{bytes_eq}
 use Rattle.grid_base.specs.declared.kinds.OverlapRule.TheVariants.{MaxArea}
-use Rattle.table_ops.specs.Names.{Text}
-use Rattle.table_ops.specs.declared.renames.Rename.{Rename}
-use Rattle.table_ops.specs.declared.specifications.GroupSpec.{GroupSpec}
-use Rattle.table_ops.specs.declared.specifications.JoinSpec.{JoinSpec}
+use Rattle.table_terms.specs.Names.{Text}
+use Rattle.table_terms.specs.declared.renames.Rename.{Rename}
+use Rattle.table_terms.specs.declared.specifications.GroupSpec.{GroupSpec}
+use Rattle.table_terms.specs.declared.specifications.JoinSpec.{JoinSpec}
 use Rattle.cmd_words.specs.Texts.{form_by_ending, is_standard, pieces}
 use Rattle.cmd_words.specs.Values.{form_named, renames_of, rule_of}
 use Rattle.cmd_words.specs.declared.job.Action.{Action}

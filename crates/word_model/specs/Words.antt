@@ -4,8 +4,8 @@ use Rattle.std.specs.List.{enumerate_from, flat_map, list_any}
 use Rattle.std.specs.Str.{bytes_eq, all_ascii_digits}
 use Rattle.std.specs.Str.Parse.{digits_value}
 use Rattle.grid_base.specs.Grid.{Corners}
-use Rattle.table_ops.specs.Names.{Text, has_name}
-use Rattle.table_ops.specs.Refusals.{on_ok, first_refusal}
+use Rattle.table_terms.specs.Names.{Text, has_name}
+use Rattle.table_terms.specs.Refusals.{on_ok, first_refusal}
 use Rattle.cmd_words.specs.Areas.{area_of, places_of}
 use Rattle.cmd_words.specs.Chains.{SoFar}
 use Rattle.cmd_words.specs.Expressions.{Refusals}

@@ -1,4 +1,4 @@
-use Rattle.std.proofs.Common.{rules, ◌≡◌, ◌∙◌, sym, ap, subst, ℕ, ◌<◌, List, length, get_or, map, All, IfOk}
+use Rattle.std.proofs.Common.{rules, ◌≡◌, ◌∙◌, sym, ap, subst, arith, ℕ, ◌<◌, List, length, get_or, map, All, IfOk}
 use Rattle.std.specs.List.{AllPairs, sum_by}
 use Rattle.std.specs.List.Sorted.{IsPermutation, IsStrictlyIncreasing}
 use Rattle.std.proofs.lemmas.Result.{IfOk-weaker}
@@ -11,12 +11,13 @@ use Rattle.ring_trace.specs.Joined.{AreLeastNumbers, AreParts}
 use Rattle.ring_trace.specs.Keys.{AreByPart, IsHoleBy, IsLeastFirst, along_key}
 use Rattle.ring_trace.specs.Pairing.{AreBalanced, AreByStart, AreEdgesOf, stop_of}
 use Rattle.ring_trace.specs.Rings.{HasEachOnce}
-use Rattle.ring_trace.specs.Traced.{BeginsWithLeast, UseParts, UsesBoundary, times_along, times_traced, is_of_boundary, once_if}
+use Rattle.ring_trace.specs.Traced.{BeginsWithLeast, HasPolygonsOfParts, UseParts, UsesBoundary, times_along, times_traced, is_of_boundary, once_if}
 use Rattle.ring_trace.specs.Turns.{MayStandBefore}
 use Rattle.ring_trace.specs.Ways.{IsSimpleRing, AreRingsByCorners}
 use Rattle.ring_trace.proofs.BoundaryLemmas.{sides_are}
 use Rattle.ring_trace.proofs.OrderLemmas.{polygons_in_order}
 use Rattle.ring_trace.proofs.PolygonLemmas.{keyed_least, keyed_part, parts_used, rings_all}
+use Rattle.ring_trace.proofs.SomeParts.{some_parts}
 use Rattle.ring_trace.proofs.TracedLemmas.{traced_once, all_ok}
 use Rattle.ring_trace.proofs.TurnLemmas.{made_starts, keyed_ring}
 use Rattle.ring_trace.proofs.tracing.trace.Goals as goal
@@ -147,3 +148,20 @@ returns-clause-parts c = λ parts are_parts.
     (λ k d l. keyed_part arcs edges rings (get_or keys k d) starts simple (c.in_ok-keys.ensures.there k d l) (c.in_ok-keys.ensures.spans k d l) (first k d l))
     c.in_ok-keys.ensures.once ps g parts (subst (λ (xs : List ℕ). AreParts c.args.f.now xs parts) (sym c.faces-faces.ensures.all) are_parts))
     grouped
+
+pub returns-clause-has_parts : goal.returns-clause-has_parts
+returns-clause-has_parts c =
+    let arcs = c.args.t.now in
+    let f = c.args.f.now in
+    let faces = c.faces-faces.result.now in
+    let sides = c.in_ok-sides.sides.items in
+    let made = c.in_ok-parts.ensures in
+    let classes = c.in_ok-parts.parts.joining in
+    let numbers = c.in_ok-parts.parts.numbers.items in
+    let up : IsStrictlyIncreasing faces = subst IsStrictlyIncreasing (sym c.faces-faces.ensures.all) c.faces-faces.ensures.ascending in
+    let lowest : AreLeastNumbers classes sides numbers = subst (λ (ss : List Side). AreLeastNumbers classes ss numbers) c.deref.ensures.value made.least in
+    let some = some_parts f faces classes numbers sides up (omega arith) made.each made.numbers made.classes (made.joined arcs c.requires.built) lowest (sides_are arcs f faces sides c.requires.built (c.in_ok-sides.ensures.exact arcs c.requires.built)) in
+    let are_parts : AreParts f c.args.set.now some.0 = subst (λ (xs : List ℕ). AreParts f xs some.0) c.faces-faces.ensures.all some.1 in
+    IfOk-weaker c.polygons_of.result (UseParts f.places (length arcs) some.0) (HasPolygonsOfParts f (length arcs) c.args.set.now)
+    (λ ps used. record { parts = some.0; are_parts = are_parts; for_each = used })
+    (returns-clause-parts c some.0 are_parts)

@@ -1,5 +1,5 @@
 use Rattle.std.proofs.Common.{◌≡◌, drop}
-use Rattle.table_ops.specs.Names.{has_name}
+use Rattle.table_terms.specs.Names.{has_name}
 use Rattle.run_state.proofs.targets.is_among.Given as goal
 
 abbrev pub invariant-loop-listed : goal.invariant-loop-listed

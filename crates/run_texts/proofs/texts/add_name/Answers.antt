@@ -1,7 +1,7 @@
 use Rattle.std.proofs.Common.{◌≡◌, ◌++◌, ◌∷◌, [], Bool, true, false, not, cond, List, ℕ, map, refl, sym, ap, ◌∙◌, string_bytes}
 use Rattle.std.specs.Str.{bytes_eq}
-use Rattle.table_ops.proofs.Mapped.{list_any-map, insert_key-map}
-use Rattle.table_ops.specs.Names.{has_name}
+use Rattle.table_terms.proofs.Mapped.{list_any-map, insert_key-map}
+use Rattle.table_terms.specs.Names.{has_name}
 use Rattle.run_texts.proofs.texts.add_name.Goals as goal
 
 untrue : (b : Bool) → not b ≡ true → b ≡ false

@@ -1,6 +1,6 @@
 use Rattle.std.proofs.Common.{◌≡◌, ◌++◌, ◌∷◌, [], Bool, List, ap, arith, false, map, not, refl, string_bytes, sym, take, true, ◌∙◌, ℕ}
 use Rattle.std.proofs.lemmas.List.{take_more}
-use Rattle.table_ops.specs.Names.{has_name}
+use Rattle.table_terms.specs.Names.{has_name}
 use Rattle.run_texts.proofs.LayerNames.{name_differs}
 use Rattle.run_texts.proofs.texts.has_repeat.Goals as goal
 

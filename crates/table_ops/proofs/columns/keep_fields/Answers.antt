@@ -3,9 +3,10 @@ use Rattle.std.specs.Prelude.{Option, None, Ok}
 use Rattle.std.proofs.lemmas.List.{length-map}
 use Rattle.json_read.specs.Table.{AreRows}
 use Rattle.table_ops.specs.Rows.{picked}
-use Rattle.table_ops.specs.Names.{place_of}
+use Rattle.table_terms.specs.Names.{place_of}
 use Rattle.table_ops.specs.Columns.{cells, kept_columns}
-use Rattle.table_ops.specs.Refusals.{refused_item, unless}
+use Rattle.table_terms.specs.Refusals.{unless}
+use Rattle.table_ops.specs.Refusals.{refused_item}
 use Rattle.table_ops.proofs.Cells.{picked_cells, picked_long}
 use Rattle.table_ops.proofs.columns.keep_fields.Goals as goal
 

@@ -2,7 +2,7 @@ use Rattle.std.proofs.Common.{◌≡◌, ◌<◌, All, List, map, length, subst,
 use Rattle.json_read.specs.Table.{RowValues}
 use Rattle.table_ops.specs.Grouping.{field_places}
 use Rattle.table_ops.specs.Groups.{groups_of}
-use Rattle.table_ops.specs.Names.{place_of}
+use Rattle.table_terms.specs.Names.{place_of}
 use Rattle.table_ops.specs.Rows.{picked}
 use Rattle.table_ops.proofs.Cells.{picked_cells}
 use Rattle.table_ops.proofs.group.members_of.Goals as goal

@@ -2,7 +2,7 @@ use Rattle.std.proofs.Common.{◌≡◌, map, ◌∙◌}
 use Rattle.std.specs.Prelude.{fold}
 use Rattle.std.specs.List.{flat_map}
 use Rattle.table_ops.specs.Grouping.{earlier, field_places, group_row, refusals}
-use Rattle.table_ops.specs.Names.{place_of}
+use Rattle.table_terms.specs.Names.{place_of}
 use Rattle.table_ops.proofs.group.rows_of_groups.Goals as goal
 
 pub returns-clause-rows : goal.returns-clause-rows

@@ -3,8 +3,8 @@ use Rattle.std.specs.Prelude.{Option, None, Ok}
 use Rattle.std.proofs.lemmas.List.{length-map}
 use Rattle.json_read.specs.Table.{AreRows}
 use Rattle.table_ops.specs.Grouping.{field_places, group_row, groups_by, refused_sums, table_of_groups}
-use Rattle.table_ops.specs.Names.{place_of}
-use Rattle.table_ops.specs.Refusals.{unless}
+use Rattle.table_terms.specs.Names.{place_of}
+use Rattle.table_terms.specs.Refusals.{unless}
 use Rattle.table_ops.proofs.Summing.{rows_long}
 use Rattle.table_ops.proofs.group.table_of_groups.Goals as goal
 

@@ -1,5 +1,5 @@
 use Rattle.std.proofs.Common.{◌≡◌, take, map}
-use Rattle.table_ops.specs.Names.{place_of}
+use Rattle.table_terms.specs.Names.{place_of}
 use Rattle.table_ops.proofs.items.places_of.Given as goal
 
 abbrev pub invariant-loop-field : goal.invariant-loop-field

@@ -1,8 +1,8 @@
 use Rattle.std.proofs.Common.{[], Option, List, subst, sym, unwrap_or}
 use Rattle.std.specs.List.{IsDistinct}
 use Rattle.std.specs.Str.{bytes_eq}
-use Rattle.table_ops.specs.Names.{Text}
-use Rattle.table_ops.proofs.Distinct.{IsDistinct-none}
+use Rattle.table_terms.specs.Names.{Text}
+use Rattle.table_terms.proofs.Distinct.{IsDistinct-none}
 use Rattle.table_ops.proofs.join.check_fields.Goals as goal
 
 pub returns-in-None-clause-distinct : goal.returns-in-None-clause-distinct

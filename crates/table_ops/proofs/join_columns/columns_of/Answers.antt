@@ -2,7 +2,7 @@ use Rattle.std.proofs.Common.{◌≡◌, ◌++◌, List, filter, map, not, ap, s
 use Rattle.std.specs.List.{IsDistinct}
 use Rattle.std.specs.Str.{bytes_eq}
 use Rattle.table_ops.specs.Join.{copied_name, new_fields}
-use Rattle.table_ops.specs.Names.{Text, has_name}
+use Rattle.table_terms.specs.Names.{Text, has_name}
 use Rattle.table_ops.proofs.Joining.{fields_differ, joined_names_differ}
 use Rattle.table_ops.proofs.join_columns.columns_of.Goals as goal
 

@@ -1,6 +1,6 @@
 use Rattle.std.proofs.Common.{◌≡◌, filter, not, take}
 use Rattle.table_ops.specs.Join.{copied_name}
-use Rattle.table_ops.specs.Names.{Text, has_name}
+use Rattle.table_terms.specs.Names.{Text, has_name}
 use Rattle.table_ops.proofs.join_columns.new_fields.Given as goal
 
 abbrev pub invariant-loop-field : goal.invariant-loop-field

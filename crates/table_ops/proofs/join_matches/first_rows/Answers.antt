@@ -2,7 +2,7 @@ use Rattle.std.proofs.Common.{ℕ, Some, None, cond, get_or, sym, ◌∙◌}
 use Rattle.std.specs.Option.{option_or}
 use Rattle.json_read.specs.declared.value.Value.{Value}
 use Rattle.table_ops.specs.Join.{matches}
-use Rattle.table_ops.specs.Names.{value_at}
+use Rattle.table_terms.specs.Names.{value_at}
 use Rattle.table_ops.specs.Rows.{row_at}
 use Rattle.table_ops.proofs.Joining.{find_more}
 use Rattle.table_ops.proofs.join_matches.first_rows.Goals as goal

@@ -3,7 +3,7 @@ use Rattle.indexmap.specs.IndexMap.{get}
 use Rattle.json_read.specs.declared.value.Value.{Value}
 use Rattle.table_ops.specs.Join.{matches}
 use Rattle.table_ops.specs.Keys.{same_values}
-use Rattle.table_ops.specs.Names.{value_at}
+use Rattle.table_terms.specs.Names.{value_at}
 use Rattle.table_ops.specs.Rows.{row_at}
 use Rattle.table_ops.proofs.join_matches.first_rows.Given as goal
 

@@ -1,6 +1,6 @@
 use Rattle.std.proofs.Common.{◌≡◌, ◌∙◌, ap, map, ◌++◌}
 use Rattle.std.proofs.lemmas.Result.{on_ok_weaker}
-use Rattle.table_ops.specs.Names.{place_of}
+use Rattle.table_terms.specs.Names.{place_of}
 use Rattle.table_ops.specs.Rows.{picked}
 use Rattle.table_ops.specs.Columns.{cells}
 use Rattle.table_ops.proofs.Cells.{picked_cells}

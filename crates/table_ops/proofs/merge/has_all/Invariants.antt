@@ -1,6 +1,6 @@
 use Rattle.std.proofs.Common.{◌≡◌, drop}
 use Rattle.std.specs.List.{list_all}
-use Rattle.table_ops.specs.Names.{has_name}
+use Rattle.table_terms.specs.Names.{has_name}
 use Rattle.table_ops.proofs.merge.has_all.Given as goal
 
 abbrev pub invariant-loop-name : goal.invariant-loop-name

@@ -1,6 +1,6 @@
 use Rattle.std.proofs.Common.{rules, ◌≡◌, ◌<◌, Some, cond, length, get_or, ap, sym, ◌∙◌}
-use Rattle.table_ops.specs.Names.{has_name}
-use Rattle.table_ops.specs.declared.renames.Rename.{Rename}
+use Rattle.table_terms.specs.Names.{has_name}
+use Rattle.table_terms.specs.declared.renames.Rename.{Rename}
 use Rattle.table_ops.proofs.Renaming.{last_more}
 use Rattle.table_ops.proofs.rename.last_repeated.Goals as goal
 

@@ -1,7 +1,7 @@
 use Rattle.std.proofs.Common.{◌∙◌, None}
 use Rattle.std.specs.List.{last_or}
 use Rattle.lists.specs.Lists.{numbers_where}
-use Rattle.table_ops.specs.declared.renames.Rename.{Rename}
+use Rattle.table_terms.specs.declared.renames.Rename.{Rename}
 use Rattle.table_ops.proofs.rename.last_twice.Goals as goal
 
 pub returns : goal.returns

@@ -4,8 +4,9 @@ use Rattle.std.specs.List.{last_or}
 use Rattle.lists.specs.Lists.{numbers_where}
 use Rattle.json_read.specs.Table.{AreDistinctNames}
 use Rattle.table_ops.specs.Columns.{renamed, is_twice, fields_of_pairs, refused_label}
-use Rattle.table_ops.specs.Refusals.{refused_item, unless, first_refusal}
-use Rattle.table_ops.specs.declared.renames.Rename.{Rename}
+use Rattle.table_terms.specs.Refusals.{unless, first_refusal}
+use Rattle.table_ops.specs.Refusals.{refused_item}
+use Rattle.table_terms.specs.declared.renames.Rename.{Rename}
 use Rattle.table_ops.specs.declared.fault.TableWhy.TheVariants.{FieldTwice}
 use Rattle.table_ops.proofs.Renaming.{none_mapped, renamed_distinct}
 use Rattle.table_ops.proofs.rename.rename_fields.Goals as goal

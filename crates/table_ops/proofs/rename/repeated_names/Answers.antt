@@ -1,6 +1,6 @@
 use Rattle.std.proofs.Common.{◌≡◌, ◌++◌, ◌∷◌, [], List, ℕ, ◌+◌, take, ap, sym, ◌∙◌, subst}
 use Rattle.std.proofs.lemmas.List.{take_more}
-use Rattle.table_ops.specs.Names.{Text}
+use Rattle.table_terms.specs.Names.{Text}
 use Rattle.table_ops.proofs.Renaming.{Seen, Repeated, seen_push, noted}
 use Rattle.table_ops.proofs.rename.repeated_names.Goals as goal
 

@@ -2,9 +2,10 @@ use Rattle.std.proofs.Common.{◌≡◌, ◌+◌, ◌<◌, All, List, [], ◌∷
 use Rattle.std.specs.Prelude.{Option, None, Ok}
 use Rattle.json_read.specs.Table.{RowValues}
 use Rattle.table_ops.specs.Rows.{picked}
-use Rattle.table_ops.specs.Names.{place_of}
+use Rattle.table_terms.specs.Names.{place_of}
 use Rattle.table_ops.specs.Groups.{groups_of}
-use Rattle.table_ops.specs.Refusals.{refused_item, unless}
+use Rattle.table_terms.specs.Refusals.{unless}
+use Rattle.table_ops.specs.Refusals.{refused_item}
 use Rattle.table_ops.specs.Splitting.{piece, pieces_by}
 use Rattle.table_ops.specs.declared.split.SplitItem.{SplitItem}
 use Rattle.table_ops.proofs.Cells.{picked_cells}

@@ -1,0 +1,4 @@
+pub mod CsvCells
+pub mod CsvTable
+pub mod CsvText
+pub mod CsvUtf8

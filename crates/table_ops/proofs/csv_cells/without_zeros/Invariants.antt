@@ -1,6 +1,0 @@
-use Rattle.std.proofs.Common.{◌≡◌, drop}
-use Rattle.table_ops.specs.CsvCells.{without_zeros}
-use Rattle.table_ops.proofs.csv_cells.without_zeros.Given as goal
-
-abbrev pub invariant-loop-i : goal.invariant-loop-i
-invariant-loop-i l = without_zeros l.size ≡ without_zeros (drop l.i l.size)

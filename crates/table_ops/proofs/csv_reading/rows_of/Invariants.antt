@@ -1,7 +1,0 @@
-use Rattle.std.proofs.Common.{◌≡◌, map, take}
-use Rattle.csv.specs.Records.{fields_of}
-use Rattle.table_ops.specs.CsvTable.{row_values}
-use Rattle.table_ops.proofs.csv_reading.rows_of.Given as goal
-
-abbrev pub invariant-loop-row : goal.invariant-loop-row
-invariant-loop-row l = l.out ≡ map (row_values l.numbers) (map fields_of (take l.row-index l.rows))

@@ -1,6 +1,0 @@
-use Rattle.std.proofs.Common.{◌≡◌, take}
-use Rattle.table_ops.specs.CsvText.{IsBetweenRecords, records_text, text_so_far}
-use Rattle.table_ops.proofs.csv_writing.records_text.Given as goal
-
-abbrev pub invariant-loop-row : goal.invariant-loop-row
-invariant-loop-row l = IsBetweenRecords l.writer × (text_so_far l.writer ≡ records_text l.names (take l.row-index l.row-items))

@@ -1,7 +1,0 @@
-use Rattle.std.proofs.Common.{string_bytes}
-use Rattle.std.specs.Str.{bytes_eq}
-use Rattle.table_ops.proofs.Distinct.{IsDistinct-map}
-use Rattle.table_ops.proofs.names.NameSet.new.Goals as goal
-
-pub returns-clause-distinct : goal.returns-clause-distinct
-returns-clause-distinct c = IsDistinct-map string_bytes bytes_eq c.new.result.keys c.new.ensures.unique
