@@ -7,12 +7,12 @@ ghost use Rattle.geojson_io.specs.declared.shape.GeoShape.TheVariants.{Nothing};
 use crate::fault::InputWhy;
 use crate::formats::{is_csv, title_of};
 use cmd_words::SourceWord;
+use csv_io::{CsvFault, Room2, read_csv};
 use geojson_io::{GeoLayer, GeoLayers, GeoShape, GeoShapeList, Room, ShapeFault, read_geojson};
 use grid_base::Kind;
 use io_core::Text;
 use json_read::{Json, JsonFault, Table};
 use std::alloc::{AllocError, Global};
-use csv_io::{CsvFault, Room2, read_csv};
 use topo_io::{TopoFault, read_topojson};
 
 /// Why the bytes of a source give no layers.

@@ -10,13 +10,13 @@ ghost use Rattle.run_texts.specs.Written.{IsCsvText, IsGeoText, IsTopoText, Outp
 use crate::arc_pictures::arc_layer_of;
 use crate::pictures::picture_of;
 use cmd_words::{OutForm, Target};
+use csv_io::write_csv;
 use geojson_io::write_geojson;
 use indexmap::IndexSet;
 use io_core::{Bytes, NameList, Text};
 use run_plane::{Plane, copy_text};
 use run_state::{CommandStop, Ground, Held, RefuseWhy, check_target, is_selected, only_target};
 use std::alloc::{AllocError, Global};
-use csv_io::write_csv;
 use topo_io::{ArcLayers, write_topojson};
 
 /// The text of an output: a topology of the layers of the target, or its one layer in another form.

@@ -1,8 +1,8 @@
 //! What no clause says: the values, faults and text of comma-separated text.
+use csv_io::{CsvFault, Room2, read_csv, write_csv};
 use io_core::{NameList, Text};
 use std::alloc::Global;
 use std::test::Fail;
-use csv_io::{CsvFault, Room2, read_csv, write_csv};
 
 fn text_again(alloc: Global, text: &[u8], strings: &NameList) -> Result<Vec<u8>, Fail> {
     let table = read_csv(alloc, text, strings, Room2 { rows: 9 })?;

@@ -1,11 +1,11 @@
 //! Each table call once where it succeeds, from text to text, and some refusals.
+use csv_io::{Room2, read_csv, write_csv};
 use expr_lang::Expr;
 use grid_base::IdList;
 use io_core::{NameList, Text};
 use json_read::Table;
 use std::alloc::Global;
 use std::test::Fail;
-use csv_io::{Room2, read_csv, write_csv};
 use table_ops::{Grouped, SplitItem, TableFault, TableList, TableWhy, filter_rows, group_rows, join_tables, keep_fields, merge_tables, rename_fields, split_rows, take_rows};
 use table_terms::{GroupSpec, JoinSpec, Rename, RenameList};
 
