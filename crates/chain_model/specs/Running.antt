@@ -23,7 +23,8 @@ use Rattle.chain_model.specs.Steps.{Written, step}
 use Rattle.chain_model.specs.Sources.{AreReadings, Readings, imported, whole_room}
 use Rattle.chain_model.specs.Beginning.{drawing_of, first_sources, import_layers, first_state}
 use Rattle.chain_model.specs.Pictures.{IsTextOf}
-use Rattle.chain_model.specs.Synth.{cells, IsSynthLine}
+use Rattle.chain_model.specs.Synth.{IsSynthLine}
+use Rattle.synth_model.specs.Cells.{cells}
 use Rattle.word_model.specs.Words.{words_say}
 
 -- ---- the commands

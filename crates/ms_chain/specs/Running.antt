@@ -1,10 +1,11 @@
 -- A run of commands in order: what is written, and how it ends.
-use Rattle.std.specs.Prelude.{◌≡◌, ℕ, ◌+◌, ◌⊎◌, Bool, true, false, List, [], ◌∷◌, map, None, Result, Ok, Err}
+use Rattle.std.specs.Prelude.{◌≡◌, ℕ, ◌+◌, ◌*◌, ◌⊎◌, Bool, true, false, List, [], ◌∷◌, map, None, Result, Ok, Err}
 use Rattle.std.specs.Io.KnownBytes.{Appends}
 use Rattle.lists.specs.Lists.{joined_up}
 use Rattle.io_core.specs.Contents.{Content, SameFiles}
 use Rattle.io_core.specs.Counts.{Rose}
 use Rattle.plane_model.specs.Snapped.{snapped}
+use Rattle.synth_model.specs.Cells.{cells}
 use Rattle.geojson_io.specs.LayerContent.{LayerContent}
 use Rattle.snap_round.specs.Snapping.{FaultMeans}
 use Rattle.snap_round.specs.declared.fault.SnapFault.{SnapFault}
@@ -34,7 +35,7 @@ use Rattle.run_state.specs.declared.state.CommandStop.TheVariants.{Refused}
 use Rattle.run_state.specs.declared.state.Held.{Held}
 use Rattle.run_state.specs.declared.state.State.{State}
 use Rattle.run_steps.specs.Commands.{ChangesEach, ChangesTogether}
-use Rattle.run_synth.specs.Told.{IsTooMuch}
+use Rattle.run_synth.specs.Told.{IsToldOf}
 use Rattle.run_texts.specs.Written.{OutputSays, StopsFor, refused_output}
 use Rattle.run_outcome.specs.Ends.{of_command, of_drawing, of_sources, of_words}
 use Rattle.run_outcome.specs.Telling.{StreamSeen, AddsFront}
@@ -179,35 +180,36 @@ pub record EndsUnread (end : Outcome) (seen seen' : SourcesSeen) (before after :
   pub sources : seen' ≡ seen
   pub outside : after ≡ before
 
--- a made-up mosaic is too much, and nothing is written
-pub record IsUntold (before after : StreamSeen) (o : Outcome) : Type 0 where
+-- the mosaic of a seed, of n rows of n cells, is too dense, or memory runs out, and nothing is written
+pub record IsUntold (seed n : ℕ) (before after : StreamSeen) (o : Outcome) : Type 0 where
   pub fault : SnapFault
-  pub too_much : IsTooMuch fault
+  pub too_much : FaultMeans (cells seed n) fault
   pub ends : o ≡ of_drawing fault
   pub kept : after ≡ before
 
--- a line goes whole to the standard stream, or a front of it does and the count of its failed writes rises
-pub record TellsLine (before after : StreamSeen) (o : Outcome) : Type 0 where
+-- the line of its numbers goes whole to the standard stream, or a front of it does and the count of its failed writes rises
+pub record TellsLine (seed n : ℕ) (before after : StreamSeen) (o : Outcome) : Type 0 where
   pub line : Content
+  pub of_mosaic : IsToldOf (cells seed n) (n * n) line
   pub told : ((o ≡ outcome.Done) × Appends before.told after.told line) ⊎ ((o ≡ outcome.WriteFault 1) × Rose before.faults after.faults × AddsFront before.told after.told line)
 
-abbrev pub SynthRuns : StreamSeen → StreamSeen → Outcome → Type 0
-SynthRuns before after o = IsUntold before after o ⊎ TellsLine before after o
+abbrev pub SynthRuns : ℕ → ℕ → StreamSeen → StreamSeen → Outcome → Type 0
+SynthRuns seed n before after o = IsUntold seed n before after o ⊎ TellsLine seed n before after o
 
 abbrev pub stream_of : OutsideSeen → StreamSeen
 stream_of seen = record { told = seen.stream; faults = seen.stream_faults }
 
 -- nothing is read, and nothing but the standard stream changes
-pub record ToldAlone (seen seen' : SourcesSeen) (before after : OutsideSeen) (o : Outcome) : Type 0 where
+pub record ToldAlone (seed n : ℕ) (seen seen' : SourcesSeen) (before after : OutsideSeen) (o : Outcome) : Type 0 where
   pub sources : seen' ≡ seen
   pub files : after.files ≡ before.files
   pub file_faults : after.file_faults ≡ before.file_faults
-  pub stream : SynthRuns (stream_of before) (stream_of after) o
+  pub stream : SynthRuns seed n (stream_of before) (stream_of after) o
 
 -- refused words end the run; a made-up mosaic is told of; a chain runs
 abbrev pub JobRuns : Result Job WordFault → SourcesSeen → SourcesSeen → OutsideSeen → OutsideSeen → Outcome → Type 0
 JobRuns (Err fault) seen seen' before after o = EndsUnread (of_words fault) seen seen' before after o
-JobRuns (Ok (job.Synth seed n)) seen seen' before after o = ToldAlone seen seen' before after o
+JobRuns (Ok (job.Synth seed n)) seen seen' before after o = ToldAlone seed n seen seen' before after o
 JobRuns (Ok (job.Chain chain)) seen seen' before after o = ChainRuns chain seen seen' before after o
 
 -- what a run of these words does

@@ -63,7 +63,7 @@ fn run_words<F: Files, I: Source, K: Sink>(
 // The line of a made-up mosaic, to the standard stream.
 fn run_synth<K: Sink>(alloc: Global, seed: u32, n: u32, output: &mut K) -> Outcome
     requires few { n ≤ 300 }
-    ensures ran { SynthRuns (record { told = K.held output.old; faults = K.faults output.old }) (record { told = K.held output.new; faults = K.faults output.new }) result }
+    ensures ran { SynthRuns seed n (record { told = K.held output.old; faults = K.faults output.old }) (record { told = K.held output.new; faults = K.faults output.new }) result }
 {
     match synth_line(alloc, seed, n) {
         Ok(line) => match write_whole(output, line.as_bytes()) {

@@ -1,10 +1,31 @@
--- The fault of a drawing is one of some drawing.
+-- The line of what is laid out.
+use Rattle.std.proofs.Common.{◌≡◌, ◌∙◌, subst, ℕ, List}
+use Rattle.plane_model.specs.Points.{Path}
 use Rattle.plane_model.specs.Drawing.{Drawing}
-use Rattle.snap_round.specs.Snapping.{FaultMeans}
-use Rattle.snap_round.specs.declared.fault.SnapFault.{SnapFault}
-use Rattle.snap_round.specs.declared.fault.SnapFault.TheVariants.{TooDense, Memory}
-use Rattle.run_synth.specs.Told.{IsTooMuch}
+use Rattle.plane_model.specs.Snapped.{snapped}
+use Rattle.face_walk.specs.Places.{FaceTable}
+use Rattle.run_plane.specs.Begun.{IsFew}
+use Rattle.run_plane.specs.LaidOut.{IsLaidOut}
+use Rattle.synth_model.specs.Line.{line_text}
+use Rattle.run_synth.specs.declared.synth.Numbers.{Numbers}
+use Rattle.run_synth.specs.Told.{AreNumbersOf, IsLineOf, IsToldOf}
 
-pub too_much : (d : Drawing) (fault : SnapFault) → FaultMeans d fault → IsTooMuch fault
-too_much d (TooDense count) h = (d, h)
-too_much d Memory h = tt
+pub line_is : (s : Drawing) (cells : ℕ) (line : List ℕ) (arcs : List Path) (faces : FaceTable) (boxes features : List (List ℕ)) (numbers : Numbers) → IsLaidOut s arcs faces boxes features → AreNumbersOf arcs faces features cells numbers →
+    line ≡ line_text numbers.cells numbers.arcs numbers.faces numbers.features numbers.twice_area → IsLineOf s cells line
+line_is s cells line arcs faces boxes features numbers laid are is = record {
+  arcs = arcs;
+  faces = faces;
+  boxes = boxes;
+  features = features;
+  laid = laid;
+  cleaned = are.cleaned;
+  are_cleaned = are.are_cleaned;
+  is = is ∙ (λ i. line_text (are.of_cells i) (are.of_arcs i) (are.of_faces i) (are.of_features i) (are.area i));
+}
+
+-- of a drawing that is the mosaic, with its number of cells
+pub told_is : (mosaic d s : Drawing) (many count : ℕ) (line : List ℕ) → d ≡ mosaic → s ≡ snapped d → count ≡ many → IsFew d → IsLineOf s count line → IsToldOf mosaic many line
+told_is mosaic d s many count line drawn laid counted few h = record {
+  few = subst IsFew drawn few;
+  told = subst (λ (e : Drawing). IsLineOf (snapped e) many line) drawn (subst (λ (r : Drawing). IsLineOf r many line) laid (subst (λ (k : ℕ). IsLineOf s k line) counted h));
+}

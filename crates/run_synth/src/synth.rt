@@ -1,14 +1,21 @@
-ghost use Rattle.std.specs.Prelude.{◌≡◌, ◌≢◌, ◌≤◌, ◌<◌, ◌≤ℤ◌, ◌++◌, ◌∷◌, [], pos, IfErr, IfOk, OnOk};
-ghost use Rattle.plane_model.specs.Joined.{IsClosed};
-ghost use Rattle.grid_base.specs.Drawn.{without_repeats};
-ghost use Rattle.run_synth.specs.Cells.{ring_through};
-ghost use Rattle.run_synth.specs.Told.{IsTooMuch};
+ghost use Rattle.std.specs.Prelude.{◌≡◌, ◌*◌, ◌≤◌, ◌+ℤ◌, ◌++◌, All, IfErr, IfOk, OnOk, codes};
+ghost use Rattle.std.specs.Fmt.{signed_decimal};
+ghost use Rattle.std.specs.String.{string_bytes};
+ghost use Rattle.snap_round.specs.Snapping.{FaultMeans};
+ghost use Rattle.ring_trace.specs.Sets.{IsSetOf};
+ghost use Rattle.region_ops.specs.Cleaned.{area_of};
+ghost use Rattle.run_plane.specs.LaidOut.{IsLaidOut};
+ghost use Rattle.synth_model.specs.Cells.{cells};
+ghost use Rattle.synth_model.specs.Line.{line_text, named};
+ghost use Rattle.run_synth.specs.Told.{AreNumbersOf, IsLineOf, IsToldOf, all_faces, filled};
 
-use grid_base::{Drawing, Kind, OverlapRule, Pt, PtList};
+use crate::cells::{cells_of, count_of};
+use face_walk::Faces;
+use grid_base::{FaceId, OverlapRule};
+use itoa::Buffer;
 use region_ops::clean_sets;
-use ring_trace::FaceSet;
+use ring_trace::{FaceSet, SetList};
 use run_plane::{Laid, Plane, laid_out};
-use run_shapes::{sets_of, shapes_of, union_of};
 use snap_round::SnapFault;
 use std::alloc::{AllocError, Global};
 
@@ -17,143 +24,133 @@ use std::alloc::{AllocError, Global};
 /// squares of the grid.
 ///
 /// Errors: `TooDense`, and `Memory`.
-#[tactic(auto, using(crate::proofs::Told::too_much))]
 pub fn synth_line(alloc: Global, seed: u32, n: u32) -> Result<String, SnapFault>
     requires few { n ≤ 300 }
-    ensures stops { IfErr result IsTooMuch }
+    ensures stops { IfErr result (FaultMeans (cells seed n)) }
+    ensures told { IfOk result (λ line. IsToldOf (cells seed n) (n * n) (string_bytes line)) }
 {
-    let cells = cells_of(alloc, seed, n)?;
-    let laid = laid_out(alloc, &cells)?;
-    Ok(line_of(alloc, &laid)?)
+    let drawing = cells_of(alloc, seed, n)?;
+    let laid = laid_out(alloc, &drawing)?;
+    Ok(line_of(alloc, count_of(n), laid)?)
 }
 
-fn line_of(alloc: Global, laid: &Laid) -> Result<String, AllocError> {
-    let plane = &laid.plane;
-    let shapes = shapes_of(alloc, &laid.features)?;
-    let sets = sets_of(alloc, plane, &shapes)?;
-    let cleaned = clean_sets(alloc, &plane.faces, &sets, OverlapRule::MaxArea)?;
-    let covered = union_of(alloc, &shapes)?;
-    let (cells, arcs, faces) = (sets.len(), plane.arcs.count(), plane.faces.count());
-    let (features, area) = (filled(cleaned.as_slice()), twice_area(plane, &covered));
-    format!(in alloc;
-        "cells {cells} arcs {arcs} faces {faces} features {features} twice-area {area}\n"
-    )
+// The line of so many cells that are laid out.
+fn line_of(alloc: Global, count: u32, laid: Laid) -> Result<String, AllocError>
+    requires laid { IsLaidOut laid.snapped laid.plane.arcs laid.plane.faces laid.plane.boxes.items laid.features.items }
+    ensures told { IfOk result (λ line. IsLineOf laid.snapped count (string_bytes line)) }
+{
+    let Laid {
+        plane,
+        snapped: _,
+        features,
+    } = laid;
+    let sets = listed(alloc, features)?;
+    let numbers = numbers_of(alloc, count, &plane, &sets)?;
+    text_of(alloc, numbers)
 }
 
-fn filled(sets: &[FaceSet]) -> usize {
+// What the line tells: how many cells, arcs, faces and cells with a face there are, and twice the area of all cells.
+#[derive(Clone, Copy, Debug)]
+struct Numbers {
+    cells: u32,
+    arcs: u32,
+    faces: u32,
+    features: usize,
+    twice_area: i128,
+}
+
+fn numbers_of(
+    alloc: Global,
+    count: u32,
+    plane: &Plane,
+    sets: &SetList,
+) -> Result<Numbers, AllocError>
+    requires inner { All (IsSetOf plane.now.faces) sets.now }
+    ensures exact { IfOk result (AreNumbersOf plane.now.arcs plane.now.faces sets.now count) }
+{
+    let cleaned = clean_sets(alloc, &plane.faces, sets, OverlapRule::MaxArea)?;
+    let covered = covered(alloc, sets.as_slice())?;
+    let twice_area = twice_area(&plane.faces, covered.faces())?;
+    Ok(Numbers {
+        cells: count,
+        arcs: plane.arcs.count(),
+        faces: plane.faces.count(),
+        features: filled(cleaned.as_slice()),
+        twice_area,
+    })
+}
+
+fn text_of(alloc: Global, numbers: Numbers) -> Result<String, AllocError>
+    ensures exact { IfOk result (λ line. string_bytes line ≡ line_text numbers.cells numbers.arcs numbers.faces numbers.features numbers.twice_area) }
+{
+    let mut text = String::new(alloc);
+    push_count(&mut text, "cells ", u64::from(numbers.cells))?;
+    push_count(&mut text, " arcs ", u64::from(numbers.arcs))?;
+    push_count(&mut text, " faces ", u64::from(numbers.faces))?;
+    push_count(&mut text, " features ", numbers.features as u64)?;
+    push_area(&mut text, numbers.twice_area)?;
+    text.push_str("\n")?;
+    Ok(text)
+}
+
+fn push_count(text: &mut String, name: &str, count: u64) -> Result<(), AllocError>
+    ensures pushed { OnOk result (string_bytes text.new ≡ string_bytes text.old ++ named name.now count) }
+{
+    let mut buffer = Buffer::new();
+    text.push_str(name)?;
+    text.push_str(buffer.format(count))
+}
+
+fn push_area(text: &mut String, twice_area: i128) -> Result<(), AllocError>
+    ensures pushed { OnOk result (string_bytes text.new ≡ string_bytes text.old ++ (codes " twice-area " ++ signed_decimal twice_area)) }
+{
+    let mut buffer = Buffer::new();
+    text.push_str(" twice-area ")?;
+    text.push_str(buffer.format(twice_area))
+}
+
+fn listed(alloc: Global, sets: Vec<FaceSet>) -> Result<SetList, AllocError>
+    ensures all { IfOk result (λ list. list ≡ sets.items) }
+{
+    let mut list = SetList::new(alloc);
+    for set in sets {
+        list.push(set)?;
+    }
+    Ok(list)
+}
+
+// The faces of any of the sets.
+#[tactic(auto, using(crate::proofs::InnerSets::joined_more))]
+fn covered(alloc: Global, sets: &[FaceSet]) -> Result<FaceSet, AllocError>
+    ensures exact { IfOk result (λ faces. faces ≡ all_faces sets.now) }
+{
+    let mut faces = Vec::new(alloc);
+    for set in sets {
+        faces.extend_from_slice(set.faces())?;
+    }
+    Ok(FaceSet::from_faces(faces))
+}
+
+fn filled(sets: &[FaceSet]) -> usize
+    ensures exact { result ≡ filled sets.now }
+{
     sets.iter().filter(|set| !set.is_empty()).count()
 }
 
-fn twice_area(plane: &Plane, set: &FaceSet) -> i128 {
-    let mut area = 0i128;
-    for face in set.faces() {
-        if face.num() < plane.faces.count() {
-            area = area.saturating_add(plane.faces.twice_area(*face));
-        }
+// Twice the area of the faces together.
+fn twice_area(faces: &Faces, set: &[FaceId]) -> Result<i128, AllocError>
+    requires faces { IsSetOf faces.now set.now }
+    ensures exact { IfOk result (λ area. area ≡ area_of faces.now.areas set.now) }
+{
+    let mut sum = 0i128;
+    for face in set {
+        sum = added(sum, faces.twice_area(*face))?;
     }
-    area
+    Ok(sum)
 }
 
-// ---- the cells
-
-/// Numbers that a seed draws: a linear congruence, of which the middle bits are taken.
-#[derive(Drop)]
-struct Draws {
-    state: u32,
-}
-
-impl Draws {
-    // A number from 0 to 40.
-    fn next(&mut self) -> i64
-        ensures least { pos 0 ≤ℤ result }
-        ensures most { result ≤ℤ pos 40 }
-    {
-        self.state = self.state.wrapping_mul(1_103_515_245).wrapping_add(12_345);
-        i64::from(self.state / 65_536 % 32_768 % 41)
-    }
-}
-
-fn cells_of(alloc: Global, seed: u32, n: u32) -> Result<Drawing, AllocError>
-    requires few { n ≤ 300 }
+fn added(sum: i128, area: i128) -> Result<i128, AllocError>
+    ensures exact { IfOk result (λ more. more ≡ sum +ℤ area) }
 {
-    let mut drawing = Drawing::new(alloc);
-    let mut draws = Draws { state: seed };
-    for i in 0..n {
-        add_column(alloc, &mut drawing, &mut draws, i, n)?;
-    }
-    Ok(drawing)
-}
-
-fn add_column(
-    alloc: Global,
-    drawing: &mut Drawing,
-    draws: &mut Draws,
-    i: u32,
-    n: u32,
-) -> Result<(), AllocError>
-    requires column { i < 300 }
-    requires few { n ≤ 300 }
-{
-    for j in 0..n {
-        add_cell(drawing, cell(alloc, draws, i, j)?)?;
-    }
-    Ok(())
-}
-
-// Adds a feature of one polygon, which has this one ring.
-fn add_cell(drawing: &mut Drawing, ring: PtList) -> Result<(), AllocError>
-    requires not_empty { ring ≢ [] }
-    requires closed { IsClosed ring }
-    ensures added { OnOk result (drawing.new ≡ record drawing.old { polygons = drawing.old.polygons ++ ((without_repeats ring ∷ []) ∷ []) ∷ [] }) }
-{
-    drawing.add_feature(Kind::Polygon)?;
-    drawing.add_polygon()?;
-    drawing.add_ring(ring)
-}
-
-// A cell: a corner that stands fast, and three that six draws move.
-fn cell(alloc: Global, draws: &mut Draws, i: u32, j: u32) -> Result<PtList, AllocError>
-    requires column { i < 300 }
-    requires row { j < 300 }
-    ensures not_empty { IfOk result (λ ring. ring ≢ []) }
-    ensures closed { IfOk result IsClosed }
-{
-    let (x, y) = (100 * i64::from(i), 100 * i64::from(j));
-    let first = corner(x, y);
-    let second = corner(x + 140 + draws.next(), y + draws.next());
-    let third = corner(x + 140 + draws.next(), y + 140 + draws.next());
-    let fourth = corner(x + draws.next(), y + 140 + draws.next());
-    ring_through(alloc, first, second, third, fourth)
-}
-
-fn ring_through(
-    alloc: Global,
-    first: Pt,
-    second: Pt,
-    third: Pt,
-    fourth: Pt,
-) -> Result<PtList, AllocError>
-    ensures exact { IfOk result (λ ring. ring ≡ ring_through first second third fourth) }
-{
-    let mut ring = PtList::new(alloc);
-    ring.push(first)?;
-    ring.push(second)?;
-    ring.push(third)?;
-    ring.push(fourth)?;
-    ring.push(first)?;
-    Ok(ring)
-}
-
-// The last cell's corners lie at 30,080 at most.
-fn corner(x: i64, y: i64) -> Pt
-    requires left { pos 0 ≤ℤ x }
-    requires right { x ≤ℤ pos 30080 }
-    requires low { pos 0 ≤ℤ y }
-    requires high { y ≤ℤ pos 30080 }
-    ensures exact { result ≡ record { x = x; y = y } }
-{
-    match Pt::new(x, y) {
-        Some(point) => point,
-        None => unreachable!(),
-    }
+    sum.checked_add(area).ok_or(AllocError)
 }

@@ -4,7 +4,7 @@ use Rattle.lists.specs.Lists.{last_of}
 use Rattle.plane_model.specs.Drawing.{Drawing}
 use Rattle.grid_base.specs.Drawn.{add_polygon, add_ring}
 use Rattle.run_synth.proofs.CellLemmas.{feature_there, polygon_there, ring_there}
-use Rattle.run_synth.proofs.synth.add_cell.Goals as goal
+use Rattle.run_synth.proofs.cells.add_cell.Goals as goal
 
 pub add_polygon-requires : goal.add_polygon-requires
 add_polygon-requires c =

@@ -1,4 +1,4 @@
--- The cells of a made-up mosaic.
+-- Rings through four corners.
 use Rattle.std.specs.Prelude.{[], ◌∷◌}
 use Rattle.plane_model.specs.Points.{GridPoint, Path}
 
