@@ -1,5 +1,5 @@
 -- A run of commands in order: what is written, and how it ends.
-use Rattle.std.specs.Prelude.{◌≡◌, ℕ, ◌+◌, ◌*◌, ◌⊎◌, Bool, true, false, List, [], ◌∷◌, map, None, Result, Ok, Err}
+use Rattle.std.specs.Prelude.{◌≡◌, ℕ, ◌+◌, ◌*◌, ◌⊎◌, Bool, true, false, List, [], ◌∷◌, map, Option, None, Result, Ok, Err}
 use Rattle.std.specs.Io.KnownBytes.{Appends}
 use Rattle.lists.specs.Lists.{joined_up}
 use Rattle.io_core.specs.Contents.{Content, SameFiles}
@@ -28,15 +28,18 @@ use Rattle.run_plane.specs.declared.layer.Layer.{Layer}
 use Rattle.run_beginning.specs.BegunLayers.{BeginsOver}
 use Rattle.run_beginning.specs.Drawing.{drawing_of}
 use Rattle.run_state.specs.Origins.{Base}
+use Rattle.run_state.specs.Stops.{StopsFor}
 use Rattle.run_state.specs.Targets.{first_layers, has_target, targets}
+use Rattle.run_state.specs.declared.refusal.RefuseWhy.{RefuseWhy}
 use Rattle.run_state.specs.declared.refusal.RefuseWhy.TheVariants.{NoLayer}
 use Rattle.run_state.specs.declared.state.CommandStop.{CommandStop}
 use Rattle.run_state.specs.declared.state.CommandStop.TheVariants.{Refused}
 use Rattle.run_state.specs.declared.state.Held.{Held}
 use Rattle.run_state.specs.declared.state.State.{State}
 use Rattle.run_steps.specs.Commands.{ChangesEach, ChangesTogether}
+use Rattle.run_steps.specs.Refusals.{refusal_each, refusal_together}
 use Rattle.run_synth.specs.Told.{IsToldOf}
-use Rattle.run_texts.specs.Written.{OutputSays, StopsFor, refused_output}
+use Rattle.run_texts.specs.Written.{OutputSays, refused_output}
 use Rattle.run_outcome.specs.Ends.{of_command, of_drawing, of_sources, of_words}
 use Rattle.run_outcome.specs.Telling.{StreamSeen, AddsFront}
 use Rattle.run_outcome.specs.declared.outcome.Outcome.{Outcome}
@@ -45,20 +48,21 @@ use Rattle.ms_chain.specs.Effects.{OutsideSeen, CountsGrew, WroteText, WriteRose
 
 -- ---- one command
 
--- a command that changes layers and has no target is refused as no layer
-abbrev pub StopsChange : Command → List Held → CommandStop → Type 0
-StopsChange c layers stop = has_target c.target layers ≡ false → stop ≡ Refused NoLayer
+-- a command that changes layers stops for its first refusal or for want of memory, and without a target as no layer
+pub record StopsChange (c : Command) (layers : List Held) (refusal : Option RefuseWhy) (stop : CommandStop) : Type 0 where
+  pub first : StopsFor refusal stop
+  pub absent : has_target c.target layers ≡ false → stop ≡ Refused NoLayer
 
--- why a command stops: an output for its refusal alone, or for want of memory
-abbrev pub StopsBy : Command → Action → List Held → CommandStop → Type 0
-StopsBy c (action.Write to standard form) layers stop = StopsFor (refused_output c.target form layers) stop
-StopsBy c (action.Each a) layers stop = StopsChange c layers stop
-StopsBy c (action.Together a) layers stop = StopsChange c layers stop
+-- why a command stops: for its first refusal alone, or for want of memory
+abbrev pub StopsBy : Base → Command → Action → List Held → CommandStop → Type 0
+StopsBy base c (action.Write to standard form) layers stop = StopsFor (refused_output c.target form layers) stop
+StopsBy base c (action.Each a) layers stop = StopsChange c layers (refusal_each base layers c a) stop
+StopsBy base c (action.Together a) layers stop = StopsChange c layers (refusal_together layers c a) stop
 
 -- the command with this number stops the run, and nothing changes
-pub record IsStopped (n : ℕ) (c : Command) (layers : List Held) (before after : OutsideSeen) (o : Outcome) : Type 0 where
+pub record IsStopped (base : Base) (n : ℕ) (c : Command) (layers : List Held) (before after : OutsideSeen) (o : Outcome) : Type 0 where
   pub stop : CommandStop
-  pub why : StopsBy c c.action layers stop
+  pub why : StopsBy base c c.action layers stop
   pub ends : o ≡ of_command n stop
   pub kept : after ≡ before
 
@@ -79,7 +83,7 @@ EndsWriting base n c (action.Together a) layers before after o = ⊥
 
 -- how a command with this number ends a run
 abbrev pub Ends : Base → ℕ → Command → List Held → OutsideSeen → OutsideSeen → Outcome → Type 0
-Ends base n c layers before after o = IsStopped n c layers before after o ⊎ EndsWriting base n c c.action layers before after o
+Ends base n c layers before after o = IsStopped base n c layers before after o ⊎ EndsWriting base n c c.action layers before after o
 
 -- the text of an output is written whole
 pub record WritesWhole (base : Base) (form : OutForm) (layers : List Layer) (standard : Bool) (name : Content) (before after : OutsideSeen) : Type 0 where
@@ -88,17 +92,22 @@ pub record WritesWhole (base : Base) (form : OutForm) (layers : List Layer) (sta
   pub wrote : WroteText standard name text before after
   pub counts : CountsGrew before after
 
--- an output that isn't refused writes a whole text and leaves the layers; any other command changes them and writes
--- nothing
+-- an output that isn't refused writes a whole text and leaves the layers
 pub record GoesOnWriting (base : Base) (c : Command) (form : OutForm) (standard : Bool) (name : Content) (layers layers' : List Held) (before after : OutsideSeen) : Type 0 where
   pub accepted : refused_output c.target form layers ≡ None
   pub kept : layers' ≡ layers
   pub writes : WritesWhole base form (targets c.target layers) standard name before after
 
+-- any other command that isn't refused changes them and writes nothing
+pub record GoesOnChanging (refusal : Option RefuseWhy) (Changes : Type 0) (before after : OutsideSeen) : Type 0 where
+  pub accepted : refusal ≡ None
+  pub changes : Changes
+  pub kept : after ≡ before
+
 abbrev pub GoesOn : Base → Command → Action → List Held → List Held → OutsideSeen → OutsideSeen → Type 0
 GoesOn base c (action.Write to standard form) layers layers' before after = GoesOnWriting base c form standard to layers layers' before after
-GoesOn base c (action.Each a) layers layers' before after = ChangesEach base c a layers layers' × (after ≡ before)
-GoesOn base c (action.Together a) layers layers' before after = ChangesTogether c a layers layers' × (after ≡ before)
+GoesOn base c (action.Each a) layers layers' before after = GoesOnChanging (refusal_each base layers c a) (ChangesEach base c a layers layers') before after
+GoesOn base c (action.Together a) layers layers' before after = GoesOnChanging (refusal_together layers c a) (ChangesTogether c a layers layers') before after
 
 -- its target is there
 pub record Passes (base : Base) (c : Command) (layers layers' : List Held) (before after : OutsideSeen) : Type 0 where

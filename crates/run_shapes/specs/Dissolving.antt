@@ -1,5 +1,5 @@
 -- The shapes of grouped features.
-use Rattle.std.specs.Prelude.{◌≡◌, ℕ, nat_lt, List, [], ◌∷◌, map, Ok}
+use Rattle.std.specs.Prelude.{◌≡◌, ℕ, nat_lt, Bool, true, false, not, ◌&&◌, List, [], ◌∷◌, map, Option, Some, Ok, if◌then◌else◌}
 use Rattle.std.specs.List.{flat_map}
 use Rattle.lists.specs.Lists.{ascending}
 use Rattle.grid_base.specs.declared.kinds.Kind.{Kind}
@@ -17,6 +17,9 @@ use Rattle.run_plane.specs.declared.layer.Layer.{Layer}
 use Rattle.run_plane.specs.declared.layer.Shape.{Shape}
 use Rattle.run_plane.specs.declared.layer.Shape.TheVariants as shape
 use Rattle.run_plane.specs.declared.plane.Plane.{Plane}
+use Rattle.run_state.specs.Stops.{table_refusal}
+use Rattle.run_state.specs.declared.refusal.RefuseWhy.{RefuseWhy}
+use Rattle.run_state.specs.declared.refusal.RefuseWhy.TheVariants.{NoGroupPoints}
 
 -- the numbers of the arcs along a path
 abbrev pub arcs_along : List SignedArc → List ℕ
@@ -66,3 +69,12 @@ pub record IsGrouped (plane : Plane) (spec : GroupSpec) (layer made : Layer) : T
   pub answers : group_rows layer.table spec ≡ Ok grouped
   pub table : made.table ≡ grouped.table
   pub shapes : made.shapes.items ≡ grouped_shapes layer.kind plane layer.shapes.items grouped.groups
+
+abbrev pub is_point : Kind → Bool
+is_point kinds.Point = true
+is_point _ = false
+
+-- why features are not grouped: they are points and no leave is given, or else what their table is refused for
+abbrev pub refused_dissolve : GroupSpec → Bool → Layer → Option RefuseWhy
+refused_dissolve spec group_points layer =
+    if is_point layer.kind && not group_points then Some NoGroupPoints else table_refusal (group_rows layer.table spec)

@@ -1,4 +1,4 @@
-ghost use Rattle.std.specs.Prelude.{◌≡◌, ◌+◌, ◌<◌, ◌^◌, All, IfOk, codes, length, map, slice_index_or};
+ghost use Rattle.std.specs.Prelude.{◌≡◌, ◌+◌, ◌<◌, ◌^◌, All, IfErr, IfOk, None, codes, length, map, slice_index_or};
 ghost use Rattle.json_read.specs.Table.{AreRows};
 ghost use Rattle.run_shapes.specs.Borders.{
   AreInnerLines,
@@ -13,6 +13,8 @@ ghost use Rattle.run_shapes.specs.Borders.{
   row_between,
   type_and_rank,
 };
+ghost use Rattle.run_state.specs.Stops.{StopsFor, table_refusal};
+ghost use Rattle.table_ops.specs.Columns.{keep_fields};
 
 use crate::face_sets::sets_of;
 use crate::paths::path_along;
@@ -81,6 +83,7 @@ fn bare_table(alloc: Global, count: u32) -> Result<Table, AllocError>
 /// number of the listed fields.
 ///
 /// Errors: the table is refused for a listed field that it lacks or that stands twice.
+#[tactic(auto, using(run_state::proofs::Stops::table_stops))]
 pub fn outlines(
     alloc: Global,
     plane: &Plane,
@@ -88,6 +91,8 @@ pub fn outlines(
     fields: &NameList,
 ) -> Result<Layer, CommandStop>
     ensures made { IfOk result (AreOutlines plane.now fields.now layer.now) }
+    ensures accepted { IfOk result (λ made. table_refusal (keep_fields layer.now.table fields.now) ≡ None) }
+    ensures stops { IfErr result (StopsFor (table_refusal (keep_fields layer.now.table fields.now))) }
 {
     let listed = keep_fields(alloc, &layer.table, fields)?;
     let sets = sets_of(alloc, plane, &layer.shapes)?;

@@ -1,4 +1,4 @@
-ghost use Rattle.std.specs.Prelude.{◌≡◌, ◌<◌, ◌++◌, IfOk, OnOk, All, length, map, nat_lt};
+ghost use Rattle.std.specs.Prelude.{◌≡◌, ◌<◌, ◌++◌, IfErr, IfOk, None, OnOk, All, length, map, nat_lt};
 ghost use Rattle.std.specs.List.{flat_map};
 ghost use Rattle.lists.specs.Lists.{ascending};
 ghost use Rattle.region_ops.specs.Dissolved.{union_of};
@@ -15,8 +15,10 @@ ghost use Rattle.run_shapes.specs.Dissolving.{
   no_shape,
   path_along,
   point_shape,
+  refused_dissolve,
 };
 ghost use Rattle.run_shapes.specs.FaceSets.{face_shapes, sets_on};
+ghost use Rattle.run_state.specs.Stops.{StopsFor};
 
 use crate::face_sets::{sets_of, shapes_of};
 use crate::paths::path_along;
@@ -33,6 +35,7 @@ use table_terms::GroupSpec;
 /// that a member uses once, or all points of the members in order.
 ///
 /// Errors: `NoGroupPoints` for points without `group_points`, and what the table is refused for.
+#[tactic(auto, using(run_state::proofs::Stops::table_stops))]
 pub fn dissolved(
     alloc: Global,
     plane: &Plane,
@@ -41,6 +44,8 @@ pub fn dissolved(
     group_points: bool,
 ) -> Result<Layer, CommandStop>
     ensures made { IfOk result (IsGrouped plane.now spec.now layer.now) }
+    ensures accepted { IfOk result (λ made. refused_dissolve spec.now group_points layer.now ≡ None) }
+    ensures stops { IfErr result (StopsFor (refused_dissolve spec.now group_points layer.now)) }
 {
     if layer.kind == Kind::Point && !group_points {
         return Err(CommandStop::Refused(RefuseWhy::NoGroupPoints));

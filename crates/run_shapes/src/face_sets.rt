@@ -1,8 +1,9 @@
-ghost use Rattle.std.specs.Prelude.{◌≡◌, [], All, IfOk, length, slice_index_or};
+ghost use Rattle.std.specs.Prelude.{◌≡◌, [], All, IfErr, IfOk, length, slice_index_or};
 ghost use Rattle.ring_trace.specs.Sets.{IsSetOf};
 ghost use Rattle.run_plane.specs.OnPlane.{faces_on, set_on};
 ghost use Rattle.run_shapes.specs.FaceSets.{any_faces, area_of, face_shapes, faces_in, sets_on};
-ghost use Rattle.run_state.specs.Origins.{base_of};
+ghost use Rattle.run_state.specs.Origins.{base_of, refused_origin};
+ghost use Rattle.run_state.specs.Stops.{StopsFor};
 
 use cmd_words::Origin;
 use grid_base::FaceId;
@@ -19,6 +20,7 @@ pub fn area_of(
     from: &Origin,
 ) -> Result<FaceSet, CommandStop>
     ensures exact { IfOk result (λ faces. faces ≡ area_of (base_of ground.now) layers.now from.now) }
+    ensures stops { IfErr result (StopsFor (refused_origin (base_of ground.now).sources layers.now from.now)) }
 {
     if let Origin::Area(number) = from {
         return Ok(box_faces(alloc, &ground.plane.boxes, *number)?);

@@ -1,11 +1,12 @@
 -- What the commands of a run stand on, and the layer that a command takes from elsewhere.
-use Rattle.std.specs.Prelude.{ℕ, ◌-◌, List, [], ◌∷◌, map, filter, slice_index_or, Result, Ok, Err}
+use Rattle.std.specs.Prelude.{ℕ, ◌-◌, List, [], ◌∷◌, map, filter, slice_index_or, Option, None, Result, Ok, Err}
 use Rattle.std.specs.Str.{bytes_eq}
 use Rattle.io_core.specs.Contents.{Content}
 use Rattle.cmd_words.specs.declared.job.Origin.{Origin}
 use Rattle.cmd_words.specs.declared.job.Origin.TheVariants as origin
 use Rattle.run_plane.specs.declared.layer.Layer.{Layer}
 use Rattle.run_plane.specs.declared.plane.Plane.{Plane}
+use Rattle.run_state.specs.Stops.{refusal_of}
 use Rattle.run_state.specs.declared.ground.Ground.{Ground}
 use Rattle.run_state.specs.declared.refusal.RefuseWhy.{RefuseWhy}
 use Rattle.run_state.specs.declared.refusal.RefuseWhy.TheVariants.{NoLayer, ManyLayers}
@@ -39,3 +40,9 @@ abbrev pub one_layer : List Layer → Result Layer RefuseWhy
 one_layer [] = Err NoLayer
 one_layer (layer ∷ []) = Ok layer
 one_layer (layer ∷ other ∷ rest) = Err ManyLayers
+
+-- why there is no such layer; a box is none, and always is there
+abbrev pub refused_origin : Owned → List Held → Origin → Option RefuseWhy
+refused_origin sources layers (origin.Layer name) = refusal_of (one_layer (origin_layers sources layers (origin.Layer name)))
+refused_origin sources layers (origin.Source n) = refusal_of (one_layer (origin_layers sources layers (origin.Source n)))
+refused_origin sources layers (origin.Area n) = None

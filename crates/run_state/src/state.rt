@@ -47,6 +47,11 @@ impl<T: Drop> From<AllocFailed<T>> for CommandStop {
 }
 
 impl From<TableFault> for CommandStop {
+    ghost use Rattle.std.specs.Prelude.{◌≡◌};
+    ghost use Rattle.run_state.specs.Stops.{stop_of};
+
+    ghost from_gives = { λ fault stop. stop ≡ stop_of fault };
+
     fn from(fault: TableFault) -> CommandStop {
         match fault {
             TableFault::Bad { why } => CommandStop::Refused(RefuseWhy::Table(why)),

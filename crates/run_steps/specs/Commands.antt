@@ -23,15 +23,10 @@ use Rattle.run_shapes.specs.declared.cutting.CutKeeps.TheVariants as keeps
 use Rattle.run_state.specs.Origins.{Base, one_layer, origin_layers}
 use Rattle.run_state.specs.Targets.{is_selected, placed, targets}
 use Rattle.run_state.specs.declared.state.Held.{Held}
-use Rattle.run_tables.specs.Made.{GivesTable, IsFiltered, IsMerged}
+use Rattle.run_tables.specs.Made.{GivesTable, IsFiltered, IsMerged, One}
+use Rattle.run_tables.specs.Pieces.{IsSplit}
 
 -- ---- what is put out for a layer
-
--- one layer, of which this holds
-abbrev pub One : (Layer → Type 0) → List Layer → Type 0
-One P [] = ⊥
-One P (made ∷ []) = P made
-One P (made ∷ other ∷ rest) = ⊥
 
 -- the faces are those that the command cuts by, where it cuts
 abbrev pub CutsBy : Base → List Held → LayerAction → List ℕ → Type 0
@@ -59,7 +54,7 @@ PutsOut base layers (action.Join from spec) layer outputs = Joins base layers fr
 PutsOut base layers (action.Filter test invert remove_empty) layer outputs = One (IsFiltered test invert remove_empty layer) outputs
 PutsOut base layers (action.FilterFields fields) layer outputs = One (GivesTable (keep_fields layer.table fields) layer) outputs
 PutsOut base layers (action.RenameFields pairs) layer outputs = One (GivesTable (rename_fields layer.table pairs) layer) outputs
-PutsOut base layers (action.Split field) layer outputs = ⊤
+PutsOut base layers (action.Split field) layer outputs = IsSplit field layer outputs
 
 -- the name of `name=`, where it stands
 abbrev pub title_or : Option Content → Content → Content

@@ -1,7 +1,27 @@
-ghost use Rattle.std.specs.Prelude.{◌≡◌, ◌≤◌, IfOk, false, length, map, true};
+ghost use Rattle.std.specs.Prelude.{◌≡◌, ◌≤◌, IfErr, IfOk, None, false, length, map, true};
+ghost use Rattle.table_terms.specs.Refusals.{first_refusal};
 ghost use Rattle.run_state.specs.Origins.{base_of};
-ghost use Rattle.run_state.specs.Targets.{has_target, placed};
+ghost use Rattle.run_state.specs.Stops.{StopsFor, refusal_of};
+ghost use Rattle.run_state.specs.Targets.{has_target, placed, targets};
 ghost use Rattle.run_steps.specs.Commands.{ChangesEach, ChangesTogether};
+ghost use Rattle.run_steps.specs.Refusals.{
+  are_of_kind,
+  failed_each,
+  failed_together,
+  first_kind,
+  has_geometry,
+  is_polygon,
+  refusal_each,
+  refusal_together,
+  refused_area,
+  refused_count,
+  refused_kinds,
+  refused_mixture,
+  refused_source,
+  refused_target,
+  takes,
+  takes_all,
+};
 
 use crate::outputs::{each_outputs, joint_output};
 use cmd_words::{Command, JointAction, LayerAction, Origin, Target};
@@ -29,6 +49,8 @@ pub fn changed_each(
     ensures changes { IfOk result (λ after. ChangesEach (base_of ground.now) command.now action.now state.layers.items after.layers.items) }
     ensures there { IfOk result (λ after. has_target command.now.target state.layers.items ≡ true) }
     ensures absent { has_target command.now.target state.layers.items ≡ false → result ≡ Err (CommandStop.Refused RefuseWhy.NoLayer) }
+    ensures accepted { IfOk result (λ after. refusal_each (base_of ground.now) state.layers.items command.now action.now ≡ None) }
+    ensures stops { IfErr result (StopsFor (refusal_each (base_of ground.now) state.layers.items command.now action.now)) }
 {
     match check_each(&state.layers, ground.sources, &command.target, action) {
         Ok(()) => each_changed(alloc, ground, command, action, state),
@@ -48,6 +70,8 @@ pub fn changed_together(
     ensures changes { IfOk result (λ after. ChangesTogether command.now action.now state.layers.items after.layers.items) }
     ensures there { IfOk result (λ after. has_target command.now.target state.layers.items ≡ true) }
     ensures absent { has_target command.now.target state.layers.items ≡ false → result ≡ Err (CommandStop.Refused RefuseWhy.NoLayer) }
+    ensures accepted { IfOk result (λ after. refusal_together state.layers.items command.now action.now ≡ None) }
+    ensures stops { IfErr result (StopsFor (refusal_together state.layers.items command.now action.now)) }
 {
     match check_together(&state.layers, &command.target) {
         Ok(()) => together_changed(alloc, command, action, state),
@@ -62,7 +86,10 @@ fn each_changed(
     action: &LayerAction,
     state: State,
 ) -> Result<State, CommandStop>
+    requires sourced { refused_source (base_of ground.now).sources state.layers.items action.now ≡ None }
     ensures changes { IfOk result (λ after. ChangesEach (base_of ground.now) command.now action.now state.layers.items after.layers.items) }
+    ensures accepted { IfOk result (λ after. failed_each (base_of ground.now) state.layers.items command.now action.now ≡ None) }
+    ensures stops { IfErr result (StopsFor (failed_each (base_of ground.now) state.layers.items command.now action.now)) }
 {
     let outputs = each_outputs(alloc, ground, &state.layers, command, action)?;
     put_out(alloc, state.layers, command, outputs)
@@ -75,12 +102,15 @@ fn together_changed(
     state: State,
 ) -> Result<State, CommandStop>
     ensures changes { IfOk result (λ after. ChangesTogether command.now action.now state.layers.items after.layers.items) }
+    ensures accepted { IfOk result (λ after. failed_together state.layers.items command.now action.now ≡ None) }
+    ensures stops { IfErr result (StopsFor (failed_together state.layers.items command.now action.now)) }
 {
     let outputs = joint_output(alloc, &state.layers, command, action)?;
     put_out(alloc, state.layers, command, outputs)
 }
 
 // The layers with those that the command puts out for each.
+#[tactic(auto, using(crate::proofs::Refusals::too_many))]
 fn put_out(
     alloc: Global,
     layers: Vec<Held>,
@@ -89,6 +119,7 @@ fn put_out(
 ) -> Result<State, CommandStop>
     ensures placed { IfOk result (λ after. after.layers.items ≡ placed command.now layers.items (map (λ out. out.items) outputs.items)) }
     ensures few { IfOk result (λ after. length after.layers.items ≤ 1000) }
+    ensures stops { IfErr result (StopsFor (refused_count (length (placed command.now layers.items (map (λ out. out.items) outputs.items))))) }
 {
     let layers = placed(alloc, layers, command, outputs)?;
     if layers.len() > MAX_LAYERS {
@@ -104,6 +135,8 @@ fn check_each(
     target: &Target,
     action: &LayerAction,
 ) -> Result<(), RefuseWhy>
+    ensures exact { refusal_of result ≡ first_refusal (refused_target target.now layers.now) (first_refusal (refused_source (map (λ own. own.items) sources.now) layers.now action.now) (refused_kinds action.now (targets target.now layers.now))) }
+    ensures sourced { IfOk result (λ done. refused_source (map (λ own. own.items) sources.now) layers.now action.now ≡ None) }
     ensures there { IfOk result (λ done. has_target target.now layers.now ≡ true) }
     ensures absent { has_target target.now layers.now ≡ false → result ≡ Err RefuseWhy.NoLayer }
 {
@@ -115,6 +148,7 @@ fn check_each(
 
 // The target, then that its layers are of one kind.
 fn check_together(layers: &[Held], target: &Target) -> Result<(), RefuseWhy>
+    ensures exact { refusal_of result ≡ first_refusal (refused_target target.now layers.now) (refused_mixture (targets target.now layers.now)) }
     ensures there { IfOk result (λ done. has_target target.now layers.now ≡ true) }
     ensures absent { has_target target.now layers.now ≡ false → result ≡ Err RefuseWhy.NoLayer }
 {
@@ -129,70 +163,141 @@ fn check_layers(
     sources: &[Vec<Layer>],
     target: &Target,
     action: &LayerAction,
-) -> Result<(), RefuseWhy> {
-    check_source(layers, sources, action)?;
-    check_kinds(layers, target, action)
+) -> Result<(), RefuseWhy>
+    ensures exact { refusal_of result ≡ first_refusal (refused_source (map (λ own. own.items) sources.now) layers.now action.now) (refused_kinds action.now (targets target.now layers.now)) }
+    ensures sourced { IfOk result (λ done. refused_source (map (λ own. own.items) sources.now) layers.now action.now ≡ None) }
+{
+    match check_source(layers, sources, action) {
+        Ok(()) => check_kinds(layers, target, action),
+        Err(why) => Err(why),
+    }
 }
 
-// That the source is there, and has polygons where the command cuts by it. A box always is.
+// That the source is there, and has polygons where the command cuts by it.
 fn check_source(
     layers: &[Held],
     sources: &[Vec<Layer>],
     action: &LayerAction,
-) -> Result<(), RefuseWhy> {
+) -> Result<(), RefuseWhy>
+    ensures exact { refusal_of result ≡ refused_source (map (λ own. own.items) sources.now) layers.now action.now }
+{
     match action {
-        LayerAction::Join { from, .. } => {
-            source_layer(layers, sources, from)?;
-        }
-        LayerAction::Clip { from } | LayerAction::Erase { from } => {
-            if !matches!(from, Origin::Area(_))
-                && source_layer(layers, sources, from)?.kind != Kind::Polygon
-            {
-                return Err(RefuseWhy::WrongKind);
-            }
-        }
-        _ => {}
+        LayerAction::Clip { from } => check_area(layers, sources, from),
+        LayerAction::Erase { from } => check_area(layers, sources, from),
+        LayerAction::Join { from, .. } => match source_layer(layers, sources, from) {
+            Ok(_) => Ok(()),
+            Err(why) => Err(why),
+        },
+        LayerAction::Dissolve { .. }
+        | LayerAction::Clean { .. }
+        | LayerAction::Mosaic
+        | LayerAction::InnerLines
+        | LayerAction::Lines { .. }
+        | LayerAction::Explode
+        | LayerAction::Filter { .. }
+        | LayerAction::FilterFields { .. }
+        | LayerAction::RenameFields { .. }
+        | LayerAction::Split { .. } => Ok(()),
     }
-    Ok(())
 }
 
-fn check_kinds(layers: &[Held], target: &Target, action: &LayerAction) -> Result<(), RefuseWhy> {
+// That what a command cuts by is polygons. A box always is there.
+fn check_area(layers: &[Held], sources: &[Vec<Layer>], from: &Origin) -> Result<(), RefuseWhy>
+    ensures exact { refusal_of result ≡ refused_area (map (λ own. own.items) sources.now) layers.now from.now }
+{
+    if let Origin::Area(_) = from {
+        return Ok(());
+    }
+    match source_layer(layers, sources, from) {
+        Ok(layer) if is_polygon(layer.kind) => Ok(()),
+        Ok(_) => Err(RefuseWhy::WrongKind),
+        Err(why) => Err(why),
+    }
+}
+
+fn check_kinds(layers: &[Held], target: &Target, action: &LayerAction) -> Result<(), RefuseWhy>
+    ensures exact { refusal_of result ≡ refused_kinds action.now (targets target.now layers.now) }
+{
+    if takes_all(layers, target, action) {
+        Ok(())
+    } else {
+        Err(RefuseWhy::WrongKind)
+    }
+}
+
+fn takes_all(layers: &[Held], target: &Target, action: &LayerAction) -> bool
+    ensures exact { result ≡ takes_all action.now (targets target.now layers.now) }
+{
     for held in layers {
         if is_selected(target, held) && !takes(action, held.layer.kind) {
-            return Err(RefuseWhy::WrongKind);
+            return false;
         }
     }
-    Ok(())
-}
-
-fn check_one_kind(layers: &[Held], target: &Target) -> Result<(), RefuseWhy> {
-    let mut first = None;
-    for held in layers {
-        if is_selected(target, held) {
-            let kind = held.layer.kind;
-            if kind != *first.get_or_insert(kind) {
-                return Err(RefuseWhy::WrongKind);
-            }
-        }
-    }
-    Ok(())
+    true
 }
 
 // Whether the command takes a layer of this kind.
-fn takes(action: &LayerAction, kind: Kind) -> bool {
+fn takes(action: &LayerAction, kind: Kind) -> bool
+    ensures exact { result ≡ takes action.now kind }
+{
     match action {
         LayerAction::Clip { .. } | LayerAction::Erase { .. } | LayerAction::Explode => {
-            kind != Kind::Table
+            has_geometry(kind)
         }
         LayerAction::Clean { .. }
         | LayerAction::Mosaic
         | LayerAction::InnerLines
-        | LayerAction::Lines { .. } => kind == Kind::Polygon,
-        LayerAction::Filter { remove_empty, .. } => !*remove_empty || kind != Kind::Table,
+        | LayerAction::Lines { .. } => is_polygon(kind),
+        LayerAction::Filter { remove_empty, .. } => !*remove_empty || has_geometry(kind),
         LayerAction::Dissolve { .. }
         | LayerAction::Join { .. }
         | LayerAction::FilterFields { .. }
         | LayerAction::RenameFields { .. }
         | LayerAction::Split { .. } => true,
     }
+}
+
+fn has_geometry(kind: Kind) -> bool
+    ensures exact { result ≡ has_geometry kind }
+{
+    kind != Kind::Table
+}
+
+fn is_polygon(kind: Kind) -> bool
+    ensures exact { result ≡ is_polygon kind }
+{
+    kind == Kind::Polygon
+}
+
+fn check_one_kind(layers: &[Held], target: &Target) -> Result<(), RefuseWhy>
+    ensures exact { refusal_of result ≡ refused_mixture (targets target.now layers.now) }
+{
+    if are_of_kind(layers, target, first_kind(layers, target)) {
+        Ok(())
+    } else {
+        Err(RefuseWhy::WrongKind)
+    }
+}
+
+// The kind of the first layer of the target; `Table` where there is none.
+fn first_kind(layers: &[Held], target: &Target) -> Kind
+    ensures exact { result ≡ first_kind (targets target.now layers.now) }
+{
+    for held in layers {
+        if is_selected(target, held) {
+            return held.layer.kind;
+        }
+    }
+    Kind::Table
+}
+
+fn are_of_kind(layers: &[Held], target: &Target, kind: Kind) -> bool
+    ensures exact { result ≡ are_of_kind kind (targets target.now layers.now) }
+{
+    for held in layers {
+        if is_selected(target, held) && kind != held.layer.kind {
+            return false;
+        }
+    }
+    true
 }

@@ -1,8 +1,10 @@
-ghost use Rattle.std.specs.Prelude.{◌≡◌, ◌∷◌, [], IfOk, map, option_copied, replicate};
+ghost use Rattle.std.specs.Prelude.{◌≡◌, ◌∷◌, [], IfErr, IfOk, None, map, option_copied, replicate};
 ghost use Rattle.std.specs.List.{AllZip, position_or_len};
 ghost use Rattle.run_state.specs.Targets.{is_selected, targets};
-ghost use Rattle.run_state.specs.Origins.{base_of};
+ghost use Rattle.run_state.specs.Origins.{base_of, one_layer, origin_layers};
+ghost use Rattle.run_state.specs.Stops.{StopsFor};
 ghost use Rattle.run_steps.specs.Commands.{CutsBy, IsTitled, Joins, MadeTogether, PutsFor, PutsOut, PutsTogether, at_first};
+ghost use Rattle.run_steps.specs.Refusals.{refused_held, refused_in, refused_join, refused_layer, refused_source, refused_together};
 
 use cmd_words::{Command, JointAction, LayerAction, Origin, Target};
 use io_core::Text;
@@ -24,6 +26,8 @@ pub(crate) fn joint_output(
     action: &JointAction,
 ) -> Result<Vec<Vec<Layer>>, CommandStop>
     ensures puts { IfOk result (λ outputs. PutsTogether command.now action.now layers.now (map (λ out. out.items) outputs.items)) }
+    ensures accepted { IfOk result (λ outputs. refused_together action.now (targets command.now.target layers.now) ≡ None) }
+    ensures stops { IfErr result (StopsFor (refused_together action.now (targets command.now.target layers.now))) }
 {
     let layer = made_together(alloc, layers, &command.target, action)?;
     let layer = titled(alloc, layer, command.name.as_ref())?;
@@ -37,6 +41,8 @@ fn made_together(
     action: &JointAction,
 ) -> Result<Layer, CommandStop>
     ensures made { IfOk result (MadeTogether action.now (targets target.now layers.now)) }
+    ensures accepted { IfOk result (λ outputs. refused_together action.now (targets target.now layers.now) ≡ None) }
+    ensures stops { IfErr result (StopsFor (refused_together action.now (targets target.now layers.now))) }
 {
     match action {
         JointAction::MergeLayers { force } => merged(alloc, layers, target, *force),
@@ -90,7 +96,10 @@ pub(crate) fn each_outputs(
     command: &Command,
     action: &LayerAction,
 ) -> Result<Vec<Vec<Layer>>, CommandStop>
+    requires sourced { refused_source (base_of ground.now).sources layers.now action.now ≡ None }
     ensures puts { IfOk result (λ outputs. AllZip (PutsFor (base_of ground.now) layers.now command.now action.now) layers.now (map (λ out. out.items) outputs.items)) }
+    ensures accepted { IfOk result (λ outputs. refused_in (refused_layer (base_of ground.now) layers.now action.now) (targets command.now.target layers.now) ≡ None) }
+    ensures stops { IfErr result (StopsFor (refused_in (refused_layer (base_of ground.now) layers.now action.now) (targets command.now.target layers.now))) }
 {
     let area = cut_area(alloc, ground, layers, action)?;
     let mut outputs = Vec::new(alloc);
@@ -101,13 +110,16 @@ pub(crate) fn each_outputs(
 }
 
 // The faces that a command cuts by; none where it doesn't cut.
+#[tactic(auto, using(crate::proofs::Refusals::area_there))]
 fn cut_area(
     alloc: Global,
     ground: &Ground<'_>,
     layers: &[Held],
     action: &LayerAction,
 ) -> Result<FaceSet, CommandStop>
+    requires sourced { refused_source (base_of ground.now).sources layers.now action.now ≡ None }
     ensures area { IfOk result (CutsBy (base_of ground.now) layers.now action.now) }
+    ensures memory { IfErr result (λ stop. stop ≡ CommandStop.Memory) }
 {
     match action {
         LayerAction::Clip { from } => area_of(alloc, ground, layers, from),
@@ -127,6 +139,8 @@ fn held_outputs(
 ) -> Result<Vec<Layer>, CommandStop>
     requires area { CutsBy (base_of ground.now) layers.now action.now area.now }
     ensures puts { IfOk result (λ outputs. PutsFor (base_of ground.now) layers.now command.now action.now held.now outputs.items) }
+    ensures accepted { IfOk result (λ outputs. refused_held (base_of ground.now) layers.now command.now action.now held.now ≡ None) }
+    ensures stops { IfErr result (StopsFor (refused_held (base_of ground.now) layers.now command.now action.now held.now)) }
 {
     if !is_selected(&command.target, held) {
         return Ok(Vec::new(alloc));
@@ -187,6 +201,8 @@ fn layer_outputs(
 ) -> Result<Vec<Layer>, CommandStop>
     requires area { CutsBy (base_of ground.now) layers.now action.now area.now }
     ensures puts { IfOk result (λ outputs. PutsOut (base_of ground.now) layers.now action.now layer.now outputs.items) }
+    ensures accepted { IfOk result (λ outputs. refused_layer (base_of ground.now) layers.now action.now layer.now ≡ None) }
+    ensures stops { IfErr result (StopsFor (refused_layer (base_of ground.now) layers.now action.now layer.now)) }
 {
     let plane = ground.plane;
     match action {
@@ -226,6 +242,8 @@ fn joined_by(
     layer: &Layer,
 ) -> Result<Vec<Layer>, CommandStop>
     ensures joins { IfOk result (λ outputs. Joins (base_of ground.now) layers.now from.now spec.now layer.now outputs.items) }
+    ensures accepted { IfOk result (λ outputs. refused_join (one_layer (origin_layers (base_of ground.now).sources layers.now from.now)) spec.now layer.now ≡ None) }
+    ensures stops { IfErr result (StopsFor (refused_join (one_layer (origin_layers (base_of ground.now).sources layers.now from.now)) spec.now layer.now)) }
 {
     match source_layer(layers, ground.sources, from) {
         Ok(source) => one(alloc, joined(alloc, layer, source, spec)?),
@@ -235,6 +253,7 @@ fn joined_by(
 
 fn one(alloc: Global, layer: Layer) -> Result<Vec<Layer>, CommandStop>
     ensures one { IfOk result (λ outputs. outputs.items ≡ layer ∷ []) }
+    ensures memory { IfErr result (λ stop. stop ≡ CommandStop.Memory) }
 {
     Ok(one_output(alloc, layer)?)
 }

@@ -1,16 +1,23 @@
 -- A merged table has as many rows as the tables together.
-use Rattle.std.proofs.Common.{◌≡◌, Bool, true, false, List, [], ◌∷◌, ◌++◌, length, map, Option, Some, None, Ok, refl, ap, sym, ◌∙◌, arith, length-append}
+use Rattle.std.proofs.Common.{◌≡◌, ◌<◌, Err, slice_get, Bool, true, false, List, [], ◌∷◌, ◌++◌, length, map, Option, Some, None, Ok, refl, ap, sym, ◌∙◌, arith, length-append}
 use Rattle.std.proofs.lemmas.List.{length-map}
 use Rattle.json_read.specs.Table.{TableContent}
 use Rattle.table_ops.specs.Columns.{cells}
 use Rattle.table_ops.specs.Merge.{merge_tables, merged_names, merged_rows, refused_merge}
 use Rattle.table_terms.specs.Names.{Text}
 use Rattle.table_terms.specs.Refusals.{unless}
+use Rattle.table_ops.specs.Refusals.{Answers}
+use Rattle.table_ops.specs.declared.fault.TableFault.{TableFault}
+use Rattle.table_ops.specs.declared.fault.TableFault.TheVariants.{Bad, Memory}
 use Rattle.cmd_words.specs.declared.job.Target.{Target}
+use Rattle.run_plane.specs.declared.layer.Layer.{Layer}
+use Rattle.run_state.specs.Stops.{StopsFor, stop_of, table_refusal}
 use Rattle.run_state.specs.Targets.{is_selected, targets}
+use Rattle.run_state.specs.declared.refusal.RefuseWhy.TheVariants.{NoLayer}
 use Rattle.run_state.specs.declared.state.Held.{Held}
 use Rattle.run_state.proofs.TargetLemmas.{targets_off, targets_on}
 use Rattle.run_tables.specs.Gathering.{all_rows}
+use Rattle.run_tables.specs.Made.{refused_layers}
 
 -- an answer behind no refusal
 answered : {T E : Type 0} (refusal : Option E) (v t : T) → unless refusal (Ok v) ≡ Ok t → v ≡ t
@@ -33,3 +40,29 @@ target_taken t front held e = targets_on t front held e
 
 pub target_passed : (t : Target) (front : List Held) (held : Held) → is_selected t held ≡ false → targets t (front ++ held ∷ []) ≡ targets t front
 target_passed t front held e = targets_off t front held e
+
+-- ---- why layers are not merged
+
+abbrev tables_of : List Layer → List TableContent
+tables_of layers = map (λ (layer : Layer). layer.table) layers
+
+pub no_merge : (force : Bool) (layers : List Layer) → None ≡ slice_get layers 0 → refused_layers force layers ≡ Some NoLayer
+no_merge force [] h = refl
+no_merge force (layer ∷ layers) h = absurd (let e : None ≡ Some layer = h in cc)
+
+pub some_tables : (first : Layer) (layers : List Layer) → Some first ≡ slice_get layers 0 → 0 < length (tables_of layers)
+some_tables first [] h = absurd (let e : Some first ≡ None = h in cc)
+some_tables first (layer ∷ layers) h = omega arith
+
+refused_tables : (force : Bool) (first : Layer) (layers : List Layer) → Some first ≡ slice_get layers 0 → refused_layers force layers ≡ table_refusal (merge_tables (tables_of layers) force)
+refused_tables force first [] h = absurd (let e : Some first ≡ None = h in cc)
+refused_tables force first (layer ∷ layers) h = refl
+
+pub merge_stops : (force : Bool) (first : Layer) (layers : List Layer) (tables : List TableContent) (fault : TableFault) → Some first ≡ slice_get layers 0 → tables ≡ tables_of layers →
+    Answers (Err fault) (merge_tables tables force) → StopsFor (refused_layers force layers) (stop_of fault)
+merge_stops force first layers tables (Bad why) h e a = refused_tables force first layers h ∙ (ap (λ (ts : List TableContent). table_refusal (merge_tables ts force)) (sym e) ∙ ap table_refusal a)
+merge_stops force first layers tables Memory h e a = tt
+
+pub merge_goes : (force : Bool) (first : Layer) (layers : List Layer) (tables : List TableContent) (table : TableContent) → Some first ≡ slice_get layers 0 → tables ≡ tables_of layers →
+    merge_tables tables force ≡ Ok table → refused_layers force layers ≡ None
+merge_goes force first layers tables table h e a = refused_tables force first layers h ∙ (ap (λ (ts : List TableContent). table_refusal (merge_tables ts force)) (sym e) ∙ ap table_refusal a)

@@ -1,5 +1,5 @@
 -- What commands on rows and columns make of layers.
-use Rattle.std.specs.Prelude.{◌≡◌, ℕ, Bool, not, if◌then◌else◌, List, map, slice_get, Option, Some, None, Result, Ok}
+use Rattle.std.specs.Prelude.{◌≡◌, ℕ, Bool, not, if◌then◌else◌, List, [], ◌∷◌, map, slice_get, Option, Some, None, Result, Ok}
 use Rattle.std.specs.List.{flat_map}
 use Rattle.json_read.specs.Table.{TableContent}
 use Rattle.expr_lang.specs.Tree.{tree_of}
@@ -10,6 +10,15 @@ use Rattle.table_ops.specs.declared.fault.TableWhy.{TableWhy}
 use Rattle.run_plane.specs.Shapes.{with_geometry}
 use Rattle.run_plane.specs.declared.layer.Layer.{Layer}
 use Rattle.run_state.specs.Features.{TakesFeatures, all_numbers}
+use Rattle.run_state.specs.Stops.{table_refusal}
+use Rattle.run_state.specs.declared.refusal.RefuseWhy.{RefuseWhy}
+use Rattle.run_state.specs.declared.refusal.RefuseWhy.TheVariants.{NoLayer}
+
+-- one layer, of which this holds
+abbrev pub One : (Layer → Type 0) → List Layer → Type 0
+One P [] = ⊥
+One P (made ∷ []) = P made
+One P (made ∷ other ∷ rest) = ⊥
 
 -- with another table alone
 pub record HasTable (layer : Layer) (t : TableContent) (made : Layer) : Type 0 where
@@ -43,3 +52,8 @@ pub record IsMerged (force : Bool) (layers : List Layer) (made : Layer) : Type 0
   pub kind : made.kind ≡ first.kind
   pub table : merge_tables (map (λ (layer : Layer). layer.table) layers) force ≡ Ok made.table
   pub shapes : made.shapes.items ≡ flat_map (λ (layer : Layer). layer.shapes.items) layers
+
+-- why layers are not merged: there is none, or what their tables are refused for
+abbrev pub refused_layers : Bool → List Layer → Option RefuseWhy
+refused_layers force [] = Some NoLayer
+refused_layers force (layer ∷ layers) = table_refusal (merge_tables (map (λ (l : Layer). l.table) (layer ∷ layers)) force)

@@ -1,10 +1,11 @@
 ghost use Rattle.run_tables.specs.Gathering.{all_rows};
-ghost use Rattle.std.specs.Prelude.{◌≡◌, ◌<◌, ◌++◌, IfOk, OnOk, All, length, map, option_copied, slice_get};
+ghost use Rattle.std.specs.Prelude.{◌≡◌, ◌<◌, ◌++◌, IfErr, IfOk, None, OnOk, Some, All, length, map, option_copied, slice_get};
 ghost use Rattle.std.specs.List.{flat_map};
+ghost use Rattle.run_state.specs.Stops.{StopsFor, table_refusal};
 ghost use Rattle.run_state.specs.Targets.{targets};
 ghost use Rattle.table_ops.specs.Columns.{keep_fields, rename_fields};
 ghost use Rattle.table_ops.specs.Join.{join_tables};
-ghost use Rattle.run_tables.specs.Made.{GivesTable, HasTable, IsFiltered, IsMerged, kept_numbers};
+ghost use Rattle.run_tables.specs.Made.{GivesTable, HasTable, IsFiltered, IsMerged, kept_numbers, refused_layers};
 
 use cmd_words::Target;
 use expr_lang::Expr;
@@ -30,6 +31,8 @@ pub fn filtered(
     remove_empty: bool,
 ) -> Result<Layer, CommandStop>
     ensures made { IfOk result (IsFiltered (option_copied test.entry) invert remove_empty layer.now) }
+    ensures accepted { IfOk result (λ made. table_refusal (kept_numbers (option_copied test.entry) invert layer.now) ≡ None) }
+    ensures stops { IfErr result (StopsFor (table_refusal (kept_numbers (option_copied test.entry) invert layer.now))) }
 {
     let kept = kept_numbers(alloc, layer, test, invert)?;
     if !remove_empty {
@@ -39,6 +42,7 @@ pub fn filtered(
     Ok(take_features(alloc, layer, &kept)?)
 }
 
+#[tactic(auto, using(run_state::proofs::Stops::table_stops))]
 fn kept_numbers(
     alloc: Global,
     layer: &Layer,
@@ -46,6 +50,7 @@ fn kept_numbers(
     invert: bool,
 ) -> Result<IdList, CommandStop>
     ensures kept { IfOk result (λ kept. kept_numbers (option_copied test.entry) invert layer.now ≡ Ok kept) }
+    ensures stops { IfErr result (StopsFor (table_refusal (kept_numbers (option_copied test.entry) invert layer.now))) }
     ensures within { IfOk result (λ kept. All (λ n. n < length layer.now.table.rows) kept) }
 {
     match test {
@@ -55,22 +60,29 @@ fn kept_numbers(
 }
 
 /// The layer with these columns alone, in this order.
+#[tactic(auto, using(run_state::proofs::Stops::table_stops))]
 pub fn with_fields(alloc: Global, layer: &Layer, fields: &NameList) -> Result<Layer, CommandStop>
     ensures made { IfOk result (GivesTable (keep_fields layer.now.table fields.now) layer.now) }
+    ensures accepted { IfOk result (λ made. table_refusal (keep_fields layer.now.table fields.now) ≡ None) }
+    ensures stops { IfErr result (StopsFor (table_refusal (keep_fields layer.now.table fields.now))) }
 {
     let table = keep_fields(alloc, &layer.table, fields)?;
     Ok(with_table(alloc, layer, table)?)
 }
 
 /// The layer with columns under other names.
+#[tactic(auto, using(run_state::proofs::Stops::table_stops))]
 pub fn renamed(alloc: Global, layer: &Layer, pairs: &RenameList) -> Result<Layer, CommandStop>
     ensures made { IfOk result (GivesTable (rename_fields layer.now.table pairs.now) layer.now) }
+    ensures accepted { IfOk result (λ made. table_refusal (rename_fields layer.now.table pairs.now) ≡ None) }
+    ensures stops { IfErr result (StopsFor (table_refusal (rename_fields layer.now.table pairs.now))) }
 {
     let table = rename_fields(alloc, &layer.table, pairs)?;
     Ok(with_table(alloc, layer, table)?)
 }
 
 /// The layer with the columns of the rows of `source` whose key is the same.
+#[tactic(auto, using(run_state::proofs::Stops::table_stops))]
 pub fn joined(
     alloc: Global,
     layer: &Layer,
@@ -78,13 +90,15 @@ pub fn joined(
     spec: &JoinSpec,
 ) -> Result<Layer, CommandStop>
     ensures made { IfOk result (GivesTable (join_tables layer.now.table source.now.table spec.now) layer.now) }
+    ensures accepted { IfOk result (λ made. table_refusal (join_tables layer.now.table source.now.table spec.now) ≡ None) }
+    ensures stops { IfErr result (StopsFor (table_refusal (join_tables layer.now.table source.now.table spec.now))) }
 {
     let table = join_tables(alloc, &layer.table, &source.table, spec)?;
     Ok(with_table(alloc, layer, table)?)
 }
 
-// The layer with another table, which has as many rows.
-fn with_table(alloc: Global, layer: &Layer, table: Table) -> Result<Layer, AllocError>
+/// The layer with another table, which has as many rows.
+pub(crate) fn with_table(alloc: Global, layer: &Layer, table: Table) -> Result<Layer, AllocError>
     requires { length table.rows ≡ length layer.now.table.rows }
     ensures made { IfOk result (HasTable layer.now table) }
 {
@@ -98,7 +112,9 @@ fn with_table(alloc: Global, layer: &Layer, table: Table) -> Result<Layer, Alloc
 }
 
 /// The features of the target's layers, in order, in a layer like the first.
-#[tactic(auto, using(crate::proofs::Gathering::merged_count))]
+///
+/// Errors: `NoLayer` where the target has none, and what the tables are refused for.
+#[tactic(auto, using(crate::proofs::Gathering::no_merge))]
 pub fn merged(
     alloc: Global,
     layers: &[Held],
@@ -106,20 +122,37 @@ pub fn merged(
     force: bool,
 ) -> Result<Layer, CommandStop>
     ensures made { IfOk result (IsMerged force (targets target.now layers.now)) }
+    ensures accepted { IfOk result (λ made. refused_layers force (targets target.now layers.now) ≡ None) }
+    ensures stops { IfErr result (StopsFor (refused_layers force (targets target.now layers.now))) }
+{
+    match first_target(layers, target) {
+        Some(first) => merged_like(alloc, first, layers, target, force),
+        None => Err(CommandStop::Refused(RefuseWhy::NoLayer)),
+    }
+}
+
+// The features of the target's layers, of which this is the first.
+#[tactic(auto, using(crate::proofs::Gathering::merged_count, crate::proofs::Gathering::some_tables, crate::proofs::Gathering::merge_stops))]
+fn merged_like(
+    alloc: Global,
+    first: &Layer,
+    layers: &[Held],
+    target: &Target,
+    force: bool,
+) -> Result<Layer, CommandStop>
+    requires first { Some first.now ≡ slice_get (targets target.now layers.now) 0 }
+    ensures made { IfOk result (IsMerged force (targets target.now layers.now)) }
+    ensures accepted { IfOk result (λ made. refused_layers force (targets target.now layers.now) ≡ None) }
+    ensures stops { IfErr result (StopsFor (refused_layers force (targets target.now layers.now))) }
 {
     let Gathered { tables, shapes } = gather(alloc, layers, target)?;
-    match first_target(layers, target) {
-        Some(first) if tables.len() > 0 => {
-            let table = merge_tables(alloc, &tables, force)?;
-            Ok(Layer {
-                name: copy_text(alloc, &first.name)?,
-                kind: first.kind,
-                table,
-                shapes,
-            })
-        }
-        _ => Err(CommandStop::Refused(RefuseWhy::NoLayer)),
-    }
+    let table = merge_tables(alloc, &tables, force)?;
+    Ok(Layer {
+        name: copy_text(alloc, &first.name)?,
+        kind: first.kind,
+        table,
+        shapes,
+    })
 }
 
 // The tables of layers, and their shapes one behind another.

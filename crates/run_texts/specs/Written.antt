@@ -1,5 +1,5 @@
 -- What the text of an output says of the layers of its target, and which outputs are refused.
-use Rattle.std.specs.Prelude.{◌≡◌, ◌||◌, Bool, false, if◌then◌else◌, List, [], ◌∷◌, map, Option, Some, None, Result, Ok, Err}
+use Rattle.std.specs.Prelude.{◌≡◌, ◌||◌, Bool, false, if◌then◌else◌, List, [], ◌∷◌, map, Option, Some, None, Ok}
 use Rattle.std.specs.List.{AllZip}
 use Rattle.io_core.specs.Contents.{Content}
 use Rattle.geojson_io.specs.LayerContent.{LayerContent}
@@ -12,14 +12,13 @@ use Rattle.cmd_words.specs.declared.job.OutForm.{OutForm}
 use Rattle.cmd_words.specs.declared.job.OutForm.TheVariants as form
 use Rattle.cmd_words.specs.declared.job.Target.{Target}
 use Rattle.run_state.specs.Origins.{Base, one_layer}
+use Rattle.run_state.specs.Stops.{refusal_of}
 use Rattle.run_texts.specs.Pictures.{IsPicture}
 use Rattle.run_state.specs.Targets.{has_target, targets}
 use Rattle.run_texts.specs.Tracing.{IsTracedLayer}
 use Rattle.run_plane.specs.declared.layer.Layer.{Layer}
 use Rattle.run_state.specs.declared.refusal.RefuseWhy.{RefuseWhy}
 use Rattle.run_state.specs.declared.refusal.RefuseWhy.TheVariants.{NoLayer, NameTwice}
-use Rattle.run_state.specs.declared.state.CommandStop.{CommandStop}
-use Rattle.run_state.specs.declared.state.CommandStop.TheVariants.{Refused, Memory}
 use Rattle.run_state.specs.declared.state.Held.{Held}
 
 -- ---- texts
@@ -54,11 +53,6 @@ OutputSays base form.Topo layers text = IsTopoText base layers text
 abbrev pub names_of_layers : List Layer → List Content
 names_of_layers layers = map (λ (layer : Layer). layer.name) layers
 
--- an answer's refusal
-abbrev pub refusal_of : Result Layer RefuseWhy → Option RefuseWhy
-refusal_of (Ok layer) = None
-refusal_of (Err why) = Some why
-
 -- two of the names are one
 abbrev pub has_name_twice : List Content → Bool
 has_name_twice [] = false
@@ -81,8 +75,3 @@ refused_form form.Topo layers = refused_names layers
 -- why an output of these layers is refused, where it is: first for its target, then for its form
 abbrev pub refused_output : Target → OutForm → List Held → Option RefuseWhy
 refused_output t f layers = if has_target t layers then refused_form f (targets t layers) else Some NoLayer
-
--- an output stops for that, or for want of memory
-abbrev pub StopsFor : Option RefuseWhy → CommandStop → Type 0
-StopsFor refusal (Refused why) = refusal ≡ Some why
-StopsFor refusal Memory = Unit {0}

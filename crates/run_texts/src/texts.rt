@@ -3,9 +3,10 @@ ghost use Rattle.std.specs.List.{AllZip};
 ghost use Rattle.table_terms.specs.Names.{has_name};
 ghost use Rattle.topo_io.specs.Arcs.{LayerIsBelow};
 ghost use Rattle.run_state.specs.Origins.{base_of, one_layer};
+ghost use Rattle.run_state.specs.Stops.{StopsFor};
 ghost use Rattle.run_state.specs.Targets.{has_target, targets};
 ghost use Rattle.run_texts.specs.Tracing.{IsTracedLayer};
-ghost use Rattle.run_texts.specs.Written.{IsCsvText, IsGeoText, IsTopoText, OutputSays, StopsFor, has_name_twice, names_of_layers, refused_form, refused_names, refused_one, refused_output};
+ghost use Rattle.run_texts.specs.Written.{IsCsvText, IsGeoText, IsTopoText, OutputSays, has_name_twice, names_of_layers, refused_form, refused_names, refused_one, refused_output};
 
 use crate::arc_pictures::arc_layer_of;
 use crate::pictures::picture_of;

@@ -4,16 +4,14 @@ use Rattle.run_steps.specs.Commands.{IsTitled}
 use Rattle.run_plane.specs.declared.layer.Layer.{Layer}
 use Rattle.run_steps.proofs.outputs.joint_output.Goals as goal
 
-pub returns : goal.returns
-returns c =
+pub returns-clause-puts : goal.returns-clause-puts
+returns-clause-puts c =
     let made : Layer = c.in_ok-layer.layer in
     let named : Layer = c.in_ok-layer-2.layer in
     record {
-      puts = record {
-        made = made;
-        titled = named;
-        of_all = c.in_ok-layer.ensures.made;
-        title = subst (λ (title : Option Content). IsTitled title made named) c.as_ref.ensures.value c.in_ok-layer-2.ensures.titled;
-        place = c.in_ok-at_first.ensures.placed;
-      };
+      made = made;
+      titled = named;
+      of_all = c.in_ok-layer.ensures.made;
+      title = subst (λ (title : Option Content). IsTitled title made named) c.as_ref.ensures.value c.in_ok-layer-2.ensures.titled;
+      place = c.in_ok-at_first.ensures.placed;
     }

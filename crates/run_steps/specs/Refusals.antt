@@ -1,0 +1,175 @@
+-- Why a command that changes layers is refused: for its target, its source, the kinds of its layers, what it makes of
+-- them, or how many layers it would leave. The first of these that applies is told.
+use Rattle.std.specs.Prelude.{ℕ, ◌+◌, Bool, true, false, not, ◌&&◌, ◌||◌, nat_lt, List, [], ◌∷◌, map, length, count_by, sum_by, Option, Some, None, Result, Ok, Err, if◌then◌else◌}
+use Rattle.std.specs.List.{list_all}
+use Rattle.grid_base.specs.declared.kinds.Kind.{Kind}
+use Rattle.grid_base.specs.declared.kinds.Kind.TheVariants as kinds
+use Rattle.table_ops.specs.Columns.{keep_fields, rename_fields}
+use Rattle.table_ops.specs.Join.{join_tables}
+use Rattle.table_terms.specs.Refusals.{first_refusal}
+use Rattle.table_ops.specs.Splitting.{split_rows}
+use Rattle.table_ops.specs.declared.fault.TableWhy.{TableWhy}
+use Rattle.table_terms.specs.declared.specifications.JoinSpec.{JoinSpec}
+use Rattle.table_ops.specs.declared.split.SplitItem.{SplitItem}
+use Rattle.cmd_words.specs.declared.job.Command.{Command}
+use Rattle.cmd_words.specs.declared.job.JointAction.{JointAction}
+use Rattle.cmd_words.specs.declared.job.JointAction.TheVariants as joint
+use Rattle.cmd_words.specs.declared.job.LayerAction.{LayerAction}
+use Rattle.cmd_words.specs.declared.job.LayerAction.TheVariants as action
+use Rattle.cmd_words.specs.declared.job.Origin.{Origin}
+use Rattle.cmd_words.specs.declared.job.Origin.TheVariants as origin
+use Rattle.cmd_words.specs.declared.job.Target.{Target}
+use Rattle.run_plane.specs.declared.layer.Layer.{Layer}
+use Rattle.run_shapes.specs.Dissolving.{refused_dissolve}
+use Rattle.run_state.specs.Origins.{Base, Owned, one_layer, origin_layers}
+use Rattle.run_state.specs.Stops.{refusal_of, table_refusal}
+use Rattle.run_state.specs.Targets.{has_target, is_selected, targets}
+use Rattle.run_state.specs.declared.refusal.RefuseWhy.{RefuseWhy}
+use Rattle.run_state.specs.declared.refusal.RefuseWhy.TheVariants.{NoLayer, WrongKind, TooManyLayers}
+use Rattle.run_state.specs.declared.state.Held.{Held}
+use Rattle.run_tables.specs.Made.{kept_numbers, refused_layers}
+
+-- ---- the target, and the source
+
+abbrev pub refused_target : Target → List Held → Option RefuseWhy
+refused_target t layers = if has_target t layers then None else Some NoLayer
+
+abbrev pub is_polygon : Kind → Bool
+is_polygon kinds.Polygon = true
+is_polygon _ = false
+
+-- what a command cuts by is one layer of polygons
+abbrev pub refused_polygons : Result Layer RefuseWhy → Option RefuseWhy
+refused_polygons (Ok layer) = if is_polygon layer.kind then None else Some WrongKind
+refused_polygons (Err why) = Some why
+
+-- or a box, which always is there
+abbrev pub refused_area : Owned → List Held → Origin → Option RefuseWhy
+refused_area sources layers (origin.Layer name) = refused_polygons (one_layer (origin_layers sources layers (origin.Layer name)))
+refused_area sources layers (origin.Source n) = refused_polygons (one_layer (origin_layers sources layers (origin.Source n)))
+refused_area sources layers (origin.Area n) = None
+
+abbrev pub refused_source : Owned → List Held → LayerAction → Option RefuseWhy
+refused_source sources layers (action.Clip from) = refused_area sources layers from
+refused_source sources layers (action.Erase from) = refused_area sources layers from
+refused_source sources layers (action.Join from spec) = refusal_of (one_layer (origin_layers sources layers from))
+refused_source sources layers _ = None
+
+-- ---- the kinds of the target's layers
+
+abbrev pub has_geometry : Kind → Bool
+has_geometry kinds.Table = false
+has_geometry _ = true
+
+-- the command takes layers of this kind
+abbrev pub takes : LayerAction → Kind → Bool
+takes (action.Clip from) k = has_geometry k
+takes (action.Erase from) k = has_geometry k
+takes (action.Clean rule allow_empty) k = is_polygon k
+takes action.Mosaic k = is_polygon k
+takes action.InnerLines k = is_polygon k
+takes (action.Lines fields) k = is_polygon k
+takes action.Explode k = has_geometry k
+takes (action.Filter test invert remove_empty) k = not remove_empty || has_geometry k
+takes _ k = true
+
+abbrev pub takes_all : LayerAction → List Layer → Bool
+takes_all a layers = list_all (λ (layer : Layer). takes a layer.kind) layers
+
+abbrev pub refused_kinds : LayerAction → List Layer → Option RefuseWhy
+refused_kinds a layers = if takes_all a layers then None else Some WrongKind
+
+abbrev pub same_kind : Kind → Kind → Bool
+same_kind kinds.Polygon kinds.Polygon = true
+same_kind kinds.Line kinds.Line = true
+same_kind kinds.Point kinds.Point = true
+same_kind kinds.Table kinds.Table = true
+same_kind _ _ = false
+
+abbrev pub first_kind : List Layer → Kind
+first_kind [] = kinds.Table
+first_kind (layer ∷ layers) = layer.kind
+
+abbrev pub are_of_kind : Kind → List Layer → Bool
+are_of_kind k layers = list_all (λ (layer : Layer). same_kind k layer.kind) layers
+
+-- layers that are changed together all have the kind of the first
+abbrev pub refused_mixture : List Layer → Option RefuseWhy
+refused_mixture layers = if are_of_kind (first_kind layers) layers then None else Some WrongKind
+
+-- ---- what the command makes of its layers
+
+abbrev pub refused_join : Result Layer RefuseWhy → JoinSpec → Layer → Option RefuseWhy
+refused_join (Ok source) spec layer = table_refusal (join_tables layer.table source.table spec)
+refused_join (Err why) spec layer = Some why
+
+-- why a layer of the target is refused
+abbrev pub refused_layer : Base → List Held → LayerAction → Layer → Option RefuseWhy
+refused_layer base layers (action.Dissolve spec group_points) layer = refused_dissolve spec group_points layer
+refused_layer base layers (action.Lines fields) layer = table_refusal (keep_fields layer.table fields)
+refused_layer base layers (action.Join from spec) layer = refused_join (one_layer (origin_layers base.sources layers from)) spec layer
+refused_layer base layers (action.Filter test invert remove_empty) layer = table_refusal (kept_numbers test invert layer)
+refused_layer base layers (action.FilterFields fields) layer = table_refusal (keep_fields layer.table fields)
+refused_layer base layers (action.RenameFields pairs) layer = table_refusal (rename_fields layer.table pairs)
+refused_layer base layers (action.Split field) layer = table_refusal (split_rows layer.table field)
+refused_layer base layers _ layer = None
+
+-- and any other layer is none that is refused
+abbrev pub refused_held : Base → List Held → Command → LayerAction → Held → Option RefuseWhy
+refused_held base layers c a held = if is_selected c.target held then refused_layer base layers a held.layer else None
+
+-- the first of layers that is refused
+abbrev pub refused_in : (Layer → Option RefuseWhy) → List Layer → Option RefuseWhy
+refused_in refused [] = None
+refused_in refused (layer ∷ layers) = first_refusal (refused layer) (refused_in refused layers)
+
+abbrev pub refused_together : JointAction → List Layer → Option RefuseWhy
+refused_together (joint.MergeLayers force) layers = refused_layers force layers
+
+-- ---- how many layers it leaves
+
+-- a layer without features is one piece
+abbrev pub piece_count : Result (List SplitItem) TableWhy → ℕ
+piece_count (Ok []) = 1
+piece_count (Ok (item ∷ items)) = length items + 1
+piece_count (Err why) = 0
+
+-- how many layers are put out for one of the target
+abbrev pub output_count : LayerAction → Layer → ℕ
+output_count (action.Split field) layer = piece_count (split_rows layer.table field)
+output_count _ layer = 1
+
+-- how many stay: with `+` all of them, and else those that are not of the target
+abbrev pub stay_count : Command → List Held → ℕ
+stay_count c layers = if c.keep then length layers else count_by (λ (held : Held). not (is_selected c.target held)) layers
+
+abbrev pub refused_count : ℕ → Option RefuseWhy
+refused_count count = if nat_lt 1000 count then Some TooManyLayers else None
+
+-- ---- the first refusal of a command that changes each layer of its target by itself
+
+-- before it works: for its target, its source, or the kinds of the target's layers
+abbrev pub unfit_each : Base → List Held → Command → LayerAction → Option RefuseWhy
+unfit_each base layers c a =
+    first_refusal (refused_target c.target layers) (first_refusal (refused_source base.sources layers a) (refused_kinds a (targets c.target layers)))
+
+-- at work: for a layer of the target, in order, or for the number of layers
+abbrev pub failed_each : Base → List Held → Command → LayerAction → Option RefuseWhy
+failed_each base layers c a =
+    first_refusal (refused_in (refused_layer base layers a) (targets c.target layers)) (refused_count (stay_count c layers + sum_by (output_count a) (targets c.target layers)))
+
+abbrev pub refusal_each : Base → List Held → Command → LayerAction → Option RefuseWhy
+refusal_each base layers c a = first_refusal (unfit_each base layers c a) (failed_each base layers c a)
+
+-- ---- and of one that changes them together
+
+-- before it works: for its target, or for layers of several kinds
+abbrev pub unfit_together : List Held → Command → Option RefuseWhy
+unfit_together layers c = first_refusal (refused_target c.target layers) (refused_mixture (targets c.target layers))
+
+-- at work: for the layers of the target, or for the number of layers
+abbrev pub failed_together : List Held → Command → JointAction → Option RefuseWhy
+failed_together layers c a = first_refusal (refused_together a (targets c.target layers)) (refused_count (stay_count c layers + 1))
+
+abbrev pub refusal_together : List Held → Command → JointAction → Option RefuseWhy
+refusal_together layers c a = first_refusal (unfit_together layers c) (failed_together layers c a)
