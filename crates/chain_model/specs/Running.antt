@@ -16,6 +16,7 @@ use Rattle.cmd_words.specs.declared.job.Command.{Command}
 use Rattle.cmd_words.specs.declared.job.Job.{Job}
 use Rattle.cmd_words.specs.declared.job.Job.TheVariants as job
 use Rattle.region_model.specs.Answers.{Answers, AreRight, Plane, plane_of}
+use Rattle.synth_model.specs.Cells.{cells}
 use Rattle.chain_model.specs.Outcome.{Outcome, done, bad_words, too_dense, refused}
 use Rattle.chain_model.specs.State.{State}
 use Rattle.chain_model.specs.Targets.{SourceLayers}
@@ -24,7 +25,6 @@ use Rattle.chain_model.specs.Sources.{AreReadings, Readings, imported, whole_roo
 use Rattle.chain_model.specs.Beginning.{drawing_of, first_sources, import_layers, first_state}
 use Rattle.chain_model.specs.Pictures.{IsTextOf}
 use Rattle.chain_model.specs.Synth.{IsSynthLine}
-use Rattle.synth_model.specs.Cells.{cells}
 use Rattle.word_model.specs.Words.{words_say}
 
 -- ---- the commands

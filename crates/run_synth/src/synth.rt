@@ -149,6 +149,7 @@ fn twice_area(faces: &Faces, set: &[FaceId]) -> Result<i128, AllocError>
     Ok(sum)
 }
 
+// A sum past 2^127 counts as want of memory; the areas of so few cells stay far below it.
 fn added(sum: i128, area: i128) -> Result<i128, AllocError>
     ensures exact { IfOk result (λ more. more ≡ sum +ℤ area) }
 {
