@@ -1,5 +1,5 @@
 -- How many layers a command leaves.
-use Rattle.std.proofs.Common.{◌≡◌, ℕ, ◌+◌, zero, suc, Bool, true, false, not, cond, if◌then◌else◌, List, [], ◌∷◌, ◌++◌, length, map, MatchBool, count_by, sum_by, replicate, Result, Ok, Err, Option, Some, None, ◌<◌, refl, ap, sym, ◌∙◌, arith, length-append}
+use Rattle.std.proofs.Common.{◌≡◌, ℕ, ◌+◌, zero, suc, Bool, true, false, not, cond, if◌then◌else◌, List, [], ◌∷◌, ◌++◌, length, map, MatchBool, count_by, sum_by, replicate, Result, Ok, Some, None, ◌<◌, refl, ap, sym, ◌∙◌, arith, length-append}
 use Rattle.std.specs.Prelude.{slice_get}
 use Rattle.std.specs.List.{AllZip, enumerate_from, flat_map, position_or_len}
 use Rattle.std.proofs.lemmas.List.{length-map}
@@ -21,7 +21,7 @@ use Rattle.run_state.specs.declared.state.Held.{Held}
 use Rattle.run_state.proofs.TargetLemmas.{target_first, other_first}
 use Rattle.run_tables.specs.Made.{HasTable, One}
 use Rattle.run_tables.specs.Pieces.{ArePieces, IsPiece}
-use Rattle.run_steps.specs.Commands.{IsTitled, MadeTogether, PutsFor, PutsOut, PutsTogether, Titles, at_first}
+use Rattle.run_steps.specs.Commands.{IsTitled, PutsFor, PutsOut, PutsTogether, Titles, at_first}
 use Rattle.run_steps.specs.Refusals.{output_count, piece_count, stay_count}
 
 -- ---- what is put out for one layer

@@ -1,2 +1,3 @@
+pub mod AtWork
 pub mod Counting
 pub mod Refusals

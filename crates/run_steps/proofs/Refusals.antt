@@ -1,6 +1,6 @@
 -- The first refusal among the layers of a target, and that of a source.
-use Rattle.std.proofs.Common.{◌≡◌, ℕ, ◌+◌, ◌<◌, ◌≤◌, Bool, true, false, List, [], ◌∷◌, length, drop, Option, None, Some, Result, Ok, Err, if◌then◌else◌, refl, ap, sym, subst, ◌∙◌}
-use Rattle.std.specs.Prelude.{nat_lt, slice_get}
+use Rattle.std.proofs.Common.{◌≡◌, ℕ, ◌+◌, ◌<◌, ◌≤◌, Bool, true, false, List, ◌∷◌, length, drop, Option, None, Some, Result, Ok, Err, if◌then◌else◌, refl, ap, sym, subst, ◌∙◌}
+use Rattle.std.specs.Prelude.{slice_get}
 use Rattle.std.proofs.lemmas.Bool.{lt-ltb, le-ltb}
 use Rattle.std.proofs.lemmas.List.{at_drop_more}
 use Rattle.std.proofs.lemmas.Option.{get_or_from_slice_get}
@@ -74,9 +74,9 @@ too_many n h = ap (λ (b : Bool). if b then Some TooManyLayers else None) (lt-lt
 pub few_enough : (n : ℕ) → n ≤ 1000 → refused_count n ≡ None
 few_enough n h = ap (λ (b : Bool). if b then Some TooManyLayers else None) (le-ltb 1000 n h)
 
--- a refusal for the number, where nothing else is refused
+-- what is refused for the number, where nothing else is
 pub stops_counted : (a : Option RefuseWhy) (n m : ℕ) (s : CommandStop) → a ≡ None → n ≡ m → StopsFor (refused_count n) s → StopsFor (first_refusal a (refused_count m)) s
 stops_counted a n m s e is h = stops_second s a (refused_count m) e (subst (λ (k : ℕ). StopsFor (refused_count k) s) is h)
 
-pub goes_counted : (a : Option RefuseWhy) (n m : ℕ) → a ≡ None → n ≡ m → n ≤ 1000 → first_refusal a (refused_count m) ≡ None
-goes_counted a n m e is h = ap (λ (x : Option RefuseWhy). first_refusal x (refused_count m)) e ∙ (ap refused_count (sym is) ∙ few_enough n h)
+pub goes_counted : (a : Option RefuseWhy) (n m : ℕ) → a ≡ None → n ≡ m → refused_count n ≡ None → first_refusal a (refused_count m) ≡ None
+goes_counted a n m e is h = ap (λ (x : Option RefuseWhy). first_refusal x (refused_count m)) e ∙ (ap refused_count (sym is) ∙ h)

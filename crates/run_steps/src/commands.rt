@@ -39,6 +39,7 @@ const MAX_LAYERS: usize = 1_000;
 ///
 /// Errors: the first refusal, of the target, the source, the kinds of the layers, a layer in order, or of too many
 /// layers; and `Memory`.
+#[tactic(auto, using(run_state::proofs::Stops::stops_second))]
 pub fn changed_each(
     alloc: Global,
     ground: &Ground<'_>,
@@ -61,6 +62,7 @@ pub fn changed_each(
 /// The state after a command that changes the layers of its target together.
 ///
 /// Errors: the first refusal, of the target, the kinds of the layers, their tables, or of too many layers; and `Memory`.
+#[tactic(auto, using(run_state::proofs::Stops::stops_second))]
 pub fn changed_together(
     alloc: Global,
     command: &Command,
@@ -79,6 +81,7 @@ pub fn changed_together(
     }
 }
 
+#[tactic(auto, using(run_state::proofs::Stops::stops_first))]
 fn each_changed(
     alloc: Global,
     ground: &Ground<'_>,
@@ -95,6 +98,7 @@ fn each_changed(
     put_out(alloc, state.layers, command, outputs)
 }
 
+#[tactic(auto, using(run_state::proofs::Stops::stops_first))]
 fn together_changed(
     alloc: Global,
     command: &Command,
@@ -110,7 +114,7 @@ fn together_changed(
 }
 
 // The layers with those that the command puts out for each.
-#[tactic(auto, using(crate::proofs::Refusals::too_many))]
+#[tactic(auto, using(crate::proofs::Refusals::too_many, crate::proofs::Refusals::few_enough))]
 fn put_out(
     alloc: Global,
     layers: Vec<Held>,
@@ -119,6 +123,7 @@ fn put_out(
 ) -> Result<State, CommandStop>
     ensures placed { IfOk result (λ after. after.layers.items ≡ placed command.now layers.items (map (λ out. out.items) outputs.items)) }
     ensures few { IfOk result (λ after. length after.layers.items ≤ 1000) }
+    ensures accepted { IfOk result (λ after. refused_count (length (placed command.now layers.items (map (λ out. out.items) outputs.items))) ≡ None) }
     ensures stops { IfErr result (StopsFor (refused_count (length (placed command.now layers.items (map (λ out. out.items) outputs.items))))) }
 {
     let layers = placed(alloc, layers, command, outputs)?;

@@ -1,4 +1,4 @@
-use Rattle.std.proofs.Common.{◌≡◌, ◌+◌, ◌++◌, ◌∷◌, [], List, length, map, take, refl, ap, sym, subst₂, ◌∙◌}
+use Rattle.std.proofs.Common.{◌≡◌, ◌+◌, ◌++◌, ◌∷◌, [], length, map, take, refl, ap, sym, subst₂, ◌∙◌, rules}
 use Rattle.std.specs.List.{AllZip}
 use Rattle.std.proofs.lemmas.List.{map-append, take_more}
 use Rattle.std.proofs.lemmas.Option.{slice_get_read, get_or_from_slice_get}
@@ -7,7 +7,7 @@ use Rattle.run_steps.specs.Commands.{PutsFor}
 use Rattle.run_steps.specs.Refusals.{refused_layer}
 use Rattle.run_state.specs.declared.state.Held.{Held}
 use Rattle.run_plane.proofs.Growth.{zipped_on}
-use Rattle.run_steps.proofs.Refusals.{goes_past}
+use Rattle.run_steps.proofs.Refusals.{goes_past, stops_there}
 use Rattle.run_steps.proofs.outputs.each_outputs.Goals as goal
 
 pub loop-held-preserved : goal.loop-held-preserved
@@ -26,3 +26,13 @@ loop-held-preserved c =
           (zipped_on puts (take i xs) (map (λ out. out.items) c.loop-held.outputs.items) item c.in_ok-held_outputs.field-0.items c.loop-held.invariant.puts c.in_ok-held_outputs.ensures.puts);
       refused = goes_past refused c.args.command.now.target xs i item c.loop-held-test.true there c.loop-held.invariant.refused c.in_ok-held_outputs.ensures.accepted;
     }
+
+pub returns-in_err-held_outputs-clause-stops : goal.returns-in_err-held_outputs-clause-stops
+returns-in_err-held_outputs-clause-stops c =
+    let xs = c.args.layers.now in
+    let i = c.loop-held.held-index in
+    let item = c.held-item.result in
+    let there = slice_get_read xs (length xs) i item refl c.loop-held-test.true c.held-item.is in
+    let stops =
+    stops_there (refused_layer (base_of c.args.ground.now) xs c.args.action.now) c.args.command.now.target xs i item c.in_err-held_outputs.field-0.0 c.loop-held-test.true there c.loop-held.invariant.refused c.in_err-held_outputs.ensures.stops in
+    search rules

@@ -1,4 +1,4 @@
-use Rattle.std.proofs.Common.{◌≡◌, ◌∷◌, [], List, subst, sym}
+use Rattle.std.proofs.Common.{◌≡◌, ◌∷◌, [], subst, sym}
 use Rattle.table_ops.specs.Join.{join_tables}
 use Rattle.run_state.specs.Origins.{base_of}
 use Rattle.run_tables.specs.Made.{GivesTable, One}

@@ -1,0 +1,24 @@
+use Rattle.std.proofs.Common.{◌≡◌, length, map, None}
+use Rattle.run_plane.proofs.Growth.{if_ok_on}
+use Rattle.run_state.specs.Stops.{StopsFor}
+use Rattle.run_state.specs.Targets.{placed}
+use Rattle.run_state.proofs.Stops.{if_err_on}
+use Rattle.run_steps.specs.Refusals.{failed_together, refused_count}
+use Rattle.run_steps.proofs.AtWork.{together_goes, together_stops}
+use Rattle.run_steps.proofs.commands.together_changed.Goals as goal
+
+pub returns-clause-accepted : goal.returns-clause-accepted
+returns-clause-accepted c =
+    let layers = c.args.state.layers.items in
+    let command = c.args.command.now in
+    let outputs = map (λ out. out.items) c.in_ok-outputs.outputs.items in
+    if_ok_on (λ after. refused_count (length (placed command layers outputs)) ≡ None) (λ after. failed_together layers command c.args.action.now ≡ None) c.put_out.result
+    (λ after few. together_goes layers _ command outputs c.deref.ensures.value c.args.action.now c.in_ok-outputs.ensures.puts c.in_ok-outputs.ensures.accepted few) c.put_out.ensures.accepted
+
+pub returns-clause-stops : goal.returns-clause-stops
+returns-clause-stops c =
+    let layers = c.args.state.layers.items in
+    let command = c.args.command.now in
+    let outputs = map (λ out. out.items) c.in_ok-outputs.outputs.items in
+    if_err_on (StopsFor (refused_count (length (placed command layers outputs)))) (StopsFor (failed_together layers command c.args.action.now)) c.put_out.result
+    (λ stop h. together_stops layers _ command outputs c.deref.ensures.value c.args.action.now stop c.in_ok-outputs.ensures.puts c.in_ok-outputs.ensures.accepted h) c.put_out.ensures.stops
