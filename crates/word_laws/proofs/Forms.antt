@@ -1,0 +1,94 @@
+-- What may stand in a group, by the table of commands, as the reader's rows have it.
+use Rattle.std.proofs.Common.{◌≡◌, Bool, true, false, not, ◌&&◌, ◌||◌, cond, List, [], ◌∷◌, map, codes, Some, option_map, bytes_eq, find, refl, ap}
+use Rattle.table_terms.specs.Names.{Text}
+use Rattle.cmd_words.specs.Rows as reader_rows
+use Rattle.cmd_words.specs.Options as reader
+use Rattle.cmd_words.specs.Rows.{rows}
+use Rattle.cmd_words.specs.Texts as texts
+use Rattle.word_model.specs.CommandTable.{ValueForm, a_text, a_list, two_names, a_precision, a_rule, a_format, a_box, an_expression, ArgumentForm, nothing, files, source, list, expression, renames, text, Line, import_line, form_of}
+use Rattle.word_model.specs.Words.{begins_with_equals, splits, lacks_value, is_box, is_list, reads_standard}
+use Rattle.word_laws.proofs.Shown.{Value, argument_as, value_as}
+
+abbrev pub option_as : Text × ValueForm → Text × Value
+option_as o = (o.0, value_as o.1)
+
+abbrev pub form_as : Line → reader_rows.Form
+form_as l = record { argument = argument_as l.argument; options = map option_as l.options; bare = l.bare }
+
+pub import_as : form_as import_line ≡ reader_rows.import_form
+unfolding rows argument_as value_as
+import_as = refl
+
+-- an option has the same form by both
+pub form_of_as : (l : Line) (name : Text) → reader_rows.form_of (form_as l).options name ≡ option_map value_as (form_of l name)
+form_of_as l name = go l.options
+  where
+    choose : (b : Bool) (o : Text × ValueForm) (os : List (Text × ValueForm))
+        → option_map (λ (o : Text × Value). o.1) (find (λ (o : Text × Value). bytes_eq o.0 name) (map option_as os)) ≡ option_map value_as (option_map (λ (o : Text × ValueForm). o.1) (find (λ (o : Text × ValueForm). bytes_eq o.0 name) os))
+        → option_map (λ (o : Text × Value). o.1) (cond b (Some (option_as o)) (find (λ (o : Text × Value). bytes_eq o.0 name) (map option_as os))) ≡ option_map value_as (option_map (λ (o : Text × ValueForm). o.1) (cond b (Some o) (find (λ (o : Text × ValueForm). bytes_eq o.0 name) os)))
+    choose true o os e = refl
+    choose false o os e = e
+
+    go : (os : List (Text × ValueForm)) → reader_rows.form_of (map option_as os) name ≡ option_map value_as (option_map (λ (o : Text × ValueForm). o.1) (find (λ (o : Text × ValueForm). bytes_eq o.0 name) os))
+    go [] = refl
+    go (o ∷ os) = choose (bytes_eq o.0 name) o os (go os)
+
+-- ## Words that are options
+
+pub begins_same : (value : Text) → begins_with_equals value ≡ texts.begins_with_equals value
+begins_same [] = refl
+begins_same (b ∷ rest) = refl
+
+pub splits_same : (a : ArgumentForm) (o : Text × Text) → splits a o.0 o.1 ≡ texts.is_option (argument_as a) o
+unfolding rows argument_as
+splits_same nothing o = refl
+splits_same files o = refl
+splits_same source o = refl
+splits_same list o = refl
+splits_same expression o = ap (λ (b : Bool). (bytes_eq o.0 (codes "name") || bytes_eq o.0 (codes "target")) && not b) (begins_same o.1)
+splits_same renames o = refl
+splits_same text o = refl
+
+-- ## Tests of forms
+
+pub lacks_same : (f : ValueForm) (s : Text) → reader.lacks_value (value_as f) s ≡ lacks_value f s
+unfolding rows value_as
+lacks_same a_text s = refl
+lacks_same a_list s = refl
+lacks_same two_names s = refl
+lacks_same a_precision s = refl
+lacks_same a_rule s = refl
+lacks_same a_format s = refl
+lacks_same a_box s = refl
+lacks_same an_expression s = refl
+
+pub box_same : (f : ValueForm) → reader.is_area (value_as f) ≡ is_box f
+unfolding rows value_as
+box_same a_text = refl
+box_same a_list = refl
+box_same two_names = refl
+box_same a_precision = refl
+box_same a_rule = refl
+box_same a_format = refl
+box_same a_box = refl
+box_same an_expression = refl
+
+pub list_same : (a : ArgumentForm) → reader.is_list (argument_as a) ≡ is_list a
+unfolding rows argument_as
+list_same nothing = refl
+list_same files = refl
+list_same source = refl
+list_same list = refl
+list_same expression = refl
+list_same renames = refl
+list_same text = refl
+
+pub standard_same : (a : ArgumentForm) (s : Text) → (reader.is_read (argument_as a) && texts.is_standard s) ≡ reads_standard a s
+unfolding rows argument_as
+standard_same nothing s = refl
+standard_same files s = refl
+standard_same source s = refl
+standard_same list s = refl
+standard_same expression s = refl
+standard_same renames s = refl
+standard_same text s = refl

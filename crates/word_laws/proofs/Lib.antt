@@ -1,0 +1,9 @@
+pub mod Tests
+pub mod Shown
+pub mod Forms
+pub mod Groups
+pub mod Steps
+pub mod Readings
+pub mod Rows
+pub mod Commands
+pub mod Laws

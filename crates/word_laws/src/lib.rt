@@ -1,0 +1,17 @@
+//! The words of a command line say the same by the table of commands as by the definition that the reader keeps to.
+//!
+//! Each function carries one law in its contract, and does nothing.
+#![tactic(auto)]
+
+ghost use Rattle.word_laws.specs.Laws.{TheTableSaysWhatIsRead, WhatIsReadFitsTheTable};
+
+/// For all words the table of commands says what is read: the same job, or the same first refused word and the same
+/// reason.
+pub fn the_table_says_what_is_read()
+    ensures { TheTableSaysWhatIsRead }
+{}
+
+/// What the reader answers by its contract fits what the table of commands says of the words.
+pub fn what_is_read_fits_the_table()
+    ensures { WhatIsReadFitsTheTable }
+{}
