@@ -6,7 +6,10 @@ use io_core::{NameList, Text};
 use json_read::Table;
 use std::alloc::Global;
 use std::test::Fail;
-use table_ops::{Grouped, SplitItem, TableFault, TableList, TableWhy, filter_rows, group_rows, join_tables, keep_fields, merge_tables, rename_fields, split_rows, take_rows};
+use table_ops::{
+    Grouped, SplitItem, TableFault, TableList, TableWhy, filter_rows, group_rows, join_tables,
+    keep_fields, merge_tables, rename_fields, split_rows, take_rows,
+};
 use table_terms::{GroupSpec, JoinSpec, Rename, RenameList};
 
 /// A table whose column `code` has texts.
