@@ -1,0 +1,4 @@
+pub mod Keys
+pub mod KeyOrder
+pub mod EarlyRows
+pub mod Islands
