@@ -1,0 +1,6 @@
+use Rattle.std.specs.Prelude.{All}
+use Rattle.ring_trace.specs.Sets.{IsInnerFace}
+use Rattle.calc_tests.proofs.squares.faces_at.Given as goal
+
+abbrev pub invariant-loop-point : goal.invariant-loop-point
+invariant-loop-point l = All (IsInnerFace l.plane.faces) l.faces.items

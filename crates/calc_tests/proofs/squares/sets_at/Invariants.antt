@@ -1,0 +1,6 @@
+use Rattle.std.specs.Prelude.{All}
+use Rattle.ring_trace.specs.Sets.{IsSetOf}
+use Rattle.calc_tests.proofs.squares.sets_at.Given as goal
+
+abbrev pub invariant-loop-points : goal.invariant-loop-points
+invariant-loop-points l = All (IsSetOf l.plane.faces) l.sets
