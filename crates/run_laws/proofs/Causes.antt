@@ -1,0 +1,178 @@
+-- Each fault has a cause.
+use Rattle.std.proofs.Common.{◌≡◌, ◌⊎◌, inl, inr, ℕ, zero, suc, ◌+◌, Bool, true, false, List, [], ◌∷◌, slice_get, take, Option, Some, None, Result, Ok, Err, MatchOption, refl, ap, sym, ◌∙◌, subst, arith}
+use Rattle.std.proofs.Math.Path.{fun_ext}
+use Rattle.std.specs.Io.KnownBytes.{Appends}
+use Rattle.io_core.specs.Contents.{Content}
+use Rattle.io_core.specs.Counts.{Rose}
+use Rattle.expr_lang.specs.Faults.{IsFault}
+use Rattle.cmd_words.specs.declared.fault.ExprWhy.{ExprWhy}
+use Rattle.cmd_words.specs.declared.fault.WordFault.{WordFault}
+use Rattle.cmd_words.specs.declared.job.Action.{Action}
+use Rattle.cmd_words.specs.declared.job.Action.TheVariants as action
+use Rattle.cmd_words.specs.declared.job.Chain.{Chain}
+use Rattle.cmd_words.specs.declared.job.Command.{Command}
+use Rattle.cmd_words.specs.declared.job.Job.{Job}
+use Rattle.cmd_words.specs.declared.job.Job.TheVariants as job
+use Rattle.cmd_words.specs.declared.job.OutForm.{OutForm}
+use Rattle.cmd_words.specs.declared.job.SourceWord.{SourceWord}
+use Rattle.cmd_words.specs.Chains.{CommandWords}
+use Rattle.cmd_words.specs.Expressions.{Refusals, AreRefusals, fault_at}
+use Rattle.cmd_words.specs.Tells.{Tells, FitsJob, FitsChain, FitEach, FitsCommand, without_test}
+use Rattle.cmd_words.specs.Words.{Reading, ChainWords, JobWords, synth, chain, read_words}
+use Rattle.cmd_words.proofs.ExpressionFaults.{refused_for}
+use Rattle.word_model.specs.Words.{words_say}
+use Rattle.word_laws.proofs.Laws.{table_says}
+use Rattle.run_sources.specs.Sources.{SourcesSeen, Grew, StopsAtSource, SourceStops}
+use Rattle.run_sources.specs.Budget.{whole_budget}
+use Rattle.run_sources.specs.declared.fault.SourceFault.{SourceFault}
+use Rattle.run_sources.specs.declared.fault.SourceFault.TheVariants as fault
+use Rattle.run_state.specs.Targets.{first_layers}
+use Rattle.run_outcome.specs.Telling.{AddsFront}
+use Rattle.run_outcome.specs.Ends.{of_drawing, of_sources, of_words}
+use Rattle.run_outcome.specs.declared.outcome.Outcome.{Outcome}
+use Rattle.run_outcome.specs.declared.outcome.Outcome.TheVariants as end
+use Rattle.ms_chain.specs.Effects.{OutsideSeen, CountsGrew}
+use Rattle.ms_chain.specs.Running.{JobRuns, ChainRuns, SynthRuns, EndsBefore, EndsAtSource, EndsUnbegun, BegunRuns, RunsCommands, stream_of}
+use Rattle.chain_model.specs.Headline.{HasCause, sources_of}
+use Rattle.chain_model.specs.Headline as model
+use Rattle.run_laws.specs.Outcomes.{outcome_as}
+use Rattle.run_laws.specs.Causes.{counts_of, UnlessTooLong, FaultsHaveCauses}
+use Rattle.run_laws.proofs.Counts.{Budget, given_grew, source_rose, source_missing, ActionRose, action_rose}
+use Rattle.run_laws.proofs.Commands.{Quiet, words_are_quiet, drawing_is_quiet, quiet_by, FailedWrite, commands_end}
+
+-- ## Texts are refused in one way
+
+refused_same : (a b : Refusals) → AreRefusals a → AreRefusals b → (text : Content) → a text ≡ b text
+refused_same a b ra rb text = go (b text) refl (rb text)
+  where
+    none : (o : Option (ℕ × ExprWhy)) → a text ≡ o → MatchOption o ((f : ℕ × ExprWhy) → IsFault text (fault_at f) → ⊥) (λ f. IsFault text (fault_at f)) → ((f : ℕ × ExprWhy) → IsFault text (fault_at f) → ⊥) → a text ≡ None
+    none None e h never = e
+    none (Some f) e h never = absurd (never f h)
+
+    go : (o : Option (ℕ × ExprWhy)) → b text ≡ o → MatchOption o ((f : ℕ × ExprWhy) → IsFault text (fault_at f) → ⊥) (λ f. IsFault text (fault_at f)) → a text ≡ b text
+    go (Some f) e h = refused_for a text f ra h ∙ sym e
+    go None e h = none (a text) refl (ra text) h ∙ sym e
+
+refusals_same : (a b : Refusals) → AreRefusals a → AreRefusals b → a ≡ b
+refusals_same a b ra rb = fun_ext (refused_same a b ra rb)
+
+-- ## Commands by their words
+
+fitting_at : (ws : List CommandWords) (cs : List Command) (k : ℕ) (c : Command) → FitEach ws cs → slice_get cs k ≡ Some c → (w : CommandWords) × (slice_get ws k ≡ Some w) × FitsCommand w c
+fitting_at [] [] k c f e = absurd (cc)
+fitting_at [] (d ∷ cs) k c f e = absurd f
+fitting_at (w ∷ ws) [] k c f e = absurd f
+fitting_at (w ∷ ws) (d ∷ cs) zero c f e =
+    let same : d ≡ c = cc in
+    (w, refl, subst (λ (x : Command). FitsCommand w x) same f.0)
+fitting_at (w ∷ ws) (d ∷ cs) (suc k) c f e = fitting_at ws cs k c f.1 e
+
+module _ (seen seen' : SourcesSeen) (before after : OutsideSeen) where
+  write_same : (to : Content) (standard : Bool) (form : OutForm) → ActionRose before after (action.Write to standard form) → model.WriteRose (counts_of seen before) (counts_of seen' after) (action.Write to standard form)
+  write_same to true form r = r
+  write_same to false form r = r
+
+  action_same : (a b : Action) → without_test a ≡ without_test b → ActionRose before after a → model.WriteRose (counts_of seen before) (counts_of seen' after) b
+  action_same (action.Write to standard form) (action.Write to' standard' form') e r =
+      subst (model.WriteRose (counts_of seen before) (counts_of seen' after)) e (write_same to standard form r)
+  action_same (action.Write to standard form) (action.Each b) e r = absurd (cc)
+  action_same (action.Write to standard form) (action.Together b) e r = absurd (cc)
+  action_same (action.Each a) b e r = absurd r
+  action_same (action.Together a) b e r = absurd r
+
+  -- ## What is told of an outcome
+
+  abbrev Told : Reading JobWords → Outcome → Type 0
+  Told words o = UnlessTooLong o (HasCause words seen.files seen.input (counts_of seen before) (counts_of seen' after) (outcome_as o))
+
+  quiet_told : (words : Reading JobWords) (o : Outcome) → Quiet o → Told words o
+  quiet_told words end.Done q = tt
+  quiet_told words (end.BadWords n why) q = tt
+  quiet_told words (end.ReadFault n) q = absurd q
+  quiet_told words (end.Missing n) q = absurd q
+  quiet_told words (end.TooLong n) q = tt
+  quiet_told words (end.BadInput n why) q = tt
+  quiet_told words (end.TooDense n) q = tt
+  quiet_told words (end.Refused n why) q = tt
+  quiet_told words (end.WriteFault n) q = absurd q
+  quiet_told words end.Memory q = tt
+
+  told_by : (words : Reading JobWords) (o end' : Outcome) → o ≡ end' → Told words end' → Told words o
+  told_by words o end' e t = subst (Told words) (sym e) t
+
+  -- ## A mosaic
+
+  mosaic_told : (seed size s n : ℕ) (o : Outcome) → SynthRuns s n (stream_of before) (stream_of after) o → Told (Ok (synth seed size)) o
+  mosaic_told seed size s n o (inl u) = quiet_told (Ok (synth seed size)) o (quiet_by o (of_drawing u.fault) u.ends (drawing_is_quiet u.fault))
+  mosaic_told seed size s n o (inr t) = go t.told
+    where
+      go : ((o ≡ end.Done) × Appends before.stream after.stream t.line) ⊎ ((o ≡ end.WriteFault 1) × Rose before.stream_faults after.stream_faults × AddsFront before.stream after.stream t.line) → Told (Ok (synth seed size)) o
+      go (inl d) = quiet_told (Ok (synth seed size)) o (quiet_by o end.Done d.0 tt)
+      go (inr w) = told_by (Ok (synth seed size)) o (end.WriteFault 1) w.0 (refl, w.1)
+
+  -- ## A chain
+
+  module _ (w : ChainWords) (c : Chain) (fits : FitsChain w c) where
+    abbrev words : Reading JobWords
+    words = Ok (chain w)
+
+    there : (k : ℕ) (s : SourceWord) → slice_get c.sources k ≡ Some s → slice_get w.so_far.sources k ≡ Some s
+    there k s e = ap (λ (xs : List SourceWord). slice_get xs k) (sym fits.sources) ∙ e
+
+    source_told : (budget : Budget) (k : ℕ) (s : SourceWord) (middle : SourcesSeen) (f : SourceFault) → slice_get c.sources k ≡ Some s → Grew seen middle → SourceStops c.places budget (k + 1) s middle seen' f → Told words (of_sources f)
+    source_told budget k s middle (fault.ReadFault n) e grew stops = (k, s, stops.0, there k s e, source_rose seen middle seen' s grew stops.1)
+    source_told budget k s middle (fault.Missing n) e grew stops = (k, s, stops.0, there k s e, source_missing seen middle seen' s grew stops.1)
+    source_told budget k s middle (fault.TooLong n) e grew stops = tt
+    source_told budget k s middle (fault.BadInput n why) e grew stops = tt
+    source_told budget k s middle fault.Memory e grew stops = tt
+
+    at_source : (o : Outcome) → EndsAtSource c seen seen' o → Told words o
+    at_source o a =
+        let s : StopsAtSource c.places c.sources seen seen' a.fault = a.stops in
+        told_by words o (of_sources a.fault) a.ends (source_told s.left s.place s.source s.middle a.fault s.is_there (given_grew c.places (take s.place c.sources) whole_budget s.left seen s.middle s.layers s.given) s.stops)
+
+    before_told : (o : Outcome) → EndsBefore c seen seen' before after o → Told words o
+    before_told o b = go b.stops
+      where
+        go : EndsAtSource c seen seen' o ⊎ EndsUnbegun c seen seen' o → Told words o
+        go (inl a) = at_source o a
+        go (inr u) = quiet_told words o (quiet_by o (of_drawing u.fault) u.ends (drawing_is_quiet u.fault))
+
+    failed_told : (middle : OutsideSeen) (o : Outcome) → CountsGrew before middle → FailedWrite 0 c.commands middle after o → Told words o
+    failed_told middle o grew f =
+        let v = fitting_at w.so_far.commands c.commands f.place f.command fits.commands f.there in
+        let same : without_test f.command.action ≡ without_test v.0.command.action = ap (λ (x : Command). x.action) v.2.same in
+        told_by words o (end.WriteFault (0 + (f.place + 1))) f.ends (f.place, v.0, omega arith, v.1, action_same f.command.action v.0.command.action same (action_rose f.command.action before middle after grew f.rose))
+
+    commands_told : (o : Outcome) → RunsCommands c seen before after o → Told words o
+    commands_told o r = go r.ran
+      where
+        ended : Quiet o ⊎ FailedWrite 0 c.commands r.middle after o → Told words o
+        ended (inl q) = quiet_told words o q
+        ended (inr f) = failed_told r.middle o r.kept.counts f
+
+        go : BegunRuns r.base r.begun c.commands r.middle after o → Told words o
+        go (inl ran) = ended (commands_end r.base c.commands 0 (first_layers r.begun) r.middle after o ran)
+        go (inr m) = quiet_told words o (quiet_by o end.Memory m.0 tt)
+
+    chain_told : (o : Outcome) → ChainRuns c seen seen' before after o → Told words o
+    chain_told o (inl b) = before_told o b
+    chain_told o (inr r) = commands_told o r
+
+  -- ## A job
+
+  fitting_told : (v : JobWords) (j : Job) (o : Outcome) → FitsJob v j → JobRuns (Ok j) seen seen' before after o → Told (Ok v) o
+  fitting_told (synth seed size) (job.Synth s n) o f r = mosaic_told seed size s n o r.stream
+  fitting_told (synth seed size) (job.Chain c) o f r = absurd f
+  fitting_told (chain w) (job.Synth s n) o f r = absurd f
+  fitting_told (chain w) (job.Chain c) o f r = chain_told w c f o r
+
+  job_told : (words : Reading JobWords) (answer : Result Job WordFault) (o : Outcome) → Tells FitsJob words answer → JobRuns answer seen seen' before after o → Told words o
+  job_told said (Err e) o t r = quiet_told said o (quiet_by o (of_words e) r.ends (words_are_quiet e))
+  job_told said (Ok j) o t r = subst (λ (x : Reading JobWords). Told x o) (sym t.1) (fitting_told t.0 j o t.2 r)
+
+pub causes : FaultsHaveCauses
+causes refuses right words seen seen' before after o run =
+    let here : Refusals = run.reads.0 in
+    let same : read_words here words ≡ words_say refuses words = ap (λ (r : Refusals). read_words r words) (refusals_same here refuses run.reads.1 right) ∙ sym (table_says refuses words) in
+    job_told seen seen' before after (words_say refuses words) run.answer o (subst (λ (x : Reading JobWords). Tells FitsJob x run.answer) same run.reads.2) run.runs
