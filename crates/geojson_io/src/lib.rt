@@ -1,5 +1,11 @@
-//! GeoJSON (RFC 7946) both ways: a JSON value becomes layers of grid points, or the first fault in order; a layer
-//! becomes a text.
+//! GeoJSON (RFC 7946) both ways.
+//!
+//! - `read_geojson` takes a JSON value and gives layers of grid points, one for each kind of geometry, or the first
+//!   fault in order. A coordinate is rounded to a grid number: the decimal times ten to the decimal places, halves up.
+//! - `write_geojson` takes a layer with its table and appends the text, `null` for a feature without geometry.
+//! - `Room` is what is left for positions and features of all sources together.
+//!
+//! `topo_io` reads and writes the same features in TopoJSON 1.0, and takes the parts for that from here.
 #![tactic(auto)]
 
 mod fault;

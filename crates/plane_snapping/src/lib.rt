@@ -1,11 +1,11 @@
-// Snap rounding, after Hobby (1999): what holds of the definitions in plane_model, for every drawing.
-//
-// - Computed tests say what the definitions say: `meets`, `crossing_pixel`, `hot_points`, `chain_of`.
-// - How a program may find hot points and chains: by boxes, and by one key for each point.
-// - The theorem: the links of a snapped drawing are an arrangement, and no vertex lies inside a link.
-// - Closed paths stay closed runs of links; links are counted chain by chain.
-//
-// Each function carries laws in its contract, and does nothing.
+//! Snap rounding, after Hobby (1999): what holds of the definitions in plane_model, for every drawing.
+//!
+//! - Computed tests say what the definitions say: `meets`, `crossing_pixel`, `hot_points`, `chain_of`.
+//! - How a program may find hot points and chains: by boxes, and by one key for each point.
+//! - The theorem: the links of a snapped drawing are an arrangement, and no vertex lies inside a link.
+//! - Closed paths stay closed runs of links; links are counted chain by chain.
+//!
+//! Each function carries laws in its contract, and does nothing.
 #![tactic(auto)]
 
 ghost use Rattle.plane_model.specs.Pixel.{

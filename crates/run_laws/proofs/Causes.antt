@@ -1,5 +1,5 @@
 -- Each fault has a cause.
-use Rattle.std.proofs.Common.{◌≡◌, ◌⊎◌, inl, inr, ℕ, zero, suc, ◌+◌, Bool, true, false, List, [], ◌∷◌, slice_get, take, Option, Some, None, Result, Ok, Err, MatchOption, refl, ap, sym, ◌∙◌, subst, arith}
+use Rattle.std.proofs.Common.{◌≡◌, ◌⊎◌, inl, inr, ℕ, zero, suc, ◌+◌, Bool, true, false, List, [], ◌∷◌, slice_get, take, Option, Some, None, Result, Ok, Err, MatchBool, MatchOption, refl, ap, sym, ◌∙◌, subst, arith}
 use Rattle.std.proofs.Math.Path.{fun_ext}
 use Rattle.std.specs.Io.KnownBytes.{Appends}
 use Rattle.io_core.specs.Contents.{Content}
@@ -22,7 +22,7 @@ use Rattle.cmd_words.specs.Words.{Reading, ChainWords, JobWords, synth, chain, r
 use Rattle.cmd_words.proofs.ExpressionFaults.{refused_for}
 use Rattle.word_model.specs.Words.{words_say}
 use Rattle.word_laws.proofs.Laws.{table_says}
-use Rattle.run_sources.specs.Sources.{SourcesSeen, Grew, StopsAtSource, SourceStops}
+use Rattle.run_sources.specs.Sources.{SourcesSeen, Grew, StopsAtSource, SourceStops, ReadsMore}
 use Rattle.run_sources.specs.Budget.{whole_budget}
 use Rattle.run_sources.specs.declared.fault.SourceFault.{SourceFault}
 use Rattle.run_sources.specs.declared.fault.SourceFault.TheVariants as fault
@@ -36,8 +36,9 @@ use Rattle.ms_chain.specs.Running.{JobRuns, ChainRuns, SynthRuns, EndsBefore, En
 use Rattle.chain_model.specs.Headline.{HasCause, sources_of}
 use Rattle.chain_model.specs.Headline as model
 use Rattle.run_laws.specs.Outcomes.{outcome_as}
-use Rattle.run_laws.specs.Causes.{counts_of, UnlessTooLong, FaultsHaveCauses}
+use Rattle.run_laws.specs.Causes.{counts_of, FaultsHaveCauses}
 use Rattle.run_laws.proofs.Counts.{Budget, given_grew, source_rose, source_missing, ActionRose, action_rose}
+use Rattle.run_laws.proofs.Lengths.{too_much}
 use Rattle.run_laws.proofs.Commands.{Quiet, words_are_quiet, drawing_is_quiet, quiet_by, FailedWrite, commands_end}
 
 -- ## Texts are refused in one way
@@ -83,14 +84,14 @@ module _ (seen seen' : SourcesSeen) (before after : OutsideSeen) where
   -- ## What is told of an outcome
 
   abbrev Told : Reading JobWords → Outcome → Type 0
-  Told words o = UnlessTooLong o (HasCause words seen.files seen.input (counts_of seen before) (counts_of seen' after) (outcome_as o))
+  Told words o = HasCause words seen.files seen.input (counts_of seen before) (counts_of seen' after) (outcome_as o)
 
   quiet_told : (words : Reading JobWords) (o : Outcome) → Quiet o → Told words o
   quiet_told words end.Done q = tt
   quiet_told words (end.BadWords n why) q = tt
   quiet_told words (end.ReadFault n) q = absurd q
   quiet_told words (end.Missing n) q = absurd q
-  quiet_told words (end.TooLong n) q = tt
+  quiet_told words (end.TooLong n) q = absurd q
   quiet_told words (end.BadInput n why) q = tt
   quiet_told words (end.TooDense n) q = tt
   quiet_told words (end.Refused n why) q = tt
@@ -119,17 +120,21 @@ module _ (seen seen' : SourcesSeen) (before after : OutsideSeen) where
     there : (k : ℕ) (s : SourceWord) → slice_get c.sources k ≡ Some s → slice_get w.so_far.sources k ≡ Some s
     there k s e = ap (λ (xs : List SourceWord). slice_get xs k) (sym fits.sources) ∙ e
 
-    source_told : (budget : Budget) (k : ℕ) (s : SourceWord) (middle : SourcesSeen) (f : SourceFault) → slice_get c.sources k ≡ Some s → Grew seen middle → SourceStops c.places budget (k + 1) s middle seen' f → Told words (of_sources f)
-    source_told budget k s middle (fault.ReadFault n) e grew stops = (k, s, stops.0, there k s e, source_rose seen middle seen' s grew stops.1)
-    source_told budget k s middle (fault.Missing n) e grew stops = (k, s, stops.0, there k s e, source_missing seen middle seen' s grew stops.1)
-    source_told budget k s middle (fault.TooLong n) e grew stops = tt
-    source_told budget k s middle (fault.BadInput n why) e grew stops = tt
-    source_told budget k s middle fault.Memory e grew stops = tt
+    if_untold : (b : Bool) {P : Type 0} → P → MatchBool b (Unit {0}) P
+    if_untold true p = tt
+    if_untold false p = p
+
+    source_told : (budget : Budget) (k : ℕ) (s : SourceWord) (middle : SourcesSeen) (f : SourceFault) → slice_get c.sources k ≡ Some s → Grew seen middle → (ReadsMore budget.bytes middle seen' s → model.ReadTooMuch (counts_of seen before) (counts_of seen' after)) → SourceStops c.places budget (k + 1) s middle seen' f → Told words (of_sources f)
+    source_told budget k s middle (fault.ReadFault n) e grew much stops = (k, s, stops.0, there k s e, source_rose seen middle seen' s grew stops.1)
+    source_told budget k s middle (fault.Missing n) e grew much stops = (k, s, stops.0, there k s e, source_missing seen middle seen' s grew stops.1)
+    source_told budget k s middle (fault.TooLong n) e grew much stops = if_untold (model.are_told words seen.files seen.input) (much stops.2)
+    source_told budget k s middle (fault.BadInput n why) e grew much stops = tt
+    source_told budget k s middle fault.Memory e grew much stops = tt
 
     at_source : (o : Outcome) → EndsAtSource c seen seen' o → Told words o
     at_source o a =
         let s : StopsAtSource c.places c.sources seen seen' a.fault = a.stops in
-        told_by words o (of_sources a.fault) a.ends (source_told s.left s.place s.source s.middle a.fault s.is_there (given_grew c.places (take s.place c.sources) whole_budget s.left seen s.middle s.layers s.given) s.stops)
+        told_by words o (of_sources a.fault) a.ends (source_told s.left s.place s.source s.middle a.fault s.is_there (given_grew c.places (take s.place c.sources) whole_budget s.left seen s.middle s.layers s.given) (too_much c.places (take s.place c.sources) s.source s.left seen s.middle seen' s.layers s.given s.grew) s.stops)
 
     before_told : (o : Outcome) → EndsBefore c seen seen' before after o → Told words o
     before_told o b = go b.stops

@@ -1,3 +1,4 @@
 pub mod Counts
+pub mod Lengths
 pub mod Commands
 pub mod Causes

@@ -4,7 +4,6 @@ use Rattle.io_core.specs.Contents.{Content}
 use Rattle.cmd_words.specs.Expressions.{Refusals, AreRefusals}
 use Rattle.run_sources.specs.Sources.{SourcesSeen}
 use Rattle.run_outcome.specs.declared.outcome.Outcome.{Outcome}
-use Rattle.run_outcome.specs.declared.outcome.Outcome.TheVariants.{TooLong}
 use Rattle.ms_chain.specs.Effects.{OutsideSeen}
 use Rattle.ms_chain.specs.Running.{WordsRun}
 use Rattle.word_model.specs.Words.{words_say}
@@ -22,11 +21,6 @@ counts_of sources outside = record {
   input_bytes = sources.input_bytes;
 }
 
--- a fact of each outcome but that of too many bytes
-abbrev pub UnlessTooLong : Outcome → Type 0 → Type 0
-UnlessTooLong (TooLong source) fact = Unit {0}
-UnlessTooLong _ fact = fact
-
 abbrev pub FaultsHaveCauses : Type 0
 FaultsHaveCauses = (refuses : Refusals) → AreRefusals refuses → (words : List Content) (seen seen' : SourcesSeen) (before after : OutsideSeen) (o : Outcome) → WordsRun words seen seen' before after o
-    → UnlessTooLong o (HasCause (words_say refuses words) seen.files seen.input (counts_of seen before) (counts_of seen' after) (outcome_as o))
+    → HasCause (words_say refuses words) seen.files seen.input (counts_of seen before) (counts_of seen' after) (outcome_as o)

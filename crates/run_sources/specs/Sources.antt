@@ -117,4 +117,5 @@ pub record StopsAtSource (places : ℕ) (sources : List SourceWord) (before afte
   -- what was seen when its reading began
   pub middle : SourcesSeen
   pub given : SourcesGive places (take place sources) whole_budget before left middle layers
+  pub grew : Grew middle after
   pub stops : SourceStops places left (place + 1) source middle after fault

@@ -54,6 +54,7 @@ returns-in-Err-clause-stops g c =
       left = c.loop-i.budget;
       middle = record { files = g.F.Files.held c.loop-i.files; file_faults = g.F.Files.read_faults c.loop-i.files; file_bytes = g.F.Files.bytes_read c.loop-i.files; input = g.I.Source.left c.loop-i.input; input_faults = g.I.Source.faults c.loop-i.input; input_bytes = g.I.Source.bytes_read c.loop-i.input };
       given = c.loop-i.invariant.given;
+      grew = c.read_source-read.ensures.grew;
       stops = c.in-Err.ensures.stops;
     }
 
