@@ -1,5 +1,5 @@
 use crate::chain_lists::{CommandList, SourceList};
-use expr_lang::Expr;
+use expr_lang::{AssignList, Expr};
 use grid_base::{BoxList, OverlapRule};
 use io_core::{NameList, Text};
 use table_terms::{GroupSpec, JoinSpec, RenameList};
@@ -112,6 +112,8 @@ pub enum LayerAction {
     Clean {
         rule: OverlapRule,
         allow_empty: bool,
+        /// Gaps of at most this area, doubled and in squared grid units, are filled; 0 fills none.
+        gap: u128,
     },
     Mosaic,
     InnerLines,
@@ -136,6 +138,26 @@ pub enum LayerAction {
     },
     Split {
         field: Option<Text>,
+    },
+    Each {
+        assigns: AssignList,
+    },
+    Sort {
+        key: Expr,
+        descending: bool,
+    },
+    Uniq {
+        key: Expr,
+        /// How many rows of one key stay; 1 at least.
+        most: u32,
+        invert: bool,
+    },
+    FilterIslands {
+        /// Twice the least area that stays, in squared grid units.
+        least_area: u128,
+        /// The least number of links that stays.
+        least_links: u32,
+        remove_empty: bool,
     },
 }
 

@@ -9,6 +9,7 @@
 //! 3. `evaluation` walks the tree; `operators` has what each operator does to values.
 #![tactic(auto)]
 
+mod assign;
 mod evaluation;
 mod expr;
 mod fault;
@@ -20,6 +21,7 @@ mod scanner;
 mod symbols;
 mod token;
 
+pub use assign::{Assign, AssignList};
 pub use evaluation::eval;
 pub use expr::Expr;
 pub use fault::{EvalFault, ExprFault};
