@@ -6,7 +6,7 @@ use Rattle.json_read.specs.Table.{RowValues}
 use Rattle.json_read.specs.declared.value.Value.TheVariants as cell
 use Rattle.grid_base.specs.declared.kinds.Kind.TheVariants as kinds
 use Rattle.grid_base.specs.declared.kinds.OverlapRule.{OverlapRule}
-use Rattle.region_ops.specs.Cleaned.{IsCleaned as AreCleaned}
+use Rattle.region_ops.specs.Filled.{IsCleanedAndFilled}
 use Rattle.region_ops.specs.Mosaic.{IsMosaic}
 use Rattle.region_ops.specs.declared.item_lists.MosaicItem.{MosaicItem}
 use Rattle.run_shapes.specs.FaceSets.{HasSets, sets_on}
@@ -19,7 +19,7 @@ use Rattle.run_plane.specs.declared.plane.Plane.{Plane}
 -- enough goes to one of its neighbours; features without faces go then, or stay where they may
 pub record IsCleaned (rule : OverlapRule) (allow_empty : Bool) (gap : ℕ) (plane : Plane) (layer made : Layer) : Type 0 where
   pub sets : List (List ℕ)
-  pub cleaned : AreCleaned rule plane.faces.areas (sets_on plane layer.shapes.items) sets
+  pub cleaned : IsCleanedAndFilled rule gap plane.faces (sets_on plane layer.shapes.items) sets
   pub has : HasSets allow_empty layer sets made
 
 -- ---- a mosaic

@@ -2,8 +2,8 @@
 use Rattle.std.specs.Prelude.{◌≡◌, ◌≤◌, ℕ, ⊤, List, [], ◌∷◌, ◌++◌, length, replicate, Option, Some, None, Ok, MatchBool}
 use Rattle.std.specs.List.{AllZip, position_or_len}
 use Rattle.io_core.specs.Contents.{Content}
-use Rattle.expr_lang.specs.Tree.{tree_of}
-use Rattle.calc_ops.specs.EachRows.{each_rows}
+use Rattle.expr_lang.specs.Tree.{all_assigned, tree_of}
+use Rattle.calc_ops.specs.EachRow.{each_rows}
 use Rattle.calc_ops.specs.EarlyRows.{uniq_rows}
 use Rattle.calc_ops.specs.KeyOrder.{sort_rows}
 use Rattle.table_ops.specs.Columns.{keep_fields, rename_fields}
@@ -60,7 +60,7 @@ PutsOut base layers (action.Filter test invert remove_empty) layer outputs = One
 PutsOut base layers (action.FilterFields fields) layer outputs = One (GivesTable (keep_fields layer.table fields) layer) outputs
 PutsOut base layers (action.RenameFields pairs) layer outputs = One (GivesTable (rename_fields layer.table pairs) layer) outputs
 PutsOut base layers (action.Split field) layer outputs = IsSplit field layer outputs
-PutsOut base layers (action.Each assigns) layer outputs = One (GivesTable (each_rows layer.table assigns) layer) outputs
+PutsOut base layers (action.Each assigns) layer outputs = One (GivesTable (each_rows layer.table (all_assigned assigns)) layer) outputs
 PutsOut base layers (action.Sort key descending) layer outputs = One (TakesNumbers (sort_rows layer.table (tree_of key) descending) layer) outputs
 PutsOut base layers (action.Uniq key most invert) layer outputs = One (TakesNumbers (uniq_rows layer.table (tree_of key) most invert) layer) outputs
 PutsOut base layers (action.FilterIslands least_area least_links remove_empty) layer outputs = One (IsMainland least_area least_links remove_empty base.plane layer) outputs

@@ -4,8 +4,8 @@ use Rattle.std.specs.Prelude.{ℕ, ◌+◌, Bool, true, false, not, ◌||◌, na
 use Rattle.std.specs.List.{list_all}
 use Rattle.grid_base.specs.declared.kinds.Kind.{Kind}
 use Rattle.grid_base.specs.declared.kinds.Kind.TheVariants as kinds
-use Rattle.expr_lang.specs.Tree.{tree_of}
-use Rattle.calc_ops.specs.EachRows.{each_rows}
+use Rattle.expr_lang.specs.Tree.{all_assigned, tree_of}
+use Rattle.calc_ops.specs.EachRow.{each_rows}
 use Rattle.calc_ops.specs.EarlyRows.{uniq_rows}
 use Rattle.calc_ops.specs.KeyOrder.{sort_rows}
 use Rattle.table_ops.specs.Columns.{keep_fields, rename_fields}
@@ -117,7 +117,7 @@ refused_layer base layers (action.Filter test invert remove_empty) layer = table
 refused_layer base layers (action.FilterFields fields) layer = table_refusal (keep_fields layer.table fields)
 refused_layer base layers (action.RenameFields pairs) layer = table_refusal (rename_fields layer.table pairs)
 refused_layer base layers (action.Split field) layer = table_refusal (split_rows layer.table field)
-refused_layer base layers (action.Each assigns) layer = table_refusal (each_rows layer.table assigns)
+refused_layer base layers (action.Each assigns) layer = table_refusal (each_rows layer.table (all_assigned assigns))
 refused_layer base layers (action.Sort key descending) layer = table_refusal (sort_rows layer.table (tree_of key) descending)
 refused_layer base layers (action.Uniq key most invert) layer = table_refusal (uniq_rows layer.table (tree_of key) most invert)
 refused_layer base layers _ layer = None

@@ -1,6 +1,6 @@
 ghost use Rattle.std.specs.Prelude.{◌≡◌, IfErr, IfOk, None};
-ghost use Rattle.expr_lang.specs.Tree.{tree_of};
-ghost use Rattle.calc_ops.specs.EachRows.{each_rows};
+ghost use Rattle.expr_lang.specs.Tree.{all_assigned, tree_of};
+ghost use Rattle.calc_ops.specs.EachRow.{each_rows};
 ghost use Rattle.calc_ops.specs.EarlyRows.{uniq_rows};
 ghost use Rattle.calc_ops.specs.KeyOrder.{sort_rows};
 ghost use Rattle.run_state.specs.Stops.{StopsFor, table_refusal};
@@ -22,9 +22,9 @@ pub fn calculated(
     layer: &Layer,
     assigns: &AssignList,
 ) -> Result<Layer, CommandStop>
-    ensures made { IfOk result (GivesTable (each_rows layer.now.table assigns.now) layer.now) }
-    ensures accepted { IfOk result (λ made. table_refusal (each_rows layer.now.table assigns.now) ≡ None) }
-    ensures stops { IfErr result (StopsFor (table_refusal (each_rows layer.now.table assigns.now))) }
+    ensures made { IfOk result (GivesTable (each_rows layer.now.table (all_assigned assigns.now)) layer.now) }
+    ensures accepted { IfOk result (λ made. table_refusal (each_rows layer.now.table (all_assigned assigns.now)) ≡ None) }
+    ensures stops { IfErr result (StopsFor (table_refusal (each_rows layer.now.table (all_assigned assigns.now)))) }
 {
     let table = each_rows(alloc, &layer.table, assigns)?;
     Ok(with_table(alloc, layer, table)?)
