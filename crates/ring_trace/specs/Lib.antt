@@ -6,6 +6,7 @@ pub mod Keys
 pub mod Owners
 pub mod Boundary
 pub mod Joined
+pub mod Gaps
 pub mod Pairing
 pub mod Traced
 pub mod Turns

@@ -1,7 +1,9 @@
-ghost use Rattle.std.specs.Prelude.{◌≡◌, ◌==◌, ◌++◌, [], not, IfOk, OnOk, OnErr, filter, length, nat_eq, nat_lt};
+ghost use Rattle.std.specs.Prelude.{◌≡◌, ◌==◌, ◌++◌, ◌+ℤ◌, [], not, IfOk, OnOk, OnErr, filter, length, nat_eq, nat_lt};
 ghost use Rattle.std.specs.List.Sorted.{IsStrictlyIncreasing};
 ghost use Rattle.lists.specs.Lists.{has, put_in_order, ascending};
+ghost use Rattle.ring_trace.specs.Sets.{IsSetOf, area_of};
 
+use face_walk::Faces;
 use grid_base::FaceId;
 use std::alloc::{AllocError, Global};
 use std::marker::Model;
@@ -110,6 +112,33 @@ impl FaceSet {
         let faces = left_out(alloc, &self.faces, o)?;
         Ok(FaceSet { faces })
     }
+
+    /// Twice the area of the faces together, in squares of the grid. Takes no memory.
+    ///
+    /// Errors: `AllocError` where it is past an `i128` on the way.
+    pub fn twice_area(&self, f: &Faces) -> Result<i128, AllocError>
+        requires faces { IsSetOf f.now self.now }
+        ensures exact { IfOk result (λ area. area ≡ area_of f.now.areas self.now) }
+    {
+        sum_of_areas(f, &self.faces)
+    }
+}
+
+fn sum_of_areas(f: &Faces, faces: &[FaceId]) -> Result<i128, AllocError>
+    requires faces { IsSetOf f.now faces.now }
+    ensures exact { IfOk result (λ area. area ≡ area_of f.now.areas faces.now) }
+{
+    let mut sum = 0i128;
+    for face in faces {
+        sum = added(sum, f.twice_area(*face))?;
+    }
+    Ok(sum)
+}
+
+fn added(sum: i128, area: i128) -> Result<i128, AllocError>
+    ensures exact { IfOk result (λ more. more ≡ sum +ℤ area) }
+{
+    sum.checked_add(area).ok_or(AllocError)
 }
 
 fn is_listed(faces: &[FaceId], f: FaceId) -> bool

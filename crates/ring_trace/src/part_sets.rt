@@ -43,7 +43,22 @@ pub fn parts(alloc: Global, t: &ArcTable, f: &Faces, set: &FaceSet) -> Result<Se
     ensures of_the_set { IfOk result (All (IsPieceOf set.now)) }
     ensures inner { IfOk result (All (IsSetOf f.now)) }
 {
-    let faces = set.faces();
+    parts_of(alloc, t, f, set.faces())
+}
+
+/// The parts of faces that stand in order, the outer one among them or not.
+pub fn parts_of(
+    alloc: Global,
+    t: &ArcTable,
+    f: &Faces,
+    faces: &[FaceId],
+) -> Result<SetList, AllocError>
+    requires built { IsBuiltOf t.now f.now }
+    requires ascending { IsStrictlyIncreasing faces.now }
+    ensures exact { IfOk result (AreParts f.now faces.now) }
+    ensures divided { IfOk result (IsDivided faces.now) }
+    ensures of_them { IfOk result (All (IsPieceOf faces.now)) }
+{
     if faces.len() > u32::MAX as usize {
         return Err(AllocError);
     }

@@ -1,6 +1,6 @@
 use Rattle.std.proofs.Common.{◌≡◌, take}
-use Rattle.calc_ops.specs.Islands.{area_of}
-use Rattle.calc_ops.proofs.islands.twice_area.Given as goal
+use Rattle.ring_trace.specs.Sets.{area_of}
+use Rattle.ring_trace.proofs.face_set.sum_of_areas.Given as goal
 
 abbrev pub invariant-loop-face : goal.invariant-loop-face
 invariant-loop-face l = l.sum ≡ area_of l.f.areas (take l.face-index l.faces)

@@ -1,7 +1,7 @@
 use Rattle.std.proofs.Common.{◌∙◌, sym, ap, ℤ, ◌+ℤ◌, FitsSigned, to_z-of_z, rules}
 use Rattle.std.specs.Int.{w128}
-use Rattle.calc_ops.proofs.IslandLemmas.{area_more}
-use Rattle.calc_ops.proofs.islands.twice_area.Goals as goal
+use Rattle.ring_trace.proofs.AreaLemmas.{area_more}
+use Rattle.ring_trace.proofs.face_set.sum_of_areas.Goals as goal
 
 pub loop-face-preserved : goal.loop-face-preserved
 loop-face-preserved c =
