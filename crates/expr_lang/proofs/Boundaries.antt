@@ -8,7 +8,7 @@ use Rattle.std.proofs.lemmas.Slice.Eq.{starts_is}
 use Rattle.std.proofs.lemmas.Bool.{eqb-true}
 use Rattle.std.proofs.lemmas.Bool.Decides.{Decides-eqb}
 use Rattle.expr_lang.specs.declared.token.Symbol.{Symbol}
-use Rattle.json_read.specs.Bytes.{is_white, is_digit}
+use Rattle.json_read.specs.Bytes.{is_digit}
 use Rattle.json_read.specs.Numeral.{skip_sign}
 use Rattle.json_read.specs.Reading.{drop_while}
 use Rattle.expr_lang.specs.Tokens.{Text, begins_with_digit, skip_whole, skip_fraction, skip_exponent, behind_number, three_bytes, two_bytes, one_byte, other_byte}
@@ -130,9 +130,9 @@ other_of b false x y h e = absurd (cc)
 
 other_ascii : (b : ℕ) (y : Symbol) → other_byte b ≡ Some y → b < 128
 other_ascii b y =
-    other_of b _ _ y (or_ascii b _ _ (or_ascii b _ _ (or_ascii b _ _ (or_ascii b _ _ (or_ascii b _ _ (or_ascii b _ _ (or_ascii b _ _ (or_ascii b _ _ (or_ascii b _ _ (or_ascii b _ _
+    other_of b _ _ y (or_ascii b _ _ (or_ascii b _ _ (or_ascii b _ _ (or_ascii b _ _ (or_ascii b _ _ (or_ascii b _ _ (or_ascii b _ _ (or_ascii b _ _
     (equal_ascii b 47 (omega arith)) (equal_ascii b 37 (omega arith))) (equal_ascii b 38 (omega arith))) (equal_ascii b 124 (omega arith)))
-    (equal_ascii b 94 (omega arith))) (equal_ascii b 126 (omega arith))) (equal_ascii b 61 (omega arith))) (equal_ascii b 59 (omega arith)))
+    (equal_ascii b 94 (omega arith))) (equal_ascii b 126 (omega arith)))
     (equal_ascii b 123 (omega arith))) (equal_ascii b 125 (omega arith))) (equal_ascii b 44 (omega arith)))
 
 one_ascii : (b : ℕ) (y : Symbol) → one_byte b ≡ Some y → b < 128
@@ -140,7 +140,7 @@ one_ascii b y =
     one_of b 63 _ y _ (omega arith) (one_of b 58 _ y _ (omega arith) (one_of b 60 _ y _ (omega arith) (one_of b 62 _ y _ (omega arith) (
     one_of b 43 _ y _ (omega arith) (one_of b 45 _ y _ (omega arith) (one_of b 42 _ y _ (omega arith) (one_of b 33 _ y _ (omega arith) (
     one_of b 40 _ y _ (omega arith) (one_of b 41 _ y _ (omega arith) (one_of b 91 _ y _ (omega arith) (one_of b 93 _ y _ (omega arith) (
-    one_of b 46 _ y _ (omega arith) (other_ascii b y)))))))))))))
+    one_of b 46 _ y _ (omega arith) (one_of b 61 _ y _ (omega arith) (one_of b 59 _ y _ (omega arith) (other_ascii b y)))))))))))))))
 
 behind_ascii : (s : Text) (k : ℕ) → IsUtf8 s → AsciiAt s k → IsCharBoundary s (k + 1)
 behind_ascii s k u h = IsCharBoundary-after_ascii s k u h.0 h.1

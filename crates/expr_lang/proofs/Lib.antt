@@ -13,3 +13,5 @@ pub mod Scanning
 pub mod Stops
 pub mod Wholes
 pub mod OneTree
+pub mod Assignments
+pub mod OneAssigns

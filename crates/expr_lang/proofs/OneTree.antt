@@ -1,43 +1,41 @@
 -- Each text has one tree: a reading that goes from the left, each step by the next token alone.
-use Rattle.std.proofs.Common.{ℕ, zero, suc, ◌≡◌, ◌<◌, List, [], ◌∷◌, ◌++◌, Option, Some, None, codes, length, refl, ap, ◌∙◌, sym, subst, append_assoc, arith}
+use Rattle.std.proofs.Common.{ℕ, zero, suc, ◌≡◌, List, [], ◌∷◌, ◌++◌, Some, codes, length, refl, ap, ◌∙◌, sym, subst, append_assoc, arith}
 use Rattle.expr_lang.specs.declared.token.Operator.{Operator}
 use Rattle.expr_lang.specs.declared.token.Sign.{Sign}
-use Rattle.expr_lang.specs.declared.token.Mark.{Mark}
 use Rattle.expr_lang.specs.declared.token.Mark.TheVariants as mark
 use Rattle.expr_lang.specs.declared.token.Token.{Token}
 use Rattle.expr_lang.specs.declared.token.Token.TheVariants as token
 use Rattle.expr_lang.specs.Tree.{Tree, column, feature_number, unary, binary, choice}
 use Rattle.expr_lang.specs.Grammar.{Placed, Toks, Cond, simple, branches, Level, lowest, single, joined, Unary, atom, signed, Atom, leaf, this_id, this_property, enclosed, level_of, leaf_of, sign_of}
-use Rattle.expr_lang.specs.Reading.{Quiet, NextIsNot, IsMark, IsSign, level_at}
-use Rattle.expr_lang.proofs.Parts.{append_nil}
+use Rattle.expr_lang.specs.Reading.{Quiet, NextIsNot, IsMark, IsSign}
 
 -- no operator of this level comes next
-abbrev NotLevel : ℕ → Toks → Type 0
+abbrev pub NotLevel : ℕ → Toks → Type 0
 NotLevel j ts = (at : ℕ) (o : Operator) (us : Toks) → ts ≡ (at, token.Operator o) ∷ us → level_of o ≡ j → ⊥
 
 mutual
-  data ReadsCond : Toks → Toks → Tree → Type 0 where
+  pub data ReadsCond : Toks → Toks → Tree → Type 0 where
     plain : {ts rest : Toks} {e : Tree} → ReadsLevel 6 ts rest e → NextIsNot (IsMark mark.Question) rest → ReadsCond ts rest e
     chosen : {at colon : ℕ} {ts us vs ws xs rest : Toks} {c d e x : Tree}
         → ReadsLevel 6 ts us c → us ≡ (at, token.Mark mark.Question) ∷ vs → ReadsCond vs ws d → ws ≡ (colon, token.Mark mark.Colon) ∷ xs → ReadsCond xs rest e
         → x ≡ choice at c d e → ReadsCond ts rest x
 
-  data ReadsLevel : ℕ → Toks → Toks → Tree → Type 0 where
+  pub data ReadsLevel : ℕ → Toks → Toks → Tree → Type 0 where
     base : {ts rest : Toks} {e : Tree} → ReadsUnary ts rest e → ReadsLevel zero ts rest e
     chain : {k : ℕ} {ts us rest : Toks} {d e : Tree} → ReadsLevel k ts us d → ReadsLoop k d us rest e → ReadsLevel (suc k) ts rest e
 
   -- operators of level suc k and their right operands, behind a left operand
-  data ReadsLoop : ℕ → Tree → Toks → Toks → Tree → Type 0 where
+  pub data ReadsLoop : ℕ → Tree → Toks → Toks → Tree → Type 0 where
     done : {k : ℕ} {ts rest : Toks} {d e : Tree} → NotLevel (suc k) ts → ts ≡ rest → d ≡ e → ReadsLoop k d ts rest e
     more : {k at : ℕ} {o : Operator} {ts us vs rest : Toks} {d e x : Tree}
         → ts ≡ (at, token.Operator o) ∷ us → level_of o ≡ suc k → ReadsLevel k us vs e → ReadsLoop k (binary at o d e) vs rest x → ReadsLoop k d ts rest x
 
-  data ReadsUnary : Toks → Toks → Tree → Type 0 where
+  pub data ReadsUnary : Toks → Toks → Tree → Type 0 where
     bare : {ts rest : Toks} {e : Tree} → NextIsNot IsSign ts → ReadsAtom ts rest e → ReadsUnary ts rest e
     behind : {at : ℕ} {t : Token} {o : Sign} {ts us rest : Toks} {d e : Tree}
         → ts ≡ (at, t) ∷ us → sign_of t ≡ Some o → ReadsUnary us rest d → e ≡ unary at o d → ReadsUnary ts rest e
 
-  data ReadsAtom : Toks → Toks → Tree → Type 0 where
+  pub data ReadsAtom : Toks → Toks → Tree → Type 0 where
     one : {at : ℕ} {t : Token} {ts rest : Toks} {e : Tree} → ts ≡ (at, t) ∷ rest → leaf_of at t ≡ Some e → ReadsAtom ts rest e
     id : {at b c : ℕ} {ts rest : Toks} {e : Tree}
         → ts ≡ (at, token.This) ∷ (b, token.Mark mark.Dot) ∷ (c, token.Name (codes "id")) ∷ rest → e ≡ feature_number → ReadsAtom ts rest e
@@ -57,12 +55,12 @@ behind_first : Toks → Toks
 behind_first [] = []
 behind_first (t ∷ ts) = ts
 
-record SameNext (at b : ℕ) (t u : Token) (xs ys : Toks) : Type 0 where
+pub record SameNext (at b : ℕ) (t u : Token) (xs ys : Toks) : Type 0 where
   pub place : at ≡ b
   pub token : t ≡ u
   pub left : xs ≡ ys
 
-same_next : {at b : ℕ} {t u : Token} {xs ys ts us : Toks} → ts ≡ (at, t) ∷ xs → ts ≡ us → us ≡ (b, u) ∷ ys → SameNext at b t u xs ys
+pub same_next : {at b : ℕ} {t u : Token} {xs ys ts us : Toks} → ts ≡ (at, t) ∷ xs → ts ≡ us → us ≡ (b, u) ∷ ys → SameNext at b t u xs ys
 unfolding first behind_first
 same_next e f g =
     let h = sym e ∙ f ∙ g in
@@ -88,14 +86,14 @@ leaf_no_sign at (token.Mark m) e o h g = cc
 leaf_no_sign at token.Other e o h g = cc
 leaf_no_sign at token.Stray e o h g = cc
 
-abbrev Agree : Toks → Toks → Tree → Tree → Type 0
+abbrev pub Agree : Toks → Toks → Tree → Tree → Type 0
 Agree r s d e = (r ≡ s) × (d ≡ e)
 
 id_or_property : token.Name (codes "id") ≡ token.Name (codes "properties") → ⊥
 id_or_property e = (let same : codes "id" ≡ codes "properties" = cc in omega (arith, ap length same))
 
 mutual
-  one_cond : {ts us r s : Toks} {d e : Tree} → ReadsCond ts r d → ts ≡ us → ReadsCond us s e → Agree r s d e
+  pub one_cond : {ts us r s : Toks} {d e : Tree} → ReadsCond ts r d → ts ≡ us → ReadsCond us s e → Agree r s d e
   one_cond (plain a n) f (plain b m) = one_level a f b
   one_cond (plain a n) f (chosen b q x c y g) = absurd (n _ _ _ ((one_level a f b).0 ∙ q) refl)
   one_cond (chosen a q x c y g) f (plain b m) = absurd (m _ _ _ (sym (one_level a f b).0 ∙ q) refl)
@@ -193,7 +191,7 @@ atom_no_sign this_property rest at t us g h = (let x = ap sign_of (same_next ref
 atom_no_sign (enclosed b i) rest at t us g h = (let x = ap sign_of (same_next refl g refl).token ∙ h.1 in cc)
 
 mutual
-  cond_reads : {n : ℕ} {s : Toks} {e : Tree} → Cond n s e → (rest : Toks) → Quiet 7 rest → ReadsCond (s ++ rest) rest e
+  pub cond_reads : {n : ℕ} {s : Toks} {e : Tree} → Cond n s e → (rest : Toks) → Quiet 7 rest → ReadsCond (s ++ rest) rest e
   cond_reads (simple h) rest q = plain (level_reads h rest (quiet_down 6 rest q)) (quiet_question rest q)
   cond_reads (branches {n} {at} colon {s} {t} {u} {c = i} {d = j} {e = k} c x y) rest q =
       subst (λ (z : Toks). ReadsCond z rest (choice at i j k)) (sym (append_assoc s _ rest ∙ ap (λ (z : Toks). s ++ (at, token.Mark mark.Question) ∷ z) (append_assoc t _ rest)))

@@ -1,4 +1,4 @@
--- The grammar of expressions over tokens, and the tree of each. In each family n bounds how deep
+-- The grammars of expressions and of assignments over tokens, and the trees of each. In each family n bounds how deep
 -- parentheses, operators before one operand and branches of a choice go.
 use Rattle.std.specs.Prelude.{◌≡◌, ℕ, zero, suc, true, false, codes, List, [], ◌∷◌, ◌++◌, Option, Some, None}
 use Rattle.json_read.specs.declared.value.Value.TheVariants as value
@@ -9,7 +9,7 @@ use Rattle.expr_lang.specs.declared.token.Sign.TheVariants as sign
 use Rattle.expr_lang.specs.declared.token.Mark.TheVariants as mark
 use Rattle.expr_lang.specs.declared.token.Token.{Token}
 use Rattle.expr_lang.specs.declared.token.Token.TheVariants as token
-use Rattle.expr_lang.specs.Tree.{Tree, constant, column, feature_number, unary, binary, choice}
+use Rattle.expr_lang.specs.Tree.{Tree, Assigned, constant, column, feature_number, unary, binary, choice}
 
 -- a token, and the place of its first byte
 abbrev pub Placed : Type 0
@@ -83,3 +83,15 @@ mutual
         → Atom n ((at, token.This) ∷ (b, token.Mark mark.Dot) ∷ (c, token.Name (codes "properties")) ∷ (d, token.Mark mark.OpenBracket) ∷ (e, token.Text s) ∷ (f, token.Mark mark.CloseBracket) ∷ []) (column at s)
     enclosed : {n at : ℕ} (b : ℕ) {s : Toks} {e : Tree}
         → Cond n s e → Atom (suc n) ((at, token.Mark mark.Open) ∷ (s ++ (b, token.Mark mark.Close) ∷ [])) e
+
+-- assign = name "=" cond
+pub data OneAssign : ℕ → Toks → Assigned → Type 0 where
+  becomes : {n at b : ℕ} {name : List ℕ} {s : Toks} {e : Tree}
+      → Cond n s e → OneAssign n ((at, token.Name name) ∷ (b, token.Mark mark.Becomes) ∷ s) (name, e)
+
+-- assign { ";" assign } [ ";" ]
+pub data Assigns : ℕ → Toks → List Assigned → Type 0 where
+  last_assign : {n : ℕ} {s : Toks} {a : Assigned} → OneAssign n s a → Assigns n s (a ∷ [])
+  ended_assign : {n : ℕ} (at : ℕ) {s : Toks} {a : Assigned} → OneAssign n s a → Assigns n (s ++ (at, token.Mark mark.Semicolon) ∷ []) (a ∷ [])
+  more_assigns : {n : ℕ} (at : ℕ) {s t : Toks} {a : Assigned} {xs : List Assigned}
+      → OneAssign n s a → Assigns n t xs → Assigns n (s ++ (at, token.Mark mark.Semicolon) ∷ t) (a ∷ xs)

@@ -1,5 +1,5 @@
 -- What a parser has read of the tokens that it had, and what it met.
-use Rattle.std.specs.Prelude.{◌≡◌, ℕ, suc, ◌+◌, ◌<◌, Bool, true, false, List, [], ◌∷◌, ◌++◌, Result, MatchResult, Option, Some, None, if◌then◌else◌}
+use Rattle.std.specs.Prelude.{◌≡◌, ◌⊎◌, ℕ, suc, ◌+◌, ◌<◌, Bool, true, false, List, [], ◌∷◌, ◌++◌, Result, MatchResult, Option, Some, None, if◌then◌else◌}
 use Rattle.expr_lang.specs.declared.token.Sign.{Sign}
 use Rattle.expr_lang.specs.declared.token.Mark.{Mark}
 use Rattle.expr_lang.specs.declared.token.Mark.TheVariants as mark
@@ -12,7 +12,7 @@ use Rattle.expr_lang.specs.declared.parser.Stop.{Stop}
 use Rattle.expr_lang.specs.declared.parser.Stop.TheVariants as stop
 use Rattle.expr_lang.specs.Tree.{Tree, node_tree}
 use Rattle.expr_lang.specs.Grammar.{Placed, Toks, Atom, level_of, sign_of}
-use Rattle.expr_lang.specs.Machine.{Place, Open, Outcome, stopped, run, levels, operand, operator}
+use Rattle.expr_lang.specs.Machine.{Place, Open, Outcome, stopped, run, levels, operand, operator, first_target, assigned_value}
 
 -- a place, and what is open there
 pub record Spot : Type 0 where
@@ -79,13 +79,23 @@ raised false n = n
 raised true n = suc n
 
 -- some tree has the text in the family G
-abbrev pub Some_tree : (ℕ → Toks → Tree → Type 0) → ℕ → Bool → Toks → Type 0
-Some_tree G n b s = (e : Tree) × G (raised b n) s e
+abbrev pub Some_tree : {T : Type 0} → (ℕ → Toks → T → Type 0) → ℕ → Bool → Toks → Type 0
+Some_tree {T} G n b s = (e : T) × G (raised b n) s e
 
 -- Either a text of the family G was read, with its tree, or what was read begins one; and the machine goes with it
+abbrev pub PartOf : {I A T : Type 0} → (A → T) → (ℕ → Toks → T → Type 0) → ℕ → (I → Spot) → (I → Spot) → Result A Stop → Toks → Toks → Type 0
+PartOf tree G n from to result old new =
+    MatchResult result (λ x. Passes (λ s. G n s (tree x)) from to old new) (AtMisfit (λ f. Breaks (Some_tree G n) from f old new))
+
 abbrev pub Part : {I : Type 0} → (ℕ → Toks → Tree → Type 0) → ℕ → (I → Spot) → (I → Spot) → Result Node Stop → Toks → Toks → Type 0
-Part G n from to result old new =
-    MatchResult result (λ x. Passes (λ s. G n s (node_tree x)) from to old new) (AtMisfit (λ f. Breaks (Some_tree G n) from f old new))
+Part G n from to result old new = PartOf node_tree G n from to result old new
+
+-- before an assignment, with nothing open, and behind its value
+abbrev pub before_assign : ℕ → Unit {0} → Spot
+before_assign d i = record { deepest = d; place = first_target; open_there = [] }
+
+abbrev pub behind_assign : ℕ → Unit {0} → Spot
+behind_assign d i = record { deepest = d; place = operator; open_there = assigned_value ∷ [] }
 
 -- what stands behind `this` at a place
 abbrev pub ThisText : ℕ → ℕ → Toks → Tree → Type 0
@@ -100,6 +110,9 @@ IsMark m t = t ≡ token.Mark m
 
 abbrev pub IsName : List ℕ → Token → Type 0
 IsName s t = t ≡ token.Name s
+
+abbrev pub IsAName : Token → Type 0
+IsAName t = (s : List ℕ) × (t ≡ token.Name s)
 
 abbrev pub IsText : Token → Type 0
 IsText t = (s : List ℕ) × (t ≡ token.Text s)
@@ -126,3 +139,8 @@ known_content other content = if other then None else Some content
 abbrev pub EndsLine : List ℕ → Type 0
 EndsLine [] = Unit {0}
 EndsLine (b ∷ bs) = b ≡ 10
+
+-- behind an assignment: it was the last, with or without a semicolon; or others follow its semicolon
+abbrev pub AssignEnds : Bool → Toks → Toks → Type 0
+AssignEnds true old new = (old ≡ []) ⊎ ((at : ℕ) × (old ≡ (at, token.Mark mark.Semicolon) ∷ []))
+AssignEnds false old new = (at : ℕ) × (old ≡ (at, token.Mark mark.Semicolon) ∷ new) × (t : Placed) × (ts : Toks) × (new ≡ t ∷ ts)

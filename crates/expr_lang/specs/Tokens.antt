@@ -138,13 +138,13 @@ two_bytes s =
     else if starts_with nat_eq s (codes "?.") then Some symbol.Other
     else None
 
--- / % & | ^ ~ = ; { } ,
+-- / % & | ^ ~ { } ,
 abbrev pub other_byte : ℕ → Option Symbol
 other_byte b =
-    if (b == 47) || (b == 37) || (b == 38) || (b == 124) || (b == 94) || (b == 126) || (b == 61) || (b == 59) || (b == 123) || (b == 125) || (b == 44)
+    if (b == 47) || (b == 37) || (b == 38) || (b == 124) || (b == 94) || (b == 126) || (b == 123) || (b == 125) || (b == 44)
     then Some symbol.Other else None
 
--- ? : < > + - * ! ( ) [ ] .
+-- ? : < > + - * ! ( ) [ ] . = ;
 abbrev pub one_byte : ℕ → Option Symbol
 one_byte b =
     if b == 63 then Some (symbol.Mark mark.Question)
@@ -160,6 +160,8 @@ one_byte b =
     else if b == 91 then Some (symbol.Mark mark.OpenBracket)
     else if b == 93 then Some (symbol.Mark mark.CloseBracket)
     else if b == 46 then Some (symbol.Mark mark.Dot)
+    else if b == 61 then Some (symbol.Mark mark.Becomes)
+    else if b == 59 then Some (symbol.Mark mark.Semicolon)
     else other_byte b
 
 abbrev pub symbol_token : Symbol → Token

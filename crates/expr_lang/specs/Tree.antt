@@ -1,8 +1,9 @@
 -- The tree of an expression. A place is the number of a byte in the text, counted from 0.
-use Rattle.std.specs.Prelude.{ℕ, List}
+use Rattle.std.specs.Prelude.{ℕ, List, map}
 use Rattle.json_read.specs.declared.value.Value.{Value}
 use Rattle.expr_lang.specs.declared.token.Operator.{Operator}
 use Rattle.expr_lang.specs.declared.token.Sign.{Sign}
+use Rattle.expr_lang.specs.declared.assign.Assign.{Assign}
 use Rattle.expr_lang.specs.declared.expr.Expr.{Expr}
 use Rattle.expr_lang.specs.declared.expr.Node.{Node}
 use Rattle.expr_lang.specs.declared.expr.Node.TheVariants as node
@@ -29,3 +30,13 @@ node_tree (node.Choice' at p c q d r e) = choice at (node_tree c) (node_tree d) 
 
 abbrev pub tree_of : Expr → Tree
 tree_of e = node_tree e.root
+
+-- a name, and the tree of the value that it is set to
+abbrev pub Assigned : Type 0
+Assigned = List ℕ × Tree
+
+abbrev pub assigned : Assign → Assigned
+assigned a = (a.name, tree_of a.value)
+
+abbrev pub all_assigned : List Assign → List Assigned
+all_assigned list = map assigned list

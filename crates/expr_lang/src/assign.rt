@@ -21,9 +21,13 @@ pub struct AssignList {
 
 impl Model for AssignList {
     ghost use Rattle.std.specs.Prelude.{List, ℕ, ◌<◌, ◌^◌, length};
+    ghost use Rattle.std.specs.Coded.{coded_list};
     ghost use Rattle.expr_lang.specs.declared.assign.Assign.{Assign};
+    ghost use Rattle.expr_lang.specs.contracts.assign.Assign as item;
 
     ghost Value = { List Assign };
+
+    ghost coded = { coded_list item.the_row.coded };
 
     ghost view = { λ l. l.items.items };
 

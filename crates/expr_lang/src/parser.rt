@@ -1,17 +1,19 @@
 ghost use Rattle.std.specs.Prelude.{◌≡◌, ◌∷◌, ◌+◌, ◌<◌, ◌≤◌, [], List, ℕ, true, false, length, MatchOption, MatchResult, OnOk, IfOk, option_map, Some};
-ghost use Rattle.expr_lang.specs.Grammar.{Placed, Toks, Cond, Level, Unary, Atom, level_of as level_number, leaf_of, sign_of};
+ghost use Rattle.expr_lang.specs.Grammar.{Placed, Toks, Cond, Level, Unary, Atom, OneAssign, Assigns, level_of as level_number, leaf_of, sign_of};
 ghost use Rattle.expr_lang.specs.Machine.{behind_this, operator};
-ghost use Rattle.expr_lang.specs.Reading.{Part, ThisText, NextIsNot, IsMark, IsName, IsText, IsSign, AtMisfit, Quiet, level_at, before, behind, plainly, anywhere};
-ghost use Rattle.expr_lang.specs.Faults.{fault_of, is_unsupported as unsupported_token};
-ghost use Rattle.expr_lang.specs.Stuck.{ReadsExpression};
-ghost use Rattle.expr_lang.specs.Tree.{node_tree};
+ghost use Rattle.expr_lang.specs.Reading.{Part, PartOf, AssignEnds, ThisText, NextIsNot, IsMark, IsName, IsAName, IsText, IsSign, AtMisfit, Quiet, level_at, before, behind, plainly, anywhere, before_assign, behind_assign};
+ghost use Rattle.expr_lang.specs.Faults.{IsStopAt, fault_of, is_unsupported as unsupported_token};
+ghost use Rattle.expr_lang.specs.Stuck.{ReadsAll};
+ghost use Rattle.expr_lang.specs.Tree.{node_tree, assigned, all_assigned};
 ghost use Rattle.expr_lang.specs.Tree as tree;
 ghost use Rattle.expr_lang.specs.declared.parser.Stop.TheVariants.{Memory};
 ghost use Rattle.expr_lang.specs.declared.parser.Misfit.TheVariants.{Unfit};
+ghost use Rattle.expr_lang.specs.declared.token.Mark.TheVariants as mark;
 ghost use Rattle.expr_lang.specs.declared.token.Token.{Token};
 ghost use Rattle.expr_lang.specs.declared.token.Token.TheVariants as token;
 
-use crate::expr::Node;
+use crate::assign::{Assign, AssignList};
+use crate::expr::{Expr, Node};
 use crate::fault::ExprFault;
 use crate::token::{Mark, Operator, Sign, Token};
 use io_core::Text;
@@ -170,13 +172,74 @@ impl<'a> Parser<'a> {
 
     /// All tokens, as one expression.
     pub(crate) fn expression(&mut self) -> Result<Node, Stop>
-        ensures { ReadsExpression 64 result self.old.rest.now self.new.rest.now }
+        ensures { ReadsAll node_tree Cond 64 result self.old.rest.now self.new.rest.now }
     {
         let e = self.cond(MAX_DEPTH)?;
+        self.end()?;
+        Ok(e)
+    }
+
+    /// All tokens, as assignments.
+    pub(crate) fn assignments(&mut self) -> Result<AssignList, Stop>
+        ensures { ReadsAll all_assigned Assigns 64 result self.old.rest.now self.new.rest.now }
+    {
+        let mut list = AssignList::new(self.alloc);
+        loop {
+            let item = self.assignment()?;
+            list.push(item)?;
+            if self.is_last()? {
+                return Ok(list);
+            }
+        }
+    }
+
+    /// A name, and the expression that it is set to.
+    fn assignment(&mut self) -> Result<Assign, Stop>
+        ensures part { PartOf assigned OneAssign 64 (before_assign 64) (behind_assign 64) result self.old.rest.now self.new.rest.now }
+        ensures ends { OnOk result (Quiet 7 self.new.rest.now) }
+    {
+        let name = self.target()?;
+        self.expect(Mark::Becomes)?;
+        let root = self.cond(MAX_DEPTH)?;
+        Ok(Assign {
+            name,
+            value: Expr { root },
+        })
+    }
+
+    /// Whether an assignment is the last one: nothing comes next, or a `;` that ends all. Goes past a `;`.
+    fn is_last(&mut self) -> Result<bool, Stop>
+        ensures { MatchResult result (λ last. AssignEnds last self.old.rest.now self.new.rest.now)
+            (AtMisfit (λ f. (f ≡ Unfit) × (self.new.rest.now ≡ self.old.rest.now) × (t : Placed) × (ts : Toks) × (self.old.rest.now ≡ t ∷ ts) × (IsMark mark.Semicolon t.1 → ⊥))) }
+    {
+        if self.take(Mark::Semicolon) {
+            return Ok(self.rest.is_empty());
+        }
+        self.end()?;
+        Ok(true)
+    }
+
+    fn end(&self) -> Result<(), Stop>
+        ensures { MatchResult result (λ _. self.now.rest.now ≡ [])
+            (AtMisfit (λ f. (f ≡ Unfit) × (t : Placed) × (ts : Toks) × (self.now.rest.now ≡ t ∷ ts))) }
+    {
         match self.next() {
-            None => Ok(e),
+            None => Ok(()),
             Some(_) => Err(Stop::Misfit(Misfit::Unfit)),
         }
+    }
+
+    /// The name that an assignment sets.
+    fn target(&mut self) -> Result<Text, Stop>
+        ensures { MatchResult result (λ s. (at : ℕ) × (self.old.rest.now ≡ (at, token.Name s) ∷ self.new.rest.now))
+            (AtMisfit (λ f. (f ≡ Unfit) × (self.new.rest.now ≡ self.old.rest.now) × NextIsNot IsAName self.old.rest.now)) }
+    {
+        let Some((_, Token::Name(name))) = self.rest.first() else {
+            return Err(Stop::Misfit(Misfit::Unfit));
+        };
+        let name = Text::of(self.alloc, name.as_str())?;
+        self.advance();
+        Ok(name)
     }
 
     /// A choice, or what stands in its place, with at most `depth` levels in one another.
@@ -276,8 +339,18 @@ impl<'a> Parser<'a> {
 }
 
 impl<'a> Parser<'a> {
-    /// The fault of a text of so many bytes, where the next token does not fit.
-    pub(crate) fn fault(&self, misfit: Misfit, end: u32) -> ExprFault
+    /// The fault of a text of so many bytes, where the parser stopped.
+    pub(crate) fn stopped(&self, stop: Stop, end: u32) -> ExprFault
+        ensures { IsStopAt self.now.rest.now end stop result }
+    {
+        match stop {
+            Stop::Memory => ExprFault::Memory,
+            Stop::Misfit(misfit) => self.fault(misfit, end),
+        }
+    }
+
+    // The same, where the next token does not fit.
+    fn fault(&self, misfit: Misfit, end: u32) -> ExprFault
         ensures { result ≡ fault_of misfit self.now.rest.now end }
     {
         let Some((at, token)) = self.next() else {
@@ -303,7 +376,10 @@ fn is_unsupported(token: &Token) -> bool
     ensures { result ≡ unsupported_token token.now }
 {
     match token {
-        Token::Other | Token::Mark(Mark::OpenBracket | Mark::Dot | Mark::Open) => true,
+        Token::Other
+        | Token::Mark(
+            Mark::OpenBracket | Mark::Dot | Mark::Open | Mark::Becomes | Mark::Semicolon,
+        ) => true,
         _ => false,
     }
 }

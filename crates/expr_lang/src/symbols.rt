@@ -66,6 +66,8 @@ pub fn one_byte(b: u8) -> Option<Symbol>
         b'[' => Some(Symbol::Mark(Mark::OpenBracket)),
         b']' => Some(Symbol::Mark(Mark::CloseBracket)),
         b'.' => Some(Symbol::Mark(Mark::Dot)),
+        b'=' => Some(Symbol::Mark(Mark::Becomes)),
+        b';' => Some(Symbol::Mark(Mark::Semicolon)),
         _ => other_byte(b),
     }
 }
@@ -74,9 +76,7 @@ fn other_byte(b: u8) -> Option<Symbol>
     ensures { result ≡ other_byte_at b }
 {
     match b {
-        b'/' | b'%' | b'&' | b'|' | b'^' | b'~' | b'=' | b';' | b'{' | b'}' | b',' => Some(
-            Symbol::Other,
-        ),
+        b'/' | b'%' | b'&' | b'|' | b'^' | b'~' | b'{' | b'}' | b',' => Some(Symbol::Other),
         _ => None,
     }
 }

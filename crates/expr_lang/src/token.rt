@@ -51,6 +51,9 @@ pub enum Mark {
     Dot,
     OpenBracket,
     CloseBracket,
+    /// `=`
+    Becomes,
+    Semicolon,
 }
 
 /// A token of operator signs or marks.

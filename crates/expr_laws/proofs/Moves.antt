@@ -13,7 +13,7 @@ use Rattle.expr_lang.specs.declared.token.Token.TheVariants as token
 use Rattle.expr_lang.specs.declared.parser.Misfit.TheVariants.{TooDeep}
 use Rattle.expr_lang.specs.Tree.{unary, feature_number, column}
 use Rattle.expr_lang.specs.Grammar.{Placed, Toks, Unary, atom, signed, leaf, this_id, this_property, enclosed, sign_of}
-use Rattle.expr_lang.specs.Machine.{Place, Open, levels, opens, colon, close, step, misfit_of, operand, operator, behind_this, behind_dot, behind_properties, behind_bracket, behind_name, in_parentheses, first_branch, last_branch}
+use Rattle.expr_lang.specs.Machine.{Place, Open, levels, opens, colon, close, semicolon, step, misfit_of, operand, operator, behind_this, behind_dot, behind_properties, behind_bracket, behind_name, in_parentheses, first_branch, last_branch}
 use Rattle.expr_lang.proofs.Parts.{append_nil}
 use Rattle.expr_lang.proofs.Steps.{opens_more}
 use Rattle.expr_laws.proofs.Trees.{Condition, Operands, Operand, condition_of, operands_of, operands_on, choice_of}
@@ -122,6 +122,13 @@ close_at {n} (inside {k = k} q o e f i) s at y g x h = there n (operator, k) y _
 close_at (first q o e f i) s at y g x h = cc
 close_at (last q o e f i) s at y g x h = close_at o (q ++ s) at y (rw (g, f) (simp append_assoc)) (i s x) h
 
+-- no assignment is open that a semicolon could end
+no_semicolon : {n d : ℕ} {k : List Open} {base : Toks} → Opened n k d base → (y : Spot) → semicolon k ≡ Some y → ⊥
+no_semicolon (front.nothing e f) y h = cc
+no_semicolon (inside q o e f i) y h = cc
+no_semicolon (first q o e f i) y h = cc
+no_semicolon (last q o e f i) y h = no_semicolon o y h
+
 goes_on_at : {n c : ℕ} {k : List Open} {base front : Toks} (s : Toks) (at : ℕ) (t : Token) (y : Spot) → Opened n k c base → front ≡ base ++ s → Operands c s → step n operator k t ≡ Some y → AtSpot n y (front ++ (at, t) ∷ [])
 goes_on_at {n} {c} {k} s at (token.Operator p) y o f h g = there n (operand 0, k) y _ g (at_operand (s ++ (at, token.Operator p) ∷ []) o (omega arith) (longer _ _ s (at, token.Operator p) f) (operator_before c at p s h))
 goes_on_at {n} {c} s at (token.Mark mark.Close) y o f h g = close_at o s at y f (condition_of c s h) g
@@ -129,6 +136,7 @@ goes_on_at {n} {c} {k} s at (token.Mark mark.Question) y o f h g =
     let d : Deeper (levels k) n (operand 0, first_branch ∷ k) y = deeper n (levels k) (operand 0) (first_branch ∷ k) y g in
     there n (operand 0, first_branch ∷ k) y _ d.same (question c at s d.below o f h)
 goes_on_at {n} {c} s at (token.Mark mark.Colon) y o f h g = colon_at o s at y f (condition_of c s h) g
+goes_on_at s at (token.Mark mark.Semicolon) y o f h g = absurd (no_semicolon o y g)
 goes_on_at s at _ y o f h g = cc
 
 -- ---- in this.id and this.properties["name"]

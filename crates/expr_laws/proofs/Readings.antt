@@ -8,7 +8,7 @@ use Rattle.expr_lang.specs.Machine.{Place, Open, Moves, Outcome, accepted, stopp
 use Rattle.expr_lang.specs.Stuck.{GoesOn, Stuck}
 use Rattle.expr_lang.proofs.Parts.{append_nil}
 use Rattle.expr_lang.proofs.Runs.{moves, stops}
-use Rattle.expr_lang.proofs.Stops.{stuck}
+use Rattle.expr_lang.proofs.Stops.{expressions_follow, stuck}
 use Rattle.expr_laws.proofs.Trees.{Condition, condition_of, operands_of}
 use Rattle.expr_laws.proofs.Fronts.{Opened, nothing, inside, first, last, a_this, a_dot, a_properties, a_bracket, a_name, At, at_operand, at_operator, at_member, goes_on_there}
 use Rattle.expr_laws.proofs.Moves.{moves_to, moves_up, moves_deeper}
@@ -72,4 +72,4 @@ accepted_tree n tokens e = tells n tokens accepted e
 pub stopped_stuck : (n : ℕ) (tokens : Toks) (m : Misfit) (left : Toks) → run n (operand 0) [] tokens ≡ stopped m left → (front : Toks) × (tokens ≡ front ++ left) × Stuck n m front left
 stopped_stuck n tokens m left e =
     let h : Halted n m tokens left = tells n tokens (stopped m left) e in
-    (h.front, h.cut, stuck n m h.front left h.goes_on.0 h.goes_on.1 h.goes_on.2 (ap (run n (operand 0) []) (sym h.cut) ∙ e) h.deeper)
+    (h.front, h.cut, stuck Cond (operand 0) expressions_follow n m h.front left h.goes_on (ap (run n (operand 0) []) (sym h.cut) ∙ e) h.deeper)
