@@ -7,3 +7,6 @@ pub mod SidedRows
 pub mod ArcsBetween
 pub mod Sources
 pub mod SourcePoints
+pub mod PointRuns
+pub mod LinkedArcs
+pub mod ByRegions
