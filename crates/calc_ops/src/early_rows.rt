@@ -14,7 +14,7 @@ use grid_base::IdList;
 use indexmap::IndexMap;
 use json_read::{Table, Value};
 use std::alloc::{AllocError, Global};
-use table_ops::TableFault;
+use table_ops::{TableFault, numbers_of};
 
 /// The numbers of the rows for which fewer than `most` rows before them have the same key, or with `invert` those of
 /// the other rows, ascending. The key of a row is the value of the expression for it, which is evaluated once.
@@ -75,29 +75,4 @@ fn count_in(counts: &IndexMap<RowKey, u32>, key: &RowKey) -> u32
         Some(count) => *count,
         None => 0,
     }
-}
-
-/// The places of the tests with this answer.
-#[tactic(auto, using(table_ops::proofs::Numbers::numbers_where_more))]
-fn numbers_of(alloc: Global, tests: &[bool], wanted: bool) -> Result<IdList, AllocError>
-    ensures exact { IfOk result (λ numbers. numbers ≡ numbers_where (beq wanted) tests.now) }
-    ensures within { IfOk result (λ numbers. All (λ n. n < length tests.now) numbers) }
-{
-    let mut numbers = IdList::new(alloc);
-    for i in 0..tests.len() {
-        note_number(&mut numbers, i, wanted == tests[i])?;
-    }
-    Ok(numbers)
-}
-
-fn note_number(numbers: &mut IdList, i: usize, noted: bool) -> Result<(), AllocError>
-    ensures noted { OnOk result (numbers.new ≡ numbers.old ++ (if noted then i ∷ [] else [])) }
-{
-    if !noted {
-        return Ok(());
-    }
-    let Ok(number) = u32::try_from(i) else {
-        return Err(AllocError);
-    };
-    numbers.push(number)
 }

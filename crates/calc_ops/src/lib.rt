@@ -1,5 +1,6 @@
 //! Commands by calculated values and sizes.
 //!
+//! - `each_rows` sets fields to the values of expressions, row by row.
 //! - `sort_rows` and `uniq_rows` evaluate a key for each row, once: they put the rows in the order of their keys, or
 //!   tell the rows whose key few rows before them have.
 //! - `drop_islands` takes from each set of faces its detached parts that are small in area or in links.
@@ -8,6 +9,7 @@
 //! beside a face of a set.
 #![tactic(auto)]
 
+mod each_row;
 mod early_rows;
 mod islands;
 mod key_order;
@@ -15,6 +17,7 @@ mod keys;
 mod row_key;
 mod sorted_rows;
 
+pub use each_row::each_rows;
 pub use early_rows::uniq_rows;
 pub use islands::drop_islands;
 pub use sorted_rows::sort_rows;

@@ -26,10 +26,24 @@ pub fn eval(
     ensures ok { IfOk result (λ v. evaluated names.now row.now id (tree_of e.now) ≡ Ok v) }
     ensures fault { IfErr result (FaultIs (evaluated names.now row.now id (tree_of e.now))) }
 {
+    eval_values(alloc, e, names.as_slice(), row.as_slice(), id)
+}
+
+/// The same for the first columns of a row: a name past the values is unknown, as one that is not there.
+pub fn eval_values(
+    alloc: Global,
+    e: &Expr,
+    names: &[Text],
+    row: &[Value],
+    id: u32,
+) -> Result<Value, EvalFault>
+    ensures ok { IfOk result (λ v. evaluated names.now row.now id (tree_of e.now) ≡ Ok v) }
+    ensures fault { IfErr result (FaultIs (evaluated names.now row.now id (tree_of e.now))) }
+{
     let scope = Scope {
         alloc,
-        names: names.as_slice(),
-        row: row.as_slice(),
+        names,
+        row,
         id,
     };
     scope.value(&e.root)

@@ -82,9 +82,9 @@ fn refusal(fault: EvalFault, row: u32) -> TableFault
     }
 }
 
-/// The places of the tests with this answer.
+/// The places of the tests with this answer, counted from 0, ascending.
 #[tactic(auto, using(crate::proofs::Numbers::numbers_where_more))]
-pub(crate) fn numbers_of(alloc: Global, tests: &[bool], wanted: bool) -> Result<IdList, AllocError>
+pub fn numbers_of(alloc: Global, tests: &[bool], wanted: bool) -> Result<IdList, AllocError>
     ensures exact { IfOk result (λ numbers. numbers ≡ numbers_where (beq wanted) tests.now) }
     ensures within { IfOk result (λ numbers. All (λ n. n < length tests.now) numbers) }
 {

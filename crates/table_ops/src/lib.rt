@@ -19,10 +19,10 @@ mod split;
 
 pub use columns::keep_fields;
 pub use fault::{EvalWhy, TableFault, TableWhy};
-pub use filter::filter_rows;
+pub use filter::{filter_rows, numbers_of};
 pub use group::{Grouped, group_rows};
 pub use join::join_tables;
 pub use merge::{TableList, merge_tables};
 pub use rename::rename_fields;
-pub use rows::take_rows;
+pub use rows::{copy_names, take_rows};
 pub use split::{SplitItem, SplitList, split_rows};

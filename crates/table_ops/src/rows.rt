@@ -42,7 +42,8 @@ pub(crate) fn row_of(rows: &RowList, n: u32) -> &Row
     }
 }
 
-pub(crate) fn copy_names(alloc: Global, names: &NameList) -> Result<NameList, AllocError>
+/// The same names once more.
+pub fn copy_names(alloc: Global, names: &NameList) -> Result<NameList, AllocError>
     ensures copied { IfOk result (λ copy. copy ≡ names.now) }
 {
     let mut copy = NameList::new(alloc);
