@@ -10,3 +10,5 @@ pub mod SourcePoints
 pub mod PointRuns
 pub mod LinkedArcs
 pub mod ByRegions
+pub mod Borders
+pub mod Insides

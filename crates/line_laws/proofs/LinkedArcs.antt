@@ -1,6 +1,5 @@
 -- Paths of arcs that follow each other: lines of a drawing, their runs, and the arcs that they go along.
 use Rattle.std.proofs.Common.{◌≡◌, ◌⊎◌, inl, inr, refl, sym, ap, ◌∙◌, subst, arith, ℕ, zero, suc, ◌<◌, Bool, true, false, cond, ◌&&◌, ◌||◌, nat_lt, List, [], ◌∷◌, ◌++◌, map, length, get_or, All, Contains, append-nil}
-use Rattle.std.specs.Prelude.{◌≢◌}
 use Rattle.std.specs.List.{flat_map}
 use Rattle.std.proofs.lemmas.Bool.{cases_lt, false_from_ne_true, or_cases, or_left, or_right}
 use Rattle.std.proofs.lemmas.List.{length-append}
@@ -31,7 +30,7 @@ use Rattle.line_ops.specs.Runs.{runs_where}
 use Rattle.region_model.specs.Answers.{Plane}
 use Rattle.line_laws.specs.Linked.{AreLinked, AreThere, LinesAreDissolved, LinesAreLinked, RunsAreLinked, along_one, arcs_along, points_along}
 use Rattle.line_laws.proofs.PathRuns.{is_step, link_along, long_points}
-use Rattle.line_laws.proofs.RunSteps.{IsChain, chain_linked, joined_first, linked_steps, runs_linked, steps_along, steps_chain}
+use Rattle.line_laws.proofs.RunSteps.{IsChain, chain_linked, linked_steps, runs_linked, steps_along, steps_chain}
 
 -- ---- runs, and lines of a drawing
 
@@ -89,11 +88,10 @@ in_steps ss s e =
 
 module _ (S : List Segment) (arr : IsArrangement S) (arcs : List Path) (long : All (λ arc. 1 < length arc) arcs) (along : GoAlong S arcs) where
   -- s steps along a link of arc n
-  Steps : ℕ → Segment → Type 0
+  abbrev Steps : ℕ → Segment → Type 0
   Steps n s = (t : Segment) × (j : ℕ) × IsStep arcs n j t × (link_between t ≡ link_between s)
 
   steps_if : (n : ℕ) (s : Segment) → n < length arcs → goes_along s (get_or arcs n []) ≡ true → Steps n s
-  unfolding Steps
   steps_if n s below e = elim (or_cases (has same_segment (steps (get_or arcs n [])) s) (has same_segment (steps (get_or arcs n [])) (reversed s)) e) [
     | inl on ↦ (
         let (j, step) = is_step S arr arcs long along n s below (in_steps (steps (get_or arcs n [])) s on) in
@@ -104,19 +102,15 @@ module _ (S : List Segment) (arr : IsArrangement S) (arcs : List Path) (long : A
   ]
 
   if_steps : (n : ℕ) (s : Segment) → n < length arcs → Contains (links_of_arc arcs n) (link_between s) → (goes_along s (get_or arcs n []) ≡ true) × Steps n s
-  unfolding Steps
   if_steps n s below c =
       let (t, in_arc, same) = map-Contains link_between (steps (get_or arcs n [])) (link_between s) c in
       let (j, step) = is_step S arr arcs long along n t below in_arc in
-      let here : Bool = has same_segment (steps (get_or arcs n [])) s in
-      let back : Bool = has same_segment (steps (get_or arcs n [])) (reversed s) in
       (elim (one_link s t (sym same)) [
         | inl is ↦ or_left (has same_segment (steps (get_or arcs n [])) s) (has same_segment (steps (get_or arcs n [])) (reversed s)) (has_itself (steps (get_or arcs n [])) s (subst (Contains (steps (get_or arcs n []))) (sym is) in_arc))
         | inr is ↦ or_right (has same_segment (steps (get_or arcs n [])) s) (has same_segment (steps (get_or arcs n [])) (reversed s)) (has_itself (steps (get_or arcs n [])) (reversed s) (subst (Contains (steps (get_or arcs n []))) (sym (ap reversed is)) in_arc))
       ], (t, j, step, same))
 
   pub arc_of_step : (a : SignedArc) (s : Segment) → a.arc < length arcs → Contains (steps (points_of arcs a)) s → arc_number arcs s ≡ a.arc
-  unfolding Steps
   arc_of_step a s below c =
       let (goes, on) = if_steps a.arc s below (link_along S arr arcs long along a s below c).0 in
       place_is (goes_along s) arcs a.arc [] below goes (λ m less. false_from_ne_true (goes_along s (get_or arcs m [])) (λ e.

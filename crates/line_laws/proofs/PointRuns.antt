@@ -83,7 +83,7 @@ module _ (test : Segment → Bool) where
         ∙ put_carried goes_on before q r runs
     grown before begun some is false = map-append path_along (ended begun) (runs_after test [] later) ∙ (λ i. one_run before q begun some is i ++ next.afresh i)
 
-    pub one_more : AreRuns q (r ∷ rest)
+    one_more : AreRuns q (r ∷ rest)
     one_more = record { afresh = fresh (test first); behind = λ before begun some is. grown before begun some is (test first) }
 
   are_runs : (q : GridPoint) (rest : Path) → AreRuns q rest

@@ -1,11 +1,11 @@
 -- Signed arcs that follow each other, and the paths that they are when they are joined.
-use Rattle.std.specs.Prelude.{◌≡◌, ℕ, ◌-◌, ◌<◌, Bool, nat_lt, List, [], ◌∷◌, All, length, map, slice_index_or}
+use Rattle.std.specs.Prelude.{◌≡◌, ℕ, ◌-◌, ◌<◌, Bool, nat_lt, List, [], ◌∷◌, All, length, map}
 use Rattle.std.specs.List.{flat_map}
 use Rattle.lists.specs.Lists.{ascending}
-use Rattle.plane_model.specs.Points.{Segment, Path}
+use Rattle.plane_model.specs.Points.{Path}
 use Rattle.plane_model.specs.Arcs.{SignedArc, forward, joined_points, points_of}
 use Rattle.plane_model.specs.Drawing.{Drawing}
-use Rattle.plane_model.specs.Snapped.{links_of, snapped}
+use Rattle.plane_model.specs.Snapped.{snapped}
 use Rattle.arc_table.specs.Direction.{point_at}
 use Rattle.arc_table.specs.Nodes.{IsLineOf}
 use Rattle.arc_table.specs.PathArcs.{AreArcsOf, ArePathArcs}

@@ -1,8 +1,10 @@
 -- What commands ask of regions, answered from the sets of faces that follow them.
-use Rattle.std.proofs.Common.{◌≡◌, refl, sym, ap, subst, ◌∙◌, arith, ℕ, ◌<◌, Bool, true, false, List, [], ◌∷◌, Contains, length, filter, get_or, nat_eq, nat_lt}
+use Rattle.std.proofs.Common.{◌≡◌, ◌⊎◌, inl, inr, refl, sym, ap, subst, ◌∙◌, arith, ℕ, zero, suc, ◌<◌, Bool, true, false, cond, List, [], ◌∷◌, Contains, length, filter, get_or, nat_eq, nat_lt}
 use Rattle.std.specs.Prelude.{◌↔◌, ℤ}
 use Rattle.std.specs.List.{range_with_len}
+use Rattle.std.proofs.lemmas.Bool.{cases_lt, false_from_ne_true}
 use Rattle.std.proofs.lemmas.List.{get_or_default}
+use Rattle.std.proofs.lemmas.List.FromFn.{get_or-map-range_with_len, length-map-range_with_len}
 use Rattle.lists.specs.Lists.{has, joined_up}
 use Rattle.lists.proofs.Ascending.{Contains-ascending, ascending-Contains}
 use Rattle.lists.proofs.Members.{Contains-joined_up, joined_up-Contains}
@@ -19,14 +21,14 @@ use Rattle.ring_trace.specs.Sets.{IsSetOf}
 use Rattle.ring_trace.proofs.BoundaryLemmas.{Contains_has, has_Contains}
 use Rattle.ring_trace.proofs.SetLemmas.{nat_order}
 use Rattle.region_ops.specs.Cleaned.{ranks_before}
-use Rattle.region_model.specs.Region.{Region, any_of, less, Has}
+use Rattle.region_model.specs.Region.{Region, any_of, less, part, Has}
 use Rattle.region_model.specs.Answers as answers
-use Rattle.region_model.specs.Answers.{boundary, is_nil}
+use Rattle.region_model.specs.Answers.{boundary, is_empty, is_nil}
 use Rattle.region_model.specs.PolygonCommands as model
-use Rattle.region_model.specs.PolygonCommands.{regions_at}
-use Rattle.region_laws.specs.Regions.{Follows, FollowEach}
+use Rattle.region_model.specs.PolygonCommands.{exploded, parts_of, regions_at}
+use Rattle.region_laws.specs.Regions.{Follows}
 use Rattle.region_laws.specs.Followed.{IsWalked}
-use Rattle.region_laws.specs.Answered.{AreasAreTold, CleanedAsTold, EmptinessIsTold, LayersAreFollowed, PartsAreTold, SidesAreTold, plane_with}
+use Rattle.region_laws.specs.Answered.{AreasAreTold, CleanedAsTold, EmptinessIsTold, ExplodedAsTold, FollowInOrder, LayersAreFollowed, PartsAreTold, SidesAreTold, plane_with}
 use Rattle.region_laws.proofs.Areas.{areas_are_those_of_regions}
 use Rattle.region_laws.proofs.PartLaws.{parts_are_followed}
 use Rattle.region_laws.proofs.Parts.{in_no_other}
@@ -44,7 +46,7 @@ found : {A : Type 0} (xs : List A) (x d : A) (c : Contains xs x) → x ≡ get_o
 found xs x d c = sym c.2 ∙ get_or_default xs c.0 x d c.1
 
 pub layers_are_followed : LayersAreFollowed
-layers_are_followed d arcs label sets regions many each z off a here = (
+layers_are_followed d arcs label sets regions (many, each) z off a here = (
   λ h.
       let (r, in_regions, held) = has_some d arcs z regions h in
       let n : ℕ = in_regions.0 in
@@ -108,15 +110,58 @@ cleaned_as_told d arcs faces label walked sets rising inner region each A sides 
 -- ---- parts
 
 pub parts_are_told : PartsAreTold
-parts_are_told d arcs faces label walked set inner r follows parts are j = (
-  λ l. followed.some j l,
-  λ h.
-      let (z, off, held) = h in
-      let (k, below, in_k) = followed.all z off held.0 in
-      let (a, here) = place_exists (links_of (snapped d)) (links_arranged d) z in
-      let same : j ≡ k = in_no_other (links_of (snapped d)) (links_arranged d) (links_distinct d) arcs walked.table.long walked.table.links (arcs_free d arcs faces label walked) faces walked.built
-          label walked.labelled (labels_faces d arcs faces label walked) set inner parts are (Has (snapped d) arcs r) follows z off a here k below ((followed.each k below z off a here).0 in_k) j held.1 in
-      omega arith,
-)
+parts_are_told d arcs faces label walked set inner r follows parts are j =
+    let followed = parts_are_followed d arcs faces label walked set inner r follows parts are in (
+      λ l. followed.some j l,
+      λ h.
+          let (z, off, held) = h in
+          let (k, below, in_k) = followed.all z off held.0 in
+          let (a, here) = place_exists (links_of (snapped d)) (links_arranged d) z in
+          let same : j ≡ k = in_no_other (links_of (snapped d)) (links_arranged d) (links_distinct d) arcs walked.table.long walked.table.links (arcs_free d arcs faces label walked) faces walked.built
+              label walked.labelled (labels_faces d arcs faces label walked) set inner parts are (Has (snapped d) arcs r) follows z off a here k below ((followed.each k below z off a here).0 in_k) j held.1 in
+          omega arith,
+    )
+
+-- ---- explode
+
+nil_or_not : (xs : List ℕ) → (xs ≡ []) ⊎ (xs ≡ [] → ⊥)
+nil_or_not [] = inl refl
+nil_or_not (x ∷ xs) = inr (λ e. absurd (cc))
+
+-- one bound
+one_bound : (a b : ℕ) → ((j : ℕ) → j < a → j < b) → ((j : ℕ) → j < b → j < a) → a ≡ b
+one_bound a b to from = elim (cases_lt a b) [
+  | inl l ↦ absurd (let m = from a l in omega arith)
+  | inr l ↦ elim (cases_lt b a) [ inl k ↦ absurd (let m = to b k in omega arith) | inr k ↦ omega arith ]
+]
+
+follow_one : (d : Drawing) (arcs : List Path) (label : Place → ℕ) (set : List ℕ) (r : Region) → Follows d arcs label set r → (n : ℕ) → n < length (set ∷ []) → Follows d arcs label (get_or (set ∷ []) n []) (get_or (r ∷ []) n (any_of []))
+follow_one d arcs label set r follows zero l = follows
+follow_one d arcs label set r follows (suc n) l = absurd (omega arith)
+
+pub exploded_as_told : ExplodedAsTold
+exploded_as_told d arcs faces label walked set inner r follows A sides counted pieces are = elim (nil_or_not set) [ inl none ↦ alone none | inr some ↦ apart some ]
   where
-    followed = parts_are_followed d arcs faces label walked set inner r follows parts are
+    told : (set ≡ []) ↔ (is_empty (plane_with d arcs) A r ≡ true)
+    told = emptiness_is_told d arcs faces label walked set inner r follows A sides
+
+    alone : set ≡ [] → FollowInOrder (snapped d) arcs label pieces (exploded (plane_with d arcs) A r)
+    alone none =
+        let one : pieces ≡ set ∷ [] = are.empty none ∙ ap (λ (xs : List ℕ). xs ∷ []) (sym none) in
+        let is : is_empty (plane_with d arcs) A r ≡ true = told.0 none in
+        let itself : exploded (plane_with d arcs) A r ≡ r ∷ [] = (λ i. cond (is i) (r ∷ []) (parts_of A r)) in
+        subst (λ (sets : List (List ℕ)). FollowInOrder (snapped d) arcs label sets (exploded (plane_with d arcs) A r)) (sym one)
+        (subst (λ (regions : List Region). FollowInOrder (snapped d) arcs label (set ∷ []) regions) (sym itself) (refl, follow_one (snapped d) arcs label set r follows))
+
+    apart : (set ≡ [] → ⊥) → FollowInOrder (snapped d) arcs label pieces (exploded (plane_with d arcs) A r)
+    apart some =
+        let parts : AreParts faces set pieces = are.parts some in
+        let is : is_empty (plane_with d arcs) A r ≡ false = false_from_ne_true (is_empty (plane_with d arcs) A r) (λ e. some (told.1 e)) in
+        let each_part : exploded (plane_with d arcs) A r ≡ parts_of A r = (λ i. cond (is i) (r ∷ []) (parts_of A r)) in
+        let by_set = parts_are_told d arcs faces label walked set inner r follows pieces parts in
+        let many : A.parts r ≡ length pieces = one_bound (A.parts r) (length pieces) (λ j l. (by_set j).1 ((counted j).0 l)) (λ j l. (counted j).1 ((by_set j).0 l)) in
+        let followed = parts_are_followed d arcs faces label walked set inner r follows pieces parts in
+        subst (λ (regions : List Region). FollowInOrder (snapped d) arcs label pieces regions) (sym each_part) (
+          length-map-range_with_len (part r) 0 (A.parts r) ∙ many,
+          λ n l. subst (λ (t : Region). Follows (snapped d) arcs label (get_or pieces n []) t) (sym (get_or-map-range_with_len (part r) 0 (A.parts r) n n (any_of []) (omega arith) (omega arith))) (followed.each n l),
+        )

@@ -11,10 +11,11 @@ use Rattle.face_walk.specs.Places.{FaceTable}
 use Rattle.ring_trace.specs.Joined.{AreParts}
 use Rattle.ring_trace.specs.Sets.{IsSetOf}
 use Rattle.region_ops.specs.Cleaned.{IsCleaned, area_of}
+use Rattle.region_ops.specs.Exploded.{ArePieces}
 use Rattle.region_model.specs.Region.{Region, any_of, part, Has}
 use Rattle.region_model.specs.Answers as answers
 use Rattle.region_model.specs.Answers.{Plane, Answers, AreSides, HasSome, PointsOf, is_empty}
-use Rattle.region_model.specs.PolygonCommands.{cleaned}
+use Rattle.region_model.specs.PolygonCommands.{cleaned, exploded}
 use Rattle.region_laws.specs.Regions.{Follows, FollowEach}
 use Rattle.region_laws.specs.Followed.{IsWalked}
 
@@ -26,12 +27,15 @@ plane_with d arcs = record { drawing = snapped d; links = links_of (snapped d); 
 abbrev pub TellSides : Plane → Answers → Region → Type 0
 TellSides P A r = AreSides P.links (PointsOf P r) (A.left r) (A.right r)
 
+-- the sets of a list follow the regions of another, one by one
+abbrev pub FollowInOrder : Drawing → List Path → (Place → ℕ) → List (List ℕ) → List Region → Type 0
+FollowInOrder d arcs label sets regions = (length regions ≡ length sets) × FollowEach d arcs label sets (λ n. slice_index_or regions n (any_of []))
+
 -- ---- laws
 
 -- the faces of any set of a list follow any of the regions of these sets: so it is with a layer by which others are clipped or erased
 abbrev pub LayersAreFollowed : Type 0
-LayersAreFollowed = (d : Drawing) (arcs : List Path) (label : Place → ℕ) (sets : List (List ℕ)) (regions : List Region) → length regions ≡ length sets →
-    FollowEach d arcs label sets (λ n. slice_index_or regions n (any_of [])) → Follows d arcs label (ascending nat_lt (joined_up sets)) (any_of regions)
+LayersAreFollowed = (d : Drawing) (arcs : List Path) (label : Place → ℕ) (sets : List (List ℕ)) (regions : List Region) → FollowInOrder d arcs label sets regions → Follows d arcs label (ascending nat_lt (joined_up sets)) (any_of regions)
 
 -- which sides of links belong to the region of a set can be told
 abbrev pub SidesAreTold : Type 0
@@ -58,3 +62,9 @@ CleanedAsTold = (d : Drawing) (arcs : List Path) (faces : FaceTable) (label : Pl
 abbrev pub PartsAreTold : Type 0
 PartsAreTold = (d : Drawing) (arcs : List Path) (faces : FaceTable) (label : Place → ℕ) → IsWalked d arcs faces label → (set : List ℕ) → IsSetOf faces set → (r : Region) → Follows (snapped d) arcs label set r →
     (parts : List (List ℕ)) → AreParts faces set parts → (j : ℕ) → (j < length parts) ↔ HasSome (plane_with d arcs) (part r j)
+
+-- where this is told of a region, the pieces of its set are in order those of the region: its parts, or itself where it is empty
+abbrev pub ExplodedAsTold : Type 0
+ExplodedAsTold = (d : Drawing) (arcs : List Path) (faces : FaceTable) (label : Place → ℕ) → IsWalked d arcs faces label → (set : List ℕ) → IsSetOf faces set → (r : Region) → Follows (snapped d) arcs label set r →
+    (A : Answers) → TellSides (plane_with d arcs) A r → ((j : ℕ) → (j < A.parts r) ↔ HasSome (plane_with d arcs) (part r j)) → (pieces : List (List ℕ)) → ArePieces faces set pieces →
+    FollowInOrder (snapped d) arcs label pieces (exploded (plane_with d arcs) A r)

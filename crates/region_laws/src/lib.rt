@@ -16,7 +16,7 @@
 //! in `specs/Followed.antt`, `specs/Printed.antt`, `specs/Ties.antt` and `specs/Answered.antt`.
 #![tactic(auto)]
 
-ghost use Rattle.region_laws.specs.Answered.{AreasAreTold, CleanedAsTold, EmptinessIsTold, LayersAreFollowed, PartsAreTold, SidesAreTold};
+ghost use Rattle.region_laws.specs.Answered.{AreasAreTold, CleanedAsTold, EmptinessIsTold, ExplodedAsTold, LayersAreFollowed, PartsAreTold, SidesAreTold};
 ghost use Rattle.region_laws.specs.Followed.{
   AreasAreThoseOfRegions,
   BoxesAreFollowed,
@@ -182,4 +182,9 @@ pub fn cleaned_as_told()
 /// A number is below the count of the parts of a set exactly if the part of the region with this number has a point.
 pub fn parts_are_told()
     ensures { PartsAreTold }
+{}
+
+/// The pieces of a set, its parts or itself where it has no faces, are in order those that explode makes of its region.
+pub fn exploded_as_told()
+    ensures { ExplodedAsTold }
 {}
