@@ -9,8 +9,10 @@ use Rattle.cmd_words.specs.Steps.{on_ok}
 use Rattle.cmd_words.specs.Expressions.{Refusals}
 use Rattle.cmd_words.specs.Groups.{Group, empty_group, argument_in}
 use Rattle.cmd_words.specs.Chains.{SoFar}
-use Rattle.cmd_words.specs.Words.{Reading, CommandGroup, take_words, finished, take_command, take_commands, places_in, imported, after_import, synth, number_in, read_size, read_seed, read_chain_words, read_job}
-use Rattle.cmd_words.specs.Tells.{Turns, Tells, FitsChain, FitEach}
+use Rattle.cmd_words.specs.Quantities.{number_in}
+use Rattle.cmd_words.specs.Words.{Reading, CommandGroup, take_words, finished, take_command, take_commands, places_in, imported, after_import, synth, read_size, read_seed, read_chain_words, read_job}
+use Rattle.cmd_words.specs.ActionWords.{FitEach}
+use Rattle.cmd_words.specs.Tells.{Turns, Tells, FitsChain}
 use Rattle.cmd_words.proofs.Readings.{goes_on}
 
 -- ## One command
@@ -19,11 +21,11 @@ module _ (refuses : Refusals) (places : ℕ) (s : SoFar) (n : ℕ) (w : Text) (r
   abbrev this_command : Reading SoFar
   this_command = take_command refuses places s (record { word = record { number = n; text = w }; rest = rest })
 
-  command_is_known : (row : Row) → bytes_eq w (codes "-i") ≡ false → Some row ≡ row_of w → this_command ≡ on_ok (take_words refuses places row.form (empty_group s.reads_standard) rest) (finished s row.keyword n)
+  command_is_known : (row : Row) → bytes_eq w (codes "-i") ≡ false → Some row ≡ row_of w → this_command ≡ on_ok (take_words refuses places row.form (empty_group s.reads_standard) rest) (finished places s row.keyword n)
   command_is_known row e known = rw (e, ← known) refl
 
-  pub command_taken : (row : Row) (g : Group) (y : SoFar) (r : Result (Unit {0}) WordFault) → bytes_eq w (codes "-i") ≡ false → Some row ≡ row_of w → take_words refuses places row.form (empty_group s.reads_standard) rest ≡ Ok g → Turns (finished s row.keyword n g) y r → Turns this_command y r
-  command_taken row g y r e known read t = subst (λ (a : Reading SoFar). Turns a y r) (sym (command_is_known row e known ∙ goes_on (take_words refuses places row.form (empty_group s.reads_standard) rest) (finished s row.keyword n) g read)) t
+  pub command_taken : (row : Row) (g : Group) (y : SoFar) (r : Result (Unit {0}) WordFault) → bytes_eq w (codes "-i") ≡ false → Some row ≡ row_of w → take_words refuses places row.form (empty_group s.reads_standard) rest ≡ Ok g → Turns (finished places s row.keyword n g) y r → Turns this_command y r
+  command_taken row g y r e known read t = subst (λ (a : Reading SoFar). Turns a y r) (sym (command_is_known row e known ∙ goes_on (take_words refuses places row.form (empty_group s.reads_standard) rest) (finished places s row.keyword n) g read)) t
 
 -- ## The chain
 

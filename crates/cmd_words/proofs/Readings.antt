@@ -12,9 +12,10 @@ use Rattle.cmd_words.specs.declared.job.Job.TheVariants as job
 use Rattle.cmd_words.specs.Steps.{on_ok, Makes}
 use Rattle.cmd_words.specs.Options.{Step}
 use Rattle.cmd_words.specs.Groups.{Group}
-use Rattle.cmd_words.specs.Chains.{CommandWords}
+use Rattle.cmd_words.specs.declared.action_words.CommandWords.{CommandWords}
+use Rattle.cmd_words.specs.ActionWords.{FitsCommand, FitEach}
 use Rattle.cmd_words.specs.Words.{Reading, ChainWords, chain, at_word}
-use Rattle.cmd_words.specs.Tells.{Turns, Answers, Tells, fault_at_word, FitsCommand, FitEach, FitsChain, FitsJob}
+use Rattle.cmd_words.specs.Tells.{Turns, Answers, Tells, fault_at_word, FitsChain, FitsJob}
 
 -- a word taken, and its number
 pub turns_at_ok : (n : ℕ) (answer : Step) (new : Group) → Makes answer new (Ok tt) → Turns (at_word n answer) new (Ok tt)

@@ -10,6 +10,8 @@ use Rattle.cmd_words.specs.declared.commands.Keyword.{Keyword}
 use Rattle.cmd_words.specs.declared.commands.Keyword.TheVariants as k
 use Rattle.cmd_words.specs.declared.commands.LayerKeyword.{LayerKeyword}
 use Rattle.cmd_words.specs.declared.commands.LayerKeyword.TheVariants as l
+use Rattle.cmd_words.specs.declared.commands.ExpressionKeyword.{ExpressionKeyword}
+use Rattle.cmd_words.specs.declared.commands.ExpressionKeyword.TheVariants as by
 use Rattle.cmd_words.specs.declared.commands.JointKeyword.{JointKeyword}
 use Rattle.cmd_words.specs.declared.commands.JointKeyword.TheVariants as j
 use Rattle.cmd_words.specs.declared.job.Target.{Target}
@@ -26,10 +28,13 @@ use Rattle.cmd_words.specs.declared.job.LayerAction.{LayerAction}
 use Rattle.cmd_words.specs.declared.job.LayerAction.TheVariants as layer
 use Rattle.cmd_words.specs.declared.job.JointAction.{JointAction}
 use Rattle.cmd_words.specs.declared.job.JointAction.TheVariants as joint
-use Rattle.cmd_words.specs.declared.job.Command.{Command}
+use Rattle.cmd_words.specs.declared.action_words.ActionWords.{ActionWords}
+use Rattle.cmd_words.specs.declared.action_words.ActionWords.TheVariants as words
+use Rattle.cmd_words.specs.declared.action_words.CommandWords.{CommandWords}
 use Rattle.cmd_words.specs.Rows.{Text}
 use Rattle.cmd_words.specs.Texts.{pieces, is_standard, names_file, form_by_ending}
 use Rattle.cmd_words.specs.Values.{rule_of, form_named}
+use Rattle.cmd_words.specs.Quantities.{count_from, gap_from, least_area_from}
 use Rattle.cmd_words.specs.Groups.{Group, value_in, has_bare, argument_in}
 
 -- ## Parts of a command
@@ -76,11 +81,6 @@ rule_from (Some s) = unwrap_or (rule_of s) rule.MaxArea
 
 -- ## Commands
 
--- a command whose expression stands beside it, by its text
-pub record CommandWords : Type 0 where
-  pub command : Command
-  pub test : Option Text
-
 -- the sources, boxes and commands of a chain so far, and whether one reads standard input
 pub record SoFar : Type 0 where
   pub sources : List SourceWord
@@ -98,33 +98,52 @@ origin_of sources boxes g =
 abbrev pub write_of : Group → Action
 write_of g = action.Write (argument_text g) (is_standard (argument_text g)) (unwrap_or (out_form g) form.Geo)
 
-abbrev pub layer_action_of : ℕ → ℕ → LayerKeyword → Group → LayerAction
-layer_action_of sources boxes l.Clip g = layer.Clip (origin_of sources boxes g)
-layer_action_of sources boxes l.Erase g = layer.Erase (origin_of sources boxes g)
-layer_action_of sources boxes l.Dissolve g = layer.Dissolve (group_spec g) (has_bare g (codes "group-points"))
-layer_action_of sources boxes l.Clean g = layer.Clean (rule_from (value_in g (codes "overlap-rule"))) (has_bare g (codes "allow-empty"))
-layer_action_of sources boxes l.Mosaic g = layer.Mosaic
-layer_action_of sources boxes l.InnerLines g = layer.InnerLines
-layer_action_of sources boxes l.Explode g = layer.Explode
-layer_action_of sources boxes l.Lines g = layer.Lines (list_or_empty (argument_in g))
-layer_action_of sources boxes l.Join g = layer.Join (origin_of sources boxes g) (join_spec g)
-layer_action_of sources boxes l.Filter g = layer.Filter None (has_bare g (codes "invert")) (has_bare g (codes "remove-empty"))
-layer_action_of sources boxes l.FilterFields g = layer.FilterFields (list_or_empty (argument_in g))
-layer_action_of sources boxes l.RenameFields g = layer.RenameFields g.renames
-layer_action_of sources boxes l.Split g = layer.Split (argument_in g)
+abbrev pub dissolve_of : Group → LayerAction
+dissolve_of g = layer.Dissolve (group_spec g) (has_bare g (codes "group-points"))
+
+abbrev pub clean_of : ℕ → Group → LayerAction
+clean_of places g = layer.Clean (rule_from (value_in g (codes "overlap-rule"))) (has_bare g (codes "allow-empty")) (gap_from places (value_in g (codes "gap-fill-area")))
+
+abbrev pub filter_islands_of : ℕ → Group → LayerAction
+filter_islands_of places g = layer.FilterIslands (least_area_from places (value_in g (codes "min-area"))) (count_from 0 (value_in g (codes "min-vertices"))) (has_bare g (codes "remove-empty"))
+
+abbrev pub layer_action_of : ℕ → ℕ → ℕ → LayerKeyword → Group → LayerAction
+layer_action_of places sources boxes l.Clip g = layer.Clip (origin_of sources boxes g)
+layer_action_of places sources boxes l.Erase g = layer.Erase (origin_of sources boxes g)
+layer_action_of places sources boxes l.Dissolve g = dissolve_of g
+layer_action_of places sources boxes l.Clean g = clean_of places g
+layer_action_of places sources boxes l.Mosaic g = layer.Mosaic
+layer_action_of places sources boxes l.InnerLines g = layer.InnerLines
+layer_action_of places sources boxes l.Explode g = layer.Explode
+layer_action_of places sources boxes l.Lines g = layer.Lines (list_or_empty (argument_in g))
+layer_action_of places sources boxes l.FilterFields g = layer.FilterFields (list_or_empty (argument_in g))
+layer_action_of places sources boxes l.RenameFields g = layer.RenameFields g.renames
+layer_action_of places sources boxes l.Split g = layer.Split (argument_in g)
+layer_action_of places sources boxes l.FilterIslands g = filter_islands_of places g
+
+-- by an expression or by assignments, each as its text
+abbrev pub calculated_action_of : ℕ → ℕ → ExpressionKeyword → Group → ActionWords
+calculated_action_of sources boxes by.Join g = words.Join (origin_of sources boxes g) (join_spec g) g.test
+calculated_action_of sources boxes by.Filter g = words.Filter g.test (has_bare g (codes "invert")) (has_bare g (codes "remove-empty"))
+calculated_action_of sources boxes by.Each g = words.Each (unwrap_or g.assigns [])
+calculated_action_of sources boxes by.Sort g = words.Sort (unwrap_or g.test []) (has_bare g (codes "descending"))
+calculated_action_of sources boxes by.Uniq g = words.Uniq (unwrap_or g.test []) (count_from 1 (value_in g (codes "max-count"))) (has_bare g (codes "invert"))
 
 abbrev pub joint_action_of : JointKeyword → Group → JointAction
 joint_action_of j.MergeLayers g = joint.MergeLayers (has_bare g (codes "force"))
 
-abbrev pub action_of : ℕ → ℕ → Keyword → Group → Action
-action_of sources boxes k.Write g = write_of g
-action_of sources boxes (k.Each keyword) g = action.Each (layer_action_of sources boxes keyword g)
-action_of sources boxes (k.Together keyword) g = action.Together (joint_action_of keyword g)
+abbrev pub action_of : ℕ → ℕ → ℕ → Keyword → Group → ActionWords
+action_of places sources boxes k.Write g = words.Whole (write_of g)
+action_of places sources boxes (k.Each keyword) g = words.Whole (action.Each (layer_action_of places sources boxes keyword g))
+action_of places sources boxes (k.Calculated keyword) g = calculated_action_of sources boxes keyword g
+action_of places sources boxes (k.Together keyword) g = words.Whole (action.Together (joint_action_of keyword g))
 
-abbrev pub command_words : ℕ → ℕ → Keyword → Group → CommandWords
-command_words sources boxes keyword g = record {
-  command = record { target = target_of (value_in g (codes "target")); name = value_in g (codes "name"); keep = has_bare g (codes "+"); action = action_of sources boxes keyword g };
-  test = g.test;
+abbrev pub command_words : ℕ → ℕ → ℕ → Keyword → Group → CommandWords
+command_words places sources boxes keyword g = record {
+  target = target_of (value_in g (codes "target"));
+  name = value_in g (codes "name");
+  keep = has_bare g (codes "+");
+  action = action_of places sources boxes keyword g;
 }
 
 -- ## What a command lacks, and what it adds
@@ -132,25 +151,33 @@ command_words sources boxes keyword g = record {
 abbrev pub layer_lacks_argument : LayerKeyword → Group → Bool
 layer_lacks_argument l.Clip g = not (is_some (argument_in g) || is_some g.area)
 layer_lacks_argument l.Erase g = not (is_some (argument_in g) || is_some g.area)
-layer_lacks_argument l.Join g = not (is_some (argument_in g) && is_some (value_in g (codes "keys")))
-layer_lacks_argument l.Filter g = not (is_some (argument_in g) || has_bare g (codes "remove-empty"))
 layer_lacks_argument l.RenameFields g = not (is_some (argument_in g))
+layer_lacks_argument l.FilterIslands g = not (is_some (value_in g (codes "min-area")) || is_some (value_in g (codes "min-vertices")))
 layer_lacks_argument _ g = false
+
+abbrev pub calculated_lacks_argument : ExpressionKeyword → Group → Bool
+calculated_lacks_argument by.Join g = not (is_some (argument_in g) && is_some (value_in g (codes "keys")))
+calculated_lacks_argument by.Filter g = not (is_some (argument_in g) || has_bare g (codes "remove-empty"))
+calculated_lacks_argument by.Each g = not (is_some g.assigns)
+calculated_lacks_argument by.Sort g = not (is_some g.test)
+calculated_lacks_argument by.Uniq g = not (is_some g.test)
 
 abbrev pub lacks_argument : Keyword → Group → Bool
 lacks_argument k.Write g = not (is_some (argument_in g))
 lacks_argument (k.Each keyword) g = layer_lacks_argument keyword g
+lacks_argument (k.Calculated keyword) g = calculated_lacks_argument keyword g
 lacks_argument (k.Together j.MergeLayers) g = false
 
 abbrev pub lacks_form : Keyword → Group → Bool
 lacks_form k.Write g = not (is_some (out_form g))
 lacks_form (k.Each keyword) g = false
+lacks_form (k.Calculated keyword) g = false
 lacks_form (k.Together keyword) g = false
 
 abbrev pub takes_source : Keyword → Bool
 takes_source (k.Each l.Clip) = true
 takes_source (k.Each l.Erase) = true
-takes_source (k.Each l.Join) = true
+takes_source (k.Calculated by.Join) = true
 takes_source _ = false
 
 -- the file that the command of this number reads
@@ -163,10 +190,10 @@ source_from number takes name fields =
 abbrev pub source_of : ℕ → Keyword → Group → Option SourceWord
 source_of number keyword g = source_from number (takes_source keyword) (argument_text g) (value_in g (codes "string-fields"))
 
-abbrev pub with_command : SoFar → Keyword → Group → SoFar
-with_command s keyword g = record {
+abbrev pub with_command : ℕ → SoFar → Keyword → Group → SoFar
+with_command places s keyword g = record {
   sources = s.sources ++ option_to_list (source_of (length s.commands + 1) keyword g);
   boxes = s.boxes ++ option_to_list g.area;
-  commands = s.commands ++ command_words (length s.sources) (length s.boxes) keyword g ∷ [];
+  commands = s.commands ++ command_words places (length s.sources) (length s.boxes) keyword g ∷ [];
   reads_standard = g.reads_standard;
 }

@@ -13,13 +13,14 @@ pub record Group : Type 0 where
   pub bare : List Text
   -- some word of the chain so far reads standard input
   pub reads_standard : Bool
-  -- the box, the renames and the text of the expression that a word gave
+  -- the box, the renames and the texts of the expression and of the assignments that a word gave
   pub area : Option Corners
   pub renames : List Rename
   pub test : Option Text
+  pub assigns : Option Text
 
 abbrev pub empty_group : Bool → Group
-empty_group reads_standard = record { arguments = []; options = []; bare = []; reads_standard = reads_standard; area = None; renames = []; test = None }
+empty_group reads_standard = record { arguments = []; options = []; bare = []; reads_standard = reads_standard; area = None; renames = []; test = None; assigns = None }
 
 abbrev pub value_in : Group → Text → Option Text
 value_in g name = value_named g.options name

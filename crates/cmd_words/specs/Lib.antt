@@ -7,9 +7,11 @@ pub mod Groups
 pub mod Steps
 pub mod Values
 pub mod Areas
+pub mod Quantities
 pub mod Options
 pub mod ReadsAs
 pub mod Chains
+pub mod ActionWords
 pub mod Words
 pub mod Cuts
 pub mod Tells

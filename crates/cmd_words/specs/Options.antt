@@ -1,5 +1,6 @@
 -- One word of a group: an option, a bare word or an argument; and why it is refused.
-use Rattle.std.specs.Prelude.{ℕ, Bool, true, false, not, ◌&&◌, ◌||◌, [], ◌∷◌, ◌++◌, Option, Some, None, is_some, Result, Ok, Err, if◌then◌else◌}
+use Rattle.std.specs.Prelude.{ℕ, Bool, true, false, not, ◌&&◌, ◌||◌, [], ◌∷◌, ◌++◌, codes, Option, Some, None, is_some, Result, Ok, Err, if◌then◌else◌}
+use Rattle.std.specs.Str.{bytes_eq}
 use Rattle.cmd_words.specs.declared.fault.ExprWhy.{ExprWhy}
 use Rattle.cmd_words.specs.declared.fault.WordWhy.{WordWhy}
 use Rattle.cmd_words.specs.declared.fault.WordWhy.TheVariants as why
@@ -10,10 +11,12 @@ use Rattle.cmd_words.specs.declared.commands.ArgumentForm.TheVariants as argumen
 use Rattle.cmd_words.specs.declared.word_groups.Word.{Word}
 use Rattle.cmd_words.specs.Rows.{Text, Form, form_of, has_name}
 use Rattle.cmd_words.specs.Steps.{on_ok}
+use Rattle.cmd_words.specs.Expressions as kind
 use Rattle.cmd_words.specs.Expressions.{Refusals}
 use Rattle.cmd_words.specs.Texts.{is_empty, has_empty_piece, option_in, is_standard, names_file}
 use Rattle.cmd_words.specs.Values.{rule_of, form_named, is_pair, renames_of}
 use Rattle.cmd_words.specs.Areas.{places_of, area_of}
+use Rattle.cmd_words.specs.Quantities.{area_units, count_of}
 use Rattle.cmd_words.specs.Groups.{Group, value_in, has_bare, argument_in}
 
 -- a group with the next word, or why that is refused
@@ -35,6 +38,10 @@ abbrev pub with_test : Option (ℕ × ExprWhy) → Text → Group → Step
 with_test None s g = Ok (record g { test = Some s })
 with_test (Some f) s g = Err (why.BadExpression f.0 f.1)
 
+abbrev pub with_assigns : Option (ℕ × ExprWhy) → Text → Group → Step
+with_assigns None s g = Ok (record g { assigns = Some s })
+with_assigns (Some f) s g = Err (why.BadExpression f.0 f.1)
+
 abbrev pub take_value : Refusals → ℕ → ValueForm → Text → Group → Step
 take_value refuses places value.Text s g = Ok g
 take_value refuses places value.List s g = Ok g
@@ -43,7 +50,10 @@ take_value refuses places value.Precision s g = unless (is_some (places_of s)) w
 take_value refuses places value.Rule s g = unless (is_some (rule_of s)) why.BadChoice g
 take_value refuses places value.Format s g = unless (is_some (form_named s)) why.BadChoice g
 take_value refuses places value.Area s g = on_ok (area_of places s) (λ a. Ok (record g { area = Some a }))
-take_value refuses places value.Expression s g = with_test (refuses s) s g
+take_value refuses places value.Expression s g = with_test (refuses kind.expression s) s g
+take_value refuses places value.SquareUnits s g = unless (is_some (area_units s)) why.BadNumber g
+take_value refuses places value.CountFromOne s g = unless (is_some (count_of 1 s)) why.BadNumber g
+take_value refuses places value.CountFromZero s g = unless (is_some (count_of 0 s)) why.BadNumber g
 
 -- ## Options and bare words
 
@@ -60,8 +70,18 @@ take_known refuses places (Some v) o g =
     else if is_area v && is_some (argument_in g) then Err why.ExtraWord
     else take_value refuses places v o.1 (record g { options = g.options ++ record { name = o.0; value = o.1 } ∷ [] })
 
+-- rows ascend or descend
+abbrev pub is_opposed : Group → Text → Bool
+is_opposed g w =
+    if bytes_eq w (codes "ascending") then has_bare g (codes "descending")
+    else if bytes_eq w (codes "descending") then has_bare g (codes "ascending")
+    else false
+
 abbrev pub take_bare : Text → Group → Step
-take_bare w g = if has_bare g w then Err why.OptionTwice else Ok (record g { bare = g.bare ++ w ∷ [] })
+take_bare w g =
+    if has_bare g w then Err why.OptionTwice
+    else if is_opposed g w then Err why.ExtraWord
+    else Ok (record g { bare = g.bare ++ w ∷ [] })
 
 -- ## Arguments
 
@@ -84,7 +104,8 @@ has_room _ g = not (is_some (argument_in g) || is_some g.area)
 abbrev pub take_text : Refusals → ArgumentForm → Text → Group → Step
 take_text refuses argument.Files s g = unless (names_file s) why.UnsupportedFile g
 take_text refuses argument.Renames s g = on_ok (renames_of s) (λ rs. Ok (record g { renames = rs }))
-take_text refuses argument.Expression s g = with_test (refuses s) s g
+take_text refuses argument.Expression s g = with_test (refuses kind.expression s) s g
+take_text refuses argument.Assignments s g = with_assigns (refuses kind.assignments s) s g
 take_text refuses _ s g = Ok g
 
 abbrev pub with_argument : ArgumentForm → Word → Group → Group
@@ -109,4 +130,4 @@ take_either refuses places form None w g = take_plain refuses form w g
 take_either refuses places form (Some o) w g = take_known refuses places (form_of form.options o.0) o g
 
 abbrev pub take_word : Refusals → ℕ → Form → Group → Word → Step
-take_word refuses places form g w = take_either refuses places form (option_in form.argument w.text) w g
+take_word refuses places form g w = take_either refuses places form (option_in form w.text) w g

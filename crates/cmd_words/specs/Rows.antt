@@ -6,6 +6,8 @@ use Rattle.cmd_words.specs.declared.commands.Keyword.{Keyword}
 use Rattle.cmd_words.specs.declared.commands.Keyword.TheVariants as keyword
 use Rattle.cmd_words.specs.declared.commands.LayerKeyword.{LayerKeyword}
 use Rattle.cmd_words.specs.declared.commands.LayerKeyword.TheVariants as layer
+use Rattle.cmd_words.specs.declared.commands.ExpressionKeyword.{ExpressionKeyword}
+use Rattle.cmd_words.specs.declared.commands.ExpressionKeyword.TheVariants as by
 use Rattle.cmd_words.specs.declared.commands.JointKeyword.TheVariants as joint
 use Rattle.cmd_words.specs.declared.commands.ValueForm.{ValueForm}
 use Rattle.cmd_words.specs.declared.commands.ValueForm.TheVariants as value
@@ -57,21 +59,28 @@ row w k a os bs = record { word = w; keyword = k; form = record { argument = a; 
 abbrev pub layer_row : Text → LayerKeyword → ArgumentForm → List (Text × ValueForm) → List Text → Row
 layer_row w k a os bs = row w (keyword.Each k) a os bs
 
+abbrev pub calculated_row : Text → ExpressionKeyword → ArgumentForm → List (Text × ValueForm) → List Text → Row
+calculated_row w k a os bs = row w (keyword.Calculated k) a os bs
+
 unfoldable pub rows : List Row
 rows =
     layer_row (codes "-clip") layer.Clip argument.Source ((codes "bbox", value.Area) ∷ TARGET ∷ NAME ∷ []) (codes "+" ∷ [])
     ∷ layer_row (codes "-erase") layer.Erase argument.Source ((codes "bbox", value.Area) ∷ TARGET ∷ NAME ∷ []) (codes "+" ∷ [])
     ∷ layer_row (codes "-dissolve") layer.Dissolve argument.List ((codes "sum-fields", value.List) ∷ (codes "copy-fields", value.List) ∷ TARGET ∷ NAME ∷ []) (codes "group-points" ∷ codes "+" ∷ [])
-    ∷ layer_row (codes "-clean") layer.Clean argument.Nothing ((codes "overlap-rule", value.Rule) ∷ TARGET ∷ NAME ∷ []) (codes "allow-empty" ∷ codes "+" ∷ [])
+    ∷ layer_row (codes "-clean") layer.Clean argument.Nothing ((codes "overlap-rule", value.Rule) ∷ (codes "gap-fill-area", value.SquareUnits) ∷ TARGET ∷ NAME ∷ []) (codes "allow-empty" ∷ codes "+" ∷ [])
     ∷ layer_row (codes "-mosaic") layer.Mosaic argument.Nothing (TARGET ∷ NAME ∷ []) (codes "+" ∷ [])
     ∷ layer_row (codes "-innerlines") layer.InnerLines argument.Nothing (TARGET ∷ NAME ∷ []) (codes "+" ∷ [])
     ∷ layer_row (codes "-explode") layer.Explode argument.Nothing (TARGET ∷ NAME ∷ []) (codes "+" ∷ [])
     ∷ layer_row (codes "-lines") layer.Lines argument.List (TARGET ∷ NAME ∷ []) (codes "+" ∷ [])
-    ∷ layer_row (codes "-join") layer.Join argument.Source ((codes "keys", value.Keys) ∷ (codes "fields", value.List) ∷ (codes "where", value.Expression) ∷ (codes "prefix", value.Text) ∷ STRING_FIELDS ∷ TARGET ∷ []) (codes "force" ∷ [])
-    ∷ layer_row (codes "-filter") layer.Filter argument.Expression (TARGET ∷ NAME ∷ []) (codes "invert" ∷ codes "remove-empty" ∷ codes "+" ∷ [])
+    ∷ calculated_row (codes "-join") by.Join argument.Source ((codes "keys", value.Keys) ∷ (codes "fields", value.List) ∷ (codes "where", value.Expression) ∷ (codes "prefix", value.Text) ∷ STRING_FIELDS ∷ TARGET ∷ []) (codes "force" ∷ [])
+    ∷ calculated_row (codes "-filter") by.Filter argument.Expression (TARGET ∷ NAME ∷ []) (codes "invert" ∷ codes "remove-empty" ∷ codes "+" ∷ [])
     ∷ layer_row (codes "-filter-fields") layer.FilterFields argument.List (TARGET ∷ []) []
     ∷ layer_row (codes "-rename-fields") layer.RenameFields argument.Renames (TARGET ∷ []) []
     ∷ layer_row (codes "-split") layer.Split argument.Text (TARGET ∷ []) (codes "+" ∷ [])
+    ∷ calculated_row (codes "-each") by.Each argument.Assignments (TARGET ∷ []) []
+    ∷ calculated_row (codes "-sort") by.Sort argument.Expression (TARGET ∷ []) (codes "ascending" ∷ codes "descending" ∷ [])
+    ∷ calculated_row (codes "-uniq") by.Uniq argument.Expression ((codes "max-count", value.CountFromOne) ∷ TARGET ∷ NAME ∷ []) (codes "invert" ∷ codes "+" ∷ [])
+    ∷ layer_row (codes "-filter-islands") layer.FilterIslands argument.Nothing ((codes "min-area", value.SquareUnits) ∷ (codes "min-vertices", value.CountFromZero) ∷ TARGET ∷ NAME ∷ []) (codes "remove-empty" ∷ codes "+" ∷ [])
     ∷ row (codes "-merge-layers") (keyword.Together joint.MergeLayers) argument.Nothing (TARGET ∷ NAME ∷ []) (codes "force" ∷ codes "+" ∷ [])
     ∷ row (codes "-o") keyword.Write argument.Text ((codes "format", value.Format) ∷ TARGET ∷ []) (codes "force" ∷ [])
     ∷ []

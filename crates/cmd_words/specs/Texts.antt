@@ -6,7 +6,7 @@ use Rattle.cmd_words.specs.declared.job.OutForm.{OutForm}
 use Rattle.cmd_words.specs.declared.job.OutForm.TheVariants as form
 use Rattle.cmd_words.specs.declared.commands.ArgumentForm.{ArgumentForm}
 use Rattle.cmd_words.specs.declared.commands.ArgumentForm.TheVariants as argument
-use Rattle.cmd_words.specs.Rows.{Text}
+use Rattle.cmd_words.specs.Rows.{Text, Form, form_of}
 
 -- the pieces between commas
 abbrev pub put_byte : ℕ → List Text → List Text
@@ -38,19 +38,23 @@ at_first_equals word = split_at 61 word
 abbrev pub begins_with_equals : Text → Bool
 begins_with_equals s = slice_index s 0 == 61
 
--- Where expressions stand, only `name=` and `target=` without a further `=` are options; where renames stand, only `target=`
-abbrev pub is_option : ArgumentForm → Text × Text → Bool
-is_option argument.Expression o = (bytes_eq o.0 (codes "name") || bytes_eq o.0 (codes "target")) && not (begins_with_equals o.1)
-is_option argument.Renames o = bytes_eq o.0 (codes "target")
-is_option _ o = true
+-- where expressions or assignments stand, only the known options without a further `=` are options; where renames stand, only the known ones
+abbrev pub splits : ArgumentForm → Bool → Bool → Bool
+splits argument.Expression known doubled = known && not doubled
+splits argument.Assignments known doubled = known && not doubled
+splits argument.Renames known doubled = known
+splits _ known doubled = true
+
+abbrev pub is_option : Form → Text × Text → Bool
+is_option form o = splits form.argument (is_some (form_of form.options o.0)) (begins_with_equals o.1)
 
 abbrev pub where_true : (Text × Text → Bool) → Option (Text × Text) → Option (Text × Text)
 where_true test None = None
 where_true test (Some o) = if test o then Some o else None
 
--- a word as an option: its name and its value, split at its first `=`
-abbrev pub option_in : ArgumentForm → Text → Option (Text × Text)
-option_in argument word = where_true (is_option argument) (at_first_equals word)
+-- a word of a group as an option: its name and its value, split at its first `=`
+abbrev pub option_in : Form → Text → Option (Text × Text)
+option_in form word = where_true (is_option form) (at_first_equals word)
 
 -- ## Words
 

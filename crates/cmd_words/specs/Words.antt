@@ -1,7 +1,6 @@
 -- The chain that the words of a command line ask for, or the first word that is refused and why.
-use Rattle.std.specs.Prelude.{ℕ, ◌+◌, false, not, ◌&&◌, nat_lt, nat_le, List, [], ◌∷◌, map, length, codes, Option, Some, None, is_some, unwrap_or, Result, Ok, Err, if◌then◌else◌}
-use Rattle.std.specs.Str.{bytes_eq, all_ascii_digits}
-use Rattle.std.specs.Str.Parse.{digits_value}
+use Rattle.std.specs.Prelude.{ℕ, ◌+◌, false, not, nat_lt, List, [], ◌∷◌, map, length, codes, Option, Some, None, is_some, unwrap_or, Result, Ok, Err, if◌then◌else◌}
+use Rattle.std.specs.Str.{bytes_eq}
 use Rattle.cmd_words.specs.declared.fault.WordWhy.{WordWhy}
 use Rattle.cmd_words.specs.declared.fault.WordWhy.TheVariants as why
 use Rattle.cmd_words.specs.declared.word_groups.Word.{Word}
@@ -13,6 +12,7 @@ use Rattle.cmd_words.specs.Steps.{on_ok, each_step}
 use Rattle.cmd_words.specs.Expressions.{Refusals}
 use Rattle.cmd_words.specs.Texts.{is_command, is_standard}
 use Rattle.cmd_words.specs.Areas.{places_of}
+use Rattle.cmd_words.specs.Quantities.{number_in}
 use Rattle.cmd_words.specs.Groups.{Group, empty_group, value_in, argument_in, first_number}
 use Rattle.cmd_words.specs.Options.{take_word}
 use Rattle.cmd_words.specs.Chains.{SoFar, list_or_empty, lacks_argument, lacks_form, with_command}
@@ -57,15 +57,15 @@ abbrev pub take_words : Refusals → ℕ → Form → Group → List Word → Re
 take_words refuses places form g ws = each_step (λ (h : Group) (w : Word). at_word w.number (take_word refuses places form h w)) g ws
 
 -- after its words: what is missing, and then a form that nothing tells
-abbrev pub finished : SoFar → Keyword → ℕ → Group → Reading SoFar
-finished s keyword n g =
+abbrev pub finished : ℕ → SoFar → Keyword → ℕ → Group → Reading SoFar
+finished places s keyword n g =
     if lacks_argument keyword g then Err (n, why.MissingArgument)
     else if lacks_form keyword g then Err (first_number g, why.UnsupportedFile)
-    else Ok (with_command s keyword g)
+    else Ok (with_command places s keyword g)
 
 abbrev pub take_row : Refusals → ℕ → SoFar → ℕ → List Word → Option Row → Reading SoFar
 take_row refuses places s n rest None = Err (n, why.UnknownCommand)
-take_row refuses places s n rest (Some row) = on_ok (take_words refuses places row.form (empty_group s.reads_standard) rest) (finished s row.keyword n)
+take_row refuses places s n rest (Some row) = on_ok (take_words refuses places row.form (empty_group s.reads_standard) rest) (finished places s row.keyword n)
 
 abbrev pub take_command : Refusals → ℕ → SoFar → CommandGroup → Reading SoFar
 take_command refuses places s c =
@@ -114,10 +114,6 @@ read_commands refuses words = read_groups refuses (grouped (without_import_word 
 pub data JobWords : Type 0 where
   synth : ℕ → ℕ → JobWords
   chain : ChainWords → JobWords
-
-abbrev pub number_in : ℕ → ℕ → Text → Option ℕ
-number_in low high w =
-    if (nat_lt 0 (length w) && all_ascii_digits w) && (nat_le low (digits_value 10 w) && nat_le (digits_value 10 w) high) then Some (digits_value 10 w) else None
 
 abbrev pub read_size : ℕ → Option ℕ → Reading JobWords
 read_size seed None = Err (3, why.BadNumber)

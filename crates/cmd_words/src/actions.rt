@@ -1,10 +1,12 @@
-ghost use Rattle.std.specs.Prelude.{◌≡◌, ◌+◌, IfOk, option_map, unwrap_or, is_some, [], List, ℕ, length};
+ghost use Rattle.std.specs.Prelude.{◌≡◌, ◌+◌, false, IfOk, option_map, unwrap_or, is_some, [], List, ℕ, length};
 ghost use Rattle.std.specs.Option.{option_copied};
 ghost use Rattle.cmd_words.specs.Texts.{pieces};
-ghost use Rattle.cmd_words.specs.Chains.{list_or_empty, target_of, argument_text, key_at, group_spec, join_spec, out_form, rule_from, origin_of, write_of, layer_action_of, joint_action_of, action_of, layer_lacks_argument, lacks_argument, lacks_form, takes_source};
+ghost use Rattle.cmd_words.specs.Chains.{list_or_empty, target_of, argument_text, key_at, group_spec, join_spec, out_form, rule_from, origin_of, write_of, dissolve_of, clean_of, filter_islands_of, layer_action_of, calculated_action_of, joint_action_of, action_of, layer_lacks_argument, calculated_lacks_argument, lacks_argument, lacks_form, takes_source};
 
-use crate::commands::{JointKeyword, Keyword, LayerKeyword};
+use crate::action_words::ActionWords;
+use crate::commands::{ExpressionKeyword, JointKeyword, Keyword, LayerKeyword};
 use crate::job::{Action, JointAction, LayerAction, Origin, OutForm, Target};
+use crate::quantities::{count_from, gap_from, least_area_from};
 use crate::texts::{form_by_ending, is_standard, names_file, pieces};
 use crate::values::{form_named, rule_of};
 use crate::word_groups::Group;
@@ -13,23 +15,27 @@ use io_core::{NameList, Text};
 use std::alloc::{AllocError, Global};
 use table_terms::{GroupSpec, JoinSpec};
 
-/// What a command does, where its chain so far has so many sources and boxes. Its expression is left out.
+/// What a command asks for, where its chain so far has so many sources and boxes, in so many decimal places.
 pub(crate) fn action(
     alloc: Global,
+    places: u8,
     sources: u32,
     boxes: u32,
     keyword: Keyword,
     group: &mut Group,
-) -> Result<Action, AllocError>
-    ensures exact { IfOk result (λ a. a ≡ action_of sources boxes keyword group.old) }
-    ensures test { group.new.test ≡ group.old.test }
+) -> Result<ActionWords, AllocError>
+    requires { lacks_argument keyword group.old ≡ false }
+    ensures exact { IfOk result (λ a. a ≡ action_of places sources boxes keyword group.old) }
 {
     Ok(match keyword {
-        Keyword::Write => write(alloc, group)?,
-        Keyword::Each(keyword) => {
-            Action::Each(layer_action(alloc, sources, boxes, keyword, group)?)
+        Keyword::Write => ActionWords::Whole(write(alloc, group)?),
+        Keyword::Each(keyword) => ActionWords::Whole(Action::Each(layer_action(
+            alloc, places, sources, boxes, keyword, group,
+        )?)),
+        Keyword::Calculated(keyword) => calculated_action(alloc, sources, boxes, keyword, group)?,
+        Keyword::Together(keyword) => {
+            ActionWords::Whole(Action::Together(joint_action(keyword, group)))
         }
-        Keyword::Together(keyword) => Action::Together(joint_action(keyword, group)),
     })
 }
 
@@ -46,13 +52,13 @@ fn write(alloc: Global, group: &Group) -> Result<Action, AllocError>
 
 fn layer_action(
     alloc: Global,
+    places: u8,
     sources: u32,
     boxes: u32,
     keyword: LayerKeyword,
     group: &mut Group,
 ) -> Result<LayerAction, AllocError>
-    ensures exact { IfOk result (λ a. a ≡ layer_action_of sources boxes keyword group.old) }
-    ensures test { group.new.test ≡ group.old.test }
+    ensures exact { IfOk result (λ a. a ≡ layer_action_of places sources boxes keyword group.old) }
 {
     Ok(match keyword {
         LayerKeyword::Clip => LayerAction::Clip {
@@ -61,28 +67,13 @@ fn layer_action(
         LayerKeyword::Erase => LayerAction::Erase {
             from: origin(alloc, sources, boxes, group)?,
         },
-        LayerKeyword::Dissolve => LayerAction::Dissolve {
-            spec: group_spec(alloc, group)?,
-            group_points: group.has_bare("group-points"),
-        },
-        LayerKeyword::Clean => LayerAction::Clean {
-            rule: rule_from(group.value("overlap-rule")),
-            allow_empty: group.has_bare("allow-empty"),
-        },
+        LayerKeyword::Dissolve => dissolve(alloc, group)?,
+        LayerKeyword::Clean => clean(places, group),
         LayerKeyword::Mosaic => LayerAction::Mosaic,
         LayerKeyword::InnerLines => LayerAction::InnerLines,
         LayerKeyword::Explode => LayerAction::Explode,
         LayerKeyword::Lines => LayerAction::Lines {
             fields: list_or_empty(alloc, group.argument())?,
-        },
-        LayerKeyword::Join => LayerAction::Join {
-            from: origin(alloc, sources, boxes, group)?,
-            spec: join_spec(alloc, group)?,
-        },
-        LayerKeyword::Filter => LayerAction::Filter {
-            test: None,
-            invert: group.has_bare("invert"),
-            remove_empty: group.has_bare("remove-empty"),
         },
         LayerKeyword::FilterFields => LayerAction::FilterFields {
             fields: list_or_empty(alloc, group.argument())?,
@@ -92,6 +83,72 @@ fn layer_action(
         },
         LayerKeyword::Split => LayerAction::Split {
             field: copy_of(alloc, group.argument())?,
+        },
+        LayerKeyword::FilterIslands => filter_islands(places, group),
+    })
+}
+
+fn dissolve(alloc: Global, group: &Group) -> Result<LayerAction, AllocError>
+    ensures exact { IfOk result (λ a. a ≡ dissolve_of group.now) }
+{
+    Ok(LayerAction::Dissolve {
+        spec: group_spec(alloc, group)?,
+        group_points: group.has_bare("group-points"),
+    })
+}
+
+fn clean(places: u8, group: &Group) -> LayerAction
+    ensures exact { result ≡ clean_of places group.now }
+{
+    LayerAction::Clean {
+        rule: rule_from(group.value("overlap-rule")),
+        allow_empty: group.has_bare("allow-empty"),
+        gap: gap_from(places, group.value("gap-fill-area")),
+    }
+}
+
+fn filter_islands(places: u8, group: &Group) -> LayerAction
+    ensures exact { result ≡ filter_islands_of places group.now }
+{
+    LayerAction::FilterIslands {
+        least_area: least_area_from(places, group.value("min-area")),
+        least_links: count_from(0, group.value("min-vertices")),
+        remove_empty: group.has_bare("remove-empty"),
+    }
+}
+
+fn calculated_action(
+    alloc: Global,
+    sources: u32,
+    boxes: u32,
+    keyword: ExpressionKeyword,
+    group: &mut Group,
+) -> Result<ActionWords, AllocError>
+    requires { calculated_lacks_argument keyword group.old ≡ false }
+    ensures exact { IfOk result (λ a. a ≡ calculated_action_of sources boxes keyword group.old) }
+{
+    Ok(match keyword {
+        ExpressionKeyword::Join => ActionWords::Join {
+            from: origin(alloc, sources, boxes, group)?,
+            spec: join_spec(alloc, group)?,
+            test: group.take_test(),
+        },
+        ExpressionKeyword::Filter => ActionWords::Filter {
+            invert: group.has_bare("invert"),
+            remove_empty: group.has_bare("remove-empty"),
+            test: group.take_test(),
+        },
+        ExpressionKeyword::Each => ActionWords::Each {
+            assigns: group.take_assigns(),
+        },
+        ExpressionKeyword::Sort => ActionWords::Sort {
+            descending: group.has_bare("descending"),
+            key: group.take_key(),
+        },
+        ExpressionKeyword::Uniq => ActionWords::Uniq {
+            most: count_from(1, group.value("max-count")),
+            invert: group.has_bare("invert"),
+            key: group.take_key(),
         },
     })
 }
@@ -225,6 +282,7 @@ pub(crate) fn lacks_argument(keyword: Keyword, group: &Group) -> bool
     match keyword {
         Keyword::Write => !group.has_argument(),
         Keyword::Each(keyword) => layer_lacks_argument(keyword, group),
+        Keyword::Calculated(keyword) => calculated_lacks_argument(keyword, group),
         Keyword::Together(JointKeyword::MergeLayers) => false,
     }
 }
@@ -236,9 +294,10 @@ fn layer_lacks_argument(keyword: LayerKeyword, group: &Group) -> bool
         LayerKeyword::Clip | LayerKeyword::Erase => {
             !(group.has_argument() || group.area().is_some())
         }
-        LayerKeyword::Join => !(group.has_argument() && group.has_option("keys")),
-        LayerKeyword::Filter => !(group.has_argument() || group.has_bare("remove-empty")),
         LayerKeyword::RenameFields => !group.has_argument(),
+        LayerKeyword::FilterIslands => {
+            !(group.has_option("min-area") || group.has_option("min-vertices"))
+        }
         LayerKeyword::Dissolve
         | LayerKeyword::Clean
         | LayerKeyword::Mosaic
@@ -247,6 +306,17 @@ fn layer_lacks_argument(keyword: LayerKeyword, group: &Group) -> bool
         | LayerKeyword::Lines
         | LayerKeyword::FilterFields
         | LayerKeyword::Split => false,
+    }
+}
+
+fn calculated_lacks_argument(keyword: ExpressionKeyword, group: &Group) -> bool
+    ensures exact { result ≡ calculated_lacks_argument keyword group.now }
+{
+    match keyword {
+        ExpressionKeyword::Join => !(group.has_argument() && group.has_option("keys")),
+        ExpressionKeyword::Filter => !(group.has_argument() || group.has_bare("remove-empty")),
+        ExpressionKeyword::Each => !group.has_assigns(),
+        ExpressionKeyword::Sort | ExpressionKeyword::Uniq => !group.has_test(),
     }
 }
 
@@ -263,6 +333,7 @@ pub(crate) fn takes_source(keyword: Keyword) -> bool
 {
     matches!(
         keyword,
-        Keyword::Each(LayerKeyword::Clip | LayerKeyword::Erase | LayerKeyword::Join)
+        Keyword::Each(LayerKeyword::Clip | LayerKeyword::Erase)
+            | Keyword::Calculated(ExpressionKeyword::Join)
     )
 }

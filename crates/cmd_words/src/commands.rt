@@ -7,6 +7,7 @@ ghost use Rattle.cmd_words.specs.Seen.{row_seen, options_seen, names_seen};
 pub(crate) enum Keyword {
     Write,
     Each(LayerKeyword),
+    Calculated(ExpressionKeyword),
     Together(JointKeyword),
 }
 
@@ -21,11 +22,20 @@ pub(crate) enum LayerKeyword {
     InnerLines,
     Explode,
     Lines,
-    Join,
-    Filter,
     FilterFields,
     RenameFields,
     Split,
+    FilterIslands,
+}
+
+/// A command that works on one layer, by an expression or by assignments.
+#[derive(Clone, Copy)]
+pub(crate) enum ExpressionKeyword {
+    Join,
+    Filter,
+    Each,
+    Sort,
+    Uniq,
 }
 
 /// A command that works on all layers of its target together.
@@ -44,6 +54,7 @@ pub(crate) enum ArgumentForm {
     Source,
     List,
     Expression,
+    Assignments,
     Renames,
     Text,
 }
@@ -60,6 +71,12 @@ pub(crate) enum ValueForm {
     Format,
     Area,
     Expression,
+    /// An area in squared units of the coordinates: a numeral of at least 0.
+    SquareUnits,
+    /// Digits for a number from 1 on.
+    CountFromOne,
+    /// Digits for a number from 0 on.
+    CountFromZero,
 }
 
 /// An option: its name, and what its value is.
@@ -106,6 +123,14 @@ const PREFIX: OptionForm = ("prefix", ValueForm::Text);
 
 const FORMAT: OptionForm = ("format", ValueForm::Format);
 
+const GAP: OptionForm = ("gap-fill-area", ValueForm::SquareUnits);
+
+const MOST: OptionForm = ("max-count", ValueForm::CountFromOne);
+
+const LEAST_AREA: OptionForm = ("min-area", ValueForm::SquareUnits);
+
+const LEAST_LINKS: OptionForm = ("min-vertices", ValueForm::CountFromZero);
+
 /// The import at the front of a chain.
 pub(crate) static IMPORT: GroupForm = GroupForm {
     argument: ArgumentForm::Files,
@@ -139,9 +164,21 @@ macro_rules! layer_row {
     };
 }
 
+macro_rules! calculated_row {
+    ($word:literal, $keyword:ident, $argument:ident, $options:tt, $bare:tt) => {
+        row!(
+            $word,
+            Keyword::Calculated(ExpressionKeyword::$keyword),
+            $argument,
+            $options,
+            $bare
+        )
+    };
+}
+
 /// The commands: word, meaning, argument, options and bare words. A new one is a row here, and an arm of
-/// `layer_action` or `joint_action`.
-static COMMANDS: [CommandRow; 15] = [
+/// `layer_action`, `calculated_action` or `joint_action`.
+static COMMANDS: [CommandRow; 19] = [
     layer_row!("-clip", Clip, Source, [BOX, TARGET, NAME], ["+"]),
     layer_row!("-erase", Erase, Source, [BOX, TARGET, NAME], ["+"]),
     layer_row!(
@@ -155,21 +192,21 @@ static COMMANDS: [CommandRow; 15] = [
         "-clean",
         Clean,
         Nothing,
-        [RULE, TARGET, NAME],
+        [RULE, GAP, TARGET, NAME],
         ["allow-empty", "+"]
     ),
     layer_row!("-mosaic", Mosaic, Nothing, [TARGET, NAME], ["+"]),
     layer_row!("-innerlines", InnerLines, Nothing, [TARGET, NAME], ["+"]),
     layer_row!("-explode", Explode, Nothing, [TARGET, NAME], ["+"]),
     layer_row!("-lines", Lines, List, [TARGET, NAME], ["+"]),
-    layer_row!(
+    calculated_row!(
         "-join",
         Join,
         Source,
         [KEYS, FIELDS, WHERE, PREFIX, STRING_FIELDS, TARGET],
         ["force"]
     ),
-    layer_row!(
+    calculated_row!(
         "-filter",
         Filter,
         Expression,
@@ -179,6 +216,28 @@ static COMMANDS: [CommandRow; 15] = [
     layer_row!("-filter-fields", FilterFields, List, [TARGET], []),
     layer_row!("-rename-fields", RenameFields, Renames, [TARGET], []),
     layer_row!("-split", Split, Text, [TARGET], ["+"]),
+    calculated_row!("-each", Each, Assignments, [TARGET], []),
+    calculated_row!(
+        "-sort",
+        Sort,
+        Expression,
+        [TARGET],
+        ["ascending", "descending"]
+    ),
+    calculated_row!(
+        "-uniq",
+        Uniq,
+        Expression,
+        [MOST, TARGET, NAME],
+        ["invert", "+"]
+    ),
+    layer_row!(
+        "-filter-islands",
+        FilterIslands,
+        Nothing,
+        [LEAST_AREA, LEAST_LINKS, TARGET, NAME],
+        ["remove-empty", "+"]
+    ),
     row!(
         "-merge-layers",
         Keyword::Together(JointKeyword::MergeLayers),

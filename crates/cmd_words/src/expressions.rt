@@ -1,18 +1,18 @@
 ghost use Rattle.std.specs.Prelude.{◌≡◌, IfOk, None, MatchResult};
-ghost use Rattle.expr_lang.specs.Tree.{tree_of};
-ghost use Rattle.cmd_words.specs.Expressions.{Refusals, AreRefusals};
+ghost use Rattle.expr_lang.specs.Tree.{tree_of, all_assigned};
+ghost use Rattle.cmd_words.specs.Expressions.{Refusals, AreRefusals, expression, assignments};
 ghost use Rattle.cmd_words.specs.ReadsAs.{IsRefusedFor, refusal_of};
-ghost use Rattle.expr_lang.specs.Faults.{IsTree};
+ghost use Rattle.expr_lang.specs.Faults.{IsTree, AreAssigns};
 
 use crate::fault::{ExprWhy, Refusal, WordWhy};
-use expr_lang::{Expr, ExprFault};
+use expr_lang::{AssignList, Expr, ExprFault};
 use io_core::Text;
 use std::alloc::Global;
 use std::marker::Model;
 
 /// An expression beside the text that it was read from, and seen as that text.
 #[derive(Drop)]
-pub(crate) struct Expression {
+pub struct Expression {
     text: Text,
     tree: Expr,
 }
@@ -33,7 +33,7 @@ impl Expression {
     /// The expression that a text is; a word that holds another text is refused as `BadExpression`.
     pub(crate) fn read(alloc: Global, text: &str) -> Result<Expression, Refusal>
         ensures ok { IfOk result (λ e. e ≡ text.now) }
-        ensures exact { (refuses : Refusals) → AreRefusals refuses → MatchResult result (λ _. refuses text.now ≡ None) (IsRefusedFor (refuses text.now)) }
+        ensures exact { (refuses : Refusals) → AreRefusals refuses → MatchResult result (λ _. refuses expression text.now ≡ None) (IsRefusedFor (refuses expression text.now)) }
     {
         let tree = match Expr::parse(alloc, text) {
             Ok(tree) => tree,
@@ -50,6 +50,49 @@ impl Expression {
     {
         let Expression { text: _, tree } = self;
         tree
+    }
+}
+
+/// Assignments beside the text that they were read from, and seen as that text.
+#[derive(Drop)]
+pub struct Assignments {
+    text: Text,
+    assigns: AssignList,
+}
+
+impl Model for Assignments {
+    ghost use Rattle.std.specs.Prelude.{List, ℕ};
+    ghost use Rattle.expr_lang.specs.Tree.{all_assigned};
+    ghost use Rattle.expr_lang.specs.Faults.{AreAssigns};
+
+    ghost Value = { List ℕ };
+
+    ghost view = { λ a. a.text };
+
+    ghost invariant = { λ a. AreAssigns a.text (all_assigned a.assigns) };
+}
+
+impl Assignments {
+    /// The assignments that a text is; a word that holds another text is refused as `BadExpression`.
+    pub(crate) fn read(alloc: Global, text: &str) -> Result<Assignments, Refusal>
+        ensures ok { IfOk result (λ a. a ≡ text.now) }
+        ensures exact { (refuses : Refusals) → AreRefusals refuses → MatchResult result (λ _. refuses assignments text.now ≡ None) (IsRefusedFor (refuses assignments text.now)) }
+    {
+        let assigns = match Expr::parse_each(alloc, text) {
+            Ok(assigns) => assigns,
+            Err(fault) => return Err(refusal_of(fault)),
+        };
+        Ok(Assignments {
+            text: Text::of(alloc, text)?,
+            assigns,
+        })
+    }
+
+    pub(crate) fn into_list(self) -> AssignList
+        ensures assigns { AreAssigns self (all_assigned result) }
+    {
+        let Assignments { text: _, assigns } = self;
+        assigns
     }
 }
 

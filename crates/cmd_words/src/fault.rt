@@ -18,7 +18,7 @@ pub enum ExprWhy {
 
 /// Why a word is refused. Where one word is refused for several reasons, the order is that of
 /// `UnknownOption`, `OptionTwice`, `MissingValue`, `ExtraWord`, `UnsupportedFile`, `BadPrecision`,
-/// `BadChoice`, `BadBox`, `BoxRange`, `BadExpression`.
+/// `BadNumber`, `BadChoice`, `BadBox`, `BoxRange`, `BadExpression`.
 #[derive(Clone, Copy, Debug, PartialEq, Eq)]
 pub enum WordWhy {
     /// The chain names no file to read; the first word.
@@ -33,16 +33,16 @@ pub enum WordWhy {
     MissingValue,
     /// The command lacks an argument or an option that it needs; the command word.
     MissingArgument,
-    /// An argument has no place here, or standard input is read already.
+    /// An argument has no place here, standard input is read already, or the rows are to ascend and to descend.
     ExtraWord,
     /// The name tells no format.
     UnsupportedFile,
-    /// The word is no number of the range.
+    /// The value is none of 1, 0.1 and so on to 0.0000001.
+    BadPrecision,
+    /// The word or the value is no number of the range.
     BadNumber,
     /// The value is none of the choices.
     BadChoice,
-    /// The value is none of 1, 0.1 and so on to 0.0000001.
-    BadPrecision,
     /// The value is not four numerals, or a least number is above its greatest.
     BadBox,
     /// A number of the box passes the limit of the grid.

@@ -4,12 +4,13 @@
 //! next one. `read_chain` goes over the groups in order, and in a group over its words:
 //!
 //! 1. `commands` has the table of what may stand in each group: a row for each command.
-//! 2. `options` takes one word: an option, a bare word or an argument; `texts`, `values`, `areas` and
-//!    `expressions` read what they hold.
+//! 2. `options` takes one word: an option, a bare word or an argument; `texts`, `values`, `areas`, `quantities`
+//!    and `expressions` read what they hold.
 //! 3. `word_groups` keeps what a group holds so far.
-//! 4. `actions` makes a command of a whole group, and `so_far` adds it to the chain.
+//! 4. `actions` says what a whole group asks for (`action_words`), and `so_far` adds it to the chain.
 #![tactic(auto)]
 
+mod action_words;
 mod actions;
 mod areas;
 mod chain_lists;
@@ -18,6 +19,7 @@ mod expressions;
 mod fault;
 mod job;
 mod options;
+mod quantities;
 mod reading;
 mod so_far;
 mod synth;

@@ -3,12 +3,13 @@ ghost use Rattle.cmd_words.specs.Expressions.{Refusals, AreRefusals};
 ghost use Rattle.cmd_words.specs.Seen.{form_seen, parts_seen};
 ghost use Rattle.cmd_words.specs.Steps.{Makes};
 ghost use Rattle.cmd_words.specs.Texts.{has_empty_piece, is_standard};
-ghost use Rattle.cmd_words.specs.Options.{lacks_value, take_value, take_known, take_bare, has_room, is_list, is_read, is_area, take_text, take_argument, take_plain, take_word};
+ghost use Rattle.cmd_words.specs.Options.{lacks_value, take_value, take_known, take_bare, is_opposed, has_room, is_list, is_read, is_area, take_text, take_argument, take_plain, take_word};
 
 use crate::areas::{places_of, read_area};
 use crate::commands::{ArgumentForm, GroupForm, ValueForm};
-use crate::expressions::Expression;
+use crate::expressions::{Assignments, Expression};
 use crate::fault::{Refusal, WordWhy};
+use crate::quantities::{area_units, count_of};
 use crate::texts::{has_empty_piece, is_standard, names_file, option_in};
 use crate::values::{form_named, is_pair, read_renames, rule_of};
 use crate::word_groups::Group;
@@ -27,7 +28,7 @@ pub(crate) fn take_word(
 ) -> Result<(), Refusal>
     ensures exact { (refuses : Refusals) → AreRefusals refuses → Makes (take_word refuses places (form_seen form.now) group.old (record { number = number; text = word.now })) group.new result }
 {
-    match option_in(form.argument, word) {
+    match option_in(form, word) {
         Some((name, value)) => take_known(alloc, places, form.value_form(name), group, name, value),
         None => take_plain(alloc, form, group, number, word),
     }
@@ -97,6 +98,9 @@ fn take_value(
             group.set_test(Expression::read(alloc, value)?);
             Ok(())
         }
+        ValueForm::SquareUnits => accepted_if(area_units(value).is_some(), WordWhy::BadNumber),
+        ValueForm::CountFromOne => accepted_if(count_of(1, value).is_some(), WordWhy::BadNumber),
+        ValueForm::CountFromZero => accepted_if(count_of(0, value).is_some(), WordWhy::BadNumber),
     }
 }
 
@@ -133,8 +137,22 @@ fn take_bare(alloc: Global, group: &mut Group, word: &str) -> Result<(), Refusal
     if group.has_bare(word) {
         return Err(Refusal::Why(WordWhy::OptionTwice));
     }
+    if is_opposed(group, word) {
+        return Err(Refusal::Why(WordWhy::ExtraWord));
+    }
     group.add_bare(alloc, word)?;
     Ok(())
+}
+
+// Whether the group has the bare word that says the contrary.
+fn is_opposed(group: &Group, word: &str) -> bool
+    ensures exact { result ≡ is_opposed group.now word.now }
+{
+    match word {
+        "ascending" => group.has_bare("descending"),
+        "descending" => group.has_bare("ascending"),
+        _ => false,
+    }
 }
 
 fn take_argument(
@@ -198,6 +216,10 @@ fn take_text(
         }
         ArgumentForm::Expression => {
             group.set_test(Expression::read(alloc, word)?);
+            Ok(())
+        }
+        ArgumentForm::Assignments => {
+            group.set_assigns(Assignments::read(alloc, word)?);
             Ok(())
         }
         _ => Ok(()),

@@ -239,17 +239,18 @@ fn take_command(
     };
     let mut group = Group::new(alloc, so_far.reads_standard());
     take_words(alloc, places, &row.form, &mut group, number + 1, rest)?;
-    finish(alloc, so_far, row.keyword, number, &mut group)
+    finish(alloc, places, so_far, row.keyword, number, &mut group)
 }
 
 fn finish(
     alloc: Global,
+    places: u8,
     so_far: &mut SoFar,
     keyword: Keyword,
     number: u32,
     group: &mut Group,
 ) -> Result<(), WordFault>
-    ensures exact { Turns (finished so_far.old keyword number group.old) so_far.new result }
+    ensures exact { Turns (finished places so_far.old keyword number group.old) so_far.new result }
 {
     if lacks_argument(keyword, group) {
         return Err(bad(number, WordWhy::MissingArgument));
@@ -257,6 +258,6 @@ fn finish(
     if lacks_form(keyword, group) {
         return Err(bad(group.first_number(), WordWhy::UnsupportedFile));
     }
-    so_far.add(alloc, keyword, group)?;
+    so_far.add(alloc, places, keyword, group)?;
     Ok(())
 }

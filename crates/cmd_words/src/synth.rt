@@ -1,11 +1,12 @@
-ghost use Rattle.std.specs.Prelude.{◌≡◌, ◌≤◌, IfOk, IfSome};
-ghost use Rattle.std.specs.Str.{all_ascii_digits};
+ghost use Rattle.std.specs.Prelude.{◌≡◌, IfOk};
 ghost use Rattle.cmd_words.specs.Limits.{KeepsLimits};
-ghost use Rattle.cmd_words.specs.Words.{number_in, read_seed, read_synth};
+ghost use Rattle.cmd_words.specs.Quantities.{number_in};
+ghost use Rattle.cmd_words.specs.Words.{read_seed, read_synth};
 ghost use Rattle.cmd_words.specs.Tells.{Tells, FitsJob};
 
 use crate::fault::{WordFault, WordWhy};
 use crate::job::Job;
+use crate::quantities::number_in;
 use io_core::Text;
 
 /// Reads the words behind `synth`: a seed and a size, in decimal digits.
@@ -43,44 +44,4 @@ fn read_numbers(seed: &str, size: &str) -> Result<Job, WordFault>
         });
     };
     Ok(Job::Synth { seed, n })
-}
-
-fn number_in(low: u32, high: u32, digits: &str) -> Option<u32>
-    ensures exact { result ≡ number_in low high digits.now }
-    ensures range { IfSome result (λ n. (low ≤ n) × (n ≤ high)) }
-{
-    let n = number_of(digits)?;
-    if n < low {
-        return None;
-    }
-    if high < n {
-        return None;
-    }
-    Some(n)
-}
-
-fn number_of(digits: &str) -> Option<u32>
-    ensures exact { result ≡ number_in 0 4294967295 digits.now }
-{
-    if digits.is_empty() {
-        return None;
-    }
-    if !are_digits(digits.as_bytes()) {
-        return None;
-    }
-    match digits.parse::<u32>() {
-        Ok(n) => Some(n),
-        Err(_) => None,
-    }
-}
-
-fn are_digits(text: &[u8]) -> bool
-    ensures exact { result ≡ all_ascii_digits text.now }
-{
-    for byte in text {
-        if !byte.is_ascii_digit() {
-            return false;
-        }
-    }
-    true
 }

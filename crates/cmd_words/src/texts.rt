@@ -1,8 +1,8 @@
 ghost use Rattle.std.specs.Prelude.{◌≡◌, IfOk, option_map};
 ghost use Rattle.cmd_words.specs.Texts.{pieces, has_empty_piece, at_first_equals, is_option, option_in, is_command, is_standard, ends_in, form_by_ending, names_file};
-ghost use Rattle.cmd_words.specs.Seen.{parts_seen};
+ghost use Rattle.cmd_words.specs.Seen.{form_seen, parts_seen};
 
-use crate::commands::ArgumentForm;
+use crate::commands::{ArgumentForm, GroupForm};
 use crate::job::OutForm;
 use io_core::{NameList, Text};
 use std::alloc::{AllocError, Global};
@@ -41,25 +41,25 @@ pub(crate) fn at_first_equals(word: &str) -> Option<(&str, &str)>
     word.split_once('=')
 }
 
-/// The name and the value of a word that is an option. Between expressions only `name=` and `target=`
-/// without a further `=` are options, and between renames only `target=`.
-pub(crate) fn option_in(argument: ArgumentForm, word: &str) -> Option<(&str, &str)>
-    ensures exact { parts_seen result ≡ option_in argument word.now }
+/// The name and the value of a word that is an option. Where an expression or assignments stand, only the
+/// command's own options without a further `=` are options, and between renames only its own.
+pub(crate) fn option_in<'a>(form: &GroupForm, word: &'a str) -> Option<(&'a str, &'a str)>
+    ensures exact { parts_seen result ≡ option_in (form_seen form.now) word.now }
 {
     match word.split_once('=') {
-        Some((name, value)) if is_option(argument, name, value) => Some((name, value)),
+        Some((name, value)) if is_option(form, name, value) => Some((name, value)),
         _ => None,
     }
 }
 
-fn is_option(argument: ArgumentForm, name: &str, value: &str) -> bool
-    ensures exact { result ≡ is_option argument (name.now, value.now) }
+fn is_option(form: &GroupForm, name: &str, value: &str) -> bool
+    ensures exact { result ≡ is_option (form_seen form.now) (name.now, value.now) }
 {
-    match argument {
-        ArgumentForm::Expression => {
-            (name == "name" || name == "target") && !value.starts_with('=')
+    match form.argument {
+        ArgumentForm::Expression | ArgumentForm::Assignments => {
+            form.value_form(name).is_some() && !value.starts_with('=')
         }
-        ArgumentForm::Renames => name == "target",
+        ArgumentForm::Renames => form.value_form(name).is_some(),
         _ => true,
     }
 }

@@ -1,4 +1,4 @@
-ghost use Rattle.std.specs.Prelude.{◌≡◌, ◌++◌, ◌∷◌, [], OnOk, IfOk, None, Some, is_some, ◌||◌, map};
+ghost use Rattle.std.specs.Prelude.{◌≡◌, ◌++◌, ◌∷◌, [], OnOk, IfOk, None, Some, is_some, unwrap_or, true, ◌||◌, map};
 ghost use Rattle.std.specs.Option.{option_copied};
 ghost use Rattle.cmd_words.specs.Rows.{has_name};
 ghost use Rattle.cmd_words.specs.Settings.{value_named};
@@ -6,7 +6,7 @@ ghost use Rattle.cmd_words.specs.Words.{import_source};
 
 use crate::actions::list_or_empty;
 use crate::chain_lists::SourceList;
-use crate::expressions::Expression;
+use crate::expressions::{Assignments, Expression};
 use crate::job::{Owner, SourceWord};
 use crate::texts::is_standard;
 use grid_base::Rect;
@@ -41,6 +41,7 @@ pub(crate) struct Group {
     area: Option<Rect>,
     renames: RenameList,
     test: Option<Expression>,
+    assigns: Option<Assignments>,
 }
 
 impl Model for Group {
@@ -48,7 +49,7 @@ impl Model for Group {
 
     ghost Value = { Words };
 
-    ghost view = { λ g. record { arguments = g.arguments.items; options = g.options.items; bare = g.bare; reads_standard = g.reads_standard; area = g.area; renames = g.renames; test = g.test } };
+    ghost view = { λ g. record { arguments = g.arguments.items; options = g.options.items; bare = g.bare; reads_standard = g.reads_standard; area = g.area; renames = g.renames; test = g.test; assigns = g.assigns } };
 }
 
 impl Group {
@@ -66,6 +67,7 @@ impl Group {
             area: None,
             renames: RenameList::new(alloc),
             test: None,
+            assigns: None,
         }
     }
 
@@ -124,6 +126,18 @@ impl Group {
         ensures exact { result ≡ self.now.area }
     {
         self.area
+    }
+
+    pub(crate) fn has_test(&self) -> bool
+        ensures exact { result ≡ is_some self.now.test }
+    {
+        self.test.is_some()
+    }
+
+    pub(crate) fn has_assigns(&self) -> bool
+        ensures exact { result ≡ is_some self.now.assigns }
+    {
+        self.assigns.is_some()
     }
 
     /// The sources of an import.
@@ -192,6 +206,12 @@ impl Group {
         self.test = Some(test);
     }
 
+    pub(crate) fn set_assigns(&mut self, assigns: Assignments)
+        ensures exact { self.new ≡ record self.old { assigns = Some assigns } }
+    {
+        self.assigns = Some(assigns);
+    }
+
     pub(crate) fn take_renames(&mut self, alloc: Global) -> RenameList
         ensures exact { result ≡ self.old.renames }
         ensures after { self.new ≡ record self.old { renames = [] } }
@@ -205,6 +225,22 @@ impl Group {
         ensures after { self.new ≡ record self.old { test = None } }
     {
         self.test.take()
+    }
+
+    /// The expression of a group that has one.
+    pub(crate) fn take_key(&mut self) -> Expression
+        requires { is_some self.old.test ≡ true }
+        ensures exact { result ≡ unwrap_or self.old.test [] }
+    {
+        self.test.take().unwrap()
+    }
+
+    /// The assignments of a group that has them.
+    pub(crate) fn take_assigns(&mut self) -> Assignments
+        requires { is_some self.old.assigns ≡ true }
+        ensures exact { result ≡ unwrap_or self.old.assigns [] }
+    {
+        self.assigns.take().unwrap()
     }
 }
 
