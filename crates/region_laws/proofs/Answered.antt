@@ -95,7 +95,7 @@ areas_are_told d arcs faces label walked set rising inner r follows A sides = ar
 -- ---- clean
 
 -- both definitions of rank say the same
-ranks_alike : (rule : OverlapRule) (area : ℕ → ℤ) (n : ℕ) → (λ (m : ℕ). ranks_before rule m (area m) n (area n)) ≡ (λ (m : ℕ). model.ranks_before rule m (area m) n (area n))
+ranks_alike : (rule : OverlapRule) (area : ℕ → ℤ) (n : ℕ) → ◌≡◌ {A = ℕ → Bool} (λ m. ranks_before rule m (area m) n (area n)) (λ m. model.ranks_before rule m (area m) n (area n))
 ranks_alike MinId area n = refl
 ranks_alike MaxId area n = refl
 ranks_alike MinArea area n = refl
@@ -129,7 +129,7 @@ nil_or_not [] = inl refl
 nil_or_not (x ∷ xs) = inr (λ e. absurd (cc))
 
 -- one bound
-one_bound : (a b : ℕ) → ((j : ℕ) → j < a → j < b) → ((j : ℕ) → j < b → j < a) → a ≡ b
+pub one_bound : (a b : ℕ) → ((j : ℕ) → j < a → j < b) → ((j : ℕ) → j < b → j < a) → a ≡ b
 one_bound a b to from = elim (cases_lt a b) [
   | inl l ↦ absurd (let m = from a l in omega arith)
   | inr l ↦ elim (cases_lt b a) [ inl k ↦ absurd (let m = to b k in omega arith) | inr k ↦ omega arith ]
