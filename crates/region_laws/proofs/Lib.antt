@@ -15,3 +15,4 @@ pub mod Prints
 pub mod OnePart
 pub mod TieLaws
 pub mod Answered
+pub mod Fitting

@@ -1,8 +1,9 @@
 -- What commands ask of regions, answered from the sets of faces that follow them.
-use Rattle.std.specs.Prelude.{◌≡◌, ◌↔◌, ℕ, ◌<◌, Bool, true, nat_lt, List, [], All, length, slice_index_or}
+use Rattle.std.specs.Prelude.{◌≡◌, ◌↔◌, ℕ, ◌<◌, Bool, true, nat_lt, List, [], All, length, map, slice_index_or}
 use Rattle.std.specs.List.Sorted.{IsStrictlyIncreasing}
 use Rattle.lists.specs.Lists.{ascending, joined_up}
 use Rattle.plane_model.specs.Points.{Segment, Path}
+use Rattle.plane_model.specs.Arcs.{SignedArc}
 use Rattle.plane_model.specs.Drawing.{Drawing}
 use Rattle.plane_model.specs.Snapped.{links_of, snapped}
 use Rattle.plane_faces.specs.Places.{Place}
@@ -10,12 +11,16 @@ use Rattle.grid_base.specs.declared.kinds.OverlapRule.{OverlapRule}
 use Rattle.face_walk.specs.Places.{FaceTable}
 use Rattle.ring_trace.specs.Joined.{AreParts}
 use Rattle.ring_trace.specs.Sets.{IsSetOf}
+use Rattle.ring_trace.specs.Traced.{UsesBoundary}
+use Rattle.ring_trace.specs.Turns.{round_of}
+use Rattle.part_laws.specs.Parts.{AreTraced}
 use Rattle.region_ops.specs.Cleaned.{IsCleaned, area_of}
 use Rattle.region_ops.specs.Exploded.{ArePieces}
 use Rattle.region_model.specs.Region.{Region, any_of, part, Has}
 use Rattle.region_model.specs.Answers as answers
 use Rattle.region_model.specs.Answers.{Plane, Answers, AreSides, HasSome, PointsOf, is_empty}
 use Rattle.region_model.specs.PolygonCommands.{cleaned, exploded}
+use Rattle.region_model.specs.Printed.{Fits}
 use Rattle.region_laws.specs.Regions.{Follows, FollowEach}
 use Rattle.region_laws.specs.Followed.{IsWalked}
 
@@ -68,3 +73,11 @@ abbrev pub ExplodedAsTold : Type 0
 ExplodedAsTold = (d : Drawing) (arcs : List Path) (faces : FaceTable) (label : Place → ℕ) → IsWalked d arcs faces label → (set : List ℕ) → IsSetOf faces set → (r : Region) → Follows (snapped d) arcs label set r →
     (A : Answers) → TellSides (plane_with d arcs) A r → ((j : ℕ) → (j < A.parts r) ↔ HasSome (plane_with d arcs) (part r j)) → (pieces : List (List ℕ)) → ArePieces faces set pieces →
     FollowInOrder (snapped d) arcs label pieces (exploded (plane_with d arcs) A r)
+
+-- What is traced for the set of a region fits the region, part by part: all rings use its boundary once and those of a polygon that of a part, each passes
+-- each of its vertices once, an exterior stands first and turns left, holes turn right and stand in order, and each ring begins where its least arc does.
+abbrev pub TracesFit : Type 0
+TracesFit = (d : Drawing) (arcs : List Path) (faces : FaceTable) (label : Place → ℕ) → IsWalked d arcs faces label → (set : List ℕ) (parts : List (List ℕ)) (polygons : List (List (List SignedArc))) →
+    AreTraced arcs faces set parts polygons → UsesBoundary faces.places (length arcs) set polygons → (r : Region) → Follows (snapped d) arcs label set r → (A : Answers) → TellSides (plane_with d arcs) A r →
+    ((j : ℕ) → j < length parts → TellSides (plane_with d arcs) A (part r j)) → ((j : ℕ) → (j < A.parts r) ↔ HasSome (plane_with d arcs) (part r j)) →
+    Fits (plane_with d arcs) A r (map (map (round_of arcs)) polygons)

@@ -16,7 +16,7 @@
 //! in `specs/Followed.antt`, `specs/Printed.antt`, `specs/Ties.antt` and `specs/Answered.antt`.
 #![tactic(auto)]
 
-ghost use Rattle.region_laws.specs.Answered.{AreasAreTold, CleanedAsTold, EmptinessIsTold, ExplodedAsTold, LayersAreFollowed, PartsAreTold, SidesAreTold};
+ghost use Rattle.region_laws.specs.Answered.{AreasAreTold, CleanedAsTold, EmptinessIsTold, ExplodedAsTold, LayersAreFollowed, PartsAreTold, SidesAreTold, TracesFit};
 ghost use Rattle.region_laws.specs.Followed.{
   AreasAreThoseOfRegions,
   BoxesAreFollowed,
@@ -187,4 +187,9 @@ pub fn parts_are_told()
 /// The pieces of a set, its parts or itself where it has no faces, are in order those that explode makes of its region.
 pub fn exploded_as_told()
     ensures { ExplodedAsTold }
+{}
+
+/// What `trace` answers for the set of a region fits the region part by part, as printed polygons have to.
+pub fn traces_fit()
+    ensures { TracesFit }
 {}
