@@ -115,7 +115,14 @@ def clean(state, size, scale):
     words = ["-clean"]
     if state.draw.random() < 0.7:
         words.append("overlap-rule=" + state.draw.choice(("min-id", "max-id", "min-area", "max-area")))
+    if state.draw.random() < 0.3:
+        words.append("gap-fill-area=" + state.draw.choice(("0", "0.5", "1e1", "100")))
     return words + (["allow-empty"] if state.draw.random() < 0.3 else [])
+
+
+def islands(state, size, scale):
+    words = ["-filter-islands", state.draw.choice(("min-area=1", "min-area=0.25", "min-vertices=4", "min-vertices=6"))]
+    return words + (["remove-empty"] if state.draw.random() < 0.5 else [])
 
 
 def mosaic(state, size, scale):
@@ -152,9 +159,31 @@ def keep_rows(state, size, scale):
     if name is None or state.draw.random() < 0.2:
         return ["-filter", state.draw.choice(("this.id < 3", "this.id != 0", "true"))]
     pattern = state.draw.choice(EXPRESSIONS[state.columns[name]])
-    words = ["-filter", pattern.replace("%s", 'this.properties["%s"]' % name)]
+    words = ["-filter", pattern.replace("%s", column(name))]
     return words + (["invert"] if state.draw.random() < 0.2 else []) \
         + (["remove-empty"] if state.kind != "table" and state.draw.random() < 0.2 else [])
+
+
+def column(name):
+    return 'this.properties["%s"]' % name
+
+
+def calculate(state, size, scale):
+    old, new = state.pick(("whole", "number")), "d%d" % state.draw.randrange(1000)
+    if old is None or new in state.columns:
+        return ["-each", "e = this.id; e = e * 2"] if state.columns.setdefault("e", "whole") == "whole" else None
+    state.columns[new] = "number"
+    return ["-each", "%s = %s === null ? null : %s * 2.5" % (new, column(old), column(old))]
+
+
+def order_or_thin(state, size, scale):
+    name = state.pick()
+    if name is None:
+        return None
+    if state.draw.random() < 0.5:
+        return ["-sort", column(name)] + state.draw.choice(([], ["ascending"], ["descending"]))
+    return ["-uniq", column(name), "max-count=%d" % state.draw.randrange(1, 3)] \
+        + (["invert"] if state.draw.random() < 0.3 else [])
 
 
 def keep_columns(state, size, scale):
@@ -178,9 +207,9 @@ def split_and_merge(state, size, scale):
     return ["-split"] + ([name] if name else []) + ["-merge-layers"]
 
 
-ANY_KIND = (keep_rows, keep_columns, rename, join, dissolve, split_and_merge)
+ANY_KIND = (keep_rows, keep_columns, calculate, order_or_thin, rename, join, dissolve, split_and_merge)
 BY_KIND = {
-    "polygon": (clip, clip, clip, clean, clean, mosaic, inner_lines, lines, explode, dissolve) + ANY_KIND,
+    "polygon": (clip, clip, clip, clean, clean, islands, mosaic, inner_lines, lines, explode, dissolve) + ANY_KIND,
     "line": (clip, clip, explode) + ANY_KIND,
     "point": (clip, clip, explode) + ANY_KIND,
     "table": ANY_KIND,

@@ -8,11 +8,14 @@ _ms_cli_words() {
     import) echo "precision= string-fields= combine-files" ;;
     -clip | -erase) echo "bbox= $made" ;;
     -dissolve) echo "sum-fields= copy-fields= group-points $made" ;;
-    -clean) echo "overlap-rule= allow-empty $made" ;;
+    -clean) echo "overlap-rule= gap-fill-area= allow-empty $made" ;;
+    -filter-islands) echo "min-area= min-vertices= remove-empty $made" ;;
     -mosaic | -innerlines | -explode | -lines) echo "$made" ;;
     -join) echo "keys= fields= where= prefix= string-fields= force target=" ;;
     -filter) echo "invert remove-empty $made" ;;
-    -filter-fields | -rename-fields) echo "target=" ;;
+    -uniq) echo "max-count= invert $made" ;;
+    -sort) echo "ascending descending target=" ;;
+    -each | -filter-fields | -rename-fields) echo "target=" ;;
     -split) echo "target= +" ;;
     -merge-layers) echo "force $made" ;;
     -o) echo "format= force target=" ;;
@@ -27,8 +30,8 @@ _ms_cli_values() {
   esac
 }
 
-_ms_cli_commands="-clip -erase -dissolve -clean -mosaic -innerlines -lines -explode -join -filter -filter-fields
-  -rename-fields -split -merge-layers -o"
+_ms_cli_commands="-clip -erase -dissolve -clean -mosaic -innerlines -lines -explode -filter-islands -join -filter
+  -each -sort -uniq -filter-fields -rename-fields -split -merge-layers -o"
 
 # Adds the files whose names end as those that ms_cli reads and writes, and folders.
 _ms_cli_files() {

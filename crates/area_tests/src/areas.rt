@@ -52,6 +52,24 @@ pub fn add_area(drawing: &mut Drawing, exterior: PtList) -> Result<(), AllocErro
     drawing.add_ring(exterior)
 }
 
+/// Adds a feature of one polygon with this exterior and this hole.
+#[tactic(auto, using(crate::proofs::Last::polygon_added, crate::proofs::Last::polygon_kept))]
+pub fn add_holed_area(
+    drawing: &mut Drawing,
+    exterior: PtList,
+    hole: PtList,
+) -> Result<(), AllocError>
+    requires some { exterior ≢ [] }
+    requires closed { IsClosed exterior }
+    requires some_hole { hole ≢ [] }
+    requires closed_hole { IsClosed hole }
+{
+    drawing.add_feature(Kind::Polygon)?;
+    drawing.add_polygon()?;
+    drawing.add_ring(exterior)?;
+    drawing.add_ring(hole)
+}
+
 /// Adds a feature of the rectangle between two corners, gone round counterclockwise from the first.
 pub fn add_rectangle(alloc: Global, drawing: &mut Drawing, low: Pt, high: Pt) -> Result<(), Fail> {
     let right = corner(high.x(), low.y())?;

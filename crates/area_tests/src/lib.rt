@@ -9,6 +9,8 @@ mod areas;
 #[cfg(test)]
 mod cut_tests;
 #[cfg(test)]
+mod gap_tests;
+#[cfg(test)]
 mod laid;
 #[cfg(test)]
 mod looks;

@@ -33,7 +33,8 @@ fn cleaned(
     places: &[(i64, i64)],
 ) -> Result<bool, Fail> {
     let laid = squares(alloc)?;
-    let sets = clean_sets(alloc, &laid.faces, &features(alloc, &laid, 2)?, rule)?;
+    let old = features(alloc, &laid, 2)?;
+    let sets = clean_sets(alloc, &laid.arcs, &laid.faces, &old, rule, 0)?;
     let outline = outline_of(alloc, &laid, &sets, number)?;
     Ok(is_single(&outline, &laid, places))
 }
@@ -86,7 +87,8 @@ fn second_of_equal_squares_is_left_nothing(rt: HostRuntime) -> Result<(), Fail> 
     add_rectangle(alloc, &mut drawing, corner(0, 0)?, corner(4, 4)?)?;
     let laid = laid_out(alloc, &drawing)?;
     let sets = features(alloc, &laid, 2)?;
-    let cleaned = clean_sets(alloc, &laid.faces, &sets, OverlapRule::MaxArea)?;
+    let rule = OverlapRule::MaxArea;
+    let cleaned = clean_sets(alloc, &laid.arcs, &laid.faces, &sets, rule, 0)?;
     assert_eq!(rt; size_of(&cleaned, 0), 1);
     assert_eq!(rt; size_of(&cleaned, 1), 0);
     Ok(())

@@ -1,7 +1,6 @@
--- Areas, boundaries and lists of sets, one more at a time.
-use Rattle.std.proofs.Common.{◌≡◌, refl, sym, ap, ◌∙◌, subst, inl, inr, arith, ℕ, ◌+◌, ◌<◌, Bool, true, false, cond, not, ◌&&◌, ℤ, pos, ◌+ℤ◌, List, [], ◌∷◌, ◌++◌, length, get_or, take, filter, All, Some, append-nil, append_assoc}
+-- Boundaries and lists of sets, one more at a time.
+use Rattle.std.proofs.Common.{◌≡◌, refl, sym, ap, ◌∙◌, subst, inl, inr, arith, ℕ, ◌+◌, ◌<◌, Bool, true, false, cond, not, ◌&&◌, List, [], ◌∷◌, ◌++◌, length, get_or, take, filter, All, Some, append-nil, append_assoc}
 use Rattle.std.specs.List.{slice_get, flat_map}
-use Rattle.std.proofs.Math.IntN.{+ℤ_comm, +ℤ_assoc}
 use Rattle.std.proofs.lemmas.Bool.{cases_lt}
 use Rattle.std.proofs.lemmas.List.{get_or_append_left, get_or_default, get_or_push, take_more, length_push}
 use Rattle.std.proofs.lemmas.List.Concat.{flat_map-append}
@@ -12,20 +11,7 @@ use Rattle.plane_model.specs.Points.{Path}
 use Rattle.plane_model.specs.Arcs.{SignedArc}
 use Rattle.face_walk.specs.Places.{FaceTable, face_left_of, place_of}
 use Rattle.ring_trace.specs.Boundary.{face_right_of, other_way}
-use Rattle.calc_ops.specs.Islands.{area_of, is_island, mainland, set_at, IsWithoutIslands, AreWithoutIslands}
-
--- ---- areas
-
-area_pushed : (areas : List ℤ) (xs : List ℕ) (k : ℕ) → area_of areas (xs ++ k ∷ []) ≡ area_of areas xs +ℤ get_or areas k (pos 0)
-area_pushed areas [] k = +ℤ_comm (get_or areas k (pos 0)) (pos 0)
-area_pushed areas (x ∷ xs) k =
-    ap (λ (a : ℤ). get_or areas x (pos 0) +ℤ a) (area_pushed areas xs k) ∙ sym (+ℤ_assoc (get_or areas x (pos 0)) (area_of areas xs) (get_or areas k (pos 0)))
-
-pub area_more : (areas : List ℤ) (faces : List ℕ) (j k d : ℕ) (a : ℤ) → j < length faces → k ≡ get_or faces j d → slice_get areas k ≡ Some a →
-    area_of areas (take (j + 1) faces) ≡ area_of areas (take j faces) +ℤ a
-area_more areas faces j k d a within is read =
-    ap (area_of areas) (take_more faces j d within ∙ ap (λ (i : ℕ). take j faces ++ i ∷ []) (sym is))
-    ∙ area_pushed areas (take j faces) k ∙ ap (λ (b : ℤ). area_of areas (take j faces) +ℤ b) (get_or_from_slice_get areas k a (pos 0) read)
+use Rattle.calc_ops.specs.Islands.{is_island, mainland, set_at, IsWithoutIslands, AreWithoutIslands}
 
 -- ---- lists that are joined
 

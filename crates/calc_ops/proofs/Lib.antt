@@ -1,3 +1,4 @@
+pub mod EachLemmas
 pub mod SortLemmas
 pub mod EarlyLemmas
 pub mod IslandLemmas

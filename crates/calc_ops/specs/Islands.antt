@@ -1,5 +1,5 @@
 -- Islands: the detached parts of a set of faces that are small, and what is left of the sets of a list without theirs.
-use Rattle.std.specs.Prelude.{◌≡◌, ℕ, ◌-◌, ◌<◌, ◌+ℤ◌, Bool, not, ◌&&◌, ◌||◌, ℤ, pos, int_lt, nat_lt, nat_eq, List, [], ◌∷◌, filter, length, slice_index_or}
+use Rattle.std.specs.Prelude.{◌≡◌, ℕ, ◌-◌, ◌<◌, Bool, not, ◌&&◌, ◌||◌, ℤ, pos, int_lt, nat_lt, nat_eq, List, [], ◌∷◌, filter, length, slice_index_or}
 use Rattle.std.specs.List.{list_all, flat_map, sum_by}
 use Rattle.lists.specs.Lists.{ascending, joined_up, same_list}
 use Rattle.plane_model.specs.Points.{Path}
@@ -8,6 +8,7 @@ use Rattle.face_walk.specs.Places.{FaceTable, face_left_of}
 use Rattle.ring_trace.specs.Boundary.{face_right_of, outward_at}
 use Rattle.ring_trace.specs.Joined.{AreParts}
 use Rattle.ring_trace.specs.Owners.{owners_of}
+use Rattle.ring_trace.specs.Sets.{area_of}
 
 abbrev pub set_at : List (List ℕ) → ℕ → List ℕ
 set_at sets n = slice_index_or sets n []
@@ -31,11 +32,6 @@ links_along arcs a = length (slice_index_or arcs a.arc []) - 1
 
 abbrev pub links_of : List Path → List SignedArc → ℕ
 links_of arcs around = sum_by (links_along arcs) around
-
--- twice the area of the faces together, from twice the area of each face
-abbrev pub area_of : List ℤ → List ℕ → ℤ
-area_of areas [] = pos 0
-area_of areas (k ∷ ks) = slice_index_or areas k (pos 0) +ℤ area_of areas ks
 
 -- below an area, which is doubled, or below a number of links
 abbrev pub is_small : ℕ → ℕ → ℤ → ℕ → Bool

@@ -1,11 +1,11 @@
-ghost use Rattle.std.specs.Prelude.{◌≡◌, ◌<◌, ◌+◌, ◌-◌, ◌+ℤ◌, ◌++◌, ◌∷◌, [], ℕ, List, All, IfOk, OnOk, if◌then◌else◌, int_lt, length, nat_eq, pos, ◌&&◌};
+ghost use Rattle.std.specs.Prelude.{◌≡◌, ◌<◌, ◌+◌, ◌-◌, ◌++◌, ◌∷◌, [], ℕ, List, All, IfOk, OnOk, if◌then◌else◌, int_lt, length, nat_eq, pos, ◌&&◌};
 ghost use Rattle.lists.specs.Lists.{same_list};
 ghost use Rattle.plane_model.specs.Points.{Path};
 ghost use Rattle.face_walk.specs.Places.{HasArc, IsBuiltOf, face_left_of};
 ghost use Rattle.ring_trace.specs.Boundary.{is_outward, outward_at};
 ghost use Rattle.ring_trace.specs.Owners.{AreOwners, owners_of};
-ghost use Rattle.ring_trace.specs.Sets.{IsSetOf};
-ghost use Rattle.calc_ops.specs.Islands.{AreWithoutIslands, IsWithoutIslands, area_of, border, is_detached, is_island, is_small, links_of, stands_alone};
+ghost use Rattle.ring_trace.specs.Sets.{IsSetOf, area_of};
+ghost use Rattle.calc_ops.specs.Islands.{AreWithoutIslands, IsWithoutIslands, border, is_detached, is_island, is_small, links_of, stands_alone};
 
 use arc_table::ArcTable;
 use face_walk::Faces;
@@ -224,7 +224,7 @@ fn is_small(
     requires there { All (λ a. a.arc < length t.now) around.now }
     ensures exact { IfOk result (λ small. small ≡ is_small least.area least.links (area_of f.now.areas piece.now) (links_of t.now around.now)) }
 {
-    if is_less(twice_area(f, piece.faces())?, least.area) {
+    if is_less(piece.twice_area(f)?, least.area) {
         return Ok(true);
     }
     Ok(links_of(t, around)? < u64::from(least.links))
@@ -237,24 +237,6 @@ fn is_less(area: i128, least: u128) -> bool
         Ok(area) => area < least,
         Err(_) => true,
     }
-}
-
-/// Twice the area of the faces together.
-fn twice_area(f: &Faces, faces: &[FaceId]) -> Result<i128, AllocError>
-    requires faces { IsSetOf f.now faces.now }
-    ensures exact { IfOk result (λ area. area ≡ area_of f.now.areas faces.now) }
-{
-    let mut sum = 0i128;
-    for face in faces {
-        sum = added(sum, f.twice_area(*face))?;
-    }
-    Ok(sum)
-}
-
-fn added(sum: i128, area: i128) -> Result<i128, AllocError>
-    ensures exact { IfOk result (λ more. more ≡ sum +ℤ area) }
-{
-    sum.checked_add(area).ok_or(AllocError)
 }
 
 /// How many links a boundary has.

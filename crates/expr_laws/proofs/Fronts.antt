@@ -1,13 +1,13 @@
--- Fronts of expressions at each place of the machine: what was read there, and what is open around it.
+-- Fronts of whole texts at each place of the machine: what was read there, and what is open around it.
 use Rattle.std.proofs.Common.{ℕ, suc, ◌≡◌, ◌+◌, List, [], ◌∷◌, ◌++◌, codes, refl, ap, ◌∙◌, sym, subst, append_assoc, arith}
 use Rattle.expr_lang.specs.declared.token.Mark.TheVariants as mark
 use Rattle.expr_lang.specs.declared.token.Token.TheVariants as token
-use Rattle.expr_lang.specs.Tree.{column, feature_number}
+use Rattle.expr_lang.specs.Tree.{Assigned, column, feature_number}
 use Rattle.expr_lang.specs.Grammar.{Placed, Toks, Cond, atom, leaf, this_id, this_property}
-use Rattle.expr_lang.specs.Machine.{Place, Open, levels, operand, operator, behind_this, behind_dot, behind_properties, behind_bracket, behind_name, in_parentheses, first_branch, last_branch}
-use Rattle.expr_lang.specs.Stuck.{GoesOn}
+use Rattle.expr_lang.specs.Machine.{Place, Open, levels, operand, operator, behind_this, behind_dot, behind_properties, behind_bracket, behind_name, first_target, next_target, behind_target, in_parentheses, first_branch, last_branch, assigned_value}
+use Rattle.expr_lang.proofs.Assignments.{Ended, nothing_yet, target, sets}
 use Rattle.expr_lang.proofs.Parts.{append_nil}
-use Rattle.expr_laws.proofs.Trees.{Condition, Operands, Operand, condition_of, operands_of}
+use Rattle.expr_laws.proofs.Trees.{Condition, Goes, Kind, Operands, Operand, Text, assigned_text, assignments, condition_of, expression, operands_of}
 
 -- with an operand of b levels behind them, the tokens are operands of c levels
 abbrev pub Begins : ℕ → ℕ → Toks → Type 0
@@ -26,14 +26,16 @@ abbrev pub Continues : ℕ → ℕ → Toks → Type 0
 Continues c d q = (s : Toks) → Condition d s → Condition c (q ++ s)
 
 -- a front of a text of n levels, behind which a condition of d levels stands, by what is open there
-pub data Opened (n : ℕ) : List Open → ℕ → Toks → Type 0 where
-  nothing : {d : ℕ} {front : Toks} → d ≡ n → front ≡ [] → Opened n [] d front
-  inside : {m c d : ℕ} {k : List Open} {base front : Toks} (q : Toks)
-      → Opened n k c base → c ≡ suc (m + d) → front ≡ base ++ q → Encloses c d q → Opened n (in_parentheses m ∷ k) d front
-  first : {c d : ℕ} {k : List Open} {base front : Toks} (q : Toks)
-      → Opened n k c base → c ≡ suc d → front ≡ base ++ q → Chooses c d q → Opened n (first_branch ∷ k) d front
-  last : {c d : ℕ} {k : List Open} {base front : Toks} (q : Toks)
-      → Opened n k c base → c ≡ suc d → front ≡ base ++ q → Continues c d q → Opened n (last_branch ∷ k) d front
+pub data Opened (n : ℕ) : Kind → List Open → ℕ → Toks → Type 0 where
+  nothing : {d : ℕ} {front : Toks} → d ≡ n → front ≡ [] → Opened n expression [] d front
+  value : {d : ℕ} {front : Toks} (at b : ℕ) (name : List ℕ) (u : Toks) (xs : List Assigned)
+      → d ≡ n → front ≡ u ++ target at name ∷ sets b ∷ [] → Ended n u xs → Opened n assignments (assigned_value ∷ []) d front
+  inside : {m c d : ℕ} {k : List Open} {base front : Toks} {g : Kind} (q : Toks)
+      → Opened n g k c base → c ≡ suc (m + d) → front ≡ base ++ q → Encloses c d q → Opened n g (in_parentheses m ∷ k) d front
+  first : {c d : ℕ} {k : List Open} {base front : Toks} {g : Kind} (q : Toks)
+      → Opened n g k c base → c ≡ suc d → front ≡ base ++ q → Chooses c d q → Opened n g (first_branch ∷ k) d front
+  last : {c d : ℕ} {k : List Open} {base front : Toks} {g : Kind} (q : Toks)
+      → Opened n g k c base → c ≡ suc d → front ≡ base ++ q → Continues c d q → Opened n g (last_branch ∷ k) d front
 
 abbrev pub this : ℕ → Placed
 this at = (at, token.This)
@@ -62,21 +64,26 @@ pub data Member : Place → Toks → Type 0 where
   a_name : (at b c d e : ℕ) (s : List ℕ) → Member behind_name (this at ∷ dot b ∷ properties c ∷ bracket d ∷ (e, token.Text s) ∷ [])
 
 -- a front of a text of n levels, at a place
-pub data At (n : ℕ) : Place → List Open → Toks → Type 0 where
-  at_operand : {m b c : ℕ} {k : List Open} {base front : Toks} (p : Toks)
-      → Opened n k c base → c ≡ m + b → front ≡ base ++ p → Begins c b p → At n (operand m) k front
-  at_operator : {c : ℕ} {k : List Open} {base front : Toks} (s : Toks)
-      → Opened n k c base → front ≡ base ++ s → Operands c s → At n operator k front
-  at_member : {b c : ℕ} {k : List Open} {base front : Toks} (place : Place) (p w : Toks)
-      → Opened n k c base → front ≡ base ++ (p ++ w) → Begins c b p → Member place w → At n place k front
+pub data At (n : ℕ) : Kind → Place → List Open → Toks → Type 0 where
+  at_operand : {m b c : ℕ} {k : List Open} {base front : Toks} {g : Kind} (p : Toks)
+      → Opened n g k c base → c ≡ m + b → front ≡ base ++ p → Begins c b p → At n g (operand m) k front
+  at_operator : {c : ℕ} {k : List Open} {base front : Toks} {g : Kind} (s : Toks)
+      → Opened n g k c base → front ≡ base ++ s → Operands c s → At n g operator k front
+  at_member : {b c : ℕ} {k : List Open} {base front : Toks} {g : Kind} (place : Place) (p w : Toks)
+      → Opened n g k c base → front ≡ base ++ (p ++ w) → Begins c b p → Member place w → At n g place k front
+  at_first : {front : Toks} → front ≡ [] → At n assignments first_target [] front
+  at_next : {front : Toks} (u : Toks) (xs : List Assigned) → front ≡ u → Ended n u xs → Text assignments n u → At n assignments next_target [] front
+  at_target : {front : Toks} (at : ℕ) (name : List ℕ) (u : Toks) (xs : List Assigned)
+      → front ≡ u ++ target at name ∷ [] → Ended n u xs → At n assignments behind_target [] front
 
-pub levels_are : {n d : ℕ} {k : List Open} {front : Toks} → Opened n k d front → levels k + d ≡ n
+pub levels_are : {n d : ℕ} {k : List Open} {front : Toks} {g : Kind} → Opened n g k d front → levels k + d ≡ n
 levels_are (nothing e f) = omega arith
+levels_are (value at b name u xs e f h) = omega arith
 levels_are (inside q o e f h) = omega (arith, levels_are o)
 levels_are (first q o e f h) = omega (arith, levels_are o)
 levels_are (last q o e f h) = omega (arith, levels_are o)
 
--- ---- each front begins an expression
+-- ---- each front begins a whole text
 
 a_name_there : (b : ℕ) → Operand b ((0, token.Name []) ∷ [])
 a_name_there b = (column 0 [], atom (leaf refl))
@@ -85,30 +92,33 @@ a_branch : (n : ℕ) → Condition n ((0, token.Name []) ∷ [])
 a_branch n = condition_of n ((0, token.Name []) ∷ []) (operands_of n ((0, token.Name []) ∷ []) (a_name_there n))
 
 -- what is open is closed
-pub finished : {n d : ℕ} {k : List Open} {base : Toks} → Opened n k d base → (s : Toks) → Condition d s → (more : Toks) × Condition n ((base ++ s) ++ more)
+pub finished : {n d : ℕ} {k : List Open} {base : Toks} {g : Kind} → Opened n g k d base → (s : Toks) → Condition d s → Goes g n (base ++ s)
 finished {n} (nothing {front = front} e f) s c =
     ([], (c.0, subst (λ (z : Toks). Cond n z c.0) (sym (append_nil (front ++ s) ∙ ap (λ (z : Toks). z ++ s) f)) (subst (λ (x : ℕ). Cond x s c.0) e c.1)))
-finished {n} (inside {c = c} {base = base} {front = front} q o e f h) s cs =
+finished {n} (value {front = front} at b name u xs e f h) s c =
+    let same : u ++ target at name ∷ sets b ∷ s ≡ front ++ s = rw f (simp append_assoc) in
+    ([], subst (Text assignments n) (same ∙ sym (append_nil (front ++ s))) (assigned_text n at b name u s xs h (subst (λ (x : ℕ). Condition x s) e c)))
+finished {n} {g = kind} (inside {c = c} {base = base} {front = front} q o e f h) s cs =
     let text : Toks = q ++ (s ++ (0, token.Mark mark.Close) ∷ []) in
-    let r : (more : Toks) × Condition n ((base ++ text) ++ more) = finished o text (condition_of c text (h s 0 cs)) in
+    let r : Goes kind n (base ++ text) = finished o text (condition_of c text (h s 0 cs)) in
     let same : (base ++ text) ++ r.0 ≡ (front ++ s) ++ (0, token.Mark mark.Close) ∷ r.0 = rw f (simp append_assoc) in
-    ((0, token.Mark mark.Close) ∷ r.0, subst (Condition n) same r.1)
-finished {n} (first {d = d} {base = base} {front = front} q o e f h) s cs =
+    ((0, token.Mark mark.Close) ∷ r.0, subst (Text kind n) same r.1)
+finished {n} {g = kind} (first {d = d} {base = base} {front = front} q o e f h) s cs =
     let branch : Toks = (0, token.Name []) ∷ [] in
     let text : Toks = q ++ (s ++ (0, token.Mark mark.Colon) ∷ branch) in
-    let r : (more : Toks) × Condition n ((base ++ text) ++ more) = finished o text (h s branch 0 cs (a_branch d)) in
+    let r : Goes kind n (base ++ text) = finished o text (h s branch 0 cs (a_branch d)) in
     let same : (base ++ text) ++ r.0 ≡ (front ++ s) ++ (0, token.Mark mark.Colon) ∷ (branch ++ r.0) = rw f (simp append_assoc) in
-    ((0, token.Mark mark.Colon) ∷ (branch ++ r.0), subst (Condition n) same r.1)
-finished {n} (last {base = base} {front = front} q o e f h) s cs =
-    let r : (more : Toks) × Condition n ((base ++ (q ++ s)) ++ more) = finished o (q ++ s) (h s cs) in
+    ((0, token.Mark mark.Colon) ∷ (branch ++ r.0), subst (Text kind n) same r.1)
+finished {n} {g = kind} (last {base = base} {front = front} q o e f h) s cs =
+    let r : Goes kind n (base ++ (q ++ s)) = finished o (q ++ s) (h s cs) in
     let same : (base ++ (q ++ s)) ++ r.0 ≡ (front ++ s) ++ r.0 = rw f (simp append_assoc) in
-    (r.0, subst (Condition n) same r.1)
+    (r.0, subst (Text kind n) same r.1)
 
 -- with operands behind what was open
-operands_finish : {n c : ℕ} {k : List Open} {base : Toks} (front more : Toks) → Opened n k c base → (s : Toks) → Operands c s → base ++ s ≡ front ++ more → GoesOn n front
-operands_finish {n} {c} {base = base} front more o s h e =
-    let r : (rest : Toks) × Condition n ((base ++ s) ++ rest) = finished o s (condition_of c s h) in
-    (more ++ r.0, r.1.0, subst (λ (z : Toks). Cond n z r.1.0) (ap (λ (z : Toks). z ++ r.0) e ∙ append_assoc front more r.0) r.1.1)
+operands_finish : {n c : ℕ} {k : List Open} {base : Toks} {g : Kind} (front more : Toks) → Opened n g k c base → (s : Toks) → Operands c s → base ++ s ≡ front ++ more → Goes g n front
+operands_finish {n} {c} {base = base} {g = kind} front more o s h e =
+    let r : Goes kind n (base ++ s) = finished o s (condition_of c s h) in
+    (more ++ r.0, subst (Text kind n) (ap (λ (z : Toks). z ++ r.0) e ∙ append_assoc front more r.0) r.1)
 
 member_ends : {place : Place} {w : Toks} (b : ℕ) → Member place w → (more : Toks) × Operand b (w ++ more)
 member_ends b (a_this at) = (dot 0 ∷ id 0 ∷ [], (feature_number, atom this_id))
@@ -117,7 +127,7 @@ member_ends b (a_properties at x y) = (bracket 0 ∷ (0, token.Text []) ∷ end 
 member_ends b (a_bracket at x y z) = ((0, token.Text []) ∷ end 0 ∷ [], (column at [], atom this_property))
 member_ends b (a_name at x y z v s) = (end 0 ∷ [], (column at s, atom this_property))
 
-pub goes_on_there : {n : ℕ} {p : Place} {k : List Open} {front : Toks} → At n p k front → GoesOn n front
+pub goes_on_there : {n : ℕ} {p : Place} {k : List Open} {front : Toks} {g : Kind} → At n g p k front → Goes g n front
 goes_on_there (at_operand {b = b} {base = base} {front = front} p o e f h) =
     let branch : Toks = (0, token.Name []) ∷ [] in
     operands_finish front branch o (p ++ branch) (h branch (a_name_there b)) (rw f (simp append_assoc))
@@ -125,3 +135,12 @@ goes_on_there (at_operator {base = base} {front = front} s o f h) = operands_fin
 goes_on_there (at_member {b = b} {base = base} {front = front} place p w o f h m) =
     let r : (more : Toks) × Operand b (w ++ more) = member_ends b m in
     operands_finish front r.0 o (p ++ (w ++ r.0)) (h (w ++ r.0) r.1) (rw f (simp append_assoc))
+goes_on_there {n} (at_first {front = front} f) =
+    let text : Toks = target 0 [] ∷ sets 0 ∷ (0, token.Name []) ∷ [] in
+    let same : [] ++ text ≡ front ++ text = rw f refl in
+    (text, subst (Text assignments n) same (assigned_text n 0 0 [] [] ((0, token.Name []) ∷ []) [] nothing_yet (a_branch n)))
+goes_on_there {n} (at_next {front = front} u xs f h t) = ([], subst (Text assignments n) (sym (append_nil front ∙ f)) t)
+goes_on_there {n} (at_target {front = front} at name u xs f h) =
+    let more : Toks = sets 0 ∷ (0, token.Name []) ∷ [] in
+    let same : u ++ target at name ∷ more ≡ front ++ more = rw f (simp append_assoc) in
+    (more, subst (Text assignments n) same (assigned_text n at 0 name u ((0, token.Name []) ∷ []) xs h (a_branch n)))

@@ -1,13 +1,14 @@
--- Texts of the grammar, whatever their trees, and what joins them.
-use Rattle.std.proofs.Common.{ℕ, zero, suc, ◌≡◌, ◌≤◌, Bool, true, false, ◌∷◌, ◌++◌, refl, sym, subst, append_assoc, arith}
+-- Texts of the grammars, whatever their trees, and what joins them.
+use Rattle.std.proofs.Common.{ℕ, zero, suc, ◌≡◌, ◌≤◌, Bool, true, false, List, [], ◌∷◌, ◌++◌, refl, ap, ◌∙◌, sym, subst, append_assoc, arith}
 use Rattle.std.proofs.lemmas.Bool.Decides.{nat_tests}
 use Rattle.std.specs.Prelude.{nat_lt}
 use Rattle.expr_lang.specs.declared.token.Operator.{Operator}
 use Rattle.expr_lang.specs.declared.token.Mark.TheVariants as mark
 use Rattle.expr_lang.specs.declared.token.Token.TheVariants as token
-use Rattle.expr_lang.specs.Tree.{Tree, binary, choice}
-use Rattle.expr_lang.specs.Grammar.{Toks, Cond, simple, branches, Level, lowest, single, joined, Unary, level_of}
+use Rattle.expr_lang.specs.Tree.{Tree, Assigned, binary, choice}
+use Rattle.expr_lang.specs.Grammar.{Toks, Cond, simple, branches, Level, lowest, single, joined, Unary, level_of, OneAssign, becomes, Assigns, last_assign, ended_assign, more_assigns}
 use Rattle.expr_lang.proofs.Steps.{level-small, level-positive}
+use Rattle.expr_lang.proofs.Assignments.{Ended, nothing_yet, and_one, target, sets, semicolon}
 
 abbrev pub Condition : ℕ → Toks → Type 0
 Condition n s = (e : Tree) × Cond n s e
@@ -53,3 +54,39 @@ operands_on n at o s t h u = let small : level_of o ≤ 6 = omega (arith, level-
 
 pub choice_of : (n at colon : ℕ) (s t u : Toks) → Operands (suc n) s → Condition n t → Condition n u → Condition (suc n) (s ++ (at, token.Mark mark.Question) ∷ (t ++ (colon, token.Mark mark.Colon) ∷ u))
 choice_of n at colon s t u c d e = (choice at c.0 d.0 e.0, branches colon c.1 d.1 e.1)
+
+-- ---- whole texts
+
+-- what a whole text is
+pub data Kind : Type 0 where
+  expression : Kind
+  assignments : Kind
+
+abbrev pub Text : Kind → ℕ → Toks → Type 0
+Text expression n s = Condition n s
+Text assignments n s = (xs : List Assigned) × Assigns n s xs
+
+-- some whole text begins with these tokens
+abbrev pub Goes : Kind → ℕ → Toks → Type 0
+Goes g n s = (more : Toks) × Text g n (s ++ more)
+
+-- assignments behind others, each of which has its semicolon
+pub assigns_behind : {n : ℕ} {s : Toks} {xs : List Assigned} → Ended n s xs → (u : Toks) (ys : List Assigned) → Assigns n u ys → Assigns n (s ++ u) (xs ++ ys)
+assigns_behind nothing_yet u ys g = g
+assigns_behind {n} (and_one at {s = s} {t = t} {a = a} {xs = xs} h o) u ys g =
+    let joined : s ++ (t ++ semicolon at ∷ u) ≡ (s ++ (t ++ semicolon at ∷ [])) ++ u = sym (append_assoc s (t ++ semicolon at ∷ []) u ∙ ap (λ (z : Toks). s ++ z) (append_assoc t (semicolon at ∷ []) u)) in
+    subst (λ (z : Toks). Assigns n z ((xs ++ a ∷ []) ++ ys)) joined
+    (subst (λ (z : List Assigned). Assigns n (s ++ (t ++ semicolon at ∷ u)) z) (sym (append_assoc xs (a ∷ []) ys)) (assigns_behind h (t ++ semicolon at ∷ u) (a ∷ ys) (more_assigns at o g)))
+
+-- the name, the `=` and the value of an assignment
+pub one_assign : (n at b : ℕ) (name : List ℕ) (s : Toks) (c : Condition n s) → OneAssign n (target at name ∷ sets b ∷ s) (name, c.0)
+one_assign n at b name s c = becomes c.1
+
+-- an assignment behind others is whole
+pub assigned_text : (n at b : ℕ) (name : List ℕ) (u s : Toks) (xs : List Assigned) → Ended n u xs → Condition n s → Text assignments n (u ++ target at name ∷ sets b ∷ s)
+assigned_text n at b name u s xs h c = (xs ++ (name, c.0) ∷ [], assigns_behind h (target at name ∷ sets b ∷ s) ((name, c.0) ∷ []) (last_assign (one_assign n at b name s c)))
+
+-- and so it is with a semicolon behind it
+pub ended_text : (n at b to : ℕ) (name : List ℕ) (u s : Toks) (xs : List Assigned) → Ended n u xs → Condition n s → Text assignments n (u ++ ((target at name ∷ sets b ∷ s) ++ semicolon to ∷ []))
+ended_text n at b to name u s xs h c =
+    (xs ++ (name, c.0) ∷ [], assigns_behind h ((target at name ∷ sets b ∷ s) ++ semicolon to ∷ []) ((name, c.0) ∷ []) (ended_assign to (one_assign n at b name s c)))

@@ -1,15 +1,21 @@
 //! Each text is an expression or has a fault, one of the two and one fault alone: so a text decides by itself whether it
-//! is refused, for what and where.
+//! is refused, for what and where. So it is with assignments.
 //!
 //! Each function carries one law in its contract, and does nothing.
 #![tactic(auto)]
 
 ghost use Rattle.expr_laws.specs.Laws.{
+  AcceptedTokensAreAssignments,
   AcceptedTokensAreExpressions,
   EachTextHasATreeOrAFault,
+  EachTextHasAssignmentsOrAFault,
   EachTextHasOneFault,
+  EachTextHasOneFaultAsAssignments,
+  NoAssignmentsHaveAFault,
   NoFaultIsOfMemory,
+  NoFaultOfAssignmentsIsOfMemory,
   NoTreeHasAFault,
+  StoppedAssignmentsAreStuck,
   StoppedTokensAreStuck,
 };
 
@@ -42,4 +48,35 @@ pub fn accepted_tokens_are_expressions()
 /// the next token is too deep, with any number where it does not fit.
 pub fn stopped_tokens_are_stuck()
     ensures { StoppedTokensAreStuck }
+{}
+
+/// A text is assignments, with their names and trees, or has a fault as such, at its place.
+pub fn each_text_has_assignments_or_a_fault()
+    ensures { EachTextHasAssignmentsOrAFault }
+{}
+
+/// A text that is assignments has no fault as such.
+pub fn no_assignments_have_a_fault()
+    ensures { NoAssignmentsHaveAFault }
+{}
+
+/// A text has one fault at most as assignments.
+pub fn each_text_has_one_fault_as_assignments()
+    ensures { EachTextHasOneFaultAsAssignments }
+{}
+
+/// No text has a lack of memory as its fault.
+pub fn no_fault_of_assignments_is_of_memory()
+    ensures { NoFaultOfAssignmentsIsOfMemory }
+{}
+
+/// Tokens that the machine accepts from the first name on are assignments, whatever the number of levels.
+pub fn accepted_tokens_are_assignments()
+    ensures { AcceptedTokensAreAssignments }
+{}
+
+/// Where the machine stops, the tokens before begin assignments, and no assignments go on: with so many levels where the
+/// next token is too deep, with any number where it does not fit.
+pub fn stopped_assignments_are_stuck()
+    ensures { StoppedAssignmentsAreStuck }
 {}

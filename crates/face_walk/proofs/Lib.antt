@@ -9,6 +9,7 @@ pub mod LinkLemmas
 pub mod SectorLemmas
 pub mod UnderLemmas
 pub mod RayLemmas
+pub mod TreeLemmas
 pub mod CornerLemmas
 pub mod RowLemmas
 pub mod BuiltLemmas

@@ -1,5 +1,5 @@
 -- Going down bucket by bucket: the topmost link so far, and what no link further down can pass.
-use Rattle.std.proofs.Common.{◌≡◌, ◌⊎◌, refl, sym, ap, ◌∙◌, subst, arith, ℕ, ◌<◌, ◌≤◌, Bool, true, false, cond, ◌&&◌, ℤ, pos, negsuc, ◌+ℤ◌, ◌-ℤ◌, ◌*ℤ◌, List, map, length, get_or, Option, Some, None, Contains, All, inl, inr}
+use Rattle.std.proofs.Common.{◌≡◌, ◌⊎◌, refl, sym, ap, ◌∙◌, subst, arith, ℕ, ◌<◌, Bool, true, false, cond, ◌&&◌, ℤ, pos, negsuc, ◌-ℤ◌, List, map, length, get_or, Option, Some, None, Contains, All, inl, inr}
 use Rattle.std.specs.Prelude.{◌<ℤ◌, ◌≤ℤ◌, int_lt, int_le, slice_get}
 use Rattle.std.proofs.lemmas.Int.{ints}
 use Rattle.std.proofs.lemmas.Bool.{and_parts}
@@ -7,11 +7,10 @@ use Rattle.std.proofs.lemmas.List.{length-map, get_or-map}
 use Rattle.std.proofs.lemmas.List.Elements.{All-contains}
 use Rattle.std.proofs.lemmas.Option.{slice_get-get_or}
 use Rattle.bucket_grid.proofs.Numbers.{Contains-numbers_where}
-use Rattle.plane_algebra.proofs.Ring.{ring, ◌⊞◌, ◌⊟◌, ◌⊠◌, num, ◌≐◌}
-use Rattle.plane_algebra.proofs.Sign.{mul-nonneg, mul-nonpos, zero_or_less}
-use Rattle.plane_model.specs.Points.{GridPoint, Segment, at, step_x, turn}
+use Rattle.plane_algebra.proofs.Sign.{zero_or_less}
+use Rattle.plane_model.specs.Points.{GridPoint, at, step_x, turn}
 use Rattle.plane_model.specs.Parity.{is_over, is_below}
-use Rattle.plane_model.specs.Below.{rise, rises, is_under}
+use Rattle.plane_model.specs.Below.{rise, rises}
 use Rattle.grid_base.specs.Grid.{Corners}
 use Rattle.bucket_grid.specs.Areas.{share_point, boxes_near}
 use Rattle.grid_base.specs.Grid.{IsOnGrid, is_on_grid, grid_point}
@@ -21,10 +20,10 @@ use Rattle.face_walk.specs.Descent.{IsNotAbove, IsFound, IsBelowPoint, IsUpper, 
 use Rattle.face_walk.specs.declared.links.ArcLink.{ArcLink}
 use Rattle.face_walk.proofs.UnderLemmas.{le_step, lt_step, under_chain, under_by, not_under_itself, not_both_under, passes_below, not_below}
 
-over_of : (p : GridPoint) (l : ArcLink) → is_below (at p) l.link ≡ true → is_over (at p) l.link ≡ true
+pub over_of : (p : GridPoint) (l : ArcLink) → is_below (at p) l.link ≡ true → is_over (at p) l.link ≡ true
 over_of p l e = (and_parts (is_over (at p) l.link) (int_lt (pos 0) (turn (at l.link.start) (at l.link.stop) (at p))) e).0
 
-turn_of : (p : GridPoint) (l : ArcLink) → is_below (at p) l.link ≡ true → pos 0 <ℤ turn (at l.link.start) (at l.link.stop) (at p)
+pub turn_of : (p : GridPoint) (l : ArcLink) → is_below (at p) l.link ≡ true → pos 0 <ℤ turn (at l.link.start) (at l.link.stop) (at p)
 turn_of p l e = up (turn (at l.link.start) (at l.link.stop) (at p)) (and_parts (is_over (at p) l.link) (int_lt (pos 0) (turn (at l.link.start) (at l.link.stop) (at p))) e).1
   where
     up : (a : ℤ) → int_lt (pos 0) a ≡ true → pos 0 <ℤ a

@@ -3,12 +3,13 @@ use Rattle.std.proofs.Common.{◌≡◌, ◌⊎◌, zero, suc, refl, sym, ap, �
 use Rattle.std.specs.Prelude.{◌<ℤ◌, ◌≤ℤ◌, int_lt, int_le}
 use Rattle.std.proofs.lemmas.Int.{ints}
 use Rattle.std.proofs.lemmas.Bool.{and_parts}
-use Rattle.plane_algebra.proofs.Ring.{ring, ◌⊞◌, ◌⊟◌, ◌⊠◌, num, ◌≐◌}
+use Rattle.plane_algebra.proofs.Ring.{ring, ◌⊞◌, ◌⊟◌, ◌⊠◌, ⊖◌, num, ◌≐◌}
 use Rattle.plane_algebra.proofs.Sign.{mul-positive, mul-nonneg, mul-nonpos, nonneg_of_mul, nonpos_of_mul, zero_or_less}
 use Rattle.plane_algebra.proofs.Tests.{lt_to}
 use Rattle.plane_model.specs.Points.{GridPoint, Segment, at, step_x, turn}
 use Rattle.plane_model.specs.Parity.{is_over}
 use Rattle.plane_model.specs.Below.{rise, rises, is_under, is_zero}
+use Rattle.face_walk.specs.Parting.{later, earlier, runs_over}
 
 -- the determinant of two steps from the start of a link
 pub turn_at : (a b p : GridPoint) → turn (at a) (at b) (at p) ≡ (b.x -ℤ a.x) *ℤ (p.y -ℤ a.y) -ℤ (b.y -ℤ a.y) *ℤ (p.x -ℤ a.x)
@@ -313,7 +314,7 @@ turn_between : (l : Segment) (p : GridPoint) → turn (at l.start) (at l.stop) (
 turn_between l p = turn_at l.start l.stop p ∙ ring 6 (λ ax ay bx by px py. (bx ⊟ ax) ⊠ (py ⊟ ay) ⊟ (by ⊟ ay) ⊠ (px ⊟ ax) ≐ (bx ⊟ px) ⊠ (py ⊟ ay) ⊞ (px ⊟ ax) ⊠ (py ⊟ by)) tt l.start.x l.start.y l.stop.x l.stop.y p.x p.y
 
 -- the abscissa of p is between the ends
-abscissa_within : (p : GridPoint) (l : Segment) → is_over (at p) l ≡ true → (pos 0 <ℤ (l.stop.x -ℤ p.x)) × (pos 0 ≤ℤ (p.x -ℤ l.start.x))
+pub abscissa_within : (p : GridPoint) (l : Segment) → is_over (at p) l ≡ true → (pos 0 <ℤ (l.stop.x -ℤ p.x)) × (pos 0 ≤ℤ (p.x -ℤ l.start.x))
 abscissa_within p l e =
     let both = and_parts (int_le (step_x (at p) (at l.start)) (pos 0)) (int_lt (pos 0) (step_x (at p) (at l.stop))) e in
     let left : int_le l.start.x p.x ≡ true = le_step p l.start ∙ both.0 in ((wide_over p l e).past, from l.start.x p.x left)
@@ -356,3 +357,96 @@ pub rises_level : (h b : ℤ) → h ≤ℤ pos 0 → pos 0 ≤ℤ h → int_lt b
 rises_level (pos zero) b l m = refl
 rises_level (pos (suc n)) b l m = absurd (omega (arith, ints))
 rises_level (negsuc n) b l m = absurd (omega (arith, ints))
+
+-- ---- along two links
+
+-- the rise at another abscissa
+rise_moves : (l k : Segment) (p q : GridPoint) → rise (at q) l k ≡ rise (at p) l k -ℤ (q.x -ℤ p.x) *ℤ steeper l k
+rise_moves l k p q =
+    (λ i. step_at k.start k.stop i *ℤ turn_at l.start l.stop q i -ℤ step_at l.start l.stop i *ℤ turn_at k.start k.stop q i)
+    ∙ ring 12 (λ wl hl wk hk ax ay cx cy px py qx qy.
+    wk ⊠ (wl ⊠ (qy ⊟ ay) ⊟ hl ⊠ (qx ⊟ ax)) ⊟ wl ⊠ (wk ⊠ (qy ⊟ cy) ⊟ hk ⊠ (qx ⊟ cx))
+    ≐ (wk ⊠ (wl ⊠ (py ⊟ ay) ⊟ hl ⊠ (px ⊟ ax)) ⊟ wl ⊠ (wk ⊠ (py ⊟ cy) ⊟ hk ⊠ (px ⊟ cx))) ⊟ (qx ⊟ px) ⊠ (wk ⊠ hl ⊟ wl ⊠ hk))
+    tt (l.stop.x -ℤ l.start.x) (height l) (k.stop.x -ℤ k.start.x) (height k) l.start.x l.start.y k.start.x k.start.y p.x p.y q.x q.y
+    ∙ sym (λ i. (step_at k.start k.stop i *ℤ turn_at l.start l.stop p i -ℤ step_at l.start l.stop i *ℤ turn_at k.start k.stop p i)
+    -ℤ (q.x -ℤ p.x) *ℤ (step_at k.start k.stop i *ℤ height l -ℤ step_at l.start l.stop i *ℤ height k))
+
+-- where l is not lower than k left of an abscissa or there, and right of it, it is not in between
+not_lower_between : (l k : Segment) (p q r : GridPoint) → q.x ≤ℤ p.x → p.x <ℤ r.x → rise (at q) l k ≤ℤ pos 0 → rise (at r) l k ≤ℤ pos 0 → IsNotLower p l k
+not_lower_between l k p q r left right at_left at_right = elim (zero_or_less (steeper l k)) [
+  | inl up ↦ level (rise (at p) l k) (steeper l k) (low (rise (at q) l k) (rise (at p) l k) ((q.x -ℤ p.x) *ℤ steeper l k) ((p.x -ℤ q.x) *ℤ steeper l k) (rise_moves l k p q) (flip q.x p.x (steeper l k)) (mul-nonneg (p.x -ℤ q.x) (steeper l k) (gap q.x p.x left) up) at_left) up
+  | inr down ↦ inl (less (rise (at r) l k) (rise (at p) l k) ((r.x -ℤ p.x) *ℤ steeper l k) (rise_moves l k p r) (times_less (r.x -ℤ p.x) (steeper l k) (wide p.x r.x right) down) at_right)
+]
+  where
+    level : (a s : ℤ) → a ≤ℤ pos 0 → pos 0 ≤ℤ s → (a <ℤ pos 0) ⊎ ((a ≡ pos 0) × (pos 0 ≤ℤ s))
+    level a s h k = elim (zero_or_less a) [ inl z ↦ inr (omega (arith, ints), k) | inr z ↦ inl z ]
+
+    flip : (a b s : ℤ) → (a -ℤ b) *ℤ s ≡ neg_ℤ ((b -ℤ a) *ℤ s)
+    flip = ring 3 (λ a b s. (a ⊟ b) ⊠ s ≐ ⊖ ((b ⊟ a) ⊠ s)) tt
+
+    gap : (a b : ℤ) → a ≤ℤ b → pos 0 ≤ℤ (b -ℤ a)
+    gap a b h = omega (arith, ints)
+
+    wide : (a b : ℤ) → a <ℤ b → pos 0 <ℤ (b -ℤ a)
+    wide a b h = omega (arith, ints)
+
+    low : (a b x y : ℤ) → a ≡ b -ℤ x → x ≡ neg_ℤ y → pos 0 ≤ℤ y → a ≤ℤ pos 0 → b ≤ℤ pos 0
+    low a b x y e f h k = omega (arith, ints)
+
+    less : (a b x : ℤ) → a ≡ b -ℤ x → x <ℤ pos 0 → a ≤ℤ pos 0 → b <ℤ pos 0
+    less a b x e h k = omega (arith, ints)
+
+module _ (p : GridPoint) (l k : Segment) (ol : is_over (at p) l ≡ true) (ok : is_over (at p) k ≡ true) (runs : runs_over l k ≡ true) where
+  not_lower_over : IsNotLower p l k
+  not_lower_over =
+      let both = and_parts (int_le (rise (at (later k.start l.start)) l k) (pos 0)) (int_le (rise (at (earlier k.stop l.stop)) l k) (pos 0)) runs in
+      let on_l = abscissa_within p l ol in
+      let on_k = abscissa_within p k ok in
+      not_lower_between l k p (later k.start l.start) (earlier k.stop l.stop)
+      (starts (int_le k.start.x l.start.x) (from_gap k.start.x p.x on_k.1) (from_gap l.start.x p.x on_l.1))
+      (stops (int_le k.stop.x l.stop.x) (past_gap p.x k.stop.x on_k.0) (past_gap p.x l.stop.x on_l.0))
+      (le (rise (at (later k.start l.start)) l k) both.0) (le (rise (at (earlier k.stop l.stop)) l k) both.1)
+    where
+      le : (a : ℤ) → int_le a (pos 0) ≡ true → a ≤ℤ pos 0
+      le a e = omega (arith, ints)
+
+      from_gap : (a b : ℤ) → pos 0 ≤ℤ (b -ℤ a) → a ≤ℤ b
+      from_gap a b h = omega (arith, ints)
+
+      past_gap : (a b : ℤ) → pos 0 <ℤ (b -ℤ a) → a <ℤ b
+      past_gap a b h = omega (arith, ints)
+
+      starts : (b : Bool) → k.start.x ≤ℤ p.x → l.start.x ≤ℤ p.x → (cond b l.start k.start).x ≤ℤ p.x
+      starts true h i = i
+      starts false h i = h
+
+      stops : (b : Bool) → p.x <ℤ k.stop.x → p.x <ℤ l.stop.x → p.x <ℤ (cond b k.stop l.stop).x
+      stops true h i = h
+      stops false h i = i
+
+  -- a link that runs below another nowhere does not run below it at an abscissa that both are over
+  pub over_is_not_under : is_under (at p) k l ≡ false
+  over_is_not_under = ap (λ (b : Bool). is_over (at p) l && b) (of_not_lower p l k ol not_lower_over) ∙ nothing (is_over (at p) l)
+    where
+      nothing : (a : Bool) → (a && false) ≡ false
+      nothing true = refl
+      nothing false = refl
+
+  -- so it is not strictly below a point that the other passes through or above
+  pub over_is_not_below : {G : Type 0} → pos 0 <ℤ turn (at l.start) (at l.stop) (at p) → turn (at k.start) (at k.stop) (at p) ≤ℤ pos 0 → G
+  over_is_not_below l_below k_above =
+      let first = mul-positive (width k) (turn (at l.start) (at l.stop) (at p)) (wide_over p k ok).wide l_below in
+      let second = mul-nonpos (width l) (turn (at k.start) (at k.stop) (at p)) (weak (width l) (wide_over p l ol).wide) k_above in
+      absurd (elim not_lower_over [
+        | inl h ↦ above_zero (width k *ℤ turn (at l.start) (at l.stop) (at p)) (width l *ℤ turn (at k.start) (at k.stop) (at p)) first second (lower (rise (at p) l k) h)
+        | inr h ↦ above_zero (width k *ℤ turn (at l.start) (at l.stop) (at p)) (width l *ℤ turn (at k.start) (at k.stop) (at p)) first second (zero (rise (at p) l k) h.0)
+      ])
+    where
+      above_zero : (a b : ℤ) → pos 0 <ℤ a → b ≤ℤ pos 0 → (a -ℤ b) ≤ℤ pos 0 → ⊥
+      above_zero a b h k m = omega (arith, ints)
+
+      lower : (a : ℤ) → a <ℤ pos 0 → a ≤ℤ pos 0
+      lower a h = omega (arith, ints)
+
+      zero : (a : ℤ) → a ≡ pos 0 → a ≤ℤ pos 0
+      zero a h = omega (arith, ints)

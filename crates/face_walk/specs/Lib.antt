@@ -12,4 +12,5 @@ pub mod Joins
 pub mod Sectors
 pub mod Rays
 pub mod Descent
+pub mod Parting
 pub mod Rows

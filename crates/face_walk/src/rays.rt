@@ -8,10 +8,13 @@ ghost use Rattle.face_walk.specs.Places.{HasPlaces};
 ghost use Rattle.face_walk.specs.Joining.{made_one};
 ghost use Rattle.face_walk.specs.Joins.{joined_by};
 ghost use Rattle.face_walk.specs.Rays.{AreLinksOf, AreRays, HasGridEnds, IsMinimum, IsRay, IsTopmostBelow, boxes_of, place_met};
-ghost use Rattle.face_walk.specs.Rows.{AreByStart, start_at, starts_row};
+ghost use Rattle.face_walk.specs.Rows.{AreByStart, AreStops, start_at, starts_row};
+ghost use Rattle.face_walk.specs.Parting.{AreTreesOver, LeadsToAll, parts_of};
+ghost use Rattle.face_walk.specs.declared.link_tree.LinkTree.{LinkTree};
 ghost use Rattle.face_walk.specs.declared.links.ArcLink.{ArcLink};
 
 use crate::joining::Joining;
+use crate::link_tree::{LinkTree, MAX_STEPS, Stretch, topmost_by, tree_of};
 use crate::links::{ArcLink, boxes_of, highs_of, links_of};
 use crate::places::{OUTSIDE, place_of};
 use crate::rows::{first_round, is_lowest};
@@ -21,14 +24,22 @@ use bucket_grid::Buckets;
 use grid_base::Pt;
 use std::alloc::{AllocError, Global};
 
+// Near so few links, or where so few rays start at these, the links are tried one by one: a tree would cost more.
+const CROWD: usize = 64;
+
+const MANY_RAYS: usize = 200;
+
 /// The links of all arcs, in order, and buckets over them.
 #[derive(Drop)]
 pub struct LinkSearch {
     pub links: Vec<ArcLink>,
     pub buckets: Buckets,
+    // for each bucket a tree of the links near it, where these are many
+    pub trees: Vec<Option<LinkTree>>,
     ghost near: { buckets.near ≡ map (boxes_near (boxes_of links.items)) buckets.areas },
     ghost on_grid: { All HasGridEnds links.items },
     ghost sorted: { AreByStart links.items },
+    ghost led: { ∥ AreTreesOver links.items buckets.near trees.items ∥₁ },
 }
 
 impl LinkSearch {
@@ -39,7 +50,12 @@ impl LinkSearch {
         let links = links_of(alloc, t)?;
         let boxes = boxes_of(alloc, &links)?;
         let buckets = Buckets::build(alloc, &boxes)?;
-        Ok(LinkSearch { links, buckets })
+        let trees = trees_of(alloc, &links, &buckets)?;
+        Ok(LinkSearch {
+            links,
+            buckets,
+            trees,
+        })
     }
 
     /// The topmost link below a point, just right of it; `None` where no link is below.
@@ -81,15 +97,103 @@ impl LinkSearch {
         ensures near { (ids : List ℕ) → slice_get self.now.buckets.near place ≡ Some ids → (i : ℕ) → (k : ArcLink) → Contains ids i →
             slice_get self.now.links.items i ≡ Some k → is_below (at p) k.link ≡ true → IsNotAbove p k result }
     {
-        match self.buckets.each_near(place) {
-            Some(near) => topmost_of(&self.links, near, p, best),
-            None => best,
+        let Some(near) = self.buckets.each_near(place) else {
+            return best;
+        };
+        match self.trees.get(place as usize) {
+            Some(Some(tree)) => topmost_by(&self.links, tree, p, best),
+            _ => topmost_of(&self.links, near, p, best),
         }
     }
 }
 
-// The topmost link below `p`, of `best` and the links with these numbers.
-fn topmost_of(links: &[ArcLink], near: &[u32], p: Pt, best: Option<ArcLink>) -> Option<ArcLink>
+// Whether some bucket has many links.
+fn has_crowds(buckets: &Buckets) -> bool {
+    for place in 0..buckets.count() {
+        if let Some(near) = buckets.each_near(place) {
+            if near.len() > CROWD {
+                return true;
+            }
+        }
+    }
+    false
+}
+
+// Whether many rays start at links with these numbers.
+fn has_many_rays(links: &[ArcLink], highs: &[Pt], near: &[u32]) -> bool
+    requires highs { AreStops links.now highs.now }
+{
+    let mut count: usize = 0;
+    for i in near {
+        let place = *i as usize;
+        if place < links.len() && is_lowest(links, highs, place) {
+            count = count.saturating_add(1);
+        }
+    }
+    count > MANY_RAYS
+}
+
+// For each bucket a tree of the links near it, where these are many.
+fn trees_of(
+    alloc: Global,
+    links: &[ArcLink],
+    buckets: &Buckets,
+) -> Result<Vec<Option<LinkTree>>, AllocError>
+    ensures { IfOk result (λ trees. AreTreesOver links.now buckets.now.near trees.items) }
+{
+    let mut trees = Vec::new(alloc);
+    if !has_crowds(buckets) {
+        return Ok(trees);
+    }
+    let highs = highs_of(alloc, links)?;
+    for place in 0..buckets.count() {
+        trees.push(tree_at(alloc, links, &highs, buckets, place)?)?;
+    }
+    Ok(trees)
+}
+
+fn tree_at(
+    alloc: Global,
+    links: &[ArcLink],
+    highs: &[Pt],
+    buckets: &Buckets,
+    place: u32,
+) -> Result<Option<LinkTree>, AllocError>
+    requires highs { AreStops links.now highs.now }
+    ensures { IfOk result (λ found. (tree : LinkTree) (ids : List ℕ) → found ≡ Some tree → slice_get buckets.now.near place ≡ Some ids → LeadsToAll links.now ids (parts_of tree)) }
+{
+    let Some(near) = buckets.each_near(place) else {
+        return Ok(None);
+    };
+    let Some(area) = buckets.area_of(place) else {
+        return Ok(None);
+    };
+    if near.len() <= CROWD || !has_many_rays(links, highs, near) {
+        return Ok(None);
+    }
+    let stretch = Stretch {
+        low: area.low().x(),
+        high: area.high().x(),
+    };
+    Ok(Some(tree_of(alloc, links, near, stretch, MAX_STEPS)?))
+}
+
+/// The topmost link below `p`, of `best` and all links.
+pub fn topmost_of_all(links: &[ArcLink], p: Pt, best: Option<ArcLink>) -> Option<ArcLink>
+    requires best { IsFound links.now p best }
+    ensures found { IsFound links.now p result }
+    ensures kept { (k : ArcLink) → is_below (at p) k.link ≡ true → IsNotAbove p k best → IsNotAbove p k result }
+    ensures all { (i : ℕ) → (k : ArcLink) → slice_get links.now i ≡ Some k → is_below (at p) k.link ≡ true → IsNotAbove p k result }
+{
+    let mut topmost = best;
+    for i in 0..links.len() {
+        topmost = upper(topmost, links[i], p);
+    }
+    topmost
+}
+
+/// The topmost link below `p`, of `best` and the links with these numbers.
+pub fn topmost_of(links: &[ArcLink], near: &[u32], p: Pt, best: Option<ArcLink>) -> Option<ArcLink>
     requires best { IsFound links.now p best }
     ensures found { IsFound links.now p result }
     ensures kept { (k : ArcLink) → is_below (at p) k.link ≡ true → IsNotAbove p k best → IsNotAbove p k result }
@@ -102,8 +206,8 @@ fn topmost_of(links: &[ArcLink], near: &[u32], p: Pt, best: Option<ArcLink>) -> 
     topmost
 }
 
-// The same after one link more.
-fn upper_at(links: &[ArcLink], i: u32, p: Pt, topmost: Option<ArcLink>) -> Option<ArcLink>
+/// The same after one link more.
+pub fn upper_at(links: &[ArcLink], i: u32, p: Pt, topmost: Option<ArcLink>) -> Option<ArcLink>
     requires best { IsFound links.now p topmost }
     ensures found { IsFound links.now p result }
     ensures kept { (k : ArcLink) → is_below (at p) k.link ≡ true → IsNotAbove p k topmost → IsNotAbove p k result }
@@ -115,7 +219,8 @@ fn upper_at(links: &[ArcLink], i: u32, p: Pt, topmost: Option<ArcLink>) -> Optio
     }
 }
 
-fn link_at(links: &[ArcLink], i: u32) -> Option<ArcLink>
+/// The link with this number.
+pub fn link_at(links: &[ArcLink], i: u32) -> Option<ArcLink>
     ensures { result ≡ slice_get links.now i }
 {
     links.get(i as usize).copied()

@@ -3,6 +3,7 @@ ghost use Rattle.plane_model.specs.Points.{at, step_x, turn};
 ghost use Rattle.plane_model.specs.Parity.{is_below, is_over};
 ghost use Rattle.plane_model.specs.Below.{rise, rises};
 ghost use Rattle.face_walk.specs.Under.{IsStep, IsCross};
+ghost use Rattle.face_walk.specs.Parting.{earlier, later, runs_over};
 
 use grid_base::{Link, Pt};
 
@@ -50,9 +51,9 @@ fn width_of(l: Link) -> i128
     across
 }
 
-// Whether a link stands over or under the abscissa of a point: its lesser end left of the point or under it, its
-// greater end right of the point.
-fn is_over(l: Link, p: Pt) -> bool
+/// Whether a link stands over or under the abscissa of a point: its lesser end left of the point or under it, its
+/// greater end right of the point.
+pub fn is_over(l: Link, p: Pt) -> bool
     ensures exact { result ≡ is_over (at p) l }
 {
     l.low().x() <= p.x() && p.x() < l.high().x()
@@ -109,4 +110,32 @@ pub fn goes_under(l: Link, k: Link, p: Pt) -> bool
     ensures exact { result ≡ rises (rise (at p) k l) (turn (at l.start) (at l.stop) (at k.stop)) }
 {
     rises(rise(l, k, p), side_of(l, k.high()))
+}
+
+// The one of two points that stands further right.
+fn later(p: Pt, q: Pt) -> Pt
+    ensures { result ≡ later p q }
+{
+    if p.x() <= q.x() { q } else { p }
+}
+
+// The one of two points that stands further left.
+fn earlier(p: Pt, q: Pt) -> Pt
+    ensures { result ≡ earlier p q }
+{
+    if p.x() <= q.x() { p } else { q }
+}
+
+// Whether a link doesn't run below another at the abscissa of a point.
+fn is_up(l: Link, k: Link, p: Pt) -> bool
+    ensures { result ≡ int_le (rise (at p) l k) (pos 0) }
+{
+    rise(k, l, p) <= 0
+}
+
+/// Whether a link runs below another nowhere, between the ends of both.
+pub fn runs_over(l: Link, k: Link) -> bool
+    ensures { result ≡ runs_over l k }
+{
+    is_up(l, k, later(k.low(), l.low())) && is_up(l, k, earlier(k.high(), l.high()))
 }

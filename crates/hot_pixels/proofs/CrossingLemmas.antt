@@ -1,12 +1,12 @@
 -- The crossings of boxes near each area are all crossings.
 use Rattle.std.proofs.Common.{◌≡◌, inl, inr, refl, sym, ap, ◌∙◌, subst, arith, ℕ, ◌<◌, ltb, Bool, true, false, cond, List, [], length, get_or, map, Option, Some, None, Contains, ℤ, pos, ◌+ℤ◌, ◌-ℤ◌, ◌*ℤ◌, ◌≤ℤ◌, int_le, ◌||◌}
-use Rattle.std.specs.List.{flat_map, slice_get}
+use Rattle.std.specs.List.{slice_get}
 use Rattle.std.specs.Option.{option_to_list}
 use Rattle.std.proofs.lemmas.Bool.{lt-ltb, cases_lt}
 use Rattle.std.proofs.lemmas.List.{get_or-map, length-map}
 use Rattle.std.proofs.lemmas.Option.{slice_get-get_or, slice_get_within, get_or_from_slice_get}
-use Rattle.std.proofs.lemmas.List.Elements.{Contains-append_right, All-contains, Contains-get_or}
-use Rattle.lists.proofs.Members.{Contains-head, Contains-nil, Contains-cases, Contains-flat_map, flat_map-Contains, Contains-map}
+use Rattle.std.proofs.lemmas.List.Elements.{All-contains}
+use Rattle.lists.proofs.Members.{Contains-nil, Contains-cases, flat_map-Contains}
 use Rattle.plane_algebra.proofs.Ring.{ring, ◌⊞◌, ◌⊟◌, ◌⊠◌, num, ◌≐◌}
 use Rattle.plane_algebra.proofs.Order.{order, order_cases}
 use Rattle.plane_algebra.proofs.Tests.{le_from, le_to, by_test, or_cases}
@@ -18,14 +18,14 @@ use Rattle.plane_snapping.proofs.Readings.{on_of_mean}
 use Rattle.plane_snapping.proofs.PixelOf.{in_own_pixel}
 use Rattle.plane_snapping.proofs.Boxes.{crossings_lie_in_both_boxes}
 use Rattle.grid_base.specs.Grid.{Corners}
-use Rattle.bucket_grid.specs.Areas.{Holds, share_point, boxes_near}
+use Rattle.bucket_grid.specs.Areas.{AreaLists, Holds, share_point, boxes_near}
 use Rattle.bucket_grid.proofs.SharedPoints.{overlap_to}
 use Rattle.bucket_grid.proofs.Numbers.{Contains-numbers_where}
 use Rattle.hot_pixels.specs.Boxes.{box_of, lesser, greater}
 use Rattle.hot_pixels.specs.Spots.{is_end, share_end, crossing_at, crossing_between, crossings_with, crossings_among}
 use Rattle.hot_pixels.specs.Quiet.{IsEndOf}
 use Rattle.hot_pixels.specs.Crossing.{HasGridEnds}
-use Rattle.hot_pixels.specs.Found.{HasAllCrossings}
+use Rattle.hot_pixels.specs.Found.{IsCrossingOf, HasAllCrossings, HasCrossingsBefore, AreBucketsOver}
 use Rattle.hot_pixels.proofs.Shares.{crossing_on_grid}
 use Rattle.hot_pixels.proofs.Appending.{get_or-alike}
 
@@ -148,33 +148,46 @@ shared a b g h k = overlap_to a b (record {
 
 -- ---- what is listed crosses
 
-pub listed_crosses : (spots : List Segment) (near : List (List ℕ)) (g : GridPoint) → Contains (flat_map (crossings_among spots) near) g →
-    (s : Segment) × (t : Segment) × Contains spots s × Contains spots t × (crossing_pixel s t ≡ Some g)
+-- two spots that cross in the pixel of g, and have no end in common
+pub record HasPair (spots : List Segment) (i j : ℕ) (g : GridPoint) : Type 0 where
+  pub s : Segment
+  pub t : Segment
+  pub s_at : slice_get spots i ≡ Some s
+  pub t_at : slice_get spots j ≡ Some t
+  pub apart : share_end s t ≡ false
+  pub crosses : crossing_pixel s t ≡ Some g
+
+pub pair_at : (spots : List Segment) (i j : ℕ) (g : GridPoint) → crossing_at spots i j ≡ Some g → HasPair spots i j g
+pair_at spots i j g e = tested (ltb i j) e
+  where
+    found : (o p : Option Segment) → slice_get spots i ≡ o → slice_get spots j ≡ p → crossing_between o p ≡ Some g → HasPair spots i j g
+    found None p e f h = absurd (let k : None ≡ Some g = h in cc)
+    found (Some s) None e f h = absurd (let k : None ≡ Some g = h in cc)
+    found (Some s) (Some t) e f h = parted (share_end s t) refl h
+      where
+        parted : (b : Bool) → share_end s t ≡ b → cond b None (crossing_pixel s t) ≡ Some g → HasPair spots i j g
+        parted true k l = absurd (let m : None ≡ Some g = l in cc)
+        parted false k l = record { s = s; t = t; s_at = e; t_at = f; apart = k; crosses = l }
+
+    tested : (b : Bool) → cond b (crossing_between (slice_get spots i) (slice_get spots j)) None ≡ Some g → HasPair spots i j g
+    tested true e = found (slice_get spots i) (slice_get spots j) refl refl e
+    tested false e = absurd (let k : None ≡ Some g = e in cc)
+
+there : (spots : List Segment) (i : ℕ) (s : Segment) → slice_get spots i ≡ Some s → Contains spots s
+there spots i s e = (i, slice_get_within spots i s e, get_or_from_slice_get spots i s s e)
+
+pub listed_crosses : (spots : List Segment) (near : List ℕ) (g : GridPoint) → Contains (crossings_among spots near) g → IsCrossingOf spots g
 listed_crosses spots near g c =
-    let h = flat_map-Contains (crossings_among spots) near g c in
-    let k = flat_map-Contains (λ i. crossings_with spots i h.0) h.0 g h.2 in
-    let m = flat_map-Contains (λ j. option_to_list (crossing_at spots k.0 j)) h.0 g k.2 in
+    let k = flat_map-Contains (λ i. crossings_with spots i near) near g c in
+    let m = flat_map-Contains (λ j. option_to_list (crossing_at spots k.0 j)) near g k.2 in
     at_pair k.0 m.0 (crossing_at spots k.0 m.0) refl m.2
   where
-    found : (i j : ℕ) (o p : Option Segment) → slice_get spots i ≡ o → slice_get spots j ≡ p → crossing_between o p ≡ Some g →
-        (s : Segment) × (t : Segment) × Contains spots s × Contains spots t × (crossing_pixel s t ≡ Some g)
-    found i j None p e f h = absurd (let k : None ≡ Some g = h in cc)
-    found i j (Some s) None e f h = absurd (let k : None ≡ Some g = h in cc)
-    found i j (Some s) (Some t) e f h = (s, t, (i, slice_get_within spots i s e, get_or_from_slice_get spots i s s e), (j, slice_get_within spots j t f, get_or_from_slice_get spots j t t f), apart (share_end s t) h)
-      where
-        apart : (b : Bool) → cond b None (crossing_pixel s t) ≡ Some g → crossing_pixel s t ≡ Some g
-        apart true k = absurd (let m : None ≡ Some g = k in cc)
-        apart false k = k
-
-    tested : (i j : ℕ) (b : Bool) → cond b (crossing_between (slice_get spots i) (slice_get spots j)) None ≡ Some g →
-        (s : Segment) × (t : Segment) × Contains spots s × Contains spots t × (crossing_pixel s t ≡ Some g)
-    tested i j true e = found i j (slice_get spots i) (slice_get spots j) refl refl e
-    tested i j false e = absurd (let k : None ≡ Some g = e in cc)
-
-    at_pair : (i j : ℕ) (o : Option GridPoint) → crossing_at spots i j ≡ o → Contains (option_to_list o) g →
-        (s : Segment) × (t : Segment) × Contains spots s × Contains spots t × (crossing_pixel s t ≡ Some g)
+    at_pair : (i j : ℕ) (o : Option GridPoint) → crossing_at spots i j ≡ o → Contains (option_to_list o) g → IsCrossingOf spots g
     at_pair i j None e c = Contains-nil g c
-    at_pair i j (Some p) e c = elim (Contains-cases p [] g c) [ inl f ↦ tested i j (ltb i j) (e ∙ ap Some f) | inr d ↦ Contains-nil g d ]
+    at_pair i j (Some p) e c = elim (Contains-cases p [] g c) [
+      | inl f ↦ (let h = pair_at spots i j g (e ∙ ap Some f) in record { s = h.s; t = h.t; s_there = there spots i h.s h.s_at; t_there = there spots j h.t h.t_at; crosses = h.crosses })
+      | inr d ↦ Contains-nil g d
+    ]
 
 -- one number names one spot
 same_spot : (spots : List Segment) (i j : ℕ) (s t : Segment) → j ≡ i → i < length spots → get_or spots i s ≡ s → get_or spots j t ≡ t → t ≡ s
@@ -188,32 +201,31 @@ near_area spots i s area g l e a b =
 
 -- ---- what crosses is listed
 
-module _ (spots : List Segment) (old new : List GridPoint) (h : HasAllCrossings spots old new) where
+module _ (spots : List Segment) (buckets : AreaLists) (b : AreBucketsOver spots buckets) (old new : List GridPoint) (h : HasCrossingsBefore (length buckets.near) buckets.near spots old new) where
   abbrev boxes : List Corners
   boxes = map box_of spots
+
+  near_listed : (place : ℕ) (area : Corners) → place < length buckets.areas → get_or buckets.areas place area ≡ area → slice_get buckets.near place ≡ Some (boxes_near boxes area)
+  near_listed place area l e =
+      ap (λ (lists : List (List ℕ)). slice_get lists place) b.near
+      ∙ slice_get-get_or (map (boxes_near boxes) buckets.areas) place (boxes_near boxes area) (let n : length (map (boxes_near boxes) buckets.areas) ≡ length buckets.areas = simp length-map in omega arith)
+      ∙ ap Some (get_or-map (boxes_near boxes) buckets.areas place area (boxes_near boxes area) l ∙ ap (boxes_near boxes) e)
 
   ordered : (i j : ℕ) (s t : Segment) (g : GridPoint) → i < j → i < length spots → j < length spots → get_or spots i s ≡ s → get_or spots j t ≡ t → share_end s t ≡ false → crossing_pixel s t ≡ Some g → Contains new g
   ordered i j s t g l li lj ei ej apart e =
       let in_boxes = crossings_lie_in_both_boxes s t g e in
-      let on_grid = crossing_on_grid s t (All-contains HasGridEnds spots s h.on_grid (i, li, ei)) g e in
-      let place = h.places g on_grid in
-      let area : Corners = get_or h.areas place.0 (box_of s) in
+      let on_grid = crossing_on_grid s t (All-contains HasGridEnds spots s b.on_grid (i, li, ei)) g e in
+      let place = b.places g on_grid in
+      let area : Corners = get_or buckets.areas place.0 (box_of s) in
       let held = place.1.held (box_of s) in
       let near : List ℕ = boxes_near boxes area in
-      let listed : Contains (map (boxes_near boxes) h.areas) near = Contains-map (boxes_near boxes) h.areas area (Contains-get_or h.areas place.0 (box_of s) place.1.below) in
-      let at_i = near_area spots i s area g li ei held in_boxes.0 in
-      let at_j = near_area spots j t area g lj ej held in_boxes.1 in
+      let at : slice_get buckets.near place.0 ≡ Some near = near_listed place.0 area place.1.below (get_or-alike buckets.areas place.0 area (box_of s) place.1.below) in
       let si : slice_get spots i ≡ Some s = slice_get-get_or spots i s li ∙ ap Some ei in
       let sj : slice_get spots j ≡ Some t = slice_get-get_or spots j t lj ∙ ap Some ej in
       let crossing : crossing_at spots i j ≡ Some g = ap (λ (b : Bool). cond b (crossing_between (slice_get spots i) (slice_get spots j)) None) (lt-ltb i j l) ∙ (λ k. crossing_between (si k) (sj k)) ∙ ap (λ (b : Bool). cond b None (crossing_pixel s t)) apart ∙ e in
-      subst (λ (xs : List GridPoint). Contains xs g) (sym h.added)
-      (Contains-append_right old (flat_map (crossings_among spots) (map (boxes_near boxes) h.areas)) g
-      (Contains-flat_map (crossings_among spots) (map (boxes_near boxes) h.areas) near g listed
-      (Contains-flat_map (λ a. crossings_with spots a near) near i g at_i
-      (Contains-flat_map (λ b. option_to_list (crossing_at spots i b)) near j g at_j
-      (subst (λ (o : Option GridPoint). Contains (option_to_list o) g) (sym crossing) (Contains-head g []))))))
+      (h.holds place.0 (slice_get_within buckets.near place.0 near at) near at).all i j g (near_area spots i s area g li ei held in_boxes.0) (near_area spots j t area g lj ej held in_boxes.1) crossing
 
-  pub crossing_listed : (s t : Segment) (g : GridPoint) → Contains spots s → Contains spots t → share_end s t ≡ false → crossing_pixel s t ≡ Some g → Contains new g
+  crossing_listed : (s t : Segment) (g : GridPoint) → Contains spots s → Contains spots t → share_end s t ≡ false → crossing_pixel s t ≡ Some g → Contains new g
   crossing_listed s t g c d apart e = elim (cases_lt c.0 d.0) [
     | inl l ↦ ordered c.0 d.0 s t g l c.1 d.1 c.2 d.2 apart e
     | inr l ↦ elim (cases_lt d.0 c.0) [
@@ -221,3 +233,6 @@ module _ (spots : List Segment) (old new : List GridPoint) (h : HasAllCrossings 
       | inr m ↦ not_itself s g (subst (λ (u : Segment). crossing_pixel s u ≡ Some g) (same_spot spots c.0 d.0 s t (omega arith) c.1 c.2 d.2) e)
     ]
   ]
+
+  pub all_crossings : HasAllCrossings spots old new
+  all_crossings = record { adds = h.adds; all = crossing_listed }

@@ -1,7 +1,5 @@
 -- The stops of the spots, with all crossings of their edges added, are the hot points.
 use Rattle.std.proofs.Common.{◌≡◌, inl, inr, sym, subst, List, map, Contains, Some}
-use Rattle.std.specs.List.{flat_map}
-use Rattle.std.proofs.lemmas.List.Elements.{Contains-append_left, Contains-append_cases}
 use Rattle.lists.specs.Lists.{ascending}
 use Rattle.lists.proofs.Members.{Contains-map, map-Contains}
 use Rattle.lists.proofs.Ascending.{IsAscending, one_ascending, ascending-IsAscending, ascending-Contains, Contains-ascending}
@@ -15,29 +13,24 @@ use Rattle.plane_snapping.proofs.CrossingComputed.{crossing_is_computed}
 use Rattle.plane_snapping.proofs.HotComputed.{vertex_is_hot, listed_is_hot, hot_is_listed}
 use Rattle.plane_snapping.proofs.SnappedPaths.{ends_are_vertices}
 use Rattle.plane_snapping.proofs.PixelOf.{one_pixel, in_own_pixel}
-use Rattle.bucket_grid.specs.Areas.{boxes_near}
-use Rattle.hot_pixels.specs.Boxes.{box_of}
-use Rattle.hot_pixels.specs.Spots.{share_end, spots_of, crossings_among}
+use Rattle.hot_pixels.specs.Spots.{share_end, spots_of}
 use Rattle.hot_pixels.specs.Found.{HasAllCrossings}
 use Rattle.hot_pixels.specs.Stops.{stop_of}
-use Rattle.hot_pixels.proofs.CrossingLemmas.{listed_crosses, crossing_listed, crossing_turned, common_end, short_meets_none}
+use Rattle.hot_pixels.proofs.CrossingLemmas.{crossing_turned, common_end, short_meets_none}
 use Rattle.hot_pixels.specs.Edges.{AreEdgesOf}
 use Rattle.hot_pixels.proofs.EdgeLemmas.{crossing_along_both, end_along}
 use Rattle.hot_pixels.proofs.SpotLemmas.{spot_is_segment, spot_stops, segment_is_spot, vertex_is_stop}
 
 module _ (d : Drawing) (edges : List Segment) (k : AreEdgesOf (spots_of d) edges) (points : List GridPoint) (h : HasAllCrossings edges (map stop_of (spots_of d)) points) where
   pub point_is_hot : (g : GridPoint) → Contains points g → Contains (hot_points d) g
-  point_is_hot g c = hot_is_listed d g (elim (Contains-append_cases (map stop_of (spots_of d)) (flat_map (crossings_among edges) (map (boxes_near (map box_of edges)) h.areas)) g (subst (λ (xs : List GridPoint). Contains xs g) h.added c)) [
+  point_is_hot g c = hot_is_listed d g (elim (h.adds.from g c) [
     | inl l ↦ (let m = map-Contains stop_of (spots_of d) g l in vertex_is_hot d g (subst (Contains (vertices_of d)) m.2 (spot_stops d m.0 m.1)))
-    | inr l ↦
-        let m = listed_crosses edges (map (boxes_near (map box_of edges)) h.areas) g l in
-        let s = m.0 in
-        let t = m.1 in
-        elim (spot_is_segment d s (k.from s m.2)) [
-          | inr e ↦ short_meets_none s t g e m.4
-          | inl s_drawn ↦ elim (spot_is_segment d t (k.from t m.3)) [
-            | inr e ↦ short_meets_none t s g e (crossing_turned s t g m.4)
-            | inl t_drawn ↦ inr (record { s = s; t = t; s_drawn = s_drawn; t_drawn = t_drawn; meet = (crossing_is_computed s t g).0 m.4 })
+    | inr m ↦
+        elim (spot_is_segment d m.s (k.from m.s m.s_there)) [
+          | inr e ↦ short_meets_none m.s m.t g e m.crosses
+          | inl s_drawn ↦ elim (spot_is_segment d m.t (k.from m.t m.t_there)) [
+            | inr e ↦ short_meets_none m.t m.s g e (crossing_turned m.s m.t g m.crosses)
+            | inl t_drawn ↦ inr (record { s = m.s; t = m.t; s_drawn = s_drawn; t_drawn = t_drawn; meet = (crossing_is_computed m.s m.t g).0 m.crosses })
           ]
         ]
   ])
@@ -45,8 +38,7 @@ module _ (d : Drawing) (edges : List Segment) (k : AreEdgesOf (spots_of d) edges
   vertex_is_point : (g : GridPoint) → Contains (vertices_of d) g → Contains points g
   vertex_is_point g c =
       let m = vertex_is_stop d g c in
-      subst (λ (xs : List GridPoint). Contains xs g) (sym h.added) (Contains-append_left (map stop_of (spots_of d)) (flat_map (crossings_among edges) (map (boxes_near (map box_of edges)) h.areas)) g
-      (subst (Contains (map stop_of (spots_of d))) m.2 (Contains-map stop_of (spots_of d) m.0 m.1)))
+      h.adds.kept g (subst (Contains (map stop_of (spots_of d))) m.2 (Contains-map stop_of (spots_of d) m.0 m.1))
 
   pub hot_is_point : (g : GridPoint) → Contains (hot_points d) g → Contains points g
   hot_is_point g c = elim (listed_is_hot d g c) [
@@ -64,7 +56,7 @@ module _ (d : Drawing) (edges : List Segment) (k : AreEdgesOf (spots_of d) edges
           | inl same ↦ vertex_is_point g (subst (Contains (vertices_of d)) (sym same) v.0)
           | inr same ↦ vertex_is_point g (subst (Contains (vertices_of d)) (sym same) v.1)
         ])
-        (λ apart. crossing_listed edges (map stop_of (spots_of d)) points h a.0 b.0 g a.1 b.1 apart f)
+        (λ apart. h.all a.0 b.0 g a.1 b.1 apart f)
   ]
 
   -- an ascending list with the same elements is the list of the hot points in order

@@ -2,6 +2,8 @@ pub mod Bounds
 pub mod Shares
 pub mod Appending
 pub mod CrossingLemmas
+pub mod PartingLemmas
+pub mod FoundLemmas
 pub mod SpotLemmas
 pub mod HotLemmas
 pub mod SortLemmas

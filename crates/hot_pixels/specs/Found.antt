@@ -1,18 +1,44 @@
--- Points with all crossings added: those of the boxes near each area of a partition of the grid.
-use Rattle.std.specs.Prelude.{◌≡◌, ℕ, List, ◌++◌, map, All}
-use Rattle.std.specs.List.{flat_map}
+-- Points with all crossings of spots added.
+use Rattle.std.specs.Prelude.{◌≡◌, ◌⊎◌, ℕ, ◌<◌, false, List, map, All, Contains, Some, slice_get}
 use Rattle.plane_model.specs.Points.{GridPoint, Segment}
-use Rattle.grid_base.specs.Grid.{Corners, IsOnGrid}
+use Rattle.plane_model.specs.Pixel.{crossing_pixel}
+use Rattle.grid_base.specs.Grid.{IsOnGrid}
 use Rattle.bucket_grid.specs.Areas.{AreaLists, IsPlaceOf, boxes_near}
 use Rattle.hot_pixels.specs.Crossing.{HasGridEnds}
 use Rattle.hot_pixels.specs.Boxes.{box_of}
-use Rattle.hot_pixels.specs.Spots.{crossings_among}
+use Rattle.hot_pixels.specs.Spots.{share_end, crossing_at}
 
+-- two of the spots cross in the pixel of g
+pub record IsCrossingOf (spots : List Segment) (g : GridPoint) : Type 0 where
+  pub s : Segment
+  pub t : Segment
+  pub s_there : Contains spots s
+  pub t_there : Contains spots t
+  pub crosses : crossing_pixel s t ≡ Some g
+
+-- the new points are the old ones and some crossings of the spots
+pub record AddsCrossings (spots : List Segment) (old new : List GridPoint) : Type 0 where
+  pub kept : (g : GridPoint) → Contains old g → Contains new g
+  pub from : (g : GridPoint) → Contains new g → Contains old g ⊎ IsCrossingOf spots g
+
+-- each crossing of two of the spots with these numbers is among the points, unless they have an end in common
+pub record HoldCrossings (spots : List Segment) (near : List ℕ) (points : List GridPoint) : Type 0 where
+  pub all : (i j : ℕ) (g : GridPoint) → Contains near i → Contains near j → crossing_at spots i j ≡ Some g → Contains points g
+
+-- crossings of the spots with these numbers are added: of all
+pub record HasCrossingsAmong (spots : List Segment) (near : List ℕ) (old new : List GridPoint) : Type 0 where
+  pub adds : AddsCrossings spots old new
+  pub holds : HoldCrossings spots near new
+
+-- the same of the first lists of numbers, so many
+pub record HasCrossingsBefore (count : ℕ) (lists : List (List ℕ)) (spots : List Segment) (old new : List GridPoint) : Type 0 where
+  pub adds : AddsCrossings spots old new
+  pub holds : (place : ℕ) → place < count → (near : List ℕ) → slice_get lists place ≡ Some near → HoldCrossings spots near new
+
+-- crossings of the spots are added: all of those that have no end in common
 pub record HasAllCrossings (spots : List Segment) (old new : List GridPoint) : Type 0 where
-  pub on_grid : All HasGridEnds spots
-  pub areas : List Corners
-  pub places : (g : GridPoint) → IsOnGrid g → (k : ℕ) × IsPlaceOf areas g k
-  pub added : new ≡ old ++ flat_map (crossings_among spots) (map (boxes_near (map box_of spots)) areas)
+  pub adds : AddsCrossings spots old new
+  pub all : (s t : Segment) (g : GridPoint) → Contains spots s → Contains spots t → share_end s t ≡ false → crossing_pixel s t ≡ Some g → Contains new g
 
 -- a partition of the grid, and for each area the spots whose boxes share a grid point with it
 pub record AreBucketsOver (spots : List Segment) (buckets : AreaLists) : Type 0 where

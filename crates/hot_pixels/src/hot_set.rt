@@ -67,7 +67,7 @@ impl HotSet {
         let mut found = stops_of(alloc, &spots)?;
         let edges = edges_of(alloc, &spots)?;
         let buckets = buckets_over(alloc, &edges.segments)?;
-        add_crossings(&mut found, &edges.segments, &buckets)?;
+        add_crossings(&mut found, alloc, &edges.segments, &buckets)?;
         let points = each_once(alloc, &found)?;
         let marking = marks_of(alloc, &points, &edges.segments, &buckets)?;
         let mixed = copy_of(alloc, &points)?;

@@ -11,8 +11,8 @@
 //! - `crossing_pixel` rounds the meeting point of two segments, and `meets` tests a segment against a pixel, in whole
 //!   numbers.
 //! - `HotSet::of` lists the hot points of a drawing: its vertices, and the crossings of segments that are near each
-//!   other, found by buckets. A border that two areas share is tried once: a segment and the one that runs back along it
-//!   have one edge.
+//!   other, found by buckets; where many are near, lines part them. A border that two areas share is tried once: a
+//!   segment and the one that runs back along it have one edge.
 //! - `chain_of` lists the hot points whose pixels a segment meets, in the order in which the segment passes them, and
 //!   `chain_links` counts the links between them without memory. Both pass over runs of hot points that lie beside the
 //!   segment's box.
@@ -32,6 +32,7 @@ mod hot_set;
 mod keys;
 mod near;
 mod pairs;
+mod parting;
 mod quiet;
 mod spots;
 

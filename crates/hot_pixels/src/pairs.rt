@@ -1,13 +1,13 @@
 ghost use Rattle.std.specs.Prelude.{◌≡◌, ◌++◌, OnOk, IfOk, All, map, length, ◌<◌, Some, slice_get};
-ghost use Rattle.std.specs.List.{flat_map};
 ghost use Rattle.std.specs.Option.{option_to_list};
-ghost use Rattle.hot_pixels.specs.Found.{AreBucketsOver, HasAllCrossings};
+ghost use Rattle.hot_pixels.specs.Found.{AreBucketsOver, HasAllCrossings, HasCrossingsBefore};
 ghost use Rattle.hot_pixels.specs.Boxes.{box_of, lesser, greater};
 ghost use Rattle.hot_pixels.specs.Crossing.{HasGridEnds};
 ghost use Rattle.hot_pixels.specs.Spots.{crossing_at, crossings_with, crossings_among};
 
 use crate::beside::{is_beside, share_end};
 use crate::crossing::crossing_pixel;
+use crate::parting::{MAX_LINES, add_crossings_parted};
 use bucket_grid::Buckets;
 use grid_base::{BoxList, Pt, Rect, Seg};
 use std::alloc::{AllocError, Global};
@@ -50,7 +50,8 @@ fn boxes_of(alloc: Global, spots: &[Seg]) -> Result<BoxList, AllocError>
     Ok(boxes)
 }
 
-fn spot_at(spots: &[Seg], i: u32) -> Option<Seg>
+/// The spot with this number.
+pub fn spot_at(spots: &[Seg], i: u32) -> Option<Seg>
     ensures { result ≡ slice_get spots.now i }
 {
     spots.get(i as usize).copied()
@@ -101,7 +102,12 @@ fn add_crossings_with(
     Ok(())
 }
 
-fn add_crossings_among(points: &mut Vec<Pt>, spots: &[Seg], near: &[u32]) -> Result<(), AllocError>
+/// Adds the pixels of the crossings among spots with these numbers, tried pair by pair.
+pub fn add_crossings_among(
+    points: &mut Vec<Pt>,
+    spots: &[Seg],
+    near: &[u32],
+) -> Result<(), AllocError>
     ensures { OnOk result (points.new.items ≡ points.old.items ++ crossings_among spots.now near.now) }
 {
     for i in near {
@@ -123,13 +129,14 @@ pub fn near_of(buckets: &Buckets, place: u32) -> &[u32]
 
 fn add_crossings_in(
     points: &mut Vec<Pt>,
+    alloc: Global,
     spots: &[Seg],
     buckets: &Buckets,
 ) -> Result<(), AllocError>
-    ensures { OnOk result (points.new.items ≡ points.old.items ++ flat_map (crossings_among spots.now) buckets.now.near) }
+    ensures { OnOk result (HasCrossingsBefore (length buckets.now.near) buckets.now.near spots.now points.old.items points.new.items) }
 {
     for place in 0..buckets.count() {
-        add_crossings_among(points, spots, near_of(buckets, place))?;
+        add_crossings_parted(points, alloc, spots, near_of(buckets, place), MAX_LINES)?;
     }
     Ok(())
 }
@@ -145,11 +152,12 @@ pub fn buckets_over(alloc: Global, spots: &[Seg]) -> Result<Buckets, AllocError>
 /// Adds the pixels of all crossings of the spots to `points`, some of them often.
 pub fn add_crossings(
     points: &mut Vec<Pt>,
+    alloc: Global,
     spots: &[Seg],
     buckets: &Buckets,
 ) -> Result<(), AllocError>
     requires { AreBucketsOver spots.now buckets.now }
     ensures { OnOk result (HasAllCrossings spots.now points.old.items points.new.items) }
 {
-    add_crossings_in(points, spots, buckets)
+    add_crossings_in(points, alloc, spots, buckets)
 }

@@ -1,8 +1,7 @@
 -- The first of some sets by a rule, and which faces each set keeps.
-use Rattle.std.proofs.Common.{◌≡◌, refl, sym, ap, ◌∙◌, subst, inl, inr, arith, ℕ, zero, suc, ◌+◌, ◌<◌, Bool, true, false, cond, not, ℤ, pos, ◌+ℤ◌, nat_lt, List, [], ◌∷◌, ◌++◌, length, get_or, take, map, filter, nat_eq, All, Contains, Option, Some, None}
-use Rattle.std.specs.List.{list_any, slice_get}
+use Rattle.std.proofs.Common.{◌≡◌, refl, sym, ap, ◌∙◌, subst, inl, inr, arith, ℕ, zero, suc, ◌+◌, ◌<◌, Bool, true, false, cond, not, ℤ, pos, nat_lt, List, [], ◌∷◌, ◌++◌, length, get_or, take, map, filter, nat_eq, All, Contains, Option, Some, None}
+use Rattle.std.specs.List.{list_any}
 use Rattle.std.specs.List.Sorted.{IsStrictlyIncreasing}
-use Rattle.std.proofs.Math.IntN.{+ℤ_comm, +ℤ_assoc}
 use Rattle.std.proofs.Math.ListN.{get_or-map}
 use Rattle.std.proofs.lemmas.Bool.{cases_lt, cases_eq, eq-eqb, ne_eqb}
 use Rattle.std.proofs.lemmas.List.{get_or_append_left, get_or_push, take_more}
@@ -10,7 +9,6 @@ use Rattle.std.proofs.lemmas.List.Elements.{All-nil, All-head, All-tail, All-pus
 use Rattle.std.proofs.lemmas.List.Folds.{list_any_at, list_any_none}
 use Rattle.grid_base.specs.declared.kinds.OverlapRule.{OverlapRule}
 use Rattle.std.proofs.lemmas.List.Kept.{IsStrictlyIncreasing-filter}
-use Rattle.std.proofs.lemmas.Option.{get_or_from_slice_get}
 use Rattle.lists.specs.Lists.{has, ascending}
 use Rattle.lists.proofs.Ascending.{one_ascending, ascending-IsAscending, ascending-Contains, Contains-ascending}
 use Rattle.ring_trace.proofs.SetLemmas.{nat_order, to_ascending}
@@ -23,7 +21,7 @@ use Rattle.region_ops.specs.Cleaned.{area_of, ranks_before, is_lost, IsCleaned, 
 use Rattle.region_ops.proofs.Ranks.{not_before_itself, not_both_before, not_before_through, one_before}
 
 -- a list that a fact fits place by place, and one more element
-pushed : {A : Type 0} (xs : List A) (x d : A) (n : ℕ) (Q : ℕ → A → Type 0) → length xs ≡ n → ((j : ℕ) → j < n → Q j (get_or xs j d)) → Q n x → (j : ℕ) → j < n + 1 → Q j (get_or (xs ++ x ∷ []) j d)
+pub pushed : {A : Type 0} (xs : List A) (x d : A) (n : ℕ) (Q : ℕ → A → Type 0) → length xs ≡ n → ((j : ℕ) → j < n → Q j (get_or xs j d)) → Q n x → (j : ℕ) → j < n + 1 → Q j (get_or (xs ++ x ∷ []) j d)
 pushed {A} xs x d n Q e h one j l = elim (cases_lt j n) [
   | inl less ↦ subst (Q j) (sym (get_or_append_left xs (x ∷ []) d j (omega arith))) (h j less)
   | inr more ↦
@@ -31,7 +29,7 @@ pushed {A} xs x d n Q e h one j l = elim (cases_lt j n) [
       subst (λ (i : ℕ). Q i (get_or (xs ++ x ∷ []) i d)) same (subst (Q n) (sym (get_or_push xs x d n e)) one)
 ]
 
-length_pushed : {A : Type 0} (xs : List A) (x : A) → length (xs ++ x ∷ []) ≡ length xs + 1
+pub length_pushed : {A : Type 0} (xs : List A) (x : A) → length (xs ++ x ∷ []) ≡ length xs + 1
 length_pushed [] x = refl
 length_pushed (y ∷ ys) x = let e = length_pushed ys x in omega arith
 
@@ -100,7 +98,7 @@ filter_same p q (x ∷ xs) h =
     let here = All-head (λ x. p x ≡ q x) x xs h in
     λ i. cond (here i) (x ∷ rest i) (rest i)
 
-area_is : (areas : List ℤ) (sets : List (List ℕ)) (n : ℕ) → get_or (map (area_of areas) sets) n (pos 0) ≡ area_of areas (set_at sets n)
+pub area_is : (areas : List ℤ) (sets : List (List ℕ)) (n : ℕ) → get_or (map (area_of areas) sets) n (pos 0) ≡ area_of areas (set_at sets n)
 area_is areas sets n = get_or-map (area_of areas) sets n []
 
 pub are_cleaned : (rule : OverlapRule) (t : FaceTable) (sets owners : List (List ℕ)) (firsts : List (Option ℕ)) (won : List (List ℕ)) → All (IsSetOf t) sets →
@@ -123,17 +121,6 @@ pub same_read : {A : Type 0} (xs : List A) (i : ℕ) (d e : A) → i < length xs
 same_read [] i d e l = absurd (omega arith)
 same_read (x ∷ xs) zero d e l = refl
 same_read (x ∷ xs) (suc i) d e l = same_read xs i d e (omega arith)
-
-area_pushed : (areas : List ℤ) (xs : List ℕ) (k : ℕ) → area_of areas (xs ++ k ∷ []) ≡ area_of areas xs +ℤ get_or areas k (pos 0)
-area_pushed areas [] k = +ℤ_comm (get_or areas k (pos 0)) (pos 0)
-area_pushed areas (x ∷ xs) k =
-    ap (λ (a : ℤ). get_or areas x (pos 0) +ℤ a) (area_pushed areas xs k) ∙ sym (+ℤ_assoc (get_or areas x (pos 0)) (area_of areas xs) (get_or areas k (pos 0)))
-
-pub area_more : (areas : List ℤ) (faces : List ℕ) (j k d : ℕ) (a : ℤ) → j < length faces → k ≡ get_or faces j d → slice_get areas k ≡ Some a →
-    area_of areas (take (j + 1) faces) ≡ area_of areas (take j faces) +ℤ a
-area_more areas faces j k d a within is read =
-    ap (area_of areas) (take_more faces j d within ∙ ap (λ (i : ℕ). take j faces ++ i ∷ []) (sym is))
-    ∙ area_pushed areas (take j faces) k ∙ ap (λ (b : ℤ). area_of areas (take j faces) +ℤ b) (get_or_from_slice_get areas k a (pos 0) read)
 
 -- some of an ascending list are in order
 pub filter_in_order : (test : ℕ → Bool) (xs : List ℕ) → IsStrictlyIncreasing xs → ascending nat_lt (filter test xs) ≡ filter test xs

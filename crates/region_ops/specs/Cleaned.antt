@@ -1,15 +1,11 @@
 -- What is left of sets that share faces, where a rule ranks the sets.
-use Rattle.std.specs.Prelude.{◌≡◌, ℕ, ◌<◌, ◌+ℤ◌, Bool, false, not, ◌&&◌, ◌||◌, if◌then◌else◌, ℤ, pos, int_lt, nat_lt, nat_eq, List, [], ◌∷◌, length, filter, slice_index_or, Option, Some, None, All, Contains}
+use Rattle.std.specs.Prelude.{◌≡◌, ℕ, ◌<◌, Bool, false, not, ◌&&◌, ◌||◌, if◌then◌else◌, ℤ, pos, int_lt, nat_lt, nat_eq, List, [], length, filter, slice_index_or, Option, Some, None, All, Contains}
 use Rattle.std.specs.List.{list_any}
 use Rattle.grid_base.specs.declared.kinds.OverlapRule.{OverlapRule}
 use Rattle.grid_base.specs.declared.kinds.OverlapRule.TheVariants.{MinId, MaxId, MinArea, MaxArea}
 use Rattle.ring_trace.specs.Owners.{owners_of}
+pub use Rattle.ring_trace.specs.Sets.{area_of}
 use Rattle.region_ops.specs.Dissolved.{set_at}
-
--- twice the area of the faces together, from twice the area of each face
-abbrev pub area_of : List ℤ → List ℕ → ℤ
-area_of areas [] = pos 0
-area_of areas (k ∷ ks) = slice_index_or areas k (pos 0) +ℤ area_of areas ks
 
 -- of two areas of sets m and n: less, or equal and of the lower number
 abbrev pub by_size : Bool → Bool → Bool → Bool

@@ -1,31 +1,62 @@
-ghost use Rattle.std.specs.Prelude.{◌≡◌, ◌+ℤ◌, All, IfOk, filter, length, map, pos, slice_index_or};
-ghost use Rattle.ring_trace.specs.Sets.{IsSetOf};
-ghost use Rattle.region_ops.specs.Cleaned.{AreFirsts, IsCleaned, IsFirst, area_of, earlier, is_first, ranks_before};
+ghost use Rattle.std.specs.Prelude.{◌≡◌, All, IfOk, filter, length, map, pos, slice_index_or};
+ghost use Rattle.face_walk.specs.Places.{IsBuiltOf};
+ghost use Rattle.ring_trace.specs.Sets.{IsSetOf, area_of};
+ghost use Rattle.region_ops.specs.Cleaned.{AreFirsts, IsCleaned, IsFirst, earlier, is_first, ranks_before};
+ghost use Rattle.region_ops.specs.Filled.{IsCleanedAndFilled};
 
+use crate::filled_sets::filled_sets;
+use arc_table::ArcTable;
 use face_walk::Faces;
 use grid_base::{FaceId, OverlapRule};
-use ring_trace::{FaceOwners, FaceSet, SetList};
+use ring_trace::{FaceOwners, FaceSet, SetList, gaps};
 use std::alloc::{AllocError, Global};
 
-/// For each set its faces that no set has which the rule ranks before it.
+/// For each set its faces that no set has which the rule ranks before it, and then the gaps between the sets that go to
+/// it, of those of at most the area `gap`, doubled. With the area 0 none is filled.
 ///
-/// Areas are those of the sets as they come. Sets of equal areas are ranked by their numbers, the lowest first. A set
-/// may become empty.
-/// Cost: one step for each face of each set, and one for each face of the table.
+/// A gap goes to the set that ranks first of those that have, after that, a face across an arc round it. Areas are those
+/// of the sets as they come. Sets of equal areas are ranked by their numbers, the lowest first. A set may become empty.
+/// Cost: one step for each face of each set, and one for each face of the table; where gaps are filled, n log n for the
+/// n arcs and faces of the table.
 pub fn clean_sets(
     alloc: Global,
+    t: &ArcTable,
     f: &Faces,
     old: &SetList,
     rule: OverlapRule,
+    gap: u128,
 ) -> Result<SetList, AllocError>
+    requires built { IsBuiltOf t.now f.now }
     requires faces { All (IsSetOf f.now) old.now }
-    ensures exact { IfOk result (IsCleaned rule f.now.areas old.now) }
+    ensures exact { IfOk result (IsCleanedAndFilled rule gap f.now old.now) }
     ensures each { IfOk result (λ sets. length sets ≡ length old.now) }
     ensures inner { IfOk result (All (IsSetOf f.now)) }
 {
     let areas = areas_of(alloc, f, old)?;
+    let cleaned = without_overlaps(alloc, f, old, &areas, rule)?;
+    if gap == 0 {
+        return Ok(cleaned);
+    }
+    let shut_in = gaps(alloc, t, f, &old.union(alloc)?)?;
+    filled_sets(alloc, f, &cleaned, &shut_in, &areas, rule, gap)
+}
+
+// For each set its faces that no set has which ranks before it.
+fn without_overlaps(
+    alloc: Global,
+    f: &Faces,
+    old: &SetList,
+    areas: &[i128],
+    rule: OverlapRule,
+) -> Result<SetList, AllocError>
+    requires faces { All (IsSetOf f.now) old.now }
+    requires areas { areas.now ≡ map (area_of f.now.areas) old.now }
+    ensures exact { IfOk result (IsCleaned rule f.now.areas old.now) }
+    ensures each { IfOk result (λ sets. length sets ≡ length old.now) }
+    ensures inner { IfOk result (All (IsSetOf f.now)) }
+{
     let owners = FaceOwners::of(alloc, f, old)?;
-    let firsts = firsts_of(alloc, f.count(), &owners, &areas, rule)?;
+    let firsts = firsts_of(alloc, f.count(), &owners, areas, rule)?;
     let mut sets = SetList::new(alloc);
     for n in 0..old.len() {
         sets.push(faces_won(alloc, f, &old.as_slice()[n as usize], &firsts, n)?)?;
@@ -40,27 +71,9 @@ fn areas_of(alloc: Global, f: &Faces, sets: &SetList) -> Result<Vec<i128>, Alloc
 {
     let mut areas = Vec::new(alloc);
     for set in sets.as_slice() {
-        areas.push(twice_area(f, set.faces())?)?;
+        areas.push(set.twice_area(f)?)?;
     }
     Ok(areas)
-}
-
-// Twice the area of the faces together.
-fn twice_area(f: &Faces, faces: &[FaceId]) -> Result<i128, AllocError>
-    requires faces { IsSetOf f.now faces.now }
-    ensures exact { IfOk result (λ area. area ≡ area_of f.now.areas faces.now) }
-{
-    let mut sum = 0i128;
-    for face in faces {
-        sum = added(sum, f.twice_area(*face))?;
-    }
-    Ok(sum)
-}
-
-fn added(sum: i128, area: i128) -> Result<i128, AllocError>
-    ensures exact { IfOk result (λ more. more ≡ sum +ℤ area) }
-{
-    sum.checked_add(area).ok_or(AllocError)
 }
 
 // For each face the first of the sets that have it.
@@ -80,8 +93,8 @@ fn firsts_of(
     Ok(firsts)
 }
 
-// The set of a list that no other ranks before.
-fn first_of(numbers: &[u32], areas: &[i128], rule: OverlapRule) -> Option<u32>
+/// The set of a list of numbers that no other of them ranks before.
+pub fn first_of(numbers: &[u32], areas: &[i128], rule: OverlapRule) -> Option<u32>
     ensures exact { IsFirst rule areas.now numbers.now result }
 {
     let mut first = None;

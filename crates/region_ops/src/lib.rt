@@ -2,7 +2,7 @@
 //!
 //! - clip keeps of each set the faces of a source, erase those that aren't of it.
 //! - dissolve makes one set of the members of each group: all their faces.
-//! - clean leaves each face that several sets have with the one that a rule ranks first.
+//! - clean leaves each face that several sets have with the one that a rule ranks first, and then fills small gaps.
 //! - mosaic puts together the faces that the same sets have, and makes a set of each part of them.
 //! - explode makes a set of each part of a set.
 //!
@@ -13,6 +13,7 @@ mod cleaned_sets;
 mod cut_sets;
 mod dissolved_sets;
 mod exploded_sets;
+mod filled_sets;
 mod item_lists;
 mod shared_faces;
 

@@ -1,26 +1,26 @@
 -- Layers whose features share no face: each shared face left to one of them, or a feature for each part of what they share.
-use Rattle.std.specs.Prelude.{◌≡◌, ℕ, Bool, MatchBool, List, [], ◌∷◌, ◌++◌, map, codes, decimal}
+use Rattle.std.specs.Prelude.{◌≡◌, ℕ, Bool, List, [], ◌∷◌, ◌++◌, map, codes, decimal}
 use Rattle.std.specs.List.{flat_map}
 use Rattle.io_core.specs.Contents.{Content}
 use Rattle.json_read.specs.Table.{RowValues}
 use Rattle.json_read.specs.declared.value.Value.TheVariants as cell
 use Rattle.grid_base.specs.declared.kinds.Kind.TheVariants as kinds
 use Rattle.grid_base.specs.declared.kinds.OverlapRule.{OverlapRule}
-use Rattle.region_ops.specs.Cleaned.{IsCleaned as AreCleaned}
+use Rattle.region_ops.specs.Filled.{IsCleanedAndFilled}
 use Rattle.region_ops.specs.Mosaic.{IsMosaic}
 use Rattle.region_ops.specs.declared.item_lists.MosaicItem.{MosaicItem}
-use Rattle.run_shapes.specs.FaceSets.{sets_on, face_shapes}
-use Rattle.run_state.specs.Features.{HasRows, LeavesOut, all_numbers}
+use Rattle.run_shapes.specs.FaceSets.{HasSets, sets_on}
 use Rattle.run_plane.specs.declared.layer.Layer.{Layer}
 use Rattle.run_plane.specs.declared.layer.Shape.{Shape}
 use Rattle.run_plane.specs.declared.layer.Shape.TheVariants as shape
 use Rattle.run_plane.specs.declared.plane.Plane.{Plane}
 
--- each face that several features have is left with the one that the rule ranks first; features without faces go then, or stay where they may
-pub record IsCleaned (rule : OverlapRule) (allow_empty : Bool) (plane : Plane) (layer made : Layer) : Type 0 where
+-- each face that several features have is left with the one that the rule ranks first, and each gap that is small
+-- enough goes to one of its neighbours; features without faces go then, or stay where they may
+pub record IsCleaned (rule : OverlapRule) (allow_empty : Bool) (gap : ℕ) (plane : Plane) (layer made : Layer) : Type 0 where
   pub sets : List (List ℕ)
-  pub cleaned : AreCleaned rule plane.faces.areas (sets_on plane layer.shapes.items) sets
-  pub left : MatchBool allow_empty (HasRows layer (all_numbers layer) (face_shapes sets) made) (LeavesOut layer (face_shapes sets) made)
+  pub cleaned : IsCleanedAndFilled rule gap plane.faces (sets_on plane layer.shapes.items) sets
+  pub has : HasSets allow_empty layer sets made
 
 -- ---- a mosaic
 

@@ -1,5 +1,5 @@
 -- Sets of faces of shapes, and those that a cut is by.
-use Rattle.std.specs.Prelude.{ℕ, nat_lt, List, [], map, slice_index_or, Result, Ok, Err}
+use Rattle.std.specs.Prelude.{ℕ, Bool, MatchBool, nat_lt, List, [], map, slice_index_or, Result, Ok, Err}
 use Rattle.std.specs.List.{flat_map}
 use Rattle.lists.specs.Lists.{ascending}
 use Rattle.cmd_words.specs.declared.job.Origin.{Origin}
@@ -9,6 +9,7 @@ use Rattle.run_plane.specs.declared.layer.Layer.{Layer}
 use Rattle.run_plane.specs.declared.layer.Shape.{Shape}
 use Rattle.run_plane.specs.declared.layer.Shape.TheVariants as shape
 use Rattle.run_plane.specs.declared.plane.Plane.{Plane}
+use Rattle.run_state.specs.Features.{HasRows, LeavesOut, all_numbers}
 use Rattle.run_state.specs.Origins.{Base, one_layer, origin_layers}
 use Rattle.run_state.specs.declared.refusal.RefuseWhy.{RefuseWhy}
 use Rattle.run_state.specs.declared.state.Held.{Held}
@@ -42,3 +43,7 @@ sets_on plane shapes = map (faces_on plane) shapes
 -- a shape for each set
 abbrev pub face_shapes : List (List ℕ) → List Shape
 face_shapes sets = map shape.Faces sets
+
+-- the features with these sets of faces; those without faces stay, or all of them go
+abbrev pub HasSets : Bool → Layer → List (List ℕ) → Layer → Type 0
+HasSets keeps_empty layer sets made = MatchBool keeps_empty (HasRows layer (all_numbers layer) (face_shapes sets) made) (LeavesOut layer (face_shapes sets) made)

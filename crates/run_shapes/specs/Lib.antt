@@ -4,3 +4,4 @@ pub mod Cutting
 pub mod Dissolving
 pub mod Exploding
 pub mod FaceSets
+pub mod Islands

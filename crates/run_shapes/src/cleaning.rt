@@ -4,35 +4,31 @@ ghost use Rattle.std.specs.String.{string_bytes};
 ghost use Rattle.json_read.specs.Table.{AreRows};
 ghost use Rattle.run_shapes.specs.Cleaning.{IsCleaned, IsMosaicOf, after_comma, ids_row, ids_text, piece_shape};
 
-use crate::face_sets::{sets_of, shapes_of};
+use crate::face_sets::{sets_of, with_sets};
 use grid_base::{Kind, OverlapRule};
 use io_core::{NameList, Text};
 use itoa::Buffer;
 use json_read::{Row, RowList, Table, Value};
 use region_ops::{MosaicItem, clean_sets, mosaic_sets};
 use run_plane::{Layer, Plane, Shape, copy_text};
-use run_state::{nonempty, numbers_below, with_shapes};
 use std::alloc::{AllocError, Global};
 
-/// The layer with each face that several features hold left with the one that the rule ranks first. Features without
-/// geometry afterwards are left out, unless `allow_empty`.
+/// The layer with each face that several features hold left with the one that the rule ranks first. A gap between
+/// features, of at most the area `gap`, doubled and in squared grid units, then goes to the neighbour that the rule
+/// ranks first. Features without geometry afterwards are left out, unless `allow_empty`.
 pub fn cleaned(
     alloc: Global,
     plane: &Plane,
     layer: &Layer,
     rule: OverlapRule,
     allow_empty: bool,
+    gap: u128,
 ) -> Result<Layer, AllocError>
-    ensures made { IfOk result (IsCleaned rule allow_empty plane.now layer.now) }
+    ensures made { IfOk result (IsCleaned rule allow_empty gap plane.now layer.now) }
 {
-    let sets = sets_of(alloc, plane, &layer.shapes)?;
-    let cleaned = clean_sets(alloc, &plane.faces, &sets, rule)?;
-    let shapes = shapes_of(alloc, cleaned.as_slice())?;
-    if allow_empty {
-        let all = numbers_below(alloc, layer.table.row_count())?;
-        return with_shapes(alloc, layer, &all, shapes);
-    }
-    nonempty(alloc, layer, shapes)
+    let old = sets_of(alloc, plane, &layer.shapes)?;
+    let sets = clean_sets(alloc, &plane.arcs, &plane.faces, &old, rule, gap)?;
+    with_sets(alloc, layer, &sets, allow_empty)
 }
 
 /// A feature for each part of the faces that just the same features hold, in the order of the lists of their numbers,

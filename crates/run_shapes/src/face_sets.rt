@@ -1,15 +1,15 @@
 ghost use Rattle.std.specs.Prelude.{◌≡◌, [], All, IfErr, IfOk, length, slice_index_or};
 ghost use Rattle.ring_trace.specs.Sets.{IsSetOf};
 ghost use Rattle.run_plane.specs.OnPlane.{faces_on, set_on};
-ghost use Rattle.run_shapes.specs.FaceSets.{any_faces, area_of, face_shapes, faces_in, sets_on};
+ghost use Rattle.run_shapes.specs.FaceSets.{HasSets, any_faces, area_of, face_shapes, faces_in, sets_on};
 ghost use Rattle.run_state.specs.Origins.{base_of, refused_origin};
 ghost use Rattle.run_state.specs.Stops.{StopsFor};
 
 use cmd_words::Origin;
 use grid_base::FaceId;
 use ring_trace::{FaceSet, SetList};
-use run_plane::{Plane, Shape};
-use run_state::{CommandStop, Ground, Held, source_layer};
+use run_plane::{Layer, Plane, Shape};
+use run_state::{CommandStop, Ground, Held, nonempty, numbers_below, source_layer, with_shapes};
 use std::alloc::{AllocError, Global};
 
 /// The faces that `-clip` and `-erase` cut by: those of any feature of the source, or those in the box.
@@ -106,4 +106,22 @@ pub fn shapes_of(alloc: Global, sets: &[FaceSet]) -> Result<Vec<Shape>, AllocErr
         shapes.push(Shape::Faces(set.copy(alloc)?))?;
     }
     Ok(shapes)
+}
+
+/// The layer with these sets of faces for its shapes. Features without faces are left out, unless `keeps_empty`.
+pub(crate) fn with_sets(
+    alloc: Global,
+    layer: &Layer,
+    sets: &SetList,
+    keeps_empty: bool,
+) -> Result<Layer, AllocError>
+    requires each { length sets.now ≡ length layer.now.table.rows }
+    ensures made { IfOk result (HasSets keeps_empty layer.now sets.now) }
+{
+    let shapes = shapes_of(alloc, sets.as_slice())?;
+    if keeps_empty {
+        let all = numbers_below(alloc, layer.table.row_count())?;
+        return with_shapes(alloc, layer, &all, shapes);
+    }
+    nonempty(alloc, layer, shapes)
 }

@@ -2,7 +2,7 @@
 //!
 //! 1. `face_sets` has the sets of faces of a layer, and those that `-clip` and `-erase` cut by.
 //! 2. `cutting` is `-clip` and `-erase`, `cleaning` is `-clean` and `-mosaic`, `dissolving` is `-dissolve`, `exploding` is
-//!    `-explode`, `borders` is `-innerlines` and `-lines`.
+//!    `-explode`, `islands` is `-filter-islands`, `borders` is `-innerlines` and `-lines`.
 #![tactic(auto)]
 
 mod borders;
@@ -11,6 +11,7 @@ mod cutting;
 mod dissolving;
 mod exploding;
 mod face_sets;
+mod islands;
 mod paths;
 
 pub use borders::{inner_lines, outlines};
@@ -19,3 +20,4 @@ pub use cutting::{CutKeeps, cut};
 pub use dissolving::dissolved;
 pub use exploding::exploded;
 pub use face_sets::{area_of, sets_of, shapes_of, union_of};
+pub use islands::without_islands;

@@ -47,7 +47,7 @@ made_counted : (base : Base) (layers : List Held) (a : LayerAction) (layer : Lay
 made_counted base layers (action.Clip from) layer made h = one_counted _ made h
 made_counted base layers (action.Erase from) layer made h = one_counted _ made h
 made_counted base layers (action.Dissolve spec group_points) layer made h = one_counted _ made h
-made_counted base layers (action.Clean rule allow_empty) layer made h = one_counted _ made h
+made_counted base layers (action.Clean rule allow_empty gap) layer made h = one_counted _ made h
 made_counted base layers action.Mosaic layer made h = one_counted _ made h
 made_counted base layers action.InnerLines layer made h = one_counted _ made h
 made_counted base layers (action.Lines fields) layer made h = one_counted _ made h
@@ -57,6 +57,10 @@ made_counted base layers (action.Filter test invert remove_empty) layer made h =
 made_counted base layers (action.FilterFields fields) layer made h = one_counted _ made h
 made_counted base layers (action.RenameFields pairs) layer made h = one_counted _ made h
 made_counted base layers (action.Split field) layer made h = pieces_counted layer h.items made (split_rows layer.table field) h.answers h.pieces
+made_counted base layers (action.Each assigns) layer made h = one_counted _ made h
+made_counted base layers (action.Sort key descending) layer made h = one_counted _ made h
+made_counted base layers (action.Uniq key most invert) layer made h = one_counted _ made h
+made_counted base layers (action.FilterIslands least_area least_links remove_empty) layer made h = one_counted _ made h
 
 -- ---- layers that stay, and those put out
 

@@ -2,6 +2,10 @@
 use Rattle.std.specs.Prelude.{◌≡◌, ◌≤◌, ℕ, ⊤, List, [], ◌∷◌, ◌++◌, length, replicate, Option, Some, None, Ok, MatchBool}
 use Rattle.std.specs.List.{AllZip, position_or_len}
 use Rattle.io_core.specs.Contents.{Content}
+use Rattle.expr_lang.specs.Tree.{all_assigned, tree_of}
+use Rattle.calc_ops.specs.EachRow.{each_rows}
+use Rattle.calc_ops.specs.EarlyRows.{uniq_rows}
+use Rattle.calc_ops.specs.KeyOrder.{sort_rows}
 use Rattle.table_ops.specs.Columns.{keep_fields, rename_fields}
 use Rattle.table_ops.specs.Join.{join_tables}
 use Rattle.table_terms.specs.declared.specifications.JoinSpec.{JoinSpec}
@@ -19,11 +23,12 @@ use Rattle.run_shapes.specs.Cutting.{IsCut}
 use Rattle.run_shapes.specs.Dissolving.{IsGrouped}
 use Rattle.run_shapes.specs.Exploding.{IsExploded}
 use Rattle.run_shapes.specs.FaceSets.{area_of}
+use Rattle.run_shapes.specs.Islands.{IsMainland}
 use Rattle.run_shapes.specs.declared.cutting.CutKeeps.TheVariants as keeps
 use Rattle.run_state.specs.Origins.{Base, one_layer, origin_layers}
 use Rattle.run_state.specs.Targets.{is_selected, placed, targets}
 use Rattle.run_state.specs.declared.state.Held.{Held}
-use Rattle.run_tables.specs.Made.{GivesTable, IsFiltered, IsMerged, One}
+use Rattle.run_tables.specs.Made.{GivesTable, IsFiltered, IsMerged, One, TakesNumbers}
 use Rattle.run_tables.specs.Pieces.{IsSplit}
 
 -- ---- what is put out for a layer
@@ -45,7 +50,7 @@ abbrev pub PutsOut : Base → List Held → LayerAction → Layer → List Layer
 PutsOut base layers (action.Clip from) layer outputs = One (IsCut keeps.Inside base.plane (area_of base layers from) layer) outputs
 PutsOut base layers (action.Erase from) layer outputs = One (IsCut keeps.Outside base.plane (area_of base layers from) layer) outputs
 PutsOut base layers (action.Dissolve spec group_points) layer outputs = One (IsGrouped base.plane spec layer) outputs
-PutsOut base layers (action.Clean rule allow_empty) layer outputs = One (IsCleaned rule allow_empty base.plane layer) outputs
+PutsOut base layers (action.Clean rule allow_empty gap) layer outputs = One (IsCleaned rule allow_empty gap base.plane layer) outputs
 PutsOut base layers action.Mosaic layer outputs = One (IsMosaicOf base.plane layer) outputs
 PutsOut base layers action.InnerLines layer outputs = One (AreInnerLines base.plane layer) outputs
 PutsOut base layers (action.Lines fields) layer outputs = One (AreOutlines base.plane fields layer) outputs
@@ -55,6 +60,10 @@ PutsOut base layers (action.Filter test invert remove_empty) layer outputs = One
 PutsOut base layers (action.FilterFields fields) layer outputs = One (GivesTable (keep_fields layer.table fields) layer) outputs
 PutsOut base layers (action.RenameFields pairs) layer outputs = One (GivesTable (rename_fields layer.table pairs) layer) outputs
 PutsOut base layers (action.Split field) layer outputs = IsSplit field layer outputs
+PutsOut base layers (action.Each assigns) layer outputs = One (GivesTable (each_rows layer.table (all_assigned assigns)) layer) outputs
+PutsOut base layers (action.Sort key descending) layer outputs = One (TakesNumbers (sort_rows layer.table (tree_of key) descending) layer) outputs
+PutsOut base layers (action.Uniq key most invert) layer outputs = One (TakesNumbers (uniq_rows layer.table (tree_of key) most invert) layer) outputs
+PutsOut base layers (action.FilterIslands least_area least_links remove_empty) layer outputs = One (IsMainland least_area least_links remove_empty base.plane layer) outputs
 
 -- the name of `name=`, where it stands
 abbrev pub title_or : Option Content → Content → Content

@@ -4,6 +4,10 @@ use Rattle.std.specs.Prelude.{ℕ, ◌+◌, Bool, true, false, not, ◌||◌, na
 use Rattle.std.specs.List.{list_all}
 use Rattle.grid_base.specs.declared.kinds.Kind.{Kind}
 use Rattle.grid_base.specs.declared.kinds.Kind.TheVariants as kinds
+use Rattle.expr_lang.specs.Tree.{all_assigned, tree_of}
+use Rattle.calc_ops.specs.EachRow.{each_rows}
+use Rattle.calc_ops.specs.EarlyRows.{uniq_rows}
+use Rattle.calc_ops.specs.KeyOrder.{sort_rows}
 use Rattle.table_ops.specs.Columns.{keep_fields, rename_fields}
 use Rattle.table_ops.specs.Join.{join_tables}
 use Rattle.table_terms.specs.Refusals.{first_refusal}
@@ -65,11 +69,12 @@ has_geometry _ = true
 abbrev pub takes : LayerAction → Kind → Bool
 takes (action.Clip from) k = has_geometry k
 takes (action.Erase from) k = has_geometry k
-takes (action.Clean rule allow_empty) k = is_polygon k
+takes (action.Clean rule allow_empty gap) k = is_polygon k
 takes action.Mosaic k = is_polygon k
 takes action.InnerLines k = is_polygon k
 takes (action.Lines fields) k = is_polygon k
 takes action.Explode k = has_geometry k
+takes (action.FilterIslands least_area least_links remove_empty) k = is_polygon k
 takes (action.Filter test invert remove_empty) k = not remove_empty || has_geometry k
 takes _ k = true
 
@@ -112,6 +117,9 @@ refused_layer base layers (action.Filter test invert remove_empty) layer = table
 refused_layer base layers (action.FilterFields fields) layer = table_refusal (keep_fields layer.table fields)
 refused_layer base layers (action.RenameFields pairs) layer = table_refusal (rename_fields layer.table pairs)
 refused_layer base layers (action.Split field) layer = table_refusal (split_rows layer.table field)
+refused_layer base layers (action.Each assigns) layer = table_refusal (each_rows layer.table (all_assigned assigns))
+refused_layer base layers (action.Sort key descending) layer = table_refusal (sort_rows layer.table (tree_of key) descending)
+refused_layer base layers (action.Uniq key most invert) layer = table_refusal (uniq_rows layer.table (tree_of key) most invert)
 refused_layer base layers _ layer = None
 
 -- and any other layer is none that is refused

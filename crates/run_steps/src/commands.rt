@@ -202,7 +202,11 @@ fn check_source(
         | LayerAction::Filter { .. }
         | LayerAction::FilterFields { .. }
         | LayerAction::RenameFields { .. }
-        | LayerAction::Split { .. } => Ok(()),
+        | LayerAction::Split { .. }
+        | LayerAction::Each { .. }
+        | LayerAction::Sort { .. }
+        | LayerAction::Uniq { .. }
+        | LayerAction::FilterIslands { .. } => Ok(()),
     }
 }
 
@@ -252,13 +256,17 @@ fn takes(action: &LayerAction, kind: Kind) -> bool
         LayerAction::Clean { .. }
         | LayerAction::Mosaic
         | LayerAction::InnerLines
-        | LayerAction::Lines { .. } => is_polygon(kind),
+        | LayerAction::Lines { .. }
+        | LayerAction::FilterIslands { .. } => is_polygon(kind),
         LayerAction::Filter { remove_empty, .. } => !*remove_empty || has_geometry(kind),
         LayerAction::Dissolve { .. }
         | LayerAction::Join { .. }
         | LayerAction::FilterFields { .. }
         | LayerAction::RenameFields { .. }
-        | LayerAction::Split { .. } => true,
+        | LayerAction::Split { .. }
+        | LayerAction::Each { .. }
+        | LayerAction::Sort { .. }
+        | LayerAction::Uniq { .. } => true,
     }
 }
 

@@ -12,9 +12,10 @@ use ring_trace::FaceSet;
 use run_plane::{Layer, copy_text};
 use run_shapes::{
     CutKeeps, area_of, cleaned, cut, dissolved, exploded, inner_lines, mosaic, outlines,
+    without_islands,
 };
 use run_state::{CommandStop, Ground, Held, is_selected, source_layer};
-use run_tables::{filtered, joined, merged, renamed, split, with_fields};
+use run_tables::{calculated, filtered, joined, merged, renamed, sorted, split, unrepeated, with_fields};
 use std::alloc::{AllocError, Global};
 use table_terms::JoinSpec;
 
@@ -211,9 +212,11 @@ fn layer_outputs(
         LayerAction::Dissolve { spec, group_points } => {
             one(alloc, dissolved(alloc, plane, layer, spec, *group_points)?)
         }
-        LayerAction::Clean { rule, allow_empty } => {
-            one(alloc, cleaned(alloc, plane, layer, *rule, *allow_empty)?)
-        }
+        LayerAction::Clean {
+            rule,
+            allow_empty,
+            gap,
+        } => one(alloc, cleaned(alloc, plane, layer, *rule, *allow_empty, *gap)?),
         LayerAction::Mosaic => one(alloc, mosaic(alloc, plane, layer)?),
         LayerAction::Explode => one(alloc, exploded(alloc, plane, layer)?),
         LayerAction::InnerLines => one(alloc, inner_lines(alloc, plane, layer)?),
@@ -230,6 +233,21 @@ fn layer_outputs(
         LayerAction::FilterFields { fields } => one(alloc, with_fields(alloc, layer, fields)?),
         LayerAction::RenameFields { pairs } => one(alloc, renamed(alloc, layer, pairs)?),
         LayerAction::Split { field } => split(alloc, layer, field.as_ref()),
+        LayerAction::Each { assigns } => one(alloc, calculated(alloc, layer, assigns)?),
+        LayerAction::Sort { key, descending } => {
+            one(alloc, sorted(alloc, layer, key, *descending)?)
+        }
+        LayerAction::Uniq { key, most, invert } => {
+            one(alloc, unrepeated(alloc, layer, key, *most, *invert)?)
+        }
+        LayerAction::FilterIslands {
+            least_area,
+            least_links,
+            remove_empty,
+        } => one(
+            alloc,
+            without_islands(alloc, plane, layer, *least_area, *least_links, *remove_empty)?,
+        ),
     }
 }
 

@@ -53,11 +53,3 @@ joined P (xs ∷ xss) h = All-append P xs (joined_up xss) (All-head (All P) xs x
 
 pub together_inner : (faces : FaceTable) (sets : List (List ℕ)) → All (IsSetOf faces) sets → IsSetOf faces (all_faces sets)
 together_inner faces sets h = All-ascending (IsInnerFace faces) (joined_up sets) (joined (IsInnerFace faces) sets h)
-
-joined_apart : (xss : List (List ℕ)) (xs : List ℕ) → joined_up (xss ++ xs ∷ []) ≡ joined_up xss ++ xs
-joined_apart [] xs = append-nil xs
-joined_apart (ys ∷ xss) xs = ap (λ (zs : List ℕ). ys ++ zs) (joined_apart xss xs) ∙ sym (append_assoc ys (joined_up xss) xs)
-
--- one set more
-pub joined_more : (sets : List (List ℕ)) (i : ℕ) (d : List ℕ) → i < length sets → joined_up (take (i + 1) sets) ≡ joined_up (take i sets) ++ get_or sets i d
-joined_more sets i d l = ap joined_up (take_more sets i d l) ∙ joined_apart (take i sets) (get_or sets i d)

@@ -6,7 +6,8 @@ use Rattle.plane_model.specs.Points.{Path}
 use Rattle.plane_model.specs.Snapped.{snapped}
 use Rattle.grid_base.specs.declared.kinds.OverlapRule.TheVariants.{MaxArea}
 use Rattle.face_walk.specs.Places.{FaceTable}
-use Rattle.region_ops.specs.Cleaned.{IsCleaned, area_of}
+use Rattle.ring_trace.specs.Sets.{area_of}
+use Rattle.region_ops.specs.Cleaned.{IsCleaned}
 use Rattle.run_plane.specs.Begun.{IsFew}
 use Rattle.run_plane.specs.LaidOut.{IsLaidOut}
 use Rattle.synth_model.specs.Line.{line_text}

@@ -1,17 +1,15 @@
-ghost use Rattle.std.specs.Prelude.{◌≡◌, ◌*◌, ◌≤◌, ◌+ℤ◌, ◌++◌, All, IfErr, IfOk, OnOk, codes};
+ghost use Rattle.std.specs.Prelude.{◌≡◌, ◌*◌, ◌≤◌, ◌++◌, All, IfErr, IfOk, OnOk, codes};
 ghost use Rattle.std.specs.Fmt.{signed_decimal};
 ghost use Rattle.std.specs.String.{string_bytes};
 ghost use Rattle.snap_round.specs.Snapping.{FaultMeans};
 ghost use Rattle.ring_trace.specs.Sets.{IsSetOf};
-ghost use Rattle.region_ops.specs.Cleaned.{area_of};
 ghost use Rattle.run_plane.specs.LaidOut.{IsLaidOut};
 ghost use Rattle.synth_model.specs.Cells.{cells};
 ghost use Rattle.synth_model.specs.Line.{line_text, named};
-ghost use Rattle.run_synth.specs.Told.{AreNumbersOf, IsLineOf, IsToldOf, all_faces, filled};
+ghost use Rattle.run_synth.specs.Told.{AreNumbersOf, IsLineOf, IsToldOf, filled};
 
 use crate::cells::{cells_of, count_of};
-use face_walk::Faces;
-use grid_base::{FaceId, OverlapRule};
+use grid_base::OverlapRule;
 use itoa::Buffer;
 use region_ops::clean_sets;
 use ring_trace::{FaceSet, SetList};
@@ -68,9 +66,16 @@ fn numbers_of(
     requires inner { All (IsSetOf plane.now.faces) sets.now }
     ensures exact { IfOk result (AreNumbersOf plane.now.arcs plane.now.faces sets.now count) }
 {
-    let cleaned = clean_sets(alloc, &plane.faces, sets, OverlapRule::MaxArea)?;
-    let covered = covered(alloc, sets.as_slice())?;
-    let twice_area = twice_area(&plane.faces, covered.faces())?;
+    let cleaned = clean_sets(
+        alloc,
+        &plane.arcs,
+        &plane.faces,
+        sets,
+        OverlapRule::MaxArea,
+        0,
+    )?;
+    let covered = sets.union(alloc)?;
+    let twice_area = covered.twice_area(&plane.faces)?;
     Ok(Numbers {
         cells: count,
         arcs: plane.arcs.count(),
@@ -119,39 +124,8 @@ fn listed(alloc: Global, sets: Vec<FaceSet>) -> Result<SetList, AllocError>
     Ok(list)
 }
 
-// The faces of any of the sets.
-#[tactic(auto, using(crate::proofs::InnerSets::joined_more))]
-fn covered(alloc: Global, sets: &[FaceSet]) -> Result<FaceSet, AllocError>
-    ensures exact { IfOk result (λ faces. faces ≡ all_faces sets.now) }
-{
-    let mut faces = Vec::new(alloc);
-    for set in sets {
-        faces.extend_from_slice(set.faces())?;
-    }
-    Ok(FaceSet::from_faces(faces))
-}
-
 fn filled(sets: &[FaceSet]) -> usize
     ensures exact { result ≡ filled sets.now }
 {
     sets.iter().filter(|set| !set.is_empty()).count()
-}
-
-// Twice the area of the faces together.
-fn twice_area(faces: &Faces, set: &[FaceId]) -> Result<i128, AllocError>
-    requires faces { IsSetOf faces.now set.now }
-    ensures exact { IfOk result (λ area. area ≡ area_of faces.now.areas set.now) }
-{
-    let mut sum = 0i128;
-    for face in set {
-        sum = added(sum, faces.twice_area(*face))?;
-    }
-    Ok(sum)
-}
-
-// A sum past 2^127 counts as want of memory; the areas of so few cells stay far below it.
-fn added(sum: i128, area: i128) -> Result<i128, AllocError>
-    ensures exact { IfOk result (λ more. more ≡ sum +ℤ area) }
-{
-    sum.checked_add(area).ok_or(AllocError)
 }

@@ -33,6 +33,12 @@ pub record GivesTable (answer : Result TableContent TableWhy) (layer made : Laye
   pub answers : answer ≡ Ok given
   pub has : HasTable layer given made
 
+-- with the features whose numbers a function of tables answers, in that order
+pub record TakesNumbers (answer : Result (List ℕ) TableWhy) (layer made : Layer) : Type 0 where
+  pub numbers : List ℕ
+  pub answers : answer ≡ Ok numbers
+  pub takes : TakesFeatures layer numbers made
+
 -- the numbers of the rows for which the expression is true, or, inverted, false; without one all of them
 abbrev pub kept_numbers : Option Expr → Bool → Layer → Result (List ℕ) TableWhy
 kept_numbers None invert layer = Ok (all_numbers layer)

@@ -3,7 +3,8 @@ use Rattle.std.proofs.lemmas.List.Elements.{All-weaker}
 use Rattle.std.proofs.lemmas.Result.{IfOk-weaker}
 use Rattle.plane_model.specs.Arcs.{SignedArc}
 use Rattle.face_walk.specs.Places.{HasArc}
-use Rattle.calc_ops.specs.Islands.{area_of, border, is_detached, is_small, is_island, links_of}
+use Rattle.ring_trace.specs.Sets.{area_of}
+use Rattle.calc_ops.specs.Islands.{border, is_detached, is_small, is_island, links_of}
 use Rattle.calc_ops.proofs.islands.is_island.Goals as goal
 
 pub returns-then-not-is_detached : goal.returns-then-not-is_detached

@@ -1,0 +1,13 @@
+use Rattle.std.proofs.Common.{◌≡◌, ◌++◌, drop}
+use Rattle.expr_lang.specs.Tree.{all_assigned}
+use Rattle.json_read.specs.Table.{AreDistinctNames}
+use Rattle.calc_ops.specs.EachRow.{names_after, places_after}
+use Rattle.calc_ops.proofs.each_row.targets_of.Given as goal
+
+abbrev pub invariant-loop-item : goal.invariant-loop-item
+invariant-loop-item l = record {
+  same : l.after ≡ l.known;
+  names_left : names_after l.known (all_assigned (drop l.item-index l.item-items)) ≡ names_after l.names (all_assigned l.item-items);
+  places_left : l.places.items ++ places_after l.known (all_assigned (drop l.item-index l.item-items)) ≡ places_after l.names (all_assigned l.item-items);
+  distinct : AreDistinctNames l.known;
+}

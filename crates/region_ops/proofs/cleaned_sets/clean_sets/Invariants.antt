@@ -1,7 +1,0 @@
-use Rattle.std.proofs.Common.{All}
-use Rattle.ring_trace.specs.Sets.{IsSetOf}
-use Rattle.region_ops.specs.Cleaned.{AreWon}
-use Rattle.region_ops.proofs.cleaned_sets.clean_sets.Given as goal
-
-abbrev pub invariant-loop-n : goal.invariant-loop-n
-invariant-loop-n l = AreWon l.firsts.items l.old l.n l.sets × All (IsSetOf l.f) l.sets
