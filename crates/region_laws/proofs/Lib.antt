@@ -14,3 +14,5 @@ pub mod Areas
 pub mod Prints
 pub mod OnePart
 pub mod TieLaws
+pub mod Answered
+pub mod Fitting

@@ -2,3 +2,4 @@ pub mod Regions
 pub mod Followed
 pub mod Printed
 pub mod Ties
+pub mod Answered

@@ -9,11 +9,14 @@
 //!   `cleaned_by_regions`, `mosaics_are_followed`, `exploded_sets_are_followed`.
 //! - What is traced for a set prints its region: the rings use each step of the region's boundary once, and hold just its
 //!   points (`traces_use_boundaries`, `traces_print_regions`), part by part (`polygons_print_parts`).
+//! - What commands ask of regions is answered from the sets: which sides of links belong to a region, whether it is empty,
+//!   its area and its parts (`sides_are_told`, `emptiness_is_told`, `areas_are_told`, `parts_are_told`).
 //!
 //! Each function carries one law in its contract, and does nothing. Regions are those of `region_model`; the laws are stated
-//! in `specs/Followed.antt`, `specs/Printed.antt` and `specs/Ties.antt`.
+//! in `specs/Followed.antt`, `specs/Printed.antt`, `specs/Ties.antt` and `specs/Answered.antt`.
 #![tactic(auto)]
 
+ghost use Rattle.region_laws.specs.Answered.{AreasAreTold, CleanedAsTold, EmptinessIsTold, ExplodedAsTold, LayersAreFollowed, PartsAreTold, SidesAreTold, TracesFit};
 ghost use Rattle.region_laws.specs.Followed.{
   AreasAreThoseOfRegions,
   BoxesAreFollowed,
@@ -149,4 +152,44 @@ pub fn polygons_use_boundaries()
 /// Only one ascending set of inner faces follows a region.
 pub fn one_set_follows()
     ensures { OneSetFollows }
+{}
+
+/// The faces of any set of a layer follow any of the regions of its features: so they are the source of a clip.
+pub fn layers_are_followed()
+    ensures { LayersAreFollowed }
+{}
+
+/// Which sides of links belong to the region of a set can be told.
+pub fn sides_are_told()
+    ensures { SidesAreTold }
+{}
+
+/// A set has no faces exactly if its region is empty, as commands ask: its boundary has no links.
+pub fn emptiness_is_told()
+    ensures { EmptinessIsTold }
+{}
+
+/// Twice the area of a set of faces is that of its region, as commands ask for it.
+pub fn areas_are_told()
+    ensures { AreasAreTold }
+{}
+
+/// The sets that `clean_sets` answers where no gaps are filled follow what the definition of clean leaves of their regions.
+pub fn cleaned_as_told()
+    ensures { CleanedAsTold }
+{}
+
+/// A number is below the count of the parts of a set exactly if the part of the region with this number has a point.
+pub fn parts_are_told()
+    ensures { PartsAreTold }
+{}
+
+/// The pieces of a set, its parts or itself where it has no faces, are in order those that explode makes of its region.
+pub fn exploded_as_told()
+    ensures { ExplodedAsTold }
+{}
+
+/// What `trace` answers for the set of a region fits the region part by part, as printed polygons have to.
+pub fn traces_fit()
+    ensures { TracesFit }
 {}
