@@ -92,7 +92,7 @@ module _ (d : Drawing) (arcs : List Path) (faces : FaceTable) (label : Place →
 pub borders_are_of_regions : BordersAreOfRegions
 borders_are_of_regions d arcs faces label on A sets regions many tell P same =
     let all : sided_arcs P A regions ≡ map (with_sets arcs faces sets) (range_with_len 0 (length arcs)) =
-        ap (λ (paths : List Path). map (with_holders d arcs faces label on A sets regions many tell) paths) same ∙ all_sided d arcs faces label on A sets regions many tell in
+    ap (λ (paths : List Path). map (with_holders d arcs faces label on A sets regions many tell) paths) same ∙ all_sided d arcs faces label on A sets regions many tell in
     let apart = ap (λ (rows : List model.SidedArc). filter differs rows) all in
     let within = ap (λ (rows : List model.SidedArc). filter is_inner rows) all in
     record {

@@ -139,11 +139,11 @@ module _ (d : Drawing) (arcs : List Path) (faces : FaceTable) (label : Place →
         let cut = cut_runs (links_of (snapped d)) arcs faces label labelled set path named there (linked_steps arcs named linked) in
         let tests = inside_told d label set (Has (snapped d) arcs r) tell.follows (A.left r) (A.right r) tell.sides in (
           runs_as_points arcs (sides.is_inside faces set) named linked
-          ∙ ap (λ (runs : List (List Segment)). map path_along runs) (cut.clipped (told A r) tests ∙ runs_alike (goes_inside (told A r)) (model.is_inside A r) (steps path) [] same)
-          ∙ runs_of_points (model.is_inside A r) path,
+              ∙ ap (λ (runs : List (List Segment)). map path_along runs) (cut.clipped (told A r) tests ∙ runs_alike (goes_inside (told A r)) (model.is_inside A r) (steps path) [] same)
+              ∙ runs_of_points (model.is_inside A r) path,
           runs_as_points arcs (sides.is_outside faces set) named linked
-          ∙ ap (λ (runs : List (List Segment)). map path_along runs) (cut.erased (told A r) tests ∙ runs_alike (goes_outside (told A r)) (λ (s : Segment). not (model.is_inside A r s)) (steps path) [] (λ s c. ap not (same s c)))
-          ∙ runs_of_points (λ (s : Segment). not (model.is_inside A r s)) path,
+              ∙ ap (λ (runs : List (List Segment)). map path_along runs) (cut.erased (told A r) tests ∙ runs_alike (goes_outside (told A r)) (λ (s : Segment). not (model.is_inside A r s)) (steps path) [] (λ s c. ap not (same s c)))
+              ∙ runs_of_points (λ (s : Segment). not (model.is_inside A r s)) path,
         )
 
 -- paths that are cut one by one
@@ -273,7 +273,7 @@ module _ (d : Drawing) (arcs : List Path) (faces : FaceTable) (label : Place →
 pub sets_are_holders : SetsAreHolders
 sets_are_holders d arcs faces label on A sets regions many tell n below = (
   numbers_alike 0 (λ (set : List ℕ). has nat_eq set (sides.left_of faces (forward n))) (λ (r : Region). side_of_first (on_left A r) (get_or arcs n [])) sets regions [] (any_of []) many
-  (λ i l. left_holds d arcs faces label on A n below (get_or sets i []) (get_or regions i (any_of [])) (tell i l)),
+      (λ i l. left_holds d arcs faces label on A n below (get_or sets i []) (get_or regions i (any_of [])) (tell i l)),
   numbers_alike 0 (λ (set : List ℕ). has nat_eq set (sides.right_of faces (forward n))) (λ (r : Region). side_of_first (on_right A r) (get_or arcs n [])) sets regions [] (any_of []) many
-  (λ i l. right_holds d arcs faces label on A n below (get_or sets i []) (get_or regions i (any_of [])) (tell i l)),
+      (λ i l. right_holds d arcs faces label on A n below (get_or sets i []) (get_or regions i (any_of [])) (tell i l)),
 )

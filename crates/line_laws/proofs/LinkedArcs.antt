@@ -44,7 +44,7 @@ lines_are_linked d arcs table line is_line long named there h =
     let at_start : along.first ≡ 0 = elim (cases_lt 0 along.first) [ inl l ↦ absurd (starts (along.passed 0 l) (omega arith)) | inr l ↦ omega arith ] in
     let whole : round_from along.first line ≡ line = ap (λ (k : ℕ). round_from k line) at_start ∙ append-nil line in (
       chain_linked arcs named (All-weaker (λ a. a.arc < length arcs) (λ a. 1 < length (points_of arcs a)) (long_points (links_of (snapped d)) table.arrangement arcs table.long table.links) named there)
-      (subst IsChain along.stepped (steps_chain (round_from along.first line))),
+          (subst IsChain along.stepped (steps_chain (round_from along.first line))),
       along.joined ∙ whole,
     )
   where
@@ -104,11 +104,13 @@ module _ (S : List Segment) (arr : IsArrangement S) (arcs : List Path) (long : A
   if_steps : (n : ℕ) (s : Segment) → n < length arcs → Contains (links_of_arc arcs n) (link_between s) → (goes_along s (get_or arcs n []) ≡ true) × Steps n s
   if_steps n s below c =
       let (t, in_arc, same) = map-Contains link_between (steps (get_or arcs n [])) (link_between s) c in
-      let (j, step) = is_step S arr arcs long along n t below in_arc in
-      (elim (one_link s t (sym same)) [
-        | inl is ↦ or_left (has same_segment (steps (get_or arcs n [])) s) (has same_segment (steps (get_or arcs n [])) (reversed s)) (has_itself (steps (get_or arcs n [])) s (subst (Contains (steps (get_or arcs n []))) (sym is) in_arc))
-        | inr is ↦ or_right (has same_segment (steps (get_or arcs n [])) s) (has same_segment (steps (get_or arcs n [])) (reversed s)) (has_itself (steps (get_or arcs n [])) (reversed s) (subst (Contains (steps (get_or arcs n []))) (sym (ap reversed is)) in_arc))
-      ], (t, j, step, same))
+      let (j, step) = is_step S arr arcs long along n t below in_arc in (
+        elim (one_link s t (sym same)) [
+          | inl is ↦ or_left (has same_segment (steps (get_or arcs n [])) s) (has same_segment (steps (get_or arcs n [])) (reversed s)) (has_itself (steps (get_or arcs n [])) s (subst (Contains (steps (get_or arcs n []))) (sym is) in_arc))
+          | inr is ↦ or_right (has same_segment (steps (get_or arcs n [])) s) (has same_segment (steps (get_or arcs n [])) (reversed s)) (has_itself (steps (get_or arcs n [])) (reversed s) (subst (Contains (steps (get_or arcs n []))) (sym (ap reversed is)) in_arc))
+        ],
+        (t, j, step, same),
+      )
 
   pub arc_of_step : (a : SignedArc) (s : Segment) → a.arc < length arcs → Contains (steps (points_of arcs a)) s → arc_number arcs s ≡ a.arc
   arc_of_step a s below c =

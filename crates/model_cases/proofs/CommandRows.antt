@@ -47,7 +47,6 @@ a_and_b = record { names = codes "n" ∷ []; rows = (Words (codes "a") ∷ []) �
 abbrev holed : LayerContent
 holed = layer kind.Polygon a_and_b (Polygons ((ring 0 0 4 4 ∷ (point 1 1 ∷ point 1 3 ∷ point 3 3 ∷ point 3 1 ∷ point 1 1 ∷ []) ∷ []) ∷ []) ∷ square 1 1 2 3 ∷ [])
 
-
 filled : after holed (each.Clean MaxArea false 4) ≡ prints kind.Polygon a_and_b
     (st.region (any_of (less (feature 0) (any_of []) ∷ gap_of (feature 0 ∷ feature 1 ∷ []) 0 ∷ [])) ∷ st.region (any_of (less (feature 1) (any_of (feature 0 ∷ [])) ∷ [])) ∷ [])
 filled = refl
@@ -87,8 +86,8 @@ rooted root = record { root = root }
 
 -- a field that is set twice, and one that takes what it was set to before
 one_set : after one_point (each.Each (
-  record { name = codes "pop"; value = rooted (node.Constant (n 4)) } ∷ record { name = codes "d"; value = rooted (node.Column 10 (codes "pop")) } ∷ record { name = codes "pop"; value = rooted (node.Constant (n 5)) } ∷ []
-)) ≡ prints kind.Point (record { names = codes "pop" ∷ codes "d" ∷ []; rows = (n 5 ∷ n 4 ∷ []) ∷ [] }) (spots 1 1 ∷ [])
+    record { name = codes "pop"; value = rooted (node.Constant (n 4)) } ∷ record { name = codes "d"; value = rooted (node.Column 10 (codes "pop")) } ∷ record { name = codes "pop"; value = rooted (node.Constant (n 5)) } ∷ []
+    )) ≡ prints kind.Point (record { names = codes "pop" ∷ codes "d" ∷ []; rows = (n 5 ∷ n 4 ∷ []) ∷ [] }) (spots 1 1 ∷ [])
 one_set = refl
 
 unknown_name : after one_point (each.Each (record { name = codes "x"; value = rooted (node.Column 4 (codes "y")) } ∷ [])) ≡ ([], refused 1 (in_table (Eval 0 4 Unknown)))

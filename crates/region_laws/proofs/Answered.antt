@@ -118,7 +118,7 @@ parts_are_told d arcs faces label walked set inner r follows parts are j =
           let (k, below, in_k) = followed.all z off held.0 in
           let (a, here) = place_exists (links_of (snapped d)) (links_arranged d) z in
           let same : j ≡ k = in_no_other (links_of (snapped d)) (links_arranged d) (links_distinct d) arcs walked.table.long walked.table.links (arcs_free d arcs faces label walked) faces walked.built
-              label walked.labelled (labels_faces d arcs faces label walked) set inner parts are (Has (snapped d) arcs r) follows z off a here k below ((followed.each k below z off a here).0 in_k) j held.1 in
+          label walked.labelled (labels_faces d arcs faces label walked) set inner parts are (Has (snapped d) arcs r) follows z off a here k below ((followed.each k below z off a here).0 in_k) j held.1 in
           omega arith,
     )
 
