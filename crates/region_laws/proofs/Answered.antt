@@ -124,7 +124,7 @@ parts_are_told d arcs faces label walked set inner r follows parts are j =
 
 -- ---- explode
 
-nil_or_not : (xs : List ℕ) → (xs ≡ []) ⊎ (xs ≡ [] → ⊥)
+pub nil_or_not : (xs : List ℕ) → (xs ≡ []) ⊎ (xs ≡ [] → ⊥)
 nil_or_not [] = inl refl
 nil_or_not (x ∷ xs) = inr (λ e. absurd (cc))
 
@@ -134,6 +134,17 @@ one_bound a b to from = elim (cases_lt a b) [
   | inl l ↦ absurd (let m = from a l in omega arith)
   | inr l ↦ elim (cases_lt b a) [ inl k ↦ absurd (let m = to b k in omega arith) | inr k ↦ omega arith ]
 ]
+
+-- the parts of a set follow those of its region in order
+pub parts_in_order : (d : Drawing) (arcs : List Path) (faces : FaceTable) (label : Place → ℕ) → IsWalked d arcs faces label → (set : List ℕ) → IsSetOf faces set → (r : Region) → Follows (snapped d) arcs label set r → (A : answers.Answers) →
+    ((j : ℕ) → (j < A.parts r) ↔ answers.HasSome (plane_with d arcs) (part r j)) → (parts : List (List ℕ)) → AreParts faces set parts → FollowInOrder (snapped d) arcs label parts (parts_of A r)
+parts_in_order d arcs faces label walked set inner r follows A counted parts are =
+    let by_set = parts_are_told d arcs faces label walked set inner r follows parts are in
+    let many : A.parts r ≡ length parts = one_bound (A.parts r) (length parts) (λ j l. (by_set j).1 ((counted j).0 l)) (λ j l. (counted j).1 ((by_set j).0 l)) in
+    let followed = parts_are_followed d arcs faces label walked set inner r follows parts are in (
+      length-map-range_with_len (part r) 0 (A.parts r) ∙ many,
+      λ n l. subst (λ (t : Region). Follows (snapped d) arcs label (get_or parts n []) t) (sym (get_or-map-range_with_len (part r) 0 (A.parts r) n n (any_of []) (omega arith) (omega arith))) (followed.each n l),
+    )
 
 follow_one : (d : Drawing) (arcs : List Path) (label : Place → ℕ) (set : List ℕ) (r : Region) → Follows d arcs label set r → (n : ℕ) → n < length (set ∷ []) → Follows d arcs label (get_or (set ∷ []) n []) (get_or (r ∷ []) n (any_of []))
 follow_one d arcs label set r follows zero l = follows
@@ -155,13 +166,6 @@ exploded_as_told d arcs faces label walked set inner r follows A sides counted p
 
     apart : (set ≡ [] → ⊥) → FollowInOrder (snapped d) arcs label pieces (exploded (plane_with d arcs) A r)
     apart some =
-        let parts : AreParts faces set pieces = are.parts some in
         let is : is_empty (plane_with d arcs) A r ≡ false = false_from_ne_true (is_empty (plane_with d arcs) A r) (λ e. some (told.1 e)) in
         let each_part : exploded (plane_with d arcs) A r ≡ parts_of A r = (λ i. cond (is i) (r ∷ []) (parts_of A r)) in
-        let by_set = parts_are_told d arcs faces label walked set inner r follows pieces parts in
-        let many : A.parts r ≡ length pieces = one_bound (A.parts r) (length pieces) (λ j l. (by_set j).1 ((counted j).0 l)) (λ j l. (counted j).1 ((by_set j).0 l)) in
-        let followed = parts_are_followed d arcs faces label walked set inner r follows pieces parts in
-        subst (λ (regions : List Region). FollowInOrder (snapped d) arcs label pieces regions) (sym each_part) (
-          length-map-range_with_len (part r) 0 (A.parts r) ∙ many,
-          λ n l. subst (λ (t : Region). Follows (snapped d) arcs label (get_or pieces n []) t) (sym (get_or-map-range_with_len (part r) 0 (A.parts r) n n (any_of []) (omega arith) (omega arith))) (followed.each n l),
-        )
+        subst (λ (regions : List Region). FollowInOrder (snapped d) arcs label pieces regions) (sym each_part) (parts_in_order d arcs faces label walked set inner r follows A counted pieces (are.parts some))

@@ -16,3 +16,5 @@ pub mod OnePart
 pub mod TieLaws
 pub mod Answered
 pub mod Fitting
+pub mod AscendingLists
+pub mod MosaicTold

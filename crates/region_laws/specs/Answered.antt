@@ -16,10 +16,12 @@ use Rattle.ring_trace.specs.Turns.{round_of}
 use Rattle.part_laws.specs.Parts.{AreTraced}
 use Rattle.region_ops.specs.Cleaned.{IsCleaned, area_of}
 use Rattle.region_ops.specs.Exploded.{ArePieces}
+use Rattle.region_ops.specs.Mosaic.{IsMosaic}
+use Rattle.region_ops.specs.declared.item_lists.MosaicItem.{MosaicItem}
 use Rattle.region_model.specs.Region.{Region, any_of, part, Has}
 use Rattle.region_model.specs.Answers as answers
 use Rattle.region_model.specs.Answers.{Plane, Answers, AreSides, HasSome, PointsOf, is_empty}
-use Rattle.region_model.specs.PolygonCommands.{cleaned, exploded}
+use Rattle.region_model.specs.PolygonCommands.{cleaned, exactly, exploded, mosaic}
 use Rattle.region_model.specs.Printed.{Fits}
 use Rattle.region_laws.specs.Regions.{Follows, FollowEach}
 use Rattle.region_laws.specs.Followed.{IsWalked}
@@ -73,6 +75,14 @@ abbrev pub ExplodedAsTold : Type 0
 ExplodedAsTold = (d : Drawing) (arcs : List Path) (faces : FaceTable) (label : Place → ℕ) → IsWalked d arcs faces label → (set : List ℕ) → IsSetOf faces set → (r : Region) → Follows (snapped d) arcs label set r →
     (A : Answers) → TellSides (plane_with d arcs) A r → ((j : ℕ) → (j < A.parts r) ↔ HasSome (plane_with d arcs) (part r j)) → (pieces : List (List ℕ)) → ArePieces faces set pieces →
     FollowInOrder (snapped d) arcs label pieces (exploded (plane_with d arcs) A r)
+
+-- and the pieces of a mosaic are in order, with their lists of numbers, those that are made of the regions
+abbrev pub MosaicAsTold : Type 0
+MosaicAsTold = (d : Drawing) (arcs : List Path) (faces : FaceTable) (label : Place → ℕ) → IsWalked d arcs faces label → (sets : List (List ℕ)) → All (IsSetOf faces) sets → (region : ℕ → Region) →
+    FollowEach (snapped d) arcs label sets region → (A : Answers) → ((numbers : List ℕ) → TellSides (plane_with d arcs) A (exactly region (length sets) numbers)) →
+    ((numbers : List ℕ) (j : ℕ) → (j < A.parts (exactly region (length sets) numbers)) ↔ HasSome (plane_with d arcs) (part (exactly region (length sets) numbers) j)) → (items : List MosaicItem) → IsMosaic faces sets items →
+    (map (λ (item : MosaicItem). item.ids) items ≡ map (λ (m : List ℕ × Region). m.0) (mosaic (plane_with d arcs) A region (length sets)))
+    × FollowInOrder (snapped d) arcs label (map (λ (item : MosaicItem). item.set) items) (map (λ (m : List ℕ × Region). m.1) (mosaic (plane_with d arcs) A region (length sets)))
 
 -- What is traced for the set of a region fits the region, part by part: all rings use its boundary once and those of a polygon that of a part, each passes
 -- each of its vertices once, an exterior stands first and turns left, holes turn right and stand in order, and each ring begins where its least arc does.

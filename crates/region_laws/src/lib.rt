@@ -16,7 +16,7 @@
 //! in `specs/Followed.antt`, `specs/Printed.antt`, `specs/Ties.antt` and `specs/Answered.antt`.
 #![tactic(auto)]
 
-ghost use Rattle.region_laws.specs.Answered.{AreasAreTold, CleanedAsTold, EmptinessIsTold, ExplodedAsTold, LayersAreFollowed, PartsAreTold, SidesAreTold, TracesFit};
+ghost use Rattle.region_laws.specs.Answered.{AreasAreTold, CleanedAsTold, EmptinessIsTold, ExplodedAsTold, LayersAreFollowed, MosaicAsTold, PartsAreTold, SidesAreTold, TracesFit};
 ghost use Rattle.region_laws.specs.Followed.{
   AreasAreThoseOfRegions,
   BoxesAreFollowed,
@@ -187,6 +187,12 @@ pub fn parts_are_told()
 /// The pieces of a set, its parts or itself where it has no faces, are in order those that explode makes of its region.
 pub fn exploded_as_told()
     ensures { ExplodedAsTold }
+{}
+
+/// The items that `mosaic_sets` answers are in order, with their lists of numbers, those that the definition of a mosaic makes
+/// of the regions.
+pub fn mosaic_as_told()
+    ensures { MosaicAsTold }
 {}
 
 /// What `trace` answers for the set of a region fits the region part by part, as printed polygons have to.
