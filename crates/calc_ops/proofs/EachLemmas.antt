@@ -1,10 +1,10 @@
 -- A row that is being set, one assignment further, and the names that are known there.
-use Rattle.std.proofs.Common.{◌≡◌, ℕ, zero, suc, ◌+◌, ◌<◌, ◌≤◌, Bool, true, false, nat_lt, Option, Some, List, [], ◌∷◌, ◌++◌, length, drop, get_or, cond, drop-cons, add-one, refl, sym, ap, ◌∙◌, subst, append_assoc, append-nil, arith}
+use Rattle.std.proofs.Common.{◌≡◌, ℕ, zero, suc, ◌+◌, ◌<◌, ◌≤◌, Bool, true, false, not, nat_lt, ◌||◌, Option, Some, None, List, [], ◌∷◌, ◌++◌, length, drop, get_or, map, cond, drop-cons, add-one, refl, sym, ap, ◌∙◌, subst, append_assoc, append-nil, arith}
 use Rattle.std.specs.Prelude.{Result, Ok, Err, slice_set}
 use Rattle.std.specs.Str.{bytes_eq}
 use Rattle.std.specs.List.{list_any, position_or_len}
 use Rattle.std.proofs.lemmas.Bool.Decides.{nat_tests}
-use Rattle.std.proofs.lemmas.List.{length-set, length_push}
+use Rattle.std.proofs.lemmas.List.{length-map, length-set, length_push}
 use Rattle.expr_lang.specs.declared.assign.Assign.{Assign}
 use Rattle.expr_lang.specs.Meaning.{Evaluated, cell, column_at, evaluated, on_ok as on_value, signed, joined, chosen}
 use Rattle.expr_lang.specs.Tree.{Tree, constant, column, feature_number, unary, binary, choice, Assigned, assigned, all_assigned, tree_of}

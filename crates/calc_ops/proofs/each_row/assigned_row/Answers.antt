@@ -1,4 +1,4 @@
-use Rattle.std.proofs.Common.{◌≡◌, ◌∙◌, ap, sym, subst, arith, List, [], Err, length, get_or, ◌+◌}
+use Rattle.std.proofs.Common.{◌≡◌, ◌∙◌, ap, sym, subst, arith, List, [], Err, length, get_or, ◌<◌, ◌+◌}
 use Rattle.std.proofs.lemmas.Bool.Decides.{nat_tests}
 use Rattle.std.proofs.lemmas.Result.{err_from_is_err_and}
 use Rattle.expr_lang.specs.declared.assign.Assign.{Assign}
@@ -9,7 +9,7 @@ use Rattle.table_ops.specs.Rows.{row_at}
 use Rattle.table_ops.proofs.TakenRows.{long_at}
 use Rattle.table_ops.proofs.Answering.{answers_other}
 use Rattle.calc_ops.specs.Keys.{value_for}
-use Rattle.calc_ops.specs.EachRow.{assigned_row, names_after, places_after}
+use Rattle.calc_ops.specs.EachRow.{assigned_row, names_after, places_after, with_value}
 use Rattle.calc_ops.proofs.EachLemmas.{SoFar, none_set, row_stops, row_sets}
 use Rattle.calc_ops.proofs.IslandLemmas.{read_is}
 use Rattle.calc_ops.proofs.each_row.assigned_row.Goals as goal
