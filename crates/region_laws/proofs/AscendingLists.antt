@@ -1,5 +1,5 @@
 -- The nonempty ascending lists of some numbers stand in lexicographic order.
-use Rattle.std.proofs.Common.{◌≡◌, ◌⊎◌, inl, inr, refl, sym, ap, subst, ◌∙◌, arith, ℕ, ◌<◌, Bool, true, false, not, cond, ◌&&◌, ◌||◌, List, [], ◌∷◌, ◌++◌, Contains, filter, map, nat_lt}
+use Rattle.std.proofs.Common.{◌≡◌, ◌⊎◌, inl, inr, refl, sym, subst, ◌∙◌, arith, ℕ, Bool, true, false, not, cond, ◌&&◌, ◌||◌, List, [], ◌∷◌, ◌++◌, Contains, filter, map, nat_lt}
 use Rattle.std.proofs.lemmas.Bool.{false_from_ne_true, or_left}
 use Rattle.std.proofs.lemmas.List.Elements.{Contains-append_left, Contains-append_right}
 use Rattle.lists.specs.Lists.{list_before}
@@ -156,5 +156,5 @@ lists_ascend (n ∷ ns) up =
         | inr there ↦ later [] ys there
       ],
       join_ascends list_less (map (λ (L : List ℕ). n ∷ L) (ascending_lists ns)) (ascending_lists ns) (same_front_ascends n (ascending_lists ns) rest) rest
-      (λ xs ys cx cy. (let (zs, in_rest, is) = map-Contains (λ (L : List ℕ). n ∷ L) (ascending_lists ns) xs cx in subst (λ (us : List ℕ). list_less us ys ≡ true) is (later zs ys cy))),
+          (λ xs ys cx cy. (let (zs, in_rest, is) = map-Contains (λ (L : List ℕ). n ∷ L) (ascending_lists ns) xs cx in subst (λ (us : List ℕ). list_less us ys ≡ true) is (later zs ys cy))),
     )

@@ -1,5 +1,5 @@
 -- The pieces of a mosaic are those that the definition makes of the regions.
-use Rattle.std.proofs.Common.{◌≡◌, ◌⊎◌, inl, inr, refl, sym, ap, subst, ◌∙◌, arith, ℕ, zero, suc, ◌+◌, ◌<◌, ◌≤◌, Bool, true, false, not, List, [], ◌∷◌, ◌++◌, All, AllPairs, Contains, length, filter, get_or, map, nat_lt}
+use Rattle.std.proofs.Common.{◌≡◌, inl, inr, refl, sym, ap, subst, ◌∙◌, arith, ℕ, zero, suc, ◌+◌, ◌<◌, ◌≤◌, Bool, true, false, not, List, [], ◌∷◌, ◌++◌, All, AllPairs, Contains, length, get_or, map, nat_lt}
 use Rattle.std.specs.Prelude.{◌↔◌}
 use Rattle.std.specs.List.{AllZip, flat_map, range_with_len}
 use Rattle.std.proofs.lemmas.Bool.{false_from_ne_true, lt-ltb}
@@ -122,10 +122,10 @@ module _ (d : Drawing) (arcs : List Path) (label : Place → ℕ) (made : List �
   all_sets (g ∷ groups) h =
       let here : IsGroupOf g = h g (Contains-head g groups) in
       let one : AllZip (Follows d arcs label) (map set_in (items_of g.ids g.parts)) (map region_of (made_with g.ids)) =
-          subst (λ (sets : List (List ℕ)). AllZip (Follows d arcs label) sets (map region_of (made_with g.ids))) (sym (sets_alike g.ids g.parts))
-          (subst (λ (regions : List Region). AllZip (Follows d arcs label) g.parts regions) (sym (regions_alike g.ids (made g.ids))) (to_zip d arcs label g.parts (made g.ids) here.0 here.1)) in
+      subst (λ (sets : List (List ℕ)). AllZip (Follows d arcs label) sets (map region_of (made_with g.ids))) (sym (sets_alike g.ids g.parts))
+      (subst (λ (regions : List Region). AllZip (Follows d arcs label) g.parts regions) (sym (regions_alike g.ids (made g.ids))) (to_zip d arcs label g.parts (made g.ids) here.0 here.1)) in
       let joined = join_zip d arcs label (map set_in (items_of g.ids g.parts)) (map set_in (items_of_groups groups)) (map region_of (made_with g.ids)) (map region_of (flat_map made_with (map (λ (f : Group). f.ids) groups))) one
-          (all_sets groups (λ f c. h f (Contains-later g groups f c))) in
+      (all_sets groups (λ f c. h f (Contains-later g groups f c))) in
       subst (λ (sets : List (List ℕ)). AllZip (Follows d arcs label) sets (map region_of (made_with g.ids ++ flat_map made_with (map (λ (f : Group). f.ids) groups)))) (sym (map-append set_in (items_of g.ids g.parts) (items_of_groups groups)))
       (subst (λ (regions : List Region). AllZip (Follows d arcs label) (map set_in (items_of g.ids g.parts) ++ map set_in (items_of_groups groups)) regions) (sym (map-append region_of (made_with g.ids) (flat_map made_with (map (λ (f : Group). f.ids) groups)))) joined)
 
@@ -238,12 +238,12 @@ module _ (d : Drawing) (arcs : List Path) (faces : FaceTable) (label : Place →
     told counted =
         let groups_are = group_follows counted in (
           ap (λ (all : List MosaicItem). map numbers_in all) is.listed
-          ∙ all_numbers (snapped d) arcs label pieces_of is.groups groups_are
-          ∙ ap (λ (lists : List (List ℕ)). map numbers_of (flat_map (λ (L : List ℕ). map (λ (r : Region). (L, r)) (pieces_of L)) lists)) lists_are,
+              ∙ all_numbers (snapped d) arcs label pieces_of is.groups groups_are
+              ∙ ap (λ (lists : List (List ℕ)). map numbers_of (flat_map (λ (L : List ℕ). map (λ (r : Region). (L, r)) (pieces_of L)) lists)) lists_are,
           from_zip (snapped d) arcs label (map set_in items) (map region_of (mosaic (plane_with d arcs) A region (length sets)))
-          (subst (λ (all : List MosaicItem). AllZip (Follows (snapped d) arcs label) (map set_in all) (map region_of (mosaic (plane_with d arcs) A region (length sets)))) (sym is.listed)
-          (subst (λ (lists : List (List ℕ)). AllZip (Follows (snapped d) arcs label) (map set_in (items_of_groups is.groups)) (map region_of (flat_map (λ (L : List ℕ). map (λ (r : Region). (L, r)) (pieces_of L)) lists))) lists_are
-          (all_sets (snapped d) arcs label pieces_of is.groups groups_are))),
+              (subst (λ (all : List MosaicItem). AllZip (Follows (snapped d) arcs label) (map set_in all) (map region_of (mosaic (plane_with d arcs) A region (length sets)))) (sym is.listed)
+              (subst (λ (lists : List (List ℕ)). AllZip (Follows (snapped d) arcs label) (map set_in (items_of_groups is.groups)) (map region_of (flat_map (λ (L : List ℕ). map (λ (r : Region). (L, r)) (pieces_of L)) lists))) lists_are
+              (all_sets (snapped d) arcs label pieces_of is.groups groups_are))),
         )
 
 pub mosaic_as_told : MosaicAsTold
