@@ -13,11 +13,13 @@ use Rattle.json_read.specs.declared.value.Value.TheVariants.{Null, Num}
 use Rattle.geojson_io.specs.LayerContent.{LayerContent}
 use Rattle.geojson_io.specs.declared.shape.GeoShape.TheVariants.{Nothing}
 use Rattle.table_terms.specs.Names.{Text}
+use Rattle.cmd_words.specs.ActionWords.{whole}
 use Rattle.cmd_words.specs.Tells.{FitsJob}
 use Rattle.cmd_words.specs.Words.{ChainWords, JobWords, Reading, chain}
 use Rattle.cmd_words.specs.declared.job.Job.TheVariants as job
 use Rattle.cmd_words.specs.declared.job.OutForm.TheVariants.{Geo, Csv}
 use Rattle.cmd_words.specs.declared.job.Owner.TheVariants as owner
+use Rattle.cmd_words.specs.declared.action_words.ActionWords.TheVariants as words
 use Rattle.cmd_words.specs.declared.job.Action.TheVariants as ask
 use Rattle.cmd_words.specs.declared.job.OutForm.{OutForm}
 use Rattle.cmd_words.specs.declared.job.Target.TheVariants as target
@@ -56,13 +58,13 @@ words_of name standard form = record {
   so_far = record {
     sources = record { name = name; standard = standard; owner = owner.Import; string_fields = [] } ∷ [];
     boxes = [];
-    commands = record { command = record { target = target.Default; name = None; keep = false; action = ask.Write (codes "-") true form }; test = None } ∷ [];
+    commands = record { target = target.Default; name = None; keep = false; action = words.Whole (ask.Write (codes "-") true form) } ∷ [];
     reads_standard = standard;
   };
 }
 
 fits : (name : Text) (standard : Bool) (form : OutForm) → FitsJob (chain (words_of name standard form)) (job.Chain (chain_of (words_of name standard form)))
-fits name standard form = record { places = refl; sources = refl; boxes = refl; commands = (record { same = refl; test = tt }, tt) }
+fits name standard form = record { places = refl; sources = refl; boxes = refl; commands = (record { target = refl; name = refl; keep = refl; action = whole }, tt) }
 
 -- ---- a missing file
 

@@ -71,7 +71,7 @@ ended sources (Ok (chain w)) = run_over sources (chain_of w)
 
 -- words over sources that were read: no word is an expression
 abbrev result : List (List LayerContent) → List Words → List (List SeenLayer) × Outcome
-result sources words = ended sources (words_say (λ text. None) words)
+result sources words = ended sources (words_say (λ kind text. None) words)
 
 -- a.json b.json precision=1 -erase b + -o o.topojson -o o.topojson
 c440 : result (((record { name = (codes "a"); kind = kind.Polygon; table = record { names = ((codes "n") ∷ (codes "st") ∷ (codes "pop") ∷ []); rows = (((Text (codes "X")) ∷ (Text (codes "Y")) ∷ Null ∷ []) ∷ []) }; shapes = ((Polygons ((((p (pos 0) (pos 0)) ∷ (p (pos 3) (pos 1)) ∷ (p (pos 0) (pos 3)) ∷ (p (pos 2) (pos 1)) ∷ (p (pos 0) (pos 0)) ∷ []) ∷ []) ∷ [])) ∷ []) }) ∷ []) ∷ ((record { name = (codes "b"); kind = kind.Polygon; table = record { names = ((codes "n") ∷ (codes "pop") ∷ []); rows = ((Null ∷ (Num (pos 1000000000000000000)) ∷ []) ∷ ((Num (pos 1000000000000000000)) ∷ Null ∷ []) ∷ (Null ∷ (Num (pos 1000000000000000000)) ∷ []) ∷ []) }; shapes = ((Polygons ((((p (pos 0) (pos 1)) ∷ (p (pos 4) (pos 1)) ∷ (p (pos 0) (pos 0)) ∷ (p (pos 0) (pos 1)) ∷ []) ∷ []) ∷ [])) ∷ (Polygons ((((p (pos 1) (pos 2)) ∷ (p (pos 2) (pos 2)) ∷ (p (pos 4) (pos 1)) ∷ (p (pos 1) (pos 2)) ∷ []) ∷ []) ∷ [])) ∷ Nothing ∷ []) }) ∷ []) ∷ []) ((codes "a.json") ∷ (codes "b.json") ∷ (codes "precision=1") ∷ (codes "-erase") ∷ (codes "b") ∷ (codes "+") ∷ (codes "-o") ∷ (codes "o.topojson") ∷ (codes "-o") ∷ (codes "o.topojson") ∷ []) ≡ ((((record { name = (codes "a"); kind = kind.Polygon; table = record { names = ((codes "n") ∷ (codes "st") ∷ (codes "pop") ∷ []); rows = ([]) }; shapes = ([]) }) ∷ (record { name = (codes "b"); kind = kind.Polygon; table = record { names = ((codes "n") ∷ (codes "pop") ∷ []); rows = ([]) }; shapes = ([]) }) ∷ []) ∷ ((record { name = (codes "a"); kind = kind.Polygon; table = record { names = ((codes "n") ∷ (codes "st") ∷ (codes "pop") ∷ []); rows = ([]) }; shapes = ([]) }) ∷ (record { name = (codes "b"); kind = kind.Polygon; table = record { names = ((codes "n") ∷ (codes "pop") ∷ []); rows = ([]) }; shapes = ([]) }) ∷ []) ∷ []), done)

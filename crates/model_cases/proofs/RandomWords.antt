@@ -6,6 +6,7 @@ use Rattle.table_terms.specs.Names.{Text}
 use Rattle.json_read.specs.Decimal.{decimal_of_text}
 use Rattle.json_read.specs.Numeral.{numeral_of, grid_of_text}
 use Rattle.cmd_words.specs.Areas.{places_of, area_of}
+use Rattle.cmd_words.specs.Expressions.{Refusals}
 use Rattle.cmd_words.specs.Words.{JobWords, Reading}
 use Rattle.cmd_words.specs.declared.fault.ExprWhy.{ExprWhy}
 use Rattle.cmd_words.specs.declared.fault.ExprWhy.TheVariants.{Syntax, Unsupported}
@@ -14,8 +15,8 @@ use Rattle.cmd_words.specs.declared.fault.WordWhy.TheVariants as why
 use Rattle.word_model.specs.Words.{words_say}
 
 -- the texts that occur and are no expressions
-abbrev pub refuses : Text → Option (ℕ × ExprWhy)
-refuses s =
+abbrev faults : Text → Option (ℕ × ExprWhy)
+faults s =
     if bytes_eq s (codes "a /") then Some (2, Unsupported)
     else if bytes_eq s (codes "y,z") then Some (1, Unsupported)
     else if bytes_eq s (codes "n,,s") then Some (1, Unsupported)
@@ -26,6 +27,9 @@ refuses s =
     else if bytes_eq s (codes "a=b,c=d") then Some (1, Unsupported)
     else if bytes_eq s (codes "bbox=0,0,1,1") then Some (4, Unsupported)
     else None
+
+abbrev pub refuses : Refusals
+refuses kind s = faults s
 
 abbrev refusal_of : Reading JobWords → Option (ℕ × WordWhy)
 refusal_of (Ok j) = None

@@ -1,5 +1,5 @@
 -- Whole runs on tables: from words and bytes to texts.
-use Rattle.std.proofs.Common.{◌≡◌, refl, List, [], ◌∷◌, map, None, Ok, Err, codes, Result}
+use Rattle.std.proofs.Common.{◌≡◌, refl, List, [], ◌∷◌, map, flat_map, Option, Some, None, Ok, Err, codes, Result}
 use Rattle.std.specs.Fmt.{digits}
 use Rattle.csv.specs.Machine.{next_record}
 use Rattle.csv.specs.Reading.{records_from, strip_bom}
@@ -8,7 +8,13 @@ use Rattle.json_read.specs.Decimal.{decimal_of_text, decimal_text, fraction_text
 use Rattle.json_read.specs.Numeral.{numeral_of}
 use Rattle.csv_io.specs.CsvText.{csv_text}
 use Rattle.table_terms.specs.Names.{Text}
-use Rattle.cmd_words.specs.Chains.{CommandWords}
+use Rattle.cmd_words.specs.declared.action_words.ActionWords.{ActionWords}
+use Rattle.cmd_words.specs.declared.action_words.ActionWords.TheVariants as words
+use Rattle.cmd_words.specs.declared.action_words.CommandWords.{CommandWords}
+use Rattle.cmd_words.specs.declared.job.Action.{Action}
+use Rattle.cmd_words.specs.declared.job.Action.TheVariants as ask
+use Rattle.cmd_words.specs.declared.job.Command.{Command}
+use Rattle.cmd_words.specs.declared.job.LayerAction.TheVariants as each
 use Rattle.cmd_words.specs.Words.{ChainWords, JobWords, Reading, synth, chain}
 use Rattle.cmd_words.specs.declared.job.Chain.{Chain}
 use Rattle.chain_model.specs.Outcome.{Outcome, done, bad_words, bad_input, missing, syntax, repeated_name, unequal_row, no_header}
@@ -19,11 +25,20 @@ use Rattle.model_cases.specs.Counted.{counted}
 
 -- no expression and no JSON text is read here, and all bytes are UTF-8
 abbrev pub read : Readings
-read = record { json = λ s. Err (syntax 0); utf8_end = λ s. None; refusals = λ s. None }
+read = record { json = λ s. Err (syntax 0); utf8_end = λ s. None; refusals = λ kind s. None }
 
 -- commands without expressions
+abbrev whole_action : ActionWords → Option Action
+whole_action (words.Whole a) = Some a
+whole_action (words.Join from spec None) = Some (ask.Each (each.Join from spec))
+whole_action (words.Filter None invert remove_empty) = Some (ask.Each (each.Filter None invert remove_empty))
+whole_action _ = None
+
+abbrev whole_commands : CommandWords → List Command
+whole_commands w = elim (whole_action w.action) [ None ↦ [] | Some a ↦ record { target = w.target; name = w.name; keep = w.keep; action = a } ∷ [] ]
+
 abbrev pub chain_of : ChainWords → Chain
-chain_of w = record { places = w.places; sources = w.so_far.sources; boxes = w.so_far.boxes; commands = map (λ (c : CommandWords). c.command) w.so_far.commands }
+chain_of w = record { places = w.places; sources = w.so_far.sources; boxes = w.so_far.boxes; commands = flat_map whole_commands w.so_far.commands }
 
 -- the texts that a run prints, and how it ends
 abbrev texts_of : List Output → List Text

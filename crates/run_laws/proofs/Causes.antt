@@ -4,9 +4,12 @@ use Rattle.std.proofs.Math.Path.{fun_ext}
 use Rattle.std.specs.Io.KnownBytes.{Appends}
 use Rattle.io_core.specs.Contents.{Content}
 use Rattle.io_core.specs.Counts.{Rose}
-use Rattle.expr_lang.specs.Faults.{IsFault}
+use Rattle.expr_lang.specs.Grammar.{Cond, Assigns}
 use Rattle.cmd_words.specs.declared.fault.ExprWhy.{ExprWhy}
 use Rattle.cmd_words.specs.declared.fault.WordFault.{WordFault}
+use Rattle.cmd_words.specs.declared.action_words.ActionWords.{ActionWords}
+use Rattle.cmd_words.specs.declared.action_words.ActionWords.TheVariants as asked
+use Rattle.cmd_words.specs.declared.action_words.CommandWords.{CommandWords}
 use Rattle.cmd_words.specs.declared.job.Action.{Action}
 use Rattle.cmd_words.specs.declared.job.Action.TheVariants as action
 use Rattle.cmd_words.specs.declared.job.Chain.{Chain}
@@ -15,9 +18,9 @@ use Rattle.cmd_words.specs.declared.job.Job.{Job}
 use Rattle.cmd_words.specs.declared.job.Job.TheVariants as job
 use Rattle.cmd_words.specs.declared.job.OutForm.{OutForm}
 use Rattle.cmd_words.specs.declared.job.SourceWord.{SourceWord}
-use Rattle.cmd_words.specs.Chains.{CommandWords}
-use Rattle.cmd_words.specs.Expressions.{Refusals, AreRefusals, fault_at}
-use Rattle.cmd_words.specs.Tells.{Tells, FitsJob, FitsChain, FitEach, FitsCommand, without_test}
+use Rattle.cmd_words.specs.ActionWords.{FitsAction, whole, join, filter, each, sort, uniq, FitsCommand, FitEach}
+use Rattle.cmd_words.specs.Expressions.{Refusals, AreRefusals, TextKind, HasFault, expression, assignments, fault_at}
+use Rattle.cmd_words.specs.Tells.{Tells, FitsJob, FitsChain}
 use Rattle.cmd_words.specs.Words.{Reading, ChainWords, JobWords, synth, chain, read_words}
 use Rattle.cmd_words.proofs.ExpressionFaults.{refused_for}
 use Rattle.word_model.specs.Words.{words_say}
@@ -43,19 +46,24 @@ use Rattle.run_laws.proofs.Commands.{Quiet, words_are_quiet, drawing_is_quiet, q
 
 -- ## Texts are refused in one way
 
-refused_same : (a b : Refusals) → AreRefusals a → AreRefusals b → (text : Content) → a text ≡ b text
-refused_same a b ra rb text = go (b text) refl (rb text)
-  where
-    none : (o : Option (ℕ × ExprWhy)) → a text ≡ o → MatchOption o ((f : ℕ × ExprWhy) → IsFault text (fault_at f) → ⊥) (λ f. IsFault text (fault_at f)) → ((f : ℕ × ExprWhy) → IsFault text (fault_at f) → ⊥) → a text ≡ None
-    none None e h never = e
-    none (Some f) e h never = absurd (never f h)
+module _ (a b : Refusals) (ra : AreRefusals a) (rb : AreRefusals b) where
+  refused_same : (kind : TextKind) (text : Content) → a kind text ≡ b kind text
+  refused_same kind text = go (b kind text) refl (rb kind text)
+    where
+      told : (k : TextKind) (f : ℕ × ExprWhy) → HasFault k text (fault_at f) → a k text ≡ Some f
+      told expression f h = refused_for Cond text (a expression text) (ra expression text) f h
+      told assignments f h = refused_for Assigns text (a assignments text) (ra assignments text) f h
 
-    go : (o : Option (ℕ × ExprWhy)) → b text ≡ o → MatchOption o ((f : ℕ × ExprWhy) → IsFault text (fault_at f) → ⊥) (λ f. IsFault text (fault_at f)) → a text ≡ b text
-    go (Some f) e h = refused_for a text f ra h ∙ sym e
-    go None e h = none (a text) refl (ra text) h ∙ sym e
+      none : (o : Option (ℕ × ExprWhy)) → a kind text ≡ o → MatchOption o ((f : ℕ × ExprWhy) → HasFault kind text (fault_at f) → ⊥) (λ f. HasFault kind text (fault_at f)) → ((f : ℕ × ExprWhy) → HasFault kind text (fault_at f) → ⊥) → a kind text ≡ None
+      none None e h never = e
+      none (Some f) e h never = absurd (never f h)
 
-refusals_same : (a b : Refusals) → AreRefusals a → AreRefusals b → a ≡ b
-refusals_same a b ra rb = fun_ext (refused_same a b ra rb)
+      go : (o : Option (ℕ × ExprWhy)) → b kind text ≡ o → MatchOption o ((f : ℕ × ExprWhy) → HasFault kind text (fault_at f) → ⊥) (λ f. HasFault kind text (fault_at f)) → a kind text ≡ b kind text
+      go (Some f) e h = told kind f h ∙ sym e
+      go None e h = none (a kind text) refl (ra kind text) h ∙ sym e
+
+  refusals_same : a ≡ b
+  refusals_same = fun_ext (λ kind. fun_ext (refused_same kind))
 
 -- ## Commands by their words
 
@@ -69,17 +77,22 @@ fitting_at (w ∷ ws) (d ∷ cs) zero c f e =
 fitting_at (w ∷ ws) (d ∷ cs) (suc k) c f e = fitting_at ws cs k c f.1 e
 
 module _ (seen seen' : SourcesSeen) (before after : OutsideSeen) where
-  write_same : (to : Content) (standard : Bool) (form : OutForm) → ActionRose before after (action.Write to standard form) → model.WriteRose (counts_of seen before) (counts_of seen' after) (action.Write to standard form)
+  write_same : (to : Content) (standard : Bool) (form : OutForm) → ActionRose before after (action.Write to standard form) → model.WriteRose (counts_of seen before) (counts_of seen' after) (asked.Whole (action.Write to standard form))
   write_same to true form r = r
   write_same to false form r = r
 
-  action_same : (a b : Action) → without_test a ≡ without_test b → ActionRose before after a → model.WriteRose (counts_of seen before) (counts_of seen' after) b
-  action_same (action.Write to standard form) (action.Write to' standard' form') e r =
-      subst (model.WriteRose (counts_of seen before) (counts_of seen' after)) e (write_same to standard form r)
-  action_same (action.Write to standard form) (action.Each b) e r = absurd (cc)
-  action_same (action.Write to standard form) (action.Together b) e r = absurd (cc)
-  action_same (action.Each a) b e r = absurd r
-  action_same (action.Together a) b e r = absurd r
+  whole_same : (a : Action) → ActionRose before after a → model.WriteRose (counts_of seen before) (counts_of seen' after) (asked.Whole a)
+  whole_same (action.Write to standard form) r = write_same to standard form r
+  whole_same (action.Each a) r = absurd r
+  whole_same (action.Together a) r = absurd r
+
+  action_same : {w : ActionWords} {a : Action} → FitsAction w a → ActionRose before after a → model.WriteRose (counts_of seen before) (counts_of seen' after) w
+  action_same (whole {a = b}) r = whole_same b r
+  action_same (join f) r = absurd r
+  action_same (filter f) r = absurd r
+  action_same (each f) r = absurd r
+  action_same (sort f) r = absurd r
+  action_same (uniq f) r = absurd r
 
   -- ## What is told of an outcome
 
@@ -146,8 +159,7 @@ module _ (seen seen' : SourcesSeen) (before after : OutsideSeen) where
     failed_told : (middle : OutsideSeen) (o : Outcome) → CountsGrew before middle → FailedWrite 0 c.commands middle after o → Told words o
     failed_told middle o grew f =
         let v = fitting_at w.so_far.commands c.commands f.place f.command fits.commands f.there in
-        let same : without_test f.command.action ≡ without_test v.0.command.action = ap (λ (x : Command). x.action) v.2.same in
-        told_by words o (end.WriteFault (0 + (f.place + 1))) f.ends (f.place, v.0, omega arith, v.1, action_same f.command.action v.0.command.action same (action_rose f.command.action before middle after grew f.rose))
+        told_by words o (end.WriteFault (0 + (f.place + 1))) f.ends (f.place, v.0, omega arith, v.1, action_same v.2.action (action_rose f.command.action before middle after grew f.rose))
 
     commands_told : (o : Outcome) → RunsCommands c seen before after o → Told words o
     commands_told o r = go r.ran
