@@ -20,6 +20,13 @@ pub fn without_islands(
     ensures made { IfOk result (IsMainland least_area least_links remove_empty plane.now layer.now) }
 {
     let old = sets_of(alloc, plane, &layer.shapes)?;
-    let sets = drop_islands(alloc, &plane.arcs, &plane.faces, &old, least_area, least_links)?;
+    let sets = drop_islands(
+        alloc,
+        &plane.arcs,
+        &plane.faces,
+        &old,
+        least_area,
+        least_links,
+    )?;
     with_sets(alloc, layer, &sets, !remove_empty)
 }

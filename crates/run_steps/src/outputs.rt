@@ -15,7 +15,9 @@ use run_shapes::{
     without_islands,
 };
 use run_state::{CommandStop, Ground, Held, is_selected, source_layer};
-use run_tables::{calculated, filtered, joined, merged, renamed, sorted, split, unrepeated, with_fields};
+use run_tables::{
+    calculated, filtered, joined, merged, renamed, sorted, split, unrepeated, with_fields,
+};
 use std::alloc::{AllocError, Global};
 use table_terms::JoinSpec;
 
@@ -216,7 +218,10 @@ fn layer_outputs(
             rule,
             allow_empty,
             gap,
-        } => one(alloc, cleaned(alloc, plane, layer, *rule, *allow_empty, *gap)?),
+        } => one(
+            alloc,
+            cleaned(alloc, plane, layer, *rule, *allow_empty, *gap)?,
+        ),
         LayerAction::Mosaic => one(alloc, mosaic(alloc, plane, layer)?),
         LayerAction::Explode => one(alloc, exploded(alloc, plane, layer)?),
         LayerAction::InnerLines => one(alloc, inner_lines(alloc, plane, layer)?),
@@ -246,7 +251,14 @@ fn layer_outputs(
             remove_empty,
         } => one(
             alloc,
-            without_islands(alloc, plane, layer, *least_area, *least_links, *remove_empty)?,
+            without_islands(
+                alloc,
+                plane,
+                layer,
+                *least_area,
+                *least_links,
+                *remove_empty,
+            )?,
         ),
     }
 }

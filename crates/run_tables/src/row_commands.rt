@@ -17,11 +17,7 @@ use std::alloc::Global;
 ///
 /// Errors: the table is refused at the first row and assignment whose expression has a fault.
 #[tactic(auto, using(run_state::proofs::Stops::table_stops))]
-pub fn calculated(
-    alloc: Global,
-    layer: &Layer,
-    assigns: &AssignList,
-) -> Result<Layer, CommandStop>
+pub fn calculated(alloc: Global, layer: &Layer, assigns: &AssignList) -> Result<Layer, CommandStop>
     ensures made { IfOk result (GivesTable (each_rows layer.now.table (all_assigned assigns.now)) layer.now) }
     ensures accepted { IfOk result (λ made. table_refusal (each_rows layer.now.table (all_assigned assigns.now)) ≡ None) }
     ensures stops { IfErr result (StopsFor (table_refusal (each_rows layer.now.table (all_assigned assigns.now)))) }
