@@ -1,4 +1,5 @@
 pub mod Regions
 pub mod Followed
+pub mod Gaps
 pub mod Printed
 pub mod Ties
