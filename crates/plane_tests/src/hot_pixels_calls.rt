@@ -6,6 +6,8 @@
 //! - `chain_of` takes a segment; it answers the hot points on its way, and on a line of its own the number of links.
 //! - `append_chain` takes a list of segments between hot points, each with its place among those of the drawing; it
 //!   answers the path that has their chains one after another.
+ghost use Rattle.std.specs.Prelude.{◌<◌};
+
 use crate::drawings::point_at;
 use crate::texts::{points_text, print_points};
 use case_lists::{bytes_of_text, list_at, number_at, told, unknown_call};

@@ -1,5 +1,6 @@
 // Rings of polygons.
-ghost use Rattle.std.specs.Prelude.{◌≡◌, ◌≢◌, ◌∷◌, [], IfOk};
+ghost use Rattle.std.specs.Prelude.{◌≡◌, ◌≢◌, ◌∷◌, ◌<◌, [], IfOk, OnOk, length};
+ghost use Rattle.lists.specs.Lists.{last_of};
 ghost use Rattle.plane_model.specs.Joined.{IsClosed};
 
 use grid_base::{Drawing, Kind, Pt, PtList};
@@ -65,25 +66,24 @@ fn ring_of_four(alloc: Global, a: Pt, b: Pt, c: Pt, d: Pt) -> Result<PtList, All
     Ok(ring)
 }
 
-#[tactic(auto, using(crate::proofs::Last::polygon_added))]
+#[tactic(auto, using(crate::proofs::Last::polygon_added, crate::proofs::Last::polygon_kept))]
 fn add_area(drawing: &mut Drawing, exterior: PtList) -> Result<(), AllocError>
     requires some { exterior ≢ [] }
     requires closed { IsClosed exterior }
+    ensures polygon { OnOk result (0 < length (last_of [] drawing.new.polygons)) }
 {
     drawing.add_feature(Kind::Polygon)?;
     drawing.add_polygon()?;
-    drawing.add_ring(exterior)
+    drawing.add_ring(exterior)?;
+    Ok(())
 }
 
-#[tactic(auto, using(crate::proofs::Last::polygon_added, crate::proofs::Last::polygon_kept))]
 fn add_holed_area(drawing: &mut Drawing, exterior: PtList, hole: PtList) -> Result<(), AllocError>
     requires some { exterior ≢ [] }
     requires closed { IsClosed exterior }
     requires some_hole { hole ≢ [] }
     requires closed_hole { IsClosed hole }
 {
-    drawing.add_feature(Kind::Polygon)?;
-    drawing.add_polygon()?;
-    drawing.add_ring(exterior)?;
+    add_area(drawing, exterior)?;
     drawing.add_ring(hole)
 }
