@@ -48,23 +48,24 @@ fn stop_at<T: Debug>(alloc: Global, fault: &T) -> Stop {
 }
 
 pub fn answer(alloc: Global, call: &str, case: &[Json]) -> Result<Bytes, AllocError> {
-    match answered(alloc, call, case) {
-        Ok(bytes) => Ok(bytes),
-        Err(Stop::Told(bytes)) => Ok(bytes),
-        Err(Stop::Memory) => Err(AllocError),
+    match call {
+        "join_tables" => settled(joined(alloc, case)),
+        "filter_rows" => settled(filtered(alloc, case)),
+        "group_rows" => settled(grouped(alloc, case)),
+        "split_rows" => settled(split(alloc, case)),
+        "rename_fields" => settled(renamed(alloc, case)),
+        "keep_fields" => settled(kept(alloc, case)),
+        "merge_tables" => settled(merged(alloc, case)),
+        _ => unknown_call(alloc),
     }
 }
 
-fn answered(alloc: Global, call: &str, case: &[Json]) -> Result<Bytes, Stop> {
-    match call {
-        "join_tables" => joined(alloc, case),
-        "filter_rows" => filtered(alloc, case),
-        "group_rows" => grouped(alloc, case),
-        "split_rows" => split(alloc, case),
-        "rename_fields" => renamed(alloc, case),
-        "keep_fields" => kept(alloc, case),
-        "merge_tables" => merged(alloc, case),
-        _ => Ok(unknown_call(alloc)?),
+// A fault, as it is told, is an answer too.
+fn settled(answered: Result<Bytes, Stop>) -> Result<Bytes, AllocError> {
+    match answered {
+        Ok(bytes) => Ok(bytes),
+        Err(Stop::Told(bytes)) => Ok(bytes),
+        Err(Stop::Memory) => Err(AllocError),
     }
 }
 
