@@ -16,14 +16,24 @@ const COLUMNS: [&str; 4] = ["pop", "name", "e", "nothing"];
 
 pub fn answer(alloc: Global, call: &str, case: &[Json]) -> Result<Bytes, AllocError> {
     let text = expression_of(alloc, case)?;
-    let expression = match Expr::parse(alloc, text.as_str()) {
-        Ok(expression) => expression,
-        Err(fault) => return told(alloc, &fault),
-    };
     match call {
-        "parse" => bytes_of_text(alloc, "read"),
-        "eval" => value_text(alloc, &expression),
+        "parse" => parsed(alloc, text.as_str()),
+        "eval" => evaluated(alloc, text.as_str()),
         _ => unknown_call(alloc),
+    }
+}
+
+fn parsed(alloc: Global, text: &str) -> Result<Bytes, AllocError> {
+    match Expr::parse(alloc, text) {
+        Ok(_) => bytes_of_text(alloc, "read"),
+        Err(fault) => told(alloc, &fault),
+    }
+}
+
+fn evaluated(alloc: Global, text: &str) -> Result<Bytes, AllocError> {
+    match Expr::parse(alloc, text) {
+        Ok(expression) => value_text(alloc, &expression),
+        Err(fault) => told(alloc, &fault),
     }
 }
 

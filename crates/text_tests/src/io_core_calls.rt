@@ -38,13 +38,19 @@ fn whole_read(alloc: Global, case: &[Json]) -> Result<Bytes, AllocError> {
     told(alloc, &(got, source.faults()))
 }
 
-fn files_read(alloc: Global, case: &[Json]) -> Result<Bytes, AllocError> {
+// The files of a case of `read_file`.
+fn files_of(alloc: Global, case: &[Json]) -> Result<MemFiles, AllocError> {
     let most = number_at(case, 2).max(1);
     let mut files = MemFiles::new(alloc, most, &[number_at(case, 3)], &[], &[])?;
     match case.first() {
         Some(Json::Text(held)) => files.put("in.json", held.as_str().as_bytes())?,
         _ => files.ready("out.json", 10)?,
     }
+    Ok(files)
+}
+
+fn files_read(alloc: Global, case: &[Json]) -> Result<Bytes, AllocError> {
+    let mut files = files_of(alloc, case)?;
     let names = list_at(case, 4);
     let mut out = Bytes::new(alloc);
     for place in 0..names.len() {
@@ -65,12 +71,18 @@ fn file_read(
     told(alloc, &(got, files.read_faults()))
 }
 
-fn file_written(alloc: Global, case: &[Json]) -> Result<Bytes, AllocError> {
-    let bytes = bytes_at(alloc, case, 0)?;
+// Files with room for so many bytes in one of them.
+fn writable(alloc: Global, case: &[Json], room: usize) -> Result<MemFiles, AllocError> {
     let create = number_at(case, 1);
     let append = number_at(case, 2);
     let mut files = MemFiles::new(alloc, 64, &[], &[create], &[append])?;
-    files.ready("a.geojson", bytes.len() as u64)?;
+    files.ready("a.geojson", room as u64)?;
+    Ok(files)
+}
+
+fn file_written(alloc: Global, case: &[Json]) -> Result<Bytes, AllocError> {
+    let bytes = bytes_at(alloc, case, 0)?;
+    let mut files = writable(alloc, case, bytes.len())?;
     let ended = write_file(&mut files, "a.geojson", &bytes);
     let held = files.held("a.geojson").map(|held| held.len());
     told(alloc, &(ended, held, files.write_faults()))
@@ -81,10 +93,14 @@ fn whole_written(alloc: Global, case: &[Json]) -> Result<Bytes, AllocError> {
     let room = u64::from(number_at(case, 1));
     let mut sink = MemSink::new(alloc, room, 2, &[number_at(case, 2)])?;
     let is_whole = write_whole(&mut sink, &bytes).is_ok();
+    held_text(alloc, sink.held(), is_whole, sink.faults())
+}
+
+fn held_text(alloc: Global, held: &[u8], is_whole: bool, faults: u64) -> Result<Bytes, AllocError> {
     let mut out = Bytes::new(alloc);
-    out.extend(sink.held())?;
+    out.extend(held)?;
     out.push(b'\n')?;
-    out.extend(told(alloc, &(is_whole, sink.faults()))?.as_slice())?;
+    out.extend(told(alloc, &(is_whole, faults))?.as_slice())?;
     out.push(b'\n')?;
     Ok(out)
 }

@@ -7,30 +7,32 @@
 //! - `from_fields` takes a list of objects; it answers the names of their table, and then each cell after a blank.
 use case_lists::{bytes_at, bytes_of_text, list_at, number_at, text_at, told, unknown_call};
 use geojson_io::properties_of;
-use io_core::Bytes;
+use io_core::{Bytes, Text};
 use json_read::{FieldsList, Json, Row, Table, Value, numeral_to_grid};
 use std::alloc::{AllocError, Global};
 
 pub fn answer(alloc: Global, call: &str, case: &[Json]) -> Result<Bytes, AllocError> {
     match call {
-        "parse" => parsed(alloc, &bytes_at(alloc, case, 0)?),
-        "print_into" => printed(alloc, &bytes_at(alloc, case, 0)?),
-        "print_json" => printed_as_value(alloc, &bytes_at(alloc, case, 0)?),
+        "parse" => parsed(alloc, case),
+        "print_into" => printed(alloc, case),
+        "print_json" => printed_as_value(alloc, case),
         "numeral_to_grid" => on_grid(alloc, text_at(case, 0), number_at(case, 1)),
         "from_fields" => table_text(alloc, list_at(case, 0)),
         _ => unknown_call(alloc),
     }
 }
 
-fn parsed(alloc: Global, bytes: &[u8]) -> Result<Bytes, AllocError> {
-    match Json::parse(alloc, bytes) {
+fn parsed(alloc: Global, case: &[Json]) -> Result<Bytes, AllocError> {
+    let bytes = bytes_at(alloc, case, 0)?;
+    match Json::parse(alloc, &bytes) {
         Ok(_) => bytes_of_text(alloc, "read"),
         Err(fault) => told(alloc, &fault),
     }
 }
 
-fn printed(alloc: Global, bytes: &[u8]) -> Result<Bytes, AllocError> {
-    let json = match Json::parse(alloc, bytes) {
+fn printed(alloc: Global, case: &[Json]) -> Result<Bytes, AllocError> {
+    let bytes = bytes_at(alloc, case, 0)?;
+    let json = match Json::parse(alloc, &bytes) {
         Ok(json) => json,
         Err(fault) => return told(alloc, &fault),
     };
@@ -39,8 +41,9 @@ fn printed(alloc: Global, bytes: &[u8]) -> Result<Bytes, AllocError> {
     Ok(out)
 }
 
-fn printed_as_value(alloc: Global, bytes: &[u8]) -> Result<Bytes, AllocError> {
-    let json = match Json::parse(alloc, bytes) {
+fn printed_as_value(alloc: Global, case: &[Json]) -> Result<Bytes, AllocError> {
+    let bytes = bytes_at(alloc, case, 0)?;
+    let json = match Json::parse(alloc, &bytes) {
         Ok(json) => json,
         Err(fault) => return told(alloc, &fault),
     };
@@ -57,11 +60,16 @@ fn on_grid(alloc: Global, numeral: &str, places: u32) -> Result<Bytes, AllocErro
 fn table_text(alloc: Global, objects: &[Json]) -> Result<Bytes, AllocError> {
     let table = table_of(alloc, objects)?;
     let mut out = Bytes::new(alloc);
-    for name in table.names().as_slice() {
-        out.extend(name.as_str().as_bytes())?;
-    }
+    print_names(&mut out, table.names().as_slice())?;
     print_rows(&mut out, table.rows().as_slice())?;
     Ok(out)
+}
+
+fn print_names(out: &mut Bytes, names: &[Text]) -> Result<(), AllocError> {
+    for name in names {
+        out.extend(name.as_str().as_bytes())?;
+    }
+    Ok(())
 }
 
 fn table_of(alloc: Global, objects: &[Json]) -> Result<Table, AllocError> {

@@ -12,17 +12,18 @@
 //! - `rename_fields` takes a table and pairs of a column's new name and its name.
 //! - `keep_fields` takes a table, the names of columns that stay, and an expression; it answers those columns, of the
 //!   rows for which the expression is true.
-//! - `merge_tables` takes a list of tables, and `force` where their columns may differ.
+//! - `merge_tables` takes two tables, and `force` where their columns may differ.
 use case_lists::{bytes_at, list_at, names_at, text_at, told, unknown_call};
 use csv_io::{Room2, read_csv, write_csv};
 use expr_lang::Expr;
+use grid_base::IdList;
 use io_core::{Bytes, NameList, Text};
 use json_read::{Json, Table};
 use std::alloc::{AllocError, Global};
 use std::fmt::Debug;
 use table_ops::{
-    TableFault, TableList, filter_rows, group_rows, join_tables, keep_fields, merge_tables,
-    rename_fields, split_rows, take_rows,
+    Grouped, SplitItem, SplitList, TableFault, TableList, filter_rows, group_rows, join_tables,
+    keep_fields, merge_tables, rename_fields, split_rows, take_rows,
 };
 use table_terms::{GroupSpec, JoinSpec, Rename, RenameList};
 
@@ -47,16 +48,20 @@ fn stop_at<T: Debug>(alloc: Global, fault: &T) -> Stop {
 }
 
 pub fn answer(alloc: Global, call: &str, case: &[Json]) -> Result<Bytes, AllocError> {
-    let answered = match call {
-        "join_tables" => joined(alloc, case),
-        "filter_rows" => filtered(alloc, case),
-        "group_rows" => grouped(alloc, case),
-        "split_rows" => split(alloc, case),
-        "rename_fields" => renamed(alloc, case),
-        "keep_fields" => kept(alloc, case),
-        "merge_tables" => merged(alloc, case),
-        _ => return unknown_call(alloc),
-    };
+    match call {
+        "join_tables" => settled(joined(alloc, case)),
+        "filter_rows" => settled(filtered(alloc, case)),
+        "group_rows" => settled(grouped(alloc, case)),
+        "split_rows" => settled(split(alloc, case)),
+        "rename_fields" => settled(renamed(alloc, case)),
+        "keep_fields" => settled(kept(alloc, case)),
+        "merge_tables" => settled(merged(alloc, case)),
+        _ => unknown_call(alloc),
+    }
+}
+
+// A fault, as it is told, is an answer too.
+fn settled(answered: Result<Bytes, Stop>) -> Result<Bytes, AllocError> {
     match answered {
         Ok(bytes) => Ok(bytes),
         Err(Stop::Told(bytes)) => Ok(bytes),
@@ -93,51 +98,79 @@ fn written(alloc: Global, table: &Result<Table, TableFault>) -> Result<Bytes, St
     }
 }
 
-fn joined(alloc: Global, case: &[Json]) -> Result<Bytes, Stop> {
-    let target = table_at(alloc, case, 0)?;
-    let source = table_at(alloc, case, 1)?;
+fn join_of(alloc: Global, case: &[Json]) -> Result<JoinSpec, Stop> {
     let test = expression_at(alloc, case, 2)?;
-    let spec = JoinSpec {
+    Ok(JoinSpec {
         target_key: Text::of(alloc, "code")?,
         source_key: Text::of(alloc, "code")?,
         fields: None,
         force: text_at(case, 4) == "force",
         test: Some(test),
         prefix: Text::of(alloc, text_at(case, 3))?,
-    };
+    })
+}
+
+fn joined(alloc: Global, case: &[Json]) -> Result<Bytes, Stop> {
+    let target = table_at(alloc, case, 0)?;
+    let source = table_at(alloc, case, 1)?;
+    let spec = join_of(alloc, case)?;
     written(alloc, &join_tables(alloc, &target, &source, &spec))
 }
 
 fn filtered(alloc: Global, case: &[Json]) -> Result<Bytes, Stop> {
     let table = table_at(alloc, case, 0)?;
     let test = expression_at(alloc, case, 1)?;
-    match filter_rows(alloc, &table, &test, text_at(case, 2) == "invert") {
+    let inverts = text_at(case, 2) == "invert";
+    rows_told(alloc, &filter_rows(alloc, &table, &test, inverts))
+}
+
+fn rows_told(alloc: Global, rows: &Result<IdList, TableFault>) -> Result<Bytes, Stop> {
+    match rows {
         Ok(rows) => Ok(told(alloc, &rows.as_slice())?),
-        Err(fault) => Err(stop_at(alloc, &fault)),
+        Err(fault) => Err(stop_at(alloc, fault)),
     }
 }
 
 fn grouped(alloc: Global, case: &[Json]) -> Result<Bytes, Stop> {
     let table = table_at(alloc, case, 0)?;
-    let spec = GroupSpec {
-        by: one_name(alloc, "code")?,
-        copy: one_name(alloc, "n")?,
-        sum: one_name(alloc, "pop")?,
-    };
-    match group_rows(alloc, &table, &spec) {
+    let spec = grouping(alloc)?;
+    groups_written(alloc, &group_rows(alloc, &table, &spec))
+}
+
+fn grouping(alloc: Global) -> Result<GroupSpec, AllocError> {
+    let by = one_name(alloc, "code")?;
+    let copy = one_name(alloc, "n")?;
+    let sum = one_name(alloc, "pop")?;
+    Ok(GroupSpec { by, copy, sum })
+}
+
+fn groups_written(alloc: Global, groups: &Result<Grouped, TableFault>) -> Result<Bytes, Stop> {
+    match groups {
         Ok(groups) => Ok(write_csv(alloc, &groups.table)?),
-        Err(fault) => Err(stop_at(alloc, &fault)),
+        Err(fault) => Err(stop_at(alloc, fault)),
     }
 }
 
 fn split(alloc: Global, case: &[Json]) -> Result<Bytes, Stop> {
     let table = table_at(alloc, case, 0)?;
-    let pieces = match split_rows(alloc, &table, Some(text_at(case, 1))) {
-        Ok(pieces) => pieces,
-        Err(fault) => return Err(stop_at(alloc, &fault)),
-    };
+    let pieces = pieces_of(alloc, &table, text_at(case, 1));
+    pieces_told(alloc, &pieces)
+}
+
+fn pieces_of(alloc: Global, table: &Table, field: &str) -> Result<SplitList, TableFault> {
+    split_rows(alloc, table, Some(field))
+}
+
+fn pieces_told(alloc: Global, pieces: &Result<SplitList, TableFault>) -> Result<Bytes, Stop> {
+    match pieces {
+        Ok(pieces) => Ok(pieces_text(alloc, pieces.as_slice())?),
+        Err(fault) => Err(stop_at(alloc, fault)),
+    }
+}
+
+fn pieces_text(alloc: Global, pieces: &[SplitItem]) -> Result<Bytes, AllocError> {
     let mut out = Bytes::new(alloc);
-    for piece in pieces.as_slice() {
+    for piece in pieces {
         out.extend(told(alloc, &piece.rows.as_slice())?.as_slice())?;
         out.push(b'\n')?;
     }
@@ -147,7 +180,8 @@ fn split(alloc: Global, case: &[Json]) -> Result<Bytes, Stop> {
 fn renamed(alloc: Global, case: &[Json]) -> Result<Bytes, Stop> {
     let table = table_at(alloc, case, 0)?;
     let pairs = renames(alloc, list_at(case, 1))?;
-    written(alloc, &rename_fields(alloc, &table, &pairs))
+    let after = rename_fields(alloc, &table, &pairs);
+    written(alloc, &after)
 }
 
 fn renames(alloc: Global, pairs: &[Json]) -> Result<RenameList, AllocError> {
@@ -176,18 +210,9 @@ fn kept(alloc: Global, case: &[Json]) -> Result<Bytes, Stop> {
 }
 
 fn merged(alloc: Global, case: &[Json]) -> Result<Bytes, Stop> {
-    let tables = tables_of(alloc, list_at(case, 0))?;
-    if tables.len() == 0 {
-        return Ok(unknown_call(alloc)?);
-    }
-    let is_forced = text_at(case, 1) == "force";
-    written(alloc, &merge_tables(alloc, &tables, is_forced))
-}
-
-fn tables_of(alloc: Global, texts: &[Json]) -> Result<TableList, Stop> {
     let mut tables = TableList::new(alloc);
-    for place in 0..texts.len() {
-        tables.push(table_at(alloc, texts, place)?)?;
-    }
-    Ok(tables)
+    tables.push(table_at(alloc, case, 0)?)?;
+    tables.push(table_at(alloc, case, 1)?)?;
+    let is_forced = text_at(case, 2) == "force";
+    written(alloc, &merge_tables(alloc, &tables, is_forced))
 }
