@@ -199,14 +199,26 @@ fn kept(alloc: Global, case: &[Json]) -> Result<Bytes, Stop> {
     let table = table_at(alloc, case, 0)?;
     let names = names_at(alloc, case, 1)?;
     let test = expression_at(alloc, case, 2)?;
-    let kept = match keep_fields(alloc, &table, &names) {
-        Ok(kept) => kept,
-        Err(fault) => return Err(stop_at(alloc, &fault)),
-    };
-    match filter_rows(alloc, &kept, &test, false) {
-        Ok(rows) => Ok(write_csv(alloc, &take_rows(alloc, &kept, &rows)?)?),
-        Err(fault) => Err(stop_at(alloc, &fault)),
+    passing_written(alloc, &keep_fields(alloc, &table, &names), &test)
+}
+
+fn passing_written(
+    alloc: Global,
+    table: &Result<Table, TableFault>,
+    test: &Expr,
+) -> Result<Bytes, Stop> {
+    match table {
+        Ok(table) => {
+            let passing = passing(alloc, table, test);
+            written(alloc, &passing)
+        }
+        Err(fault) => Err(stop_at(alloc, fault)),
     }
+}
+
+fn passing(alloc: Global, table: &Table, test: &Expr) -> Result<Table, TableFault> {
+    let rows = filter_rows(alloc, table, test, false)?;
+    Ok(take_rows(alloc, table, &rows)?)
 }
 
 fn merged(alloc: Global, case: &[Json]) -> Result<Bytes, Stop> {
