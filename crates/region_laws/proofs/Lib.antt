@@ -18,3 +18,4 @@ pub mod Answered
 pub mod Fitting
 pub mod AscendingLists
 pub mod MosaicTold
+pub mod PartsExist

@@ -49,6 +49,10 @@ abbrev pub SidesAreTold : Type 0
 SidesAreTold = (d : Drawing) (arcs : List Path) (faces : FaceTable) (label : Place → ℕ) → IsWalked d arcs faces label → (set : List ℕ) (r : Region) → Follows (snapped d) arcs label set r →
     (left : Segment → Bool) × (right : Segment → Bool) × AreSides (links_of (snapped d)) (Has (snapped d) arcs r) left right
 
+-- each set of inner faces has parts
+abbrev pub PartsExist : Type 0
+PartsExist = (d : Drawing) (arcs : List Path) (faces : FaceTable) (label : Place → ℕ) → IsWalked d arcs faces label → (set : List ℕ) → IsStrictlyIncreasing set → IsSetOf faces set → (parts : List (List ℕ)) × AreParts faces set parts
+
 -- where they are told, a set has no faces exactly if its region is empty
 abbrev pub EmptinessIsTold : Type 0
 EmptinessIsTold = (d : Drawing) (arcs : List Path) (faces : FaceTable) (label : Place → ℕ) → IsWalked d arcs faces label → (set : List ℕ) → IsSetOf faces set → (r : Region) → Follows (snapped d) arcs label set r →

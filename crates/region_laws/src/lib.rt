@@ -16,7 +16,7 @@
 //! in `specs/Followed.antt`, `specs/Printed.antt`, `specs/Ties.antt` and `specs/Answered.antt`.
 #![tactic(auto)]
 
-ghost use Rattle.region_laws.specs.Answered.{AreasAreTold, CleanedAsTold, EmptinessIsTold, ExplodedAsTold, LayersAreFollowed, MosaicAsTold, PartsAreTold, SidesAreTold, TracesFit};
+ghost use Rattle.region_laws.specs.Answered.{AreasAreTold, CleanedAsTold, EmptinessIsTold, ExplodedAsTold, LayersAreFollowed, MosaicAsTold, PartsAreTold, PartsExist, SidesAreTold, TracesFit};
 ghost use Rattle.region_laws.specs.Followed.{
   AreasAreThoseOfRegions,
   BoxesAreFollowed,
@@ -162,6 +162,11 @@ pub fn layers_are_followed()
 /// Which sides of links belong to the region of a set can be told.
 pub fn sides_are_told()
     ensures { SidesAreTold }
+{}
+
+/// Each set of inner faces has parts.
+pub fn parts_exist()
+    ensures { PartsExist }
 {}
 
 /// A set has no faces exactly if its region is empty, as commands ask: its boundary has no links.
