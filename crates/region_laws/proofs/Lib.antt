@@ -7,6 +7,10 @@ pub mod OffLinks
 pub mod Sides
 pub mod Parts
 pub mod PartLaws
+pub mod FarLeft
+pub mod Outside
+pub mod GapParts
+pub mod Gaps
 pub mod Mosaics
 pub mod Totals
 pub mod SideTests

@@ -79,7 +79,7 @@ module _ (S : List Segment) (arr : IsArrangement S) (distinct : IsDistinct S) (a
   ]
 
   -- a link of arc n is that of a step
-  step_of : (n : ℕ) (l : Segment) → Contains (links_of_arc arcs n) l → (j : ℕ) × (s : Segment) × IsStep arcs n j s × (link_between s ≡ l)
+  pub step_of : (n : ℕ) (l : Segment) → Contains (links_of_arc arcs n) l → (j : ℕ) × (s : Segment) × IsStep arcs n j s × (link_between s ≡ l)
   step_of n l c = elim (cases_lt n (length arcs)) [
     | inl below ↦ (let (s, (j, there, is), same) = map-Contains link_between (steps (arc_of arcs n)) l c in (j, s, record { arc = below; there = there; is = is }, same))
     | inr past ↦ Contains-nil l (subst (λ (path : Path). Contains (map link_between (steps path)) l) (get_or_past arcs n [] past) c)

@@ -49,10 +49,10 @@ module _ (d : Drawing) (arcs : List Path) (z : RationalPoint) where
 
 -- ---- two sets
 
-kept_out : (source : List ℕ) (k : ℕ) → (Contains source k → ⊥) → not (has nat_eq source k) ≡ true
+pub kept_out : (source : List ℕ) (k : ℕ) → (Contains source k → ⊥) → not (has nat_eq source k) ≡ true
 kept_out source k out = ap not (false_from_ne_true (has nat_eq source k) (λ e. out (has_Contains source k e)))
 
-out_kept : (source : List ℕ) (k : ℕ) → not (has nat_eq source k) ≡ true → Contains source k → ⊥
+pub out_kept : (source : List ℕ) (k : ℕ) → not (has nat_eq source k) ≡ true → Contains source k → ⊥
 out_kept source k e c = let f : false ≡ true = ap not (sym (Contains_has source k c)) ∙ e in absurd (cc)
 
 in_one : (xs ys : List ℕ) (k : ℕ) → Contains (xs ++ ys) k → Contains xs k ⊎ Contains ys k

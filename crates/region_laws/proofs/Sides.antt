@@ -69,7 +69,7 @@ module _ (S : List Segment) (arr : IsArrangement S) (distinct : IsDistinct S) (l
 
   module _ (set : List ℕ) (P R : Points) (p_follows : (z : RationalPoint) → IsOffLinks S z → (a : Place) → IsPlaceOf S z a → P z ↔ Contains set (label a))
       (r_follows : (z : RationalPoint) → IsOffLinks S z → (a : Place) → IsPlaceOf S z a → R z ↔ Contains set (label a)) where
-    same_boundary : (boundary : List Segment) → AreBoundaryLinks S P boundary → AreBoundaryLinks S R boundary
+    pub same_boundary : (boundary : List Segment) → AreBoundaryLinks S P boundary → AreBoundaryLinks S R boundary
     same_boundary boundary are = record {
       links = All-weaker (Contains boundary) (λ l. Contains S l × IsBoundaryLink S R l)
           (λ l c. let i = All-contains (λ m. Contains S m × IsBoundaryLink S P m) boundary l are.links c in (i.0, same_boundary_link set P R p_follows r_follows l i.0 i.1))

@@ -6,14 +6,15 @@
 //! - The faces that a feature or a box holds follow it (`features_are_followed`, `boxes_are_followed`), and only one set
 //!   of inner faces follows a region (`one_set_follows`).
 //! - So it is after each command: `clipped_sets_are_followed`, `erased_sets_are_followed`, `dissolved_sets_are_followed`,
-//!   `cleaned_by_regions`, `mosaics_are_followed`, `exploded_sets_are_followed`.
+//!   `cleaned_by_regions`, `mosaics_are_followed`, `exploded_sets_are_followed`. The gaps of sets follow those between
+//!   their regions (`gaps_are_followed`).
 //! - What is traced for a set prints its region: the rings use each step of the region's boundary once, and hold just its
 //!   points (`traces_use_boundaries`, `traces_print_regions`), part by part (`polygons_print_parts`).
 //! - What commands ask of regions is answered from the sets: which sides of links belong to a region, whether it is empty,
 //!   its area and its parts (`sides_are_told`, `emptiness_is_told`, `areas_are_told`, `parts_are_told`).
 //!
 //! Each function carries one law in its contract, and does nothing. Regions are those of `region_model`; the laws are stated
-//! in `specs/Followed.antt`, `specs/Printed.antt`, `specs/Ties.antt` and `specs/Answered.antt`.
+//! in `specs/Followed.antt`, `specs/Gaps.antt`, `specs/Printed.antt`, `specs/Ties.antt` and `specs/Answered.antt`.
 #![tactic(auto)]
 
 ghost use Rattle.region_laws.specs.Answered.{AreasAreTold, CleanedAsTold, EmptinessIsTold, ExplodedAsTold, LayersAreFollowed, MosaicAsTold, PartsAreTold, PartsExist, SidesAreTold, TracesFit};
@@ -33,6 +34,7 @@ ghost use Rattle.region_laws.specs.Followed.{
   RemaindersAreFollowed,
   UnionsAreFollowed,
 };
+ghost use Rattle.region_laws.specs.Gaps.{GapsAreFollowed};
 ghost use Rattle.region_laws.specs.Printed.{PolygonsPrintParts, PolygonsUseBoundaries, TracesPrintRegions, TracesUseBoundaries};
 ghost use Rattle.region_laws.specs.Ties.{CleanedByRegions, EmptySetsAreEmptyRegions, OneSetFollows, SetsAreOfSides};
 
@@ -86,6 +88,13 @@ pub fn cleaned_sets_are_followed()
 /// boundaries.
 pub fn parts_are_followed()
     ensures { PartsAreFollowed }
+{}
+
+/// The sets that `gaps` answers for the union of some sets follow the gaps between their regions, in their order: two
+/// points that no region has are in one gap where no closed runs of the boundary of all regions separate them, none of
+/// its points is left of all links, and gaps are numbered by the least arcs in their boundaries.
+pub fn gaps_are_followed()
+    ensures { GapsAreFollowed }
 {}
 
 /// The items that `explode_sets` answers follow the parts of the regions, region by region; an empty region stays one item.
