@@ -23,3 +23,4 @@ pub mod Fitting
 pub mod AscendingLists
 pub mod MosaicTold
 pub mod PartsExist
+pub mod SetsExist

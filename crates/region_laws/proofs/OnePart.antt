@@ -34,7 +34,7 @@ use Rattle.region_laws.proofs.PartLaws.{parts_are_followed}
 use Rattle.region_laws.proofs.Prints.{faces_of_links}
 use Rattle.region_laws.proofs.SideTests.{left_same, one_boundary, right_same}
 
-pub alone : {X : Type 0} (P : X → Type 0) (x : X) → P x → All P (x ∷ [])
+alone : {X : Type 0} (P : X → Type 0) (x : X) → P x → All P (x ∷ [])
 alone P x h = All-cons P x [] h (All-nil P)
 
 module _ (S : List Segment) (arcs : List Path) (faces : FaceTable) (table : AreFacesOf S arcs faces) (set : List ℕ) (parts : List (List ℕ)) (polygons : List (List (List SignedArc))) (traced : AreTraced arcs faces set parts polygons)

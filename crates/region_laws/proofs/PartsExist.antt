@@ -1,8 +1,8 @@
--- Each set of inner faces has parts.
+-- Each set of faces has parts.
 use Rattle.std.proofs.Common.{◌≡◌, ◌⊎◌, inl, inr, refl, sym, ap, subst, ◌∙◌, arith, ℕ, zero, suc, ◌+◌, ◌*◌, ◌<◌, ◌≤◌, Bool, true, false, cond, ◌&&◌, List, [], ◌∷◌, All, Contains, length, filter, get_or, map, nat_eq, nat_lt}
 use Rattle.std.specs.Prelude.{◌↔◌}
 use Rattle.std.specs.List.Sorted.{IsStrictlyIncreasing}
-use Rattle.std.proofs.lemmas.Bool.{cases_lt, eq-eqb, eqb-true}
+use Rattle.std.proofs.lemmas.Bool.{eq-eqb, eqb-true, lt-ltb, ltb-true}
 use Rattle.std.proofs.lemmas.List.{get_or-map, get_or_default, length-map}
 use Rattle.std.proofs.lemmas.List.Elements.{All-contains, All-contains_itself, All-head, All-tail, Contains-get_or}
 use Rattle.std.proofs.lemmas.List.Kept.{AllPairs-from_increasing, IsStrictlyIncreasing-filter}
@@ -11,24 +11,16 @@ use Rattle.lists.proofs.Ascending.{Contains-ascending, IsAscending, ascending-Co
 use Rattle.lists.proofs.Members.{Contains-cases, Contains-filter, Contains-map, Contains-nil, filter-Contains, map-Contains}
 use Rattle.plane_model.specs.Points.{Path}
 use Rattle.plane_model.specs.Arcs.{SignedArc}
-use Rattle.plane_model.specs.Drawing.{Drawing}
-use Rattle.plane_model.specs.Snapped.{links_of, snapped}
 use Rattle.plane_faces.specs.Labels.{relabel}
-use Rattle.plane_faces.specs.Places.{Place}
-use Rattle.face_walk.specs.Places.{FaceTable, HasArc, face_left_of, signed_below}
+use Rattle.face_walk.specs.Places.{FaceTable, HasArc, IsBuiltOf, face_left_of, signed_below}
 use Rattle.ring_trace.specs.Boundary.{IsLeastArc, IsOnBoundary, boundary, face_right_of, is_outward, other_way}
 use Rattle.ring_trace.specs.Joined.{AreJoined, AreParts, IsChain, LeadsOver}
-use Rattle.ring_trace.specs.Parts.{IsDivided, IsPieceOf}
-use Rattle.ring_trace.specs.Sets.{IsInnerFace, IsSetOf}
+use Rattle.ring_trace.specs.Parts.{IsPieceOf}
 use Rattle.ring_trace.proofs.BoundaryLemmas.{Contains_has, arc_below, below_arc, has_Contains, one_place, outward_from, outward_if, same_or_other}
 use Rattle.ring_trace.proofs.JoinedLemmas.{joined_back, joined_itself, joined_on, joined_over}
 use Rattle.ring_trace.proofs.SetLemmas.{from_ascending, nat_order}
-use Rattle.part_laws.proofs.BoundedLaws.{parts_have_boundaries}
-use Rattle.region_laws.specs.Followed.{IsWalked}
 use Rattle.region_laws.specs.Answered.{PartsExist}
 use Rattle.region_laws.proofs.Least.{lowest, lowest_least, lowest_there}
-use Rattle.region_laws.proofs.OnePart.{alone}
-use Rattle.region_laws.proofs.Prints.{faces_of_links}
 
 same_by : (p q : ℕ → Bool) (xs : List ℕ) → ((x : ℕ) → Contains xs x → p x ≡ q x) → filter p xs ≡ filter q xs
 same_by p q [] h = refl
@@ -125,18 +117,18 @@ module _ (faces : FaceTable) (set : List ℕ) where
 
 -- ---- the parts, by the least arcs of their boundaries
 
-module _ (d : Drawing) (arcs : List Path) (faces : FaceTable) (label : Place → ℕ) (walked : IsWalked d arcs faces label) (set : List ℕ) (rising : IsStrictlyIncreasing set) (inner : IsSetOf faces set) where
+module _ (arcs : List Path) (faces : FaceTable) (built : IsBuiltOf arcs faces) (set : List ℕ) (rising : IsStrictlyIncreasing set) where
   abbrev all_arcs : List SignedArc
   all_arcs = signed_below (length arcs)
 
   has_arc : (a : SignedArc) → a.arc < length arcs → HasArc faces a
-  has_arc a l = let many = walked.built.places_counted in omega arith
+  has_arc a l = let many = built.places_counted in omega arith
 
   of_arcs : All (HasArc faces) all_arcs
   of_arcs i e l = has_arc (get_or all_arcs i e) (below_arc (length arcs) (get_or all_arcs i e) (Contains-get_or all_arcs i e l))
 
   in_arcs : (a : SignedArc) → HasArc faces a → Contains all_arcs a
-  in_arcs a h = arc_below (length arcs) a (let many = walked.built.places_counted in omega arith)
+  in_arcs a h = arc_below (length arcs) a (let many = built.places_counted in omega arith)
 
   pub class : ℕ → ℕ
   class k = class_of faces set all_arcs k
@@ -155,46 +147,7 @@ module _ (d : Drawing) (arcs : List Path) (faces : FaceTable) (label : Place →
   of_class : (c k : ℕ) → Contains (members c) k → Contains set k × (class k ≡ c)
   of_class c k there = let (in_set, e) = filter-Contains (λ (j : ℕ). nat_eq (class j) c) set k there in (in_set, eqb-true (class k) c e)
 
-  stays : (c f g : ℕ) (xs : List SignedArc) → Contains (members c) f → IsChain faces set f xs g → IsChain faces (members c) f xs g
-  stays c f g [] there e = e
-  stays c f g (a ∷ xs) there (over, rest) =
-      let (in_set, of_c) = of_class c f there in
-      let joined : AreJoined faces set f (face_right_of faces.places a) = (a ∷ [], (over, refl)) in
-      let same : class (face_right_of faces.places a) ≡ c = sym ((one_class f (face_right_of faces.places a) in_set over.into).1 joined) ∙ of_c in
-      let into : Contains (members c) (face_right_of faces.places a) = subst (λ (n : ℕ). Contains (members n) (face_right_of faces.places a)) same (member (face_right_of faces.places a) over.into) in
-      (record { arc = over.arc; from = over.from; into = into }, stays c (face_right_of faces.places a) g xs into rest)
-
-  module _ (f : ℕ) (cf : Contains set f) where
-    abbrev piece : List ℕ
-    piece = members (class f)
-
-    piece_inner : IsSetOf faces piece
-    piece_inner i e l = All-contains (IsInnerFace faces) set (get_or piece i e) inner (of_class (class f) (get_or piece i e) (Contains-get_or piece i e l)).0
-
-    not_empty : (i : ℕ) → i < length (piece ∷ []) → get_or (piece ∷ []) i [] ≡ [] → ⊥
-    not_empty zero l e = Contains-nil f (subst (λ (xs : List ℕ). Contains xs f) e (member f cf))
-    not_empty (suc i) l e = absurd (omega arith)
-
-    linked : (i j g h : ℕ) → i < length (piece ∷ []) → j < length (piece ∷ []) → Contains (get_or (piece ∷ []) i []) g → Contains (get_or (piece ∷ []) j []) h → (i ≡ j) ↔ AreJoined faces piece g h
-    linked zero zero g h li lj cg ch =
-        let (g_in, g_of) = of_class (class f) g cg in
-        let (h_in, h_of) = of_class (class f) h ch in
-        ((λ e. (let (xs, chain) = (one_class g h g_in h_in).0 (g_of ∙ sym h_of) in (xs, stays (class f) g h xs cg chain))), λ e. refl)
-    linked zero (suc j) g h li lj cg ch = absurd (omega arith)
-    linked (suc i) j g h li lj cg ch = absurd (omega arith)
-
-    piece_alone : AreParts faces piece (piece ∷ [])
-    piece_alone = record {
-      divided = record { faces = alone (IsPieceOf piece) piece (record { faces = All-contains_itself piece }); some = not_empty; each = λ k c. (0, omega arith, c); once = λ i j k li lj ci cj. (omega arith) };
-      ascending = alone IsStrictlyIncreasing piece (IsStrictlyIncreasing-filter (λ (k : ℕ). nat_eq (class k) (class f)) set rising);
-      joined = linked;
-      in_order = λ i j m n less l. absurd (omega arith);
-    }
-
-    has_boundary : (a : SignedArc) × IsOnBoundary faces piece a
-    has_boundary = (parts_have_boundaries (links_of (snapped d)) arcs faces (faces_of_links d arcs faces label walked) piece piece_inner (piece ∷ []) piece_alone).0 0 [] (omega arith)
-
-  -- ---- the number of a class: that of the least arc of its boundary
+  -- ---- the number of a class: that of the least arc of its boundary, or one behind all arcs
 
   abbrev round : ℕ → List SignedArc
   round c = boundary faces.places (length arcs) (members c)
@@ -210,27 +163,39 @@ module _ (d : Drawing) (arcs : List Path) (faces : FaceTable) (label : Place →
       let (l, r) = are_both (has nat_eq (members c) (face_left_of faces.places a)) (is_outward faces.places (members c) a) passes in
       record { arc = has_arc a (below_arc (length arcs) a in_all); left = has_Contains (members c) (face_left_of faces.places a) l; right = outward_from faces.places (members c) a r }
 
-  pub number : ℕ → ℕ
-  number c = lowest (map (λ (a : SignedArc). a.arc) (round c))
+  abbrev arcs_round : ℕ → List ℕ
+  arcs_round c = map (λ (a : SignedArc). a.arc) (round c)
 
-  least : (f : ℕ) → Contains set f → IsLeastArc faces (members (class f)) (number (class f))
+  abbrev has_round : ℕ → Bool
+  has_round c = nat_lt 0 (length (arcs_round c))
+
+  pub number : ℕ → ℕ
+  number c = cond (has_round c) (lowest (arcs_round c)) (length arcs + c)
+
+  of_round : (c : ℕ) → has_round c ≡ true → number c ≡ lowest (arcs_round c)
   unfolding number
-  least f cf =
-      let (a, on) = has_boundary f cf in
-      let numbers : List ℕ = map (λ (b : SignedArc). b.arc) (round (class f)) in
-      let there : Contains numbers a.arc = Contains-map (λ (b : SignedArc). b.arc) (round (class f)) a (on_round (class f) a on) in
-      let some : 0 < length numbers = let l = there.1 in omega arith in
-      let (b, on_b, is) = map-Contains (λ (b : SignedArc). b.arc) (round (class f)) (lowest numbers) (lowest_there numbers some) in
+  of_round c e = λ i. cond (e i) (lowest (arcs_round c)) (length arcs + c)
+
+  of_none : (c : ℕ) → has_round c ≡ false → number c ≡ length arcs + c
+  unfolding number
+  of_none c e = λ i. cond (e i) (lowest (arcs_round c)) (length arcs + c)
+
+  least : (c : ℕ) → has_round c ≡ true → IsLeastArc faces (members c) (lowest (arcs_round c))
+  least c e =
+      let some : 0 < length (arcs_round c) = ltb-true 0 (length (arcs_round c)) e in
+      let (b, on_b, is) = map-Contains (λ (a : SignedArc). a.arc) (round c) (lowest (arcs_round c)) (lowest_there (arcs_round c) some) in
       record {
-        used = (b, round_on (class f) b on_b, is);
-        least = λ c on_c. lowest_least numbers c.arc (Contains-map (λ (b : SignedArc). b.arc) (round (class f)) c (on_round (class f) c on_c));
+        used = (b, round_on c b on_b, is);
+        least = λ a on_a. lowest_least (arcs_round c) a.arc (Contains-map (λ (x : SignedArc). x.arc) (round c) a (on_round c a on_a));
       }
 
-  -- a number is that of one class
-  number_joins : (f g : ℕ) → Contains set f → Contains set g → number (class f) ≡ number (class g) → class f ≡ class g
-  number_joins f g cf cg e =
-      let (a, on_a, is_a) = (least f cf).used in
-      let (b, on_b, is_b) = (least g cg).used in
+  below_all : (c : ℕ) → has_round c ≡ true → lowest (arcs_round c) < length arcs
+  below_all c e = let (b, on_b, is) = (least c e).used in let arc = on_b.arc in let many = built.places_counted in omega arith
+
+  bounded_joins : (f g : ℕ) → has_round (class f) ≡ true → has_round (class g) ≡ true → lowest (arcs_round (class f)) ≡ lowest (arcs_round (class g)) → class f ≡ class g
+  bounded_joins f g ef eg e =
+      let (a, on_a, is_a) = (least (class f) ef).used in
+      let (b, on_b, is_b) = (least (class g) eg).used in
       let (a_in, a_of) = of_class (class f) (face_left_of faces.places a) on_a.left in
       let (b_in, b_of) = of_class (class g) (face_left_of faces.places b) on_b.left in
       elim (same_or_other a b (is_a ∙ e ∙ sym is_b)) [
@@ -242,6 +207,16 @@ module _ (d : Drawing) (arcs : List Path) (faces : FaceTable) (label : Place →
             let one = (one_class (face_left_of faces.places b) (face_right_of faces.places b) b_in into).1 joined in
             sym a_of ∙ ap class across ∙ sym one ∙ b_of)
       ]
+
+  -- a number is that of one class
+  number_joins : (f g : ℕ) → number (class f) ≡ number (class g) → class f ≡ class g
+  number_joins f g e = go (has_round (class f)) refl (has_round (class g)) refl
+    where
+      go : (x : Bool) → has_round (class f) ≡ x → (y : Bool) → has_round (class g) ≡ y → class f ≡ class g
+      go true ef true eg = bounded_joins f g ef eg (sym (of_round (class f) ef) ∙ e ∙ of_round (class g) eg)
+      go true ef false eg = absurd (let l = below_all (class f) ef in let p = of_round (class f) ef in let q = of_none (class g) eg in omega arith)
+      go false ef true eg = absurd (let l = below_all (class g) eg in let p = of_none (class f) ef in let q = of_round (class g) eg in omega arith)
+      go false ef false eg = let p = of_none (class f) ef in let q = of_none (class g) eg in omega arith
 
   -- ---- the parts
 
@@ -290,7 +265,7 @@ module _ (d : Drawing) (arcs : List Path) (faces : FaceTable) (label : Place →
       let (f_in, f_key) = in_part i f li cf in
       let (g_in, g_key) = in_part j g lj cg in
       let many = length-map keys part_with in (
-        λ e. (one_class f g f_in g_in).0 (number_joins f g f_in g_in (f_key ∙ ap (λ (n : ℕ). get_or keys n 0) e ∙ sym g_key)),
+        λ e. (one_class f g f_in g_in).0 (number_joins f g (f_key ∙ ap (λ (n : ℕ). get_or keys n 0) e ∙ sym g_key)),
         λ joined. apart i j (omega arith) (omega arith) (sym f_key ∙ ap number ((one_class f g f_in g_in).1 joined) ∙ g_key),
       )
 
@@ -300,7 +275,7 @@ module _ (d : Drawing) (arcs : List Path) (faces : FaceTable) (label : Place →
       let (k_in, k_key) = in_part i k l c in
       part_is i l ∙ same_by (λ (j : ℕ). nat_eq (key j) (get_or keys i 0)) (λ (j : ℕ). nat_eq (class j) (class k)) set (λ j cj.
       alike (nat_eq (key j) (get_or keys i 0)) (nat_eq (class j) (class k))
-      (λ e. eq-eqb (class j) (class k) (number_joins j k cj k_in (eqb-true (key j) (get_or keys i 0) e ∙ sym k_key)))
+      (λ e. eq-eqb (class j) (class k) (number_joins j k (eqb-true (key j) (get_or keys i 0) e ∙ sym k_key)))
       (λ e. eq-eqb (key j) (get_or keys i 0) (ap number (eqb-true (class j) (class k) e) ∙ k_key)))
 
   least_key : (i m : ℕ) → i < length all_parts → IsLeastArc faces (get_or all_parts i []) m → m ≡ get_or keys i 0
@@ -309,9 +284,13 @@ module _ (d : Drawing) (arcs : List Path) (faces : FaceTable) (label : Place →
       let (k_in, k_key) = in_part i k l c in
       let own : IsLeastArc faces (members (class k)) m = subst (λ (xs : List ℕ). IsLeastArc faces xs m) (part_class i k l c) h in
       let (a, on_a, is_a) = own.used in
-      let (b, on_b, is_b) = (least k k_in).used in
+      let there : Contains (arcs_round (class k)) a.arc = Contains-map (λ (x : SignedArc). x.arc) (round (class k)) a (on_round (class k) a on_a) in
+      let bound : has_round (class k) ≡ true = lt-ltb 0 (length (arcs_round (class k))) (let l = there.1 in omega arith) in
+      let low = least (class k) bound in
+      let (b, on_b, is_b) = low.used in
       let up = own.least b on_b in
-      let down = (least k k_in).least a on_a in
+      let down = low.least a on_a in
+      let is_number = of_round (class k) bound in
       let same : m ≡ number (class k) = omega arith in
       same ∙ k_key
 
@@ -336,4 +315,4 @@ module _ (d : Drawing) (arcs : List Path) (faces : FaceTable) (label : Place →
   }
 
 pub parts_exist : PartsExist
-parts_exist d arcs faces label walked set rising inner = (all_parts d arcs faces label walked set rising inner, are_parts d arcs faces label walked set rising inner)
+parts_exist arcs faces built set rising = (all_parts arcs faces built set rising, are_parts arcs faces built set rising)

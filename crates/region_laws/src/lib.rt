@@ -17,7 +17,7 @@
 //! in `specs/Followed.antt`, `specs/Gaps.antt`, `specs/Printed.antt`, `specs/Ties.antt` and `specs/Answered.antt`.
 #![tactic(auto)]
 
-ghost use Rattle.region_laws.specs.Answered.{AreasAreTold, CleanedAsTold, EmptinessIsTold, ExplodedAsTold, LayersAreFollowed, MosaicAsTold, PartsAreTold, PartsExist, SidesAreTold, TracesFit};
+ghost use Rattle.region_laws.specs.Answered.{AnswersExist, AreasAreTold, CleanedAsTold, EmptinessIsTold, ExplodedAsTold, LayersAreFollowed, MosaicAsTold, PartsAreTold, PartsExist, RegionsHaveSets, SidesAreTold, TracesFit};
 ghost use Rattle.region_laws.specs.Followed.{
   AreasAreThoseOfRegions,
   BoxesAreFollowed,
@@ -173,9 +173,19 @@ pub fn sides_are_told()
     ensures { SidesAreTold }
 {}
 
-/// Each set of inner faces has parts.
+/// Each set of faces has parts.
 pub fn parts_exist()
     ensures { PartsExist }
+{}
+
+/// Each region of a drawing, whatever it is made of, has a set of inner faces that follows it.
+pub fn regions_have_sets()
+    ensures { RegionsHaveSets }
+{}
+
+/// So right answers on the sides, the parts and the gaps of all regions exist.
+pub fn answers_exist()
+    ensures { AnswersExist }
 {}
 
 /// A set has no faces exactly if its region is empty, as commands ask: its boundary has no links.
