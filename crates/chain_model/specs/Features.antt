@@ -13,7 +13,8 @@ use Rattle.json_read.specs.declared.value.Value.{Value}
 use Rattle.json_read.specs.declared.value.Value.TheVariants as value
 use Rattle.geojson_io.specs.Layers.{same_kind}
 use Rattle.geojson_io.specs.Texts.{separated}
-use Rattle.expr_lang.specs.Tree.{tree_of}
+use Rattle.expr_lang.specs.Tree.{all_assigned, tree_of}
+use Rattle.expr_lang.specs.declared.assign.Assign.{Assign}
 use Rattle.expr_lang.specs.declared.expr.Expr.{Expr}
 use Rattle.table_terms.specs.Names.{Text, cell}
 use Rattle.table_ops.specs.Rows.{row_at}
@@ -31,6 +32,9 @@ use Rattle.table_terms.specs.declared.renames.Rename.{Rename}
 use Rattle.table_terms.specs.declared.specifications.GroupSpec.{GroupSpec}
 use Rattle.table_terms.specs.declared.specifications.JoinSpec.{JoinSpec}
 use Rattle.table_ops.specs.declared.split.SplitItem.{SplitItem}
+use Rattle.calc_ops.specs.EachRow.{each_rows}
+use Rattle.calc_ops.specs.EarlyRows.{uniq_rows}
+use Rattle.calc_ops.specs.KeyOrder.{sort_rows}
 use Rattle.region_model.specs.Region.{Region}
 use Rattle.region_model.specs.Answers.{Plane, Answers, is_nil}
 use Rattle.region_model.specs.PolygonCommands as polygon
@@ -103,9 +107,10 @@ dissolve_layer P spec group_points l =
 
 -- ---- clean, mosaic, explode
 
-abbrev pub clean_layer : Plane → Answers → OverlapRule → Bool → StateLayer → Outputs
-clean_layer P A rule allow_empty l =
-    let cleaned : StateLayer = record l { shapes = shapes_by (polygon.cleaned P A rule (region_at l) (count_of l)) l } in
+-- gaps of at most this area, doubled, are filled
+abbrev pub clean_layer : Plane → Answers → OverlapRule → Bool → ℕ → StateLayer → Outputs
+clean_layer P A rule allow_empty gap l =
+    let cleaned : StateLayer = record l { shapes = shapes_by (polygon.cleaned_and_filled P A rule gap (region_at l) (count_of l)) l } in
     just (if allow_empty then cleaned else without_empty P A cleaned)
 
 -- the column `ids` has the numbers, joined by commas
@@ -204,6 +209,31 @@ split_piece l p = record (take_features l p.1.rows) { name = split_name l p.0 p.
 abbrev pub split_layer : Option Text → StateLayer → Outputs
 split_layer field l = on_ok (in_layer (split_rows l.table field)) (λ (items : List SplitItem).
     Ok (if is_nil items then l ∷ [] else map (split_piece l) (enumerate_from 0 items)))
+
+-- ---- fields that are set, features in order, and features of early keys
+
+abbrev pub assign_layer : List Assign → StateLayer → Outputs
+assign_layer assigns l = with_table l (each_rows l.table (all_assigned assigns))
+
+-- the layer with the features of these numbers
+abbrev pub with_features : StateLayer → Result (List ℕ) TableWhy → Outputs
+with_features l answer = on_ok (in_layer answer) (λ (ns : List ℕ). just (take_features l ns))
+
+abbrev pub sort_layer : Expr → Bool → StateLayer → Outputs
+sort_layer key descending l = with_features l (sort_rows l.table (tree_of key) descending)
+
+abbrev pub uniq_layer : Expr → ℕ → Bool → StateLayer → Outputs
+uniq_layer key most invert l = with_features l (uniq_rows l.table (tree_of key) most invert)
+
+-- ---- islands
+
+-- a feature that is left empty stays, or goes with all others without geometry
+abbrev pub islands_layer : Plane → Answers → ℕ → ℕ → Bool → StateLayer → Outputs
+islands_layer P A least_area least_links remove_empty l =
+    let left : StateLayer = record l { shapes = shapes_by (polygon.without_islands P A least_area least_links (region_at l) (count_of l)) l } in
+    just (if remove_empty then without_empty P A left else left)
+
+-- ---- layers together
 
 -- all features in order, in a layer like the first; nothing for the others
 abbrev pub merged_layers : Bool → List StateLayer → Result (List (List StateLayer)) RefuseWhy

@@ -7,9 +7,10 @@ use Rattle.io_core.specs.Contents.{Content, FileMap}
 use Rattle.io_core.specs.Counts.{Rose, raised}
 use Rattle.io_core.specs.Whole.{MissesName}
 use Rattle.table_terms.specs.Names.{Text}
-use Rattle.cmd_words.specs.Chains.{CommandWords}
+use Rattle.cmd_words.specs.declared.action_words.ActionWords.{ActionWords}
+use Rattle.cmd_words.specs.declared.action_words.ActionWords.TheVariants as asked
+use Rattle.cmd_words.specs.declared.action_words.CommandWords.{CommandWords}
 use Rattle.cmd_words.specs.Words.{JobWords, Reading, synth, chain}
-use Rattle.cmd_words.specs.declared.job.Action.{Action}
 use Rattle.cmd_words.specs.declared.job.Action.TheVariants as action
 use Rattle.cmd_words.specs.declared.job.SourceWord.{SourceWord}
 use Rattle.chain_model.specs.Outcome.{Outcome, done, read_fault, missing, too_long, write_fault, memory}
@@ -141,9 +142,9 @@ abbrev pub SourceRose : Counts → Counts → SourceWord → Type 0
 SourceRose before after s = MatchBool s.standard (Rose before.input after.input) (Rose (before.reads s.name) (after.reads s.name))
 
 -- the count of an output rose: of the standard stream, or the write count under its name
-abbrev pub WriteRose : Counts → Counts → Action → Type 0
-WriteRose before after (action.Write to true form) = Rose before.output after.output
-WriteRose before after (action.Write to false form) = Rose (before.writes to) (after.writes to)
+abbrev pub WriteRose : Counts → Counts → ActionWords → Type 0
+WriteRose before after (asked.Whole (action.Write to true form)) = Rose before.output after.output
+WriteRose before after (asked.Whole (action.Write to false form)) = Rose (before.writes to) (after.writes to)
 WriteRose before after _ = ⊥
 
 -- element n of a list, from 1, has the property
@@ -155,7 +156,7 @@ abbrev pub SourceFailed : Counts → Counts → Reading JobWords → ℕ → Typ
 SourceFailed before after words n = HasAt (sources_of words) n (SourceRose before after)
 
 abbrev pub WriteFailed : Counts → Counts → Reading JobWords → ℕ → Type 0
-WriteFailed before after (Ok (chain w)) n = HasAt w.so_far.commands n (λ (c : CommandWords). WriteRose before after c.command.action)
+WriteFailed before after (Ok (chain w)) n = HasAt w.so_far.commands n (λ (c : CommandWords). WriteRose before after c.action)
 WriteFailed before after (Ok (synth seed m)) n = (n ≡ 1) × Rose before.output after.output
 WriteFailed before after (Err e) n = ⊥
 

@@ -46,12 +46,13 @@ is_polygon k = same_kind k kind.Polygon
 abbrev pub takes : Action → Kind → Kind → Bool
 takes (action.Each (each.Clip from)) first k = has_geometry k
 takes (action.Each (each.Erase from)) first k = has_geometry k
-takes (action.Each (each.Clean rule allow_empty)) first k = is_polygon k
+takes (action.Each (each.Clean rule allow_empty gap)) first k = is_polygon k
 takes (action.Each each.Mosaic) first k = is_polygon k
 takes (action.Each each.InnerLines) first k = is_polygon k
 takes (action.Each (each.Lines fields)) first k = is_polygon k
 takes (action.Each each.Explode) first k = has_geometry k
 takes (action.Each (each.Filter test invert remove_empty)) first k = not remove_empty || has_geometry k
+takes (action.Each (each.FilterIslands least_area least_links remove_empty)) first k = is_polygon k
 takes (action.Together (joint.MergeLayers force)) first k = same_kind first k
 takes _ first k = true
 
@@ -71,7 +72,7 @@ abbrev pub outputs_of : Plane → Answers → SourceLayers → State → Action 
 outputs_of P A sources s (action.Each (each.Clip o)) ls = by_source sources s o (Features.clip_layer P A) ls
 outputs_of P A sources s (action.Each (each.Erase o)) ls = by_source sources s o (Features.erase_layer P A) ls
 outputs_of P A sources s (action.Each (each.Dissolve spec group_points)) ls = each_layer (Features.dissolve_layer P spec group_points) ls
-outputs_of P A sources s (action.Each (each.Clean rule allow_empty)) ls = each_layer (Features.clean_layer P A rule allow_empty) ls
+outputs_of P A sources s (action.Each (each.Clean rule allow_empty gap)) ls = each_layer (Features.clean_layer P A rule allow_empty gap) ls
 outputs_of P A sources s (action.Each each.Mosaic) ls = each_layer (Features.mosaic_layer P A) ls
 outputs_of P A sources s (action.Each each.InnerLines) ls = each_layer (Features.inner_lines_layer P A) ls
 outputs_of P A sources s (action.Each (each.Lines fields)) ls = each_layer (Features.lines_layer P A fields) ls
@@ -81,6 +82,10 @@ outputs_of P A sources s (action.Each (each.Filter test invert remove_empty)) ls
 outputs_of P A sources s (action.Each (each.FilterFields fields)) ls = each_layer (Features.filter_fields_layer fields) ls
 outputs_of P A sources s (action.Each (each.RenameFields pairs)) ls = each_layer (Features.rename_fields_layer pairs) ls
 outputs_of P A sources s (action.Each (each.Split field)) ls = each_layer (Features.split_layer field) ls
+outputs_of P A sources s (action.Each (each.Each assigns)) ls = each_layer (Features.assign_layer assigns) ls
+outputs_of P A sources s (action.Each (each.Sort key descending)) ls = each_layer (Features.sort_layer key descending) ls
+outputs_of P A sources s (action.Each (each.Uniq key most invert)) ls = each_layer (Features.uniq_layer key most invert) ls
+outputs_of P A sources s (action.Each (each.FilterIslands least_area least_links remove_empty)) ls = each_layer (Features.islands_layer P A least_area least_links remove_empty) ls
 outputs_of P A sources s (action.Together (joint.MergeLayers force)) ls = Features.merged_layers force ls
 outputs_of P A sources s (action.Write to standard form) ls = Ok []
 

@@ -7,3 +7,8 @@ pub mod SidedRows
 pub mod ArcsBetween
 pub mod Sources
 pub mod SourcePoints
+pub mod PointRuns
+pub mod LinkedArcs
+pub mod ByRegions
+pub mod Borders
+pub mod Insides

@@ -54,13 +54,13 @@ seeing_is_off S l z aside clear k ck on =
     halved : (w s t : ℤ) → w *ℤ s ≡ pos 2 *ℤ t → s ≡ pos 0 → t ≡ pos 0
     halved w s t e f = let g : w *ℤ pos 0 ≡ pos 2 *ℤ t = rw f at e in omega (arith, ints)
 
-left_off : (S : List Segment) (l : Segment) (z : RationalPoint) → pos 0 <ℤ turn (at l.start) (at l.stop) z → IsClear S z (midpoint l) → IsOffLinks S z
+pub left_off : (S : List Segment) (l : Segment) (z : RationalPoint) → pos 0 <ℤ turn (at l.start) (at l.stop) z → IsClear S z (midpoint l) → IsOffLinks S z
 left_off S l z h clear = seeing_is_off S l z (above (turn (at l.start) (at l.stop) z) h) clear
   where
     above : (t : ℤ) → pos 0 <ℤ t → t ≡ pos 0 → ⊥
     above t h e = omega (arith, ints)
 
-right_off : (S : List Segment) (l : Segment) (z : RationalPoint) → turn (at l.start) (at l.stop) z <ℤ pos 0 → IsClear S z (midpoint l) → IsOffLinks S z
+pub right_off : (S : List Segment) (l : Segment) (z : RationalPoint) → turn (at l.start) (at l.stop) z <ℤ pos 0 → IsClear S z (midpoint l) → IsOffLinks S z
 right_off S l z h clear = seeing_is_off S l z (below (turn (at l.start) (at l.stop) z) h) clear
   where
     below : (t : ℤ) → t <ℤ pos 0 → t ≡ pos 0 → ⊥

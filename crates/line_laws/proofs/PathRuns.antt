@@ -8,12 +8,14 @@ use Rattle.lists.specs.Lists.{has}
 use Rattle.lists.proofs.Members.{Contains-map, joined_up-Contains}
 use Rattle.plane_model.specs.Points.{Segment, Path, link_between, reversed}
 use Rattle.plane_model.specs.Arcs.{SignedArc, points_of}
+use Rattle.plane_model.specs.Arrangement.{IsArrangement}
 use Rattle.plane_model.specs.Drawing.{steps}
 use Rattle.plane_model.specs.Joined.{links_of_arc}
 use Rattle.plane_model.specs.Rotation.{Dart}
 use Rattle.plane_model.specs.Snapped.{links_of, snapped}
 use Rattle.plane_faces.specs.Places.{Place, left_side, right_side}
 use Rattle.grid_base.specs.Drawn.{IsPath}
+use Rattle.arc_table.specs.Along.{GoAlong}
 use Rattle.arc_table.specs.Direction.{point_at}
 use Rattle.arc_table.specs.PathArcs.{RunsFrom, round_from}
 use Rattle.arc_table.specs.WholeArcs.{IsPassed}
@@ -25,10 +27,11 @@ use Rattle.ring_trace.proofs.BoundaryLemmas.{has_Contains, Contains_has}
 use Rattle.line_ops.specs.Inside.{is_inside, is_outside}
 use Rattle.line_ops.specs.Runs.{runs_where}
 use Rattle.point_laws.specs.Sight.{PointsOf}
+use Rattle.line_laws.specs.Linked.{AreLinked}
 use Rattle.line_laws.specs.Lines.{AreLabelled, AreCutInto, TestsInside, IsLinkInside, goes_inside, goes_outside, steps_of_run, InsideIsTested, PathsAreCut, LinesAreCut, LineFeaturesAreCut}
 use Rattle.line_laws.proofs.LinkSides.{arcs_are_inside, drawings_are_labelled, labels_agree, side_of_dart}
 use Rattle.line_laws.proofs.RunPieces.{IsPiece, map_alike, runs_are_pieces}
-use Rattle.line_laws.proofs.RunSteps.{AreLinked, IsChain, chain_linked, linked_steps, runs_linked, steps_along, steps_chain}
+use Rattle.line_laws.proofs.RunSteps.{IsChain, chain_linked, linked_steps, runs_linked, steps_along, steps_chain}
 
 -- ---- a test
 
@@ -62,29 +65,30 @@ back_step path s (j, l, is) =
     let s_is : s ≡ record { start = point_at path (suc k); stop = point_at path k } = sym is ∙ step_between (reverse path) j s fit ∙ (λ i. record { start = first i; stop = second i }) in
     (k, steps_many path k there, step_between path k (reversed s) there ∙ sym (ap reversed s_is))
 
-module _ (S : List Segment) (arcs : List Path) (faces : FaceTable) (label : Place → ℕ) (h : AreLabelled S arcs faces label) where
-  is_step : (n : ℕ) (s : Segment) → n < length arcs → Contains (steps (get_or arcs n [])) s → (j : ℕ) × IsStep arcs n j s
+module _ (S : List Segment) (arr : IsArrangement S) (arcs : List Path) (long : All (λ arc. 1 < length arc) arcs) (along : GoAlong S arcs) where
+  pub is_step : (n : ℕ) (s : Segment) → n < length arcs → Contains (steps (get_or arcs n [])) s → (j : ℕ) × IsStep arcs n j s
   is_step n s below (j, l, is) = (j, record { arc = below; there = l; is = is })
 
-  link_along : (a : SignedArc) (s : Segment) → a.arc < length arcs → Contains (steps (points_of arcs a)) s → Contains (links_of_arc arcs a.arc) (link_between s) × Contains S (link_between s)
+  pub link_along : (a : SignedArc) (s : Segment) → a.arc < length arcs → Contains (steps (points_of arcs a)) s → Contains (links_of_arc arcs a.arc) (link_between s) × Contains S (link_between s)
   link_along a s below = go a.is_reversed
     where
       go : (b : Bool) → Contains (steps (points_of arcs (record { arc = a.arc; is_reversed = b }))) s → Contains (links_of_arc arcs a.arc) (link_between s) × Contains S (link_between s)
-      go false c = let st = is_step a.arc s below c in (Contains-map link_between (steps (get_or arcs a.arc [])) s c, step_on arcs S h.arrangement h.long h.along a.arc st.0 s st.1)
+      go false c = let st = is_step a.arc s below c in (Contains-map link_between (steps (get_or arcs a.arc [])) s c, step_on arcs S arr long along a.arc st.0 s st.1)
       go true c =
           let back : Contains (steps (get_or arcs a.arc [])) (reversed s) = back_step (get_or arcs a.arc []) s c in
           let st = is_step a.arc (reversed s) below back in
-          let same : link_between s ≡ link_between (reversed s) = ap (λ (d : Dart). d.link) (dart_back (reversed s) (step_moves arcs S h.arrangement h.long h.along a.arc st.0 (reversed s) st.1)) in
+          let same : link_between s ≡ link_between (reversed s) = ap (λ (d : Dart). d.link) (dart_back (reversed s) (step_moves arcs S arr long along a.arc st.0 (reversed s) st.1)) in
           subst (λ (l : Segment). Contains (links_of_arc arcs a.arc) l × Contains S l) (sym same)
-          (Contains-map link_between (steps (get_or arcs a.arc [])) (reversed s) back, step_on arcs S h.arrangement h.long h.along a.arc st.0 (reversed s) st.1)
+          (Contains-map link_between (steps (get_or arcs a.arc [])) (reversed s) back, step_on arcs S arr long along a.arc st.0 (reversed s) st.1)
 
-  long_points : (a : SignedArc) → a.arc < length arcs → 1 < length (points_of arcs a)
+  pub long_points : (a : SignedArc) → a.arc < length arcs → 1 < length (points_of arcs a)
   long_points a below = go a.is_reversed
     where
       go : (b : Bool) → 1 < length (points_of arcs (record { arc = a.arc; is_reversed = b }))
-      go false = h.long a.arc [] below
-      go true = let size = length-reverse (get_or arcs a.arc []) in let l : 1 < length (get_or arcs a.arc []) = h.long a.arc [] below in let m : 1 < length (reverse (get_or arcs a.arc [])) = omega arith in m
+      go false = long a.arc [] below
+      go true = let size = length-reverse (get_or arcs a.arc []) in let l : 1 < length (get_or arcs a.arc []) = long a.arc [] below in let m : 1 < length (reverse (get_or arcs a.arc [])) = omega arith in m
 
+module _ (S : List Segment) (arcs : List Path) (faces : FaceTable) (label : Place → ℕ) (h : AreLabelled S arcs faces label) where
   module _ (set : List ℕ) (test : Segment → Bool) (tests : TestsInside S (PointsOf S label set) test) where
     same_bool : (x y : Bool) → (x ≡ true → y ≡ true) → (y ≡ true → x ≡ true) → x ≡ y
     same_bool true y f g = sym (f refl)
@@ -94,18 +98,18 @@ module _ (S : List Segment) (arcs : List Path) (faces : FaceTable) (label : Plac
     -- each step of a signed arc goes along a link that is inside exactly if the arc is
     step_inside : (a : SignedArc) → a.arc < length arcs → (s : Segment) → Contains (steps_along arcs a) s → goes_inside test s ≡ is_inside faces set a
     step_inside a below s c =
-        let (of_arc, of_links) = link_along a s below c in
+        let (of_arc, of_links) = link_along S h.arrangement arcs h.long h.along a s below c in
         let by_arc = All-contains (λ (l : Segment). (is_inside faces set a ≡ true) ↔ IsLinkInside S (PointsOf S label set) l) (links_of_arc arcs a.arc) (link_between s) (arcs_are_inside S arcs faces label h set a below) of_arc in
         let by_test = tests (link_between s) of_links in
         same_bool (goes_inside test s) (is_inside faces set a) (λ e. by_arc.1 (by_test.0 e)) (λ e. by_test.1 (by_arc.0 e))
 
     inner_pieces : (named : List SignedArc) → All (λ a. a.arc < length arcs) named → All (IsPiece (steps_along arcs) (is_inside faces set) (goes_inside test)) named
     inner_pieces named there = All-weaker (λ a. a.arc < length arcs) (IsPiece (steps_along arcs) (is_inside faces set) (goes_inside test))
-        (λ a below. record { some = steps_many (points_of arcs a) 0 (long_points a below); same = step_inside a below }) named there
+        (λ a below. record { some = steps_many (points_of arcs a) 0 (long_points S h.arrangement arcs h.long h.along a below); same = step_inside a below }) named there
 
     outer_pieces : (named : List SignedArc) → All (λ a. a.arc < length arcs) named → All (IsPiece (steps_along arcs) (is_outside faces set) (goes_outside test)) named
     outer_pieces named there = All-weaker (λ a. a.arc < length arcs) (IsPiece (steps_along arcs) (is_outside faces set) (goes_outside test))
-        (λ a below. record { some = steps_many (points_of arcs a) 0 (long_points a below); same = λ s c. ap not (step_inside a below s c) }) named there
+        (λ a below. record { some = steps_many (points_of arcs a) 0 (long_points S h.arrangement arcs h.long h.along a below); same = λ s c. ap not (step_inside a below s c) }) named there
 
   -- the runs of arcs that follow each other, joined
   joined_runs : (t : SignedArc → Bool) (named : List SignedArc) → AreLinked arcs named → map (steps_of_run arcs) (runs_where t named) ≡ map (flat_map (steps_along arcs)) (runs_where t named)
@@ -116,7 +120,7 @@ module _ (S : List Segment) (arcs : List Path) (faces : FaceTable) (label : Plac
   pub cut_runs : (set : List ℕ) (path : Path) (named : List SignedArc) → All (λ a. a.arc < length arcs) named → steps path ≡ flat_map (steps_along arcs) named →
       AreCutInto S (PointsOf S label set) arcs faces set named (steps path)
   cut_runs set path named there stepped =
-      let linked : AreLinked arcs named = chain_linked arcs named (All-weaker (λ a. a.arc < length arcs) (λ a. 1 < length (points_of arcs a)) long_points named there) (subst IsChain stepped (steps_chain path)) in
+      let linked : AreLinked arcs named = chain_linked arcs named (All-weaker (λ a. a.arc < length arcs) (λ a. 1 < length (points_of arcs a)) (long_points S h.arrangement arcs h.long h.along) named there) (subst IsChain stepped (steps_chain path)) in
       record {
         clipped = λ test tests.
             joined_runs (is_inside faces set) named linked

@@ -29,7 +29,7 @@ module _ {B : Type 0} (u : B → Bool) where
       (λ j. cond (h y (Contains-head y ys) j) (runs_after u (begun ++ y ∷ []) (ys ++ rest)) (ended begun ++ runs_after u [] (ys ++ rest)))
       ∙ ap (λ (rs : List (List B)). ended begun ++ rs) (fail_all ys rest (λ z c. h z (Contains-later y ys z c)))
 
-ended_some : {B : Type 0} (ys : List B) → 0 < length ys → ended ys ≡ ys ∷ []
+pub ended_some : {B : Type 0} (ys : List B) → 0 < length ys → ended ys ≡ ys ∷ []
 ended_some [] l = absurd (omega arith)
 ended_some (y ∷ ys) l = refl
 

@@ -8,6 +8,7 @@ use Rattle.plane_model.specs.Drawing.{steps}
 use Rattle.plane_model.specs.Arcs.{SignedArc, joined_points, points_of}
 use Rattle.arc_table.specs.Direction.{point_at}
 use Rattle.line_ops.specs.Runs.{ended, runs_after}
+use Rattle.line_laws.specs.Linked.{AreLinked}
 
 -- ---- steps that follow each other
 
@@ -56,24 +57,18 @@ module _ (arcs : List Path) where
   abbrev pub last_point : SignedArc → ℕ
   last_point a = length (points_of arcs a) - 1
 
-  -- each has a step, and each but the first starts where the one before it ends
-  abbrev pub AreLinked : List SignedArc → Type 0
-  AreLinked [] = Unit {0}
-  AreLinked (a ∷ []) = 1 < length (points_of arcs a)
-  AreLinked (a ∷ b ∷ rest) = (1 < length (points_of arcs a)) × (point_at (points_of arcs a) (last_point a) ≡ point_at (points_of arcs b) 0) × AreLinked (b ∷ rest)
-
   abbrev pub steps_along : SignedArc → List Segment
   steps_along a = steps (points_of arcs a)
 
-  first_long : (a : SignedArc) (rest : List SignedArc) → AreLinked (a ∷ rest) → 1 < length (points_of arcs a)
+  first_long : (a : SignedArc) (rest : List SignedArc) → AreLinked arcs (a ∷ rest) → 1 < length (points_of arcs a)
   first_long a [] h = h
   first_long a (b ∷ rest) h = h.0
 
-  joined_first : (a : SignedArc) (rest : List SignedArc) → AreLinked (a ∷ rest) → (point_at (joined_points arcs (a ∷ rest)) 0 ≡ point_at (points_of arcs a) 0) × (0 < length (joined_points arcs (a ∷ rest)))
+  joined_first : (a : SignedArc) (rest : List SignedArc) → AreLinked arcs (a ∷ rest) → (point_at (joined_points arcs (a ∷ rest)) 0 ≡ point_at (points_of arcs a) 0) × (0 < length (joined_points arcs (a ∷ rest)))
   joined_first a [] h = (refl, let l : 1 < length (points_of arcs a) = h in omega arith)
   joined_first a (b ∷ rest) h = first_kept (points_of arcs a) (joined_points arcs (b ∷ rest)) h.0
 
-  pub linked_steps : (run : List SignedArc) → AreLinked run → steps (joined_points arcs run) ≡ flat_map steps_along run
+  pub linked_steps : (run : List SignedArc) → AreLinked arcs run → steps (joined_points arcs run) ≡ flat_map steps_along run
   linked_steps [] h = refl
   linked_steps (a ∷ []) h = sym (append-nil (steps_along a))
   linked_steps (a ∷ b ∷ rest) h =
@@ -83,7 +78,7 @@ module _ (arcs : List Path) where
       steps_over P (joined_points arcs (b ∷ rest)) (last_point a) (omega arith) first.1 (h.1 ∙ sym first.0)
       ∙ ap (λ (ss : List Segment). steps_along a ++ ss) (linked_steps (b ∷ rest) h.2)
 
-  pub chain_linked : (named : List SignedArc) → All (λ a. 1 < length (points_of arcs a)) named → IsChain (flat_map steps_along named) → AreLinked named
+  pub chain_linked : (named : List SignedArc) → All (λ a. 1 < length (points_of arcs a)) named → IsChain (flat_map steps_along named) → AreLinked arcs named
   chain_linked [] long h = tt
   chain_linked (a ∷ []) long h = All-head (λ b. 1 < length (points_of arcs b)) a [] long
   chain_linked (a ∷ b ∷ rest) long h =
@@ -95,31 +90,31 @@ module _ (arcs : List Path) where
 
   -- ---- runs of them
 
-  linked_before : (xs ys : List SignedArc) → AreLinked (xs ++ ys) → AreLinked xs
+  linked_before : (xs ys : List SignedArc) → AreLinked arcs (xs ++ ys) → AreLinked arcs xs
   linked_before [] ys h = tt
   linked_before (x ∷ []) ys h = first_long x ys h
   linked_before (x ∷ y ∷ xs) ys h = (h.0, h.1, linked_before (y ∷ xs) ys h.2)
 
-  linked_after : (x : SignedArc) (xs ys : List SignedArc) → AreLinked ((x ∷ xs) ++ ys) → AreLinked ys
+  linked_after : (x : SignedArc) (xs ys : List SignedArc) → AreLinked arcs ((x ∷ xs) ++ ys) → AreLinked arcs ys
   linked_after x [] [] h = tt
   linked_after x [] (y ∷ ys) h = h.2
   linked_after x (y ∷ xs) ys h = linked_after y xs ys h.2
 
-  linked_rest : (xs : List SignedArc) (x : SignedArc) (ys : List SignedArc) → AreLinked (xs ++ x ∷ ys) → AreLinked ys
+  linked_rest : (xs : List SignedArc) (x : SignedArc) (ys : List SignedArc) → AreLinked arcs (xs ++ x ∷ ys) → AreLinked arcs ys
   linked_rest [] x ys h = linked_after x [] ys h
   linked_rest (y ∷ xs) x ys h = linked_rest xs x ys (linked_after y [] (xs ++ x ∷ ys) h)
 
-  ended_linked : (begun : List SignedArc) → AreLinked begun → All AreLinked (ended begun)
-  ended_linked [] h = All-nil AreLinked
-  ended_linked (x ∷ xs) h = All-cons AreLinked (x ∷ xs) [] h (All-nil AreLinked)
+  ended_linked : (begun : List SignedArc) → AreLinked arcs begun → All (AreLinked arcs) (ended begun)
+  ended_linked [] h = All-nil (AreLinked arcs)
+  ended_linked (x ∷ xs) h = All-cons (AreLinked arcs) (x ∷ xs) [] h (All-nil (AreLinked arcs))
 
-  either : (b : Bool) (rs ss : List (List SignedArc)) → All AreLinked rs → All AreLinked ss → All AreLinked (cond b rs ss)
+  either : (b : Bool) (rs ss : List (List SignedArc)) → All (AreLinked arcs) rs → All (AreLinked arcs) ss → All (AreLinked arcs) (cond b rs ss)
   either true rs ss p q = p
   either false rs ss p q = q
 
-  pub runs_linked : (test : SignedArc → Bool) (xs begun : List SignedArc) → AreLinked (begun ++ xs) → All AreLinked (runs_after test begun xs)
-  runs_linked test [] begun h = ended_linked begun (subst AreLinked (append-nil begun) h)
+  pub runs_linked : (test : SignedArc → Bool) (xs begun : List SignedArc) → AreLinked arcs (begun ++ xs) → All (AreLinked arcs) (runs_after test begun xs)
+  runs_linked test [] begun h = ended_linked begun (subst (AreLinked arcs) (append-nil begun) h)
   runs_linked test (x ∷ xs) begun h =
       either (test x) (runs_after test (begun ++ x ∷ []) xs) (ended begun ++ runs_after test [] xs)
-      (runs_linked test xs (begun ++ x ∷ []) (subst AreLinked (sym (append_assoc begun (x ∷ []) xs)) h))
-      (All-append AreLinked (ended begun) (runs_after test [] xs) (ended_linked begun (linked_before begun (x ∷ xs) h)) (runs_linked test xs [] (linked_rest begun x xs h)))
+      (runs_linked test xs (begun ++ x ∷ []) (subst (AreLinked arcs) (sym (append_assoc begun (x ∷ []) xs)) h))
+      (All-append (AreLinked arcs) (ended begun) (runs_after test [] xs) (ended_linked begun (linked_before begun (x ∷ xs) h)) (runs_linked test xs [] (linked_rest begun x xs h)))

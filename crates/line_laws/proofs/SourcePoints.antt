@@ -118,7 +118,7 @@ module _ (d : Drawing) (arcs : List Path) (faces : FaceTable) (labels : HolderTa
 -- ---- off the links
 
 -- where what a set has at a place is what a region has of the points there, the points of the set are those of the region
-off_links : (S : List Segment) (label : Place → ℕ) (set : List ℕ) (R : Points) (z : RationalPoint) → IsOffLinks S z → (a : Place) → IsPlaceOf S z a → ((b : Place) → IsPlaceOf S z b → Contains set (label b) ↔ R z) → PointsOf S label set z ↔ R z
+pub off_links : (S : List Segment) (label : Place → ℕ) (set : List ℕ) (R : Points) (z : RationalPoint) → IsOffLinks S z → (a : Place) → IsPlaceOf S z a → ((b : Place) → IsPlaceOf S z b → Contains set (label b) ↔ R z) → PointsOf S label set z ↔ R z
 off_links S label set R z off a here same = (
   λ h. let (beside, placed) = h in let (b, there, c) = placed in (same b there).0 c,
   λ r. (off, (a, here, (same a here).1 r)),
@@ -139,7 +139,7 @@ points_are_of_boxes d arcs faces labels laid label by number set has_faces z off
 -- ---- vertices
 
 -- regions that have the same points off the links are seen by the same points
-inside_alike : (S : List Segment) (Q R : Points) → ((z : RationalPoint) → IsOffLinks S z → Q z ↔ R z) → (p : GridPoint) → IsInside S Q p ↔ IsInside S R p
+pub inside_alike : (S : List Segment) (Q R : Points) → ((z : RationalPoint) → IsOffLinks S z → Q z ↔ R z) → (p : GridPoint) → IsInside S Q p ↔ IsInside S R p
 inside_alike S Q R same p = (
   λ h. let (z, sees, there) = h in (z, sees, (same z (seeing_is_off S p z sees)).0 there),
   λ h. let (z, sees, there) = h in (z, sees, (same z (seeing_is_off S p z sees)).1 there),

@@ -1,3 +1,5 @@
 pub mod Lines
 pub mod ArcsBetween
 pub mod Sources
+pub mod Linked
+pub mod Regions

@@ -8,13 +8,20 @@
 //!   (`arcs_between_features`).
 //! - A source is a layer of features, or a box: what is inside its faces is what points see that it holds
 //!   (`lines_cut_by_layers`, `lines_cut_by_boxes`, `vertices_inside_layers`, `vertices_inside_boxes`).
+//! - Arcs that follow each other are a path: a line of a drawing, or a run of one (`lines_are_linked`, `runs_are_linked`).
+//!   Cut by the set of any region, such paths are what the model of regions leaves of them (`paths_cut_by_regions`), and so
+//!   it is with vertices (`points_cut_by_regions`) and with the arcs of dissolved lines (`lines_are_dissolved`).
+//! - The sets at the two sides of an arc are those of the regions that have its sides (`sets_are_holders`),
+//!   so arcs between sets are arcs between regions (`borders_are_of_regions`).
 //!
 //! Each function carries one law in its contract, and does nothing. The laws are stated in `specs/Lines.antt`,
-//! `specs/ArcsBetween.antt` and `specs/Sources.antt`.
+//! `specs/ArcsBetween.antt`, `specs/Sources.antt`, `specs/Linked.antt` and `specs/Regions.antt`.
 #![tactic(auto)]
 
 ghost use Rattle.line_laws.specs.ArcsBetween.{ArcsBetweenFeatures, ArcsBetweenSets, SetsStandForFeatures, SetsStandForPoints};
 ghost use Rattle.line_laws.specs.Lines.{ArcsAreInside, BoundaryIsDirected, BoundaryOfArcs, DrawingsAreLabelled, InsideIsTested, LineFeaturesAreCut, LinesAreCut, PathsAreCut, SidesAreWhole, SidesOfArcs};
+ghost use Rattle.line_laws.specs.Linked.{LinesAreDissolved, LinesAreLinked, RunsAreLinked};
+ghost use Rattle.line_laws.specs.Regions.{BordersAreOfRegions, InsidesAreTold, PathsCutByRegions, PointsCutByRegions, SetsAreHolders};
 ghost use Rattle.line_laws.specs.Sources.{LinesCutByBoxes, LinesCutByLayers, PointsAreOfBoxes, PointsAreOfLayers, SidesOfBoxes, SidesOfLayers, VerticesInsideBoxes, VerticesInsideLayers};
 
 /// These laws are true of the faces of the arcs of a snapped drawing.
@@ -136,4 +143,46 @@ pub fn vertices_inside_layers()
 /// And so it is with a box.
 pub fn vertices_inside_boxes()
     ensures { VerticesInsideBoxes }
+{}
+
+/// The arcs along a line of a snapped drawing follow each other, and joined they are the line.
+pub fn lines_are_linked()
+    ensures { LinesAreLinked }
+{}
+
+/// The runs of arcs that follow each other do so too: so what a cut leaves of a path is cut again as a path.
+pub fn runs_are_linked()
+    ensures { RunsAreLinked }
+{}
+
+/// Dissolved lines are the arcs that their paths go along, each once, in its direction, in order of number.
+pub fn lines_are_dissolved()
+    ensures { LinesAreDissolved }
+{}
+
+/// Paths of arcs that follow each other, cut by the set of any region, are as points the maximal runs of steps along links
+/// that are inside the region, and of steps along links that are not.
+pub fn paths_cut_by_regions()
+    ensures { PathsCutByRegions }
+{}
+
+/// Vertices are inside the set of a region, as it is answered for them, exactly if some point of the region sees them.
+pub fn points_cut_by_regions()
+    ensures { PointsCutByRegions }
+{}
+
+/// Which vertices of a drawing are inside a region that a set follows can be told.
+pub fn insides_are_told()
+    ensures { InsidesAreTold }
+{}
+
+/// The sets at the two sides of an arc are those of the regions that have the two sides of its first link.
+pub fn sets_are_holders()
+    ensures { SetsAreHolders }
+{}
+
+/// So the arcs whose two sides are in different sets are those between the regions of the sets, in order, as points, with the
+/// least of them at each side; and the inner ones those with regions at both sides.
+pub fn borders_are_of_regions()
+    ensures { BordersAreOfRegions }
 {}

@@ -1,15 +1,16 @@
 mod Drawings
 mod PolygonRows
 mod LineRows
+mod GapRows
 mod LaterRows
 mod RunRows
+mod CommandRows
 mod RingRow
 mod SynthRow
 mod TextRows
 mod MessageRows
 mod WordRows
 mod RandomWords
-mod SameWords
 mod WholeRows
 mod HeadlineRow
 mod RandomRuns

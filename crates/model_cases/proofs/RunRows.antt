@@ -113,8 +113,8 @@ erased = refl
 abbrev equal_squares : LayerContent
 equal_squares = record overlapping { shapes = square 0 0 4 4 ∷ square 0 0 4 4 ∷ [] }
 
-cleaned : printed (run_over (equal_squares ∷ []) [] [] (apply (c.Each (each.Clean MaxArea false)) ∷ print ∷ []))
-    ≡ (record { name = codes "in"; kind = kind.Polygon; table = record { names = codes "n" ∷ []; rows = (Words (codes "a") ∷ []) ∷ [] }; shapes = st.region (less (feature 0) (any_of [])) ∷ [] } ∷ []) ∷ []
+cleaned : printed (run_over (equal_squares ∷ []) [] [] (apply (c.Each (each.Clean MaxArea false 0)) ∷ print ∷ []))
+    ≡ (record { name = codes "in"; kind = kind.Polygon; table = record { names = codes "n" ∷ []; rows = (Words (codes "a") ∷ []) ∷ [] }; shapes = st.region (any_of (less (feature 0) (any_of []) ∷ [])) ∷ [] } ∷ []) ∷ []
 cleaned = refl
 
 -- ---- a square and boxes

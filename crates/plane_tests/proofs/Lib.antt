@@ -1,1 +1,2 @@
-pub mod SingleLink
+pub mod Faces
+pub mod Last

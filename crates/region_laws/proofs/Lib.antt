@@ -18,3 +18,9 @@ pub mod Areas
 pub mod Prints
 pub mod OnePart
 pub mod TieLaws
+pub mod Answered
+pub mod Fitting
+pub mod AscendingLists
+pub mod MosaicTold
+pub mod Ranking
+pub mod FilledTold

@@ -85,15 +85,15 @@ exactly_has_points d arcs region many numbers some below z = (to, from)
 
 -- ---- the faces that just some sets have
 
-first_of : (xs : List ℕ) → (xs ≡ [] → ⊥) → (n : ℕ) × Contains xs n
+pub first_of : (xs : List ℕ) → (xs ≡ [] → ⊥) → (n : ℕ) × Contains xs n
 first_of [] some = absurd (some refl)
 first_of (x ∷ xs) some = (x, Contains-head x xs)
 
 module _ (sets : List (List ℕ)) (count : ℕ) (ids : List ℕ) where
-  in_faces : (k : ℕ) → k < count → owners_of sets k ≡ ids → Contains (faces_of sets count ids) k
+  pub in_faces : (k : ℕ) → k < count → owners_of sets k ≡ ids → Contains (faces_of sets count ids) k
   in_faces k l e = Contains-filter (λ (j : ℕ). same_list nat_eq (owners_of sets j) ids) (range_with_len 0 count) k (in_range count k l) (test_from_same (owners_of sets k) ids e)
 
-  of_faces : (k : ℕ) → Contains (faces_of sets count ids) k → (k < count) × (owners_of sets k ≡ ids)
+  pub of_faces : (k : ℕ) → Contains (faces_of sets count ids) k → (k < count) × (owners_of sets k ≡ ids)
   of_faces k c =
       let (in_all, e) = filter-Contains (λ (j : ℕ). same_list nat_eq (owners_of sets j) ids) (range_with_len 0 count) k c in
       (of_range count k in_all, same_from_test (owners_of sets k) ids e)
@@ -115,7 +115,7 @@ module _ (d : Drawing) (arcs : List Path) (faces : FaceTable) (label : Place →
         (λ n c. (let l = (of_owners sets (label a) n c).0 in (by n l).1 ((owners_have n l).0 c)))
         (λ n c. (let l = All-contains (λ (m : ℕ). m < length sets) numbers n below c in (owners_have n l).1 ((by n l).0 c)))
 
-  faces_followed : (ids : List ℕ) → (ids ≡ [] → ⊥) → All (λ n. n < length sets) ids → IsStrictlyIncreasing ids → Follows (snapped d) arcs label (faces_of sets faces.count ids) (exactly region (length sets) ids)
+  pub faces_followed : (ids : List ℕ) → (ids ≡ [] → ⊥) → All (λ n. n < length sets) ids → IsStrictlyIncreasing ids → Follows (snapped d) arcs label (faces_of sets faces.count ids) (exactly region (length sets) ids)
   faces_followed ids some below up z off a here = (
     λ h. in_faces sets faces.count ids (label a) (label_below d arcs faces label walked a (beside_of (links_of (snapped d)) z a here)) (these z off a here ids some below up h),
     λ c.
@@ -124,7 +124,7 @@ module _ (d : Drawing) (arcs : List Path) (faces : FaceTable) (label : Place →
         (λ n m. subst (λ (ns : List ℕ). Contains ns n ↔ Has (snapped d) arcs (region n) z) same (owners_have z off a here n m))),
   )
 
-  faces_inner : (ids : List ℕ) → (ids ≡ [] → ⊥) → IsSetOf faces (faces_of sets faces.count ids)
+  pub faces_inner : (ids : List ℕ) → (ids ≡ [] → ⊥) → IsSetOf faces (faces_of sets faces.count ids)
   faces_inner ids some i e l =
       let k : ℕ = get_or (faces_of sets faces.count ids) i e in
       let (below, same) = of_faces sets faces.count ids k (Contains-get_or (faces_of sets faces.count ids) i e l) in

@@ -354,7 +354,7 @@ module _ (S : List Segment) (arr : IsArrangement S) (distinct : IsDistinct S) (a
       count = length-map-range_with_len least_on 0 k;
     }
 
-    in_no_other : (j : ℕ) → IsInPart S arcs R z j → j ≡ k
+    pub in_no_other : (j : ℕ) → IsInPart S arcs R z j → j ≡ k
     in_no_other j h =
         let e : h.number ≡ least_on k = one_least k h.number (least_on k) (number_from z off a here k below in_part h.number h.is_number) (least_is k below) in
         let same : h.lesser ≡ lesser k = one_ascending nat_lt nat_order h.lesser (lesser k) (to_ascending h.lesser h.rising) (to_ascending (lesser k) (lesser_rises k (omega arith)))

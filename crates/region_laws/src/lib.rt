@@ -7,14 +7,17 @@
 //!   of inner faces follows a region (`one_set_follows`).
 //! - So it is after each command: `clipped_sets_are_followed`, `erased_sets_are_followed`, `dissolved_sets_are_followed`,
 //!   `cleaned_by_regions`, `mosaics_are_followed`, `exploded_sets_are_followed`. The gaps of sets follow those between
-//!   their regions (`gaps_are_followed`).
+//!   their regions (`gaps_are_followed`), and what clean makes with them its definition (`filled_as_told`).
 //! - What is traced for a set prints its region: the rings use each step of the region's boundary once, and hold just its
 //!   points (`traces_use_boundaries`, `traces_print_regions`), part by part (`polygons_print_parts`).
+//! - What commands ask of regions is answered from the sets: which sides of links belong to a region, whether it is empty,
+//!   its area and its parts (`sides_are_told`, `emptiness_is_told`, `areas_are_told`, `parts_are_told`).
 //!
 //! Each function carries one law in its contract, and does nothing. Regions are those of `region_model`; the laws are stated
-//! in `specs/Followed.antt`, `specs/Gaps.antt`, `specs/Printed.antt` and `specs/Ties.antt`.
+//! in `specs/Followed.antt`, `specs/Gaps.antt`, `specs/Printed.antt`, `specs/Ties.antt` and `specs/Answered.antt`.
 #![tactic(auto)]
 
+ghost use Rattle.region_laws.specs.Answered.{AreasAreTold, CleanedAsTold, EmptinessIsTold, ExplodedAsTold, LayersAreFollowed, MosaicAsTold, PartsAreTold, SidesAreTold, TracesFit};
 ghost use Rattle.region_laws.specs.Followed.{
   AreasAreThoseOfRegions,
   BoxesAreFollowed,
@@ -31,7 +34,7 @@ ghost use Rattle.region_laws.specs.Followed.{
   RemaindersAreFollowed,
   UnionsAreFollowed,
 };
-ghost use Rattle.region_laws.specs.Gaps.{GapsAreFollowed};
+ghost use Rattle.region_laws.specs.Gaps.{FilledAsTold, GapsAreFollowed};
 ghost use Rattle.region_laws.specs.Printed.{PolygonsPrintParts, PolygonsUseBoundaries, TracesPrintRegions, TracesUseBoundaries};
 ghost use Rattle.region_laws.specs.Ties.{CleanedByRegions, EmptySetsAreEmptyRegions, OneSetFollows, SetsAreOfSides};
 
@@ -92,6 +95,12 @@ pub fn parts_are_followed()
 /// its points is left of all links, and gaps are numbered by the least arcs in their boundaries.
 pub fn gaps_are_followed()
     ensures { GapsAreFollowed }
+{}
+
+/// The sets that `clean_sets` answers where it fills gaps follow what clean with gaps makes of the regions: what is left of
+/// each when overlaps are given away, with the filled gaps that go to it.
+pub fn filled_as_told()
+    ensures { FilledAsTold }
 {}
 
 /// The items that `explode_sets` answers follow the parts of the regions, region by region; an empty region stays one item.
@@ -158,4 +167,50 @@ pub fn polygons_use_boundaries()
 /// Only one ascending set of inner faces follows a region.
 pub fn one_set_follows()
     ensures { OneSetFollows }
+{}
+
+/// The faces of any set of a layer follow any of the regions of its features: so they are the source of a clip.
+pub fn layers_are_followed()
+    ensures { LayersAreFollowed }
+{}
+
+/// Which sides of links belong to the region of a set can be told.
+pub fn sides_are_told()
+    ensures { SidesAreTold }
+{}
+
+/// A set has no faces exactly if its region is empty, as commands ask: its boundary has no links.
+pub fn emptiness_is_told()
+    ensures { EmptinessIsTold }
+{}
+
+/// Twice the area of a set of faces is that of its region, as commands ask for it.
+pub fn areas_are_told()
+    ensures { AreasAreTold }
+{}
+
+/// The sets that `clean_sets` answers where no gaps are filled follow what the definition of clean leaves of their regions.
+pub fn cleaned_as_told()
+    ensures { CleanedAsTold }
+{}
+
+/// A number is below the count of the parts of a set exactly if the part of the region with this number has a point.
+pub fn parts_are_told()
+    ensures { PartsAreTold }
+{}
+
+/// The pieces of a set, its parts or itself where it has no faces, are in order those that explode makes of its region.
+pub fn exploded_as_told()
+    ensures { ExplodedAsTold }
+{}
+
+/// The items that `mosaic_sets` answers are in order, with their lists of numbers, those that the definition of a mosaic makes
+/// of the regions.
+pub fn mosaic_as_told()
+    ensures { MosaicAsTold }
+{}
+
+/// What `trace` answers for the set of a region fits the region part by part, as printed polygons have to.
+pub fn traces_fit()
+    ensures { TracesFit }
 {}

@@ -1,6 +1,6 @@
 pub mod Region
 pub mod Answers
-pub mod PolygonCommands
 pub mod LineCommands
+pub mod PolygonCommands
 pub mod Printed
 pub mod LaterCommands

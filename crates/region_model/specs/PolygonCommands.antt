@@ -1,11 +1,13 @@
 -- What the commands on polygons make of the regions of a layer's features, after mapshaper's Command Reference.
-use Rattle.std.specs.Prelude.{ℕ, Bool, not, ◌&&◌, ◌||◌, nat_eq, nat_lt, ℤ, int_lt, List, [], ◌∷◌, ◌++◌, map, filter, if◌then◌else◌}
-use Rattle.std.specs.List.{flat_map, range_with_len}
-use Rattle.lists.specs.Lists.{has}
+use Rattle.std.specs.Prelude.{ℕ, Bool, not, ◌&&◌, ◌||◌, nat_eq, nat_lt, ℤ, pos, int_le, int_lt, List, [], ◌∷◌, ◌++◌, map, filter, take, length, if◌then◌else◌}
+use Rattle.std.specs.List.{flat_map, list_all, list_any, range_with_len}
+use Rattle.lists.specs.Lists.{has, numbers_where, same_list, sort_stable}
+use Rattle.plane_model.specs.Points.{Segment}
 use Rattle.grid_base.specs.declared.kinds.OverlapRule.{OverlapRule}
 use Rattle.grid_base.specs.declared.kinds.OverlapRule.TheVariants.{MinId, MaxId, MinArea, MaxArea}
-use Rattle.region_model.specs.Region.{Region, any_of, both, less, part}
-use Rattle.region_model.specs.Answers.{Plane, Answers, area_of, is_empty}
+use Rattle.region_model.specs.Region.{Region, any_of, both, gap_of, less, part, regions_of}
+use Rattle.region_model.specs.Answers.{Plane, Answers, area_of, boundary, is_empty, is_nil}
+use Rattle.region_model.specs.LineCommands.{on_left, on_right}
 
 -- the regions of these numbers
 abbrev pub regions_at : (ℕ → Region) → List ℕ → List Region
@@ -45,6 +47,34 @@ earlier_in_rank P A rule region many n = filter (λ (m : ℕ). ranks_before rule
 abbrev pub cleaned : Plane → Answers → OverlapRule → (ℕ → Region) → ℕ → ℕ → Region
 cleaned P A rule region many n = less (region n) (any_of (regions_at region (earlier_in_rank P A rule region many n)))
 
+-- ---- clean, with the gaps between all features that are filled
+
+-- the numbers of so many features, the first in rank first
+abbrev pub ranking : Plane → Answers → OverlapRule → (ℕ → Region) → ℕ → List ℕ
+ranking P A rule region many = sort_stable (λ (m n : ℕ). ranks_before rule m (area_of P A (region m)) n (area_of P A (region n))) (range_with_len 0 many)
+
+-- all regions of so many features
+abbrev pub all_regions : (ℕ → Region) → ℕ → List Region
+all_regions region many = regions_at region (range_with_len 0 many)
+
+-- the gaps that are filled: those of at most this area, doubled
+abbrev pub filled_gaps : Plane → Answers → ℕ → List Region → List ℕ
+filled_gaps P A most rs = filter (λ (j : ℕ). int_le (area_of P A (gap_of rs j)) (pos most)) (range_with_len 0 (A.gaps (regions_of rs)))
+
+-- some link of the gap's boundary has its other side in the region
+abbrev pub borders : Plane → Answers → Region → Region → Bool
+borders P A hole r = list_any (on_right A r) (boundary P A hole)
+
+-- the feature that a gap goes to, where there is one: the first in rank that it borders
+abbrev pub goes_to : Plane → Answers → OverlapRule → (ℕ → Region) → ℕ → ℕ → List ℕ
+goes_to P A rule region many j =
+    take 1 (filter (λ (n : ℕ). borders P A (gap_of (all_regions region many) j) (cleaned P A rule region many n)) (ranking P A rule region many))
+
+-- what clean leaves of feature n, with the filled gaps that go to it
+abbrev pub cleaned_and_filled : Plane → Answers → OverlapRule → ℕ → (ℕ → Region) → ℕ → ℕ → Region
+cleaned_and_filled P A rule most region many n =
+    any_of (cleaned P A rule region many n ∷ map (gap_of (all_regions region many)) (filter (λ (j : ℕ). same_list nat_eq (n ∷ []) (goes_to P A rule region many j)) (filled_gaps P A most (all_regions region many))))
+
 -- ---- mosaic
 
 -- the nonempty ascending lists of these numbers, in lexicographic order
@@ -78,3 +108,21 @@ mosaic P A region many = flat_map (λ (L : List ℕ). map (λ (r : Region). (L, 
 
 abbrev pub exploded : Plane → Answers → Region → List Region
 exploded P A r = if is_empty P A r then r ∷ [] else parts_of A r
+
+-- ---- islands that are dropped
+
+-- of a step with a part of feature n on its left: that feature alone has the left side, and none the right one
+abbrev pub stands_alone : Answers → List Region → ℕ → Segment → Bool
+stands_alone A rs n s = is_nil (numbers_where (λ (r : Region). on_right A r s) rs) && same_list nat_eq (numbers_where (λ (r : Region). on_left A r s) rs) (n ∷ [])
+
+abbrev pub is_detached : Plane → Answers → List Region → ℕ → Region → Bool
+is_detached P A rs n piece = list_all (stands_alone A rs n) (boundary P A piece)
+
+-- twice its area, or the number of links in its boundary, is below what is asked
+abbrev pub is_small : Plane → Answers → ℕ → ℕ → Region → Bool
+is_small P A least_area least_links piece = int_lt (area_of P A piece) (pos least_area) || nat_lt (length (boundary P A piece)) least_links
+
+-- feature n, one of so many, without the parts that are detached and small
+abbrev pub without_islands : Plane → Answers → ℕ → ℕ → (ℕ → Region) → ℕ → ℕ → Region
+without_islands P A least_area least_links region many n =
+    any_of (filter (λ (piece : Region). not (is_detached P A (all_regions region many) n piece && is_small P A least_area least_links piece)) (parts_of A (region n)))

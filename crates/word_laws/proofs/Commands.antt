@@ -8,7 +8,8 @@ use Rattle.table_terms.specs.Names.{Text}
 use Rattle.table_terms.specs.Refusals as table
 use Rattle.cmd_words.specs.declared.fault.WordWhy.{WordWhy}
 use Rattle.cmd_words.specs.declared.fault.WordWhy.TheVariants as why
-use Rattle.cmd_words.specs.declared.job.Action.{Action}
+use Rattle.cmd_words.specs.declared.action_words.ActionWords.{ActionWords}
+use Rattle.cmd_words.specs.declared.action_words.CommandWords.{CommandWords}
 use Rattle.cmd_words.specs.declared.job.Owner.TheVariants as owner
 use Rattle.cmd_words.specs.declared.job.SourceWord.{SourceWord}
 use Rattle.cmd_words.specs.declared.job.Target.{Target}
@@ -19,12 +20,12 @@ use Rattle.cmd_words.specs.Steps.{on_ok}
 use Rattle.cmd_words.specs.Texts.{is_standard, names_file}
 use Rattle.cmd_words.specs.Groups.{Group, empty_group, number_of_first}
 use Rattle.cmd_words.specs.Groups as groups
-use Rattle.cmd_words.specs.Chains.{SoFar, CommandWords, action_of, source_of, lacks_argument, lacks_form, takes_source}
+use Rattle.cmd_words.specs.Chains.{SoFar, action_of, source_of, lacks_argument, lacks_form, takes_source}
 use Rattle.cmd_words.specs.Chains as chains
 use Rattle.cmd_words.specs.Words.{Reading, CommandGroup, Grouped, take_words}
 use Rattle.cmd_words.specs.Words as reader
-use Rattle.word_model.specs.CommandTable.{Item, option, bare, argument, Said, ArgumentForm, nothing, files, source, list, expression, renames, text, Line, CommandLine, value_in, has_bare, argument_text, list_or_empty, target_of, form_in, line_of}
-use Rattle.word_model.specs.Words.{Word, item_of, is_standard_item, is_source, says, argument_number, origin_of, sources_of, ok_list, test_of, standard_among, with_command, finished, read_line, read_command, read_commands}
+use Rattle.word_model.specs.CommandTable.{Item, option, bare, argument, Said, ArgumentForm, nothing, files, source, list, expression, assignments, renames, text, Line, CommandLine, value_in, has_bare, argument_text, list_or_empty, target_of, form_in, line_of}
+use Rattle.word_model.specs.Words.{Word, item_of, is_standard_item, is_source, says, argument_number, origin_of, sources_of, ok_list, standard_among, with_command, finished, read_line, read_command, read_commands}
 use Rattle.word_laws.proofs.Tests.{or_false}
 use Rattle.word_laws.proofs.Forms.{form_as}
 use Rattle.word_laws.proofs.Groups.{argument_words, ok_option, box_from, group_of}
@@ -70,6 +71,7 @@ no_standard source (argument w ∷ said) f s = absurd (cc)
 no_standard nothing (argument w ∷ said) f s = no_standard nothing said f s
 no_standard list (argument w ∷ said) f s = no_standard list said f s
 no_standard expression (argument w ∷ said) f s = no_standard expression said f s
+no_standard assignments (argument w ∷ said) f s = no_standard assignments said f s
 no_standard renames (argument w ∷ said) f s = no_standard renames said f s
 no_standard text (argument w ∷ said) f s = no_standard text said f s
 
@@ -88,6 +90,7 @@ module _ (number : ℕ) (fields : List Text) (name : Text) where
   standard_of_source nothing said n f one = sym (no_standard nothing said f refl)
   standard_of_source list said n f one = sym (no_standard list said f refl)
   standard_of_source expression said n f one = sym (no_standard expression said f refl)
+  standard_of_source assignments said n f one = sym (no_standard assignments said f refl)
   standard_of_source renames said n f one = sym (no_standard renames said f refl)
   standard_of_source text said n f one = sym (no_standard text said f refl)
 
@@ -118,12 +121,12 @@ made_so_far a b c d = record { sources = a; boxes = b; commands = c; reads_stand
 made_so_far_same : {a a' : List SourceWord} {b b' : List Corners} {c c' : List CommandWords} {d d' : Bool} → a ≡ a' → b ≡ b' → c ≡ c' → d ≡ d' → made_so_far a b c d ≡ made_so_far a' b' c' d'
 made_so_far_same {a} {a'} {b} {b'} {c} {c'} {d} {d'} p q u v = ap (λ (k : List SourceWord). made_so_far k b c d) p ∙ ap (λ (k : List Corners). made_so_far a' k c d) q ∙ ap₂ (made_so_far a' b') u v
 
-abbrev made_command : Target → Option Text → Bool → Action → Option Text → CommandWords
-made_command to name keep action test = record { command = record { target = to; name = name; keep = keep; action = action }; test = test }
+abbrev made_command : Target → Option Text → Bool → ActionWords → CommandWords
+made_command to name keep action = record { target = to; name = name; keep = keep; action = action }
 
-made_command_same : {a a' : Target} {b b' : Option Text} {c c' : Bool} {d d' : Action} (t : Option Text) → a ≡ a' → b ≡ b' → c ≡ c' → d ≡ d' → made_command a b c d t ≡ made_command a' b' c' d' t
-made_command_same {a} {a'} {b} {b'} {c} {c'} {d} {d'} t p q u v =
-    ap (λ (k : Target). made_command k b c d t) p ∙ ap (λ (k : Option Text). made_command a' k c d t) q ∙ ap₂ (λ (k : Bool) (x : Action). made_command a' b' k x t) u v
+made_command_same : {a a' : Target} {b b' : Option Text} {c c' : Bool} {d d' : ActionWords} → a ≡ a' → b ≡ b' → c ≡ c' → d ≡ d' → made_command a b c d ≡ made_command a' b' c' d'
+made_command_same {a} {a'} {b} {b'} {c} {c'} {d} {d'} p q u v =
+    ap (λ (k : Target). made_command k b c d) p ∙ ap (λ (k : Option Text). made_command a' k c d) q ∙ ap₂ (λ (k : Bool) (x : ActionWords). made_command a' b' k x) u v
 
 module _ (places : ℕ) (s : SoFar) (standard : Standard s) (c : CommandLine) (r : Row) (same : SameRow c r) (ws : List Word) (said : Said) (kept : Kept places c.line.argument (args_of c.line ws) said) where
   abbrev held : Group
@@ -132,10 +135,10 @@ module _ (places : ℕ) (s : SoFar) (standard : Standard s) (c : CommandLine) (r
   means : Means c.line.argument said held
   means = kept_means places s.reads_standard c.line.argument (args_of c.line ws) said kept
 
-  command_same : made_command (target_of (value_in said (codes "target"))) (value_in said (codes "name")) (has_bare said (codes "+")) (c.asks (origin_of s said) said) (test_of c.line.argument said)
-      ≡ chains.command_words (length s.sources) (length s.boxes) r.keyword held
+  command_same : made_command (target_of (value_in said (codes "target"))) (value_in said (codes "name")) (has_bare said (codes "+")) (c.asks places (origin_of s said) said)
+      ≡ chains.command_words places (length s.sources) (length s.boxes) r.keyword held
   command_same =
-      sym (made_command_same (test_of c.line.argument said) (ap chains.target_of (means.value (codes "target")) ∙ targets_same (value_in said (codes "target"))) (means.value (codes "name")) (means.bare (codes "+")) (same.action s said held means))
+      sym (made_command_same (ap chains.target_of (means.value (codes "target")) ∙ targets_same (value_in said (codes "target"))) (means.value (codes "name")) (means.bare (codes "+")) (same.action places s said held means))
 
   sources_same : sources_of s c.line said ≡ option_to_list (source_of (length s.commands + 1) r.keyword held)
   sources_same =
@@ -148,12 +151,12 @@ module _ (places : ℕ) (s : SoFar) (standard : Standard s) (c : CommandLine) (r
       list_any-append (λ (w : SourceWord). w.standard) s.sources (sources_of s c.line said)
       ∙ ap₂ ◌||◌ (sym standard) (standard_of_source (length s.commands + 1) (list_or_empty (value_in said (codes "string-fields"))) (argument_text said) c.line.argument said refl same.no_files kept.one)
 
-  added_same : with_command places s c said ≡ chains.with_command s r.keyword held
+  added_same : with_command places s c said ≡ chains.with_command places s r.keyword held
   added_same =
       made_so_far_same (ap (λ (xs : List SourceWord). s.sources ++ xs) sources_same) (ap (λ (xs : List Corners). s.boxes ++ xs) (boxes_same places (value_in said (codes "bbox"))))
       (ap (λ (x : CommandWords). s.commands ++ x ∷ []) command_same) standard_same
 
-  pub finished_same : (w : Word) → finished places s c w ws said ≡ reader.finished s r.keyword w.0 held
+  pub finished_same : (w : Word) → finished places s c w ws said ≡ reader.finished places s r.keyword w.0 held
   finished_same w =
       chosen (sym (same.needed said held means)) refl
       (chosen (sym (same.known said held means)) (ap (λ (n : ℕ). Err (n, why.UnsupportedFile)) (number_same c.line ws)) (ap (λ (x : SoFar). Ok x) added_same))
@@ -172,6 +175,7 @@ started places taken form = ap (λ (b : Bool). record (empty_group taken) { read
     go source = refl
     go list = refl
     go expression = refl
+    go assignments = refl
     go renames = refl
     go text = refl
 
@@ -189,7 +193,7 @@ module _ (refuses : Refusals) (places : ℕ) where
   line_same s standard g None (Some r) f = absurd f
   line_same s standard g (Some c) None f = absurd f
   line_same s standard g (Some c) (Some r) same =
-      joined places s.reads_standard c.line.argument (args_of c.line g.1) _ _ (finished places s c g.0 g.1) (reader.finished s r.keyword g.0.0)
+      joined places s.reads_standard c.line.argument (args_of c.line g.1) _ _ (finished places s c g.0 g.1) (reader.finished places s r.keyword g.0.0)
       (words_same refuses places s.reads_standard c.line r.form (placed_by c.line same.fits) same.form g.1) (λ said kept. finished_same places s standard c r same g.1 said kept g.0)
 
   command_read : (s : SoFar) → Standard s → (g : Word × List Word) → read_command refuses places s g ≡ reader.take_command refuses places s (command_as g)

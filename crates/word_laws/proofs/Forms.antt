@@ -1,12 +1,12 @@
 -- What may stand in a group, by the table of commands, as the reader's rows have it.
-use Rattle.std.proofs.Common.{◌≡◌, Bool, true, false, not, ◌&&◌, ◌||◌, cond, List, [], ◌∷◌, map, codes, Some, option_map, bytes_eq, find, refl, ap}
+use Rattle.std.proofs.Common.{◌≡◌, Bool, true, false, not, ◌&&◌, cond, List, [], ◌∷◌, map, Option, Some, None, is_some, option_map, bytes_eq, find, refl, ap, sym, ◌∙◌}
 use Rattle.table_terms.specs.Names.{Text}
 use Rattle.cmd_words.specs.Rows as reader_rows
 use Rattle.cmd_words.specs.Options as reader
 use Rattle.cmd_words.specs.Rows.{rows}
 use Rattle.cmd_words.specs.Texts as texts
-use Rattle.word_model.specs.CommandTable.{ValueForm, a_text, a_list, two_names, a_precision, a_rule, a_format, a_box, an_expression, ArgumentForm, nothing, files, source, list, expression, renames, text, Line, import_line, form_of}
-use Rattle.word_model.specs.Words.{begins_with_equals, splits, lacks_value, is_box, is_list, reads_standard}
+use Rattle.word_model.specs.CommandTable.{ValueForm, a_text, a_list, two_names, a_precision, a_rule, a_format, a_box, an_expression, an_area, one_or_more, zero_or_more, ArgumentForm, nothing, files, source, list, expression, assignments, renames, text, Line, import_line, form_of}
+use Rattle.word_model.specs.Words.{begins_with_equals, splits, is_option, lacks_value, is_box, is_list, reads_standard}
 use Rattle.word_laws.proofs.Shown.{Value, argument_as, value_as}
 
 abbrev pub option_as : Text × ValueForm → Text × Value
@@ -39,15 +39,25 @@ pub begins_same : (value : Text) → begins_with_equals value ≡ texts.begins_w
 begins_same [] = refl
 begins_same (b ∷ rest) = refl
 
-pub splits_same : (a : ArgumentForm) (o : Text × Text) → splits a o.0 o.1 ≡ texts.is_option (argument_as a) o
+splits_by_form : (a : ArgumentForm) (known : Bool) (value : Text) → splits a known value ≡ texts.splits (argument_as a) known (texts.begins_with_equals value)
 unfolding rows argument_as
-splits_same nothing o = refl
-splits_same files o = refl
-splits_same source o = refl
-splits_same list o = refl
-splits_same expression o = ap (λ (b : Bool). (bytes_eq o.0 (codes "name") || bytes_eq o.0 (codes "target")) && not b) (begins_same o.1)
-splits_same renames o = refl
-splits_same text o = refl
+splits_by_form nothing known value = refl
+splits_by_form files known value = refl
+splits_by_form source known value = refl
+splits_by_form list known value = refl
+splits_by_form expression known value = ap (λ (b : Bool). known && not b) (begins_same value)
+splits_by_form assignments known value = ap (λ (b : Bool). known && not b) (begins_same value)
+splits_by_form renames known value = refl
+splits_by_form text known value = refl
+
+known_same : (o : Option ValueForm) → is_some o ≡ is_some (option_map value_as o)
+known_same None = refl
+known_same (Some f) = refl
+
+pub is_option_same : (l : Line) (o : Text × Text) → is_option l o.0 o.1 ≡ texts.is_option (form_as l) o
+is_option_same l o =
+    splits_by_form l.argument (is_some (form_of l o.0)) o.1
+    ∙ ap (λ (b : Bool). texts.splits (argument_as l.argument) b (texts.begins_with_equals o.1)) (known_same (form_of l o.0) ∙ ap is_some (sym (form_of_as l o.0)))
 
 -- ## Tests of forms
 
@@ -61,6 +71,9 @@ lacks_same a_rule s = refl
 lacks_same a_format s = refl
 lacks_same a_box s = refl
 lacks_same an_expression s = refl
+lacks_same an_area s = refl
+lacks_same one_or_more s = refl
+lacks_same zero_or_more s = refl
 
 pub box_same : (f : ValueForm) → reader.is_area (value_as f) ≡ is_box f
 unfolding rows value_as
@@ -72,6 +85,9 @@ box_same a_rule = refl
 box_same a_format = refl
 box_same a_box = refl
 box_same an_expression = refl
+box_same an_area = refl
+box_same one_or_more = refl
+box_same zero_or_more = refl
 
 pub list_same : (a : ArgumentForm) → reader.is_list (argument_as a) ≡ is_list a
 unfolding rows argument_as
@@ -80,6 +96,7 @@ list_same files = refl
 list_same source = refl
 list_same list = refl
 list_same expression = refl
+list_same assignments = refl
 list_same renames = refl
 list_same text = refl
 
@@ -90,5 +107,6 @@ standard_same files s = refl
 standard_same source s = refl
 standard_same list s = refl
 standard_same expression s = refl
+standard_same assignments s = refl
 standard_same renames s = refl
 standard_same text s = refl

@@ -14,8 +14,8 @@ use Rattle.cmd_words.specs.Rows as rows
 use Rattle.cmd_words.specs.Settings.{value_named}
 use Rattle.cmd_words.specs.Values.{renames_of}
 use Rattle.cmd_words.specs.Groups.{Group, first_text}
-use Rattle.word_model.specs.CommandTable.{Item, option, bare, argument, Said, ArgumentForm, nothing, files, source, list, expression, renames, text, value_of, value_in, has_bare, argument_in, renames_in}
-use Rattle.word_model.specs.Words.{is_standard_item, test_of}
+use Rattle.word_model.specs.CommandTable.{Item, option, bare, argument, Said, ArgumentForm, nothing, files, source, list, expression, assignments, renames, text, value_of, value_in, has_bare, argument_in, renames_in}
+use Rattle.word_model.specs.Words.{is_standard_item}
 use Rattle.word_laws.proofs.Tests.{or_false, or_none}
 use Rattle.word_laws.proofs.Shown.{Word, Setting}
 
@@ -57,19 +57,28 @@ abbrev pub renames_seen : ArgumentForm → Said → List Rename
 renames_seen renames said = renames_in said
 renames_seen _ said = []
 
-abbrev pub made : List Word → List Setting → List Text → Bool → Option Corners → List Rename → Option Text → Group
-made a o b r x n t = record { arguments = a; options = o; bare = b; reads_standard = r; area = x; renames = n; test = t }
+-- the texts of the expression and of the assignments
+abbrev pub test_of : ArgumentForm → Said → Option Text
+test_of expression said = argument_in said
+test_of _ said = value_in said (codes "where")
+
+abbrev pub assigns_of : ArgumentForm → Said → Option Text
+assigns_of assignments said = argument_in said
+assigns_of _ said = None
+
+abbrev pub made : List Word → List Setting → List Text → Bool → Option Corners → List Rename → Option Text → Option Text → Group
+made a o b r x n t v = record { arguments = a; options = o; bare = b; reads_standard = r; area = x; renames = n; test = t; assigns = v }
 
 -- behind groups of which one reads standard input, or none
 abbrev pub group_of : ℕ → Bool → ArgumentForm → List Word → Said → Group
-group_of places taken form args said = made args (flat_map setting_of said) (flat_map bare_of said) (taken || list_any (is_standard_item form) said) (box_in places said) (renames_seen form said) (test_of form said)
+group_of places taken form args said = made args (flat_map setting_of said) (flat_map bare_of said) (taken || list_any (is_standard_item form) said) (box_in places said) (renames_seen form said) (test_of form said) (assigns_of form said)
 
-pub made_same : {a a' : List Word} {o o' : List Setting} {b b' : List Text} {r r' : Bool} {x x' : Option Corners} {n n' : List Rename} {t t' : Option Text}
-    → a ≡ a' → o ≡ o' → b ≡ b' → r ≡ r' → x ≡ x' → n ≡ n' → t ≡ t' → made a o b r x n t ≡ made a' o' b' r' x' n' t'
-made_same {a} {a'} {o} {o'} {b} {b'} {r} {r'} {x} {x'} {n} {n'} {t} {t'} p q u v w y z =
-    ap (λ (k : List Word). made k o b r x n t) p ∙ ap (λ (k : List Setting). made a' k b r x n t) q ∙ ap (λ (k : List Text). made a' o' k r x n t) u
-    ∙ ap (λ (k : Bool). made a' o' b' k x n t) v ∙ ap (λ (k : Option Corners). made a' o' b' r' k n t) w ∙ ap (λ (k : List Rename). made a' o' b' r' x' k t) y
-    ∙ ap (λ (k : Option Text). made a' o' b' r' x' n' k) z
+pub made_same : {a a' : List Word} {o o' : List Setting} {b b' : List Text} {r r' : Bool} {x x' : Option Corners} {n n' : List Rename} {t t' v v' : Option Text}
+    → a ≡ a' → o ≡ o' → b ≡ b' → r ≡ r' → x ≡ x' → n ≡ n' → t ≡ t' → v ≡ v' → made a o b r x n t v ≡ made a' o' b' r' x' n' t' v'
+made_same {a} {a'} {o} {o'} {b} {b'} {r} {r'} {x} {x'} {n} {n'} {t} {t'} {v} {v'} p q u w y z k l =
+    ap (λ (c : List Word). made c o b r x n t v) p ∙ ap (λ (c : List Setting). made a' c b r x n t v) q ∙ ap (λ (c : List Text). made a' o' c r x n t v) u
+    ∙ ap (λ (c : Bool). made a' o' b' c x n t v) w ∙ ap (λ (c : Option Corners). made a' o' b' r' c n t v) y ∙ ap (λ (c : List Rename). made a' o' b' r' x' c t v) z
+    ∙ ap (λ (c : Option Text). made a' o' b' r' x' n' c v) k ∙ ap (λ (c : Option Text). made a' o' b' r' x' n' t' c) l
 
 -- ## The same is found by both
 
@@ -160,6 +169,7 @@ renames_kept files said i e = refl
 renames_kept source said i e = refl
 renames_kept list said i e = refl
 renames_kept expression said i e = refl
+renames_kept assignments said i e = refl
 renames_kept text said i e = refl
 
 pub test_kept : (form : ArgumentForm) (said : Said) (i : Item) → argument_in (i ∷ []) ≡ None → value_of (codes "where") i ≡ None → test_of form said ≡ test_of form (said ++ i ∷ [])
@@ -168,8 +178,19 @@ test_kept nothing said i e v = value_kept said i (codes "where") v
 test_kept files said i e v = value_kept said i (codes "where") v
 test_kept source said i e v = value_kept said i (codes "where") v
 test_kept list said i e v = value_kept said i (codes "where") v
+test_kept assignments said i e v = value_kept said i (codes "where") v
 test_kept renames said i e v = value_kept said i (codes "where") v
 test_kept text said i e v = value_kept said i (codes "where") v
+
+pub assigns_kept : (form : ArgumentForm) (said : Said) (i : Item) → argument_in (i ∷ []) ≡ None → assigns_of form said ≡ assigns_of form (said ++ i ∷ [])
+assigns_kept assignments said i e = argument_kept said i e
+assigns_kept expression said i e = refl
+assigns_kept nothing said i e = refl
+assigns_kept files said i e = refl
+assigns_kept source said i e = refl
+assigns_kept list said i e = refl
+assigns_kept renames said i e = refl
+assigns_kept text said i e = refl
 
 -- a first argument
 pub argument_first : (said : Said) (s : Text) → argument_in said ≡ None → Some s ≡ argument_in (said ++ argument s ∷ [])

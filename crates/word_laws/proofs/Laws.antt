@@ -9,6 +9,7 @@ use Rattle.cmd_words.specs.declared.job.Job.{Job}
 use Rattle.cmd_words.specs.declared.job.Owner.TheVariants as owner
 use Rattle.cmd_words.specs.declared.job.SourceWord.{SourceWord}
 use Rattle.cmd_words.specs.Areas.{places_of}
+use Rattle.cmd_words.specs.Quantities.{number_in}
 use Rattle.cmd_words.specs.Expressions.{Refusals}
 use Rattle.cmd_words.specs.Rows.{import_form}
 use Rattle.cmd_words.specs.Steps.{on_ok}
@@ -21,7 +22,6 @@ use Rattle.cmd_words.specs.Words as reader
 use Rattle.cmd_words.specs.Tells.{Tells, FitsJob}
 use Rattle.word_model.specs.CommandTable.{option, bare, argument, Said, files, value_in, has_argument, list_or_empty, import_line}
 use Rattle.word_model.specs.Words.{Word, Groups, groups_of, is_standard_item, standard_among, says, without_import_word, places_in, import_source, imported, after_import, read_commands, read_groups, read_synth, read_job, words_say}
-use Rattle.word_model.specs.Words as said_words
 use Rattle.word_laws.proofs.Shown as shown
 use Rattle.word_laws.proofs.Forms.{import_as}
 use Rattle.word_laws.proofs.Groups.{text_of, group_of}
@@ -159,15 +159,15 @@ synth_read : (words : List Text) → read_synth words ≡ reader.read_synth word
 synth_read [] = refl
 synth_read (a ∷ []) = refl
 synth_read (a ∷ b ∷ c ∷ rest) = refl
-synth_read (a ∷ b ∷ []) = seed (reader.number_in 0 4294967295 a)
+synth_read (a ∷ b ∷ []) = seed (number_in 0 4294967295 a)
   where
     size : (k : ℕ) (o : Option ℕ) → elim o [ None ↦ Err (3, why.BadNumber) | Some n ↦ Ok (synth k n) ] ≡ reader.read_size k o
     size k None = refl
     size k (Some n) = refl
 
-    seed : (o : Option ℕ) → elim o [ None ↦ Err (2, why.BadNumber) | Some k ↦ elim (said_words.number_in 1 300 b) [ None ↦ Err (3, why.BadNumber) | Some n ↦ Ok (synth k n) ] ] ≡ reader.read_seed o b
+    seed : (o : Option ℕ) → elim o [ None ↦ Err (2, why.BadNumber) | Some k ↦ elim (number_in 1 300 b) [ None ↦ Err (3, why.BadNumber) | Some n ↦ Ok (synth k n) ] ] ≡ reader.read_seed o b
     seed None = refl
-    seed (Some k) = size k (reader.number_in 1 300 b)
+    seed (Some k) = size k (number_in 1 300 b)
 
 -- ## All words
 

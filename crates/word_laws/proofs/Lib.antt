@@ -7,3 +7,4 @@ pub mod Readings
 pub mod Rows
 pub mod Commands
 pub mod Laws
+pub mod Rounding

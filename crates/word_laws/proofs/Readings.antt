@@ -16,7 +16,7 @@ use Rattle.cmd_words.specs.Texts.{is_standard}
 use Rattle.cmd_words.specs.Groups.{Group}
 use Rattle.cmd_words.specs.Options.{Step, take_word}
 use Rattle.cmd_words.specs.Words.{Reading, at_word, take_words}
-use Rattle.word_model.specs.CommandTable.{Item, option, bare, argument, Said, ValueForm, a_text, a_list, two_names, a_precision, a_rule, a_format, a_box, an_expression, ArgumentForm, nothing, files, source, list, expression, renames, text, Line, value_of, value_in, has_option, has_argument, argument_in, argument_text, form_of}
+use Rattle.word_model.specs.CommandTable.{Item, option, bare, argument, Said, ValueForm, a_text, a_list, two_names, a_precision, a_rule, a_format, a_box, an_expression, an_area, one_or_more, zero_or_more, ArgumentForm, nothing, files, source, list, expression, assignments, renames, text, Line, value_of, value_in, has_option, has_argument, argument_in, argument_text, form_of}
 use Rattle.word_model.specs.Words.{item_of, refused_if, refusal_of, lacks_value, has_room, refused_value, is_box, refused_option, is_standard_item, refused_argument, refused_item, says}
 use Rattle.word_model.specs.Words as said_words
 use Rattle.word_laws.proofs.Tests.{none_of, first_is_false, refused_none, first_is_none, second_is_none}
@@ -46,6 +46,7 @@ kept_at_start places form = record { texts = refl; box = refl; one = none form }
     none files = tt
     none list = tt
     none expression = tt
+    none assignments = tt
     none renames = tt
     none text = tt
 
@@ -60,6 +61,7 @@ one_other nothing said i a s one = tt
 one_other files said i a s one = tt
 one_other list said i a s one = tt
 one_other expression said i a s one = tt
+one_other assignments said i a s one = tt
 one_other renames said i a s one = tt
 one_other text said i a s one = tt
 
@@ -74,6 +76,7 @@ one_argument refuses taken nothing said s e one = tt
 one_argument refuses taken files said s e one = tt
 one_argument refuses taken list said s e one = tt
 one_argument refuses taken expression said s e one = tt
+one_argument refuses taken assignments said s e one = tt
 one_argument refuses taken renames said s e one = tt
 one_argument refuses taken text said s e one = tt
 one_argument refuses taken source said s e one =
@@ -97,6 +100,9 @@ box_value refuses places a_precision value b e = absurd (cc)
 box_value refuses places a_rule value b e = absurd (cc)
 box_value refuses places a_format value b e = absurd (cc)
 box_value refuses places an_expression value b e = absurd (cc)
+box_value refuses places an_area value b e = absurd (cc)
+box_value refuses places one_or_more value b e = absurd (cc)
+box_value refuses places zero_or_more value b e = absurd (cc)
 
 value_accepted : (refuses : Refusals) (places : ℕ) (said : Said) (v : ValueForm) (name value : Text) → refused_option refuses places said (Some v) name value ≡ None → refused_value refuses places v value ≡ None
 value_accepted refuses places said v name value e =

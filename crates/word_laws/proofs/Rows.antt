@@ -9,6 +9,8 @@ use Rattle.table_terms.specs.Names.{Text}
 use Rattle.table_terms.specs.declared.renames.Rename.{Rename}
 use Rattle.table_terms.specs.declared.specifications.GroupSpec.{GroupSpec}
 use Rattle.table_terms.specs.declared.specifications.JoinSpec.{JoinSpec}
+use Rattle.cmd_words.specs.declared.action_words.ActionWords.TheVariants as words
+use Rattle.cmd_words.specs.declared.job.Action.{Action}
 use Rattle.cmd_words.specs.declared.job.Action.TheVariants as ask
 use Rattle.cmd_words.specs.declared.job.LayerAction.TheVariants as each
 use Rattle.cmd_words.specs.declared.job.JointAction.TheVariants as joint
@@ -19,17 +21,18 @@ use Rattle.cmd_words.specs.declared.job.OutForm.TheVariants.{Geo}
 use Rattle.cmd_words.specs.Rows.{Row, rows}
 use Rattle.cmd_words.specs.Texts.{form_by_ending, is_standard, names_file, pieces}
 use Rattle.cmd_words.specs.Values.{form_named, rule_of}
+use Rattle.cmd_words.specs.Quantities.{doubled_below, doubled_above, count_from, gap_from, least_area_from}
 use Rattle.cmd_words.specs.Groups.{Group}
 use Rattle.cmd_words.specs.Groups as groups
 use Rattle.cmd_words.specs.Chains.{SoFar, lacks_argument, lacks_form, action_of, takes_source, rule_from, form_from}
 use Rattle.cmd_words.specs.Chains as chains
-use Rattle.word_model.specs.CommandTable.{Said, ValueForm, ArgumentForm, nothing, files, source, list, expression, renames, text, Line, CommandLine, value_in, has_option, has_bare, has_argument, argument_in, argument_text, list_or_empty, group_spec, join_spec, renames_in, form_in, needs_source, import_line, command_lines, form_of}
+use Rattle.word_model.specs.CommandTable.{Said, ValueForm, ArgumentForm, nothing, files, source, list, expression, assignments, renames, text, Line, CommandLine, value_in, has_option, has_bare, has_argument, argument_in, argument_text, list_or_empty, group_spec, join_spec, renames_in, form_in, count_in, doubled_in, each_layer, needs_source, import_line, command_lines, form_of}
 use Rattle.word_model.specs.CommandTable as table
 use Rattle.word_model.specs.Words.{is_box, is_source, origin_of}
 use Rattle.word_laws.proofs.Tests.{same_bytes}
 use Rattle.word_laws.proofs.Shown.{Word, argument_as, value_as}
 use Rattle.word_laws.proofs.Forms.{form_as}
-use Rattle.word_laws.proofs.Groups.{renames_seen, group_of, value_same, bare_same, first_same}
+use Rattle.word_laws.proofs.Groups.{renames_seen, test_of, assigns_of, group_of, value_same, bare_same, first_same}
 use Rattle.word_laws.proofs.Steps.{is_test, takes_expression, Placed, WellPlaced}
 use Rattle.word_laws.proofs.Readings.{Kept}
 
@@ -101,9 +104,11 @@ pub record Means (form : ArgumentForm) (said : Said) (g : Group) : Type 0 where
   pub argument : groups.argument_in g ≡ argument_in said
   pub box : is_some g.area ≡ has_option said (codes "bbox")
   pub renames : g.renames ≡ renames_seen form said
+  pub test : g.test ≡ test_of form said
+  pub assigns : g.assigns ≡ assigns_of form said
 
 pub kept_means : (places : ℕ) (taken : Bool) (form : ArgumentForm) (args : List Word) (said : Said) → Kept places form args said → Means form said (group_of places taken form args said)
-kept_means places taken form args said kept = record { value = value_same said; bare = bare_same said; argument = first_same args said kept.texts; box = kept.box; renames = refl }
+kept_means places taken form args said kept = record { value = value_same said; bare = bare_same said; argument = first_same args said kept.texts; box = kept.box; renames = refl; test = refl; assigns = refl }
 
 abbrev text_from : Option Text → Text
 text_from o = unwrap_or o []
@@ -159,6 +164,51 @@ module _ (form : ArgumentForm) (said : Said) (g : Group) (m : Means form said g)
       ∙ ap₂ (λ (o : Option Text) (b : Bool). join_from (table.key_at said 0) (table.key_at said 1) (option_map pieces o) b (unwrap_or (groups.value_in g (codes "prefix")) [])) (m.value (codes "fields")) (m.bare (codes "force"))
       ∙ ap (λ (o : Option Text). join_from (table.key_at said 0) (table.key_at said 1) (option_map pieces (value_in said (codes "fields"))) (has_bare said (codes "force")) (unwrap_or o [])) (m.value (codes "prefix"))
 
+  gap_same : (places : ℕ) → gap_from places (groups.value_in g (codes "gap-fill-area")) ≡ doubled_in (doubled_below places) said (codes "gap-fill-area")
+  gap_same places = ap (gap_from places) (m.value (codes "gap-fill-area"))
+
+  clean_same : (places : ℕ) → chains.clean_of places g ≡ each.Clean (unwrap_or (option_and_then rule_of (value_in said (codes "overlap-rule"))) MaxArea) (has_bare said (codes "allow-empty")) (doubled_in (doubled_below places) said (codes "gap-fill-area"))
+  clean_same places =
+      ap₂ (λ (rule : OverlapRule) (b : Bool). each.Clean rule b (gap_from places (groups.value_in g (codes "gap-fill-area")))) rule_same (m.bare (codes "allow-empty"))
+      ∙ ap (λ (n : ℕ). each.Clean (unwrap_or (option_and_then rule_of (value_in said (codes "overlap-rule"))) MaxArea) (has_bare said (codes "allow-empty")) n) (gap_same places)
+
+  count_same : (low : ℕ) (name : Text) → count_from low (groups.value_in g name) ≡ count_in low said name
+  count_same low name = ap (count_from low) (m.value name)
+
+  islands_same : (places : ℕ) → chains.filter_islands_of places g ≡ each.FilterIslands (doubled_in (doubled_above places) said (codes "min-area")) (count_in 0 said (codes "min-vertices")) (has_bare said (codes "remove-empty"))
+  islands_same places =
+      ap₂ (λ (n k : ℕ). each.FilterIslands n k (groups.has_bare g (codes "remove-empty"))) (ap (least_area_from places) (m.value (codes "min-area"))) (count_same 0 (codes "min-vertices"))
+      ∙ ap (λ (b : Bool). each.FilterIslands (doubled_in (doubled_above places) said (codes "min-area")) (count_in 0 said (codes "min-vertices")) b) (m.bare (codes "remove-empty"))
+
+  join_same : (s : SoFar) → test_of form said ≡ value_in said (codes "where")
+      → words.Join (chains.origin_of (length s.sources) (length s.boxes) g) (chains.join_spec g) g.test ≡ words.Join (origin_of s said) (join_spec said) (value_in said (codes "where"))
+  join_same s e = ap₂ (λ (o : Origin) (spec : JoinSpec). words.Join o spec g.test) (origin_same s) join_spec_same ∙ ap (words.Join (origin_of s said) (join_spec said)) (m.test ∙ e)
+
+  module _ (e : test_of form said ≡ argument_in said) where
+    test_is : g.test ≡ argument_in said
+    test_is = m.test ∙ e
+
+    filter_same : words.Filter g.test (groups.has_bare g (codes "invert")) (groups.has_bare g (codes "remove-empty")) ≡ words.Filter (argument_in said) (has_bare said (codes "invert")) (has_bare said (codes "remove-empty"))
+    filter_same = ap₂ (λ (a b : Bool). words.Filter g.test a b) (m.bare (codes "invert")) (m.bare (codes "remove-empty")) ∙ ap (λ (t : Option Text). words.Filter t (has_bare said (codes "invert")) (has_bare said (codes "remove-empty"))) test_is
+
+    sort_same : words.Sort (text_from g.test) (groups.has_bare g (codes "descending")) ≡ words.Sort (argument_text said) (has_bare said (codes "descending"))
+    sort_same = ap₂ (λ (t : Text) (b : Bool). words.Sort t b) (ap text_from test_is) (m.bare (codes "descending"))
+
+    uniq_same : words.Uniq (text_from g.test) (count_from 1 (groups.value_in g (codes "max-count"))) (groups.has_bare g (codes "invert")) ≡ words.Uniq (argument_text said) (count_in 1 said (codes "max-count")) (has_bare said (codes "invert"))
+    uniq_same =
+        ap₂ (λ (t : Text) (n : ℕ). words.Uniq t n (groups.has_bare g (codes "invert"))) (ap text_from test_is) (count_same 1 (codes "max-count"))
+        ∙ ap (λ (b : Bool). words.Uniq (argument_text said) (count_in 1 said (codes "max-count")) b) (m.bare (codes "invert"))
+
+    lacks_key : not (is_some g.test) ≡ not (has_argument said)
+    lacks_key = ap (λ (t : Option Text). not (is_some t)) test_is
+
+  module _ (e : assigns_of form said ≡ argument_in said) where
+    each_same : words.Each (text_from g.assigns) ≡ words.Each (argument_text said)
+    each_same = ap (λ (t : Option Text). words.Each (text_from t)) (m.assigns ∙ e)
+
+    lacks_assigns : not (is_some g.assigns) ≡ not (has_argument said)
+    lacks_assigns = ap (λ (t : Option Text). not (is_some t)) (m.assigns ∙ e)
+
   write_same : chains.write_of g ≡ ask.Write (argument_text said) (is_standard (argument_text said)) (unwrap_or (form_in said) Geo)
   write_same = ap₂ (λ (t : Text) (f : Option OutForm). ask.Write t (is_standard t) (unwrap_or f Geo)) text_same form_same
 
@@ -176,6 +226,9 @@ module _ (form : ArgumentForm) (said : Said) (g : Group) (m : Means form said g)
   lacks_test : not (is_some (groups.argument_in g) || groups.has_bare g (codes "remove-empty")) ≡ not (has_argument said || has_bare said (codes "remove-empty"))
   lacks_test = ap₂ (λ (a b : Bool). not (a || b)) argument_some (m.bare (codes "remove-empty"))
 
+  lacks_least : not (is_some (groups.value_in g (codes "min-area")) || is_some (groups.value_in g (codes "min-vertices"))) ≡ not (has_option said (codes "min-area") || has_option said (codes "min-vertices"))
+  lacks_least = ap₂ (λ (a b : Bool). not (a || b)) (ap is_some (m.value (codes "min-area"))) (ap is_some (m.value (codes "min-vertices")))
+
 -- ## Lines and rows
 
 abbrev pub takes_files : ArgumentForm → Bool
@@ -190,7 +243,7 @@ pub record SameRow (c : CommandLine) (r : Row) : Type 0 where
   pub source : takes_source r.keyword ≡ is_source c.line.argument
   pub needed : (said : Said) (g : Group) → Means c.line.argument said g → lacks_argument r.keyword g ≡ not (c.has_needed said)
   pub known : (said : Said) (g : Group) → Means c.line.argument said g → lacks_form r.keyword g ≡ (bytes_eq c.word (codes "-o") && not (is_some (form_in said)))
-  pub action : (s : SoFar) (said : Said) (g : Group) → Means c.line.argument said g → action_of (length s.sources) (length s.boxes) r.keyword g ≡ c.asks (origin_of s said) said
+  pub action : (places : ℕ) (s : SoFar) (said : Said) (g : Group) → Means c.line.argument said g → action_of places (length s.sources) (length s.boxes) r.keyword g ≡ c.asks places (origin_of s said) said
 
 abbrev pub SameRows : List CommandLine → List Row → Type 0
 SameRows [] [] = Unit {0}
@@ -201,36 +254,48 @@ SameRows (c ∷ cs) (r ∷ rs) = SameRow c r × SameRows cs rs
 pub same_rows : SameRows command_lines rows
 unfolding rows argument_as value_as all_fit fits_name agree
 same_rows = (
-  record { word = refl; form = refl; fits = refl; no_files = refl; source = refl; needed = lacks_source source; known = λ said g m. refl; action = λ s said g m. ap (λ (o : Origin). ask.Each (each.Clip o)) (origin_same source said g m s) },
+  record { word = refl; form = refl; fits = refl; no_files = refl; source = refl; needed = lacks_source source; known = λ said g m. refl; action = λ places s said g m. ap (λ (o : Origin). each_layer (each.Clip o)) (origin_same source said g m s) },
   (
-    record { word = refl; form = refl; fits = refl; no_files = refl; source = refl; needed = lacks_source source; known = λ said g m. refl; action = λ s said g m. ap (λ (o : Origin). ask.Each (each.Erase o)) (origin_same source said g m s) },
+    record { word = refl; form = refl; fits = refl; no_files = refl; source = refl; needed = lacks_source source; known = λ said g m. refl; action = λ places s said g m. ap (λ (o : Origin). each_layer (each.Erase o)) (origin_same source said g m s) },
     (
-      record { word = refl; form = refl; fits = refl; no_files = refl; source = refl; needed = λ said g m. refl; known = λ said g m. refl; action = λ s said g m. ap₂ (λ (spec : GroupSpec) (b : Bool). ask.Each (each.Dissolve spec b)) (group_spec_same list said g m) (m.bare (codes "group-points")) },
+      record { word = refl; form = refl; fits = refl; no_files = refl; source = refl; needed = λ said g m. refl; known = λ said g m. refl; action = λ places s said g m. ap₂ (λ (spec : GroupSpec) (b : Bool). each_layer (each.Dissolve spec b)) (group_spec_same list said g m) (m.bare (codes "group-points")) },
       (
-        record { word = refl; form = refl; fits = refl; no_files = refl; source = refl; needed = λ said g m. refl; known = λ said g m. refl; action = λ s said g m. ap₂ (λ (rule : OverlapRule) (b : Bool). ask.Each (each.Clean rule b)) (rule_same nothing said g m) (m.bare (codes "allow-empty")) },
+        record { word = refl; form = refl; fits = refl; no_files = refl; source = refl; needed = λ said g m. refl; known = λ said g m. refl; action = λ places s said g m. ap each_layer (clean_same nothing said g m places) },
         (
-          record { word = refl; form = refl; fits = refl; no_files = refl; source = refl; needed = λ said g m. refl; known = λ said g m. refl; action = λ s said g m. refl },
+          record { word = refl; form = refl; fits = refl; no_files = refl; source = refl; needed = λ said g m. refl; known = λ said g m. refl; action = λ places s said g m. refl },
           (
-            record { word = refl; form = refl; fits = refl; no_files = refl; source = refl; needed = λ said g m. refl; known = λ said g m. refl; action = λ s said g m. refl },
+            record { word = refl; form = refl; fits = refl; no_files = refl; source = refl; needed = λ said g m. refl; known = λ said g m. refl; action = λ places s said g m. refl },
             (
-              record { word = refl; form = refl; fits = refl; no_files = refl; source = refl; needed = λ said g m. refl; known = λ said g m. refl; action = λ s said g m. refl },
+              record { word = refl; form = refl; fits = refl; no_files = refl; source = refl; needed = λ said g m. refl; known = λ said g m. refl; action = λ places s said g m. refl },
               (
-                record { word = refl; form = refl; fits = refl; no_files = refl; source = refl; needed = λ said g m. refl; known = λ said g m. refl; action = λ s said g m. ap (λ (ks : List Text). ask.Each (each.Lines ks)) (argument_list list said g m) },
+                record { word = refl; form = refl; fits = refl; no_files = refl; source = refl; needed = λ said g m. refl; known = λ said g m. refl; action = λ places s said g m. ap (λ (ks : List Text). each_layer (each.Lines ks)) (argument_list list said g m) },
                 (
-                  record { word = refl; form = refl; fits = refl; no_files = refl; source = refl; needed = lacks_keys source; known = λ said g m. refl; action = λ s said g m. ap₂ (λ (o : Origin) (spec : JoinSpec). ask.Each (each.Join o spec)) (origin_same source said g m s) (join_spec_same source said g m) },
+                  record { word = refl; form = refl; fits = refl; no_files = refl; source = refl; needed = lacks_keys source; known = λ said g m. refl; action = λ places s said g m. join_same source said g m s refl },
                   (
-                    record { word = refl; form = refl; fits = refl; no_files = refl; source = refl; needed = lacks_test expression; known = λ said g m. refl; action = λ s said g m. ap₂ (λ (a b : Bool). ask.Each (each.Filter None a b)) (m.bare (codes "invert")) (m.bare (codes "remove-empty")) },
+                    record { word = refl; form = refl; fits = refl; no_files = refl; source = refl; needed = lacks_test expression; known = λ said g m. refl; action = λ places s said g m. filter_same expression said g m refl },
                     (
-                      record { word = refl; form = refl; fits = refl; no_files = refl; source = refl; needed = λ said g m. refl; known = λ said g m. refl; action = λ s said g m. ap (λ (ks : List Text). ask.Each (each.FilterFields ks)) (argument_list list said g m) },
+                      record { word = refl; form = refl; fits = refl; no_files = refl; source = refl; needed = λ said g m. refl; known = λ said g m. refl; action = λ places s said g m. ap (λ (ks : List Text). each_layer (each.FilterFields ks)) (argument_list list said g m) },
                       (
-                        record { word = refl; form = refl; fits = refl; no_files = refl; source = refl; needed = λ said g m. ap not (argument_some renames said g m); known = λ said g m. refl; action = λ s said g m. ap (λ (rs : List Rename). ask.Each (each.RenameFields rs)) m.renames },
+                        record { word = refl; form = refl; fits = refl; no_files = refl; source = refl; needed = λ said g m. ap not (argument_some renames said g m); known = λ said g m. refl; action = λ places s said g m. ap (λ (rs : List Rename). each_layer (each.RenameFields rs)) m.renames },
                         (
-                          record { word = refl; form = refl; fits = refl; no_files = refl; source = refl; needed = λ said g m. refl; known = λ said g m. refl; action = λ s said g m. ap (λ (o : Option Text). ask.Each (each.Split o)) m.argument },
+                          record { word = refl; form = refl; fits = refl; no_files = refl; source = refl; needed = λ said g m. refl; known = λ said g m. refl; action = λ places s said g m. ap (λ (o : Option Text). each_layer (each.Split o)) m.argument },
                           (
-                            record { word = refl; form = refl; fits = refl; no_files = refl; source = refl; needed = λ said g m. refl; known = λ said g m. refl; action = λ s said g m. ap (λ (b : Bool). ask.Together (joint.MergeLayers b)) (m.bare (codes "force")) },
+                            record { word = refl; form = refl; fits = refl; no_files = refl; source = refl; needed = λ said g m. lacks_assigns assignments said g m refl; known = λ said g m. refl; action = λ places s said g m. each_same assignments said g m refl },
                             (
-                              record { word = refl; form = refl; fits = refl; no_files = refl; source = refl; needed = λ said g m. ap not (argument_some text said g m); known = λ said g m. ap (λ (o : Option OutForm). not (is_some o)) (form_same text said g m); action = λ s said g m. write_same text said g m },
-                              tt,
+                              record { word = refl; form = refl; fits = refl; no_files = refl; source = refl; needed = λ said g m. lacks_key expression said g m refl; known = λ said g m. refl; action = λ places s said g m. sort_same expression said g m refl },
+                              (
+                                record { word = refl; form = refl; fits = refl; no_files = refl; source = refl; needed = λ said g m. lacks_key expression said g m refl; known = λ said g m. refl; action = λ places s said g m. uniq_same expression said g m refl },
+                                (
+                                  record { word = refl; form = refl; fits = refl; no_files = refl; source = refl; needed = lacks_least nothing; known = λ said g m. refl; action = λ places s said g m. ap each_layer (islands_same nothing said g m places) },
+                                  (
+                                    record { word = refl; form = refl; fits = refl; no_files = refl; source = refl; needed = λ said g m. refl; known = λ said g m. refl; action = λ places s said g m. ap (λ (b : Bool). words.Whole (ask.Together (joint.MergeLayers b))) (m.bare (codes "force")) },
+                                    (
+                                      record { word = refl; form = refl; fits = refl; no_files = refl; source = refl; needed = λ said g m. ap not (argument_some text said g m); known = λ said g m. ap (λ (o : Option OutForm). not (is_some o)) (form_same text said g m); action = λ places s said g m. ap (λ (a : Action). words.Whole a) (write_same text said g m) },
+                                      tt,
+                                    ),
+                                  ),
+                                ),
+                              ),
                             ),
                           ),
                         ),

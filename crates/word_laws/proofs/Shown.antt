@@ -5,7 +5,7 @@ use Rattle.table_terms.specs.Names.{Text}
 use Rattle.cmd_words.specs.Rows.{Form, Row, NAME, TARGET, import_form, row_of}
 use Rattle.cmd_words.specs.Rows as rows
 use Rattle.cmd_words.specs.Groups.{empty_group}
-use Rattle.word_model.specs.CommandTable.{ValueForm, a_text, a_list, two_names, a_precision, a_rule, a_format, a_box, an_expression, ArgumentForm, nothing, files, source, list, expression, renames, text}
+use Rattle.word_model.specs.CommandTable.{ValueForm, a_text, a_list, two_names, a_precision, a_rule, a_format, a_box, an_expression, an_area, one_or_more, zero_or_more, ArgumentForm, nothing, files, source, list, expression, assignments, renames, text}
 
 abbrev pub TypeOf : {A : Type 0} → A → Type 0
 TypeOf {A} x = A
@@ -43,6 +43,7 @@ argument_as files = import_form.argument
 argument_as source = (form_for (codes "-clip")).argument
 argument_as list = (form_for (codes "-lines")).argument
 argument_as expression = (form_for (codes "-filter")).argument
+argument_as assignments = (form_for (codes "-each")).argument
 argument_as renames = (form_for (codes "-rename-fields")).argument
 argument_as text = (form_for (codes "-split")).argument
 
@@ -55,3 +56,6 @@ value_as a_rule = value_for (form_for (codes "-clean")) (codes "overlap-rule")
 value_as a_format = value_for (form_for (codes "-o")) (codes "format")
 value_as a_box = value_for (form_for (codes "-clip")) (codes "bbox")
 value_as an_expression = value_for (form_for (codes "-join")) (codes "where")
+value_as an_area = value_for (form_for (codes "-clean")) (codes "gap-fill-area")
+value_as one_or_more = value_for (form_for (codes "-uniq")) (codes "max-count")
+value_as zero_or_more = value_for (form_for (codes "-filter-islands")) (codes "min-vertices")

@@ -11,6 +11,8 @@ use Rattle.cmd_words.specs.declared.fault.ExprWhy.{ExprWhy}
 use Rattle.cmd_words.specs.declared.fault.WordWhy.{WordWhy}
 use Rattle.cmd_words.specs.declared.fault.WordWhy.TheVariants as why
 use Rattle.cmd_words.specs.Areas.{area_of, places_of}
+use Rattle.cmd_words.specs.Quantities.{area_units, count_of}
+use Rattle.cmd_words.specs.Expressions as kind
 use Rattle.cmd_words.specs.Expressions.{Refusals}
 use Rattle.cmd_words.specs.Rows as reader_rows
 use Rattle.cmd_words.specs.Rows.{rows}
@@ -19,12 +21,13 @@ use Rattle.cmd_words.specs.Texts.{at_first_equals, has_empty_piece, is_standard,
 use Rattle.cmd_words.specs.Values.{form_named, is_pair, renames_of, rule_of}
 use Rattle.cmd_words.specs.Groups.{Group, first_text}
 use Rattle.cmd_words.specs.Options as reader
-use Rattle.word_model.specs.CommandTable.{Item, option, bare, argument, Said, ValueForm, a_text, a_list, two_names, a_precision, a_rule, a_format, a_box, an_expression, ArgumentForm, nothing, files, source, list, expression, renames, text, Line, value_in, has_option, has_bare, has_argument, argument_in, form_of}
-use Rattle.word_model.specs.Words.{plain_item, item_of, splits, refused_if, refusal_of, expression_fault, lacks_value, refused_value, is_box, refused_option, is_list, has_room, reads_standard, refused_text, is_standard_item, refused_argument, refused_item, test_of}
+use Rattle.word_model.specs.CommandTable.{Item, option, bare, argument, Said, ValueForm, a_text, a_list, two_names, a_precision, a_rule, a_format, a_box, an_expression, an_area, one_or_more, zero_or_more, ArgumentForm, nothing, files, source, list, expression, assignments, renames, text, Line, value_in, has_option, has_bare, has_argument, argument_in, form_of}
+use Rattle.word_model.specs.Words as said_words
+use Rattle.word_model.specs.Words.{plain_item, item_of, refused_if, refusal_of, expression_fault, lacks_value, refused_value, is_box, refused_option, is_list, has_room, reads_standard, refused_text, is_standard_item, refused_argument, is_opposed, refused_bare, refused_item}
 use Rattle.word_laws.proofs.Tests.{left_is_false, same_bytes, has_name_same, or_assoc, not_or, first_is_false, none_of, guard, guard_last, accepts}
-use Rattle.word_laws.proofs.Forms.{form_as, form_of_as, splits_same, lacks_same, box_same, list_same, standard_same}
+use Rattle.word_laws.proofs.Forms.{form_as, form_of_as, is_option_same, lacks_same, box_same, list_same, standard_same}
 use Rattle.word_laws.proofs.Shown.{Word, Value, argument_as, value_as}
-use Rattle.word_laws.proofs.Groups.{argument_words, setting_of, bare_of, ok_option, box_from, box_in, renames_seen, made, made_same, group_of, value_same, bare_same, flat_map_last, flat_map_kept, any_last, any_kept, value_kept, box_kept, renames_kept, test_kept, argument_first, renames_first, value_first}
+use Rattle.word_laws.proofs.Groups.{argument_words, setting_of, bare_of, ok_option, box_from, box_in, renames_seen, test_of, assigns_of, made, made_same, group_of, value_same, bare_same, flat_map_last, flat_map_kept, any_last, any_kept, value_kept, box_kept, renames_kept, test_kept, assigns_kept, argument_first, renames_first, value_first}
 
 -- ## What the options of a line may be
 
@@ -58,12 +61,12 @@ module _ (refuses : Refusals) (places : ℕ) (taken : Bool) (args : List Word) (
 
   module _ (form : ArgumentForm) (name value : Text) where
     abbrev with_option : Option Corners → Option Text → Group
-    with_option x t = made args (flat_map setting_of said ++ record { name = name; value = value } ∷ []) (flat_map bare_of said) (taken || list_any (is_standard_item form) said) x (renames_seen form said) t
+    with_option x t = made args (flat_map setting_of said ++ record { name = name; value = value } ∷ []) (flat_map bare_of said) (taken || list_any (is_standard_item form) said) x (renames_seen form said) t (assigns_of form said)
 
     option_said : (x : Option Corners) (t : Option Text) → x ≡ box_in places (said ++ option name value ∷ []) → t ≡ test_of form (said ++ option name value ∷ []) → with_option x t ≡ after_option form name value
     option_said x t e f =
         made_same (sym (append-nil args)) (sym (flat_map_last setting_of said (option name value))) (flat_map_kept bare_of said (option name value) refl)
-        (ap (λ (b : Bool). taken || b) (any_kept (is_standard_item form) said (option name value) refl)) e (renames_kept form said (option name value) refl) f
+        (ap (λ (b : Bool). taken || b) (any_kept (is_standard_item form) said (option name value) refl)) e (renames_kept form said (option name value) refl) f (assigns_kept form said (option name value) refl)
 
     no_box : (f : ValueForm) → is_box f ≡ false → Placed form f name → box_in places said ≡ box_in places (said ++ option name value ∷ [])
     no_box f b p = box_kept places said (option name value) (ap (λ (t : Bool). cond t (Some value) None) (sym p.box ∙ b))
@@ -96,6 +99,7 @@ module _ (refuses : Refusals) (places : ℕ) (taken : Bool) (args : List Word) (
     where_test files b e = e
     where_test source b e = e
     where_test list b e = e
+    where_test assignments b e = e
     where_test renames b e = e
     where_test text b e = e
 
@@ -126,7 +130,10 @@ module _ (refuses : Refusals) (places : ℕ) (taken : Bool) (args : List Word) (
     value_step a_rule p fresh = accepts (is_some (rule_of value)) why.BadChoice _ _ (plain_option a_rule refl refl p)
     value_step a_format p fresh = accepts (is_some (form_named value)) why.BadChoice _ _ (plain_option a_format refl refl p)
     value_step a_box p fresh = box_option p fresh (area_of places value) refl
-    value_step an_expression p fresh = test_option p fresh (refuses value)
+    value_step an_expression p fresh = test_option p fresh (refuses kind.expression value)
+    value_step an_area p fresh = accepts (is_some (area_units value)) why.BadNumber _ _ (plain_option an_area refl refl p)
+    value_step one_or_more p fresh = accepts (is_some (count_of 1 value)) why.BadNumber _ _ (plain_option one_or_more refl refl p)
+    value_step zero_or_more p fresh = accepts (is_some (count_of 0 value)) why.BadNumber _ _ (plain_option zero_or_more refl refl p)
 
     known_step : first_text args ≡ argument_in said → (f : Option ValueForm) → ((v : ValueForm) → f ≡ Some v → Placed form v name)
         → reader.take_known refuses places (option_map value_as f) (name, value) (group_of places taken form args said) ≡ unless (refused_option refuses places said f name value) (Ok (after_option form name value))
@@ -139,23 +146,29 @@ module _ (refuses : Refusals) (places : ℕ) (taken : Bool) (args : List Word) (
 
   -- ## Bare words
 
+  opposed_same : (form : ArgumentForm) (word : Text) → reader.is_opposed (group_of places taken form args said) word ≡ is_opposed said word
+  opposed_same form word = ap₂ (λ (a b : Bool). cond (bytes_eq word (codes "ascending")) a (cond (bytes_eq word (codes "descending")) b false)) (bare_same said (codes "descending")) (bare_same said (codes "ascending"))
+
   bare_step : (form : ArgumentForm) (word : Text)
-      → reader.take_bare word (group_of places taken form args said) ≡ unless (refused_if (has_bare said word) why.OptionTwice) (Ok (group_of places taken form (args ++ []) (said ++ bare word ∷ [])))
-  bare_step form word = guard_last _ (has_bare said word) why.OptionTwice _ _ (bare_same said word) (λ fresh. ap (λ (g : Group). Ok g) grown)
+      → reader.take_bare word (group_of places taken form args said) ≡ unless (refused_bare said word) (Ok (group_of places taken form (args ++ []) (said ++ bare word ∷ [])))
+  bare_step form word =
+      guard _ (has_bare said word) why.OptionTwice _ _ _ (bare_same said word) (λ fresh.
+      guard_last _ (is_opposed said word) why.ExtraWord _ _ (opposed_same form word) (λ alone. ap (λ (g : Group). Ok g) grown))
     where
-      grown : made args (flat_map setting_of said) (flat_map bare_of said ++ word ∷ []) (taken || list_any (is_standard_item form) said) (box_in places said) (renames_seen form said) (test_of form said) ≡ group_of places taken form (args ++ []) (said ++ bare word ∷ [])
+      grown : made args (flat_map setting_of said) (flat_map bare_of said ++ word ∷ []) (taken || list_any (is_standard_item form) said) (box_in places said) (renames_seen form said) (test_of form said) (assigns_of form said) ≡ group_of places taken form (args ++ []) (said ++ bare word ∷ [])
       grown =
           made_same (sym (append-nil args)) (flat_map_kept setting_of said (bare word) refl) (sym (flat_map_last bare_of said (bare word)))
           (ap (λ (b : Bool). taken || b) (any_kept (is_standard_item form) said (bare word) refl)) (box_kept places said (bare word) refl) (renames_kept form said (bare word) refl) (test_kept form said (bare word) refl refl)
+          (assigns_kept form said (bare word) refl)
 
   -- ## Arguments
 
   module _ (n : ℕ) (s : Text) where
-    abbrev with_argument : ArgumentForm → List Rename → Option Text → Group
-    with_argument form rs t = made (args ++ record { number = n; text = s } ∷ []) (flat_map setting_of said) (flat_map bare_of said) ((taken || list_any (is_standard_item form) said) || (reader.is_read (argument_as form) && is_standard s)) (box_in places said) rs t
+    abbrev with_argument : ArgumentForm → List Rename → Option Text → Option Text → Group
+    with_argument form rs t v = made (args ++ record { number = n; text = s } ∷ []) (flat_map setting_of said) (flat_map bare_of said) ((taken || list_any (is_standard_item form) said) || (reader.is_read (argument_as form) && is_standard s)) (box_in places said) rs t v
 
-    argument_said : (form : ArgumentForm) (rs : List Rename) (t : Option Text) → rs ≡ renames_seen form (said ++ argument s ∷ []) → t ≡ test_of form (said ++ argument s ∷ []) → with_argument form rs t ≡ after_argument form n s
-    argument_said form rs t e f = made_same refl (flat_map_kept setting_of said (argument s) refl) (flat_map_kept bare_of said (argument s) refl) standard (box_kept places said (argument s) refl) e f
+    argument_said : (form : ArgumentForm) (rs : List Rename) (t v : Option Text) → rs ≡ renames_seen form (said ++ argument s ∷ []) → t ≡ test_of form (said ++ argument s ∷ []) → v ≡ assigns_of form (said ++ argument s ∷ []) → with_argument form rs t v ≡ after_argument form n s
+    argument_said form rs t v e f h = made_same refl (flat_map_kept setting_of said (argument s) refl) (flat_map_kept bare_of said (argument s) refl) standard (box_kept places said (argument s) refl) e f h
       where
         standard : ((taken || list_any (is_standard_item form) said) || (reader.is_read (argument_as form) && is_standard s)) ≡ (taken || list_any (is_standard_item form) (said ++ argument s ∷ []))
         standard =
@@ -167,30 +180,37 @@ module _ (refuses : Refusals) (places : ℕ) (taken : Bool) (args : List Word) (
     kept_where = value_kept said (argument s) (codes "where") refl
 
     renames_step : argument_in said ≡ None → (r : Result (List Rename) WordWhy) → renames_of s ≡ r
-        → on_ok r (λ (rs : List Rename). Ok (with_argument renames rs (test_of renames said))) ≡ unless (refusal_of r) (Ok (after_argument renames n s))
+        → on_ok r (λ (rs : List Rename). Ok (with_argument renames rs (test_of renames said) None)) ≡ unless (refusal_of r) (Ok (after_argument renames n s))
     unfolding rows argument_as
     renames_step first (Err w) e = refl
-    renames_step first (Ok rs) e = ap (λ (g : Group). Ok g) (argument_said renames rs (test_of renames said) (renames_first said s rs first e) kept_where)
+    renames_step first (Ok rs) e = ap (λ (g : Group). Ok g) (argument_said renames rs (test_of renames said) None (renames_first said s rs first e) kept_where refl)
 
     expression_step : argument_in said ≡ None → (r : Option (ℕ × ExprWhy))
-        → reader.with_test r s (with_argument expression [] (test_of expression said)) ≡ unless (expression_fault r) (Ok (after_argument expression n s))
+        → reader.with_test r s (with_argument expression [] (test_of expression said) None) ≡ unless (expression_fault r) (Ok (after_argument expression n s))
     unfolding rows argument_as
     expression_step first (Some f) = refl
-    expression_step first None = ap (λ (g : Group). Ok g) (argument_said expression [] (Some s) refl (argument_first said s first))
+    expression_step first None = ap (λ (g : Group). Ok g) (argument_said expression [] (Some s) None refl (argument_first said s first) refl)
+
+    assignments_step : argument_in said ≡ None → (r : Option (ℕ × ExprWhy))
+        → reader.with_assigns r s (with_argument assignments [] (test_of assignments said) (assigns_of assignments said)) ≡ unless (expression_fault r) (Ok (after_argument assignments n s))
+    unfolding rows argument_as
+    assignments_step first (Some f) = refl
+    assignments_step first None = ap (λ (g : Group). Ok g) (argument_said assignments [] (test_of assignments said) (Some s) refl kept_where (argument_first said s first))
 
     only_argument : not (not (has_argument said) && not (has_option said (codes "bbox"))) ≡ false → argument_in said ≡ None
     only_argument room = none_of (argument_in said) (first_is_false (has_argument said) (has_option said (codes "bbox")) room)
 
     text_step : (form : ArgumentForm) → not (has_room form said) ≡ false
-        → reader.take_text refuses (argument_as form) s (with_argument form (renames_seen form said) (test_of form said)) ≡ unless (refused_text refuses form s) (Ok (after_argument form n s))
+        → reader.take_text refuses (argument_as form) s (with_argument form (renames_seen form said) (test_of form said) (assigns_of form said)) ≡ unless (refused_text refuses form s) (Ok (after_argument form n s))
     unfolding rows argument_as
-    text_step nothing room = ap (λ (g : Group). Ok g) (argument_said nothing [] (test_of nothing said) refl kept_where)
-    text_step files room = accepts (names_file s) why.UnsupportedFile _ _ (argument_said files [] (test_of files said) refl kept_where)
-    text_step source room = ap (λ (g : Group). Ok g) (argument_said source [] (test_of source said) refl kept_where)
-    text_step list room = ap (λ (g : Group). Ok g) (argument_said list [] (test_of list said) refl kept_where)
-    text_step expression room = expression_step (only_argument room) (refuses s)
+    text_step nothing room = ap (λ (g : Group). Ok g) (argument_said nothing [] (test_of nothing said) None refl kept_where refl)
+    text_step files room = accepts (names_file s) why.UnsupportedFile _ _ (argument_said files [] (test_of files said) None refl kept_where refl)
+    text_step source room = ap (λ (g : Group). Ok g) (argument_said source [] (test_of source said) None refl kept_where refl)
+    text_step list room = ap (λ (g : Group). Ok g) (argument_said list [] (test_of list said) None refl kept_where refl)
+    text_step expression room = expression_step (only_argument room) (refuses kind.expression s)
+    text_step assignments room = assignments_step (only_argument room) (refuses kind.assignments s)
     text_step renames room = renames_step (only_argument room) (renames_of s) refl
-    text_step text room = ap (λ (g : Group). Ok g) (argument_said text [] (test_of text said) refl kept_where)
+    text_step text room = ap (λ (g : Group). Ok g) (argument_said text [] (test_of text said) None refl kept_where refl)
 
     one_room : first_text args ≡ argument_in said → is_some (box_in places said) ≡ has_option said (codes "bbox") → not (is_some (first_text args) || is_some (box_in places said)) ≡ (not (has_argument said) && not (has_option said (codes "bbox")))
     one_room first box = ap₂ (λ (a b : Bool). not (a || b)) (ap is_some first) box ∙ not_or (has_argument said) (has_option said (codes "bbox"))
@@ -203,6 +223,7 @@ module _ (refuses : Refusals) (places : ℕ) (taken : Bool) (args : List Word) (
     room_same first box source = one_room first box
     room_same first box list = one_room first box
     room_same first box expression = one_room first box
+    room_same first box assignments = one_room first box
     room_same first box renames = one_room first box
     room_same first box text = one_room first box
 
@@ -221,16 +242,16 @@ abbrev item_from : Line → Text → Option (Text × Text) → Item
 item_from l word None = plain_item l word
 item_from l word (Some o) = option o.0 o.1
 
-item_is : (l : Line) (word : Text) → item_of l word ≡ item_from l word (option_in (argument_as l.argument) word)
+item_is : (l : Line) (word : Text) → item_of l word ≡ item_from l word (option_in (form_as l) word)
 item_is l word = go (at_first_equals word)
   where
     choose : (b c : Bool) (o : Text × Text) → b ≡ c → cond b (option o.0 o.1) (plain_item l word) ≡ item_from l word (cond c (Some o) None)
     choose b true o e = rw e refl
     choose b false o e = rw e refl
 
-    go : (p : Option (Text × Text)) → elim p [ None ↦ plain_item l word | Some o ↦ cond (splits l.argument o.0 o.1) (option o.0 o.1) (plain_item l word) ] ≡ item_from l word (where_true (is_option (argument_as l.argument)) p)
+    go : (p : Option (Text × Text)) → elim p [ None ↦ plain_item l word | Some o ↦ cond (said_words.is_option l o.0 o.1) (option o.0 o.1) (plain_item l word) ] ≡ item_from l word (where_true (is_option (form_as l)) p)
     go None = refl
-    go (Some o) = choose (splits l.argument o.0 o.1) (is_option (argument_as l.argument) o) o (splits_same l.argument o)
+    go (Some o) = choose (said_words.is_option l o.0 o.1) (is_option (form_as l) o) o (is_option_same l o)
 
 module _ (refuses : Refusals) (places : ℕ) (taken : Bool) (l : Line) (placed : WellPlaced l) (args : List Word) (said : Said) (first : first_text args ≡ argument_in said) (box : is_some (box_in places said) ≡ has_option said (codes "bbox")) where
   abbrev here : Group
@@ -252,4 +273,4 @@ module _ (refuses : Refusals) (places : ℕ) (taken : Bool) (l : Line) (placed :
   split_step n word (Some o) = subst (λ (f : Option Value). reader.take_known refuses places f o here ≡ unless (refused_option refuses places said (form_of l o.0) o.0 o.1) (Ok (group_of places taken l.argument (args ++ []) (said ++ option o.0 o.1 ∷ [])))) (sym (form_of_as l o.0)) (known_step refuses places taken args said l.argument o.0 o.1 first (form_of l o.0) (λ v e. placed o.0 v e))
 
   pub word_step : (n : ℕ) (word : Text) → Answers n (item_of l word) (reader.take_word refuses places (form_as l) here (record { number = n; text = word }))
-  word_step n word = subst (λ (i : Item). Answers n i (reader.take_word refuses places (form_as l) here (record { number = n; text = word }))) (sym (item_is l word)) (split_step n word (option_in (argument_as l.argument) word))
+  word_step n word = subst (λ (i : Item). Answers n i (reader.take_word refuses places (form_as l) here (record { number = n; text = word }))) (sym (item_is l word)) (split_step n word (option_in (form_as l) word))

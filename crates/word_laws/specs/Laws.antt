@@ -1,9 +1,10 @@
 -- Laws of words: the table of commands, and the definition that the reader keeps to, say the same.
-use Rattle.std.specs.Prelude.{◌≡◌, List, Result}
+use Rattle.std.specs.Prelude.{◌≡◌, ℕ, ◌+◌, ◌-◌, ◌*◌, ◌/◌, ◌^◌, ◌≤◌, List, Result}
 use Rattle.table_terms.specs.Names.{Text}
 use Rattle.cmd_words.specs.declared.fault.WordFault.{WordFault}
 use Rattle.cmd_words.specs.declared.job.Job.{Job}
 use Rattle.cmd_words.specs.Expressions.{Refusals}
+use Rattle.cmd_words.specs.Quantities.{doubled_below, doubled_above}
 use Rattle.cmd_words.specs.Tells.{Tells, FitsJob}
 use Rattle.cmd_words.specs.Words.{read_words}
 use Rattle.word_model.specs.Words.{words_say}
@@ -16,3 +17,10 @@ TheTableSaysWhatIsRead = (refuses : Refusals) (words : List Text) → words_say 
 abbrev pub WhatIsReadFitsTheTable : Type 0
 WhatIsReadFitsTheTable = (refuses : Refusals) (words : List Text) (answer : Result Job WordFault)
     → Tells FitsJob (read_words refuses words) answer → Tells FitsJob (words_say refuses words) answer
+
+-- for an area of so many units of 10^-18, and up to 9 decimal places: twice the area in squared grid units
+abbrev pub GapsAreRoundedDown : Type 0
+GapsAreRoundedDown = (places units : ℕ) → places ≤ 9 → doubled_below places units ≡ (2 * units * 10 ^ (2 * places)) / 10 ^ 18
+
+abbrev pub LeastAreasAreRoundedUp : Type 0
+LeastAreasAreRoundedUp = (places units : ℕ) → places ≤ 9 → doubled_above places units ≡ (2 * units * 10 ^ (2 * places) + (10 ^ 18 - 1)) / 10 ^ 18

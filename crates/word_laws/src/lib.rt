@@ -3,7 +3,7 @@
 //! Each function carries one law in its contract, and does nothing.
 #![tactic(auto)]
 
-ghost use Rattle.word_laws.specs.Laws.{TheTableSaysWhatIsRead, WhatIsReadFitsTheTable};
+ghost use Rattle.word_laws.specs.Laws.{TheTableSaysWhatIsRead, WhatIsReadFitsTheTable, GapsAreRoundedDown, LeastAreasAreRoundedUp};
 
 /// For all words the table of commands says what is read: the same job, or the same first refused word and the same
 /// reason.
@@ -14,4 +14,14 @@ pub fn the_table_says_what_is_read()
 /// What the reader answers by its contract fits what the table of commands says of the words.
 pub fn what_is_read_fits_the_table()
     ensures { WhatIsReadFitsTheTable }
+{}
+
+/// The number of a gap is twice its area in squared grid units, rounded down to a whole number.
+pub fn gaps_are_rounded_down()
+    ensures { GapsAreRoundedDown }
+{}
+
+/// The number of a least area is twice that area in squared grid units, rounded up to a whole number.
+pub fn least_areas_are_rounded_up()
+    ensures { LeastAreasAreRoundedUp }
 {}

@@ -1,7 +1,8 @@
 -- The table of commands: what argument, options and bare words each takes, what it needs, and what it asks for.
-use Rattle.std.specs.Prelude.{ℕ, Bool, true, false, ◌||◌, ◌&&◌, List, [], ◌∷◌, find, codes, slice_index_or, Option, Some, None, is_some, option_map, option_and_then, unwrap_or, Ok, Err, if◌then◌else◌}
+use Rattle.std.specs.Prelude.{ℕ, Bool, true, false, ◌||◌, ◌&&◌, nat_lt, nat_le, List, [], ◌∷◌, length, find, codes, slice_index_or, Option, Some, None, is_some, option_map, option_and_then, unwrap_or, Ok, Err, if◌then◌else◌}
 use Rattle.std.specs.List.{list_any}
-use Rattle.std.specs.Str.{bytes_eq}
+use Rattle.std.specs.Str.{bytes_eq, all_ascii_digits}
+use Rattle.std.specs.Str.Parse.{digits_value}
 use Rattle.grid_base.specs.declared.kinds.OverlapRule.TheVariants.{MaxArea}
 use Rattle.table_terms.specs.Names.{Text}
 use Rattle.table_terms.specs.declared.renames.Rename.{Rename}
@@ -9,8 +10,11 @@ use Rattle.table_terms.specs.declared.specifications.GroupSpec.{GroupSpec}
 use Rattle.table_terms.specs.declared.specifications.JoinSpec.{JoinSpec}
 use Rattle.cmd_words.specs.Texts.{form_by_ending, is_standard, pieces}
 use Rattle.cmd_words.specs.Values.{form_named, renames_of, rule_of}
-use Rattle.cmd_words.specs.declared.job.Action.{Action}
+use Rattle.cmd_words.specs.Quantities.{area_units, doubled_below, doubled_above}
+use Rattle.cmd_words.specs.declared.action_words.ActionWords.{ActionWords}
+use Rattle.cmd_words.specs.declared.action_words.ActionWords.TheVariants as words
 use Rattle.cmd_words.specs.declared.job.Action.TheVariants as ask
+use Rattle.cmd_words.specs.declared.job.LayerAction.{LayerAction}
 use Rattle.cmd_words.specs.declared.job.LayerAction.TheVariants as each
 use Rattle.cmd_words.specs.declared.job.JointAction.TheVariants as joint
 use Rattle.cmd_words.specs.declared.job.Origin.{Origin}
@@ -77,7 +81,7 @@ group_spec said = record { by = list_or_empty (argument_in said); copy = list_or
 abbrev pub key_at : Said → ℕ → Text
 key_at said n = slice_index_or (list_or_empty (value_in said (codes "keys"))) n []
 
--- its expression stands beside it
+-- its expression is left out
 abbrev pub join_spec : Said → JoinSpec
 join_spec said = record {
   target_key = key_at said 0;
@@ -90,6 +94,21 @@ join_spec said = record {
 
 abbrev pub renames_in : Said → List Rename
 renames_in said = elim (renames_of (argument_text said)) [ Ok renames ↦ renames | Err why ↦ [] ]
+
+-- decimal digits for a number within bounds
+abbrev pub number_in : ℕ → ℕ → Text → Option ℕ
+number_in low high w = if (nat_lt 0 (length w) && all_ascii_digits w) && (nat_le low (digits_value 10 w) && nat_le (digits_value 10 w) high) then Some (digits_value 10 w) else None
+
+abbrev pub count_of : ℕ → Text → Option ℕ
+count_of low w = number_in low 4294967295 w
+
+-- the number of an option, and the least one without it
+abbrev pub count_in : ℕ → Said → Text → ℕ
+count_in low said name = unwrap_or (option_and_then (count_of low) (value_in said name)) low
+
+-- twice the area of an option, rounded so; 0 without it
+abbrev pub doubled_in : (ℕ → ℕ) → Said → Text → ℕ
+doubled_in rounded said name = unwrap_or (option_map rounded (option_and_then area_units (value_in said name))) 0
 
 -- the form of an output: by `format=`, else by the name
 abbrev pub form_in : Said → Option OutForm
@@ -106,6 +125,11 @@ pub data ValueForm : Type 0 where
   a_format : ValueForm
   a_box : ValueForm
   an_expression : ValueForm
+  -- a numeral of at least 0, in squared units of the coordinates
+  an_area : ValueForm
+  -- decimal digits for a number from 1 on, or from 0 on
+  one_or_more : ValueForm
+  zero_or_more : ValueForm
 
 pub data ArgumentForm : Type 0 where
   nothing : ArgumentForm
@@ -115,6 +139,7 @@ pub data ArgumentForm : Type 0 where
   source : ArgumentForm
   list : ArgumentForm
   expression : ArgumentForm
+  assignments : ArgumentForm
   renames : ArgumentForm
   text : ArgumentForm
 
@@ -129,8 +154,8 @@ pub record CommandLine : Type 0 where
   pub line : Line
   -- what it needs is there
   pub has_needed : Said → Bool
-  -- what it asks for, by the source that it names
-  pub asks : Origin → Said → Action
+  -- what it asks for, by the decimal places of the chain and the source that it names
+  pub asks : ℕ → Origin → Said → ActionWords
 
 abbrev pub TARGET : Text × ValueForm
 TARGET = (codes "target", a_list)
@@ -155,33 +180,61 @@ anything said = true
 abbrev pub needs_source : Said → Bool
 needs_source said = has_argument said || has_option said (codes "bbox")
 
+abbrev pub each_layer : LayerAction → ActionWords
+each_layer a = words.Whole (ask.Each a)
+
 abbrev pub command_lines : List CommandLine
 command_lines =
-    record { word = codes "-clip"; line = line source ((codes "bbox", a_box) ∷ usual) (PLUS ∷ []); has_needed = needs_source; asks = λ from said. ask.Each (each.Clip from) }
-    ∷ record { word = codes "-erase"; line = line source ((codes "bbox", a_box) ∷ usual) (PLUS ∷ []); has_needed = needs_source; asks = λ from said. ask.Each (each.Erase from) }
-    ∷ record { word = codes "-dissolve"; line = line list ((codes "sum-fields", a_list) ∷ (codes "copy-fields", a_list) ∷ usual) (codes "group-points" ∷ PLUS ∷ []); has_needed = anything; asks = λ from said. ask.Each (each.Dissolve (group_spec said) (has_bare said (codes "group-points"))) }
-    ∷ record { word = codes "-clean"; line = line nothing ((codes "overlap-rule", a_rule) ∷ usual) (codes "allow-empty" ∷ PLUS ∷ []); has_needed = anything; asks = λ from said. ask.Each (each.Clean (unwrap_or (option_and_then rule_of (value_in said (codes "overlap-rule"))) MaxArea) (has_bare said (codes "allow-empty"))) }
-    ∷ record { word = codes "-mosaic"; line = line nothing usual (PLUS ∷ []); has_needed = anything; asks = λ from said. (ask.Each each.Mosaic) }
-    ∷ record { word = codes "-innerlines"; line = line nothing usual (PLUS ∷ []); has_needed = anything; asks = λ from said. (ask.Each each.InnerLines) }
-    ∷ record { word = codes "-explode"; line = line nothing usual (PLUS ∷ []); has_needed = anything; asks = λ from said. (ask.Each each.Explode) }
-    ∷ record { word = codes "-lines"; line = line list usual (PLUS ∷ []); has_needed = anything; asks = λ from said. ask.Each (each.Lines (list_or_empty (argument_in said))) }
+    record { word = codes "-clip"; line = line source ((codes "bbox", a_box) ∷ usual) (PLUS ∷ []); has_needed = needs_source; asks = λ places from said. each_layer (each.Clip from) }
+    ∷ record { word = codes "-erase"; line = line source ((codes "bbox", a_box) ∷ usual) (PLUS ∷ []); has_needed = needs_source; asks = λ places from said. each_layer (each.Erase from) }
+    ∷ record { word = codes "-dissolve"; line = line list ((codes "sum-fields", a_list) ∷ (codes "copy-fields", a_list) ∷ usual) (codes "group-points" ∷ PLUS ∷ []); has_needed = anything; asks = λ places from said. each_layer (each.Dissolve (group_spec said) (has_bare said (codes "group-points"))) }
+    ∷ record {
+      word = codes "-clean";
+      line = line nothing ((codes "overlap-rule", a_rule) ∷ (codes "gap-fill-area", an_area) ∷ usual) (codes "allow-empty" ∷ PLUS ∷ []);
+      has_needed = anything;
+      asks = λ places from said.
+          each_layer (each.Clean (unwrap_or (option_and_then rule_of (value_in said (codes "overlap-rule"))) MaxArea) (has_bare said (codes "allow-empty")) (doubled_in (doubled_below places) said (codes "gap-fill-area")));
+    }
+    ∷ record { word = codes "-mosaic"; line = line nothing usual (PLUS ∷ []); has_needed = anything; asks = λ places from said. (each_layer each.Mosaic) }
+    ∷ record { word = codes "-innerlines"; line = line nothing usual (PLUS ∷ []); has_needed = anything; asks = λ places from said. (each_layer each.InnerLines) }
+    ∷ record { word = codes "-explode"; line = line nothing usual (PLUS ∷ []); has_needed = anything; asks = λ places from said. (each_layer each.Explode) }
+    ∷ record { word = codes "-lines"; line = line list usual (PLUS ∷ []); has_needed = anything; asks = λ places from said. each_layer (each.Lines (list_or_empty (argument_in said))) }
     ∷ record {
       word = codes "-join";
       line = line source ((codes "keys", two_names) ∷ (codes "fields", a_list) ∷ (codes "where", an_expression) ∷ (codes "prefix", a_text) ∷ (codes "string-fields", a_list) ∷ TARGET ∷ []) (codes "force" ∷ []);
       has_needed = λ said. has_argument said && has_option said (codes "keys");
-      asks = λ from said. ask.Each (each.Join from (join_spec said));
+      asks = λ places from said. words.Join from (join_spec said) (value_in said (codes "where"));
     }
     ∷ record {
       word = codes "-filter";
       line = line expression usual (codes "invert" ∷ codes "remove-empty" ∷ PLUS ∷ []);
       has_needed = λ said. has_argument said || has_bare said (codes "remove-empty");
-      asks = λ from said. ask.Each (each.Filter None (has_bare said (codes "invert")) (has_bare said (codes "remove-empty")));
+      asks = λ places from said. words.Filter (argument_in said) (has_bare said (codes "invert")) (has_bare said (codes "remove-empty"));
     }
-    ∷ record { word = codes "-filter-fields"; line = line list (TARGET ∷ []) []; has_needed = anything; asks = λ from said. ask.Each (each.FilterFields (list_or_empty (argument_in said))) }
-    ∷ record { word = codes "-rename-fields"; line = line renames (TARGET ∷ []) []; has_needed = has_argument; asks = λ from said. ask.Each (each.RenameFields (renames_in said)) }
-    ∷ record { word = codes "-split"; line = line text (TARGET ∷ []) (PLUS ∷ []); has_needed = anything; asks = λ from said. ask.Each (each.Split (argument_in said)) }
-    ∷ record { word = codes "-merge-layers"; line = line nothing usual (codes "force" ∷ PLUS ∷ []); has_needed = anything; asks = λ from said. ask.Together (joint.MergeLayers (has_bare said (codes "force"))) }
-    ∷ record { word = codes "-o"; line = line text ((codes "format", a_format) ∷ TARGET ∷ []) (codes "force" ∷ []); has_needed = has_argument; asks = λ from said. ask.Write (argument_text said) (is_standard (argument_text said)) (unwrap_or (form_in said) Geo) }
+    ∷ record { word = codes "-filter-fields"; line = line list (TARGET ∷ []) []; has_needed = anything; asks = λ places from said. each_layer (each.FilterFields (list_or_empty (argument_in said))) }
+    ∷ record { word = codes "-rename-fields"; line = line renames (TARGET ∷ []) []; has_needed = has_argument; asks = λ places from said. each_layer (each.RenameFields (renames_in said)) }
+    ∷ record { word = codes "-split"; line = line text (TARGET ∷ []) (PLUS ∷ []); has_needed = anything; asks = λ places from said. each_layer (each.Split (argument_in said)) }
+    ∷ record { word = codes "-each"; line = line assignments (TARGET ∷ []) []; has_needed = has_argument; asks = λ places from said. words.Each (argument_text said) }
+    ∷ record {
+      word = codes "-sort";
+      line = line expression (TARGET ∷ []) (codes "ascending" ∷ codes "descending" ∷ []);
+      has_needed = has_argument;
+      asks = λ places from said. words.Sort (argument_text said) (has_bare said (codes "descending"));
+    }
+    ∷ record {
+      word = codes "-uniq";
+      line = line expression ((codes "max-count", one_or_more) ∷ usual) (codes "invert" ∷ PLUS ∷ []);
+      has_needed = has_argument;
+      asks = λ places from said. words.Uniq (argument_text said) (count_in 1 said (codes "max-count")) (has_bare said (codes "invert"));
+    }
+    ∷ record {
+      word = codes "-filter-islands";
+      line = line nothing ((codes "min-area", an_area) ∷ (codes "min-vertices", zero_or_more) ∷ usual) (codes "remove-empty" ∷ PLUS ∷ []);
+      has_needed = λ said. has_option said (codes "min-area") || has_option said (codes "min-vertices");
+      asks = λ places from said. each_layer (each.FilterIslands (doubled_in (doubled_above places) said (codes "min-area")) (count_in 0 said (codes "min-vertices")) (has_bare said (codes "remove-empty")));
+    }
+    ∷ record { word = codes "-merge-layers"; line = line nothing usual (codes "force" ∷ PLUS ∷ []); has_needed = anything; asks = λ places from said. words.Whole (ask.Together (joint.MergeLayers (has_bare said (codes "force")))) }
+    ∷ record { word = codes "-o"; line = line text ((codes "format", a_format) ∷ TARGET ∷ []) (codes "force" ∷ []); has_needed = has_argument; asks = λ places from said. words.Whole (ask.Write (argument_text said) (is_standard (argument_text said)) (unwrap_or (form_in said) Geo)) }
     ∷ []
 
 abbrev pub line_of : Text → Option CommandLine

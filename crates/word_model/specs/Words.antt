@@ -1,13 +1,14 @@
 -- What the words of a command line ask for, or the first word that is refused and why.
-use Rattle.std.specs.Prelude.{ℕ, ◌+◌, Bool, true, false, not, ◌&&◌, ◌||◌, ◌==◌, nat_lt, nat_le, List, [], ◌∷◌, ◌++◌, length, codes, Option, Some, None, is_some, unwrap_or, option_and_then, Result, Ok, Err, if◌then◌else◌}
+use Rattle.std.specs.Prelude.{ℕ, ◌+◌, Bool, true, false, not, ◌&&◌, ◌||◌, ◌==◌, nat_lt, List, [], ◌∷◌, ◌++◌, length, codes, Option, Some, None, is_some, unwrap_or, option_and_then, Result, Ok, Err, if◌then◌else◌}
 use Rattle.std.specs.List.{enumerate_from, flat_map, list_any}
-use Rattle.std.specs.Str.{bytes_eq, all_ascii_digits}
-use Rattle.std.specs.Str.Parse.{digits_value}
+use Rattle.std.specs.Str.{bytes_eq}
 use Rattle.grid_base.specs.Grid.{Corners}
 use Rattle.table_terms.specs.Names.{Text, has_name}
 use Rattle.table_terms.specs.Refusals.{on_ok, first_refusal}
 use Rattle.cmd_words.specs.Areas.{area_of, places_of}
+use Rattle.cmd_words.specs.Quantities.{area_units}
 use Rattle.cmd_words.specs.Chains.{SoFar}
+use Rattle.cmd_words.specs.Expressions as kind
 use Rattle.cmd_words.specs.Expressions.{Refusals}
 use Rattle.cmd_words.specs.Texts.{at_first_equals, has_empty_piece, is_command, is_empty, is_standard, names_file}
 use Rattle.cmd_words.specs.Values.{form_named, is_pair, renames_of, rule_of}
@@ -19,7 +20,7 @@ use Rattle.cmd_words.specs.declared.job.Origin.{Origin}
 use Rattle.cmd_words.specs.declared.job.Origin.TheVariants as origin
 use Rattle.cmd_words.specs.declared.job.Owner.TheVariants as owner
 use Rattle.cmd_words.specs.declared.job.SourceWord.{SourceWord}
-use Rattle.word_model.specs.CommandTable.{Item, option, bare, argument, Said, ValueForm, a_text, a_list, two_names, a_precision, a_rule, a_format, a_box, an_expression, ArgumentForm, nothing, files, source, list, expression, renames, Line, CommandLine, value_in, has_option, has_bare, has_argument, argument_in, argument_text, list_or_empty, target_of, form_in, import_line, line_of, form_of}
+use Rattle.word_model.specs.CommandTable.{Item, option, bare, argument, Said, ValueForm, a_text, a_list, two_names, a_precision, a_rule, a_format, a_box, an_expression, an_area, one_or_more, zero_or_more, ArgumentForm, nothing, files, source, list, expression, assignments, renames, Line, CommandLine, value_in, has_option, has_bare, has_argument, argument_text, list_or_empty, target_of, form_in, number_in, count_of, import_line, line_of, form_of}
 
 -- ---- what a word is in its group
 
@@ -27,17 +28,21 @@ abbrev pub begins_with_equals : Text → Bool
 begins_with_equals [] = false
 begins_with_equals (b ∷ rest) = b == 61
 
--- a word is an option, split at its first `=`; where expressions stand, only by these names and without a second `=`, and where renames stand, only `target=`
-abbrev pub splits : ArgumentForm → Text → Text → Bool
-splits expression name value = (bytes_eq name (codes "name") || bytes_eq name (codes "target")) && not (begins_with_equals value)
-splits renames name value = bytes_eq name (codes "target")
-splits _ name value = true
+-- a word is an option, split at its first `=`; where expressions or assignments stand, only by a name of the line and without a second `=`, and where renames stand, only by a name of the line
+abbrev pub splits : ArgumentForm → Bool → Text → Bool
+splits expression known value = known && not (begins_with_equals value)
+splits assignments known value = known && not (begins_with_equals value)
+splits renames known value = known
+splits _ known value = true
+
+abbrev pub is_option : Line → Text → Text → Bool
+is_option l name value = splits l.argument (is_some (form_of l name)) value
 
 abbrev pub plain_item : Line → Text → Item
 plain_item l word = if has_name l.bare word then bare word else argument word
 
 abbrev pub item_of : Line → Text → Item
-item_of l word = elim (at_first_equals word) [ None ↦ plain_item l word | Some o ↦ if splits l.argument o.0 o.1 then option o.0 o.1 else plain_item l word ]
+item_of l word = elim (at_first_equals word) [ None ↦ plain_item l word | Some o ↦ if is_option l o.0 o.1 then option o.0 o.1 else plain_item l word ]
 
 -- ---- why a word is refused, by the words of its group before it
 
@@ -66,7 +71,10 @@ refused_value refuses places a_precision s = refused_if (not (is_some (places_of
 refused_value refuses places a_rule s = refused_if (not (is_some (rule_of s))) why.BadChoice
 refused_value refuses places a_format s = refused_if (not (is_some (form_named s))) why.BadChoice
 refused_value refuses places a_box s = refusal_of (area_of places s)
-refused_value refuses places an_expression s = expression_fault (refuses s)
+refused_value refuses places an_expression s = expression_fault (refuses kind.expression s)
+refused_value refuses places an_area s = refused_if (not (is_some (area_units s))) why.BadNumber
+refused_value refuses places one_or_more s = refused_if (not (is_some (count_of 1 s))) why.BadNumber
+refused_value refuses places zero_or_more s = refused_if (not (is_some (count_of 0 s))) why.BadNumber
 
 abbrev pub is_box : ValueForm → Bool
 is_box a_box = true
@@ -100,7 +108,8 @@ reads_standard _ s = false
 abbrev pub refused_text : Refusals → ArgumentForm → Text → Option WordWhy
 refused_text refuses files s = refused_if (not (names_file s)) why.UnsupportedFile
 refused_text refuses renames s = refusal_of (renames_of s)
-refused_text refuses expression s = expression_fault (refuses s)
+refused_text refuses expression s = expression_fault (refuses kind.expression s)
+refused_text refuses assignments s = expression_fault (refuses kind.assignments s)
 refused_text refuses _ s = None
 
 -- some argument before it in the group reads standard input
@@ -116,9 +125,19 @@ refused_argument refuses taken form before s =
     (first_refusal (refused_if (reads_standard form s && (taken || list_any (is_standard_item form) before)) why.ExtraWord)
     (refused_text refuses form s)))
 
+-- rows ascend or descend
+abbrev pub is_opposed : Said → Text → Bool
+is_opposed before word =
+    if bytes_eq word (codes "ascending") then has_bare before (codes "descending")
+    else if bytes_eq word (codes "descending") then has_bare before (codes "ascending")
+    else false
+
+abbrev pub refused_bare : Said → Text → Option WordWhy
+refused_bare before word = first_refusal (refused_if (has_bare before word) why.OptionTwice) (refused_if (is_opposed before word) why.ExtraWord)
+
 abbrev pub refused_item : Refusals → ℕ → Bool → Line → Said → Item → Option WordWhy
 refused_item refuses places taken l before (option name value) = refused_option refuses places before (form_of l name) name value
-refused_item refuses places taken l before (bare word) = refused_if (has_bare before word) why.OptionTwice
+refused_item refuses places taken l before (bare word) = refused_bare before word
 refused_item refuses places taken l before (argument s) = refused_argument refuses taken l.argument before s
 
 -- ---- groups: a word with its number, from 1
@@ -177,11 +196,6 @@ ok_list (Err e) = []
 abbrev pub boxes_of : ℕ → Said → List Corners
 boxes_of places said = elim (value_in said (codes "bbox")) [ None ↦ [] | Some s ↦ ok_list (area_of places s) ]
 
--- the text of its expression
-abbrev pub test_of : ArgumentForm → Said → Option Text
-test_of expression said = argument_in said
-test_of form said = value_in said (codes "where")
-
 abbrev pub standard_among : List SourceWord → Bool
 standard_among sources = list_any (λ (s : SourceWord). s.standard) sources
 
@@ -191,10 +205,7 @@ with_command places s c said =
     record {
       sources = sources;
       boxes = s.boxes ++ boxes_of places said;
-      commands = s.commands ++ record {
-        command = record { target = target_of (value_in said (codes "target")); name = value_in said (codes "name"); keep = has_bare said (codes "+"); action = c.asks (origin_of s said) said };
-        test = test_of c.line.argument said;
-      } ∷ [];
+      commands = s.commands ++ record { target = target_of (value_in said (codes "target")); name = value_in said (codes "name"); keep = has_bare said (codes "+"); action = c.asks places (origin_of s said) said } ∷ [];
       reads_standard = standard_among sources;
     }
 
@@ -243,10 +254,6 @@ abbrev pub read_groups : Refusals → Groups → Reading JobWords
 read_groups refuses g = on_ok (says refuses 6 false import_line [] g.first) (after_import refuses g)
 
 -- ---- synth
-
--- decimal digits for a number within bounds
-abbrev pub number_in : ℕ → ℕ → Text → Option ℕ
-number_in low high w = if (nat_lt 0 (length w) && all_ascii_digits w) && (nat_le low (digits_value 10 w) && nat_le (digits_value 10 w) high) then Some (digits_value 10 w) else None
 
 abbrev pub read_synth : List Text → Reading JobWords
 read_synth (seed ∷ size ∷ []) = elim (number_in 0 4294967295 seed) [

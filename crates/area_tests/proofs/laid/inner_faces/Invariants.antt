@@ -1,6 +1,0 @@
-use Rattle.std.specs.Prelude.{All}
-use Rattle.ring_trace.specs.Sets.{IsInnerFace}
-use Rattle.area_tests.proofs.laid.inner_faces.Given as goal
-
-abbrev pub invariant-loop-number : goal.invariant-loop-number
-invariant-loop-number l = All (IsInnerFace l.laid.faces) l.faces.items

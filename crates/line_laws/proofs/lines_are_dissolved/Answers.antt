@@ -1,0 +1,6 @@
+-- The law is proved by itself.
+use Rattle.line_laws.proofs.LinkedArcs.{lines_are_dissolved}
+use Rattle.line_laws.proofs.lines_are_dissolved.Goals as goal
+
+pub returns : goal.returns
+returns c = lines_are_dissolved

@@ -1,0 +1,6 @@
+-- The law is proved by itself.
+use Rattle.line_laws.proofs.ByRegions.{points_cut_by_regions}
+use Rattle.line_laws.proofs.points_cut_by_regions.Goals as goal
+
+pub returns : goal.returns
+returns c = points_cut_by_regions

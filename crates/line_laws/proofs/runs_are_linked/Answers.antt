@@ -1,0 +1,6 @@
+-- The law is proved by itself.
+use Rattle.line_laws.proofs.LinkedArcs.{runs_are_linked}
+use Rattle.line_laws.proofs.runs_are_linked.Goals as goal
+
+pub returns : goal.returns
+returns c = runs_are_linked

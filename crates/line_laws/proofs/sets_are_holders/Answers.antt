@@ -1,0 +1,6 @@
+-- The law is proved by itself.
+use Rattle.line_laws.proofs.ByRegions.{sets_are_holders}
+use Rattle.line_laws.proofs.sets_are_holders.Goals as goal
+
+pub returns : goal.returns
+returns c = sets_are_holders

@@ -1,0 +1,250 @@
+-- The pieces of a mosaic are those that the definition makes of the regions.
+use Rattle.std.proofs.Common.{◌≡◌, ◌⊎◌, inl, inr, refl, sym, ap, subst, ◌∙◌, arith, ℕ, zero, suc, ◌+◌, ◌<◌, ◌≤◌, Bool, true, false, not, List, [], ◌∷◌, ◌++◌, All, AllPairs, Contains, length, filter, get_or, map, nat_lt}
+use Rattle.std.specs.Prelude.{◌↔◌}
+use Rattle.std.specs.List.{AllZip, flat_map, range_with_len}
+use Rattle.std.proofs.lemmas.Bool.{false_from_ne_true, lt-ltb}
+use Rattle.std.proofs.lemmas.List.{get_or-map, length-map, map-append}
+use Rattle.std.proofs.lemmas.List.Elements.{Contains-get_or}
+use Rattle.lists.specs.Lists.{list_before}
+use Rattle.lists.proofs.Ascending.{IsAscending, ascending_of_pairs, one_ascending}
+use Rattle.lists.proofs.Members.{Contains-cases, Contains-filter, Contains-head, Contains-later, Contains-map, Contains-nil, filter-Contains, map-Contains}
+use Rattle.plane_model.specs.Points.{Path}
+use Rattle.plane_model.specs.Drawing.{Drawing}
+use Rattle.plane_model.specs.Snapped.{snapped}
+use Rattle.plane_faces.specs.Places.{Place}
+use Rattle.face_walk.specs.Places.{FaceTable}
+use Rattle.ring_trace.specs.Sets.{IsSetOf}
+use Rattle.ring_trace.proofs.SetLemmas.{from_ascending}
+use Rattle.region_ops.specs.Mosaic.{Group, IsMosaic, faces_of, items_of, items_of_groups}
+use Rattle.region_ops.specs.declared.item_lists.MosaicItem.{MosaicItem}
+use Rattle.region_ops.proofs.ListOrder.{list_order}
+use Rattle.region_model.specs.Region.{Region, any_of, part}
+use Rattle.region_model.specs.Answers.{Answers, HasSome, is_empty}
+use Rattle.region_model.specs.PolygonCommands.{ascending_lists, exactly, mosaic, parts_of, sharing}
+use Rattle.region_laws.specs.Regions.{Follows, FollowEach}
+use Rattle.region_laws.specs.Followed.{IsWalked}
+use Rattle.region_laws.specs.Answered.{FollowInOrder, MosaicAsTold, TellSides, plane_with}
+use Rattle.region_laws.proofs.Answered.{emptiness_is_told, nil_or_not, parts_in_order}
+use Rattle.region_laws.proofs.AscendingLists.{IsListOf, filter_ascends, is_list_of, list_is_there, lists_ascend}
+use Rattle.region_laws.proofs.Mosaics.{faces_followed, faces_inner, first_of, in_faces, of_faces}
+use Rattle.region_laws.proofs.Numbers.{in_range, of_owners, of_range, owners_rise}
+
+-- ---- lists side by side
+
+module _ (d : Drawing) (arcs : List Path) (label : Place → ℕ) where
+  abbrev Beside : List ℕ → Region → Type 0
+  Beside set r = Follows d arcs label set r
+
+  to_zip : (sets : List (List ℕ)) (regions : List Region) → length regions ≡ length sets → ((n : ℕ) → n < length sets → Beside (get_or sets n []) (get_or regions n (any_of []))) → AllZip Beside sets regions
+  to_zip [] [] many each = tt
+  to_zip [] (r ∷ regions) many each = absurd (omega arith)
+  to_zip (set ∷ sets) [] many each = absurd (omega arith)
+  to_zip (set ∷ sets) (r ∷ regions) many each = (each 0 (omega arith), to_zip sets regions (omega arith) (λ n l. each (suc n) (omega arith)))
+
+  one_before : (set : List ℕ) (r : Region) (sets : List (List ℕ)) (regions : List Region) → Beside set r → FollowInOrder d arcs label sets regions → FollowInOrder d arcs label (set ∷ sets) (r ∷ regions)
+  one_before set r sets regions one more = (ap suc more.0, each)
+    where
+      each : (n : ℕ) → n < length (set ∷ sets) → Beside (get_or (set ∷ sets) n []) (get_or (r ∷ regions) n (any_of []))
+      each zero l = one
+      each (suc n) l = more.1 n (omega arith)
+
+  from_zip : (sets : List (List ℕ)) (regions : List Region) → AllZip Beside sets regions → FollowInOrder d arcs label sets regions
+  from_zip [] [] h = (refl, λ n l. absurd (omega arith))
+  from_zip [] (r ∷ regions) h = absurd h
+  from_zip (set ∷ sets) [] h = absurd h
+  from_zip (set ∷ sets) (r ∷ regions) h = one_before set r sets regions h.0 (from_zip sets regions h.1)
+
+  join_zip : (sets others : List (List ℕ)) (regions more : List Region) → AllZip Beside sets regions → AllZip Beside others more → AllZip Beside (sets ++ others) (regions ++ more)
+  join_zip [] others [] more h k = k
+  join_zip [] others (r ∷ regions) more h k = absurd h
+  join_zip (set ∷ sets) others [] more h k = absurd h
+  join_zip (set ∷ sets) others (r ∷ regions) more h k = (h.0, join_zip sets others regions more h.1 k)
+
+-- ---- the pieces of a list of numbers
+
+one_value_each : {X Y B : Type 0} (b : B) (xs : List X) (ys : List Y) → length xs ≡ length ys → map (λ (x : X). b) xs ≡ map (λ (y : Y). b) ys
+one_value_each b [] [] e = refl
+one_value_each b [] (y ∷ ys) e = absurd (omega arith)
+one_value_each b (x ∷ xs) [] e = absurd (omega arith)
+one_value_each b (x ∷ xs) (y ∷ ys) e = ap (λ (bs : List _). b ∷ bs) (one_value_each b xs ys (omega arith))
+
+map_twice : {A B C : Type 0} (g : B → C) (f : A → B) (xs : List A) → map g (map f xs) ≡ map (λ (x : A). g (f x)) xs
+map_twice g f [] = refl
+map_twice g f (x ∷ xs) = ap (λ (ys : List _). g (f x) ∷ ys) (map_twice g f xs)
+
+map_itself : {A : Type 0} (xs : List A) → map (λ (x : A). x) xs ≡ xs
+map_itself [] = refl
+map_itself (x ∷ xs) = ap (λ (ys : List _). x ∷ ys) (map_itself xs)
+
+abbrev numbers_in : MosaicItem → List ℕ
+numbers_in item = item.ids
+
+abbrev set_in : MosaicItem → List ℕ
+set_in item = item.set
+
+abbrev numbers_of : List ℕ × Region → List ℕ
+numbers_of m = m.0
+
+abbrev region_of : List ℕ × Region → Region
+region_of m = m.1
+
+numbers_alike : (numbers : List ℕ) (parts : List (List ℕ)) (regions : List Region) → length parts ≡ length regions → map numbers_in (items_of numbers parts) ≡ map numbers_of (map (λ (r : Region). (numbers, r)) regions)
+numbers_alike numbers parts regions many =
+    map_twice numbers_in (λ (set : List ℕ). record { ids = numbers; set = set }) parts
+    ∙ one_value_each numbers parts regions many
+    ∙ sym (map_twice numbers_of (λ (r : Region). (numbers, r)) regions)
+
+sets_alike : (numbers : List ℕ) (parts : List (List ℕ)) → map set_in (items_of numbers parts) ≡ parts
+sets_alike numbers parts = map_twice set_in (λ (set : List ℕ). record { ids = numbers; set = set }) parts ∙ map_itself parts
+
+regions_alike : (numbers : List ℕ) (regions : List Region) → map region_of (map (λ (r : Region). (numbers, r)) regions) ≡ regions
+regions_alike numbers regions = map_twice region_of (λ (r : Region). (numbers, r)) regions ∙ map_itself regions
+
+-- ---- group by group
+
+module _ (d : Drawing) (arcs : List Path) (label : Place → ℕ) (made : List ℕ → List Region) where
+  abbrev made_with : List ℕ → List (List ℕ × Region)
+  made_with numbers = map (λ (r : Region). (numbers, r)) (made numbers)
+
+  -- the regions of the numbers of a group are followed by its parts
+  abbrev pub IsGroupOf : Group → Type 0
+  IsGroupOf g = FollowInOrder d arcs label g.parts (made g.ids)
+
+  all_numbers : (groups : List Group) → ((g : Group) → Contains groups g → IsGroupOf g) → map numbers_in (items_of_groups groups) ≡ map numbers_of (flat_map made_with (map (λ (g : Group). g.ids) groups))
+  all_numbers [] h = refl
+  all_numbers (g ∷ groups) h =
+      map-append numbers_in (items_of g.ids g.parts) (items_of_groups groups)
+      ∙ (λ i. numbers_alike g.ids g.parts (made g.ids) (sym (h g (Contains-head g groups)).0) i ++ all_numbers groups (λ f c. h f (Contains-later g groups f c)) i)
+      ∙ sym (map-append numbers_of (made_with g.ids) (flat_map made_with (map (λ (f : Group). f.ids) groups)))
+
+  all_sets : (groups : List Group) → ((g : Group) → Contains groups g → IsGroupOf g) → AllZip (Follows d arcs label) (map set_in (items_of_groups groups)) (map region_of (flat_map made_with (map (λ (g : Group). g.ids) groups)))
+  all_sets [] h = tt
+  all_sets (g ∷ groups) h =
+      let here : IsGroupOf g = h g (Contains-head g groups) in
+      let one : AllZip (Follows d arcs label) (map set_in (items_of g.ids g.parts)) (map region_of (made_with g.ids)) =
+          subst (λ (sets : List (List ℕ)). AllZip (Follows d arcs label) sets (map region_of (made_with g.ids))) (sym (sets_alike g.ids g.parts))
+          (subst (λ (regions : List Region). AllZip (Follows d arcs label) g.parts regions) (sym (regions_alike g.ids (made g.ids))) (to_zip d arcs label g.parts (made g.ids) here.0 here.1)) in
+      let joined = join_zip d arcs label (map set_in (items_of g.ids g.parts)) (map set_in (items_of_groups groups)) (map region_of (made_with g.ids)) (map region_of (flat_map made_with (map (λ (f : Group). f.ids) groups))) one
+          (all_sets groups (λ f c. h f (Contains-later g groups f c))) in
+      subst (λ (sets : List (List ℕ)). AllZip (Follows d arcs label) sets (map region_of (made_with g.ids ++ flat_map made_with (map (λ (f : Group). f.ids) groups)))) (sym (map-append set_in (items_of g.ids g.parts) (items_of_groups groups)))
+      (subst (λ (regions : List Region). AllZip (Follows d arcs label) (map set_in (items_of g.ids g.parts) ++ map set_in (items_of_groups groups)) regions) (sym (map-append region_of (made_with g.ids) (flat_map made_with (map (λ (f : Group). f.ids) groups)))) joined)
+
+-- ---- the lists of numbers
+
+low : (a n k : ℕ) → Contains (range_with_len a n) k → a ≤ k
+low a zero k c = Contains-nil k c
+low a (suc n) k c = elim (Contains-cases a (range_with_len (a + 1) n) k c) [
+  | inl e ↦ omega arith
+  | inr more ↦ (let l = low (a + 1) n k more in omega arith)
+]
+
+rising_range : (a n : ℕ) → IsAscending nat_lt (range_with_len a n)
+rising_range a zero = tt
+rising_range a (suc n) = (λ y c. lt-ltb a y (let l = low (a + 1) n y c in omega arith), rising_range (a + 1) n)
+
+abbrev list_less : List ℕ → List ℕ → Bool
+list_less xs ys = list_before nat_lt xs ys
+
+module _ (d : Drawing) (arcs : List Path) (faces : FaceTable) (label : Place → ℕ) (walked : IsWalked d arcs faces label) (sets : List (List ℕ)) (inner : All (IsSetOf faces) sets) (region : ℕ → Region) (each : FollowEach (snapped d) arcs label sets region)
+    (A : Answers) (sides : (numbers : List ℕ) → TellSides (plane_with d arcs) A (exactly region (length sets) numbers)) where
+  abbrev all_below : List ℕ
+  all_below = range_with_len 0 (length sets)
+
+  abbrev together : List ℕ → Region
+  together numbers = exactly region (length sets) numbers
+
+  abbrev faces_with : List ℕ → List ℕ
+  faces_with numbers = faces_of sets faces.count numbers
+
+  within_count : (numbers : List ℕ) → IsListOf all_below numbers → All (λ n. n < length sets) numbers
+  within_count numbers h i e l = of_range (length sets) (get_or numbers i e) (h.within (get_or numbers i e) (Contains-get_or numbers i e l))
+
+  follow_together : (numbers : List ℕ) → IsListOf all_below numbers → Follows (snapped d) arcs label (faces_with numbers) (together numbers)
+  follow_together numbers h = faces_followed d arcs faces label walked sets inner region each numbers h.some (within_count numbers h) (from_ascending numbers h.rising)
+
+  inner_together : (numbers : List ℕ) → IsListOf all_below numbers → IsSetOf faces (faces_with numbers)
+  inner_together numbers h = faces_inner d arcs faces label walked sets inner region each numbers h.some
+
+  empty_together : (numbers : List ℕ) → IsListOf all_below numbers → (faces_with numbers ≡ []) ↔ (is_empty (plane_with d arcs) A (together numbers) ≡ true)
+  empty_together numbers h = emptiness_is_told d arcs faces label walked (faces_with numbers) (inner_together numbers h) (together numbers) (follow_together numbers h) A (sides numbers)
+
+  module _ (items : List MosaicItem) (is : IsMosaic faces sets items) where
+    abbrev ids_of : Group → List ℕ
+    ids_of g = g.ids
+
+    listed : (g : Group) → Contains is.groups g → IsListOf all_below g.ids
+    listed g there =
+        let (k, below, owners) = is.used g there in
+        record {
+          some = is.some g there;
+          rising = subst (IsAscending nat_lt) owners (owners_rise sets k);
+          within = λ n c. in_range (length sets) n (of_owners sets k n (subst (λ (ns : List ℕ). Contains ns n) (sym owners) c)).0;
+        }
+
+    groups_ascend : IsAscending list_less (map ids_of is.groups)
+    groups_ascend = ascending_of_pairs list_less (λ x y. list_less x y ≡ true) (map ids_of is.groups) pairs (λ x y cx cy h. h)
+      where
+        none : Group
+        none = record { ids = []; parts = [] }
+
+        pairs : AllPairs (λ x y. list_less x y ≡ true) (map ids_of is.groups)
+        pairs i j e l m =
+            let size = length-map is.groups ids_of in
+            let at_i = get_or-map ids_of is.groups i none e (omega arith) in
+            let at_j = get_or-map ids_of is.groups j none e (omega arith) in
+            subst (λ (x : List ℕ). list_less x (get_or (map ids_of is.groups) j e) ≡ true) (sym at_i)
+            (subst (λ (y : List ℕ). list_less (get_or is.groups i none).ids y ≡ true) (sym at_j) (is.in_order i j none l (omega arith)))
+
+    shared : (numbers : List ℕ) → Contains (map ids_of is.groups) numbers → Contains (sharing (plane_with d arcs) A region (length sets)) numbers
+    shared numbers c =
+        let (g, there, same) = map-Contains ids_of is.groups numbers c in
+        let (k, below, owners) = is.used g there in
+        let h = listed g there in
+        let some_face : Contains (faces_with g.ids) k = in_faces sets faces.count g.ids k below owners in
+        let is_not : is_empty (plane_with d arcs) A (together g.ids) ≡ false = false_from_ne_true (is_empty (plane_with d arcs) A (together g.ids)) (λ e. Contains-nil k (subst (λ (set : List ℕ). Contains set k) ((empty_together g.ids h).1 e) some_face)) in
+        subst (Contains (sharing (plane_with d arcs) A region (length sets))) same
+        (Contains-filter (λ (L : List ℕ). not (is_empty (plane_with d arcs) A (together L))) (ascending_lists all_below) g.ids (list_is_there all_below (rising_range 0 (length sets)) g.ids h) (ap not is_not))
+
+    grouped : (numbers : List ℕ) → Contains (sharing (plane_with d arcs) A region (length sets)) numbers → Contains (map ids_of is.groups) numbers
+    grouped numbers c =
+        let (in_lists, passes) = filter-Contains (λ (L : List ℕ). not (is_empty (plane_with d arcs) A (together L))) (ascending_lists all_below) numbers c in
+        let h : IsListOf all_below numbers = is_list_of all_below (rising_range 0 (length sets)) numbers in_lists in
+        elim (nil_or_not (faces_with numbers)) [
+          | inl none ↦ (let e = (empty_together numbers h).0 none in let clash : false ≡ true = ap not (sym e) ∙ passes in absurd (cc))
+          | inr some ↦ (
+              let (k, has) = first_of (faces_with numbers) some in
+              let (below, owners) = of_faces sets faces.count numbers k has in
+              let (g, there, ids_are) = is.all k below (λ e. h.some (sym owners ∙ e)) in
+              subst (Contains (map ids_of is.groups)) (ids_are ∙ owners) (Contains-map ids_of is.groups g there))
+        ]
+
+    pub lists_are : map ids_of is.groups ≡ sharing (plane_with d arcs) A region (length sets)
+    lists_are =
+        one_ascending list_less list_order (map ids_of is.groups) (sharing (plane_with d arcs) A region (length sets)) groups_ascend
+        (filter_ascends list_less (λ (L : List ℕ). not (is_empty (plane_with d arcs) A (together L))) (ascending_lists all_below) (lists_ascend all_below (rising_range 0 (length sets))))
+        shared grouped
+
+    abbrev pieces_of : List ℕ → List Region
+    pieces_of numbers = parts_of A (together numbers)
+
+    group_follows : ((numbers : List ℕ) (j : ℕ) → (j < A.parts (together numbers)) ↔ HasSome (plane_with d arcs) (part (together numbers) j)) → (g : Group) → Contains is.groups g → FollowInOrder (snapped d) arcs label g.parts (pieces_of g.ids)
+    group_follows counted g there =
+        let h = listed g there in
+        parts_in_order d arcs faces label walked (faces_with g.ids) (inner_together g.ids h) (together g.ids) (follow_together g.ids h) A (counted g.ids) g.parts (is.parts g there)
+
+    pub told : ((numbers : List ℕ) (j : ℕ) → (j < A.parts (together numbers)) ↔ HasSome (plane_with d arcs) (part (together numbers) j)) →
+        (map (λ (item : MosaicItem). item.ids) items ≡ map (λ (m : List ℕ × Region). m.0) (mosaic (plane_with d arcs) A region (length sets)))
+        × FollowInOrder (snapped d) arcs label (map (λ (item : MosaicItem). item.set) items) (map (λ (m : List ℕ × Region). m.1) (mosaic (plane_with d arcs) A region (length sets)))
+    told counted =
+        let groups_are = group_follows counted in (
+          ap (λ (all : List MosaicItem). map numbers_in all) is.listed
+          ∙ all_numbers (snapped d) arcs label pieces_of is.groups groups_are
+          ∙ ap (λ (lists : List (List ℕ)). map numbers_of (flat_map (λ (L : List ℕ). map (λ (r : Region). (L, r)) (pieces_of L)) lists)) lists_are,
+          from_zip (snapped d) arcs label (map set_in items) (map region_of (mosaic (plane_with d arcs) A region (length sets)))
+          (subst (λ (all : List MosaicItem). AllZip (Follows (snapped d) arcs label) (map set_in all) (map region_of (mosaic (plane_with d arcs) A region (length sets)))) (sym is.listed)
+          (subst (λ (lists : List (List ℕ)). AllZip (Follows (snapped d) arcs label) (map set_in (items_of_groups is.groups)) (map region_of (flat_map (λ (L : List ℕ). map (λ (r : Region). (L, r)) (pieces_of L)) lists))) lists_are
+          (all_sets (snapped d) arcs label pieces_of is.groups groups_are))),
+        )
+
+pub mosaic_as_told : MosaicAsTold
+mosaic_as_told d arcs faces label walked sets inner region each A sides counted items is = told d arcs faces label walked sets inner region each A sides items is counted

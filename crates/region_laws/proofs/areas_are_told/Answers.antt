@@ -1,0 +1,6 @@
+-- The law is proved by itself.
+use Rattle.region_laws.proofs.Answered.{areas_are_told}
+use Rattle.region_laws.proofs.areas_are_told.Goals as goal
+
+pub returns : goal.returns
+returns c = areas_are_told

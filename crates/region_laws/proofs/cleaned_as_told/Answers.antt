@@ -1,0 +1,6 @@
+-- The law is proved by itself.
+use Rattle.region_laws.proofs.Answered.{cleaned_as_told}
+use Rattle.region_laws.proofs.cleaned_as_told.Goals as goal
+
+pub returns : goal.returns
+returns c = cleaned_as_told

@@ -1,0 +1,6 @@
+-- The law is proved by itself.
+use Rattle.region_laws.proofs.Answered.{emptiness_is_told}
+use Rattle.region_laws.proofs.emptiness_is_told.Goals as goal
+
+pub returns : goal.returns
+returns c = emptiness_is_told

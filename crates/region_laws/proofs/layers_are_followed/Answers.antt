@@ -1,0 +1,6 @@
+-- The law is proved by itself.
+use Rattle.region_laws.proofs.Answered.{layers_are_followed}
+use Rattle.region_laws.proofs.layers_are_followed.Goals as goal
+
+pub returns : goal.returns
+returns c = layers_are_followed

@@ -1,0 +1,6 @@
+-- The law is proved by itself.
+use Rattle.region_laws.proofs.Fitting.{traces_fit}
+use Rattle.region_laws.proofs.traces_fit.Goals as goal
+
+pub returns : goal.returns
+returns c = traces_fit

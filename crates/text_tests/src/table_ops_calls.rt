@@ -1,0 +1,193 @@
+//! Calls of `table_ops`.
+//!
+//! A table is its comma-separated text, whose column `code` has texts; a table in an answer too. Each call may answer
+//! the fault instead.
+//!
+//! - `join_tables` takes the target, the source, the expression that tests rows of the source, what stands before the
+//!   names of copied columns, and `force` where they take the place of columns of their name. The key is `code`.
+//! - `filter_rows` takes a table, an expression, and `invert` where the rows for which it is false stay; it answers the
+//!   numbers of those that stay.
+//! - `group_rows` takes a table; groups have `code` in common, `n` of the first row, and the sum of `pop`.
+//! - `split_rows` takes a table and a column; it answers the numbers of each piece's rows, a line each.
+//! - `rename_fields` takes a table and pairs of a column's new name and its name.
+//! - `keep_fields` takes a table, the names of columns that stay, and an expression; it answers those columns, of the
+//!   rows for which the expression is true.
+//! - `merge_tables` takes a list of tables, and `force` where their columns may differ.
+use case_lists::{bytes_at, list_at, names_at, text_at, told, unknown_call};
+use csv_io::{Room2, read_csv, write_csv};
+use expr_lang::Expr;
+use io_core::{Bytes, NameList, Text};
+use json_read::{Json, Table};
+use std::alloc::{AllocError, Global};
+use std::fmt::Debug;
+use table_ops::{
+    TableFault, TableList, filter_rows, group_rows, join_tables, keep_fields, merge_tables,
+    rename_fields, split_rows, take_rows,
+};
+use table_terms::{GroupSpec, JoinSpec, Rename, RenameList};
+
+/// What ends a call before its answer: a fault, as it is told, or memory.
+#[derive(Drop)]
+enum Stop {
+    Told(Bytes),
+    Memory,
+}
+
+impl From<AllocError> for Stop {
+    fn from(_: AllocError) -> Stop {
+        Stop::Memory
+    }
+}
+
+fn stop_at<T: Debug>(alloc: Global, fault: &T) -> Stop {
+    match told(alloc, fault) {
+        Ok(text) => Stop::Told(text),
+        Err(_) => Stop::Memory,
+    }
+}
+
+pub fn answer(alloc: Global, call: &str, case: &[Json]) -> Result<Bytes, AllocError> {
+    let answered = match call {
+        "join_tables" => joined(alloc, case),
+        "filter_rows" => filtered(alloc, case),
+        "group_rows" => grouped(alloc, case),
+        "split_rows" => split(alloc, case),
+        "rename_fields" => renamed(alloc, case),
+        "keep_fields" => kept(alloc, case),
+        "merge_tables" => merged(alloc, case),
+        _ => return unknown_call(alloc),
+    };
+    match answered {
+        Ok(bytes) => Ok(bytes),
+        Err(Stop::Told(bytes)) => Ok(bytes),
+        Err(Stop::Memory) => Err(AllocError),
+    }
+}
+
+fn one_name(alloc: Global, name: &str) -> Result<NameList, AllocError> {
+    let mut names = NameList::new(alloc);
+    names.push(Text::of(alloc, name)?)?;
+    Ok(names)
+}
+
+fn table_at(alloc: Global, case: &[Json], place: usize) -> Result<Table, Stop> {
+    let text = bytes_at(alloc, case, place)?;
+    let texts = one_name(alloc, "code")?;
+    match read_csv(alloc, &text, &texts, Room2 { rows: 9 }) {
+        Ok(table) => Ok(table),
+        Err(fault) => Err(stop_at(alloc, &fault)),
+    }
+}
+
+fn expression_at(alloc: Global, case: &[Json], place: usize) -> Result<Expr, Stop> {
+    match Expr::parse(alloc, text_at(case, place)) {
+        Ok(expression) => Ok(expression),
+        Err(fault) => Err(stop_at(alloc, &fault)),
+    }
+}
+
+fn written(alloc: Global, table: &Result<Table, TableFault>) -> Result<Bytes, Stop> {
+    match table {
+        Ok(table) => Ok(write_csv(alloc, table)?),
+        Err(fault) => Err(stop_at(alloc, fault)),
+    }
+}
+
+fn joined(alloc: Global, case: &[Json]) -> Result<Bytes, Stop> {
+    let target = table_at(alloc, case, 0)?;
+    let source = table_at(alloc, case, 1)?;
+    let test = expression_at(alloc, case, 2)?;
+    let spec = JoinSpec {
+        target_key: Text::of(alloc, "code")?,
+        source_key: Text::of(alloc, "code")?,
+        fields: None,
+        force: text_at(case, 4) == "force",
+        test: Some(test),
+        prefix: Text::of(alloc, text_at(case, 3))?,
+    };
+    written(alloc, &join_tables(alloc, &target, &source, &spec))
+}
+
+fn filtered(alloc: Global, case: &[Json]) -> Result<Bytes, Stop> {
+    let table = table_at(alloc, case, 0)?;
+    let test = expression_at(alloc, case, 1)?;
+    match filter_rows(alloc, &table, &test, text_at(case, 2) == "invert") {
+        Ok(rows) => Ok(told(alloc, &rows.as_slice())?),
+        Err(fault) => Err(stop_at(alloc, &fault)),
+    }
+}
+
+fn grouped(alloc: Global, case: &[Json]) -> Result<Bytes, Stop> {
+    let table = table_at(alloc, case, 0)?;
+    let spec = GroupSpec {
+        by: one_name(alloc, "code")?,
+        copy: one_name(alloc, "n")?,
+        sum: one_name(alloc, "pop")?,
+    };
+    match group_rows(alloc, &table, &spec) {
+        Ok(groups) => Ok(write_csv(alloc, &groups.table)?),
+        Err(fault) => Err(stop_at(alloc, &fault)),
+    }
+}
+
+fn split(alloc: Global, case: &[Json]) -> Result<Bytes, Stop> {
+    let table = table_at(alloc, case, 0)?;
+    let pieces = match split_rows(alloc, &table, Some(text_at(case, 1))) {
+        Ok(pieces) => pieces,
+        Err(fault) => return Err(stop_at(alloc, &fault)),
+    };
+    let mut out = Bytes::new(alloc);
+    for piece in pieces.as_slice() {
+        out.extend(told(alloc, &piece.rows.as_slice())?.as_slice())?;
+        out.push(b'\n')?;
+    }
+    Ok(out)
+}
+
+fn renamed(alloc: Global, case: &[Json]) -> Result<Bytes, Stop> {
+    let table = table_at(alloc, case, 0)?;
+    let pairs = renames(alloc, list_at(case, 1))?;
+    written(alloc, &rename_fields(alloc, &table, &pairs))
+}
+
+fn renames(alloc: Global, pairs: &[Json]) -> Result<RenameList, AllocError> {
+    let mut renames = RenameList::new(alloc);
+    for place in 0..pairs.len() {
+        let pair = list_at(pairs, place);
+        let label = Text::of(alloc, text_at(pair, 0))?;
+        let field = Text::of(alloc, text_at(pair, 1))?;
+        renames.push(Rename { label, field })?;
+    }
+    Ok(renames)
+}
+
+fn kept(alloc: Global, case: &[Json]) -> Result<Bytes, Stop> {
+    let table = table_at(alloc, case, 0)?;
+    let names = names_at(alloc, case, 1)?;
+    let test = expression_at(alloc, case, 2)?;
+    let kept = match keep_fields(alloc, &table, &names) {
+        Ok(kept) => kept,
+        Err(fault) => return Err(stop_at(alloc, &fault)),
+    };
+    match filter_rows(alloc, &kept, &test, false) {
+        Ok(rows) => Ok(write_csv(alloc, &take_rows(alloc, &kept, &rows)?)?),
+        Err(fault) => Err(stop_at(alloc, &fault)),
+    }
+}
+
+fn merged(alloc: Global, case: &[Json]) -> Result<Bytes, Stop> {
+    let tables = tables_of(alloc, list_at(case, 0))?;
+    if tables.len() == 0 {
+        return Ok(unknown_call(alloc)?);
+    }
+    let is_forced = text_at(case, 1) == "force";
+    written(alloc, &merge_tables(alloc, &tables, is_forced))
+}
+
+fn tables_of(alloc: Global, texts: &[Json]) -> Result<TableList, Stop> {
+    let mut tables = TableList::new(alloc);
+    for place in 0..texts.len() {
+        tables.push(table_at(alloc, texts, place)?)?;
+    }
+    Ok(tables)
+}
