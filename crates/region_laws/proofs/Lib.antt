@@ -24,3 +24,5 @@ pub mod AscendingLists
 pub mod MosaicTold
 pub mod PartsExist
 pub mod SetsExist
+pub mod Ranking
+pub mod FilledTold

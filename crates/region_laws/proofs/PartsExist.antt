@@ -1,20 +1,20 @@
 -- Each set of faces has parts.
-use Rattle.std.proofs.Common.{◌≡◌, ◌⊎◌, inl, inr, refl, sym, ap, subst, ◌∙◌, arith, ℕ, zero, suc, ◌+◌, ◌*◌, ◌<◌, ◌≤◌, Bool, true, false, cond, ◌&&◌, List, [], ◌∷◌, All, Contains, length, filter, get_or, map, nat_eq, nat_lt}
+use Rattle.std.proofs.Common.{◌≡◌, inl, inr, refl, sym, ap, subst, ◌∙◌, arith, ℕ, suc, ◌+◌, ◌<◌, Bool, true, false, cond, ◌&&◌, List, [], ◌∷◌, All, Contains, length, filter, get_or, map, nat_eq, nat_lt}
 use Rattle.std.specs.Prelude.{◌↔◌}
 use Rattle.std.specs.List.Sorted.{IsStrictlyIncreasing}
 use Rattle.std.proofs.lemmas.Bool.{eq-eqb, eqb-true, lt-ltb, ltb-true}
 use Rattle.std.proofs.lemmas.List.{get_or-map, get_or_default, length-map}
-use Rattle.std.proofs.lemmas.List.Elements.{All-contains, All-contains_itself, All-head, All-tail, Contains-get_or}
+use Rattle.std.proofs.lemmas.List.Elements.{All-head, All-tail, Contains-get_or}
 use Rattle.std.proofs.lemmas.List.Kept.{AllPairs-from_increasing, IsStrictlyIncreasing-filter}
 use Rattle.lists.specs.Lists.{ascending, has}
-use Rattle.lists.proofs.Ascending.{Contains-ascending, IsAscending, ascending-Contains, ascending-IsAscending}
+use Rattle.lists.proofs.Ascending.{Contains-ascending, ascending-Contains, ascending-IsAscending}
 use Rattle.lists.proofs.Members.{Contains-cases, Contains-filter, Contains-map, Contains-nil, filter-Contains, map-Contains}
 use Rattle.plane_model.specs.Points.{Path}
 use Rattle.plane_model.specs.Arcs.{SignedArc}
 use Rattle.plane_faces.specs.Labels.{relabel}
 use Rattle.face_walk.specs.Places.{FaceTable, HasArc, IsBuiltOf, face_left_of, signed_below}
-use Rattle.ring_trace.specs.Boundary.{IsLeastArc, IsOnBoundary, boundary, face_right_of, is_outward, other_way}
-use Rattle.ring_trace.specs.Joined.{AreJoined, AreParts, IsChain, LeadsOver}
+use Rattle.ring_trace.specs.Boundary.{IsLeastArc, IsOnBoundary, boundary, face_right_of, is_outward}
+use Rattle.ring_trace.specs.Joined.{AreJoined, AreParts, IsChain}
 use Rattle.ring_trace.specs.Parts.{IsPieceOf}
 use Rattle.ring_trace.proofs.BoundaryLemmas.{Contains_has, arc_below, below_arc, has_Contains, one_place, outward_from, outward_if, same_or_other}
 use Rattle.ring_trace.proofs.JoinedLemmas.{joined_back, joined_itself, joined_on, joined_over}

@@ -1,24 +1,23 @@
 -- Each region of a drawing has a set of inner faces that follows it, and so the answers that commands ask of regions.
-use Rattle.std.proofs.Common.{◌≡◌, ◌⊎◌, inl, inr, refl, sym, ap, subst, ◌∙◌, arith, ℕ, zero, suc, ◌<◌, Bool, true, false, not, Some, List, [], ◌∷◌, All, Contains, length, filter, get_or, map, nat_eq, nat_lt}
-use Rattle.std.specs.Prelude.{◌↔◌, slice_get}
+use Rattle.std.proofs.Common.{◌≡◌, inl, inr, refl, sym, ap, subst, arith, ℕ, zero, suc, ◌<◌, Bool, not, List, [], ◌∷◌, All, Contains, length, filter, get_or, nat_eq, nat_lt}
+use Rattle.std.specs.Prelude.{◌↔◌}
 use Rattle.std.specs.List.{range_with_len}
 use Rattle.std.specs.List.Sorted.{IsStrictlyIncreasing}
 use Rattle.std.proofs.lemmas.Bool.{cases_lt}
-use Rattle.std.proofs.lemmas.List.{get_or_default}
 use Rattle.std.proofs.lemmas.List.Elements.{All-contains, All-cons, All-nil, Contains-get_or}
 use Rattle.std.proofs.lemmas.List.FromFn.{fill_by_all}
 use Rattle.std.proofs.lemmas.Option.{get_or_from_slice_get}
-use Rattle.lists.specs.Lists.{ascending, has, joined_up}
+use Rattle.lists.specs.Lists.{has, joined_up}
 use Rattle.lists.proofs.Ascending.{ascending-Contains, ascending-IsAscending}
 use Rattle.lists.proofs.Members.{Contains-filter, Contains-nil, filter-Contains, joined_up-Contains}
-use Rattle.plane_model.specs.Points.{GridPoint, Segment, Path}
+use Rattle.plane_model.specs.Points.{Segment, Path}
 use Rattle.plane_model.specs.Drawing.{Drawing}
 use Rattle.plane_model.specs.Snapped.{links_of, snapped}
 use Rattle.plane_faces.specs.Places.{Place}
 use Rattle.face_walk.specs.Crossings.{outer_of}
 use Rattle.face_walk.specs.Holders.{AreHolders, HolderTable, list_at}
 use Rattle.face_walk.specs.Places.{FaceTable}
-use Rattle.ring_trace.specs.Gaps.{AreGaps, has_outer, outside_of}
+use Rattle.ring_trace.specs.Gaps.{has_outer, outside_of}
 use Rattle.ring_trace.specs.Joined.{AreParts}
 use Rattle.ring_trace.specs.Sets.{IsInnerFace, IsSetOf}
 use Rattle.ring_trace.proofs.BoundaryLemmas.{Contains_has, has_Contains}
@@ -32,7 +31,7 @@ use Rattle.region_model.specs.Answers.{AreSides, HasSome}
 use Rattle.region_model.specs.PolygonCommands.{regions_at}
 use Rattle.region_laws.specs.Regions.{Follows, FollowEach}
 use Rattle.region_laws.specs.Followed.{HasFacesWith, IsWalked}
-use Rattle.region_laws.specs.Answered.{AnswersExist, RegionsHaveSets, TellRegions, plane_with}
+use Rattle.region_laws.specs.Answered.{AnswersExist, RegionsHaveSets, plane_with}
 use Rattle.region_laws.specs.Gaps.{FollowGaps}
 use Rattle.region_laws.proofs.Answered.{layers_are_followed, parts_are_told, sides_are_told}
 use Rattle.region_laws.proofs.Gaps.{gaps_are_followed}
