@@ -1,5 +1,5 @@
 -- The gaps of a set of faces that a region follows are the gaps of the region, in order.
-use Rattle.std.proofs.Common.{◌≡◌, ◌⊎◌, inl, inr, refl, sym, ap, subst, ◌∙◌, ℕ, ◌<◌, Bool, true, false, not, List, [], All, Contains, filter, length, get_or, nat_eq, nat_lt}
+use Rattle.std.proofs.Common.{◌≡◌, ◌⊎◌, inl, inr, refl, sym, ap, subst, ◌∙◌, arith, ℕ, ◌<◌, Bool, true, false, not, List, [], All, Contains, filter, length, get_or, nat_eq, nat_lt}
 use Rattle.std.specs.Prelude.{◌↔◌}
 use Rattle.std.specs.List.{range_with_len}
 use Rattle.std.proofs.lemmas.Bool.{cases_Bool}
@@ -43,7 +43,7 @@ use Rattle.region_laws.proofs.GapParts.{from_all, kept_parts, part_at, to_all}
 use Rattle.region_laws.proofs.Numbers.{in_range, of_range}
 use Rattle.region_laws.proofs.OffLinks.{off_from_side}
 use Rattle.region_laws.proofs.Outside.{is_out, kept_in, left_to_right, of_out, one_part_joined, out_is_not, right_to_left}
-use Rattle.region_laws.proofs.Parts.{part_followed, some_point, step_of}
+use Rattle.region_laws.proofs.Parts.{in_no_other, part_followed, some_point, step_of}
 use Rattle.region_laws.proofs.Sets.{at_some, some_at}
 use Rattle.region_laws.proofs.Sides.{joined_by_parts, left_belongs, right_belongs, seen_left, seen_right}
 use Rattle.region_laws.proofs.Walked.{arcs_free, label_below as walked_below, labels_faces, links_arranged, links_distinct}
@@ -309,6 +309,14 @@ module _ (S : List Segment) (arr : IsArrangement S) (distinct : IsDistinct S) (a
     λ c. (λ r. outside_of_set (label a) (face_of_gap j (label a) l c) ((follows z off a here).0 r), from_part z off a here j l c j ((followed j l z off a here).1 c).1),
   )
 
+  -- and no others have points
+  pub gap_below : (j : ℕ) (z : RationalPoint) → IsOffLinks S z → (R z → ⊥) × IsInGap S arcs R z j → j < length gaps
+  gap_below j z off (apart, h) =
+      let (a, here) = place_exists S arr z in
+      let (i, l, c) = shut_in_gap z off a here apart h.is_number.bounded in
+      let same : j ≡ i = in_no_other S arr distinct arcs long along free faces built label by labelling shut_faces inner gaps are_parts Q q_follows z off a here i l c j (to_part z off a here i l c j h) in
+      omega arith
+
   pub some_gap_point : (j : ℕ) → j < length gaps → (z : RationalPoint) × IsOffLinks S z × ((R z → ⊥) × IsInGap S arcs R z j)
   some_gap_point j l =
       let (z, off, in_part) = some_point S arr distinct arcs long along free faces built label by labelling shut_faces inner gaps are_parts Q q_follows j l in
@@ -342,6 +350,8 @@ gaps_are_followed d arcs faces label walked sets inner_sets region each are_gaps
           label walked.labelled (labels_faces d arcs faces label walked) (walked_below d arcs faces label walked) (all_faces sets) R follows are.parts are.are_parts j l z off a here;
       some = λ j l. some_gap_point S (links_arranged d) (links_distinct d) arcs walked.table.long walked.table.links (arcs_free d arcs faces label walked) faces walked.built
           label walked.labelled (labels_faces d arcs faces label walked) (walked_below d arcs faces label walked) (all_faces sets) R follows are.parts are.are_parts j l;
+      only = λ j z off h. gap_below S (links_arranged d) (links_distinct d) arcs walked.table.long walked.table.links (arcs_free d arcs faces label walked) faces walked.built
+          label walked.labelled (labels_faces d arcs faces label walked) (walked_below d arcs faces label walked) (all_faces sets) R follows are.parts are.are_parts j z off h;
       all = λ z off apart shut. some_gap S (links_arranged d) (links_distinct d) arcs walked.table.long walked.table.links (arcs_free d arcs faces label walked) faces walked.built
           label walked.labelled (labels_faces d arcs faces label walked) (walked_below d arcs faces label walked) (all_faces sets) R follows are.parts are.are_parts z off apart shut;
     })

@@ -22,3 +22,7 @@ pub mod Answered
 pub mod Fitting
 pub mod AscendingLists
 pub mod MosaicTold
+pub mod PartsExist
+pub mod SetsExist
+pub mod Ranking
+pub mod FilledTold

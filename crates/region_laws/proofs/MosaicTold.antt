@@ -138,7 +138,7 @@ low a (suc n) k c = elim (Contains-cases a (range_with_len (a + 1) n) k c) [
   | inr more ↦ (let l = low (a + 1) n k more in omega arith)
 ]
 
-rising_range : (a n : ℕ) → IsAscending nat_lt (range_with_len a n)
+pub rising_range : (a n : ℕ) → IsAscending nat_lt (range_with_len a n)
 rising_range a zero = tt
 rising_range a (suc n) = (λ y c. lt-ltb a y (let l = low (a + 1) n y c in omega arith), rising_range (a + 1) n)
 

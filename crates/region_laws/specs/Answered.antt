@@ -2,13 +2,14 @@
 use Rattle.std.specs.Prelude.{◌≡◌, ◌↔◌, ℕ, ◌<◌, Bool, true, nat_lt, List, [], All, length, map, slice_index_or}
 use Rattle.std.specs.List.Sorted.{IsStrictlyIncreasing}
 use Rattle.lists.specs.Lists.{ascending, joined_up}
-use Rattle.plane_model.specs.Points.{Segment, Path}
+use Rattle.plane_model.specs.Points.{GridPoint, Segment, Path}
 use Rattle.plane_model.specs.Arcs.{SignedArc}
 use Rattle.plane_model.specs.Drawing.{Drawing}
 use Rattle.plane_model.specs.Snapped.{links_of, snapped}
 use Rattle.plane_faces.specs.Places.{Place}
 use Rattle.grid_base.specs.declared.kinds.OverlapRule.{OverlapRule}
-use Rattle.face_walk.specs.Places.{FaceTable}
+use Rattle.face_walk.specs.Holders.{AreHolders, HolderTable}
+use Rattle.face_walk.specs.Places.{FaceTable, IsBuiltOf}
 use Rattle.ring_trace.specs.Joined.{AreParts}
 use Rattle.ring_trace.specs.Sets.{IsSetOf}
 use Rattle.ring_trace.specs.Traced.{UsesBoundary}
@@ -18,7 +19,7 @@ use Rattle.region_ops.specs.Cleaned.{IsCleaned, area_of}
 use Rattle.region_ops.specs.Exploded.{ArePieces}
 use Rattle.region_ops.specs.Mosaic.{IsMosaic}
 use Rattle.region_ops.specs.declared.item_lists.MosaicItem.{MosaicItem}
-use Rattle.region_model.specs.Region.{Region, any_of, part, Has}
+use Rattle.region_model.specs.Region.{Region, Regions, any_of, gap, part, Has}
 use Rattle.region_model.specs.Answers as answers
 use Rattle.region_model.specs.Answers.{Plane, Answers, AreSides, HasSome, PointsOf, is_empty}
 use Rattle.region_model.specs.PolygonCommands.{cleaned, exactly, exploded, mosaic}
@@ -48,6 +49,26 @@ LayersAreFollowed = (d : Drawing) (arcs : List Path) (label : Place → ℕ) (se
 abbrev pub SidesAreTold : Type 0
 SidesAreTold = (d : Drawing) (arcs : List Path) (faces : FaceTable) (label : Place → ℕ) → IsWalked d arcs faces label → (set : List ℕ) (r : Region) → Follows (snapped d) arcs label set r →
     (left : Segment → Bool) × (right : Segment → Bool) × AreSides (links_of (snapped d)) (Has (snapped d) arcs r) left right
+
+-- each set of faces has parts
+abbrev pub PartsExist : Type 0
+PartsExist = (arcs : List Path) (faces : FaceTable) → IsBuiltOf arcs faces → (set : List ℕ) → IsStrictlyIncreasing set → (parts : List (List ℕ)) × AreParts faces set parts
+
+-- each region of a drawing, whatever it is made of, has a set of inner faces that follows it
+abbrev pub RegionsHaveSets : Type 0
+RegionsHaveSets = (d : Drawing) (arcs : List Path) (faces : FaceTable) (label : Place → ℕ) → IsWalked d arcs faces label → (labels : HolderTable) → AreHolders arcs (snapped d) faces labels →
+    (r : Region) → (set : List ℕ) × IsStrictlyIncreasing set × IsSetOf faces set × Follows (snapped d) arcs label set r
+
+-- the answers on sides, parts and gaps are right, for all regions
+pub record TellRegions (P : Plane) (A : Answers) : Type 0 where
+  pub sides : (r : Region) → TellSides P A r
+  pub parts : (r : Region) (j : ℕ) → (j < A.parts r) ↔ HasSome P (part r j)
+  pub gaps : (rs : Regions) (j : ℕ) → (j < A.gaps rs) ↔ HasSome P (gap rs j)
+
+-- so there are such answers, whatever is answered of vertices
+abbrev pub AnswersExist : Type 0
+AnswersExist = (d : Drawing) (arcs : List Path) (faces : FaceTable) (label : Place → ℕ) → IsWalked d arcs faces label → (labels : HolderTable) → AreHolders arcs (snapped d) faces labels →
+    (inside : Region → GridPoint → Bool) → (A : Answers) × (A.inside ≡ inside) × TellRegions (plane_with d arcs) A
 
 -- where they are told, a set has no faces exactly if its region is empty
 abbrev pub EmptinessIsTold : Type 0

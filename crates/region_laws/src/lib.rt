@@ -7,17 +7,19 @@
 //!   of inner faces follows a region (`one_set_follows`).
 //! - So it is after each command: `clipped_sets_are_followed`, `erased_sets_are_followed`, `dissolved_sets_are_followed`,
 //!   `cleaned_by_regions`, `mosaics_are_followed`, `exploded_sets_are_followed`. The gaps of sets follow those between
-//!   their regions (`gaps_are_followed`).
+//!   their regions (`gaps_are_followed`), and what clean makes with them its definition (`filled_as_told`).
 //! - What is traced for a set prints its region: the rings use each step of the region's boundary once, and hold just its
 //!   points (`traces_use_boundaries`, `traces_print_regions`), part by part (`polygons_print_parts`).
 //! - What commands ask of regions is answered from the sets: which sides of links belong to a region, whether it is empty,
 //!   its area and its parts (`sides_are_told`, `emptiness_is_told`, `areas_are_told`, `parts_are_told`).
+//! - Each region has a set of inner faces that follows it (`regions_have_sets`), so right answers on sides, parts and gaps
+//!   exist (`answers_exist`).
 //!
 //! Each function carries one law in its contract, and does nothing. Regions are those of `region_model`; the laws are stated
 //! in `specs/Followed.antt`, `specs/Gaps.antt`, `specs/Printed.antt`, `specs/Ties.antt` and `specs/Answered.antt`.
 #![tactic(auto)]
 
-ghost use Rattle.region_laws.specs.Answered.{AreasAreTold, CleanedAsTold, EmptinessIsTold, ExplodedAsTold, LayersAreFollowed, MosaicAsTold, PartsAreTold, SidesAreTold, TracesFit};
+ghost use Rattle.region_laws.specs.Answered.{AnswersExist, AreasAreTold, CleanedAsTold, EmptinessIsTold, ExplodedAsTold, LayersAreFollowed, MosaicAsTold, PartsAreTold, PartsExist, RegionsHaveSets, SidesAreTold, TracesFit};
 ghost use Rattle.region_laws.specs.Followed.{
   AreasAreThoseOfRegions,
   BoxesAreFollowed,
@@ -34,7 +36,7 @@ ghost use Rattle.region_laws.specs.Followed.{
   RemaindersAreFollowed,
   UnionsAreFollowed,
 };
-ghost use Rattle.region_laws.specs.Gaps.{GapsAreFollowed};
+ghost use Rattle.region_laws.specs.Gaps.{FilledAsTold, GapsAreFollowed};
 ghost use Rattle.region_laws.specs.Printed.{PolygonsPrintParts, PolygonsUseBoundaries, TracesPrintRegions, TracesUseBoundaries};
 ghost use Rattle.region_laws.specs.Ties.{CleanedByRegions, EmptySetsAreEmptyRegions, OneSetFollows, SetsAreOfSides};
 
@@ -95,6 +97,12 @@ pub fn parts_are_followed()
 /// its points is left of all links, and gaps are numbered by the least arcs in their boundaries.
 pub fn gaps_are_followed()
     ensures { GapsAreFollowed }
+{}
+
+/// The sets that `clean_sets` answers where it fills gaps follow what clean with gaps makes of the regions: what is left of
+/// each when overlaps are given away, with the filled gaps that go to it.
+pub fn filled_as_told()
+    ensures { FilledAsTold }
 {}
 
 /// The items that `explode_sets` answers follow the parts of the regions, region by region; an empty region stays one item.
@@ -171,6 +179,21 @@ pub fn layers_are_followed()
 /// Which sides of links belong to the region of a set can be told.
 pub fn sides_are_told()
     ensures { SidesAreTold }
+{}
+
+/// Each set of faces has parts.
+pub fn parts_exist()
+    ensures { PartsExist }
+{}
+
+/// Each region of a drawing, whatever it is made of, has a set of inner faces that follows it.
+pub fn regions_have_sets()
+    ensures { RegionsHaveSets }
+{}
+
+/// So right answers on the sides, the parts and the gaps of all regions exist.
+pub fn answers_exist()
+    ensures { AnswersExist }
 {}
 
 /// A set has no faces exactly if its region is empty, as commands ask: its boundary has no links.

@@ -1,0 +1,6 @@
+-- The law is proved by itself.
+use Rattle.region_laws.proofs.SetsExist.{regions_have_sets}
+use Rattle.region_laws.proofs.regions_have_sets.Goals as goal
+
+pub returns : goal.returns
+returns c = regions_have_sets
