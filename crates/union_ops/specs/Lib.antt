@@ -1,0 +1,4 @@
+pub mod Choices
+pub mod Union
+pub mod ColumnNames
+pub mod UnionTable

@@ -1,0 +1,125 @@
+-- The union of layers: the parts of the faces that have one choice.
+use Rattle.std.specs.Prelude.{◌≡◌, ℕ, ◌<◌, ◌≤◌, Bool, true, false, nat_lt, List, [], ◌++◌, All, AllPairs, Contains, filter, length, map, slice_index, slice_index_or, take}
+use Rattle.std.specs.List.{flat_map, range_with_len}
+use Rattle.lists.specs.Lists.{ascending}
+use Rattle.face_walk.specs.Places.{FaceTable}
+use Rattle.ring_trace.specs.Joined.{AreParts}
+use Rattle.ring_trace.specs.Sets.{IsInnerFace, IsSetOf}
+use Rattle.union_ops.specs.Choices.{Choice, choice_of, has_number, same_choice, choice_before, IsChoiceFrom}
+use Rattle.union_ops.specs.declared.union_lists.UnionItem.{UnionItem}
+
+-- of so many faces, those with the choice
+abbrev pub faces_of : List (List (List ℕ)) → ℕ → Choice → List ℕ
+faces_of layers count choice = filter (λ (k : ℕ). same_choice (choice_of layers k) choice) (range_with_len 0 count)
+
+-- a choice, and the parts of the faces that have it
+pub record Group : Type 0 where
+  pub choice : Choice
+  pub parts : List (List ℕ)
+
+-- an item for each part, with the choice
+abbrev pub items_of : Choice → List (List ℕ) → List UnionItem
+items_of choice parts = map (λ (part : List ℕ). record { choice = choice; set = part }) parts
+
+abbrev pub items_of_groups : List Group → List UnionItem
+items_of_groups groups = flat_map (λ (g : Group). items_of g.choice g.parts) groups
+
+-- the choices of the groups ascend
+abbrev pub AreAscending : List Group → Type 0
+AreAscending groups = AllPairs (λ (g h : Group). choice_before g.choice h.choice ≡ true) groups
+
+-- Each choice that some face has and that has a number, in lexicographic order, none after every number; and for each the parts of all faces with that choice, in order.
+pub record IsUnion (faces : FaceTable) (layers : List (List (List ℕ))) (items : List UnionItem) : Type 0 where
+  pub groups : List Group
+  pub in_order : AreAscending groups
+  pub some : (g : Group) → Contains groups g → has_number g.choice ≡ true
+  pub used : (g : Group) → Contains groups g → (k : ℕ) × (k < faces.count) × (choice_of layers k ≡ g.choice)
+  pub all : (k : ℕ) → k < faces.count → has_number (choice_of layers k) ≡ true → (g : Group) × Contains groups g × (g.choice ≡ choice_of layers k)
+  pub parts : (g : Group) → Contains groups g → AreParts faces (faces_of layers faces.count g.choice) g.parts
+  pub listed : items ≡ items_of_groups groups
+
+-- ---- laws
+
+-- no face is in both
+abbrev pub AreApart : UnionItem → UnionItem → Type 0
+AreApart a b = (k : ℕ) → Contains a.set k → Contains b.set k → ⊥
+
+-- some set of some layer has the face
+pub record IsHeld (layers : List (List (List ℕ))) (k : ℕ) : Type 0 where
+  pub layer : List (List ℕ)
+  pub set : List ℕ
+  pub of_the_layers : Contains layers layer
+  pub of_the_layer : Contains layer set
+  pub has : Contains set k
+
+-- each face that some set has is in one item, and no face is in two
+pub record CoverOnce (layers : List (List (List ℕ))) (items : List UnionItem) : Type 0 where
+  pub covered : (k : ℕ) → IsHeld layers k → (a : UnionItem) × Contains items a × Contains a.set k
+  pub once : AllPairs AreApart items
+
+-- inner faces, all with the item's choice, which is from the sets of the layers and has a number
+pub record IsItemOf (faces : FaceTable) (layers : List (List (List ℕ))) (item : UnionItem) : Type 0 where
+  pub inner : IsSetOf faces item.set
+  pub alike : All (λ k. choice_of layers k ≡ item.choice) item.set
+  pub some : has_number item.choice ≡ true
+  pub from : IsChoiceFrom (map (λ (sets : List (List ℕ)). length sets) layers) item.choice
+
+-- ---- on the way, by choices for the faces
+
+-- the choice of a face is this one; it has a number
+abbrev pub HasChoice : List Choice → Choice → ℕ → Type 0
+HasChoice choices choice k = slice_index_or choices k [] ≡ choice
+
+abbrev pub IsChosen : List Choice → ℕ → Type 0
+IsChosen choices k = has_number (slice_index_or choices k []) ≡ true
+
+-- an inner face with a choice that has a number; all such faces are there
+pub record IsChosenInside (faces : FaceTable) (choices : List Choice) (k : ℕ) : Type 0 where
+  pub inner : IsInnerFace faces k
+  pub chosen : IsChosen choices k
+
+abbrev pub HasAllChosen : FaceTable → List Choice → List ℕ → Type 0
+HasAllChosen faces choices chosen = (k : ℕ) → IsChosenInside faces choices k → Contains chosen k
+
+-- the choice of one face comes before that of another
+abbrev pub comes_before : List Choice → ℕ → ℕ → Bool
+comes_before choices j k = choice_before (slice_index_or choices j []) (slice_index_or choices k [])
+
+-- along the faces their choices do not fall
+abbrev pub AreByChoice : List Choice → List ℕ → Type 0
+AreByChoice choices chosen = (i j : ℕ) → i ≤ j → j < length chosen → comes_before choices (slice_index chosen j) (slice_index chosen i) ≡ false
+
+-- the faces before a place have lesser choices than the one there; or one of them has the same
+abbrev pub BeginsChoice : List Choice → List ℕ → ℕ → Type 0
+BeginsChoice choices chosen i = (k : ℕ) → Contains (take i chosen) k → comes_before choices k (slice_index chosen i) ≡ true
+
+abbrev pub GoesOnChoice : List Choice → List ℕ → ℕ → Type 0
+GoesOnChoice choices chosen i = (k : ℕ) × Contains (take i chosen) k × HasChoice choices (slice_index_or choices (slice_index chosen i) []) k
+
+-- the faces from one place to another have the choice, and those after them have not
+pub record IsChoiceRun (choices : List Choice) (chosen : List ℕ) (choice : Choice) (first end : ℕ) : Type 0 where
+  pub within : end ≤ length chosen
+  pub inside : (k : ℕ) → first ≤ k → k < end → HasChoice choices choice (slice_index chosen k)
+  pub beyond : (k : ℕ) → end ≤ k → k < length chosen → HasChoice choices choice (slice_index chosen k) → ⊥
+
+-- those of the faces that have the choice
+abbrev pub has_choice : List Choice → Choice → ℕ → Bool
+has_choice choices choice k = same_choice (slice_index_or choices k []) choice
+
+abbrev pub faces_with : List Choice → Choice → List ℕ → List ℕ
+faces_with choices choice chosen = ascending nat_lt (filter (has_choice choices choice) chosen)
+
+-- the items of the parts of a set of faces put behind others
+pub record IsGroupPushed (faces : FaceTable) (choice : Choice) (set : List ℕ) (old new : List UnionItem) : Type 0 where
+  pub parts : List (List ℕ)
+  pub are : AreParts faces set parts
+  pub items : new ≡ old ++ items_of choice parts
+
+-- the items of the choices of some of the faces
+pub record AreGrouped (faces : FaceTable) (choices : List Choice) (chosen some : List ℕ) (items : List UnionItem) : Type 0 where
+  pub groups : List Group
+  pub in_order : AreAscending groups
+  pub used : (g : Group) → Contains groups g → (k : ℕ) × Contains some k × HasChoice choices g.choice k
+  pub reached : (k : ℕ) → Contains some k → (g : Group) × Contains groups g × (g.choice ≡ slice_index_or choices k [])
+  pub parts : (g : Group) → Contains groups g → AreParts faces (faces_with choices g.choice chosen) g.parts
+  pub listed : items ≡ items_of_groups groups
