@@ -3,10 +3,12 @@
 //! What tables then give is in `table_ops`; the words of a command line become these terms in `cmd_words`.
 #![tactic(auto)]
 
+mod calculations;
 mod names;
 mod renames;
 mod specifications;
 
+pub use calculations::{Calc, CalcList, CalcSpec};
 pub use names::NameSet;
 pub use renames::{Rename, RenameList};
 pub use specifications::{GroupSpec, JoinSpec};
