@@ -2,7 +2,7 @@ use crate::chain_lists::{CommandList, SourceList};
 use expr_lang::{AssignList, Expr};
 use grid_base::{BoxList, OverlapRule};
 use io_core::{NameList, Text};
-use table_terms::{GroupSpec, JoinSpec, RenameList};
+use table_terms::{CalcSpec, GroupSpec, JoinSpec, RenameList};
 
 /// What a command line asks for.
 #[derive(Drop)]
@@ -125,6 +125,10 @@ pub enum LayerAction {
         from: Origin,
         spec: JoinSpec,
     },
+    SpatialJoin {
+        from: Origin,
+        spec: CalcSpec,
+    },
     Filter {
         test: Option<Expr>,
         invert: bool,
@@ -165,4 +169,5 @@ pub enum LayerAction {
 #[derive(Drop)]
 pub enum JointAction {
     MergeLayers { force: bool },
+    Union,
 }

@@ -9,6 +9,8 @@ pub enum RefuseWhy {
     ManyLayers,
     /// The command takes no layers of this kind.
     WrongKind,
+    /// One layer stands where several are needed.
+    OneLayer,
     /// Points are dissolved without `group-points`.
     NoGroupPoints,
     /// Two layers of a topology would have one name.
