@@ -39,8 +39,10 @@ use Rattle.region_model.specs.Region.{Region}
 use Rattle.region_model.specs.Answers.{Plane, Answers, is_nil}
 use Rattle.region_model.specs.PolygonCommands as polygon
 use Rattle.region_model.specs.LineCommands as line
+use Rattle.region_model.specs.UnionCommand.{Choice, united}
 use Rattle.region_model.specs.LineCommands.{SidedArc}
-use Rattle.chain_model.specs.Outcome.{RefuseWhy, no_group_points, in_table}
+use Rattle.chain_model.specs.Outcome.{RefuseWhy, lone_layer, no_group_points, in_table}
+use Rattle.chain_model.specs.UnionTable.{union_table}
 use Rattle.chain_model.specs.State.{StateLayer, Shape, region, paths, points, no_shape, paths_of, points_of, shape_at, region_at, regions_in, take_features, without_empty}
 
 -- the output layers, or a refusal
@@ -240,3 +242,17 @@ abbrev pub merged_layers : Bool → List StateLayer → Result (List (List State
 merged_layers force [] = Ok []
 merged_layers force (l ∷ ls) = on_ok (in_layer (merge_tables (map (λ (m : StateLayer). m.table) (l ∷ ls)) force)) (λ (t : TableContent).
     Ok ((record l { table = t; shapes = flat_map (λ (m : StateLayer). m.shapes) (l ∷ ls) } ∷ []) ∷ map (λ (m : StateLayer). []) ls))
+
+-- the union, in a layer like the first; nothing for the others, and one layer alone is refused
+abbrev pub united_layer : Plane → Answers → List StateLayer → StateLayer → StateLayer
+united_layer P A ls l =
+    let pieces : List (Choice × Region) = united P A (map regions_in ls) in
+    record l {
+      table = union_table (map (λ (m : StateLayer). m.table) ls) (map (λ (f : Choice × Region). f.0) pieces);
+      shapes = map (λ (f : Choice × Region). region f.1) pieces;
+    }
+
+abbrev pub united_layers : Plane → Answers → List StateLayer → Result (List (List StateLayer)) RefuseWhy
+united_layers P A [] = Ok []
+united_layers P A (l ∷ []) = Err lone_layer
+united_layers P A (l ∷ m ∷ ls) = Ok ((united_layer P A (l ∷ m ∷ ls) l ∷ []) ∷ map (λ (k : StateLayer). []) (m ∷ ls))

@@ -54,6 +54,7 @@ takes (action.Each each.Explode) first k = has_geometry k
 takes (action.Each (each.Filter test invert remove_empty)) first k = not remove_empty || has_geometry k
 takes (action.Each (each.FilterIslands least_area least_links remove_empty)) first k = is_polygon k
 takes (action.Together (joint.MergeLayers force)) first k = same_kind first k
+takes (action.Together joint.Union) first k = is_polygon k
 takes _ first k = true
 
 -- ---- outputs
@@ -78,6 +79,7 @@ outputs_of P A sources s (action.Each each.InnerLines) ls = each_layer (Features
 outputs_of P A sources s (action.Each (each.Lines fields)) ls = each_layer (Features.lines_layer P A fields) ls
 outputs_of P A sources s (action.Each each.Explode) ls = each_layer (Features.explode_layer P A) ls
 outputs_of P A sources s (action.Each (each.Join o spec)) ls = on_ok (one_layer (origin_layers sources s o)) (λ (l : StateLayer). each_layer (Features.join_layer l spec) ls)
+outputs_of P A sources s (action.Each (each.SpatialJoin o spec)) ls = Err wrong_kind
 outputs_of P A sources s (action.Each (each.Filter test invert remove_empty)) ls = each_layer (Features.filter_layer P A test invert remove_empty) ls
 outputs_of P A sources s (action.Each (each.FilterFields fields)) ls = each_layer (Features.filter_fields_layer fields) ls
 outputs_of P A sources s (action.Each (each.RenameFields pairs)) ls = each_layer (Features.rename_fields_layer pairs) ls
@@ -87,6 +89,7 @@ outputs_of P A sources s (action.Each (each.Sort key descending)) ls = each_laye
 outputs_of P A sources s (action.Each (each.Uniq key most invert)) ls = each_layer (Features.uniq_layer key most invert) ls
 outputs_of P A sources s (action.Each (each.FilterIslands least_area least_links remove_empty)) ls = each_layer (Features.islands_layer P A least_area least_links remove_empty) ls
 outputs_of P A sources s (action.Together (joint.MergeLayers force)) ls = Features.merged_layers force ls
+outputs_of P A sources s (action.Together joint.Union) ls = Features.united_layers P A ls
 outputs_of P A sources s (action.Write to standard form) ls = Ok []
 
 -- ---- refusals: the source, then the kinds of the targets, then the layers one by one, then too many layers

@@ -2,7 +2,7 @@ mod Drawings
 mod PolygonRows
 mod LineRows
 mod GapRows
-mod LaterRows
+mod UnionRows
 mod RunRows
 mod CommandRows
 mod RingRow

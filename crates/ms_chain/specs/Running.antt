@@ -107,7 +107,7 @@ pub record GoesOnChanging (refusal : Option RefuseWhy) (Changes : Type 0) (befor
 abbrev pub GoesOn : Base → Command → Action → List Held → List Held → OutsideSeen → OutsideSeen → Type 0
 GoesOn base c (action.Write to standard form) layers layers' before after = GoesOnWriting base c form standard to layers layers' before after
 GoesOn base c (action.Each a) layers layers' before after = GoesOnChanging (refusal_each base layers c a) (ChangesEach base c a layers layers') before after
-GoesOn base c (action.Together a) layers layers' before after = GoesOnChanging (refusal_together layers c a) (ChangesTogether c a layers layers') before after
+GoesOn base c (action.Together a) layers layers' before after = GoesOnChanging (refusal_together layers c a) (ChangesTogether base c a layers layers') before after
 
 -- its target is there
 pub record Passes (base : Base) (c : Command) (layers layers' : List Held) (before after : OutsideSeen) : Type 0 where

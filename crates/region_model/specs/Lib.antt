@@ -3,4 +3,4 @@ pub mod Answers
 pub mod LineCommands
 pub mod PolygonCommands
 pub mod Printed
-pub mod LaterCommands
+pub mod UnionCommand

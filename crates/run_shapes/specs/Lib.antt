@@ -5,3 +5,4 @@ pub mod Dissolving
 pub mod Exploding
 pub mod FaceSets
 pub mod Islands
+pub mod Uniting

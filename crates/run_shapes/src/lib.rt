@@ -2,7 +2,7 @@
 //!
 //! 1. `face_sets` has the sets of faces of a layer, and those that `-clip` and `-erase` cut by.
 //! 2. `cutting` is `-clip` and `-erase`, `cleaning` is `-clean` and `-mosaic`, `dissolving` is `-dissolve`, `exploding` is
-//!    `-explode`, `islands` is `-filter-islands`, `borders` is `-innerlines` and `-lines`.
+//!    `-explode`, `islands` is `-filter-islands`, `borders` is `-innerlines` and `-lines`, `uniting` is `-union`.
 #![tactic(auto)]
 
 mod borders;
@@ -13,6 +13,7 @@ mod exploding;
 mod face_sets;
 mod islands;
 mod paths;
+mod uniting;
 
 pub use borders::{inner_lines, outlines};
 pub use cleaning::{cleaned, mosaic};
@@ -21,3 +22,4 @@ pub use dissolving::dissolved;
 pub use exploding::exploded;
 pub use face_sets::{area_of, sets_of, shapes_of, union_of};
 pub use islands::without_islands;
+pub use uniting::united;

@@ -39,15 +39,15 @@ module _ (base : Base) (layers seen : List Held) (c : Command) (outputs : List (
       let no = subst (λ (ls : List Held). refused_in (refused_layer base ls a) (targets c.target ls) ≡ None) same none in
       stops_counted (refused_in (refused_layer base layers a) (targets c.target layers)) (length (placed c layers outputs)) (stay_count c layers + sum_by (output_count a) (targets c.target layers)) s no (left_by_each base layers c a outputs put) stops
 
-module _ (layers seen : List Held) (c : Command) (outputs : List (List Layer)) (same : seen ≡ layers) (a : JointAction) where
-  pub together_goes : PutsTogether c a seen outputs → refused_together a (targets c.target seen) ≡ None → refused_count (length (placed c layers outputs)) ≡ None → failed_together layers c a ≡ None
+module _ (base : Base) (layers seen : List Held) (c : Command) (outputs : List (List Layer)) (same : seen ≡ layers) (a : JointAction) where
+  pub together_goes : PutsTogether base c a seen outputs → refused_together a (targets c.target seen) ≡ None → refused_count (length (placed c layers outputs)) ≡ None → failed_together layers c a ≡ None
   together_goes puts none few =
-      let put = subst (λ (ls : List Held). PutsTogether c a ls outputs) same puts in
+      let put = subst (λ (ls : List Held). PutsTogether base c a ls outputs) same puts in
       let no = subst (λ (ls : List Held). refused_together a (targets c.target ls) ≡ None) same none in
-      goes_counted (refused_together a (targets c.target layers)) (length (placed c layers outputs)) (stay_count c layers + 1) no (left_together layers c a outputs put) few
+      goes_counted (refused_together a (targets c.target layers)) (length (placed c layers outputs)) (stay_count c layers + 1) no (left_together base layers c a outputs put) few
 
-  pub together_stops : (s : CommandStop) → PutsTogether c a seen outputs → refused_together a (targets c.target seen) ≡ None → StopsFor (refused_count (length (placed c layers outputs))) s → StopsFor (failed_together layers c a) s
+  pub together_stops : (s : CommandStop) → PutsTogether base c a seen outputs → refused_together a (targets c.target seen) ≡ None → StopsFor (refused_count (length (placed c layers outputs))) s → StopsFor (failed_together layers c a) s
   together_stops s puts none stops =
-      let put = subst (λ (ls : List Held). PutsTogether c a ls outputs) same puts in
+      let put = subst (λ (ls : List Held). PutsTogether base c a ls outputs) same puts in
       let no = subst (λ (ls : List Held). refused_together a (targets c.target ls) ≡ None) same none in
-      stops_counted (refused_together a (targets c.target layers)) (length (placed c layers outputs)) (stay_count c layers + 1) s no (left_together layers c a outputs put) stops
+      stops_counted (refused_together a (targets c.target layers)) (length (placed c layers outputs)) (stay_count c layers + 1) s no (left_together base layers c a outputs put) stops

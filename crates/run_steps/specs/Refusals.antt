@@ -29,7 +29,7 @@ use Rattle.run_state.specs.Origins.{Base, Owned, one_layer, origin_layers}
 use Rattle.run_state.specs.Stops.{refusal_of, table_refusal}
 use Rattle.run_state.specs.Targets.{has_target, is_selected, targets}
 use Rattle.run_state.specs.declared.refusal.RefuseWhy.{RefuseWhy}
-use Rattle.run_state.specs.declared.refusal.RefuseWhy.TheVariants.{NoLayer, WrongKind, TooManyLayers}
+use Rattle.run_state.specs.declared.refusal.RefuseWhy.TheVariants.{NoLayer, WrongKind, OneLayer, TooManyLayers}
 use Rattle.run_state.specs.declared.state.Held.{Held}
 use Rattle.run_tables.specs.Made.{kept_numbers, refused_layers}
 
@@ -95,12 +95,27 @@ abbrev pub first_kind : List Layer → Kind
 first_kind [] = kinds.Table
 first_kind (layer ∷ layers) = layer.kind
 
-abbrev pub are_of_kind : Kind → List Layer → Bool
-are_of_kind k layers = list_all (λ (layer : Layer). same_kind k layer.kind) layers
+-- a command that changes layers together takes layers of this kind, where the first of them is of the kind `first`
+abbrev pub takes_beside : JointAction → Kind → Kind → Bool
+takes_beside (joint.MergeLayers force) first k = same_kind first k
+takes_beside joint.Union first k = is_polygon k
 
--- layers that are changed together all have the kind of the first
-abbrev pub refused_mixture : List Layer → Option RefuseWhy
-refused_mixture layers = if are_of_kind (first_kind layers) layers then None else Some WrongKind
+abbrev pub takes_together : JointAction → Kind → List Layer → Bool
+takes_together a first layers = list_all (λ (layer : Layer). takes_beside a first layer.kind) layers
+
+abbrev pub refused_mixture : JointAction → List Layer → Option RefuseWhy
+refused_mixture a layers = if takes_together a (first_kind layers) layers then None else Some WrongKind
+
+-- ---- how many layers the target has
+
+abbrev pub refused_alone : List Layer → Option RefuseWhy
+refused_alone (layer ∷ []) = Some OneLayer
+refused_alone _ = None
+
+-- a union is of several layers
+abbrev pub refused_number : JointAction → List Layer → Option RefuseWhy
+refused_number (joint.MergeLayers force) layers = None
+refused_number joint.Union layers = refused_alone layers
 
 -- ---- what the command makes of its layers
 
@@ -133,6 +148,7 @@ refused_in refused (layer ∷ layers) = first_refusal (refused layer) (refused_i
 
 abbrev pub refused_together : JointAction → List Layer → Option RefuseWhy
 refused_together (joint.MergeLayers force) layers = refused_layers force layers
+refused_together joint.Union layers = None
 
 -- ---- how many layers it leaves
 
@@ -171,13 +187,14 @@ refusal_each base layers c a = first_refusal (unfit_each base layers c a) (faile
 
 -- ---- and of one that changes them together
 
--- before it works: for its target, or for layers of several kinds
-abbrev pub unfit_together : List Held → Command → Option RefuseWhy
-unfit_together layers c = first_refusal (refused_target c.target layers) (refused_mixture (targets c.target layers))
+-- before it works: for its target, for the kinds of the target's layers, or for their number
+abbrev pub unfit_together : List Held → Command → JointAction → Option RefuseWhy
+unfit_together layers c a =
+    first_refusal (refused_target c.target layers) (first_refusal (refused_mixture a (targets c.target layers)) (refused_number a (targets c.target layers)))
 
 -- at work: for the layers of the target, or for the number of layers
 abbrev pub failed_together : List Held → Command → JointAction → Option RefuseWhy
 failed_together layers c a = first_refusal (refused_together a (targets c.target layers)) (refused_count (stay_count c layers + 1))
 
 abbrev pub refusal_together : List Held → Command → JointAction → Option RefuseWhy
-refusal_together layers c a = first_refusal (unfit_together layers c) (failed_together layers c a)
+refusal_together layers c a = first_refusal (unfit_together layers c a) (failed_together layers c a)

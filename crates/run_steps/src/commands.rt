@@ -5,7 +5,6 @@ ghost use Rattle.run_state.specs.Stops.{StopsFor, refusal_of};
 ghost use Rattle.run_state.specs.Targets.{has_target, placed, targets};
 ghost use Rattle.run_steps.specs.Commands.{ChangesEach, ChangesTogether};
 ghost use Rattle.run_steps.specs.Refusals.{
-  are_of_kind,
   failed_each,
   failed_together,
   first_kind,
@@ -14,13 +13,17 @@ ghost use Rattle.run_steps.specs.Refusals.{
   refusal_each,
   refusal_together,
   refused_area,
+  refused_alone,
   refused_count,
   refused_kinds,
   refused_mixture,
+  refused_number,
   refused_source,
   refused_target,
   takes,
   takes_all,
+  takes_beside,
+  takes_together,
 };
 
 use crate::outputs::{each_outputs, joint_output};
@@ -28,7 +31,8 @@ use cmd_words::{Command, JointAction, LayerAction, Origin, Target};
 use grid_base::Kind;
 use run_plane::Layer;
 use run_state::{
-    CommandStop, Ground, Held, RefuseWhy, State, check_target, is_selected, placed, source_layer,
+    CommandStop, Ground, Held, RefuseWhy, State, check_target, first_target, is_selected,
+    only_target, placed, source_layer,
 };
 use std::alloc::Global;
 
@@ -61,22 +65,24 @@ pub fn changed_each(
 
 /// The state after a command that changes the layers of its target together.
 ///
-/// Errors: the first refusal, of the target, the kinds of the layers, their tables, or of too many layers; and `Memory`.
+/// Errors: the first refusal, of the target, the kinds of the layers, their number, their tables, or of too many
+/// layers; and `Memory`.
 #[tactic(auto, using(run_state::proofs::Stops::stops_second))]
 pub fn changed_together(
     alloc: Global,
+    ground: &Ground<'_>,
     command: &Command,
     action: &JointAction,
     state: State,
 ) -> Result<State, CommandStop>
-    ensures changes { IfOk result (λ after. ChangesTogether command.now action.now state.layers.items after.layers.items) }
+    ensures changes { IfOk result (λ after. ChangesTogether (base_of ground.now) command.now action.now state.layers.items after.layers.items) }
     ensures there { IfOk result (λ after. has_target command.now.target state.layers.items ≡ true) }
     ensures absent { has_target command.now.target state.layers.items ≡ false → result ≡ Err (CommandStop.Refused RefuseWhy.NoLayer) }
     ensures accepted { IfOk result (λ after. refusal_together state.layers.items command.now action.now ≡ None) }
     ensures stops { IfErr result (StopsFor (refusal_together state.layers.items command.now action.now)) }
 {
-    match check_together(&state.layers, &command.target) {
-        Ok(()) => together_changed(alloc, command, action, state),
+    match check_together(&state.layers, &command.target, action) {
+        Ok(()) => together_changed(alloc, ground, command, action, state),
         Err(why) => Err(CommandStop::Refused(why)),
     }
 }
@@ -101,15 +107,17 @@ fn each_changed(
 #[tactic(auto, using(run_state::proofs::Stops::stops_first))]
 fn together_changed(
     alloc: Global,
+    ground: &Ground<'_>,
     command: &Command,
     action: &JointAction,
     state: State,
 ) -> Result<State, CommandStop>
-    ensures changes { IfOk result (λ after. ChangesTogether command.now action.now state.layers.items after.layers.items) }
+    requires there { has_target command.now.target state.layers.items ≡ true }
+    ensures changes { IfOk result (λ after. ChangesTogether (base_of ground.now) command.now action.now state.layers.items after.layers.items) }
     ensures accepted { IfOk result (λ after. failed_together state.layers.items command.now action.now ≡ None) }
     ensures stops { IfErr result (StopsFor (failed_together state.layers.items command.now action.now)) }
 {
-    let outputs = joint_output(alloc, &state.layers, command, action)?;
+    let outputs = joint_output(alloc, ground, &state.layers, command, action)?;
     put_out(alloc, state.layers, command, outputs)
 }
 
@@ -151,14 +159,27 @@ fn check_each(
     }
 }
 
-// The target, then that its layers are of one kind.
-fn check_together(layers: &[Held], target: &Target) -> Result<(), RefuseWhy>
-    ensures exact { refusal_of result ≡ first_refusal (refused_target target.now layers.now) (refused_mixture (targets target.now layers.now)) }
+// The target, then the kinds of its layers, then their number.
+fn check_together(
+    layers: &[Held],
+    target: &Target,
+    action: &JointAction,
+) -> Result<(), RefuseWhy>
+    ensures exact { refusal_of result ≡ first_refusal (refused_target target.now layers.now) (first_refusal (refused_mixture action.now (targets target.now layers.now)) (refused_number action.now (targets target.now layers.now))) }
     ensures there { IfOk result (λ done. has_target target.now layers.now ≡ true) }
     ensures absent { has_target target.now layers.now ≡ false → result ≡ Err RefuseWhy.NoLayer }
 {
     match check_target(layers, target) {
-        Ok(()) => check_one_kind(layers, target),
+        Ok(()) => check_joint(layers, target, action),
+        Err(why) => Err(why),
+    }
+}
+
+fn check_joint(layers: &[Held], target: &Target, action: &JointAction) -> Result<(), RefuseWhy>
+    ensures exact { refusal_of result ≡ first_refusal (refused_mixture action.now (targets target.now layers.now)) (refused_number action.now (targets target.now layers.now)) }
+{
+    match check_mixture(layers, target, action) {
+        Ok(()) => check_number(layers, target, action),
         Err(why) => Err(why),
     }
 }
@@ -199,6 +220,7 @@ fn check_source(
         | LayerAction::InnerLines
         | LayerAction::Lines { .. }
         | LayerAction::Explode
+        | LayerAction::SpatialJoin { .. }
         | LayerAction::Filter { .. }
         | LayerAction::FilterFields { .. }
         | LayerAction::RenameFields { .. }
@@ -261,6 +283,7 @@ fn takes(action: &LayerAction, kind: Kind) -> bool
         LayerAction::Filter { remove_empty, .. } => !*remove_empty || has_geometry(kind),
         LayerAction::Dissolve { .. }
         | LayerAction::Join { .. }
+        | LayerAction::SpatialJoin { .. }
         | LayerAction::FilterFields { .. }
         | LayerAction::RenameFields { .. }
         | LayerAction::Split { .. }
@@ -282,10 +305,10 @@ fn is_polygon(kind: Kind) -> bool
     kind == Kind::Polygon
 }
 
-fn check_one_kind(layers: &[Held], target: &Target) -> Result<(), RefuseWhy>
-    ensures exact { refusal_of result ≡ refused_mixture (targets target.now layers.now) }
+fn check_mixture(layers: &[Held], target: &Target, action: &JointAction) -> Result<(), RefuseWhy>
+    ensures exact { refusal_of result ≡ refused_mixture action.now (targets target.now layers.now) }
 {
-    if are_of_kind(layers, target, first_kind(layers, target)) {
+    if takes_together(layers, target, action, first_kind(layers, target)) {
         Ok(())
     } else {
         Err(RefuseWhy::WrongKind)
@@ -296,21 +319,48 @@ fn check_one_kind(layers: &[Held], target: &Target) -> Result<(), RefuseWhy>
 fn first_kind(layers: &[Held], target: &Target) -> Kind
     ensures exact { result ≡ first_kind (targets target.now layers.now) }
 {
-    for held in layers {
-        if is_selected(target, held) {
-            return held.layer.kind;
-        }
+    match first_target(layers, target) {
+        Some(layer) => layer.kind,
+        None => Kind::Table,
     }
-    Kind::Table
 }
 
-fn are_of_kind(layers: &[Held], target: &Target, kind: Kind) -> bool
-    ensures exact { result ≡ are_of_kind kind (targets target.now layers.now) }
+fn takes_together(layers: &[Held], target: &Target, action: &JointAction, first: Kind) -> bool
+    ensures exact { result ≡ takes_together action.now first (targets target.now layers.now) }
 {
     for held in layers {
-        if is_selected(target, held) && kind != held.layer.kind {
+        if is_selected(target, held) && !takes_beside(action, first, held.layer.kind) {
             return false;
         }
     }
     true
+}
+
+// Whether a command that changes layers together takes one of this kind, where the first of them is of the kind `first`.
+fn takes_beside(action: &JointAction, first: Kind, kind: Kind) -> bool
+    ensures exact { result ≡ takes_beside action.now first kind }
+{
+    match action {
+        JointAction::MergeLayers { .. } => first == kind,
+        JointAction::Union => is_polygon(kind),
+    }
+}
+
+// That there are as many layers as the command needs.
+fn check_number(layers: &[Held], target: &Target, action: &JointAction) -> Result<(), RefuseWhy>
+    ensures exact { refusal_of result ≡ refused_number action.now (targets target.now layers.now) }
+{
+    match action {
+        JointAction::MergeLayers { .. } => Ok(()),
+        JointAction::Union => check_several(layers, target),
+    }
+}
+
+fn check_several(layers: &[Held], target: &Target) -> Result<(), RefuseWhy>
+    ensures exact { refusal_of result ≡ refused_alone (targets target.now layers.now) }
+{
+    match only_target(layers, target) {
+        Ok(_) => Err(RefuseWhy::OneLayer),
+        Err(_) => Ok(()),
+    }
 }

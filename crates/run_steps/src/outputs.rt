@@ -1,6 +1,6 @@
-ghost use Rattle.std.specs.Prelude.{◌≡◌, ◌∷◌, [], IfErr, IfOk, None, map, option_copied, replicate};
+ghost use Rattle.std.specs.Prelude.{◌≡◌, ◌∷◌, [], IfErr, IfOk, None, map, option_copied, replicate, true};
 ghost use Rattle.std.specs.List.{AllZip, position_or_len};
-ghost use Rattle.run_state.specs.Targets.{is_selected, targets};
+ghost use Rattle.run_state.specs.Targets.{has_target, is_selected, targets};
 ghost use Rattle.run_state.specs.Origins.{base_of, one_layer, origin_layers};
 ghost use Rattle.run_state.specs.Stops.{StopsFor};
 ghost use Rattle.run_steps.specs.Commands.{CutsBy, IsTitled, Joins, MadeTogether, PutsFor, PutsOut, PutsTogether, at_first};
@@ -11,7 +11,7 @@ use io_core::Text;
 use ring_trace::FaceSet;
 use run_plane::{Layer, copy_text};
 use run_shapes::{
-    CutKeeps, area_of, cleaned, cut, dissolved, exploded, inner_lines, mosaic, outlines,
+    CutKeeps, area_of, cleaned, cut, dissolved, exploded, inner_lines, mosaic, outlines, united,
     without_islands,
 };
 use run_state::{CommandStop, Ground, Held, is_selected, source_layer};
@@ -21,34 +21,40 @@ use run_tables::{
 use std::alloc::{AllocError, Global};
 use table_terms::JoinSpec;
 
-/// All features of the target's layers in the place of the first, under the name of `name=` where it stands.
+/// The layer that the command makes of its target's layers, in the place of the first, under the name of `name=` where
+/// it stands.
 pub(crate) fn joint_output(
     alloc: Global,
+    ground: &Ground<'_>,
     layers: &[Held],
     command: &Command,
     action: &JointAction,
 ) -> Result<Vec<Vec<Layer>>, CommandStop>
-    ensures puts { IfOk result (λ outputs. PutsTogether command.now action.now layers.now (map (λ out. out.items) outputs.items)) }
+    requires there { has_target command.now.target layers.now ≡ true }
+    ensures puts { IfOk result (λ outputs. PutsTogether (base_of ground.now) command.now action.now layers.now (map (λ out. out.items) outputs.items)) }
     ensures accepted { IfOk result (λ outputs. refused_together action.now (targets command.now.target layers.now) ≡ None) }
     ensures stops { IfErr result (StopsFor (refused_together action.now (targets command.now.target layers.now))) }
 {
-    let layer = made_together(alloc, layers, &command.target, action)?;
+    let layer = made_together(alloc, ground, layers, &command.target, action)?;
     let layer = titled(alloc, layer, command.name.as_ref())?;
     Ok(at_first(alloc, layers, &command.target, layer)?)
 }
 
 fn made_together(
     alloc: Global,
+    ground: &Ground<'_>,
     layers: &[Held],
     target: &Target,
     action: &JointAction,
 ) -> Result<Layer, CommandStop>
-    ensures made { IfOk result (MadeTogether action.now (targets target.now layers.now)) }
+    requires there { has_target target.now layers.now ≡ true }
+    ensures made { IfOk result (MadeTogether (base_of ground.now) action.now (targets target.now layers.now)) }
     ensures accepted { IfOk result (λ outputs. refused_together action.now (targets target.now layers.now) ≡ None) }
     ensures stops { IfErr result (StopsFor (refused_together action.now (targets target.now layers.now))) }
 {
     match action {
         JointAction::MergeLayers { force } => merged(alloc, layers, target, *force),
+        JointAction::Union => Ok(united(alloc, ground.plane, layers, target)?),
     }
 }
 
@@ -227,6 +233,7 @@ fn layer_outputs(
         LayerAction::InnerLines => one(alloc, inner_lines(alloc, plane, layer)?),
         LayerAction::Lines { fields } => one(alloc, outlines(alloc, plane, layer, fields)?),
         LayerAction::Join { from, spec } => joined_by(alloc, ground, layers, from, spec, layer),
+        LayerAction::SpatialJoin { .. } => Err(CommandStop::Memory),
         LayerAction::Filter {
             test,
             invert,

@@ -14,8 +14,8 @@ use io_core::NameList;
 use json_read::Table;
 use run_plane::{Layer, Shape, copy_shape, copy_shapes, copy_text};
 use run_state::{
-    CommandStop, Held, RefuseWhy, copy_table, is_selected, numbers_below, take_features,
-    with_geometry,
+    CommandStop, Held, RefuseWhy, copy_table, first_target, is_selected, numbers_below,
+    take_features, with_geometry,
 };
 use std::alloc::{AllocError, Global};
 use table_ops::{TableList, filter_rows, join_tables, keep_fields, merge_tables, rename_fields};
@@ -177,17 +177,6 @@ fn gather(alloc: Global, layers: &[Held], target: &Target) -> Result<Gathered, A
         }
     }
     Ok(Gathered { tables, shapes })
-}
-
-fn first_target<'a>(layers: &'a [Held], target: &Target) -> Option<&'a Layer>
-    ensures first { option_copied result ≡ slice_get (targets target.now layers.now) 0 }
-{
-    for held in layers {
-        if is_selected(target, held) {
-            return Some(&held.layer);
-        }
-    }
-    None
 }
 
 fn append_shapes(alloc: Global, out: &mut Vec<Shape>, shapes: &[Shape]) -> Result<(), AllocError>
