@@ -1,7 +1,7 @@
 -- What each command makes of one target layer: its output layers, or a refusal.
 use Rattle.std.specs.Prelude.{ℕ, ◌+◌, Bool, not, ◌&&◌, ◌||◌, decimal, List, [], ◌∷◌, ◌++◌, map, zip, length, codes, Option, Some, None, Result, Ok, Err, if◌then◌else◌}
-use Rattle.std.specs.List.{flat_map, enumerate_from, range_with_len}
-use Rattle.lists.specs.Lists.{first_or}
+use Rattle.std.specs.List.{flat_map, list_any, enumerate_from, range_with_len}
+use Rattle.lists.specs.Lists.{first_or, numbers_where}
 use Rattle.plane_model.specs.Points.{GridPoint, Path}
 use Rattle.grid_base.specs.declared.kinds.Kind.{Kind}
 use Rattle.grid_base.specs.declared.kinds.Kind.TheVariants as kind
@@ -28,10 +28,12 @@ use Rattle.table_ops.specs.Splitting.{split_rows}
 use Rattle.table_ops.specs.Merge.{merge_tables}
 use Rattle.table_ops.specs.declared.fault.TableWhy.{TableWhy}
 use Rattle.table_ops.specs.declared.group.Grouped.{Grouped}
+use Rattle.table_terms.specs.declared.calculations.CalcSpec.{CalcSpec}
 use Rattle.table_terms.specs.declared.renames.Rename.{Rename}
 use Rattle.table_terms.specs.declared.specifications.GroupSpec.{GroupSpec}
 use Rattle.table_terms.specs.declared.specifications.JoinSpec.{JoinSpec}
 use Rattle.table_ops.specs.declared.split.SplitItem.{SplitItem}
+use Rattle.spatial_join.specs.Joined.{join_matched}
 use Rattle.calc_ops.specs.EachRow.{each_rows}
 use Rattle.calc_ops.specs.EarlyRows.{uniq_rows}
 use Rattle.calc_ops.specs.KeyOrder.{sort_rows}
@@ -43,7 +45,7 @@ use Rattle.region_model.specs.UnionCommand.{Choice, united}
 use Rattle.region_model.specs.LineCommands.{SidedArc}
 use Rattle.chain_model.specs.Outcome.{RefuseWhy, lone_layer, no_group_points, in_table}
 use Rattle.chain_model.specs.UnionTable.{union_table}
-use Rattle.chain_model.specs.State.{StateLayer, Shape, region, paths, points, no_shape, paths_of, points_of, shape_at, region_at, regions_in, take_features, without_empty}
+use Rattle.chain_model.specs.State.{StateLayer, Shape, region, paths, points, no_shape, region_of, paths_of, points_of, shape_at, region_at, regions_in, take_features, without_empty}
 
 -- the output layers, or a refusal
 abbrev pub Outputs : Type 0
@@ -183,6 +185,27 @@ lines_layer P A fields l =
 
 abbrev pub join_layer : StateLayer → JoinSpec → StateLayer → Outputs
 join_layer source spec l = with_table l (join_tables l.table source.table spec)
+
+-- ---- a join by place
+
+-- the numbers of the features of polygons that some of these points are inside of
+abbrev pub around_points : Answers → List Shape → List GridPoint → List ℕ
+around_points A others ps = numbers_where (λ (s : Shape). list_any (A.inside (region_of s)) ps) others
+
+-- the numbers of the features of points of which some are inside a region
+abbrev pub points_inside : Answers → List Shape → Region → List ℕ
+points_inside A others r = numbers_where (λ (s : Shape). list_any (A.inside r) (points_of s)) others
+
+-- the numbers of the others that a feature matches
+abbrev pub matches_of : Answers → List Shape → Shape → List ℕ
+matches_of A others (points ps) = around_points A others ps
+matches_of A others (region r) = points_inside A others r
+matches_of A others _ = []
+
+abbrev pub place_join_layer : Answers → StateLayer → CalcSpec → StateLayer → Outputs
+place_join_layer A source spec l = with_table l (join_matched l.table source.table (map (matches_of A source.shapes) l.shapes) spec)
+
+-- ---- rows that are kept, columns, and layers of some rows
 
 -- the numbers of the rows for which the expression is true, or, inverted, false; without one all of them
 abbrev pub kept_numbers : StateLayer → Option Expr → Bool → Result (List ℕ) TableWhy

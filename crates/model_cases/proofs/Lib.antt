@@ -5,6 +5,7 @@ mod GapRows
 mod UnionRows
 mod RunRows
 mod CommandRows
+mod PlaceRows
 mod RingRow
 mod SynthRow
 mod TextRows

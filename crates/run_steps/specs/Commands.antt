@@ -8,7 +8,9 @@ use Rattle.calc_ops.specs.EarlyRows.{uniq_rows}
 use Rattle.calc_ops.specs.KeyOrder.{sort_rows}
 use Rattle.table_ops.specs.Columns.{keep_fields, rename_fields}
 use Rattle.table_ops.specs.Join.{join_tables}
+use Rattle.table_terms.specs.declared.calculations.CalcSpec.{CalcSpec}
 use Rattle.table_terms.specs.declared.specifications.JoinSpec.{JoinSpec}
+use Rattle.spatial_join.specs.Joined.{join_matched}
 use Rattle.cmd_words.specs.declared.job.Origin.{Origin}
 use Rattle.cmd_words.specs.declared.job.Target.{Target}
 use Rattle.cmd_words.specs.declared.job.Command.{Command}
@@ -24,6 +26,7 @@ use Rattle.run_shapes.specs.Dissolving.{IsGrouped}
 use Rattle.run_shapes.specs.Exploding.{IsExploded}
 use Rattle.run_shapes.specs.FaceSets.{area_of}
 use Rattle.run_shapes.specs.Islands.{IsMainland}
+use Rattle.run_shapes.specs.Matching.{AreMatches}
 use Rattle.run_shapes.specs.Uniting.{IsUnited}
 use Rattle.run_shapes.specs.declared.cutting.CutKeeps.TheVariants as keeps
 use Rattle.run_state.specs.Origins.{Base, one_layer, origin_layers}
@@ -46,6 +49,14 @@ pub record Joins (base : Base) (layers : List Held) (from : Origin) (spec : Join
   pub found : one_layer (origin_layers base.sources layers from) ≡ Ok source
   pub joined : One (GivesTable (join_tables layer.table source.table spec) layer) outputs
 
+-- and by place: with the rows of its source that match
+pub record JoinsByPlace (base : Base) (layers : List Held) (from : Origin) (spec : CalcSpec) (layer : Layer) (outputs : List Layer) : Type 0 where
+  pub source : Layer
+  pub found : one_layer (origin_layers base.sources layers from) ≡ Ok source
+  pub matches : List (List ℕ)
+  pub are : AreMatches base.plane source layer matches
+  pub joined : One (GivesTable (join_matched layer.table source.table matches spec) layer) outputs
+
 -- what a command that changes each layer puts out for a layer of its target, beside all layers of the state
 abbrev pub PutsOut : Base → List Held → LayerAction → Layer → List Layer → Type 0
 PutsOut base layers (action.Clip from) layer outputs = One (IsCut keeps.Inside base.plane (area_of base layers from) layer) outputs
@@ -57,7 +68,7 @@ PutsOut base layers action.InnerLines layer outputs = One (AreInnerLines base.pl
 PutsOut base layers (action.Lines fields) layer outputs = One (AreOutlines base.plane fields layer) outputs
 PutsOut base layers action.Explode layer outputs = One (IsExploded base.plane layer) outputs
 PutsOut base layers (action.Join from spec) layer outputs = Joins base layers from spec layer outputs
-PutsOut base layers (action.SpatialJoin from spec) layer outputs = ⊥
+PutsOut base layers (action.SpatialJoin from spec) layer outputs = JoinsByPlace base layers from spec layer outputs
 PutsOut base layers (action.Filter test invert remove_empty) layer outputs = One (IsFiltered test invert remove_empty layer) outputs
 PutsOut base layers (action.FilterFields fields) layer outputs = One (GivesTable (keep_fields layer.table fields) layer) outputs
 PutsOut base layers (action.RenameFields pairs) layer outputs = One (GivesTable (rename_fields layer.table pairs) layer) outputs

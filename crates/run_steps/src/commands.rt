@@ -1,23 +1,26 @@
-ghost use Rattle.std.specs.Prelude.{◌≡◌, ◌≤◌, IfErr, IfOk, None, false, length, map, true};
+ghost use Rattle.std.specs.Prelude.{◌≡◌, ◌≤◌, IfErr, IfOk, None, Some, false, if◌then◌else◌, length, map, true};
 ghost use Rattle.table_terms.specs.Refusals.{first_refusal};
-ghost use Rattle.run_state.specs.Origins.{base_of};
-ghost use Rattle.run_state.specs.Stops.{StopsFor, refusal_of};
+ghost use Rattle.run_state.specs.Origins.{base_of, one_layer, origin_layers};
+ghost use Rattle.run_state.specs.Stops.{StopsAs, StopsFor, refusal_of};
 ghost use Rattle.run_state.specs.Targets.{has_target, placed, targets};
 ghost use Rattle.run_steps.specs.Commands.{ChangesEach, ChangesTogether};
 ghost use Rattle.run_steps.specs.Refusals.{
-  failed_each,
+  FailsEach,
+  RefusesEach,
   failed_together,
   first_kind,
   has_geometry,
   is_polygon,
-  refusal_each,
+  joins_all,
+  joins_with,
   refusal_together,
-  refused_area,
   refused_alone,
+  refused_area,
   refused_count,
   refused_kinds,
   refused_mixture,
   refused_number,
+  refused_pairs,
   refused_source,
   refused_target,
   takes,
@@ -43,7 +46,7 @@ const MAX_LAYERS: usize = 1_000;
 ///
 /// Errors: the first refusal, of the target, the source, the kinds of the layers, a layer in order, or of too many
 /// layers; and `Memory`.
-#[tactic(auto, using(run_state::proofs::Stops::stops_second))]
+#[tactic(auto, using(crate::proofs::Refusals::past, crate::proofs::Refusals::stops_at_first, crate::proofs::Refusals::stops_behind))]
 pub fn changed_each(
     alloc: Global,
     ground: &Ground<'_>,
@@ -54,8 +57,8 @@ pub fn changed_each(
     ensures changes { IfOk result (λ after. ChangesEach (base_of ground.now) command.now action.now state.layers.items after.layers.items) }
     ensures there { IfOk result (λ after. has_target command.now.target state.layers.items ≡ true) }
     ensures absent { has_target command.now.target state.layers.items ≡ false → result ≡ Err (CommandStop.Refused RefuseWhy.NoLayer) }
-    ensures accepted { IfOk result (λ after. refusal_each (base_of ground.now) state.layers.items command.now action.now ≡ None) }
-    ensures stops { IfErr result (StopsFor (refusal_each (base_of ground.now) state.layers.items command.now action.now)) }
+    ensures accepted { IfOk result (λ after. RefusesEach (base_of ground.now) state.layers.items command.now action.now None) }
+    ensures stops { IfErr result (StopsAs (RefusesEach (base_of ground.now) state.layers.items command.now action.now)) }
 {
     match check_each(&state.layers, ground.sources, &command.target, action) {
         Ok(()) => each_changed(alloc, ground, command, action, state),
@@ -87,7 +90,6 @@ pub fn changed_together(
     }
 }
 
-#[tactic(auto, using(run_state::proofs::Stops::stops_first))]
 fn each_changed(
     alloc: Global,
     ground: &Ground<'_>,
@@ -97,8 +99,8 @@ fn each_changed(
 ) -> Result<State, CommandStop>
     requires sourced { refused_source (base_of ground.now).sources state.layers.items action.now ≡ None }
     ensures changes { IfOk result (λ after. ChangesEach (base_of ground.now) command.now action.now state.layers.items after.layers.items) }
-    ensures accepted { IfOk result (λ after. failed_each (base_of ground.now) state.layers.items command.now action.now ≡ None) }
-    ensures stops { IfErr result (StopsFor (failed_each (base_of ground.now) state.layers.items command.now action.now)) }
+    ensures accepted { IfOk result (λ after. FailsEach (base_of ground.now) state.layers.items command.now action.now None) }
+    ensures stops { IfErr result (StopsAs (FailsEach (base_of ground.now) state.layers.items command.now action.now)) }
 {
     let outputs = each_outputs(alloc, ground, &state.layers, command, action)?;
     put_out(alloc, state.layers, command, outputs)
@@ -148,7 +150,7 @@ fn check_each(
     target: &Target,
     action: &LayerAction,
 ) -> Result<(), RefuseWhy>
-    ensures exact { refusal_of result ≡ first_refusal (refused_target target.now layers.now) (first_refusal (refused_source (map (λ own. own.items) sources.now) layers.now action.now) (refused_kinds action.now (targets target.now layers.now))) }
+    ensures exact { refusal_of result ≡ first_refusal (refused_target target.now layers.now) (first_refusal (refused_source (map (λ own. own.items) sources.now) layers.now action.now) (refused_kinds (map (λ own. own.items) sources.now) layers.now action.now (targets target.now layers.now))) }
     ensures sourced { IfOk result (λ done. refused_source (map (λ own. own.items) sources.now) layers.now action.now ≡ None) }
     ensures there { IfOk result (λ done. has_target target.now layers.now ≡ true) }
     ensures absent { has_target target.now layers.now ≡ false → result ≡ Err RefuseWhy.NoLayer }
@@ -160,11 +162,7 @@ fn check_each(
 }
 
 // The target, then the kinds of its layers, then their number.
-fn check_together(
-    layers: &[Held],
-    target: &Target,
-    action: &JointAction,
-) -> Result<(), RefuseWhy>
+fn check_together(layers: &[Held], target: &Target, action: &JointAction) -> Result<(), RefuseWhy>
     ensures exact { refusal_of result ≡ first_refusal (refused_target target.now layers.now) (first_refusal (refused_mixture action.now (targets target.now layers.now)) (refused_number action.now (targets target.now layers.now))) }
     ensures there { IfOk result (λ done. has_target target.now layers.now ≡ true) }
     ensures absent { has_target target.now layers.now ≡ false → result ≡ Err RefuseWhy.NoLayer }
@@ -190,11 +188,11 @@ fn check_layers(
     target: &Target,
     action: &LayerAction,
 ) -> Result<(), RefuseWhy>
-    ensures exact { refusal_of result ≡ first_refusal (refused_source (map (λ own. own.items) sources.now) layers.now action.now) (refused_kinds action.now (targets target.now layers.now)) }
+    ensures exact { refusal_of result ≡ first_refusal (refused_source (map (λ own. own.items) sources.now) layers.now action.now) (refused_kinds (map (λ own. own.items) sources.now) layers.now action.now (targets target.now layers.now)) }
     ensures sourced { IfOk result (λ done. refused_source (map (λ own. own.items) sources.now) layers.now action.now ≡ None) }
 {
     match check_source(layers, sources, action) {
-        Ok(()) => check_kinds(layers, target, action),
+        Ok(()) => check_kinds(layers, sources, target, action),
         Err(why) => Err(why),
     }
 }
@@ -210,17 +208,14 @@ fn check_source(
     match action {
         LayerAction::Clip { from } => check_area(layers, sources, from),
         LayerAction::Erase { from } => check_area(layers, sources, from),
-        LayerAction::Join { from, .. } => match source_layer(layers, sources, from) {
-            Ok(_) => Ok(()),
-            Err(why) => Err(why),
-        },
+        LayerAction::Join { from, .. } => check_one(layers, sources, from),
+        LayerAction::SpatialJoin { from, .. } => check_one(layers, sources, from),
         LayerAction::Dissolve { .. }
         | LayerAction::Clean { .. }
         | LayerAction::Mosaic
         | LayerAction::InnerLines
         | LayerAction::Lines { .. }
         | LayerAction::Explode
-        | LayerAction::SpatialJoin { .. }
         | LayerAction::Filter { .. }
         | LayerAction::FilterFields { .. }
         | LayerAction::RenameFields { .. }
@@ -229,6 +224,15 @@ fn check_source(
         | LayerAction::Sort { .. }
         | LayerAction::Uniq { .. }
         | LayerAction::FilterIslands { .. } => Ok(()),
+    }
+}
+
+fn check_one(layers: &[Held], sources: &[Vec<Layer>], from: &Origin) -> Result<(), RefuseWhy>
+    ensures exact { refusal_of result ≡ refusal_of (one_layer (origin_layers (map (λ own. own.items) sources.now) layers.now from.now)) }
+{
+    match source_layer(layers, sources, from) {
+        Ok(_) => Ok(()),
+        Err(why) => Err(why),
     }
 }
 
@@ -246,8 +250,60 @@ fn check_area(layers: &[Held], sources: &[Vec<Layer>], from: &Origin) -> Result<
     }
 }
 
-fn check_kinds(layers: &[Held], target: &Target, action: &LayerAction) -> Result<(), RefuseWhy>
-    ensures exact { refusal_of result ≡ refused_kinds action.now (targets target.now layers.now) }
+fn check_kinds(
+    layers: &[Held],
+    sources: &[Vec<Layer>],
+    target: &Target,
+    action: &LayerAction,
+) -> Result<(), RefuseWhy>
+    ensures exact { refusal_of result ≡ refused_kinds (map (λ own. own.items) sources.now) layers.now action.now (targets target.now layers.now) }
+{
+    match action {
+        LayerAction::SpatialJoin { from, .. } => check_pairs(layers, sources, target, from),
+        _ => check_taken(layers, target, action),
+    }
+}
+
+// That the layers of the target are joined by place with the source.
+fn check_pairs(
+    layers: &[Held],
+    sources: &[Vec<Layer>],
+    target: &Target,
+    from: &Origin,
+) -> Result<(), RefuseWhy>
+    ensures exact { refusal_of result ≡ refused_pairs (one_layer (origin_layers (map (λ own. own.items) sources.now) layers.now from.now)) (targets target.now layers.now) }
+{
+    match source_layer(layers, sources, from) {
+        Ok(source) if joins_all(source.kind, layers, target) => Ok(()),
+        Ok(_) => Err(RefuseWhy::WrongKind),
+        Err(why) => Err(why),
+    }
+}
+
+fn joins_all(source: Kind, layers: &[Held], target: &Target) -> bool
+    ensures exact { result ≡ joins_all source (targets target.now layers.now) }
+{
+    for held in layers {
+        if is_selected(target, held) && !joins_with(source, held.layer.kind) {
+            return false;
+        }
+    }
+    true
+}
+
+// Whether layers of these kinds are joined by place.
+fn joins_with(source: Kind, kind: Kind) -> bool
+    ensures exact { result ≡ joins_with source kind }
+{
+    match source {
+        Kind::Polygon => kind == Kind::Point,
+        Kind::Point => kind == Kind::Polygon,
+        Kind::Line | Kind::Table => false,
+    }
+}
+
+fn check_taken(layers: &[Held], target: &Target, action: &LayerAction) -> Result<(), RefuseWhy>
+    ensures exact { refusal_of result ≡ (if takes_all action.now (targets target.now layers.now) then None else Some RefuseWhy.WrongKind) }
 {
     if takes_all(layers, target, action) {
         Ok(())
@@ -267,7 +323,7 @@ fn takes_all(layers: &[Held], target: &Target, action: &LayerAction) -> bool
     true
 }
 
-// Whether the command takes a layer of this kind.
+// Whether the command takes a layer of this kind; a join by place goes by its source too.
 fn takes(action: &LayerAction, kind: Kind) -> bool
     ensures exact { result ≡ takes action.now kind }
 {
