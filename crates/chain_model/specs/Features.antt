@@ -1,7 +1,7 @@
 -- What each command makes of one target layer: its output layers, or a refusal.
 use Rattle.std.specs.Prelude.{ℕ, ◌+◌, Bool, not, ◌&&◌, ◌||◌, decimal, List, [], ◌∷◌, ◌++◌, map, zip, length, codes, Option, Some, None, Result, Ok, Err, if◌then◌else◌}
-use Rattle.std.specs.List.{flat_map, list_any, enumerate_from, range_with_len}
-use Rattle.lists.specs.Lists.{first_or, numbers_where}
+use Rattle.std.specs.List.{flat_map, enumerate_from, range_with_len}
+use Rattle.lists.specs.Lists.{first_or}
 use Rattle.plane_model.specs.Points.{GridPoint, Path}
 use Rattle.grid_base.specs.declared.kinds.Kind.{Kind}
 use Rattle.grid_base.specs.declared.kinds.Kind.TheVariants as kind
@@ -41,6 +41,7 @@ use Rattle.region_model.specs.Region.{Region}
 use Rattle.region_model.specs.Answers.{Plane, Answers, is_nil}
 use Rattle.region_model.specs.PolygonCommands as polygon
 use Rattle.region_model.specs.LineCommands as line
+use Rattle.region_model.specs.PlaceCommands.{around_points, points_inside}
 use Rattle.region_model.specs.UnionCommand.{Choice, united}
 use Rattle.region_model.specs.LineCommands.{SidedArc}
 use Rattle.chain_model.specs.Outcome.{RefuseWhy, lone_layer, no_group_points, in_table}
@@ -188,18 +189,10 @@ join_layer source spec l = with_table l (join_tables l.table source.table spec)
 
 -- ---- a join by place
 
--- the numbers of the features of polygons that some of these points are inside of
-abbrev pub around_points : Answers → List Shape → List GridPoint → List ℕ
-around_points A others ps = numbers_where (λ (s : Shape). list_any (A.inside (region_of s)) ps) others
-
--- the numbers of the features of points of which some are inside a region
-abbrev pub points_inside : Answers → List Shape → Region → List ℕ
-points_inside A others r = numbers_where (λ (s : Shape). list_any (A.inside r) (points_of s)) others
-
 -- the numbers of the others that a feature matches
 abbrev pub matches_of : Answers → List Shape → Shape → List ℕ
-matches_of A others (points ps) = around_points A others ps
-matches_of A others (region r) = points_inside A others r
+matches_of A others (points ps) = around_points A (map region_of others) ps
+matches_of A others (region r) = points_inside A (map points_of others) r
 matches_of A others _ = []
 
 abbrev pub place_join_layer : Answers → StateLayer → CalcSpec → StateLayer → Outputs

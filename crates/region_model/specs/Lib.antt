@@ -4,3 +4,4 @@ pub mod LineCommands
 pub mod PolygonCommands
 pub mod Printed
 pub mod UnionCommand
+pub mod PlaceCommands
