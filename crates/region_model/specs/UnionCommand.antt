@@ -1,4 +1,4 @@
--- The regions of a command that no words name yet: the union of several layers.
+-- The union of several layers: a region for each choice of one feature or none of each layer, in parts.
 use Rattle.std.specs.Prelude.{ℕ, not, ◌&&◌, List, [], ◌∷◌, ◌++◌, map, zip, filter, filter_map, take, length, slice_index_or, Option, Some, None, is_some}
 use Rattle.std.specs.List.{flat_map, list_any, range_with_len}
 use Rattle.region_model.specs.Region.{Region, any_of, less}
