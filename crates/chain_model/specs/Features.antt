@@ -28,10 +28,12 @@ use Rattle.table_ops.specs.Splitting.{split_rows}
 use Rattle.table_ops.specs.Merge.{merge_tables}
 use Rattle.table_ops.specs.declared.fault.TableWhy.{TableWhy}
 use Rattle.table_ops.specs.declared.group.Grouped.{Grouped}
+use Rattle.table_terms.specs.declared.calculations.CalcSpec.{CalcSpec}
 use Rattle.table_terms.specs.declared.renames.Rename.{Rename}
 use Rattle.table_terms.specs.declared.specifications.GroupSpec.{GroupSpec}
 use Rattle.table_terms.specs.declared.specifications.JoinSpec.{JoinSpec}
 use Rattle.table_ops.specs.declared.split.SplitItem.{SplitItem}
+use Rattle.spatial_join.specs.Joined.{join_matched}
 use Rattle.calc_ops.specs.EachRow.{each_rows}
 use Rattle.calc_ops.specs.EarlyRows.{uniq_rows}
 use Rattle.calc_ops.specs.KeyOrder.{sort_rows}
@@ -39,9 +41,12 @@ use Rattle.region_model.specs.Region.{Region}
 use Rattle.region_model.specs.Answers.{Plane, Answers, is_nil}
 use Rattle.region_model.specs.PolygonCommands as polygon
 use Rattle.region_model.specs.LineCommands as line
+use Rattle.region_model.specs.PlaceCommands.{around_points, points_inside}
+use Rattle.region_model.specs.UnionCommand.{Choice, united}
 use Rattle.region_model.specs.LineCommands.{SidedArc}
-use Rattle.chain_model.specs.Outcome.{RefuseWhy, no_group_points, in_table}
-use Rattle.chain_model.specs.State.{StateLayer, Shape, region, paths, points, no_shape, paths_of, points_of, shape_at, region_at, regions_in, take_features, without_empty}
+use Rattle.chain_model.specs.Outcome.{RefuseWhy, lone_layer, no_group_points, in_table}
+use Rattle.chain_model.specs.UnionTable.{union_table}
+use Rattle.chain_model.specs.State.{StateLayer, Shape, region, paths, points, no_shape, region_of, paths_of, points_of, shape_at, region_at, regions_in, take_features, without_empty}
 
 -- the output layers, or a refusal
 abbrev pub Outputs : Type 0
@@ -182,6 +187,19 @@ lines_layer P A fields l =
 abbrev pub join_layer : StateLayer → JoinSpec → StateLayer → Outputs
 join_layer source spec l = with_table l (join_tables l.table source.table spec)
 
+-- ---- a join by place
+
+-- the numbers of the others that a feature matches
+abbrev pub matches_of : Answers → List Shape → Shape → List ℕ
+matches_of A others (points ps) = around_points A (map region_of others) ps
+matches_of A others (region r) = points_inside A (map points_of others) r
+matches_of A others _ = []
+
+abbrev pub place_join_layer : Answers → StateLayer → CalcSpec → StateLayer → Outputs
+place_join_layer A source spec l = with_table l (join_matched l.table source.table (map (matches_of A source.shapes) l.shapes) spec)
+
+-- ---- rows that are kept, columns, and layers of some rows
+
 -- the numbers of the rows for which the expression is true, or, inverted, false; without one all of them
 abbrev pub kept_numbers : StateLayer → Option Expr → Bool → Result (List ℕ) TableWhy
 kept_numbers l None invert = Ok (range_with_len 0 (length l.table.rows))
@@ -240,3 +258,17 @@ abbrev pub merged_layers : Bool → List StateLayer → Result (List (List State
 merged_layers force [] = Ok []
 merged_layers force (l ∷ ls) = on_ok (in_layer (merge_tables (map (λ (m : StateLayer). m.table) (l ∷ ls)) force)) (λ (t : TableContent).
     Ok ((record l { table = t; shapes = flat_map (λ (m : StateLayer). m.shapes) (l ∷ ls) } ∷ []) ∷ map (λ (m : StateLayer). []) ls))
+
+-- the union, in a layer like the first; nothing for the others, and one layer alone is refused
+abbrev pub united_layer : Plane → Answers → List StateLayer → StateLayer → StateLayer
+united_layer P A ls l =
+    let pieces : List (Choice × Region) = united P A (map regions_in ls) in
+    record l {
+      table = union_table (map (λ (m : StateLayer). m.table) ls) (map (λ (f : Choice × Region). f.0) pieces);
+      shapes = map (λ (f : Choice × Region). region f.1) pieces;
+    }
+
+abbrev pub united_layers : Plane → Answers → List StateLayer → Result (List (List StateLayer)) RefuseWhy
+united_layers P A [] = Ok []
+united_layers P A (l ∷ []) = Err lone_layer
+united_layers P A (l ∷ m ∷ ls) = Ok ((united_layer P A (l ∷ m ∷ ls) l ∷ []) ∷ map (λ (k : StateLayer). []) (m ∷ ls))

@@ -1,6 +1,7 @@
 pub mod Outcome
 pub mod State
 pub mod Targets
+pub mod UnionTable
 pub mod Features
 pub mod Steps
 pub mod Sources

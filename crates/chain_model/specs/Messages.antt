@@ -108,6 +108,7 @@ abbrev pub refused_text : RefuseWhy → Text
 refused_text o.no_layer = codes "NoLayer"
 refused_text o.many_layers = codes "ManyLayers"
 refused_text o.wrong_kind = codes "WrongKind"
+refused_text o.lone_layer = codes "OneLayer"
 refused_text o.no_group_points = codes "NoGroupPoints"
 refused_text o.name_twice = codes "NameTwice"
 refused_text o.too_many_layers = codes "TooManyLayers"

@@ -23,6 +23,7 @@ pub data RefuseWhy : Type 0 where
   no_layer : RefuseWhy
   many_layers : RefuseWhy
   wrong_kind : RefuseWhy
+  lone_layer : RefuseWhy
   no_group_points : RefuseWhy
   name_twice : RefuseWhy
   too_many_layers : RefuseWhy

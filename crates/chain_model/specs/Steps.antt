@@ -34,6 +34,13 @@ abbrev pub source_region : SourceLayers → State → Origin → Result Region R
 source_region sources s (origin.Area b) = Ok (box b)
 source_region sources s o = on_ok (one_layer (origin_layers sources s o)) layer_region
 
+-- what a join by place takes: a layer of polygons or of points
+abbrev pub polygons_or_points : StateLayer → Result StateLayer RefuseWhy
+polygons_or_points l = if same_kind l.kind kind.Polygon || same_kind l.kind kind.Point then Ok l else Err wrong_kind
+
+abbrev pub place_source : SourceLayers → State → Origin → Result StateLayer RefuseWhy
+place_source sources s o = on_ok (one_layer (origin_layers sources s o)) polygons_or_points
+
 -- ---- kinds
 
 abbrev pub has_geometry : Kind → Bool
@@ -54,6 +61,7 @@ takes (action.Each each.Explode) first k = has_geometry k
 takes (action.Each (each.Filter test invert remove_empty)) first k = not remove_empty || has_geometry k
 takes (action.Each (each.FilterIslands least_area least_links remove_empty)) first k = is_polygon k
 takes (action.Together (joint.MergeLayers force)) first k = same_kind first k
+takes (action.Together joint.Union) first k = is_polygon k
 takes _ first k = true
 
 -- ---- outputs
@@ -78,6 +86,7 @@ outputs_of P A sources s (action.Each each.InnerLines) ls = each_layer (Features
 outputs_of P A sources s (action.Each (each.Lines fields)) ls = each_layer (Features.lines_layer P A fields) ls
 outputs_of P A sources s (action.Each each.Explode) ls = each_layer (Features.explode_layer P A) ls
 outputs_of P A sources s (action.Each (each.Join o spec)) ls = on_ok (one_layer (origin_layers sources s o)) (λ (l : StateLayer). each_layer (Features.join_layer l spec) ls)
+outputs_of P A sources s (action.Each (each.SpatialJoin o spec)) ls = on_ok (place_source sources s o) (λ (l : StateLayer). each_layer (Features.place_join_layer A l spec) ls)
 outputs_of P A sources s (action.Each (each.Filter test invert remove_empty)) ls = each_layer (Features.filter_layer P A test invert remove_empty) ls
 outputs_of P A sources s (action.Each (each.FilterFields fields)) ls = each_layer (Features.filter_fields_layer fields) ls
 outputs_of P A sources s (action.Each (each.RenameFields pairs)) ls = each_layer (Features.rename_fields_layer pairs) ls
@@ -87,6 +96,7 @@ outputs_of P A sources s (action.Each (each.Sort key descending)) ls = each_laye
 outputs_of P A sources s (action.Each (each.Uniq key most invert)) ls = each_layer (Features.uniq_layer key most invert) ls
 outputs_of P A sources s (action.Each (each.FilterIslands least_area least_links remove_empty)) ls = each_layer (Features.islands_layer P A least_area least_links remove_empty) ls
 outputs_of P A sources s (action.Together (joint.MergeLayers force)) ls = Features.merged_layers force ls
+outputs_of P A sources s (action.Together joint.Union) ls = Features.united_layers P A ls
 outputs_of P A sources s (action.Write to standard form) ls = Ok []
 
 -- ---- refusals: the source, then the kinds of the targets, then the layers one by one, then too many layers
@@ -99,6 +109,7 @@ abbrev pub refused_source : SourceLayers → State → Action → Option RefuseW
 refused_source sources s (action.Each (each.Clip o)) = refusal_of (source_region sources s o)
 refused_source sources s (action.Each (each.Erase o)) = refusal_of (source_region sources s o)
 refused_source sources s (action.Each (each.Join o spec)) = refusal_of (one_layer (origin_layers sources s o))
+refused_source sources s (action.Each (each.SpatialJoin o spec)) = refusal_of (place_source sources s o)
 refused_source sources s _ = None
 
 abbrev pub first_kind : List StateLayer → Kind
@@ -108,6 +119,18 @@ first_kind (l ∷ ls) = l.kind
 abbrev pub refused_kinds : Action → List StateLayer → Option RefuseWhy
 refused_kinds a ls = need_kinds (takes a (first_kind ls)) ls
 
+-- a join by place joins points with polygons, and polygons with points
+abbrev pub other_kind : Kind → Kind
+other_kind k = if same_kind k kind.Polygon then kind.Point else kind.Polygon
+
+abbrev pub refused_pairs : Result StateLayer RefuseWhy → List StateLayer → Option RefuseWhy
+refused_pairs (Ok source) ls = need_kinds (same_kind (other_kind source.kind)) ls
+refused_pairs (Err why) ls = Some why
+
+abbrev pub refused_beside : SourceLayers → State → Action → List StateLayer → Option RefuseWhy
+refused_beside sources s (action.Each (each.SpatialJoin o spec)) ls = refused_pairs (place_source sources s o) ls
+refused_beside sources s _ ls = None
+
 -- an output has the target's name, or that of `name=`
 abbrev pub titled : Option Text → StateLayer → StateLayer
 titled name l = record l { name = unwrap_or name l.name }
@@ -115,7 +138,7 @@ titled name l = record l { name = unwrap_or name l.name }
 -- the state after a command other than an output
 abbrev pub changed : Plane → Answers → SourceLayers → State → Command → List ℕ → Result State RefuseWhy
 changed P A sources s c ns =
-    unless (first_refusal (refused_source sources s c.action) (refused_kinds c.action (layers_at s ns)))
+    unless (first_refusal (refused_source sources s c.action) (first_refusal (refused_kinds c.action (layers_at s ns)) (refused_beside sources s c.action (layers_at s ns))))
     (on_ok (outputs_of P A sources s c.action (layers_at s ns)) (λ (outs : List (List StateLayer)).
     with_outputs s c.keep ns (map (map (titled c.name)) outs)))
 

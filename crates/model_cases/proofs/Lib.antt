@@ -2,9 +2,10 @@ mod Drawings
 mod PolygonRows
 mod LineRows
 mod GapRows
-mod LaterRows
+mod UnionRows
 mod RunRows
 mod CommandRows
+mod PlaceRows
 mod RingRow
 mod SynthRow
 mod TextRows

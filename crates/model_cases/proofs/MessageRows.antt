@@ -8,7 +8,7 @@ use Rattle.table_ops.specs.declared.fault.EvalWhy.TheVariants.{Types}
 use Rattle.table_ops.specs.declared.fault.TableWhy.TheVariants.{Eval, FieldsDiffer, NoField, NotBoolean}
 use Rattle.cmd_words.specs.declared.fault.ExprWhy.TheVariants.{Unsupported}
 use Rattle.cmd_words.specs.declared.fault.WordWhy.TheVariants.{BadExpression, BadPrecision}
-use Rattle.chain_model.specs.Outcome.{done, bad_words, missing, bad_input, refused, write_fault, too_dense, memory, syntax, shape, topo, no_header, repeated_name, unequal_row, no_layer, in_table}
+use Rattle.chain_model.specs.Outcome.{done, bad_words, missing, bad_input, refused, write_fault, too_dense, memory, syntax, shape, topo, no_header, repeated_name, unequal_row, no_layer, lone_layer, in_table}
 use Rattle.chain_model.specs.Messages.{message_of}
 
 precision : message_of (bad_words 2 BadPrecision) ≡ Some (codes "ms_cli: word 2: BadPrecision\n")
@@ -62,6 +62,10 @@ dense = refl
 layer : message_of (refused 1 no_layer) ≡ Some (codes "ms_cli: command 1: NoLayer\n")
 unfolding digits
 layer = refl
+
+alone : message_of (refused 1 lone_layer) ≡ Some (codes "ms_cli: command 1: OneLayer\n")
+unfolding digits
+alone = refl
 
 item : message_of (refused 1 (in_table (NoField 0))) ≡ Some (codes "ms_cli: command 1: NoField item 0\n")
 unfolding digits

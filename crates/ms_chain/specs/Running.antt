@@ -28,7 +28,7 @@ use Rattle.run_plane.specs.declared.layer.Layer.{Layer}
 use Rattle.run_beginning.specs.BegunLayers.{BeginsOver}
 use Rattle.run_beginning.specs.Drawing.{drawing_of}
 use Rattle.run_state.specs.Origins.{Base}
-use Rattle.run_state.specs.Stops.{StopsFor}
+use Rattle.run_state.specs.Stops.{StopsAs, StopsFor}
 use Rattle.run_state.specs.Targets.{first_layers, has_target, targets}
 use Rattle.run_state.specs.declared.refusal.RefuseWhy.{RefuseWhy}
 use Rattle.run_state.specs.declared.refusal.RefuseWhy.TheVariants.{NoLayer}
@@ -37,7 +37,7 @@ use Rattle.run_state.specs.declared.state.CommandStop.TheVariants.{Refused}
 use Rattle.run_state.specs.declared.state.Held.{Held}
 use Rattle.run_state.specs.declared.state.State.{State}
 use Rattle.run_steps.specs.Commands.{ChangesEach, ChangesTogether}
-use Rattle.run_steps.specs.Refusals.{refusal_each, refusal_together}
+use Rattle.run_steps.specs.Refusals.{RefusesEach, refusal_together}
 use Rattle.run_synth.specs.Told.{IsToldOf}
 use Rattle.run_texts.specs.Written.{OutputSays, refused_output}
 use Rattle.run_outcome.specs.Ends.{of_command, of_drawing, of_sources, of_words}
@@ -49,15 +49,15 @@ use Rattle.ms_chain.specs.Effects.{OutsideSeen, CountsGrew, WroteText, WriteRose
 -- ---- one command
 
 -- a command that changes layers stops for its first refusal or for want of memory, and without a target as no layer
-pub record StopsChange (c : Command) (layers : List Held) (refusal : Option RefuseWhy) (stop : CommandStop) : Type 0 where
-  pub first : StopsFor refusal stop
+pub record StopsChange (c : Command) (layers : List Held) (Refuses : Option RefuseWhy → Type 0) (stop : CommandStop) : Type 0 where
+  pub first : StopsAs Refuses stop
   pub absent : has_target c.target layers ≡ false → stop ≡ Refused NoLayer
 
 -- why a command stops: for its first refusal alone, or for want of memory
 abbrev pub StopsBy : Base → Command → Action → List Held → CommandStop → Type 0
 StopsBy base c (action.Write to standard form) layers stop = StopsFor (refused_output c.target form layers) stop
-StopsBy base c (action.Each a) layers stop = StopsChange c layers (refusal_each base layers c a) stop
-StopsBy base c (action.Together a) layers stop = StopsChange c layers (refusal_together layers c a) stop
+StopsBy base c (action.Each a) layers stop = StopsChange c layers (RefusesEach base layers c a) stop
+StopsBy base c (action.Together a) layers stop = StopsChange c layers (λ (told : Option RefuseWhy). refusal_together layers c a ≡ told) stop
 
 -- the command with this number stops the run, and nothing changes
 pub record IsStopped (base : Base) (n : ℕ) (c : Command) (layers : List Held) (before after : OutsideSeen) (o : Outcome) : Type 0 where
@@ -99,15 +99,15 @@ pub record GoesOnWriting (base : Base) (c : Command) (form : OutForm) (standard 
   pub writes : WritesWhole base form (targets c.target layers) standard name before after
 
 -- any other command that isn't refused changes them and writes nothing
-pub record GoesOnChanging (refusal : Option RefuseWhy) (Changes : Type 0) (before after : OutsideSeen) : Type 0 where
-  pub accepted : refusal ≡ None
+pub record GoesOnChanging (Accepted : Type 0) (Changes : Type 0) (before after : OutsideSeen) : Type 0 where
+  pub accepted : Accepted
   pub changes : Changes
   pub kept : after ≡ before
 
 abbrev pub GoesOn : Base → Command → Action → List Held → List Held → OutsideSeen → OutsideSeen → Type 0
 GoesOn base c (action.Write to standard form) layers layers' before after = GoesOnWriting base c form standard to layers layers' before after
-GoesOn base c (action.Each a) layers layers' before after = GoesOnChanging (refusal_each base layers c a) (ChangesEach base c a layers layers') before after
-GoesOn base c (action.Together a) layers layers' before after = GoesOnChanging (refusal_together layers c a) (ChangesTogether c a layers layers') before after
+GoesOn base c (action.Each a) layers layers' before after = GoesOnChanging (RefusesEach base layers c a None) (ChangesEach base c a layers layers') before after
+GoesOn base c (action.Together a) layers layers' before after = GoesOnChanging (refusal_together layers c a ≡ None) (ChangesTogether base c a layers layers') before after
 
 -- its target is there
 pub record Passes (base : Base) (c : Command) (layers layers' : List Held) (before after : OutsideSeen) : Type 0 where

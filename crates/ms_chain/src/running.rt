@@ -189,7 +189,7 @@ fn step<F: Files, K: Sink>(
             Ok(state) => Ok(state),
             Err(stop) => Err(Outcome::of_command(number, stop)),
         },
-        Action::Together(action) => match changed_together(alloc, command, action, state) {
+        Action::Together(action) => match changed_together(alloc, ground, command, action, state) {
             Ok(state) => Ok(state),
             Err(stop) => Err(Outcome::of_command(number, stop)),
         },

@@ -3,5 +3,5 @@ pub mod Answers
 pub mod LineCommands
 pub mod PolygonCommands
 pub mod Printed
-pub mod LaterCommands
+pub mod UnionCommand
 pub mod PlaceCommands

@@ -22,6 +22,7 @@ abbrev pub refusal_as : RefuseWhy → model.RefuseWhy
 refusal_as refuse.NoLayer = model.no_layer
 refusal_as refuse.ManyLayers = model.many_layers
 refusal_as refuse.WrongKind = model.wrong_kind
+refusal_as refuse.OneLayer = model.lone_layer
 refusal_as refuse.NoGroupPoints = model.no_group_points
 refusal_as refuse.NameTwice = model.name_twice
 refusal_as refuse.TooManyLayers = model.too_many_layers

@@ -112,6 +112,7 @@ abbrev pub refused_text : RefuseWhy → Text
 refused_text refuse.NoLayer = codes "NoLayer"
 refused_text refuse.ManyLayers = codes "ManyLayers"
 refused_text refuse.WrongKind = codes "WrongKind"
+refused_text refuse.OneLayer = codes "OneLayer"
 refused_text refuse.NoGroupPoints = codes "NoGroupPoints"
 refused_text refuse.NameTwice = codes "NameTwice"
 refused_text refuse.TooManyLayers = codes "TooManyLayers"

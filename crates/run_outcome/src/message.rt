@@ -259,6 +259,7 @@ fn add_refuse_why(line: &mut Line, why: RefuseWhy)
         RefuseWhy::NoLayer => line.push_str("NoLayer"),
         RefuseWhy::ManyLayers => line.push_str("ManyLayers"),
         RefuseWhy::WrongKind => line.push_str("WrongKind"),
+        RefuseWhy::OneLayer => line.push_str("OneLayer"),
         RefuseWhy::NoGroupPoints => line.push_str("NoGroupPoints"),
         RefuseWhy::NameTwice => line.push_str("NameTwice"),
         RefuseWhy::TooManyLayers => line.push_str("TooManyLayers"),

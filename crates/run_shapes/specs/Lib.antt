@@ -5,3 +5,5 @@ pub mod Dissolving
 pub mod Exploding
 pub mod FaceSets
 pub mod Islands
+pub mod Matching
+pub mod Uniting

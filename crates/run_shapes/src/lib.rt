@@ -1,8 +1,9 @@
-//! Commands on shapes: each makes a layer of one layer, over the plane of the run.
+//! Commands on shapes: each makes a layer of one layer or of several, over the plane of the run.
 //!
 //! 1. `face_sets` has the sets of faces of a layer, and those that `-clip` and `-erase` cut by.
 //! 2. `cutting` is `-clip` and `-erase`, `cleaning` is `-clean` and `-mosaic`, `dissolving` is `-dissolve`, `exploding` is
-//!    `-explode`, `islands` is `-filter-islands`, `borders` is `-innerlines` and `-lines`.
+//!    `-explode`, `islands` is `-filter-islands`, `borders` is `-innerlines` and `-lines`, `uniting` is `-union`.
+//! 3. `matching` says which features of two layers match by place.
 #![tactic(auto)]
 
 mod borders;
@@ -12,7 +13,9 @@ mod dissolving;
 mod exploding;
 mod face_sets;
 mod islands;
+mod matching;
 mod paths;
+mod uniting;
 
 pub use borders::{inner_lines, outlines};
 pub use cleaning::{cleaned, mosaic};
@@ -21,3 +24,5 @@ pub use dissolving::dissolved;
 pub use exploding::exploded;
 pub use face_sets::{area_of, sets_of, shapes_of, union_of};
 pub use islands::without_islands;
+pub use matching::matches_of;
+pub use uniting::united;

@@ -1,17 +1,17 @@
 -- The layers of a name or of a target, in lists of layers that grow.
-use Rattle.std.proofs.Common.{◌||◌, Bool, true, false, Result, Ok, Err, if◌then◌else◌, true≢false, ◌≡◌, ℕ, ◌+◌, List, [], ◌∷◌, ◌++◌, length, ◌<◌, get_or, take, refl, ap, sym, ◌∙◌, append-nil, map}
+use Rattle.std.proofs.Common.{◌&&◌, ◌||◌, Bool, true, false, None, Some, Result, Ok, Err, if◌then◌else◌, true≢false, ◌≡◌, ℕ, ◌+◌, List, [], ◌∷◌, ◌++◌, length, ◌<◌, get_or, take, refl, ap, sym, ◌∙◌, append-nil, map}
 use Rattle.std.proofs.lemmas.List.{map-append, take_more}
 use Rattle.std.proofs.lemmas.List.Elements.{filter-append}
 use Rattle.std.specs.List.{filter, list_any, range_with_len}
 use Rattle.std.specs.Str.{bytes_eq}
 use Rattle.io_core.specs.Contents.{Content}
-use Rattle.std.specs.Prelude.{slice_index_or}
+use Rattle.std.specs.Prelude.{slice_get, slice_index_or}
 use Rattle.std.proofs.lemmas.List.FromFn.{fill_by_all}
 use Rattle.json_read.specs.Table.{TableContent, RowValues}
 use Rattle.table_ops.specs.Rows.{take_rows}
 use Rattle.run_plane.specs.declared.layer.Layer.{Layer}
 use Rattle.run_state.specs.Origins.{named_layers, one_layer}
-use Rattle.run_state.specs.Targets.{is_layer, is_selected, targets}
+use Rattle.run_state.specs.Targets.{are_layers, has_target, is_layer, is_selected, targets}
 use Rattle.cmd_words.specs.declared.job.Target.{Target}
 use Rattle.run_state.specs.declared.refusal.RefuseWhy.TheVariants.{ManyLayers}
 use Rattle.run_state.specs.declared.state.Held.{Held}
@@ -75,6 +75,26 @@ target_first t held rest e = first_passed (is_selected t) held rest true e
 
 pub other_first : (t : Target) (held : Held) (rest : List Held) → is_selected t held ≡ false → targets t (held ∷ rest) ≡ targets t rest
 other_first t held rest e = first_passed (is_selected t) held rest false e
+
+-- a target that is there has a first layer
+
+second_true : (a b : Bool) → (a && b) ≡ true → b ≡ true
+second_true true b h = h
+second_true false b h = absurd (true≢false (sym h))
+
+no_first : (p : Held → Bool) (held : Held) (rest : List Held) → (list_any p rest ≡ true → None ≡ slice_get (passed p rest) 0 → ⊥) →
+    (b : Bool) → p held ≡ b → list_any p (held ∷ rest) ≡ true → None ≡ slice_get (passed p (held ∷ rest)) 0 → ⊥
+no_first p held rest onward true e h none =
+    let first : None ≡ Some held.layer = none ∙ ap (λ (ls : List Layer). slice_get ls 0) (first_passed p held rest true e) in cc
+no_first p held rest onward false e h none =
+    onward (ap (λ (c : Bool). c || list_any p rest) (sym e) ∙ h) (none ∙ ap (λ (ls : List Layer). slice_get ls 0) (first_passed p held rest false e))
+
+passed_first : (p : Held → Bool) (layers : List Held) → list_any p layers ≡ true → None ≡ slice_get (passed p layers) 0 → ⊥
+passed_first p [] h none = absurd (true≢false (sym h))
+passed_first p (held ∷ rest) h none = no_first p held rest (passed_first p rest) (p held) refl h none
+
+pub has_first : (t : Target) (layers : List Held) → has_target t layers ≡ true → None ≡ slice_get (targets t layers) 0 → ⊥
+has_first t layers h none = passed_first (is_selected t) layers (second_true (are_layers t layers) (list_any (is_selected t) layers) h) none
 
 -- behind others
 

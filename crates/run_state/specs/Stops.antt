@@ -8,10 +8,14 @@ use Rattle.run_state.specs.declared.refusal.RefuseWhy.TheVariants.{Table}
 use Rattle.run_state.specs.declared.state.CommandStop.{CommandStop}
 use Rattle.run_state.specs.declared.state.CommandStop.TheVariants.{Refused, Memory}
 
--- a command stops for its refusal, or for want of memory
+-- a command stops for a refusal of which this holds, or for want of memory
+abbrev pub StopsAs : (Option RefuseWhy → Type 0) → CommandStop → Type 0
+StopsAs Refuses (Refused why) = Refuses (Some why)
+StopsAs Refuses Memory = Unit {0}
+
+-- for its refusal, or for want of memory
 abbrev pub StopsFor : Option RefuseWhy → CommandStop → Type 0
-StopsFor refusal (Refused why) = refusal ≡ Some why
-StopsFor refusal Memory = Unit {0}
+StopsFor refusal stop = StopsAs (λ (told : Option RefuseWhy). refusal ≡ told) stop
 
 -- an answer's refusal
 abbrev pub refusal_of : {T : Type 0} → Result T RefuseWhy → Option RefuseWhy

@@ -23,4 +23,4 @@ pub use origins::source_layer;
 pub use placing::placed;
 pub use refusal::RefuseWhy;
 pub use state::{CommandStop, Held, State};
-pub use targets::{check_target, is_selected, only_target};
+pub use targets::{check_target, first_target, is_selected, only_target};

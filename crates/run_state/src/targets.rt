@@ -1,4 +1,4 @@
-ghost use Rattle.std.specs.Prelude.{◌≡◌, ◌∷◌, IfErr, IfOk};
+ghost use Rattle.std.specs.Prelude.{◌≡◌, ◌∷◌, IfErr, IfOk, option_copied, slice_get};
 ghost use Rattle.std.specs.List.{list_all, list_any};
 ghost use Rattle.table_terms.specs.Names.{has_name};
 ghost use Rattle.run_state.specs.Origins.{one_layer};
@@ -88,6 +88,18 @@ fn is_among(names: &[Text], name: &str) -> bool
         }
     }
     false
+}
+
+/// The first layer of a target.
+pub fn first_target<'a>(layers: &'a [Held], target: &Target) -> Option<&'a Layer>
+    ensures first { option_copied result ≡ slice_get (targets target.now layers.now) 0 }
+{
+    for held in layers {
+        if is_selected(target, held) {
+            return Some(&held.layer);
+        }
+    }
+    None
 }
 
 /// The one layer of a target.

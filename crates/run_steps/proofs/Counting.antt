@@ -21,7 +21,7 @@ use Rattle.run_state.specs.declared.state.Held.{Held}
 use Rattle.run_state.proofs.TargetLemmas.{target_first, other_first}
 use Rattle.run_tables.specs.Made.{HasTable, One}
 use Rattle.run_tables.specs.Pieces.{ArePieces, IsPiece}
-use Rattle.run_steps.specs.Commands.{IsTitled, PutsFor, PutsOut, PutsTogether, Titles, at_first}
+use Rattle.run_steps.specs.Commands.{IsTitled, MadeTogether, PutsFor, PutsOut, PutsTogether, Titles, at_first}
 use Rattle.run_steps.specs.Refusals.{output_count, piece_count, stay_count}
 
 -- ---- what is put out for one layer
@@ -53,6 +53,7 @@ made_counted base layers action.InnerLines layer made h = one_counted _ made h
 made_counted base layers (action.Lines fields) layer made h = one_counted _ made h
 made_counted base layers action.Explode layer made h = one_counted _ made h
 made_counted base layers (action.Join from spec) layer made h = one_counted _ made h.joined
+made_counted base layers (action.SpatialJoin from spec) layer made h = one_counted _ made h.joined
 made_counted base layers (action.Filter test invert remove_empty) layer made h = one_counted _ made h
 made_counted base layers (action.FilterFields fields) layer made h = one_counted _ made h
 made_counted base layers (action.RenameFields pairs) layer made h = one_counted _ made h
@@ -181,13 +182,13 @@ one_put : (n : ℕ) (made : Layer) → length (flat_map (map put_out) (first_at 
 one_put zero made = refl
 one_put (suc n) made = one_put n made
 
-merge_counted : (t : Target) (made : Layer) (layers : List Held) (b : Bool) → 0 < length (targets t layers) →
+joint_counted : (t : Target) (made : Layer) (layers : List Held) (b : Bool) → 0 < length (targets t layers) →
     length (if b then behind_all layers (at_first t layers made) else in_places t layers (at_first t layers made)) ≡ (if b then length layers else stays t layers) + 1
-merge_counted t made layers true some =
+joint_counted t made layers true some =
     let both = length-append (map staying layers) (flat_map (map put_out) (at_first t layers made)) in
     let each = length-map layers staying in
     omega (arith, both, each, one_put (position_or_len (is_selected t) layers) made)
-merge_counted t made layers false some = first_counted t made layers some
+joint_counted t made layers false some = first_counted t made layers some
 
 -- ---- a command
 
@@ -199,7 +200,12 @@ pub left_by_each : (base : Base) (layers : List Held) (c : Command) (a : LayerAc
     length (placed c layers outputs) ≡ stay_count c layers + sum_by (output_count a) (targets c.target layers)
 left_by_each base layers c a outputs h = each_counted base layers c a layers outputs c.keep h
 
-pub left_together : (layers : List Held) (c : Command) (a : JointAction) (outputs : List (List Layer)) → PutsTogether c a layers outputs → length (placed c layers outputs) ≡ stay_count c layers + 1
-left_together layers c (joint.MergeLayers force) outputs h =
+some_made : (base : Base) (a : JointAction) (layers : List Layer) (made : Layer) → MadeTogether base a layers made → 0 < length layers
+some_made base (joint.MergeLayers force) layers made h = some_first layers h.first h.begins
+some_made base joint.Union layers made h = some_first layers h.first h.begins
+
+pub left_together : (base : Base) (layers : List Held) (c : Command) (a : JointAction) (outputs : List (List Layer)) → PutsTogether base c a layers outputs →
+    length (placed c layers outputs) ≡ stay_count c layers + 1
+left_together base layers c a outputs h =
     let all : length (placed c layers outputs) ≡ length (placed c layers (at_first c.target layers h.titled)) = ap (λ (outs : List (List Layer)). length (placed c layers outs)) h.place in
-    all ∙ merge_counted c.target h.titled layers c.keep (some_first (targets c.target layers) h.of_all.first h.of_all.begins)
+    all ∙ joint_counted c.target h.titled layers c.keep (some_made base a (targets c.target layers) h.made h.of_all)

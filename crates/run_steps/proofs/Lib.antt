@@ -1,3 +1,4 @@
 pub mod AtWork
+pub mod ByPlace
 pub mod Counting
 pub mod Refusals

@@ -1,5 +1,5 @@
 -- The first refusal among the layers of a target, and that of a source.
-use Rattle.std.proofs.Common.{◌≡◌, ℕ, ◌+◌, ◌<◌, ◌≤◌, Bool, true, false, List, ◌∷◌, length, drop, Option, None, Some, Result, Ok, Err, if◌then◌else◌, refl, ap, sym, subst, ◌∙◌}
+use Rattle.std.proofs.Common.{◌≡◌, ◌⊎◌, inl, inr, MatchBool, ℕ, ◌+◌, ◌<◌, ◌≤◌, Bool, true, false, List, ◌∷◌, length, drop, Option, None, Some, Result, Ok, Err, if◌then◌else◌, refl, ap, sym, subst, ◌∙◌}
 use Rattle.std.specs.Prelude.{slice_get}
 use Rattle.std.proofs.lemmas.Bool.{lt-ltb, le-ltb}
 use Rattle.std.proofs.lemmas.List.{at_drop_more}
@@ -10,7 +10,7 @@ use Rattle.cmd_words.specs.declared.job.Origin.TheVariants as origin
 use Rattle.cmd_words.specs.declared.job.Target.{Target}
 use Rattle.run_plane.specs.declared.layer.Layer.{Layer}
 use Rattle.run_state.specs.Origins.{Owned, one_layer, origin_layers, refused_origin}
-use Rattle.run_state.specs.Stops.{StopsFor, refusal_of}
+use Rattle.run_state.specs.Stops.{StopsAs, StopsFor, refusal_of}
 use Rattle.run_state.specs.Targets.{is_selected, targets}
 use Rattle.run_state.specs.declared.refusal.RefuseWhy.{RefuseWhy}
 use Rattle.run_state.specs.declared.refusal.RefuseWhy.TheVariants.{TooManyLayers}
@@ -19,7 +19,7 @@ use Rattle.run_state.specs.declared.state.CommandStop.TheVariants as stop
 use Rattle.run_state.specs.declared.state.Held.{Held}
 use Rattle.run_state.proofs.Stops.{stops_first, stops_second}
 use Rattle.run_state.proofs.TargetLemmas.{target_first, other_first}
-use Rattle.run_steps.specs.Refusals.{refused_area, refused_count, refused_in, refused_polygons}
+use Rattle.run_steps.specs.Refusals.{FirstOf, RefusesIn, refused_area, refused_count, refused_polygons}
 
 -- ---- the source
 
@@ -35,36 +35,63 @@ area_there sources layers (origin.Source n) s e h = polygons_there (one_layer (o
 area_there sources layers (origin.Area n) (stop.Refused why) e h = absurd (let n : None ≡ Some why = h in cc)
 area_there sources layers (origin.Area n) stop.Memory e h = refl
 
+-- ---- the first of two
+
+pub past : (First Second : Option RefuseWhy → Type 0) (refusal : Option RefuseWhy) → First None → Second refusal → FirstOf First Second refusal
+past First Second None f s = (f, s)
+past First Second (Some why) f s = inr (f, s)
+
+-- what stops the first stops both, and behind a first that has none the second counts
+
+pub stops_at_first : (First Second : Option RefuseWhy → Type 0) (s : CommandStop) → StopsAs First s → StopsAs (FirstOf First Second) s
+stops_at_first First Second (stop.Refused why) h = inl h
+stops_at_first First Second stop.Memory h = tt
+
+pub stops_behind : (First Second : Option RefuseWhy → Type 0) (s : CommandStop) → First None → StopsAs Second s → StopsAs (FirstOf First Second) s
+stops_behind First Second (stop.Refused why) f h = inr (f, h)
+stops_behind First Second stop.Memory f h = tt
+
 -- ---- layer by layer
 
-abbrev after_held : (Layer → Option RefuseWhy) → Target → Held → List Held → Bool → Option RefuseWhy
-after_held f t held rest b = first_refusal (if b then f held.layer else None) (refused_in f (targets t rest))
+module _ (Refuses : Layer → Option RefuseWhy → Type 0) (t : Target) where
+  abbrev RefusesAll : List Held → Option RefuseWhy → Type 0
+  RefusesAll layers refusal = RefusesIn Refuses (targets t layers) refusal
 
-one_more : (f : Layer → Option RefuseWhy) (t : Target) (held : Held) (rest : List Held) → refused_in f (targets t (held ∷ rest)) ≡ after_held f t held rest (is_selected t held)
-one_more f t held rest = go (is_selected t held) refl
-  where
-    go : (b : Bool) → is_selected t held ≡ b → refused_in f (targets t (held ∷ rest)) ≡ after_held f t held rest (is_selected t held)
-    go true e = ap (refused_in f) (target_first t held rest e) ∙ sym (ap (after_held f t held rest) e)
-    go false e = ap (refused_in f) (other_first t held rest e) ∙ sym (ap (after_held f t held rest) e)
+  abbrev RefusesOne : Bool → Held → Option RefuseWhy → Type 0
+  RefusesOne b held refusal = MatchBool b (Refuses held.layer refusal) (None ≡ refusal)
 
--- a list from a place on begins with the layer there
-from_place : (f : Layer → Option RefuseWhy) (t : Target) (xs : List Held) (i : ℕ) (item : Held) → i < length xs → slice_get xs i ≡ Some item →
-    refused_in f (targets t (drop i xs)) ≡ after_held f t item (drop (i + 1) xs) (is_selected t item)
-from_place f t xs i item h there =
-    at_drop_more (λ (ls : List Held). refused_in f (targets t ls)) xs i item h
-    ∙ (ap (λ (x : Held). refused_in f (targets t (x ∷ drop (i + 1) xs))) (get_or_from_slice_get xs i item item there) ∙ one_more f t item (drop (i + 1) xs))
+  one_on : (held : Held) (rest : List Held) (refusal : Option RefuseWhy) → is_selected t held ≡ true → FirstOf (Refuses held.layer) (RefusesAll rest) refusal → RefusesAll (held ∷ rest) refusal
+  one_on held rest refusal e h = subst (λ (layers : List Layer). RefusesIn Refuses layers refusal) (sym (target_first t held rest e)) h
 
-pub goes_past : (f : Layer → Option RefuseWhy) (t : Target) (xs : List Held) (i : ℕ) (item : Held) → i < length xs → slice_get xs i ≡ Some item →
-    refused_in f (targets t xs) ≡ refused_in f (targets t (drop i xs)) → (if is_selected t item then f item.layer else None) ≡ None →
-    refused_in f (targets t xs) ≡ refused_in f (targets t (drop (i + 1) xs))
-goes_past f t xs i item h there before none =
-    before ∙ (from_place f t xs i item h there ∙ ap (λ (x : Option RefuseWhy). first_refusal x (refused_in f (targets t (drop (i + 1) xs)))) none)
+  one_off : (held : Held) (rest : List Held) (refusal : Option RefuseWhy) → is_selected t held ≡ false → RefusesAll rest refusal → RefusesAll (held ∷ rest) refusal
+  one_off held rest refusal e h = subst (λ (layers : List Layer). RefusesIn Refuses layers refusal) (sym (other_first t held rest e)) h
 
-pub stops_there : (f : Layer → Option RefuseWhy) (t : Target) (xs : List Held) (i : ℕ) (item : Held) (s : CommandStop) → i < length xs → slice_get xs i ≡ Some item →
-    refused_in f (targets t xs) ≡ refused_in f (targets t (drop i xs)) → StopsFor (if is_selected t item then f item.layer else None) s → StopsFor (refused_in f (targets t xs)) s
-stops_there f t xs i item s h there before stops =
-    subst (λ (x : Option RefuseWhy). StopsFor x s) (sym (before ∙ from_place f t xs i item h there))
-    (stops_first s (if is_selected t item then f item.layer else None) (refused_in f (targets t (drop (i + 1) xs))) stops)
+  one_past : (held : Held) (rest : List Held) (refusal : Option RefuseWhy) (b : Bool) → is_selected t held ≡ b → RefusesOne b held None → RefusesAll rest refusal → RefusesAll (held ∷ rest) refusal
+  one_past held rest refusal true e none h = one_on held rest refusal e (past (Refuses held.layer) (RefusesAll rest) refusal none h)
+  one_past held rest refusal false e none h = one_off held rest refusal e h
+
+  one_stops : (held : Held) (rest : List Held) (why : RefuseWhy) (b : Bool) → is_selected t held ≡ b → RefusesOne b held (Some why) → RefusesAll (held ∷ rest) (Some why)
+  one_stops held rest why true e h = one_on held rest (Some why) e (inl h)
+  one_stops held rest why false e h = absurd (let n : None ≡ Some why = h in cc)
+
+  -- a list from a place on begins with the layer there
+  from_place : (xs : List Held) (i : ℕ) (item : Held) → i < length xs → slice_get xs i ≡ Some item → drop i xs ≡ item ∷ drop (i + 1) xs
+  from_place xs i item h there =
+      at_drop_more (λ (ls : List Held). ls) xs i item h ∙ ap (λ (x : Held). x ∷ drop (i + 1) xs) (get_or_from_slice_get xs i item item there)
+
+  -- what refuses the layers from a place on refuses all of them
+  abbrev pub RefuseFrom : List Held → ℕ → Type 0
+  RefuseFrom xs i = (refusal : Option RefuseWhy) → RefusesIn Refuses (targets t (drop i xs)) refusal → RefusesIn Refuses (targets t xs) refusal
+
+  pub goes_past : (xs : List Held) (i : ℕ) (item : Held) → i < length xs → slice_get xs i ≡ Some item → RefuseFrom xs i → MatchBool (is_selected t item) (Refuses item.layer None) (None ≡ None) → RefuseFrom xs (i + 1)
+  goes_past xs i item h there before none refusal rest =
+      before refusal (subst (λ (layers : List Held). RefusesAll layers refusal) (sym (from_place xs i item h there)) (one_past item (drop (i + 1) xs) refusal (is_selected t item) refl none rest))
+
+  pub stops_there : (xs : List Held) (i : ℕ) (item : Held) (s : CommandStop) → i < length xs → slice_get xs i ≡ Some item → RefuseFrom xs i →
+      StopsAs (λ (refusal : Option RefuseWhy). MatchBool (is_selected t item) (Refuses item.layer refusal) (None ≡ refusal)) s → StopsAs (RefusesIn Refuses (targets t xs)) s
+  stops_there xs i item (stop.Refused why) h there before stops =
+      before (Some why) (subst (λ (layers : List Held). RefusesAll layers (Some why)) (sym (from_place xs i item h there)) (one_stops item (drop (i + 1) xs) why (is_selected t item) refl stops))
+  stops_there xs i item stop.Memory h there before stops = tt
 
 -- ---- the number of layers
 

@@ -8,7 +8,9 @@ use Rattle.calc_ops.specs.EarlyRows.{uniq_rows}
 use Rattle.calc_ops.specs.KeyOrder.{sort_rows}
 use Rattle.table_ops.specs.Columns.{keep_fields, rename_fields}
 use Rattle.table_ops.specs.Join.{join_tables}
+use Rattle.table_terms.specs.declared.calculations.CalcSpec.{CalcSpec}
 use Rattle.table_terms.specs.declared.specifications.JoinSpec.{JoinSpec}
+use Rattle.spatial_join.specs.Joined.{join_matched}
 use Rattle.cmd_words.specs.declared.job.Origin.{Origin}
 use Rattle.cmd_words.specs.declared.job.Target.{Target}
 use Rattle.cmd_words.specs.declared.job.Command.{Command}
@@ -24,6 +26,8 @@ use Rattle.run_shapes.specs.Dissolving.{IsGrouped}
 use Rattle.run_shapes.specs.Exploding.{IsExploded}
 use Rattle.run_shapes.specs.FaceSets.{area_of}
 use Rattle.run_shapes.specs.Islands.{IsMainland}
+use Rattle.run_shapes.specs.Matching.{AreMatches}
+use Rattle.run_shapes.specs.Uniting.{IsUnited}
 use Rattle.run_shapes.specs.declared.cutting.CutKeeps.TheVariants as keeps
 use Rattle.run_state.specs.Origins.{Base, one_layer, origin_layers}
 use Rattle.run_state.specs.Targets.{is_selected, placed, targets}
@@ -45,6 +49,14 @@ pub record Joins (base : Base) (layers : List Held) (from : Origin) (spec : Join
   pub found : one_layer (origin_layers base.sources layers from) ≡ Ok source
   pub joined : One (GivesTable (join_tables layer.table source.table spec) layer) outputs
 
+-- and by place: with the rows of its source that match
+pub record JoinsByPlace (base : Base) (layers : List Held) (from : Origin) (spec : CalcSpec) (layer : Layer) (outputs : List Layer) : Type 0 where
+  pub source : Layer
+  pub found : one_layer (origin_layers base.sources layers from) ≡ Ok source
+  pub matches : List (List ℕ)
+  pub are : AreMatches base.plane source layer matches
+  pub joined : One (GivesTable (join_matched layer.table source.table matches spec) layer) outputs
+
 -- what a command that changes each layer puts out for a layer of its target, beside all layers of the state
 abbrev pub PutsOut : Base → List Held → LayerAction → Layer → List Layer → Type 0
 PutsOut base layers (action.Clip from) layer outputs = One (IsCut keeps.Inside base.plane (area_of base layers from) layer) outputs
@@ -56,6 +68,7 @@ PutsOut base layers action.InnerLines layer outputs = One (AreInnerLines base.pl
 PutsOut base layers (action.Lines fields) layer outputs = One (AreOutlines base.plane fields layer) outputs
 PutsOut base layers action.Explode layer outputs = One (IsExploded base.plane layer) outputs
 PutsOut base layers (action.Join from spec) layer outputs = Joins base layers from spec layer outputs
+PutsOut base layers (action.SpatialJoin from spec) layer outputs = JoinsByPlace base layers from spec layer outputs
 PutsOut base layers (action.Filter test invert remove_empty) layer outputs = One (IsFiltered test invert remove_empty layer) outputs
 PutsOut base layers (action.FilterFields fields) layer outputs = One (GivesTable (keep_fields layer.table fields) layer) outputs
 PutsOut base layers (action.RenameFields pairs) layer outputs = One (GivesTable (rename_fields layer.table pairs) layer) outputs
@@ -90,18 +103,19 @@ PutsFor base layers c a held outputs = MatchBool (is_selected c.target held) (Ti
 -- ---- what is put out for several layers
 
 -- the layer that a command makes of these together
-abbrev pub MadeTogether : JointAction → List Layer → Layer → Type 0
-MadeTogether (joint.MergeLayers force) layers made = IsMerged force layers made
+abbrev pub MadeTogether : Base → JointAction → List Layer → Layer → Type 0
+MadeTogether base (joint.MergeLayers force) layers made = IsMerged force layers made
+MadeTogether base joint.Union layers made = IsUnited base.plane layers made
 
 -- a layer in the place of the first target
 abbrev pub at_first : Target → List Held → Layer → List (List Layer)
 at_first t layers made = replicate (position_or_len (is_selected t) layers) [] ++ (made ∷ []) ∷ []
 
 -- it is put out for all targets, in the place of the first, under the name of `name=`
-pub record PutsTogether (c : Command) (a : JointAction) (layers : List Held) (outputs : List (List Layer)) : Type 0 where
+pub record PutsTogether (base : Base) (c : Command) (a : JointAction) (layers : List Held) (outputs : List (List Layer)) : Type 0 where
   pub made : Layer
   pub titled : Layer
-  pub of_all : MadeTogether a (targets c.target layers) made
+  pub of_all : MadeTogether base a (targets c.target layers) made
   pub title : IsTitled c.name made titled
   pub place : outputs ≡ at_first c.target layers titled
 
@@ -119,5 +133,5 @@ abbrev pub ChangesEach : Base → Command → LayerAction → List Held → List
 ChangesEach base c a before after = Changes (AllZip (PutsFor base before c a) before) c before after
 
 -- after one that changes them together
-abbrev pub ChangesTogether : Command → JointAction → List Held → List Held → Type 0
-ChangesTogether c a before after = Changes (PutsTogether c a before) c before after
+abbrev pub ChangesTogether : Base → Command → JointAction → List Held → List Held → Type 0
+ChangesTogether base c a before after = Changes (PutsTogether base c a before) c before after

@@ -1,6 +1,6 @@
--- Why a command that changes layers is refused: for its target, its source, the kinds of its layers, what it makes of
--- them, or how many layers it would leave. The first of these that applies is told.
-use Rattle.std.specs.Prelude.{ℕ, ◌+◌, Bool, true, false, not, ◌||◌, nat_lt, List, [], ◌∷◌, length, count_by, sum_by, Option, Some, None, Result, Ok, Err, if◌then◌else◌}
+-- Why a command that changes layers is refused: for its target, its source, the kinds of its layers, their number, what
+-- it makes of them, or how many layers it would leave. The first of these that applies is told.
+use Rattle.std.specs.Prelude.{◌≡◌, ◌⊎◌, ℕ, ◌+◌, Bool, true, false, not, ◌||◌, nat_lt, List, [], ◌∷◌, length, count_by, sum_by, Option, Some, None, Result, Ok, Err, MatchBool, if◌then◌else◌}
 use Rattle.std.specs.List.{list_all}
 use Rattle.grid_base.specs.declared.kinds.Kind.{Kind}
 use Rattle.grid_base.specs.declared.kinds.Kind.TheVariants as kinds
@@ -13,7 +13,9 @@ use Rattle.table_ops.specs.Join.{join_tables}
 use Rattle.table_terms.specs.Refusals.{first_refusal}
 use Rattle.table_ops.specs.Splitting.{split_rows}
 use Rattle.table_ops.specs.declared.fault.TableWhy.{TableWhy}
+use Rattle.table_terms.specs.declared.calculations.CalcSpec.{CalcSpec}
 use Rattle.table_terms.specs.declared.specifications.JoinSpec.{JoinSpec}
+use Rattle.spatial_join.specs.Joined.{join_matched}
 use Rattle.table_ops.specs.declared.split.SplitItem.{SplitItem}
 use Rattle.cmd_words.specs.declared.job.Command.{Command}
 use Rattle.cmd_words.specs.declared.job.JointAction.{JointAction}
@@ -24,12 +26,14 @@ use Rattle.cmd_words.specs.declared.job.Origin.{Origin}
 use Rattle.cmd_words.specs.declared.job.Origin.TheVariants as origin
 use Rattle.cmd_words.specs.declared.job.Target.{Target}
 use Rattle.run_plane.specs.declared.layer.Layer.{Layer}
+use Rattle.run_plane.specs.declared.plane.Plane.{Plane}
 use Rattle.run_shapes.specs.Dissolving.{refused_dissolve}
+use Rattle.run_shapes.specs.Matching.{AreMatches}
 use Rattle.run_state.specs.Origins.{Base, Owned, one_layer, origin_layers}
 use Rattle.run_state.specs.Stops.{refusal_of, table_refusal}
 use Rattle.run_state.specs.Targets.{has_target, is_selected, targets}
 use Rattle.run_state.specs.declared.refusal.RefuseWhy.{RefuseWhy}
-use Rattle.run_state.specs.declared.refusal.RefuseWhy.TheVariants.{NoLayer, WrongKind, TooManyLayers}
+use Rattle.run_state.specs.declared.refusal.RefuseWhy.TheVariants.{NoLayer, WrongKind, OneLayer, TooManyLayers}
 use Rattle.run_state.specs.declared.state.Held.{Held}
 use Rattle.run_tables.specs.Made.{kept_numbers, refused_layers}
 
@@ -57,6 +61,7 @@ abbrev pub refused_source : Owned → List Held → LayerAction → Option Refus
 refused_source sources layers (action.Clip from) = refused_area sources layers from
 refused_source sources layers (action.Erase from) = refused_area sources layers from
 refused_source sources layers (action.Join from spec) = refusal_of (one_layer (origin_layers sources layers from))
+refused_source sources layers (action.SpatialJoin from spec) = refusal_of (one_layer (origin_layers sources layers from))
 refused_source sources layers _ = None
 
 -- ---- the kinds of the target's layers
@@ -81,8 +86,23 @@ takes _ k = true
 abbrev pub takes_all : LayerAction → List Layer → Bool
 takes_all a layers = list_all (λ (layer : Layer). takes a layer.kind) layers
 
-abbrev pub refused_kinds : LayerAction → List Layer → Option RefuseWhy
-refused_kinds a layers = if takes_all a layers then None else Some WrongKind
+-- polygons are joined by place with points, and points with polygons; a source of another kind with no layers
+abbrev pub joins_with : Kind → Kind → Bool
+joins_with kinds.Polygon kinds.Point = true
+joins_with kinds.Point kinds.Polygon = true
+joins_with _ _ = false
+
+abbrev pub joins_all : Kind → List Layer → Bool
+joins_all source layers = list_all (λ (layer : Layer). joins_with source layer.kind) layers
+
+abbrev pub refused_pairs : Result Layer RefuseWhy → List Layer → Option RefuseWhy
+refused_pairs (Ok source) layers = if joins_all source.kind layers then None else Some WrongKind
+refused_pairs (Err why) layers = Some why
+
+-- `ts` are the layers of the target
+abbrev pub refused_kinds : Owned → List Held → LayerAction → List Layer → Option RefuseWhy
+refused_kinds sources layers (action.SpatialJoin from spec) ts = refused_pairs (one_layer (origin_layers sources layers from)) ts
+refused_kinds sources layers a ts = if takes_all a ts then None else Some WrongKind
 
 abbrev pub same_kind : Kind → Kind → Bool
 same_kind kinds.Polygon kinds.Polygon = true
@@ -95,12 +115,27 @@ abbrev pub first_kind : List Layer → Kind
 first_kind [] = kinds.Table
 first_kind (layer ∷ layers) = layer.kind
 
-abbrev pub are_of_kind : Kind → List Layer → Bool
-are_of_kind k layers = list_all (λ (layer : Layer). same_kind k layer.kind) layers
+-- a command that changes layers together takes layers of this kind, where the first of them is of the kind `first`
+abbrev pub takes_beside : JointAction → Kind → Kind → Bool
+takes_beside (joint.MergeLayers force) first k = same_kind first k
+takes_beside joint.Union first k = is_polygon k
 
--- layers that are changed together all have the kind of the first
-abbrev pub refused_mixture : List Layer → Option RefuseWhy
-refused_mixture layers = if are_of_kind (first_kind layers) layers then None else Some WrongKind
+abbrev pub takes_together : JointAction → Kind → List Layer → Bool
+takes_together a first layers = list_all (λ (layer : Layer). takes_beside a first layer.kind) layers
+
+abbrev pub refused_mixture : JointAction → List Layer → Option RefuseWhy
+refused_mixture a layers = if takes_together a (first_kind layers) layers then None else Some WrongKind
+
+-- ---- how many layers the target has
+
+abbrev pub refused_alone : List Layer → Option RefuseWhy
+refused_alone (layer ∷ []) = Some OneLayer
+refused_alone _ = None
+
+-- a union is of several layers
+abbrev pub refused_number : JointAction → List Layer → Option RefuseWhy
+refused_number (joint.MergeLayers force) layers = None
+refused_number joint.Union layers = refused_alone layers
 
 -- ---- what the command makes of its layers
 
@@ -122,17 +157,34 @@ refused_layer base layers (action.Sort key descending) layer = table_refusal (so
 refused_layer base layers (action.Uniq key most invert) layer = table_refusal (uniq_rows layer.table (tree_of key) most invert)
 refused_layer base layers _ layer = None
 
--- and any other layer is none that is refused
-abbrev pub refused_held : Base → List Held → Command → LayerAction → Held → Option RefuseWhy
-refused_held base layers c a held = if is_selected c.target held then refused_layer base layers a held.layer else None
+-- a join by place is refused for the rows of the source that match
+abbrev pub RefusesByPlace : Plane → Result Layer RefuseWhy → CalcSpec → Layer → Option RefuseWhy → Type 0
+RefusesByPlace plane (Ok source) spec layer refusal =
+    (matches : List (List ℕ)) × AreMatches plane source layer matches × (table_refusal (join_matched layer.table source.table matches spec) ≡ refusal)
+RefusesByPlace plane (Err why) spec layer refusal = Some why ≡ refusal
 
--- the first of layers that is refused
-abbrev pub refused_in : (Layer → Option RefuseWhy) → List Layer → Option RefuseWhy
-refused_in refused [] = None
-refused_in refused (layer ∷ layers) = first_refusal (refused layer) (refused_in refused layers)
+-- the refusal of a layer of the target, or none
+abbrev pub RefusesLayer : Base → List Held → LayerAction → Layer → Option RefuseWhy → Type 0
+RefusesLayer base layers (action.SpatialJoin from spec) layer refusal = RefusesByPlace base.plane (one_layer (origin_layers base.sources layers from)) spec layer refusal
+RefusesLayer base layers a layer refusal = refused_layer base layers a layer ≡ refusal
+
+-- and any other layer is none that is refused
+abbrev pub RefusesHeld : Base → List Held → Command → LayerAction → Held → Option RefuseWhy → Type 0
+RefusesHeld base layers c a held refusal = MatchBool (is_selected c.target held) (RefusesLayer base layers a held.layer refusal) (None ≡ refusal)
+
+-- the refusal of the first of two that has one, or none
+abbrev pub FirstOf : (Option RefuseWhy → Type 0) → (Option RefuseWhy → Type 0) → Option RefuseWhy → Type 0
+FirstOf First Second None = First None × Second None
+FirstOf First Second (Some why) = First (Some why) ⊎ (First None × Second (Some why))
+
+-- of the first of layers that has one
+abbrev pub RefusesIn : (Layer → Option RefuseWhy → Type 0) → List Layer → Option RefuseWhy → Type 0
+RefusesIn Refuses [] refusal = None ≡ refusal
+RefusesIn Refuses (layer ∷ layers) refusal = FirstOf (Refuses layer) (RefusesIn Refuses layers) refusal
 
 abbrev pub refused_together : JointAction → List Layer → Option RefuseWhy
 refused_together (joint.MergeLayers force) layers = refused_layers force layers
+refused_together joint.Union layers = None
 
 -- ---- how many layers it leaves
 
@@ -159,25 +211,30 @@ refused_count count = if nat_lt 1000 count then Some TooManyLayers else None
 -- before it works: for its target, its source, or the kinds of the target's layers
 abbrev pub unfit_each : Base → List Held → Command → LayerAction → Option RefuseWhy
 unfit_each base layers c a =
-    first_refusal (refused_target c.target layers) (first_refusal (refused_source base.sources layers a) (refused_kinds a (targets c.target layers)))
+    first_refusal (refused_target c.target layers) (first_refusal (refused_source base.sources layers a) (refused_kinds base.sources layers a (targets c.target layers)))
+
+-- for the number of layers that it would leave
+abbrev pub overfull_each : List Held → Command → LayerAction → Option RefuseWhy
+overfull_each layers c a = refused_count (stay_count c layers + sum_by (output_count a) (targets c.target layers))
 
 -- at work: for a layer of the target, in order, or for the number of layers
-abbrev pub failed_each : Base → List Held → Command → LayerAction → Option RefuseWhy
-failed_each base layers c a =
-    first_refusal (refused_in (refused_layer base layers a) (targets c.target layers)) (refused_count (stay_count c layers + sum_by (output_count a) (targets c.target layers)))
+abbrev pub FailsEach : Base → List Held → Command → LayerAction → Option RefuseWhy → Type 0
+FailsEach base layers c a refusal =
+    FirstOf (RefusesIn (RefusesLayer base layers a) (targets c.target layers)) (λ (told : Option RefuseWhy). overfull_each layers c a ≡ told) refusal
 
-abbrev pub refusal_each : Base → List Held → Command → LayerAction → Option RefuseWhy
-refusal_each base layers c a = first_refusal (unfit_each base layers c a) (failed_each base layers c a)
+abbrev pub RefusesEach : Base → List Held → Command → LayerAction → Option RefuseWhy → Type 0
+RefusesEach base layers c a refusal = FirstOf (λ (told : Option RefuseWhy). unfit_each base layers c a ≡ told) (FailsEach base layers c a) refusal
 
 -- ---- and of one that changes them together
 
--- before it works: for its target, or for layers of several kinds
-abbrev pub unfit_together : List Held → Command → Option RefuseWhy
-unfit_together layers c = first_refusal (refused_target c.target layers) (refused_mixture (targets c.target layers))
+-- before it works: for its target, for the kinds of the target's layers, or for their number
+abbrev pub unfit_together : List Held → Command → JointAction → Option RefuseWhy
+unfit_together layers c a =
+    first_refusal (refused_target c.target layers) (first_refusal (refused_mixture a (targets c.target layers)) (refused_number a (targets c.target layers)))
 
 -- at work: for the layers of the target, or for the number of layers
 abbrev pub failed_together : List Held → Command → JointAction → Option RefuseWhy
 failed_together layers c a = first_refusal (refused_together a (targets c.target layers)) (refused_count (stay_count c layers + 1))
 
 abbrev pub refusal_together : List Held → Command → JointAction → Option RefuseWhy
-refusal_together layers c a = first_refusal (unfit_together layers c) (failed_together layers c a)
+refusal_together layers c a = first_refusal (unfit_together layers c a) (failed_together layers c a)

@@ -1,26 +1,32 @@
-ghost use Rattle.std.specs.Prelude.{◌≡◌, ◌≤◌, IfErr, IfOk, None, false, length, map, true};
+ghost use Rattle.std.specs.Prelude.{◌≡◌, ◌≤◌, IfErr, IfOk, None, Some, false, if◌then◌else◌, length, map, true};
 ghost use Rattle.table_terms.specs.Refusals.{first_refusal};
-ghost use Rattle.run_state.specs.Origins.{base_of};
-ghost use Rattle.run_state.specs.Stops.{StopsFor, refusal_of};
+ghost use Rattle.run_state.specs.Origins.{base_of, one_layer, origin_layers};
+ghost use Rattle.run_state.specs.Stops.{StopsAs, StopsFor, refusal_of};
 ghost use Rattle.run_state.specs.Targets.{has_target, placed, targets};
 ghost use Rattle.run_steps.specs.Commands.{ChangesEach, ChangesTogether};
 ghost use Rattle.run_steps.specs.Refusals.{
-  are_of_kind,
-  failed_each,
+  FailsEach,
+  RefusesEach,
   failed_together,
   first_kind,
   has_geometry,
   is_polygon,
-  refusal_each,
+  joins_all,
+  joins_with,
   refusal_together,
+  refused_alone,
   refused_area,
   refused_count,
   refused_kinds,
   refused_mixture,
+  refused_number,
+  refused_pairs,
   refused_source,
   refused_target,
   takes,
   takes_all,
+  takes_beside,
+  takes_together,
 };
 
 use crate::outputs::{each_outputs, joint_output};
@@ -28,7 +34,8 @@ use cmd_words::{Command, JointAction, LayerAction, Origin, Target};
 use grid_base::Kind;
 use run_plane::Layer;
 use run_state::{
-    CommandStop, Ground, Held, RefuseWhy, State, check_target, is_selected, placed, source_layer,
+    CommandStop, Ground, Held, RefuseWhy, State, check_target, first_target, is_selected,
+    only_target, placed, source_layer,
 };
 use std::alloc::Global;
 
@@ -39,7 +46,7 @@ const MAX_LAYERS: usize = 1_000;
 ///
 /// Errors: the first refusal, of the target, the source, the kinds of the layers, a layer in order, or of too many
 /// layers; and `Memory`.
-#[tactic(auto, using(run_state::proofs::Stops::stops_second))]
+#[tactic(auto, using(crate::proofs::Refusals::past, crate::proofs::Refusals::stops_at_first, crate::proofs::Refusals::stops_behind))]
 pub fn changed_each(
     alloc: Global,
     ground: &Ground<'_>,
@@ -50,8 +57,8 @@ pub fn changed_each(
     ensures changes { IfOk result (λ after. ChangesEach (base_of ground.now) command.now action.now state.layers.items after.layers.items) }
     ensures there { IfOk result (λ after. has_target command.now.target state.layers.items ≡ true) }
     ensures absent { has_target command.now.target state.layers.items ≡ false → result ≡ Err (CommandStop.Refused RefuseWhy.NoLayer) }
-    ensures accepted { IfOk result (λ after. refusal_each (base_of ground.now) state.layers.items command.now action.now ≡ None) }
-    ensures stops { IfErr result (StopsFor (refusal_each (base_of ground.now) state.layers.items command.now action.now)) }
+    ensures accepted { IfOk result (λ after. RefusesEach (base_of ground.now) state.layers.items command.now action.now None) }
+    ensures stops { IfErr result (StopsAs (RefusesEach (base_of ground.now) state.layers.items command.now action.now)) }
 {
     match check_each(&state.layers, ground.sources, &command.target, action) {
         Ok(()) => each_changed(alloc, ground, command, action, state),
@@ -61,27 +68,28 @@ pub fn changed_each(
 
 /// The state after a command that changes the layers of its target together.
 ///
-/// Errors: the first refusal, of the target, the kinds of the layers, their tables, or of too many layers; and `Memory`.
+/// Errors: the first refusal, of the target, the kinds of the layers, their number, their tables, or of too many
+/// layers; and `Memory`.
 #[tactic(auto, using(run_state::proofs::Stops::stops_second))]
 pub fn changed_together(
     alloc: Global,
+    ground: &Ground<'_>,
     command: &Command,
     action: &JointAction,
     state: State,
 ) -> Result<State, CommandStop>
-    ensures changes { IfOk result (λ after. ChangesTogether command.now action.now state.layers.items after.layers.items) }
+    ensures changes { IfOk result (λ after. ChangesTogether (base_of ground.now) command.now action.now state.layers.items after.layers.items) }
     ensures there { IfOk result (λ after. has_target command.now.target state.layers.items ≡ true) }
     ensures absent { has_target command.now.target state.layers.items ≡ false → result ≡ Err (CommandStop.Refused RefuseWhy.NoLayer) }
     ensures accepted { IfOk result (λ after. refusal_together state.layers.items command.now action.now ≡ None) }
     ensures stops { IfErr result (StopsFor (refusal_together state.layers.items command.now action.now)) }
 {
-    match check_together(&state.layers, &command.target) {
-        Ok(()) => together_changed(alloc, command, action, state),
+    match check_together(&state.layers, &command.target, action) {
+        Ok(()) => together_changed(alloc, ground, command, action, state),
         Err(why) => Err(CommandStop::Refused(why)),
     }
 }
 
-#[tactic(auto, using(run_state::proofs::Stops::stops_first))]
 fn each_changed(
     alloc: Global,
     ground: &Ground<'_>,
@@ -91,8 +99,8 @@ fn each_changed(
 ) -> Result<State, CommandStop>
     requires sourced { refused_source (base_of ground.now).sources state.layers.items action.now ≡ None }
     ensures changes { IfOk result (λ after. ChangesEach (base_of ground.now) command.now action.now state.layers.items after.layers.items) }
-    ensures accepted { IfOk result (λ after. failed_each (base_of ground.now) state.layers.items command.now action.now ≡ None) }
-    ensures stops { IfErr result (StopsFor (failed_each (base_of ground.now) state.layers.items command.now action.now)) }
+    ensures accepted { IfOk result (λ after. FailsEach (base_of ground.now) state.layers.items command.now action.now None) }
+    ensures stops { IfErr result (StopsAs (FailsEach (base_of ground.now) state.layers.items command.now action.now)) }
 {
     let outputs = each_outputs(alloc, ground, &state.layers, command, action)?;
     put_out(alloc, state.layers, command, outputs)
@@ -101,15 +109,17 @@ fn each_changed(
 #[tactic(auto, using(run_state::proofs::Stops::stops_first))]
 fn together_changed(
     alloc: Global,
+    ground: &Ground<'_>,
     command: &Command,
     action: &JointAction,
     state: State,
 ) -> Result<State, CommandStop>
-    ensures changes { IfOk result (λ after. ChangesTogether command.now action.now state.layers.items after.layers.items) }
+    requires there { has_target command.now.target state.layers.items ≡ true }
+    ensures changes { IfOk result (λ after. ChangesTogether (base_of ground.now) command.now action.now state.layers.items after.layers.items) }
     ensures accepted { IfOk result (λ after. failed_together state.layers.items command.now action.now ≡ None) }
     ensures stops { IfErr result (StopsFor (failed_together state.layers.items command.now action.now)) }
 {
-    let outputs = joint_output(alloc, &state.layers, command, action)?;
+    let outputs = joint_output(alloc, ground, &state.layers, command, action)?;
     put_out(alloc, state.layers, command, outputs)
 }
 
@@ -140,7 +150,7 @@ fn check_each(
     target: &Target,
     action: &LayerAction,
 ) -> Result<(), RefuseWhy>
-    ensures exact { refusal_of result ≡ first_refusal (refused_target target.now layers.now) (first_refusal (refused_source (map (λ own. own.items) sources.now) layers.now action.now) (refused_kinds action.now (targets target.now layers.now))) }
+    ensures exact { refusal_of result ≡ first_refusal (refused_target target.now layers.now) (first_refusal (refused_source (map (λ own. own.items) sources.now) layers.now action.now) (refused_kinds (map (λ own. own.items) sources.now) layers.now action.now (targets target.now layers.now))) }
     ensures sourced { IfOk result (λ done. refused_source (map (λ own. own.items) sources.now) layers.now action.now ≡ None) }
     ensures there { IfOk result (λ done. has_target target.now layers.now ≡ true) }
     ensures absent { has_target target.now layers.now ≡ false → result ≡ Err RefuseWhy.NoLayer }
@@ -151,14 +161,23 @@ fn check_each(
     }
 }
 
-// The target, then that its layers are of one kind.
-fn check_together(layers: &[Held], target: &Target) -> Result<(), RefuseWhy>
-    ensures exact { refusal_of result ≡ first_refusal (refused_target target.now layers.now) (refused_mixture (targets target.now layers.now)) }
+// The target, then the kinds of its layers, then their number.
+fn check_together(layers: &[Held], target: &Target, action: &JointAction) -> Result<(), RefuseWhy>
+    ensures exact { refusal_of result ≡ first_refusal (refused_target target.now layers.now) (first_refusal (refused_mixture action.now (targets target.now layers.now)) (refused_number action.now (targets target.now layers.now))) }
     ensures there { IfOk result (λ done. has_target target.now layers.now ≡ true) }
     ensures absent { has_target target.now layers.now ≡ false → result ≡ Err RefuseWhy.NoLayer }
 {
     match check_target(layers, target) {
-        Ok(()) => check_one_kind(layers, target),
+        Ok(()) => check_joint(layers, target, action),
+        Err(why) => Err(why),
+    }
+}
+
+fn check_joint(layers: &[Held], target: &Target, action: &JointAction) -> Result<(), RefuseWhy>
+    ensures exact { refusal_of result ≡ first_refusal (refused_mixture action.now (targets target.now layers.now)) (refused_number action.now (targets target.now layers.now)) }
+{
+    match check_mixture(layers, target, action) {
+        Ok(()) => check_number(layers, target, action),
         Err(why) => Err(why),
     }
 }
@@ -169,11 +188,11 @@ fn check_layers(
     target: &Target,
     action: &LayerAction,
 ) -> Result<(), RefuseWhy>
-    ensures exact { refusal_of result ≡ first_refusal (refused_source (map (λ own. own.items) sources.now) layers.now action.now) (refused_kinds action.now (targets target.now layers.now)) }
+    ensures exact { refusal_of result ≡ first_refusal (refused_source (map (λ own. own.items) sources.now) layers.now action.now) (refused_kinds (map (λ own. own.items) sources.now) layers.now action.now (targets target.now layers.now)) }
     ensures sourced { IfOk result (λ done. refused_source (map (λ own. own.items) sources.now) layers.now action.now ≡ None) }
 {
     match check_source(layers, sources, action) {
-        Ok(()) => check_kinds(layers, target, action),
+        Ok(()) => check_kinds(layers, sources, target, action),
         Err(why) => Err(why),
     }
 }
@@ -189,10 +208,8 @@ fn check_source(
     match action {
         LayerAction::Clip { from } => check_area(layers, sources, from),
         LayerAction::Erase { from } => check_area(layers, sources, from),
-        LayerAction::Join { from, .. } => match source_layer(layers, sources, from) {
-            Ok(_) => Ok(()),
-            Err(why) => Err(why),
-        },
+        LayerAction::Join { from, .. } => check_one(layers, sources, from),
+        LayerAction::SpatialJoin { from, .. } => check_one(layers, sources, from),
         LayerAction::Dissolve { .. }
         | LayerAction::Clean { .. }
         | LayerAction::Mosaic
@@ -210,6 +227,15 @@ fn check_source(
     }
 }
 
+fn check_one(layers: &[Held], sources: &[Vec<Layer>], from: &Origin) -> Result<(), RefuseWhy>
+    ensures exact { refusal_of result ≡ refusal_of (one_layer (origin_layers (map (λ own. own.items) sources.now) layers.now from.now)) }
+{
+    match source_layer(layers, sources, from) {
+        Ok(_) => Ok(()),
+        Err(why) => Err(why),
+    }
+}
+
 // That what a command cuts by is polygons. A box always is there.
 fn check_area(layers: &[Held], sources: &[Vec<Layer>], from: &Origin) -> Result<(), RefuseWhy>
     ensures exact { refusal_of result ≡ refused_area (map (λ own. own.items) sources.now) layers.now from.now }
@@ -224,8 +250,60 @@ fn check_area(layers: &[Held], sources: &[Vec<Layer>], from: &Origin) -> Result<
     }
 }
 
-fn check_kinds(layers: &[Held], target: &Target, action: &LayerAction) -> Result<(), RefuseWhy>
-    ensures exact { refusal_of result ≡ refused_kinds action.now (targets target.now layers.now) }
+fn check_kinds(
+    layers: &[Held],
+    sources: &[Vec<Layer>],
+    target: &Target,
+    action: &LayerAction,
+) -> Result<(), RefuseWhy>
+    ensures exact { refusal_of result ≡ refused_kinds (map (λ own. own.items) sources.now) layers.now action.now (targets target.now layers.now) }
+{
+    match action {
+        LayerAction::SpatialJoin { from, .. } => check_pairs(layers, sources, target, from),
+        _ => check_taken(layers, target, action),
+    }
+}
+
+// That the layers of the target are joined by place with the source.
+fn check_pairs(
+    layers: &[Held],
+    sources: &[Vec<Layer>],
+    target: &Target,
+    from: &Origin,
+) -> Result<(), RefuseWhy>
+    ensures exact { refusal_of result ≡ refused_pairs (one_layer (origin_layers (map (λ own. own.items) sources.now) layers.now from.now)) (targets target.now layers.now) }
+{
+    match source_layer(layers, sources, from) {
+        Ok(source) if joins_all(source.kind, layers, target) => Ok(()),
+        Ok(_) => Err(RefuseWhy::WrongKind),
+        Err(why) => Err(why),
+    }
+}
+
+fn joins_all(source: Kind, layers: &[Held], target: &Target) -> bool
+    ensures exact { result ≡ joins_all source (targets target.now layers.now) }
+{
+    for held in layers {
+        if is_selected(target, held) && !joins_with(source, held.layer.kind) {
+            return false;
+        }
+    }
+    true
+}
+
+// Whether layers of these kinds are joined by place.
+fn joins_with(source: Kind, kind: Kind) -> bool
+    ensures exact { result ≡ joins_with source kind }
+{
+    match source {
+        Kind::Polygon => kind == Kind::Point,
+        Kind::Point => kind == Kind::Polygon,
+        Kind::Line | Kind::Table => false,
+    }
+}
+
+fn check_taken(layers: &[Held], target: &Target, action: &LayerAction) -> Result<(), RefuseWhy>
+    ensures exact { refusal_of result ≡ (if takes_all action.now (targets target.now layers.now) then None else Some RefuseWhy.WrongKind) }
 {
     if takes_all(layers, target, action) {
         Ok(())
@@ -245,7 +323,7 @@ fn takes_all(layers: &[Held], target: &Target, action: &LayerAction) -> bool
     true
 }
 
-// Whether the command takes a layer of this kind.
+// Whether the command takes a layer of this kind; a join by place goes by its source too.
 fn takes(action: &LayerAction, kind: Kind) -> bool
     ensures exact { result ≡ takes action.now kind }
 {
@@ -261,6 +339,7 @@ fn takes(action: &LayerAction, kind: Kind) -> bool
         LayerAction::Filter { remove_empty, .. } => !*remove_empty || has_geometry(kind),
         LayerAction::Dissolve { .. }
         | LayerAction::Join { .. }
+        | LayerAction::SpatialJoin { .. }
         | LayerAction::FilterFields { .. }
         | LayerAction::RenameFields { .. }
         | LayerAction::Split { .. }
@@ -282,10 +361,10 @@ fn is_polygon(kind: Kind) -> bool
     kind == Kind::Polygon
 }
 
-fn check_one_kind(layers: &[Held], target: &Target) -> Result<(), RefuseWhy>
-    ensures exact { refusal_of result ≡ refused_mixture (targets target.now layers.now) }
+fn check_mixture(layers: &[Held], target: &Target, action: &JointAction) -> Result<(), RefuseWhy>
+    ensures exact { refusal_of result ≡ refused_mixture action.now (targets target.now layers.now) }
 {
-    if are_of_kind(layers, target, first_kind(layers, target)) {
+    if takes_together(layers, target, action, first_kind(layers, target)) {
         Ok(())
     } else {
         Err(RefuseWhy::WrongKind)
@@ -296,21 +375,48 @@ fn check_one_kind(layers: &[Held], target: &Target) -> Result<(), RefuseWhy>
 fn first_kind(layers: &[Held], target: &Target) -> Kind
     ensures exact { result ≡ first_kind (targets target.now layers.now) }
 {
-    for held in layers {
-        if is_selected(target, held) {
-            return held.layer.kind;
-        }
+    match first_target(layers, target) {
+        Some(layer) => layer.kind,
+        None => Kind::Table,
     }
-    Kind::Table
 }
 
-fn are_of_kind(layers: &[Held], target: &Target, kind: Kind) -> bool
-    ensures exact { result ≡ are_of_kind kind (targets target.now layers.now) }
+fn takes_together(layers: &[Held], target: &Target, action: &JointAction, first: Kind) -> bool
+    ensures exact { result ≡ takes_together action.now first (targets target.now layers.now) }
 {
     for held in layers {
-        if is_selected(target, held) && kind != held.layer.kind {
+        if is_selected(target, held) && !takes_beside(action, first, held.layer.kind) {
             return false;
         }
     }
     true
+}
+
+// Whether a command that changes layers together takes one of this kind, where the first of them is of the kind `first`.
+fn takes_beside(action: &JointAction, first: Kind, kind: Kind) -> bool
+    ensures exact { result ≡ takes_beside action.now first kind }
+{
+    match action {
+        JointAction::MergeLayers { .. } => first == kind,
+        JointAction::Union => is_polygon(kind),
+    }
+}
+
+// That there are as many layers as the command needs.
+fn check_number(layers: &[Held], target: &Target, action: &JointAction) -> Result<(), RefuseWhy>
+    ensures exact { refusal_of result ≡ refused_number action.now (targets target.now layers.now) }
+{
+    match action {
+        JointAction::MergeLayers { .. } => Ok(()),
+        JointAction::Union => check_several(layers, target),
+    }
+}
+
+fn check_several(layers: &[Held], target: &Target) -> Result<(), RefuseWhy>
+    ensures exact { refusal_of result ≡ refused_alone (targets target.now layers.now) }
+{
+    match only_target(layers, target) {
+        Ok(_) => Err(RefuseWhy::OneLayer),
+        Err(_) => Ok(()),
+    }
 }

@@ -1,54 +1,64 @@
-ghost use Rattle.std.specs.Prelude.{◌≡◌, ◌∷◌, [], IfErr, IfOk, None, map, option_copied, replicate};
+ghost use Rattle.std.specs.Prelude.{◌≡◌, ◌∷◌, [], ℕ, List, IfErr, IfOk, None, Ok, map, option_copied, replicate, true};
 ghost use Rattle.std.specs.List.{AllZip, position_or_len};
-ghost use Rattle.run_state.specs.Targets.{is_selected, targets};
+ghost use Rattle.run_shapes.specs.Matching.{AreMatches};
+ghost use Rattle.run_state.specs.Targets.{has_target, is_selected, targets};
 ghost use Rattle.run_state.specs.Origins.{base_of, one_layer, origin_layers};
-ghost use Rattle.run_state.specs.Stops.{StopsFor};
-ghost use Rattle.run_steps.specs.Commands.{CutsBy, IsTitled, Joins, MadeTogether, PutsFor, PutsOut, PutsTogether, at_first};
-ghost use Rattle.run_steps.specs.Refusals.{refused_held, refused_in, refused_join, refused_layer, refused_source, refused_together};
+ghost use Rattle.run_state.specs.Stops.{StopsAs, StopsFor};
+ghost use Rattle.run_steps.specs.Commands.{CutsBy, IsTitled, Joins, JoinsByPlace, MadeTogether, PutsFor, PutsOut, PutsTogether, at_first};
+ghost use Rattle.run_steps.specs.Refusals.{RefusesHeld, RefusesIn, RefusesLayer, RefusesByPlace, refused_join, refused_source, refused_together};
+ghost use Rattle.run_tables.specs.Made.{GivesTable, One};
+ghost use Rattle.spatial_join.specs.Joined.{join_matched};
 
 use cmd_words::{Command, JointAction, LayerAction, Origin, Target};
 use io_core::Text;
 use ring_trace::FaceSet;
-use run_plane::{Layer, copy_text};
+use run_plane::{Layer, Plane, copy_text};
 use run_shapes::{
-    CutKeeps, area_of, cleaned, cut, dissolved, exploded, inner_lines, mosaic, outlines,
-    without_islands,
+    CutKeeps, area_of, cleaned, cut, dissolved, exploded, inner_lines, matches_of, mosaic,
+    outlines, united, without_islands,
 };
 use run_state::{CommandStop, Ground, Held, is_selected, source_layer};
 use run_tables::{
-    calculated, filtered, joined, merged, renamed, sorted, split, unrepeated, with_fields,
+    calculated, filtered, joined, joined_by_matches, merged, renamed, sorted, split, unrepeated,
+    with_fields,
 };
 use std::alloc::{AllocError, Global};
-use table_terms::JoinSpec;
+use table_terms::{CalcSpec, JoinSpec};
 
-/// All features of the target's layers in the place of the first, under the name of `name=` where it stands.
+/// The layer that the command makes of its target's layers, in the place of the first, under the name of `name=` where
+/// it stands.
 pub(crate) fn joint_output(
     alloc: Global,
+    ground: &Ground<'_>,
     layers: &[Held],
     command: &Command,
     action: &JointAction,
 ) -> Result<Vec<Vec<Layer>>, CommandStop>
-    ensures puts { IfOk result (λ outputs. PutsTogether command.now action.now layers.now (map (λ out. out.items) outputs.items)) }
+    requires there { has_target command.now.target layers.now ≡ true }
+    ensures puts { IfOk result (λ outputs. PutsTogether (base_of ground.now) command.now action.now layers.now (map (λ out. out.items) outputs.items)) }
     ensures accepted { IfOk result (λ outputs. refused_together action.now (targets command.now.target layers.now) ≡ None) }
     ensures stops { IfErr result (StopsFor (refused_together action.now (targets command.now.target layers.now))) }
 {
-    let layer = made_together(alloc, layers, &command.target, action)?;
+    let layer = made_together(alloc, ground, layers, &command.target, action)?;
     let layer = titled(alloc, layer, command.name.as_ref())?;
     Ok(at_first(alloc, layers, &command.target, layer)?)
 }
 
 fn made_together(
     alloc: Global,
+    ground: &Ground<'_>,
     layers: &[Held],
     target: &Target,
     action: &JointAction,
 ) -> Result<Layer, CommandStop>
-    ensures made { IfOk result (MadeTogether action.now (targets target.now layers.now)) }
+    requires there { has_target target.now layers.now ≡ true }
+    ensures made { IfOk result (MadeTogether (base_of ground.now) action.now (targets target.now layers.now)) }
     ensures accepted { IfOk result (λ outputs. refused_together action.now (targets target.now layers.now) ≡ None) }
     ensures stops { IfErr result (StopsFor (refused_together action.now (targets target.now layers.now))) }
 {
     match action {
         JointAction::MergeLayers { force } => merged(alloc, layers, target, *force),
+        JointAction::Union => Ok(united(alloc, ground.plane, layers, target)?),
     }
 }
 
@@ -101,8 +111,8 @@ pub(crate) fn each_outputs(
 ) -> Result<Vec<Vec<Layer>>, CommandStop>
     requires sourced { refused_source (base_of ground.now).sources layers.now action.now ≡ None }
     ensures puts { IfOk result (λ outputs. AllZip (PutsFor (base_of ground.now) layers.now command.now action.now) layers.now (map (λ out. out.items) outputs.items)) }
-    ensures accepted { IfOk result (λ outputs. refused_in (refused_layer (base_of ground.now) layers.now action.now) (targets command.now.target layers.now) ≡ None) }
-    ensures stops { IfErr result (StopsFor (refused_in (refused_layer (base_of ground.now) layers.now action.now) (targets command.now.target layers.now))) }
+    ensures accepted { IfOk result (λ outputs. RefusesIn (RefusesLayer (base_of ground.now) layers.now action.now) (targets command.now.target layers.now) None) }
+    ensures stops { IfErr result (StopsAs (RefusesIn (RefusesLayer (base_of ground.now) layers.now action.now) (targets command.now.target layers.now))) }
 {
     let area = cut_area(alloc, ground, layers, action)?;
     let mut outputs = Vec::new(alloc);
@@ -142,8 +152,8 @@ fn held_outputs(
 ) -> Result<Vec<Layer>, CommandStop>
     requires area { CutsBy (base_of ground.now) layers.now action.now area.now }
     ensures puts { IfOk result (λ outputs. PutsFor (base_of ground.now) layers.now command.now action.now held.now outputs.items) }
-    ensures accepted { IfOk result (λ outputs. refused_held (base_of ground.now) layers.now command.now action.now held.now ≡ None) }
-    ensures stops { IfErr result (StopsFor (refused_held (base_of ground.now) layers.now command.now action.now held.now)) }
+    ensures accepted { IfOk result (λ outputs. RefusesHeld (base_of ground.now) layers.now command.now action.now held.now None) }
+    ensures stops { IfErr result (StopsAs (RefusesHeld (base_of ground.now) layers.now command.now action.now held.now)) }
 {
     if !is_selected(&command.target, held) {
         return Ok(Vec::new(alloc));
@@ -204,8 +214,8 @@ fn layer_outputs(
 ) -> Result<Vec<Layer>, CommandStop>
     requires area { CutsBy (base_of ground.now) layers.now action.now area.now }
     ensures puts { IfOk result (λ outputs. PutsOut (base_of ground.now) layers.now action.now layer.now outputs.items) }
-    ensures accepted { IfOk result (λ outputs. refused_layer (base_of ground.now) layers.now action.now layer.now ≡ None) }
-    ensures stops { IfErr result (StopsFor (refused_layer (base_of ground.now) layers.now action.now layer.now)) }
+    ensures accepted { IfOk result (λ outputs. RefusesLayer (base_of ground.now) layers.now action.now layer.now None) }
+    ensures stops { IfErr result (StopsAs (RefusesLayer (base_of ground.now) layers.now action.now layer.now)) }
 {
     let plane = ground.plane;
     match action {
@@ -227,6 +237,9 @@ fn layer_outputs(
         LayerAction::InnerLines => one(alloc, inner_lines(alloc, plane, layer)?),
         LayerAction::Lines { fields } => one(alloc, outlines(alloc, plane, layer, fields)?),
         LayerAction::Join { from, spec } => joined_by(alloc, ground, layers, from, spec, layer),
+        LayerAction::SpatialJoin { from, spec } => {
+            joined_by_place(alloc, ground, layers, from, spec, layer)
+        }
         LayerAction::Filter {
             test,
             invert,
@@ -279,6 +292,45 @@ fn joined_by(
         Ok(source) => one(alloc, joined(alloc, layer, source, spec)?),
         Err(why) => Err(CommandStop::Refused(why)),
     }
+}
+
+#[tactic(auto, using(crate::proofs::ByPlace::no_source))]
+fn joined_by_place(
+    alloc: Global,
+    ground: &Ground<'_>,
+    layers: &[Held],
+    from: &Origin,
+    spec: &CalcSpec,
+    layer: &Layer,
+) -> Result<Vec<Layer>, CommandStop>
+    ensures joins { IfOk result (λ outputs. JoinsByPlace (base_of ground.now) layers.now from.now spec.now layer.now outputs.items) }
+    ensures accepted { IfOk result (λ outputs. RefusesByPlace (base_of ground.now).plane (one_layer (origin_layers (base_of ground.now).sources layers.now from.now)) spec.now layer.now None) }
+    ensures stops { IfErr result (StopsAs (RefusesByPlace (base_of ground.now).plane (one_layer (origin_layers (base_of ground.now).sources layers.now from.now)) spec.now layer.now)) }
+{
+    match source_layer(layers, ground.sources, from) {
+        Ok(source) => joined_with(alloc, ground.plane, source, spec, layer),
+        Err(why) => Err(CommandStop::Refused(why)),
+    }
+}
+
+// The layer joined by place with a source.
+#[tactic(auto, using(crate::proofs::ByPlace::place_stops))]
+fn joined_with(
+    alloc: Global,
+    plane: &Plane,
+    source: &Layer,
+    spec: &CalcSpec,
+    layer: &Layer,
+) -> Result<Vec<Layer>, CommandStop>
+    ensures joins { IfOk result (λ outputs. (matches : List (List ℕ)) × AreMatches plane.now source.now layer.now matches × One (GivesTable (join_matched layer.now.table source.now.table matches spec.now) layer.now) outputs.items) }
+    ensures accepted { IfOk result (λ outputs. RefusesByPlace plane.now (Ok source.now) spec.now layer.now None) }
+    ensures stops { IfErr result (StopsAs (RefusesByPlace plane.now (Ok source.now) spec.now layer.now)) }
+{
+    let matches = matches_of(alloc, plane, source, layer)?;
+    one(
+        alloc,
+        joined_by_matches(alloc, layer, source, &matches, spec)?,
+    )
 }
 
 fn one(alloc: Global, layer: Layer) -> Result<Vec<Layer>, CommandStop>

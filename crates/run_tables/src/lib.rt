@@ -8,4 +8,4 @@ mod table_commands;
 
 pub use row_commands::{calculated, sorted, unrepeated};
 pub use splitting::split;
-pub use table_commands::{filtered, joined, merged, renamed, with_fields};
+pub use table_commands::{filtered, joined, joined_by_matches, merged, renamed, with_fields};

@@ -1,25 +1,28 @@
 ghost use Rattle.run_tables.specs.Gathering.{all_rows};
 ghost use Rattle.std.specs.Prelude.{◌≡◌, ◌<◌, ◌++◌, IfErr, IfOk, None, OnOk, Some, All, length, map, option_copied, slice_get};
 ghost use Rattle.std.specs.List.{flat_map};
+ghost use Rattle.std.specs.List.Sorted.{IsStrictlyIncreasing};
 ghost use Rattle.run_state.specs.Stops.{StopsFor, table_refusal};
 ghost use Rattle.run_state.specs.Targets.{targets};
 ghost use Rattle.table_ops.specs.Columns.{keep_fields, rename_fields};
+ghost use Rattle.spatial_join.specs.Joined.{join_matched};
 ghost use Rattle.table_ops.specs.Join.{join_tables};
 ghost use Rattle.run_tables.specs.Made.{GivesTable, HasTable, IsFiltered, IsMerged, kept_numbers, refused_layers};
 
 use cmd_words::Target;
 use expr_lang::Expr;
-use grid_base::IdList;
+use grid_base::{GroupList, IdList};
 use io_core::NameList;
 use json_read::Table;
 use run_plane::{Layer, Shape, copy_shape, copy_shapes, copy_text};
 use run_state::{
-    CommandStop, Held, RefuseWhy, copy_table, is_selected, numbers_below, take_features,
-    with_geometry,
+    CommandStop, Held, RefuseWhy, copy_table, first_target, is_selected, numbers_below,
+    take_features, with_geometry,
 };
+use spatial_join::join_matched;
 use std::alloc::{AllocError, Global};
 use table_ops::{TableList, filter_rows, join_tables, keep_fields, merge_tables, rename_fields};
-use table_terms::{JoinSpec, RenameList};
+use table_terms::{CalcSpec, JoinSpec, RenameList};
 
 /// The features for which the expression is true, or, with `invert`, false; with `remove_empty` those without
 /// geometry go too.
@@ -94,6 +97,25 @@ pub fn joined(
     ensures stops { IfErr result (StopsFor (table_refusal (join_tables layer.now.table source.now.table spec.now))) }
 {
     let table = join_tables(alloc, &layer.table, &source.table, spec)?;
+    Ok(with_table(alloc, layer, table)?)
+}
+
+/// The layer with the columns of the rows of `source` that match each of its rows, and what is calculated of these.
+#[tactic(auto, using(run_state::proofs::Stops::table_stops))]
+pub fn joined_by_matches(
+    alloc: Global,
+    layer: &Layer,
+    source: &Layer,
+    matches: &GroupList,
+    spec: &CalcSpec,
+) -> Result<Layer, CommandStop>
+    requires each { length matches.now ≡ length layer.now.table.rows }
+    requires ascending { All IsStrictlyIncreasing matches.now }
+    ensures made { IfOk result (GivesTable (join_matched layer.now.table source.now.table matches.now spec.now) layer.now) }
+    ensures accepted { IfOk result (λ made. table_refusal (join_matched layer.now.table source.now.table matches.now spec.now) ≡ None) }
+    ensures stops { IfErr result (StopsFor (table_refusal (join_matched layer.now.table source.now.table matches.now spec.now))) }
+{
+    let table = join_matched(alloc, &layer.table, &source.table, matches, spec)?;
     Ok(with_table(alloc, layer, table)?)
 }
 
@@ -177,17 +199,6 @@ fn gather(alloc: Global, layers: &[Held], target: &Target) -> Result<Gathered, A
         }
     }
     Ok(Gathered { tables, shapes })
-}
-
-fn first_target<'a>(layers: &'a [Held], target: &Target) -> Option<&'a Layer>
-    ensures first { option_copied result ≡ slice_get (targets target.now layers.now) 0 }
-{
-    for held in layers {
-        if is_selected(target, held) {
-            return Some(&held.layer);
-        }
-    }
-    None
 }
 
 fn append_shapes(alloc: Global, out: &mut Vec<Shape>, shapes: &[Shape]) -> Result<(), AllocError>

@@ -1,10 +1,10 @@
 use Rattle.std.proofs.Common.{◌≡◌, length, map, None, rules}
 use Rattle.run_plane.proofs.Growth.{if_ok_on}
 use Rattle.run_state.specs.Origins.{base_of}
-use Rattle.run_state.specs.Stops.{StopsFor}
+use Rattle.run_state.specs.Stops.{StopsAs, StopsFor}
 use Rattle.run_state.specs.Targets.{placed}
 use Rattle.run_state.proofs.Stops.{if_err_on}
-use Rattle.run_steps.specs.Refusals.{failed_each, refused_count}
+use Rattle.run_steps.specs.Refusals.{FailsEach, refused_count}
 use Rattle.run_steps.proofs.AtWork.{each_goes, each_stopped, each_stops}
 use Rattle.run_steps.proofs.commands.each_changed.Goals as goal
 
@@ -14,7 +14,7 @@ returns-clause-accepted c =
     let layers = c.args.state.layers.items in
     let command = c.args.command.now in
     let outputs = map (λ out. out.items) c.in_ok-outputs.outputs.items in
-    if_ok_on (λ after. refused_count (length (placed command layers outputs)) ≡ None) (λ after. failed_each base layers command c.args.action.now ≡ None) c.put_out.result
+    if_ok_on (λ after. refused_count (length (placed command layers outputs)) ≡ None) (λ after. FailsEach base layers command c.args.action.now None) c.put_out.result
     (λ after few. each_goes base layers _ command outputs c.deref.ensures.value c.args.action.now c.in_ok-outputs.ensures.puts c.in_ok-outputs.ensures.accepted few) c.put_out.ensures.accepted
 
 pub returns-clause-stops : goal.returns-clause-stops
@@ -23,8 +23,8 @@ returns-clause-stops c =
     let layers = c.args.state.layers.items in
     let command = c.args.command.now in
     let outputs = map (λ out. out.items) c.in_ok-outputs.outputs.items in
-    if_err_on (StopsFor (refused_count (length (placed command layers outputs)))) (StopsFor (failed_each base layers command c.args.action.now)) c.put_out.result
-    (λ stop h. each_stops base layers _ command outputs c.deref.ensures.value c.args.action.now stop c.in_ok-outputs.ensures.puts c.in_ok-outputs.ensures.accepted h) c.put_out.ensures.stops
+    if_err_on (StopsFor (refused_count (length (placed command layers outputs)))) (StopsAs (FailsEach base layers command c.args.action.now)) c.put_out.result
+    (λ stop h. each_stops base layers _ command outputs c.deref.ensures.value c.args.action.now c.in_ok-outputs.ensures.puts stop c.in_ok-outputs.ensures.accepted h) c.put_out.ensures.stops
 
 pub returns-in_err-outputs-clause-stops : goal.returns-in_err-outputs-clause-stops
 returns-in_err-outputs-clause-stops c =

@@ -1,5 +1,6 @@
 use Rattle.std.proofs.Common.{◌≡◌, length, map, None}
 use Rattle.run_plane.proofs.Growth.{if_ok_on}
+use Rattle.run_state.specs.Origins.{base_of}
 use Rattle.run_state.specs.Stops.{StopsFor}
 use Rattle.run_state.specs.Targets.{placed}
 use Rattle.run_state.proofs.Stops.{if_err_on}
@@ -13,7 +14,7 @@ returns-clause-accepted c =
     let command = c.args.command.now in
     let outputs = map (λ out. out.items) c.in_ok-outputs.outputs.items in
     if_ok_on (λ after. refused_count (length (placed command layers outputs)) ≡ None) (λ after. failed_together layers command c.args.action.now ≡ None) c.put_out.result
-    (λ after few. together_goes layers _ command outputs c.deref.ensures.value c.args.action.now c.in_ok-outputs.ensures.puts c.in_ok-outputs.ensures.accepted few) c.put_out.ensures.accepted
+    (λ after few. together_goes (base_of c.args.ground.now) layers _ command outputs c.deref.ensures.value c.args.action.now c.in_ok-outputs.ensures.puts c.in_ok-outputs.ensures.accepted few) c.put_out.ensures.accepted
 
 pub returns-clause-stops : goal.returns-clause-stops
 returns-clause-stops c =
@@ -21,4 +22,4 @@ returns-clause-stops c =
     let command = c.args.command.now in
     let outputs = map (λ out. out.items) c.in_ok-outputs.outputs.items in
     if_err_on (StopsFor (refused_count (length (placed command layers outputs)))) (StopsFor (failed_together layers command c.args.action.now)) c.put_out.result
-    (λ stop h. together_stops layers _ command outputs c.deref.ensures.value c.args.action.now stop c.in_ok-outputs.ensures.puts c.in_ok-outputs.ensures.accepted h) c.put_out.ensures.stops
+    (λ stop h. together_stops (base_of c.args.ground.now) layers _ command outputs c.deref.ensures.value c.args.action.now stop c.in_ok-outputs.ensures.puts c.in_ok-outputs.ensures.accepted h) c.put_out.ensures.stops

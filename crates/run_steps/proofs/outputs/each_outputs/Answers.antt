@@ -4,7 +4,7 @@ use Rattle.std.proofs.lemmas.List.{map-append, take_more}
 use Rattle.std.proofs.lemmas.Option.{slice_get_read, get_or_from_slice_get}
 use Rattle.run_state.specs.Origins.{base_of}
 use Rattle.run_steps.specs.Commands.{PutsFor}
-use Rattle.run_steps.specs.Refusals.{refused_layer}
+use Rattle.run_steps.specs.Refusals.{RefusesLayer}
 use Rattle.run_state.specs.declared.state.Held.{Held}
 use Rattle.run_plane.proofs.Growth.{zipped_on}
 use Rattle.run_steps.proofs.Refusals.{goes_past, stops_there}
@@ -19,12 +19,12 @@ loop-held-preserved c =
     let more : take (i + 1) xs ≡ take i xs ++ item ∷ [] =
     take_more xs i item c.loop-held-test.true ∙ ap (λ (x : Held). take i xs ++ x ∷ []) (get_or_from_slice_get xs i item item there) in
     let puts = PutsFor (base_of c.args.ground.now) xs c.args.command.now c.args.action.now in
-    let refused = refused_layer (base_of c.args.ground.now) xs c.args.action.now in
+    let refuses = RefusesLayer (base_of c.args.ground.now) xs c.args.action.now in
     let made = ap (map (λ out. out.items)) c.in_ok-push.ensures.items ∙ map-append (λ out. out.items) c.loop-held.outputs.items (c.in_ok-held_outputs.field-0 ∷ []) in
     record {
       puts = subst₂ (AllZip puts) (sym more) (sym made)
           (zipped_on puts (take i xs) (map (λ out. out.items) c.loop-held.outputs.items) item c.in_ok-held_outputs.field-0.items c.loop-held.invariant.puts c.in_ok-held_outputs.ensures.puts);
-      refused = goes_past refused c.args.command.now.target xs i item c.loop-held-test.true there c.loop-held.invariant.refused c.in_ok-held_outputs.ensures.accepted;
+      refused = goes_past refuses c.args.command.now.target xs i item c.loop-held-test.true there c.loop-held.invariant.refused c.in_ok-held_outputs.ensures.accepted;
     }
 
 pub returns-in_err-held_outputs-clause-stops : goal.returns-in_err-held_outputs-clause-stops
@@ -34,5 +34,5 @@ returns-in_err-held_outputs-clause-stops c =
     let item = c.held-item.result in
     let there = slice_get_read xs (length xs) i item refl c.loop-held-test.true c.held-item.is in
     let stops =
-    stops_there (refused_layer (base_of c.args.ground.now) xs c.args.action.now) c.args.command.now.target xs i item c.in_err-held_outputs.field-0.0 c.loop-held-test.true there c.loop-held.invariant.refused c.in_err-held_outputs.ensures.stops in
+    stops_there (RefusesLayer (base_of c.args.ground.now) xs c.args.action.now) c.args.command.now.target xs i item c.in_err-held_outputs.field-0.0 c.loop-held-test.true there c.loop-held.invariant.refused c.in_err-held_outputs.ensures.stops in
     search rules

@@ -1,0 +1,99 @@
+ghost use Rattle.std.specs.Prelude.{◌≡◌, All, IfOk, Some, length, map, slice_get, true};
+ghost use Rattle.ring_trace.specs.Sets.{IsSetOf};
+ghost use Rattle.run_shapes.specs.Uniting.{IsUnited, item_shape, layer_sets, layer_tables, row_counts, set_counts};
+ghost use Rattle.run_state.specs.Targets.{has_target, targets};
+
+use crate::face_sets::sets_of;
+use cmd_words::Target;
+use grid_base::Kind;
+use run_plane::{Layer, Plane, Shape, copy_text};
+use run_state::{Held, copy_table, first_target, is_selected};
+use std::alloc::{AllocError, Global};
+use table_ops::TableList;
+use union_ops::{LayerSets, UnionItem, union_sets, union_tables};
+
+/// The union of the target's layers, under the name of the first: a feature for each part of the faces that the same
+/// features have, one or none of each layer. Of features of one layer that share faces the earlier one has them. The
+/// columns are those of all layers side by side; a row is null where no feature of a layer has the faces.
+///
+/// Cost: n log n for n faces, each with the number of layers, and one step for each face of each feature.
+#[tactic(auto, using(run_state::proofs::TargetLemmas::has_first))]
+pub fn united(
+    alloc: Global,
+    plane: &Plane,
+    layers: &[Held],
+    target: &Target,
+) -> Result<Layer, AllocError>
+    requires there { has_target target.now layers.now ≡ true }
+    ensures made { IfOk result (IsUnited plane.now (targets target.now layers.now)) }
+{
+    match first_target(layers, target) {
+        Some(first) => united_like(alloc, plane, first, layers, target),
+        None => unreachable!(),
+    }
+}
+
+// The union of the target's layers, of which this is the first.
+#[tactic(auto, using(crate::proofs::Uniting::of_tables))]
+fn united_like(
+    alloc: Global,
+    plane: &Plane,
+    first: &Layer,
+    layers: &[Held],
+    target: &Target,
+) -> Result<Layer, AllocError>
+    requires first { Some first.now ≡ slice_get (targets target.now layers.now) 0 }
+    ensures made { IfOk result (IsUnited plane.now (targets target.now layers.now)) }
+{
+    let Gathered { tables, sets } = gather(alloc, plane, layers, target)?;
+    let items = union_sets(alloc, &plane.arcs, &plane.faces, &sets)?;
+    let table = union_tables(alloc, &tables, &items)?;
+    let shapes = item_shapes(alloc, items.as_slice())?;
+    Ok(Layer {
+        name: copy_text(alloc, &first.name)?,
+        kind: Kind::Polygon,
+        table,
+        shapes,
+    })
+}
+
+// The tables of layers, and the sets of faces of their features.
+#[derive(Drop)]
+struct Gathered {
+    tables: TableList,
+    sets: LayerSets,
+    ghost each: { row_counts tables ≡ set_counts sets },
+}
+
+#[tactic(auto, using(run_state::proofs::TargetLemmas::targets_on, run_state::proofs::TargetLemmas::targets_off, crate::proofs::Uniting::counts_more))]
+fn gather(
+    alloc: Global,
+    plane: &Plane,
+    layers: &[Held],
+    target: &Target,
+) -> Result<Gathered, AllocError>
+    ensures tables { IfOk result (λ all. all.tables ≡ layer_tables (targets target.now layers.now)) }
+    ensures sets { IfOk result (λ all. all.sets ≡ layer_sets plane.now (targets target.now layers.now)) }
+    ensures there { IfOk result (λ all. All (All (IsSetOf plane.now.faces)) all.sets) }
+{
+    let mut tables = TableList::new(alloc);
+    let mut sets = LayerSets::new(alloc);
+    for held in layers {
+        if is_selected(target, held) {
+            tables.push(copy_table(alloc, &held.layer.table)?)?;
+            sets.push(sets_of(alloc, plane, &held.layer.shapes)?)?;
+        }
+    }
+    Ok(Gathered { tables, sets })
+}
+
+fn item_shapes(alloc: Global, items: &[UnionItem]) -> Result<Vec<Shape>, AllocError>
+    ensures exact { IfOk result (λ shapes. shapes.items ≡ map item_shape items.now) }
+    ensures count { IfOk result (λ shapes. length shapes.items ≡ length items.now) }
+{
+    let mut shapes = Vec::new(alloc);
+    for item in items {
+        shapes.push(Shape::Faces(item.set.copy(alloc)?))?;
+    }
+    Ok(shapes)
+}

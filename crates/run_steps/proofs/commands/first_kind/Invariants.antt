@@ -1,6 +1,0 @@
-use Rattle.std.proofs.Common.{◌≡◌, drop}
-use Rattle.run_state.specs.Targets.{targets}
-use Rattle.run_steps.proofs.commands.first_kind.Given as goal
-
-abbrev pub invariant-loop-held : goal.invariant-loop-held
-invariant-loop-held l = targets l.target l.layers ≡ targets l.target (drop l.held-index l.layers)

@@ -1,0 +1,101 @@
+-- Faces beside a vertex: round a node, on both sides of an arc, or over a point.
+use Rattle.std.proofs.Common.{◌≡◌, refl, sym, ap, ◌∙◌, subst, arith, ℕ, ◌<◌, Bool, true, false, ◌||◌, nat_eq, List, [], ◌∷◌, ◌++◌, All, Contains, length, get_or, map}
+use Rattle.std.specs.Prelude.{◌↔◌, None, Some, slice_get}
+use Rattle.std.specs.List.{flat_map, list_any}
+use Rattle.std.proofs.lemmas.List.Elements.{All-contains, All-from_get_or, All-get_or, Contains-get_or}
+use Rattle.std.proofs.lemmas.List.{get_or-map, length-map}
+use Rattle.std.proofs.lemmas.List.Folds.{list_any_at, Any-from_list_any}
+use Rattle.lists.specs.Lists.{has}
+use Rattle.lists.proofs.Members.{Contains-head, Contains-map, map-Contains}
+use Rattle.plane_model.specs.Points.{GridPoint, Path}
+use Rattle.plane_model.specs.Arcs.{SignedArc, forward, backward}
+use Rattle.arc_table.specs.Around.{IsAround, start_of}
+use Rattle.arc_table.specs.Lookup.{IsArcAt, IsLeastAt}
+use Rattle.face_walk.specs.Places.{FaceTable, IsFaceOver}
+use Rattle.ring_trace.proofs.BoundaryLemmas.{has_Contains, Contains_has}
+use Rattle.line_ops.specs.Inside.{left_of, right_of, is_inside}
+use Rattle.line_ops.specs.Points.{Leaves, IsNode, IsInsideAt}
+use Rattle.spatial_join.specs.Beside.{AreBeside, AreFoundAt, lists_of, lists_left_of}
+
+one_least : (arcs : List Path) (p : GridPoint) (m n : ℕ) → IsLeastAt arcs p m → IsLeastAt arcs p n → m ≡ n
+one_least arcs p m n h k = let a = h.least n k.there k.on in let b = k.least m h.there h.on in omega arith
+
+or_false : (b : Bool) → (b || false) ≡ b
+or_false true = refl
+or_false false = refl
+
+-- the set has one of the faces
+abbrev pub has_one : List ℕ → List ℕ → Bool
+has_one beside set = list_any (λ (k : ℕ). has nat_eq set k) beside
+
+-- lists of the faces left of arcs
+pub left_lists : (owners : List (List ℕ)) (faces : FaceTable) (around : List SignedArc) → lists_left_of owners faces around ≡ lists_of owners (map (left_of faces) around)
+left_lists owners faces [] = refl
+left_lists owners faces (a ∷ rest) = ap (λ (ns : List ℕ). get_or owners (left_of faces a) [] ++ ns) (left_lists owners faces rest)
+
+pub left_there : (faces : FaceTable) (around : List SignedArc) → All (λ (a : SignedArc). left_of faces a < faces.count) around → All (λ (k : ℕ). k < faces.count) (map (left_of faces) around)
+left_there faces around h = All-from_get_or (λ (k : ℕ). k < faces.count) (map (left_of faces) around) 0 (λ i l.
+    All-contains (λ (k : ℕ). k < faces.count) (map (left_of faces) around) (get_or (map (left_of faces) around) i 0)
+    (λ j d m. let d_arc = get_or around j (forward 0) in
+    let within : j < length around = (let e = length-map around (left_of faces) in omega arith) in
+    subst (λ (k : ℕ). k < faces.count) (sym (get_or-map (left_of faces) around j (forward 0) d within)) (h j (forward 0) within))
+    (Contains-get_or (map (left_of faces) around) i 0 l))
+
+module _ (arcs : List Path) (faces : FaceTable) (p : GridPoint) where
+  module _ (around : List SignedArc) (h : IsAround arcs p around) where
+    pub some_node : (arcs_there : List SignedArc) → around ≡ arcs_there → (length arcs_there ≡ 0 → ⊥) → IsNode arcs p
+    some_node [] e some = absurd (some refl)
+    some_node (a ∷ rest) e some =
+        let o = All-contains (λ (b : SignedArc). (b.arc < length arcs) × (start_of arcs b ≡ p)) around a h.others (subst (λ (bs : List SignedArc). Contains bs a) (sym e) (Contains-head a rest)) in
+        (a, record { there = o.0; start = o.1 })
+
+    pub no_node : length around ≡ 0 → IsNode arcs p → ⊥
+    no_node e (a, leaves) = let (i, l, at) = h.all a leaves.there leaves.start in absurd (omega arith)
+
+    pub beside_node : (length around ≡ 0 → ⊥) → AreBeside arcs faces p (map (left_of faces) around)
+    beside_node some = record {
+      at_node = λ node k. (
+        λ c.
+            let (a, there, is) = map-Contains (left_of faces) around k c in
+            let o = All-contains (λ (b : SignedArc). (b.arc < length arcs) × (start_of arcs b ≡ p)) around a h.others there in
+            (a, record { there = o.0; start = o.1 }, is),
+        λ w.
+            let (a, leaves, is) = w in
+            subst (λ (f : ℕ). Contains (map (left_of faces) around) f) is (Contains-map (left_of faces) around a (h.all a leaves.there leaves.start)),
+      );
+      on_arc = λ n no least. absurd (no (some_node around refl some));
+      alone = λ no off. absurd (no (some_node around refl some));
+    }
+
+  pub beside_arc : (IsNode arcs p → ⊥) → (n : ℕ) → IsLeastAt arcs p n → AreBeside arcs faces p (left_of faces (forward n) ∷ left_of faces (backward n) ∷ [])
+  beside_arc off n least = record {
+    at_node = λ node k. absurd (off node);
+    on_arc = λ m no other. ap (λ (j : ℕ). left_of faces (forward j) ∷ left_of faces (backward j) ∷ []) (one_least arcs p n m least other);
+    alone = λ no none. absurd (none n least.there least.on);
+  }
+
+  pub beside_face : (IsNode arcs p → ⊥) → IsArcAt arcs p None → (k : ℕ) → IsFaceOver faces p k → AreBeside arcs faces p (k ∷ [])
+  beside_face off none k over = record {
+    at_node = λ node j. absurd (off node);
+    on_arc = λ n no least. absurd (none n least.there least.on);
+    alone = λ no also. (k, over, refl);
+  }
+
+  -- a vertex is inside the sets that have a face beside it
+  pub inside_by_beside : (set beside : List ℕ) → AreBeside arcs faces p beside → IsInsideAt arcs faces p set (has_one beside set)
+  inside_by_beside set beside h =
+      let test : ℕ → Bool = λ (k : ℕ). has nat_eq set k in
+      record {
+        at_node = λ node. (
+          λ e.
+              let (i, k, l, at, in_set) = Any-from_list_any test beside e in
+              let (a, leaves, is) = (h.at_node node k).0 (i, l, at) in
+              (a, leaves, subst (Contains set) (sym is) (has_Contains set k in_set)),
+          λ w.
+              let (a, leaves, c) = w in
+              let (i, l, at) = (h.at_node node (left_of faces a)).1 (a, leaves, refl) in
+              list_any_at test beside i (left_of faces a) l (subst (λ (k : ℕ). test k ≡ true) (sym at) (Contains_has set (left_of faces a) c)),
+        );
+        on_arc = λ n no least. ap (list_any test) (h.on_arc n no least) ∙ ap (λ (b : Bool). test (left_of faces (forward n)) || b) (or_false (test (right_of faces (forward n))));
+        alone = λ no off. let (k, over, is) = h.alone no off in (k, over, ap (list_any test) is ∙ or_false (test k));
+      }

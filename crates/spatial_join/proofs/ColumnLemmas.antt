@@ -1,0 +1,164 @@
+-- Columns by places, rows by places, and the names of a joined table.
+use Rattle.std.proofs.Common.{◌≡◌, ℕ, ◌+◌, ℤ, Bool, true, false, cond, not, ◌||◌, List, [], ◌∷◌, ◌++◌, map, filter, length, Option, Some, None, option_map, refl, sym, ap, ◌∙◌, subst, true≢false, append_assoc, append-nil, length-append, arith}
+use Rattle.std.specs.Prelude.{Result, Ok}
+use Rattle.std.specs.List.{IsDistinct, zip}
+use Rattle.std.specs.Str.{bytes_eq}
+use Rattle.std.specs.Cmp.Lexicographic.{nat_list_eq_equiv}
+use Rattle.std.proofs.lemmas.List.{length-map, map-append}
+use Rattle.std.proofs.lemmas.List.Folds.{list_any-append}
+use Rattle.std.proofs.lemmas.Map.Keys.{IsDistinct-push}
+use Rattle.json_read.specs.Table.{TableContent, RowValues}
+use Rattle.json_read.specs.declared.value.Value.{Value}
+use Rattle.json_read.specs.declared.value.Value.TheVariants as is
+use Rattle.table_terms.specs.Names.{Text, has_name, value_at, place_of}
+use Rattle.table_terms.specs.Refusals.{on_ok}
+use Rattle.table_terms.specs.declared.calculations.Calc.{Calc}
+use Rattle.table_terms.specs.declared.calculations.Calc.TheVariants.{Count, Sum}
+use Rattle.table_terms.specs.declared.calculations.CalcSpec.{CalcSpec}
+use Rattle.table_terms.specs.declared.specifications.JoinSpec.{JoinSpec}
+use Rattle.table_ops.specs.Join.{copied_name, kept_cell, new_cell, joined_row, forced_field, new_fields}
+use Rattle.table_ops.specs.declared.fault.TableWhy.{TableWhy}
+use Rattle.table_ops.specs.declared.fault.TableWhy.TheVariants.{NoField, FieldTwice}
+use Rattle.table_ops.proofs.Cells.{map_map}
+use Rattle.table_ops.proofs.Joining.{joined_names_differ as copied_differ}
+use Rattle.spatial_join.specs.CalcColumns.{kept_at, kept_column, added_column, columns_of, column_value, summed_place, calculated_at, with_sums, row_by_places, rows_by_places}
+use Rattle.spatial_join.specs.Joined.{as_join, calc_name, copied_fields, copied_names, new_names, joined_names, lacks_field, refused_calc, each_ok, calculated, first_row, calc_row, matching, calc_rows}
+use Rattle.spatial_join.specs.declared.calc_columns.Column.{Column}
+use Rattle.spatial_join.proofs.JoinLemmas.{each_of_map}
+
+-- ---- values
+
+kept_value : (source : List Text) (row : RowValues) (own : ℕ) (o : Option Text) (matched : Option RowValues)
+    → column_value row matched (kept_at own (option_map (place_of source) o)) ≡ kept_cell source (value_at row own) o matched
+kept_value source row own None matched = refl
+kept_value source row own (Some f) None = refl
+kept_value source row own (Some f) (Some other) = refl
+
+added_value : (source : List Text) (row : RowValues) (f : Text) (matched : Option RowValues) → column_value row matched (added_column source f) ≡ new_cell source matched f
+added_value source row f None = refl
+added_value source row f (Some other) = refl
+
+-- the values of the columns are the joined row
+pub values_joined : (target source : List Text) (spec : CalcSpec) (row : RowValues) (matched : Option RowValues)
+    → map (column_value row matched) (columns_of target source spec) ≡ joined_row target source (as_join source spec) row matched
+values_joined target source spec row matched =
+    let new : List Text = new_fields target source (as_join source spec) in
+    map-append (column_value row matched) (map (kept_column target source spec) target) (map (added_column source) new)
+    ∙ (λ i. map_map (column_value row matched) (kept_column target source spec) target i ++ map_map (column_value row matched) (added_column source) new i)
+    ∙ (λ i. map (λ (name : Text). kept_value source row (place_of target name) (forced_field source (as_join source spec) name) matched i) target
+    ++ map (λ (f : Text). added_value source row f matched i) new)
+
+calculated_same : (source : TableContent) (matched : List ℕ) (c : Calc) → calculated_at source.rows matched (summed_place source.names c) ≡ calculated source matched c
+calculated_same source matched (Count name) = refl
+calculated_same source matched (Sum name field) = refl
+
+row_joined : (target source : TableContent) (spec : CalcSpec) (row : RowValues) (matched : List ℕ)
+    → row_by_places source.rows (columns_of target.names source.names spec) (map (summed_place source.names) spec.calc) row matched ≡ calc_row target source spec row matched
+row_joined target source spec row matched =
+    (λ i. on_ok (each_of_map (calculated_at source.rows matched) (summed_place source.names) spec.calc i)
+    (λ (numbers : List ℤ). Ok (values_joined target.names source.names spec row (first_row source.rows matched) i ++ map is.Num numbers)))
+    ∙ (λ i. on_ok (each_ok (λ (c : Calc). calculated_same source matched c i) spec.calc)
+    (λ (numbers : List ℤ). Ok (joined_row target.names source.names (as_join source.names spec) row (first_row source.rows matched) ++ map is.Num numbers)))
+
+pub rows_joined : (target source : TableContent) (matches : List (List ℕ)) (spec : CalcSpec) (remaining : List ℕ)
+    → rows_by_places source.rows (columns_of target.names source.names spec) (map (summed_place source.names) spec.calc) remaining (zip target.rows matches) ≡ calc_rows target source matches spec remaining
+rows_joined target source matches spec remaining =
+    (λ i. each_ok (λ (p : RowValues × List ℕ). row_joined target source spec p.0 (matching remaining p.1) i) (zip target.rows matches))
+
+-- ---- calculations, one further
+
+module _ (source earlier : List Text) (n : ℕ) (c : Calc) (rest : List Calc) where
+  abbrev others : Option TableWhy
+  others = refused_calc source (earlier ++ calc_name c ∷ []) (n + 1) rest
+
+  pub calc_next : refused_calc source earlier n (c ∷ []) ≡ None → refused_calc source earlier n (c ∷ rest) ≡ refused_calc source (earlier ++ calc_name c ∷ []) (n + 1) rest
+  calc_next e = go (lacks_field source c) (has_name earlier (calc_name c)) e
+    where
+      go : (a b : Bool) → cond a (Some (NoField n)) (cond b (Some (FieldTwice n)) None) ≡ None → cond a (Some (NoField n)) (cond b (Some (FieldTwice n)) others) ≡ others
+      go true b h = absurd (cc)
+      go false true h = absurd (cc)
+      go false false h = refl
+
+  pub calc_stops : (why : TableWhy) → refused_calc source earlier n (c ∷ []) ≡ Some why → refused_calc source earlier n (c ∷ rest) ≡ Some why
+  calc_stops why e = go (lacks_field source c) (has_name earlier (calc_name c)) e
+    where
+      go : (a b : Bool) → cond a (Some (NoField n)) (cond b (Some (FieldTwice n)) None) ≡ Some why → cond a (Some (NoField n)) (cond b (Some (FieldTwice n)) others) ≡ Some why
+      go true b h = h
+      go false true h = h
+      go false false h = absurd (cc)
+
+  calc_accepted : refused_calc source earlier n (c ∷ rest) ≡ None → (has_name earlier (calc_name c) ≡ false) × (others ≡ None)
+  calc_accepted e = go (lacks_field source c) (has_name earlier (calc_name c)) refl e
+    where
+      go : (a b : Bool) → has_name earlier (calc_name c) ≡ b → cond a (Some (NoField n)) (cond b (Some (FieldTwice n)) others) ≡ None → (has_name earlier (calc_name c) ≡ false) × (others ≡ None)
+      go true b f h = absurd (cc)
+      go false true f h = absurd (cc)
+      go false false f h = (f, h)
+
+-- ---- names
+
+-- there are as many names as columns
+pub as_many_names : (target source : List Text) (spec : CalcSpec) → length (joined_names target source spec) ≡ length (columns_of target source spec) + length (map (summed_place source) spec.calc)
+as_many_names target source spec =
+    let new : List Text = new_fields target source (as_join source spec) in
+    let a = length-append target (new_names target source spec ++ map calc_name spec.calc) in
+    let b = length-append (new_names target source spec) (map calc_name spec.calc) in
+    let c = length-append (map (kept_column target source spec) target) (map (added_column source) new) in
+    let d = length-map new (copied_name (as_join source spec)) in
+    let e = length-map target (kept_column target source spec) in
+    let f = length-map new (added_column source) in
+    let g = length-map spec.calc calc_name in
+    let h = length-map spec.calc (summed_place source) in
+    omega (arith, a, b, c, d, e, f, g, h)
+
+or_first : (a b : Bool) → (a || b) ≡ false → a ≡ false
+or_first true b e = absurd (true≢false e)
+or_first false b e = refl
+
+or_second : (a b : Bool) → (a || b) ≡ false → b ≡ false
+or_second true b e = absurd (true≢false e)
+or_second false b e = e
+
+none_of : (a b : Bool) → a ≡ false → b ≡ false → (a || b) ≡ false
+none_of a b e f = ap (λ (x : Bool). x || b) e ∙ f
+
+missing_parts : (xs ys : List Text) (t : Text) → has_name (xs ++ ys) t ≡ false → (has_name xs t ≡ false) × (has_name ys t ≡ false)
+missing_parts xs ys t e =
+    let both = sym (list_any-append (bytes_eq t) xs ys) ∙ e in
+    (or_first (has_name xs t) (has_name ys t) both, or_second (has_name xs t) (has_name ys t) both)
+
+missing_both : (xs ys : List Text) (t : Text) → has_name xs t ≡ false → has_name ys t ≡ false → has_name (xs ++ ys) t ≡ false
+missing_both xs ys t e f = list_any-append (bytes_eq t) xs ys ∙ none_of (has_name xs t) (has_name ys t) e f
+
+-- a name that none of some fields gets is got by none that are kept
+missing_kept : (name : Text → Text) (keeps : Text → Bool) (fields : List Text) (t : Text) → has_name (map name fields) t ≡ false → has_name (map name (filter keeps fields)) t ≡ false
+missing_kept name keeps [] t e = refl
+missing_kept name keeps (f ∷ fields) t e = by (keeps f) (missing_kept name keeps fields t (or_second (bytes_eq t (name f)) (has_name (map name fields) t) e))
+  where
+    by : (b : Bool) → has_name (map name (filter keeps fields)) t ≡ false → has_name (map name (cond b (f ∷ filter keeps fields) (filter keeps fields))) t ≡ false
+    by true h = none_of (bytes_eq t (name f)) (has_name (map name (filter keeps fields)) t) (or_first (bytes_eq t (name f)) (has_name (map name fields) t) e) h
+    by false h = h
+
+-- calculations that are accepted have names that differ, also from those before them
+calcs_differ : (source names earlier : List Text) (n : ℕ) (calcs : List Calc) → ((t : Text) → has_name earlier t ≡ false → has_name names t ≡ false) → IsDistinct bytes_eq names → refused_calc source earlier n calcs ≡ None →
+    IsDistinct bytes_eq (names ++ map calc_name calcs)
+calcs_differ source names earlier n [] among h e = subst (IsDistinct bytes_eq) (sym (append-nil names)) h
+calcs_differ source names earlier n (c ∷ calcs) among h e =
+    let name = calc_name c in
+    let parts = calc_accepted source earlier n c calcs e in
+    subst (IsDistinct bytes_eq) (append_assoc names (name ∷ []) (map calc_name calcs))
+    (calcs_differ source (names ++ name ∷ []) (earlier ++ name ∷ []) (n + 1) calcs
+    (λ t f. let two = missing_parts earlier (name ∷ []) t f in missing_both names (name ∷ []) t (among t two.0) two.1)
+    (IsDistinct-push nat_list_eq_equiv names name h (among name parts.0))
+    parts.1)
+
+pub joined_names_differ : (target source : List Text) (spec : CalcSpec) (n : ℕ) → IsDistinct bytes_eq target → IsDistinct bytes_eq (copied_fields source spec) → refused_calc source (target ++ copied_names source spec) n spec.calc ≡ None →
+    IsDistinct bytes_eq ((target ++ new_names target source spec) ++ map calc_name spec.calc)
+joined_names_differ target source spec n h k accepted =
+    let join : JoinSpec = as_join source spec in
+    calcs_differ source (target ++ new_names target source spec) (target ++ copied_names source spec) n spec.calc
+    (λ t e.
+    let two = missing_parts target (copied_names source spec) t e in
+    missing_both target (new_names target source spec) t two.0 (missing_kept (copied_name join) (λ (f : Text). not (has_name target (copied_name join f))) (copied_fields source spec) t two.1))
+    (copied_differ target source join h k)
+    accepted

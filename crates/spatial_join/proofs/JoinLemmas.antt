@@ -1,0 +1,166 @@
+-- Answers for all items, one item further, and rows that match both ways.
+use Rattle.std.proofs.Common.{◌≡◌, ℕ, zero, suc, ◌+◌, ◌<◌, ℤ, Bool, true, nat_eq, nat_lt, List, [], ◌∷◌, ◌++◌, map, filter, length, drop, get_or, Contains, refl, sym, ap, ◌∙◌, subst, append_assoc, append-nil, length-append, add-one, arith}
+use Rattle.std.specs.Prelude.{Option, Some, Result, Ok, Err, IfOk, AllPairs}
+use Rattle.std.specs.Bool.{beq}
+use Rattle.std.specs.List.{AllZip, zip}
+use Rattle.std.specs.List.Sorted.{IsStrictlyIncreasing}
+use Rattle.std.proofs.lemmas.List.{length-map}
+use Rattle.std.proofs.lemmas.List.Kept.{AllPairs-filter, AllPairs-from_increasing}
+use Rattle.std.proofs.lemmas.Slice.Zip.{AllZip-long}
+use Rattle.lists.specs.Lists.{has, numbers_where}
+use Rattle.lists.proofs.Ascending.{one_ascending}
+use Rattle.lists.proofs.Members.{Contains-filter, filter-Contains}
+use Rattle.expr_lang.specs.Tree.{Tree}
+use Rattle.json_read.specs.Table.{TableContent, RowValues, AreRows}
+use Rattle.json_read.specs.declared.value.Value.TheVariants as is
+use Rattle.ring_trace.proofs.BoundaryLemmas.{has_Contains, Contains_has}
+use Rattle.ring_trace.proofs.SetLemmas.{nat_order, to_ascending}
+use Rattle.table_terms.specs.Refusals.{on_ok}
+use Rattle.table_ops.specs.Filtering.{filter_rows, tests_of}
+use Rattle.table_ops.specs.Refusals.{Answers, Refuses}
+use Rattle.table_ops.specs.declared.fault.TableFault.{TableFault}
+use Rattle.table_ops.specs.declared.fault.TableFault.TheVariants.{Bad, Memory}
+use Rattle.table_ops.specs.declared.fault.TableWhy.{TableWhy}
+use Rattle.table_ops.proofs.Testing.{behind}
+use Rattle.spatial_join.specs.CalcColumns.{calculated_at, with_sums}
+use Rattle.spatial_join.specs.Joined.{each_ok, matching}
+use Rattle.spatial_join.proofs.NumberLemmas.{increasing, numbers_where_rise}
+
+-- ---- an answer and what it was made of
+
+answer_or : {T E : Type 0} → T → Result T E → T
+answer_or d (Ok v) = v
+answer_or d (Err why) = d
+
+pub answer_same : {T E : Type 0} (v w : T) → Ok {E = E} v ≡ Ok w → v ≡ w
+answer_same v w e = ap (answer_or v) e
+
+pub answered : {T U E : Type 0} (r : Result T E) (go : T → Result U E) (u : U) → on_ok r go ≡ Ok u → (v : T) × (r ≡ Ok v) × (go v ≡ Ok u)
+answered (Ok v) go u e = (v, refl, e)
+answered (Err why) go u e = absurd (cc)
+
+-- ---- answers for all items
+
+module _ {A B : Type 0} (f : A → Result B TableWhy) where
+  abbrev each_from : List A → B → Result (List B) TableWhy
+  each_from xs y = on_ok (each_ok f xs) (λ (ys : List B). Ok (y ∷ ys))
+
+  behind_one : (ys : List B) (y : B) (r : Result (List B) TableWhy) → behind ys (on_ok r (λ (zs : List B). Ok (y ∷ zs))) ≡ behind (ys ++ y ∷ []) r
+  behind_one ys y (Ok zs) = ap Ok (sym (append_assoc ys (y ∷ []) zs))
+  behind_one ys y (Err why) = refl
+
+  -- one item further
+  pub each_next : (ys : List B) (xs rest : List A) (x : A) (y : B) → xs ≡ x ∷ rest → f x ≡ Ok y → behind ys (each_ok f xs) ≡ behind (ys ++ y ∷ []) (each_ok f rest)
+  each_next ys xs rest x y e said =
+      ap (λ (zs : List A). behind ys (each_ok f zs)) e ∙ ap (λ (r : Result B TableWhy). behind ys (on_ok r (each_from rest))) said ∙ behind_one ys y (each_ok f rest)
+
+  -- the first refusal is that of the whole
+  pub each_stops : (ys : List B) (xs rest : List A) (x : A) (why : TableWhy) → xs ≡ x ∷ rest → f x ≡ Err why → behind ys (each_ok f xs) ≡ Err why
+  each_stops ys xs rest x why e said =
+      ap (λ (zs : List A). behind ys (each_ok f zs)) e ∙ ap (λ (r : Result B TableWhy). behind ys (on_ok r (each_from rest))) said
+
+  -- behind the last item
+  pub each_done : (ys : List B) (xs : List A) → xs ≡ [] → behind ys (each_ok f xs) ≡ Ok ys
+  each_done ys xs e = ap (λ (zs : List A). behind ys (each_ok f zs)) e ∙ ap Ok (append-nil ys)
+
+  pub each_answers : (xs : List A) (ys : List B) → each_ok f xs ≡ Ok ys → AllZip (λ (x : A) (y : B). f x ≡ Ok y) xs ys
+  each_answers [] ys e = subst (AllZip (λ (x : A) (y : B). f x ≡ Ok y) []) (answer_same [] ys e) tt
+  each_answers (x ∷ xs) ys e =
+      let (y, said, more) = answered (f x) (each_from xs) ys e in
+      let (zs, told, all) = answered (each_ok f xs) (λ (zs : List B). Ok (y ∷ zs)) ys more in
+      subst (AllZip (λ (z : A) (u : B). f z ≡ Ok u) (x ∷ xs)) (answer_same (y ∷ zs) ys all) (said, each_answers xs zs told)
+
+  pub each_long : (xs : List A) (ys : List B) → each_ok f xs ≡ Ok ys → length ys ≡ length xs
+  each_long xs ys e = AllZip-long (λ (x : A) (y : B). f x ≡ Ok y) xs ys (each_answers xs ys e)
+
+pub each_of_map : {A B C : Type 0} (f : B → Result C TableWhy) (g : A → B) (xs : List A) → each_ok f (map g xs) ≡ each_ok (λ (x : A). f (g x)) xs
+each_of_map f g [] = refl
+each_of_map {A} {B} {C} f g (x ∷ xs) = ap (λ (r : Result (List C) TableWhy). on_ok (f (g x)) (λ (y : C). on_ok r (λ (ys : List C). Ok (y ∷ ys)))) (each_of_map f g xs)
+
+-- ---- calculated values
+
+with_one : (cells : RowValues) (n : ℤ) (r : Result (List ℤ) TableWhy) → on_ok (on_ok r (λ (ns : List ℤ). Ok (n ∷ ns))) (λ (ns : List ℤ). Ok (cells ++ map is.Num ns)) ≡ on_ok r (λ (ns : List ℤ). Ok ((cells ++ is.Num n ∷ []) ++ map is.Num ns))
+with_one cells n (Ok ns) = ap Ok (sym (append_assoc cells (is.Num n ∷ []) (map is.Num ns)))
+with_one cells n (Err why) = refl
+
+module _ (rows : List RowValues) (matched : List ℕ) where
+  pub sums_next : (cells : RowValues) (places rest : List _) (place : _) (n : ℤ) → places ≡ place ∷ rest → calculated_at rows matched place ≡ Ok n →
+      with_sums cells rows matched places ≡ with_sums (cells ++ is.Num n ∷ []) rows matched rest
+  sums_next cells places rest place n e said =
+      ap (with_sums cells rows matched) e
+      ∙ ap (λ (r : Result ℤ TableWhy). on_ok (on_ok r (each_from (calculated_at rows matched) rest)) (λ (ns : List ℤ). Ok (cells ++ map is.Num ns))) said
+      ∙ with_one cells n (each_ok (calculated_at rows matched) rest)
+
+  pub sums_stop : (cells : RowValues) (places rest : List _) (place : _) (why : TableWhy) → places ≡ place ∷ rest → calculated_at rows matched place ≡ Err why → with_sums cells rows matched places ≡ Err why
+  sums_stop cells places rest place why e said =
+      ap (with_sums cells rows matched) e
+      ∙ ap (λ (r : Result ℤ TableWhy). on_ok (on_ok r (each_from (calculated_at rows matched) rest)) (λ (ns : List ℤ). Ok (cells ++ map is.Num ns))) said
+
+  pub sums_done : (cells : RowValues) (places : List _) → places ≡ [] → with_sums cells rows matched places ≡ Ok cells
+  sums_done cells places e = ap (with_sums cells rows matched) e ∙ ap Ok (append-nil cells)
+
+  pub sums_long : (cells row : RowValues) (places : List _) → with_sums cells rows matched places ≡ Ok row → length row ≡ length cells + length places
+  sums_long cells row places e =
+      let (ns, told, is_row) = answered (each_ok (calculated_at rows matched) places) (λ (ns : List ℤ). Ok (cells ++ map is.Num ns)) row e in
+      sym (ap length (answer_same (cells ++ map is.Num ns) row is_row)) ∙ length-append cells (map is.Num ns)
+      ∙ ap (λ (n : ℕ). length cells + n) (length-map ns is.Num ∙ each_long (calculated_at rows matched) places ns told)
+
+-- ---- pairs
+
+pub zip_split : {A B : Type 0} (xs : List A) (ys : List B) (i : ℕ) (d : A) (e : B) → i < length xs → i < length ys → drop i (zip xs ys) ≡ (get_or xs i d, get_or ys i e) ∷ drop (i + 1) (zip xs ys)
+zip_split [] ys i d e l m = absurd (omega arith)
+zip_split (x ∷ xs) [] i d e l m = absurd (omega arith)
+zip_split (x ∷ xs) (y ∷ ys) zero d e l m = refl
+zip_split {A} {B} (x ∷ xs) (y ∷ ys) (suc i) d e l m = zip_split xs ys i d e (omega arith) (omega arith)
+
+pub zip_past : {A B : Type 0} (xs : List A) (ys : List B) (i : ℕ) → length xs ≡ length ys → (i < length xs → ⊥) → drop i (zip xs ys) ≡ []
+zip_past [] ys zero e l = refl
+zip_past [] ys (suc i) e l = refl
+zip_past (x ∷ xs) [] i e l = absurd (omega arith)
+zip_past (x ∷ xs) (y ∷ ys) zero e l = absurd (l (omega arith))
+zip_past (x ∷ xs) (y ∷ ys) (suc i) e l = zip_past xs ys i (omega arith) (λ m. l (omega arith))
+
+pub zip_long : {A B : Type 0} (xs : List A) (ys : List B) → length ys ≡ length xs → length (zip xs ys) ≡ length xs
+zip_long [] ys e = refl
+zip_long (x ∷ xs) [] e = absurd (omega arith)
+zip_long (x ∷ xs) (y ∷ ys) e = ap suc (zip_long xs ys (omega arith))
+
+pub rows_long : {A : Type 0} (f : A → Result RowValues TableWhy) (n : ℕ) → ((x : A) (row : RowValues) → f x ≡ Ok row → length row ≡ n) → (xs : List A) (rows : List RowValues) → each_ok f xs ≡ Ok rows → AreRows n rows
+rows_long {A} f n long xs rows e = go xs rows (each_answers f xs rows e)
+  where
+    go : (zs : List A) (us : List RowValues) → AllZip (λ (x : A) (row : RowValues). f x ≡ Ok row) zs us → AreRows n us
+    go [] [] h = tt
+    go [] (u ∷ us) h = absurd h
+    go (z ∷ zs) [] h = absurd h
+    go (z ∷ zs) (u ∷ us) h = (long z u h.0, go zs us h.1)
+
+-- ---- numbers in both of two rising lists
+
+filter_rises : (p : ℕ → Bool) (xs : List ℕ) → IsStrictlyIncreasing xs → IsStrictlyIncreasing (filter p xs)
+filter_rises p xs h = increasing (filter p xs) (AllPairs-filter (λ (x y : ℕ). x < y) p xs (AllPairs-from_increasing xs h))
+
+pub both_ways : (xs ys : List ℕ) → IsStrictlyIncreasing xs → IsStrictlyIncreasing ys → filter (has nat_eq xs) ys ≡ matching xs ys
+both_ways xs ys h k = one_ascending nat_lt nat_order (filter (has nat_eq xs) ys) (filter (has nat_eq ys) xs)
+    (to_ascending (filter (has nat_eq xs) ys) (filter_rises (has nat_eq xs) ys k))
+    (to_ascending (filter (has nat_eq ys) xs) (filter_rises (has nat_eq ys) xs h))
+    (λ n c. turns xs ys n c)
+    (λ n c. turns ys xs n c)
+  where
+    turns : (us vs : List ℕ) (n : ℕ) → Contains (filter (has nat_eq us) vs) n → Contains (filter (has nat_eq vs) us) n
+    turns us vs n c =
+        let (there, yes) = filter-Contains (has nat_eq us) vs n c in
+        Contains-filter (has nat_eq vs) us n (has_Contains us n yes) (Contains_has vs n there)
+
+-- ---- rows that remain
+
+pub filtered_rise : (t : TableContent) (e : Tree) (r : Result (List ℕ) TableFault) → Answers r (filter_rows t e true) → IfOk r IsStrictlyIncreasing
+filtered_rise t e (Ok numbers) h =
+    let (bs, told, is) = answered (tests_of t e) (λ (bs : List Bool). Ok (numbers_where (beq true) bs)) numbers h in
+    subst IsStrictlyIncreasing (answer_same (numbers_where (beq true) bs) numbers is) (numbers_where_rise (beq true) bs)
+filtered_rise t e (Err why) h = tt
+
+-- ---- a test that is handed on
+
+pub refuses_whole : (r : Result (Unit {0}) TableFault) (e : TableFault) (part whole : Option TableWhy) → r ≡ Err e → Refuses (Err e) part → ((why : TableWhy) → part ≡ Some why → whole ≡ Some why) → Refuses r whole
+refuses_whole r (Bad why) part whole is t on = subst (λ (s : Result (Unit {0}) TableFault). Refuses s whole) (sym is) (on why t)
+refuses_whole r Memory part whole is t on = subst (λ (s : Result (Unit {0}) TableFault). Refuses s whole) (sym is) tt

@@ -1,0 +1,4 @@
+pub mod Beside
+pub mod Matches
+pub mod Joined
+pub mod CalcColumns

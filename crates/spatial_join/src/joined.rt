@@ -1,0 +1,231 @@
+ghost use Rattle.std.specs.Prelude.{◌≡◌, ◌<◌, All, None, Some, true, IfOk, length, map, nat_eq};
+ghost use Rattle.std.specs.List.{zip};
+ghost use Rattle.std.specs.List.Sorted.{IsStrictlyIncreasing};
+ghost use Rattle.std.specs.Option.{option_copied};
+ghost use Rattle.json_read.specs.Table.{RowValues};
+ghost use Rattle.lists.specs.Lists.{has, numbers_where};
+ghost use Rattle.table_ops.specs.Join.{candidates};
+ghost use Rattle.table_ops.specs.Refusals.{Answers};
+ghost use Rattle.table_terms.specs.Names.{value_at};
+ghost use Rattle.spatial_join.specs.CalcColumns.{column_value, row_by_places, rows_by_places};
+ghost use Rattle.spatial_join.specs.Joined.{first_row, join_matched, matching};
+
+use crate::calc_columns::{Column, Columns, joined_columns};
+use crate::calculations::with_sums;
+use expr_lang::Expr;
+use grid_base::{GroupList, IdList};
+use json_read::{Row, RowList, Table, Value};
+use std::alloc::{AllocError, Global};
+use table_ops::{TableFault, filter_rows};
+use table_terms::{CalcSpec, NameSet};
+
+/// Fields of the source go to the rows of the target: to each from the first source row that matches it, and behind them
+/// what is calculated of all that match it. For each target row `matches` has the numbers of those, ascending.
+///
+/// With a test only the source rows for which it is true take part. The copied fields are the listed ones, else all,
+/// each under its name behind the prefix. One whose new name is a column of the target is left out, or with `force`
+/// takes its place in the rows that have a match; the other columns stand behind those of the target, and are null in
+/// the rows without a match. The calculated columns stand last: how many rows match, or the sum of a field over them,
+/// where null counts as 0.
+/// Errors: `NoField` and `FieldTwice` at the first listed field that the source lacks or that stands earlier, then at
+/// the first calculation, counted on behind those, whose field the source lacks or whose name is that of a column of
+/// the target, of a copied field or of an earlier calculation; then `Eval` and `NotBoolean` at the first source row for
+/// which the test is no boolean; then by target rows, and in each by calculations, `NotNumber` and `SumRange` at the
+/// first source row that cannot be added.
+/// Cost: in proportion to the cells of both tables, to the matches for each sum, and a binary search for each match.
+pub fn join_matched(
+    alloc: Global,
+    target: &Table,
+    source: &Table,
+    matches: &GroupList,
+    spec: &CalcSpec,
+) -> Result<Table, TableFault>
+    requires each { length matches.now ≡ length target.now.rows }
+    requires ascending { All IsStrictlyIncreasing matches.now }
+    ensures exact { Answers result (join_matched target.now source.now matches.now spec.now) }
+    ensures each { IfOk result (λ joined. length joined.rows ≡ length target.now.rows) }
+{
+    let targets = NameSet::of(alloc, target.names())?;
+    let sources = NameSet::of(alloc, source.names())?;
+    let columns = joined_columns(
+        alloc,
+        target.names(),
+        &targets,
+        source.names(),
+        &sources,
+        spec,
+    )?;
+    let remaining = candidates(alloc, source, &spec.test)?;
+    let rows = joined_rows(
+        alloc,
+        target.rows(),
+        source.rows(),
+        matches,
+        remaining.as_slice(),
+        &columns,
+    )?;
+    Ok(Table::new(columns.names, rows))
+}
+
+/// The numbers of the source rows that take part: all, or those for which the test is true.
+fn candidates(alloc: Global, source: &Table, test: &Option<Expr>) -> Result<IdList, TableFault>
+    ensures exact { Answers result (candidates source.now test.now) }
+    ensures within { IfOk result (λ numbers. All (λ n. n < length source.now.rows) numbers) }
+    ensures ascending { IfOk result IsStrictlyIncreasing }
+{
+    match test {
+        Some(test) => filter_rows(alloc, source, test, false),
+        None => Ok(all_numbers(alloc, source.rows())?),
+    }
+}
+
+fn all_numbers(alloc: Global, rows: &RowList) -> Result<IdList, AllocError>
+    ensures all { IfOk result (λ numbers. numbers ≡ numbers_where (λ (row : RowValues). true) rows.now) }
+{
+    let mut numbers = IdList::new(alloc);
+    for n in 0..rows.len() {
+        numbers.push(n)?;
+    }
+    Ok(numbers)
+}
+
+/// The rows of the target with what they take of the remaining source rows that match them.
+fn joined_rows(
+    alloc: Global,
+    target: &RowList,
+    source: &RowList,
+    matches: &GroupList,
+    remaining: &[u32],
+    columns: &Columns,
+) -> Result<RowList, TableFault>
+    requires each { length matches.now ≡ length target.now }
+    requires ascending { All IsStrictlyIncreasing matches.now }
+    requires remaining { IsStrictlyIncreasing remaining.now }
+    requires within { All (λ n. n < length source.now) remaining.now }
+    ensures exact { Answers result (rows_by_places source.now columns.now.cells.items columns.now.sums.items remaining.now (zip target.now matches.now)) }
+{
+    let mut rows = RowList::new(alloc);
+    for i in 0..target.len() {
+        let matched = matching(alloc, remaining, matches.as_slice()[i as usize].as_slice())?;
+        let row = joined_row(
+            alloc,
+            &target.as_slice()[i as usize],
+            source,
+            &matched,
+            columns,
+        )?;
+        rows.push(row)?;
+    }
+    Ok(rows)
+}
+
+/// Those of the remaining rows that match.
+fn matching(alloc: Global, remaining: &[u32], matched: &[u32]) -> Result<IdList, AllocError>
+    requires remaining { IsStrictlyIncreasing remaining.now }
+    requires matched { IsStrictlyIncreasing matched.now }
+    ensures both { IfOk result (λ both. both ≡ matching remaining.now matched.now) }
+{
+    let mut both = IdList::new(alloc);
+    for n in matched {
+        if is_listed(remaining, *n) {
+            both.push(*n)?;
+        }
+    }
+    Ok(both)
+}
+
+fn is_listed(numbers: &[u32], n: u32) -> bool
+    requires { IsStrictlyIncreasing numbers.now }
+    ensures { result ≡ has nat_eq numbers.now n }
+{
+    match numbers.binary_search(&n) {
+        Ok(_) => true,
+        Err(_) => false,
+    }
+}
+
+/// A row of the target with the copied fields of the first of these source rows, and what is calculated of all of them.
+fn joined_row(
+    alloc: Global,
+    row: &Row,
+    source: &RowList,
+    matched: &IdList,
+    columns: &Columns,
+) -> Result<Row, TableFault>
+    requires within { All (λ n. n < length source.now) matched.now }
+    ensures exact { Answers result (row_by_places source.now columns.now.cells.items columns.now.sums.items row.now matched.now) }
+{
+    let cells = copied_row(alloc, row, first_row(source, matched), &columns.cells)?;
+    with_sums(cells, source, matched, &columns.sums)
+}
+
+/// The row with the first of these numbers.
+fn first_row<'a>(rows: &'a RowList, numbers: &IdList) -> Option<&'a Row>
+    requires within { All (λ n. n < length rows.now) numbers.now }
+    ensures first { option_copied result ≡ first_row rows.now numbers.now }
+{
+    rows.get(*numbers.get(0)?)
+}
+
+/// A row of the target with the copied fields of its match.
+fn copied_row(
+    alloc: Global,
+    row: &Row,
+    matched: Option<&Row>,
+    columns: &[Column],
+) -> Result<Row, AllocError>
+    ensures cells { IfOk result (λ cells. cells ≡ map (column_value row.now (option_copied matched.entry)) columns.now) }
+{
+    match matched {
+        Some(source) => row_with(alloc, row, source, columns),
+        None => row_without(alloc, row, columns),
+    }
+}
+
+fn row_with(alloc: Global, row: &Row, source: &Row, columns: &[Column]) -> Result<Row, AllocError>
+    ensures cells { IfOk result (λ cells. cells ≡ map (column_value row.now (Some source.now)) columns.now) }
+{
+    let mut cells = Row::new(alloc);
+    for column in columns {
+        cells.push(value_with(alloc, row, source, *column)?)?;
+    }
+    Ok(cells)
+}
+
+fn row_without(alloc: Global, row: &Row, columns: &[Column]) -> Result<Row, AllocError>
+    ensures cells { IfOk result (λ cells. cells ≡ map (column_value row.now None) columns.now) }
+{
+    let mut cells = Row::new(alloc);
+    for column in columns {
+        cells.push(value_without(alloc, row, *column)?)?;
+    }
+    Ok(cells)
+}
+
+fn value_with(alloc: Global, row: &Row, source: &Row, column: Column) -> Result<Value, AllocError>
+    ensures value { IfOk result (λ value. value ≡ column_value row.now (Some source.now) column) }
+{
+    match column {
+        Column::Kept { own } => copy_at(alloc, row, own),
+        Column::Forced { own: _, place } | Column::Added { place } => copy_at(alloc, source, place),
+    }
+}
+
+fn value_without(alloc: Global, row: &Row, column: Column) -> Result<Value, AllocError>
+    ensures value { IfOk result (λ value. value ≡ column_value row.now None column) }
+{
+    match column {
+        Column::Kept { own } | Column::Forced { own, place: _ } => copy_at(alloc, row, own),
+        Column::Added { place: _ } => Ok(Value::Null),
+    }
+}
+
+/// The value of a row at a place, null past its end.
+fn copy_at(alloc: Global, row: &Row, place: u32) -> Result<Value, AllocError>
+    ensures copied { IfOk result (λ v. v ≡ value_at row.now place) }
+{
+    match row.get(place) {
+        Some(value) => value.copy(alloc),
+        None => Ok(Value::Null),
+    }
+}
