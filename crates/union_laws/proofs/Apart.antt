@@ -17,7 +17,7 @@ use Rattle.union_ops.proofs.ChoiceOrder.{choice_order}
 use Rattle.region_model.specs.Region.{Region, IsInPart, part}
 use Rattle.region_model.specs.Answers.{Plane, Answers, PointsOf, is_empty}
 use Rattle.region_model.specs.PolygonCommands.{parts_of}
-use Rattle.region_model.specs.LaterCommands.{Choice, choices, union_region}
+use Rattle.region_model.specs.UnionCommand.{Choice, choices, union_region}
 use Rattle.region_laws.proofs.AscendingLists.{filter_ascends}
 use Rattle.region_laws.proofs.InGroups.{seconds_of}
 use Rattle.union_laws.specs.United.{AreApart, UnitedAreApart}

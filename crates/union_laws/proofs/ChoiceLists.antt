@@ -11,7 +11,7 @@ use Rattle.lists.proofs.Ascending.{IsAscending}
 use Rattle.lists.proofs.Members.{Contains-cases, Contains-nil, flat_map-Contains, map-Contains}
 use Rattle.union_ops.specs.Choices.{choice_before, number_order}
 use Rattle.region_model.specs.Region.{Region}
-use Rattle.region_model.specs.LaterCommands.{Choice, choices, choices_in}
+use Rattle.region_model.specs.UnionCommand.{Choice, choices, choices_in}
 use Rattle.region_laws.proofs.AscendingLists.{join_ascends}
 use Rattle.region_laws.proofs.MosaicTold.{rising_range}
 

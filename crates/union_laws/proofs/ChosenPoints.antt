@@ -15,7 +15,7 @@ use Rattle.ring_trace.specs.Owners.{owners_of}
 use Rattle.union_ops.specs.Choices.{choice_of, first_with, has_number}
 use Rattle.region_model.specs.Region.{Region, any_of, regions_of, Has, SomeHas}
 use Rattle.region_model.specs.PolygonCommands.{all_of}
-use Rattle.region_model.specs.LaterCommands.{Choice, choices, choices_in, chosen_in, left_out, less_earlier, union_region}
+use Rattle.region_model.specs.UnionCommand.{Choice, choices, choices_in, chosen_in, left_out, less_earlier, union_region}
 use Rattle.region_laws.specs.Answered.{FollowInOrder}
 use Rattle.region_laws.proofs.Mosaics.{each_has, has_each}
 use Rattle.region_laws.proofs.Numbers.{in_owners, in_range, of_owners, owners_rise}

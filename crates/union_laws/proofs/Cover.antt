@@ -8,7 +8,7 @@ use Rattle.face_laws.proofs.HolderLemmas.{beside_of}
 use Rattle.union_ops.specs.Choices.{choice_of, has_number}
 use Rattle.region_model.specs.Region.{Region, part}
 use Rattle.region_model.specs.PolygonCommands.{parts_of}
-use Rattle.region_model.specs.LaterCommands.{Choice, union_region}
+use Rattle.region_model.specs.UnionCommand.{Choice, union_region}
 use Rattle.region_laws.proofs.Numbers.{in_range}
 use Rattle.region_laws.proofs.PartLaws.{parts_are_followed}
 use Rattle.region_laws.proofs.PartsExist.{parts_exist}

@@ -24,7 +24,7 @@ use Rattle.union_ops.proofs.ChoiceOrder.{choice_order, same_from_test, test_from
 use Rattle.region_model.specs.Region.{Region}
 use Rattle.region_model.specs.Answers.{Answers, is_empty}
 use Rattle.region_model.specs.PolygonCommands.{parts_of}
-use Rattle.region_model.specs.LaterCommands.{Choice, choices, union_region, united}
+use Rattle.region_model.specs.UnionCommand.{Choice, choices, union_region, united}
 use Rattle.region_laws.specs.Regions.{Follows}
 use Rattle.region_laws.specs.Followed.{IsWalked}
 use Rattle.region_laws.specs.Answered.{FollowInOrder, plane_with}

@@ -12,7 +12,7 @@ use Rattle.union_ops.specs.Union.{IsUnion}
 use Rattle.union_ops.specs.declared.union_lists.UnionItem.{UnionItem}
 use Rattle.region_model.specs.Region.{Region, part}
 use Rattle.region_model.specs.Answers.{Plane, Answers, HasSome, PointsOf}
-use Rattle.region_model.specs.LaterCommands.{Choice, union_region, united}
+use Rattle.region_model.specs.UnionCommand.{Choice, union_region, united}
 use Rattle.region_laws.specs.Followed.{IsWalked}
 use Rattle.region_laws.specs.Answered.{FollowInOrder, TellSides, plane_with}
 
