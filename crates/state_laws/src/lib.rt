@@ -10,10 +10,13 @@
 //!   (`left_features_show`).
 //! - Commands on rows and columns: `fields_show`, `new_names_show`, `joins_show`, `assigned_fields_show`,
 //!   `sorted_rows_show`, `early_rows_show`, `filtered_rows_show`, `pieces_show` and `merged_layers_show`.
+//! - A command works on the same layers (`targets_show`), takes the same ones from elsewhere (`origins_show`,
+//!   `one_layer_shows`), and its outputs go to the same places (`placed_outputs_show`).
 //!
 //! Each function carries one law in its contract, and does nothing.
 #![tactic(auto)]
 
+ghost use Rattle.state_laws.specs.Placing.{PlacedOutputsShow};
 ghost use Rattle.state_laws.specs.Tables.{
   AssignedFieldsShow,
   EarlyRowsShow,
@@ -101,4 +104,9 @@ pub fn origins_show()
 /// One layer among several is found, or refused, as in the state.
 pub fn one_layer_shows()
     ensures { OneLayerShows }
+{}
+
+/// The outputs of a command go to the places to which they go in the state.
+pub fn placed_outputs_show()
+    ensures { PlacedOutputsShow }
 {}
