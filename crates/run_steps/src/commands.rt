@@ -160,11 +160,7 @@ fn check_each(
 }
 
 // The target, then the kinds of its layers, then their number.
-fn check_together(
-    layers: &[Held],
-    target: &Target,
-    action: &JointAction,
-) -> Result<(), RefuseWhy>
+fn check_together(layers: &[Held], target: &Target, action: &JointAction) -> Result<(), RefuseWhy>
     ensures exact { refusal_of result ≡ first_refusal (refused_target target.now layers.now) (first_refusal (refused_mixture action.now (targets target.now layers.now)) (refused_number action.now (targets target.now layers.now))) }
     ensures there { IfOk result (λ done. has_target target.now layers.now ≡ true) }
     ensures absent { has_target target.now layers.now ≡ false → result ≡ Err RefuseWhy.NoLayer }
