@@ -7,8 +7,8 @@ use Rattle.cmd_words.specs.declared.word_groups.Word.{Word}
 use Rattle.cmd_words.specs.Rows.{Text, Form, form_of}
 use Rattle.cmd_words.specs.Steps.{Makes}
 use Rattle.cmd_words.specs.Expressions.{Refusals}
-use Rattle.cmd_words.specs.Groups.{Group, value_in, argument_in}
-use Rattle.cmd_words.specs.Options.{Step, take_value, take_known, take_text, take_argument, take_plain, take_either, lacks_value, is_area, is_list, is_read, has_room, with_argument}
+use Rattle.cmd_words.specs.Groups.{Group, value_in}
+use Rattle.cmd_words.specs.Options.{Step, take_value, take_known, take_text, take_argument, take_plain, take_either, lacks_value, is_excluded, is_list, is_read, has_room, with_argument}
 use Rattle.cmd_words.specs.Texts.{has_empty_piece, is_standard}
 
 pub makes_else : (b : Bool) (x y : Step) (new : Group) (r : Result (Unit {0}) Refusal) → b ≡ false → Makes y new r → Makes (cond b x y) new r
@@ -16,7 +16,7 @@ makes_else b x y new r e h = rw e h
 
 -- an option that passes all tests
 pub known_step : (refuses : Refusals) (places : ℕ) (f : Option ValueForm) (v : ValueForm) (o : Text × Text) (g h new : Group) (r : Result (Unit {0}) Refusal)
-    → f ≡ Some v → is_some (value_in g o.0) ≡ false → lacks_value v o.1 ≡ false → (is_area v && is_some (argument_in g)) ≡ false
+    → f ≡ Some v → is_some (value_in g o.0) ≡ false → lacks_value v o.1 ≡ false → is_excluded v g ≡ false
     → h ≡ record g { options = g.options ++ record { name = o.0; value = o.1 } ∷ [] }
     → Makes (take_value refuses places v o.1 h) new r → Makes (take_known refuses places f o g) new r
 known_step refuses places f v o g h new r known once some alone added m =

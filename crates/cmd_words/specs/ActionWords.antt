@@ -4,6 +4,7 @@ use Rattle.expr_lang.specs.declared.assign.Assign.{Assign}
 use Rattle.expr_lang.specs.declared.expr.Expr.{Expr}
 use Rattle.expr_lang.specs.Tree.{tree_of, all_assigned}
 use Rattle.expr_lang.specs.Faults.{IsTree, AreAssigns}
+use Rattle.table_terms.specs.declared.calculations.CalcSpec.{CalcSpec}
 use Rattle.table_terms.specs.declared.specifications.JoinSpec.{JoinSpec}
 use Rattle.cmd_words.specs.declared.job.Action.{Action}
 use Rattle.cmd_words.specs.declared.job.Action.TheVariants as action
@@ -20,9 +21,14 @@ use Rattle.cmd_words.specs.Expressions.{FitsTest}
 abbrev pub FitsJoin : JoinSpec → Option Text → JoinSpec → Type 0
 FitsJoin spec test s = (s ≡ record spec { test = s.test }) × FitsTest test s.test
 
+-- a join by place, so too
+abbrev pub FitsSpatialJoin : CalcSpec → Option Text → CalcSpec → Type 0
+FitsSpatialJoin spec test s = (s ≡ record spec { test = s.test }) × FitsTest test s.test
+
 pub data FitsAction : ActionWords → Action → Type 0 where
   whole : {a : Action} → FitsAction (words.Whole a) a
   join : {from : Origin} {spec s : JoinSpec} {test : Option Text} → FitsJoin spec test s → FitsAction (words.Join from spec test) (action.Each (layer.Join from s))
+  spatial_join : {from : Origin} {spec s : CalcSpec} {test : Option Text} → FitsSpatialJoin spec test s → FitsAction (words.SpatialJoin from spec test) (action.Each (layer.SpatialJoin from s))
   filter : {test : Option Text} {e : Option Expr} {invert remove_empty : Bool} → FitsTest test e → FitsAction (words.Filter test invert remove_empty) (action.Each (layer.Filter e invert remove_empty))
   each : {text : Text} {assigns : List Assign} → AreAssigns text (all_assigned assigns) → FitsAction (words.Each text) (action.Each (layer.Each assigns))
   sort : {text : Text} {key : Expr} {descending : Bool} → IsTree text (tree_of key) → FitsAction (words.Sort text descending) (action.Each (layer.Sort key descending))

@@ -4,6 +4,7 @@ use Rattle.std.specs.Option.{option_to_list}
 use Rattle.std.specs.Str.{bytes_eq}
 use Rattle.grid_base.specs.Grid.{Corners}
 use Rattle.grid_base.specs.declared.kinds.OverlapRule.TheVariants as rule
+use Rattle.table_terms.specs.declared.calculations.CalcSpec.{CalcSpec}
 use Rattle.table_terms.specs.declared.specifications.GroupSpec.{GroupSpec}
 use Rattle.table_terms.specs.declared.specifications.JoinSpec.{JoinSpec}
 use Rattle.cmd_words.specs.declared.commands.Keyword.{Keyword}
@@ -67,6 +68,15 @@ join_spec g = record {
   prefix = unwrap_or (value_in g (codes "prefix")) [];
 }
 
+abbrev pub calc_spec : Group → CalcSpec
+calc_spec g = record {
+  fields = option_map pieces (value_in g (codes "fields"));
+  force = has_bare g (codes "force");
+  test = None;
+  prefix = unwrap_or (value_in g (codes "prefix")) [];
+  calc = g.calculations;
+}
+
 abbrev pub form_from : Option Text → Text → Option OutForm
 form_from None name = form_by_ending name
 form_from (Some s) name = form_named s
@@ -121,9 +131,13 @@ layer_action_of places sources boxes l.RenameFields g = layer.RenameFields g.ren
 layer_action_of places sources boxes l.Split g = layer.Split (argument_in g)
 layer_action_of places sources boxes l.FilterIslands g = filter_islands_of places g
 
+-- by keys, or else by place
+abbrev pub join_of : Origin → Group → ActionWords
+join_of from g = if is_some (value_in g (codes "keys")) then words.Join from (join_spec g) g.test else words.SpatialJoin from (calc_spec g) g.test
+
 -- by an expression or by assignments, each as its text
 abbrev pub calculated_action_of : ℕ → ℕ → ExpressionKeyword → Group → ActionWords
-calculated_action_of sources boxes by.Join g = words.Join (origin_of sources boxes g) (join_spec g) g.test
+calculated_action_of sources boxes by.Join g = join_of (origin_of sources boxes g) g
 calculated_action_of sources boxes by.Filter g = words.Filter g.test (has_bare g (codes "invert")) (has_bare g (codes "remove-empty"))
 calculated_action_of sources boxes by.Each g = words.Each (unwrap_or g.assigns [])
 calculated_action_of sources boxes by.Sort g = words.Sort (unwrap_or g.test []) (has_bare g (codes "descending"))
@@ -131,6 +145,7 @@ calculated_action_of sources boxes by.Uniq g = words.Uniq (unwrap_or g.test []) 
 
 abbrev pub joint_action_of : JointKeyword → Group → JointAction
 joint_action_of j.MergeLayers g = joint.MergeLayers (has_bare g (codes "force"))
+joint_action_of j.Union g = joint.Union
 
 abbrev pub action_of : ℕ → ℕ → ℕ → Keyword → Group → ActionWords
 action_of places sources boxes k.Write g = words.Whole (write_of g)
@@ -156,7 +171,7 @@ layer_lacks_argument l.FilterIslands g = not (is_some (value_in g (codes "min-ar
 layer_lacks_argument _ g = false
 
 abbrev pub calculated_lacks_argument : ExpressionKeyword → Group → Bool
-calculated_lacks_argument by.Join g = not (is_some (argument_in g) && is_some (value_in g (codes "keys")))
+calculated_lacks_argument by.Join g = not (is_some (argument_in g))
 calculated_lacks_argument by.Filter g = not (is_some (argument_in g) || has_bare g (codes "remove-empty"))
 calculated_lacks_argument by.Each g = not (is_some g.assigns)
 calculated_lacks_argument by.Sort g = not (is_some g.test)
@@ -166,7 +181,7 @@ abbrev pub lacks_argument : Keyword → Group → Bool
 lacks_argument k.Write g = not (is_some (argument_in g))
 lacks_argument (k.Each keyword) g = layer_lacks_argument keyword g
 lacks_argument (k.Calculated keyword) g = calculated_lacks_argument keyword g
-lacks_argument (k.Together j.MergeLayers) g = false
+lacks_argument (k.Together keyword) g = false
 
 abbrev pub lacks_form : Keyword → Group → Bool
 lacks_form k.Write g = not (is_some (out_form g))

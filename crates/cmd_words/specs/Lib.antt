@@ -8,6 +8,7 @@ pub mod Steps
 pub mod Values
 pub mod Areas
 pub mod Quantities
+pub mod Calculations
 pub mod Options
 pub mod ReadsAs
 pub mod Chains

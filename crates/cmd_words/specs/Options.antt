@@ -17,6 +17,7 @@ use Rattle.cmd_words.specs.Texts.{is_empty, has_empty_piece, option_in, is_stand
 use Rattle.cmd_words.specs.Values.{rule_of, form_named, is_pair, renames_of}
 use Rattle.cmd_words.specs.Areas.{places_of, area_of}
 use Rattle.cmd_words.specs.Quantities.{area_units, count_of}
+use Rattle.cmd_words.specs.Calculations.{calculations_of}
 use Rattle.cmd_words.specs.Groups.{Group, value_in, has_bare, argument_in}
 
 -- a group with the next word, or why that is refused
@@ -54,20 +55,24 @@ take_value refuses places value.Expression s g = with_test (refuses kind.express
 take_value refuses places value.SquareUnits s g = unless (is_some (area_units s)) why.BadNumber g
 take_value refuses places value.CountFromOne s g = unless (is_some (count_of 1 s)) why.BadNumber g
 take_value refuses places value.CountFromZero s g = unless (is_some (count_of 0 s)) why.BadNumber g
+take_value refuses places value.Calculations s g = on_ok (calculations_of s) (λ cs. Ok (record g { calculations = cs }))
 
 -- ## Options and bare words
 
-abbrev pub is_area : ValueForm → Bool
-is_area value.Area = true
-is_area _ = false
+-- a box does not stand beside an argument in whose place it is, and a join is by keys or by place
+abbrev pub is_excluded : ValueForm → Group → Bool
+is_excluded value.Area g = is_some (argument_in g)
+is_excluded value.Keys g = is_some (value_in g (codes "calc"))
+is_excluded value.Calculations g = is_some (value_in g (codes "keys"))
+is_excluded _ g = false
 
--- a known option stands once, has a value, and does not stand beside an argument in whose place it is
+-- a known option stands once, has a value, and is not excluded
 abbrev pub take_known : Refusals → ℕ → Option ValueForm → Text × Text → Group → Step
 take_known refuses places None o g = Err why.UnknownOption
 take_known refuses places (Some v) o g =
     if is_some (value_in g o.0) then Err why.OptionTwice
     else if lacks_value v o.1 then Err why.MissingValue
-    else if is_area v && is_some (argument_in g) then Err why.ExtraWord
+    else if is_excluded v g then Err why.ExtraWord
     else take_value refuses places v o.1 (record g { options = g.options ++ record { name = o.0; value = o.1 } ∷ [] })
 
 -- rows ascend or descend

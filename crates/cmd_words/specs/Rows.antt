@@ -8,6 +8,7 @@ use Rattle.cmd_words.specs.declared.commands.LayerKeyword.{LayerKeyword}
 use Rattle.cmd_words.specs.declared.commands.LayerKeyword.TheVariants as layer
 use Rattle.cmd_words.specs.declared.commands.ExpressionKeyword.{ExpressionKeyword}
 use Rattle.cmd_words.specs.declared.commands.ExpressionKeyword.TheVariants as by
+use Rattle.cmd_words.specs.declared.commands.JointKeyword.{JointKeyword}
 use Rattle.cmd_words.specs.declared.commands.JointKeyword.TheVariants as joint
 use Rattle.cmd_words.specs.declared.commands.ValueForm.{ValueForm}
 use Rattle.cmd_words.specs.declared.commands.ValueForm.TheVariants as value
@@ -62,6 +63,9 @@ layer_row w k a os bs = row w (keyword.Each k) a os bs
 abbrev pub calculated_row : Text → ExpressionKeyword → ArgumentForm → List (Text × ValueForm) → List Text → Row
 calculated_row w k a os bs = row w (keyword.Calculated k) a os bs
 
+abbrev pub joint_row : Text → JointKeyword → ArgumentForm → List (Text × ValueForm) → List Text → Row
+joint_row w k a os bs = row w (keyword.Together k) a os bs
+
 unfoldable pub rows : List Row
 rows =
     layer_row (codes "-clip") layer.Clip argument.Source ((codes "bbox", value.Area) ∷ TARGET ∷ NAME ∷ []) (codes "+" ∷ [])
@@ -72,7 +76,7 @@ rows =
     ∷ layer_row (codes "-innerlines") layer.InnerLines argument.Nothing (TARGET ∷ NAME ∷ []) (codes "+" ∷ [])
     ∷ layer_row (codes "-explode") layer.Explode argument.Nothing (TARGET ∷ NAME ∷ []) (codes "+" ∷ [])
     ∷ layer_row (codes "-lines") layer.Lines argument.List (TARGET ∷ NAME ∷ []) (codes "+" ∷ [])
-    ∷ calculated_row (codes "-join") by.Join argument.Source ((codes "keys", value.Keys) ∷ (codes "fields", value.List) ∷ (codes "where", value.Expression) ∷ (codes "prefix", value.Text) ∷ STRING_FIELDS ∷ TARGET ∷ []) (codes "force" ∷ [])
+    ∷ calculated_row (codes "-join") by.Join argument.Source ((codes "keys", value.Keys) ∷ (codes "calc", value.Calculations) ∷ (codes "fields", value.List) ∷ (codes "where", value.Expression) ∷ (codes "prefix", value.Text) ∷ STRING_FIELDS ∷ TARGET ∷ []) (codes "force" ∷ [])
     ∷ calculated_row (codes "-filter") by.Filter argument.Expression (TARGET ∷ NAME ∷ []) (codes "invert" ∷ codes "remove-empty" ∷ codes "+" ∷ [])
     ∷ layer_row (codes "-filter-fields") layer.FilterFields argument.List (TARGET ∷ []) []
     ∷ layer_row (codes "-rename-fields") layer.RenameFields argument.Renames (TARGET ∷ []) []
@@ -81,7 +85,8 @@ rows =
     ∷ calculated_row (codes "-sort") by.Sort argument.Expression (TARGET ∷ []) (codes "ascending" ∷ codes "descending" ∷ [])
     ∷ calculated_row (codes "-uniq") by.Uniq argument.Expression ((codes "max-count", value.CountFromOne) ∷ TARGET ∷ NAME ∷ []) (codes "invert" ∷ codes "+" ∷ [])
     ∷ layer_row (codes "-filter-islands") layer.FilterIslands argument.Nothing ((codes "min-area", value.SquareUnits) ∷ (codes "min-vertices", value.CountFromZero) ∷ TARGET ∷ NAME ∷ []) (codes "remove-empty" ∷ codes "+" ∷ [])
-    ∷ row (codes "-merge-layers") (keyword.Together joint.MergeLayers) argument.Nothing (TARGET ∷ NAME ∷ []) (codes "force" ∷ codes "+" ∷ [])
+    ∷ joint_row (codes "-merge-layers") joint.MergeLayers argument.Nothing (TARGET ∷ NAME ∷ []) (codes "force" ∷ codes "+" ∷ [])
+    ∷ joint_row (codes "-union") joint.Union argument.Nothing (TARGET ∷ NAME ∷ []) (codes "+" ∷ [])
     ∷ row (codes "-o") keyword.Write argument.Text ((codes "format", value.Format) ∷ TARGET ∷ []) (codes "force" ∷ [])
     ∷ []
 

@@ -1,11 +1,11 @@
-ghost use Rattle.cmd_words.specs.ActionWords.{FitsAction, FitsCommand, FitsJoin};
+ghost use Rattle.cmd_words.specs.ActionWords.{FitsAction, FitsCommand, FitsJoin, FitsSpatialJoin};
 ghost use Rattle.cmd_words.specs.Expressions.{FitsTest};
 
 use crate::expressions::{Assignments, Expression};
 use crate::job::{Action, Command, LayerAction, Origin, Target};
 use expr_lang::Expr;
 use io_core::Text;
-use table_terms::JoinSpec;
+use table_terms::{CalcSpec, JoinSpec};
 
 /// An action as its words ask for it, which are seen with the texts of its expressions.
 #[derive(Drop)]
@@ -16,6 +16,12 @@ pub enum ActionWords {
         from: Origin,
         /// Its expression is left out.
         spec: JoinSpec,
+        test: Option<Expression>,
+    },
+    SpatialJoin {
+        from: Origin,
+        /// Its expression is left out.
+        spec: CalcSpec,
         test: Option<Expression>,
     },
     Filter {
@@ -72,6 +78,10 @@ fn whole_action(words: ActionWords) -> Action
             from,
             spec: with_test(spec, test),
         }),
+        ActionWords::SpatialJoin { from, spec, test } => Action::Each(LayerAction::SpatialJoin {
+            from,
+            spec: calc_with_test(spec, test),
+        }),
         ActionWords::Filter {
             test,
             invert,
@@ -106,6 +116,18 @@ fn with_test(spec: JoinSpec, test: Option<Expression>) -> JoinSpec
         force: spec.force,
         test: tree_of(test),
         prefix: spec.prefix,
+    }
+}
+
+fn calc_with_test(spec: CalcSpec, test: Option<Expression>) -> CalcSpec
+    ensures fits { FitsSpatialJoin spec test result }
+{
+    CalcSpec {
+        fields: spec.fields,
+        force: spec.force,
+        test: tree_of(test),
+        prefix: spec.prefix,
+        calc: spec.calc,
     }
 }
 

@@ -1,7 +1,7 @@
 ghost use Rattle.std.specs.Prelude.{◌≡◌, ◌+◌, false, IfOk, option_map, unwrap_or, is_some, [], List, ℕ, length};
 ghost use Rattle.std.specs.Option.{option_copied};
-ghost use Rattle.cmd_words.specs.Texts.{pieces};
-ghost use Rattle.cmd_words.specs.Chains.{list_or_empty, target_of, argument_text, key_at, group_spec, join_spec, out_form, rule_from, origin_of, write_of, dissolve_of, clean_of, filter_islands_of, layer_action_of, calculated_action_of, joint_action_of, action_of, layer_lacks_argument, calculated_lacks_argument, lacks_argument, lacks_form, takes_source};
+ghost use Rattle.cmd_words.specs.Texts.{pieces as piece_list};
+ghost use Rattle.cmd_words.specs.Chains.{list_or_empty, target_of, argument_text, key_at, group_spec, join_spec, calc_spec, out_form, rule_from, origin_of, write_of, dissolve_of, clean_of, filter_islands_of, layer_action_of, join_of, calculated_action_of, joint_action_of, action_of, layer_lacks_argument, calculated_lacks_argument, lacks_argument, lacks_form, takes_source};
 
 use crate::action_words::ActionWords;
 use crate::commands::{ExpressionKeyword, JointKeyword, Keyword, LayerKeyword};
@@ -13,7 +13,7 @@ use crate::word_groups::Group;
 use grid_base::OverlapRule;
 use io_core::{NameList, Text};
 use std::alloc::{AllocError, Global};
-use table_terms::{GroupSpec, JoinSpec};
+use table_terms::{CalcSpec, GroupSpec, JoinSpec};
 
 /// What a command asks for, where its chain so far has so many sources and boxes, in so many decimal places.
 pub(crate) fn action(
@@ -128,11 +128,10 @@ fn calculated_action(
     ensures exact { IfOk result (λ a. a ≡ calculated_action_of sources boxes keyword group.old) }
 {
     Ok(match keyword {
-        ExpressionKeyword::Join => ActionWords::Join {
-            from: origin(alloc, sources, boxes, group)?,
-            spec: join_spec(alloc, group)?,
-            test: group.take_test(),
-        },
+        ExpressionKeyword::Join => {
+            let from = origin(alloc, sources, boxes, group)?;
+            join(alloc, from, group)?
+        }
         ExpressionKeyword::Filter => ActionWords::Filter {
             invert: group.has_bare("invert"),
             remove_empty: group.has_bare("remove-empty"),
@@ -153,6 +152,20 @@ fn calculated_action(
     })
 }
 
+// By keys, or else by place.
+fn join(alloc: Global, from: Origin, group: &mut Group) -> Result<ActionWords, AllocError>
+    ensures exact { IfOk result (λ a. a ≡ join_of from group.old) }
+{
+    let test = group.take_test();
+    if group.has_option("keys") {
+        let spec = join_spec(alloc, group)?;
+        Ok(ActionWords::Join { from, spec, test })
+    } else {
+        let spec = calc_spec(alloc, group)?;
+        Ok(ActionWords::SpatialJoin { from, spec, test })
+    }
+}
+
 fn joint_action(keyword: JointKeyword, group: &Group) -> JointAction
     ensures exact { result ≡ joint_action_of keyword group.now }
 {
@@ -160,6 +173,7 @@ fn joint_action(keyword: JointKeyword, group: &Group) -> JointAction
         JointKeyword::MergeLayers => JointAction::MergeLayers {
             force: group.has_bare("force"),
         },
+        JointKeyword::Union => JointAction::Union,
     }
 }
 
@@ -191,17 +205,34 @@ fn join_spec(alloc: Global, group: &Group) -> Result<JoinSpec, AllocError>
     ensures exact { IfOk result (λ s. s ≡ join_spec group.now) }
 {
     let keys = list_or_empty(alloc, group.value("keys"))?;
-    let fields = match group.value("fields") {
-        Some(fields) => Some(pieces(alloc, fields)?),
-        None => None,
-    };
     Ok(JoinSpec {
         target_key: key_at(alloc, &keys, 0)?,
         source_key: key_at(alloc, &keys, 1)?,
-        fields,
+        fields: list_if_any(alloc, group.value("fields"))?,
         force: group.has_bare("force"),
         test: None,
         prefix: Text::of(alloc, group.value("prefix").unwrap_or(""))?,
+    })
+}
+
+fn calc_spec(alloc: Global, group: &mut Group) -> Result<CalcSpec, AllocError>
+    ensures exact { IfOk result (λ s. s ≡ calc_spec group.old) }
+{
+    Ok(CalcSpec {
+        fields: list_if_any(alloc, group.value("fields"))?,
+        force: group.has_bare("force"),
+        test: None,
+        prefix: Text::of(alloc, group.value("prefix").unwrap_or(""))?,
+        calc: group.take_calculations(alloc),
+    })
+}
+
+fn list_if_any(alloc: Global, list: Option<&str>) -> Result<Option<NameList>, AllocError>
+    ensures exact { IfOk result (λ names. names ≡ option_map piece_list (option_copied list.entry)) }
+{
+    Ok(match list {
+        None => None,
+        Some(list) => Some(pieces(alloc, list)?),
     })
 }
 
@@ -283,7 +314,7 @@ pub(crate) fn lacks_argument(keyword: Keyword, group: &Group) -> bool
         Keyword::Write => !group.has_argument(),
         Keyword::Each(keyword) => layer_lacks_argument(keyword, group),
         Keyword::Calculated(keyword) => calculated_lacks_argument(keyword, group),
-        Keyword::Together(JointKeyword::MergeLayers) => false,
+        Keyword::Together(_) => false,
     }
 }
 
@@ -313,7 +344,7 @@ fn calculated_lacks_argument(keyword: ExpressionKeyword, group: &Group) -> bool
     ensures exact { result ≡ calculated_lacks_argument keyword group.now }
 {
     match keyword {
-        ExpressionKeyword::Join => !(group.has_argument() && group.has_option("keys")),
+        ExpressionKeyword::Join => !group.has_argument(),
         ExpressionKeyword::Filter => !(group.has_argument() || group.has_bare("remove-empty")),
         ExpressionKeyword::Each => !group.has_assigns(),
         ExpressionKeyword::Sort | ExpressionKeyword::Uniq => !group.has_test(),

@@ -42,6 +42,7 @@ pub(crate) enum ExpressionKeyword {
 #[derive(Clone, Copy)]
 pub(crate) enum JointKeyword {
     MergeLayers,
+    Union,
 }
 
 /// What the argument of a group is.
@@ -77,6 +78,8 @@ pub(crate) enum ValueForm {
     CountFromOne,
     /// Digits for a number from 0 on.
     CountFromZero,
+    /// Columns to be calculated.
+    Calculations,
 }
 
 /// An option: its name, and what its value is.
@@ -114,6 +117,8 @@ const COPY_FIELDS: OptionForm = ("copy-fields", ValueForm::List);
 const RULE: OptionForm = ("overlap-rule", ValueForm::Rule);
 
 const KEYS: OptionForm = ("keys", ValueForm::Keys);
+
+const CALC: OptionForm = ("calc", ValueForm::Calculations);
 
 const FIELDS: OptionForm = ("fields", ValueForm::List);
 
@@ -176,9 +181,21 @@ macro_rules! calculated_row {
     };
 }
 
+macro_rules! joint_row {
+    ($word:literal, $keyword:ident, $argument:ident, $options:tt, $bare:tt) => {
+        row!(
+            $word,
+            Keyword::Together(JointKeyword::$keyword),
+            $argument,
+            $options,
+            $bare
+        )
+    };
+}
+
 /// The commands: word, meaning, argument, options and bare words. A new one is a row here, and an arm of
 /// `layer_action`, `calculated_action` or `joint_action`.
-static COMMANDS: [CommandRow; 19] = [
+static COMMANDS: [CommandRow; 20] = [
     layer_row!("-clip", Clip, Source, [BOX, TARGET, NAME], ["+"]),
     layer_row!("-erase", Erase, Source, [BOX, TARGET, NAME], ["+"]),
     layer_row!(
@@ -203,7 +220,7 @@ static COMMANDS: [CommandRow; 19] = [
         "-join",
         Join,
         Source,
-        [KEYS, FIELDS, WHERE, PREFIX, STRING_FIELDS, TARGET],
+        [KEYS, CALC, FIELDS, WHERE, PREFIX, STRING_FIELDS, TARGET],
         ["force"]
     ),
     calculated_row!(
@@ -238,13 +255,14 @@ static COMMANDS: [CommandRow; 19] = [
         [LEAST_AREA, LEAST_LINKS, TARGET, NAME],
         ["remove-empty", "+"]
     ),
-    row!(
+    joint_row!(
         "-merge-layers",
-        Keyword::Together(JointKeyword::MergeLayers),
+        MergeLayers,
         Nothing,
         [TARGET, NAME],
         ["force", "+"]
     ),
+    joint_row!("-union", Union, Nothing, [TARGET, NAME], ["+"]),
     row!("-o", Keyword::Write, Text, [FORMAT, TARGET], ["force"]),
 ];
 

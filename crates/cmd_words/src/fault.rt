@@ -33,7 +33,8 @@ pub enum WordWhy {
     MissingValue,
     /// The command lacks an argument or an option that it needs; the command word.
     MissingArgument,
-    /// An argument has no place here, standard input is read already, or the rows are to ascend and to descend.
+    /// An argument has no place here, standard input is read already, the rows are to ascend and to descend, or a
+    /// join has keys and is to calculate columns.
     ExtraWord,
     /// The name tells no format.
     UnsupportedFile,

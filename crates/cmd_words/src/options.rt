@@ -3,9 +3,10 @@ ghost use Rattle.cmd_words.specs.Expressions.{Refusals, AreRefusals};
 ghost use Rattle.cmd_words.specs.Seen.{form_seen, parts_seen};
 ghost use Rattle.cmd_words.specs.Steps.{Makes};
 ghost use Rattle.cmd_words.specs.Texts.{has_empty_piece, is_standard};
-ghost use Rattle.cmd_words.specs.Options.{lacks_value, take_value, take_known, take_bare, is_opposed, has_room, is_list, is_read, is_area, take_text, take_argument, take_plain, take_word};
+ghost use Rattle.cmd_words.specs.Options.{lacks_value, take_value, take_known, take_bare, is_opposed, has_room, is_list, is_read, is_excluded, take_text, take_argument, take_plain, take_word};
 
 use crate::areas::{places_of, read_area};
+use crate::calculations::read_calculations;
 use crate::commands::{ArgumentForm, GroupForm, ValueForm};
 use crate::expressions::{Assignments, Expression};
 use crate::fault::{Refusal, WordWhy};
@@ -53,7 +54,7 @@ fn take_known(
     if lacks_value(form, value) {
         return Err(Refusal::Why(WordWhy::MissingValue));
     }
-    if is_area(form) && group.has_argument() {
+    if is_excluded(form, group) {
         return Err(Refusal::Why(WordWhy::ExtraWord));
     }
     group.add_option(alloc, name, value)?;
@@ -69,10 +70,16 @@ fn lacks_value(form: ValueForm, value: &str) -> bool
     }
 }
 
-fn is_area(form: ValueForm) -> bool
-    ensures exact { result ≡ is_area form }
+// Whether the group has what the option may not stand beside.
+fn is_excluded(form: ValueForm, group: &Group) -> bool
+    ensures exact { result ≡ is_excluded form group.now }
 {
-    matches!(form, ValueForm::Area)
+    match form {
+        ValueForm::Area => group.has_argument(),
+        ValueForm::Keys => group.has_option("calc"),
+        ValueForm::Calculations => group.has_option("keys"),
+        _ => false,
+    }
 }
 
 fn take_value(
@@ -101,6 +108,10 @@ fn take_value(
         ValueForm::SquareUnits => accepted_if(area_units(value).is_some(), WordWhy::BadNumber),
         ValueForm::CountFromOne => accepted_if(count_of(1, value).is_some(), WordWhy::BadNumber),
         ValueForm::CountFromZero => accepted_if(count_of(0, value).is_some(), WordWhy::BadNumber),
+        ValueForm::Calculations => {
+            group.set_calculations(read_calculations(alloc, value)?);
+            Ok(())
+        }
     }
 }
 

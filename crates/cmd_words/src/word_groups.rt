@@ -14,7 +14,7 @@ use io_core::{NameList, Text};
 use std::alloc::{AllocError, Global};
 use std::marker::Model;
 use std::mem;
-use table_terms::RenameList;
+use table_terms::{CalcList, RenameList};
 
 /// A word, and its number from 1.
 #[derive(Drop)]
@@ -40,6 +40,7 @@ pub(crate) struct Group {
     reads_standard: bool,
     area: Option<Rect>,
     renames: RenameList,
+    calculations: CalcList,
     test: Option<Expression>,
     assigns: Option<Assignments>,
 }
@@ -49,7 +50,7 @@ impl Model for Group {
 
     ghost Value = { Words };
 
-    ghost view = { λ g. record { arguments = g.arguments.items; options = g.options.items; bare = g.bare; reads_standard = g.reads_standard; area = g.area; renames = g.renames; test = g.test; assigns = g.assigns } };
+    ghost view = { λ g. record { arguments = g.arguments.items; options = g.options.items; bare = g.bare; reads_standard = g.reads_standard; area = g.area; renames = g.renames; calculations = g.calculations; test = g.test; assigns = g.assigns } };
 }
 
 impl Group {
@@ -66,6 +67,7 @@ impl Group {
             reads_standard,
             area: None,
             renames: RenameList::new(alloc),
+            calculations: CalcList::new(alloc),
             test: None,
             assigns: None,
         }
@@ -200,6 +202,12 @@ impl Group {
         self.renames = renames;
     }
 
+    pub(crate) fn set_calculations(&mut self, calculations: CalcList)
+        ensures exact { self.new ≡ record self.old { calculations = calculations } }
+    {
+        self.calculations = calculations;
+    }
+
     pub(crate) fn set_test(&mut self, test: Expression)
         ensures exact { self.new ≡ record self.old { test = Some test } }
     {
@@ -217,6 +225,13 @@ impl Group {
         ensures after { self.new ≡ record self.old { renames = [] } }
     {
         mem::replace(&mut self.renames, RenameList::new(alloc))
+    }
+
+    pub(crate) fn take_calculations(&mut self, alloc: Global) -> CalcList
+        ensures exact { result ≡ self.old.calculations }
+        ensures after { self.new ≡ record self.old { calculations = [] } }
+    {
+        mem::replace(&mut self.calculations, CalcList::new(alloc))
     }
 
     /// The expression of the group, of its argument or of an option.

@@ -5,12 +5,15 @@ use Rattle.std.specs.Str.{bytes_eq, all_ascii_digits}
 use Rattle.std.specs.Str.Parse.{digits_value}
 use Rattle.grid_base.specs.declared.kinds.OverlapRule.TheVariants.{MaxArea}
 use Rattle.table_terms.specs.Names.{Text}
+use Rattle.table_terms.specs.declared.calculations.Calc.{Calc}
+use Rattle.table_terms.specs.declared.calculations.CalcSpec.{CalcSpec}
 use Rattle.table_terms.specs.declared.renames.Rename.{Rename}
 use Rattle.table_terms.specs.declared.specifications.GroupSpec.{GroupSpec}
 use Rattle.table_terms.specs.declared.specifications.JoinSpec.{JoinSpec}
 use Rattle.cmd_words.specs.Texts.{form_by_ending, is_standard, pieces}
 use Rattle.cmd_words.specs.Values.{form_named, renames_of, rule_of}
 use Rattle.cmd_words.specs.Quantities.{area_units, doubled_below, doubled_above}
+use Rattle.cmd_words.specs.Calculations.{calculations_of}
 use Rattle.cmd_words.specs.declared.action_words.ActionWords.{ActionWords}
 use Rattle.cmd_words.specs.declared.action_words.ActionWords.TheVariants as words
 use Rattle.cmd_words.specs.declared.job.Action.TheVariants as ask
@@ -92,6 +95,24 @@ join_spec said = record {
   prefix = unwrap_or (value_in said (codes "prefix")) [];
 }
 
+-- the columns to be calculated
+abbrev pub calculations_from : Option Text → List Calc
+calculations_from None = []
+calculations_from (Some s) = elim (calculations_of s) [ Ok list ↦ list | Err why ↦ [] ]
+
+abbrev pub calculations_in : Said → List Calc
+calculations_in said = calculations_from (value_in said (codes "calc"))
+
+-- of a join by place, so too
+abbrev pub calc_spec : Said → CalcSpec
+calc_spec said = record {
+  fields = option_map pieces (value_in said (codes "fields"));
+  force = has_bare said (codes "force");
+  test = None;
+  prefix = unwrap_or (value_in said (codes "prefix")) [];
+  calc = calculations_in said;
+}
+
 abbrev pub renames_in : Said → List Rename
 renames_in said = elim (renames_of (argument_text said)) [ Ok renames ↦ renames | Err why ↦ [] ]
 
@@ -130,6 +151,8 @@ pub data ValueForm : Type 0 where
   -- decimal digits for a number from 1 on, or from 0 on
   one_or_more : ValueForm
   zero_or_more : ValueForm
+  -- columns to be calculated
+  calculations : ValueForm
 
 pub data ArgumentForm : Type 0 where
   nothing : ArgumentForm
@@ -183,6 +206,10 @@ needs_source said = has_argument said || has_option said (codes "bbox")
 abbrev pub each_layer : LayerAction → ActionWords
 each_layer a = words.Whole (ask.Each a)
 
+-- by keys, or else by place
+abbrev pub joins : Origin → Said → ActionWords
+joins from said = if has_option said (codes "keys") then words.Join from (join_spec said) (value_in said (codes "where")) else words.SpatialJoin from (calc_spec said) (value_in said (codes "where"))
+
 abbrev pub command_lines : List CommandLine
 command_lines =
     record { word = codes "-clip"; line = line source ((codes "bbox", a_box) ∷ usual) (PLUS ∷ []); has_needed = needs_source; asks = λ places from said. each_layer (each.Clip from) }
@@ -201,9 +228,9 @@ command_lines =
     ∷ record { word = codes "-lines"; line = line list usual (PLUS ∷ []); has_needed = anything; asks = λ places from said. each_layer (each.Lines (list_or_empty (argument_in said))) }
     ∷ record {
       word = codes "-join";
-      line = line source ((codes "keys", two_names) ∷ (codes "fields", a_list) ∷ (codes "where", an_expression) ∷ (codes "prefix", a_text) ∷ (codes "string-fields", a_list) ∷ TARGET ∷ []) (codes "force" ∷ []);
-      has_needed = λ said. has_argument said && has_option said (codes "keys");
-      asks = λ places from said. words.Join from (join_spec said) (value_in said (codes "where"));
+      line = line source ((codes "keys", two_names) ∷ (codes "calc", calculations) ∷ (codes "fields", a_list) ∷ (codes "where", an_expression) ∷ (codes "prefix", a_text) ∷ (codes "string-fields", a_list) ∷ TARGET ∷ []) (codes "force" ∷ []);
+      has_needed = has_argument;
+      asks = λ places from said. joins from said;
     }
     ∷ record {
       word = codes "-filter";
@@ -234,6 +261,7 @@ command_lines =
       asks = λ places from said. each_layer (each.FilterIslands (doubled_in (doubled_above places) said (codes "min-area")) (count_in 0 said (codes "min-vertices")) (has_bare said (codes "remove-empty")));
     }
     ∷ record { word = codes "-merge-layers"; line = line nothing usual (codes "force" ∷ PLUS ∷ []); has_needed = anything; asks = λ places from said. words.Whole (ask.Together (joint.MergeLayers (has_bare said (codes "force")))) }
+    ∷ record { word = codes "-union"; line = line nothing usual (PLUS ∷ []); has_needed = anything; asks = λ places from said. words.Whole (ask.Together joint.Union) }
     ∷ record { word = codes "-o"; line = line text ((codes "format", a_format) ∷ TARGET ∷ []) (codes "force" ∷ []); has_needed = has_argument; asks = λ places from said. words.Whole (ask.Write (argument_text said) (is_standard (argument_text said)) (unwrap_or (form_in said) Geo)) }
     ∷ []
 

@@ -7,6 +7,7 @@ use Rattle.table_terms.specs.Names.{Text, has_name}
 use Rattle.table_terms.specs.Refusals.{on_ok, first_refusal}
 use Rattle.cmd_words.specs.Areas.{area_of, places_of}
 use Rattle.cmd_words.specs.Quantities.{area_units}
+use Rattle.cmd_words.specs.Calculations.{calculations_of}
 use Rattle.cmd_words.specs.Chains.{SoFar}
 use Rattle.cmd_words.specs.Expressions as kind
 use Rattle.cmd_words.specs.Expressions.{Refusals}
@@ -20,7 +21,7 @@ use Rattle.cmd_words.specs.declared.job.Origin.{Origin}
 use Rattle.cmd_words.specs.declared.job.Origin.TheVariants as origin
 use Rattle.cmd_words.specs.declared.job.Owner.TheVariants as owner
 use Rattle.cmd_words.specs.declared.job.SourceWord.{SourceWord}
-use Rattle.word_model.specs.CommandTable.{Item, option, bare, argument, Said, ValueForm, a_text, a_list, two_names, a_precision, a_rule, a_format, a_box, an_expression, an_area, one_or_more, zero_or_more, ArgumentForm, nothing, files, source, list, expression, assignments, renames, Line, CommandLine, value_in, has_option, has_bare, has_argument, argument_text, list_or_empty, target_of, form_in, number_in, count_of, import_line, line_of, form_of}
+use Rattle.word_model.specs.CommandTable.{Item, option, bare, argument, Said, ValueForm, a_text, a_list, two_names, a_precision, a_rule, a_format, a_box, an_expression, an_area, one_or_more, zero_or_more, calculations, ArgumentForm, nothing, files, source, list, expression, assignments, renames, Line, CommandLine, value_in, has_option, has_bare, has_argument, argument_text, list_or_empty, target_of, form_in, number_in, count_of, import_line, line_of, form_of}
 
 -- ---- what a word is in its group
 
@@ -75,17 +76,21 @@ refused_value refuses places an_expression s = expression_fault (refuses kind.ex
 refused_value refuses places an_area s = refused_if (not (is_some (area_units s))) why.BadNumber
 refused_value refuses places one_or_more s = refused_if (not (is_some (count_of 1 s))) why.BadNumber
 refused_value refuses places zero_or_more s = refused_if (not (is_some (count_of 0 s))) why.BadNumber
+refused_value refuses places calculations s = refusal_of (calculations_of s)
 
-abbrev pub is_box : ValueForm → Bool
-is_box a_box = true
-is_box _ = false
+-- a box does not stand beside an argument, and keys do not beside columns to be calculated
+abbrev pub is_excluded : ValueForm → Said → Bool
+is_excluded a_box before = has_argument before
+is_excluded two_names before = has_option before (codes "calc")
+is_excluded calculations before = has_option before (codes "keys")
+is_excluded _ before = false
 
 abbrev pub refused_option : Refusals → ℕ → Said → Option ValueForm → Text → Text → Option WordWhy
 refused_option refuses places before None name value = Some why.UnknownOption
 refused_option refuses places before (Some form) name value =
     first_refusal (refused_if (has_option before name) why.OptionTwice)
     (first_refusal (refused_if (lacks_value form value) why.MissingValue)
-    (first_refusal (refused_if (is_box form && has_argument before) why.ExtraWord)
+    (first_refusal (refused_if (is_excluded form before) why.ExtraWord)
     (refused_value refuses places form value)))
 
 abbrev pub is_list : ArgumentForm → Bool

@@ -1,7 +1,7 @@
 use Rattle.std.proofs.Common.{◌≡◌, sym, subst}
 use Rattle.cmd_words.specs.declared.action_words.ActionWords.{ActionWords}
 use Rattle.cmd_words.specs.declared.job.Action.{Action}
-use Rattle.cmd_words.specs.ActionWords.{FitsAction, whole, join, filter, each, sort, uniq}
+use Rattle.cmd_words.specs.ActionWords.{FitsAction, whole, join, spatial_join, filter, each, sort, uniq}
 use Rattle.cmd_words.proofs.action_words.whole_action.Goals as goal
 
 fits_by : (v w : ActionWords) (a : Action) → v ≡ w → FitsAction w a → FitsAction v a
@@ -12,6 +12,9 @@ returns-in-Whole c = record { fits = fits_by _ _ _ c.in-Whole.is whole }
 
 pub returns-in-Join : goal.returns-in-Join
 returns-in-Join c = record { fits = fits_by _ _ _ c.in-Join.is (join c.with_test.ensures.fits) }
+
+pub returns-in-SpatialJoin : goal.returns-in-SpatialJoin
+returns-in-SpatialJoin c = record { fits = fits_by _ _ _ c.in-SpatialJoin.is (spatial_join c.calc_with_test.ensures.fits) }
 
 pub returns-in-Filter : goal.returns-in-Filter
 returns-in-Filter c = record { fits = fits_by _ _ _ c.in-Filter.is (filter c.tree_of.ensures.fits) }
