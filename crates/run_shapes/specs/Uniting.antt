@@ -1,7 +1,8 @@
 -- The union of layers of polygons.
-use Rattle.std.specs.Prelude.{◌≡◌, ℕ, List, length, map, slice_get, Some}
+use Rattle.std.specs.Prelude.{◌≡◌, ℕ, List, All, length, map, slice_get, Some}
 use Rattle.grid_base.specs.declared.kinds.Kind.TheVariants as kinds
 use Rattle.json_read.specs.Table.{TableContent}
+use Rattle.ring_trace.specs.Sets.{IsSetOf}
 use Rattle.union_ops.specs.Union.{IsUnion}
 use Rattle.union_ops.specs.UnionTable.{IsUnionTable}
 use Rattle.union_ops.specs.declared.union_lists.UnionItem.{UnionItem}
@@ -39,3 +40,10 @@ row_counts tables = map (λ (table : TableContent). length table.rows) tables
 
 abbrev pub set_counts : List (List (List ℕ)) → List ℕ
 set_counts sets = map (λ (own : List (List ℕ)). length own) sets
+
+-- the tables and the sets of these layers, a row for each set
+pub record AreGathered (plane : Plane) (layers : List Layer) (tables : List TableContent) (sets : List (List (List ℕ))) : Type 0 where
+  pub of_tables : tables ≡ layer_tables layers
+  pub of_sets : sets ≡ layer_sets plane layers
+  pub each : row_counts tables ≡ set_counts sets
+  pub there : All (All (IsSetOf plane.faces)) sets

@@ -1,6 +1,5 @@
-ghost use Rattle.std.specs.Prelude.{◌≡◌, All, IfOk, Some, length, map, slice_get, true};
-ghost use Rattle.ring_trace.specs.Sets.{IsSetOf};
-ghost use Rattle.run_shapes.specs.Uniting.{IsUnited, item_shape, layer_sets, layer_tables, row_counts, set_counts};
+ghost use Rattle.std.specs.Prelude.{◌≡◌, IfOk, Some, length, map, slice_get, true};
+ghost use Rattle.run_shapes.specs.Uniting.{AreGathered, IsUnited, item_shape};
 ghost use Rattle.run_state.specs.Targets.{has_target, targets};
 
 use crate::face_sets::sets_of;
@@ -34,7 +33,7 @@ pub fn united(
 }
 
 // The union of the target's layers, of which this is the first.
-#[tactic(auto, using(crate::proofs::Uniting::of_tables))]
+#[tactic(auto, using(crate::proofs::UnitedLayers::of_tables))]
 fn united_like(
     alloc: Global,
     plane: &Plane,
@@ -62,19 +61,15 @@ fn united_like(
 struct Gathered {
     tables: TableList,
     sets: LayerSets,
-    ghost each: { row_counts tables ≡ set_counts sets },
 }
 
-#[tactic(auto, using(run_state::proofs::TargetLemmas::targets_on, run_state::proofs::TargetLemmas::targets_off, crate::proofs::Uniting::counts_more))]
 fn gather(
     alloc: Global,
     plane: &Plane,
     layers: &[Held],
     target: &Target,
 ) -> Result<Gathered, AllocError>
-    ensures tables { IfOk result (λ all. all.tables ≡ layer_tables (targets target.now layers.now)) }
-    ensures sets { IfOk result (λ all. all.sets ≡ layer_sets plane.now (targets target.now layers.now)) }
-    ensures there { IfOk result (λ all. All (All (IsSetOf plane.now.faces)) all.sets) }
+    ensures gathered { IfOk result (λ all. AreGathered plane.now (targets target.now layers.now) all.tables all.sets) }
 {
     let mut tables = TableList::new(alloc);
     let mut sets = LayerSets::new(alloc);
