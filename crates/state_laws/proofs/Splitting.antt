@@ -26,7 +26,7 @@ use Rattle.chain_model.specs.State.{StateLayer}
 use Rattle.chain_model.specs.Features.{Outputs, in_layer, split_name, split_piece}
 use Rattle.state_laws.specs.Shown.{View, LayerShows}
 use Rattle.state_laws.specs.Reasons.{MakesAlike, RefusedAlike}
-use Rattle.state_laws.specs.Tables.{CanNamePieces, PiecesShow}
+use Rattle.state_laws.specs.Tables.{CanNamePieces, HasPlainTexts, NamesPiece, PiecesAreNamed, PiecesShow}
 use Rattle.state_laws.proofs.Below.{AreRowsOf, behind_refusal, split_below}
 use Rattle.state_laws.proofs.TableCommands.{alike_by, table_shows}
 use Rattle.state_laws.proofs.Taking.{rows_show, taken_shapes}
@@ -35,11 +35,6 @@ use Rattle.state_laws.proofs.Taking.{rows_show, taken_shapes}
 
 abbrev pub IsPlain : Value → Type 0
 IsPlain value = IsUtf8 (plain_text value)
-
--- a piece of no value is named otherwise
-abbrev pub NamesPiece : Option Value → Type 0
-NamesPiece None = Unit {0}
-NamesPiece (Some value) = IsPlain value
 
 plain_row : (rows : List RowValues) (n : ℕ) → All (All IsPlain) rows → All IsPlain (row_at rows n)
 plain_row [] n all = All-nil IsPlain
@@ -62,15 +57,20 @@ single_named : (n : ℕ) (rows : List RowValues) → All IsNamed (single_rows n 
 single_named n [] = All-nil IsNamed
 single_named n (row ∷ rows) = All-cons IsNamed (record { value = None; rows = n ∷ [] }) (single_rows (n + 1) rows) tt (single_named (n + 1) rows)
 
-pub items_named : (t : TableContent) (field : Option Text) → CanNamePieces field t → (items : List SplitItem) → split_rows t field ≡ Ok items → All IsNamed items
-items_named t None plain items e =
+rows_named : (t : TableContent) → CanNamePieces t None
+rows_named t items e =
     let same : single_rows 0 t.rows ≡ items = cc in
     subst (All IsNamed) same (single_named 0 t.rows)
-items_named t (Some field) plain items e =
+
+values_named : (t : TableContent) → HasPlainTexts t → (field : Text) → CanNamePieces t (Some field)
+values_named t plain field items e =
     let same : pieces_by t field ≡ items = behind_refusal (refused_item t.names [] 0 (field ∷ [])) (pieces_by t field) items e in
     let place : ℕ = place_of t.names field in
     let groups : List (List ℕ) = groups_of (map (cells t.names (field ∷ [])) t.rows) in
     subst (All IsNamed) same (All-map IsNamed (piece t.rows place) groups (λ k d l. plain_value (first_of t.rows (get_or groups k d)) place (plain_first t.rows (get_or groups k d) plain)))
+
+pub pieces_are_named : PiecesAreNamed
+pieces_are_named t = (rows_named t, values_named t)
 
 -- ---- pieces
 
@@ -123,17 +123,17 @@ module _ (v : View) (layer : Layer) (l : StateLayer) (h : LayerShows v layer l) 
   all_pieces_show [] below named made whole = whole_shows made whole
   all_pieces_show (item ∷ items) below named made are = pieces_show v layer l h 0 1 (omega arith) (item ∷ items) below named made are
 
-  split_alike : (field : Option Text) → CanNamePieces field layer.table → MakesAlike v (IsSplit field layer) (table_refusal (split_rows layer.table field)) (split_of l (split_rows layer.table field))
-  split_alike field plain = record {
+  split_alike : (field : Option Text) → CanNamePieces layer.table field → MakesAlike v (IsSplit field layer) (table_refusal (split_rows layer.table field)) (split_of l (split_rows layer.table field))
+  split_alike field named = record {
     shows = λ made split. record {
       outputs = pieces_of l split.items;
       answers = ap (split_of l) split.answers;
-      show = all_pieces_show split.items (split_below layer.table field split.items split.answers) (items_named layer.table field plain split.items split.answers) made split.pieces;
+      show = all_pieces_show split.items (split_below layer.table field split.items split.answers) (named split.items split.answers) made split.pieces;
     };
     refused = split_refused l (split_rows layer.table field);
   }
 
 pub pieces_are_shown : PiecesShow
-pieces_are_shown v layer l h field plain =
+pieces_are_shown v layer l h field named =
     alike_by v (λ (r : Result (List SplitItem) TableWhy). IsSplit field layer) (split_of l) (split_rows layer.table field) (split_rows l.table field) (ap (λ (t : TableContent). split_rows t field) h.table)
-    (split_alike v layer l h field plain)
+    (split_alike v layer l h field named)

@@ -109,9 +109,9 @@ joins_alike v layer l h (Err why) (Err w) shown spec Makes are = record {
 joins_alike v layer l h (Ok source) (Err w) shown spec Makes are = absurd shown
 joins_alike v layer l h (Err why) (Ok m) shown spec Makes are = absurd shown
 
--- the layer's values name its pieces, where it is split
+-- the pieces of the layer can be named, where it is split
 abbrev NamesPieces : LayerAction → Layer → Type 0
-NamesPieces (action.Split field) layer = CanNamePieces field layer.table
+NamesPieces (action.Split field) layer = CanNamePieces layer.table field
 NamesPieces _ layer = Unit {0}
 
 module _ (v : View) (view : IsView v) (base : Base) (sources : SourceLayers) (owns : SourcesShow v base.sources sources) (layers : List Held) (s : State) (h : StateShows v layers s) where

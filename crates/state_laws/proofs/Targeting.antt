@@ -14,7 +14,7 @@ use Rattle.chain_model.specs.Outcome.{RefuseWhy, no_layer}
 use Rattle.chain_model.specs.State.{State, StateLayer}
 use Rattle.chain_model.specs.Targets.{layer_names, layers_at, selected, some_layers}
 use Rattle.state_laws.specs.Shown.{View, LayerShows, StateShows}
-use Rattle.state_laws.specs.Targets.{OneLayerShows, OriginsShow, TargetShows, TargetsShow, target_numbers}
+use Rattle.state_laws.specs.Targets.{FirstLayersShow, OneLayerShows, OriginsShow, TargetShows, TargetsShow, target_numbers}
 use Rattle.state_laws.proofs.Numbered.{all_numbers_pass, any-map, numbers-map, zip_where}
 use Rattle.state_laws.proofs.Zipped.{zip_anywhere, zip_filter, zip_left, zip_long, zip_same}
 
@@ -108,3 +108,14 @@ one_layer_shows v (layer ∷ []) (l ∷ []) shown = shown.0
 one_layer_shows v (layer ∷ []) (l ∷ m ∷ ls) shown = absurd shown.1
 one_layer_shows v (layer ∷ other ∷ layers) (l ∷ []) shown = absurd shown.1
 one_layer_shows v (layer ∷ other ∷ layers) (l ∷ m ∷ ls) shown = refl
+
+-- ---- the first state
+
+abbrev begun : Layer → Held
+begun layer = record { layer = layer; is_default = true }
+
+pub first_layers_show : FirstLayersShow
+first_layers_show v layers ls shown = record {
+  layers = zip_left (λ (held : Held) (l : StateLayer). LayerShows v held.layer l) begun layers ls shown;
+  target = ap (range_with_len 0) (sym (zip_long (LayerShows v) layers ls shown)) ∙ sym (numbers-map 0 (λ (held : Held). held.is_default) begun layers ∙ all_numbers_pass 0 layers);
+}

@@ -44,9 +44,9 @@ is_on_tables (action.Sort key descending) = true
 is_on_tables (action.Uniq key most invert) = true
 is_on_tables _ = false
 
--- the layers that it splits have values that name their pieces
+-- the pieces of the layers that it splits can be named
 abbrev pub CanName : LayerAction → List Layer → Type 0
-CanName (action.Split field) layers = All (λ (layer : Layer). CanNamePieces field layer.table) layers
+CanName (action.Split field) layers = All (λ (layer : Layer). CanNamePieces layer.table field) layers
 CanName _ layers = ⊤
 
 abbrev pub TableStepsShow : Type 0

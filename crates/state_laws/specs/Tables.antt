@@ -13,6 +13,7 @@ use Rattle.table_terms.specs.declared.specifications.JoinSpec.{JoinSpec}
 use Rattle.table_ops.specs.Columns.{keep_fields, rename_fields}
 use Rattle.table_ops.specs.Join.{join_tables}
 use Rattle.table_ops.specs.Splitting.{split_rows}
+use Rattle.table_ops.specs.declared.split.SplitItem.{SplitItem}
 use Rattle.calc_ops.specs.EachRow.{each_rows}
 use Rattle.calc_ops.specs.EarlyRows.{uniq_rows}
 use Rattle.calc_ops.specs.KeyOrder.{sort_rows}
@@ -60,17 +61,25 @@ FilteredRowsShow = (v : View) → IsView v → (layer : Layer) (l : StateLayer) 
 
 -- ---- a layer in pieces, and layers together
 
+-- a value names a piece where its plain text is UTF-8; a piece of no value is named by its number
+abbrev pub NamesPiece : Option Value → Type 0
+NamesPiece None = ⊤
+NamesPiece (Some value) = IsUtf8 (plain_text value)
+
+-- the pieces into which a table is split can be named
+abbrev pub CanNamePieces : TableContent → Option Content → Type 0
+CanNamePieces t field = (items : List SplitItem) → split_rows t field ≡ Ok items → All (λ (item : SplitItem). NamesPiece item.value) items
+
 -- the plain text of each value is UTF-8
 abbrev pub HasPlainTexts : TableContent → Type 0
 HasPlainTexts t = All (All (λ (value : Value). IsUtf8 (plain_text value))) t.rows
 
--- where a table is split by a field, its values name the pieces
-abbrev pub CanNamePieces : Option Content → TableContent → Type 0
-CanNamePieces None t = ⊤
-CanNamePieces (Some field) t = HasPlainTexts t
+-- so they can where each row is a piece, and else where all values have such texts
+abbrev pub PiecesAreNamed : Type 0
+PiecesAreNamed = (t : TableContent) → CanNamePieces t None × (HasPlainTexts t → (field : Content) → CanNamePieces t (Some field))
 
 abbrev pub PiecesShow : Type 0
-PiecesShow = (v : View) (layer : Layer) (l : StateLayer) → LayerShows v layer l → (field : Option Content) → CanNamePieces field layer.table →
+PiecesShow = (v : View) (layer : Layer) (l : StateLayer) → LayerShows v layer l → (field : Option Content) → CanNamePieces layer.table field →
     MakesAlike v (IsSplit field layer) (table_refusal (split_rows layer.table field)) (split_layer field l)
 
 -- all layers are of the kind of the first

@@ -6,8 +6,9 @@ use Rattle.cmd_words.specs.declared.job.Origin.{Origin}
 use Rattle.cmd_words.specs.declared.job.Target.{Target}
 use Rattle.run_plane.specs.declared.layer.Layer.{Layer}
 use Rattle.run_state.specs.Origins as run
-use Rattle.run_state.specs.Targets.{has_target, is_selected, targets}
+use Rattle.run_state.specs.Targets.{first_layers, has_target, is_selected, targets}
 use Rattle.run_state.specs.declared.state.Held.{Held}
+use Rattle.chain_model.specs.Beginning.{first_state}
 use Rattle.chain_model.specs.Outcome.{no_layer}
 use Rattle.chain_model.specs.State.{State, StateLayer}
 use Rattle.chain_model.specs.Targets as state
@@ -36,3 +37,8 @@ OriginsShow = (v : View) (layers : List Held) (s : State) → StateShows v layer
 -- and the one layer among them, or why there is none
 abbrev pub OneLayerShows : Type 0
 OneLayerShows = (v : View) (layers : List Layer) (ls : List StateLayer) → AllZip (LayerShows v) layers ls → AnswerShows (LayerShows v) (run.one_layer layers) (state.one_layer ls)
+
+-- ---- the state with which the commands begin: all layers are the target of the first
+
+abbrev pub FirstLayersShow : Type 0
+FirstLayersShow = (v : View) (layers : List Layer) (ls : List StateLayer) → AllZip (LayerShows v) layers ls → StateShows v (first_layers layers) (first_state ls)

@@ -9,9 +9,11 @@
 //!   shape is empty exactly if what it shows is (`emptiness_shows`), so the same features are left out
 //!   (`left_features_show`).
 //! - Commands on rows and columns: `fields_show`, `new_names_show`, `joins_show`, `assigned_fields_show`,
-//!   `sorted_rows_show`, `early_rows_show`, `filtered_rows_show`, `pieces_show` and `merged_layers_show`.
+//!   `sorted_rows_show`, `early_rows_show`, `filtered_rows_show`, `pieces_show` and `merged_layers_show`. The pieces of a
+//!   split by a field are named alike where the plain texts of its values are UTF-8 (`pieces_are_named`).
 //! - A command works on the same layers (`targets_show`), takes the same ones from elsewhere (`origins_show`,
-//!   `one_layer_shows`), and its outputs go to the same places (`placed_outputs_show`).
+//!   `one_layer_shows`), and its outputs go to the same places (`placed_outputs_show`). The first has all layers for its
+//!   target (`first_layers_show`).
 //! - So the step of a command on the tables of its layers shows that of the state (`table_steps_show`), and so does that of
 //!   one that merges them (`merge_steps_show`).
 //!
@@ -28,11 +30,12 @@ ghost use Rattle.state_laws.specs.Tables.{
   JoinsShow,
   MergedLayersShow,
   NewNamesShow,
+  PiecesAreNamed,
   PiecesShow,
   SortedRowsShow,
 };
 ghost use Rattle.state_laws.specs.Taken.{EmptinessShows, LeftFeaturesShow, TakenFeaturesShow};
-ghost use Rattle.state_laws.specs.Targets.{OneLayerShows, OriginsShow, TargetsShow};
+ghost use Rattle.state_laws.specs.Targets.{FirstLayersShow, OneLayerShows, OriginsShow, TargetsShow};
 
 /// Features that are taken by their numbers show those that are taken of the state's layer.
 pub fn taken_features_show()
@@ -84,6 +87,11 @@ pub fn filtered_rows_show()
     ensures { FilteredRowsShow }
 {}
 
+/// Pieces of one row can be named, and others where all plain texts are UTF-8.
+pub fn pieces_are_named()
+    ensures { PiecesAreNamed }
+{}
+
 /// The pieces of a layer show those of the state's layer.
 pub fn pieces_show()
     ensures { PiecesShow }
@@ -107,6 +115,11 @@ pub fn origins_show()
 /// One layer among several is found, or refused, as in the state.
 pub fn one_layer_shows()
     ensures { OneLayerShows }
+{}
+
+/// The layers with which the commands begin show the first state.
+pub fn first_layers_show()
+    ensures { FirstLayersShow }
 {}
 
 /// The outputs of a command go to the places to which they go in the state.
