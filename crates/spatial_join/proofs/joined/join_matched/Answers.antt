@@ -1,16 +1,8 @@
-<<<<<<< HEAD
 use Rattle.std.proofs.Common.{◌≡◌, ◌∙◌, ap, sym, List, ℕ, length, Err}
-=======
-use Rattle.std.proofs.Common.{◌≡◌, ◌∙◌, ap, sym, subst, List, ℕ, length, Err}
->>>>>>> fa7d214b5fc377fe385f214570d6dc10ca732f32
 use Rattle.std.specs.Prelude.{None, Ok}
 use Rattle.std.specs.List.{zip}
 use Rattle.std.proofs.lemmas.Result.{err_from_is_err_and}
 use Rattle.json_read.specs.Table.{RowValues}
-<<<<<<< HEAD
-=======
-use Rattle.table_terms.specs.Refusals.{on_ok}
->>>>>>> fa7d214b5fc377fe385f214570d6dc10ca732f32
 use Rattle.table_ops.proofs.Answering.{answers_other, unless_parts}
 use Rattle.spatial_join.specs.CalcColumns.{row_by_places}
 use Rattle.spatial_join.specs.Joined.{joined_names, matching, refused_items}

@@ -1,8 +1,4 @@
-<<<<<<< HEAD
 use Rattle.std.proofs.Common.{◌∙◌, sym, subst, ◌+◌, List, ℕ, take}
-=======
-use Rattle.std.proofs.Common.{◌≡◌, ◌∙◌, ap, sym, subst, ◌+◌, List, ℕ, take}
->>>>>>> fa7d214b5fc377fe385f214570d6dc10ca732f32
 use Rattle.std.proofs.lemmas.List.{take_all}
 use Rattle.plane_model.specs.Points.{Path}
 use Rattle.spatial_join.specs.Matches.{AreMatchedPoints, AreSetsAt}
