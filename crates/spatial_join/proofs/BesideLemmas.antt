@@ -1,7 +1,7 @@
 -- Faces beside a vertex: round a node, on both sides of an arc, or over a point.
 use Rattle.std.proofs.Common.{◌≡◌, refl, sym, ap, ◌∙◌, subst, arith, ℕ, ◌+◌, ◌<◌, Bool, true, false, ◌||◌, nat_eq, List, [], ◌∷◌, ◌++◌, All, Contains, length, get_or, take, map, append_assoc, append-nil}
-use Rattle.std.specs.Prelude.{◌↔◌, None, Some, Result, Ok, Err, OnOk, slice_get}
-use Rattle.std.specs.List.{flat_map, list_any}
+use Rattle.std.specs.Prelude.{None, Some, Result, Ok, Err, OnOk, slice_get}
+use Rattle.std.specs.List.{list_any}
 use Rattle.std.proofs.lemmas.List.Elements.{All-nil, All-cons, All-contains, All-from_get_or, All-push, Contains-get_or}
 use Rattle.std.proofs.lemmas.List.{get_or-map, length-map, take_more}
 use Rattle.std.proofs.lemmas.List.Folds.{list_any_at, Any-from_list_any}
@@ -14,8 +14,8 @@ use Rattle.arc_table.specs.Around.{IsAround, start_of}
 use Rattle.arc_table.specs.Lookup.{IsArcAt, IsLeastAt}
 use Rattle.face_walk.specs.Places.{FaceTable, IsFaceOver, place_of}
 use Rattle.ring_trace.proofs.BoundaryLemmas.{has_Contains, Contains_has}
-use Rattle.line_ops.specs.Inside.{left_of, right_of, is_inside}
-use Rattle.line_ops.specs.Points.{Leaves, IsNode, IsInsideAt}
+use Rattle.line_ops.specs.Inside.{left_of, right_of}
+use Rattle.line_ops.specs.Points.{IsNode, IsInsideAt}
 use Rattle.line_ops.proofs.RunLemmas.{flat_map_more}
 use Rattle.spatial_join.specs.Beside.{AreBeside, AreFoundAt, lists_of, lists_left_of}
 

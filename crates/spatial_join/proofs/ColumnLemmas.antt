@@ -8,7 +8,6 @@ use Rattle.std.proofs.lemmas.List.{length-map, map-append}
 use Rattle.std.proofs.lemmas.List.Folds.{list_any-append}
 use Rattle.std.proofs.lemmas.Map.Keys.{IsDistinct-push}
 use Rattle.json_read.specs.Table.{TableContent, RowValues, AreRows}
-use Rattle.json_read.specs.declared.value.Value.{Value}
 use Rattle.json_read.specs.declared.value.Value.TheVariants as is
 use Rattle.table_terms.specs.Names.{Text, has_name, value_at, place_of}
 use Rattle.table_terms.specs.Refusals.{on_ok, unless}
@@ -21,7 +20,7 @@ use Rattle.table_ops.specs.declared.fault.TableWhy.{TableWhy}
 use Rattle.table_ops.specs.declared.fault.TableWhy.TheVariants.{NoField, FieldTwice}
 use Rattle.table_ops.proofs.Cells.{map_map}
 use Rattle.table_ops.proofs.Joining.{joined_names_differ as copied_differ}
-use Rattle.spatial_join.specs.CalcColumns.{kept_at, kept_column, added_column, columns_of, column_value, summed_place, calculated_at, with_sums, row_by_places, rows_by_places}
+use Rattle.spatial_join.specs.CalcColumns.{kept_at, kept_column, added_column, columns_of, column_value, summed_place, calculated_at, row_by_places, rows_by_places}
 use Rattle.spatial_join.specs.Joined.{as_join, calc_name, copied_fields, copied_names, new_names, joined_names, lacks_field, refused_calc, each_ok, calculated, first_row, calc_row, matching, calc_rows, joined_table, join_matched, refused_items}
 use Rattle.spatial_join.specs.declared.calc_columns.Column.{Column}
 use Rattle.spatial_join.proofs.JoinLemmas.{each_of_map, rows_long, sums_long}

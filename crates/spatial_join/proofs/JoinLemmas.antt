@@ -1,6 +1,6 @@
 -- Answers for all items, one item further, and rows that match both ways.
 use Rattle.std.proofs.Common.{◌≡◌, ℕ, zero, suc, ◌+◌, ◌<◌, ◌≤◌, ℤ, Bool, true, nat_eq, nat_lt, List, [], ◌∷◌, ◌++◌, map, filter, length, drop, get_or, Contains, refl, sym, ap, ◌∙◌, subst, append_assoc, append-nil, length-append, add-one, arith}
-use Rattle.std.specs.Prelude.{Option, Some, Result, Ok, Err, IfOk, AllPairs}
+use Rattle.std.specs.Prelude.{Option, Some, Result, Ok, Err, IfOk}
 use Rattle.std.specs.Bool.{beq}
 use Rattle.std.specs.List.{AllZip, zip}
 use Rattle.std.specs.List.Sorted.{IsStrictlyIncreasing}

@@ -1,8 +1,7 @@
-use Rattle.std.proofs.Common.{◌≡◌, ◌∙◌, ap, sym, subst, ◌++◌, List, map, [], unwrap_or}
+use Rattle.std.proofs.Common.{◌≡◌, ◌∙◌, sym, subst, ◌++◌, map, [], unwrap_or}
 use Rattle.std.specs.Prelude.{None}
 use Rattle.std.specs.List.{IsDistinct}
 use Rattle.std.specs.Str.{bytes_eq}
-use Rattle.table_terms.specs.Names.{Text}
 use Rattle.table_ops.specs.Refusals.{refused_item}
 use Rattle.table_ops.proofs.Answering.{unless_parts}
 use Rattle.spatial_join.specs.Joined.{calc_name, copied_fields, copied_names, refused_calc}

@@ -1,4 +1,4 @@
-use Rattle.std.proofs.Common.{◌∙◌, ap, sym, subst, true, All, List, ℕ, ◌<◌, length}
+use Rattle.std.proofs.Common.{◌∙◌, ap, sym, subst, true, All, ℕ, ◌<◌, length}
 use Rattle.std.specs.List.Sorted.{IsStrictlyIncreasing}
 use Rattle.bucket_grid.proofs.Numbers.{numbers_where_below}
 use Rattle.json_read.specs.Table.{RowValues}

@@ -1,9 +1,8 @@
-use Rattle.std.proofs.Common.{◌≡◌, ◌∙◌, ap, sym, subst, List, ℕ, length, Err}
+use Rattle.std.proofs.Common.{◌≡◌, ◌∙◌, ap, sym, List, ℕ, length, Err}
 use Rattle.std.specs.Prelude.{None, Ok}
 use Rattle.std.specs.List.{zip}
 use Rattle.std.proofs.lemmas.Result.{err_from_is_err_and}
 use Rattle.json_read.specs.Table.{RowValues}
-use Rattle.table_terms.specs.Refusals.{on_ok}
 use Rattle.table_ops.proofs.Answering.{answers_other, unless_parts}
 use Rattle.spatial_join.specs.CalcColumns.{row_by_places}
 use Rattle.spatial_join.specs.Joined.{joined_names, matching, refused_items}

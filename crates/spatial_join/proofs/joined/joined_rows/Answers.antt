@@ -1,5 +1,4 @@
-use Rattle.std.proofs.Common.{◌≡◌, ◌∙◌, ap, sym, subst, arith, ℕ, ◌+◌, ◌<◌, suc, List, [], ◌∷◌, ◌++◌, nat_eq, All, Err, length, get_or, drop, add-one}
-use Rattle.std.specs.List.{zip}
+use Rattle.std.proofs.Common.{◌∙◌, ap, sym, subst, arith, ℕ, ◌<◌, List, nat_eq, All, Err, length, get_or}
 use Rattle.std.proofs.lemmas.List.Elements.{All-filter}
 use Rattle.std.proofs.lemmas.Result.{err_from_is_err_and}
 use Rattle.json_read.specs.Table.{RowValues}

@@ -1,4 +1,4 @@
-use Rattle.std.proofs.Common.{◌≡◌, ◌∙◌, ap, sym, subst, ◌+◌, List, ℕ, take}
+use Rattle.std.proofs.Common.{◌∙◌, sym, subst, ◌+◌, List, ℕ, take}
 use Rattle.std.proofs.lemmas.List.{take_all}
 use Rattle.plane_model.specs.Points.{Path}
 use Rattle.spatial_join.specs.Matches.{AreMatchedPoints, AreSetsAt}

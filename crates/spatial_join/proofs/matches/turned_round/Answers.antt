@@ -1,4 +1,4 @@
-use Rattle.std.proofs.Common.{◌≡◌, ◌∙◌, sym, subst, ap, arith, ℕ, ◌<◌, List, get_or, length, map, Vec, Global}
+use Rattle.std.proofs.Common.{◌≡◌, ◌∙◌, subst, ap, arith, ℕ, List, get_or, map, Vec, Global}
 use Rattle.std.specs.List.{range_with_len}
 use Rattle.std.proofs.lemmas.List.{length-map, take_all}
 use Rattle.std.proofs.lemmas.Result.{IfOk-weaker}
