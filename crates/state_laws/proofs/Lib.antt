@@ -14,3 +14,4 @@ pub mod LayerKinds
 pub mod Stepping
 pub mod TableSteps
 pub mod MergeStep
+pub mod Views

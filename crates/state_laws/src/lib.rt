@@ -5,6 +5,7 @@
 //! the ones show the others: rows, names and kinds are the same, sets of faces follow regions, arcs run along paths.
 //! `specs/Reasons.antt` says when a refusal of a run is that of the state.
 //!
+//! - What is laid out has a view, in which the sets that features and boxes hold show them (`views_exist`).
 //! - Features that are taken by their numbers show those that are taken of the state's layer (`taken_features_show`). A
 //!   shape is empty exactly if what it shows is (`emptiness_shows`), so the same features are left out
 //!   (`left_features_show`).
@@ -36,6 +37,13 @@ ghost use Rattle.state_laws.specs.Tables.{
 };
 ghost use Rattle.state_laws.specs.Taken.{EmptinessShows, LeftFeaturesShow, TakenFeaturesShow};
 ghost use Rattle.state_laws.specs.Targets.{FirstLayersShow, OneLayerShows, OriginsShow, TargetsShow};
+ghost use Rattle.state_laws.specs.Views.{ViewsExist};
+
+/// A snapped drawing that is laid out has a view: its places have labels by their faces, each question about regions has a
+/// right answer, and the faces that features and boxes hold follow them.
+pub fn views_exist()
+    ensures { ViewsExist }
+{}
 
 /// Features that are taken by their numbers show those that are taken of the state's layer.
 pub fn taken_features_show()
