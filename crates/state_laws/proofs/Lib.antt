@@ -15,3 +15,4 @@ pub mod Stepping
 pub mod TableSteps
 pub mod MergeStep
 pub mod Views
+pub mod Begun

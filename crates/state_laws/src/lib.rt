@@ -5,7 +5,9 @@
 //! the ones show the others: rows, names and kinds are the same, sets of faces follow regions, arcs run along paths.
 //! `specs/Reasons.antt` says when a refusal of a run is that of the state.
 //!
-//! - What is laid out has a view, in which the sets that features and boxes hold show them (`views_exist`).
+//! - What is laid out has a view, in which the sets that features and boxes hold show them (`views_exist`). What a run
+//!   draws is the drawing of the state (`drawings_are_one`), and what begins over it shows what begins in the state
+//!   (`beginnings_show`).
 //! - Features that are taken by their numbers show those that are taken of the state's layer (`taken_features_show`). A
 //!   shape is empty exactly if what it shows is (`emptiness_shows`), so the same features are left out
 //!   (`left_features_show`).
@@ -21,6 +23,7 @@
 //! Each function carries one law in its contract, and does nothing.
 #![tactic(auto)]
 
+ghost use Rattle.state_laws.specs.Beginnings.{BeginningsShow, DrawingsAreOne};
 ghost use Rattle.state_laws.specs.Placing.{PlacedOutputsShow};
 ghost use Rattle.state_laws.specs.Steps.{MergeStepsShow, TableStepsShow};
 ghost use Rattle.state_laws.specs.Tables.{
@@ -43,6 +46,16 @@ ghost use Rattle.state_laws.specs.Views.{ViewsExist};
 /// right answer, and the faces that features and boxes hold follow them.
 pub fn views_exist()
     ensures { ViewsExist }
+{}
+
+/// What a run draws is the drawing of the state.
+pub fn drawings_are_one()
+    ensures { DrawingsAreOne }
+{}
+
+/// What begins over a drawing has a view, in which it shows what begins in the state.
+pub fn beginnings_show()
+    ensures { BeginningsShow }
 {}
 
 /// Features that are taken by their numbers show those that are taken of the state's layer.
