@@ -16,3 +16,5 @@ pub mod TableSteps
 pub mod MergeStep
 pub mod Views
 pub mod Begun
+pub mod OnPlane
+pub mod LineCuts

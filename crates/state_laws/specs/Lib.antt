@@ -7,3 +7,4 @@ pub mod Taken
 pub mod Targets
 pub mod Views
 pub mod Beginnings
+pub mod Lines

@@ -1,0 +1,29 @@
+-- Laws of commands on lines and points, and of lines between polygons: what a run makes of a layer shows what the state's definitions make of it.
+use Rattle.std.specs.Prelude.{◌≡◌, ◌≢◌, ℕ, List, None}
+use Rattle.grid_base.specs.declared.kinds.Kind.TheVariants as kinds
+use Rattle.region_model.specs.Region.{Region}
+use Rattle.run_plane.specs.declared.layer.Layer.{Layer}
+use Rattle.run_plane.specs.declared.plane.Plane.{Plane}
+use Rattle.run_shapes.specs.Cutting.{IsCut}
+use Rattle.run_shapes.specs.declared.cutting.CutKeeps.TheVariants as keeps
+use Rattle.run_tables.specs.Made.{One}
+use Rattle.chain_model.specs.State.{StateLayer}
+use Rattle.chain_model.specs.Features.{clip_layer, erase_layer}
+use Rattle.state_laws.specs.Shown.{View, IsView, FacesShow, LayerShows, plane_of}
+use Rattle.state_laws.specs.Reasons.{MakesAlike}
+
+-- the view has the arcs and the faces of the plane of a run
+pub record IsSeenIn (v : View) (plane : Plane) : Type 0 where
+  pub arcs : plane.arcs ≡ v.arcs
+  pub faces : plane.faces ≡ v.faces
+
+-- ---- laws of layers without polygons
+
+-- cut by the faces of a region they show what the region leaves of the state's layer
+abbrev pub ClippedLinesShow : Type 0
+ClippedLinesShow = (v : View) → IsView v → (plane : Plane) → IsSeenIn v plane → (area : List ℕ) (r : Region) → FacesShow v area r → (layer : Layer) (l : StateLayer) → LayerShows v layer l → layer.kind ≢ kinds.Polygon →
+    MakesAlike v (One (IsCut keeps.Inside plane area layer)) None (clip_layer (plane_of v) v.answers r l)
+
+abbrev pub ErasedLinesShow : Type 0
+ErasedLinesShow = (v : View) → IsView v → (plane : Plane) → IsSeenIn v plane → (area : List ℕ) (r : Region) → FacesShow v area r → (layer : Layer) (l : StateLayer) → LayerShows v layer l → layer.kind ≢ kinds.Polygon →
+    MakesAlike v (One (IsCut keeps.Outside plane area layer)) None (erase_layer (plane_of v) v.answers r l)
