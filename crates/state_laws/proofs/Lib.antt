@@ -18,3 +18,4 @@ pub mod Views
 pub mod Begun
 pub mod OnPlane
 pub mod LineCuts
+pub mod LinePieces

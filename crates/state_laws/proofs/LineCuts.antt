@@ -1,5 +1,5 @@
 -- Lines and points that are cut by a region.
-use Rattle.std.proofs.Common.{◌≡◌, refl, sym, ap, ◌∙◌, subst, ℕ, ◌<◌, Bool, true, false, cond, not, List, [], ◌∷◌, ◌++◌, All, Contains, length, map, filter, None, if◌then◌else◌}
+use Rattle.std.proofs.Common.{◌≡◌, refl, sym, ap, ◌∙◌, subst, ℕ, ◌<◌, Bool, true, false, not, List, [], ◌∷◌, ◌++◌, All, Contains, length, map, filter, if◌then◌else◌}
 use Rattle.std.specs.List.{AllZip, flat_map}
 use Rattle.std.proofs.lemmas.List.Elements.{All-append, All-cons, All-filter, All-head, All-nil, All-push, All-tail}
 use Rattle.plane_model.specs.Points.{GridPoint, Path}
@@ -13,7 +13,7 @@ use Rattle.line_ops.specs.Points.{IsInsideAt}
 use Rattle.line_ops.specs.Runs.{ended, runs_after, runs_where}
 use Rattle.region_model.specs.Region.{Region}
 use Rattle.region_model.specs.LineCommands.{clipped_path, clipped_points, erased_path, erased_points}
-use Rattle.line_laws.specs.Linked.{AreLinked, AreThere, points_along}
+use Rattle.line_laws.specs.Linked.{AreLinked, AreThere}
 use Rattle.line_laws.specs.Regions.{AreFacesOf, IsToldOf}
 use Rattle.line_laws.proofs.ByRegions.{paths_cut_by_regions, points_cut_by_regions}
 use Rattle.line_laws.proofs.LinkedArcs.{runs_are_linked}
@@ -22,15 +22,13 @@ use Rattle.run_plane.specs.declared.layer.Layer.{Layer}
 use Rattle.run_plane.specs.declared.layer.Shape.{Shape}
 use Rattle.run_plane.specs.declared.layer.Shape.TheVariants as shape
 use Rattle.run_plane.specs.declared.plane.Plane.{Plane}
-use Rattle.run_shapes.specs.Cutting.{ArePointsLeft, AreShapesLeft, IsCut, IsShapeLeft, StaysAt, chosen, cut_paths, stays_along}
+use Rattle.run_shapes.specs.Cutting.{ArePointsLeft, AreShapesLeft, IsCut, IsShapeLeft, chosen, cut_paths, stays_along}
 use Rattle.run_shapes.specs.declared.cutting.CutKeeps.{CutKeeps}
 use Rattle.run_shapes.specs.declared.cutting.CutKeeps.TheVariants as keeps
-use Rattle.run_tables.specs.Made.{One}
 use Rattle.chain_model.specs.State as state
 use Rattle.chain_model.specs.State.{StateLayer, without_empty}
-use Rattle.chain_model.specs.Features.{clip_layer, clip_shape, erase_layer, erase_shape, just}
+use Rattle.chain_model.specs.Features.{clip_shape, erase_shape, just}
 use Rattle.state_laws.specs.Shown.{View, IsView, ArcsShow, AreVertices, FacesShow, LayerShows, LineShows, NothingShows, PointsShow, ShapeShows, plane_of}
-use Rattle.state_laws.specs.Reasons.{MakesAlike}
 use Rattle.state_laws.specs.Lines.{ClippedLinesShow, ErasedLinesShow, IsSeenIn}
 use Rattle.state_laws.proofs.Empty.{left_features_show}
 use Rattle.state_laws.proofs.OnPlane.{list_stays}

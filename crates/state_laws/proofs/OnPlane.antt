@@ -1,5 +1,5 @@
 -- What a layer shows is on the plane: sets of faces and paths stay as they are.
-use Rattle.std.proofs.Common.{◌≡◌, refl, sym, ap, ◌∙◌, subst, arith, ℕ, ◌<◌, Bool, true, ◌&&◌, not, List, [], ◌∷◌, All, length, get_or, nat_eq, nat_lt, slice_get, Some, if◌then◌else◌}
+use Rattle.std.proofs.Common.{◌≡◌, refl, sym, ap, ◌∙◌, arith, ℕ, ◌<◌, Bool, true, ◌&&◌, not, List, [], ◌∷◌, All, length, get_or, nat_eq, slice_get, Some, if◌then◌else◌}
 use Rattle.std.specs.Cmp.{unsigned_Decides}
 use Rattle.std.specs.List.{list_all}
 use Rattle.std.proofs.lemmas.Bool.{false_from_ne_true, lt-ltb}

@@ -5,10 +5,11 @@ use Rattle.region_model.specs.Region.{Region}
 use Rattle.run_plane.specs.declared.layer.Layer.{Layer}
 use Rattle.run_plane.specs.declared.plane.Plane.{Plane}
 use Rattle.run_shapes.specs.Cutting.{IsCut}
+use Rattle.run_shapes.specs.Exploding.{IsExploded}
 use Rattle.run_shapes.specs.declared.cutting.CutKeeps.TheVariants as keeps
 use Rattle.run_tables.specs.Made.{One}
 use Rattle.chain_model.specs.State.{StateLayer}
-use Rattle.chain_model.specs.Features.{clip_layer, erase_layer}
+use Rattle.chain_model.specs.Features.{clip_layer, erase_layer, explode_layer}
 use Rattle.state_laws.specs.Shown.{View, IsView, FacesShow, LayerShows, plane_of}
 use Rattle.state_laws.specs.Reasons.{MakesAlike}
 
@@ -27,3 +28,7 @@ ClippedLinesShow = (v : View) → IsView v → (plane : Plane) → IsSeenIn v pl
 abbrev pub ErasedLinesShow : Type 0
 ErasedLinesShow = (v : View) → IsView v → (plane : Plane) → IsSeenIn v plane → (area : List ℕ) (r : Region) → FacesShow v area r → (layer : Layer) (l : StateLayer) → LayerShows v layer l → layer.kind ≢ kinds.Polygon →
     MakesAlike v (One (IsCut keeps.Outside plane area layer)) None (erase_layer (plane_of v) v.answers r l)
+
+-- each path and each point by itself shows those of the state
+abbrev pub ExplodedLinesShow : Type 0
+ExplodedLinesShow = (v : View) → (plane : Plane) → (layer : Layer) (l : StateLayer) → LayerShows v layer l → layer.kind ≢ kinds.Polygon → MakesAlike v (One (IsExploded plane layer)) None (explode_layer (plane_of v) v.answers l)
