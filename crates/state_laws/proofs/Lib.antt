@@ -19,3 +19,4 @@ pub mod Begun
 pub mod OnPlane
 pub mod LineCuts
 pub mod LinePieces
+pub mod LineGroups

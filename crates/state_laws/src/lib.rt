@@ -15,7 +15,8 @@
 //!   `sorted_rows_show`, `early_rows_show`, `filtered_rows_show`, `pieces_show` and `merged_layers_show`. The pieces of a
 //!   split by a field are named alike where the plain texts of its values are UTF-8 (`pieces_are_named`).
 //! - Lines and points that are clipped or erased show what the region leaves of the state's (`clipped_lines_show`,
-//!   `erased_lines_show`), and so do their paths and points one by one (`exploded_lines_show`).
+//!   `erased_lines_show`), and so do their paths and points one by one (`exploded_lines_show`) and in groups
+//!   (`grouped_lines_show`).
 //! - A command works on the same layers (`targets_show`), takes the same ones from elsewhere (`origins_show`,
 //!   `one_layer_shows`), and its outputs go to the same places (`placed_outputs_show`). The first has all layers for its
 //!   target (`first_layers_show`).
@@ -26,7 +27,7 @@
 #![tactic(auto)]
 
 ghost use Rattle.state_laws.specs.Beginnings.{BeginningsShow, DrawingsAreOne};
-ghost use Rattle.state_laws.specs.Lines.{ClippedLinesShow, ErasedLinesShow, ExplodedLinesShow};
+ghost use Rattle.state_laws.specs.Lines.{ClippedLinesShow, ErasedLinesShow, ExplodedLinesShow, GroupedLinesShow};
 ghost use Rattle.state_laws.specs.Placing.{PlacedOutputsShow};
 ghost use Rattle.state_laws.specs.Steps.{MergeStepsShow, TableStepsShow};
 ghost use Rattle.state_laws.specs.Tables.{
@@ -139,6 +140,11 @@ pub fn erased_lines_show()
 /// Each path and each point by itself shows those of the state.
 pub fn exploded_lines_show()
     ensures { ExplodedLinesShow }
+{}
+
+/// Lines and points that are grouped, where they may be, show the groups of the state.
+pub fn grouped_lines_show()
+    ensures { GroupedLinesShow }
 {}
 
 /// A target has the layers that it selects in the state, or both refuse it.
