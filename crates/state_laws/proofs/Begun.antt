@@ -160,8 +160,7 @@ module _ (v : View) (view : IsView v) (features : List (List ℕ)) (show : ShowE
       AllZip (ShapeShows v kinds.Polygon) (map (face_shape (drop m features)) (range_with_len i (length given))) (map (first_of kinds.Polygon) (enumerate_from n given))
   polygons_show [] m n i same room = tt
   polygons_show (s ∷ given) m n i same room =
-      let at : list_at (drop m features) i ≡ list_at features n = get_or-drop m features i [] ∙ ap (list_at features) (sym same) in
-      (
+      let at : list_at (drop m features) i ≡ list_at features n = get_or-drop m features i [] ∙ ap (list_at features) (sym same) in (
         record { set = list_at (drop m features) i; region = feature n; has = refl; is = refl; shows = subst (λ (set : List ℕ). FacesShow v set (feature n)) (sym at) (show n (omega (arith, room))) },
         polygons_show given m (n + 1) (i + 1) (omega (arith, same)) (omega (arith, room)),
       )
@@ -260,7 +259,7 @@ module _ (v : View) (view : IsView v) (features : List (List ℕ)) (show : ShowE
     kind = sym begun.kind;
     table = sym begun.table;
     shapes = subst (λ (k : Kind). AllZip (ShapeShows v k) held.shapes.items (map (first_of l.kind) (enumerate_from (count_of l.kind before) l.shapes))) (sym begun.kind)
-      (shapes_show l.kind before left is l.shapes held.shapes.items begun.shapes there drawn);
+        (shapes_show l.kind before left is l.shapes held.shapes.items begun.shapes there drawn);
   }
 
   module _ (total : List LayerContent) (whole : count_of kinds.Polygon total ≡ length features) (vertices : (l : LayerContent) → Contains total l → l.kind ≡ kinds.Point → All HasVertices l.shapes) where
@@ -316,7 +315,7 @@ module _ (v : View) (view : IsView v) (features : List (List ℕ)) (show : ShowE
         let both = counted kinds.Polygon before ls in (
           layers_show ls before left is (λ l c. within l (Contains-append_left ls (joined_up given) l c)) (omega (arith, all, room)) h begun.0 (All-head (All (AreLinesThere v.arcs)) h held there),
           sources_show given (before ++ ls) (behind_all ls left) (left_behind_all ls before left is) (λ l c. within l (Contains-append_right ls (joined_up given) l c)) (omega (arith, all, both, room)) held begun.1
-          (All-tail (All (AreLinesThere v.arcs)) h held there),
+              (All-tail (All (AreLinesThere v.arcs)) h held there),
         )
 
   -- ---- the drawing has their features

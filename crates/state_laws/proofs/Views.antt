@@ -51,12 +51,15 @@ module _ (d : Drawing) (arcs : List Path) (faces : FaceTable) (label : Place →
   right_answers = go (answers_exist d arcs faces label walked labels held (λ r. (inside_of r).0))
     where
       go : (A : Answers) × (A.inside ≡ (λ r. (inside_of r).0)) × TellRegions (plane_with d arcs) A → (A : Answers) × AreRight (plane_with d arcs) A
-      go (A, same, told) = (A, record {
-        sides = told.sides;
-        inside = λ r p vertex. subst (λ (inside : Region → GridPoint → Bool). (inside r p ≡ true) ↔ IsInside (links_of (snapped d)) (Has (snapped d) arcs r) p) (sym same) ((inside_of r).1 p vertex);
-        parts = told.parts;
-        gaps = told.gaps;
-      })
+      go (A, same, told) = (
+        A,
+        record {
+          sides = told.sides;
+          inside = λ r p vertex. subst (λ (inside : Region → GridPoint → Bool). (inside r p ≡ true) ↔ IsInside (links_of (snapped d)) (Has (snapped d) arcs r) p) (sym same) ((inside_of r).1 p vertex);
+          parts = told.parts;
+          gaps = told.gaps;
+        },
+      )
 
   -- ---- what is held
 
