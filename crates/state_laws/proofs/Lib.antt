@@ -20,3 +20,4 @@ pub mod OnPlane
 pub mod LineCuts
 pub mod LinePieces
 pub mod LineGroups
+pub mod Outlines

@@ -1,7 +1,7 @@
 -- What a layer shows is on the plane: sets of faces and paths stay as they are.
-use Rattle.std.proofs.Common.{◌≡◌, refl, sym, ap, ◌∙◌, arith, ℕ, ◌<◌, Bool, true, ◌&&◌, not, List, [], ◌∷◌, All, length, get_or, nat_eq, slice_get, Some, if◌then◌else◌}
+use Rattle.std.proofs.Common.{◌≡◌, refl, sym, ap, ◌∙◌, subst, arith, ℕ, ◌<◌, Bool, true, ◌&&◌, not, List, [], ◌∷◌, All, length, map, get_or, nat_eq, slice_get, Some, if◌then◌else◌}
 use Rattle.std.specs.Cmp.{unsigned_Decides}
-use Rattle.std.specs.List.{list_all}
+use Rattle.std.specs.List.{AllZip, list_all}
 use Rattle.std.proofs.lemmas.Bool.{false_from_ne_true, lt-ltb}
 use Rattle.std.proofs.lemmas.List.Elements.{All-head, All-tail}
 use Rattle.plane_model.specs.Points.{Path}
@@ -10,10 +10,14 @@ use Rattle.face_walk.specs.Places.{FaceTable}
 use Rattle.ring_trace.specs.Sets.{IsInnerFace, IsSetOf}
 use Rattle.line_laws.specs.Linked.{AreThere}
 use Rattle.run_plane.specs.Looks.{is_below, is_inner}
-use Rattle.run_plane.specs.OnPlane.{list_on, set_on}
+use Rattle.run_plane.specs.OnPlane.{faces_on, list_on, set_on}
+use Rattle.run_plane.specs.declared.layer.Shape.{Shape}
 use Rattle.run_plane.specs.declared.plane.Plane.{Plane}
-use Rattle.state_laws.specs.Shown.{View, IsView}
+use Rattle.run_shapes.specs.FaceSets.{sets_on}
+use Rattle.chain_model.specs.State as state
+use Rattle.state_laws.specs.Shown.{View, IsView, FacesShow, PolygonShows}
 use Rattle.state_laws.specs.Lines.{IsSeenIn}
+use Rattle.state_laws.proofs.Zipped.{zip_map}
 
 all_pass : {A : Type 0} (test : A → Bool) (P : A → Type 0) → ((x : A) → P x → test x ≡ true) → (xs : List A) → All P xs → list_all test xs ≡ true
 all_pass test P each [] all = refl
@@ -48,3 +52,14 @@ module _ (v : View) (view : IsView v) (plane : Plane) (seen : IsSeenIn v plane) 
       (ap (λ (arcs : List Path). list_all (list_all (is_below (length arcs))) named) seen.arcs
       ∙ all_pass (list_all (is_below (length v.arcs))) (AreThere v.arcs)
       (all_pass (is_below (length v.arcs)) (λ (a : SignedArc). a.arc < length v.arcs) (λ a l. lt-ltb a.arc (length v.arcs) l)) named there)
+
+  -- ---- polygons
+
+  set_shows : (held : Shape) (s : state.Shape) → PolygonShows v held s → FacesShow v (faces_on plane held) (state.region_of s)
+  set_shows held s h =
+      subst (λ (set : List ℕ). FacesShow v set (state.region_of s)) (sym (ap (faces_on plane) h.has ∙ set_stays h.set h.shows.inner))
+      (subst (λ (s : state.Shape). FacesShow v h.set (state.region_of s)) (sym h.is) h.shows)
+
+  -- the sets of polygons show the regions of the state
+  pub sets_show : (held : List Shape) (shapes : List state.Shape) → AllZip (PolygonShows v) held shapes → AllZip (FacesShow v) (sets_on plane held) (map state.region_of shapes)
+  sets_show held shapes show = zip_map (PolygonShows v) (FacesShow v) (faces_on plane) state.region_of set_shows held shapes show

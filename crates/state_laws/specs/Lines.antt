@@ -1,17 +1,21 @@
 -- Laws of commands on lines and points, and of lines between polygons: what a run makes of a layer shows what the state's definitions make of it.
 use Rattle.std.specs.Prelude.{◌≡◌, ◌≢◌, ℕ, Bool, List, None}
+use Rattle.io_core.specs.Contents.{Content}
 use Rattle.grid_base.specs.declared.kinds.Kind.TheVariants as kinds
 use Rattle.table_terms.specs.declared.specifications.GroupSpec.{GroupSpec}
+use Rattle.table_ops.specs.Columns.{keep_fields}
 use Rattle.region_model.specs.Region.{Region}
 use Rattle.run_plane.specs.declared.layer.Layer.{Layer}
 use Rattle.run_plane.specs.declared.plane.Plane.{Plane}
+use Rattle.run_shapes.specs.Borders.{AreInnerLines, AreOutlines}
 use Rattle.run_shapes.specs.Cutting.{IsCut}
 use Rattle.run_shapes.specs.Dissolving.{IsGrouped, refused_dissolve}
 use Rattle.run_shapes.specs.Exploding.{IsExploded}
 use Rattle.run_shapes.specs.declared.cutting.CutKeeps.TheVariants as keeps
+use Rattle.run_state.specs.Stops.{table_refusal}
 use Rattle.run_tables.specs.Made.{One}
 use Rattle.chain_model.specs.State.{StateLayer}
-use Rattle.chain_model.specs.Features.{clip_layer, dissolve_layer, erase_layer, explode_layer}
+use Rattle.chain_model.specs.Features.{clip_layer, dissolve_layer, erase_layer, explode_layer, inner_lines_layer, lines_layer}
 use Rattle.state_laws.specs.Shown.{View, IsView, FacesShow, LayerShows, plane_of}
 use Rattle.state_laws.specs.Reasons.{MakesAlike}
 
@@ -39,3 +43,14 @@ ExplodedLinesShow = (v : View) → (plane : Plane) → (layer : Layer) (l : Stat
 abbrev pub GroupedLinesShow : Type 0
 GroupedLinesShow = (v : View) → IsView v → (plane : Plane) → (layer : Layer) (l : StateLayer) → LayerShows v layer l → layer.kind ≢ kinds.Polygon → (spec : GroupSpec) (group_points : Bool) →
     MakesAlike v (λ (made : List Layer). (refused_dissolve spec group_points layer ≡ None) × One (IsGrouped plane spec layer) made) (refused_dissolve spec group_points layer) (dissolve_layer (plane_of v) spec group_points l)
+
+-- ---- laws of lines between polygons
+
+abbrev pub InnerLinesShow : Type 0
+InnerLinesShow = (v : View) → IsView v → (plane : Plane) → IsSeenIn v plane → (layer : Layer) (l : StateLayer) → LayerShows v layer l → layer.kind ≡ kinds.Polygon →
+    MakesAlike v (One (AreInnerLines plane layer)) None (inner_lines_layer (plane_of v) v.answers l)
+
+-- with the types and ranks of arcs
+abbrev pub OutlinesShow : Type 0
+OutlinesShow = (v : View) → IsView v → (plane : Plane) → IsSeenIn v plane → (layer : Layer) (l : StateLayer) → LayerShows v layer l → layer.kind ≡ kinds.Polygon → (fields : List Content) →
+    MakesAlike v (One (AreOutlines plane fields layer)) (table_refusal (keep_fields layer.table fields)) (lines_layer (plane_of v) v.answers fields l)

@@ -16,7 +16,8 @@
 //!   split by a field are named alike where the plain texts of its values are UTF-8 (`pieces_are_named`).
 //! - Lines and points that are clipped or erased show what the region leaves of the state's (`clipped_lines_show`,
 //!   `erased_lines_show`), and so do their paths and points one by one (`exploded_lines_show`) and in groups
-//!   (`grouped_lines_show`).
+//!   (`grouped_lines_show`). Lines between polygons, and all lines around them with their types and ranks, are those of
+//!   the state (`inner_lines_show`, `outlines_show`).
 //! - A command works on the same layers (`targets_show`), takes the same ones from elsewhere (`origins_show`,
 //!   `one_layer_shows`), and its outputs go to the same places (`placed_outputs_show`). The first has all layers for its
 //!   target (`first_layers_show`).
@@ -27,7 +28,7 @@
 #![tactic(auto)]
 
 ghost use Rattle.state_laws.specs.Beginnings.{BeginningsShow, DrawingsAreOne};
-ghost use Rattle.state_laws.specs.Lines.{ClippedLinesShow, ErasedLinesShow, ExplodedLinesShow, GroupedLinesShow};
+ghost use Rattle.state_laws.specs.Lines.{ClippedLinesShow, ErasedLinesShow, ExplodedLinesShow, GroupedLinesShow, InnerLinesShow, OutlinesShow};
 ghost use Rattle.state_laws.specs.Placing.{PlacedOutputsShow};
 ghost use Rattle.state_laws.specs.Steps.{MergeStepsShow, TableStepsShow};
 ghost use Rattle.state_laws.specs.Tables.{
@@ -145,6 +146,16 @@ pub fn exploded_lines_show()
 /// Lines and points that are grouped, where they may be, show the groups of the state.
 pub fn grouped_lines_show()
     ensures { GroupedLinesShow }
+{}
+
+/// Lines between polygons show those of the state.
+pub fn inner_lines_show()
+    ensures { InnerLinesShow }
+{}
+
+/// So do lines around polygons, with their types and ranks.
+pub fn outlines_show()
+    ensures { OutlinesShow }
 {}
 
 /// A target has the layers that it selects in the state, or both refuse it.
