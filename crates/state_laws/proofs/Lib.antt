@@ -21,3 +21,4 @@ pub mod LineCuts
 pub mod LinePieces
 pub mod LineGroups
 pub mod Outlines
+pub mod PlaceJoins

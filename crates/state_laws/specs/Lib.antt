@@ -8,3 +8,4 @@ pub mod Targets
 pub mod Views
 pub mod Beginnings
 pub mod Lines
+pub mod Places

@@ -17,7 +17,7 @@
 //! - Lines and points that are clipped or erased show what the region leaves of the state's (`clipped_lines_show`,
 //!   `erased_lines_show`), and so do their paths and points one by one (`exploded_lines_show`) and in groups
 //!   (`grouped_lines_show`). Lines between polygons, and all lines around them with their types and ranks, are those of
-//!   the state (`inner_lines_show`, `outlines_show`).
+//!   the state (`inner_lines_show`, `outlines_show`), and so are joins by place (`place_joins_show`).
 //! - A command works on the same layers (`targets_show`), takes the same ones from elsewhere (`origins_show`,
 //!   `one_layer_shows`), and its outputs go to the same places (`placed_outputs_show`). The first has all layers for its
 //!   target (`first_layers_show`).
@@ -29,6 +29,7 @@
 
 ghost use Rattle.state_laws.specs.Beginnings.{BeginningsShow, DrawingsAreOne};
 ghost use Rattle.state_laws.specs.Lines.{ClippedLinesShow, ErasedLinesShow, ExplodedLinesShow, GroupedLinesShow, InnerLinesShow, OutlinesShow};
+ghost use Rattle.state_laws.specs.Places.{PlaceJoinsShow};
 ghost use Rattle.state_laws.specs.Placing.{PlacedOutputsShow};
 ghost use Rattle.state_laws.specs.Steps.{MergeStepsShow, TableStepsShow};
 ghost use Rattle.state_laws.specs.Tables.{
@@ -156,6 +157,11 @@ pub fn inner_lines_show()
 /// So do lines around polygons, with their types and ranks.
 pub fn outlines_show()
     ensures { OutlinesShow }
+{}
+
+/// A join by place of points with polygons, or of polygons with points, shows that of the state's layers.
+pub fn place_joins_show()
+    ensures { PlaceJoinsShow }
 {}
 
 /// A target has the layers that it selects in the state, or both refuse it.

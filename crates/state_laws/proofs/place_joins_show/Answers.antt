@@ -1,0 +1,6 @@
+-- The law is proved by itself.
+use Rattle.state_laws.proofs.PlaceJoins.{place_joins_show}
+use Rattle.state_laws.proofs.place_joins_show.Goals as goal
+
+pub returns : goal.returns
+returns c = place_joins_show
