@@ -5,12 +5,16 @@
 //   geos_tasks layer IN OUT OTHER                 areas within the areas of another file
 //   geos_tasks dissolve IN OUT FIELD              one area for each value of a text field, of areas that don't overlap
 //   geos_tasks unite IN OUT SCALE                 one area of all, snap rounded to 1/SCALE
+//   geos_tasks place IN OUT AREAS FIELD           points with a text field of the first area that they lie in
+//   geos_tasks count IN OUT POINTS FIELD          areas with the number of their points, and the sum of a number field
+//   geos_tasks overlay IN OUT OTHER               areas over other areas, with both rows: pairs, and the rest of each
 #include <geos/geom/Envelope.h>
 #include <geos/geom/Geometry.h>
 #include <geos/geom/GeometryFactory.h>
 #include <geos/geom/PrecisionModel.h>
 #include <geos/geom/prep/PreparedGeometry.h>
 #include <geos/geom/prep/PreparedGeometryFactory.h>
+#include <geos/index/strtree/TemplateSTRtree.h>
 #include <geos/io/GeoJSON.h>
 #include <geos/io/GeoJSONReader.h>
 #include <geos/io/GeoJSONWriter.h>
@@ -18,6 +22,7 @@
 #include <geos/operation/overlayng/OverlayNG.h>
 #include <geos/operation/overlayng/OverlayNGRobust.h>
 #include <geos/operation/overlayng/UnaryUnionNG.h>
+#include <algorithm>
 #include <fstream>
 #include <iterator>
 #include <map>
@@ -33,6 +38,7 @@ using geos::operation::overlayng::OverlayNG;
 using geos::operation::overlayng::OverlayNGRobust;
 using geos::operation::overlayng::UnaryUnionNG;
 using Shape = std::unique_ptr<Geometry>;
+using Row = std::map<std::string, geos::io::GeoJSONValue>;
 
 static const GeometryFactory* factory = GeometryFactory::getDefaultInstance();
 
@@ -77,7 +83,7 @@ static std::vector<GeoJSONFeature> dissolved(const GeoJSONFeatureCollection& lay
     std::vector<GeoJSONFeature> united;
     for (auto& group : groups) {
         Shape members = together(std::move(group.second));
-        std::map<std::string, geos::io::GeoJSONValue> row;
+        Row row;
         row.emplace(field, geos::io::GeoJSONValue(group.first));
         united.emplace_back(CoverageUnion::geomunion(members.get()), std::move(row));
     }
@@ -88,8 +94,97 @@ static std::vector<GeoJSONFeature> united(const GeoJSONFeatureCollection& layer,
     PrecisionModel grid(scale);
     Shape all = all_of(layer);
     std::vector<GeoJSONFeature> one;
-    one.emplace_back(UnaryUnionNG::Union(all.get(), grid), std::map<std::string, geos::io::GeoJSONValue>());
+    one.emplace_back(UnaryUnionNG::Union(all.get(), grid), Row());
     return one;
+}
+
+// Areas by their boxes, each prepared for many questions.
+struct Index {
+    const std::vector<GeoJSONFeature>& areas;
+    std::vector<std::unique_ptr<prep::PreparedGeometry>> quick;
+    geos::index::strtree::TemplateSTRtree<std::size_t> tree;
+
+    explicit Index(const std::vector<GeoJSONFeature>& areas) : areas(areas) {
+        for (std::size_t i = 0; i < areas.size(); i++) {
+            tree.insert(*areas[i].getGeometry()->getEnvelopeInternal(), i);
+            quick.push_back(prep::PreparedGeometryFactory::prepare(areas[i].getGeometry()));
+        }
+    }
+
+    // The areas that meet a shape, in order.
+    std::vector<std::size_t> meeting(const Geometry* g) {
+        std::vector<std::size_t> near, met;
+        tree.query(*g->getEnvelopeInternal(), near);
+        std::sort(near.begin(), near.end());
+        std::copy_if(near.begin(), near.end(), std::back_inserter(met), [&](std::size_t i) { return quick[i]->intersects(g); });
+        return met;
+    }
+};
+
+static std::vector<GeoJSONFeature> placed(const GeoJSONFeatureCollection& points, const GeoJSONFeatureCollection& areas,
+                                          const std::string& field) {
+    Index index(areas.getFeatures());
+    std::vector<GeoJSONFeature> all;
+    for (const auto& f : points.getFeatures()) {
+        Row row = f.getProperties();
+        auto met = index.meeting(f.getGeometry());
+        if (!met.empty()) row.emplace(field, index.areas[met[0]].getProperties().at(field));
+        all.emplace_back(f.getGeometry()->clone(), std::move(row));
+    }
+    return all;
+}
+
+static std::vector<GeoJSONFeature> counted(const GeoJSONFeatureCollection& areas, const GeoJSONFeatureCollection& points,
+                                           const std::string& field) {
+    Index index(areas.getFeatures());
+    std::vector<double> counts(index.areas.size()), sums(index.areas.size());
+    for (const auto& f : points.getFeatures())
+        for (std::size_t i : index.meeting(f.getGeometry())) {
+            counts[i]++;
+            sums[i] += f.getProperties().at(field).getNumber();
+        }
+    std::vector<GeoJSONFeature> all;
+    for (std::size_t i = 0; i < counts.size(); i++) {
+        Row row = index.areas[i].getProperties();
+        row.emplace("n", geos::io::GeoJSONValue(counts[i]));
+        row.emplace("t", geos::io::GeoJSONValue(sums[i]));
+        all.emplace_back(index.areas[i].getGeometry()->clone(), std::move(row));
+    }
+    return all;
+}
+
+static void add_area(std::vector<GeoJSONFeature>& to, Shape part, Row row) {
+    if (part->getArea() > 0) to.emplace_back(std::move(part), std::move(row));
+}
+
+// A shape without the areas that meet it.
+static Shape rest(const Geometry* g, Index& others, const std::vector<std::size_t>& met) {
+    if (met.empty()) return g->clone();
+    std::vector<Shape> shapes;
+    for (std::size_t i : met) add_parts(shapes, *others.areas[i].getGeometry());
+    Shape taken = OverlayNGRobust::Union(together(std::move(shapes)).get());
+    return OverlayNGRobust::Overlay(g, taken.get(), OverlayNG::DIFFERENCE);
+}
+
+static std::vector<GeoJSONFeature> overlaid(const GeoJSONFeatureCollection& layer, const GeoJSONFeatureCollection& other) {
+    Index first(layer.getFeatures()), second(other.getFeatures());
+    std::vector<GeoJSONFeature> all;
+    for (const auto& f : first.areas) {
+        auto met = second.meeting(f.getGeometry());
+        for (std::size_t i : met) {
+            Row row = f.getProperties();
+            for (const auto& cell : second.areas[i].getProperties()) row.emplace(cell.first + "_2", cell.second);
+            const Geometry* g = second.areas[i].getGeometry();
+            add_area(all, OverlayNGRobust::Overlay(f.getGeometry(), g, OverlayNG::INTERSECTION), std::move(row));
+        }
+        add_area(all, rest(f.getGeometry(), second, met), f.getProperties());
+    }
+    for (const auto& f : second.areas) {
+        Row row;
+        for (const auto& cell : f.getProperties()) row.emplace(cell.first + "_2", cell.second);
+        add_area(all, rest(f.getGeometry(), first, first.meeting(f.getGeometry())), std::move(row));
+    }
+    return all;
 }
 
 static std::vector<GeoJSONFeature> answer(const GeoJSONFeatureCollection& layer, int count, char** words) {
@@ -104,6 +199,9 @@ static std::vector<GeoJSONFeature> answer(const GeoJSONFeatureCollection& layer,
     }
     if (task == "dissolve" && count == 5) return dissolved(layer, words[4]);
     if (task == "unite" && count == 5) return united(layer, std::stod(words[4]));
+    if (task == "place" && count == 6) return placed(layer, read(words[4]), words[5]);
+    if (task == "count" && count == 6) return counted(layer, read(words[4]), words[5]);
+    if (task == "overlay" && count == 5) return overlaid(layer, read(words[4]));
     return layer.getFeatures();
 }
 

@@ -13,6 +13,7 @@ EXPRESSIONS = {
     "key": ("%s == 'a'", "%s != 'b'", "%s < 'c'"),
     "text": ("%s !== null", "%s === 'x, y'", "%s !== null ? %s != '' : false"),
 }
+MAYBE_NULL = {"n": "number", "g": "text", "v": "number", "w": "text"}    # the columns of a layer, in rows that may lack them
 SCALES = {"1": 1, "0.1": 0.1, "0.001": 0.37, "0.000001": 1 / 7}
 
 
@@ -154,6 +155,16 @@ def join(state, size, scale):
     return ["-join", "t.csv", "keys=%s,g" % key, "prefix=" + prefix]
 
 
+def join_by_place(state, size, scale):
+    prefix, count = "q%d_" % len(state.columns), "k%d" % state.draw.randrange(1000)
+    if count in state.columns or count + "s" in state.columns:
+        return None
+    state.columns.update({prefix + name: kind for name, kind in MAYBE_NULL.items()})
+    state.columns.update({count: "whole", count + "s": "number"})
+    source = "b.json" if state.kind == "point" else "p.json"
+    return ["-join", source, "prefix=" + prefix, "calc=%s = count(), %ss=sum(v)" % (count, count)]
+
+
 def keep_rows(state, size, scale):
     name = state.pick()
     if name is None or state.draw.random() < 0.2:
@@ -209,9 +220,10 @@ def split_and_merge(state, size, scale):
 
 ANY_KIND = (keep_rows, keep_columns, calculate, order_or_thin, rename, join, dissolve, split_and_merge)
 BY_KIND = {
-    "polygon": (clip, clip, clip, clean, clean, islands, mosaic, inner_lines, lines, explode, dissolve) + ANY_KIND,
+    "polygon": (clip, clip, clip, clean, clean, islands, mosaic, inner_lines, lines, explode, dissolve, join_by_place)
+               + ANY_KIND,
     "line": (clip, clip, explode) + ANY_KIND,
-    "point": (clip, clip, explode) + ANY_KIND,
+    "point": (clip, clip, explode, join_by_place) + ANY_KIND,
     "table": ANY_KIND,
 }
 
@@ -222,13 +234,19 @@ def random_chain(number):
     size = draw.choice((4, 7, 12))
     precision, scale = draw.choice(tuple(SCALES.items()))
     names = ["t.csv"] if kind == "table" else ["a.json", "c.json"] if draw.random() < 0.2 else ["a.json"]
-    files = {"b.json": layer_text(draw, drawing(draw, "polygon", size, scale)), "t.csv": table_text(draw)}
+    files = {"b.json": layer_text(draw, drawing(draw, "polygon", size, scale)),
+             "p.json": layer_text(draw, drawing(draw, "point", size, scale)), "t.csv": table_text(draw)}
     if kind == "table":
         columns = {"g": "key", "amount": "number", "note": "text"}
     else:
         files.update({name: layer_text(draw, drawing(draw, kind, size, scale)) for name in names})
         columns = {"n": "whole", "g": "key", "v": "number", "w": "text"}
-    words = names + ["precision=" + precision] + (["-merge-layers"] if len(names) > 1 else [])
+    words = names + ["precision=" + precision]
+    if len(names) > 1 and kind == "polygon" and draw.random() < 0.5:
+        words.append("-union")
+        columns = {name + more: of for more in ("", "_2") for name, of in MAYBE_NULL.items()}
+    elif len(names) > 1:
+        words.append("-merge-layers")
     state = State(draw, kind, columns)
     for _ in range(draw.randrange(1, 5)):
         words += draw.choice(BY_KIND[state.kind])(state, size, scale) or []

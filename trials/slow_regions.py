@@ -25,6 +25,12 @@ def sides(link):
     return [(middle[0] + s * TINY * right[0], middle[1] + s * TINY * right[1]) for s in (-1, 1)]
 
 
+def lies_beside(links, region, p):
+    """Whether a region has what lies round a vertex, or between some two of the links that end there."""
+    ends = [link for link in links if p in link]
+    return any(region(z) for link in ends for z in sides(link)) if ends else region(p)
+
+
 class Cells:
     """The plane between upright lines through all vertices, cut by the links, and joined within a region."""
 

@@ -10,8 +10,8 @@ _ms_cli_words() {
     -dissolve) echo "sum-fields= copy-fields= group-points $made" ;;
     -clean) echo "overlap-rule= gap-fill-area= allow-empty $made" ;;
     -filter-islands) echo "min-area= min-vertices= remove-empty $made" ;;
-    -mosaic | -innerlines | -explode | -lines) echo "$made" ;;
-    -join) echo "keys= fields= where= prefix= string-fields= force target=" ;;
+    -mosaic | -union | -innerlines | -explode | -lines) echo "$made" ;;
+    -join) echo "keys= calc= fields= where= prefix= string-fields= force target=" ;;
     -filter) echo "invert remove-empty $made" ;;
     -uniq) echo "max-count= invert $made" ;;
     -sort) echo "ascending descending target=" ;;
@@ -30,8 +30,8 @@ _ms_cli_values() {
   esac
 }
 
-_ms_cli_commands="-clip -erase -dissolve -clean -mosaic -innerlines -lines -explode -filter-islands -join -filter
-  -each -sort -uniq -filter-fields -rename-fields -split -merge-layers -o"
+_ms_cli_commands="-clip -erase -dissolve -clean -mosaic -union -innerlines -lines -explode -filter-islands -join
+  -filter -each -sort -uniq -filter-fields -rename-fields -split -merge-layers -o"
 
 # Adds the files whose names end as those that ms_cli reads and writes, and folders.
 _ms_cli_files() {

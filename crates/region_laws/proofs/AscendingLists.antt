@@ -26,7 +26,7 @@ module _ {A : Type 0} (before : A → A → Bool) where
       go true first rest = (first, rest)
       go false first rest = rest
 
-  join_ascends : (xs ys : List A) → IsAscending before xs → IsAscending before ys → ((x y : A) → Contains xs x → Contains ys y → before x y ≡ true) → IsAscending before (xs ++ ys)
+  pub join_ascends : (xs ys : List A) → IsAscending before xs → IsAscending before ys → ((x y : A) → Contains xs x → Contains ys y → before x y ≡ true) → IsAscending before (xs ++ ys)
   join_ascends [] ys h k between = k
   join_ascends (x ∷ xs) ys h k between = (
     λ y c. elim (either_of xs ys y c) [ inl there ↦ h.0 y there | inr there ↦ between x y (Contains-head x xs) there ],

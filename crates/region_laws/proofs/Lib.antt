@@ -21,6 +21,7 @@ pub mod TieLaws
 pub mod Answered
 pub mod Fitting
 pub mod AscendingLists
+pub mod InGroups
 pub mod MosaicTold
 pub mod PartsExist
 pub mod SetsExist

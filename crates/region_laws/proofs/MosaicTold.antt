@@ -1,13 +1,13 @@
 -- The pieces of a mosaic are those that the definition makes of the regions.
-use Rattle.std.proofs.Common.{◌≡◌, inl, inr, refl, sym, ap, subst, ◌∙◌, arith, ℕ, zero, suc, ◌+◌, ◌<◌, ◌≤◌, Bool, true, false, not, List, [], ◌∷◌, ◌++◌, All, AllPairs, Contains, length, get_or, map, nat_lt}
+use Rattle.std.proofs.Common.{◌≡◌, inl, inr, refl, sym, ap, subst, ◌∙◌, arith, ℕ, zero, suc, ◌+◌, ◌<◌, ◌≤◌, Bool, true, false, not, List, [], All, AllPairs, Contains, length, get_or, map, nat_lt}
 use Rattle.std.specs.Prelude.{◌↔◌}
 use Rattle.std.specs.List.{AllZip, flat_map, range_with_len}
 use Rattle.std.proofs.lemmas.Bool.{false_from_ne_true, lt-ltb}
-use Rattle.std.proofs.lemmas.List.{get_or-map, length-map, map-append}
+use Rattle.std.proofs.lemmas.List.{get_or-map, length-map}
 use Rattle.std.proofs.lemmas.List.Elements.{Contains-get_or}
 use Rattle.lists.specs.Lists.{list_before}
 use Rattle.lists.proofs.Ascending.{IsAscending, ascending_of_pairs, one_ascending}
-use Rattle.lists.proofs.Members.{Contains-cases, Contains-filter, Contains-head, Contains-later, Contains-map, Contains-nil, filter-Contains, map-Contains}
+use Rattle.lists.proofs.Members.{Contains-cases, Contains-filter, Contains-map, Contains-nil, filter-Contains, map-Contains}
 use Rattle.plane_model.specs.Points.{Path}
 use Rattle.plane_model.specs.Drawing.{Drawing}
 use Rattle.plane_model.specs.Snapped.{snapped}
@@ -15,10 +15,10 @@ use Rattle.plane_faces.specs.Places.{Place}
 use Rattle.face_walk.specs.Places.{FaceTable}
 use Rattle.ring_trace.specs.Sets.{IsSetOf}
 use Rattle.ring_trace.proofs.SetLemmas.{from_ascending}
-use Rattle.region_ops.specs.Mosaic.{Group, IsMosaic, faces_of, items_of, items_of_groups}
+use Rattle.region_ops.specs.Mosaic.{Group, IsMosaic, faces_of, items_of_groups}
 use Rattle.region_ops.specs.declared.item_lists.MosaicItem.{MosaicItem}
 use Rattle.region_ops.proofs.ListOrder.{list_order}
-use Rattle.region_model.specs.Region.{Region, any_of, part}
+use Rattle.region_model.specs.Region.{Region, part}
 use Rattle.region_model.specs.Answers.{Answers, HasSome, is_empty}
 use Rattle.region_model.specs.PolygonCommands.{ascending_lists, exactly, mosaic, parts_of, sharing}
 use Rattle.region_laws.specs.Regions.{Follows, FollowEach}
@@ -26,55 +26,11 @@ use Rattle.region_laws.specs.Followed.{IsWalked}
 use Rattle.region_laws.specs.Answered.{FollowInOrder, MosaicAsTold, TellSides, plane_with}
 use Rattle.region_laws.proofs.Answered.{emptiness_is_told, nil_or_not, parts_in_order}
 use Rattle.region_laws.proofs.AscendingLists.{IsListOf, filter_ascends, is_list_of, list_is_there, lists_ascend}
+use Rattle.region_laws.proofs.InGroups.{all_keys, all_sets, from_zip}
 use Rattle.region_laws.proofs.Mosaics.{faces_followed, faces_inner, first_of, in_faces, of_faces}
 use Rattle.region_laws.proofs.Numbers.{in_range, of_owners, of_range, owners_rise}
 
--- ---- lists side by side
-
-module _ (d : Drawing) (arcs : List Path) (label : Place → ℕ) where
-  abbrev Beside : List ℕ → Region → Type 0
-  Beside set r = Follows d arcs label set r
-
-  to_zip : (sets : List (List ℕ)) (regions : List Region) → length regions ≡ length sets → ((n : ℕ) → n < length sets → Beside (get_or sets n []) (get_or regions n (any_of []))) → AllZip Beside sets regions
-  to_zip [] [] many each = tt
-  to_zip [] (r ∷ regions) many each = absurd (omega arith)
-  to_zip (set ∷ sets) [] many each = absurd (omega arith)
-  to_zip (set ∷ sets) (r ∷ regions) many each = (each 0 (omega arith), to_zip sets regions (omega arith) (λ n l. each (suc n) (omega arith)))
-
-  one_before : (set : List ℕ) (r : Region) (sets : List (List ℕ)) (regions : List Region) → Beside set r → FollowInOrder d arcs label sets regions → FollowInOrder d arcs label (set ∷ sets) (r ∷ regions)
-  one_before set r sets regions one more = (ap suc more.0, each)
-    where
-      each : (n : ℕ) → n < length (set ∷ sets) → Beside (get_or (set ∷ sets) n []) (get_or (r ∷ regions) n (any_of []))
-      each zero l = one
-      each (suc n) l = more.1 n (omega arith)
-
-  from_zip : (sets : List (List ℕ)) (regions : List Region) → AllZip Beside sets regions → FollowInOrder d arcs label sets regions
-  from_zip [] [] h = (refl, λ n l. absurd (omega arith))
-  from_zip [] (r ∷ regions) h = absurd h
-  from_zip (set ∷ sets) [] h = absurd h
-  from_zip (set ∷ sets) (r ∷ regions) h = one_before set r sets regions h.0 (from_zip sets regions h.1)
-
-  join_zip : (sets others : List (List ℕ)) (regions more : List Region) → AllZip Beside sets regions → AllZip Beside others more → AllZip Beside (sets ++ others) (regions ++ more)
-  join_zip [] others [] more h k = k
-  join_zip [] others (r ∷ regions) more h k = absurd h
-  join_zip (set ∷ sets) others [] more h k = absurd h
-  join_zip (set ∷ sets) others (r ∷ regions) more h k = (h.0, join_zip sets others regions more h.1 k)
-
--- ---- the pieces of a list of numbers
-
-one_value_each : {X Y B : Type 0} (b : B) (xs : List X) (ys : List Y) → length xs ≡ length ys → map (λ (x : X). b) xs ≡ map (λ (y : Y). b) ys
-one_value_each b [] [] e = refl
-one_value_each b [] (y ∷ ys) e = absurd (omega arith)
-one_value_each b (x ∷ xs) [] e = absurd (omega arith)
-one_value_each b (x ∷ xs) (y ∷ ys) e = ap (λ (bs : List _). b ∷ bs) (one_value_each b xs ys (omega arith))
-
-map_twice : {A B C : Type 0} (g : B → C) (f : A → B) (xs : List A) → map g (map f xs) ≡ map (λ (x : A). g (f x)) xs
-map_twice g f [] = refl
-map_twice g f (x ∷ xs) = ap (λ (ys : List _). g (f x) ∷ ys) (map_twice g f xs)
-
-map_itself : {A : Type 0} (xs : List A) → map (λ (x : A). x) xs ≡ xs
-map_itself [] = refl
-map_itself (x ∷ xs) = ap (λ (ys : List _). x ∷ ys) (map_itself xs)
+-- ---- pieces by their numbers and their sets
 
 abbrev numbers_in : MosaicItem → List ℕ
 numbers_in item = item.ids
@@ -87,47 +43,6 @@ numbers_of m = m.0
 
 abbrev region_of : List ℕ × Region → Region
 region_of m = m.1
-
-numbers_alike : (numbers : List ℕ) (parts : List (List ℕ)) (regions : List Region) → length parts ≡ length regions → map numbers_in (items_of numbers parts) ≡ map numbers_of (map (λ (r : Region). (numbers, r)) regions)
-numbers_alike numbers parts regions many =
-    map_twice numbers_in (λ (set : List ℕ). record { ids = numbers; set = set }) parts
-    ∙ one_value_each numbers parts regions many
-    ∙ sym (map_twice numbers_of (λ (r : Region). (numbers, r)) regions)
-
-sets_alike : (numbers : List ℕ) (parts : List (List ℕ)) → map set_in (items_of numbers parts) ≡ parts
-sets_alike numbers parts = map_twice set_in (λ (set : List ℕ). record { ids = numbers; set = set }) parts ∙ map_itself parts
-
-regions_alike : (numbers : List ℕ) (regions : List Region) → map region_of (map (λ (r : Region). (numbers, r)) regions) ≡ regions
-regions_alike numbers regions = map_twice region_of (λ (r : Region). (numbers, r)) regions ∙ map_itself regions
-
--- ---- group by group
-
-module _ (d : Drawing) (arcs : List Path) (label : Place → ℕ) (made : List ℕ → List Region) where
-  abbrev made_with : List ℕ → List (List ℕ × Region)
-  made_with numbers = map (λ (r : Region). (numbers, r)) (made numbers)
-
-  -- the regions of the numbers of a group are followed by its parts
-  abbrev pub IsGroupOf : Group → Type 0
-  IsGroupOf g = FollowInOrder d arcs label g.parts (made g.ids)
-
-  all_numbers : (groups : List Group) → ((g : Group) → Contains groups g → IsGroupOf g) → map numbers_in (items_of_groups groups) ≡ map numbers_of (flat_map made_with (map (λ (g : Group). g.ids) groups))
-  all_numbers [] h = refl
-  all_numbers (g ∷ groups) h =
-      map-append numbers_in (items_of g.ids g.parts) (items_of_groups groups)
-      ∙ (λ i. numbers_alike g.ids g.parts (made g.ids) (sym (h g (Contains-head g groups)).0) i ++ all_numbers groups (λ f c. h f (Contains-later g groups f c)) i)
-      ∙ sym (map-append numbers_of (made_with g.ids) (flat_map made_with (map (λ (f : Group). f.ids) groups)))
-
-  all_sets : (groups : List Group) → ((g : Group) → Contains groups g → IsGroupOf g) → AllZip (Follows d arcs label) (map set_in (items_of_groups groups)) (map region_of (flat_map made_with (map (λ (g : Group). g.ids) groups)))
-  all_sets [] h = tt
-  all_sets (g ∷ groups) h =
-      let here : IsGroupOf g = h g (Contains-head g groups) in
-      let one : AllZip (Follows d arcs label) (map set_in (items_of g.ids g.parts)) (map region_of (made_with g.ids)) =
-      subst (λ (sets : List (List ℕ)). AllZip (Follows d arcs label) sets (map region_of (made_with g.ids))) (sym (sets_alike g.ids g.parts))
-      (subst (λ (regions : List Region). AllZip (Follows d arcs label) g.parts regions) (sym (regions_alike g.ids (made g.ids))) (to_zip d arcs label g.parts (made g.ids) here.0 here.1)) in
-      let joined = join_zip d arcs label (map set_in (items_of g.ids g.parts)) (map set_in (items_of_groups groups)) (map region_of (made_with g.ids)) (map region_of (flat_map made_with (map (λ (f : Group). f.ids) groups))) one
-      (all_sets groups (λ f c. h f (Contains-later g groups f c))) in
-      subst (λ (sets : List (List ℕ)). AllZip (Follows d arcs label) sets (map region_of (made_with g.ids ++ flat_map made_with (map (λ (f : Group). f.ids) groups)))) (sym (map-append set_in (items_of g.ids g.parts) (items_of_groups groups)))
-      (subst (λ (regions : List Region). AllZip (Follows d arcs label) (map set_in (items_of g.ids g.parts) ++ map set_in (items_of_groups groups)) regions) (sym (map-append region_of (made_with g.ids) (flat_map made_with (map (λ (f : Group). f.ids) groups)))) joined)
 
 -- ---- the lists of numbers
 
@@ -232,18 +147,24 @@ module _ (d : Drawing) (arcs : List Path) (faces : FaceTable) (label : Place →
         let h = listed g there in
         parts_in_order d arcs faces label walked (faces_with g.ids) (inner_together g.ids h) (together g.ids) (follow_together g.ids h) A (counted g.ids) g.parts (is.parts g there)
 
+    abbrev pieces_in : Group → List (List ℕ)
+    pieces_in g = g.parts
+
+    abbrev item_of : List ℕ → List ℕ → MosaicItem
+    item_of numbers set = record { ids = numbers; set = set }
+
     pub told : ((numbers : List ℕ) (j : ℕ) → (j < A.parts (together numbers)) ↔ HasSome (plane_with d arcs) (part (together numbers) j)) →
         (map (λ (item : MosaicItem). item.ids) items ≡ map (λ (m : List ℕ × Region). m.0) (mosaic (plane_with d arcs) A region (length sets)))
         × FollowInOrder (snapped d) arcs label (map (λ (item : MosaicItem). item.set) items) (map (λ (m : List ℕ × Region). m.1) (mosaic (plane_with d arcs) A region (length sets)))
     told counted =
         let groups_are = group_follows counted in (
           ap (λ (all : List MosaicItem). map numbers_in all) is.listed
-              ∙ all_numbers (snapped d) arcs label pieces_of is.groups groups_are
+              ∙ all_keys ids_of pieces_in item_of pieces_of (snapped d) arcs label numbers_in (λ numbers set. refl) is.groups groups_are
               ∙ ap (λ (lists : List (List ℕ)). map numbers_of (flat_map (λ (L : List ℕ). map (λ (r : Region). (L, r)) (pieces_of L)) lists)) lists_are,
           from_zip (snapped d) arcs label (map set_in items) (map region_of (mosaic (plane_with d arcs) A region (length sets)))
               (subst (λ (all : List MosaicItem). AllZip (Follows (snapped d) arcs label) (map set_in all) (map region_of (mosaic (plane_with d arcs) A region (length sets)))) (sym is.listed)
               (subst (λ (lists : List (List ℕ)). AllZip (Follows (snapped d) arcs label) (map set_in (items_of_groups is.groups)) (map region_of (flat_map (λ (L : List ℕ). map (λ (r : Region). (L, r)) (pieces_of L)) lists))) lists_are
-              (all_sets (snapped d) arcs label pieces_of is.groups groups_are))),
+              (all_sets ids_of pieces_in item_of pieces_of (snapped d) arcs label set_in (λ numbers set. refl) is.groups groups_are))),
         )
 
 pub mosaic_as_told : MosaicAsTold

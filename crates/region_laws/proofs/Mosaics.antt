@@ -34,7 +34,7 @@ use Rattle.region_laws.proofs.Walked.{label_below, links_arranged}
 -- ---- all of some regions
 
 module _ (d : Drawing) (arcs : List Path) (z : RationalPoint) where
-  each_has : (rs : List Region) → Has d arcs (all_of rs) z → (r : Region) → Contains rs r → Has d arcs r z
+  pub each_has : (rs : List Region) → Has d arcs (all_of rs) z → (r : Region) → Contains rs r → Has d arcs r z
   each_has [] h r c = Contains-nil r c
   each_has (s ∷ []) h r c = elim (Contains-cases s [] r c) [
     | inl e ↦ subst (λ (t : Region). Has d arcs t z) e h
@@ -45,7 +45,7 @@ module _ (d : Drawing) (arcs : List Path) (z : RationalPoint) where
     | inr more ↦ each_has (t ∷ rs) h.1 r more
   ]
 
-  has_each : (r : Region) (rs : List Region) → ((s : Region) → Contains (r ∷ rs) s → Has d arcs s z) → Has d arcs (all_of (r ∷ rs)) z
+  pub has_each : (r : Region) (rs : List Region) → ((s : Region) → Contains (r ∷ rs) s → Has d arcs s z) → Has d arcs (all_of (r ∷ rs)) z
   has_each r [] h = h r (Contains-head r [])
   has_each r (s ∷ rs) h = (h r (Contains-head r (s ∷ rs)), has_each s rs (λ t c. h t (Contains-later r (s ∷ rs) t c)))
 

@@ -94,7 +94,8 @@ module _ (d : Drawing) (arcs : List Path) (faces : FaceTable) (label : Place →
           not_outer = λ found. free (subst (λ (j : ℕ). Contains (list_at lists j) n) (sym (get_or_from_slice_get faces.places 0 k 0 found)) (has_Contains (list_at lists k) n with_n));
         }
 
-  of_feature : (n : ℕ) → HasSet (feature n)
+  -- the faces that hold a feature, or a box
+  pub of_feature : (n : ℕ) → HasSet (feature n)
   of_feature n = record {
     set = listed labels.holders n (no_holder n);
     rising = listed_rises labels.holders n (no_holder n);
@@ -102,7 +103,7 @@ module _ (d : Drawing) (arcs : List Path) (faces : FaceTable) (label : Place →
     follows = features_are_followed d arcs faces label walked labels held n (listed labels.holders n (no_holder n)) (listed_with labels.holders n (no_holder n));
   }
 
-  of_box : (n : ℕ) → HasSet (box n)
+  pub of_box : (n : ℕ) → HasSet (box n)
   of_box n = record {
     set = listed labels.boxes n (no_box n);
     rising = listed_rises labels.boxes n (no_box n);

@@ -1,20 +1,22 @@
 -- Faces beside a vertex: round a node, on both sides of an arc, or over a point.
-use Rattle.std.proofs.Common.{◌≡◌, refl, sym, ap, ◌∙◌, subst, arith, ℕ, ◌<◌, Bool, true, false, ◌||◌, nat_eq, List, [], ◌∷◌, ◌++◌, All, Contains, length, get_or, map}
-use Rattle.std.specs.Prelude.{◌↔◌, None, Some, slice_get}
-use Rattle.std.specs.List.{flat_map, list_any}
-use Rattle.std.proofs.lemmas.List.Elements.{All-contains, All-from_get_or, All-get_or, Contains-get_or}
-use Rattle.std.proofs.lemmas.List.{get_or-map, length-map}
+use Rattle.std.proofs.Common.{◌≡◌, refl, sym, ap, ◌∙◌, subst, arith, ℕ, ◌+◌, ◌<◌, Bool, true, false, ◌||◌, nat_eq, List, [], ◌∷◌, ◌++◌, All, Contains, length, get_or, take, map, append_assoc, append-nil}
+use Rattle.std.specs.Prelude.{None, Some, Result, Ok, Err, OnOk, slice_get}
+use Rattle.std.specs.List.{list_any}
+use Rattle.std.proofs.lemmas.List.Elements.{All-nil, All-cons, All-contains, All-from_get_or, All-push, Contains-get_or}
+use Rattle.std.proofs.lemmas.List.{get_or-map, length-map, take_more}
 use Rattle.std.proofs.lemmas.List.Folds.{list_any_at, Any-from_list_any}
+use Rattle.std.proofs.lemmas.Option.{get_or_from_slice_get}
 use Rattle.lists.specs.Lists.{has}
 use Rattle.lists.proofs.Members.{Contains-head, Contains-map, map-Contains}
 use Rattle.plane_model.specs.Points.{GridPoint, Path}
 use Rattle.plane_model.specs.Arcs.{SignedArc, forward, backward}
 use Rattle.arc_table.specs.Around.{IsAround, start_of}
 use Rattle.arc_table.specs.Lookup.{IsArcAt, IsLeastAt}
-use Rattle.face_walk.specs.Places.{FaceTable, IsFaceOver}
+use Rattle.face_walk.specs.Places.{FaceTable, IsFaceOver, place_of}
 use Rattle.ring_trace.proofs.BoundaryLemmas.{has_Contains, Contains_has}
-use Rattle.line_ops.specs.Inside.{left_of, right_of, is_inside}
-use Rattle.line_ops.specs.Points.{Leaves, IsNode, IsInsideAt}
+use Rattle.line_ops.specs.Inside.{left_of, right_of}
+use Rattle.line_ops.specs.Points.{IsNode, IsInsideAt}
+use Rattle.line_ops.proofs.RunLemmas.{flat_map_more}
 use Rattle.spatial_join.specs.Beside.{AreBeside, AreFoundAt, lists_of, lists_left_of}
 
 one_least : (arcs : List Path) (p : GridPoint) (m n : ℕ) → IsLeastAt arcs p m → IsLeastAt arcs p n → m ≡ n
@@ -40,6 +42,28 @@ left_there faces around h = All-from_get_or (λ (k : ℕ). k < faces.count) (map
     let within : j < length around = (let e = length-map around (left_of faces) in omega arith) in
     subst (λ (k : ℕ). k < faces.count) (sym (get_or-map (left_of faces) around j (forward 0) d within)) (h j (forward 0) within))
     (Contains-get_or (map (left_of faces) around) i 0 l))
+
+-- the face that was read is the one on the left of the arc
+face_is : (faces : FaceTable) (a : SignedArc) (x : ℕ) → slice_get faces.places (place_of a) ≡ Some x → x ≡ left_of faces a
+face_is faces a x read = sym (get_or_from_slice_get faces.places (place_of a) x 0 read)
+
+module _ (faces : FaceTable) (arcs : List SignedArc) (i : ℕ) (d a : SignedArc) (x : ℕ) (l : i < length arcs) (is : a ≡ get_or arcs i d) (read : slice_get faces.places (place_of a) ≡ Some x) where
+  -- one arc further
+  pub left_more : (owners : List (List ℕ)) (old now new : List ℕ) → now ≡ old ++ lists_left_of owners faces (take i arcs) → new ≡ now ++ get_or owners x [] → new ≡ old ++ lists_left_of owners faces (take (i + 1) arcs)
+  left_more owners old now new so_far pushed =
+      let lists : SignedArc → List ℕ = λ (b : SignedArc). get_or owners (left_of faces b) [] in
+      pushed ∙ (λ j. so_far j ++ get_or owners (face_is faces a x read j) []) ∙ append_assoc old (lists_left_of owners faces (take i arcs)) (lists a)
+      ∙ ap (λ (ns : List ℕ). old ++ ns) (sym (flat_map_more lists arcs i a d l is))
+
+  pub left_there_more : x < faces.count → All (λ (b : SignedArc). left_of faces b < faces.count) (take i arcs) → All (λ (b : SignedArc). left_of faces b < faces.count) (take (i + 1) arcs)
+  left_there_more below so_far =
+      subst (All (λ (b : SignedArc). left_of faces b < faces.count)) (ap (λ (b : SignedArc). take i arcs ++ b ∷ []) is ∙ sym (take_more arcs i d l))
+      (All-push (λ (b : SignedArc). left_of faces b < faces.count) (take i arcs) a so_far (subst (λ (k : ℕ). k < faces.count) (face_is faces a x read) below))
+
+-- two facts of one answer
+pub from_both : {T E P Q R : Type 0} (r : Result T E) → (P → Q → R) → OnOk r P → OnOk r Q → OnOk r R
+from_both (Ok v) to h k = to h k
+from_both (Err why) to h k = tt
 
 module _ (arcs : List Path) (faces : FaceTable) (p : GridPoint) where
   module _ (around : List SignedArc) (h : IsAround arcs p around) where
@@ -99,3 +123,21 @@ module _ (arcs : List Path) (faces : FaceTable) (p : GridPoint) where
         on_arc = λ n no least. ap (list_any test) (h.on_arc n no least) ∙ ap (λ (b : Bool). test (left_of faces (forward n)) || b) (or_false (test (right_of faces (forward n))));
         alone = λ no off. let (k, over, is) = h.alone no off in (k, over, ap (list_any test) is ∙ or_false (test k));
       }
+
+  -- the sets of the faces that are left of arcs, and of one face
+  pub found_left : (owners : List (List ℕ)) (around : List SignedArc) (old new : List ℕ) → AreBeside arcs faces p (map (left_of faces) around) → new ≡ old ++ lists_left_of owners faces around →
+      All (λ (a : SignedArc). left_of faces a < faces.count) around → AreFoundAt arcs faces owners p old new
+  found_left owners around old new are pushed there = record {
+    beside = map (left_of faces) around;
+    are = are;
+    there = left_there faces around there;
+    found = pushed ∙ ap (λ (ns : List ℕ). old ++ ns) (left_lists owners faces around);
+  }
+
+  pub found_over : (owners : List (List ℕ)) (k : ℕ) (old new : List ℕ) → AreBeside arcs faces p (k ∷ []) → k < faces.count → new ≡ old ++ get_or owners k [] → AreFoundAt arcs faces owners p old new
+  found_over owners k old new are below pushed = record {
+    beside = k ∷ [];
+    are = are;
+    there = All-cons (λ (j : ℕ). j < faces.count) k [] below (All-nil (λ (j : ℕ). j < faces.count));
+    found = pushed ∙ ap (λ (ns : List ℕ). old ++ ns) (sym (append-nil (get_or owners k [])));
+  }

@@ -7,24 +7,23 @@ use Rattle.std.specs.Cmp.Lexicographic.{nat_list_eq_equiv}
 use Rattle.std.proofs.lemmas.List.{length-map, map-append}
 use Rattle.std.proofs.lemmas.List.Folds.{list_any-append}
 use Rattle.std.proofs.lemmas.Map.Keys.{IsDistinct-push}
-use Rattle.json_read.specs.Table.{TableContent, RowValues}
-use Rattle.json_read.specs.declared.value.Value.{Value}
+use Rattle.json_read.specs.Table.{TableContent, RowValues, AreRows}
 use Rattle.json_read.specs.declared.value.Value.TheVariants as is
 use Rattle.table_terms.specs.Names.{Text, has_name, value_at, place_of}
-use Rattle.table_terms.specs.Refusals.{on_ok}
+use Rattle.table_terms.specs.Refusals.{on_ok, unless}
 use Rattle.table_terms.specs.declared.calculations.Calc.{Calc}
 use Rattle.table_terms.specs.declared.calculations.Calc.TheVariants.{Count, Sum}
 use Rattle.table_terms.specs.declared.calculations.CalcSpec.{CalcSpec}
 use Rattle.table_terms.specs.declared.specifications.JoinSpec.{JoinSpec}
-use Rattle.table_ops.specs.Join.{copied_name, kept_cell, new_cell, joined_row, forced_field, new_fields}
+use Rattle.table_ops.specs.Join.{candidates, copied_name, kept_cell, new_cell, joined_row, forced_field, new_fields}
 use Rattle.table_ops.specs.declared.fault.TableWhy.{TableWhy}
 use Rattle.table_ops.specs.declared.fault.TableWhy.TheVariants.{NoField, FieldTwice}
 use Rattle.table_ops.proofs.Cells.{map_map}
 use Rattle.table_ops.proofs.Joining.{joined_names_differ as copied_differ}
-use Rattle.spatial_join.specs.CalcColumns.{kept_at, kept_column, added_column, columns_of, column_value, summed_place, calculated_at, with_sums, row_by_places, rows_by_places}
-use Rattle.spatial_join.specs.Joined.{as_join, calc_name, copied_fields, copied_names, new_names, joined_names, lacks_field, refused_calc, each_ok, calculated, first_row, calc_row, matching, calc_rows}
+use Rattle.spatial_join.specs.CalcColumns.{kept_at, kept_column, added_column, columns_of, column_value, summed_place, calculated_at, row_by_places, rows_by_places}
+use Rattle.spatial_join.specs.Joined.{as_join, calc_name, copied_fields, copied_names, new_names, joined_names, lacks_field, refused_calc, each_ok, calculated, first_row, calc_row, matching, calc_rows, joined_table, join_matched, refused_items}
 use Rattle.spatial_join.specs.declared.calc_columns.Column.{Column}
-use Rattle.spatial_join.proofs.JoinLemmas.{each_of_map}
+use Rattle.spatial_join.proofs.JoinLemmas.{each_of_map, rows_long, sums_long}
 
 -- ---- values
 
@@ -101,10 +100,11 @@ module _ (source earlier : List Text) (n : ℕ) (c : Calc) (rest : List Calc) wh
 pub as_many_names : (target source : List Text) (spec : CalcSpec) → length (joined_names target source spec) ≡ length (columns_of target source spec) + length (map (summed_place source) spec.calc)
 as_many_names target source spec =
     let new : List Text = new_fields target source (as_join source spec) in
-    let a = length-append target (new_names target source spec ++ map calc_name spec.calc) in
-    let b = length-append (new_names target source spec) (map calc_name spec.calc) in
-    let c = length-append (map (kept_column target source spec) target) (map (added_column source) new) in
-    let d = length-map new (copied_name (as_join source spec)) in
+    let a : length (joined_names target source spec) ≡ length (target ++ new_names target source spec) + length (map calc_name spec.calc) = length-append (target ++ new_names target source spec) (map calc_name spec.calc) in
+    let b = length-append target (new_names target source spec) in
+    let c : length (columns_of target source spec) ≡ length (map (kept_column target source spec) target) + length (map (added_column source) new) =
+    length-append (map (kept_column target source spec) target) (map (added_column source) new) in
+    let d : length (new_names target source spec) ≡ length new = length-map new (copied_name (as_join source spec)) in
     let e = length-map target (kept_column target source spec) in
     let f = length-map new (added_column source) in
     let g = length-map spec.calc calc_name in
@@ -162,3 +162,35 @@ joined_names_differ target source spec n h k accepted =
     missing_both target (new_names target source spec) t two.0 (missing_kept (copied_name join) (λ (f : Text). not (has_name target (copied_name join f))) (copied_fields source spec) t two.1))
     (copied_differ target source join h k)
     accepted
+
+-- ---- the whole
+
+pub rows_as_long : (target source : List Text) (spec : CalcSpec) (names : List Text) (columns : List Column) (sums : List (Option ℕ)) (rows joined : List RowValues) (remaining : List ℕ) (pairs : List (RowValues × List ℕ)) →
+    joined_names target source spec ≡ names → columns ≡ columns_of target source spec → sums ≡ map (summed_place source) spec.calc → rows_by_places rows columns sums remaining pairs ≡ Ok joined → AreRows (length names) joined
+rows_as_long target source spec names columns sums rows joined remaining pairs e f g told =
+    let many : length columns + length sums ≡ length names = (λ i. length (f i) + length (g i)) ∙ sym (as_many_names target source spec) ∙ ap length e in
+    rows_long (λ (p : RowValues × List ℕ). row_by_places rows columns sums p.0 (matching remaining p.1)) (length names)
+    (λ p row said.
+    sums_long rows (matching remaining p.1) (map (column_value p.0 (first_row rows (matching remaining p.1))) columns) row sums said
+    ∙ ap (λ (n : ℕ). n + length sums) (length-map columns (column_value p.0 (first_row rows (matching remaining p.1)))) ∙ many)
+    pairs joined told
+
+module _ (target source : TableContent) (matches : List (List ℕ)) (spec : CalcSpec) (remaining : List ℕ) where
+  -- rows by what was read of the tables
+  pub rows_told : (targets sources : List Text) (target_rows source_rows : List RowValues) (columns : List Column) (sums : List (Option ℕ)) (numbers : List ℕ) → targets ≡ target.names → sources ≡ source.names → target_rows ≡ target.rows →
+      source_rows ≡ source.rows → columns ≡ columns_of targets sources spec → sums ≡ map (summed_place sources) spec.calc → numbers ≡ remaining →
+      calc_rows target source matches spec remaining ≡ rows_by_places source_rows columns sums numbers (zip target_rows matches)
+  rows_told targets sources target_rows source_rows columns sums numbers a b c d e f g =
+      let by_names = e ∙ (λ i. columns_of (a i) (b i) spec) in
+      let by_fields = f ∙ (λ i. map (summed_place (b i)) spec.calc) in
+      sym (rows_joined target source matches spec remaining) ∙ (λ i. rows_by_places (sym d i) (sym by_names i) (sym by_fields i) (sym g i) (zip (sym c i) matches))
+
+  abbrev with_rows : List RowValues → Result TableContent TableWhy
+  with_rows rows = Ok (record { names = joined_names target.names source.names spec; rows = rows })
+
+  pub join_goes : (r : Result (List RowValues) TableWhy) → refused_items target.names source.names spec ≡ None → candidates source spec.test ≡ Ok remaining → calc_rows target source matches spec remaining ≡ r →
+      join_matched target source matches spec ≡ on_ok r (λ (rows : List RowValues). Ok (record { names = joined_names target.names source.names spec; rows = rows }))
+  join_goes r accepted all told =
+      ap (λ (o : Option TableWhy). unless o (on_ok (candidates source spec.test) (joined_table target source matches spec))) accepted
+      ∙ ap (λ (q : Result (List ℕ) TableWhy). on_ok q (joined_table target source matches spec)) all
+      ∙ ap (λ (q : Result (List RowValues) TableWhy). on_ok q with_rows) told

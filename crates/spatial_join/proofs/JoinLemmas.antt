@@ -1,6 +1,6 @@
 -- Answers for all items, one item further, and rows that match both ways.
-use Rattle.std.proofs.Common.{◌≡◌, ℕ, zero, suc, ◌+◌, ◌<◌, ℤ, Bool, true, nat_eq, nat_lt, List, [], ◌∷◌, ◌++◌, map, filter, length, drop, get_or, Contains, refl, sym, ap, ◌∙◌, subst, append_assoc, append-nil, length-append, add-one, arith}
-use Rattle.std.specs.Prelude.{Option, Some, Result, Ok, Err, IfOk, AllPairs}
+use Rattle.std.proofs.Common.{◌≡◌, ℕ, zero, suc, ◌+◌, ◌<◌, ◌≤◌, ℤ, Bool, true, nat_eq, nat_lt, List, [], ◌∷◌, ◌++◌, map, filter, length, drop, get_or, Contains, refl, sym, ap, ◌∙◌, subst, append_assoc, append-nil, length-append, add-one, arith}
+use Rattle.std.specs.Prelude.{Option, Some, Result, Ok, Err, IfOk}
 use Rattle.std.specs.Bool.{beq}
 use Rattle.std.specs.List.{AllZip, zip}
 use Rattle.std.specs.List.Sorted.{IsStrictlyIncreasing}
@@ -22,18 +22,19 @@ use Rattle.table_ops.specs.declared.fault.TableFault.{TableFault}
 use Rattle.table_ops.specs.declared.fault.TableFault.TheVariants.{Bad, Memory}
 use Rattle.table_ops.specs.declared.fault.TableWhy.{TableWhy}
 use Rattle.table_ops.proofs.Testing.{behind}
-use Rattle.spatial_join.specs.CalcColumns.{calculated_at, with_sums}
+use Rattle.spatial_join.specs.CalcColumns.{calculated_at, row_by_places, rows_by_places, with_sums}
+use Rattle.spatial_join.specs.declared.calc_columns.Column.{Column}
 use Rattle.spatial_join.specs.Joined.{each_ok, matching}
 use Rattle.spatial_join.proofs.NumberLemmas.{increasing, numbers_where_rise}
 
 -- ---- an answer and what it was made of
 
-answer_or : {T E : Type 0} → T → Result T E → T
+abbrev answer_or : {T E : Type 0} → T → Result T E → T
 answer_or d (Ok v) = v
 answer_or d (Err why) = d
 
-pub answer_same : {T E : Type 0} (v w : T) → Ok {E = E} v ≡ Ok w → v ≡ w
-answer_same v w e = ap (answer_or v) e
+pub answer_same : {T E : Type 0} (v w : T) → (let r : Result T E = Ok v in r) ≡ Ok w → v ≡ w
+answer_same {T} {E} v w e = ap (λ (r : Result T E). answer_or v r) e
 
 pub answered : {T U E : Type 0} (r : Result T E) (go : T → Result U E) (u : U) → on_ok r go ≡ Ok u → (v : T) × (r ≡ Ok v) × (go v ≡ Ok u)
 answered (Ok v) go u e = (v, refl, e)
@@ -107,18 +108,18 @@ module _ (rows : List RowValues) (matched : List ℕ) where
 
 -- ---- pairs
 
-pub zip_split : {A B : Type 0} (xs : List A) (ys : List B) (i : ℕ) (d : A) (e : B) → i < length xs → i < length ys → drop i (zip xs ys) ≡ (get_or xs i d, get_or ys i e) ∷ drop (i + 1) (zip xs ys)
+pub zip_split : {A B : Type 0} (xs : List A) (ys : List B) (i : ℕ) (d : A) (e : B) → i < length xs → i < length ys → drop i (zip xs ys) ≡ (get_or xs i d, get_or ys i e) ∷ drop (suc i) (zip xs ys)
 zip_split [] ys i d e l m = absurd (omega arith)
 zip_split (x ∷ xs) [] i d e l m = absurd (omega arith)
 zip_split (x ∷ xs) (y ∷ ys) zero d e l m = refl
-zip_split {A} {B} (x ∷ xs) (y ∷ ys) (suc i) d e l m = zip_split xs ys i d e (omega arith) (omega arith)
+zip_split (x ∷ xs) (y ∷ ys) (suc i) d e l m = zip_split xs ys i d e (omega arith) (omega arith)
 
-pub zip_past : {A B : Type 0} (xs : List A) (ys : List B) (i : ℕ) → length xs ≡ length ys → (i < length xs → ⊥) → drop i (zip xs ys) ≡ []
+pub zip_past : {A B : Type 0} (xs : List A) (ys : List B) (i : ℕ) → length xs ≡ length ys → length xs ≤ i → drop i (zip xs ys) ≡ []
 zip_past [] ys zero e l = refl
 zip_past [] ys (suc i) e l = refl
 zip_past (x ∷ xs) [] i e l = absurd (omega arith)
-zip_past (x ∷ xs) (y ∷ ys) zero e l = absurd (l (omega arith))
-zip_past (x ∷ xs) (y ∷ ys) (suc i) e l = zip_past xs ys i (omega arith) (λ m. l (omega arith))
+zip_past (x ∷ xs) (y ∷ ys) zero e l = absurd (omega arith)
+zip_past (x ∷ xs) (y ∷ ys) (suc i) e l = zip_past xs ys i (omega arith) (omega arith)
 
 pub zip_long : {A B : Type 0} (xs : List A) (ys : List B) → length ys ≡ length xs → length (zip xs ys) ≡ length xs
 zip_long [] ys e = refl
@@ -148,8 +149,8 @@ both_ways xs ys h k = one_ascending nat_lt nat_order (filter (has nat_eq xs) ys)
   where
     turns : (us vs : List ℕ) (n : ℕ) → Contains (filter (has nat_eq us) vs) n → Contains (filter (has nat_eq vs) us) n
     turns us vs n c =
-        let (there, yes) = filter-Contains (has nat_eq us) vs n c in
-        Contains-filter (has nat_eq vs) us n (has_Contains us n yes) (Contains_has vs n there)
+        let both = filter-Contains (has nat_eq us) vs n c in
+        Contains-filter (has nat_eq vs) us n (has_Contains us n both.1) (Contains_has vs n both.0)
 
 -- ---- rows that remain
 
@@ -164,3 +165,34 @@ filtered_rise t e (Err why) h = tt
 pub refuses_whole : (r : Result (Unit {0}) TableFault) (e : TableFault) (part whole : Option TableWhy) → r ≡ Err e → Refuses (Err e) part → ((why : TableWhy) → part ≡ Some why → whole ≡ Some why) → Refuses r whole
 refuses_whole r (Bad why) part whole is t on = subst (λ (s : Result (Unit {0}) TableFault). Refuses s whole) (sym is) (on why t)
 refuses_whole r Memory part whole is t on = subst (λ (s : Result (Unit {0}) TableFault). Refuses s whole) (sym is) tt
+
+-- ---- rows one further
+
+module _ (source : List RowValues) (columns : List Column) (sums : List (Option ℕ)) (remaining : List ℕ) (target : List RowValues) (matches : List (List ℕ)) (each : length matches ≡ length target) where
+  abbrev answer : RowValues × List ℕ → Result RowValues TableWhy
+  answer p = row_by_places source columns sums p.0 (matching remaining p.1)
+
+  abbrev pairs : List (RowValues × List ℕ)
+  pairs = zip target matches
+
+  module _ (rows : List RowValues) (i : ℕ) (d row : RowValues) (e list matched : List ℕ) (less : i < length target) (row_is : row ≡ get_or target i d) (list_is : list ≡ get_or matches i e) (is : matched ≡ matching remaining list) where
+    abbrev pair : RowValues × List ℕ
+    pair = (get_or target i d, get_or matches i e)
+
+    next_pair : drop i (zip target matches) ≡ (get_or target i d, get_or matches i e) ∷ drop (suc i) (zip target matches)
+    next_pair = zip_split target matches i d e less (omega arith)
+
+    answer_is : row_by_places source columns sums (get_or target i d) (matching remaining (get_or matches i e)) ≡ row_by_places source columns sums row matched
+    answer_is = (λ j. row_by_places source columns sums (sym row_is j) (sym (is ∙ ap (matching remaining) list_is) j))
+
+    pub rows_stop : (why : TableWhy) → row_by_places source columns sums row matched ≡ Err why → behind rows (rows_by_places source columns sums remaining (drop i (zip target matches))) ≡ Err why
+    rows_stop why said = each_stops answer rows (drop i pairs) (drop (suc i) pairs) pair why next_pair (answer_is ∙ said)
+
+    pub rows_next : (new : RowValues) (longer : List RowValues) → row_by_places source columns sums row matched ≡ Ok new → longer ≡ rows ++ new ∷ [] →
+        behind rows (rows_by_places source columns sums remaining (drop i (zip target matches))) ≡ behind longer (rows_by_places source columns sums remaining (drop (i + 1) (zip target matches)))
+    rows_next new longer said pushed =
+        each_next answer rows (drop i pairs) (drop (suc i) pairs) pair new next_pair (answer_is ∙ said)
+        ∙ (λ j. behind (sym pushed j) (rows_by_places source columns sums remaining (drop (sym (add-one i) j) pairs)))
+
+  pub rows_done : (rows : List RowValues) (i : ℕ) → length target ≤ i → behind rows (rows_by_places source columns sums remaining (drop i (zip target matches))) ≡ Ok rows
+  rows_done rows i past = each_done answer rows (drop i pairs) (zip_past target matches i (sym each) past)

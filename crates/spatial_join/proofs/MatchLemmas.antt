@@ -1,5 +1,5 @@
 -- Sets found point by point, and lists of numbers turned round.
-use Rattle.std.proofs.Common.{◌≡◌, refl, sym, ap, ◌∙◌, subst, arith, ℕ, zero, suc, ◌+◌, ◌<◌, Bool, true, nat_eq, nat_lt, List, [], ◌∷◌, ◌++◌, All, Contains, length, get_or, take, map}
+use Rattle.std.proofs.Common.{◌≡◌, refl, sym, ap, ◌∙◌, subst, arith, ℕ, ◌+◌, ◌<◌, Bool, true, nat_eq, nat_lt, List, [], ◌∷◌, ◌++◌, All, Contains, length, get_or, take, map}
 use Rattle.std.specs.List.{AllZip, flat_map, list_any, range_with_len}
 use Rattle.std.specs.List.Sorted.{IsStrictlyIncreasing}
 use Rattle.std.proofs.lemmas.List.{flat_map_more, get_or_default, same_lists, take_more}
@@ -95,10 +95,10 @@ module _ (sets owners : List (List ℕ)) (count : ℕ) (are : AreOwners sets cou
       let number = w.number in
       let same : w.place ≡ n = omega arith in
       let (i, beside, l, at, some) = Any-from_list_any (λ (ks : List ℕ). has_one ks w.item) besides w.passes in
-      let (j, k, m, is, yes) = Any-from_list_any (λ (q : ℕ). has nat_eq w.item q) beside some in
+      let (j, k, m, is, passes) = Any-from_list_any (λ (q : ℕ). has nat_eq w.item q) beside some in
       let below : k < count = All-contains (λ (q : ℕ). q < count) beside k (All-contains (All (λ (q : ℕ). q < count)) besides beside there (i, l, at)) (j, m, is) in
       let owned : Contains (owners_of sets k) w.place =
-      Contains-numbers_where (λ (set : List ℕ). has nat_eq set k) sets w.place w.item w.within (subst (λ (set : List ℕ). has nat_eq set k ≡ true) (sym w.is) yes) in
+      Contains-numbers_where (λ (set : List ℕ). has nat_eq set k) sets w.place w.item w.within (subst (λ (set : List ℕ). has nat_eq set k ≡ true) (sym w.is) passes) in
       let in_list : Contains (get_or owners k []) n = subst (λ (ns : List ℕ). Contains ns n) (sym (are.exact k below)) (subst (Contains (owners_of sets k)) same owned) in
       Contains-flat_map (lists_of owners) besides beside n (i, l, at) (Contains-flat_map (λ (q : ℕ). get_or owners q []) beside k n (j, m, is) in_list)
 

@@ -74,8 +74,8 @@ pub(crate) fn joined_columns(
     Ok(columns)
 }
 
-/// The copied fields as a table without rows: the listed ones, each of which is a field of the source and stands once,
-/// else all.
+// The copied fields as a table without rows: the listed ones, each of which is a field of the source and stands once,
+// else all.
 fn fields_of(
     alloc: Global,
     source: &NameList,
@@ -100,7 +100,7 @@ fn listed_count(fields: &Option<NameList>) -> u32
     }
 }
 
-/// The columns but the names of the calculated ones.
+// The columns but the names of the calculated ones.
 fn columns_of(
     alloc: Global,
     target: &NameList,
@@ -128,7 +128,7 @@ fn columns_of(
     Ok(columns)
 }
 
-/// Adds the column of a source field, where its name is new.
+// Adds the column of a source field, where its name is new.
 fn add_column(
     alloc: Global,
     columns: &mut Columns,
@@ -150,7 +150,7 @@ fn add_column(
     Ok(())
 }
 
-/// The name that a copied field gets.
+// The name that a copied field gets.
 fn copied_name(alloc: Global, spec: &CalcSpec, field: &str) -> Result<Text, AllocError>
     ensures name { IfOk result (λ name. name ≡ spec.now.prefix ++ field.now) }
 {
@@ -159,7 +159,7 @@ fn copied_name(alloc: Global, spec: &CalcSpec, field: &str) -> Result<Text, Allo
     Ok(Text::from_string(name))
 }
 
-/// The names that the copied fields get.
+// The names that the copied fields get.
 fn copied_names(
     alloc: Global,
     sources: &NameSet,
@@ -189,7 +189,7 @@ fn copied_list(
     Ok(names)
 }
 
-/// For each column of the target where it comes from.
+// For each column of the target where it comes from.
 fn kept_columns(
     alloc: Global,
     target: &NameList,
@@ -229,7 +229,7 @@ fn kept_column(
     }
 }
 
-/// The place in the source of the field that takes the place of a column.
+// The place in the source of the field that takes the place of a column.
 #[tactic(auto, using(table_ops::proofs::Joining::field_found))]
 fn forced_place(
     sources: &NameSet,

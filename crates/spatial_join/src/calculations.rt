@@ -135,7 +135,7 @@ pub(crate) fn with_sums(
     Ok(row)
 }
 
-/// How many rows they are, or the sum at a place over them, or the first of them that cannot be added.
+// How many rows they are, or the sum at a place over them, or the first of them that cannot be added.
 fn calculated(rows: &RowList, matched: &IdList, place: Option<u32>) -> Result<Decimal, TableWhy>
     requires within { All (λ n. n < length rows.now) matched.now }
     ensures exact { result ≡ calculated_at rows.now matched.now place }
@@ -146,7 +146,7 @@ fn calculated(rows: &RowList, matched: &IdList, place: Option<u32>) -> Result<De
     }
 }
 
-/// The sum at a place over the rows with these numbers, or the first of them that cannot be added.
+// The sum at a place over the rows with these numbers, or the first of them that cannot be added.
 fn column_sum(rows: &RowList, numbers: &[u32], place: u32) -> Result<Decimal, TableWhy>
     requires within { All (λ n. n < length rows.now) numbers.now }
     ensures exact { result ≡ column_sum rows.now place (pos 0) numbers.now }
@@ -168,7 +168,7 @@ fn row_of(rows: &RowList, n: u32) -> &Row
     }
 }
 
-/// A sum with the value at a place of the row with this number, null past its end.
+// A sum with the value at a place of the row with this number, null past its end.
 fn sum_at(total: Decimal, n: u32, row: &Row, place: u32) -> Result<Decimal, TableWhy>
     ensures exact { result ≡ sum_with total n (value_at row.now place) }
 {
@@ -178,7 +178,7 @@ fn sum_at(total: Decimal, n: u32, row: &Row, place: u32) -> Result<Decimal, Tabl
     }
 }
 
-/// A sum with the value of the row with this number, where null counts as 0.
+// A sum with the value of the row with this number, where null counts as 0.
 fn sum_with(total: Decimal, n: u32, value: &Value) -> Result<Decimal, TableWhy>
     ensures exact { result ≡ sum_with total n value.now }
 {

@@ -67,7 +67,7 @@ pub fn join_matched(
     Ok(Table::new(columns.names, rows))
 }
 
-/// The numbers of the source rows that take part: all, or those for which the test is true.
+// The numbers of the source rows that take part: all, or those for which the test is true.
 fn candidates(alloc: Global, source: &Table, test: &Option<Expr>) -> Result<IdList, TableFault>
     ensures exact { Answers result (candidates source.now test.now) }
     ensures within { IfOk result (λ numbers. All (λ n. n < length source.now.rows) numbers) }
@@ -89,7 +89,7 @@ fn all_numbers(alloc: Global, rows: &RowList) -> Result<IdList, AllocError>
     Ok(numbers)
 }
 
-/// The rows of the target with what they take of the remaining source rows that match them.
+// The rows of the target with what they take of the remaining source rows that match them.
 fn joined_rows(
     alloc: Global,
     target: &RowList,
@@ -119,7 +119,7 @@ fn joined_rows(
     Ok(rows)
 }
 
-/// Those of the remaining rows that match.
+// Those of the remaining rows that match.
 fn matching(alloc: Global, remaining: &[u32], matched: &[u32]) -> Result<IdList, AllocError>
     requires remaining { IsStrictlyIncreasing remaining.now }
     requires matched { IsStrictlyIncreasing matched.now }
@@ -144,7 +144,7 @@ fn is_listed(numbers: &[u32], n: u32) -> bool
     }
 }
 
-/// A row of the target with the copied fields of the first of these source rows, and what is calculated of all of them.
+// A row of the target with the copied fields of the first of these source rows, and what is calculated of all of them.
 fn joined_row(
     alloc: Global,
     row: &Row,
@@ -159,7 +159,7 @@ fn joined_row(
     with_sums(cells, source, matched, &columns.sums)
 }
 
-/// The row with the first of these numbers.
+// The row with the first of these numbers.
 fn first_row<'a>(rows: &'a RowList, numbers: &IdList) -> Option<&'a Row>
     requires within { All (λ n. n < length rows.now) numbers.now }
     ensures first { option_copied result ≡ first_row rows.now numbers.now }
@@ -167,7 +167,7 @@ fn first_row<'a>(rows: &'a RowList, numbers: &IdList) -> Option<&'a Row>
     rows.get(*numbers.get(0)?)
 }
 
-/// A row of the target with the copied fields of its match.
+// A row of the target with the copied fields of its match.
 fn copied_row(
     alloc: Global,
     row: &Row,
@@ -220,7 +220,7 @@ fn value_without(alloc: Global, row: &Row, column: Column) -> Result<Value, Allo
     }
 }
 
-/// The value of a row at a place, null past its end.
+// The value of a row at a place, null past its end.
 fn copy_at(alloc: Global, row: &Row, place: u32) -> Result<Value, AllocError>
     ensures copied { IfOk result (λ v. v ≡ value_at row.now place) }
 {

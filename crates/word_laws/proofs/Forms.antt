@@ -5,8 +5,8 @@ use Rattle.cmd_words.specs.Rows as reader_rows
 use Rattle.cmd_words.specs.Options as reader
 use Rattle.cmd_words.specs.Rows.{rows}
 use Rattle.cmd_words.specs.Texts as texts
-use Rattle.word_model.specs.CommandTable.{ValueForm, a_text, a_list, two_names, a_precision, a_rule, a_format, a_box, an_expression, an_area, one_or_more, zero_or_more, ArgumentForm, nothing, files, source, list, expression, assignments, renames, text, Line, import_line, form_of}
-use Rattle.word_model.specs.Words.{begins_with_equals, splits, is_option, lacks_value, is_box, is_list, reads_standard}
+use Rattle.word_model.specs.CommandTable.{ValueForm, a_text, a_list, two_names, a_precision, a_rule, a_format, a_box, an_expression, an_area, one_or_more, zero_or_more, calculations, ArgumentForm, nothing, files, source, list, expression, assignments, renames, text, Line, import_line, form_of}
+use Rattle.word_model.specs.Words.{begins_with_equals, splits, is_option, lacks_value, is_list, reads_standard}
 use Rattle.word_laws.proofs.Shown.{Value, argument_as, value_as}
 
 abbrev pub option_as : Text × ValueForm → Text × Value
@@ -74,20 +74,7 @@ lacks_same an_expression s = refl
 lacks_same an_area s = refl
 lacks_same one_or_more s = refl
 lacks_same zero_or_more s = refl
-
-pub box_same : (f : ValueForm) → reader.is_area (value_as f) ≡ is_box f
-unfolding rows value_as
-box_same a_text = refl
-box_same a_list = refl
-box_same two_names = refl
-box_same a_precision = refl
-box_same a_rule = refl
-box_same a_format = refl
-box_same a_box = refl
-box_same an_expression = refl
-box_same an_area = refl
-box_same one_or_more = refl
-box_same zero_or_more = refl
+lacks_same calculations s = refl
 
 pub list_same : (a : ArgumentForm) → reader.is_list (argument_as a) ≡ is_list a
 unfolding rows argument_as

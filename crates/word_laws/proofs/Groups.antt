@@ -7,6 +7,7 @@ use Rattle.std.proofs.lemmas.Grind.{flat_map-append}
 use Rattle.std.proofs.lemmas.List.Folds.{list_any-append}
 use Rattle.grid_base.specs.Grid.{Corners}
 use Rattle.table_terms.specs.Names.{Text}
+use Rattle.table_terms.specs.declared.calculations.Calc.{Calc}
 use Rattle.table_terms.specs.declared.renames.Rename.{Rename}
 use Rattle.cmd_words.specs.declared.fault.WordWhy.{WordWhy}
 use Rattle.cmd_words.specs.Areas.{area_of}
@@ -14,7 +15,7 @@ use Rattle.cmd_words.specs.Rows as rows
 use Rattle.cmd_words.specs.Settings.{value_named}
 use Rattle.cmd_words.specs.Values.{renames_of}
 use Rattle.cmd_words.specs.Groups.{Group, first_text}
-use Rattle.word_model.specs.CommandTable.{Item, option, bare, argument, Said, ArgumentForm, nothing, files, source, list, expression, assignments, renames, text, value_of, value_in, has_bare, argument_in, renames_in}
+use Rattle.word_model.specs.CommandTable.{Item, option, bare, argument, Said, ArgumentForm, nothing, files, source, list, expression, assignments, renames, text, value_of, value_in, has_bare, argument_in, calculations_from, calculations_in, renames_in}
 use Rattle.word_model.specs.Words.{is_standard_item}
 use Rattle.word_laws.proofs.Tests.{or_false, or_none}
 use Rattle.word_laws.proofs.Shown.{Word, Setting}
@@ -66,19 +67,19 @@ abbrev pub assigns_of : ArgumentForm → Said → Option Text
 assigns_of assignments said = argument_in said
 assigns_of _ said = None
 
-abbrev pub made : List Word → List Setting → List Text → Bool → Option Corners → List Rename → Option Text → Option Text → Group
-made a o b r x n t v = record { arguments = a; options = o; bare = b; reads_standard = r; area = x; renames = n; test = t; assigns = v }
+abbrev pub made : List Word → List Setting → List Text → Bool → Option Corners → List Rename → List Calc → Option Text → Option Text → Group
+made a o b r x n m t v = record { arguments = a; options = o; bare = b; reads_standard = r; area = x; renames = n; calculations = m; test = t; assigns = v }
 
 -- behind groups of which one reads standard input, or none
 abbrev pub group_of : ℕ → Bool → ArgumentForm → List Word → Said → Group
-group_of places taken form args said = made args (flat_map setting_of said) (flat_map bare_of said) (taken || list_any (is_standard_item form) said) (box_in places said) (renames_seen form said) (test_of form said) (assigns_of form said)
+group_of places taken form args said = made args (flat_map setting_of said) (flat_map bare_of said) (taken || list_any (is_standard_item form) said) (box_in places said) (renames_seen form said) (calculations_in said) (test_of form said) (assigns_of form said)
 
-pub made_same : {a a' : List Word} {o o' : List Setting} {b b' : List Text} {r r' : Bool} {x x' : Option Corners} {n n' : List Rename} {t t' v v' : Option Text}
-    → a ≡ a' → o ≡ o' → b ≡ b' → r ≡ r' → x ≡ x' → n ≡ n' → t ≡ t' → v ≡ v' → made a o b r x n t v ≡ made a' o' b' r' x' n' t' v'
-made_same {a} {a'} {o} {o'} {b} {b'} {r} {r'} {x} {x'} {n} {n'} {t} {t'} {v} {v'} p q u w y z k l =
-    ap (λ (c : List Word). made c o b r x n t v) p ∙ ap (λ (c : List Setting). made a' c b r x n t v) q ∙ ap (λ (c : List Text). made a' o' c r x n t v) u
-    ∙ ap (λ (c : Bool). made a' o' b' c x n t v) w ∙ ap (λ (c : Option Corners). made a' o' b' r' c n t v) y ∙ ap (λ (c : List Rename). made a' o' b' r' x' c t v) z
-    ∙ ap (λ (c : Option Text). made a' o' b' r' x' n' c v) k ∙ ap (λ (c : Option Text). made a' o' b' r' x' n' t' c) l
+pub made_same : {a a' : List Word} {o o' : List Setting} {b b' : List Text} {r r' : Bool} {x x' : Option Corners} {n n' : List Rename} {m m' : List Calc} {t t' v v' : Option Text}
+    → a ≡ a' → o ≡ o' → b ≡ b' → r ≡ r' → x ≡ x' → n ≡ n' → m ≡ m' → t ≡ t' → v ≡ v' → made a o b r x n m t v ≡ made a' o' b' r' x' n' m' t' v'
+made_same {a} {a'} {o} {o'} {b} {b'} {r} {r'} {x} {x'} {n} {n'} {m} {m'} {t} {t'} {v} {v'} p q u w y z h k l =
+    ap (λ (c : List Word). made c o b r x n m t v) p ∙ ap (λ (c : List Setting). made a' c b r x n m t v) q ∙ ap (λ (c : List Text). made a' o' c r x n m t v) u
+    ∙ ap (λ (c : Bool). made a' o' b' c x n m t v) w ∙ ap (λ (c : Option Corners). made a' o' b' r' c n m t v) y ∙ ap (λ (c : List Rename). made a' o' b' r' x' c m t v) z
+    ∙ ap (λ (c : List Calc). made a' o' b' r' x' n' c t v) h ∙ ap (λ (c : Option Text). made a' o' b' r' x' n' m' c v) k ∙ ap (λ (c : Option Text). made a' o' b' r' x' n' m' t' c) l
 
 -- ## The same is found by both
 
@@ -158,6 +159,9 @@ argument_kept said i e = sym (argument_more said i ∙ ap (λ (o : Option Text).
 
 pub box_kept : (places : ℕ) (said : Said) (i : Item) → value_of (codes "bbox") i ≡ None → box_in places said ≡ box_in places (said ++ i ∷ [])
 box_kept places said i e = ap (box_from places) (value_kept said i (codes "bbox") e)
+
+pub calculations_kept : (said : Said) (i : Item) → value_of (codes "calc") i ≡ None → calculations_in said ≡ calculations_in (said ++ i ∷ [])
+calculations_kept said i e = ap calculations_from (value_kept said i (codes "calc") e)
 
 abbrev renames_from : Option Text → List Rename
 renames_from o = elim (renames_of (unwrap_or o [])) [ Ok rs ↦ rs | Err why ↦ [] ]

@@ -8,3 +8,4 @@ pub mod Rows
 pub mod Commands
 pub mod Laws
 pub mod Rounding
+pub mod Calculations

@@ -16,14 +16,14 @@ use Rattle.cmd_words.specs.Texts.{is_standard}
 use Rattle.cmd_words.specs.Groups.{Group}
 use Rattle.cmd_words.specs.Options.{Step, take_word}
 use Rattle.cmd_words.specs.Words.{Reading, at_word, take_words}
-use Rattle.word_model.specs.CommandTable.{Item, option, bare, argument, Said, ValueForm, a_text, a_list, two_names, a_precision, a_rule, a_format, a_box, an_expression, an_area, one_or_more, zero_or_more, ArgumentForm, nothing, files, source, list, expression, assignments, renames, text, Line, value_of, value_in, has_option, has_argument, argument_in, argument_text, form_of}
-use Rattle.word_model.specs.Words.{item_of, refused_if, refusal_of, lacks_value, has_room, refused_value, is_box, refused_option, is_standard_item, refused_argument, refused_item, says}
+use Rattle.word_model.specs.CommandTable.{Item, option, bare, argument, Said, ValueForm, a_text, a_list, two_names, a_precision, a_rule, a_format, a_box, an_expression, an_area, one_or_more, zero_or_more, calculations, ArgumentForm, nothing, files, source, list, expression, assignments, renames, text, Line, value_of, value_in, has_option, has_argument, argument_in, argument_text, form_of}
+use Rattle.word_model.specs.Words.{item_of, refused_if, refusal_of, lacks_value, has_room, refused_value, is_excluded, refused_option, is_standard_item, refused_argument, refused_item, says}
 use Rattle.word_model.specs.Words as said_words
 use Rattle.word_laws.proofs.Tests.{none_of, first_is_false, refused_none, first_is_none, second_is_none}
 use Rattle.word_laws.proofs.Forms.{form_as}
 use Rattle.word_laws.proofs.Shown.{Word}
 use Rattle.word_laws.proofs.Groups.{argument_words, text_of, ok_option, box_from, box_in, group_of, first_same, flat_map_last, any_last, any_kept, value_more, argument_kept, argument_first}
-use Rattle.word_laws.proofs.Steps.{WellPlaced, Placed, word_step}
+use Rattle.word_laws.proofs.Steps.{is_box, WellPlaced, Placed, word_step}
 
 -- ## What stays true
 
@@ -103,10 +103,11 @@ box_value refuses places an_expression value b e = absurd (cc)
 box_value refuses places an_area value b e = absurd (cc)
 box_value refuses places one_or_more value b e = absurd (cc)
 box_value refuses places zero_or_more value b e = absurd (cc)
+box_value refuses places calculations value b e = absurd (cc)
 
 value_accepted : (refuses : Refusals) (places : ℕ) (said : Said) (v : ValueForm) (name value : Text) → refused_option refuses places said (Some v) name value ≡ None → refused_value refuses places v value ≡ None
 value_accepted refuses places said v name value e =
-    let beside : Option WordWhy = refused_if (is_box v && has_argument said) why.ExtraWord in
+    let beside : Option WordWhy = refused_if (is_excluded v said) why.ExtraWord in
     let last : Option WordWhy = refused_value refuses places v value in
     let lacks : Option WordWhy = refused_if (lacks_value v value) why.MissingValue in
     second_is_none beside last (second_is_none lacks (first_refusal beside last) (second_is_none (refused_if (has_option said name) why.OptionTwice) (first_refusal lacks (first_refusal beside last)) e))

@@ -6,9 +6,12 @@ use Rattle.std.proofs.lemmas.Option.{unwrap_or-slice_get}
 use Rattle.grid_base.specs.declared.kinds.OverlapRule.{OverlapRule}
 use Rattle.grid_base.specs.declared.kinds.OverlapRule.TheVariants.{MaxArea}
 use Rattle.table_terms.specs.Names.{Text}
+use Rattle.table_terms.specs.declared.calculations.Calc.{Calc}
+use Rattle.table_terms.specs.declared.calculations.CalcSpec.{CalcSpec}
 use Rattle.table_terms.specs.declared.renames.Rename.{Rename}
 use Rattle.table_terms.specs.declared.specifications.GroupSpec.{GroupSpec}
 use Rattle.table_terms.specs.declared.specifications.JoinSpec.{JoinSpec}
+use Rattle.cmd_words.specs.declared.action_words.ActionWords.{ActionWords}
 use Rattle.cmd_words.specs.declared.action_words.ActionWords.TheVariants as words
 use Rattle.cmd_words.specs.declared.job.Action.{Action}
 use Rattle.cmd_words.specs.declared.job.Action.TheVariants as ask
@@ -26,14 +29,14 @@ use Rattle.cmd_words.specs.Groups.{Group}
 use Rattle.cmd_words.specs.Groups as groups
 use Rattle.cmd_words.specs.Chains.{SoFar, lacks_argument, lacks_form, action_of, takes_source, rule_from, form_from}
 use Rattle.cmd_words.specs.Chains as chains
-use Rattle.word_model.specs.CommandTable.{Said, ValueForm, ArgumentForm, nothing, files, source, list, expression, assignments, renames, text, Line, CommandLine, value_in, has_option, has_bare, has_argument, argument_in, argument_text, list_or_empty, group_spec, join_spec, renames_in, form_in, count_in, doubled_in, each_layer, needs_source, import_line, command_lines, form_of}
+use Rattle.word_model.specs.CommandTable.{Said, ValueForm, ArgumentForm, nothing, files, source, list, expression, assignments, renames, text, Line, CommandLine, value_in, has_option, has_bare, has_argument, argument_in, argument_text, list_or_empty, group_spec, join_spec, calc_spec, calculations_in, renames_in, form_in, count_in, doubled_in, each_layer, joins, needs_source, import_line, command_lines, form_of}
 use Rattle.word_model.specs.CommandTable as table
-use Rattle.word_model.specs.Words.{is_box, is_source, origin_of}
-use Rattle.word_laws.proofs.Tests.{same_bytes}
+use Rattle.word_model.specs.Words.{is_source, origin_of}
+use Rattle.word_laws.proofs.Tests.{same_bytes, left_true, right_true, not_true}
 use Rattle.word_laws.proofs.Shown.{Word, argument_as, value_as}
 use Rattle.word_laws.proofs.Forms.{form_as}
 use Rattle.word_laws.proofs.Groups.{renames_seen, test_of, assigns_of, group_of, value_same, bare_same, first_same}
-use Rattle.word_laws.proofs.Steps.{is_test, takes_expression, Placed, WellPlaced}
+use Rattle.word_laws.proofs.Steps.{is_box, is_calculated, is_test, takes_expression, Placed, WellPlaced}
 use Rattle.word_laws.proofs.Readings.{Kept}
 
 -- ## Options that stand in their places
@@ -48,20 +51,10 @@ agree_same true b e = sym e
 agree_same false true e = absurd (cc)
 agree_same false false e = refl
 
-left_true : (a b : Bool) → (a && b) ≡ true → a ≡ true
-left_true true b e = refl
-left_true false b e = absurd (cc)
-
-right_true : (a b : Bool) → (a && b) ≡ true → b ≡ true
-right_true true b e = e
-right_true false b e = absurd (cc)
-
-not_true : (a : Bool) → not a ≡ true → a ≡ false
-not_true true e = absurd (cc)
-not_true false e = refl
-
 unfoldable fits_name : ArgumentForm → Text × ValueForm → Bool
-fits_name form o = agree (is_box o.1) (bytes_eq o.0 (codes "bbox")) && (agree (is_test o.1) (bytes_eq o.0 (codes "where")) && not (takes_expression form && is_test o.1))
+fits_name form o =
+    agree (is_box o.1) (bytes_eq o.0 (codes "bbox"))
+    && (agree (is_calculated o.1) (bytes_eq o.0 (codes "calc")) && (agree (is_test o.1) (bytes_eq o.0 (codes "where")) && not (takes_expression form && is_test o.1)))
 
 pub all_fit : Line → Bool
 all_fit l = list_all (fits_name l.argument) l.options
@@ -69,9 +62,11 @@ all_fit l = list_all (fits_name l.argument) l.options
 fits_placed : (form : ArgumentForm) (o : Text × ValueForm) → fits_name form o ≡ true → Placed form o.1 o.0
 unfolding fits_name
 fits_placed form o e =
-    let rest = right_true (agree (is_box o.1) (bytes_eq o.0 (codes "bbox"))) _ e in
+    let others = right_true (agree (is_box o.1) (bytes_eq o.0 (codes "bbox"))) _ e in
+    let rest = right_true (agree (is_calculated o.1) (bytes_eq o.0 (codes "calc"))) _ others in
     record {
       box = agree_same _ _ (left_true _ _ e);
+      calculated = agree_same _ _ (left_true _ _ others);
       test = agree_same _ _ (left_true _ _ rest);
       one_test = not_true _ (right_true _ _ rest);
     }
@@ -104,11 +99,12 @@ pub record Means (form : ArgumentForm) (said : Said) (g : Group) : Type 0 where
   pub argument : groups.argument_in g ≡ argument_in said
   pub box : is_some g.area ≡ has_option said (codes "bbox")
   pub renames : g.renames ≡ renames_seen form said
+  pub calculations : g.calculations ≡ calculations_in said
   pub test : g.test ≡ test_of form said
   pub assigns : g.assigns ≡ assigns_of form said
 
 pub kept_means : (places : ℕ) (taken : Bool) (form : ArgumentForm) (args : List Word) (said : Said) → Kept places form args said → Means form said (group_of places taken form args said)
-kept_means places taken form args said kept = record { value = value_same said; bare = bare_same said; argument = first_same args said kept.texts; box = kept.box; renames = refl; test = refl; assigns = refl }
+kept_means places taken form args said kept = record { value = value_same said; bare = bare_same said; argument = first_same args said kept.texts; box = kept.box; renames = refl; calculations = refl; test = refl; assigns = refl }
 
 abbrev text_from : Option Text → Text
 text_from o = unwrap_or o []
@@ -180,9 +176,22 @@ module _ (form : ArgumentForm) (said : Said) (g : Group) (m : Means form said g)
       ap₂ (λ (n k : ℕ). each.FilterIslands n k (groups.has_bare g (codes "remove-empty"))) (ap (least_area_from places) (m.value (codes "min-area"))) (count_same 0 (codes "min-vertices"))
       ∙ ap (λ (b : Bool). each.FilterIslands (doubled_in (doubled_above places) said (codes "min-area")) (count_in 0 said (codes "min-vertices")) b) (m.bare (codes "remove-empty"))
 
-  join_same : (s : SoFar) → test_of form said ≡ value_in said (codes "where")
-      → words.Join (chains.origin_of (length s.sources) (length s.boxes) g) (chains.join_spec g) g.test ≡ words.Join (origin_of s said) (join_spec said) (value_in said (codes "where"))
-  join_same s e = ap₂ (λ (o : Origin) (spec : JoinSpec). words.Join o spec g.test) (origin_same s) join_spec_same ∙ ap (words.Join (origin_of s said) (join_spec said)) (m.test ∙ e)
+  abbrev calc_from : Option (List Text) → Bool → Text → List Calc → CalcSpec
+  calc_from fields force prefix calc = record { fields = fields; force = force; test = None; prefix = prefix; calc = calc }
+
+  calc_spec_same : chains.calc_spec g ≡ calc_spec said
+  calc_spec_same =
+      ap₂ (λ (o : Option Text) (b : Bool). calc_from (option_map pieces o) b (unwrap_or (groups.value_in g (codes "prefix")) []) g.calculations) (m.value (codes "fields")) (m.bare (codes "force"))
+      ∙ ap₂ (λ (o : Option Text) (cs : List Calc). calc_from (option_map pieces (value_in said (codes "fields"))) (has_bare said (codes "force")) (unwrap_or o []) cs) (m.value (codes "prefix")) m.calculations
+
+  abbrev join_by : Bool → Origin → JoinSpec → CalcSpec → Option Text → ActionWords
+  join_by keyed o spec calc t = cond keyed (words.Join o spec t) (words.SpatialJoin o calc t)
+
+  join_same : (s : SoFar) → test_of form said ≡ value_in said (codes "where") → chains.join_of (chains.origin_of (length s.sources) (length s.boxes) g) g ≡ joins (origin_of s said) said
+  join_same s e =
+      ap₂ (λ (o : Origin) (spec : JoinSpec). join_by (is_some (groups.value_in g (codes "keys"))) o spec (chains.calc_spec g) g.test) (origin_same s) join_spec_same
+      ∙ ap₂ (λ (k : Option Text) (calc : CalcSpec). join_by (is_some k) (origin_of s said) (join_spec said) calc g.test) (m.value (codes "keys")) calc_spec_same
+      ∙ ap (join_by (has_option said (codes "keys")) (origin_of s said) (join_spec said) (calc_spec said)) (m.test ∙ e)
 
   module _ (e : test_of form said ≡ argument_in said) where
     test_is : g.test ≡ argument_in said
@@ -219,9 +228,6 @@ module _ (form : ArgumentForm) (said : Said) (g : Group) (m : Means form said g)
 
   lacks_source : not (is_some (groups.argument_in g) || is_some g.area) ≡ not (needs_source said)
   lacks_source = ap₂ (λ (a b : Bool). not (a || b)) argument_some m.box
-
-  lacks_keys : not (is_some (groups.argument_in g) && is_some (groups.value_in g (codes "keys"))) ≡ not (has_argument said && has_option said (codes "keys"))
-  lacks_keys = ap₂ (λ (a b : Bool). not (a && b)) argument_some (ap is_some (m.value (codes "keys")))
 
   lacks_test : not (is_some (groups.argument_in g) || groups.has_bare g (codes "remove-empty")) ≡ not (has_argument said || has_bare said (codes "remove-empty"))
   lacks_test = ap₂ (λ (a b : Bool). not (a || b)) argument_some (m.bare (codes "remove-empty"))
@@ -270,7 +276,7 @@ same_rows = (
               (
                 record { word = refl; form = refl; fits = refl; no_files = refl; source = refl; needed = λ said g m. refl; known = λ said g m. refl; action = λ places s said g m. ap (λ (ks : List Text). each_layer (each.Lines ks)) (argument_list list said g m) },
                 (
-                  record { word = refl; form = refl; fits = refl; no_files = refl; source = refl; needed = lacks_keys source; known = λ said g m. refl; action = λ places s said g m. join_same source said g m s refl },
+                  record { word = refl; form = refl; fits = refl; no_files = refl; source = refl; needed = λ said g m. ap not (argument_some source said g m); known = λ said g m. refl; action = λ places s said g m. join_same source said g m s refl },
                   (
                     record { word = refl; form = refl; fits = refl; no_files = refl; source = refl; needed = lacks_test expression; known = λ said g m. refl; action = λ places s said g m. filter_same expression said g m refl },
                     (
@@ -290,8 +296,11 @@ same_rows = (
                                   (
                                     record { word = refl; form = refl; fits = refl; no_files = refl; source = refl; needed = λ said g m. refl; known = λ said g m. refl; action = λ places s said g m. ap (λ (b : Bool). words.Whole (ask.Together (joint.MergeLayers b))) (m.bare (codes "force")) },
                                     (
-                                      record { word = refl; form = refl; fits = refl; no_files = refl; source = refl; needed = λ said g m. ap not (argument_some text said g m); known = λ said g m. ap (λ (o : Option OutForm). not (is_some o)) (form_same text said g m); action = λ places s said g m. ap (λ (a : Action). words.Whole a) (write_same text said g m) },
-                                      tt,
+                                      record { word = refl; form = refl; fits = refl; no_files = refl; source = refl; needed = λ said g m. refl; known = λ said g m. refl; action = λ places s said g m. refl },
+                                      (
+                                        record { word = refl; form = refl; fits = refl; no_files = refl; source = refl; needed = λ said g m. ap not (argument_some text said g m); known = λ said g m. ap (λ (o : Option OutForm). not (is_some o)) (form_same text said g m); action = λ places s said g m. ap (λ (a : Action). words.Whole a) (write_same text said g m) },
+                                        tt,
+                                      ),
                                     ),
                                   ),
                                 ),

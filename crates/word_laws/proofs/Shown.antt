@@ -5,7 +5,7 @@ use Rattle.table_terms.specs.Names.{Text}
 use Rattle.cmd_words.specs.Rows.{Form, Row, NAME, TARGET, import_form, row_of}
 use Rattle.cmd_words.specs.Rows as rows
 use Rattle.cmd_words.specs.Groups.{empty_group}
-use Rattle.word_model.specs.CommandTable.{ValueForm, a_text, a_list, two_names, a_precision, a_rule, a_format, a_box, an_expression, an_area, one_or_more, zero_or_more, ArgumentForm, nothing, files, source, list, expression, assignments, renames, text}
+use Rattle.word_model.specs.CommandTable.{ValueForm, a_text, a_list, two_names, a_precision, a_rule, a_format, a_box, an_expression, an_area, one_or_more, zero_or_more, calculations, ArgumentForm, nothing, files, source, list, expression, assignments, renames, text}
 
 abbrev pub TypeOf : {A : Type 0} → A → Type 0
 TypeOf {A} x = A
@@ -59,3 +59,4 @@ value_as an_expression = value_for (form_for (codes "-join")) (codes "where")
 value_as an_area = value_for (form_for (codes "-clean")) (codes "gap-fill-area")
 value_as one_or_more = value_for (form_for (codes "-uniq")) (codes "max-count")
 value_as zero_or_more = value_for (form_for (codes "-filter-islands")) (codes "min-vertices")
+value_as calculations = value_for (form_for (codes "-join")) (codes "calc")

@@ -1,1 +1,2 @@
+pub mod Calculations
 pub mod Laws

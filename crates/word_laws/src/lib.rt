@@ -3,7 +3,7 @@
 //! Each function carries one law in its contract, and does nothing.
 #![tactic(auto)]
 
-ghost use Rattle.word_laws.specs.Laws.{TheTableSaysWhatIsRead, WhatIsReadFitsTheTable, GapsAreRoundedDown, LeastAreasAreRoundedUp};
+ghost use Rattle.word_laws.specs.Laws.{TheTableSaysWhatIsRead, WhatIsReadFitsTheTable, GapsAreRoundedDown, LeastAreasAreRoundedUp, CalculationsAreOfTheGrammar};
 
 /// For all words the table of commands says what is read: the same job, or the same first refused word and the same
 /// reason.
@@ -24,4 +24,10 @@ pub fn gaps_are_rounded_down()
 /// The number of a least area is twice that area in squared grid units, rounded up to a whole number.
 pub fn least_areas_are_rounded_up()
     ensures { LeastAreasAreRoundedUp }
+{}
+
+/// An item of the columns that a join is to calculate is read just where it is a name, `=`, and `count()` or
+/// `sum(field)`, with white space before and behind each token; and it is read as that column.
+pub fn calculations_are_of_the_grammar()
+    ensures { CalculationsAreOfTheGrammar }
 {}

@@ -98,7 +98,7 @@ join_spec said = record {
 -- the columns to be calculated
 abbrev pub calculations_from : Option Text → List Calc
 calculations_from None = []
-calculations_from (Some s) = elim (calculations_of s) [ Ok list ↦ list | Err why ↦ [] ]
+calculations_from (Some s) = elim (calculations_of s) [ Ok columns ↦ columns | Err why ↦ [] ]
 
 abbrev pub calculations_in : Said → List Calc
 calculations_in said = calculations_from (value_in said (codes "calc"))

@@ -1,4 +1,4 @@
-use Rattle.std.proofs.Common.{◌∙◌, ap, sym, subst, true, All, List, ℕ, ◌<◌, length}
+use Rattle.std.proofs.Common.{◌∙◌, ap, sym, subst, true, All, ℕ, ◌<◌, length}
 use Rattle.std.specs.List.Sorted.{IsStrictlyIncreasing}
 use Rattle.bucket_grid.proofs.Numbers.{numbers_where_below}
 use Rattle.json_read.specs.Table.{RowValues}
@@ -9,7 +9,7 @@ use Rattle.spatial_join.proofs.NumberLemmas.{numbers_where_rise}
 use Rattle.spatial_join.proofs.joined.candidates.Goals as goal
 
 pub returns-in-Some-clause-ascending : goal.returns-in-Some-clause-ascending
-returns-in-Some-clause-ascending c = filtered_rise c.args.source.now (tree_of c.in-Some.test.now) c.filter_rows.result c.filter_rows.ensures.exact
+returns-in-Some-clause-ascending c = filtered_rise c.args.source.now (tree_of c.in-Some.test) c.filter_rows.result c.filter_rows.ensures.exact
 
 pub returns-in_ok-all_numbers-in-None-clause-within : goal.returns-in_ok-all_numbers-in-None-clause-within
 returns-in_ok-all_numbers-in-None-clause-within c =

@@ -1,4 +1,4 @@
-use Rattle.std.proofs.Common.{◌∙◌, ap, filter, nat_eq, List, ℕ}
+use Rattle.std.proofs.Common.{◌∙◌, ap, filter, nat_eq}
 use Rattle.std.proofs.lemmas.List.{take_all}
 use Rattle.lists.specs.Lists.{has}
 use Rattle.spatial_join.proofs.JoinLemmas.{both_ways}

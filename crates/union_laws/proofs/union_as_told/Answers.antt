@@ -1,0 +1,6 @@
+-- The law is proved by itself.
+use Rattle.union_laws.proofs.UnionTold.{union_as_told}
+use Rattle.union_laws.proofs.union_as_told.Goals as goal
+
+pub returns : goal.returns
+returns c = union_as_told

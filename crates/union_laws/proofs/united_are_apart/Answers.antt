@@ -1,0 +1,6 @@
+-- The law is proved by itself.
+use Rattle.union_laws.proofs.Apart.{united_are_apart}
+use Rattle.union_laws.proofs.united_are_apart.Goals as goal
+
+pub returns : goal.returns
+returns c = united_are_apart
