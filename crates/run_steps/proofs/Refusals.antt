@@ -1,5 +1,5 @@
 -- The first refusal among the layers of a target, and that of a source.
-use Rattle.std.proofs.Common.{◌≡◌, ◌⊎◌, inl, inr, MatchBool, ℕ, ◌+◌, ◌<◌, ◌≤◌, Bool, true, false, List, ◌∷◌, length, drop, Option, None, Some, Result, Ok, Err, if◌then◌else◌, refl, ap, sym, subst, ◌∙◌}
+use Rattle.std.proofs.Common.{◌≡◌, inl, inr, MatchBool, ℕ, ◌+◌, ◌<◌, ◌≤◌, Bool, true, false, List, ◌∷◌, length, drop, Option, None, Some, Result, Ok, Err, if◌then◌else◌, refl, ap, sym, subst, ◌∙◌}
 use Rattle.std.specs.Prelude.{slice_get}
 use Rattle.std.proofs.lemmas.Bool.{lt-ltb, le-ltb}
 use Rattle.std.proofs.lemmas.List.{at_drop_more, drop_all}
@@ -17,7 +17,7 @@ use Rattle.run_state.specs.declared.refusal.RefuseWhy.TheVariants.{TooManyLayers
 use Rattle.run_state.specs.declared.state.CommandStop.{CommandStop}
 use Rattle.run_state.specs.declared.state.CommandStop.TheVariants as stop
 use Rattle.run_state.specs.declared.state.Held.{Held}
-use Rattle.run_state.proofs.Stops.{stops_first, stops_second}
+use Rattle.run_state.proofs.Stops.{stops_second}
 use Rattle.run_state.proofs.TargetLemmas.{target_first, other_first}
 use Rattle.run_steps.specs.Refusals.{FirstOf, RefusesIn, refused_area, refused_count, refused_polygons}
 
