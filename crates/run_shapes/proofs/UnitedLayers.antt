@@ -1,5 +1,5 @@
 -- The layers of a union: their tables and sets of faces, and the rows that the items choose.
-use Rattle.std.proofs.Common.{◌≡◌, ◌<◌, ◌+◌, ℕ, true, false, List, [], ◌∷◌, ◌++◌, All, length, get_or, take, sym, subst, subst₂, ◌∙◌}
+use Rattle.std.proofs.Common.{◌≡◌, ◌<◌, ◌+◌, ℕ, true, false, List, [], ◌∷◌, ◌++◌, All, length, map, get_or, take, ap, sym, subst, subst₂, ◌∙◌}
 use Rattle.std.proofs.lemmas.List.{map-append}
 use Rattle.std.proofs.lemmas.List.Elements.{All-push, All-weaker}
 use Rattle.json_read.specs.Table.{TableContent}
@@ -16,7 +16,7 @@ use Rattle.run_state.specs.Targets.{is_selected, targets}
 use Rattle.run_state.specs.declared.state.Held.{Held}
 use Rattle.run_state.proofs.TargetLemmas.{other_next, target_next}
 use Rattle.run_shapes.specs.FaceSets.{sets_on}
-use Rattle.run_shapes.specs.Uniting.{AreGathered, row_counts, set_counts}
+use Rattle.run_shapes.specs.Uniting.{AreGathered, layer_sets, layer_tables, row_counts, set_counts}
 
 -- ---- one layer more
 
