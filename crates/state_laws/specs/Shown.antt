@@ -1,5 +1,5 @@
 -- Layers that a run holds show layers of a state: rows are the same, sets of faces follow regions, signed arcs run along paths, points are the points.
-use Rattle.std.specs.Prelude.{◌≡◌, ℕ, Bool, List, All, Contains, map}
+use Rattle.std.specs.Prelude.{◌≡◌, ℕ, List, All, Contains}
 use Rattle.std.specs.List.{AllZip}
 use Rattle.std.specs.List.Sorted.{IsStrictlyIncreasing}
 use Rattle.lists.specs.Lists.{numbers_where}

@@ -1,0 +1,4 @@
+pub mod Zipped
+pub mod Numbered
+pub mod Taking
+pub mod Empty
