@@ -1,2 +1,4 @@
+pub mod Reasons
 pub mod Shown
+pub mod Tables
 pub mod Taken

@@ -8,10 +8,25 @@
 //! - Features that are taken by their numbers show those that are taken of the state's layer (`taken_features_show`). A
 //!   shape is empty exactly if what it shows is (`emptiness_shows`), so the same features are left out
 //!   (`left_features_show`).
+//! - Commands on rows and columns: `fields_show`, `new_names_show`, `joins_show`, `assigned_fields_show`,
+//!   `sorted_rows_show`, `early_rows_show`, `filtered_rows_show`, `pieces_show` and `merged_layers_show`. The pieces of a
+//!   split by a field are named alike where the plain texts of its values are UTF-8 (`pieces_are_named`).
 //!
 //! Each function carries one law in its contract, and does nothing.
 #![tactic(auto)]
 
+ghost use Rattle.state_laws.specs.Tables.{
+  AssignedFieldsShow,
+  EarlyRowsShow,
+  FieldsShow,
+  FilteredRowsShow,
+  JoinsShow,
+  MergedLayersShow,
+  NewNamesShow,
+  PiecesAreNamed,
+  PiecesShow,
+  SortedRowsShow,
+};
 ghost use Rattle.state_laws.specs.Taken.{EmptinessShows, LeftFeaturesShow, TakenFeaturesShow};
 
 /// Features that are taken by their numbers show those that are taken of the state's layer.
@@ -27,4 +42,54 @@ pub fn emptiness_shows()
 /// A layer with other shapes, without the empty ones, shows what is left of the state's layer.
 pub fn left_features_show()
     ensures { LeftFeaturesShow }
+{}
+
+/// Kept columns show those that are kept of the state's table.
+pub fn fields_show()
+    ensures { FieldsShow }
+{}
+
+/// Columns under other names show those of the state.
+pub fn new_names_show()
+    ensures { NewNamesShow }
+{}
+
+/// A join by keys shows that of the state's layers.
+pub fn joins_show()
+    ensures { JoinsShow }
+{}
+
+/// Fields that are assigned show those that are assigned in the state's layer.
+pub fn assigned_fields_show()
+    ensures { AssignedFieldsShow }
+{}
+
+/// Features in the order of their keys show those of the state.
+pub fn sorted_rows_show()
+    ensures { SortedRowsShow }
+{}
+
+/// Features whose key few before them have show those of the state.
+pub fn early_rows_show()
+    ensures { EarlyRowsShow }
+{}
+
+/// Features that pass a filter show those that pass it in the state.
+pub fn filtered_rows_show()
+    ensures { FilteredRowsShow }
+{}
+
+/// Pieces of one row can be named, and others where all plain texts are UTF-8.
+pub fn pieces_are_named()
+    ensures { PiecesAreNamed }
+{}
+
+/// The pieces of a layer show those of the state's layer.
+pub fn pieces_show()
+    ensures { PiecesShow }
+{}
+
+/// Layers that are merged show the state's layers merged.
+pub fn merged_layers_show()
+    ensures { MergedLayersShow }
 {}
