@@ -6,3 +6,4 @@ pub mod Empty
 pub mod TableCommands
 pub mod Splitting
 pub mod Merging
+pub mod Targeting

@@ -2,3 +2,4 @@ pub mod Reasons
 pub mod Shown
 pub mod Tables
 pub mod Taken
+pub mod Targets

@@ -28,6 +28,7 @@ ghost use Rattle.state_laws.specs.Tables.{
   SortedRowsShow,
 };
 ghost use Rattle.state_laws.specs.Taken.{EmptinessShows, LeftFeaturesShow, TakenFeaturesShow};
+ghost use Rattle.state_laws.specs.Targets.{FirstLayersShow, OneLayerShows, OriginsShow, TargetsShow};
 
 /// Features that are taken by their numbers show those that are taken of the state's layer.
 pub fn taken_features_show()
@@ -92,4 +93,24 @@ pub fn pieces_show()
 /// Layers that are merged show the state's layers merged.
 pub fn merged_layers_show()
     ensures { MergedLayersShow }
+{}
+
+/// A target has the layers that it selects in the state, or both refuse it.
+pub fn targets_show()
+    ensures { TargetsShow }
+{}
+
+/// The layers that a command takes from elsewhere show those that it takes in the state.
+pub fn origins_show()
+    ensures { OriginsShow }
+{}
+
+/// One layer among several is found, or refused, as in the state.
+pub fn one_layer_shows()
+    ensures { OneLayerShows }
+{}
+
+/// The layers with which the commands begin show the first state.
+pub fn first_layers_show()
+    ensures { FirstLayersShow }
 {}
