@@ -7,3 +7,4 @@ pub mod TableCommands
 pub mod Splitting
 pub mod Merging
 pub mod Targeting
+pub mod Placed

@@ -1,3 +1,4 @@
+pub mod Placing
 pub mod Reasons
 pub mod Shown
 pub mod Tables

@@ -11,10 +11,14 @@
 //! - Commands on rows and columns: `fields_show`, `new_names_show`, `joins_show`, `assigned_fields_show`,
 //!   `sorted_rows_show`, `early_rows_show`, `filtered_rows_show`, `pieces_show` and `merged_layers_show`. The pieces of a
 //!   split by a field are named alike where the plain texts of its values are UTF-8 (`pieces_are_named`).
+//! - A command works on the same layers (`targets_show`), takes the same ones from elsewhere (`origins_show`,
+//!   `one_layer_shows`), and its outputs go to the same places (`placed_outputs_show`). The first has all layers for its
+//!   target (`first_layers_show`).
 //!
 //! Each function carries one law in its contract, and does nothing.
 #![tactic(auto)]
 
+ghost use Rattle.state_laws.specs.Placing.{PlacedOutputsShow};
 ghost use Rattle.state_laws.specs.Tables.{
   AssignedFieldsShow,
   EarlyRowsShow,
@@ -113,4 +117,9 @@ pub fn one_layer_shows()
 /// The layers with which the commands begin show the first state.
 pub fn first_layers_show()
     ensures { FirstLayersShow }
+{}
+
+/// The outputs of a command go to the places to which they go in the state.
+pub fn placed_outputs_show()
+    ensures { PlacedOutputsShow }
 {}
