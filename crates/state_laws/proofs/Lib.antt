@@ -8,3 +8,9 @@ pub mod Splitting
 pub mod Merging
 pub mod Targeting
 pub mod Placed
+pub mod EachLayer
+pub mod Counting
+pub mod LayerKinds
+pub mod Stepping
+pub mod TableSteps
+pub mod MergeStep

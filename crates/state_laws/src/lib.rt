@@ -14,11 +14,14 @@
 //! - A command works on the same layers (`targets_show`), takes the same ones from elsewhere (`origins_show`,
 //!   `one_layer_shows`), and its outputs go to the same places (`placed_outputs_show`). The first has all layers for its
 //!   target (`first_layers_show`).
+//! - So the step of a command on the tables of its layers shows that of the state (`table_steps_show`), and so does that of
+//!   one that merges them (`merge_steps_show`).
 //!
 //! Each function carries one law in its contract, and does nothing.
 #![tactic(auto)]
 
 ghost use Rattle.state_laws.specs.Placing.{PlacedOutputsShow};
+ghost use Rattle.state_laws.specs.Steps.{MergeStepsShow, TableStepsShow};
 ghost use Rattle.state_laws.specs.Tables.{
   AssignedFieldsShow,
   EarlyRowsShow,
@@ -122,4 +125,14 @@ pub fn first_layers_show()
 /// The outputs of a command go to the places to which they go in the state.
 pub fn placed_outputs_show()
     ensures { PlacedOutputsShow }
+{}
+
+/// The step of a command on the tables of its layers shows that of the state.
+pub fn table_steps_show()
+    ensures { TableStepsShow }
+{}
+
+/// The step of a command that merges the layers of its target shows that of the state.
+pub fn merge_steps_show()
+    ensures { MergeStepsShow }
 {}
