@@ -1,0 +1,16 @@
+pub mod Zipped
+pub mod Numbered
+pub mod Below
+pub mod Taking
+pub mod Empty
+pub mod TableCommands
+pub mod Splitting
+pub mod Merging
+pub mod Targeting
+pub mod Placed
+pub mod EachLayer
+pub mod Counting
+pub mod LayerKinds
+pub mod Stepping
+pub mod TableSteps
+pub mod MergeStep

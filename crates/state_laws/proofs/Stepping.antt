@@ -1,0 +1,190 @@
+-- A step of a command that changes each layer of its target, put together of what it makes of them.
+use Rattle.std.proofs.Common.{◌≡◌, inl, inr, refl, sym, ap, ◌∙◌, subst, ℕ, ◌+◌, ◌<◌, ◌≤◌, arith, Bool, true, false, List, length, map, sum_by, nat_lt, Option, Some, None, option_map, Result, Ok, Err, if◌then◌else◌}
+use Rattle.std.specs.List.{AllZip}
+use Rattle.std.proofs.lemmas.Bool.{lt-ltb, ltb-true}
+use Rattle.std.proofs.lemmas.List.{length-map}
+use Rattle.lists.specs.Lists.{joined_up}
+use Rattle.table_terms.specs.Refusals.{first_refusal, on_ok, unless}
+use Rattle.cmd_words.specs.declared.job.Action.{Action}
+use Rattle.cmd_words.specs.declared.job.Action.TheVariants as does
+use Rattle.cmd_words.specs.declared.job.Command.{Command}
+use Rattle.cmd_words.specs.declared.job.LayerAction.{LayerAction}
+use Rattle.run_plane.specs.declared.layer.Layer.{Layer}
+use Rattle.run_state.specs.Origins.{Base}
+use Rattle.run_state.specs.Targets as places
+use Rattle.run_state.specs.Targets.{has_target, targets}
+use Rattle.run_state.specs.declared.refusal.RefuseWhy.{RefuseWhy}
+use Rattle.run_state.specs.declared.refusal.RefuseWhy.TheVariants.{NoLayer, TooManyLayers}
+use Rattle.run_state.specs.declared.state.Held.{Held}
+use Rattle.run_steps.specs.Commands.{ChangesEach, PutsFor, PutsOut, Titles}
+use Rattle.run_steps.specs.Refusals as run
+use Rattle.chain_model.specs.Outcome as state
+use Rattle.chain_model.specs.Outcome.{no_layer}
+use Rattle.chain_model.specs.State.{State, StateLayer}
+use Rattle.chain_model.specs.Targets.{SourceLayers, layers_at, placed, selected, with_outputs}
+use Rattle.chain_model.specs.Features.{Outputs}
+use Rattle.chain_model.specs.Steps.{Stepped, by_action, changed, each_layer, outputs_of, refused_beside, refused_kinds, refused_source, step, titled}
+use Rattle.state_laws.specs.Shown.{View, LayerShows, StateShows, plane_of}
+use Rattle.state_laws.specs.Placing.{target_outputs}
+use Rattle.state_laws.specs.Reasons.{why_of}
+use Rattle.state_laws.specs.Steps.{StepGives, StepRefuses, StepShows}
+use Rattle.state_laws.specs.Targets.{target_numbers}
+use Rattle.state_laws.proofs.Counting.{joined_long, placed_long}
+use Rattle.state_laws.proofs.EachLayer.{LayerAlike, MakesTitled, first_stops, none_stops, others_put, outputs_show, targets_put}
+use Rattle.state_laws.proofs.Placed.{counted, placed_outputs_show}
+use Rattle.state_laws.proofs.Targeting.{targets_show}
+use Rattle.state_laws.proofs.Zipped.{zip_weaker}
+
+-- ---- the first of three refusals
+
+pub data First (why : RefuseWhy) (a b c : Option RefuseWhy) : Type 0 where
+  is_first : a ≡ Some why → First why a b c
+  is_second : a ≡ None → b ≡ Some why → First why a b c
+  is_third : a ≡ None → b ≡ None → c ≡ Some why → First why a b c
+
+pub which : (why : RefuseWhy) (a b c : Option RefuseWhy) → first_refusal a (first_refusal b c) ≡ Some why → First why a b c
+which why (Some w) b c is = is_first is
+which why None (Some w) c is = is_second refl is
+which why None None c is = is_third refl refl is
+
+pub none_of_three : (a b c : Option RefuseWhy) → first_refusal a (first_refusal b c) ≡ None → (a ≡ None) × (b ≡ None) × (c ≡ None)
+none_of_three (Some w) b c is = absurd (let some : Some w ≡ None = is in cc)
+none_of_three None (Some w) c is = absurd (let some : Some w ≡ None = is in cc)
+none_of_three None None c is = (refl, refl, is)
+
+-- ---- tests that refuse
+
+pub target_there : (b : Bool) → (if b then None else Some NoLayer) ≡ None → b ≡ true
+target_there true e = refl
+target_there false e = absurd (let w : Some NoLayer ≡ None = e in cc)
+
+pub target_absent : (b : Bool) (why : RefuseWhy) → (if b then None else Some NoLayer) ≡ Some why → (b ≡ false) × (NoLayer ≡ why)
+target_absent true why e = absurd (let w : None ≡ Some why = e in cc)
+target_absent false why e = (refl, let w : Some NoLayer ≡ Some why = e in cc)
+
+pub too_many_told : (b : Bool) (why : RefuseWhy) → (if b then Some TooManyLayers else None) ≡ Some why → (b ≡ true) × (TooManyLayers ≡ why)
+too_many_told true why e = (refl, let w : Some TooManyLayers ≡ Some why = e in cc)
+too_many_told false why e = absurd (let w : None ≡ Some why = e in cc)
+
+-- ---- the state's step
+
+-- why the target's layers are refused for their kinds
+abbrev pub unfit : SourceLayers → State → Action → List StateLayer → Option state.RefuseWhy
+unfit sources s act ls = first_refusal (refused_kinds act ls) (refused_beside sources s act ls)
+
+-- the outputs in their places, under the name of `name=`
+abbrev pub put : State → Command → List ℕ → List (List StateLayer) → Result State state.RefuseWhy
+put s c ns outs = with_outputs s c.keep ns (map (map (titled c.name)) outs)
+
+abbrev pub changed_by : State → Command → List ℕ → Option state.RefuseWhy → Option state.RefuseWhy → Result (List (List StateLayer)) state.RefuseWhy → Result State state.RefuseWhy
+changed_by s c ns source kinds outs = unless (first_refusal source kinds) (on_ok outs (put s c ns))
+
+abbrev pub stepped : Result State state.RefuseWhy → Result Stepped state.RefuseWhy
+stepped answer = on_ok answer (λ (t : State). Ok (record { state = t; written = None }))
+
+module _ (v : View) (sources : SourceLayers) (s : State) (c : Command) (act : Action) (does_so : c.action ≡ act)
+    (changes : (ns : List ℕ) → by_action (plane_of v) v.answers sources s c ns act ≡ stepped (changed (plane_of v) v.answers sources s c ns)) where
+  step_is : step (plane_of v) v.answers sources s c ≡ on_ok (selected s c.target) (λ (ns : List ℕ). by_action (plane_of v) v.answers sources s c ns act)
+  step_is = ap (λ (does : Action). on_ok (selected s c.target) (λ (ns : List ℕ). by_action (plane_of v) v.answers sources s c ns does)) does_so
+
+  pub step_refused : (why : state.RefuseWhy) → selected s c.target ≡ Err why → step (plane_of v) v.answers sources s c ≡ Err why
+  step_refused why e = step_is ∙ ap (λ (r : Result (List ℕ) state.RefuseWhy). on_ok r (λ (ns : List ℕ). by_action (plane_of v) v.answers sources s c ns act)) e
+
+  pub step_by : (ns : List ℕ) → selected s c.target ≡ Ok ns → step (plane_of v) v.answers sources s c ≡
+      stepped (changed_by s c ns (refused_source sources s act) (unfit sources s act (layers_at s ns)) (outputs_of (plane_of v) v.answers sources s act (layers_at s ns)))
+  step_by ns e =
+      step_is ∙ ap (λ (r : Result (List ℕ) state.RefuseWhy). on_ok r (λ (ns : List ℕ). by_action (plane_of v) v.answers sources s c ns act)) e ∙ changes ns
+      ∙ ap (λ (does : Action). stepped (changed_by s c ns (refused_source sources s does) (unfit sources s does (layers_at s ns)) (outputs_of (plane_of v) v.answers sources s does (layers_at s ns)))) does_so
+
+-- ---- a command whose outputs, for each layer, are alike
+
+-- what the state does is what a function makes of each layer, which is alike
+pub record IsAlike (v : View) (base : Base) (layers : List Held) (sources : SourceLayers) (s : State) (c : Command) (a : LayerAction) (f : StateLayer → Outputs) : Type 0 where
+  pub source : refused_source sources s (does.Each a) ≡ option_map why_of (run.refused_source base.sources layers a)
+  pub kinds : unfit sources s (does.Each a) (layers_at s (target_numbers c.target layers)) ≡ option_map why_of (run.refused_kinds base.sources layers a (targets c.target layers))
+  pub outputs : refused_source sources s (does.Each a) ≡ None → (ls : List StateLayer) → outputs_of (plane_of v) v.answers sources s (does.Each a) ls ≡ each_layer f ls
+  pub pairs : AllZip (λ (layer : Layer) (l : StateLayer). LayerShows v layer l × LayerAlike v (PutsOut base layers a layer) (run.RefusesLayer base layers a layer) (f l)) (targets c.target layers) (layers_at s (target_numbers c.target layers))
+  pub count : (layer : Layer) (l : StateLayer) → LayerShows v layer l → (outs : List StateLayer) → f l ≡ Ok outs → length outs ≡ run.output_count a layer
+
+module _ (v : View) (base : Base) (layers : List Held) (sources : SourceLayers) (s : State) (h : StateShows v layers s) (c : Command) (a : LayerAction) (does_each : c.action ≡ does.Each a) (f : StateLayer → Outputs) (alike : IsAlike v base layers sources s c a f) where
+  abbrev ns : List ℕ
+  ns = target_numbers c.target layers
+
+  abbrev ts : List Layer
+  ts = targets c.target layers
+
+  abbrev ls : List StateLayer
+  ls = layers_at s ns
+
+  abbrev Made : Layer → List Layer → Type 0
+  Made layer made = PutsOut base layers a layer made
+
+  abbrev Refuses : Layer → Option RefuseWhy → Type 0
+  Refuses layer refusal = run.RefusesLayer base layers a layer refusal
+
+  -- where neither the source nor the kinds are refused
+  at_work : (answer : Result (List (List StateLayer)) state.RefuseWhy) → has_target c.target layers ≡ true → run.refused_source base.sources layers a ≡ None → run.refused_kinds base.sources layers a ts ≡ None → each_layer f ls ≡ answer →
+      step (plane_of v) v.answers sources s c ≡ stepped (on_ok answer (put s c ns))
+  at_work answer there source kinds is =
+      let no_source : refused_source sources s (does.Each a) ≡ None = alike.source ∙ ap (option_map why_of) source in
+      let no_kinds : unfit sources s (does.Each a) ls ≡ None = alike.kinds ∙ ap (option_map why_of) kinds in
+      let made = alike.outputs no_source ls ∙ is in
+      step_by v sources s c (does.Each a) does_each (λ n. refl) ns ((targets_show v layers s h c.target).there there)
+      ∙ (λ i. stepped (changed_by s c ns (no_source i) (no_kinds i) (made i)))
+
+  -- the outputs for the layers of a target, with what is made of them before they have a name
+  made_titled : (outputs : List (List Layer)) → AllZip (PutsFor base layers c a) layers outputs → AllZip (MakesTitled v c.name Made Refuses f) ts (target_outputs c.target layers outputs)
+  made_titled outputs puts =
+      zip_weaker (Titles base layers c a) (MakesTitled v c.name Made Refuses f) (λ layer out titles. record { made = titles.made; makes = titles.puts; are = titles.titled }) ts (target_outputs c.target layers outputs) (targets_put base layers c a layers outputs puts)
+
+  only_alike : AllZip (λ (layer : Layer) (l : StateLayer). LayerAlike v (Made layer) (Refuses layer) (f l)) ts ls
+  only_alike = zip_weaker (λ (layer : Layer) (l : StateLayer). LayerShows v layer l × LayerAlike v (Made layer) (Refuses layer) (f l)) (λ (layer : Layer) (l : StateLayer). LayerAlike v (Made layer) (Refuses layer) (f l)) (λ layer l pair. pair.1) ts ls alike.pairs
+
+  goes_on : run.RefusesEach base layers c a None → (after : List Held) → ChangesEach base c a layers after → StepGives v sources s c after
+  goes_on none after changes =
+      let (target, source, kinds) = none_of_three (run.refused_target c.target layers) (run.refused_source base.sources layers a) (run.refused_kinds base.sources layers a ts) none.0 in
+      let (outs, is, shown) = outputs_show v c.name Made Refuses f ts ls only_alike (target_outputs c.target layers changes.outputs) (made_titled changes.outputs changes.puts) in
+      let placed = placed_outputs_show v layers s h c changes.outputs (map (map (titled c.name)) outs) (record { show = shown; all = others_put base layers c a layers changes.outputs changes.puts }) in
+      let few : length (places.placed c layers changes.outputs) ≤ 1000 = subst (λ (held : List Held). length held ≤ 1000) changes.placed changes.few in
+      let (t, put_out, shows) = placed.few few in
+      (t, at_work (Ok outs) (target_there (has_target c.target layers) target) source kinds is ∙ ap (stepped) put_out, subst (λ (held : List Held). StateShows v held t) (sym changes.placed) shows)
+
+  -- before it works
+  unfit_stops : (why : RefuseWhy) → First why (run.refused_target c.target layers) (run.refused_source base.sources layers a) (run.refused_kinds base.sources layers a ts) → StepRefuses v sources s c why
+  unfit_stops why (is_first target) =
+      let absent = target_absent (has_target c.target layers) why target in
+      step_refused v sources s c (does.Each a) does_each (λ n. refl) no_layer ((targets_show v layers s h c.target).absent absent.0) ∙ ap (λ (w : RefuseWhy). Err (why_of w)) absent.1
+  unfit_stops why (is_second target source) =
+      let first : refused_source sources s (does.Each a) ≡ Some (why_of why) = alike.source ∙ ap (option_map why_of) source in
+      step_by v sources s c (does.Each a) does_each (λ n. refl) ns ((targets_show v layers s h c.target).there (target_there (has_target c.target layers) target))
+      ∙ ap (λ (r : Option state.RefuseWhy). stepped (changed_by s c ns r (unfit sources s (does.Each a) ls) (outputs_of (plane_of v) v.answers sources s (does.Each a) ls))) first
+  unfit_stops why (is_third target source kinds) =
+      let first : refused_source sources s (does.Each a) ≡ None = alike.source ∙ ap (option_map why_of) source in
+      let second : unfit sources s (does.Each a) ls ≡ Some (why_of why) = alike.kinds ∙ ap (option_map why_of) kinds in
+      step_by v sources s c (does.Each a) does_each (λ n. refl) ns ((targets_show v layers s h c.target).there (target_there (has_target c.target layers) target))
+      ∙ (λ i. stepped (changed_by s c ns (first i) (second i) (outputs_of (plane_of v) v.answers sources s (does.Each a) ls)))
+
+  -- at work, for a layer of the target or for the number of layers
+  work_stops : (why : RefuseWhy) → has_target c.target layers ≡ true → run.refused_source base.sources layers a ≡ None → run.refused_kinds base.sources layers a ts ≡ None → run.FailsEach base layers c a (Some why) → StepRefuses v sources s c why
+  work_stops why there source kinds (inl layer) = at_work (Err (why_of why)) there source kinds (first_stops v c.name Made Refuses f ts ls only_alike why layer)
+  work_stops why there source kinds (inr (layer, count)) =
+      let many = too_many_told (nat_lt 1000 (run.stay_count c layers + sum_by (run.output_count a) ts)) why count in
+      let (outs, is, long, sum) = none_stops v c.name Made Refuses f (run.output_count a) alike.count ts ls alike.pairs layer in
+      let named : List (List StateLayer) = map (map (titled c.name)) outs in
+      let as_many : length named ≡ length ts = length-map outs (map (titled c.name)) ∙ long in
+      let left = placed_long v layers s h c.target c.keep named as_many in
+      let put_out : length (joined_up named) ≡ sum_by (run.output_count a) ts = joined_long (titled c.name) outs ∙ sum in
+      let past : 1000 < run.stay_count c layers + sum_by (run.output_count a) ts = ltb-true 1000 (run.stay_count c layers + sum_by (run.output_count a) ts) many.0 in
+      let more : 1000 < length (placed s c.keep ns named) = omega (arith, left, put_out, past) in
+      at_work (Ok outs) there source kinds is
+      ∙ ap (λ (b : Bool). stepped (counted (placed s c.keep ns named) b)) (lt-ltb 1000 (length (placed s c.keep ns named)) more)
+      ∙ ap (λ (w : RefuseWhy). Err (why_of w)) many.1
+
+  stops : (why : RefuseWhy) → run.RefusesEach base layers c a (Some why) → StepRefuses v sources s c why
+  stops why (inl before) = unfit_stops why (which why (run.refused_target c.target layers) (run.refused_source base.sources layers a) (run.refused_kinds base.sources layers a ts) before)
+  stops why (inr (none, fails)) =
+      let (target, source, kinds) = none_of_three (run.refused_target c.target layers) (run.refused_source base.sources layers a) (run.refused_kinds base.sources layers a ts) none in
+      work_stops why (target_there (has_target c.target layers) target) source kinds fails
+
+  pub step_shows : StepShows v base layers sources s c a
+  step_shows = record { goes = goes_on; refused = stops }

@@ -1,0 +1,6 @@
+-- The law is proved by itself.
+use Rattle.state_laws.proofs.Empty.{emptiness_shows}
+use Rattle.state_laws.proofs.emptiness_shows.Goals as goal
+
+pub returns : goal.returns
+returns c = emptiness_shows

@@ -1,0 +1,6 @@
+-- The law is proved by itself.
+use Rattle.state_laws.proofs.TableCommands.{joins_show}
+use Rattle.state_laws.proofs.joins_show.Goals as goal
+
+pub returns : goal.returns
+returns c = joins_show

@@ -1,0 +1,6 @@
+-- The law is proved by itself.
+use Rattle.state_laws.proofs.Empty.{left_features_show}
+use Rattle.state_laws.proofs.left_features_show.Goals as goal
+
+pub returns : goal.returns
+returns c = left_features_show

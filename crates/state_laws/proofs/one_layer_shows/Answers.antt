@@ -1,0 +1,6 @@
+-- The law is proved by itself.
+use Rattle.state_laws.proofs.Targeting.{one_layer_shows}
+use Rattle.state_laws.proofs.one_layer_shows.Goals as goal
+
+pub returns : goal.returns
+returns c = one_layer_shows

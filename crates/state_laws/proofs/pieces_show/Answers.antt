@@ -1,0 +1,6 @@
+-- The law is proved by itself.
+use Rattle.state_laws.proofs.Splitting.{pieces_are_shown}
+use Rattle.state_laws.proofs.pieces_show.Goals as goal
+
+pub returns : goal.returns
+returns c = pieces_are_shown

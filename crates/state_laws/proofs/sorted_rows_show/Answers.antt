@@ -1,0 +1,6 @@
+-- The law is proved by itself.
+use Rattle.state_laws.proofs.TableCommands.{sorted_rows_show}
+use Rattle.state_laws.proofs.sorted_rows_show.Goals as goal
+
+pub returns : goal.returns
+returns c = sorted_rows_show

@@ -1,0 +1,64 @@
+-- Laws of steps: the state after a command on the tables of its layers, and why it is refused.
+use Rattle.std.specs.Prelude.{◌≡◌, Bool, true, false, ⊤, List, All, Some, None, Ok, Err}
+use Rattle.cmd_words.specs.declared.job.Action.TheVariants as does
+use Rattle.cmd_words.specs.declared.job.Command.{Command}
+use Rattle.cmd_words.specs.declared.job.JointAction.TheVariants as joint
+use Rattle.cmd_words.specs.declared.job.LayerAction.{LayerAction}
+use Rattle.cmd_words.specs.declared.job.LayerAction.TheVariants as action
+use Rattle.run_plane.specs.declared.layer.Layer.{Layer}
+use Rattle.run_state.specs.Origins.{Base}
+use Rattle.run_state.specs.Targets.{targets}
+use Rattle.run_state.specs.declared.refusal.RefuseWhy.{RefuseWhy}
+use Rattle.run_state.specs.declared.state.Held.{Held}
+use Rattle.run_steps.specs.Commands.{ChangesEach, ChangesTogether}
+use Rattle.run_steps.specs.Refusals.{RefusesEach, refusal_together}
+use Rattle.chain_model.specs.State.{State}
+use Rattle.chain_model.specs.Steps.{step}
+use Rattle.chain_model.specs.Targets.{SourceLayers}
+use Rattle.state_laws.specs.Shown.{View, IsView, SourcesShow, StateShows, plane_of}
+use Rattle.state_laws.specs.Reasons.{why_of}
+use Rattle.state_laws.specs.Tables.{CanNamePieces}
+
+-- the state's step gives a state that these layers show
+abbrev pub StepGives : View → SourceLayers → State → Command → List Held → Type 0
+StepGives v sources s c after = (t : State) × (step (plane_of v) v.answers sources s c ≡ Ok (record { state = t; written = None })) × StateShows v after t
+
+-- or is refused for the reason that the run has
+abbrev pub StepRefuses : View → SourceLayers → State → Command → RefuseWhy → Type 0
+StepRefuses v sources s c why = step (plane_of v) v.answers sources s c ≡ Err (why_of why)
+
+-- a command that changes each layer of its target shows that of the state: so is the state after it, and both refuse for the same reason
+pub record StepShows (v : View) (base : Base) (layers : List Held) (sources : SourceLayers) (s : State) (c : Command) (a : LayerAction) : Type 0 where
+  pub goes : RefusesEach base layers c a None → (after : List Held) → ChangesEach base c a layers after → StepGives v sources s c after
+  pub refused : (why : RefuseWhy) → RefusesEach base layers c a (Some why) → StepRefuses v sources s c why
+
+-- the command works on rows and columns
+abbrev pub is_on_tables : LayerAction → Bool
+is_on_tables (action.Join from spec) = true
+is_on_tables (action.Filter test invert remove_empty) = true
+is_on_tables (action.FilterFields fields) = true
+is_on_tables (action.RenameFields pairs) = true
+is_on_tables (action.Split field) = true
+is_on_tables (action.Each assigns) = true
+is_on_tables (action.Sort key descending) = true
+is_on_tables (action.Uniq key most invert) = true
+is_on_tables _ = false
+
+-- the pieces of the layers that it splits can be named
+abbrev pub CanName : LayerAction → List Layer → Type 0
+CanName (action.Split field) layers = All (λ (layer : Layer). CanNamePieces layer.table field) layers
+CanName _ layers = ⊤
+
+abbrev pub TableStepsShow : Type 0
+TableStepsShow = (v : View) → IsView v → (base : Base) (sources : SourceLayers) → SourcesShow v base.sources sources → (layers : List Held) (s : State) → StateShows v layers s →
+    (c : Command) (a : LayerAction) → c.action ≡ does.Each a → is_on_tables a ≡ true → CanName a (targets c.target layers) → StepShows v base layers sources s c a
+
+-- ---- a command that merges the layers of its target
+
+pub record MergeStepShows (v : View) (base : Base) (layers : List Held) (sources : SourceLayers) (s : State) (c : Command) (force : Bool) : Type 0 where
+  pub goes : refusal_together layers c (joint.MergeLayers force) ≡ None → (after : List Held) → ChangesTogether base c (joint.MergeLayers force) layers after → StepGives v sources s c after
+  pub refused : (why : RefuseWhy) → refusal_together layers c (joint.MergeLayers force) ≡ Some why → StepRefuses v sources s c why
+
+abbrev pub MergeStepsShow : Type 0
+MergeStepsShow = (v : View) (base : Base) (sources : SourceLayers) (layers : List Held) (s : State) → StateShows v layers s → (c : Command) (force : Bool) → c.action ≡ does.Together (joint.MergeLayers force) →
+    MergeStepShows v base layers sources s c force

@@ -1,0 +1,138 @@
+//! Laws of states: the layers that a run holds show the layers of a state, and what each command makes of them shows what
+//! its definition makes of the state.
+//!
+//! A run holds sets of faces, signed arcs and points; a state has regions, paths and points. `specs/Shown.antt` says when
+//! the ones show the others: rows, names and kinds are the same, sets of faces follow regions, arcs run along paths.
+//! `specs/Reasons.antt` says when a refusal of a run is that of the state.
+//!
+//! - Features that are taken by their numbers show those that are taken of the state's layer (`taken_features_show`). A
+//!   shape is empty exactly if what it shows is (`emptiness_shows`), so the same features are left out
+//!   (`left_features_show`).
+//! - Commands on rows and columns: `fields_show`, `new_names_show`, `joins_show`, `assigned_fields_show`,
+//!   `sorted_rows_show`, `early_rows_show`, `filtered_rows_show`, `pieces_show` and `merged_layers_show`. The pieces of a
+//!   split by a field are named alike where the plain texts of its values are UTF-8 (`pieces_are_named`).
+//! - A command works on the same layers (`targets_show`), takes the same ones from elsewhere (`origins_show`,
+//!   `one_layer_shows`), and its outputs go to the same places (`placed_outputs_show`). The first has all layers for its
+//!   target (`first_layers_show`).
+//! - So the step of a command on the tables of its layers shows that of the state (`table_steps_show`), and so does that of
+//!   one that merges them (`merge_steps_show`).
+//!
+//! Each function carries one law in its contract, and does nothing.
+#![tactic(auto)]
+
+ghost use Rattle.state_laws.specs.Placing.{PlacedOutputsShow};
+ghost use Rattle.state_laws.specs.Steps.{MergeStepsShow, TableStepsShow};
+ghost use Rattle.state_laws.specs.Tables.{
+  AssignedFieldsShow,
+  EarlyRowsShow,
+  FieldsShow,
+  FilteredRowsShow,
+  JoinsShow,
+  MergedLayersShow,
+  NewNamesShow,
+  PiecesAreNamed,
+  PiecesShow,
+  SortedRowsShow,
+};
+ghost use Rattle.state_laws.specs.Taken.{EmptinessShows, LeftFeaturesShow, TakenFeaturesShow};
+ghost use Rattle.state_laws.specs.Targets.{FirstLayersShow, OneLayerShows, OriginsShow, TargetsShow};
+
+/// Features that are taken by their numbers show those that are taken of the state's layer.
+pub fn taken_features_show()
+    ensures { TakenFeaturesShow }
+{}
+
+/// A shape is empty exactly if the shape that it shows is.
+pub fn emptiness_shows()
+    ensures { EmptinessShows }
+{}
+
+/// A layer with other shapes, without the empty ones, shows what is left of the state's layer.
+pub fn left_features_show()
+    ensures { LeftFeaturesShow }
+{}
+
+/// Kept columns show those that are kept of the state's table.
+pub fn fields_show()
+    ensures { FieldsShow }
+{}
+
+/// Columns under other names show those of the state.
+pub fn new_names_show()
+    ensures { NewNamesShow }
+{}
+
+/// A join by keys shows that of the state's layers.
+pub fn joins_show()
+    ensures { JoinsShow }
+{}
+
+/// Fields that are assigned show those that are assigned in the state's layer.
+pub fn assigned_fields_show()
+    ensures { AssignedFieldsShow }
+{}
+
+/// Features in the order of their keys show those of the state.
+pub fn sorted_rows_show()
+    ensures { SortedRowsShow }
+{}
+
+/// Features whose key few before them have show those of the state.
+pub fn early_rows_show()
+    ensures { EarlyRowsShow }
+{}
+
+/// Features that pass a filter show those that pass it in the state.
+pub fn filtered_rows_show()
+    ensures { FilteredRowsShow }
+{}
+
+/// Pieces of one row can be named, and others where all plain texts are UTF-8.
+pub fn pieces_are_named()
+    ensures { PiecesAreNamed }
+{}
+
+/// The pieces of a layer show those of the state's layer.
+pub fn pieces_show()
+    ensures { PiecesShow }
+{}
+
+/// Layers that are merged show the state's layers merged.
+pub fn merged_layers_show()
+    ensures { MergedLayersShow }
+{}
+
+/// A target has the layers that it selects in the state, or both refuse it.
+pub fn targets_show()
+    ensures { TargetsShow }
+{}
+
+/// The layers that a command takes from elsewhere show those that it takes in the state.
+pub fn origins_show()
+    ensures { OriginsShow }
+{}
+
+/// One layer among several is found, or refused, as in the state.
+pub fn one_layer_shows()
+    ensures { OneLayerShows }
+{}
+
+/// The layers with which the commands begin show the first state.
+pub fn first_layers_show()
+    ensures { FirstLayersShow }
+{}
+
+/// The outputs of a command go to the places to which they go in the state.
+pub fn placed_outputs_show()
+    ensures { PlacedOutputsShow }
+{}
+
+/// The step of a command on the tables of its layers shows that of the state.
+pub fn table_steps_show()
+    ensures { TableStepsShow }
+{}
+
+/// The step of a command that merges the layers of its target shows that of the state.
+pub fn merge_steps_show()
+    ensures { MergeStepsShow }
+{}
