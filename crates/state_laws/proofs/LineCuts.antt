@@ -14,7 +14,7 @@ use Rattle.line_ops.specs.Runs.{ended, runs_after, runs_where}
 use Rattle.region_model.specs.Region.{Region}
 use Rattle.region_model.specs.LineCommands.{clipped_path, clipped_points, erased_path, erased_points}
 use Rattle.line_laws.specs.Linked.{AreLinked, AreThere}
-use Rattle.line_laws.specs.Regions.{AreFacesOf, IsToldOf}
+use Rattle.line_laws.specs.Regions.{IsToldOf}
 use Rattle.line_laws.proofs.ByRegions.{paths_cut_by_regions, points_cut_by_regions}
 use Rattle.line_laws.proofs.LinkedArcs.{runs_are_linked}
 use Rattle.run_plane.specs.OnPlane.{list_on}
@@ -33,6 +33,7 @@ use Rattle.state_laws.specs.Lines.{ClippedLinesShow, ErasedLinesShow, IsSeenIn}
 use Rattle.state_laws.proofs.Empty.{left_features_show}
 use Rattle.state_laws.proofs.OnPlane.{list_stays}
 use Rattle.state_laws.proofs.TableCommands.{one_shows}
+use Rattle.state_laws.proofs.Views.{view_faces}
 use Rattle.state_laws.proofs.Zipped.{zip_long}
 
 -- ---- runs of what is there
@@ -85,9 +86,6 @@ not_zipped R (x ∷ xs) (b ∷ answers) z = (z.0, not_zipped R xs answers z.1)
 -- ---- shapes
 
 module _ (v : View) (view : IsView v) (plane : Plane) (seen : IsSeenIn v plane) (area : List ℕ) (r : Region) (shows : FacesShow v area r) where
-  faces_of : AreFacesOf v.drawing v.arcs v.faces v.label
-  faces_of = record { table = view.walked.table; built = view.walked.built; by_face = view.walked.labelled }
-
   told_of : IsToldOf v.drawing v.arcs v.label v.answers area r
   told_of = record { follows = shows.follows; sides = view.right.sides r }
 
@@ -109,7 +107,7 @@ module _ (v : View) (view : IsView v) (plane : Plane) (seen : IsSeenIn v plane) 
 
   runs_show : (k : CutKeeps) (named : List (List SignedArc)) (paths : List Path) → ArcsShow v named paths → LineShows v (shape.Paths (cut_runs k named)) (cut_shape k (state.paths paths))
   runs_show keeps.Inside named paths h =
-      let cut = paths_cut_by_regions v.drawing v.arcs v.faces v.label faces_of v.answers area r told_of named h.there h.linked in
+      let cut = paths_cut_by_regions v.drawing v.arcs v.faces v.label (view_faces v view) v.answers area r told_of named h.there h.linked in
       record {
         named = cut_runs keeps.Inside named;
         paths = flat_map (clipped_path v.answers r) paths;
@@ -118,7 +116,7 @@ module _ (v : View) (view : IsView v) (plane : Plane) (seen : IsSeenIn v plane) 
         shows = record { there = runs_there keeps.Inside named h.there; linked = runs_link keeps.Inside named h.linked; along = ap (flat_map (clipped_path v.answers r)) h.along ∙ sym cut.0 };
       }
   runs_show keeps.Outside named paths h =
-      let cut = paths_cut_by_regions v.drawing v.arcs v.faces v.label faces_of v.answers area r told_of named h.there h.linked in
+      let cut = paths_cut_by_regions v.drawing v.arcs v.faces v.label (view_faces v view) v.answers area r told_of named h.there h.linked in
       record {
         named = cut_runs keeps.Outside named;
         paths = flat_map (erased_path v.answers r) paths;
@@ -138,7 +136,7 @@ module _ (v : View) (view : IsView v) (plane : Plane) (seen : IsSeenIn v plane) 
 
   inside_told : (points : List GridPoint) → AreVertices v points → (answers : List Bool) → AllZip (λ (p : GridPoint) (inside : Bool). IsInsideAt plane.arcs plane.faces p area inside) points answers → answers ≡ map (v.answers.inside r) points
   inside_told points vertices answers each =
-      points_cut_by_regions v.drawing v.arcs v.faces v.label faces_of v.answers area r shows.follows (view.right.inside r) points vertices answers
+      points_cut_by_regions v.drawing v.arcs v.faces v.label (view_faces v view) v.answers area r shows.follows (view.right.inside r) points vertices answers
       (subst (λ (faces : FaceTable). AllZip (λ (p : GridPoint) (inside : Bool). IsInsideAt v.arcs faces p area inside) points answers) seen.faces
       (subst (λ (arcs : List Path). AllZip (λ (p : GridPoint) (inside : Bool). IsInsideAt arcs plane.faces p area inside) points answers) seen.arcs each))
 

@@ -24,7 +24,7 @@ use Rattle.region_model.specs.Region.{Region, any_of}
 use Rattle.region_model.specs.LineCommands as model
 use Rattle.region_model.specs.LineCommands.{differs, holders_left, holders_right, inner_lines, on_left, on_right, outer_and_inner, side_of_first}
 use Rattle.line_laws.specs.Lines.{AreLabelled}
-use Rattle.line_laws.specs.Regions.{AreBordersOf, AreFacesOf, IsToldOf}
+use Rattle.line_laws.specs.Regions.{AreBordersOf, IsToldOf}
 use Rattle.line_laws.proofs.ArcsBetween.{arcs_between_sets}
 use Rattle.line_laws.proofs.Borders.{borders_are_of_regions}
 use Rattle.line_laws.proofs.LinkSides.{drawings_are_labelled}
@@ -47,6 +47,7 @@ use Rattle.state_laws.proofs.Below.{behind_refusal}
 use Rattle.state_laws.proofs.LineGroups.{one_linked, one_there}
 use Rattle.state_laws.proofs.OnPlane.{sets_show}
 use Rattle.state_laws.proofs.TableCommands.{one_shows}
+use Rattle.state_laws.proofs.Views.{view_faces}
 use Rattle.state_laws.proofs.Zipped.{zip_at, zip_long}
 
 -- ---- lists
@@ -119,9 +120,6 @@ module _ (t : TableContent) (fields : List Content) where
 -- ---- arcs between the sets of regions
 
 module _ (v : View) (view : IsView v) where
-  faces_of : AreFacesOf v.drawing v.arcs v.faces v.label
-  faces_of = record { table = view.walked.table; built = view.walked.built; by_face = view.walked.labelled }
-
   among_all : (regions : List Region) → All (AreAmong (length regions)) (outer_and_inner (plane_of v) v.answers regions)
   among_all regions k d l =
       let all : List model.SidedArc = model.sided_arcs (plane_of v) v.answers regions in
@@ -167,7 +165,7 @@ module _ (v : View) (view : IsView v) where
     all_sided = sided_among v.faces sets (length v.arcs)
 
     sided_told : AreBordersOf (plane_of v) v.answers regions v.arcs all_sided
-    sided_told = borders_are_of_regions v.drawing v.arcs v.faces v.label faces_of v.answers sets regions (sym (zip_long (FacesShow v) sets regions shows)) told (plane_of v) refl
+    sided_told = borders_are_of_regions v.drawing v.arcs v.faces v.label (view_faces v view) v.answers sets regions (sym (zip_long (FacesShow v) sets regions shows)) told (plane_of v) refl
       where
         told : (i : ℕ) → i < length sets → IsToldOf v.drawing v.arcs v.label v.answers (get_or sets i []) (get_or regions i (any_of []))
         told i l = record { follows = (zip_at (FacesShow v) sets regions shows i [] (any_of []) l).follows; sides = view.right.sides (get_or regions i (any_of [])) }

@@ -12,7 +12,6 @@ use Rattle.spatial_join.specs.Joined.{join_matched}
 use Rattle.spatial_join.specs.Matches.{AreMatchedPoints, AreMatchedSets}
 use Rattle.region_model.specs.Region.{Region}
 use Rattle.region_model.specs.PlaceCommands.{around_points, points_inside}
-use Rattle.line_laws.specs.Regions.{AreFacesOf}
 use Rattle.place_laws.specs.Matched.{IsToldInside}
 use Rattle.place_laws.proofs.MatchLaws.{points_are_matched, sets_are_matched}
 use Rattle.run_plane.specs.OnPlane.{points_in}
@@ -28,12 +27,10 @@ use Rattle.state_laws.specs.Lines.{IsSeenIn}
 use Rattle.state_laws.specs.Places.{PlaceJoinsShow}
 use Rattle.state_laws.proofs.OnPlane.{sets_show}
 use Rattle.state_laws.proofs.TableCommands.{tables_show}
+use Rattle.state_laws.proofs.Views.{view_faces}
 use Rattle.state_laws.proofs.Zipped.{zip_same, zip_weaker}
 
 module _ (v : View) (view : IsView v) (plane : Plane) (seen : IsSeenIn v plane) where
-  faces_of : AreFacesOf v.drawing v.arcs v.faces v.label
-  faces_of = record { table = view.walked.table; built = view.walked.built; by_face = view.walked.labelled }
-
   abbrev SetTold : List ℕ → Region → Type 0
   SetTold set r = IsToldInside v.drawing v.arcs v.label v.answers set r
 
@@ -81,7 +78,7 @@ module _ (v : View) (view : IsView v) (plane : Plane) (seen : IsSeenIn v plane) 
   module _ (held others : List Shape) (shapes other_shapes : List state.Shape) (matches : List (List ℕ)) where
     polygons_matched : AllZip (PolygonShows v) held shapes → AllZip (PointsShow v) others other_shapes → AreMatchedSets plane.arcs plane.faces (point_lists others) (sets_on plane held) matches → matches ≡ map (matched_of other_shapes) shapes
     polygons_matched show other_show are =
-        sets_are_matched v.drawing v.arcs v.faces v.label faces_of v.answers (sets_on plane held) (map state.region_of shapes) (sets_told held shapes show) (point_lists others) (points_there others other_shapes other_show) matches
+        sets_are_matched v.drawing v.arcs v.faces v.label (view_faces v view) v.answers (sets_on plane held) (map state.region_of shapes) (sets_told held shapes show) (point_lists others) (points_there others other_shapes other_show) matches
         (subst (λ (faces : FaceTable). AreMatchedSets v.arcs faces (point_lists others) (sets_on plane held) matches) seen.faces
         (subst (λ (arcs : List Path). AreMatchedSets arcs plane.faces (point_lists others) (sets_on plane held) matches) seen.arcs are))
         ∙ ap (λ (points : List Path). map (points_inside v.answers points) (map state.region_of shapes)) (points_same others other_shapes other_show)
@@ -89,7 +86,7 @@ module _ (v : View) (view : IsView v) (plane : Plane) (seen : IsSeenIn v plane) 
 
     points_matched : AllZip (PointsShow v) held shapes → AllZip (PolygonShows v) others other_shapes → AreMatchedPoints plane.arcs plane.faces (point_lists held) (sets_on plane others) matches → matches ≡ map (matched_of other_shapes) shapes
     points_matched show other_show are =
-        points_are_matched v.drawing v.arcs v.faces v.label faces_of v.answers (sets_on plane others) (map state.region_of other_shapes) (sets_told others other_shapes other_show) (point_lists held) (points_there held shapes show) matches
+        points_are_matched v.drawing v.arcs v.faces v.label (view_faces v view) v.answers (sets_on plane others) (map state.region_of other_shapes) (sets_told others other_shapes other_show) (point_lists held) (points_there held shapes show) matches
         (subst (λ (faces : FaceTable). AreMatchedPoints v.arcs faces (point_lists held) (sets_on plane others) matches) seen.faces
         (subst (λ (arcs : List Path). AreMatchedPoints arcs plane.faces (point_lists held) (sets_on plane others) matches) seen.arcs are))
         ∙ ap (map (around_points v.answers (map state.region_of other_shapes))) (points_same held shapes show)

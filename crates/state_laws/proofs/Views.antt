@@ -33,7 +33,7 @@ use Rattle.region_laws.proofs.Walked.{links_arranged}
 use Rattle.line_laws.specs.Regions.{AreFacesOf}
 use Rattle.line_laws.proofs.Insides.{insides_are_told}
 use Rattle.run_plane.specs.LaidOut.{AreHeldFaces, held_faces}
-use Rattle.state_laws.specs.Shown.{FacesShow, View}
+use Rattle.state_laws.specs.Shown.{View, IsView, FacesShow}
 use Rattle.state_laws.specs.Views.{IsViewOf, ShowEach, ViewsExist}
 
 module _ (d : Drawing) (arcs : List Path) (faces : FaceTable) (label : Place → ℕ) (walked : IsWalked d arcs faces label) (labels : HolderTable) (held : AreHolders arcs (snapped d) faces labels) where
@@ -111,6 +111,10 @@ module _ (d : Drawing) (arcs : List Path) (faces : FaceTable) (label : Place →
     show_boxes : AreHeldFaces labels.boxes faces.count count sets → ShowEach (view_by A) sets box
     show_boxes h n below = subst (λ (set : List ℕ). FacesShow (view_by A) set (box n)) (sym (h.held n (let each = h.each in omega (arith, each, below))))
         (faces_show A labels.boxes n (no_box n) (box n) (boxes_are_followed d arcs faces label walked labels held n (held_faces labels.boxes faces.count n) (held_with A labels.boxes n (no_box n))))
+
+-- the faces of a view
+pub view_faces : (v : View) → IsView v → AreFacesOf v.drawing v.arcs v.faces v.label
+view_faces v view = record { table = view.walked.table; built = view.walked.built; by_face = view.walked.labelled }
 
 pub views_exist : ViewsExist
 views_exist d arcs faces boxes features paths laid = go (each_table_has_labels (links_of (snapped d)) (links_arranged d) arcs laid.are_arcs.links faces)
