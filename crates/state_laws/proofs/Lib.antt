@@ -14,3 +14,8 @@ pub mod LayerKinds
 pub mod Stepping
 pub mod TableSteps
 pub mod MergeStep
+pub mod PolygonSets
+pub mod PolygonCuts
+pub mod PolygonGroups
+pub mod PolygonCleaning
+pub mod PolygonParts

@@ -5,3 +5,4 @@ pub mod Steps
 pub mod Tables
 pub mod Taken
 pub mod Targets
+pub mod Polygons
