@@ -19,3 +19,5 @@ pub mod PolygonCuts
 pub mod PolygonGroups
 pub mod PolygonCleaning
 pub mod PolygonParts
+pub mod PolygonNames
+pub mod PolygonUnion

@@ -1,8 +1,10 @@
 -- Laws of commands on polygons: what a run makes of the sets of faces of a layer shows what the state's definitions make of the regions that they follow, and both are refused alike.
-use Rattle.std.specs.Prelude.{◌≡◌, ℕ, ◌<◌, Bool, if◌then◌else◌, List, [], slice_index_or, Option, Some, None, Result, Ok, Err}
+use Rattle.std.specs.Prelude.{◌≡◌, ℕ, ◌<◌, ◌^◌, Bool, if◌then◌else◌, List, [], ◌∷◌, length, slice_index_or, Option, Some, None, Result, Ok, Err}
+use Rattle.std.specs.List.{AllZip}
 use Rattle.grid_base.specs.declared.kinds.Kind.TheVariants as kinds
 use Rattle.grid_base.specs.declared.kinds.OverlapRule.{OverlapRule}
 use Rattle.table_terms.specs.declared.specifications.GroupSpec.{GroupSpec}
+use Rattle.table_ops.specs.Merge.{all_names}
 use Rattle.region_model.specs.Region.{Region, box}
 use Rattle.region_model.specs.Answers as model
 use Rattle.region_model.specs.Answers.{Answers}
@@ -19,15 +21,17 @@ use Rattle.run_shapes.specs.Cutting.{IsCut}
 use Rattle.run_shapes.specs.Dissolving.{IsGrouped, refused_dissolve}
 use Rattle.run_shapes.specs.Exploding.{IsExploded}
 use Rattle.run_shapes.specs.FaceSets.{area_of}
+use Rattle.run_shapes.specs.Uniting.{IsUnited, layer_tables}
 use Rattle.run_shapes.specs.declared.cutting.CutKeeps.TheVariants as keeps
-use Rattle.run_steps.specs.Refusals.{refused_area}
+use Rattle.run_steps.specs.Refusals.{refused_alone, refused_area}
 use Rattle.chain_model.specs.Outcome as state
 use Rattle.chain_model.specs.State.{State, StateLayer, region_at, without_empty}
-use Rattle.chain_model.specs.Features.{Outputs, clean_layer, clip_layer, count_of, dissolve_layer, erase_layer, explode_layer, just, mosaic_layer, shapes_by}
+use Rattle.chain_model.specs.Features.{Outputs, clean_layer, clip_layer, count_of, dissolve_layer, erase_layer, explode_layer, just, mosaic_layer, shapes_by, united_layers}
 use Rattle.chain_model.specs.Steps.{source_region}
 use Rattle.chain_model.specs.Targets.{SourceLayers}
 use Rattle.state_laws.specs.Shown.{View, IsView, FacesShow, LayerShows, SourcesShow, StateShows, plane_of}
-use Rattle.state_laws.specs.Reasons.{MakesAlike, why_of}
+use Rattle.state_laws.specs.Reasons.{MakesAlike, RefusedAlike, why_of}
+use Rattle.state_laws.specs.Tables.{MergedShows}
 
 -- a run's plane has the arcs and the faces of the view, and the faces that a box holds show the box: none, past the last
 pub record IsSeenIn (v : View) (plane : Plane) : Type 0 where
@@ -92,3 +96,18 @@ MosaicsShow = (v : View) → IsView v → (plane : Plane) → IsSeenIn v plane �
 
 abbrev pub ExplodedPolygonsShow : Type 0
 ExplodedPolygonsShow = (v : View) → IsView v → (plane : Plane) → IsSeenIn v plane → (layer : Layer) (l : StateLayer) → PolygonsShow v layer l → MakesAlike v (One (IsExploded plane layer)) None (explode_layer (plane_of v) v.answers l)
+
+-- ---- union
+
+-- the columns of all layers are few enough to be numbered
+abbrev pub HasFewColumns : List Layer → Type 0
+HasFewColumns layers = length (all_names (layer_tables layers)) < 2 ^ 63
+
+-- the union is put out for the first layer, and nothing for the others
+abbrev pub UnitedLayersShow : Type 0
+UnitedLayersShow = (v : View) → IsView v → (plane : Plane) → IsSeenIn v plane → (first second : Layer) (layers : List Layer) (ls : List StateLayer) → AllZip (PolygonsShow v) (first ∷ second ∷ layers) ls →
+    HasFewColumns (first ∷ second ∷ layers) → (made : Layer) → IsUnited plane (first ∷ second ∷ layers) made → MergedShows v made (second ∷ layers) (united_layers (plane_of v) v.answers ls)
+
+-- one layer alone is refused, and no others
+abbrev pub LoneLayersAreRefused : Type 0
+LoneLayersAreRefused = (v : View) (layers : List Layer) (ls : List StateLayer) → AllZip (LayerShows v) layers ls → RefusedAlike (refused_alone layers) (united_layers (plane_of v) v.answers ls)

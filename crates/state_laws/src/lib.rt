@@ -21,7 +21,7 @@
 #![tactic(auto)]
 
 ghost use Rattle.state_laws.specs.Placing.{PlacedOutputsShow};
-ghost use Rattle.state_laws.specs.Polygons.{AreasShow, CleanedPolygonsShow, ClippedPolygonsShow, DissolvedPolygonsShow, ErasedPolygonsShow, ExplodedPolygonsShow, FilledPolygonsShow, MosaicsShow};
+ghost use Rattle.state_laws.specs.Polygons.{AreasShow, CleanedPolygonsShow, ClippedPolygonsShow, DissolvedPolygonsShow, ErasedPolygonsShow, ExplodedPolygonsShow, FilledPolygonsShow, LoneLayersAreRefused, MosaicsShow, UnitedLayersShow};
 ghost use Rattle.state_laws.specs.Steps.{MergeStepsShow, TableStepsShow};
 ghost use Rattle.state_laws.specs.Tables.{
   AssignedFieldsShow,
@@ -176,4 +176,14 @@ pub fn mosaics_show()
 /// Polygons in pieces show those of the state.
 pub fn exploded_polygons_show()
     ensures { ExplodedPolygonsShow }
+{}
+
+/// Layers that are united show the state's layers united.
+pub fn united_layers_show()
+    ensures { UnitedLayersShow }
+{}
+
+/// One layer alone is not united, as in the state.
+pub fn lone_layers_are_refused()
+    ensures { LoneLayersAreRefused }
 {}
