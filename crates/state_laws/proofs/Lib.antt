@@ -21,3 +21,4 @@ pub mod PolygonCleaning
 pub mod PolygonParts
 pub mod PolygonNames
 pub mod PolygonUnion
+pub mod PolygonSteps

@@ -1,5 +1,5 @@
 -- Polygons that are cleaned.
-use Rattle.std.proofs.Common.{◌≡◌, refl, sym, ap, ◌∙◌, subst, arith, ℕ, zero, suc, ◌<◌, Bool, true, false, not, List, [], ◌∷◌, length, map, filter, get_or, All, None, if◌then◌else◌}
+use Rattle.std.proofs.Common.{◌≡◌, refl, sym, ap, ◌∙◌, subst, arith, ℕ, zero, suc, ◌<◌, Bool, true, false, not, List, [], ◌∷◌, length, All, if◌then◌else◌}
 use Rattle.std.specs.List.{AllZip, range_with_len}
 use Rattle.std.specs.List.Sorted.{IsStrictlyIncreasing}
 use Rattle.std.proofs.lemmas.List.{length-map}
@@ -14,7 +14,7 @@ use Rattle.face_walk.specs.Places.{FaceTable}
 use Rattle.ring_trace.specs.Sets.{IsInnerFace, IsSetOf}
 use Rattle.region_ops.specs.Cleaned.{IsCleaned as AreCleaned, is_lost}
 use Rattle.region_ops.specs.Dissolved.{set_at}
-use Rattle.region_ops.specs.Filled.{IsCleanedAndFilled, IsFilled}
+use Rattle.region_ops.specs.Filled.{IsCleanedAndFilled}
 use Rattle.region_ops.proofs.FillLemmas.{filled_inner}
 use Rattle.region_model.specs.Region.{Region}
 use Rattle.region_model.specs.PolygonCommands.{cleaned, cleaned_and_filled}
@@ -26,12 +26,11 @@ use Rattle.run_plane.specs.declared.layer.Shape.TheVariants as shape
 use Rattle.run_plane.specs.declared.plane.Plane.{Plane}
 use Rattle.run_state.specs.Features.{all_numbers}
 use Rattle.run_state.proofs.TargetLemmas.{whole_table}
-use Rattle.run_tables.specs.Made.{One}
 use Rattle.run_shapes.specs.Cleaning.{IsCleaned}
 use Rattle.run_shapes.specs.FaceSets.{HasSets, face_shapes, sets_on}
 use Rattle.chain_model.specs.State.{StateLayer, region_at, regions_in, without_empty}
 use Rattle.chain_model.specs.Features.{clean_layer, count_of, shapes_by}
-use Rattle.state_laws.specs.Shown.{View, IsView, FacesShow, LayerShows, PolygonShows, ShapeShows, plane_of}
+use Rattle.state_laws.specs.Shown.{View, IsView, FacesShow, LayerShows, ShapeShows, plane_of}
 use Rattle.state_laws.specs.Polygons.{CleanedPolygonsShow, FilledPolygonsShow, IsSeenIn, PolygonsShow, plainly_cleaned}
 use Rattle.state_laws.proofs.Empty.{left_features_show}
 use Rattle.state_laws.proofs.PolygonSets.{all_inner, all_rise, follow_regions, layer_sets, sets_many, shapes_made}

@@ -1,7 +1,6 @@
 -- What polygons are cut by, and what is left of them.
-use Rattle.std.proofs.Common.{◌≡◌, refl, sym, ap, ◌∙◌, subst, ℕ, Bool, not, List, [], ◌∷◌, length, map, All, nat_eq, Option, Some, None, Result, Ok, Err, if◌then◌else◌}
+use Rattle.std.proofs.Common.{◌≡◌, refl, sym, ap, ◌∙◌, subst, ℕ, not, List, [], ◌∷◌, length, map, nat_eq, Option, Some, None, Result, Ok, Err, if◌then◌else◌}
 use Rattle.std.specs.List.{AllZip}
-use Rattle.std.specs.List.Sorted.{IsStrictlyIncreasing}
 use Rattle.std.proofs.lemmas.List.{length-map}
 use Rattle.std.proofs.lemmas.List.Elements.{All-filter}
 use Rattle.std.proofs.lemmas.List.Kept.{IsStrictlyIncreasing-filter}
@@ -24,22 +23,20 @@ use Rattle.run_state.specs.Origins.{Base}
 use Rattle.run_state.specs.Origins as run
 use Rattle.run_state.specs.declared.refusal.RefuseWhy.{RefuseWhy}
 use Rattle.run_state.specs.declared.refusal.RefuseWhy.TheVariants.{WrongKind}
-use Rattle.run_state.specs.declared.state.Held.{Held}
-use Rattle.run_tables.specs.Made.{One}
 use Rattle.run_shapes.specs.Cutting.{AreShapesLeft, IsCut, cut_faces}
-use Rattle.run_shapes.specs.FaceSets.{any_faces, area_of, face_shapes, layer_faces, sets_on}
+use Rattle.run_shapes.specs.FaceSets.{any_faces, face_shapes, layer_faces, sets_on}
 use Rattle.run_shapes.specs.declared.cutting.CutKeeps.{CutKeeps}
 use Rattle.run_shapes.specs.declared.cutting.CutKeeps.TheVariants as keeps
-use Rattle.run_steps.specs.Refusals.{is_polygon, refused_area, refused_polygons}
+use Rattle.run_steps.specs.Refusals.{is_polygon, refused_polygons}
 use Rattle.chain_model.specs.Outcome as outcome
 use Rattle.chain_model.specs.State as state
 use Rattle.chain_model.specs.State.{State, StateLayer, region_of, regions_in, without_empty}
 use Rattle.chain_model.specs.Features.{clip_layer, clip_shape, erase_layer, erase_shape}
-use Rattle.chain_model.specs.Steps.{layer_region, source_region}
+use Rattle.chain_model.specs.Steps.{layer_region}
 use Rattle.chain_model.specs.Targets as targets
 use Rattle.chain_model.specs.Targets.{SourceLayers}
-use Rattle.state_laws.specs.Shown.{View, IsView, FacesShow, LayerShows, PolygonShows, ShapeShows, SourcesShow, StateShows, plane_of}
-use Rattle.state_laws.specs.Reasons.{AnswerShows, MakesAlike, why_of}
+use Rattle.state_laws.specs.Shown.{View, IsView, FacesShow, LayerShows, PolygonShows, ShapeShows, plane_of}
+use Rattle.state_laws.specs.Reasons.{AnswerShows, why_of}
 use Rattle.state_laws.specs.Polygons.{AreaShows, AreasShow, ClippedPolygonsShow, ErasedPolygonsShow, IsSeenIn, PolygonsShow}
 use Rattle.state_laws.proofs.Empty.{left_features_show}
 use Rattle.state_laws.proofs.PolygonSets.{any_shows, is_region, layer_sets, polygons_show, sets_counted}
@@ -48,7 +45,7 @@ use Rattle.state_laws.proofs.Targeting.{one_layer_shows, origins_show}
 
 -- ---- what a command cuts by
 
-abbrev refused_by_kind : Kind → Option RefuseWhy
+abbrev pub refused_by_kind : Kind → Option RefuseWhy
 refused_by_kind k = if is_polygon k then None else Some WrongKind
 
 abbrev region_by_kind : StateLayer → Kind → Result Region outcome.RefuseWhy

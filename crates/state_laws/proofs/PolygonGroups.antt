@@ -1,9 +1,9 @@
 -- Polygons that are dissolved.
-use Rattle.std.proofs.Common.{◌≡◌, refl, sym, ap, ◌∙◌, subst, arith, ℕ, ◌<◌, Bool, not, ◌&&◌, List, [], ◌∷◌, length, map, get_or, All, nat_lt, Option, Some, None, Result, Ok, Err, if◌then◌else◌}
+use Rattle.std.proofs.Common.{◌≡◌, refl, sym, ap, ◌∙◌, subst, arith, ℕ, ◌<◌, Bool, not, ◌&&◌, List, [], ◌∷◌, length, map, get_or, All, nat_lt, Option, Some, Result, Ok, Err, if◌then◌else◌}
 use Rattle.std.specs.List.{AllZip, flat_map}
 use Rattle.std.proofs.lemmas.List.{length-map}
 use Rattle.std.proofs.lemmas.List.Elements.{All-cons, All-head, All-map, All-nil, All-tail}
-use Rattle.lists.specs.Lists.{ascending, numbers_where}
+use Rattle.lists.specs.Lists.{numbers_where}
 use Rattle.lists.proofs.Ascending.{ascending-IsAscending}
 use Rattle.grid_base.specs.declared.kinds.Kind.{Kind}
 use Rattle.grid_base.specs.declared.kinds.Kind.TheVariants as kinds
@@ -34,11 +34,10 @@ use Rattle.run_state.specs.declared.refusal.RefuseWhy.TheVariants.{NoGroupPoints
 use Rattle.run_tables.specs.Made.{One}
 use Rattle.run_shapes.specs.Dissolving.{IsGrouped, grouped_shapes, is_point, refused_dissolve}
 use Rattle.run_shapes.specs.FaceSets.{face_shapes, sets_on}
-use Rattle.chain_model.specs.State as state
 use Rattle.chain_model.specs.State.{StateLayer, region_at, regions_in}
 use Rattle.chain_model.specs.Features.{Outputs, dissolve_layer, dissolved_shape, in_layer, just}
 use Rattle.state_laws.specs.Shown.{View, FacesShow, LayerShows, PolygonShows, ShapeShows, plane_of}
-use Rattle.state_laws.specs.Reasons.{MakesAlike, OutputsShow, RefusedAlike}
+use Rattle.state_laws.specs.Reasons.{MakesAlike, RefusedAlike}
 use Rattle.state_laws.specs.Polygons.{DissolvedPolygonsShow, IsSeenIn, PolygonsShow}
 use Rattle.state_laws.proofs.Below.{behind_refusal}
 use Rattle.state_laws.proofs.PolygonSets.{all_inner, follow_regions, layer_sets, sets_counted}

@@ -1,5 +1,5 @@
 -- The parts of sets of faces, as features of their own.
-use Rattle.std.proofs.Common.{◌≡◌, refl, sym, ap, ◌∙◌, subst, arith, ℕ, zero, suc, ◌+◌, ◌<◌, inl, inr, List, [], ◌∷◌, ◌++◌, append-nil, length, map, zip, get_or, All, Contains, None, decimal, codes}
+use Rattle.std.proofs.Common.{◌≡◌, refl, sym, ap, ◌∙◌, subst, arith, ℕ, suc, ◌+◌, ◌<◌, inl, inr, List, [], ◌∷◌, ◌++◌, append-nil, length, map, zip, get_or, All, Contains, decimal, codes}
 use Rattle.std.specs.List.{AllZip, enumerate_from, flat_map}
 use Rattle.std.specs.List.Sorted.{IsStrictlyIncreasing}
 use Rattle.std.proofs.lemmas.List.Elements.{All-append, All-cons, All-contains, All-map, All-nil, All-weaker}
@@ -22,7 +22,7 @@ use Rattle.region_ops.specs.Mosaic.{Group, IsMosaic, items_of_groups}
 use Rattle.region_ops.specs.Mosaic as mosaics
 use Rattle.region_ops.specs.declared.item_lists.MosaicItem.{MosaicItem}
 use Rattle.region_ops.specs.declared.item_lists.PartItem.{PartItem}
-use Rattle.region_model.specs.Region.{Region, part}
+use Rattle.region_model.specs.Region.{Region}
 use Rattle.region_model.specs.PolygonCommands.{exactly, exploded, mosaic}
 use Rattle.region_laws.specs.Answered.{FollowInOrder}
 use Rattle.region_laws.proofs.Answered.{exploded_as_told, nil_or_not}
@@ -32,7 +32,6 @@ use Rattle.run_plane.specs.declared.layer.Layer.{Layer}
 use Rattle.run_plane.specs.declared.layer.Shape.{Shape}
 use Rattle.run_plane.specs.declared.layer.Shape.TheVariants as shape
 use Rattle.run_plane.specs.declared.plane.Plane.{Plane}
-use Rattle.run_tables.specs.Made.{One}
 use Rattle.run_shapes.specs.Cleaning.{IsMosaicOf, after_comma, ids_row, ids_text, piece_shape}
 use Rattle.run_shapes.specs.Exploding as run
 use Rattle.run_shapes.specs.Exploding.{ArePartsOf, part_shape}

@@ -10,7 +10,6 @@ use Rattle.std.proofs.lemmas.Simd.{map-map}
 use Rattle.std.proofs.lemmas.Option.{slice_get-get_or}
 use Rattle.std.proofs.lemmas.List.Elements.{All-append, All-cons, All-head, All-nil, All-tail}
 use Rattle.grid_base.specs.declared.kinds.Kind.{Kind}
-use Rattle.grid_base.specs.declared.kinds.Kind.TheVariants as kinds
 use Rattle.lists.specs.Lists.{ascending, joined_up}
 use Rattle.lists.proofs.Ascending.{ascending-IsAscending}
 use Rattle.plane_model.specs.Snapped.{snapped}
@@ -25,13 +24,12 @@ use Rattle.run_plane.specs.Looks.{is_inner}
 use Rattle.run_plane.specs.OnPlane.{faces_on, has_faces, set_on}
 use Rattle.run_plane.specs.declared.layer.Layer.{Layer}
 use Rattle.run_plane.specs.declared.layer.Shape.{Shape}
-use Rattle.run_plane.specs.declared.layer.Shape.TheVariants as shape
 use Rattle.run_plane.specs.declared.plane.Plane.{Plane}
 use Rattle.run_shapes.specs.FaceSets.{any_faces, face_shapes, faces_in, sets_on}
 use Rattle.chain_model.specs.State as state
 use Rattle.chain_model.specs.State.{StateLayer, region_at, region_of, regions_in}
 use Rattle.chain_model.specs.Features.{count_of}
-use Rattle.state_laws.specs.Shown.{View, FacesShow, LayerShows, PolygonShows, ShapeShows}
+use Rattle.state_laws.specs.Shown.{View, FacesShow, PolygonShows, ShapeShows}
 use Rattle.state_laws.specs.Polygons.{IsSeenIn, PolygonsShow}
 use Rattle.state_laws.proofs.Zipped.{zip_long}
 
@@ -143,7 +141,7 @@ module _ (v : View) where
   joined_inner [] all = All-nil (IsInnerFace v.faces)
   joined_inner (set ∷ sets) all = All-append (IsInnerFace v.faces) set (joined_up sets) (All-head (IsSetOf v.faces) set sets all) (joined_inner sets (All-tail (IsSetOf v.faces) set sets all))
 
-  joined_show : (sets : List (List ℕ)) (rs : List Region) → AllZip (FacesShow v) sets rs → FacesShow v (ascending nat_lt (joined_up sets)) (any_of rs)
+  pub joined_show : (sets : List (List ℕ)) (rs : List Region) → AllZip (FacesShow v) sets rs → FacesShow v (ascending nat_lt (joined_up sets)) (any_of rs)
   joined_show sets rs z = record {
     rising = from_ascending (ascending nat_lt (joined_up sets)) (ascending-IsAscending nat_lt nat_order (joined_up sets));
     inner = All-ascending (IsInnerFace v.faces) (joined_up sets) (joined_inner sets (all_inner sets rs z));

@@ -1,15 +1,13 @@
 -- Layers of polygons that are united.
-use Rattle.std.proofs.Common.{◌≡◌, refl, sym, ap, ◌∙◌, subst, ℕ, ◌<◌, ◌↔◌, List, [], ◌∷◌, length, map, get_or, All, Contains, Some, None, Ok}
-use Rattle.std.specs.Prelude.{slice_get}
+use Rattle.std.proofs.Common.{◌≡◌, refl, sym, ap, ◌∙◌, subst, ℕ, List, [], ◌∷◌, map, All, Contains, Ok}
 use Rattle.std.specs.List.{AllZip}
 use Rattle.std.specs.List.Sorted.{IsStrictlyIncreasing}
 use Rattle.std.proofs.lemmas.List.Elements.{All-append, All-cons, All-map, All-nil}
 use Rattle.std.proofs.lemmas.Simd.{map-map}
 use Rattle.lists.proofs.Members.{Contains-head, Contains-later}
 use Rattle.grid_base.specs.declared.kinds.Kind.{Kind}
-use Rattle.json_read.specs.Table.{RowValues, TableContent}
+use Rattle.json_read.specs.Table.{TableContent}
 use Rattle.plane_model.specs.Snapped.{snapped}
-use Rattle.table_terms.specs.Names.{Text}
 use Rattle.table_ops.specs.Merge.{all_names}
 use Rattle.face_walk.specs.Places.{FaceTable}
 use Rattle.ring_trace.specs.Sets.{IsSetOf}

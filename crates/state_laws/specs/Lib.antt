@@ -6,3 +6,4 @@ pub mod Tables
 pub mod Taken
 pub mod Targets
 pub mod Polygons
+pub mod PolygonSteps

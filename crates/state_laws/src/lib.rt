@@ -21,6 +21,7 @@
 #![tactic(auto)]
 
 ghost use Rattle.state_laws.specs.Placing.{PlacedOutputsShow};
+ghost use Rattle.state_laws.specs.PolygonSteps.{PolygonStepsShow};
 ghost use Rattle.state_laws.specs.Polygons.{AreasShow, CleanedPolygonsShow, ClippedPolygonsShow, DissolvedPolygonsShow, ErasedPolygonsShow, ExplodedPolygonsShow, FilledPolygonsShow, LoneLayersAreRefused, MosaicsShow, UnitedLayersShow};
 ghost use Rattle.state_laws.specs.Steps.{MergeStepsShow, TableStepsShow};
 ghost use Rattle.state_laws.specs.Tables.{
@@ -186,4 +187,9 @@ pub fn united_layers_show()
 /// One layer alone is not united, as in the state.
 pub fn lone_layers_are_refused()
     ensures { LoneLayersAreRefused }
+{}
+
+/// The step of a command on layers of polygons shows that of the state.
+pub fn polygon_steps_show()
+    ensures { PolygonStepsShow }
 {}
