@@ -27,13 +27,13 @@ use Rattle.run_plane.specs.declared.plane.Plane.{Plane}
 use Rattle.run_state.specs.Features.{all_numbers}
 use Rattle.run_state.proofs.TargetLemmas.{whole_table}
 use Rattle.run_shapes.specs.Cleaning.{IsCleaned}
-use Rattle.run_shapes.specs.FaceSets.{HasSets, face_shapes, sets_on}
+use Rattle.run_shapes.specs.FaceSets.{HasSets, face_shapes}
 use Rattle.chain_model.specs.State.{StateLayer, region_at, regions_in, without_empty}
 use Rattle.chain_model.specs.Features.{clean_layer, count_of, shapes_by}
 use Rattle.state_laws.specs.Shown.{View, IsView, FacesShow, LayerShows, ShapeShows, plane_of}
 use Rattle.state_laws.specs.Polygons.{CleanedPolygonsShow, FilledPolygonsShow, IsSeenIn, PolygonsShow, plainly_cleaned}
 use Rattle.state_laws.proofs.Empty.{left_features_show}
-use Rattle.state_laws.proofs.PolygonSets.{all_inner, all_rise, follow_regions, layer_sets, sets_many, shapes_made}
+use Rattle.state_laws.proofs.PolygonSets.{all_inner, all_rise, follow_regions, layer_sets, sets_many, sets_of, shapes_made}
 use Rattle.state_laws.proofs.Taking.{rows_show}
 use Rattle.state_laws.proofs.TableCommands.{one_shows}
 use Rattle.state_laws.proofs.Zipped.{zip_long}
@@ -95,7 +95,7 @@ filled_many rule (suc more) faces sets made some (left, cleans, fills) = fills.c
 
 module _ (v : View) (view : IsView v) (plane : Plane) (seen : IsSeenIn v plane) (layer : Layer) (l : StateLayer) (h : PolygonsShow v layer l) (rule : OverlapRule) (allow_empty : Bool) where
   abbrev sets : List (List ℕ)
-  sets = sets_on plane layer.shapes.items
+  sets = sets_of plane layer
 
   shown : AllZip (FacesShow v) sets (regions_in l)
   shown = layer_sets v layer l h plane seen

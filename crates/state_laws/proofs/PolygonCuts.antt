@@ -24,7 +24,7 @@ use Rattle.run_state.specs.Origins as run
 use Rattle.run_state.specs.declared.refusal.RefuseWhy.{RefuseWhy}
 use Rattle.run_state.specs.declared.refusal.RefuseWhy.TheVariants.{WrongKind}
 use Rattle.run_shapes.specs.Cutting.{AreShapesLeft, IsCut, cut_faces}
-use Rattle.run_shapes.specs.FaceSets.{any_faces, face_shapes, layer_faces, sets_on}
+use Rattle.run_shapes.specs.FaceSets.{any_faces, face_shapes, layer_faces}
 use Rattle.run_shapes.specs.declared.cutting.CutKeeps.{CutKeeps}
 use Rattle.run_shapes.specs.declared.cutting.CutKeeps.TheVariants as keeps
 use Rattle.run_steps.specs.Refusals.{is_polygon, refused_polygons}
@@ -39,7 +39,7 @@ use Rattle.state_laws.specs.Shown.{View, IsView, FacesShow, LayerShows, PolygonS
 use Rattle.state_laws.specs.Reasons.{AnswerShows, why_of}
 use Rattle.state_laws.specs.Polygons.{AreaShows, AreasShow, ClippedPolygonsShow, ErasedPolygonsShow, IsSeenIn, PolygonsShow}
 use Rattle.state_laws.proofs.Empty.{left_features_show}
-use Rattle.state_laws.proofs.PolygonSets.{any_shows, is_region, layer_sets, polygons_show, sets_counted}
+use Rattle.state_laws.proofs.PolygonSets.{any_shows, is_region, layer_sets, polygons_show, sets_counted, sets_of}
 use Rattle.state_laws.proofs.TableCommands.{one_shows}
 use Rattle.state_laws.proofs.Targeting.{one_layer_shows, origins_show}
 
@@ -112,14 +112,14 @@ module _ (v : View) (cut : List ℕ → List ℕ) (cut_region : Region → Regio
   )
 
 module _ (v : View) (view : IsView v) (plane : Plane) (seen : IsSeenIn v plane) (layer : Layer) (l : StateLayer) (h : PolygonsShow v layer l) (k : CutKeeps) (area : List ℕ) where
-  layer_cut : (ss : List state.Shape) → AllZip (PolygonShows v) (face_shapes (map (cut_faces k area) (sets_on plane layer.shapes.items))) ss →
+  layer_cut : (ss : List state.Shape) → AllZip (PolygonShows v) (face_shapes (map (cut_faces k area) (sets_of plane layer))) ss →
       (made : Layer) → IsCut k plane area layer made → LayerShows v made (without_empty (plane_of v) v.answers (record l { shapes = ss }))
   layer_cut ss z made is =
-      let are : is.parts ≡ face_shapes (map (cut_faces k area) (sets_on plane layer.shapes.items)) = subst (λ (kind : Kind). AreShapesLeft kind k plane area layer.shapes.items is.parts) h.polygons is.are in
+      let are : is.parts ≡ face_shapes (map (cut_faces k area) (sets_of plane layer)) = subst (λ (kind : Kind). AreShapesLeft kind k plane area layer.shapes.items is.parts) h.polygons is.are in
       let show : AllZip (ShapeShows v layer.kind) is.parts ss =
       subst (λ (kind : Kind). AllZip (ShapeShows v kind) is.parts ss) (sym h.polygons) (subst (λ (parts : List Shape). AllZip (PolygonShows v) parts ss) (sym are) z) in
       let counted : length is.parts ≡ length layer.table.rows =
-      ap length are ∙ length-map (map (cut_faces k area) (sets_on plane layer.shapes.items)) shape.Faces ∙ length-map (sets_on plane layer.shapes.items) (cut_faces k area) ∙ sets_counted plane layer.shapes.items ∙ layer.each in
+      ap length are ∙ length-map (map (cut_faces k area) (sets_of plane layer)) shape.Faces ∙ length-map (sets_of plane layer) (cut_faces k area) ∙ sets_counted plane layer ∙ layer.each in
       left_features_show v view layer l h.shows is.parts ss counted show made is.left
 
 pub clipped_polygons_show : ClippedPolygonsShow
@@ -128,7 +128,7 @@ clipped_polygons_show v view plane seen layer l h area source by = record {
     without_empty (plane_of v) v.answers (record l { shapes = map (clip_shape v.answers source) l.shapes }),
     refl,
     layer_cut v view plane seen layer l h keeps.Inside area (map (clip_shape v.answers source) l.shapes)
-        (shapes_cut v (meet area) (λ (r : Region). both r source) (clip_shape v.answers source) (λ r. refl) (clipped_shows v area source by) (sets_on plane layer.shapes.items) l.shapes layer.shapes.items
+        (shapes_cut v (meet area) (λ (r : Region). both r source) (clip_shape v.answers source) (λ r. refl) (clipped_shows v area source by) (sets_of plane layer) l.shapes layer.shapes.items
         (layer_sets v layer l h plane seen) (polygons_show v layer l h)) made is,
   ));
   refused = (without_empty (plane_of v) v.answers (record l { shapes = map (clip_shape v.answers source) l.shapes }) ∷ [], refl);
@@ -140,7 +140,7 @@ erased_polygons_show v view plane seen layer l h area source by = record {
     without_empty (plane_of v) v.answers (record l { shapes = map (erase_shape v.answers source) l.shapes }),
     refl,
     layer_cut v view plane seen layer l h keeps.Outside area (map (erase_shape v.answers source) l.shapes)
-        (shapes_cut v (minus area) (λ (r : Region). less r source) (erase_shape v.answers source) (λ r. refl) (erased_shows v area source by) (sets_on plane layer.shapes.items) l.shapes layer.shapes.items
+        (shapes_cut v (minus area) (λ (r : Region). less r source) (erase_shape v.answers source) (λ r. refl) (erased_shows v area source by) (sets_of plane layer) l.shapes layer.shapes.items
         (layer_sets v layer l h plane seen) (polygons_show v layer l h)) made is,
   ));
   refused = (without_empty (plane_of v) v.answers (record l { shapes = map (erase_shape v.answers source) l.shapes }) ∷ [], refl);

@@ -33,14 +33,14 @@ use Rattle.run_state.specs.declared.refusal.RefuseWhy.{RefuseWhy}
 use Rattle.run_state.specs.declared.refusal.RefuseWhy.TheVariants.{NoGroupPoints}
 use Rattle.run_tables.specs.Made.{One}
 use Rattle.run_shapes.specs.Dissolving.{IsGrouped, grouped_shapes, is_point, refused_dissolve}
-use Rattle.run_shapes.specs.FaceSets.{face_shapes, sets_on}
+use Rattle.run_shapes.specs.FaceSets.{face_shapes}
 use Rattle.chain_model.specs.State.{StateLayer, region_at, regions_in}
 use Rattle.chain_model.specs.Features.{Outputs, dissolve_layer, dissolved_shape, in_layer, just}
 use Rattle.state_laws.specs.Shown.{View, FacesShow, LayerShows, PolygonShows, ShapeShows, plane_of}
 use Rattle.state_laws.specs.Reasons.{MakesAlike, RefusedAlike}
 use Rattle.state_laws.specs.Polygons.{DissolvedPolygonsShow, IsSeenIn, PolygonsShow}
 use Rattle.state_laws.proofs.Below.{behind_refusal}
-use Rattle.state_laws.proofs.PolygonSets.{all_inner, follow_regions, layer_sets, sets_counted}
+use Rattle.state_laws.proofs.PolygonSets.{all_inner, follow_regions, layer_sets, sets_counted, sets_of}
 use Rattle.state_laws.proofs.Taking.{shapes_in}
 use Rattle.state_laws.proofs.TableCommands.{alike_by, one_shows}
 
@@ -65,7 +65,7 @@ polygon_layer l = record l { kind = kinds.Polygon }
 
 module _ (v : View) (plane : Plane) (seen : IsSeenIn v plane) (layer : Layer) (l : StateLayer) (h : PolygonsShow v layer l) where
   abbrev sets : List (List ℕ)
-  sets = sets_on plane layer.shapes.items
+  sets = sets_of plane layer
 
   is_polygon_layer : l ≡ polygon_layer l
   is_polygon_layer = let e = h.shows.kind ∙ h.polygons in λ i. record l { kind = e i }
@@ -95,7 +95,7 @@ module _ (v : View) (plane : Plane) (seen : IsSeenIn v plane) (layer : Layer) (l
 
   grouped_shows : (spec : GroupSpec) (made : Layer) → IsGrouped plane spec layer made → (m : StateLayer) × (grouped_by (group_rows layer.table spec) ≡ just m) × LayerShows v made m
   grouped_shows spec made is =
-      let counted : length layer.table.rows ≡ length sets = sym layer.each ∙ sym (sets_counted plane layer.shapes.items) in
+      let counted : length layer.table.rows ≡ length sets = sym layer.each ∙ sym (sets_counted plane layer) in
       let below : All (All (λ n. n < length sets)) is.grouped.groups = subst (λ (c : ℕ). All (All (λ n. n < c)) is.grouped.groups) counted (grouped_below layer.table spec is.grouped is.answers) in
       let shapes : List Shape = grouped_shapes layer.kind plane layer.shapes.items is.grouped.groups in
       let are : face_shapes (map (union_of sets) is.grouped.groups) ≡ shapes = ap (λ (k : Kind). grouped_shapes k plane layer.shapes.items is.grouped.groups) (sym h.polygons) in

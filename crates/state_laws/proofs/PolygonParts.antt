@@ -35,13 +35,13 @@ use Rattle.run_plane.specs.declared.plane.Plane.{Plane}
 use Rattle.run_shapes.specs.Cleaning.{IsMosaicOf, after_comma, ids_row, ids_text, piece_shape}
 use Rattle.run_shapes.specs.Exploding as run
 use Rattle.run_shapes.specs.Exploding.{ArePartsOf, part_shape}
-use Rattle.run_shapes.specs.FaceSets.{face_shapes, sets_on}
+use Rattle.run_shapes.specs.FaceSets.{face_shapes}
 use Rattle.chain_model.specs.State as state
 use Rattle.chain_model.specs.State.{StateLayer, region_at, region_of, regions_in}
 use Rattle.chain_model.specs.Features.{Feature, count_of, explode_layer, exploded_shapes, mosaic_layer, numbers_text}
 use Rattle.state_laws.specs.Shown.{View, IsView, FacesShow, LayerShows, PolygonShows, ShapeShows, plane_of}
 use Rattle.state_laws.specs.Polygons.{ExplodedPolygonsShow, IsSeenIn, MosaicsShow, PolygonsShow}
-use Rattle.state_laws.proofs.PolygonSets.{all_inner, follow_regions, is_region, layer_sets, polygons_show, sets_many, shapes_show, show_in_order}
+use Rattle.state_laws.proofs.PolygonSets.{all_inner, follow_regions, is_region, layer_sets, polygons_show, sets_many, sets_of, shapes_show, show_in_order}
 use Rattle.state_laws.proofs.Taking.{shapes_in}
 use Rattle.state_laws.proofs.TableCommands.{one_shows}
 use Rattle.state_laws.proofs.Zipped.{zip_joined, zip_long, zip_map, zip_same}
@@ -95,7 +95,7 @@ region_of_piece m = m.1
 
 module _ (v : View) (view : IsView v) (plane : Plane) (seen : IsSeenIn v plane) (layer : Layer) (l : StateLayer) (h : PolygonsShow v layer l) where
   abbrev sets : List (List ℕ)
-  sets = sets_on plane layer.shapes.items
+  sets = sets_of plane layer
 
   shown : AllZip (FacesShow v) sets (regions_in l)
   shown = layer_sets v layer l h plane seen
@@ -238,17 +238,17 @@ module _ (v : View) (view : IsView v) (plane : Plane) (seen : IsSeenIn v plane) 
   abbrev exploded_layer : StateLayer
   exploded_layer = record l { table = record { names = l.table.names; rows = map (λ (f : Feature). f.0) exploded_features }; shapes = map (λ (f : Feature). f.1) exploded_features }
 
-  items_alike : (items : List PartItem) → exploding.IsExploded v.faces (sets_on plane layer.shapes.items) items → AllZip (ItemShows v view l.table.rows) items exploded_features
+  items_alike : (items : List PartItem) → exploding.IsExploded v.faces (sets_of plane layer) items → AllZip (ItemShows v view l.table.rows) items exploded_features
   items_alike items is =
       let many : length l.table.rows ≡ length l.shapes = ap (λ (t : TableContent). length t.rows) h.shows.table ∙ sym layer.each ∙ zip_long (PolygonShows v) layer.shapes.items l.shapes (polygons_show v layer l h) in
       subst (λ (those : List PartItem). AllZip (ItemShows v view l.table.rows) those exploded_features) (sym is.listed)
       (features_show v view l.table.rows 0 is.pieces l.table.rows l.shapes
-      (all_pieces_show v view layer.shapes.items (sets_on plane layer.shapes.items) l.shapes is.pieces (polygons_show v layer l h) (layer_sets v layer l h plane seen) is.each is.are) many (λ k below. let start : 0 + k ≡ k = omega arith in ap (row_at l.table.rows) start))
+      (all_pieces_show v view layer.shapes.items (sets_of plane layer) l.shapes is.pieces (polygons_show v layer l h) (layer_sets v layer l h plane seen) is.each is.are) many (λ k below. let start : 0 + k ≡ k = omega arith in ap (row_at l.table.rows) start))
 
   exploded_shows : (made : Layer) → run.IsExploded plane layer made → LayerShows v made exploded_layer
   exploded_shows made is =
       let are : ArePartsOf plane layer.shapes.items is.numbers is.pieces = subst (λ (k : Kind). run.ArePieces k plane layer.shapes.items is.numbers is.pieces) h.polygons is.are in
-      let zipped = items_alike are.items (subst (λ (faces : FaceTable). exploding.IsExploded faces (sets_on plane layer.shapes.items) are.items) seen.faces are.parts) in
+      let zipped = items_alike are.items (subst (λ (faces : FaceTable). exploding.IsExploded faces (sets_of plane layer) are.items) seen.faces are.parts) in
       let rows : map (row_at l.table.rows) is.numbers ≡ map (λ (f : Feature). f.0) exploded_features =
       ap (map (row_at l.table.rows)) are.numbered ∙ map-map (row_at l.table.rows) (λ (item : PartItem). item.feature) are.items
       ∙ zip_same (ItemShows v view l.table.rows) (λ (item : PartItem). row_at l.table.rows item.feature) (λ (f : Feature). f.0) (λ item f both. both.0) are.items exploded_features zipped in

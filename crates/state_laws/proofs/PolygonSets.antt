@@ -35,6 +35,10 @@ use Rattle.state_laws.proofs.Zipped.{zip_long}
 
 -- ---- faces on the plane
 
+-- for each feature of a layer its faces on the plane
+abbrev pub sets_of : Plane → Layer → List (List ℕ)
+sets_of plane layer = sets_on plane layer.shapes.items
+
 is_there : (faces : FaceTable) (k : ℕ) → 0 < length faces.places → IsInnerFace faces k → is_inner faces k ≡ true
 is_there faces k some inner = λ i. lt-ltb k faces.count inner.there i && not (other i)
   where
@@ -61,15 +65,15 @@ module _ (v : View) (plane : Plane) (seen : IsSeenIn v plane) where
       let region : region_of s ≡ h.region = ap region_of h.is in
       subst (λ (r : Region). FacesShow v (faces_on plane held) r) (sym region) (subst (λ (faces : List ℕ). FacesShow v faces h.region) (sym set) h.shows)
 
-  pub sets_show : (shapes : List Shape) (ss : List state.Shape) → AllZip (PolygonShows v) shapes ss → AllZip (FacesShow v) (sets_on plane shapes) (map region_of ss)
+  sets_show : (shapes : List Shape) (ss : List state.Shape) → AllZip (PolygonShows v) shapes ss → AllZip (FacesShow v) (sets_on plane shapes) (map region_of ss)
   sets_show [] [] z = tt
   sets_show [] (s ∷ ss) z = absurd z
   sets_show (held ∷ shapes) [] z = absurd z
   sets_show (held ∷ shapes) (s ∷ ss) z = (faces_show held s z.0, sets_show shapes ss z.1)
 
 -- a set for each shape
-pub sets_counted : (plane : Plane) (shapes : List Shape) → length (sets_on plane shapes) ≡ length shapes
-sets_counted plane shapes = length-map shapes (faces_on plane)
+pub sets_counted : (plane : Plane) (layer : Layer) → length (sets_of plane layer) ≡ length layer.shapes.items
+sets_counted plane layer = length-map layer.shapes.items (faces_on plane)
 
 -- ---- faces of shapes, wherever they are
 
@@ -158,7 +162,7 @@ module _ (v : View) (layer : Layer) (l : StateLayer) (h : PolygonsShow v layer l
   pub polygons_show : AllZip (PolygonShows v) layer.shapes.items l.shapes
   polygons_show = subst (λ (k : Kind). AllZip (ShapeShows v k) layer.shapes.items l.shapes) h.polygons h.shows.shapes
 
-  pub layer_sets : (plane : Plane) → IsSeenIn v plane → AllZip (FacesShow v) (sets_on plane layer.shapes.items) (regions_in l)
+  pub layer_sets : (plane : Plane) → IsSeenIn v plane → AllZip (FacesShow v) (sets_of plane layer) (regions_in l)
   layer_sets plane seen = sets_show v plane seen layer.shapes.items l.shapes polygons_show
 
   -- by their numbers, past the last too
@@ -168,8 +172,8 @@ module _ (v : View) (layer : Layer) (l : StateLayer) (h : PolygonsShow v layer l
   pub follow_regions : (sets : List (List ℕ)) → AllZip (FacesShow v) sets (regions_in l) → FollowEach (snapped v.drawing) v.arcs v.label sets (region_at l)
   follow_regions sets z n below = subst (λ (r : Region). Follows (snapped v.drawing) v.arcs v.label (get_or sets n []) r) (region_here n) (follow_each v sets (regions_in l) z n below)
 
-  pub sets_many : (plane : Plane) → length (sets_on plane layer.shapes.items) ≡ count_of l
-  sets_many plane = sets_counted plane layer.shapes.items ∙ zip_long (PolygonShows v) layer.shapes.items l.shapes polygons_show
+  pub sets_many : (plane : Plane) → length (sets_of plane layer) ≡ count_of l
+  sets_many plane = sets_counted plane layer ∙ zip_long (PolygonShows v) layer.shapes.items l.shapes polygons_show
 
 -- ---- regions by numbers
 

@@ -23,7 +23,7 @@ use Rattle.run_plane.specs.declared.layer.Layer.{Layer}
 use Rattle.run_plane.specs.declared.layer.Shape.{Shape}
 use Rattle.run_plane.specs.declared.layer.Shape.TheVariants as shape
 use Rattle.run_plane.specs.declared.plane.Plane.{Plane}
-use Rattle.run_shapes.specs.FaceSets.{face_shapes, sets_on}
+use Rattle.run_shapes.specs.FaceSets.{face_shapes}
 use Rattle.run_shapes.specs.Uniting.{IsUnited, item_shape, layer_tables}
 use Rattle.run_shapes.specs.Uniting as run
 use Rattle.chain_model.specs.State as state
@@ -34,7 +34,7 @@ use Rattle.state_laws.specs.Shown.{View, IsView, FacesShow, LayerShows, PolygonS
 use Rattle.state_laws.specs.Polygons.{HasFewColumns, IsSeenIn, LoneLayersAreRefused, PolygonsShow, UnitedLayersShow}
 use Rattle.state_laws.proofs.PolygonNames.{names_made_new}
 use Rattle.state_laws.proofs.PolygonParts.{parts_inner}
-use Rattle.state_laws.proofs.PolygonSets.{all_inner, follow_in_order, layer_sets, shapes_show, show_in_order}
+use Rattle.state_laws.proofs.PolygonSets.{all_inner, follow_in_order, layer_sets, sets_of, shapes_show, show_in_order}
 use Rattle.state_laws.proofs.Zipped.{zip_map, zip_same}
 
 -- ---- the sets of a union
@@ -71,7 +71,7 @@ module _ (v : View) (view : IsView v) (plane : Plane) (seen : IsSeenIn v plane) 
   all_sets_inner [] (l ∷ ls) z = absurd z
   all_sets_inner (layer ∷ layers) [] z = absurd z
   all_sets_inner (layer ∷ layers) (l ∷ ls) z =
-      All-cons (All (IsSetOf v.faces)) (sets_on plane layer.shapes.items) (run.layer_sets plane layers) (all_inner v (sets_on plane layer.shapes.items) (regions_in l) (layer_sets v layer l z.0 plane seen)) (all_sets_inner layers ls z.1)
+      All-cons (All (IsSetOf v.faces)) (sets_of plane layer) (run.layer_sets plane layers) (all_inner v (sets_of plane layer) (regions_in l) (layer_sets v layer l z.0 plane seen)) (all_sets_inner layers ls z.1)
 
   module _ (layers : List Layer) (ls : List StateLayer) (z : AllZip (PolygonsShow v) layers ls) where
     abbrev sets : List (List (List ℕ))
@@ -84,8 +84,8 @@ module _ (v : View) (view : IsView v) (plane : Plane) (seen : IsSeenIn v plane) 
     pieces = united (plane_of v) v.answers regions
 
     follow : FollowLayers (snapped v.drawing) v.arcs v.label sets regions
-    follow = zip_map (PolygonsShow v) (FollowInOrder (snapped v.drawing) v.arcs v.label) (λ (layer : Layer). sets_on plane layer.shapes.items) regions_in (λ layer l h.
-        follow_in_order v (sets_on plane layer.shapes.items) (regions_in l) (layer_sets v layer l h plane seen)) layers ls z
+    follow = zip_map (PolygonsShow v) (FollowInOrder (snapped v.drawing) v.arcs v.label) (λ (layer : Layer). sets_of plane layer) regions_in (λ layer l h.
+        follow_in_order v (sets_of plane layer) (regions_in l) (layer_sets v layer l h plane seen)) layers ls z
 
     tell : TellChoices (plane_of v) v.answers regions
     tell = record { sides = λ c. view.right.sides (union_region regions c); parts = λ c j. view.right.parts (union_region regions c) j }
