@@ -180,8 +180,8 @@ w42 = refl
 w43 : fault_of (codes "-clean" ∷ codes "group-points" ∷ codes "-filter-fields" ∷ codes "target=a,,b" ∷ codes "target=x" ∷ codes "-rename-fields" ∷ codes "n=" ∷ codes "name=x" ∷ []) ≡ Some (1, why.NoInput)
 w43 = refl
 
--- a join needs its keys
-w44 : fault_of (codes "-" ∷ codes "-split" ∷ codes "-merge-layers" ∷ codes "target=x" ∷ codes "-join" ∷ codes "x" ∷ []) ≡ Some (5, why.MissingArgument)
+-- a join without keys is one by place
+w44 : fault_of (codes "-" ∷ codes "-split" ∷ codes "-merge-layers" ∷ codes "target=x" ∷ codes "-join" ∷ codes "x" ∷ []) ≡ None
 w44 = refl
 
 w45 : fault_of (codes "b.CSV" ∷ codes "-rename-fields" ∷ codes "n=" ∷ codes "name=x" ∷ codes "format=csv" ∷ []) ≡ Some (3, why.BadChoice)

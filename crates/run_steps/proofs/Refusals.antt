@@ -1,8 +1,8 @@
 -- The first refusal among the layers of a target, and that of a source.
-use Rattle.std.proofs.Common.{◌≡◌, ◌⊎◌, inl, inr, MatchBool, ℕ, ◌+◌, ◌<◌, ◌≤◌, Bool, true, false, List, ◌∷◌, length, drop, Option, None, Some, Result, Ok, Err, if◌then◌else◌, refl, ap, sym, subst, ◌∙◌}
+use Rattle.std.proofs.Common.{◌≡◌, inl, inr, MatchBool, ℕ, ◌+◌, ◌<◌, ◌≤◌, Bool, true, false, List, ◌∷◌, length, drop, Option, None, Some, Result, Ok, Err, if◌then◌else◌, refl, ap, sym, subst, ◌∙◌}
 use Rattle.std.specs.Prelude.{slice_get}
 use Rattle.std.proofs.lemmas.Bool.{lt-ltb, le-ltb}
-use Rattle.std.proofs.lemmas.List.{at_drop_more}
+use Rattle.std.proofs.lemmas.List.{at_drop_more, drop_all}
 use Rattle.std.proofs.lemmas.Option.{get_or_from_slice_get}
 use Rattle.table_terms.specs.Refusals.{first_refusal}
 use Rattle.cmd_words.specs.declared.job.Origin.{Origin}
@@ -17,7 +17,7 @@ use Rattle.run_state.specs.declared.refusal.RefuseWhy.TheVariants.{TooManyLayers
 use Rattle.run_state.specs.declared.state.CommandStop.{CommandStop}
 use Rattle.run_state.specs.declared.state.CommandStop.TheVariants as stop
 use Rattle.run_state.specs.declared.state.Held.{Held}
-use Rattle.run_state.proofs.Stops.{stops_first, stops_second}
+use Rattle.run_state.proofs.Stops.{stops_second}
 use Rattle.run_state.proofs.TargetLemmas.{target_first, other_first}
 use Rattle.run_steps.specs.Refusals.{FirstOf, RefusesIn, refused_area, refused_count, refused_polygons}
 
@@ -83,15 +83,19 @@ module _ (Refuses : Layer → Option RefuseWhy → Type 0) (t : Target) where
   abbrev pub RefuseFrom : List Held → ℕ → Type 0
   RefuseFrom xs i = (refusal : Option RefuseWhy) → RefusesIn Refuses (targets t (drop i xs)) refusal → RefusesIn Refuses (targets t xs) refusal
 
-  pub goes_past : (xs : List Held) (i : ℕ) (item : Held) → i < length xs → slice_get xs i ≡ Some item → RefuseFrom xs i → MatchBool (is_selected t item) (Refuses item.layer None) (None ≡ None) → RefuseFrom xs (i + 1)
+  pub goes_past : (xs : List Held) (i : ℕ) (item : Held) → i < length xs → slice_get xs i ≡ Some item → RefuseFrom xs i → RefusesOne (is_selected t item) item None → RefuseFrom xs (i + 1)
   goes_past xs i item h there before none refusal rest =
       before refusal (subst (λ (layers : List Held). RefusesAll layers refusal) (sym (from_place xs i item h there)) (one_past item (drop (i + 1) xs) refusal (is_selected t item) refl none rest))
 
   pub stops_there : (xs : List Held) (i : ℕ) (item : Held) (s : CommandStop) → i < length xs → slice_get xs i ≡ Some item → RefuseFrom xs i →
-      StopsAs (λ (refusal : Option RefuseWhy). MatchBool (is_selected t item) (Refuses item.layer refusal) (None ≡ refusal)) s → StopsAs (RefusesIn Refuses (targets t xs)) s
+      StopsAs (RefusesOne (is_selected t item) item) s → StopsAs (RefusesIn Refuses (targets t xs)) s
   stops_there xs i item (stop.Refused why) h there before stops =
       before (Some why) (subst (λ (layers : List Held). RefusesAll layers (Some why)) (sym (from_place xs i item h there)) (one_stops item (drop (i + 1) xs) why (is_selected t item) refl stops))
   stops_there xs i item stop.Memory h there before stops = tt
+
+  -- behind the last layer there is none that is refused
+  pub all_pass : (xs : List Held) (i : ℕ) → length xs ≤ i → RefuseFrom xs i → RefusesIn Refuses (targets t xs) None
+  all_pass xs i h before = before None (subst (λ (layers : List Held). RefusesAll layers None) (sym (drop_all i xs h)) refl)
 
 -- ---- the number of layers
 

@@ -8,7 +8,6 @@ use Rattle.cmd_words.specs.declared.job.Action.TheVariants as does
 use Rattle.cmd_words.specs.declared.job.LayerAction.{LayerAction}
 use Rattle.cmd_words.specs.declared.job.LayerAction.TheVariants as action
 use Rattle.run_plane.specs.declared.layer.Layer.{Layer}
-use Rattle.run_state.specs.declared.refusal.RefuseWhy.{RefuseWhy}
 use Rattle.run_state.specs.declared.refusal.RefuseWhy.TheVariants.{WrongKind}
 use Rattle.run_steps.specs.Refusals as held
 use Rattle.chain_model.specs.Outcome as state

@@ -7,7 +7,7 @@ use Rattle.run_steps.specs.Commands.{PutsFor}
 use Rattle.run_steps.specs.Refusals.{RefusesLayer}
 use Rattle.run_state.specs.declared.state.Held.{Held}
 use Rattle.run_plane.proofs.Growth.{zipped_on}
-use Rattle.run_steps.proofs.Refusals.{goes_past, stops_there}
+use Rattle.run_steps.proofs.Refusals.{all_pass, goes_past, stops_there}
 use Rattle.run_steps.proofs.outputs.each_outputs.Goals as goal
 
 pub loop-held-preserved : goal.loop-held-preserved
@@ -36,3 +36,7 @@ returns-in_err-held_outputs-clause-stops c =
     let stops =
     stops_there (RefusesLayer (base_of c.args.ground.now) xs c.args.action.now) c.args.command.now.target xs i item c.in_err-held_outputs.field-0.0 c.loop-held-test.true there c.loop-held.invariant.refused c.in_err-held_outputs.ensures.stops in
     search rules
+
+pub returns-clause-accepted : goal.returns-clause-accepted
+returns-clause-accepted c =
+    all_pass (RefusesLayer (base_of c.args.ground.now) c.args.layers.now c.args.action.now) c.args.command.now.target c.args.layers.now c.loop-held.held-index c.loop-held-test.false c.loop-held.invariant.refused

@@ -6,8 +6,8 @@ use Rattle.run_tables.specs.Made.{GivesTable, One}
 use Rattle.spatial_join.specs.Joined.{join_matched}
 use Rattle.run_steps.proofs.outputs.joined_with.Goals as goal
 
-pub returns-in_ok-joined_by_matches-clause-joins : goal.returns-in_ok-joined_by_matches-clause-joins
-returns-in_ok-joined_by_matches-clause-joins c =
+pub returns-clause-joins : goal.returns-clause-joins
+returns-clause-joins c =
     let layer : Layer = c.args.layer.now in
     let source : Layer = c.args.source.now in
     let made : Layer = c.in_ok-joined_by_matches.field-0 in

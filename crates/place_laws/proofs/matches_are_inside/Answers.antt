@@ -1,0 +1,6 @@
+-- The law is proved by itself.
+use Rattle.place_laws.proofs.MatchLaws.{matches_are_inside}
+use Rattle.place_laws.proofs.matches_are_inside.Goals as goal
+
+pub returns : goal.returns
+returns c = matches_are_inside

@@ -1,0 +1,6 @@
+-- The law is proved by itself.
+use Rattle.place_laws.proofs.MatchLaws.{points_are_matched}
+use Rattle.place_laws.proofs.points_are_matched.Goals as goal
+
+pub returns : goal.returns
+returns c = points_are_matched

@@ -1,0 +1,6 @@
+-- The law is proved by itself.
+use Rattle.place_laws.proofs.MatchLaws.{sets_are_matched}
+use Rattle.place_laws.proofs.sets_are_matched.Goals as goal
+
+pub returns : goal.returns
+returns c = sets_are_matched
