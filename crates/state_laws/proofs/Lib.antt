@@ -22,3 +22,11 @@ pub mod LinePieces
 pub mod LineGroups
 pub mod Outlines
 pub mod PlaceJoins
+pub mod PolygonSets
+pub mod PolygonCuts
+pub mod PolygonGroups
+pub mod PolygonCleaning
+pub mod PolygonParts
+pub mod PolygonNames
+pub mod PolygonUnion
+pub mod PolygonSteps

@@ -9,3 +9,5 @@ pub mod Views
 pub mod Beginnings
 pub mod Lines
 pub mod Places
+pub mod Polygons
+pub mod PolygonSteps

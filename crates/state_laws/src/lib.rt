@@ -31,6 +31,8 @@ ghost use Rattle.state_laws.specs.Beginnings.{BeginningsShow, DrawingsAreOne};
 ghost use Rattle.state_laws.specs.Lines.{ClippedLinesShow, ErasedLinesShow, ExplodedLinesShow, GroupedLinesShow, InnerLinesShow, OutlinesShow};
 ghost use Rattle.state_laws.specs.Places.{PlaceJoinsShow};
 ghost use Rattle.state_laws.specs.Placing.{PlacedOutputsShow};
+ghost use Rattle.state_laws.specs.PolygonSteps.{PolygonStepsShow};
+ghost use Rattle.state_laws.specs.Polygons.{AreasShow, CleanedPolygonsShow, ClippedPolygonsShow, DissolvedPolygonsShow, ErasedPolygonsShow, ExplodedPolygonsShow, FilledPolygonsShow, LoneLayersAreRefused, MosaicsShow, UnitedLayersShow};
 ghost use Rattle.state_laws.specs.Steps.{MergeStepsShow, TableStepsShow};
 ghost use Rattle.state_laws.specs.Tables.{
   AssignedFieldsShow,
@@ -197,4 +199,59 @@ pub fn table_steps_show()
 /// The step of a command that merges the layers of its target shows that of the state.
 pub fn merge_steps_show()
     ensures { MergeStepsShow }
+{}
+
+/// What a command cuts by shows the region of the state, or both refuse it.
+pub fn areas_show()
+    ensures { AreasShow }
+{}
+
+/// What a clip leaves of polygons shows what it leaves of the state's regions.
+pub fn clipped_polygons_show()
+    ensures { ClippedPolygonsShow }
+{}
+
+/// What an erasure leaves of polygons shows what it leaves of the state's regions.
+pub fn erased_polygons_show()
+    ensures { ErasedPolygonsShow }
+{}
+
+/// Dissolved polygons show those of the state, or both are refused.
+pub fn dissolved_polygons_show()
+    ensures { DissolvedPolygonsShow }
+{}
+
+/// Polygons that are cleaned without gaps show what overlaps that are given away leave of the state's regions.
+pub fn cleaned_polygons_show()
+    ensures { CleanedPolygonsShow }
+{}
+
+/// Polygons that are cleaned with their gaps show those of the state.
+pub fn filled_polygons_show()
+    ensures { FilledPolygonsShow }
+{}
+
+/// A mosaic shows that of the state, with the same numbers.
+pub fn mosaics_show()
+    ensures { MosaicsShow }
+{}
+
+/// Polygons in pieces show those of the state.
+pub fn exploded_polygons_show()
+    ensures { ExplodedPolygonsShow }
+{}
+
+/// Layers that are united show the state's layers united.
+pub fn united_layers_show()
+    ensures { UnitedLayersShow }
+{}
+
+/// One layer alone is not united, as in the state.
+pub fn lone_layers_are_refused()
+    ensures { LoneLayersAreRefused }
+{}
+
+/// The step of a command on layers of polygons shows that of the state.
+pub fn polygon_steps_show()
+    ensures { PolygonStepsShow }
 {}

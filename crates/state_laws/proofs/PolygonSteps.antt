@@ -1,0 +1,231 @@
+-- Steps of commands on layers of polygons.
+use Rattle.std.proofs.Common.{◌≡◌, refl, sym, ap, ◌∙◌, subst, true≢false, ℕ, Bool, true, false, not, ◌&&◌, List, [], ◌∷◌, ◌++◌, length, map, nat_lt, Option, Some, None, option_map, Result, Ok, Err, if◌then◌else◌}
+use Rattle.std.specs.List.{AllZip, flat_map}
+use Rattle.std.proofs.lemmas.Bool.{ltb-true}
+use Rattle.lists.specs.Lists.{ascending}
+use Rattle.grid_base.specs.declared.kinds.Kind.{Kind}
+use Rattle.grid_base.specs.declared.kinds.Kind.TheVariants as kinds
+use Rattle.geojson_io.specs.Layers.{same_kind}
+use Rattle.table_terms.specs.Refusals.{on_ok}
+use Rattle.table_ops.specs.Grouping.{group_rows}
+use Rattle.table_ops.specs.declared.fault.TableWhy.{TableWhy}
+use Rattle.table_ops.specs.declared.group.Grouped.{Grouped}
+use Rattle.region_model.specs.Region.{Region, any_of}
+use Rattle.cmd_words.specs.declared.job.Action.TheVariants as does
+use Rattle.cmd_words.specs.declared.job.Command.{Command}
+use Rattle.cmd_words.specs.declared.job.LayerAction.{LayerAction}
+use Rattle.cmd_words.specs.declared.job.LayerAction.TheVariants as action
+use Rattle.cmd_words.specs.declared.job.Origin.{Origin}
+use Rattle.cmd_words.specs.declared.job.Origin.TheVariants as origin
+use Rattle.run_plane.specs.declared.layer.Layer.{Layer}
+use Rattle.run_plane.specs.declared.layer.Shape.{Shape}
+use Rattle.run_state.specs.Origins as run
+use Rattle.run_state.specs.Origins.{Base}
+use Rattle.run_state.specs.Targets.{targets}
+use Rattle.run_state.specs.declared.refusal.RefuseWhy.{RefuseWhy}
+use Rattle.run_state.specs.declared.state.Held.{Held}
+use Rattle.run_shapes.specs.FaceSets.{any_faces, area_of, faces_in, layer_faces}
+use Rattle.run_steps.specs.Commands.{PutsOut}
+use Rattle.run_steps.specs.Refusals as held
+use Rattle.chain_model.specs.Outcome as outcome
+use Rattle.chain_model.specs.State as state
+use Rattle.chain_model.specs.State.{State, StateLayer}
+use Rattle.chain_model.specs.Targets as model
+use Rattle.chain_model.specs.Targets.{SourceLayers, layers_at}
+use Rattle.chain_model.specs.Features.{Outputs, clean_layer, clip_layer, dissolve_layer, dissolved_shape, erase_layer, explode_layer, in_layer, just, mosaic_layer}
+use Rattle.chain_model.specs.Steps.{each_layer, outputs_of, refusal_of, refused_source, source_region}
+use Rattle.state_laws.specs.Shown.{View, IsView, FacesShow, LayerShows, LineShows, NothingShows, PointsShow, ShapeShows, SourcesShow, StateShows, plane_of}
+use Rattle.state_laws.specs.Reasons.{AnswerShows, why_of}
+use Rattle.state_laws.specs.Polygons.{AreaShows, IsSeenIn, PolygonsShow}
+use Rattle.state_laws.specs.PolygonSteps.{AreOfPolygons, PolygonStepsShow, is_on_polygons}
+use Rattle.state_laws.specs.Targets.{target_numbers}
+use Rattle.state_laws.proofs.EachLayer.{LayerAlike, alike_with}
+use Rattle.state_laws.proofs.LayerKinds.{only_taken}
+use Rattle.state_laws.proofs.PolygonCleaning.{filled_polygons_show}
+use Rattle.state_laws.proofs.PolygonCuts.{areas_show, clipped_polygons_show, erased_polygons_show, refused_by_kind}
+use Rattle.state_laws.proofs.PolygonGroups.{dissolved_polygons_show}
+use Rattle.state_laws.proofs.PolygonParts.{exploded_polygons_show, mosaics_show}
+use Rattle.state_laws.proofs.PolygonSets.{joined_show}
+use Rattle.state_laws.proofs.Stepping.{IsAlike, step_shows, unfit}
+use Rattle.state_laws.proofs.Targeting.{one_layer_shows, origins_show, targets_show}
+use Rattle.state_laws.proofs.Zipped.{zip_with_all, zip_weaker}
+
+-- ---- an area that is refused has no faces
+
+no_faces : (R : Shape → state.Shape → Type 0) → ((held : Shape) (s : state.Shape) → R held s → faces_in held ≡ []) → (shapes : List Shape) (ss : List state.Shape) → AllZip R shapes ss → flat_map faces_in shapes ≡ []
+no_faces R none [] [] z = refl
+no_faces R none [] (s ∷ ss) z = absurd z
+no_faces R none (held ∷ shapes) [] z = absurd z
+no_faces R none (held ∷ shapes) (s ∷ ss) z =
+    let here = none held s z.0 in
+    let rest = no_faces R none shapes ss z.1 in
+    λ i. here i ++ rest i
+
+module _ (v : View) where
+  no_area_in : (layer : Layer) (l : StateLayer) → LayerShows v layer l → (k : Kind) → layer.kind ≡ k → (why : RefuseWhy) → refused_by_kind k ≡ Some why → any_faces layer.shapes.items ≡ []
+  no_area_in layer l h kinds.Polygon e why some = absurd (let none : None ≡ Some why = some in cc)
+  no_area_in layer l h kinds.Line e why some =
+      ap (ascending nat_lt) (no_faces (LineShows v) (λ held s shows. ap faces_in shows.has) layer.shapes.items l.shapes (subst (λ (k : Kind). AllZip (ShapeShows v k) layer.shapes.items l.shapes) e h.shapes))
+  no_area_in layer l h kinds.Point e why some =
+      ap (ascending nat_lt) (no_faces (PointsShow v) (λ held s shows. ap faces_in shows.has) layer.shapes.items l.shapes (subst (λ (k : Kind). AllZip (ShapeShows v k) layer.shapes.items l.shapes) e h.shapes))
+  no_area_in layer l h kinds.Table e why some =
+      ap (ascending nat_lt) (no_faces NothingShows (λ held s shows. ap faces_in shows.has) layer.shapes.items l.shapes (subst (λ (k : Kind). AllZip (ShapeShows v k) layer.shapes.items l.shapes) e h.shapes))
+
+  no_area_of : (answer : Result Layer RefuseWhy) (other : Result StateLayer outcome.RefuseWhy) → AnswerShows (LayerShows v) answer other → (why : RefuseWhy) → held.refused_polygons answer ≡ Some why → layer_faces answer ≡ []
+  no_area_of (Ok layer) (Ok l) h why some = no_area_in layer l h layer.kind refl why some
+  no_area_of (Ok layer) (Err w) h why some = absurd h
+  no_area_of (Err w) other h why some = refl
+
+  nothing_shows : FacesShow v [] (any_of [])
+  nothing_shows = joined_show v [] [] tt
+
+  -- the region that the faces show, whether or not the area is refused
+  record CutRegion (area : List ℕ) (answer : Result Region outcome.RefuseWhy) : Type 0 where
+    pub source : Region
+    pub shows : FacesShow v area source
+    pub is : (r : Region) → answer ≡ Ok r → r ≡ source
+
+  cut_region : (refusal : Option RefuseWhy) (area : List ℕ) (answer : Result Region outcome.RefuseWhy) → AreaShows v refusal area answer → ((why : RefuseWhy) → refusal ≡ Some why → area ≡ []) → CutRegion area answer
+  cut_region None area answer h none =
+      let (source, is, shows) = h.there refl in
+      record { source = source; shows = shows; is = λ r e. let same : Ok r ≡ Ok source = sym e ∙ is in cc }
+  cut_region (Some why) area answer h none = record {
+    source = any_of [];
+    shows = subst (λ (faces : List ℕ). FacesShow v faces (any_of [])) (sym (none why refl)) nothing_shows;
+    is = λ r e. let clash : Err (why_of why) ≡ Ok r = sym (h.refused why refl) ∙ e in absurd (cc);
+  }
+
+area_alike : (v : View) (refusal : Option RefuseWhy) (area : List ℕ) (answer : Result Region outcome.RefuseWhy) → AreaShows v refusal area answer → refusal_of answer ≡ option_map why_of refusal
+area_alike v None area answer h = let (source, is, shows) = h.there refl in ap refusal_of is
+area_alike v (Some why) area answer h = ap refusal_of (h.refused why refl)
+
+-- ---- what a state makes of a layer
+
+-- nothing where the command is another
+abbrev made_of : View → Region → LayerAction → StateLayer → Outputs
+made_of v source (action.Clip from) l = clip_layer (plane_of v) v.answers source l
+made_of v source (action.Erase from) l = erase_layer (plane_of v) v.answers source l
+made_of v source (action.Dissolve spec group_points) l = dissolve_layer (plane_of v) spec group_points l
+made_of v source (action.Clean rule allow_empty gap) l = clean_layer (plane_of v) v.answers rule allow_empty gap l
+made_of v source action.Mosaic l = mosaic_layer (plane_of v) v.answers l
+made_of v source action.Explode l = explode_layer (plane_of v) v.answers l
+made_of v source _ l = Ok []
+
+other : {P : Type 0} → false ≡ true → P
+other e = absurd (true≢false (sym e))
+
+by_source_is : (found : Result Region outcome.RefuseWhy) (source : Region) (f : Region → StateLayer → Outputs) (ls : List StateLayer) → ((r : Region) → found ≡ Ok r → r ≡ source) → refusal_of found ≡ None →
+    on_ok found (λ (r : Region). each_layer (f r) ls) ≡ each_layer (f source) ls
+by_source_is (Ok r) source f ls same none = ap (λ (q : Region). each_layer (f q) ls) (same r refl)
+by_source_is (Err why) source f ls same none = absurd (let w : Some why ≡ None = none in cc)
+
+module _ (v : View) (view : IsView v) (base : Base) (seen : IsSeenIn v base.plane) (sources : SourceLayers) (owns : SourcesShow v base.sources sources) (layers : List Held) (s : State) (h : StateShows v layers s) where
+  no_area : (from : Origin) (why : RefuseWhy) → held.refused_area base.sources layers from ≡ Some why → area_of base layers from ≡ []
+  no_area (origin.Area n) why some = absurd (let none : None ≡ Some why = some in cc)
+  no_area (origin.Layer name) why some =
+      no_area_of v (run.one_layer (run.origin_layers base.sources layers (origin.Layer name))) (model.one_layer (model.origin_layers sources s (origin.Layer name)))
+      (one_layer_shows v (run.origin_layers base.sources layers (origin.Layer name)) (model.origin_layers sources s (origin.Layer name)) (origins_show v layers s h base.sources sources owns (origin.Layer name))) why some
+  no_area (origin.Source n) why some =
+      no_area_of v (run.one_layer (run.origin_layers base.sources layers (origin.Source n))) (model.one_layer (model.origin_layers sources s (origin.Source n)))
+      (one_layer_shows v (run.origin_layers base.sources layers (origin.Source n)) (model.origin_layers sources s (origin.Source n)) (origins_show v layers s h base.sources sources owns (origin.Source n))) why some
+
+  abbrev Cuts : Origin → Type 0
+  Cuts from = CutRegion v (area_of base layers from) (source_region sources s from)
+
+  cut_by : (from : Origin) → Cuts from
+  cut_by from = cut_region v (held.refused_area base.sources layers from) (area_of base layers from) (source_region sources s from) (areas_show v view base seen sources owns layers s h from) (no_area from)
+
+  -- the region that the command cuts by, where it cuts
+  abbrev by_region : LayerAction → Region
+  by_region (action.Clip from) = CutRegion.source (cut_by from)
+  by_region (action.Erase from) = CutRegion.source (cut_by from)
+  by_region _ = any_of []
+
+  abbrev made : LayerAction → StateLayer → Outputs
+  made a l = made_of v (by_region a) a l
+
+  outputs_are : (a : LayerAction) → is_on_polygons a ≡ true → refused_source sources s (does.Each a) ≡ None → (ls : List StateLayer) → outputs_of (plane_of v) v.answers sources s (does.Each a) ls ≡ each_layer (made a) ls
+  outputs_are (action.Clip from) on none ls = by_source_is (source_region sources s from) (by_region (action.Clip from)) (clip_layer (plane_of v) v.answers) ls (cut_by from).is none
+  outputs_are (action.Erase from) on none ls = by_source_is (source_region sources s from) (by_region (action.Erase from)) (erase_layer (plane_of v) v.answers) ls (cut_by from).is none
+  outputs_are (action.Dissolve spec group_points) on none ls = refl
+  outputs_are (action.Clean rule allow_empty gap) on none ls = refl
+  outputs_are action.Mosaic on none ls = refl
+  outputs_are action.Explode on none ls = refl
+  outputs_are a on none ls = other on
+
+  -- ---- and a run
+
+  makes_alike : (a : LayerAction) → is_on_polygons a ≡ true → (layer : Layer) (l : StateLayer) → PolygonsShow v layer l → LayerAlike v (PutsOut base layers a layer) (held.RefusesLayer base layers a layer) (made a l)
+  makes_alike (action.Clip from) on layer l shown = alike_with (clipped_polygons_show v view base.plane seen layer l shown (area_of base layers from) (by_region (action.Clip from)) (cut_by from).shows)
+  makes_alike (action.Erase from) on layer l shown = alike_with (erased_polygons_show v view base.plane seen layer l shown (area_of base layers from) (by_region (action.Erase from)) (cut_by from).shows)
+  makes_alike (action.Dissolve spec group_points) on layer l shown = alike_with (dissolved_polygons_show v base.plane seen layer l shown spec group_points)
+  makes_alike (action.Clean rule allow_empty gap) on layer l shown = alike_with (filled_polygons_show v view base.plane seen layer l shown rule allow_empty gap (ltb-true 0 gap on))
+  makes_alike action.Mosaic on layer l shown = alike_with (mosaics_show v view base.plane seen layer l shown)
+  makes_alike action.Explode on layer l shown = alike_with (exploded_polygons_show v view base.plane seen layer l shown)
+  makes_alike a on layer l shown = other on
+
+  -- ---- how many layers
+
+  one_of : {m : StateLayer} {outs : List StateLayer} → just m ≡ Ok outs → length outs ≡ 1
+  one_of {m} {outs} e = let same : m ∷ [] ≡ outs = cc in sym (ap length same)
+
+  one_grouped : (b : Bool) (make : Grouped → StateLayer) (answer : Result Grouped TableWhy) (outs : List StateLayer) → (if b then Err outcome.no_group_points else on_ok (in_layer answer) (λ (g : Grouped). just (make g))) ≡ Ok outs → length outs ≡ 1
+  one_grouped true make answer outs e = absurd (let clash : Err outcome.no_group_points ≡ Ok outs = e in cc)
+  one_grouped false make (Ok g) outs e = one_of e
+  one_grouped false make (Err why) outs e = absurd (cc)
+
+  so_many : (a : LayerAction) → is_on_polygons a ≡ true → (layer : Layer) (l : StateLayer) → LayerShows v layer l → (outs : List StateLayer) → made a l ≡ Ok outs → length outs ≡ held.output_count a layer
+  so_many (action.Clip from) on layer l shown outs e = one_of e
+  so_many (action.Erase from) on layer l shown outs e = one_of e
+  so_many (action.Dissolve spec group_points) on layer l shown outs e =
+      one_grouped (same_kind l.kind kinds.Point && not group_points) (λ (g : Grouped). record l { table = g.table; shapes = map (dissolved_shape (plane_of v) l) g.groups }) (group_rows l.table spec) outs e
+  so_many (action.Clean rule allow_empty gap) on layer l shown outs e = one_of e
+  so_many action.Mosaic on layer l shown outs e = one_of e
+  so_many action.Explode on layer l shown outs e = one_of e
+  so_many a on layer l shown outs e = other on
+
+  -- ---- the source, and the kinds
+
+  source_alike : (a : LayerAction) → is_on_polygons a ≡ true → refused_source sources s (does.Each a) ≡ option_map why_of (held.refused_source base.sources layers a)
+  source_alike (action.Clip from) on = area_alike v (held.refused_area base.sources layers from) (area_of base layers from) (source_region sources s from) (areas_show v view base seen sources owns layers s h from)
+  source_alike (action.Erase from) on = area_alike v (held.refused_area base.sources layers from) (area_of base layers from) (source_region sources s from) (areas_show v view base seen sources owns layers s h from)
+  source_alike (action.Dissolve spec group_points) on = refl
+  source_alike (action.Clean rule allow_empty gap) on = refl
+  source_alike action.Mosaic on = refl
+  source_alike action.Explode on = refl
+  source_alike a on = other on
+
+  kinds_alike : (a : LayerAction) → is_on_polygons a ≡ true → (ts : List Layer) (ls : List StateLayer) → AllZip (LayerShows v) ts ls → unfit sources s (does.Each a) ls ≡ option_map why_of (held.refused_kinds base.sources layers a ts)
+  kinds_alike (action.Clip from) on ts ls shown = only_taken v (action.Clip from) ts ls shown
+  kinds_alike (action.Erase from) on ts ls shown = only_taken v (action.Erase from) ts ls shown
+  kinds_alike (action.Dissolve spec group_points) on ts ls shown = only_taken v (action.Dissolve spec group_points) ts ls shown
+  kinds_alike (action.Clean rule allow_empty gap) on ts ls shown = only_taken v (action.Clean rule allow_empty gap) ts ls shown
+  kinds_alike action.Mosaic on ts ls shown = only_taken v action.Mosaic ts ls shown
+  kinds_alike action.Explode on ts ls shown = only_taken v action.Explode ts ls shown
+  kinds_alike a on ts ls shown = other on
+
+  -- ---- all together
+
+  module _ (c : Command) (a : LayerAction) (on : is_on_polygons a ≡ true) (polygons : AreOfPolygons (targets c.target layers)) where
+    abbrev Both : Layer → StateLayer → Type 0
+    Both layer l = LayerShows v layer l × LayerAlike v (PutsOut base layers a layer) (held.RefusesLayer base layers a layer) (made a l)
+
+    all_alike : AllZip Both (targets c.target layers) (layers_at s (target_numbers c.target layers))
+    all_alike =
+        let ts : List Layer = targets c.target layers in
+        let ls : List StateLayer = layers_at s (target_numbers c.target layers) in
+        zip_weaker (λ (layer : Layer) (l : StateLayer). LayerShows v layer l × (layer.kind ≡ kinds.Polygon)) Both (λ layer l pair. (pair.0, makes_alike a on layer l (record { shows = pair.0; polygons = pair.1 }))) ts ls
+        (zip_with_all (LayerShows v) (λ (layer : Layer). layer.kind ≡ kinds.Polygon) ts ls (targets_show v layers s h c.target).show polygons)
+
+    is_alike : IsAlike v base layers sources s c a (made a)
+    is_alike = record {
+      source = source_alike a on;
+      kinds = kinds_alike a on (targets c.target layers) (layers_at s (target_numbers c.target layers)) (targets_show v layers s h c.target).show;
+      outputs = λ none ls. outputs_are a on none ls;
+      pairs = all_alike;
+      count = so_many a on;
+    }
+
+pub polygon_steps_show : PolygonStepsShow
+polygon_steps_show v view base seen sources owns layers s h c a does_each on polygons =
+    step_shows v base layers sources s h c a does_each (made v view base seen sources owns layers s h a) (is_alike v view base seen sources owns layers s h c a on polygons)

@@ -1,0 +1,6 @@
+-- The law is proved by itself.
+use Rattle.state_laws.proofs.PolygonParts.{exploded_polygons_show}
+use Rattle.state_laws.proofs.exploded_polygons_show.Goals as goal
+
+pub returns : goal.returns
+returns c = exploded_polygons_show

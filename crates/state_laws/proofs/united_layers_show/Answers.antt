@@ -1,0 +1,6 @@
+-- The law is proved by itself.
+use Rattle.state_laws.proofs.PolygonUnion.{united_layers_show}
+use Rattle.state_laws.proofs.united_layers_show.Goals as goal
+
+pub returns : goal.returns
+returns c = united_layers_show

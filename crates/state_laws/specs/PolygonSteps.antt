@@ -1,0 +1,34 @@
+-- Laws of steps: the state after a command on layers of polygons, and why it is refused.
+use Rattle.std.specs.Prelude.{◌≡◌, Bool, true, false, nat_lt, List, All}
+use Rattle.grid_base.specs.declared.kinds.Kind.TheVariants as kinds
+use Rattle.cmd_words.specs.declared.job.Action.TheVariants as does
+use Rattle.cmd_words.specs.declared.job.Command.{Command}
+use Rattle.cmd_words.specs.declared.job.LayerAction.{LayerAction}
+use Rattle.cmd_words.specs.declared.job.LayerAction.TheVariants as action
+use Rattle.run_plane.specs.declared.layer.Layer.{Layer}
+use Rattle.run_state.specs.Origins.{Base}
+use Rattle.run_state.specs.Targets.{targets}
+use Rattle.run_state.specs.declared.state.Held.{Held}
+use Rattle.chain_model.specs.State.{State}
+use Rattle.chain_model.specs.Targets.{SourceLayers}
+use Rattle.state_laws.specs.Shown.{View, IsView, SourcesShow, StateShows}
+use Rattle.state_laws.specs.Polygons.{IsSeenIn}
+use Rattle.state_laws.specs.Steps.{StepShows}
+
+-- the command works on polygons; a clean where it fills gaps of some area
+abbrev pub is_on_polygons : LayerAction → Bool
+is_on_polygons (action.Clip from) = true
+is_on_polygons (action.Erase from) = true
+is_on_polygons (action.Dissolve spec group_points) = true
+is_on_polygons (action.Clean rule allow_empty gap) = nat_lt 0 gap
+is_on_polygons action.Mosaic = true
+is_on_polygons action.Explode = true
+is_on_polygons _ = false
+
+abbrev pub AreOfPolygons : List Layer → Type 0
+AreOfPolygons layers = All (λ (layer : Layer). layer.kind ≡ kinds.Polygon) layers
+
+-- where the layers of its target have polygons
+abbrev pub PolygonStepsShow : Type 0
+PolygonStepsShow = (v : View) → IsView v → (base : Base) → IsSeenIn v base.plane → (sources : SourceLayers) → SourcesShow v base.sources sources → (layers : List Held) (s : State) → StateShows v layers s →
+    (c : Command) (a : LayerAction) → c.action ≡ does.Each a → is_on_polygons a ≡ true → AreOfPolygons (targets c.target layers) → StepShows v base layers sources s c a

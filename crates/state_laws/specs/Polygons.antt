@@ -1,0 +1,113 @@
+-- Laws of commands on polygons: what a run makes of the sets of faces of a layer shows what the state's definitions make of the regions that they follow, and both are refused alike.
+use Rattle.std.specs.Prelude.{◌≡◌, ℕ, ◌<◌, ◌^◌, Bool, if◌then◌else◌, List, [], ◌∷◌, length, slice_index_or, Option, Some, None, Result, Ok, Err}
+use Rattle.std.specs.List.{AllZip}
+use Rattle.grid_base.specs.declared.kinds.Kind.TheVariants as kinds
+use Rattle.grid_base.specs.declared.kinds.OverlapRule.{OverlapRule}
+use Rattle.table_terms.specs.declared.specifications.GroupSpec.{GroupSpec}
+use Rattle.table_ops.specs.Merge.{all_names}
+use Rattle.region_model.specs.Region.{Region, box}
+use Rattle.region_model.specs.Answers as model
+use Rattle.region_model.specs.Answers.{Answers}
+use Rattle.region_model.specs.PolygonCommands.{cleaned}
+use Rattle.cmd_words.specs.declared.job.Origin.{Origin}
+use Rattle.run_plane.specs.declared.layer.Layer.{Layer}
+use Rattle.run_plane.specs.declared.plane.Plane.{Plane}
+use Rattle.run_state.specs.Origins.{Base}
+use Rattle.run_state.specs.declared.refusal.RefuseWhy.{RefuseWhy}
+use Rattle.run_state.specs.declared.state.Held.{Held}
+use Rattle.run_tables.specs.Made.{One}
+use Rattle.run_shapes.specs.Cleaning.{IsCleaned, IsMosaicOf}
+use Rattle.run_shapes.specs.Cutting.{IsCut}
+use Rattle.run_shapes.specs.Dissolving.{IsGrouped, refused_dissolve}
+use Rattle.run_shapes.specs.Exploding.{IsExploded}
+use Rattle.run_shapes.specs.FaceSets.{area_of}
+use Rattle.run_shapes.specs.Uniting.{IsUnited, layer_tables}
+use Rattle.run_shapes.specs.declared.cutting.CutKeeps.TheVariants as keeps
+use Rattle.run_steps.specs.Refusals.{refused_alone, refused_area}
+use Rattle.chain_model.specs.Outcome as state
+use Rattle.chain_model.specs.State.{State, StateLayer, region_at, without_empty}
+use Rattle.chain_model.specs.Features.{Outputs, clean_layer, clip_layer, count_of, dissolve_layer, erase_layer, explode_layer, just, mosaic_layer, shapes_by, united_layers}
+use Rattle.chain_model.specs.Steps.{source_region}
+use Rattle.chain_model.specs.Targets.{SourceLayers}
+use Rattle.state_laws.specs.Shown.{View, IsView, FacesShow, LayerShows, SourcesShow, StateShows, plane_of}
+use Rattle.state_laws.specs.Reasons.{MakesAlike, RefusedAlike, why_of}
+use Rattle.state_laws.specs.Tables.{MergedShows}
+
+-- a run's plane has the arcs and the faces of the view, and the faces that a box holds show the box: none, past the last
+pub record IsSeenIn (v : View) (plane : Plane) : Type 0 where
+  pub arcs : plane.arcs ≡ v.arcs
+  pub faces : plane.faces ≡ v.faces
+  pub boxes : (n : ℕ) → FacesShow v (slice_index_or plane.boxes.items n []) (box n)
+
+-- the layer shows that of the state, and both have polygons
+pub record PolygonsShow (v : View) (layer : Layer) (l : StateLayer) : Type 0 where
+  pub shows : LayerShows v layer l
+  pub polygons : layer.kind ≡ kinds.Polygon
+
+-- ---- what a command cuts by
+
+-- the faces show the region of the answer, or both are refused for the same reason
+pub record AreaShows (v : View) (refusal : Option RefuseWhy) (area : List ℕ) (answer : Result Region state.RefuseWhy) : Type 0 where
+  pub there : refusal ≡ None → (source : Region) × (answer ≡ Ok source) × FacesShow v area source
+  pub refused : (why : RefuseWhy) → refusal ≡ Some why → answer ≡ Err (why_of why)
+
+abbrev pub AreasShow : Type 0
+AreasShow = (v : View) → IsView v → (base : Base) → IsSeenIn v base.plane → (sources : SourceLayers) → SourcesShow v base.sources sources → (layers : List Held) (s : State) → StateShows v layers s → (from : Origin) →
+    AreaShows v (refused_area base.sources layers from) (area_of base layers from) (source_region sources s from)
+
+-- ---- clip and erase
+
+abbrev pub ClippedPolygonsShow : Type 0
+ClippedPolygonsShow = (v : View) → IsView v → (plane : Plane) → IsSeenIn v plane → (layer : Layer) (l : StateLayer) → PolygonsShow v layer l → (area : List ℕ) (source : Region) → FacesShow v area source →
+    MakesAlike v (One (IsCut keeps.Inside plane area layer)) None (clip_layer (plane_of v) v.answers source l)
+
+abbrev pub ErasedPolygonsShow : Type 0
+ErasedPolygonsShow = (v : View) → IsView v → (plane : Plane) → IsSeenIn v plane → (layer : Layer) (l : StateLayer) → PolygonsShow v layer l → (area : List ℕ) (source : Region) → FacesShow v area source →
+    MakesAlike v (One (IsCut keeps.Outside plane area layer)) None (erase_layer (plane_of v) v.answers source l)
+
+-- ---- dissolve
+
+abbrev pub DissolvedPolygonsShow : Type 0
+DissolvedPolygonsShow = (v : View) (plane : Plane) → IsSeenIn v plane → (layer : Layer) (l : StateLayer) → PolygonsShow v layer l → (spec : GroupSpec) (group_points : Bool) →
+    MakesAlike v (One (IsGrouped plane spec layer)) (refused_dissolve spec group_points layer) (dissolve_layer (plane_of v) spec group_points l)
+
+-- ---- clean
+
+-- where gaps of some area are filled
+abbrev pub FilledPolygonsShow : Type 0
+FilledPolygonsShow = (v : View) → IsView v → (plane : Plane) → IsSeenIn v plane → (layer : Layer) (l : StateLayer) → PolygonsShow v layer l → (rule : OverlapRule) (allow_empty : Bool) (gap : ℕ) → 0 < gap →
+    MakesAlike v (One (IsCleaned rule allow_empty gap plane layer)) None (clean_layer (plane_of v) v.answers rule allow_empty gap l)
+
+-- what overlaps that are given away leave, without a look at gaps
+abbrev pub plainly_cleaned : model.Plane → Answers → OverlapRule → Bool → StateLayer → Outputs
+plainly_cleaned P A rule allow_empty l =
+    let left : StateLayer = record l { shapes = shapes_by (cleaned P A rule (region_at l) (count_of l)) l } in
+    just (if allow_empty then left else without_empty P A left)
+
+-- so it is where no gap is filled
+abbrev pub CleanedPolygonsShow : Type 0
+CleanedPolygonsShow = (v : View) → IsView v → (plane : Plane) → IsSeenIn v plane → (layer : Layer) (l : StateLayer) → PolygonsShow v layer l → (rule : OverlapRule) (allow_empty : Bool) →
+    MakesAlike v (One (IsCleaned rule allow_empty 0 plane layer)) None (plainly_cleaned (plane_of v) v.answers rule allow_empty l)
+
+-- ---- mosaic and explode
+
+abbrev pub MosaicsShow : Type 0
+MosaicsShow = (v : View) → IsView v → (plane : Plane) → IsSeenIn v plane → (layer : Layer) (l : StateLayer) → PolygonsShow v layer l → MakesAlike v (One (IsMosaicOf plane layer)) None (mosaic_layer (plane_of v) v.answers l)
+
+abbrev pub ExplodedPolygonsShow : Type 0
+ExplodedPolygonsShow = (v : View) → IsView v → (plane : Plane) → IsSeenIn v plane → (layer : Layer) (l : StateLayer) → PolygonsShow v layer l → MakesAlike v (One (IsExploded plane layer)) None (explode_layer (plane_of v) v.answers l)
+
+-- ---- union
+
+-- the columns of all layers are few enough to be numbered
+abbrev pub HasFewColumns : List Layer → Type 0
+HasFewColumns layers = length (all_names (layer_tables layers)) < 2 ^ 63
+
+-- the union is put out for the first layer, and nothing for the others
+abbrev pub UnitedLayersShow : Type 0
+UnitedLayersShow = (v : View) → IsView v → (plane : Plane) → IsSeenIn v plane → (first second : Layer) (layers : List Layer) (ls : List StateLayer) → AllZip (PolygonsShow v) (first ∷ second ∷ layers) ls →
+    HasFewColumns (first ∷ second ∷ layers) → (made : Layer) → IsUnited plane (first ∷ second ∷ layers) made → MergedShows v made (second ∷ layers) (united_layers (plane_of v) v.answers ls)
+
+-- one layer alone is refused, and no others
+abbrev pub LoneLayersAreRefused : Type 0
+LoneLayersAreRefused = (v : View) (layers : List Layer) (ls : List StateLayer) → AllZip (LayerShows v) layers ls → RefusedAlike (refused_alone layers) (united_layers (plane_of v) v.answers ls)
