@@ -28,8 +28,8 @@ use Rattle.run_shapes.specs.declared.cutting.CutKeeps.TheVariants as keeps
 use Rattle.chain_model.specs.State as state
 use Rattle.chain_model.specs.State.{StateLayer, without_empty}
 use Rattle.chain_model.specs.Features.{clip_shape, erase_shape, just}
-use Rattle.state_laws.specs.Shown.{View, IsView, ArcsShow, AreVertices, FacesShow, LayerShows, LineShows, NothingShows, PointsShow, ShapeShows, plane_of}
-use Rattle.state_laws.specs.Lines.{ClippedLinesShow, ErasedLinesShow, IsSeenIn}
+use Rattle.state_laws.specs.Shown.{View, IsView, ArcsShow, AreVertices, FacesShow, LayerShows, LineShows, NothingShows, PointsShow, ShapeShows, plane_of, IsSeenIn}
+use Rattle.state_laws.specs.Lines.{ClippedLinesShow, ErasedLinesShow}
 use Rattle.state_laws.proofs.Empty.{left_features_show}
 use Rattle.state_laws.proofs.OnPlane.{list_stays}
 use Rattle.state_laws.proofs.TableCommands.{one_shows}

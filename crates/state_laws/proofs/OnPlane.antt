@@ -15,8 +15,7 @@ use Rattle.run_plane.specs.declared.layer.Shape.{Shape}
 use Rattle.run_plane.specs.declared.plane.Plane.{Plane}
 use Rattle.run_shapes.specs.FaceSets.{sets_on}
 use Rattle.chain_model.specs.State as state
-use Rattle.state_laws.specs.Shown.{View, IsView, FacesShow, PolygonShows}
-use Rattle.state_laws.specs.Lines.{IsSeenIn}
+use Rattle.state_laws.specs.Shown.{View, IsView, FacesShow, PolygonShows, IsSeenIn}
 use Rattle.state_laws.proofs.Zipped.{zip_map}
 
 all_pass : {A : Type 0} (test : A → Bool) (P : A → Type 0) → ((x : A) → P x → test x ≡ true) → (xs : List A) → All P xs → list_all test xs ≡ true

@@ -40,9 +40,9 @@ use Rattle.run_state.specs.Stops.{table_refusal}
 use Rattle.chain_model.specs.State as state
 use Rattle.chain_model.specs.State.{StateLayer, regions_in}
 use Rattle.chain_model.specs.Features.{Outputs, first_difference, in_layer, inner_lines_layer, just, line_layer, line_row, lines_layer, type_and_rank}
-use Rattle.state_laws.specs.Shown.{View, IsView, FacesShow, LayerShows, LineShows, ShapeShows, plane_of}
+use Rattle.state_laws.specs.Shown.{View, IsView, FacesShow, LayerShows, LineShows, ShapeShows, plane_of, IsSeenIn}
 use Rattle.state_laws.specs.Reasons.{OutputsShow, RefusedAlike}
-use Rattle.state_laws.specs.Lines.{InnerLinesShow, IsSeenIn, OutlinesShow}
+use Rattle.state_laws.specs.Lines.{InnerLinesShow, OutlinesShow}
 use Rattle.state_laws.proofs.Below.{behind_refusal}
 use Rattle.state_laws.proofs.LineGroups.{one_linked, one_there}
 use Rattle.state_laws.proofs.OnPlane.{sets_show}

@@ -22,8 +22,7 @@ use Rattle.run_shapes.specs.Matching.{AreMatchesOf, point_lists}
 use Rattle.run_steps.specs.Refusals.{joins_with}
 use Rattle.chain_model.specs.State as state
 use Rattle.chain_model.specs.Features.{matches_of}
-use Rattle.state_laws.specs.Shown.{View, IsView, AreVertices, FacesShow, PointsShow, PolygonShows, ShapeShows}
-use Rattle.state_laws.specs.Lines.{IsSeenIn}
+use Rattle.state_laws.specs.Shown.{View, IsView, AreVertices, FacesShow, PointsShow, PolygonShows, ShapeShows, IsSeenIn}
 use Rattle.state_laws.specs.Places.{PlaceJoinsShow}
 use Rattle.state_laws.proofs.OnPlane.{sets_show}
 use Rattle.state_laws.proofs.TableCommands.{tables_show}

@@ -30,8 +30,8 @@ use Rattle.run_shapes.specs.Cleaning.{IsCleaned}
 use Rattle.run_shapes.specs.FaceSets.{HasSets, face_shapes}
 use Rattle.chain_model.specs.State.{StateLayer, region_at, regions_in, without_empty}
 use Rattle.chain_model.specs.Features.{clean_layer, count_of, shapes_by}
-use Rattle.state_laws.specs.Shown.{View, IsView, FacesShow, LayerShows, ShapeShows, plane_of}
-use Rattle.state_laws.specs.Polygons.{CleanedPolygonsShow, FilledPolygonsShow, IsSeenIn, PolygonsShow, plainly_cleaned}
+use Rattle.state_laws.specs.Shown.{View, IsView, FacesShow, LayerShows, ShapeShows, plane_of, IsSeenIn}
+use Rattle.state_laws.specs.Polygons.{CleanedPolygonsShow, FilledPolygonsShow, PolygonsShow, plainly_cleaned}
 use Rattle.state_laws.proofs.Empty.{left_features_show}
 use Rattle.state_laws.proofs.PolygonSets.{all_inner, all_rise, follow_regions, layer_sets, sets_many, sets_of, shapes_made}
 use Rattle.state_laws.proofs.Taking.{rows_show}

@@ -35,9 +35,9 @@ use Rattle.chain_model.specs.Features.{clip_layer, clip_shape, erase_layer, eras
 use Rattle.chain_model.specs.Steps.{layer_region}
 use Rattle.chain_model.specs.Targets as targets
 use Rattle.chain_model.specs.Targets.{SourceLayers}
-use Rattle.state_laws.specs.Shown.{View, IsView, FacesShow, LayerShows, PolygonShows, ShapeShows, plane_of}
+use Rattle.state_laws.specs.Shown.{View, IsView, FacesShow, LayerShows, PolygonShows, ShapeShows, plane_of, IsSeenIn}
 use Rattle.state_laws.specs.Reasons.{AnswerShows, why_of}
-use Rattle.state_laws.specs.Polygons.{AreaShows, AreasShow, ClippedPolygonsShow, ErasedPolygonsShow, IsSeenIn, PolygonsShow}
+use Rattle.state_laws.specs.Polygons.{AreaShows, AreasShow, ClippedPolygonsShow, ErasedPolygonsShow, PolygonsShow}
 use Rattle.state_laws.proofs.Empty.{left_features_show}
 use Rattle.state_laws.proofs.PolygonSets.{any_shows, is_region, layer_sets, polygons_show, sets_counted, sets_of}
 use Rattle.state_laws.proofs.TableCommands.{one_shows}

@@ -36,9 +36,9 @@ use Rattle.run_shapes.specs.Dissolving.{IsGrouped, grouped_shapes, is_point, ref
 use Rattle.run_shapes.specs.FaceSets.{face_shapes}
 use Rattle.chain_model.specs.State.{StateLayer, region_at, regions_in}
 use Rattle.chain_model.specs.Features.{Outputs, dissolve_layer, dissolved_shape, in_layer, just}
-use Rattle.state_laws.specs.Shown.{View, FacesShow, LayerShows, PolygonShows, ShapeShows, plane_of}
+use Rattle.state_laws.specs.Shown.{View, FacesShow, LayerShows, PolygonShows, ShapeShows, plane_of, IsSeenIn}
 use Rattle.state_laws.specs.Reasons.{MakesAlike, RefusedAlike}
-use Rattle.state_laws.specs.Polygons.{DissolvedPolygonsShow, IsSeenIn, PolygonsShow}
+use Rattle.state_laws.specs.Polygons.{DissolvedPolygonsShow, PolygonsShow}
 use Rattle.state_laws.proofs.Below.{behind_refusal}
 use Rattle.state_laws.proofs.PolygonSets.{all_inner, follow_regions, layer_sets, sets_counted, sets_of}
 use Rattle.state_laws.proofs.Taking.{shapes_in}

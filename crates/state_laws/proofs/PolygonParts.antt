@@ -39,8 +39,8 @@ use Rattle.run_shapes.specs.FaceSets.{face_shapes}
 use Rattle.chain_model.specs.State as state
 use Rattle.chain_model.specs.State.{StateLayer, region_at, region_of, regions_in}
 use Rattle.chain_model.specs.Features.{Feature, count_of, explode_layer, exploded_shapes, mosaic_layer, numbers_text}
-use Rattle.state_laws.specs.Shown.{View, IsView, FacesShow, LayerShows, PolygonShows, ShapeShows, plane_of}
-use Rattle.state_laws.specs.Polygons.{ExplodedPolygonsShow, IsSeenIn, MosaicsShow, PolygonsShow}
+use Rattle.state_laws.specs.Shown.{View, IsView, FacesShow, LayerShows, PolygonShows, ShapeShows, plane_of, IsSeenIn}
+use Rattle.state_laws.specs.Polygons.{ExplodedPolygonsShow, MosaicsShow, PolygonsShow}
 use Rattle.state_laws.proofs.PolygonSets.{all_inner, follow_regions, is_region, layer_sets, polygons_show, sets_many, sets_of, shapes_show, show_in_order}
 use Rattle.state_laws.proofs.Taking.{shapes_in}
 use Rattle.state_laws.proofs.TableCommands.{one_shows}

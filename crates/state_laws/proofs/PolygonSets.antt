@@ -29,8 +29,8 @@ use Rattle.run_shapes.specs.FaceSets.{any_faces, face_shapes, faces_in, sets_on}
 use Rattle.chain_model.specs.State as state
 use Rattle.chain_model.specs.State.{StateLayer, region_at, region_of, regions_in}
 use Rattle.chain_model.specs.Features.{count_of}
-use Rattle.state_laws.specs.Shown.{View, FacesShow, PolygonShows, ShapeShows}
-use Rattle.state_laws.specs.Polygons.{IsSeenIn, PolygonsShow}
+use Rattle.state_laws.specs.Shown.{View, FacesShow, PolygonShows, ShapeShows, IsSeenIn}
+use Rattle.state_laws.specs.Polygons.{PolygonsShow}
 use Rattle.state_laws.proofs.Zipped.{zip_long}
 
 -- ---- faces on the plane

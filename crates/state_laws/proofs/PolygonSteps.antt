@@ -34,9 +34,9 @@ use Rattle.chain_model.specs.Targets as model
 use Rattle.chain_model.specs.Targets.{SourceLayers, layers_at}
 use Rattle.chain_model.specs.Features.{Outputs, clean_layer, clip_layer, dissolve_layer, dissolved_shape, erase_layer, explode_layer, in_layer, just, mosaic_layer}
 use Rattle.chain_model.specs.Steps.{each_layer, outputs_of, refusal_of, refused_source, source_region}
-use Rattle.state_laws.specs.Shown.{View, IsView, FacesShow, LayerShows, LineShows, NothingShows, PointsShow, ShapeShows, SourcesShow, StateShows, plane_of}
+use Rattle.state_laws.specs.Shown.{View, IsView, FacesShow, LayerShows, LineShows, NothingShows, PointsShow, ShapeShows, SourcesShow, StateShows, plane_of, IsSeenIn}
 use Rattle.state_laws.specs.Reasons.{AnswerShows, why_of}
-use Rattle.state_laws.specs.Polygons.{AreaShows, IsSeenIn, PolygonsShow}
+use Rattle.state_laws.specs.Polygons.{AreaShows, PolygonsShow}
 use Rattle.state_laws.specs.PolygonSteps.{AreOfPolygons, PolygonStepsShow, is_on_polygons}
 use Rattle.state_laws.specs.Targets.{target_numbers}
 use Rattle.state_laws.proofs.EachLayer.{LayerAlike, alike_with}

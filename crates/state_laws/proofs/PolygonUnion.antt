@@ -30,8 +30,8 @@ use Rattle.chain_model.specs.State as state
 use Rattle.chain_model.specs.State.{StateLayer, regions_in}
 use Rattle.chain_model.specs.Features.{united_layer}
 use Rattle.chain_model.specs.UnionTable.{union_table, with_new_names}
-use Rattle.state_laws.specs.Shown.{View, IsView, FacesShow, LayerShows, PolygonShows, ShapeShows, plane_of}
-use Rattle.state_laws.specs.Polygons.{HasFewColumns, IsSeenIn, LoneLayersAreRefused, PolygonsShow, UnitedLayersShow}
+use Rattle.state_laws.specs.Shown.{View, IsView, FacesShow, LayerShows, PolygonShows, ShapeShows, plane_of, IsSeenIn}
+use Rattle.state_laws.specs.Polygons.{HasFewColumns, LoneLayersAreRefused, PolygonsShow, UnitedLayersShow}
 use Rattle.state_laws.proofs.PolygonNames.{names_made_new}
 use Rattle.state_laws.proofs.PolygonParts.{parts_inner}
 use Rattle.state_laws.proofs.PolygonSets.{all_inner, follow_in_order, layer_sets, sets_of, shapes_show, show_in_order}

@@ -16,13 +16,8 @@ use Rattle.run_state.specs.Stops.{table_refusal}
 use Rattle.run_tables.specs.Made.{One}
 use Rattle.chain_model.specs.State.{StateLayer}
 use Rattle.chain_model.specs.Features.{clip_layer, dissolve_layer, erase_layer, explode_layer, inner_lines_layer, lines_layer}
-use Rattle.state_laws.specs.Shown.{View, IsView, FacesShow, LayerShows, plane_of}
+use Rattle.state_laws.specs.Shown.{View, IsView, FacesShow, LayerShows, plane_of, IsSeenIn}
 use Rattle.state_laws.specs.Reasons.{MakesAlike}
-
--- the view has the arcs and the faces of the plane of a run
-pub record IsSeenIn (v : View) (plane : Plane) : Type 0 where
-  pub arcs : plane.arcs ≡ v.arcs
-  pub faces : plane.faces ≡ v.faces
 
 -- ---- laws of layers without polygons
 

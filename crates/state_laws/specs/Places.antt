@@ -10,8 +10,7 @@ use Rattle.run_steps.specs.Refusals.{joins_with}
 use Rattle.run_tables.specs.Made.{GivesTable, One}
 use Rattle.chain_model.specs.State.{StateLayer}
 use Rattle.chain_model.specs.Features.{place_join_layer}
-use Rattle.state_laws.specs.Shown.{View, IsView, LayerShows}
-use Rattle.state_laws.specs.Lines.{IsSeenIn}
+use Rattle.state_laws.specs.Shown.{View, IsView, LayerShows, IsSeenIn}
 use Rattle.state_laws.specs.Reasons.{MakesAlike}
 
 -- by the rows of the source that match, as they are found

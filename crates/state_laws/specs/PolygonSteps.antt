@@ -11,8 +11,7 @@ use Rattle.run_state.specs.Targets.{targets}
 use Rattle.run_state.specs.declared.state.Held.{Held}
 use Rattle.chain_model.specs.State.{State}
 use Rattle.chain_model.specs.Targets.{SourceLayers}
-use Rattle.state_laws.specs.Shown.{View, IsView, SourcesShow, StateShows}
-use Rattle.state_laws.specs.Polygons.{IsSeenIn}
+use Rattle.state_laws.specs.Shown.{View, IsView, SourcesShow, StateShows, IsSeenIn}
 use Rattle.state_laws.specs.Steps.{StepShows}
 
 -- the command works on polygons; a clean where it fills gaps of some area

@@ -29,15 +29,9 @@ use Rattle.chain_model.specs.State.{State, StateLayer, region_at, without_empty}
 use Rattle.chain_model.specs.Features.{Outputs, clean_layer, clip_layer, count_of, dissolve_layer, erase_layer, explode_layer, just, mosaic_layer, shapes_by, united_layers}
 use Rattle.chain_model.specs.Steps.{source_region}
 use Rattle.chain_model.specs.Targets.{SourceLayers}
-use Rattle.state_laws.specs.Shown.{View, IsView, FacesShow, LayerShows, SourcesShow, StateShows, plane_of}
+use Rattle.state_laws.specs.Shown.{View, IsView, FacesShow, LayerShows, SourcesShow, StateShows, plane_of, IsSeenIn}
 use Rattle.state_laws.specs.Reasons.{MakesAlike, RefusedAlike, why_of}
 use Rattle.state_laws.specs.Tables.{MergedShows}
-
--- a run's plane has the arcs and the faces of the view, and the faces that a box holds show the box: none, past the last
-pub record IsSeenIn (v : View) (plane : Plane) : Type 0 where
-  pub arcs : plane.arcs ≡ v.arcs
-  pub faces : plane.faces ≡ v.faces
-  pub boxes : (n : ℕ) → FacesShow v (slice_index_or plane.boxes.items n []) (box n)
 
 -- the layer shows that of the state, and both have polygons
 pub record PolygonsShow (v : View) (layer : Layer) (l : StateLayer) : Type 0 where

@@ -1,5 +1,5 @@
 -- Layers that a run holds show layers of a state: rows are the same, sets of faces follow regions, signed arcs run along paths, points are the points.
-use Rattle.std.specs.Prelude.{◌≡◌, ℕ, List, All, Contains}
+use Rattle.std.specs.Prelude.{◌≡◌, ℕ, List, [], All, Contains, slice_index_or}
 use Rattle.std.specs.List.{AllZip}
 use Rattle.std.specs.List.Sorted.{IsStrictlyIncreasing}
 use Rattle.lists.specs.Lists.{numbers_where}
@@ -13,7 +13,7 @@ use Rattle.grid_base.specs.declared.kinds.Kind.TheVariants as kinds
 use Rattle.face_walk.specs.Holders.{AreHolders, HolderTable}
 use Rattle.face_walk.specs.Places.{FaceTable}
 use Rattle.ring_trace.specs.Sets.{IsSetOf}
-use Rattle.region_model.specs.Region.{Region}
+use Rattle.region_model.specs.Region.{Region, box}
 use Rattle.region_model.specs.Answers.{Plane, Answers, AreRight}
 use Rattle.region_laws.specs.Regions.{Follows}
 use Rattle.region_laws.specs.Followed.{IsWalked}
@@ -22,6 +22,7 @@ use Rattle.line_laws.specs.Linked.{AreLinked, AreThere, points_along}
 use Rattle.run_plane.specs.declared.layer.Layer.{Layer}
 use Rattle.run_plane.specs.declared.layer.Shape.{Shape}
 use Rattle.run_plane.specs.declared.layer.Shape.TheVariants as shape
+use Rattle.run_plane.specs.declared.plane.Plane.{Plane}
 use Rattle.run_state.specs.declared.state.Held.{Held}
 use Rattle.chain_model.specs.State as state
 use Rattle.chain_model.specs.State.{State, StateLayer}
@@ -51,6 +52,12 @@ pub record FacesShow (v : View) (set : List ℕ) (r : Region) : Type 0 where
   pub rising : IsStrictlyIncreasing set
   pub inner : IsSetOf v.faces set
   pub follows : Follows (snapped v.drawing) v.arcs v.label set r
+
+-- a run's plane has the arcs and the faces of the view, and the faces that a box holds show the box: none, past the last
+pub record IsSeenIn (v : View) (plane : Plane) : Type 0 where
+  pub arcs : plane.arcs ≡ v.arcs
+  pub faces : plane.faces ≡ v.faces
+  pub boxes : (n : ℕ) → FacesShow v (slice_index_or plane.boxes.items n []) (box n)
 
 -- arcs that follow each other along the paths
 pub record ArcsShow (v : View) (named : List (List SignedArc)) (paths : List Path) : Type 0 where
