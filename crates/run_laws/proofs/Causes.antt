@@ -18,7 +18,7 @@ use Rattle.cmd_words.specs.declared.job.Job.{Job}
 use Rattle.cmd_words.specs.declared.job.Job.TheVariants as job
 use Rattle.cmd_words.specs.declared.job.OutForm.{OutForm}
 use Rattle.cmd_words.specs.declared.job.SourceWord.{SourceWord}
-use Rattle.cmd_words.specs.ActionWords.{FitsAction, whole, join, filter, each, sort, uniq, FitsCommand, FitEach}
+use Rattle.cmd_words.specs.ActionWords.{FitsAction, whole, join, spatial_join, filter, each, sort, uniq, FitsCommand, FitEach}
 use Rattle.cmd_words.specs.Expressions.{Refusals, AreRefusals, TextKind, HasFault, expression, assignments, fault_at}
 use Rattle.cmd_words.specs.Tells.{Tells, FitsJob, FitsChain}
 use Rattle.cmd_words.specs.Words.{Reading, ChainWords, JobWords, synth, chain, read_words}
@@ -89,6 +89,7 @@ module _ (seen seen' : SourcesSeen) (before after : OutsideSeen) where
   action_same : {w : ActionWords} {a : Action} → FitsAction w a → ActionRose before after a → model.WriteRose (counts_of seen before) (counts_of seen' after) w
   action_same (whole {a = b}) r = whole_same b r
   action_same (join f) r = absurd r
+  action_same (spatial_join f) r = absurd r
   action_same (filter f) r = absurd r
   action_same (each f) r = absurd r
   action_same (sort f) r = absurd r

@@ -22,7 +22,7 @@ use Rattle.line_laws.specs.Linked.{AreLinked, AreThere, points_along}
 use Rattle.run_plane.specs.declared.layer.Layer.{Layer}
 use Rattle.run_plane.specs.declared.layer.Shape.{Shape}
 use Rattle.run_plane.specs.declared.layer.Shape.TheVariants as shape
-use Rattle.run_plane.specs.declared.plane.Plane.{Plane}
+use Rattle.run_plane.specs.declared.plane.Plane.{Plane as RunPlane}
 use Rattle.run_state.specs.declared.state.Held.{Held}
 use Rattle.chain_model.specs.State as state
 use Rattle.chain_model.specs.State.{State, StateLayer}
@@ -54,7 +54,7 @@ pub record FacesShow (v : View) (set : List ℕ) (r : Region) : Type 0 where
   pub follows : Follows (snapped v.drawing) v.arcs v.label set r
 
 -- a run's plane has the arcs and the faces of the view, and the faces that a box holds show the box: none, past the last
-pub record IsSeenIn (v : View) (plane : Plane) : Type 0 where
+pub record IsSeenIn (v : View) (plane : RunPlane) : Type 0 where
   pub arcs : plane.arcs ≡ v.arcs
   pub faces : plane.faces ≡ v.faces
   pub boxes : (n : ℕ) → FacesShow v (slice_index_or plane.boxes.items n []) (box n)
