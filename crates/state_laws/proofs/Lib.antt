@@ -15,6 +15,7 @@ pub mod Stepping
 pub mod TableSteps
 pub mod MergeStep
 pub mod PolygonSets
+pub mod PolygonPlanes
 pub mod PolygonCuts
 pub mod PolygonGroups
 pub mod PolygonCleaning
