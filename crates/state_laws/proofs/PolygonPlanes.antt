@@ -1,6 +1,5 @@
 -- The plane of a run, seen in a view.
-use Rattle.std.proofs.Common.{◌≡◌, sym, ap, ◌∙◌, subst, inl, inr, arith, true≢false, ℕ, ◌<◌, ◌≤◌, List, [], ◌∷◌, length, get_or, All, Contains}
-use Rattle.std.specs.List.Sorted.{IsStrictlyIncreasing}
+use Rattle.std.proofs.Common.{sym, ap, ◌∙◌, subst, inl, inr, arith, true≢false, ℕ, ◌≤◌, List, [], ◌∷◌, length}
 use Rattle.std.proofs.lemmas.Bool.{cases_lt}
 use Rattle.std.proofs.lemmas.List.{get_or_past}
 use Rattle.std.proofs.lemmas.List.Elements.{All-nil}
@@ -10,7 +9,6 @@ use Rattle.plane_model.specs.Parity.{rings_hold}
 use Rattle.plane_model.specs.Snapped.{snapped}
 use Rattle.ring_trace.specs.Sets.{IsInnerFace}
 use Rattle.region_model.specs.Region.{box}
-use Rattle.run_plane.specs.declared.plane.Plane.{Plane}
 use Rattle.state_laws.specs.Shown.{View, FacesShow}
 use Rattle.state_laws.specs.Polygons.{PlanesAreSeen}
 
