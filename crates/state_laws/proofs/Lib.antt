@@ -23,6 +23,7 @@ pub mod LineGroups
 pub mod Outlines
 pub mod PlaceJoins
 pub mod PolygonSets
+pub mod PolygonPlanes
 pub mod PolygonCuts
 pub mod PolygonGroups
 pub mod PolygonCleaning

@@ -1,6 +1,7 @@
 -- Laws of commands on polygons: what a run makes of the sets of faces of a layer shows what the state's definitions make of the regions that they follow, and both are refused alike.
 use Rattle.std.specs.Prelude.{◌≡◌, ℕ, ◌<◌, ◌^◌, Bool, if◌then◌else◌, List, [], ◌∷◌, length, slice_index_or, Option, Some, None, Result, Ok, Err}
 use Rattle.std.specs.List.{AllZip}
+use Rattle.plane_model.specs.Snapped.{snapped}
 use Rattle.grid_base.specs.declared.kinds.Kind.TheVariants as kinds
 use Rattle.grid_base.specs.declared.kinds.OverlapRule.{OverlapRule}
 use Rattle.table_terms.specs.declared.specifications.GroupSpec.{GroupSpec}
@@ -32,6 +33,11 @@ use Rattle.chain_model.specs.Targets.{SourceLayers}
 use Rattle.state_laws.specs.Shown.{View, IsView, FacesShow, LayerShows, SourcesShow, StateShows, plane_of, IsSeenIn}
 use Rattle.state_laws.specs.Reasons.{MakesAlike, RefusedAlike, why_of}
 use Rattle.state_laws.specs.Tables.{MergedShows}
+
+-- the plane of a view is seen, where its boxes are as many as the snapped drawing has, and each of them shows its faces
+abbrev pub PlanesAreSeen : Type 0
+PlanesAreSeen = (v : View) (plane : Plane) → plane.arcs ≡ v.arcs → plane.faces ≡ v.faces → length plane.boxes.items ≡ length (snapped v.drawing).boxes →
+    ((n : ℕ) → n < length plane.boxes.items → FacesShow v (slice_index_or plane.boxes.items n []) (box n)) → IsSeenIn v plane
 
 -- the layer shows that of the state, and both have polygons
 pub record PolygonsShow (v : View) (layer : Layer) (l : StateLayer) : Type 0 where

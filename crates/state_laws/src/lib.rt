@@ -23,6 +23,11 @@
 //!   target (`first_layers_show`).
 //! - So the step of a command on the tables of its layers shows that of the state (`table_steps_show`), and so does that of
 //!   one that merges them (`merge_steps_show`).
+//! - Commands on polygons: a run's plane is seen in a view (`planes_are_seen`), and what a command cuts by shows the region
+//!   of the state (`areas_show`). So do `clipped_polygons_show`, `erased_polygons_show`, `dissolved_polygons_show`,
+//!   `filled_polygons_show`, `mosaics_show`, `exploded_polygons_show` and `united_layers_show`; a layer that is alone is not
+//!   united (`lone_layers_are_refused`). Polygons cleaned without their gaps show what their overlaps leave
+//!   (`cleaned_polygons_show`). The step of a command on layers of polygons shows that of the state (`polygon_steps_show`).
 //!
 //! Each function carries one law in its contract, and does nothing.
 #![tactic(auto)]
@@ -32,7 +37,7 @@ ghost use Rattle.state_laws.specs.Lines.{ClippedLinesShow, ErasedLinesShow, Expl
 ghost use Rattle.state_laws.specs.Places.{PlaceJoinsShow};
 ghost use Rattle.state_laws.specs.Placing.{PlacedOutputsShow};
 ghost use Rattle.state_laws.specs.PolygonSteps.{PolygonStepsShow};
-ghost use Rattle.state_laws.specs.Polygons.{AreasShow, CleanedPolygonsShow, ClippedPolygonsShow, DissolvedPolygonsShow, ErasedPolygonsShow, ExplodedPolygonsShow, FilledPolygonsShow, LoneLayersAreRefused, MosaicsShow, UnitedLayersShow};
+ghost use Rattle.state_laws.specs.Polygons.{AreasShow, CleanedPolygonsShow, ClippedPolygonsShow, DissolvedPolygonsShow, ErasedPolygonsShow, ExplodedPolygonsShow, FilledPolygonsShow, LoneLayersAreRefused, MosaicsShow, PlanesAreSeen, UnitedLayersShow};
 ghost use Rattle.state_laws.specs.Steps.{MergeStepsShow, TableStepsShow};
 ghost use Rattle.state_laws.specs.Tables.{
   AssignedFieldsShow,
@@ -199,6 +204,11 @@ pub fn table_steps_show()
 /// The step of a command that merges the layers of its target shows that of the state.
 pub fn merge_steps_show()
     ensures { MergeStepsShow }
+{}
+
+/// The plane of a run is seen in a view with the same arcs and faces, where the faces of its boxes show them.
+pub fn planes_are_seen()
+    ensures { PlanesAreSeen }
 {}
 
 /// What a command cuts by shows the region of the state, or both refuse it.
