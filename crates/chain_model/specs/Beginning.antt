@@ -87,6 +87,10 @@ is_import (owner.Command n) = false
 abbrev pub import_layers : List SourceWord → List (List StateLayer) → List StateLayer
 import_layers words sources = flat_map (λ (s : SourceWord × List StateLayer). if is_import s.0.owner then s.1 else []) (zip words sources)
 
+-- the layers of each file that was read for a command, and none of one for the import
+abbrev pub command_layers : List SourceWord → List (List StateLayer) → List (List StateLayer)
+command_layers words sources = map (λ (s : SourceWord × List StateLayer). if is_import s.0.owner then [] else s.1) (zip words sources)
+
 -- all of them are the default target
 abbrev pub first_state : List StateLayer → State
 first_state ls = record { layers = ls; target = range_with_len 0 (length ls) }

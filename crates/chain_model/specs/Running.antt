@@ -22,7 +22,7 @@ use Rattle.chain_model.specs.State.{State}
 use Rattle.chain_model.specs.Targets.{SourceLayers}
 use Rattle.chain_model.specs.Steps.{Written, step}
 use Rattle.chain_model.specs.Sources.{AreReadings, Readings, imported, whole_room}
-use Rattle.chain_model.specs.Beginning.{drawing_of, first_sources, import_layers, first_state}
+use Rattle.chain_model.specs.Beginning.{command_layers, drawing_of, first_sources, import_layers, first_state}
 use Rattle.chain_model.specs.Pictures.{IsTextOf}
 use Rattle.chain_model.specs.Synth.{IsSynthLine}
 use Rattle.word_model.specs.Words.{words_say}
@@ -66,7 +66,7 @@ checked_density d = if nat_lt link_limit (link_count (snapped d)) then Err (too_
 abbrev pub begun_with : Chain → List (List LayerContent) → Plane → Begun
 begun_with c sources P =
     let begun : SourceLayers = first_sources P [] sources in
-    record { places = c.places; plane = P; sources = begun; state = first_state (import_layers c.sources begun); commands = c.commands }
+    record { places = c.places; plane = P; sources = command_layers c.sources begun; state = first_state (import_layers c.sources begun); commands = c.commands }
 
 -- the sources are read, then their drawing is snapped
 abbrev pub begins : Readings → Chain → FileMap → Content → Result Begun Outcome

@@ -37,10 +37,10 @@ use Rattle.run_beginning.specs.BegunLayers.{AreBegun, AreBegunOfEach, AreLineArc
 use Rattle.chain_model.specs.State as state
 use Rattle.chain_model.specs.State.{StateLayer}
 use Rattle.chain_model.specs.Beginning as state_of
-use Rattle.chain_model.specs.Beginning.{count_of, first_layer, first_layers, first_shape, first_sources, import_layers, is_import, shapes_of}
+use Rattle.chain_model.specs.Beginning.{command_layers, count_of, first_layer, first_layers, first_shape, first_sources, import_layers, is_import, shapes_of}
 use Rattle.state_laws.specs.Shown.{View, IsView, AreVertices, FacesShow, LayerShows, ShapeShows, SourcesShow, plane_of}
 use Rattle.state_laws.specs.Views.{IsViewOf, ShowEach}
-use Rattle.state_laws.specs.Beginnings.{AreLinesThere, BeginningShows, BeginningsShow, DrawingsAreOne, HasArcsThere, command_layers, drawing_by, owners_of}
+use Rattle.state_laws.specs.Beginnings.{AreLinesThere, BeginningShows, BeginningsShow, DrawingsAreOne, HasArcsThere, drawing_by, owners_of}
 use Rattle.state_laws.proofs.Views.{views_exist}
 use Rattle.state_laws.proofs.Zipped.{zip_joined}
 

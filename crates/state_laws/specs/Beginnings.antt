@@ -1,5 +1,5 @@
 -- Laws of the beginning: the layers of the sources of a run show those of the state.
-use Rattle.std.specs.Prelude.{◌≡◌, ℕ, ⊤, List, [], All, map, zip, if◌then◌else◌}
+use Rattle.std.specs.Prelude.{◌≡◌, ℕ, ⊤, List, [], All, map}
 use Rattle.std.specs.List.{AllZip}
 use Rattle.lists.specs.Lists.{joined_up}
 use Rattle.plane_model.specs.Points.{Path}
@@ -18,7 +18,7 @@ use Rattle.run_plane.specs.declared.layer.Shape.TheVariants as shape
 use Rattle.run_beginning.specs.BegunLayers.{BeginsOver}
 use Rattle.run_beginning.specs.Drawing as run
 use Rattle.chain_model.specs.Beginning as state
-use Rattle.chain_model.specs.Beginning.{first_sources, import_layers, is_import}
+use Rattle.chain_model.specs.Beginning.{command_layers, first_sources, import_layers}
 use Rattle.chain_model.specs.State.{StateLayer}
 use Rattle.chain_model.specs.Targets.{SourceLayers}
 use Rattle.state_laws.specs.Shown.{View, LayerShows, SourcesShow, plane_of}
@@ -40,10 +40,6 @@ HasArcsThere arcs (shape.Points points) = ⊤
 -- and so it is with the lines of a layer
 abbrev pub AreLinesThere : List Path → Layer → Type 0
 AreLinesThere arcs layer = All (HasArcsThere arcs) layer.shapes.items
-
--- the layers of each source that was read for a command, and none of one for the import
-abbrev pub command_layers : List SourceWord → SourceLayers → SourceLayers
-command_layers words sources = map (λ (s : SourceWord × List StateLayer). if is_import s.0.owner then [] else s.1) (zip words sources)
 
 -- layers of the import, and those of each source for a command, show those of the state
 pub record BeginningShows (v : View) (words : List SourceWord) (given : List (List LayerContent)) (layers : List Layer) (sources : List (List Layer)) : Type 0 where
