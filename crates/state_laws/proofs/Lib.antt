@@ -31,3 +31,4 @@ pub mod PolygonParts
 pub mod PolygonNames
 pub mod PolygonUnion
 pub mod PolygonSteps
+pub mod UnionStep

@@ -84,7 +84,7 @@ all_of_kind k (layer ∷ layers) e =
     let both = and_parts (run.same_kind k layer.kind) (all_same k layers) e in
     All-cons (λ (other : Layer). other.kind ≡ k) layer layers (same_is k layer.kind both.0) (all_of_kind k layers both.1)
 
-one_kind_told : (b : Bool) → (if b then None else Some WrongKind) ≡ None → b ≡ true
+pub one_kind_told : (b : Bool) → (if b then None else Some WrongKind) ≡ None → b ≡ true
 one_kind_told true e = refl
 one_kind_told false e = absurd (let some : Some WrongKind ≡ None = e in cc)
 
@@ -94,7 +94,7 @@ firsts_same v [] (l ∷ ls) shown = absurd shown
 firsts_same v (layer ∷ ts) [] shown = absurd shown
 firsts_same v (layer ∷ ts) (l ∷ ls) shown = shown.0.kind
 
-mixture_told : (b : Bool) → first_refusal (if b then None else Some state.wrong_kind) None ≡ option_map why_of (if b then None else Some WrongKind)
+pub mixture_told : (b : Bool) → first_refusal (if b then None else Some state.wrong_kind) None ≡ option_map why_of (if b then None else Some WrongKind)
 mixture_told true = refl
 mixture_told false = refl
 
@@ -125,11 +125,11 @@ module _ (force : Bool) where
 
 -- ---- how many
 
-nothing_joined : {A B : Type 0} (xs : List A) → joined_up {A = B} (map (λ (x : A). []) xs) ≡ []
+pub nothing_joined : {A B : Type 0} (xs : List A) → joined_up {A = B} (map (λ (x : A). []) xs) ≡ []
 nothing_joined [] = refl
 nothing_joined (x ∷ xs) = nothing_joined xs
 
-abbrev Longs : List StateLayer → List (List StateLayer) → Type 0
+abbrev pub Longs : List StateLayer → List (List StateLayer) → Type 0
 Longs ls outs = (length outs ≡ length ls) × (length (joined_up outs) ≡ 1)
 
 merged_long : (l : StateLayer) (ls : List StateLayer) (answer : Result TableContent TableWhy) (outs : List (List StateLayer)) → merged_of l ls answer ≡ Ok outs → Longs (l ∷ ls) outs
@@ -153,7 +153,7 @@ some_there test (x ∷ xs) e = go (test x) e (some_there test xs)
     go true e more = omega arith
     go false e more = more e
 
-targets_there : (t : Target) (layers : List Held) → has_target t layers ≡ true → 0 < length (targets t layers)
+pub targets_there : (t : Target) (layers : List Held) → has_target t layers ≡ true → 0 < length (targets t layers)
 targets_there t layers e =
     let some : 0 < length (filter (is_selected t) layers) = some_there (is_selected t) layers (and_parts (are_layers t layers) (list_any (is_selected t) layers) e).1 in
     let long = length-map (filter (is_selected t) layers) (λ (held : Held). held.layer) in
@@ -161,7 +161,7 @@ targets_there t layers e =
 
 -- ---- where it goes
 
-abbrev nothings : List Layer → List (List Layer)
+abbrev pub nothings : List Layer → List (List Layer)
 nothings layers = map (λ (other : Layer). []) layers
 
 module _ (t : Target) (made : Layer) where
@@ -180,7 +180,7 @@ module _ (t : Target) (made : Layer) where
   abbrev put_at : ℕ → List (List Layer)
   put_at n = replicate n [] ++ (made ∷ []) ∷ []
 
-  first_outputs : (layers : List Held) → 0 < length (targets t layers) → First_at layers
+  pub first_outputs : (layers : List Held) → 0 < length (targets t layers) → First_at layers
   first_outputs [] some = absurd (omega (arith, some))
   first_outputs (held ∷ layers) some = go (is_selected t held) refl (first_outputs layers)
     where
@@ -200,21 +200,21 @@ module _ (t : Target) (made : Layer) where
           ∙ more (omega (arith, same, some))
           ∙ sym (ap (λ (ts : List Layer). (made ∷ []) ∷ nothings (drop 1 ts)) left)
 
-  first_joined : (n : ℕ) → joined_up (put_at n) ≡ made ∷ []
+  pub first_joined : (n : ℕ) → joined_up (put_at n) ≡ made ∷ []
   first_joined zero = refl
   first_joined (suc n) = first_joined n
 
-nothing_shows : (v : View) (title : StateLayer → StateLayer) (xs : List Layer) → AllZip (AllZip (LayerShows v)) (nothings xs) (map (map title) (map (λ (other : Layer). []) xs))
+pub nothing_shows : (v : View) (title : StateLayer → StateLayer) (xs : List Layer) → AllZip (AllZip (LayerShows v)) (nothings xs) (map (map title) (map (λ (other : Layer). []) xs))
 nothing_shows v title [] = tt
 nothing_shows v title (x ∷ xs) = (tt, nothing_shows v title xs)
 
 -- ---- the step
 
-first_of_two : (why : RefuseWhy) (a b : Option RefuseWhy) → first_refusal a b ≡ Some why → (a ≡ Some why) ⊎ ((a ≡ None) × (b ≡ Some why))
+pub first_of_two : (why : RefuseWhy) (a b : Option RefuseWhy) → first_refusal a b ≡ Some why → (a ≡ Some why) ⊎ ((a ≡ None) × (b ≡ Some why))
 first_of_two why None b e = inr (refl, e)
 first_of_two why (Some w) b e = inl e
 
-none_of_two : (a b : Option RefuseWhy) → first_refusal a b ≡ None → (a ≡ None) × (b ≡ None)
+pub none_of_two : (a b : Option RefuseWhy) → first_refusal a b ≡ None → (a ≡ None) × (b ≡ None)
 none_of_two None b e = (refl, e)
 none_of_two (Some w) b e = absurd (let some : Some w ≡ None = e in cc)
 

@@ -1,18 +1,23 @@
--- Laws of steps: the state after a command on layers of polygons, and why it is refused.
-use Rattle.std.specs.Prelude.{◌≡◌, Bool, true, false, nat_lt, List, All}
+-- Laws of steps: the state after a command on layers of polygons or one that unites them, and why it is refused.
+use Rattle.std.specs.Prelude.{◌≡◌, Bool, true, false, nat_lt, List, All, Some, None}
 use Rattle.grid_base.specs.declared.kinds.Kind.TheVariants as kinds
 use Rattle.cmd_words.specs.declared.job.Action.TheVariants as does
 use Rattle.cmd_words.specs.declared.job.Command.{Command}
+use Rattle.cmd_words.specs.declared.job.JointAction.TheVariants as joint
 use Rattle.cmd_words.specs.declared.job.LayerAction.{LayerAction}
 use Rattle.cmd_words.specs.declared.job.LayerAction.TheVariants as action
 use Rattle.run_plane.specs.declared.layer.Layer.{Layer}
 use Rattle.run_state.specs.Origins.{Base}
 use Rattle.run_state.specs.Targets.{targets}
+use Rattle.run_state.specs.declared.refusal.RefuseWhy.{RefuseWhy}
 use Rattle.run_state.specs.declared.state.Held.{Held}
+use Rattle.run_steps.specs.Commands.{ChangesTogether}
+use Rattle.run_steps.specs.Refusals.{refusal_together}
 use Rattle.chain_model.specs.State.{State}
 use Rattle.chain_model.specs.Targets.{SourceLayers}
 use Rattle.state_laws.specs.Shown.{View, IsView, SourcesShow, StateShows, IsSeenIn}
-use Rattle.state_laws.specs.Steps.{StepShows}
+use Rattle.state_laws.specs.Polygons.{HasFewColumns}
+use Rattle.state_laws.specs.Steps.{StepGives, StepRefuses, StepShows}
 
 -- the command works on polygons; a clean where it fills gaps of some area
 abbrev pub is_on_polygons : LayerAction → Bool
@@ -31,3 +36,13 @@ AreOfPolygons layers = All (λ (layer : Layer). layer.kind ≡ kinds.Polygon) la
 abbrev pub PolygonStepsShow : Type 0
 PolygonStepsShow = (v : View) → IsView v → (base : Base) → IsSeenIn v base.plane → (sources : SourceLayers) → SourcesShow v base.sources sources → (layers : List Held) (s : State) → StateShows v layers s →
     (c : Command) (a : LayerAction) → c.action ≡ does.Each a → is_on_polygons a ≡ true → AreOfPolygons (targets c.target layers) → StepShows v base layers sources s c a
+
+-- ---- a command that unites the layers of its target
+
+pub record UnionStepShows (v : View) (base : Base) (layers : List Held) (sources : SourceLayers) (s : State) (c : Command) : Type 0 where
+  pub goes : refusal_together layers c joint.Union ≡ None → (after : List Held) → ChangesTogether base c joint.Union layers after → StepGives v sources s c after
+  pub refused : (why : RefuseWhy) → refusal_together layers c joint.Union ≡ Some why → StepRefuses v sources s c why
+
+abbrev pub UnionStepsShow : Type 0
+UnionStepsShow = (v : View) → IsView v → (base : Base) → IsSeenIn v base.plane → (sources : SourceLayers) (layers : List Held) (s : State) → StateShows v layers s →
+    (c : Command) → c.action ≡ does.Together joint.Union → HasFewColumns (targets c.target layers) → UnionStepShows v base layers sources s c

@@ -27,7 +27,8 @@
 //!   of the state (`areas_show`). So do `clipped_polygons_show`, `erased_polygons_show`, `dissolved_polygons_show`,
 //!   `filled_polygons_show`, `mosaics_show`, `exploded_polygons_show` and `united_layers_show`; a layer that is alone is not
 //!   united (`lone_layers_are_refused`). Polygons cleaned without their gaps show what their overlaps leave
-//!   (`cleaned_polygons_show`). The step of a command on layers of polygons shows that of the state (`polygon_steps_show`).
+//!   (`cleaned_polygons_show`). The step of a command on layers of polygons shows that of the state (`polygon_steps_show`),
+//!   and so does that of one that unites them (`union_steps_show`).
 //!
 //! Each function carries one law in its contract, and does nothing.
 #![tactic(auto)]
@@ -36,7 +37,7 @@ ghost use Rattle.state_laws.specs.Beginnings.{BeginningsShow, DrawingsAreOne};
 ghost use Rattle.state_laws.specs.Lines.{ClippedLinesShow, ErasedLinesShow, ExplodedLinesShow, GroupedLinesShow, InnerLinesShow, OutlinesShow};
 ghost use Rattle.state_laws.specs.Places.{PlaceJoinsShow};
 ghost use Rattle.state_laws.specs.Placing.{PlacedOutputsShow};
-ghost use Rattle.state_laws.specs.PolygonSteps.{PolygonStepsShow};
+ghost use Rattle.state_laws.specs.PolygonSteps.{PolygonStepsShow, UnionStepsShow};
 ghost use Rattle.state_laws.specs.Polygons.{AreasShow, CleanedPolygonsShow, ClippedPolygonsShow, DissolvedPolygonsShow, ErasedPolygonsShow, ExplodedPolygonsShow, FilledPolygonsShow, LoneLayersAreRefused, MosaicsShow, PlanesAreSeen, UnitedLayersShow};
 ghost use Rattle.state_laws.specs.Steps.{MergeStepsShow, TableStepsShow};
 ghost use Rattle.state_laws.specs.Tables.{
@@ -264,4 +265,9 @@ pub fn lone_layers_are_refused()
 /// The step of a command on layers of polygons shows that of the state.
 pub fn polygon_steps_show()
     ensures { PolygonStepsShow }
+{}
+
+/// The step of a command that unites the layers of its target shows that of the state, and is refused alike.
+pub fn union_steps_show()
+    ensures { UnionStepsShow }
 {}

@@ -1,0 +1,6 @@
+-- The law is proved by itself.
+use Rattle.state_laws.proofs.UnionStep.{union_steps_show}
+use Rattle.state_laws.proofs.union_steps_show.Goals as goal
+
+pub returns : goal.returns
+returns c = union_steps_show
