@@ -1,15 +1,19 @@
 -- Steps of commands on layers of polygons.
-use Rattle.std.proofs.Common.{◌≡◌, refl, sym, ap, ◌∙◌, subst, true≢false, ℕ, Bool, true, false, not, ◌&&◌, List, [], ◌∷◌, ◌++◌, length, map, nat_lt, Option, Some, None, option_map, Result, Ok, Err, if◌then◌else◌}
+use Rattle.std.proofs.Common.{◌≡◌, ◌≢◌, refl, sym, ap, ◌∙◌, subst, true≢false, ℕ, Bool, true, false, not, ◌&&◌, List, [], ◌∷◌, ◌++◌, length, map, nat_lt, Option, Some, None, option_map, Result, Ok, Err, if◌then◌else◌}
+use Rattle.std.specs.Prelude.{codes}
 use Rattle.std.specs.List.{AllZip, flat_map}
 use Rattle.std.proofs.lemmas.Bool.{ltb-true}
 use Rattle.lists.specs.Lists.{ascending}
 use Rattle.grid_base.specs.declared.kinds.Kind.{Kind}
 use Rattle.grid_base.specs.declared.kinds.Kind.TheVariants as kinds
 use Rattle.geojson_io.specs.Layers.{same_kind}
-use Rattle.table_terms.specs.Refusals.{on_ok}
+use Rattle.table_terms.specs.Names.{Text}
+use Rattle.table_terms.specs.Refusals.{on_ok, unless}
 use Rattle.table_ops.specs.Grouping.{group_rows}
+use Rattle.table_ops.specs.Refusals.{refused_item}
 use Rattle.table_ops.specs.declared.fault.TableWhy.{TableWhy}
 use Rattle.table_ops.specs.declared.group.Grouped.{Grouped}
+use Rattle.region_model.specs.LineCommands.{SidedArc, outer_and_inner}
 use Rattle.region_model.specs.Region.{Region, any_of}
 use Rattle.cmd_words.specs.declared.job.Action.TheVariants as does
 use Rattle.cmd_words.specs.declared.job.Command.{Command}
@@ -29,18 +33,21 @@ use Rattle.run_steps.specs.Commands.{PutsOut}
 use Rattle.run_steps.specs.Refusals as held
 use Rattle.chain_model.specs.Outcome as outcome
 use Rattle.chain_model.specs.State as state
-use Rattle.chain_model.specs.State.{State, StateLayer}
+use Rattle.chain_model.specs.State.{State, StateLayer, regions_in}
 use Rattle.chain_model.specs.Targets as model
 use Rattle.chain_model.specs.Targets.{SourceLayers, layers_at}
-use Rattle.chain_model.specs.Features.{Outputs, clean_layer, clip_layer, dissolve_layer, dissolved_shape, erase_layer, explode_layer, in_layer, just, mosaic_layer}
+use Rattle.chain_model.specs.Features.{Outputs, clean_layer, clip_layer, dissolve_layer, dissolved_shape, erase_layer, explode_layer, in_layer, inner_lines_layer, just, line_layer, line_row, lines_layer, mosaic_layer}
 use Rattle.chain_model.specs.Steps.{each_layer, outputs_of, refusal_of, refused_source, source_region}
 use Rattle.state_laws.specs.Shown.{View, IsView, FacesShow, LayerShows, LineShows, NothingShows, PointsShow, ShapeShows, SourcesShow, StateShows, plane_of, IsSeenIn}
 use Rattle.state_laws.specs.Reasons.{AnswerShows, why_of}
 use Rattle.state_laws.specs.Polygons.{AreaShows, PolygonsShow}
-use Rattle.state_laws.specs.PolygonSteps.{AreOfPolygons, PolygonStepsShow, is_on_polygons}
+use Rattle.state_laws.specs.PolygonSteps.{AreOfPolygons, PolygonStepsShow, ShapeStepsShow, is_on_polygons, is_on_shapes}
 use Rattle.state_laws.specs.Targets.{target_numbers}
 use Rattle.state_laws.proofs.EachLayer.{LayerAlike, alike_with}
 use Rattle.state_laws.proofs.LayerKinds.{only_taken}
+use Rattle.state_laws.proofs.LineCuts.{clipped_lines_show, erased_lines_show}
+use Rattle.state_laws.proofs.LinePieces.{exploded_lines_show}
+use Rattle.state_laws.proofs.Outlines.{inner_lines_show, outlines_are_shown}
 use Rattle.state_laws.proofs.PolygonCleaning.{filled_polygons_show}
 use Rattle.state_laws.proofs.PolygonCuts.{areas_show, clipped_polygons_show, erased_polygons_show, refused_by_kind}
 use Rattle.state_laws.proofs.PolygonGroups.{dissolved_polygons_show}
@@ -109,6 +116,8 @@ made_of v source (action.Dissolve spec group_points) l = dissolve_layer (plane_o
 made_of v source (action.Clean rule allow_empty gap) l = clean_layer (plane_of v) v.answers rule allow_empty gap l
 made_of v source action.Mosaic l = mosaic_layer (plane_of v) v.answers l
 made_of v source action.Explode l = explode_layer (plane_of v) v.answers l
+made_of v source action.InnerLines l = inner_lines_layer (plane_of v) v.answers l
+made_of v source (action.Lines fields) l = lines_layer (plane_of v) v.answers fields l
 made_of v source _ l = Ok []
 
 other : {P : Type 0} → false ≡ true → P
@@ -151,6 +160,8 @@ module _ (v : View) (view : IsView v) (base : Base) (seen : IsSeenIn v base.plan
   outputs_are (action.Clean rule allow_empty gap) on none ls = refl
   outputs_are action.Mosaic on none ls = refl
   outputs_are action.Explode on none ls = refl
+  outputs_are action.InnerLines on none ls = refl
+  outputs_are (action.Lines fields) on none ls = refl
   outputs_are a on none ls = other on
 
   -- ---- and a run
@@ -162,6 +173,8 @@ module _ (v : View) (view : IsView v) (base : Base) (seen : IsSeenIn v base.plan
   makes_alike (action.Clean rule allow_empty gap) on layer l shown = alike_with (filled_polygons_show v view base.plane seen layer l shown rule allow_empty gap (ltb-true 0 gap on))
   makes_alike action.Mosaic on layer l shown = alike_with (mosaics_show v view base.plane seen layer l shown)
   makes_alike action.Explode on layer l shown = alike_with (exploded_polygons_show v view base.plane seen layer l shown)
+  makes_alike action.InnerLines on layer l shown = alike_with (inner_lines_show v view base.plane seen layer l shown.shows shown.polygons)
+  makes_alike (action.Lines fields) on layer l shown = alike_with (outlines_are_shown v view base.plane seen layer l shown.shows shown.polygons fields)
   makes_alike a on layer l shown = other on
 
   -- ---- how many layers
@@ -174,6 +187,16 @@ module _ (v : View) (view : IsView v) (base : Base) (seen : IsSeenIn v base.plan
   one_grouped false make (Ok g) outs e = one_of e
   one_grouped false make (Err why) outs e = absurd (cc)
 
+  -- the layer of lines around the polygons of a layer
+  abbrev lined : StateLayer → List Text → StateLayer
+  lined l fields =
+      let arcs : List SidedArc = outer_and_inner (plane_of v) v.answers (regions_in l) in
+      line_layer l (record { names = codes "TYPE" ∷ codes "RANK" ∷ []; rows = map (line_row l.table fields) arcs }) (map (λ (a : SidedArc). a.points) arcs)
+
+  one_lined : (refusal : Option TableWhy) (m : StateLayer) (outs : List StateLayer) → in_layer (unless refusal (Ok (m ∷ []))) ≡ Ok outs → length outs ≡ 1
+  one_lined None m outs e = one_of e
+  one_lined (Some why) m outs e = absurd (cc)
+
   so_many : (a : LayerAction) → is_on_polygons a ≡ true → (layer : Layer) (l : StateLayer) → LayerShows v layer l → (outs : List StateLayer) → made a l ≡ Ok outs → length outs ≡ held.output_count a layer
   so_many (action.Clip from) on layer l shown outs e = one_of e
   so_many (action.Erase from) on layer l shown outs e = one_of e
@@ -182,6 +205,8 @@ module _ (v : View) (view : IsView v) (base : Base) (seen : IsSeenIn v base.plan
   so_many (action.Clean rule allow_empty gap) on layer l shown outs e = one_of e
   so_many action.Mosaic on layer l shown outs e = one_of e
   so_many action.Explode on layer l shown outs e = one_of e
+  so_many action.InnerLines on layer l shown outs e = one_of e
+  so_many (action.Lines fields) on layer l shown outs e = one_lined (refused_item l.table.names [] 0 fields) (lined l fields) outs e
   so_many a on layer l shown outs e = other on
 
   -- ---- the source, and the kinds
@@ -193,6 +218,8 @@ module _ (v : View) (view : IsView v) (base : Base) (seen : IsSeenIn v base.plan
   source_alike (action.Clean rule allow_empty gap) on = refl
   source_alike action.Mosaic on = refl
   source_alike action.Explode on = refl
+  source_alike action.InnerLines on = refl
+  source_alike (action.Lines fields) on = refl
   source_alike a on = other on
 
   kinds_alike : (a : LayerAction) → is_on_polygons a ≡ true → (ts : List Layer) (ls : List StateLayer) → AllZip (LayerShows v) ts ls → unfit sources s (does.Each a) ls ≡ option_map why_of (held.refused_kinds base.sources layers a ts)
@@ -202,6 +229,8 @@ module _ (v : View) (view : IsView v) (base : Base) (seen : IsSeenIn v base.plan
   kinds_alike (action.Clean rule allow_empty gap) on ts ls shown = only_taken v (action.Clean rule allow_empty gap) ts ls shown
   kinds_alike action.Mosaic on ts ls shown = only_taken v action.Mosaic ts ls shown
   kinds_alike action.Explode on ts ls shown = only_taken v action.Explode ts ls shown
+  kinds_alike action.InnerLines on ts ls shown = only_taken v action.InnerLines ts ls shown
+  kinds_alike (action.Lines fields) on ts ls shown = only_taken v (action.Lines fields) ts ls shown
   kinds_alike a on ts ls shown = other on
 
   -- ---- all together
@@ -229,3 +258,48 @@ module _ (v : View) (view : IsView v) (base : Base) (seen : IsSeenIn v base.plan
 pub polygon_steps_show : PolygonStepsShow
 polygon_steps_show v view base seen sources owns layers s h c a does_each on polygons =
     step_shows v base layers sources s h c a does_each (made v view base seen sources owns layers s h a) (is_alike v view base seen sources owns layers s h c a on polygons)
+
+-- ---- whatever the kinds are
+
+module _ (v : View) (view : IsView v) (base : Base) (seen : IsSeenIn v base.plane) (sources : SourceLayers) (owns : SourcesShow v base.sources sources) (layers : List Held) (s : State) (h : StateShows v layers s) where
+  abbrev answered : LayerAction → StateLayer → Outputs
+  answered a l = made v view base seen sources owns layers s h a l
+
+  abbrev Alike : LayerAction → Layer → StateLayer → Type 0
+  Alike a layer l = LayerAlike v (PutsOut base layers a layer) (held.RefusesLayer base layers a layer) (answered a l)
+
+  takes_polygons : (a : LayerAction) → is_on_shapes a ≡ true → is_on_polygons a ≡ true
+  takes_polygons (action.Clip from) on = refl
+  takes_polygons (action.Erase from) on = refl
+  takes_polygons action.Explode on = refl
+  takes_polygons a on = other on
+
+  lines_alike : (a : LayerAction) → is_on_shapes a ≡ true → (layer : Layer) (l : StateLayer) → LayerShows v layer l → layer.kind ≢ kinds.Polygon → Alike a layer l
+  lines_alike (action.Clip from) on layer l shown apart =
+      alike_with (clipped_lines_show v view base.plane seen (area_of base layers from) (CutRegion.source (cut_by v view base seen sources owns layers s h from)) (cut_by v view base seen sources owns layers s h from).shows layer l shown apart)
+  lines_alike (action.Erase from) on layer l shown apart =
+      alike_with (erased_lines_show v view base.plane seen (area_of base layers from) (CutRegion.source (cut_by v view base seen sources owns layers s h from)) (cut_by v view base seen sources owns layers s h from).shows layer l shown apart)
+  lines_alike action.Explode on layer l shown apart = alike_with (exploded_lines_show v base.plane layer l shown apart)
+  lines_alike a on layer l shown apart = other on
+
+  shapes_alike : (a : LayerAction) → is_on_shapes a ≡ true → (layer : Layer) (l : StateLayer) → LayerShows v layer l → (k : Kind) → layer.kind ≡ k → Alike a layer l
+  shapes_alike a on layer l shown kinds.Polygon e = makes_alike v view base seen sources owns layers s h a (takes_polygons a on) layer l (record { shows = shown; polygons = e })
+  shapes_alike a on layer l shown kinds.Line e = lines_alike a on layer l shown (λ p. let clash : kinds.Line ≡ kinds.Polygon = sym e ∙ p in cc)
+  shapes_alike a on layer l shown kinds.Point e = lines_alike a on layer l shown (λ p. let clash : kinds.Point ≡ kinds.Polygon = sym e ∙ p in cc)
+  shapes_alike a on layer l shown kinds.Table e = lines_alike a on layer l shown (λ p. let clash : kinds.Table ≡ kinds.Polygon = sym e ∙ p in cc)
+
+  are_alike : (c : Command) (a : LayerAction) → is_on_shapes a ≡ true → IsAlike v base layers sources s c a (answered a)
+  are_alike c a on =
+      let ts : List Layer = targets c.target layers in
+      let ls : List StateLayer = layers_at s (target_numbers c.target layers) in
+      record {
+        source = source_alike v view base seen sources owns layers s h a (takes_polygons a on);
+        kinds = kinds_alike v view base seen sources owns layers s h a (takes_polygons a on) ts ls (targets_show v layers s h c.target).show;
+        outputs = λ none ls. outputs_are v view base seen sources owns layers s h a (takes_polygons a on) none ls;
+        pairs = zip_weaker (LayerShows v) (λ (layer : Layer) (l : StateLayer). LayerShows v layer l × Alike a layer l) (λ layer l shown. (shown, shapes_alike a on layer l shown layer.kind refl)) ts ls (targets_show v layers s h c.target).show;
+        count = so_many v view base seen sources owns layers s h a (takes_polygons a on);
+      }
+
+pub shape_steps_show : ShapeStepsShow
+shape_steps_show v view base seen sources owns layers s h c a does_each on =
+    step_shows v base layers sources s h c a does_each (answered v view base seen sources owns layers s h a) (are_alike v view base seen sources owns layers s h c a on)

@@ -19,7 +19,7 @@ use Rattle.state_laws.specs.Shown.{View, IsView, SourcesShow, StateShows, IsSeen
 use Rattle.state_laws.specs.Polygons.{HasFewColumns}
 use Rattle.state_laws.specs.Steps.{StepGives, StepRefuses, StepShows}
 
--- the command works on polygons; a clean where it fills gaps of some area
+-- the command takes polygons; a clean where it fills gaps of some area
 abbrev pub is_on_polygons : LayerAction → Bool
 is_on_polygons (action.Clip from) = true
 is_on_polygons (action.Erase from) = true
@@ -27,6 +27,8 @@ is_on_polygons (action.Dissolve spec group_points) = true
 is_on_polygons (action.Clean rule allow_empty gap) = nat_lt 0 gap
 is_on_polygons action.Mosaic = true
 is_on_polygons action.Explode = true
+is_on_polygons action.InnerLines = true
+is_on_polygons (action.Lines fields) = true
 is_on_polygons _ = false
 
 abbrev pub AreOfPolygons : List Layer → Type 0
@@ -36,6 +38,18 @@ AreOfPolygons layers = All (λ (layer : Layer). layer.kind ≡ kinds.Polygon) la
 abbrev pub PolygonStepsShow : Type 0
 PolygonStepsShow = (v : View) → IsView v → (base : Base) → IsSeenIn v base.plane → (sources : SourceLayers) → SourcesShow v base.sources sources → (layers : List Held) (s : State) → StateShows v layers s →
     (c : Command) (a : LayerAction) → c.action ≡ does.Each a → is_on_polygons a ≡ true → AreOfPolygons (targets c.target layers) → StepShows v base layers sources s c a
+
+-- the command takes shapes of every kind
+abbrev pub is_on_shapes : LayerAction → Bool
+is_on_shapes (action.Clip from) = true
+is_on_shapes (action.Erase from) = true
+is_on_shapes action.Explode = true
+is_on_shapes _ = false
+
+-- whatever the kinds of the layers of its target are
+abbrev pub ShapeStepsShow : Type 0
+ShapeStepsShow = (v : View) → IsView v → (base : Base) → IsSeenIn v base.plane → (sources : SourceLayers) → SourcesShow v base.sources sources → (layers : List Held) (s : State) → StateShows v layers s →
+    (c : Command) (a : LayerAction) → c.action ≡ does.Each a → is_on_shapes a ≡ true → StepShows v base layers sources s c a
 
 -- ---- a command that unites the layers of its target
 

@@ -28,7 +28,8 @@
 //!   `filled_polygons_show`, `mosaics_show`, `exploded_polygons_show` and `united_layers_show`; a layer that is alone is not
 //!   united (`lone_layers_are_refused`). Polygons cleaned without their gaps show what their overlaps leave
 //!   (`cleaned_polygons_show`). The step of a command on layers of polygons shows that of the state (`polygon_steps_show`),
-//!   and so does that of one that unites them (`union_steps_show`).
+//!   and so does that of one that unites them (`union_steps_show`), and that of clip, erase and explode on layers of any
+//!   kind (`shape_steps_show`).
 //!
 //! Each function carries one law in its contract, and does nothing.
 #![tactic(auto)]
@@ -37,7 +38,7 @@ ghost use Rattle.state_laws.specs.Beginnings.{BeginningsShow, DrawingsAreOne};
 ghost use Rattle.state_laws.specs.Lines.{ClippedLinesShow, ErasedLinesShow, ExplodedLinesShow, GroupedLinesShow, InnerLinesShow, OutlinesShow};
 ghost use Rattle.state_laws.specs.Places.{PlaceJoinsShow};
 ghost use Rattle.state_laws.specs.Placing.{PlacedOutputsShow};
-ghost use Rattle.state_laws.specs.PolygonSteps.{PolygonStepsShow, UnionStepsShow};
+ghost use Rattle.state_laws.specs.PolygonSteps.{PolygonStepsShow, ShapeStepsShow, UnionStepsShow};
 ghost use Rattle.state_laws.specs.Polygons.{AreasShow, CleanedPolygonsShow, ClippedPolygonsShow, DissolvedPolygonsShow, ErasedPolygonsShow, ExplodedPolygonsShow, FilledPolygonsShow, LoneLayersAreRefused, MosaicsShow, PlanesAreSeen, UnitedLayersShow};
 ghost use Rattle.state_laws.specs.Steps.{MergeStepsShow, TableStepsShow};
 ghost use Rattle.state_laws.specs.Tables.{
@@ -270,4 +271,9 @@ pub fn polygon_steps_show()
 /// The step of a command that unites the layers of its target shows that of the state, and is refused alike.
 pub fn union_steps_show()
     ensures { UnionStepsShow }
+{}
+
+/// The step of a clip, an erase or an explode shows that of the state, whatever the kinds of its layers.
+pub fn shape_steps_show()
+    ensures { ShapeStepsShow }
 {}
