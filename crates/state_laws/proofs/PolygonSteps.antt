@@ -1,8 +1,9 @@
 -- Steps of commands on layers of polygons.
-use Rattle.std.proofs.Common.{◌≡◌, ◌≢◌, refl, sym, ap, ◌∙◌, subst, true≢false, ℕ, Bool, true, false, not, ◌&&◌, List, [], ◌∷◌, ◌++◌, length, map, nat_lt, Option, Some, None, option_map, Result, Ok, Err, if◌then◌else◌}
+use Rattle.std.proofs.Common.{All, ◌≡◌, ◌≢◌, refl, sym, ap, ◌∙◌, subst, true≢false, ℕ, Bool, true, false, not, ◌&&◌, List, [], ◌∷◌, ◌++◌, length, map, nat_lt, Option, Some, None, option_map, Result, Ok, Err, if◌then◌else◌}
 use Rattle.std.specs.Prelude.{codes}
 use Rattle.std.specs.List.{AllZip, flat_map}
-use Rattle.std.proofs.lemmas.Bool.{ltb-true}
+use Rattle.std.proofs.lemmas.Bool.{and_parts, ltb-true}
+use Rattle.std.proofs.lemmas.List.Elements.{All-cons, All-nil}
 use Rattle.lists.specs.Lists.{ascending}
 use Rattle.grid_base.specs.declared.kinds.Kind.{Kind}
 use Rattle.grid_base.specs.declared.kinds.Kind.TheVariants as kinds
@@ -47,6 +48,7 @@ use Rattle.state_laws.proofs.EachLayer.{LayerAlike, alike_with}
 use Rattle.state_laws.proofs.LayerKinds.{only_taken}
 use Rattle.state_laws.proofs.LineCuts.{clipped_lines_show, erased_lines_show}
 use Rattle.state_laws.proofs.LinePieces.{exploded_lines_show}
+use Rattle.state_laws.proofs.MergeStep.{one_kind_told}
 use Rattle.state_laws.proofs.Outlines.{inner_lines_show, outlines_are_shown}
 use Rattle.state_laws.proofs.PolygonCleaning.{filled_polygons_show}
 use Rattle.state_laws.proofs.PolygonCuts.{areas_show, clipped_polygons_show, erased_polygons_show, refused_by_kind}
@@ -55,6 +57,7 @@ use Rattle.state_laws.proofs.PolygonParts.{exploded_polygons_show, mosaics_show}
 use Rattle.state_laws.proofs.PolygonSets.{joined_show}
 use Rattle.state_laws.proofs.Stepping.{IsAlike, step_shows, unfit}
 use Rattle.state_laws.proofs.Targeting.{one_layer_shows, origins_show, targets_show}
+use Rattle.state_laws.proofs.UnionStep.{polygon_is}
 use Rattle.state_laws.proofs.Zipped.{zip_with_all, zip_weaker}
 
 -- ---- an area that is refused has no faces
@@ -251,7 +254,7 @@ module _ (v : View) (view : IsView v) (base : Base) (seen : IsSeenIn v base.plan
       source = source_alike a on;
       kinds = kinds_alike a on (targets c.target layers) (layers_at s (target_numbers c.target layers)) (targets_show v layers s h c.target).show;
       outputs = λ none ls. outputs_are a on none ls;
-      pairs = all_alike;
+      pairs = λ kinds. all_alike;
       count = so_many a on;
     }
 
@@ -272,21 +275,54 @@ module _ (v : View) (view : IsView v) (base : Base) (seen : IsSeenIn v base.plan
   takes_polygons (action.Clip from) on = refl
   takes_polygons (action.Erase from) on = refl
   takes_polygons action.Explode on = refl
+  takes_polygons (action.Clean rule allow_empty gap) on = on
+  takes_polygons action.Mosaic on = refl
+  takes_polygons action.InnerLines on = refl
+  takes_polygons (action.Lines fields) on = refl
   takes_polygons a on = other on
 
-  lines_alike : (a : LayerAction) → is_on_shapes a ≡ true → (layer : Layer) (l : StateLayer) → LayerShows v layer l → layer.kind ≢ kinds.Polygon → Alike a layer l
-  lines_alike (action.Clip from) on layer l shown apart =
-      alike_with (clipped_lines_show v view base.plane seen (area_of base layers from) (CutRegion.source (cut_by v view base seen sources owns layers s h from)) (cut_by v view base seen sources owns layers s h from).shows layer l shown apart)
-  lines_alike (action.Erase from) on layer l shown apart =
-      alike_with (erased_lines_show v view base.plane seen (area_of base layers from) (CutRegion.source (cut_by v view base seen sources owns layers s h from)) (cut_by v view base seen sources owns layers s h from).shows layer l shown apart)
-  lines_alike action.Explode on layer l shown apart = alike_with (exploded_lines_show v base.plane layer l shown apart)
-  lines_alike a on layer l shown apart = other on
+  of_polygons : (a : LayerAction) → is_on_polygons a ≡ true → (layer : Layer) (l : StateLayer) → LayerShows v layer l → layer.kind ≡ kinds.Polygon → Alike a layer l
+  of_polygons a on layer l shown polygons = makes_alike v view base seen sources owns layers s h a on layer l (record { shows = shown; polygons = polygons })
 
-  shapes_alike : (a : LayerAction) → is_on_shapes a ≡ true → (layer : Layer) (l : StateLayer) → LayerShows v layer l → (k : Kind) → layer.kind ≡ k → Alike a layer l
-  shapes_alike a on layer l shown kinds.Polygon e = makes_alike v view base seen sources owns layers s h a (takes_polygons a on) layer l (record { shows = shown; polygons = e })
-  shapes_alike a on layer l shown kinds.Line e = lines_alike a on layer l shown (λ p. let clash : kinds.Line ≡ kinds.Polygon = sym e ∙ p in cc)
-  shapes_alike a on layer l shown kinds.Point e = lines_alike a on layer l shown (λ p. let clash : kinds.Point ≡ kinds.Polygon = sym e ∙ p in cc)
-  shapes_alike a on layer l shown kinds.Table e = lines_alike a on layer l shown (λ p. let clash : kinds.Table ≡ kinds.Polygon = sym e ∙ p in cc)
+  clipped_alike : (from : Origin) (layer : Layer) (l : StateLayer) → LayerShows v layer l → layer.kind ≢ kinds.Polygon → Alike (action.Clip from) layer l
+  clipped_alike from layer l shown apart = alike_with (clipped_lines_show v view base.plane seen (area_of base layers from) (CutRegion.source (cut_by v view base seen sources owns layers s h from)) (cut_by v view base seen sources owns layers s h from).shows layer l shown apart)
+
+  erased_alike : (from : Origin) (layer : Layer) (l : StateLayer) → LayerShows v layer l → layer.kind ≢ kinds.Polygon → Alike (action.Erase from) layer l
+  erased_alike from layer l shown apart = alike_with (erased_lines_show v view base.plane seen (area_of base layers from) (CutRegion.source (cut_by v view base seen sources owns layers s h from)) (cut_by v view base seen sources owns layers s h from).shows layer l shown apart)
+
+  -- of polygons, and of all others
+  by_kind : (P : Type 0) (layer : Layer) → (layer.kind ≡ kinds.Polygon → P) → (layer.kind ≢ kinds.Polygon → P) → (k : Kind) → layer.kind ≡ k → P
+  by_kind P layer is apart kinds.Polygon e = is e
+  by_kind P layer is apart kinds.Line e = apart (λ p. let clash : kinds.Line ≡ kinds.Polygon = sym e ∙ p in cc)
+  by_kind P layer is apart kinds.Point e = apart (λ p. let clash : kinds.Point ≡ kinds.Polygon = sym e ∙ p in cc)
+  by_kind P layer is apart kinds.Table e = apart (λ p. let clash : kinds.Table ≡ kinds.Polygon = sym e ∙ p in cc)
+
+  taken_so : (a : LayerAction) → is_on_shapes a ≡ true → (ts : List Layer) → held.refused_kinds base.sources layers a ts ≡ None → held.takes_all a ts ≡ true
+  taken_so (action.Clip from) on ts none = one_kind_told (held.takes_all (action.Clip from) ts) none
+  taken_so (action.Erase from) on ts none = one_kind_told (held.takes_all (action.Erase from) ts) none
+  taken_so action.Explode on ts none = one_kind_told (held.takes_all action.Explode ts) none
+  taken_so (action.Clean rule allow_empty gap) on ts none = one_kind_told (held.takes_all (action.Clean rule allow_empty gap) ts) none
+  taken_so action.Mosaic on ts none = one_kind_told (held.takes_all action.Mosaic ts) none
+  taken_so action.InnerLines on ts none = one_kind_told (held.takes_all action.InnerLines ts) none
+  taken_so (action.Lines fields) on ts none = one_kind_told (held.takes_all (action.Lines fields) ts) none
+  taken_so a on ts none = other on
+
+  each_taken : (a : LayerAction) (ts : List Layer) → held.takes_all a ts ≡ true → All (λ (layer : Layer). held.takes a layer.kind ≡ true) ts
+  each_taken a [] e = All-nil (λ (layer : Layer). held.takes a layer.kind ≡ true)
+  each_taken a (layer ∷ ts) e =
+      let both = and_parts (held.takes a layer.kind) (held.takes_all a ts) e in
+      All-cons (λ (one : Layer). held.takes a one.kind ≡ true) layer ts both.0 (each_taken a ts both.1)
+
+  shapes_alike : (a : LayerAction) → is_on_shapes a ≡ true → (layer : Layer) (l : StateLayer) → LayerShows v layer l → held.takes a layer.kind ≡ true → Alike a layer l
+  shapes_alike (action.Clip from) on layer l shown taken = by_kind (Alike (action.Clip from) layer l) layer (of_polygons (action.Clip from) refl layer l shown) (clipped_alike from layer l shown) layer.kind refl
+  shapes_alike (action.Erase from) on layer l shown taken = by_kind (Alike (action.Erase from) layer l) layer (of_polygons (action.Erase from) refl layer l shown) (erased_alike from layer l shown) layer.kind refl
+  shapes_alike action.Explode on layer l shown taken =
+      by_kind (Alike action.Explode layer l) layer (of_polygons action.Explode refl layer l shown) (λ apart. alike_with (exploded_lines_show v base.plane layer l shown apart)) layer.kind refl
+  shapes_alike (action.Clean rule allow_empty gap) on layer l shown taken = of_polygons (action.Clean rule allow_empty gap) on layer l shown (polygon_is layer.kind taken)
+  shapes_alike action.Mosaic on layer l shown taken = of_polygons action.Mosaic refl layer l shown (polygon_is layer.kind taken)
+  shapes_alike action.InnerLines on layer l shown taken = of_polygons action.InnerLines refl layer l shown (polygon_is layer.kind taken)
+  shapes_alike (action.Lines fields) on layer l shown taken = of_polygons (action.Lines fields) refl layer l shown (polygon_is layer.kind taken)
+  shapes_alike a on layer l shown taken = other on
 
   are_alike : (c : Command) (a : LayerAction) → is_on_shapes a ≡ true → IsAlike v base layers sources s c a (answered a)
   are_alike c a on =
@@ -296,7 +332,9 @@ module _ (v : View) (view : IsView v) (base : Base) (seen : IsSeenIn v base.plan
         source = source_alike v view base seen sources owns layers s h a (takes_polygons a on);
         kinds = kinds_alike v view base seen sources owns layers s h a (takes_polygons a on) ts ls (targets_show v layers s h c.target).show;
         outputs = λ none ls. outputs_are v view base seen sources owns layers s h a (takes_polygons a on) none ls;
-        pairs = zip_weaker (LayerShows v) (λ (layer : Layer) (l : StateLayer). LayerShows v layer l × Alike a layer l) (λ layer l shown. (shown, shapes_alike a on layer l shown layer.kind refl)) ts ls (targets_show v layers s h c.target).show;
+        pairs = λ none. zip_weaker (λ (layer : Layer) (l : StateLayer). LayerShows v layer l × (held.takes a layer.kind ≡ true)) (λ (layer : Layer) (l : StateLayer). LayerShows v layer l × Alike a layer l)
+            (λ layer l pair. (pair.0, shapes_alike a on layer l pair.0 pair.1)) ts ls
+            (zip_with_all (LayerShows v) (λ (layer : Layer). held.takes a layer.kind ≡ true) ts ls (targets_show v layers s h c.target).show (each_taken a ts (taken_so a on ts none)));
         count = so_many v view base seen sources owns layers s h a (takes_polygons a on);
       }
 

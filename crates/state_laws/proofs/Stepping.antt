@@ -103,7 +103,7 @@ pub record IsAlike (v : View) (base : Base) (layers : List Held) (sources : Sour
   pub source : refused_source sources s (does.Each a) ≡ option_map why_of (run.refused_source base.sources layers a)
   pub kinds : unfit sources s (does.Each a) (layers_at s (target_numbers c.target layers)) ≡ option_map why_of (run.refused_kinds base.sources layers a (targets c.target layers))
   pub outputs : refused_source sources s (does.Each a) ≡ None → (ls : List StateLayer) → outputs_of (plane_of v) v.answers sources s (does.Each a) ls ≡ each_layer f ls
-  pub pairs : AllZip (λ (layer : Layer) (l : StateLayer). LayerShows v layer l × LayerAlike v (PutsOut base layers a layer) (run.RefusesLayer base layers a layer) (f l)) (targets c.target layers) (layers_at s (target_numbers c.target layers))
+  pub pairs : run.refused_kinds base.sources layers a (targets c.target layers) ≡ None → AllZip (λ (layer : Layer) (l : StateLayer). LayerShows v layer l × LayerAlike v (PutsOut base layers a layer) (run.RefusesLayer base layers a layer) (f l)) (targets c.target layers) (layers_at s (target_numbers c.target layers))
   pub count : (layer : Layer) (l : StateLayer) → LayerShows v layer l → (outs : List StateLayer) → f l ≡ Ok outs → length outs ≡ run.output_count a layer
 
 module _ (v : View) (base : Base) (layers : List Held) (sources : SourceLayers) (s : State) (h : StateShows v layers s) (c : Command) (a : LayerAction) (does_each : c.action ≡ does.Each a) (f : StateLayer → Outputs) (alike : IsAlike v base layers sources s c a f) where
@@ -137,13 +137,13 @@ module _ (v : View) (base : Base) (layers : List Held) (sources : SourceLayers) 
   made_titled outputs puts =
       zip_weaker (Titles base layers c a) (MakesTitled v c.name Made Refuses f) (λ layer out titles. record { made = titles.made; makes = titles.puts; are = titles.titled }) ts (target_outputs c.target layers outputs) (targets_put base layers c a layers outputs puts)
 
-  only_alike : AllZip (λ (layer : Layer) (l : StateLayer). LayerAlike v (Made layer) (Refuses layer) (f l)) ts ls
-  only_alike = zip_weaker (λ (layer : Layer) (l : StateLayer). LayerShows v layer l × LayerAlike v (Made layer) (Refuses layer) (f l)) (λ (layer : Layer) (l : StateLayer). LayerAlike v (Made layer) (Refuses layer) (f l)) (λ layer l pair. pair.1) ts ls alike.pairs
+  only_alike : run.refused_kinds base.sources layers a ts ≡ None → AllZip (λ (layer : Layer) (l : StateLayer). LayerAlike v (Made layer) (Refuses layer) (f l)) ts ls
+  only_alike kinds = zip_weaker (λ (layer : Layer) (l : StateLayer). LayerShows v layer l × LayerAlike v (Made layer) (Refuses layer) (f l)) (λ (layer : Layer) (l : StateLayer). LayerAlike v (Made layer) (Refuses layer) (f l)) (λ layer l pair. pair.1) ts ls (alike.pairs kinds)
 
   goes_on : run.RefusesEach base layers c a None → (after : List Held) → ChangesEach base c a layers after → StepGives v sources s c after
   goes_on none after changes =
       let (target, source, kinds) = none_of_three (run.refused_target c.target layers) (run.refused_source base.sources layers a) (run.refused_kinds base.sources layers a ts) none.0 in
-      let (outs, is, shown) = outputs_show v c.name Made Refuses f ts ls only_alike (target_outputs c.target layers changes.outputs) (made_titled changes.outputs changes.puts) in
+      let (outs, is, shown) = outputs_show v c.name Made Refuses f ts ls (only_alike kinds) (target_outputs c.target layers changes.outputs) (made_titled changes.outputs changes.puts) in
       let placed = placed_outputs_show v layers s h c changes.outputs (map (map (titled c.name)) outs) (record { show = shown; all = others_put base layers c a layers changes.outputs changes.puts }) in
       let few : length (places.placed c layers changes.outputs) ≤ 1000 = subst (λ (held : List Held). length held ≤ 1000) changes.placed changes.few in
       let (t, put_out, shows) = placed.few few in
@@ -166,10 +166,10 @@ module _ (v : View) (base : Base) (layers : List Held) (sources : SourceLayers) 
 
   -- at work, for a layer of the target or for the number of layers
   work_stops : (why : RefuseWhy) → has_target c.target layers ≡ true → run.refused_source base.sources layers a ≡ None → run.refused_kinds base.sources layers a ts ≡ None → run.FailsEach base layers c a (Some why) → StepRefuses v sources s c why
-  work_stops why there source kinds (inl layer) = at_work (Err (why_of why)) there source kinds (first_stops v c.name Made Refuses f ts ls only_alike why layer)
+  work_stops why there source kinds (inl layer) = at_work (Err (why_of why)) there source kinds (first_stops v c.name Made Refuses f ts ls (only_alike kinds) why layer)
   work_stops why there source kinds (inr (layer, count)) =
       let many = too_many_told (nat_lt 1000 (run.stay_count c layers + sum_by (run.output_count a) ts)) why count in
-      let (outs, is, long, sum) = none_stops v c.name Made Refuses f (run.output_count a) alike.count ts ls alike.pairs layer in
+      let (outs, is, long, sum) = none_stops v c.name Made Refuses f (run.output_count a) alike.count ts ls (alike.pairs kinds) layer in
       let named : List (List StateLayer) = map (map (titled c.name)) outs in
       let as_many : length named ≡ length ts = length-map outs (map (titled c.name)) ∙ long in
       let left = placed_long v layers s h c.target c.keep named as_many in

@@ -226,7 +226,7 @@ module _ (v : View) (view : IsView v) (base : Base) (sources : SourceLayers) (ow
     source = source_alike v base sources owns layers s h a on;
     kinds = kinds_alike v base sources layers s a on (targets c.target layers) (layers_at s (target_numbers c.target layers)) (targets_show v layers s h c.target).show;
     outputs = λ none ls. outputs_are v sources s a on none ls;
-    pairs = all_alike;
+    pairs = λ kinds. all_alike;
     count = so_many v sources s a on;
   }
 

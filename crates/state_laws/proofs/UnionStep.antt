@@ -51,7 +51,7 @@ tests_same kinds.Line = refl
 tests_same kinds.Point = refl
 tests_same kinds.Table = refl
 
-polygon_is : (k : Kind) → run.is_polygon k ≡ true → k ≡ kinds.Polygon
+pub polygon_is : (k : Kind) → run.is_polygon k ≡ true → k ≡ kinds.Polygon
 polygon_is kinds.Polygon e = refl
 polygon_is kinds.Line e = absurd (true≢false (sym e))
 polygon_is kinds.Point e = absurd (true≢false (sym e))

@@ -39,11 +39,15 @@ abbrev pub PolygonStepsShow : Type 0
 PolygonStepsShow = (v : View) → IsView v → (base : Base) → IsSeenIn v base.plane → (sources : SourceLayers) → SourcesShow v base.sources sources → (layers : List Held) (s : State) → StateShows v layers s →
     (c : Command) (a : LayerAction) → c.action ≡ does.Each a → is_on_polygons a ≡ true → AreOfPolygons (targets c.target layers) → StepShows v base layers sources s c a
 
--- the command takes shapes of every kind
+-- the command takes shapes of every kind, or refuses those that are no polygons; a clean where it fills gaps of some area
 abbrev pub is_on_shapes : LayerAction → Bool
 is_on_shapes (action.Clip from) = true
 is_on_shapes (action.Erase from) = true
 is_on_shapes action.Explode = true
+is_on_shapes (action.Clean rule allow_empty gap) = nat_lt 0 gap
+is_on_shapes action.Mosaic = true
+is_on_shapes action.InnerLines = true
+is_on_shapes (action.Lines fields) = true
 is_on_shapes _ = false
 
 -- whatever the kinds of the layers of its target are

@@ -28,8 +28,8 @@
 //!   `filled_polygons_show`, `mosaics_show`, `exploded_polygons_show` and `united_layers_show`; a layer that is alone is not
 //!   united (`lone_layers_are_refused`). Polygons cleaned without their gaps show what their overlaps leave
 //!   (`cleaned_polygons_show`). The step of a command on layers of polygons shows that of the state (`polygon_steps_show`),
-//!   and so does that of one that unites them (`union_steps_show`), and that of clip, erase and explode on layers of any
-//!   kind (`shape_steps_show`).
+//!   and so does that of one that unites them (`union_steps_show`), and that of clip, erase, explode, mosaic, innerlines,
+//!   lines and a clean that fills gaps, whatever the kinds of the layers are (`shape_steps_show`).
 //!
 //! Each function carries one law in its contract, and does nothing.
 #![tactic(auto)]
@@ -273,7 +273,8 @@ pub fn union_steps_show()
     ensures { UnionStepsShow }
 {}
 
-/// The step of a clip, an erase or an explode shows that of the state, whatever the kinds of its layers.
+/// The step of a clip, an erase, an explode, a mosaic, innerlines, lines or a clean that fills gaps shows that of the state,
+/// whatever the kinds of its layers.
 pub fn shape_steps_show()
     ensures { ShapeStepsShow }
 {}
