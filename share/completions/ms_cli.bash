@@ -24,7 +24,7 @@ _ms_cli_words() {
 
 _ms_cli_values() {
   case $1 in
-    precision) echo "1 0.1 0.01 0.001 0.0001 0.00001 0.000001 0.0000001" ;;
+    precision) echo "1 0.1 0.01 0.001 0.0001 0.00001 0.000001 0.0000001 0.00000001 0.000000001" ;;
     overlap-rule) echo "max-area min-area min-id max-id" ;;
     format) echo "geojson topojson csv" ;;
   esac

@@ -22,7 +22,7 @@ pub fn first_steps(alloc: Global, arcs: &SpanPool) -> Result<Vec<FirstStep>, All
     requires { All (λ arc. 1 < length arc) arcs.now.spans }
     ensures exact { IfOk result (λ v. v.items ≡ map (first_of arcs.now.spans) (signed_below (length arcs.now.spans))) }
 {
-    let mut firsts = Vec::new(alloc);
+    let mut firsts = Vec::with_capacity(alloc, 2 * arcs.count() as usize)?;
     for n in 0..arcs.count() {
         let points = arcs.get(SpanId::new(n));
         let id = ArcId::new(n);

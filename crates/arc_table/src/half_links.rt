@@ -147,7 +147,7 @@ fn linked_steps(alloc: Global, links: &[Link]) -> Result<Vec<LinkedStep>, AllocE
     let mut steps = Vec::with_capacity(alloc, 2 * links.len())?;
     push_up(&mut steps, links)?;
     push_down(&mut steps, links)?;
-    steps.sort()?;
+    steps.sort_unstable();
     Ok(steps)
 }
 

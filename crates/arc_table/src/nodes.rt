@@ -11,7 +11,7 @@ pub fn turns_of(alloc: Global, s: &Snapped) -> Result<Vec<Pt>, AllocError>
     ensures exact { IfOk result (λ v. AreTurns s.now v.items) }
 {
     let mut turns = unsorted_turns(alloc, s)?;
-    turns.sort()?;
+    turns.sort_unstable();
     Ok(turns)
 }
 

@@ -84,11 +84,11 @@ impl ArcTable {
         ensures same { IfOk result (λ t. t ≡ arcs.spans) }
     {
         let mut firsts = first_steps(alloc, &arcs)?;
-        firsts.sort()?;
+        firsts.sort_unstable();
         let begins = steps_of(alloc, &firsts)?;
         let begun = arcs_of(alloc, &firsts)?;
-        let mut by_turn = first_steps(alloc, &arcs)?;
-        by_turn.sort_by(turning)?;
+        let mut by_turn = firsts;
+        by_turn.sort_unstable_by(turning);
         let starts = starts_of(alloc, &by_turn)?;
         let outs = arcs_of(alloc, &by_turn)?;
         let vertices = vertices_in_order(alloc, &arcs)?;

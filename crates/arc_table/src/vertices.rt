@@ -19,7 +19,7 @@ pub fn vertices_in_order(alloc: Global, arcs: &SpanPool) -> Result<Vec<ArcVertex
     ensures exact { IfOk result (λ v. AreVertices arcs.now.spans v.items) }
 {
     let mut vertices = vertices_of(alloc, arcs)?;
-    vertices.sort()?;
+    vertices.sort_unstable();
     Ok(vertices)
 }
 

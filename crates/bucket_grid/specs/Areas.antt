@@ -1,8 +1,8 @@
 -- Rectangles of grid points, which boxes share a point with one, and lists of rectangles in which each point has one place.
-use Rattle.std.specs.Prelude.{◌≡◌, ◌↔◌, ℕ, pos, negsuc, ◌<◌, ◌≤ℤ◌, int_le, Bool, ◌&&◌, IsTrue, List, length, slice_index_or}
+use Rattle.std.specs.Prelude.{◌≡◌, ◌↔◌, ℕ, ◌<◌, ◌≤ℤ◌, int_le, Bool, ◌&&◌, IsTrue, List, length, slice_index_or}
 use Rattle.lists.specs.Lists.{numbers_where}
 use Rattle.plane_model.specs.Points.{GridPoint}
-use Rattle.grid_base.specs.Grid.{Corners, IsAtMost}
+use Rattle.grid_base.specs.Grid.{Corners, IsAtMost, greatest, least}
 
 -- g lies in the rectangle
 pub record Holds (area : Corners) (g : GridPoint) : Type 0 where
@@ -17,7 +17,7 @@ SharePoint a b = (g : GridPoint) × Holds a g × Holds b g
 
 -- all of the grid
 abbrev pub whole : Corners
-whole = record { low = record { x = negsuc 1999999999; y = negsuc 1999999999 }; high = record { x = pos 2000000000; y = pos 2000000000 } }
+whole = record { low = record { x = least; y = least }; high = record { x = greatest; y = greatest } }
 
 -- g lies in the area at this place, and in no other
 pub record IsPlaceOf (areas : List Corners) (g : GridPoint) (place : ℕ) : Type 0 where

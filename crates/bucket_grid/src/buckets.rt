@@ -7,7 +7,7 @@ ghost use Rattle.bucket_grid.specs.Areas.{IsPlaceOf, boxes_near, whole};
 use crate::growing::{Forest, MAX_STEPS, grow};
 use crate::sharing::all_near;
 use crate::tree::{Node, child_of, coordinate};
-use grid_base::{BoxList, IdList, Pt, Rect};
+use grid_base::{BoxList, IdList, LIMIT, Pt, Rect};
 use std::alloc::{AllocError, Global};
 use std::marker::Model;
 
@@ -109,7 +109,7 @@ impl Buckets {
 fn whole_grid() -> Result<Rect, AllocError>
     ensures { IfOk result (λ area. area ≡ whole) }
 {
-    let low = Pt::new(-2_000_000_000, -2_000_000_000).ok_or(AllocError)?;
-    let high = Pt::new(2_000_000_000, 2_000_000_000).ok_or(AllocError)?;
+    let low = Pt::new(-LIMIT, -LIMIT).ok_or(AllocError)?;
+    let high = Pt::new(LIMIT, LIMIT).ok_or(AllocError)?;
     Rect::new(low, high).ok_or(AllocError)
 }

@@ -10,9 +10,9 @@ use Rattle.cmd_words.specs.declared.fault.WordWhy.TheVariants as why
 use Rattle.cmd_words.specs.Rows.{Text}
 use Rattle.cmd_words.specs.Texts.{pieces}
 
--- 1, 0.1 and so on to 0.0000001, in units of 10^-18
+-- 1, 0.1 and so on to 0.000000001, in units of 10^-18
 abbrev pub precisions : List ℤ
-precisions = pos (10 ^ 18) ∷ pos (10 ^ 17) ∷ pos (10 ^ 16) ∷ pos (10 ^ 15) ∷ pos (10 ^ 14) ∷ pos (10 ^ 13) ∷ pos (10 ^ 12) ∷ pos (10 ^ 11) ∷ []
+precisions = pos (10 ^ 18) ∷ pos (10 ^ 17) ∷ pos (10 ^ 16) ∷ pos (10 ^ 15) ∷ pos (10 ^ 14) ∷ pos (10 ^ 13) ∷ pos (10 ^ 12) ∷ pos (10 ^ 11) ∷ pos (10 ^ 10) ∷ pos (10 ^ 9) ∷ []
 
 abbrev pub place_of : ℤ → Option ℕ
 place_of units = position (λ (p : ℤ). int_eq units p) precisions

@@ -1,4 +1,5 @@
 ghost use Rattle.std.specs.Prelude.{◌≡◌, ◌≤◌, ◌&&◌, IfSome};
+ghost use Rattle.grid_base.specs.Grid.{most_places};
 ghost use Rattle.cmd_words.specs.Areas.{places_of, place_of, is_numeral as is_a_numeral, corner_of, area_between, area_of_four, area_from, area_of};
 ghost use Rattle.cmd_words.specs.Steps.{Gives};
 
@@ -9,11 +10,11 @@ use io_core::Text;
 use json_read::{Decimal, is_numeral, numeral_to_grid};
 use std::alloc::Global;
 
-/// The decimal places of a precision: of 1, 0.1 and so on to 0.0000001.
+/// The decimal places of a precision: of 1, 0.1 and so on to 0.000000001.
 #[tactic(auto, unfolding(crate::specs::Areas::places_of))]
 pub(crate) fn places_of(value: &str) -> Option<u8>
     ensures exact { result ≡ places_of value.now }
-    ensures few { IfSome result (λ k. k ≤ 7) }
+    ensures few { IfSome result (λ k. k ≤ most_places) }
 {
     let precision = Decimal::parse(value)?;
     places_of_units(precision.units())
@@ -22,7 +23,7 @@ pub(crate) fn places_of(value: &str) -> Option<u8>
 // Of a number of units of 10^-18.
 fn places_of_units(units: i128) -> Option<u8>
     ensures exact { result ≡ place_of units }
-    ensures few { IfSome result (λ k. k ≤ 7) }
+    ensures few { IfSome result (λ k. k ≤ most_places) }
 {
     match units {
         1_000_000_000_000_000_000 => Some(0),
@@ -33,6 +34,8 @@ fn places_of_units(units: i128) -> Option<u8>
         10_000_000_000_000 => Some(5),
         1_000_000_000_000 => Some(6),
         100_000_000_000 => Some(7),
+        10_000_000_000 => Some(8),
+        1_000_000_000 => Some(9),
         _ => None,
     }
 }

@@ -38,7 +38,7 @@ pub enum WordWhy {
     ExtraWord,
     /// The name tells no format.
     UnsupportedFile,
-    /// The value is none of 1, 0.1 and so on to 0.0000001.
+    /// The value is none of 1, 0.1 and so on to 0.000000001.
     BadPrecision,
     /// The word or the value is no number of the range.
     BadNumber,

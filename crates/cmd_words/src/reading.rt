@@ -1,10 +1,12 @@
 ghost use Rattle.std.specs.Prelude.{◌≡◌, ◌+◌, ◌<◌, ◌≤◌, ◌^◌, length, drop, false, IfOk, Err};
 ghost use Rattle.std.specs.List.{position_or_len};
+ghost use Rattle.grid_base.specs.Grid.{most_places};
 ghost use Rattle.cmd_words.specs.Expressions.{Refusals, AreRefusals};
-ghost use Rattle.cmd_words.specs.Seen.{form_seen};
+ghost use Rattle.cmd_words.specs.Seen.{form_seen, row_seen};
 ghost use Rattle.cmd_words.specs.Texts.{is_command};
 ghost use Rattle.cmd_words.specs.Rows.{import_form};
 ghost use Rattle.cmd_words.specs.Groups.{empty_group};
+ghost use Rattle.cmd_words.specs.Steps.{on_ok};
 ghost use Rattle.cmd_words.specs.Options.{take_word};
 ghost use Rattle.cmd_words.specs.Words.{at_word, words_from, grouped, take_words, finished, take_command, take_commands, without_import_word, places_in, after_import, read_groups, read_commands, read_chain_words, read_job, read_words};
 ghost use Rattle.cmd_words.specs.Cuts.{BeginsACommand, commands_of};
@@ -13,7 +15,7 @@ ghost use Rattle.cmd_words.specs.Limits.{KeepsLimits};
 
 use crate::actions::{lacks_argument, lacks_form};
 use crate::areas::places_of;
-use crate::commands::{GroupForm, IMPORT, Keyword, row_of};
+use crate::commands::{CommandRow, GroupForm, IMPORT, Keyword, row_of};
 use crate::fault::{WordFault, WordWhy};
 use crate::job::{Chain, Job};
 use crate::options::take_word;
@@ -82,7 +84,7 @@ fn bad(word: u32, why: WordWhy) -> WordFault
 fn read_commands(alloc: Global, words: &[Text]) -> Result<Chain, WordFault>
     requires { length words.now ≤ 1000 }
     ensures exact { (refuses : Refusals) → AreRefusals refuses → Tells FitsChain (read_commands refuses (words_from 1 words.now)) result }
-    ensures few { IfOk result (λ c. c.places ≤ 7) }
+    ensures few { IfOk result (λ c. c.places ≤ most_places) }
 {
     let skipped = import_words(words);
     let (_, words) = words.split_at(skipped);
@@ -105,7 +107,7 @@ fn import_words(words: &[Text]) -> usize
 fn read_groups(alloc: Global, first: u32, words: &[Text]) -> Result<Chain, WordFault>
     requires { first + length words.now < 2 ^ 32 }
     ensures exact { (refuses : Refusals) → AreRefusals refuses → Tells FitsChain (read_groups refuses (grouped (words_from first words.now))) result }
-    ensures few { IfOk result (λ c. c.places ≤ 7) }
+    ensures few { IfOk result (λ c. c.places ≤ most_places) }
 {
     let (import, commands) = words.split_at(plain_count(words));
     let group = read_import(alloc, first, import)?;
@@ -141,7 +143,7 @@ fn read_behind(alloc: Global, group: &Group, first: u32, words: &[Text]) -> Resu
     requires numbers { first + length words.now < 2 ^ 32 }
     requires begins { BeginsACommand words.now }
     ensures exact { (refuses : Refusals) → AreRefusals refuses → Tells FitsChain (after_import refuses (commands_of first words.now) group.now) result }
-    ensures few { IfOk result (λ c. c.places ≤ 7) }
+    ensures few { IfOk result (λ c. c.places ≤ most_places) }
 {
     if !group.has_argument() {
         return Err(bad(1, WordWhy::NoInput));
@@ -154,7 +156,7 @@ fn read_behind(alloc: Global, group: &Group, first: u32, words: &[Text]) -> Resu
 
 fn places_in(group: &Group) -> u8
     ensures exact { result ≡ places_in group.now }
-    ensures few { result ≤ 7 }
+    ensures few { result ≤ most_places }
 {
     match group.value("precision") {
         None => DEFAULT_PLACES,
@@ -238,8 +240,25 @@ fn take_command(
         return Err(bad(number, WordWhy::UnknownCommand));
     };
     let mut group = Group::new(alloc, so_far.reads_standard());
-    take_words(alloc, places, &row.form, &mut group, number + 1, rest)?;
-    finish(alloc, places, so_far, row.keyword, number, &mut group)
+    take_group(alloc, places, so_far, row, number, rest, &mut group)
+}
+
+// The words behind a command's own, and then the command.
+fn take_group(
+    alloc: Global,
+    places: u8,
+    so_far: &mut SoFar,
+    row: &CommandRow,
+    number: u32,
+    rest: &[Text],
+    group: &mut Group,
+) -> Result<(), WordFault>
+    requires { number + 1 + length rest.now < 2 ^ 32 }
+    ensures exact { (refuses : Refusals) → AreRefusals refuses
+        → Turns (on_ok (take_words refuses places (row_seen row.now).form group.old (words_from (number + 1) rest.now)) (finished places so_far.old (row_seen row.now).keyword number)) so_far.new result }
+{
+    take_words(alloc, places, &row.form, group, number + 1, rest)?;
+    finish(alloc, places, so_far, row.keyword, number, group)
 }
 
 fn finish(

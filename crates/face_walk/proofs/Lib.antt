@@ -1,4 +1,3 @@
-pub mod Bounds
 pub mod JoiningLemmas
 pub mod NumberingLemmas
 pub mod AreaLemmas

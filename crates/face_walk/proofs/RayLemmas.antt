@@ -11,7 +11,7 @@ use Rattle.plane_algebra.proofs.Sign.{zero_or_less}
 use Rattle.plane_model.specs.Points.{GridPoint, at, step_x, turn}
 use Rattle.plane_model.specs.Parity.{is_over, is_below}
 use Rattle.plane_model.specs.Below.{rise, rises}
-use Rattle.grid_base.specs.Grid.{Corners}
+use Rattle.grid_base.specs.Grid.{Corners, greatest, least}
 use Rattle.bucket_grid.specs.Areas.{share_point, boxes_near}
 use Rattle.grid_base.specs.Grid.{IsOnGrid, is_on_grid, grid_point}
 use Rattle.bucket_grid.specs.Areas.{Holds}
@@ -202,10 +202,10 @@ module _ (links : List ArcLink) (p : GridPoint) (best result : Option ArcLink) (
     ]
   ]
     where
-      ends_here : (x y : ℤ) → negsuc 1999999999 ≤ℤ x → x ≤ℤ pos 2000000000 → negsuc 1999999999 ≤ℤ y → y ≤ℤ pos 2000000000 → ((int_le (negsuc 1999999999) x && int_le x (pos 2000000000)) && (int_le (negsuc 1999999999) y && int_le y (pos 2000000000))) ≡ false → ⊥
-      ends_here x y a b c d e = go (int_le (negsuc 1999999999) x) (int_le x (pos 2000000000)) (int_le (negsuc 1999999999) y) (int_le y (pos 2000000000)) refl refl refl refl e
+      ends_here : (x y : ℤ) → least ≤ℤ x → x ≤ℤ greatest → least ≤ℤ y → y ≤ℤ greatest → ((int_le least x && int_le x greatest) && (int_le least y && int_le y greatest)) ≡ false → ⊥
+      ends_here x y a b c d e = go (int_le least x) (int_le x greatest) (int_le least y) (int_le y greatest) refl refl refl refl e
         where
-          go : (p q r s : Bool) → int_le (negsuc 1999999999) x ≡ p → int_le x (pos 2000000000) ≡ q → int_le (negsuc 1999999999) y ≡ r → int_le y (pos 2000000000) ≡ s → ((p && q) && (r && s)) ≡ false → ⊥
+          go : (p q r s : Bool) → int_le least x ≡ p → int_le x greatest ≡ q → int_le least y ≡ r → int_le y greatest ≡ s → ((p && q) && (r && s)) ≡ false → ⊥
           go false q r s f g i j k = absurd (omega (arith, ints))
           go true false r s f g i j k = absurd (omega (arith, ints))
           go true true false s f g i j k = absurd (omega (arith, ints))

@@ -1,16 +1,18 @@
--- How large numbers of the grid, their differences and their determinants are.
-use Rattle.std.specs.Prelude.{◌≤◌, ℤ, unsigned_abs}
+-- How large products of steps and determinants are, and triangles with a corner at the origin.
+use Rattle.std.specs.Prelude.{ℕ, ◌*◌, ◌≤◌, ℤ, unsigned_abs}
+use Rattle.grid_base.specs.Grid.{limit}
+use Rattle.grid_base.specs.Sizes.{most_cross, most_step}
 
--- the difference of two numbers of the grid is at most this, and the cross product of two segments at most that
-abbrev pub IsStep : ℤ → Type 0
-IsStep d = unsigned_abs d ≤ 4000000000
+-- a step times a determinant
+abbrev pub most_scaled : ℕ
+most_scaled = most_step * most_cross
 
-abbrev pub IsCross : ℤ → Type 0
-IsCross z = unsigned_abs z ≤ 32000000000000000000
+abbrev pub IsScaled : ℤ → Type 0
+IsScaled z = unsigned_abs z ≤ most_scaled
 
--- a number of the grid is at most this, and twice the area of a triangle with a corner at the origin at most that
-abbrev pub IsGridNumber : ℤ → Type 0
-IsGridNumber v = unsigned_abs v ≤ 2000000000
+-- twice the area of a triangle with a corner at the origin
+abbrev pub most_triangle : ℕ
+most_triangle = 2 * (limit * limit)
 
 abbrev pub IsTriangle : ℤ → Type 0
-IsTriangle z = unsigned_abs z ≤ 8000000000000000000
+IsTriangle z = unsigned_abs z ≤ most_triangle

@@ -28,6 +28,7 @@ mod rows;
 mod sectors;
 mod under;
 
+pub use areas::added;
 pub use faces::Faces;
 pub use joining::Joining;
 pub use labels::Labels;

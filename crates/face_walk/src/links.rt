@@ -27,7 +27,7 @@ pub fn links_of(alloc: Global, t: &ArcTable) -> Result<Vec<ArcLink>, AllocError>
         let id = ArcId::new(n);
         push_links(&mut links, id, t.points_of(id))?;
     }
-    links.sort()?;
+    links.sort_unstable();
     Ok(links)
 }
 
@@ -117,6 +117,6 @@ pub fn highs_of(alloc: Global, links: &[ArcLink]) -> Result<Vec<Pt>, AllocError>
     for l in links {
         highs.push(l.link.high())?;
     }
-    highs.sort()?;
+    highs.sort_unstable();
     Ok(highs)
 }

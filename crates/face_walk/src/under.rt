@@ -1,36 +1,12 @@
-ghost use Rattle.std.specs.Prelude.{◌≡◌, ◌≤◌, ◌-ℤ◌, ◌*ℤ◌, int_le, pos, unsigned_abs};
+ghost use Rattle.std.specs.Prelude.{◌≡◌, ◌*◌, ◌≤◌, ◌*ℤ◌, int_le, pos, unsigned_abs};
 ghost use Rattle.plane_model.specs.Points.{at, step_x, turn};
 ghost use Rattle.plane_model.specs.Parity.{is_below, is_over};
 ghost use Rattle.plane_model.specs.Below.{rise, rises};
-ghost use Rattle.face_walk.specs.Under.{IsStep, IsCross};
+ghost use Rattle.grid_base.specs.Sizes.{IsStep, IsCross};
+ghost use Rattle.face_walk.specs.Under.{IsScaled, most_scaled};
 ghost use Rattle.face_walk.specs.Parting.{earlier, later, runs_over};
 
-use grid_base::{Link, Pt};
-
-// How far `to` stands to the right of `from`, and above it.
-fn step(from: Pt, to: Pt) -> (i128, i128)
-    ensures across { result.0 ≡ to.x -ℤ from.x }
-    ensures upward { result.1 ≡ to.y -ℤ from.y }
-    ensures across_small { IsStep result.0 }
-    ensures upward_small { IsStep result.1 }
-{
-    (
-        to.x() as i128 - from.x() as i128,
-        to.y() as i128 - from.y() as i128,
-    )
-}
-
-// The determinant of two steps, (a, b) and (c, d).
-fn determinant(a: i128, b: i128, c: i128, d: i128) -> i128
-    requires a_small { IsStep a }
-    requires b_small { IsStep b }
-    requires c_small { IsStep c }
-    requires d_small { IsStep d }
-    ensures value { result ≡ a *ℤ d -ℤ b *ℤ c }
-    ensures small { IsCross result }
-{
-    a * d - b * c
-}
+use grid_base::{Link, Pt, determinant, step};
 
 // How the point `p` stands to a link: above 0 where it is strictly left of it, from its lesser to its greater end.
 fn side_of(l: Link, p: Pt) -> i128
@@ -43,7 +19,7 @@ fn side_of(l: Link, p: Pt) -> i128
 }
 
 // How far a link goes to the right.
-fn width_of(l: Link) -> i128
+fn width_of(l: Link) -> i64
     ensures exact { result ≡ step_x (at l.start) (at l.stop) }
     ensures small { IsStep result }
 {
@@ -75,19 +51,19 @@ pub fn is_at_or_above(l: Link, p: Pt) -> bool
 }
 
 // A product of a step and a determinant.
-fn scaled(across: i128, side: i128) -> i128
+fn scaled(across: i64, side: i128) -> i128
     requires step { IsStep across }
     requires cross { IsCross side }
     ensures value { result ≡ across *ℤ side }
-    ensures small { unsigned_abs result ≤ 128000000000000000000000000000 }
+    ensures small { IsScaled result }
 {
-    across * side
+    across as i128 * side
 }
 
 // How high `l` runs above `k` at the abscissa of `p`, times positive numbers.
 fn rise(l: Link, k: Link, p: Pt) -> i128
     ensures exact { result ≡ rise (at p) k l }
-    ensures small { unsigned_abs result ≤ 256000000000000000000000000000 }
+    ensures small { unsigned_abs result ≤ 2 * most_scaled }
 {
     scaled(width_of(l), side_of(k, p)) - scaled(width_of(k), side_of(l, p))
 }

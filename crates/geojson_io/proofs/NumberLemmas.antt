@@ -8,10 +8,11 @@ use Rattle.std.proofs.lemmas.Int.{unsigned_abs-mul}
 use Rattle.std.proofs.lemmas.Nat.{pow-add, div-add-mod', mod-mul-add}
 use Rattle.std.proofs.Math.Nat.{mod-lt, div-le_self, mul_assoc, mul-lt-mul_of_pos_right, mul-div-mul_right, mul-div_left, mul-mod_left, one-le-pow, div-div-eq-div-mul, mul_comm, div-one}
 use Rattle.std.proofs.Math.Arith.{mod-mul}
+use Rattle.grid_base.specs.Grid.{limit}
 use Rattle.json_read.specs.Decimal.{of_grid, fraction_text as decimal_fraction, is_negative, last_digits, sign_text, trimmed_digits}
 use Rattle.json_read.proofs.Digits.{decimal_text-parts, fraction_text-zero, fraction_text-other, last_digits-suc, last_digits-zero, trimmed_digits-zero}
 use Rattle.json_read.proofs.Scaling.{pow_ten}
-use Rattle.geojson_io.specs.Numbers.{fraction_text}
+use Rattle.geojson_io.specs.Numbers.{fraction_text, whole_digits}
 use Rattle.plane_model.specs.Points.{GridPoint}
 use Rattle.geojson_io.specs.Texts.{grid_text, point_text}
 
@@ -130,11 +131,11 @@ grid_parts g places le =
 pub unit_positive : (unit places : ℕ) → unit ≡ 10 ^ places → 0 < unit
 unit_positive unit places e = subst (λ (u : ℕ). 0 < u) (sym e) (one-le-pow places 10 (lit< tt))
 
-pub short_whole : (n size unit : ℕ) → n ≡ size → size ≤ 2000000000 → length (decimal (n / unit)) ≤ 10
+pub short_whole : (n size unit : ℕ) → n ≡ size → size ≤ limit → length (decimal (n / unit)) ≤ whole_digits
 short_whole n size unit e l =
     let smaller : n / unit ≤ n = div-le_self n unit in
-    let small : n ≤ 2000000000 = omega (arith, e, l) in
-    length-decimal-le 10 (n / unit) (omega arith) (omega (arith, smaller, small)) (omega (arith, smaller, small))
+    let small : n ≤ limit = omega (arith, e, l) in
+    length-decimal-le whole_digits (n / unit) (omega arith) (omega (arith, smaller, small)) (omega (arith, smaller, small))
 
 pub number_written : (g : ℤ) (places : ℕ) (n unit : ℕ) (negative : Bool) (a b c tail : List ℕ) → places ≤ 18 → n ≡ unsigned_abs g → unit ≡ 10 ^ places → negative ≡ is_negative g
     → a ≡ fraction_text places (n % unit) ++ tail → b ≡ decimal (n / unit) ++ a → c ≡ sign_text negative ++ b → c ≡ grid_text places g ++ tail

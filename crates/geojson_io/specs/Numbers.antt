@@ -2,6 +2,10 @@
 use Rattle.std.specs.Prelude.{ℕ, ◌==◌, List, [], ◌∷◌, if◌then◌else◌}
 use Rattle.json_read.specs.Decimal.{trimmed_digits}
 
+-- the whole part of a number of the grid has at most so many digits
+abbrev pub whole_digits : ℕ
+whole_digits = 12
+
 -- a point and the digits of a fraction of 10 ^ places, without the zeros at their end; nothing where it is zero
 abbrev pub fraction_text : ℕ → ℕ → List ℕ
 fraction_text places n = if n == 0 then [] else 46 ∷ trimmed_digits places n

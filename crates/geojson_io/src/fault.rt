@@ -24,7 +24,7 @@ pub enum ShapeWhy {
     /// A position does not begin with two numbers, or coordinates are not nested as their type demands.
     #[error("no position")]
     BadPosition,
-    /// A grid number passes 2,000,000,000 either way.
+    /// A grid number passes 200,000,000,000 either way.
     #[error("a position outside the grid")]
     Range,
     #[error("too many positions")]

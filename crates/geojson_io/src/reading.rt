@@ -1,4 +1,5 @@
 ghost use Rattle.std.specs.Prelude.{◌≡◌, ◌≤◌, All, IfOk, IfErr, Ok};
+ghost use Rattle.grid_base.specs.Grid.{most_places};
 ghost use Rattle.json_read.specs.Seen.{json_value};
 ghost use Rattle.geojson_io.specs.Reads.{IsFault};
 ghost use Rattle.geojson_io.specs.Layers.{read_geojson as geojson_layers};
@@ -34,7 +35,7 @@ pub fn read_geojson(
     name: &str,
     room: Room,
 ) -> Result<GeoLayers, ShapeFault>
-    requires { places ≤ 7 }
+    requires { places ≤ most_places }
     ensures ok { IfOk result (λ layers. geojson_layers places name.now room.positions room.features (json_value json.now) ≡ Ok layers) }
     ensures fault { IfErr result (IsFault (geojson_layers places name.now room.positions room.features (json_value json.now))) }
     ensures sound { IfOk result (λ layers. All LayerIsSound layers) }

@@ -1,4 +1,5 @@
 ghost use Rattle.std.specs.Prelude.{◌≡◌, ◌≤◌, ◌++◌, IfOk, OnOk, codes, length};
+ghost use Rattle.grid_base.specs.Grid.{most_places};
 ghost use Rattle.json_read.specs.Table.{AreRows};
 ghost use Rattle.geojson_io.specs.Texts.{before_item, feature_text, features_text, line_end, geojson_text};
 
@@ -25,7 +26,7 @@ const FEATURE_BYTES: usize = 160;
 /// Shape and units: grid numbers are printed as `g / 10^places`.
 /// Source: RFC 7946; the exact text is ours.
 pub fn write_geojson(alloc: Global, layer: &GeoLayer, places: u8) -> Result<Bytes, AllocError>
-    requires { places ≤ 7 }
+    requires { places ≤ most_places }
     ensures exact { IfOk result (λ text. text ≡ geojson_text places layer.now) }
 {
     let shapes = layer.shapes.as_slice();
@@ -99,7 +100,7 @@ fn write_feature(
     places: u8,
     out: &mut Bytes,
 ) -> Result<(), AllocError>
-    requires places { places ≤ 7 }
+    requires places { places ≤ most_places }
     requires width { length keys.now ≡ length row.now }
     ensures { OnOk result (out.new ≡ out.old ++ feature_text places keys.now (row.now, shape.now)) }
 {
@@ -117,7 +118,7 @@ fn write_features(
     places: u8,
     out: &mut Bytes,
 ) -> Result<(), AllocError>
-    requires places { places ≤ 7 }
+    requires places { places ≤ most_places }
     requires count { length shapes.now ≡ length rows.now }
     requires widths { AreRows (length keys.now) rows.now }
     ensures { OnOk result (out.new ≡ out.old ++ features_text places keys.now rows.now shapes.now) }

@@ -1,18 +1,32 @@
 -- The bounds of the grid, and rectangles: words for whole numbers of the plane.
-use Rattle.std.specs.Prelude.{ℤ, pos, negsuc, int_le, ◌≤ℤ◌, Bool, ◌&&◌, if◌then◌else◌, Option, Some, None}
+use Rattle.std.specs.Prelude.{ℕ, ℤ, pos, neg_ℤ, int_le, ◌≤ℤ◌, Bool, ◌&&◌, if◌then◌else◌, Option, Some, None}
 use Rattle.plane_model.specs.Points.{GridPoint}
 use Rattle.plane_model.specs.Hot.{IsWithinBounds}
 
--- a number of the grid: from -2,000,000,000 to 2,000,000,000
+-- a number of the grid is at most this, either way
+abbrev pub limit : ℕ
+limit = 200000000000
+
+-- a grid has at most so many decimal places
+abbrev pub most_places : ℕ
+most_places = 9
+
+-- the least and the greatest number of the grid
+abbrev pub least : ℤ
+least = neg_ℤ (pos limit)
+
+abbrev pub greatest : ℤ
+greatest = pos limit
+
 abbrev pub is_grid_number : ℤ → Bool
-is_grid_number v = int_le (negsuc 1999999999) v && int_le v (pos 2000000000)
+is_grid_number v = int_le least v && int_le v greatest
 
 abbrev pub is_on_grid : GridPoint → Bool
 is_on_grid p = is_grid_number p.x && is_grid_number p.y
 
 -- the same, as a fact
 abbrev pub IsOnGrid : GridPoint → Type 0
-IsOnGrid p = IsWithinBounds (negsuc 1999999999) (pos 2000000000) p
+IsOnGrid p = IsWithinBounds least greatest p
 
 -- the point with these numbers, where it lies on the grid
 abbrev pub grid_point : ℤ → ℤ → Option GridPoint

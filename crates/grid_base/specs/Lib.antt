@@ -1,2 +1,3 @@
 pub mod Grid
+pub mod Sizes
 pub mod Drawn

@@ -1,6 +1,6 @@
 //! The grid: points, segments, links, boxes, the numbers of arcs, faces and features, and lists of these.
 //!
-//! Grid numbers are whole and at most 2,000,000,000 in absolute value. Contracts see a `Pt` as a `GridPoint` of
+//! Grid numbers are whole and at most [`LIMIT`] in absolute value. Contracts see a `Pt` as a `GridPoint` of
 //! `plane_model`, a `Seg` and a `Link` as a `Segment`, and a list as the list of its items.
 #![tactic(auto)]
 
@@ -23,7 +23,7 @@ pub use list_types::{
     BoxList, GroupList, IdList, LinkList, Path, PathList, PolygonRings, PtList, RingsList,
 };
 pub use numbers::{ArcId, FaceId, FeatId};
-pub use point::{Pt, turn};
+pub use point::{LIMIT, MOST_PLACES, Pt, determinant, step, turn};
 pub use segment::Seg;
 pub use signed_arc::SignedArc;
 pub use snapped::Snapped;

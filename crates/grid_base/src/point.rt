@@ -1,14 +1,21 @@
-ghost use Rattle.std.specs.Prelude.{◌≡◌, ◌≤◌, ◌-ℤ◌, ◌*ℤ◌, unsigned_abs};
+ghost use Rattle.std.specs.Prelude.{◌≡◌, ◌-ℤ◌, ◌*ℤ◌};
 ghost use Rattle.plane_model.specs.Points.{GridPoint, Segment, cross};
 ghost use Rattle.grid_base.specs.Grid.{grid_point, IsOnGrid};
+ghost use Rattle.grid_base.specs.Sizes.{IsStep, IsCross};
 
 use std::marker::Model;
+
+/// A number of the grid is at most this, either way: 200,000,000,000.
+pub const LIMIT: i64 = 200_000_000_000;
+
+/// A grid has at most so many decimal places.
+pub const MOST_PLACES: u8 = 9;
 
 /// A point of the grid. Points are ordered by x, then by y.
 #[derive(Clone, Copy, PartialEq, Eq, PartialOrd, Ord, Debug)]
 pub struct Pt {
-    x: i32,
-    y: i32,
+    x: i64,
+    y: i64,
 }
 
 impl Model for Pt {
@@ -25,18 +32,13 @@ impl Model for Pt {
 }
 
 impl Pt {
-    const LIMIT: i64 = 2_000_000_000;
-
-    /// The point (`x`, `y`); `None` exactly where |`x`| or |`y`| passes 2,000,000,000.
+    /// The point (`x`, `y`); `None` exactly where |`x`| or |`y`| passes [`LIMIT`].
     pub fn new(x: i64, y: i64) -> Option<Pt>
         ensures exact { result ≡ grid_point x y }
         ensures within { IsOnGrid (record { x = x; y = y }) → result ≡ Some (record { x = x; y = y }) }
     {
-        if -Pt::LIMIT <= x && x <= Pt::LIMIT && -Pt::LIMIT <= y && y <= Pt::LIMIT {
-            Some(Pt {
-                x: x as i32,
-                y: y as i32,
-            })
+        if -LIMIT <= x && x <= LIMIT && -LIMIT <= y && y <= LIMIT {
+            Some(Pt { x, y })
         } else {
             None
         }
@@ -46,39 +48,39 @@ impl Pt {
         ensures exact { result ≡ self.now.x }
         ensures bounded { IsOnGrid self.now }
     {
-        self.x as i64
+        self.x
     }
 
     pub fn y(&self) -> i64
         ensures exact { result ≡ self.now.y }
         ensures bounded { IsOnGrid self.now }
     {
-        self.y as i64
+        self.y
     }
 }
 
-// How far `to` stands to the right of `from`, and above it.
-fn step(from: Pt, to: Pt) -> (i128, i128)
+/// How far `to` stands to the right of `from`, and above it.
+pub fn step(from: Pt, to: Pt) -> (i64, i64)
     ensures across { result.0 ≡ to.x -ℤ from.x }
     ensures upward { result.1 ≡ to.y -ℤ from.y }
-    ensures across_small { unsigned_abs result.0 ≤ 4000000000 }
-    ensures upward_small { unsigned_abs result.1 ≤ 4000000000 }
+    ensures across_small { IsStep result.0 }
+    ensures upward_small { IsStep result.1 }
+    ensures from_on_grid { IsOnGrid from }
+    ensures to_on_grid { IsOnGrid to }
 {
-    (
-        to.x() as i128 - from.x() as i128,
-        to.y() as i128 - from.y() as i128,
-    )
+    (to.x() - from.x(), to.y() - from.y())
 }
 
-// The determinant of two steps, (a, b) and (c, d).
-fn determinant(a: i128, b: i128, c: i128, d: i128) -> i128
-    requires a_small { unsigned_abs a ≤ 4000000000 }
-    requires b_small { unsigned_abs b ≤ 4000000000 }
-    requires c_small { unsigned_abs c ≤ 4000000000 }
-    requires d_small { unsigned_abs d ≤ 4000000000 }
-    ensures { result ≡ a *ℤ d -ℤ b *ℤ c }
+/// The determinant of two steps, (`a`, `b`) and (`c`, `d`).
+pub fn determinant(a: i64, b: i64, c: i64, d: i64) -> i128
+    requires a_small { IsStep a }
+    requires b_small { IsStep b }
+    requires c_small { IsStep c }
+    requires d_small { IsStep d }
+    ensures value { result ≡ a *ℤ d -ℤ b *ℤ c }
+    ensures small { IsCross result }
 {
-    a * d - b * c
+    a as i128 * d as i128 - b as i128 * c as i128
 }
 
 /// The cross product of the steps from `a` to `b` and from `a` to `c`: above 0 where the three turn left.

@@ -1,4 +1,3 @@
-pub mod Bounds
 pub mod Shares
 pub mod Appending
 pub mod CrossingLemmas

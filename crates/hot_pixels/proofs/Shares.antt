@@ -8,7 +8,8 @@ use Rattle.plane_model.specs.Points.{GridPoint, Segment, cross, SameWay}
 use Rattle.plane_model.specs.Pixel.{crossing_pixel, rounded, with_sign}
 use Rattle.plane_model.specs.Pixel.{IsInBox}
 use Rattle.plane_snapping.proofs.Boxes.{crossings_lie_in_both_boxes}
-use Rattle.grid_base.specs.Grid.{IsOnGrid, is_grid_number}
+use Rattle.grid_base.specs.Grid.{IsOnGrid, is_grid_number, greatest, least}
+use Rattle.grid_base.specs.Sizes.{IsGridNumber}
 use Rattle.hot_pixels.specs.Crossing.{is_share, pixel_by, HasGridEnds}
 
 pub pos_is : (w : ℤ) → pos 0 <ℤ w → w ≡ pos (unsigned_abs w)
@@ -78,8 +79,8 @@ within low high p q g a b (inr w) = let a₁ = a.1 in let b₀ = b.0 in let w₀
 -- what lies in the box of a segment of the grid lies on the grid
 pub box_on_grid : (s : Segment) (g : GridPoint) → HasGridEnds s → IsInBox s g → IsOnGrid g
 box_on_grid s g h b =
-    let x = within (negsuc 1999999999) (pos 2000000000) s.start.x s.stop.x g.x (h.start.x_low, h.start.x_high) (h.stop.x_low, h.stop.x_high) b.0 in
-    let y = within (negsuc 1999999999) (pos 2000000000) s.start.y s.stop.y g.y (h.start.y_low, h.start.y_high) (h.stop.y_low, h.stop.y_high) b.1 in
+    let x = within least greatest s.start.x s.stop.x g.x (h.start.x_low, h.start.x_high) (h.stop.x_low, h.stop.x_high) b.0 in
+    let y = within least greatest s.start.y s.stop.y g.y (h.start.y_low, h.start.y_high) (h.stop.y_low, h.stop.y_high) b.1 in
     record { x_low = x.0; x_high = x.1; y_low = y.0; y_high = y.1 }
 
 pub crossing_on_grid : (s t : Segment) → HasGridEnds s → (g : GridPoint) → crossing_pixel s t ≡ Some g → IsOnGrid g
@@ -87,15 +88,15 @@ crossing_on_grid s t h g e = box_on_grid s g h (crossings_lie_in_both_boxes s t 
 
 -- ---- numbers of the grid
 
-pub number_from : (v : ℤ) → IsTrue (is_grid_number v) → unsigned_abs v ≤ 2000000000
+pub number_from : (v : ℤ) → IsTrue (is_grid_number v) → IsGridNumber v
 number_from v e =
-    let h = and_parts (int_le (negsuc 1999999999) v) (int_le v (pos 2000000000)) e in
-    let l = le_from (negsuc 1999999999) v h.0 in
-    let u = le_from v (pos 2000000000) h.1 in
+    let h = and_parts (int_le least v) (int_le v greatest) e in
+    let l = le_from least v h.0 in
+    let u = le_from v greatest h.1 in
     omega (arith, ints)
 
-pub number_to : (v : ℤ) → negsuc 1999999999 ≤ℤ v → v ≤ℤ pos 2000000000 → IsTrue (is_grid_number v)
-number_to v l u = and_from (int_le (negsuc 1999999999) v) (int_le v (pos 2000000000)) (le_to (negsuc 1999999999) v l) (le_to v (pos 2000000000) u)
+pub number_to : (v : ℤ) → least ≤ℤ v → v ≤ℤ greatest → IsTrue (is_grid_number v)
+number_to v l u = and_from (int_le least v) (int_le v greatest) (le_to least v l) (le_to v greatest u)
 
 pub share_bound : (p w : ℤ) (m : ℕ) → is_share p w ≡ true → unsigned_abs w ≤ m → unsigned_abs p ≤ m
 share_bound p w m e b =

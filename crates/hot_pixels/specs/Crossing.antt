@@ -15,13 +15,6 @@ pixel_by s w p q =
     then Some (record { x = rounded s.start.x (s.stop.x -ℤ s.start.x) p w; y = rounded s.start.y (s.stop.y -ℤ s.start.y) p w })
     else None
 
--- the difference of two numbers of the grid is at most this, and the cross product of two segments at most that
-abbrev pub IsStep : ℤ → Type 0
-IsStep d = unsigned_abs d ≤ 4000000000
-
-abbrev pub IsCross : ℤ → Type 0
-IsCross z = unsigned_abs z ≤ 32000000000000000000
-
 pub record HasGridEnds (s : Segment) : Type 0 where
   pub start : IsOnGrid s.start
   pub stop : IsOnGrid s.stop

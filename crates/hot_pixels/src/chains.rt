@@ -1,8 +1,8 @@
 ghost use Rattle.std.specs.Prelude.{◌≡◌, ◌-ℤ◌, ◌*ℤ◌, IfOk};
 ghost use Rattle.std.specs.Int.{int_signum};
 ghost use Rattle.plane_model.specs.Hot.{order_key};
+ghost use Rattle.grid_base.specs.Sizes.{IsGridNumber};
 ghost use Rattle.hot_pixels.specs.Chains.{AreSortedAlong};
-ghost use Rattle.hot_pixels.specs.Sides.{IsGridNumber};
 
 use grid_base::{Pt, PtList, Seg};
 use std::alloc::{AllocError, Global};

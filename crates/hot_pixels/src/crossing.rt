@@ -1,37 +1,11 @@
-ghost use Rattle.std.specs.Prelude.{◌≡◌, ◌≤◌, ◌^◌, ◌*◌, ◌<ℤ◌, ◌+ℤ◌, ◌-ℤ◌, ◌*ℤ◌, ℤ, pos, IsTrue, unsigned_abs, int_le, ◌&&◌, Some};
+ghost use Rattle.std.specs.Prelude.{◌≡◌, ◌≤◌, ◌*◌, ◌<ℤ◌, ◌+ℤ◌, ◌-ℤ◌, ◌*ℤ◌, ℤ, pos, IsTrue, unsigned_abs, int_le, ◌&&◌, Some};
 ghost use Rattle.plane_model.specs.Points.{GridPoint as Point, cross};
 ghost use Rattle.plane_model.specs.Pixel.{crossing_pixel, floor_div, rounded};
 ghost use Rattle.grid_base.specs.Grid.{IsOnGrid, is_grid_number};
-ghost use Rattle.hot_pixels.specs.Crossing.{IsStep, IsCross, HasGridEnds, is_share, pixel_by};
+ghost use Rattle.grid_base.specs.Sizes.{IsStep, IsCross, most_cross, most_step};
+ghost use Rattle.hot_pixels.specs.Crossing.{HasGridEnds, is_share, pixel_by};
 
-use grid_base::{Pt, Seg};
-
-// How far `to` stands to the right of `from`, and above it.
-fn step(from: Pt, to: Pt) -> (i128, i128)
-    ensures across { result.0 ≡ to.x -ℤ from.x }
-    ensures upward { result.1 ≡ to.y -ℤ from.y }
-    ensures across_small { IsStep result.0 }
-    ensures upward_small { IsStep result.1 }
-    ensures from_on_grid { IsOnGrid from }
-    ensures to_on_grid { IsOnGrid to }
-{
-    (
-        to.x() as i128 - from.x() as i128,
-        to.y() as i128 - from.y() as i128,
-    )
-}
-
-// The determinant of two steps, (a, b) and (c, d).
-fn determinant(a: i128, b: i128, c: i128, d: i128) -> i128
-    requires a_small { IsStep a }
-    requires b_small { IsStep b }
-    requires c_small { IsStep c }
-    requires d_small { IsStep d }
-    ensures value { result ≡ a *ℤ d -ℤ b *ℤ c }
-    ensures small { IsCross result }
-{
-    a * d - b * c
-}
+use grid_base::{Pt, Seg, determinant, step};
 
 // The determinant of the directions of two segments: 0 exactly where they are parallel.
 fn cross_of(s: Seg, t: Seg) -> i128
@@ -55,14 +29,14 @@ fn is_share_of(n: i128, w: i128) -> bool
 fn quotient(n: i128, w: i128) -> i128
     requires w_positive { pos 0 <ℤ w }
     requires w_small { IsCross w }
-    requires n_small { unsigned_abs n ≤ 2 ^ 100 }
+    requires n_small { unsigned_abs n ≤ most_step * most_cross }
     ensures { result ≡ floor_div (pos 2 *ℤ n +ℤ pos (unsigned_abs w)) (2 * unsigned_abs w) }
 {
     (2 * n + w).div_euclid(2 * w)
 }
 
 // The grid number next to `from + (step * p) / w`, halves upwards.
-fn part_way(from: i64, step: i128, p: i128, w: i128) -> i64
+fn part_way(from: i64, step: i64, p: i128, w: i128) -> i64
     requires step_small { IsStep step }
     requires w_positive { pos 0 <ℤ w }
     requires w_small { IsCross w }
@@ -71,7 +45,7 @@ fn part_way(from: i64, step: i128, p: i128, w: i128) -> i64
     requires lands { IsTrue (is_grid_number (rounded from step p (unsigned_abs w))) }
     ensures { result ≡ rounded from step p (unsigned_abs w) }
 {
-    (from as i128 + quotient(step * p, w)) as i64
+    (from as i128 + quotient(step as i128 * p, w)) as i64
 }
 
 // The pixel at p / w of the way along s, where p / w and q / w are shares.

@@ -1,8 +1,7 @@
 ghost use Rattle.std.specs.Prelude.{◌≡◌, true, IfOk, IfSome, OnOk};
 ghost use Rattle.hot_pixels.specs.Edges.{IsEdgeOf, HasEdgeAt, IsEdgeAdded, AreEdgesOf};
 
-use crate::keys::key_of;
-use grid_base::Seg;
+use grid_base::{LIMIT, Pt, Seg};
 use std::alloc::{AllocError, Global};
 
 /// Segments without direction, most of them once, and for each segment of a list the number of its edge.
@@ -25,14 +24,16 @@ fn is_along(edge: &Seg, s: &Seg) -> bool
     is_same(edge, s) || is_same(edge, &Seg::new(s.b(), s.a()))
 }
 
-fn scattered(key: u64) -> u64 {
-    let product = key.wrapping_mul(0x9E37_79B9_7F4A_7C15);
+fn scattered(p: Pt) -> u64 {
+    let (x, y) = ((p.x() + LIMIT) as u64, (p.y() + LIMIT) as u64);
+    let row = x.wrapping_mul(0x9E37_79B9_7F4A_7C15).wrapping_add(y);
+    let product = row.wrapping_mul(0x9E37_79B9_7F4A_7C15);
     product ^ product >> 32
 }
 
 // A slot of so many, the same for a segment and the one that runs back along it.
 fn slot_of(s: &Seg, slots: usize) -> usize {
-    let sum = scattered(key_of(s.a())).wrapping_add(scattered(key_of(s.b())));
+    let sum = scattered(s.a()).wrapping_add(scattered(s.b()));
     let high = sum.wrapping_mul(0x9E37_79B9_7F4A_7C15) >> 32;
     (high.wrapping_mul(slots as u64) >> 32) as usize
 }

@@ -1,7 +1,8 @@
 ghost use Rattle.std.specs.Prelude.{◌≡◌, ◌-ℤ◌, ◌+ℤ◌, ◌*ℤ◌, pos, int_lt, ◌&&◌, ◌∷◌, []};
 ghost use Rattle.lists.specs.Lists.{each_two};
 ghost use Rattle.plane_model.specs.Pixel.{agree, goes_over, is_within, low_side, high_side, meets};
-ghost use Rattle.hot_pixels.specs.Sides.{IsNearby, IsGridNumber};
+ghost use Rattle.grid_base.specs.Sizes.{IsGridNumber};
+ghost use Rattle.hot_pixels.specs.Sides.{IsNearby};
 
 use grid_base::{Pt, Seg};
 use std::marker::Model;

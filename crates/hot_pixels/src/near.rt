@@ -8,8 +8,9 @@ ghost use Rattle.hot_pixels.specs.Near.{HoldsRun, HoldsBetween, HoldsMore, Meets
 
 use crate::beside::{is_met, is_outside};
 use crate::pairs::box_of;
-use grid_base::{Pt, Rect, Seg};
+use grid_base::{LIMIT, Pt, Rect, Seg};
 use std::alloc::{AllocError, Global};
+use std::cmp::Ordering;
 
 /// A run of points, from place `start` to below `stop`, and a rectangle that holds each of them.
 ///
@@ -265,20 +266,26 @@ pub fn met_near(alloc: Global, points: &[Pt], runs: &[Run], s: &Seg) -> Result<V
     Ok(met)
 }
 
-// The bits of a number below 2^32, each with a 0 before it.
-fn spread(n: u64) -> u64 {
-    let a = (n | n << 16) & 0x0000_FFFF_0000_FFFF;
-    let b = (a | a << 8) & 0x00FF_00FF_00FF_00FF;
-    let c = (b | b << 4) & 0x0F0F_0F0F_0F0F_0F0F;
-    let d = (c | c << 2) & 0x3333_3333_3333_3333;
-    (d | d << 1) & 0x5555_5555_5555_5555
+// Whether the highest bit of m is below that of n.
+fn is_shorter(m: u64, n: u64) -> bool {
+    m < n && m < m ^ n
 }
 
-// The place of a point on the Z-shaped curve of Morton, on which near points are mostly near each other.
-fn curve_key(p: &Pt) -> u64 {
-    let x = (p.x() + 2_147_483_648) as u64;
-    let y = (p.y() + 2_147_483_648) as u64;
-    spread(x) | spread(y) << 1
+// The numbers of a point, counted from the least of the grid.
+fn raised(p: &Pt) -> (u64, u64) {
+    ((p.x() + LIMIT) as u64, (p.y() + LIMIT) as u64)
+}
+
+// The order on the Z-shaped curve of Morton, on which near points are mostly near each other: by the numbers that
+// differ in the higher bit.
+fn curve_order(p: &Pt, q: &Pt) -> Ordering {
+    let (px, py) = raised(p);
+    let (qx, qy) = raised(q);
+    if is_shorter(py ^ qy, px ^ qx) {
+        px.cmp(&qx)
+    } else {
+        py.cmp(&qy)
+    }
 }
 
 /// The same points, in the order of a curve through the plane.
@@ -287,6 +294,6 @@ pub fn along_curve(alloc: Global, points: &[Pt]) -> Result<Vec<Pt>, AllocError>
 {
     let mut moved = Vec::with_capacity(alloc, points.len())?;
     moved.extend_from_slice(points)?;
-    moved.sort_unstable_by_key(|p| curve_key(p));
+    moved.sort_unstable_by(|p, q| curve_order(p, q));
     Ok(moved)
 }

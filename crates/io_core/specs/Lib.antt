@@ -2,3 +2,4 @@ pub mod Counts
 pub mod Contents
 pub mod Whole
 pub mod Memory
+pub mod Text

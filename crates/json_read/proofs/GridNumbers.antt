@@ -5,6 +5,7 @@ use Rattle.std.proofs.lemmas.Bool.{cases_lt}
 use Rattle.std.proofs.lemmas.Int.{ints}
 use Rattle.std.proofs.lemmas.Nat.{div-mul-add, mod-mul-add, div-add-mod', pow-add}
 use Rattle.std.proofs.Math.Nat.{mul_comm, mod-lt, one-le-pow, mul-le-mul_right, lt_of_mul-lt-mul_right, mul-le-mul, pow-le-pow_right}
+use Rattle.grid_base.specs.Grid.{limit}
 use Rattle.json_read.specs.Numeral.{signed, numeral_of, rounded, floor_div, checked_grid, grid_at, grid_of_text, Numeral, RoundedIsNearest}
 use Rattle.json_read.specs.Decimal.{of_grid, decimal_text, is_negative}
 use Rattle.json_read.specs.Scaling.{IsScaled, goes_up, one_if}
@@ -133,7 +134,7 @@ abbrev exact_units : ℕ → Scaled
 exact_units n = record { units = n; tenths = 0; more = false }
 
 -- m / 10^j is n / 10^k
-scaled_back : (m j k n : ℕ) → j ≤ 18 → k ≤ 18 → n ≤ 2000000000 → m * 10 ^ (18 - j) ≡ n * 10 ^ (18 - k) → IsScaled m ((pos 0 -ℤ pos j) +ℤ pos k) (exact_units n)
+scaled_back : (m j k n : ℕ) → j ≤ 18 → k ≤ 18 → n ≤ limit → m * 10 ^ (18 - j) ≡ n * 10 ^ (18 - k) → IsScaled m ((pos 0 -ℤ pos j) +ℤ pos k) (exact_units n)
 scaled_back m j k n hj hk l e = go (cases_lt k j)
   where
     up : j ≤ k → IsScaled m (pos (k - j)) (exact_units n)
@@ -148,7 +149,7 @@ scaled_back m j k n hj hk l e = go (cases_lt k j)
         let same : m ≡ n * 10 ^ suc (j - k - 1) = same_factor m (n * 10 ^ suc (j - k - 1)) (10 ^ (18 - j)) (one-le-pow (18 - j) 10 (lit< tt)) (e ∙ ap (λ (x : ℕ). n * x) split ∙ sym (mul_assoc n (10 ^ suc (j - k - 1)) (10 ^ (18 - j)))) in
         subst (λ (m : ℕ). IsScaled m (negsuc (j - k - 1)) (exact_units n)) (sym same) (cut n (j - k - 1) l)
       where
-        cut : (n x : ℕ) → n ≤ 2000000000 → IsScaled (n * 10 ^ suc x) (negsuc x) (exact_units n)
+        cut : (n x : ℕ) → n ≤ limit → IsScaled (n * 10 ^ suc x) (negsuc x) (exact_units n)
         cut n x l =
             let p : 0 < 10 ^ suc x = one-le-pow (suc x) 10 (lit< tt) in
             let q : 0 < 10 ^ x = one-le-pow x 10 (lit< tt) in
@@ -199,12 +200,12 @@ grid_read : (places : ℕ) (text : List ℕ) (v : Numeral) → numeral_of text �
 unfolding grid_of_text
 grid_read places text v e = ap (grid_at places) e
 
-pub grid_reads_back : (g : ℤ) (places : ℕ) → places ≤ 18 → unsigned_abs g ≤ 2000000000 → grid_of_text places (decimal_text (of_grid g places)) ≡ Some g
+pub grid_reads_back : (g : ℤ) (places : ℕ) → places ≤ 18 → unsigned_abs g ≤ limit → grid_of_text places (decimal_text (of_grid g places)) ≡ Some g
 grid_reads_back g places h l =
     let some : 0 < 10 ^ (18 - places) = one-le-pow (18 - places) 10 (lit< tt) in
     let size : unsigned_abs (of_grid g places) ≡ unsigned_abs g * 10 ^ (18 - places) = size_kept g (10 ^ (18 - places)) in
     let least : 10 ^ (18 - places) ≤ 10 ^ 18 = pow-le-pow_right (lit< tt) (let s : 18 - places ≤ 18 = omega arith in s) in
-    let bound : unsigned_abs g * 10 ^ (18 - places) ≤ 2000000000 * 10 ^ 18 = mul-le-mul l least in
+    let bound : unsigned_abs g * 10 ^ (18 - places) ≤ limit * 10 ^ 18 = mul-le-mul l least in
     let w : Written (of_grid g places) = written_numeral (of_grid g places) (omega (arith, size, bound)) in
     let scaled : IsScaled w.size ((pos 0 -ℤ pos w.places) +ℤ pos places) (exact_units (unsigned_abs g)) = scaled_back w.size w.places places (unsigned_abs g) w.short h l (w.value ∙ size) in
     grid_read places (decimal_text (of_grid g places)) _ w.is

@@ -6,6 +6,7 @@ use Rattle.std.proofs.lemmas.Bool.Decides.{nat_tests, Decides-eqb}
 use Rattle.std.proofs.lemmas.Int.{ints}
 use Rattle.std.proofs.lemmas.Nat.{div-mul-add, mod-mul-add, div-add-mod'}
 use Rattle.std.proofs.Math.Nat.{mul_comm, mod-lt, one-le-pow, mul-le-mul_right}
+use Rattle.grid_base.specs.Grid.{limit}
 use Rattle.json_read.specs.Numeral.{signed, numeral_of, number_of, rounded, floor_div, checked_grid, grid_at, grid_of_text}
 use Rattle.json_read.specs.Plain.{IsSize}
 use Rattle.json_read.specs.Scaling.{IsScaled, goes_up, one_if, units_cap}
@@ -313,24 +314,24 @@ rounded_by true zero (negsuc k) r h =
     (0 / 10 ^ suc k, h.units, ap (λ (x : ℕ). pos x) (half ∙ quotient) ∙ ap (λ (x : ℕ). signed true (x + one_if false)) (sym quotient) ∙ ap (λ (b : Bool). signed true (0 / 10 ^ suc k + one_if b)) (sym none))
 rounded_by true (suc m) (negsuc k) r h = (suc m / 10 ^ suc k, h.units, minus_rounds m k r.tenths r.more h.tenths h.more)
 
-fits : (x : ℕ) → x ≤ 2000000000 → nat_le x 2000000000 ≡ true
+fits : (x : ℕ) → x ≤ limit → nat_le x limit ≡ true
 fits x l = grind (arith, nat_tests)
 
-too_large : (x : ℕ) → 2000000000 < x → nat_le x 2000000000 ≡ false
+too_large : (x : ℕ) → limit < x → nat_le x limit ≡ false
 too_large x l = grind (arith, nat_tests)
 
-pub grid_some : (minus : Bool) (n : ℕ) (s : ℤ) (r : Scaled) (size : ℕ) → IsScaled n s r → size ≡ r.units + one_if (goes_up minus r) → size ≤ 2000000000 → checked_grid (rounded (signed minus n) s) ≡ Some (signed minus size)
+pub grid_some : (minus : Bool) (n : ℕ) (s : ℤ) (r : Scaled) (size : ℕ) → IsScaled n s r → size ≡ r.units + one_if (goes_up minus r) → size ≤ limit → checked_grid (rounded (signed minus n) s) ≡ Some (signed minus size)
 grid_some minus n s r size h e l =
     let g = rounded_by minus n s r h in
     let same : g.0 + one_if (goes_up minus r) ≡ size = omega (arith, g.1, e, l) in
     let is : rounded (signed minus n) s ≡ signed minus size = g.2 ∙ ap (λ (x : ℕ). signed minus x) same in
-    ap (λ (z : ℤ). checked_grid z) is ∙ ap (λ (b : Bool). cond b (Some (signed minus size)) None) (ap (λ (x : ℕ). nat_le x 2000000000) (signed_size minus size) ∙ fits size l)
+    ap (λ (z : ℤ). checked_grid z) is ∙ ap (λ (b : Bool). cond b (Some (signed minus size)) None) (ap (λ (x : ℕ). nat_le x limit) (signed_size minus size) ∙ fits size l)
 
-pub grid_none : (minus : Bool) (n : ℕ) (s : ℤ) (r : Scaled) (size : ℕ) → IsScaled n s r → size ≡ r.units + one_if (goes_up minus r) → 2000000000 < size → checked_grid (rounded (signed minus n) s) ≡ None
+pub grid_none : (minus : Bool) (n : ℕ) (s : ℤ) (r : Scaled) (size : ℕ) → IsScaled n s r → size ≡ r.units + one_if (goes_up minus r) → limit < size → checked_grid (rounded (signed minus n) s) ≡ None
 grid_none minus n s r size h e l =
     let g = rounded_by minus n s r h in
-    let large : 2000000000 < g.0 + one_if (goes_up minus r) = omega (arith, g.1, e, l) in
-    ap (λ (z : ℤ). checked_grid z) g.2 ∙ ap (λ (b : Bool). cond b (Some (signed minus (g.0 + one_if (goes_up minus r)))) None) (ap (λ (x : ℕ). nat_le x 2000000000) (signed_size minus (g.0 + one_if (goes_up minus r))) ∙ too_large (g.0 + one_if (goes_up minus r)) large)
+    let large : limit < g.0 + one_if (goes_up minus r) = omega (arith, g.1, e, l) in
+    ap (λ (z : ℤ). checked_grid z) g.2 ∙ ap (λ (b : Bool). cond b (Some (signed minus (g.0 + one_if (goes_up minus r)))) None) (ap (λ (x : ℕ). nat_le x limit) (signed_size minus (g.0 + one_if (goes_up minus r))) ∙ too_large (g.0 + one_if (goes_up minus r)) large)
 
 pub size_grid : (places : ℕ) (bytes text : List ℕ) (minus : Bool) (r : Scaled) → bytes ≡ text → (h : IsSize places (numeral_of bytes) minus r) → grid_of_text places text ≡ checked_grid (rounded (signed minus h.number) (h.exponent +ℤ pos places))
 unfolding grid_of_text

@@ -1,7 +1,8 @@
 -- Laws of the grammar and the machine.
 use Rattle.std.specs.Prelude.{ℕ, suc, ◌≡◌, ◌≤◌, List, [], ◌∷◌, ◌⊎◌, ◌<◌, ◌^◌, ℤ, Some, unsigned_abs}
 use Rattle.json_read.specs.Grammar.{JsonText, Number}
-use Rattle.json_read.specs.Numeral.{IsNumeral, grid_limit, grid_of_text}
+use Rattle.grid_base.specs.Grid.{limit}
+use Rattle.json_read.specs.Numeral.{IsNumeral, grid_of_text}
 use Rattle.json_read.specs.Proper.{IsProper, respelled}
 use Rattle.json_read.specs.ProperCells.{IsProperCell}
 use Rattle.json_read.specs.Seen.{json_value}
@@ -42,7 +43,7 @@ DecimalsReadBack = (units : ℤ) → unsigned_abs units < 10 ^ 36 → decimal_of
 
 -- the printed text of a grid number has that grid number
 abbrev pub GridNumbersReadBack : Type 0
-GridNumbersReadBack = (g : ℤ) (places : ℕ) → places ≤ 18 → unsigned_abs g ≤ grid_limit → grid_of_text places (decimal_text (of_grid g places)) ≡ Some g
+GridNumbersReadBack = (g : ℤ) (places : ℕ) → places ≤ 18 → unsigned_abs g ≤ limit → grid_of_text places (decimal_text (of_grid g places)) ≡ Some g
 
 -- the text that is printed of a proper value is in the grammar, and denotes that value, its numbers as they are printed
 abbrev pub PrintedTextsDenote : Type 0

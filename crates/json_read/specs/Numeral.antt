@@ -1,5 +1,6 @@
 -- The number that a numeral denotes (RFC 8259, section 6), and its place on the grid.
 use Rattle.std.specs.Prelude.{◌≡◌, ℕ, suc, ◌+◌, ◌-◌, ◌*◌, ◌/◌, ◌^◌, Bool, true, false, not, ◌&&◌, ◌||◌, ◌==◌, nat_le, ℤ, pos, negsuc, ◌+ℤ◌, ◌-ℤ◌, ◌*ℤ◌, neg_ℤ, ◌≤ℤ◌, ◌<ℤ◌, unsigned_abs, List, [], ◌∷◌, ◌++◌, length, take_while, drop, Option, Some, None, if◌then◌else◌, fold, ◌↔◌, is_some, IsTrue, option_and_then}
+use Rattle.grid_base.specs.Grid.{limit}
 use Rattle.json_read.specs.Bytes.{is_digit, is_exponent_letter}
 
 -- a numeral stands for mantissa * 10 ^ exponent
@@ -94,12 +95,8 @@ rounded m (negsuc e) = floor_div (pos 2 *ℤ m +ℤ pos (10 ^ suc e)) (2 * 10 ^ 
 abbrev pub grid_number : ℕ → Numeral → ℤ
 grid_number places v = rounded v.mantissa (v.exponent +ℤ pos places)
 
--- a grid number is at most this, either way
-abbrev pub grid_limit : ℕ
-grid_limit = 2000000000
-
 abbrev pub fits_grid : ℤ → Bool
-fits_grid g = nat_le (unsigned_abs g) grid_limit
+fits_grid g = nat_le (unsigned_abs g) limit
 
 abbrev pub checked_grid : ℤ → Option ℤ
 checked_grid g = if fits_grid g then Some g else None

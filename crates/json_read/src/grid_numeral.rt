@@ -1,18 +1,20 @@
-ghost use Rattle.std.specs.Prelude.{◌≡◌, ◌≤◌, ◌<◌, ◌^◌, None, MatchOption};
+ghost use Rattle.std.specs.Prelude.{◌≡◌, ◌≤◌, None, MatchOption};
+ghost use Rattle.grid_base.specs.Grid.{limit};
 ghost use Rattle.json_read.specs.Numeral.{grid_of_text, numeral_of, signed};
 ghost use Rattle.json_read.specs.Plain.{IsSize};
 ghost use Rattle.json_read.specs.Scaling.{goes_up, one_if};
 
 use crate::numerals::{Numeral, Scaled};
 use crate::plain_numeral::Plain;
+use grid_base::LIMIT;
 
 /// Grid numbers go this far, either way.
-const GRID_LIMIT: u128 = 2_000_000_000;
+const GRID_LIMIT: u128 = LIMIT as u128;
 
 /// The grid number of a decimal numeral.
 ///
 /// Shape and units: `places` decimal places, so that 1 in the result is 10^-`places`.
-/// Errors: `None` where the grid number passes 2,000,000,000 either way, and for a text that is no numeral.
+/// Errors: `None` where the grid number passes [`LIMIT`] either way, and for a text that is no numeral.
 /// Cost: one pass over the digits; takes no memory.
 /// Source: RFC 8259, section 6, for the numeral; the rounding `floor(v * 10^places + 1/2)` is ours.
 pub fn numeral_to_grid(text: &str, places: u8) -> Option<i64>
@@ -55,7 +57,7 @@ fn rounding(scaled: &Scaled, minus: bool) -> u128
 }
 
 fn with_sign(minus: bool, size: u128) -> i64
-    requires { size < 2 ^ 32 }
+    requires { size ≤ limit }
     ensures { result ≡ signed minus size }
 {
     let size = size as i64;

@@ -85,7 +85,7 @@ turned_box : reads (codes "in.json" ∷ codes "-clip" ∷ codes "bbox=2,0,1,4" �
 unfolding numeral_of grid_of_text decimal_of_text places_of area_of
 turned_box = refl
 
-far_box : reads (codes "in.json" ∷ codes "precision=1" ∷ codes "-clip" ∷ codes "bbox=0,0,2000000001,4" ∷ []) ≡ Err (4, why.BoxRange)
+far_box : reads (codes "in.json" ∷ codes "precision=1" ∷ codes "-clip" ∷ codes "bbox=0,0,200000000001,4" ∷ []) ≡ Err (4, why.BoxRange)
 unfolding numeral_of grid_of_text decimal_of_text places_of area_of
 far_box = refl
 

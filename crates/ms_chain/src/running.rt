@@ -1,4 +1,7 @@
-ghost use Rattle.std.specs.Prelude.{◌≡◌, ◌≤◌, ◌+◌, ◌^◌, ◌<◌, length, map};
+ghost use Rattle.std.specs.Prelude.{◌≡◌, ◌≤◌, ◌+◌, ◌^◌, ◌<◌, IfOk, length, map};
+ghost use Rattle.grid_base.specs.Grid.{most_places};
+ghost use Rattle.run_plane.specs.OnPlane.{AreLayersOn};
+ghost use Rattle.run_state.specs.OnPlane.{AreHeldOn};
 ghost use Rattle.run_state.specs.Origins.{base_of};
 ghost use Rattle.ms_chain.specs.Running.{StepMeans, CommandsRun, BegunRuns, ChainRuns, SynthRuns, WordsRun};
 ghost use Rattle.run_outcome.specs.Telling.{TellsOutcome};
@@ -81,7 +84,7 @@ fn run_chain<F: Files, I: Source, K: Sink>(
     input: &mut I,
     output: &mut K,
 ) -> Outcome
-    requires { chain.now.places ≤ 7 }
+    requires { chain.now.places ≤ most_places }
     ensures runs { ChainRuns chain.now
         (record { files = F.held files.old; file_faults = F.read_faults files.old; file_bytes = F.bytes_read files.old; input = I.left input.old; input_faults = I.faults input.old; input_bytes = I.bytes_read input.old })
         (record { files = F.held files.new; file_faults = F.read_faults files.new; file_bytes = F.bytes_read files.new; input = I.left input.new; input_faults = I.faults input.new; input_bytes = I.bytes_read input.new })
@@ -106,7 +109,8 @@ fn run_begun<F: Files, K: Sink>(
     files: &mut F,
     output: &mut K,
 ) -> Outcome
-    requires { chain.now.places ≤ 7 }
+    requires places { chain.now.places ≤ most_places }
+    requires on { AreLayersOn begun.plane begun.layers.items }
     ensures ran { BegunRuns (record { places = chain.now.places; plane = begun.plane; sources = map (λ own. own.items) begun.sources.items }) begun.layers.items chain.now.commands
         (record { files = F.held files.old; file_faults = F.write_faults files.old; stream = K.held output.old; stream_faults = K.faults output.old })
         (record { files = F.held files.new; file_faults = F.write_faults files.new; stream = K.held output.new; stream_faults = K.faults output.new }) result }
@@ -145,8 +149,9 @@ fn run_commands<F: Files, K: Sink>(
     files: &mut F,
     output: &mut K,
 ) -> Outcome
-    requires places { ground.now.places ≤ 7 }
+    requires places { ground.now.places ≤ most_places }
     requires few { done + length commands.now < 2 ^ 32 }
+    requires on { AreHeldOn ground.now.plane.now state.layers.items }
     ensures ran { CommandsRun (base_of ground.now) done state.layers.items commands.now
         (record { files = F.held files.old; file_faults = F.write_faults files.old; stream = K.held output.old; stream_faults = K.faults output.old })
         (record { files = F.held files.new; file_faults = F.write_faults files.new; stream = K.held output.new; stream_faults = K.faults output.new }) result }
@@ -170,10 +175,12 @@ fn step<F: Files, K: Sink>(
     files: &mut F,
     output: &mut K,
 ) -> Result<State, Outcome>
-    requires { ground.now.places ≤ 7 }
+    requires places { ground.now.places ≤ most_places }
+    requires on { AreHeldOn ground.now.plane.now state.layers.items }
     ensures means { StepMeans (base_of ground.now) number command.now state.layers.items
         (record { files = F.held files.old; file_faults = F.write_faults files.old; stream = K.held output.old; stream_faults = K.faults output.old })
         (record { files = F.held files.new; file_faults = F.write_faults files.new; stream = K.held output.new; stream_faults = K.faults output.new }) result }
+    ensures on { IfOk result (λ state. AreHeldOn ground.now.plane.now state.layers.items) }
 {
     match &command.action {
         Action::Write { to, standard, form } => {

@@ -68,7 +68,7 @@ fn names_each_refusal_and_writes_nothing(rt: HostRuntime) -> Result<(), Fail> {
         feature: 0,
     };
     let line = r#"{"type":"LineString","coordinates":[[0,0],[1,1]]}"#;
-    let far = r#"{"type":"Point","coordinates":[2000.0000005,0]}"#;
+    let far = r#"{"type":"Point","coordinates":[200000.0000005,0]}"#;
     let out_of_range = InputWhy::Shape {
         why: ShapeWhy::Range,
         feature: 0,

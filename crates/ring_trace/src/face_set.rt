@@ -3,7 +3,7 @@ ghost use Rattle.std.specs.List.Sorted.{IsStrictlyIncreasing};
 ghost use Rattle.lists.specs.Lists.{has, put_in_order, ascending};
 ghost use Rattle.ring_trace.specs.Sets.{IsSetOf, area_of};
 
-use face_walk::Faces;
+use face_walk::{Faces, added};
 use grid_base::FaceId;
 use std::alloc::{AllocError, Global};
 use std::marker::Model;
@@ -133,12 +133,6 @@ fn sum_of_areas(f: &Faces, faces: &[FaceId]) -> Result<i128, AllocError>
         sum = added(sum, f.twice_area(*face))?;
     }
     Ok(sum)
-}
-
-fn added(sum: i128, area: i128) -> Result<i128, AllocError>
-    ensures exact { IfOk result (λ more. more ≡ sum +ℤ area) }
-{
-    sum.checked_add(area).ok_or(AllocError)
 }
 
 fn is_listed(faces: &[FaceId], f: FaceId) -> bool

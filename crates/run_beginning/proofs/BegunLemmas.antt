@@ -8,11 +8,10 @@ use Rattle.std.proofs.lemmas.List.FromFn.{length-map-range_with_len, map-range_w
 use Rattle.lists.specs.Lists.{first_or}
 use Rattle.plane_model.specs.Points.{Path}
 use Rattle.plane_model.specs.Arcs.{SignedArc}
-use Rattle.arc_table.specs.PathArcs.{AreArcsAlong}
 use Rattle.face_walk.specs.Holders.{list_at}
 use Rattle.geojson_io.specs.LayerContent.{LayerContent}
 use Rattle.cmd_words.specs.declared.job.Owner.{Owner}
-use Rattle.run_beginning.specs.BegunLayers.{AreBegun, AreBegunOfEach, AreLineArcs, AreSourcesBegun, GoesAlong, IsBegunLayer, IsLineOf, IsLineShape, Left, behind, behind_all, face_shape, has_links, imported, of_command, of_import, owned}
+use Rattle.run_beginning.specs.BegunLayers.{AreArcsOfPath, AreBegun, AreBegunOfEach, AreLineArcs, AreSourcesBegun, GoesAlong, IsBegunLayer, IsLineOf, IsLineShape, Left, behind, behind_all, face_shape, has_links, imported, of_command, of_import, owned}
 use Rattle.run_plane.specs.declared.layer.Layer.{Layer}
 use Rattle.run_plane.specs.declared.layer.Shape.{Shape}
 use Rattle.run_plane.specs.declared.layer.Shape.TheVariants as shape
@@ -59,15 +58,15 @@ line_shapes_more arcs lines first n there paths begun h e along =
 pub paths_more : (arcs lines : List Path) (i : ℕ) (path : Path) (old new : List (List SignedArc)) → i < length lines → path ≡ get_or lines i path →
     AreLineArcs arcs (take i lines) old → GoesAlong arcs path old new → AreLineArcs arcs (take (i + 1) lines) new
 paths_more arcs lines i path old new l e h goes =
-    subst (λ (ps : List Path). AllZip (AreArcsAlong arcs) ps new) (sym next) (go (has_links path) goes)
+    subst (λ (ps : List Path). AllZip (AreArcsOfPath arcs) ps new) (sym next) (go (has_links path) goes)
   where
     next : filter has_links (take (i + 1) lines) ≡ filter has_links (take i lines) ++ cond (has_links path) (path ∷ []) []
     next = filter_more has_links lines i path l ∙ ap (λ (p : Path). filter has_links (take i lines) ++ cond (has_links p) (p ∷ []) []) (sym e)
 
-    go : (b : Bool) → MatchBool b ((along : List SignedArc) × AreArcsAlong arcs path along × (new ≡ old ++ along ∷ [])) (new ≡ old) →
-        AllZip (AreArcsAlong arcs) (filter has_links (take i lines) ++ cond b (path ∷ []) []) new
-    go true g = subst (λ (ps : List (List SignedArc)). AllZip (AreArcsAlong arcs) (filter has_links (take i lines) ++ path ∷ []) ps) (sym g.2) (zipped_on (AreArcsAlong arcs) (filter has_links (take i lines)) old path g.0 h g.1)
-    go false g = subst (λ (ps : List Path). AllZip (AreArcsAlong arcs) ps new) (sym (append-nil (filter has_links (take i lines)))) (subst (λ (ps : List (List SignedArc)). AllZip (AreArcsAlong arcs) (filter has_links (take i lines)) ps) (sym g) h)
+    go : (b : Bool) → MatchBool b ((along : List SignedArc) × AreArcsOfPath arcs path along × (new ≡ old ++ along ∷ [])) (new ≡ old) →
+        AllZip (AreArcsOfPath arcs) (filter has_links (take i lines) ++ cond b (path ∷ []) []) new
+    go true g = subst (λ (ps : List (List SignedArc)). AllZip (AreArcsOfPath arcs) (filter has_links (take i lines) ++ path ∷ []) ps) (sym g.2) (zipped_on (AreArcsOfPath arcs) (filter has_links (take i lines)) old path g.0 h g.1)
+    go false g = subst (λ (ps : List Path). AllZip (AreArcsOfPath arcs) ps new) (sym (append-nil (filter has_links (take i lines)))) (subst (λ (ps : List (List SignedArc)). AllZip (AreArcsOfPath arcs) (filter has_links (take i lines)) ps) (sym g) h)
 
 pub sets_counted : (faces : List (List ℕ)) (n : ℕ) → length (map (face_shape faces) (range_with_len 0 n)) ≡ n
 sets_counted faces n = length-map-range_with_len (face_shape faces) 0 n

@@ -1,3 +1,4 @@
 pub mod BegunLemmas
+pub mod BegunOnPlane
 pub mod DrawingLemmas
 pub mod Unbegun

@@ -1,5 +1,5 @@
 -- The layers that the commands of a run begin with: those of its sources, over the plane of their drawing.
-use Rattle.std.specs.Prelude.{◌≡◌, ◌++◌, ℕ, Bool, nat_lt, ⊤, List, [], ◌∷◌, drop, filter, length, map, slice_index_or, MatchBool}
+use Rattle.std.specs.Prelude.{◌≡◌, ◌<◌, ◌++◌, ℕ, Bool, nat_lt, ⊤, All, List, [], ◌∷◌, drop, filter, length, map, slice_index_or, MatchBool}
 use Rattle.std.specs.List.{AllZip, range_with_len}
 use Rattle.plane_model.specs.Points.{Path}
 use Rattle.plane_model.specs.Arcs.{SignedArc}
@@ -50,13 +50,18 @@ behind layer left = record {
 abbrev pub has_links : Path → Bool
 has_links path = nat_lt 1 (length path)
 
+-- arcs of the plane that go along a path
+pub record AreArcsOfPath (arcs : List Path) (path : Path) (named : List SignedArc) : Type 0 where
+  pub along : AreArcsAlong arcs path named
+  pub there : All (λ (a : SignedArc). a.arc < length arcs) named
+
 -- the paths with links, each as arcs
 abbrev pub AreLineArcs : List Path → List Path → List (List SignedArc) → Type 0
-AreLineArcs arcs lines paths = AllZip (AreArcsAlong arcs) (filter has_links lines) paths
+AreLineArcs arcs lines paths = AllZip (AreArcsOfPath arcs) (filter has_links lines) paths
 
 -- the next path, where it has links, goes behind the others
 abbrev pub GoesAlong : List Path → Path → List (List SignedArc) → List (List SignedArc) → Type 0
-GoesAlong arcs path old new = MatchBool (has_links path) ((along : List SignedArc) × AreArcsAlong arcs path along × (new ≡ old ++ along ∷ [])) (new ≡ old)
+GoesAlong arcs path old new = MatchBool (has_links path) ((along : List SignedArc) × AreArcsOfPath arcs path along × (new ≡ old ++ along ∷ [])) (new ≡ old)
 
 abbrev pub IsLineShape : List Path → List Path → Shape → Type 0
 IsLineShape arcs lines (shape.Paths paths) = AreLineArcs arcs lines paths

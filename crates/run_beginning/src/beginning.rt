@@ -7,6 +7,7 @@ ghost use Rattle.geojson_io.specs.Sound.{LayerIsSound};
 ghost use Rattle.snap_round.specs.Snapping.{FaultMeans};
 ghost use Rattle.run_plane.specs.Begun.{IsFew};
 ghost use Rattle.run_plane.specs.LaidOut.{IsLaidOut};
+ghost use Rattle.run_plane.specs.OnPlane.{AreLayersOn, AreAllOn};
 ghost use Rattle.run_beginning.specs.BegunLayers.{AreBegun, AreLineArcs, AreShapes, BeginsOver, GoesAlong, IsBegunLayer, IsLineOf, behind, behind_all, face_shape, line_count, of_command, of_import, point_shape, polygon_count, row_shape};
 ghost use Rattle.run_beginning.specs.Drawing.{drawing_of, points_of};
 
@@ -39,6 +40,8 @@ pub fn begin(alloc: Global, sources: Vec<ReadSource>, boxes: &BoxList) -> Result
     requires sound { All (λ read. All LayerIsSound read.layers) sources.items }
     ensures few { IfOk result (λ begun. IsFew (drawing_of (joined_up (map (λ read. read.layers) sources.items)) boxes.now)) }
     ensures over { IfOk result (λ begun. BeginsOver (snapped (drawing_of (joined_up (map (λ read. read.layers) sources.items)) boxes.now)) (map (λ read. read.owner) sources.items) (map (λ read. read.layers) sources.items) begun.plane.arcs begun.plane.faces begun.plane.boxes.items begun.layers.items (map (λ own. own.items) begun.sources.items)) }
+    ensures on { IfOk result (λ begun. AreLayersOn begun.plane begun.layers.items) }
+    ensures sources_on { IfOk result (λ begun. AreAllOn begun.plane (map (λ own. own.items) begun.sources.items)) }
     ensures fault { IfErr result (FaultMeans (drawing_of (joined_up (map (λ read. read.layers) sources.items)) boxes.now)) }
 {
     let drawing = drawing_of(alloc, &sources, boxes)?;

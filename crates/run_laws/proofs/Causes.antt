@@ -1,11 +1,8 @@
 -- Each fault has a cause.
-use Rattle.std.proofs.Common.{◌≡◌, ◌⊎◌, inl, inr, ℕ, zero, suc, ◌+◌, Bool, true, false, List, [], ◌∷◌, slice_get, take, Option, Some, None, Result, Ok, Err, MatchBool, MatchOption, refl, ap, sym, ◌∙◌, subst, arith}
-use Rattle.std.proofs.Math.Path.{fun_ext}
+use Rattle.std.proofs.Common.{◌≡◌, ◌⊎◌, inl, inr, ℕ, zero, suc, ◌+◌, Bool, true, false, List, [], ◌∷◌, slice_get, take, Some, Result, Ok, Err, MatchBool, refl, ap, sym, ◌∙◌, subst, arith}
 use Rattle.std.specs.Io.KnownBytes.{Appends}
 use Rattle.io_core.specs.Contents.{Content}
 use Rattle.io_core.specs.Counts.{Rose}
-use Rattle.expr_lang.specs.Grammar.{Cond, Assigns}
-use Rattle.cmd_words.specs.declared.fault.ExprWhy.{ExprWhy}
 use Rattle.cmd_words.specs.declared.fault.WordFault.{WordFault}
 use Rattle.cmd_words.specs.declared.action_words.ActionWords.{ActionWords}
 use Rattle.cmd_words.specs.declared.action_words.ActionWords.TheVariants as asked
@@ -19,12 +16,9 @@ use Rattle.cmd_words.specs.declared.job.Job.TheVariants as job
 use Rattle.cmd_words.specs.declared.job.OutForm.{OutForm}
 use Rattle.cmd_words.specs.declared.job.SourceWord.{SourceWord}
 use Rattle.cmd_words.specs.ActionWords.{FitsAction, whole, join, spatial_join, filter, each, sort, uniq, FitsCommand, FitEach}
-use Rattle.cmd_words.specs.Expressions.{Refusals, AreRefusals, TextKind, HasFault, expression, assignments, fault_at}
 use Rattle.cmd_words.specs.Tells.{Tells, FitsJob, FitsChain}
-use Rattle.cmd_words.specs.Words.{Reading, ChainWords, JobWords, synth, chain, read_words}
-use Rattle.cmd_words.proofs.ExpressionFaults.{refused_for}
+use Rattle.cmd_words.specs.Words.{Reading, ChainWords, JobWords, synth, chain}
 use Rattle.word_model.specs.Words.{words_say}
-use Rattle.word_laws.proofs.Laws.{table_says}
 use Rattle.run_sources.specs.Sources.{SourcesSeen, Grew, StopsAtSource, SourceStops, ReadsMore}
 use Rattle.run_sources.specs.Budget.{whole_budget}
 use Rattle.run_sources.specs.declared.fault.SourceFault.{SourceFault}
@@ -36,34 +30,14 @@ use Rattle.run_outcome.specs.declared.outcome.Outcome.{Outcome}
 use Rattle.run_outcome.specs.declared.outcome.Outcome.TheVariants as end
 use Rattle.ms_chain.specs.Effects.{OutsideSeen, CountsGrew}
 use Rattle.ms_chain.specs.Running.{JobRuns, ChainRuns, SynthRuns, EndsBefore, EndsAtSource, EndsUnbegun, BegunRuns, RunsCommands, stream_of}
-use Rattle.chain_model.specs.Headline.{HasCause, sources_of}
+use Rattle.chain_model.specs.Headline.{HasCause}
 use Rattle.chain_model.specs.Headline as model
 use Rattle.run_laws.specs.Outcomes.{outcome_as}
 use Rattle.run_laws.specs.Causes.{counts_of, FaultsHaveCauses}
+use Rattle.run_laws.proofs.Said.{said_by}
 use Rattle.run_laws.proofs.Counts.{Budget, given_grew, source_rose, source_missing, ActionRose, action_rose}
 use Rattle.run_laws.proofs.Lengths.{too_much}
 use Rattle.run_laws.proofs.Commands.{Quiet, words_are_quiet, drawing_is_quiet, quiet_by, FailedWrite, commands_end}
-
--- ## Texts are refused in one way
-
-module _ (a b : Refusals) (ra : AreRefusals a) (rb : AreRefusals b) where
-  refused_same : (kind : TextKind) (text : Content) → a kind text ≡ b kind text
-  refused_same kind text = go (b kind text) refl (rb kind text)
-    where
-      told : (k : TextKind) (f : ℕ × ExprWhy) → HasFault k text (fault_at f) → a k text ≡ Some f
-      told expression f h = refused_for Cond text (a expression text) (ra expression text) f h
-      told assignments f h = refused_for Assigns text (a assignments text) (ra assignments text) f h
-
-      none : (o : Option (ℕ × ExprWhy)) → a kind text ≡ o → MatchOption o ((f : ℕ × ExprWhy) → HasFault kind text (fault_at f) → ⊥) (λ f. HasFault kind text (fault_at f)) → ((f : ℕ × ExprWhy) → HasFault kind text (fault_at f) → ⊥) → a kind text ≡ None
-      none None e h never = e
-      none (Some f) e h never = absurd (never f h)
-
-      go : (o : Option (ℕ × ExprWhy)) → b kind text ≡ o → MatchOption o ((f : ℕ × ExprWhy) → HasFault kind text (fault_at f) → ⊥) (λ f. HasFault kind text (fault_at f)) → a kind text ≡ b kind text
-      go (Some f) e h = told kind f h ∙ sym e
-      go None e h = none (a kind text) refl (ra kind text) h ∙ sym e
-
-  refusals_same : a ≡ b
-  refusals_same = fun_ext (λ kind. fun_ext (refused_same kind))
 
 -- ## Commands by their words
 
@@ -190,7 +164,4 @@ module _ (seen seen' : SourcesSeen) (before after : OutsideSeen) where
   job_told said (Ok j) o t r = subst (λ (x : Reading JobWords). Told x o) (sym t.1) (fitting_told t.0 j o t.2 r)
 
 pub causes : FaultsHaveCauses
-causes refuses right words seen seen' before after o run =
-    let here : Refusals = run.reads.0 in
-    let same : read_words here words ≡ words_say refuses words = ap (λ (r : Refusals). read_words r words) (refusals_same here refuses run.reads.1 right) ∙ sym (table_says refuses words) in
-    job_told seen seen' before after (words_say refuses words) run.answer o (subst (λ (x : Reading JobWords). Tells FitsJob x run.answer) same run.reads.2) run.runs
+causes refuses right words seen seen' before after o run = job_told seen seen' before after (words_say refuses words) run.answer o (said_by refuses right words run.answer run.reads) run.runs

@@ -1,4 +1,7 @@
 pub mod Counts
 pub mod Lengths
 pub mod Commands
+pub mod Said
 pub mod Causes
+pub mod Unchanged
+pub mod Refused

@@ -1,22 +1,10 @@
 -- How a run ended, as the model of a run names it.
-use Rattle.run_sources.specs.declared.fault.InputWhy.{InputWhy}
-use Rattle.run_sources.specs.declared.fault.InputWhy.TheVariants as input
 use Rattle.run_state.specs.declared.refusal.RefuseWhy.{RefuseWhy}
 use Rattle.run_state.specs.declared.refusal.RefuseWhy.TheVariants as refuse
 use Rattle.run_outcome.specs.declared.outcome.Outcome.{Outcome}
 use Rattle.run_outcome.specs.declared.outcome.Outcome.TheVariants as end
 use Rattle.chain_model.specs.Outcome as model
-
-abbrev pub input_as : InputWhy → model.InputWhy
-input_as (input.Syntax at) = model.syntax at
-input_as (input.Depth at) = model.depth at
-input_as (input.Utf8 at) = model.utf8 at
-input_as (input.Shape why feature) = model.shape why feature
-input_as (input.Topo why place) = model.topo why place
-input_as input.NoHeader = model.no_header
-input_as (input.RepeatedName column) = model.repeated_name column
-input_as (input.TooManyRows row) = model.too_many_rows row
-input_as (input.UnequalRow row) = model.unequal_row row
+use Rattle.source_laws.specs.Told.{input_as}
 
 abbrev pub refusal_as : RefuseWhy → model.RefuseWhy
 refusal_as refuse.NoLayer = model.no_layer

@@ -1,12 +1,25 @@
-//! What a run's contract says of its faults is what the model of a run asks: each fault has a cause.
+//! What a run's contract says of its ends is what the model of a run asks: faults have the same names, each has a cause,
+//! and refused words end a run.
 //!
 //! Each function carries one law in its contract, and does nothing.
 #![tactic(auto)]
 
 ghost use Rattle.run_laws.specs.Causes.{FaultsHaveCauses};
+ghost use Rattle.run_laws.specs.Refused.{FaultsAreNamed, RefusedWordsEndTheRun};
+
+/// The end that a fault of words, of a source or of the drawing brings has the name that the model of a run gives it.
+pub fn faults_are_named()
+    ensures { FaultsAreNamed }
+{}
 
 /// Whenever a run answers a failed read, a missing file, sources that are too long or a failed write, a count of the
 /// outside rose, or told files lack the name.
 pub fn faults_have_causes()
     ensures { FaultsHaveCauses }
+{}
+
+/// Words that the table of commands refuses end a run: just that is answered, or want of memory, and nothing changes, as
+/// the model of a run binds it.
+pub fn refused_words_end_the_run()
+    ensures { RefusedWordsEndTheRun }
 {}

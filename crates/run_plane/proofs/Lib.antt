@@ -1,3 +1,4 @@
 pub mod FacesHeld
 pub mod Growth
-pub mod Looks
+pub mod OnPlane
+pub mod Paths

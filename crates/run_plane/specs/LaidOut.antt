@@ -4,6 +4,7 @@ use Rattle.std.specs.List.{range_with_len}
 use Rattle.lists.specs.Lists.{has, put_in_order}
 use Rattle.plane_model.specs.Points.{Path}
 use Rattle.plane_model.specs.Drawing.{Drawing}
+use Rattle.grid_base.specs.Drawn.{HasPaths}
 use Rattle.arc_table.specs.Direction.{IsForward}
 use Rattle.arc_table.specs.Order.{AreNumbered}
 use Rattle.arc_table.specs.PathArcs.{AreArcsOf}
@@ -29,6 +30,7 @@ pub record AreHeld (s : Drawing) (arcs : List Path) (faces : FaceTable) (boxes f
 
 -- the arcs and the faces of a snapped drawing, and what they hold
 pub record IsLaidOut (s : Drawing) (arcs : List Path) (faces : FaceTable) (boxes features : List (List ℕ)) : Type 0 where
+  pub paths : HasPaths s
   pub are_arcs : AreArcsOf s arcs
   -- an arc runs from its lesser end, or, where its ends are one, towards the lesser neighbour
   pub forward : All IsForward arcs

@@ -1,10 +1,8 @@
-ghost use Rattle.std.specs.Prelude.{◌≡◌, ◌<◌, ◌≤◌, [], All, length, nat_lt, replicate, slice_set, IfErr, IfOk, IsTrue, OnOk};
-ghost use Rattle.face_walk.specs.Places.{HasArc, IsBuiltOf};
-ghost use Rattle.std.specs.List.{list_all};
-ghost use Rattle.ring_trace.specs.Sets.{IsSetOf};
-ghost use Rattle.run_plane.specs.Looks.{is_inner, is_below};
+ghost use Rattle.std.specs.Prelude.{◌≡◌, [], All, length, nat_lt, replicate, slice_set, IfErr, IfOk, OnOk};
+ghost use Rattle.face_walk.specs.Places.{IsBuiltOf};
 ghost use Rattle.lists.specs.Lists.{put_in_order};
 ghost use Rattle.plane_model.specs.Snapped.{snapped};
+ghost use Rattle.grid_base.specs.Drawn.{HasPaths};
 ghost use Rattle.arc_table.specs.Direction.{IsForward};
 ghost use Rattle.arc_table.specs.Order.{AreNumbered};
 ghost use Rattle.arc_table.specs.PathArcs.{AreArcsOf};
@@ -14,9 +12,9 @@ ghost use Rattle.snap_round.specs.Snapping.{FaultMeans};
 ghost use Rattle.run_plane.specs.Begun.{IsFew};
 ghost use Rattle.run_plane.specs.LaidOut.{AreHeld, AreHeldFaces, IsLaidOut, PutsInto};
 
-use arc_table::{ArcTable, SignedPath, SignedPaths};
+use arc_table::ArcTable;
 use face_walk::{Faces, Labels};
-use grid_base::{Drawing, FaceId, FeatId, SignedArc, Snapped};
+use grid_base::{Drawing, FaceId, FeatId, Snapped};
 use ring_trace::FaceSet;
 use snap_round::{SnapFault, snap};
 use std::alloc::{AllocError, Global};
@@ -29,71 +27,6 @@ pub struct Plane {
     /// The faces that each box holds, by its number.
     pub boxes: Vec<FaceSet>,
     ghost built: { IsBuiltOf arcs faces },
-}
-
-impl Plane {
-    ghost use Rattle.std.specs.Prelude.{◌≡◌, ◌<◌, All, IsTrue, length};
-    ghost use Rattle.face_walk.specs.Places.{HasArc};
-    ghost use Rattle.ring_trace.specs.Sets.{IsSetOf};
-    ghost use Rattle.run_plane.specs.OnPlane.{has_arcs, has_faces};
-
-    /// Whether all faces of a set are faces of the plane, other than the outer one.
-    #[tactic(auto, using(crate::proofs::Looks::set_of_faces))]
-    pub fn has_all(&self, set: &FaceSet) -> bool
-        ensures exact { result ≡ has_faces self.now set.now }
-        ensures inner { IsTrue result → IsSetOf self.now.faces set.now }
-    {
-        are_inner(&self.faces, set.faces())
-    }
-
-    /// Whether all arcs of the paths are arcs of the plane.
-    #[tactic(auto, using(crate::proofs::Looks::paths_of_faces, crate::proofs::Looks::paths_below))]
-    pub fn has_arcs(&self, paths: &SignedPaths) -> bool
-        ensures exact { result ≡ has_arcs self.now paths.now }
-        ensures there { IsTrue result → All (All (HasArc self.now.faces)) paths.now }
-        ensures below { IsTrue result → All (All (λ a. a.arc < length self.now.arcs)) paths.now }
-    {
-        are_below(self.arcs.count(), paths.as_slice())
-    }
-}
-
-fn are_inner(faces: &Faces, set: &[FaceId]) -> bool
-    ensures exact { result ≡ list_all (is_inner faces.now) set.now }
-{
-    for face in set {
-        if !is_inner(faces, *face) {
-            return false;
-        }
-    }
-    true
-}
-
-fn is_inner(faces: &Faces, face: FaceId) -> bool
-    ensures exact { result ≡ is_inner faces.now face }
-{
-    face.num() < faces.count() && face != faces.outer()
-}
-
-fn are_below(count: u32, paths: &[SignedPath]) -> bool
-    ensures exact { result ≡ list_all (list_all (is_below count)) paths.now }
-{
-    for path in paths {
-        if !is_path_below(count, path.as_slice()) {
-            return false;
-        }
-    }
-    true
-}
-
-fn is_path_below(count: u32, path: &[SignedArc]) -> bool
-    ensures exact { result ≡ list_all (is_below count) path.now }
-{
-    for arc in path {
-        if arc.id().num() >= count {
-            return false;
-        }
-    }
-    true
 }
 
 /// A drawing laid out: its plane, its snapped paths, and the faces that each polygon feature holds, by its number.
@@ -124,6 +57,7 @@ fn built(alloc: Global, snapped: Snapped) -> Result<Laid, AllocError>
     ensures snapped { IfOk result (λ laid. laid.snapped ≡ snapped) }
     ensures laid { IfOk result (λ laid. IsLaidOut snapped laid.plane.arcs laid.plane.faces laid.plane.boxes.items laid.features.items) }
 {
+    keeps_paths(&snapped);
     let arcs = arcs_of(alloc, &snapped)?;
     let faces = Faces::build(alloc, &arcs)?;
     let held = HeldFaces::of(alloc, &arcs, &faces, &snapped)?;
@@ -136,6 +70,20 @@ fn built(alloc: Global, snapped: Snapped) -> Result<Laid, AllocError>
         snapped,
         features: held.features,
     })
+}
+
+// What every snapped drawing keeps, for proofs: each call for one of its paths says it.
+#[tactic(auto, using(crate::proofs::Paths::no_paths))]
+fn keeps_paths(snapped: &Snapped)
+    ensures paths { HasPaths snapped.now }
+{
+    if snapped.polygon_count() > 0 {
+        let _ = snapped.rings_of(FeatId::new(0));
+    } else if snapped.line_count() > 0 {
+        let _ = snapped.lines_of(FeatId::new(0));
+    } else if snapped.box_count() > 0 {
+        let _ = snapped.box_of(0);
+    }
 }
 
 // The faces that each polygon feature holds, and each box, by their numbers.

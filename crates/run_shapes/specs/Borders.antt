@@ -11,7 +11,7 @@ use Rattle.line_ops.specs.declared.sides.SidedArc.{SidedArc}
 use Rattle.table_ops.specs.Columns.{keep_fields}
 use Rattle.table_ops.specs.Rows.{row_at}
 use Rattle.run_shapes.specs.Dissolving.{path_along}
-use Rattle.run_shapes.specs.FaceSets.{sets_on}
+use Rattle.run_shapes.specs.FaceSets.{sets_in}
 use Rattle.run_plane.specs.declared.layer.Layer.{Layer}
 use Rattle.run_plane.specs.declared.layer.Shape.{Shape}
 use Rattle.run_plane.specs.declared.layer.Shape.TheVariants as shape
@@ -23,7 +23,7 @@ line_along n = shape.Paths (path_along n ∷ [])
 
 -- the arcs of the plane whose two sides have different features, ascending, with the lowest feature at each side
 abbrev pub borders_of : Plane → Layer → List SidedArc
-borders_of plane layer = sided_among plane.faces (sets_on plane layer.shapes.items) (length plane.arcs)
+borders_of plane layer = sided_among plane.faces (sets_in layer.shapes.items) (length plane.arcs)
 
 -- the numbers of those that have features at both sides
 abbrev pub inner_arcs_of : Plane → Layer → List ℕ

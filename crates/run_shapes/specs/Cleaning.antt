@@ -9,7 +9,7 @@ use Rattle.grid_base.specs.declared.kinds.OverlapRule.{OverlapRule}
 use Rattle.region_ops.specs.Filled.{IsCleanedAndFilled}
 use Rattle.region_ops.specs.Mosaic.{IsMosaic}
 use Rattle.region_ops.specs.declared.item_lists.MosaicItem.{MosaicItem}
-use Rattle.run_shapes.specs.FaceSets.{HasSets, sets_on}
+use Rattle.run_shapes.specs.FaceSets.{HasSets, sets_in}
 use Rattle.run_plane.specs.declared.layer.Layer.{Layer}
 use Rattle.run_plane.specs.declared.layer.Shape.{Shape}
 use Rattle.run_plane.specs.declared.layer.Shape.TheVariants as shape
@@ -19,7 +19,7 @@ use Rattle.run_plane.specs.declared.plane.Plane.{Plane}
 -- enough goes to one of its neighbours; features without faces go then, or stay where they may
 pub record IsCleaned (rule : OverlapRule) (allow_empty : Bool) (gap : ℕ) (plane : Plane) (layer made : Layer) : Type 0 where
   pub sets : List (List ℕ)
-  pub cleaned : IsCleanedAndFilled rule gap plane.faces (sets_on plane layer.shapes.items) sets
+  pub cleaned : IsCleanedAndFilled rule gap plane.faces (sets_in layer.shapes.items) sets
   pub has : HasSets allow_empty layer sets made
 
 -- ---- a mosaic
@@ -44,6 +44,6 @@ pub record IsMosaicOf (plane : Plane) (layer made : Layer) : Type 0 where
   pub name : made.name ≡ layer.name
   pub kind : made.kind ≡ kinds.Polygon
   pub pieces : List MosaicItem
-  pub are : IsMosaic plane.faces (sets_on plane layer.shapes.items) pieces
+  pub are : IsMosaic plane.faces (sets_in layer.shapes.items) pieces
   pub table : made.table ≡ record { names = codes "ids" ∷ []; rows = map ids_row pieces }
   pub shapes : made.shapes.items ≡ map piece_shape pieces

@@ -10,9 +10,8 @@ use Rattle.region_ops.specs.Cut.{meet, minus}
 use Rattle.line_ops.specs.Inside.{is_inside, is_outside}
 use Rattle.line_ops.specs.Points.{IsInsideAt}
 use Rattle.line_ops.specs.Runs.{runs_where}
-use Rattle.run_shapes.specs.FaceSets.{sets_on, face_shapes}
+use Rattle.run_shapes.specs.FaceSets.{sets_in, face_shapes}
 use Rattle.run_state.specs.Features.{LeavesOut}
-use Rattle.run_plane.specs.OnPlane.{list_on}
 use Rattle.run_shapes.specs.declared.cutting.CutKeeps.{CutKeeps}
 use Rattle.run_shapes.specs.declared.cutting.CutKeeps.TheVariants as keeps
 use Rattle.run_plane.specs.declared.layer.Layer.{Layer}
@@ -65,13 +64,13 @@ IsShapeLeft k plane area (shape.Points points) (shape.Points left) = ArePointsLe
 IsShapeLeft k plane area (shape.Points points) shape.Nothing = ⊥
 IsShapeLeft k plane area (shape.Points points) (shape.Faces set) = ⊥
 IsShapeLeft k plane area (shape.Points points) (shape.Paths paths) = ⊥
-IsShapeLeft k plane area (shape.Paths paths) left = left ≡ shape.Paths (cut_paths k plane area (list_on plane paths))
+IsShapeLeft k plane area (shape.Paths paths) left = left ≡ shape.Paths (cut_paths k plane area paths)
 IsShapeLeft k plane area (shape.Faces set) left = left ≡ shape.Nothing
 IsShapeLeft k plane area shape.Nothing left = left ≡ shape.Nothing
 
 -- what is left of the shapes of a layer of this kind
 abbrev pub AreShapesLeft : Kind → CutKeeps → Plane → List ℕ → List Shape → List Shape → Type 0
-AreShapesLeft kinds.Polygon k plane area shapes left = left ≡ face_shapes (map (cut_faces k area) (sets_on plane shapes))
+AreShapesLeft kinds.Polygon k plane area shapes left = left ≡ face_shapes (map (cut_faces k area) (sets_in shapes))
 AreShapesLeft kinds.Line k plane area shapes left = AllZip (IsShapeLeft k plane area) shapes left
 AreShapesLeft kinds.Point k plane area shapes left = AllZip (IsShapeLeft k plane area) shapes left
 AreShapesLeft kinds.Table k plane area shapes left = AllZip (IsShapeLeft k plane area) shapes left

@@ -10,13 +10,11 @@ use Rattle.region_ops.specs.Dissolved.{union_of}
 use Rattle.table_ops.specs.Grouping.{group_rows}
 use Rattle.table_ops.specs.declared.group.Grouped.{Grouped}
 use Rattle.table_terms.specs.declared.specifications.GroupSpec.{GroupSpec}
-use Rattle.run_shapes.specs.FaceSets.{sets_on, face_shapes}
-use Rattle.run_plane.specs.OnPlane.{points_in}
-use Rattle.run_plane.specs.Shapes.{shape_at}
+use Rattle.run_shapes.specs.FaceSets.{sets_in, face_shapes}
+use Rattle.run_plane.specs.Shapes.{points_in, shape_at}
 use Rattle.run_plane.specs.declared.layer.Layer.{Layer}
 use Rattle.run_plane.specs.declared.layer.Shape.{Shape}
 use Rattle.run_plane.specs.declared.layer.Shape.TheVariants as shape
-use Rattle.run_plane.specs.declared.plane.Plane.{Plane}
 use Rattle.run_state.specs.Stops.{table_refusal}
 use Rattle.run_state.specs.declared.refusal.RefuseWhy.{RefuseWhy}
 use Rattle.run_state.specs.declared.refusal.RefuseWhy.TheVariants.{NoGroupPoints}
@@ -55,20 +53,20 @@ abbrev pub no_shape : List ℕ → Shape
 no_shape members = shape.Nothing
 
 -- the shapes of groups of features of this kind
-abbrev pub grouped_shapes : Kind → Plane → List Shape → List (List ℕ) → List Shape
-grouped_shapes kinds.Polygon plane shapes groups = face_shapes (map (union_of (sets_on plane shapes)) groups)
-grouped_shapes kinds.Line plane shapes groups = map (line_shape shapes) groups
-grouped_shapes kinds.Point plane shapes groups = map (point_shape shapes) groups
-grouped_shapes kinds.Table plane shapes groups = map no_shape groups
+abbrev pub grouped_shapes : Kind → List Shape → List (List ℕ) → List Shape
+grouped_shapes kinds.Polygon shapes groups = face_shapes (map (union_of (sets_in shapes)) groups)
+grouped_shapes kinds.Line shapes groups = map (line_shape shapes) groups
+grouped_shapes kinds.Point shapes groups = map (point_shape shapes) groups
+grouped_shapes kinds.Table shapes groups = map no_shape groups
 
 -- a row and a shape for each group of rows
-pub record IsGrouped (plane : Plane) (spec : GroupSpec) (layer made : Layer) : Type 0 where
+pub record IsGrouped (spec : GroupSpec) (layer made : Layer) : Type 0 where
   pub name : made.name ≡ layer.name
   pub kind : made.kind ≡ layer.kind
   pub grouped : Grouped
   pub answers : group_rows layer.table spec ≡ Ok grouped
   pub table : made.table ≡ grouped.table
-  pub shapes : made.shapes.items ≡ grouped_shapes layer.kind plane layer.shapes.items grouped.groups
+  pub shapes : made.shapes.items ≡ grouped_shapes layer.kind layer.shapes.items grouped.groups
 
 abbrev pub is_point : Kind → Bool
 is_point kinds.Point = true

@@ -7,7 +7,7 @@ use Rattle.plane_model.specs.Points.{GridPoint}
 use Rattle.plane_model.specs.Arcs.{SignedArc}
 use Rattle.region_ops.specs.Exploded.{IsExploded as AreParts}
 use Rattle.region_ops.specs.declared.item_lists.PartItem.{PartItem}
-use Rattle.run_shapes.specs.FaceSets.{sets_on}
+use Rattle.run_shapes.specs.FaceSets.{sets_in}
 use Rattle.run_state.specs.Features.{HasRows}
 use Rattle.run_plane.specs.declared.layer.Layer.{Layer}
 use Rattle.run_plane.specs.declared.layer.Shape.{Shape}
@@ -22,7 +22,7 @@ part_shape item = shape.Faces item.set
 -- the parts of each set, and an empty set as it is, with the numbers of their features
 pub record ArePartsOf (plane : Plane) (shapes : List Shape) (numbers : List ℕ) (pieces : List Shape) : Type 0 where
   pub items : List PartItem
-  pub parts : AreParts plane.faces (sets_on plane shapes) items
+  pub parts : AreParts plane.faces (sets_in shapes) items
   pub numbered : numbers ≡ map (λ (item : PartItem). item.feature) items
   pub shown : pieces ≡ map part_shape items
 

@@ -4,22 +4,14 @@ use Rattle.std.specs.List.{flat_map}
 use Rattle.lists.specs.Lists.{ascending}
 use Rattle.cmd_words.specs.declared.job.Origin.{Origin}
 use Rattle.cmd_words.specs.declared.job.Origin.TheVariants as origin
-use Rattle.run_plane.specs.OnPlane.{faces_on}
+use Rattle.run_plane.specs.Shapes.{faces_in}
 use Rattle.run_plane.specs.declared.layer.Layer.{Layer}
 use Rattle.run_plane.specs.declared.layer.Shape.{Shape}
 use Rattle.run_plane.specs.declared.layer.Shape.TheVariants as shape
-use Rattle.run_plane.specs.declared.plane.Plane.{Plane}
 use Rattle.run_state.specs.Features.{HasRows, LeavesOut, all_numbers}
 use Rattle.run_state.specs.Origins.{Base, one_layer, origin_layers}
 use Rattle.run_state.specs.declared.refusal.RefuseWhy.{RefuseWhy}
 use Rattle.run_state.specs.declared.state.Held.{Held}
-
--- the faces of a shape
-abbrev pub faces_in : Shape → List ℕ
-faces_in shape.Nothing = []
-faces_in (shape.Faces set) = set
-faces_in (shape.Paths paths) = []
-faces_in (shape.Points points) = []
 
 -- the faces of any of the shapes, ascending
 abbrev pub any_faces : List Shape → List ℕ
@@ -36,9 +28,9 @@ area_of base layers (origin.Area n) = slice_index_or base.plane.boxes.items n []
 area_of base layers (origin.Layer name) = layer_faces (one_layer (origin_layers base.sources layers (origin.Layer name)))
 area_of base layers (origin.Source n) = layer_faces (one_layer (origin_layers base.sources layers (origin.Source n)))
 
--- for each shape its faces on the plane
-abbrev pub sets_on : Plane → List Shape → List (List ℕ)
-sets_on plane shapes = map (faces_on plane) shapes
+-- for each shape its faces
+abbrev pub sets_in : List Shape → List (List ℕ)
+sets_in shapes = map faces_in shapes
 
 -- a shape for each set
 abbrev pub face_shapes : List (List ℕ) → List Shape

@@ -1,5 +1,6 @@
 ghost use Rattle.std.specs.Prelude.{◌≡◌, ◌+◌, ◌<◌, ◌^◌, All, IfErr, IfOk, None, codes, length, map, slice_index_or};
 ghost use Rattle.json_read.specs.Table.{AreRows};
+ghost use Rattle.run_plane.specs.OnPlane.{IsLayerOn};
 ghost use Rattle.run_shapes.specs.Borders.{
   AreInnerLines,
   AreOutlines,
@@ -31,8 +32,9 @@ use table_ops::keep_fields;
 /// A line for each arc with holders at both sides, not the same ones; without columns.
 pub fn inner_lines(alloc: Global, plane: &Plane, layer: &Layer) -> Result<Layer, AllocError>
     ensures made { IfOk result (AreInnerLines plane.now layer.now) }
+    ensures on { IfOk result (IsLayerOn plane.now) }
 {
-    let sets = sets_of(alloc, plane, &layer.shapes)?;
+    let sets = sets_of(alloc, &layer.shapes)?;
     let arcs = inner_arcs(alloc, &plane.arcs, &plane.faces, &sets)?;
     let shapes = inner_shapes(alloc, arcs.as_slice())?;
     Ok(Layer {
@@ -91,11 +93,12 @@ pub fn outlines(
     fields: &NameList,
 ) -> Result<Layer, CommandStop>
     ensures made { IfOk result (AreOutlines plane.now fields.now layer.now) }
+    ensures on { IfOk result (IsLayerOn plane.now) }
     ensures accepted { IfOk result (λ made. table_refusal (keep_fields layer.now.table fields.now) ≡ None) }
     ensures stops { IfErr result (StopsFor (table_refusal (keep_fields layer.now.table fields.now))) }
 {
     let listed = keep_fields(alloc, &layer.table, fields)?;
-    let sets = sets_of(alloc, plane, &layer.shapes)?;
+    let sets = sets_of(alloc, &layer.shapes)?;
     let arcs = sided_arcs(alloc, &plane.arcs, &plane.faces, &sets)?;
     let table = ranked_table(alloc, &listed, arcs.as_slice())?;
     let shapes = outline_shapes(alloc, arcs.as_slice())?;

@@ -2,6 +2,7 @@ ghost use Rattle.std.specs.Prelude.{◌≡◌, ◌++◌, IfOk, OnOk, decimal, le
 ghost use Rattle.std.specs.List.{flat_map};
 ghost use Rattle.std.specs.String.{string_bytes};
 ghost use Rattle.json_read.specs.Table.{AreRows};
+ghost use Rattle.run_plane.specs.OnPlane.{AreOn, IsLayerOn};
 ghost use Rattle.run_shapes.specs.Cleaning.{IsCleaned, IsMosaicOf, after_comma, ids_row, ids_text, piece_shape};
 
 use crate::face_sets::{sets_of, with_sets};
@@ -24,9 +25,11 @@ pub fn cleaned(
     allow_empty: bool,
     gap: u128,
 ) -> Result<Layer, AllocError>
+    requires on { IsLayerOn plane.now layer.now }
     ensures made { IfOk result (IsCleaned rule allow_empty gap plane.now layer.now) }
+    ensures on { IfOk result (IsLayerOn plane.now) }
 {
-    let old = sets_of(alloc, plane, &layer.shapes)?;
+    let old = sets_of(alloc, &layer.shapes)?;
     let sets = clean_sets(alloc, &plane.arcs, &plane.faces, &old, rule, gap)?;
     with_sets(alloc, layer, &sets, allow_empty)
 }
@@ -34,9 +37,11 @@ pub fn cleaned(
 /// A feature for each part of the faces that just the same features hold, in the order of the lists of their numbers,
 /// which stand in the one column `ids`, joined by commas.
 pub fn mosaic(alloc: Global, plane: &Plane, layer: &Layer) -> Result<Layer, AllocError>
+    requires on { IsLayerOn plane.now layer.now }
     ensures made { IfOk result (IsMosaicOf plane.now layer.now) }
+    ensures on { IfOk result (IsLayerOn plane.now) }
 {
-    let sets = sets_of(alloc, plane, &layer.shapes)?;
+    let sets = sets_of(alloc, &layer.shapes)?;
     let items = mosaic_sets(alloc, &plane.arcs, &plane.faces, &sets)?;
     let rows = holder_rows(alloc, items.as_slice())?;
     let shapes = mosaic_shapes(alloc, items.as_slice())?;

@@ -1,14 +1,11 @@
-ghost use Rattle.std.specs.Prelude.{◌≡◌, ◌++◌, ◌∷◌, [], All, IfOk, OnOk, if◌then◌else◌, length, map};
-ghost use Rattle.std.specs.List.{AllZip, flat_map};
-ghost use Rattle.face_walk.specs.Places.{HasArc};
-ghost use Rattle.line_ops.specs.Runs.{runs_where};
-ghost use Rattle.run_plane.specs.OnPlane.{list_on};
-ghost use Rattle.run_shapes.specs.Cutting.{ArePointsLeft, AreShapesLeft, IsCut, IsShapeLeft, StaysAt, cut_faces, cut_paths, stays_along};
-ghost use Rattle.run_shapes.specs.FaceSets.{face_shapes, sets_on};
+ghost use Rattle.std.specs.Prelude.{◌≡◌, ◌++◌, ◌∷◌, [], IfOk, OnOk, if◌then◌else◌, length, map};
+ghost use Rattle.std.specs.List.{AllZip};
+ghost use Rattle.run_plane.specs.OnPlane.{AreBelow, AreOn, IsLayerOn, IsOn};
+ghost use Rattle.run_shapes.specs.Cutting.{ArePointsLeft, AreShapesLeft, IsCut, IsShapeLeft, StaysAt, cut_faces, cut_paths};
+ghost use Rattle.run_shapes.specs.FaceSets.{face_shapes, sets_in};
 
 use crate::face_sets::{sets_of, shapes_of};
 use arc_table::SignedPaths;
-use face_walk::Faces;
 use grid_base::{Kind, Pt, PtList};
 use line_ops::{clip_paths, erase_paths, point_inside};
 use region_ops::{clip_sets, erase_sets};
@@ -32,7 +29,9 @@ pub fn cut(
     area: &FaceSet,
     keeps: CutKeeps,
 ) -> Result<Layer, AllocError>
+    requires on { IsLayerOn plane.now layer.now }
     ensures made { IfOk result (IsCut keeps plane.now area.now layer.now) }
+    ensures on { IfOk result (IsLayerOn plane.now) }
 {
     let shapes = shapes_left(alloc, plane, layer, area, keeps)?;
     nonempty(alloc, layer, shapes)
@@ -45,11 +44,13 @@ fn shapes_left(
     area: &FaceSet,
     keeps: CutKeeps,
 ) -> Result<Vec<Shape>, AllocError>
+    requires on { IsLayerOn plane.now layer.now }
     ensures exact { IfOk result (λ left. AreShapesLeft layer.now.kind keeps plane.now area.now layer.now.shapes.items left.items) }
+    ensures on { IfOk result (λ left. AreOn plane.now left.items) }
     ensures count { IfOk result (λ left. length left.items ≡ length layer.now.shapes.items) }
 {
     match layer.kind {
-        Kind::Polygon => cut_polygons(alloc, plane, &layer.shapes, area, keeps),
+        Kind::Polygon => cut_polygons(alloc, &layer.shapes, area, keeps),
         Kind::Line | Kind::Point | Kind::Table => {
             cut_shapes(alloc, plane, &layer.shapes, area, keeps)
         }
@@ -58,15 +59,14 @@ fn shapes_left(
 
 fn cut_polygons(
     alloc: Global,
-    plane: &Plane,
     shapes: &[Shape],
     area: &FaceSet,
     keeps: CutKeeps,
 ) -> Result<Vec<Shape>, AllocError>
-    ensures exact { IfOk result (λ left. left.items ≡ face_shapes (map (cut_faces keeps area.now) (sets_on plane.now shapes.now))) }
+    ensures exact { IfOk result (λ left. left.items ≡ face_shapes (map (cut_faces keeps area.now) (sets_in shapes.now))) }
     ensures count { IfOk result (λ left. length left.items ≡ length shapes.now) }
 {
-    let sets = sets_of(alloc, plane, shapes)?;
+    let sets = sets_of(alloc, shapes)?;
     let left = cut_sets(alloc, &sets, area, keeps)?;
     shapes_of(alloc, left.as_slice())
 }
@@ -93,7 +93,9 @@ fn cut_shapes(
     area: &FaceSet,
     keeps: CutKeeps,
 ) -> Result<Vec<Shape>, AllocError>
+    requires on { AreOn plane.now shapes.now }
     ensures exact { IfOk result (λ left. AllZip (IsShapeLeft keeps plane.now area.now) shapes.now left.items) }
+    ensures on { IfOk result (λ left. AreOn plane.now left.items) }
     ensures count { IfOk result (λ left. length left.items ≡ length shapes.now) }
 {
     let mut left = Vec::new(alloc);
@@ -110,7 +112,9 @@ fn cut_shape(
     area: &FaceSet,
     keeps: CutKeeps,
 ) -> Result<Shape, AllocError>
+    requires on { IsOn plane.now shape.now }
     ensures exact { IfOk result (IsShapeLeft keeps plane.now area.now shape.now) }
+    ensures on { IfOk result (IsOn plane.now) }
 {
     match shape {
         Shape::Paths(paths) => Ok(Shape::Paths(cut_paths(alloc, plane, paths, area, keeps)?)),
@@ -126,28 +130,13 @@ fn cut_paths(
     area: &FaceSet,
     keeps: CutKeeps,
 ) -> Result<SignedPaths, AllocError>
-    ensures exact { IfOk result (λ left. left ≡ cut_paths keeps plane.now area.now (list_on plane.now paths.now)) }
-{
-    if plane.has_arcs(paths) {
-        runs_left(alloc, &plane.faces, paths, area, keeps)
-    } else {
-        Ok(SignedPaths::new(alloc))
-    }
-}
-
-fn runs_left(
-    alloc: Global,
-    faces: &Faces,
-    paths: &SignedPaths,
-    area: &FaceSet,
-    keeps: CutKeeps,
-) -> Result<SignedPaths, AllocError>
-    requires arcs { All (All (HasArc faces.now)) paths.now }
-    ensures exact { IfOk result (λ left. left ≡ flat_map (runs_where (stays_along keeps faces.now area.now)) paths.now) }
+    requires on { AreBelow (length plane.now.arcs) paths.now }
+    ensures exact { IfOk result (λ left. left ≡ cut_paths keeps plane.now area.now paths.now) }
+    ensures on { IfOk result (AreBelow (length plane.now.arcs)) }
 {
     match keeps {
-        CutKeeps::Inside => clip_paths(alloc, faces, paths, area),
-        CutKeeps::Outside => erase_paths(alloc, faces, paths, area),
+        CutKeeps::Inside => clip_paths(alloc, &plane.faces, paths, area),
+        CutKeeps::Outside => erase_paths(alloc, &plane.faces, paths, area),
     }
 }
 

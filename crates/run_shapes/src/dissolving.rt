@@ -2,8 +2,7 @@ ghost use Rattle.std.specs.Prelude.{◌≡◌, ◌<◌, ◌++◌, IfErr, IfOk, N
 ghost use Rattle.std.specs.List.{flat_map};
 ghost use Rattle.lists.specs.Lists.{ascending};
 ghost use Rattle.region_ops.specs.Dissolved.{union_of};
-ghost use Rattle.run_plane.specs.OnPlane.{points_in};
-ghost use Rattle.run_plane.specs.Shapes.{shape_at};
+ghost use Rattle.run_plane.specs.Shapes.{points_in, shape_at};
 ghost use Rattle.run_shapes.specs.Dissolving.{
   IsGrouped,
   arcs_along,
@@ -17,7 +16,7 @@ ghost use Rattle.run_shapes.specs.Dissolving.{
   point_shape,
   refused_dissolve,
 };
-ghost use Rattle.run_shapes.specs.FaceSets.{face_shapes, sets_on};
+ghost use Rattle.run_shapes.specs.FaceSets.{face_shapes, sets_in};
 ghost use Rattle.run_state.specs.Stops.{StopsFor};
 
 use crate::face_sets::{sets_of, shapes_of};
@@ -25,7 +24,7 @@ use crate::paths::path_along;
 use arc_table::{SignedPath, SignedPaths};
 use grid_base::{ArcId, GroupList, Kind, Pt, PtList, SignedArc};
 use region_ops::dissolve_sets;
-use run_plane::{Layer, Plane, Shape, copy_text};
+use run_plane::{Layer, Shape, copy_text};
 use run_state::{CommandStop, RefuseWhy};
 use std::alloc::{AllocError, Global};
 use table_ops::group_rows;
@@ -38,12 +37,11 @@ use table_terms::GroupSpec;
 #[tactic(auto, using(run_state::proofs::Stops::table_stops))]
 pub fn dissolved(
     alloc: Global,
-    plane: &Plane,
     layer: &Layer,
     spec: &GroupSpec,
     group_points: bool,
 ) -> Result<Layer, CommandStop>
-    ensures made { IfOk result (IsGrouped plane.now spec.now layer.now) }
+    ensures made { IfOk result (IsGrouped spec.now layer.now) }
     ensures accepted { IfOk result (λ made. refused_dissolve spec.now group_points layer.now ≡ None) }
     ensures stops { IfErr result (StopsFor (refused_dissolve spec.now group_points layer.now)) }
 {
@@ -51,7 +49,7 @@ pub fn dissolved(
         return Err(CommandStop::Refused(RefuseWhy::NoGroupPoints));
     }
     let grouped = group_rows(alloc, &layer.table, spec)?;
-    let shapes = grouped_shapes(alloc, plane, layer.kind, &layer.shapes, &grouped.groups)?;
+    let shapes = grouped_shapes(alloc, layer.kind, &layer.shapes, &grouped.groups)?;
     Ok(Layer {
         name: copy_text(alloc, &layer.name)?,
         kind: layer.kind,
@@ -62,34 +60,28 @@ pub fn dissolved(
 
 fn grouped_shapes(
     alloc: Global,
-    plane: &Plane,
     kind: Kind,
     shapes: &[Shape],
     groups: &GroupList,
 ) -> Result<Vec<Shape>, AllocError>
     requires members { All (All (λ n. n < length shapes.now)) groups.now }
-    ensures exact { IfOk result (λ list. list.items ≡ grouped_shapes kind plane.now shapes.now groups.now) }
+    ensures exact { IfOk result (λ list. list.items ≡ grouped_shapes kind shapes.now groups.now) }
     ensures count { IfOk result (λ list. length list.items ≡ length groups.now) }
 {
     match kind {
-        Kind::Polygon => united(alloc, plane, shapes, groups),
+        Kind::Polygon => united(alloc, shapes, groups),
         Kind::Line => lines_of_groups(alloc, shapes, groups),
         Kind::Point => points_of_groups(alloc, shapes, groups),
         Kind::Table => nothings(alloc, groups),
     }
 }
 
-fn united(
-    alloc: Global,
-    plane: &Plane,
-    shapes: &[Shape],
-    groups: &GroupList,
-) -> Result<Vec<Shape>, AllocError>
+fn united(alloc: Global, shapes: &[Shape], groups: &GroupList) -> Result<Vec<Shape>, AllocError>
     requires members { All (All (λ n. n < length shapes.now)) groups.now }
-    ensures exact { IfOk result (λ list. list.items ≡ face_shapes (map (union_of (sets_on plane.now shapes.now)) groups.now)) }
+    ensures exact { IfOk result (λ list. list.items ≡ face_shapes (map (union_of (sets_in shapes.now)) groups.now)) }
     ensures count { IfOk result (λ list. length list.items ≡ length groups.now) }
 {
-    let sets = sets_of(alloc, plane, shapes)?;
+    let sets = sets_of(alloc, shapes)?;
     let united = dissolve_sets(alloc, &sets, groups)?;
     shapes_of(alloc, united.as_slice())
 }

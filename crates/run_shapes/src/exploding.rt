@@ -1,4 +1,5 @@
 ghost use Rattle.std.specs.Prelude.{◌≡◌, ◌++◌, ◌∷◌, ◌<◌, [], IfOk, OnOk, All, length, map, replicate};
+ghost use Rattle.run_plane.specs.OnPlane.{AreOn, IsLayerOn};
 ghost use Rattle.run_shapes.specs.Exploding.{
   AreSplitOf,
   ArePartsOf,
@@ -30,14 +31,18 @@ struct Pieces {
 
 /// One feature for each part, path or point, in order, with the row copied; a feature without geometry stays.
 pub fn exploded(alloc: Global, plane: &Plane, layer: &Layer) -> Result<Layer, AllocError>
+    requires on { IsLayerOn plane.now layer.now }
     ensures made { IfOk result (IsExploded plane.now layer.now) }
+    ensures on { IfOk result (IsLayerOn plane.now) }
 {
     let Pieces { numbers, shapes } = pieces_of(alloc, plane, layer)?;
     with_shapes(alloc, layer, &numbers, shapes)
 }
 
 fn pieces_of(alloc: Global, plane: &Plane, layer: &Layer) -> Result<Pieces, AllocError>
+    requires on { IsLayerOn plane.now layer.now }
     ensures are { IfOk result (λ p. ArePieces layer.now.kind plane.now layer.now.shapes.items p.numbers p.shapes.items) }
+    ensures on { IfOk result (λ p. AreOn plane.now p.shapes.items) }
     ensures below { IfOk result (λ p. All (λ n. n < length layer.now.shapes.items) p.numbers) }
     ensures each { IfOk result (λ p. length p.shapes.items ≡ length p.numbers) }
 {
@@ -54,11 +59,13 @@ fn pieces_of(alloc: Global, plane: &Plane, layer: &Layer) -> Result<Pieces, Allo
 // ---- polygons
 
 fn parts_of(alloc: Global, plane: &Plane, shapes: &[Shape]) -> Result<Pieces, AllocError>
+    requires on { AreOn plane.now shapes.now }
     ensures are { IfOk result (λ p. ArePartsOf plane.now shapes.now p.numbers p.shapes.items) }
+    ensures on { IfOk result (λ p. AreOn plane.now p.shapes.items) }
     ensures below { IfOk result (λ p. All (λ n. n < length shapes.now) p.numbers) }
     ensures each { IfOk result (λ p. length p.shapes.items ≡ length p.numbers) }
 {
-    let sets = sets_of(alloc, plane, shapes)?;
+    let sets = sets_of(alloc, shapes)?;
     let items = explode_sets(alloc, &plane.arcs, &plane.faces, &sets)?;
     let numbers = part_numbers(alloc, items.as_slice())?;
     let shapes = part_shapes(alloc, items.as_slice())?;

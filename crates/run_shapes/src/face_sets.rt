@@ -1,14 +1,13 @@
-ghost use Rattle.std.specs.Prelude.{◌≡◌, [], All, IfErr, IfOk, length, slice_index_or};
-ghost use Rattle.ring_trace.specs.Sets.{IsSetOf};
-ghost use Rattle.run_plane.specs.OnPlane.{faces_on, set_on};
-ghost use Rattle.run_shapes.specs.FaceSets.{HasSets, any_faces, area_of, face_shapes, faces_in, sets_on};
+ghost use Rattle.std.specs.Prelude.{◌≡◌, [], IfErr, IfOk, length, slice_index_or};
+ghost use Rattle.run_plane.specs.Shapes.{faces_in};
+ghost use Rattle.run_shapes.specs.FaceSets.{HasSets, any_faces, area_of, face_shapes, sets_in};
 ghost use Rattle.run_state.specs.Origins.{base_of, refused_origin};
 ghost use Rattle.run_state.specs.Stops.{StopsFor};
 
 use cmd_words::Origin;
 use grid_base::FaceId;
 use ring_trace::{FaceSet, SetList};
-use run_plane::{Layer, Plane, Shape};
+use run_plane::{Layer, Shape};
 use run_state::{CommandStop, Ground, Held, nonempty, numbers_below, source_layer, with_shapes};
 use std::alloc::{AllocError, Global};
 
@@ -61,38 +60,24 @@ fn faces_in(shape: &Shape) -> &[FaceId]
     }
 }
 
-/// For each shape of a layer its faces on the plane.
-pub fn sets_of(alloc: Global, plane: &Plane, shapes: &[Shape]) -> Result<SetList, AllocError>
-    ensures exact { IfOk result (λ sets. sets ≡ sets_on plane.now shapes.now) }
+/// For each shape of a layer its faces.
+pub fn sets_of(alloc: Global, shapes: &[Shape]) -> Result<SetList, AllocError>
+    ensures exact { IfOk result (λ sets. sets ≡ sets_in shapes.now) }
     ensures count { IfOk result (λ sets. length sets ≡ length shapes.now) }
-    ensures there { IfOk result (All (IsSetOf plane.now.faces)) }
 {
     let mut sets = SetList::new(alloc);
     for shape in shapes {
-        sets.push(faces_on(alloc, plane, shape)?)?;
+        sets.push(set_of(alloc, shape)?)?;
     }
     Ok(sets)
 }
 
-fn faces_on(alloc: Global, plane: &Plane, shape: &Shape) -> Result<FaceSet, AllocError>
-    ensures exact { IfOk result (λ set. set ≡ faces_on plane.now shape.now) }
-    ensures there { IfOk result (IsSetOf plane.now.faces) }
+fn set_of(alloc: Global, shape: &Shape) -> Result<FaceSet, AllocError>
+    ensures exact { IfOk result (λ set. set ≡ faces_in shape.now) }
 {
     match shape {
-        Shape::Faces(faces) => kept_faces(alloc, plane, faces),
+        Shape::Faces(faces) => faces.copy(alloc),
         Shape::Nothing | Shape::Paths(_) | Shape::Points(_) => Ok(FaceSet::new(alloc)),
-    }
-}
-
-// The faces, where all are on the plane.
-fn kept_faces(alloc: Global, plane: &Plane, faces: &FaceSet) -> Result<FaceSet, AllocError>
-    ensures exact { IfOk result (λ set. set ≡ set_on plane.now faces.now) }
-    ensures there { IfOk result (IsSetOf plane.now.faces) }
-{
-    if plane.has_all(faces) {
-        faces.copy(alloc)
-    } else {
-        Ok(FaceSet::new(alloc))
     }
 }
 

@@ -1,4 +1,5 @@
 ghost use Rattle.std.specs.Prelude.{IfOk};
+ghost use Rattle.run_plane.specs.OnPlane.{IsLayerOn};
 ghost use Rattle.run_shapes.specs.Islands.{IsMainland};
 
 use crate::face_sets::{sets_of, with_sets};
@@ -17,9 +18,11 @@ pub fn without_islands(
     least_links: u32,
     remove_empty: bool,
 ) -> Result<Layer, AllocError>
+    requires on { IsLayerOn plane.now layer.now }
     ensures made { IfOk result (IsMainland least_area least_links remove_empty plane.now layer.now) }
+    ensures on { IfOk result (IsLayerOn plane.now) }
 {
-    let old = sets_of(alloc, plane, &layer.shapes)?;
+    let old = sets_of(alloc, &layer.shapes)?;
     let sets = drop_islands(
         alloc,
         &plane.arcs,

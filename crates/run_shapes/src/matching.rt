@@ -1,7 +1,7 @@
 ghost use Rattle.std.specs.Prelude.{◌≡◌, All, IfOk, length};
 ghost use Rattle.std.specs.List.Sorted.{IsStrictlyIncreasing};
-ghost use Rattle.run_plane.specs.OnPlane.{points_in};
-ghost use Rattle.run_shapes.specs.FaceSets.{sets_on};
+ghost use Rattle.run_plane.specs.Shapes.{points_in};
+ghost use Rattle.run_shapes.specs.FaceSets.{sets_in};
 ghost use Rattle.run_shapes.specs.Matching.{AreMatches, point_lists};
 ghost use Rattle.spatial_join.specs.Matches.{AreMatchedPoints, AreMatchedSets};
 
@@ -40,11 +40,11 @@ fn matches_of_polygons(
     others: &[Shape],
     shapes: &[Shape],
 ) -> Result<GroupList, AllocError>
-    ensures exact { IfOk result (AreMatchedSets plane.now.arcs plane.now.faces (point_lists others.now) (sets_on plane.now shapes.now)) }
+    ensures exact { IfOk result (AreMatchedSets plane.now.arcs plane.now.faces (point_lists others.now) (sets_in shapes.now)) }
     ensures each { IfOk result (λ matches. length matches ≡ length shapes.now) }
     ensures ascending { IfOk result (All IsStrictlyIncreasing) }
 {
-    let sets = sets_of(alloc, plane, shapes)?;
+    let sets = sets_of(alloc, shapes)?;
     let points = point_lists(alloc, others)?;
     match_sets(alloc, &plane.arcs, &plane.faces, &sets, &points)
 }
@@ -56,11 +56,11 @@ fn matches_of_points(
     others: &[Shape],
     shapes: &[Shape],
 ) -> Result<GroupList, AllocError>
-    ensures exact { IfOk result (AreMatchedPoints plane.now.arcs plane.now.faces (point_lists shapes.now) (sets_on plane.now others.now)) }
+    ensures exact { IfOk result (AreMatchedPoints plane.now.arcs plane.now.faces (point_lists shapes.now) (sets_in others.now)) }
     ensures each { IfOk result (λ matches. length matches ≡ length shapes.now) }
     ensures ascending { IfOk result (All IsStrictlyIncreasing) }
 {
-    let sets = sets_of(alloc, plane, others)?;
+    let sets = sets_of(alloc, others)?;
     let points = point_lists(alloc, shapes)?;
     match_points(alloc, &plane.arcs, &plane.faces, &points, &sets)
 }

@@ -1,5 +1,7 @@
 ghost use Rattle.std.specs.Prelude.{◌≡◌, IfOk, Some, length, map, slice_get, true};
+ghost use Rattle.run_plane.specs.OnPlane.{IsLayerOn};
 ghost use Rattle.run_shapes.specs.Uniting.{AreGathered, IsUnited, item_shape};
+ghost use Rattle.run_state.specs.OnPlane.{AreHeldOn};
 ghost use Rattle.run_state.specs.Targets.{has_target, targets};
 
 use crate::face_sets::sets_of;
@@ -24,7 +26,9 @@ pub fn united(
     target: &Target,
 ) -> Result<Layer, AllocError>
     requires there { has_target target.now layers.now ≡ true }
+    requires on { AreHeldOn plane.now layers.now }
     ensures made { IfOk result (IsUnited plane.now (targets target.now layers.now)) }
+    ensures on { IfOk result (IsLayerOn plane.now) }
 {
     match first_target(layers, target) {
         Some(first) => united_like(alloc, plane, first, layers, target),
@@ -42,9 +46,11 @@ fn united_like(
     target: &Target,
 ) -> Result<Layer, AllocError>
     requires first { Some first.now ≡ slice_get (targets target.now layers.now) 0 }
+    requires on { AreHeldOn plane.now layers.now }
     ensures made { IfOk result (IsUnited plane.now (targets target.now layers.now)) }
+    ensures on { IfOk result (IsLayerOn plane.now) }
 {
-    let Gathered { tables, sets } = gather(alloc, plane, layers, target)?;
+    let Gathered { tables, sets } = gather(alloc, layers, target)?;
     let items = union_sets(alloc, &plane.arcs, &plane.faces, &sets)?;
     let table = union_tables(alloc, &tables, &items)?;
     let shapes = item_shapes(alloc, items.as_slice())?;
@@ -63,20 +69,15 @@ struct Gathered {
     sets: LayerSets,
 }
 
-fn gather(
-    alloc: Global,
-    plane: &Plane,
-    layers: &[Held],
-    target: &Target,
-) -> Result<Gathered, AllocError>
-    ensures gathered { IfOk result (λ all. AreGathered plane.now (targets target.now layers.now) all.tables all.sets) }
+fn gather(alloc: Global, layers: &[Held], target: &Target) -> Result<Gathered, AllocError>
+    ensures gathered { IfOk result (λ all. AreGathered (targets target.now layers.now) all.tables all.sets) }
 {
     let mut tables = TableList::new(alloc);
     let mut sets = LayerSets::new(alloc);
     for held in layers {
         if is_selected(target, held) {
             tables.push(copy_table(alloc, &held.layer.table)?)?;
-            sets.push(sets_of(alloc, plane, &held.layer.shapes)?)?;
+            sets.push(sets_of(alloc, &held.layer.shapes)?)?;
         }
     }
     Ok(Gathered { tables, sets })

@@ -54,9 +54,13 @@ ReadsMore limit before after source = MatchBool source.standard (raised (limit +
 abbrev pub ReadsCount : ℕ → SourcesSeen → SourcesSeen → SourceWord → Type 0
 ReadsCount count before after source = MatchBool source.standard (after.input_bytes ≡ raised count before.input_bytes) (after.file_bytes ≡ raised count before.file_bytes)
 
+-- a file that is read leaves standard input as it was
+abbrev pub LeavesInput : SourcesSeen → SourcesSeen → SourceWord → Type 0
+LeavesInput before after source = MatchBool source.standard ⊤ (after.input ≡ before.input)
+
 -- what reading a source, so many bytes at most, answers
 abbrev pub BytesMean : SourceWord → ℕ → SourcesSeen → SourcesSeen → Result Content FileStop → Type 0
-BytesMean source limit before after (Ok bytes) = AtSource before source (λ there. bytes ≡ there) × (length bytes ≤ limit) × ReadsCount (length bytes) before after source
+BytesMean source limit before after (Ok bytes) = AtSource before source (λ there. bytes ≡ there) × (length bytes ≤ limit) × ReadsCount (length bytes) before after source × LeavesInput before after source
 BytesMean source limit before after (Err stop.Fault) = SourceRose before after source
 BytesMean source limit before after (Err stop.Missing) = SourceMissing before after source
 BytesMean source limit before after (Err stop.TooLong) = AtSource before source (λ there. limit < length there) × ReadsMore limit before after source
@@ -92,6 +96,7 @@ pub record SourceGives (places : ℕ) (source : SourceWord) (budget left : Budge
   pub there : AtSource seen source (λ content. bytes ≡ content)
   pub within : length bytes ≤ budget.bytes
   pub counted : ReadsCount (length bytes) seen seen' source
+  pub leaves : LeavesInput seen seen' source
   pub decoded : Decodes places budget.room source bytes (Ok layers)
   pub left_behind : left ≡ budget_behind budget (length bytes) layers
 

@@ -1,4 +1,5 @@
 ghost use Rattle.std.specs.Prelude.{◌≡◌, ◌≤◌, ◌∷◌, [], All, IfOk, replicate};
+ghost use Rattle.grid_base.specs.Grid.{most_places};
 ghost use Rattle.json_read.specs.Seen.{json_value};
 ghost use Rattle.run_sources.specs.Decoding.{json_stop, table_stop, is_topology, table_layer, Decodes, DecodesJson, DecodesTable, TopologyGives, ValueGives};
 ghost use Rattle.geojson_io.specs.Sound.{LayerIsSound};
@@ -41,7 +42,7 @@ pub(crate) fn decoded(
     room: Room,
     bytes: &[u8],
 ) -> Result<GeoLayers, DecodeStop>
-    requires { places ≤ 7 }
+    requires { places ≤ most_places }
     ensures gives { Decodes places room source.now bytes.now result }
     ensures sound { IfOk result (λ layers. All LayerIsSound layers) }
 {
@@ -59,7 +60,7 @@ fn json_layers(
     room: Room,
     bytes: &[u8],
 ) -> Result<GeoLayers, DecodeStop>
-    requires { places ≤ 7 }
+    requires { places ≤ most_places }
     ensures gives { DecodesJson places room title.now bytes.now result }
     ensures sound { IfOk result (λ layers. All LayerIsSound layers) }
 {
@@ -87,7 +88,7 @@ fn value_layers(
     room: Room,
     json: &Json,
 ) -> Result<GeoLayers, DecodeStop>
-    requires { places ≤ 7 }
+    requires { places ≤ most_places }
     ensures gives { ValueGives places room title.now (json_value json.now) result }
     ensures sound { IfOk result (λ layers. All LayerIsSound layers) }
 {
@@ -109,7 +110,7 @@ fn topology_layers(
     room: Room,
     json: &Json,
 ) -> Result<GeoLayers, DecodeStop>
-    requires { places ≤ 7 }
+    requires { places ≤ most_places }
     ensures gives { TopologyGives places room (json_value json.now) result }
     ensures sound { IfOk result (λ layers. All LayerIsSound layers) }
 {

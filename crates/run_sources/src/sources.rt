@@ -1,6 +1,7 @@
 ghost use Rattle.std.specs.Prelude.{◌≡◌, ◌≤◌, ◌<◌, ◌-◌, ◌^◌, ◌++◌, ◌∷◌, [], length, map, sum_by, All, Err, IfErr, IfOk, OnOk, OnErr};
 ghost use Rattle.run_sources.specs.declared.fault.SourceFault.TheVariants.{Memory};
 ghost use Rattle.io_core.specs.Counts.{NoneFell};
+ghost use Rattle.grid_base.specs.Grid.{most_places};
 ghost use Rattle.geojson_io.specs.Sound.{LayerIsSound};
 ghost use Rattle.run_sources.specs.Budget.{whole_budget, budget_behind, feature_count, position_count, positions_in, positions_along};
 ghost use Rattle.run_sources.specs.Sources.{Grew, BytesMean, stopped, SourceGives, SourceStops, GivesAll, StopsAtSource};
@@ -132,7 +133,7 @@ pub fn read_sources<F: Files, I: Source>(
     files: &mut F,
     input: &mut I,
 ) -> Result<Vec<ReadSource>, SourceFault>
-    requires places { places ≤ 7 }
+    requires places { places ≤ most_places }
     requires few { length sources.now < 2 ^ 32 }
     ensures stops { IfErr result (StopsAtSource places sources.now
         (record { files = F.held files.old; file_faults = F.read_faults files.old; file_bytes = F.bytes_read files.old; input = I.left input.old; input_faults = I.faults input.old; input_bytes = I.bytes_read input.old })
@@ -188,7 +189,7 @@ fn read_source<F: Files, I: Source>(
     files: &mut F,
     input: &mut I,
 ) -> Result<GeoLayers, SourceFault>
-    requires { places ≤ 7 }
+    requires { places ≤ most_places }
     ensures stops { IfErr result (SourceStops places budget.old number source.now
         (record { files = F.held files.old; file_faults = F.read_faults files.old; file_bytes = F.bytes_read files.old; input = I.left input.old; input_faults = I.faults input.old; input_bytes = I.bytes_read input.old })
         (record { files = F.held files.new; file_faults = F.read_faults files.new; file_bytes = F.bytes_read files.new; input = I.left input.new; input_faults = I.faults input.new; input_bytes = I.bytes_read input.new })) }

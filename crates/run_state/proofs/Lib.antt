@@ -1,3 +1,4 @@
 pub mod Numbers
+pub mod OnPlane
 pub mod Stops
 pub mod TargetLemmas

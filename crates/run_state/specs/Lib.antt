@@ -1,4 +1,5 @@
 pub mod Features
+pub mod OnPlane
 pub mod Origins
 pub mod Stops
 pub mod Targets

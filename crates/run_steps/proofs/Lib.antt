@@ -1,4 +1,5 @@
 pub mod AtWork
 pub mod ByPlace
 pub mod Counting
+pub mod OnPlane
 pub mod Refusals

@@ -61,7 +61,7 @@ pub record JoinsByPlace (base : Base) (layers : List Held) (from : Origin) (spec
 abbrev pub PutsOut : Base → List Held → LayerAction → Layer → List Layer → Type 0
 PutsOut base layers (action.Clip from) layer outputs = One (IsCut keeps.Inside base.plane (area_of base layers from) layer) outputs
 PutsOut base layers (action.Erase from) layer outputs = One (IsCut keeps.Outside base.plane (area_of base layers from) layer) outputs
-PutsOut base layers (action.Dissolve spec group_points) layer outputs = One (IsGrouped base.plane spec layer) outputs
+PutsOut base layers (action.Dissolve spec group_points) layer outputs = One (IsGrouped spec layer) outputs
 PutsOut base layers (action.Clean rule allow_empty gap) layer outputs = One (IsCleaned rule allow_empty gap base.plane layer) outputs
 PutsOut base layers action.Mosaic layer outputs = One (IsMosaicOf base.plane layer) outputs
 PutsOut base layers action.InnerLines layer outputs = One (AreInnerLines base.plane layer) outputs

@@ -1,5 +1,6 @@
 ghost use Rattle.std.specs.Prelude.{◌≡◌, ◌≤◌, IfErr, IfOk, None, Some, false, if◌then◌else◌, length, map, true};
 ghost use Rattle.table_terms.specs.Refusals.{first_refusal};
+ghost use Rattle.run_state.specs.OnPlane.{AreHeldOn};
 ghost use Rattle.run_state.specs.Origins.{base_of, one_layer, origin_layers};
 ghost use Rattle.run_state.specs.Stops.{StopsAs, StopsFor, refusal_of};
 ghost use Rattle.run_state.specs.Targets.{has_target, placed, targets};
@@ -54,7 +55,9 @@ pub fn changed_each(
     action: &LayerAction,
     state: State,
 ) -> Result<State, CommandStop>
+    requires on { AreHeldOn ground.now.plane.now state.layers.items }
     ensures changes { IfOk result (λ after. ChangesEach (base_of ground.now) command.now action.now state.layers.items after.layers.items) }
+    ensures on { IfOk result (λ after. AreHeldOn ground.now.plane.now after.layers.items) }
     ensures there { IfOk result (λ after. has_target command.now.target state.layers.items ≡ true) }
     ensures absent { has_target command.now.target state.layers.items ≡ false → result ≡ Err (CommandStop.Refused RefuseWhy.NoLayer) }
     ensures accepted { IfOk result (λ after. RefusesEach (base_of ground.now) state.layers.items command.now action.now None) }
@@ -78,7 +81,9 @@ pub fn changed_together(
     action: &JointAction,
     state: State,
 ) -> Result<State, CommandStop>
+    requires on { AreHeldOn ground.now.plane.now state.layers.items }
     ensures changes { IfOk result (λ after. ChangesTogether (base_of ground.now) command.now action.now state.layers.items after.layers.items) }
+    ensures on { IfOk result (λ after. AreHeldOn ground.now.plane.now after.layers.items) }
     ensures there { IfOk result (λ after. has_target command.now.target state.layers.items ≡ true) }
     ensures absent { has_target command.now.target state.layers.items ≡ false → result ≡ Err (CommandStop.Refused RefuseWhy.NoLayer) }
     ensures accepted { IfOk result (λ after. refusal_together state.layers.items command.now action.now ≡ None) }
@@ -98,7 +103,9 @@ fn each_changed(
     state: State,
 ) -> Result<State, CommandStop>
     requires sourced { refused_source (base_of ground.now).sources state.layers.items action.now ≡ None }
+    requires on { AreHeldOn ground.now.plane.now state.layers.items }
     ensures changes { IfOk result (λ after. ChangesEach (base_of ground.now) command.now action.now state.layers.items after.layers.items) }
+    ensures on { IfOk result (λ after. AreHeldOn ground.now.plane.now after.layers.items) }
     ensures accepted { IfOk result (λ after. FailsEach (base_of ground.now) state.layers.items command.now action.now None) }
     ensures stops { IfErr result (StopsAs (FailsEach (base_of ground.now) state.layers.items command.now action.now)) }
 {
@@ -115,7 +122,9 @@ fn together_changed(
     state: State,
 ) -> Result<State, CommandStop>
     requires there { has_target command.now.target state.layers.items ≡ true }
+    requires on { AreHeldOn ground.now.plane.now state.layers.items }
     ensures changes { IfOk result (λ after. ChangesTogether (base_of ground.now) command.now action.now state.layers.items after.layers.items) }
+    ensures on { IfOk result (λ after. AreHeldOn ground.now.plane.now after.layers.items) }
     ensures accepted { IfOk result (λ after. failed_together state.layers.items command.now action.now ≡ None) }
     ensures stops { IfErr result (StopsFor (failed_together state.layers.items command.now action.now)) }
 {

@@ -1,6 +1,8 @@
 ghost use Rattle.std.specs.Prelude.{◌≡◌, ◌∷◌, [], ℕ, List, IfErr, IfOk, None, Ok, map, option_copied, replicate, true};
 ghost use Rattle.std.specs.List.{AllZip, position_or_len};
+ghost use Rattle.run_plane.specs.OnPlane.{AreAllOn, AreLayersOn, IsLayerOn};
 ghost use Rattle.run_shapes.specs.Matching.{AreMatches};
+ghost use Rattle.run_state.specs.OnPlane.{AreHeldOn};
 ghost use Rattle.run_state.specs.Targets.{has_target, is_selected, targets};
 ghost use Rattle.run_state.specs.Origins.{base_of, one_layer, origin_layers};
 ghost use Rattle.run_state.specs.Stops.{StopsAs, StopsFor};
@@ -35,7 +37,9 @@ pub(crate) fn joint_output(
     action: &JointAction,
 ) -> Result<Vec<Vec<Layer>>, CommandStop>
     requires there { has_target command.now.target layers.now ≡ true }
+    requires on { AreHeldOn ground.now.plane.now layers.now }
     ensures puts { IfOk result (λ outputs. PutsTogether (base_of ground.now) command.now action.now layers.now (map (λ out. out.items) outputs.items)) }
+    ensures on { IfOk result (λ outputs. AreAllOn ground.now.plane.now (map (λ out. out.items) outputs.items)) }
     ensures accepted { IfOk result (λ outputs. refused_together action.now (targets command.now.target layers.now) ≡ None) }
     ensures stops { IfErr result (StopsFor (refused_together action.now (targets command.now.target layers.now))) }
 {
@@ -52,7 +56,9 @@ fn made_together(
     action: &JointAction,
 ) -> Result<Layer, CommandStop>
     requires there { has_target target.now layers.now ≡ true }
+    requires on { AreHeldOn ground.now.plane.now layers.now }
     ensures made { IfOk result (MadeTogether (base_of ground.now) action.now (targets target.now layers.now)) }
+    ensures on { IfOk result (IsLayerOn ground.now.plane.now) }
     ensures accepted { IfOk result (λ outputs. refused_together action.now (targets target.now layers.now) ≡ None) }
     ensures stops { IfErr result (StopsFor (refused_together action.now (targets target.now layers.now))) }
 {
@@ -110,7 +116,9 @@ pub(crate) fn each_outputs(
     action: &LayerAction,
 ) -> Result<Vec<Vec<Layer>>, CommandStop>
     requires sourced { refused_source (base_of ground.now).sources layers.now action.now ≡ None }
+    requires on { AreHeldOn ground.now.plane.now layers.now }
     ensures puts { IfOk result (λ outputs. AllZip (PutsFor (base_of ground.now) layers.now command.now action.now) layers.now (map (λ out. out.items) outputs.items)) }
+    ensures on { IfOk result (λ outputs. AreAllOn ground.now.plane.now (map (λ out. out.items) outputs.items)) }
     ensures accepted { IfOk result (λ outputs. RefusesIn (RefusesLayer (base_of ground.now) layers.now action.now) (targets command.now.target layers.now) None) }
     ensures stops { IfErr result (StopsAs (RefusesIn (RefusesLayer (base_of ground.now) layers.now action.now) (targets command.now.target layers.now))) }
 {
@@ -151,7 +159,9 @@ fn held_outputs(
     held: &Held,
 ) -> Result<Vec<Layer>, CommandStop>
     requires area { CutsBy (base_of ground.now) layers.now action.now area.now }
+    requires on { IsLayerOn ground.now.plane.now held.now.layer }
     ensures puts { IfOk result (λ outputs. PutsFor (base_of ground.now) layers.now command.now action.now held.now outputs.items) }
+    ensures on { IfOk result (λ outputs. AreLayersOn ground.now.plane.now outputs.items) }
     ensures accepted { IfOk result (λ outputs. RefusesHeld (base_of ground.now) layers.now command.now action.now held.now None) }
     ensures stops { IfErr result (StopsAs (RefusesHeld (base_of ground.now) layers.now command.now action.now held.now)) }
 {
@@ -213,7 +223,9 @@ fn layer_outputs(
     layer: &Layer,
 ) -> Result<Vec<Layer>, CommandStop>
     requires area { CutsBy (base_of ground.now) layers.now action.now area.now }
+    requires on { IsLayerOn ground.now.plane.now layer.now }
     ensures puts { IfOk result (λ outputs. PutsOut (base_of ground.now) layers.now action.now layer.now outputs.items) }
+    ensures on { IfOk result (λ outputs. AreLayersOn ground.now.plane.now outputs.items) }
     ensures accepted { IfOk result (λ outputs. RefusesLayer (base_of ground.now) layers.now action.now layer.now None) }
     ensures stops { IfErr result (StopsAs (RefusesLayer (base_of ground.now) layers.now action.now layer.now)) }
 {
@@ -222,7 +234,7 @@ fn layer_outputs(
         LayerAction::Clip { .. } => one(alloc, cut(alloc, plane, layer, area, CutKeeps::Inside)?),
         LayerAction::Erase { .. } => one(alloc, cut(alloc, plane, layer, area, CutKeeps::Outside)?),
         LayerAction::Dissolve { spec, group_points } => {
-            one(alloc, dissolved(alloc, plane, layer, spec, *group_points)?)
+            one(alloc, dissolved(alloc, layer, spec, *group_points)?)
         }
         LayerAction::Clean {
             rule,
@@ -335,6 +347,7 @@ fn joined_with(
 
 fn one(alloc: Global, layer: Layer) -> Result<Vec<Layer>, CommandStop>
     ensures one { IfOk result (λ outputs. outputs.items ≡ layer ∷ []) }
+    ensures on { (plane : Plane) → IsLayerOn plane layer → IfOk result (λ outputs. AreLayersOn plane outputs.items) }
     ensures memory { IfErr result (λ stop. stop ≡ CommandStop.Memory) }
 {
     Ok(one_output(alloc, layer)?)

@@ -31,7 +31,7 @@ on_grid table (arcs.Polygons polygons) = geo.Polygons (map (map (points_along ta
 on_grid table (arcs.Lines paths) = geo.Lines (map (points_along table) paths)
 on_grid table (arcs.Points points) = geo.Points points
 
--- a shape drawn on the grid: what it has on the plane, in points
+-- a shape drawn on the grid: as arcs, and these in points
 pub record IsDrawn (plane : Plane) (shape : Shape) (drawn : GeoShape) : Type 0 where
   pub traced : ArcShape
   pub traces : IsTraced plane shape traced

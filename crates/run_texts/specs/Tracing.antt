@@ -11,7 +11,6 @@ use Rattle.ring_trace.specs.Ways.{IsSimpleRing}
 use Rattle.topo_io.specs.ArcLayerContent.{ArcLayerContent}
 use Rattle.topo_io.specs.declared.arc_layer.ArcShape.{ArcShape}
 use Rattle.topo_io.specs.declared.arc_layer.ArcShape.TheVariants as arcs
-use Rattle.run_plane.specs.OnPlane.{faces_on, paths_on}
 use Rattle.run_plane.specs.declared.layer.Layer.{Layer}
 use Rattle.run_plane.specs.declared.layer.Shape.{Shape}
 use Rattle.run_plane.specs.declared.layer.Shape.TheVariants as shape
@@ -49,11 +48,11 @@ abbrev pub points_alone : Path → ArcShape
 points_alone [] = arcs.Nothing
 points_alone (point ∷ points) = arcs.Points (point ∷ points)
 
--- what a shape has on the plane
+-- a shape, as arcs
 abbrev pub IsTraced : Plane → Shape → ArcShape → Type 0
 IsTraced plane shape.Nothing traced = traced ≡ arcs.Nothing
-IsTraced plane (shape.Faces set) traced = AreTraced plane (faces_on plane (shape.Faces set)) traced
-IsTraced plane (shape.Paths paths) traced = traced ≡ lines_along (paths_on plane (shape.Paths paths))
+IsTraced plane (shape.Faces set) traced = AreTraced plane set traced
+IsTraced plane (shape.Paths paths) traced = traced ≡ lines_along paths
 IsTraced plane (shape.Points points) traced = traced ≡ points_alone points
 
 -- a layer of the same name, kind and table, with the shapes as arcs

@@ -1,7 +1,8 @@
 ghost use Rattle.std.specs.Prelude.{◌≡◌, ℕ, All, IfOk, length};
 ghost use Rattle.std.specs.List.{AllZip};
 ghost use Rattle.topo_io.specs.Arcs.{LayerIsBelow, ShapeIsBelow};
-ghost use Rattle.run_plane.specs.OnPlane.{list_on, set_on};
+ghost use Rattle.ring_trace.specs.Sets.{IsSetOf};
+ghost use Rattle.run_plane.specs.OnPlane.{AreBelow, AreOn, IsLayerOn, IsOn};
 ghost use Rattle.run_texts.specs.Tracing.{AreTraced, IsTraced, IsTracedLayer, lines_along, points_alone};
 
 use arc_table::SignedPaths;
@@ -18,6 +19,7 @@ pub(crate) fn arc_layer_of(
     plane: &Plane,
     layer: &Layer,
 ) -> Result<ArcLayer, AllocError>
+    requires on { IsLayerOn plane.now layer.now }
     ensures below { IfOk result (LayerIsBelow (length plane.now.arcs)) }
     ensures traced { IfOk result (IsTracedLayer plane.now layer.now) }
 {
@@ -31,6 +33,7 @@ pub(crate) fn arc_layer_of(
 }
 
 fn arc_shapes(alloc: Global, plane: &Plane, shapes: &[Shape]) -> Result<ArcShapeList, AllocError>
+    requires on { AreOn plane.now shapes.now }
     ensures count { IfOk result (λ traced. length traced ≡ length shapes.now) }
     ensures below { IfOk result (All (ShapeIsBelow (length plane.now.arcs))) }
     ensures traced { IfOk result (AllZip (IsTraced plane.now) shapes.now) }
@@ -42,8 +45,9 @@ fn arc_shapes(alloc: Global, plane: &Plane, shapes: &[Shape]) -> Result<ArcShape
     Ok(traced)
 }
 
-/// A shape as arcs of the plane; nothing for one that is empty, or not on the plane.
+/// A shape as arcs of the plane; nothing for one that is empty.
 pub(crate) fn arc_shape(alloc: Global, plane: &Plane, shape: &Shape) -> Result<ArcShape, AllocError>
+    requires on { IsOn plane.now shape.now }
     ensures below { IfOk result (ShapeIsBelow (length plane.now.arcs)) }
     ensures traced { IfOk result (IsTraced plane.now shape.now) }
 {
@@ -55,30 +59,26 @@ pub(crate) fn arc_shape(alloc: Global, plane: &Plane, shape: &Shape) -> Result<A
     }
 }
 
-#[tactic(auto, using(crate::proofs::Tracing::none_traced, crate::proofs::Tracing::foreign_traced, crate::proofs::Tracing::rings_traced))]
+#[tactic(auto, using(crate::proofs::Tracing::none_traced, crate::proofs::Tracing::rings_traced))]
 fn rings_round(alloc: Global, plane: &Plane, faces: &FaceSet) -> Result<ArcShape, AllocError>
+    requires on { IsSetOf plane.now.faces faces.now }
     ensures below { IfOk result (ShapeIsBelow (length plane.now.arcs)) }
-    ensures traced { IfOk result (AreTraced plane.now (set_on plane.now faces.now)) }
+    ensures traced { IfOk result (AreTraced plane.now faces.now) }
 {
     if faces.is_empty() {
-        return Ok(ArcShape::Nothing);
-    }
-    if !plane.has_all(faces) {
         return Ok(ArcShape::Nothing);
     }
     let polygons = trace(alloc, &plane.arcs, &plane.faces, faces)?;
     Ok(ArcShape::Polygons(polygons))
 }
 
-#[tactic(auto, using(crate::proofs::Tracing::no_lines, crate::proofs::Tracing::foreign_lines, crate::proofs::Tracing::some_lines))]
+#[tactic(auto, using(crate::proofs::Tracing::no_lines, crate::proofs::Tracing::some_lines))]
 fn lines_along(alloc: Global, plane: &Plane, paths: &SignedPaths) -> Result<ArcShape, AllocError>
+    requires on { AreBelow (length plane.now.arcs) paths.now }
     ensures below { IfOk result (ShapeIsBelow (length plane.now.arcs)) }
-    ensures traced { IfOk result (λ traced. traced ≡ lines_along (list_on plane.now paths.now)) }
+    ensures traced { IfOk result (λ traced. traced ≡ lines_along paths.now) }
 {
     if paths.len() == 0 {
-        return Ok(ArcShape::Nothing);
-    }
-    if !plane.has_arcs(paths) {
         return Ok(ArcShape::Nothing);
     }
     let lines = copy_paths(alloc, paths)?;

@@ -2,6 +2,7 @@ ghost use Rattle.std.specs.Prelude.{◌≡◌, ◌<◌, ◌==◌, ◌++◌, All,
 ghost use Rattle.std.specs.List.{AllZip};
 ghost use Rattle.plane_model.specs.Arcs.{points_of};
 ghost use Rattle.topo_io.specs.Arcs.{ShapeIsBelow};
+ghost use Rattle.run_plane.specs.OnPlane.{AreOn, IsLayerOn, IsOn};
 ghost use Rattle.run_texts.specs.Pictures.{IsDrawn, IsPicture, on_grid, points_along, without_shared};
 
 use crate::arc_pictures::arc_shape;
@@ -19,6 +20,7 @@ pub(crate) fn picture_of(
     plane: &Plane,
     layer: &Layer,
 ) -> Result<GeoLayer, AllocError>
+    requires on { IsLayerOn plane.now layer.now }
     ensures shows { IfOk result (IsPicture plane.now layer.now) }
 {
     let shapes = shapes_of(alloc, plane, &layer.shapes)?;
@@ -31,6 +33,7 @@ pub(crate) fn picture_of(
 }
 
 fn shapes_of(alloc: Global, plane: &Plane, shapes: &[Shape]) -> Result<GeoShapeList, AllocError>
+    requires on { AreOn plane.now shapes.now }
     ensures count { IfOk result (λ drawn. length drawn ≡ length shapes.now) }
     ensures drawn { IfOk result (AllZip (IsDrawn plane.now) shapes.now) }
 {
@@ -42,6 +45,7 @@ fn shapes_of(alloc: Global, plane: &Plane, shapes: &[Shape]) -> Result<GeoShapeL
 }
 
 fn shape_of(alloc: Global, plane: &Plane, shape: &Shape) -> Result<GeoShape, AllocError>
+    requires on { IsOn plane.now shape.now }
     ensures drawn { IfOk result (IsDrawn plane.now shape.now) }
 {
     let traced = arc_shape(alloc, plane, shape)?;

@@ -1,7 +1,9 @@
 ghost use Rattle.std.specs.Prelude.{◌≡◌, ◌≤◌, ◌++◌, ◌∷◌, [], All, IfErr, IfOk, None, false, length, map, not, string_bytes, true};
 ghost use Rattle.std.specs.List.{AllZip};
+ghost use Rattle.grid_base.specs.Grid.{most_places};
 ghost use Rattle.table_terms.specs.Names.{has_name};
 ghost use Rattle.topo_io.specs.Arcs.{LayerIsBelow};
+ghost use Rattle.run_state.specs.OnPlane.{AreHeldOn};
 ghost use Rattle.run_state.specs.Origins.{base_of, one_layer};
 ghost use Rattle.run_state.specs.Stops.{StopsFor};
 ghost use Rattle.run_state.specs.Targets.{has_target, targets};
@@ -28,7 +30,8 @@ pub fn output_text(
     target: &Target,
     form: OutForm,
 ) -> Result<Bytes, CommandStop>
-    requires { ground.now.places ≤ 7 }
+    requires places { ground.now.places ≤ most_places }
+    requires on { AreHeldOn ground.now.plane.now layers.now }
     ensures says { IfOk result (OutputSays (base_of ground.now) form (targets target.now layers.now)) }
     ensures there { IfOk result (λ text. has_target target.now layers.now ≡ true) }
     ensures absent { has_target target.now layers.now ≡ false → result ≡ Err (CommandStop.Refused RefuseWhy.NoLayer) }
@@ -48,7 +51,8 @@ fn text_of(
     target: &Target,
     form: OutForm,
 ) -> Result<Bytes, CommandStop>
-    requires { ground.now.places ≤ 7 }
+    requires places { ground.now.places ≤ most_places }
+    requires on { AreHeldOn ground.now.plane.now layers.now }
     ensures says { IfOk result (OutputSays (base_of ground.now) form (targets target.now layers.now)) }
     ensures accepted { IfOk result (λ text. refused_form form (targets target.now layers.now) ≡ None) }
     ensures stops { IfErr result (StopsFor (refused_form form (targets target.now layers.now))) }
@@ -66,7 +70,8 @@ fn geo_text(
     layers: &[Held],
     target: &Target,
 ) -> Result<Bytes, CommandStop>
-    requires { ground.now.places ≤ 7 }
+    requires places { ground.now.places ≤ most_places }
+    requires on { AreHeldOn ground.now.plane.now layers.now }
     ensures says { IfOk result (IsGeoText (base_of ground.now) (targets target.now layers.now)) }
     ensures accepted { IfOk result (λ text. refused_one (targets target.now layers.now) ≡ None) }
     ensures stops { IfErr result (StopsFor (refused_one (targets target.now layers.now))) }
@@ -97,7 +102,8 @@ fn topology_text(
     layers: &[Held],
     target: &Target,
 ) -> Result<Bytes, CommandStop>
-    requires { ground.now.places ≤ 7 }
+    requires places { ground.now.places ≤ most_places }
+    requires on { AreHeldOn ground.now.plane.now layers.now }
     ensures says { IfOk result (IsTopoText (base_of ground.now) (targets target.now layers.now)) }
     ensures accepted { IfOk result (λ text. refused_names (targets target.now layers.now) ≡ None) }
     ensures stops { IfErr result (StopsFor (refused_names (targets target.now layers.now))) }
@@ -156,6 +162,7 @@ fn arc_layers(
     all: &[Held],
     target: &Target,
 ) -> Result<ArcLayers, AllocError>
+    requires on { AreHeldOn plane.now all.now }
     ensures below { IfOk result (All (LayerIsBelow (length plane.now.arcs))) }
     ensures each { IfOk result (AllZip (IsTracedLayer plane.now) (targets target.now all.now)) }
 {

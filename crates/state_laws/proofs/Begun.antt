@@ -14,7 +14,6 @@ use Rattle.plane_model.specs.Drawing.{Drawing, paths_of}
 use Rattle.plane_model.specs.Snapped.{snapped, snapped_path}
 use Rattle.plane_model.specs.Hot.{hot_points}
 use Rattle.arc_table.specs.Nodes.{IsLineOf as IsDrawnLine}
-use Rattle.arc_table.specs.PathArcs.{AreArcsAlong}
 use Rattle.grid_base.specs.Grid.{Corners}
 use Rattle.grid_base.specs.declared.kinds.Kind.{Kind}
 use Rattle.grid_base.specs.declared.kinds.Kind.TheVariants as kinds
@@ -27,20 +26,20 @@ use Rattle.cmd_words.specs.declared.job.Owner.TheVariants as owner
 use Rattle.cmd_words.specs.declared.job.SourceWord.{SourceWord}
 use Rattle.face_walk.specs.Holders.{list_at}
 use Rattle.region_model.specs.Region.{feature}
-use Rattle.line_laws.specs.Linked.{AreLinked, AreThere, points_along}
+use Rattle.line_laws.specs.Linked.{AreLinked, AreThere}
 use Rattle.line_laws.proofs.LinkedArcs.{lines_are_linked}
 use Rattle.run_plane.specs.declared.layer.Layer.{Layer}
 use Rattle.run_plane.specs.declared.layer.Shape.{Shape}
 use Rattle.run_plane.specs.declared.layer.Shape.TheVariants as shape
 use Rattle.run_beginning.specs.Drawing as run
-use Rattle.run_beginning.specs.BegunLayers.{AreBegun, AreBegunOfEach, AreLineArcs, AreShapes, IsBegunLayer, IsLineOf, Left, behind, behind_all, face_shape, has_links, imported, line_count, of_command, of_import, owned, point_shape, polygon_count, row_shape}
+use Rattle.run_beginning.specs.BegunLayers.{AreArcsOfPath, AreBegun, AreBegunOfEach, AreLineArcs, AreShapes, IsBegunLayer, IsLineOf, Left, behind, behind_all, face_shape, has_links, imported, line_count, of_command, of_import, owned, point_shape, polygon_count, row_shape}
 use Rattle.chain_model.specs.State as state
 use Rattle.chain_model.specs.State.{StateLayer}
 use Rattle.chain_model.specs.Beginning as state_of
 use Rattle.chain_model.specs.Beginning.{command_layers, count_of, first_layer, first_layers, first_shape, first_sources, import_layers, is_import, shapes_of}
-use Rattle.state_laws.specs.Shown.{View, IsView, AreVertices, FacesShow, LayerShows, ShapeShows, SourcesShow, plane_of}
+use Rattle.state_laws.specs.Shown.{View, IsView, ArcsShow, AreVertices, FacesShow, LayerShows, ShapeShows, SourcesShow, plane_of}
 use Rattle.state_laws.specs.Views.{IsViewOf, ShowEach}
-use Rattle.state_laws.specs.Beginnings.{AreLinesThere, BeginningShows, BeginningsShow, DrawingsAreOne, HasArcsThere, drawing_by, owners_of}
+use Rattle.state_laws.specs.Beginnings.{BeginningShows, BeginningsShow, DrawingsAreOne, drawing_by, owners_of}
 use Rattle.state_laws.proofs.Views.{views_exist}
 use Rattle.state_laws.proofs.Zipped.{zip_joined}
 
@@ -167,17 +166,20 @@ module _ (v : View) (view : IsView v) (features : List (List ℕ)) (show : ShowE
 
   -- ---- lines
 
-  -- lines of the drawing with a link, and arcs along them that are there
-  lines_link : (lines : List Path) → All (λ (line : Path). IsDrawnLine (snapped v.drawing) line × (1 < length line)) lines → (named : List (List SignedArc)) → AllZip (AreArcsAlong v.arcs) lines named → All (AreThere v.arcs) named →
-      All (AreLinked v.arcs) named × (lines ≡ points_along v.arcs named)
-  lines_link [] drawn [] along there = (All-nil (AreLinked v.arcs), refl)
-  lines_link [] drawn (a ∷ named) along there = absurd along
-  lines_link (line ∷ lines) drawn [] along there = absurd along
-  lines_link (line ∷ lines) drawn (a ∷ named) along there =
+  -- lines of the drawing with a link, and arcs along them
+  lines_link : (lines : List Path) → All (λ (line : Path). IsDrawnLine (snapped v.drawing) line × (1 < length line)) lines → (named : List (List SignedArc)) → AllZip (AreArcsOfPath v.arcs) lines named → ArcsShow v named lines
+  lines_link [] drawn [] along = record { there = All-nil (AreThere v.arcs); linked = All-nil (AreLinked v.arcs); along = refl }
+  lines_link [] drawn (a ∷ named) along = absurd along
+  lines_link (line ∷ lines) drawn [] along = absurd along
+  lines_link (line ∷ lines) drawn (a ∷ named) along =
       let (is, long) = All-head (λ (line : Path). IsDrawnLine (snapped v.drawing) line × (1 < length line)) line lines drawn in
-      let (linked, joined) = lines_are_linked v.drawing v.arcs view.walked.table line is long a (All-head (AreThere v.arcs) a named there) (along.0 (snapped v.drawing) view.walked.table (inl is)) in
-      let (all, rest) = lines_link lines (All-tail (λ (line : Path). IsDrawnLine (snapped v.drawing) line × (1 < length line)) line lines drawn) named along.1 (All-tail (AreThere v.arcs) a named there) in
-      (All-cons (AreLinked v.arcs) a named linked all, λ i. sym joined i ∷ rest i)
+      let (linked, joined) = lines_are_linked v.drawing v.arcs view.walked.table line is long a along.0.there (along.0.along (snapped v.drawing) view.walked.table (inl is)) in
+      let rest = lines_link lines (All-tail (λ (line : Path). IsDrawnLine (snapped v.drawing) line × (1 < length line)) line lines drawn) named along.1 in
+      record {
+        there = All-cons (AreThere v.arcs) a named along.0.there rest.there;
+        linked = All-cons (AreLinked v.arcs) a named linked rest.linked;
+        along = λ i. sym joined i ∷ rest.along i;
+      }
 
   line_drawn : (n : ℕ) → All (λ (line : Path). IsDrawnLine (snapped v.drawing) line × (1 < length line)) (filter has_links (get_or all_lines n []))
   line_drawn n k d l = go (cases_lt n (length all_lines))
@@ -191,24 +193,26 @@ module _ (v : View) (view : IsView v) (features : List (List ℕ)) (show : ShowE
           (Contains-joined_up all_lines (get_or all_lines n []) line (Contains-get_or all_lines n [] below) there, ltb-true 1 (length line) long)
       go (inr past) = absurd (let none : length (filter has_links (get_or all_lines n [])) ≡ 0 = ap (λ (lines : List Path). length (filter has_links lines)) (get_or_past all_lines n [] past) in omega (arith, none, l))
 
-  line_shows : (m n i : ℕ) → n ≡ m + i → (held : Shape) → IsLineOf v.arcs (drop m all_lines) i held → HasArcsThere v.arcs held → ShapeShows v kinds.Line held (state.paths (filter has_links (get_or all_lines n [])))
-  line_shows m n i same (shape.Paths named) along there =
+  line_shows : (m n i : ℕ) → n ≡ m + i → (held : Shape) → IsLineOf v.arcs (drop m all_lines) i held → ShapeShows v kinds.Line held (state.paths (filter has_links (get_or all_lines n [])))
+  line_shows m n i same (shape.Paths named) along =
       let at : get_or (drop m all_lines) i [] ≡ get_or all_lines n [] = get_or-drop m all_lines i [] ∙ ap (λ (k : ℕ). get_or all_lines k []) (sym same) in
-      let (linked, joined) = lines_link (filter has_links (get_or all_lines n [])) (line_drawn n) named (subst (λ (lines : List Path). AreLineArcs v.arcs lines named) at along) there in
-      record { named = named; paths = filter has_links (get_or all_lines n []); has = refl; is = refl; shows = record { there = there; linked = linked; along = joined } }
-  line_shows m n i same shape.Nothing along there = absurd along
-  line_shows m n i same (shape.Faces set) along there = absurd along
-  line_shows m n i same (shape.Points points) along there = absurd along
+      record {
+        named = named;
+        paths = filter has_links (get_or all_lines n []);
+        has = refl;
+        is = refl;
+        shows = lines_link (filter has_links (get_or all_lines n [])) (line_drawn n) named (subst (λ (lines : List Path). AreLineArcs v.arcs lines named) at along);
+      }
+  line_shows m n i same shape.Nothing along = absurd along
+  line_shows m n i same (shape.Faces set) along = absurd along
+  line_shows m n i same (shape.Points points) along = absurd along
 
-  lines_show : (given : List GeoShape) (held : List Shape) (m n i : ℕ) → n ≡ m + i → AllZip (IsLineOf v.arcs (drop m all_lines)) (range_with_len i (length given)) held → All (HasArcsThere v.arcs) held →
+  lines_show : (given : List GeoShape) (held : List Shape) (m n i : ℕ) → n ≡ m + i → AllZip (IsLineOf v.arcs (drop m all_lines)) (range_with_len i (length given)) held →
       AllZip (ShapeShows v kinds.Line) held (map (first_of kinds.Line) (enumerate_from n given))
-  lines_show [] [] m n i same along there = tt
-  lines_show [] (h ∷ held) m n i same along there = absurd along
-  lines_show (s ∷ given) [] m n i same along there = absurd along
-  lines_show (s ∷ given) (h ∷ held) m n i same along there = (
-    line_shows m n i same h along.0 (All-head (HasArcsThere v.arcs) h held there),
-    lines_show given held m (n + 1) (i + 1) (omega (arith, same)) along.1 (All-tail (HasArcsThere v.arcs) h held there),
-  )
+  lines_show [] [] m n i same along = tt
+  lines_show [] (h ∷ held) m n i same along = absurd along
+  lines_show (s ∷ given) [] m n i same along = absurd along
+  lines_show (s ∷ given) (h ∷ held) m n i same along = (line_shows m n i same h along.0, lines_show given held m (n + 1) (i + 1) (omega (arith, same)) along.1)
 
   -- ---- points and rows
 
@@ -235,31 +239,31 @@ module _ (v : View) (view : IsView v) (features : List (List ℕ)) (show : ShowE
   AreDrawn kinds.Point given n = All HasVertices given
   AreDrawn kinds.Table given n = ⊤
 
-  shapes_show : (k : Kind) (before : List LayerContent) (left : Left) → IsLeft before left → (given : List GeoShape) (held : List Shape) → AreShapes v.arcs left k given held → All (HasArcsThere v.arcs) held →
+  shapes_show : (k : Kind) (before : List LayerContent) (left : Left) → IsLeft before left → (given : List GeoShape) (held : List Shape) → AreShapes v.arcs left k given held →
       AreDrawn k given (count_of k before) → AllZip (ShapeShows v k) held (map (first_of k) (enumerate_from (count_of k before) given))
-  shapes_show kinds.Polygon before left is given held are there drawn =
+  shapes_show kinds.Polygon before left is given held are drawn =
       let n : ℕ = count_of kinds.Polygon before in
       subst (λ (begun : List Shape). AllZip (ShapeShows v kinds.Polygon) begun (map (first_of kinds.Polygon) (enumerate_from n given)))
       (ap (λ (sets : List (List ℕ)). map (face_shape sets) (range_with_len 0 (length given))) (sym is.faces) ∙ sym are)
       (polygons_show given n n 0 (omega arith) drawn)
-  shapes_show kinds.Line before left is given held are there drawn =
+  shapes_show kinds.Line before left is given held are drawn =
       let n : ℕ = count_of kinds.Line before in
-      lines_show given held n n 0 (omega arith) (subst (λ (lines : List (List Path)). AllZip (IsLineOf v.arcs lines) (range_with_len 0 (length given)) held) is.lines are) there
-  shapes_show kinds.Point before left is given held are there drawn =
+      lines_show given held n n 0 (omega arith) (subst (λ (lines : List (List Path)). AllZip (IsLineOf v.arcs lines) (range_with_len 0 (length given)) held) is.lines are)
+  shapes_show kinds.Point before left is given held are drawn =
       subst (λ (begun : List Shape). AllZip (ShapeShows v kinds.Point) begun (map (first_of kinds.Point) (enumerate_from (count_of kinds.Point before) given))) (sym are)
       (points_show given (count_of kinds.Point before) drawn)
-  shapes_show kinds.Table before left is given held are there drawn =
+  shapes_show kinds.Table before left is given held are drawn =
       subst (λ (begun : List Shape). AllZip (ShapeShows v kinds.Table) begun (map (first_of kinds.Table) (enumerate_from (count_of kinds.Table before) given))) (sym are)
       (rows_show given (count_of kinds.Table before))
 
-  layer_shows : (before : List LayerContent) (left : Left) → IsLeft before left → (l : LayerContent) → AreDrawn l.kind l.shapes (count_of l.kind before) → (held : Layer) → IsBegunLayer v.arcs left l held → AreLinesThere v.arcs held →
+  layer_shows : (before : List LayerContent) (left : Left) → IsLeft before left → (l : LayerContent) → AreDrawn l.kind l.shapes (count_of l.kind before) → (held : Layer) → IsBegunLayer v.arcs left l held →
       LayerShows v held (first_layer (plane_of v) before l)
-  layer_shows before left is l drawn held begun there = record {
+  layer_shows before left is l drawn held begun = record {
     name = sym begun.name;
     kind = sym begun.kind;
     table = sym begun.table;
     shapes = subst (λ (k : Kind). AllZip (ShapeShows v k) held.shapes.items (map (first_of l.kind) (enumerate_from (count_of l.kind before) l.shapes))) (sym begun.kind)
-        (shapes_show l.kind before left is l.shapes held.shapes.items begun.shapes there drawn);
+        (shapes_show l.kind before left is l.shapes held.shapes.items begun.shapes drawn);
   }
 
   module _ (total : List LayerContent) (whole : count_of kinds.Polygon total ≡ length features) (vertices : (l : LayerContent) → Contains total l → l.kind ≡ kinds.Point → All HasVertices l.shapes) where
@@ -292,30 +296,26 @@ module _ (v : View) (view : IsView v) (features : List (List ℕ)) (show : ShowE
         omega (arith, first, one, both, room)
 
     layers_show : (ls before : List LayerContent) (left : Left) → IsLeft before left → ((l : LayerContent) → Contains ls l → Contains total l) → RoomFor before ls →
-        (held : List Layer) → AreBegun v.arcs left ls held → All (AreLinesThere v.arcs) held → AllZip (LayerShows v) held (first_layers (plane_of v) before ls)
-    layers_show [] before left is within room [] begun there = tt
-    layers_show [] before left is within room (h ∷ held) begun there = absurd begun
-    layers_show (l ∷ ls) before left is within room [] begun there = absurd begun
-    layers_show (l ∷ ls) before left is within room (h ∷ held) begun there =
+        (held : List Layer) → AreBegun v.arcs left ls held → AllZip (LayerShows v) held (first_layers (plane_of v) before ls)
+    layers_show [] before left is within room [] begun = tt
+    layers_show [] before left is within room (h ∷ held) begun = absurd begun
+    layers_show (l ∷ ls) before left is within room [] begun = absurd begun
+    layers_show (l ∷ ls) before left is within room (h ∷ held) begun =
         let first = first_counted l ls in (
-          layer_shows before left is l (drawn_of before l (within l (Contains-head l ls)) (omega (arith, first, room))) h begun.0 (All-head (AreLinesThere v.arcs) h held there),
-          layers_show ls (before ++ l ∷ []) (behind l left) (left_behind before left is l) (λ m c. within m (Contains-later l ls m c)) (room_behind before l ls room) held begun.1 (All-tail (AreLinesThere v.arcs) h held there),
+          layer_shows before left is l (drawn_of before l (within l (Contains-head l ls)) (omega (arith, first, room))) h begun.0,
+          layers_show ls (before ++ l ∷ []) (behind l left) (left_behind before left is l) (λ m c. within m (Contains-later l ls m c)) (room_behind before l ls room) held begun.1,
         )
 
-    abbrev AreAllThere : List (List Layer) → Type 0
-    AreAllThere held = All (All (AreLinesThere v.arcs)) held
-
     sources_show : (given : List (List LayerContent)) (before : List LayerContent) (left : Left) → IsLeft before left → ((l : LayerContent) → Contains (joined_up given) l → Contains total l) → RoomFor before (joined_up given) →
-        (held : List (List Layer)) → AreBegunOfEach v.arcs left given held → AreAllThere held → SourcesShow v held (first_sources (plane_of v) before given)
-    sources_show [] before left is within room [] begun there = tt
-    sources_show [] before left is within room (h ∷ held) begun there = absurd begun
-    sources_show (ls ∷ given) before left is within room [] begun there = absurd begun
-    sources_show (ls ∷ given) before left is within room (h ∷ held) begun there =
+        (held : List (List Layer)) → AreBegunOfEach v.arcs left given held → SourcesShow v held (first_sources (plane_of v) before given)
+    sources_show [] before left is within room [] begun = tt
+    sources_show [] before left is within room (h ∷ held) begun = absurd begun
+    sources_show (ls ∷ given) before left is within room [] begun = absurd begun
+    sources_show (ls ∷ given) before left is within room (h ∷ held) begun =
         let all = counted kinds.Polygon ls (joined_up given) in
         let both = counted kinds.Polygon before ls in (
-          layers_show ls before left is (λ l c. within l (Contains-append_left ls (joined_up given) l c)) (omega (arith, all, room)) h begun.0 (All-head (All (AreLinesThere v.arcs)) h held there),
-          sources_show given (before ++ ls) (behind_all ls left) (left_behind_all ls before left is) (λ l c. within l (Contains-append_right ls (joined_up given) l c)) (omega (arith, all, both, room)) held begun.1
-              (All-tail (All (AreLinesThere v.arcs)) h held there),
+          layers_show ls before left is (λ l c. within l (Contains-append_left ls (joined_up given) l c)) (omega (arith, all, room)) h begun.0,
+          sources_show given (before ++ ls) (behind_all ls left) (left_behind_all ls before left is) (λ l c. within l (Contains-append_right ls (joined_up given) l c)) (omega (arith, all, both, room)) held begun.1,
         )
 
   -- ---- the drawing has their features
@@ -366,7 +366,7 @@ module _ (v : View) where
       go (owner.Command n) = show.0
 
 pub beginnings_show : BeginningsShow
-beginnings_show given corners paths words arcs faces boxes layers sources over there = go (views_exist (drawing_by given corners) arcs faces boxes over.features paths over.laid)
+beginnings_show given corners words arcs faces boxes layers sources over = go (views_exist (drawing_by given corners) arcs faces boxes over.features over.laid)
   where
     total : List LayerContent
     total = joined_up given
@@ -384,7 +384,7 @@ beginnings_show given corners paths words arcs faces boxes layers sources over t
         let each : length over.features ≡ length (snapped v.drawing).polygons = over.laid.held.of_features.each ∙ ap (λ (d : Drawing). length (snapped d).polygons) (sym is.of_drawing) in
         let whole = all_counted v is.is_view over.features is.of_features total corners drawn each in
         sources_show v is.is_view over.features is.of_features total whole (vertices_drawn v is.is_view over.features is.of_features total corners drawn) given [] (record { faces = over.features; lines = (snapped v.drawing).lines })
-        (record { faces = refl; lines = refl }) (λ l c. c) (omega (arith, whole)) held begun (subst (λ (table : List Path). All (All (AreLinesThere table)) held) (sym is.of_arcs) there)
+        (record { faces = refl; lines = refl }) (λ l c. c) (omega (arith, whole)) held begun
 
     go : (v : View) × IsViewOf (drawing_by given corners) arcs faces boxes over.features v → (v : View) × IsViewOf (drawing_by given corners) arcs faces boxes over.features v × BeginningShows v words given layers sources
     go (v, is) =

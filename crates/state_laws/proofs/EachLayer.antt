@@ -85,15 +85,23 @@ one_more : (first : Outputs) (rest : Result (List (List StateLayer)) state.Refus
     on_ok first (λ (o : List StateLayer). on_ok rest (λ (os : List (List StateLayer)). Ok (o ∷ os))) ≡ Ok (out ∷ outs)
 one_more first rest out outs e f = λ i. on_ok (e i) (λ (o : List StateLayer). on_ok (f i) (λ (os : List (List StateLayer)). Ok (o ∷ os)))
 
--- whatever a run makes of a layer shows what a state answers, and where it refuses it so does the state
+-- whatever a run makes of a layer that it doesn't refuse shows what a state answers, and where it refuses it so does the state
 pub record LayerAlike (v : View) (Makes : List Layer → Type 0) (Refuses : Option RefuseWhy → Type 0) (answer : Outputs) : Type 0 where
-  pub shows : (made : List Layer) → Makes made → OutputsShow v made answer
+  pub shows : Refuses None → (made : List Layer) → Makes made → OutputsShow v made answer
   pub refused : (refusal : Option RefuseWhy) → Refuses refusal → RefusedAlike refusal answer
 
 -- where one refusal is told
 pub alike_with : {v : View} {Makes : List Layer → Type 0} {refusal : Option RefuseWhy} {answer : Outputs} → MakesAlike v Makes refusal answer → LayerAlike v Makes (λ (told : Option RefuseWhy). refusal ≡ told) answer
 alike_with {answer} alike = record {
-  shows = alike.shows;
+  shows = λ none. alike.shows;
+  refused = λ told is. subst (λ (o : Option RefuseWhy). RefusedAlike o answer) is alike.refused;
+}
+
+-- and where what is made is told of layers that aren't refused
+pub alike_unless : {v : View} {Makes : List Layer → Type 0} {refusal : Option RefuseWhy} {answer : Outputs} → MakesAlike v (λ (made : List Layer). (refusal ≡ None) × Makes made) refusal answer →
+    LayerAlike v Makes (λ (told : Option RefuseWhy). refusal ≡ told) answer
+alike_unless {answer} alike = record {
+  shows = λ none made makes. alike.shows made (none, makes);
   refused = λ told is. subst (λ (o : Option RefuseWhy). RefusedAlike o answer) is alike.refused;
 }
 
@@ -108,16 +116,16 @@ module _ (v : View) (title : Option Content) (Makes : Layer → List Layer → T
     pub makes : Makes layer made
     pub are : AllZip (IsTitled title) made out
 
-  pub outputs_show : (ts : List Layer) (ls : List StateLayer) → AllZip Pairs ts ls → (outputs : List (List Layer)) → AllZip MakesTitled ts outputs →
+  pub outputs_show : (ts : List Layer) (ls : List StateLayer) → AllZip Pairs ts ls → RefusesIn Refuses ts None → (outputs : List (List Layer)) → AllZip MakesTitled ts outputs →
       (outs : List (List StateLayer)) × (each_layer f ls ≡ Ok outs) × AllZip (AllZip (LayerShows v)) outputs (map (map (titled title)) outs)
-  outputs_show [] [] pairs [] made = ([], refl, tt)
-  outputs_show [] [] pairs (out ∷ outputs) made = absurd made
-  outputs_show [] (l ∷ ls) pairs outputs made = absurd pairs
-  outputs_show (layer ∷ ts) [] pairs outputs made = absurd pairs
-  outputs_show (layer ∷ ts) (l ∷ ls) pairs [] made = absurd made
-  outputs_show (layer ∷ ts) (l ∷ ls) pairs (out ∷ outputs) made =
-      let first : OutputsShow v made.0.made (f l) = pairs.0.shows made.0.made made.0.makes in
-      let (outs, is, shown) = outputs_show ts ls pairs.1 outputs made.1 in
+  outputs_show [] [] pairs none [] made = ([], refl, tt)
+  outputs_show [] [] pairs none (out ∷ outputs) made = absurd made
+  outputs_show [] (l ∷ ls) pairs none outputs made = absurd pairs
+  outputs_show (layer ∷ ts) [] pairs none outputs made = absurd pairs
+  outputs_show (layer ∷ ts) (l ∷ ls) pairs none [] made = absurd made
+  outputs_show (layer ∷ ts) (l ∷ ls) pairs none (out ∷ outputs) made =
+      let first : OutputsShow v made.0.made (f l) = pairs.0.shows none.0 made.0.made made.0.makes in
+      let (outs, is, shown) = outputs_show ts ls pairs.1 none.1 outputs made.1 in
       (first.outputs ∷ outs, one_more (f l) (each_layer f ls) first.outputs outs first.answers is, (all_titled v title made.0.made first.outputs first.show out made.0.are, shown))
 
   -- ---- refusals

@@ -45,7 +45,7 @@ no_more : (o : Option state.RefuseWhy) → first_refusal o None ≡ o
 no_more None = refl
 no_more (Some why) = refl
 
-told_alike : (b : Bool) → ◌≡◌ {A = Option state.RefuseWhy} (if b then None else Some state.wrong_kind) (option_map why_of (if b then None else Some WrongKind))
+pub told_alike : (b : Bool) → ◌≡◌ {A = Option state.RefuseWhy} (if b then None else Some state.wrong_kind) (option_map why_of (if b then None else Some WrongKind))
 told_alike true = refl
 told_alike false = refl
 

@@ -17,7 +17,6 @@ use Rattle.line_laws.specs.Linked.{AreLinked, AreThere}
 use Rattle.line_laws.specs.Regions.{IsToldOf}
 use Rattle.line_laws.proofs.ByRegions.{paths_cut_by_regions, points_cut_by_regions}
 use Rattle.line_laws.proofs.LinkedArcs.{runs_are_linked}
-use Rattle.run_plane.specs.OnPlane.{list_on}
 use Rattle.run_plane.specs.declared.layer.Layer.{Layer}
 use Rattle.run_plane.specs.declared.layer.Shape.{Shape}
 use Rattle.run_plane.specs.declared.layer.Shape.TheVariants as shape
@@ -31,7 +30,6 @@ use Rattle.chain_model.specs.Features.{clip_shape, erase_shape, just}
 use Rattle.state_laws.specs.Shown.{View, IsView, ArcsShow, AreVertices, FacesShow, LayerShows, LineShows, NothingShows, PointsShow, ShapeShows, plane_of, IsSeenIn}
 use Rattle.state_laws.specs.Lines.{ClippedLinesShow, ErasedLinesShow}
 use Rattle.state_laws.proofs.Empty.{left_features_show}
-use Rattle.state_laws.proofs.OnPlane.{list_stays}
 use Rattle.state_laws.proofs.TableCommands.{one_shows}
 use Rattle.state_laws.proofs.Views.{view_faces}
 use Rattle.state_laws.proofs.Zipped.{zip_long}
@@ -127,8 +125,8 @@ module _ (v : View) (view : IsView v) (plane : Plane) (seen : IsSeenIn v plane) 
 
   line_cut : (k : CutKeeps) (held part : Shape) (s : state.Shape) → LineShows v held s → IsShapeLeft k plane area held part → LineShows v part (cut_shape k s)
   line_cut k held part s h left =
-      let cut : part ≡ shape.Paths (cut_paths k plane area (list_on plane h.named)) = subst (λ (held : Shape). IsShapeLeft k plane area held part) h.has left in
-      let on : cut_paths k plane area (list_on plane h.named) ≡ cut_runs k h.named = ap (cut_paths k plane area) (list_stays v view plane seen h.named h.shows.there) ∙ ap (λ (faces : FaceTable). flat_map (runs_where (stays_along k faces area)) h.named) seen.faces in
+      let cut : part ≡ shape.Paths (cut_paths k plane area h.named) = subst (λ (held : Shape). IsShapeLeft k plane area held part) h.has left in
+      let on : cut_paths k plane area h.named ≡ cut_runs k h.named = ap (λ (faces : FaceTable). flat_map (runs_where (stays_along k faces area)) h.named) seen.faces in
       subst (λ (part : Shape). LineShows v part (cut_shape k s)) (sym (cut ∙ ap shape.Paths on))
       (subst (λ (s : state.Shape). LineShows v (shape.Paths (cut_runs k h.named)) (cut_shape k s)) (sym h.is) (runs_show k h.named h.paths h.shows))
 

@@ -23,12 +23,10 @@ use Rattle.ring_trace.proofs.SetLemmas.{nat_order}
 use Rattle.region_model.specs.LineCommands.{dissolved_paths}
 use Rattle.line_laws.specs.Linked.{AreLinked, AreThere, along_one, arcs_along, points_along}
 use Rattle.line_laws.proofs.LinkedArcs.{lines_are_dissolved}
-use Rattle.run_plane.specs.OnPlane.{points_in}
-use Rattle.run_plane.specs.Shapes.{shape_at}
+use Rattle.run_plane.specs.Shapes.{points_in, shape_at}
 use Rattle.run_plane.specs.declared.layer.Layer.{Layer}
 use Rattle.run_plane.specs.declared.layer.Shape.{Shape}
 use Rattle.run_plane.specs.declared.layer.Shape.TheVariants as shape
-use Rattle.run_plane.specs.declared.plane.Plane.{Plane}
 use Rattle.run_shapes.specs.Dissolving.{IsGrouped, arcs_in, grouped_shapes, is_point, line_shape, member_arcs, no_shape, point_shape, refused_dissolve}
 use Rattle.run_state.specs.Stops.{table_refusal}
 use Rattle.run_state.specs.declared.refusal.RefuseWhy.{RefuseWhy}
@@ -190,12 +188,12 @@ module _ (v : View) (view : IsView v) where
 
   -- ---- layers
 
-  module _ (plane : Plane) (held : List Shape) (l : StateLayer) (groups : List (List ℕ)) where
-    as_its_kind : (k : Kind) → l.kind ≡ k → AllZip (ShapeShows v k) (grouped_shapes k plane held groups) (map (dissolved_shape (plane_of v) (record l { kind = k })) groups) →
-        AllZip (ShapeShows v k) (grouped_shapes k plane held groups) (map (dissolved_shape (plane_of v) l) groups)
-    as_its_kind k e shows = subst (λ (j : Kind). AllZip (ShapeShows v k) (grouped_shapes k plane held groups) (map (dissolved_shape (plane_of v) (record l { kind = j })) groups)) (sym e) shows
+  module _ (held : List Shape) (l : StateLayer) (groups : List (List ℕ)) where
+    as_its_kind : (k : Kind) → l.kind ≡ k → AllZip (ShapeShows v k) (grouped_shapes k held groups) (map (dissolved_shape (plane_of v) (record l { kind = k })) groups) →
+        AllZip (ShapeShows v k) (grouped_shapes k held groups) (map (dissolved_shape (plane_of v) l) groups)
+    as_its_kind k e shows = subst (λ (j : Kind). AllZip (ShapeShows v k) (grouped_shapes k held groups) (map (dissolved_shape (plane_of v) (record l { kind = j })) groups)) (sym e) shows
 
-    groups_show : (k : Kind) → l.kind ≡ k → (k ≡ kinds.Polygon → ⊥) → AllZip (ShapeShows v k) held l.shapes → AllZip (ShapeShows v k) (grouped_shapes k plane held groups) (map (dissolved_shape (plane_of v) l) groups)
+    groups_show : (k : Kind) → l.kind ≡ k → (k ≡ kinds.Polygon → ⊥) → AllZip (ShapeShows v k) held l.shapes → AllZip (ShapeShows v k) (grouped_shapes k held groups) (map (dissolved_shape (plane_of v) l) groups)
     groups_show kinds.Polygon e other shows = absurd (other refl)
     groups_show kinds.Line e other shows = as_its_kind kinds.Line e (each_made (LineShows v) (line_shape held) (dissolved_shape (plane_of v) (record l { kind = kinds.Line })) (line_groups held l shows) groups)
     groups_show kinds.Point e other shows = as_its_kind kinds.Point e (each_made (PointsShow v) (point_shape held) (dissolved_shape (plane_of v) (record l { kind = kinds.Point })) (point_groups held l shows) groups)
@@ -205,13 +203,13 @@ module _ (v : View) (view : IsView v) where
   abbrev grouped_of : StateLayer → Grouped → StateLayer
   grouped_of l g = record l { table = g.table; shapes = map (dissolved_shape (plane_of v) l) g.groups }
 
-  grouped_shows : (plane : Plane) (layer : Layer) (l : StateLayer) → LayerShows v layer l → (layer.kind ≡ kinds.Polygon → ⊥) → (spec : GroupSpec) (made : Layer) → (is : IsGrouped plane spec layer made) → LayerShows v made (grouped_of l is.grouped)
-  grouped_shows plane layer l h other spec made is = record {
+  grouped_shows : (layer : Layer) (l : StateLayer) → LayerShows v layer l → (layer.kind ≡ kinds.Polygon → ⊥) → (spec : GroupSpec) (made : Layer) → (is : IsGrouped spec layer made) → LayerShows v made (grouped_of l is.grouped)
+  grouped_shows layer l h other spec made is = record {
     name = h.name ∙ sym is.name;
     kind = h.kind ∙ sym is.kind;
     table = sym is.table;
-    shapes = shapes_in v layer made (grouped_shapes layer.kind plane layer.shapes.items is.grouped.groups) (map (dissolved_shape (plane_of v) l) is.grouped.groups)
-        (groups_show plane layer.shapes.items l is.grouped.groups layer.kind h.kind other h.shapes) is.kind is.shapes;
+    shapes = shapes_in v layer made (grouped_shapes layer.kind layer.shapes.items is.grouped.groups) (map (dissolved_shape (plane_of v) l) is.grouped.groups)
+        (groups_show layer.shapes.items l is.grouped.groups layer.kind h.kind other h.shapes) is.kind is.shapes;
   }
 
   -- ---- refusals
@@ -246,12 +244,12 @@ module _ (v : View) (view : IsView v) where
       λ i. answer_of l (refused i) (group_rows (table i) spec)
 
 pub grouped_lines_show : GroupedLinesShow
-grouped_lines_show v view plane layer l h other spec group_points =
+grouped_lines_show v view layer l h other spec group_points =
     let refused : Bool = is_point layer.kind && not group_points in
     let answer : Result Grouped TableWhy = group_rows layer.table spec in
     let same = same_answer v view layer l h spec group_points in
     record {
       shows = λ made makes. subst (OutputsShow v made) same
-          (one_shows v (IsGrouped plane spec layer) (answer_of v view l refused answer) (λ one is. (grouped_of v view l is.grouped, answers_so v view l refused answer is.grouped makes.0 is.answers, grouped_shows v view plane layer l h other spec one is)) made makes.1);
+          (one_shows v (IsGrouped spec layer) (answer_of v view l refused answer) (λ one is. (grouped_of v view l is.grouped, answers_so v view l refused answer is.grouped makes.0 is.answers, grouped_shows v view layer l h other spec one is)) made makes.1);
       refused = subst (RefusedAlike (refused_dissolve spec group_points layer)) same (refused_alike v view l refused answer);
     }

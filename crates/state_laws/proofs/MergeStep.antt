@@ -44,7 +44,7 @@ use Rattle.state_laws.proofs.Counting.{joined_long, placed_long}
 use Rattle.state_laws.proofs.EachLayer.{titled_shows}
 use Rattle.state_laws.proofs.Merging.{merged_layers_show, merged_of}
 use Rattle.state_laws.proofs.Placed.{counted, placed_outputs_show}
-use Rattle.state_laws.proofs.Stepping.{First, changed_by, is_first, is_second, is_third, none_of_three, put, step_by, step_refused, stepped, target_absent, target_there, too_many_told, unfit, which}
+use Rattle.state_laws.proofs.Stepping.{First, changed_by, first_of_two, is_first, is_second, is_third, none_of_three, none_of_two, put, step_by, step_refused, stepped, target_absent, target_there, too_many_told, unfit, which}
 use Rattle.state_laws.proofs.Targeting.{targets_show}
 use Rattle.state_laws.proofs.Zipped.{zip_all, zip_long}
 
@@ -209,14 +209,6 @@ nothing_shows v title [] = tt
 nothing_shows v title (x ∷ xs) = (tt, nothing_shows v title xs)
 
 -- ---- the step
-
-pub first_of_two : (why : RefuseWhy) (a b : Option RefuseWhy) → first_refusal a b ≡ Some why → (a ≡ Some why) ⊎ ((a ≡ None) × (b ≡ Some why))
-first_of_two why None b e = inr (refl, e)
-first_of_two why (Some w) b e = inl e
-
-pub none_of_two : (a b : Option RefuseWhy) → first_refusal a b ≡ None → (a ≡ None) × (b ≡ None)
-none_of_two None b e = (refl, e)
-none_of_two (Some w) b e = absurd (let some : Some w ≡ None = e in cc)
 
 module _ (v : View) (base : Base) (sources : SourceLayers) (layers : List Held) (s : State) (h : StateShows v layers s) (c : Command) (force : Bool) (merges : c.action ≡ does.Together (joint.MergeLayers force)) where
   abbrev ns : List ℕ

@@ -35,7 +35,7 @@ use Rattle.run_plane.specs.declared.plane.Plane.{Plane}
 use Rattle.run_shapes.specs.Borders as run
 use Rattle.run_shapes.specs.Borders.{AreInnerLines, AreOutlines, bare_table, border_line, borders_of, inner_arcs_of, line_along, ranked_row, ranked_table, row_by}
 use Rattle.run_shapes.specs.Dissolving.{path_along}
-use Rattle.run_shapes.specs.FaceSets.{sets_on}
+use Rattle.run_shapes.specs.FaceSets.{sets_in}
 use Rattle.run_state.specs.Stops.{table_refusal}
 use Rattle.chain_model.specs.State as state
 use Rattle.chain_model.specs.State.{StateLayer, regions_in}
@@ -45,7 +45,7 @@ use Rattle.state_laws.specs.Reasons.{OutputsShow, RefusedAlike}
 use Rattle.state_laws.specs.Lines.{InnerLinesShow, OutlinesShow}
 use Rattle.state_laws.proofs.Below.{behind_refusal}
 use Rattle.state_laws.proofs.LineGroups.{one_linked, one_there}
-use Rattle.state_laws.proofs.OnPlane.{sets_show}
+use Rattle.state_laws.proofs.PolygonSets.{sets_show}
 use Rattle.state_laws.proofs.TableCommands.{one_shows}
 use Rattle.state_laws.proofs.Views.{view_faces}
 use Rattle.state_laws.proofs.Zipped.{zip_at, zip_long}
@@ -189,10 +189,10 @@ module _ (v : View) (view : IsView v) where
 
   module _ (plane : Plane) (seen : IsSeenIn v plane) (layer : Layer) (l : StateLayer) (h : LayerShows v layer l) (polygons : layer.kind ≡ kinds.Polygon) where
     abbrev sets : List (List ℕ)
-    sets = sets_on plane layer.shapes.items
+    sets = sets_in layer.shapes.items
 
     set_each : AllZip (FacesShow v) sets (regions_in l)
-    set_each = sets_show v view plane seen layer.shapes.items l.shapes (subst (λ (k : Kind). AllZip (ShapeShows v k) layer.shapes.items l.shapes) polygons h.shapes)
+    set_each = sets_show v layer.shapes.items l.shapes (subst (λ (k : Kind). AllZip (ShapeShows v k) layer.shapes.items l.shapes) polygons h.shapes)
 
     abbrev sided : List SidedArc
     sided = all_sided sets (regions_in l) set_each

@@ -14,17 +14,17 @@ use Rattle.region_model.specs.Region.{Region}
 use Rattle.region_model.specs.PlaceCommands.{around_points, points_inside}
 use Rattle.place_laws.specs.Matched.{IsToldInside}
 use Rattle.place_laws.proofs.MatchLaws.{points_are_matched, sets_are_matched}
-use Rattle.run_plane.specs.OnPlane.{points_in}
+use Rattle.run_plane.specs.Shapes.{points_in}
 use Rattle.run_plane.specs.declared.layer.Shape.{Shape}
 use Rattle.run_plane.specs.declared.plane.Plane.{Plane}
-use Rattle.run_shapes.specs.FaceSets.{sets_on}
+use Rattle.run_shapes.specs.FaceSets.{sets_in}
 use Rattle.run_shapes.specs.Matching.{AreMatchesOf, point_lists}
 use Rattle.run_steps.specs.Refusals.{joins_with}
 use Rattle.chain_model.specs.State as state
 use Rattle.chain_model.specs.Features.{matches_of}
 use Rattle.state_laws.specs.Shown.{View, IsView, AreVertices, FacesShow, PointsShow, PolygonShows, ShapeShows, IsSeenIn}
 use Rattle.state_laws.specs.Places.{PlaceJoinsShow}
-use Rattle.state_laws.proofs.OnPlane.{sets_show}
+use Rattle.state_laws.proofs.PolygonSets.{sets_show}
 use Rattle.state_laws.proofs.TableCommands.{tables_show}
 use Rattle.state_laws.proofs.Views.{view_faces}
 use Rattle.state_laws.proofs.Zipped.{zip_same, zip_weaker}
@@ -33,9 +33,9 @@ module _ (v : View) (view : IsView v) (plane : Plane) (seen : IsSeenIn v plane) 
   abbrev SetTold : List ℕ → Region → Type 0
   SetTold set r = IsToldInside v.drawing v.arcs v.label v.answers set r
 
-  sets_told : (held : List Shape) (shapes : List state.Shape) → AllZip (PolygonShows v) held shapes → AllZip SetTold (sets_on plane held) (map state.region_of shapes)
+  sets_told : (held : List Shape) (shapes : List state.Shape) → AllZip (PolygonShows v) held shapes → AllZip SetTold (sets_in held) (map state.region_of shapes)
   sets_told held shapes show =
-      zip_weaker (FacesShow v) SetTold (λ set r h. record { follows = h.follows; inside = view.right.inside r }) (sets_on plane held) (map state.region_of shapes) (sets_show v view plane seen held shapes show)
+      zip_weaker (FacesShow v) SetTold (λ set r h. record { follows = h.follows; inside = view.right.inside r }) (sets_in held) (map state.region_of shapes) (sets_show v held shapes show)
 
   -- ---- points
 
@@ -75,19 +75,19 @@ module _ (v : View) (view : IsView v) (plane : Plane) (seen : IsSeenIn v plane) 
       λ i. here i ∷ rest i
 
   module _ (held others : List Shape) (shapes other_shapes : List state.Shape) (matches : List (List ℕ)) where
-    polygons_matched : AllZip (PolygonShows v) held shapes → AllZip (PointsShow v) others other_shapes → AreMatchedSets plane.arcs plane.faces (point_lists others) (sets_on plane held) matches → matches ≡ map (matched_of other_shapes) shapes
+    polygons_matched : AllZip (PolygonShows v) held shapes → AllZip (PointsShow v) others other_shapes → AreMatchedSets plane.arcs plane.faces (point_lists others) (sets_in held) matches → matches ≡ map (matched_of other_shapes) shapes
     polygons_matched show other_show are =
-        sets_are_matched v.drawing v.arcs v.faces v.label (view_faces v view) v.answers (sets_on plane held) (map state.region_of shapes) (sets_told held shapes show) (point_lists others) (points_there others other_shapes other_show) matches
-        (subst (λ (faces : FaceTable). AreMatchedSets v.arcs faces (point_lists others) (sets_on plane held) matches) seen.faces
-        (subst (λ (arcs : List Path). AreMatchedSets arcs plane.faces (point_lists others) (sets_on plane held) matches) seen.arcs are))
+        sets_are_matched v.drawing v.arcs v.faces v.label (view_faces v view) v.answers (sets_in held) (map state.region_of shapes) (sets_told held shapes show) (point_lists others) (points_there others other_shapes other_show) matches
+        (subst (λ (faces : FaceTable). AreMatchedSets v.arcs faces (point_lists others) (sets_in held) matches) seen.faces
+        (subst (λ (arcs : List Path). AreMatchedSets arcs plane.faces (point_lists others) (sets_in held) matches) seen.arcs are))
         ∙ ap (λ (points : List Path). map (points_inside v.answers points) (map state.region_of shapes)) (points_same others other_shapes other_show)
         ∙ by_regions other_shapes held shapes show
 
-    points_matched : AllZip (PointsShow v) held shapes → AllZip (PolygonShows v) others other_shapes → AreMatchedPoints plane.arcs plane.faces (point_lists held) (sets_on plane others) matches → matches ≡ map (matched_of other_shapes) shapes
+    points_matched : AllZip (PointsShow v) held shapes → AllZip (PolygonShows v) others other_shapes → AreMatchedPoints plane.arcs plane.faces (point_lists held) (sets_in others) matches → matches ≡ map (matched_of other_shapes) shapes
     points_matched show other_show are =
-        points_are_matched v.drawing v.arcs v.faces v.label (view_faces v view) v.answers (sets_on plane others) (map state.region_of other_shapes) (sets_told others other_shapes other_show) (point_lists held) (points_there held shapes show) matches
-        (subst (λ (faces : FaceTable). AreMatchedPoints v.arcs faces (point_lists held) (sets_on plane others) matches) seen.faces
-        (subst (λ (arcs : List Path). AreMatchedPoints arcs plane.faces (point_lists held) (sets_on plane others) matches) seen.arcs are))
+        points_are_matched v.drawing v.arcs v.faces v.label (view_faces v view) v.answers (sets_in others) (map state.region_of other_shapes) (sets_told others other_shapes other_show) (point_lists held) (points_there held shapes show) matches
+        (subst (λ (faces : FaceTable). AreMatchedPoints v.arcs faces (point_lists held) (sets_in others) matches) seen.faces
+        (subst (λ (arcs : List Path). AreMatchedPoints arcs plane.faces (point_lists held) (sets_in others) matches) seen.arcs are))
         ∙ ap (map (around_points v.answers (map state.region_of other_shapes))) (points_same held shapes show)
         ∙ by_points other_shapes held shapes show
 

@@ -95,10 +95,10 @@ filled_many rule (suc more) faces sets made some (left, cleans, fills) = fills.c
 
 module _ (v : View) (view : IsView v) (plane : Plane) (seen : IsSeenIn v plane) (layer : Layer) (l : StateLayer) (h : PolygonsShow v layer l) (rule : OverlapRule) (allow_empty : Bool) where
   abbrev sets : List (List ℕ)
-  sets = sets_of plane layer
+  sets = sets_of layer
 
   shown : AllZip (FacesShow v) sets (regions_in l)
-  shown = layer_sets v layer l h plane seen
+  shown = layer_sets v layer l h
 
   -- over the faces of the view
   seen_by : (gap : ℕ) (made : List (List ℕ)) → IsCleanedAndFilled rule gap plane.faces sets made → IsCleanedAndFilled rule gap v.faces sets made
@@ -109,7 +109,7 @@ module _ (v : View) (view : IsView v) (plane : Plane) (seen : IsSeenIn v plane) 
       let left = seen_by 0 is.sets is.cleaned in
       let rising = all_rise v sets (regions_in l) shown in
       let inner = all_inner v sets (regions_in l) shown in
-      let many : length sets ≡ count_of l = sets_many v layer l h plane in
+      let many : length sets ≡ count_of l = sets_many v layer l h in
       let follow : FollowEach (snapped v.drawing) v.arcs v.label is.sets (cleaned (plane_of v) v.answers rule (region_at l) (count_of l)) =
       subst (λ (c : ℕ). FollowEach (snapped v.drawing) v.arcs v.label is.sets (cleaned (plane_of v) v.answers rule (region_at l) c)) many
       (cleaned_as_told v.drawing v.arcs v.faces v.label view.walked sets rising inner (region_at l) (follow_regions v layer l h sets shown) v.answers (λ n below. view.right.sides (region_at l n)) rule is.sets left) in
@@ -121,7 +121,7 @@ module _ (v : View) (view : IsView v) (plane : Plane) (seen : IsSeenIn v plane) 
       let filled = seen_by gap is.sets is.cleaned in
       let rising = all_rise v sets (regions_in l) shown in
       let inner = all_inner v sets (regions_in l) shown in
-      let many : length sets ≡ count_of l = sets_many v layer l h plane in
+      let many : length sets ≡ count_of l = sets_many v layer l h in
       let follow : FollowEach (snapped v.drawing) v.arcs v.label is.sets (cleaned_and_filled (plane_of v) v.answers rule gap (region_at l) (count_of l)) =
       subst (λ (c : ℕ). FollowEach (snapped v.drawing) v.arcs v.label is.sets (cleaned_and_filled (plane_of v) v.answers rule gap (region_at l) c)) many
       (filled_as_told v.drawing v.arcs v.faces v.label view.walked sets rising inner (region_at l) (follow_regions v layer l h sets shown) v.answers view.right rule gap some is.sets filled) in

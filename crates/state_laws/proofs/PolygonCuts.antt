@@ -19,7 +19,6 @@ use Rattle.run_plane.specs.declared.layer.Layer.{Layer}
 use Rattle.run_plane.specs.declared.layer.Shape.{Shape}
 use Rattle.run_plane.specs.declared.layer.Shape.TheVariants as shape
 use Rattle.run_plane.specs.declared.plane.Plane.{Plane}
-use Rattle.run_state.specs.Origins.{Base}
 use Rattle.run_state.specs.Origins as run
 use Rattle.run_state.specs.declared.refusal.RefuseWhy.{RefuseWhy}
 use Rattle.run_state.specs.declared.refusal.RefuseWhy.TheVariants.{WrongKind}
@@ -30,12 +29,11 @@ use Rattle.run_shapes.specs.declared.cutting.CutKeeps.TheVariants as keeps
 use Rattle.run_steps.specs.Refusals.{is_polygon, refused_polygons}
 use Rattle.chain_model.specs.Outcome as outcome
 use Rattle.chain_model.specs.State as state
-use Rattle.chain_model.specs.State.{State, StateLayer, region_of, regions_in, without_empty}
+use Rattle.chain_model.specs.State.{StateLayer, region_of, regions_in, without_empty}
 use Rattle.chain_model.specs.Features.{clip_layer, clip_shape, erase_layer, erase_shape}
 use Rattle.chain_model.specs.Steps.{layer_region}
 use Rattle.chain_model.specs.Targets as targets
-use Rattle.chain_model.specs.Targets.{SourceLayers}
-use Rattle.state_laws.specs.Shown.{View, IsView, FacesShow, LayerShows, PolygonShows, ShapeShows, plane_of, IsSeenIn}
+use Rattle.state_laws.specs.Shown.{View, IsView, FacesShow, LayerShows, PolygonShows, ShapeShows, plane_of}
 use Rattle.state_laws.specs.Reasons.{AnswerShows, why_of}
 use Rattle.state_laws.specs.Polygons.{AreaShows, AreasShow, ClippedPolygonsShow, ErasedPolygonsShow, PolygonsShow}
 use Rattle.state_laws.proofs.Empty.{left_features_show}
@@ -111,37 +109,37 @@ module _ (v : View) (cut : List ℕ → List ℕ) (cut_region : Region → Regio
     shapes_cut sets ss held z.1 polygons.1,
   )
 
-module _ (v : View) (view : IsView v) (plane : Plane) (seen : IsSeenIn v plane) (layer : Layer) (l : StateLayer) (h : PolygonsShow v layer l) (k : CutKeeps) (area : List ℕ) where
-  layer_cut : (ss : List state.Shape) → AllZip (PolygonShows v) (face_shapes (map (cut_faces k area) (sets_of plane layer))) ss →
+module _ (v : View) (view : IsView v) (plane : Plane) (layer : Layer) (l : StateLayer) (h : PolygonsShow v layer l) (k : CutKeeps) (area : List ℕ) where
+  layer_cut : (ss : List state.Shape) → AllZip (PolygonShows v) (face_shapes (map (cut_faces k area) (sets_of layer))) ss →
       (made : Layer) → IsCut k plane area layer made → LayerShows v made (without_empty (plane_of v) v.answers (record l { shapes = ss }))
   layer_cut ss z made is =
-      let are : is.parts ≡ face_shapes (map (cut_faces k area) (sets_of plane layer)) = subst (λ (kind : Kind). AreShapesLeft kind k plane area layer.shapes.items is.parts) h.polygons is.are in
+      let are : is.parts ≡ face_shapes (map (cut_faces k area) (sets_of layer)) = subst (λ (kind : Kind). AreShapesLeft kind k plane area layer.shapes.items is.parts) h.polygons is.are in
       let show : AllZip (ShapeShows v layer.kind) is.parts ss =
       subst (λ (kind : Kind). AllZip (ShapeShows v kind) is.parts ss) (sym h.polygons) (subst (λ (parts : List Shape). AllZip (PolygonShows v) parts ss) (sym are) z) in
       let counted : length is.parts ≡ length layer.table.rows =
-      ap length are ∙ length-map (map (cut_faces k area) (sets_of plane layer)) shape.Faces ∙ length-map (sets_of plane layer) (cut_faces k area) ∙ sets_counted plane layer ∙ layer.each in
+      ap length are ∙ length-map (map (cut_faces k area) (sets_of layer)) shape.Faces ∙ length-map (sets_of layer) (cut_faces k area) ∙ sets_counted layer ∙ layer.each in
       left_features_show v view layer l h.shows is.parts ss counted show made is.left
 
 pub clipped_polygons_show : ClippedPolygonsShow
-clipped_polygons_show v view plane seen layer l h area source by = record {
+clipped_polygons_show v view plane layer l h area source by = record {
   shows = one_shows v (IsCut keeps.Inside plane area layer) (clip_layer (plane_of v) v.answers source l) (λ made is. (
     without_empty (plane_of v) v.answers (record l { shapes = map (clip_shape v.answers source) l.shapes }),
     refl,
-    layer_cut v view plane seen layer l h keeps.Inside area (map (clip_shape v.answers source) l.shapes)
-        (shapes_cut v (meet area) (λ (r : Region). both r source) (clip_shape v.answers source) (λ r. refl) (clipped_shows v area source by) (sets_of plane layer) l.shapes layer.shapes.items
-        (layer_sets v layer l h plane seen) (polygons_show v layer l h)) made is,
+    layer_cut v view plane layer l h keeps.Inside area (map (clip_shape v.answers source) l.shapes)
+        (shapes_cut v (meet area) (λ (r : Region). both r source) (clip_shape v.answers source) (λ r. refl) (clipped_shows v area source by) (sets_of layer) l.shapes layer.shapes.items
+        (layer_sets v layer l h) (polygons_show v layer l h)) made is,
   ));
   refused = (without_empty (plane_of v) v.answers (record l { shapes = map (clip_shape v.answers source) l.shapes }) ∷ [], refl);
 }
 
 pub erased_polygons_show : ErasedPolygonsShow
-erased_polygons_show v view plane seen layer l h area source by = record {
+erased_polygons_show v view plane layer l h area source by = record {
   shows = one_shows v (IsCut keeps.Outside plane area layer) (erase_layer (plane_of v) v.answers source l) (λ made is. (
     without_empty (plane_of v) v.answers (record l { shapes = map (erase_shape v.answers source) l.shapes }),
     refl,
-    layer_cut v view plane seen layer l h keeps.Outside area (map (erase_shape v.answers source) l.shapes)
-        (shapes_cut v (minus area) (λ (r : Region). less r source) (erase_shape v.answers source) (λ r. refl) (erased_shows v area source by) (sets_of plane layer) l.shapes layer.shapes.items
-        (layer_sets v layer l h plane seen) (polygons_show v layer l h)) made is,
+    layer_cut v view plane layer l h keeps.Outside area (map (erase_shape v.answers source) l.shapes)
+        (shapes_cut v (minus area) (λ (r : Region). less r source) (erase_shape v.answers source) (λ r. refl) (erased_shows v area source by) (sets_of layer) l.shapes layer.shapes.items
+        (layer_sets v layer l h) (polygons_show v layer l h)) made is,
   ));
   refused = (without_empty (plane_of v) v.answers (record l { shapes = map (erase_shape v.answers source) l.shapes }) ∷ [], refl);
 }

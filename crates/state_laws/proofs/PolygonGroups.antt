@@ -27,7 +27,6 @@ use Rattle.region_model.specs.PolygonCommands.{dissolved}
 use Rattle.region_laws.proofs.Sets.{dissolved_sets_are_followed}
 use Rattle.run_plane.specs.declared.layer.Layer.{Layer}
 use Rattle.run_plane.specs.declared.layer.Shape.{Shape}
-use Rattle.run_plane.specs.declared.plane.Plane.{Plane}
 use Rattle.run_state.specs.Stops.{table_refusal}
 use Rattle.run_state.specs.declared.refusal.RefuseWhy.{RefuseWhy}
 use Rattle.run_state.specs.declared.refusal.RefuseWhy.TheVariants.{NoGroupPoints}
@@ -36,7 +35,7 @@ use Rattle.run_shapes.specs.Dissolving.{IsGrouped, grouped_shapes, is_point, ref
 use Rattle.run_shapes.specs.FaceSets.{face_shapes}
 use Rattle.chain_model.specs.State.{StateLayer, region_at, regions_in}
 use Rattle.chain_model.specs.Features.{Outputs, dissolve_layer, dissolved_shape, in_layer, just}
-use Rattle.state_laws.specs.Shown.{View, FacesShow, LayerShows, PolygonShows, ShapeShows, plane_of, IsSeenIn}
+use Rattle.state_laws.specs.Shown.{View, FacesShow, LayerShows, PolygonShows, ShapeShows, plane_of}
 use Rattle.state_laws.specs.Reasons.{MakesAlike, RefusedAlike}
 use Rattle.state_laws.specs.Polygons.{DissolvedPolygonsShow, PolygonsShow}
 use Rattle.state_laws.proofs.Below.{behind_refusal}
@@ -63,9 +62,9 @@ grouped_below t spec grouped e =
 abbrev polygon_layer : StateLayer → StateLayer
 polygon_layer l = record l { kind = kinds.Polygon }
 
-module _ (v : View) (plane : Plane) (seen : IsSeenIn v plane) (layer : Layer) (l : StateLayer) (h : PolygonsShow v layer l) where
+module _ (v : View) (layer : Layer) (l : StateLayer) (h : PolygonsShow v layer l) where
   abbrev sets : List (List ℕ)
-  sets = sets_of plane layer
+  sets = sets_of layer
 
   is_polygon_layer : l ≡ polygon_layer l
   is_polygon_layer = let e = h.shows.kind ∙ h.polygons in λ i. record l { kind = e i }
@@ -73,8 +72,8 @@ module _ (v : View) (plane : Plane) (seen : IsSeenIn v plane) (layer : Layer) (l
   union_shows : (group : List ℕ) → All (λ n. n < length sets) group → FacesShow v (union_of sets group) (dissolved (region_at l) group)
   union_shows group below = record {
     rising = from_ascending (union_of sets group) (ascending-IsAscending nat_lt nat_order (flat_map (set_at sets) group));
-    inner = All-head (IsSetOf v.faces) (union_of sets group) [] (unions_inner v.faces sets (group ∷ []) (all_inner v sets (regions_in l) (layer_sets v layer l h plane seen)));
-    follows = dissolved_sets_are_followed (snapped v.drawing) v.arcs v.label sets (region_at l) (group ∷ []) (follow_regions v layer l h sets (layer_sets v layer l h plane seen))
+    inner = All-head (IsSetOf v.faces) (union_of sets group) [] (unions_inner v.faces sets (group ∷ []) (all_inner v sets (regions_in l) (layer_sets v layer l h)));
+    follows = dissolved_sets_are_followed (snapped v.drawing) v.arcs v.label sets (region_at l) (group ∷ []) (follow_regions v layer l h sets (layer_sets v layer l h))
         (All-cons (All (λ n. n < length sets)) group [] below (All-nil (All (λ n. n < length sets)))) 0 (omega arith);
   }
 
@@ -93,12 +92,12 @@ module _ (v : View) (plane : Plane) (seen : IsSeenIn v plane) (layer : Layer) (l
   abbrev grouped_by : Result Grouped TableWhy → Outputs
   grouped_by answer = on_ok (in_layer answer) (λ (g : Grouped). just (grouped_layer g))
 
-  grouped_shows : (spec : GroupSpec) (made : Layer) → IsGrouped plane spec layer made → (m : StateLayer) × (grouped_by (group_rows layer.table spec) ≡ just m) × LayerShows v made m
+  grouped_shows : (spec : GroupSpec) (made : Layer) → IsGrouped spec layer made → (m : StateLayer) × (grouped_by (group_rows layer.table spec) ≡ just m) × LayerShows v made m
   grouped_shows spec made is =
-      let counted : length layer.table.rows ≡ length sets = sym layer.each ∙ sym (sets_counted plane layer) in
+      let counted : length layer.table.rows ≡ length sets = sym layer.each ∙ sym (sets_counted layer) in
       let below : All (All (λ n. n < length sets)) is.grouped.groups = subst (λ (c : ℕ). All (All (λ n. n < c)) is.grouped.groups) counted (grouped_below layer.table spec is.grouped is.answers) in
-      let shapes : List Shape = grouped_shapes layer.kind plane layer.shapes.items is.grouped.groups in
-      let are : face_shapes (map (union_of sets) is.grouped.groups) ≡ shapes = ap (λ (k : Kind). grouped_shapes k plane layer.shapes.items is.grouped.groups) (sym h.polygons) in
+      let shapes : List Shape = grouped_shapes layer.kind layer.shapes.items is.grouped.groups in
+      let are : face_shapes (map (union_of sets) is.grouped.groups) ≡ shapes = ap (λ (k : Kind). grouped_shapes k layer.shapes.items is.grouped.groups) (sym h.polygons) in
       let show : AllZip (ShapeShows v layer.kind) shapes (grouped_layer is.grouped).shapes =
       subst (λ (k : Kind). AllZip (ShapeShows v k) shapes (grouped_layer is.grouped).shapes) (sym h.polygons)
       (subst (λ (parts : List Shape). AllZip (PolygonShows v) parts (grouped_layer is.grouped).shapes) are (unions_show is.grouped.groups below)) in (
@@ -116,9 +115,9 @@ module _ (v : View) (plane : Plane) (seen : IsSeenIn v plane) (layer : Layer) (l
   groups_refused (Ok g) = (grouped_layer g ∷ [], refl)
   groups_refused (Err why) = refl
 
-  groups_alike : (spec : GroupSpec) → MakesAlike v (One (IsGrouped plane spec layer)) (table_refusal (group_rows layer.table spec)) (grouped_by (group_rows layer.table spec))
+  groups_alike : (spec : GroupSpec) → MakesAlike v (One (IsGrouped spec layer)) (table_refusal (group_rows layer.table spec)) (grouped_by (group_rows layer.table spec))
   groups_alike spec = record {
-    shows = one_shows v (IsGrouped plane spec layer) (grouped_by (group_rows layer.table spec)) (grouped_shows spec);
+    shows = one_shows v (IsGrouped spec layer) (grouped_by (group_rows layer.table spec)) (grouped_shows spec);
     refused = groups_refused (group_rows layer.table spec);
   }
 
@@ -130,8 +129,8 @@ module _ (v : View) (plane : Plane) (seen : IsSeenIn v plane) (layer : Layer) (l
   answer_by spec group_points = ap (dissolve_layer (plane_of v) spec group_points) is_polygon_layer
 
 pub dissolved_polygons_show : DissolvedPolygonsShow
-dissolved_polygons_show v plane seen layer l h spec group_points =
-    subst (λ (refusal : Option RefuseWhy). MakesAlike v (One (IsGrouped plane spec layer)) refusal (dissolve_layer (plane_of v) spec group_points l)) (sym (refusal_by v plane seen layer l h spec group_points))
-    (subst (λ (answer : Outputs). MakesAlike v (One (IsGrouped plane spec layer)) (table_refusal (group_rows layer.table spec)) answer) (sym (answer_by v plane seen layer l h spec group_points))
-    (alike_by v (λ (r : Result Grouped TableWhy). One (IsGrouped plane spec layer)) (grouped_by v plane seen layer l h) (group_rows layer.table spec) (group_rows l.table spec)
-    (ap (λ (t : TableContent). group_rows t spec) h.shows.table) (groups_alike v plane seen layer l h spec)))
+dissolved_polygons_show v layer l h spec group_points =
+    subst (λ (refusal : Option RefuseWhy). MakesAlike v (One (IsGrouped spec layer)) refusal (dissolve_layer (plane_of v) spec group_points l)) (sym (refusal_by v layer l h spec group_points))
+    (subst (λ (answer : Outputs). MakesAlike v (One (IsGrouped spec layer)) (table_refusal (group_rows layer.table spec)) answer) (sym (answer_by v layer l h spec group_points))
+    (alike_by v (λ (r : Result Grouped TableWhy). One (IsGrouped spec layer)) (grouped_by v layer l h) (group_rows layer.table spec) (group_rows l.table spec)
+    (ap (λ (t : TableContent). group_rows t spec) h.shows.table) (groups_alike v layer l h spec)))

@@ -95,10 +95,10 @@ region_of_piece m = m.1
 
 module _ (v : View) (view : IsView v) (plane : Plane) (seen : IsSeenIn v plane) (layer : Layer) (l : StateLayer) (h : PolygonsShow v layer l) where
   abbrev sets : List (List ℕ)
-  sets = sets_of plane layer
+  sets = sets_of layer
 
   shown : AllZip (FacesShow v) sets (regions_in l)
-  shown = layer_sets v layer l h plane seen
+  shown = layer_sets v layer l h
 
   abbrev pieces : List (List ℕ × Region)
   pieces = mosaic (plane_of v) v.answers (region_at l) (count_of l)
@@ -106,7 +106,7 @@ module _ (v : View) (view : IsView v) (plane : Plane) (seen : IsSeenIn v plane) 
   mosaic_told : (items : List MosaicItem) → IsMosaic v.faces sets items → (map ids_of items ≡ map numbers_of pieces) × FollowInOrder (snapped v.drawing) v.arcs v.label (map set_of items) (map region_of_piece pieces)
   mosaic_told items is =
       subst (λ (many : ℕ). (map ids_of items ≡ map numbers_of (mosaic (plane_of v) v.answers (region_at l) many)) × FollowInOrder (snapped v.drawing) v.arcs v.label (map set_of items) (map region_of_piece (mosaic (plane_of v) v.answers (region_at l) many)))
-      (sets_many v layer l h plane)
+      (sets_many v layer l h)
       (mosaic_as_told v.drawing v.arcs v.faces v.label view.walked sets (all_inner v sets (regions_in l) shown) (region_at l) (follow_regions v layer l h sets shown) v.answers
       (λ numbers. view.right.sides (exactly (region_at l) (length sets) numbers)) (λ numbers j. view.right.parts (exactly (region_at l) (length sets) numbers) j) items is)
 
@@ -238,17 +238,17 @@ module _ (v : View) (view : IsView v) (plane : Plane) (seen : IsSeenIn v plane) 
   abbrev exploded_layer : StateLayer
   exploded_layer = record l { table = record { names = l.table.names; rows = map (λ (f : Feature). f.0) exploded_features }; shapes = map (λ (f : Feature). f.1) exploded_features }
 
-  items_alike : (items : List PartItem) → exploding.IsExploded v.faces (sets_of plane layer) items → AllZip (ItemShows v view l.table.rows) items exploded_features
+  items_alike : (items : List PartItem) → exploding.IsExploded v.faces (sets_of layer) items → AllZip (ItemShows v view l.table.rows) items exploded_features
   items_alike items is =
       let many : length l.table.rows ≡ length l.shapes = ap (λ (t : TableContent). length t.rows) h.shows.table ∙ sym layer.each ∙ zip_long (PolygonShows v) layer.shapes.items l.shapes (polygons_show v layer l h) in
       subst (λ (those : List PartItem). AllZip (ItemShows v view l.table.rows) those exploded_features) (sym is.listed)
       (features_show v view l.table.rows 0 is.pieces l.table.rows l.shapes
-      (all_pieces_show v view layer.shapes.items (sets_of plane layer) l.shapes is.pieces (polygons_show v layer l h) (layer_sets v layer l h plane seen) is.each is.are) many (λ k below. let start : 0 + k ≡ k = omega arith in ap (row_at l.table.rows) start))
+      (all_pieces_show v view layer.shapes.items (sets_of layer) l.shapes is.pieces (polygons_show v layer l h) (layer_sets v layer l h) is.each is.are) many (λ k below. let start : 0 + k ≡ k = omega arith in ap (row_at l.table.rows) start))
 
   exploded_shows : (made : Layer) → run.IsExploded plane layer made → LayerShows v made exploded_layer
   exploded_shows made is =
       let are : ArePartsOf plane layer.shapes.items is.numbers is.pieces = subst (λ (k : Kind). run.ArePieces k plane layer.shapes.items is.numbers is.pieces) h.polygons is.are in
-      let zipped = items_alike are.items (subst (λ (faces : FaceTable). exploding.IsExploded faces (sets_of plane layer) are.items) seen.faces are.parts) in
+      let zipped = items_alike are.items (subst (λ (faces : FaceTable). exploding.IsExploded faces (sets_of layer) are.items) seen.faces are.parts) in
       let rows : map (row_at l.table.rows) is.numbers ≡ map (λ (f : Feature). f.0) exploded_features =
       ap (map (row_at l.table.rows)) are.numbered ∙ map-map (row_at l.table.rows) (λ (item : PartItem). item.feature) are.items
       ∙ zip_same (ItemShows v view l.table.rows) (λ (item : PartItem). row_at l.table.rows item.feature) (λ (f : Feature). f.0) (λ item f both. both.0) are.items exploded_features zipped in

@@ -9,7 +9,7 @@ use Rattle.plane_model.specs.Parity.{rings_hold}
 use Rattle.plane_model.specs.Snapped.{snapped}
 use Rattle.ring_trace.specs.Sets.{IsInnerFace}
 use Rattle.region_model.specs.Region.{box}
-use Rattle.state_laws.specs.Shown.{View, FacesShow, IsSeenIn}
+use Rattle.state_laws.specs.Shown.{View, FacesShow}
 use Rattle.state_laws.specs.Polygons.{PlanesAreSeen}
 
 -- past the last box there is none, and it has no point

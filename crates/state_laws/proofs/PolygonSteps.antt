@@ -29,7 +29,8 @@ use Rattle.run_state.specs.Origins.{Base}
 use Rattle.run_state.specs.Targets.{targets}
 use Rattle.run_state.specs.declared.refusal.RefuseWhy.{RefuseWhy}
 use Rattle.run_state.specs.declared.state.Held.{Held}
-use Rattle.run_shapes.specs.FaceSets.{any_faces, area_of, faces_in, layer_faces}
+use Rattle.run_plane.specs.Shapes.{faces_in}
+use Rattle.run_shapes.specs.FaceSets.{any_faces, area_of, layer_faces}
 use Rattle.run_steps.specs.Commands.{PutsOut}
 use Rattle.run_steps.specs.Refusals as held
 use Rattle.chain_model.specs.Outcome as outcome
@@ -37,25 +38,27 @@ use Rattle.chain_model.specs.State as state
 use Rattle.chain_model.specs.State.{State, StateLayer, regions_in}
 use Rattle.chain_model.specs.Targets as model
 use Rattle.chain_model.specs.Targets.{SourceLayers, layers_at}
-use Rattle.chain_model.specs.Features.{Outputs, clean_layer, clip_layer, dissolve_layer, dissolved_shape, erase_layer, explode_layer, in_layer, inner_lines_layer, just, line_layer, line_row, lines_layer, mosaic_layer}
+use Rattle.chain_model.specs.Features.{Outputs, clean_layer, clip_layer, dissolve_layer, dissolved_shape, erase_layer, explode_layer, in_layer, inner_lines_layer, islands_layer, just, line_layer, line_row, lines_layer, mosaic_layer}
 use Rattle.chain_model.specs.Steps.{each_layer, outputs_of, refusal_of, refused_source, source_region}
 use Rattle.state_laws.specs.Shown.{View, IsView, FacesShow, LayerShows, LineShows, NothingShows, PointsShow, ShapeShows, SourcesShow, StateShows, plane_of, IsSeenIn}
 use Rattle.state_laws.specs.Reasons.{AnswerShows, why_of}
 use Rattle.state_laws.specs.Polygons.{AreaShows, PolygonsShow}
 use Rattle.state_laws.specs.PolygonSteps.{AreOfPolygons, PolygonStepsShow, ShapeStepsShow, is_on_polygons, is_on_shapes}
 use Rattle.state_laws.specs.Targets.{target_numbers}
-use Rattle.state_laws.proofs.EachLayer.{LayerAlike, alike_with}
+use Rattle.state_laws.proofs.EachLayer.{LayerAlike, alike_unless, alike_with}
 use Rattle.state_laws.proofs.LayerKinds.{only_taken}
 use Rattle.state_laws.proofs.LineCuts.{clipped_lines_show, erased_lines_show}
+use Rattle.state_laws.proofs.LineGroups.{grouped_lines_show}
 use Rattle.state_laws.proofs.LinePieces.{exploded_lines_show}
 use Rattle.state_laws.proofs.MergeStep.{one_kind_told}
 use Rattle.state_laws.proofs.Outlines.{inner_lines_show, outlines_are_shown}
 use Rattle.state_laws.proofs.PolygonCleaning.{filled_polygons_show}
 use Rattle.state_laws.proofs.PolygonCuts.{areas_show, clipped_polygons_show, erased_polygons_show, refused_by_kind}
 use Rattle.state_laws.proofs.PolygonGroups.{dissolved_polygons_show}
+use Rattle.state_laws.proofs.PolygonIslands.{islands_show}
 use Rattle.state_laws.proofs.PolygonParts.{exploded_polygons_show, mosaics_show}
 use Rattle.state_laws.proofs.PolygonSets.{joined_show}
-use Rattle.state_laws.proofs.Stepping.{IsAlike, step_shows, unfit}
+use Rattle.state_laws.proofs.Stepping.{IsAlike, first_alike, step_shows, unfit}
 use Rattle.state_laws.proofs.Targeting.{one_layer_shows, origins_show, targets_show}
 use Rattle.state_laws.proofs.UnionStep.{polygon_is}
 use Rattle.state_laws.proofs.Zipped.{zip_with_all, zip_weaker}
@@ -121,6 +124,7 @@ made_of v source action.Mosaic l = mosaic_layer (plane_of v) v.answers l
 made_of v source action.Explode l = explode_layer (plane_of v) v.answers l
 made_of v source action.InnerLines l = inner_lines_layer (plane_of v) v.answers l
 made_of v source (action.Lines fields) l = lines_layer (plane_of v) v.answers fields l
+made_of v source (action.FilterIslands least_area least_links remove_empty) l = islands_layer (plane_of v) v.answers least_area least_links remove_empty l
 made_of v source _ l = Ok []
 
 other : {P : Type 0} → false ≡ true → P
@@ -165,19 +169,21 @@ module _ (v : View) (view : IsView v) (base : Base) (seen : IsSeenIn v base.plan
   outputs_are action.Explode on none ls = refl
   outputs_are action.InnerLines on none ls = refl
   outputs_are (action.Lines fields) on none ls = refl
+  outputs_are (action.FilterIslands least_area least_links remove_empty) on none ls = refl
   outputs_are a on none ls = other on
 
   -- ---- and a run
 
   makes_alike : (a : LayerAction) → is_on_polygons a ≡ true → (layer : Layer) (l : StateLayer) → PolygonsShow v layer l → LayerAlike v (PutsOut base layers a layer) (held.RefusesLayer base layers a layer) (made a l)
-  makes_alike (action.Clip from) on layer l shown = alike_with (clipped_polygons_show v view base.plane seen layer l shown (area_of base layers from) (by_region (action.Clip from)) (cut_by from).shows)
-  makes_alike (action.Erase from) on layer l shown = alike_with (erased_polygons_show v view base.plane seen layer l shown (area_of base layers from) (by_region (action.Erase from)) (cut_by from).shows)
-  makes_alike (action.Dissolve spec group_points) on layer l shown = alike_with (dissolved_polygons_show v base.plane seen layer l shown spec group_points)
+  makes_alike (action.Clip from) on layer l shown = alike_with (clipped_polygons_show v view base.plane layer l shown (area_of base layers from) (by_region (action.Clip from)) (cut_by from).shows)
+  makes_alike (action.Erase from) on layer l shown = alike_with (erased_polygons_show v view base.plane layer l shown (area_of base layers from) (by_region (action.Erase from)) (cut_by from).shows)
+  makes_alike (action.Dissolve spec group_points) on layer l shown = alike_with (dissolved_polygons_show v layer l shown spec group_points)
   makes_alike (action.Clean rule allow_empty gap) on layer l shown = alike_with (filled_polygons_show v view base.plane seen layer l shown rule allow_empty gap (ltb-true 0 gap on))
   makes_alike action.Mosaic on layer l shown = alike_with (mosaics_show v view base.plane seen layer l shown)
   makes_alike action.Explode on layer l shown = alike_with (exploded_polygons_show v view base.plane seen layer l shown)
   makes_alike action.InnerLines on layer l shown = alike_with (inner_lines_show v view base.plane seen layer l shown.shows shown.polygons)
   makes_alike (action.Lines fields) on layer l shown = alike_with (outlines_are_shown v view base.plane seen layer l shown.shows shown.polygons fields)
+  makes_alike (action.FilterIslands least_area least_links remove_empty) on layer l shown = alike_with (islands_show v view base.plane seen layer l shown least_area least_links remove_empty)
   makes_alike a on layer l shown = other on
 
   -- ---- how many layers
@@ -210,6 +216,7 @@ module _ (v : View) (view : IsView v) (base : Base) (seen : IsSeenIn v base.plan
   so_many action.Explode on layer l shown outs e = one_of e
   so_many action.InnerLines on layer l shown outs e = one_of e
   so_many (action.Lines fields) on layer l shown outs e = one_lined (refused_item l.table.names [] 0 fields) (lined l fields) outs e
+  so_many (action.FilterIslands least_area least_links remove_empty) on layer l shown outs e = one_of e
   so_many a on layer l shown outs e = other on
 
   -- ---- the source, and the kinds
@@ -223,6 +230,7 @@ module _ (v : View) (view : IsView v) (base : Base) (seen : IsSeenIn v base.plan
   source_alike action.Explode on = refl
   source_alike action.InnerLines on = refl
   source_alike (action.Lines fields) on = refl
+  source_alike (action.FilterIslands least_area least_links remove_empty) on = refl
   source_alike a on = other on
 
   kinds_alike : (a : LayerAction) → is_on_polygons a ≡ true → (ts : List Layer) (ls : List StateLayer) → AllZip (LayerShows v) ts ls → unfit sources s (does.Each a) ls ≡ option_map why_of (held.refused_kinds base.sources layers a ts)
@@ -234,6 +242,7 @@ module _ (v : View) (view : IsView v) (base : Base) (seen : IsSeenIn v base.plan
   kinds_alike action.Explode on ts ls shown = only_taken v action.Explode ts ls shown
   kinds_alike action.InnerLines on ts ls shown = only_taken v action.InnerLines ts ls shown
   kinds_alike (action.Lines fields) on ts ls shown = only_taken v (action.Lines fields) ts ls shown
+  kinds_alike (action.FilterIslands least_area least_links remove_empty) on ts ls shown = only_taken v (action.FilterIslands least_area least_links remove_empty) ts ls shown
   kinds_alike a on ts ls shown = other on
 
   -- ---- all together
@@ -251,8 +260,8 @@ module _ (v : View) (view : IsView v) (base : Base) (seen : IsSeenIn v base.plan
 
     is_alike : IsAlike v base layers sources s c a (made a)
     is_alike = record {
-      source = source_alike a on;
-      kinds = kinds_alike a on (targets c.target layers) (layers_at s (target_numbers c.target layers)) (targets_show v layers s h c.target).show;
+      stops = λ there. first_alike (refused_source sources s (does.Each a)) (unfit sources s (does.Each a) (layers_at s (target_numbers c.target layers))) (held.refused_source base.sources layers a)
+          (held.refused_kinds base.sources layers a (targets c.target layers)) (source_alike a on) (kinds_alike a on (targets c.target layers) (layers_at s (target_numbers c.target layers)) (targets_show v layers s h c.target).show);
       outputs = λ none ls. outputs_are a on none ls;
       pairs = λ kinds. all_alike;
       count = so_many a on;
@@ -274,11 +283,13 @@ module _ (v : View) (view : IsView v) (base : Base) (seen : IsSeenIn v base.plan
   takes_polygons : (a : LayerAction) → is_on_shapes a ≡ true → is_on_polygons a ≡ true
   takes_polygons (action.Clip from) on = refl
   takes_polygons (action.Erase from) on = refl
+  takes_polygons (action.Dissolve spec group_points) on = refl
   takes_polygons action.Explode on = refl
   takes_polygons (action.Clean rule allow_empty gap) on = on
   takes_polygons action.Mosaic on = refl
   takes_polygons action.InnerLines on = refl
   takes_polygons (action.Lines fields) on = refl
+  takes_polygons (action.FilterIslands least_area least_links remove_empty) on = refl
   takes_polygons a on = other on
 
   of_polygons : (a : LayerAction) → is_on_polygons a ≡ true → (layer : Layer) (l : StateLayer) → LayerShows v layer l → layer.kind ≡ kinds.Polygon → Alike a layer l
@@ -300,11 +311,13 @@ module _ (v : View) (view : IsView v) (base : Base) (seen : IsSeenIn v base.plan
   taken_so : (a : LayerAction) → is_on_shapes a ≡ true → (ts : List Layer) → held.refused_kinds base.sources layers a ts ≡ None → held.takes_all a ts ≡ true
   taken_so (action.Clip from) on ts none = one_kind_told (held.takes_all (action.Clip from) ts) none
   taken_so (action.Erase from) on ts none = one_kind_told (held.takes_all (action.Erase from) ts) none
+  taken_so (action.Dissolve spec group_points) on ts none = one_kind_told (held.takes_all (action.Dissolve spec group_points) ts) none
   taken_so action.Explode on ts none = one_kind_told (held.takes_all action.Explode ts) none
   taken_so (action.Clean rule allow_empty gap) on ts none = one_kind_told (held.takes_all (action.Clean rule allow_empty gap) ts) none
   taken_so action.Mosaic on ts none = one_kind_told (held.takes_all action.Mosaic ts) none
   taken_so action.InnerLines on ts none = one_kind_told (held.takes_all action.InnerLines ts) none
   taken_so (action.Lines fields) on ts none = one_kind_told (held.takes_all (action.Lines fields) ts) none
+  taken_so (action.FilterIslands least_area least_links remove_empty) on ts none = one_kind_told (held.takes_all (action.FilterIslands least_area least_links remove_empty) ts) none
   taken_so a on ts none = other on
 
   each_taken : (a : LayerAction) (ts : List Layer) → held.takes_all a ts ≡ true → All (λ (layer : Layer). held.takes a layer.kind ≡ true) ts
@@ -316,12 +329,15 @@ module _ (v : View) (view : IsView v) (base : Base) (seen : IsSeenIn v base.plan
   shapes_alike : (a : LayerAction) → is_on_shapes a ≡ true → (layer : Layer) (l : StateLayer) → LayerShows v layer l → held.takes a layer.kind ≡ true → Alike a layer l
   shapes_alike (action.Clip from) on layer l shown taken = by_kind (Alike (action.Clip from) layer l) layer (of_polygons (action.Clip from) refl layer l shown) (clipped_alike from layer l shown) layer.kind refl
   shapes_alike (action.Erase from) on layer l shown taken = by_kind (Alike (action.Erase from) layer l) layer (of_polygons (action.Erase from) refl layer l shown) (erased_alike from layer l shown) layer.kind refl
+  shapes_alike (action.Dissolve spec group_points) on layer l shown taken =
+      by_kind (Alike (action.Dissolve spec group_points) layer l) layer (of_polygons (action.Dissolve spec group_points) refl layer l shown) (λ apart. alike_unless (grouped_lines_show v view layer l shown apart spec group_points)) layer.kind refl
   shapes_alike action.Explode on layer l shown taken =
       by_kind (Alike action.Explode layer l) layer (of_polygons action.Explode refl layer l shown) (λ apart. alike_with (exploded_lines_show v base.plane layer l shown apart)) layer.kind refl
   shapes_alike (action.Clean rule allow_empty gap) on layer l shown taken = of_polygons (action.Clean rule allow_empty gap) on layer l shown (polygon_is layer.kind taken)
   shapes_alike action.Mosaic on layer l shown taken = of_polygons action.Mosaic refl layer l shown (polygon_is layer.kind taken)
   shapes_alike action.InnerLines on layer l shown taken = of_polygons action.InnerLines refl layer l shown (polygon_is layer.kind taken)
   shapes_alike (action.Lines fields) on layer l shown taken = of_polygons (action.Lines fields) refl layer l shown (polygon_is layer.kind taken)
+  shapes_alike (action.FilterIslands least_area least_links remove_empty) on layer l shown taken = of_polygons (action.FilterIslands least_area least_links remove_empty) refl layer l shown (polygon_is layer.kind taken)
   shapes_alike a on layer l shown taken = other on
 
   are_alike : (c : Command) (a : LayerAction) → is_on_shapes a ≡ true → IsAlike v base layers sources s c a (answered a)
@@ -329,8 +345,8 @@ module _ (v : View) (view : IsView v) (base : Base) (seen : IsSeenIn v base.plan
       let ts : List Layer = targets c.target layers in
       let ls : List StateLayer = layers_at s (target_numbers c.target layers) in
       record {
-        source = source_alike v view base seen sources owns layers s h a (takes_polygons a on);
-        kinds = kinds_alike v view base seen sources owns layers s h a (takes_polygons a on) ts ls (targets_show v layers s h c.target).show;
+        stops = λ there. first_alike (refused_source sources s (does.Each a)) (unfit sources s (does.Each a) ls) (held.refused_source base.sources layers a) (held.refused_kinds base.sources layers a ts)
+            (source_alike v view base seen sources owns layers s h a (takes_polygons a on)) (kinds_alike v view base seen sources owns layers s h a (takes_polygons a on) ts ls (targets_show v layers s h c.target).show);
         outputs = λ none ls. outputs_are v view base seen sources owns layers s h a (takes_polygons a on) none ls;
         pairs = λ none. zip_weaker (λ (layer : Layer) (l : StateLayer). LayerShows v layer l × (held.takes a layer.kind ≡ true)) (λ (layer : Layer) (l : StateLayer). LayerShows v layer l × Alike a layer l)
             (λ layer l pair. (pair.0, shapes_alike a on layer l pair.0 pair.1)) ts ls

@@ -66,16 +66,16 @@ abbrev region_made : Choice × Region → Region
 region_made m = m.1
 
 module _ (v : View) (view : IsView v) (plane : Plane) (seen : IsSeenIn v plane) where
-  all_sets_inner : (layers : List Layer) (ls : List StateLayer) → AllZip (PolygonsShow v) layers ls → All (All (IsSetOf v.faces)) (run.layer_sets plane layers)
+  all_sets_inner : (layers : List Layer) (ls : List StateLayer) → AllZip (PolygonsShow v) layers ls → All (All (IsSetOf v.faces)) (run.layer_sets layers)
   all_sets_inner [] [] z = All-nil (All (IsSetOf v.faces))
   all_sets_inner [] (l ∷ ls) z = absurd z
   all_sets_inner (layer ∷ layers) [] z = absurd z
   all_sets_inner (layer ∷ layers) (l ∷ ls) z =
-      All-cons (All (IsSetOf v.faces)) (sets_of plane layer) (run.layer_sets plane layers) (all_inner v (sets_of plane layer) (regions_in l) (layer_sets v layer l z.0 plane seen)) (all_sets_inner layers ls z.1)
+      All-cons (All (IsSetOf v.faces)) (sets_of layer) (run.layer_sets layers) (all_inner v (sets_of layer) (regions_in l) (layer_sets v layer l z.0)) (all_sets_inner layers ls z.1)
 
   module _ (layers : List Layer) (ls : List StateLayer) (z : AllZip (PolygonsShow v) layers ls) where
     abbrev sets : List (List (List ℕ))
-    sets = run.layer_sets plane layers
+    sets = run.layer_sets layers
 
     abbrev regions : List (List Region)
     regions = map regions_in ls
@@ -84,8 +84,8 @@ module _ (v : View) (view : IsView v) (plane : Plane) (seen : IsSeenIn v plane) 
     pieces = united (plane_of v) v.answers regions
 
     follow : FollowLayers (snapped v.drawing) v.arcs v.label sets regions
-    follow = zip_map (PolygonsShow v) (FollowInOrder (snapped v.drawing) v.arcs v.label) (λ (layer : Layer). sets_of plane layer) regions_in (λ layer l h.
-        follow_in_order v (sets_of plane layer) (regions_in l) (layer_sets v layer l h plane seen)) layers ls z
+    follow = zip_map (PolygonsShow v) (FollowInOrder (snapped v.drawing) v.arcs v.label) (λ (layer : Layer). sets_of layer) regions_in (λ layer l h.
+        follow_in_order v (sets_of layer) (regions_in l) (layer_sets v layer l h)) layers ls z
 
     tell : TellChoices (plane_of v) v.answers regions
     tell = record { sides = λ c. view.right.sides (union_region regions c); parts = λ c j. view.right.parts (union_region regions c) j }

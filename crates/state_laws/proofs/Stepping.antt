@@ -1,5 +1,5 @@
 -- A step of a command that changes each layer of its target, put together of what it makes of them.
-use Rattle.std.proofs.Common.{◌≡◌, inl, inr, refl, sym, ap, ◌∙◌, subst, ℕ, ◌+◌, ◌<◌, ◌≤◌, arith, Bool, true, false, List, length, map, sum_by, nat_lt, Option, Some, None, option_map, Result, Ok, Err, if◌then◌else◌}
+use Rattle.std.proofs.Common.{◌≡◌, ◌⊎◌, inl, inr, refl, sym, ap, ◌∙◌, subst, ℕ, ◌+◌, ◌<◌, ◌≤◌, arith, Bool, true, false, List, length, map, sum_by, nat_lt, Option, Some, None, option_map, Result, Ok, Err, if◌then◌else◌}
 use Rattle.std.specs.List.{AllZip}
 use Rattle.std.proofs.lemmas.Bool.{lt-ltb, ltb-true}
 use Rattle.std.proofs.lemmas.List.{length-map}
@@ -35,7 +35,20 @@ use Rattle.state_laws.proofs.Placed.{counted, placed_outputs_show}
 use Rattle.state_laws.proofs.Targeting.{targets_show}
 use Rattle.state_laws.proofs.Zipped.{zip_weaker}
 
--- ---- the first of three refusals
+-- ---- the first of two refusals, and of three
+
+pub first_of_two : (why : RefuseWhy) (a b : Option RefuseWhy) → first_refusal a b ≡ Some why → (a ≡ Some why) ⊎ ((a ≡ None) × (b ≡ Some why))
+first_of_two why None b e = inr (refl, e)
+first_of_two why (Some w) b e = inl e
+
+pub none_of_two : {E : Type 0} (a b : Option E) → first_refusal a b ≡ None → (a ≡ None) × (b ≡ None)
+none_of_two None b e = (refl, e)
+none_of_two (Some w) b e = absurd (let some : Some w ≡ None = e in cc)
+
+-- where each is that of the other side, so is the first
+pub first_alike : (a b : Option state.RefuseWhy) (c d : Option RefuseWhy) → a ≡ option_map why_of c → b ≡ option_map why_of d → first_refusal a b ≡ option_map why_of (first_refusal c d)
+first_alike a b None d e f = ap (λ (o : Option state.RefuseWhy). first_refusal o b) e ∙ f
+first_alike a b (Some why) d e f = ap (λ (o : Option state.RefuseWhy). first_refusal o b) e
 
 pub data First (why : RefuseWhy) (a b c : Option RefuseWhy) : Type 0 where
   is_first : a ≡ Some why → First why a b c
@@ -98,10 +111,16 @@ module _ (v : View) (sources : SourceLayers) (s : State) (c : Command) (act : Ac
 
 -- ---- a command whose outputs, for each layer, are alike
 
+-- why it is refused before it works, where its target is there
+abbrev pub stopped_before : SourceLayers → State → Action → List StateLayer → Option state.RefuseWhy
+stopped_before sources s act ls = first_refusal (refused_source sources s act) (unfit sources s act ls)
+
+abbrev pub refused_before : Base → List Held → LayerAction → List Layer → Option RefuseWhy
+refused_before base layers a ts = first_refusal (run.refused_source base.sources layers a) (run.refused_kinds base.sources layers a ts)
+
 -- what the state does is what a function makes of each layer, which is alike
 pub record IsAlike (v : View) (base : Base) (layers : List Held) (sources : SourceLayers) (s : State) (c : Command) (a : LayerAction) (f : StateLayer → Outputs) : Type 0 where
-  pub source : refused_source sources s (does.Each a) ≡ option_map why_of (run.refused_source base.sources layers a)
-  pub kinds : unfit sources s (does.Each a) (layers_at s (target_numbers c.target layers)) ≡ option_map why_of (run.refused_kinds base.sources layers a (targets c.target layers))
+  pub stops : has_target c.target layers ≡ true → stopped_before sources s (does.Each a) (layers_at s (target_numbers c.target layers)) ≡ option_map why_of (refused_before base layers a (targets c.target layers))
   pub outputs : refused_source sources s (does.Each a) ≡ None → (ls : List StateLayer) → outputs_of (plane_of v) v.answers sources s (does.Each a) ls ≡ each_layer f ls
   pub pairs : run.refused_kinds base.sources layers a (targets c.target layers) ≡ None → AllZip (λ (layer : Layer) (l : StateLayer). LayerShows v layer l × LayerAlike v (PutsOut base layers a layer) (run.RefusesLayer base layers a layer) (f l)) (targets c.target layers) (layers_at s (target_numbers c.target layers))
   pub count : (layer : Layer) (l : StateLayer) → LayerShows v layer l → (outs : List StateLayer) → f l ≡ Ok outs → length outs ≡ run.output_count a layer
@@ -123,14 +142,12 @@ module _ (v : View) (base : Base) (layers : List Held) (sources : SourceLayers) 
   Refuses layer refusal = run.RefusesLayer base layers a layer refusal
 
   -- where neither the source nor the kinds are refused
-  at_work : (answer : Result (List (List StateLayer)) state.RefuseWhy) → has_target c.target layers ≡ true → run.refused_source base.sources layers a ≡ None → run.refused_kinds base.sources layers a ts ≡ None → each_layer f ls ≡ answer →
-      step (plane_of v) v.answers sources s c ≡ stepped (on_ok answer (put s c ns))
-  at_work answer there source kinds is =
-      let no_source : refused_source sources s (does.Each a) ≡ None = alike.source ∙ ap (option_map why_of) source in
-      let no_kinds : unfit sources s (does.Each a) ls ≡ None = alike.kinds ∙ ap (option_map why_of) kinds in
-      let made = alike.outputs no_source ls ∙ is in
+  at_work : (answer : Result (List (List StateLayer)) state.RefuseWhy) → has_target c.target layers ≡ true → refused_before base layers a ts ≡ None → each_layer f ls ≡ answer → step (plane_of v) v.answers sources s c ≡ stepped (on_ok answer (put s c ns))
+  at_work answer there none is =
+      let fit : stopped_before sources s (does.Each a) ls ≡ None = alike.stops there ∙ ap (option_map why_of) none in
+      let made = alike.outputs (none_of_two (refused_source sources s (does.Each a)) (unfit sources s (does.Each a) ls) fit).0 ls ∙ is in
       step_by v sources s c (does.Each a) does_each (λ n. refl) ns ((targets_show v layers s h c.target).there there)
-      ∙ (λ i. stepped (changed_by s c ns (no_source i) (no_kinds i) (made i)))
+      ∙ (λ i. stepped (unless (fit i) (on_ok (made i) (put s c ns))))
 
   -- the outputs for the layers of a target, with what is made of them before they have a name
   made_titled : (outputs : List (List Layer)) → AllZip (PutsFor base layers c a) layers outputs → AllZip (MakesTitled v c.name Made Refuses f) ts (target_outputs c.target layers outputs)
@@ -142,32 +159,32 @@ module _ (v : View) (base : Base) (layers : List Held) (sources : SourceLayers) 
 
   goes_on : run.RefusesEach base layers c a None → (after : List Held) → ChangesEach base c a layers after → StepGives v sources s c after
   goes_on none after changes =
-      let (target, source, kinds) = none_of_three (run.refused_target c.target layers) (run.refused_source base.sources layers a) (run.refused_kinds base.sources layers a ts) none.0 in
-      let (outs, is, shown) = outputs_show v c.name Made Refuses f ts ls (only_alike kinds) (target_outputs c.target layers changes.outputs) (made_titled changes.outputs changes.puts) in
+      let (target, before) = none_of_two (run.refused_target c.target layers) (refused_before base layers a ts) none.0 in
+      let kinds = (none_of_two (run.refused_source base.sources layers a) (run.refused_kinds base.sources layers a ts) before).1 in
+      let (outs, is, shown) = outputs_show v c.name Made Refuses f ts ls (only_alike kinds) none.1.0 (target_outputs c.target layers changes.outputs) (made_titled changes.outputs changes.puts) in
       let placed = placed_outputs_show v layers s h c changes.outputs (map (map (titled c.name)) outs) (record { show = shown; all = others_put base layers c a layers changes.outputs changes.puts }) in
       let few : length (places.placed c layers changes.outputs) ≤ 1000 = subst (λ (held : List Held). length held ≤ 1000) changes.placed changes.few in
       let (t, put_out, shows) = placed.few few in
-      (t, at_work (Ok outs) (target_there (has_target c.target layers) target) source kinds is ∙ ap (stepped) put_out, subst (λ (held : List Held). StateShows v held t) (sym changes.placed) shows)
+      (t, at_work (Ok outs) (target_there (has_target c.target layers) target) before is ∙ ap (stepped) put_out, subst (λ (held : List Held). StateShows v held t) (sym changes.placed) shows)
 
   -- before it works
-  unfit_stops : (why : RefuseWhy) → First why (run.refused_target c.target layers) (run.refused_source base.sources layers a) (run.refused_kinds base.sources layers a ts) → StepRefuses v sources s c why
-  unfit_stops why (is_first target) =
+  unfit_stops : (why : RefuseWhy) → (run.refused_target c.target layers ≡ Some why) ⊎ ((run.refused_target c.target layers ≡ None) × (refused_before base layers a ts ≡ Some why)) → StepRefuses v sources s c why
+  unfit_stops why (inl target) =
       let absent = target_absent (has_target c.target layers) why target in
       step_refused v sources s c (does.Each a) does_each (λ n. refl) no_layer ((targets_show v layers s h c.target).absent absent.0) ∙ ap (λ (w : RefuseWhy). Err (why_of w)) absent.1
-  unfit_stops why (is_second target source) =
-      let first : refused_source sources s (does.Each a) ≡ Some (why_of why) = alike.source ∙ ap (option_map why_of) source in
-      step_by v sources s c (does.Each a) does_each (λ n. refl) ns ((targets_show v layers s h c.target).there (target_there (has_target c.target layers) target))
-      ∙ ap (λ (r : Option state.RefuseWhy). stepped (changed_by s c ns r (unfit sources s (does.Each a) ls) (outputs_of (plane_of v) v.answers sources s (does.Each a) ls))) first
-  unfit_stops why (is_third target source kinds) =
-      let first : refused_source sources s (does.Each a) ≡ None = alike.source ∙ ap (option_map why_of) source in
-      let second : unfit sources s (does.Each a) ls ≡ Some (why_of why) = alike.kinds ∙ ap (option_map why_of) kinds in
-      step_by v sources s c (does.Each a) does_each (λ n. refl) ns ((targets_show v layers s h c.target).there (target_there (has_target c.target layers) target))
-      ∙ (λ i. stepped (changed_by s c ns (first i) (second i) (outputs_of (plane_of v) v.answers sources s (does.Each a) ls)))
+  unfit_stops why (inr (target, before)) =
+      let there : has_target c.target layers ≡ true = target_there (has_target c.target layers) target in
+      let unfit : stopped_before sources s (does.Each a) ls ≡ Some (why_of why) = alike.stops there ∙ ap (option_map why_of) before in
+      step_by v sources s c (does.Each a) does_each (λ n. refl) ns ((targets_show v layers s h c.target).there there)
+      ∙ ap (λ (r : Option state.RefuseWhy). stepped (unless r (on_ok (outputs_of (plane_of v) v.answers sources s (does.Each a) ls) (put s c ns)))) unfit
 
   -- at work, for a layer of the target or for the number of layers
-  work_stops : (why : RefuseWhy) → has_target c.target layers ≡ true → run.refused_source base.sources layers a ≡ None → run.refused_kinds base.sources layers a ts ≡ None → run.FailsEach base layers c a (Some why) → StepRefuses v sources s c why
-  work_stops why there source kinds (inl layer) = at_work (Err (why_of why)) there source kinds (first_stops v c.name Made Refuses f ts ls (only_alike kinds) why layer)
-  work_stops why there source kinds (inr (layer, count)) =
+  work_stops : (why : RefuseWhy) → has_target c.target layers ≡ true → refused_before base layers a ts ≡ None → run.FailsEach base layers c a (Some why) → StepRefuses v sources s c why
+  work_stops why there none (inl layer) =
+      let kinds = (none_of_two (run.refused_source base.sources layers a) (run.refused_kinds base.sources layers a ts) none).1 in
+      at_work (Err (why_of why)) there none (first_stops v c.name Made Refuses f ts ls (only_alike kinds) why layer)
+  work_stops why there none (inr (layer, count)) =
+      let kinds = (none_of_two (run.refused_source base.sources layers a) (run.refused_kinds base.sources layers a ts) none).1 in
       let many = too_many_told (nat_lt 1000 (run.stay_count c layers + sum_by (run.output_count a) ts)) why count in
       let (outs, is, long, sum) = none_stops v c.name Made Refuses f (run.output_count a) alike.count ts ls (alike.pairs kinds) layer in
       let named : List (List StateLayer) = map (map (titled c.name)) outs in
@@ -176,15 +193,15 @@ module _ (v : View) (base : Base) (layers : List Held) (sources : SourceLayers) 
       let put_out : length (joined_up named) ≡ sum_by (run.output_count a) ts = joined_long (titled c.name) outs ∙ sum in
       let past : 1000 < run.stay_count c layers + sum_by (run.output_count a) ts = ltb-true 1000 (run.stay_count c layers + sum_by (run.output_count a) ts) many.0 in
       let more : 1000 < length (placed s c.keep ns named) = omega (arith, left, put_out, past) in
-      at_work (Ok outs) there source kinds is
+      at_work (Ok outs) there none is
       ∙ ap (λ (b : Bool). stepped (counted (placed s c.keep ns named) b)) (lt-ltb 1000 (length (placed s c.keep ns named)) more)
       ∙ ap (λ (w : RefuseWhy). Err (why_of w)) many.1
 
   stops : (why : RefuseWhy) → run.RefusesEach base layers c a (Some why) → StepRefuses v sources s c why
-  stops why (inl before) = unfit_stops why (which why (run.refused_target c.target layers) (run.refused_source base.sources layers a) (run.refused_kinds base.sources layers a ts) before)
+  stops why (inl before) = unfit_stops why (first_of_two why (run.refused_target c.target layers) (refused_before base layers a ts) before)
   stops why (inr (none, fails)) =
-      let (target, source, kinds) = none_of_three (run.refused_target c.target layers) (run.refused_source base.sources layers a) (run.refused_kinds base.sources layers a ts) none in
-      work_stops why (target_there (has_target c.target layers) target) source kinds fails
+      let (target, before) = none_of_two (run.refused_target c.target layers) (refused_before base layers a ts) none in
+      work_stops why (target_there (has_target c.target layers) target) before fails
 
   pub step_shows : StepShows v base layers sources s c a
   step_shows = record { goes = goes_on; refused = stops }

@@ -45,7 +45,7 @@ use Rattle.state_laws.specs.Targets.{target_numbers}
 use Rattle.state_laws.proofs.EachLayer.{LayerAlike, alike_with}
 use Rattle.state_laws.proofs.LayerKinds.{only_taken}
 use Rattle.state_laws.proofs.Splitting.{pieces_are_shown, pieces_of, split_of}
-use Rattle.state_laws.proofs.Stepping.{IsAlike, step_shows, unfit}
+use Rattle.state_laws.proofs.Stepping.{IsAlike, first_alike, step_shows, unfit}
 use Rattle.state_laws.proofs.TableCommands.{assigned_fields_show, early_rows_show, fields_show, filtered_rows_show, joins_show, new_names_show, passed, passed_of, sorted_rows_show}
 use Rattle.state_laws.proofs.Targeting.{one_layer_shows, origins_show, targets_show}
 use Rattle.state_laws.proofs.Zipped.{zip_with_all, zip_weaker}
@@ -131,7 +131,7 @@ module _ (v : View) (view : IsView v) (base : Base) (sources : SourceLayers) (ow
 
 -- ---- how many layers
 
-one_table : (l : StateLayer) (answer : Result TableContent TableWhy) (outs : List StateLayer) → with_table l answer ≡ Ok outs → length outs ≡ 1
+pub one_table : (l : StateLayer) (answer : Result TableContent TableWhy) (outs : List StateLayer) → with_table l answer ≡ Ok outs → length outs ≡ 1
 one_table l (Ok t) outs e = let same : record l { table = t } ∷ [] ≡ outs = cc in sym (ap length same)
 one_table l (Err why) outs e = absurd (cc)
 
@@ -223,8 +223,8 @@ module _ (v : View) (view : IsView v) (base : Base) (sources : SourceLayers) (ow
 
   is_alike : IsAlike v base layers sources s c a (made_of v sources s a)
   is_alike = record {
-    source = source_alike v base sources owns layers s h a on;
-    kinds = kinds_alike v base sources layers s a on (targets c.target layers) (layers_at s (target_numbers c.target layers)) (targets_show v layers s h c.target).show;
+    stops = λ there. first_alike (refused_source sources s (does.Each a)) (unfit sources s (does.Each a) (layers_at s (target_numbers c.target layers))) (held.refused_source base.sources layers a) (held.refused_kinds base.sources layers a (targets c.target layers))
+        (source_alike v base sources owns layers s h a on) (kinds_alike v base sources layers s a on (targets c.target layers) (layers_at s (target_numbers c.target layers)) (targets_show v layers s h c.target).show);
     outputs = λ none ls. outputs_are v sources s a on none ls;
     pairs = λ kinds. all_alike;
     count = so_many v sources s a on;

@@ -1,5 +1,5 @@
 -- The step of a command that unites the layers of its target.
-use Rattle.std.proofs.Common.{◌≡◌, ◌⊎◌, inl, inr, refl, sym, ap, ◌∙◌, subst, true≢false, ℕ, suc, ◌+◌, ◌<◌, ◌≤◌, arith, Bool, true, false, List, [], ◌∷◌, length, map, drop, nat_lt, Option, Some, None, option_map, Result, Ok, Err, if◌then◌else◌}
+use Rattle.std.proofs.Common.{◌≡◌, ◌⊎◌, inl, inr, refl, sym, ap, ◌∙◌, subst, true≢false, ℕ, suc, ◌+◌, ◌<◌, ◌≤◌, arith, Bool, true, List, [], ◌∷◌, length, map, drop, nat_lt, Option, Some, None, option_map, Result, Ok, Err, if◌then◌else◌}
 use Rattle.std.specs.List.{AllZip, list_all, position_or_len}
 use Rattle.std.proofs.lemmas.Bool.{and_parts, lt-ltb, ltb-true}
 use Rattle.std.proofs.lemmas.List.{length-map}
@@ -16,7 +16,7 @@ use Rattle.run_state.specs.Origins.{Base}
 use Rattle.run_state.specs.Targets as places
 use Rattle.run_state.specs.Targets.{has_target, is_selected, targets}
 use Rattle.run_state.specs.declared.refusal.RefuseWhy.{RefuseWhy}
-use Rattle.run_state.specs.declared.refusal.RefuseWhy.TheVariants.{OneLayer, WrongKind}
+use Rattle.run_state.specs.declared.refusal.RefuseWhy.TheVariants.{OneLayer}
 use Rattle.run_state.specs.declared.state.Held.{Held}
 use Rattle.run_steps.specs.Commands.{ChangesTogether}
 use Rattle.run_steps.specs.Refusals as run
@@ -36,10 +36,10 @@ use Rattle.state_laws.specs.Tables.{MergedShows}
 use Rattle.state_laws.specs.Targets.{target_numbers}
 use Rattle.state_laws.proofs.Counting.{joined_long, placed_long}
 use Rattle.state_laws.proofs.EachLayer.{titled_shows}
-use Rattle.state_laws.proofs.MergeStep.{Longs, first_joined, first_of_two, first_outputs, mixture_told, none_of_two, nothing_joined, nothing_shows, nothings, one_kind_told, targets_there}
+use Rattle.state_laws.proofs.MergeStep.{Longs, first_joined, first_outputs, mixture_told, nothing_joined, nothing_shows, nothings, one_kind_told, targets_there}
 use Rattle.state_laws.proofs.Placed.{counted, placed_outputs_show}
 use Rattle.state_laws.proofs.PolygonUnion.{lone_layers_are_refused, united_layers_show}
-use Rattle.state_laws.proofs.Stepping.{First, changed_by, is_first, is_second, is_third, none_of_three, put, step_by, step_refused, stepped, target_absent, target_there, too_many_told, unfit, which}
+use Rattle.state_laws.proofs.Stepping.{First, changed_by, first_of_two, is_first, is_second, is_third, none_of_three, none_of_two, put, step_by, step_refused, stepped, target_absent, target_there, too_many_told, unfit, which}
 use Rattle.state_laws.proofs.Targeting.{targets_show}
 use Rattle.state_laws.proofs.Zipped.{zip_all, zip_long}
 

@@ -117,11 +117,11 @@ pub view_faces : (v : View) → IsView v → AreFacesOf v.drawing v.arcs v.faces
 view_faces v view = record { table = view.walked.table; built = view.walked.built; by_face = view.walked.labelled }
 
 pub views_exist : ViewsExist
-views_exist d arcs faces boxes features paths laid = go (each_table_has_labels (links_of (snapped d)) (links_arranged d) arcs laid.are_arcs.links faces)
+views_exist d arcs faces boxes features laid = go (each_table_has_labels (links_of (snapped d)) (links_arranged d) arcs laid.are_arcs.links faces)
   where
     go : (label : Place → ℕ) × IsFaceOfPlace arcs faces label → (v : View) × IsViewOf d arcs faces boxes features v
     go (label, labelled) =
-        let walked : IsWalked d arcs faces label = record { paths = paths; table = laid.are_arcs; built = laid.are_faces; labelled = labelled } in
+        let walked : IsWalked d arcs faces label = record { paths = laid.paths; table = laid.are_arcs; built = laid.are_faces; labelled = labelled } in
         let held = laid.held in
         let (A, right) = right_answers d arcs faces label walked held.labels held.are_holders in (
           record { drawing = d; arcs = arcs; faces = faces; label = label; answers = A },

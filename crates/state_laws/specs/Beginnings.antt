@@ -1,26 +1,20 @@
 -- Laws of the beginning: the layers of the sources of a run show those of the state.
-use Rattle.std.specs.Prelude.{◌≡◌, ℕ, ⊤, List, [], All, map}
+use Rattle.std.specs.Prelude.{◌≡◌, ℕ, List, [], map}
 use Rattle.std.specs.List.{AllZip}
 use Rattle.lists.specs.Lists.{joined_up}
 use Rattle.plane_model.specs.Points.{Path}
 use Rattle.plane_model.specs.Drawing.{Drawing}
 use Rattle.plane_model.specs.Snapped.{snapped}
-use Rattle.grid_base.specs.Drawn.{HasPaths}
 use Rattle.grid_base.specs.Grid.{Corners}
 use Rattle.geojson_io.specs.LayerContent.{LayerContent}
 use Rattle.cmd_words.specs.declared.job.Owner.{Owner}
 use Rattle.cmd_words.specs.declared.job.SourceWord.{SourceWord}
 use Rattle.face_walk.specs.Places.{FaceTable}
-use Rattle.line_laws.specs.Linked.{AreThere}
 use Rattle.run_plane.specs.declared.layer.Layer.{Layer}
-use Rattle.run_plane.specs.declared.layer.Shape.{Shape}
-use Rattle.run_plane.specs.declared.layer.Shape.TheVariants as shape
 use Rattle.run_beginning.specs.BegunLayers.{BeginsOver}
 use Rattle.run_beginning.specs.Drawing as run
 use Rattle.chain_model.specs.Beginning as state
 use Rattle.chain_model.specs.Beginning.{command_layers, first_sources, import_layers}
-use Rattle.chain_model.specs.State.{StateLayer}
-use Rattle.chain_model.specs.Targets.{SourceLayers}
 use Rattle.state_laws.specs.Shown.{View, LayerShows, SourcesShow, plane_of}
 use Rattle.state_laws.specs.Views.{IsViewOf}
 
@@ -29,17 +23,6 @@ abbrev pub DrawingsAreOne : Type 0
 DrawingsAreOne = (layers : List LayerContent) (boxes : List Corners) → run.drawing_of layers boxes ≡ state.drawing_of layers boxes
 
 -- ---- layers
-
--- the arcs of a line are among those of the plane
-abbrev pub HasArcsThere : List Path → Shape → Type 0
-HasArcsThere arcs shape.Nothing = ⊤
-HasArcsThere arcs (shape.Faces set) = ⊤
-HasArcsThere arcs (shape.Paths named) = All (AreThere arcs) named
-HasArcsThere arcs (shape.Points points) = ⊤
-
--- and so it is with the lines of a layer
-abbrev pub AreLinesThere : List Path → Layer → Type 0
-AreLinesThere arcs layer = All (HasArcsThere arcs) layer.shapes.items
 
 -- layers of the import, and those of each source for a command, show those of the state
 pub record BeginningShows (v : View) (words : List SourceWord) (given : List (List LayerContent)) (layers : List Layer) (sources : List (List Layer)) : Type 0 where
@@ -55,7 +38,7 @@ drawing_by given corners = run.drawing_of (joined_up given) corners
 
 -- ---- law: what begins over a drawing has a view, in which it shows what begins in the state
 abbrev pub BeginningsShow : Type 0
-BeginningsShow = (given : List (List LayerContent)) (corners : List Corners) → HasPaths (snapped (drawing_by given corners)) →
+BeginningsShow = (given : List (List LayerContent)) (corners : List Corners) →
     (words : List SourceWord) (arcs : List Path) (faces : FaceTable) (boxes : List (List ℕ)) (layers : List Layer) (sources : List (List Layer)) →
-    (over : BeginsOver (snapped (drawing_by given corners)) (owners_of words) given arcs faces boxes layers sources) → All (All (AreLinesThere arcs)) over.begun.begun →
+    (over : BeginsOver (snapped (drawing_by given corners)) (owners_of words) given arcs faces boxes layers sources) →
     (v : View) × IsViewOf (drawing_by given corners) arcs faces boxes over.features v × BeginningShows v words given layers sources

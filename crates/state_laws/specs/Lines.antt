@@ -36,8 +36,8 @@ ExplodedLinesShow = (v : View) → (plane : Plane) → (layer : Layer) (l : Stat
 
 -- grouped features, where they may be grouped, show the groups of the state
 abbrev pub GroupedLinesShow : Type 0
-GroupedLinesShow = (v : View) → IsView v → (plane : Plane) → (layer : Layer) (l : StateLayer) → LayerShows v layer l → layer.kind ≢ kinds.Polygon → (spec : GroupSpec) (group_points : Bool) →
-    MakesAlike v (λ (made : List Layer). (refused_dissolve spec group_points layer ≡ None) × One (IsGrouped plane spec layer) made) (refused_dissolve spec group_points layer) (dissolve_layer (plane_of v) spec group_points l)
+GroupedLinesShow = (v : View) → IsView v → (layer : Layer) (l : StateLayer) → LayerShows v layer l → layer.kind ≢ kinds.Polygon → (spec : GroupSpec) (group_points : Bool) →
+    MakesAlike v (λ (made : List Layer). (refused_dissolve spec group_points layer ≡ None) × One (IsGrouped spec layer) made) (refused_dissolve spec group_points layer) (dissolve_layer (plane_of v) spec group_points l)
 
 -- ---- laws of lines between polygons
 

@@ -29,6 +29,7 @@ is_on_polygons action.Mosaic = true
 is_on_polygons action.Explode = true
 is_on_polygons action.InnerLines = true
 is_on_polygons (action.Lines fields) = true
+is_on_polygons (action.FilterIslands least_area least_links remove_empty) = true
 is_on_polygons _ = false
 
 abbrev pub AreOfPolygons : List Layer → Type 0
@@ -43,11 +44,13 @@ PolygonStepsShow = (v : View) → IsView v → (base : Base) → IsSeenIn v base
 abbrev pub is_on_shapes : LayerAction → Bool
 is_on_shapes (action.Clip from) = true
 is_on_shapes (action.Erase from) = true
+is_on_shapes (action.Dissolve spec group_points) = true
 is_on_shapes action.Explode = true
 is_on_shapes (action.Clean rule allow_empty gap) = nat_lt 0 gap
 is_on_shapes action.Mosaic = true
 is_on_shapes action.InnerLines = true
 is_on_shapes (action.Lines fields) = true
+is_on_shapes (action.FilterIslands least_area least_links remove_empty) = true
 is_on_shapes _ = false
 
 -- whatever the kinds of the layers of its target are

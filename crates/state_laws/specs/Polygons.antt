@@ -22,12 +22,13 @@ use Rattle.run_shapes.specs.Cutting.{IsCut}
 use Rattle.run_shapes.specs.Dissolving.{IsGrouped, refused_dissolve}
 use Rattle.run_shapes.specs.Exploding.{IsExploded}
 use Rattle.run_shapes.specs.FaceSets.{area_of}
+use Rattle.run_shapes.specs.Islands.{IsMainland}
 use Rattle.run_shapes.specs.Uniting.{IsUnited, layer_tables}
 use Rattle.run_shapes.specs.declared.cutting.CutKeeps.TheVariants as keeps
 use Rattle.run_steps.specs.Refusals.{refused_alone, refused_area}
 use Rattle.chain_model.specs.Outcome as state
 use Rattle.chain_model.specs.State.{State, StateLayer, region_at, without_empty}
-use Rattle.chain_model.specs.Features.{Outputs, clean_layer, clip_layer, count_of, dissolve_layer, erase_layer, explode_layer, just, mosaic_layer, shapes_by, united_layers}
+use Rattle.chain_model.specs.Features.{Outputs, clean_layer, clip_layer, count_of, dissolve_layer, erase_layer, explode_layer, islands_layer, just, mosaic_layer, shapes_by, united_layers}
 use Rattle.chain_model.specs.Steps.{source_region}
 use Rattle.chain_model.specs.Targets.{SourceLayers}
 use Rattle.state_laws.specs.Shown.{View, IsView, FacesShow, LayerShows, SourcesShow, StateShows, plane_of, IsSeenIn}
@@ -58,18 +59,18 @@ AreasShow = (v : View) → IsView v → (base : Base) → IsSeenIn v base.plane 
 -- ---- clip and erase
 
 abbrev pub ClippedPolygonsShow : Type 0
-ClippedPolygonsShow = (v : View) → IsView v → (plane : Plane) → IsSeenIn v plane → (layer : Layer) (l : StateLayer) → PolygonsShow v layer l → (area : List ℕ) (source : Region) → FacesShow v area source →
+ClippedPolygonsShow = (v : View) → IsView v → (plane : Plane) → (layer : Layer) (l : StateLayer) → PolygonsShow v layer l → (area : List ℕ) (source : Region) → FacesShow v area source →
     MakesAlike v (One (IsCut keeps.Inside plane area layer)) None (clip_layer (plane_of v) v.answers source l)
 
 abbrev pub ErasedPolygonsShow : Type 0
-ErasedPolygonsShow = (v : View) → IsView v → (plane : Plane) → IsSeenIn v plane → (layer : Layer) (l : StateLayer) → PolygonsShow v layer l → (area : List ℕ) (source : Region) → FacesShow v area source →
+ErasedPolygonsShow = (v : View) → IsView v → (plane : Plane) → (layer : Layer) (l : StateLayer) → PolygonsShow v layer l → (area : List ℕ) (source : Region) → FacesShow v area source →
     MakesAlike v (One (IsCut keeps.Outside plane area layer)) None (erase_layer (plane_of v) v.answers source l)
 
 -- ---- dissolve
 
 abbrev pub DissolvedPolygonsShow : Type 0
-DissolvedPolygonsShow = (v : View) (plane : Plane) → IsSeenIn v plane → (layer : Layer) (l : StateLayer) → PolygonsShow v layer l → (spec : GroupSpec) (group_points : Bool) →
-    MakesAlike v (One (IsGrouped plane spec layer)) (refused_dissolve spec group_points layer) (dissolve_layer (plane_of v) spec group_points l)
+DissolvedPolygonsShow = (v : View) → (layer : Layer) (l : StateLayer) → PolygonsShow v layer l → (spec : GroupSpec) (group_points : Bool) →
+    MakesAlike v (One (IsGrouped spec layer)) (refused_dissolve spec group_points layer) (dissolve_layer (plane_of v) spec group_points l)
 
 -- ---- clean
 
@@ -88,6 +89,13 @@ plainly_cleaned P A rule allow_empty l =
 abbrev pub CleanedPolygonsShow : Type 0
 CleanedPolygonsShow = (v : View) → IsView v → (plane : Plane) → IsSeenIn v plane → (layer : Layer) (l : StateLayer) → PolygonsShow v layer l → (rule : OverlapRule) (allow_empty : Bool) →
     MakesAlike v (One (IsCleaned rule allow_empty 0 plane layer)) None (plainly_cleaned (plane_of v) v.answers rule allow_empty l)
+
+-- ---- islands
+
+-- features that are left empty stay, or go with all others without geometry
+abbrev pub IslandsShow : Type 0
+IslandsShow = (v : View) → IsView v → (plane : Plane) → IsSeenIn v plane → (layer : Layer) (l : StateLayer) → PolygonsShow v layer l → (least_area least_links : ℕ) (remove_empty : Bool) →
+    MakesAlike v (One (IsMainland least_area least_links remove_empty plane layer)) None (islands_layer (plane_of v) v.answers least_area least_links remove_empty l)
 
 -- ---- mosaic and explode
 

@@ -3,7 +3,6 @@ use Rattle.std.specs.Prelude.{◌≡◌, ℕ, ◌<◌, List, length}
 use Rattle.plane_model.specs.Points.{Path}
 use Rattle.plane_model.specs.Drawing.{Drawing}
 use Rattle.plane_model.specs.Snapped.{snapped}
-use Rattle.grid_base.specs.Drawn.{HasPaths}
 use Rattle.face_walk.specs.Holders.{list_at}
 use Rattle.face_walk.specs.Places.{FaceTable}
 use Rattle.region_model.specs.Region.{Region, box, feature}
@@ -25,4 +24,4 @@ pub record IsViewOf (d : Drawing) (arcs : List Path) (faces : FaceTable) (boxes 
 
 -- ---- law: a snapped drawing that is laid out has such a view
 abbrev pub ViewsExist : Type 0
-ViewsExist = (d : Drawing) (arcs : List Path) (faces : FaceTable) (boxes features : List (List ℕ)) → HasPaths (snapped d) → IsLaidOut (snapped d) arcs faces boxes features → (v : View) × IsViewOf d arcs faces boxes features v
+ViewsExist = (d : Drawing) (arcs : List Path) (faces : FaceTable) (boxes features : List (List ℕ)) → IsLaidOut (snapped d) arcs faces boxes features → (v : View) × IsViewOf d arcs faces boxes features v

@@ -27,19 +27,21 @@
 //!   of the state (`areas_show`). So do `clipped_polygons_show`, `erased_polygons_show`, `dissolved_polygons_show`,
 //!   `filled_polygons_show`, `mosaics_show`, `exploded_polygons_show` and `united_layers_show`; a layer that is alone is not
 //!   united (`lone_layers_are_refused`). Polygons cleaned without their gaps show what their overlaps leave
-//!   (`cleaned_polygons_show`). The step of a command on layers of polygons shows that of the state (`polygon_steps_show`),
-//!   and so does that of one that unites them (`union_steps_show`), and that of clip, erase, explode, mosaic, innerlines,
-//!   lines and a clean that fills gaps, whatever the kinds of the layers are (`shape_steps_show`).
+//!   (`cleaned_polygons_show`), and so do polygons without their islands (`islands_show`). The step of a command on layers
+//!   of polygons shows that of the state (`polygon_steps_show`), and so does that of one that unites them
+//!   (`union_steps_show`), that of clip, erase, dissolve, explode, mosaic, innerlines, lines, islands that are dropped and a
+//!   clean that fills gaps, whatever the kinds of the layers are (`shape_steps_show`), and that of a join by place
+//!   (`place_steps_show`).
 //!
 //! Each function carries one law in its contract, and does nothing.
 #![tactic(auto)]
 
 ghost use Rattle.state_laws.specs.Beginnings.{BeginningsShow, DrawingsAreOne};
 ghost use Rattle.state_laws.specs.Lines.{ClippedLinesShow, ErasedLinesShow, ExplodedLinesShow, GroupedLinesShow, InnerLinesShow, OutlinesShow};
-ghost use Rattle.state_laws.specs.Places.{PlaceJoinsShow};
+ghost use Rattle.state_laws.specs.Places.{PlaceJoinsShow, PlaceStepsShow};
 ghost use Rattle.state_laws.specs.Placing.{PlacedOutputsShow};
 ghost use Rattle.state_laws.specs.PolygonSteps.{PolygonStepsShow, ShapeStepsShow, UnionStepsShow};
-ghost use Rattle.state_laws.specs.Polygons.{AreasShow, CleanedPolygonsShow, ClippedPolygonsShow, DissolvedPolygonsShow, ErasedPolygonsShow, ExplodedPolygonsShow, FilledPolygonsShow, LoneLayersAreRefused, MosaicsShow, PlanesAreSeen, UnitedLayersShow};
+ghost use Rattle.state_laws.specs.Polygons.{AreasShow, CleanedPolygonsShow, ClippedPolygonsShow, DissolvedPolygonsShow, ErasedPolygonsShow, ExplodedPolygonsShow, FilledPolygonsShow, IslandsShow, LoneLayersAreRefused, MosaicsShow, PlanesAreSeen, UnitedLayersShow};
 ghost use Rattle.state_laws.specs.Steps.{MergeStepsShow, TableStepsShow};
 ghost use Rattle.state_laws.specs.Tables.{
   AssignedFieldsShow,
@@ -243,6 +245,11 @@ pub fn filled_polygons_show()
     ensures { FilledPolygonsShow }
 {}
 
+/// Polygons without their islands show those of the state, with or without the features that are left empty.
+pub fn islands_show()
+    ensures { IslandsShow }
+{}
+
 /// A mosaic shows that of the state, with the same numbers.
 pub fn mosaics_show()
     ensures { MosaicsShow }
@@ -273,8 +280,13 @@ pub fn union_steps_show()
     ensures { UnionStepsShow }
 {}
 
-/// The step of a clip, an erase, an explode, a mosaic, innerlines, lines or a clean that fills gaps shows that of the state,
-/// whatever the kinds of its layers.
+/// The step of a clip, an erase, a dissolve, an explode, a mosaic, innerlines, lines, islands that are dropped or a clean
+/// that fills gaps shows that of the state, whatever the kinds of its layers.
 pub fn shape_steps_show()
     ensures { ShapeStepsShow }
+{}
+
+/// The step of a join by place shows that of the state, whatever the kinds of its layers.
+pub fn place_steps_show()
+    ensures { PlaceStepsShow }
 {}

@@ -4,9 +4,11 @@
 //! or the fault. It reads whole units, into room for 100 features and 100 positions. `read_at_places` takes a number of
 //! decimal places before the source, and `read_into_room` how many positions and features there is room for.
 ghost use Rattle.std.specs.Prelude.{◌≤◌};
+ghost use Rattle.grid_base.specs.Grid.{most_places};
 
 use case_lists::{number_at, told, unknown_call};
 use geojson_io::{GeoLayers, Room, read_geojson, write_geojson};
+use grid_base::MOST_PLACES;
 use io_core::Bytes;
 use json_read::Json;
 use std::alloc::{AllocError, Global};
@@ -26,11 +28,11 @@ pub fn answer(alloc: Global, call: &str, case: &[Json]) -> Result<Bytes, AllocEr
     }
 }
 
-/// The number of decimal places at this place of a case, 7 at most.
+/// The number of decimal places at this place of a case, at most as many as a grid has.
 pub fn places_at(case: &[Json], place: usize) -> u8
-    ensures { result ≤ 7 }
+    ensures { result ≤ most_places }
 {
-    number_at(case, place).min(7) as u8
+    number_at(case, place).min(u32::from(MOST_PLACES)) as u8
 }
 
 /// The room for positions and features with which a case begins.
@@ -42,7 +44,7 @@ pub fn room_of(case: &[Json]) -> Room {
 }
 
 fn read(alloc: Global, source: Option<&Json>, places: u8, room: Room) -> Result<Bytes, AllocError>
-    requires { places ≤ 7 }
+    requires { places ≤ most_places }
 {
     let Some(source) = source else {
         return unknown_call(alloc);
@@ -55,7 +57,7 @@ fn read(alloc: Global, source: Option<&Json>, places: u8, room: Room) -> Result<
 
 /// The name of each layer, and its text.
 pub fn layers_text(alloc: Global, layers: &GeoLayers, places: u8) -> Result<Bytes, AllocError>
-    requires { places ≤ 7 }
+    requires { places ≤ most_places }
 {
     let mut out = Bytes::new(alloc);
     for layer in layers.as_slice() {

@@ -6,6 +6,7 @@
 //! topology of the arc between them and of one layer `in`, whose one feature goes there and back, with null in each
 //! column. `write_nothing` takes the same, and the feature has no geometry.
 ghost use Rattle.std.specs.Prelude.{◌≡◌, ◌≤◌, ◌∷◌, [], All, IfOk, length};
+ghost use Rattle.grid_base.specs.Grid.{most_places};
 ghost use Rattle.topo_io.specs.Arcs.{ShapeIsBelow, LayerIsBelow};
 
 use crate::geojson_io_calls::{AMPLE, layers_text, places_at, room_of};
@@ -31,7 +32,7 @@ pub fn answer(alloc: Global, call: &str, case: &[Json]) -> Result<Bytes, AllocEr
 }
 
 fn read(alloc: Global, source: Option<&Json>, places: u8, room: Room) -> Result<Bytes, AllocError>
-    requires { places ≤ 7 }
+    requires { places ≤ most_places }
 {
     let Some(source) = source else {
         return unknown_call(alloc);

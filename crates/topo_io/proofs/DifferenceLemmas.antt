@@ -1,11 +1,9 @@
 -- The differences of an arc's points, one after another.
-use Rattle.std.proofs.Common.{◌≡◌, ℕ, suc, ◌+◌, ◌<◌, ◌≤◌, [], ◌∷◌, length, drop, get_or, refl, sym, ap, ◌∙◌, subst, arith, ◌-ℤ◌, unsigned_abs}
+use Rattle.std.proofs.Common.{◌≡◌, ℕ, suc, ◌+◌, ◌<◌, [], ◌∷◌, length, drop, get_or, refl, sym, ap, ◌∙◌, subst, ◌-ℤ◌}
 use Rattle.std.proofs.Math.Seq.{drop-cons}
 use Rattle.std.proofs.Math.Numerals.{add-one}
-use Rattle.std.proofs.lemmas.Int.{ints}
 use Rattle.lists.specs.Lists.{tail}
 use Rattle.plane_model.specs.Points.{GridPoint, Path}
-use Rattle.grid_base.specs.Grid.{IsOnGrid}
 use Rattle.topo_io.specs.Texts.{differences}
 use Rattle.topo_io.proofs.MarkLemmas.{left_after}
 
@@ -35,9 +33,3 @@ module _ (o : GridPoint) (ps : Path) (i : ℕ) (b p : GridPoint) (l : i < length
 
   pub way_inside : i < length (differences o ps)
   way_inside = inside
-
-pub across : (p : GridPoint) → IsOnGrid p → unsigned_abs p.x ≤ 2000000000
-across p h = let l = h.x_low in let g = h.x_high in omega (arith, ints)
-
-pub upward : (p : GridPoint) → IsOnGrid p → unsigned_abs p.y ≤ 2000000000
-upward p h = let l = h.y_low in let g = h.y_high in omega (arith, ints)

@@ -4,6 +4,7 @@ use Rattle.json_read.specs.Json.{JsonValue, number, array, object, item, no_item
 use Rattle.json_read.specs.Lists.{fields_list, value_named}
 use Rattle.json_read.specs.Numeral.{checked_grid}
 use Rattle.plane_model.specs.Points.{GridPoint}
+use Rattle.grid_base.specs.Sizes.{most_step}
 use Rattle.geojson_io.specs.Reads.{on_ok}
 use Rattle.geojson_io.specs.Positions.{numbered_point, place}
 use Rattle.geojson_io.specs.declared.fault.ShapeWhy.{ShapeWhy}
@@ -38,9 +39,9 @@ abbrev pub whole_pair : JsonValue → Option (ℤ × ℤ)
 whole_pair (array (item (number x) (item (number y) rest))) = both (units_of_text 0 x) (units_of_text 0 y)
 whole_pair _ = None
 
--- sums stay within four thousand million, either way
+-- sums stay within twice the limit of the grid, either way
 abbrev pub is_sum : ℤ → Bool
-is_sum n = nat_le (unsigned_abs n) 4000000000
+is_sum n = nat_le (unsigned_abs n) most_step
 
 abbrev pub sums_with : Sums → ℤ × ℤ → Result Sums TopoWhy
 sums_with before d =

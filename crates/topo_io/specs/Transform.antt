@@ -1,5 +1,6 @@
 -- The transform of a topology, after TopoJSON 1.0, section 2.1.2: quantized numbers and their places on the grid.
-use Rattle.std.specs.Prelude.{ℕ, ℤ, pos, ◌+ℤ◌, ◌-ℤ◌, ◌*ℤ◌}
+use Rattle.std.specs.Prelude.{ℕ, ◌+◌, ◌*◌, ◌^◌, ℤ, pos, ◌+ℤ◌, ◌-ℤ◌, ◌*ℤ◌}
+use Rattle.grid_base.specs.Sizes.{most_step}
 use Rattle.json_read.specs.Numeral.{rounded}
 
 -- n stands for n * scale + offset; both in units of 10^-28
@@ -10,3 +11,13 @@ pub record AxisUnits : Type 0 where
 -- the place of a quantized number on the grid, in so many decimal places, halves upwards
 abbrev pub axis_place : AxisUnits → ℕ → ℤ → ℤ
 axis_place a places n = rounded (n *ℤ a.scale +ℤ a.offset) (pos places -ℤ pos 28)
+
+-- ## In two parts
+
+-- so many units of 10^-28 make the least unit that a grid can have, and a number of a transform has at most as many of these
+abbrev pub part : ℕ
+part = 10 ^ 19
+
+-- the greatest that a quantized number times a part, and a part more, can be
+abbrev pub most_line : ℕ
+most_line = most_step * part + part

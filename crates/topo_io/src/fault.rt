@@ -23,13 +23,13 @@ pub enum TopoWhy {
     /// coordinates are not nested as their type demands.
     #[error("no position")]
     BadPosition,
-    /// A number of the transform is no multiple of 10^-28 below 10^9, or a sum passes 4,000,000,000 either way.
+    /// A number of the transform is no multiple of 10^-28 below 10^9, or a sum passes twice the limit of the grid either way.
     #[error("a number past what a transform takes")]
     TransformRange,
     /// The ends of a ring differ.
     #[error("a ring whose ends differ")]
     RingOpen,
-    /// A grid number passes 2,000,000,000 either way.
+    /// A grid number passes 200,000,000,000 either way.
     #[error("a position outside the grid")]
     Range,
     /// A geometry collection stands inside another.

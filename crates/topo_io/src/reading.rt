@@ -1,4 +1,5 @@
 ghost use Rattle.std.specs.Prelude.{◌≡◌, ◌≤◌, All, Err, IfErr, IfOk, Ok};
+ghost use Rattle.grid_base.specs.Grid.{most_places};
 ghost use Rattle.json_read.specs.Lists.{items_list};
 ghost use Rattle.json_read.specs.Seen.{json_value};
 ghost use Rattle.topo_io.specs.Reads.{AnswersAt, IsFault};
@@ -35,7 +36,7 @@ pub fn read_topojson(
     places: u8,
     room: Room,
 ) -> Result<GeoLayers, TopoFault>
-    requires { places ≤ 7 }
+    requires { places ≤ most_places }
     ensures ok { IfOk result (λ layers. topology_layers places room.positions room.features (json_value json.now) ≡ Ok layers) }
     ensures fault { IfErr result (IsFault (topology_layers places room.positions room.features (json_value json.now))) }
     ensures sound { IfOk result (λ layers. All LayerIsSound layers) }
@@ -96,7 +97,7 @@ fn layers_of_top(
     places: u8,
     room: Room,
 ) -> Result<GeoLayers, TopoFault>
-    requires { places ≤ 7 }
+    requires { places ≤ most_places }
     ensures read { let m : Members = record { objects = top.entry.objects.now; arcs = items_list top.entry.arcs.now; transform = top.entry.transform } in AnswersAt (layers_in places room.positions room.features m) result }
     ensures sound { IfOk result (λ layers. All LayerIsSound layers) }
 {

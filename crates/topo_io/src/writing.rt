@@ -1,4 +1,5 @@
 ghost use Rattle.std.specs.Prelude.{◌≡◌, ◌≤◌, ◌++◌, ◌∷◌, [], All, IfOk, OnOk, length, map};
+ghost use Rattle.grid_base.specs.Grid.{most_places};
 ghost use Rattle.json_read.specs.Text.{string_text};
 ghost use Rattle.geojson_io.specs.Texts.{separated};
 ghost use Rattle.topo_io.specs.Arcs.{LayerIsBelow};
@@ -29,7 +30,7 @@ pub fn write_topojson(
     arcs: &ArcTable,
     places: u8,
 ) -> Result<Bytes, AllocError>
-    requires places { places ≤ 7 }
+    requires places { places ≤ most_places }
     requires there { All (LayerIsBelow (length arcs.now)) layers.now }
     ensures exact { IfOk result (λ text. text ≡ topojson_text places arcs.now layers.now) }
 {
@@ -44,7 +45,7 @@ pub fn write_topojson(
 }
 
 fn write_head(places: u8, out: &mut Bytes) -> Result<(), AllocError>
-    requires { places ≤ 7 }
+    requires { places ≤ most_places }
     ensures { OnOk result (out.new ≡ out.old ++ head_text places) }
 {
     let scale = Decimal::of_grid(1, places);

@@ -1,4 +1,5 @@
 ghost use Rattle.std.specs.Prelude.{◌≡◌, ◌≤◌, ◌++◌, ◌∷◌, [], OnOk, codes};
+ghost use Rattle.grid_base.specs.Grid.{most_places};
 ghost use Rattle.geojson_io.specs.Texts.{point_text, path_text, polygon_text, list_text, geometry_text, before_item, type_text, one_or_many};
 
 use crate::shape::GeoShape;
@@ -9,7 +10,7 @@ use std::alloc::AllocError;
 
 /// A point as a pair of numbers in brackets.
 pub fn write_point(point: &Pt, places: u8, out: &mut Bytes) -> Result<(), AllocError>
-    requires { places ≤ 7 }
+    requires { places ≤ most_places }
     ensures { OnOk result (out.new ≡ out.old ++ point_text places point.now) }
 {
     out.push(b'[')?;
@@ -28,7 +29,7 @@ pub fn write_comma(i: usize, out: &mut Bytes) -> Result<(), AllocError>
 }
 
 fn write_path(points: &[Pt], places: u8, out: &mut Bytes) -> Result<(), AllocError>
-    requires { places ≤ 7 }
+    requires { places ≤ most_places }
     ensures { OnOk result (out.new ≡ out.old ++ list_text (point_text places) points.now) }
 {
     out.push(b'[')?;
@@ -40,7 +41,7 @@ fn write_path(points: &[Pt], places: u8, out: &mut Bytes) -> Result<(), AllocErr
 }
 
 fn write_paths(paths: &[PtList], places: u8, out: &mut Bytes) -> Result<(), AllocError>
-    requires { places ≤ 7 }
+    requires { places ≤ most_places }
     ensures { OnOk result (out.new ≡ out.old ++ list_text (path_text places) paths.now) }
 {
     out.push(b'[')?;
@@ -52,7 +53,7 @@ fn write_paths(paths: &[PtList], places: u8, out: &mut Bytes) -> Result<(), Allo
 }
 
 fn write_polygons(polygons: &[PolygonRings], places: u8, out: &mut Bytes) -> Result<(), AllocError>
-    requires { places ≤ 7 }
+    requires { places ≤ most_places }
     ensures { OnOk result (out.new ≡ out.old ++ list_text (polygon_text places) polygons.now) }
 {
     out.push(b'[')?;
@@ -73,7 +74,7 @@ fn write_type(name: &str, out: &mut Bytes) -> Result<(), AllocError>
 }
 
 fn write_points(points: &[Pt], places: u8, out: &mut Bytes) -> Result<(), AllocError>
-    requires { places ≤ 7 }
+    requires { places ≤ most_places }
     ensures { OnOk result (out.new ≡ out.old ++ one_or_many (codes "Point") (codes "MultiPoint") (point_text places) points.now) }
 {
     match points {
@@ -92,7 +93,7 @@ fn write_points(points: &[Pt], places: u8, out: &mut Bytes) -> Result<(), AllocE
 }
 
 fn write_lines(lines: &[PtList], places: u8, out: &mut Bytes) -> Result<(), AllocError>
-    requires { places ≤ 7 }
+    requires { places ≤ most_places }
     ensures { OnOk result (out.new ≡ out.old ++ one_or_many (codes "LineString") (codes "MultiLineString") (path_text places) lines.now) }
 {
     match lines {
@@ -111,7 +112,7 @@ fn write_lines(lines: &[PtList], places: u8, out: &mut Bytes) -> Result<(), Allo
 }
 
 fn write_areas(polygons: &[PolygonRings], places: u8, out: &mut Bytes) -> Result<(), AllocError>
-    requires { places ≤ 7 }
+    requires { places ≤ most_places }
     ensures { OnOk result (out.new ≡ out.old ++ one_or_many (codes "Polygon") (codes "MultiPolygon") (polygon_text places) polygons.now) }
 {
     match polygons {
@@ -131,7 +132,7 @@ fn write_areas(polygons: &[PolygonRings], places: u8, out: &mut Bytes) -> Result
 
 /// The geometry object of a shape, or null.
 pub fn write_geometry(shape: &GeoShape, places: u8, out: &mut Bytes) -> Result<(), AllocError>
-    requires { places ≤ 7 }
+    requires { places ≤ most_places }
     ensures { OnOk result (out.new ≡ out.old ++ geometry_text places shape.now) }
 {
     match shape {

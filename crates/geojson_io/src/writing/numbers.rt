@@ -1,6 +1,8 @@
-ghost use Rattle.std.specs.Prelude.{◌≡◌, ◌++◌, ◌∷◌, [], ◌+◌, ◌≤◌, ◌<◌, OnOk, length, drop, unsigned_abs};
+ghost use Rattle.std.specs.Prelude.{◌≡◌, ◌++◌, ◌∷◌, [], ◌+◌, ◌≤◌, ◌<◌, OnOk, length, drop};
+ghost use Rattle.grid_base.specs.Grid.{most_places};
+ghost use Rattle.grid_base.specs.Sizes.{IsGridNumber};
 ghost use Rattle.json_read.specs.Decimal.{is_negative, last_digits, sign_text, trimmed_digits};
-ghost use Rattle.geojson_io.specs.Numbers.{fraction_text};
+ghost use Rattle.geojson_io.specs.Numbers.{fraction_text, whole_digits};
 ghost use Rattle.geojson_io.specs.Texts.{grid_text};
 
 use io_core::Bytes;
@@ -9,8 +11,8 @@ use std::alloc::AllocError;
 
 /// Appends a grid number as the decimal `g / 10^places`, and a byte behind it.
 pub fn write_number(g: i64, places: u8, last: u8, out: &mut Bytes) -> Result<(), AllocError>
-    requires size { unsigned_abs g ≤ 2000000000 }
-    requires places { places ≤ 7 }
+    requires size { IsGridNumber g }
+    requires places { places ≤ most_places }
     ensures { OnOk result (out.new ≡ out.old ++ (grid_text places g ++ last ∷ [])) }
 {
     let mut room = [last; 32];
@@ -20,9 +22,9 @@ pub fn write_number(g: i64, places: u8, last: u8, out: &mut Bytes) -> Result<(),
 
 // Each of these writes a text into the room so that it ends at `end`, and gives where it starts.
 fn put_number(g: i64, places: u8, room: &mut [u8], end: usize) -> usize
-    requires size { unsigned_abs g ≤ 2000000000 }
-    requires places { places ≤ 7 }
-    requires room { (19 ≤ end) × (end ≤ length room.old) }
+    requires size { IsGridNumber g }
+    requires places { places ≤ most_places }
+    requires room { (whole_digits + most_places + 2 ≤ end) × (end ≤ length room.old) }
     ensures within { result ≤ length room.old }
     ensures written { drop result room.new ≡ grid_text places g ++ drop end room.old }
 {
@@ -53,9 +55,9 @@ fn put_sign(negative: bool, room: &mut [u8], end: usize) -> usize
 }
 
 fn put_fraction(fraction: u64, places: usize, room: &mut [u8], end: usize) -> usize
-    requires places { places ≤ 7 }
-    requires room { (8 ≤ end) × (end ≤ length room.old) }
-    ensures within { (result ≤ end) × (end ≤ result + 8) }
+    requires places { places ≤ most_places }
+    requires room { (most_places + 1 ≤ end) × (end ≤ length room.old) }
+    ensures within { (result ≤ end) × (end ≤ result + (most_places + 1)) }
     ensures written { drop result room.new ≡ fraction_text places fraction ++ drop end room.old }
 {
     if fraction == 0 {

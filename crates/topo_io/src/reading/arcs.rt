@@ -1,4 +1,5 @@
 ghost use Rattle.std.specs.Prelude.{◌≤◌, map};
+ghost use Rattle.grid_base.specs.Grid.{most_places};
 ghost use Rattle.json_read.specs.Lists.{items_list};
 ghost use Rattle.json_read.specs.Seen.{json_value};
 ghost use Rattle.topo_io.specs.Positions.{no_sums, position_after};
@@ -14,7 +15,7 @@ use std::alloc::Global;
 
 // The positions of an arc: the first by itself, each other as a difference where there is a transform.
 fn each_position(alloc: Global, items: &[Json], frame: &Frame) -> Result<PtList, Stop>
-    requires { frame.now.places ≤ 7 }
+    requires { frame.now.places ≤ most_places }
     ensures { AnswersPlain (along (position_after frame.now) (map json_value items.now) no_sums) result }
 {
     let mut path = PtList::new(alloc);
@@ -32,7 +33,7 @@ fn each_position(alloc: Global, items: &[Json], frame: &Frame) -> Result<PtList,
 }
 
 fn arc_of(alloc: Global, json: &Json, frame: &Frame) -> Result<PtList, Stop>
-    requires { frame.now.places ≤ 7 }
+    requires { frame.now.places ≤ most_places }
     ensures { AnswersPlain (arc frame.now (json_value json.now)) result }
 {
     let Json::List(list) = json else {
@@ -46,7 +47,7 @@ fn arc_of(alloc: Global, json: &Json, frame: &Frame) -> Result<PtList, Stop>
 }
 
 fn each_arc(alloc: Global, items: &[Json], frame: &Frame) -> Result<PathList, TopoFault>
-    requires { frame.now.places ≤ 7 }
+    requires { frame.now.places ≤ most_places }
     ensures { AnswersAt (along (numbered_arc frame.now) (map json_value items.now) 0) result }
 {
     let mut arcs = PathList::new(alloc);
@@ -61,7 +62,7 @@ fn each_arc(alloc: Global, items: &[Json], frame: &Frame) -> Result<PathList, To
 
 /// The arcs of a topology, each of two or more points.
 pub fn arcs_of(alloc: Global, list: &JsonList, frame: &Frame) -> Result<PathList, TopoFault>
-    requires { frame.now.places ≤ 7 }
+    requires { frame.now.places ≤ most_places }
     ensures { AnswersAt (arcs frame.now (items_list list.now)) result }
 {
     each_arc(alloc, list.as_slice(), frame)

@@ -1,5 +1,6 @@
 ghost use Rattle.std.specs.Prelude.{◌≡◌, ◌≤◌, ◌<◌, ◌+◌, All, OnOk, IfErr, IfOk, Ok, length, map};
 ghost use Rattle.std.specs.Option.{option_copied, option_map};
+ghost use Rattle.grid_base.specs.Grid.{most_places};
 ghost use Rattle.json_read.specs.Lists.{fields_list, value_named};
 ghost use Rattle.json_read.specs.Seen.{json_value};
 ghost use Rattle.topo_io.specs.Reads.{Answers, AnswersIn, AnswersPlain, IsFault, StandsAt};
@@ -31,7 +32,7 @@ fn typed_geometry(
     topology: &Topology,
     left: &mut u32,
 ) -> Result<GeoShape, Stop>
-    requires { topology.now.frame.places ≤ 7 }
+    requires { topology.now.frame.places ≤ most_places }
     ensures read { Answers (typed_geometry topology.now object.now) left.old result left.new }
     ensures sound { IfOk result (λ shape. ShapeIsSound shape) }
 {
@@ -52,7 +53,7 @@ fn geometry(
     topology: &Topology,
     left: &mut u32,
 ) -> Result<GeoShape, Stop>
-    requires { topology.now.frame.places ≤ 7 }
+    requires { topology.now.frame.places ≤ most_places }
     ensures read { Answers (geometry topology.now object.now) left.old result left.new }
     ensures sound { IfOk result (λ shape. ShapeIsSound shape) }
 {
@@ -68,7 +69,7 @@ fn read_feature(
     topology: &Topology,
     left: &mut u32,
 ) -> Result<Feature, Stop>
-    requires { topology.now.frame.places ≤ 7 }
+    requires { topology.now.frame.places ≤ most_places }
     ensures read { Answers (feature topology.now (json_value json.now)) left.old result left.new }
     ensures sound { IfOk result (λ feature. FeatureIsSound feature) }
 {
@@ -98,7 +99,7 @@ fn numbered(
     topology: &Topology,
     left: &mut u32,
 ) -> Result<Feature, TopoFault>
-    requires places { topology.now.frame.places ≤ 7 }
+    requires places { topology.now.frame.places ≤ most_places }
     requires room { numbers.before + n ≤ numbers.limit }
     ensures read { AnswersIn (numbered_feature topology.now numbers (n, json_value json.now)) left.old result left.new }
     ensures room { OnOk result (numbers.before + n < numbers.limit) }
@@ -129,7 +130,7 @@ pub fn features_of(
     topology: &Topology,
     left: &mut u32,
 ) -> Result<Vec<Feature>, TopoFault>
-    requires places { topology.now.frame.places ≤ 7 }
+    requires places { topology.now.frame.places ≤ most_places }
     requires room { numbers.before ≤ numbers.limit }
     ensures ok { IfOk result (λ read. features topology.now numbers (map json_value items.now) left.old ≡ Ok (read.items, left.new)) }
     ensures fault { IfErr result (IsFault (features topology.now numbers (map json_value items.now) left.old)) }

@@ -1,5 +1,6 @@
 ghost use Rattle.std.specs.Prelude.{◌≡◌, ◌≤◌, ◌+◌, ◌++◌, All, IfErr, IfOk, None, OnOk, Ok, Some, MatchOption, map, length, slice_get};
 ghost use Rattle.std.specs.Option.{option_copied, option_map};
+ghost use Rattle.grid_base.specs.Grid.{most_places};
 ghost use Rattle.json_read.specs.Lists.{fields_list, value_named};
 ghost use Rattle.json_read.specs.Seen.{json_value};
 ghost use Rattle.geojson_io.specs.Layers.{layers_of};
@@ -53,7 +54,7 @@ fn object_features(
     topology: &Topology,
     left: &mut u32,
 ) -> Result<Vec<Feature>, TopoFault>
-    requires places { topology.now.frame.places ≤ 7 }
+    requires places { topology.now.frame.places ≤ most_places }
     requires room { numbers.before ≤ numbers.limit }
     ensures ok { IfOk result (λ read. object_features topology.now numbers (json_value json.now) left.old ≡ Ok (read.items, left.new)) }
     ensures fault { IfErr result (IsFault (object_features topology.now numbers (json_value json.now) left.old)) }
@@ -107,7 +108,7 @@ fn add_object(
     left: &mut u32,
     layers: &mut GeoLayers,
 ) -> Result<u32, TopoFault>
-    requires places { topology.now.frame.places ≤ 7 }
+    requires places { topology.now.frame.places ≤ most_places }
     requires room { numbers.before ≤ numbers.limit }
     requires sound { All LayerIsSound layers.old }
     ensures ok { IfOk result (λ count. IsAdded (object_features topology.now numbers (json_value json.now) left.old) name.now layers.old count left.new layers.new) }
@@ -141,7 +142,7 @@ pub fn layers_of_objects(
     topology: &Topology,
     room: Room,
 ) -> Result<GeoLayers, TopoFault>
-    requires { topology.now.frame.places ≤ 7 }
+    requires { topology.now.frame.places ≤ most_places }
     ensures read { AnswersAt (layers_of_members topology.now room.positions room.features objects.now) result }
     ensures sound { IfOk result (λ layers. All LayerIsSound layers) }
 {

@@ -1,4 +1,6 @@
 ghost use Rattle.std.specs.Prelude.{◌≡◌, ◌≤◌, ℤ, ◌+ℤ◌, IfOk, IfSome, None, Some, MatchOption, unsigned_abs, if◌then◌else◌};
+ghost use Rattle.grid_base.specs.Grid.{most_places};
+ghost use Rattle.grid_base.specs.Sizes.{IsStep};
 ghost use Rattle.json_read.specs.Seen.{json_value};
 ghost use Rattle.geojson_io.specs.Reads.{on_ok};
 ghost use Rattle.topo_io.specs.Numerals.{counted, size_cap};
@@ -8,11 +10,11 @@ use crate::fault::TopoWhy;
 use crate::frame::{Frame, Transform};
 use crate::numerals::whole_units;
 use geojson_io::{ShapeWhy, place};
-use grid_base::Pt;
+use grid_base::{LIMIT, Pt};
 use json_read::Json;
 
-/// The sums of quantized positions stay within this, either way.
-const SUM_LIMIT: u128 = 4_000_000_000;
+/// The sums of quantized positions stay within this, either way: twice the limit of the grid.
+const SUM_LIMIT: u128 = 2 * LIMIT as u128;
 
 /// The sums of the quantized positions of an arc, up to some position.
 #[derive(Clone, Copy)]
@@ -27,7 +29,7 @@ impl Sums {
 
 /// The point of a position behind such sums, and the sums up to it.
 pub fn position_after(json: &Json, frame: &Frame, before: Sums) -> Result<(Pt, Sums), TopoWhy>
-    requires { frame.now.places ≤ 7 }
+    requires { frame.now.places ≤ most_places }
     ensures { result ≡ position_after frame.now (json_value json.now) before }
 {
     match &frame.transform {
@@ -41,7 +43,7 @@ pub fn position_after(json: &Json, frame: &Frame, before: Sums) -> Result<(Pt, S
 
 /// The point of a position by itself.
 pub fn lone_position(json: &Json, frame: &Frame) -> Result<Pt, TopoWhy>
-    requires { frame.now.places ≤ 7 }
+    requires { frame.now.places ≤ most_places }
     ensures { result ≡ lone_position frame.now (json_value json.now) }
 {
     match position_after(json, frame, Sums::START) {
@@ -67,7 +69,7 @@ fn quantized(
     places: u8,
     before: Sums,
 ) -> Result<(Pt, Sums), TopoWhy>
-    requires { places ≤ 7 }
+    requires { places ≤ most_places }
     ensures { result ≡ on_ok (sums_after (json_value json.now) before) (at_sums transform.now places) }
 {
     match sums_after(json, before) {
@@ -81,8 +83,8 @@ fn quantized(
 
 fn sums_after(json: &Json, before: Sums) -> Result<Sums, TopoWhy>
     ensures exact { result ≡ sums_after (json_value json.now) before }
-    ensures across { IfOk result (λ s. unsigned_abs s.x ≤ 4000000000) }
-    ensures upward { IfOk result (λ s. unsigned_abs s.y ≤ 4000000000) }
+    ensures across { IfOk result (λ s. IsStep s.x) }
+    ensures upward { IfOk result (λ s. IsStep s.y) }
 {
     let Some((x, y)) = whole_pair(json) else {
         return Err(TopoWhy::BadPosition);
@@ -124,7 +126,7 @@ fn whole_pair(json: &Json) -> Option<(i128, i128)>
 fn sum(before: i64, step: i128) -> Option<i64>
     requires { unsigned_abs step ≤ size_cap }
     ensures exact { (z : ℤ) → step ≡ counted z → result ≡ (if is_sum (before +ℤ z) then Some (before +ℤ z) else None) }
-    ensures small { IfSome result (λ n. unsigned_abs n ≤ 4000000000) }
+    ensures small { IfSome result IsStep }
 {
     let sum = i128::from(before) + step;
     if sum.unsigned_abs() <= SUM_LIMIT {

@@ -1,5 +1,6 @@
 ghost use Rattle.std.specs.Prelude.{◌≡◌, ◌≤◌, [], ◌∷◌, ◌++◌, filter, map, All, IfOk, OnOk};
 ghost use Rattle.std.specs.Option.{option_copied, option_map};
+ghost use Rattle.grid_base.specs.Grid.{most_places};
 ghost use Rattle.json_read.specs.Lists.{items_list};
 ghost use Rattle.json_read.specs.Seen.{json_value};
 ghost use Rattle.geojson_io.specs.Geometries.{has_rings, some_lines, some_points, some_polygons};
@@ -21,7 +22,7 @@ use std::alloc::{AllocError, Global};
 
 // A position by itself, which takes one of the room that is left.
 fn position(json: &Json, frame: &Frame, left: &mut u32) -> Result<Pt, Stop>
-    requires { frame.now.places ≤ 7 }
+    requires { frame.now.places ≤ most_places }
     ensures { Answers (position frame.now (json_value json.now)) left.old result left.new }
 {
     if *left == 0 {
@@ -37,7 +38,7 @@ fn position(json: &Json, frame: &Frame, left: &mut u32) -> Result<Pt, Stop>
 }
 
 fn one_point(alloc: Global, json: &Json, frame: &Frame, left: &mut u32) -> Result<PtList, Stop>
-    requires { frame.now.places ≤ 7 }
+    requires { frame.now.places ≤ most_places }
     ensures { Answers (one_point frame.now (json_value json.now)) left.old result left.new }
 {
     let Json::List(list) = json else {
@@ -53,7 +54,7 @@ fn one_point(alloc: Global, json: &Json, frame: &Frame, left: &mut u32) -> Resul
 }
 
 fn each_point(alloc: Global, items: &[Json], frame: &Frame, left: &mut u32) -> Result<PtList, Stop>
-    requires { frame.now.places ≤ 7 }
+    requires { frame.now.places ≤ most_places }
     ensures { Answers (each (position frame.now) (map json_value items.now)) left.old result left.new }
 {
     let mut points = PtList::new(alloc);
@@ -65,7 +66,7 @@ fn each_point(alloc: Global, items: &[Json], frame: &Frame, left: &mut u32) -> R
 }
 
 fn several_points(alloc: Global, json: &Json, frame: &Frame, left: &mut u32) -> Result<PtList, Stop>
-    requires { frame.now.places ≤ 7 }
+    requires { frame.now.places ≤ most_places }
     ensures { Answers (several_points frame.now (json_value json.now)) left.old result left.new }
 {
     match json {
@@ -241,7 +242,7 @@ fn point_in(
     frame: &Frame,
     left: &mut u32,
 ) -> Result<GeoShape, Stop>
-    requires { frame.now.places ≤ 7 }
+    requires { frame.now.places ≤ most_places }
     ensures read { Answers (points_in (one_point frame.now) (option_map json_value (option_copied json.entry))) left.old result left.new }
     ensures sound { IfOk result (λ shape. ShapeIsSound shape) }
 {
@@ -257,7 +258,7 @@ fn points_in(
     frame: &Frame,
     left: &mut u32,
 ) -> Result<GeoShape, Stop>
-    requires { frame.now.places ≤ 7 }
+    requires { frame.now.places ≤ most_places }
     ensures read { Answers (points_in (several_points frame.now) (option_map json_value (option_copied json.entry))) left.old result left.new }
     ensures sound { IfOk result (λ shape. ShapeIsSound shape) }
 {
@@ -275,7 +276,7 @@ pub fn shape_in(
     topology: &Topology,
     left: &mut u32,
 ) -> Result<GeoShape, Stop>
-    requires { topology.now.frame.places ≤ 7 }
+    requires { topology.now.frame.places ≤ most_places }
     ensures read { Answers (shape_in kind topology.now object.now) left.old result left.new }
     ensures sound { IfOk result (λ shape. ShapeIsSound shape) }
 {

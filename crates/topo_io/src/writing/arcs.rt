@@ -1,4 +1,5 @@
-ghost use Rattle.std.specs.Prelude.{◌≡◌, ◌≤◌, ◌<◌, ◌^◌, ◌++◌, ◌-ℤ◌, All, OnOk, length, unsigned_abs};
+ghost use Rattle.std.specs.Prelude.{◌≡◌, ◌<◌, ◌^◌, ◌++◌, ◌-ℤ◌, All, OnOk, length, unsigned_abs};
+ghost use Rattle.grid_base.specs.Sizes.{IsGridNumber};
 ghost use Rattle.geojson_io.specs.Texts.{grid_text, point_text};
 ghost use Rattle.topo_io.specs.Texts.{arc_text, numbered_arc_text, arcs_text};
 
@@ -31,8 +32,8 @@ fn write_pair(x: i64, y: i64, out: &mut Bytes) -> Result<(), AllocError>
 
 // The way to a point from (x, y).
 fn write_difference(point: &Pt, x: i64, y: i64, out: &mut Bytes) -> Result<(), AllocError>
-    requires across { unsigned_abs x ≤ 2000000000 }
-    requires upward { unsigned_abs y ≤ 2000000000 }
+    requires across { IsGridNumber x }
+    requires upward { IsGridNumber y }
     ensures { OnOk result (out.new ≡ out.old ++ point_text 0 (record { x = point.now.x -ℤ x; y = point.now.y -ℤ y })) }
 {
     write_pair(point.x() - x, point.y() - y, out)

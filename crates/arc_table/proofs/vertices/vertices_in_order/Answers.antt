@@ -8,7 +8,7 @@ returns c =
     let arcs = c.args.arcs.now.spans in
     record {
       exact = record {
-        all = subst (λ (vs : List ArcVertex). IsPermutation vs c.sort.new.self.items) c.in_ok-vertices.ensures.exact c.sort.ensures.permutation;
-        sorted = c.in_ok-sort.ensures.sorted;
+        all = subst (λ (vs : List ArcVertex). IsPermutation vs c.sort_unstable.new.self.items) c.in_ok-vertices.ensures.exact c.sort_unstable.ensures.permutation;
+        sorted = c.sort_unstable.ensures.sorted;
       };
     }

@@ -1,8 +1,8 @@
 use Rattle.std.proofs.Common.{◌≡◌, ◌+◌, ◌∙◌, ap, sym, false, codes}
 use Rattle.std.specs.Str.{bytes_eq}
 use Rattle.cmd_words.specs.Seen.{row_seen}
-use Rattle.cmd_words.specs.Groups.{Group, empty_group}
-use Rattle.cmd_words.specs.Words.{take_words, words_from}
+use Rattle.cmd_words.specs.Groups.{empty_group}
+use Rattle.cmd_words.specs.Words.{words_from}
 use Rattle.cmd_words.proofs.Behind.{command_taken}
 use Rattle.cmd_words.proofs.reading.take_command.Goals as goal
 
@@ -12,7 +12,6 @@ returns c =
     let row = row_seen c.in-Some.row.now in
     let words = words_from (c.args.number + 1) c.args.rest.now in
     record {
-      exact = λ refuses right. command_taken refuses c.args.places c.args.so_far.now c.args.number c.args.word.now words row c.take_words.new.group c.finish.new.so_far c.finish.result e c.in-Some.ensures.exact
-          (ap (λ (g : Group). take_words refuses c.args.places row.form g words) (sym (c.new-group.ensures.empty ∙ ap empty_group c.reads_standard.ensures.exact)) ∙ c.in_ok-take_words.ensures.exact refuses right)
-          c.finish.ensures.exact;
+      exact = λ refuses right. command_taken refuses c.args.places c.args.so_far.now c.args.number c.args.word.now words row c.new-group.result c.take_group.new.so_far c.take_group.result e c.in-Some.ensures.exact
+          (c.new-group.ensures.empty ∙ ap empty_group c.reads_standard.ensures.exact) (c.take_group.ensures.exact refuses right);
     }

@@ -1,8 +1,9 @@
-use Rattle.std.proofs.Common.{◌≡◌, ◌∙◌, sym, ap, arith, ℕ, ◌≤◌, Bool, true, cond, ℤ, pos, ◌-ℤ◌, [], get_or, unsigned_abs, FitsSigned, to_z-of_z, lit<}
+use Rattle.std.proofs.Common.{◌≡◌, ◌∙◌, sym, ap, arith, ℕ, ◌*◌, ◌^◌, ◌≤◌, Bool, true, cond, ℤ, pos, ◌-ℤ◌, [], get_or, unsigned_abs, FitsSigned, to_z-of_z, lit<}
 use Rattle.std.specs.Int.{w128}
 use Rattle.plane_model.specs.Arcs.{points_of}
 use Rattle.face_walk.specs.Areas.{area_along}
-use Rattle.face_walk.proofs.Bounds.{difference_bound, fits_128}
+use Rattle.face_walk.specs.Under.{most_triangle}
+use Rattle.grid_base.proofs.Bounds.{difference_bound, fits_128}
 use Rattle.face_walk.proofs.AreaLemmas.{area_of_signed}
 use Rattle.face_walk.proofs.areas.area_of_arc.Goals as goal
 
@@ -12,10 +13,10 @@ returns-then-is_reversed-clause-exact c =
     let a = c.args.a in
     let area = c.area_along-area.result in
     let points = c.points_of-points.result.now in
-    let small : unsigned_abs area ≤ 34359738368000000000000000000 = c.area_along-area.ensures.small in
-    let turned : unsigned_abs (pos 0 -ℤ area) ≤ 34359738368000000000000000000 = (let d = difference_bound (pos 0) area 0 34359738368000000000000000000 (omega arith) small in omega arith) in
-    let f₁ : FitsSigned w128 area = fits_128 area 34359738368000000000000000000 small (lit< tt) in
-    let f₂ : FitsSigned w128 (pos 0 -ℤ area) = fits_128 (pos 0 -ℤ area) 34359738368000000000000000000 turned (lit< tt) in
+    let small : unsigned_abs area ≤ 2 ^ 32 * most_triangle = c.area_along-area.ensures.small in
+    let turned : unsigned_abs (pos 0 -ℤ area) ≤ 2 ^ 32 * most_triangle = (let d = difference_bound (pos 0) area 0 (2 ^ 32 * most_triangle) (omega arith) small in omega arith) in
+    let f₁ : FitsSigned w128 area = fits_128 area (2 ^ 32 * most_triangle) small (lit< tt) in
+    let f₂ : FitsSigned w128 (pos 0 -ℤ area) = fits_128 (pos 0 -ℤ area) (2 ^ 32 * most_triangle) turned (lit< tt) in
     let is : points ≡ get_or arcs a.arc [] = c.points_of-points.ensures.exact ∙ ap (λ (k : ℕ). get_or arcs k []) c.id.ensures.exact in
     let reversed : a.is_reversed ≡ true = sym c.is_reversed.ensures.exact ∙ c.if-is_reversed.true in
     let exact : pos 0 -ℤ area ≡ area_along (points_of arcs a) =

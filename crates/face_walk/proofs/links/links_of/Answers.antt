@@ -6,5 +6,5 @@ use Rattle.face_walk.proofs.links.links_of.Goals as goal
 
 pub returns-clause-sorted : goal.returns-clause-sorted
 returns-clause-sorted c =
-    by_start c.sort.new.self.items (λ (a : ArcLink) (b : ArcLink). point_cmp a.link.stop b.link.stop)
-    (λ (a : ArcLink) (b : ArcLink). ordering_then (nat_cmp a.along.arc b.along.arc) (bool_cmp a.along.is_reversed b.along.is_reversed)) c.in_ok-sort.ensures.sorted
+    by_start c.sort_unstable.new.self.items (λ (a : ArcLink) (b : ArcLink). point_cmp a.link.stop b.link.stop)
+    (λ (a : ArcLink) (b : ArcLink). ordering_then (nat_cmp a.along.arc b.along.arc) (bool_cmp a.along.is_reversed b.along.is_reversed)) c.sort_unstable.ensures.sorted

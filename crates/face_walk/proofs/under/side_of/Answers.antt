@@ -1,6 +1,5 @@
-use Rattle.std.proofs.Common.{◌≡◌, ◌∙◌, sym, ◌-ℤ◌, ◌*ℤ◌, FitsSigned, to_z-of_z, lit<}
-use Rattle.std.specs.Int.{w128}
-use Rattle.face_walk.proofs.Bounds.{fits_128}
+use Rattle.std.proofs.Common.{◌≡◌, ◌∙◌, sym, ◌-ℤ◌, ◌*ℤ◌, to_z-of_z}
+use Rattle.grid_base.proofs.Bounds.{cross_fits, step_fits}
 use Rattle.face_walk.proofs.UnderLemmas.{turn_at}
 use Rattle.face_walk.proofs.under.side_of.Goals as goal
 
@@ -10,11 +9,11 @@ returns-clause-exact c =
     let p = c.args.p in
     let s = c.step-ax in
     let t = c.step-bx in
-    let f₁ : FitsSigned w128 s.result.0 = fits_128 s.result.0 4000000000 s.ensures.across_small (lit< tt) in
-    let f₂ : FitsSigned w128 s.result.1 = fits_128 s.result.1 4000000000 s.ensures.upward_small (lit< tt) in
-    let f₃ : FitsSigned w128 t.result.0 = fits_128 t.result.0 4000000000 t.ensures.across_small (lit< tt) in
-    let f₄ : FitsSigned w128 t.result.1 = fits_128 t.result.1 4000000000 t.ensures.upward_small (lit< tt) in
-    let f₅ : FitsSigned w128 c.determinant.result = fits_128 c.determinant.result 32000000000000000000 c.determinant.ensures.small (lit< tt) in
+    let f₁ = step_fits s.result.0 s.ensures.across_small in
+    let f₂ = step_fits s.result.1 s.ensures.upward_small in
+    let f₃ = step_fits t.result.0 t.ensures.across_small in
+    let f₄ = step_fits t.result.1 t.ensures.upward_small in
+    let f₅ = cross_fits c.determinant.result c.determinant.ensures.small in
     let v : c.determinant.result ≡ s.result.0 *ℤ t.result.1 -ℤ s.result.1 *ℤ t.result.0 = simp to_z-of_z at c.determinant.ensures.value in
     let e₁ : s.result.0 ≡ l.stop.x -ℤ l.start.x = s.ensures.across ∙ (λ i. (c.high.ensures.greater i).x -ℤ (c.low.ensures.lesser i).x) in
     let e₂ : s.result.1 ≡ l.stop.y -ℤ l.start.y = s.ensures.upward ∙ (λ i. (c.high.ensures.greater i).y -ℤ (c.low.ensures.lesser i).y) in

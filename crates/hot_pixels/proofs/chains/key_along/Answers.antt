@@ -1,13 +1,14 @@
-use Rattle.std.proofs.Common.{rules, ◌≡◌, ◌+ℤ◌, ◌-ℤ◌, ◌*ℤ◌, FitsSigned, to_z-of_z, lit<, w64}
+use Rattle.std.proofs.Common.{rules, ◌≡◌, ◌+◌, ◌+ℤ◌, ◌-ℤ◌, ◌*ℤ◌, FitsSigned, to_z-of_z, lit<, w64}
 use Rattle.std.specs.Int.{int_signum}
 use Rattle.plane_model.specs.Hot.{order_key}
-use Rattle.hot_pixels.proofs.Bounds.{sum_bound, fits_64}
+use Rattle.grid_base.specs.Grid.{limit}
+use Rattle.grid_base.proofs.Bounds.{sum_bound, fits_64}
 use Rattle.hot_pixels.proofs.chains.key_along.Goals as goal
 use Rattle.hot_pixels.proofs.chains.key_along.Goals.{After-in_sense-2}
 
 module _ (c : After-in_sense-2) where
   both_fit : FitsSigned w64 (c.in_sense.result +ℤ c.in_sense-2.result)
-  both_fit = fits_64 (c.in_sense.result +ℤ c.in_sense-2.result) 4000000000 (sum_bound c.in_sense.result c.in_sense-2.result 2000000000 2000000000 c.in_sense.ensures.small c.in_sense-2.ensures.small) (lit< tt)
+  both_fit = fits_64 (c.in_sense.result +ℤ c.in_sense-2.result) (limit + limit) (sum_bound c.in_sense.result c.in_sense-2.result limit limit c.in_sense.ensures.small c.in_sense-2.ensures.small) (lit< tt)
 
   across : c.in_sense.result ≡ int_signum (c.args.s.now.stop.x -ℤ c.args.s.now.start.x) *ℤ c.args.p.now.x
   across = search rules

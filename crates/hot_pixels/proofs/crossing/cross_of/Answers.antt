@@ -2,17 +2,17 @@ use Rattle.std.proofs.Common.{◌≡◌, ◌∙◌, rules, subst, ◌-ℤ◌, �
 use Rattle.std.specs.Int.{w128}
 use Rattle.plane_model.specs.Points.{GridPoint}
 use Rattle.grid_base.specs.Grid.{IsOnGrid}
-use Rattle.hot_pixels.proofs.Bounds.{fits_128}
+use Rattle.grid_base.proofs.Bounds.{step_fits}
 use Rattle.hot_pixels.proofs.crossing.cross_of.Goals as goal
 
 pub returns-clause-value : goal.returns-clause-value
 returns-clause-value c =
     let s = c.args.s in
     let t = c.args.t in
-    let f₁ = fits_128 c.step-ax.result.0 4000000000 c.step-ax.ensures.across_small (lit< tt) in
-    let f₂ = fits_128 c.step-ax.result.1 4000000000 c.step-ax.ensures.upward_small (lit< tt) in
-    let f₃ = fits_128 c.step-bx.result.0 4000000000 c.step-bx.ensures.across_small (lit< tt) in
-    let f₄ = fits_128 c.step-bx.result.1 4000000000 c.step-bx.ensures.upward_small (lit< tt) in
+    let f₁ = step_fits c.step-ax.result.0 c.step-ax.ensures.across_small in
+    let f₂ = step_fits c.step-ax.result.1 c.step-ax.ensures.upward_small in
+    let f₃ = step_fits c.step-bx.result.0 c.step-bx.ensures.across_small in
+    let f₄ = step_fits c.step-bx.result.1 c.step-bx.ensures.upward_small in
     let f₅ : FitsSigned w128 c.determinant.result = search rules in
     let ax : c.step-ax.result.0 ≡ s.stop.x -ℤ s.start.x = c.step-ax.ensures.across ∙ (λ i. (c.b.ensures i).x -ℤ (c.a.ensures i).x) in
     let ay : c.step-ax.result.1 ≡ s.stop.y -ℤ s.start.y = c.step-ax.ensures.upward ∙ (λ i. (c.b.ensures i).y -ℤ (c.a.ensures i).y) in

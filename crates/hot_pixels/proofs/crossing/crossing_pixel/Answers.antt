@@ -3,17 +3,18 @@ use Rattle.std.proofs.lemmas.Int.{ints}
 use Rattle.std.specs.Int.{w128}
 use Rattle.plane_model.specs.Points.{Segment, cross}
 use Rattle.plane_model.specs.Pixel.{crossing_pixel}
+use Rattle.grid_base.specs.Sizes.{IsCross}
 use Rattle.hot_pixels.specs.Crossing.{pixel_by}
-use Rattle.hot_pixels.proofs.Bounds.{fits_128}
+use Rattle.grid_base.proofs.Bounds.{cross_fits}
 use Rattle.hot_pixels.proofs.Shares.{crossing_positive, crossing_negative, crossing_on_grid}
 use Rattle.hot_pixels.proofs.crossing.crossing_pixel.Goals as goal
 use Rattle.hot_pixels.proofs.crossing.crossing_pixel.Goals.{After-cross_of-q}
 
-opposite_small : (z : ℤ) → unsigned_abs z ≤ 32000000000000000000 → unsigned_abs (pos 0 -ℤ z) ≤ 32000000000000000000
+opposite_small : (z : ℤ) → IsCross z → IsCross (pos 0 -ℤ z)
 opposite_small z h = omega (arith, ints)
 
-opposite_fits : (z : ℤ) → unsigned_abs z ≤ 32000000000000000000 → FitsSigned w128 (pos 0 -ℤ z)
-opposite_fits z h = fits_128 (pos 0 -ℤ z) 32000000000000000000 (opposite_small z h) (lit< tt)
+opposite_fits : (z : ℤ) → IsCross z → FitsSigned w128 (pos 0 -ℤ z)
+opposite_fits z h = cross_fits (pos 0 -ℤ z) (opposite_small z h)
 
 -- what is known of the three determinants
 module _ (c : After-cross_of-q) where

@@ -1,9 +1,9 @@
 use Rattle.std.proofs.Common.{◌≡◌, ◌∙◌, sym, ap, subst, rules, true, Some, IsTrue, ℤ, pos, negsuc, ◌-ℤ◌, ◌≤ℤ◌, unsigned_abs, FitsSigned, to_z-of_z, lit<, w64}
 use Rattle.plane_model.specs.Points.{GridPoint}
 use Rattle.plane_model.specs.Pixel.{rounded}
-use Rattle.grid_base.specs.Grid.{IsOnGrid, is_grid_number}
+use Rattle.grid_base.specs.Grid.{IsOnGrid, greatest, is_grid_number, least}
 use Rattle.hot_pixels.specs.Crossing.{is_share, pixel_by}
-use Rattle.hot_pixels.proofs.Bounds.{fits_128}
+use Rattle.grid_base.proofs.Bounds.{step_fits}
 use Rattle.hot_pixels.proofs.Shares.{no_first, no_second, both_shares, number_to}
 use Rattle.hot_pixels.proofs.crossing.pixel_at.Goals as goal
 use Rattle.hot_pixels.proofs.crossing.pixel_at.Goals.{After-step-dx}
@@ -55,10 +55,10 @@ module _ (c : After-step-dx) where
   dy_is = c.step-dx.ensures.upward ∙ (λ i. (c.b.ensures i).y -ℤ (c.a.ensures i).y)
 
   -- the demands of the two calls, at numbers that are those of s
-  from_ok : (v : ℤ) (p : GridPoint) → (z : ℤ) → v ≡ z → negsuc 1999999999 ≤ℤ z → z ≤ℤ pos 2000000000 → IsTrue (is_grid_number v)
+  from_ok : (v : ℤ) (p : GridPoint) → (z : ℤ) → v ≡ z → least ≤ℤ z → z ≤ℤ greatest → IsTrue (is_grid_number v)
   from_ok v p z e l u = subst (λ (w : ℤ). IsTrue (is_grid_number w)) (sym e) (number_to z l u)
 
-  lands_ok : (from step : ℤ) (a d : ℤ) → from ≡ a → step ≡ d → negsuc 1999999999 ≤ℤ rounded a d c.args.p (unsigned_abs c.args.w) → rounded a d c.args.p (unsigned_abs c.args.w) ≤ℤ pos 2000000000 →
+  lands_ok : (from step : ℤ) (a d : ℤ) → from ≡ a → step ≡ d → least ≤ℤ rounded a d c.args.p (unsigned_abs c.args.w) → rounded a d c.args.p (unsigned_abs c.args.w) ≤ℤ greatest →
       IsTrue (is_grid_number (rounded from step c.args.p (unsigned_abs c.args.w)))
   lands_ok from step a d e f l u = subst (λ (v : ℤ). IsTrue (is_grid_number v)) (λ i. rounded (sym e i) (sym f i) c.args.p (unsigned_abs c.args.w)) (number_to (rounded a d c.args.p (unsigned_abs c.args.w)) l u)
 
@@ -78,7 +78,7 @@ part_way-x-requires-clause-from_on_grid c =
 pub part_way-x-requires-clause-lands : goal.part_way-x-requires-clause-lands
 part_way-x-requires-clause-lands c =
     let f₁ : FitsSigned w64 c.x.result = search rules in
-    let f₂ = fits_128 c.step-dx.result.0 4000000000 c.step-dx.ensures.across_small (lit< tt) in
+    let f₂ = step_fits c.step-dx.result.0 c.step-dx.ensures.across_small in
     let f₃ = c.ranges.p in
     let f₄ = c.ranges.w in
     let d = (goal.at.part_way-x-requires-clause-lands c).After-step-dx in
@@ -100,7 +100,7 @@ part_way-y-requires-clause-from_on_grid c =
 pub part_way-y-requires-clause-lands : goal.part_way-y-requires-clause-lands
 part_way-y-requires-clause-lands c =
     let f₁ : FitsSigned w64 c.y.result = search rules in
-    let f₂ = fits_128 c.step-dx.result.1 4000000000 c.step-dx.ensures.upward_small (lit< tt) in
+    let f₂ = step_fits c.step-dx.result.1 c.step-dx.ensures.upward_small in
     let f₃ = c.ranges.p in
     let f₄ = c.ranges.w in
     let d = (goal.at.part_way-y-requires-clause-lands c).After-step-dx in
@@ -111,8 +111,8 @@ returns c =
     let s = c.args.s in
     let f₁ : FitsSigned w64 c.x.result = search rules in
     let f₂ : FitsSigned w64 c.y.result = search rules in
-    let f₃ = fits_128 c.step-dx.result.0 4000000000 c.step-dx.ensures.across_small (lit< tt) in
-    let f₄ = fits_128 c.step-dx.result.1 4000000000 c.step-dx.ensures.upward_small (lit< tt) in
+    let f₃ = step_fits c.step-dx.result.0 c.step-dx.ensures.across_small in
+    let f₄ = step_fits c.step-dx.result.1 c.step-dx.ensures.upward_small in
     let f₅ = c.ranges.p in
     let f₆ = c.ranges.w in
     let f₇ : FitsSigned w64 c.part_way-x.result = search rules in

@@ -2,7 +2,8 @@ use Rattle.std.proofs.Common.{◌≡◌, ◌∙◌, refl, arith, ℕ, ◌+◌, �
 use Rattle.std.proofs.lemmas.Int.{ints}
 use Rattle.std.specs.Int.{w128, int_div_euclid}
 use Rattle.plane_model.specs.Pixel.{floor_div}
-use Rattle.hot_pixels.proofs.Bounds.{sum_bound, double_bound, fits_128}
+use Rattle.grid_base.specs.Sizes.{most_cross, most_step}
+use Rattle.grid_base.proofs.Bounds.{sum_bound, double_bound, fits_128}
 use Rattle.hot_pixels.proofs.Shares.{pos_is}
 use Rattle.hot_pixels.proofs.crossing.quotient.Goals as goal
 
@@ -16,10 +17,10 @@ returns c =
     let w = c.args.w in
     let f₁ = c.ranges.n in
     let f₂ = c.ranges.w in
-    let p = double_bound n (2 ^ 100) c.requires.n_small in
-    let f₃ = fits_128 (pos 2 *ℤ n) (2 * 2 ^ 100) p (lit< tt) in
-    let f₄ = fits_128 (pos 2 *ℤ n +ℤ w) (2 * 2 ^ 100 + 32000000000000000000) (sum_bound (pos 2 *ℤ n) w (2 * 2 ^ 100) 32000000000000000000 p c.requires.w_small) (lit< tt) in
-    let f₅ = fits_128 (pos 2 *ℤ w) (2 * 32000000000000000000) (double_bound w 32000000000000000000 c.requires.w_small) (lit< tt) in
+    let p = double_bound n (most_step * most_cross) c.requires.n_small in
+    let f₃ = fits_128 (pos 2 *ℤ n) (2 * (most_step * most_cross)) p (lit< tt) in
+    let f₄ = fits_128 (pos 2 *ℤ n +ℤ w) (2 * (most_step * most_cross) + most_cross) (sum_bound (pos 2 *ℤ n) w (2 * (most_step * most_cross)) most_cross p c.requires.w_small) (lit< tt) in
+    let f₅ = fits_128 (pos 2 *ℤ w) (2 * most_cross) (double_bound w most_cross c.requires.w_small) (lit< tt) in
     let f₆ : FitsSigned w128 c.div_euclid.result = record { sfits = c.div_euclid.type_inv } in
     let e : c.div_euclid.result ≡ int_div_euclid (pos 2 *ℤ n +ℤ w) (pos 2 *ℤ w) = simp to_z-of_z at c.div_euclid.ensures in
     let g = pos_is w c.requires.w_positive in

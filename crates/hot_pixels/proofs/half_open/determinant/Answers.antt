@@ -1,12 +1,13 @@
-use Rattle.std.proofs.Common.{rules, ◌≡◌, ◌≤◌, ◌∙◌, sym, subst, ◌-ℤ◌, ◌*ℤ◌, ℤ, unsigned_abs, FitsSigned, to_z-of_z, lit<, w64}
+use Rattle.std.proofs.Common.{rules, ◌≡◌, ◌+◌, ◌*◌, ◌≤◌, ◌∙◌, sym, subst, ◌-ℤ◌, ◌*ℤ◌, ℤ, unsigned_abs, FitsSigned, to_z-of_z, lit<, w64}
 use Rattle.std.specs.Int.{w128}
-use Rattle.hot_pixels.proofs.Bounds.{product_bound, difference_bound, fits_128}
+use Rattle.hot_pixels.specs.Sides.{IsNearby, most_nearby}
+use Rattle.grid_base.proofs.Bounds.{product_bound, difference_bound, fits_128}
 use Rattle.hot_pixels.proofs.half_open.determinant.Goals as goal
 use Rattle.hot_pixels.proofs.half_open.determinant.Goals.{After-product-2}
 
 -- two products of numbers nearby
-product_small : (z a b : ℤ) → z ≡ a *ℤ b → unsigned_abs a ≤ 8000000001 → unsigned_abs b ≤ 8000000001 → unsigned_abs z ≤ 64000000016000000001
-product_small z a b e h k = subst (λ (y : ℤ). unsigned_abs y ≤ 64000000016000000001) (sym e) (product_bound a b 8000000001 8000000001 h k)
+product_small : (z a b : ℤ) → z ≡ a *ℤ b → IsNearby a → IsNearby b → unsigned_abs z ≤ most_nearby * most_nearby
+product_small z a b e h k = subst (λ (y : ℤ). unsigned_abs y ≤ most_nearby * most_nearby) (sym e) (product_bound a b most_nearby most_nearby h k)
 
 module _ (c : After-product-2) where
   first : c.product.result ≡ c.a.inside.at_start *ℤ c.b.inside.at_stop
@@ -22,8 +23,8 @@ module _ (c : After-product-2) where
       simp to_z-of_z at c.product-2.ensures.value
 
   both_fit : FitsSigned w128 (c.product.result -ℤ c.product-2.result)
-  both_fit = fits_128 (c.product.result -ℤ c.product-2.result) 128000000032000000002
-      (difference_bound c.product.result c.product-2.result 64000000016000000001 64000000016000000001
+  both_fit = fits_128 (c.product.result -ℤ c.product-2.result) (most_nearby * most_nearby + most_nearby * most_nearby)
+      (difference_bound c.product.result c.product-2.result (most_nearby * most_nearby) (most_nearby * most_nearby)
       (product_small c.product.result c.a.inside.at_start c.b.inside.at_stop first c.a.invariant.start c.b.invariant.stop)
       (product_small c.product-2.result c.a.inside.at_stop c.b.inside.at_start second c.a.invariant.stop c.b.invariant.start))
       (lit< tt)

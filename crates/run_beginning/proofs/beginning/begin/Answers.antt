@@ -5,6 +5,7 @@ use Rattle.plane_model.specs.Snapped.{snapped}
 use Rattle.run_beginning.specs.BegunLayers.{BeginsOver}
 use Rattle.run_beginning.specs.Drawing.{drawing_of}
 use Rattle.run_sources.specs.declared.sources.ReadSource.{ReadSource}
+use Rattle.run_beginning.proofs.BegunOnPlane.{imports_on, sources_on}
 use Rattle.run_beginning.proofs.Unbegun.{few_as}
 use Rattle.run_beginning.proofs.beginning.begin.Goals as goal
 
@@ -21,3 +22,13 @@ returns-in-Ok-clause-over c =
     let begun = c.in-Ok.begun in
     subst (λ (s : Drawing). BeginsOver s (map (λ (read : ReadSource). read.owner) c.args.sources.items) (map (λ (read : ReadSource). read.layers) c.args.sources.items) begun.plane.arcs begun.plane.faces begun.plane.boxes.items begun.layers.items (map (λ own. own.items) begun.sources.items))
     (c.in_ok-laid.ensures.snapped ∙ ap (λ (d : Drawing). snapped d) same) c.in-Ok.ensures.over
+
+pub returns-in-Ok-clause-on : goal.returns-in-Ok-clause-on
+returns-in-Ok-clause-on c =
+    let begun = c.in-Ok.begun in
+    imports_on begun.plane c.in_ok-laid.laid.snapped (map (λ (read : ReadSource). read.owner) c.args.sources.items) (map (λ (read : ReadSource). read.layers) c.args.sources.items) begun.plane.boxes.items begun.layers.items (map (λ own. own.items) begun.sources.items) c.in-Ok.ensures.over
+
+pub returns-in-Ok-clause-sources_on : goal.returns-in-Ok-clause-sources_on
+returns-in-Ok-clause-sources_on c =
+    let begun = c.in-Ok.begun in
+    sources_on begun.plane c.in_ok-laid.laid.snapped (map (λ (read : ReadSource). read.owner) c.args.sources.items) (map (λ (read : ReadSource). read.layers) c.args.sources.items) begun.plane.boxes.items begun.layers.items (map (λ own. own.items) begun.sources.items) c.in-Ok.ensures.over

@@ -5,6 +5,7 @@ pub returns : goal.returns
 returns c = record {
   snapped = refl;
   laid = record {
+    paths = c.keeps_paths.ensures.paths;
     are_arcs = c.in_ok-arcs.ensures.exact;
     forward = c.in_ok-arcs.ensures.forward;
     least = c.in_ok-arcs.ensures.least;

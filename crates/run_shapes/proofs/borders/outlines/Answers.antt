@@ -1,5 +1,8 @@
-use Rattle.std.proofs.Common.{◌≡◌, ◌∙◌, length, ap, arith}
+use Rattle.std.proofs.Common.{◌≡◌, ◌∙◌, length, map, ap, sym, subst, arith}
+use Rattle.run_plane.specs.OnPlane.{AreOn}
+use Rattle.run_shapes.specs.Borders.{border_line}
 use Rattle.run_shapes.proofs.Beside.{sides_among}
+use Rattle.run_shapes.proofs.OnPlane.{borders_on}
 use Rattle.run_shapes.proofs.borders.outlines.Goals as goal
 
 pub ranked_table-requires : goal.ranked_table-requires
@@ -10,3 +13,8 @@ ranked_table-requires c =
     in record {
       rows = sides_among plane.faces c.in_ok-sets.sets (length c.in_ok-listed.listed.rows) many (length plane.arcs) c.as_slice.result.now (c.as_slice.ensures.all ∙ c.in_ok-arcs.ensures.exact);
     }
+
+pub returns-clause-on : goal.returns-clause-on
+returns-clause-on c =
+    let plane = c.args.plane.now in
+    subst (AreOn plane) (sym (c.in_ok-shapes.ensures.exact ∙ ap (map border_line) c.as_slice-2.ensures.all)) (borders_on plane c.in_ok-arcs.arcs c.in_ok-arcs.ensures.there)

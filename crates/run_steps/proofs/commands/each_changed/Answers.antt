@@ -1,8 +1,10 @@
-use Rattle.std.proofs.Common.{◌≡◌, length, map, None, rules}
+use Rattle.std.proofs.Common.{◌≡◌, length, map, subst, sym, None, rules}
 use Rattle.run_plane.proofs.Growth.{if_ok_on}
+use Rattle.run_state.specs.OnPlane.{AreHeldOn}
 use Rattle.run_state.specs.Origins.{base_of}
 use Rattle.run_state.specs.Stops.{StopsAs, StopsFor}
 use Rattle.run_state.specs.Targets.{placed}
+use Rattle.run_state.proofs.OnPlane.{placed_on}
 use Rattle.run_state.proofs.Stops.{if_err_on}
 use Rattle.run_steps.specs.Refusals.{FailsEach, refused_count}
 use Rattle.run_steps.proofs.AtWork.{each_goes, each_stopped, each_stops}
@@ -30,3 +32,12 @@ pub returns-in_err-outputs-clause-stops : goal.returns-in_err-outputs-clause-sto
 returns-in_err-outputs-clause-stops c =
     let stops = each_stopped (base_of c.args.ground.now) c.args.state.layers.items _ c.args.command.now c.args.action.now c.in_err-outputs.field-0.0 c.deref.ensures.value c.in_err-outputs.ensures.stops in
     search rules
+
+pub returns-clause-on : goal.returns-clause-on
+returns-clause-on c =
+    let plane = c.args.ground.now.plane.now in
+    let layers = c.args.state.layers.items in
+    let command = c.args.command.now in
+    let outputs = map (λ out. out.items) c.in_ok-outputs.outputs.items in
+    if_ok_on (λ after. after.layers.items ≡ placed command layers outputs) (λ after. AreHeldOn plane after.layers.items) c.put_out.result
+    (λ after is. subst (AreHeldOn plane) (sym is) (placed_on plane command layers outputs c.requires.on c.in_ok-outputs.ensures.on)) c.put_out.ensures.placed

@@ -1,7 +1,9 @@
-use Rattle.std.proofs.Common.{◌≡◌, ◌+◌, ◌++◌, ◌∷◌, [], length, map, take, refl, ap, sym, subst₂, ◌∙◌, rules}
+use Rattle.std.proofs.Common.{◌≡◌, ◌+◌, ◌++◌, ◌∷◌, [], length, map, take, refl, ap, sym, subst, subst₂, ◌∙◌, rules}
 use Rattle.std.specs.List.{AllZip}
 use Rattle.std.proofs.lemmas.List.{map-append, take_more}
+use Rattle.std.proofs.lemmas.List.Elements.{All-push}
 use Rattle.std.proofs.lemmas.Option.{slice_get_read, get_or_from_slice_get}
+use Rattle.run_plane.specs.OnPlane.{AreAllOn, AreLayersOn}
 use Rattle.run_state.specs.Origins.{base_of}
 use Rattle.run_steps.specs.Commands.{PutsFor}
 use Rattle.run_steps.specs.Refusals.{RefusesLayer}
@@ -18,12 +20,14 @@ loop-held-preserved c =
     let there = slice_get_read xs (length xs) i item refl c.loop-held-test.true c.held-item.is in
     let more : take (i + 1) xs ≡ take i xs ++ item ∷ [] =
     take_more xs i item c.loop-held-test.true ∙ ap (λ (x : Held). take i xs ++ x ∷ []) (get_or_from_slice_get xs i item item there) in
+    let plane = c.args.ground.now.plane.now in
     let puts = PutsFor (base_of c.args.ground.now) xs c.args.command.now c.args.action.now in
     let refuses = RefusesLayer (base_of c.args.ground.now) xs c.args.action.now in
     let made = ap (map (λ out. out.items)) c.in_ok-push.ensures.items ∙ map-append (λ out. out.items) c.loop-held.outputs.items (c.in_ok-held_outputs.field-0 ∷ []) in
     record {
       puts = subst₂ (AllZip puts) (sym more) (sym made)
           (zipped_on puts (take i xs) (map (λ out. out.items) c.loop-held.outputs.items) item c.in_ok-held_outputs.field-0.items c.loop-held.invariant.puts c.in_ok-held_outputs.ensures.puts);
+      on = subst (AreAllOn plane) (sym made) (All-push (AreLayersOn plane) (map (λ out. out.items) c.loop-held.outputs.items) c.in_ok-held_outputs.field-0.items c.loop-held.invariant.on c.in_ok-held_outputs.ensures.on);
       refused = goes_past refuses c.args.command.now.target xs i item c.loop-held-test.true there c.loop-held.invariant.refused c.in_ok-held_outputs.ensures.accepted;
     }
 

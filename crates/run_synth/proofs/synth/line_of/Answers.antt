@@ -4,7 +4,7 @@ use Rattle.std.proofs.lemmas.Result.{IfOk-weaker}
 use Rattle.ring_trace.specs.Sets.{IsSetOf}
 use Rattle.synth_model.specs.Line.{line_text}
 use Rattle.run_synth.specs.Told.{AreNumbersOf, IsLineOf}
-use Rattle.run_synth.proofs.InnerSets.{all_inner}
+use Rattle.run_plane.proofs.OnPlane.{features_are_inner}
 use Rattle.run_synth.proofs.Told.{line_is}
 use Rattle.run_synth.proofs.synth.line_of.Goals as goal
 
@@ -12,7 +12,7 @@ pub numbers_of-requires : goal.numbers_of-requires
 numbers_of-requires c =
     let laid = c.args.laid in
     let faces = laid.plane.faces in
-    record { inner = subst (λ (sets : List (List ℕ)). All (IsSetOf faces) sets) (sym c.in_ok-sets.ensures.all) (all_inner laid.snapped laid.plane.arcs faces laid.plane.boxes.items laid.features.items c.requires.laid) }
+    record { inner = subst (λ (sets : List (List ℕ)). All (IsSetOf faces) sets) (sym c.in_ok-sets.ensures.all) (features_are_inner laid.snapped laid.plane.arcs faces laid.plane.boxes.items laid.features.items c.requires.laid) }
 
 pub returns : goal.returns
 returns c =

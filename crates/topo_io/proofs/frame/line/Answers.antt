@@ -1,21 +1,23 @@
-use Rattle.std.proofs.Common.{◌≤◌, ◌*◌, ◌+◌, ◌^◌, refl, ℤ, ◌+ℤ◌, ◌*ℤ◌, unsigned_abs, FitsSigned, to_z-of_z, lit<, arith}
+use Rattle.std.proofs.Common.{◌≤◌, ◌*◌, ◌+◌, refl, ℤ, ◌+ℤ◌, ◌*ℤ◌, unsigned_abs, FitsSigned, to_z-of_z, lit<}
 use Rattle.std.specs.Int.{w128}
-use Rattle.topo_io.proofs.Bounds.{fits_128, product_bound, sum_bound}
+use Rattle.grid_base.specs.Sizes.{IsStep, most_step}
+use Rattle.grid_base.proofs.Bounds.{fits_128, product_bound, sum_bound}
+use Rattle.topo_io.specs.Transform.{most_line, part}
 use Rattle.topo_io.proofs.frame.line.Goals as goal
 
 record Fit (a b c : ℤ) : Type 0 where
   product : FitsSigned w128 (a *ℤ b)
   sum : FitsSigned w128 (a *ℤ b +ℤ c)
-  small : unsigned_abs (a *ℤ b +ℤ c) ≤ 41 * 10 ^ 36
+  small : unsigned_abs (a *ℤ b +ℤ c) ≤ most_line
 
-fits : (a b c : ℤ) → unsigned_abs a ≤ 4000000000 → unsigned_abs b ≤ 10 ^ 28 → unsigned_abs c ≤ 10 ^ 28 → Fit a b c
+fits : (a b c : ℤ) → IsStep a → unsigned_abs b ≤ part → unsigned_abs c ≤ part → Fit a b c
 fits a b c ha hb hc =
-    let p : unsigned_abs (a *ℤ b) ≤ 4000000000 * 10 ^ 28 = product_bound a b 4000000000 (10 ^ 28) ha hb in
-    let s : unsigned_abs (a *ℤ b +ℤ c) ≤ 4000000000 * 10 ^ 28 + 10 ^ 28 = sum_bound (a *ℤ b) c (4000000000 * 10 ^ 28) (10 ^ 28) p hc in
+    let p : unsigned_abs (a *ℤ b) ≤ most_step * part = product_bound a b most_step part ha hb in
+    let s : unsigned_abs (a *ℤ b +ℤ c) ≤ most_line = sum_bound (a *ℤ b) c (most_step * part) part p hc in
     record {
-      product = fits_128 (a *ℤ b) (4000000000 * 10 ^ 28) p (lit< tt);
-      sum = fits_128 (a *ℤ b +ℤ c) (4000000000 * 10 ^ 28 + 10 ^ 28) s (lit< tt);
-      small = omega (arith, s);
+      product = fits_128 (a *ℤ b) (most_step * part) p (lit< tt);
+      sum = fits_128 (a *ℤ b +ℤ c) most_line s (lit< tt);
+      small = s;
     }
 
 pub overflow_mul-result : goal.overflow_mul-result

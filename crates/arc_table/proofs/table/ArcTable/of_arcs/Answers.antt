@@ -3,7 +3,7 @@ use Rattle.std.specs.List.Sorted.{IsPermutation}
 use Rattle.std.specs.Ordering.{ordering_then, nat_cmp, bool_cmp}
 use Rattle.std.proofs.lemmas.List.{length-map}
 use Rattle.std.proofs.lemmas.List.Elements.{All-same}
-use Rattle.std.proofs.lemmas.List.Sorted.{All-permutation, answers_always}
+use Rattle.std.proofs.lemmas.List.Sorted.{All-permutation, IsPermutation-trans, answers_always}
 use Rattle.plane_model.specs.Points.{GridPoint}
 use Rattle.plane_model.specs.Arcs.{SignedArc}
 use Rattle.arc_table.specs.FirstSteps.{IsThere}
@@ -20,21 +20,22 @@ use Rattle.arc_table.proofs.table.ArcTable.of_arcs.Goals as goal
 pub invariant_of-result : goal.invariant_of-result
 invariant_of-result c =
     let n : ℕ = length c.args.arcs.spans in
-    let turned = c.sort_by.new.self.items in
+    let turned = c.sort_unstable_by.new.self.items in
     let there = IsThere n in
     let below : SignedArc → Type 0 = λ a. a.arc < n in
     let all_there = firsts_there c.args.arcs.spans in
     let made : List FirstStep = map (first_of c.args.arcs.spans) (signed_below n) in
-    let moved : IsPermutation made turned = subst (λ (fs : List FirstStep). IsPermutation fs turned) c.in_ok-by_turn.ensures.exact c.sort_by.ensures.permutation in
-    let in_order = c.in_ok-sort_by.ensures.sorted (λ (f : FirstStep) (g : FirstStep). comes_first f.step g.step) (comes_first-IsStrictWeakOrder (λ (f : FirstStep). f.step))
+    let sorted = c.sort_unstable.new.self.items in
+    let begun : IsPermutation made sorted = subst (λ (fs : List FirstStep). IsPermutation fs sorted) c.in_ok-firsts.ensures.exact c.sort_unstable.ensures.permutation in
+    let moved : IsPermutation made turned = IsPermutation-trans made sorted turned begun c.sort_unstable_by.ensures.permutation in
+    let in_order = c.sort_unstable_by.ensures.sorted (λ (f : FirstStep) (g : FirstStep). comes_first f.step g.step) (comes_first-IsStrictWeakOrder (λ (f : FirstStep). f.step))
     (answers_always _ _ _ (λ f a r g k. search rules)) in
     let turned_there = All-permutation there made turned moved all_there in
     let starts : c.in_ok-starts.starts.items ≡ map (λ (f : FirstStep). f.step.start) turned = c.in_ok-starts.ensures ∙ ap (map (λ (f : FirstStep). f.step.start)) c.deref-3.ensures.value in
     let outs : c.in_ok-outs.outs.items ≡ map (λ (f : FirstStep). f.arc) turned = c.in_ok-outs.ensures ∙ ap (map (λ (f : FirstStep). f.arc)) c.deref-4.ensures.value in (
       c.requires.long,
-      are_begun c.args.arcs.spans c.sort.new.self.items c.in_ok-begins.begins.items c.in_ok-begun.begun.items
-          (subst (λ (fs : List FirstStep). IsPermutation fs c.sort.new.self.items) c.in_ok-firsts.ensures.exact c.sort.ensures.permutation)
-          (sorted_by_first (λ (f : FirstStep). f.step) (λ (f : FirstStep) (g : FirstStep). ordering_then (nat_cmp f.arc.arc g.arc.arc) (bool_cmp f.arc.is_reversed g.arc.is_reversed)) c.sort.new.self.items c.in_ok-sort.ensures.sorted)
+      are_begun c.args.arcs.spans sorted c.in_ok-begins.begins.items c.in_ok-begun.begun.items begun
+          (sorted_by_first (λ (f : FirstStep). f.step) (λ (f : FirstStep) (g : FirstStep). ordering_then (nat_cmp f.arc.arc g.arc.arc) (bool_cmp f.arc.is_reversed g.arc.is_reversed)) sorted c.sort_unstable.ensures.sorted)
           (c.in_ok-begins.ensures ∙ ap (map (λ (f : FirstStep). f.step)) c.deref.ensures.value) (c.in_ok-begun.ensures ∙ ap (map (λ (f : FirstStep). f.arc)) c.deref-2.ensures.value),
       ap (λ (xs : List GridPoint). length xs) starts ∙ length-map turned (λ (f : FirstStep). f.step.start) ∙ sym (length-map turned (λ (f : FirstStep). f.arc)) ∙ sym (ap (λ (xs : List SignedArc). length xs) outs),
       All-same below c.in_ok-outs.outs.items (map (λ (f : FirstStep). f.arc) turned) outs (All-mapped there below (λ (f : FirstStep). f.arc) (λ f h. h) turned turned_there),

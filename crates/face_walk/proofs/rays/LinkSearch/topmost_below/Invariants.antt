@@ -1,5 +1,6 @@
-use Rattle.std.proofs.Common.{ℕ, suc, unsigned_abs, pos, ◌+ℤ◌, Option, Some, None}
+use Rattle.std.proofs.Common.{ℕ, suc, unsigned_abs, ◌+ℤ◌, Option, Some, None}
 use Rattle.plane_model.specs.Points.{GridPoint}
+use Rattle.grid_base.specs.Grid.{greatest}
 use Rattle.face_walk.specs.Descent.{IsFound}
 use Rattle.face_walk.proofs.RayLemmas.{IsReached}
 use Rattle.face_walk.proofs.rays.LinkSearch.topmost_below.Given as goal
@@ -7,7 +8,7 @@ use Rattle.face_walk.proofs.rays.LinkSearch.topmost_below.Given as goal
 -- how many points of the grid lie below
 abbrev pub points_left : Option GridPoint → ℕ
 points_left None = 0
-points_left (Some q) = suc (unsigned_abs (q.y +ℤ pos 2000000000))
+points_left (Some q) = suc (unsigned_abs (q.y +ℤ greatest))
 
 abbrev pub invariant-loop-next : goal.invariant-loop-next
 invariant-loop-next l = record {

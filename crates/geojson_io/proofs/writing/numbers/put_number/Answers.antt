@@ -1,7 +1,7 @@
 use Rattle.std.proofs.Common.{◌≡◌, ◌≤◌, ◌^◌, ◌%◌, ◌/◌, ◌++◌, ℕ, length, drop, decimal, rules, arith, ap, ◌∙◌, w64, FitsSigned, to_z-of_z}
 use Rattle.std.specs.Prelude.{unsigned_abs}
 use Rattle.json_read.specs.Decimal.{is_negative}
-use Rattle.geojson_io.specs.Numbers.{fraction_text}
+use Rattle.geojson_io.specs.Numbers.{fraction_text, whole_digits}
 use Rattle.geojson_io.proofs.NumberLemmas.{unit_positive, short_whole, number_written}
 use Rattle.geojson_io.proofs.writing.numbers.put_number.Goals as goal
 
@@ -14,13 +14,13 @@ nonzero_div-size c = unit_positive c.pow-unit.result c.args.places (c.pow-unit.e
 pub write_digits-start-requires : goal.write_digits-start-requires
 write_digits-start-requires c =
     let size : c.unsigned_abs-size.result ≡ unsigned_abs c.args.g = search rules in
-    let short : length (decimal (c.unsigned_abs-size.result / c.pow-unit.result)) ≤ 10 = short_whole c.unsigned_abs-size.result (unsigned_abs c.args.g) c.pow-unit.result size c.requires.size in
+    let short : length (decimal (c.unsigned_abs-size.result / c.pow-unit.result)) ≤ whole_digits = short_whole c.unsigned_abs-size.result (unsigned_abs c.args.g) c.pow-unit.result size c.requires.size in
     (omega (arith, short), omega arith)
 
 pub put_sign-requires : goal.put_sign-requires
 put_sign-requires c =
     let size : c.unsigned_abs-size.result ≡ unsigned_abs c.args.g = search rules in
-    let short : length (decimal (c.unsigned_abs-size.result / c.pow-unit.result)) ≤ 10 = short_whole c.unsigned_abs-size.result (unsigned_abs c.args.g) c.pow-unit.result size c.requires.size in
+    let short : length (decimal (c.unsigned_abs-size.result / c.pow-unit.result)) ≤ whole_digits = short_whole c.unsigned_abs-size.result (unsigned_abs c.args.g) c.pow-unit.result size c.requires.size in
     (omega (arith, short), omega (arith, short))
 
 pub returns-clause-written : goal.returns-clause-written

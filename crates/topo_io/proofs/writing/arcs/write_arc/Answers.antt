@@ -1,10 +1,12 @@
-use Rattle.std.proofs.Common.{◌≡◌, ◌≤◌, ◌+◌, ◌++◌, ◌∷◌, [], ◌∙◌, rules, subst, sym, arith, drop, ℤ, pos, ◌-ℤ◌, unsigned_abs, w64, FitsSigned, to_z-of_z}
+use Rattle.std.proofs.Common.{◌≡◌, ◌+◌, ◌++◌, ◌∷◌, [], ◌∙◌, rules, subst, sym, arith, drop, pos, ◌-ℤ◌, w64, FitsSigned, to_z-of_z}
 use Rattle.std.proofs.lemmas.Result.{on_ok_weaker}
 use Rattle.plane_model.specs.Points.{GridPoint}
+use Rattle.grid_base.specs.Sizes.{IsGridNumber}
+use Rattle.grid_base.proofs.Bounds.{x_small, y_small}
 use Rattle.geojson_io.specs.Texts.{point_text}
 use Rattle.geojson_io.proofs.TextLemmas.{shown_to, written_more, list_written}
 use Rattle.topo_io.specs.Texts.{differences}
-use Rattle.topo_io.proofs.DifferenceLemmas.{length-differences, way, way_at, ways_after, way_inside, across, upward}
+use Rattle.topo_io.proofs.DifferenceLemmas.{length-differences, way, way_at, ways_after, way_inside}
 use Rattle.topo_io.proofs.writing.arcs.write_arc.Goals as goal
 
 abbrev origin : GridPoint
@@ -26,14 +28,14 @@ loop-i-preserved c =
     let f₂ : FitsSigned w64 c.y-y.result = search rules in
     let ex : c.x-x.result ≡ p.x = c.x-x.ensures.exact in
     let ey : c.y-y.result ≡ p.y = c.y-y.ensures.exact in
-    let bx : unsigned_abs c.x-x.result ≤ 2000000000 = subst (λ (z : ℤ). unsigned_abs z ≤ 2000000000) (sym ex) (across p c.x-x.ensures.bounded) in
-    let by : unsigned_abs c.y-y.result ≤ 2000000000 = subst (λ (z : ℤ). unsigned_abs z ≤ 2000000000) (sym ey) (upward p c.x-x.ensures.bounded) in
+    let bx : IsGridNumber c.x-x.result = subst IsGridNumber (sym ex) (x_small p c.x-x.ensures.bounded) in
+    let by : IsGridNumber c.y-y.result = subst IsGridNumber (sym ey) (y_small p c.x-x.ensures.bounded) in
     let after : drop (i + 1) (differences origin ps) ≡ differences (record { x = c.x-x.result; y = c.y-y.result }) (drop (i + 1) ps) =
     ways_after origin ps i b p l is here ∙ (λ j. differences (record { x = sym ex j; y = sym ey j }) (drop (i + 1) ps)) in
     let more : c.write_difference.new.out ≡ c.push.new.self ++ shown_to (point_text 0) (44 ∷ []) (differences origin ps) (i + 1) =
     written_more (point_text 0) (44 ∷ []) c.loop-i.out c.push.new.self c.write_comma.new.out c.write_difference.new.out (differences origin ps) i (way b p)
     (way_inside origin ps i b p l is here) (way_at origin ps i b p l is here) inv.3 c.in_ok-write_comma.ensures drawn in
-    let all : (unsigned_abs c.x-x.result ≤ 2000000000) × (unsigned_abs c.y-y.result ≤ 2000000000)
+    let all : (IsGridNumber c.x-x.result) × (IsGridNumber c.y-y.result)
     × (drop (i + 1) (differences origin ps) ≡ differences (record { x = c.x-x.result; y = c.y-y.result }) (drop (i + 1) ps))
     × (c.write_difference.new.out ≡ c.push.new.self ++ shown_to (point_text 0) (44 ∷ []) (differences origin ps) (i + 1)) = (bx, by, after, more) in
     simp to_z-of_z all

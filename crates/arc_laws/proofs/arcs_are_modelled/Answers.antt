@@ -1,0 +1,6 @@
+-- The law is proved by itself.
+use Rattle.arc_laws.proofs.Modelled.{arcs_are_modelled}
+use Rattle.arc_laws.proofs.arcs_are_modelled.Goals as goal
+
+pub returns : goal.returns
+returns c = arcs_are_modelled

@@ -1,0 +1,3 @@
+pub mod LinkCounts
+pub mod Alone
+pub mod IslandsLeft

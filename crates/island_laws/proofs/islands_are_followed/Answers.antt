@@ -1,0 +1,6 @@
+-- The law is proved by itself.
+use Rattle.island_laws.proofs.IslandsLeft.{islands_are_followed}
+use Rattle.island_laws.proofs.islands_are_followed.Goals as goal
+
+pub returns : goal.returns
+returns c = islands_are_followed

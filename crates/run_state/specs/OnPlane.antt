@@ -1,0 +1,8 @@
+-- The layers of a run, which lie on its plane.
+use Rattle.std.specs.Prelude.{All, List}
+use Rattle.run_plane.specs.OnPlane.{IsLayerOn}
+use Rattle.run_plane.specs.declared.plane.Plane.{Plane}
+use Rattle.run_state.specs.declared.state.Held.{Held}
+
+abbrev pub AreHeldOn : Plane → List Held → Type 0
+AreHeldOn plane layers = All (λ (held : Held). IsLayerOn plane held.layer) layers

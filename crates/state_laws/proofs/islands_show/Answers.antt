@@ -1,0 +1,6 @@
+-- The law is proved by itself.
+use Rattle.state_laws.proofs.PolygonIslands.{islands_show}
+use Rattle.state_laws.proofs.islands_show.Goals as goal
+
+pub returns : goal.returns
+returns c = islands_show

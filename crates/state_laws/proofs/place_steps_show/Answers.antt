@@ -1,0 +1,6 @@
+-- The law is proved by itself.
+use Rattle.state_laws.proofs.PlaceSteps.{place_steps_show}
+use Rattle.state_laws.proofs.place_steps_show.Goals as goal
+
+pub returns : goal.returns
+returns c = place_steps_show
