@@ -33,7 +33,7 @@ use Rattle.begin_laws.specs.Ends.{IsAsked}
 use Rattle.begin_laws.proofs.Asked.{all_imported}
 use Rattle.begin_laws.proofs.Dense.{not_dense}
 use Rattle.begin_laws.proofs.Ending.{behind}
-use Rattle.begin_laws.proofs.Planes.{sources_alike}
+use Rattle.begin_laws.proofs.Planes.{sources_alike, view_plane}
 
 module _ (read : Readings) (line : List Content) (c : Chain) (seen : SourcesSeen) (files : FileMap) (bytes : Content) (a : IsAsked read line (job.Chain c) seen files bytes) (before after : OutsideSeen) (o : Outcome) (run : RunsCommands c seen before after o) where
   abbrev given : List (List LayerContent)
@@ -61,12 +61,16 @@ module _ (read : Readings) (line : List Content) (c : Chain) (seen : SourcesSeen
     alike : first_sources (shown.plane_of v) [] given ≡ first_sources (plane_of v.drawing) [] given
     alike = sources_alike (snapped v.drawing) (links_of (snapped v.drawing)) v.arcs (arcs_of (snapped v.drawing) (links_of (snapped v.drawing))) [] given
 
+    plane_same : plane_of v.drawing ≡ shown.plane_of v
+    plane_same = sym (view_plane (drawing_by given c.boxes) run.base.plane.arcs run.base.plane.faces run.base.plane.boxes.items run.over.features run.over.laid v is)
+
     begun_shows : BegunShows c run.begun run.base (begun_with c given (plane_of v.drawing))
     begun_shows = record {
       view = v;
       is_view = is.is_view;
       seen = seen_in;
       plane = refl;
+      of_view = plane_same;
       state = first_layers_show v run.begun (import_layers c.sources (first_sources (plane_of v.drawing) [] given))
           (subst (λ (ls : List (List StateLayer)). AllZip (LayerShows v) run.begun (import_layers c.sources ls)) alike show.imports);
       sources = subst (λ (ls : List (List StateLayer)). SourcesShow v run.base.sources (command_layers c.sources ls)) alike show.commands;

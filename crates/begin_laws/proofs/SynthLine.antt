@@ -26,6 +26,7 @@ use Rattle.state_laws.proofs.Views.{views_exist}
 use Rattle.begin_laws.specs.Mosaics.{LineShows, LinesOfMosaicsShow}
 use Rattle.begin_laws.proofs.CellSets.{area_same, filled_same, has_point}
 use Rattle.begin_laws.proofs.Dense.{not_dense}
+use Rattle.begin_laws.proofs.Planes.{view_plane}
 
 module _ (seed n : ℕ) (line : Content) (told : IsLineOf (snapped (cells seed n)) (n * n) line) (v : View) (is : IsViewOf (cells seed n) told.arcs told.faces told.boxes told.features v) where
   many : length told.features ≡ n * n
@@ -60,8 +61,11 @@ module _ (seed n : ℕ) (line : Content) (told : IsLineOf (snapped (cells seed n
       let walked = is.is_view.walked in
       count_is_exact v.drawing v.arcs walked.table.long walked.table.links walked.table.whole v.faces walked.built
 
+  plane_same : plane_of v ≡ answers.plane_of (cells seed n)
+  plane_same = view_plane (cells seed n) told.arcs told.faces told.boxes told.features told.laid v is ∙ ap answers.plane_of is.of_drawing
+
   line_shows : LineShows seed n line
-  line_shows = record { view = v; is_view = is.is_view; of_cells = is.of_drawing; is_line = (v.faces.count, counted, line_told) }
+  line_shows = record { view = v; is_view = is.is_view; of_cells = is.of_drawing; plane = plane_same; is_line = (v.faces.count, counted, line_told) }
 
 pub lines_show : LinesOfMosaicsShow
 lines_show seed n line is_told = (not_dense (cells seed n) is_told.few, go (views_exist (cells seed n) told.arcs told.faces told.boxes told.features told.laid))

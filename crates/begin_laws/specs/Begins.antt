@@ -10,10 +10,10 @@ use Rattle.run_state.specs.Targets.{first_layers}
 use Rattle.run_outcome.specs.declared.outcome.Outcome.{Outcome}
 use Rattle.ms_chain.specs.Effects.{OutsideSeen}
 use Rattle.ms_chain.specs.Running.{RunsCommands}
-use Rattle.region_model.specs.Answers.{plane_of}
+use Rattle.region_model.specs.Answers as model
 use Rattle.chain_model.specs.Running.{Begun, begins}
 use Rattle.chain_model.specs.Sources.{Readings}
-use Rattle.state_laws.specs.Shown.{View, IsSeenIn, IsView, SourcesShow, StateShows}
+use Rattle.state_laws.specs.Shown.{View, IsSeenIn, IsView, SourcesShow, StateShows, plane_of}
 use Rattle.begin_laws.specs.Ends.{IsAsked}
 
 -- what begins by the model is shown by these layers and by those of the sources that commands take, all over one plane
@@ -21,8 +21,9 @@ pub record BegunShows (c : Chain) (layers : List Layer) (base : Base) (b : Begun
   pub view : View
   pub is_view : IsView view
   pub seen : IsSeenIn view base.plane
-  -- the plane of the model is that of the drawing of the view
-  pub plane : b.plane ≡ plane_of view.drawing
+  -- the plane of the model is that of the drawing of the view, and its arcs are those of the view
+  pub plane : b.plane ≡ model.plane_of view.drawing
+  pub of_view : b.plane ≡ plane_of view
   pub state : StateShows view (first_layers layers) b.state
   pub sources : SourcesShow view base.sources b.sources
   pub places : b.places ≡ base.places

@@ -66,9 +66,10 @@ pub record IsStopped (base : Base) (n : ℕ) (c : Command) (layers : List Held) 
   pub ends : o ≡ of_command n stop
   pub kept : after ≡ before
 
--- it writes the text of its output, the count of its place rises, and of the text a front is there
-pub record FailsToWrite (base : Base) (n : ℕ) (form : OutForm) (layers : List Layer) (standard : Bool) (name : Content) (before after : OutsideSeen) (o : Outcome) : Type 0 where
+-- it isn't refused and writes the text of its output, the count of its place rises, and of the text a front is there
+pub record FailsToWrite (Accepted : Type 0) (base : Base) (n : ℕ) (form : OutForm) (layers : List Layer) (standard : Bool) (name : Content) (before after : OutsideSeen) (o : Outcome) : Type 0 where
   pub fault : o ≡ outcome.WriteFault n
+  pub accepted : Accepted
   pub text : Content
   pub says : OutputSays base form layers text
   pub rose : WriteRose standard name before after
@@ -77,7 +78,7 @@ pub record FailsToWrite (base : Base) (n : ℕ) (form : OutForm) (layers : List 
 
 -- a command with this number whose writing fails
 abbrev pub EndsWriting : Base → ℕ → Command → Action → List Held → OutsideSeen → OutsideSeen → Outcome → Type 0
-EndsWriting base n c (action.Write to standard form) layers before after o = FailsToWrite base n form (targets c.target layers) standard to before after o
+EndsWriting base n c (action.Write to standard form) layers before after o = FailsToWrite (refused_output c.target form layers ≡ None) base n form (targets c.target layers) standard to before after o
 EndsWriting base n c (action.Each a) layers before after o = ⊥
 EndsWriting base n c (action.Together a) layers before after o = ⊥
 

@@ -10,3 +10,4 @@ pub mod Pictured
 pub mod Texts
 pub mod Twice
 pub mod OutputSteps
+pub mod Planes

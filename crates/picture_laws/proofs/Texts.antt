@@ -18,7 +18,7 @@ use Rattle.run_texts.specs.Written.{IsCsvText}
 use Rattle.chain_model.specs.Pictures.{Shows, in_arcs, text_in}
 use Rattle.chain_model.specs.State.{StateLayer}
 use Rattle.state_laws.specs.Shown.{View, IsView, IsSeenIn, LayerShows, plane_of}
-use Rattle.picture_laws.specs.Texts.{GeoTextsShow, TableTextsShow, TextIsOf, TextsShow, TopoTextsShow}
+use Rattle.picture_laws.specs.Texts.{GeoTextsShow, TableTextsShow, TextIsOf, TextsExist, TextsShow, TopoTextsShow}
 use Rattle.picture_laws.proofs.Layers.{pictures_show, traced_shows}
 use Rattle.picture_laws.proofs.Pictured.{all_pictured}
 
@@ -92,3 +92,10 @@ pub texts_show : TextsShow
 texts_show v view base seen layers ls show form.Geo text h = geo_texts_show v view base seen layers ls show text h
 texts_show v view base seen layers ls show form.Csv text h = table_texts_show v view base layers ls show text h
 texts_show v view base seen layers ls show form.Topo text h = topo_texts_show v view base seen layers ls show text h
+
+-- ---- texts of whatever is written
+
+pub texts_exist : TextsExist
+texts_exist v view places w =
+    let (pictures, shown) = all_pictured v view w.layers in
+    (text_in w.form places v.arcs pictures, record { pictures = pictures; shown = shown; is = refl })

@@ -1,3 +1,4 @@
 pub mod Drawn
 pub mod Pictured
 pub mod Texts
+pub mod Planes

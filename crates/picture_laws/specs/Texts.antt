@@ -1,5 +1,5 @@
 -- Laws of texts: what an output of a run says is a text of the state's output.
-use Rattle.std.specs.Prelude.{◌≡◌, Bool, List, Some, None, Ok}
+use Rattle.std.specs.Prelude.{◌≡◌, ℕ, Bool, List, Some, None, Ok}
 use Rattle.std.specs.List.{AllZip}
 use Rattle.io_core.specs.Contents.{Content}
 use Rattle.table_terms.specs.Names.{Text}
@@ -38,6 +38,10 @@ TableTextsShow = (v : View) → IsView v → (base : Base) (layers : List Layer)
 -- whatever the form is
 abbrev pub TextsShow : Type 0
 TextsShow = (v : View) → IsView v → (base : Base) → IsSeenIn v base.plane → (layers : List Layer) (ls : List StateLayer) → AllZip (LayerShows v) layers ls → (f : OutForm) (text : Content) → OutputSays base f layers text → TextIsOf v base f ls text
+
+-- ---- law: whatever is written has a text
+abbrev pub TextsExist : Type 0
+TextsExist = (v : View) → IsView v → (places : ℕ) (w : Written) → (text : Content) × IsTextOf (plane_of v) v.answers places w text
 
 -- ---- the step of an output
 

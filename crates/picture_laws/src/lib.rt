@@ -11,15 +11,19 @@
 //! - Each region of a view has polygons that fit it (`each_region_is_pictured`), and each layer a picture
 //!   (`each_layer_is_pictured`), also where its table alone is written.
 //! - What an output says is a text of the state's layers: as GeoJSON (`geo_texts_show`), as a topology (`topo_texts_show`),
-//!   as comma-separated text (`table_texts_show`), and so in any form (`texts_show`). The step of an output writes it to
+//!   as comma-separated text (`table_texts_show`), and so in any form (`texts_show`). Whatever is written has a text
+//!   (`texts_exist`). The step of an output writes it to
 //!   the same place, or is refused for the same reason (`output_steps_show`).
+//! - All this is said of a view. The plane of a view of what is laid out is that of the model for the drawing
+//!   (`views_are_modelled`).
 //!
 //! Each function carries one law in its contract, and does nothing.
 #![tactic(auto)]
 
 ghost use Rattle.picture_laws.specs.Drawn.{DrawnShapesNameArcs, PathsAreJoined, PicturesShow, RegionsAreDrawn, ShapesAreDrawn, TracedLayersShow};
 ghost use Rattle.picture_laws.specs.Pictured.{EachLayerIsPictured, EachRegionIsPictured};
-ghost use Rattle.picture_laws.specs.Texts.{GeoTextsShow, OutputStepsShow, TableTextsShow, TextsShow, TopoTextsShow};
+ghost use Rattle.picture_laws.specs.Planes.{ViewsAreModelled};
+ghost use Rattle.picture_laws.specs.Texts.{GeoTextsShow, OutputStepsShow, TableTextsShow, TextsExist, TextsShow, TopoTextsShow};
 
 /// Arcs that follow each other are drawn as the path that they are when they are joined.
 pub fn paths_are_joined()
@@ -81,7 +85,17 @@ pub fn texts_show()
     ensures { TextsShow }
 {}
 
+/// Whatever layers an output of the state writes, there is a text of them.
+pub fn texts_exist()
+    ensures { TextsExist }
+{}
+
 /// The step of an output writes a text of the layers of the state to the same place, or both are refused for the same reason.
 pub fn output_steps_show()
     ensures { OutputStepsShow }
+{}
+
+/// The plane of a view of a drawing that is laid out is that of the model, with right answers.
+pub fn views_are_modelled()
+    ensures { ViewsAreModelled }
 {}

@@ -1,5 +1,5 @@
 -- Sets that are cleaned and filled follow what clean with gaps makes of their regions.
-use Rattle.std.proofs.Common.{◌≡◌, ◌⊎◌, inl, inr, refl, sym, ap, subst, ◌∙◌, arith, ℕ, zero, suc, ◌+◌, ◌*◌, ◌<◌, Bool, true, false, ◌&&◌, cond, not, ℤ, pos, List, [], ◌∷◌, All, Contains, Option, Some, filter, length, get_or, take, nat_eq, nat_lt}
+use Rattle.std.proofs.Common.{◌≡◌, ◌⊎◌, inl, inr, refl, sym, ap, subst, ◌∙◌, arith, ℕ, ◌+◌, ◌*◌, ◌<◌, Bool, true, false, ◌&&◌, cond, not, ℤ, pos, List, [], ◌∷◌, All, Contains, Option, Some, filter, length, get_or, take, nat_eq, nat_lt}
 use Rattle.std.specs.Prelude.{◌↔◌, int_le}
 use Rattle.std.specs.List.{range_with_len}
 use Rattle.std.specs.List.Sorted.{IsStrictlyIncreasing}
@@ -334,6 +334,5 @@ module _ (d : Drawing) (arcs : List Path) (faces : FaceTable) (label : Place →
           given_gaps = filter goes_here (filled_gaps P A most (all_regions region (length sets)))
 
 pub filled_as_told : FilledAsTold
-filled_as_told d arcs faces label walked sets rises inner region each A right rule zero some made h n l = absurd (omega arith)
-filled_as_told d arcs faces label walked sets rises inner region each A right rule (suc more) some made (left, is, filled) n l =
-    followed d arcs faces label walked A right sets rises inner region each rule left is filled.gaps filled.are_gaps (suc more) made filled.has n (let e = filled.count in omega arith)
+filled_as_told d arcs faces label walked sets rises inner region each A right rule most made (left, is, filled) n l =
+    followed d arcs faces label walked A right sets rises inner region each rule left is filled.gaps filled.are_gaps most made filled.has n (let e = filled.count in omega arith)

@@ -36,8 +36,8 @@ abbrev pub GapsAreFollowed : Type 0
 GapsAreFollowed = (d : Drawing) (arcs : List Path) (faces : FaceTable) (label : Place → ℕ) → IsWalked d arcs faces label → (sets : List (List ℕ)) → All (IsSetOf faces) sets → (region : ℕ → Region) →
     FollowEach (snapped d) arcs label sets region → (gaps : List (List ℕ)) → AreGaps faces (all_faces sets) gaps → FollowGaps (snapped d) arcs label gaps (regions_at region (range_with_len 0 (length sets)))
 
--- where answers about the plane are right, and gaps of some area are filled, sets that are cleaned and filled follow what clean with gaps makes of their regions
+-- where answers about the plane are right, sets that are cleaned and filled follow what clean makes of their regions
 abbrev pub FilledAsTold : Type 0
 FilledAsTold = (d : Drawing) (arcs : List Path) (faces : FaceTable) (label : Place → ℕ) → IsWalked d arcs faces label → (sets : List (List ℕ)) → All IsStrictlyIncreasing sets → All (IsSetOf faces) sets → (region : ℕ → Region) →
-    FollowEach (snapped d) arcs label sets region → (A : Answers) → AreRight (plane_with d arcs) A → (rule : OverlapRule) (most : ℕ) → 0 < most → (made : List (List ℕ)) → IsCleanedAndFilled rule most faces sets made →
+    FollowEach (snapped d) arcs label sets region → (A : Answers) → AreRight (plane_with d arcs) A → (rule : OverlapRule) (most : ℕ) (made : List (List ℕ)) → IsCleanedAndFilled rule most faces sets made →
     FollowEach (snapped d) arcs label made (cleaned_and_filled (plane_with d arcs) A rule most region (length sets))

@@ -80,7 +80,7 @@ pub fn dissolved_sets_are_followed()
     ensures { DissolvedSetsAreFollowed }
 {}
 
-/// The sets that `clean_sets` answers follow their regions less any of those that rank before them.
+/// The sets that `separate_sets` answers follow their regions less any of those that rank before them.
 pub fn cleaned_sets_are_followed()
     ensures { CleanedSetsAreFollowed }
 {}
@@ -99,8 +99,8 @@ pub fn gaps_are_followed()
     ensures { GapsAreFollowed }
 {}
 
-/// The sets that `clean_sets` answers where it fills gaps follow what clean with gaps makes of the regions: what is left of
-/// each when overlaps are given away, with the filled gaps that go to it.
+/// The sets that `clean_sets` answers follow what clean makes of the regions: what is left of each when overlaps are given
+/// away, with the filled gaps that go to it.
 pub fn filled_as_told()
     ensures { FilledAsTold }
 {}
@@ -155,7 +155,7 @@ pub fn empty_sets_are_empty_regions()
     ensures { EmptySetsAreEmptyRegions }
 {}
 
-/// The sets that `clean_sets` answers follow their regions less any of those that rank before them, where the areas that
+/// The sets that `separate_sets` answers follow their regions less any of those that rank before them, where the areas that
 /// rank them are those within the boundaries of the regions.
 pub fn cleaned_by_regions()
     ensures { CleanedByRegions }
@@ -206,7 +206,8 @@ pub fn areas_are_told()
     ensures { AreasAreTold }
 {}
 
-/// The sets that `clean_sets` answers where no gaps are filled follow what the definition of clean leaves of their regions.
+/// The sets that `separate_sets` answers follow what the definition of clean leaves of their regions when overlaps are given
+/// away.
 pub fn cleaned_as_told()
     ensures { CleanedAsTold }
 {}

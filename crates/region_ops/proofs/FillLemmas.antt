@@ -1,5 +1,5 @@
 -- Gaps that are filled: which sets are across their boundaries, which of them each goes to, and what each set is given.
-use Rattle.std.proofs.Common.{◌≡◌, ◌⊎◌, inl, inr, refl, sym, ap, ◌∙◌, subst, arith, ℕ, zero, suc, ◌+◌, ◌<◌, Bool, true, false, ℤ, pos, List, [], ◌∷◌, ◌++◌, length, get_or, take, map, set, nat_lt, All, Contains, Option, Some, None, length-set}
+use Rattle.std.proofs.Common.{◌≡◌, ◌⊎◌, inl, inr, refl, sym, ap, ◌∙◌, subst, arith, ℕ, ◌+◌, ◌<◌, Bool, true, false, ℤ, pos, List, [], ◌∷◌, ◌++◌, length, get_or, take, map, set, nat_lt, All, Contains, Option, Some, None, length-set}
 use Rattle.std.specs.List.{flat_map}
 use Rattle.std.specs.List.Sorted.{IsStrictlyIncreasing}
 use Rattle.std.proofs.lemmas.Bool.{cases_eq, eqb-true}
@@ -19,9 +19,9 @@ use Rattle.ring_trace.specs.Sets.{IsInnerFace, IsSetOf, area_of}
 use Rattle.ring_trace.proofs.BoundaryLemmas.{below_arc, listed_left}
 use Rattle.ring_trace.proofs.GapLemmas.{gaps_inner}
 use Rattle.ring_trace.proofs.SetLemmas.{from_ascending, nat_order}
-use Rattle.region_ops.specs.Cleaned.{IsCleaned, IsFirst, is_before, ranks_before}
+use Rattle.region_ops.specs.Cleaned.{IsFirst, is_before, ranks_before}
 use Rattle.region_ops.specs.Dissolved.{set_at}
-use Rattle.region_ops.specs.Filled.{AreGifts, AreTogether, Borders, GoesTo, IsCleanedAndFilled, IsFilled, IsGiven, IsReceiver, all_faces, given, is_filled, neighbours_of, sets_round}
+use Rattle.region_ops.specs.Filled.{AreGifts, AreTogether, Borders, GoesTo, IsFilled, IsGiven, IsReceiver, all_faces, given, is_filled, neighbours_of, sets_round}
 use Rattle.region_ops.proofs.OwnerSets.{in_owners, of_owners}
 use Rattle.region_ops.proofs.Ranks.{one_before}
 use Rattle.region_ops.proofs.FirstLemmas.{area_is, length_pushed, pushed}
@@ -266,13 +266,3 @@ filled_inner rule most faces sets cleaned filled each inner h = All-from_get_or 
   where
     gaps_here : List (List ℕ)
     gaps_here = h.gaps
-
--- ---- clean as a whole
-
-pub plain_is : (rule : OverlapRule) (most : ℕ) (faces : FaceTable) (sets made : List (List ℕ)) → most ≡ 0 → IsCleaned rule faces.areas sets made → IsCleanedAndFilled rule most faces sets made
-plain_is rule zero faces sets made e h = h
-plain_is rule (suc more) faces sets made e h = absurd (omega arith)
-
-pub filled_is : (rule : OverlapRule) (most : ℕ) (faces : FaceTable) (sets cleaned made : List (List ℕ)) → (most ≡ 0 → ⊥) → IsCleaned rule faces.areas sets cleaned → IsFilled rule most faces sets cleaned made → IsCleanedAndFilled rule most faces sets made
-filled_is rule zero faces sets cleaned made e h f = absurd (e refl)
-filled_is rule (suc more) faces sets cleaned made e h f = (cleaned, h, f)

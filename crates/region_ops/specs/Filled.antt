@@ -1,5 +1,5 @@
 -- Gaps between sets of faces that clean fills: each goes to one of the sets.
-use Rattle.std.specs.Prelude.{◌≡◌, ◌⊎◌, ◌↔◌, ℕ, zero, suc, ◌<◌, ◌++◌, Bool, true, false, ℤ, pos, int_le, nat_lt, List, [], All, Contains, Option, Some, None, length, slice_index_or, slice_set}
+use Rattle.std.specs.Prelude.{◌≡◌, ◌⊎◌, ◌↔◌, ℕ, ◌<◌, ◌++◌, Bool, true, false, ℤ, pos, int_le, nat_lt, List, [], All, Contains, Option, Some, None, length, slice_index_or, slice_set}
 use Rattle.std.specs.List.{flat_map}
 use Rattle.std.specs.List.Sorted.{IsStrictlyIncreasing}
 use Rattle.lists.specs.Lists.{ascending, joined_up}
@@ -51,10 +51,9 @@ pub record IsFilled (rule : OverlapRule) (most : ℕ) (faces : FaceTable) (sets 
   pub in_order : All IsStrictlyIncreasing filled
   pub has : (n k : ℕ) → n < length sets → Contains (set_at filled n) k ↔ (Contains (set_at cleaned n) k ⊎ IsGiven rule most faces sets cleaned gaps n k)
 
--- The sets are cleaned, and then gaps of at most an area, doubled, are filled; with the area 0 none is.
+-- the sets are cleaned, and then gaps of at most an area, doubled, are filled
 abbrev pub IsCleanedAndFilled : OverlapRule → ℕ → FaceTable → List (List ℕ) → List (List ℕ) → Type 0
-IsCleanedAndFilled rule zero faces sets made = IsCleaned rule faces.areas sets made
-IsCleanedAndFilled rule (suc more) faces sets made = (cleaned : List (List ℕ)) × IsCleaned rule faces.areas sets cleaned × IsFilled rule (suc more) faces sets cleaned made
+IsCleanedAndFilled rule most faces sets made = (cleaned : List (List ℕ)) × IsCleaned rule faces.areas sets cleaned × IsFilled rule most faces sets cleaned made
 
 -- ---- on the way, with twice the area of each set
 

@@ -12,12 +12,11 @@ use ring_trace::{FaceOwners, FaceSet, SetList, gaps};
 use std::alloc::{AllocError, Global};
 
 /// For each set its faces that no set has which the rule ranks before it, and then the gaps between the sets that go to
-/// it, of those of at most the area `gap`, doubled. With the area 0 none is filled.
+/// it, of those of at most the area `gap`, doubled.
 ///
 /// A gap goes to the set that ranks first of those that have, after that, a face across an arc round it. Areas are those
 /// of the sets as they come. Sets of equal areas are ranked by their numbers, the lowest first. A set may become empty.
-/// Cost: one step for each face of each set, and one for each face of the table; where gaps are filled, n log n for the
-/// n arcs and faces of the table.
+/// Cost: one step for each face of each set, and n log n for the n arcs and faces of the table.
 pub fn clean_sets(
     alloc: Global,
     t: &ArcTable,
@@ -34,11 +33,25 @@ pub fn clean_sets(
 {
     let areas = areas_of(alloc, f, old)?;
     let cleaned = without_overlaps(alloc, f, old, &areas, rule)?;
-    if gap == 0 {
-        return Ok(cleaned);
-    }
     let shut_in = gaps(alloc, t, f, &old.union(alloc)?)?;
     filled_sets(alloc, f, &cleaned, &shut_in, &areas, rule, gap)
+}
+
+/// For each set its faces that no set has which the rule ranks before it, as `clean_sets` leaves it before it looks at
+/// gaps.
+///
+/// Cost: one step for each face of each set, and one for each face of the table.
+pub fn separate_sets(
+    alloc: Global,
+    f: &Faces,
+    old: &SetList,
+    rule: OverlapRule,
+) -> Result<SetList, AllocError>
+    requires faces { All (IsSetOf f.now) old.now }
+    ensures exact { IfOk result (IsCleaned rule f.now.areas old.now) }
+{
+    let areas = areas_of(alloc, f, old)?;
+    without_overlaps(alloc, f, old, &areas, rule)
 }
 
 // For each set its faces that no set has which ranks before it.

@@ -17,7 +17,7 @@ mod filled_sets;
 mod item_lists;
 mod shared_faces;
 
-pub use cleaned_sets::clean_sets;
+pub use cleaned_sets::{clean_sets, separate_sets};
 pub use cut_sets::{clip_sets, erase_sets};
 pub use dissolved_sets::dissolve_sets;
 pub use exploded_sets::explode_sets;

@@ -5,3 +5,4 @@ pub mod Said
 pub mod Causes
 pub mod Unchanged
 pub mod Refused
+pub mod Messages

@@ -12,7 +12,7 @@ each_name None b s = tt
 each_name (Some a) None s = absurd s
 each_name (Some a) (Some b) s = s
 
-no_text : (a b : Option Content) → b ≡ a → Appends a b []
+pub no_text : (a b : Option Content) → b ≡ a → Appends a b []
 no_text None b e = tt
 no_text (Some a) None e = absurd (cc)
 no_text (Some a) (Some b) e =

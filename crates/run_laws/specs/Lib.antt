@@ -1,3 +1,4 @@
 pub mod Outcomes
 pub mod Causes
 pub mod Refused
+pub mod Messages

@@ -1,10 +1,11 @@
 //! What a run's contract says of its ends is what the model of a run asks: faults have the same names, each has a cause,
-//! and refused words end a run.
+//! refused words end a run, and the line that tells an outcome is the same.
 //!
 //! Each function carries one law in its contract, and does nothing.
 #![tactic(auto)]
 
 ghost use Rattle.run_laws.specs.Causes.{FaultsHaveCauses};
+ghost use Rattle.run_laws.specs.Messages.{MessagesAreOfTheModel};
 ghost use Rattle.run_laws.specs.Refused.{FaultsAreNamed, RefusedWordsEndTheRun};
 
 /// The end that a fault of words, of a source or of the drawing brings has the name that the model of a run gives it.
@@ -22,4 +23,9 @@ pub fn faults_have_causes()
 /// the model of a run binds it.
 pub fn refused_words_end_the_run()
     ensures { RefusedWordsEndTheRun }
+{}
+
+/// What a run tells of its outcome is what the model of a run tells: the line of just that outcome, or a first part of it.
+pub fn messages_are_of_the_model()
+    ensures { MessagesAreOfTheModel }
 {}

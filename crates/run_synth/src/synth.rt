@@ -11,7 +11,7 @@ ghost use Rattle.run_synth.specs.Told.{AreNumbersOf, IsLineOf, IsToldOf, filled}
 use crate::cells::{cells_of, count_of};
 use grid_base::OverlapRule;
 use itoa::Buffer;
-use region_ops::clean_sets;
+use region_ops::separate_sets;
 use ring_trace::{FaceSet, SetList};
 use run_plane::{Laid, Plane, laid_out};
 use snap_round::SnapFault;
@@ -66,14 +66,7 @@ fn numbers_of(
     requires inner { All (IsSetOf plane.now.faces) sets.now }
     ensures exact { IfOk result (AreNumbersOf plane.now.arcs plane.now.faces sets.now count) }
 {
-    let cleaned = clean_sets(
-        alloc,
-        &plane.arcs,
-        &plane.faces,
-        sets,
-        OverlapRule::MaxArea,
-        0,
-    )?;
+    let cleaned = separate_sets(alloc, &plane.faces, sets, OverlapRule::MaxArea)?;
     let covered = sets.union(alloc)?;
     let twice_area = covered.twice_area(&plane.faces)?;
     Ok(Numbers {

@@ -1,5 +1,5 @@
 -- What commands on rows and columns make of layers that lie on the plane lies on it.
-use Rattle.std.proofs.Common.{◌≡◌, sym, subst, ℕ, Bool, if◌then◌else◌, List, [], ◌∷◌, All, Option, Result}
+use Rattle.std.proofs.Common.{sym, subst, ℕ, Bool, if◌then◌else◌, List, [], ◌∷◌, Option, Result}
 use Rattle.std.specs.List.{AllZip, enumerate_from}
 use Rattle.std.proofs.lemmas.List.Elements.{All-cons, All-nil}
 use Rattle.io_core.specs.Contents.{Content}

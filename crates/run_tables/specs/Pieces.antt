@@ -1,7 +1,6 @@
 -- The layers into which a layer is split: one for each value of a column, or one for each feature.
 use Rattle.std.specs.Prelude.{◌≡◌, ℕ, ◌++◌, codes, decimal, List, [], ◌∷◌, map, Option, Some, None, Ok}
 use Rattle.std.specs.List.{AllZip, enumerate_from}
-use Rattle.std.specs.Str.Lossy.{utf8_lossy}
 use Rattle.io_core.specs.Contents.{Content}
 use Rattle.json_read.specs.Value.{plain_text}
 use Rattle.json_read.specs.declared.value.Value.{Value}
@@ -14,7 +13,7 @@ use Rattle.run_tables.specs.Made.{HasTable, One}
 
 -- a piece has the plain text of its value for a name, or else the name of its layer, a dash and its number
 abbrev pub piece_name : Content → ℕ → Option Value → Content
-piece_name name number (Some value) = utf8_lossy (plain_text value)
+piece_name name number (Some value) = plain_text value
 piece_name name number None = name ++ (codes "-" ++ decimal number)
 
 -- the features of one item, as the piece with this number

@@ -1,6 +1,5 @@
 ghost use Rattle.std.specs.Prelude.{◌≡◌, ◌<◌, ◌++◌, [], IfErr, IfOk, None, All, codes, decimal, length, option_copied};
 ghost use Rattle.std.specs.List.{AllZip, enumerate_from};
-ghost use Rattle.std.specs.Str.Lossy.{utf8_lossy};
 ghost use Rattle.json_read.specs.Value.{plain_text};
 ghost use Rattle.table_ops.specs.Refusals.{Answers};
 ghost use Rattle.table_ops.specs.Splitting.{split_rows};
@@ -104,12 +103,15 @@ fn piece_name(
 }
 
 fn plain_text(alloc: Global, value: &Value) -> Result<Text, AllocError>
-    ensures exact { IfOk result (λ text. text ≡ utf8_lossy (plain_text value.now)) }
+    ensures exact { IfOk result (λ text. text ≡ plain_text value.now) }
 {
     let mut bytes = Bytes::new(alloc);
     value.print_plain(&mut bytes)?;
-    let text = String::from_utf8_lossy(alloc, bytes.as_slice())?;
-    Ok(Text::from_string(text))
+    // Plain text is UTF-8, since numbers, texts and trees are printed as such.
+    match str::from_utf8(bytes.as_slice()) {
+        Ok(text) => Text::of(alloc, text),
+        Err(_) => Err(AllocError),
+    }
 }
 
 fn numbered(alloc: Global, name: &str, number: u64) -> Result<Text, AllocError>

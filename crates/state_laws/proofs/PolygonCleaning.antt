@@ -1,10 +1,9 @@
 -- Polygons that are cleaned.
-use Rattle.std.proofs.Common.{◌≡◌, refl, sym, ap, ◌∙◌, subst, arith, ℕ, zero, suc, ◌<◌, Bool, true, false, not, List, [], ◌∷◌, length, All, if◌then◌else◌}
+use Rattle.std.proofs.Common.{◌≡◌, refl, sym, ap, ◌∙◌, subst, arith, ℕ, ◌<◌, Bool, true, false, not, List, [], ◌∷◌, length, All, if◌then◌else◌}
 use Rattle.std.specs.List.{AllZip, range_with_len}
 use Rattle.std.specs.List.Sorted.{IsStrictlyIncreasing}
 use Rattle.std.proofs.lemmas.List.{length-map}
 use Rattle.std.proofs.lemmas.List.Elements.{All-filter, All-from_get_or, All-get_or}
-use Rattle.std.proofs.lemmas.List.Kept.{IsStrictlyIncreasing-filter}
 use Rattle.grid_base.specs.declared.kinds.Kind.{Kind}
 use Rattle.grid_base.specs.declared.kinds.OverlapRule.{OverlapRule}
 use Rattle.json_read.specs.Table.{TableContent}
@@ -17,9 +16,8 @@ use Rattle.region_ops.specs.Dissolved.{set_at}
 use Rattle.region_ops.specs.Filled.{IsCleanedAndFilled}
 use Rattle.region_ops.proofs.FillLemmas.{filled_inner}
 use Rattle.region_model.specs.Region.{Region}
-use Rattle.region_model.specs.PolygonCommands.{cleaned, cleaned_and_filled}
+use Rattle.region_model.specs.PolygonCommands.{cleaned_and_filled}
 use Rattle.region_laws.specs.Regions.{FollowEach}
-use Rattle.region_laws.proofs.Answered.{cleaned_as_told}
 use Rattle.region_laws.proofs.FilledTold.{filled_as_told}
 use Rattle.run_plane.specs.declared.layer.Layer.{Layer}
 use Rattle.run_plane.specs.declared.layer.Shape.TheVariants as shape
@@ -31,7 +29,7 @@ use Rattle.run_shapes.specs.FaceSets.{HasSets, face_shapes}
 use Rattle.chain_model.specs.State.{StateLayer, region_at, regions_in, without_empty}
 use Rattle.chain_model.specs.Features.{clean_layer, count_of, shapes_by}
 use Rattle.state_laws.specs.Shown.{View, IsView, FacesShow, LayerShows, ShapeShows, plane_of, IsSeenIn}
-use Rattle.state_laws.specs.Polygons.{CleanedPolygonsShow, FilledPolygonsShow, PolygonsShow, plainly_cleaned}
+use Rattle.state_laws.specs.Polygons.{CleanedPolygonsShow, PolygonsShow}
 use Rattle.state_laws.proofs.Empty.{left_features_show}
 use Rattle.state_laws.proofs.PolygonSets.{all_inner, all_rise, follow_regions, layer_sets, sets_many, sets_of, shapes_made}
 use Rattle.state_laws.proofs.Taking.{rows_show}
@@ -67,29 +65,14 @@ module _ (rule : OverlapRule) (faces : FaceTable) (sets left : List (List ℕ)) 
   abbrev kept : ℕ → ℕ → Bool
   kept n k = not (is_lost rule faces.areas sets n k)
 
-  left_rise : All IsStrictlyIncreasing sets → All IsStrictlyIncreasing left
-  left_rise rising = All-from_get_or IsStrictlyIncreasing left [] (λ n l.
-      let count = is.count in
-      let below : n < length sets = omega (arith, l, count) in
-      subst IsStrictlyIncreasing (sym (is.kept n below)) (IsStrictlyIncreasing-filter (kept n) (set_at sets n) (All-get_or IsStrictlyIncreasing sets n [] below rising)))
-
   left_inner : All (IsSetOf faces) sets → All (IsSetOf faces) left
   left_inner inner = All-from_get_or (IsSetOf faces) left [] (λ n l.
       let count = is.count in
       let below : n < length sets = omega (arith, l, count) in
       subst (IsSetOf faces) (sym (is.kept n below)) (All-filter (kept n) (IsInnerFace faces) (set_at sets n) (All-get_or (IsSetOf faces) sets n [] below inner)))
 
-filled_rise : (rule : OverlapRule) (gap : ℕ) (faces : FaceTable) (sets made : List (List ℕ)) → 0 < gap → IsCleanedAndFilled rule gap faces sets made → All IsStrictlyIncreasing made
-filled_rise rule zero faces sets made some is = absurd (omega (arith, some))
-filled_rise rule (suc more) faces sets made some (left, cleans, fills) = fills.in_order
-
-filled_are_inner : (rule : OverlapRule) (gap : ℕ) (faces : FaceTable) (sets made : List (List ℕ)) → 0 < gap → All (IsSetOf faces) sets → IsCleanedAndFilled rule gap faces sets made → All (IsSetOf faces) made
-filled_are_inner rule zero faces sets made some inner is = absurd (omega (arith, some))
-filled_are_inner rule (suc more) faces sets made some inner (left, cleans, fills) = filled_inner rule (suc more) faces sets left made cleans.count (left_inner rule faces sets left cleans inner) fills
-
-filled_many : (rule : OverlapRule) (gap : ℕ) (faces : FaceTable) (sets made : List (List ℕ)) → 0 < gap → IsCleanedAndFilled rule gap faces sets made → length made ≡ length sets
-filled_many rule zero faces sets made some is = absurd (omega (arith, some))
-filled_many rule (suc more) faces sets made some (left, cleans, fills) = fills.count
+filled_are_inner : (rule : OverlapRule) (gap : ℕ) (faces : FaceTable) (sets made : List (List ℕ)) → All (IsSetOf faces) sets → IsCleanedAndFilled rule gap faces sets made → All (IsSetOf faces) made
+filled_are_inner rule gap faces sets made inner (left, cleans, fills) = filled_inner rule gap faces sets left made cleans.count (left_inner rule faces sets left cleans inner) fills
 
 -- ---- layers
 
@@ -104,42 +87,22 @@ module _ (v : View) (view : IsView v) (plane : Plane) (seen : IsSeenIn v plane) 
   seen_by : (gap : ℕ) (made : List (List ℕ)) → IsCleanedAndFilled rule gap plane.faces sets made → IsCleanedAndFilled rule gap v.faces sets made
   seen_by gap made is = subst (λ (faces : FaceTable). IsCleanedAndFilled rule gap faces sets made) seen.faces is
 
-  plainly_shows : (m : Layer) → IsCleaned rule allow_empty 0 plane layer m → LayerShows v m (with_regions v l allow_empty (cleaned (plane_of v) v.answers rule (region_at l) (count_of l)))
-  plainly_shows m is =
-      let left = seen_by 0 is.sets is.cleaned in
-      let rising = all_rise v sets (regions_in l) shown in
-      let inner = all_inner v sets (regions_in l) shown in
-      let many : length sets ≡ count_of l = sets_many v layer l h in
-      let follow : FollowEach (snapped v.drawing) v.arcs v.label is.sets (cleaned (plane_of v) v.answers rule (region_at l) (count_of l)) =
-      subst (λ (c : ℕ). FollowEach (snapped v.drawing) v.arcs v.label is.sets (cleaned (plane_of v) v.answers rule (region_at l) c)) many
-      (cleaned_as_told v.drawing v.arcs v.faces v.label view.walked sets rising inner (region_at l) (follow_regions v layer l h sets shown) v.answers (λ n below. view.right.sides (region_at l n)) rule is.sets left) in
-      made_shows v view layer l h is.sets (cleaned (plane_of v) v.answers rule (region_at l) (count_of l)) (left_rise rule v.faces sets is.sets left rising) (left_inner rule v.faces sets is.sets left inner) follow
-      (left.count ∙ many) allow_empty m is.has
-
-  filled_shows : (gap : ℕ) → 0 < gap → (m : Layer) → IsCleaned rule allow_empty gap plane layer m → LayerShows v m (with_regions v l allow_empty (cleaned_and_filled (plane_of v) v.answers rule gap (region_at l) (count_of l)))
-  filled_shows gap some m is =
+  filled_shows : (gap : ℕ) (m : Layer) → IsCleaned rule allow_empty gap plane layer m → LayerShows v m (with_regions v l allow_empty (cleaned_and_filled (plane_of v) v.answers rule gap (region_at l) (count_of l)))
+  filled_shows gap m is =
       let filled = seen_by gap is.sets is.cleaned in
       let rising = all_rise v sets (regions_in l) shown in
       let inner = all_inner v sets (regions_in l) shown in
       let many : length sets ≡ count_of l = sets_many v layer l h in
       let follow : FollowEach (snapped v.drawing) v.arcs v.label is.sets (cleaned_and_filled (plane_of v) v.answers rule gap (region_at l) (count_of l)) =
       subst (λ (c : ℕ). FollowEach (snapped v.drawing) v.arcs v.label is.sets (cleaned_and_filled (plane_of v) v.answers rule gap (region_at l) c)) many
-      (filled_as_told v.drawing v.arcs v.faces v.label view.walked sets rising inner (region_at l) (follow_regions v layer l h sets shown) v.answers view.right rule gap some is.sets filled) in
-      made_shows v view layer l h is.sets (cleaned_and_filled (plane_of v) v.answers rule gap (region_at l) (count_of l)) (filled_rise rule gap v.faces sets is.sets some filled)
-      (filled_are_inner rule gap v.faces sets is.sets some inner filled) follow (filled_many rule gap v.faces sets is.sets some filled ∙ many) allow_empty m is.has
+      (filled_as_told v.drawing v.arcs v.faces v.label view.walked sets rising inner (region_at l) (follow_regions v layer l h sets shown) v.answers view.right rule gap is.sets filled) in
+      made_shows v view layer l h is.sets (cleaned_and_filled (plane_of v) v.answers rule gap (region_at l) (count_of l)) filled.2.in_order
+      (filled_are_inner rule gap v.faces sets is.sets inner filled) follow (filled.2.count ∙ many) allow_empty m is.has
 
 pub cleaned_polygons_show : CleanedPolygonsShow
-cleaned_polygons_show v view plane seen layer l h rule allow_empty =
-    let left : StateLayer = with_regions v l allow_empty (cleaned (plane_of v) v.answers rule (region_at l) (count_of l)) in
-    record {
-      shows = one_shows v (IsCleaned rule allow_empty 0 plane layer) (plainly_cleaned (plane_of v) v.answers rule allow_empty l) (λ m is. (left, refl, plainly_shows v view plane seen layer l h rule allow_empty m is));
-      refused = (left ∷ [], refl);
-    }
-
-pub filled_polygons_show : FilledPolygonsShow
-filled_polygons_show v view plane seen layer l h rule allow_empty gap some =
+cleaned_polygons_show v view plane seen layer l h rule allow_empty gap =
     let filled : StateLayer = with_regions v l allow_empty (cleaned_and_filled (plane_of v) v.answers rule gap (region_at l) (count_of l)) in
     record {
-      shows = one_shows v (IsCleaned rule allow_empty gap plane layer) (clean_layer (plane_of v) v.answers rule allow_empty gap l) (λ m is. (filled, refl, filled_shows v view plane seen layer l h rule allow_empty gap some m is));
+      shows = one_shows v (IsCleaned rule allow_empty gap plane layer) (clean_layer (plane_of v) v.answers rule allow_empty gap l) (λ m is. (filled, refl, filled_shows v view plane seen layer l h rule allow_empty gap m is));
       refused = (filled ∷ [], refl);
     }

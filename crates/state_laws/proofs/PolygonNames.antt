@@ -1,5 +1,5 @@
 -- The names of the columns of a union: there is one way to make them new.
-use Rattle.std.proofs.Common.{◌≡◌, refl, sym, ap, ◌∙◌, subst, inl, inr, arith, ℕ, zero, suc, ◌+◌, ◌<◌, ◌≤◌, ◌^◌, Bool, true, false, not, if◌then◌else◌, List, [], ◌∷◌, ◌++◌, append-nil, drop, length, length-append, map, filter, get_or, take, codes, decimal}
+use Rattle.std.proofs.Common.{◌≡◌, refl, sym, ap, ◌∙◌, subst, inl, inr, arith, ℕ, zero, suc, ◌+◌, ◌<◌, ◌≤◌, ◌^◌, Bool, true, false, not, if◌then◌else◌, List, [], ◌∷◌, ◌++◌, append-nil, drop, length, map, filter, get_or, take, codes, decimal}
 use Rattle.std.specs.Cmp.{IsEquivalence}
 use Rattle.std.specs.List.{IsDistinct, list_any, range_with_len}
 use Rattle.std.specs.Str.{bytes_eq}
@@ -83,14 +83,22 @@ module _ (earlier : List Text) (name : Text) (few : length earlier < 2 ^ 63) whe
       subst (λ (t : Text). list_any (bytes_eq t) earlier ≡ true) (sym equal) (taken (2 + i) (omega arith) (omega (arith, inside)))) in
       omega (arith, fit, counted)
 
+-- a name is made new by one of these numbers: if there are as many as 2 ^ 63 names, then because it is below 2 ^ 32
+module _ (earlier : List Text) (name : Text) where
+  within : (out : Text) (is : IsNumbered earlier name out) → is.number < 2 + (length earlier + 1)
+  within out is =
+      let small = is.below in
+      elim (cases_lt (length earlier) (2 ^ 63)) [
+        | inl few ↦ elim (cases_lt is.number (2 + (length earlier + 1))) [
+          | inl l ↦ l
+          | inr past ↦ absurd (not_all_taken earlier name few (λ k two below. is.least k two (omega (arith, past, below))))
+        ]
+        | inr many ↦ omega (arith, small, many)
+      ]
+
   number_is_free : (out : Text) (is : IsNumbered earlier name out) → is.number ≡ free_number earlier name
   number_is_free out is =
-      let from = is.from in
-      let within : is.number < 2 + many = elim (cases_lt is.number (2 + many)) [
-        | inl l ↦ l
-        | inr past ↦ absurd (not_all_taken (λ k two below. is.least k two (omega (arith, past, below))))
-      ] in
-      sym (first_passing (λ (k : ℕ). not (has_name earlier (numbered name k))) 2 2 many is.number from within (ap (λ (t : Text). not (has_name earlier t)) (sym is.is) ∙ ap not is.new)
+      sym (first_passing (λ (k : ℕ). not (has_name earlier (numbered name k))) 2 2 (length earlier + 1) is.number is.from (within out is) (ap (λ (t : Text). not (has_name earlier t)) (sym is.is) ∙ ap not is.new)
       (λ k two below. ap not (is.least k two below)))
 
   one_new_name : (out : Text) → IsNewName earlier name out → out ≡ new_name earlier name
@@ -102,17 +110,16 @@ module _ (earlier : List Text) (name : Text) (few : length earlier < 2 ^ 63) whe
 
 -- ---- names, each made new among those before it
 
-new_behind : (names outs earlier : List Text) → length outs ≡ length names → length earlier + length names < 2 ^ 63 → ((i : ℕ) → i < length names → IsNewName (earlier ++ take i outs) (get_or names i []) (get_or outs i [])) →
+new_behind : (names outs earlier : List Text) → length outs ≡ length names → ((i : ℕ) → i < length names → IsNewName (earlier ++ take i outs) (get_or names i []) (get_or outs i [])) →
     earlier ++ outs ≡ with_new_names earlier names
-new_behind [] [] earlier each few named = append-nil earlier
-new_behind [] (out ∷ outs) earlier each few named = absurd (omega (arith, each))
-new_behind (name ∷ names) [] earlier each few named = absurd (omega (arith, each))
-new_behind (name ∷ names) (out ∷ outs) earlier each few named =
-    let here : out ≡ new_name earlier name = one_new_name earlier name (omega (arith, few)) out (subst (λ (before : List Text). IsNewName before name out) (append-nil earlier) (named 0 (omega arith))) in
-    let longer = length-append earlier (out ∷ []) in
-    let rest : (earlier ++ out ∷ []) ++ outs ≡ with_new_names (earlier ++ out ∷ []) names = new_behind names outs (earlier ++ out ∷ []) (omega (arith, each)) (omega (arith, few, longer)) (λ i l.
+new_behind [] [] earlier each named = append-nil earlier
+new_behind [] (out ∷ outs) earlier each named = absurd (omega (arith, each))
+new_behind (name ∷ names) [] earlier each named = absurd (omega (arith, each))
+new_behind (name ∷ names) (out ∷ outs) earlier each named =
+    let here : out ≡ new_name earlier name = one_new_name earlier name out (subst (λ (before : List Text). IsNewName before name out) (append-nil earlier) (named 0 (omega arith))) in
+    let rest : (earlier ++ out ∷ []) ++ outs ≡ with_new_names (earlier ++ out ∷ []) names = new_behind names outs (earlier ++ out ∷ []) (omega (arith, each)) (λ i l.
     subst (λ (before : List Text). IsNewName before (get_or names i []) (get_or outs i [])) (sym (append_assoc earlier (out ∷ []) (take i outs))) (named (suc i) (omega arith))) in
     sym (append_assoc earlier (out ∷ []) outs) ∙ rest ∙ ap (λ (t : Text). with_new_names (earlier ++ t ∷ []) names) here
 
-pub names_made_new : (names outs : List Text) → length names < 2 ^ 63 → AreNewNames names outs → outs ≡ with_new_names [] names
-names_made_new names outs few new = new_behind names outs [] new.each (omega (arith, few)) new.named
+pub names_made_new : (names outs : List Text) → AreNewNames names outs → outs ≡ with_new_names [] names
+names_made_new names outs new = new_behind names outs [] new.each new.named

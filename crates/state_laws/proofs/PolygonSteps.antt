@@ -2,7 +2,7 @@
 use Rattle.std.proofs.Common.{All, ◌≡◌, ◌≢◌, refl, sym, ap, ◌∙◌, subst, true≢false, ℕ, Bool, true, false, not, ◌&&◌, List, [], ◌∷◌, ◌++◌, length, map, nat_lt, Option, Some, None, option_map, Result, Ok, Err, if◌then◌else◌}
 use Rattle.std.specs.Prelude.{codes}
 use Rattle.std.specs.List.{AllZip, flat_map}
-use Rattle.std.proofs.lemmas.Bool.{and_parts, ltb-true}
+use Rattle.std.proofs.lemmas.Bool.{and_parts}
 use Rattle.std.proofs.lemmas.List.Elements.{All-cons, All-nil}
 use Rattle.lists.specs.Lists.{ascending}
 use Rattle.grid_base.specs.declared.kinds.Kind.{Kind}
@@ -52,7 +52,7 @@ use Rattle.state_laws.proofs.LineGroups.{grouped_lines_show}
 use Rattle.state_laws.proofs.LinePieces.{exploded_lines_show}
 use Rattle.state_laws.proofs.MergeStep.{one_kind_told}
 use Rattle.state_laws.proofs.Outlines.{inner_lines_show, outlines_are_shown}
-use Rattle.state_laws.proofs.PolygonCleaning.{filled_polygons_show}
+use Rattle.state_laws.proofs.PolygonCleaning.{cleaned_polygons_show}
 use Rattle.state_laws.proofs.PolygonCuts.{areas_show, clipped_polygons_show, erased_polygons_show, refused_by_kind}
 use Rattle.state_laws.proofs.PolygonGroups.{dissolved_polygons_show}
 use Rattle.state_laws.proofs.PolygonIslands.{islands_show}
@@ -178,7 +178,7 @@ module _ (v : View) (view : IsView v) (base : Base) (seen : IsSeenIn v base.plan
   makes_alike (action.Clip from) on layer l shown = alike_with (clipped_polygons_show v view base.plane layer l shown (area_of base layers from) (by_region (action.Clip from)) (cut_by from).shows)
   makes_alike (action.Erase from) on layer l shown = alike_with (erased_polygons_show v view base.plane layer l shown (area_of base layers from) (by_region (action.Erase from)) (cut_by from).shows)
   makes_alike (action.Dissolve spec group_points) on layer l shown = alike_with (dissolved_polygons_show v layer l shown spec group_points)
-  makes_alike (action.Clean rule allow_empty gap) on layer l shown = alike_with (filled_polygons_show v view base.plane seen layer l shown rule allow_empty gap (ltb-true 0 gap on))
+  makes_alike (action.Clean rule allow_empty gap) on layer l shown = alike_with (cleaned_polygons_show v view base.plane seen layer l shown rule allow_empty gap)
   makes_alike action.Mosaic on layer l shown = alike_with (mosaics_show v view base.plane seen layer l shown)
   makes_alike action.Explode on layer l shown = alike_with (exploded_polygons_show v view base.plane seen layer l shown)
   makes_alike action.InnerLines on layer l shown = alike_with (inner_lines_show v view base.plane seen layer l shown.shows shown.polygons)
@@ -285,7 +285,7 @@ module _ (v : View) (view : IsView v) (base : Base) (seen : IsSeenIn v base.plan
   takes_polygons (action.Erase from) on = refl
   takes_polygons (action.Dissolve spec group_points) on = refl
   takes_polygons action.Explode on = refl
-  takes_polygons (action.Clean rule allow_empty gap) on = on
+  takes_polygons (action.Clean rule allow_empty gap) on = refl
   takes_polygons action.Mosaic on = refl
   takes_polygons action.InnerLines on = refl
   takes_polygons (action.Lines fields) on = refl
@@ -333,7 +333,7 @@ module _ (v : View) (view : IsView v) (base : Base) (seen : IsSeenIn v base.plan
       by_kind (Alike (action.Dissolve spec group_points) layer l) layer (of_polygons (action.Dissolve spec group_points) refl layer l shown) (λ apart. alike_unless (grouped_lines_show v view layer l shown apart spec group_points)) layer.kind refl
   shapes_alike action.Explode on layer l shown taken =
       by_kind (Alike action.Explode layer l) layer (of_polygons action.Explode refl layer l shown) (λ apart. alike_with (exploded_lines_show v base.plane layer l shown apart)) layer.kind refl
-  shapes_alike (action.Clean rule allow_empty gap) on layer l shown taken = of_polygons (action.Clean rule allow_empty gap) on layer l shown (polygon_is layer.kind taken)
+  shapes_alike (action.Clean rule allow_empty gap) on layer l shown taken = of_polygons (action.Clean rule allow_empty gap) refl layer l shown (polygon_is layer.kind taken)
   shapes_alike action.Mosaic on layer l shown taken = of_polygons action.Mosaic refl layer l shown (polygon_is layer.kind taken)
   shapes_alike action.InnerLines on layer l shown taken = of_polygons action.InnerLines refl layer l shown (polygon_is layer.kind taken)
   shapes_alike (action.Lines fields) on layer l shown taken = of_polygons (action.Lines fields) refl layer l shown (polygon_is layer.kind taken)

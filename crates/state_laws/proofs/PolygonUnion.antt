@@ -31,7 +31,7 @@ use Rattle.chain_model.specs.State.{StateLayer, regions_in}
 use Rattle.chain_model.specs.Features.{united_layer}
 use Rattle.chain_model.specs.UnionTable.{union_table, with_new_names}
 use Rattle.state_laws.specs.Shown.{View, IsView, FacesShow, LayerShows, PolygonShows, ShapeShows, plane_of, IsSeenIn}
-use Rattle.state_laws.specs.Polygons.{HasFewColumns, LoneLayersAreRefused, PolygonsShow, UnitedLayersShow}
+use Rattle.state_laws.specs.Polygons.{LoneLayersAreRefused, PolygonsShow, UnitedLayersShow}
 use Rattle.state_laws.proofs.PolygonNames.{names_made_new}
 use Rattle.state_laws.proofs.PolygonParts.{parts_inner}
 use Rattle.state_laws.proofs.PolygonSets.{all_inner, follow_in_order, layer_sets, sets_of, shapes_show, show_in_order}
@@ -107,23 +107,23 @@ module _ (v : View) (view : IsView v) (plane : Plane) (seen : IsSeenIn v plane) 
           (subst (AllZip (PolygonShows v) (face_shapes (map set_of items))) (map-map state.region region_made pieces) (shapes_show v (map set_of items) (map region_made pieces) united_shown))
 
       -- the columns, and a row for each item
-      united_tables : (t : TableContent) → HasFewColumns layers → IsUnionTable (layer_tables layers) items t → union_table (map (λ (l : StateLayer). l.table) ls) (map choice_made pieces) ≡ t
-      united_tables t few table =
+      united_tables : (t : TableContent) → IsUnionTable (layer_tables layers) items t → union_table (map (λ (l : StateLayer). l.table) ls) (map choice_made pieces) ≡ t
+      united_tables t table =
           let tables : map (λ (l : StateLayer). l.table) ls ≡ layer_tables layers =
           sym (zip_same (PolygonsShow v) (λ (layer : Layer). layer.table) (λ (l : StateLayer). l.table) (λ layer l h. sym h.shows.table) layers ls z) in
-          let names : t.names ≡ with_new_names [] (all_names (layer_tables layers)) = names_made_new (all_names (layer_tables layers)) t.names few table.names in
+          let names : t.names ≡ with_new_names [] (all_names (layer_tables layers)) = names_made_new (all_names (layer_tables layers)) t.names table.names in
           let rows : t.rows ≡ map (union_row (layer_tables layers)) (map choice_made pieces) =
           table.rows ∙ sym (map-map (union_row (layer_tables layers)) choice_of items) ∙ ap (map (union_row (layer_tables layers))) told.0 in
           ap (λ (ts : List TableContent). union_table ts (map choice_made pieces)) tables ∙ sym (λ i. record { names = names i; rows = rows i })
 
-    united_shows : (first : Layer) (l : StateLayer) → PolygonsShow v first l → HasFewColumns layers → (made : Layer) (is : IsUnited plane layers made) → is.first ≡ first → LayerShows v made (united_layer (plane_of v) v.answers ls l)
-    united_shows first l h few made is begins =
+    united_shows : (first : Layer) (l : StateLayer) → PolygonsShow v first l → (made : Layer) (is : IsUnited plane layers made) → is.first ≡ first → LayerShows v made (united_layer (plane_of v) v.answers ls l)
+    united_shows first l h made is begins =
         let are : IsUnion v.faces sets is.items = subst (λ (faces : FaceTable). IsUnion faces sets is.items) seen.faces is.are in
         let shapes : List state.Shape = map (λ (f : Choice × Region). state.region f.1) pieces in
         record {
           name = h.shows.name ∙ ap (λ (layer : Layer). layer.name) (sym begins) ∙ sym is.name;
           kind = h.shows.kind ∙ h.polygons ∙ sym is.kind;
-          table = united_tables is.items are made.table few is.table;
+          table = united_tables is.items are made.table is.table;
           shapes = subst (λ (k : Kind). AllZip (ShapeShows v k) made.shapes.items shapes) (sym is.kind) (subst (λ (parts : List Shape). AllZip (PolygonShows v) parts shapes) (sym is.shapes) (united_shapes is.items are));
         }
 
@@ -134,14 +134,14 @@ nothing_alike v (layer ∷ layers) [] z = absurd z
 nothing_alike v (layer ∷ layers) (l ∷ ls) z = ap (λ (more : List (List StateLayer)). [] ∷ more) (nothing_alike v layers ls z.1)
 
 pub united_layers_show : UnitedLayersShow
-united_layers_show v view plane seen first second layers [] z few made is = absurd z
-united_layers_show v view plane seen first second layers (l ∷ []) z few made is = absurd z.1
-united_layers_show v view plane seen first second layers (l ∷ m ∷ ls) z few made is =
+united_layers_show v view plane seen first second layers [] z made is = absurd z
+united_layers_show v view plane seen first second layers (l ∷ []) z made is = absurd z.1
+united_layers_show v view plane seen first second layers (l ∷ m ∷ ls) z made is =
     let same : is.first ≡ first = (let e = is.begins in cc) in
     record {
       merged = united_layer (plane_of v) v.answers (l ∷ m ∷ ls) l;
       answers = ap (λ (more : List (List StateLayer)). Ok ((united_layer (plane_of v) v.answers (l ∷ m ∷ ls) l ∷ []) ∷ more)) (nothing_alike v (second ∷ layers) (m ∷ ls) z.1);
-      shows = united_shows v view plane seen (first ∷ second ∷ layers) (l ∷ m ∷ ls) z first l z.0 few made is same;
+      shows = united_shows v view plane seen (first ∷ second ∷ layers) (l ∷ m ∷ ls) z first l z.0 made is same;
     }
 
 pub lone_layers_are_refused : LoneLayersAreRefused

@@ -1,5 +1,5 @@
 -- Steps of commands on rows and columns.
-use Rattle.std.proofs.Common.{◌≡◌, refl, sym, ap, ◌∙◌, subst, true≢false, ℕ, arith, Bool, true, false, List, [], ◌∷◌, length, All, Some, None, option_map, Result, Ok, Err}
+use Rattle.std.proofs.Common.{◌≡◌, refl, sym, ap, ◌∙◌, subst, true≢false, ℕ, arith, Bool, true, false, List, [], ◌∷◌, length, Some, None, option_map, Result, Ok, Err}
 use Rattle.std.specs.List.{AllZip, enumerate_from}
 use Rattle.std.proofs.lemmas.List.{length-map}
 use Rattle.std.proofs.lemmas.List.FromFn.{length-enumerate_from}
@@ -39,8 +39,7 @@ use Rattle.chain_model.specs.Steps.{each_layer, outputs_of, refused_source}
 use Rattle.chain_model.specs.Steps as steps
 use Rattle.state_laws.specs.Shown.{View, IsView, LayerShows, SourcesShow, StateShows, plane_of}
 use Rattle.state_laws.specs.Reasons.{AnswerShows, MakesAlike, why_of}
-use Rattle.state_laws.specs.Steps.{CanName, TableStepsShow, is_on_tables}
-use Rattle.state_laws.specs.Tables.{CanNamePieces}
+use Rattle.state_laws.specs.Steps.{TableStepsShow, is_on_tables}
 use Rattle.state_laws.specs.Targets.{target_numbers}
 use Rattle.state_laws.proofs.EachLayer.{LayerAlike, alike_with}
 use Rattle.state_laws.proofs.LayerKinds.{only_taken}
@@ -48,7 +47,7 @@ use Rattle.state_laws.proofs.Splitting.{pieces_are_shown, pieces_of, split_of}
 use Rattle.state_laws.proofs.Stepping.{IsAlike, first_alike, step_shows, unfit}
 use Rattle.state_laws.proofs.TableCommands.{assigned_fields_show, early_rows_show, fields_show, filtered_rows_show, joins_show, new_names_show, passed, passed_of, sorted_rows_show}
 use Rattle.state_laws.proofs.Targeting.{one_layer_shows, origins_show, targets_show}
-use Rattle.state_laws.proofs.Zipped.{zip_with_all, zip_weaker}
+use Rattle.state_laws.proofs.Zipped.{zip_weaker}
 
 -- ---- what a state makes of a layer
 
@@ -109,25 +108,20 @@ joins_alike v layer l h (Err why) (Err w) shown spec Makes are = record {
 joins_alike v layer l h (Ok source) (Err w) shown spec Makes are = absurd shown
 joins_alike v layer l h (Err why) (Ok m) shown spec Makes are = absurd shown
 
--- the pieces of the layer can be named, where it is split
-abbrev NamesPieces : LayerAction → Layer → Type 0
-NamesPieces (action.Split field) layer = CanNamePieces layer.table field
-NamesPieces _ layer = Unit {0}
-
 module _ (v : View) (view : IsView v) (base : Base) (sources : SourceLayers) (owns : SourcesShow v base.sources sources) (layers : List Held) (s : State) (h : StateShows v layers s) where
-  makes_alike : (a : LayerAction) → is_on_tables a ≡ true → (layer : Layer) (l : StateLayer) → LayerShows v layer l → NamesPieces a layer → LayerAlike v (PutsOut base layers a layer) (held.RefusesLayer base layers a layer) (made_of v sources s a l)
-  makes_alike (action.Join from spec) on layer l shown named =
+  makes_alike : (a : LayerAction) → is_on_tables a ≡ true → (layer : Layer) (l : StateLayer) → LayerShows v layer l → LayerAlike v (PutsOut base layers a layer) (held.RefusesLayer base layers a layer) (made_of v sources s a l)
+  makes_alike (action.Join from spec) on layer l shown =
       alike_with (joins_alike v layer l shown (run.one_layer (run.origin_layers base.sources layers from)) (model.one_layer (model.origin_layers sources s from))
       (one_layer_shows v (run.origin_layers base.sources layers from) (model.origin_layers sources s from) (origins_show v layers s h base.sources sources owns from)) spec (Joins base layers from spec layer)
       (λ made joins. (joins.source, joins.found, joins.joined)))
-  makes_alike (action.Filter test invert remove_empty) on layer l shown named = alike_with (filtered_rows_show v view layer l shown test invert remove_empty)
-  makes_alike (action.FilterFields fields) on layer l shown named = alike_with (fields_show v layer l shown fields)
-  makes_alike (action.RenameFields pairs) on layer l shown named = alike_with (new_names_show v layer l shown pairs)
-  makes_alike (action.Split field) on layer l shown named = alike_with (pieces_are_shown v layer l shown field named)
-  makes_alike (action.Each assigns) on layer l shown named = alike_with (assigned_fields_show v layer l shown assigns)
-  makes_alike (action.Sort key descending) on layer l shown named = alike_with (sorted_rows_show v layer l shown key descending)
-  makes_alike (action.Uniq key most invert) on layer l shown named = alike_with (early_rows_show v layer l shown key most invert)
-  makes_alike a on layer l shown named = other on
+  makes_alike (action.Filter test invert remove_empty) on layer l shown = alike_with (filtered_rows_show v view layer l shown test invert remove_empty)
+  makes_alike (action.FilterFields fields) on layer l shown = alike_with (fields_show v layer l shown fields)
+  makes_alike (action.RenameFields pairs) on layer l shown = alike_with (new_names_show v layer l shown pairs)
+  makes_alike (action.Split field) on layer l shown = alike_with (pieces_are_shown v layer l shown field)
+  makes_alike (action.Each assigns) on layer l shown = alike_with (assigned_fields_show v layer l shown assigns)
+  makes_alike (action.Sort key descending) on layer l shown = alike_with (sorted_rows_show v layer l shown key descending)
+  makes_alike (action.Uniq key most invert) on layer l shown = alike_with (early_rows_show v layer l shown key most invert)
+  makes_alike a on layer l shown = other on
 
 -- ---- how many layers
 
@@ -206,11 +200,7 @@ kinds_alike v base sources layers s a on ts ls shown = other on
 
 -- ---- all together
 
-named_where : (a : LayerAction) (ts : List Layer) → CanName a ts → All (NamesPieces a) ts
-named_where (action.Split field) ts named = named
-named_where a ts named = λ k d l. tt
-
-module _ (v : View) (view : IsView v) (base : Base) (sources : SourceLayers) (owns : SourcesShow v base.sources sources) (layers : List Held) (s : State) (h : StateShows v layers s) (c : Command) (a : LayerAction) (on : is_on_tables a ≡ true) (named : CanName a (targets c.target layers)) where
+module _ (v : View) (view : IsView v) (base : Base) (sources : SourceLayers) (owns : SourcesShow v base.sources sources) (layers : List Held) (s : State) (h : StateShows v layers s) (c : Command) (a : LayerAction) (on : is_on_tables a ≡ true) where
   abbrev Both : Layer → StateLayer → Type 0
   Both layer l = LayerShows v layer l × LayerAlike v (PutsOut base layers a layer) (held.RefusesLayer base layers a layer) (made_of v sources s a l)
 
@@ -218,8 +208,7 @@ module _ (v : View) (view : IsView v) (base : Base) (sources : SourceLayers) (ow
   all_alike =
       let ts : List Layer = targets c.target layers in
       let ls : List StateLayer = layers_at s (target_numbers c.target layers) in
-      zip_weaker (λ (layer : Layer) (l : StateLayer). LayerShows v layer l × NamesPieces a layer) Both (λ layer l pair. (pair.0, makes_alike v view base sources owns layers s h a on layer l pair.0 pair.1)) ts ls
-      (zip_with_all (LayerShows v) (NamesPieces a) ts ls (targets_show v layers s h c.target).show (named_where a ts named))
+      zip_weaker (LayerShows v) Both (λ layer l shown. (shown, makes_alike v view base sources owns layers s h a on layer l shown)) ts ls (targets_show v layers s h c.target).show
 
   is_alike : IsAlike v base layers sources s c a (made_of v sources s a)
   is_alike = record {
@@ -231,5 +220,5 @@ module _ (v : View) (view : IsView v) (base : Base) (sources : SourceLayers) (ow
   }
 
 pub table_steps_show : TableStepsShow
-table_steps_show v view base sources owns layers s h c a does_each on named =
-    step_shows v base layers sources s h c a does_each (made_of v sources s a) (is_alike v view base sources owns layers s h c a on named)
+table_steps_show v view base sources owns layers s h c a does_each on =
+    step_shows v base layers sources s h c a does_each (made_of v sources s a) (is_alike v view base sources owns layers s h c a on)

@@ -28,7 +28,7 @@ use Rattle.chain_model.specs.Features.{united_layer, united_layers}
 use Rattle.chain_model.specs.Steps.{is_polygon, step, titled}
 use Rattle.state_laws.specs.Shown.{View, IsView, IsSeenIn, LayerShows, StateShows, plane_of}
 use Rattle.state_laws.specs.Placing.{PutOutShows, target_outputs}
-use Rattle.state_laws.specs.Polygons.{HasFewColumns, PolygonsShow}
+use Rattle.state_laws.specs.Polygons.{PolygonsShow}
 use Rattle.state_laws.specs.PolygonSteps.{UnionStepsShow}
 use Rattle.state_laws.specs.Reasons.{RefusedAlike, why_of}
 use Rattle.state_laws.specs.Steps.{StepGives, StepRefuses}
@@ -76,11 +76,11 @@ kinds_alike v sources s ts ls shown =
 
 -- ---- what is united
 
-united_at : (v : View) (view : IsView v) (base : Base) (seen : IsSeenIn v base.plane) (ts : List Layer) (ls : List StateLayer) → AllZip (PolygonsShow v) ts ls → 0 < length ts → run.refused_alone ts ≡ None → HasFewColumns ts →
+united_at : (v : View) (view : IsView v) (base : Base) (seen : IsSeenIn v base.plane) (ts : List Layer) (ls : List StateLayer) → AllZip (PolygonsShow v) ts ls → 0 < length ts → run.refused_alone ts ≡ None →
     (made : Layer) → IsUnited base.plane ts made → MergedShows v made (drop 1 ts) (united_layers (plane_of v) v.answers ls)
-united_at v view base seen [] ls shown some several few made is = absurd (omega (arith, some))
-united_at v view base seen (first ∷ []) ls shown some several few made is = absurd (let one : Some OneLayer ≡ None = several in cc)
-united_at v view base seen (first ∷ second ∷ rest) ls shown some several few made is = united_layers_show v view base.plane seen first second rest ls shown few made is
+united_at v view base seen [] ls shown some several made is = absurd (omega (arith, some))
+united_at v view base seen (first ∷ []) ls shown some several made is = absurd (let one : Some OneLayer ≡ None = several in cc)
+united_at v view base seen (first ∷ second ∷ rest) ls shown some several made is = united_layers_show v view base.plane seen first second rest ls shown made is
 
 -- ---- how many
 
@@ -96,8 +96,7 @@ all_united_long v ts (l ∷ m ∷ ls) long some outs e =
 
 -- ---- the step
 
-module _ (v : View) (view : IsView v) (base : Base) (seen : IsSeenIn v base.plane) (sources : SourceLayers) (layers : List Held) (s : State) (h : StateShows v layers s) (c : Command) (unites : c.action ≡ does.Together joint.Union)
-    (few_columns : HasFewColumns (targets c.target layers)) where
+module _ (v : View) (view : IsView v) (base : Base) (seen : IsSeenIn v base.plane) (sources : SourceLayers) (layers : List Held) (s : State) (h : StateShows v layers s) (c : Command) (unites : c.action ≡ does.Together joint.Union) where
   abbrev ns : List ℕ
   ns = target_numbers c.target layers
 
@@ -127,7 +126,7 @@ module _ (v : View) (view : IsView v) (base : Base) (seen : IsSeenIn v base.plan
       let there : has_target c.target layers ≡ true = target_there (has_target c.target layers) target in
       let some : 0 < length ts = targets_there c.target layers there in
       let polygons : AllZip (PolygonsShow v) ts ls = polygons_show v ts ls shown (one_kind_told (all_polygons ts) mixture) in
-      let united : MergedShows v changes.puts.made (drop 1 ts) (united_layers (plane_of v) v.answers ls) = united_at v view base seen ts ls polygons some several few_columns changes.puts.made changes.puts.of_all in
+      let united : MergedShows v changes.puts.made (drop 1 ts) (united_layers (plane_of v) v.answers ls) = united_at v view base seen ts ls polygons some several changes.puts.made changes.puts.of_all in
       let outs : List (List StateLayer) = (united.merged ∷ []) ∷ map (λ (other : Layer). []) (drop 1 ts) in
       let placing : target_outputs c.target layers changes.outputs ≡ (changes.puts.titled ∷ []) ∷ nothings (drop 1 ts) =
       ap (target_outputs c.target layers) changes.puts.place ∙ first_outputs c.target changes.puts.titled layers some in
@@ -178,7 +177,7 @@ module _ (v : View) (view : IsView v) (base : Base) (seen : IsSeenIn v base.plan
       count_stops why (target_there (has_target c.target layers) target) mixture several fails
 
 pub union_steps_show : UnionStepsShow
-union_steps_show v view base seen sources layers s h c unites few = record {
-  goes = goes_on v view base seen sources layers s h c unites few;
-  refused = λ why e. stops_for v view base seen sources layers s h c unites few why (first_of_two why (run.unfit_together layers c joint.Union) (run.failed_together layers c joint.Union) e);
+union_steps_show v view base seen sources layers s h c unites = record {
+  goes = goes_on v view base seen sources layers s h c unites;
+  refused = λ why e. stops_for v view base seen sources layers s h c unites why (first_of_two why (run.unfit_together layers c joint.Union) (run.failed_together layers c joint.Union) e);
 }

@@ -1,5 +1,5 @@
 -- Laws of steps: the state after a command on layers of polygons or one that unites them, and why it is refused.
-use Rattle.std.specs.Prelude.{◌≡◌, Bool, true, false, nat_lt, List, All, Some, None}
+use Rattle.std.specs.Prelude.{◌≡◌, Bool, true, false, List, All, Some, None}
 use Rattle.grid_base.specs.declared.kinds.Kind.TheVariants as kinds
 use Rattle.cmd_words.specs.declared.job.Action.TheVariants as does
 use Rattle.cmd_words.specs.declared.job.Command.{Command}
@@ -16,15 +16,14 @@ use Rattle.run_steps.specs.Refusals.{refusal_together}
 use Rattle.chain_model.specs.State.{State}
 use Rattle.chain_model.specs.Targets.{SourceLayers}
 use Rattle.state_laws.specs.Shown.{View, IsView, SourcesShow, StateShows, IsSeenIn}
-use Rattle.state_laws.specs.Polygons.{HasFewColumns}
 use Rattle.state_laws.specs.Steps.{StepGives, StepRefuses, StepShows}
 
--- the command takes polygons; a clean where it fills gaps of some area
+-- the command takes polygons
 abbrev pub is_on_polygons : LayerAction → Bool
 is_on_polygons (action.Clip from) = true
 is_on_polygons (action.Erase from) = true
 is_on_polygons (action.Dissolve spec group_points) = true
-is_on_polygons (action.Clean rule allow_empty gap) = nat_lt 0 gap
+is_on_polygons (action.Clean rule allow_empty gap) = true
 is_on_polygons action.Mosaic = true
 is_on_polygons action.Explode = true
 is_on_polygons action.InnerLines = true
@@ -40,13 +39,13 @@ abbrev pub PolygonStepsShow : Type 0
 PolygonStepsShow = (v : View) → IsView v → (base : Base) → IsSeenIn v base.plane → (sources : SourceLayers) → SourcesShow v base.sources sources → (layers : List Held) (s : State) → StateShows v layers s →
     (c : Command) (a : LayerAction) → c.action ≡ does.Each a → is_on_polygons a ≡ true → AreOfPolygons (targets c.target layers) → StepShows v base layers sources s c a
 
--- the command takes shapes of every kind, or refuses those that are no polygons; a clean where it fills gaps of some area
+-- the command takes shapes of every kind, or refuses those that are no polygons
 abbrev pub is_on_shapes : LayerAction → Bool
 is_on_shapes (action.Clip from) = true
 is_on_shapes (action.Erase from) = true
 is_on_shapes (action.Dissolve spec group_points) = true
 is_on_shapes action.Explode = true
-is_on_shapes (action.Clean rule allow_empty gap) = nat_lt 0 gap
+is_on_shapes (action.Clean rule allow_empty gap) = true
 is_on_shapes action.Mosaic = true
 is_on_shapes action.InnerLines = true
 is_on_shapes (action.Lines fields) = true
@@ -66,4 +65,4 @@ pub record UnionStepShows (v : View) (base : Base) (layers : List Held) (sources
 
 abbrev pub UnionStepsShow : Type 0
 UnionStepsShow = (v : View) → IsView v → (base : Base) → IsSeenIn v base.plane → (sources : SourceLayers) (layers : List Held) (s : State) → StateShows v layers s →
-    (c : Command) → c.action ≡ does.Together joint.Union → HasFewColumns (targets c.target layers) → UnionStepShows v base layers sources s c
+    (c : Command) → c.action ≡ does.Together joint.Union → UnionStepShows v base layers sources s c

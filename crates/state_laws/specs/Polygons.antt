@@ -1,15 +1,11 @@
 -- Laws of commands on polygons: what a run makes of the sets of faces of a layer shows what the state's definitions make of the regions that they follow, and both are refused alike.
-use Rattle.std.specs.Prelude.{◌≡◌, ℕ, ◌<◌, ◌^◌, Bool, if◌then◌else◌, List, [], ◌∷◌, length, slice_index_or, Option, Some, None, Result, Ok, Err}
+use Rattle.std.specs.Prelude.{◌≡◌, ℕ, ◌<◌, Bool, List, [], ◌∷◌, length, slice_index_or, Option, Some, None, Result, Ok, Err}
 use Rattle.std.specs.List.{AllZip}
 use Rattle.plane_model.specs.Snapped.{snapped}
 use Rattle.grid_base.specs.declared.kinds.Kind.TheVariants as kinds
 use Rattle.grid_base.specs.declared.kinds.OverlapRule.{OverlapRule}
 use Rattle.table_terms.specs.declared.specifications.GroupSpec.{GroupSpec}
-use Rattle.table_ops.specs.Merge.{all_names}
 use Rattle.region_model.specs.Region.{Region, box}
-use Rattle.region_model.specs.Answers as model
-use Rattle.region_model.specs.Answers.{Answers}
-use Rattle.region_model.specs.PolygonCommands.{cleaned}
 use Rattle.cmd_words.specs.declared.job.Origin.{Origin}
 use Rattle.run_plane.specs.declared.layer.Layer.{Layer}
 use Rattle.run_plane.specs.declared.plane.Plane.{Plane}
@@ -23,12 +19,12 @@ use Rattle.run_shapes.specs.Dissolving.{IsGrouped, refused_dissolve}
 use Rattle.run_shapes.specs.Exploding.{IsExploded}
 use Rattle.run_shapes.specs.FaceSets.{area_of}
 use Rattle.run_shapes.specs.Islands.{IsMainland}
-use Rattle.run_shapes.specs.Uniting.{IsUnited, layer_tables}
+use Rattle.run_shapes.specs.Uniting.{IsUnited}
 use Rattle.run_shapes.specs.declared.cutting.CutKeeps.TheVariants as keeps
 use Rattle.run_steps.specs.Refusals.{refused_alone, refused_area}
 use Rattle.chain_model.specs.Outcome as state
-use Rattle.chain_model.specs.State.{State, StateLayer, region_at, without_empty}
-use Rattle.chain_model.specs.Features.{Outputs, clean_layer, clip_layer, count_of, dissolve_layer, erase_layer, explode_layer, islands_layer, just, mosaic_layer, shapes_by, united_layers}
+use Rattle.chain_model.specs.State.{State, StateLayer}
+use Rattle.chain_model.specs.Features.{clean_layer, clip_layer, dissolve_layer, erase_layer, explode_layer, islands_layer, mosaic_layer, united_layers}
 use Rattle.chain_model.specs.Steps.{source_region}
 use Rattle.chain_model.specs.Targets.{SourceLayers}
 use Rattle.state_laws.specs.Shown.{View, IsView, FacesShow, LayerShows, SourcesShow, StateShows, plane_of, IsSeenIn}
@@ -74,21 +70,9 @@ DissolvedPolygonsShow = (v : View) → (layer : Layer) (l : StateLayer) → Poly
 
 -- ---- clean
 
--- where gaps of some area are filled
-abbrev pub FilledPolygonsShow : Type 0
-FilledPolygonsShow = (v : View) → IsView v → (plane : Plane) → IsSeenIn v plane → (layer : Layer) (l : StateLayer) → PolygonsShow v layer l → (rule : OverlapRule) (allow_empty : Bool) (gap : ℕ) → 0 < gap →
-    MakesAlike v (One (IsCleaned rule allow_empty gap plane layer)) None (clean_layer (plane_of v) v.answers rule allow_empty gap l)
-
--- what overlaps that are given away leave, without a look at gaps
-abbrev pub plainly_cleaned : model.Plane → Answers → OverlapRule → Bool → StateLayer → Outputs
-plainly_cleaned P A rule allow_empty l =
-    let left : StateLayer = record l { shapes = shapes_by (cleaned P A rule (region_at l) (count_of l)) l } in
-    just (if allow_empty then left else without_empty P A left)
-
--- so it is where no gap is filled
 abbrev pub CleanedPolygonsShow : Type 0
-CleanedPolygonsShow = (v : View) → IsView v → (plane : Plane) → IsSeenIn v plane → (layer : Layer) (l : StateLayer) → PolygonsShow v layer l → (rule : OverlapRule) (allow_empty : Bool) →
-    MakesAlike v (One (IsCleaned rule allow_empty 0 plane layer)) None (plainly_cleaned (plane_of v) v.answers rule allow_empty l)
+CleanedPolygonsShow = (v : View) → IsView v → (plane : Plane) → IsSeenIn v plane → (layer : Layer) (l : StateLayer) → PolygonsShow v layer l → (rule : OverlapRule) (allow_empty : Bool) (gap : ℕ) →
+    MakesAlike v (One (IsCleaned rule allow_empty gap plane layer)) None (clean_layer (plane_of v) v.answers rule allow_empty gap l)
 
 -- ---- islands
 
@@ -107,14 +91,10 @@ ExplodedPolygonsShow = (v : View) → IsView v → (plane : Plane) → IsSeenIn 
 
 -- ---- union
 
--- the columns of all layers are few enough to be numbered
-abbrev pub HasFewColumns : List Layer → Type 0
-HasFewColumns layers = length (all_names (layer_tables layers)) < 2 ^ 63
-
 -- the union is put out for the first layer, and nothing for the others
 abbrev pub UnitedLayersShow : Type 0
 UnitedLayersShow = (v : View) → IsView v → (plane : Plane) → IsSeenIn v plane → (first second : Layer) (layers : List Layer) (ls : List StateLayer) → AllZip (PolygonsShow v) (first ∷ second ∷ layers) ls →
-    HasFewColumns (first ∷ second ∷ layers) → (made : Layer) → IsUnited plane (first ∷ second ∷ layers) made → MergedShows v made (second ∷ layers) (united_layers (plane_of v) v.answers ls)
+    (made : Layer) → IsUnited plane (first ∷ second ∷ layers) made → MergedShows v made (second ∷ layers) (united_layers (plane_of v) v.answers ls)
 
 -- one layer alone is refused, and no others
 abbrev pub LoneLayersAreRefused : Type 0

@@ -1,13 +1,11 @@
 -- Laws of steps: the state after a command on the tables of its layers, and why it is refused.
-use Rattle.std.specs.Prelude.{◌≡◌, Bool, true, false, ⊤, List, All, Some, None, Ok, Err}
+use Rattle.std.specs.Prelude.{◌≡◌, Bool, true, false, List, Some, None, Ok, Err}
 use Rattle.cmd_words.specs.declared.job.Action.TheVariants as does
 use Rattle.cmd_words.specs.declared.job.Command.{Command}
 use Rattle.cmd_words.specs.declared.job.JointAction.TheVariants as joint
 use Rattle.cmd_words.specs.declared.job.LayerAction.{LayerAction}
 use Rattle.cmd_words.specs.declared.job.LayerAction.TheVariants as action
-use Rattle.run_plane.specs.declared.layer.Layer.{Layer}
 use Rattle.run_state.specs.Origins.{Base}
-use Rattle.run_state.specs.Targets.{targets}
 use Rattle.run_state.specs.declared.refusal.RefuseWhy.{RefuseWhy}
 use Rattle.run_state.specs.declared.state.Held.{Held}
 use Rattle.run_steps.specs.Commands.{ChangesEach, ChangesTogether}
@@ -17,7 +15,6 @@ use Rattle.chain_model.specs.Steps.{step}
 use Rattle.chain_model.specs.Targets.{SourceLayers}
 use Rattle.state_laws.specs.Shown.{View, IsView, SourcesShow, StateShows, plane_of}
 use Rattle.state_laws.specs.Reasons.{why_of}
-use Rattle.state_laws.specs.Tables.{CanNamePieces}
 
 -- the state's step gives a state that these layers show
 abbrev pub StepGives : View → SourceLayers → State → Command → List Held → Type 0
@@ -44,14 +41,9 @@ is_on_tables (action.Sort key descending) = true
 is_on_tables (action.Uniq key most invert) = true
 is_on_tables _ = false
 
--- the pieces of the layers that it splits can be named
-abbrev pub CanName : LayerAction → List Layer → Type 0
-CanName (action.Split field) layers = All (λ (layer : Layer). CanNamePieces layer.table field) layers
-CanName _ layers = ⊤
-
 abbrev pub TableStepsShow : Type 0
 TableStepsShow = (v : View) → IsView v → (base : Base) (sources : SourceLayers) → SourcesShow v base.sources sources → (layers : List Held) (s : State) → StateShows v layers s →
-    (c : Command) (a : LayerAction) → c.action ≡ does.Each a → is_on_tables a ≡ true → CanName a (targets c.target layers) → StepShows v base layers sources s c a
+    (c : Command) (a : LayerAction) → c.action ≡ does.Each a → is_on_tables a ≡ true → StepShows v base layers sources s c a
 
 -- ---- a command that merges the layers of its target
 

@@ -1,10 +1,7 @@
 -- Laws of commands on rows and columns: what a run makes of layers shows what the state's definitions make of those that they show, and they are refused alike.
-use Rattle.std.specs.Prelude.{◌≡◌, ℕ, Bool, List, [], ◌∷◌, All, IsUtf8, ⊤, map, Option, Some, None, Result, Ok}
+use Rattle.std.specs.Prelude.{◌≡◌, ℕ, Bool, List, [], ◌∷◌, All, map, Option, Result, Ok}
 use Rattle.std.specs.List.{AllZip}
 use Rattle.io_core.specs.Contents.{Content}
-use Rattle.json_read.specs.Table.{TableContent}
-use Rattle.json_read.specs.Value.{plain_text}
-use Rattle.json_read.specs.declared.value.Value.{Value}
 use Rattle.expr_lang.specs.Tree.{all_assigned, tree_of}
 use Rattle.expr_lang.specs.declared.assign.Assign.{Assign}
 use Rattle.expr_lang.specs.declared.expr.Expr.{Expr}
@@ -13,7 +10,6 @@ use Rattle.table_terms.specs.declared.specifications.JoinSpec.{JoinSpec}
 use Rattle.table_ops.specs.Columns.{keep_fields, rename_fields}
 use Rattle.table_ops.specs.Join.{join_tables}
 use Rattle.table_ops.specs.Splitting.{split_rows}
-use Rattle.table_ops.specs.declared.split.SplitItem.{SplitItem}
 use Rattle.calc_ops.specs.EachRow.{each_rows}
 use Rattle.calc_ops.specs.EarlyRows.{uniq_rows}
 use Rattle.calc_ops.specs.KeyOrder.{sort_rows}
@@ -61,25 +57,8 @@ FilteredRowsShow = (v : View) → IsView v → (layer : Layer) (l : StateLayer) 
 
 -- ---- a layer in pieces, and layers together
 
--- a value names a piece where its plain text is UTF-8; a piece of no value is named by its number
-abbrev pub NamesPiece : Option Value → Type 0
-NamesPiece None = ⊤
-NamesPiece (Some value) = IsUtf8 (plain_text value)
-
--- the pieces into which a table is split can be named
-abbrev pub CanNamePieces : TableContent → Option Content → Type 0
-CanNamePieces t field = (items : List SplitItem) → split_rows t field ≡ Ok items → All (λ (item : SplitItem). NamesPiece item.value) items
-
--- the plain text of each value is UTF-8
-abbrev pub HasPlainTexts : TableContent → Type 0
-HasPlainTexts t = All (All (λ (value : Value). IsUtf8 (plain_text value))) t.rows
-
--- so they can where each row is a piece, and else where all values have such texts
-abbrev pub PiecesAreNamed : Type 0
-PiecesAreNamed = (t : TableContent) → CanNamePieces t None × (HasPlainTexts t → (field : Content) → CanNamePieces t (Some field))
-
 abbrev pub PiecesShow : Type 0
-PiecesShow = (v : View) (layer : Layer) (l : StateLayer) → LayerShows v layer l → (field : Option Content) → CanNamePieces layer.table field →
+PiecesShow = (v : View) (layer : Layer) (l : StateLayer) → LayerShows v layer l → (field : Option Content) →
     MakesAlike v (IsSplit field layer) (table_refusal (split_rows layer.table field)) (split_layer field l)
 
 -- all layers are of the kind of the first

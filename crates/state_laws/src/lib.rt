@@ -12,8 +12,7 @@
 //!   shape is empty exactly if what it shows is (`emptiness_shows`), so the same features are left out
 //!   (`left_features_show`).
 //! - Commands on rows and columns: `fields_show`, `new_names_show`, `joins_show`, `assigned_fields_show`,
-//!   `sorted_rows_show`, `early_rows_show`, `filtered_rows_show`, `pieces_show` and `merged_layers_show`. The pieces of a
-//!   split by a field are named alike where the plain texts of its values are UTF-8 (`pieces_are_named`).
+//!   `sorted_rows_show`, `early_rows_show`, `filtered_rows_show`, `pieces_show` and `merged_layers_show`.
 //! - Lines and points that are clipped or erased show what the region leaves of the state's (`clipped_lines_show`,
 //!   `erased_lines_show`), and so do their paths and points one by one (`exploded_lines_show`) and in groups
 //!   (`grouped_lines_show`). Lines between polygons, and all lines around them with their types and ranks, are those of
@@ -25,13 +24,11 @@
 //!   one that merges them (`merge_steps_show`).
 //! - Commands on polygons: a run's plane is seen in a view (`planes_are_seen`), and what a command cuts by shows the region
 //!   of the state (`areas_show`). So do `clipped_polygons_show`, `erased_polygons_show`, `dissolved_polygons_show`,
-//!   `filled_polygons_show`, `mosaics_show`, `exploded_polygons_show` and `united_layers_show`; a layer that is alone is not
-//!   united (`lone_layers_are_refused`). Polygons cleaned without their gaps show what their overlaps leave
-//!   (`cleaned_polygons_show`), and so do polygons without their islands (`islands_show`). The step of a command on layers
-//!   of polygons shows that of the state (`polygon_steps_show`), and so does that of one that unites them
-//!   (`union_steps_show`), that of clip, erase, dissolve, explode, mosaic, innerlines, lines, islands that are dropped and a
-//!   clean that fills gaps, whatever the kinds of the layers are (`shape_steps_show`), and that of a join by place
-//!   (`place_steps_show`).
+//!   `cleaned_polygons_show`, `islands_show`, `mosaics_show`, `exploded_polygons_show` and `united_layers_show`; a layer
+//!   that is alone is not united (`lone_layers_are_refused`). The step of a command on layers of polygons shows that of the
+//!   state (`polygon_steps_show`), and so does that of one that unites them (`union_steps_show`), that of clip, erase,
+//!   dissolve, clean, explode, mosaic, innerlines, lines and islands that are dropped, whatever the kinds of the layers are
+//!   (`shape_steps_show`), and that of a join by place (`place_steps_show`).
 //!
 //! Each function carries one law in its contract, and does nothing.
 #![tactic(auto)]
@@ -41,7 +38,7 @@ ghost use Rattle.state_laws.specs.Lines.{ClippedLinesShow, ErasedLinesShow, Expl
 ghost use Rattle.state_laws.specs.Places.{PlaceJoinsShow, PlaceStepsShow};
 ghost use Rattle.state_laws.specs.Placing.{PlacedOutputsShow};
 ghost use Rattle.state_laws.specs.PolygonSteps.{PolygonStepsShow, ShapeStepsShow, UnionStepsShow};
-ghost use Rattle.state_laws.specs.Polygons.{AreasShow, CleanedPolygonsShow, ClippedPolygonsShow, DissolvedPolygonsShow, ErasedPolygonsShow, ExplodedPolygonsShow, FilledPolygonsShow, IslandsShow, LoneLayersAreRefused, MosaicsShow, PlanesAreSeen, UnitedLayersShow};
+ghost use Rattle.state_laws.specs.Polygons.{AreasShow, CleanedPolygonsShow, ClippedPolygonsShow, DissolvedPolygonsShow, ErasedPolygonsShow, ExplodedPolygonsShow, IslandsShow, LoneLayersAreRefused, MosaicsShow, PlanesAreSeen, UnitedLayersShow};
 ghost use Rattle.state_laws.specs.Steps.{MergeStepsShow, TableStepsShow};
 ghost use Rattle.state_laws.specs.Tables.{
   AssignedFieldsShow,
@@ -51,7 +48,6 @@ ghost use Rattle.state_laws.specs.Tables.{
   JoinsShow,
   MergedLayersShow,
   NewNamesShow,
-  PiecesAreNamed,
   PiecesShow,
   SortedRowsShow,
 };
@@ -123,11 +119,6 @@ pub fn early_rows_show()
 /// Features that pass a filter show those that pass it in the state.
 pub fn filtered_rows_show()
     ensures { FilteredRowsShow }
-{}
-
-/// Pieces of one row can be named, and others where all plain texts are UTF-8.
-pub fn pieces_are_named()
-    ensures { PiecesAreNamed }
 {}
 
 /// The pieces of a layer show those of the state's layer.
@@ -235,14 +226,9 @@ pub fn dissolved_polygons_show()
     ensures { DissolvedPolygonsShow }
 {}
 
-/// Polygons that are cleaned without gaps show what overlaps that are given away leave of the state's regions.
+/// Polygons that are cleaned, with the gaps that go to them, show those of the state.
 pub fn cleaned_polygons_show()
     ensures { CleanedPolygonsShow }
-{}
-
-/// Polygons that are cleaned with their gaps show those of the state.
-pub fn filled_polygons_show()
-    ensures { FilledPolygonsShow }
 {}
 
 /// Polygons without their islands show those of the state, with or without the features that are left empty.
@@ -280,8 +266,8 @@ pub fn union_steps_show()
     ensures { UnionStepsShow }
 {}
 
-/// The step of a clip, an erase, a dissolve, an explode, a mosaic, innerlines, lines, islands that are dropped or a clean
-/// that fills gaps shows that of the state, whatever the kinds of its layers.
+/// The step of a clip, an erase, a dissolve, a clean, an explode, a mosaic, innerlines, lines or islands that are dropped
+/// shows that of the state, whatever the kinds of its layers.
 pub fn shape_steps_show()
     ensures { ShapeStepsShow }
 {}

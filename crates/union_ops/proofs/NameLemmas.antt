@@ -1,5 +1,5 @@
 -- Names that are made new among earlier ones.
-use Rattle.std.proofs.Common.{◌≡◌, refl, sym, ap, ◌∙◌, subst, inl, inr, true≢false, arith, ℕ, ◌+◌, ◌<◌, ◌≤◌, Bool, true, false, not, ◌||◌, List, [], ◌∷◌, ◌++◌, length, get_or, take, set, length-set}
+use Rattle.std.proofs.Common.{◌≡◌, refl, sym, ap, ◌∙◌, subst, inl, inr, true≢false, arith, ℕ, ◌+◌, ◌<◌, ◌≤◌, ◌^◌, Bool, true, false, not, ◌||◌, List, [], ◌∷◌, ◌++◌, length, get_or, take, set, length-set}
 use Rattle.std.specs.List.{position_or_len}
 use Rattle.std.specs.Str.{bytes_eq}
 use Rattle.std.specs.Cmp.Lexicographic.{bytes_decides}
@@ -109,13 +109,14 @@ tried_after names untried name place number h within is free =
 pub name_alone : (names : List Text) (name : Text) → has_name names name ≡ false → IsNewName names name name
 name_alone names name e = record { alone = λ f. refl; doubled = λ f. absurd (true≢false (sym f ∙ e)) }
 
-pub name_numbered : (names : List Text) (untried : List ℕ) (name : Text) (place number : ℕ) → AreTried names untried → place < length names → name ≡ get_or names place [] → IsFree names name (get_or untried place 0) number →
+pub name_numbered : (names : List Text) (untried : List ℕ) (name : Text) (place number : ℕ) → AreTried names untried → place < length names → name ≡ get_or names place [] → IsFree names name (get_or untried place 0) number → number < 2 ^ 32 →
     IsNewName names name (numbered name number)
-name_numbered names untried name place number h within is free = record {
+name_numbered names untried name place number h within is free below = record {
   alone = λ f. absurd (true≢false (sym (name_there names name place within is) ∙ f));
   doubled = λ f. record {
     number = number;
     from = (let least = h.from place within in let more = free.from in omega arith);
+    below = below;
     is = refl;
     new = free.new;
     least = below_free names untried name place number h within is free;

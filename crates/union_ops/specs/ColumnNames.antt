@@ -1,14 +1,15 @@
 -- The names of the columns of a union: all names in order, each made new among those before it.
-use Rattle.std.specs.Prelude.{◌≡◌, ℕ, ◌<◌, ◌≤◌, true, false, List, [], ◌++◌, codes, decimal, length, slice_index_or, take}
+use Rattle.std.specs.Prelude.{◌≡◌, ℕ, ◌<◌, ◌≤◌, ◌^◌, true, false, List, [], ◌++◌, codes, decimal, length, slice_index_or, take}
 use Rattle.table_terms.specs.Names.{Text, has_name}
 
 abbrev pub numbered : Text → ℕ → Text
 numbered name k = name ++ (codes "_" ++ decimal k)
 
--- the name, `_` and the least number from 2 on that makes it new
+-- the name, `_` and the least number from 2 on that makes it new, which 32 bits hold
 pub record IsNumbered (earlier : List Text) (name out : Text) : Type 0 where
   pub number : ℕ
   pub from : 2 ≤ number
+  pub below : number < 2 ^ 32
   pub is : out ≡ numbered name number
   pub new : has_name earlier out ≡ false
   pub least : (k : ℕ) → 2 ≤ k → k < number → has_name earlier (numbered name k) ≡ true

@@ -1,9 +1,9 @@
-use Rattle.std.proofs.Common.{◌≡◌, ◌∙◌, subst, arith, ℕ, List, All, IfOk, length}
+use Rattle.std.proofs.Common.{◌≡◌, ◌∙◌, subst, ℕ, List, All, IfOk, length}
 use Rattle.std.proofs.lemmas.Result.{IfOk-weaker}
 use Rattle.ring_trace.specs.Gaps.{AreGaps}
 use Rattle.ring_trace.specs.Sets.{IsSetOf}
 use Rattle.region_ops.specs.Filled.{IsCleanedAndFilled, IsFilled}
-use Rattle.region_ops.proofs.FillLemmas.{filled_inner, filled_is}
+use Rattle.region_ops.proofs.FillLemmas.{filled_inner}
 use Rattle.region_ops.proofs.cleaned_sets.clean_sets.Goals as goal
 
 filled : (c : goal.After-drop-areas-2) → IfOk c.filled_sets.result (IsFilled c.args.rule c.args.gap c.args.f.now c.args.old.now c.in_ok-cleaned.cleaned)
@@ -17,7 +17,7 @@ returns-clause-exact c =
     let old = c.args.old.now in
     let cleaned = c.in_ok-cleaned.cleaned in
     IfOk-weaker c.filled_sets.result (IsFilled c.args.rule c.args.gap f old cleaned) (IsCleanedAndFilled c.args.rule c.args.gap f old)
-    (λ made h. filled_is c.args.rule c.args.gap f old cleaned made (λ e. let some = c.if-gap-eq0.false in omega arith) c.in_ok-cleaned.ensures.exact h)
+    (λ made h. (cleaned, c.in_ok-cleaned.ensures.exact, h))
     (filled c)
 
 pub returns-clause-each : goal.returns-clause-each

@@ -32,13 +32,14 @@ returns-clause-named c =
     let len = c.len.ensures in
     let place = c.place_or_end-place.result in
     let number = c.in_ok-number.number in
+    let small = c.in_ok-number.ensures.below in
     let before = c.if-place-len.false in
     let l : place < length untried = omega arith in
     let within : place < length names = omega arith in
     let is : name ≡ get_or names place [] = place_of_name names name place c.place_or_end-place.ensures.place within in
     let first : c.index.result.now ≡ get_or untried place 0 = c.index.ensures ∙ get_or_default untried place c.index.result.now 0 l in
     subst (IsNewName names name) (sym c.in_ok-text.ensures)
-    (name_numbered names untried name place number h within is (subst (λ (k : ℕ). IsFree names name k number) first c.in_ok-number.ensures.free))
+    (name_numbered names untried name place number h within is (subst (λ (k : ℕ). IsFree names name k number) first c.in_ok-number.ensures.free) (omega arith))
 
 pub returns-clause-tried : goal.returns-clause-tried
 returns-clause-tried c =
