@@ -9,7 +9,7 @@ use Rattle.cmd_words.specs.Tells.{FitsChain, FitsJob}
 use Rattle.cmd_words.specs.Words.{ChainWords, JobWords, synth, chain}
 use Rattle.run_sources.specs.Sources.{SourcesSeen, GivesAll, StopsAtSource}
 use Rattle.run_sources.specs.declared.fault.SourceFault.{SourceFault}
-use Rattle.ms_chain.specs.Running.{ReadsWords}
+use Rattle.run_chain.specs.Running.{ReadsWords}
 use Rattle.word_model.specs.Words.{words_say}
 use Rattle.chain_model.specs.Headline.{sources_of}
 use Rattle.chain_model.specs.Sources.{AreReadings, Readings, imported, whole_room}

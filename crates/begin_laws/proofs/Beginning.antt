@@ -12,8 +12,8 @@ use Rattle.cmd_words.specs.declared.job.Job.TheVariants as job
 use Rattle.run_plane.specs.Begun.{IsFew}
 use Rattle.run_sources.specs.Sources.{SourcesSeen}
 use Rattle.run_outcome.specs.declared.outcome.Outcome.{Outcome}
-use Rattle.ms_chain.specs.Effects.{OutsideSeen}
-use Rattle.ms_chain.specs.Running.{RunsCommands}
+use Rattle.run_chain.specs.Effects.{OutsideSeen}
+use Rattle.run_chain.specs.Running.{RunsCommands}
 use Rattle.region_model.specs.Answers.{plane_of}
 use Rattle.table_terms.specs.Refusals.{on_ok}
 use Rattle.chain_model.specs.Beginning.{command_layers, drawing_of, first_sources, import_layers}

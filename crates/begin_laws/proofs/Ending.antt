@@ -18,8 +18,8 @@ use Rattle.run_beginning.specs.Drawing as run
 use Rattle.run_outcome.specs.Ends.{of_drawing, of_sources}
 use Rattle.run_outcome.specs.declared.outcome.Outcome.{Outcome}
 use Rattle.run_outcome.specs.declared.outcome.Outcome.TheVariants as end
-use Rattle.ms_chain.specs.Effects.{OutsideSeen}
-use Rattle.ms_chain.specs.Running.{EndsAtSource, EndsBefore, EndsUnbegun}
+use Rattle.run_chain.specs.Effects.{OutsideSeen}
+use Rattle.run_chain.specs.Running.{EndsAtSource, EndsBefore, EndsUnbegun}
 use Rattle.region_model.specs.Answers.{plane_of}
 use Rattle.table_terms.specs.Refusals.{on_ok}
 use Rattle.word_model.specs.Words.{words_say}

@@ -16,8 +16,8 @@ use Rattle.run_outcome.specs.Ends.{of_drawing}
 use Rattle.run_outcome.specs.Telling.{AddsFront, StreamSeen}
 use Rattle.run_outcome.specs.declared.outcome.Outcome.{Outcome}
 use Rattle.run_outcome.specs.declared.outcome.Outcome.TheVariants as end
-use Rattle.ms_chain.specs.Effects.{OutsideSeen}
-use Rattle.ms_chain.specs.Running.{SynthRuns, stream_of}
+use Rattle.run_chain.specs.Effects.{OutsideSeen}
+use Rattle.run_chain.specs.Running.{SynthRuns, stream_of}
 use Rattle.word_model.specs.Words.{words_say}
 use Rattle.chain_model.specs.Headline.{Binds}
 use Rattle.chain_model.specs.Outcome as model

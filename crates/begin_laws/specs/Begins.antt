@@ -8,8 +8,8 @@ use Rattle.run_plane.specs.declared.layer.Layer.{Layer}
 use Rattle.run_state.specs.Origins.{Base}
 use Rattle.run_state.specs.Targets.{first_layers}
 use Rattle.run_outcome.specs.declared.outcome.Outcome.{Outcome}
-use Rattle.ms_chain.specs.Effects.{OutsideSeen}
-use Rattle.ms_chain.specs.Running.{RunsCommands}
+use Rattle.run_chain.specs.Effects.{OutsideSeen}
+use Rattle.run_chain.specs.Running.{RunsCommands}
 use Rattle.region_model.specs.Answers as model
 use Rattle.chain_model.specs.Running.{Begun, begins}
 use Rattle.chain_model.specs.Sources.{Readings}

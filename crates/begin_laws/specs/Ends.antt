@@ -7,8 +7,8 @@ use Rattle.cmd_words.specs.declared.job.Job.TheVariants as job
 use Rattle.run_sources.specs.Sources.{SourcesSeen}
 use Rattle.run_outcome.specs.declared.outcome.Outcome.{Outcome}
 use Rattle.run_outcome.specs.declared.outcome.Outcome.TheVariants as end
-use Rattle.ms_chain.specs.Effects.{OutsideSeen}
-use Rattle.ms_chain.specs.Running.{EndsBefore, ReadsWords, ToldAlone}
+use Rattle.run_chain.specs.Effects.{OutsideSeen}
+use Rattle.run_chain.specs.Running.{EndsBefore, ReadsWords, ToldAlone}
 use Rattle.word_model.specs.Words.{words_say}
 use Rattle.chain_model.specs.Headline.{Binds}
 use Rattle.chain_model.specs.Running.{begins}

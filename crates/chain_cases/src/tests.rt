@@ -1,4 +1,4 @@
-//! Inputs that end too early, over files and streams in memory.
+//! Inputs that end too early, and an outside that fails, over files and streams in memory.
 
 use io_core::{MemFiles, MemSink, MemSource, Text, Words};
 use ms_chain::{InputWhy, Outcome, run};
@@ -108,5 +108,55 @@ fn a_cut_table_is_refused_where_cells_lack(rt: HostRuntime) -> Result<(), Fail> 
         let outcome = outcome_of(rt.alloc(), &words, &TABLE[..left])?;
         assert_eq!(rt; outcome, cut_table(left), "{left} bytes left");
     }
+    Ok(())
+}
+
+const CITIES_PRINTED: &[u8] = b"{\"type\":\"FeatureCollection\",\"features\":[
+{\"type\":\"Feature\",\"geometry\":{\"type\":\"Point\",\"coordinates\":[2.3522,48.8566]},\"properties\":{\"name\":\"Paris\",\"pop\":2102650,\"note\":null}},
+{\"type\":\"Feature\",\"geometry\":{\"type\":\"Point\",\"coordinates\":[-0.1276,51.5072]},\"properties\":{\"name\":\"London\",\"pop\":8866180,\"note\":null}},
+{\"type\":\"Feature\",\"geometry\":{\"type\":\"Point\",\"coordinates\":[13.405,52.52]},\"properties\":{\"name\":\"Berlin\",\"pop\":null,\"note\":null}}
+]}
+";
+
+// Prints the cities to a stream that takes 100 bytes at a time and fails in the listed writes.
+fn printed_with(alloc: Global, failing: &[u32]) -> Result<(Outcome, MemSink), AllocError> {
+    let words = words_of(alloc, &["in.json", "-o", "-"])?;
+    let mut files = MemFiles::new(alloc, 100, &[], &[], &[])?;
+    files.put("in.json", CITIES)?;
+    let mut input = MemSource::new(alloc, b"", 1, &[])?;
+    let mut output = MemSink::new(alloc, 10_000, 100, failing)?;
+    let mut messages = MemSink::new(alloc, 1_000, 100, &[])?;
+    let outcome = run(
+        alloc,
+        &words,
+        &mut files,
+        &mut input,
+        &mut output,
+        &mut messages,
+    );
+    Ok((outcome, output))
+}
+
+#[test]
+fn a_failed_write_leaves_a_front(rt: HostRuntime) -> Result<(), Fail> {
+    let (whole, output) = printed_with(rt.alloc(), &[])?;
+    assert_eq!(rt; whole, Outcome::Done);
+    assert_eq!(rt; output.held(), CITIES_PRINTED);
+
+    let (first, output) = printed_with(rt.alloc(), &[1])?;
+    assert_eq!(rt; first, Outcome::WriteFault { command: 1 });
+    assert_eq!(rt; output.held().len(), 0);
+
+    let (second, output) = printed_with(rt.alloc(), &[2])?;
+    assert_eq!(rt; second, Outcome::WriteFault { command: 1 });
+    assert_eq!(rt; Some(output.held()), CITIES_PRINTED.get(..100));
+    Ok(())
+}
+
+#[test]
+fn a_file_that_is_not_there_is_missing(rt: HostRuntime) -> Result<(), Fail> {
+    let words = words_of(rt.alloc(), &["other.json", "-o", "-"])?;
+    let outcome = outcome_of(rt.alloc(), &words, CITIES)?;
+    assert_eq!(rt; outcome, Outcome::Missing { source: 1 });
     Ok(())
 }

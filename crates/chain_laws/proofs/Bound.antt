@@ -11,7 +11,7 @@ use Rattle.run_state.specs.Origins.{Base}
 use Rattle.run_state.specs.declared.state.Held.{Held}
 use Rattle.run_outcome.specs.declared.outcome.Outcome.{Outcome}
 use Rattle.run_outcome.specs.declared.outcome.Outcome.TheVariants as end
-use Rattle.ms_chain.specs.Effects.{OutsideSeen}
+use Rattle.run_chain.specs.Effects.{OutsideSeen}
 use Rattle.plane_model.specs.Arrangement.{IsArrangement}
 use Rattle.region_model.specs.Answers.{AreRight, Plane}
 use Rattle.word_model.specs.Words.{words_say}
@@ -24,6 +24,7 @@ use Rattle.state_laws.specs.Shown.{View}
 use Rattle.state_laws.proofs.Zipped.{zip_joined}
 use Rattle.run_laws.specs.Outcomes.{outcome_as}
 use Rattle.run_laws.specs.Refused.{outside_of}
+use Rattle.run_laws.proofs.Unchanged.{unchanged}
 use Rattle.begin_laws.specs.Ends.{IsAsked}
 use Rattle.begin_laws.proofs.Asked.{ChainSaid, chain_said}
 use Rattle.chain_laws.specs.Bound.{BeginsSeen, CommandsAreBound}
@@ -104,7 +105,7 @@ module _ (read : Readings) (line : List Content) (c : Chain) (seen : SourcesSeen
       by_whole end.Memory w stated = absurd stated
 
       by_short : Short v base b is.plane is.places told before after → Bound end.Memory
-      by_short h = record { effects = h.effects; begins = begun_like h.front h.more h.effects h.outputs h.gives; held = h.held }
+      by_short h = record { effects = h.effects; begins = inr (begun_like h.front h.more h.effects h.outputs h.gives); held = h.held }
 
       by_cut : (n : ℕ) → Cut v base b is.plane is.places told before after n → Bound (end.WriteFault n)
       by_cut n h = record {
@@ -127,3 +128,10 @@ bound read line c seen files bytes a b begun v base layers is show texts before 
     by_ran read line c seen files bytes a v base layers b is begun texts before after o
     (subst (λ (cs : List Command). Ran v base b is.plane is.places (from v base b is.plane is.places 1 b.state cs) before after o) (sym is.commands)
     (ran_all v base b is.plane is.places c.commands 0 layers b.state before after o is.state show run))
+
+-- where memory runs out before the first command, nothing has changed
+pub unbegun : (read : Readings) (line : List Content) (c : Chain) (seen : SourcesSeen) (files : FileMap) (bytes : Content) → IsAsked read line (job.Chain c) seen files bytes → (b : Begun) → begins read c files bytes ≡ Ok b →
+    (v : View) (base : Base) (layers : List Held) → BeginsSeen c v base layers b → EachHasText v base → (before after : OutsideSeen) → after ≡ before → Binds read (words_say read.refusals line) files bytes (outside_of before) (outside_of after) model.memory
+unbegun read line c seen files bytes a b begun v base layers is texts before after kept =
+    by_short read line c seen files bytes a v base layers b is begun texts before after
+    (record { effects = []; front = []; more = (from v base b is.plane is.places 1 b.state b.commands).0; outputs = refl; gives = tt; held = unchanged before after kept })

@@ -19,8 +19,8 @@ use Rattle.run_texts.specs.Written.{OutputSays}
 use Rattle.run_outcome.specs.Ends.{of_command}
 use Rattle.run_outcome.specs.declared.outcome.Outcome.{Outcome}
 use Rattle.run_outcome.specs.declared.outcome.Outcome.TheVariants as end
-use Rattle.ms_chain.specs.Effects.{OutsideSeen, CutsText, WroteText}
-use Rattle.ms_chain.specs.Running.{CommandsRun, EndsWriting, GoesOn, StopsBy}
+use Rattle.run_chain.specs.Effects.{OutsideSeen, CutsText, WroteText}
+use Rattle.run_chain.specs.Running.{CommandsRun, EndsWriting, GoesOn, StopsBy}
 use Rattle.region_model.specs.Answers.{Plane}
 use Rattle.chain_model.specs.Headline.{HoldsAfter}
 use Rattle.chain_model.specs.Outcome as model

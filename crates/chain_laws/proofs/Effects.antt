@@ -6,7 +6,7 @@ use Rattle.std.proofs.lemmas.List.{take-append-drop}
 use Rattle.std.proofs.lemmas.Slice.Eq.{bytes_eq-Decides}
 use Rattle.io_core.specs.Contents.{Content, FileMap, SameFiles, Puts}
 use Rattle.table_terms.specs.Names.{Text}
-use Rattle.ms_chain.specs.Effects.{OutsideSeen, CutsText, GainsFront, HoldsFront, WroteText}
+use Rattle.run_chain.specs.Effects.{OutsideSeen, CutsText, GainsFront, HoldsFront, WroteText}
 use Rattle.chain_model.specs.Headline.{EachName, HoldsAfter, held_after, streamed}
 use Rattle.chain_model.specs.Running.{Effect}
 use Rattle.run_laws.specs.Refused.{outside_of}

@@ -7,8 +7,8 @@ use Rattle.run_sources.specs.Sources.{SourcesSeen}
 use Rattle.run_state.specs.Origins.{Base}
 use Rattle.run_state.specs.declared.state.Held.{Held}
 use Rattle.run_outcome.specs.declared.outcome.Outcome.{Outcome}
-use Rattle.ms_chain.specs.Effects.{OutsideSeen}
-use Rattle.ms_chain.specs.Running.{CommandsRun}
+use Rattle.run_chain.specs.Effects.{OutsideSeen}
+use Rattle.run_chain.specs.Running.{CommandsRun}
 use Rattle.word_model.specs.Words.{words_say}
 use Rattle.chain_model.specs.Headline.{Binds}
 use Rattle.chain_model.specs.Running.{Begun, begins}

@@ -14,8 +14,8 @@ use Rattle.run_state.specs.declared.state.Held.{Held}
 use Rattle.run_steps.specs.Commands.{ChangesTogether}
 use Rattle.run_steps.specs.Refusals.{refusal_together}
 use Rattle.run_texts.specs.Written.{OutputSays, refused_output}
-use Rattle.ms_chain.specs.Effects.{OutsideSeen}
-use Rattle.ms_chain.specs.Running.{Passes}
+use Rattle.run_chain.specs.Effects.{OutsideSeen}
+use Rattle.run_chain.specs.Running.{Passes}
 use Rattle.chain_model.specs.Pictures.{IsTextOf}
 use Rattle.chain_model.specs.State.{State}
 use Rattle.chain_model.specs.Steps.{Written, step}

@@ -67,10 +67,10 @@ module _ (read : Readings) (words : Reading JobWords) (sources : FileMap) (input
     pub rest : List Effect
     pub told : WordsTell read sources input words outcome (effects ++ rest)
 
-  -- at want of memory a first part of the outputs is held, each whole
+  -- at want of memory no output is held, or a first part of those that the run would have, each whole
   pub record StopsForMemory (before after : Outside) : Type 0 where
     pub effects : List Effect
-    pub begins : BeginsLike effects
+    pub begins : (effects ≡ []) ⊎ BeginsLike effects
     pub held : HoldsAfter before after effects
 
   -- a file whose writing failed is as it was, or holds a first part of its text

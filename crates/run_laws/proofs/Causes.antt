@@ -28,8 +28,8 @@ use Rattle.run_outcome.specs.Telling.{AddsFront}
 use Rattle.run_outcome.specs.Ends.{of_drawing, of_sources, of_words}
 use Rattle.run_outcome.specs.declared.outcome.Outcome.{Outcome}
 use Rattle.run_outcome.specs.declared.outcome.Outcome.TheVariants as end
-use Rattle.ms_chain.specs.Effects.{OutsideSeen, CountsGrew}
-use Rattle.ms_chain.specs.Running.{JobRuns, ChainRuns, SynthRuns, EndsBefore, EndsAtSource, EndsUnbegun, BegunRuns, RunsCommands, stream_of}
+use Rattle.run_chain.specs.Effects.{OutsideSeen, CountsGrew}
+use Rattle.run_chain.specs.Running.{JobRuns, ChainRuns, SynthRuns, EndsBefore, EndsAtSource, EndsUnbegun, BegunRuns, RunsCommands, stream_of}
 use Rattle.chain_model.specs.Headline.{HasCause}
 use Rattle.chain_model.specs.Headline as model
 use Rattle.run_laws.specs.Outcomes.{outcome_as}

@@ -14,8 +14,8 @@ use Rattle.run_state.specs.declared.state.Held.{Held}
 use Rattle.run_outcome.specs.Ends.{of_command, of_drawing, of_words}
 use Rattle.run_outcome.specs.declared.outcome.Outcome.{Outcome}
 use Rattle.run_outcome.specs.declared.outcome.Outcome.TheVariants as end
-use Rattle.ms_chain.specs.Effects.{OutsideSeen, CountsGrew}
-use Rattle.ms_chain.specs.Running.{CommandsRun, EndsWriting, GoesOn}
+use Rattle.run_chain.specs.Effects.{OutsideSeen, CountsGrew}
+use Rattle.run_chain.specs.Running.{CommandsRun, EndsWriting, GoesOn}
 use Rattle.run_laws.proofs.Counts.{ActionRose, action_rose, counts_grew}
 
 -- outcomes that have no cause outside

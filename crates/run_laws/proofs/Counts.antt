@@ -13,7 +13,7 @@ use Rattle.word_laws.proofs.Shown.{TypeOf}
 use Rattle.run_sources.specs.Sources.{SourcesSeen, Grew, SourcesGive}
 use Rattle.run_sources.specs.Sources as sources
 use Rattle.run_sources.proofs.Growing.{grew_same, grew_on}
-use Rattle.ms_chain.specs.Effects.{OutsideSeen, CountsGrew, WriteRose}
+use Rattle.run_chain.specs.Effects.{OutsideSeen, CountsGrew, WriteRose}
 
 pub rose_before : (b m x : ℕ) → NeverFell b m → Rose m x → Rose b x
 rose_before b m x n r = omega (arith, n.later, r)

@@ -13,11 +13,10 @@ use Rattle.run_sources.specs.declared.fault.SourceFault.TheVariants as fault
 use Rattle.run_outcome.specs.Ends.{of_sources}
 use Rattle.run_outcome.specs.declared.outcome.Outcome.{Outcome}
 use Rattle.run_outcome.specs.declared.outcome.Outcome.TheVariants as end
-use Rattle.ms_chain.specs.Effects.{OutsideSeen}
-use Rattle.ms_chain.specs.Running.{JobRuns}
+use Rattle.run_chain.specs.Effects.{OutsideSeen}
+use Rattle.run_chain.specs.Running.{JobRuns}
 use Rattle.word_model.specs.Words.{words_say}
 use Rattle.chain_model.specs.Headline.{Binds}
-use Rattle.chain_model.specs.Outcome.{bad_words}
 use Rattle.chain_model.specs.Sources.{Readings}
 use Rattle.source_laws.specs.Told.{fault_as}
 use Rattle.run_laws.specs.Outcomes.{outcome_as}
@@ -47,7 +46,7 @@ module _ (read : Readings) (n : ℕ) (why : WordWhy) (files : FileMap) (bytes : 
   bound_refused kept = record { effects = []; told = (refl, refl); held = unchanged before after kept }
 
   bound_memory : after ≡ before → Bound (Err (n, why)) end.Memory
-  bound_memory kept = record { effects = []; begins = record { outcome = bad_words n why; rest = []; told = (refl, refl) }; held = unchanged before after kept }
+  bound_memory kept = record { effects = []; begins = inl refl; held = unchanged before after kept }
 
 module _ (n : ℕ) (why : WordWhy) (seen seen' : SourcesSeen) (before after : OutsideSeen) (o : Outcome) where
   -- what is answered, and that nothing has changed

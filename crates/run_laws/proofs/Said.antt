@@ -12,7 +12,7 @@ use Rattle.cmd_words.specs.Words.{Reading, JobWords, read_words}
 use Rattle.cmd_words.proofs.ExpressionFaults.{refused_for}
 use Rattle.word_model.specs.Words.{words_say}
 use Rattle.word_laws.proofs.Laws.{table_says}
-use Rattle.ms_chain.specs.Running.{ReadsWords}
+use Rattle.run_chain.specs.Running.{ReadsWords}
 
 -- ## Texts are refused in one way
 

@@ -3,7 +3,7 @@ use Rattle.std.proofs.Common.{◌≡◌, refl, sym, ◌∙◌, subst, [], Option
 use Rattle.std.specs.Io.KnownBytes.{Appends}
 use Rattle.io_core.specs.Contents.{Content, FileMap, SameFiles}
 use Rattle.io_core.proofs.FileReading.{SameFiles-refl}
-use Rattle.ms_chain.specs.Effects.{OutsideSeen}
+use Rattle.run_chain.specs.Effects.{OutsideSeen}
 use Rattle.chain_model.specs.Headline.{EachName, HoldsAfter, held_after}
 use Rattle.run_laws.specs.Refused.{outside_of}
 

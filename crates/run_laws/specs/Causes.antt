@@ -4,8 +4,8 @@ use Rattle.io_core.specs.Contents.{Content}
 use Rattle.cmd_words.specs.Expressions.{Refusals, AreRefusals}
 use Rattle.run_sources.specs.Sources.{SourcesSeen}
 use Rattle.run_outcome.specs.declared.outcome.Outcome.{Outcome}
-use Rattle.ms_chain.specs.Effects.{OutsideSeen}
-use Rattle.ms_chain.specs.Running.{WordsRun}
+use Rattle.run_chain.specs.Effects.{OutsideSeen}
+use Rattle.run_chain.specs.Running.{WordsRun}
 use Rattle.word_model.specs.Words.{words_say}
 use Rattle.chain_model.specs.Headline.{Counts, HasCause}
 use Rattle.run_laws.specs.Outcomes.{outcome_as}

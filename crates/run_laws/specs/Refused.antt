@@ -9,8 +9,8 @@ use Rattle.run_sources.specs.declared.fault.SourceFault.{SourceFault}
 use Rattle.run_outcome.specs.Ends.{of_drawing, of_sources, of_words}
 use Rattle.run_outcome.specs.declared.outcome.Outcome.{Outcome}
 use Rattle.run_outcome.specs.declared.outcome.Outcome.TheVariants as end
-use Rattle.ms_chain.specs.Effects.{OutsideSeen}
-use Rattle.ms_chain.specs.Running.{WordsRun}
+use Rattle.run_chain.specs.Effects.{OutsideSeen}
+use Rattle.run_chain.specs.Running.{WordsRun}
 use Rattle.word_model.specs.Words.{words_say}
 use Rattle.chain_model.specs.Headline.{Binds, Outside}
 use Rattle.chain_model.specs.Outcome as model

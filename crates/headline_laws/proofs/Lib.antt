@@ -1,0 +1,11 @@
+pub mod Texts
+pub mod Steps
+pub mod Same
+pub mod Chains
+pub mod Mosaics
+pub mod Runs
+pub mod OneStep
+pub mod OneRun
+pub mod Answered
+pub mod Complete
+pub mod Whole

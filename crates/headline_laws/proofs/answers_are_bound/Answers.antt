@@ -1,0 +1,6 @@
+-- The law is proved by itself.
+use Rattle.headline_laws.proofs.Runs.{answers_bound}
+use Rattle.headline_laws.proofs.answers_are_bound.Goals as goal
+
+pub returns : goal.returns
+returns c = answers_bound

@@ -1,0 +1,6 @@
+-- The law is proved by itself.
+use Rattle.headline_laws.proofs.Texts.{texts_there}
+use Rattle.headline_laws.proofs.each_output_has_a_text.Goals as goal
+
+pub returns : goal.returns
+returns c = texts_there

@@ -1,0 +1,6 @@
+-- The law is proved by itself.
+use Rattle.headline_laws.proofs.Steps.{each_step}
+use Rattle.headline_laws.proofs.each_step_shows.Goals as goal
+
+pub returns : goal.returns
+returns c = each_step

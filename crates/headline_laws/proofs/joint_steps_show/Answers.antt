@@ -1,0 +1,6 @@
+-- The law is proved by itself.
+use Rattle.headline_laws.proofs.Steps.{joint_step}
+use Rattle.headline_laws.proofs.joint_steps_show.Goals as goal
+
+pub returns : goal.returns
+returns c = joint_step

@@ -1,0 +1,6 @@
+-- The law is proved by itself.
+use Rattle.headline_laws.proofs.Whole.{runs_are_of_the_model}
+use Rattle.headline_laws.proofs.runs_are_of_the_model.Goals as goal
+
+pub returns : goal.returns
+returns c = runs_are_of_the_model

@@ -1,0 +1,6 @@
+-- The law is proved by itself.
+use Rattle.headline_laws.proofs.OneStep.{one_step_each}
+use Rattle.headline_laws.proofs.steps_are_of_words.Goals as goal
+
+pub returns : goal.returns
+returns c = one_step_each

@@ -1,0 +1,4 @@
+pub mod Steps
+pub mod Texts
+pub mod Runs
+pub mod Words

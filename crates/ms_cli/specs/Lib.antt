@@ -1,4 +1,0 @@
-pub mod Printing
-pub mod Running
-pub mod Status
-pub mod Words

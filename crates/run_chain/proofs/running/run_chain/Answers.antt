@@ -1,0 +1,77 @@
+use Rattle.std.proofs.Common.{◌∙◌, List, ap, inl, inr, map, refl, subst}
+use Rattle.lists.specs.Lists.{joined_up}
+use Rattle.plane_model.specs.Snapped.{snapped}
+use Rattle.cmd_words.specs.declared.job.Owner.{Owner}
+use Rattle.run_beginning.specs.BegunLayers.{BeginsOver}
+use Rattle.run_beginning.specs.Drawing.{drawing_of}
+use Rattle.cmd_words.specs.declared.job.SourceWord.{SourceWord}
+use Rattle.io_core.proofs.Reading.{NeverFell-refl}
+use Rattle.run_chain.specs.Effects.{OutsideSeen}
+use Rattle.run_sources.specs.Sources.{SourcesSeen, GivesAll, StopsAtSource}
+use Rattle.run_chain.proofs.running.run_chain.Goals as goal
+
+pub returns-in-Ok-begin : goal.returns-in-Ok-begin
+returns-in-Ok-begin g c =
+    let middle : OutsideSeen = record { files = g.F.Files.held c.read_sources.new.files; file_faults = g.F.Files.write_faults c.read_sources.new.files; stream = g.K.Sink.held c.args.output.now; stream_faults = g.K.Sink.faults c.args.output.now } in
+    let seen : SourcesSeen = record { files = g.F.Files.held c.args.files.now; file_faults = g.F.Files.read_faults c.args.files.now; file_bytes = g.F.Files.bytes_read c.args.files.now; input = g.I.Source.left c.args.input.now; input_faults = g.I.Source.faults c.args.input.now; input_bytes = g.I.Source.bytes_read c.args.input.now } in
+    let read : SourcesSeen = record { files = g.F.Files.held c.read_sources.new.files; file_faults = g.F.Files.read_faults c.read_sources.new.files; file_bytes = g.F.Files.bytes_read c.read_sources.new.files; input = g.I.Source.left c.read_sources.new.input; input_faults = g.I.Source.faults c.read_sources.new.input; input_bytes = g.I.Source.bytes_read c.read_sources.new.input } in
+    record {
+      runs = inr (record {
+        layers = map (λ source. source.layers) c.in-Ok.sources.items;
+        read = read;
+        given = subst (λ (words : List SourceWord). GivesAll c.args.chain.now.places words seen read (map (λ source. source.layers) c.in-Ok.sources.items)) c.as_slice.ensures.all c.in-Ok.ensures.gives;
+        middle = middle;
+        kept = record {
+          files = c.read_sources.ensures.grew.files;
+          stream = refl;
+          counts = record { files = c.read_sources.ensures.writes; stream = NeverFell-refl (g.K.Sink.faults c.args.output.now) };
+        };
+        begun = c.in-Ok-begin.begun.layers.items;
+        base = record { places = c.args.chain.now.places; plane = c.in-Ok-begin.begun.plane; sources = map (λ own. own.items) c.in-Ok-begin.begun.sources.items };
+        places = refl;
+        few = c.in-Ok-begin.ensures.few;
+        over = subst (λ (owners : List Owner). BeginsOver (snapped (drawing_of (joined_up (map (λ source. source.layers) c.in-Ok.sources.items)) c.args.chain.now.boxes)) owners (map (λ source. source.layers) c.in-Ok.sources.items) c.in-Ok-begin.begun.plane.arcs c.in-Ok-begin.begun.plane.faces c.in-Ok-begin.begun.plane.boxes.items c.in-Ok-begin.begun.layers.items (map (λ own. own.items) c.in-Ok-begin.begun.sources.items))
+            (c.in-Ok.ensures.owners ∙ ap (map (λ (source : SourceWord). source.owner)) c.as_slice.ensures.all) c.in-Ok-begin.ensures.over;
+        ran = c.run_begun.ensures.ran;
+      });
+    }
+
+pub returns-in-Err-begin : goal.returns-in-Err-begin
+returns-in-Err-begin g c =
+    let seen : SourcesSeen = record { files = g.F.Files.held c.args.files.now; file_faults = g.F.Files.read_faults c.args.files.now; file_bytes = g.F.Files.bytes_read c.args.files.now; input = g.I.Source.left c.args.input.now; input_faults = g.I.Source.faults c.args.input.now; input_bytes = g.I.Source.bytes_read c.args.input.now } in
+    let read : SourcesSeen = record { files = g.F.Files.held c.read_sources.new.files; file_faults = g.F.Files.read_faults c.read_sources.new.files; file_bytes = g.F.Files.bytes_read c.read_sources.new.files; input = g.I.Source.left c.read_sources.new.input; input_faults = g.I.Source.faults c.read_sources.new.input; input_bytes = g.I.Source.bytes_read c.read_sources.new.input } in
+    record {
+      runs = inl (record {
+        kept = record {
+          files = c.read_sources.ensures.grew.files;
+          stream = refl;
+          counts = record { files = c.read_sources.ensures.writes; stream = NeverFell-refl (g.K.Sink.faults c.args.output.now) };
+        };
+        stops = inr (record {
+          layers = map (λ source. source.layers) c.in-Ok.sources.items;
+          given = subst (λ (words : List SourceWord). GivesAll c.args.chain.now.places words seen read (map (λ source. source.layers) c.in-Ok.sources.items)) c.as_slice.ensures.all c.in-Ok.ensures.gives;
+          fault = c.in-Err-begin.fault;
+          unbegun = c.in-Err-begin.ensures.fault;
+          ends = c.of_drawing.ensures.exact;
+        });
+      });
+    }
+
+pub returns-in-Err : goal.returns-in-Err
+returns-in-Err g c =
+    let seen : SourcesSeen = record { files = g.F.Files.held c.args.files.now; file_faults = g.F.Files.read_faults c.args.files.now; file_bytes = g.F.Files.bytes_read c.args.files.now; input = g.I.Source.left c.args.input.now; input_faults = g.I.Source.faults c.args.input.now; input_bytes = g.I.Source.bytes_read c.args.input.now } in
+    let read : SourcesSeen = record { files = g.F.Files.held c.read_sources.new.files; file_faults = g.F.Files.read_faults c.read_sources.new.files; file_bytes = g.F.Files.bytes_read c.read_sources.new.files; input = g.I.Source.left c.read_sources.new.input; input_faults = g.I.Source.faults c.read_sources.new.input; input_bytes = g.I.Source.bytes_read c.read_sources.new.input } in
+    record {
+      runs = inl (record {
+        kept = record {
+          files = c.read_sources.ensures.grew.files;
+          stream = refl;
+          counts = record { files = c.read_sources.ensures.writes; stream = NeverFell-refl (g.K.Sink.faults c.args.output.now) };
+        };
+        stops = inl (record {
+          fault = c.in-Err.fault;
+          stops = subst (λ (words : List SourceWord). StopsAtSource c.args.chain.now.places words seen read c.in-Err.fault) c.as_slice.ensures.all c.in-Err.ensures.stops;
+          ends = c.of_sources.ensures.exact;
+        });
+      });
+    }

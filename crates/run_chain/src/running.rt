@@ -1,0 +1,204 @@
+ghost use Rattle.std.specs.Prelude.{◌≡◌, ◌≤◌, ◌+◌, ◌^◌, ◌<◌, IfOk, length, map};
+ghost use Rattle.grid_base.specs.Grid.{most_places};
+ghost use Rattle.run_plane.specs.OnPlane.{AreLayersOn};
+ghost use Rattle.run_state.specs.OnPlane.{AreHeldOn};
+ghost use Rattle.run_state.specs.Origins.{base_of};
+ghost use Rattle.run_chain.specs.Running.{StepMeans, CommandsRun, BegunRuns, ChainRuns, SynthRuns, WordsRun};
+ghost use Rattle.run_outcome.specs.Telling.{TellsOutcome};
+
+use crate::writing::write_text;
+use cmd_words::{Action, Chain, Command, Job, read_chain};
+use io_core::{Failed, Files, Sink, Source, Words, write_whole};
+use run_beginning::{Begun, begin};
+use run_outcome::{Outcome, tell};
+use run_sources::read_sources;
+use run_state::{Ground, State};
+use run_steps::{changed_each, changed_together};
+use run_synth::synth_line;
+use run_texts::output_text;
+use std::alloc::Global;
+
+/// Does what the words ask for: reads the sources, runs the commands in order, and writes the outputs.
+///
+/// Errors: the outcome says why a run stopped. Nothing is written before all sources are read and accepted; a text is
+/// whole before its first byte is written. One line on each outcome other than `Done` goes to `messages`.
+pub fn run<F: Files, I: Source, K: Sink, M: Sink>(
+    alloc: Global,
+    words: &Words,
+    files: &mut F,
+    input: &mut I,
+    output: &mut K,
+    messages: &mut M,
+) -> Outcome
+    ensures means { WordsRun words.now
+        (record { files = F.held files.old; file_faults = F.read_faults files.old; file_bytes = F.bytes_read files.old; input = I.left input.old; input_faults = I.faults input.old; input_bytes = I.bytes_read input.old })
+        (record { files = F.held files.new; file_faults = F.read_faults files.new; file_bytes = F.bytes_read files.new; input = I.left input.new; input_faults = I.faults input.new; input_bytes = I.bytes_read input.new })
+        (record { files = F.held files.old; file_faults = F.write_faults files.old; stream = K.held output.old; stream_faults = K.faults output.old })
+        (record { files = F.held files.new; file_faults = F.write_faults files.new; stream = K.held output.new; stream_faults = K.faults output.new }) result }
+    ensures told { TellsOutcome result (record { told = M.held messages.old; faults = M.faults messages.old }) (record { told = M.held messages.new; faults = M.faults messages.new }) }
+{
+    let outcome = run_words(alloc, words, files, input, output);
+    tell(messages, &outcome);
+    outcome
+}
+
+#[tactic(auto, using(crate::proofs::Refused::reads_words))]
+fn run_words<F: Files, I: Source, K: Sink>(
+    alloc: Global,
+    words: &Words,
+    files: &mut F,
+    input: &mut I,
+    output: &mut K,
+) -> Outcome
+    ensures means { WordsRun words.now
+        (record { files = F.held files.old; file_faults = F.read_faults files.old; file_bytes = F.bytes_read files.old; input = I.left input.old; input_faults = I.faults input.old; input_bytes = I.bytes_read input.old })
+        (record { files = F.held files.new; file_faults = F.read_faults files.new; file_bytes = F.bytes_read files.new; input = I.left input.new; input_faults = I.faults input.new; input_bytes = I.bytes_read input.new })
+        (record { files = F.held files.old; file_faults = F.write_faults files.old; stream = K.held output.old; stream_faults = K.faults output.old })
+        (record { files = F.held files.new; file_faults = F.write_faults files.new; stream = K.held output.new; stream_faults = K.faults output.new }) result }
+{
+    match read_chain(alloc, words) {
+        Ok(Job::Chain(chain)) => run_chain(alloc, &chain, files, input, output),
+        Ok(Job::Synth { seed, n }) => run_synth(alloc, seed, n, output),
+        Err(fault) => Outcome::of_words(fault),
+    }
+}
+
+// The line of a made-up mosaic, to the standard stream.
+fn run_synth<K: Sink>(alloc: Global, seed: u32, n: u32, output: &mut K) -> Outcome
+    requires few { n ≤ 300 }
+    ensures ran { SynthRuns seed n (record { told = K.held output.old; faults = K.faults output.old }) (record { told = K.held output.new; faults = K.faults output.new }) result }
+{
+    match synth_line(alloc, seed, n) {
+        Ok(line) => match write_whole(output, line.as_bytes()) {
+            Ok(()) => Outcome::Done,
+            Err(Failed) => Outcome::WriteFault { command: 1 },
+        },
+        Err(fault) => Outcome::of_drawing(fault),
+    }
+}
+
+fn run_chain<F: Files, I: Source, K: Sink>(
+    alloc: Global,
+    chain: &Chain,
+    files: &mut F,
+    input: &mut I,
+    output: &mut K,
+) -> Outcome
+    requires { chain.now.places ≤ most_places }
+    ensures runs { ChainRuns chain.now
+        (record { files = F.held files.old; file_faults = F.read_faults files.old; file_bytes = F.bytes_read files.old; input = I.left input.old; input_faults = I.faults input.old; input_bytes = I.bytes_read input.old })
+        (record { files = F.held files.new; file_faults = F.read_faults files.new; file_bytes = F.bytes_read files.new; input = I.left input.new; input_faults = I.faults input.new; input_bytes = I.bytes_read input.new })
+        (record { files = F.held files.old; file_faults = F.write_faults files.old; stream = K.held output.old; stream_faults = K.faults output.old })
+        (record { files = F.held files.new; file_faults = F.write_faults files.new; stream = K.held output.new; stream_faults = K.faults output.new }) result }
+{
+    let sources = match read_sources(alloc, chain.places, chain.sources.as_slice(), files, input) {
+        Ok(sources) => sources,
+        Err(fault) => return Outcome::of_sources(fault),
+    };
+    match begin(alloc, sources, &chain.boxes) {
+        Ok(begun) => run_begun(alloc, chain, begun, files, output),
+        Err(fault) => Outcome::of_drawing(fault),
+    }
+}
+
+// The commands, over what the sources gave.
+fn run_begun<F: Files, K: Sink>(
+    alloc: Global,
+    chain: &Chain,
+    begun: Begun,
+    files: &mut F,
+    output: &mut K,
+) -> Outcome
+    requires places { chain.now.places ≤ most_places }
+    requires on { AreLayersOn begun.plane begun.layers.items }
+    ensures ran { BegunRuns (record { places = chain.now.places; plane = begun.plane; sources = map (λ own. own.items) begun.sources.items }) begun.layers.items chain.now.commands
+        (record { files = F.held files.old; file_faults = F.write_faults files.old; stream = K.held output.old; stream_faults = K.faults output.old })
+        (record { files = F.held files.new; file_faults = F.write_faults files.new; stream = K.held output.new; stream_faults = K.faults output.new }) result }
+{
+    let Begun {
+        plane,
+        layers,
+        sources,
+    } = begun;
+    let ground = Ground {
+        places: chain.places,
+        plane: &plane,
+        sources: &sources,
+    };
+    match State::new(alloc, layers) {
+        Ok(state) => run_commands(
+            alloc,
+            &ground,
+            0,
+            chain.commands.as_slice(),
+            state,
+            files,
+            output,
+        ),
+        Err(_) => Outcome::Memory,
+    }
+}
+
+// The commands behind so many done ones.
+fn run_commands<F: Files, K: Sink>(
+    alloc: Global,
+    ground: &Ground<'_>,
+    done: u32,
+    commands: &[Command],
+    state: State,
+    files: &mut F,
+    output: &mut K,
+) -> Outcome
+    requires places { ground.now.places ≤ most_places }
+    requires few { done + length commands.now < 2 ^ 32 }
+    requires on { AreHeldOn ground.now.plane.now state.layers.items }
+    ensures ran { CommandsRun (base_of ground.now) done state.layers.items commands.now
+        (record { files = F.held files.old; file_faults = F.write_faults files.old; stream = K.held output.old; stream_faults = K.faults output.old })
+        (record { files = F.held files.new; file_faults = F.write_faults files.new; stream = K.held output.new; stream_faults = K.faults output.new }) result }
+{
+    let [command, rest @ ..] = commands else {
+        return Outcome::Done;
+    };
+    match step(alloc, ground, done + 1, command, state, files, output) {
+        Ok(state) => run_commands(alloc, ground, done + 1, rest, state, files, output),
+        Err(outcome) => outcome,
+    }
+}
+
+// The state after a command, or the outcome of the run that it stops.
+fn step<F: Files, K: Sink>(
+    alloc: Global,
+    ground: &Ground<'_>,
+    number: u32,
+    command: &Command,
+    state: State,
+    files: &mut F,
+    output: &mut K,
+) -> Result<State, Outcome>
+    requires places { ground.now.places ≤ most_places }
+    requires on { AreHeldOn ground.now.plane.now state.layers.items }
+    ensures means { StepMeans (base_of ground.now) number command.now state.layers.items
+        (record { files = F.held files.old; file_faults = F.write_faults files.old; stream = K.held output.old; stream_faults = K.faults output.old })
+        (record { files = F.held files.new; file_faults = F.write_faults files.new; stream = K.held output.new; stream_faults = K.faults output.new }) result }
+    ensures on { IfOk result (λ state. AreHeldOn ground.now.plane.now state.layers.items) }
+{
+    match &command.action {
+        Action::Write { to, standard, form } => {
+            match output_text(alloc, ground, &state.layers, &command.target, *form) {
+                Ok(text) => match write_text(files, output, *standard, to.as_str(), &text) {
+                    Ok(()) => Ok(state),
+                    Err(Failed) => Err(Outcome::WriteFault { command: number }),
+                },
+                Err(stop) => Err(Outcome::of_command(number, stop)),
+            }
+        }
+        Action::Each(action) => match changed_each(alloc, ground, command, action, state) {
+            Ok(state) => Ok(state),
+            Err(stop) => Err(Outcome::of_command(number, stop)),
+        },
+        Action::Together(action) => match changed_together(alloc, ground, command, action, state) {
+            Ok(state) => Ok(state),
+            Err(stop) => Err(Outcome::of_command(number, stop)),
+        },
+    }
+}
