@@ -1,0 +1,9 @@
+pub mod Constant
+pub mod Outside
+pub mod Tests
+pub mod Printed
+pub mod Counted
+pub mod RingSides
+pub mod RingTurn
+pub mod Readings
+pub mod Agreed

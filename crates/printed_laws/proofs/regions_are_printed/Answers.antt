@@ -1,0 +1,6 @@
+-- The law is proved by itself.
+use Rattle.printed_laws.proofs.Printed.{regions_are_printed}
+use Rattle.printed_laws.proofs.regions_are_printed.Goals as goal
+
+pub returns : goal.returns
+returns c = regions_are_printed
