@@ -1,5 +1,5 @@
 -- The text that is printed of a proper value is in the grammar and denotes that value.
-use Rattle.std.proofs.Common.{ℕ, suc, ◌≡◌, ◌≢◌, ◌+◌, ◌*◌, ◌/◌, ◌%◌, ◌^◌, ◌<◌, ◌≤◌, List, [], ◌∷◌, ◌++◌, Bool, true, false, cond, ◌&&◌, ◌||◌, ◌==◌, refl, ap, ◌∙◌, sym, subst, arith, lit<, ℤ, pos, negsuc, ◌+ℤ◌, ◌*ℤ◌, is_some, Option, Some, None, append-nil, append_assoc, true≢false, ne_eqb, ◌⊎◌, inl, inr}
+use Rattle.std.proofs.Common.{ℕ, suc, ◌≡◌, ◌≢◌, ◌+◌, ◌*◌, ◌/◌, ◌%◌, ◌^◌, ◌<◌, ◌≤◌, List, [], ◌∷◌, ◌++◌, Bool, true, false, cond, ◌&&◌, ◌||◌, ◌==◌, refl, ap, ◌∙◌, sym, subst, arith, lit<, ℤ, is_some, Option, Some, None, append-nil, append_assoc, true≢false, ne_eqb, ◌⊎◌, inl, inr}
 use Rattle.std.specs.Prelude.{unsigned_abs, nat_lt}
 use Rattle.std.proofs.lemmas.Bool.{cases_lt, cases_eq, cond-true, cond-false}
 use Rattle.std.proofs.lemmas.Bool.Decides.{nat_tests}
@@ -14,7 +14,8 @@ use Rattle.json_read.specs.Bytes.{is_hex}
 use Rattle.json_read.specs.Json.{JsonValue, ItemList, FieldList, null, boolean, number, string, array, object, no_items, item, no_fields, field}
 use Rattle.json_read.specs.Lists.{items_list, fields_list, put, merged, HaveDistinctNames}
 use Rattle.json_read.specs.Grammar.{no_white, Number, Chars, no_chars, plain, escape, unicode, stands_plain, four_hex, is_high, mended, joined, Quoted, quoted, Denotes, is_null, is_true, is_false, is_number, is_string, no_elements, elements, no_members, members, Elements, last_element, element, Members, last_member, member, Padded, padded, no_mark, JsonText, text}
-use Rattle.json_read.specs.Decimal.{checked, checked_where, decimal_at, decimal_of_text, exactly, units_of}
+use Rattle.json_read.specs.Decimal.{checked, checked_where, decimal_of_text}
+use Rattle.json_read.specs.Units.{units_at}
 use Rattle.json_read.specs.Numeral.{Numeral, numeral_of, IsNumeral}
 use Rattle.json_read.proofs.Digits.{number_some, number_none}
 use Rattle.json_read.proofs.RoundTrip.{reads_back}
@@ -169,7 +170,7 @@ pub some_numeral : (t : List ℕ) (u : ℤ) → decimal_of_text t ≡ Some u →
 unfolding decimal_of_text
 some_numeral t u e = go (numeral_of t) e
   where
-    go : (o : Option Numeral) → decimal_at o ≡ Some u → is_some o ≡ true
+    go : (o : Option Numeral) → checked_where (units_at 18 o) ≡ Some u → is_some o ≡ true
     go None e = absurd (none-some u e)
     go (Some v) e = refl
 
@@ -185,21 +186,13 @@ checked_small z u e = go (nat_lt (unsigned_abs z) (10 ^ 36)) refl
         below n t = grind (arith, nat_tests)
     go false t = absurd (none-some u (sym (ap (λ (b : Bool). cond b (Some z) None) t) ∙ e))
 
-units_small : (m e u : ℤ) → units_of m e ≡ Some u → unsigned_abs u < 10 ^ 36
-units_small m (pos e) u h = checked_small (m *ℤ pos (10 ^ e)) u h
-units_small m (negsuc e) u h = go (exactly m (10 ^ suc e)) h
-  where
-    go : (o : Option ℤ) → checked_where o ≡ Some u → unsigned_abs u < 10 ^ 36
-    go None h = absurd (none-some u h)
-    go (Some z) h = checked_small z u h
-
 pub decimal_small : (t : List ℕ) (u : ℤ) → decimal_of_text t ≡ Some u → unsigned_abs u < 10 ^ 36
 unfolding decimal_of_text
-decimal_small t u e = go (numeral_of t) e
+decimal_small t u e = go (units_at 18 (numeral_of t)) e
   where
-    go : (o : Option Numeral) → decimal_at o ≡ Some u → unsigned_abs u < 10 ^ 36
+    go : (o : Option ℤ) → checked_where o ≡ Some u → unsigned_abs u < 10 ^ 36
     go None e = absurd (none-some u e)
-    go (Some v) e = units_small v.mantissa (v.exponent +ℤ pos 18) u e
+    go (Some z) e = checked_small z u e
 
 -- the printed text of a number is one of the same value
 pub number_kept : (s : List ℕ) → decimal_of_text (number_text s) ≡ decimal_of_text s

@@ -1,15 +1,17 @@
--- Decimals of numerals that were scaled.
-use Rattle.std.proofs.Common.{ℕ, zero, suc, ◌≡◌, ◌≢◌, ◌+◌, ◌*◌, ◌/◌, ◌%◌, ◌^◌, ◌<◌, ◌≤◌, List, ◌++◌, length, Bool, true, false, not, cond, ◌==◌, ℤ, pos, negsuc, neg_ℤ, ◌*ℤ◌, Option, Some, None, refl, ap, ◌∙◌, sym, arith, lit<, true≢false, ◌⊎◌, inl, inr, mul_assoc}
-use Rattle.std.specs.Prelude.{unsigned_abs, nat_lt}
+-- Whole numbers of units, of numerals that were scaled.
+use Rattle.std.proofs.Common.{ℕ, zero, suc, ◌≡◌, ◌≢◌, ◌+◌, ◌*◌, ◌/◌, ◌%◌, ◌^◌, ◌<◌, ◌≤◌, List, Bool, true, false, not, cond, ◌==◌, min, ℤ, pos, negsuc, neg_ℤ, ◌+ℤ◌, ◌*ℤ◌, Option, Some, None, refl, ap, ◌∙◌, sym, arith, lit<, lit≤, true≢false, ne_eqb, ◌⊎◌, inl, inr, mul_assoc}
+use Rattle.std.specs.Prelude.{unsigned_abs, nat_lt, option_map}
+use Rattle.std.proofs.lemmas.Bool.{cases_lt}
 use Rattle.std.proofs.lemmas.Bool.Decides.{nat_tests, Decides-eqb}
 use Rattle.std.proofs.lemmas.Nat.{mod-mul-add, div-add-mod'}
 use Rattle.std.proofs.Math.Nat.{mul_comm, mod-lt, one-le-pow}
-use Rattle.json_read.specs.Numeral.{signed, numeral_of, number_of}
-use Rattle.json_read.specs.Decimal.{checked, checked_where, decimal_at, decimal_of_text, exactly, of_size, units_of}
-use Rattle.json_read.specs.Scaling.{IsRead, IsScaled}
+use Rattle.json_read.specs.Numeral.{Numeral, signed, numeral_of}
+use Rattle.json_read.specs.Decimal.{checked, checked_where, decimal_of_text}
+use Rattle.json_read.specs.Plain.{IsSize}
+use Rattle.json_read.specs.Scaling.{IsScaled}
+use Rattle.json_read.specs.Units.{counted, exactly, units_at, units_cap, units_of_text, whole_of}
 use Rattle.json_read.specs.declared.numerals.Scaled.{Scaled}
 use Rattle.json_read.proofs.Scaling.{div-small, pow_ten}
-use Rattle.json_read.proofs.Shifts.{shifted}
 
 below : (n : ℕ) → n < 10 ^ 36 → nat_lt n (10 ^ 36) ≡ true
 below n h = grind (arith, nat_tests)
@@ -47,21 +49,13 @@ quotient_of true zero d h =
     ap (λ (z : ℕ). cond (0 % d == 0) (Some (pos z)) None) none ∙ ap (λ (z : ℕ). cond (0 % d == 0) (Some (neg_ℤ (pos z))) None) (sym none)
 quotient_of true (suc n) d h = refl
 
-multiple : (minus : Bool) (n d : ℕ) → 0 < d → n % d ≡ 0 → checked_where (exactly (signed minus n) d) ≡ checked (signed minus (n / d))
-multiple minus n d h e =
-    ap (λ (o : Option ℤ). checked_where o) (quotient_of minus n d h)
-    ∙ ap (λ (t : Bool). checked_where (cond t (Some (signed minus (n / d))) None)) ((Decides-eqb (n % d) 0).1 e)
+multiple : (minus : Bool) (n d : ℕ) → 0 < d → n % d ≡ 0 → exactly (signed minus n) d ≡ Some (signed minus (n / d))
+multiple minus n d h e = quotient_of minus n d h ∙ ap (λ (t : Bool). cond t (Some (signed minus (n / d))) None) ((Decides-eqb (n % d) 0).1 e)
 
-no_multiple : (minus : Bool) (n d : ℕ) → 0 < d → n % d ≢ 0 → checked_where (exactly (signed minus n) d) ≡ None
-no_multiple minus n d h e =
-    ap (λ (o : Option ℤ). checked_where o) (quotient_of minus n d h)
-    ∙ ap (λ (t : Bool). checked_where (cond t (Some (signed minus (n / d))) None)) (differs (n % d == 0) refl)
-  where
-    differs : (t : Bool) → (n % d == 0) ≡ t → (n % d == 0) ≡ false
-    differs false x = x
-    differs true x = absurd (e ((Decides-eqb (n % d) 0).0 x))
+no_multiple : (minus : Bool) (n d : ℕ) → 0 < d → n % d ≢ 0 → exactly (signed minus n) d ≡ None
+no_multiple minus n d h e = quotient_of minus n d h ∙ ap (λ (t : Bool). cond t (Some (signed minus (n / d))) None) (ne_eqb (n % d) 0 e)
 
--- ## What lies behind the units
+-- ## What lies after the units
 
 -- nothing, where the tenths are none and no more follows
 rest_none : (n k : ℕ) → n % 10 ^ suc k / 10 ^ k ≡ 0 → n % 10 ^ k ≡ 0 → n % 10 ^ suc k ≡ 0
@@ -96,58 +90,76 @@ more_none n k e =
     let tens : n / D * D ≡ (n / D * 10) * P = ap (λ (x : ℕ). n / D * x) (pow_ten k ∙ mul_comm P 10) ∙ sym (mul_assoc (n / D) 10 P) in
     ap (λ (x : ℕ). x % P) (whole ∙ ap (λ (x : ℕ). x + 0) tens) ∙ mod-mul-add (n / D * 10) P 0 positive
 
--- ## The decimal
-
-pub units_some : (minus : Bool) (n : ℕ) (s : ℤ) (r : Scaled) → IsScaled n s r → r.tenths ≡ 0 → r.more ≡ false → r.units < 10 ^ 36 → units_of (signed minus n) s ≡ Some (of_size r.units minus)
-units_some minus n (pos e) r h t m l =
-    let units : n * 10 ^ e ≡ r.units = omega (arith, h.0, l) in
-    ap (λ (z : ℤ). checked z) (times_power minus n (10 ^ e) ∙ ap (λ (x : ℕ). signed minus x) units) ∙ checked_some minus r.units l ∙ same_sign minus r.units
-  where
-    same_sign : (minus : Bool) (n : ℕ) → Some (signed minus n) ≡ Some (of_size n minus)
-    same_sign true n = refl
-    same_sign false n = refl
-units_some minus n (negsuc k) r h t m l =
+-- where nothing does, the numeral is a whole number of units
+whole_some : (minus : Bool) (n : ℕ) (s : ℤ) (r : Scaled) → IsScaled n s r → r.tenths ≡ 0 → r.more ≡ false → (q : ℕ) × (r.units ≡ min q units_cap) × (whole_of (signed minus n) s ≡ Some (signed minus q))
+whole_some minus n (pos e) r h t m = (n * 10 ^ e, h.0, ap Some (times_power minus n (10 ^ e)))
+whole_some minus n (negsuc k) r h t m =
     let positive : 0 < 10 ^ suc k = one-le-pow (suc k) 10 (lit< tt) in
     let rest : n % 10 ^ k ≡ 0 = not_more (n % 10 ^ k) (sym h.more ∙ m) in
-    let none : n % 10 ^ suc k ≡ 0 = rest_none n k (sym h.tenths ∙ t) rest in
-    let units : n / 10 ^ suc k ≡ r.units = omega (arith, h.units, l) in
-    multiple minus n (10 ^ suc k) positive none ∙ ap (λ (x : ℕ). checked (signed minus x)) units ∙ checked_some minus r.units l ∙ same_sign minus r.units
+    (n / 10 ^ suc k, h.units, multiple minus n (10 ^ suc k) positive (rest_none n k (sym h.tenths ∙ t) rest))
   where
-    same_sign : (minus : Bool) (n : ℕ) → Some (signed minus n) ≡ Some (of_size n minus)
-    same_sign true n = refl
-    same_sign false n = refl
-
     not_more : (x : ℕ) → not (x == 0) ≡ false → x ≡ 0
     not_more x e = grind (arith, nat_tests)
 
-pub units_none : (minus : Bool) (n : ℕ) (s : ℤ) (r : Scaled) → IsScaled n s r → (r.tenths ≢ 0) ⊎ ((r.more ≡ true) ⊎ (10 ^ 36 ≤ r.units)) → units_of (signed minus n) s ≡ None
-units_none minus n (pos e) r h (inl t) = absurd (t h.1)
-units_none minus n (pos e) r h (inr (inl m)) = absurd (true≢false (sym m ∙ h.2))
-units_none minus n (pos e) r h (inr (inr l)) =
-    let large : 10 ^ 36 ≤ n * 10 ^ e = omega (arith, h.0, l) in
-    ap (λ (z : ℤ). checked z) (times_power minus n (10 ^ e)) ∙ checked_none minus (n * 10 ^ e) large
-units_none minus n (negsuc k) r h o = go (n % 10 ^ suc k == 0) refl
+-- and otherwise it is none
+whole_none : (minus : Bool) (n : ℕ) (s : ℤ) (r : Scaled) → IsScaled n s r → (r.tenths ≢ 0) ⊎ (r.more ≡ true) → whole_of (signed minus n) s ≡ None
+whole_none minus n (pos e) r h (inl t) = absurd (t h.1)
+whole_none minus n (pos e) r h (inr m) = absurd (true≢false (sym m ∙ h.2))
+whole_none minus n (negsuc k) r h o = no_multiple minus n (10 ^ suc k) (one-le-pow (suc k) 10 (lit< tt)) (rest o)
   where
-    positive : 0 < 10 ^ suc k
-    positive = one-le-pow (suc k) 10 (lit< tt)
+    rest : (r.tenths ≢ 0) ⊎ (r.more ≡ true) → n % 10 ^ suc k ≡ 0 → ⊥
+    rest (inl t) none = t (h.tenths ∙ tenths_none n k none)
+    rest (inr m) none = true≢false (sym m ∙ h.more ∙ ap (λ (t : Bool). not t) ((Decides-eqb (n % 10 ^ k) 0).1 (more_none n k none)))
 
-    go : (t : Bool) → (n % 10 ^ suc k == 0) ≡ t → units_of (signed minus n) (negsuc k) ≡ None
-    go false e = no_multiple minus n (10 ^ suc k) positive (λ z. true≢false (sym ((Decides-eqb (n % 10 ^ suc k) 0).1 z) ∙ e))
-    go true e =
-        let none : n % 10 ^ suc k ≡ 0 = (Decides-eqb (n % 10 ^ suc k) 0).0 e in
-        multiple minus n (10 ^ suc k) positive none ∙ checked_none minus (n / 10 ^ suc k) (large o none)
-      where
-        large : (r.tenths ≢ 0) ⊎ ((r.more ≡ true) ⊎ (10 ^ 36 ≤ r.units)) → n % 10 ^ suc k ≡ 0 → 10 ^ 36 ≤ n / 10 ^ suc k
-        large (inl t) none = absurd (t (h.tenths ∙ tenths_none n k none))
-        large (inr (inl m)) none = absurd (true≢false (sym m ∙ h.more ∙ ap (λ (t : Bool). not t) ((Decides-eqb (n % 10 ^ k) 0).1 (more_none n k none))))
-        large (inr (inr l)) none = omega (arith, h.units, l)
+-- ## The units of a text
+
+counted_sign : (minus : Bool) (n : ℕ) → counted (signed minus n) ≡ signed minus (min n units_cap)
+counted_sign false n = refl
+counted_sign true zero = refl
+counted_sign true (suc n) = refl
+
+size_units : (places : ℕ) (bytes text : List ℕ) (minus : Bool) (r : Scaled) → bytes ≡ text → (h : IsSize places (numeral_of bytes) minus r) → units_of_text places text ≡ whole_of (signed minus h.number) (h.exponent +ℤ pos places)
+unfolding units_of_text
+size_units places bytes text minus r e h = ap (λ (t : List ℕ). units_at places (numeral_of t)) (sym e) ∙ ap (units_at places) h.numeral_is
+
+pub units_some : (places : ℕ) (bytes text : List ℕ) (minus : Bool) (r : Scaled) → bytes ≡ text → IsSize places (numeral_of bytes) minus r → r.tenths ≡ 0 → r.more ≡ false
+    → Some (signed minus r.units) ≡ option_map counted (units_of_text places text)
+units_some places bytes text minus r e h t m =
+    let w = whole_some minus h.number (h.exponent +ℤ pos places) r h.scaled t m in
+    ap (λ (n : ℕ). Some (signed minus n)) w.1 ∙ sym (ap (option_map counted) (size_units places bytes text minus r e h ∙ w.2) ∙ ap Some (counted_sign minus w.0))
+
+pub units_none : (places : ℕ) (bytes text : List ℕ) (minus : Bool) (r : Scaled) → bytes ≡ text → IsSize places (numeral_of bytes) minus r → (r.tenths ≢ 0) ⊎ (r.more ≡ true)
+    → None ≡ option_map counted (units_of_text places text)
+units_none places bytes text minus r e h o = sym (ap (option_map counted) (size_units places bytes text minus r e h ∙ whole_none minus h.number (h.exponent +ℤ pos places) r h.scaled o))
+
+pub no_units : (places : ℕ) (bytes text : List ℕ) → bytes ≡ text → numeral_of bytes ≡ None → None ≡ option_map counted (units_of_text places text)
+unfolding units_of_text
+no_units places bytes text e h = sym (ap (option_map counted) (ap (λ (t : List ℕ). units_at places (numeral_of t)) (sym e) ∙ ap (units_at places) h))
 
 -- ## The decimal of a text
 
-pub text_decimal : (bytes text whole fraction : List ℕ) (minus : Bool) (p : ℤ) → bytes ≡ text → (h : IsRead (numeral_of bytes) minus whole fraction p) → decimal_of_text text ≡ units_of (signed minus (number_of (whole ++ fraction))) (shifted h.exponent (length fraction) 18)
-unfolding decimal_of_text
-text_decimal bytes text whole fraction minus p e h = ap (λ (t : List ℕ). decimal_at (numeral_of t)) (sym e) ∙ ap decimal_at h.numeral_is
+-- the count goes further than decimals do
+checked_count : (minus : Bool) (n : ℕ) → checked (signed minus (min n units_cap)) ≡ checked (signed minus n)
+checked_count minus n = go (cases_lt n (10 ^ 36))
+  where
+    further : 10 ^ 36 ≤ units_cap
+    further = lit≤ tt
+
+    go : (n < 10 ^ 36) ⊎ (10 ^ 36 ≤ n) → checked (signed minus (min n units_cap)) ≡ checked (signed minus n)
+    go (inl l) =
+        let same : min n units_cap ≡ n = omega (arith, l, further) in
+        ap (λ (m : ℕ). checked (signed minus m)) same
+    go (inr l) = checked_none minus (min n units_cap) (omega (arith, l, further)) ∙ sym (checked_none minus n l)
+
+checked_counted : (o : Option ℤ) → checked_where (option_map counted o) ≡ checked_where o
+checked_counted None = refl
+checked_counted (Some (pos n)) = checked_count false n
+checked_counted (Some (negsuc n)) = checked_count true (suc n)
+
+pub counted_decimal : (text : List ℕ) → checked_where (option_map counted (units_of_text 18 text)) ≡ decimal_of_text text
+unfolding units_of_text decimal_of_text
+counted_decimal text = checked_counted (units_at 18 (numeral_of text))
 
 pub text_none : (bytes text : List ℕ) → bytes ≡ text → numeral_of bytes ≡ None → decimal_of_text text ≡ None
 unfolding decimal_of_text
-text_none bytes text e h = ap (λ (t : List ℕ). decimal_at (numeral_of t)) (sym e) ∙ ap decimal_at h
+text_none bytes text e h = ap (λ (t : List ℕ). checked_where (units_at 18 (numeral_of t))) (sym e) ∙ ap (λ (o : Option Numeral). checked_where (units_at 18 o)) h

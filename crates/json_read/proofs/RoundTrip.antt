@@ -8,7 +8,8 @@ use Rattle.std.proofs.lemmas.Nat.{div-add-mod', pow-add}
 use Rattle.std.proofs.Math.Nat.{mod-lt, mul_assoc}
 use Rattle.json_read.specs.Bytes.{is_digit}
 use Rattle.json_read.specs.Numeral.{digits_at, after_digits, number_of, is_some_digits, is_whole_part, fraction_part, numeral_from, signed, unsigned_numeral, with_exponent, with_fraction, numeral_of, Numeral}
-use Rattle.json_read.specs.Decimal.{checked, decimal_at, decimal_of_text, decimal_text, fraction_text, is_negative, last_digits, sign_text, trimmed_digits, units_of}
+use Rattle.json_read.specs.Decimal.{checked, checked_where, decimal_of_text, decimal_text, fraction_text, is_negative, last_digits, sign_text, trimmed_digits}
+use Rattle.json_read.specs.Units.{units_at, whole_of}
 use Rattle.json_read.specs.Reading.{NextFails}
 use Rattle.json_read.specs.Scaling.{AreDigits}
 use Rattle.json_read.proofs.Digits.{decimal_text-parts, fraction_text-zero, fraction_text-other, trimmed_digits-zero, trimmed_digits-other}
@@ -129,7 +130,7 @@ trimmed_is (suc k) n l h = go (n % 10 == 0) refl (trimmed_is k (n / 10))
 
 -- ## The numeral
 
--- the text behind a sign, where the fraction has the digits f
+-- the text after a sign, where the fraction has the digits f
 unsigned_read : (m : Bool) (w f t : List ℕ) → AreDigits w → is_whole_part w ≡ true → NextFails is_digit t → fraction_part t ≡ Some (f, []) → unsigned_numeral m (w ++ t) ≡ Some (numeral_from m w f (pos 0))
 unsigned_read m w f t d h n e =
     ap (λ (l : List ℕ). cond (is_whole_part l) (with_fraction m l (after_digits (w ++ t))) None) (front_all w t d n)
@@ -206,11 +207,11 @@ signed_back (negsuc n) = refl
 exponent_back : (j : ℕ) → j ≤ 18 → (pos 0 -ℤ pos j) +ℤ pos 18 ≡ pos (18 - j)
 exponent_back j l = omega (arith, ints)
 
-numeral_read : (text : List ℕ) (v : Numeral) → numeral_of text ≡ Some v → decimal_of_text text ≡ units_of v.mantissa (v.exponent +ℤ pos 18)
+numeral_read : (text : List ℕ) (v : Numeral) → numeral_of text ≡ Some v → decimal_of_text text ≡ checked_where (whole_of v.mantissa (v.exponent +ℤ pos 18))
 unfolding decimal_of_text
-numeral_read text v e = ap decimal_at e
+numeral_read text v e = ap (λ (o : Option Numeral). checked_where (units_at 18 o)) e
 
--- the numeral that the printed text of a decimal is: so many digits, of which some stand behind the point
+-- the numeral that the printed text of a decimal is: so many digits, of which some stand after the point
 pub record Written (units : ℤ) : Type 0 where
   pub size : ℕ
   pub places : ℕ
@@ -246,6 +247,6 @@ reads_back units l =
     let m : Bool = is_negative units in
     let N : ℕ = unsigned_abs units in
     numeral_read (decimal_text units) (record { mantissa = signed m w.size; exponent = pos 0 -ℤ pos w.places }) w.is
-    ∙ ap (λ (e : ℤ). units_of (signed m w.size) e) (exponent_back w.places w.short)
+    ∙ ap (λ (e : ℤ). checked_where (whole_of (signed m w.size) e)) (exponent_back w.places w.short)
     ∙ ap (λ (z : ℤ). checked z) (times_power m w.size (10 ^ (18 - w.places)) ∙ ap (λ (x : ℕ). signed m x) w.value)
     ∙ checked_some m N l ∙ ap (λ (z : ℤ). Some z) (signed_back units)

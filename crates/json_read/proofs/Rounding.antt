@@ -1,5 +1,5 @@
 -- Rounding a numeral that was scaled to a whole number.
-use Rattle.std.proofs.Common.{ℕ, zero, suc, ◌≡◌, ◌≢◌, ◌+◌, ◌-◌, ◌*◌, ◌/◌, ◌%◌, ◌^◌, ◌<◌, ◌≤◌, List, ◌++◌, length, Bool, true, false, not, cond, ◌&&◌, ◌||◌, ◌==◌, min, ℤ, pos, negsuc, neg_ℤ, ◌+ℤ◌, ◌*ℤ◌, Some, None, refl, ap, ◌∙◌, sym, arith, lit<, true≢false, ◌⊎◌, inl, inr, mul_assoc, add-zero, add-one}
+use Rattle.std.proofs.Common.{ℕ, zero, suc, ◌≡◌, ◌≢◌, ◌+◌, ◌-◌, ◌*◌, ◌/◌, ◌%◌, ◌^◌, ◌<◌, ◌≤◌, List, Bool, true, false, not, cond, ◌&&◌, ◌||◌, ◌==◌, min, ℤ, pos, negsuc, neg_ℤ, ◌+ℤ◌, ◌*ℤ◌, Some, None, refl, ap, ◌∙◌, sym, arith, lit<, true≢false, ◌⊎◌, inl, inr, mul_assoc, add-zero, add-one}
 use Rattle.std.specs.Prelude.{nat_lt, nat_le}
 use Rattle.std.proofs.lemmas.Bool.{cases_lt}
 use Rattle.std.proofs.lemmas.Bool.Decides.{nat_tests, Decides-eqb}
@@ -7,12 +7,12 @@ use Rattle.std.proofs.lemmas.Int.{ints}
 use Rattle.std.proofs.lemmas.Nat.{div-mul-add, mod-mul-add, div-add-mod'}
 use Rattle.std.proofs.Math.Nat.{mul_comm, mod-lt, one-le-pow, mul-le-mul_right}
 use Rattle.grid_base.specs.Grid.{limit}
-use Rattle.json_read.specs.Numeral.{signed, numeral_of, number_of, rounded, floor_div, checked_grid, grid_at, grid_of_text}
+use Rattle.json_read.specs.Numeral.{signed, numeral_of, rounded, floor_div, checked_grid, grid_at, grid_of_text}
 use Rattle.json_read.specs.Plain.{IsSize}
-use Rattle.json_read.specs.Scaling.{IsScaled, goes_up, one_if, units_cap}
+use Rattle.json_read.specs.Scaling.{IsScaled, goes_up, one_if}
+use Rattle.json_read.specs.Units.{units_cap}
 use Rattle.json_read.specs.declared.numerals.Scaled.{Scaled}
 use Rattle.json_read.proofs.Scaling.{div-small, mod-small, pow_ten}
-use Rattle.json_read.proofs.Shifts.{shifted}
 use Rattle.json_read.proofs.Quotients.{signed_size, times_power}
 
 -- ## Halves, by whole numbers: R of D, with D = 10 * P and R = t * P + T

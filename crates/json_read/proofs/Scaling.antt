@@ -8,7 +8,8 @@ use Rattle.std.proofs.Math.Nat.{mul-le-mul_right, mul-le-mul_left, pow-le-pow_ri
 use Rattle.std.specs.List.{list_all}
 use Rattle.json_read.specs.Bytes.{is_digit}
 use Rattle.json_read.specs.Numeral.{number_onto, number_of}
-use Rattle.json_read.specs.Scaling.{AreDigits, IsCut, units_cap}
+use Rattle.json_read.specs.Scaling.{AreDigits, IsCut}
+use Rattle.json_read.specs.Units.{units_cap}
 use Rattle.json_read.specs.declared.numerals.Scaled.{Scaled}
 
 digit_small : (b : ℕ) → is_digit b ≡ true → b - 48 < 10
@@ -131,7 +132,7 @@ cut_rest n k d r h l =
 pub cut_more : (n k d r : ℕ) → r < 10 ^ k → ((n * 10 + d) * 10 ^ k + r) % 10 ^ k ≡ r
 cut_more n k d r l = mod-mul-add (n * 10 + d) (10 ^ k) r l
 
--- the units, the digit behind them and more, of digits cut before their first
+-- the units, the digit after them and more, of digits cut before their first
 pub cut_is : (n k : ℕ) (units d : ℕ) (rest : List ℕ) (more : Bool) → units ≡ min n units_cap → length rest ≡ k → IsTrue (is_digit d) → AreDigits rest → more ≡ not (number_of rest == 0)
     → IsCut (number_onto n (d ∷ rest)) k (record { units = units; tenths = d - 48; more = more })
 cut_is n k units d rest more u l h r m =
@@ -198,31 +199,31 @@ raised_step n c p x y a b =
     let capped : min (min m c * 10) c ≡ min (m * 10) c = omega arith in
     b ∙ ap (λ (z : ℕ). min (z * 10) c) a ∙ capped ∙ ap (λ (z : ℕ). min z c) (sym (ap (λ (z : ℕ). n * z) wide ∙ times))
 
--- past thirty-six zeros a number that is not 0 is past the cap
-pub saturated : (n p q : ℕ) → 36 ≤ p → 36 ≤ q → min (n * 10 ^ p) units_cap ≡ min (n * 10 ^ q) units_cap
+-- past thirty-seven zeros a number that is not 0 is past the cap
+pub saturated : (n p q : ℕ) → 37 ≤ p → 37 ≤ q → min (n * 10 ^ p) units_cap ≡ min (n * 10 ^ q) units_cap
 saturated zero p q h k =
     let a : 0 * 10 ^ p ≡ 0 = zero-mul (10 ^ p) in
     let b : 0 * 10 ^ q ≡ 0 = zero-mul (10 ^ q) in
     ap (λ (z : ℕ). min z units_cap) (a ∙ sym b)
 saturated (suc n) p q h k =
-    let a : 10 ^ 36 ≤ 10 ^ p = pow-le-pow_right (lit< tt) h in
-    let b : 10 ^ 36 ≤ 10 ^ q = pow-le-pow_right (lit< tt) k in
+    let a : 10 ^ 37 ≤ 10 ^ p = pow-le-pow_right (lit< tt) h in
+    let b : 10 ^ 37 ≤ 10 ^ q = pow-le-pow_right (lit< tt) k in
     let c : 1 * 10 ^ p ≤ suc n * 10 ^ p = mul-le-mul_right (10 ^ p) (omega arith) in
     let d : 1 * 10 ^ q ≤ suc n * 10 ^ q = mul-le-mul_right (10 ^ q) (omega arith) in
     let x : ℕ = suc n * 10 ^ p in
     let y : ℕ = suc n * 10 ^ q in
     omega (arith, a, b, c, d)
 
-pub raised_end : (n p i x : ℕ) → i ≡ min p 36 → x ≡ min (n * 10 ^ i) units_cap → x ≡ min (n * 10 ^ p) units_cap
-raised_end n p i x e h = go (cases_lt p 36)
+pub raised_end : (n p i x : ℕ) → i ≡ min p 37 → x ≡ min (n * 10 ^ i) units_cap → x ≡ min (n * 10 ^ p) units_cap
+raised_end n p i x e h = go (cases_lt p 37)
   where
-    go : (p < 36) ⊎ (36 ≤ p) → x ≡ min (n * 10 ^ p) units_cap
+    go : (p < 37) ⊎ (37 ≤ p) → x ≡ min (n * 10 ^ p) units_cap
     go (inl l) =
         let same : i ≡ p = omega arith in
         h ∙ ap (λ (k : ℕ). min (n * 10 ^ k) units_cap) same
     go (inr l) =
-        let last : i ≡ 36 = omega arith in
-        h ∙ ap (λ (k : ℕ). min (n * 10 ^ k) units_cap) last ∙ saturated n 36 p (lit≤ tt) l
+        let last : i ≡ 37 = omega arith in
+        h ∙ ap (λ (k : ℕ). min (n * 10 ^ k) units_cap) last ∙ saturated n 37 p (lit≤ tt) l
 
 -- raising a capped number
 pub raised_capped : (n p x y : ℕ) → x ≡ min n units_cap → y ≡ min (x * 10 ^ p) units_cap → y ≡ min (n * 10 ^ p) units_cap

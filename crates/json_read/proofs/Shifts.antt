@@ -3,7 +3,8 @@ use Rattle.std.proofs.Common.{ℕ, suc, ◌≡◌, ◌+◌, ◌-◌, ◌*◌, �
 use Rattle.std.proofs.lemmas.Bool.{cases_lt}
 use Rattle.std.proofs.lemmas.Int.{ints}
 use Rattle.std.proofs.Math.Nat.{pow-le-pow_right}
-use Rattle.json_read.specs.Scaling.{IsCut, IsScaled, capped_power, power_cap, units_cap}
+use Rattle.json_read.specs.Scaling.{IsCut, IsScaled, capped_power, power_cap}
+use Rattle.json_read.specs.Units.{units_cap}
 use Rattle.json_read.specs.declared.numerals.Scaled.{Scaled}
 use Rattle.json_read.proofs.Scaling.{cut_all, div-small, mod-small, pow_ten, raised_capped, saturated}
 
@@ -16,7 +17,7 @@ with_zeros units = record { units = units; tenths = 0; more = false }
 up_at : (m n units x : ℕ) (z : ℤ) → z ≡ pos n → x ≡ min m units_cap → units ≡ min (x * 10 ^ n) units_cap → IsScaled m z (with_zeros units)
 up_at m n units x z e a b = subst (λ (y : ℤ). IsScaled m y (with_zeros units)) (sym e) (raised_capped m n x units a b, refl, refl)
 
-up_far : (m n k units x : ℕ) (z : ℤ) → 36 ≤ n → 36 ≤ k → z ≡ pos k → x ≡ min m units_cap → units ≡ min (x * 10 ^ n) units_cap → IsScaled m z (with_zeros units)
+up_far : (m n k units x : ℕ) (z : ℤ) → 37 ≤ n → 37 ≤ k → z ≡ pos k → x ≡ min m units_cap → units ≡ min (x * 10 ^ n) units_cap → IsScaled m z (with_zeros units)
 up_far m n k units x z l h e a b = subst (λ (y : ℤ). IsScaled m y (with_zeros units)) (sym e) (raised_capped m n x units a b ∙ saturated m n k l h, refl, refl)
 
 pub scaled_up : (m : ℕ) (e : ℤ) (f places n units x : ℕ) → f < 2 ^ 64 → places < 256 → shifted (capped_power e) f places ≡ pos n → x ≡ min m units_cap → units ≡ min (x * 10 ^ n) units_cap
@@ -30,9 +31,9 @@ scaled_up m (pos j) f places n units x lf lp s a b = go (cases_lt j power_cap)
     go (inr l) =
         let cap : min j power_cap ≡ power_cap = omega arith in
         let t : shifted (pos power_cap) f places ≡ pos n = ap (λ (i : ℕ). shifted (pos i) f places) (sym cap) ∙ s in
-        let far : 36 ≤ n = omega (arith, ints, t, lf) in
+        let far : 37 ≤ n = omega (arith, ints, t, lf) in
         let k : ℕ = (j + places) - f in
-        let further : 36 ≤ k = omega (arith, l, lf) in
+        let further : 37 ≤ k = omega (arith, l, lf) in
         let at : shifted (pos j) f places ≡ pos k = omega (arith, ints, l, lf) in
         up_far m n k units x (shifted (pos j) f places) far further at a b
 scaled_up m (negsuc j) f places n units x lf lp s a b = go (cases_lt (suc j) power_cap)

@@ -1,6 +1,7 @@
 -- Decimals: whole multiples of 10^-18 below 10^18. A decimal is kept as that whole number, its units.
-use Rattle.std.specs.Prelude.{ℕ, zero, suc, ◌+◌, ◌-◌, ◌/◌, ◌%◌, ◌^◌, Bool, true, false, ◌==◌, nat_lt, ℤ, pos, negsuc, ◌+ℤ◌, ◌*ℤ◌, neg_ℤ, unsigned_abs, List, [], ◌∷◌, ◌++◌, decimal, Option, Some, None, if◌then◌else◌}
-use Rattle.json_read.specs.Numeral.{Numeral, numeral_of}
+use Rattle.std.specs.Prelude.{ℕ, zero, suc, ◌+◌, ◌-◌, ◌/◌, ◌%◌, ◌^◌, Bool, true, false, ◌==◌, nat_lt, ℤ, pos, negsuc, ◌*ℤ◌, neg_ℤ, unsigned_abs, List, [], ◌∷◌, ◌++◌, decimal, Option, Some, None, if◌then◌else◌}
+use Rattle.json_read.specs.Numeral.{numeral_of}
+use Rattle.json_read.specs.Units.{exactly, units_at}
 
 abbrev pub is_decimal : ℤ → Bool
 is_decimal units = nat_lt (unsigned_abs units) (10 ^ 36)
@@ -12,31 +13,13 @@ abbrev pub checked_where : Option ℤ → Option ℤ
 checked_where None = None
 checked_where (Some z) = checked z
 
--- an integer divided by d, towards zero
-abbrev pub parted : ℤ → ℕ → ℤ
-parted (pos n) d = pos (n / d)
-parted (negsuc n) d = neg_ℤ (pos (suc n / d))
-
--- an integer divided by d, where it is a multiple of it
-abbrev pub exactly : ℤ → ℕ → Option ℤ
-exactly z d = if unsigned_abs z % d == 0 then Some (parted z d) else None
-
 -- of a product of units: a multiple of 10^18, divided by it
 abbrev pub checked_product : ℤ → Option ℤ
 checked_product z = checked_where (exactly z (10 ^ 18))
 
--- the units of m * 10 ^ e, where it is a decimal and e counts from 10^-18
-abbrev pub units_of : ℤ → ℤ → Option ℤ
-units_of m (pos e) = checked (m *ℤ pos (10 ^ e))
-units_of m (negsuc e) = checked_where (exactly m (10 ^ suc e))
-
-abbrev pub decimal_at : Option Numeral → Option ℤ
-decimal_at None = None
-decimal_at (Some v) = units_of v.mantissa (v.exponent +ℤ pos 18)
-
 -- the decimal that a text denotes, where it is a numeral with such a value
 unfoldable pub decimal_of_text : List ℕ → Option ℤ
-decimal_of_text text = decimal_at (numeral_of text)
+decimal_of_text text = checked_where (units_at 18 (numeral_of text))
 
 -- the decimal g / 10 ^ places, for places up to 18
 abbrev pub of_grid : ℤ → ℕ → ℤ

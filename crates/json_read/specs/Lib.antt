@@ -12,6 +12,7 @@ pub mod Putting
 pub mod Faults
 pub mod Laws
 pub mod Numeral
+pub mod Units
 pub mod Decimal
 pub mod Text
 pub mod Scaling

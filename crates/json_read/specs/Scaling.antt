@@ -2,6 +2,7 @@
 use Rattle.std.specs.Prelude.{ℕ, suc, ◌≡◌, ◌*◌, ◌/◌, ◌%◌, ◌^◌, Bool, true, false, not, ◌&&◌, ◌||◌, ◌==◌, nat_lt, min, ℤ, pos, negsuc, neg_ℤ, List, [], ◌∷◌, Option, Some, if◌then◌else◌}
 use Rattle.json_read.specs.Bytes.{is_digit}
 use Rattle.json_read.specs.Numeral.{Numeral, numeral_from}
+use Rattle.json_read.specs.Units.{units_cap}
 use Rattle.json_read.specs.declared.numerals.Scaled.{Scaled}
 use Rattle.json_read.specs.declared.numerals.Shift.{Shift}
 use Rattle.json_read.specs.declared.numerals.Shift.TheVariants.{Up, Down}
@@ -22,10 +23,7 @@ capped_power (negsuc n) = neg_ℤ (pos (min (suc n) power_cap))
 abbrev pub IsPower : ℤ → Type 0
 IsPower p = (e : ℤ) × (p ≡ capped_power e)
 
-abbrev pub units_cap : ℕ
-units_cap = 10 ^ 36
-
--- n / 10^(k+1): its whole part, its first digit behind that, and whether more follows
+-- n / 10^(k+1): its whole part, its first digit after that, and whether more follows
 pub record IsCut (n k : ℕ) (r : Scaled) : Type 0 where
   pub units : r.units ≡ min (n / 10 ^ suc k) units_cap
   pub tenths : r.tenths ≡ n % 10 ^ suc k / 10 ^ k
@@ -48,7 +46,7 @@ abbrev pub IsShift : ℤ → Shift → Type 0
 IsShift z (Up n) = z ≡ pos n
 IsShift z (Down n) = (k : ℕ) × (n ≡ suc k) × (z ≡ negsuc k)
 
--- what lies behind the units rounds them up, where halves of a number go up
+-- what lies after the units rounds them up, where halves of a number go up
 abbrev pub goes_up : Bool → Scaled → Bool
 goes_up minus r = nat_lt 5 r.tenths || ((r.tenths == 5) && (r.more || not minus))
 

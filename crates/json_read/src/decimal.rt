@@ -3,7 +3,7 @@ ghost use Rattle.std.specs.Ordering.{int_cmp};
 ghost use Rattle.json_read.specs.Decimal.{checked, checked_product, decimal_of_text, decimal_text, fraction_text, is_negative, last_digits, of_grid, of_size, sign_text, trimmed_digits};
 ghost use Rattle.json_read.specs.Text.{Begins};
 
-use crate::numerals::Numeral;
+use crate::units::whole_units;
 use io_core::Bytes;
 use itoa::Buffer;
 use std::alloc::AllocError;
@@ -65,12 +65,7 @@ impl Decimal {
     pub fn parse(text: &str) -> Option<Decimal>
         ensures exact { result ≡ decimal_of_text text.now }
     {
-        let numeral = Numeral::read(text.as_bytes())?;
-        let scaled = numeral.scaled(DECIMAL_PLACES);
-        if scaled.tenths != 0 || scaled.more || scaled.units >= UNITS_END {
-            return None;
-        }
-        Some(Decimal::of_size(scaled.units, numeral.minus))
+        Decimal::of_units(whole_units(text, DECIMAL_PLACES)?)
     }
 
     /// `g / 10^places`.

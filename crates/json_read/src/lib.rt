@@ -4,7 +4,8 @@
 //! length of the longest prefix that begins some text. Out: `print_into` appends the compact text of a value.
 //!
 //! A numeral keeps its spelling in a `Json`. It is read in two ways, both exact and without forming the whole
-//! number: `Decimal::parse` for the cells of tables, `numeral_to_grid` for coordinates.
+//! number: `numeral_to_grid` rounds it, for coordinates; `whole_units` counts the units that it is a whole number of,
+//! for transforms and indices, and for `Decimal::parse`, which reads the cells of tables.
 //!
 //! `Value` is what a cell of a table holds. `Fields` are the named values of one feature, and
 //! `Table::from_fields` makes a table of many: a column for each name, in the order of first appearance.
@@ -30,6 +31,7 @@ mod plain_numeral;
 mod printing;
 mod reader;
 mod table;
+mod units;
 mod value;
 
 pub use decimal::Decimal;
@@ -39,4 +41,5 @@ pub use grid_numeral::numeral_to_grid;
 pub use json::{Json, JsonFields, JsonList};
 pub use numerals::is_numeral;
 pub use table::{Row, RowList, Table};
+pub use units::whole_units;
 pub use value::Value;

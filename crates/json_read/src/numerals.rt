@@ -2,10 +2,11 @@ ghost use Rattle.std.specs.Prelude.{◌≡◌, ◌++◌, ◌-◌, [], ◌∷◌,
 ghost use Rattle.std.specs.List.{list_all};
 ghost use Rattle.json_read.specs.Bytes.{is_digit as is_a_digit};
 ghost use Rattle.json_read.specs.Numeral.{digits_at, number_onto, number_of, is_whole_part, fraction_part, exponent_part, exponent_digits, numeral_of, signed, unsigned_numeral};
-ghost use Rattle.json_read.specs.Scaling.{AreDigits, IsRead, IsScaled, IsCut, IsPower, IsShift, capped_power, power_cap, units_cap};
+ghost use Rattle.json_read.specs.Scaling.{AreDigits, IsRead, IsScaled, IsCut, IsPower, IsShift, capped_power, power_cap};
+ghost use Rattle.json_read.specs.Units.{units_cap};
 
-/// Numbers are counted no further than this: 10^36.
-const UNITS_CAP: u128 = 1_000_000_000_000_000_000_000_000_000_000_000_000;
+/// Numbers are counted no further than this: 10^37.
+const UNITS_CAP: u128 = 10_000_000_000_000_000_000_000_000_000_000_000_000;
 /// Exponents are counted no further than this, either way: far more than a text has digits.
 const POWER_CAP: u128 = 1_000_000_000_000_000_000_000_000_000_000;
 
@@ -18,7 +19,7 @@ pub(crate) struct Numeral<'a> {
     power: i128,
 }
 
-/// The size of a numeral in units of some power of ten: `units`, counted no further than 10^36, then
+/// The size of a numeral in units of some power of ten: `units`, counted no further than 10^37, then
 /// `tenths`, and whether something nonzero follows those.
 #[derive(Clone, Copy)]
 pub(crate) struct Scaled {
@@ -93,7 +94,7 @@ impl<'a> Numeral<'a> {
         count_onto(count_onto(0, self.whole), self.fraction)
     }
 
-    // Its size where the last `dropped` of its digits stand behind the units.
+    // Its size where the last `dropped` of its digits stand after the units.
     fn cut(&self, dropped: u128) -> Scaled
         requires whole { AreDigits self.now.whole.now }
         requires fraction { AreDigits self.now.fraction.now }
@@ -124,7 +125,7 @@ impl<'a> Numeral<'a> {
 enum Shift {
     /// So many zeros follow the digits.
     Up(u128),
-    /// So many digits stand behind the units.
+    /// So many digits stand after the units.
     Down(u128),
 }
 
@@ -140,7 +141,7 @@ fn shift_of(power: i128, fraction: usize, places: u8) -> Shift
     }
 }
 
-// Units, and the digits behind them in two pieces.
+// Units, and the digits after them in two pieces.
 fn cut_at(units: u128, back: &[u8], back_end: &[u8]) -> Scaled
     requires back { AreDigits back.now }
     requires end { AreDigits back_end.now }
@@ -160,7 +161,7 @@ fn cut_at(units: u128, back: &[u8], back_end: &[u8]) -> Scaled
     }
 }
 
-// Units, the digit behind them, and the digits behind that in two pieces.
+// Units, the digit after them, and the digits after that in two pieces.
 fn cut_behind(units: u128, tenths: u8, rest: &[u8], rest_end: &[u8]) -> Scaled
     requires tenths { IsTrue (is_a_digit tenths) }
     requires rest { AreDigits rest.now }
@@ -204,7 +205,7 @@ pub(crate) fn is_whole(digits: &[u8]) -> bool
     }
 }
 
-// A point and digits, or nothing; and what stands behind.
+// A point and digits, or nothing; and what comes after.
 fn read_fraction(text: &[u8]) -> Option<(&[u8], &[u8])>
     ensures { MatchOption result (fraction_part text.now ≡ None) (λ p. fraction_part text.now ≡ Some (p.0.now, p.1.now)) }
 {
@@ -246,8 +247,8 @@ fn signed_power(minus: bool, digits: &[u8]) -> Option<i128>
     Some(with_sign(minus, power_of(digits)))
 }
 
-fn with_sign(minus: bool, size: u128) -> i128
-    requires { size ≤ power_cap }
+pub(crate) fn with_sign(minus: bool, size: u128) -> i128
+    requires { size ≤ units_cap }
     ensures { result ≡ signed minus size }
 {
     let size = size as i128;
@@ -264,7 +265,7 @@ fn power_of(digits: &[u8]) -> u128
     n
 }
 
-// The number of these digits behind those that `n` counts.
+// The number of these digits after those that `n` counts.
 fn count_onto(n: u128, digits: &[u8]) -> u128
     requires { n ≤ units_cap }
     ensures { result ≡ min (number_onto n digits.now) units_cap }
@@ -290,13 +291,13 @@ fn holds_zeros(digits: &[u8]) -> bool
     digits.iter().all(|digit| *digit == b'0')
 }
 
-/// n * 10^power, counted no further than 10^36.
+/// n * 10^power, counted no further than 10^37.
 pub(crate) fn raised(n: u128, power: u128) -> u128
     requires { n ≤ units_cap }
     ensures { result ≡ min (n * 10 ^ power) units_cap }
 {
     let mut n = n;
-    for _ in 0..power.min(36) {
+    for _ in 0..power.min(37) {
         n = (n * 10).min(UNITS_CAP);
     }
     n

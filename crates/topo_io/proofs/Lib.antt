@@ -2,7 +2,6 @@ pub mod Bounds
 pub mod TextLemmas
 pub mod MarkLemmas
 pub mod DifferenceLemmas
-pub mod WholeLemmas
 pub mod PlaceLemmas
 pub mod ReadLemmas
 pub mod ObjectLemmas

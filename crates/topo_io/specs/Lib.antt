@@ -3,7 +3,6 @@ pub mod Reads
 pub mod Transform
 pub mod Arcs
 pub mod Texts
-pub mod Numerals
 pub mod Positions
 pub mod Stitching
 pub mod Shapes

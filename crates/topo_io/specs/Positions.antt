@@ -3,13 +3,13 @@ use Rattle.std.specs.Prelude.{ℕ, ◌^◌, Bool, nat_lt, nat_le, ◌&&◌, ℤ,
 use Rattle.json_read.specs.Json.{JsonValue, number, array, object, item, no_items}
 use Rattle.json_read.specs.Lists.{fields_list, value_named}
 use Rattle.json_read.specs.Numeral.{checked_grid}
+use Rattle.json_read.specs.Units.{units_of_text}
 use Rattle.plane_model.specs.Points.{GridPoint}
 use Rattle.grid_base.specs.Sizes.{most_step}
 use Rattle.geojson_io.specs.Reads.{on_ok}
 use Rattle.geojson_io.specs.Positions.{numbered_point, place}
 use Rattle.geojson_io.specs.declared.fault.ShapeWhy.{ShapeWhy}
 use Rattle.geojson_io.specs.declared.fault.ShapeWhy.TheVariants as geo
-use Rattle.topo_io.specs.Numerals.{units_of_text}
 use Rattle.topo_io.specs.Transform.{AxisUnits, axis_place}
 use Rattle.topo_io.specs.declared.fault.TopoWhy.{TopoWhy}
 use Rattle.topo_io.specs.declared.fault.TopoWhy.TheVariants.{BadPosition, TransformRange, Range, NotTopology}
@@ -75,7 +75,7 @@ abbrev pub position_by : Option Transform → ℕ → JsonValue → Sums → Res
 position_by None places j before = on_ok (plain places j) (with_sums before)
 position_by (Some t) places j before = on_ok (sums_after j before) (at_sums t places)
 
--- the point of a position behind such sums, and the sums up to it
+-- the point of a position after such sums, and the sums up to it
 abbrev pub position_after : Frame → JsonValue → Sums → Result (GridPoint × Sums) TopoWhy
 position_after frame j before = position_by frame.transform frame.places j before
 

@@ -3,12 +3,12 @@ use Rattle.std.specs.Prelude.{ℕ, ◌+◌, ◌-◌, Bool, true, false, nat_lt, 
 use Rattle.lists.specs.Lists.{last_of}
 use Rattle.json_read.specs.Json.{JsonValue, number, array}
 use Rattle.json_read.specs.Lists.{items_list}
+use Rattle.json_read.specs.Units.{units_of_text}
 use Rattle.plane_model.specs.Points.{Path, same_point}
 use Rattle.plane_model.specs.Arcs.{SignedArc, arc_of_index, points_of}
 use Rattle.plane_model.specs.Drawing.{Polygon}
 use Rattle.geojson_io.specs.Reads.{Reads, on_ok, gives, fails, each, ◌>>=◌}
 use Rattle.geojson_io.specs.Positions.{is_closed}
-use Rattle.topo_io.specs.Numerals.{units_of_text}
 use Rattle.topo_io.specs.Positions.{position_after, no_sums}
 use Rattle.topo_io.specs.Reads.{Fault, along, in_place}
 use Rattle.topo_io.specs.declared.fault.TopoWhy.{TopoWhy}
@@ -70,7 +70,7 @@ with_points path points = λ room. on_ok (fresh_points path points) (λ (fresh :
 abbrev pub with_arc : List Path → JsonValue → Path → Reads TopoWhy Path
 with_arc arcs j path = λ room. on_ok (named_arc (length arcs) j) (λ (a : SignedArc). with_points path (points_of arcs a) room)
 
--- a path, and behind it the arcs that the items name
+-- a path, and after it the arcs that the items name
 abbrev pub stitched : List Path → Path → List JsonValue → Reads TopoWhy Path
 stitched arcs path [] = gives path
 stitched arcs path (j ∷ js) = with_arc arcs j path >>= (λ (longer : Path). stitched arcs longer js)

@@ -8,7 +8,6 @@
 mod arc_layer;
 mod fault;
 mod frame;
-mod numerals;
 mod reading;
 mod writing;
 

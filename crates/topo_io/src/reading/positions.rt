@@ -2,16 +2,15 @@ ghost use Rattle.std.specs.Prelude.{◌≡◌, ◌≤◌, ℤ, ◌+ℤ◌, IfOk,
 ghost use Rattle.grid_base.specs.Grid.{most_places};
 ghost use Rattle.grid_base.specs.Sizes.{IsStep};
 ghost use Rattle.json_read.specs.Seen.{json_value};
+ghost use Rattle.json_read.specs.Units.{counted, units_cap};
 ghost use Rattle.geojson_io.specs.Reads.{on_ok};
-ghost use Rattle.topo_io.specs.Numerals.{counted, size_cap};
 ghost use Rattle.topo_io.specs.Positions.{at_sums, is_sum, lone_position, plain, position_after, sums_after, whole_pair};
 
 use crate::fault::TopoWhy;
 use crate::frame::{Frame, Transform};
-use crate::numerals::whole_units;
 use geojson_io::{ShapeWhy, place};
 use grid_base::{LIMIT, Pt};
-use json_read::Json;
+use json_read::{Json, whole_units};
 
 /// The sums of quantized positions stay within this, either way: twice the limit of the grid.
 const SUM_LIMIT: u128 = 2 * LIMIT as u128;
@@ -27,7 +26,7 @@ impl Sums {
     pub const START: Sums = Sums { x: 0, y: 0 };
 }
 
-/// The point of a position behind such sums, and the sums up to it.
+/// The point of a position after such sums, and the sums up to it.
 pub fn position_after(json: &Json, frame: &Frame, before: Sums) -> Result<(Pt, Sums), TopoWhy>
     requires { frame.now.places ≤ most_places }
     ensures { result ≡ position_after frame.now (json_value json.now) before }
@@ -102,8 +101,8 @@ fn sums_after(json: &Json, before: Sums) -> Result<Sums, TopoWhy>
 fn whole_pair(json: &Json) -> Option<(i128, i128)>
     ensures exact { MatchOption result (whole_pair (json_value json.now) ≡ None)
         (λ p. (x y : ℤ) × (whole_pair (json_value json.now) ≡ Some (x, y)) × (p.0 ≡ counted x) × (p.1 ≡ counted y)) }
-    ensures across { IfSome result (λ p. unsigned_abs p.0 ≤ size_cap) }
-    ensures upward { IfSome result (λ p. unsigned_abs p.1 ≤ size_cap) }
+    ensures across { IfSome result (λ p. unsigned_abs p.0 ≤ units_cap) }
+    ensures upward { IfSome result (λ p. unsigned_abs p.1 ≤ units_cap) }
 {
     let Json::List(list) = json else {
         return None;
@@ -124,7 +123,7 @@ fn whole_pair(json: &Json) -> Option<(i128, i128)>
 }
 
 fn sum(before: i64, step: i128) -> Option<i64>
-    requires { unsigned_abs step ≤ size_cap }
+    requires { unsigned_abs step ≤ units_cap }
     ensures exact { (z : ℤ) → step ≡ counted z → result ≡ (if is_sum (before +ℤ z) then Some (before +ℤ z) else None) }
     ensures small { IfSome result IsStep }
 {

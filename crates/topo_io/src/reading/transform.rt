@@ -6,8 +6,7 @@ ghost use Rattle.topo_io.specs.Positions.{axis_of, number_pair, transform_by, tr
 
 use crate::fault::TopoWhy;
 use crate::frame::{Axis, Transform};
-use crate::numerals::whole_units;
-use json_read::{Json, JsonFields};
+use json_read::{Json, JsonFields, whole_units};
 
 /// The transform of a topology, which may be absent.
 pub fn transform_of(json: Option<&Json>) -> Result<Option<Transform>, TopoWhy>

@@ -1,6 +1,6 @@
 use Rattle.std.proofs.Common.{◌≡◌, min, take}
 use Rattle.json_read.specs.Numeral.{number_onto}
-use Rattle.json_read.specs.Scaling.{units_cap}
+use Rattle.json_read.specs.Units.{units_cap}
 use Rattle.json_read.proofs.numerals.count_onto.Given as goal
 
 abbrev pub invariant-loop-digit : goal.invariant-loop-digit

@@ -1,5 +1,5 @@
 use Rattle.std.proofs.Common.{arith}
-use Rattle.json_read.specs.Scaling.{units_cap}
+use Rattle.json_read.specs.Units.{units_cap}
 use Rattle.json_read.proofs.Scaling.{raised_step, raised_end}
 use Rattle.json_read.proofs.numerals.raised.Goals as goal
 

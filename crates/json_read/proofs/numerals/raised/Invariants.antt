@@ -1,5 +1,5 @@
 use Rattle.std.proofs.Common.{◌≡◌, ◌*◌, ◌^◌, min}
-use Rattle.json_read.specs.Scaling.{units_cap}
+use Rattle.json_read.specs.Units.{units_cap}
 use Rattle.json_read.proofs.numerals.raised.Given as goal
 
 abbrev pub invariant-loop : goal.invariant-loop

@@ -1,6 +1,6 @@
 use Rattle.std.proofs.Common.{ℕ, ap, ◌∙◌, sym, min}
 use Rattle.json_read.specs.Numeral.{number_onto, number_of}
-use Rattle.json_read.specs.Scaling.{units_cap}
+use Rattle.json_read.specs.Units.{units_cap}
 use Rattle.json_read.proofs.Scaling.{capped_onto, number_onto-append}
 use Rattle.json_read.proofs.numerals.Numeral.digits.Goals as goal
 
