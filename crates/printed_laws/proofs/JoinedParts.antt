@@ -1,6 +1,6 @@
 -- Two points lie in one printed polygon exactly if they are joined in the region: points in one part are joined, for both see links of its least arc.
 use Rattle.std.proofs.Common.{◌≡◌, ◌⊎◌, inl, inr, sym, ap, subst, ◌∙◌, arith, ℕ, ◌<◌, true, List, [], ◌∷◌, length, get_or, nat_lt, Contains}
-use Rattle.std.specs.Prelude.{◌↔◌, Any}
+use Rattle.std.specs.Prelude.{Any}
 use Rattle.std.proofs.lemmas.Bool.{cases_eq, cases_lt, ltb-true}
 use Rattle.std.proofs.lemmas.List.{get_or_default}
 use Rattle.lists.proofs.Ascending.{IsAscending}
