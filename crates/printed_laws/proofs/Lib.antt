@@ -7,3 +7,6 @@ pub mod RingSides
 pub mod RingTurn
 pub mod Readings
 pub mod Agreed
+pub mod EachStep
+pub mod ArcSides
+pub mod JoinedParts

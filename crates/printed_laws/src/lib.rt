@@ -11,13 +11,15 @@
 //! - Counting all rings of a polygon agrees with its exterior and holes, as RFC 7946 reads them (`readings_agree`). So
 //!   no point lies in two polygons by that reading either (`polygons_are_apart`), and a point lies in some polygon
 //!   exactly if the region has it (`regions_are_read`).
+//! - Two points of the region lie in one polygon exactly if no closed runs of the region's boundary separate them
+//!   (`polygons_are_parts`).
 //!
 //! Each function carries one law in its contract, and does nothing. The laws are stated in `specs/Printed.antt` of
 //! `region_model`, and in `specs/Counted.antt`. They speak of drawings, right answers and regions alone: no table of
 //! arcs or faces is in them.
 #![tactic(auto)]
 
-ghost use Rattle.region_model.specs.Printed.{PolygonsAreApart, ReadingsAgree, RegionsArePrinted};
+ghost use Rattle.region_model.specs.Printed.{PolygonsAreApart, PolygonsAreParts, ReadingsAgree, RegionsArePrinted};
 ghost use Rattle.printed_laws.specs.Counted.{
   JoinedPointsAreHeldByOne,
   NoneIsHeldTwice,
@@ -60,4 +62,9 @@ pub fn polygons_are_apart()
 /// A point on no link lies in some polygon exactly if the region has it.
 pub fn regions_are_read()
     ensures { RegionsAreRead }
+{}
+
+/// Two points of the region lie in one polygon exactly if they are joined in it.
+pub fn polygons_are_parts()
+    ensures { PolygonsAreParts }
 {}
