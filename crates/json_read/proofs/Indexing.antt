@@ -89,7 +89,7 @@ absent_last name (f ∷ fs) h v =
 
 -- ## Making the index
 
-apart_any : (name : List ℕ) (ns : List (List ℕ)) → ((i : ℕ) (d : List ℕ) → i < length ns → bytes_eq name (get_or ns i d) ≡ false) → list_any (bytes_eq name) ns ≡ false
+pub apart_any : (name : List ℕ) (ns : List (List ℕ)) → ((i : ℕ) (d : List ℕ) → i < length ns → bytes_eq name (get_or ns i d) ≡ false) → list_any (bytes_eq name) ns ≡ false
 apart_any name [] h = refl
 apart_any name (n ∷ ns) h =
     ap (λ (b : Bool). b || list_any (bytes_eq name) ns) (h 0 n (omega arith)) ∙ apart_any name ns (λ i d l. h (suc i) d (omega arith))

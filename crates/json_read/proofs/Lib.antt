@@ -26,6 +26,7 @@ pub mod Products
 pub mod SignedProducts
 pub mod Decimals
 pub mod Tables
+pub mod NamedValues
 pub mod Digits
 pub mod Escapes
 pub mod Scaling

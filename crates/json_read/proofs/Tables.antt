@@ -12,7 +12,7 @@ use Rattle.indexmap.specs.IndexSet.{insert_key}
 use Rattle.json_read.specs.Table.{NamedValues, put_value, named_value, value_or_null, add_name, AreRows, AreDistinctNames}
 use Rattle.json_read.specs.declared.value.Value.{Value}
 
-abbrev Name : Type 0
+abbrev pub Name : Type 0
 Name = String Global
 
 abbrev pub seen_names : List Name → List (List ℕ)

@@ -1,5 +1,5 @@
 -- Tables: names of columns, and rows of values. A table of named values, as the features of a file have them.
-use Rattle.std.specs.Prelude.{ℕ, ◌≡◌, List, [], ◌∷◌, ◌++◌, map, length, fold, Option, Some, None, unwrap_or, if◌then◌else◌}
+use Rattle.std.specs.Prelude.{ℕ, ◌≡◌, List, [], ◌∷◌, ◌++◌, map, length, fold, take, slice_get, Option, Some, None, false, unwrap_or, if◌then◌else◌}
 use Rattle.std.specs.List.{IsDistinct, list_any}
 use Rattle.std.specs.Str.{bytes_eq}
 use Rattle.json_read.specs.declared.value.Value.{Value}
@@ -22,6 +22,14 @@ put_value (f ∷ fs) name v = if bytes_eq name f.0 then (f.0, v) ∷ fs else f �
 abbrev pub named_value : List ℕ → NamedValues → Option Value
 named_value name [] = None
 named_value name (f ∷ fs) = if bytes_eq name f.0 then Some f.1 else named_value name fs
+
+-- no field has this name
+abbrev pub IsNewName : List ℕ → NamedValues → Type 0
+IsNewName name fs = list_any (bytes_eq name) (map (λ f. f.0) fs) ≡ false
+
+-- the first field with this name has the number i
+abbrev pub IsPlaceOf : List ℕ → NamedValues → ℕ → Type 0
+IsPlaceOf name fs i = (slice_get (map (λ f. f.0) fs) i ≡ Some name) × IsNewName name (take i fs)
 
 abbrev pub value_or_null : List ℕ → NamedValues → Value
 value_or_null name fs = unwrap_or (named_value name fs) cell.Null

@@ -1,8 +1,10 @@
-ghost use Rattle.std.specs.Prelude.{◌≡◌, ◌++◌, ◌∷◌, [], IfOk, length, map, OnOk, OnErr, slice_get};
+ghost use Rattle.std.specs.Prelude.{◌≡◌, ◌<◌, ◌++◌, ◌∷◌, [], IfNone, IfOk, IfSome, IsTrue, length, map, OnOk, OnErr, Some, false, slice_get, slice_set};
+ghost use Rattle.std.specs.List.{list_any};
 ghost use Rattle.std.specs.Option.{option_copied};
+ghost use Rattle.std.specs.Str.{bytes_eq};
 ghost use Rattle.std.specs.String.{string_bytes, string_eq};
 ghost use Rattle.indexmap.specs.IndexSet.{IsUnique};
-ghost use Rattle.json_read.specs.Table.{add_name as add_one_name, add_names as add_all_names, names_of, row_of as values_of, value_or_null};
+ghost use Rattle.json_read.specs.Table.{add_name as add_one_name, add_names as add_all_names, names_of, row_of as values_of};
 
 use crate::fields::{Fields, FieldsList};
 use crate::value::Value;
@@ -175,7 +177,7 @@ impl Table {
         let names = all_names(alloc, rows.as_slice())?;
         let mut table_rows = RowList::new(alloc);
         for fields in rows.as_slice() {
-            table_rows.push(row_of(alloc, names.as_slice(), fields)?)?;
+            table_rows.push(row_of(alloc, &names, fields)?)?;
         }
         Ok(Table {
             names: name_list(alloc, names.as_slice())?,
@@ -220,21 +222,39 @@ fn all_names(alloc: Global, rows: &[Fields]) -> Result<IndexSet<String>, AllocEr
 {
     let mut names = IndexSet::new(alloc);
     for fields in rows {
-        add_names(alloc, &mut names, fields.entries.keys().as_slice())?;
+        add_names(alloc, &mut names, &fields.entries)?;
     }
     Ok(names)
 }
 
-// The names, and behind them those of `more` that are new.
-fn add_names(alloc: Global, names: &mut IndexSet<String>, more: &[String]) -> Result<(), AllocError>
+// The names, and behind them those of the fields that are new. Most features have the names of the first in its
+// order, so that the name at the same place is looked at first.
+fn add_names(
+    alloc: Global,
+    names: &mut IndexSet<String>,
+    fields: &[(Text, Value)],
+) -> Result<(), AllocError>
     requires { IsUnique string_eq names.old }
-    ensures names { OnOk result (map string_bytes names.new.keys ≡ add_all_names (map string_bytes names.old.keys) (map string_bytes more.now)) }
+    ensures names { OnOk result (map string_bytes names.new.keys ≡ add_all_names (map string_bytes names.old.keys) (map (λ f. f.0) fields.now)) }
     ensures unique { OnOk result (IsUnique string_eq names.new) }
 {
-    for name in more {
-        add_name(alloc, names, name.as_str())?;
+    for i in 0..fields.len() {
+        let name = fields[i].0.as_str();
+        if !stands_at(names.as_slice(), i, name) {
+            add_name(alloc, names, name)?;
+        }
     }
     Ok(())
+}
+
+// Whether this name stands at this place.
+fn stands_at(names: &[String], place: usize, name: &str) -> bool
+    ensures { IsTrue result → slice_get (map string_bytes names.now) place ≡ Some name.now }
+{
+    match names.get(place) {
+        Some(there) => there.as_str() == name,
+        None => false,
+    }
 }
 
 pub(crate) fn add_name(
@@ -256,23 +276,49 @@ pub(crate) fn add_name(
 }
 
 // The values of these names; one that is missing is Null.
-fn row_of(alloc: Global, names: &[String], fields: &Fields) -> Result<Row, AllocError>
-    ensures { IfOk result (λ row. row ≡ values_of (map string_bytes names.now) fields.now) }
+fn row_of(alloc: Global, names: &IndexSet<String>, fields: &Fields) -> Result<Row, AllocError>
+    requires { IsUnique string_eq names.now }
+    ensures { IfOk result (λ row. row ≡ values_of (map string_bytes names.now.keys) fields.now) }
 {
-    let mut row = Row::new(alloc);
-    for name in names {
-        row.push(value_of(alloc, name.as_str(), fields)?)?;
+    let mut row = nulls(alloc, names.as_slice())?;
+    for i in 0..fields.entries.len() {
+        let field = &fields.entries[i];
+        if let Some(place) = place_of(names, i, field.0.as_str()) {
+            set_value(&mut row, place, field.1.copy(alloc)?);
+        }
     }
     Ok(row)
 }
 
-fn value_of(alloc: Global, name: &str, fields: &Fields) -> Result<Value, AllocError>
-    ensures { IfOk result (λ v. v ≡ value_or_null name.now fields.now) }
+// Null for each of these names.
+fn nulls(alloc: Global, names: &[String]) -> Result<Row, AllocError>
+    ensures { IfOk result (λ row. row ≡ values_of (map string_bytes names.now) []) }
 {
-    match fields.get(name) {
-        Some(value) => value.copy(alloc),
-        None => Ok(Value::Null),
+    let mut row = Row {
+        items: Vec::with_capacity(alloc, names.len())?,
+    };
+    for _ in names {
+        row.push(Value::Null)?;
     }
+    Ok(row)
+}
+
+// Where the name stands: at the guessed place, or else as the index tells.
+fn place_of(names: &IndexSet<String>, guess: usize, name: &str) -> Option<usize>
+    ensures some { IfSome result (λ i. slice_get (map string_bytes names.now.keys) i ≡ Some name.now) }
+    ensures none { IfNone result (list_any (bytes_eq name.now) (map string_bytes names.now.keys) ≡ false) }
+{
+    if stands_at(names.as_slice(), guess, name) {
+        return Some(guess);
+    }
+    names.get_index_of(name)
+}
+
+fn set_value(row: &mut Row, place: usize, value: Value)
+    requires { place < length row.old }
+    ensures { row.new ≡ slice_set row.old place value }
+{
+    row.items[place] = value;
 }
 
 fn name_list(alloc: Global, names: &[String]) -> Result<NameList, AllocError>

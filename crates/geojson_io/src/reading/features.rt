@@ -1,11 +1,10 @@
-ghost use Rattle.std.specs.Prelude.{◌≡◌, ◌<◌, ◌≤◌, MatchOption, IfOk, IfErr, OnOk, None, Some, Ok, ⊤, map, slice_get};
+ghost use Rattle.std.specs.Prelude.{◌≡◌, ◌<◌, ◌≤◌, ◌++◌, ◌∷◌, [], MatchOption, IfOk, IfErr, OnOk, None, Some, Ok, ⊤, map, slice_get};
 ghost use Rattle.std.specs.Option.{option_copied, option_map};
 ghost use Rattle.json_read.specs.Lists.{fields_list};
 ghost use Rattle.json_read.specs.Seen.{json_value};
-ghost use Rattle.json_read.specs.Table.{put_value};
-ghost use Rattle.json_read.specs.Value.{value_of};
+ghost use Rattle.json_read.specs.Table.{IsNewName};
 ghost use Rattle.geojson_io.specs.Reads.{Answers, AnswersIn, IsFault};
-ghost use Rattle.geojson_io.specs.Features.{properties, property, json_of, feature, feature_of_fields, bare_feature, member_of, numbered, members, top_members, in_list};
+ghost use Rattle.geojson_io.specs.Features.{properties, property, feature, feature_of_fields, bare_feature, member_of, numbered, members, top_members, in_list};
 
 use crate::fault::{ShapeFault, ShapeWhy, Stop};
 use crate::reading::geometries::geometry;
@@ -23,14 +22,15 @@ pub struct Feature {
     pub fields: Fields,
 }
 
-// Puts the member with the number `i` to the named values.
+// Puts the member with the number `i`, whose name is new, behind the named values.
 fn put_property(
     alloc: Global,
     object: &JsonFields,
     i: u32,
     fields: &mut Fields,
 ) -> Result<(), AllocError>
-    ensures { OnOk result (MatchOption (slice_get (fields_list object.now) i) ⊤ (λ f. fields.new ≡ put_value fields.old f.0 (value_of (json_of f.1)))) }
+    requires new { MatchOption (slice_get (fields_list object.now) i) ⊤ (λ f. IsNewName f.0 fields.old) }
+    ensures { OnOk result (MatchOption (slice_get (fields_list object.now) i) ⊤ (λ f. fields.new ≡ fields.old ++ property f ∷ [])) }
 {
     match object.name_at(i) {
         None => Ok(()),
@@ -39,7 +39,7 @@ fn put_property(
             Some(json) => {
                 let name = Text::of(alloc, name)?;
                 let value = Value::of_json(alloc, json)?;
-                fields.put(name, value)
+                fields.push_new(name, value)
             }
         },
     }
@@ -49,7 +49,7 @@ fn put_property(
 pub fn properties_of(alloc: Global, object: &JsonFields) -> Result<Fields, AllocError>
     ensures { IfOk result (λ fields. fields ≡ map property (fields_list object.now)) }
 {
-    let mut fields = Fields::new(alloc);
+    let mut fields = Fields::with_capacity(alloc, object.len())?;
     for i in 0..object.len() {
         put_property(alloc, object, i, &mut fields)?;
     }

@@ -1,6 +1,14 @@
-use Rattle.std.proofs.Common.{◌∙◌}
-use Rattle.json_read.proofs.Tables.{named_value-seen}
+use Rattle.std.proofs.Common.{◌≡◌, arith, sym, Some}
+use Rattle.std.specs.Prelude.{slice_get}
+use Rattle.std.proofs.lemmas.Grind.{common_steps}
+use Rattle.std.proofs.lemmas.Option.{gets}
+use Rattle.json_read.proofs.NamedValues.{value_at_place, value_of_new}
 use Rattle.json_read.proofs.fields.Fields.get.Goals as goal
 
-pub returns : goal.returns
-returns c = rw (← c.self.view_is) (record { found = c.get.ensures.value ∙ named_value-seen c.args.name.now c.self.inside.entries.entries })
+pub returns-in-Some : goal.returns-in-Some
+returns-in-Some c =
+    let e : slice_get c.self.inside.entries.items c.in-Some.place ≡ Some c.index.result.now = grind (arith, common_steps, gets) in
+    rw (← c.self.view_is) (record { found = sym (value_at_place c.args.name.now c.self.inside.entries.items c.in-Some.place c.index.result.now e c.in-Some.ensures.some) })
+
+pub returns-in-None : goal.returns-in-None
+returns-in-None c = rw (← c.self.view_is) (record { found = sym (value_of_new c.args.name.now c.self.inside.entries.items c.in-None.ensures.none) })
