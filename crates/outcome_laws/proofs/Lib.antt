@@ -1,0 +1,15 @@
+pub mod Every
+pub mod ArcSteps
+pub mod Planes
+pub mod Alike
+pub mod Polygons
+pub mod Lines
+pub mod Shapes
+pub mod PolygonLayers
+pub mod LineLayers
+pub mod TableLayers
+pub mod Stepping
+pub mod Running
+pub mod Beginnings
+pub mod OneReading
+pub mod OneOutcome

@@ -1,0 +1,34 @@
+//! Laws of outcomes: words, files and standard input tell one outcome.
+//!
+//! What the model of a run (`chain_model`) tells leaves choices open: a reading of texts, trees of expressions, answers to
+//! questions about regions, texts of what is written. None of them changes how a run ends.
+//!
+//! - There is one reading of texts at most (`readings_are_one`).
+//! - Answers are asked only about sides of links, vertices, and numbers of parts and gaps, where two right ones are the
+//!   same: paths of a state go along links of its plane, and its points are vertices of it, as it begins and after each
+//!   command. So by any right answers the commands of a chain have the same outputs and the same end
+//!   (`one_run_of_right_answers`).
+//! - Trees of the same texts are the same (`steps_are_of_words` of `headline_laws`), so the outcome is one
+//!   (`outcome_is_one`).
+//!
+//! Each function carries one law in its contract, and does nothing.
+#![tactic(auto)]
+
+ghost use Rattle.chain_model.specs.Running.{OutcomeIsOne};
+ghost use Rattle.outcome_laws.specs.Laws.{OneRunOfRightAnswers, ReadingsAreOne};
+
+/// Two readings of texts are one: a JSON text has one value and one first fault, bytes stop at one place to begin a UTF-8
+/// text, and a text has one fault as an expression or as assignments.
+pub fn readings_are_one()
+    ensures { ReadingsAreOne }
+{}
+
+/// What has begun has the same outputs and the same end, whatever right answers its plane gives.
+pub fn one_run_of_right_answers()
+    ensures { OneRunOfRightAnswers }
+{}
+
+/// The same words, files and standard input tell one outcome, whatever reading of texts, trees and right answers are taken.
+pub fn outcome_is_one()
+    ensures { OutcomeIsOne }
+{}
