@@ -9,16 +9,16 @@
 //!   command. So by any right answers the commands of a chain have the same outputs and the same end
 //!   (`one_run_of_right_answers`).
 //! - Trees of the same texts are the same (`steps_are_of_words` of `headline_laws`), so the outcome is one
-//!   (`outcome_is_one`).
+//!   (`outcome_is_one`), and the same commands write to the same places (`effects_go_alike`). Of their texts nothing is said.
 //!
 //! Each function carries one law in its contract, and does nothing.
 #![tactic(auto)]
 
 ghost use Rattle.chain_model.specs.Running.{OutcomeIsOne};
-ghost use Rattle.outcome_laws.specs.Laws.{OneRunOfRightAnswers, ReadingsAreOne};
+ghost use Rattle.outcome_laws.specs.Laws.{EffectsGoAlike, OneRunOfRightAnswers, ReadingsAreOne};
 
-/// Two readings of texts are one: a JSON text has one value and one first fault, bytes stop at one place to begin a UTF-8
-/// text, and a text has one fault as an expression or as assignments.
+/// Two readings of texts are one: a JSON text has one value, and other bytes one first fault; bytes stop at one place to
+/// begin a UTF-8 text; and a text has one fault as an expression or as assignments.
 pub fn readings_are_one()
     ensures { ReadingsAreOne }
 {}
@@ -31,4 +31,9 @@ pub fn one_run_of_right_answers()
 /// The same words, files and standard input tell one outcome, whatever reading of texts, trees and right answers are taken.
 pub fn outcome_is_one()
     ensures { OutcomeIsOne }
+{}
+
+/// And they tell effects of the same commands, to the same files or to the standard stream, in the same order.
+pub fn effects_go_alike()
+    ensures { EffectsGoAlike }
 {}
