@@ -9,8 +9,8 @@ use Rattle.chain_model.specs.Outcome.{Outcome}
 use Rattle.chain_model.specs.Running.{Begun, Effect, Tells, begins, run_from}
 use Rattle.chain_model.specs.Sources.{AreReadings, Readings}
 
--- a JSON text has one value, and other bytes one first fault, bytes stop at one place to begin a UTF-8 text, and a text has one fault as an expression or as
--- assignments: so two readings of texts are one
+-- a JSON text has one value, and other bytes one first fault, bytes stop at one place to begin a UTF-8 text, and a text has one fault as an
+-- expression or as assignments: so two readings of texts are one
 abbrev pub ReadingsAreOne : Type 0
 ReadingsAreOne = (read other : Readings) → AreReadings read → AreReadings other → read ≡ other
 
