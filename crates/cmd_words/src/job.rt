@@ -112,7 +112,7 @@ pub enum LayerAction {
     Clean {
         rule: OverlapRule,
         allow_empty: bool,
-        /// Gaps of at most this area, doubled and in squared grid units, are filled; 0 fills none.
+        /// Gaps of at most this area, doubled and in squared grid units, are filled.
         gap: u128,
     },
     Mosaic,
