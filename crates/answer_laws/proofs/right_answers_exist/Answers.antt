@@ -1,0 +1,6 @@
+-- The law is proved by itself.
+use Rattle.answer_laws.proofs.Exist.{right_answers_exist}
+use Rattle.answer_laws.proofs.right_answers_exist.Goals as goal
+
+pub returns : goal.returns
+returns c = right_answers_exist
