@@ -3,14 +3,23 @@
 //   geos_tasks copy IN OUT
 //   geos_tasks box IN OUT XMIN YMIN XMAX YMAX     areas within a box
 //   geos_tasks layer IN OUT OTHER                 areas within the areas of another file
-//   geos_tasks dissolve IN OUT FIELD              one area for each value of a text field, of areas that don't overlap
+//   geos_tasks erase IN OUT OTHER                 areas without the areas of another file
+//   geos_tasks inside IN OUT AREAS                points that lie in an area
+//   geos_tasks dissolve IN OUT FIELD              one area for each value of a text field
+//   geos_tasks dissolve-coverage IN OUT FIELD     the same, of areas that don't overlap and share their borders
+//   geos_tasks unite IN OUT                       one area of all, in doubles
 //   geos_tasks unite IN OUT SCALE                 one area of all, snap rounded to 1/SCALE
+//   geos_tasks faces IN OUT SCALE                 the faces between all borders, snap rounded to 1/SCALE
 //   geos_tasks place IN OUT AREAS FIELD           points with a text field of the first area that they lie in
-//   geos_tasks count IN OUT POINTS FIELD          areas with the number of their points, and the sum of a number field
+//   geos_tasks count IN OUT POINTS FIELD          areas with the number of their points, and the first and the sum of a
+//                                                 number field
 //   geos_tasks overlay IN OUT OTHER               areas over other areas, with both rows: pairs, and the rest of each
+#include <geos/geom/CoordinateArraySequence.h>
 #include <geos/geom/Envelope.h>
 #include <geos/geom/Geometry.h>
 #include <geos/geom/GeometryFactory.h>
+#include <geos/geom/LineString.h>
+#include <geos/geom/Polygon.h>
 #include <geos/geom/PrecisionModel.h>
 #include <geos/geom/prep/PreparedGeometry.h>
 #include <geos/geom/prep/PreparedGeometryFactory.h>
@@ -18,27 +27,35 @@
 #include <geos/io/GeoJSON.h>
 #include <geos/io/GeoJSONReader.h>
 #include <geos/io/GeoJSONWriter.h>
+#include <geos/noding/NodedSegmentString.h>
+#include <geos/noding/snapround/SnapRoundingNoder.h>
 #include <geos/operation/overlayng/CoverageUnion.h>
 #include <geos/operation/overlayng/OverlayNG.h>
 #include <geos/operation/overlayng/OverlayNGRobust.h>
 #include <geos/operation/overlayng/UnaryUnionNG.h>
+#include <geos/operation/polygonize/Polygonizer.h>
 #include <algorithm>
 #include <fstream>
 #include <iterator>
 #include <map>
 #include <memory>
+#include <stdexcept>
 #include <string>
+#include <utility>
 #include <vector>
 
 using namespace geos::geom;
 using geos::io::GeoJSONFeature;
 using geos::io::GeoJSONFeatureCollection;
+using geos::noding::NodedSegmentString;
+using geos::noding::SegmentString;
 using geos::operation::overlayng::CoverageUnion;
 using geos::operation::overlayng::OverlayNG;
 using geos::operation::overlayng::OverlayNGRobust;
 using geos::operation::overlayng::UnaryUnionNG;
 using Shape = std::unique_ptr<Geometry>;
 using Row = std::map<std::string, geos::io::GeoJSONValue>;
+using Link = std::pair<Coordinate, Coordinate>;
 
 static const GeometryFactory* factory = GeometryFactory::getDefaultInstance();
 
@@ -47,8 +64,8 @@ static GeoJSONFeatureCollection read(const std::string& name) {
     return geos::io::GeoJSONReader().readFeatures(std::string(std::istreambuf_iterator<char>(in), {}));
 }
 
-static void write(const std::string& name, std::vector<GeoJSONFeature> features) {
-    std::ofstream(name, std::ios::binary) << geos::io::GeoJSONWriter().write(GeoJSONFeatureCollection(std::move(features)));
+static void write(const std::string& name, const GeoJSONFeatureCollection& layer) {
+    std::ofstream(name, std::ios::binary) << geos::io::GeoJSONWriter().write(layer);
 }
 
 static void add_parts(std::vector<Shape>& shapes, const Geometry& g) {
@@ -65,19 +82,29 @@ static Shape all_of(const GeoJSONFeatureCollection& layer) {
     return together(std::move(shapes));
 }
 
-static std::vector<GeoJSONFeature> within(const GeoJSONFeatureCollection& layer, const Geometry& mask) {
+// What lies within a mask of each area, or without it.
+static std::vector<GeoJSONFeature> cut(const GeoJSONFeatureCollection& layer, const Geometry& mask, bool is_within) {
     auto quick = prep::PreparedGeometryFactory::prepare(&mask);
     std::vector<GeoJSONFeature> kept;
     for (const auto& f : layer.getFeatures()) {
         const Geometry* g = f.getGeometry();
-        if (!quick->intersects(g)) continue;
-        Shape part = quick->covers(g) ? g->clone() : OverlayNGRobust::Overlay(g, &mask, OverlayNG::INTERSECTION);
+        bool meets = quick->intersects(g), is_covered = meets && quick->covers(g);
+        if (is_within ? !meets : is_covered) continue;
+        bool is_whole = is_within ? is_covered : !meets;
+        int rule = is_within ? OverlayNG::INTERSECTION : OverlayNG::DIFFERENCE;
+        Shape part = is_whole ? g->clone() : OverlayNGRobust::Overlay(g, &mask, rule);
         if (part->getArea() > 0) kept.emplace_back(std::move(part), f.getProperties());
     }
     return kept;
 }
 
-static std::vector<GeoJSONFeature> dissolved(const GeoJSONFeatureCollection& layer, const std::string& field) {
+static std::vector<GeoJSONFeature> cut_by(const GeoJSONFeatureCollection& layer, const std::string& other, bool is_within) {
+    Shape all = all_of(read(other));
+    return cut(layer, *OverlayNGRobust::Union(all.get()), is_within);
+}
+
+static std::vector<GeoJSONFeature> dissolved(const GeoJSONFeatureCollection& layer, const std::string& field,
+                                             bool is_coverage) {
     std::map<std::string, std::vector<Shape>> groups;
     for (const auto& f : layer.getFeatures()) add_parts(groups[f.getProperties().at(field).getString()], *f.getGeometry());
     std::vector<GeoJSONFeature> united;
@@ -85,17 +112,72 @@ static std::vector<GeoJSONFeature> dissolved(const GeoJSONFeatureCollection& lay
         Shape members = together(std::move(group.second));
         Row row;
         row.emplace(field, geos::io::GeoJSONValue(group.first));
-        united.emplace_back(CoverageUnion::geomunion(members.get()), std::move(row));
+        Shape all = is_coverage ? CoverageUnion::geomunion(members.get()) : OverlayNGRobust::Union(members.get());
+        united.emplace_back(std::move(all), std::move(row));
     }
     return united;
 }
 
-static std::vector<GeoJSONFeature> united(const GeoJSONFeatureCollection& layer, double scale) {
+static std::vector<GeoJSONFeature> one(Shape shape) {
+    std::vector<GeoJSONFeature> features;
+    features.emplace_back(std::move(shape), Row());
+    return features;
+}
+
+static Shape united(const GeoJSONFeatureCollection& layer, double scale) {
     PrecisionModel grid(scale);
-    Shape all = all_of(layer);
-    std::vector<GeoJSONFeature> one;
-    one.emplace_back(UnaryUnionNG::Union(all.get(), grid), Row());
-    return one;
+    return UnaryUnionNG::Union(all_of(layer).get(), grid);
+}
+
+static void add_ring(std::vector<std::unique_ptr<SegmentString>>& strings, const LinearRing* ring) {
+    strings.emplace_back(new NodedSegmentString(ring->getCoordinatesRO()->clone().release(), nullptr));
+}
+
+// The borders of all areas.
+static std::vector<std::unique_ptr<SegmentString>> borders(const GeoJSONFeatureCollection& layer) {
+    std::vector<std::unique_ptr<SegmentString>> strings;
+    for (const auto& f : layer.getFeatures())
+        for (std::size_t i = 0; i < f.getGeometry()->getNumGeometries(); i++) {
+            auto area = dynamic_cast<const Polygon*>(f.getGeometry()->getGeometryN(i));
+            add_ring(strings, area->getExteriorRing());
+            for (std::size_t k = 0; k < area->getNumInteriorRing(); k++) add_ring(strings, area->getInteriorRingN(k));
+        }
+    return strings;
+}
+
+// The steps between neighbours of snap rounded borders, each once.
+static std::vector<Link> links(const std::vector<std::unique_ptr<SegmentString>>& strings, double scale) {
+    PrecisionModel grid(scale);
+    geos::noding::snapround::SnapRoundingNoder noder(&grid);
+    std::vector<SegmentString*> all;
+    for (const auto& string : strings) all.push_back(string.get());
+    noder.computeNodes(&all);
+    std::unique_ptr<std::vector<SegmentString*>> noded(noder.getNodedSubstrings());
+    std::vector<Link> found;
+    for (auto* string : *noded) {
+        for (std::size_t i = 0; i + 1 < string->size(); i++) {
+            Coordinate a = string->getCoordinate(i), b = string->getCoordinate(i + 1);
+            if (b < a) std::swap(a, b);
+            if (!a.equals2D(b)) found.emplace_back(a, b);
+        }
+        delete string;
+    }
+    std::sort(found.begin(), found.end());
+    found.erase(std::unique(found.begin(), found.end()), found.end());
+    return found;
+}
+
+static std::vector<GeoJSONFeature> faces(const GeoJSONFeatureCollection& layer, double scale) {
+    std::vector<Shape> lines;
+    for (const auto& link : links(borders(layer), scale)) {
+        std::vector<Coordinate> ends{link.first, link.second};
+        lines.push_back(factory->createLineString(std::make_unique<CoordinateArraySequence>(std::move(ends))));
+    }
+    geos::operation::polygonize::Polygonizer polygonizer;
+    for (const auto& line : lines) polygonizer.add(static_cast<const Geometry*>(line.get()));
+    std::vector<GeoJSONFeature> all;
+    for (auto& face : polygonizer.getPolygons()) all.emplace_back(std::move(face), Row());
+    return all;
 }
 
 // Areas by their boxes, each prepared for many questions.
@@ -134,18 +216,29 @@ static std::vector<GeoJSONFeature> placed(const GeoJSONFeatureCollection& points
     return all;
 }
 
+static std::vector<GeoJSONFeature> inside(const GeoJSONFeatureCollection& points, const GeoJSONFeatureCollection& areas) {
+    Index index(areas.getFeatures());
+    std::vector<GeoJSONFeature> kept;
+    for (const auto& f : points.getFeatures())
+        if (!index.meeting(f.getGeometry()).empty()) kept.push_back(f);
+    return kept;
+}
+
 static std::vector<GeoJSONFeature> counted(const GeoJSONFeatureCollection& areas, const GeoJSONFeatureCollection& points,
                                            const std::string& field) {
     Index index(areas.getFeatures());
-    std::vector<double> counts(index.areas.size()), sums(index.areas.size());
+    std::vector<double> counts(index.areas.size()), sums(index.areas.size()), firsts(index.areas.size());
     for (const auto& f : points.getFeatures())
         for (std::size_t i : index.meeting(f.getGeometry())) {
+            double value = f.getProperties().at(field).getNumber();
+            if (counts[i] == 0) firsts[i] = value;
             counts[i]++;
-            sums[i] += f.getProperties().at(field).getNumber();
+            sums[i] += value;
         }
     std::vector<GeoJSONFeature> all;
     for (std::size_t i = 0; i < counts.size(); i++) {
         Row row = index.areas[i].getProperties();
+        if (counts[i] > 0) row.emplace(field, geos::io::GeoJSONValue(firsts[i]));
         row.emplace("n", geos::io::GeoJSONValue(counts[i]));
         row.emplace("t", geos::io::GeoJSONValue(sums[i]));
         all.emplace_back(index.areas[i].getGeometry()->clone(), std::move(row));
@@ -191,22 +284,25 @@ static std::vector<GeoJSONFeature> answer(const GeoJSONFeatureCollection& layer,
     std::string task = words[1];
     if (task == "box" && count == 8) {
         Envelope area(std::stod(words[4]), std::stod(words[6]), std::stod(words[5]), std::stod(words[7]));
-        return within(layer, *factory->toGeometry(&area));
+        return cut(layer, *factory->toGeometry(&area), true);
     }
-    if (task == "layer" && count == 5) {
-        Shape all = all_of(read(words[4]));
-        return within(layer, *OverlayNGRobust::Union(all.get()));
-    }
-    if (task == "dissolve" && count == 5) return dissolved(layer, words[4]);
-    if (task == "unite" && count == 5) return united(layer, std::stod(words[4]));
+    if (task == "unite" && count == 4) return one(OverlayNGRobust::Union(all_of(layer).get()));
+    if (task == "unite" && count == 5) return one(united(layer, std::stod(words[4])));
+    if (task == "faces" && count == 5) return faces(layer, std::stod(words[4]));
+    if (task == "layer" && count == 5) return cut_by(layer, words[4], true);
+    if (task == "erase" && count == 5) return cut_by(layer, words[4], false);
+    if (task == "inside" && count == 5) return inside(layer, read(words[4]));
+    if (task == "dissolve" && count == 5) return dissolved(layer, words[4], false);
+    if (task == "dissolve-coverage" && count == 5) return dissolved(layer, words[4], true);
     if (task == "place" && count == 6) return placed(layer, read(words[4]), words[5]);
     if (task == "count" && count == 6) return counted(layer, read(words[4]), words[5]);
     if (task == "overlay" && count == 5) return overlaid(layer, read(words[4]));
-    return layer.getFeatures();
+    throw std::invalid_argument(task);
 }
 
 int main(int count, char** words) {
     if (count < 4) return 2;
-    write(words[3], answer(read(words[2]), count, words));
+    auto layer = read(words[2]);
+    write(words[3], words[1] == std::string("copy") ? layer : GeoJSONFeatureCollection(answer(layer, count, words)));
     return 0;
 }
