@@ -14,8 +14,8 @@ use Rattle.table_terms.specs.Names.{Text, place_of}
 use Rattle.table_terms.specs.Refusals.{on_ok}
 use Rattle.table_ops.specs.declared.fault.TableWhy.{TableWhy}
 use Rattle.table_ops.specs.Rows.{row_at}
-use Rattle.table_ops.proofs.Testing.{behind}
-use Rattle.calc_ops.specs.Keys.{value_for}
+use Rattle.table_ops.specs.Filtering.{value_for}
+use Rattle.table_ops.proofs.Testing.{behind, behind_one}
 use Rattle.calc_ops.specs.EachRow.{with_name, with_value, assigned_row, assigned_rows, names_after, places_after}
 
 -- ---- names that are added behind others
@@ -165,10 +165,6 @@ all_set names items n row final places i values h e = (
 )
 
 -- ---- one row further
-
-behind_one : {A E : Type 0} (bs : List A) (b : A) (r : Result (List A) E) → behind bs (on_ok r (λ cs. Ok (b ∷ cs))) ≡ behind (bs ++ b ∷ []) r
-behind_one bs b (Ok cs) = ap Ok (sym (append_assoc bs (b ∷ []) cs))
-behind_one bs b (Err why) = refl
 
 pub rows_step : (names : List Text) (list : List Assigned) (rows : List RowValues) (n : ℕ) (out : List RowValues) (row : RowValues) (longer : List RowValues) → n < length rows → assigned_row names n list (row_at rows n) ≡ Ok row → longer ≡ out ++ row ∷ []
     → behind out (assigned_rows names list n (drop n rows)) ≡ behind longer (assigned_rows names list (n + 1) (drop (n + 1) rows))

@@ -8,8 +8,8 @@ use Rattle.json_read.specs.Table.{TableContent, RowValues}
 use Rattle.json_read.specs.declared.value.Value.{Value}
 use Rattle.table_terms.specs.Names.{Text, place_of}
 use Rattle.table_terms.specs.Refusals.{on_ok}
+use Rattle.table_ops.specs.Filtering.{value_for}
 use Rattle.table_ops.specs.declared.fault.TableWhy.{TableWhy}
-use Rattle.calc_ops.specs.Keys.{value_for}
 
 -- the names of the columns with one that is set: a name that is new goes last
 abbrev pub with_name : List Text → Text → List Text

@@ -1,16 +1,13 @@
 // The values of an expression for rows.
-ghost use Rattle.std.specs.Prelude.{◌≡◌, ◌++◌, ◌∷◌, [], Err, IfOk, OnOk, length};
-ghost use Rattle.expr_lang.specs.Meaning.{Evaluated, FaultIs, evaluated};
+ghost use Rattle.std.specs.Prelude.{◌≡◌, ◌++◌, ◌∷◌, [], IfOk, OnOk, length};
 ghost use Rattle.expr_lang.specs.Tree.{tree_of};
-ghost use Rattle.json_read.specs.declared.value.Value as cell;
-ghost use Rattle.table_ops.specs.Refusals.{Answers, AnswersAs};
-ghost use Rattle.calc_ops.specs.Keys.{value_for, keys_of};
+ghost use Rattle.table_ops.specs.Refusals.{AnswersAs};
+ghost use Rattle.calc_ops.specs.Keys.{keys_of};
 
-use expr_lang::{EvalFault, Expr, eval_values};
-use io_core::Text;
+use expr_lang::Expr;
 use json_read::{Table, Value};
 use std::alloc::{AllocError, Global};
-use table_ops::{EvalWhy, TableFault, TableWhy};
+use table_ops::{TableFault, value_for_row};
 
 /// The value of the expression for each row, evaluated once and in order.
 ///
@@ -34,34 +31,4 @@ fn append(keys: &mut Vec<Value>, key: Value) -> Result<(), AllocError>
 {
     keys.push(key)?;
     Ok(())
-}
-
-/// The value of the expression for the row with this number, counted from 0.
-pub(crate) fn value_for_row(
-    alloc: Global,
-    names: &[Text],
-    row: &[Value],
-    n: u32,
-    e: &Expr,
-) -> Result<Value, TableFault>
-    ensures exact { Answers result (value_for n (evaluated names.now row.now n (tree_of e.now))) }
-{
-    match eval_values(alloc, e, names, row, n) {
-        Ok(value) => Ok(value),
-        Err(fault) => Err(refusal(fault, n)),
-    }
-}
-
-fn refusal(fault: EvalFault, row: u32) -> TableFault
-    ensures exact { (said : Evaluated) → FaultIs said fault → Answers {T = cell.Value} (Err result) (value_for row said) }
-{
-    let (at, why) = match fault {
-        EvalFault::Unknown { at } => (at, EvalWhy::Unknown),
-        EvalFault::Types { at } => (at, EvalWhy::Types),
-        EvalFault::Range { at } => (at, EvalWhy::Range),
-        EvalFault::Memory => return TableFault::Memory,
-    };
-    TableFault::Bad {
-        why: TableWhy::Eval { row, at, why },
-    }
 }

@@ -1,66 +1,46 @@
 -- Columns by places, rows by places, and the names of a joined table.
-use Rattle.std.proofs.Common.{◌≡◌, ℕ, ◌+◌, ℤ, Bool, true, false, cond, not, ◌||◌, List, [], ◌∷◌, ◌++◌, map, filter, length, Option, Some, None, option_map, refl, sym, ap, ◌∙◌, subst, true≢false, append_assoc, append-nil, length-append, arith}
+use Rattle.std.proofs.Common.{◌≡◌, ℕ, ◌+◌, ℤ, Bool, true, false, cond, not, ◌||◌, List, [], ◌∷◌, ◌++◌, map, filter, length, Option, Some, None, refl, sym, ap, ◌∙◌, subst, append_assoc, append-nil, length-append}
 use Rattle.std.specs.Prelude.{Result, Ok}
 use Rattle.std.specs.List.{IsDistinct, zip}
 use Rattle.std.specs.Str.{bytes_eq}
 use Rattle.std.specs.Cmp.Lexicographic.{nat_list_eq_equiv}
-use Rattle.std.proofs.lemmas.List.{length-map, map-append}
+use Rattle.std.proofs.lemmas.List.{length-map}
 use Rattle.std.proofs.lemmas.List.Folds.{list_any-append}
 use Rattle.std.proofs.lemmas.Map.Keys.{IsDistinct-push}
 use Rattle.json_read.specs.Table.{TableContent, RowValues, AreRows}
 use Rattle.json_read.specs.declared.value.Value.TheVariants as is
-use Rattle.table_terms.specs.Names.{Text, has_name, value_at, place_of}
+use Rattle.table_terms.specs.Names.{Text, has_name}
 use Rattle.table_terms.specs.Refusals.{on_ok, unless}
 use Rattle.table_terms.specs.declared.calculations.Calc.{Calc}
 use Rattle.table_terms.specs.declared.calculations.Calc.TheVariants.{Count, Sum}
 use Rattle.table_terms.specs.declared.calculations.CalcSpec.{CalcSpec}
 use Rattle.table_terms.specs.declared.specifications.JoinSpec.{JoinSpec}
-use Rattle.table_ops.specs.Join.{candidates, copied_name, kept_cell, new_cell, joined_row, forced_field, new_fields}
+use Rattle.table_ops.specs.Join.{candidates, copied_name, joined_row}
+use Rattle.table_ops.specs.JoinColumns.{columns_of, column_value}
 use Rattle.table_ops.specs.declared.fault.TableWhy.{TableWhy}
 use Rattle.table_ops.specs.declared.fault.TableWhy.TheVariants.{NoField, FieldTwice}
-use Rattle.table_ops.proofs.Cells.{map_map}
-use Rattle.table_ops.proofs.Joining.{joined_names_differ as copied_differ}
-use Rattle.spatial_join.specs.CalcColumns.{kept_at, kept_column, added_column, columns_of, column_value, summed_place, calculated_at, row_by_places, rows_by_places}
+use Rattle.table_ops.specs.declared.join_columns.Column.{Column}
+use Rattle.table_ops.proofs.Joining.{as_many_names as as_many_copied, joined_names_differ as copied_differ, or_first, or_second, values_joined}
+use Rattle.spatial_join.specs.CalcColumns.{summed_place, calculated_at, row_by_places, rows_by_places}
 use Rattle.spatial_join.specs.Joined.{as_join, calc_name, copied_fields, copied_names, new_names, joined_names, lacks_field, refused_calc, each_ok, calculated, first_row, calc_row, matching, calc_rows, joined_table, join_matched, refused_items}
-use Rattle.spatial_join.specs.declared.calc_columns.Column.{Column}
 use Rattle.spatial_join.proofs.JoinLemmas.{each_of_map, rows_long, sums_long}
 
 -- ---- values
-
-kept_value : (source : List Text) (row : RowValues) (own : ℕ) (o : Option Text) (matched : Option RowValues)
-    → column_value row matched (kept_at own (option_map (place_of source) o)) ≡ kept_cell source (value_at row own) o matched
-kept_value source row own None matched = refl
-kept_value source row own (Some f) None = refl
-kept_value source row own (Some f) (Some other) = refl
-
-added_value : (source : List Text) (row : RowValues) (f : Text) (matched : Option RowValues) → column_value row matched (added_column source f) ≡ new_cell source matched f
-added_value source row f None = refl
-added_value source row f (Some other) = refl
-
--- the values of the columns are the joined row
-pub values_joined : (target source : List Text) (spec : CalcSpec) (row : RowValues) (matched : Option RowValues)
-    → map (column_value row matched) (columns_of target source spec) ≡ joined_row target source (as_join source spec) row matched
-values_joined target source spec row matched =
-    let new : List Text = new_fields target source (as_join source spec) in
-    map-append (column_value row matched) (map (kept_column target source spec) target) (map (added_column source) new)
-    ∙ (λ i. map_map (column_value row matched) (kept_column target source spec) target i ++ map_map (column_value row matched) (added_column source) new i)
-    ∙ (λ i. map (λ (name : Text). kept_value source row (place_of target name) (forced_field source (as_join source spec) name) matched i) target
-    ++ map (λ (f : Text). added_value source row f matched i) new)
 
 calculated_same : (source : TableContent) (matched : List ℕ) (c : Calc) → calculated_at source.rows matched (summed_place source.names c) ≡ calculated source matched c
 calculated_same source matched (Count name) = refl
 calculated_same source matched (Sum name field) = refl
 
 row_joined : (target source : TableContent) (spec : CalcSpec) (row : RowValues) (matched : List ℕ)
-    → row_by_places source.rows (columns_of target.names source.names spec) (map (summed_place source.names) spec.calc) row matched ≡ calc_row target source spec row matched
+    → row_by_places source.rows (columns_of target.names source.names (as_join source.names spec)) (map (summed_place source.names) spec.calc) row matched ≡ calc_row target source spec row matched
 row_joined target source spec row matched =
     (λ i. on_ok (each_of_map (calculated_at source.rows matched) (summed_place source.names) spec.calc i)
-    (λ (numbers : List ℤ). Ok (values_joined target.names source.names spec row (first_row source.rows matched) i ++ map is.Num numbers)))
+    (λ (numbers : List ℤ). Ok (values_joined target.names source.names (as_join source.names spec) row (first_row source.rows matched) i ++ map is.Num numbers)))
     ∙ (λ i. on_ok (each_ok (λ (c : Calc). calculated_same source matched c i) spec.calc)
     (λ (numbers : List ℤ). Ok (joined_row target.names source.names (as_join source.names spec) row (first_row source.rows matched) ++ map is.Num numbers)))
 
 pub rows_joined : (target source : TableContent) (matches : List (List ℕ)) (spec : CalcSpec) (remaining : List ℕ)
-    → rows_by_places source.rows (columns_of target.names source.names spec) (map (summed_place source.names) spec.calc) remaining (zip target.rows matches) ≡ calc_rows target source matches spec remaining
+    → rows_by_places source.rows (columns_of target.names source.names (as_join source.names spec)) (map (summed_place source.names) spec.calc) remaining (zip target.rows matches) ≡ calc_rows target source matches spec remaining
 rows_joined target source matches spec remaining =
     (λ i. each_ok (λ (p : RowValues × List ℕ). row_joined target source spec p.0 (matching remaining p.1) i) (zip target.rows matches))
 
@@ -97,27 +77,10 @@ module _ (source earlier : List Text) (n : ℕ) (c : Calc) (rest : List Calc) wh
 -- ---- names
 
 -- there are as many names as columns
-pub as_many_names : (target source : List Text) (spec : CalcSpec) → length (joined_names target source spec) ≡ length (columns_of target source spec) + length (map (summed_place source) spec.calc)
+pub as_many_names : (target source : List Text) (spec : CalcSpec) → length (joined_names target source spec) ≡ length (columns_of target source (as_join source spec)) + length (map (summed_place source) spec.calc)
 as_many_names target source spec =
-    let new : List Text = new_fields target source (as_join source spec) in
-    let a : length (joined_names target source spec) ≡ length (target ++ new_names target source spec) + length (map calc_name spec.calc) = length-append (target ++ new_names target source spec) (map calc_name spec.calc) in
-    let b = length-append target (new_names target source spec) in
-    let c : length (columns_of target source spec) ≡ length (map (kept_column target source spec) target) + length (map (added_column source) new) =
-    length-append (map (kept_column target source spec) target) (map (added_column source) new) in
-    let d : length (new_names target source spec) ≡ length new = length-map new (copied_name (as_join source spec)) in
-    let e = length-map target (kept_column target source spec) in
-    let f = length-map new (added_column source) in
-    let g = length-map spec.calc calc_name in
-    let h = length-map spec.calc (summed_place source) in
-    omega (arith, a, b, c, d, e, f, g, h)
-
-or_first : (a b : Bool) → (a || b) ≡ false → a ≡ false
-or_first true b e = absurd (true≢false e)
-or_first false b e = refl
-
-or_second : (a b : Bool) → (a || b) ≡ false → b ≡ false
-or_second true b e = absurd (true≢false e)
-or_second false b e = e
+    length-append (target ++ new_names target source spec) (map calc_name spec.calc)
+    ∙ (λ i. as_many_copied target source (as_join source spec) i + (length-map spec.calc calc_name ∙ sym (length-map spec.calc (summed_place source))) i)
 
 none_of : (a b : Bool) → a ≡ false → b ≡ false → (a || b) ≡ false
 none_of a b e f = ap (λ (x : Bool). x || b) e ∙ f
@@ -166,7 +129,7 @@ joined_names_differ target source spec n h k accepted =
 -- ---- the whole
 
 pub rows_as_long : (target source : List Text) (spec : CalcSpec) (names : List Text) (columns : List Column) (sums : List (Option ℕ)) (rows joined : List RowValues) (remaining : List ℕ) (pairs : List (RowValues × List ℕ)) →
-    joined_names target source spec ≡ names → columns ≡ columns_of target source spec → sums ≡ map (summed_place source) spec.calc → rows_by_places rows columns sums remaining pairs ≡ Ok joined → AreRows (length names) joined
+    joined_names target source spec ≡ names → columns ≡ columns_of target source (as_join source spec) → sums ≡ map (summed_place source) spec.calc → rows_by_places rows columns sums remaining pairs ≡ Ok joined → AreRows (length names) joined
 rows_as_long target source spec names columns sums rows joined remaining pairs e f g told =
     let many : length columns + length sums ≡ length names = (λ i. length (f i) + length (g i)) ∙ sym (as_many_names target source spec) ∙ ap length e in
     rows_long (λ (p : RowValues × List ℕ). row_by_places rows columns sums p.0 (matching remaining p.1)) (length names)
@@ -178,10 +141,10 @@ rows_as_long target source spec names columns sums rows joined remaining pairs e
 module _ (target source : TableContent) (matches : List (List ℕ)) (spec : CalcSpec) (remaining : List ℕ) where
   -- rows by what was read of the tables
   pub rows_told : (targets sources : List Text) (target_rows source_rows : List RowValues) (columns : List Column) (sums : List (Option ℕ)) (numbers : List ℕ) → targets ≡ target.names → sources ≡ source.names → target_rows ≡ target.rows →
-      source_rows ≡ source.rows → columns ≡ columns_of targets sources spec → sums ≡ map (summed_place sources) spec.calc → numbers ≡ remaining →
+      source_rows ≡ source.rows → columns ≡ columns_of targets sources (as_join sources spec) → sums ≡ map (summed_place sources) spec.calc → numbers ≡ remaining →
       calc_rows target source matches spec remaining ≡ rows_by_places source_rows columns sums numbers (zip target_rows matches)
   rows_told targets sources target_rows source_rows columns sums numbers a b c d e f g =
-      let by_names = e ∙ (λ i. columns_of (a i) (b i) spec) in
+      let by_names = e ∙ (λ i. columns_of (a i) (b i) (as_join (b i) spec)) in
       let by_fields = f ∙ (λ i. map (summed_place (b i)) spec.calc) in
       sym (rows_joined target source matches spec remaining) ∙ (λ i. rows_by_places (sym d i) (sym by_names i) (sym by_fields i) (sym g i) (zip (sym c i) matches))
 

@@ -1,6 +1,6 @@
 -- Answers for all items, one item further, and rows that match both ways.
 use Rattle.std.proofs.Common.{◌≡◌, ℕ, zero, suc, ◌+◌, ◌<◌, ◌≤◌, ℤ, Bool, true, nat_eq, nat_lt, List, [], ◌∷◌, ◌++◌, map, filter, length, drop, get_or, Contains, refl, sym, ap, ◌∙◌, subst, append_assoc, append-nil, length-append, add-one, arith}
-use Rattle.std.specs.Prelude.{Option, Some, Result, Ok, Err, IfOk}
+use Rattle.std.specs.Prelude.{Option, Some, None, Result, Ok, Err}
 use Rattle.std.specs.Bool.{beq}
 use Rattle.std.specs.List.{AllZip, zip}
 use Rattle.std.specs.List.Sorted.{IsStrictlyIncreasing}
@@ -10,20 +10,22 @@ use Rattle.std.proofs.lemmas.Slice.Zip.{AllZip-long}
 use Rattle.lists.specs.Lists.{has, numbers_where}
 use Rattle.lists.proofs.Ascending.{one_ascending}
 use Rattle.lists.proofs.Members.{Contains-filter, filter-Contains}
-use Rattle.expr_lang.specs.Tree.{Tree}
+use Rattle.expr_lang.specs.Tree.{tree_of}
+use Rattle.expr_lang.specs.declared.expr.Expr.{Expr}
 use Rattle.json_read.specs.Table.{TableContent, RowValues, AreRows}
 use Rattle.json_read.specs.declared.value.Value.TheVariants as is
 use Rattle.ring_trace.proofs.BoundaryLemmas.{has_Contains, Contains_has}
 use Rattle.ring_trace.proofs.SetLemmas.{nat_order, to_ascending}
 use Rattle.table_terms.specs.Refusals.{on_ok}
-use Rattle.table_ops.specs.Filtering.{filter_rows, tests_of}
-use Rattle.table_ops.specs.Refusals.{Answers, Refuses}
+use Rattle.table_ops.specs.Filtering.{tests_of}
+use Rattle.table_ops.specs.Join.{candidates}
+use Rattle.table_ops.specs.Refusals.{Refuses}
 use Rattle.table_ops.specs.declared.fault.TableFault.{TableFault}
 use Rattle.table_ops.specs.declared.fault.TableFault.TheVariants.{Bad, Memory}
 use Rattle.table_ops.specs.declared.fault.TableWhy.{TableWhy}
-use Rattle.table_ops.proofs.Testing.{behind}
+use Rattle.table_ops.specs.declared.join_columns.Column.{Column}
+use Rattle.table_ops.proofs.Testing.{behind, behind_one}
 use Rattle.spatial_join.specs.CalcColumns.{calculated_at, row_by_places, rows_by_places, with_sums}
-use Rattle.spatial_join.specs.declared.calc_columns.Column.{Column}
 use Rattle.spatial_join.specs.Joined.{each_ok, matching}
 use Rattle.spatial_join.proofs.NumberLemmas.{increasing, numbers_where_rise}
 
@@ -45,10 +47,6 @@ answered (Err why) go u e = absurd (cc)
 module _ {A B : Type 0} (f : A → Result B TableWhy) where
   abbrev each_from : List A → B → Result (List B) TableWhy
   each_from xs y = on_ok (each_ok f xs) (λ (ys : List B). Ok (y ∷ ys))
-
-  behind_one : (ys : List B) (y : B) (r : Result (List B) TableWhy) → behind ys (on_ok r (λ (zs : List B). Ok (y ∷ zs))) ≡ behind (ys ++ y ∷ []) r
-  behind_one ys y (Ok zs) = ap Ok (sym (append_assoc ys (y ∷ []) zs))
-  behind_one ys y (Err why) = refl
 
   -- one item further
   pub each_next : (ys : List B) (xs rest : List A) (x : A) (y : B) → xs ≡ x ∷ rest → f x ≡ Ok y → behind ys (each_ok f xs) ≡ behind (ys ++ y ∷ []) (each_ok f rest)
@@ -154,11 +152,13 @@ both_ways xs ys h k = one_ascending nat_lt nat_order (filter (has nat_eq xs) ys)
 
 -- ---- rows that remain
 
-pub filtered_rise : (t : TableContent) (e : Tree) (r : Result (List ℕ) TableFault) → Answers r (filter_rows t e true) → IfOk r IsStrictlyIncreasing
-filtered_rise t e (Ok numbers) h =
-    let (bs, told, is) = answered (tests_of t e) (λ (bs : List Bool). Ok (numbers_where (beq true) bs)) numbers h in
+pub candidates_rise : (source : TableContent) (test : Option Expr) (numbers : List ℕ) → candidates source test ≡ Ok numbers → IsStrictlyIncreasing numbers
+candidates_rise source None numbers e =
+    let test = λ (row : RowValues). true in
+    subst IsStrictlyIncreasing (answer_same (numbers_where test source.rows) numbers e) (numbers_where_rise test source.rows)
+candidates_rise source (Some test) numbers e =
+    let (bs, told, is) = answered (tests_of source (tree_of test)) (λ (bs : List Bool). Ok (numbers_where (beq true) bs)) numbers e in
     subst IsStrictlyIncreasing (answer_same (numbers_where (beq true) bs) numbers is) (numbers_where_rise (beq true) bs)
-filtered_rise t e (Err why) h = tt
 
 -- ---- a test that is handed on
 

@@ -1,8 +1,5 @@
-ghost use Rattle.std.specs.Prelude.{◌≡◌, ◌<◌, ◌+◌, ◌++◌, ◌∷◌, [], pos, All, IfOk, OnOk, length, map};
-ghost use Rattle.table_ops.specs.Grouping.{column_sum, sum_after, sum_with};
+ghost use Rattle.std.specs.Prelude.{◌≡◌, ◌<◌, ◌+◌, ◌++◌, ◌∷◌, [], All, IfOk, OnOk, length, map};
 ghost use Rattle.table_ops.specs.Refusals.{Answers, Refuses};
-ghost use Rattle.table_ops.specs.Rows.{row_at};
-ghost use Rattle.table_terms.specs.Names.{value_at};
 ghost use Rattle.spatial_join.specs.CalcColumns.{calculated_at, summed_place, with_sums};
 ghost use Rattle.spatial_join.specs.Joined.{calc_name, lacks_field, refused_calc};
 
@@ -10,7 +7,7 @@ use grid_base::IdList;
 use io_core::{NameList, Text};
 use json_read::{Decimal, Row, RowList, Value};
 use std::alloc::{AllocError, Global};
-use table_ops::{TableFault, TableWhy};
+use table_ops::{TableFault, TableWhy, column_sum};
 use table_terms::{Calc, NameSet};
 
 /// Tests the calculations, which count from `first`: the source has the field of each sum, and the name of each is that
@@ -142,58 +139,6 @@ fn calculated(rows: &RowList, matched: &IdList, place: Option<u32>) -> Result<De
 {
     match place {
         None => Ok(Decimal::of_grid(matched.len() as i64, 0)),
-        Some(place) => column_sum(rows, matched.as_slice(), place),
-    }
-}
-
-// The sum at a place over the rows with these numbers, or the first of them that cannot be added.
-fn column_sum(rows: &RowList, numbers: &[u32], place: u32) -> Result<Decimal, TableWhy>
-    requires within { All (λ n. n < length rows.now) numbers.now }
-    ensures exact { result ≡ column_sum rows.now place (pos 0) numbers.now }
-{
-    let mut total = Decimal::of_grid(0, 0);
-    for number in numbers {
-        total = sum_at(total, *number, row_of(rows, *number), place)?;
-    }
-    Ok(total)
-}
-
-fn row_of(rows: &RowList, n: u32) -> &Row
-    requires within { n < length rows.now }
-    ensures lent { result.now ≡ row_at rows.now n }
-{
-    match rows.get(n) {
-        Some(row) => row,
-        None => unreachable!(),
-    }
-}
-
-// A sum with the value at a place of the row with this number, null past its end.
-fn sum_at(total: Decimal, n: u32, row: &Row, place: u32) -> Result<Decimal, TableWhy>
-    ensures exact { result ≡ sum_with total n (value_at row.now place) }
-{
-    match row.get(place) {
-        Some(value) => sum_with(total, n, value),
-        None => Ok(total),
-    }
-}
-
-// A sum with the value of the row with this number, where null counts as 0.
-fn sum_with(total: Decimal, n: u32, value: &Value) -> Result<Decimal, TableWhy>
-    ensures exact { result ≡ sum_with total n value.now }
-{
-    match value {
-        Value::Null => Ok(total),
-        Value::Num(summand) => sum_after(n, total.checked_add(summand)),
-        _ => Err(TableWhy::NotNumber { row: n }),
-    }
-}
-
-fn sum_after(n: u32, sum: Option<Decimal>) -> Result<Decimal, TableWhy>
-    ensures exact { result ≡ sum_after n sum }
-{
-    match sum {
-        Some(sum) => Ok(sum),
-        None => Err(TableWhy::SumRange { row: n }),
+        Some(place) => column_sum(rows, matched, place),
     }
 }

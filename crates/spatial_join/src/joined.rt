@@ -1,22 +1,18 @@
-ghost use Rattle.std.specs.Prelude.{◌≡◌, ◌<◌, All, None, Some, true, IfOk, length, map, nat_eq};
+ghost use Rattle.std.specs.Prelude.{◌≡◌, ◌<◌, All, IfOk, length, nat_eq};
 ghost use Rattle.std.specs.List.{zip};
 ghost use Rattle.std.specs.List.Sorted.{IsStrictlyIncreasing};
 ghost use Rattle.std.specs.Option.{option_copied};
-ghost use Rattle.json_read.specs.Table.{RowValues};
-ghost use Rattle.lists.specs.Lists.{has, numbers_where};
-ghost use Rattle.table_ops.specs.Join.{candidates};
+ghost use Rattle.lists.specs.Lists.{has};
 ghost use Rattle.table_ops.specs.Refusals.{Answers};
-ghost use Rattle.table_terms.specs.Names.{value_at};
-ghost use Rattle.spatial_join.specs.CalcColumns.{column_value, row_by_places, rows_by_places};
+ghost use Rattle.spatial_join.specs.CalcColumns.{row_by_places, rows_by_places};
 ghost use Rattle.spatial_join.specs.Joined.{first_row, join_matched, matching};
 
-use crate::calc_columns::{Column, Columns, joined_columns};
-use crate::calculations::with_sums;
-use expr_lang::Expr;
+use crate::calc_columns::joined_columns;
+use crate::calculations::{summed_places, with_sums};
 use grid_base::{GroupList, IdList};
-use json_read::{Row, RowList, Table, Value};
+use json_read::{Row, RowList, Table};
 use std::alloc::{AllocError, Global};
-use table_ops::{TableFault, filter_rows};
+use table_ops::{Column, TableFault, candidates, copied_row};
 use table_terms::{CalcSpec, NameSet};
 
 /// Fields of the source go to the rows of the target: to each from the first source row that matches it, and behind them
@@ -55,6 +51,7 @@ pub fn join_matched(
         &sources,
         spec,
     )?;
+    let sums = summed_places(alloc, &sources, spec.calc.as_slice())?;
     let remaining = candidates(alloc, source, &spec.test)?;
     let rows = joined_rows(
         alloc,
@@ -62,31 +59,10 @@ pub fn join_matched(
         source.rows(),
         matches,
         remaining.as_slice(),
-        &columns,
+        &columns.cells,
+        &sums,
     )?;
     Ok(Table::new(columns.names, rows))
-}
-
-// The numbers of the source rows that take part: all, or those for which the test is true.
-fn candidates(alloc: Global, source: &Table, test: &Option<Expr>) -> Result<IdList, TableFault>
-    ensures exact { Answers result (candidates source.now test.now) }
-    ensures within { IfOk result (λ numbers. All (λ n. n < length source.now.rows) numbers) }
-    ensures ascending { IfOk result IsStrictlyIncreasing }
-{
-    match test {
-        Some(test) => filter_rows(alloc, source, test, false),
-        None => Ok(all_numbers(alloc, source.rows())?),
-    }
-}
-
-fn all_numbers(alloc: Global, rows: &RowList) -> Result<IdList, AllocError>
-    ensures all { IfOk result (λ numbers. numbers ≡ numbers_where (λ (row : RowValues). true) rows.now) }
-{
-    let mut numbers = IdList::new(alloc);
-    for n in 0..rows.len() {
-        numbers.push(n)?;
-    }
-    Ok(numbers)
 }
 
 // The rows of the target with what they take of the remaining source rows that match them.
@@ -96,13 +72,14 @@ fn joined_rows(
     source: &RowList,
     matches: &GroupList,
     remaining: &[u32],
-    columns: &Columns,
+    columns: &[Column],
+    sums: &[Option<u32>],
 ) -> Result<RowList, TableFault>
     requires each { length matches.now ≡ length target.now }
     requires ascending { All IsStrictlyIncreasing matches.now }
     requires remaining { IsStrictlyIncreasing remaining.now }
     requires within { All (λ n. n < length source.now) remaining.now }
-    ensures exact { Answers result (rows_by_places source.now columns.now.cells.items columns.now.sums.items remaining.now (zip target.now matches.now)) }
+    ensures exact { Answers result (rows_by_places source.now columns.now sums.now remaining.now (zip target.now matches.now)) }
 {
     let mut rows = RowList::new(alloc);
     for i in 0..target.len() {
@@ -113,6 +90,7 @@ fn joined_rows(
             source,
             &matched,
             columns,
+            sums,
         )?;
         rows.push(row)?;
     }
@@ -150,13 +128,14 @@ fn joined_row(
     row: &Row,
     source: &RowList,
     matched: &IdList,
-    columns: &Columns,
+    columns: &[Column],
+    sums: &[Option<u32>],
 ) -> Result<Row, TableFault>
     requires within { All (λ n. n < length source.now) matched.now }
-    ensures exact { Answers result (row_by_places source.now columns.now.cells.items columns.now.sums.items row.now matched.now) }
+    ensures exact { Answers result (row_by_places source.now columns.now sums.now row.now matched.now) }
 {
-    let cells = copied_row(alloc, row, first_row(source, matched), &columns.cells)?;
-    with_sums(cells, source, matched, &columns.sums)
+    let cells = copied_row(alloc, row, first_row(source, matched), columns)?;
+    with_sums(cells, source, matched, sums)
 }
 
 // The row with the first of these numbers.
@@ -165,67 +144,4 @@ fn first_row<'a>(rows: &'a RowList, numbers: &IdList) -> Option<&'a Row>
     ensures first { option_copied result ≡ first_row rows.now numbers.now }
 {
     rows.get(*numbers.get(0)?)
-}
-
-// A row of the target with the copied fields of its match.
-fn copied_row(
-    alloc: Global,
-    row: &Row,
-    matched: Option<&Row>,
-    columns: &[Column],
-) -> Result<Row, AllocError>
-    ensures cells { IfOk result (λ cells. cells ≡ map (column_value row.now (option_copied matched.entry)) columns.now) }
-{
-    match matched {
-        Some(source) => row_with(alloc, row, source, columns),
-        None => row_without(alloc, row, columns),
-    }
-}
-
-fn row_with(alloc: Global, row: &Row, source: &Row, columns: &[Column]) -> Result<Row, AllocError>
-    ensures cells { IfOk result (λ cells. cells ≡ map (column_value row.now (Some source.now)) columns.now) }
-{
-    let mut cells = Row::new(alloc);
-    for column in columns {
-        cells.push(value_with(alloc, row, source, *column)?)?;
-    }
-    Ok(cells)
-}
-
-fn row_without(alloc: Global, row: &Row, columns: &[Column]) -> Result<Row, AllocError>
-    ensures cells { IfOk result (λ cells. cells ≡ map (column_value row.now None) columns.now) }
-{
-    let mut cells = Row::new(alloc);
-    for column in columns {
-        cells.push(value_without(alloc, row, *column)?)?;
-    }
-    Ok(cells)
-}
-
-fn value_with(alloc: Global, row: &Row, source: &Row, column: Column) -> Result<Value, AllocError>
-    ensures value { IfOk result (λ value. value ≡ column_value row.now (Some source.now) column) }
-{
-    match column {
-        Column::Kept { own } => copy_at(alloc, row, own),
-        Column::Forced { own: _, place } | Column::Added { place } => copy_at(alloc, source, place),
-    }
-}
-
-fn value_without(alloc: Global, row: &Row, column: Column) -> Result<Value, AllocError>
-    ensures value { IfOk result (λ value. value ≡ column_value row.now None column) }
-{
-    match column {
-        Column::Kept { own } | Column::Forced { own, place: _ } => copy_at(alloc, row, own),
-        Column::Added { place: _ } => Ok(Value::Null),
-    }
-}
-
-// The value of a row at a place, null past its end.
-fn copy_at(alloc: Global, row: &Row, place: u32) -> Result<Value, AllocError>
-    ensures copied { IfOk result (λ v. v ≡ value_at row.now place) }
-{
-    match row.get(place) {
-        Some(value) => value.copy(alloc),
-        None => Ok(Value::Null),
-    }
 }

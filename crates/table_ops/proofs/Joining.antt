@@ -175,21 +175,20 @@ distinct-filter p (x ∷ xs) h = by (p x) (distinct-filter p xs h.1)
     by true rest = (all_filter (λ (y : Text). bytes_eq x y ≡ false) p xs h.0, rest)
     by false rest = rest
 
-copied_differ : (spec : JoinSpec) (fields : List Text) → IsDistinct bytes_eq fields → IsDistinct bytes_eq (map (copied_name spec) fields)
-copied_differ spec fields h =
-    IsDistinct-map (copied_name spec) bytes_eq fields
-    (subst (λ (eq : Text → Text → Bool). IsDistinct eq fields) (λ i. λ (s t : Text). sym (same_behind spec.prefix s t) i) h)
+-- names behind the same prefix differ, where the fields do
+pub copied_differ : (prefix : Text) (fields : List Text) → IsDistinct bytes_eq fields → IsDistinct bytes_eq (map (λ (f : Text). prefix ++ f) fields)
+copied_differ prefix fields h =
+    IsDistinct-map (λ (f : Text). prefix ++ f) bytes_eq fields
+    (subst (λ (eq : Text → Text → Bool). IsDistinct eq fields) (λ i. λ (s t : Text). sym (same_behind prefix s t) i) h)
+
+-- the listed fields, else others
+pub listed_differ : (listed : Option (List Text)) (others : List Text) → IsDistinct bytes_eq others → IsDistinct bytes_eq (unwrap_or listed []) → IsDistinct bytes_eq (unwrap_or listed others)
+listed_differ None others h k = h
+listed_differ (Some fields) others h k = k
 
 -- the copied fields differ, where the listed ones do
 pub fields_differ : (names : List Text) (spec : JoinSpec) → IsDistinct bytes_eq names → IsDistinct bytes_eq (unwrap_or spec.fields []) → IsDistinct bytes_eq (copied_fields names spec)
-fields_differ names spec h k = by spec.fields k
-  where
-    by : (o : Option (List Text)) → IsDistinct bytes_eq (unwrap_or o []) → IsDistinct bytes_eq (unwrap_or o (filter (λ (f : Text). not (bytes_eq f spec.source_key)) names))
-    by None l = distinct-filter (λ (f : Text). not (bytes_eq f spec.source_key)) names h
-    by (Some fields) l = l
-
-pub copied_names_differ : (spec : JoinSpec) (fields : List Text) → IsDistinct bytes_eq fields → IsDistinct bytes_eq (map (copied_name spec) fields)
-copied_names_differ spec fields h = copied_differ spec fields h
+fields_differ names spec h k = listed_differ spec.fields (filter (λ (f : Text). not (bytes_eq f spec.source_key)) names) (distinct-filter (λ (f : Text). not (bytes_eq f spec.source_key)) names h) k
 
 abbrev AreNew : List Text → List Text → Type 0
 AreNew target names = AllByRecursion (λ (y : Text). has_name target y ≡ false) names
@@ -213,11 +212,11 @@ all_append : (P : Text → Type 0) (xs ys : List Text) → AllByRecursion P xs �
 all_append P [] ys h k = k
 all_append P (x ∷ xs) ys h k = (h.0, all_append P xs ys h.1 k)
 
-or_first : (a b : Bool) → (a || b) ≡ false → a ≡ false
+pub or_first : (a b : Bool) → (a || b) ≡ false → a ≡ false
 or_first true b e = absurd (true≢false e)
 or_first false b e = refl
 
-or_second : (a b : Bool) → (a || b) ≡ false → b ≡ false
+pub or_second : (a b : Bool) → (a || b) ≡ false → b ≡ false
 or_second true b e = absurd (true≢false e)
 or_second false b e = e
 
@@ -240,7 +239,7 @@ pub joined_names_differ : (target source : List Text) (spec : JoinSpec) → IsDi
     → IsDistinct bytes_eq (target ++ map (copied_name spec) (new_fields target source spec))
 joined_names_differ target source spec h k =
     distinct-behind target (map (copied_name spec) (new_fields target source spec)) h
-    (copied_differ spec (new_fields target source spec) (distinct-filter (λ (f : Text). not (has_name target (copied_name spec f))) (copied_fields source spec) k))
+    (copied_differ spec.prefix (new_fields target source spec) (distinct-filter (λ (f : Text). not (has_name target (copied_name spec f))) (copied_fields source spec) k))
     (are_new target spec (copied_fields source spec))
 
 -- there are as many names as columns

@@ -13,7 +13,7 @@ use Rattle.table_ops.specs.declared.fault.TableWhy.{TableWhy}
 abbrev pub behind : {A E : Type 0} → List A → Result (List A) E → Result (List A) E
 behind bs r = on_ok r (λ cs. Ok (bs ++ cs))
 
-behind_one : {A E : Type 0} (bs : List A) (b : A) (r : Result (List A) E) → behind bs (on_ok r (λ cs. Ok (b ∷ cs))) ≡ behind (bs ++ b ∷ []) r
+pub behind_one : {A E : Type 0} (bs : List A) (b : A) (r : Result (List A) E) → behind bs (on_ok r (λ cs. Ok (b ∷ cs))) ≡ behind (bs ++ b ∷ []) r
 behind_one bs b (Ok cs) = ap Ok (sym (append_assoc bs (b ∷ []) cs))
 behind_one bs b (Err w) = refl
 

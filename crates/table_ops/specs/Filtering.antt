@@ -6,6 +6,7 @@ use Rattle.expr_lang.specs.Meaning.{Evaluated, evaluated}
 use Rattle.expr_lang.specs.Tree.{Tree}
 use Rattle.expr_lang.specs.declared.fault.EvalFault.TheVariants as fault
 use Rattle.json_read.specs.Table.{TableContent, RowValues}
+use Rattle.json_read.specs.declared.value.Value.{Value}
 use Rattle.json_read.specs.declared.value.Value.TheVariants as cell
 use Rattle.table_terms.specs.Names.{Text}
 use Rattle.table_terms.specs.Refusals.{on_ok}
@@ -13,14 +14,21 @@ use Rattle.table_ops.specs.declared.fault.EvalWhy.TheVariants as why
 use Rattle.table_ops.specs.declared.fault.TableWhy.{TableWhy}
 use Rattle.table_ops.specs.declared.fault.TableWhy.TheVariants.{Eval, NotBoolean}
 
--- what a value says of row n, or why it says nothing; that memory is wanting is no value of an expression
+-- the value for row n, or why there is none; that memory is wanting is no value of an expression
+abbrev pub value_for : ℕ → Evaluated → Result Value TableWhy
+value_for n (Ok v) = Ok v
+value_for n (Err (fault.Unknown at)) = Err (Eval n at why.Unknown)
+value_for n (Err (fault.Types at)) = Err (Eval n at why.Types)
+value_for n (Err (fault.Range at)) = Err (Eval n at why.Range)
+value_for n (Err fault.Memory) = Err (Eval n 0 why.Range)
+
+-- what a value says of row n, or why it says nothing
+abbrev pub truth_for : ℕ → Value → Result Bool TableWhy
+truth_for n (cell.Bool b) = Ok b
+truth_for n v = Err (NotBoolean n)
+
 abbrev pub says : ℕ → Evaluated → Result Bool TableWhy
-says n (Ok (cell.Bool b)) = Ok b
-says n (Ok v) = Err (NotBoolean n)
-says n (Err (fault.Unknown at)) = Err (Eval n at why.Unknown)
-says n (Err (fault.Types at)) = Err (Eval n at why.Types)
-says n (Err (fault.Range at)) = Err (Eval n at why.Range)
-says n (Err fault.Memory) = Err (NotBoolean n)
+says n said = on_ok (value_for n said) (truth_for n)
 
 -- what the expression says of each row, from number n on, or the first refusal
 abbrev pub tests_from : List Text → Tree → ℕ → List RowValues → Result (List Bool) TableWhy

@@ -1,5 +1,5 @@
 -- The columns of a joined table by places: where each comes from, and its value in a row.
-use Rattle.std.specs.Prelude.{ℕ, List, ◌++◌, map, Option, Some, None, option_map, slice_get}
+use Rattle.std.specs.Prelude.{ℕ, List, [], ◌++◌, map, Option, Some, None, option_map, slice_get}
 use Rattle.json_read.specs.Table.{RowValues}
 use Rattle.json_read.specs.declared.value.Value.{Value}
 use Rattle.json_read.specs.declared.value.Value.TheVariants as is
@@ -8,6 +8,11 @@ use Rattle.table_ops.specs.Join.{forced_field, new_fields}
 use Rattle.table_terms.specs.declared.specifications.JoinSpec.{JoinSpec}
 use Rattle.table_ops.specs.declared.join_columns.Column.{Column}
 use Rattle.table_ops.specs.declared.join_columns.Column.TheVariants.{Kept, Forced, Added}
+use Rattle.table_ops.specs.declared.join_columns.CopiedFields.{CopiedFields}
+
+-- a join that copies just these fields
+abbrev pub join_of : CopiedFields → JoinSpec
+join_of copied = record { target_key = []; source_key = []; fields = Some copied.fields.now; force = copied.force; test = None; prefix = copied.prefix.now }
 
 abbrev pub kept_at : ℕ → Option ℕ → Column
 kept_at own None = Kept own

@@ -1,16 +1,17 @@
-ghost use Rattle.std.specs.Prelude.{◌≡◌, ◌<◌, ◌++◌, ◌∷◌, [], All, Bool, Ok, Err, IfOk, OnOk, length, if◌then◌else◌, not, vec_items};
+ghost use Rattle.std.specs.Prelude.{◌≡◌, ◌<◌, ◌++◌, ◌∷◌, [], All, Err, IfOk, OnOk, length, if◌then◌else◌, not, vec_items};
 ghost use Rattle.std.specs.Bool.{beq};
 ghost use Rattle.lists.specs.Lists.{numbers_where};
 ghost use Rattle.expr_lang.specs.Meaning.{Evaluated, FaultIs, evaluated};
 ghost use Rattle.expr_lang.specs.Tree.{tree_of};
-ghost use Rattle.table_ops.specs.Filtering.{filter_rows, says, tests_of};
+ghost use Rattle.json_read.specs.declared.value.Value as cell;
+ghost use Rattle.table_ops.specs.Filtering.{filter_rows, says, tests_of, truth_for, value_for};
 ghost use Rattle.table_ops.specs.Refusals.{Answers, AnswersAs};
 
 use crate::fault::{EvalWhy, TableFault, TableWhy};
 use crate::rows::row_of;
-use expr_lang::{EvalFault, Expr, eval};
+use expr_lang::{EvalFault, Expr, eval_values};
 use grid_base::IdList;
-use io_core::NameList;
+use io_core::{NameList, Text};
 use json_read::{Row, Table, Value};
 use std::alloc::{AllocError, Global};
 
@@ -51,14 +52,14 @@ fn append(tests: &mut Vec<bool>, test: bool) -> Result<(), AllocError>
 fn test_of(alloc: Global, names: &NameList, row: &Row, n: u32, e: &Expr) -> Result<bool, TableFault>
     ensures exact { Answers result (says n (evaluated names.now row.now n (tree_of e.now))) }
 {
-    match eval(alloc, e, names, row, n) {
+    match value_for_row(alloc, names.as_slice(), row.as_slice(), n, e) {
         Ok(value) => boolean(&value, n),
-        Err(fault) => Err(refusal(fault, n)),
+        Err(fault) => Err(fault),
     }
 }
 
 fn boolean(value: &Value, row: u32) -> Result<bool, TableFault>
-    ensures exact { Answers result (says row (Ok value.now)) }
+    ensures exact { Answers result (truth_for row value.now) }
 {
     match value {
         Value::Bool(b) => Ok(*b),
@@ -68,8 +69,26 @@ fn boolean(value: &Value, row: u32) -> Result<bool, TableFault>
     }
 }
 
+/// The value of the expression for the row with this number, counted from 0.
+///
+/// Errors: `Eval` where it has a fault.
+pub fn value_for_row(
+    alloc: Global,
+    names: &[Text],
+    row: &[Value],
+    n: u32,
+    e: &Expr,
+) -> Result<Value, TableFault>
+    ensures exact { Answers result (value_for n (evaluated names.now row.now n (tree_of e.now))) }
+{
+    match eval_values(alloc, e, names, row, n) {
+        Ok(value) => Ok(value),
+        Err(fault) => Err(refusal(fault, n)),
+    }
+}
+
 fn refusal(fault: EvalFault, row: u32) -> TableFault
-    ensures exact { (said : Evaluated) → FaultIs said fault → Answers {T = Bool} (Err result) (says row said) }
+    ensures exact { (said : Evaluated) → FaultIs said fault → Answers {T = cell.Value} (Err result) (value_for row said) }
 {
     let (at, why) = match fault {
         EvalFault::Unknown { at } => (at, EvalWhy::Unknown),

@@ -36,7 +36,7 @@ fn note_refusal(refused: &mut Option<TableWhy>, sum: &Result<Decimal, TableWhy>)
 }
 
 /// The sum at a place over the rows with these numbers, or the first of them that cannot be added.
-fn column_sum(rows: &RowList, members: &IdList, place: u32) -> Result<Decimal, TableWhy>
+pub fn column_sum(rows: &RowList, members: &IdList, place: u32) -> Result<Decimal, TableWhy>
     requires within { All (λ n. n < length rows.now) members.now }
     ensures exact { result ≡ column_sum rows.now place (pos 0) members.now }
 {

@@ -73,7 +73,7 @@ fn check_join(
 {
     check_key(targets, spec.target_key.as_str(), 0)?;
     check_key(sources, spec.source_key.as_str(), 1)?;
-    check_fields(alloc, sources, &spec.fields)
+    check_fields(alloc, sources, 2, &spec.fields)
 }
 
 fn check_key(names: &NameSet, key: &str, item: u32) -> Result<(), TableFault>
@@ -86,22 +86,26 @@ fn check_key(names: &NameSet, key: &str, item: u32) -> Result<(), TableFault>
     Err(TableFault::Bad { why })
 }
 
-fn check_fields(
+/// Tests the listed fields of a join, which count from `first`: each is a field of the source, and stands once.
+pub fn check_fields(
     alloc: Global,
     sources: &NameSet,
+    first: u32,
     fields: &Option<NameList>,
 ) -> Result<(), TableFault>
-    ensures exact { Refuses result (refused_item sources.now [] 2 (unwrap_or fields.now [])) }
+    ensures exact { Refuses result (refused_item sources.now [] first (unwrap_or fields.now [])) }
     ensures distinct { OnOk result (IsDistinct bytes_eq (unwrap_or fields.now [])) }
 {
     match fields {
-        Some(fields) => check_list(alloc, sources, 2, fields),
+        Some(fields) => check_list(alloc, sources, first, fields),
         None => Ok(()),
     }
 }
 
 /// The numbers of the source rows that take part: all, or those for which the test is true.
-fn candidates(alloc: Global, source: &Table, test: &Option<Expr>) -> Result<IdList, TableFault>
+///
+/// Errors: `Eval` and `NotBoolean` at the first row for which the test is no boolean.
+pub fn candidates(alloc: Global, source: &Table, test: &Option<Expr>) -> Result<IdList, TableFault>
     ensures exact { Answers result (candidates source.now test.now) }
     ensures within { IfOk result (λ numbers. All (λ n. n < length source.now.rows) numbers) }
 {
@@ -174,13 +178,13 @@ fn joined_rows(
     let mut rows = RowList::new(alloc);
     for row in target.as_slice() {
         let matched = match_of(alloc, row, source, key, firsts)?;
-        rows.push(joined_row(alloc, row, matched, columns)?)?;
+        rows.push(copied_row(alloc, row, matched, columns)?)?;
     }
     Ok(rows)
 }
 
 /// A row of the target, with the copied fields of its match.
-fn joined_row(
+pub fn copied_row(
     alloc: Global,
     row: &Row,
     matched: Option<&Row>,

@@ -1,4 +1,7 @@
 //! Tables of named columns: rows taken, filtered, grouped and split, columns kept and renamed, tables joined and merged.
+//!
+//! A join by keys goes in steps that serve other joins too: `check_fields` and `candidates` say what of the source takes
+//! part, `copied_columns` which columns the table has, and `copied_row` what a row has of its match.
 #![tactic(auto)]
 
 mod columns;
@@ -19,9 +22,11 @@ mod split;
 
 pub use columns::keep_fields;
 pub use fault::{EvalWhy, TableFault, TableWhy};
-pub use filter::{filter_rows, numbers_of};
+pub use filter::{filter_rows, numbers_of, value_for_row};
 pub use group::{Grouped, group_rows};
-pub use join::join_tables;
+pub use group_sums::column_sum;
+pub use join::{candidates, check_fields, copied_row, join_tables};
+pub use join_columns::{Column, Columns, CopiedFields, copied_columns, copied_names};
 pub use merge::{TableList, merge_tables};
 pub use rename::rename_fields;
 pub use rows::{copy_names, take_rows};

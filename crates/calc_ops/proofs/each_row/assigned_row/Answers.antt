@@ -8,7 +8,7 @@ use Rattle.json_read.specs.Table.{RowValues, AreRows}
 use Rattle.table_ops.specs.Rows.{row_at}
 use Rattle.table_ops.proofs.TakenRows.{long_at}
 use Rattle.table_ops.proofs.Answering.{answers_other}
-use Rattle.calc_ops.specs.Keys.{value_for}
+use Rattle.table_ops.specs.Filtering.{value_for}
 use Rattle.calc_ops.specs.EachRow.{assigned_row, names_after, places_after, with_value}
 use Rattle.calc_ops.proofs.EachLemmas.{SoFar, none_set, row_stops, row_sets}
 use Rattle.calc_ops.proofs.IslandLemmas.{read_is}

@@ -28,7 +28,7 @@ returns-in_err-row c =
     record {
       exact = answers_other _ c.in_err-row.field-0.0 _ _ (p.1 ∙ ap Err p.2) c.in_err-row.ensures.exact (λ why e.
           c.loop-i.invariant
-          ∙ rows_stop c.args.source.now c.args.columns.now.cells.items c.args.columns.now.sums.items c.args.remaining.now c.args.target.now c.args.matches.now c.requires.each c.loop-i.rows i row row list
+          ∙ rows_stop c.args.source.now c.args.columns.now c.args.sums.now c.args.remaining.now c.args.target.now c.args.matches.now c.requires.each c.loop-i.rows i row row list
           c.as_slice-in-loop-i.result.now c.in_ok-matched.matched (omega arith) row_is list_is c.in_ok-matched.ensures.both why e);
     }
 
@@ -42,7 +42,7 @@ loop-i-preserved c =
     let row_is = c.index-as_slice-i-in-loop-i.is ∙ ap (λ (rows : List RowValues). get_or rows i row) c.as_slice-in-loop-i-2.ensures.all in
     let list_is = c.as_slice-in-loop-i.ensures.all ∙ c.index-as_slice-i.is ∙ ap (λ (lists : List (List ℕ)). get_or lists i list) c.as_slice.ensures.all in
     c.loop-i.invariant
-    ∙ rows_next c.args.source.now c.args.columns.now.cells.items c.args.columns.now.sums.items c.args.remaining.now c.args.target.now c.args.matches.now c.requires.each c.loop-i.rows i row row list
+    ∙ rows_next c.args.source.now c.args.columns.now c.args.sums.now c.args.remaining.now c.args.target.now c.args.matches.now c.requires.each c.loop-i.rows i row row list
     c.as_slice-in-loop-i.result.now c.in_ok-matched.matched (omega arith) row_is list_is c.in_ok-matched.ensures.both c.in_ok-row.row c.push.new.self c.in_ok-row.ensures.exact c.in_ok-push.ensures.ok
 
 pub returns : goal.returns
@@ -51,5 +51,5 @@ returns c =
     let past = c.loop-i-test.false in
     record {
       exact = c.loop-i.invariant
-          ∙ rows_done c.args.source.now c.args.columns.now.cells.items c.args.columns.now.sums.items c.args.remaining.now c.args.target.now c.args.matches.now c.requires.each c.loop-i.rows c.loop-i.i (omega arith);
+          ∙ rows_done c.args.source.now c.args.columns.now c.args.sums.now c.args.remaining.now c.args.target.now c.args.matches.now c.requires.each c.loop-i.rows c.loop-i.i (omega arith);
     }

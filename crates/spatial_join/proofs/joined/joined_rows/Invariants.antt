@@ -6,5 +6,5 @@ use Rattle.spatial_join.proofs.joined.joined_rows.Given as goal
 
 abbrev pub invariant-loop-i : goal.invariant-loop-i
 invariant-loop-i l =
-    rows_by_places l.source l.columns.cells.items l.columns.sums.items l.remaining (zip l.target l.matches)
-    ≡ behind l.rows (rows_by_places l.source l.columns.cells.items l.columns.sums.items l.remaining (drop l.i (zip l.target l.matches)))
+    rows_by_places l.source l.columns l.sums l.remaining (zip l.target l.matches)
+    ≡ behind l.rows (rows_by_places l.source l.columns l.sums l.remaining (drop l.i (zip l.target l.matches)))

@@ -14,5 +14,5 @@ loop-row-preserved c =
     let row = c.row-item.result in
     let columns = c.args.columns.now in
     let joined : RowValues → RowValues = λ (r : RowValues). map (column_value r (row_found c.args.source.now (get same_values c.args.firsts.now (value_at r c.args.key ∷ [])))) columns in
-    let cells = c.in_ok-joined_row.ensures.cells ∙ ap (λ (o : Option RowValues). map (column_value row o) columns) c.in_ok-matched.ensures.matched ∙ ap joined c.row-item.is in
+    let cells = c.in_ok-copied_row.ensures.cells ∙ ap (λ (o : Option RowValues). map (column_value row o) columns) c.in_ok-matched.ensures.matched ∙ ap joined c.row-item.is in
     c.in_ok-push.ensures.ok ∙ (λ j. c.loop-row.invariant j ++ cells j ∷ []) ∙ sym (map_more joined items i row c.loop-row-test.true)

@@ -1,6 +1,0 @@
-use Rattle.std.proofs.Common.{◌≡◌, map, take, None}
-use Rattle.spatial_join.specs.CalcColumns.{column_value}
-use Rattle.spatial_join.proofs.joined.row_without.Given as goal
-
-abbrev pub invariant-loop-column : goal.invariant-loop-column
-invariant-loop-column l = l.cells ≡ map (column_value l.row None) (take l.column-index l.columns)
