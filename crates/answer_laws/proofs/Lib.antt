@@ -5,3 +5,10 @@ pub mod Numbers
 pub mod Parts
 pub mod Insides
 pub mod Exist
+pub mod Rounds
+pub mod Trails
+pub mod Covers
+pub mod Bounding
+pub mod LeastArcs
+pub mod Polygons
+pub mod PartPolygons

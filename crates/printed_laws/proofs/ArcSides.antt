@@ -69,12 +69,12 @@ kept p b = go (same_point b p) refl
     go true e = sym (same_point_from b p e)
     go false e = refl
 
-not_first : (p a b : GridPoint) → p ≡ a → first_or p (filter (λ (r : GridPoint). not (same_point r p)) (a ∷ b ∷ [])) ≡ b
+pub not_first : (p a b : GridPoint) → p ≡ a → first_or p (filter (λ (r : GridPoint). not (same_point r p)) (a ∷ b ∷ [])) ≡ b
 not_first p a b e =
     let rest : List GridPoint = cond (not (same_point b p)) (b ∷ []) [] in
     ap (λ (c : Bool). first_or p (cond (not c) (a ∷ rest) rest)) (same_point_to a p (sym e)) ∙ kept p b
 
-not_second : (p a b : GridPoint) → p ≡ b → first_or p (filter (λ (r : GridPoint). not (same_point r p)) (a ∷ b ∷ [])) ≡ a
+pub not_second : (p a b : GridPoint) → p ≡ b → first_or p (filter (λ (r : GridPoint). not (same_point r p)) (a ∷ b ∷ [])) ≡ a
 not_second p a b e =
     ap (λ (c : Bool). first_or p (cond (not (same_point a p)) (a ∷ cond (not c) (b ∷ []) []) (cond (not c) (b ∷ []) []))) (same_point_to b p (sym e)) ∙ kept p a
 
@@ -86,7 +86,7 @@ head_of_opposite e = go e.forward
     go false = refl
 
 -- a way begins with the vertex that its step goes to
-way_first : (node : GridPoint → Bool) (S : List Segment) (n : ℕ) (start p q : GridPoint) → way_on node S n start p q ≡ q ∷ tail (way_on node S n start p q)
+pub way_first : (node : GridPoint → Bool) (S : List Segment) (n : ℕ) (start p q : GridPoint) → way_on node S n start p q ≡ q ∷ tail (way_on node S n start p q)
 way_first node S zero start p q = refl
 way_first node S (suc n) start p q = refl
 
@@ -254,7 +254,7 @@ module _ (S : List Segment) (arr : IsArrangement S) (label : Place → ℕ) (agr
 
 -- ---- the arcs of a drawing
 
-once_there : {A : Type 0} (same : A → A → Bool) (xs : List A) (y : A) → Contains (each_once same xs) y → Contains xs y
+pub once_there : {A : Type 0} (same : A → A → Bool) (xs : List A) (y : A) → Contains (each_once same xs) y → Contains xs y
 once_there same [] y c = Contains-nil y c
 once_there same (x ∷ xs) y c = elim (Contains-cases x (filter (λ z. not (same x z)) (each_once same xs)) y c) [
   | inl e ↦ subst (Contains (x ∷ xs)) e (Contains-head x xs)
@@ -262,7 +262,7 @@ once_there same (x ∷ xs) y c = elim (Contains-cases x (filter (λ z. not (same
 ]
 
 -- where no arc ends there are two links
-two_links : (s : Drawing) (S : List Segment) (q : GridPoint) → is_node s S q ≡ false → length (joined_to S q) ≡ 2
+pub two_links : (s : Drawing) (S : List Segment) (q : GridPoint) → is_node s S q ≡ false → length (joined_to S q) ≡ 2
 two_links s S q e =
     let lines : Bool = list_any (λ path. ends_at q path || turns_back q path) (joined_up s.lines) in
     let rings : Bool = list_any (λ ring. turns_back q (gone_round ring)) (flat_map rings_of s.polygons ++ s.boxes) in
