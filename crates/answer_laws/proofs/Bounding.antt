@@ -45,7 +45,7 @@ distinct_joined (x ∷ xs) ys h =
 
 module _ (left right : Segment → Bool) where
   -- the step goes along l with the region on its left alone
-  abbrev IsAlong : Segment → Segment → Type 0
+  abbrev pub IsAlong : Segment → Segment → Type 0
   IsAlong l t = ((t ≡ l) × (left l ≡ true) × (right l ≡ false)) ⊎ ((t ≡ reversed l) × (left l ≡ false) × (right l ≡ true))
 
   pub of_boundary : (ls : List Segment) (t : Segment) → Contains (boundary_by left right ls) t → (l : Segment) × Contains ls l × IsAlong l t
@@ -62,7 +62,7 @@ module _ (left right : Segment → Bool) where
   abbrev Ordered : Segment → Type 0
   Ordered l = IsBefore l.start l.stop
 
-  not_turned : (k l : Segment) → Ordered k → Ordered l → k ≡ reversed l → ⊥
+  pub not_turned : (k l : Segment) → Ordered k → Ordered l → k ≡ reversed l → ⊥
   not_turned k l u v e = before_not_itself l.start (before_trans l.start l.stop l.start v (subst Ordered e u))
 
   distinct_steps : (ls : List Segment) → All Ordered ls → IsDistinct ls → IsDistinct (boundary_by left right ls)

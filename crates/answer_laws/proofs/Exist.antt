@@ -21,7 +21,7 @@ use Rattle.answer_laws.proofs.Numbers.{ArePlaces}
 use Rattle.answer_laws.proofs.Parts.{gaps_told, parts_told}
 
 -- the links of arcs are links of the drawing
-links_of_arcs : (d : Drawing) (n : ℕ) (l : Segment) → Contains (links_of_arc (arcs_of (snapped d) (links_of (snapped d))) n) l → Contains (links_of (snapped d)) l
+pub links_of_arcs : (d : Drawing) (n : ℕ) (l : Segment) → Contains (links_of_arc (arcs_of (snapped d) (links_of (snapped d))) n) l → Contains (links_of (snapped d)) l
 links_of_arcs d n l c =
     let S : List Segment = links_of (snapped d) in
     let (a, b, sides) = arc_sides (snapped d) (arranged d) (label S (arranged d) (distinct d)) (labelling S (arranged d) (distinct d)).agrees n in

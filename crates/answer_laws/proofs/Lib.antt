@@ -12,3 +12,4 @@ pub mod Bounding
 pub mod LeastArcs
 pub mod Polygons
 pub mod PartPolygons
+pub mod Together

@@ -81,10 +81,10 @@ module _ (S : List Segment) (arr : IsArrangement S) (distinct : IsDistinct S) (I
     abbrev lesser : ℕ → List ℕ
     lesser n = filter (λ m. nat_lt m n) all
 
-    lesser_rise : (n : ℕ) → IsStrictlyIncreasing (lesser n)
+    pub lesser_rise : (n : ℕ) → IsStrictlyIncreasing (lesser n)
     lesser_rise n = from_ascending (lesser n) (filter_ascends nat_lt (λ m. nat_lt m n) all up)
 
-    lesser_are : (n m : ℕ) → Contains (lesser n) m ↔ ((m < n) × SomeHas m)
+    pub lesser_are : (n m : ℕ) → Contains (lesser n) m ↔ ((m < n) × SomeHas m)
     lesser_are n m = (
       λ c. (let (there, less) = filter-Contains (λ k. nat_lt k n) all m c in (ltb-true m n less, (are m).0 there)),
       λ (less, some). Contains-filter (λ k. nat_lt k n) all m ((are m).1 some) (lt-ltb m n less),

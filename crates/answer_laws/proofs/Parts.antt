@@ -1,8 +1,8 @@
 -- Parts of a set of points, and gaps in it, can be told, and there are finitely many.
-use Rattle.std.proofs.Common.{◌≡◌, ◌⊎◌, inl, inr, refl, arith, ℕ, ◌<◌, ◌≤◌, List, Contains, length}
+use Rattle.std.proofs.Common.{◌≡◌, ◌⊎◌, inl, inr, refl, sym, ap, ◌∙◌, arith, ℕ, ◌<◌, ◌≤◌, List, Contains, filter, length, nat_lt}
 use Rattle.plane_model.specs.Points.{RationalPoint, Segment, Path}
 use Rattle.plane_model.specs.Arrangement.{IsArrangement, IsDistinct}
-use Rattle.plane_model.specs.Joined.{AreOfOneFace, IsPartNumber, links_of_arc}
+use Rattle.plane_model.specs.Joined.{AreOfOneFace, IsArcOfPart, IsPartNumber, links_of_arc}
 use Rattle.plane_model.specs.Sees.{IsOffLinks}
 use Rattle.plane_model.specs.Sides.{Points}
 use Rattle.plane_faces.specs.Places.{outside}
@@ -12,7 +12,7 @@ use Rattle.printed_laws.proofs.Constant.{joined_by_face, joined_on, past_back}
 use Rattle.answer_laws.proofs.Deciding.{IsTold, least_or_none}
 use Rattle.answer_laws.proofs.FaceSets.{IsFaceSet, one_face}
 use Rattle.answer_laws.proofs.Joins.{IsArcBy, arc_below, arc_moves, arc_told, complement, joined_with}
-use Rattle.answer_laws.proofs.Numbers.{ArePlaces, are_places, numbers_exist}
+use Rattle.answer_laws.proofs.Numbers.{ArePlaces, are_places, lesser_are, lesser_rise, numbers_exist}
 
 module _ (S : List Segment) (arr : IsArrangement S) (distinct : IsDistinct S) (arcs : List Path) (on : (n : ℕ) (l : Segment) → Contains (links_of_arc arcs n) l → Contains S l) (R : Points) (set : IsFaceSet S R) where
   -- the least number of an arc in the boundary that is seen from points of Q joined with z
@@ -73,6 +73,24 @@ module _ (S : List Segment) (arr : IsArrangement S) (distinct : IsDistinct S) (a
             (λ z j n is lesser rising those e. record { number = n; is_number = is; lesser = lesser; rising = rising; are = those; count = e })
             (λ z j h. (h.number, h.is_number, h.lesser, h.rising, h.are, h.count)),
       )
+
+  -- a point that has an arc in the boundary of its part is in a part
+  pub part_exists : (z : RationalPoint) (n : ℕ) → IsArcOfPart S arcs R z n → (j : ℕ) × IsInPart S arcs R z j
+  part_exists z n arc = elim (least_or_none (IsArcOfPart S arcs R z) (arc_told S arr distinct R set arcs on R set z) (length arcs) (λ m a. arc_below S arr distinct R set arcs on R z m a)) [
+    | inl r ↦
+        (let (all, up, are) = numbers_exist S arr distinct R set (IsPartNumber S arcs R) (length arcs) part_number one_part_number part_number_below part_number_of_face in (
+          length (filter (λ m. nat_lt m r.0) all),
+          record {
+            number = r.0;
+            is_number = record { is_arc = r.1.0; least = r.1.1 };
+            lesser = filter (λ m. nat_lt m r.0) all;
+            rising = lesser_rise S arr distinct R set (IsPartNumber S arcs R) (length arcs) part_number one_part_number part_number_below part_number_of_face all up are r.0;
+            are = lesser_are S arr distinct R set (IsPartNumber S arcs R) (length arcs) part_number one_part_number part_number_below part_number_of_face all up are r.0;
+            count = refl;
+          },
+        ))
+    | inr none ↦ absurd (none n arc)
+  ]
 
   -- ---- gaps
 

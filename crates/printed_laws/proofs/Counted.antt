@@ -49,7 +49,7 @@ part_at d A r polygons h z off k e l =
 
 -- ---- a point is in one part
 
-one_number : (S : List Segment) (arcs : List Path) (R : Points) (z : RationalPoint) (i j : ℕ) → IsInPart S arcs R z i → IsInPart S arcs R z j → i ≡ j
+pub one_number : (S : List Segment) (arcs : List Path) (R : Points) (z : RationalPoint) (i j : ℕ) → IsInPart S arcs R z i → IsInPart S arcs R z j → i ≡ j
 one_number S arcs R z i j h k =
     let up = h.is_number.least k.number k.is_number.is_arc in
     let down = k.is_number.least h.number h.is_number.is_arc in

@@ -28,13 +28,13 @@ use Rattle.printed_laws.proofs.Tests.{arranged, distinct, test_agrees, test_of, 
 
 -- ---- the steps of a boundary are its links, each directed
 
-link_itself : (l : Segment) → IsBefore l.start l.stop → link_between l ≡ l
+pub link_itself : (l : Segment) → IsBefore l.start l.stop → link_between l ≡ l
 link_itself l h = go (is_before l.start l.stop) (before_to l.start l.stop h)
   where
     go : (b : Bool) → b ≡ true → (if b then l else reversed l) ≡ l
     go b e = rw e refl
 
-link_reversed : (l : Segment) → IsBefore l.start l.stop → link_between (reversed l) ≡ l
+pub link_reversed : (l : Segment) → IsBefore l.start l.stop → link_between (reversed l) ≡ l
 link_reversed l h = go (is_before l.stop l.start) (not_back (is_before l.stop l.start) refl)
   where
     go : (b : Bool) → b ≡ false → (if b then reversed l else l) ≡ l

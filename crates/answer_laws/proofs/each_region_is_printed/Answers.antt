@@ -1,0 +1,6 @@
+-- The law is proved by itself.
+use Rattle.answer_laws.proofs.Together.{each_region_is_printed}
+use Rattle.answer_laws.proofs.each_region_is_printed.Goals as goal
+
+pub returns : goal.returns
+returns c = each_region_is_printed
