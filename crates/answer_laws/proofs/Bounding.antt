@@ -1,12 +1,12 @@
 -- The steps of a boundary: each goes one way along a link, no two are one, and the steps of a ring of them are a trail.
-use Rattle.std.proofs.Common.{◌≡◌, ◌⊎◌, inl, inr, refl, sym, ap, ◌∙◌, subst, arith, ℕ, zero, suc, ◌<◌, Bool, true, false, List, [], ◌∷◌, ◌++◌, length, get_or, Contains, Option, Some, None}
+use Rattle.std.proofs.Common.{◌≡◌, ◌⊎◌, inl, inr, refl, sym, ap, ◌∙◌, subst, arith, suc, Bool, true, false, List, [], ◌∷◌, ◌++◌, Contains, Some, None}
 use Rattle.std.specs.Prelude.{◌≢◌, All, AllPairs}
 use Rattle.std.specs.List.{cons_option}
 use Rattle.std.specs.List.Sorted.{IsPermutation}
-use Rattle.std.proofs.lemmas.List.Elements.{All-contains, All-contains_itself, All-head, All-tail, All-weaker, Contains-append_left, Contains-append_right}
+use Rattle.std.proofs.lemmas.List.Elements.{All-contains, All-contains_itself, All-head, All-tail, All-weaker, Contains-append_right}
 use Rattle.std.proofs.lemmas.List.Kept.{AllPairs-cons}
 use Rattle.lists.specs.Lists.{last_of}
-use Rattle.lists.proofs.Members.{Contains-cases, Contains-filter_map, Contains-head, Contains-later, Contains-nil, filter_map-Contains}
+use Rattle.lists.proofs.Members.{Contains-cases, Contains-head, Contains-later, Contains-nil, filter_map-Contains}
 use Rattle.plane_model.specs.Points.{GridPoint, Segment, Path, reversed}
 use Rattle.plane_model.specs.Arrangement.{IsArrangement, IsBefore, IsDistinct}
 use Rattle.plane_model.specs.Boundary.{boundary_by, boundary_step}

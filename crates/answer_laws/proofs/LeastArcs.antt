@@ -1,6 +1,6 @@
 -- A ring of steps of a boundary, begun where the least of its arcs is.
-use Rattle.std.proofs.Common.{◌≡◌, ◌⊎◌, inl, inr, refl, sym, ap, ◌∙◌, subst, arith, ℕ, zero, suc, ◌<◌, ◌≤◌, Bool, true, false, ◌||◌, List, [], ◌∷◌, map, length, reverse, get_or, nat_lt, Contains, pos}
-use Rattle.std.specs.Prelude.{All, IsTrue, if◌then◌else◌}
+use Rattle.std.proofs.Common.{◌≡◌, ◌⊎◌, inl, inr, refl, sym, ap, ◌∙◌, subst, arith, ℕ, suc, ◌≤◌, Bool, true, false, ◌||◌, List, [], ◌∷◌, map, length, reverse, get_or, nat_lt, Contains, pos}
+use Rattle.std.specs.Prelude.{IsTrue, if◌then◌else◌}
 use Rattle.std.specs.List.Sorted.{IsPermutation}
 use Rattle.std.proofs.lemmas.Bool.{ltb-false, ltb-true, or_cases, or_left, or_right}
 use Rattle.std.proofs.lemmas.List.{reverse-reverse}
@@ -8,8 +8,8 @@ use Rattle.std.proofs.lemmas.List.Elements.{All-cons, All-nil, Contains-get_or}
 use Rattle.std.proofs.lemmas.List.Folds.{Any-from_list_any, list_any_at}
 use Rattle.std.proofs.lemmas.List.Sorted.{Contains-permutation, IsPermutation-map, IsPermutation-sym}
 use Rattle.lists.specs.Lists.{has, least_of, place_of}
-use Rattle.lists.proofs.Members.{Contains-cases, Contains-head, Contains-later, Contains-map, Contains-nil, map-Contains}
-use Rattle.plane_model.specs.Points.{GridPoint, Segment, Path, reversed, same_segment}
+use Rattle.lists.proofs.Members.{Contains-cases, Contains-head, Contains-map, Contains-nil, map-Contains}
+use Rattle.plane_model.specs.Points.{Segment, Path, reversed, same_segment}
 use Rattle.plane_model.specs.Arcs.{arc_number, arcs_of, begins_arc, goes_along, points_of}
 use Rattle.plane_model.specs.Arrangement.{IsArrangement, IsDistinct}
 use Rattle.plane_model.specs.Boundary.{boundary_by}
@@ -18,7 +18,7 @@ use Rattle.plane_model.specs.Rings.{BeginsAtLeastArc, least_arc}
 use Rattle.plane_model.specs.Snapped.{links_of}
 use Rattle.plane_parity.proofs.Abscissa.{same_link-self, same_link-true}
 use Rattle.plane_faces.specs.Rings.{IsRing}
-use Rattle.printed_laws.proofs.EachStep.{EachStep, each_back}
+use Rattle.printed_laws.proofs.EachStep.{each_back}
 use Rattle.answer_laws.proofs.Bounding.{of_boundary, ring_trail}
 use Rattle.answer_laws.proofs.Covers.{arcs_whole, some_arc}
 use Rattle.answer_laws.proofs.Rounds.{IsBegunWith, begun_with, least_in}

@@ -1,15 +1,15 @@
 -- Each part of a region has a polygon that fits it: its faces are one part of the faces of the region, whose border has an exterior.
-use Rattle.std.proofs.Common.{◌≡◌, ◌⊎◌, inl, inr, refl, sym, ap, ◌∙◌, subst, ℕ, ◌<◌, Bool, true, false, ◌&&◌, nat_eq, List, [], Contains}
+use Rattle.std.proofs.Common.{◌≡◌, inl, inr, refl, sym, ap, ◌∙◌, subst, ℕ, Bool, true, false, ◌&&◌, nat_eq, List, Contains}
 use Rattle.std.specs.Prelude.{All, ◌↔◌}
 use Rattle.std.proofs.lemmas.Bool.{and_parts, cases_eq, eq-eqb, eqb-true, false_from_ne_true}
 use Rattle.std.proofs.lemmas.List.Elements.{All-weaker}
 use Rattle.plane_model.specs.Points.{RationalPoint, Segment, Path}
 use Rattle.plane_model.specs.Arcs.{arcs_of}
 use Rattle.plane_model.specs.Drawing.{Drawing, Polygon}
-use Rattle.plane_model.specs.Joined.{AreBoundaryLinks, AreJoinedIn, IsBoundaryLink}
+use Rattle.plane_model.specs.Joined.{AreJoinedIn, IsBoundaryLink}
 use Rattle.plane_model.specs.Rings.{FitsPart, UsesOnce}
 use Rattle.plane_model.specs.Sees.{IsOffLinks}
-use Rattle.plane_model.specs.Sides.{LeftIn, Points, RightIn}
+use Rattle.plane_model.specs.Sides.{Points}
 use Rattle.plane_model.specs.Snapped.{links_of, snapped}
 use Rattle.plane_model.specs.SnappedRings.{HasClosedRings}
 use Rattle.plane_parity.proofs.Visible.{seen_from_left, seen_from_right}
@@ -33,7 +33,7 @@ use Rattle.printed_laws.proofs.Constant.{has_face, joined_back, one_part}
 use Rattle.printed_laws.proofs.JoinedParts.{joined_in_part}
 use Rattle.printed_laws.proofs.Outside.{not_outside}
 use Rattle.printed_laws.proofs.Tests.{arranged, distinct, one_value}
-use Rattle.answer_laws.proofs.Deciding.{IsTold, both_told, same_told, test, test_says}
+use Rattle.answer_laws.proofs.Deciding.{both_told, same_told, test, test_says}
 use Rattle.answer_laws.proofs.Exist.{has_told}
 use Rattle.answer_laws.proofs.FaceSets.{IsFaceSet, from_left, from_right, label, labelling, one_face, point_told}
 use Rattle.answer_laws.proofs.Polygons.{HasExterior, polygon_fits}

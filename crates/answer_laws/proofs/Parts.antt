@@ -1,5 +1,5 @@
 -- Parts of a set of points, and gaps in it, can be told, and there are finitely many.
-use Rattle.std.proofs.Common.{◌≡◌, ◌⊎◌, inl, inr, refl, sym, ap, ◌∙◌, arith, ℕ, ◌<◌, ◌≤◌, List, Contains, filter, length, nat_lt}
+use Rattle.std.proofs.Common.{◌≡◌, ◌⊎◌, inl, inr, refl, arith, ℕ, ◌<◌, ◌≤◌, List, Contains, filter, length, nat_lt}
 use Rattle.plane_model.specs.Points.{RationalPoint, Segment, Path}
 use Rattle.plane_model.specs.Arrangement.{IsArrangement, IsDistinct}
 use Rattle.plane_model.specs.Joined.{AreOfOneFace, IsArcOfPart, IsPartNumber, links_of_arc}

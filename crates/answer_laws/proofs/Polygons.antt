@@ -1,5 +1,5 @@
 -- Rings that use a boundary once, one of them an exterior, make a polygon that fits it: begun at their least arcs, and holes in order of these.
-use Rattle.std.proofs.Common.{◌≡◌, ◌⊎◌, inl, inr, refl, sym, ap, ◌∙◌, subst, arith, ℕ, ◌<◌, ◌≤◌, Bool, List, [], ◌∷◌, ◌++◌, Contains, append_assoc, pos}
+use Rattle.std.proofs.Common.{◌≡◌, ◌⊎◌, inl, inr, sym, subst, arith, ℕ, ◌<◌, ◌≤◌, Bool, List, [], ◌∷◌, ◌++◌, Contains, append_assoc, pos}
 use Rattle.std.specs.Prelude.{◌<ℤ◌, All, AllPairs}
 use Rattle.std.specs.List.Sorted.{IsPermutation}
 use Rattle.std.proofs.lemmas.Bool.{cases_lt}
@@ -7,7 +7,7 @@ use Rattle.std.proofs.lemmas.Grind.{flat_map-append}
 use Rattle.std.proofs.lemmas.List.Elements.{All-append, All-cons, All-contains, All-contains_itself, All-head, All-nil, All-tail, All-weaker, Contains-append_left, Contains-append_right}
 use Rattle.std.proofs.lemmas.List.Kept.{AllPairs-cons}
 use Rattle.std.proofs.lemmas.List.Sorted.{All-permutation, Contains-permutation, IsPermutation-append, IsPermutation-append_comm, IsPermutation-cons, IsPermutation-middle, IsPermutation-refl, IsPermutation-sym, IsPermutation-trans}
-use Rattle.lists.proofs.Members.{Contains-flat_map, Contains-head, Contains-later, Contains-nil}
+use Rattle.lists.proofs.Members.{Contains-flat_map}
 use Rattle.plane_model.specs.Points.{Segment, Path, reversed}
 use Rattle.plane_model.specs.Arcs.{arcs_of}
 use Rattle.plane_model.specs.Arrangement.{IsArrangement, IsDistinct}

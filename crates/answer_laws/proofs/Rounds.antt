@@ -1,5 +1,5 @@
 -- A closed path begun at another of its points has the same steps.
-use Rattle.std.proofs.Common.{◌≡◌, ◌⊎◌, inl, inr, refl, sym, ap, ◌∙◌, subst, ℕ, zero, suc, Bool, true, false, cond, List, [], ◌∷◌, ◌++◌, length, append_assoc, Contains}
+use Rattle.std.proofs.Common.{◌≡◌, inl, inr, refl, sym, ap, ◌∙◌, subst, suc, Bool, true, false, cond, List, [], ◌∷◌, ◌++◌, length, append_assoc, Contains}
 use Rattle.std.specs.Prelude.{◌≢◌, AllPairs, if◌then◌else◌}
 use Rattle.std.specs.Bool.{Decides}
 use Rattle.std.specs.List.Sorted.{IsPermutation}
@@ -12,7 +12,6 @@ use Rattle.lists.proofs.Members.{Contains-cases, Contains-head, Contains-later, 
 use Rattle.plane_model.specs.Points.{GridPoint, Segment, Path, is_before, same_point}
 use Rattle.plane_model.specs.Arcs.{begun_at_least}
 use Rattle.plane_model.specs.Drawing.{steps}
-use Rattle.plane_model.specs.Rings.{IsSimple}
 use Rattle.plane_model.proofs.PointOrder.{clash, same_point_from, same_point_to}
 use Rattle.plane_snapping.proofs.Steps.{last_of-append}
 use Rattle.plane_faces.specs.Rings.{IsRing}
@@ -79,9 +78,6 @@ begun_steps p (x ∷ xs) closes =
     subst (λ (path : Path). IsPermutation (steps (p ∷ path)) (steps (begun_at_least (p ∷ (x ∷ xs))))) (sym k.are)
     (subst (λ (path : Path). IsPermutation (steps (p ∷ (k.before ++ k.here ∷ k.after))) (steps path)) (sym shape) (round_steps p k.before k.here k.after ends))
   where
-    least : GridPoint
-    least = least_of is_before p (x ∷ xs)
-
     k : IsCut (same_point (least_of is_before p (x ∷ xs))) (x ∷ xs)
     k = cut (same_point (least_of is_before p (x ∷ xs))) (x ∷ xs) (least_of is_before p (x ∷ xs)) (least_in is_before p x xs) (same_point_to (least_of is_before p (x ∷ xs)) (least_of is_before p (x ∷ xs)) refl)
 

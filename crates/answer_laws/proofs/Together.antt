@@ -1,5 +1,5 @@
 -- The boundary of a region is those of its parts together, so polygons that fit the parts fit the region.
-use Rattle.std.proofs.Common.{◌≡◌, ◌⊎◌, inl, inr, refl, sym, ap, ◌∙◌, subst, arith, ℕ, zero, suc, ◌+◌, ◌<◌, ◌≤◌, Bool, true, false, ◌&&◌, nat_eq, List, [], ◌∷◌, ◌++◌, map, get_or, Contains, Some}
+use Rattle.std.proofs.Common.{◌≡◌, inl, inr, refl, sym, ap, ◌∙◌, subst, arith, ℕ, zero, suc, ◌+◌, ◌<◌, ◌≤◌, Bool, true, false, ◌&&◌, nat_eq, List, [], ◌∷◌, ◌++◌, get_or, Contains, Some}
 use Rattle.std.specs.Prelude.{All}
 use Rattle.std.specs.List.{AllZip, flat_map, range_with_len}
 use Rattle.std.specs.List.Sorted.{IsPermutation}
@@ -14,7 +14,7 @@ use Rattle.plane_model.specs.Arcs.{arcs_of}
 use Rattle.plane_model.specs.Arrangement.{IsBefore, IsDistinct}
 use Rattle.plane_model.specs.Boundary.{boundary_step}
 use Rattle.plane_model.specs.Drawing.{Drawing, Polygon, steps, steps_of_paths}
-use Rattle.plane_model.specs.Joined.{AreJoinedIn, IsArcOfPart, IsBoundaryLink, IsClosed, links_of_arc}
+use Rattle.plane_model.specs.Joined.{AreJoinedIn, IsArcOfPart, IsClosed, links_of_arc}
 use Rattle.plane_model.specs.Parity.{odd, xor}
 use Rattle.plane_model.specs.Sees.{IsOffLinks, SeesLeft, SeesRight}
 use Rattle.plane_model.specs.Sides.{LeftIn, Points, RightIn}
@@ -28,10 +28,10 @@ use Rattle.plane_faces.proofs.FaceLaws.{among_agrees}
 use Rattle.plane_faces.proofs.Order.{place_exists}
 use Rattle.plane_faces.proofs.Parts.{border_in, passes_filter}
 use Rattle.plane_faces.proofs.Sorting.{rotations_exist}
-use Rattle.region_model.specs.Region.{Region, Has, IsInPart, part}
+use Rattle.region_model.specs.Region.{Region, Has, part}
 use Rattle.region_model.specs.Answers.{Answers, AreRight, boundary, plane_of}
 use Rattle.region_model.specs.Printed.{EachRegionIsPrinted, FitsPartOf}
-use Rattle.region_laws.proofs.Numbers.{in_range, of_range}
+use Rattle.region_laws.proofs.Numbers.{in_range}
 use Rattle.region_laws.proofs.OffLinks.{off_from_left, off_from_right}
 use Rattle.printed_laws.proofs.Constant.{has_face, joined_back, one_part}
 use Rattle.printed_laws.proofs.Counted.{one_number}

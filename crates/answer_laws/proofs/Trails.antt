@@ -1,22 +1,19 @@
 -- Steps that go on from vertex to vertex and never back go along all of an arc, or along none of it.
-use Rattle.std.proofs.Common.{◌≡◌, ◌⊎◌, inl, inr, refl, sym, ap, ◌∙◌, subst, arith, ℕ, zero, suc, ◌<◌, Bool, true, false, not, cond, ◌&&◌, ◌||◌, List, [], ◌∷◌, ◌++◌, map, filter, length, reverse, get_or, Contains, Option, Some, None}
+use Rattle.std.proofs.Common.{◌≡◌, ◌⊎◌, inl, inr, refl, sym, ap, ◌∙◌, subst, arith, ℕ, zero, suc, Bool, true, false, not, ◌&&◌, ◌||◌, List, [], ◌∷◌, ◌++◌, filter, length, reverse, Contains, Option, Some, None}
 use Rattle.std.specs.Prelude.{if◌then◌else◌, ◌↔◌}
 use Rattle.std.proofs.lemmas.List.{reverse-append, reverse-reverse}
 use Rattle.std.proofs.lemmas.List.Elements.{Contains-append_cases, Contains-append_left, Contains-append_right}
 use Rattle.std.proofs.lemmas.List.Sorted.{Contains-permutation, IsPermutation-sym}
-use Rattle.lists.specs.Lists.{each_once, first_or, last_of, list_before, same_list, tail}
-use Rattle.lists.proofs.Ascending.{ascending-Contains}
-use Rattle.lists.proofs.Members.{Contains-cases, Contains-filter, Contains-filter_map, Contains-head, Contains-later, Contains-map, Contains-nil, filter_map-Contains, map-Contains}
-use Rattle.plane_model.specs.Points.{GridPoint, Segment, Path, is_before, link_before, link_between, reversed, same_point}
-use Rattle.plane_model.specs.Arcs.{across_from, arc_along, arcs_of, begun_at_least, forward_way, is_node, joined_to, next_vertex, way_on}
-use Rattle.plane_model.specs.Drawing.{Drawing, paths_of, steps, steps_of_paths}
-use Rattle.plane_model.specs.Snapped.{links_of}
-use Rattle.plane_model.proofs.PointOrder.{link_before-IsStrictOrder, same_point_from, same_point_to}
+use Rattle.lists.specs.Lists.{first_or, last_of, list_before, tail}
+use Rattle.lists.proofs.Members.{Contains-cases, Contains-filter_map, Contains-head, Contains-later, Contains-nil, filter_map-Contains}
+use Rattle.plane_model.specs.Points.{GridPoint, Segment, Path, is_before, link_between, reversed, same_point}
+use Rattle.plane_model.specs.Arcs.{across_from, arc_along, begun_at_least, forward_way, joined_to, next_vertex, way_on}
+use Rattle.plane_model.specs.Drawing.{steps}
+use Rattle.plane_model.proofs.PointOrder.{same_point_from}
 use Rattle.part_laws.proofs.CountLemmas.{steps_joined}
 use Rattle.arc_laws.proofs.Nodes.{across_start, across_stop}
-use Rattle.printed_laws.proofs.ArcSides.{not_first, not_second, once_there, two_links, way_first}
-use Rattle.printed_laws.proofs.Constant.{there_or_not}
-use Rattle.printed_laws.proofs.EachStep.{EachStep, each_back, each_first, each_from, each_joined, each_later, each_none}
+use Rattle.printed_laws.proofs.ArcSides.{not_first, not_second, way_first}
+use Rattle.printed_laws.proofs.EachStep.{EachStep, each_back, each_from, each_joined, each_none}
 use Rattle.answer_laws.proofs.FaceSets.{points_told}
 use Rattle.answer_laws.proofs.Rounds.{begun_steps}
 
@@ -186,9 +183,6 @@ module _ (S : List Segment) where
   whole_joined : (xs : Path) (y z : GridPoint) (ys : Path) → IsWhole S (xs ++ y ∷ z ∷ []) → IsWhole S (y ∷ z ∷ ys) → IsWhole S (xs ++ y ∷ z ∷ ys)
   whole_joined xs y z ys h k X trail t c x = each_joined X xs y (z ∷ ys) (λ u m. left u (Contains-append_left (steps (xs ++ y ∷ [])) (steps (y ∷ z ∷ [])) u m)) right
     where
-      first : List Segment
-      first = steps (xs ++ y ∷ [])
-
       at_first : (u : Segment) → Contains (steps (xs ++ y ∷ []) ++ steps (y ∷ z ∷ [])) u → Contains (steps (xs ++ y ∷ z ∷ [])) u
       at_first u m = subst (λ (ss : List Segment). Contains ss u) (sym (steps_joined xs y (z ∷ []))) m
 
