@@ -13,3 +13,9 @@ pub mod Running
 pub mod Beginnings
 pub mod OneReading
 pub mod OneOutcome
+pub mod Trees
+pub mod WordTrees
+pub mod StitchedRings
+pub mod ClosedRings
+pub mod FaceCounts
+pub mod EachRun

@@ -1,4 +1,4 @@
-//! Laws of outcomes: words, files and standard input tell one outcome.
+//! Laws of outcomes: words, files and standard input tell just one outcome.
 //!
 //! What the model of a run (`chain_model`) tells leaves choices open: a reading of texts, trees of expressions, answers to
 //! questions about regions, texts of what is written. None of them changes how a run ends.
@@ -10,11 +10,14 @@
 //!   (`one_run_of_right_answers`).
 //! - Trees of the same texts are the same (`steps_are_of_words` of `headline_laws`), so the outcome is one
 //!   (`outcome_is_one`), and the same commands write to the same places (`effects_go_alike`). Of their texts nothing is said.
+//! - And an outcome is told, with effects (`each_run_tells`): texts of expressions that are not refused have trees, what is
+//!   read has closed rings, so its plane has right answers, and each region has polygons that fit it, so each output has a
+//!   text.
 //!
 //! Each function carries one law in its contract, and does nothing.
 #![tactic(auto)]
 
-ghost use Rattle.chain_model.specs.Running.{OutcomeIsOne};
+ghost use Rattle.chain_model.specs.Running.{EachRunTells, OutcomeIsOne};
 ghost use Rattle.outcome_laws.specs.Laws.{EffectsGoAlike, OneRunOfRightAnswers, ReadingsAreOne};
 
 /// Two readings of texts are one: a JSON text has one value, and other bytes one first fault; bytes stop at one place to
@@ -36,4 +39,9 @@ pub fn outcome_is_one()
 /// And they tell effects of the same commands, to the same files or to the standard stream, in the same order.
 pub fn effects_go_alike()
     ensures { EffectsGoAlike }
+{}
+
+/// Whatever the words, the files and standard input are, they tell an outcome and effects.
+pub fn each_run_tells()
+    ensures { EachRunTells }
 {}
