@@ -1,8 +1,8 @@
 -- The drawing of what is read has closed rings.
-use Rattle.std.proofs.Common.{◌≡◌, refl, ℕ, ◌+◌, Bool, true, false, List, [], ◌∷◌, ◌++◌, map, length, get_or, All, Contains, Option, Some, None, Result, Ok, Err, filter, cond, codes, bytes_eq}
-use Rattle.std.specs.Prelude.{IfOk, nat_lt, if◌then◌else◌}
+use Rattle.std.proofs.Common.{◌≡◌, refl, ℕ, ◌+◌, Bool, true, false, List, [], ◌∷◌, map, length, get_or, All, Option, Some, None, Result, Ok, Err}
+use Rattle.std.specs.Prelude.{nat_lt, if◌then◌else◌}
 use Rattle.std.specs.List.{flat_map}
-use Rattle.std.proofs.lemmas.List.Elements.{All-append, All-cons, All-contains, All-contains_itself, All-head, All-map, All-nil, All-tail, All-weaker}
+use Rattle.std.proofs.lemmas.List.Elements.{All-append, All-cons, All-head, All-map, All-nil, All-tail, All-weaker}
 use Rattle.lists.specs.Lists.{joined_up}
 use Rattle.plane_model.specs.Points.{Path}
 use Rattle.plane_model.specs.Drawing.{Polygon, rings_of}
@@ -30,9 +30,8 @@ use Rattle.table_terms.specs.Refusals.{on_ok}
 use Rattle.cmd_words.specs.declared.job.SourceWord.{SourceWord}
 use Rattle.synth_model.specs.Cells.{cell, cells}
 use Rattle.chain_model.specs.Beginning.{drawing_of, polygons_of, shapes_of}
-use Rattle.chain_model.specs.Outcome.{InputWhy, Outcome, missing, too_long, utf8}
+use Rattle.chain_model.specs.Outcome.{InputWhy, Outcome, too_long, utf8}
 use Rattle.chain_model.specs.Sources.{Layers, Readings, byte_limit, bytes_of, csv_layers, decoded, geojson_layers, imported, is_csv, is_topology, json_layers, length_of, or_refused, room_behind, source_layers, table_layers, title_of, topojson_layers}
-use Rattle.outcome_laws.proofs.Every.{Every}
 use Rattle.outcome_laws.proofs.StitchedRings.{stitched_sound}
 
 -- ## The layers of a source

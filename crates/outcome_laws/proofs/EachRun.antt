@@ -27,7 +27,7 @@ use Rattle.chain_model.specs.Beginning.{drawing_of}
 use Rattle.chain_model.specs.Outcome.{Outcome, bad_words, done, too_dense}
 use Rattle.chain_model.specs.Pictures.{IsTextOf, Shows, ShowsRegion, ShowsShape, text_in}
 use Rattle.chain_model.specs.Running.{Begun, EachRunTells, Effect, IsEffectOf, JobTells, Output, Runs, RunsOrStops, SynthesizesOrStops, WordsTell, begins, begun_with, checked_density, file_of, link_limit, run_from}
-use Rattle.chain_model.specs.Sources.{AreReadings, Readings, imported, whole_room}
+use Rattle.chain_model.specs.Sources.{Readings, imported, whole_room}
 use Rattle.chain_model.specs.State as state
 use Rattle.chain_model.specs.State.{StateLayer}
 use Rattle.chain_model.specs.Steps.{Written}

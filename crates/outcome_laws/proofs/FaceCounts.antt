@@ -1,14 +1,14 @@
 -- The faces of the plane can be counted: of the points that see links from their left, and one left of all links, one is kept for each label.
-use Rattle.std.proofs.Common.{◌≡◌, ◌⊎◌, inl, inr, refl, sym, ap, subst, ◌∙◌, arith, ℕ, Bool, true, false, not, List, [], ◌∷◌, All, AllPairs, Contains, filter, length, get_or, eqb}
+use Rattle.std.proofs.Common.{◌≡◌, inl, inr, refl, sym, ap, subst, ◌∙◌, arith, ℕ, Bool, true, false, not, List, [], ◌∷◌, AllPairs, Contains, filter, length, get_or}
 use Rattle.std.specs.Prelude.{nat_eq}
 use Rattle.std.proofs.lemmas.Bool.{eq-eqb, eqb-true}
-use Rattle.std.proofs.lemmas.List.Elements.{All-nil, Contains-get_or}
+use Rattle.std.proofs.lemmas.List.Elements.{Contains-get_or}
 use Rattle.std.proofs.lemmas.List.Kept.{AllPairs-cons, AllPairs-filter}
 use Rattle.lists.specs.Lists.{each_once}
 use Rattle.lists.proofs.Members.{Contains-cases, Contains-filter, Contains-head, Contains-later, Contains-nil, filter-Contains}
 use Rattle.plane_model.specs.Points.{RationalPoint, Segment}
 use Rattle.plane_model.specs.Arrangement.{IsArrangement, IsDistinct}
-use Rattle.plane_model.specs.Joined.{AreFaces, AreOfOneFace, IsFaceCount}
+use Rattle.plane_model.specs.Joined.{AreOfOneFace, IsFaceCount}
 use Rattle.plane_model.specs.Sees.{IsOffLinks}
 use Rattle.plane_parity.proofs.Visible.{seen_from_left}
 use Rattle.plane_faces.specs.Labels.{IsFaceLabelling}
@@ -118,23 +118,32 @@ module _ (S : List Segment) (arr : IsArrangement S) (distinct : IsDistinct S) (l
       let faces : List RationalPoint = each_once same zs in
       let off : (z : RationalPoint) → Contains zs z → IsOffLinks S z = λ z c. elim (Contains-cases far seen_points z c) [ inl e ↦ subst (IsOffLinks S) e far_off | inr d ↦ show.off z d ] in
       let face : (z : RationalPoint) (a : Place) → IsPlaceOf S z a → (y : RationalPoint) × Contains zs y × AreOfOneFace S z y =
-          λ z a here. by_place far left seen_points show z a here in
-      (length faces, (faces, record {
-        off = λ k d l. off (get_or faces k d) (among zs (get_or faces k d) (Contains-get_or faces k d l));
-        apart = apart zs;
-        all = λ z z_off.
-            let (y, there, f) = face z (place_exists S arr z).0 (place_exists S arr z).1 in
-            let (x, (k, l, is), g) = kept zs y there in
-            (k, x, l, is, λ runs closed. f runs closed ∙ g runs closed);
-      }, refl))
+      λ z a here. by_place far left seen_points show z a here in (
+        length faces,
+        (
+          faces,
+          record {
+            off = λ k d l. off (get_or faces k d) (among zs (get_or faces k d) (Contains-get_or faces k d l));
+            apart = apart zs;
+            all = λ z z_off.
+                let (y, there, f) = face z (place_exists S arr z).0 (place_exists S arr z).1 in
+                let (x, (k, l, is), g) = kept zs y there in
+                (k, x, l, is, λ runs closed. f runs closed ∙ g runs closed);
+          },
+          refl,
+        ),
+      )
     where
       by_place : (far : RationalPoint) → IsLeftOfLinks S far → (points : List RationalPoint) → Show S points → (z : RationalPoint) (a : Place) → IsPlaceOf S z a → (y : RationalPoint) × Contains (far ∷ points) y × AreOfOneFace S z y
       by_place far left points show z outside here =
           (far, Contains-head far points, (labels_are_faces S arr distinct label labelling z far outside outside here (left_is_outside S far left)).0 refl)
       by_place far left points show z (left_of d) here =
-          let (y, there, is) = show.shown d.link here.1 in
-          (y, Contains-later far points y there, (labels_are_faces S arr distinct label labelling z y (left_of d) (place_exists S arr y).0 here (place_exists S arr y).1).0
-              (ap (λ (b : Bool). label (left_of (record { link = d.link; forward = b }))) here.0 ∙ sym is))
+          let (y, there, is) = show.shown d.link here.1 in (
+            y,
+            Contains-later far points y there,
+            (labels_are_faces S arr distinct label labelling z y (left_of d) (place_exists S arr y).0 here (place_exists S arr y).1).0
+                (ap (λ (b : Bool). label (left_of (record { link = d.link; forward = b }))) here.0 ∙ sym is),
+          )
 
 -- each arrangement has as many faces as some number says
 pub each_plane_has_a_face_count : (S : List Segment) → IsArrangement S → IsDistinct S → (n : ℕ) × IsFaceCount S n

@@ -1,5 +1,5 @@
 -- Whatever a topology is read as is sound: its rings have points and are closed, and its lines have points.
-use Rattle.std.proofs.Common.{◌≡◌, refl, subst, ℕ, ◌+◌, Bool, true, false, List, [], ◌∷◌, ◌++◌, All, Option, Some, None, Result, Ok, Err, filter, cond, codes, bytes_eq}
+use Rattle.std.proofs.Common.{◌≡◌, refl, subst, ℕ, ◌+◌, Bool, true, false, List, [], ◌∷◌, ◌++◌, All, Option, Some, None, Result, Ok, Err, filter, codes, bytes_eq}
 use Rattle.std.specs.Prelude.{◌==◌, if◌then◌else◌}
 use Rattle.std.specs.List.{enumerate_from}
 use Rattle.std.proofs.lemmas.List.Elements.{All-append, All-cons, All-filter, All-head, All-nil, All-tail}
@@ -9,7 +9,7 @@ use Rattle.json_read.specs.Table.{NamedValues}
 use Rattle.plane_model.specs.Points.{GridPoint, Path}
 use Rattle.plane_model.specs.Drawing.{Polygon}
 use Rattle.plane_model.specs.Joined.{IsClosed}
-use Rattle.geojson_io.specs.Geometries.{geo_type_of, has_rings, some_lines, some_points, some_polygons, type_of}
+use Rattle.geojson_io.specs.Geometries.{geo_type_of, has_rings, type_of}
 use Rattle.geojson_io.specs.LayerContent.{LayerContent}
 use Rattle.geojson_io.specs.Layers.{layers_of}
 use Rattle.geojson_io.specs.Positions.{is_closed}
@@ -23,11 +23,11 @@ use Rattle.geojson_io.specs.declared.shape.GeoShape.TheVariants.{Nothing}
 use Rattle.geojson_io.proofs.SoundLemmas.{ends_at_start, has_first, sound_layers, sound_lines, sound_points, sound_polygons}
 use Rattle.topo_io.specs.Reads.{Fault, in_place}
 use Rattle.topo_io.specs.Shapes.{arc_lists, coordinates, geometry, is_null, line_shape, one_line, one_point, one_polygon, paths_in, point_shape, points_in, polygon_of, polygon_shape, several_lines, several_points, several_polygons, shape_in, shape_typed, stitched_shape, typed_geometry}
-use Rattle.topo_io.specs.Stitching.{arcs, closed, each_kept, has_points, kept, list_of, path_of, ring_of, rings_of, stitched}
-use Rattle.topo_io.specs.Topologies.{Members, after_features, feature, feature_with, features, features_among, first_numbers, geometries, layers_in, layers_of_members, layers_with, members, numbered_feature, object_features, object_layers, properties, read_topojson}
+use Rattle.topo_io.specs.Stitching.{arcs, closed, has_points, kept, list_of, path_of, ring_of, rings_of, stitched}
+use Rattle.topo_io.specs.Topologies.{Members, after_features, feature, feature_with, features_among, first_numbers, geometries, layers_in, layers_of_members, layers_with, members, numbered_feature, object_features, object_layers, properties, read_topojson}
 use Rattle.topo_io.specs.declared.fault.TopoPlace.TheVariants.{Shape, Top}
 use Rattle.topo_io.specs.declared.fault.TopoWhy.{TopoWhy}
-use Rattle.topo_io.specs.declared.fault.TopoWhy.TheVariants.{Collection, NotTopology, RingOpen, TooManyFeatures}
+use Rattle.topo_io.specs.declared.fault.TopoWhy.TheVariants.{Collection, RingOpen, TooManyFeatures}
 use Rattle.topo_io.specs.declared.frame.Frame.{Frame}
 use Rattle.topo_io.specs.declared.reading.Topology.{Topology}
 use Rattle.topo_io.specs.declared.reading.features.Numbers.{Numbers}
@@ -179,7 +179,7 @@ module _ (topology : Topology) where
       next (All FeatureIsSound) (All LayerIsSound) (object_features topology numbers o.1) (λ (fs : List Feature). object_layers topology (after_features numbers fs) os >>= (λ (ls : List LayerContent). gives (layers_of o.0 fs ++ ls)))
       (features_given numbers (geometries o.1))
       (λ fs h. next (All LayerIsSound) (All LayerIsSound) (object_layers topology (after_features numbers fs) os) (λ (ls : List LayerContent). gives (layers_of o.0 fs ++ ls)) (layers_given (after_features numbers fs) os)
-          (λ ls g room. All-append LayerIsSound (layers_of o.0 fs) ls (sound_layers o.0 fs h) g))
+      (λ ls g room. All-append LayerIsSound (layers_of o.0 fs) ls (sound_layers o.0 fs h) g))
 
 -- ## A whole topology
 

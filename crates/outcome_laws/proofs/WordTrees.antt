@@ -1,5 +1,5 @@
 -- Words that are not refused have trees of their expressions: so some job fits them.
-use Rattle.std.proofs.Common.{◌≡◌, refl, sym, ap, ◌∙◌, subst, ℕ, ◌+◌, Bool, true, false, not, List, [], ◌∷◌, ◌++◌, length, Option, Some, None, is_some, unwrap_or, Result, Ok, Err, codes, find, bytes_eq}
+use Rattle.std.proofs.Common.{◌≡◌, refl, subst, ℕ, ◌+◌, Bool, true, false, not, List, [], ◌∷◌, ◌++◌, length, Option, Some, None, is_some, unwrap_or, Ok, Err, codes, find, bytes_eq}
 use Rattle.std.specs.Prelude.{if◌then◌else◌, ◌&&◌, ◌||◌, nat_lt}
 use Rattle.std.specs.List.{enumerate_from, list_any}
 use Rattle.std.proofs.lemmas.Slice.Eq.{bytes_eq-Decides}
@@ -8,7 +8,7 @@ use Rattle.table_terms.specs.Names.{Text}
 use Rattle.table_terms.specs.Refusals.{first_refusal, on_ok}
 use Rattle.cmd_words.specs.ActionWords.{FitEach, FitsAction, FitsCommand, whole, join, spatial_join, filter as filters, each as assigns, sort as sorts, uniq as uniqs}
 use Rattle.cmd_words.specs.Chains.{SoFar}
-use Rattle.cmd_words.specs.Expressions.{AreRefusals, FitsTest, Refusals, TextKind}
+use Rattle.cmd_words.specs.Expressions.{AreRefusals, FitsTest, Refusals}
 use Rattle.cmd_words.specs.Expressions as kind
 use Rattle.cmd_words.specs.Tells.{FitsJob}
 use Rattle.cmd_words.specs.Texts.{has_empty_piece}
@@ -23,7 +23,7 @@ use Rattle.cmd_words.specs.declared.job.Command.{Command}
 use Rattle.cmd_words.specs.declared.job.Job.{Job}
 use Rattle.cmd_words.specs.declared.job.Job.TheVariants as job
 use Rattle.cmd_words.specs.declared.job.Origin.{Origin}
-use Rattle.word_model.specs.CommandTable.{ArgumentForm, CommandLine, Item, Line, Said, ValueForm, a_box, a_format, a_list, a_precision, a_rule, a_text, an_area, an_expression, argument, argument_in, argument_text, assignments, bare, calc_spec, calculations, command_lines, expression, files, form_in, form_of, has_argument, has_option, import_line, join_spec, joins, line_of, list, nothing, number_in, one_or_more, option, renames, source, text, two_names, value_in, value_of, zero_or_more}
+use Rattle.word_model.specs.CommandTable.{ArgumentForm, CommandLine, Item, Line, Said, ValueForm, a_box, a_format, a_list, a_precision, a_rule, a_text, an_area, an_expression, argument, argument_in, argument_text, assignments, bare, calc_spec, calculations, command_lines, expression, files, form_in, form_of, has_argument, has_option, import_line, join_spec, joins, line_of, list, nothing, number_in, one_or_more, option, renames, source, text, two_names, value_in, zero_or_more}
 use Rattle.word_model.specs.Words.{Groups, Word, after_import, argument_number, expression_fault, finished, groups_of, has_room, imported, is_excluded, is_list, is_standard_item, item_of, lacks_value, places_in, read_command, read_commands, read_groups, read_job, read_line, read_synth, reads_standard, refused_argument, refused_if, refused_item, refused_option, refused_text, refused_value, says, with_command, without_import_word, word_limit, words_say}
 use Rattle.outcome_laws.proofs.Every.{Every, every_append}
 use Rattle.outcome_laws.proofs.Trees.{assignments_read, expression_read}
@@ -186,26 +186,64 @@ module _ (refuses : Refusals) (are : AreRefusals refuses) where
       let P : Text → Type 0 = λ s. refuses kind.expression s ≡ None in
       let Q : Text → Type 0 = λ s. refuses kind.assignments s ≡ None in (
         λ places from said first named e. (_, whole),
-        (λ places from said first named e. (_, whole),
-        (λ places from said first named e. (_, whole),
-        (λ places from said first named e. (_, whole),
-        (λ places from said first named e. (_, whole),
-        (λ places from said first named e. (_, whole),
-        (λ places from said first named e. (_, whole),
-        (λ places from said first named e. (_, whole),
-        (λ places from said first named e. join_read from said (named (codes "where")),
-        (λ places from said first named e. filter_read said _ _ first,
-        (λ places from said first named e. (_, whole),
-        (λ places from said first named e. (_, whole),
-        (λ places from said first named e. (_, whole),
-        (λ places from said first named e. each_read (argument_text said) (needed Q (argument_in said) first e),
-        (λ places from said first named e. sort_read (argument_text said) _ (needed P (argument_in said) first e),
-        (λ places from said first named e. uniq_read (argument_text said) _ _ (needed P (argument_in said) first e),
-        (λ places from said first named e. (_, whole),
-        (λ places from said first named e. (_, whole),
-        (λ places from said first named e. (_, whole),
-        (λ places from said first named e. (_, whole),
-        tt)))))))))))))))))))
+        (
+          λ places from said first named e. (_, whole),
+          (
+            λ places from said first named e. (_, whole),
+            (
+              λ places from said first named e. (_, whole),
+              (
+                λ places from said first named e. (_, whole),
+                (
+                  λ places from said first named e. (_, whole),
+                  (
+                    λ places from said first named e. (_, whole),
+                    (
+                      λ places from said first named e. (_, whole),
+                      (
+                        λ places from said first named e. join_read from said (named (codes "where")),
+                        (
+                          λ places from said first named e. filter_read said _ _ first,
+                          (
+                            λ places from said first named e. (_, whole),
+                            (
+                              λ places from said first named e. (_, whole),
+                              (
+                                λ places from said first named e. (_, whole),
+                                (
+                                  λ places from said first named e. each_read (argument_text said) (needed Q (argument_in said) first e),
+                                  (
+                                    λ places from said first named e. sort_read (argument_text said) _ (needed P (argument_in said) first e),
+                                    (
+                                      λ places from said first named e. uniq_read (argument_text said) _ _ (needed P (argument_in said) first e),
+                                      (
+                                        λ places from said first named e. (_, whole),
+                                        (
+                                          λ places from said first named e. (_, whole),
+                                          (
+                                            λ places from said first named e. (_, whole),
+                                            (
+                                              λ places from said first named e. (_, whole),
+                                              tt,
+                                            ),
+                                          ),
+                                        ),
+                                      ),
+                                    ),
+                                  ),
+                                ),
+                              ),
+                            ),
+                          ),
+                        ),
+                      ),
+                    ),
+                  ),
+                ),
+              ),
+            ),
+          ),
+        ),
       )
 
   abbrev RowIs : Option CommandLine → Type 0
