@@ -3,11 +3,11 @@
 #   program   the built program
 # shellcheck shell=bash disable=SC2154
 
-# Measured from nothing, of a whole build; README.md and docs/install.md say the same.
-FIRST_BUILD_TAKES="about an hour on four processors"
+# By what the crates took one by one; README.md and docs/install.md say the same.
+FIRST_BUILD_TAKES="an hour to an hour and a half on four processors"
 
 # The kit that the proofs were made with, as rt version prints it; README.md and docs/install.md name it too.
-KIT="rattle-kit-13f logic dac8208d650f15bf"
+KIT="rattle-kit-13b logic dac8208d650f15bf"
 
 out="$top/crates/ms_cli/out"
 log="$out/build.log"
@@ -105,9 +105,14 @@ tell_what_comes() {
   say "from nothing this takes $FIRST_BUILD_TAKES; $keeping"
 }
 
-# rt keeps each crate that it proved in a folder beside the kit, where whoever runs it may write.
+# rt of some kits keeps each crate that it proved in a folder beside the kit, where whoever runs it may write, and can be
+# told not to take it from there by --anew.
 find_keeping() {
   local kit store
+  if ! rt help </dev/null 2>&1 | grep -q -e --anew; then
+    keeping="rt of this kit keeps nothing from one run to the next, so a build that ends early begins anew"
+    return
+  fi
   kit=$(dirname "$(rt doc </dev/null 2>/dev/null)")
   store=$(dirname "$kit")/rattle-kept
   keeping="the crates that were proved are kept, and the next run goes on from there"

@@ -1,4 +1,5 @@
--- Sets of points that can be told, and have all points of a face or none: so the sides of links that belong to them can be told too.
+-- Sets of points that can be told, and have all points of a face or none: so the sides of links that belong to them can
+-- be told too.
 use Rattle.std.proofs.Common.{◌≡◌, inl, inr, refl, sym, ap, ◌∙◌, ℕ, Bool, List, Contains}
 use Rattle.plane_model.specs.Points.{GridPoint, RationalPoint, Segment, same_point, same_segment}
 use Rattle.plane_model.specs.Arrangement.{IsArrangement, IsDistinct}

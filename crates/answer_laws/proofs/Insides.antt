@@ -1,4 +1,5 @@
--- Whether a vertex is inside a set of points can be told: by the sides of the links that end there, or by the vertex itself where it is on no link.
+-- Whether a vertex is inside a set of points can be told: by the sides of the links that end there, or by the vertex
+-- itself where it is on no link.
 use Rattle.std.proofs.Common.{◌≡◌, ◌⊎◌, inl, inr, sym, ◌∙◌, subst, Bool, true, false, cond, List, Contains}
 use Rattle.plane_model.specs.Points.{GridPoint, Segment, at}
 use Rattle.plane_model.specs.Drawing.{Drawing, vertices_of}

@@ -1,4 +1,5 @@
--- Whether two points are joined in a set can be told: the boundary of the set is an arrangement, which has faces of its own.
+-- Whether two points are joined in a set can be told: the boundary of the set is an arrangement, which has faces of its
+-- own.
 use Rattle.std.proofs.Common.{◌≡◌, inl, inr, arith, ℕ, ◌<◌, Bool, true, false, cond, List, [], ◌∷◌, Contains, filter, length, map, subst}
 use Rattle.std.specs.Prelude.{◌↔◌}
 use Rattle.std.proofs.lemmas.Bool.{cases_eq, cases_lt}

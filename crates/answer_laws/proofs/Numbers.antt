@@ -46,7 +46,8 @@ before_place (x ∷ xs) up (suc i) l = go (nat_lt x (get_or xs i 0)) (up.0 (get_
 
 -- ---- numbers of points
 
--- at a point of In it can be told whether it stands at place j, and the places that have points are those below the count
+-- at a point of In it can be told whether it stands at place j, and the places that have points are those below the
+-- count
 pub record ArePlaces (S : List Segment) (In : Points) (At : RationalPoint → ℕ → Type 0) (count : ℕ) : Type 0 where
   pub told : (z : RationalPoint) (j : ℕ) → IsTold (In z × At z j)
   pub below : (j : ℕ) → (j < count) ↔ ((z : RationalPoint) × IsOffLinks S z × (In z × At z j))

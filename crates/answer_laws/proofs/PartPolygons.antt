@@ -1,4 +1,5 @@
--- Each part of a region has a polygon that fits it: its faces are one part of the faces of the region, whose border has an exterior.
+-- Each part of a region has a polygon that fits it: its faces are one part of the faces of the region, whose border has
+-- an exterior.
 use Rattle.std.proofs.Common.{◌≡◌, inl, inr, refl, sym, ap, ◌∙◌, subst, ℕ, Bool, true, false, ◌&&◌, nat_eq, List, Contains}
 use Rattle.std.specs.Prelude.{All, ◌↔◌}
 use Rattle.std.proofs.lemmas.Bool.{and_parts, cases_eq, eq-eqb, eqb-true, false_from_ne_true}

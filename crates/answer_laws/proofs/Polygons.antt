@@ -1,4 +1,5 @@
--- Rings that use a boundary once, one of them an exterior, make a polygon that fits it: begun at their least arcs, and holes in order of these.
+-- Rings that use a boundary once, one of them an exterior, make a polygon that fits it: begun at their least arcs, and
+-- holes in order of these.
 use Rattle.std.proofs.Common.{◌≡◌, ◌⊎◌, inl, inr, sym, subst, arith, ℕ, ◌<◌, ◌≤◌, Bool, List, [], ◌∷◌, ◌++◌, Contains, append_assoc, pos}
 use Rattle.std.specs.Prelude.{◌<ℤ◌, All, AllPairs}
 use Rattle.std.specs.List.Sorted.{IsPermutation}

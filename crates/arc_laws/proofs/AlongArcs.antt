@@ -33,7 +33,7 @@ drop_exact : (xs ys : Path) → drop (length xs) (xs ++ ys) ≡ ys
 drop_exact [] ys = refl
 drop_exact (x ∷ xs) ys = drop_exact xs ys
 
--- what stands before a place, from behind
+-- the first j points of a path, taken from the reversed path
 front_back : (j : ℕ) (path : Path) → j ≤ length path → reverse (drop (length path - j) (reverse path)) ≡ take j path
 front_back j path l =
     let whole : take j path ++ drop j path ≡ path = take-append-drop j path in
@@ -78,7 +78,7 @@ module _ (s : Drawing) (distinct : IsDistinct (links_of s)) (closed : (ring : Pa
 
   -- ---- directions
 
-  -- an arc comes before what it is from behind
+  -- an arc comes before its reverse, and not the other way round
   comes_first : (n : ℕ) → n < length arcs → let arc : Path = get_or arcs n [] in (list_before is_before arc (reverse arc) ≡ true) × (list_before is_before (reverse arc) arc ≡ false)
   comes_first n below =
       let arc : Path = get_or arcs n [] in

@@ -267,7 +267,7 @@ abbrev pub gone : (d : Drawing) (path : Path) → IsDrawn d path → Path
 gone d path (inl c) = path
 gone d path (inr c) = path ++ tail path
 
--- after so many steps of the path these arcs have begun, and the last goes on for so many steps
+-- after `at` steps of the path these arcs have begun, and the last goes on for `inside` steps
 pub record Follows (arcs : List Path) (path : Path) (at inside : ℕ) (named : List SignedArc) : Type 0 where
   pub found : (d : Drawing) → AreArcsOf d arcs → (c : IsDrawn d path) → IsFound arcs (gone d path c) at inside named
 

@@ -82,13 +82,13 @@ steps_over (x ∷ y ∷ z ∷ rest) P (suc t) size some e = ap (λ (ss : List Se
 abbrev pub BeginsFrom : List Path → Path → ℕ → SignedArc → Type 0
 BeginsFrom arcs Q first a = (k : ℕ) × (first ≤ k) × (suc k < length Q) × IsStepOf arcs a 0 (path_step Q k)
 
--- after so many steps of the path no arc has begun
+-- after `at` steps of the path no arc has begun
 pub record NoneYet (arcs : List Path) (Q : Path) (at inside : ℕ) (named : List SignedArc) : Type 0 where
   pub none : named ≡ []
   pub idle : inside ≡ 0
   pub before : (k : ℕ) → k < at → BeginsArc arcs (path_step Q k) → ⊥
 
--- after so many steps of the path the arcs begun from vertex `first` on, joined, go so many steps further
+-- after `at` steps of the path the arcs begun from vertex `first` on, joined, go `inside` steps further
 pub record IsUnderWay (arcs : List Path) (Q : Path) (at inside : ℕ) (named : List SignedArc) : Type 0 where
   pub first : ℕ
   pub below : first < at

@@ -28,7 +28,8 @@ times_none a b e = ap (λ (z : ℤ). a *ℤ z) e ∙ *ℤ_comm a (pos 0) ∙ zer
 three : (ux uy vx vy wx wy : ℤ) → vy *ℤ (ux *ℤ wy -ℤ uy *ℤ wx) ≡ wy *ℤ (ux *ℤ vy -ℤ uy *ℤ vx) +ℤ uy *ℤ (vx *ℤ wy -ℤ vy *ℤ wx)
 three = ring 6 (λ ux uy vx vy wx wy. vy ⊠ (ux ⊠ wy ⊟ uy ⊠ wx) ≐ wy ⊠ (ux ⊠ vy ⊟ uy ⊠ vx) ⊞ uy ⊠ (vx ⊠ wy ⊟ vy ⊠ wx)) tt
 
--- of three directions in the upper half, if none turns left from the one before, the third does not turn left from the first
+-- of three directions in the upper half, if none turns left from the one before, the third does not turn left from the
+-- first
 chain_up : (ux uy vx vy wx wy : ℤ) → Up ux uy → Up vx vy → Up wx wy → (ux *ℤ vy -ℤ uy *ℤ vx) ≤ℤ pos 0 → (vx *ℤ wy -ℤ vy *ℤ wx) ≤ℤ pos 0 → (ux *ℤ wy -ℤ uy *ℤ wx) ≤ℤ pos 0
 chain_up ux uy vx vy wx wy hu (inl hv) hw a b =
     let first = mul-nonpos wy (ux *ℤ vy -ℤ uy *ℤ vx) (not_low wx wy hw) a in

@@ -86,7 +86,8 @@ IsWholeRun net n h =
     let last = last_of_run net n h in
     (StartsThere net h × (slice_index net.onward.items last ≡ last)) ⊎ ((slice_index net.onward.items last ≢ last) × (slice_index net.onward.items last ≡ h))
 
--- an arc starts at a step of the table, at the least where it comes round, has a step, goes on to its last, and is whole
+-- an arc starts at a step of the table, at the least where it comes round, has a step, goes on to its last, and is
+-- whole
 pub record IsWay (net : Net) (way : Way) : Type 0 where
   pub there : way.start < length net.steps.items
   pub least : BeginsLeast net way.start

@@ -36,8 +36,8 @@ pub record IsOneRound (d : Drawing) (path : Path) (named : List SignedArc) : Typ
   pub one : SignedArc
   pub same : All (λ (a : SignedArc). a ≡ one) named
 
--- the arcs, joined, are the path from its first node round, or where it has none from one of its vertices; each begins where the one before
--- it ends, so that the steps of the path are theirs
+-- the arcs, joined, are the path from its first node round, or where it has none from one of its vertices; each begins
+-- where the one before it ends, so that the steps of the path are theirs
 pub record RunsFrom (d : Drawing) (arcs : List Path) (path : Path) (named : List SignedArc) : Type 0 where
   pub first : ℕ
   pub there : first + 1 < length path
@@ -55,8 +55,8 @@ pub record ArePathArcs (d : Drawing) (arcs : List Path) (path : Path) (named : L
 abbrev pub AreArcsAlong : List Path → Path → List SignedArc → Type 0
 AreArcsAlong arcs path named = (d : Drawing) → AreArcsOf d arcs → IsDrawn d path → ArePathArcs d arcs path named
 
--- whatever drawing these are the arcs of, and the path is drawn in: if it passes no node, and arcs without a node start at their least vertices,
--- it is gone along from its least vertex
+-- whatever drawing these are the arcs of, and the path is drawn in: if it passes no node, and arcs without a node start
+-- at their least vertices, it is gone along from its least vertex
 abbrev pub BeginsAtLeast : List Path → Path → List SignedArc → Type 0
 BeginsAtLeast arcs path named = (d : Drawing) → AreArcsOf d arcs → All (StartsAtLeast d) arcs → IsDrawn d path → 1 < length path → IsOneRound d path named →
     All (λ p. is_before p (point_at (joined_points arcs named) 0) ≡ false) path

@@ -75,7 +75,8 @@ pub struct Net {
 }
 
 impl Net {
-    /// The steps along the links, where `turns` are in order the vertices that are nodes whatever their number of links.
+    /// The steps along the links, where `turns` are in order the vertices that are nodes whatever their number of
+    /// links.
     pub fn of(alloc: Global, links: &LinkList, turns: &[Pt]) -> Result<Net, AllocError>
         requires links { AreLinks links.now }
         requires turns { IsSorted point_cmp turns.now }
@@ -258,7 +259,6 @@ fn place_from(steps: &[Step], guess: usize, step: Step) -> Option<usize>
     }
 }
 
-// The step stands at `h`.
 fn stands_at(steps: &[Step], h: usize, step: Step) -> bool
     ensures there { result ≡ true → h < length steps.now }
     ensures found { result ≡ true → slice_get steps.now h ≡ Some step }
@@ -388,7 +388,7 @@ fn other_at(steps: &[Step], h: usize) -> Option<usize>
     }
 }
 
-// The place behind `h`, where a step from the same start stands there, and no third.
+// The index after `h`, where the steps there and at `h` are the only two from their start.
 fn after_in_two(steps: &[Step], h: usize) -> Option<usize>
     requires here { h < length steps.now }
     requires sorted { IsSorted step_cmp steps.now }
@@ -409,7 +409,7 @@ fn after_in_two(steps: &[Step], h: usize) -> Option<usize>
     Some(h + 1)
 }
 
-// The place before `h`, where a step from the same start stands there, and no third.
+// The index before `h`, where the steps there and at `h` are the only two from their start.
 fn before_in_two(steps: &[Step], h: usize) -> Option<usize>
     requires here { h < length steps.now }
     requires sorted { IsSorted step_cmp steps.now }

@@ -43,7 +43,6 @@ pub fn ways_of(alloc: Global, net: &Net, s: &Snapped) -> Result<Vec<Way>, AllocE
     Ok(ways)
 }
 
-// No arc has a number yet.
 fn none_numbered(alloc: Global, net: &Net) -> Result<Numbering, AllocError>
     ensures numbering { IfOk result (IsNumbering net.now) }
     ensures none { IfOk result (λ n. n.ways.items ≡ []) }

@@ -60,8 +60,9 @@ impl Model for ArcTable {
 
 impl ArcTable {
     /// The arcs of a snapped drawing: the whole table, or for want of memory nothing. Each arc is a run of links from
-    /// node to node with no node between, or a closed run without a node, from its least vertex on. They are numbered in the order in which the
-    /// paths first step along them: those of polygons, then lines, then boxes, each from its first vertex on.
+    /// node to node with no node between, or a closed run without a node, from its least vertex on. They are numbered
+    /// in the order in which the paths first step along them: those of polygons, then lines, then boxes, each from its
+    /// first vertex on.
     pub fn build(alloc: Global, s: &Snapped) -> Result<ArcTable, AllocError>
         ensures long { IfOk result (λ t. All (λ arc. 1 < length arc) t) }
         ensures forward { IfOk result (λ t. All IsForward t) }
@@ -144,8 +145,8 @@ impl ArcTable {
         &self.outs[first..first + count]
     }
 
-    /// The least arc that has `p` as a vertex; `None` exactly where there is none. Where no arc starts at `p`, it is the
-    /// only one. Takes no memory.
+    /// The least arc that has `p` as a vertex; `None` exactly where there is none. Where no arc starts at `p`, it is
+    /// the only one. Takes no memory.
     pub fn arc_at(&self, p: Pt) -> Option<ArcId>
         ensures exact { IsArcAt self.now p result }
         ensures alone { IfSome result (IsAloneAt self.now p) }

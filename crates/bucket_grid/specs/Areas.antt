@@ -1,4 +1,5 @@
--- Rectangles of grid points, which boxes share a point with one, and lists of rectangles in which each point has one place.
+-- Rectangles of grid points, which boxes share a point with one, and lists of rectangles in which each point has one
+-- place.
 use Rattle.std.specs.Prelude.{◌≡◌, ◌↔◌, ℕ, ◌<◌, ◌≤ℤ◌, int_le, Bool, ◌&&◌, IsTrue, List, length, slice_index_or}
 use Rattle.lists.specs.Lists.{numbers_where}
 use Rattle.plane_model.specs.Points.{GridPoint}

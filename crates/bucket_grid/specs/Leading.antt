@@ -11,7 +11,7 @@ pub record LeadsEach (nodes : List Node) (areas : List Corners) (near : List (Li
   pub count : length areas < 2 ^ 32
   pub leads : (g : GridPoint) → IsOnGrid g → (k : ℕ) × (place_from 43 nodes root g ≡ Some k) × IsPlaceOf areas g k
 
--- after so many steps, at this node, g is still on the way to its place
+-- after `step` steps, at this node, g is still on the way to its place
 pub record IsOnWay (nodes : List Node) (areas : List Corners) (g : GridPoint) (node step : ℕ) : Type 0 where
   pub left : ℕ
   pub place : ℕ

@@ -13,7 +13,7 @@ struct Spread {
     width: i64,
 }
 
-// So many boxes at most are looked at for one median.
+// The greatest number of boxes that are looked at for one median.
 const SAMPLE: usize = 12;
 
 fn center(area: Rect, axis: Axis) -> i64 {

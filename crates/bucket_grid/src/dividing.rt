@@ -12,7 +12,7 @@ struct Extent {
     lengths: u64,
 }
 
-// So many slabs at most divide an area.
+// The greatest number of slabs that divide an area.
 const MAX_SLABS: u64 = 4096;
 
 // With fewer slabs boxes that lie in several of them can cost more than the division saves: a cut is left to do it.
@@ -50,7 +50,7 @@ pub fn dividing(area: Rect, slabs: Slabs) -> Option<Slabs>
     }
 }
 
-/// About so many slabs of one width, from where the boxes begin to where they end, or fewer of them, at least twice as
+/// About `count` slabs of one width, from where the boxes begin to where they end, or fewer of them, at least twice as
 /// wide as the boxes are on the average: in most layouts a box then lies in one and a half of them, and never in more
 /// than two and a half, on the average.
 pub fn slabs_of(boxes: &[Rect], near: &[u32], area: Rect, axis: Axis, count: u64) -> Option<Slabs>

@@ -27,16 +27,16 @@ pub struct Division {
     pub lists: Vec<IdList>,
 }
 
-/// So many divisions at most lead to a leaf: into columns, into rows, then by cuts.
+/// The greatest number of divisions that lead to a leaf: into columns, into rows, then by cuts.
 pub const MAX_STEPS: u32 = 42;
 
-// So many of them at most are cuts.
+// The greatest number of cuts among them.
 const MAX_CUTS: u32 = 40;
 
-// An area that meets so few boxes is not divided.
+// An area that meets at most this number of boxes is not divided.
 const BUCKET_SIZE: u32 = 24;
 
-// So many boxes are to come into a cell of a column, on the average.
+// The number of boxes that a cell of a column should get, on the average.
 const CELL_SIZE: u64 = 8;
 
 // The number that the next item of a list will have.
@@ -122,7 +122,7 @@ fn division_of(
     Ok(Some(Division { slabs, lists }))
 }
 
-/// Grows a tree over an area, divided in at most so many steps, and answers its top node, which is not among the nodes.
+/// Grows a tree over an area, divided in at most `steps` steps, and answers its top node, which is not among the nodes.
 pub fn grow(
     forest: &mut Forest,
     alloc: Global,

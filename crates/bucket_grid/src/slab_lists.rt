@@ -5,7 +5,6 @@ use crate::tree::{Axis, Slabs, coordinate, slab_of};
 use grid_base::{IdList, Pt, Rect};
 use std::alloc::{AllocError, Global};
 
-// Where a slab begins.
 fn start_of(slabs: &Slabs, slab: u32) -> Option<i64>
     ensures exact { IfSome result (λ start. start ≡ start_of_slab slabs.now slab) }
 {
@@ -59,7 +58,6 @@ pub fn slab_area(area: Rect, slabs: &Slabs, slab: u32) -> Option<Rect>
     strip(area, slabs.axis, low, high)
 }
 
-// So many empty lists.
 fn empty_lists(alloc: Global, count: usize) -> Result<Vec<IdList>, AllocError>
     ensures count { IfOk result (λ lists. length lists.items ≡ count) }
     ensures empty { IfOk result (λ lists. (k : ℕ) → slice_index_or lists.items k [] ≡ []) }

@@ -18,7 +18,7 @@ use Rattle.table_ops.specs.Filtering.{value_for}
 use Rattle.table_ops.proofs.Testing.{behind, behind_one}
 use Rattle.calc_ops.specs.EachRow.{with_name, with_value, assigned_row, assigned_rows, names_after, places_after}
 
--- ---- names that are added behind others
+-- ---- names that are appended to others
 
 grown : (names : List Text) (name : Text) → (more : List Text) × (with_name names name ≡ names ++ more)
 grown names name = go (list_any (bytes_eq name) names) refl
@@ -125,7 +125,7 @@ module _ (names : List Text) (items : List Assign) (n : ℕ) (row : RowValues) (
   split : all_assigned (drop i items) ≡ assigned item ∷ rest
   split = ap all_assigned (drop-cons items i d less)
 
-  -- the names behind those that are known change nothing
+  -- names after those that are known change nothing
   known_there : evaluated final values n (tree_of item.value) ≡ evaluated h.known values n (tree_of item.value)
   known_there =
       let g : (more : List Text) × (names_after h.known (all_assigned (drop i items)) ≡ h.known ++ more) = all_grown h.known (all_assigned (drop i items)) in
@@ -157,7 +157,7 @@ module _ (names : List Text) (items : List Assign) (n : ℕ) (row : RowValues) (
         places_left = sym parts.1;
       })
 
--- behind the last assignment
+-- after the last assignment
 pub all_set : (names : List Text) (items : List Assign) (n : ℕ) (row : RowValues) (final : List Text) (places : List ℕ) (i : ℕ) (values : RowValues) → SoFar names items n row final places i values → drop i items ≡ [] → (assigned_row names n (all_assigned items) row ≡ Ok values) × (length values ≡ length final)
 all_set names items n row final places i values h e = (
   h.rest_is ∙ ap (λ (list : List Assign). assigned_row h.known n (all_assigned list) values) e,

@@ -1,4 +1,4 @@
--- One more key behind others, and the counts of keys up to a number.
+-- One more key after others, and the counts of keys up to a number.
 use Rattle.std.proofs.Common.{◌≡◌, inl, inr, refl, sym, ap, ◌∙◌, arith, cond, ℕ, ◌+◌, Bool, true, false, nat_lt, List, [], ◌∷◌, ◌++◌, append-nil, append_assoc}
 use Rattle.std.specs.Prelude.{count_by, min, unwrap_or, ◌&&◌, Option, Some}
 use Rattle.std.proofs.lemmas.Bool.{cases_lt, lt-ltb, le-ltb}

@@ -64,7 +64,7 @@ left_more arcs faces sets least_area least_links many left set h one = record {
 
 -- ---- boundaries
 
--- some of a list behind another list, where one more element passes or not
+-- some elements of a list after another list, where one more element passes or not
 pub picked_more : {A : Type 0} (test : A → Bool) (old xs : List A) (i : ℕ) (a : A) → i < length xs → a ≡ get_or xs i a →
     (old ++ filter test (take i xs)) ++ cond (test a) (a ∷ []) [] ≡ old ++ filter test (take (i + 1) xs)
 picked_more {A} test old xs i a l is =

@@ -128,7 +128,7 @@ lesser_number m n Less r l = refl
 lesser_number m n Equal r l = let e : m ≡ n = ranked m n Equal r in absurd (omega (arith, e, l))
 lesser_number m n Greater r l = let h : n < m = ranked m n Greater r in absurd (omega (arith, h, l))
 
--- an order that is not turned round, with one that is less behind it
+-- an order that is not turned round, with one that is less after it
 then_less : (o p q : Ordering) → o ≡ ordering_reverse p → is_lt p ≡ false → is_lt q ≡ true → is_lt (ordering_then o q) ≡ true
 then_less Less p q r e f = refl
 then_less Equal p q r e f = f
@@ -252,7 +252,7 @@ module _ (descending : Bool) (keys : List Value) where
       absurd (true≢false (sym ((unsigned_Decides (get_or xs i d) (get_or xs j d)).1 same) ∙ apart_from_distinct nat_eq xs i j d once l m))))
       (λ x y c d r. r)
 
-  -- so many numbers, sorted by the order of rows, are sorted stably by their keys
+  -- the first n numbers, sorted by the order of rows, are sorted stably by their keys
   pub sorted_by_key : (n : ℕ) (numbers : List ℕ) → IsPermutation (range_with_len 0 n) numbers → IsSortedBy before numbers → numbers ≡ sort_stable first (range_with_len 0 n)
   sorted_by_key n numbers moved up =
       let once : IsDistinct nat_eq numbers = IsDistinct-IsPermutation nat_eq nat_eq_equiv.symm (range_with_len 0 n) numbers moved (range-IsDistinct n) in
@@ -260,7 +260,7 @@ module _ (descending : Bool) (keys : List Value) where
       (λ z c. Contains-sort (range_with_len 0 n) z (Contains-permutation numbers (range_with_len 0 n) z (IsPermutation-sym (range_with_len 0 n) numbers moved) c))
       (λ z c. Contains-permutation (range_with_len 0 n) numbers z moved (sort-Contains (range_with_len 0 n) z c))
 
--- ---- so many numbers
+-- ---- the first n numbers
 
 pub range_more : (a n : ℕ) → range_with_len a (n + 1) ≡ range_with_len a n ++ (a + n) ∷ []
 range_more a n = ap (range_with_len a) (add-one n) ∙ go a n

@@ -16,7 +16,7 @@ use Rattle.table_ops.specs.Same.{same_decides}
 use Rattle.table_ops.specs.declared.fault.TableWhy.{TableWhy}
 use Rattle.calc_ops.specs.Keys.{keys_of}
 
--- for each of some keys that stand behind others, whether fewer than so many before it are the same
+-- for each of some keys that stand after others, whether fewer than `most` before it are the same
 abbrev pub early_behind : ℕ → List Value → List Value → List Bool
 early_behind most before [] = []
 early_behind most before (key ∷ keys) = nat_lt (count_by (same key) before) most ∷ early_behind most (before ++ key ∷ []) keys

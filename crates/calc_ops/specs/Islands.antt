@@ -52,7 +52,7 @@ pub record IsWithoutIslands (arcs : List Path) (faces : FaceTable) (sets : List 
   pub are : AreParts faces set pieces
   pub faces_left : left ≡ ascending nat_lt (mainland arcs faces sets least_area least_links n pieces)
 
--- what is left of each of the first so many sets
+-- what is left of each of the first `many` sets
 pub record AreWithoutIslands (arcs : List Path) (faces : FaceTable) (sets : List (List ℕ)) (least_area least_links many : ℕ) (left : List (List ℕ)) : Type 0 where
   pub each : length left ≡ many
   pub exact : (n : ℕ) → n < many → IsWithoutIslands arcs faces sets least_area least_links n (set_at sets n) (set_at left n)

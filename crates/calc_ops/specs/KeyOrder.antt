@@ -21,7 +21,8 @@ type_place (cell.Num units) = 1
 type_place (cell.Text s) = 2
 type_place _ = 3
 
--- of two keys that are not null: false before true, numbers by value, texts by their bytes, which is by Unicode scalar values
+-- of two keys that are not null: false before true, numbers by value, texts by their bytes, which is by Unicode scalar
+-- values
 abbrev pub value_order : Value → Value → Ordering
 value_order (cell.Bool a) (cell.Bool b) = bool_cmp a b
 value_order (cell.Num m) (cell.Num n) = int_cmp m n

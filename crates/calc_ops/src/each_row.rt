@@ -77,7 +77,6 @@ fn add_target(
     Ok(place)
 }
 
-/// All rows after the assignments.
 fn assigned_rows(
     alloc: Global,
     t: &Table,
@@ -98,7 +97,6 @@ fn assigned_rows(
     Ok(rows)
 }
 
-/// The row with this number after the assignments.
 fn assigned_row(
     alloc: Global,
     t: &Table,
@@ -131,7 +129,7 @@ fn values_of(alloc: Global, row: &[Value]) -> Result<Vec<Value>, AllocError>
     Ok(values)
 }
 
-/// Puts a value at a place, or behind all others where there is none.
+/// Replaces the value at a place, or appends the value where there is no such place.
 fn set_at(values: &mut Vec<Value>, place: u32, value: Value) -> Result<(), AllocError>
     ensures set { OnOk result (values.new.items ≡ with_value values.old.items place value) }
 {

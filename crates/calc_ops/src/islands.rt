@@ -55,7 +55,6 @@ pub fn drop_islands(
     Ok(sets)
 }
 
-/// Set `n` without its islands.
 fn without_islands(
     alloc: Global,
     t: &ArcTable,
@@ -239,7 +238,6 @@ fn is_less(area: i128, least: u128) -> bool
     }
 }
 
-/// How many links a boundary has.
 fn links_of(t: &ArcTable, around: &[SignedArc]) -> Result<u64, AllocError>
     requires there { All (λ a. a.arc < length t.now) around.now }
     ensures exact { IfOk result (λ links. links ≡ links_of t.now around.now) }
@@ -251,7 +249,7 @@ fn links_of(t: &ArcTable, around: &[SignedArc]) -> Result<u64, AllocError>
     Ok(links)
 }
 
-/// A number of links and those of an arc with so many points.
+/// A number of links, with those of an arc of `points` points added.
 fn with_links(links: u64, points: usize) -> Result<u64, AllocError>
     requires some { 1 < points }
     ensures exact { IfOk result (λ more. more ≡ links + (points - 1)) }

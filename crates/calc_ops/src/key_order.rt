@@ -1,4 +1,3 @@
-// The order of keys.
 ghost use Rattle.std.specs.Prelude.{◌≡◌};
 ghost use Rattle.calc_ops.specs.KeyOrder.{key_order as order_of_keys, type_place as place_of_type, value_order as order_of_values};
 

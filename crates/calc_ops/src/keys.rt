@@ -1,4 +1,3 @@
-// The values of an expression for rows.
 ghost use Rattle.std.specs.Prelude.{◌≡◌, ◌++◌, ◌∷◌, [], IfOk, OnOk, length};
 ghost use Rattle.expr_lang.specs.Tree.{tree_of};
 ghost use Rattle.table_ops.specs.Refusals.{AnswersAs};

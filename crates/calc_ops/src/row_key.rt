@@ -1,4 +1,3 @@
-// Keys in a map.
 ghost use Rattle.std.specs.Prelude.{◌≡◌};
 ghost use Rattle.std.specs.Hash.{same_Alike};
 ghost use Rattle.std.specs.Cmp.{partial_equiv_from_equiv};

@@ -37,7 +37,7 @@ pub fn sort_rows(
     Ok(id_list(alloc, &numbers)?)
 }
 
-/// The numbers of so many keys, in the order of the keys.
+/// The numbers of the keys, `count` of them, in the order of the keys.
 fn numbers_by_key(
     alloc: Global,
     keys: &[Value],

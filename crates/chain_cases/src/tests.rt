@@ -13,7 +13,7 @@ const CITIES: &[u8] = b"{\"type\":\"FeatureCollection\",\"features\":[
 ]}
 ";
 
-// A topology of one area, with whole steps between its positions.
+// A topology of one polygon, with whole steps between its positions.
 const WORLD: &[u8] =
     b"{\"type\":\"Topology\",\"transform\":{\"scale\":[0.036003600360036005,0.018001800180018002],\"translate\":[-180,-90]},\"objects\":{\"world\":{\"type\":\"GeometryCollection\",\"geometries\":[{\"type\":\"Polygon\",\"arcs\":[[0,-2]],\"properties\":{\"id\":1}},{\"type\":null,\"properties\":{\"id\":2}}]}},\"arcs\":[[[0,0],[9999,0]],[[0,0],[0,9999],[9999,0],[0,-9999]]]}
 ";

@@ -61,7 +61,7 @@ first_shape P kind.Table n s = no_shape
 abbrev pub count_of : Kind → List LayerContent → ℕ
 count_of k ls = length (shapes_of k ls)
 
--- a layer behind others of the drawing
+-- a layer after others of the drawing
 abbrev pub first_layer : Plane → List LayerContent → LayerContent → StateLayer
 first_layer P before l = record {
   name = l.name;

@@ -1,5 +1,5 @@
--- What a run is bound to: its answer, what files and the standard stream hold afterwards, and the causes of faults.
-use Rattle.std.specs.Prelude.{◌≡◌, ◌≢◌, ◌⊎◌, ℕ, ◌+◌, ◌≤◌, Bool, true, false, List, [], ◌∷◌, ◌++◌, Option, Some, None, MatchOption, Ok, Err, slice_get, MatchBool, ⊤, if◌then◌else◌, not, ◌&&◌, is_some}
+-- What a run is bound to: its answer, what files and the standard stream hold afterwards, and the causes of answers.
+use Rattle.std.specs.Prelude.{◌≡◌, ◌≢◌, ◌⊎◌, ℕ, ◌+◌, ◌<◌, ◌≤◌, Bool, true, false, List, [], ◌∷◌, ◌++◌, Option, Some, None, MatchOption, Ok, Err, slice_get, MatchBool, ⊤, if◌then◌else◌, not, ◌&&◌, is_some}
 use Rattle.std.specs.List.{list_any}
 use Rattle.std.specs.Io.KnownBytes.{Appends}
 use Rattle.std.specs.Str.{bytes_eq}
@@ -13,10 +13,10 @@ use Rattle.cmd_words.specs.declared.action_words.CommandWords.{CommandWords}
 use Rattle.cmd_words.specs.Words.{JobWords, Reading, synth, chain}
 use Rattle.cmd_words.specs.declared.job.Action.TheVariants as action
 use Rattle.cmd_words.specs.declared.job.SourceWord.{SourceWord}
-use Rattle.chain_model.specs.Outcome.{Outcome, done, read_fault, missing, too_long, write_fault, memory}
+use Rattle.chain_model.specs.Outcome.{Outcome, done, bad_words, read_fault, missing, too_long, bad_input, too_dense, refused, write_fault, memory}
 use Rattle.chain_model.specs.Sources.{Readings, byte_limit}
 use Rattle.chain_model.specs.Messages.{TellsOutcome}
-use Rattle.chain_model.specs.Running.{Effect, WordsTell}
+use Rattle.chain_model.specs.Running.{Effect, WordsTell, link_limit}
 use Rattle.word_model.specs.Words.{words_say}
 
 -- ---- what effects leave
@@ -53,7 +53,8 @@ pub record HoldsAfter (before after : Outside) (effects : List Effect) : Type 0 
 
 -- ---- the answer
 
--- `words` is what the words say; files and standard input hold `sources` and `input`, as far as they are sources of the run
+-- `words` is what the words say; files and standard input hold `sources` and `input`, as far as they are sources of the
+-- run
 module _ (read : Readings) (words : Reading JobWords) (sources : FileMap) (input : Content) where
   -- The answer is the stated one, each output is held as stated, and nothing else has changed.
   pub record RunMeans (before after : Outside) (outcome : Outcome) : Type 0 where
@@ -125,7 +126,7 @@ Headline read words input before outcome after =
     MatchOption (needed_input words input) ⊤ (λ input.
     Binds read words files input before after outcome))
 
--- ---- causes of faults
+-- ---- causes of answers
 
 -- the counts of the outside before or after a run
 pub record Counts : Type 0 where
@@ -168,14 +169,35 @@ ReadTooMuch before after = raised (byte_limit + 1) (before.file_bytes + before.i
 abbrev pub SourceMissing : Option FileMap → Counts → Counts → SourceWord → Type 0
 SourceMissing told before after s = MatchBool s.standard ⊥ (MissesName told s.name (Rose (before.reads s.name) (after.reads s.name)))
 
--- A fault is answered only where its count rose. Missing needs a name that told files lack, or else a count that rose; TooLong needs that too much
--- was read, where the sources are not all told.
+-- the words are not refused
+abbrev pub AreAccepted : Reading JobWords → Type 0
+AreAccepted words = (w : JobWords) × (words ≡ Ok w)
+
+-- an element has number n, from 1
+abbrev pub HasNumber : {A : Type 0} → List A → ℕ → Type 0
+HasNumber xs n = HasAt xs n (λ x. ⊤)
+
+abbrev pub commands_of : Reading JobWords → List CommandWords
+commands_of (Ok (chain w)) = w.so_far.commands
+commands_of (Ok (synth seed n)) = []
+commands_of (Err e) = []
+
+-- Whether the sources are told or not: BadWords is answered only of the words that are refused, for just that, and each
+-- other answer but Memory only of words that are accepted. A fault of reading or writing needs that its count rose, and
+-- Missing a name that told files lack, or else a count that rose. TooLong needs that too much was read, where the
+-- sources are not all told, and TooDense a count past the limit. Whatever is told of a source, or of a command, has the
+-- number of one. Nothing is asked of Memory.
 abbrev pub HasCause : Reading JobWords → Option FileMap → Option Content → Counts → Counts → Outcome → Type 0
+HasCause words files input before after done = AreAccepted words
+HasCause words files input before after (bad_words n why) = words ≡ Err (n, why)
 HasCause words files input before after (read_fault n) = SourceFailed before after words n
-HasCause words files input before after (write_fault n) = WriteFailed before after words n
 HasCause words files input before after (missing n) = HasAt (sources_of words) n (SourceMissing files before after)
-HasCause words files input before after (too_long n) = MatchBool (are_told words files input) ⊤ (ReadTooMuch before after)
-HasCause words files input before after _ = ⊤
+HasCause words files input before after (too_long n) = HasNumber (sources_of words) n × MatchBool (are_told words files input) ⊤ (ReadTooMuch before after)
+HasCause words files input before after (bad_input n why) = HasNumber (sources_of words) n
+HasCause words files input before after (too_dense count) = AreAccepted words × (link_limit < count)
+HasCause words files input before after (refused n why) = HasNumber (commands_of words) n
+HasCause words files input before after (write_fault n) = WriteFailed before after words n
+HasCause words files input before after memory = ⊤
 
 -- ---- completeness
 
@@ -199,7 +221,8 @@ pub record Seen : Type 0 where
   pub messages : Option Content
   pub counts : Counts
 
--- All that binds a run of these words: what its answer means, what each fault has as its cause, when it has to be Done, and its message.
+-- All that binds a run of these words: what its answer means and has as its cause, when it has to be Done, and its
+-- message.
 pub record IsRunOf (read : Readings) (words : List Text) (before after : Seen) (outcome : Outcome) : Type 0 where
   pub means : Headline read (words_say read.refusals words) before.input before.outside outcome after.outside
   pub cause : HasCause (words_say read.refusals words) before.outside.files before.input before.counts after.counts outcome

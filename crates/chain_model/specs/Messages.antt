@@ -19,7 +19,7 @@ use Rattle.cmd_words.specs.declared.fault.WordWhy.TheVariants as word
 use Rattle.chain_model.specs.Outcome as o
 use Rattle.chain_model.specs.Outcome.{Outcome, InputWhy, RefuseWhy}
 
--- a text, and a number behind it
+-- a text, and a number after it
 abbrev pub with_number : Text → ℕ → Text
 with_number s n = s ++ codes " " ++ decimal n
 
@@ -135,6 +135,7 @@ outcome_text o.memory = Some (codes "Memory")
 abbrev pub message_of : Outcome → Option Text
 message_of outcome = option_map (λ (s : Text). codes "ms_cli: " ++ s ++ codes "\n") (outcome_text outcome)
 
--- the stream of messages, where it tells what it holds, took this line or a first part of it, and nothing where there is none
+-- the stream of messages, where it tells what it holds, took this line or a first part of it, and nothing where there
+-- is none
 abbrev pub TellsOutcome : Outcome → Option Text → Option Text → Type 0
 TellsOutcome outcome before after = MatchOption (message_of outcome) (Keeps before after) (λ line. (part rest : Text) × (part ++ rest ≡ line) × Appends before after part)

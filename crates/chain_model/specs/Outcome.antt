@@ -6,7 +6,8 @@ use Rattle.topo_io.specs.declared.fault.TopoPlace.{TopoPlace}
 use Rattle.table_ops.specs.declared.fault.TableWhy.{TableWhy}
 use Rattle.cmd_words.specs.declared.fault.WordWhy.{WordWhy}
 
--- why a source is refused: at a byte of it; in a feature of GeoJSON; at a place of a topology; in a column or a row of a table
+-- why a source is refused: at a byte of it; in a feature of GeoJSON; at a place of a topology; in a column or a row of
+-- a table
 pub data InputWhy : Type 0 where
   syntax : ℕ → InputWhy
   depth : ℕ → InputWhy
@@ -37,7 +38,7 @@ pub data Outcome : Type 0 where
   missing : ℕ → Outcome
   too_long : ℕ → Outcome
   bad_input : ℕ → InputWhy → Outcome
-  -- so many links, repeats counted
+  -- too many links: how many, repeats counted
   too_dense : ℕ → Outcome
   refused : ℕ → RefuseWhy → Outcome
   write_fault : ℕ → Outcome

@@ -54,7 +54,8 @@ shape_in_arcs table (shape.Points ps) = arcs.Points ps
 abbrev pub in_arcs : List Path → LayerContent → ArcLayerContent
 in_arcs table picture = record { name = picture.name; kind = picture.kind; table = picture.table; shapes = map (shape_in_arcs table) picture.shapes }
 
--- the text of pictures: of one as GeoJSON (RFC 7946) or comma-separated text (RFC 4180), of all as a topology (TopoJSON 1.0)
+-- the text of pictures: of one as GeoJSON (RFC 7946) or comma-separated text (RFC 4180), of all as a topology (TopoJSON
+-- 1.0)
 abbrev pub text_in : OutForm → ℕ → List Path → List LayerContent → Text
 text_in form.Topo places table pictures = topojson_text places table (map (in_arcs table) pictures)
 text_in form.Geo places table [] = []

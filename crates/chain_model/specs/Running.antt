@@ -1,4 +1,5 @@
--- The run of words over contents: its outcome and its outputs in order, where the outside does not fail and memory lasts.
+-- The run of words over contents: its outcome and its outputs in order, where the outside does not fail and memory
+-- lasts.
 use Rattle.std.specs.Prelude.{◌≡◌, ℕ, ◌+◌, nat_lt, List, [], ◌∷◌, ◌++◌, Option, Some, None, Result, Ok, Err, if◌then◌else◌}
 use Rattle.std.specs.List.{AllZip}
 use Rattle.lists.specs.Lists.{joined_up}

@@ -55,7 +55,7 @@ pub record AreReadings (read : Readings) : Type 0 where
 abbrev pub is_white : ℕ → Bool
 is_white b = (b == 32) || (b == 9) || (b == 10) || (b == 13)
 
--- the first byte behind white space opens an object or an array
+-- the first byte after white space opens an object or an array
 abbrev pub opens_json : Content → Bool
 opens_json [] = false
 opens_json (b ∷ rest) = if is_white b then opens_json rest else (b == 123) || (b == 91)
@@ -68,7 +68,7 @@ skip_mark bytes = if bytes_eq (take 3 bytes) (0xEF ∷ 0xBB ∷ 0xBF ∷ []) the
 abbrev pub is_csv : SourceWord → Content → Bool
 is_csv s bytes = if s.standard then not (opens_json (skip_mark bytes)) else ends_in s.name (codes ".csv")
 
--- what stands behind the last slash, and what stands before the last point
+-- what stands after the last slash, and what stands before the last point
 abbrev pub behind_slash : Content → Content
 behind_slash name = unwrap_or (option_map (λ split. split.1) (rsplit_once 47 name)) name
 
@@ -139,7 +139,7 @@ positions_in (shape.Polygons polygons) = sum_by positions_along polygons
 positions_in (shape.Lines lines) = positions_along lines
 positions_in (shape.Points points) = length points
 
--- the room that is left behind some layers: each position and each feature counts
+-- the room that is left after some layers: each position and each feature counts
 abbrev pub room_behind : Room → List LayerContent → Room
 room_behind room ls = record {
   positions = room.positions - sum_by (λ (l : LayerContent). sum_by positions_in l.shapes) ls;
@@ -156,7 +156,7 @@ abbrev pub or_refused : ℕ → Layers → Result (List LayerContent) Outcome
 or_refused n (Ok ls) = Ok ls
 or_refused n (Err why) = Err (bad_input n why)
 
--- source n by its bytes, where the sources before it have so many together
+-- source n by its bytes, where the sources before it have `before` bytes together
 abbrev pub source_layers : Readings → ℕ → ℕ → Room → ℕ → SourceWord → Option Content → Result (List LayerContent) Outcome
 source_layers read places before room n s None = Err (missing n)
 source_layers read places before room n s (Some bytes) =

@@ -16,7 +16,7 @@ free_number names name = first_or 2 (filter (λ (k : ℕ). not (has_name names (
 abbrev pub new_name : List Text → Text → Text
 new_name names name = if has_name names name then numbered name (free_number names name) else name
 
--- names, and others behind them, each made new among those before it
+-- names, and others after them, each made new among those before it
 abbrev pub with_new_names : List Text → List Text → List Text
 with_new_names names [] = names
 with_new_names names (name ∷ rest) = with_new_names (names ++ new_name names name ∷ []) rest

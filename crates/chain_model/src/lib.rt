@@ -1,5 +1,5 @@
-//! What a run means: its state and steps with their refusals, its outputs and their texts, its outcome, and what it leaves
-//! outside. Definitions alone, over those of regions, texts, tables and words; no code of the run is in them.
+//! What a run means: its state and steps with their refusals, its outputs and their texts, its outcome, and what it
+//! leaves outside. Definitions alone, over those of regions, texts, tables and words; no code of the run is in them.
 #![tactic(auto)]
 
 ghost use Rattle.std.specs.Prelude.{◌≡◌, [], ℕ};

@@ -46,7 +46,7 @@ commands_of_cut n (w ∷ ws) = go (is_command w) refl (commands_of_cut (n + 1) w
         let skipped : (grouped (words_from n (w ∷ ws))).commands ≡ (grouped (words_from (n + 1) ws)).commands = rw e refl in
         skipped ∙ later ∙ sym (ap (λ (k : ℕ). commands_of (n + k) (drop k (w ∷ ws))) p ∙ ap (λ (k : ℕ). commands_of k (drop (plain ws) ws)) m)
 
--- what is left behind the first group begins with a command word
+-- what is left after the first group begins with a command word
 pub begins_behind_cut : (ws : List Text) → BeginsACommand (drop (plain ws) ws)
 begins_behind_cut [] = tt
 begins_behind_cut (w ∷ ws) = go (is_command w) refl (begins_behind_cut ws)
@@ -86,7 +86,7 @@ next_command refuses places s n m k w v ws rest group next same h is behind begi
     let e : is_command w ≡ true = subst BeginsACommand whole begins in
     ap (λ (xs : List Text). take_commands refuses places s (commands_of n xs)) whole ∙ one_command refuses places s n m k w rest group next e p g r q
 
--- the import, and what is read behind it
+-- the import, and what is read after it
 pub read_cut : (refuses : Refusals) (n m k : ℕ) (ws import rest : List Text) → k ≡ plain ws → import ≡ take k ws → rest ≡ drop k ws → m ≡ n + k → read_groups refuses (grouped (words_from n ws)) ≡ on_ok (take_words refuses 6 import_form (empty_group false) (words_from n import)) (after_import refuses (commands_of m rest))
 read_cut refuses n m k ws import rest p g r q =
     let first = ap (λ (f : List Word). on_ok (take_words refuses 6 import_form (empty_group false) f) (after_import refuses (commands_of n ws))) (first_of_cut n ws) in

@@ -10,7 +10,7 @@ comma b = eqb b 44
 abbrev place : List ℕ → ℕ
 place s = position_or_len comma s
 
--- up to a comma, and behind it
+-- up to a comma, and after it
 pub pieces_at_comma : (s : List ℕ) → position_or_len (λ b. eqb b 44) s < length s → pieces s ≡ before_first (λ b. eqb b 44) s ∷ pieces (after_first (λ b. eqb b 44) s)
 pieces_at_comma [] h = absurd (omega arith)
 pieces_at_comma (b ∷ s) h = go (eqb b 44) refl (pieces_at_comma s)
@@ -44,7 +44,7 @@ pieces_alone (b ∷ s) h = go (eqb b 44) refl (pieces_alone s)
 pub one_piece_more : (all names more_names rest more : List (List ℕ)) (piece : List ℕ) → all ≡ names ++ rest → more_names ≡ names ++ piece ∷ [] → rest ≡ piece ∷ more → all ≡ more_names ++ more
 one_piece_more all names more_names rest more piece a n r = a ∙ ap (λ x. names ++ x) r ∙ sym (ap (λ x. x ++ more) n ∙ append_assoc names (piece ∷ []) more)
 
--- an empty piece of a text is its first, or one behind its first comma
+-- an empty piece of a text is its first, or one after its first comma
 pub empty_at_comma : (s piece more : List ℕ) → pieces s ≡ piece ∷ pieces more → has_empty_piece s ≡ (is_empty piece || has_empty_piece more)
 empty_at_comma s piece more e = ap (list_any is_empty) e
 

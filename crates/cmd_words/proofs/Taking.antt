@@ -7,7 +7,7 @@ use Rattle.cmd_words.specs.Groups.{Group}
 use Rattle.cmd_words.specs.Options.{take_word}
 use Rattle.cmd_words.specs.Words.{at_word, words_from, take_words}
 
--- the words from place i on are the word there and those behind it
+-- the words from place i on are the word there and those after it
 pub from_place : (ws : List Text) (i : ℕ) (w : Text) → i < length ws → w ≡ get_or ws i w → drop i ws ≡ w ∷ drop (i + 1) ws
 from_place ws i w h is = rw (add-one i) (drop-cons ws i w h ∙ ap (λ (x : Text). x ∷ drop (suc i) ws) (sym is))
 

@@ -9,6 +9,6 @@ abbrev pub BeginsACommand : List Text → Type 0
 BeginsACommand [] = Unit {0}
 BeginsACommand (w ∷ ws) = is_command w ≡ true
 
--- the command words among these, numbered from n on, with the words behind each
+-- the command words among these, numbered from n on, with the words after each
 abbrev pub commands_of : ℕ → List Text → List CommandGroup
 commands_of n words = (grouped (words_from n words)).commands

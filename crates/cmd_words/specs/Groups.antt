@@ -14,7 +14,8 @@ pub record Group : Type 0 where
   pub bare : List Text
   -- some word of the chain so far reads standard input
   pub reads_standard : Bool
-  -- the box, the renames, the columns to be calculated and the texts of the expression and of the assignments that a word gave
+  -- the box, the renames, the columns to be calculated and the texts of the expression and of the assignments that a
+  -- word gave
   pub area : Option Corners
   pub renames : List Rename
   pub calculations : List Calc

@@ -38,7 +38,8 @@ at_first_equals word = split_at 61 word
 abbrev pub begins_with_equals : Text → Bool
 begins_with_equals s = slice_index s 0 == 61
 
--- where expressions or assignments stand, only the known options without a further `=` are options; where renames stand, only the known ones
+-- where expressions or assignments stand, only the known options without a further `=` are options; where renames
+-- stand, only the known ones
 abbrev pub splits : ArgumentForm → Bool → Bool → Bool
 splits argument.Expression known doubled = known && not doubled
 splits argument.Assignments known doubled = known && not doubled

@@ -123,7 +123,7 @@ abbrev pub read_seed : Option ℕ → Text → Reading JobWords
 read_seed None size = Err (2, why.BadNumber)
 read_seed (Some seed) size = read_size seed (number_in 1 300 size)
 
--- the words behind `synth`
+-- the words after `synth`
 abbrev pub read_synth : List Text → Reading JobWords
 read_synth [] = Err (1, why.MissingArgument)
 read_synth (seed ∷ []) = Err (1, why.MissingArgument)

@@ -15,7 +15,8 @@ use io_core::{NameList, Text};
 use std::alloc::{AllocError, Global};
 use table_terms::{CalcSpec, GroupSpec, JoinSpec};
 
-/// What a command asks for, where its chain so far has so many sources and boxes, in so many decimal places.
+/// What a command asks for, where its chain so far has `sources` sources and `boxes` boxes, with `places` decimal
+/// places.
 pub(crate) fn action(
     alloc: Global,
     places: u8,
@@ -152,7 +153,7 @@ fn calculated_action(
     })
 }
 
-// By keys, or else by place.
+// A join by keys, or else by place.
 fn join(alloc: Global, from: Origin, group: &mut Group) -> Result<ActionWords, AllocError>
     ensures exact { IfOk result (λ a. a ≡ join_of from group.old) }
 {

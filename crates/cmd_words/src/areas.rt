@@ -20,7 +20,7 @@ pub(crate) fn places_of(value: &str) -> Option<u8>
     places_of_units(precision.units())
 }
 
-// Of a number of units of 10^-18.
+// The decimal places of a precision of this number of units of 10^-18.
 fn places_of_units(units: i128) -> Option<u8>
     ensures exact { result ≡ place_of units }
     ensures few { IfSome result (λ k. k ≤ most_places) }

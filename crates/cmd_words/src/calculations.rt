@@ -78,7 +78,7 @@ fn enclosed(text: &str) -> Option<&str>
     }
 }
 
-// Without the white space of JSON at both ends.
+// The text without the white space of JSON at both ends.
 fn trimmed(text: &str) -> &str
     ensures exact { result.now ≡ trimmed text.now }
 {
@@ -132,7 +132,7 @@ fn is_reserved(word: &str) -> bool
     word == "true" || word == "false" || word == "null" || word == "this" || is_other_word(word)
 }
 
-// A word of JavaScript that expressions leave out.
+// Whether a word is one of JavaScript that expressions leave out.
 fn is_other_word(word: &str) -> bool
     ensures exact { result ≡ is_left_out word.now }
 {

@@ -50,7 +50,7 @@ pub enum WordWhy {
     BoxRange,
     /// The text is no expression, at this byte of it.
     BadExpression { at: u32, why: ExprWhy },
-    /// `-i` stands behind the front of the chain.
+    /// `-i` stands after the front of the chain.
     LaterImport,
     /// There are more than 1,000 words; word 1,001.
     TooManyWords,

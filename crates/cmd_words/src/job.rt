@@ -84,7 +84,8 @@ pub enum OutForm {
 /// What a command does.
 #[derive(Drop)]
 pub enum Action {
-    /// A text is written, and no layer changes. `standard` says that the word was `-`, and the standard stream is meant.
+    /// A text is written, and no layer changes. `standard` says that the word was `-`, and the standard stream is
+    /// meant.
     Write {
         to: Text,
         standard: bool,

@@ -28,6 +28,7 @@ mod texts;
 mod values;
 mod word_groups;
 
+pub use action_words::{ActionWords, CommandWords};
 pub use chain_lists::{CommandList, SourceList};
 pub use fault::{ExprWhy, WordFault, WordWhy};
 pub use job::{

@@ -16,7 +16,7 @@ use crate::values::{form_named, is_pair, read_renames, rule_of};
 use crate::word_groups::Group;
 use std::alloc::Global;
 
-/// Takes the next word of a group, of so many decimal places.
+/// Takes the next word of a group, with `places` decimal places.
 ///
 /// Errors: the first reason for which the word is refused.
 pub(crate) fn take_word(

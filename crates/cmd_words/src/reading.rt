@@ -26,7 +26,7 @@ use crate::word_groups::Group;
 use io_core::{Text, Words};
 use std::alloc::Global;
 
-/// The greatest number of words.
+/// The greatest number of words on a command line.
 const MAX_WORDS: usize = 1000;
 
 /// The decimal places of a chain whose words do not tell them.
@@ -138,7 +138,7 @@ fn read_import(alloc: Global, first: u32, words: &[Text]) -> Result<Group, WordF
     Ok(group)
 }
 
-// The chain of an import and of the commands behind it.
+// The chain of an import and of the commands after it.
 fn read_behind(alloc: Global, group: &Group, first: u32, words: &[Text]) -> Result<Chain, WordFault>
     requires numbers { first + length words.now < 2 ^ 32 }
     requires begins { BeginsACommand words.now }
@@ -243,7 +243,7 @@ fn take_command(
     take_group(alloc, places, so_far, row, number, rest, &mut group)
 }
 
-// The words behind a command's own, and then the command.
+// The words after a command's own, and then the command.
 fn take_group(
     alloc: Global,
     places: u8,

@@ -60,7 +60,7 @@ impl SoFar {
         self.reads_standard
     }
 
-    /// Adds the command of a group, of so many decimal places, and takes what the group holds.
+    /// Adds the command of a group, with `places` decimal places, and takes what the group holds.
     pub(crate) fn add(
         &mut self,
         alloc: Global,
@@ -125,7 +125,7 @@ impl SoFar {
     }
 }
 
-// The file that the command behind so many others reads.
+// The file that the command after `commands` others reads.
 fn source_of(
     alloc: Global,
     commands: usize,
@@ -149,7 +149,7 @@ fn source_of(
     }))
 }
 
-// What a group asks for, where so many sources and boxes stand before it.
+// What a group asks for, where `sources` sources and `boxes` boxes stand before it.
 fn command_words(
     alloc: Global,
     places: u8,

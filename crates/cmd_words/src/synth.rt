@@ -9,7 +9,7 @@ use crate::job::Job;
 use crate::quantities::number_in;
 use io_core::Text;
 
-/// Reads the words behind `synth`: a seed and a size, in decimal digits.
+/// Reads the words after `synth`: a seed and a size, in decimal digits.
 pub(crate) fn read_synth(words: &[Text]) -> Result<Job, WordFault>
     ensures exact { Tells FitsJob (read_synth words.now) result }
     ensures limits { IfOk result KeepsLimits }

@@ -34,7 +34,7 @@ pub(crate) fn has_empty_piece(text: &str) -> bool
     rest.is_empty()
 }
 
-/// What stands before the first `=` and behind it.
+/// What stands before the first `=` and after it.
 pub(crate) fn at_first_equals(word: &str) -> Option<(&str, &str)>
     ensures exact { parts_seen result ≡ at_first_equals word.now }
 {
@@ -77,7 +77,7 @@ pub(crate) fn is_standard(word: &str) -> bool
     word == "-"
 }
 
-// In any ASCII letter case.
+// Whether a text has an ending, in any ASCII letter case.
 fn ends_in(text: &str, ending: &str) -> bool
     ensures exact { result ≡ ends_in text.now ending.now }
 {

@@ -10,7 +10,7 @@ use Rattle.csv.specs.declared.parser.State.TheVariants as st
 use Rattle.csv.specs.declared.parser.Action.{Action}
 use Rattle.csv.specs.declared.parser.Action.TheVariants as act
 
--- ## Behind a record no other one has begun
+-- ## After a record no other one has begun
 
 abbrev Fine : State × Action → Type 0
 Fine p = is_end p.1 ≡ true → ends_at_end p.0 ≡ false

@@ -60,7 +60,7 @@ refused_row room width n (row ∷ rest) =
 abbrev pub refused_records : ℕ → List Text → List Cells → Option CsvFault
 refused_records room names rows = first_refusal (repeated_column [] 0 names) (refused_row room (length names) 0 rows)
 
--- the table of records, of which the first has the names, with room for so many rows
+-- the table of records, of which the first has the names, with room for `room` rows
 abbrev pub table_of_records : List Text → ℕ → List Cells → Result TableContent CsvFault
 table_of_records texts room [] = Err NoHeader
 table_of_records texts room (names ∷ rows) = unless (refused_records room names rows) (Ok (table_under texts names rows))

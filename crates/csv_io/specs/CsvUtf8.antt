@@ -7,7 +7,7 @@ use Rattle.csv_io.specs.declared.utf8.Expected.TheVariants.{First, Next}
 abbrev pub BeginsUtf8 : List ℕ → Type 0
 BeginsUtf8 bytes = (more : List ℕ) × IsUtf8 (bytes ++ more)
 
--- the bytes are no UTF-8 text, and so many of them are the longest prefix that begins one
+-- the bytes are no UTF-8 text, and the first `at` of them are the longest prefix that begins one
 abbrev pub EndsUtf8At : List ℕ → ℕ → Type 0
 EndsUtf8At bytes at =
     ¬ (IsUtf8 bytes) × (at ≤ length bytes) × BeginsUtf8 (take at bytes)
@@ -15,7 +15,7 @@ EndsUtf8At bytes at =
 
 -- ## What may come next
 
--- so many bytes from 128 to 191, and then a UTF-8 text
+-- a given number of bytes from 128 to 191, and then a UTF-8 text
 abbrev pub Follow : ℕ → List ℕ → Type 0
 Follow zero more = IsUtf8 more
 Follow (suc n) [] = ⊥
@@ -30,7 +30,7 @@ Completes (Next low high n) (b ∷ more) = (low ≤ b) × (b < high) × Follow n
 abbrev pub CanEnd : Expected → Type 0
 CanEnd e = (more : List ℕ) × Completes e more
 
--- behind this byte comes what is expected next
+-- after this byte comes what is expected next
 abbrev pub Continues : Expected → ℕ → Expected → Type 0
 Continues e b later = ((more : List ℕ) → Completes e (b ∷ more) ↔ Completes later more) × CanEnd later
 
@@ -38,6 +38,6 @@ Continues e b later = ((more : List ℕ) → Completes e (b ∷ more) ↔ Comple
 abbrev pub Stops : Expected → ℕ → Type 0
 Stops e b = (more : List ℕ) → ¬ (Completes e (b ∷ more))
 
--- behind bytes that were read comes what is expected
+-- after bytes that were read comes what is expected
 abbrev pub Expects : List ℕ → Expected → Type 0
 Expects bytes e = ((more : List ℕ) → IsUtf8 (bytes ++ more) ↔ Completes e more) × CanEnd e

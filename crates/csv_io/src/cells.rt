@@ -109,7 +109,7 @@ fn is_digit(byte: u8) -> bool
     b'0' <= byte && byte <= b'9'
 }
 
-/// Without the zeros in front of another digit.
+/// A number without the zeros in front of another digit.
 #[tactic(auto, using(crate::proofs::CsvCells::zeros_more, crate::proofs::CsvCells::zeros_end))]
 fn without_zeros(size: &[u8]) -> &[u8]
     ensures exact { result.now ≡ without_zeros size.now }

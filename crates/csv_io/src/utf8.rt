@@ -12,7 +12,7 @@ enum Expected {
 }
 
 impl Expected {
-    /// What may come behind a byte, `None` where the byte may not come.
+    /// What may come after a byte, `None` where the byte may not come.
     fn after(self, byte: u8) -> Option<Expected>
         ensures next { IfSome result (λ later. Continues self byte later) }
         ensures none { IfNone result (Stops self byte) }
@@ -26,7 +26,7 @@ impl Expected {
         }
     }
 
-    /// So many bytes from 128 to 191, and then the first byte of a character.
+    /// `more` bytes from 128 to 191, and then the first byte of a character.
     fn following(more: u8) -> Expected
         ensures same { (bytes : List ℕ) → Follow more bytes ↔ Completes result bytes }
         ensures ends { CanEnd result }

@@ -42,7 +42,7 @@ assign_runs {n} (becomes {at = at} {b = b} {name = name} {s = s} h) rest q =
     ∙ moves n behind_target [] (sets b) (s ++ rest) (operand 0) value refl
     ∙ cond_runs h n value rest (omega arith) q
 
--- where tokens follow, a place behind a semicolon is as one at the beginning
+-- where tokens follow, a place after a semicolon is as one at the beginning
 next_as_first : (d : ℕ) (ts : Toks) → (t : Placed) × (us : Toks) × (ts ≡ t ∷ us) → run d next_target [] ts ≡ run d first_target [] ts
 unfolding run
 next_as_first d [] h = let e = h.2 in cc
@@ -173,7 +173,7 @@ assign_passes at i name x old mid mid' new e g h =
     passes_then (λ (z : Toks). OneAssign 64 z (name, x)) (to_value at i name old mid mid' e g) (passes_at (λ (i : Unit {0}). value) h)
     (λ p q o c. subst (λ (p : Toks). OneAssign 64 (p ++ q) (name, x)) (sym o) (becomes c))
 
--- ---- one behind another
+-- ---- one after another
 
 pub ends_at_semicolon : (b : Bool) (at : ℕ) (old new : Toks) → old ≡ semicolon at ∷ new → b ≡ (length new == 0) → AssignEnds b old new
 ends_at_semicolon true at old [] e h = inr (at, e)

@@ -1,4 +1,4 @@
--- Where a text may be cut: behind what the reader of tokens passes.
+-- Where a text may be cut: after what the reader of tokens passes.
 use Rattle.std.specs.Prelude.{encode_utf8, nat_eq}
 use Rattle.std.proofs.Common.{ℕ, ◌≡◌, ◌+◌, ◌<◌, Bool, true, false, List, [], ◌∷◌, ◌++◌, length, get_or, drop, Option, Some, None, MatchOption, cond, refl, ap, ◌∙◌, sym, subst, arith, ◌==◌, ◌&&◌, ◌||◌, append_assoc}
 use Rattle.std.specs.Str.{IsUtf8, IsCharBoundary}

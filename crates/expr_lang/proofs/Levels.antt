@@ -32,7 +32,7 @@ single_breaks j' j n f old new u a =
     subst (λ (j : ℕ). Breaks (Some_tree (Level j) n) (plainly before n) f old new) u
     (breaks_on (Some_tree (Level (suc j')) n) a (λ b z h. ([], (h.0, subst (λ (z : Toks). Level (suc j') (raised b n) z h.0) (sym (append_nil z)) (single h.1)))))
 
--- an operator behind operands
+-- an operator after operands
 operator_runs : (n at : ℕ) (o : Operator) (mid new : Toks) → mid ≡ (at, token.Operator o) ∷ new → (k : List Open) → run_at (plainly behind n k) mid ≡ run_at (plainly before n k) new
 operator_runs n at o mid new e k = ap (run_at (plainly behind n k)) e ∙ moves ((levels k + 0) + n) operator k (at, token.Operator o) new (operand 0) k refl
 

@@ -1,4 +1,4 @@
--- `this.id` and `this.properties["name"]`, behind `this`.
+-- `this.id` and `this.properties["name"]`, after `this`.
 use Rattle.std.proofs.Common.{ℕ, ◌≡◌, List, [], ◌∷◌, ◌++◌, None, refl, ap, ◌∙◌, sym, subst, codes, Bool, true, false}
 use Rattle.std.specs.Str.{bytes_eq}
 use Rattle.std.proofs.lemmas.Slice.Eq.{bytes_eq-Decides}

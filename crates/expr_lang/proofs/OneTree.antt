@@ -24,7 +24,7 @@ mutual
     base : {ts rest : Toks} {e : Tree} → ReadsUnary ts rest e → ReadsLevel zero ts rest e
     chain : {k : ℕ} {ts us rest : Toks} {d e : Tree} → ReadsLevel k ts us d → ReadsLoop k d us rest e → ReadsLevel (suc k) ts rest e
 
-  -- operators of level suc k and their right operands, behind a left operand
+  -- operators of level suc k and their right operands, after a left operand
   pub data ReadsLoop : ℕ → Tree → Toks → Toks → Tree → Type 0 where
     done : {k : ℕ} {ts rest : Toks} {d e : Tree} → NotLevel (suc k) ts → ts ≡ rest → d ≡ e → ReadsLoop k d ts rest e
     more : {k at : ℕ} {o : Operator} {ts us vs rest : Toks} {d e x : Tree}
@@ -206,7 +206,7 @@ mutual
       (chain_reads a ((at, token.Operator o) ∷ (t ++ rest)) (leads k at o (t ++ rest) l) rest _
       (more refl l (level_reads b rest (quiet_down k rest q)) (done (quiet_level (suc k) rest q) refl refl)))
 
-  -- a chain of operators, and the operators behind it
+  -- a chain of operators, and the operators after it
   chain_reads : {k n : ℕ} {s : Toks} {d : Tree} → Level (suc k) n s d → (rest : Toks) → Quiet k rest → (r : Toks) (x : Tree) → ReadsLoop k d rest r x → ReadsLevel (suc k) (s ++ rest) r x
   chain_reads (single h) rest q r x l = chain (level_reads h rest q) l
   chain_reads (joined {k = k} {at = at} {s = s} {t = t} {o = o} a v b) rest q r x l =

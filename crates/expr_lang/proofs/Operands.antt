@@ -107,7 +107,7 @@ begins_no_operand n at t old rest e g l u o =
     let stop = begins_none at t ((levels i.1 + i.0) + n) i.0 i.1 l (λ s h. g at t rest e (s, h)) u o in
     ap (run_at (before n i)) e ∙ stops ((levels i.1 + i.0) + n) (operand i.0) i.1 (at, t) rest stop.0 ∙ ap (λ (f : Misfit). stopped f ((at, t) ∷ rest)) stop.1 ∙ ap (stopped Unfit) (sym e))
 
--- `this` and what stands behind it
+-- `this` and what stands after it
 this_runs : (n at : ℕ) (old mid : Toks) → old ≡ (at, token.This) ∷ mid → (i : Around) → run_at (before n i) old ≡ run_at (anywhere behind_this ((levels i.1 + i.0) + n, i.1)) mid
 this_runs n at old mid e i = ap (run_at (before n i)) e ∙ moves ((levels i.1 + i.0) + n) (operand i.0) i.1 (at, token.This) mid behind_this i.1 refl
 

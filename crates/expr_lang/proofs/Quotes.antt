@@ -13,7 +13,7 @@ append_nil : (s : Text) → s ++ [] ≡ s
 append_nil [] = refl
 append_nil (b ∷ bs) = ap (λ (z : Text). b ∷ z) (append_nil bs)
 
--- a byte that stands for itself in a text behind the quote q
+-- a byte that stands for itself in a text after the quote q
 record Plain (q b : ℕ) : Type 0 where
   pub no_quote : b ≡ q → ⊥
   pub no_end : b ≡ 10 → ⊥
@@ -86,7 +86,7 @@ shorter c old new e =
 
 -- ---- escapes
 
--- an escape behind its backslash
+-- an escape after its backslash
 to_escape : (q : ℕ) (content : Option Text) (old mid : Text) → is_quote q ≡ true → old ≡ encode_utf8 92 ++ mid → text_at q content old ≡ escape_at q content mid
 to_escape q content old mid i e =
     ap (text_at q content) (e ∙ ap (λ (z : Text). z ++ mid) (encode_ascii 92 (omega arith)))

@@ -33,7 +33,7 @@ abbrev pub unfit_at : Toks → ℕ → ExprFault
 unfit_at [] at = fault.Syntax at
 unfit_at (t ∷ ts) at = if is_unsupported t.1 then fault.Unsupported at else fault.Syntax at
 
--- the fault of a text of so many bytes, where these tokens are left
+-- the fault of a text of `end` bytes, where these tokens are left
 abbrev pub fault_of : Misfit → Toks → ℕ → ExprFault
 fault_of TooDeep left end = fault.Depth (place_of left end)
 fault_of Unfit left end = unfit_at left (place_of left end)

@@ -27,7 +27,7 @@ run_at s ts = run s.deepest s.place s.open_there ts
 abbrev pub Around : Type 0
 Around = ℕ × List Open
 
--- before such an operand, and behind it, with d levels more allowed
+-- before such an operand, and after it, with d levels more allowed
 abbrev pub before : ℕ → Around → Spot
 before d i = record { deepest = (levels i.1 + i.0) + d; place = operand i.0; open_there = i.1 }
 
@@ -90,14 +90,14 @@ PartOf tree G n from to result old new =
 abbrev pub Part : {I : Type 0} → (ℕ → Toks → Tree → Type 0) → ℕ → (I → Spot) → (I → Spot) → Result Node Stop → Toks → Toks → Type 0
 Part G n from to result old new = PartOf node_tree G n from to result old new
 
--- before an assignment, with nothing open, and behind its value
+-- before an assignment, with nothing open, and after its value
 abbrev pub before_assign : ℕ → Unit {0} → Spot
 before_assign d i = record { deepest = d; place = first_target; open_there = [] }
 
 abbrev pub behind_assign : ℕ → Unit {0} → Spot
 behind_assign d i = record { deepest = d; place = operator; open_there = assigned_value ∷ [] }
 
--- what stands behind `this` at a place
+-- what stands after `this` at a place
 abbrev pub ThisText : ℕ → ℕ → Toks → Tree → Type 0
 ThisText at n s e = Atom n ((at, token.This) ∷ s) e
 
@@ -140,7 +140,7 @@ abbrev pub EndsLine : List ℕ → Type 0
 EndsLine [] = Unit {0}
 EndsLine (b ∷ bs) = b ≡ 10
 
--- behind an assignment: it was the last, with or without a semicolon; or others follow its semicolon
+-- after an assignment: it was the last, with or without a semicolon; or others follow its semicolon
 abbrev pub AssignEnds : Bool → Toks → Toks → Type 0
 AssignEnds true old new = (old ≡ []) ⊎ ((at : ℕ) × (old ≡ (at, token.Mark mark.Semicolon) ∷ []))
 AssignEnds false old new = (at : ℕ) × (old ≡ (at, token.Mark mark.Semicolon) ∷ new) × (t : Placed) × (ts : Toks) × (new ≡ t ∷ ts)

@@ -17,7 +17,7 @@ use Rattle.json_read.specs.Reading.{drop_while}
 abbrev pub Text : Type 0
 Text = List ℕ
 
--- a token, and the bytes behind it
+-- a token, and the bytes after it
 abbrev pub Lexed : Type 0
 Lexed = Token × Text
 
@@ -40,7 +40,7 @@ abbrev pub skip_exponent : Text → Text
 skip_exponent [] = []
 skip_exponent (b ∷ rest) = if ((b == 101) || (b == 69)) && begins_with_digit (skip_sign rest) then drop_while is_digit (skip_sign rest) else b ∷ rest
 
--- behind the number that begins the text
+-- what is left after the number that begins the text
 abbrev pub behind_number : Text → Text
 behind_number s = skip_exponent (skip_fraction (skip_whole s))
 
@@ -70,7 +70,7 @@ abbrev pub content_token : Option Text → Token
 content_token None = token.Other
 content_token (Some content) = token.Text content
 
--- a text behind its quote q, with its content so far; one that does not end, or meets a line feed, is stray
+-- a text after its quote q, with its content so far; one that does not end, or meets a line feed, is stray
 abbrev mutual
   pub text_at : ℕ → Option Text → Text → Lexed
   text_at q content [] = (token.Stray, [])
@@ -80,7 +80,7 @@ abbrev mutual
       else if b == 92 then escape_at q content rest
       else text_at q (with_byte content b) rest
 
-  -- behind a backslash
+  -- after a backslash
   pub escape_at : ℕ → Option Text → Text → Lexed
   escape_at q content [] = (token.Stray, [])
   escape_at q content (b ∷ rest) =
@@ -174,7 +174,7 @@ abbrev pub symbol_or : Text → ℕ → Option Symbol → Lexed → Lexed
 symbol_or s n None else_token = else_token
 symbol_or s n (Some x) else_token = (symbol_token x, drop n s)
 
--- the longer ones first. A byte that begins no token is stray, and nothing is read behind it
+-- the longer ones first. A byte that begins no token is stray, and nothing is read after it
 abbrev pub symbol_at : ℕ → Text → Lexed
 symbol_at b rest =
     symbol_or (b ∷ rest) 3 (three_bytes (b ∷ rest)) (symbol_or (b ∷ rest) 2 (two_bytes (b ∷ rest)) (symbol_or (b ∷ rest) 1 (one_byte b) (token.Stray, [])))

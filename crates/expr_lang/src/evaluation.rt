@@ -129,7 +129,7 @@ impl<'a> Scope<'a> {
     }
 }
 
-// The value under a name.
+// The first value under a name; `None` where there is none.
 fn cell<'a>(mut names: &[Text], mut row: &'a [Value], name: &str) -> Option<&'a Value>
     ensures { option_map (λ v. v.now) result ≡ cell_of names.now row.now name.now }
 {

@@ -25,5 +25,7 @@ mod token;
 
 pub use assign::{Assign, AssignList};
 pub use evaluation::{eval, eval_values};
-pub use expr::Expr;
+pub use expr::{Expr, Node};
 pub use fault::{EvalFault, ExprFault};
+pub use parser::Misfit;
+pub use token::{Mark, Operator, Sign, Symbol, Token};

@@ -136,7 +136,7 @@ impl<'a> Parser<'a> {
         Ok(text)
     }
 
-    /// What stands behind `this`, which stood at `at`.
+    /// What stands after `this`, which stood at `at`.
     fn this(&mut self, at: u32) -> Result<Node, Stop>
         ensures { (n : ℕ) → Part (ThisText at) n (anywhere behind_this) (anywhere operator) result self.old.rest.now self.new.rest.now }
     {
@@ -339,7 +339,7 @@ impl<'a> Parser<'a> {
 }
 
 impl<'a> Parser<'a> {
-    /// The fault of a text of so many bytes, where the parser stopped.
+    /// The fault of a text of `end` bytes, where the parser stopped.
     pub(crate) fn stopped(&self, stop: Stop, end: u32) -> ExprFault
         ensures { IsStopAt self.now.rest.now end stop result }
     {

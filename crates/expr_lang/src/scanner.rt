@@ -23,7 +23,6 @@ struct Scanner<'a> {
 }
 
 impl<'a> Scanner<'a> {
-    /// The next byte.
     fn peek(&self) -> Option<u8>
         ensures { MatchOption result (self.now.rest.now ≡ [])
             (λ b. (bs : List ℕ) × (self.now.rest.now ≡ b ∷ bs)) }
@@ -50,7 +49,6 @@ impl<'a> Scanner<'a> {
         let _ = self.next();
     }
 
-    /// Goes past so many bytes.
     fn pass(&mut self, n: usize)
         requires { IsCharBoundary self.old.rest.now n }
         ensures { self.new.rest.now ≡ drop n self.old.rest.now }
@@ -138,7 +136,7 @@ impl<'a> Scanner<'a> {
         }
     }
 
-    /// A numeral, behind which its bytes are taken.
+    /// Passes a numeral, and answers its bytes.
     fn numeral(&mut self) -> &'a str
         ensures rest { self.new.rest.now ≡ behind_number self.old.rest.now }
         ensures text { result.now ≡ take (length self.old.rest.now - length self.new.rest.now) self.old.rest.now }
@@ -160,7 +158,7 @@ impl<'a> Scanner<'a> {
         front_of(start, self.rest)
     }
 
-    /// A text behind its quote.
+    /// A text, after its quote.
     fn quoted(&mut self, quote: u8) -> Result<Token, AllocError>
         requires { is_quote quote ≡ true }
         ensures { IfOk result (λ t. (t, self.new.rest.now) ≡ text_at quote (Some []) self.old.rest.now) }
@@ -199,7 +197,7 @@ impl<'a> Scanner<'a> {
         }
     }
 
-    /// What fits nowhere: nothing is read behind it.
+    /// What fits nowhere: nothing is read after it.
     fn stray(&mut self) -> Token
         ensures rest { self.new.rest.now ≡ [] }
         ensures token { result ≡ token.Stray }
@@ -310,7 +308,7 @@ fn text_token(content: String, other: bool) -> Token
     }
 }
 
-// What a character behind a backslash stands for.
+// What a character after a backslash stands for.
 fn escape_of(c: char) -> Option<char>
     ensures { result ≡ escape_byte c }
 {

@@ -79,6 +79,6 @@ pub enum Token {
     /// A token that the language leaves out: an operator or a word of JavaScript, a numeral that is no
     /// decimal, a text with another escape.
     Other,
-    /// A byte that begins no token, or a text that does not end. Nothing is read behind it.
+    /// A byte that begins no token, or a text that does not end. Nothing is read after it.
     Stray,
 }

@@ -9,23 +9,23 @@ use Rattle.expr_lang.proofs.Assignments.{Ended, nothing_yet, target, sets}
 use Rattle.expr_lang.proofs.Parts.{append_nil}
 use Rattle.expr_laws.proofs.Trees.{Condition, Goes, Kind, Operands, Operand, Text, assigned_text, assignments, condition_of, expression, operands_of}
 
--- with an operand of b levels behind them, the tokens are operands of c levels
+-- with an operand of b levels after them, the tokens are operands of c levels
 abbrev pub Begins : ℕ → ℕ → Toks → Type 0
 Begins c b p = (u : Toks) → Operand b u → Operands c (p ++ u)
 
--- with a condition and a parenthesis behind them
+-- with a condition and a parenthesis after them
 abbrev pub Encloses : ℕ → ℕ → Toks → Type 0
 Encloses c d q = (s : Toks) (at : ℕ) → Condition d s → Operands c (q ++ (s ++ (at, token.Mark mark.Close) ∷ []))
 
--- with two branches behind them
+-- with two branches after them
 abbrev pub Chooses : ℕ → ℕ → Toks → Type 0
 Chooses c d q = (s t : Toks) (at : ℕ) → Condition d s → Condition d t → Condition c (q ++ (s ++ (at, token.Mark mark.Colon) ∷ t))
 
--- with a last branch behind them
+-- with a last branch after them
 abbrev pub Continues : ℕ → ℕ → Toks → Type 0
 Continues c d q = (s : Toks) → Condition d s → Condition c (q ++ s)
 
--- a front of a text of n levels, behind which a condition of d levels stands, by what is open there
+-- a front of a text of n levels, after which a condition of d levels stands, by what is open there
 pub data Opened (n : ℕ) : Kind → List Open → ℕ → Toks → Type 0 where
   nothing : {d : ℕ} {front : Toks} → d ≡ n → front ≡ [] → Opened n expression [] d front
   value : {d : ℕ} {front : Toks} (at b : ℕ) (name : List ℕ) (u : Toks) (xs : List Assigned)
@@ -114,7 +114,7 @@ finished {n} {g = kind} (last {base = base} {front = front} q o e f h) s cs =
     let same : (base ++ (q ++ s)) ++ r.0 ≡ (front ++ s) ++ r.0 = rw f (simp append_assoc) in
     (r.0, subst (Text kind n) same r.1)
 
--- with operands behind what was open
+-- with operands after what was open
 operands_finish : {n c : ℕ} {k : List Open} {base : Toks} {g : Kind} (front more : Toks) → Opened n g k c base → (s : Toks) → Operands c s → base ++ s ≡ front ++ more → Goes g n front
 operands_finish {n} {c} {base = base} {g = kind} front more o s h e =
     let r : Goes kind n (base ++ s) = finished o s (condition_of c s h) in

@@ -95,7 +95,7 @@ begins_at {n} {b} {k = k} m p at (token.Mark mark.Open) y o e f h s =
     there n (operand 0, in_parentheses m ∷ k) y _ d.same (parenthesis b at p d.below o e f h)
 begins_at m p at _ y o e f h s = cc
 
--- ---- behind an operand
+-- ---- after an operand
 
 operator_before : (c at : ℕ) (o : Operator) (s : Toks) → Operands c s → Begins c c (s ++ (at, token.Operator o) ∷ [])
 operator_before c at o s h = λ u x. subst (Operands c) (sym (append_assoc s ((at, token.Operator o) ∷ []) u)) (operands_on c at o s u h x)

@@ -31,7 +31,7 @@ at_level (suc k) h = single (at_level k h)
 pub operands_of : (n : ℕ) (s : Toks) → Operand n s → Operands n s
 operands_of n s h = (h.0, at_level 6 h.1)
 
--- an operator and one operand more, behind operands of its level or a higher one
+-- an operator and one operand more, after operands of its level or a higher one
 one_more : {k n : ℕ} {s t : Toks} {d e : Tree} (at : ℕ) (o : Operator) → Level k n s d → level_of o ≤ k → Unary n t e → (x : Tree) × Level k n (s ++ (at, token.Operator o) ∷ t) x
 one_more at o (lowest h) l u = absurd (omega (arith, level-positive o))
 one_more {s = s} {t = t} at o (single {k = k} {n = n} h) l u = go (nat_lt k (level_of o)) refl (λ m. one_more at o h m u)
@@ -70,7 +70,7 @@ Text assignments n s = (xs : List Assigned) × Assigns n s xs
 abbrev pub Goes : Kind → ℕ → Toks → Type 0
 Goes g n s = (more : Toks) × Text g n (s ++ more)
 
--- assignments behind others, each of which has its semicolon
+-- assignments after others, each of which has its semicolon
 pub assigns_behind : {n : ℕ} {s : Toks} {xs : List Assigned} → Ended n s xs → (u : Toks) (ys : List Assigned) → Assigns n u ys → Assigns n (s ++ u) (xs ++ ys)
 assigns_behind nothing_yet u ys g = g
 assigns_behind {n} (and_one at {s = s} {t = t} {a = a} {xs = xs} h o) u ys g =
@@ -82,11 +82,11 @@ assigns_behind {n} (and_one at {s = s} {t = t} {a = a} {xs = xs} h o) u ys g =
 pub one_assign : (n at b : ℕ) (name : List ℕ) (s : Toks) (c : Condition n s) → OneAssign n (target at name ∷ sets b ∷ s) (name, c.0)
 one_assign n at b name s c = becomes c.1
 
--- an assignment behind others is whole
+-- an assignment after others is whole
 pub assigned_text : (n at b : ℕ) (name : List ℕ) (u s : Toks) (xs : List Assigned) → Ended n u xs → Condition n s → Text assignments n (u ++ target at name ∷ sets b ∷ s)
 assigned_text n at b name u s xs h c = (xs ++ (name, c.0) ∷ [], assigns_behind h (target at name ∷ sets b ∷ s) ((name, c.0) ∷ []) (last_assign (one_assign n at b name s c)))
 
--- and so it is with a semicolon behind it
+-- and so it is with a semicolon after it
 pub ended_text : (n at b to : ℕ) (name : List ℕ) (u s : Toks) (xs : List Assigned) → Ended n u xs → Condition n s → Text assignments n (u ++ ((target at name ∷ sets b ∷ s) ++ semicolon to ∷ []))
 ended_text n at b to name u s xs h c =
     (xs ++ (name, c.0) ∷ [], assigns_behind h ((target at name ∷ sets b ∷ s) ++ semicolon to ∷ []) ((name, c.0) ∷ []) (ended_assign to (one_assign n at b name s c)))

@@ -1,5 +1,5 @@
-//! Each text is an expression or has a fault, one of the two and one fault alone: so a text decides by itself whether it
-//! is refused, for what and where. So it is with assignments.
+//! Each text is an expression or has a fault, one of the two and one fault alone: so a text decides by itself whether
+//! it is refused, for what and where. So it is with assignments.
 //!
 //! Each function carries one law in its contract, and does nothing.
 #![tactic(auto)]
@@ -44,8 +44,8 @@ pub fn accepted_tokens_are_expressions()
     ensures { AcceptedTokensAreExpressions }
 {}
 
-/// Where the machine stops, the tokens before begin an expression, and no expression goes on: with so many levels where
-/// the next token is too deep, with any number where it does not fit.
+/// Where the machine stops, the tokens before begin an expression, and no expression goes on: with the number of levels
+/// that is allowed, where the next token is too deep, and with any number, where it does not fit.
 pub fn stopped_tokens_are_stuck()
     ensures { StoppedTokensAreStuck }
 {}
@@ -75,8 +75,8 @@ pub fn accepted_tokens_are_assignments()
     ensures { AcceptedTokensAreAssignments }
 {}
 
-/// Where the machine stops, the tokens before begin assignments, and no assignments go on: with so many levels where the
-/// next token is too deep, with any number where it does not fit.
+/// Where the machine stops, the tokens before begin assignments, and no assignments go on: with the number of levels
+/// that is allowed, where the next token is too deep, and with any number, where it does not fit.
 pub fn stopped_assignments_are_stuck()
     ensures { StoppedAssignmentsAreStuck }
 {}

@@ -1,4 +1,5 @@
--- Darts round a vertex: the next one in a row that goes counterclockwise from the positive x axis is the next one in rotation.
+-- Darts round a vertex: the next one in a row that goes counterclockwise from the positive x axis is the next one in
+-- rotation.
 use Rattle.std.proofs.Common.{◌≡◌, ◌⊎◌, inl, inr, refl, sym, ap, ◌∙◌, subst, arith, ℕ, ◌+◌, ◌<◌, ◌≤◌, Bool, true, false, cond, not, ◌&&◌, ◌||◌, nat_lt, nat_eq, ℤ, pos, ◌-ℤ◌, ◌*ℤ◌, neg_ℤ, List, Contains}
 use Rattle.std.specs.Prelude.{◌<ℤ◌, ◌≤ℤ◌, int_lt, int_le, if◌then◌else◌}
 use Rattle.std.proofs.lemmas.Int.{ints}

@@ -26,8 +26,8 @@ HasTwoAtMost S p = (one : Segment) × (another : Segment) × ((l : Segment) → 
 abbrev pub AreFreeInside : List Segment → List Path → Type 0
 AreFreeInside S arcs = (n k : ℕ) → n < length arcs → 0 < k → k + 1 < length (slice_index_or arcs n []) → HasTwoAtMost S (point_at (slice_index_or arcs n []) k)
 
--- f has at the places beside the arcs what g has at their numbers: left of each dart of an arc that of the place left of the arc, and right of
--- it that of the place right of the arc
+-- f has at the places beside the arcs what g has at their numbers: left of each dart of an arc that of the place left
+-- of the arc, and right of it that of the place right of the arc
 pub record IsByNumber {A : Type 0} (arcs : List Path) (g : ℕ → A) (f : Place → A) : Type 0 where
   pub outside_all : f outside ≡ g 0
   pub left : (n : ℕ) → n < length arcs → All (λ d. f (left_of d) ≡ g (place_of (forward n))) (darts_of_path (slice_index_or arcs n []))
@@ -90,7 +90,8 @@ abbrev pub PointsOfADrawing : Type 0
 PointsOfADrawing = (d : Drawing) → (arcs : List Path) → All (λ arc. 1 < length arc) arcs → GoAlong (links_of (snapped d)) arcs → All (IsWholeArc (snapped d)) arcs →
     (faces : FaceTable) → IsBuiltOf arcs faces → (p q : GridPoint) (f g : ℕ) → IsFaceOver faces p f → IsFaceOver faces q g → (f ≡ g) ↔ AreOfOneFace (links_of (snapped d)) (at p) (at q)
 
--- and so it is with all points that show a face there: that see a link of an arc, are points of the grid, or are left of all links
+-- and so it is with all points that show a face there: that see a link of an arc, are points of the grid, or are left
+-- of all links
 abbrev pub FacesOfADrawing : Type 0
 FacesOfADrawing = (d : Drawing) → (arcs : List Path) → All (λ arc. 1 < length arc) arcs → GoAlong (links_of (snapped d)) arcs → All (IsWholeArc (snapped d)) arcs →
     (faces : FaceTable) → IsBuiltOf arcs faces → (u v : RationalPoint) (f g : ℕ) → ShowsFace (links_of (snapped d)) arcs faces u f → ShowsFace (links_of (snapped d)) arcs faces v g →
@@ -101,7 +102,8 @@ abbrev pub FacesHaveArcs : Type 0
 FacesHaveArcs = (arcs : List Path) → (faces : FaceTable) → IsBuiltOf arcs faces → (f : ℕ) → f < faces.count →
     (f ≡ outer_of faces) ⊎ ((a : SignedArc) × (a.arc < length arcs) × (face_left_of faces.places a ≡ f))
 
--- and the count is the number of faces of the plane: each number below it is that of just one class of points, and each class has one
+-- and the count is the number of faces of the plane: each number below it is that of just one class of points, and each
+-- class has one
 abbrev pub CountIsExact : Type 0
 CountIsExact = (d : Drawing) → (arcs : List Path) → All (λ arc. 1 < length arc) arcs → GoAlong (links_of (snapped d)) arcs → All (IsWholeArc (snapped d)) arcs →
     (faces : FaceTable) → IsBuiltOf arcs faces → IsFaceCount (links_of (snapped d)) faces.count

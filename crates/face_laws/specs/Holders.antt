@@ -22,7 +22,8 @@ use Rattle.face_walk.specs.declared.crossings.Crossing.{Crossing}
 use Rattle.face_walk.specs.declared.ring_steps.RingStep.{RingStep}
 use Rattle.face_laws.specs.Faces.{AreFreeInside, directed_as}
 
--- item i steps along an arc an odd number of times exactly where each link of the arc stands in L an odd number of times
+-- item i steps along an arc an odd number of times exactly where each link of the arc stands in L an odd number of
+-- times
 abbrev pub StepAlong : List Path → List RingStep → ℕ → List Segment → Type 0
 StepAlong arcs steps i L = (n : ℕ) → n < length arcs → All (λ (l : Segment). odd_count (same_segment l) L ≡ odd_count (λ (s : RingStep). nat_eq i s.item) (steps_on steps n)) (links_of_arc arcs n)
 
@@ -41,9 +42,9 @@ FeaturesHoldLeftOf features list side = (n : ℕ) → Contains list n
 
 -- ---- laws
 
--- An item is in the list of the face over a point exactly if an odd number of its links pass below the point: in a table of the arcs of an
--- arrangement, for lists that follow along crossings that leave no face out, and an item whose links are an even list and whose steps are
--- along them.
+-- An item is in the list of the face over a point exactly if an odd number of its links pass below the point: in a
+-- table of the arcs of an arrangement, for lists that follow along crossings that leave no face out, and an item whose
+-- links are an even list and whose steps are along them.
 abbrev pub ItemsHoldByParity : Type 0
 ItemsHoldByParity = (S : List Segment) → IsArrangement S → IsDistinct S → (arcs : List Path) → All (λ arc. 1 < length arc) arcs → GoAlong S arcs → AreFreeInside S arcs →
     (faces : FaceTable) → IsBuiltOf arcs faces → (crossings : List Crossing) → AreCrossings faces crossings → LeaveNone faces crossings →
@@ -60,7 +61,8 @@ ItemsBesideArcs = (S : List Segment) → IsArrangement S → IsDistinct S → (a
     (n : ℕ) → n < length arcs → All (λ (d : Dart). (stands_oddly (list_at held (face_left_of faces.places (forward n))) i ≡ odd_left_of L d)
     × (stands_oddly (list_at held (face_left_of faces.places (backward n))) i ≡ odd_right_of L d)) (darts_of_path (slice_index_or arcs n []))
 
--- so in a table of the arcs of a snapped drawing the lists of the face over a point have just the polygons and the boxes that hold the point
+-- so in a table of the arcs of a snapped drawing the lists of the face over a point have just the polygons and the
+-- boxes that hold the point
 abbrev pub ItemsOfADrawing : Type 0
 ItemsOfADrawing = (d : Drawing) → HasPaths (snapped d) → (arcs : List Path) → AreArcsOf (snapped d) arcs → (faces : FaceTable) → IsBuiltOf arcs faces →
     (labels : HolderTable) (h : AreHolders arcs (snapped d) faces labels) → (p : GridPoint) (f : ℕ) → IsFaceOver faces p f →

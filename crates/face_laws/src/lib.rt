@@ -1,5 +1,5 @@
-//! Laws of faces: the faces of a table of arcs are those of the plane, and what the table lists for a face are the features
-//! and boxes that hold it.
+//! Laws of faces: the faces of a table of arcs are those of the plane, and what the table lists for a face are the
+//! features and boxes that hold it.
 //!
 //! They are laws over what `ArcTable::build`, `Faces::build`, `at` and `Labels::of` answer.
 //!
@@ -16,19 +16,20 @@
 ghost use Rattle.face_laws.specs.Faces.{CountIsExact, EachTableHasLabels, FacesAreClasses, FacesHaveArcs, FacesOfADrawing, PointsHaveOneFace, PointsOfADrawing};
 ghost use Rattle.face_laws.specs.Holders.{FeaturesBesideArcs, FeaturesOfADrawing, ItemsBesideArcs, ItemsHoldByParity, ItemsOfADrawing};
 
-/// The places of the plane can be labelled by the faces of a table of arcs that go along each link of an arrangement once.
+/// The places of the plane can be labelled by the faces of a table of arcs that go along each link of an arrangement
+/// once.
 pub fn each_table_has_labels()
     ensures { EachTableHasLabels }
 {}
 
-/// Labels by the faces that are built of the arcs of an arrangement are those of the faces of the plane, where no vertex
-/// inside an arc has more links than two.
+/// Labels by the faces that are built of the arcs of an arrangement are those of the faces of the plane, where no
+/// vertex inside an arc has more links than two.
 pub fn faces_are_classes()
     ensures { FacesAreClasses }
 {}
 
-/// Two points of the grid have one face in a table exactly if they are of one face of the plane: no closed runs of links
-/// separate them.
+/// Two points of the grid have one face in a table exactly if they are of one face of the plane: no closed runs of
+/// links separate them.
 pub fn points_have_one_face()
     ensures { PointsHaveOneFace }
 {}
@@ -38,8 +39,8 @@ pub fn points_of_a_drawing()
     ensures { PointsOfADrawing }
 {}
 
-/// So it is with all points that show a face there: that see a link of a signed arc from its left, whose face is left of the
-/// arc, that are points of the grid, or that are left of all links, whose face is the outer one.
+/// So it is with all points that show a face there: that see a link of a signed arc from its left, whose face is left
+/// of the arc, that are points of the grid, or that are left of all links, whose face is the outer one.
 pub fn faces_of_a_drawing()
     ensures { FacesOfADrawing }
 {}
@@ -54,8 +55,8 @@ pub fn count_is_exact()
     ensures { CountIsExact }
 {}
 
-/// An item is in the list of the face over a point exactly if an odd number of its links pass below the point, for lists
-/// that follow from the outer face along crossings.
+/// An item is in the list of the face over a point exactly if an odd number of its links pass below the point, for
+/// lists that follow from the outer face along crossings.
 pub fn items_hold_by_parity()
     ensures { ItemsHoldByParity }
 {}
@@ -65,8 +66,8 @@ pub fn items_beside_arcs()
     ensures { ItemsBesideArcs }
 {}
 
-/// So in a table of the arcs of a snapped drawing the lists of the face over a point have just the polygons and the boxes
-/// that hold the point.
+/// So in a table of the arcs of a snapped drawing the lists of the face over a point have just the polygons and the
+/// boxes that hold the point.
 pub fn items_of_a_drawing()
     ensures { ItemsOfADrawing }
 {}

@@ -49,6 +49,6 @@ pub record AreMarked (faces : FaceTable) (crossings : List Crossing) (marks : Li
   pub marked : (f : ℕ) → f < faces.count → (slice_index_or marks f false ≡ true) ↔ IsReached (outer_of faces) crossings (length crossings) f
   pub counted : count_by (λ (b : Bool). b) marks ≡ length crossings + 1
 
--- the same crossings, and more behind them
+-- the same crossings, and more after them
 abbrev pub IsLonger : List Crossing → List Crossing → Type 0
 IsLonger old new = (more : List Crossing) × (new ≡ old ++ more)

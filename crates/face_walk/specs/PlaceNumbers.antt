@@ -6,6 +6,6 @@ use Rattle.plane_model.specs.Arcs.{SignedArc}
 abbrev pub place_of : SignedArc → ℕ
 place_of a = if a.is_reversed then 2 * a.arc + 2 else 2 * a.arc + 1
 
--- so many places are enough for both sides of an arc
+-- `places` places are enough for both sides of an arc
 abbrev pub HasPlaces : ℕ → SignedArc → Type 0
 HasPlaces places a = 2 * a.arc + 2 < places

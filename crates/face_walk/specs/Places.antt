@@ -24,7 +24,7 @@ face_left_of places a = slice_index places (place_of a)
 abbrev pub has_left : List ℕ → ℕ → SignedArc → Bool
 has_left places f a = nat_eq (face_left_of places a) f
 
--- of so many arcs, forward and reversed, those that the face f is left of
+-- of the arcs below `many`, forward and reversed, those that the face f is left of
 abbrev pub arcs_with_left : List ℕ → ℕ → ℕ → List SignedArc
 arcs_with_left places many f = filter (has_left places f) (signed_below many)
 

@@ -16,7 +16,7 @@ AreArcsOfAll arcs (path ∷ paths) named = (first : List SignedArc) × (rest : L
 abbrev pub step_along : ℕ → SignedArc → RingStep
 step_along i a = record { arc = a.arc; item = i }
 
--- the steps of item i along the arcs of some paths, put behind others
+-- the steps of item i along the arcs of some paths, put after others
 abbrev pub AreAdded : List Path → ℕ → List Path → List RingStep → List RingStep → Type 0
 AreAdded arcs i paths old new = (named : List SignedArc) × AreArcsOfAll arcs paths named × (new ≡ old ++ map (step_along i) named)
 

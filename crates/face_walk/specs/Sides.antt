@@ -9,7 +9,7 @@ use Rattle.face_walk.specs.declared.numbering.FaceSide.{FaceSide}
 abbrev pub HasLeft : List ℕ → FaceSide → Type 0
 HasLeft places s = s.face ≡ slice_index places (place_of s.arc)
 
--- the sides of so many arcs: each signed arc has one, and no other has
+-- the sides of `many` arcs: each signed arc has one, and no other has
 pub record AreSides (places : List ℕ) (many : ℕ) (sides : List FaceSide) : Type 0 where
   pub there : All (λ s. s.arc.arc < many) sides
   pub left : All (HasLeft places) sides

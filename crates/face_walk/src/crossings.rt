@@ -49,7 +49,7 @@ fn reach_all(
     Ok(())
 }
 
-// Goes on from the face that crossing `k` leads into, where there are so many.
+// Goes on from the face that crossing `k` leads into, where there is such a crossing.
 fn cross_next(
     crossings: &mut Vec<Crossing>,
     reached: &mut [bool],

@@ -124,7 +124,7 @@ fn odd_ones(alloc: Global, sorted: &[u32]) -> Result<Vec<u32>, AllocError>
     Ok(odd)
 }
 
-// Puts a number behind lesser ones, or takes it away where it is there.
+// Adds a number after lesser ones, or takes it away where it is there.
 fn flip_number(odd: &mut Vec<u32>, n: u32) -> Result<(), AllocError>
     requires rising { IsStrictlyIncreasing odd.old.items }
     requires low { All (λ m. m ≤ n) odd.old.items }
@@ -187,7 +187,7 @@ fn owner_of(owners: &[FeatId], i: u32) -> Option<FeatId>
     owners.get(i as usize).copied()
 }
 
-// Puts a feature behind lesser ones where it is not there.
+// Adds a feature after lesser ones where it is not there.
 fn put_owner(features: &mut Vec<FeatId>, owner: FeatId) -> Result<(), AllocError>
     requires rising { IsStrictlyIncreasing features.old.items }
     requires low { All (λ m. m ≤ owner) features.old.items }

@@ -42,9 +42,10 @@ pub const MAX_STEPS: u32 = 100;
 // So few links are not parted.
 const FEW: usize = 32;
 
-// So many links are tried for a cut, among so many others.
+// The number of links that are tried for a cut.
 const CANDIDATES: u64 = 5;
 
+// Among this number of links of the list.
 const SAMPLE: u64 = 9;
 
 /// The topmost link below `p`, of `best` and the links of a tree.
@@ -85,7 +86,7 @@ pub fn topmost_by(
     }
 }
 
-/// A tree of the links with these numbers, for points over a stretch of abscissas, in at most so many steps.
+/// A tree of the links with these numbers, for points over a stretch of abscissas, in at most `steps` steps.
 pub fn tree_of(
     alloc: Global,
     links: &[ArcLink],
@@ -289,7 +290,7 @@ fn count_across(links: &[ArcLink], near: &[u32], stretch: Stretch) -> usize {
     count
 }
 
-// One of the links with these numbers, the first of a ninth of them or one close behind it, and its number.
+// One of the links with these numbers, the first of a ninth of them or one close after it, and its number.
 fn sample_at(links: &[ArcLink], near: &[u32], k: u64) -> Option<(u32, ArcLink)> {
     let scattered = k.wrapping_mul(0x9E37_79B9_7F4A_7C15) >> 32;
     let first = (near.len() as u64).saturating_mul(k) / SAMPLE;

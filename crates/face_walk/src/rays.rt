@@ -299,7 +299,7 @@ pub fn join_rays(
     Ok(())
 }
 
-// Joins along the ray from the vertex that the link at `i` and those behind it leave.
+// Joins along the ray from the vertex that the link at `i` and those after it leave.
 fn join_ray(joining: &mut Joining, search: &LinkSearch, i: usize)
     requires few { length joining.old ≤ 4000000001 }
     requires there { All (λ l. HasPlaces (length joining.old) l.along) search.now.links.items }

@@ -23,7 +23,7 @@ enumerate_from-append {A} n (x ∷ xs) ys =
 abbrev pub IsNumberedTo : {E A : Type 0} → (ℕ × JsonValue → Reads E A) → List Json → ℕ → ℕ → List A → ℕ → Type 0
 IsNumberedTo read items n room vs left = each read (enumerate_from 0 (map json_value (take n items))) room ≡ Ok (vs, left)
 
--- an item with its number, behind those before it
+-- an item with its number, after those before it
 numbers_to : (items : List Json) (n : ℕ) (j : Json) (js : List Json) → n < length items → enumerate_from 0 (map json_value (take n items ++ j ∷ js)) ≡ enumerate_from 0 (map json_value (take n items)) ++ (n, json_value j) ∷ enumerate_from (n + 1) (map json_value js)
 numbers_to items n j js l =
     let count : length (map json_value (take n items)) ≡ n = length-map (take n items) json_value ∙ length-take-le n items (omega arith) in

@@ -14,7 +14,7 @@ use Rattle.geojson_io.specs.declared.fault.Stop.TheVariants.{Why, Memory}
 abbrev pub put_before : {E A : Type 0} → List A → List A × ℕ → Result (List A × ℕ) E
 put_before vs q = Ok (vs ++ q.0, q.1)
 
--- the items ys, read behind what was read
+-- the items ys, read after what was read already
 abbrev pub then_each : {E A X : Type 0} → (X → Reads E A) → List X → List A × ℕ → Result (List A × ℕ) E
 then_each read ys p = on_ok (each read ys p.1) (put_before p.0)
 

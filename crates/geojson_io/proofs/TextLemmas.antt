@@ -1,10 +1,10 @@
 -- Texts with commas between them, written one after another.
 use Rattle.std.proofs.Common.{◌≡◌, ℕ, zero, suc, codes, zip, ◌+◌, ◌<◌, ◌≤◌, ℤ, List, [], ◌∷◌, ◌++◌, length, take, map, get_or, refl, sym, ap, ◌∙◌, arith}
-use Rattle.std.proofs.lemmas.List.{append_assoc, take_more, map-append, length-take-le, length-map, take_all}
+use Rattle.std.proofs.lemmas.List.{append-nil, append_assoc, take_more, map-append, length-take-le, length-map, take_all}
 use Rattle.std.proofs.lemmas.Bool.Decides.{nat_tests}
-use Rattle.geojson_io.specs.Texts.{Text, separated, before_item, list_text, grid_text, point_text, type_text, typed, one_or_many, geometry_text, member_text, properties_text, feature_text, key_text, features_text, line_end, geojson_text}
+use Rattle.geojson_io.specs.Texts.{Text, separated, before_item, list_text, grid_text, point_text, type_text, typed, one_or_many, geometry_text, member_text, properties_text, feature_text, key_text, features_text, collection_start, collection_end, geojson_text}
 use Rattle.geojson_io.specs.LayerContent.{LayerContent}
-use Rattle.std.proofs.lemmas.Slice.Zip.{get_or-zip}
+use Rattle.std.proofs.lemmas.Slice.Zip.{get_or-zip, length-zip}
 use Rattle.json_read.specs.Table.{RowValues, AreRows}
 use Rattle.json_read.specs.declared.value.Value.{Value}
 use Rattle.geojson_io.specs.declared.shape.GeoShape.{GeoShape}
@@ -114,17 +114,49 @@ feature_written places keys row shape old a b c d e ea eb ec ed ee =
     ∙ append_assoc (((old ++ first) ++ g) ++ mid) p (125 ∷ []) ∙ append_assoc ((old ++ first) ++ g) mid (p ++ 125 ∷ [])
     ∙ append_assoc (old ++ first) g (mid ++ (p ++ 125 ∷ [])) ∙ append_assoc old first (g ++ (mid ++ (p ++ 125 ∷ [])))
 
+-- no features
+pub no_features : (places : ℕ) (keys : List Text) (rows : List RowValues) (start : Text) → start ≡ start ++ features_text places keys rows []
+no_features places keys [] start = sym (append-nil start)
+no_features places keys (row ∷ rows) start = sym (append-nil start)
+
+-- a row and a shape more
+zip_more : {A B : Type 0} (xs : List A) (ys : List B) (x : A) (y : B) → length ys < length xs → x ≡ get_or xs (length ys) x → zip xs (ys ++ y ∷ []) ≡ zip xs ys ++ (x, y) ∷ []
+zip_more [] ys x y l is = absurd (omega arith)
+zip_more (a ∷ []) [] x y l is = (λ j. (sym is j, y) ∷ [])
+zip_more (a ∷ b ∷ xs) [] x y l is = (λ j. (sym is j, y) ∷ [])
+zip_more (a ∷ xs) (b ∷ ys) x y l is = ap (λ (zs : List _). (a, b) ∷ zs) (zip_more xs ys x y (omega arith) is)
+
+-- the features so far, and now the next
+pub feature_more : (places : ℕ) (keys : List Text) (rows : List RowValues) (shapes : List GeoShape) (row : RowValues) (shape : GeoShape) (i : ℕ) (start out end : Text)
+    → length shapes ≡ i → i < length rows → row ≡ get_or rows i row → out ≡ start ++ features_text places keys rows shapes
+    → end ≡ out ++ (before_item (codes ",\n") i ++ feature_text places keys (row, shape)) → end ≡ start ++ features_text places keys rows (shapes ++ shape ∷ [])
+feature_more places keys rows shapes row shape i start out end many there is so_far added =
+    let show = feature_text places keys in
+    let c : Text = codes ",\n" in
+    let pairs : List (RowValues × GeoShape) = zip rows shapes in
+    let next : zip rows (shapes ++ shape ∷ []) ≡ pairs ++ (row, shape) ∷ [] = zip_more rows shapes row shape (omega arith) (is ∙ ap (λ (n : ℕ). get_or rows n row) (sym many)) in
+    let count : length (map show pairs) ≡ i = length-map pairs show ∙ omega (arith, length-zip rows shapes) in
+    let more : features_text places keys rows (shapes ++ shape ∷ []) ≡ features_text places keys rows shapes ++ (before_item c i ++ show (row, shape)) =
+    ap (λ (ps : List (RowValues × GeoShape)). separated c (map show ps)) next ∙ ap (separated c) (map-append show pairs ((row, shape) ∷ []))
+    ∙ separated-push c (map show pairs) (show (row, shape)) ∙ ap (λ (n : ℕ). separated c (map show pairs) ++ (before_item c n ++ show (row, shape))) count in
+    added ∙ ap (λ (w : Text). w ++ (before_item c i ++ show (row, shape))) so_far ∙ append_assoc start (features_text places keys rows shapes) (before_item c i ++ show (row, shape))
+    ∙ ap (λ (w : Text). start ++ w) (sym more)
+
+-- what stands after no features
+pub end_of_none : (shapes : List GeoShape) → length shapes ≡ 0 → codes "]}\n" ≡ collection_end shapes
+end_of_none [] h = refl
+end_of_none (s ∷ rest) h = absurd (omega (arith, h))
+
+-- what stands after some
+pub end_of_some : (shapes : List GeoShape) → 0 < length shapes → codes "\n]}\n" ≡ collection_end shapes
+end_of_some [] h = absurd (omega (arith, h))
+end_of_some (s ∷ rest) h = refl
+
 -- the whole text, piece by piece
-pub geojson_written : (places : ℕ) (l : LayerContent) (keys : List Text) (rows : List RowValues) (shapes : List GeoShape) (empty room a b c e : Text)
-    → keys ≡ map key_text l.table.names → rows ≡ l.table.rows → shapes ≡ l.shapes → empty ≡ [] → room ≡ empty → a ≡ room ++ codes "{\"type\":\"FeatureCollection\",\"features\":[\n"
-    → b ≡ a ++ features_text places keys rows shapes → c ≡ b ++ line_end shapes → e ≡ c ++ codes "]}\n" → e ≡ geojson_text places l
-geojson_written places l keys rows shapes empty room a b c e same_keys same_rows same_shapes eo er ea eb ec ee =
-    let head : Text = codes "{\"type\":\"FeatureCollection\",\"features\":[\n" in
+pub geojson_written : (places : ℕ) (l : LayerContent) (keys : List Text) (rows : List RowValues) (shapes : List GeoShape) (a b e : Text)
+    → keys ≡ map key_text l.table.names → rows ≡ l.table.rows → shapes ≡ l.shapes
+    → a ≡ collection_start → b ≡ a ++ features_text places keys rows shapes → e ≡ b ++ collection_end shapes → e ≡ geojson_text places l
+geojson_written places l keys rows shapes a b e same_keys same_rows same_shapes ea eb ee =
     let body : Text = features_text places (map key_text l.table.names) l.table.rows l.shapes in
-    let line : Text = line_end l.shapes in
-    let tail : Text = codes "]}\n" in
-    let first : a ≡ head = ea ∙ ap (λ (w : Text). w ++ head) (er ∙ eo) in
-    let second : b ≡ a ++ body = eb ∙ (λ i. a ++ features_text places (same_keys i) (same_rows i) (same_shapes i)) in
-    let third : c ≡ b ++ line = ec ∙ (λ i. b ++ line_end (same_shapes i)) in
-    ee ∙ ap (λ (w : Text). w ++ tail) (third ∙ ap (λ (w : Text). w ++ line) (second ∙ ap (λ (w : Text). w ++ body) first))
-    ∙ append_assoc (head ++ body) line tail ∙ append_assoc head body (line ++ tail)
+    ee ∙ (λ i. b ++ collection_end (same_shapes i)) ∙ ap (λ (w : Text). w ++ collection_end l.shapes) (eb ∙ (λ i. ea i ++ features_text places (same_keys i) (same_rows i) (same_shapes i)))
+    ∙ append_assoc collection_start body (collection_end l.shapes)

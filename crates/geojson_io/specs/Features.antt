@@ -1,4 +1,5 @@
--- Features, after RFC 7946, sections 3.2 and 3.3: their geometries and properties, in order, with the first fault and its feature's number.
+-- Features, after RFC 7946, sections 3.2 and 3.3: their geometries and properties, in order, with the first fault and
+-- its feature's number.
 use Rattle.std.specs.Prelude.{ℕ, ◌==◌, List, [], ◌∷◌, map, codes, Option, Some, None, Result, Ok, Err, if◌then◌else◌}
 use Rattle.std.specs.Str.{bytes_eq}
 use Rattle.std.specs.List.{enumerate_from}
@@ -99,6 +100,6 @@ abbrev pub features_among : ℕ → ℕ → Option (Member × List JsonValue) �
 features_among places limit None = fails (NotGeo, 0)
 features_among places limit (Some p) = members p.0 places limit p.1
 
--- the features of a GeoJSON value, in so many places, where so many of them have room
+-- the features of a GeoJSON value, with `places` decimal places, where `limit` of them have room
 abbrev pub features_of : ℕ → ℕ → JsonValue → Reads Fault (List Feature)
 features_of places limit j = features_among places limit (top_members j)

@@ -10,7 +10,7 @@ use Rattle.geojson_io.specs.declared.reading.features.Feature.{Feature}
 abbrev pub add_kind : List Kind → Kind → List Kind
 add_kind ks k = if has same_kind ks k then ks else ks ++ k ∷ []
 
--- the kinds ks, and behind them those of the features that are new
+-- the kinds ks, and after them those of the features that are new
 abbrev pub kinds_from : List Kind → List Feature → List Kind
 kinds_from ks [] = ks
 kinds_from ks (f ∷ fs) = kinds_from (elim (kind_of f.shape) [ None ↦ ks | Some k ↦ add_kind ks k ]) fs

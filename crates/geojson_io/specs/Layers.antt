@@ -63,7 +63,7 @@ layers_of name fs = layers_of_kinds name (kinds_of fs) fs
 
 -- ## A whole value
 
--- the layers of a GeoJSON value, in so many places, or its first fault
+-- the layers of a GeoJSON value, with `places` decimal places, or its first fault
 abbrev pub read_geojson : ℕ → List ℕ → ℕ → ℕ → JsonValue → Result (List LayerContent) Fault
 read_geojson places name positions features j =
     on_ok (features_of places features j positions) (λ (p : List Feature × ℕ). let layers : List LayerContent = layers_of name p.0 in Ok layers)

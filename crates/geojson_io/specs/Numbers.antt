@@ -2,7 +2,7 @@
 use Rattle.std.specs.Prelude.{ℕ, ◌==◌, List, [], ◌∷◌, if◌then◌else◌}
 use Rattle.json_read.specs.Decimal.{trimmed_digits}
 
--- the whole part of a number of the grid has at most so many digits
+-- the greatest number of digits in the whole part of a number of the grid
 abbrev pub whole_digits : ℕ
 whole_digits = 12
 

@@ -1,4 +1,5 @@
--- Positions, lines and rings, after RFC 7946, sections 3.1.1, 3.1.4 and 3.1.6, on the grid. What follows the second number of a position is dropped.
+-- Positions, lines and rings, after RFC 7946, sections 3.1.1, 3.1.4 and 3.1.6, on the grid. What follows the second
+-- number of a position is dropped.
 use Rattle.std.specs.Prelude.{ℕ, ◌-◌, Bool, true, ◌==◌, nat_lt, ℤ, List, [], ◌∷◌, length, Option, Some, None, Result, Ok, Err, if◌then◌else◌}
 use Rattle.lists.specs.Lists.{last_of}
 use Rattle.json_read.specs.Json.{JsonValue, number, array, item}

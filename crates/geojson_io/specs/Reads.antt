@@ -1,4 +1,4 @@
--- Reading in order, with room for so many positions; the first fault ends it.
+-- Reading in order, with room for a number of positions; the first fault ends it.
 use Rattle.std.specs.Prelude.{◌≡◌, ℕ, List, [], ◌∷◌, Result, Ok, Err}
 use Rattle.geojson_io.specs.declared.fault.ShapeWhy.{ShapeWhy}
 use Rattle.geojson_io.specs.declared.fault.ShapeFault.{ShapeFault}

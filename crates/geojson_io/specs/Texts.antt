@@ -86,6 +86,13 @@ abbrev pub line_end : List GeoShape → Text
 line_end [] = []
 line_end (s ∷ rest) = 10 ∷ []
 
+-- what stands before the first feature
+abbrev pub collection_start : Text
+collection_start = codes "{\"type\":\"FeatureCollection\",\"features\":[\n"
+
+-- what stands after these features
+abbrev pub collection_end : List GeoShape → Text
+collection_end shapes = line_end shapes ++ codes "]}\n"
+
 abbrev pub geojson_text : ℕ → LayerContent → Text
-geojson_text places l =
-    codes "{\"type\":\"FeatureCollection\",\"features\":[\n" ++ (features_text places (map key_text l.table.names) l.table.rows l.shapes ++ (line_end l.shapes ++ codes "]}\n"))
+geojson_text places l = collection_start ++ (features_text places (map key_text l.table.names) l.table.rows l.shapes ++ collection_end l.shapes)

@@ -2,7 +2,9 @@
 //!
 //! - `read_geojson` takes a JSON value and gives layers of grid points, one for each kind of geometry, or the first
 //!   fault in order. A coordinate is rounded to a grid number: the decimal times ten to the decimal places, halves up.
-//! - `write_geojson` takes a layer with its table and appends the text, `null` for a feature without geometry.
+//! - `write_geojson` takes a layer with its table and makes the text, `null` for a feature without geometry. It is made
+//!   of `start_collection`, `write_next_feature` for each feature, and `end_collection`, by which others may write
+//!   features whose shapes they don't keep.
 //! - `Room` is what is left for positions and features of all sources together.
 //!
 //! `topo_io` reads and writes the same features in TopoJSON 1.0, and takes the parts for that from here.
@@ -22,7 +24,10 @@ pub use writing::write_geojson;
 
 // Parts for another format of the same features.
 pub use reading::{
-    Feature, GeoType, is_closed, layers_of, place, properties_of, push_polygon, some_lines,
+    Feature, GeoType, Member, is_closed, layers_of, place, properties_of, push_polygon, some_lines,
     some_points, some_polygons, type_of,
 };
 pub use writing::{keys_of, write_comma, write_point, write_properties};
+
+// The text of a layer, feature by feature.
+pub use writing::{end_collection, start_collection, write_next_feature};

@@ -20,7 +20,7 @@ use json_read::Json;
 pub use layering::layers_of;
 pub use positions::{is_closed, place};
 use std::alloc::Global;
-pub use types::{GeoType, type_of};
+pub use types::{GeoType, Member, type_of};
 
 /// The layers of a GeoJSON value, named by `name`.
 ///

@@ -1,7 +1,8 @@
-ghost use Rattle.std.specs.Prelude.{◌≡◌, ◌≤◌, ◌++◌, IfOk, OnOk, codes, length};
+ghost use Rattle.std.specs.Prelude.{◌≡◌, ◌≤◌, ◌++◌, List, IfOk, OnOk, codes, length};
 ghost use Rattle.grid_base.specs.Grid.{most_places};
 ghost use Rattle.json_read.specs.Table.{AreRows};
-ghost use Rattle.geojson_io.specs.Texts.{before_item, feature_text, features_text, line_end, geojson_text};
+ghost use Rattle.geojson_io.specs.Texts.{before_item, collection_end, collection_start, feature_text, features_text, geojson_text};
+ghost use Rattle.geojson_io.specs.declared.shape.GeoShape.{GeoShape};
 
 mod geometries;
 mod numbers;
@@ -16,9 +17,7 @@ use json_read::Row;
 pub use properties::{keys_of, write_properties};
 use std::alloc::{AllocError, Global};
 
-/// About how many bytes the text of a position takes.
-const POSITION_BYTES: usize = 24;
-/// About how many bytes the text of a feature takes beside its positions.
+/// About how many bytes the text of a feature takes.
 const FEATURE_BYTES: usize = 160;
 
 /// The GeoJSON text of a layer.
@@ -32,55 +31,48 @@ pub fn write_geojson(alloc: Global, layer: &GeoLayer, places: u8) -> Result<Byte
     let shapes = layer.shapes.as_slice();
     let keys = keys_of(alloc, layer.table.names().as_slice())?;
     let rows = layer.table.rows().as_slice();
-    let mut out = Bytes::new(alloc);
-    out.reserve(about_bytes(shapes))?;
-    out.extend(b"{\"type\":\"FeatureCollection\",\"features\":[\n")?;
+    let mut out = start_collection(alloc, shapes.len())?;
     write_features(keys.as_slice(), rows, shapes, places, &mut out)?;
-    write_line_end(shapes, &mut out)?;
-    out.extend(b"]}\n")?;
+    end_collection(shapes.len(), &mut out)?;
     Ok(out)
 }
 
-// A line feed behind the last feature.
-fn write_line_end(shapes: &[GeoShape], out: &mut Bytes) -> Result<(), AllocError>
-    ensures { OnOk result (out.new ≡ out.old ++ line_end shapes.now) }
+/// What stands before the first feature, with room for about `features` features after it.
+pub fn start_collection(alloc: Global, features: usize) -> Result<Bytes, AllocError>
+    ensures { IfOk result (λ text. text ≡ collection_start) }
 {
-    match shapes {
-        [] => Ok(()),
-        _ => out.push(b'\n'),
-    }
+    let mut out = Bytes::new(alloc);
+    out.reserve(features.saturating_mul(FEATURE_BYTES))?;
+    out.extend(b"{\"type\":\"FeatureCollection\",\"features\":[\n")?;
+    Ok(out)
 }
 
-// About how many bytes the text of the shapes takes.
-fn about_bytes(shapes: &[GeoShape]) -> usize {
-    let mut bytes: usize = 0;
-    for shape in shapes {
-        bytes = bytes.saturating_add(FEATURE_BYTES);
-        bytes = bytes.saturating_add(positions_in(shape).saturating_mul(POSITION_BYTES));
-    }
-    bytes
+/// Feature number `i`, counted from 0, with what stands between it and the one before it; `keys` are those of
+/// `keys_of`.
+pub fn write_next_feature(
+    i: usize,
+    keys: &[Bytes],
+    row: &Row,
+    shape: &GeoShape,
+    places: u8,
+    out: &mut Bytes,
+) -> Result<(), AllocError>
+    requires places { places ≤ most_places }
+    requires width { length keys.now ≡ length row.now }
+    ensures { OnOk result (out.new ≡ out.old ++ (before_item (codes ",\n") i ++ feature_text places keys.now (row.now, shape.now))) }
+{
+    write_break(i, out)?;
+    write_feature(keys, row, shape, places, out)
 }
 
-// How many positions a shape has, or has at least.
-fn positions_in(shape: &GeoShape) -> usize {
-    let mut count: usize = 0;
-    match shape {
-        GeoShape::Nothing => {}
-        GeoShape::Points(points) => count = points.as_slice().len(),
-        GeoShape::Lines(lines) => {
-            for line in lines.as_slice() {
-                count = count.saturating_add(line.as_slice().len());
-            }
-        }
-        GeoShape::Polygons(polygons) => {
-            for polygon in polygons.as_slice() {
-                for ring in polygon.as_slice() {
-                    count = count.saturating_add(ring.as_slice().len());
-                }
-            }
-        }
+/// What stands after the last of `features` features.
+pub fn end_collection(features: usize, out: &mut Bytes) -> Result<(), AllocError>
+    ensures { OnOk result ((shapes : List GeoShape) → length shapes ≡ features → out.new ≡ out.old ++ collection_end shapes) }
+{
+    if features == 0 {
+        return out.extend(b"]}\n");
     }
-    count
+    out.extend(b"\n]}\n")
 }
 
 // A comma and a line feed before each feature but the first.
@@ -124,8 +116,7 @@ fn write_features(
     ensures { OnOk result (out.new ≡ out.old ++ features_text places keys.now rows.now shapes.now) }
 {
     for (i, shape) in shapes.iter().enumerate() {
-        write_break(i, out)?;
-        write_feature(keys, &rows[i], shape, places, out)?;
+        write_next_feature(i, keys, &rows[i], shape, places, out)?;
     }
     Ok(())
 }

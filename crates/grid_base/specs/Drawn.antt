@@ -31,7 +31,8 @@ add_ring ring features = with_last (with_last (λ (polygon : Polygon). polygon +
 abbrev pub add_item : {A : Type 0} → A → List (List A) → List (List A)
 add_item x features = with_last (λ feature. feature ++ x ∷ []) features
 
--- an empty feature put behind those of its kind, and its number; a table has no place in a drawing
+-- a drawing with an empty feature appended to those of its kind, and the number of that feature; a table has no place
+-- in a drawing
 abbrev pub with_feature : Kind → Drawing → ℕ × Drawing
 with_feature Polygons d = (length d.polygons, record d { polygons = d.polygons ++ [] ∷ [] })
 with_feature Line d = (length d.lines, record d { lines = d.lines ++ [] ∷ [] })

@@ -7,7 +7,7 @@ use Rattle.plane_model.specs.Hot.{IsWithinBounds}
 abbrev pub limit : ℕ
 limit = 200000000000
 
--- a grid has at most so many decimal places
+-- the greatest number of decimal places that a grid has
 abbrev pub most_places : ℕ
 most_places = 9
 

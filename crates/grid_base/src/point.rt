@@ -8,7 +8,7 @@ use std::marker::Model;
 /// A number of the grid is at most this, either way: 200,000,000,000.
 pub const LIMIT: i64 = 200_000_000_000;
 
-/// A grid has at most so many decimal places.
+/// The greatest number of decimal places that a grid has.
 pub const MOST_PLACES: u8 = 9;
 
 /// A point of the grid. Points are ordered by x, then by y.

@@ -17,12 +17,12 @@ use Rattle.chain_model.specs.Sources.{Readings}
 use Rattle.run_laws.specs.Outcomes.{outcome_as}
 use Rattle.run_laws.specs.Refused.{outside_of}
 use Rattle.run_laws.proofs.Unchanged.{keeps}
-use Rattle.begin_laws.specs.Begins.{BegunShows}
-use Rattle.begin_laws.specs.Ends.{IsAsked}
-use Rattle.begin_laws.proofs.Beginning.{begun_alike}
-use Rattle.begin_laws.proofs.Ending.{ended_before}
-use Rattle.chain_laws.specs.Bound.{BeginsSeen}
-use Rattle.chain_laws.proofs.Bound.{bound, unbegun}
+use Rattle.headline_laws.specs.Begins.{BegunShows}
+use Rattle.headline_laws.specs.Ends.{IsAsked}
+use Rattle.headline_laws.proofs.Beginning.{begun_alike}
+use Rattle.headline_laws.proofs.Ending.{ended_before}
+use Rattle.headline_laws.specs.Bound.{BeginsSeen}
+use Rattle.headline_laws.proofs.Bound.{bound, unbegun}
 use Rattle.headline_laws.proofs.Same.{memory_bound, outside_same}
 use Rattle.headline_laws.proofs.Steps.{all_commands}
 use Rattle.headline_laws.proofs.Texts.{texts_there}

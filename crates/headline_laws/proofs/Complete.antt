@@ -37,13 +37,13 @@ use Rattle.run_laws.specs.Causes.{counts_of}
 use Rattle.run_laws.specs.Outcomes.{outcome_as}
 use Rattle.run_laws.specs.Refused.{outside_of}
 use Rattle.run_laws.proofs.Said.{said_by}
-use Rattle.begin_laws.specs.Begins.{BegunShows}
-use Rattle.begin_laws.specs.Ends.{IsAsked, IsOfContents}
-use Rattle.begin_laws.proofs.Beginning.{begun_alike}
-use Rattle.begin_laws.proofs.Dense.{dense}
-use Rattle.begin_laws.proofs.Ending.{contents_end}
-use Rattle.chain_laws.specs.Steps.{CommandsShow}
-use Rattle.chain_laws.proofs.Commands.{Ran, from, ran_all}
+use Rattle.headline_laws.specs.Begins.{BegunShows}
+use Rattle.headline_laws.specs.Ends.{IsAsked, IsOfContents}
+use Rattle.headline_laws.proofs.Beginning.{begun_alike}
+use Rattle.headline_laws.proofs.Dense.{dense}
+use Rattle.headline_laws.proofs.Ending.{contents_end}
+use Rattle.headline_laws.specs.ChainSteps.{CommandsShow}
+use Rattle.headline_laws.proofs.Commands.{Ran, from, ran_all}
 use Rattle.headline_laws.proofs.Answered.{answered, seen_still, sources_still, state_still, still_view}
 use Rattle.headline_laws.proofs.OneRun.{begins_alike, one_run, with_commands}
 use Rattle.headline_laws.proofs.Runs.{are_told, cause}

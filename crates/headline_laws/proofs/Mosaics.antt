@@ -29,11 +29,11 @@ use Rattle.run_laws.specs.Outcomes.{outcome_as}
 use Rattle.run_laws.specs.Refused.{outside_of}
 use Rattle.run_laws.proofs.Said.{said_by}
 use Rattle.run_laws.proofs.Unchanged.{keeps, unchanged}
-use Rattle.begin_laws.specs.Ends.{IsAsked}
-use Rattle.begin_laws.specs.Mosaics.{LineShows}
-use Rattle.begin_laws.proofs.Mosaics.{dense_ends}
-use Rattle.begin_laws.proofs.SynthLine.{lines_show}
-use Rattle.chain_laws.proofs.Effects.{cut_off, effect, files_cut, stream_cut, whole_held}
+use Rattle.headline_laws.specs.Ends.{IsAsked}
+use Rattle.headline_laws.specs.Mosaics.{LineShows}
+use Rattle.headline_laws.proofs.BegunMosaics.{dense_ends}
+use Rattle.headline_laws.proofs.SynthLine.{lines_show}
+use Rattle.headline_laws.proofs.Effects.{cut_off, effect, files_cut, stream_cut, whole_held}
 use Rattle.headline_laws.proofs.Same.{memory_bound}
 
 module _ (read : Readings) (line : List Content) (seed n : ℕ) (seen seen' : SourcesSeen) (files : FileMap) (bytes : Content) (a : IsAsked read line (job.Synth seed n) seen files bytes) (before after : OutsideSeen) (o : Outcome) (alone : ToldAlone seed n seen seen' before after o) where

@@ -18,8 +18,8 @@ use Rattle.state_laws.proofs.PlaceSteps.{place_steps_show}
 use Rattle.state_laws.proofs.PolygonSteps.{shape_steps_show}
 use Rattle.state_laws.proofs.TableSteps.{table_steps_show}
 use Rattle.state_laws.proofs.UnionStep.{union_steps_show}
-use Rattle.picture_laws.proofs.OutputSteps.{output_steps_show}
-use Rattle.chain_laws.specs.Steps.{ActionShows, CommandsShow, JointShows}
+use Rattle.headline_laws.proofs.OutputSteps.{output_steps_show}
+use Rattle.headline_laws.specs.ChainSteps.{ActionShows, CommandsShow, JointShows}
 use Rattle.headline_laws.specs.Steps.{AllCommandsShow, EachJointStepShows, EachStepShows}
 
 module _ (v : View) (view : IsView v) (base : Base) (seen : IsSeenIn v base.plane) (sources : SourceLayers) where

@@ -2,3 +2,12 @@ pub mod Steps
 pub mod Texts
 pub mod Runs
 pub mod Words
+pub mod Ends
+pub mod Begins
+pub mod Mosaics
+pub mod ChainSteps
+pub mod Bound
+pub mod Drawn
+pub mod Pictured
+pub mod PictureTexts
+pub mod Planes

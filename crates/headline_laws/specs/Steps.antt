@@ -10,7 +10,7 @@ use Rattle.chain_model.specs.State.{State}
 use Rattle.chain_model.specs.Targets.{SourceLayers}
 use Rattle.state_laws.specs.Shown.{View, IsView, SourcesShow, StateShows, IsSeenIn}
 use Rattle.state_laws.specs.Steps.{StepShows}
-use Rattle.chain_laws.specs.Steps.{CommandsShow, JointShows}
+use Rattle.headline_laws.specs.ChainSteps.{CommandsShow, JointShows}
 
 -- a command that changes each layer of its target by itself
 abbrev pub EachStepShows : Type 0

@@ -1,7 +1,7 @@
 -- The law of texts: there is one of whatever an output writes.
 use Rattle.run_state.specs.Origins.{Base}
 use Rattle.state_laws.specs.Shown.{View, IsView}
-use Rattle.chain_laws.specs.Steps.{EachHasText}
+use Rattle.headline_laws.specs.ChainSteps.{EachHasText}
 
 abbrev pub EachOutputHasAText : Type 0
 EachOutputHasAText = (v : View) → IsView v → (base : Base) → EachHasText v base

@@ -1,19 +1,157 @@
 //! What a run says of itself is what the model of a run binds it to.
 //!
-//! What each command does to layers shows what the state's step does (`each_step_shows`, `joint_steps_show`), and so do all
-//! commands in order (`all_commands_show`). There is a text of whatever an output writes (`each_output_has_a_text`). So the
-//! answer of a run binds what is there afterwards (`answers_are_bound`).
+//! What each command does to layers shows what the state's step does (`each_step_shows`, `joint_steps_show`), and so do
+//! all commands in order (`all_commands_show`). There is a text of whatever an output writes
+//! (`each_output_has_a_text`). So the answer of a run binds what is there afterwards (`answers_are_bound`).
+//!
+//! - **How a run begins, or ends before.** Where files and standard input tell what they hold, a chain that ends at
+//!   a source, or at the drawing of all of them, ends there in the model too (`contents_end_chains`), and its
+//!   answer binds what is there afterwards (`chains_end_before_they_begin`). Where its commands begin, the layers
+//!   that they begin with show the state of the model (`chains_begin`).
+//! - **Pictures.** A run traces a set of faces as rings of arcs, and draws rings and paths of arcs as points. Arcs
+//!   that follow each other are drawn as the path that they are when they are joined (`paths_are_joined`), a set of
+//!   faces as polygons that fit the region that it follows, or as nothing where that is empty
+//!   (`regions_are_drawn`), and any shape as the one that it shows (`shapes_are_drawn`). So pictures show layers of
+//!   the state (`pictures_show`). Drawn as points, shapes name the arcs that they are traced as
+//!   (`drawn_shapes_name_arcs`), so layers in arcs are those of pictures (`traced_layers_show`).
+//! - **Texts.** Each region of a view has polygons that fit it (`each_region_is_pictured`), and each layer a
+//!   picture (`each_layer_is_pictured`). What an output says is a text of the state's layers (`geo_texts_show`,
+//!   `topo_texts_show`, `table_texts_show`, `texts_show`), and whatever is written has one (`texts_exist`). The
+//!   step of an output writes it to the same place, or is refused for the same reason (`output_steps_show`).
+//! - The plane of a view of what is laid out is that of the model for the drawing (`views_are_modelled`).
+//! - **Commands in order.** Where each shows that of the state, the answer of all of them binds what files and the
+//!   standard stream hold afterwards (`commands_are_bound`).
 //!
 //! Each function carries one law in its contract, and does nothing.
 #![tactic(auto)]
 
+ghost use Rattle.headline_laws.specs.Begins.{ChainsBegin};
+ghost use Rattle.headline_laws.specs.Ends.{ChainsEndBeforeTheyBegin, ContentsEndChains, DenseMosaicsEndTheRun};
+ghost use Rattle.headline_laws.specs.Mosaics.{LinesOfMosaicsShow};
+ghost use Rattle.headline_laws.specs.Drawn.{DrawnShapesNameArcs, PathsAreJoined, PicturesShow, RegionsAreDrawn, ShapesAreDrawn, TracedLayersShow};
+ghost use Rattle.headline_laws.specs.Pictured.{EachLayerIsPictured, EachRegionIsPictured};
+ghost use Rattle.headline_laws.specs.Planes.{ViewsAreModelled};
+ghost use Rattle.headline_laws.specs.PictureTexts.{GeoTextsShow, OutputStepsShow, TableTextsShow, TextsExist, TextsShow, TopoTextsShow};
+ghost use Rattle.headline_laws.specs.Bound.{CommandsAreBound};
 ghost use Rattle.headline_laws.specs.Runs.{AnswersAreBound, RunsAreOfTheModel};
 ghost use Rattle.headline_laws.specs.Steps.{AllCommandsShow, EachJointStepShows, EachStepShows};
 ghost use Rattle.headline_laws.specs.Texts.{EachOutputHasAText};
 ghost use Rattle.headline_laws.specs.Words.{StepsAreOfWords};
 
-/// A command that changes each layer of its target by itself shows what the state's step does, or both refuse for the same
+/// A missing file, sources that are too long, a refused text, or too many links of the drawing of all sources end a
+/// chain in the model, where they end it in a run.
+pub fn contents_end_chains()
+    ensures { ContentsEndChains }
+{}
+
+/// A chain that ends before its commands begin, other than for want of memory, binds what is there afterwards: it has
+/// written nothing.
+pub fn chains_end_before_they_begin()
+    ensures { ChainsEndBeforeTheyBegin }
+{}
+
+/// A made-up mosaic that is too dense ends a run, and nothing is written.
+pub fn dense_mosaics_end_the_run()
+    ensures { DenseMosaicsEndTheRun }
+{}
+
+/// Where the commands of a chain begin, they begin in the model too: there is a view in which the layers of the run,
+/// and those of the sources that commands take, show those of the model, with the same places and the same commands.
+pub fn chains_begin()
+    ensures { ChainsBegin }
+{}
+
+/// A made-up mosaic that a run tells of isn't too dense, and the line tells, by regions and right answers, of the plane
+/// that was built: its arcs and faces, the cells that keep a point, and twice the area of all cells.
+pub fn lines_of_mosaics_show()
+    ensures { LinesOfMosaicsShow }
+{}
+
+/// Arcs that follow each other are drawn as the path that they are when they are joined.
+pub fn paths_are_joined()
+    ensures { PathsAreJoined }
+{}
+
+/// A set of faces is drawn as polygons that fit the region that it shows, or as nothing where the region is empty.
+pub fn regions_are_drawn()
+    ensures { RegionsAreDrawn }
+{}
+
+/// Any shape is drawn as the one that it shows.
+pub fn shapes_are_drawn()
+    ensures { ShapesAreDrawn }
+{}
+
+/// Drawn as points, a shape names the arcs that it is traced as.
+pub fn drawn_shapes_name_arcs()
+    ensures { DrawnShapesNameArcs }
+{}
+
+/// The picture of a layer shows the state's layer.
+pub fn pictures_show()
+    ensures { PicturesShow }
+{}
+
+/// A layer in arcs is that of a picture, which shows the state's layer.
+pub fn traced_layers_show()
+    ensures { TracedLayersShow }
+{}
+
+/// Each region of a view has polygons that fit it.
+pub fn each_region_is_pictured()
+    ensures { EachRegionIsPictured }
+{}
+
+/// Each layer of a state has a picture.
+pub fn each_layer_is_pictured()
+    ensures { EachLayerIsPictured }
+{}
+
+/// The text of one layer as GeoJSON is one of the state's layer.
+pub fn geo_texts_show()
+    ensures { GeoTextsShow }
+{}
+
+/// The text of layers as a topology is one of the state's layers.
+pub fn topo_texts_show()
+    ensures { TopoTextsShow }
+{}
+
+/// The text of the table of one layer is one of the state's layer.
+pub fn table_texts_show()
+    ensures { TableTextsShow }
+{}
+
+/// What an output of a run says is a text of the state's layers, whatever its form is.
+pub fn texts_show()
+    ensures { TextsShow }
+{}
+
+/// Whatever layers an output of the state writes, there is a text of them.
+pub fn texts_exist()
+    ensures { TextsExist }
+{}
+
+/// The step of an output writes a text of the layers of the state to the same place, or both are refused for the same
 /// reason.
+pub fn output_steps_show()
+    ensures { OutputStepsShow }
+{}
+
+/// The plane of a view of a drawing that is laid out is that of the model, with right answers.
+pub fn views_are_modelled()
+    ensures { ViewsAreModelled }
+{}
+
+/// Commands that begin in a run as in the model, each of which shows that of the state over whatever layers those
+/// before it lead to: their answer binds what is there afterwards, be it done, refused, out of memory or a failed
+/// write.
+pub fn commands_are_bound()
+    ensures { CommandsAreBound }
+{}
+
+/// A command that changes each layer of its target by itself shows what the state's step does, or both refuse for the
+/// same reason.
 pub fn each_step_shows()
     ensures { EachStepShows }
 {}
@@ -33,8 +171,8 @@ pub fn each_output_has_a_text()
     ensures { EachOutputHasAText }
 {}
 
-/// Where files and standard input tell what the sources hold, the answer of a run binds what files and the standard stream
-/// hold afterwards.
+/// Where files and standard input tell what the sources hold, the answer of a run binds what files and the standard
+/// stream hold afterwards.
 pub fn answers_are_bound()
     ensures { AnswersAreBound }
 {}
@@ -44,8 +182,8 @@ pub fn steps_are_of_words()
     ensures { StepsAreOfWords }
 {}
 
-/// What the contract of a run says is all that the model of a run binds it to: what its answer means, what each fault has as
-/// its cause, when it has to be Done, and its message.
+/// What the contract of a run says is all that the model of a run binds it to: what its answer means and has as its
+/// cause, when it has to be Done, and its message.
 pub fn runs_are_of_the_model()
     ensures { RunsAreOfTheModel }
 {}

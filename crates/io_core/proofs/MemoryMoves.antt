@@ -4,7 +4,7 @@ use Rattle.std.proofs.lemmas.List.{drop_all, take_rest, drop-drop}
 use Rattle.std.proofs.Math.Seq.{take-append_seam}
 use Rattle.io_core.specs.Contents.{Content}
 
--- the front that was copied, and what is left behind it
+-- the front that was copied, and what is left after it
 pub front_and_rest : (left bytes shown piece rest : Content) (at n : ℕ) → left ≡ drop at bytes → shown ≡ bytes → piece ≡ take n (take (length shown - at) (drop at shown)) → length piece ≡ n
     → left ≡ take n (piece ++ rest) ++ drop (at + n) bytes
 front_and_rest left bytes shown piece rest at n e lent copied count =

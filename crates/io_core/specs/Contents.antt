@@ -64,7 +64,7 @@ KeptIfMissing told before now result = IsErrOf result fault.Missing → MatchOpt
 abbrev pub Creates : {T E : Type 0} → Option FileMap → Option FileMap → Content → Result T E → Type 0
 Creates old new name result = MatchResult result (λ _. Puts old new name (λ _. [])) (λ _. SameFiles old new)
 
--- a front of the piece, behind what was there; a name that is not there is first given empty bytes
+-- a front of the piece, after what was there; a name that is not there is first given empty bytes
 abbrev pub AppendsTo : {E : Type 0} → Option FileMap → Option FileMap → Content → Result ℕ E → Content → Type 0
 AppendsTo old new name result piece = MatchResult result (λ n. Puts old new name (λ was. unwrap_or was [] ++ take n piece)) (λ _. SameFiles old new)
 

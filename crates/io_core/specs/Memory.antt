@@ -29,7 +29,7 @@ pub record SourceState : Type 0 where
   pub faults : ℕ
   pub bytes_read : ℕ
 
--- how many bytes a read into so much room moves
+-- how many bytes a read into `room` bytes moves
 abbrev pub source_moves : SourceState → ℕ → ℕ
 source_moves source room = min room (min source.most (length source.left))
 
@@ -60,7 +60,7 @@ pub record Bounded : Type 0 where
   pub held : Content
   pub room : ℕ
 
--- more bytes behind those that are held
+-- more bytes after those that are held
 abbrev pub with_more : Bounded → Content → Bounded
 with_more bounded piece = record { held = bounded.held ++ piece; room = bounded.room }
 
@@ -68,7 +68,7 @@ with_more bounded piece = record { held = bounded.held ++ piece; room = bounded.
 abbrev pub is_full_for : Bounded → ℕ → Bool
 is_full_for bounded count = nat_lt 0 count && nat_le bounded.room (length bounded.held)
 
--- how many bytes of so many a call appends, at most so many a call
+-- how many of `count` bytes are appended by a call that moves at most `most`
 abbrev pub appended : Bounded → ℕ → ℕ → ℕ
 appended bounded most count = min count (min most (bounded.room - length bounded.held))
 
@@ -78,7 +78,7 @@ pub record SinkState : Type 0 where
   pub calls : Calls
   pub faults : ℕ
 
--- whether the next write of so many bytes fails: its number is listed, or the room is full
+-- whether the next write of `count` bytes fails: its number is listed, or the room is full
 abbrev pub sink_fails : SinkState → ℕ → Bool
 sink_fails sink count = next_fails sink.calls || is_full_for sink.bytes count
 
@@ -138,7 +138,7 @@ pub record EntryBecame (old new : List EntryState) (name : Content) (entry : Ent
   pub there : entry_of new name ≡ Some entry
   pub others : (other : Content) → other ≢ name → entry_of new other ≡ entry_of old other
 
--- the entry of a name that is made ready for so many bytes
+-- the entry of a name that is made ready for `room` bytes
 abbrev pub readied : Option EntryState → Content → ℕ → EntryState
 readied None name room = record { name = name; is_there = false; bytes = record { held = []; room = room } }
 readied (Some entry) name room = record { name = entry.name; is_there = entry.is_there; bytes = record { held = entry.bytes.held; room = max entry.bytes.room room } }
@@ -147,11 +147,11 @@ readied (Some entry) name room = record { name = entry.name; is_there = entry.is
 abbrev pub with_entries : FilesState → List EntryState → FilesState
 with_entries files entries = record files { entries = entries }
 
--- how many bytes a read at a place into so much room moves
+-- how many bytes a read at a place into `room` bytes moves
 abbrev pub read_moves : FilesState → Content → ℕ → ℕ → ℕ
 read_moves files bytes at room = min room (min files.most (length (drop at bytes)))
 
--- whether so many bytes can't be written under a name: it was neither put nor made ready, or its room is full
+-- whether `count` bytes can't be written under a name: it was neither put nor made ready, or its room is full
 abbrev pub has_no_room : List EntryState → Content → ℕ → Bool
 has_no_room entries name count = unwrap_or (option_map (λ entry. is_full_for entry.bytes count) (entry_of entries name)) true
 
@@ -177,7 +177,7 @@ files_created files entries = record files { entries = entries; creates = next f
 abbrev pub files_create_failed : FilesState → FilesState
 files_create_failed files = record files { creates = next files.creates; write_faults = raised 1 files.write_faults }
 
--- whether the next append of so many bytes fails: its number is listed, or they find no room
+-- whether the next append of `count` bytes fails: its number is listed, or they find no room
 abbrev pub append_fails : FilesState → Content → ℕ → Bool
 append_fails files name count = next_fails files.appends || has_no_room files.entries name count
 

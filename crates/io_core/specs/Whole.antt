@@ -26,6 +26,7 @@ MissesName (Some files) name untold = files name ≡ None
 abbrev pub WritesWhole : {T E : Type 0} → Option Content → Option Content → Result T E → Content → Type 0
 WritesWhole old new result bytes = MatchResult result (λ _. Appends old new bytes) (λ _. (n : ℕ) × (n < length bytes) × Appends old new (take n bytes))
 
--- told: the name holds just these bytes, or, where that failed, it is as before or holds a front of them; the others are as before
+-- told: the name holds just these bytes, or, where that failed, it is as before or holds a front of them; the others
+-- are as before
 abbrev pub FilesWhole : {T E : Type 0} → Option FileMap → Option FileMap → Content → Result T E → Content → Type 0
 FilesWhole old new name result bytes = MatchResult result (λ _. Puts old new name (λ _. bytes)) (λ _. SameFiles old new ⊎ ((n : ℕ) × (n < length bytes) × Puts old new name (λ _. take n bytes)))

@@ -4,7 +4,7 @@ ghost use Rattle.io_core.specs.Memory.{is_full_for, appended, with_more};
 use std::alloc::{AllocError, Global};
 use std::marker::Model;
 
-/// Bytes with room for so many, whose memory is taken ahead.
+/// Bytes with room for `room` of them, whose memory is taken ahead.
 #[derive(Drop)]
 pub struct BoundedBytes {
     bytes: Vec<u8>,
@@ -45,7 +45,8 @@ impl BoundedBytes {
         &self.bytes
     }
 
-    /// Copies as many bytes from place `at` on as `buf` and `most` allow into the front of `buf`, and answers their number.
+    /// Copies as many bytes from place `at` on as `buf` and `most` allow into the front of `buf`, and answers their
+    /// number.
     pub fn copy_out(&self, at: u64, buf: &mut [u8], most: u32) -> usize
         ensures count { result ≡ min (length buf.old) (min most (length (drop at self.now.held))) }
         ensures copied { buf.new ≡ take result (drop at self.now.held) ++ drop result buf.old }

@@ -28,7 +28,7 @@ impl Model for FileEntry {
 }
 
 impl FileEntry {
-    /// A name with room for so many bytes, which isn't there yet.
+    /// A name with room for `room` bytes, which isn't there yet.
     pub fn ready(alloc: Global, name: &str, room: u64) -> Result<FileEntry, AllocError>
         ensures made { IfOk result (λ entry. entry ≡ record { name = name.now; is_there = false; bytes = record { held = []; room = room } }) }
     {

@@ -4,8 +4,8 @@
 //!   and counts its failed calls, so that an answer of failure always has a count that rose.
 //! - `read_whole` and `read_file` read to the end or say why not; `write_whole` and `write_file` write a whole text,
 //!   or leave a front of it and a count that rose.
-//! - `MemSource`, `MemSink` and `MemFiles` are the outside in memory: they tell all, move at most so many bytes a call
-//!   and fail at the calls that they were given.
+//! - `MemSource`, `MemSink` and `MemFiles` are the outside in memory: they tell all, move at most a given number of
+//! bytes a call and fail at the calls that they were given.
 //! - `Text`, `Bytes` and `NameList` are texts, and lists of bytes and of texts.
 #![tactic(auto)]
 

@@ -14,7 +14,7 @@ use crate::outside::{Failed, FileFault, Files};
 use std::alloc::{AllocError, Global};
 use std::marker::Model;
 
-/// Files in memory, which move at most so many bytes a call and fail at chosen calls.
+/// Files in memory, which move at most `most` bytes a call and fail at chosen calls.
 ///
 /// A name has the greatest room that was asked for it; one that was never put nor made ready can't be written.
 #[derive(Drop)]
@@ -208,7 +208,7 @@ impl Files for MemFiles {
     }
 }
 
-/// The place of a name under which so many bytes can be written, unless the call is `listed` as one that fails.
+/// The place of a name under which `count` bytes can be written, unless the call is `listed` as one that fails.
 fn writable_place(entries: &[FileEntry], name: &str, count: usize, listed: bool) -> Option<usize>
     ensures refused { is_some result ≡ not (listed || has_no_room entries.now name.now count) }
     ensures place { IfSome result (λ i. Some i ≡ position (λ entry. bytes_eq entry.name name.now) entries.now) }

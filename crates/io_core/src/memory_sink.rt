@@ -10,7 +10,8 @@ use crate::outside::{Failed, Sink};
 use std::alloc::{AllocError, Global};
 use std::marker::Model;
 
-/// A sink into memory, which has room for so many bytes, moves at most so many a call and fails at chosen calls.
+/// A sink into memory, which has room for a given number of bytes, moves at most `most` a call and fails at chosen
+/// calls.
 #[derive(Drop)]
 pub struct MemSink {
     bytes: BoundedBytes,

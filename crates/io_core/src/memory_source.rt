@@ -9,7 +9,7 @@ use crate::outside::{Failed, Source};
 use std::alloc::{AllocError, Global};
 use std::marker::Model;
 
-/// A source over bytes in memory, which moves at most so many bytes a call and fails at chosen calls.
+/// A source over bytes in memory, which moves at most `most` bytes a call and fails at chosen calls.
 #[derive(Drop)]
 pub struct MemSource {
     bytes: Vec<u8>,

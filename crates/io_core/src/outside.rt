@@ -39,7 +39,7 @@ pub trait Source {
         ensures counted { CountsBytes (bytes_read self.old) (bytes_read self.new) result };
 }
 
-/// A place to write bytes to, one behind the other.
+/// A place to write bytes to, one after the other.
 ///
 /// `held` is what was written so far, where the sink tells it; no call changes whether it tells.
 /// `faults` counts failed calls and never falls.

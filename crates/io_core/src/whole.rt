@@ -58,14 +58,14 @@ impl From<AllocError> for FileStop {
 
 /// Reads a source to its end, `limit` bytes at most.
 ///
-/// Errors: what was read is lost; the source goes on behind it.
+/// Errors: what was read is lost; the source goes on after it.
 pub fn read_whole<S: Source>(alloc: Global, src: &mut S, limit: u64) -> Result<Bytes, ReadStop>
     ensures told { is_some (S.left src.new) ≡ is_some (S.left src.old) }
     ensures all { IfOk result (λ bytes. TakesAll (S.left src.old) (S.left src.new) bytes) }
     ensures within { IfOk result (λ bytes. length bytes ≤ limit) }
     ensures counted { IfOk result (λ bytes. S.bytes_read src.new ≡ raised (length bytes) (S.bytes_read src.old)) }
 
-    // A source that doesn't tell can still be too long only after so many bytes were read.
+    // A source that doesn't tell can still be too long only after `limit + 1` bytes were read.
     ensures too_long { IsErrOf result ReadStop.TooLong → IfSome (S.left src.old) (λ all. limit < length all) }
     ensures too_many { IsErrOf result ReadStop.TooLong → raised (limit + 1) (S.bytes_read src.old) ≤ S.bytes_read src.new }
     ensures fault { IsErrOf result ReadStop.Fault → Rose (S.faults src.old) (S.faults src.new) }
@@ -104,7 +104,7 @@ pub fn read_file<F: Files>(
     ensures within { IfOk result (λ bytes. length bytes ≤ limit) }
     ensures counted { IfOk result (λ bytes. F.bytes_read files.new ≡ raised (length bytes) (F.bytes_read files.old)) }
 
-    // Files that don't tell can still be too long only after so many bytes were read.
+    // Files that don't tell can still be too long only after `limit + 1` bytes were read.
     ensures too_long { IsErrOf result FileStop.TooLong → AtName (F.held files.old) name.now ⊥ (λ there. limit < length there) }
     ensures too_many { IsErrOf result FileStop.TooLong → raised (limit + 1) (F.bytes_read files.old) ≤ F.bytes_read files.new }
     ensures fault { IsErrOf result FileStop.Fault → Rose (F.read_faults files.old name.now) (F.read_faults files.new name.now) }

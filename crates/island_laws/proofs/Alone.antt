@@ -1,5 +1,5 @@
--- A part of a set stands alone along its boundary, by the owners of the faces beside its arcs, exactly if its region does, by the regions that have the
--- sides of the links of its boundary.
+-- A part of a set stands alone along its boundary, by the owners of the faces beside its arcs, exactly if its region
+-- does, by the regions that have the sides of the links of its boundary.
 use Rattle.std.proofs.Common.{◌≡◌, inl, inr, refl, sym, ap, ◌∙◌, subst, arith, ℕ, suc, ◌+◌, ◌<◌, Bool, true, false, cond, ◌&&◌, List, [], ◌∷◌, Contains, Option, Some, length, get_or, nat_eq}
 use Rattle.std.specs.List.{list_all}
 use Rattle.std.proofs.lemmas.Bool.{and_from, and_parts, eq-eqb, eqb-true, false_from_ne_true}

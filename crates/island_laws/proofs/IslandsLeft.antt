@@ -1,4 +1,5 @@
--- What is left of sets without their islands follows what is left of their regions: the parts correspond in order, and so do those that are islands.
+-- What is left of sets without their islands follows what is left of their regions: the parts correspond in order, and
+-- so do those that are islands.
 use Rattle.std.proofs.Common.{◌≡◌, sym, ap, subst, refl, arith, ℕ, zero, suc, ◌<◌, Bool, true, false, cond, not, ◌&&◌, ◌||◌, pos, nat_lt, List, [], ◌∷◌, All, Contains, filter, length, get_or}
 use Rattle.std.specs.Prelude.{int_lt}
 use Rattle.std.specs.List.Sorted.{IsStrictlyIncreasing}

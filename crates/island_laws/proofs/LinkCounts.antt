@@ -1,5 +1,5 @@
--- The number of links along the boundary of a set of faces is that of the boundary of its region: each arc with a face of the set on one side alone
--- counts its links, and so does the boundary of the region.
+-- The number of links along the boundary of a set of faces is that of the boundary of its region: each arc with a face
+-- of the set on one side alone counts its links, and so does the boundary of the region.
 use Rattle.std.proofs.Common.{◌≡◌, refl, sym, ap, ◌∙◌, arith, ℕ, zero, suc, ◌+◌, ◌-◌, ◌<◌, ◌≤◌, ℤ, pos, ◌+ℤ◌, Bool, true, false, not, cond, List, [], ◌∷◌, ◌++◌, All, Contains, length, nat_eq, take}
 use Rattle.std.specs.List.{cons_option, flat_map, sum_by}
 use Rattle.std.specs.List.Sorted.{IsStrictlyIncreasing}

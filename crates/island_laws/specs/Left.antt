@@ -14,7 +14,8 @@ use Rattle.region_laws.specs.Regions.{FollowEach}
 use Rattle.region_laws.specs.Followed.{IsWalked}
 use Rattle.region_laws.specs.Answered.{TellSides, plane_with}
 
--- the answers on sides are right for the first so many regions and their parts, and so are those on how many parts there are
+-- the answers on sides are right for the first `many` regions and their parts, and so are those on how many parts there
+-- are
 pub record TellParts (P : Plane) (A : Answers) (region : ℕ → Region) (many : ℕ) : Type 0 where
   pub sides : (n : ℕ) → n < many → TellSides P A (region n)
   pub part_sides : (n j : ℕ) → n < many → TellSides P A (part (region n) j)
@@ -22,7 +23,8 @@ pub record TellParts (P : Plane) (A : Answers) (region : ℕ → Region) (many :
 
 -- ---- law
 
--- where the sets of a layer follow its regions, what is left of each set without its islands follows what the definition leaves of its region
+-- where the sets of a layer follow its regions, what is left of each set without its islands follows what the
+-- definition leaves of its region
 abbrev pub IslandsAreFollowed : Type 0
 IslandsAreFollowed = (d : Drawing) (arcs : List Path) (faces : FaceTable) (label : Place → ℕ) → IsWalked d arcs faces label → (sets : List (List ℕ)) → All (IsSetOf faces) sets → (region : ℕ → Region) →
     FollowEach (snapped d) arcs label sets region → (A : Answers) → TellParts (plane_with d arcs) A region (length sets) →

@@ -33,7 +33,7 @@ denotes_first (elements {t = t} h) = (91, t ++ 93 ∷ [], refl, refl, λ e. omeg
 denotes_first (no_members {w = w} h) = (123, w ++ 125 ∷ [], refl, refl, λ e. omega arith, λ e. omega arith)
 denotes_first (members {t = t} h e) = (123, t ++ 125 ∷ [], refl, refl, λ e. omega arith, λ e. omega arith)
 
--- behind a bracket a value is read as anywhere
+-- after a bracket a value is read as anywhere
 first_padded : {d : ℕ} {t : List ℕ} {v : JsonValue} (rest : List ℕ) → Padded d t v → Runs first_value value (t ++ rest) (t ++ rest)
 unfolding FirstByte
 first_padded rest (padded {w = w} {t = t} {w' = w'} a h b) n k =
@@ -49,7 +49,7 @@ first_elements rest (last_element p) n k = first_padded rest p n k
 first_elements rest (element {t = t} {rest = more} p es) n k =
     ap (run n first_value k) (append_assoc t (44 ∷ more) rest) ∙ first_padded ((44 ∷ more) ++ rest) p n k ∙ ap (run n value k) (sym (append_assoc t (44 ∷ more) rest))
 
--- behind a brace a name is read as anywhere
+-- after a brace a name is read as anywhere
 first_named : (w n more : List ℕ) (name : List ℕ) → White w → Quoted n name → Runs first_name next_name (w ++ (n ++ more)) (w ++ (n ++ more))
 first_named w n more name a (quoted {inner = inner} h) i k =
     let tail : List ℕ = 34 ∷ ((inner ++ 34 ∷ []) ++ more) in

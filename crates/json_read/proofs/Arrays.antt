@@ -19,7 +19,7 @@ use Rattle.json_read.proofs.Sequences.{Then, then_passes_at, then_breaks_at, fir
 use Rattle.json_read.proofs.Values.{SomePadded}
 use Rattle.json_read.proofs.Whiles.{next_fails_after}
 
--- an array that goes on with text, behind items: what follows adds its own
+-- an array that goes on with text, after items: what follows adds its own
 abbrev pub ItemsSoFar : ℕ → ItemList → List ℕ → Type 0
 ItemsSoFar d items text = (rest : List ℕ) (vs : List JsonValue) → Elements d rest vs → Elements d (text ++ rest) (items_list items ++ vs)
 

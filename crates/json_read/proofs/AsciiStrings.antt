@@ -69,7 +69,7 @@ ascii_passes r text old new h =
       runs = λ d k. ap (run d (in_string r) k) h.0 ∙ chars_run r (34 ∷ new) chars d k ∙ moves d (in_string r) k 34 new (closed r) k refl;
     }
 
--- the front of the bytes and the quote behind it
+-- the front of the bytes and the quote after it
 pub front_closes : (n : ℕ) (old front rest new text : List ℕ) → n ≡ prefix_len stands_alone old → front ≡ take n old → rest ≡ drop n old → rest ≡ 34 ∷ new → text ≡ front → ClosesAsAscii text old new
 front_closes n old front rest new text c f r q t =
     let is : text ≡ take n old = t ∙ f in

@@ -38,7 +38,7 @@ run_stops (b ∷ bs) d l = go (is_plain b) refl (run_stops bs d)
     go true e h = rw (run_on b bs e) (h (omega (arith, ap length (run_on b bs e))))
     go false e h = rw (run_ends b bs e) e
 
--- a run, and the byte behind it
+-- a run, and the byte after it
 run_and_byte : (text : List ℕ) (n : ℕ) → n ≡ length (run_of text) → n < length text → flat_map escaped text ≡ take n text ++ (escaped (get_or text n 0) ++ flat_map escaped (drop (n + 1) text))
 run_and_byte text n e l =
     run_split text ∙ ap (λ (k : ℕ). take k text ++ flat_map escaped (drop k text)) (sym e)

@@ -137,7 +137,7 @@ row_without (name ∷ ns) fs f n h =
     ap (λ (v : Value). v ∷ row_of ns (fs ++ f ∷ [])) (value_pushed name fs f h ∙ ap (λ (b : Bool). cond b f.1 (value_or_null name fs)) other)
     ∙ ap (λ (vs : RowValues). value_or_null name fs ∷ vs) (row_without ns fs f (neither_second (bytes_eq f.0 name) (list_any (bytes_eq f.0) ns) n) h)
 
--- the names behind a name are others
+-- the names after a name are others
 others_behind : (name : List ℕ) (ns : List (List ℕ)) (n : List ℕ) → name ≡ n → AreDistinctNames (n ∷ ns) → list_any (bytes_eq name) ns ≡ false
 others_behind name ns n e d = apart_any name ns (λ i d' l. ap (λ (m : List ℕ). bytes_eq m (get_or ns i d')) e ∙ apart_from_distinct bytes_eq (n ∷ ns) 0 (suc i) d' d (omega arith) (omega arith))
 

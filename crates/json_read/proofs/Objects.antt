@@ -23,7 +23,7 @@ use Rattle.json_read.proofs.Whiles.{next_fails_after}
 abbrev pub Member : Type 0
 Member = List ℕ × JsonValue
 
--- an object that goes on with text, behind members that were merged to fields
+-- an object that goes on with text, after members that were merged to fields
 abbrev pub MembersSoFar : ℕ → FieldList → List ℕ → Type 0
 MembersSoFar d fields text =
     (rest : List ℕ) (ms : List Member) → Members d rest ms → (all : List Member) × (Members d (text ++ rest) all × (merged [] all ≡ merged (fields_list fields) ms))

@@ -211,7 +211,7 @@ numeral_read : (text : List ℕ) (v : Numeral) → numeral_of text ≡ Some v �
 unfolding decimal_of_text
 numeral_read text v e = ap (λ (o : Option Numeral). checked_where (units_at 18 o)) e
 
--- the numeral that the printed text of a decimal is: so many digits, of which some stand after the point
+-- the numeral that the printed text of a decimal is: the number `size`, with `places` of its digits after the point
 pub record Written (units : ℤ) : Type 0 where
   pub size : ℕ
   pub places : ℕ

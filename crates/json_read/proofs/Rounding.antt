@@ -17,7 +17,7 @@ use Rattle.json_read.proofs.Quotients.{signed_size, times_power}
 
 -- ## Halves, by whole numbers: R of D, with D = 10 * P and R = t * P + T
 
--- the parts of what lies behind the units
+-- the parts of what stands after the units
 tenths_split : (R P : ℕ) → R ≡ R / P * P + R % P
 tenths_split R P = sym (div-add-mod' R P)
 
@@ -201,7 +201,7 @@ plus_rounds n k t more e = go (cases_lt t 5)
 
 -- ## Below zero
 
--- what lies behind the units is more than a half, or it is not
+-- what stands after the units is more than a half, or it is not
 past_or_not : (R P t : ℕ) (more : Bool) → 0 < P → t ≡ R / P → more ≡ not (R % P == 0)
     → ((P * 10 < 2 * R) × (up t more true ≡ true)) ⊎ ((2 * R ≤ P * 10) × (up t more true ≡ false))
 past_or_not R P t more p e m = go (cases_lt t 5)
@@ -222,7 +222,7 @@ past_or_not R P t more p e m = go (cases_lt t 5)
         above (inl g) = inl (past_half R P p (inl (omega (arith, e, g))), up_six t more true g)
         above (inr f) = at_five f (R % P == 0) refl
 
--- the digits behind the first are those of the whole
+-- the digits after the first are those of the whole
 more_same : (n k : ℕ) → n % 10 ^ suc k % 10 ^ k ≡ n % 10 ^ k
 more_same n k =
     let D : ℕ = 10 ^ suc k in

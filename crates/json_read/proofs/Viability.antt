@@ -14,7 +14,7 @@ use Rattle.json_read.proofs.Runs.{moves, stops}
 fault_not_accepted : (f : Fault) (xs : List ℕ) → fault f xs ≡ accepted → ⊥
 fault_not_accepted f xs e = cc
 
--- what a fault leaves is the end of the bytes; with other bytes behind the next one the fault stays
+-- what a fault leaves is the end of the bytes; with other bytes after the next one the fault stays
 abbrev StopsThere : ℕ → Place → List Open → List ℕ → Fault → ℕ → List ℕ → Type 0
 StopsThere d p k bytes f b rest = (front : List ℕ) × (bytes ≡ front ++ (b ∷ rest)) × ((z : List ℕ) → run d p k (front ++ (b ∷ z)) ≡ fault f (b ∷ z))
 

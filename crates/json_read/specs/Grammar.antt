@@ -55,7 +55,7 @@ pub data Number : List ℕ → Type 0 where
 
 -- ## Strings
 
--- what a letter behind a backslash stands for
+-- what a letter after a backslash stands for
 abbrev pub short_escape : ℕ → Option ℕ
 short_escape e =
     if e == 34 then Some 34
@@ -97,7 +97,7 @@ pair h l = 0x10000 + (h - 0xD800) * 0x400 + (l - 0xDC00)
 abbrev pub mended : ℕ → ℕ
 mended u = if scalar u then u else 0xFFFD
 
--- the characters of the units us, where behind `Some h` a high surrogate h waits for its other half
+-- the characters of the units us, where after `Some h` a high surrogate h waits for its other half
 abbrev pub joined : Option ℕ → List ℕ → List ℕ
 joined None [] = []
 joined (Some h) [] = 0xFFFD ∷ []
@@ -146,7 +146,7 @@ pub data Mark : List ℕ → Type 0 where
   no_mark : Mark []
   mark : Mark (0xEF ∷ 0xBB ∷ 0xBF ∷ [])
 
--- JSON-text = ws value ws, behind an optional byte order mark
+-- JSON-text = ws value ws, after an optional byte order mark
 pub data JsonText : ℕ → List ℕ → JsonValue → Type 0 where
   text : {d : ℕ} {m t : List ℕ} {v : JsonValue} → Mark m → Padded d t v → JsonText d (m ++ t) v
 

@@ -14,7 +14,7 @@ digits_at text = take_while is_digit text
 abbrev pub after_digits : List ℕ → List ℕ
 after_digits text = drop (length (digits_at text)) text
 
--- the number that digits denote, behind a number that is read already
+-- the number that digits denote after those of the number n
 abbrev pub number_onto : ℕ → List ℕ → ℕ
 number_onto n digits = fold (λ (n : ℕ) (b : ℕ). n * 10 + (b - 48)) n digits
 
@@ -43,7 +43,7 @@ abbrev pub is_some_digits : List ℕ → Bool
 is_some_digits [] = false
 is_some_digits (b ∷ rest) = true
 
--- a fraction behind the whole part, and what is left: a point and digits, or nothing
+-- a fraction after the whole part, and what is left: a point and digits, or nothing
 abbrev pub fraction_part : List ℕ → Option (List ℕ × List ℕ)
 fraction_part [] = Some ([], [])
 fraction_part (b ∷ rest) =
@@ -91,7 +91,7 @@ abbrev pub rounded : ℤ → ℤ → ℤ
 rounded m (pos e) = m *ℤ pos (10 ^ e)
 rounded m (negsuc e) = floor_div (pos 2 *ℤ m +ℤ pos (10 ^ suc e)) (2 * 10 ^ suc e)
 
--- the grid number of a numeral, in so many places
+-- the grid number of a numeral, with `places` decimal places
 abbrev pub grid_number : ℕ → Numeral → ℤ
 grid_number places v = rounded v.mantissa (v.exponent +ℤ pos places)
 
@@ -105,7 +105,7 @@ abbrev pub grid_at : ℕ → Option Numeral → Option ℤ
 grid_at places None = None
 grid_at places (Some v) = checked_grid (grid_number places v)
 
--- the grid number of a text, in so many places, where it is a numeral and the grid has it
+-- the grid number of a text, with `places` decimal places, where it is a numeral and the grid has it
 unfoldable pub grid_of_text : ℕ → List ℕ → Option ℤ
 grid_of_text places text = grid_at places (numeral_of text)
 

@@ -5,7 +5,7 @@ use Rattle.json_read.specs.Scaling.{IsScaled}
 use Rattle.json_read.specs.declared.numerals.Scaled.{Scaled}
 use Rattle.json_read.specs.declared.plain_numeral.Plain.{Plain}
 
--- the text is a point and digits, or nothing: so many digits, and their number behind n
+-- the text is a point and `count` digits, or nothing; `number` is what these digits denote after those of n
 pub record HasFraction (n : ℕ) (text : List ℕ) (number count : ℕ) : Type 0 where
   pub digits : List ℕ
   pub fraction_is : fraction_part text ≡ Some (digits, [])
@@ -13,7 +13,7 @@ pub record HasFraction (n : ℕ) (text : List ℕ) (number count : ℕ) : Type 0
   pub count_is : count ≡ length digits
   pub few : count ≤ 18
 
--- the numeral is the number of its digits, so many of them behind the point
+-- the numeral is the number of its digits, `p.fraction` of them after the point
 pub record IsPlain (v : Option Numeral) (p : Plain) : Type 0 where
   pub numeral_is : v ≡ Some (record { mantissa = signed p.minus p.number; exponent = pos 0 -ℤ pos p.fraction })
   pub few : p.fraction ≤ 18

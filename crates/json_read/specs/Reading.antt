@@ -22,7 +22,7 @@ NextFails test (b ∷ bs) = test b ≡ false
 abbrev pub NextIsNot : ℕ → List ℕ → Type 0
 NextIsNot b bytes = (bs : List ℕ) → bytes ≡ b ∷ bs → ⊥
 
--- what is left behind the bytes that pass the test
+-- what is left after the bytes that pass the test
 abbrev pub drop_while : (ℕ → Bool) → List ℕ → List ℕ
 drop_while test [] = []
 drop_while test (b ∷ bs) = elim (test b) [ true ↦ drop_while test bs | false ↦ b ∷ bs ]
@@ -80,18 +80,18 @@ NumberBegins bytes = (b : ℕ) × (bs : List ℕ) × (bytes ≡ b ∷ bs) × ((b
 abbrev pub StandsFor : ℕ → List ℕ → Type 0
 StandsFor u part = (0 < length part) × ((rest us : List ℕ) → Chars rest us → Chars (part ++ rest) (u ∷ us))
 
--- what stands behind a backslash, and behind `\u`
+-- what stands after a backslash, and after `\u`
 abbrev pub StandsEscaped : ℕ → List ℕ → Type 0
 StandsEscaped u part = StandsFor u (92 ∷ part)
 
 abbrev pub StandsInHex : ℕ → List ℕ → Type 0
 StandsInHex u part = StandsFor u (92 ∷ 117 ∷ part)
 
--- a string behind its first quote, and the UTF-8 text that it denotes
+-- a string after its first quote, and the UTF-8 text that it denotes
 abbrev pub ClosesAs : List ℕ → List ℕ → Type 0
 ClosesAs bytes text = (inner : List ℕ) × (text ≡ inner ++ 34 ∷ []) × Spells inner bytes
 
--- the bytes so far, and those of the units to come, behind a half of a surrogate pair or none
+-- the bytes so far, and those of the units to come, after a half of a surrogate pair or none
 abbrev pub joined_onto : List ℕ → Option ℕ → List ℕ → List ℕ
 joined_onto bytes half us = bytes ++ encode_utf8_all (joined half us)
 
@@ -124,7 +124,7 @@ run_at s bytes = run s.deepest s.place s.open_there bytes
 abbrev pub outside : ℕ → Place → List Open → Spot
 outside d p k = record { deepest = length k + d; place = p; open_there = k }
 
--- in one more array or object, and behind it
+-- in one more array or object, and after it
 abbrev pub inside : Open → ℕ → Place → List Open → Spot
 inside o d p k = outside d p (o ∷ k)
 
@@ -145,7 +145,7 @@ abbrev pub PartAt : {T : Type 0} → (T → List ℕ → Type 0) → (List Open 
 PartAt {T} R from to result old new =
     MatchResult result (λ x. PassesAt (R x) from to old new) (AtFault (λ f. BreaksAt (λ t. (x : T) × R x t) from f old new))
 
--- what stands behind `[` or `{`, and its value
+-- what stands after `[` or `{`, and its value
 abbrev pub ArrayText : ℕ → ItemList → List ℕ → Type 0
 ArrayText d items t = Denotes (suc d) (91 ∷ t) (array items)
 

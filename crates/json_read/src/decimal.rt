@@ -163,7 +163,7 @@ fn print_fraction(fraction: u64, out: &mut Bytes) -> Result<(), AllocError>
     print_digits(fraction, out)
 }
 
-// Eighteen digits, without the zeros at their end. Most fractions have no more than nine places.
+// Eighteen digits, without the zeros at their end. Most fractions have no more than nine decimal places.
 #[tactic(auto, using(crate::proofs::Digits::trim_nine))]
 fn print_digits(fraction: u64, out: &mut Bytes) -> Result<(), AllocError>
     ensures ok { OnOk result (out.new ≡ out.old ++ trimmed_digits 18 fraction) }

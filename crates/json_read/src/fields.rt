@@ -41,7 +41,7 @@ impl Fields {
         }
     }
 
-    /// No fields, and room for so many.
+    /// No fields, and room for `capacity` of them.
     pub fn with_capacity(alloc: Global, capacity: u32) -> Result<Fields, AllocError>
         ensures empty { IfOk result (λ f. f ≡ []) }
     {

@@ -14,7 +14,7 @@ use io_core::Text;
 use std::alloc::{AllocError, Global};
 use std::marker::Model;
 
-/// So many fields are searched one by one; more of them get an index of their names.
+/// The greatest number of fields that are searched one by one; more of them get an index of their names.
 const FEW_FIELDS: u32 = 16;
 
 /// The fields of an object that is being read, with an index of their names where they are many.

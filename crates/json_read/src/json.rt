@@ -97,7 +97,7 @@ impl JsonList {
         }
     }
 
-    /// No items, and room for so many.
+    /// No items, and room for `capacity` of them.
     pub(crate) fn with_capacity(alloc: Global, capacity: usize) -> Result<Self, AllocError>
         ensures { IfOk result (λ l. l ≡ no_items) }
     {

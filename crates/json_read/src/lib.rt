@@ -40,6 +40,7 @@ pub use fields::{Fields, FieldsList};
 pub use grid_numeral::numeral_to_grid;
 pub use json::{Json, JsonFields, JsonList};
 pub use numerals::is_numeral;
+pub use reader::Fault;
 pub use table::{Row, RowList, Table};
 pub use units::whole_units;
 pub use value::Value;

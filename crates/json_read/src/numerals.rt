@@ -123,9 +123,9 @@ impl<'a> Numeral<'a> {
 
 // How far the end of the digits stands from the units.
 enum Shift {
-    /// So many zeros follow the digits.
+    /// The number of zeros that follow the digits.
     Up(u128),
-    /// So many digits stand after the units.
+    /// The number of digits that stand after the units.
     Down(u128),
 }
 

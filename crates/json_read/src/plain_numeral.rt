@@ -7,11 +7,11 @@ use crate::numerals::{Scaled, is_digit, is_whole, raised};
 
 /// A digit may follow a number below this: 10^17.
 const NUMBER_LIMIT: u64 = 100_000_000_000_000_000;
-/// No more digits than this stand behind the point.
+/// The greatest number of digits after the point.
 const GREATEST_FRACTION: usize = 18;
 
 /// A numeral without an exponent whose digits, read without the point, are a number of one machine word:
-/// `number`, of which `fraction` digits stand behind the point.
+/// `number`, of which `fraction` digits stand after the point.
 #[derive(Clone, Copy)]
 pub(crate) struct Plain {
     pub(crate) minus: bool,
@@ -64,8 +64,8 @@ impl Plain {
     }
 }
 
-// The number of the digits at the front behind those that `n` counts, and how many they are; none where the
-// number might pass a machine word.
+// The number that the digits at the front make after those of `n`, and how many they are; none where the number might
+// pass a machine word.
 fn front_number(n: u64, text: &[u8]) -> Option<(u64, usize)>
     ensures number { IfSome result (λ r. r.0 ≡ number_onto n (take r.1 text.now)) }
     ensures count { IfSome result (λ r. r.1 ≡ length (digits_at text.now)) }
@@ -97,7 +97,7 @@ fn fraction_number(n: u64, text: &[u8]) -> Option<(u64, usize)>
     Some((number, count))
 }
 
-// The size of a number whose last `dropped` digits stand behind the units.
+// The size of a number whose last `dropped` digits stand after the units.
 fn cut_number(n: u64, dropped: usize) -> Scaled
     requires some { 0 < dropped }
     requires few { dropped ≤ 18 }

@@ -33,7 +33,7 @@ pub enum Stop {
     Memory,
 }
 
-/// What is left to read. At a fault it stands behind the longest prefix that begins some text.
+/// What is left to read. At a fault it stands after the longest prefix that begins some text.
 #[derive(Drop)]
 pub struct Reader<'a> {
     alloc: Global,
@@ -47,7 +47,6 @@ impl<'a> Reader<'a> {
         Reader { alloc, rest: bytes }
     }
 
-    /// The next byte.
     fn peek(&self) -> Option<u8>
         ensures { MatchOption result (self.now.rest.now ≡ [])
             (λ b. (bs : List ℕ) × (self.now.rest.now ≡ b ∷ bs)) }
@@ -169,7 +168,7 @@ impl<'a> Reader<'a> {
         Ok(Text::of(self.alloc, text)?)
     }
 
-    /// A string, behind its first quote.
+    /// A string, after its first quote.
     fn string(&mut self) -> Result<Text, Stop>
         ensures { (r : Role) → Part ClosesAs (in_string r) (closed r) result self.old.rest.now self.new.rest.now }
     {
@@ -231,7 +230,7 @@ impl<'a> Reader<'a> {
         self.character(first)
     }
 
-    /// An escape, behind the backslash.
+    /// An escape, after the backslash.
     fn escape(&mut self) -> Result<u32, Stop>
         ensures { (r : Role) → Part StandsEscaped (in_escape r) (in_string r) result self.old.rest.now self.new.rest.now }
     {
@@ -312,7 +311,7 @@ impl<'a> Reader<'a> {
     }
 }
 
-// What a letter behind a backslash stands for.
+// What a letter after a backslash stands for.
 fn escaped(letter: u8) -> Option<u32>
     ensures { result ≡ short_escape letter }
 {
@@ -346,7 +345,7 @@ fn second_bounds(first: u8) -> Option<(u8, u8)>
     }
 }
 
-// Writes a unit behind `half`, the first half of a surrogate pair or none, and answers the new half.
+// Writes a unit after `half`, the first half of a surrogate pair or none, and answers the new half.
 fn push_unit(text: &mut String, half: Option<u32>, unit: u32) -> Result<Option<u32>, AllocError>
     requires { IfSome half (λ h. IsTrue (is_high h)) }
     ensures half { IfOk result (λ next. IfSome next (λ h. IsTrue (is_high h))) }
@@ -503,7 +502,7 @@ impl<'a> Reader<'a> {
         Ok(value)
     }
 
-    /// An array, behind its bracket.
+    /// An array, after its bracket.
     #[cycle(values)]
     fn array(&mut self, depth: u32) -> Result<JsonList, Stop>
         ensures { PartAt (ArrayText depth) (inside in_array depth first_value) (behind depth) result self.old.rest.now self.new.rest.now }
@@ -524,7 +523,7 @@ impl<'a> Reader<'a> {
         }
     }
 
-    /// An object, behind its brace.
+    /// An object, after its brace.
     #[cycle(values)]
     fn object(&mut self, depth: u32) -> Result<JsonFields, Stop>
         ensures { PartAt (ObjectText depth) (inside in_object depth first_name) (behind depth) result self.old.rest.now self.new.rest.now }

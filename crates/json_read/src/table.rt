@@ -227,7 +227,7 @@ fn all_names(alloc: Global, rows: &[Fields]) -> Result<IndexSet<String>, AllocEr
     Ok(names)
 }
 
-// The names, and behind them those of the fields that are new. Most features have the names of the first in its
+// The names, and after them those of the fields that are new. Most features have the names of the first in its
 // order, so that the name at the same place is looked at first.
 fn add_names(
     alloc: Global,

@@ -143,7 +143,8 @@ sides_of_arcs S arcs faces label h set a below j e there = both_sides S arcs fac
 -- ---- by links
 
 module _ (S : List Segment) (arcs : List Path) (faces : FaceTable) (label : Place → ℕ) (h : AreLabelled S arcs faces label) (set : List ℕ) (a : SignedArc) (below : a.arc < length arcs) where
-  -- a link of which the set has the left side and the right side, as one looks along it or back, where it has faces f and g
+  -- a link of which the set has the left side and the right side, as one looks along it or back, where it has faces f
+  -- and g
   abbrev pub HaveSides : Segment → ℕ → ℕ → Type 0
   HaveSides l f g = (b : Bool) × (LeftSideIn S (PointsOf S label set) (record { link = l; forward = b }) ↔ Contains set f) × (LeftSideIn S (PointsOf S label set) (record { link = l; forward = not b }) ↔ Contains set g)
 

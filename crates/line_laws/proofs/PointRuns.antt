@@ -49,7 +49,7 @@ put_first true q r [] = refl
 put_first true q r (run ∷ runs) = refl
 
 module _ (test : Segment → Bool) where
-  -- the runs of the steps from q on, afresh and behind a run that ends at q
+  -- the runs of the steps from q on, afresh and after a run that ends at q
   record AreRuns (q : GridPoint) (rest : Path) : Type 0 where
     afresh : map path_along (runs_after test [] (steps (q ∷ rest))) ≡ model.runs_where test (q ∷ rest)
     behind : (before : Path) (begun : List Segment) → 0 < length begun → path_along begun ≡ before ++ q ∷ [] →

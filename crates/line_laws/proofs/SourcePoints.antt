@@ -43,7 +43,8 @@ module _ (d : Drawing) (arcs : List Path) (faces : FaceTable) (labels : HolderTa
 
   -- ---- layers
 
-  -- a feature holds a point left of a link exactly if it holds that side of the link, and none holds a point left of all
+  -- a feature holds a point left of a link exactly if it holds that side of the link, and none holds a point left of
+  -- all
   held_beside : (feature : List Polygon) → Contains (snapped d).polygons feature → (z : RationalPoint) (e : Dart) → IsPlaceOf (links_of (snapped d)) z (left_of e)
       → feature_holds z feature ≡ list_any (λ (polygon : Polygon). odd_left_of (links_of_paths polygon) e) feature
   held_beside feature c z e here =
@@ -117,7 +118,8 @@ module _ (d : Drawing) (arcs : List Path) (faces : FaceTable) (labels : HolderTa
 
 -- ---- off the links
 
--- where what a set has at a place is what a region has of the points there, the points of the set are those of the region
+-- where what a set has at a place is what a region has of the points there, the points of the set are those of the
+-- region
 pub off_links : (S : List Segment) (label : Place → ℕ) (set : List ℕ) (R : Points) (z : RationalPoint) → IsOffLinks S z → (a : Place) → IsPlaceOf S z a → ((b : Place) → IsPlaceOf S z b → Contains set (label b) ↔ R z) → PointsOf S label set z ↔ R z
 off_links S label set R z off a here same = (
   λ h. let (beside, placed) = h in let (b, there, c) = placed in (same b there).0 c,

@@ -55,8 +55,8 @@ arc_along S arr arcs long along e c =
 
 -- ---- the face on a side
 
--- k is the face on the left of a directed link: a set has points there exactly if it has k, and the lists of k have the features and the boxes that
--- hold that side
+-- k is the face on the left of a directed link: a set has points there exactly if it has k, and the lists of k have the
+-- features and the boxes that hold that side
 record IsFaceAt (d : Drawing) (faces : FaceTable) (labels : HolderTable) (label : Place → ℕ) (e : Dart) (k : ℕ) : Type 0 where
   below : k < faces.count
   of_set : (set : List ℕ) → LeftSideIn (links_of (snapped d)) (PointsOf (links_of (snapped d)) label set) e ↔ Contains set k

@@ -21,7 +21,8 @@ use Rattle.line_laws.specs.Lines.{AreLabelled, AreLaid, LeftSideIn}
 abbrev pub PointsOfSet : List Segment → (Place → ℕ) → List (List ℕ) → ℕ → Points
 PointsOfSet S label sets i z = (set : List ℕ) × (slice_get sets i ≡ Some set) × PointsOf S label set z
 
--- the points that a feature of a layer holds, by its number there: the layer has these numbers of features of the drawing
+-- the points that a feature of a layer holds, by its number there: the layer has these numbers of features of the
+-- drawing
 abbrev pub PointsOfFeature : List (List Polygon) → List ℕ → ℕ → Points
 PointsOfFeature features layer i z = (number : ℕ) × (slice_get layer i ≡ Some number) × (feature : List Polygon) × (slice_get features number ≡ Some feature) × (feature_holds z feature ≡ true)
 
@@ -35,8 +36,8 @@ abbrev pub SetsStandFor : List Segment → (ℕ → Points) → List Path → Fa
 SetsStandFor S R arcs faces sets = (n : ℕ) → n < length arcs →
     All (λ (e : Dart). AreAtSide S R e (left_sets faces sets n) × AreAtSide S R (opposite e) (right_sets faces sets n)) (darts_of_path (slice_index_or arcs n []))
 
--- Arc n, with these lists at its sides, is among the arcs exactly if they differ, and stands there with the least number of each; and it is an
--- inner one exactly if, besides, neither is empty.
+-- Arc n, with these lists at its sides, is among the arcs exactly if they differ, and stands there with the least
+-- number of each; and it is an inner one exactly if, besides, neither is empty.
 pub record IsSidedBy (sided : List SidedArc) (n : ℕ) (left right : List ℕ) : Type 0 where
   pub listed : Contains (map (λ (s : SidedArc). s.arc) sided) n ↔ (left ≢ right)
   pub least : (s : SidedArc) → Contains sided s → s.arc ≡ n → (s.left ≡ slice_get left 0) × (s.right ≡ slice_get right 0)
@@ -49,7 +50,8 @@ pub record AreBetween (S : List Segment) (R : ℕ → Points) (arcs : List Path)
   pub there : All (λ (s : SidedArc). s.arc < length arcs) sided
   pub by_sides : (n : ℕ) → n < length arcs → All (λ (e : Dart). (left right : List ℕ) → AreAtSide S R e left → AreAtSide S R (opposite e) right → IsSidedBy sided n left right) (darts_of_path (slice_index_or arcs n []))
 
--- the sets of a layer of features: of `count` faces, the set of a feature has those with the feature among their holders
+-- the sets of a layer of features: of `count` faces, the set of a feature has those with the feature among their
+-- holders
 pub record AreFacesHeld (count : ℕ) (holders : List (List ℕ)) (layer : List ℕ) (sets : List (List ℕ)) : Type 0 where
   pub each : length sets ≡ length layer
   pub held : (i number : ℕ) (set : List ℕ) → slice_get layer i ≡ Some number → slice_get sets i ≡ Some set → (f : ℕ) → f < count → Contains set f ↔ Contains (list_at holders f) number
@@ -70,8 +72,8 @@ abbrev pub ArcsBetweenSets : Type 0
 ArcsBetweenSets = (S : List Segment) (arcs : List Path) (faces : FaceTable) (label : Place → ℕ) → AreLabelled S arcs faces label → (sets : List (List ℕ)) →
     AreBetween S (PointsOfSet S label sets) arcs (sided_among faces sets (length arcs))
 
--- and for features of a snapped drawing they are the arcs for which the lists of the features that have the left and the right side differ, and
--- the inner ones those for which, besides, neither list is empty
+-- and for features of a snapped drawing they are the arcs for which the lists of the features that have the left and
+-- the right side differ, and the inner ones those for which, besides, neither list is empty
 abbrev pub ArcsBetweenFeatures : Type 0
 ArcsBetweenFeatures = (d : Drawing) (arcs : List Path) (faces : FaceTable) (labels : HolderTable) → AreLaid d arcs faces labels → (layer : List ℕ) (sets : List (List ℕ)) → AreFacesHeld faces.count labels.holders layer sets →
     AreBetween (links_of (snapped d)) (PointsOfFeature (snapped d).polygons layer) arcs (sided_among faces sets (length arcs))

@@ -69,8 +69,9 @@ goes_outside test s = not (test (link_between s))
 abbrev pub steps_of_run : List Path → List SignedArc → List Segment
 steps_of_run arcs run = steps (joined_points arcs run)
 
--- Signed arcs along a path of which these are the steps, cut into what is inside a set and what isn't: the runs of arcs, joined, have for their
--- steps the maximal runs of steps along links that are inside the region, and of steps along links that are not.
+-- Signed arcs along a path of which these are the steps, cut into what is inside a set and what isn't: the runs of
+-- arcs, joined, have for their steps the maximal runs of steps along links that are inside the region, and of steps
+-- along links that are not.
 pub record AreCutInto (S : List Segment) (R : Points) (arcs : List Path) (faces : FaceTable) (set : List ℕ) (named : List SignedArc) (along : List Segment) : Type 0 where
   pub clipped : (test : Segment → Bool) → TestsInside S R test → map (steps_of_run arcs) (runs_where (is_inside faces set) named) ≡ runs_where (goes_inside test) along
   pub erased : (test : Segment → Bool) → TestsInside S R test → map (steps_of_run arcs) (runs_where (is_outside faces set) named) ≡ runs_where (goes_outside test) along
@@ -82,7 +83,8 @@ abbrev pub DrawingsAreLabelled : Type 0
 DrawingsAreLabelled = (d : Drawing) (arcs : List Path) → AreArcsOf (snapped d) arcs → (faces : FaceTable) → IsBuiltOf arcs faces → (label : Place → ℕ) → IsFaceOfPlace arcs faces label →
     AreLabelled (links_of (snapped d)) arcs faces label
 
--- the left side of each link of a signed arc is in the points of a set exactly if the set has the face left of the arc, and so is its right side
+-- the left side of each link of a signed arc is in the points of a set exactly if the set has the face left of the arc,
+-- and so is its right side
 abbrev pub SidesOfArcs : Type 0
 SidesOfArcs = (S : List Segment) (arcs : List Path) (faces : FaceTable) (label : Place → ℕ) → AreLabelled S arcs faces label → (set : List ℕ) → (a : SignedArc) → a.arc < length arcs →
     All (λ (e : Dart). (LeftSideIn S (PointsOf S label set) (directed_as a e) ↔ Contains set (left_of faces a))
@@ -93,13 +95,14 @@ abbrev pub ArcsAreInside : Type 0
 ArcsAreInside = (S : List Segment) (arcs : List Path) (faces : FaceTable) (label : Place → ℕ) → AreLabelled S arcs faces label → (set : List ℕ) → (a : SignedArc) → a.arc < length arcs →
     All (λ (l : Segment). (is_inside faces set a ≡ true) ↔ IsLinkInside S (PointsOf S label set) l) (links_of_arc arcs a.arc)
 
--- and each link of it is on the boundary of these points exactly if the set has just one of the two faces beside the arc
+-- and each link of it is on the boundary of these points exactly if the set has just one of the two faces beside the
+-- arc
 abbrev pub BoundaryOfArcs : Type 0
 BoundaryOfArcs = (S : List Segment) (arcs : List Path) (faces : FaceTable) (label : Place → ℕ) → AreLabelled S arcs faces label → (set : List ℕ) → (a : SignedArc) → a.arc < length arcs →
     All (λ (l : Segment). IsBoundaryLink S (PointsOf S label set) l ↔ HasJustOne set (left_of faces a) (right_of faces a)) (links_of_arc arcs a.arc)
 
--- a signed arc is on the boundary of a set, as it is traced, exactly if of each of its links, directed as the arc, the left side is in the points
--- of the set and the right side is not
+-- a signed arc is on the boundary of a set, as it is traced, exactly if of each of its links, directed as the arc, the
+-- left side is in the points of the set and the right side is not
 abbrev pub BoundaryIsDirected : Type 0
 BoundaryIsDirected = (S : List Segment) (arcs : List Path) (faces : FaceTable) (label : Place → ℕ) → AreLabelled S arcs faces label → (set : List ℕ) → (a : SignedArc) → a.arc < length arcs →
     All (λ (e : Dart). IsOnBoundary faces set a ↔ (LeftSideIn S (PointsOf S label set) (directed_as a e) × (LeftSideIn S (PointsOf S label set) (opposite (directed_as a e)) → ⊥))) (darts_of_path (slice_index_or arcs a.arc []))
@@ -115,8 +118,8 @@ SidesAreWhole = (S : List Segment) (arcs : List Path) (faces : FaceTable) (label
 abbrev pub InsideIsTested : Type 0
 InsideIsTested = (S : List Segment) (arcs : List Path) (faces : FaceTable) (label : Place → ℕ) → AreLabelled S arcs faces label → (set : List ℕ) → (test : Segment → Bool) × TestsInside S (PointsOf S label set) test
 
--- The arcs of any path of a snapped drawing that is read from vertex `first` on, cut by a set of faces, are its maximal runs of steps along links
--- that are inside the points of the set, and of steps along links that are not.
+-- The arcs of any path of a snapped drawing that is read from vertex `first` on, cut by a set of faces, are its maximal
+-- runs of steps along links that are inside the points of the set, and of steps along links that are not.
 abbrev pub PathsAreCut : Type 0
 PathsAreCut = (d : Drawing) (arcs : List Path) → AreArcsOf (snapped d) arcs → (faces : FaceTable) → IsBuiltOf arcs faces → (label : Place → ℕ) → IsFaceOfPlace arcs faces label → (set : List ℕ) →
     (path : Path) (named : List SignedArc) → All (λ a. a.arc < length arcs) named → (along : RunsFrom (snapped d) arcs path named) →
@@ -135,8 +138,8 @@ pub record AreArcsOfLines (d : Drawing) (arcs : List Path) (lines : List Path) (
   pub there : All (All (λ a. a.arc < length arcs)) named
   pub along : (k : ℕ) → k < length lines → ArePathArcs d arcs (slice_index_or lines k []) (slice_index_or named k [])
 
--- arcs of lines, cut by a set: the runs of arcs, joined, have for their steps the maximal runs of steps of the lines, line by line, along links that
--- pass the test, and along links that don't
+-- arcs of lines, cut by a set: the runs of arcs, joined, have for their steps the maximal runs of steps of the lines,
+-- line by line, along links that pass the test, and along links that don't
 pub record AreCutBy (test : Segment → Bool) (arcs : List Path) (faces : FaceTable) (set : List ℕ) (lines : List Path) (named : List (List SignedArc)) : Type 0 where
   pub clipped : map (steps_of_run arcs) (flat_map (runs_where (is_inside faces set)) named) ≡ flat_map (λ (line : Path). runs_where (goes_inside test) (steps line)) lines
   pub erased : map (steps_of_run arcs) (flat_map (runs_where (is_outside faces set)) named) ≡ flat_map (λ (line : Path). runs_where (goes_outside test) (steps line)) lines

@@ -46,8 +46,8 @@ LinesAreLinked = (d : Drawing) (arcs : List Path) → AreArcsOf (snapped d) arcs
 abbrev pub RunsAreLinked : Type 0
 RunsAreLinked = (arcs : List Path) (test : SignedArc → Bool) (named : List SignedArc) → AreLinked arcs named → All (AreLinked arcs) (runs_where test named)
 
--- of paths whose arcs follow each other, the arcs that they go along are those that dissolved lines are made of: each once, in its direction, in
--- order of number
+-- of paths whose arcs follow each other, the arcs that they go along are those that dissolved lines are made of: each
+-- once, in its direction, in order of number
 abbrev pub LinesAreDissolved : Type 0
 LinesAreDissolved = (d : Drawing) (arcs : List Path) → AreArcsOf (snapped d) arcs → (paths : List (List SignedArc)) → All (AreThere arcs) paths → All (AreLinked arcs) paths → (P : Plane) → P.arcs ≡ arcs →
     (arcs_used P (points_along arcs paths) ≡ arcs_along paths) × (dissolved_paths P (points_along arcs paths) ≡ points_along arcs (map along_one (arcs_along paths)))

@@ -39,8 +39,8 @@ pub record IsToldOf (d : Drawing) (arcs : List Path) (label : Place → ℕ) (A 
 
 -- ---- laws
 
--- Paths whose arcs follow each other, cut by a set of faces, are as points what the region of the set leaves of them: their maximal runs of steps
--- along links that are inside it, and of steps along links that are not.
+-- Paths whose arcs follow each other, cut by a set of faces, are as points what the region of the set leaves of them:
+-- their maximal runs of steps along links that are inside it, and of steps along links that are not.
 abbrev pub PathsCutByRegions : Type 0
 PathsCutByRegions = (d : Drawing) (arcs : List Path) (faces : FaceTable) (label : Place → ℕ) → AreFacesOf d arcs faces label → (A : Answers) (set : List ℕ) (r : Region) → IsToldOf d arcs label A set r →
     (paths : List (List SignedArc)) → All (AreThere arcs) paths → All (AreLinked arcs) paths →
@@ -64,7 +64,8 @@ SetsAreHolders = (d : Drawing) (arcs : List Path) (faces : FaceTable) (label : P
     ((i : ℕ) → i < length sets → IsToldOf d arcs label A (slice_index_or sets i []) (slice_index_or regions i (any_of []))) → (n : ℕ) → n < length arcs →
     (left_sets faces sets n ≡ holders_left A regions (slice_index_or arcs n [])) × (right_sets faces sets n ≡ holders_right A regions (slice_index_or arcs n []))
 
--- arcs between sets, as points and with the least set at each side, are those between regions; and so are the inner ones
+-- arcs between sets, as points and with the least set at each side, are those between regions; and so are the inner
+-- ones
 pub record AreBordersOf (P : Plane) (A : Answers) (regions : List Region) (arcs : List Path) (sided : List SidedArc) : Type 0 where
   pub points : map (λ (s : SidedArc). slice_index_or arcs s.arc []) sided ≡ map (λ (a : model.SidedArc). a.points) (outer_and_inner P A regions)
   pub left : map (λ (s : SidedArc). s.left) sided ≡ map (λ (a : model.SidedArc). slice_get a.left 0) (outer_and_inner P A regions)

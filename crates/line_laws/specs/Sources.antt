@@ -34,7 +34,8 @@ HasFacesOfBox count labels number set = (f : ℕ) → f < count → Contains set
 
 -- ---- laws
 
--- the sides of links that belong to the points of such a set are those that belong to the points that some feature of the layer holds
+-- the sides of links that belong to the points of such a set are those that belong to the points that some feature of
+-- the layer holds
 abbrev pub SidesOfLayers : Type 0
 SidesOfLayers = (d : Drawing) (arcs : List Path) (faces : FaceTable) (labels : HolderTable) → AreLaid d arcs faces labels → (label : Place → ℕ) → IsFaceOfPlace arcs faces label →
     (layer set : List ℕ) → HasFacesOfLayer faces.count labels layer set → (e : Dart) → Contains (links_of (snapped d)) e.link →
@@ -46,8 +47,8 @@ SidesOfBoxes = (d : Drawing) (arcs : List Path) (faces : FaceTable) (labels : Ho
     (number : ℕ) (set : List ℕ) → HasFacesOfBox faces.count labels number set → (e : Dart) → Contains (links_of (snapped d)) e.link →
     LeftSideIn (links_of (snapped d)) (PointsOf (links_of (snapped d)) label set) e ↔ LeftSideIn (links_of (snapped d)) (PointsOfBox (snapped d).boxes number) e
 
--- so line features cut by the faces of a layer are their maximal runs of steps along links that are inside the layer, and of steps along links
--- that are not
+-- so line features cut by the faces of a layer are their maximal runs of steps along links that are inside the layer,
+-- and of steps along links that are not
 abbrev pub LinesCutByLayers : Type 0
 LinesCutByLayers = (d : Drawing) (arcs : List Path) (faces : FaceTable) (labels : HolderTable) → AreLaid d arcs faces labels → (layer set : List ℕ) → HasFacesOfLayer faces.count labels layer set →
     (lines : List Path) (named : List (List SignedArc)) → AreArcsOfLines (snapped d) arcs lines named →
@@ -73,7 +74,8 @@ PointsAreOfBoxes = (d : Drawing) (arcs : List Path) (faces : FaceTable) (labels 
     (number : ℕ) (set : List ℕ) → HasFacesOfBox faces.count labels number set → (z : RationalPoint) → IsOffLinks (links_of (snapped d)) z →
     PointsOf (links_of (snapped d)) label set z ↔ PointsOfBox (snapped d).boxes number z
 
--- so a vertex of the drawing is inside the faces of a layer, as it is answered for it, exactly if some point that a feature of the layer holds sees it
+-- so a vertex of the drawing is inside the faces of a layer, as it is answered for it, exactly if some point that a
+-- feature of the layer holds sees it
 abbrev pub VerticesInsideLayers : Type 0
 VerticesInsideLayers = (d : Drawing) (arcs : List Path) (faces : FaceTable) (labels : HolderTable) → AreLaid d arcs faces labels → (layer set : List ℕ) → HasFacesOfLayer faces.count labels layer set →
     (p : GridPoint) → Contains (vertices_of (snapped d)) p → (inside : Bool) → IsInsideAt arcs faces p set inside → (inside ≡ true) ↔ IsInside (links_of (snapped d)) (PointsOfLayer (snapped d).polygons layer) p

@@ -2,15 +2,17 @@
 //!
 //! They are laws over what `ArcTable::build`, `Faces::build`, `Labels::of` and the calls of `line_ops` answer.
 //!
-//! - An arc is inside a set of faces exactly if points of these faces see a side of each of its links (`arcs_are_inside`).
-//!   So the paths that a set cuts out are maximal runs of steps along such links (`line_features_are_cut`).
+//! - An arc is inside a set of faces exactly if points of these faces see a side of each of its links
+//!   (`arcs_are_inside`). So the paths that a set cuts out are maximal runs of steps along such links
+//!   (`line_features_are_cut`).
 //! - The arcs between features are those whose links have different features at their two sides
 //!   (`arcs_between_features`).
 //! - A source is a layer of features, or a box: what is inside its faces is what points see that it holds
 //!   (`lines_cut_by_layers`, `lines_cut_by_boxes`, `vertices_inside_layers`, `vertices_inside_boxes`).
-//! - Arcs that follow each other are a path: a line of a drawing, or a run of one (`lines_are_linked`, `runs_are_linked`).
-//!   Cut by the set of any region, such paths are what the model of regions leaves of them (`paths_cut_by_regions`), and so
-//!   it is with vertices (`points_cut_by_regions`) and with the arcs of dissolved lines (`lines_are_dissolved`).
+//! - Arcs that follow each other are a path: a line of a drawing, or a run of one (`lines_are_linked`,
+//!   `runs_are_linked`). Cut by the set of any region, such paths are what the model of regions leaves of them
+//!   (`paths_cut_by_regions`), and so it is with vertices (`points_cut_by_regions`) and with the arcs of dissolved
+//!   lines (`lines_are_dissolved`).
 //! - The sets at the two sides of an arc are those of the regions that have its sides (`sets_are_holders`),
 //!   so arcs between sets are arcs between regions (`borders_are_of_regions`).
 //!
@@ -29,14 +31,14 @@ pub fn drawings_are_labelled()
     ensures { DrawingsAreLabelled }
 {}
 
-/// A side of a link of a signed arc is in the points of a set of faces exactly if the set has the face on that side of the
-/// arc.
+/// A side of a link of a signed arc is in the points of a set of faces exactly if the set has the face on that side of
+/// the arc.
 pub fn sides_of_arcs()
     ensures { SidesOfArcs }
 {}
 
-/// So an arc is inside a set, as it is answered for it, exactly if each of its links is: at least one side of it belongs to
-/// the points of the set.
+/// So an arc is inside a set, as it is answered for it, exactly if each of its links is: at least one side of it
+/// belongs to the points of the set.
 pub fn arcs_are_inside()
     ensures { ArcsAreInside }
 {}
@@ -46,8 +48,8 @@ pub fn boundary_of_arcs()
     ensures { BoundaryOfArcs }
 {}
 
-/// A signed arc is on the boundary of a set, as it is traced, exactly if the left sides of its links are in the points of the
-/// set, and the right sides are not.
+/// A signed arc is on the boundary of a set, as it is traced, exactly if the left sides of its links are in the points
+/// of the set, and the right sides are not.
 pub fn boundary_is_directed()
     ensures { BoundaryIsDirected }
 {}
@@ -62,8 +64,8 @@ pub fn inside_is_tested()
     ensures { InsideIsTested }
 {}
 
-/// The arcs of a path, cut by a set of faces, are its maximal runs of steps along links that are inside the points of the
-/// set, and of steps along links that are not.
+/// The arcs of a path, cut by a set of faces, are its maximal runs of steps along links that are inside the points of
+/// the set, and of steps along links that are not.
 pub fn paths_are_cut()
     ensures { PathsAreCut }
 {}
@@ -78,8 +80,8 @@ pub fn line_features_are_cut()
     ensures { LineFeaturesAreCut }
 {}
 
-/// The sets of a list stand for their points: the sets at the two sides of an arc are those whose points see the two sides
-/// of each of its links.
+/// The sets of a list stand for their points: the sets at the two sides of an arc are those whose points see the two
+/// sides of each of its links.
 pub fn sets_stand_for_points()
     ensures { SetsStandForPoints }
 {}
@@ -89,20 +91,21 @@ pub fn sets_stand_for_features()
     ensures { SetsStandForFeatures }
 {}
 
-/// So the arcs whose two sides are in different sets are those of whose links the lists of the sets that have points at the
-/// left and at the right side differ, each once; and the inner ones those for which, besides, neither list is empty.
+/// So the arcs whose two sides are in different sets are those of whose links the lists of the sets that have points at
+/// the left and at the right side differ, each once; and the inner ones those for which, besides, neither list is
+/// empty.
 pub fn arcs_between_sets()
     ensures { ArcsBetweenSets }
 {}
 
-/// And for features of a snapped drawing they are the arcs of whose links the lists of the features that have the left and
-/// the right side differ, with the lowest feature at each side.
+/// And for features of a snapped drawing they are the arcs of whose links the lists of the features that have the left
+/// and the right side differ, with the lowest feature at each side.
 pub fn arcs_between_features()
     ensures { ArcsBetweenFeatures }
 {}
 
-/// The sides of links that belong to the points of a set of the faces that features of a layer hold are those that belong to
-/// the points that some feature of the layer holds.
+/// The sides of links that belong to the points of a set of the faces that features of a layer hold are those that
+/// belong to the points that some feature of the layer holds.
 pub fn sides_of_layers()
     ensures { SidesOfLayers }
 {}
@@ -112,8 +115,8 @@ pub fn sides_of_boxes()
     ensures { SidesOfBoxes }
 {}
 
-/// So line features cut by a layer are their maximal runs of steps along links of which some feature of the layer has a side,
-/// and of steps along links of which none has.
+/// So line features cut by a layer are their maximal runs of steps along links of which some feature of the layer has a
+/// side, and of steps along links of which none has.
 pub fn lines_cut_by_layers()
     ensures { LinesCutByLayers }
 {}
@@ -123,8 +126,8 @@ pub fn lines_cut_by_boxes()
     ensures { LinesCutByBoxes }
 {}
 
-/// Off the links, the points of a set of the faces that features of a layer hold are those that some feature of the layer
-/// holds.
+/// Off the links, the points of a set of the faces that features of a layer hold are those that some feature of the
+/// layer holds.
 pub fn points_are_of_layers()
     ensures { PointsAreOfLayers }
 {}
@@ -134,8 +137,8 @@ pub fn points_are_of_boxes()
     ensures { PointsAreOfBoxes }
 {}
 
-/// So a vertex of a snapped drawing is inside a layer, as it is answered for it, exactly if some point that a feature of the
-/// layer holds sees it.
+/// So a vertex of a snapped drawing is inside a layer, as it is answered for it, exactly if some point that a feature
+/// of the layer holds sees it.
 pub fn vertices_inside_layers()
     ensures { VerticesInsideLayers }
 {}
@@ -160,8 +163,8 @@ pub fn lines_are_dissolved()
     ensures { LinesAreDissolved }
 {}
 
-/// Paths of arcs that follow each other, cut by the set of any region, are as points the maximal runs of steps along links
-/// that are inside the region, and of steps along links that are not.
+/// Paths of arcs that follow each other, cut by the set of any region, are as points the maximal runs of steps along
+/// links that are inside the region, and of steps along links that are not.
 pub fn paths_cut_by_regions()
     ensures { PathsCutByRegions }
 {}
@@ -181,8 +184,8 @@ pub fn sets_are_holders()
     ensures { SetsAreHolders }
 {}
 
-/// So the arcs whose two sides are in different sets are those between the regions of the sets, in order, as points, with the
-/// least of them at each side; and the inner ones those with regions at both sides.
+/// So the arcs whose two sides are in different sets are those between the regions of the sets, in order, as points,
+/// with the least of them at each side; and the inner ones those with regions at both sides.
 pub fn borders_are_of_regions()
     ensures { BordersAreOfRegions }
 {}

@@ -48,7 +48,7 @@ among_more t sets n =
     ap (filter_map (sided t sets)) (range_more n) ∙ filter_map-append (sided t sets) (range_with_len 0 n) (n ∷ [])
     ∙ ap (λ (arcs : List SidedArc). sided_among t sets n ++ arcs) (one_option (sided t sets n))
 
--- ---- the arcs are among so many
+-- ---- the numbers of the arcs are below their count
 
 put_in : (P : SidedArc → Type 0) (b : Bool) (s : SidedArc) (rest : List SidedArc) → P s → All P rest → All P (cons_option (cond b None (Some s)) rest)
 put_in P true s rest one more = more

@@ -18,8 +18,8 @@ pub record Leaves (arcs : List Path) (p : GridPoint) (a : SignedArc) : Type 0 wh
 abbrev pub IsNode : List Path → GridPoint → Type 0
 IsNode arcs p = (a : SignedArc) × Leaves arcs p a
 
--- At a node, a point is inside a set that has the left of an arc that starts there. At another vertex of the arcs it is inside a set that has a
--- side of the least arc there. On no arc it is inside a set that has the face over it.
+-- At a node, a point is inside a set that has the left of an arc that starts there. At another vertex of the arcs it is
+-- inside a set that has a side of the least arc there. On no arc it is inside a set that has the face over it.
 pub record IsInsideAt (arcs : List Path) (faces : FaceTable) (p : GridPoint) (set : List ℕ) (inside : Bool) : Type 0 where
   pub at_node : IsNode arcs p → (inside ≡ true) ↔ ((a : SignedArc) × Leaves arcs p a × Contains set (left_of faces a))
   pub on_arc : (n : ℕ) → (IsNode arcs p → ⊥) → IsLeastAt arcs p n → inside ≡ is_inside faces set (forward n)

@@ -20,7 +20,7 @@ sided t sets a =
     if same_list nat_eq (left_sets t sets a) (right_sets t sets a) then None
     else Some (record { arc = a; left = slice_get (left_sets t sets a) 0; right = slice_get (right_sets t sets a) 0 })
 
--- those of so many arcs, in order
+-- the sided arcs among the first `count` arcs, in order
 abbrev pub sided_among : FaceTable → List (List ℕ) → ℕ → List SidedArc
 sided_among t sets count = filter_map (sided t sets) (range_with_len 0 count)
 

@@ -1,4 +1,5 @@
--- Small runs of one command: gaps that are filled, fields that are set, rows sorted and told apart, and islands that go.
+-- Small runs of one command: gaps that are filled, fields that are set, rows sorted and told apart, and islands that
+-- go.
 use Rattle.std.proofs.Common.{◌≡◌, refl, ℕ, List, [], ◌∷◌, Ok, codes, true, false}
 use Rattle.grid_base.specs.declared.kinds.Kind.{Kind}
 use Rattle.grid_base.specs.declared.kinds.Kind.TheVariants as kind

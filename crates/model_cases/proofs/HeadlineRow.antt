@@ -1,4 +1,5 @@
--- What the definitions bind of three runs: no words, a missing file, and a table on standard input, printed as comma-separated text.
+-- What the definitions bind of three runs: no words, a missing file, and a table on standard input, printed as
+-- comma-separated text.
 use Rattle.std.proofs.Common.{arith, ◌≡◌, refl, Bool, ℕ, ◌*◌, ◌^◌, ℤ, pos, List, [], ◌∷◌, Some, None, codes, true, false, inl, inr}
 use Rattle.std.specs.Prelude.{Contains, ◌<◌}
 use Rattle.std.specs.Fmt.{digits}

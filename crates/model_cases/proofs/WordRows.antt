@@ -51,7 +51,7 @@ synth_more = refl
 synth_size : reads (codes "synth" ∷ codes "1" ∷ codes "301" ∷ []) ≡ Err (3, why.BadNumber)
 synth_size = refl
 
--- a box, with one place
+-- a box, on a grid without decimal places
 boxed : reads (codes "in.json" ∷ codes "precision=1" ∷ codes "-clip" ∷ codes "bbox=0,0,2,4" ∷ codes "-o" ∷ codes "-" ∷ codes "target=a,b" ∷ []) ≡ Ok (chain (record {
   places = 0;
   so_far = record {
@@ -111,7 +111,7 @@ abbrev faults : Refusals
 faults expression s = None
 faults assignments s = Some (2, Syntax)
 
--- the first command behind an import file, or the first refused word
+-- the first command after an import file, or the first refused word
 abbrev asks : List Text → Result (Option ActionWords) (ℕ × WordWhy)
 asks ws = asked (words_say faults (codes "in.json" ∷ ws))
 

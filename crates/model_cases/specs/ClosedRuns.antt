@@ -1,4 +1,5 @@
--- Closed runs, computed: each closed run of some links is a sum of these, so they alone tell which sides of links are joined.
+-- Closed runs, computed: each closed run of some links is a sum of these, so they alone tell which sides of links are
+-- joined.
 use Rattle.std.specs.Prelude.{ℕ, zero, suc, Bool, true, false, not, List, [], ◌∷◌, map, filter, fold, length}
 use Rattle.std.specs.Bool.{beq}
 use Rattle.std.specs.List.{flat_map}

@@ -1,5 +1,5 @@
-//! The definitions of a run, tried on worked rows: each row is an equation that the kernel computes, in proofs/. The specs
-//! have answers of the plane by counting, which these rows alone use.
+//! The definitions of a run, tried on worked rows: each row is an equation that the kernel computes, in proofs/. The
+//! specs have answers of the plane by counting, which these rows alone use.
 #![tactic(auto)]
 
 ghost use Rattle.std.specs.Prelude.{◌≡◌, [], ℕ};

@@ -22,7 +22,7 @@ pub fn run<F: Files, I: Source, K: Sink, M: Sink>(
     output: &mut K,
     messages: &mut M,
 ) -> Outcome
-    // What the words and the contents tell is what comes about; each fault has a cause; and where they tell Done and
+    // What the words and the contents tell is what comes about; each answer has a cause; and where they tell Done and
     // nothing failed, it is Done, or memory ran out.
     ensures headline { (read : Readings) → AreReadings read → IsRunOf read words.now
         (record {

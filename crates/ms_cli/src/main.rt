@@ -44,7 +44,7 @@ fn main(rt: HostRuntime) -> ExitCode {
     }
 }
 
-// The words behind the program's name.
+// The words after the program's name.
 fn host_words(rt: &HostRuntime) -> io::Result<Words> {
     let mut words = Words::new(rt.alloc());
     for argument in env::args(rt)?.skip(1) {

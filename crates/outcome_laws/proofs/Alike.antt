@@ -9,8 +9,9 @@ use Rattle.plane_model.proofs.PointOrder.{clash, is_before-IsStrictOrder}
 use Rattle.region_model.specs.Region.{Region}
 use Rattle.region_model.specs.Answers.{Answers, AreRight, Plane, boundary}
 use Rattle.region_model.specs.LineCommands.{on_left, on_right}
+use Rattle.outcome_laws.specs.Laws.{IsAlong}
 use Rattle.outcome_laws.proofs.Every.{Every, SameAt, every_from, every_kept, same_kept}
-use Rattle.outcome_laws.proofs.ArcSteps.{IsAlong, along_back}
+use Rattle.outcome_laws.proofs.ArcSteps.{along_back}
 use Rattle.outcome_laws.proofs.Planes.{GoesUp, IsVertex, IsWalked}
 
 -- two answers that tell the same of the plane
@@ -20,6 +21,10 @@ pub record AreAlike (P : Plane) (A B : Answers) : Type 0 where
   pub gaps : A.gaps ≡ B.gaps
   pub left : (r : Region) (s : Segment) → IsAlong P.links s → on_left A r s ≡ on_left B r s
   pub inside : (r : Region) (p : GridPoint) → IsVertex P p → A.inside r p ≡ B.inside r p
+
+-- answers are like themselves
+pub alike_itself : (P : Plane) (A : Answers) → AreAlike P A A
+alike_itself P A = record { boundaries = refl; parts = refl; gaps = refl; left = λ r s a. refl; inside = λ r p c. refl }
 
 -- answers that are true of the same are one
 one_bool : {Q : Type 0} (a b : Bool) → (a ≡ true) ↔ Q → (b ≡ true) ↔ Q → a ≡ b

@@ -5,28 +5,23 @@ use Rattle.std.proofs.lemmas.List.{reverse-append}
 use Rattle.lists.specs.Lists.{first_or, last_of, least_of, list_before, place_of, same_list, tail, turned}
 use Rattle.lists.proofs.Members.{Contains-cases, Contains-head, Contains-later, Contains-nil, filter-Contains, filter_map-Contains}
 use Rattle.plane_model.specs.Points.{GridPoint, Path, Segment, is_before, reversed, same_point}
-use Rattle.plane_model.specs.Drawing.{Drawing, paths_of, steps_of_paths}
+use Rattle.plane_model.specs.Drawing.{Drawing, paths_of, steps, steps_of_paths}
 use Rattle.plane_model.specs.Arcs.{across_from, arc_along, arcs_of, begun_at_least, forward_way, is_node, joined_to, next_vertex, run_from, way_on}
 use Rattle.plane_model.proofs.PointOrder.{clash, same_point_from, same_point_to}
+use Rattle.outcome_laws.specs.Laws.{IsAlong}
 use Rattle.outcome_laws.proofs.Every.{Every, every_map, every_once}
 
 abbrev pub from_to : GridPoint → GridPoint → Segment
 from_to p q = record { start = p; stop = q }
 
 module _ (S : List Segment) where
-  -- a step along a link, either way
-  abbrev pub IsAlong : Segment → Type 0
-  IsAlong s = Contains S s ⊎ Contains S (reversed s)
-
-  pub along_back : (s : Segment) → IsAlong s → IsAlong (reversed s)
+  pub along_back : (s : Segment) → IsAlong S s → IsAlong S (reversed s)
   along_back s (inl c) = inr c
   along_back s (inr c) = inl c
 
-  -- each step of the path goes along a link
+  -- the path goes along links, step by step
   abbrev pub Goes : Path → Type 0
-  Goes [] = Unit {0}
-  Goes (p ∷ []) = Unit {0}
-  Goes (p ∷ q ∷ rest) = IsAlong (from_to p q) × Goes (q ∷ rest)
+  Goes path = Every (IsAlong S) (steps path)
 
   goes_on : (p : GridPoint) (path : Path) → Goes (p ∷ path) → Goes path
   goes_on p [] g = tt
@@ -39,7 +34,7 @@ module _ (S : List Segment) where
   goes_through (x ∷ y ∷ front) p rest g h = (g.0, goes_through (y ∷ front) p rest g.1 h)
 
   -- one step more
-  goes_further : (p : GridPoint) (path : Path) (q : GridPoint) → Goes (p ∷ path) → IsAlong (from_to (last_of p path) q) → Goes (p ∷ path ++ q ∷ [])
+  goes_further : (p : GridPoint) (path : Path) (q : GridPoint) → Goes (p ∷ path) → IsAlong S (from_to (last_of p path) q) → Goes (p ∷ path ++ q ∷ [])
   goes_further p [] q g a = (a, tt)
   goes_further p (r ∷ path) q g a = (g.0, goes_further r path q g.1 a)
 
@@ -60,29 +55,29 @@ module _ (S : List Segment) where
 
   -- ## Ways along links
 
-  across : (q r : GridPoint) (l : Segment) → Contains S l → across_from q l ≡ Some r → IsAlong (from_to q r)
+  across : (q r : GridPoint) (l : Segment) → Contains S l → across_from q l ≡ Some r → IsAlong S (from_to q r)
   across q r l c = go (same_point l.start q) (same_point l.stop q) refl refl
     where
       got : {x : GridPoint} → Some x ≡ Some r → x ≡ r
       got e = ap (λ (o : Option GridPoint). unwrap_or o r) e
 
-      go : (a b : Bool) → same_point l.start q ≡ a → same_point l.stop q ≡ b → (if a then Some l.stop else if b then Some l.start else None) ≡ Some r → IsAlong (from_to q r)
+      go : (a b : Bool) → same_point l.start q ≡ a → same_point l.stop q ≡ b → (if a then Some l.stop else if b then Some l.start else None) ≡ Some r → IsAlong S (from_to q r)
       go true b e f is = inl (subst (Contains S) (λ i. from_to (same_point_from l.start q e i) (got is i)) c)
       go false true e f is = inr (subst (Contains S) (λ i. from_to (got is i) (same_point_from l.stop q f i)) c)
       go false false e f is = absurd (let none : None ≡ Some r = is in cc)
 
-  joined : (q r : GridPoint) → Contains (joined_to S q) r → IsAlong (from_to q r)
+  joined : (q r : GridPoint) → Contains (joined_to S q) r → IsAlong S (from_to q r)
   joined q r c = let (l, there, is) = filter_map-Contains (across_from q) S r c in across q r l there is
 
-  next_along : (p q : GridPoint) → IsAlong (from_to p q) → IsAlong (from_to q (next_vertex S p q))
+  next_along : (p q : GridPoint) → IsAlong S (from_to p q) → IsAlong S (from_to q (next_vertex S p q))
   next_along p q a = go (filter (λ (r : GridPoint). not (same_point r p)) (joined_to S q)) (λ r c. joined q r (filter-Contains (λ (r : GridPoint). not (same_point r p)) (joined_to S q) r c).0)
     where
-      go : (rs : List GridPoint) → ((r : GridPoint) → Contains rs r → IsAlong (from_to q r)) → IsAlong (from_to q (first_or p rs))
+      go : (rs : List GridPoint) → ((r : GridPoint) → Contains rs r → IsAlong S (from_to q r)) → IsAlong S (from_to q (first_or p rs))
       go [] h = along_back (from_to p q) a
       go (r ∷ rs) h = h r (Contains-head r rs)
 
   module _ (node : GridPoint → Bool) where
-    way_goes : (n : ℕ) (start p q : GridPoint) → IsAlong (from_to p q) → Goes (p ∷ way_on node S n start p q)
+    way_goes : (n : ℕ) (start p q : GridPoint) → IsAlong S (from_to p q) → Goes (p ∷ way_on node S n start p q)
     way_goes zero start p q a = (a, tt)
     way_goes (suc n) start p q a = (a, go (node q || same_point q start) (way_goes n start q (next_vertex S p q) (next_along p q a)))
       where
@@ -94,7 +89,7 @@ module _ (S : List Segment) where
     way_begins zero start p q = refl
     way_begins (suc n) start p q = refl
 
-    run_goes : (s : Segment) → IsAlong s → Goes (run_from node S s.start s.stop)
+    run_goes : (s : Segment) → IsAlong S s → Goes (run_from node S s.start s.stop)
     run_goes s a = way_goes (length S) s.start s.start s.stop a
 
     -- ## Closed ways, begun elsewhere
@@ -106,7 +101,7 @@ module _ (S : List Segment) where
 
     round_from : (p : GridPoint) (rest : Path) → Goes (p ∷ rest) → last_of p rest ≡ p → GoesRound rest
     round_from p [] g e = tt
-    round_from p (q ∷ rest) g e = goes_further q rest q g.1 (subst (λ (r : GridPoint). IsAlong (from_to r q)) (sym e) g.0)
+    round_from p (q ∷ rest) g e = goes_further q rest q g.1 (subst (λ (r : GridPoint). IsAlong S (from_to r q)) (sym e) g.0)
 
     last_behind : (p : GridPoint) (path : Path) (q : GridPoint) → last_of p (path ++ q ∷ []) ≡ q
     last_behind p [] q = refl
@@ -114,7 +109,7 @@ module _ (S : List Segment) where
 
     turned_once : (p : GridPoint) (rest : Path) → GoesRound (p ∷ rest) → GoesRound (rest ++ p ∷ [])
     turned_once p [] g = g
-    turned_once p (q ∷ rest) g = goes_further q (rest ++ p ∷ []) q g.1 (subst (λ (r : GridPoint). IsAlong (from_to r q)) (sym (last_behind q rest p)) g.0)
+    turned_once p (q ∷ rest) g = goes_further q (rest ++ p ∷ []) q g.1 (subst (λ (r : GridPoint). IsAlong S (from_to r q)) (sym (last_behind q rest p)) g.0)
 
     turned_round : (n : ℕ) (path : Path) → GoesRound path → GoesRound (turned n path)
     turned_round n [] g = tt
@@ -162,7 +157,7 @@ module _ (S : List Segment) where
 
     -- ## Arcs
 
-    arc_goes : (s : Segment) → IsAlong s → Goes (arc_along node S s)
+    arc_goes : (s : Segment) → IsAlong S s → Goes (arc_along node S s)
     arc_goes s a = go (same_point (last_of s.start (way_on node S (length S) s.start s.start s.stop)) s.start && not (node s.start)) refl
       where
         on : Path

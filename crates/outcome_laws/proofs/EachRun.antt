@@ -1,5 +1,5 @@
--- Words and contents tell some outcome: refused words, or what stops sources, or a drawing that is too dense, or the run by right answers, which
--- exist, whose outputs have texts, since each region has polygons that fit it.
+-- Words and contents tell some outcome: refused words, or what stops sources, or a drawing that is too dense, or the
+-- run by right answers, which exist, whose outputs have texts, since each region has polygons that fit it.
 use Rattle.std.proofs.Common.{◌≡◌, refl, sym, subst, ℕ, Bool, true, false, List, [], ◌∷◌, None, Result, Ok, Err}
 use Rattle.std.specs.Prelude.{MatchBool, if◌then◌else◌, nat_lt}
 use Rattle.std.specs.List.{AllZip}

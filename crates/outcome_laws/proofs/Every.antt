@@ -1,7 +1,8 @@
 -- What holds of every element of a list, and functions of lists that agree on every element.
-use Rattle.std.proofs.Common.{◌≡◌, refl, ℕ, zero, suc, ◌+◌, Bool, true, false, cond, not, ◌&&◌, ◌||◌, List, [], ◌∷◌, ◌++◌, map, filter, Option, Some, None, Contains}
+use Rattle.std.proofs.Common.{◌≡◌, refl, ℕ, zero, suc, ◌+◌, Bool, true, false, cond, not, ◌&&◌, ◌||◌, List, [], ◌∷◌, ◌++◌, map, filter, get_or, All, Option, Some, None, Contains}
 use Rattle.std.specs.Prelude.{slice_index_or, if◌then◌else◌}
-use Rattle.std.specs.List.{cons_option, filter_map, flat_map, list_all, list_any}
+use Rattle.std.specs.List.{AllZip, cons_option, filter_map, flat_map, list_all, list_any}
+use Rattle.std.proofs.lemmas.List.Elements.{All-cons, All-nil, Contains-get_or}
 use Rattle.lists.specs.Lists.{each_once, joined_up, numbers_from}
 use Rattle.lists.proofs.Members.{Contains-head, Contains-later}
 
@@ -64,6 +65,23 @@ module _ {A B : Type 0} where
       go : (o : Option B) → f x ≡ o → Every Q (filter_map f xs) → Every Q (cons_option o (filter_map f xs))
       go None e g = g
       go (Some y) e g = (k x y h.0 e, g)
+
+-- ## As std says it
+
+module _ {A : Type 0} where
+  pub all_from : (P : A → Type 0) (xs : List A) → ((x : A) → Contains xs x → P x) → All P xs
+  all_from P xs h k d l = h (get_or xs k d) (Contains-get_or xs k d l)
+
+  pub all_by : (P Q : A → Type 0) → ((x : A) → P x → Q x) → (xs : List A) → Every P xs → All Q xs
+  all_by P Q f [] h = All-nil Q
+  all_by P Q f (x ∷ xs) h = All-cons Q x xs (f x h.0) (all_by P Q f xs h.1)
+
+-- of the second list, by what each pair has
+pub all_zip : {A B : Type 0} (P : A → Type 0) (R : A → B → Type 0) (Q : B → Type 0) → ((x : A) (y : B) → P x → R x y → Q y) → (xs : List A) (ys : List B) → Every P xs → AllZip R xs ys → All Q ys
+all_zip P R Q f [] [] h g = All-nil Q
+all_zip P R Q f [] (y ∷ ys) h g = absurd g
+all_zip P R Q f (x ∷ xs) [] h g = absurd g
+all_zip P R Q f (x ∷ xs) (y ∷ ys) h g = All-cons Q y ys (f x y h.0 g.0) (all_zip P R Q f xs ys h.1 g.1)
 
 -- ## Functions that agree
 

@@ -1,4 +1,5 @@
--- The faces of the plane can be counted: of the points that see links from their left, and one left of all links, one is kept for each label.
+-- The faces of the plane can be counted: of the points that see links from their left, and one left of all links, one
+-- is kept for each label.
 use Rattle.std.proofs.Common.{◌≡◌, inl, inr, refl, sym, ap, subst, ◌∙◌, arith, ℕ, Bool, true, false, not, List, [], ◌∷◌, AllPairs, Contains, filter, length, get_or}
 use Rattle.std.specs.Prelude.{nat_eq}
 use Rattle.std.proofs.lemmas.Bool.{eq-eqb, eqb-true}

@@ -17,5 +17,7 @@ pub mod Trees
 pub mod WordTrees
 pub mod StitchedRings
 pub mod ClosedRings
+pub mod BegunRings
+pub mod PrintedSteps
 pub mod FaceCounts
 pub mod EachRun

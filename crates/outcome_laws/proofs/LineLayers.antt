@@ -1,4 +1,5 @@
--- Commands on layers of lines and points, and those that put out lines or join by place, put out the same by answers that are alike.
+-- Commands on layers of lines and points, and those that put out lines or join by place, put out the same by answers
+-- that are alike.
 use Rattle.std.proofs.Common.{◌≡◌, refl, ℕ, Bool, true, false, List, [], ◌∷◌, map, filter, codes, Option, Some, None, Ok, Err}
 use Rattle.std.specs.Prelude.{◌&&◌, not, if◌then◌else◌}
 use Rattle.std.specs.List.{flat_map}

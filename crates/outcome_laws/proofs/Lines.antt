@@ -8,8 +8,9 @@ use Rattle.region_model.specs.Region.{Region}
 use Rattle.region_model.specs.Answers.{Answers, Plane}
 use Rattle.region_model.specs.LineCommands.{SidedArc, arc_points, arcs_used, clipped_path, clipped_points, differs, dissolved_paths, erased_path, erased_points, first_passes, holders_left, holders_right, inner_lines, is_inner, is_inside, on_left, on_right, outer_and_inner, put_step, runs_where, side_of_first, sided_arcs}
 use Rattle.region_model.specs.PlaceCommands.{around_points, has_inside, points_inside}
+use Rattle.outcome_laws.specs.Laws.{IsAlong}
 use Rattle.outcome_laws.proofs.Every.{Every, SameAt, every_all, every_by, every_filter, every_map, every_place, same_any, same_filter, same_map, same_numbers}
-use Rattle.outcome_laws.proofs.ArcSteps.{Goes, IsAlong, from_to}
+use Rattle.outcome_laws.proofs.ArcSteps.{Goes, from_to}
 use Rattle.outcome_laws.proofs.Planes.{IsVertex, IsWalked}
 use Rattle.outcome_laws.proofs.Alike.{AreAlike, right_alike}
 

@@ -1,18 +1,19 @@
 -- The plane of a drawing: its links go from the lesser end to the greater, and its lines and arcs go along them.
-use Rattle.std.proofs.Common.{◌≡◌, ◌⊎◌, inl, inr, refl, sym, subst, ◌++◌, Bool, true, false, List, [], ◌∷◌, map, Contains}
+use Rattle.std.proofs.Common.{◌≡◌, ◌⊎◌, inl, inr, refl, sym, subst, ◌++◌, Bool, true, false, List, map, Contains}
 use Rattle.std.specs.Prelude.{if◌then◌else◌}
 use Rattle.std.specs.List.{flat_map}
 use Rattle.std.proofs.lemmas.List.Elements.{Contains-append_left, Contains-append_right}
 use Rattle.lists.specs.Lists.{joined_up}
 use Rattle.lists.proofs.Ascending.{Contains-ascending, ascending-Contains}
-use Rattle.lists.proofs.Members.{Contains-flat_map, Contains-head, Contains-joined_up, Contains-later, Contains-map, map-Contains}
+use Rattle.lists.proofs.Members.{Contains-flat_map, Contains-joined_up, Contains-map, map-Contains}
 use Rattle.plane_model.specs.Points.{GridPoint, Path, Segment, is_before, link_before, link_between, reversed}
 use Rattle.plane_model.specs.Drawing.{Drawing, paths_of, rings_of, steps, steps_of_paths, vertices_of}
 use Rattle.plane_model.specs.Snapped.{links_of, snapped}
 use Rattle.plane_model.proofs.PointOrder.{is_before-IsStrictOrder, link_before-IsStrictOrder}
 use Rattle.region_model.specs.Answers.{Plane, plane_of}
+use Rattle.outcome_laws.specs.Laws.{IsAlong}
 use Rattle.outcome_laws.proofs.Every.{Every, every_from}
-use Rattle.outcome_laws.proofs.ArcSteps.{Goes, IsAlong, arcs_go, from_to}
+use Rattle.outcome_laws.proofs.ArcSteps.{Goes, arcs_go, from_to}
 
 -- a link goes from its lesser end to its greater, or stands still
 abbrev pub GoesUp : Segment → Type 0
@@ -54,13 +55,8 @@ module _ (s : Drawing) where
       go false d = inr d
 
   -- each step of a path of the drawing is one of its steps
-  goes_if : (path : Path) → ((t : Segment) → Contains (steps path) t → IsAlong S t) → Goes S path
-  goes_if [] h = tt
-  goes_if (p ∷ []) h = tt
-  goes_if (p ∷ q ∷ rest) h = (h (from_to p q) (Contains-head (from_to p q) (steps (q ∷ rest))), goes_if (q ∷ rest) (λ t c. h t (Contains-later (from_to p q) (steps (q ∷ rest)) t c)))
-
   path_goes : (path : Path) → Contains (paths_of s) path → Goes S path
-  path_goes path c = goes_if path (λ t d. step_along t (Contains-flat_map steps (paths_of s) path t c d))
+  path_goes path c = every_from (IsAlong S) (steps path) (λ t d. step_along t (Contains-flat_map steps (paths_of s) path t c d))
 
   line_there : (line : List Path) (path : Path) → Contains s.lines line → Contains line path → Contains (paths_of s) path
   line_there line path c d = Contains-append_left (flat_map rings_of s.polygons ++ joined_up s.lines) s.boxes path (Contains-append_right (flat_map rings_of s.polygons) (joined_up s.lines) path (Contains-joined_up s.lines line path c d))

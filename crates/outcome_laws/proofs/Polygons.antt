@@ -12,8 +12,8 @@ use Rattle.region_model.specs.Answers.{Answers, Plane, area_of, boundary, is_emp
 use Rattle.region_model.specs.LineCommands.{on_left, on_right}
 use Rattle.region_model.specs.PolygonCommands.{all_regions, ascending_lists, borders, cleaned_and_filled, exactly, exploded, is_detached, mosaic, ranks_before, regions_at, stands_alone, without_islands}
 use Rattle.region_model.specs.UnionCommand.{Choice, choices, united, union_region}
+use Rattle.outcome_laws.specs.Laws.{IsAlong}
 use Rattle.outcome_laws.proofs.Every.{SameAt, every_by, same_all, same_any}
-use Rattle.outcome_laws.proofs.ArcSteps.{IsAlong}
 use Rattle.outcome_laws.proofs.Alike.{AreAlike, boundary_along, right_alike}
 
 -- ## Commands by what they ask

@@ -1,4 +1,5 @@
--- The step of a command is the same by answers that are alike, and leaves the layers of a state on the plane.
+-- The step of a command is the same by answers that are alike, and leaves the layers of a state, and those that are
+-- written, on the plane.
 use Rattle.std.proofs.Common.{◌≡◌, refl, ap, subst, ℕ, ◌+◌, ◌-◌, Bool, true, false, List, [], ◌∷◌, ◌++◌, map, length, Option, Some, None, Result, Ok, Err}
 use Rattle.std.specs.Prelude.{◌||◌, if◌then◌else◌, nat_eq, nat_lt, unwrap_or}
 use Rattle.std.specs.List.{enumerate_from}
@@ -22,7 +23,7 @@ use Rattle.chain_model.specs.Features as features
 use Rattle.chain_model.specs.Features.{Outputs, in_layer}
 use Rattle.chain_model.specs.Outcome.{RefuseWhy, too_many_layers, wrong_kind}
 use Rattle.chain_model.specs.State.{State, StateLayer}
-use Rattle.chain_model.specs.Steps.{Stepped, by_action, changed, each_layer, outputs_of, place_source, polygons_or_points, refused_beside, refused_kinds, refused_source, refused_write, source_region, step, titled}
+use Rattle.chain_model.specs.Steps.{Stepped, Written, by_action, changed, each_layer, outputs_of, place_source, polygons_or_points, refused_beside, refused_kinds, refused_source, refused_write, source_region, step, titled}
 use Rattle.chain_model.specs.Targets.{Marked, SourceLayers, layers_at, new, old, one_layer, origin_layers, placed, replaced, selected, state_of, with_outputs, layer_limit}
 use Rattle.outcome_laws.proofs.Every.{Every, every_append, every_filter, every_joined, every_kept, every_map, every_place}
 use Rattle.outcome_laws.proofs.Planes.{IsWalked}
@@ -49,8 +50,12 @@ abbrev pub StateOrRefusal : Plane → Result State RefuseWhy → Type 0
 StateOrRefusal P (Ok s) = StateIsOn P s
 StateOrRefusal P (Err why) = Unit {0}
 
+abbrev pub WrittenIsOn : Plane → Option Written → Type 0
+WrittenIsOn P (Some w) = LayersAreOn P w.layers
+WrittenIsOn P None = Unit {0}
+
 abbrev pub SteppedIsOn : Plane → Result Stepped RefuseWhy → Type 0
-SteppedIsOn P (Ok next) = StateIsOn P next.state
+SteppedIsOn P (Ok next) = StateIsOn P next.state × WrittenIsOn P next.written
 SteppedIsOn P (Err why) = Unit {0}
 
 -- ## Layers that a command works on or takes from elsewhere
@@ -206,7 +211,7 @@ module _ (P : Plane) (A B : Answers) (walked : IsWalked P) (alike : AreAlike P A
     stepped_by r = on_ok r (λ (t : State). Ok (record { state = t; written = None }))
 
     stepped_on : (r : Result State RefuseWhy) → StateOrRefusal P r → SteppedIsOn P (stepped_by r)
-    stepped_on (Ok t) h = h
+    stepped_on (Ok t) h = (h, tt)
     stepped_on (Err why) h = tt
 
     action_same : (a : Action) → by_action P A sources s c ns a ≡ by_action P B sources s c ns a
@@ -220,7 +225,7 @@ module _ (P : Plane) (A B : Answers) (walked : IsWalked P) (alike : AreAlike P A
     action_on (action.Write to standard form) = go (refused_write form (layers_at s ns))
       where
         go : (why : Option RefuseWhy) → SteppedIsOn P (unless why (Ok (record { state = s; written = Some (record { to = to; standard = standard; form = form; layers = layers_at s ns }) })))
-        go None = on
+        go None = (on, targets_on P s ns on)
         go (Some why) = tt
 
   pub step_same : (s : State) → StateIsOn P s → (c : Command) → step P A sources s c ≡ step P B sources s c

@@ -1,5 +1,5 @@
--- Each tree is that of an expression, and each list of names and trees that of assignments; so texts that are not refused have expressions or
--- assignments.
+-- Each tree is that of an expression, and each list of names and trees that of assignments; so texts that are not
+-- refused have expressions or assignments.
 use Rattle.std.proofs.Common.{◌≡◌, ◌⊎◌, inl, inr, refl, ap, sym, subst, ℕ, List, [], ◌∷◌, Option, None, Box, Global}
 use Rattle.std.specs.Prelude.{MatchOption}
 use denote.RawPtr.{null_ptr}

@@ -31,8 +31,8 @@ use Rattle.ring_trace.specs.Ways.{IsSimpleRing}
 abbrev pub number_of : List (List ℕ) → ℕ → ℕ
 number_of parts k = place_of (λ (part : List ℕ). has nat_eq part k) parts
 
--- The first ring of a polygon is its exterior, which turns left at its least vertex, the others are holes, which turn right, and the holes stand in
--- the order of the arcs that they begin with.
+-- The first ring of a polygon is its exterior, which turns left at its least vertex, the others are holes, which turn
+-- right, and the holes stand in the order of the arcs that they begin with.
 pub record HasExteriorFirst (arcs : List Path) (polygon : List (List SignedArc)) : Type 0 where
   pub exterior : List SignedArc
   pub holes : List (List SignedArc)
@@ -80,14 +80,15 @@ abbrev pub PartsAreClasses : Type 0
 PartsAreClasses = (S : List Segment) → IsArrangement S → (arcs : List Path) → All (λ arc. 1 < length arc) arcs → GoAlong S arcs → (faces : FaceTable) → IsBuiltOf arcs faces →
     (label : Place → ℕ) → IsFaceOfPlace arcs faces label → (set : List ℕ) → (parts : List (List ℕ)) → AreParts faces set parts → IsPartLabelling S label (has nat_eq set) (number_of parts)
 
--- a closed run of signed arcs of which no two start at one vertex, and no two are of one arc, goes round a path that passes each of its points once
+-- a closed run of signed arcs of which no two start at one vertex, and no two are of one arc, goes round a path that
+-- passes each of its points once
 abbrev pub RingsGoRound : Type 0
 RingsGoRound = (S : List Segment) → IsArrangement S → (arcs : List Path) → All (λ arc. 1 < length arc) arcs → GoAlong S arcs → AreFreeInside S arcs → (ring : List SignedArc) → 0 < length ring →
     All (λ a. a.arc < length arcs) ring → IsSimpleRing (start_of arcs) (stop_of arcs) ring → AllPairs (λ a b. a.arc ≢ b.arc) ring → IsRing (round_of arcs ring)
 
--- The rings of a part: closed runs of signed arcs, no two of a run from one vertex, which together use each signed arc of the boundary of the part
--- once and no other. They are an exterior, which turns left at its least vertex, and holes, which turn right, and a point is in the part just where
--- it is inside the exterior and in no hole.
+-- The rings of a part: closed runs of signed arcs, no two of a run from one vertex, which together use each signed arc
+-- of the boundary of the part once and no other. They are an exterior, which turns left at its least vertex, and holes,
+-- which turn right, and a point is in the part just where it is inside the exterior and in no hole.
 abbrev pub PolygonsHaveExteriors : Type 0
 PolygonsHaveExteriors = (S : List Segment) → IsArrangement S → IsDistinct S → (arcs : List Path) → All (λ arc. 1 < length arc) arcs → GoAlong S arcs → AreFreeInside S arcs → (faces : FaceTable) → IsBuiltOf arcs faces →
     (label : Place → ℕ) → IsFaceOfPlace arcs faces label → (set : List ℕ) → IsSetOf faces set → (parts : List (List ℕ)) → AreParts faces set parts → (n : ℕ) → n < length parts → (polygon : List (List SignedArc)) →
@@ -95,7 +96,8 @@ PolygonsHaveExteriors = (S : List Segment) → IsArrangement S → IsDistinct S 
     ((a : SignedArc) → times_round a polygon ≡ once_if (is_of_boundary faces.places (length arcs) (slice_index_or parts n []) a)) → (a : SignedArc) → IsOnBoundary faces (slice_index_or parts n []) a →
     IsPolygon S (λ place. has nat_eq (slice_index_or parts n []) (label place)) (map (round_of arcs) polygon)
 
--- Polygons of a set, as its trace answers them: for each part with a boundary, in order, one exterior and then its holes, which together hold the part.
+-- Polygons of a set, as its trace answers them: for each part with a boundary, in order, one exterior and then its
+-- holes, which together hold the part.
 abbrev pub TracedPolygonsHaveExteriors : Type 0
 TracedPolygonsHaveExteriors = (S : List Segment) → IsArrangement S → IsDistinct S → (arcs : List Path) → All (λ arc. 1 < length arc) arcs → GoAlong S arcs → AreFreeInside S arcs → (faces : FaceTable) → IsBuiltOf arcs faces →
     (label : Place → ℕ) → IsFaceOfPlace arcs faces label → (set : List ℕ) → IsSetOf faces set → (parts : List (List ℕ)) → AreParts faces set parts → (polygons : List (List (List SignedArc))) →
@@ -103,7 +105,8 @@ TracedPolygonsHaveExteriors = (S : List Segment) → IsArrangement S → IsDisti
     UseParts faces.places (length arcs) parts polygons → (k : ℕ) → k < length polygons →
     HasExteriorFirst arcs (slice_index_or polygons k []) × IsPolygon S (λ place. has nat_eq (slice_index_or (bounded faces.places (length arcs) parts) k []) (label place)) (map (round_of arcs) (slice_index_or polygons k []))
 
--- So it is in the table of the whole arcs of a snapped drawing: a grid point is within a polygon just where its face is in the part.
+-- So it is in the table of the whole arcs of a snapped drawing: a grid point is within a polygon just where its face is
+-- in the part.
 abbrev pub TracedPolygonsOfADrawing : Type 0
 TracedPolygonsOfADrawing = (d : Drawing) → (arcs : List Path) → All (λ arc. 1 < length arc) arcs → GoAlong (links_of (snapped d)) arcs → All (IsWholeArc (snapped d)) arcs → (faces : FaceTable) → IsBuiltOf arcs faces →
     (set : List ℕ) → IsSetOf faces set → (parts : List (List ℕ)) → AreParts faces set parts → (polygons : List (List (List SignedArc))) →
@@ -112,7 +115,8 @@ TracedPolygonsOfADrawing = (d : Drawing) → (arcs : List Path) → All (λ arc.
     HasExteriorFirst arcs (slice_index_or polygons k []) ×
     ((p : GridPoint) (f : ℕ) → IsFaceOver faces p f → Contains (slice_index_or (bounded faces.places (length arcs) parts) k []) f ↔ IsWithin arcs (slice_index_or polygons k []) (at p))
 
--- Each part of a set without the outer face has an arc in its boundary. So no part is left out, and a trace has as many polygons as there are parts.
+-- Each part of a set without the outer face has an arc in its boundary. So no part is left out, and a trace has as many
+-- polygons as there are parts.
 abbrev pub PartsHaveBoundaries : Type 0
 PartsHaveBoundaries = (S : List Segment) (arcs : List Path) (faces : FaceTable) → AreFacesOf S arcs faces → (set : List ℕ) → IsSetOf faces set → (parts : List (List ℕ)) → AreParts faces set parts →
     All (λ part. (a : SignedArc) × IsOnBoundary faces part a) parts × (bounded faces.places (length arcs) parts ≡ parts)
@@ -128,7 +132,8 @@ abbrev pub PolygonsHoldTheSet : Type 0
 PolygonsHoldTheSet = (S : List Segment) (arcs : List Path) (faces : FaceTable) → AreFacesOf S arcs faces → (set : List ℕ) (parts : List (List ℕ)) (polygons : List (List (List SignedArc))) → AreTraced arcs faces set parts polygons →
     (label : Place → ℕ) → IsFaceOfPlace arcs faces label → (z : RationalPoint) (a : Place) → IsPlaceOf S z a → Contains set (label a) ↔ IsInSome arcs polygons z
 
--- two points of the region of the set are within one traced polygon exactly if they are joined in the region: no closed runs of its boundary separate them
+-- two points of the region of the set are within one traced polygon exactly if they are joined in the region: no closed
+-- runs of its boundary separate them
 abbrev pub PolygonsAreJoinedPoints : Type 0
 PolygonsAreJoinedPoints = (S : List Segment) (arcs : List Path) (faces : FaceTable) → AreFacesOf S arcs faces → (set : List ℕ) (parts : List (List ℕ)) (polygons : List (List (List SignedArc))) → AreTraced arcs faces set parts polygons →
     (label : Place → ℕ) → IsFaceOfPlace arcs faces label → (u v : RationalPoint) (a b : Place) → IsPlaceOf S u a → IsPlaceOf S v b → Contains set (label a) → Contains set (label b) →
@@ -139,14 +144,16 @@ abbrev pub PolygonsHoldByParity : Type 0
 PolygonsHoldByParity = (S : List Segment) (arcs : List Path) (faces : FaceTable) → AreFacesOf S arcs faces → (set : List ℕ) (parts : List (List ℕ)) (polygons : List (List (List SignedArc))) → AreTraced arcs faces set parts polygons →
     (k : ℕ) → k < length polygons → (z : RationalPoint) → (rings_hold z (map (round_of arcs) (slice_index_or polygons k [])) ≡ true) ↔ IsWithin arcs (slice_index_or polygons k []) z
 
--- The rings of each traced polygon fit the part that it stands for: they use the part's border once, pass each vertex once, an exterior stands first and
--- turns left, holes turn right and rise by their least arcs, and each ring begins with its least arc.
+-- The rings of each traced polygon fit the part that it stands for: they use the part's border once, pass each vertex
+-- once, an exterior stands first and turns left, holes turn right and rise by their least arcs, and each ring begins
+-- with its least arc.
 abbrev pub TracedPolygonsFit : Type 0
 TracedPolygonsFit = (S : List Segment) (arcs : List Path) (faces : FaceTable) → AreFacesOf S arcs faces → (set : List ℕ) (parts : List (List ℕ)) (polygons : List (List (List SignedArc))) → AreTraced arcs faces set parts polygons →
     (label : Place → ℕ) → IsFaceOfPlace arcs faces label → (k : ℕ) → k < length polygons →
     FitsPart arcs (border_steps (λ place. has nat_eq (slice_index_or (bounded faces.places (length arcs) parts) k []) (label place)) S) (map (round_of arcs) (slice_index_or polygons k []))
 
--- a point is within some traced polygon exactly if, of the links of all rings of the trace together, an odd number is below it
+-- a point is within some traced polygon exactly if, of the links of all rings of the trace together, an odd number is
+-- below it
 abbrev pub TracesHoldByParity : Type 0
 TracesHoldByParity = (S : List Segment) (arcs : List Path) (faces : FaceTable) → AreFacesOf S arcs faces → (set : List ℕ) (parts : List (List ℕ)) (polygons : List (List (List SignedArc))) → AreTraced arcs faces set parts polygons →
     (z : RationalPoint) → (rings_hold z (map (round_of arcs) (joined_up polygons)) ≡ true) ↔ IsInSome arcs polygons z
@@ -156,14 +163,15 @@ abbrev pub TracedRingsGoRound : Type 0
 TracedRingsGoRound = (S : List Segment) (arcs : List Path) (faces : FaceTable) → AreFacesOf S arcs faces → (set : List ℕ) (parts : List (List ℕ)) (polygons : List (List (List SignedArc))) → AreTraced arcs faces set parts polygons →
     All (All (λ ring. IsRing (round_of arcs ring))) polygons
 
--- all rings of a trace together use each link once that has the set on one side alone, directed with the set on its left, and no other
+-- all rings of a trace together use each link once that has the set on one side alone, directed with the set on its
+-- left, and no other
 abbrev pub TracesUseTheBorder : Type 0
 TracesUseTheBorder = (S : List Segment) (arcs : List Path) (faces : FaceTable) → AreFacesOf S arcs faces → (set : List ℕ) (parts : List (List ℕ)) (polygons : List (List (List SignedArc))) → AreTraced arcs faces set parts polygons →
     UsesBoundary faces.places (length arcs) set polygons → (label : Place → ℕ) → IsFaceOfPlace arcs faces label →
     UsesOnce (border_steps (λ place. has nat_eq set (label place)) S) (map (round_of arcs) (joined_up polygons))
 
--- The faces of a table of the whole arcs of a snapped drawing are such faces, so that these laws are true of them; and a grid point is within some
--- traced polygon exactly if the face over it is in the set.
+-- The faces of a table of the whole arcs of a snapped drawing are such faces, so that these laws are true of them; and
+-- a grid point is within some traced polygon exactly if the face over it is in the set.
 abbrev pub PolygonsOfADrawing : Type 0
 PolygonsOfADrawing = (d : Drawing) (arcs : List Path) → All (λ arc. 1 < length arc) arcs → GoAlong (links_of (snapped d)) arcs → All (IsWholeArc (snapped d)) arcs → (faces : FaceTable) → IsBuiltOf arcs faces →
     AreFacesOf (links_of (snapped d)) arcs faces

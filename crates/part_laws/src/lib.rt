@@ -1,11 +1,11 @@
-//! Laws of parts and rings: the parts of a set of faces are the parts that the plane has of their region, and the polygons
-//! that are traced for them hold just these parts.
+//! Laws of parts and rings: the parts of a set of faces are the parts that the plane has of their region, and the
+//! polygons that are traced for them hold just these parts.
 //!
 //! They are laws over what `ArcTable::build`, `Faces::build`, `at`, `parts` and `trace` answer.
 //!
 //! - Two faces of a set are in one part exactly where links within their region join them (`parts_are_classes`).
-//! - The rings of a part are one exterior, which comes first, and holes (RFC 7946, section 3.1.6), and a point is in the
-//!   part just where it is inside the exterior and in no hole (`traced_polygons_have_exteriors`).
+//! - The rings of a part are one exterior, which comes first, and holes (RFC 7946, section 3.1.6), and a point is in
+//!   the part just where it is inside the exterior and in no hole (`traced_polygons_have_exteriors`).
 //! - Traced polygons share no point (`polygons_are_apart`), and together they hold the set (`polygons_hold_the_set`).
 //!
 //! Each function carries one law in its contract, and does nothing. The laws are stated in `specs/Parts.antt`.
@@ -53,8 +53,8 @@ pub fn traced_polygons_have_exteriors()
     ensures { TracedPolygonsHaveExteriors }
 {}
 
-/// So it is in a table of the whole arcs of a snapped drawing: a grid point is within a polygon, inside its exterior and
-/// in no hole, exactly if its face is in the part.
+/// So it is in a table of the whole arcs of a snapped drawing: a grid point is within a polygon, inside its exterior
+/// and in no hole, exactly if its face is in the part.
 pub fn traced_polygons_of_a_drawing()
     ensures { TracedPolygonsOfADrawing }
 {}
@@ -87,15 +87,15 @@ pub fn polygons_hold_by_parity()
     ensures { PolygonsHoldByParity }
 {}
 
-/// The rings of each polygon of a trace fit the part that it stands for: they use its border once, each passes its vertices
-/// once and begins with its arc of least number, the exterior stands first and turns left, and the holes turn right and
-/// stand in the order of their least arcs.
+/// The rings of each polygon of a trace fit the part that it stands for: they use its border once, each passes its
+/// vertices once and begins with its arc of least number, the exterior stands first and turns left, and the holes turn
+/// right and stand in the order of their least arcs.
 pub fn traced_polygons_fit()
     ensures { TracedPolygonsFit }
 {}
 
-/// A point is within some polygon of a trace exactly if an odd number of the links of all rings of all polygons is below
-/// it.
+/// A point is within some polygon of a trace exactly if an odd number of the links of all rings of all polygons is
+/// below it.
 pub fn traces_hold_by_parity()
     ensures { TracesHoldByParity }
 {}
@@ -105,14 +105,14 @@ pub fn traced_rings_go_round()
     ensures { TracedRingsGoRound }
 {}
 
-/// All rings of a trace together use each link once that has the set on one side alone, with the set on their left, and no
-/// other link.
+/// All rings of a trace together use each link once that has the set on one side alone, with the set on their left, and
+/// no other link.
 pub fn traces_use_the_border()
     ensures { TracesUseTheBorder }
 {}
 
-/// The faces of a table of the whole arcs of a snapped drawing are such faces, so that these laws are true of them; and a
-/// grid point is within some polygon of a trace exactly if the face that `at` answers for it is in the set.
+/// The faces of a table of the whole arcs of a snapped drawing are such faces, so that these laws are true of them; and
+/// a grid point is within some polygon of a trace exactly if the face that `at` answers for it is in the set.
 pub fn polygons_of_a_drawing()
     ensures { PolygonsOfADrawing }
 {}

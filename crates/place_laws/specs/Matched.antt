@@ -24,7 +24,8 @@ pub record IsToldInside (d : Drawing) (arcs : List Path) (label : Place → ℕ)
 
 -- ---- laws, where the points are vertices of the snapped drawing
 
--- a set is matched with a list of points exactly if some of the points are inside its region: some point of the region sees them
+-- a set is matched with a list of points exactly if some of the points are inside its region: some point of the region
+-- sees them
 abbrev pub MatchesAreInside : Type 0
 MatchesAreInside = (d : Drawing) (arcs : List Path) (faces : FaceTable) (label : Place → ℕ) → AreFacesOf d arcs faces label → (sets : List (List ℕ)) (regions : List Region) → AllZip (IsSetOfRegion d arcs label) sets regions →
     (points : List GridPoint) → All (Contains (vertices_of (snapped d))) points → (matched : List ℕ) → AreSetsAt arcs faces sets points matched →

@@ -21,7 +21,7 @@ use Rattle.plane_model.specs.Arrangement.{IsBefore, IsEnd, IsArrangement}
 use Rattle.plane_model.specs.EvenList.{IsEven}
 use Rattle.plane_model.specs.Sides.{odd_left, odd_right}
 
--- an vertical link: past the vertical line at its start
+-- a vertical link: past the vertical line at its start
 module _ (S L : List Segment) (arr : IsArrangement S) (within : All (Contains S) L) (even : IsEven L) (l : Segment) (cl : Contains S l) (up : l.start.x ≡ l.stop.x) (rise' : l.start.y <ℤ l.stop.y) where
   abbrev here : GridPoint → Bool
   here q = on_and is_not_negative (at l.start) q

@@ -1,4 +1,5 @@
--- The definitions at a triangle: its inside is a test whose border is the triangle, its run is a ring that turns left, and its faces differ.
+-- The definitions at a triangle: its inside is a test whose border is the triangle, its run is a ring that turns left,
+-- and its faces differ.
 use Rattle.std.proofs.Common.{◌≡◌, inl, inr, refl, sym, ◌∙◌, ℕ, true, false, List, [], ◌∷◌}
 use Rattle.std.proofs.lemmas.List.Elements.{All-nil, All-contains_itself}
 use Rattle.plane_parity.proofs.Examples.{corner, east, north, bottom, side, slope, run, even_run, arrangement}

@@ -1,4 +1,5 @@
--- What tables may rely on: the next dart, the first link and the place are unique, and a table of rotations gives all sectors.
+-- What tables may rely on: the next dart, the first link and the place are unique, and a table of rotations gives all
+-- sectors.
 use Rattle.std.proofs.Common.{◌≡◌, ◌⊎◌, inl, inr, refl, sym, ap, subst, ◌∙◌, Bool, true, false, cond, ◌&&◌, ◌||◌, List, [], ◌∷◌}
 use Rattle.std.specs.Prelude.{All, Contains}
 use Rattle.std.proofs.lemmas.List.Elements.{All-head, All-tail, All-weaker}

@@ -1,4 +1,5 @@
--- A balanced list of edges is, in some order, the edges of rings: follow edges until a point comes again, and cut there.
+-- A balanced list of edges is, in some order, the edges of rings: follow edges until a point comes again, and cut
+-- there.
 use Rattle.std.proofs.Common.{◌≡◌, ◌⊎◌, inl, inr, ℕ, zero, suc, ◌+◌, ◌≤◌, refl, sym, ap, subst, ◌∙◌, arith, Bool, true, false, List, [], ◌∷◌, ◌++◌, length}
 use Rattle.std.specs.Prelude.{All, Contains}
 use Rattle.std.specs.List.{remove}

@@ -38,8 +38,8 @@ IsMinimum S p = (k : Segment) → Contains S k → k.stop ≡ p → ⊥
 abbrev pub IsFirst : List Segment → Segment → Type 0
 IsFirst S l = (k : Segment) → Contains S k → k.start ≡ l.start → precedes (forward_dart k) (forward_dart l) ≡ false
 
--- f takes one value where places meet: in the sector between a dart and the next, and along the ray that goes straight down from a vertex
--- at which no link arrives
+-- f takes one value where places meet: in the sector between a dart and the next, and along the ray that goes straight
+-- down from a vertex at which no link arrives
 pub record AgreesWherePlacesMeet {A : Type 0} (S : List Segment) (f : Place → A) : Type 0 where
   pub sector : (d e : Dart) → Contains S d.link → Contains S e.link → IsNext S d e → f (left_of d) ≡ f (left_of (opposite e))
   pub ray : (l : Segment) → Contains S l → IsMinimum S l.start → IsFirst S l → (a : Place) → IsPlaceOf S (at l.start) a → f (right_side l) ≡ f a

@@ -34,7 +34,8 @@ darts_of_paths paths = map dart_of_step (steps_of_paths paths)
 abbrev pub ring_by : GridPoint → GridPoint → List GridPoint → GridPoint → Path
 ring_by p r ps q = p ∷ (r ∷ (ps ++ (q ∷ (p ∷ []))))
 
--- a closed path that starts at its least vertex, which it passes once: it goes by next and others and comes back from last
+-- a closed path that starts at its least vertex, which it passes once: it goes by next and others and comes back from
+-- last
 pub record StartsLeast (ring : Path) : Type 0 where
   pub least : GridPoint
   pub next : GridPoint
@@ -49,8 +50,8 @@ pub record StartsLeast (ring : Path) : Type 0 where
 abbrev pub turns_left : Path → Bool
 turns_left ring = int_lt (pos 0) (turn_at_least ring)
 
--- of the rings one is the exterior, which turns left at its least vertex, the others are holes, which turn right, and a point is where f
--- holds just if it is inside the exterior and in no hole
+-- of the rings one is the exterior, which turns left at its least vertex, the others are holes, which turn right, and a
+-- point is where f holds just if it is inside the exterior and in no hole
 pub record IsPolygon (S : List Segment) (f : Place → Bool) (rings : List Path) : Type 0 where
   pub before : List Path
   pub exterior : Path

@@ -1,6 +1,7 @@
 //! The faces of an arrangement of links in the plane, the parts of a set of faces, and the rings of a part.
 //!
-//! - A test that takes one value where places meet has an even border, and holds exactly at the points that are odd for it.
+//! - A test that takes one value where places meet has an even border, and holds exactly at the points that are odd for
+//!   it.
 //! - Points of one label are separated by no even list of links, and points of two labels by one.
 //! - So it is with the parts of a set of faces, and the links of its border.
 //! - The border of a part is rings: one exterior, which turns left at its least vertex, and holes, which do not.
@@ -81,8 +82,8 @@ pub fn each_point_has_one_place()
         a ≡ b }
 {}
 
-/// What is one in each table of rotation, between each dart and the next and between the last and the first, is one in each
-/// sector.
+/// What is one in each table of rotation, between each dart and the next and between the last and the first, is one in
+/// each sector.
 pub fn sectors_by_tables()
     ensures { (S : List Segment) → IsArrangement S → (f : Place → ℕ) →
         ((p : GridPoint) → (ds : List Dart) × IsRotation S p ds × AgreesAround f ds) → (d e : Dart) → Contains S d.link →
@@ -332,8 +333,8 @@ pub fn borders_are_rings()
         IsPermutation (links_of_paths rings) (border f S) × All (λ d. f (left_of d) ≡ true) (darts_of_paths rings) }
 {}
 
-/// An even list of links of a part's border is odd on the part exactly if it has the border's lowest link an odd number of
-/// times.
+/// An even list of links of a part's border is odd on the part exactly if it has the border's lowest link an odd number
+/// of times.
 pub fn lowest_link_counts_for_the_part()
     ensures { (S : List Segment) → IsArrangement S → IsDistinct S → (label : Place → ℕ) → IsFaceLabelling S label →
         (F : ℕ → Bool) → F (label outside) ≡ false → (part : ℕ → ℕ) → IsPartLabelling S label F part → (n : ℕ) →
@@ -343,8 +344,8 @@ pub fn lowest_link_counts_for_the_part()
         IsPlaceOf S z b → in_part F part n (label b) ≡ true → odd R z ≡ odd_count (same_segment a) R }
 {}
 
-/// A ring of a part's border, from its least vertex on and with the part on its left, is odd on the part exactly if it turns
-/// left there.
+/// A ring of a part's border, from its least vertex on and with the part on its left, is odd on the part exactly if it
+/// turns left there.
 pub fn orientation_of_a_ring()
     ensures { (S : List Segment) → IsArrangement S → (label : Place → ℕ) → IsFaceLabelling S label → (F : ℕ → Bool) →
         (part : ℕ → ℕ) → IsPartLabelling S label F part → (n : ℕ) → (ring : Path) → StartsLeast ring →
@@ -353,8 +354,8 @@ pub fn orientation_of_a_ring()
         IsPlaceOf S z b → in_part F part n (label b) ≡ true → odd (links_of_path ring) z ≡ turns_left ring }
 {}
 
-/// The rings of a part are a polygon: one exterior, which turns left, and holes, which do not, and together they hold the
-/// part.
+/// The rings of a part are a polygon: one exterior, which turns left, and holes, which do not, and together they hold
+/// the part.
 pub fn rings_of_a_part_are_a_polygon()
     ensures { (S : List Segment) → IsArrangement S → IsDistinct S → (label : Place → ℕ) → IsFaceLabelling S label →
         (F : ℕ → Bool) → F (label outside) ≡ false → (part : ℕ → ℕ) → IsPartLabelling S label F part → (n : ℕ) →
@@ -396,7 +397,8 @@ pub fn borders_are_boundaries()
     ensures { BordersAreBoundaries }
 {}
 
-/// Two points of a set of faces are in one part exactly if they are joined in it: no closed runs of its boundary separate them.
+/// Two points of a set of faces are in one part exactly if they are joined in it: no closed runs of its boundary
+/// separate them.
 pub fn parts_are_the_joined_points()
     ensures { PartsAreJoined }
 {}

@@ -1,6 +1,7 @@
 //! The parity laws of an arrangement of links in the plane: what a ray that counts links can tell.
 //!
-//! - An even list of links (each point an end of an even number of them) has one parity in all points that no link parts.
+//! - An even list of links (each point an end of an even number of them) has one parity in all points that no link
+//!   parts.
 //! - The parity of a point, of a side of a link and of a sector about a point agree where they see each other.
 //! - The boundary of a region given by parities has that region as its own parity.
 //! - The rings of a snapped drawing are even lists, so all of this holds of its polygons and boxes.

@@ -1,5 +1,5 @@
-//! Runs calls of the crates of the plane, from points to the commands on areas, over small drawings, and compares what
-//! each answers with what was worked out by hand.
+//! Runs calls of the crates of the plane, from points to the commands on polygons and lines, over small drawings, and
+//! compares what each answers with what was worked out by hand.
 //!
 //! No clause says that a call succeeds where there is memory, nor that the definitions which contracts cite are those
 //! that were meant. So each case has a drawing, or points, and what a person says of them.

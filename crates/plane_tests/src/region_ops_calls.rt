@@ -2,7 +2,8 @@
 //! features these are.
 //!
 //! - `clip_sets` and `erase_sets` take the number of a box after that; `clean_sets` takes the rule of overlaps, and
-//!   twice the greatest area of a gap that it fills. They answer the polygons round the faces that are left of each feature, a line each, after a line `feature`.
+//!   twice the greatest area of a gap that it fills. They answer the polygons round the faces that are left of each
+//!   feature, a line each, after a line `feature`.
 //! - `mosaic_sets` answers which features hold each piece, and how many faces it has, a line each.
 ghost use Rattle.std.specs.Prelude.{All};
 ghost use Rattle.ring_trace.specs.Sets.{IsSetOf};

@@ -1,4 +1,3 @@
-// Rings of polygons.
 ghost use Rattle.std.specs.Prelude.{◌≡◌, ◌≢◌, ◌∷◌, ◌<◌, [], IfOk, OnOk, length};
 ghost use Rattle.lists.specs.Lists.{last_of};
 ghost use Rattle.plane_model.specs.Joined.{IsClosed};

@@ -1,8 +1,8 @@
 //! Calls of `snap_round`, over the group's drawing.
 //!
 //! `snap` takes nothing; it answers the vertices of the first path of each line feature, a line each, and on a line of
-//! its own the number of links, or the fault. `snap_repeated` takes a number of points from (0, 0) to the right, and how
-//! often a line from the first to the last of them stands; it answers so of that drawing.
+//! its own the number of links, or the fault. `snap_repeated` takes a number of points from (0, 0) to the right, and
+//! how often a line from the first to the last of them stands; it answers so of that drawing.
 use crate::drawings::repeated_lines;
 use crate::texts::print_points;
 use case_lists::{number_at, told, unknown_call};

@@ -1,4 +1,5 @@
--- A point near a vertex, just left of a link directed away from it, sees the vertex from the sector on the left of that link.
+-- A point near a vertex, just left of a link directed away from it, sees the vertex from the sector on the left of that
+-- link.
 use Rattle.std.proofs.Common.{◌≡◌, ◌⊎◌, inl, inr, refl, sym, ap, subst, ◌∙◌, arith, ℕ, suc, max, ◌≤◌, Bool, true, false, cond, List}
 use Rattle.std.proofs.Math.IntN.{ℤ, pos, nat_abs, ◌+ℤ◌, ◌*ℤ◌, ◌-ℤ◌, neg_ℤ}
 use Rattle.std.specs.Prelude.{Contains, int_lt, ◌≤ℤ◌, ◌<ℤ◌}

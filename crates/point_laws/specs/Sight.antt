@@ -36,8 +36,8 @@ FreePointsAreInside = (S : List Segment) → IsArrangement S → IsDistinct S �
     (faces : FaceTable) → IsBuiltOf arcs faces → (label : Place → ℕ) → IsFaceOfPlace arcs faces label → (set : List ℕ) → (p : GridPoint) → IsOffLinks S (at p) →
     (f : ℕ) → IsFaceOver faces p f → IsInside S (PointsOf S label set) p ↔ Contains set f
 
--- so it is in the table of the whole arcs of a snapped drawing: a vertex of the drawing that no arc has is inside a set, as it is answered for it,
--- exactly if some point of the set sees it
+-- so it is in the table of the whole arcs of a snapped drawing: a vertex of the drawing that no arc has is inside a
+-- set, as it is answered for it, exactly if some point of the set sees it
 abbrev pub FreePointsOfADrawing : Type 0
 FreePointsOfADrawing = (d : Drawing) → (arcs : List Path) → All (λ arc. 1 < length arc) arcs → GoAlong (links_of (snapped d)) arcs → All (IsWholeArc (snapped d)) arcs →
     (faces : FaceTable) → IsBuiltOf arcs faces → (label : Place → ℕ) → IsFaceOfPlace arcs faces label → (set : List ℕ) → (p : GridPoint) → Contains (vertices_of (snapped d)) p → IsArcAt arcs p None →
@@ -50,7 +50,8 @@ abbrev pub SeenFromSectors : Type 0
 SeenFromSectors = (S : List Segment) → IsArrangement S → IsDistinct S → (label : Place → ℕ) → AgreesWherePlacesMeet S label → (d : Dart) → Contains S d.link → (z : RationalPoint) → SeesPoint S (tail d) z →
     (a : Place) → IsPlaceOf S z a → (e : Dart) × Contains S e.link × (tail e ≡ tail d) × (label a ≡ label (left_of e))
 
--- each sector has a point, off the links, that sees the vertex: its label is that of the sector, on the left of a link directed away from the vertex
+-- each sector has a point, off the links, that sees the vertex: its label is that of the sector, on the left of a link
+-- directed away from the vertex
 abbrev pub SectorsAreSeen : Type 0
 SectorsAreSeen = (S : List Segment) → IsArrangement S → IsDistinct S → (d : Dart) → Contains S d.link →
     (z : RationalPoint) × SeesPoint S (tail d) z × IsOffLinks S z × ((label : Place → ℕ) → AgreesWherePlacesMeet S label → (a : Place) → IsPlaceOf S z a → label a ≡ label (left_of d))
@@ -87,8 +88,8 @@ InnerVerticesAreInside = (S : List Segment) → IsArrangement S → IsDistinct S
 
 -- ---- all vertices
 
--- each vertex of a snapped drawing is inside a set of faces of its whole arcs, as it is answered for it, exactly if some point of the set sees it:
--- whether it is a node, or inside an arc, or on no arc
+-- each vertex of a snapped drawing is inside a set of faces of its whole arcs, as it is answered for it, exactly if
+-- some point of the set sees it: whether it is a node, or inside an arc, or on no arc
 abbrev pub VerticesOfADrawing : Type 0
 VerticesOfADrawing = (d : Drawing) → (arcs : List Path) → All (λ arc. 1 < length arc) arcs → GoAlong (links_of (snapped d)) arcs → All (IsWholeArc (snapped d)) arcs →
     (faces : FaceTable) → IsBuiltOf arcs faces → (label : Place → ℕ) → IsFaceOfPlace arcs faces label → (set : List ℕ) → (p : GridPoint) → Contains (vertices_of (snapped d)) p →

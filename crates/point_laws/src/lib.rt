@@ -1,5 +1,5 @@
-//! Laws of points: a vertex is inside a set of faces, as `point_inside` answers, exactly if some rational point of these
-//! faces sees it.
+//! Laws of points: a vertex is inside a set of faces, as `point_inside` answers, exactly if some rational point of
+//! these faces sees it.
 //!
 //! They are laws over what `snap`, `ArcTable::build`, `Faces::build` and `point_inside` answer.
 //!

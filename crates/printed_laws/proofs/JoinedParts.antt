@@ -1,4 +1,5 @@
--- Two points lie in one printed polygon exactly if they are joined in the region: points in one part are joined, for both see links of its least arc.
+-- Two points lie in one printed polygon exactly if they are joined in the region: points in one part are joined, for
+-- both see links of its least arc.
 use Rattle.std.proofs.Common.{◌≡◌, ◌⊎◌, inl, inr, sym, ap, subst, ◌∙◌, arith, ℕ, ◌<◌, true, List, [], ◌∷◌, length, get_or, nat_lt, Contains}
 use Rattle.std.specs.Prelude.{Any}
 use Rattle.std.proofs.lemmas.Bool.{cases_eq, cases_lt, ltb-true}
@@ -128,7 +129,8 @@ module _ (d : Drawing) (closed : HasClosedRings d) (r : Region) where
   beside l c z (inl sees) a here = inl (from_left l c z sees a here)
   beside l c z (inr sees) a here = inr (from_right l c z sees a here)
 
-  -- both parts have links of one arc in their boundaries, so that points of both see links with one face of the region on their sides
+  -- both parts have links of one arc in their boundaries, so that points of both see links with one face of the region
+  -- on their sides
   pub joined_in_part : (j : ℕ) (z w : RationalPoint) → IsOffLinks (links_of (snapped d)) z → IsOffLinks (links_of (snapped d)) w → R z → R w → IsInPart (links_of (snapped d)) (arcs_of (snapped d) (links_of (snapped d))) R z j → IsInPart (links_of (snapped d)) (arcs_of (snapped d) (links_of (snapped d))) R w j →
       AreJoinedIn (links_of (snapped d)) R z w
   joined_in_part j z w off_z off_w in_z in_w h k =

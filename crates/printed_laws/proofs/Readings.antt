@@ -161,7 +161,8 @@ module _ (S : List Segment) (arr : IsArrangement S) (f : Place → Bool) where
       both : (t : ℤ) → pos 0 <ℤ t → t <ℤ pos 0 → ⊥
       both t a b = omega (arith, ints)
 
-  -- over a link that the ring doesn't have the inside is one, and over one that it has the inside and the test change as its side says
+  -- over a link that the ring doesn't have the inside is one, and over one that it has the inside and the test change
+  -- as its side says
   same_over : (ring : Path) → IsBounding ring → (l : Segment) → Contains S l → count (same_segment l) (links_of_path ring) ≡ 0 → inside ring (left_side l) ≡ inside ring (right_side l)
   same_over ring h l c none =
       crossing_law S (links_of_path ring) arr h.within (closed_ring ring h) l c ∙ ap (xor (inside ring (right_side l))) (odd_of_none (same_segment l) (links_of_path ring) none) ∙ by_false (inside ring (right_side l))
@@ -281,7 +282,8 @@ module _ (S : List Segment) (arr : IsArrangement S) (f : Place → Bool) where
         alike true false e = let g : true ≡ false = e in absurd (cc)
         alike false b e = sym e
 
-    -- what is inside the exterior, less the holes, where its inside is on the left; what is inside any of them, where it is not
+    -- what is inside the exterior, less the holes, where its inside is on the left; what is inside any of them, where
+    -- it is not
     balance : Bool → Place → ℕ × ℕ
     balance true a = (one (inside exterior a), total holes a + one (f a))
     balance false a = (0, one (inside exterior a) + total holes a + one (f a))

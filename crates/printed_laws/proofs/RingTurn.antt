@@ -1,4 +1,5 @@
--- A ring with its inside on the left turns left at its least vertex, and one that turns right there has it on the right.
+-- A ring with its inside on the left turns left at its least vertex, and one that turns right there has it on the
+-- right.
 use Rattle.std.proofs.Common.{◌≡◌, ◌⊎◌, inl, inr, refl, sym, ap, subst, ◌∙◌, ℕ, Bool, true, false, not, ◌&&◌, List, [], ◌∷◌, ◌++◌, Contains, nat_eq, pos, Some}
 use Rattle.std.specs.Prelude.{All, ◌<ℤ◌, if◌then◌else◌}
 use Rattle.std.specs.List.{cons_option}

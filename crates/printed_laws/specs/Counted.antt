@@ -1,4 +1,5 @@
--- What polygons that fit a region hold, one by one, where a point is held by counting: an odd number of the steps of all rings of a polygon is below it.
+-- What polygons that fit a region hold, one by one, where a point is held by counting: an odd number of the steps of
+-- all rings of a polygon is below it.
 use Rattle.std.specs.Prelude.{◌≡◌, ◌↔◌, true, ℕ, ◌<◌, List, [], AllPairs, length, slice_index_or}
 use Rattle.std.specs.List.{AllZip, range_with_len}
 use Rattle.plane_model.specs.Points.{RationalPoint}
@@ -19,7 +20,8 @@ abbrev pub NoneIsHeldTwice : Type 0
 NoneIsHeldTwice = (d : Drawing) (A : Answers) (r : Region) (polygons : List Polygon) → ArePrinted d A r polygons → (z : RationalPoint) → IsOff d z →
     AllPairs (λ p q. rings_hold z p ≡ true → rings_hold z q ≡ true → ⊥) polygons
 
--- each point of the region is held by one of them, and so is, by the same, each point that is joined with it in the region
+-- each point of the region is held by one of them, and so is, by the same, each point that is joined with it in the
+-- region
 abbrev pub JoinedPointsAreHeldByOne : Type 0
 JoinedPointsAreHeldByOne = (d : Drawing) (A : Answers) (r : Region) (polygons : List Polygon) → ArePrinted d A r polygons → (z : RationalPoint) → IsOff d z → PointsOf (plane_of d) r z →
     (k : ℕ) × (k < length polygons) × (rings_hold z (slice_index_or polygons k []) ≡ true)

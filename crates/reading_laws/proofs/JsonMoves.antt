@@ -130,7 +130,7 @@ module _ (d : ℕ) (k : List Open) where
   shuts_later : (o : Open) (c b : ℕ) (s : List ℕ) → IsTrue (is_white b) → Shuts o c d k s → Shuts o c d k (b ∷ s)
   shuts_later o c b s i (l, e, t) = (l, e, then_more White White (Byte c (After d l)) b (λ u w. white i w) t)
 
--- ## At once behind a bracket or a brace
+-- ## Directly after a bracket or a brace
 
 shut_array : (d : ℕ) (k : List Open) (s : List ℕ) → Later d s (ends k 93) → Shuts in_array 93 d k (93 ∷ s)
 shut_array d [] s h = absurd h

@@ -5,7 +5,7 @@ use Rattle.json_read.specs.Grammar.{no_white, Digits, no_digits, digit, SomeDigi
 use Rattle.json_read.specs.Machine.{Open, in_array, in_object, ends, ends_item, exponent_or_end, point_or_end, begins_whole, step, behind_letter, behind_sign, in_exponent, in_whole, in_fraction, behind_point}
 use Rattle.reading_laws.proofs.JsonRests.{Then, then_none, then_more, After, shuts_array, next_element, shuts_object, next_member, after_white, elements_of, members_of, FromPoint, FromWhole, InWhole, BehindPoint, InFraction, BehindLetter, Later, split, at_byte}
 
--- ## Behind a value
+-- ## After a value
 
 item_ends : (d : ℕ) (k : List Open) (b : ℕ) (s : List ℕ) → Later d s (ends_item k b) → After d k (b ∷ s)
 item_ends d [] b s h = absurd h

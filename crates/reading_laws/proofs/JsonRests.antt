@@ -21,9 +21,9 @@ then_more Q R S b f h = (b ∷ h.0, h.1, ap (λ (z : List ℕ). b ∷ z) h.2, f 
 abbrev pub Byte : ℕ → (List ℕ → Type 0) → List ℕ → Type 0
 Byte b S s = (rest : List ℕ) × (s ≡ b ∷ rest) × S rest
 
--- ## Behind a value
+-- ## After a value
 
--- what stands behind a value, by what is open there
+-- what stands after a value, by what is open there
 pub data After (d : ℕ) : List Open → List ℕ → Type 0 where
   at_last : {s : List ℕ} → White s → After d [] s
   shuts_array : {k : List Open} {w rest s : List ℕ} → White w → After d k rest → s ≡ w ++ (93 ∷ rest) → After d (in_array ∷ k) s
@@ -103,7 +103,7 @@ abbrev pub Closed : ℕ → Role → List Open → List ℕ → Type 0
 Closed d is_value k = After d k
 Closed d is_name k = AtColon d k
 
--- behind a part of a string, the rest of its characters and its quote
+-- after a part of a string, the rest of its characters and its quote
 abbrev pub Behind : List ℕ → ℕ → Role → List Open → List ℕ → Type 0
 Behind part d r k = Then (λ t. (us : List ℕ) × Chars (part ++ t) us) (Byte 34 (Closed d r k))
 
@@ -144,7 +144,7 @@ Stands d (in_escape r) k = Behind (92 ∷ []) d r k
 Stands d (in_hex r n) k = Hexes (suc n) (Behind [] d r k)
 Stands d (in_character r low high n) k = Second low high n (Behind [] d r k)
 
--- what stands behind a move
+-- what stands after a move
 abbrev pub Later : ℕ → List ℕ → Moves → Type 0
 Later d s None = ⊥
 Later d s (Some m) = Stands d m.0 m.1 s

@@ -7,7 +7,7 @@ use Rattle.std.proofs.lemmas.Str.{IsUtf8-nil}
 use Rattle.csv_io.specs.CsvUtf8.{BeginsUtf8, EndsUtf8At, Follow}
 use Rattle.csv_io.proofs.CsvUtf8.{can_end, first_of_four, first_of_none, first_of_one, first_of_three, first_of_two}
 
--- what may come next: a character, or a byte from low up to high and then so many from 128 to 191
+-- what may come next: a character, or a byte from low up to high and then a number of bytes from 128 to 191
 data Next : Type 0 where
   first : Next
   between : ℕ → ℕ → ℕ → Next
@@ -76,7 +76,7 @@ goes (between low high n) b = ⊎_elim
 
 -- ## All bytes
 
--- behind bytes that were read comes what is expected
+-- after bytes that were read comes what is expected
 abbrev Expects : List ℕ → Next → Type 0
 Expects bytes e = ((more : List ℕ) → IsUtf8 (bytes ++ more) ↔ Completes e more) × CanEnd e
 
@@ -132,7 +132,7 @@ module _ (bytes : List ℕ) (i : ℕ) where
     λ m l g h. omega (arith, l, g),
   )
 
--- behind i bytes, so many are left
+-- where bytes end a text, of which the first i are read and `left` are left
 ends_behind : (bytes : List ℕ) (left i : ℕ) (e : Next) → i + left ≡ length bytes → Expects (take i bytes) e → EndsAt bytes
 ends_behind bytes zero i first size h = (None, expects_end bytes i (omega (arith, size)) h)
 ends_behind bytes zero i (between low high n) size h = (Some (length bytes), expects_next bytes i low high n (omega (arith, size)) h)

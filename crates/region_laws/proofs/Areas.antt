@@ -1,4 +1,5 @@
--- The area of a set of faces is that within the boundary of its region: arcs with faces of the set on both sides cancel.
+-- The area of a set of faces is that within the boundary of its region: arcs with faces of the set on both sides
+-- cancel.
 use Rattle.std.proofs.Common.{◌≡◌, refl, sym, ap, ◌∙◌, arith, ℕ, zero, suc, ◌+◌, ◌<◌, ◌≤◌, ℤ, pos, ◌+ℤ◌, ◌-ℤ◌, ◌*ℤ◌, Bool, true, false, cond, List, [], ◌∷◌, ◌++◌, All, Contains, length, get_or, nat_eq, take}
 use Rattle.std.specs.List.{cons_option, flat_map}
 use Rattle.std.specs.List.Sorted.{IsStrictlyIncreasing}

@@ -147,7 +147,7 @@ module _ (arcs : List Path) (faces : FaceTable) (built : IsBuiltOf arcs faces) (
   of_class : (c k : ℕ) → Contains (members c) k → Contains set k × (class k ≡ c)
   of_class c k there = let (in_set, e) = filter-Contains (λ (j : ℕ). nat_eq (class j) c) set k there in (in_set, eqb-true (class k) c e)
 
-  -- ---- the number of a class: that of the least arc of its boundary, or one behind all arcs
+  -- ---- the number of a class: that of the least arc of its boundary, or one past those of all arcs
 
   abbrev round : ℕ → List SignedArc
   round c = boundary faces.places (length arcs) (members c)

@@ -41,7 +41,8 @@ FollowInOrder d arcs label sets regions = (length regions ≡ length sets) × Fo
 
 -- ---- laws
 
--- the faces of any set of a list follow any of the regions of these sets: so it is with a layer by which others are clipped or erased
+-- the faces of any set of a list follow any of the regions of these sets: so it is with a layer by which others are
+-- clipped or erased
 abbrev pub LayersAreFollowed : Type 0
 LayersAreFollowed = (d : Drawing) (arcs : List Path) (label : Place → ℕ) (sets : List (List ℕ)) (regions : List Region) → FollowInOrder d arcs label sets regions → Follows d arcs label (ascending nat_lt (joined_up sets)) (any_of regions)
 
@@ -91,7 +92,8 @@ abbrev pub PartsAreTold : Type 0
 PartsAreTold = (d : Drawing) (arcs : List Path) (faces : FaceTable) (label : Place → ℕ) → IsWalked d arcs faces label → (set : List ℕ) → IsSetOf faces set → (r : Region) → Follows (snapped d) arcs label set r →
     (parts : List (List ℕ)) → AreParts faces set parts → (j : ℕ) → (j < length parts) ↔ HasSome (plane_with d arcs) (part r j)
 
--- where this is told of a region, the pieces of its set are in order those of the region: its parts, or itself where it is empty
+-- where this is told of a region, the pieces of its set are in order those of the region: its parts, or itself where it
+-- is empty
 abbrev pub ExplodedAsTold : Type 0
 ExplodedAsTold = (d : Drawing) (arcs : List Path) (faces : FaceTable) (label : Place → ℕ) → IsWalked d arcs faces label → (set : List ℕ) → IsSetOf faces set → (r : Region) → Follows (snapped d) arcs label set r →
     (A : Answers) → TellSides (plane_with d arcs) A r → ((j : ℕ) → (j < A.parts r) ↔ HasSome (plane_with d arcs) (part r j)) → (pieces : List (List ℕ)) → ArePieces faces set pieces →
@@ -105,8 +107,9 @@ MosaicAsTold = (d : Drawing) (arcs : List Path) (faces : FaceTable) (label : Pla
     (map (λ (item : MosaicItem). item.ids) items ≡ map (λ (m : List ℕ × Region). m.0) (mosaic (plane_with d arcs) A region (length sets)))
     × FollowInOrder (snapped d) arcs label (map (λ (item : MosaicItem). item.set) items) (map (λ (m : List ℕ × Region). m.1) (mosaic (plane_with d arcs) A region (length sets)))
 
--- What is traced for the set of a region fits the region, part by part: all rings use its boundary once and those of a polygon that of a part, each passes
--- each of its vertices once, an exterior stands first and turns left, holes turn right and stand in order, and each ring begins where its least arc does.
+-- What is traced for the set of a region fits the region, part by part: all rings use its boundary once and those of a
+-- polygon that of a part, each passes each of its vertices once, an exterior stands first and turns left, holes turn
+-- right and stand in order, and each ring begins where its least arc does.
 abbrev pub TracesFit : Type 0
 TracesFit = (d : Drawing) (arcs : List Path) (faces : FaceTable) (label : Place → ℕ) → IsWalked d arcs faces label → (set : List ℕ) (parts : List (List ℕ)) (polygons : List (List (List SignedArc))) →
     AreTraced arcs faces set parts polygons → UsesBoundary faces.places (length arcs) set polygons → (r : Region) → Follows (snapped d) arcs label set r → (A : Answers) → TellSides (plane_with d arcs) A r →

@@ -88,7 +88,8 @@ CleanedSetsAreFollowed = (d : Drawing) (arcs : List Path) (label : Place → ℕ
 
 -- ---- laws of parts
 
--- The sets are those of the parts of a region, in order: set j follows part j, each of these parts has a point, and each point of the region is in one of them.
+-- The sets are those of the parts of a region, in order: set j follows part j, each of these parts has a point, and
+-- each point of the region is in one of them.
 pub record FollowParts (d : Drawing) (arcs : List Path) (label : Place → ℕ) (parts : List (List ℕ)) (r : Region) : Type 0 where
   pub each : FollowEach d arcs label parts (λ j. part r j)
   pub some : (j : ℕ) → j < length parts → (z : RationalPoint) × IsOffLinks (links_of d) z × Has d arcs (part r j) z
@@ -99,7 +100,8 @@ abbrev pub PartsAreFollowed : Type 0
 PartsAreFollowed = (d : Drawing) (arcs : List Path) (faces : FaceTable) (label : Place → ℕ) → IsWalked d arcs faces label → (set : List ℕ) → IsSetOf faces set → (r : Region) → Follows (snapped d) arcs label set r →
     (parts : List (List ℕ)) → AreParts faces set parts → FollowParts (snapped d) arcs label parts r
 
--- Items are, set by set, those of the parts of the regions; a set without faces, whose region has no point, stays one item.
+-- Items are, set by set, those of the parts of the regions; a set without faces, whose region has no point, stays one
+-- item.
 pub record FollowExploded (d : Drawing) (arcs : List Path) (label : Place → ℕ) (sets : List (List ℕ)) (region : ℕ → Region) (items : List PartItem) : Type 0 where
   pub pieces : List (List (List ℕ))
   pub each : length pieces ≡ length sets
@@ -118,7 +120,8 @@ abbrev pub ExactlyHasPoints : Type 0
 ExactlyHasPoints = (d : Drawing) (arcs : List Path) (region : ℕ → Region) (many : ℕ) (numbers : List ℕ) → (numbers ≡ [] → ⊥) → All (λ n. n < many) numbers → (z : RationalPoint) →
     Has d arcs (exactly region many numbers) z ↔ ((n : ℕ) → n < many → Contains numbers n ↔ Has d arcs (region n) z)
 
--- Items are, for each list of numbers that rise for which just the regions of these numbers have some point, in lexicographic order, those of the parts of what they have.
+-- Items are, for each list of numbers that rise for which just the regions of these numbers have some point, in
+-- lexicographic order, those of the parts of what they have.
 pub record FollowMosaic (d : Drawing) (arcs : List Path) (label : Place → ℕ) (many : ℕ) (region : ℕ → Region) (items : List MosaicItem) : Type 0 where
   pub groups : List Group
   pub in_order : AreAscending groups
@@ -137,8 +140,8 @@ MosaicsAreFollowed = (d : Drawing) (arcs : List Path) (faces : FaceTable) (label
 
 -- ---- the areas of regions
 
--- twice the area of a set of faces, as each face gives its own, is that within the boundary of its region: the links with one side in the region
--- alone, each directed with the region on its left
+-- twice the area of a set of faces, as each face gives its own, is that within the boundary of its region: the links
+-- with one side in the region alone, each directed with the region on its left
 abbrev pub AreasAreThoseOfRegions : Type 0
 AreasAreThoseOfRegions = (d : Drawing) (arcs : List Path) (faces : FaceTable) (label : Place → ℕ) → IsWalked d arcs faces label → (set : List ℕ) → IsStrictlyIncreasing set → IsSetOf faces set → (r : Region) →
     Follows (snapped d) arcs label set r → (left right : Segment → Bool) → AreSides (links_of (snapped d)) (Has (snapped d) arcs r) left right →

@@ -20,11 +20,13 @@ use Rattle.region_laws.specs.Regions.{FollowEach}
 use Rattle.region_laws.specs.Followed.{IsWalked}
 use Rattle.region_laws.specs.Answered.{plane_with}
 
--- z is shut in by R: of the points outside R that no closed runs of R's boundary separate from z none is left of all links
+-- z is shut in by R: of the points outside R that no closed runs of R's boundary separate from z none is left of all
+-- links
 abbrev pub IsShutIn : Drawing → Points → RationalPoint → Type 0
 IsShutIn d R z = (w : RationalPoint) → IsOffLinks (links_of d) w → GapWith (links_of d) R z w → IsLeftOfLinks (links_of d) w → ⊥
 
--- The sets are those of the gaps between regions, in order: set j follows gap j, each of these gaps has a point and no other has, and each point that no region has and that they shut in is in one of them.
+-- The sets are those of the gaps between regions, in order: set j follows gap j, each of these gaps has a point and no
+-- other has, and each point that no region has and that they shut in is in one of them.
 pub record FollowGaps (d : Drawing) (arcs : List Path) (label : Place → ℕ) (gaps : List (List ℕ)) (rs : List Region) : Type 0 where
   pub each : FollowEach d arcs label gaps (gap_of rs)
   pub some : (j : ℕ) → j < length gaps → (z : RationalPoint) × IsOffLinks (links_of d) z × Has d arcs (gap_of rs j) z

@@ -1,4 +1,5 @@
--- Sets of faces and the sides of links that belong to a region; empty regions, and sets cleaned by the areas of regions.
+-- Sets of faces and the sides of links that belong to a region; empty regions, and sets cleaned by the areas of
+-- regions.
 use Rattle.std.specs.Prelude.{◌≡◌, ◌↔◌, ℕ, ◌<◌, Bool, true, false, List, [], All, Contains, filter, length, slice_index_or, ℤ}
 use Rattle.std.specs.List.{range_with_len}
 use Rattle.std.specs.List.Sorted.{IsStrictlyIncreasing}
@@ -23,13 +24,15 @@ use Rattle.region_model.specs.Answers.{AreSides}
 use Rattle.region_model.specs.PolygonCommands.{regions_at}
 use Rattle.region_laws.specs.Followed.{IsWalked}
 
--- the side on the left of a link, directed forward or back, belongs to R: some point that sees the link from there is in R
+-- the side on the left of a link, directed forward or back, belongs to R: some point that sees the link from there is
+-- in R
 abbrev pub SideBelongs : List Segment → Points → Bool → Segment → Type 0
 SideBelongs S R true l = LeftIn S R l
 SideBelongs S R false l = RightIn S R l
 
--- The faces of a set are just those on the sides that belong to its region: the left side of each link along a signed arc belongs to the region
--- exactly if the face left of the arc is in the set, and each face of the set is left of some signed arc.
+-- The faces of a set are just those on the sides that belong to its region: the left side of each link along a signed
+-- arc belongs to the region exactly if the face left of the arc is in the set, and each face of the set is left of some
+-- signed arc.
 abbrev pub SetsAreOfSides : Type 0
 SetsAreOfSides = (d : Drawing) (arcs : List Path) (faces : FaceTable) (label : Place → ℕ) → IsWalked d arcs faces label → (set : List ℕ) → IsSetOf faces set → (r : Region) → Follows (snapped d) arcs label set r →
     ((a : SignedArc) → a.arc < length arcs → All (λ (e : Dart). SideBelongs (links_of (snapped d)) (Has (snapped d) arcs r) (directed_as a e).forward (directed_as a e).link ↔ Contains set (face_left_of faces.places a))

@@ -1,22 +1,24 @@
-//! Laws of regions: the sets of faces that commands on polygons answer follow the regions that the commands stand for. A
-//! set follows a region where a rational point on no link is in the region exactly if its face is in the set.
+//! Laws of regions: the sets of faces that commands on polygons answer follow the regions that the commands stand for.
+//! A set follows a region where a rational point on no link is in the region exactly if its face is in the set.
 //!
 //! They are laws over what `Labels::of`, `parts`, `trace` and the calls of `region_ops` answer.
 //!
-//! - The faces that a feature or a box holds follow it (`features_are_followed`, `boxes_are_followed`), and only one set
-//!   of inner faces follows a region (`one_set_follows`).
-//! - So it is after each command: `clipped_sets_are_followed`, `erased_sets_are_followed`, `dissolved_sets_are_followed`,
-//!   `cleaned_by_regions`, `mosaics_are_followed`, `exploded_sets_are_followed`. The gaps of sets follow those between
-//!   their regions (`gaps_are_followed`), and what clean makes with them its definition (`filled_as_told`).
-//! - What is traced for a set prints its region: the rings use each step of the region's boundary once, and hold just its
-//!   points (`traces_use_boundaries`, `traces_print_regions`), part by part (`polygons_print_parts`).
-//! - What commands ask of regions is answered from the sets: which sides of links belong to a region, whether it is empty,
-//!   its area and its parts (`sides_are_told`, `emptiness_is_told`, `areas_are_told`, `parts_are_told`).
-//! - Each region has a set of inner faces that follows it (`regions_have_sets`), so right answers on sides, parts and gaps
-//!   exist (`answers_exist`).
+//! - The faces that a feature or a box holds follow it (`features_are_followed`, `boxes_are_followed`), and only one
+//!   set of inner faces follows a region (`one_set_follows`).
+//! - So it is after each command: `clipped_sets_are_followed`, `erased_sets_are_followed`,
+//!   `dissolved_sets_are_followed`, `cleaned_by_regions`, `mosaics_are_followed`, `exploded_sets_are_followed`. The
+//!   gaps of sets follow those between their regions (`gaps_are_followed`), and what clean makes with them its
+//!   definition (`filled_as_told`).
+//! - What is traced for a set prints its region: the rings use each step of the region's boundary once, and hold just
+//!   its points (`traces_use_boundaries`, `traces_print_regions`), part by part (`polygons_print_parts`).
+//! - What commands ask of regions is answered from the sets: which sides of links belong to a region, whether it is
+//!   empty, its area and its parts (`sides_are_told`, `emptiness_is_told`, `areas_are_told`, `parts_are_told`).
+//! - Each region has a set of inner faces that follows it (`regions_have_sets`), so right answers on sides, parts and
+//!   gaps exist (`answers_exist`).
 //!
-//! Each function carries one law in its contract, and does nothing. Regions are those of `region_model`; the laws are stated
-//! in `specs/Followed.antt`, `specs/Gaps.antt`, `specs/Printed.antt`, `specs/Ties.antt` and `specs/Answered.antt`.
+//! Each function carries one law in its contract, and does nothing. Regions are those of `region_model`; the laws are
+//! stated in `specs/Followed.antt`, `specs/Gaps.antt`, `specs/Printed.antt`, `specs/Ties.antt` and
+//! `specs/Answered.antt`.
 #![tactic(auto)]
 
 ghost use Rattle.region_laws.specs.Answered.{AnswersExist, AreasAreTold, CleanedAsTold, EmptinessIsTold, ExplodedAsTold, LayersAreFollowed, MosaicAsTold, PartsAreTold, PartsExist, RegionsHaveSets, SidesAreTold, TracesFit};
@@ -85,8 +87,8 @@ pub fn cleaned_sets_are_followed()
     ensures { CleanedSetsAreFollowed }
 {}
 
-/// The sets that `parts` answers for a set follow the parts of its region, in their order: two points of the region are in
-/// one part where no closed runs of its boundary separate them, and parts are numbered by the least arcs in their
+/// The sets that `parts` answers for a set follow the parts of its region, in their order: two points of the region are
+/// in one part where no closed runs of its boundary separate them, and parts are numbered by the least arcs in their
 /// boundaries.
 pub fn parts_are_followed()
     ensures { PartsAreFollowed }
@@ -99,19 +101,20 @@ pub fn gaps_are_followed()
     ensures { GapsAreFollowed }
 {}
 
-/// The sets that `clean_sets` answers follow what clean makes of the regions: what is left of each when overlaps are given
-/// away, with the filled gaps that go to it.
+/// The sets that `clean_sets` answers follow what clean makes of the regions: what is left of each when overlaps are
+/// given away, with the filled gaps that go to it.
 pub fn filled_as_told()
     ensures { FilledAsTold }
 {}
 
-/// The items that `explode_sets` answers follow the parts of the regions, region by region; an empty region stays one item.
+/// The items that `explode_sets` answers follow the parts of the regions, region by region; an empty region stays one
+/// item.
 pub fn exploded_sets_are_followed()
     ensures { ExplodedSetsAreFollowed }
 {}
 
-/// What just some of the regions have, as meets, unions and what is left of them, has a point exactly if these regions have
-/// it and no others.
+/// What just some of the regions have, as meets, unions and what is left of them, has a point exactly if these regions
+/// have it and no others.
 pub fn exactly_has_points()
     ensures { ExactlyHasPoints }
 {}
@@ -122,8 +125,8 @@ pub fn mosaics_are_followed()
     ensures { MosaicsAreFollowed }
 {}
 
-/// Twice the area of a set of faces, as each face gives its own, is the sum of `x1 * y2 - y1 * x2` over the steps of the
-/// boundary of its region, with the region on the left.
+/// Twice the area of a set of faces, as each face gives its own, is the sum of `x1 * y2 - y1 * x2` over the steps of
+/// the boundary of its region, with the region on the left.
 pub fn areas_are_those_of_regions()
     ensures { AreasAreThoseOfRegions }
 {}
@@ -133,8 +136,8 @@ pub fn traces_print_regions()
     ensures { TracesPrintRegions }
 {}
 
-/// Of the polygons that `trace` answers there is one for each part of the region, in order, and its rings hold the points
-/// of this part.
+/// Of the polygons that `trace` answers there is one for each part of the region, in order, and its rings hold the
+/// points of this part.
 pub fn polygons_print_parts()
     ensures { PolygonsPrintParts }
 {}
@@ -155,8 +158,8 @@ pub fn empty_sets_are_empty_regions()
     ensures { EmptySetsAreEmptyRegions }
 {}
 
-/// The sets that `separate_sets` answers follow their regions less any of those that rank before them, where the areas that
-/// rank them are those within the boundaries of the regions.
+/// The sets that `separate_sets` answers follow their regions less any of those that rank before them, where the areas
+/// that rank them are those within the boundaries of the regions.
 pub fn cleaned_by_regions()
     ensures { CleanedByRegions }
 {}
@@ -206,8 +209,8 @@ pub fn areas_are_told()
     ensures { AreasAreTold }
 {}
 
-/// The sets that `separate_sets` answers follow what the definition of clean leaves of their regions when overlaps are given
-/// away.
+/// The sets that `separate_sets` answers follow what the definition of clean leaves of their regions when overlaps are
+/// given away.
 pub fn cleaned_as_told()
     ensures { CleanedAsTold }
 {}
@@ -222,8 +225,8 @@ pub fn exploded_as_told()
     ensures { ExplodedAsTold }
 {}
 
-/// The items that `mosaic_sets` answers are in order, with their lists of numbers, those that the definition of a mosaic makes
-/// of the regions.
+/// The items that `mosaic_sets` answers are in order, with their lists of numbers, those that the definition of a
+/// mosaic makes of the regions.
 pub fn mosaic_as_told()
     ensures { MosaicAsTold }
 {}

@@ -39,7 +39,7 @@ ranks_before MaxId m a n b = nat_lt n m
 ranks_before MinArea m a n b = by_size (int_lt a b) (int_lt b a) (nat_lt m n)
 ranks_before MaxArea m a n b = by_size (int_lt b a) (int_lt a b) (nat_lt m n)
 
--- of so many features, those that rank before feature n by the areas of their regions
+-- of `many` features, those that rank before feature n by the areas of their regions
 abbrev pub earlier_in_rank : Plane → Answers → OverlapRule → (ℕ → Region) → ℕ → ℕ → List ℕ
 earlier_in_rank P A rule region many n = filter (λ (m : ℕ). ranks_before rule m (area_of P A (region m)) n (area_of P A (region n))) (range_with_len 0 many)
 
@@ -49,11 +49,11 @@ cleaned P A rule region many n = less (region n) (any_of (regions_at region (ear
 
 -- ---- clean, with the gaps between all features that are filled
 
--- the numbers of so many features, the first in rank first
+-- the numbers of `many` features, the first in rank first
 abbrev pub ranking : Plane → Answers → OverlapRule → (ℕ → Region) → ℕ → List ℕ
 ranking P A rule region many = sort_stable (λ (m n : ℕ). ranks_before rule m (area_of P A (region m)) n (area_of P A (region n))) (range_with_len 0 many)
 
--- all regions of so many features
+-- all regions of `many` features
 abbrev pub all_regions : (ℕ → Region) → ℕ → List Region
 all_regions region many = regions_at region (range_with_len 0 many)
 
@@ -88,7 +88,7 @@ all_of [] = any_of []
 all_of (r ∷ []) = r
 all_of (r ∷ s ∷ rs) = both r (all_of (s ∷ rs))
 
--- of so many regions, what just those of the numbers have
+-- of `many` regions, what just those of the numbers have
 abbrev pub exactly : (ℕ → Region) → ℕ → List ℕ → Region
 exactly region many numbers = less (all_of (regions_at region numbers)) (any_of (regions_at region (filter (λ (n : ℕ). not (has nat_eq numbers n)) (range_with_len 0 many))))
 
@@ -122,7 +122,7 @@ is_detached P A rs n piece = list_all (stands_alone A rs n) (boundary P A piece)
 abbrev pub is_small : Plane → Answers → ℕ → ℕ → Region → Bool
 is_small P A least_area least_links piece = int_lt (area_of P A piece) (pos least_area) || nat_lt (length (boundary P A piece)) least_links
 
--- feature n, one of so many, without the parts that are detached and small
+-- feature n, one of `many`, without the parts that are detached and small
 abbrev pub without_islands : Plane → Answers → ℕ → ℕ → (ℕ → Region) → ℕ → ℕ → Region
 without_islands P A least_area least_links region many n =
     any_of (filter (λ (piece : Region). not (is_detached P A (all_regions region many) n piece && is_small P A least_area least_links piece)) (parts_of A (region n)))

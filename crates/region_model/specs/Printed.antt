@@ -1,4 +1,5 @@
--- What printed polygons must be to fit a region; the reading of RFC 7946 (section 3.1.6), which knows exteriors and holes, and laws of both.
+-- What printed polygons must be to fit a region; the reading of RFC 7946 (section 3.1.6), which knows exteriors and
+-- holes, and laws of both.
 use Rattle.std.specs.Prelude.{◌≡◌, ◌↔◌, ℕ, Bool, true, false, not, ◌&&◌, List, [], ◌∷◌, All, AllPairs, Any}
 use Rattle.std.specs.List.{AllZip, list_any, range_with_len}
 use Rattle.lists.specs.Lists.{joined_up}
@@ -16,8 +17,9 @@ use Rattle.region_model.specs.Answers.{Plane, Answers, AreRight, PointsOf, bound
 abbrev pub printed_holds : RationalPoint → List Polygon → Bool
 printed_holds z polygons = rings_hold z (joined_up polygons)
 
--- Part j of the region, printed: the rings use its boundary once, each passes each of its vertices once, the exterior stands first and turns
--- counterclockwise, holes turn clockwise and stand in order of their least arcs, and each ring begins where its least arc does.
+-- Part j of the region, printed: the rings use its boundary once, each passes each of its vertices once, the exterior
+-- stands first and turns counterclockwise, holes turn clockwise and stand in order of their least arcs, and each ring
+-- begins where its least arc does.
 abbrev pub FitsPartOf : Plane → Answers → Region → ℕ → Polygon → Type 0
 FitsPartOf P A r j polygon = FitsPart P.arcs (boundary P A (part r j)) polygon
 

@@ -42,8 +42,8 @@ gap_of rs j = gap (regions_of rs) j
 abbrev pub IsLeastOfSome : List Segment → List Path → Points → ℕ → Type 0
 IsLeastOfSome S arcs R n = (w : RationalPoint) × IsOffLinks S w × R w × IsPartNumber S arcs R w n
 
--- z is in part j of R: parts are numbered from 0 by the least numbers of arcs in their boundaries, so that just j of these are less than that of
--- the part of z
+-- z is in part j of R: parts are numbered from 0 by the least numbers of arcs in their boundaries, so that just j of
+-- these are less than that of the part of z
 pub record IsInPart (S : List Segment) (arcs : List Path) (R : Points) (z : RationalPoint) (j : ℕ) : Type 0 where
   pub number : ℕ
   pub is_number : IsPartNumber S arcs R z number
@@ -66,7 +66,8 @@ GapWith S R z w = (R w → ⊥) × AreJoinedIn S R z w
 abbrev pub IsArcOfGap : List Segment → List Path → Points → RationalPoint → ℕ → Type 0
 IsArcOfGap S arcs R z n = (l : Segment) × Contains (links_of_arc arcs n) l × IsBoundaryLink S R l × IsSeenFrom S (GapWith S R z) l
 
--- what z is in is a gap, for none of its points is left of all links; and n is the least number of an arc in its boundary
+-- what z is in is a gap, for none of its points is left of all links; and n is the least number of an arc in its
+-- boundary
 pub record IsGapNumber (S : List Segment) (arcs : List Path) (R : Points) (z : RationalPoint) (n : ℕ) : Type 0 where
   pub bounded : (w : RationalPoint) → IsOffLinks S w → GapWith S R z w → IsLeftOfLinks S w → ⊥
   pub is_arc : IsArcOfGap S arcs R z n

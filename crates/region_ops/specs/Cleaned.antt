@@ -42,7 +42,7 @@ abbrev pub IsFirst : OverlapRule → List ℤ → List ℕ → Option ℕ → Ty
 IsFirst rule areas numbers None = numbers ≡ []
 IsFirst rule areas numbers (Some m) = Contains numbers m × All (λ n. is_before rule areas n m ≡ false) numbers
 
--- the first of the owners of each of so many faces
+-- the first of the owners of each of `count` faces
 pub record AreFirsts (rule : OverlapRule) (areas : List ℤ) (owners : List (List ℕ)) (count : ℕ) (firsts : List (Option ℕ)) : Type 0 where
   pub each : length firsts ≡ count
   pub exact : (k : ℕ) → k < count → IsFirst rule areas (slice_index_or owners k []) (slice_index_or firsts k None)
@@ -55,7 +55,7 @@ is_number n (Some m) = nat_eq m n
 abbrev pub is_first : List (Option ℕ) → ℕ → ℕ → Bool
 is_first firsts n k = is_number n (slice_index_or firsts k None)
 
--- what the first so many sets have won
+-- what the first `count` sets have won
 pub record AreWon (firsts : List (Option ℕ)) (sets : List (List ℕ)) (count : ℕ) (won : List (List ℕ)) : Type 0 where
   pub each : length won ≡ count
   pub exact : (n : ℕ) → n < count → set_at won n ≡ filter (is_first firsts n) (set_at sets n)

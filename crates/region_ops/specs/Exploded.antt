@@ -14,13 +14,13 @@ pub record ArePieces (faces : FaceTable) (set : List ℕ) (pieces : List (List �
 abbrev pub items_of : ℕ → List (List ℕ) → List PartItem
 items_of n pieces = map (λ (piece : List ℕ). record { feature = n; set = piece }) pieces
 
--- the items of the pieces of a set put behind others
+-- the items of the pieces of a set appended to others
 pub record IsPushed (faces : FaceTable) (n : ℕ) (set : List ℕ) (old new : List PartItem) : Type 0 where
   pub pieces : List (List ℕ)
   pub are : ArePieces faces set pieces
   pub items : new ≡ old ++ items_of n pieces
 
--- the items of the pieces of the first so many sets, in order
+-- the items of the pieces of the first `many` sets, in order
 pub record AreExploded (faces : FaceTable) (sets : List (List ℕ)) (many : ℕ) (items : List PartItem) : Type 0 where
   pub pieces : List (List (List ℕ))
   pub each : length pieces ≡ many

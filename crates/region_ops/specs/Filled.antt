@@ -25,7 +25,7 @@ pub record Borders (faces : FaceTable) (gap set : List ℕ) : Type 0 where
   pub left : Contains gap (face_left_of faces.places arc)
   pub right : Contains set (face_right_of faces.places arc)
 
--- twice the area of the gap is at most so much
+-- twice the area of the gap is at most `most`
 abbrev pub is_filled : FaceTable → ℕ → List ℕ → Bool
 is_filled faces most gap = int_le (area_of faces.areas gap) (pos most)
 
@@ -69,7 +69,7 @@ abbrev pub IsReceiver : OverlapRule → ℕ → List Path → FaceTable → List
 IsReceiver rule most arcs faces areas cleaned gap to =
     ((is_filled faces most gap ≡ false) × (to ≡ None)) ⊎ ((is_filled faces most gap ≡ true) × IsFirst rule areas (neighbours_of arcs faces cleaned gap) to)
 
--- the faces of a gap put behind the list of the set that it goes to
+-- the faces of a gap appended to the list of the set that it goes to
 abbrev pub given : Option ℕ → List ℕ → List (List ℕ) → List (List ℕ)
 given None gap lists = lists
 given (Some n) gap lists = slice_set lists n (slice_index_or lists n [] ++ gap)

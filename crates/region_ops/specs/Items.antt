@@ -5,7 +5,7 @@ use Rattle.ring_trace.specs.Sets.{IsSetOf}
 use Rattle.region_ops.specs.declared.item_lists.MosaicItem.{MosaicItem}
 use Rattle.region_ops.specs.declared.item_lists.PartItem.{PartItem}
 
--- a part of one of so many sets
+-- a part of one of `count` sets
 pub record IsPart (faces : FaceTable) (count : ℕ) (item : PartItem) : Type 0 where
   pub feature : item.feature < count
   pub inner : IsSetOf faces item.set

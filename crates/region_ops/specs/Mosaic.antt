@@ -8,7 +8,7 @@ use Rattle.ring_trace.specs.Owners.{owners_of}
 use Rattle.ring_trace.specs.Sets.{IsInnerFace}
 use Rattle.region_ops.specs.declared.item_lists.MosaicItem.{MosaicItem}
 
--- of so many faces, those that just the sets of a list have
+-- of `count` faces, those that just the sets of a list have
 abbrev pub faces_of : List (List ℕ) → ℕ → List ℕ → List ℕ
 faces_of sets count ids = filter (λ (k : ℕ). same_list nat_eq (owners_of sets k) ids) (range_with_len 0 count)
 
@@ -28,7 +28,8 @@ items_of_groups groups = flat_map (λ (g : Group). items_of g.ids g.parts) group
 abbrev pub AreAscending : List Group → Type 0
 AreAscending groups = AllPairs (λ (g h : Group). list_before nat_lt g.ids h.ids ≡ true) groups
 
--- Each list of sets that is not empty and is just the sets that have some face, in lexicographic order of lists; and for each the parts of all faces with that list, in order.
+-- Each list of sets that is not empty and is just the sets that have some face, in lexicographic order of lists; and
+-- for each the parts of all faces with that list, in order.
 pub record IsMosaic (faces : FaceTable) (sets : List (List ℕ)) (items : List MosaicItem) : Type 0 where
   pub groups : List Group
   pub in_order : AreAscending groups
@@ -93,7 +94,7 @@ has_list owners ids k = same_list nat_eq (slice_index_or owners k []) ids
 abbrev pub faces_with : List (List ℕ) → List ℕ → List ℕ → List ℕ
 faces_with owners ids shared = ascending nat_lt (filter (has_list owners ids) shared)
 
--- the items of the parts of a set of faces put behind others
+-- the items of the parts of a set of faces appended to others
 pub record IsGroupPushed (faces : FaceTable) (ids set : List ℕ) (old new : List MosaicItem) : Type 0 where
   pub parts : List (List ℕ)
   pub are : AreParts faces set parts

@@ -14,8 +14,9 @@ use std::alloc::{AllocError, Global};
 /// For each set its faces that no set has which the rule ranks before it, and then the gaps between the sets that go to
 /// it, of those of at most the area `gap`, doubled.
 ///
-/// A gap goes to the set that ranks first of those that have, after that, a face across an arc round it. Areas are those
-/// of the sets as they come. Sets of equal areas are ranked by their numbers, the lowest first. A set may become empty.
+/// A gap goes to the set that ranks first of those that have, after that, a face across an arc round it. Areas are
+/// those of the sets as they come. Sets of equal areas are ranked by their numbers, the lowest first. A set may become
+/// empty.
 /// Cost: one step for each face of each set, and n log n for the n arcs and faces of the table.
 pub fn clean_sets(
     alloc: Global,

@@ -142,7 +142,7 @@ fn sets_across<'a>(f: &Faces, owners: &'a FaceOwners, arc: SignedArc) -> &'a [u3
     owners.at(f.left_of(arc.flip()))
 }
 
-// Puts the faces of a gap behind the list of the set that it goes to.
+// Appends the faces of a gap to the list of the set that it goes to.
 fn give(lists: &mut Vec<Vec<FaceId>>, gap: &[FaceId], to: Option<u32>) -> Result<(), AllocError>
     ensures each { OnOk result (length lists.new.items ≡ length lists.old.items) }
     ensures exact { OnOk result (map (λ list. list.items) lists.new.items ≡ given to gap.now (map (λ list. list.items) lists.old.items)) }
@@ -153,7 +153,7 @@ fn give(lists: &mut Vec<Vec<FaceId>>, gap: &[FaceId], to: Option<u32>) -> Result
     }
 }
 
-// Puts faces behind the list at a place, where there is one.
+// Appends faces to the list at a place, where there is one.
 fn append(lists: &mut Vec<Vec<FaceId>>, place: usize, faces: &[FaceId]) -> Result<(), AllocError>
     ensures each { OnOk result (length lists.new.items ≡ length lists.old.items) }
     ensures exact { OnOk result (map (λ list. list.items) lists.new.items ≡ slice_set (map (λ list. list.items) lists.old.items) place (slice_index_or (map (λ list. list.items) lists.old.items) place [] ++ faces.now)) }

@@ -11,7 +11,7 @@ use Rattle.lists.specs.Lists.{has}
 use Rattle.bucket_grid.proofs.Numbers.{numbers_where_more, numbers_where_below}
 use Rattle.ring_trace.specs.Owners.{owners_of, AreOwners, with_number, IsNumbered}
 
--- at one place, where the number of a set is put behind the list at place f, one of its faces
+-- at one place, where the number of a set is appended to the list at place f, one of its faces
 at_face : (n k f : ℕ) (old lists : List (List ℕ)) → k < length lists → (before here : Bool) → nat_eq k f ≡ here → (here ≡ true → before ≡ false) →
     get_or lists k [] ≡ get_or old k [] ++ cond before (n ∷ []) [] → get_or (with_number n f lists) k [] ≡ get_or old k [] ++ cond (before || here) (n ∷ []) []
 at_face n k f old lists l true true e first h = absurd (let t : true ≡ false = first refl in cc)

@@ -31,7 +31,7 @@ gone_before is_gone e k h = elim (cases_eq k e) [
 not_gone : (is_gone : List Bool) (e k : ℕ) → get_or is_gone e false ≡ false → IsGone is_gone k → k ≡ e → ⊥
 not_gone is_gone e k free h same = let f : true ≡ false = sym h ∙ ap (λ (n : ℕ). get_or is_gone n false) same ∙ free in absurd (cc)
 
--- the last edge gone along leads to the one at which we are; to each other but the first one of the others leads
+-- the last edge gone along leads to edge `at`; to each other edge gone along, but the first, one of the others leads
 pub record IsRound (onward : List ℕ) (is_gone : List Bool) (first at : ℕ) : Type 0 where
   pub last : ℕ
   pub gone : get_or is_gone last false ≡ true

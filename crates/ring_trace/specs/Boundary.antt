@@ -16,7 +16,7 @@ face_right_of places a = face_left_of places (other_way a)
 abbrev pub is_outward : List ℕ → List ℕ → SignedArc → Bool
 is_outward places set a = not (has nat_eq set (face_right_of places a))
 
--- of so many arcs, forward and reversed, those of the boundary
+-- of the first `many` arcs, forward and reversed, those of the boundary
 abbrev pub boundary : List ℕ → ℕ → List ℕ → List SignedArc
 boundary places many set = filter (λ (a : SignedArc). has nat_eq set (face_left_of places a) && is_outward places set a) (signed_below many)
 

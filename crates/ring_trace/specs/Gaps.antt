@@ -13,7 +13,8 @@ outside_of faces set = filter (λ (k : ℕ). not (has nat_eq set k)) (range_with
 abbrev pub has_outer : FaceTable → List ℕ → Bool
 has_outer faces some = has nat_eq some (slice_index faces.places 0)
 
--- The gaps of a set: the parts of what is outside it, in the order of the least arcs of their boundaries, without the part that has the outer face.
+-- The gaps of a set: the parts of what is outside it, in the order of the least arcs of their boundaries, without the
+-- part that has the outer face.
 pub record AreGaps (faces : FaceTable) (set : List ℕ) (gaps : List (List ℕ)) : Type 0 where
   pub parts : List (List ℕ)
   pub are_parts : AreParts faces (outside_of faces set) parts

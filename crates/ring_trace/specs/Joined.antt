@@ -47,7 +47,8 @@ IsCoarser old new = (i j : ℕ) → i < length old → j < length old → slice_
 abbrev pub IsOfClass : List ℕ → ℕ → Side → Type 0
 IsOfClass classes k s = slice_index classes s.place ≡ k
 
--- at the least place of each class the least number of an arc of its sides; none is greater than 2 ^ 32 - 1, and that stands for a class with no sides
+-- at the least place of each class the least number of an arc of its sides; none is greater than 2 ^ 32 - 1, and that
+-- stands for a class with no sides
 pub record AreLeastNumbers (classes : List ℕ) (sides : List Side) (numbers : List ℕ) : Type 0 where
   pub few : All (λ (s : Side). s.arc.arc < 2 ^ 32) sides
   pub least : (k : ℕ) (s : Side) → k < length numbers → Contains sides s → IsOfClass classes k s → slice_index numbers k ≤ s.arc.arc
@@ -65,7 +66,8 @@ pub record IsRanked (set classes numbers : List ℕ) (p : PartFace) : Type 0 whe
   pub face : p.face ≡ slice_index set place
   pub rank : p.part ≡ rank_of classes numbers place
 
--- The parts of a set: each face of it is in one of them, two faces are in one part exactly where they are joined, and the parts stand in the order of the least arcs of their boundaries.
+-- The parts of a set: each face of it is in one of them, two faces are in one part exactly where they are joined, and
+-- the parts stand in the order of the least arcs of their boundaries.
 pub record AreParts (faces : FaceTable) (set : List ℕ) (parts : List (List ℕ)) : Type 0 where
   pub divided : IsDivided set parts
   pub ascending : All IsStrictlyIncreasing parts

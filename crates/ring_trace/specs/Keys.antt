@@ -57,7 +57,8 @@ path_along edges rings key = arcs_along edges (edges_from rings key)
 abbrev pub arc_number : List Edge → ℕ → ℕ
 arc_number edges e = (edge_at edges e).arc.arc
 
--- the key has the part of its first edge and the number of the arc of it, and no edge of its ring has an arc of lesser number
+-- the key has the part of its first edge and the number of the arc of it, and no edge of its ring has an arc of lesser
+-- number
 pub record IsLeastFirst (edges : List Edge) (rings : Rings) (key : RingKey) : Type 0 where
   pub some : key.first < key.end
   pub part : key.part ≡ (edge_at edges (slice_index rings.edges.items key.first)).part

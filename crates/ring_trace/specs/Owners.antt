@@ -6,16 +6,16 @@ use Rattle.lists.specs.Lists.{has, numbers_where}
 abbrev pub owners_of : List (List ℕ) → ℕ → List ℕ
 owners_of sets k = numbers_where (λ (set : List ℕ). has nat_eq set k) sets
 
--- for each of so many faces a list: those sets
+-- for each of `count` faces the list of the sets that have it
 pub record AreOwners (sets : List (List ℕ)) (count : ℕ) (owners : List (List ℕ)) : Type 0 where
   pub each : length owners ≡ count
   pub exact : (k : ℕ) → k < count → slice_index_or owners k [] ≡ owners_of sets k
 
--- the number put behind the list at a place, where there is one
+-- a number appended to the list at a place, where there is one
 abbrev pub with_number : ℕ → ℕ → List (List ℕ) → List (List ℕ)
 with_number n place lists = slice_set lists place (slice_index_or lists place [] ++ n ∷ [])
 
--- the lists of faces, with the number behind those of the faces of a set
+-- the lists of faces, with the number appended to those of the faces of a set
 pub record IsNumbered (n : ℕ) (set : List ℕ) (old new : List (List ℕ)) : Type 0 where
   pub each : length new ≡ length old
   pub exact : (k : ℕ) → k < length old → slice_index_or new k [] ≡ slice_index_or old k [] ++ (if has nat_eq set k then n ∷ [] else [])

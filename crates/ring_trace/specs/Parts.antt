@@ -6,7 +6,7 @@ use Rattle.face_walk.specs.Places.{FaceTable, HasArc}
 use Rattle.ring_trace.specs.declared.joined_faces.Side.{Side}
 use Rattle.ring_trace.specs.declared.part_sets.PartFace.{PartFace}
 
--- an arc of the faces, beside one of so many
+-- a signed arc of the faces, with a place below `count`
 pub record IsSide (faces : FaceTable) (count : ℕ) (side : Side) : Type 0 where
   pub arc : HasArc faces side.arc
   pub place : side.place < count

@@ -6,12 +6,12 @@ use Rattle.ring_trace.specs.declared.simple_rings.RingSpan.{RingSpan}
 use Rattle.ring_trace.specs.declared.simple_rings.Rings.{Rings}
 use Rattle.ring_trace.specs.declared.simple_rings.Walk.{Walk}
 
--- a span of so many edges
+-- a span within a list of `count` edges
 pub record IsSpan (count : ℕ) (span : RingSpan) : Type 0 where
   pub ordered : span.begin ≤ span.end
   pub within : span.end ≤ count
 
--- rings of edges, of which there are so many
+-- rings of edges, each edge by its number below `count`
 pub record IsWhole (count : ℕ) (rings : Rings) : Type 0 where
   pub edges : All (λ e. e < count) rings.edges.items
   pub spans : All (IsSpan (length rings.edges.items)) rings.spans.items
@@ -36,7 +36,8 @@ abbrev pub AreTiled : ℕ → List RingSpan → ℕ → Type 0
 AreTiled from [] end = from ≡ end
 AreTiled from (s ∷ spans) end = (s.begin ≡ from) × (s.begin ≤ s.end) × AreTiled s.end spans end
 
--- each edge that is gone along is once in the rings or on the way, and no other: whatever is added along these adds up to the same; the spans are all of the rings
+-- each edge that is gone along is once in the rings or on the way, and no other: whatever is added along these adds up
+-- to the same; the spans are all of the rings
 pub record IsKept (walk : Walk) (rings : Rings) : Type 0 where
   pub once : (g : ℕ → ℕ) → sum_by g rings.edges.items + sum_by g walk.way.items ≡ sum_where g 0 walk.is_gone.items
   pub tiled : AreTiled 0 rings.spans.items (length rings.edges.items)

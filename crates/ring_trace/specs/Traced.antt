@@ -23,7 +23,7 @@ times_round a rings = sum_by (times a) rings
 abbrev pub times_traced : SignedArc → List (List (List SignedArc)) → ℕ
 times_traced a polygons = sum_by (times_round a) polygons
 
--- it is one of so many arcs, a face of the set is on its left and none on its right
+-- it is one of the first `many` arcs, a face of the set is on its left and none on its right
 abbrev pub is_of_boundary : List ℕ → ℕ → List ℕ → SignedArc → Bool
 is_of_boundary places many set a = nat_lt a.arc many && (has nat_eq set (face_left_of places a) && is_outward places set a)
 
@@ -47,7 +47,8 @@ BeginsWithLeast (a ∷ rest) = All (λ b. a.arc ≤ b.arc) rest
 abbrev pub bounded : List ℕ → ℕ → List (List ℕ) → List (List ℕ)
 bounded places many parts = filter (λ (part : List ℕ). nat_lt 0 (length (boundary places many part))) parts
 
--- One polygon for each of these parts, in their order: its rings use each signed arc of the boundary of the part once, and no other.
+-- One polygon for each of these parts, in their order: its rings use each signed arc of the boundary of the part once,
+-- and no other.
 pub record UseParts (places : List ℕ) (many : ℕ) (parts : List (List ℕ)) (polygons : List (List (List SignedArc))) : Type 0 where
   pub each : length polygons ≡ length (bounded places many parts)
   pub once : (k : ℕ) (a : SignedArc) → k < length polygons → times_round a (slice_index_or polygons k []) ≡ once_if (is_of_boundary places many (slice_index_or (bounded places many parts) k []) a)

@@ -11,7 +11,7 @@ use Rattle.arc_table.specs.Direction.{point_at}
 abbrev pub points_along : List Path → List SignedArc → Path
 points_along arcs ring = flat_map (λ (a : SignedArc). without_last (points_of arcs a)) ring
 
--- points with the first again behind them
+-- points with the first again at the end
 abbrev pub closed : Path → Path
 closed points = points ++ take 1 points
 
@@ -35,7 +35,8 @@ abbrev pub first_number : List SignedArc → ℕ
 first_number [] = 0
 first_number (a ∷ rest) = a.arc
 
--- a ring may stand before another: not a hole before an exterior, and of two exteriors or two holes not the one with the greater first arc
+-- a ring may stand before another: not a hole before an exterior, and of two exteriors or two holes not the one with
+-- the greater first arc
 pub record MayStandBefore (arcs : List Path) (g h : List SignedArc) : Type 0 where
   pub exteriors_first : is_left arcs h ≡ true → is_left arcs g ≡ true
   pub in_order : is_left arcs g ≡ is_left arcs h → first_number g ≤ first_number h

@@ -71,7 +71,7 @@ fn add_owner(lists: &mut Vec<Vec<u32>>, faces: &[FaceId], n: u32) -> Result<(), 
     Ok(())
 }
 
-// Puts a number behind the list at a place, where there is one.
+// Appends a number to the list at a place, where there is one.
 fn put_number(lists: &mut Vec<Vec<u32>>, place: usize, n: u32) -> Result<(), AllocError>
     ensures { OnOk result (map (λ list. list.items) lists.new.items ≡ with_number n place (map (λ list. list.items) lists.old.items)) }
 {

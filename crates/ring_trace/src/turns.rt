@@ -68,7 +68,7 @@ fn push_points(points: &mut Vec<Pt>, t: &ArcTable, arc: SignedArc) -> Result<(),
     Ok(())
 }
 
-// Where the point that comes after `k` others on a signed arc stands, of so many of the arc.
+// The place, among the `count` points of an arc, of the point that comes after `k` others on the signed arc.
 fn place_along(arc: SignedArc, count: usize, k: usize) -> usize
     requires { k < count }
     ensures { result ≡ (if arc.is_reversed then count - 1 - k else k) }

@@ -73,7 +73,7 @@ sets_counted faces n = length-map-range_with_len (face_shape faces) 0 n
 
 -- ---- layers
 
--- what was begun, with more behind it
+-- what was begun, with more after it
 abbrev pub Goes : List Path → Left → List LayerContent → List Layer → Left → List LayerContent → Type 0
 Goes arcs start all begun left given = (more : List Layer) → AreBegun arcs left given more → AreBegun arcs start all (begun ++ more)
 
@@ -92,7 +92,7 @@ behind_more all items given start left next layer e h f = ap (behind_all given) 
 
 -- ---- sources
 
--- what the sources so far began as, with more behind it
+-- what the sources so far began as, with more after it
 pub record SourcesGo (arcs : List Path) (start : Left) (owners : List Owner) (given : List (List LayerContent)) (layers : List Layer) (sources : List (List Layer)) (left : Left) (owners' : List Owner) (given' : List (List LayerContent)) : Type 0 where
   pub seen : List (List Layer)
   pub each : (more : List (List Layer)) → AreBegunOfEach arcs left given' more → AreBegunOfEach arcs start given (seen ++ more)

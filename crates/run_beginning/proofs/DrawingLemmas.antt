@@ -1,4 +1,4 @@
--- What is put behind a drawing, or into its last feature, piece by piece.
+-- What is added to a drawing, or to its last feature, piece by piece.
 use Rattle.std.proofs.Common.{◌≡◌, refl, sym, ap, ◌∙◌, ℕ, ◌+◌, ◌<◌, List, [], ◌∷◌, ◌++◌, map, take, length, get_or, append_assoc}
 use Rattle.std.proofs.lemmas.List.{append-nil, map-append}
 use Rattle.std.proofs.lemmas.List.Concat.{flat_map-append}
@@ -194,7 +194,7 @@ module _ (d : Drawing) (layer : LayerContent) where
 pub no_layers : (d : Drawing) → d ≡ with_layers [] d
 no_layers d = λ j. record d { polygons = sym (append-nil d.polygons) j; lines = sym (append-nil d.lines) j; points = sym (append-nil d.points) j }
 
--- layers behind layers
+-- layers after layers
 layers_apart : (d : Drawing) (xs ys : List LayerContent) → with_layers ys (with_layers xs d) ≡ with_layers (xs ++ ys) d
 layers_apart d xs ys =
     let polygons = flat_map-append (λ (layer : LayerContent). polygon_features layer.kind layer.shapes) xs ys in

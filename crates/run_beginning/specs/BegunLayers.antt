@@ -25,7 +25,7 @@ pub record Left : Type 0 where
   pub faces : List (List ℕ)
   pub lines : List (List Path)
 
--- how many polygon features, and how many line features, a layer of some kind has, of so many features
+-- how many polygon features, and how many line features, a layer of n features of some kind has
 abbrev pub polygon_count : Kind → ℕ → ℕ
 polygon_count kinds.Polygon n = n
 polygon_count kinds.Line n = 0
@@ -38,7 +38,7 @@ line_count kinds.Line n = n
 line_count kinds.Point n = 0
 line_count kinds.Table n = 0
 
--- what is left behind those of a layer
+-- what is left after those of a layer
 abbrev pub behind : LayerContent → Left → Left
 behind layer left = record {
   faces = drop (polygon_count layer.kind (length layer.shapes)) left.faces;
@@ -59,7 +59,7 @@ pub record AreArcsOfPath (arcs : List Path) (path : Path) (named : List SignedAr
 abbrev pub AreLineArcs : List Path → List Path → List (List SignedArc) → Type 0
 AreLineArcs arcs lines paths = AllZip (AreArcsOfPath arcs) (filter has_links lines) paths
 
--- the next path, where it has links, goes behind the others
+-- the next path, where it has links, is appended to the others
 abbrev pub GoesAlong : List Path → Path → List (List SignedArc) → List (List SignedArc) → Type 0
 GoesAlong arcs path old new = MatchBool (has_links path) ((along : List SignedArc) × AreArcsOfPath arcs path along × (new ≡ old ++ along ∷ [])) (new ≡ old)
 
@@ -101,7 +101,7 @@ pub record IsBegunLayer (arcs : List Path) (left : Left) (given : LayerContent) 
   pub table : begun.table ≡ given.table
   pub shapes : AreShapes arcs left given.kind given.shapes begun.shapes.items
 
--- each layer behind those before it
+-- each layer after those before it
 abbrev pub AreBegun : List Path → Left → List LayerContent → List Layer → Type 0
 AreBegun arcs left [] [] = ⊤
 AreBegun arcs left [] (layer ∷ begun) = ⊥
@@ -114,7 +114,7 @@ behind_all (layer ∷ layers) left = behind_all layers (behind layer left)
 
 -- ---- sources
 
--- the layers of each source behind those of the sources before it
+-- the layers of each source after those of the sources before it
 abbrev pub AreBegunOfEach : List Path → Left → List (List LayerContent) → List (List Layer) → Type 0
 AreBegunOfEach arcs left [] [] = ⊤
 AreBegunOfEach arcs left [] (layers ∷ begun) = ⊥

@@ -76,7 +76,7 @@ drawn_boxes boxes = map (λ (box : Corners). without_repeats (outline box)) boxe
 abbrev pub drawing_of : List LayerContent → List Corners → Drawing
 drawing_of layers boxes = record { polygons = polygons_in layers; lines = lines_in layers; points = points_in layers; boxes = drawn_boxes boxes }
 
--- ---- what is put behind a drawing
+-- ---- what is added to a drawing
 
 abbrev pub with_layers : List LayerContent → Drawing → Drawing
 with_layers layers d = record d { polygons = d.polygons ++ polygons_in layers; lines = d.lines ++ lines_in layers; points = d.points ++ points_in layers }

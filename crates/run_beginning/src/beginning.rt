@@ -102,7 +102,7 @@ fn first_of(features: Vec<FaceSet>) -> Next
     }
 }
 
-// The layers of a source to those of the import, or to those of its command.
+// Adds the layers of a source to those of the import, or keeps them for its command.
 fn hand_out(
     alloc: Global,
     owner: Owner,
@@ -132,7 +132,7 @@ fn put_layers(layers: &mut Vec<Layer>, more: Vec<Layer>) -> Result<(), AllocErro
     Ok(())
 }
 
-// Layers over the plane, behind those of the drawing before them.
+// Layers over the plane, after those of the drawing before them.
 fn begun_layers(
     alloc: Global,
     arcs: &ArcTable,
@@ -202,7 +202,7 @@ fn begun_shapes(
     }
 }
 
-// The sets of the next polygon features, of which there are so many.
+// The sets of the next `count` polygon features.
 fn begun_faces(
     alloc: Global,
     faces: &mut IntoIter<FaceSet>,
@@ -235,7 +235,7 @@ fn next_set(alloc: Global, faces: &mut IntoIter<FaceSet>) -> FaceSet
     }
 }
 
-// The paths of the next line features, of which there are so many, as arcs.
+// The paths of the next `count` line features, as arcs.
 fn begun_lines(
     alloc: Global,
     arcs: &ArcTable,
@@ -257,7 +257,7 @@ fn begun_lines(
     Ok(begun)
 }
 
-// The number of the line feature so many behind another, or one that there is no line feature of.
+// The number of the line feature that comes `number` features after another, or a number that no line feature has.
 fn line_behind(snapped: &Snapped, line: u32, number: u32) -> u32
     ensures exact { drop result snapped.now.lines ≡ drop number (drop line snapped.now.lines) }
 {

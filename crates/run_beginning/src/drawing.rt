@@ -117,7 +117,7 @@ fn add_polygons(
     Ok(())
 }
 
-// The rings of the last polygon.
+// Adds rings to the last polygon.
 fn add_rings(alloc: Global, drawing: &mut Drawing, rings: &[PtList]) -> Result<(), AllocError>
     requires polygon { 0 < length (last_of [] drawing.old.polygons) }
     requires rings { All IsRing rings.now }

@@ -115,14 +115,14 @@ pub record Passes (base : Base) (c : Command) (layers layers' : List Held) (befo
   pub there : has_target c.target layers ≡ true
   pub goes : GoesOn base c c.action layers layers' before after
 
--- what a command with this number does: it gives the state behind it, or the outcome of the run
+-- what a command with this number does: it gives the state after it, or the outcome of the run
 abbrev pub StepMeans : Base → ℕ → Command → List Held → OutsideSeen → OutsideSeen → Result State Outcome → Type 0
 StepMeans base n c layers before after (Ok state) = Passes base c layers state.layers.items before after
 StepMeans base n c layers before after (Err o) = Ends base n c layers before after o
 
 -- ---- commands in order
 
--- the commands behind so many done ones: the first that ends the run is the last that changes anything
+-- the commands after `done` others: the first that ends the run is the last that changes anything
 abbrev pub CommandsRun : Base → ℕ → List Held → List Command → OutsideSeen → OutsideSeen → Outcome → Type 0
 CommandsRun base done layers [] before after o = (o ≡ outcome.Done) × (after ≡ before)
 CommandsRun base done layers (c ∷ cs) before after o = Ends base (done + 1) c layers before after o
@@ -197,7 +197,8 @@ pub record IsUntold (seed n : ℕ) (before after : StreamSeen) (o : Outcome) : T
   pub ends : o ≡ of_drawing fault
   pub kept : after ≡ before
 
--- the line of its numbers goes whole to the standard stream, or a front of it does and the count of its failed writes rises
+-- the line of its numbers goes whole to the standard stream, or a front of it does and the count of its failed writes
+-- rises
 pub record TellsLine (seed n : ℕ) (before after : StreamSeen) (o : Outcome) : Type 0 where
   pub line : Content
   pub of_mosaic : IsToldOf (cells seed n) (n * n) line

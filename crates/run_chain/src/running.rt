@@ -63,7 +63,7 @@ fn run_words<F: Files, I: Source, K: Sink>(
     }
 }
 
-// The line of a made-up mosaic, to the standard stream.
+// Writes the line of a made-up mosaic to the standard stream.
 fn run_synth<K: Sink>(alloc: Global, seed: u32, n: u32, output: &mut K) -> Outcome
     requires few { n ≤ 300 }
     ensures ran { SynthRuns seed n (record { told = K.held output.old; faults = K.faults output.old }) (record { told = K.held output.new; faults = K.faults output.new }) result }
@@ -101,7 +101,7 @@ fn run_chain<F: Files, I: Source, K: Sink>(
     }
 }
 
-// The commands, over what the sources gave.
+// Runs the commands over what the sources gave.
 fn run_begun<F: Files, K: Sink>(
     alloc: Global,
     chain: &Chain,
@@ -139,7 +139,7 @@ fn run_begun<F: Files, K: Sink>(
     }
 }
 
-// The commands behind so many done ones.
+// Runs the commands that follow `done` others.
 fn run_commands<F: Files, K: Sink>(
     alloc: Global,
     ground: &Ground<'_>,

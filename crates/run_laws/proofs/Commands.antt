@@ -1,47 +1,38 @@
--- Commands in order: a write that failed is that of the command that is answered.
+-- Commands in order: what is refused, or failed to be written, is of the command that is answered.
 use Rattle.std.proofs.Common.{◌≡◌, ◌⊎◌, inl, inr, ℕ, ◌+◌, suc, List, [], ◌∷◌, slice_get, Some, refl, ap, sym, ◌∙◌, arith, subst}
 use Rattle.cmd_words.specs.declared.job.Action.{Action}
 use Rattle.cmd_words.specs.declared.job.Action.TheVariants as action
 use Rattle.cmd_words.specs.declared.job.Command.{Command}
-use Rattle.cmd_words.specs.declared.fault.WordFault.{WordFault}
-use Rattle.cmd_words.specs.declared.fault.WordFault.TheVariants as words
-use Rattle.snap_round.specs.declared.fault.SnapFault.{SnapFault}
-use Rattle.snap_round.specs.declared.fault.SnapFault.TheVariants as snap
 use Rattle.run_state.specs.Origins.{Base}
+use Rattle.run_state.specs.declared.refusal.RefuseWhy.{RefuseWhy}
 use Rattle.run_state.specs.declared.state.CommandStop.{CommandStop}
 use Rattle.run_state.specs.declared.state.CommandStop.TheVariants as stop
 use Rattle.run_state.specs.declared.state.Held.{Held}
-use Rattle.run_outcome.specs.Ends.{of_command, of_drawing, of_words}
+use Rattle.run_outcome.specs.Ends.{of_command}
 use Rattle.run_outcome.specs.declared.outcome.Outcome.{Outcome}
 use Rattle.run_outcome.specs.declared.outcome.Outcome.TheVariants as end
 use Rattle.run_chain.specs.Effects.{OutsideSeen, CountsGrew}
 use Rattle.run_chain.specs.Running.{CommandsRun, EndsWriting, GoesOn}
 use Rattle.run_laws.proofs.Counts.{ActionRose, action_rose, counts_grew}
 
--- outcomes that have no cause outside
+-- all is done, or memory ran out
 abbrev pub Quiet : Outcome → Type 0
-Quiet (end.ReadFault n) = ⊥
-Quiet (end.Missing n) = ⊥
-Quiet (end.TooLong n) = ⊥
-Quiet (end.WriteFault n) = ⊥
-Quiet _ = Unit {0}
-
-pub words_are_quiet : (fault : WordFault) → Quiet (of_words fault)
-words_are_quiet (words.Bad n why) = tt
-words_are_quiet words.Memory = tt
-
-pub drawing_is_quiet : (fault : SnapFault) → Quiet (of_drawing fault)
-drawing_is_quiet (snap.TooDense count) = tt
-drawing_is_quiet snap.Memory = tt
-
-command_is_quiet : (n : ℕ) (s : CommandStop) → Quiet (of_command n s)
-command_is_quiet n (stop.Refused why) = tt
-command_is_quiet n stop.Memory = tt
+Quiet end.Done = Unit {0}
+Quiet end.Memory = Unit {0}
+Quiet _ = ⊥
 
 pub quiet_by : (o end' : Outcome) → o ≡ end' → Quiet end' → Quiet o
 quiet_by o end' e q = subst Quiet (sym e) q
 
--- command k behind so many done ones failed to write
+-- one of the commands is refused; its number counts the `done` ones before them too
+pub record RefusedOne (done : ℕ) (cs : List Command) (o : Outcome) : Type 0 where
+  pub place : ℕ
+  pub command : Command
+  pub there : slice_get cs place ≡ Some command
+  pub why : RefuseWhy
+  pub ends : o ≡ end.Refused (done + (place + 1)) why
+
+-- one of them failed to write
 pub record FailedWrite (done : ℕ) (cs : List Command) (before after : OutsideSeen) (o : Outcome) : Type 0 where
   pub place : ℕ
   pub command : Command
@@ -68,14 +59,32 @@ one_further done c cs before middle after o grew f = record {
   rose = action_rose f.command.action before middle after grew f.rose;
 }
 
-pub commands_end : (base : Base) (cs : List Command) (done : ℕ) (layers : List Held) (before after : OutsideSeen) (o : Outcome) → CommandsRun base done layers cs before after o → Quiet o ⊎ FailedWrite done cs before after o
+one_refused_further : (done : ℕ) (c : Command) (cs : List Command) (o : Outcome) → RefusedOne (done + 1) cs o → RefusedOne done (c ∷ cs) o
+one_refused_further done c cs o r = record {
+  place = suc r.place;
+  command = r.command;
+  there = r.there;
+  why = r.why;
+  ends = r.ends ∙ ap (λ (n : ℕ). end.Refused n r.why) (omega arith);
+}
+
+-- how commands end: quietly, or one of them is refused, or fails to write
+abbrev pub CommandsEnd : ℕ → List Command → OutsideSeen → OutsideSeen → Outcome → Type 0
+CommandsEnd done cs before after o = Quiet o ⊎ (RefusedOne done cs o ⊎ FailedWrite done cs before after o)
+
+first_stopped : (done : ℕ) (c : Command) (cs : List Command) (before after : OutsideSeen) (o : Outcome) (s : CommandStop) → o ≡ of_command (done + 1) s → CommandsEnd done (c ∷ cs) before after o
+first_stopped done c cs before after o (stop.Refused why) e = inr (inl (record { place = 0; command = c; there = refl; why = why; ends = e }))
+first_stopped done c cs before after o stop.Memory e = inl (quiet_by o end.Memory e tt)
+
+pub commands_end : (base : Base) (cs : List Command) (done : ℕ) (layers : List Held) (before after : OutsideSeen) (o : Outcome) → CommandsRun base done layers cs before after o → CommandsEnd done cs before after o
 commands_end base [] done layers before after o r = inl (quiet_by o end.Done r.0 tt)
-commands_end base (c ∷ cs) done layers before after o (inl (inl s)) = inl (quiet_by o (of_command (done + 1) s.stop) s.ends (command_is_quiet (done + 1) s.stop))
+commands_end base (c ∷ cs) done layers before after o (inl (inl s)) = first_stopped done c cs before after o s.stop s.ends
 commands_end base (c ∷ cs) done layers before after o (inl (inr w)) =
     let failed : (o ≡ end.WriteFault (done + 1)) × ActionRose before after c.action = writing_failed base (done + 1) c c.action layers before after o w in
-    inr (record { place = 0; command = c; there = refl; ends = failed.0; rose = failed.1 })
+    inr (inr (record { place = 0; command = c; there = refl; ends = failed.0; rose = failed.1 }))
 commands_end base (c ∷ cs) done layers before after o (inr r) = further (commands_end base cs (done + 1) r.0 r.1 after o r.3)
   where
-    further : Quiet o ⊎ FailedWrite (done + 1) cs r.1 after o → Quiet o ⊎ FailedWrite done (c ∷ cs) before after o
+    further : CommandsEnd (done + 1) cs r.1 after o → CommandsEnd done (c ∷ cs) before after o
     further (inl q) = inl q
-    further (inr f) = inr (one_further done c cs before r.1 after o (passing_grew base c c.action layers r.0 before r.1 r.2.goes) f)
+    further (inr (inl x)) = inr (inl (one_refused_further done c cs o x))
+    further (inr (inr f)) = inr (inr (one_further done c cs before r.1 after o (passing_grew base c c.action layers r.0 before r.1 r.2.goes) f))

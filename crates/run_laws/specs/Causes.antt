@@ -1,4 +1,4 @@
--- A law of runs: each fault has a cause.
+-- A law of runs: each answer has a cause.
 use Rattle.std.specs.Prelude.{List}
 use Rattle.io_core.specs.Contents.{Content}
 use Rattle.cmd_words.specs.Expressions.{Refusals, AreRefusals}

@@ -32,7 +32,8 @@ outside_of seen = record { files = seen.files; stream = seen.stream }
 abbrev pub IsOfWords : ℕ → WordWhy → Outcome → Type 0
 IsOfWords n why o = (o ≡ end.BadWords n why) ⊎ (o ≡ end.Memory)
 
--- ---- law: refused words end a run, and its answer binds what is there afterwards, whatever files and standard input hold
+-- ---- law: refused words end a run, and its answer binds what is there afterwards, whatever files and standard input
+-- hold
 abbrev pub RefusedWordsEndTheRun : Type 0
 RefusedWordsEndTheRun = (read : Readings) → AreReadings read → (line : List Content) (n : ℕ) (why : WordWhy) → words_say read.refusals line ≡ Err (n, why) →
     (seen seen' : SourcesSeen) (before after : OutsideSeen) (o : Outcome) → WordsRun line seen seen' before after o →

@@ -6,7 +6,7 @@ use Rattle.run_outcome.specs.declared.outcome.Outcome.{Outcome}
 use Rattle.run_outcome.specs.declared.outcome.Outcome.TheVariants as outcome
 use Rattle.std.proofs.Common.{refl}
 
--- three texts behind a first one
+-- three texts after a first one
 pub in_steps : (old a b t p q line : Text) → p ≡ old ++ a → q ≡ p ++ b → line ≡ q ++ t → line ≡ old ++ (a ++ (b ++ t))
 in_steps old a b t p q line first second third =
     third ∙ ap (λ (xs : Text). xs ++ t) (second ∙ ap (λ (xs : Text). xs ++ b) first) ∙ append_assoc (old ++ a) b t ∙ append_assoc old a (b ++ t)

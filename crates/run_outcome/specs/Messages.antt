@@ -24,7 +24,7 @@ use Rattle.run_outcome.specs.declared.outcome.Outcome.TheVariants as outcome
 abbrev pub Text : Type 0
 Text = List ℕ
 
--- a kind, and the number behind it
+-- a kind, and the number after it
 abbrev pub numbered : Text → ℕ → Text
 numbered kind n = kind ++ decimal n
 

@@ -49,7 +49,7 @@ fn add_number(line: &mut Line, number: u64)
     line.push_str(buffer.format(number));
 }
 
-// "word 2: ", and the like.
+// Appends a place, such as `word 2: `.
 fn add_place(line: &mut Line, kind: &str, number: u32)
     requires room { length line.old.bytes ≤ 8 }
     requires short_kind { length kind.now ≤ 8 }
@@ -112,7 +112,7 @@ fn add_density(line: &mut Line, count: u64)
     line.push_str(" links");
 }
 
-// A kind, and the number behind it.
+// Appends a kind, and the number after it.
 fn add_numbered(line: &mut Line, kind: &str, number: u64)
     requires room { length line.old.bytes ≤ 70 }
     requires short_kind { length kind.now ≤ 30 }

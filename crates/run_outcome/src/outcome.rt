@@ -21,7 +21,7 @@ pub enum Outcome {
     TooLong { source: u32 },
     /// The source is refused.
     BadInput { source: u32, why: InputWhy },
-    /// The snapped paths have so many links, more than 8,000,000.
+    /// The snapped paths have `count` links, more than 8,000,000.
     TooDense { count: u64 },
     /// This command is the first that is refused.
     Refused { command: u32, why: RefuseWhy },

@@ -17,7 +17,7 @@ use Rattle.run_plane.proofs.Growth.{range_more}
 
 -- ---- a number put into an ascending list
 
--- behind lesser ones
+-- all numbers of the list are less than k
 abbrev AllLess : ℕ → List ℕ → Type 0
 AllLess k [] = Unit {0}
 AllLess k (x ∷ xs) = (x < k) × AllLess k xs
@@ -35,7 +35,7 @@ put_last : (k : ℕ) (xs : List ℕ) → AllLess k xs → put_in_order nat_lt k 
 put_last k [] h = refl
 put_last k (x ∷ xs) h = put_less k x xs h.0 ∙ ap (λ (ys : List ℕ). x ∷ ys) (put_last k xs h.1)
 
--- a second time
+-- a number that is put in a second time changes nothing
 put_again : (k : ℕ) (xs : List ℕ) → put_in_order nat_lt k (put_in_order nat_lt k xs) ≡ put_in_order nat_lt k xs
 put_again k [] = put_same k k [] refl
 put_again k (x ∷ xs) =

@@ -16,7 +16,7 @@ use Rattle.face_walk.specs.Places.{FaceTable, IsBuiltOf}
 abbrev pub held_faces : List (List ℕ) → ℕ → ℕ → List ℕ
 held_faces lists count n = filter (λ (f : ℕ). has nat_eq (list_at lists f) n) (range_with_len 0 count)
 
--- for each of so many items the faces whose list has it
+-- for each of `items` items the faces whose list has it
 pub record AreHeldFaces (lists : List (List ℕ)) (count items : ℕ) (sets : List (List ℕ)) : Type 0 where
   pub each : length sets ≡ items
   pub held : (n : ℕ) → n < items → list_at sets n ≡ held_faces lists count n

@@ -120,7 +120,7 @@ fn arcs_of(alloc: Global, snapped: &Snapped) -> Result<ArcTable, AllocError>
     ArcTable::build(alloc, snapped)
 }
 
-// The faces that each of so many polygon features holds, by its number.
+// The faces that each of `count` polygon features holds, by its number.
 fn features_held(
     alloc: Global,
     count: u32,
@@ -151,7 +151,7 @@ fn put_in_features(
     Ok(())
 }
 
-// The faces that each of so many boxes holds, by its number.
+// The faces that each of `count` boxes holds, by its number.
 fn boxes_held(
     alloc: Global,
     count: u32,
@@ -188,7 +188,7 @@ fn empty_sets(alloc: Global, count: u32) -> Result<Vec<FaceSet>, AllocError>
     Ok(sets)
 }
 
-// The face into the set with this number, where there is one.
+// Puts a face into the set with this number, where there is one.
 fn put_face(sets: &mut Vec<FaceSet>, number: u32, face: FaceId) -> Result<(), AllocError>
     ensures put { OnOk result (sets.new.items ≡ slice_set sets.old.items number (put_in_order nat_lt face (list_at sets.old.items number))) }
 {

@@ -56,7 +56,7 @@ pub as_many : (numbers now : List ℕ) (pieces shown more : List Shape) (n added
 as_many numbers now pieces shown more n added before many pushed shows =
     omega (arith, ap length pushed, ap length shows, length-append numbers (replicate added n), length-append pieces more, length-replicate added n)
 
--- the numbers of parts of so many sets are below their count
+-- the numbers of parts of `many` sets are below their count
 pub features_below : (faces : FaceTable) (many count : ℕ) (items : List PartItem) (numbers : List ℕ) → All (IsPart faces many) items → many ≡ count → numbers ≡ map (λ (item : PartItem). item.feature) items → All (λ (n : ℕ). n < count) numbers
 features_below faces many count items numbers parts same are =
     subst (All (λ (n : ℕ). n < count)) (sym are)

@@ -1,4 +1,4 @@
--- A row behind rows of one width, and short lists of distinct names.
+-- A row after rows of one width, and short lists of distinct names.
 use Rattle.std.proofs.Common.{◌≡◌, ℕ, false, List, [], ◌∷◌, ◌++◌, length}
 use Rattle.std.specs.List.{IsDistinct}
 use Rattle.std.specs.Str.{bytes_eq}

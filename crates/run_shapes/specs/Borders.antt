@@ -31,7 +31,7 @@ inner_arcs_of plane layer = map (λ (s : SidedArc). s.arc) (filter has_both (bor
 
 -- ---- inner lines
 
--- so many rows without a value
+-- a table of `count` rows without columns
 abbrev pub bare_table : ℕ → TableContent
 bare_table count = record { names = []; rows = replicate count [] }
 
@@ -70,7 +70,7 @@ ranked_row listed s = row_by listed s.left s.right
 abbrev pub ranked_table : TableContent → List SidedArc → TableContent
 ranked_table listed arcs = record { names = codes "TYPE" ∷ codes "RANK" ∷ []; rows = map (ranked_row listed) arcs }
 
--- the features at the sides of an arc, where there are any, are among so many
+-- the features at the sides of an arc, where there are any, have numbers below `count`
 pub record IsAmong (count : ℕ) (s : SidedArc) : Type 0 where
   pub left : IfSome s.left (λ n. n < count)
   pub right : IfSome s.right (λ n. n < count)

@@ -1,4 +1,5 @@
--- Layers whose features share no face: each shared face left to one of them, or a feature for each part of what they share.
+-- Layers whose features share no face: each shared face left to one of them, or a feature for each part of what they
+-- share.
 use Rattle.std.specs.Prelude.{◌≡◌, ℕ, Bool, List, [], ◌∷◌, ◌++◌, map, codes, decimal}
 use Rattle.std.specs.List.{flat_map}
 use Rattle.io_core.specs.Contents.{Content}

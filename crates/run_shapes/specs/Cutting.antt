@@ -1,4 +1,4 @@
--- What a cut leaves of the features of a layer: what is in an area of faces, or what is not.
+-- What a cut leaves of the features of a layer: what is in the cutting set of faces, or what is not.
 use Rattle.std.specs.Prelude.{◌≡◌, ℕ, Bool, not, if◌then◌else◌, List, [], ◌∷◌, map}
 use Rattle.std.specs.List.{AllZip, flat_map}
 use Rattle.grid_base.specs.declared.kinds.Kind.{Kind}

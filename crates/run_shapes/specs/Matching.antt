@@ -14,7 +14,8 @@ use Rattle.run_plane.specs.declared.plane.Plane.{Plane}
 abbrev pub point_lists : List Shape → List Path
 point_lists shapes = map points_in shapes
 
--- for each of the shapes, of this kind, the ascending numbers of the others that match it: polygons match points that are inside of them or on their boundaries
+-- for each of the shapes, of this kind, the ascending numbers of the others that match it: polygons match points that
+-- are inside of them or on their boundaries
 abbrev pub AreMatchesOf : Kind → Plane → List Shape → List Shape → List (List ℕ) → Type 0
 AreMatchesOf kinds.Polygon plane others shapes matches = AreMatchedSets plane.arcs plane.faces (point_lists others) (sets_in shapes) matches
 AreMatchesOf kinds.Line plane others shapes matches = AreMatchedPoints plane.arcs plane.faces (point_lists shapes) (sets_in others) matches

@@ -21,7 +21,8 @@ layer_tables layers = map (λ (layer : Layer). layer.table) layers
 abbrev pub item_shape : UnionItem → Shape
 item_shape item = shape.Faces item.set
 
--- a feature for each item of the union of the layers' sets, with the columns of all layers, in a layer with the name of the first
+-- a feature for each item of the union of the layers' sets, with the columns of all layers, in a layer with the name of
+-- the first
 pub record IsUnited (plane : Plane) (layers : List Layer) (made : Layer) : Type 0 where
   pub first : Layer
   pub begins : slice_get layers 0 ≡ Some first

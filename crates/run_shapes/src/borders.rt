@@ -65,7 +65,7 @@ fn line_along(alloc: Global, arc: ArcId) -> Result<Shape, AllocError>
     Ok(Shape::Paths(paths))
 }
 
-// So many rows without columns.
+// A table of `count` rows without columns.
 #[tactic(auto, using(crate::proofs::Rows::rows_grown))]
 fn bare_table(alloc: Global, count: u32) -> Result<Table, AllocError>
     ensures exact { IfOk result (λ table. table ≡ bare_table count) }
@@ -188,7 +188,7 @@ fn type_and_rank(alloc: Global, name: &str, rank: u64) -> Result<Row, AllocError
     Ok(row)
 }
 
-// The name of the field with this number, from 0; `inner` behind the last.
+// The name of the field with this number, from 0; `inner` after the last.
 fn name_or_inner(fields: &NameList, number: u32) -> &str
     ensures exact { result.now ≡ slice_index_or fields.now number (codes "inner") }
 {

@@ -14,7 +14,7 @@ use run_plane::{Layer, Plane, Shape};
 use run_state::nonempty;
 use std::alloc::{AllocError, Global};
 
-/// What stays of a feature: what lies inside an area, or what doesn't.
+/// What stays of a feature: what lies inside the cutting set, or what doesn't.
 #[derive(Clone, Copy, Debug, PartialEq, Eq)]
 pub enum CutKeeps {
     Inside,

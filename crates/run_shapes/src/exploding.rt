@@ -114,7 +114,7 @@ fn split(alloc: Global, count: u32, shapes: &[Shape]) -> Result<Pieces, AllocErr
     })
 }
 
-// Puts a number behind others so many times.
+// Appends a number to others, `times` times.
 fn repeat(numbers: &mut IdList, number: u32, times: usize) -> Result<(), AllocError>
     ensures repeated { OnOk result (numbers.new ≡ numbers.old ++ replicate times number) }
 {
@@ -124,7 +124,7 @@ fn repeat(numbers: &mut IdList, number: u32, times: usize) -> Result<(), AllocEr
     Ok(())
 }
 
-// Puts the pieces of a shape behind others, and tells how many there are.
+// Appends the pieces of a shape to others, and tells how many there are.
 fn push_split(alloc: Global, pieces: &mut Vec<Shape>, shape: &Shape) -> Result<usize, AllocError>
     ensures pushed { OnOk result (pieces.new.items ≡ pieces.old.items ++ split_shape shape.now) }
     ensures count { IfOk result (λ count. count ≡ length (split_shape shape.now)) }

@@ -1,7 +1,8 @@
 //! Commands on shapes: each makes a layer of one layer or of several, over the plane of the run.
 //!
 //! 1. `face_sets` has the sets of faces of a layer, and those that `-clip` and `-erase` cut by.
-//! 2. `cutting` is `-clip` and `-erase`, `cleaning` is `-clean` and `-mosaic`, `dissolving` is `-dissolve`, `exploding` is
+//! 2. `cutting` is `-clip` and `-erase`, `cleaning` is `-clean` and `-mosaic`, `dissolving` is `-dissolve`, `exploding`
+//! is
 //!    `-explode`, `islands` is `-filter-islands`, `borders` is `-innerlines` and `-lines`, `uniting` is `-union`.
 //! 3. `matching` says which features of two layers match by place.
 #![tactic(auto)]

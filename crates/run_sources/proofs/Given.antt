@@ -1,4 +1,4 @@
--- Sources that were read in order, and one more behind them.
+-- Sources that were read in order, and one more after them.
 use Rattle.std.proofs.Common.{◌≡◌, ◌++◌, ◌∷◌, [], ℕ, List, refl, sym, subst}
 use Rattle.cmd_words.specs.declared.job.SourceWord.{SourceWord}
 use Rattle.geojson_io.specs.LayerContent.{LayerContent}

@@ -18,7 +18,7 @@ last_found c text k (suc n) l at h =
     (λ other. cond-false _ _ _ (ne_eqb _ c (h n (omega arith) (omega arith))) ∙ last_found c text k n (omega arith) at (λ i a b. h i a (omega arith)))
     (cases_eq k n)
 
--- takes the clause of `rsplit_once` at an ASCII character
+-- what `rsplit_once` answers for an ASCII character by its clause is the split of the bytes at the last such byte
 pub split_is : (c : ℕ) (text : List ℕ) (r : Option (Bor (List ℕ) × Bor (List ℕ)))
     → MatchOption r (RFindsChar c text None) (λ x. (i : ℕ) × (j : ℕ) × RFindsChar c text (Some (i, j)) × (x.0.now ≡ take i text) × (x.1.now ≡ drop j text) × (i ≤ j) × (length x.0.now ≡ i) × (length x.1.now + j ≡ length text))
     → c < 128 → option_map (λ x. (x.0.now, x.1.now)) r ≡ rsplit_once c text

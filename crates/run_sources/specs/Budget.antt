@@ -32,7 +32,7 @@ position_count layer = sum_by positions_in layer.shapes
 abbrev pub feature_count : LayerContent → ℕ
 feature_count layer = length layer.shapes
 
--- what is left behind so many bytes, which gave these layers
+-- what is left after `bytes` bytes, which gave these layers
 abbrev pub budget_behind : Budget → ℕ → List LayerContent → Budget
 budget_behind b bytes layers = record {
   bytes = b.bytes - bytes;

@@ -8,7 +8,7 @@ use Rattle.cmd_words.specs.declared.job.SourceWord.{SourceWord}
 abbrev pub is_white : ℕ → Bool
 is_white byte = (byte == 32) || (byte == 9) || (byte == 10) || (byte == 13)
 
--- the first byte behind white space opens an object or an array
+-- the first byte after white space opens an object or an array
 abbrev pub opens_json : Content → Bool
 opens_json [] = false
 opens_json (byte ∷ rest) = if is_white byte then opens_json rest else (byte == 123) || (byte == 91)

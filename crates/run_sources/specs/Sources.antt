@@ -46,11 +46,11 @@ SourceRose before after source = MatchBool source.standard (Rose before.input_fa
 abbrev pub SourceMissing : SourcesSeen → SourcesSeen → SourceWord → Type 0
 SourceMissing before after source = MatchBool source.standard ⊥ (MissesName before.files source.name (Rose (before.file_faults source.name) (after.file_faults source.name)))
 
--- more than so many bytes were read
+-- more than `limit` bytes were read
 abbrev pub ReadsMore : ℕ → SourcesSeen → SourcesSeen → SourceWord → Type 0
 ReadsMore limit before after source = MatchBool source.standard (raised (limit + 1) before.input_bytes ≤ after.input_bytes) (raised (limit + 1) before.file_bytes ≤ after.file_bytes)
 
--- just so many bytes were read
+-- just `count` bytes were read
 abbrev pub ReadsCount : ℕ → SourcesSeen → SourcesSeen → SourceWord → Type 0
 ReadsCount count before after source = MatchBool source.standard (after.input_bytes ≡ raised count before.input_bytes) (after.file_bytes ≡ raised count before.file_bytes)
 
@@ -58,7 +58,7 @@ ReadsCount count before after source = MatchBool source.standard (after.input_by
 abbrev pub LeavesInput : SourcesSeen → SourcesSeen → SourceWord → Type 0
 LeavesInput before after source = MatchBool source.standard ⊤ (after.input ≡ before.input)
 
--- what reading a source, so many bytes at most, answers
+-- what reading a source, `limit` bytes at most, answers
 abbrev pub BytesMean : SourceWord → ℕ → SourcesSeen → SourcesSeen → Result Content FileStop → Type 0
 BytesMean source limit before after (Ok bytes) = AtSource before source (λ there. bytes ≡ there) × (length bytes ≤ limit) × ReadsCount (length bytes) before after source × LeavesInput before after source
 BytesMean source limit before after (Err stop.Fault) = SourceRose before after source
@@ -80,7 +80,7 @@ pub record IsRefusedInput (places : ℕ) (budget : Budget) (seen seen' : Sources
   pub counted : ReadsCount (length bytes) seen seen' source
   pub refused : Decodes places budget.room source bytes (Err (Refused why))
 
--- why a source with this number, of which so much may be read, is the last that is read
+-- why a source with this number, read within the budget, is the last that is read
 abbrev pub SourceStops : ℕ → Budget → ℕ → SourceWord → SourcesSeen → SourcesSeen → SourceFault → Type 0
 SourceStops places budget number source before after (ReadFault n) = (n ≡ number) × SourceRose before after source
 SourceStops places budget number source before after (Missing n) = (n ≡ number) × SourceMissing before after source
@@ -90,7 +90,7 @@ SourceStops places budget number source before after Memory = ⊤
 
 -- ---- the sources before it
 
--- the bytes of the source were read and counted, gave these layers, and this may be read behind them
+-- the bytes of the source were read and counted, gave these layers, and this may be read after them
 pub record SourceGives (places : ℕ) (source : SourceWord) (budget left : Budget) (seen seen' : SourcesSeen) (layers : List LayerContent) : Type 0 where
   pub bytes : Content
   pub there : AtSource seen source (λ content. bytes ≡ content)

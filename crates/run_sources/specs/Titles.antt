@@ -4,7 +4,7 @@ use Rattle.std.specs.Path.{rsplit_once}
 use Rattle.io_core.specs.Contents.{Content}
 use Rattle.cmd_words.specs.declared.job.SourceWord.{SourceWord}
 
--- what stands behind the last slash, or the whole name where it has none
+-- what stands after the last slash, or the whole name where it has none
 abbrev pub behind_slash : Content → Content
 behind_slash name = unwrap_or (option_map (λ split. split.1) (rsplit_once 47 name)) name
 

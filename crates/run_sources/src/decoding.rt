@@ -34,7 +34,7 @@ impl From<AllocError> for DecodeStop {
     }
 }
 
-/// The layers of the bytes of a source, on a grid of so many decimal places.
+/// The layers of the bytes of a source, on a grid of `places` decimal places.
 pub(crate) fn decoded(
     alloc: Global,
     source: &SourceWord,

@@ -16,7 +16,7 @@ pub(crate) fn is_csv(source: &SourceWord, bytes: &[u8]) -> bool
     }
 }
 
-// In any ASCII letter case.
+// Whether a name ends in `.csv`, in any ASCII letter case.
 fn ends_in_csv(name: &[u8]) -> bool
     ensures exact { result ≡ ends_in_csv name.now }
 {
@@ -65,7 +65,7 @@ pub(crate) fn title_of(source: &SourceWord) -> &str
     }
 }
 
-// The whole name where it has no slash.
+// What stands after the last slash, or the whole name where it has none.
 fn behind_slash(name: &str) -> &str
     ensures exact { result.now ≡ behind_slash name.now }
 {
@@ -75,7 +75,7 @@ fn behind_slash(name: &str) -> &str
     }
 }
 
-// The whole name where it has no point.
+// What stands before the last point, or the whole name where it has none.
 fn before_point(file: &str) -> &str
     ensures exact { result.now ≡ before_point file.now }
 {

@@ -46,7 +46,7 @@ impl Budget {
         }
     }
 
-    // What is left behind so many bytes, which gave these layers.
+    // What is left after `bytes` bytes, which gave these layers.
     fn behind(self, bytes: u64, layers: &GeoLayers) -> Budget
         ensures left { result ≡ budget_behind self bytes layers.now }
     {
@@ -122,7 +122,7 @@ fn behind_paths(room: u32, paths: &[PtList]) -> u32
     left
 }
 
-/// Reads the sources in order, on a grid of so many decimal places.
+/// Reads the sources in order, on a grid of `places` decimal places.
 ///
 /// Errors: why the first source that isn't accepted ends the run.
 #[tactic(auto, using(crate::proofs::Growing::grew_same, crate::proofs::Growing::grew_on, crate::proofs::Growing::none_fell_same, crate::proofs::Growing::none_fell_on))]
@@ -179,7 +179,7 @@ fn keep(all: &mut Vec<ReadSource>, read: ReadSource) -> Result<(), SourceFault>
     }
 }
 
-// The layers of one source, and what may be read behind it.
+// The layers of one source, and what may be read after it.
 fn read_source<F: Files, I: Source>(
     alloc: Global,
     places: u8,

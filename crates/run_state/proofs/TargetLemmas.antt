@@ -96,7 +96,7 @@ passed_first p (held ∷ rest) h none = no_first p held rest (passed_first p res
 pub has_first : (t : Target) (layers : List Held) → has_target t layers ≡ true → None ≡ slice_get (targets t layers) 0 → ⊥
 has_first t layers h none = passed_first (is_selected t) layers (second_true (are_layers t layers) (list_any (is_selected t) layers) h) none
 
--- behind others
+-- with one more layer after others
 
 both : (t : Target) (front : List Held) (held : Held) → targets t (front ++ held ∷ []) ≡ targets t front ++ targets t (held ∷ [])
 both t front held =

@@ -66,10 +66,10 @@ abbrev pub in_places : Target → List Held → List (List Layer) → List Held
 in_places t [] outputs = []
 in_places t (held ∷ layers) outputs = in_place t held (first_or [] outputs) ++ in_places t layers (drop 1 outputs)
 
--- all layers stay, and the outputs stand behind them
+-- all layers stay, and the outputs stand after them
 abbrev pub behind_all : List Held → List (List Layer) → List Held
 behind_all layers outputs = map staying layers ++ flat_map (map put_out) outputs
 
--- `+` puts the outputs behind all layers
+-- `+` puts the outputs after all layers
 abbrev pub placed : Command → List Held → List (List Layer) → List Held
 placed c layers outputs = if c.keep then behind_all layers outputs else in_places c.target layers outputs

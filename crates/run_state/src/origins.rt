@@ -51,7 +51,7 @@ fn named_layer<'a>(layers: &'a [Held], name: &str) -> Result<&'a Layer, RefuseWh
     named_layer(rest, name)
 }
 
-// The first layer of a name, where none behind it has the name too.
+// The first layer of a name, where none after it has the name too.
 #[tactic(auto, using(crate::proofs::TargetLemmas::none_named, crate::proofs::TargetLemmas::some_named))]
 fn only<'a>(first: &'a Layer, rest: &[Held], name: &str) -> Result<&'a Layer, RefuseWhy>
     ensures ok { IfOk result (λ layer. one_layer (first.now ∷ named_layers name.now rest.now) ≡ Ok layer.now) }

@@ -11,7 +11,7 @@ use std::alloc::{AllocError, Global};
 use std::vec::IntoIter;
 
 /// The layers after a command that puts out these layers for each layer in order: in the places of its targets, or,
-/// with `+`, behind all layers.
+/// with `+`, after all layers.
 pub fn placed(
     alloc: Global,
     layers: Vec<Held>,
@@ -105,7 +105,7 @@ fn all_stay(alloc: Global, layers: Vec<Held>) -> Result<Vec<Held>, AllocError>
     Ok(after)
 }
 
-// Layers that a command puts out.
+// Appends layers that a command puts out.
 fn put_in(place: &mut Vec<Held>, outputs: Vec<Layer>) -> Result<(), AllocError>
     ensures put { OnOk result (place.new.items ≡ place.old.items ++ map put_out outputs.items) }
 {

@@ -117,7 +117,7 @@ pub fn only_target<'a>(layers: &'a [Held], target: &Target) -> Result<&'a Layer,
     only_target(rest, target)
 }
 
-// The first layer of a target, where none behind it is of the target too.
+// The first layer of a target, where none after it is of the target too.
 #[tactic(auto, using(crate::proofs::TargetLemmas::no_targets, crate::proofs::TargetLemmas::some_targets))]
 fn sole<'a>(first: &'a Layer, rest: &[Held], target: &Target) -> Result<&'a Layer, RefuseWhy>
     ensures ok { IfOk result (λ layer. one_layer (first.now ∷ targets target.now rest.now) ≡ Ok layer.now) }

@@ -41,7 +41,7 @@ pub past : (First Second : Option RefuseWhy → Type 0) (refusal : Option Refuse
 past First Second None f s = (f, s)
 past First Second (Some why) f s = inr (f, s)
 
--- what stops the first stops both, and behind a first that has none the second counts
+-- what stops the first stops both, and after a first that has none the second counts
 
 pub stops_at_first : (First Second : Option RefuseWhy → Type 0) (s : CommandStop) → StopsAs First s → StopsAs (FirstOf First Second) s
 stops_at_first First Second (stop.Refused why) h = inl h
@@ -93,7 +93,7 @@ module _ (Refuses : Layer → Option RefuseWhy → Type 0) (t : Target) where
       before (Some why) (subst (λ (layers : List Held). RefusesAll layers (Some why)) (sym (from_place xs i item h there)) (one_stops item (drop (i + 1) xs) why (is_selected t item) refl stops))
   stops_there xs i item stop.Memory h there before stops = tt
 
-  -- behind the last layer there is none that is refused
+  -- after the last layer there is none that is refused
   pub all_pass : (xs : List Held) (i : ℕ) → length xs ≤ i → RefuseFrom xs i → RefusesIn Refuses (targets t xs) None
   all_pass xs i h before = before None (subst (λ (layers : List Held). RefusesAll layers None) (sym (drop_all i xs h)) refl)
 

@@ -121,7 +121,7 @@ pub record PutsTogether (base : Base) (c : Command) (a : JointAction) (layers : 
 
 -- ---- the layers after a command
 
--- those that it puts out for each layer stand in their places, or behind all
+-- those that it puts out for each layer stand in their places, or after all
 pub record Changes (Puts : List (List Layer) → Type 0) (c : Command) (before after : List Held) : Type 0 where
   pub outputs : List (List Layer)
   pub puts : Puts outputs

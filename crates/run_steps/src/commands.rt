@@ -152,7 +152,7 @@ fn put_out(
     Ok(State { layers })
 }
 
-// The target, then the source, then the kinds of the target's layers.
+// Tests the target, then the source, then the kinds of the target's layers.
 fn check_each(
     layers: &[Held],
     sources: &[Vec<Layer>],
@@ -170,7 +170,7 @@ fn check_each(
     }
 }
 
-// The target, then the kinds of its layers, then their number.
+// Tests the target, then the kinds of its layers, then their number.
 fn check_together(layers: &[Held], target: &Target, action: &JointAction) -> Result<(), RefuseWhy>
     ensures exact { refusal_of result ≡ first_refusal (refused_target target.now layers.now) (first_refusal (refused_mixture action.now (targets target.now layers.now)) (refused_number action.now (targets target.now layers.now))) }
     ensures there { IfOk result (λ done. has_target target.now layers.now ≡ true) }
@@ -206,7 +206,7 @@ fn check_layers(
     }
 }
 
-// That the source is there, and has polygons where the command cuts by it.
+// Tests that the source is there, and has polygons where the command cuts by it.
 fn check_source(
     layers: &[Held],
     sources: &[Vec<Layer>],
@@ -245,7 +245,7 @@ fn check_one(layers: &[Held], sources: &[Vec<Layer>], from: &Origin) -> Result<(
     }
 }
 
-// That what a command cuts by is polygons. A box always is there.
+// Tests that what a command cuts by is polygons. A box always is there.
 fn check_area(layers: &[Held], sources: &[Vec<Layer>], from: &Origin) -> Result<(), RefuseWhy>
     ensures exact { refusal_of result ≡ refused_area (map (λ own. own.items) sources.now) layers.now from.now }
 {
@@ -273,7 +273,7 @@ fn check_kinds(
     }
 }
 
-// That the layers of the target are joined by place with the source.
+// Tests that the layers of the target are joined by place with the source.
 fn check_pairs(
     layers: &[Held],
     sources: &[Vec<Layer>],
@@ -401,7 +401,8 @@ fn takes_together(layers: &[Held], target: &Target, action: &JointAction, first:
     true
 }
 
-// Whether a command that changes layers together takes one of this kind, where the first of them is of the kind `first`.
+// Whether a command that changes layers together takes one of this kind, where the first of them is of the kind
+// `first`.
 fn takes_beside(action: &JointAction, first: Kind, kind: Kind) -> bool
     ensures exact { result ≡ takes_beside action.now first kind }
 {
@@ -411,7 +412,7 @@ fn takes_beside(action: &JointAction, first: Kind, kind: Kind) -> bool
     }
 }
 
-// That there are as many layers as the command needs.
+// Tests that there are as many layers as the command needs.
 fn check_number(layers: &[Held], target: &Target, action: &JointAction) -> Result<(), RefuseWhy>
     ensures exact { refusal_of result ≡ refused_number action.now (targets target.now layers.now) }
 {

@@ -66,7 +66,7 @@ next_cell seed n c state x y ring begun column row is =
     ap (λ (path : Path). (path ∷ []) ∷ [])
     (ap without_repeats e ∙ without_neighbours (100 * (c / n)) (100 * (c % n)) (λ (k : ℕ). draw seed (6 * c + k)) (λ k. small_draw (state_after seed (6 * c + k))))
 
--- the first so many cells
+-- the first `count` cells
 abbrev pub cells_below : ℕ → ℕ → ℕ → Drawing
 cells_below seed n count = record { polygons = map (cell seed n) (range_with_len 0 count); lines = []; points = []; boxes = [] }
 

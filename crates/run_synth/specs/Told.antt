@@ -21,8 +21,8 @@ filled sets = count_by (λ (set : List ℕ). not (length set == 0)) sets
 abbrev pub all_faces : List (List ℕ) → List ℕ
 all_faces sets = ascending nat_lt (joined_up sets)
 
--- The line of a snapped mosaic of so many cells: the numbers of them, of the arcs and of all faces of its plane, of the cells that keep a
--- face when each face goes to the largest of its cells, and twice the area of the faces of all cells.
+-- The line of a snapped mosaic of `cells` cells: the numbers of them, of the arcs and of all faces of its plane, of the
+-- cells that keep a face when each face goes to the largest of its cells, and twice the area of the faces of all cells.
 pub record IsLineOf (s : Drawing) (cells : ℕ) (line : List ℕ) : Type 0 where
   pub arcs : List Path
   pub faces : FaceTable
@@ -40,7 +40,7 @@ pub record IsToldOf (d : Drawing) (cells : ℕ) (line : List ℕ) : Type 0 where
 
 -- ---- on the way
 
--- the numbers of so many cells that have these faces of a plane
+-- the numbers of a mosaic of `cells` cells that have these faces of a plane
 pub record AreNumbersOf (arcs : List Path) (faces : FaceTable) (features : List (List ℕ)) (cells : ℕ) (numbers : Numbers) : Type 0 where
   pub cleaned : List (List ℕ)
   pub are_cleaned : IsCleaned MaxArea faces.areas features cleaned

@@ -43,7 +43,7 @@ fn place_of(number: u32, n: u32) -> (u32, u32)
     (number / n, number % n)
 }
 
-/// Numbers that a seed draws: a linear congruence, of which the middle bits are taken.
+/// Numbers that a seed draws: a linear congruence, of which bits 16 to 30 are taken.
 #[derive(Drop)]
 struct Draws {
     state: u32,

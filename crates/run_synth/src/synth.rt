@@ -32,7 +32,7 @@ pub fn synth_line(alloc: Global, seed: u32, n: u32) -> Result<String, SnapFault>
     Ok(line_of(alloc, count_of(n), laid)?)
 }
 
-// The line of so many cells that are laid out.
+// The line of `count` cells that are laid out.
 fn line_of(alloc: Global, count: u32, laid: Laid) -> Result<String, AllocError>
     requires laid { IsLaidOut laid.snapped laid.plane.arcs laid.plane.faces laid.plane.boxes.items laid.features.items }
     ensures told { IfOk result (λ line. IsLineOf laid.snapped count (string_bytes line)) }

@@ -1,4 +1,4 @@
--- The rows of tables one behind another.
+-- The rows of tables one after another.
 use Rattle.std.specs.Prelude.{List}
 use Rattle.std.specs.List.{flat_map}
 use Rattle.json_read.specs.Table.{TableContent, RowValues}

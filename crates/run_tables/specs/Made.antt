@@ -49,7 +49,7 @@ pub record IsFiltered (test : Option Expr) (invert remove_empty : Bool) (layer m
   pub passed : kept_numbers test invert layer ≡ Ok kept
   pub takes : TakesFeatures layer (if remove_empty then with_geometry layer.shapes.items kept else kept) made
 
--- all features of these layers: the tables one under another, and the shapes one behind another, in a layer like the
+-- all features of these layers: the tables one under another, and the shapes one after another, in a layer like the
 -- first
 pub record IsMerged (force : Bool) (layers : List Layer) (made : Layer) : Type 0 where
   pub first : Layer

@@ -1,5 +1,5 @@
-//! Commands on rows and columns: `-filter`, `-filter-fields`, `-rename-fields`, `-join`, `-each`, `-sort` and `-uniq` make a
-//! layer of one layer, `-split` several of one, `-merge-layers` one of several.
+//! Commands on rows and columns: `-filter`, `-filter-fields`, `-rename-fields`, `-join`, `-each`, `-sort` and `-uniq`
+//! make a layer of one layer, `-split` several of one, `-merge-layers` one of several.
 #![tactic(auto)]
 
 mod row_commands;

@@ -177,7 +177,7 @@ fn merged_like(
     })
 }
 
-// The tables of layers, and their shapes one behind another.
+// The tables of layers, and their shapes one after another.
 #[derive(Drop)]
 struct Gathered {
     tables: TableList,

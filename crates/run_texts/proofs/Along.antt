@@ -46,7 +46,7 @@ pub shared_backward : (before way : Path) (d : GridPoint) (s : ℕ) → s ≡ co
 shared_backward [] way d s e some = ap reverse (take_all (length way - s) way (omega (arith, e)))
 shared_backward (p ∷ ps) way d s e some = ap (λ (n : ℕ). reverse (take (length way - n) way)) (let f : s ≡ 1 = grind (arith, e) in f) ∙ last_off way d some
 
--- the arc at a place, behind the points of those before it
+-- the arc at a place, after the points of those before it
 pub along_next : (table : List Path) (path : List SignedArc) (i : ℕ) (a : SignedArc) (points more : Path) → points ≡ points_along table (take i path) → (0 < i → 0 < length points) → i < length path → a ≡ get_or path i a → more ≡ points ++ without_shared points (points_of table a) → more ≡ points_along table (take (i + 1) path)
 along_next table path i a points more along some there is pushed =
     let next : take (i + 1) path ≡ take i path ++ a ∷ [] = take_more path i a there ∙ ap (λ (z : SignedArc). take i path ++ z ∷ []) (sym is) in

@@ -1,4 +1,4 @@
--- Names one behind another: whether two of them are one.
+-- Names one after another: whether two of them are one.
 use Rattle.std.proofs.Common.{◌≡◌, ◌+◌, ℕ, suc, ◌<◌, Bool, true, false, ◌||◌, List, [], ◌∷◌, ◌++◌, length, take, drop, get_or, refl, sym, ap, ◌∙◌, true≢false}
 use Rattle.std.proofs.Math.Seq.{drop-cons}
 use Rattle.std.proofs.lemmas.List.{take_more, take-append-drop}
@@ -19,7 +19,7 @@ neither false b h = (refl, h)
 not_both : (a b : Bool) → a ≡ false → b ≡ false → (a || b) ≡ false
 not_both a b e f = ap (λ (t : Bool). t || b) e ∙ f
 
--- a name behind others is new, or is not
+-- a name after others is new, or is not
 pub twice_new : (names : List (List ℕ)) (name : List ℕ) → has_name names name ≡ false → has_name_twice names ≡ false → has_name_twice (names ++ name ∷ []) ≡ false
 twice_new [] name h once = refl
 twice_new (x ∷ names) name h once =

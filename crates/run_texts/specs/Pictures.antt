@@ -1,10 +1,13 @@
 -- Layers drawn on the grid: arcs become the points along them.
-use Rattle.std.specs.Prelude.{◌≡◌, List, [], ◌∷◌, ◌++◌, map}
+use Rattle.std.specs.Prelude.{◌≡◌, ℕ, List, [], ◌∷◌, ◌++◌, map}
 use Rattle.std.specs.List.{AllZip, flat_map}
 use Rattle.lists.specs.Lists.{tail}
 use Rattle.plane_model.specs.Arcs.{SignedArc, points_of}
 use Rattle.plane_model.specs.Points.{Path}
+use Rattle.io_core.specs.Contents.{Content}
+use Rattle.json_read.specs.Table.{RowValues}
 use Rattle.geojson_io.specs.LayerContent.{LayerContent}
+use Rattle.geojson_io.specs.Texts.{features_text, geojson_text}
 use Rattle.geojson_io.specs.declared.shape.GeoShape.{GeoShape}
 use Rattle.geojson_io.specs.declared.shape.GeoShape.TheVariants as geo
 use Rattle.topo_io.specs.declared.arc_layer.ArcShape.{ArcShape}
@@ -19,7 +22,7 @@ abbrev pub points_along : List Path → List SignedArc → Path
 points_along table [] = []
 points_along table (a ∷ later) = points_of table a ++ flat_map (λ (b : SignedArc). tail (points_of table b)) later
 
--- the points of an arc behind others, which end where it begins
+-- the points of an arc after others, which end where it begins
 abbrev pub without_shared : Path → Path → Path
 without_shared [] way = way
 without_shared (p ∷ before) way = tail way
@@ -43,3 +46,15 @@ pub record IsPicture (plane : Plane) (layer : Layer) (picture : LayerContent) : 
   pub kind : picture.kind ≡ layer.kind
   pub table : picture.table ≡ layer.table
   pub shapes : AllZip (IsDrawn plane) layer.shapes.items picture.shapes
+
+-- the GeoJSON text of a picture of a layer
+pub record IsPictureText (plane : Plane) (places : ℕ) (layer : Layer) (text : Content) : Type 0 where
+  pub picture : LayerContent
+  pub shows : IsPicture plane layer picture
+  pub is : text ≡ geojson_text places picture
+
+-- the text that was there, and after it a feature for each shape as it was drawn, with the row of the same number
+pub record AreWritten (plane : Plane) (places : ℕ) (keys : List Content) (rows : List RowValues) (shapes : List Shape) (before text : Content) : Type 0 where
+  pub drawn : List GeoShape
+  pub each : AllZip (IsDrawn plane) shapes drawn
+  pub is : text ≡ before ++ features_text places keys rows drawn

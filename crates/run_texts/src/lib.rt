@@ -1,8 +1,10 @@
 //! The texts of outputs.
 //!
-//! 1. `texts` checks an output, and makes its text: one layer as GeoJSON or as comma-separated text, or all layers of the
+//! 1. `texts` checks an output, and makes its text: one layer as GeoJSON or as comma-separated text, or all layers of
+//! the
 //!    target as a topology.
-//! 2. `arc_pictures` shows a layer as rings and paths of arcs, `pictures` as rings and paths of points.
+//! 2. `arc_pictures` shows a layer as rings and paths of arcs; `pictures` draws it as rings and paths of points, feature
+//!    by feature, and prints each before it draws the next.
 #![tactic(auto)]
 
 mod arc_pictures;

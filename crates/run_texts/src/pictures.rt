@@ -1,47 +1,69 @@
-ghost use Rattle.std.specs.Prelude.{◌≡◌, ◌<◌, ◌==◌, ◌++◌, All, IfOk, OnOk, if◌then◌else◌, length, map, reverse};
-ghost use Rattle.std.specs.List.{AllZip};
+ghost use Rattle.std.specs.Prelude.{◌≡◌, ◌<◌, ◌≤◌, ◌==◌, ◌++◌, All, IfOk, OnOk, if◌then◌else◌, length, map, reverse};
 ghost use Rattle.plane_model.specs.Arcs.{points_of};
+ghost use Rattle.grid_base.specs.Grid.{most_places};
+ghost use Rattle.json_read.specs.Table.{AreRows};
 ghost use Rattle.topo_io.specs.Arcs.{ShapeIsBelow};
 ghost use Rattle.run_plane.specs.OnPlane.{AreOn, IsLayerOn, IsOn};
-ghost use Rattle.run_texts.specs.Pictures.{IsDrawn, IsPicture, on_grid, points_along, without_shared};
+ghost use Rattle.run_texts.specs.Pictures.{AreWritten, IsDrawn, IsPictureText, on_grid, points_along, without_shared};
 
 use crate::arc_pictures::arc_shape;
 use arc_table::{ArcTable, SignedPath, SignedPaths};
-use geojson_io::{GeoLayer, GeoShape, GeoShapeList};
+use geojson_io::{GeoShape, end_collection, keys_of, start_collection, write_next_feature};
 use grid_base::{PathList, PolygonRings, Pt, PtList, RingsList, SignedArc};
-use run_plane::{Layer, Plane, Shape, copy_text};
-use run_state::copy_table;
+use io_core::Bytes;
+use json_read::Row;
+use run_plane::{Layer, Plane, Shape};
 use std::alloc::{AllocError, Global};
 use topo_io::ArcShape;
 
-/// A layer with its shapes as grid points: rings of faces, points along arcs.
-pub(crate) fn picture_of(
+/// The GeoJSON text of a layer with its shapes as grid points: rings of faces, points along arcs.
+pub(crate) fn picture_text(
     alloc: Global,
     plane: &Plane,
     layer: &Layer,
-) -> Result<GeoLayer, AllocError>
+    places: u8,
+) -> Result<Bytes, AllocError>
+    requires places { places ≤ most_places }
     requires on { IsLayerOn plane.now layer.now }
-    ensures shows { IfOk result (IsPicture plane.now layer.now) }
+    ensures says { IfOk result (IsPictureText plane.now places layer.now) }
 {
-    let shapes = shapes_of(alloc, plane, &layer.shapes)?;
-    Ok(GeoLayer {
-        name: copy_text(alloc, &layer.name)?,
-        kind: layer.kind,
-        table: copy_table(alloc, &layer.table)?,
-        shapes,
-    })
+    let keys = keys_of(alloc, layer.table.names().as_slice())?;
+    let rows = layer.table.rows().as_slice();
+    let mut out = start_collection(alloc, rows.len())?;
+    write_shapes(
+        alloc,
+        plane,
+        &layer.shapes,
+        keys.as_slice(),
+        rows,
+        places,
+        &mut out,
+    )?;
+    end_collection(rows.len(), &mut out)?;
+    Ok(out)
 }
 
-fn shapes_of(alloc: Global, plane: &Plane, shapes: &[Shape]) -> Result<GeoShapeList, AllocError>
+// A feature for each shape, printed as soon as it is drawn: only one shape at a time is held in points.
+fn write_shapes(
+    alloc: Global,
+    plane: &Plane,
+    shapes: &[Shape],
+    keys: &[Bytes],
+    rows: &[Row],
+    places: u8,
+    out: &mut Bytes,
+) -> Result<(), AllocError>
+    requires places { places ≤ most_places }
+    requires count { length shapes.now ≡ length rows.now }
+    requires widths { AreRows (length keys.now) rows.now }
     requires on { AreOn plane.now shapes.now }
-    ensures count { IfOk result (λ drawn. length drawn ≡ length shapes.now) }
-    ensures drawn { IfOk result (AllZip (IsDrawn plane.now) shapes.now) }
+    ensures written { OnOk result (AreWritten plane.now places keys.now rows.now shapes.now out.old out.new) }
 {
-    let mut drawn = GeoShapeList::new(alloc);
-    for shape in shapes {
-        drawn.push(shape_of(alloc, plane, shape)?)?;
+    for (i, shape) in shapes.iter().enumerate() {
+        let drawn = shape_of(alloc, plane, shape)?;
+        write_next_feature(i, keys, &rows[i], &drawn, places, out)?;
     }
-    Ok(drawn)
+    Ok(())
 }
 
 fn shape_of(alloc: Global, plane: &Plane, shape: &Shape) -> Result<GeoShape, AllocError>
@@ -136,7 +158,8 @@ fn append_arc(points: &mut PtList, arcs: &ArcTable, arc: SignedArc) -> Result<()
     }
 }
 
-// One where points stand before an arc, since it begins at the last of them.
+// How many points of the next arc are there already: one where points stand before it, since it begins at the last of
+// them.
 fn shared_ends(points: &PtList) -> usize
     ensures exact { result ≡ (if length points.now == 0 then 0 else 1) }
 {

@@ -11,10 +11,9 @@ ghost use Rattle.run_texts.specs.Tracing.{IsTracedLayer};
 ghost use Rattle.run_texts.specs.Written.{IsCsvText, IsGeoText, IsTopoText, OutputSays, has_name_twice, names_of_layers, refused_form, refused_names, refused_one, refused_output};
 
 use crate::arc_pictures::arc_layer_of;
-use crate::pictures::picture_of;
+use crate::pictures::picture_text;
 use cmd_words::{OutForm, Target};
 use csv_io::write_csv;
-use geojson_io::write_geojson;
 use indexmap::IndexSet;
 use io_core::{Bytes, NameList, Text};
 use run_plane::{Plane, copy_text};
@@ -77,10 +76,7 @@ fn geo_text(
     ensures stops { IfErr result (StopsFor (refused_one (targets target.now layers.now))) }
 {
     match only_target(layers, target) {
-        Ok(layer) => {
-            let picture = picture_of(alloc, ground.plane, layer)?;
-            Ok(write_geojson(alloc, &picture, ground.places)?)
-        }
+        Ok(layer) => Ok(picture_text(alloc, ground.plane, layer, ground.places)?),
         Err(why) => Err(CommandStop::Refused(why)),
     }
 }

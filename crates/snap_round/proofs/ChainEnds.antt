@@ -103,7 +103,7 @@ hot_slice hot (x ∷ xs) q h e p c =
     let rest : take (length (x ∷ xs) - 1) xs ≡ xs = ap (λ (t : ℕ). take t xs) long ∙ take-length xs in
     h.all_hot p (subst (λ (ys : Path). Contains ys p) (λ i. e i ∷ rest i) c)
 
--- the points that are hot before a step and behind it
+-- the points that are hot before a step and after it
 pub step_hot : (hot : List GridPoint) (from : GridPoint) (rest : Path) (k : ℕ) (p : GridPoint) → ((q : GridPoint) → Contains (from ∷ rest) q → Contains hot q) → k < length rest → p ≡ get_or rest k p → Contains hot p
 step_hot hot from rest k p h l e = h p (Contains-later from rest p (k, l, sym e))
 

@@ -93,6 +93,6 @@ mapped_more {A} f xs i x l e = ap (λ (y : A). map f (take i xs) ++ f y ∷ []) 
 pub taken_more : {A : Type 0} (xs : List A) (i : ℕ) (x : A) → i < length xs → x ≡ get_or xs i x → take i xs ++ x ∷ [] ≡ take (i + 1) xs
 taken_more {A} xs i x l e = ap (λ (y : A). take i xs ++ y ∷ []) e ∙ sym (take_more xs i x l)
 
--- a new element behind those that were there before the loop
+-- a new element after those that were there before the loop
 pub put_more : {A : Type 0} (x : A) (before ys zs : List A) → ys ++ x ∷ [] ≡ zs → (before ++ ys) ++ x ∷ [] ≡ before ++ zs
 put_more {A} x before ys zs e = append_assoc before ys (x ∷ []) ∙ ap (λ (ws : List A). before ++ ws) e

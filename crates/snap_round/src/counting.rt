@@ -6,7 +6,7 @@ use hot_pixels::HotSet;
 use std::alloc::AllocError;
 
 /// How many links the chains of these segments have together. A number past the last `u64` is out of memory: no
-/// drawing has so many.
+/// drawing has that many.
 pub fn count_links(hot: &HotSet, spots: &[Seg]) -> Result<u64, AllocError>
     ensures { IfOk result (λ count. count ≡ sum_by (links_along hot.now) spots.now) }
 {

@@ -25,7 +25,7 @@ impl From<AllocError> for PathStop {
     }
 }
 
-/// How far paths are made: for so many points of chains there is room, and the next step is at this place among the
+/// How far paths are made: there is room for `room` more points of chains, and the next step is at `place` among the
 /// segments of the drawing. A wrong place costs time alone.
 #[derive(Clone, Copy)]
 pub struct Progress {
@@ -82,9 +82,10 @@ fn append_chains(
     Ok(())
 }
 
-/// The chains of a path's steps, end to end, behind its first vertex.
+/// The chains of a path's steps, end to end, after its first vertex.
 ///
-/// Some neighbours in it are equal. Where these count once, it is the snapped path. Its points are taken out of the room.
+/// Some neighbours in it are equal. Where these count once, it is the snapped path. Its points are taken out of the
+/// room.
 pub fn joined_chains(
     alloc: Global,
     progress: &mut Progress,

@@ -39,7 +39,7 @@ one_more {A} test (x ∷ xs) y h f = go (test x) refl h (one_more test xs y)
 
 -- ## The words of a group
 
--- behind groups that read standard input, or don't, one item at most reads it
+-- after groups that read standard input, or don't, one item at most reads it
 record ReadsOnce (taken : Bool) (form : ArgumentForm) (said : Said) : Type 0 where
   one : HasAtMostOne (is_standard_item form) said
   none : taken ≡ true → list_any (is_standard_item form) said ≡ false

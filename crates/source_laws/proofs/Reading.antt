@@ -181,7 +181,7 @@ module _ (files : FileMap) (input : Content) where
     abbrev Imported : Type 0
     Imported = Result (List (List LayerContent)) Outcome
 
-    -- the first one gives layers, and the others go on behind it
+    -- the first one gives layers, and the others go on after it
     goes_on : (s : SourceWord) (ss : List SourceWord) (layers : List LayerContent) (before count : ℕ) (room : Room) (n : ℕ) (rest : Imported) → source_layers read places before room n s (bytes_of files input s) ≡ Ok layers → length_of (bytes_of files input s) ≡ count
         → imported read places files input (before + count) (room_behind room layers) (n + 1) ss ≡ rest → imported read places files input before room n (s ∷ ss) ≡ on_ok rest (λ (more : List (List LayerContent)). Ok (layers ∷ more))
     goes_on s ss layers before count room n rest first size others =

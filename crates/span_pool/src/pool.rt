@@ -66,7 +66,7 @@ impl SpanPool {
         self.spare_points
     }
 
-    /// Makes room for so many spans and points; room that is there already counts.
+    /// Makes room for `spans` spans and `points` points; room that is there already counts.
     pub fn reserve(&mut self, spans: u32, points: u32) -> Result<(), AllocError>
         requires spans_counted { length self.old.spans + spans < 4294967295 }
         requires points_counted { points_held self.old + points < 4294967295 }

@@ -58,7 +58,7 @@ module _ {A B : Type 0} (f : A → Result B TableWhy) where
   each_stops ys xs rest x why e said =
       ap (λ (zs : List A). behind ys (each_ok f zs)) e ∙ ap (λ (r : Result B TableWhy). behind ys (on_ok r (each_from rest))) said
 
-  -- behind the last item
+  -- after the last item
   pub each_done : (ys : List B) (xs : List A) → xs ≡ [] → behind ys (each_ok f xs) ≡ Ok ys
   each_done ys xs e = ap (λ (zs : List A). behind ys (each_ok f zs)) e ∙ ap Ok (append-nil ys)
 

@@ -26,7 +26,7 @@ calculated_at rows matched (Some place) = column_sum rows place (pos 0) matched
 
 -- ---- rows
 
--- values with the calculated ones behind them
+-- values, followed by the calculated ones
 abbrev pub with_sums : RowValues → List RowValues → List ℕ → List (Option ℕ) → Result RowValues TableWhy
 with_sums cells rows matched sums = on_ok (each_ok (calculated_at rows matched) sums) (λ (numbers : List ℤ). Ok (cells ++ map is.Num numbers))
 

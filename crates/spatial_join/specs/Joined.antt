@@ -1,4 +1,5 @@
--- A join of rows that are matched already: each row of the target takes fields of its first matching source row, and counts and sums of all of them.
+-- A join of rows that are matched already: each row of the target takes fields of its first matching source row, and
+-- counts and sums of all of them.
 use Rattle.std.specs.Prelude.{ℕ, ◌+◌, Bool, false, not, nat_eq, ℤ, pos, List, [], ◌∷◌, ◌++◌, map, filter, length, Result, Ok, Option, Some, None, unwrap_or, if◌then◌else◌}
 use Rattle.std.specs.List.{zip}
 use Rattle.lists.specs.Lists.{has}
@@ -48,7 +49,8 @@ abbrev pub lacks_field : List Text → Calc → Bool
 lacks_field source (Count name) = false
 lacks_field source (Sum name field) = not (has_name source field)
 
--- the first refusal among calculations from number n on: of a field that the source lacks, or of a name that stands earlier
+-- the first refusal among calculations from number n on: of a field that the source lacks, or of a name that stands
+-- earlier
 abbrev pub refused_calc : List Text → List Text → ℕ → List Calc → Option TableWhy
 refused_calc source earlier n [] = None
 refused_calc source earlier n (c ∷ rest) =

@@ -32,7 +32,8 @@ pub record AreMatchedSets (arcs : List Path) (faces : FaceTable) (points : List 
   pub matched : AreMatchedPoints arcs faces points sets by_points
   pub listed : matches ≡ map (owners_of by_points) (range_with_len 0 (length sets))
 
--- ---- on the way: the sets of the faces beside each of some points, one point behind the other, by the lists of the sets that have each face
+-- ---- on the way: the sets of the faces beside each of some points, one point after the other, by the lists of the
+-- sets that have each face
 pub record AreFoundAlong (arcs : List Path) (faces : FaceTable) (owners : List (List ℕ)) (points : List GridPoint) (numbers : List ℕ) : Type 0 where
   pub besides : List (List ℕ)
   pub are : AllZip (AreBeside arcs faces) points besides

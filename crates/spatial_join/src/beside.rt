@@ -10,7 +10,7 @@ use grid_base::{FaceId, Pt, SignedArc};
 use ring_trace::FaceOwners;
 use std::alloc::AllocError;
 
-/// Puts the numbers of the sets that have a face beside a vertex of the drawing behind others, for each such face.
+/// Appends the numbers of the sets that have a face beside a vertex of the drawing, for each such face.
 /// Where the vertex is on no link that is the face in which it lies.
 ///
 /// No vertex of a snapped drawing lies between the ends of a link, so a point on a link is a vertex of its arc.

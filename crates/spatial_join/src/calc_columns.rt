@@ -12,10 +12,10 @@ use std::alloc::Global;
 use table_ops::{Columns, CopiedFields, TableFault, check_fields, copied_columns, copied_names};
 use table_terms::{CalcSpec, NameSet};
 
-/// The columns of the target and behind them those of the copied fields whose names are new, and all names: those of
+/// The columns of the target and after them those of the copied fields whose names are new, and all names: those of
 /// the calculated columns stand last.
 ///
-/// Tests the listed fields, and then the calculations, which are counted on behind them.
+/// Tests the listed fields, and then the calculations, whose count goes on from that of the fields.
 pub(crate) fn joined_columns(
     alloc: Global,
     target: &NameList,

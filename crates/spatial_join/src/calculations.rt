@@ -74,7 +74,7 @@ fn name_of(calc: &Calc) -> &str
     }
 }
 
-/// Puts the names of calculations behind others.
+/// Appends the names of calculations to others.
 pub(crate) fn append_names(
     alloc: Global,
     names: &mut NameList,
@@ -112,7 +112,7 @@ fn summed_place(sources: &NameSet, calc: &Calc) -> Option<u32>
     }
 }
 
-/// Values with those behind them that are calculated of the rows with these numbers.
+/// Values, followed by those that are calculated of the rows with these numbers.
 pub(crate) fn with_sums(
     values: Row,
     rows: &RowList,

@@ -15,16 +15,16 @@ use std::alloc::{AllocError, Global};
 use table_ops::{Column, TableFault, candidates, copied_row};
 use table_terms::{CalcSpec, NameSet};
 
-/// Fields of the source go to the rows of the target: to each from the first source row that matches it, and behind them
+/// Fields of the source go to the rows of the target: to each from the first source row that matches it, and after them
 /// what is calculated of all that match it. For each target row `matches` has the numbers of those, ascending.
 ///
 /// With a test only the source rows for which it is true take part. The copied fields are the listed ones, else all,
-/// each under its name behind the prefix. One whose new name is a column of the target is left out, or with `force`
-/// takes its place in the rows that have a match; the other columns stand behind those of the target, and are null in
+/// each under its name after the prefix. One whose new name is a column of the target is left out, or with `force`
+/// takes its place in the rows that have a match; the other columns stand after those of the target, and are null in
 /// the rows without a match. The calculated columns stand last: how many rows match, or the sum of a field over them,
 /// where null counts as 0.
 /// Errors: `NoField` and `FieldTwice` at the first listed field that the source lacks or that stands earlier, then at
-/// the first calculation, counted on behind those, whose field the source lacks or whose name is that of a column of
+/// the first calculation, counted on from those, whose field the source lacks or whose name is that of a column of
 /// the target, of a copied field or of an earlier calculation; then `Eval` and `NotBoolean` at the first source row for
 /// which the test is no boolean; then by target rows, and in each by calculations, `NotNumber` and `SumRange` at the
 /// first source row that cannot be added.

@@ -4,9 +4,9 @@
 //! way round. `join_matched` then puts fields of the first match, and counts and sums of all matches, to the rows of a
 //! table.
 //!
-//! A point is inside each set that has a face beside it, so one on a boundary is inside the sets on both sides. The faces
-//! beside a point are those round the node at which it lies, the two sides of the arc whose vertex it is, or the face in
-//! which it lies. The sets of each face are listed once, so no point is compared with all sets.
+//! A point is inside each set that has a face beside it, so one on a boundary is inside the sets on both sides. The
+//! faces beside a point are those round the node at which it lies, the two sides of the arc whose vertex it is, or the
+//! face in which it lies. The sets of each face are listed once, so no point is compared with all sets.
 #![tactic(auto)]
 
 mod beside;

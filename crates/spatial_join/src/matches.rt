@@ -105,7 +105,7 @@ fn id_list(alloc: Global, numbers: &[u32]) -> Result<IdList, AllocError>
     Ok(list)
 }
 
-// For each of so many numbers the numbers of the lists that have it, ascending.
+// For each of `count` numbers the numbers of the lists that have it, ascending.
 fn turned_round(alloc: Global, lists: &GroupList, count: u32) -> Result<GroupList, AllocError>
     requires ascending { All IsStrictlyIncreasing lists.now }
     ensures exact { IfOk result (λ g. g ≡ map (owners_of lists.now) (range_with_len 0 count)) }
@@ -139,7 +139,7 @@ fn add_number(lists: &mut Vec<Vec<u32>>, places: &[u32], n: u32) -> Result<(), A
     Ok(())
 }
 
-// Puts a number behind the list at a place, where there is one.
+// Appends a number to the list at a place, where there is one.
 fn put_number(lists: &mut Vec<Vec<u32>>, place: usize, n: u32) -> Result<(), AllocError>
     ensures { OnOk result (map (λ list. list.items) lists.new.items ≡ with_number n place (map (λ list. list.items) lists.old.items)) }
 {

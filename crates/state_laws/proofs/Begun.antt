@@ -127,7 +127,7 @@ module _ (v : View) (view : IsView v) (features : List (List ℕ)) (show : ShowE
   abbrev all_lines : List (List Path)
   all_lines = (snapped v.drawing).lines
 
-  -- what is left of the features behind some layers
+  -- what is left of the features after some layers
   pub record IsLeft (before : List LayerContent) (left : Left) : Type 0 where
     pub faces : left.faces ≡ drop (count_of kinds.Polygon before) features
     pub lines : left.lines ≡ drop (count_of kinds.Line before) all_lines

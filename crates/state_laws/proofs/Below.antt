@@ -77,7 +77,7 @@ groups_below keys = All-map (All (λ n. n < length keys)) (λ (key : RowValues).
 abbrev pub AreRowsOf : TableContent → SplitItem → Type 0
 AreRowsOf t item = All (λ n. n < length t.rows) item.rows
 
--- an answer behind no refusal
+-- what is answered where nothing is refused
 pub behind_refusal : {T E : Type 0} (refusal : Option E) (made answer : T) → unless refusal (Ok made) ≡ Ok answer → made ≡ answer
 behind_refusal None made answer e = cc
 behind_refusal (Some why) made answer e = absurd (cc)

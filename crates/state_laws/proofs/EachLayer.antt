@@ -85,7 +85,8 @@ one_more : (first : Outputs) (rest : Result (List (List StateLayer)) state.Refus
     on_ok first (λ (o : List StateLayer). on_ok rest (λ (os : List (List StateLayer)). Ok (o ∷ os))) ≡ Ok (out ∷ outs)
 one_more first rest out outs e f = λ i. on_ok (e i) (λ (o : List StateLayer). on_ok (f i) (λ (os : List (List StateLayer)). Ok (o ∷ os)))
 
--- whatever a run makes of a layer that it doesn't refuse shows what a state answers, and where it refuses it so does the state
+-- whatever a run makes of a layer that it doesn't refuse shows what a state answers, and where it refuses it so does
+-- the state
 pub record LayerAlike (v : View) (Makes : List Layer → Type 0) (Refuses : Option RefuseWhy → Type 0) (answer : Outputs) : Type 0 where
   pub shows : Refuses None → (made : List Layer) → Makes made → OutputsShow v made answer
   pub refused : (refusal : Option RefuseWhy) → Refuses refusal → RefusedAlike refusal answer
@@ -143,7 +144,7 @@ module _ (v : View) (title : Option Content) (Makes : Layer → List Layer → T
       let rest = first_stops ts ls pairs.1 why later.1 in
       λ i. behind l (is i) (rest i)
 
-  -- ---- and where none is refused, so many layers
+  -- ---- and where none is refused, how many layers there are
 
   module _ (count : Layer → ℕ) (counted : (layer : Layer) (l : StateLayer) → LayerShows v layer l → (outs : List StateLayer) → f l ≡ Ok outs → length outs ≡ count layer) where
     abbrev Counts : List Layer → List StateLayer → Type 0

@@ -1,4 +1,4 @@
--- Elements by their numbers: those that are taken, those that pass a test, and both one behind the other.
+-- Elements by their numbers: those that are taken, those that pass a test, and both one after the other.
 use Rattle.std.proofs.Common.{◌≡◌, refl, sym, ap, ◌∙◌, subst, arith, ℕ, zero, suc, ◌+◌, ◌<◌, ◌≤◌, Bool, true, false, cond, ◌||◌, if◌then◌else◌, List, [], ◌∷◌, length, map, get_or, filter, filter_map, All, Option, Some, None, nat_eq}
 use Rattle.std.specs.Cmp.{unsigned_Decides}
 use Rattle.std.specs.List.{AllZip, cons_option, enumerate_from, list_any, range_with_len}
@@ -128,7 +128,7 @@ module _ {B C : Type 0} (f : ℕ → B) (g : ℕ → C) (test : B → Bool) wher
       go true here rest = λ i. here i ∷ rest i
       go false here rest = rest
 
-  -- what is taken behind a test of what was taken before is what is taken of the numbers that pass it
+  -- values by g, taken at the places where values by f pass a test, are those of the elements whose values by f pass it
   pub taken_of_taken : (ns : List ℕ) (d : C) → map (λ (k : ℕ). get_or (map g ns) k d) (numbers_where test (map f ns)) ≡ map g (filter (λ (m : ℕ). test (f m)) ns)
   taken_of_taken ns d = taken_behind 0 ns (λ (k : ℕ). get_or (map g ns) k d) (λ k e l. let start : 0 + k ≡ k = omega arith in ap (λ (j : ℕ). get_or (map g ns) j d) start ∙ get_or-map g ns k e d l)
 

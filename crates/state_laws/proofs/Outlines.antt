@@ -85,7 +85,7 @@ difference_told t a b (f ∷ fields) n rank e = go (same (cell t.names f a) (cel
         ap (λ (k : ℕ). type_and_rank (get_or (f ∷ fields) k (codes "inner")) (1 + d + n)) shift ∙ ap (type_and_rank (get_or fields d (codes "inner"))) one ∙ rest
     go false rest = let start : 0 + n ≡ n = omega arith in ap (type_and_rank f) start
 
--- the features at the sides are among so many
+-- the features at the sides have numbers below `count`
 record AreAmong (count : ℕ) (a : model.SidedArc) : Type 0 where
   left : All (λ n. n < count) a.left
   right : All (λ n. n < count) a.right

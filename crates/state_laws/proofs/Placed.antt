@@ -72,7 +72,7 @@ module _ (v : View) (t : Target) (ns : List ℕ) where
   places_show n (held ∷ layers) (l ∷ ls) h tells outputs outs shown =
       place_shows n held layers l ls outputs outs (is_selected t held) h.0 (first_told n held layers tells) shown (λ rest more. places_show (n + 1) layers ls h.1 (rest_told n held layers tells) (drop 1 outputs) rest more)
 
--- ---- behind all
+-- ---- after all layers
 
 all_put_out : (outputs : List (List Layer)) → flat_map (map put_out) outputs ≡ map put_out (joined_up outputs)
 all_put_out [] = refl

@@ -1,4 +1,5 @@
--- Laws of commands on lines and points, and of lines between polygons: what a run makes of a layer shows what the state's definitions make of it.
+-- Laws of commands on lines and points, and of lines between polygons: what a run makes of a layer shows what the
+-- state's definitions make of it.
 use Rattle.std.specs.Prelude.{◌≡◌, ◌≢◌, ℕ, Bool, List, None}
 use Rattle.io_core.specs.Contents.{Content}
 use Rattle.grid_base.specs.declared.kinds.Kind.TheVariants as kinds

@@ -1,4 +1,5 @@
--- Laws of joins by place: a join of points with polygons, or of polygons with points, shows that of the state's layers, and so does its step.
+-- Laws of joins by place: a join of points with polygons, or of polygons with points, shows that of the state's layers,
+-- and so does its step.
 use Rattle.std.specs.Prelude.{◌≡◌, ℕ, true, List}
 use Rattle.table_terms.specs.declared.calculations.CalcSpec.{CalcSpec}
 use Rattle.spatial_join.specs.Joined.{join_matched}

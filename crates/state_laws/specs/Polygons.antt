@@ -1,4 +1,5 @@
--- Laws of commands on polygons: what a run makes of the sets of faces of a layer shows what the state's definitions make of the regions that they follow, and both are refused alike.
+-- Laws of commands on polygons: what a run makes of the sets of faces of a layer shows what the state's definitions
+-- make of the regions that they follow, and both are refused alike.
 use Rattle.std.specs.Prelude.{◌≡◌, ℕ, ◌<◌, Bool, List, [], ◌∷◌, length, slice_index_or, Option, Some, None, Result, Ok, Err}
 use Rattle.std.specs.List.{AllZip}
 use Rattle.plane_model.specs.Snapped.{snapped}

@@ -1,4 +1,5 @@
--- Layers that a run holds show layers of a state: rows are the same, sets of faces follow regions, signed arcs run along paths, points are the points.
+-- Layers that a run holds show layers of a state: rows are the same, sets of faces follow regions, signed arcs run
+-- along paths, points are the points.
 use Rattle.std.specs.Prelude.{◌≡◌, ℕ, List, [], All, Contains, slice_index_or}
 use Rattle.std.specs.List.{AllZip}
 use Rattle.std.specs.List.Sorted.{IsStrictlyIncreasing}
@@ -27,7 +28,8 @@ use Rattle.run_state.specs.declared.state.Held.{Held}
 use Rattle.chain_model.specs.State as state
 use Rattle.chain_model.specs.State.{State, StateLayer}
 
--- what layers are seen by: the drawing of a run, the arcs and the faces of its snapped drawing, the face of each place, and answers about regions
+-- what layers are seen by: the drawing of a run, the arcs and the faces of its snapped drawing, the face of each place,
+-- and answers about regions
 pub record View : Type 0 where
   pub drawing : Drawing
   pub arcs : List Path
@@ -53,7 +55,8 @@ pub record FacesShow (v : View) (set : List ℕ) (r : Region) : Type 0 where
   pub inner : IsSetOf v.faces set
   pub follows : Follows (snapped v.drawing) v.arcs v.label set r
 
--- a run's plane has the arcs and the faces of the view, and the faces that a box holds show the box: none, past the last
+-- a run's plane has the arcs and the faces of the view, and the faces that a box holds show the box: none, past the
+-- last
 pub record IsSeenIn (v : View) (plane : RunPlane) : Type 0 where
   pub arcs : plane.arcs ≡ v.arcs
   pub faces : plane.faces ≡ v.faces

@@ -24,7 +24,8 @@ StepGives v sources s c after = (t : State) × (step (plane_of v) v.answers sour
 abbrev pub StepRefuses : View → SourceLayers → State → Command → RefuseWhy → Type 0
 StepRefuses v sources s c why = step (plane_of v) v.answers sources s c ≡ Err (why_of why)
 
--- a command that changes each layer of its target shows that of the state: so is the state after it, and both refuse for the same reason
+-- a command that changes each layer of its target shows that of the state: so is the state after it, and both refuse
+-- for the same reason
 pub record StepShows (v : View) (base : Base) (layers : List Held) (sources : SourceLayers) (s : State) (c : Command) (a : LayerAction) : Type 0 where
   pub goes : RefusesEach base layers c a None → (after : List Held) → ChangesEach base c a layers after → StepGives v sources s c after
   pub refused : (why : RefuseWhy) → RefusesEach base layers c a (Some why) → StepRefuses v sources s c why

@@ -1,4 +1,5 @@
--- Laws of commands on rows and columns: what a run makes of layers shows what the state's definitions make of those that they show, and they are refused alike.
+-- Laws of commands on rows and columns: what a run makes of layers shows what the state's definitions make of those
+-- that they show, and they are refused alike.
 use Rattle.std.specs.Prelude.{◌≡◌, ℕ, Bool, List, [], ◌∷◌, All, map, Option, Result, Ok}
 use Rattle.std.specs.List.{AllZip}
 use Rattle.io_core.specs.Contents.{Content}

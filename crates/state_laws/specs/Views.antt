@@ -1,4 +1,5 @@
--- What a run begins with can be seen: there are labels and right answers for its plane, and what features and boxes hold follows them.
+-- What a run begins with can be seen: there are labels and right answers for its plane, and what features and boxes
+-- hold follows them.
 use Rattle.std.specs.Prelude.{◌≡◌, ℕ, ◌<◌, List, length}
 use Rattle.plane_model.specs.Points.{Path}
 use Rattle.plane_model.specs.Drawing.{Drawing}

@@ -1,9 +1,9 @@
-//! Laws of states: the layers that a run holds show the layers of a state, and what each command makes of them shows what
-//! its definition makes of the state.
+//! Laws of states: the layers that a run holds show the layers of a state, and what each command makes of them shows
+//! what its definition makes of the state.
 //!
-//! A run holds sets of faces, signed arcs and points; a state has regions, paths and points. `specs/Shown.antt` says when
-//! the ones show the others: rows, names and kinds are the same, sets of faces follow regions, arcs run along paths.
-//! `specs/Reasons.antt` says when a refusal of a run is that of the state.
+//! A run holds sets of faces, signed arcs and points; a state has regions, paths and points. `specs/Shown.antt` says
+//! when the ones show the others: rows, names and kinds are the same, sets of faces follow regions, arcs run along
+//! paths. `specs/Reasons.antt` says when a refusal of a run is that of the state.
 //!
 //! - What is laid out has a view, in which the sets that features and boxes hold show them (`views_exist`). What a run
 //!   draws is the drawing of the state (`drawings_are_one`), and what begins over it shows what begins in the state
@@ -18,17 +18,18 @@
 //!   (`grouped_lines_show`). Lines between polygons, and all lines around them with their types and ranks, are those of
 //!   the state (`inner_lines_show`, `outlines_show`), and so are joins by place (`place_joins_show`).
 //! - A command works on the same layers (`targets_show`), takes the same ones from elsewhere (`origins_show`,
-//!   `one_layer_shows`), and its outputs go to the same places (`placed_outputs_show`). The first has all layers for its
-//!   target (`first_layers_show`).
-//! - So the step of a command on the tables of its layers shows that of the state (`table_steps_show`), and so does that of
-//!   one that merges them (`merge_steps_show`).
-//! - Commands on polygons: a run's plane is seen in a view (`planes_are_seen`), and what a command cuts by shows the region
-//!   of the state (`areas_show`). So do `clipped_polygons_show`, `erased_polygons_show`, `dissolved_polygons_show`,
-//!   `cleaned_polygons_show`, `islands_show`, `mosaics_show`, `exploded_polygons_show` and `united_layers_show`; a layer
-//!   that is alone is not united (`lone_layers_are_refused`). The step of a command on layers of polygons shows that of the
-//!   state (`polygon_steps_show`), and so does that of one that unites them (`union_steps_show`), that of clip, erase,
-//!   dissolve, clean, explode, mosaic, innerlines, lines and islands that are dropped, whatever the kinds of the layers are
-//!   (`shape_steps_show`), and that of a join by place (`place_steps_show`).
+//!   `one_layer_shows`), and its outputs go to the same places (`placed_outputs_show`). The first has all layers for
+//!   its target (`first_layers_show`).
+//! - So the step of a command on the tables of its layers shows that of the state (`table_steps_show`), and so does
+//!   that of one that merges them (`merge_steps_show`).
+//! - Commands on polygons: a run's plane is seen in a view (`planes_are_seen`), and what a command cuts by shows the
+//!   region of the state (`areas_show`). So do `clipped_polygons_show`, `erased_polygons_show`,
+//!   `dissolved_polygons_show`, `cleaned_polygons_show`, `islands_show`, `mosaics_show`, `exploded_polygons_show` and
+//!   `united_layers_show`; a layer that is alone is not united (`lone_layers_are_refused`). The step of a command on
+//!   layers of polygons shows that of the state (`polygon_steps_show`), and so does that of one that unites them
+//!   (`union_steps_show`), that of clip, erase, dissolve, clean, explode, mosaic, innerlines, lines and islands that
+//!   are dropped, whatever the kinds of the layers are (`shape_steps_show`), and that of a join by place
+//!   (`place_steps_show`).
 //!
 //! Each function carries one law in its contract, and does nothing.
 #![tactic(auto)]
@@ -55,8 +56,8 @@ ghost use Rattle.state_laws.specs.Taken.{EmptinessShows, LeftFeaturesShow, Taken
 ghost use Rattle.state_laws.specs.Targets.{FirstLayersShow, OneLayerShows, OriginsShow, TargetsShow};
 ghost use Rattle.state_laws.specs.Views.{ViewsExist};
 
-/// A snapped drawing that is laid out has a view: its places have labels by their faces, each question about regions has a
-/// right answer, and the faces that features and boxes hold follow them.
+/// A snapped drawing that is laid out has a view: its places have labels by their faces, each question about regions
+/// has a right answer, and the faces that features and boxes hold follow them.
 pub fn views_exist()
     ensures { ViewsExist }
 {}
@@ -266,8 +267,8 @@ pub fn union_steps_show()
     ensures { UnionStepsShow }
 {}
 
-/// The step of a clip, an erase, a dissolve, a clean, an explode, a mosaic, innerlines, lines or islands that are dropped
-/// shows that of the state, whatever the kinds of its layers.
+/// The step of a clip, an erase, a dissolve, a clean, an explode, a mosaic, innerlines, lines or islands that are
+/// dropped shows that of the state, whatever the kinds of its layers.
 pub fn shape_steps_show()
     ensures { ShapeStepsShow }
 {}

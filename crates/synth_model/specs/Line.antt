@@ -6,7 +6,8 @@ use Rattle.std.specs.Fmt.{signed_decimal}
 abbrev pub named : List ℕ → ℕ → List ℕ
 named name n = name ++ decimal n
 
--- the numbers of cells, of arcs, of faces with the outer one, of features that keep a face, and twice the area of all cells together
+-- the numbers of cells, of arcs, of faces with the outer one, of features that keep a face, and twice the area of all
+-- cells together
 abbrev pub line_text : ℕ → ℕ → ℕ → ℕ → ℤ → List ℕ
 line_text cells arcs faces features twice_area =
     named (codes "cells ") cells ++ named (codes " arcs ") arcs ++ named (codes " faces ") faces ++ named (codes " features ") features

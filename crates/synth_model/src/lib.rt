@@ -1,4 +1,5 @@
-//! What `synth` makes and tells: the draws of its seed, the cells of its mosaic, and its line of numbers. Definitions alone.
+//! What `synth` makes and tells: the draws of its seed, the cells of its mosaic, and its line of numbers. Definitions
+//! alone.
 #![tactic(auto)]
 
 ghost use Rattle.std.specs.Prelude.{◌≡◌, ℕ};

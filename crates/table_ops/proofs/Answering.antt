@@ -1,4 +1,4 @@
--- What a call answers behind a test that may refuse.
+-- What a call answers after a test that may refuse.
 use Rattle.std.proofs.Common.{◌≡◌, refl, sym, subst}
 use Rattle.std.specs.Prelude.{Option, Some, None, Result, Ok, Err}
 use Rattle.table_terms.specs.Refusals.{first_refusal, unless}

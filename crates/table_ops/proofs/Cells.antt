@@ -28,7 +28,7 @@ pub picked_long : (places : List ℕ) (rows : List RowValues) → AreRows (lengt
 picked_long places [] = tt
 picked_long places (row ∷ rows) = (length-map places (value_at row), picked_long places rows)
 
--- rows of one width, one list behind the other
+-- rows of one width, one list after the other
 pub rows_long-append : (n : ℕ) (xs ys : List RowValues) → AreRows n xs → AreRows n ys → AreRows n (xs ++ ys)
 rows_long-append n [] ys h k = k
 rows_long-append n (x ∷ xs) ys h k = (h.0, rows_long-append n xs ys h.1 k)

@@ -144,7 +144,7 @@ values_long columns value (row ∷ rows) = (length-map columns (value row), valu
 
 -- ---- names stay distinct
 
--- texts behind the same text
+-- texts after the same text
 same_behind : (p s t : Text) → bytes_eq (p ++ s) (p ++ t) ≡ bytes_eq s t
 same_behind p s t = by (bytes_eq (p ++ s) (p ++ t)) refl (bytes_eq s t) refl
   where
@@ -175,7 +175,7 @@ distinct-filter p (x ∷ xs) h = by (p x) (distinct-filter p xs h.1)
     by true rest = (all_filter (λ (y : Text). bytes_eq x y ≡ false) p xs h.0, rest)
     by false rest = rest
 
--- names behind the same prefix differ, where the fields do
+-- names after the same prefix differ, where the fields do
 pub copied_differ : (prefix : Text) (fields : List Text) → IsDistinct bytes_eq fields → IsDistinct bytes_eq (map (λ (f : Text). prefix ++ f) fields)
 copied_differ prefix fields h =
     IsDistinct-map (λ (f : Text). prefix ++ f) bytes_eq fields

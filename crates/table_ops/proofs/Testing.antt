@@ -38,6 +38,6 @@ pub tests_stop : (names : List Text) (e : Tree) (rows : List RowValues) (n : ℕ
 tests_stop names e rows n d bs w less said =
     ap (behind bs) (tests_at names e rows n d less ∙ ap (λ (r : Result Bool TableWhy). on_ok r (λ c. on_ok (tests_from names e (n + 1) (drop (n + 1) rows)) (λ cs. Ok (c ∷ cs)))) said)
 
--- behind the last row
+-- after the last row
 pub tests_end : (bs : List Bool) → behind {E = TableWhy} bs (Ok []) ≡ Ok bs
 tests_end bs = ap Ok (append-nil bs)

@@ -75,7 +75,7 @@ group_row rows by copied summed members = picked by (first_of rows members) ++ p
 abbrev pub field_places : TableContent → List Text → List ℕ
 field_places t fields = map (place_of t.names) fields
 
--- the fields of the three lists, one list behind the other
+-- the fields of the three lists, one list after the other
 abbrev pub listed_fields : GroupSpec → List Text
 listed_fields spec = spec.by ++ spec.copy ++ spec.sum
 

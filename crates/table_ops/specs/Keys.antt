@@ -10,6 +10,6 @@ use Rattle.json_read.specs.declared.value.Value.{Value}
 abbrev pub same_values : RowValues → RowValues → Bool
 same_values = pointwise same
 
--- a text that is one for the same values: their JSON texts, a comma behind each
+-- a text that is one for the same values: their JSON texts, a comma after each
 abbrev pub key_text : RowValues → List ℕ
 key_text row = flat_map (λ (v : Value). value_text v ++ 44 ∷ []) row

@@ -46,7 +46,7 @@ pub fn group_rows(alloc: Global, t: &Table, spec: &GroupSpec) -> Result<Grouped,
     table_of_groups(alloc, t, &columns, spec, names)
 }
 
-/// The fields of the three lists, one list behind the other.
+/// The fields of the three lists, one list after the other.
 fn listed_fields(alloc: Global, spec: &GroupSpec) -> Result<NameList, AllocError>
     ensures names { IfOk result (λ names. names ≡ listed_fields spec.now) }
 {

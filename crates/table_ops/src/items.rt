@@ -25,7 +25,7 @@ pub(crate) fn check_list(
 
 /// Tests the items of a list one by one: each is a name, and none stands among those `seen`.
 ///
-/// Items count from `first`, behind those seen; `seen` then has them too.
+/// Items are counted from `first`, after those seen; `seen` then has them too.
 pub(crate) fn check_items(
     alloc: Global,
     names: &NameSet,

@@ -30,7 +30,7 @@ use table_terms::{JoinSpec, NameSet};
 /// the same, where null is the same as nothing.
 ///
 /// With a test only the source rows for which it is true take part. The copied fields are the listed
-/// ones, else all but the key, each under its name behind the prefix. One whose new name is a column
+/// ones, else all but the key, each under its name after the prefix. One whose new name is a column
 /// of the target is left out, or with `force` takes its place in the rows that have a match; the other
 /// columns stand last, and are null in the rows without a match.
 /// Errors: `NoField` at item 0 or 1 for the two keys; `NoField` and `FieldTwice` at the first listed

@@ -40,7 +40,7 @@ pub struct CopiedFields<'a> {
     pub force: bool,
 }
 
-/// The columns of the target, and behind them those of the copied fields whose names are new.
+/// The columns of the target, and after them those of the copied fields whose names are new.
 pub(crate) fn columns_of(
     alloc: Global,
     target: &NameList,
@@ -117,7 +117,7 @@ fn copied_name(alloc: Global, prefix: &Text, field: &str) -> Result<Text, AllocE
     Ok(Text::from_string(name))
 }
 
-/// The columns of the target, and behind them those of the copied fields whose names are new.
+/// The columns of the target, and after them those of the copied fields whose names are new.
 pub fn copied_columns(
     alloc: Global,
     target: &NameList,

@@ -1,7 +1,8 @@
-//! Tables of named columns: rows taken, filtered, grouped and split, columns kept and renamed, tables joined and merged.
+//! Tables of named columns: rows taken, filtered, grouped and split, columns kept and renamed, tables joined and
+//! merged.
 //!
-//! A join by keys goes in steps that serve other joins too: `check_fields` and `candidates` say what of the source takes
-//! part, `copied_columns` which columns the table has, and `copied_row` what a row has of its match.
+//! A join by keys goes in steps that serve other joins too: `check_fields` and `candidates` say what of the source
+//! takes part, `copied_columns` which columns the table has, and `copied_row` what a row has of its match.
 #![tactic(auto)]
 
 mod columns;

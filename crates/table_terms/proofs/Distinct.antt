@@ -33,7 +33,7 @@ absent_before {eq = eq} laws (x ∷ xs) (suc i) d h less =
     let other : eq (get_or xs i d) x ≡ false = laws.symm (get_or xs i d) x ∙ all_at (λ y. eq x y ≡ false) xs i d h.0 (omega arith) in
     rw other (absent_before laws xs i d h.1 (omega arith))
 
--- and goes behind them as a new one
+-- and is appended to them as a new one
 pub insert_key-take : {A : Type 0} {eq : A → A → Bool} → IsEquivalence eq → (xs : List A) (i : ℕ) (d : A) → IsDistinct eq xs → i < length xs → insert_key eq (take i xs) (get_or xs i d) ≡ take (i + 1) xs
 insert_key-take {eq = eq} laws xs i d h less =
     ap (λ b. cond b (take i xs) (take i xs ++ get_or xs i d ∷ [])) (absent_before laws xs i d h less) ∙ sym (take_more xs i d less)

@@ -2,8 +2,8 @@
 //!
 //! - `read_whole` takes what a source holds, a limit, how many bytes a call moves at most, and which call fails; it
 //!   answers how many bytes were read, or why none, and how many calls failed.
-//! - `read_file` takes the same of a file `in.json`, and a list of names to read; it answers so for each of them, a line
-//!   each. Where nothing is to be held there is only a file `out.json`, made ready and never written.
+//! - `read_file` takes the same of a file `in.json`, and a list of names to read; it answers so for each of them, a
+//!   line each. Where nothing is to be held there is only a file `out.json`, made ready and never written.
 //! - `write_file` takes bytes, and which creation and which append fails, where an append moves 64 bytes; it answers
 //!   how the writing ended, how many bytes the file then has, and how many calls failed.
 //! - `write_whole` takes bytes, the room of a sink, and which call fails, where a call moves two bytes; it answers what
@@ -71,7 +71,7 @@ fn file_read(
     told(alloc, &(got, files.read_faults()))
 }
 
-// Files with room for so many bytes in one of them.
+// Files with room for `room` bytes in one of them.
 fn writable(alloc: Global, case: &[Json], room: usize) -> Result<MemFiles, AllocError> {
     let create = number_at(case, 1);
     let append = number_at(case, 2);

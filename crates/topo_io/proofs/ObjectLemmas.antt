@@ -23,7 +23,7 @@ first_part r = on_ok r (λ (p : List LayerContent × ℕ). let layers : List Lay
 abbrev Member : Type 0
 Member = List ℕ × JsonValue
 
--- the numbers of the object with the number i, before which there are so many features
+-- the numbers of the object with the number i, before which there are `before` features
 abbrev pub numbers_at : ℕ → ℕ → ℕ → Numbers
 numbers_at i before limit = record { object = i; before = before; limit = limit }
 
@@ -43,7 +43,7 @@ no_layers topology limit fs room = same (object_layers topology (first_numbers l
 from_place : (fs : List Member) (i : ℕ) (m : Member) → slice_get fs i ≡ Some m → drop i fs ≡ m ∷ drop (i + 1) fs
 from_place fs i m e = drop-cons fs i m (slice_get_within fs i m e) ∙ (λ j. get_or_from_slice_get fs i m m e j ∷ drop (sym (add-one i) j) fs)
 
--- the features of an object, and then the layers of the objects behind it
+-- the features of an object, and then the layers of the objects after it
 abbrev then_layers : Topology → Numbers → List ℕ → List Member → List Feature × ℕ → Result (List LayerContent × ℕ) Fault
 then_layers topology numbers name ms p =
     on_ok (object_layers topology (after_features numbers p.0) ms p.1) (λ (q : List LayerContent × ℕ). let r : List LayerContent × ℕ = (layers_of name p.0 ++ q.0, q.1) in Ok r)

@@ -26,7 +26,7 @@ use Rattle.topo_io.proofs.MarkLemmas.{left_after}
 abbrev pub put_first : {E A : Type 0} → List A → Result (List A) E → Result (List A) E
 put_first vs r = on_ok r (λ ws. Ok (vs ++ ws))
 
--- behind the first i items
+-- after the first i items
 abbrev pub IsAlongTo : {E A S : Type 0} → (JsonValue → S → Result (A × S) E) → List Json → S → ℕ → List A → S → Type 0
 IsAlongTo read items start i vs s = along read (map json_value items) start ≡ put_first vs (along read (map json_value (drop i items)) s)
 

@@ -24,7 +24,7 @@ fresh_behind (p ∷ path) (q ∷ points) last first l e m f =
 
 -- ## One arc after another
 
--- behind the first i items the path is this
+-- after the first i items the path is this
 abbrev pub IsStitchedTo : List Path → List Json → ℕ → ℕ → Path → ℕ → Type 0
 IsStitchedTo arcs items room i path left = stitched arcs [] (map json_value items) room ≡ stitched arcs path (map json_value (drop i items)) left
 

@@ -5,7 +5,7 @@ use Rattle.json_read.specs.Table.{RowValues}
 use Rattle.geojson_io.specs.Texts.{Text, list_text, properties_text}
 use Rattle.topo_io.specs.Texts.{type_text, one_or_many, row_member}
 
--- four pieces behind a text
+-- four pieces after a text
 pub four : (old p q r s a b c d : Text) → a ≡ old ++ p → b ≡ a ++ q → c ≡ b ++ r → d ≡ c ++ s → d ≡ old ++ (p ++ (q ++ (r ++ s)))
 four old p q r s a b c d ea eb ec ed =
     ed ∙ ap (λ (w : Text). w ++ s) (ec ∙ ap (λ (w : Text). w ++ r) (eb ∙ ap (λ (w : Text). w ++ q) ea))

@@ -46,7 +46,8 @@ abbrev pub arc_at : ℕ → Option ℤ → Result SignedArc TopoWhy
 arc_at count (Some i) = or_no_index (arc_of_index i count)
 arc_at count None = Err ArcIndex
 
--- the arc that an item names, of so many: a list there is wrongly nested, and anything else that names none is no index
+-- the arc that an item names, of `count` arcs: a list there is wrongly nested, and anything else that names none is no
+-- index
 abbrev pub named_arc : ℕ → JsonValue → Result SignedArc TopoWhy
 named_arc count (array items) = Err NotTopology
 named_arc count (number s) = arc_at count (units_of_text 0 s)

@@ -1,4 +1,5 @@
--- The TopoJSON text of layers, after TopoJSON 1.0, section 2: objects by their names, and the arcs that they use, numbered anew.
+-- The TopoJSON text of layers, after TopoJSON 1.0, section 2: objects by their names, and the arcs that they use,
+-- numbered anew.
 use Rattle.std.specs.Prelude.{ℕ, Bool, pos, ◌-ℤ◌, List, [], ◌∷◌, ◌++◌, map, zip, length, codes, slice_index_or}
 use Rattle.plane_model.specs.Points.{GridPoint, Path}
 use Rattle.plane_model.specs.Arcs.{SignedArc, index_of}

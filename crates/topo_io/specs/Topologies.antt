@@ -1,4 +1,5 @@
--- The layers of a topology, after TopoJSON 1.0, section 2, or its first fault: at the top, then in the arcs, then in the features of the objects, each in order.
+-- The layers of a topology, after TopoJSON 1.0, section 2, or its first fault: at the top, then in the arcs, then in
+-- the features of the objects, each in order.
 use Rattle.std.specs.Prelude.{◌≡◌, ℕ, ◌+◌, ◌==◌, List, [], ◌∷◌, ◌++◌, map, length, codes, Option, Some, None, Result, Ok, Err, if◌then◌else◌}
 use Rattle.std.specs.Str.{bytes_eq}
 use Rattle.std.specs.List.{enumerate_from}
@@ -88,7 +89,7 @@ object_layers topology numbers (o ∷ os) =
     object_layers topology (after_features numbers fs) os >>= (λ (ls : List LayerContent).
     gives (layers_of o.0 fs ++ ls)))
 
--- the layers of an object are added to others: these are what was read of it, and so many features
+-- the layers of an object are appended to others: those of the features that were read of it, `count` of them
 pub record IsAdded (read : Result (List Feature × ℕ) Fault) (name : List ℕ) (old : List LayerContent) (count left : ℕ) (new : List LayerContent) : Type 0 where
   pub features : List Feature
   pub is_read : read ≡ Ok (features, left)
@@ -130,6 +131,7 @@ layers_in places positions limit m =
     let frame : Frame = record { transform = m.transform; places = places } in
     on_ok (arcs frame m.arcs) (layers_with frame positions limit m.objects)
 
--- the layers of a topology, in so many places, where so many positions and features have room, or its first fault
+-- the layers of a topology, with `places` decimal places, where `positions` positions and `limit` features have room,
+-- or its first fault
 abbrev pub read_topojson : ℕ → ℕ → ℕ → JsonValue → Result (List LayerContent) Fault
 read_topojson places positions limit j = on_ok (in_place Top (members j)) (layers_in places positions limit)

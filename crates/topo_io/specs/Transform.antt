@@ -8,13 +8,14 @@ pub record AxisUnits : Type 0 where
   pub scale : ℤ
   pub offset : ℤ
 
--- the place of a quantized number on the grid, in so many decimal places, halves upwards
+-- the place of a quantized number on the grid, with `places` decimal places, halves upwards
 abbrev pub axis_place : AxisUnits → ℕ → ℤ → ℤ
 axis_place a places n = rounded (n *ℤ a.scale +ℤ a.offset) (pos places -ℤ pos 28)
 
 -- ## In two parts
 
--- so many units of 10^-28 make the least unit that a grid can have, and a number of a transform has at most as many of these
+-- the least unit that a grid can have is this number of units of 10^-28, and a number of a transform has at most as
+-- many of these least units
 abbrev pub part : ℕ
 part = 10 ^ 19
 

@@ -23,7 +23,8 @@ pub enum TopoWhy {
     /// coordinates are not nested as their type demands.
     #[error("no position")]
     BadPosition,
-    /// A number of the transform is no multiple of 10^-28 below 10^9, or a sum passes twice the limit of the grid either way.
+    /// A number of the transform is no multiple of 10^-28 below 10^9, or a sum passes twice the limit of the grid
+    /// either way.
     #[error("a number past what a transform takes")]
     TransformRange,
     /// The ends of a ring differ.

@@ -168,7 +168,7 @@ impl Transform {
     }
 }
 
-/// How the positions of a topology are read: with a transform or without, in so many decimal places.
+/// How the positions of a topology are read: with a transform or without, and with how many decimal places.
 #[derive(Drop)]
 pub struct Frame {
     pub transform: Option<Transform>,

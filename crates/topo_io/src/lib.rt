@@ -13,5 +13,6 @@ mod writing;
 
 pub use arc_layer::{ArcLayer, ArcLayers, ArcShape, ArcShapeList};
 pub use fault::{TopoFault, TopoPlace, TopoWhy};
-pub use reading::read_topojson;
+pub use frame::{Frame, Transform};
+pub use reading::{Numbers, Sums, Topology, read_topojson};
 pub use writing::write_topojson;

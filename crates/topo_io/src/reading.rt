@@ -17,10 +17,12 @@ mod transform;
 use crate::fault::{TopoFault, TopoPlace, TopoWhy};
 use crate::frame::{Frame, Transform};
 use arcs::arcs_of;
+pub use features::Numbers;
 use geojson_io::{GeoLayers, Room, type_of};
 use grid_base::PathList;
 use json_read::{Json, JsonFields, JsonList};
 use objects::layers_of_objects;
+pub use positions::Sums;
 use std::alloc::Global;
 use transform::transform_of;
 

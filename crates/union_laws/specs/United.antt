@@ -31,7 +31,8 @@ AreApart P r s = (z : RationalPoint) → PointsOf P r z → PointsOf P s z → �
 
 -- ---- laws
 
--- the items of a union are in order, with their choices, what is made of the regions of the layers: each part of what each choice leaves
+-- the items of a union are in order, with their choices, what is made of the regions of the layers: each part of what
+-- each choice leaves
 abbrev pub UnionAsTold : Type 0
 UnionAsTold = (d : Drawing) (arcs : List Path) (faces : FaceTable) (label : Place → ℕ) → IsWalked d arcs faces label → (layers : List (List (List ℕ))) → All (All (IsSetOf faces)) layers → (regions : List (List Region)) →
     FollowLayers (snapped d) arcs label layers regions → (A : Answers) → TellChoices (plane_with d arcs) A regions → (items : List UnionItem) → IsUnion faces layers items →

@@ -13,7 +13,7 @@ use Rattle.union_ops.specs.UnionTable.{chosen_row, union_row}
 abbrev pub row_counts : List TableContent → List ℕ
 row_counts tables = map (λ (t : TableContent). length t.rows) tables
 
--- the values that are chosen of the first so many tables
+-- the values that are chosen of the first i tables
 abbrev pub row_so_far : List TableContent → Choice → ℕ → RowValues
 row_so_far tables choice i = flat_map (λ (p : TableContent × Option ℕ). chosen_row p.0 p.1) (take i (zip tables choice))
 

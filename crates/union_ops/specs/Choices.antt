@@ -37,19 +37,19 @@ number_order None None = Equal
 abbrev pub choice_before : Choice → Choice → Bool
 choice_before c d = is_lt (slice_cmp number_order c d)
 
--- from lists of so many elements: for each list the number of an element, or none
+-- from lists of these lengths: for each list the number of an element, or none
 pub record IsChoiceFrom (counts : List ℕ) (choice : Choice) : Type 0 where
   pub each : length choice ≡ length counts
   pub below : (i n : ℕ) → i < length counts → slice_index_or choice i None ≡ Some n → n < slice_index_or counts i 0
 
 -- ---- on the way
 
--- for each of so many faces its choice
+-- for each of `count` faces its choice
 pub record AreChoices (layers : List (List (List ℕ))) (count : ℕ) (choices : List Choice) : Type 0 where
   pub each : length choices ≡ count
   pub exact : (k : ℕ) → k < count → slice_index_or choices k [] ≡ choice_of layers k
 
--- for each layer the lists of the sets that have each of so many faces
+-- for each layer the lists of the sets that have each of `count` faces
 pub record AreLayerOwners (layers : List (List (List ℕ))) (count : ℕ) (owners : List (List (List ℕ))) : Type 0 where
   pub each : length owners ≡ length layers
   pub exact : (i : ℕ) → i < length layers → AreOwners (slice_index_or layers i []) count (slice_index_or owners i [])

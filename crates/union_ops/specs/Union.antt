@@ -8,7 +8,7 @@ use Rattle.ring_trace.specs.Sets.{IsInnerFace, IsSetOf}
 use Rattle.union_ops.specs.Choices.{Choice, choice_of, has_number, same_choice, choice_before, IsChoiceFrom}
 use Rattle.union_ops.specs.declared.union_lists.UnionItem.{UnionItem}
 
--- of so many faces, those with the choice
+-- of `count` faces, those with the choice
 abbrev pub faces_of : List (List (List ℕ)) → ℕ → Choice → List ℕ
 faces_of layers count choice = filter (λ (k : ℕ). same_choice (choice_of layers k) choice) (range_with_len 0 count)
 
@@ -28,7 +28,8 @@ items_of_groups groups = flat_map (λ (g : Group). items_of g.choice g.parts) gr
 abbrev pub AreAscending : List Group → Type 0
 AreAscending groups = AllPairs (λ (g h : Group). choice_before g.choice h.choice ≡ true) groups
 
--- Each choice that some face has and that has a number, in lexicographic order, none after every number; and for each the parts of all faces with that choice, in order.
+-- Each choice that some face has and that has a number, in lexicographic order, none after every number; and for each
+-- the parts of all faces with that choice, in order.
 pub record IsUnion (faces : FaceTable) (layers : List (List (List ℕ))) (items : List UnionItem) : Type 0 where
   pub groups : List Group
   pub in_order : AreAscending groups
@@ -109,7 +110,7 @@ has_choice choices choice k = same_choice (slice_index_or choices k []) choice
 abbrev pub faces_with : List Choice → Choice → List ℕ → List ℕ
 faces_with choices choice chosen = ascending nat_lt (filter (has_choice choices choice) chosen)
 
--- the items of the parts of a set of faces put behind others
+-- the items of the parts of a set of faces appended to others
 pub record IsGroupPushed (faces : FaceTable) (choice : Choice) (set : List ℕ) (old new : List UnionItem) : Type 0 where
   pub parts : List (List ℕ)
   pub are : AreParts faces set parts

@@ -10,8 +10,8 @@ use json_read::Table;
 use std::alloc::{AllocError, Global};
 use table_terms::NameSet;
 
-/// The names of the columns so far, and for each the least number that was not tried behind it. All numbers from 2 on
-/// that were tried make no new name, and never will.
+/// The names of the columns so far, and for each the least number that was not tried as its ending. All numbers from 2
+/// on that were tried make no new name, and never will.
 #[derive(Drop)]
 struct ColumnNames {
     names: NameSet,

@@ -1,4 +1,4 @@
--- The group that the reader holds, once words of it have said so much.
+-- The group that the reader holds after some words of it, by what they have said.
 use Rattle.std.proofs.Common.{◌≡◌, ℕ, Bool, true, false, ◌||◌, cond, List, [], ◌∷◌, ◌++◌, map, codes, Option, Some, None, option_map, option_and_then, Result, Ok, Err, unwrap_or, bytes_eq, find, flat_map, refl, ap, sym, ◌∙◌}
 use Rattle.std.specs.Option.{option_or}
 use Rattle.std.specs.List.{list_any}
@@ -70,7 +70,7 @@ assigns_of _ said = None
 abbrev pub made : List Word → List Setting → List Text → Bool → Option Corners → List Rename → List Calc → Option Text → Option Text → Group
 made a o b r x n m t v = record { arguments = a; options = o; bare = b; reads_standard = r; area = x; renames = n; calculations = m; test = t; assigns = v }
 
--- behind groups of which one reads standard input, or none
+-- after groups of which one reads standard input, or none
 abbrev pub group_of : ℕ → Bool → ArgumentForm → List Word → Said → Group
 group_of places taken form args said = made args (flat_map setting_of said) (flat_map bare_of said) (taken || list_any (is_standard_item form) said) (box_in places said) (renames_seen form said) (calculations_in said) (test_of form said) (assigns_of form said)
 

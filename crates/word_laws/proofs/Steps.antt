@@ -49,7 +49,8 @@ abbrev pub takes_expression : ArgumentForm → Bool
 takes_expression expression = true
 takes_expression _ = false
 
--- a box stands under its own name alone, and so do columns to be calculated and a test, which no command has beside an expression
+-- a box stands under its own name alone, and so do columns to be calculated and a test, which no command has beside an
+-- expression
 pub record Placed (form : ArgumentForm) (f : ValueForm) (name : Text) : Type 0 where
   pub box : is_box f ≡ bytes_eq name (codes "bbox")
   pub calculated : is_calculated f ≡ bytes_eq name (codes "calc")

@@ -1,4 +1,5 @@
--- Items of columns to be calculated, by their grammar: a name, `=`, and `count()` or `sum(field)`, with white space before and behind each token.
+-- Items of columns to be calculated, by their grammar: a name, `=`, and `count()` or `sum(field)`, with white space
+-- before and after each token.
 use Rattle.std.specs.Prelude.{◌≡◌, true, ◌∷◌, [], ◌++◌, codes}
 use Rattle.std.specs.List.{list_all}
 use Rattle.json_read.specs.Bytes.{is_white}
@@ -15,7 +16,7 @@ pub record Spaced (word s : Text) : Type 0 where
   pub white_behind : list_all is_white behind ≡ true
   pub joined : s ≡ before ++ (word ++ behind)
 
--- n = f(p), and e behind it
+-- n = f(p), and e after it
 abbrev pub item : Text → Text → Text → Text → Text
 item n f p e = n ++ 61 ∷ (f ++ 40 ∷ (p ++ 41 ∷ e))
 

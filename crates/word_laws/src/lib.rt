@@ -27,7 +27,7 @@ pub fn least_areas_are_rounded_up()
 {}
 
 /// An item of the columns that a join is to calculate is read just where it is a name, `=`, and `count()` or
-/// `sum(field)`, with white space before and behind each token; and it is read as that column.
+/// `sum(field)`, with white space before and after each token; and it is read as that column.
 pub fn calculations_are_of_the_grammar()
     ensures { CalculationsAreOfTheGrammar }
 {}

@@ -29,7 +29,8 @@ abbrev pub begins_with_equals : Text → Bool
 begins_with_equals [] = false
 begins_with_equals (b ∷ rest) = b == 61
 
--- a word is an option, split at its first `=`; where expressions or assignments stand, only by a name of the line and without a second `=`, and where renames stand, only by a name of the line
+-- a word is an option, split at its first `=`; where expressions or assignments stand, only by a name of the line and
+-- without a second `=`, and where renames stand, only by a name of the line
 abbrev pub splits : ArgumentForm → Bool → Text → Bool
 splits expression known value = known && not (begins_with_equals value)
 splits assignments known value = known && not (begins_with_equals value)
@@ -150,7 +151,7 @@ refused_item refuses places taken l before (argument s) = refused_argument refus
 abbrev pub Word : Type 0
 Word = ℕ × Text
 
--- what the words of a group say, behind others of it, or the first that is refused
+-- what the words of a group say, after others of it, or the first that is refused
 abbrev pub says : Refusals → ℕ → Bool → Line → Said → List Word → Reading Said
 says refuses places taken l before [] = Ok before
 says refuses places taken l before (w ∷ ws) = elim (refused_item refuses places taken l before (item_of l w.1)) [
@@ -176,7 +177,7 @@ abbrev pub argument_number : Line → List Word → ℕ
 argument_number l [] = 0
 argument_number l (w ∷ ws) = elim (item_of l w.1) [ argument s ↦ w.0 | option n v ↦ argument_number l ws | bare b ↦ argument_number l ws ]
 
--- a box, a source file or a layer, where so many sources and boxes stand before it
+-- a box, a source file or a layer, by the sources and boxes that stand before it
 abbrev pub origin_of : SoFar → Said → Origin
 origin_of s said =
     if has_option said (codes "bbox") then origin.Area (length s.boxes)

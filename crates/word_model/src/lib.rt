@@ -1,5 +1,6 @@
-//! What the words of a command line ask for, by a table of commands: what argument, options and bare words each takes, what
-//! it needs, and what it asks for; and why a word is refused, by the words of its group before it. Definitions alone.
+//! What the words of a command line ask for, by a table of commands: what argument, options and bare words each takes,
+//! what it needs, and what it asks for; and why a word is refused, by the words of its group before it. Definitions
+//! alone.
 #![tactic(auto)]
 
 ghost use Rattle.std.specs.Prelude.{◌≡◌, [], Err};

@@ -1,4 +1,4 @@
--- The law is proved by itself.
+-- The law is proved in `proofs/PartPolygons.antt`.
 use Rattle.answer_laws.proofs.PartPolygons.{each_part_is_printed}
 use Rattle.answer_laws.proofs.each_part_is_printed.Goals as goal
 

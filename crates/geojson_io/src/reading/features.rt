@@ -22,7 +22,7 @@ pub struct Feature {
     pub fields: Fields,
 }
 
-// Puts the member with the number `i`, whose name is new, behind the named values.
+// Appends the member with the number `i`, whose name is new, to the named values.
 fn put_property(
     alloc: Global,
     object: &JsonFields,
@@ -145,7 +145,7 @@ fn numbered(
     }
 }
 
-/// Features one after another, with so much room for positions and features.
+/// Features one after another, where there is room for `limit` of them and for `left` positions.
 pub fn members(
     alloc: Global,
     kind: Member,

@@ -44,7 +44,6 @@ fn kinds_of(alloc: Global, features: &[Feature]) -> Result<Vec<Kind>, AllocError
     Ok(kinds)
 }
 
-// The layer of these features.
 fn layer_of(
     alloc: Global,
     name: Text,

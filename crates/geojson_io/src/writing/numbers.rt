@@ -9,7 +9,7 @@ use io_core::Bytes;
 use itoa::write_digits;
 use std::alloc::AllocError;
 
-/// Appends a grid number as the decimal `g / 10^places`, and a byte behind it.
+/// Appends a grid number as the decimal `g / 10^places`, and the byte `last` after it.
 pub fn write_number(g: i64, places: u8, last: u8, out: &mut Bytes) -> Result<(), AllocError>
     requires size { IsGridNumber g }
     requires places { places ≤ most_places }
@@ -69,7 +69,8 @@ fn put_fraction(fraction: u64, places: usize, room: &mut [u8], end: usize) -> us
     start - 1
 }
 
-// A number whose last digits, so many, are those of `n` without the zeros at their end.
+// A number and a count of digits: that many last digits of it are the last `count` digits of `n` without the zeros at
+// their end.
 fn without_zeros(n: u64, count: usize) -> (u64, usize)
     ensures digits { last_digits result.1 result.0 ≡ trimmed_digits count n }
     ensures fewer { result.1 ≤ count }
@@ -83,7 +84,7 @@ fn without_zeros(n: u64, count: usize) -> (u64, usize)
     (n, left)
 }
 
-// The last digits of a number, so many.
+// Writes the last `count` digits of a number up to `end`, and answers where they begin.
 fn put_digits(n: u64, count: usize, room: &mut [u8], end: usize) -> usize
     requires { (count ≤ end) × (end ≤ length room.old) }
     ensures start { result + count ≡ end }

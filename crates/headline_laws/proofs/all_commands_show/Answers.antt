@@ -1,4 +1,4 @@
--- The law is proved by itself.
+-- The law is proved in `proofs/Steps.antt`.
 use Rattle.headline_laws.proofs.Steps.{all_commands}
 use Rattle.headline_laws.proofs.all_commands_show.Goals as goal
 

@@ -1,4 +1,4 @@
--- The law is proved by itself.
+-- The law is proved in `proofs/Runs.antt`.
 use Rattle.headline_laws.proofs.Runs.{answers_bound}
 use Rattle.headline_laws.proofs.answers_are_bound.Goals as goal
 

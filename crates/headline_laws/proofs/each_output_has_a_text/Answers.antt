@@ -1,4 +1,4 @@
--- The law is proved by itself.
+-- The law is proved in `proofs/Texts.antt`.
 use Rattle.headline_laws.proofs.Texts.{texts_there}
 use Rattle.headline_laws.proofs.each_output_has_a_text.Goals as goal
 

@@ -1,4 +1,4 @@
--- The law is proved by itself.
+-- The law is proved in `proofs/Steps.antt`.
 use Rattle.headline_laws.proofs.Steps.{joint_step}
 use Rattle.headline_laws.proofs.joint_steps_show.Goals as goal
 

@@ -1,4 +1,4 @@
--- The law is proved by itself.
+-- The law is proved in `proofs/Whole.antt`.
 use Rattle.headline_laws.proofs.Whole.{runs_are_of_the_model}
 use Rattle.headline_laws.proofs.runs_are_of_the_model.Goals as goal
 

@@ -1,4 +1,4 @@
--- The law is proved by itself.
+-- The law is proved in `proofs/OneStep.antt`.
 use Rattle.headline_laws.proofs.OneStep.{one_step_each}
 use Rattle.headline_laws.proofs.steps_are_of_words.Goals as goal
 

@@ -1,4 +1,4 @@
--- The law is proved by itself.
+-- The law is proved in `proofs/IslandsLeft.antt`.
 use Rattle.island_laws.proofs.IslandsLeft.{islands_are_followed}
 use Rattle.island_laws.proofs.islands_are_followed.Goals as goal
 

@@ -1,4 +1,4 @@
--- The law is proved by itself.
+-- The law is proved in `proofs/LinkSides.antt`.
 use Rattle.line_laws.proofs.LinkSides.{arcs_are_inside}
 use Rattle.line_laws.proofs.arcs_are_inside.Goals as goal
 

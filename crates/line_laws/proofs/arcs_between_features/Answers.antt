@@ -1,4 +1,4 @@
--- The law is proved by itself.
+-- The law is proved in `proofs/ArcsBetween.antt`.
 use Rattle.line_laws.proofs.ArcsBetween.{arcs_between_features}
 use Rattle.line_laws.proofs.arcs_between_features.Goals as goal
 

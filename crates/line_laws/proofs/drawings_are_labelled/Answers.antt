@@ -1,4 +1,4 @@
--- The law is proved by itself.
+-- The law is proved in `proofs/LinkSides.antt`.
 use Rattle.line_laws.proofs.LinkSides.{drawings_are_labelled}
 use Rattle.line_laws.proofs.drawings_are_labelled.Goals as goal
 

@@ -1,4 +1,4 @@
--- The law is proved by itself.
+-- The law is proved in `proofs/PathRuns.antt`.
 use Rattle.line_laws.proofs.PathRuns.{inside_is_tested}
 use Rattle.line_laws.proofs.inside_is_tested.Goals as goal
 

@@ -1,4 +1,4 @@
--- The law is proved by itself.
+-- The law is proved in `proofs/Insides.antt`.
 use Rattle.line_laws.proofs.Insides.{insides_are_told}
 use Rattle.line_laws.proofs.insides_are_told.Goals as goal
 

@@ -1,4 +1,4 @@
--- The law is proved by itself.
+-- The law is proved in `proofs/PathRuns.antt`.
 use Rattle.line_laws.proofs.PathRuns.{line_features_are_cut}
 use Rattle.line_laws.proofs.line_features_are_cut.Goals as goal
 

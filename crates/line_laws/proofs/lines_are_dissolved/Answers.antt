@@ -1,4 +1,4 @@
--- The law is proved by itself.
+-- The law is proved in `proofs/LinkedArcs.antt`.
 use Rattle.line_laws.proofs.LinkedArcs.{lines_are_dissolved}
 use Rattle.line_laws.proofs.lines_are_dissolved.Goals as goal
 

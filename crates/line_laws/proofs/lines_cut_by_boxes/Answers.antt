@@ -1,4 +1,4 @@
--- The law is proved by itself.
+-- The law is proved in `proofs/Sources.antt`.
 use Rattle.line_laws.proofs.Sources.{lines_cut_by_boxes}
 use Rattle.line_laws.proofs.lines_cut_by_boxes.Goals as goal
 

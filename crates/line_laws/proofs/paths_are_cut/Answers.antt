@@ -1,4 +1,4 @@
--- The law is proved by itself.
+-- The law is proved in `proofs/PathRuns.antt`.
 use Rattle.line_laws.proofs.PathRuns.{paths_are_cut}
 use Rattle.line_laws.proofs.paths_are_cut.Goals as goal
 

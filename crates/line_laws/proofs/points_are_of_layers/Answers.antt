@@ -1,4 +1,4 @@
--- The law is proved by itself.
+-- The law is proved in `proofs/SourcePoints.antt`.
 use Rattle.line_laws.proofs.SourcePoints.{points_are_of_layers}
 use Rattle.line_laws.proofs.points_are_of_layers.Goals as goal
 

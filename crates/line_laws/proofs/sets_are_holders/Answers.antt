@@ -1,4 +1,4 @@
--- The law is proved by itself.
+-- The law is proved in `proofs/ByRegions.antt`.
 use Rattle.line_laws.proofs.ByRegions.{sets_are_holders}
 use Rattle.line_laws.proofs.sets_are_holders.Goals as goal
 

@@ -1,4 +1,4 @@
--- The law is proved by itself.
+-- The law is proved in `proofs/ArcsBetween.antt`.
 use Rattle.line_laws.proofs.ArcsBetween.{sets_stand_for_features}
 use Rattle.line_laws.proofs.sets_stand_for_features.Goals as goal
 

@@ -1,4 +1,4 @@
--- The law is proved by itself.
+-- The law is proved in `proofs/LinkSides.antt`.
 use Rattle.line_laws.proofs.LinkSides.{sides_are_whole}
 use Rattle.line_laws.proofs.sides_are_whole.Goals as goal
 

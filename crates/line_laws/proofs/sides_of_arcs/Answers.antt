@@ -1,4 +1,4 @@
--- The law is proved by itself.
+-- The law is proved in `proofs/LinkSides.antt`.
 use Rattle.line_laws.proofs.LinkSides.{sides_of_arcs}
 use Rattle.line_laws.proofs.sides_of_arcs.Goals as goal
 

@@ -1,4 +1,4 @@
--- The law is proved by itself.
+-- The law is proved in `proofs/Sources.antt`.
 use Rattle.line_laws.proofs.Sources.{sides_of_layers}
 use Rattle.line_laws.proofs.sides_of_layers.Goals as goal
 

@@ -1,4 +1,4 @@
--- The law is proved by itself.
+-- The law is proved in `proofs/Printed.antt`.
 use Rattle.printed_laws.proofs.Printed.{regions_are_printed}
 use Rattle.printed_laws.proofs.regions_are_printed.Goals as goal
 

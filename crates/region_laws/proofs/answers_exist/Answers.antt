@@ -1,4 +1,4 @@
--- The law is proved by itself.
+-- The law is proved in `proofs/SetsExist.antt`.
 use Rattle.region_laws.proofs.SetsExist.{answers_exist}
 use Rattle.region_laws.proofs.answers_exist.Goals as goal
 

@@ -1,4 +1,4 @@
--- The law is proved by itself.
+-- The law is proved in `proofs/Answered.antt`.
 use Rattle.region_laws.proofs.Answered.{emptiness_is_told}
 use Rattle.region_laws.proofs.emptiness_is_told.Goals as goal
 

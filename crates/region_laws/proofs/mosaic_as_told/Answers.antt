@@ -1,4 +1,4 @@
--- The law is proved by itself.
+-- The law is proved in `proofs/MosaicTold.antt`.
 use Rattle.region_laws.proofs.MosaicTold.{mosaic_as_told}
 use Rattle.region_laws.proofs.mosaic_as_told.Goals as goal
 

@@ -1,4 +1,4 @@
--- The law is proved by itself.
+-- The law is proved in `proofs/Answered.antt`.
 use Rattle.region_laws.proofs.Answered.{parts_are_told}
 use Rattle.region_laws.proofs.parts_are_told.Goals as goal
 

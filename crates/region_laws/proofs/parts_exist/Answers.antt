@@ -1,4 +1,4 @@
--- The law is proved by itself.
+-- The law is proved in `proofs/PartsExist.antt`.
 use Rattle.region_laws.proofs.PartsExist.{parts_exist}
 use Rattle.region_laws.proofs.parts_exist.Goals as goal
 

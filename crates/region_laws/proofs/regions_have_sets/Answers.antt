@@ -1,4 +1,4 @@
--- The law is proved by itself.
+-- The law is proved in `proofs/SetsExist.antt`.
 use Rattle.region_laws.proofs.SetsExist.{regions_have_sets}
 use Rattle.region_laws.proofs.regions_have_sets.Goals as goal
 

@@ -1,4 +1,4 @@
--- The law is proved by itself.
+-- The law is proved in `proofs/Fitting.antt`.
 use Rattle.region_laws.proofs.Fitting.{traces_fit}
 use Rattle.region_laws.proofs.traces_fit.Goals as goal
 

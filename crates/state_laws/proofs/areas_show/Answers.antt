@@ -1,4 +1,4 @@
--- The law is proved by itself.
+-- The law is proved in `proofs/PolygonCuts.antt`.
 use Rattle.state_laws.proofs.PolygonCuts.{areas_show}
 use Rattle.state_laws.proofs.areas_show.Goals as goal
 

@@ -1,4 +1,4 @@
--- The law is proved by itself.
+-- The law is proved in `proofs/Begun.antt`.
 use Rattle.state_laws.proofs.Begun.{beginnings_show}
 use Rattle.state_laws.proofs.beginnings_show.Goals as goal
 

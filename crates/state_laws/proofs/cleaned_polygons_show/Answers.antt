@@ -1,4 +1,4 @@
--- The law is proved by itself.
+-- The law is proved in `proofs/PolygonCleaning.antt`.
 use Rattle.state_laws.proofs.PolygonCleaning.{cleaned_polygons_show}
 use Rattle.state_laws.proofs.cleaned_polygons_show.Goals as goal
 

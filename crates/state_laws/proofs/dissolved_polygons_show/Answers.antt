@@ -1,4 +1,4 @@
--- The law is proved by itself.
+-- The law is proved in `proofs/PolygonGroups.antt`.
 use Rattle.state_laws.proofs.PolygonGroups.{dissolved_polygons_show}
 use Rattle.state_laws.proofs.dissolved_polygons_show.Goals as goal
 

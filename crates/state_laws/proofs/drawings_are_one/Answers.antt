@@ -1,4 +1,4 @@
--- The law is proved by itself.
+-- The law is proved in `proofs/Begun.antt`.
 use Rattle.state_laws.proofs.Begun.{drawings_are_one}
 use Rattle.state_laws.proofs.drawings_are_one.Goals as goal
 

@@ -1,4 +1,4 @@
--- The law is proved by itself.
+-- The law is proved in `proofs/Empty.antt`.
 use Rattle.state_laws.proofs.Empty.{emptiness_shows}
 use Rattle.state_laws.proofs.emptiness_shows.Goals as goal
 

@@ -1,4 +1,4 @@
--- The law is proved by itself.
+-- The law is proved in `proofs/LineCuts.antt`.
 use Rattle.state_laws.proofs.LineCuts.{erased_lines_show}
 use Rattle.state_laws.proofs.erased_lines_show.Goals as goal
 

@@ -1,4 +1,4 @@
--- The law is proved by itself.
+-- The law is proved in `proofs/LinePieces.antt`.
 use Rattle.state_laws.proofs.LinePieces.{exploded_lines_show}
 use Rattle.state_laws.proofs.exploded_lines_show.Goals as goal
 

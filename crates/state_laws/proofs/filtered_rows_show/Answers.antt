@@ -1,4 +1,4 @@
--- The law is proved by itself.
+-- The law is proved in `proofs/TableCommands.antt`.
 use Rattle.state_laws.proofs.TableCommands.{filtered_rows_show}
 use Rattle.state_laws.proofs.filtered_rows_show.Goals as goal
 

@@ -1,4 +1,4 @@
--- The law is proved by itself.
+-- The law is proved in `proofs/LineGroups.antt`.
 use Rattle.state_laws.proofs.LineGroups.{grouped_lines_show}
 use Rattle.state_laws.proofs.grouped_lines_show.Goals as goal
 

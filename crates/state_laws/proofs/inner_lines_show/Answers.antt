@@ -1,4 +1,4 @@
--- The law is proved by itself.
+-- The law is proved in `proofs/Outlines.antt`.
 use Rattle.state_laws.proofs.Outlines.{inner_lines_show}
 use Rattle.state_laws.proofs.inner_lines_show.Goals as goal
 

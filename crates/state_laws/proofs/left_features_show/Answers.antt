@@ -1,4 +1,4 @@
--- The law is proved by itself.
+-- The law is proved in `proofs/Empty.antt`.
 use Rattle.state_laws.proofs.Empty.{left_features_show}
 use Rattle.state_laws.proofs.left_features_show.Goals as goal
 

@@ -1,4 +1,4 @@
--- The law is proved by itself.
+-- The law is proved in `proofs/PolygonUnion.antt`.
 use Rattle.state_laws.proofs.PolygonUnion.{lone_layers_are_refused}
 use Rattle.state_laws.proofs.lone_layers_are_refused.Goals as goal
 

@@ -1,4 +1,4 @@
--- The law is proved by itself.
+-- The law is proved in `proofs/Merging.antt`.
 use Rattle.state_laws.proofs.Merging.{merged_layers_show}
 use Rattle.state_laws.proofs.merged_layers_show.Goals as goal
 

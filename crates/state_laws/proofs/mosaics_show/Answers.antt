@@ -1,4 +1,4 @@
--- The law is proved by itself.
+-- The law is proved in `proofs/PolygonParts.antt`.
 use Rattle.state_laws.proofs.PolygonParts.{mosaics_show}
 use Rattle.state_laws.proofs.mosaics_show.Goals as goal
 

@@ -1,4 +1,4 @@
--- The law is proved by itself.
+-- The law is proved in `proofs/Targeting.antt`.
 use Rattle.state_laws.proofs.Targeting.{one_layer_shows}
 use Rattle.state_laws.proofs.one_layer_shows.Goals as goal
 

@@ -1,4 +1,4 @@
--- The law is proved by itself.
+-- The law is proved in `proofs/Splitting.antt`.
 use Rattle.state_laws.proofs.Splitting.{pieces_are_shown}
 use Rattle.state_laws.proofs.pieces_show.Goals as goal
 

@@ -1,4 +1,4 @@
--- The law is proved by itself.
+-- The law is proved in `proofs/PolygonPlanes.antt`.
 use Rattle.state_laws.proofs.PolygonPlanes.{planes_are_seen}
 use Rattle.state_laws.proofs.planes_are_seen.Goals as goal
 

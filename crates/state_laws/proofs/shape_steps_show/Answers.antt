@@ -1,4 +1,4 @@
--- The law is proved by itself.
+-- The law is proved in `proofs/PolygonSteps.antt`.
 use Rattle.state_laws.proofs.PolygonSteps.{shape_steps_show}
 use Rattle.state_laws.proofs.shape_steps_show.Goals as goal
 

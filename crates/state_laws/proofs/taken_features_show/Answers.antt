@@ -1,4 +1,4 @@
--- The law is proved by itself.
+-- The law is proved in `proofs/Taking.antt`.
 use Rattle.state_laws.proofs.Taking.{taken_features_show}
 use Rattle.state_laws.proofs.taken_features_show.Goals as goal
 

@@ -1,4 +1,4 @@
--- The law is proved by itself.
+-- The law is proved in `proofs/Targeting.antt`.
 use Rattle.state_laws.proofs.Targeting.{targets_show}
 use Rattle.state_laws.proofs.targets_show.Goals as goal
 

@@ -1,4 +1,4 @@
--- The law is proved by itself.
+-- The law is proved in `proofs/UnionStep.antt`.
 use Rattle.state_laws.proofs.UnionStep.{union_steps_show}
 use Rattle.state_laws.proofs.union_steps_show.Goals as goal
 

@@ -1,4 +1,4 @@
--- The law is proved by itself.
+-- The law is proved in `proofs/PolygonUnion.antt`.
 use Rattle.state_laws.proofs.PolygonUnion.{united_layers_show}
 use Rattle.state_laws.proofs.united_layers_show.Goals as goal
 

@@ -17,7 +17,7 @@ pub struct Numbering {
 }
 
 impl Numbering {
-    /// The numbering of the arcs that these layers use, among so many.
+    /// The numbering of the arcs that these layers use, among `count` arcs.
     pub fn of(alloc: Global, layers: &[ArcLayer], count: u32) -> Result<Numbering, AllocError>
         requires { All (LayerIsBelow count) layers.now }
         ensures used { IfOk result (λ n. n.used ≡ numbers_of_marks 0 (is_named count layers.now)) }

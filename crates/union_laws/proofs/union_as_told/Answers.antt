@@ -1,4 +1,4 @@
--- The law is proved by itself.
+-- The law is proved in `proofs/UnionTold.antt`.
 use Rattle.union_laws.proofs.UnionTold.{union_as_told}
 use Rattle.union_laws.proofs.union_as_told.Goals as goal
 

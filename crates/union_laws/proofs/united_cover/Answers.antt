@@ -1,4 +1,4 @@
--- The law is proved by itself.
+-- The law is proved in `proofs/Cover.antt`.
 use Rattle.union_laws.proofs.Cover.{united_cover}
 use Rattle.union_laws.proofs.united_cover.Goals as goal
 

@@ -9,7 +9,7 @@ use Rattle.arc_table.proofs.first_steps.first_steps.Goals as goal
 abbrev origin : GridPoint
 origin = record { x = pos 0; y = pos 0 }
 
--- the arc n put behind those below n
+-- the first steps along arc n, both ways, appended to those along the arcs below n
 one_more : (arcs : List Path) (n : ℕ) (before more all : List FirstStep) (a b : FirstStep) → before ≡ map (first_of arcs) (signed_below n) → more ≡ before ++ a ∷ [] → all ≡ more ++ b ∷ []
     → a ≡ first_of arcs (forward n) → b ≡ first_of arcs (backward n) → all ≡ map (first_of arcs) (signed_below (n + 1))
 one_more arcs n before more all a b e f g h k =

@@ -4,7 +4,7 @@ use Rattle.arc_table.specs.Lookup.{vertices_below}
 use Rattle.arc_table.specs.declared.vertices.ArcVertex.{ArcVertex}
 use Rattle.arc_table.proofs.vertices.vertices_of.Goals as goal
 
--- the vertices of arc n put behind those of the arcs below n
+-- the vertices of arc n appended to those of the arcs below n
 one_more : (arcs : List Path) (n m : ℕ) (before all : List ArcVertex) (points : Path) → before ≡ vertices_below arcs n → all ≡ before ++ map (λ (p : GridPoint). record { at = p; arc = m }) points
     → m ≡ n → points ≡ get_or arcs m [] → all ≡ vertices_below arcs (n + 1)
 one_more arcs n m before all points e f g h =

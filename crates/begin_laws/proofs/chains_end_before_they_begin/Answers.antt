@@ -1,5 +1,0 @@
-use Rattle.begin_laws.proofs.Ending.{ended_before}
-use Rattle.begin_laws.proofs.chains_end_before_they_begin.Goals as goal
-
-pub returns : goal.returns
-returns c = ended_before

@@ -1,5 +1,0 @@
-use Rattle.begin_laws.proofs.SynthLine.{lines_show}
-use Rattle.begin_laws.proofs.lines_of_mosaics_show.Goals as goal
-
-pub returns : goal.returns
-returns c = lines_show

@@ -1,5 +1,0 @@
-use Rattle.chain_laws.proofs.Bound.{bound}
-use Rattle.chain_laws.proofs.commands_are_bound.Goals as goal
-
-pub returns : goal.returns
-returns c = bound

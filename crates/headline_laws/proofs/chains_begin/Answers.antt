@@ -1,0 +1,5 @@
+use Rattle.headline_laws.proofs.Beginning.{begun_alike}
+use Rattle.headline_laws.proofs.chains_begin.Goals as goal
+
+pub returns : goal.returns
+returns c = begun_alike

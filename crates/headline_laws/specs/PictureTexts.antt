@@ -1,0 +1,57 @@
+-- Laws of texts: what an output of a run says is a text of the state's output.
+use Rattle.std.specs.Prelude.{◌≡◌, ℕ, Bool, List, Some, None, Ok}
+use Rattle.std.specs.List.{AllZip}
+use Rattle.io_core.specs.Contents.{Content}
+use Rattle.table_terms.specs.Names.{Text}
+use Rattle.cmd_words.specs.declared.job.Action.TheVariants as does
+use Rattle.cmd_words.specs.declared.job.Command.{Command}
+use Rattle.cmd_words.specs.declared.job.OutForm.{OutForm}
+use Rattle.cmd_words.specs.declared.job.OutForm.TheVariants as form
+use Rattle.run_plane.specs.declared.layer.Layer.{Layer}
+use Rattle.run_state.specs.Origins.{Base}
+use Rattle.run_state.specs.Targets.{targets}
+use Rattle.run_state.specs.declared.refusal.RefuseWhy.{RefuseWhy}
+use Rattle.run_state.specs.declared.state.Held.{Held}
+use Rattle.run_texts.specs.Written.{IsCsvText, IsGeoText, IsTopoText, OutputSays, refused_output}
+use Rattle.chain_model.specs.Pictures.{IsTextOf}
+use Rattle.chain_model.specs.State.{State, StateLayer}
+use Rattle.chain_model.specs.Steps.{Written, step}
+use Rattle.chain_model.specs.Targets.{SourceLayers}
+use Rattle.state_laws.specs.Shown.{View, IsView, IsSeenIn, LayerShows, StateShows, plane_of}
+use Rattle.state_laws.specs.Steps.{StepRefuses}
+
+-- the text is one of whatever writes these layers of the state in the form
+abbrev pub TextIsOf : View → Base → OutForm → List StateLayer → Content → Type 0
+TextIsOf v base f ls text = (w : Written) → w.form ≡ f → w.layers ≡ ls → IsTextOf (plane_of v) v.answers base.places w text
+
+-- ---- texts of layers that show those of the state
+
+abbrev pub GeoTextsShow : Type 0
+GeoTextsShow = (v : View) → IsView v → (base : Base) → IsSeenIn v base.plane → (layers : List Layer) (ls : List StateLayer) → AllZip (LayerShows v) layers ls → (text : Content) → IsGeoText base layers text → TextIsOf v base form.Geo ls text
+
+abbrev pub TopoTextsShow : Type 0
+TopoTextsShow = (v : View) → IsView v → (base : Base) → IsSeenIn v base.plane → (layers : List Layer) (ls : List StateLayer) → AllZip (LayerShows v) layers ls → (text : Content) → IsTopoText base layers text → TextIsOf v base form.Topo ls text
+
+abbrev pub TableTextsShow : Type 0
+TableTextsShow = (v : View) → IsView v → (base : Base) (layers : List Layer) (ls : List StateLayer) → AllZip (LayerShows v) layers ls → (text : Content) → IsCsvText layers text → TextIsOf v base form.Csv ls text
+
+-- whatever the form is
+abbrev pub TextsShow : Type 0
+TextsShow = (v : View) → IsView v → (base : Base) → IsSeenIn v base.plane → (layers : List Layer) (ls : List StateLayer) → AllZip (LayerShows v) layers ls → (f : OutForm) (text : Content) → OutputSays base f layers text → TextIsOf v base f ls text
+
+-- ---- law: whatever is written has a text
+abbrev pub TextsExist : Type 0
+TextsExist = (v : View) → IsView v → (places : ℕ) (w : Written) → (text : Content) × IsTextOf (plane_of v) v.answers places w text
+
+-- ---- the step of an output
+
+-- The state's step writes to the same place, and what the run's output says is a text of what it writes; or both refuse
+-- for the same reason.
+pub record OutputShows (v : View) (base : Base) (layers : List Held) (sources : SourceLayers) (s : State) (c : Command) (to : Text) (standard : Bool) (f : OutForm) : Type 0 where
+  pub goes : refused_output c.target f layers ≡ None → (w : Written) × (step (plane_of v) v.answers sources s c ≡ Ok (record { state = s; written = Some w }))
+      × (w.to ≡ to) × (w.standard ≡ standard) × ((text : Content) → OutputSays base f (targets c.target layers) text → IsTextOf (plane_of v) v.answers base.places w text)
+  pub refused : (why : RefuseWhy) → refused_output c.target f layers ≡ Some why → StepRefuses v sources s c why
+
+abbrev pub OutputStepsShow : Type 0
+OutputStepsShow = (v : View) → IsView v → (base : Base) → IsSeenIn v base.plane → (sources : SourceLayers) (layers : List Held) (s : State) → StateShows v layers s →
+    (c : Command) (to : Text) (standard : Bool) (f : OutForm) → c.action ≡ does.Write to standard f → OutputShows v base layers sources s c to standard f

@@ -1,0 +1,5 @@
+use Rattle.outcome_laws.proofs.PrintedSteps.{printed_steps_are_links}
+use Rattle.outcome_laws.proofs.printed_steps_are_links.Goals as goal
+
+pub returns : goal.returns
+returns c = printed_steps_are_links

@@ -1,6 +1,0 @@
--- The law is proved by itself.
-use Rattle.picture_laws.proofs.Layers.{pictures_show}
-use Rattle.picture_laws.proofs.pictures_show.Goals as goal
-
-pub returns : goal.returns
-returns c = pictures_show

@@ -1,4 +1,0 @@
-pub mod Drawn
-pub mod Pictured
-pub mod Texts
-pub mod Planes
