@@ -33,12 +33,14 @@ fn is_backward(points: &[Pt]) -> bool
         || is_same(points[last], points[0]) && is_before(points[last - 1], points[1])
 }
 
+/// Whether `p` comes before `q`: points are ordered by x, then by y.
 pub fn is_before(p: Pt, q: Pt) -> bool
     ensures { result ≡ is_before p q }
 {
     p < q
 }
 
+/// Whether two points are equal, in x and in y.
 pub fn is_same(p: Pt, q: Pt) -> bool
     ensures { result ≡ same_point p q }
 {

@@ -26,18 +26,21 @@ impl Model for Step {
 }
 
 impl Step {
+    /// The step from one point to another; equal points are taken too.
     pub fn new(from: Pt, to: Pt) -> Step
         ensures made { result ≡ record { start = from; stop = to } }
     {
         Step { from, to }
     }
 
+    /// The point at which it starts.
     pub fn from(&self) -> Pt
         ensures exact { result ≡ self.now.start }
     {
         self.from
     }
 
+    /// The point at which it ends.
     pub fn to(&self) -> Pt
         ensures exact { result ≡ self.now.stop }
     {
@@ -95,6 +98,7 @@ impl Net {
         })
     }
 
+    /// How many steps there are: fewer than 2^32.
     pub fn step_count(&self) -> usize
         ensures exact { result ≡ length self.now.steps.items }
         ensures few { result < 2 ^ 32 }
@@ -103,6 +107,7 @@ impl Net {
         self.steps.len()
     }
 
+    /// The step at this place, counted from 0.
     pub fn step(&self, h: usize) -> Step
         requires { h < length self.now.steps.items }
         ensures { slice_get self.now.steps.items h ≡ Some result }

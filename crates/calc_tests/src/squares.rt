@@ -11,6 +11,7 @@ use snap_round::snap;
 use std::alloc::{AllocError, Global};
 use std::test::Fail;
 
+/// The arcs of squares on the grid, and the faces between these arcs.
 #[derive(Drop)]
 pub struct Plane {
     pub arcs: ArcTable,

@@ -44,6 +44,7 @@ pub enum Owner {
     Command(u32),
 }
 
+/// One command of a chain: what it works on, what it does, and how its output is named.
 #[derive(Drop)]
 pub struct Command {
     pub target: Target,

@@ -10,6 +10,9 @@ use json_read::{Decimal, Value};
 use std::alloc::{AllocError, Global};
 use std::cmp::Ordering;
 
+/// The boolean that a value is.
+///
+/// Errors: `Types` at the place `at`, where the value is no boolean.
 pub fn truth(at: u32, value: &Value) -> Result<bool, EvalFault>
     ensures { result ≡ truth_at at value.now }
 {
@@ -30,6 +33,9 @@ pub fn decided(at: u32, operator: Operator, left: &Value) -> Result<Option<bool>
     }
 }
 
+/// What `!` makes of a boolean, or `-` of a decimal.
+///
+/// Errors: `Types` at the place `at` for another value; `Range` there, where the result is no decimal.
 pub fn signed(at: u32, sign: Sign, value: &Value) -> Result<Value, EvalFault>
     ensures { result ≡ signed_value at sign value.now }
 {

@@ -46,6 +46,7 @@ pub struct Parser<'a> {
 }
 
 impl<'a> Parser<'a> {
+    /// A parser with all of these tokens left. Each stands with its place, counted from 0 in bytes of the text.
     pub fn new(alloc: Global, tokens: &'a [(u32, Token)]) -> Self
         ensures { result.rest.now ≡ tokens.now }
     {

@@ -3,6 +3,7 @@ ghost use Rattle.expr_lang.specs.Tokens.{three_bytes as three_bytes_at, two_byte
 
 use crate::token::{Mark, Operator, Symbol};
 
+/// The operator `===` or `!==`, where the bytes begin with it; else `None`.
 pub fn three_bytes(rest: &[u8]) -> Option<Symbol>
     ensures { result ≡ three_bytes_at rest.now }
 {
@@ -15,6 +16,8 @@ pub fn three_bytes(rest: &[u8]) -> Option<Symbol>
     }
 }
 
+/// The symbol that the first two bytes are, `None` where they are none. It is `Other` for what the language leaves out
+/// of JavaScript: `**`, `=>`, `++`, `--`, `<<`, `>>` and `?.`.
 pub fn two_bytes(rest: &[u8]) -> Option<Symbol>
     ensures { result ≡ two_bytes_at rest.now }
 {
@@ -49,6 +52,8 @@ pub fn two_bytes(rest: &[u8]) -> Option<Symbol>
     }
 }
 
+/// The symbol that this byte is by itself, `None` where it is none. It is `Other` for what the language leaves out of
+/// JavaScript, as `/`, `%` or a comma.
 pub fn one_byte(b: u8) -> Option<Symbol>
     ensures { result ≡ one_byte_at b }
 {

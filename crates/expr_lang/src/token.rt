@@ -41,8 +41,10 @@ pub enum Sign {
     Negative,
 }
 
+/// Punctuation, and `!`: a symbol that is no operator between two operands.
 #[derive(Clone, Copy, Debug, PartialEq, Eq, Drop)]
 pub enum Mark {
+    /// `!`
     Not,
     Open,
     Close,
@@ -64,6 +66,7 @@ pub enum Symbol {
     Other,
 }
 
+/// A piece of the text of an expression, or of assignments, as the scanner cuts it.
 #[derive(Drop)]
 pub enum Token {
     /// A numeral that is a decimal.

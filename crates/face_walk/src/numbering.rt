@@ -82,12 +82,14 @@ fn side_of(places: &[u32], arc: SignedArc) -> FaceSide
     }
 }
 
+/// The number of the face of each side, in the order of the sides; `AllocError` for want of memory.
 pub fn faces_of(alloc: Global, sides: &[FaceSide]) -> Result<Vec<u32>, AllocError>
     ensures { IfOk result (λ v. v.items ≡ map (λ s. s.face) sides.now) }
 {
     sides.iter().map(|s| s.face).collect(alloc)
 }
 
+/// The signed arc of each side, in the order of the sides; `AllocError` for want of memory.
 pub fn arcs_of(alloc: Global, sides: &[FaceSide]) -> Result<Vec<SignedArc>, AllocError>
     ensures { IfOk result (λ v. v.items ≡ map (λ s. s.arc) sides.now) }
 {

@@ -43,6 +43,9 @@ pub struct LinkSearch {
 }
 
 impl LinkSearch {
+    /// The search among all links of a table's arcs.
+    ///
+    /// Errors: `AllocError` for want of memory, or of numbers below 2^32 for links or buckets.
     pub fn of(alloc: Global, t: &ArcTable) -> Result<LinkSearch, AllocError>
         ensures all { IfOk result (λ s. AreLinksOf t.now s.links.items) }
         ensures there { IfOk result (λ s. All (λ l. l.along.arc < length t.now) s.links.items) }

@@ -35,6 +35,7 @@ impl Rect {
         }
     }
 
+    /// The lower left corner: neither of its grid numbers passes that of the upper right one.
     pub fn low(&self) -> Pt
         ensures exact { result ≡ self.now.low }
         ensures ordered { IsAtMost self.now.low self.now.high }
@@ -42,6 +43,7 @@ impl Rect {
         self.low
     }
 
+    /// The upper right corner: neither of its grid numbers is less than that of the lower left one.
     pub fn high(&self) -> Pt
         ensures exact { result ≡ self.now.high }
         ensures ordered { IsAtMost self.now.low self.now.high }

@@ -40,6 +40,7 @@ impl Model for Drawing {
 }
 
 impl Drawing {
+    /// A drawing without features and without boxes.
     pub fn new(alloc: Global) -> Drawing
         ensures empty { result ≡ record { polygons = []; lines = []; points = []; boxes = [] } }
     {
@@ -195,24 +196,28 @@ impl Drawing {
         let _ = &self.polygons;
     }
 
+    /// How many polygon features there are; they are numbered from 0.
     pub fn polygon_count(&self) -> u32
         ensures count { result ≡ length self.now.polygons }
     {
         self.polygons.len() as u32
     }
 
+    /// How many line features there are; they are numbered from 0.
     pub fn line_count(&self) -> u32
         ensures count { result ≡ length self.now.lines }
     {
         self.lines.len() as u32
     }
 
+    /// How many point features there are; they are numbered from 0.
     pub fn point_count(&self) -> u32
         ensures count { result ≡ length self.now.points }
     {
         self.points.len() as u32
     }
 
+    /// How many boxes there are; they are numbered from 0.
     pub fn box_count(&self) -> u32
         ensures count { result ≡ length self.now.boxes }
     {
@@ -228,6 +233,7 @@ impl Drawing {
         &self.polygons[f.num() as usize]
     }
 
+    /// The lines of a feature as they were added, but for equal neighbours; none is empty.
     pub fn lines_of(&self, f: FeatId) -> &PathList
         requires { f < length self.now.lines }
         ensures found { slice_get self.now.lines f ≡ Some result.now }
@@ -236,6 +242,7 @@ impl Drawing {
         &self.lines[f.num() as usize]
     }
 
+    /// The points of a feature as they were added, equal ones too.
     pub fn points_of(&self, f: FeatId) -> &PtList
         requires { f < length self.now.points }
         ensures found { slice_get self.now.points f ≡ Some result.now }
@@ -243,6 +250,7 @@ impl Drawing {
         &self.points[f.num() as usize]
     }
 
+    /// The path of a box, by its number from 0: not empty, closed, and without equal neighbours.
     pub fn box_of(&self, b: u32) -> &PtList
         requires { b < length self.now.boxes }
         ensures found { slice_get self.now.boxes b ≡ Some result.now }

@@ -19,12 +19,14 @@ impl Model for ArcId {
 }
 
 impl ArcId {
+    /// Arc number `n`, counted from 0; whether a table has that arc isn't asked.
     pub fn new(n: u32) -> ArcId
         ensures made { result ≡ n }
     {
         ArcId { number: n }
     }
 
+    /// The number, counted from 0.
     pub fn num(&self) -> u32
         ensures exact { result ≡ self.now }
     {
@@ -49,12 +51,14 @@ impl Model for FaceId {
 }
 
 impl FaceId {
+    /// Face number `n`, counted from 0; whether there is that face isn't asked.
     pub fn new(n: u32) -> FaceId
         ensures made { result ≡ n }
     {
         FaceId { number: n }
     }
 
+    /// The number, counted from 0.
     pub fn num(&self) -> u32
         ensures exact { result ≡ self.now }
     {
@@ -79,12 +83,14 @@ impl Model for FeatId {
 }
 
 impl FeatId {
+    /// Feature number `n` among those of a kind, counted from 0; whether there is that feature isn't asked.
     pub fn new(n: u32) -> FeatId
         ensures made { result ≡ n }
     {
         FeatId { number: n }
     }
 
+    /// The number among the features of the kind, counted from 0.
     pub fn num(&self) -> u32
         ensures exact { result ≡ self.now }
     {

@@ -44,6 +44,7 @@ impl Pt {
         }
     }
 
+    /// The abscissa: a grid number, at most [`LIMIT`] either way.
     pub fn x(&self) -> i64
         ensures exact { result ≡ self.now.x }
         ensures bounded { IsOnGrid self.now }
@@ -51,6 +52,7 @@ impl Pt {
         self.x
     }
 
+    /// The ordinate: a grid number, at most [`LIMIT`] either way.
     pub fn y(&self) -> i64
         ensures exact { result ≡ self.now.y }
         ensures bounded { IsOnGrid self.now }

@@ -22,18 +22,21 @@ impl Model for Seg {
 }
 
 impl Seg {
+    /// The segment from `a` to `b`, which may be equal.
     pub fn new(a: Pt, b: Pt) -> Seg
         ensures made { result ≡ record { start = a; stop = b } }
     {
         Seg { start: a, stop: b }
     }
 
+    /// The point at which it starts.
     pub fn a(&self) -> Pt
         ensures { result ≡ self.now.start }
     {
         self.start
     }
 
+    /// The point at which it ends.
     pub fn b(&self) -> Pt
         ensures { result ≡ self.now.stop }
     {

@@ -22,6 +22,7 @@ impl Model for SignedArc {
 }
 
 impl SignedArc {
+    /// The arc in its direction.
     pub fn forward(id: ArcId) -> SignedArc
         ensures made { result ≡ forward id }
     {
@@ -31,6 +32,7 @@ impl SignedArc {
         }
     }
 
+    /// The arc reversed.
     pub fn backward(id: ArcId) -> SignedArc
         ensures made { result ≡ backward id }
     {
@@ -40,12 +42,14 @@ impl SignedArc {
         }
     }
 
+    /// The arc's number, counted from 0, without the direction.
     pub fn id(&self) -> ArcId
         ensures exact { result ≡ self.now.arc }
     {
         self.arc
     }
 
+    /// Whether the arc is gone along against its direction.
     pub fn is_reversed(&self) -> bool
         ensures exact { result ≡ self.now.is_reversed }
     {

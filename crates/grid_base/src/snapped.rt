@@ -44,6 +44,8 @@ impl Snapped {
         Snapped { paths, links }
     }
 
+    /// The links of the paths, ascending, each once. Two that differ have at most an end in common, and none has a
+    /// vertex of the drawing inside it.
     pub fn links(&self) -> &LinkList
         ensures exact { result.now ≡ links_of self.now }
         ensures snapped { IsSnapped self.now }
@@ -51,30 +53,36 @@ impl Snapped {
         &self.links
     }
 
+    /// How many polygon features there are; they are numbered from 0.
     pub fn polygon_count(&self) -> u32
         ensures count { result ≡ length self.now.polygons }
     {
         self.paths.polygon_count()
     }
 
+    /// How many line features there are; they are numbered from 0.
     pub fn line_count(&self) -> u32
         ensures count { result ≡ length self.now.lines }
     {
         self.paths.line_count()
     }
 
+    /// How many point features there are; they are numbered from 0.
     pub fn point_count(&self) -> u32
         ensures count { result ≡ length self.now.points }
     {
         self.paths.point_count()
     }
 
+    /// How many boxes there are; they are numbered from 0.
     pub fn box_count(&self) -> u32
         ensures count { result ≡ length self.now.boxes }
     {
         self.paths.box_count()
     }
 
+    /// The polygons of a feature, in order, with their snapped rings: closed, none of them empty, and without equal
+    /// neighbours.
     pub fn rings_of(&self, f: FeatId) -> &RingsList
         requires { f < length self.now.polygons }
         ensures found { slice_get self.now.polygons f ≡ Some result.now }
@@ -83,6 +91,7 @@ impl Snapped {
         self.paths.rings_of(f)
     }
 
+    /// The snapped lines of a feature, in order: none of them empty, and without equal neighbours.
     pub fn lines_of(&self, f: FeatId) -> &PathList
         requires { f < length self.now.lines }
         ensures found { slice_get self.now.lines f ≡ Some result.now }
@@ -91,6 +100,7 @@ impl Snapped {
         self.paths.lines_of(f)
     }
 
+    /// The points of a feature, in order; some may be equal.
     pub fn points_of(&self, f: FeatId) -> &PtList
         requires { f < length self.now.points }
         ensures found { slice_get self.now.points f ≡ Some result.now }
@@ -98,6 +108,7 @@ impl Snapped {
         self.paths.points_of(f)
     }
 
+    /// The snapped path of a box, by its number from 0: not empty, closed, and without equal neighbours.
     pub fn box_of(&self, b: u32) -> &PtList
         requires { b < length self.now.boxes }
         ensures found { slice_get self.now.boxes b ≡ Some result.now }

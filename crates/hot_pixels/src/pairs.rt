@@ -26,7 +26,9 @@ pub fn greater(a: i64, b: i64) -> i64
     if a <= b { b } else { a }
 }
 
-// The least rectangle that holds a segment.
+/// The least rectangle that holds a segment.
+///
+/// Errors: `AllocError` in place of a corner off the grid.
 pub fn box_of(s: Seg) -> Result<Rect, AllocError>
     ensures exact { IfOk result (λ r. r ≡ box_of s) }
     ensures on_grid { IfOk result (λ r. HasGridEnds s) }

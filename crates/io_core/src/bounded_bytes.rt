@@ -23,6 +23,7 @@ impl Model for BoundedBytes {
 }
 
 impl BoundedBytes {
+    /// No bytes, and room for `room` of them, taken at once; `AllocError` for want of memory.
     pub fn new(alloc: Global, room: u64) -> Result<BoundedBytes, AllocError>
         ensures empty { IfOk result (λ bytes. bytes ≡ record { held = []; room = room }) }
     {
@@ -32,6 +33,7 @@ impl BoundedBytes {
         })
     }
 
+    /// How many bytes there may be at most, those that are held counted in.
     pub fn room(&self) -> u64
         ensures room { result ≡ self.now.room }
         ensures within { length self.now.held ≤ self.now.room }
@@ -39,6 +41,7 @@ impl BoundedBytes {
         self.room
     }
 
+    /// The bytes that are held, in the order in which they were appended.
     pub fn as_slice(&self) -> &[u8]
         ensures all { result.now ≡ self.now.held }
     {
@@ -84,6 +87,7 @@ impl BoundedBytes {
         count
     }
 
+    /// Drops all bytes that are held; the room stays as it is.
     pub fn clear(&mut self)
         ensures emptied { self.new ≡ record { held = []; room = self.old.room } }
     {

@@ -22,6 +22,9 @@ impl Model for FailingCalls {
 }
 
 impl FailingCalls {
+    /// No call made so far. The numbers of `failing`, from 1 and in any order, are those of the calls that fail.
+    ///
+    /// Errors: `AllocError` for want of memory for these numbers.
     pub fn new(alloc: Global, failing: &[u32]) -> Result<FailingCalls, AllocError>
         ensures started { IfOk result (λ calls. calls ≡ record { made = 0; failing = failing.now }) }
     {

@@ -39,6 +39,7 @@ impl FileEntry {
         })
     }
 
+    /// Whether the name is this one, byte for byte.
     pub fn is_named(&self, name: &str) -> bool
         ensures named { result ≡ bytes_eq self.now.name name.now }
     {
@@ -52,6 +53,7 @@ impl FileEntry {
         self.is_there.then_some(&self.bytes)
     }
 
+    /// Whether no byte of `count` bytes finds room; `false` for a `count` of 0.
     pub fn is_full_for(&self, count: usize) -> bool
         ensures full { result ≡ is_full_for self.now.bytes count }
     {

@@ -108,6 +108,7 @@ impl MemFiles {
         Ok(())
     }
 
+    /// The bytes under a name; `None` where it isn't there, be it made ready or not.
     pub fn held(&self, name: &str) -> Option<&[u8]>
         ensures there { option_copied result ≡ held_under self.now name.now }
     {
@@ -115,12 +116,14 @@ impl MemFiles {
         Some(bytes.as_slice())
     }
 
+    /// How many reads failed, of all names together. A read of a missing name isn't counted.
     pub fn read_faults(&self) -> u64
         ensures count { result ≡ self.now.read_faults }
     {
         self.read_faults
     }
 
+    /// How many creations and appends failed, of all names together.
     pub fn write_faults(&self) -> u64
         ensures count { result ≡ self.now.write_faults }
     {

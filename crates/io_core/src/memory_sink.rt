@@ -45,12 +45,14 @@ impl MemSink {
         })
     }
 
+    /// The bytes that were written so far.
     pub fn held(&self) -> &[u8]
         ensures all { result.now ≡ self.now.bytes.held }
     {
         self.bytes.as_slice()
     }
 
+    /// How many writes failed so far.
     pub fn faults(&self) -> u64
         ensures count { result ≡ self.now.faults }
     {

@@ -52,6 +52,7 @@ impl MemSource {
         })
     }
 
+    /// How many reads failed so far.
     pub fn faults(&self) -> u64
         ensures count { result ≡ self.now.faults }
     {

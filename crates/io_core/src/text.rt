@@ -48,6 +48,7 @@ impl Text {
         }
     }
 
+    /// The whole text, lent.
     pub fn as_str(&self) -> &str
         ensures lent { result.now ≡ self.now }
     {

@@ -33,6 +33,7 @@ impl Model for Fields {
 impl Fields {
     ghost use Rattle.json_read.specs.Table.{put_value, named_value};
 
+    /// No fields.
     pub fn new(alloc: Global) -> Fields
         ensures empty { result ≡ [] }
     {
@@ -93,6 +94,7 @@ impl Fields {
         }
     }
 
+    /// How many fields there are.
     pub fn len(&self) -> u32
         ensures count { result ≡ length self.now }
     {

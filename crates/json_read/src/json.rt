@@ -142,6 +142,7 @@ impl JsonFields {
     ghost use Rattle.json_read.specs.Json.{no_fields};
     ghost use Rattle.json_read.specs.Lists.{fields_list, put, value_named, HaveDistinctNames};
 
+    /// No fields.
     pub fn new(alloc: Global) -> Self
         ensures { result ≡ no_fields }
     {
@@ -184,6 +185,7 @@ impl JsonFields {
         set_field(&mut self.fields, place, (name, value));
     }
 
+    /// How many fields there are; no name stands twice.
     pub fn len(&self) -> u32
         ensures count { result ≡ length (fields_list self.now) }
         ensures distinct { HaveDistinctNames (fields_list self.now) }

@@ -41,6 +41,7 @@ pub struct Reader<'a> {
 }
 
 impl<'a> Reader<'a> {
+    /// A reader of these bytes as a JSON text (RFC 8259), with all of them left.
     pub fn new(alloc: Global, bytes: &'a [u8]) -> Self
         ensures { result.rest.now ≡ bytes.now }
     {

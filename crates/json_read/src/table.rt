@@ -193,6 +193,7 @@ impl Table {
         &self.names
     }
 
+    /// How many rows there are; they are numbered from 0.
     pub fn row_count(&self) -> u32
         ensures count { result ≡ length self.now.rows }
     {

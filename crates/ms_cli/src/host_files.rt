@@ -20,6 +20,7 @@ pub struct HostFiles<R: rt::Files + Drop> {
 }
 
 impl<R: rt::Files + Drop> HostFiles<R> {
+    /// The files of a host, with each count at 0.
     pub fn new(host: R) -> HostFiles<R> {
         HostFiles {
             host,

@@ -14,6 +14,7 @@ pub struct StdSource<R: Read + Drop> {
 }
 
 impl<R: Read + Drop> StdSource<R> {
+    /// A source over a reader, with each count at 0.
     pub fn new(reader: R) -> StdSource<R> {
         StdSource {
             reader,
@@ -55,6 +56,7 @@ pub struct StdSink<W: Write + Drop> {
 }
 
 impl<W: Write + Drop> StdSink<W> {
+    /// A sink over a writer, with no failed write counted.
     pub fn new(writer: W) -> StdSink<W> {
         StdSink {
             writer,

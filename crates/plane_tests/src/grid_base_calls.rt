@@ -9,6 +9,8 @@ use io_core::Bytes;
 use json_read::Json;
 use std::alloc::{AllocError, Global};
 
+/// What a call of `grid_base` answers to a case, as this module says; to a call that isn't there, what `unknown_call`
+/// answers.
 pub fn answer(
     alloc: Global,
     drawing: &Drawing,

@@ -10,6 +10,7 @@ use ring_trace::{FaceSet, SetList};
 use snap_round::{SnapFault, snap};
 use std::alloc::{AllocError, Global};
 
+/// A snapped drawing, its arcs and faces, and for each face the polygon features and boxes that hold it.
 #[derive(Drop)]
 pub struct Laid {
     pub snapped: Snapped,
@@ -21,6 +22,9 @@ pub struct Laid {
     ghost boxes: { length labels.boxes ≡ faces.count },
 }
 
+/// Lays a drawing out: snapped, with its arcs, its faces and their holders.
+///
+/// Errors: those of `snap`, and `Memory` where there is none for arcs, faces or holders.
 pub fn laid_out(alloc: Global, drawing: &Drawing) -> Result<Laid, SnapFault> {
     let snapped = snap(alloc, drawing)?;
     Ok(built(alloc, snapped)?)

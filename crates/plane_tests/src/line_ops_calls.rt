@@ -19,6 +19,8 @@ use json_read::Json;
 use line_ops::{clip_paths, inner_arcs, point_inside, sided_arcs};
 use std::alloc::{AllocError, Global};
 
+/// What a call of `line_ops` answers to a case, as this module says; to a call that isn't there, what `unknown_call`
+/// answers.
 pub fn answer(alloc: Global, laid: &Laid, call: &str, case: &[Json]) -> Result<Bytes, AllocError> {
     let number = number_at(case, 0);
     match call {

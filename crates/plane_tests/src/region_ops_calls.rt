@@ -18,6 +18,8 @@ use region_ops::{clean_sets, clip_sets, erase_sets, mosaic_sets};
 use ring_trace::{FaceSet, SetList, trace};
 use std::alloc::{AllocError, Global};
 
+/// What a call of `region_ops` answers to a case, as this module says; to a call that isn't there, what `unknown_call`
+/// answers.
 pub fn answer(alloc: Global, laid: &Laid, call: &str, case: &[Json]) -> Result<Bytes, AllocError> {
     let sets = features(alloc, laid, number_at(case, 0))?;
     match call {

@@ -14,6 +14,8 @@ use json_read::Json;
 use ring_trace::{FaceSet, parts, trace};
 use std::alloc::{AllocError, Global};
 
+/// What a call of `ring_trace` answers to a case, as this module says; to a call that isn't there, what `unknown_call`
+/// answers.
 pub fn answer(alloc: Global, laid: &Laid, call: &str, case: &[Json]) -> Result<Bytes, AllocError> {
     match call {
         "faces" | "trace" | "parts" => of_feature(alloc, laid, call, number_at(case, 0)),

@@ -12,6 +12,8 @@ use json_read::Json;
 use snap_round::snap;
 use std::alloc::{AllocError, Global};
 
+/// What a call of `snap_round` answers to a case, as this module says; to a call that isn't there, what `unknown_call`
+/// answers.
 pub fn answer(
     alloc: Global,
     drawing: &Drawing,

@@ -12,6 +12,8 @@ use json_read::Json;
 use span_pool::{SpanId, SpanPool};
 use std::alloc::{AllocError, Global};
 
+/// What a call of `span_pool` answers to a case, as this module says; to a call that isn't there, what `unknown_call`
+/// answers.
 pub fn answer(alloc: Global, call: &str, case: &[Json]) -> Result<Bytes, AllocError> {
     match call {
         "keep_second" => {

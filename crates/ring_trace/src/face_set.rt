@@ -64,6 +64,7 @@ impl FaceSet {
         is_listed(&self.faces, f)
     }
 
+    /// Whether the set has no face.
     pub fn is_empty(&self) -> bool
         ensures exact { result ≡ (length self.now == 0) }
     {
@@ -78,6 +79,7 @@ impl FaceSet {
         &self.faces
     }
 
+    /// An equal set with memory of its own; `AllocError` for want of it.
     pub fn copy(&self, alloc: Global) -> Result<FaceSet, AllocError>
         ensures same { IfOk result (λ s. s ≡ self.now) }
     {

@@ -6,12 +6,14 @@ use grid_base::{PtList, SignedArc};
 use io_core::Text;
 use std::alloc::{AllocError, Global};
 
+/// An equal text of its own; `AllocError` for want of memory.
 pub fn copy_text(alloc: Global, text: &Text) -> Result<Text, AllocError>
     ensures copied { IfOk result (λ copy. copy ≡ text.now) }
 {
     Text::of(alloc, text.as_str())
 }
 
+/// Equal shapes in the same order, with memory of their own; `AllocError` for want of it.
 pub fn copy_shapes(alloc: Global, shapes: &[Shape]) -> Result<Vec<Shape>, AllocError>
     ensures copied { IfOk result (λ copy. copy.items ≡ shapes.now) }
 {
@@ -22,6 +24,7 @@ pub fn copy_shapes(alloc: Global, shapes: &[Shape]) -> Result<Vec<Shape>, AllocE
     Ok(copy)
 }
 
+/// An equal shape with memory of its own; `AllocError` for want of it.
 pub fn copy_shape(alloc: Global, shape: &Shape) -> Result<Shape, AllocError>
     ensures copied { IfOk result (λ copy. copy ≡ shape.now) }
 {
@@ -33,6 +36,7 @@ pub fn copy_shape(alloc: Global, shape: &Shape) -> Result<Shape, AllocError>
     })
 }
 
+/// Equal paths in the same order, with memory of their own; `AllocError` for want of it.
 pub fn copy_paths(alloc: Global, paths: &SignedPaths) -> Result<SignedPaths, AllocError>
     ensures copied { IfOk result (λ copy. copy ≡ paths.now) }
 {
@@ -43,6 +47,9 @@ pub fn copy_paths(alloc: Global, paths: &SignedPaths) -> Result<SignedPaths, All
     Ok(copy)
 }
 
+/// A path of these signed arcs, in their order.
+///
+/// Errors: `AllocError` for want of memory, or where there are more than 4,294,967,295 of them.
 pub fn copy_path(alloc: Global, path: &[SignedArc]) -> Result<SignedPath, AllocError>
     ensures copied { IfOk result (λ copy. copy ≡ path.now) }
 {
@@ -53,6 +60,7 @@ pub fn copy_path(alloc: Global, path: &[SignedArc]) -> Result<SignedPath, AllocE
     Ok(copy)
 }
 
+/// Equal points in the same order, with memory of their own; `AllocError` for want of it.
 pub fn copy_points(alloc: Global, points: &PtList) -> Result<PtList, AllocError>
     ensures copied { IfOk result (λ copy. copy ≡ points.now) }
 {

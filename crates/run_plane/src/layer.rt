@@ -21,6 +21,7 @@ impl Shape {
     ghost use Rattle.std.specs.Prelude.{◌≡◌};
     ghost use Rattle.run_plane.specs.Shapes.{is_empty};
 
+    /// Whether a feature of this shape has no geometry: no face, no path and no point.
     pub fn is_empty(&self) -> bool
         ensures exact { result ≡ is_empty self.now }
     {

@@ -19,12 +19,14 @@ impl Model for SpanId {
 }
 
 impl SpanId {
+    /// Span number `n`, counted from 0; whether a pool has that span isn't asked.
     pub fn new(n: u32) -> SpanId
         ensures made { result ≡ n }
     {
         SpanId { number: n }
     }
 
+    /// The number, counted from 0.
     pub fn num(&self) -> u32
         ensures exact { result ≡ self.now }
     {

@@ -10,6 +10,8 @@ use json_read::Json;
 use std::alloc::{AllocError, Global};
 use table_terms::Calc;
 
+/// What a call of `cmd_words` answers to a case, as this module says; to a call that isn't there, what `unknown_call`
+/// answers.
 pub fn answer(alloc: Global, call: &str, case: &[Json]) -> Result<Bytes, AllocError> {
     match call {
         "read_chain" => read(alloc, &names_at(alloc, case, 0)?),

@@ -8,6 +8,8 @@ use io_core::Bytes;
 use json_read::Json;
 use std::alloc::{AllocError, Global};
 
+/// What a call of `csv_io` answers to a case, as this module says; to a call that isn't there, what `unknown_call`
+/// answers.
 pub fn answer(alloc: Global, call: &str, case: &[Json]) -> Result<Bytes, AllocError> {
     match call {
         "read_csv" => read(alloc, case),

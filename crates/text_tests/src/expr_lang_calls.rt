@@ -14,6 +14,8 @@ use std::alloc::{AllocError, Global};
 
 const COLUMNS: [&str; 4] = ["pop", "name", "e", "nothing"];
 
+/// What a call of `expr_lang` answers to a case, as this module says; to a call that isn't there, what `unknown_call`
+/// answers.
 pub fn answer(alloc: Global, call: &str, case: &[Json]) -> Result<Bytes, AllocError> {
     let text = expression_of(alloc, case)?;
     match call {

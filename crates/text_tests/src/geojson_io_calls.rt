@@ -19,6 +19,8 @@ pub const AMPLE: Room = Room {
     features: 100,
 };
 
+/// What a call of `geojson_io` answers to a case, as this module says; to a call that isn't there, what `unknown_call`
+/// answers.
 pub fn answer(alloc: Global, call: &str, case: &[Json]) -> Result<Bytes, AllocError> {
     match call {
         "read_geojson" => read(alloc, case.first(), 0, AMPLE),

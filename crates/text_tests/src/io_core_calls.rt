@@ -18,6 +18,8 @@ use io_core::{
 use json_read::Json;
 use std::alloc::{AllocError, Global};
 
+/// What a call of `io_core` answers to a case, as this module says; to a call that isn't there, what `unknown_call`
+/// answers.
 pub fn answer(alloc: Global, call: &str, case: &[Json]) -> Result<Bytes, AllocError> {
     match call {
         "read_whole" => whole_read(alloc, case),

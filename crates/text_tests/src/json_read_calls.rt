@@ -11,6 +11,8 @@ use io_core::{Bytes, Text};
 use json_read::{FieldsList, Json, Row, Table, Value, numeral_to_grid};
 use std::alloc::{AllocError, Global};
 
+/// What a call of `json_read` answers to a case, as this module says; to a call that isn't there, what `unknown_call`
+/// answers.
 pub fn answer(alloc: Global, call: &str, case: &[Json]) -> Result<Bytes, AllocError> {
     match call {
         "parse" => parsed(alloc, case),

@@ -47,6 +47,8 @@ fn stop_at<T: Debug>(alloc: Global, fault: &T) -> Stop {
     }
 }
 
+/// What a call of `table_ops` answers to a case, as this module says; to a call that isn't there, what `unknown_call`
+/// answers.
 pub fn answer(alloc: Global, call: &str, case: &[Json]) -> Result<Bytes, AllocError> {
     match call {
         "join_tables" => settled(joined(alloc, case)),

@@ -20,6 +20,8 @@ use snap_round::snap;
 use std::alloc::{AllocError, Global};
 use topo_io::{ArcLayer, ArcLayers, ArcShape, ArcShapeList, read_topojson, write_topojson};
 
+/// What a call of `topo_io` answers to a case, as this module says; to a call that isn't there, what `unknown_call`
+/// answers.
 pub fn answer(alloc: Global, call: &str, case: &[Json]) -> Result<Bytes, AllocError> {
     match call {
         "read_topojson" => read(alloc, case.first(), 0, AMPLE),

@@ -23,6 +23,7 @@ pub struct Sums {
 }
 
 impl Sums {
+    /// The sums before the first position of an arc, which alone is no difference from another (TopoJSON 1.0).
     pub const START: Sums = Sums { x: 0, y: 0 };
 }
 
