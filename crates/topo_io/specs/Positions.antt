@@ -1,4 +1,4 @@
--- Positions of a topology, after TopoJSON 1.0, sections 2.1.2 and 2.1.4. With a transform they are whole numbers; in an
+-- Positions of a topology, after TopoJSON 1.0, sections 2.1.2 and 2.1.3. With a transform they are whole numbers; in an
 -- arc each but the first is the difference from the one before.
 use Rattle.std.specs.Prelude.{ℕ, ◌^◌, Bool, nat_lt, nat_le, ◌&&◌, ℤ, pos, ◌+ℤ◌, unsigned_abs, List, codes, Option, Some, None, Result, Ok, Err, if◌then◌else◌}
 use Rattle.json_read.specs.Json.{JsonValue, number, array, object, item, no_items}
