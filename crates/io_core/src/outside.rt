@@ -62,7 +62,8 @@ pub trait Sink {
 ///
 /// `held` is the bytes under each name, where the files tell it; no call changes whether they tell.
 /// Each name has a count of failed reads, `read_faults`, and one of failed creations and appends,
-/// `write_faults`; `bytes_read` counts the bytes that were answered. None of them ever falls.
+/// `write_faults`, which several names may share; `bytes_read` counts the bytes that were answered. None of them ever
+/// falls. Files that don't tell what is held count a read of a missing name as a failed one, those that tell it don't.
 pub trait Files {
     ghost held: { Self → Option FileMap };
 
