@@ -1,6 +1,6 @@
 """Writes the files of bench/compare, the same in every run: whole_data.py FOLDER DIVISOR.
 
-The layers are so many times smaller on each side.
+The layers are DIVISOR times smaller on each side.
 """
 import csv
 import json

@@ -1,5 +1,5 @@
 /* Put before the C library (LD_PRELOAD): the growth of memory with the number in FAIL_AT, counted from 1, is refused,
- * and so is each one behind it where FAIL_ON is set. Writes to the file in FAIL_COUNT how many were asked for. */
+ * and so is each one after it where FAIL_ON is set. Writes to the file in FAIL_COUNT how many were asked for. */
 #define _GNU_SOURCE
 #include <dlfcn.h>
 #include <errno.h>

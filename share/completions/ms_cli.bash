@@ -1,7 +1,7 @@
 # Completion of ms_cli for bash: commands, the options of the command before, and files that it reads or writes.
 # shellcheck shell=bash
 
-# The words that may stand behind a command, or at the front: options end in =, the others stand as they are.
+# The words that may stand after a command, or at the front: options end in =, the others stand as they are.
 _ms_cli_words() {
   local made="target= name= +"
   case $1 in
@@ -82,7 +82,7 @@ _ms_cli() {
   elif [ "$count" -gt 1 ] && { [ "$first" = synth ] || [ "$first" = --version ]; }; then
     return
   elif [ "${cur#*=}" != "$cur" ]; then
-    # Where bash parts words at =, only what stands behind it is replaced.
+    # Where bash parts words at =, only what stands after it is replaced.
     local name=${cur%%=*} begun=${cur#*=} value before=
     case $COMP_WORDBREAKS in *=*) ;; *) before="$name=" ;; esac
     for value in $(_ms_cli_values "$name"); do

@@ -52,7 +52,7 @@ pub fn plane_of(alloc: Global, squares: &[Square]) -> Result<Plane, Fail> {
     }
 }
 
-/// The inner face that a point lies in.
+// The inner face that a point lies in.
 fn face_at(plane: &Plane, x: i64, y: i64) -> Result<FaceId, Fail>
     ensures inner { IfOk result (IsInnerFace plane.now.faces) }
 {
@@ -63,7 +63,7 @@ fn face_at(plane: &Plane, x: i64, y: i64) -> Result<FaceId, Fail>
     Ok(face)
 }
 
-/// The set of the faces that some points lie in.
+// The set of the faces that some points lie in.
 #[tactic(auto, using(crate::proofs::Faces::set_of_inner))]
 fn set_at(alloc: Global, plane: &Plane, points: &[(i64, i64)]) -> Result<FaceSet, Fail>
     ensures inner { IfOk result (IsSetOf plane.now.faces) }

@@ -56,7 +56,7 @@ impl<'a> Parser<'a> {
         }
     }
 
-    /// The next token and its place.
+    // The next token and its place.
     fn next(&self) -> Option<(u32, &'a Token)>
         ensures { MatchOption result (self.now.rest.now ≡ [])
             (λ r. (ts : Toks) × (self.now.rest.now ≡ (r.0, r.1.now) ∷ ts)) }
@@ -65,7 +65,7 @@ impl<'a> Parser<'a> {
         Some((*at, token))
     }
 
-    /// Goes past one token.
+    // Goes past one token.
     fn advance(&mut self)
         requires { 0 < length self.old.rest.now }
         ensures { (t : Placed) × (self.old.rest.now ≡ t ∷ self.new.rest.now) }
@@ -73,7 +73,7 @@ impl<'a> Parser<'a> {
         self.rest = &self.rest[1..];
     }
 
-    /// The place of the mark, where it comes next.
+    // The place of the mark, where it comes next.
     fn next_mark(&self, mark: Mark) -> Option<u32>
         ensures { MatchOption result (NextIsNot (IsMark mark) self.now.rest.now)
             (λ at. (ts : Toks) × (self.now.rest.now ≡ (at, token.Mark mark) ∷ ts)) }
@@ -86,7 +86,7 @@ impl<'a> Parser<'a> {
         None
     }
 
-    /// Goes past the mark, where it comes next.
+    // Goes past the mark, where it comes next.
     fn take(&mut self, mark: Mark) -> bool
         ensures taken { result ≡ true → (at : ℕ) × (self.old.rest.now ≡ (at, token.Mark mark) ∷ self.new.rest.now) }
         ensures absent { result ≡ false → (self.new.rest.now ≡ self.old.rest.now) × NextIsNot (IsMark mark) self.old.rest.now }
@@ -111,7 +111,7 @@ impl<'a> Parser<'a> {
         }
     }
 
-    /// Goes past the name `word`, where it comes next.
+    // Goes past the name `word`, where it comes next.
     fn name(&mut self, word: &str) -> bool
         ensures taken { result ≡ true → (at : ℕ) × (self.old.rest.now ≡ (at, token.Name word.now) ∷ self.new.rest.now) }
         ensures absent { result ≡ false → (self.new.rest.now ≡ self.old.rest.now) × NextIsNot (IsName word.now) self.old.rest.now }
@@ -137,7 +137,7 @@ impl<'a> Parser<'a> {
         Ok(text)
     }
 
-    /// What stands after `this`, which stood at `at`.
+    // What stands after `this`, which stood at `at`.
     fn this(&mut self, at: u32) -> Result<Node, Stop>
         ensures { (n : ℕ) → Part (ThisText at) n (anywhere behind_this) (anywhere operator) result self.old.rest.now self.new.rest.now }
     {
@@ -154,7 +154,7 @@ impl<'a> Parser<'a> {
         Ok(Node::Column(at, name))
     }
 
-    /// Goes past an operator of the level, where one comes next.
+    // Goes past an operator of the level, where one comes next.
     fn operator(&mut self, level: u32) -> Option<(u32, Operator)>
         requires { level < 7 }
         ensures { MatchOption result ((self.new.rest.now ≡ self.old.rest.now)
@@ -194,7 +194,7 @@ impl<'a> Parser<'a> {
         }
     }
 
-    /// A name, and the expression that it is set to.
+    // A name, and the expression that it is set to.
     fn assignment(&mut self) -> Result<Assign, Stop>
         ensures part { PartOf assigned OneAssign 64 (before_assign 64) (behind_assign 64) result self.old.rest.now self.new.rest.now }
         ensures ends { OnOk result (Quiet 7 self.new.rest.now) }
@@ -208,7 +208,7 @@ impl<'a> Parser<'a> {
         })
     }
 
-    /// Whether an assignment is the last one: nothing comes next, or a `;` that ends all. Goes past a `;`.
+    // Whether an assignment is the last one: nothing comes next, or a `;` that ends all. Goes past a `;`.
     fn is_last(&mut self) -> Result<bool, Stop>
         ensures { MatchResult result (λ last. AssignEnds last self.old.rest.now self.new.rest.now)
             (AtMisfit (λ f. (f ≡ Unfit) × (self.new.rest.now ≡ self.old.rest.now) × (t : Placed) × (ts : Toks) × (self.old.rest.now ≡ t ∷ ts) × (IsMark mark.Semicolon t.1 → ⊥))) }
@@ -230,7 +230,7 @@ impl<'a> Parser<'a> {
         }
     }
 
-    /// The name that an assignment sets.
+    // The name that an assignment sets.
     fn target(&mut self) -> Result<Text, Stop>
         ensures { MatchResult result (λ s. (at : ℕ) × (self.old.rest.now ≡ (at, token.Name s) ∷ self.new.rest.now))
             (AtMisfit (λ f. (f ≡ Unfit) × (self.new.rest.now ≡ self.old.rest.now) × NextIsNot IsAName self.old.rest.now)) }
@@ -243,7 +243,7 @@ impl<'a> Parser<'a> {
         Ok(name)
     }
 
-    /// A choice, or what stands in its place, with at most `depth` levels in one another.
+    // A choice, or what stands in its place, with at most `depth` levels in one another.
     #[cycle(parts)]
     fn cond(&mut self, depth: u32) -> Result<Node, Stop>
         ensures part { Part Cond depth (plainly before depth) (plainly behind depth) result self.old.rest.now self.new.rest.now }
@@ -263,7 +263,7 @@ impl<'a> Parser<'a> {
         Ok(choice(self.alloc, at, condition, yes, no)?)
     }
 
-    /// Operands with operators of the level, and of lower ones, between them.
+    // Operands with operators of the level, and of lower ones, between them.
     #[cycle(parts)]
     fn level(&mut self, level: u32, depth: u32) -> Result<Node, Stop>
         requires { level < 7 }
@@ -281,7 +281,7 @@ impl<'a> Parser<'a> {
         Ok(left)
     }
 
-    /// An operand with the signs before it.
+    // An operand with the signs before it.
     #[cycle(parts)]
     fn unary(&mut self, depth: u32) -> Result<Node, Stop>
         ensures { Part Unary depth (before depth) (behind depth) result self.old.rest.now self.new.rest.now }
@@ -325,7 +325,7 @@ impl<'a> Parser<'a> {
         Ok(inner)
     }
 
-    /// The place and the sign of the next token, where it is one.
+    // The place and the sign of the next token, where it is one.
     fn sign(&self) -> Option<(u32, Sign)>
         ensures { MatchOption result (NextIsNot IsSign self.now.rest.now)
             (λ r. (t : Token) × (ts : Toks) × (self.now.rest.now ≡ (r.0, t) ∷ ts) × (sign_of t ≡ Some r.1)) }

@@ -30,7 +30,7 @@ impl<'a> Scanner<'a> {
         self.rest.as_bytes().first().copied()
     }
 
-    /// Goes past the next character.
+    // Goes past the next character.
     fn next(&mut self) -> Option<char>
         ensures { MatchOption result ((self.old.rest.now ≡ []) × (self.new.rest.now ≡ []))
             (λ c. self.old.rest.now ≡ encode_utf8 c ++ self.new.rest.now) }
@@ -41,7 +41,7 @@ impl<'a> Scanner<'a> {
         next
     }
 
-    /// Goes past the next byte, which is an ASCII character.
+    // Goes past the next byte, which is an ASCII character.
     fn advance(&mut self)
         requires { (b : ℕ) × (bs : List ℕ) × (self.old.rest.now ≡ b ∷ bs) × (b < 128) }
         ensures { (b : ℕ) × (self.old.rest.now ≡ b ∷ self.new.rest.now) }
@@ -136,7 +136,7 @@ impl<'a> Scanner<'a> {
         }
     }
 
-    /// Passes a numeral, and answers its bytes.
+    // Passes a numeral, and answers its bytes.
     fn numeral(&mut self) -> &'a str
         ensures rest { self.new.rest.now ≡ behind_number self.old.rest.now }
         ensures text { result.now ≡ take (length self.old.rest.now - length self.new.rest.now) self.old.rest.now }
@@ -148,7 +148,7 @@ impl<'a> Scanner<'a> {
         front_of(start, self.rest)
     }
 
-    /// A word, whose first byte is one of a name.
+    // A word, whose first byte is one of a name.
     fn word(&mut self) -> &'a str
         ensures rest { self.new.rest.now ≡ drop_while is_name_byte self.old.rest.now }
         ensures text { result.now ≡ take (length self.old.rest.now - length self.new.rest.now) self.old.rest.now }
@@ -158,7 +158,7 @@ impl<'a> Scanner<'a> {
         front_of(start, self.rest)
     }
 
-    /// A text, after its quote.
+    // A text, after its quote.
     fn quoted(&mut self, quote: u8) -> Result<Token, AllocError>
         requires { is_quote quote ≡ true }
         ensures { IfOk result (λ t. (t, self.new.rest.now) ≡ text_at quote (Some []) self.old.rest.now) }
@@ -186,7 +186,7 @@ impl<'a> Scanner<'a> {
         }
     }
 
-    /// Goes past the next character, unless it is a line feed.
+    // Goes past the next character, unless it is a line feed.
     fn next_in_line(&mut self) -> Option<char>
         ensures { MatchOption result (EndsLine self.old.rest.now)
             (λ c. (self.old.rest.now ≡ encode_utf8 c ++ self.new.rest.now) × ¬ (c ≡ 10)) }
@@ -197,7 +197,7 @@ impl<'a> Scanner<'a> {
         }
     }
 
-    /// What fits nowhere: nothing is read after it.
+    // What fits nowhere: nothing is read after it.
     fn stray(&mut self) -> Token
         ensures rest { self.new.rest.now ≡ [] }
         ensures token { result ≡ token.Stray }
@@ -206,7 +206,7 @@ impl<'a> Scanner<'a> {
         Token::Stray
     }
 
-    /// An operator or a mark, whose first byte is `first`.
+    // An operator or a mark, whose first byte is `first`.
     fn symbol(&mut self, first: u8) -> Token
         requires { (bs : List ℕ) × (self.old.rest.now ≡ first ∷ bs) }
         ensures { (bs : List ℕ) → self.old.rest.now ≡ first ∷ bs → (result, self.new.rest.now) ≡ symbol_at first bs }
@@ -226,7 +226,7 @@ impl<'a> Scanner<'a> {
         self.stray()
     }
 
-    /// The token whose first byte is `first`.
+    // The token whose first byte is `first`.
     fn token(&mut self, first: u8) -> Result<Token, AllocError>
         requires { (bs : List ℕ) × (self.old.rest.now ≡ first ∷ bs) }
         ensures { IfOk result (λ t. (bs : List ℕ) → self.old.rest.now ≡ first ∷ bs → (t, self.new.rest.now) ≡ token_at first bs) }

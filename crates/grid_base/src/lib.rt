@@ -2,6 +2,12 @@
 //!
 //! Grid numbers are whole and at most [`LIMIT`] in absolute value. Contracts see a `Pt` as a `GridPoint` of
 //! `plane_model`, a `Seg` and a `Link` as a `Segment`, and a list as the list of its items.
+//!
+//! 1. `point`, `segment`, `link` and `area`: two grid numbers make a point, two points a segment, a link or a box; or
+//!    `None`, where they make none. `turn` says to which side three points turn.
+//! 2. `numbers`, `signed_arc` and `kinds`: numbers of arcs, faces and features, directions of arcs, kinds of layers.
+//! 3. `list_types`: lists of points, paths, polygons, boxes, links and numbers.
+//! 4. `drawing` takes features and boxes one by one; `snapped` is a drawing after snapping, with its links.
 #![tactic(auto)]
 
 mod area;

@@ -30,7 +30,7 @@ pub record HasCrossingsAmong (spots : List Segment) (near : List ℕ) (old new :
   pub adds : AddsCrossings spots old new
   pub holds : HoldCrossings spots near new
 
--- the same of the first lists of numbers, so many
+-- the same of the first `count` lists of numbers
 pub record HasCrossingsBefore (count : ℕ) (lists : List (List ℕ)) (spots : List Segment) (old new : List GridPoint) : Type 0 where
   pub adds : AddsCrossings spots old new
   pub holds : (place : ℕ) → place < count → (near : List ℕ) → slice_get lists place ≡ Some near → HoldCrossings spots near new

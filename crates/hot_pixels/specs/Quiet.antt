@@ -48,6 +48,6 @@ pub record HasUnmarkedEdge (edges : List Segment) (marks : List Bool) (s : Segme
   pub has_edge : HasEdgeAt edges s number
   pub unmarked : slice_get marks number ≡ Some false
 
--- of so many lists, the segments of each that is too long have marks
+-- of the first `count` lists, the segments of each that is too long have marks
 pub record AreCrowdsMarked (count : ℕ) (near : List (List ℕ)) (marks : List Bool) : Type 0 where
   pub all : (place : ℕ) → place < count → (list : List ℕ) → slice_get near place ≡ Some list → 64 < length list → All (IsMarked marks) list

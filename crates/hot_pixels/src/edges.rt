@@ -31,7 +31,7 @@ fn scattered(p: Pt) -> u64 {
     product ^ product >> 32
 }
 
-// A slot of so many, the same for a segment and the one that runs back along it.
+// The slot of a segment among `slots` of them; the same for the one that runs back along it.
 fn slot_of(s: &Seg, slots: usize) -> usize {
     let sum = scattered(s.a()).wrapping_add(scattered(s.b()));
     let high = sum.wrapping_mul(0x9E37_79B9_7F4A_7C15) >> 32;

@@ -83,7 +83,7 @@ fn runs_before(place: usize) -> usize {
     count
 }
 
-// Adds the run of so many points at `start`, where one begins there.
+// Adds the run of `size` points at `start`, where one begins there.
 fn add_run(runs: &mut Vec<Run>, points: &[Pt], start: usize, size: usize) -> Result<(), AllocError>
     requires start { start < length points.now }
     requires size { 0 < size }

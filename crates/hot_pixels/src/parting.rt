@@ -102,7 +102,7 @@ fn is_helpful(all: usize, left: usize, right: usize) -> bool {
     left.max(right) <= all - all / 8 && both <= all.saturating_add(all / 4)
 }
 
-// One of the spots with these numbers: the first of a ninth of them, or one close behind it.
+// One of the spots with these numbers: the first of a ninth of them, or one of the six after it.
 fn sample_at(spots: &[Seg], near: &[u32], k: u64) -> Option<Seg> {
     let scattered = k.wrapping_mul(0x9E37_79B9_7F4A_7C15) >> 32;
     let first = (near.len() as u64).saturating_mul(k) / SAMPLE;

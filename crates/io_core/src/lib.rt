@@ -1,12 +1,12 @@
 //! The outside of a run: where bytes come from and go to, and how a failure of it is told.
 //!
-//! - `Source`, `Sink` and `Files` are what a run reads and writes. Each tells what it holds or has left, where it can,
-//!   and counts its failed calls, so that an answer of failure always has a count that rose.
-//! - `read_whole` and `read_file` read to the end or say why not; `write_whole` and `write_file` write a whole text,
-//!   or leave a front of it and a count that rose.
-//! - `MemSource`, `MemSink` and `MemFiles` are the outside in memory: they tell all, move at most a given number of
-//! bytes a call and fail at the calls that they were given.
-//! - `Text`, `Bytes` and `NameList` are texts, and lists of bytes and of texts.
+//! 1. `outside` has what a run reads and writes: `Source`, `Sink` and `Files`. Each tells what it holds or has left,
+//!    where it can, and counts its failed calls, so that an answer of failure always has a count that rose.
+//! 2. `whole`: `read_whole` and `read_file` take a limit, and give all bytes or say why not; `write_whole` and
+//!    `write_file` take bytes, and write them all, or leave a front of them and a count that rose.
+//! 3. `memory_source`, `memory_sink` and `memory_files` are the outside in memory: they tell all, move at most a
+//!    given number of bytes a call, and fail at the calls that they were given.
+//! 4. `text`, `bytes` and `name_list` are a text, and lists of bytes and of texts.
 #![tactic(auto)]
 
 mod bounded_bytes;

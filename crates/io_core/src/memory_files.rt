@@ -211,7 +211,7 @@ impl Files for MemFiles {
     }
 }
 
-/// The place of a name under which `count` bytes can be written, unless the call is `listed` as one that fails.
+// The place of a name under which `count` bytes can be written, unless the call is `listed` as one that fails.
 fn writable_place(entries: &[FileEntry], name: &str, count: usize, listed: bool) -> Option<usize>
     ensures refused { is_some result ≡ not (listed || has_no_room entries.now name.now count) }
     ensures place { IfSome result (λ i. Some i ≡ position (λ entry. bytes_eq entry.name name.now) entries.now) }

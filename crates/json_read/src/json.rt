@@ -89,6 +89,7 @@ impl JsonList {
     ghost use Rattle.json_read.specs.Json.{no_items};
     ghost use Rattle.json_read.specs.Lists.{items_list};
 
+    /// No items.
     pub fn new(alloc: Global) -> Self
         ensures { result ≡ no_items }
     {
@@ -118,18 +119,21 @@ impl JsonList {
         Ok(())
     }
 
+    /// How many items there are.
     pub fn len(&self) -> u32
         ensures count { result ≡ length (items_list self.now) }
     {
         self.items.len() as u32
     }
 
+    /// The item with this number, counted from 0; `None` past the end.
     pub fn get(&self, i: u32) -> Option<&Json>
         ensures lookup { option_map json_value (option_copied result) ≡ slice_get (items_list self.now) i }
     {
         self.items.get(i as usize)
     }
 
+    /// All items, in order.
     pub fn as_slice(&self) -> &[Json]
         ensures all { map json_value result.now ≡ items_list self.now }
     {

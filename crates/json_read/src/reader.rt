@@ -55,7 +55,7 @@ impl<'a> Reader<'a> {
         self.rest.first().copied()
     }
 
-    /// Goes past one byte.
+    // Goes past one byte.
     fn advance(&mut self)
         requires { 0 < length self.old.rest.now }
         ensures { (b : ℕ) × (self.old.rest.now ≡ b ∷ self.new.rest.now) }
@@ -63,7 +63,7 @@ impl<'a> Reader<'a> {
         self.rest = &self.rest[1..];
     }
 
-    /// Goes past the byte `b`, where it is the next one.
+    // Goes past the byte `b`, where it is the next one.
     fn take(&mut self, b: u8) -> bool
         ensures taken { result ≡ true → self.old.rest.now ≡ b ∷ self.new.rest.now }
         ensures stays { result ≡ false → self.new.rest.now ≡ self.old.rest.now }
@@ -91,7 +91,7 @@ impl<'a> Reader<'a> {
         self.rest = &self.rest[digit_count(self.rest)..];
     }
 
-    /// One or more digits.
+    // One or more digits.
     fn some_digits(&mut self) -> Result<(), Stop>
         ensures { ReadsDigits result self.old.rest.now self.new.rest.now }
     {
@@ -154,7 +154,7 @@ impl<'a> Reader<'a> {
         let _ = self.take(b'+') || self.take(b'-');
     }
 
-    /// A number, which keeps its text.
+    // A number, which keeps its text.
     fn number(&mut self) -> Result<Text, Stop>
         requires { NumberBegins self.old.rest.now }
         ensures { Part NumeralOf value after result self.old.rest.now self.new.rest.now }
@@ -169,7 +169,7 @@ impl<'a> Reader<'a> {
         Ok(Text::of(self.alloc, text)?)
     }
 
-    /// A string, after its first quote.
+    // A string, after its first quote.
     fn string(&mut self) -> Result<Text, Stop>
         ensures { (r : Role) → Part ClosesAs (in_string r) (closed r) result self.old.rest.now self.new.rest.now }
     {
@@ -179,7 +179,7 @@ impl<'a> Reader<'a> {
         }
     }
 
-    /// A string of ASCII without escapes; where it is another, nothing is read.
+    // A string of ASCII without escapes; where it is another, nothing is read.
     fn ascii_string(&mut self) -> Option<&'a str>
         ensures some { IfSome result (λ text. ClosesAsAscii text.now self.old.rest.now self.new.rest.now) }
         ensures none { IfNone result (self.new.rest.now ≡ self.old.rest.now) }
@@ -194,7 +194,7 @@ impl<'a> Reader<'a> {
         }
     }
 
-    /// A string, one character or escape after another.
+    // A string, one character or escape after another.
     fn string_by_units(&mut self) -> Result<Text, Stop>
         ensures { (r : Role) → Part ClosesAs (in_string r) (closed r) result self.old.rest.now self.new.rest.now }
     {
@@ -210,7 +210,7 @@ impl<'a> Reader<'a> {
         }
     }
 
-    /// One character or escape of a string.
+    // One character or escape of a string.
     fn unit(&mut self) -> Result<u32, Stop>
         requires { NextIsNot 34 self.old.rest.now }
         ensures { (r : Role) → Part StandsFor (in_string r) (in_string r) result self.old.rest.now self.new.rest.now }
@@ -231,7 +231,7 @@ impl<'a> Reader<'a> {
         self.character(first)
     }
 
-    /// An escape, after the backslash.
+    // An escape, after the backslash.
     fn escape(&mut self) -> Result<u32, Stop>
         ensures { (r : Role) → Part StandsEscaped (in_escape r) (in_string r) result self.old.rest.now self.new.rest.now }
     {
@@ -248,7 +248,7 @@ impl<'a> Reader<'a> {
         Ok(unit)
     }
 
-    /// Four hexadecimal digits.
+    // Four hexadecimal digits.
     fn four_hex(&mut self) -> Result<u32, Stop>
         ensures { (r : Role) → Part StandsInHex (in_hex r 3) (in_string r) result self.old.rest.now self.new.rest.now }
     {
@@ -272,7 +272,7 @@ impl<'a> Reader<'a> {
         Ok(digit)
     }
 
-    /// A character of several bytes, whose first is `first`.
+    // A character of several bytes, whose first is `first`.
     fn character(&mut self, first: u8) -> Result<u32, Stop>
         requires first { (bs : List ℕ) × (self.old.rest.now ≡ first ∷ bs) }
         requires several { 128 ≤ first }
@@ -295,7 +295,7 @@ impl<'a> Reader<'a> {
         Ok((((lead - 0xF0) * 64 + second) * 64 + third) * 64 + fourth)
     }
 
-    /// The six bits of a byte from `low` up to `high` that follows in a character.
+    // The six bits of a byte from `low` up to `high` that follows in a character.
     fn following(&mut self, low: u8, high: u8) -> Result<u32, Stop>
         requires low { 128 ≤ low }
         requires high { high ≤ 192 }
@@ -393,7 +393,7 @@ fn pair(high: u32, low: u32) -> char
 }
 
 impl<'a> Reader<'a> {
-    /// Goes past the byte `b`.
+    // Goes past the byte `b`.
     fn expect(&mut self, b: u8) -> Result<(), Stop>
         ensures { ReadsByte b result self.old.rest.now self.new.rest.now }
     {
@@ -404,7 +404,7 @@ impl<'a> Reader<'a> {
         }
     }
 
-    /// The letters of `true`, `false` or `null`.
+    // The letters of `true`, `false` or `null`.
     fn word(&mut self, letters: &[u8]) -> Result<(), Stop>
         requires { 0 < length letters.now }
         ensures { Part (λ _ t. t ≡ letters.now) (in_word letters.now) after result self.old.rest.now self.new.rest.now }
@@ -435,7 +435,7 @@ impl<'a> Reader<'a> {
         self.rest.len()
     }
 
-    /// A byte order mark, or nothing.
+    // A byte order mark, or nothing.
     fn mark(&mut self) -> Result<(), Stop>
         ensures { Part (λ _. Mark) start value result self.old.rest.now self.new.rest.now }
     {
@@ -446,7 +446,7 @@ impl<'a> Reader<'a> {
         Ok(())
     }
 
-    /// A value, with at most `depth` arrays and objects in one another.
+    // A value, with at most `depth` arrays and objects in one another.
     #[cycle(values)]
     fn value(&mut self, depth: u32) -> Result<Json, Stop>
         requires { NextFails is_white self.old.rest.now }
@@ -491,7 +491,7 @@ impl<'a> Reader<'a> {
         }
     }
 
-    /// A value, with white space around it.
+    // A value, with white space around it.
     #[cycle(values)]
     fn padded(&mut self, depth: u32) -> Result<Json, Stop>
         ensures part { PartAt (ShowsPadded depth) (outside depth value) (outside depth after) result self.old.rest.now self.new.rest.now }
@@ -503,7 +503,7 @@ impl<'a> Reader<'a> {
         Ok(value)
     }
 
-    /// An array, after its bracket.
+    // An array, after its bracket.
     #[cycle(values)]
     fn array(&mut self, depth: u32) -> Result<JsonList, Stop>
         ensures { PartAt (ArrayText depth) (inside in_array depth first_value) (behind depth) result self.old.rest.now self.new.rest.now }
@@ -524,7 +524,7 @@ impl<'a> Reader<'a> {
         }
     }
 
-    /// An object, after its brace.
+    // An object, after its brace.
     #[cycle(values)]
     fn object(&mut self, depth: u32) -> Result<JsonFields, Stop>
         ensures { PartAt (ObjectText depth) (inside in_object depth first_name) (behind depth) result self.old.rest.now self.new.rest.now }
@@ -545,7 +545,7 @@ impl<'a> Reader<'a> {
         }
     }
 
-    /// A name and its colon.
+    // A name and its colon.
     fn name(&mut self) -> Result<Text, Stop>
         ensures { Part NameText next_name value result self.old.rest.now self.new.rest.now }
     {

@@ -1,4 +1,12 @@
 //! The program: the host's words, files and streams, handed to a run.
+//!
+//! In: the words of the command line, the files that they name, and standard input. Out: files and standard output, a
+//! line on standard error for an outcome other than `Done`, and the exit status.
+//!
+//! 1. `main` takes the words. One that is not UTF-8 text ends the program with status 1.
+//! 2. `host_streams` and `host_files` make the host's streams and files into the `Source`, `Sink` and `Files` of
+//!    `io_core`.
+//! 3. `ms_chain::run` does the rest; its outcome has the exit status.
 #![tactic(auto)]
 
 mod host_files;

@@ -1,4 +1,4 @@
-// A drawing laid out as arcs, faces and holders.
+//! A drawing laid out as arcs, faces and holders.
 ghost use Rattle.std.specs.Prelude.{◌≡◌, ◌<◌, All, IfOk, length};
 ghost use Rattle.face_walk.specs.Places.{IsBuiltOf};
 ghost use Rattle.ring_trace.specs.Sets.{IsInnerFace, IsSetOf};

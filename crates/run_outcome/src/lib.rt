@@ -1,7 +1,11 @@
 //! How a run ends, its exit status, and the one line that tells it.
 //!
-//! 1. `outcome` has all outcomes, and makes one of each fault of words, sources, drawings and commands.
-//! 2. `message` tells an outcome other than `Done` in one line.
+//! In: a fault of the words, of a source, of the drawing, or of a command with its number. Out: an `Outcome`, its
+//! exit status, from 0 to 6, and its line on a sink.
+//!
+//! 1. `outcome` has all outcomes, makes one of each fault, and has the status of each.
+//! 2. `message` tells an outcome other than `Done` in one line, and takes no memory. Where the sink fails, nothing
+//!    else changes.
 #![tactic(auto)]
 
 mod message;

@@ -5,8 +5,7 @@
 //!
 //! 1. `plane` snaps a drawing, builds its arcs and faces, and gathers the faces that features and boxes hold.
 //! 2. `layer` is a layer of a run: a row and a shape for each feature, where a shape is a set of faces, a list of
-//! signed
-//!    paths, or points.
+//!    signed paths, or points.
 //! 3. `copies` makes copies of shapes and texts.
 #![tactic(auto)]
 

@@ -1,7 +1,12 @@
 //! The commands of a run that change layers.
 //!
-//! 1. `commands` checks a command, has it put layers out, and gives the state after it.
-//! 2. `outputs` says what a command puts out for each layer of its target, by the commands on shapes and on tables.
+//! In: what commands stand on (`Ground`), a command, and the layers before it (`State`). Out: the state after it, or
+//! a `CommandStop`: its first refusal, or memory ran out.
+//!
+//! 1. `commands` tests the target of a command, then its source, then the kinds and the number of its layers. It has
+//!    layers put out and placed among the others, and refuses more than 1,000 of them.
+//! 2. `outputs` says what a command puts out for each layer of its target, or for all of them together, by the calls
+//!    of `run_shapes` and `run_tables`.
 #![tactic(auto)]
 
 mod commands;

@@ -1,5 +1,12 @@
-//! Commands on rows and columns: `-filter`, `-filter-fields`, `-rename-fields`, `-join`, `-each`, `-sort` and `-uniq`
-//! make a layer of one layer, `-split` several of one, `-merge-layers` one of several.
+//! Commands on rows and columns: each makes a layer of one layer, or several of one, or one of several.
+//!
+//! In: the layers of a command's target, and what its words ask for. Out: layers with new tables, in which each row
+//! has the shape that it had; or a `CommandStop`, where a table is refused or memory ran out.
+//!
+//! 1. `table_commands` is `-filter`, `-filter-fields`, `-rename-fields`, `-join` by keys and by matches, and
+//!    `-merge-layers`, by the calls of `table_ops` and `spatial_join`.
+//! 2. `row_commands` is `-each`, `-sort` and `-uniq`, by those of `calc_ops`.
+//! 3. `splitting` is `-split`.
 #![tactic(auto)]
 
 mod row_commands;

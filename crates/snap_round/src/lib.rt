@@ -1,12 +1,13 @@
 //! Snap rounding, after Hobby (1999): every vertex and every crossing of a drawing goes to the centre of its pixel.
 //!
-//! Each segment becomes the chain of the hot points whose pixels it meets, and the chains of a path are joined end to
-//! end. So a path keeps its ends and stays within half a unit of where it was, and
+//! In: a `Drawing`. Out: the `Snapped` drawing with its links, or a `SnapFault`. Each path keeps its ends and stays
+//! within half a unit of where it was. Two distinct links meet at common ends alone, and no vertex, points included,
+//! lies inside a link.
 //!
-//! - two distinct links of the snapped paths meet at common ends alone;
-//! - no vertex of the snapped drawing, points included, lies inside a link.
-//!
-//! `snap` does it all: hot points, count, paths, links. A count past the limit is found before any path is made.
+//! 1. `snapping` has `snap`: the hot points, by `hot_pixels`, then the paths, then their links.
+//! 2. `paths` and `joining` make the paths: each segment becomes the chain of the hot points whose pixels it meets,
+//!    and the chains of a path are joined end to end.
+//! 3. `links` lists the links. Where they may be more than 8,000,000, `counting` counts them by the hot points alone.
 #![tactic(auto)]
 
 mod counting;

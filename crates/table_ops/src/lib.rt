@@ -1,8 +1,12 @@
 //! Tables of named columns: rows taken, filtered, grouped and split, columns kept and renamed, tables joined and
 //! merged.
 //!
-//! A join by keys goes in steps that serve other joins too: `check_fields` and `candidates` say what of the source
-//! takes part, `copied_columns` which columns the table has, and `copied_row` what a row has of its match.
+//! In: tables, and the terms of `table_terms`. Out: a table, or numbers of rows; or the first `TableFault`.
+//!
+//! 1. `rows` takes rows by their numbers; `filter` finds them by an expression, `group` and `split` by their values.
+//! 2. `columns` keeps columns, `rename` renames them; `merge` puts tables one under another.
+//! 3. `join` joins by keys, in steps that serve other joins too: `check_fields` and `candidates` say what of the
+//!    source takes part, `copied_columns` which columns the table has, and `copied_row` what a row has of its match.
 #![tactic(auto)]
 
 mod columns;
