@@ -183,6 +183,7 @@ fn check_together(layers: &[Held], target: &Target, action: &JointAction) -> Res
 }
 
 fn check_joint(layers: &[Held], target: &Target, action: &JointAction) -> Result<(), RefuseWhy>
+    requires there { has_target target.now layers.now ≡ true }
     ensures exact { refusal_of result ≡ first_refusal (refused_mixture action.now (targets target.now layers.now)) (refused_number action.now (targets target.now layers.now)) }
 {
     match check_mixture(layers, target, action) {
@@ -371,6 +372,7 @@ fn is_polygon(kind: Kind) -> bool
 }
 
 fn check_mixture(layers: &[Held], target: &Target, action: &JointAction) -> Result<(), RefuseWhy>
+    requires there { has_target target.now layers.now ≡ true }
     ensures exact { refusal_of result ≡ refused_mixture action.now (targets target.now layers.now) }
 {
     if takes_together(layers, target, action, first_kind(layers, target)) {
@@ -380,13 +382,15 @@ fn check_mixture(layers: &[Held], target: &Target, action: &JointAction) -> Resu
     }
 }
 
-// The kind of the first layer of the target; `Table` where there is none.
+// The kind of the first layer of the target.
+#[tactic(auto, using(run_state::proofs::TargetLemmas::has_first))]
 fn first_kind(layers: &[Held], target: &Target) -> Kind
+    requires there { has_target target.now layers.now ≡ true }
     ensures exact { result ≡ first_kind (targets target.now layers.now) }
 {
     match first_target(layers, target) {
         Some(layer) => layer.kind,
-        None => Kind::Table,
+        None => unreachable!(),
     }
 }
 
