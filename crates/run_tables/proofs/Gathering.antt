@@ -13,7 +13,6 @@ use Rattle.cmd_words.specs.declared.job.Target.{Target}
 use Rattle.run_plane.specs.declared.layer.Layer.{Layer}
 use Rattle.run_state.specs.Stops.{StopsFor, stop_of, table_refusal}
 use Rattle.run_state.specs.Targets.{is_selected, targets}
-use Rattle.run_state.specs.declared.refusal.RefuseWhy.TheVariants.{NoLayer}
 use Rattle.run_state.specs.declared.state.Held.{Held}
 use Rattle.run_state.proofs.TargetLemmas.{targets_off, targets_on}
 use Rattle.run_tables.specs.Gathering.{all_rows}
@@ -45,10 +44,6 @@ target_passed t front held e = targets_off t front held e
 
 abbrev tables_of : List Layer → List TableContent
 tables_of layers = map (λ (layer : Layer). layer.table) layers
-
-pub no_merge : (force : Bool) (layers : List Layer) → None ≡ slice_get layers 0 → refused_layers force layers ≡ Some NoLayer
-no_merge force [] h = refl
-no_merge force (layer ∷ layers) h = absurd (let e : None ≡ Some layer = h in cc)
 
 pub some_tables : (first : Layer) (layers : List Layer) → Some first ≡ slice_get layers 0 → 0 < length (tables_of layers)
 some_tables first [] h = absurd (let e : Some first ≡ None = h in cc)

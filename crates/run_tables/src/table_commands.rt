@@ -1,9 +1,9 @@
 ghost use Rattle.run_tables.specs.Gathering.{all_rows};
-ghost use Rattle.std.specs.Prelude.{◌≡◌, ◌<◌, ◌++◌, IfErr, IfOk, None, OnOk, Some, All, length, map, option_copied, slice_get};
+ghost use Rattle.std.specs.Prelude.{◌≡◌, ◌<◌, ◌++◌, IfErr, IfOk, None, OnOk, Some, All, length, map, option_copied, slice_get, true};
 ghost use Rattle.std.specs.List.{flat_map};
 ghost use Rattle.std.specs.List.Sorted.{IsStrictlyIncreasing};
 ghost use Rattle.run_state.specs.Stops.{StopsFor, table_refusal};
-ghost use Rattle.run_state.specs.Targets.{targets};
+ghost use Rattle.run_state.specs.Targets.{has_target, targets};
 ghost use Rattle.table_ops.specs.Columns.{keep_fields, rename_fields};
 ghost use Rattle.spatial_join.specs.Joined.{join_matched};
 ghost use Rattle.table_ops.specs.Join.{join_tables};
@@ -16,8 +16,8 @@ use io_core::NameList;
 use json_read::Table;
 use run_plane::{Layer, Shape, copy_shape, copy_shapes, copy_text};
 use run_state::{
-    CommandStop, Held, RefuseWhy, copy_table, first_target, is_selected, numbers_below,
-    take_features, with_geometry,
+    CommandStop, Held, copy_table, first_target, is_selected, numbers_below, take_features,
+    with_geometry,
 };
 use spatial_join::join_matched;
 use std::alloc::{AllocError, Global};
@@ -135,21 +135,22 @@ pub(crate) fn with_table(alloc: Global, layer: &Layer, table: Table) -> Result<L
 
 /// The features of the target's layers, in order, in a layer like the first.
 ///
-/// Errors: `NoLayer` where the target has none, and what the tables are refused for.
-#[tactic(auto, using(crate::proofs::Gathering::no_merge))]
+/// Errors: what the tables are refused for.
+#[tactic(auto, using(run_state::proofs::TargetLemmas::has_first))]
 pub fn merged(
     alloc: Global,
     layers: &[Held],
     target: &Target,
     force: bool,
 ) -> Result<Layer, CommandStop>
+    requires there { has_target target.now layers.now ≡ true }
     ensures made { IfOk result (IsMerged force (targets target.now layers.now)) }
     ensures accepted { IfOk result (λ made. refused_layers force (targets target.now layers.now) ≡ None) }
     ensures stops { IfErr result (StopsFor (refused_layers force (targets target.now layers.now))) }
 {
     match first_target(layers, target) {
         Some(first) => merged_like(alloc, first, layers, target, force),
-        None => Err(CommandStop::Refused(RefuseWhy::NoLayer)),
+        None => unreachable!(),
     }
 }
 
