@@ -17,7 +17,7 @@ use cmd_words::Owner;
 use geojson_io::{GeoLayer, GeoShape, GeoShapeList};
 use grid_base::{BoxList, FeatId, Kind, PtList, Snapped};
 use ring_trace::FaceSet;
-use run_plane::{Laid, Layer, Plane, Shape, copy_points, laid_out};
+use run_plane::{Laid, Layer, Plane, Shape, laid_out};
 use run_sources::ReadSource;
 use snap_round::SnapFault;
 use std::alloc::{AllocError, Global};
@@ -170,7 +170,7 @@ fn begun_layer(
         table,
         shapes,
     } = layer;
-    let shapes = begun_shapes(alloc, arcs, snapped, next, kind, &shapes)?;
+    let shapes = begun_shapes(alloc, arcs, snapped, next, kind, shapes)?;
     Ok(Layer {
         name,
         kind,
@@ -185,19 +185,19 @@ fn begun_shapes(
     snapped: &Snapped,
     next: &mut Next,
     kind: Kind,
-    shapes: &GeoShapeList,
+    shapes: GeoShapeList,
 ) -> Result<Vec<Shape>, AllocError>
     requires count { into_iter_len next.old.faces ≡ length (into_iter_items next.old.faces) }
-    ensures each { IfOk result (λ begun. length begun.items ≡ length shapes.now) }
-    ensures begun { IfOk result (λ begun. AreShapes arcs.now (record { faces = into_iter_items next.old.faces; lines = drop next.old.line snapped.now.lines }) kind shapes.now begun.items) }
-    ensures faces { OnOk result (into_iter_items next.new.faces ≡ drop (polygon_count kind (length shapes.now)) (into_iter_items next.old.faces)) }
-    ensures lines { OnOk result (drop next.new.line snapped.now.lines ≡ drop (line_count kind (length shapes.now)) (drop next.old.line snapped.now.lines)) }
+    ensures each { IfOk result (λ begun. length begun.items ≡ length shapes) }
+    ensures begun { IfOk result (λ begun. AreShapes arcs.now (record { faces = into_iter_items next.old.faces; lines = drop next.old.line snapped.now.lines }) kind shapes begun.items) }
+    ensures faces { OnOk result (into_iter_items next.new.faces ≡ drop (polygon_count kind (length shapes)) (into_iter_items next.old.faces)) }
+    ensures lines { OnOk result (drop next.new.line snapped.now.lines ≡ drop (line_count kind (length shapes)) (drop next.old.line snapped.now.lines)) }
     ensures count { OnOk result (into_iter_len next.new.faces ≡ length (into_iter_items next.new.faces)) }
 {
     match kind {
         Kind::Polygon => begun_faces(alloc, &mut next.faces, shapes.len()),
         Kind::Line => begun_lines(alloc, arcs, snapped, &mut next.line, shapes.len()),
-        Kind::Point => begun_points(alloc, shapes.as_slice()),
+        Kind::Point => begun_points(alloc, shapes.into_vec()),
         Kind::Table => begun_rows(alloc, shapes.as_slice()),
     }
 }
@@ -307,24 +307,22 @@ fn add_along(
     Ok(())
 }
 
-fn begun_points(alloc: Global, shapes: &[GeoShape]) -> Result<Vec<Shape>, AllocError>
-    ensures begun { IfOk result (λ begun. begun.items ≡ map point_shape shapes.now) }
+fn begun_points(alloc: Global, shapes: Vec<GeoShape>) -> Result<Vec<Shape>, AllocError>
+    ensures begun { IfOk result (λ begun. begun.items ≡ map point_shape shapes.items) }
 {
     let mut begun = Vec::new(alloc);
     for shape in shapes {
-        begun.push(Shape::Points(points_in(alloc, shape)?))?;
+        begun.push(Shape::Points(points_in(alloc, shape)))?;
     }
     Ok(begun)
 }
 
-fn points_in(alloc: Global, shape: &GeoShape) -> Result<PtList, AllocError>
-    ensures exact { IfOk result (λ points. points ≡ points_of shape.now) }
+fn points_in(alloc: Global, shape: GeoShape) -> PtList
+    ensures exact { result ≡ points_of shape }
 {
     match shape {
-        GeoShape::Points(points) => copy_points(alloc, points),
-        GeoShape::Nothing => Ok(PtList::new(alloc)),
-        GeoShape::Lines(_) => Ok(PtList::new(alloc)),
-        GeoShape::Polygons(_) => Ok(PtList::new(alloc)),
+        GeoShape::Points(points) => points,
+        GeoShape::Nothing | GeoShape::Lines(_) | GeoShape::Polygons(_) => PtList::new(alloc),
     }
 }
 
