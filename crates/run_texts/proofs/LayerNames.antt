@@ -1,7 +1,8 @@
 -- Names one after another: whether two of them are one.
-use Rattle.std.proofs.Common.{◌≡◌, ◌+◌, ℕ, suc, ◌<◌, Bool, true, false, ◌||◌, List, [], ◌∷◌, ◌++◌, length, take, drop, get_or, refl, sym, ap, ◌∙◌, true≢false}
+use Rattle.std.proofs.Common.{◌≡◌, ◌+◌, ℕ, suc, ◌<◌, Bool, true, false, ◌||◌, List, [], ◌∷◌, ◌++◌, length, map, filter, take, drop, get_or, refl, sym, ap, ◌∙◌, true≢false}
 use Rattle.std.proofs.Math.Seq.{drop-cons}
-use Rattle.std.proofs.lemmas.List.{take_more, take-append-drop}
+use Rattle.std.proofs.lemmas.List.{map-append, take-append-drop}
+use Rattle.std.proofs.lemmas.List.Elements.{filter-append}
 use Rattle.std.specs.Str.{bytes_eq}
 use Rattle.std.proofs.lemmas.Cmp.{nat_list_eq_equiv}
 use Rattle.std.proofs.lemmas.List.Folds.{list_any-append}
@@ -9,8 +10,9 @@ use Rattle.table_terms.specs.Names.{has_name}
 use Rattle.cmd_words.specs.declared.job.Target.{Target}
 use Rattle.run_state.specs.Targets.{is_selected, targets}
 use Rattle.run_state.specs.declared.state.Held.{Held}
-use Rattle.run_state.proofs.TargetLemmas.{other_next, target_next}
-use Rattle.run_texts.specs.Written.{has_name_twice}
+use Rattle.run_state.proofs.TargetLemmas.{target_first, target_next}
+use Rattle.run_plane.specs.declared.layer.Layer.{Layer}
+use Rattle.run_texts.specs.Written.{has_name_twice, names_of_layers}
 
 neither : (a b : Bool) → (a || b) ≡ false → (a ≡ false) × (b ≡ false)
 neither true b h = absurd (true≢false h)
@@ -48,21 +50,32 @@ twice_seen (x ∷ names) rest name h = by (twice_seen names rest name) (bytes_eq
         either (has_name (names ++ name ∷ rest) x) (has_name_twice (names ++ name ∷ rest))
         (later (ap (λ (t : Bool). t || has_name names name) (sym e) ∙ h))
 
--- the name at a place, beside those before it
+-- the layer of a target at a place, beside those before it
 
-pub name_repeats : (names : List (List ℕ)) (i : ℕ) (name : List ℕ) → i < length names → name ≡ get_or names i name → has_name (take i names) name ≡ true → has_name_twice names ≡ true
-name_repeats names i name there is h =
-    let rest : drop i names ≡ name ∷ drop (suc i) names = drop-cons names i name there ∙ ap (λ (x : List ℕ). x ∷ drop (suc i) names) (sym is) in
-    ap has_name_twice (sym (take-append-drop i names) ∙ ap (λ (xs : List (List ℕ)). take i names ++ xs) rest) ∙ twice_seen (take i names) (drop (suc i) names) name h
+abbrev pub target_names : Target → List Held → List (List ℕ)
+target_names t layers = names_of_layers (targets t layers)
 
-pub name_differs : (names : List (List ℕ)) (i : ℕ) (name : List ℕ) → i < length names → name ≡ get_or names i name → has_name (take i names) name ≡ false → has_name_twice (take i names) ≡ false → has_name_twice (take (i + 1) names) ≡ false
-name_differs names i name there is h once =
-    ap has_name_twice (take_more names i name there ∙ ap (λ (x : List ℕ). take i names ++ x ∷ []) (sym is)) ∙ twice_new (take i names) name h once
+pub names_next : (t : Target) (all : List Held) (i : ℕ) (held : Held) → i < length all → held ≡ get_or all i held → is_selected t held ≡ true → target_names t (take (i + 1) all) ≡ target_names t (take i all) ++ held.layer.name ∷ []
+names_next t all i held there is e = ap names_of_layers (target_next t all i held there is e) ∙ map-append (λ (layer : Layer). layer.name) (targets t (take i all)) (held.layer ∷ [])
 
--- the layer at a place is of a target, or is not
+names_from : (t : Target) (front rest : List Held) (held : Held) → is_selected t held ≡ true → target_names t (front ++ held ∷ rest) ≡ target_names t front ++ held.layer.name ∷ target_names t rest
+names_from t front rest held e =
+    ap names_of_layers
+    (ap (map (λ (h : Held). h.layer)) (filter-append (is_selected t) front (held ∷ rest))
+    ∙ map-append (λ (h : Held). h.layer) (filter (is_selected t) front) (filter (is_selected t) (held ∷ rest))
+    ∙ ap (λ (ls : List Layer). targets t front ++ ls) (target_first t held rest e))
+    ∙ map-append (λ (layer : Layer). layer.name) (targets t front) (held.layer ∷ targets t rest)
 
-pub target_named : (t : Target) (all : List Held) (i : ℕ) (held : Held) → i < length all → held ≡ get_or all i held → is_selected t held ≡ true → targets t (take (i + 1) all) ≡ targets t (take i all) ++ held.layer ∷ []
-target_named t all i held there is e = target_next t all i held there is e
+pub name_repeats : (t : Target) (all : List Held) (i : ℕ) (held : Held) → i < length all → held ≡ get_or all i held → is_selected t held ≡ true →
+    has_name (target_names t (take i all)) held.layer.name ≡ true → has_name_twice (target_names t all) ≡ true
+name_repeats t all i held there is e h =
+    let rest : drop i all ≡ held ∷ drop (suc i) all = drop-cons all i held there ∙ ap (λ (x : Held). x ∷ drop (suc i) all) (sym is) in
+    let parts : all ≡ take i all ++ held ∷ drop (suc i) all = sym (take-append-drop i all) ∙ ap (λ (xs : List Held). take i all ++ xs) rest in
+    ap (λ (xs : List Held). has_name_twice (target_names t xs)) parts
+    ∙ ap has_name_twice (names_from t (take i all) (drop (suc i) all) held e)
+    ∙ twice_seen (target_names t (take i all)) (target_names t (drop (suc i) all)) held.layer.name h
 
-pub other_passed : (t : Target) (all : List Held) (i : ℕ) (held : Held) → i < length all → held ≡ get_or all i held → is_selected t held ≡ false → targets t (take (i + 1) all) ≡ targets t (take i all)
-other_passed t all i held there is e = other_next t all i held there is e
+pub name_differs : (t : Target) (all : List Held) (i : ℕ) (held : Held) → i < length all → held ≡ get_or all i held → is_selected t held ≡ true →
+    has_name (target_names t (take i all)) held.layer.name ≡ false → has_name_twice (target_names t (take i all)) ≡ false → has_name_twice (target_names t (take (i + 1) all)) ≡ false
+name_differs t all i held there is e h once =
+    ap has_name_twice (names_next t all i held there is e) ∙ twice_new (target_names t (take i all)) held.layer.name h once

@@ -15,8 +15,8 @@ use crate::pictures::picture_text;
 use cmd_words::{OutForm, Target};
 use csv_io::write_csv;
 use indexmap::IndexSet;
-use io_core::{Bytes, NameList, Text};
-use run_plane::{Plane, copy_text};
+use io_core::Bytes;
+use run_plane::Plane;
 use run_state::{CommandStop, Ground, Held, RefuseWhy, check_target, is_selected, only_target};
 use std::alloc::{AllocError, Global};
 use topo_io::{ArcLayers, write_topojson};
@@ -104,8 +104,7 @@ fn topology_text(
     ensures accepted { IfOk result (λ text. refused_names (targets target.now layers.now) ≡ None) }
     ensures stops { IfErr result (StopsFor (refused_names (targets target.now layers.now))) }
 {
-    let names = target_names(alloc, layers, target)?;
-    if has_repeat(alloc, names.as_slice())? {
+    if has_repeat(alloc, layers, target)? {
         return Err(CommandStop::Refused(RefuseWhy::NameTwice));
     }
     let drawn = arc_layers(alloc, ground.plane, layers, target)?;
@@ -113,28 +112,13 @@ fn topology_text(
     Ok(text)
 }
 
-// The names of the layers of the target, in order.
-#[tactic(auto, using(crate::proofs::LayerNames::target_named, crate::proofs::LayerNames::other_passed))]
-fn target_names(alloc: Global, layers: &[Held], target: &Target) -> Result<NameList, AllocError>
-    ensures exact { IfOk result (λ names. names ≡ names_of_layers (targets target.now layers.now)) }
-{
-    let mut names = NameList::new(alloc);
-    for held in layers {
-        if is_selected(target, held) {
-            names.push(copy_text(alloc, &held.layer.name)?)?;
-        }
-    }
-    Ok(names)
-}
-
-// Whether two of the names are one.
-#[tactic(auto, using(crate::proofs::LayerNames::name_repeats, crate::proofs::LayerNames::name_differs))]
-fn has_repeat(alloc: Global, names: &[Text]) -> Result<bool, AllocError>
-    ensures exact { IfOk result (λ twice. twice ≡ has_name_twice names.now) }
+// Whether two layers of the target have one name.
+fn has_repeat(alloc: Global, layers: &[Held], target: &Target) -> Result<bool, AllocError>
+    ensures exact { IfOk result (λ twice. twice ≡ has_name_twice (names_of_layers (targets target.now layers.now))) }
 {
     let mut seen = IndexSet::new(alloc);
-    for name in names {
-        if !add_name(alloc, &mut seen, name.as_str())? {
+    for held in layers {
+        if is_selected(target, held) && !add_name(alloc, &mut seen, held.layer.name.as_str())? {
             return Ok(true);
         }
     }

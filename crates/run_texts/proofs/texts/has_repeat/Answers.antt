@@ -1,29 +1,60 @@
-use Rattle.std.proofs.Common.{◌≡◌, ◌++◌, ◌∷◌, [], Bool, List, ap, arith, false, map, not, refl, string_bytes, sym, take, true, ◌∙◌, ℕ}
-use Rattle.std.proofs.lemmas.List.{take_more}
+use Rattle.std.proofs.Common.{◌≡◌, ◌+◌, ◌++◌, ◌∷◌, [], Bool, List, ap, arith, false, map, not, refl, string_bytes, sym, take, true, true≢false, ◌∙◌, ℕ}
 use Rattle.table_terms.specs.Names.{has_name}
-use Rattle.run_texts.proofs.LayerNames.{name_differs}
+use Rattle.run_state.specs.Targets.{is_selected}
+use Rattle.run_state.proofs.TargetLemmas.{other_next}
+use Rattle.run_texts.specs.Written.{has_name_twice, names_of_layers}
+use Rattle.run_texts.proofs.LayerNames.{name_differs, name_repeats, names_next, target_names}
+use Rattle.run_texts.proofs.texts.has_repeat.Goals.{else-is_selected-via-then-is_selected+in_ok-add_name+else-not-branch, else-is_selected-via-else-is_selected}
 use Rattle.run_texts.proofs.texts.has_repeat.Goals as goal
 
-untrue : (b : Bool) → not b ≡ true → b ≡ false
-untrue true h = sym h
-untrue false h = refl
+there : (a b : Bool) → a ≡ not b → a ≡ false → b ≡ true
+there a true e f = refl
+there a false e f = absurd (true≢false (sym e ∙ f))
 
-pub loop-name-preserved : goal.loop-name-preserved
-loop-name-preserved c =
-    let names = c.args.names.now in
-    let i = c.loop-name.name-index in
-    let name = c.name-item.result in
+missing : (a b : Bool) → a ≡ not b → a ≡ true → b ≡ false
+missing a true e f = absurd (true≢false (sym f ∙ e))
+missing a false e f = refl
+
+pub returns-then-not-branch : goal.returns-then-not-branch
+returns-then-not-branch c =
+    let t = c.args.target.now in
+    let all = c.args.layers.now in
+    let i = c.loop-held.held-index in
+    let held = c.held-item.result in
     let text : List ℕ = c.as_str.result.now in
-    let there = c.loop-name-test.true in
-    let lent : text ≡ name = c.as_str.ensures.lent in
-    let before : map string_bytes c.loop-name.seen.keys ≡ take i names = c.loop-name.invariant.seen in
-    let is_new : c.in_ok-add_name.field-0 ≡ true = grind (arith, c.if-not-branch.false) in
-    let fresh : not (has_name (take i names) name) ≡ true =
-    ap (λ (n : List ℕ). not (has_name (take i names) n)) (sym lent) ∙ ap (λ (ns : List (List ℕ)). not (has_name ns text)) (sym before) ∙ sym c.in_ok-add_name.ensures.new ∙ is_new in
-    record {
-      seen = c.in_ok-add_name.ensures.added is_new
-          ∙ ap (λ (ns : List (List ℕ)). ns ++ text ∷ []) before
-          ∙ ap (λ (n : List ℕ). take i names ++ n ∷ []) (lent ∙ c.name-item.is)
-          ∙ sym (take_more names i name there);
-      once = name_differs names i name there c.name-item.is (untrue (has_name (take i names) name) fresh) c.loop-name.invariant.once;
-    }
+    let lent : text ≡ held.layer.name = c.as_str.ensures.lent in
+    let before : map string_bytes c.loop-held.seen.keys ≡ target_names t (take i all) = c.loop-held.invariant.seen in
+    let selected : is_selected t held ≡ true = cc in
+    let is_new : c.in_ok-add_name.field-0 ≡ false = grind (arith, c.if-not-branch.true) in
+    let seen : has_name (map string_bytes c.loop-held.seen.keys) text ≡ true = there c.in_ok-add_name.field-0 (has_name (map string_bytes c.loop-held.seen.keys) text) c.in_ok-add_name.ensures.new is_new in
+    let same : has_name (map string_bytes c.loop-held.seen.keys) text ≡ has_name (target_names t (take i all)) held.layer.name = λ j. has_name (before j) (lent j) in
+    record { exact = sym (name_repeats t all i held c.loop-held-test.true c.held-item.is selected (sym same ∙ seen)) }
+
+pub loop-held-preserved : goal.loop-held-preserved
+loop-held-preserved c =
+    let t = c.args.target.now in
+    let all = c.args.layers.now in
+    let i = c.loop-held.held-index in
+    let held = c.held-item.result in
+    let before : map string_bytes c.loop-held.seen.keys ≡ target_names t (take i all) = c.loop-held.invariant.seen in
+    elim c.else-is_selected.branch [
+      | else-is_selected-via-then-is_selected+in_ok-add_name+else-not-branch w ↦
+          let text : List ℕ = w.as_str.result.now in
+          let lent : text ≡ held.layer.name = w.as_str.ensures.lent in
+          let selected : is_selected t held ≡ true = cc in
+          let is_new : w.in_ok-add_name.field-0 ≡ true = grind (arith, w.if-not-branch.false) in
+          let fresh : has_name (map string_bytes c.loop-held.seen.keys) text ≡ false = missing w.in_ok-add_name.field-0 (has_name (map string_bytes c.loop-held.seen.keys) text) w.in_ok-add_name.ensures.new is_new in
+          let same : has_name (map string_bytes c.loop-held.seen.keys) text ≡ has_name (target_names t (take i all)) held.layer.name = λ j. has_name (before j) (lent j) in
+          let more : map string_bytes c.loop-held.seen.keys ++ text ∷ [] ≡ target_names t (take i all) ++ held.layer.name ∷ [] = λ j. before j ++ lent j ∷ [] in
+          rw w.seen-is (record {
+            seen = w.in_ok-add_name.ensures.added is_new ∙ more ∙ sym (names_next t all i held c.loop-held-test.true c.held-item.is selected);
+            once = name_differs t all i held c.loop-held-test.true c.held-item.is selected (sym same ∙ fresh) c.loop-held.invariant.once;
+          })
+      | else-is_selected-via-else-is_selected w ↦
+          let other : is_selected t held ≡ false = cc in
+          let passed : target_names t (take (i + 1) all) ≡ target_names t (take i all) = ap names_of_layers (other_next t all i held c.loop-held-test.true c.held-item.is other) in
+          rw w.seen-is (record {
+            seen = before ∙ sym passed;
+            once = ap has_name_twice passed ∙ c.loop-held.invariant.once;
+          })
+    ]
