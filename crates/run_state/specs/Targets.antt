@@ -12,6 +12,8 @@ use Rattle.run_plane.specs.declared.layer.Layer.{Layer}
 use Rattle.run_state.specs.declared.refusal.RefuseWhy.{RefuseWhy}
 use Rattle.run_state.specs.declared.refusal.RefuseWhy.TheVariants.{NoLayer}
 use Rattle.run_state.specs.declared.state.Held.{Held}
+use Rattle.run_state.specs.declared.targets.Wanted.{Wanted}
+use Rattle.run_state.specs.declared.targets.Wanted.TheVariants as wanted
 
 -- the command of this target works on the layer: it is a default target, its name is listed, or all are
 abbrev pub is_selected : Target → Held → Bool
@@ -22,6 +24,14 @@ is_selected (target.Names listed) held = has_name listed held.layer.name
 -- the layers that it works on, in order
 abbrev pub targets : Target → List Held → List Layer
 targets t layers = map (λ (held : Held). held.layer) (filter (is_selected t) layers)
+
+-- the layer has the name, or is of the target
+abbrev pub is_wanted : Wanted → Held → Bool
+is_wanted (wanted.Name name) held = bytes_eq name.now held.layer.name
+is_wanted (wanted.Target t) held = is_selected t.now held
+
+abbrev pub wanted_layers : Wanted → List Held → List Layer
+wanted_layers w layers = map (λ (held : Held). held.layer) (filter (is_wanted w) layers)
 
 -- all layers are default targets of the first command
 abbrev pub first_layers : List Layer → List Held

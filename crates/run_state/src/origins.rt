@@ -1,9 +1,9 @@
-ghost use Rattle.std.specs.Prelude.{◌≡◌, ◌-◌, ◌∷◌, [], IfErr, IfOk, map, slice_index_or};
+ghost use Rattle.std.specs.Prelude.{◌≡◌, ◌-◌, [], IfErr, IfOk, map, slice_index_or};
 ghost use Rattle.run_state.specs.Origins.{named_layers, one_layer, origin_layers};
 
 use crate::refusal::RefuseWhy;
 use crate::state::Held;
-use crate::targets::is_layer;
+use crate::targets::{Wanted, only_where};
 use cmd_words::Origin;
 use run_plane::Layer;
 
@@ -37,29 +37,9 @@ fn layers_of(sources: &[Vec<Layer>], number: u32) -> &[Layer]
     }
 }
 
-#[tactic(auto, using(crate::proofs::TargetLemmas::named_first, crate::proofs::TargetLemmas::unnamed_first))]
 fn named_layer<'a>(layers: &'a [Held], name: &str) -> Result<&'a Layer, RefuseWhy>
     ensures ok { IfOk result (λ layer. one_layer (named_layers name.now layers.now) ≡ Ok layer.now) }
     ensures err { IfErr result (λ why. one_layer (named_layers name.now layers.now) ≡ Err why) }
 {
-    let [held, rest @ ..] = layers else {
-        return Err(RefuseWhy::NoLayer);
-    };
-    if name == held.layer.name.as_str() {
-        return only(&held.layer, rest, name);
-    }
-    named_layer(rest, name)
-}
-
-// The first layer of a name, where none after it has the name too.
-#[tactic(auto, using(crate::proofs::TargetLemmas::none_named, crate::proofs::TargetLemmas::some_named))]
-fn only<'a>(first: &'a Layer, rest: &[Held], name: &str) -> Result<&'a Layer, RefuseWhy>
-    ensures ok { IfOk result (λ layer. one_layer (first.now ∷ named_layers name.now rest.now) ≡ Ok layer.now) }
-    ensures err { IfErr result (λ why. one_layer (first.now ∷ named_layers name.now rest.now) ≡ Err why) }
-{
-    if is_layer(rest, name) {
-        Err(RefuseWhy::ManyLayers)
-    } else {
-        Ok(first)
-    }
+    only_where(layers, &Wanted::Name(name))
 }

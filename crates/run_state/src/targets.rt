@@ -1,8 +1,8 @@
-ghost use Rattle.std.specs.Prelude.{◌≡◌, ◌∷◌, IfErr, IfOk, option_copied, slice_get};
+ghost use Rattle.std.specs.Prelude.{◌≡◌, IfErr, IfOk, option_copied, slice_get};
 ghost use Rattle.std.specs.List.{list_all, list_any};
 ghost use Rattle.table_terms.specs.Names.{has_name};
 ghost use Rattle.run_state.specs.Origins.{one_layer};
-ghost use Rattle.run_state.specs.Targets.{TargetAnswers, are_layers, is_layer, is_selected, targets};
+ghost use Rattle.run_state.specs.Targets.{TargetAnswers, are_layers, is_layer, is_selected, is_wanted, targets, wanted_layers};
 
 use crate::refusal::RefuseWhy;
 use crate::state::Held;
@@ -103,29 +103,42 @@ pub fn first_target<'a>(layers: &'a [Held], target: &Target) -> Option<&'a Layer
 }
 
 /// The one layer of a target.
-#[tactic(auto, using(crate::proofs::TargetLemmas::target_first, crate::proofs::TargetLemmas::other_first))]
 pub fn only_target<'a>(layers: &'a [Held], target: &Target) -> Result<&'a Layer, RefuseWhy>
     ensures ok { IfOk result (λ layer. one_layer (targets target.now layers.now) ≡ Ok layer.now) }
     ensures err { IfErr result (λ why. one_layer (targets target.now layers.now) ≡ Err why) }
 {
-    let [held, rest @ ..] = layers else {
-        return Err(RefuseWhy::NoLayer);
-    };
-    if is_selected(target, held) {
-        return sole(&held.layer, rest, target);
-    }
-    only_target(rest, target)
+    only_where(layers, &Wanted::Target(target))
 }
 
-// The first layer of a target, where none after it is of the target too.
-#[tactic(auto, using(crate::proofs::TargetLemmas::no_targets, crate::proofs::TargetLemmas::some_targets))]
-fn sole<'a>(first: &'a Layer, rest: &[Held], target: &Target) -> Result<&'a Layer, RefuseWhy>
-    ensures ok { IfOk result (λ layer. one_layer (first.now ∷ targets target.now rest.now) ≡ Ok layer.now) }
-    ensures err { IfErr result (λ why. one_layer (first.now ∷ targets target.now rest.now) ≡ Err why) }
+/// What a layer is looked for by.
+#[derive(Clone, Copy)]
+pub enum Wanted<'a> {
+    Name(&'a str),
+    Target(&'a Target),
+}
+
+/// The one layer that is wanted.
+pub fn only_where<'a>(layers: &'a [Held], wanted: &Wanted) -> Result<&'a Layer, RefuseWhy>
+    ensures ok { IfOk result (λ layer. one_layer (wanted_layers wanted.now layers.now) ≡ Ok layer.now) }
+    ensures err { IfErr result (λ why. one_layer (wanted_layers wanted.now layers.now) ≡ Err why) }
 {
-    if selects_some(rest, target) {
-        Err(RefuseWhy::ManyLayers)
-    } else {
-        Ok(first)
+    let mut found = None;
+    for held in layers {
+        if is_wanted(wanted, held) {
+            if found.is_some() {
+                return Err(RefuseWhy::ManyLayers);
+            }
+            found = Some(&held.layer);
+        }
+    }
+    found.ok_or(RefuseWhy::NoLayer)
+}
+
+fn is_wanted(wanted: &Wanted, held: &Held) -> bool
+    ensures exact { result ≡ is_wanted wanted.now held.now }
+{
+    match wanted {
+        Wanted::Name(name) => *name == held.layer.name.as_str(),
+        Wanted::Target(target) => is_selected(target, held),
     }
 }
