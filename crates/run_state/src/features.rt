@@ -19,14 +19,21 @@ pub fn take_features(alloc: Global, layer: &Layer, numbers: &IdList) -> Result<L
 }
 
 /// The features of a layer with other shapes, in order; those without geometry are left out.
-pub fn nonempty(alloc: Global, layer: &Layer, shapes: Vec<Shape>) -> Result<Layer, AllocError>
+pub fn nonempty(alloc: Global, layer: &Layer, mut shapes: Vec<Shape>) -> Result<Layer, AllocError>
     requires { length shapes.items ≡ length layer.now.table.rows }
     ensures left { IfOk result (LeavesOut layer.now shapes.items) }
 {
     let all = numbers_below(alloc, layer.table.row_count())?;
     let kept = with_geometry(alloc, &shapes, &all)?;
-    let left = take_shapes(alloc, &shapes, kept.as_slice())?;
-    with_shapes(alloc, layer, &kept, left)
+    leave_out_empty(&mut shapes);
+    with_shapes(alloc, layer, &kept, shapes)
+}
+
+fn leave_out_empty(shapes: &mut Vec<Shape>)
+    ensures left { shapes.new.items ≡ map (shape_at shapes.old.items) (with_geometry shapes.old.items (range_with_len 0 (length shapes.old.items))) }
+    ensures count { length shapes.new.items ≡ length (with_geometry shapes.old.items (range_with_len 0 (length shapes.old.items))) }
+{
+    shapes.retain(|shape| !shape.is_empty());
 }
 
 /// The numbers from 0 below a count.
