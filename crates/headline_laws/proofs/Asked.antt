@@ -13,10 +13,10 @@ use Rattle.run_chain.specs.Running.{ReadsWords}
 use Rattle.word_model.specs.Words.{words_say}
 use Rattle.chain_model.specs.Headline.{sources_of}
 use Rattle.chain_model.specs.Sources.{AreReadings, Readings, imported, whole_room}
-use Rattle.source_laws.specs.Told.{IsOfContents, fault_as}
-use Rattle.source_laws.proofs.Once.{read_once}
-use Rattle.source_laws.proofs.Sources.{accepted_sources, refused_sources}
-use Rattle.run_laws.proofs.Said.{said_by}
+use Rattle.headline_laws.specs.ToldSources.{IsOfContents, fault_as}
+use Rattle.headline_laws.proofs.Once.{read_once}
+use Rattle.headline_laws.proofs.Sources.{accepted_sources, refused_sources}
+use Rattle.headline_laws.proofs.Said.{said_by}
 use Rattle.headline_laws.specs.Ends.{IsAsked}
 
 -- the words of a chain that is asked for

@@ -22,10 +22,10 @@ use Rattle.word_model.specs.Words.{words_say}
 use Rattle.chain_model.specs.Headline.{Binds}
 use Rattle.chain_model.specs.Outcome as model
 use Rattle.chain_model.specs.Running.{SynthesizesOrStops, WordsTell}
-use Rattle.run_laws.specs.Outcomes.{outcome_as}
-use Rattle.run_laws.specs.Refused.{outside_of}
-use Rattle.run_laws.proofs.Said.{said_by}
-use Rattle.run_laws.proofs.Unchanged.{keeps}
+use Rattle.headline_laws.specs.Outcomes.{outcome_as}
+use Rattle.headline_laws.specs.Refused.{outside_of}
+use Rattle.headline_laws.proofs.Said.{said_by}
+use Rattle.headline_laws.proofs.Unchanged.{keeps}
 use Rattle.headline_laws.specs.Ends.{DenseMosaicsEndTheRun}
 use Rattle.headline_laws.proofs.Dense.{dense}
 

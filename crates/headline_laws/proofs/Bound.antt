@@ -22,9 +22,9 @@ use Rattle.chain_model.specs.Running.{Begun, Effect, IsEffectOf, Output, Runs, R
 use Rattle.chain_model.specs.Sources.{Readings}
 use Rattle.state_laws.specs.Shown.{View}
 use Rattle.state_laws.proofs.Zipped.{zip_joined}
-use Rattle.run_laws.specs.Outcomes.{outcome_as}
-use Rattle.run_laws.specs.Refused.{outside_of}
-use Rattle.run_laws.proofs.Unchanged.{unchanged}
+use Rattle.headline_laws.specs.Outcomes.{outcome_as}
+use Rattle.headline_laws.specs.Refused.{outside_of}
+use Rattle.headline_laws.proofs.Unchanged.{unchanged}
 use Rattle.headline_laws.specs.Ends.{IsAsked}
 use Rattle.headline_laws.proofs.Asked.{ChainSaid, chain_said}
 use Rattle.headline_laws.specs.Bound.{BeginsSeen, CommandsAreBound}

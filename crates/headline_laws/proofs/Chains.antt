@@ -14,9 +14,9 @@ use Rattle.word_model.specs.Words.{words_say}
 use Rattle.chain_model.specs.Headline.{Binds, Outside}
 use Rattle.chain_model.specs.Running.{Begun, begins}
 use Rattle.chain_model.specs.Sources.{Readings}
-use Rattle.run_laws.specs.Outcomes.{outcome_as}
-use Rattle.run_laws.specs.Refused.{outside_of}
-use Rattle.run_laws.proofs.Unchanged.{keeps}
+use Rattle.headline_laws.specs.Outcomes.{outcome_as}
+use Rattle.headline_laws.specs.Refused.{outside_of}
+use Rattle.headline_laws.proofs.Unchanged.{keeps}
 use Rattle.headline_laws.specs.Begins.{BegunShows}
 use Rattle.headline_laws.specs.Ends.{IsAsked}
 use Rattle.headline_laws.proofs.Beginning.{begun_alike}

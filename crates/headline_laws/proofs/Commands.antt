@@ -31,9 +31,9 @@ use Rattle.chain_model.specs.Steps.{Stepped, step}
 use Rattle.state_laws.specs.Reasons.{why_of}
 use Rattle.state_laws.specs.Shown.{View, StateShows, plane_of}
 use Rattle.state_laws.specs.Steps.{StepGives, StepRefuses}
-use Rattle.run_laws.specs.Outcomes.{outcome_as, refusal_as}
-use Rattle.run_laws.specs.Refused.{outside_of}
-use Rattle.run_laws.proofs.Unchanged.{unchanged}
+use Rattle.headline_laws.specs.Outcomes.{outcome_as, refusal_as}
+use Rattle.headline_laws.specs.Refused.{outside_of}
+use Rattle.headline_laws.proofs.Unchanged.{unchanged}
 use Rattle.headline_laws.specs.ChainSteps.{ActionShows, CommandsShow, WriteGives}
 use Rattle.headline_laws.proofs.Effects.{CutOff, cut_off, effect, held_on, place_of, whole_held}
 

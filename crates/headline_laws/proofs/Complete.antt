@@ -33,10 +33,10 @@ use Rattle.chain_model.specs.Outcome as model
 use Rattle.chain_model.specs.Running.{Begun, Effect, JobTells, Runs, RunsOrStops, SynthesizesOrStops, WordsTell, begins, checked_density, run_from}
 use Rattle.chain_model.specs.Sources.{AreReadings, Readings}
 use Rattle.state_laws.specs.Shown.{StateShows, View, plane_of}
-use Rattle.run_laws.specs.Causes.{counts_of}
-use Rattle.run_laws.specs.Outcomes.{outcome_as}
-use Rattle.run_laws.specs.Refused.{outside_of}
-use Rattle.run_laws.proofs.Said.{said_by}
+use Rattle.headline_laws.specs.Causes.{counts_of}
+use Rattle.headline_laws.specs.Outcomes.{outcome_as}
+use Rattle.headline_laws.specs.Refused.{outside_of}
+use Rattle.headline_laws.proofs.Said.{said_by}
 use Rattle.headline_laws.specs.Begins.{BegunShows}
 use Rattle.headline_laws.specs.Ends.{IsAsked, IsOfContents}
 use Rattle.headline_laws.proofs.Beginning.{begun_alike}

@@ -9,8 +9,8 @@ use Rattle.table_terms.specs.Names.{Text}
 use Rattle.run_chain.specs.Effects.{OutsideSeen, CutsText, GainsFront, HoldsFront, WroteText}
 use Rattle.chain_model.specs.Headline.{EachName, HoldsAfter, held_after, streamed}
 use Rattle.chain_model.specs.Running.{Effect}
-use Rattle.run_laws.specs.Refused.{outside_of}
-use Rattle.run_laws.proofs.Unchanged.{no_text}
+use Rattle.headline_laws.specs.Refused.{outside_of}
+use Rattle.headline_laws.proofs.Unchanged.{no_text}
 
 -- ## Streams
 

@@ -29,9 +29,9 @@ use Rattle.chain_model.specs.Outcome as model
 use Rattle.chain_model.specs.Running.{Begun, RunsOrStops, WordsTell, begins, begun_with, checked_density}
 use Rattle.chain_model.specs.Sources.{Readings}
 use Rattle.state_laws.proofs.Begun.{drawings_are_one}
-use Rattle.run_laws.specs.Outcomes.{outcome_as}
-use Rattle.run_laws.specs.Refused.{outside_of}
-use Rattle.run_laws.proofs.Unchanged.{keeps}
+use Rattle.headline_laws.specs.Outcomes.{outcome_as}
+use Rattle.headline_laws.specs.Refused.{outside_of}
+use Rattle.headline_laws.proofs.Unchanged.{keeps}
 use Rattle.headline_laws.specs.Ends.{ChainsEndBeforeTheyBegin, ContentsEndChains, IsAsked, IsOfContents}
 use Rattle.headline_laws.proofs.Asked.{ChainSaid, all_imported, chain_said, one_refused}
 use Rattle.headline_laws.proofs.Dense.{dense}

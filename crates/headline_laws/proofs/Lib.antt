@@ -1,3 +1,17 @@
+pub mod Counts
+pub mod Lengths
+pub mod CommandFaults
+pub mod Said
+pub mod Causes
+pub mod Unchanged
+pub mod Refused
+pub mod Messages
+pub mod Formats
+pub mod Unique
+pub mod Decoded
+pub mod Reading
+pub mod Sources
+pub mod Once
 pub mod Texts
 pub mod Steps
 pub mod Same

@@ -25,10 +25,10 @@ use Rattle.chain_model.specs.Outcome as model
 use Rattle.chain_model.specs.Running.{Effect, Synthesizes, SynthesizesOrStops, WordsTell, checked_density}
 use Rattle.chain_model.specs.Sources.{Readings}
 use Rattle.chain_model.specs.Synth.{IsSynthLine}
-use Rattle.run_laws.specs.Outcomes.{outcome_as}
-use Rattle.run_laws.specs.Refused.{outside_of}
-use Rattle.run_laws.proofs.Said.{said_by}
-use Rattle.run_laws.proofs.Unchanged.{keeps, unchanged}
+use Rattle.headline_laws.specs.Outcomes.{outcome_as}
+use Rattle.headline_laws.specs.Refused.{outside_of}
+use Rattle.headline_laws.proofs.Said.{said_by}
+use Rattle.headline_laws.proofs.Unchanged.{keeps, unchanged}
 use Rattle.headline_laws.specs.Ends.{IsAsked}
 use Rattle.headline_laws.specs.Mosaics.{LineShows}
 use Rattle.headline_laws.proofs.BegunMosaics.{dense_ends}

@@ -13,14 +13,14 @@ use Rattle.run_chain.specs.Running.{JobRuns, ReadsWords, WordsRun}
 use Rattle.word_model.specs.Words.{words_say}
 use Rattle.chain_model.specs.Headline.{Binds, HasCause, Headline, needed_files, needed_input}
 use Rattle.chain_model.specs.Sources.{AreReadings, Readings}
-use Rattle.source_laws.specs.Told.{AreTold}
-use Rattle.run_laws.specs.Causes.{counts_of}
-use Rattle.run_laws.specs.Outcomes.{outcome_as}
-use Rattle.run_laws.specs.Refused.{outside_of}
-use Rattle.run_laws.proofs.Causes.{causes}
-use Rattle.run_laws.proofs.Refused.{refused_words}
-use Rattle.run_laws.proofs.Said.{said_by}
-use Rattle.run_laws.proofs.Unchanged.{unchanged}
+use Rattle.headline_laws.specs.ToldSources.{AreTold}
+use Rattle.headline_laws.specs.Causes.{counts_of}
+use Rattle.headline_laws.specs.Outcomes.{outcome_as}
+use Rattle.headline_laws.specs.Refused.{outside_of}
+use Rattle.headline_laws.proofs.Causes.{causes}
+use Rattle.headline_laws.proofs.Refused.{refused_words}
+use Rattle.headline_laws.proofs.Said.{said_by}
+use Rattle.headline_laws.proofs.Unchanged.{unchanged}
 use Rattle.headline_laws.specs.Runs.{AnswersAreBound}
 use Rattle.headline_laws.proofs.Chains.{chain_bound}
 use Rattle.headline_laws.proofs.Mosaics.{mosaic_bound}

@@ -9,8 +9,8 @@ use Rattle.run_chain.specs.Effects.{OutsideSeen}
 use Rattle.word_model.specs.Words.{words_say}
 use Rattle.chain_model.specs.Headline.{Binds, HoldsAfter, Outside}
 use Rattle.chain_model.specs.Sources.{Readings}
-use Rattle.run_laws.specs.Outcomes.{outcome_as}
-use Rattle.run_laws.specs.Refused.{outside_of}
+use Rattle.headline_laws.specs.Outcomes.{outcome_as}
+use Rattle.headline_laws.specs.Refused.{outside_of}
 
 files_same : (a b : Option FileMap) → SameFiles a b → b ≡ a
 files_same None None s = refl

@@ -1,5 +1,5 @@
 -- All that binds a run.
-use Rattle.run_laws.proofs.Messages.{messages}
+use Rattle.headline_laws.proofs.Messages.{messages}
 use Rattle.headline_laws.specs.Runs.{RunsAreOfTheModel}
 use Rattle.headline_laws.proofs.Complete.{complete}
 use Rattle.headline_laws.proofs.Runs.{cause, means}

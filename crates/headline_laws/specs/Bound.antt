@@ -15,8 +15,8 @@ use Rattle.chain_model.specs.Headline.{Binds}
 use Rattle.chain_model.specs.Running.{Begun, begins}
 use Rattle.chain_model.specs.Sources.{Readings}
 use Rattle.state_laws.specs.Shown.{View, IsView, StateShows, plane_of}
-use Rattle.run_laws.specs.Outcomes.{outcome_as}
-use Rattle.run_laws.specs.Refused.{outside_of}
+use Rattle.headline_laws.specs.Outcomes.{outcome_as}
+use Rattle.headline_laws.specs.Refused.{outside_of}
 use Rattle.headline_laws.specs.Ends.{IsAsked}
 use Rattle.headline_laws.specs.ChainSteps.{CommandsShow, EachHasText}
 

@@ -13,9 +13,9 @@ use Rattle.word_model.specs.Words.{words_say}
 use Rattle.chain_model.specs.Headline.{Binds}
 use Rattle.chain_model.specs.Running.{begins}
 use Rattle.chain_model.specs.Sources.{AreReadings, Readings}
-use Rattle.source_laws.specs.Told.{AreTold}
-use Rattle.run_laws.specs.Outcomes.{outcome_as}
-use Rattle.run_laws.specs.Refused.{outside_of}
+use Rattle.headline_laws.specs.ToldSources.{AreTold}
+use Rattle.headline_laws.specs.Outcomes.{outcome_as}
+use Rattle.headline_laws.specs.Refused.{outside_of}
 
 -- the words ask for this job, and files hold these contents and standard input these bytes, as far as they are its
 -- sources

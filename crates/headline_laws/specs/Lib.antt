@@ -1,3 +1,9 @@
+pub mod Outcomes
+pub mod Causes
+pub mod Refused
+pub mod Messages
+pub mod ToldSources
+pub mod Imported
 pub mod Steps
 pub mod Texts
 pub mod Runs

@@ -10,9 +10,9 @@ use Rattle.run_chain.specs.Running.{WordsRun}
 use Rattle.word_model.specs.Words.{words_say}
 use Rattle.chain_model.specs.Headline.{Headline, IsRunOf, Seen}
 use Rattle.chain_model.specs.Sources.{AreReadings, Readings}
-use Rattle.run_laws.specs.Causes.{counts_of}
-use Rattle.run_laws.specs.Outcomes.{outcome_as}
-use Rattle.run_laws.specs.Refused.{outside_of}
+use Rattle.headline_laws.specs.Causes.{counts_of}
+use Rattle.headline_laws.specs.Outcomes.{outcome_as}
+use Rattle.headline_laws.specs.Refused.{outside_of}
 
 -- what is seen before or after a run
 abbrev pub seen_of : SourcesSeen → OutsideSeen → StreamSeen → Seen

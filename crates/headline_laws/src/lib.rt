@@ -25,6 +25,10 @@
 //! Each function carries one law in its contract, and does nothing.
 #![tactic(auto)]
 
+ghost use Rattle.headline_laws.specs.Causes.{FaultsHaveCauses};
+ghost use Rattle.headline_laws.specs.Messages.{MessagesAreOfTheModel};
+ghost use Rattle.headline_laws.specs.Refused.{FaultsAreNamed, RefusedWordsEndTheRun};
+ghost use Rattle.headline_laws.specs.Imported.{AcceptedSourcesAreImported, RefusedSourcesAreRefused, StandardInputIsReadOnce};
 ghost use Rattle.headline_laws.specs.Begins.{ChainsBegin};
 ghost use Rattle.headline_laws.specs.Ends.{ChainsEndBeforeTheyBegin, ContentsEndChains, DenseMosaicsEndTheRun};
 ghost use Rattle.headline_laws.specs.Mosaics.{LinesOfMosaicsShow};
@@ -186,4 +190,43 @@ pub fn steps_are_of_words()
 /// cause, when it has to be Done, and its message.
 pub fn runs_are_of_the_model()
     ensures { RunsAreOfTheModel }
+{}
+
+/// Words name standard input as a source once at most.
+pub fn standard_input_is_read_once()
+    ensures { StandardInputIsReadOnce }
+{}
+
+/// Where contents are told, sources that all gave layers are imported as these layers.
+pub fn accepted_sources_are_imported()
+    ensures { AcceptedSourcesAreImported }
+{}
+
+/// Where contents are told, sources that a fault of their contents stopped are refused for that fault.
+pub fn refused_sources_are_refused()
+    ensures { RefusedSourcesAreRefused }
+{}
+
+/// The end that a fault of words, of a source or of the drawing brings has the name that the model of a run gives it.
+pub fn faults_are_named()
+    ensures { FaultsAreNamed }
+{}
+
+/// Whenever a run answers a failed read, a missing file, sources that are too long or a failed write, a count of the
+/// outside rose, or told files lack the name. Words are told to be bad only as the table refuses them, and all else but
+/// want of memory is answered only of words that it accepts, of their sources and commands.
+pub fn faults_have_causes()
+    ensures { FaultsHaveCauses }
+{}
+
+/// Words that the table of commands refuses end a run: just that is answered, or want of memory, and nothing changes,
+/// as the model of a run binds it.
+pub fn refused_words_end_the_run()
+    ensures { RefusedWordsEndTheRun }
+{}
+
+/// What a run tells of its outcome is what the model of a run tells: the line of just that outcome, or a first part of
+/// it.
+pub fn messages_are_of_the_model()
+    ensures { MessagesAreOfTheModel }
 {}

@@ -3,7 +3,7 @@ ghost use Rattle.word_model.specs.Words.{words_say};
 ghost use Rattle.chain_model.specs.Headline.{HasCause, IsRunOf};
 ghost use Rattle.chain_model.specs.Sources.{AreReadings, Readings};
 ghost use Rattle.run_chain.specs.Running.{WordsRun};
-ghost use Rattle.run_laws.specs.Outcomes.{outcome_as};
+ghost use Rattle.headline_laws.specs.Outcomes.{outcome_as};
 ghost use Rattle.run_outcome.specs.Telling.{TellsOutcome};
 
 use io_core::{Files, Sink, Source, Words};

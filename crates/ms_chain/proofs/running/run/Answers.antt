@@ -1,5 +1,5 @@
 use Rattle.std.proofs.Common.{refl}
-use Rattle.run_laws.proofs.Causes.{causes}
+use Rattle.headline_laws.proofs.Causes.{causes}
 use Rattle.headline_laws.proofs.Whole.{runs_are_of_the_model}
 use Rattle.ms_chain.proofs.running.run.Goals as goal
 

@@ -1,5 +1,0 @@
-use Rattle.run_laws.proofs.Refused.{faults_named}
-use Rattle.run_laws.proofs.faults_are_named.Goals as goal
-
-pub returns : goal.returns
-returns c = faults_named

@@ -1,5 +1,0 @@
-use Rattle.run_laws.proofs.Causes.{causes}
-use Rattle.run_laws.proofs.faults_have_causes.Goals as goal
-
-pub returns : goal.returns
-returns c = causes

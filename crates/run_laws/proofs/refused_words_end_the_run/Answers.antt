@@ -1,5 +1,0 @@
-use Rattle.run_laws.proofs.Refused.{refused_words}
-use Rattle.run_laws.proofs.refused_words_end_the_run.Goals as goal
-
-pub returns : goal.returns
-returns c = refused_words

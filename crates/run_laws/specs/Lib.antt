@@ -1,4 +1,0 @@
-pub mod Outcomes
-pub mod Causes
-pub mod Refused
-pub mod Messages

@@ -1,5 +1,0 @@
-use Rattle.source_laws.proofs.Once.{read_once}
-use Rattle.source_laws.proofs.standard_input_is_read_once.Goals as goal
-
-pub returns : goal.returns
-returns c = read_once
