@@ -4,6 +4,10 @@
 //! all commands in order (`all_commands_show`). There is a text of whatever an output writes
 //! (`each_output_has_a_text`). So the answer of a run binds what is there afterwards (`answers_are_bound`).
 //!
+//! - **Sources and ends.** What a run reads of its sources is what the model imports (`accepted_sources_are_imported`,
+//!   `refused_sources_are_refused`), and words name standard input once at most (`standard_input_is_read_once`). Faults
+//!   have the names and the causes that the model asks (`faults_are_named`, `faults_have_causes`), refused words end a
+//!   run (`refused_words_end_the_run`), and its line is that of the model (`messages_are_of_the_model`).
 //! - **How a run begins, or ends before.** Where files and standard input tell what they hold, a chain that ends at
 //!   a source, or at the drawing of all of them, ends there in the model too (`contents_end_chains`), and its
 //!   answer binds what is there afterwards (`chains_end_before_they_begin`). Where its commands begin, the layers

@@ -18,7 +18,7 @@ use Rattle.cmd_words.specs.declared.fault.ExprWhy.{ExprWhy}
 use Rattle.cmd_words.specs.declared.fault.ExprWhy.TheVariants as expr
 use Rattle.chain_model.specs.Outcome.{InputWhy, syntax, depth, utf8, shape, topo, no_header, repeated_name, too_many_rows, unequal_row}
 use Rattle.chain_model.specs.Sources.{IsJsonFault}
-use Rattle.source_laws.proofs.Unique.{end_one, fault_kind, fault_place}
+use Rattle.headline_laws.proofs.Unique.{end_one, fault_kind, fault_place}
 use Rattle.outcome_laws.specs.Laws.{ReadingsAreOne}
 
 -- ## Texts of JSON
