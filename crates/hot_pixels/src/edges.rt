@@ -38,13 +38,31 @@ fn slot_of(s: &Seg, slots: usize) -> usize {
     (high.wrapping_mul(slots as u64) >> 32) as usize
 }
 
+// The number, if it is that of a segment's edge.
+fn edge_at(edges: &[Seg], i: u32, s: &Seg) -> Option<u32>
+    ensures { IfSome result (λ i. HasEdgeAt edges.now s.now i) }
+{
+    let edge = edges.get(i as usize)?;
+    if is_along(edge, s) { Some(i) } else { None }
+}
+
 /// The number of a segment's edge, if it is the one that stands at this place of a list of numbers.
 pub fn known_edge(edges: &[Seg], numbers: &[u32], place: usize, s: &Seg) -> Option<u32>
     ensures { IfSome result (λ i. HasEdgeAt edges.now s.now i) }
 {
     let i = *numbers.get(place)?;
-    let edge = edges.get(i as usize)?;
-    if is_along(edge, s) { Some(i) } else { None }
+    edge_at(edges, i, s)
+}
+
+// The number of a segment's edge, if it stands next to that of the segment before: a path that goes back along another,
+// as where two areas meet, passes its edges in reverse.
+fn edge_beside(edges: &[Seg], last: u32, s: &Seg) -> Option<u32>
+    ensures { IfSome result (λ i. HasEdgeAt edges.now s.now i) }
+{
+    match edge_at(edges, last.wrapping_sub(1), s) {
+        Some(i) => Some(i),
+        None => edge_at(edges, last.wrapping_add(1), s),
+    }
 }
 
 // A count as a number of 32 bits. More edges are out of memory.
@@ -55,10 +73,18 @@ fn next_number(count: usize) -> Result<u32, AllocError> {
     Ok(count as u32)
 }
 
-// The number of a segment's edge, which is added if the table doesn't lead to it.
-fn add_edge(edges: &mut Vec<Seg>, table: &mut Vec<u32>, s: &Seg) -> Result<u32, AllocError>
+// The number of a segment's edge, which is added if neither the edge of the segment before nor the table leads to it.
+fn add_edge(
+    edges: &mut Vec<Seg>,
+    table: &mut Vec<u32>,
+    last: u32,
+    s: &Seg,
+) -> Result<u32, AllocError>
     ensures { OnOk result (IsEdgeAdded edges.old.items edges.new.items s.now) }
 {
+    if let Some(i) = edge_beside(edges, last, s) {
+        return Ok(i);
+    }
     let slot = slot_of(s, table.len());
     if let Some(i) = known_edge(edges, table, slot, s) {
         return Ok(i);
@@ -79,11 +105,12 @@ pub fn edges_of(alloc: Global, segments: &[Seg]) -> Result<Edges, AllocError>
     ensures { IfOk result (λ found. AreEdgesOf segments.now found.segments.items) }
 {
     let mut table = vec![in alloc; 0; segments.len().saturating_mul(2)]?;
-    let mut edges = Vec::new(alloc);
+    let mut edges = Vec::with_capacity(alloc, segments.len())?;
     let mut numbers = Vec::with_capacity(alloc, segments.len())?;
+    let mut last = 0;
     for s in segments {
-        let i = add_edge(&mut edges, &mut table, s)?;
-        numbers.push(i)?;
+        last = add_edge(&mut edges, &mut table, last, s)?;
+        numbers.push(last)?;
     }
     Ok(Edges {
         segments: edges,
