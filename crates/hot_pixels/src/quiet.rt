@@ -186,7 +186,7 @@ fn add_others(points: &mut Vec<Pt>, met: &[Pt], s: &Seg) -> Result<(), AllocErro
 pub fn with_ends(alloc: Global, met: &[Pt], s: &Seg) -> Result<Vec<Pt>, AllocError>
     ensures { IfOk result (λ all. all.items ≡ ends_of s.now ++ others_of s.now met.now) }
 {
-    let mut all = Vec::new(alloc);
+    let mut all = Vec::with_capacity(alloc, met.len().saturating_add(2))?;
     add_ends(&mut all, s)?;
     add_others(&mut all, met, s)?;
     Ok(all)
