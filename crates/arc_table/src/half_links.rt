@@ -142,7 +142,8 @@ pub struct LinkedStep {
     pub link: u32,
 }
 
-// Both steps along each link, in order. The steps up stand in order already, as the links do.
+// Both steps along each link, in order. The steps up stand in order already, as the links do: a stable sort keeps them,
+// and sorts the others alone.
 fn linked_steps(alloc: Global, links: &[Link]) -> Result<Vec<LinkedStep>, AllocError>
     ensures exact { IfOk result (λ v. AreSteps links.now (map (λ s. s.step) v.items)) }
     ensures few { IfOk result (λ v. length v.items < 2 ^ 32) }
@@ -153,7 +154,7 @@ fn linked_steps(alloc: Global, links: &[Link]) -> Result<Vec<LinkedStep>, AllocE
     let mut steps = Vec::with_capacity(alloc, 2 * links.len())?;
     push_up(&mut steps, links)?;
     push_down(&mut steps, links)?;
-    steps.sort_unstable();
+    steps.sort()?;
     Ok(steps)
 }
 
@@ -274,8 +275,9 @@ fn stands_at(steps: &[Step], h: usize, step: Step) -> bool
     }
 }
 
+/// Whether two steps are the same.
 #[tactic(auto, using(crate::proofs::StepSearch::same_ends))]
-fn is_step(a: Step, b: Step) -> bool
+pub fn is_step(a: Step, b: Step) -> bool
     ensures same { result ≡ true → a ≡ b }
 {
     is_same(a.from(), b.from()) && is_same(a.to(), b.to())

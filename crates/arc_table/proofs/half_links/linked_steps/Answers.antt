@@ -11,9 +11,9 @@ returns-clause-exact c =
     let step : LinkedStep → Segment = λ s. s.step in
     let S = c.args.links.now in
     let made = c.push_down.new.steps.items in
-    let sorted = c.sort_unstable.new.self.items in
+    let sorted = c.sort.new.self.items in
     let both : map step made ≡ S ++ map reversed S = c.in_ok-push_down.ensures.pushed ∙ ap (λ (xs : List Segment). xs ++ map reversed S) (c.in_ok-push_up.ensures.pushed ∙ ap (λ (xs : List LinkedStep). map step xs ++ S) c.in_ok-steps.ensures.items) in
     record {
-      all = subst (λ (xs : List Segment). IsPermutation xs (map step sorted)) both (IsPermutation-map step made sorted c.sort_unstable.ensures.permutation);
-      sorted = sorted_steps sorted c.sort_unstable.ensures.sorted;
+      all = subst (λ (xs : List Segment). IsPermutation xs (map step sorted)) both (IsPermutation-map step made sorted c.in_ok-sort.ensures.permutation);
+      sorted = sorted_steps sorted c.in_ok-sort.ensures.sorted;
     }
