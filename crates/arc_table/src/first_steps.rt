@@ -1,4 +1,5 @@
 ghost use Rattle.std.specs.Prelude.{◌≡◌, ◌+◌, ◌<◌, ◌≤◌, All, IfOk, length, map};
+ghost use Rattle.std.specs.List.Sorted.{IsPermutation};
 ghost use Rattle.std.specs.Ordering.{is_lt};
 ghost use Rattle.arc_table.specs.Around.{signed_below, first_of, half_of, comes_round_first, comes_first};
 ghost use Rattle.plane_model.specs.Arcs.{goes_up};
@@ -40,6 +41,47 @@ fn starting(from: Pt, to: Pt, arc: SignedArc) -> FirstStep
         step: Step::new(from, to),
         arc,
     }
+}
+
+/// Turns the steps from each vertex, which stand in a row, counterclockwise; it is proved only that they are the same.
+pub fn turn_rows(firsts: &mut [FirstStep])
+    ensures same { IsPermutation firsts.old firsts.new }
+{
+    for i in 0..firsts.len() {
+        if begins_row(firsts, i) {
+            let end = row_end(firsts, i);
+            turn_row(firsts, i, end);
+        }
+    }
+}
+
+fn turn_row(firsts: &mut [FirstStep], first: usize, end: usize)
+    requires ordered { first ≤ end }
+    requires within { end ≤ length firsts.old }
+    ensures same { IsPermutation firsts.old firsts.new }
+{
+    firsts[first..end].sort_unstable_by(turning);
+}
+
+// Whether the step before is not from the same vertex.
+fn begins_row(firsts: &[FirstStep], i: usize) -> bool
+    requires { i < length firsts.now }
+{
+    i == 0 || !is_same(firsts[i - 1].step.from(), firsts[i].step.from())
+}
+
+// The place after the last step of the row that begins at `first`.
+fn row_end(firsts: &[FirstStep], first: usize) -> usize
+    requires { first < length firsts.now }
+    ensures after { first ≤ result }
+    ensures within { result ≤ length firsts.now }
+{
+    for k in first + 1..firsts.len() {
+        if begins_row(firsts, k) {
+            return k;
+        }
+    }
+    firsts.len()
 }
 
 /// The order by start, and at one start counterclockwise from the direction of the positive x axis.

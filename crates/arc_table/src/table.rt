@@ -10,7 +10,7 @@ ghost use Rattle.arc_table.specs.PathArcs.{IsAloneAt};
 ghost use Rattle.arc_table.specs.WholeArcs.{IsWholeArc, StartsAtLeast};
 
 use crate::direction::{is_before, is_same};
-use crate::first_steps::{FirstStep, first_steps, turning};
+use crate::first_steps::{FirstStep, first_steps, turn_rows, turning};
 use crate::half_links::{Net, Step, place_of};
 use crate::nodes::turns_of;
 use crate::numbering::{pool_of, ways_of};
@@ -75,6 +75,7 @@ impl ArcTable {
         let net = Net::of(alloc, s.links(), &turns)?;
         let ways = ways_of(alloc, &net, s)?;
         let arcs = pool_of(alloc, &net, &ways)?;
+        drop(net);
         ArcTable::of_arcs(alloc, arcs)
     }
 
@@ -89,9 +90,12 @@ impl ArcTable {
         let begins = steps_of(alloc, &firsts)?;
         let begun = arcs_of(alloc, &firsts)?;
         let mut by_turn = firsts;
+        // After this the sort has only to find the steps in order.
+        turn_rows(&mut by_turn);
         by_turn.sort_unstable_by(turning);
         let starts = starts_of(alloc, &by_turn)?;
         let outs = arcs_of(alloc, &by_turn)?;
+        drop(by_turn);
         let vertices = vertices_in_order(alloc, &arcs)?;
         Ok(ArcTable {
             arcs,

@@ -1,9 +1,9 @@
-use Rattle.std.proofs.Common.{rules, ◌≡◌, ◌<◌, ℕ, List, length, map, sym, ap, subst, ◌∙◌}
+use Rattle.std.proofs.Common.{rules, ◌≡◌, ◌<◌, ℕ, List, ◌++◌, length, map, take, drop, sym, ap, subst, ◌∙◌}
 use Rattle.std.specs.List.Sorted.{IsPermutation}
 use Rattle.std.specs.Ordering.{ordering_then, nat_cmp, bool_cmp}
-use Rattle.std.proofs.lemmas.List.{length-map}
+use Rattle.std.proofs.lemmas.List.{length-map, take_at}
 use Rattle.std.proofs.lemmas.List.Elements.{All-same}
-use Rattle.std.proofs.lemmas.List.Sorted.{All-permutation, IsPermutation-trans, answers_always}
+use Rattle.std.proofs.lemmas.List.Sorted.{All-permutation, IsPermutation-trans, answers_always, length_permutation}
 use Rattle.plane_model.specs.Points.{GridPoint}
 use Rattle.plane_model.specs.Arcs.{SignedArc}
 use Rattle.arc_table.specs.FirstSteps.{IsThere}
@@ -27,7 +27,12 @@ invariant_of-result c =
     let made : List FirstStep = map (first_of c.args.arcs.spans) (signed_below n) in
     let sorted = c.sort_unstable.new.self.items in
     let begun : IsPermutation made sorted = subst (λ (fs : List FirstStep). IsPermutation fs sorted) c.in_ok-firsts.ensures.exact c.sort_unstable.ensures.permutation in
-    let moved : IsPermutation made turned = IsPermutation-trans made sorted turned begun c.sort_unstable_by.ensures.permutation in
+    let rows = c.turn_rows.new.firsts in
+    let by_rows : IsPermutation sorted rows = subst (λ (fs : List FirstStep). IsPermutation fs rows) c.deref_mut.ensures.value c.turn_rows.ensures.same in
+    let len = c.sort_unstable.new.self.len in
+    let size : length sorted ≡ len = search rules in
+    let by_turn : IsPermutation sorted (take len (rows ++ drop (length rows) sorted)) = subst (IsPermutation sorted) (sym (take_at rows (drop (length rows) sorted) len (length_permutation sorted rows by_rows ∙ size))) by_rows in
+    let moved : IsPermutation made turned = IsPermutation-trans made sorted turned begun (IsPermutation-trans sorted (take len (rows ++ drop (length rows) sorted)) turned by_turn c.sort_unstable_by.ensures.permutation) in
     let in_order = c.sort_unstable_by.ensures.sorted (λ (f : FirstStep) (g : FirstStep). comes_first f.step g.step) (comes_first-IsStrictWeakOrder (λ (f : FirstStep). f.step))
     (answers_always _ _ _ (λ f a r g k. search rules)) in
     let turned_there = All-permutation there made turned moved all_there in
