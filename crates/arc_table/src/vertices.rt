@@ -23,11 +23,20 @@ pub fn vertices_in_order(alloc: Global, arcs: &SpanPool) -> Result<Vec<ArcVertex
     Ok(vertices)
 }
 
+// How many vertices the arcs have. It is not proved: a wrong one costs time alone.
+fn vertex_count(arcs: &SpanPool) -> usize {
+    let mut count: usize = 0;
+    for n in 0..arcs.count() {
+        count = count.saturating_add(arcs.get(SpanId::new(n)).len());
+    }
+    count
+}
+
 // The vertices of all arcs, arc by arc.
 fn vertices_of(alloc: Global, arcs: &SpanPool) -> Result<Vec<ArcVertex>, AllocError>
     ensures exact { IfOk result (λ v. v.items ≡ vertices_below arcs.now.spans (length arcs.now.spans)) }
 {
-    let mut vertices = Vec::new(alloc);
+    let mut vertices = Vec::with_capacity(alloc, vertex_count(arcs))?;
     for n in 0..arcs.count() {
         push_vertices(&mut vertices, ArcId::new(n), arcs.get(SpanId::new(n)))?;
     }
@@ -37,7 +46,6 @@ fn vertices_of(alloc: Global, arcs: &SpanPool) -> Result<Vec<ArcVertex>, AllocEr
 fn push_vertices(vertices: &mut Vec<ArcVertex>, arc: ArcId, points: &[Pt]) -> Result<(), AllocError>
     ensures { OnOk result (vertices.new.items ≡ vertices.old.items ++ map (λ p. record { at = p; arc = arc }) points.now) }
 {
-    vertices.reserve(points.len())?;
     for p in points {
         vertices.push(ArcVertex { at: *p, arc })?;
     }
