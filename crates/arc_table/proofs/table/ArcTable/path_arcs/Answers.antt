@@ -38,7 +38,7 @@ loop-i-preserved c =
         subst (Follows arcs path (i + 1 - 1) c.if-inside-gt0.inside) (sym w.arcs-is) (subst (λ (k : ℕ). Follows arcs path (i + 1 - 1) k c.loop-i.arcs) (sym w.inside-is)
             (follows_on arcs path i w.index-points-i.result w.index-points-i-else-inside-gt0.result w.new.result (omega arith) (omega arith) (read (i - 1) w.index-points-i.result w.index-points-i.is)
             (read i w.index-points-i-else-inside-gt0.result w.index-points-i-else-inside-gt0.is) w.new.ensures.made c.loop-i.inside (i + 1 - 1) c.loop-i.arcs (omega arith)
-            (none_of arcs w.new.result w.begun_by.result w.begun_by.ensures.exact w.in_default.not-Some) (omega arith) found)),
+            (none_of arcs w.new.result w.begun_near.result w.begun_near.ensures.exact w.in_default.not-Some) (omega arith) found)),
       )
     ]
 
