@@ -44,6 +44,8 @@ impl Labels {
         let all = polygon_steps(alloc, t, s)?;
         let polygons = held_lists(alloc, f, &crossings, &all.steps)?;
         let holders = owner_lists(alloc, &all.owners, &polygons)?;
+        drop(polygons);
+        drop(all);
         let steps = box_steps(alloc, t, s)?;
         let boxes = held_lists(alloc, f, &crossings, &steps)?;
         Ok(Labels { holders, boxes })
@@ -104,7 +106,8 @@ fn empty_lists(alloc: Global, count: u32) -> Result<Vec<Vec<u32>>, AllocError>
 fn flipped(alloc: Global, held: &[u32], steps: &[RingStep]) -> Result<Vec<u32>, AllocError>
     ensures exact { IfOk result (λ v. AreAcross steps.now held.now v.items) }
 {
-    let mut items = Vec::from_slice(alloc, held)?;
+    let mut items = Vec::with_capacity(alloc, held.len().saturating_add(steps.len()))?;
+    items.extend_from_slice(held)?;
     for s in steps {
         items.push(s.item)?;
     }
@@ -117,7 +120,7 @@ fn odd_ones(alloc: Global, sorted: &[u32]) -> Result<Vec<u32>, AllocError>
     requires sorted { IsNonDecreasing sorted.now }
     ensures exact { IfOk result (λ v. AreOddOnes sorted.now v.items) }
 {
-    let mut odd = Vec::new(alloc);
+    let mut odd = Vec::with_capacity(alloc, sorted.len())?;
     for n in sorted {
         flip_number(&mut odd, *n)?;
     }

@@ -22,7 +22,7 @@ pub fn links_of(alloc: Global, t: &ArcTable) -> Result<Vec<ArcLink>, AllocError>
     ensures there { IfOk result (λ v. All (λ l. l.along.arc < length t.now) v.items) }
     ensures sorted { IfOk result (λ v. AreByStart v.items) }
 {
-    let mut links = Vec::new(alloc);
+    let mut links = Vec::with_capacity(alloc, step_count(t))?;
     for n in 0..t.count() {
         let id = ArcId::new(n);
         push_links(&mut links, id, t.points_of(id))?;
@@ -31,12 +31,20 @@ pub fn links_of(alloc: Global, t: &ArcTable) -> Result<Vec<ArcLink>, AllocError>
     Ok(links)
 }
 
+// How many steps the arcs have. It is not proved: a wrong one costs time alone.
+fn step_count(t: &ArcTable) -> usize {
+    let mut count: usize = 0;
+    for n in 0..t.count() {
+        count = count.saturating_add(t.points_of(ArcId::new(n)).len() - 1);
+    }
+    count
+}
+
 // The links of an arc with more points than one.
 fn push_links(links: &mut Vec<ArcLink>, id: ArcId, points: &[Pt]) -> Result<(), AllocError>
     ensures exact { OnOk result (links.new.items ≡ links.old.items ++ links_along id points.now) }
     ensures there { OnOk result ((n : ℕ) → id < n → All (λ l. l.along.arc < n) links.old.items → All (λ l. l.along.arc < n) links.new.items) }
 {
-    links.reserve(points.len())?;
     for i in 1..points.len() {
         push_some(links, step_along(id, points[i - 1], points[i]))?;
     }
@@ -77,7 +85,7 @@ pub fn boxes_of(alloc: Global, links: &[ArcLink]) -> Result<BoxList, AllocError>
     ensures exact { IfOk result (λ boxes. boxes ≡ boxes_of links.now) }
     ensures on_grid { IfOk result (λ boxes. All HasGridEnds links.now) }
 {
-    let mut boxes = BoxList::new(alloc);
+    let mut boxes = BoxList::with_capacity(alloc, links.len())?;
     for l in links {
         let area = box_of(l.link)?;
         boxes.push(area)?;
