@@ -1,4 +1,4 @@
-ghost use Rattle.std.specs.Prelude.{◌≡◌, ◌++◌, ◌<◌, ◌≤◌, ◌^◌, All, Contains, IfOk, IfSome, List, None, OnOk, length, map, slice_index};
+ghost use Rattle.std.specs.Prelude.{◌≡◌, ◌++◌, ◌<◌, ◌≤◌, ◌^◌, true, All, Contains, IfOk, IfSome, List, None, OnOk, length, map, slice_index};
 ghost use Rattle.std.specs.List.Sorted.{IsStrictlyIncreasing};
 ghost use Rattle.plane_model.specs.Points.{Path};
 ghost use Rattle.face_walk.specs.Joining.{AreClasses};
@@ -98,9 +98,42 @@ fn place_across(f: &Faces, faces: &[FaceId], arc: SignedArc) -> Option<u32>
     ensures found { IfSome result (λ i. slice_index faces.now i ≡ face_right_of f.now.places arc) }
     ensures missed { result ≡ None → Contains faces.now (face_right_of f.now.places arc) → ⊥ }
 {
-    match faces.binary_search(&f.left_of(arc.flip())) {
+    place_of(faces, f.left_of(arc.flip()))
+}
+
+// The place of a face in a set, where it is there.
+fn place_of(faces: &[FaceId], face: FaceId) -> Option<u32>
+    requires few { length faces.now < 2 ^ 32 }
+    requires ascending { IsStrictlyIncreasing faces.now }
+    ensures there { IfSome result (λ i. i < length faces.now) }
+    ensures found { IfSome result (λ i. slice_index faces.now i ≡ face) }
+    ensures missed { result ≡ None → Contains faces.now face → ⊥ }
+{
+    let guess = place_without_gaps(faces, face);
+    if stands_at(faces, guess, face) {
+        return Some(guess as u32);
+    }
+    match faces.binary_search(&face) {
         Ok(i) => Some(i as u32),
         Err(_) => None,
+    }
+}
+
+// Where a face stands in a set, if no number is left out before it.
+fn place_without_gaps(faces: &[FaceId], face: FaceId) -> usize {
+    match faces.first() {
+        Some(first) => face.num().saturating_sub(first.num()) as usize,
+        None => 0,
+    }
+}
+
+fn stands_at(faces: &[FaceId], i: usize, face: FaceId) -> bool
+    ensures there { result ≡ true → i < length faces.now }
+    ensures found { result ≡ true → slice_index faces.now i ≡ face }
+{
+    match faces.get(i) {
+        Some(found) => found.num() == face.num(),
+        None => false,
     }
 }
 
