@@ -31,7 +31,7 @@ fn links_along(alloc: Global, spots: &[Seg]) -> Result<Vec<Link>, AllocError>
 fn list_of(alloc: Global, links: &[Link]) -> Result<LinkList, AllocError>
     ensures { IfOk result (λ list. list ≡ links.now) }
 {
-    let mut list = LinkList::new(alloc);
+    let mut list = LinkList::with_capacity(alloc, links.len())?;
     for link in links {
         list.push(*link)?;
     }
