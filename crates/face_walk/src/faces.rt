@@ -12,6 +12,7 @@ use crate::numbering::{FaceSide, Numbering, arcs_of, faces_of, numbering_of, sid
 use crate::places::{MAX_ARCS, OUTSIDE, place_of};
 use crate::rays::{LinkSearch, join_rays};
 use crate::sectors::join_sectors;
+use crate::side_places::{count_of, first_from, start_at, starts_of};
 use arc_table::ArcTable;
 use grid_base::{FaceId, Pt, SignedArc};
 use std::alloc::{AllocError, Global};
@@ -26,6 +27,8 @@ pub struct Faces {
     // the face left of each signed arc of `side_arcs`, in order
     side_faces: Vec<u32>,
     side_arcs: Vec<SignedArc>,
+    // for each face the place of the first of these; a wrong one costs time alone
+    side_starts: Vec<u32>,
     areas: Vec<i128>,
     search: LinkSearch,
 }
@@ -88,13 +91,22 @@ impl Faces {
     {
         let side_faces = faces_of(alloc, sides)?;
         let side_arcs = arcs_of(alloc, sides)?;
-        let areas = areas_of(alloc, t, numbering.count, &side_faces, &side_arcs)?;
+        let side_starts = starts_of(alloc, &side_faces, numbering.count)?;
+        let areas = areas_of(
+            alloc,
+            t,
+            numbering.count,
+            &side_faces,
+            &side_arcs,
+            &side_starts,
+        )?;
         let Numbering { places, count } = numbering;
         Ok(Faces {
             places,
             count,
             side_faces,
             side_arcs,
+            side_starts,
             areas,
             search,
         })
@@ -130,7 +142,12 @@ impl Faces {
         ensures left { All (λ a. face_left_of self.now.places a ≡ f) result.now }
         ensures there { All (HasArc self.now) result.now }
     {
-        arcs_left(&self.side_faces, &self.side_arcs, f.num())
+        arcs_left(
+            &self.side_faces,
+            &self.side_arcs,
+            f.num(),
+            &self.side_starts,
+        )
     }
 
     /// Twice the area of a face that isn't the outer one, in squares of the grid.
@@ -155,8 +172,9 @@ impl Faces {
     }
 }
 
-// Of arcs that stand by the faces on their left, in order, those of one face.
-fn arcs_left<'a>(faces: &[u32], arcs: &'a [SignedArc], f: u32) -> &'a [SignedArc]
+// Of arcs that stand by the faces on their left, in order, those of one face. They are looked for where `starts` has
+// them first.
+fn arcs_left<'a>(faces: &[u32], arcs: &'a [SignedArc], f: u32, starts: &[u32]) -> &'a [SignedArc]
     requires { length faces.now ≡ length arcs.now }
     ensures exact { (places : List ℕ) (many : ℕ) → AreListed places faces.now arcs.now → length places ≡ 2 * many + 1 →
         result.now ≡ arcs_with_left places many f }
@@ -164,8 +182,10 @@ fn arcs_left<'a>(faces: &[u32], arcs: &'a [SignedArc], f: u32) -> &'a [SignedArc
     ensures below { (n : ℕ) → All (λ a. a.arc < n) arcs.now → All (λ a. a.arc < n) result.now }
     ensures there { (m : ℕ) → All (HasPlaces m) arcs.now → All (HasPlaces m) result.now }
 {
-    let first = faces.partition_point(|g| *g < f);
-    let count = faces[first..].partition_point(|g| *g == f);
+    let start = start_at(starts, f);
+    let next = start_at(starts, f.wrapping_add(1));
+    let first = first_from(faces, f, start);
+    let count = count_of(&faces[first..], f, next.wrapping_sub(start));
     &arcs[first..first + count]
 }
 
@@ -176,6 +196,7 @@ fn areas_of(
     count: u32,
     faces: &[u32],
     arcs: &[SignedArc],
+    starts: &[u32],
 ) -> Result<Vec<i128>, AllocError>
     requires each { length faces.now ≡ length arcs.now }
     requires there { All (λ a. a.arc < length t.now) arcs.now }
@@ -185,7 +206,7 @@ fn areas_of(
 {
     let mut areas = Vec::with_capacity(alloc, count as usize)?;
     for f in 0..count {
-        areas.push(area_of_face(t, arcs_left(faces, arcs, f))?)?;
+        areas.push(area_of_face(t, arcs_left(faces, arcs, f, starts))?)?;
     }
     Ok(areas)
 }

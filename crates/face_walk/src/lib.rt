@@ -26,6 +26,7 @@ mod rays;
 mod ring_steps;
 mod rows;
 mod sectors;
+mod side_places;
 mod under;
 
 pub use areas::added;

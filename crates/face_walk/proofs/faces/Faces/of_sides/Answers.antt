@@ -15,7 +15,7 @@ arcs_below n sides arcs e h = All-same (below n) arcs (map (λ (s : FaceSide). s
 
 pub areas_of-requires-clause-there : goal.areas_of-requires-clause-there
 areas_of-requires-clause-there c =
-    arcs_below (length c.args.t.now) c.args.sides.now c.deref-2.result.now (c.deref-2.ensures.value ∙ c.in_ok-side_arcs.ensures) c.requires.sides
+    arcs_below (length c.args.t.now) c.args.sides.now c.deref-3.result.now (c.deref-3.ensures.value ∙ c.in_ok-side_arcs.ensures) c.requires.sides
 
 pub invariant_of-result : goal.invariant_of-result
 invariant_of-result c =

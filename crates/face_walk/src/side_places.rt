@@ -1,0 +1,112 @@
+ghost use Rattle.std.specs.Prelude.{◌≡◌, ◌-◌, ◌<◌, ◌≤◌, true, false, length, nat_eq, nat_lt, slice_index};
+ghost use Rattle.std.specs.List.Sorted.{IsPartitionedBy, IsPartitionPoint};
+
+use std::alloc::{AllocError, Global};
+
+/// For each face the place of the first of its sides, which are those of `faces` in order. It is not proved: a wrong one
+/// costs time alone.
+pub fn starts_of(alloc: Global, faces: &[u32], count: u32) -> Result<Vec<u32>, AllocError> {
+    let mut starts = vec![in alloc; u32::MAX; count as usize]?;
+    for k in 0..faces.len() {
+        put_start(&mut starts, faces, k);
+    }
+    Ok(starts)
+}
+
+fn put_start(starts: &mut Vec<u32>, faces: &[u32], k: usize)
+    requires { k < length faces.now }
+{
+    let f = faces[k] as usize;
+    if f < starts.len() && (k == 0 || faces[k - 1] != faces[k]) {
+        starts[f] = u32::try_from(k).unwrap_or(u32::MAX);
+    }
+}
+
+/// Where the sides of a face begin by such a list.
+pub fn start_at(starts: &[u32], f: u32) -> usize {
+    match starts.get(f as usize) {
+        Some(start) => *start as usize,
+        None => usize::MAX,
+    }
+}
+
+/// The place of the first of faces in order that is not below `f`, looked for at `guess` first.
+pub fn first_from(faces: &[u32], f: u32, guess: usize) -> usize
+    ensures bound { result ≤ length faces.now }
+    ensures exact { IsPartitionedBy (λ g. nat_lt g f) faces.now → IsPartitionPoint (λ g. nat_lt g f ≡ true) (λ g. nat_lt g f ≡ false) faces.now result }
+{
+    if guess <= faces.len()
+        && is_below_before(faces, f, guess)
+        && is_none_below_at(faces, f, guess)
+    {
+        return guess;
+    }
+    faces.partition_point(|g| *g < f)
+}
+
+/// How many of faces in order are `f`, where none is below it; `guess` is tried first.
+pub fn count_of(faces: &[u32], f: u32, guess: usize) -> usize
+    ensures bound { result ≤ length faces.now }
+    ensures exact { IsPartitionedBy (λ g. nat_eq g f) faces.now → IsPartitionPoint (λ g. nat_eq g f ≡ true) (λ g. nat_eq g f ≡ false) faces.now result }
+{
+    if guess <= faces.len() && is_same_before(faces, f, guess) && is_none_same_at(faces, f, guess) {
+        return guess;
+    }
+    faces.partition_point(|g| *g == f)
+}
+
+fn is_below(g: u32, f: u32) -> bool
+    ensures { result ≡ nat_lt g f }
+{
+    g < f
+}
+
+fn is_same(g: u32, f: u32) -> bool
+    ensures { result ≡ nat_eq g f }
+{
+    g == f
+}
+
+fn is_below_before(faces: &[u32], f: u32, k: usize) -> bool
+    requires { k ≤ length faces.now }
+    ensures { result ≡ true → 0 < k → nat_lt (slice_index faces.now (k - 1)) f ≡ true }
+{
+    if k == 0 {
+        return true;
+    }
+    is_below(faces[k - 1], f)
+}
+
+fn is_none_below_at(faces: &[u32], f: u32, k: usize) -> bool
+    ensures { result ≡ true → k < length faces.now → nat_lt (slice_index faces.now k) f ≡ false }
+{
+    if k >= faces.len() {
+        return true;
+    }
+    if is_below(faces[k], f) {
+        return false;
+    }
+    true
+}
+
+fn is_same_before(faces: &[u32], f: u32, k: usize) -> bool
+    requires { k ≤ length faces.now }
+    ensures { result ≡ true → 0 < k → nat_eq (slice_index faces.now (k - 1)) f ≡ true }
+{
+    if k == 0 {
+        return true;
+    }
+    is_same(faces[k - 1], f)
+}
+
+fn is_none_same_at(faces: &[u32], f: u32, k: usize) -> bool
+    ensures { result ≡ true → k < length faces.now → nat_eq (slice_index faces.now k) f ≡ false }
+{
+    if k >= faces.len() {
+        return true;
+    }
+    if is_same(faces[k], f) {
+        return false;
+    }
+    true
+}
