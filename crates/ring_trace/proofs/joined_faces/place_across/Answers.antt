@@ -1,6 +1,5 @@
-use Rattle.std.proofs.Common.{◌≡◌, ◌∙◌, sym, subst, Contains, ℕ, get_or}
+use Rattle.std.proofs.Common.{◌∙◌, sym, subst, Contains}
 use Rattle.std.proofs.lemmas.Option.{IfSome_then}
-use Rattle.ring_trace.specs.Boundary.{face_right_of}
 use Rattle.ring_trace.proofs.BoundaryLemmas.{right_is}
 use Rattle.ring_trace.proofs.joined_faces.place_across.Goals as goal
 

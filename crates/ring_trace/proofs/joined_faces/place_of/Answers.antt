@@ -1,4 +1,3 @@
-use Rattle.std.proofs.Common.{◌≡◌}
 use Rattle.ring_trace.proofs.SetLemmas.{search_place, search_misses}
 use Rattle.ring_trace.proofs.BoundaryLemmas.{not_across}
 use Rattle.ring_trace.proofs.joined_faces.place_of.Goals as goal
