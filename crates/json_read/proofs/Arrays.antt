@@ -99,7 +99,7 @@ array_ends d items later j old m1 m2 new a p e c =
 abbrev pub SomeArray : ℕ → List ℕ → Type 0
 SomeArray d t = (js : ItemList) × ArrayText d js t
 
-items_list-items_of : (vs : List JsonValue) → items_list (items_of vs) ≡ vs
+pub items_list-items_of : (vs : List JsonValue) → items_list (items_of vs) ≡ vs
 items_list-items_of [] = refl
 items_list-items_of (v ∷ vs) = ap (λ (ws : List JsonValue). v ∷ ws) (items_list-items_of vs)
 

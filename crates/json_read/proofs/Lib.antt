@@ -42,3 +42,4 @@ pub mod PrintedTexts
 pub mod PrintedCells
 pub mod GridNumbers
 pub mod ProperValues
+mod Taking

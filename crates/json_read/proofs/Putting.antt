@@ -24,7 +24,7 @@ Differs fs name n = (k : ℕ) (d : Member) → k < n → bytes_eq (get_or fs k d
 pub put_on : (f : Member) (fs : List Member) (name : List ℕ) (v : JsonValue) → bytes_eq f.0 name ≡ false → put (f ∷ fs) name v ≡ f ∷ put fs name v
 put_on f fs name v e = ap (λ (t : Bool). (elim t as (λ _. List Member) [ true ↦ (name, v) ∷ fs | false ↦ f ∷ put fs name v ])) e
 
-put_here : (f : Member) (fs : List Member) (name : List ℕ) (v : JsonValue) → bytes_eq f.0 name ≡ true → put (f ∷ fs) name v ≡ (name, v) ∷ fs
+pub put_here : (f : Member) (fs : List Member) (name : List ℕ) (v : JsonValue) → bytes_eq f.0 name ≡ true → put (f ∷ fs) name v ≡ (name, v) ∷ fs
 put_here f fs name v e = ap (λ (t : Bool). (elim t as (λ _. List Member) [ true ↦ (name, v) ∷ fs | false ↦ f ∷ put fs name v ])) e
 
 pub put_last : (name : List ℕ) (fs : List Member) → Differs fs name (length fs) → PutsLast fs name
@@ -82,7 +82,7 @@ has_name name fs = list_any (bytes_eq name) (names fs)
 pub flips : (xs ys : List ℕ) → bytes_eq xs ys ≡ bytes_eq ys xs
 flips xs ys = nat_list_eq_equiv.symm xs ys
 
-same_bytes : (xs ys : List ℕ) → bytes_eq xs ys ≡ true → xs ≡ ys
+pub same_bytes : (xs ys : List ℕ) → bytes_eq xs ys ≡ true → xs ≡ ys
 same_bytes xs ys e = (bytes_eq-Decides xs ys).0 e
 
 pub neither_first : (a b : Bool) → (a || b) ≡ false → a ≡ false
@@ -129,10 +129,10 @@ distinct_pushed fs name j h d =
 
 -- ## Looking up
 
-value_here : (name : List ℕ) (f : Member) (fs : List Member) → bytes_eq f.0 name ≡ true → value_named name (f ∷ fs) ≡ Some f.1
+pub value_here : (name : List ℕ) (f : Member) (fs : List Member) → bytes_eq f.0 name ≡ true → value_named name (f ∷ fs) ≡ Some f.1
 value_here name f fs e = ap (λ (t : Bool). (elim t as (λ _. Option JsonValue) [ true ↦ Some f.1 | false ↦ value_named name fs ])) e
 
-value_further : (name : List ℕ) (f : Member) (fs : List Member) → bytes_eq f.0 name ≡ false → value_named name (f ∷ fs) ≡ value_named name fs
+pub value_further : (name : List ℕ) (f : Member) (fs : List Member) → bytes_eq f.0 name ≡ false → value_named name (f ∷ fs) ≡ value_named name fs
 value_further name f fs e = ap (λ (t : Bool). (elim t as (λ _. Option JsonValue) [ true ↦ Some f.1 | false ↦ value_named name fs ])) e
 
 value_absent : (name : List ℕ) (fs : List Member) → Differs fs name (length fs) → value_named name fs ≡ None

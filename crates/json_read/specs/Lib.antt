@@ -21,3 +21,4 @@ pub mod Value
 pub mod Table
 pub mod Proper
 pub mod ProperCells
+pub mod Taking

@@ -2,6 +2,8 @@
 //!
 //! In: bytes. `Json::parse` gives the value that they denote, or the kind and the place of the first fault: the
 //! length of the longest prefix that begins some text. Out: `print_into` appends the compact text of a value.
+//! `Json::parse_taking` reads the same of an object, and hands the items of one array in it to an `ItemTaker`, each as
+//! soon as it is read, so that a long list is never kept whole.
 //!
 //! A numeral keeps its spelling in a `Json`. It is read in two ways, both exact and without forming the whole
 //! number: `numeral_to_grid` rounds it, for coordinates; `whole_units` counts the units that it is a whole number of,
@@ -40,7 +42,7 @@ pub use fields::{Fields, FieldsList};
 pub use grid_numeral::numeral_to_grid;
 pub use json::{Json, JsonFields, JsonList};
 pub use numerals::is_numeral;
-pub use reader::Fault;
+pub use reader::{Fault, ItemTaker, TakenObject};
 pub use table::{Row, RowList, Table};
 pub use units::whole_units;
 pub use value::Value;

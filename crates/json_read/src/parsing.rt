@@ -33,7 +33,8 @@ impl Json {
     }
 }
 
-fn fault_at(fault: Fault, at: usize) -> JsonFault
+// The fault of a text, of which this many bytes begin some text.
+pub(crate) fn fault_at(fault: Fault, at: usize) -> JsonFault
     ensures { result ≡ fault_of fault at }
 {
     let at = at as u64;

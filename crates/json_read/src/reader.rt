@@ -9,11 +9,14 @@ ghost use Rattle.json_read.specs.AsciiStrings.{stands_alone, AllAlone, ClosesAsA
 ghost use Rattle.json_read.specs.declared.reader.Fault.TheVariants.{Syntax};
 ghost use Rattle.json_read.specs.declared.reader.Stop.TheVariants.{Memory};
 
+mod taking;
+
 use crate::growing_fields::GrowingFields;
 use crate::json::{Json, JsonFields, JsonList};
 use crate::numerals::digit_count;
 use io_core::Text;
 use std::alloc::{AllocError, Global};
+pub use taking::{ItemTaker, TakenObject};
 
 /// The greatest depth of an array or an object.
 pub const GREATEST_DEPTH: u32 = 64;

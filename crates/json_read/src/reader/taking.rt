@@ -1,0 +1,192 @@
+ghost use Rattle.std.specs.Prelude.{◌≡◌, ◌<◌, true, List, IfOk, IfSome, IfErr, MatchResult, OnOk};
+ghost use Rattle.json_read.specs.Bytes.{is_white};
+ghost use Rattle.json_read.specs.Json.{JsonValue};
+ghost use Rattle.json_read.specs.Seen.{json_value};
+ghost use Rattle.json_read.specs.Faults.{FaultFits};
+ghost use Rattle.json_read.specs.Taking.{TakesOne, TakesArray, TakesValue, TakesMember, TakesObject, TakesText, IsTakenText};
+
+use crate::fault::JsonFault;
+use crate::growing_fields::GrowingFields;
+use crate::json::{Json, JsonFields};
+use crate::parsing::fault_at;
+use crate::reader::{Fault, GREATEST_DEPTH, Reader, Stop};
+use io_core::Text;
+use std::alloc::{AllocError, Global};
+
+/// What takes the items of an array one after another, as they are read.
+///
+/// `took` says of its state at first and its state now that it has taken these values in between, in order.
+pub trait ItemTaker {
+    ghost took: { Self → Self → List JsonValue → Type 0 };
+
+    /// Takes the next item.
+    fn take_item(&mut self, item: Json) -> Result<(), AllocError>
+        ensures taken { OnOk result ((first : Self) → TakesOne (took first self.old) (took first self.new) (json_value item)) };
+}
+
+/// The fields of an object, but for an array that was taken item by item.
+#[derive(Drop)]
+pub struct TakenObject {
+    /// All fields where no array was taken, else all others.
+    pub fields: JsonFields,
+    pub is_taken: bool,
+}
+
+// The same of an object that is being read.
+#[derive(Drop)]
+struct Taking {
+    fields: GrowingFields,
+    is_taken: bool,
+}
+
+impl Json {
+    /// Reads an object, and hands the items of the array in its field `name` to `taker`, each as soon as it is read.
+    ///
+    /// `None` where the bytes aren't read so: they are no object, or their field `name` is no array or stands twice.
+    /// Errors: as `parse`; the taker may have taken items then, as it may where the answer is `None`.
+    /// Source: RFC 8259, as for `parse`.
+    pub fn parse_taking<T: ItemTaker>(
+        alloc: Global,
+        bytes: &[u8],
+        name: &str,
+        taker: &mut T,
+    ) -> Result<Option<TakenObject>, JsonFault>
+        ensures ok { IfOk result (λ found. (first : T) → IfSome found (λ object. IsTakenText 64 (T.took first taker.old) (T.took first taker.new) name.now object.fields object.is_taken bytes.now)) }
+        ensures fault { IfErr result (FaultFits 64 bytes.now) }
+    {
+        let mut reader = Reader::new(alloc, bytes);
+        match reader.text_taking(name, taker) {
+            Ok(found) => Ok(found),
+            Err(Stop::Memory) => Err(JsonFault::Memory),
+            Err(Stop::Fault(fault)) => Err(fault_at(fault, bytes.len() - reader.left())),
+        }
+    }
+}
+
+impl<'a> Reader<'a> {
+    // A whole text with an object, of which the items of the array with this name are taken.
+    fn text_taking<T: ItemTaker>(
+        &mut self,
+        wanted: &str,
+        taker: &mut T,
+    ) -> Result<Option<TakenObject>, Stop>
+        ensures { (first : T) → TakesText GREATEST_DEPTH (T.took first taker.old) (T.took first taker.new) wanted.now result self.old.rest.now self.new.rest.now }
+    {
+        self.mark()?;
+        self.skip_white();
+        if !self.take(b'{') {
+            return Ok(None);
+        }
+        let Some(object) = self.object_taking(GREATEST_DEPTH - 1, wanted, taker)? else {
+            return Ok(None);
+        };
+        self.skip_white();
+        if self.rest.is_empty() {
+            Ok(Some(object))
+        } else {
+            Err(Stop::Fault(Fault::Syntax))
+        }
+    }
+
+    // An object, after its brace, of which the items of the array with this name are taken.
+    fn object_taking<T: ItemTaker>(
+        &mut self,
+        depth: u32,
+        wanted: &str,
+        taker: &mut T,
+    ) -> Result<Option<TakenObject>, Stop>
+        requires { 0 < depth }
+        ensures { (first : T) → TakesObject depth (T.took first taker.old) (T.took first taker.new) wanted.now result self.old.rest.now self.new.rest.now }
+    {
+        let mut taking = Taking {
+            fields: GrowingFields::new(self.alloc),
+            is_taken: false,
+        };
+        self.skip_white();
+        if self.take(b'}') {
+            return Ok(Some(taking.finish()));
+        }
+        loop {
+            let name = self.name()?;
+            if !self.member_taking(depth, name, wanted, taker, &mut taking)? {
+                return Ok(None);
+            }
+            if self.take(b'}') {
+                return Ok(Some(taking.finish()));
+            }
+            self.expect(b',')?;
+        }
+    }
+
+    // The value of the member `name`, with white space around it; false where the text isn't read item by item.
+    fn member_taking<T: ItemTaker>(
+        &mut self,
+        depth: u32,
+        name: Text,
+        wanted: &str,
+        taker: &mut T,
+        taking: &mut Taking,
+    ) -> Result<bool, Stop>
+        requires { 0 < depth }
+        ensures { (first : T) → TakesMember depth (T.took first taker.old) (T.took first taker.new) wanted.now name taking.old taking.new result self.old.rest.now self.new.rest.now }
+    {
+        if name.as_str() == wanted {
+            return self.array_taking(depth, taker, taking);
+        }
+        let value = self.padded(depth)?;
+        taking.fields.put(name, value)?;
+        Ok(true)
+    }
+
+    // The array of which the items are taken, with white space around it; false where it is none, or the second one.
+    fn array_taking<T: ItemTaker>(
+        &mut self,
+        depth: u32,
+        taker: &mut T,
+        taking: &mut Taking,
+    ) -> Result<bool, Stop>
+        requires { 0 < depth }
+        ensures { (first : T) → TakesValue depth (T.took first taker.old) (T.took first taker.new) taking.old taking.new result self.old.rest.now self.new.rest.now }
+    {
+        if taking.is_taken {
+            return Ok(false);
+        }
+        self.skip_white();
+        if !self.take(b'[') {
+            return Ok(false);
+        }
+        self.items_taking(depth - 1, taker)?;
+        self.skip_white();
+        taking.is_taken = true;
+        Ok(true)
+    }
+
+    // The items of an array, after its bracket.
+    fn items_taking<T: ItemTaker>(&mut self, depth: u32, taker: &mut T) -> Result<(), Stop>
+        ensures { (first : T) → TakesArray depth (T.took first taker.old) (T.took first taker.new) result self.old.rest.now self.new.rest.now }
+    {
+        self.skip_white();
+        if self.take(b']') {
+            return Ok(());
+        }
+        loop {
+            let item = self.padded(depth)?;
+            taker.take_item(item)?;
+            if self.take(b']') {
+                return Ok(());
+            }
+            self.expect(b',')?;
+        }
+    }
+}
+
+impl Taking {
+    fn finish(self) -> TakenObject
+        ensures { (result.fields ≡ self.fields) × (result.is_taken ≡ self.is_taken) }
+    {
+        TakenObject {
+            fields: self.fields.finish(),
+            is_taken: self.is_taken,
+        }
+    }
+}
