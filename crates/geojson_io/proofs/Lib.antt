@@ -8,3 +8,4 @@ pub mod PropertyLemmas
 pub mod KindLemmas
 pub mod SoundLemmas
 pub mod SoundReads
+mod TakingLemmas

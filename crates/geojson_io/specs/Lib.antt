@@ -8,3 +8,4 @@ pub mod Layering
 pub mod Sound
 pub mod Texts
 pub mod Numbers
+pub mod Taking

@@ -2,6 +2,8 @@
 //!
 //! - `read_geojson` takes a JSON value and gives layers of grid points, one for each kind of geometry, or the first
 //!   fault in order. A coordinate is rounded to a grid number: the decimal times ten to the decimal places, halves up.
+//! - `parse_features` does the same with the bytes of a FeatureCollection, feature by feature as their texts are read, and
+//!   gives the value of any other JSON text.
 //! - `write_geojson` takes a layer with its table and makes the text, `null` for a feature without geometry. It is made
 //!   of `start_collection`, `write_next_feature` for each feature, and `end_collection`, by which others may write
 //!   features whose shapes they don't keep.
@@ -18,7 +20,7 @@ mod writing;
 
 pub use fault::{ShapeFault, ShapeWhy};
 pub use layer::{GeoLayer, GeoLayers, Room};
-pub use reading::read_geojson;
+pub use reading::{Parsed, parse_features, read_geojson};
 pub use shape::{GeoShape, GeoShapeList};
 pub use writing::write_geojson;
 

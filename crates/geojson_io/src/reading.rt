@@ -9,6 +9,7 @@ mod features;
 mod geometries;
 mod layering;
 mod positions;
+mod taking;
 mod types;
 
 use crate::fault::{ShapeFault, ShapeWhy};
@@ -20,6 +21,7 @@ use json_read::Json;
 pub use layering::layers_of;
 pub use positions::{is_closed, place};
 use std::alloc::Global;
+pub use taking::{Parsed, parse_features};
 pub use types::{GeoType, Member, type_of};
 
 /// The layers of a GeoJSON value, named by `name`.

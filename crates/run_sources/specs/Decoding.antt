@@ -9,6 +9,8 @@ use Rattle.json_read.specs.declared.reader.Fault.TheVariants as fault
 use Rattle.json_read.specs.declared.fault.JsonFault.{JsonFault}
 use Rattle.json_read.specs.declared.fault.JsonFault.TheVariants as json
 use Rattle.geojson_io.specs.Reads.{Fault}
+use Rattle.geojson_io.specs.declared.fault.ShapeFault.{ShapeFault}
+use Rattle.geojson_io.specs.declared.fault.ShapeFault.TheVariants as shape
 use Rattle.geojson_io.specs.LayerContent.{LayerContent}
 use Rattle.geojson_io.specs.Layers.{read_geojson}
 use Rattle.geojson_io.specs.declared.layer.Room.{Room}
@@ -54,6 +56,12 @@ json_stop (json.Syntax at) = Refused (Syntax at)
 json_stop (json.Depth at) = Refused (Depth at)
 json_stop (json.Utf8 at) = Refused (Utf8 at)
 json_stop json.Memory = Memory
+
+-- what becomes of GeoJSON that was read
+abbrev pub features_given : Result (List LayerContent) ShapeFault → Result (List LayerContent) DecodeStop
+features_given (Ok layers) = Ok layers
+features_given (Err (shape.Bad why feature)) = Err (Refused (Shape why feature))
+features_given (Err shape.Memory) = Err Memory
 
 abbrev pub table_stop : CsvFault → DecodeStop
 table_stop (csv.Utf8 at) = Refused (Utf8 at)

@@ -1,7 +1,7 @@
 ghost use Rattle.std.specs.Prelude.{◌≡◌, ◌≤◌, ◌∷◌, [], All, IfOk, replicate};
 ghost use Rattle.grid_base.specs.Grid.{most_places};
 ghost use Rattle.json_read.specs.Seen.{json_value};
-ghost use Rattle.run_sources.specs.Decoding.{json_stop, table_stop, is_topology, table_layer, Decodes, DecodesJson, DecodesTable, TopologyGives, ValueGives};
+ghost use Rattle.run_sources.specs.Decoding.{features_given, json_stop, table_stop, is_topology, table_layer, Decodes, DecodesJson, DecodesTable, TopologyGives, ValueGives};
 ghost use Rattle.geojson_io.specs.Sound.{LayerIsSound};
 ghost use Rattle.geojson_io.specs.declared.shape.GeoShape.TheVariants.{Nothing};
 
@@ -9,7 +9,10 @@ use crate::fault::InputWhy;
 use crate::formats::{is_csv, title_of};
 use cmd_words::SourceWord;
 use csv_io::{CsvFault, Room2, read_csv};
-use geojson_io::{GeoLayer, GeoLayers, GeoShape, GeoShapeList, Room, ShapeFault, read_geojson};
+use geojson_io::{
+    GeoLayer, GeoLayers, GeoShape, GeoShapeList, Parsed, Room, ShapeFault, parse_features,
+    read_geojson,
+};
 use grid_base::Kind;
 use io_core::Text;
 use json_read::{Json, JsonFault, Table};
@@ -64,8 +67,9 @@ fn json_layers(
     ensures gives { DecodesJson places room title.now bytes.now result }
     ensures sound { IfOk result (λ layers. All LayerIsSound layers) }
 {
-    match Json::parse(alloc, bytes) {
-        Ok(json) => value_layers(alloc, title, places, room, &json),
+    match parse_features(alloc, bytes, places, title, room) {
+        Ok(Parsed::Features(read)) => features_of(read),
+        Ok(Parsed::Value(json)) => value_layers(alloc, title, places, room, &json),
         Err(fault) => Err(json_stop(fault)),
     }
 }
@@ -95,7 +99,14 @@ fn value_layers(
     if is_topology(json) {
         return topology_layers(alloc, places, room, json);
     }
-    match read_geojson(alloc, json, places, title, room) {
+    features_of(read_geojson(alloc, json, places, title, room))
+}
+
+// The layers of GeoJSON, or why it is refused.
+fn features_of(read: Result<GeoLayers, ShapeFault>) -> Result<GeoLayers, DecodeStop>
+    ensures exact { result ≡ features_given read }
+{
+    match read {
         Ok(layers) => Ok(layers),
         Err(ShapeFault::Bad { why, feature }) => {
             Err(DecodeStop::Refused(InputWhy::Shape { why, feature }))

@@ -118,8 +118,8 @@ fn read_member(
     }
 }
 
-// Feature number `n`, where there is room for it.
-fn numbered(
+/// Feature number `n`, where there is room for it among `limit` features.
+pub fn numbered(
     alloc: Global,
     kind: Member,
     n: u32,
@@ -128,11 +128,10 @@ fn numbered(
     limit: u32,
     left: &mut u32,
 ) -> Result<Feature, ShapeFault>
-    requires { n ≤ limit }
-    ensures read { AnswersIn (numbered kind places limit (n, json_value json.now)) left.old result left.new }
+    ensures read { n ≤ limit → AnswersIn (numbered kind places limit (n, json_value json.now)) left.old result left.new }
     ensures room { OnOk result (n < limit) }
 {
-    if n == limit {
+    if n >= limit {
         return Err(ShapeFault::Bad {
             why: ShapeWhy::TooManyFeatures,
             feature: n,

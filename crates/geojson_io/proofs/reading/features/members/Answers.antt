@@ -13,7 +13,7 @@ returns-in_err-feature-clause-fault c =
     let n = c.loop-item.n in
     let e : n ≡ c.loop-item.item-index = c.loop-item.invariant.0 in
     fault_passes_on (members c.args.kind c.args.places c.args.limit (map json_value c.args.items.now) c.args.left.now) (read (n, json_value c.item-item.result) c.loop-item.left) c.from_residual.result c.in_err-feature.field-0.0
-    (p.1 ∙ ap Err p.2) c.in_err-feature.ensures.read
+    (p.1 ∙ ap Err p.2) (c.in_err-feature.ensures.read c.loop-item.invariant.1)
     (λ f h. member_stops read c.args.items.now n c.item-item.result c.args.left.now c.loop-item.features.items c.loop-item.left f (let l = c.loop-item-test.true in omega arith) (c.item-item.is ∙ ap (λ m. get_or c.args.items.now m c.item-item.result) (sym e)) c.loop-item.invariant.2 h)
 
 pub loop-item-preserved : goal.loop-item-preserved
@@ -25,7 +25,7 @@ loop-item-preserved c =
       (let l = c.in_ok-feature.ensures.room in omega arith),
       subst (λ (vs : List Feature). IsNumberedTo read c.args.items.now (n + 1) c.args.left.now vs c.numbered.new.left) (sym c.in_ok-push.ensures.items)
           (one_member_more read c.args.items.now n c.item-item.result c.args.left.now c.loop-item.features.items c.loop-item.left c.in_ok-feature.feature c.numbered.new.left
-          (let l = c.loop-item-test.true in omega arith) (c.item-item.is ∙ ap (λ m. get_or c.args.items.now m c.item-item.result) (sym e)) c.loop-item.invariant.2 c.in_ok-feature.ensures.read),
+          (let l = c.loop-item-test.true in omega arith) (c.item-item.is ∙ ap (λ m. get_or c.args.items.now m c.item-item.result) (sym e)) c.loop-item.invariant.2 (c.in_ok-feature.ensures.read c.loop-item.invariant.1)),
     )
 
 pub returns : goal.returns
