@@ -7,7 +7,7 @@
 FIRST_BUILD_TAKES="one to two hours on four processors"
 
 # The kit that the proofs were made with, as rt version prints it; README.md and docs/install.md name it too.
-KIT="rattle-kit-13b logic dac8208d650f15bf"
+KIT="rattle-kit-13f logic dac8208d650f15bf"
 
 out="$top/crates/ms_cli/out"
 log="$out/build.log"
