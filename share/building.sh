@@ -3,8 +3,8 @@
 #   program   the built program
 # shellcheck shell=bash disable=SC2154
 
-# By what the crates took one by one; README.md and docs/install.md say the same.
-FIRST_BUILD_TAKES="one to two hours on four processors"
+# As it was seen; README.md and docs/install.md say the same.
+FIRST_BUILD_TAKES="about fifty minutes on four processors"
 
 # The kit that the proofs were made with, as rt version prints it; README.md and docs/install.md name it too.
 KIT="rattle-kit-13f logic dac8208d650f15bf"

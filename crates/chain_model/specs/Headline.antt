@@ -1,11 +1,12 @@
 -- What a run is bound to: its answer, what files and the standard stream hold afterwards, and the causes of answers.
-use Rattle.std.specs.Prelude.{◌≡◌, ◌≢◌, ◌⊎◌, ℕ, ◌+◌, ◌<◌, ◌≤◌, Bool, true, false, List, [], ◌∷◌, ◌++◌, Option, Some, None, MatchOption, Ok, Err, slice_get, MatchBool, ⊤, if◌then◌else◌, not, ◌&&◌, is_some}
+use Rattle.std.specs.Prelude.{◌≡◌, ◌≢◌, ◌⊎◌, ℕ, ◌+◌, ◌<◌, ◌≤◌, Bool, true, false, List, [], ◌∷◌, ◌++◌, take, Option, Some, None, MatchOption, Ok, Err, slice_get, MatchBool, ⊤, if◌then◌else◌, not, ◌&&◌, is_some}
 use Rattle.std.specs.List.{list_any}
 use Rattle.std.specs.Io.KnownBytes.{Appends}
 use Rattle.std.specs.Str.{bytes_eq}
 use Rattle.io_core.specs.Contents.{Content, FileMap}
-use Rattle.io_core.specs.Counts.{Rose, raised}
+use Rattle.io_core.specs.Counts.{Rose, last}
 use Rattle.io_core.specs.Whole.{MissesName}
+use Rattle.geojson_io.specs.LayerContent.{LayerContent}
 use Rattle.table_terms.specs.Names.{Text}
 use Rattle.cmd_words.specs.declared.action_words.ActionWords.{ActionWords}
 use Rattle.cmd_words.specs.declared.action_words.ActionWords.TheVariants as asked
@@ -14,8 +15,8 @@ use Rattle.cmd_words.specs.Words.{JobWords, Reading, synth, chain}
 use Rattle.cmd_words.specs.declared.job.Action.TheVariants as action
 use Rattle.cmd_words.specs.declared.job.SourceWord.{SourceWord}
 use Rattle.chain_model.specs.Outcome.{Outcome, done, bad_words, read_fault, missing, too_long, bad_input, too_dense, refused, write_fault, memory}
-use Rattle.chain_model.specs.Sources.{Readings, byte_limit}
-use Rattle.chain_model.specs.Messages.{TellsOutcome}
+use Rattle.chain_model.specs.Sources.{Readings, byte_limit, imported, whole_room}
+use Rattle.chain_model.specs.Messages.{MessagesSeen, TellsOutcome}
 use Rattle.chain_model.specs.Running.{Effect, WordsTell, link_limit}
 use Rattle.word_model.specs.Words.{words_say}
 
@@ -53,6 +54,12 @@ pub record HoldsAfter (before after : Outside) (effects : List Effect) : Type 0 
 
 -- ---- the answer
 
+-- the first k sources of the words are accepted
+abbrev pub AcceptsFirst : Readings → Reading JobWords → FileMap → Content → ℕ → Type 0
+AcceptsFirst read (Ok (chain w)) files input k = (layers : List (List LayerContent)) × (imported read w.places files input 0 whole_room 1 (take k w.so_far.sources) ≡ Ok layers)
+AcceptsFirst read (Ok (synth seed n)) files input k = ⊥
+AcceptsFirst read (Err e) files input k = ⊥
+
 -- `words` is what the words say; files and standard input hold `sources` and `input`, as far as they are sources of the
 -- run
 module _ (read : Readings) (words : Reading JobWords) (sources : FileMap) (input : Content) where
@@ -67,6 +74,13 @@ module _ (read : Readings) (words : Reading JobWords) (sources : FileMap) (input
     pub outcome : Outcome
     pub rest : List Effect
     pub told : WordsTell read sources input words outcome (effects ++ rest)
+
+  -- reading source n failed: the sources before it are accepted, and nothing has changed
+  pub record StopsInRead (before after : Outside) (n : ℕ) : Type 0 where
+    pub earlier : ℕ
+    pub number : n ≡ earlier + 1
+    pub accepted : AcceptsFirst read words sources input earlier
+    pub held : HoldsAfter before after []
 
   -- at want of memory no output is held, or a first part of those that the run would have, each whole
   pub record StopsForMemory (before after : Outside) : Type 0 where
@@ -94,7 +108,7 @@ module _ (read : Readings) (words : Reading JobWords) (sources : FileMap) (input
   -- What is bound for each answer: a stated one, or one of the three that the outside or memory brings.
   abbrev pub Binds : Outside → Outside → Outcome → Type 0
   Binds before after memory = StopsForMemory before after
-  Binds before after (read_fault n) = HoldsAfter before after []
+  Binds before after (read_fault n) = StopsInRead before after n
   Binds before after (write_fault command) = StopsInWrite before after command
   Binds before after outcome = RunMeans before after outcome
 
@@ -125,6 +139,14 @@ Headline read words input before outcome after =
     MatchOption (needed_files words before.files) ⊤ (λ files.
     MatchOption (needed_input words input) ⊤ (λ input.
     Binds read words files input before after outcome))
+
+-- Told or not: words, sources and a drawing that end a run leave files and the standard stream as they were.
+abbrev pub Unwritten : Outside → Outside → Outcome → Type 0
+Unwritten before after done = ⊤
+Unwritten before after (refused n why) = ⊤
+Unwritten before after (write_fault n) = ⊤
+Unwritten before after memory = ⊤
+Unwritten before after outcome = HoldsAfter before after []
 
 -- ---- causes of answers
 
@@ -161,9 +183,10 @@ WriteFailed before after (Ok (chain w)) n = HasAt w.so_far.commands n (λ (c : C
 WriteFailed before after (Ok (synth seed m)) n = (n ≡ 1) × Rose before.output after.output
 WriteFailed before after (Err e) n = ⊥
 
--- more bytes were read than the sources of a run may have
+-- more bytes were read than the sources of a run may have, or a number of bytes stands at its last value
 abbrev pub ReadTooMuch : Counts → Counts → Type 0
-ReadTooMuch before after = raised (byte_limit + 1) (before.file_bytes + before.input_bytes) ≤ after.file_bytes + after.input_bytes
+ReadTooMuch before after =
+    (before.file_bytes + before.input_bytes + byte_limit < after.file_bytes + after.input_bytes) ⊎ ((last ≤ after.file_bytes) ⊎ (last ≤ after.input_bytes))
 
 -- source n is a file: told files lack its name, or, where they don't tell, its count rose
 abbrev pub SourceMissing : Option FileMap → Counts → Counts → SourceWord → Type 0
@@ -218,13 +241,14 @@ IsComplete read words input before counts counts' outcome = (files : FileMap) (b
 pub record Seen : Type 0 where
   pub outside : Outside
   pub input : Option Content
-  pub messages : Option Content
+  pub messages : MessagesSeen
   pub counts : Counts
 
--- All that binds a run of these words: what its answer means and has as its cause, when it has to be Done, and its
--- message.
+-- All that binds a run of these words: what its answer means and leaves unwritten, its cause, when it has to be Done,
+-- and its message.
 pub record IsRunOf (read : Readings) (words : List Text) (before after : Seen) (outcome : Outcome) : Type 0 where
   pub means : Headline read (words_say read.refusals words) before.input before.outside outcome after.outside
+  pub unwritten : Unwritten before.outside after.outside outcome
   pub cause : HasCause (words_say read.refusals words) before.outside.files before.input before.counts after.counts outcome
   pub complete : IsComplete read (words_say read.refusals words) before.input before.outside before.counts after.counts outcome
   pub message : TellsOutcome outcome before.messages after.messages

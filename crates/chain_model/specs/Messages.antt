@@ -1,6 +1,7 @@
 -- The line that is offered for an outcome other than Done.
-use Rattle.std.specs.Prelude.{◌≡◌, ℕ, decimal, ◌++◌, codes, Option, Some, None, option_map, MatchOption}
+use Rattle.std.specs.Prelude.{◌≡◌, ◌⊎◌, ℕ, decimal, ◌++◌, codes, Option, Some, None, option_map, MatchOption}
 use Rattle.std.specs.Io.KnownBytes.{Appends, Keeps}
+use Rattle.io_core.specs.Counts.{Rose}
 use Rattle.geojson_io.specs.declared.fault.ShapeWhy.{ShapeWhy}
 use Rattle.geojson_io.specs.declared.fault.ShapeWhy.TheVariants as geo
 use Rattle.topo_io.specs.declared.fault.TopoWhy.{TopoWhy}
@@ -135,7 +136,16 @@ outcome_text o.memory = Some (codes "Memory")
 abbrev pub message_of : Outcome → Option Text
 message_of outcome = option_map (λ (s : Text). codes "ms_cli: " ++ s ++ codes "\n") (outcome_text outcome)
 
--- the stream of messages, where it tells what it holds, took this line or a first part of it, and nothing where there
--- is none
-abbrev pub TellsOutcome : Outcome → Option Text → Option Text → Type 0
-TellsOutcome outcome before after = MatchOption (message_of outcome) (Keeps before after) (λ line. (part rest : Text) × (part ++ rest ≡ line) × Appends before after part)
+-- the stream of messages, as far as it tells what it holds, with its count of failed writes
+pub record MessagesSeen : Type 0 where
+  pub told : Option Text
+  pub faults : ℕ
+
+-- it took a first part of this line
+abbrev pub TookPart : Text → Option Text → Option Text → Type 0
+TookPart line before after = (part rest : Text) × (part ++ rest ≡ line) × Appends before after part
+
+-- it took this line, or a first part of it and its count rose; and nothing where there is none
+abbrev pub TellsOutcome : Outcome → MessagesSeen → MessagesSeen → Type 0
+TellsOutcome outcome before after =
+    MatchOption (message_of outcome) (Keeps before.told after.told) (λ line. Appends before.told after.told line ⊎ (Rose before.faults after.faults × TookPart line before.told after.told))

@@ -1,21 +1,21 @@
 -- What words ask for, as the table of commands says, and what their sources give.
-use Rattle.std.proofs.Common.{◌≡◌, List, Ok, Err, sym, ap, ◌∙◌, subst}
+use Rattle.std.proofs.Common.{◌≡◌, ℕ, List, take, Ok, Err, sym, ap, ◌∙◌, subst}
 use Rattle.io_core.specs.Contents.{Content, FileMap}
 use Rattle.geojson_io.specs.LayerContent.{LayerContent}
 use Rattle.cmd_words.specs.declared.job.Chain.{Chain}
 use Rattle.cmd_words.specs.declared.job.Job.TheVariants as job
 use Rattle.cmd_words.specs.declared.job.SourceWord.{SourceWord}
 use Rattle.cmd_words.specs.Tells.{FitsChain, FitsJob}
-use Rattle.cmd_words.specs.Words.{ChainWords, JobWords, synth, chain}
+use Rattle.cmd_words.specs.Words.{ChainWords, JobWords, Reading, synth, chain}
 use Rattle.run_sources.specs.Sources.{SourcesSeen, GivesAll, StopsAtSource}
 use Rattle.run_sources.specs.declared.fault.SourceFault.{SourceFault}
 use Rattle.run_chain.specs.Running.{ReadsWords}
 use Rattle.word_model.specs.Words.{words_say}
-use Rattle.chain_model.specs.Headline.{sources_of}
+use Rattle.chain_model.specs.Headline.{AcceptsFirst, sources_of}
 use Rattle.chain_model.specs.Sources.{AreReadings, Readings, imported, whole_room}
 use Rattle.headline_laws.specs.ToldSources.{IsOfContents, fault_as}
 use Rattle.headline_laws.proofs.Once.{read_once}
-use Rattle.headline_laws.proofs.Sources.{accepted_sources, refused_sources}
+use Rattle.headline_laws.proofs.Sources.{accepted_sources, first_sources, refused_sources}
 use Rattle.headline_laws.proofs.Said.{said_by}
 use Rattle.headline_laws.specs.Ends.{IsAsked}
 
@@ -46,6 +46,18 @@ module _ (read : Readings) (line : List Content) (c : Chain) (seen seen' : Sourc
       let mine : GivesAll c.places (sources_of (words_say read.refusals line)) seen seen' layers = subst (λ (ss : List SourceWord). GivesAll c.places ss seen seen' layers) (sym sources_said) given in
       subst (λ (ss : List SourceWord). imported read c.places files bytes 0 whole_room 1 ss ≡ Ok layers) sources_said
       (accepted_sources read a.right (words_say read.refusals line) (read_once read.refusals line) c.places seen seen' files bytes a.told layers mine)
+
+  pub first_imported : (k : ℕ) (middle : SourcesSeen) (layers : List (List LayerContent)) → GivesAll c.places (take k c.sources) seen middle layers → AcceptsFirst read (words_say read.refusals line) files bytes k
+  first_imported k middle layers given =
+      let s : ChainSaid read line c = chain_said read a.right line c a.asked in
+      let mine : GivesAll c.places (take k (sources_of (words_say read.refusals line))) seen middle layers = subst (λ (ss : List SourceWord). GivesAll c.places (take k ss) seen middle layers) (sym sources_said) given in
+      let here : imported read c.places files bytes 0 whole_room 1 (take k c.sources) ≡ Ok layers =
+      subst (λ (ss : List SourceWord). imported read c.places files bytes 0 whole_room 1 (take k ss) ≡ Ok layers) sources_said
+      (first_sources read a.right (words_say read.refusals line) (read_once read.refusals line) c.places seen middle files bytes a.told k layers mine) in
+      let said : imported read s.words.places files bytes 0 whole_room 1 (take k s.words.so_far.sources) ≡ Ok layers =
+      subst (λ (ss : List SourceWord). imported read s.words.places files bytes 0 whole_room 1 (take k ss) ≡ Ok layers) s.fits.sources
+      (subst (λ (p : ℕ). imported read p files bytes 0 whole_room 1 (take k c.sources) ≡ Ok layers) s.fits.places here) in
+      subst (λ (r : Reading JobWords). AcceptsFirst read r files bytes k) (sym s.said) (layers, said)
 
   pub one_refused : (f : SourceFault) → IsOfContents f → StopsAtSource c.places c.sources seen seen' f → imported read c.places files bytes 0 whole_room 1 c.sources ≡ Err (fault_as f)
   one_refused f contents stops =

@@ -1,5 +1,5 @@
 -- Chains that end before their commands begin.
-use Rattle.std.proofs.Common.{◌≡◌, ◌⊎◌, inl, inr, List, [], Result, Ok, Err, refl, sym, ap, ◌∙◌, subst}
+use Rattle.std.proofs.Common.{◌≡◌, ◌⊎◌, inl, inr, ℕ, List, [], Result, Ok, Err, refl, sym, ap, ◌∙◌, subst}
 use Rattle.std.specs.Prelude.{◌≢◌, ⊤}
 use Rattle.lists.specs.Lists.{joined_up}
 use Rattle.plane_model.specs.Drawing.{Drawing}
@@ -24,7 +24,7 @@ use Rattle.region_model.specs.Answers.{plane_of}
 use Rattle.table_terms.specs.Refusals.{on_ok}
 use Rattle.word_model.specs.Words.{words_say}
 use Rattle.chain_model.specs.Beginning.{drawing_of}
-use Rattle.chain_model.specs.Headline.{Binds, RunMeans}
+use Rattle.chain_model.specs.Headline.{Binds, RunMeans, StopsInRead}
 use Rattle.chain_model.specs.Outcome as model
 use Rattle.chain_model.specs.Running.{Begun, RunsOrStops, WordsTell, begins, begun_with, checked_density}
 use Rattle.chain_model.specs.Sources.{Readings}
@@ -33,7 +33,7 @@ use Rattle.headline_laws.specs.Outcomes.{outcome_as}
 use Rattle.headline_laws.specs.Refused.{outside_of}
 use Rattle.headline_laws.proofs.Unchanged.{keeps}
 use Rattle.headline_laws.specs.Ends.{ChainsEndBeforeTheyBegin, ContentsEndChains, IsAsked, IsOfContents}
-use Rattle.headline_laws.proofs.Asked.{ChainSaid, all_imported, chain_said, one_refused}
+use Rattle.headline_laws.proofs.Asked.{ChainSaid, all_imported, chain_said, first_imported, one_refused}
 use Rattle.headline_laws.proofs.Dense.{dense}
 
 -- ## By the model
@@ -104,10 +104,33 @@ module _ (read : Readings) (line : List Content) (c : Chain) (seen seen' : Sourc
         held = keeps before after ends.kept.files ends.kept.stream;
       }
 
+  read_failed : (n : ℕ) → EndsBefore c seen seen' before after (end.ReadFault n) → StopsInRead read (words_say read.refusals line) files bytes (outside_of before) (outside_of after) n
+  read_failed n ends = go ends.stops
+    where
+      at_source : (f : SourceFault) → end.ReadFault n ≡ of_sources f → StopsAtSource c.places c.sources seen seen' f → StopsInRead read (words_say read.refusals line) files bytes (outside_of before) (outside_of after) n
+      at_source (fault.ReadFault m) e s = record {
+        earlier = s.place;
+        number = let same : n ≡ m = cc in same ∙ s.stops.0;
+        accepted = first_imported read line c seen seen' files bytes a s.place s.middle s.layers (s.left, s.given);
+        held = keeps before after ends.kept.files ends.kept.stream;
+      }
+      at_source (fault.Missing m) e s = absurd (cc)
+      at_source (fault.TooLong m) e s = absurd (cc)
+      at_source (fault.BadInput m why) e s = absurd (cc)
+      at_source fault.Memory e s = absurd (cc)
+
+      at_drawing : (f : SnapFault) → end.ReadFault n ≡ of_drawing f → StopsInRead read (words_say read.refusals line) files bytes (outside_of before) (outside_of after) n
+      at_drawing (snap.TooDense count) e = absurd (cc)
+      at_drawing snap.Memory e = absurd (cc)
+
+      go : EndsAtSource c seen seen' (end.ReadFault n) ⊎ EndsUnbegun c seen seen' (end.ReadFault n) → StopsInRead read (words_say read.refusals line) files bytes (outside_of before) (outside_of after) n
+      go (inl s) = at_source s.fault s.ends s.stops
+      go (inr u) = at_drawing u.fault u.ends
+
   bound : (o : Outcome) → EndsBefore c seen seen' before after o → IsEarly o → o ≢ end.Memory → Binds read (words_say read.refusals line) files bytes (outside_of before) (outside_of after) (outcome_as o)
   bound end.Done ends e lasts = absurd e
   bound (end.BadWords n why) ends e lasts = absurd e
-  bound (end.ReadFault n) ends e lasts = keeps before after ends.kept.files ends.kept.stream
+  bound (end.ReadFault n) ends e lasts = read_failed n ends
   bound (end.Missing n) ends e lasts = stopped (end.Missing n) ends tt
   bound (end.TooLong n) ends e lasts = stopped (end.TooLong n) ends tt
   bound (end.BadInput n why) ends e lasts = stopped (end.BadInput n why) ends tt

@@ -22,6 +22,8 @@ pub mod OneStep
 pub mod OneRun
 pub mod Answered
 pub mod Complete
+pub mod Unwritten
+pub mod Statuses
 pub mod Whole
 pub mod Asked
 pub mod Dense

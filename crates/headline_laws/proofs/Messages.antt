@@ -1,7 +1,8 @@
 -- The texts of outcomes, as a run and as the model of a run tell them.
-use Rattle.std.proofs.Common.{◌≡◌, inl, inr, refl, sym, ap, ◌∙◌, ℕ, List, [], ◌++◌, codes, decimal, take, drop, Option, Some, None, MatchOption, append-nil, append_assoc, subst}
+use Rattle.std.proofs.Common.{◌≡◌, ◌⊎◌, inl, inr, refl, sym, ap, ◌∙◌, ℕ, List, ◌++◌, codes, decimal, take, drop, Option, Some, None, MatchOption, append_assoc, subst}
 use Rattle.std.proofs.lemmas.List.{take-append-drop}
 use Rattle.std.specs.Io.KnownBytes.{Appends, Keeps}
+use Rattle.io_core.specs.Counts.{Rose}
 use Rattle.io_core.specs.Contents.{Content}
 use Rattle.geojson_io.specs.declared.fault.ShapeWhy.{ShapeWhy}
 use Rattle.geojson_io.specs.declared.fault.ShapeWhy.TheVariants as shape
@@ -26,7 +27,7 @@ use Rattle.run_outcome.specs.declared.outcome.Outcome.TheVariants as end
 use Rattle.chain_model.specs.Messages as model
 use Rattle.headline_laws.specs.ToldSources.{input_as}
 use Rattle.headline_laws.specs.Outcomes.{outcome_as, refusal_as}
-use Rattle.headline_laws.specs.Messages.{MessagesAreOfTheModel}
+use Rattle.headline_laws.specs.Messages.{MessagesAreOfTheModel, messages_of}
 
 -- ## Kinds
 
@@ -157,16 +158,16 @@ write_fault_offered n = ap whole_line (told_same (codes "command") n (codes "Wri
 
 -- ## Streams
 
--- the stream took the line or a first part of it
-abbrev TookPart : Option Content → Option Content → List ℕ → Type 0
-TookPart before after line = (part rest : List ℕ) × (part ++ rest ≡ line) × Appends before after part
+-- the stream took the line, or a first part of it where its count rose
+abbrev Took : StreamSeen → StreamSeen → List ℕ → Type 0
+Took before after line = Appends before.told after.told line ⊎ (Rose before.faults after.faults × model.TookPart line before.told after.told)
 
-took_part : (line : List ℕ) (before after : StreamSeen) → Offers line before after → TookPart before.told after.told line
-took_part line before after (inl whole) = (line, [], append-nil line, whole)
-took_part line before after (inr cut) = (take cut.1.count line, drop cut.1.count line, take-append-drop cut.1.count line, cut.1.added)
+took : (line : List ℕ) (before after : StreamSeen) → Offers line before after → Took before after line
+took line before after (inl whole) = inl whole
+took line before after (inr cut) = inr (cut.0, (take cut.1.count line, drop cut.1.count line, take-append-drop cut.1.count line, cut.1.added))
 
-offered : (o : Outcome) (before after : StreamSeen) → Offered o → Offers (run.message_line o) before after → model.TellsOutcome (outcome_as o) before.told after.told
-offered o before after same offers = subst (λ (m : Option (List ℕ)). MatchOption m (Keeps before.told after.told) (TookPart before.told after.told)) (sym same) (took_part (run.message_line o) before after offers)
+offered : (o : Outcome) (before after : StreamSeen) → Offered o → Offers (run.message_line o) before after → model.TellsOutcome (outcome_as o) (messages_of before) (messages_of after)
+offered o before after same offers = subst (λ (m : Option (List ℕ)). MatchOption m (Keeps before.told after.told) (Took before after)) (sym same) (took (run.message_line o) before after offers)
 
 nothing_told : (before after : Option Content) → after ≡ before → Keeps before after
 nothing_told None after e = tt

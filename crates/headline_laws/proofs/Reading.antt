@@ -200,6 +200,22 @@ module _ (files : FileMap) (input : Content) where
         (all_accepted ss g.0 left g.1 after more (before + length (g.2).bytes) (room_behind room layers) (n + 1) (fits_on budget g.0 before (length (g.2).bytes) room layers fits (g.2).within (g.2).left_behind)
         (files_on s ss seen.files (g.1).files held (g.3).files) (input_on s ss seen g.1 given (g.2).leaves) g.4)
 
+    -- so do the first of them
+    pub first_accepted : (ss : List SourceWord) (k : ℕ) (budget left : Budget) (seen after : SourcesSeen) (all : List (List LayerContent)) (before : ℕ) (room : Room) (n : ℕ) → Fits budget before room → FilesFit ss seen.files → InputFits ss seen.input → SourcesGive places (take k ss) budget seen left after all
+        → imported read places files input before room n (take k ss) ≡ Ok all
+    first_accepted [] zero budget left seen after [] before room n fits held given g = refl
+    first_accepted [] zero budget left seen after (layers ∷ more) before room n fits held given g = absurd g
+    first_accepted [] (suc k) budget left seen after [] before room n fits held given g = refl
+    first_accepted [] (suc k) budget left seen after (layers ∷ more) before room n fits held given g = absurd g
+    first_accepted (s ∷ ss) zero budget left seen after [] before room n fits held given g = refl
+    first_accepted (s ∷ ss) zero budget left seen after (layers ∷ more) before room n fits held given g = absurd g
+    first_accepted (s ∷ ss) (suc k) budget left seen after [] before room n fits held given g = absurd g
+    first_accepted (s ∷ ss) (suc k) budget left seen after (layers ∷ more) before room n fits held given g =
+        let one = one_accepted s ss budget g.0 seen g.1 layers before room n fits held given g.2 in
+        goes_on s (take k ss) layers before (length (g.2).bytes) room n (Ok more) one.0 one.1
+        (first_accepted ss k g.0 left g.1 after more (before + length (g.2).bytes) (room_behind room layers) (n + 1) (fits_on budget g.0 before (length (g.2).bytes) room layers fits (g.2).within (g.2).left_behind)
+        (files_on s ss seen.files (g.1).files held (g.3).files) (input_on s ss seen g.1 given (g.2).leaves) g.4)
+
     pub first_refused : (ss : List SourceWord) (place : ℕ) (s : SourceWord) (budget left : Budget) (seen middle after : SourcesSeen) (all : List (List LayerContent)) (why : SourceFault) (before : ℕ) (room : Room) (n number : ℕ) → number ≡ n + place → Fits budget before room → FilesFit ss seen.files → InputFits ss seen.input
         → slice_get ss place ≡ Some s → SourcesGive places (take place ss) budget seen left middle all → IsOfContents why → SourceStops places left number s middle after why → imported read places files input before room n ss ≡ Err (fault_as why)
     first_refused [] place s budget left seen middle after all why before room n number is fits held given there g mine stops = absurd (cc)

@@ -9,8 +9,8 @@ use Rattle.word_model.specs.Words.{standard_among}
 use Rattle.chain_model.specs.Headline.{needed_files, needed_input, sources_of}
 use Rattle.chain_model.specs.Sources.{whole_room}
 use Rattle.headline_laws.specs.ToldSources.{IsReadOnce}
-use Rattle.headline_laws.specs.Imported.{AcceptedSourcesAreImported, RefusedSourcesAreRefused}
-use Rattle.headline_laws.proofs.Reading.{FilesFit, InputFits, fits_whole, all_accepted, first_refused}
+use Rattle.headline_laws.specs.Imported.{AcceptedSourcesAreImported, FirstSourcesAreImported, RefusedSourcesAreRefused}
+use Rattle.headline_laws.proofs.Reading.{FilesFit, InputFits, fits_whole, all_accepted, first_accepted, first_refused}
 
 files_fit : (words : Reading JobWords) (told : Option FileMap) (files : FileMap) (input : Content) → needed_files words told ≡ Some files → FilesFit files input (sources_of words) told
 files_fit words (Some held) files input e = inr (λ name. ap (λ (f : FileMap). f name) (let same : held ≡ files = cc in same))
@@ -34,6 +34,10 @@ input_fits words None files input once e = go (standard_among (sources_of words)
 pub accepted_sources : AcceptedSourcesAreImported
 accepted_sources read right words once places seen seen' files bytes told layers given =
     all_accepted files bytes read right places (sources_of words) whole_budget given.0 seen seen' layers 0 whole_room 1 fits_whole (files_fit words seen.files files bytes told.of_files) (input_fits words seen.input files bytes once told.of_input) given.1
+
+pub first_sources : FirstSourcesAreImported
+first_sources read right words once places seen seen' files bytes told k layers given =
+    first_accepted files bytes read right places (sources_of words) k whole_budget given.0 seen seen' layers 0 whole_room 1 fits_whole (files_fit words seen.files files bytes told.of_files) (input_fits words seen.input files bytes once told.of_input) given.1
 
 pub refused_sources : RefusedSourcesAreRefused
 refused_sources read right words once places seen seen' files bytes told fault mine s =

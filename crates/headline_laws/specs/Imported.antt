@@ -1,5 +1,5 @@
 -- Laws of sources: what a run reads of them is what the model of a run imports.
-use Rattle.std.specs.Prelude.{◌≡◌, ℕ, List, Ok, Err}
+use Rattle.std.specs.Prelude.{◌≡◌, ℕ, List, take, Ok, Err}
 use Rattle.io_core.specs.Contents.{Content, FileMap}
 use Rattle.geojson_io.specs.LayerContent.{LayerContent}
 use Rattle.cmd_words.specs.Expressions.{Refusals}
@@ -20,6 +20,12 @@ abbrev pub AcceptedSourcesAreImported : Type 0
 AcceptedSourcesAreImported = (read : Readings) → AreReadings read → (words : Reading JobWords) → IsReadOnce (sources_of words) →
     (places : ℕ) (seen seen' : SourcesSeen) (files : FileMap) (bytes : Content) → AreTold words seen files bytes →
     (layers : List (List LayerContent)) → GivesAll places (sources_of words) seen seen' layers → imported read places files bytes 0 whole_room 1 (sources_of words) ≡ Ok layers
+
+-- so are the first k of them, where these gave layers
+abbrev pub FirstSourcesAreImported : Type 0
+FirstSourcesAreImported = (read : Readings) → AreReadings read → (words : Reading JobWords) → IsReadOnce (sources_of words) →
+    (places : ℕ) (seen seen' : SourcesSeen) (files : FileMap) (bytes : Content) → AreTold words seen files bytes →
+    (k : ℕ) (layers : List (List LayerContent)) → GivesAll places (take k (sources_of words)) seen seen' layers → imported read places files bytes 0 whole_room 1 (take k (sources_of words)) ≡ Ok layers
 
 -- sources that a fault of their contents stopped are refused for that fault
 abbrev pub RefusedSourcesAreRefused : Type 0

@@ -1,6 +1,8 @@
 -- How a run ended, as the model of a run names it.
+use Rattle.std.specs.Prelude.{◌≡◌}
 use Rattle.run_state.specs.declared.refusal.RefuseWhy.{RefuseWhy}
 use Rattle.run_state.specs.declared.refusal.RefuseWhy.TheVariants as refuse
+use Rattle.run_outcome.specs.Status.{status_number}
 use Rattle.run_outcome.specs.declared.outcome.Outcome.{Outcome}
 use Rattle.run_outcome.specs.declared.outcome.Outcome.TheVariants as end
 use Rattle.chain_model.specs.Outcome as model
@@ -27,3 +29,7 @@ outcome_as (end.TooDense count) = model.too_dense count
 outcome_as (end.Refused command why) = model.refused command (refusal_as why)
 outcome_as (end.WriteFault command) = model.write_fault command
 outcome_as end.Memory = model.memory
+
+-- ---- law: the status of an outcome is the one that the model gives it
+abbrev pub StatusesAreOfTheModel : Type 0
+StatusesAreOfTheModel = (o : Outcome) → status_number o ≡ model.status_of (outcome_as o)

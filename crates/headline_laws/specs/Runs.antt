@@ -11,12 +11,13 @@ use Rattle.word_model.specs.Words.{words_say}
 use Rattle.chain_model.specs.Headline.{Headline, IsRunOf, Seen}
 use Rattle.chain_model.specs.Sources.{AreReadings, Readings}
 use Rattle.headline_laws.specs.Causes.{counts_of}
+use Rattle.headline_laws.specs.Messages.{messages_of}
 use Rattle.headline_laws.specs.Outcomes.{outcome_as}
 use Rattle.headline_laws.specs.Refused.{outside_of}
 
 -- what is seen before or after a run
 abbrev pub seen_of : SourcesSeen → OutsideSeen → StreamSeen → Seen
-seen_of sources outside messages = record { outside = outside_of outside; input = sources.input; messages = messages.told; counts = counts_of sources outside }
+seen_of sources outside messages = record { outside = outside_of outside; input = sources.input; messages = messages_of messages; counts = counts_of sources outside }
 
 -- ---- law: the answer binds what is there afterwards, where the sources are told
 abbrev pub AnswersAreBound : Type 0

@@ -5,9 +5,10 @@
 //! (`each_output_has_a_text`). So the answer of a run binds what is there afterwards (`answers_are_bound`).
 //!
 //! - **Sources and ends.** What a run reads of its sources is what the model imports (`accepted_sources_are_imported`,
-//!   `refused_sources_are_refused`), and words name standard input once at most (`standard_input_is_read_once`). Faults
-//!   have the names and the causes that the model asks (`faults_are_named`, `faults_have_causes`), refused words end a
-//!   run (`refused_words_end_the_run`), and its line is that of the model (`messages_are_of_the_model`).
+//!   `first_sources_are_imported`, `refused_sources_are_refused`), and words name standard input once at most
+//!   (`standard_input_is_read_once`). Faults have the names and the causes that the model asks (`faults_are_named`,
+//!   `faults_have_causes`), refused words end a run (`refused_words_end_the_run`), and its line and its status are
+//!   those of the model (`messages_are_of_the_model`, `statuses_are_of_the_model`).
 //! - **How a run begins, or ends before.** Where files and standard input tell what they hold, a chain that ends at
 //!   a source, or at the drawing of all of them, ends there in the model too (`contents_end_chains`), and its
 //!   answer binds what is there afterwards (`chains_end_before_they_begin`). Where its commands begin, the layers
@@ -32,7 +33,8 @@
 ghost use Rattle.headline_laws.specs.Causes.{FaultsHaveCauses};
 ghost use Rattle.headline_laws.specs.Messages.{MessagesAreOfTheModel};
 ghost use Rattle.headline_laws.specs.Refused.{FaultsAreNamed, RefusedWordsEndTheRun};
-ghost use Rattle.headline_laws.specs.Imported.{AcceptedSourcesAreImported, RefusedSourcesAreRefused, StandardInputIsReadOnce};
+ghost use Rattle.headline_laws.specs.Imported.{AcceptedSourcesAreImported, FirstSourcesAreImported, RefusedSourcesAreRefused, StandardInputIsReadOnce};
+ghost use Rattle.headline_laws.specs.Outcomes.{StatusesAreOfTheModel};
 ghost use Rattle.headline_laws.specs.Begins.{ChainsBegin};
 ghost use Rattle.headline_laws.specs.Ends.{ChainsEndBeforeTheyBegin, ContentsEndChains, DenseMosaicsEndTheRun};
 ghost use Rattle.headline_laws.specs.Mosaics.{LinesOfMosaicsShow};
@@ -190,8 +192,8 @@ pub fn steps_are_of_words()
     ensures { StepsAreOfWords }
 {}
 
-/// What the contract of a run says is all that the model of a run binds it to: what its answer means and has as its
-/// cause, when it has to be Done, and its message.
+/// What the contract of a run says is all that the model of a run binds it to: what its answer means and leaves
+/// unwritten, its cause, when it has to be Done, and its message.
 pub fn runs_are_of_the_model()
     ensures { RunsAreOfTheModel }
 {}
@@ -206,9 +208,19 @@ pub fn accepted_sources_are_imported()
     ensures { AcceptedSourcesAreImported }
 {}
 
+/// Where contents are told, the first of them that gave layers are imported as these.
+pub fn first_sources_are_imported()
+    ensures { FirstSourcesAreImported }
+{}
+
 /// Where contents are told, sources that a fault of their contents stopped are refused for that fault.
 pub fn refused_sources_are_refused()
     ensures { RefusedSourcesAreRefused }
+{}
+
+/// The exit status of an outcome is the one that the model of a run gives it.
+pub fn statuses_are_of_the_model()
+    ensures { StatusesAreOfTheModel }
 {}
 
 /// The end that a fault of words, of a source or of the drawing brings has the name that the model of a run gives it.
@@ -230,7 +242,7 @@ pub fn refused_words_end_the_run()
 {}
 
 /// What a run tells of its outcome is what the model of a run tells: the line of just that outcome, or a first part of
-/// it.
+/// it where a write failed.
 pub fn messages_are_of_the_model()
     ensures { MessagesAreOfTheModel }
 {}

@@ -28,13 +28,13 @@ pub fn run<F: Files, I: Source, K: Sink, M: Sink>(
         (record {
           outside = record { files = F.held files.old; stream = K.held output.old };
           input = I.left input.old;
-          messages = M.held messages.old;
+          messages = record { told = M.held messages.old; faults = M.faults messages.old };
           counts = record { reads = F.read_faults files.old; writes = F.write_faults files.old; input = I.faults input.old; output = K.faults output.old; file_bytes = F.bytes_read files.old; input_bytes = I.bytes_read input.old };
         })
         (record {
           outside = record { files = F.held files.new; stream = K.held output.new };
           input = I.left input.new;
-          messages = M.held messages.new;
+          messages = record { told = M.held messages.new; faults = M.faults messages.new };
           counts = record { reads = F.read_faults files.new; writes = F.write_faults files.new; input = I.faults input.new; output = K.faults output.new; file_bytes = F.bytes_read files.new; input_bytes = I.bytes_read input.new };
         })
         (outcome_as result) }

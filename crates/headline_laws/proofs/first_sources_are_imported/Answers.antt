@@ -1,0 +1,6 @@
+-- The law is proved in `proofs/Sources.antt`.
+use Rattle.headline_laws.proofs.Sources.{first_sources}
+use Rattle.headline_laws.proofs.first_sources_are_imported.Goals as goal
+
+pub returns : goal.returns
+returns c = first_sources
