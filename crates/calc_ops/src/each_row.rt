@@ -7,11 +7,11 @@ ghost use Rattle.table_terms.specs.Names.{place_of};
 ghost use Rattle.calc_ops.specs.EachRow.{assigned_row, assigned_rows, each_rows, names_after, places_after, with_name, with_value};
 
 use expr_lang::AssignList;
-use io_core::{NameList, Text};
 use json_read::{Row, RowList, Table, Value};
 use std::alloc::{AllocError, Global};
 use table_ops::{TableFault, copy_names, value_for_row};
 use table_terms::NameSet;
+use text_core::{NameList, Text};
 
 /// The table after the assignments, which are made row by row, and in a row in order: each sets the field of its
 /// name to the value of its expression, which sees what was set before it in the same row.

@@ -2,10 +2,10 @@
 use calc_ops::each_rows;
 use csv_io::{Room2, read_csv, write_csv};
 use expr_lang::{Expr, ExprFault};
-use io_core::{Bytes, NameList};
 use std::alloc::Global;
 use std::test::Fail;
 use table_ops::{EvalWhy, TableFault, TableWhy};
+use text_core::{Bytes, NameList};
 
 /// A table in comma-separated text after assignments.
 fn assigned(alloc: Global, table: &[u8], assigns: &str) -> Result<Result<Bytes, TableFault>, Fail> {

@@ -3,11 +3,11 @@ use calc_ops::{sort_rows, uniq_rows};
 use csv_io::{Room2, read_csv};
 use expr_lang::Expr;
 use grid_base::IdList;
-use io_core::NameList;
 use json_read::Table;
 use std::alloc::Global;
 use std::test::Fail;
 use table_ops::{EvalWhy, TableFault, TableWhy};
+use text_core::NameList;
 
 /// Four rows: of `v` the values 2, null, 1 and 2.
 fn four_rows(alloc: Global) -> Result<Table, Fail> {

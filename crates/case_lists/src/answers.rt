@@ -1,8 +1,8 @@
 use crate::items::text_at;
-use io_core::Bytes;
 use json_read::{Json, JsonList};
 use std::alloc::{AllocError, Global};
 use std::fmt::Debug;
+use text_core::Bytes;
 
 /// The bytes of a text.
 pub fn bytes_of_text(alloc: Global, text: &str) -> Result<Bytes, AllocError> {

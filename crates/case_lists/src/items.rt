@@ -1,6 +1,6 @@
-use io_core::{NameList, Text};
 use json_read::{Json, JsonList};
 use std::alloc::{AllocError, Global};
+use text_core::{NameList, Text};
 
 /// The value of a group's member; `None` where it has none.
 pub fn member_of<'a>(group: &'a Json, name: &str) -> Option<&'a Json> {

@@ -1,8 +1,8 @@
 use crate::answers::is_wanted;
 use crate::items::text_in;
-use io_core::Bytes;
 use json_read::Json;
 use std::io;
+use text_core::Bytes;
 
 /// How many cases there were, and how many of them differ.
 #[derive(Drop)]

@@ -4,8 +4,8 @@ ghost use Rattle.cmd_words.specs.Expressions.{FitsTest};
 use crate::expressions::{Assignments, Expression};
 use crate::job::{Action, Command, LayerAction, Origin, Target};
 use expr_lang::Expr;
-use io_core::Text;
 use table_terms::{CalcSpec, JoinSpec};
+use text_core::Text;
 
 /// An action as its words ask for it, which are seen with the texts of its expressions.
 #[derive(Drop)]

@@ -11,9 +11,9 @@ use crate::texts::{form_by_ending, is_standard, names_file, pieces};
 use crate::values::{form_named, rule_of};
 use crate::word_groups::Group;
 use grid_base::OverlapRule;
-use io_core::{NameList, Text};
 use std::alloc::{AllocError, Global};
 use table_terms::{CalcSpec, GroupSpec, JoinSpec};
+use text_core::{NameList, Text};
 
 /// What a command asks for, where its chain so far has `sources` sources and `boxes` boxes, with `places` decimal
 /// places.

@@ -6,9 +6,9 @@ ghost use Rattle.cmd_words.specs.Steps.{Gives};
 use crate::fault::{Refusal, WordWhy};
 use crate::texts::pieces;
 use grid_base::{Pt, Rect};
-use io_core::Text;
 use json_read::{Decimal, is_numeral, numeral_to_grid};
 use std::alloc::Global;
+use text_core::Text;
 
 /// The decimal places of a precision: of 1, 0.1 and so on to 0.000000001.
 #[tactic(auto, unfolding(crate::specs::Areas::places_of))]

@@ -7,9 +7,9 @@ ghost use Rattle.cmd_words.specs.Steps.{Gives};
 
 use crate::fault::{Refusal, WordWhy};
 use crate::texts::pieces;
-use io_core::Text;
 use std::alloc::Global;
 use table_terms::{Calc, CalcList};
+use text_core::Text;
 
 /// Columns to be calculated: items joined by commas, each a name, `=`, and `count()` or `sum(field)`.
 pub(crate) fn read_calculations(alloc: Global, value: &str) -> Result<CalcList, Refusal>

@@ -6,9 +6,9 @@ ghost use Rattle.expr_lang.specs.Faults.{IsTree, AreAssigns};
 
 use crate::fault::{ExprWhy, Refusal, WordWhy};
 use expr_lang::{AssignList, Expr, ExprFault};
-use io_core::Text;
 use std::alloc::Global;
 use std::marker::Model;
+use text_core::Text;
 
 /// An expression beside the text that it was read from, and seen as that text.
 #[derive(Drop)]

@@ -1,8 +1,8 @@
 use crate::chain_lists::{CommandList, SourceList};
 use expr_lang::{AssignList, Expr};
 use grid_base::{BoxList, OverlapRule};
-use io_core::{NameList, Text};
 use table_terms::{CalcSpec, GroupSpec, JoinSpec, RenameList};
+use text_core::{NameList, Text};
 
 /// What a command line asks for.
 #[derive(Drop)]

@@ -23,8 +23,8 @@ use crate::so_far::SoFar;
 use crate::synth::read_synth;
 use crate::texts::is_command;
 use crate::word_groups::Group;
-use io_core::{Text, Words};
 use std::alloc::Global;
+use text_core::{Text, Words};
 
 /// The greatest number of words on a command line.
 const MAX_WORDS: usize = 1000;

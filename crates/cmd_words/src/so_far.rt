@@ -12,9 +12,9 @@ use crate::job::{Chain, Owner, SourceWord};
 use crate::texts::{is_standard, names_file};
 use crate::word_groups::Group;
 use grid_base::{BoxList, Rect};
-use io_core::Text;
 use std::alloc::{AllocError, Global};
 use std::marker::Model;
+use text_core::Text;
 
 /// What a chain asks for so far.
 #[derive(Drop)]

@@ -7,7 +7,7 @@ ghost use Rattle.cmd_words.specs.Tells.{Tells, FitsJob};
 use crate::fault::{WordFault, WordWhy};
 use crate::job::Job;
 use crate::quantities::number_in;
-use io_core::Text;
+use text_core::Text;
 
 /// Reads the words after `synth`: a seed and a size, in decimal digits.
 pub(crate) fn read_synth(words: &[Text]) -> Result<Job, WordFault>

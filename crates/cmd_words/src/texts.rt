@@ -4,8 +4,8 @@ ghost use Rattle.cmd_words.specs.Seen.{form_seen, parts_seen};
 
 use crate::commands::{ArgumentForm, GroupForm};
 use crate::job::OutForm;
-use io_core::{NameList, Text};
 use std::alloc::{AllocError, Global};
+use text_core::{NameList, Text};
 
 /// The pieces of a text between its commas; an empty text is one piece.
 pub(crate) fn pieces(alloc: Global, text: &str) -> Result<NameList, AllocError>

@@ -7,9 +7,9 @@ use crate::fault::{Refusal, WordWhy};
 use crate::job::OutForm;
 use crate::texts::{at_first_equals, pieces};
 use grid_base::OverlapRule;
-use io_core::Text;
 use std::alloc::{AllocError, Global};
 use table_terms::{Rename, RenameList};
+use text_core::Text;
 
 pub(crate) fn rule_of(value: &str) -> Option<OverlapRule>
     ensures exact { result ≡ rule_of value.now }

@@ -10,11 +10,11 @@ use crate::expressions::{Assignments, Expression};
 use crate::job::{Owner, SourceWord};
 use crate::texts::is_standard;
 use grid_base::Rect;
-use io_core::{NameList, Text};
 use std::alloc::{AllocError, Global};
 use std::marker::Model;
 use std::mem;
 use table_terms::{CalcList, RenameList};
+use text_core::{NameList, Text};
 
 /// A word, and its number from 1.
 #[derive(Drop)]

@@ -5,9 +5,9 @@ ghost use Rattle.csv.specs.Records.{fields_of};
 ghost use Rattle.csv_io.specs.CsvCells.{cell_at, cell_value, has_idle_zero, is_plain, is_plain_end, plain_decimal, plain_size, without_zeros};
 
 use csv::ByteRecord;
-use io_core::Text;
 use json_read::{Decimal, Value};
 use std::alloc::{AllocError, Global};
+use text_core::Text;
 
 /// The cell of a record in a column, empty past its end.
 #[tactic(auto, using(crate::proofs::CsvCells::cell_there, crate::proofs::CsvCells::cell_missing))]

@@ -7,9 +7,9 @@ ghost use Rattle.csv_io.specs.CsvTable.{Finds, column_cells, has_numbers, is_num
 use crate::cells::{cell_of, plain_decimal};
 use crate::fault::{CsvFault, Room2};
 use csv::ByteRecord;
-use io_core::{NameList, Text};
 use std::alloc::{AllocError, Global};
 use table_terms::NameSet;
+use text_core::{NameList, Text};
 
 /// The names of the columns, or the first column whose name stands earlier.
 pub(crate) fn header_names(alloc: Global, header: &ByteRecord) -> Result<NameList, CsvFault>

@@ -10,10 +10,10 @@ use crate::columns::{check_rows, header_names, number_columns};
 use crate::fault::{CsvFault, Room2};
 use crate::utf8::utf8_fault;
 use csv::{ByteRecord, ReaderBuilder};
-use io_core::NameList;
 use json_read::{Row, RowList, Table};
 use std::alloc::{AllocError, Global};
 use table_terms::NameSet;
+use text_core::NameList;
 
 /// The table of a comma-separated text (RFC 4180): the first record has the names.
 ///

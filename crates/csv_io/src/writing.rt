@@ -4,9 +4,9 @@ ghost use Rattle.csv.specs.Writing.{default_writer, row_text};
 ghost use Rattle.csv_io.specs.CsvText.{IsBetweenRecords, csv_text, records_text, row_cells, text_so_far};
 
 use csv::{ByteRecord, Writer, WriterBuilder};
-use io_core::{Bytes, NameList};
 use json_read::{Row, RowList, Table};
 use std::alloc::{AllocError, Global};
+use text_core::{Bytes, NameList};
 
 /// The table as comma-separated text (RFC 4180): a record of the names, and one for each row, of the
 /// plain texts of its values; a line feed ends a record. Without columns nothing.

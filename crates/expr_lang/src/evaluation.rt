@@ -7,9 +7,9 @@ use crate::expr::{Expr, Node};
 use crate::fault::EvalFault;
 use crate::operators::{applied, decided, signed, truth};
 use crate::token::{Operator, Sign};
-use io_core::{NameList, Text};
 use json_read::{Decimal, Row, Value};
 use std::alloc::Global;
+use text_core::{NameList, Text};
 
 /// The value of an expression for a row, whose columns have these names and whose feature has the
 /// number `id`, counted from 0.

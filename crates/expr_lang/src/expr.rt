@@ -1,6 +1,6 @@
 use crate::token::{Operator, Sign};
-use io_core::Text;
 use json_read::Value;
+use text_core::Text;
 
 /// An expression that was read. Only `Expr::parse` makes one.
 #[derive(Drop)]

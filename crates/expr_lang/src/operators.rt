@@ -5,10 +5,10 @@ ghost use Rattle.json_read.specs.Decimal.{checked, checked_product};
 
 use crate::fault::EvalFault;
 use crate::token::{Operator, Sign};
-use io_core::Text;
 use json_read::{Decimal, Value};
 use std::alloc::{AllocError, Global};
 use std::cmp::Ordering;
+use text_core::Text;
 
 /// The boolean that a value is.
 ///

@@ -16,9 +16,9 @@ use crate::assign::{Assign, AssignList};
 use crate::expr::{Expr, Node};
 use crate::fault::ExprFault;
 use crate::token::{Mark, Operator, Sign, Token};
-use io_core::Text;
 use json_read::Value;
 use std::alloc::{AllocError, Global};
+use text_core::Text;
 
 /// How many parentheses, signs and branches may enclose one another.
 pub const MAX_DEPTH: u32 = 64;

@@ -11,9 +11,9 @@ ghost use Rattle.expr_lang.specs.declared.token.Token.TheVariants as token;
 
 use crate::symbols::{one_byte, three_bytes, two_bytes};
 use crate::token::{Symbol, Token};
-use io_core::Text;
 use json_read::Decimal;
 use std::alloc::{AllocError, Global};
+use text_core::Text;
 
 /// What is left of a text.
 #[derive(Drop)]

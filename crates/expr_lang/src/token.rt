@@ -1,5 +1,5 @@
-use io_core::Text;
 use json_read::Decimal;
+use text_core::Text;
 
 /// An operator between two operands.
 #[derive(Clone, Copy, Debug, PartialEq, Eq, Drop)]

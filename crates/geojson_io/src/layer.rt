@@ -3,10 +3,10 @@ ghost use Rattle.std.specs.Option.{option_copied};
 
 use crate::shape::GeoShapeList;
 use grid_base::Kind;
-use io_core::Text;
 use json_read::Table;
 use std::alloc::{AllocError, Global};
 use std::marker::Model;
+use text_core::Text;
 
 /// A layer of features of one kind: a row and a shape for each, in order.
 #[derive(Drop)]

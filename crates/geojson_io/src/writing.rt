@@ -12,10 +12,10 @@ use crate::layer::GeoLayer;
 use crate::shape::GeoShape;
 use geometries::write_geometry;
 pub use geometries::{write_comma, write_point};
-use io_core::Bytes;
 use json_read::Row;
 pub use properties::{keys_of, write_properties};
 use std::alloc::{AllocError, Global};
+use text_core::Bytes;
 
 /// About how many bytes the text of a feature takes.
 const FEATURE_BYTES: usize = 160;

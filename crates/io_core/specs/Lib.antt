@@ -2,4 +2,3 @@ pub mod Counts
 pub mod Contents
 pub mod Whole
 pub mod Memory
-pub mod Text

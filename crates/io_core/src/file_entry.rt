@@ -4,9 +4,9 @@ ghost use Rattle.std.specs.Option.{option_copied};
 ghost use Rattle.io_core.specs.Memory.{holding, appended, entry_appended, is_full_for, held_of};
 
 use crate::bounded_bytes::BoundedBytes;
-use crate::text::Text;
 use std::alloc::{AllocError, Global};
 use std::marker::Model;
+use text_core::Text;
 
 /// A name of the files in memory, with its bytes; it isn't there before it was put, created or appended to.
 #[derive(Drop)]

@@ -6,26 +6,21 @@
 //!    `write_file` take bytes, and write them all, or leave a front of them and a count that rose.
 //! 3. `memory_source`, `memory_sink` and `memory_files` are the outside in memory: they tell all, move at most a
 //!    given number of bytes a call, and fail at the calls that they were given.
-//! 4. `text`, `bytes` and `name_list` are a text, and lists of bytes and of texts.
+//! 4. A text, and lists of bytes and of texts, are those of `text_core`.
 #![tactic(auto)]
 
 mod bounded_bytes;
-mod bytes;
 mod failing_calls;
 mod file_entry;
 mod memory_files;
 mod memory_sink;
 mod memory_source;
-mod name_list;
 mod outside;
-mod text;
 mod whole;
 
-pub use bytes::Bytes;
 pub use memory_files::MemFiles;
 pub use memory_sink::MemSink;
 pub use memory_source::MemSource;
-pub use name_list::{NameList, Words};
 pub use outside::{Failed, FileFault, Files, Sink, Source};
-pub use text::Text;
+pub use text_core::{Bytes, NameList, Text, Words};
 pub use whole::{FileStop, ReadStop, read_file, read_whole, write_file, write_whole};

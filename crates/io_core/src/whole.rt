@@ -3,9 +3,9 @@ ghost use Rattle.io_core.specs.Counts.{raised, Rose, NeverFell, NoneFell, HasCau
 ghost use Rattle.io_core.specs.Contents.{SameFiles, HasWriteCause};
 ghost use Rattle.io_core.specs.Whole.{TakesAll, TakesFront, AtName, MissesName, WritesWhole, FilesWhole};
 
-use crate::bytes::Bytes;
 use crate::outside::{Failed, FileFault, Files, Sink, Source};
 use std::alloc::{AllocError, Global};
+use text_core::Bytes;
 
 /// Bytes that are offered to each read.
 const READ_PIECE_BYTES: usize = 65_536;

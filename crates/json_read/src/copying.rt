@@ -1,8 +1,8 @@
 ghost use Rattle.std.specs.Prelude.{◌≡◌, IfOk};
 
 use crate::json::{Json, JsonFields, JsonList};
-use io_core::Text;
 use std::alloc::{AllocError, Global};
+use text_core::Text;
 
 impl Json {
     /// An equal value with memory of its own.

@@ -4,11 +4,11 @@ ghost use Rattle.json_read.specs.Decimal.{checked, checked_product, decimal_of_t
 ghost use Rattle.json_read.specs.Text.{Begins};
 
 use crate::units::whole_units;
-use io_core::Bytes;
 use itoa::Buffer;
 use std::alloc::AllocError;
 use std::cmp::Ordering;
 use std::marker::Model;
+use text_core::Bytes;
 
 /// How many units make 1.
 const ONE: u128 = 1_000_000_000_000_000_000;

@@ -3,9 +3,9 @@ ghost use Rattle.std.specs.Option.{option_copied};
 ghost use Rattle.json_read.specs.Table.{IsNewName, IsPlaceOf};
 
 use crate::value::Value;
-use io_core::Text;
 use std::alloc::{AllocError, Global};
 use std::marker::Model;
+use text_core::Text;
 
 /// Names and values, in order; no name stands twice.
 #[derive(Drop)]

@@ -10,9 +10,9 @@ ghost use Rattle.json_read.specs.Putting.{IsIndex};
 use crate::json::{Json, JsonFields};
 use crate::table::add_name;
 use indexmap::IndexSet;
-use io_core::Text;
 use std::alloc::{AllocError, Global};
 use std::marker::Model;
+use text_core::Text;
 
 /// The greatest number of fields that are searched one by one; more of them get an index of their names.
 const FEW_FIELDS: u32 = 16;

@@ -4,9 +4,9 @@ ghost use Rattle.json_read.specs.Seen.{members_seen};
 ghost use Rattle.json_read.specs.Putting.{PutsLast, PutsAt, HasValueAt};
 ghost use Rattle.json_read.specs.Lists.{value_named};
 
-use io_core::Text;
 use std::alloc::{AllocError, Global};
 use std::marker::Model;
+use text_core::Text;
 
 /// A JSON value. A number keeps its text.
 #[derive(Drop)]

@@ -7,8 +7,8 @@ ghost use Rattle.json_read.specs.Text.{Begins, bool_text, escaped, hex_digit, is
 
 use crate::decimal::Decimal;
 use crate::json::{Json, JsonFields, JsonList};
-use io_core::{Bytes, Text};
 use std::alloc::AllocError;
+use text_core::{Bytes, Text};
 
 impl Json {
     /// Appends the text of the value, without white space. A number whose value is a `Decimal` is printed as

@@ -14,9 +14,9 @@ mod taking;
 use crate::growing_fields::GrowingFields;
 use crate::json::{Json, JsonFields, JsonList};
 use crate::numerals::digit_count;
-use io_core::Text;
 use std::alloc::{AllocError, Global};
 pub use taking::{ItemTaker, TakenObject};
+use text_core::Text;
 
 /// The greatest depth of an array or an object.
 pub const GREATEST_DEPTH: u32 = 64;

@@ -9,9 +9,9 @@ ghost use Rattle.json_read.specs.Table.{add_name as add_one_name, add_names as a
 use crate::fields::{Fields, FieldsList};
 use crate::value::Value;
 use indexmap::IndexSet;
-use io_core::{NameList, Text};
 use std::alloc::{AllocError, Global};
 use std::marker::Model;
+use text_core::{NameList, Text};
 
 /// The values of a row, in the order of the columns; counted from 0.
 #[derive(Drop)]

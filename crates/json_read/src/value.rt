@@ -5,8 +5,8 @@ ghost use Rattle.json_read.specs.Decimal.{decimal_of_text};
 use crate::decimal::Decimal;
 use crate::json::Json;
 use crate::printing::{print_bool, print_string};
-use io_core::{Bytes, Text};
 use std::alloc::{AllocError, Global};
+use text_core::{Bytes, Text};
 
 /// The value of a table's cell.
 ///

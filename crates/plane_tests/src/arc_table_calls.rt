@@ -9,9 +9,9 @@ use crate::texts::print_points;
 use arc_table::ArcTable;
 use case_lists::{list_at, told, unknown_call};
 use grid_base::{ArcId, Pt, SignedArc};
-use io_core::Bytes;
 use json_read::Json;
 use std::alloc::{AllocError, Global};
+use text_core::Bytes;
 
 /// What a call of `arc_table` answers to a case, as this module says; to a call that isn't there, what `unknown_call`
 /// answers.

@@ -8,9 +8,9 @@ ghost use Rattle.std.specs.Prelude.{◌<◌};
 use bucket_grid::Buckets;
 use case_lists::{number_at, told, unknown_call};
 use grid_base::{BoxList, Pt, Rect};
-use io_core::Bytes;
 use json_read::Json;
 use std::alloc::{AllocError, Global};
+use text_core::Bytes;
 
 /// What a call of `bucket_grid` answers to a case, as this module says; to a call that isn't there, what `unknown_call`
 /// answers.

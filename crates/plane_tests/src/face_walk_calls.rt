@@ -5,9 +5,9 @@
 use crate::laid::Laid;
 use case_lists::{integer_at, list_at, number_at, told, unknown_call};
 use grid_base::{FaceId, FeatId};
-use io_core::Bytes;
 use json_read::Json;
 use std::alloc::{AllocError, Global};
+use text_core::Bytes;
 
 /// What a call of `face_walk` answers to a case, as this module says; to a call that isn't there, what `unknown_call`
 /// answers.

@@ -5,9 +5,9 @@
 //! reversed, or none.
 use case_lists::{bytes_of_text, integer_at, number_at, told, unknown_call};
 use grid_base::{Drawing, SignedArc};
-use io_core::Bytes;
 use json_read::Json;
 use std::alloc::{AllocError, Global};
+use text_core::Bytes;
 
 /// What a call of `grid_base` answers to a case, as this module says; to a call that isn't there, what `unknown_call`
 /// answers.

@@ -13,9 +13,9 @@ use crate::texts::{points_text, print_points};
 use case_lists::{bytes_of_text, list_at, number_at, told, unknown_call};
 use grid_base::{Drawing, PtList, Seg};
 use hot_pixels::{HotSet, crossing_pixel, meets};
-use io_core::Bytes;
 use json_read::Json;
 use std::alloc::{AllocError, Global};
+use text_core::Bytes;
 
 /// What a call of `hot_pixels` answers to a case, as this module says; to a call that isn't there, what `unknown_call`
 /// answers.

@@ -14,10 +14,10 @@ use crate::texts::paths_text;
 use arc_table::SignedPaths;
 use case_lists::{number_at, told, unknown_call};
 use grid_base::FeatId;
-use io_core::Bytes;
 use json_read::Json;
 use line_ops::{clip_paths, inner_arcs, point_inside, sided_arcs};
 use std::alloc::{AllocError, Global};
+use text_core::Bytes;
 
 /// What a call of `line_ops` answers to a case, as this module says; to a call that isn't there, what `unknown_call`
 /// answers.

@@ -27,11 +27,11 @@ mod texts;
 use case_lists::{Tally, list_at, list_in, text_in, told, unknown_call};
 use drawings::drawing_of;
 use grid_base::Drawing;
-use io_core::Bytes;
 use json_read::Json;
 use laid::{Laid, laid_out};
 use std::alloc::{AllocError, Global};
 use std::io;
+use text_core::Bytes;
 
 fn main(rt: HostRuntime) -> io::Result<()> {
     let text = io::read_to_string(rt.alloc(), rt.stdin())?;

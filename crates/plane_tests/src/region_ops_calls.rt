@@ -12,11 +12,11 @@ use crate::laid::{Holder, Laid, features, held};
 use crate::texts::polygons_text;
 use case_lists::{number_at, text_at, told, unknown_call};
 use grid_base::OverlapRule;
-use io_core::Bytes;
 use json_read::Json;
 use region_ops::{clean_sets, clip_sets, erase_sets, mosaic_sets};
 use ring_trace::{FaceSet, SetList, trace};
 use std::alloc::{AllocError, Global};
+use text_core::Bytes;
 
 /// What a call of `region_ops` answers to a case, as this module says; to a call that isn't there, what `unknown_call`
 /// answers.

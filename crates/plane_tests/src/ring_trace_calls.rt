@@ -9,10 +9,10 @@ use crate::laid::{Holder, Laid, held};
 use crate::texts::polygons_text;
 use case_lists::{list_at, number_at, told, unknown_call};
 use grid_base::FaceId;
-use io_core::Bytes;
 use json_read::Json;
 use ring_trace::{FaceSet, parts, trace};
 use std::alloc::{AllocError, Global};
+use text_core::Bytes;
 
 /// What a call of `ring_trace` answers to a case, as this module says; to a call that isn't there, what `unknown_call`
 /// answers.

@@ -7,10 +7,10 @@ use crate::drawings::repeated_lines;
 use crate::texts::print_points;
 use case_lists::{number_at, told, unknown_call};
 use grid_base::{Drawing, FeatId, Snapped};
-use io_core::Bytes;
 use json_read::Json;
 use snap_round::snap;
 use std::alloc::{AllocError, Global};
+use text_core::Bytes;
 
 /// What a call of `snap_round` answers to a case, as this module says; to a call that isn't there, what `unknown_call`
 /// answers.

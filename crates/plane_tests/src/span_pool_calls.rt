@@ -7,10 +7,10 @@ use crate::drawings::points_of;
 use crate::texts::print_points;
 use case_lists::{list_at, told, unknown_call};
 use grid_base::{IdList, Pt};
-use io_core::Bytes;
 use json_read::Json;
 use span_pool::{SpanId, SpanPool};
 use std::alloc::{AllocError, Global};
+use text_core::Bytes;
 
 /// What a call of `span_pool` answers to a case, as this module says; to a call that isn't there, what `unknown_call`
 /// answers.

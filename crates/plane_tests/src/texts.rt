@@ -1,8 +1,8 @@
 // Points, paths and polygons as lines of text.
 use arc_table::{ArcTable, Polys, SignedPaths};
 use grid_base::{Pt, SignedArc};
-use io_core::Bytes;
 use std::alloc::{AllocError, Global};
+use text_core::Bytes;
 
 // Appends a point, after a blank where it isn't the first of its line.
 fn print_point(alloc: Global, out: &mut Bytes, point: Pt) -> Result<(), AllocError> {

@@ -3,8 +3,8 @@ ghost use Rattle.std.specs.Prelude.{◌≡◌, IfOk};
 use crate::layer::Shape;
 use arc_table::{SignedPath, SignedPaths};
 use grid_base::{PtList, SignedArc};
-use io_core::Text;
 use std::alloc::{AllocError, Global};
+use text_core::Text;
 
 /// An equal text of its own; `AllocError` for want of memory.
 pub fn copy_text(alloc: Global, text: &Text) -> Result<Text, AllocError>

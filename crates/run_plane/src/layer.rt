@@ -2,9 +2,9 @@ ghost use Rattle.std.specs.Prelude.{◌≡◌, length};
 
 use arc_table::SignedPaths;
 use grid_base::{Kind, PtList};
-use io_core::Text;
 use json_read::Table;
 use ring_trace::FaceSet;
+use text_core::Text;
 
 /// What a feature has of the plane that all layers of a run share. A shape may be empty: the feature then has no
 /// geometry, and keeps its row.

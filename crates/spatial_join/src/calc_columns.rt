@@ -7,10 +7,10 @@ ghost use Rattle.table_terms.specs.Refusals.{unless};
 ghost use Rattle.spatial_join.specs.Joined.{as_join, joined_names, refused_items};
 
 use crate::calculations::{append_names, check_calculations};
-use io_core::NameList;
 use std::alloc::Global;
 use table_ops::{Columns, CopiedFields, TableFault, check_fields, copied_columns, copied_names};
 use table_terms::{CalcSpec, NameSet};
+use text_core::NameList;
 
 /// The columns of the target and after them those of the copied fields whose names are new, and all names: those of
 /// the calculated columns stand last.

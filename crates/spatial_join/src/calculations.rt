@@ -4,11 +4,11 @@ ghost use Rattle.spatial_join.specs.CalcColumns.{calculated_at, summed_place, wi
 ghost use Rattle.spatial_join.specs.Joined.{calc_name, lacks_field, refused_calc};
 
 use grid_base::IdList;
-use io_core::{NameList, Text};
 use json_read::{Decimal, Row, RowList, Value};
 use std::alloc::{AllocError, Global};
 use table_ops::{TableFault, TableWhy, column_sum};
 use table_terms::{Calc, NameSet};
+use text_core::{NameList, Text};
 
 /// Tests the calculations, which count from `first`: the source has the field of each sum, and the name of each is that
 /// of no column of the target, of no copied field and of no earlier calculation.

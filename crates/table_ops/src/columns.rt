@@ -9,10 +9,10 @@ ghost use Rattle.json_read.specs.Table.{AreDistinctNames};
 use crate::fault::TableFault;
 use crate::items::{check_list, places_of};
 use crate::rows::{copy_names, pick_row};
-use io_core::NameList;
 use json_read::{RowList, Table};
 use std::alloc::{AllocError, Global};
 use table_terms::NameSet;
+use text_core::NameList;
 
 /// The listed columns, in the listed order.
 ///

@@ -11,9 +11,9 @@ use crate::fault::{EvalWhy, TableFault, TableWhy};
 use crate::rows::row_of;
 use expr_lang::{EvalFault, Expr, eval_values};
 use grid_base::IdList;
-use io_core::{NameList, Text};
 use json_read::{Row, Table, Value};
 use std::alloc::{AllocError, Global};
+use text_core::{NameList, Text};
 
 /// The numbers of the rows for which the expression is true, or with `invert` false.
 ///

@@ -14,10 +14,10 @@ use crate::groups::{group_list, groups_at};
 use crate::items::{check_list, places_of};
 use crate::rows::{append_picked, first_row};
 use grid_base::{GroupList, IdList};
-use io_core::{NameList, Text};
 use json_read::{Row, RowList, Table};
 use std::alloc::{AllocError, Global};
 use table_terms::{GroupSpec, NameSet};
+use text_core::{NameList, Text};
 
 /// Rows in groups, and a table with a row for each group.
 #[derive(Drop)]

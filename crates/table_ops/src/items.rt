@@ -5,9 +5,9 @@ ghost use Rattle.table_terms.specs.Names.{place_of};
 ghost use Rattle.table_ops.specs.Refusals.{refused_item, Refuses};
 
 use crate::fault::{TableFault, TableWhy};
-use io_core::{NameList, Text};
 use std::alloc::{AllocError, Global};
 use table_terms::NameSet;
+use text_core::{NameList, Text};
 
 /// Tests the items of a list, which count from `first`: each is a name, and stands once.
 pub(crate) fn check_list(

@@ -21,10 +21,10 @@ use crate::rows::copy_at;
 use expr_lang::Expr;
 use grid_base::IdList;
 use indexmap::IndexMap;
-use io_core::NameList;
 use json_read::{Row, RowList, Table, Value};
 use std::alloc::{AllocError, Global};
 use table_terms::{JoinSpec, NameSet};
+use text_core::NameList;
 
 /// Fields of the source go to the rows of the target: to each from the first source row whose key is
 /// the same, where null is the same as nothing.

@@ -6,9 +6,9 @@ ghost use Rattle.table_ops.specs.JoinColumns.{added_column, columns_of, join_of,
 ghost use Rattle.table_terms.specs.Names.{Text, has_name, place_of};
 
 use crate::rows::copy_names;
-use io_core::{NameList, Text};
 use std::alloc::{AllocError, Global};
 use table_terms::{JoinSpec, NameSet};
+use text_core::{NameList, Text};
 
 /// Where a column of a joined table comes from; places are counted from 0.
 #[derive(Clone, Copy)]

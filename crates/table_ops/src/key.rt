@@ -7,11 +7,11 @@ ghost use Rattle.table_ops.specs.Keys.{key_text, same_values};
 ghost use Rattle.table_ops.specs.Rows.{picked};
 
 use crate::rows::pick_row;
-use io_core::Bytes;
 use json_read::{Row, Value};
 use std::alloc::{AllocError, Global};
 use std::hash::{Hash, Hasher};
 use std::marker::Model;
+use text_core::Bytes;
 
 /// The values by which a row is told apart from others, and a text of them by which they are hashed.
 #[derive(Drop)]

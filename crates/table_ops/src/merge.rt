@@ -12,11 +12,11 @@ ghost use Rattle.table_ops.specs.Rows.{picked};
 use crate::fault::{TableFault, TableWhy};
 use crate::items::places_of;
 use crate::rows::pick_row;
-use io_core::{NameList, Text};
 use json_read::{RowList, Table};
 use std::alloc::{AllocError, Global};
 use std::marker::Model;
 use table_terms::NameSet;
+use text_core::{NameList, Text};
 
 /// A list of tables; counted from 0.
 #[derive(Drop)]

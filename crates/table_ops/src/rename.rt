@@ -12,10 +12,10 @@ ghost use Rattle.table_ops.specs.Refusals.{Answers, Refuses, refused_item};
 use crate::fault::{TableFault, TableWhy};
 use crate::items::check_items;
 use crate::rows::copy_rows;
-use io_core::{NameList, Text};
 use json_read::Table;
 use std::alloc::{AllocError, Global};
 use table_terms::{NameSet, Rename, RenameList};
+use text_core::{NameList, Text};
 
 /// All pairs at once: each old name gets its new one, and columns keep their places.
 ///

@@ -4,9 +4,9 @@ ghost use Rattle.table_ops.specs.Rows.{first_of, picked, row_at, take_rows};
 ghost use Rattle.table_terms.specs.Names.{value_at};
 
 use grid_base::IdList;
-use io_core::{NameList, Text};
 use json_read::{Row, RowList, Table, Value};
 use std::alloc::{AllocError, Global};
+use text_core::{NameList, Text};
 
 /// The rows with these numbers, in this order.
 ///

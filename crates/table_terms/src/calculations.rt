@@ -2,9 +2,9 @@ ghost use Rattle.std.specs.Prelude.{◌≡◌, ◌++◌, ◌∷◌, [], OnOk, On
 ghost use Rattle.std.specs.Option.{option_copied};
 
 use expr_lang::Expr;
-use io_core::{NameList, Text};
 use std::alloc::{AllocError, Global};
 use std::marker::Model;
+use text_core::{NameList, Text};
 
 /// A new column, of the source rows that match a row of the target.
 #[derive(Drop)]

@@ -4,9 +4,9 @@ ghost use Rattle.std.specs.Str.{bytes_eq};
 ghost use Rattle.indexmap.specs.IndexSet.{insert_key};
 
 use indexmap::IndexSet;
-use io_core::NameList;
 use std::alloc::{AllocError, Global};
 use std::marker::Model;
+use text_core::NameList;
 
 /// Names in order of first appearance, each once, with the place of each.
 #[derive(Drop)]

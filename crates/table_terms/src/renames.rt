@@ -1,9 +1,9 @@
 ghost use Rattle.std.specs.Prelude.{◌≡◌, ◌++◌, ◌∷◌, [], OnOk, OnErr, length, slice_get};
 ghost use Rattle.std.specs.Option.{option_copied};
 
-use io_core::Text;
 use std::alloc::{AllocError, Global};
 use std::marker::Model;
+use text_core::Text;
 
 /// A new name, `label`, for the column that has been called `field`.
 #[derive(Drop)]

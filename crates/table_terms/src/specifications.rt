@@ -1,5 +1,5 @@
 use expr_lang::Expr;
-use io_core::{NameList, Text};
+use text_core::{NameList, Text};
 
 /// The columns of a grouping: those that a group has in common, those of its first row, and those
 /// that are summed.

@@ -3,10 +3,10 @@ ghost use Rattle.std.specs.Option.{option_copied};
 
 use arc_table::{Polys, SignedPaths};
 use grid_base::{Kind, PtList};
-use io_core::Text;
 use json_read::Table;
 use std::alloc::{AllocError, Global};
 use std::marker::Model;
+use text_core::Text;
 
 /// A feature's geometry in arcs: nothing, or at least one polygon, line or point.
 #[derive(Drop)]

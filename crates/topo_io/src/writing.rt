@@ -13,11 +13,11 @@ use crate::arc_layer::{ArcLayer, ArcLayers};
 use arc_table::ArcTable;
 use arcs::write_arcs;
 use geojson_io::{keys_of, write_comma};
-use io_core::{Bytes, Text};
 use json_read::{Decimal, Value};
 use numbering::Numbering;
 use shapes::write_geometries;
 use std::alloc::{AllocError, Global};
+use text_core::{Bytes, Text};
 
 /// The TopoJSON text of layers: one object for each, by its name, and the arcs that they use.
 ///

@@ -5,10 +5,10 @@ ghost use Rattle.table_ops.specs.Merge.{all_names};
 ghost use Rattle.table_terms.specs.Names.{has_name};
 ghost use Rattle.union_ops.specs.ColumnNames.{AreNewNames, AreTried, IsFree, IsNewName, numbered as name_with_number};
 
-use io_core::{NameList, Text};
 use json_read::Table;
 use std::alloc::{AllocError, Global};
 use table_terms::NameSet;
+use text_core::{NameList, Text};
 
 /// The names of the columns so far, and for each the least number that was not tried as its ending. All numbers from 2
 /// on that were tried make no new name, and never will.

@@ -7,10 +7,10 @@ ghost use Rattle.union_ops.specs.UnionTable.{IsChosenFrom, IsOfTables, IsUnionTa
 
 use crate::column_names::union_names;
 use crate::union_lists::{UnionItem, UnionList};
-use io_core::NameList;
 use json_read::{Row, RowList, Table, Value};
 use std::alloc::{AllocError, Global};
 use table_ops::TableList;
+use text_core::NameList;
 
 /// The columns of the tables side by side, and for each item a row: the values of the rows that it has chosen, and
 /// null where it has chosen none.

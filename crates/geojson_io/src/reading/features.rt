@@ -10,10 +10,10 @@ use crate::fault::{ShapeFault, ShapeWhy, Stop};
 use crate::reading::geometries::geometry;
 use crate::reading::types::{GeoType, Member, type_of};
 use crate::shape::GeoShape;
-use io_core::Text;
 use json_read::{Fields, Json, JsonFields, Value};
 use std::alloc::{AllocError, Global};
 use std::slice;
+use text_core::Text;
 
 /// A feature as it was read.
 #[derive(Drop)]

@@ -6,9 +6,9 @@ use crate::layer::{GeoLayer, GeoLayers};
 use crate::reading::features::Feature;
 use crate::shape::{GeoShape, GeoShapeList};
 use grid_base::Kind;
-use io_core::Text;
 use json_read::{FieldsList, Table};
 use std::alloc::{AllocError, Global};
+use text_core::Text;
 
 fn kind_of(shape: &GeoShape) -> Option<Kind>
     ensures { result ≡ kind_of shape.now }

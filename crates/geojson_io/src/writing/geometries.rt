@@ -5,8 +5,8 @@ ghost use Rattle.geojson_io.specs.Texts.{point_text, path_text, polygon_text, li
 use crate::shape::GeoShape;
 use crate::writing::numbers::write_number;
 use grid_base::{PolygonRings, Pt, PtList};
-use io_core::Bytes;
 use std::alloc::AllocError;
+use text_core::Bytes;
 
 /// A point as a pair of numbers in brackets.
 pub fn write_point(point: &Pt, places: u8, out: &mut Bytes) -> Result<(), AllocError>

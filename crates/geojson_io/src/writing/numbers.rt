@@ -5,9 +5,9 @@ ghost use Rattle.json_read.specs.Decimal.{is_negative, last_digits, sign_text, t
 ghost use Rattle.geojson_io.specs.Numbers.{fraction_text, whole_digits};
 ghost use Rattle.geojson_io.specs.Texts.{grid_text};
 
-use io_core::Bytes;
 use itoa::write_digits;
 use std::alloc::AllocError;
+use text_core::Bytes;
 
 /// Appends a grid number as the decimal `g / 10^places`, and the byte `last` after it.
 pub fn write_number(g: i64, places: u8, last: u8, out: &mut Bytes) -> Result<(), AllocError>

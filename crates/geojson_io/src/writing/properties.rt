@@ -2,9 +2,9 @@ ghost use Rattle.std.specs.Prelude.{◌≡◌, ◌++◌, IfOk, OnOk, length, map
 ghost use Rattle.geojson_io.specs.Texts.{key_text, member_text, properties_text};
 
 use crate::writing::geometries::write_comma;
-use io_core::{Bytes, Text};
 use json_read::{Row, Value};
 use std::alloc::{AllocError, Global};
+use text_core::{Bytes, Text};
 
 // The name of a column as it stands before each of its values.
 fn key_of(alloc: Global, name: &str) -> Result<Bytes, AllocError>

@@ -10,8 +10,8 @@ use crate::growing_fields::GrowingFields;
 use crate::json::{Json, JsonFields};
 use crate::parsing::fault_at;
 use crate::reader::{Fault, GREATEST_DEPTH, Reader, Stop};
-use io_core::Text;
 use std::alloc::{AllocError, Global};
+use text_core::Text;
 
 /// What takes the items of an array one after another, as they are read.
 ///

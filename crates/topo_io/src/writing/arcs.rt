@@ -6,9 +6,9 @@ ghost use Rattle.topo_io.specs.Texts.{arc_text, numbered_arc_text, arcs_text};
 use arc_table::ArcTable;
 use geojson_io::write_comma;
 use grid_base::{ArcId, Pt};
-use io_core::Bytes;
 use json_read::Decimal;
 use std::alloc::AllocError;
+use text_core::Bytes;
 
 /// A whole number.
 pub fn write_whole(n: i64, out: &mut Bytes) -> Result<(), AllocError>

@@ -10,9 +10,9 @@ use crate::writing::numbering::Numbering;
 use arc_table::{SignedPath, SignedPaths};
 use geojson_io::{write_comma, write_point, write_properties};
 use grid_base::{Pt, SignedArc};
-use io_core::Bytes;
 use json_read::Row;
 use std::alloc::AllocError;
+use text_core::Bytes;
 
 // An arc by its new index.
 fn write_index(arc: SignedArc, numbering: &Numbering, out: &mut Bytes) -> Result<(), AllocError>

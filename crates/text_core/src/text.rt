@@ -20,7 +20,7 @@ enum Content {
 
 impl Model for Text {
     ghost use Rattle.std.specs.Prelude.{List, ℕ};
-    ghost use Rattle.io_core.specs.Text.{content_bytes};
+    ghost use Rattle.text_core.specs.Text.{content_bytes};
 
     ghost Value = { List ℕ };
 

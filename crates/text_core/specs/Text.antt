@@ -1,8 +1,8 @@
 -- The bytes of a text, whether it lies in the value itself or in memory of its own.
 use Rattle.std.specs.Prelude.{List, ℕ}
 use Rattle.std.specs.String.{string_bytes}
-use Rattle.io_core.specs.declared.text.Content.{Content}
-use Rattle.io_core.specs.declared.text.Content.TheVariants.{Short, Long}
+use Rattle.text_core.specs.declared.text.Content.{Content}
+use Rattle.text_core.specs.declared.text.Content.TheVariants.{Short, Long}
 
 abbrev pub content_bytes : Content → List ℕ
 content_bytes (Short s) = s.bytes
