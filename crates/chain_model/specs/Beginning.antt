@@ -11,9 +11,9 @@ use Rattle.geojson_io.specs.LayerContent.{LayerContent}
 use Rattle.geojson_io.specs.Layers.{same_kind}
 use Rattle.geojson_io.specs.declared.shape.GeoShape.{GeoShape}
 use Rattle.geojson_io.specs.declared.shape.GeoShape.TheVariants as shape
-use Rattle.cmd_words.specs.declared.job.Owner.{Owner}
-use Rattle.cmd_words.specs.declared.job.Owner.TheVariants as owner
-use Rattle.cmd_words.specs.declared.job.SourceWord.{SourceWord}
+use Rattle.job_terms.specs.declared.job.Owner.{Owner}
+use Rattle.job_terms.specs.declared.job.Owner.TheVariants as owner
+use Rattle.job_terms.specs.declared.job.SourceWord.{SourceWord}
 use Rattle.region_model.specs.Region.{feature}
 use Rattle.region_model.specs.Answers.{Plane}
 use Rattle.chain_model.specs.State.{State, StateLayer, Shape, region, paths, points, no_shape}

@@ -12,8 +12,8 @@ use Rattle.cmd_words.specs.declared.action_words.ActionWords.{ActionWords}
 use Rattle.cmd_words.specs.declared.action_words.ActionWords.TheVariants as asked
 use Rattle.cmd_words.specs.declared.action_words.CommandWords.{CommandWords}
 use Rattle.cmd_words.specs.Words.{JobWords, Reading, synth, chain}
-use Rattle.cmd_words.specs.declared.job.Action.TheVariants as action
-use Rattle.cmd_words.specs.declared.job.SourceWord.{SourceWord}
+use Rattle.job_terms.specs.declared.job.Action.TheVariants as action
+use Rattle.job_terms.specs.declared.job.SourceWord.{SourceWord}
 use Rattle.chain_model.specs.Outcome.{Outcome, done, bad_words, read_fault, missing, too_long, bad_input, too_dense, refused, write_fault, memory}
 use Rattle.chain_model.specs.Sources.{Readings, byte_limit, imported, whole_room}
 use Rattle.chain_model.specs.Messages.{MessagesSeen, TellsOutcome}

@@ -15,8 +15,8 @@ use Rattle.topo_io.specs.declared.arc_layer.ArcShape.{ArcShape}
 use Rattle.topo_io.specs.declared.arc_layer.ArcShape.TheVariants as arcs
 use Rattle.csv_io.specs.CsvText.{csv_text}
 use Rattle.table_terms.specs.Names.{Text}
-use Rattle.cmd_words.specs.declared.job.OutForm.{OutForm}
-use Rattle.cmd_words.specs.declared.job.OutForm.TheVariants as form
+use Rattle.job_terms.specs.declared.job.OutForm.{OutForm}
+use Rattle.job_terms.specs.declared.job.OutForm.TheVariants as form
 use Rattle.region_model.specs.Region.{Region}
 use Rattle.region_model.specs.Answers.{Plane, Answers, is_empty}
 use Rattle.region_model.specs.Printed.{Fits}

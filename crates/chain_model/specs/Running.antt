@@ -12,10 +12,10 @@ use Rattle.table_terms.specs.Names.{Text}
 use Rattle.table_terms.specs.Refusals.{on_ok}
 use Rattle.cmd_words.specs.Tells.{FitsJob}
 use Rattle.cmd_words.specs.Words.{JobWords, Reading}
-use Rattle.cmd_words.specs.declared.job.Chain.{Chain}
-use Rattle.cmd_words.specs.declared.job.Command.{Command}
-use Rattle.cmd_words.specs.declared.job.Job.{Job}
-use Rattle.cmd_words.specs.declared.job.Job.TheVariants as job
+use Rattle.job_terms.specs.declared.job.Chain.{Chain}
+use Rattle.job_terms.specs.declared.job.Command.{Command}
+use Rattle.job_terms.specs.declared.job.Job.{Job}
+use Rattle.job_terms.specs.declared.job.Job.TheVariants as job
 use Rattle.region_model.specs.Answers.{Answers, AreRight, Plane, plane_of}
 use Rattle.synth_model.specs.Cells.{cells}
 use Rattle.chain_model.specs.Outcome.{Outcome, done, bad_words, too_dense, refused}

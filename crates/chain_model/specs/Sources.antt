@@ -26,7 +26,7 @@ use Rattle.csv_io.specs.declared.fault.CsvFault.{CsvFault}
 use Rattle.csv_io.specs.declared.fault.CsvFault.TheVariants as csv
 use Rattle.cmd_words.specs.Expressions.{AreRefusals, Refusals}
 use Rattle.cmd_words.specs.Texts.{ends_in}
-use Rattle.cmd_words.specs.declared.job.SourceWord.{SourceWord}
+use Rattle.job_terms.specs.declared.job.SourceWord.{SourceWord}
 use Rattle.chain_model.specs.Outcome.{Outcome, missing, too_long, bad_input, InputWhy, syntax, depth, utf8, shape as in_feature, topo, no_header, repeated_name, too_many_rows, unequal_row}
 
 -- ---- readings of texts, which grammars determine

@@ -5,10 +5,10 @@ use Rattle.std.specs.Str.{bytes_eq}
 use Rattle.lists.specs.Lists.{numbers_where, has, joined_up}
 use Rattle.grid_base.specs.declared.kinds.Kind.{Kind}
 use Rattle.table_terms.specs.Names.{Text, has_name}
-use Rattle.cmd_words.specs.declared.job.Target.{Target}
-use Rattle.cmd_words.specs.declared.job.Target.TheVariants as target
-use Rattle.cmd_words.specs.declared.job.Origin.{Origin}
-use Rattle.cmd_words.specs.declared.job.Origin.TheVariants as origin
+use Rattle.job_terms.specs.declared.job.Target.{Target}
+use Rattle.job_terms.specs.declared.job.Target.TheVariants as target
+use Rattle.job_terms.specs.declared.job.Origin.{Origin}
+use Rattle.job_terms.specs.declared.job.Origin.TheVariants as origin
 use Rattle.chain_model.specs.Outcome.{RefuseWhy, no_layer, many_layers, wrong_kind, too_many_layers}
 use Rattle.chain_model.specs.State.{State, StateLayer}
 

@@ -3,7 +3,7 @@ use Rattle.std.proofs.Common.{◌≡◌, ℕ, ◌<◌, false, not, List, [], ◌
 use Rattle.std.specs.Str.{bytes_eq}
 use Rattle.cmd_words.specs.declared.fault.WordFault.{WordFault}
 use Rattle.cmd_words.specs.declared.word_groups.Word.{Word}
-use Rattle.cmd_words.specs.declared.job.Chain.{Chain}
+use Rattle.job_terms.specs.declared.job.Chain.{Chain}
 use Rattle.cmd_words.specs.Rows.{Text, Row, row_of}
 use Rattle.cmd_words.specs.Steps.{on_ok}
 use Rattle.cmd_words.specs.Expressions.{Refusals}

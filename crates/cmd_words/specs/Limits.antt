@@ -1,8 +1,8 @@
 -- The limits that each accepted job keeps.
 use Rattle.std.specs.Prelude.{◌≤◌}
 use Rattle.grid_base.specs.Grid.{most_places}
-use Rattle.cmd_words.specs.declared.job.Job.{Job}
-use Rattle.cmd_words.specs.declared.job.Job.TheVariants as job
+use Rattle.job_terms.specs.declared.job.Job.{Job}
+use Rattle.job_terms.specs.declared.job.Job.TheVariants as job
 
 -- a mosaic of 1 to 300 cells a side, or a chain of at most as many decimal places as a grid has
 abbrev pub KeepsLimits : Job → Type 0

@@ -4,9 +4,9 @@ use Rattle.cmd_words.specs.declared.fault.WordFault.{WordFault}
 use Rattle.cmd_words.specs.declared.fault.WordFault.TheVariants as fault
 use Rattle.cmd_words.specs.declared.fault.Refusal.{Refusal}
 use Rattle.cmd_words.specs.declared.fault.Refusal.TheVariants as refusal
-use Rattle.cmd_words.specs.declared.job.Chain.{Chain}
-use Rattle.cmd_words.specs.declared.job.Job.{Job}
-use Rattle.cmd_words.specs.declared.job.Job.TheVariants as job
+use Rattle.job_terms.specs.declared.job.Chain.{Chain}
+use Rattle.job_terms.specs.declared.job.Job.{Job}
+use Rattle.job_terms.specs.declared.job.Job.TheVariants as job
 use Rattle.cmd_words.specs.ActionWords.{FitEach}
 use Rattle.cmd_words.specs.Words.{Reading, ChainWords, JobWords, synth, chain}
 

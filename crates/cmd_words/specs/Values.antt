@@ -6,8 +6,8 @@ use Rattle.grid_base.specs.declared.kinds.OverlapRule.TheVariants as rule
 use Rattle.table_terms.specs.declared.renames.Rename.{Rename}
 use Rattle.cmd_words.specs.declared.fault.WordWhy.{WordWhy}
 use Rattle.cmd_words.specs.declared.fault.WordWhy.TheVariants as why
-use Rattle.cmd_words.specs.declared.job.OutForm.{OutForm}
-use Rattle.cmd_words.specs.declared.job.OutForm.TheVariants as form
+use Rattle.job_terms.specs.declared.job.OutForm.{OutForm}
+use Rattle.job_terms.specs.declared.job.OutForm.TheVariants as form
 use Rattle.cmd_words.specs.Rows.{Text}
 use Rattle.cmd_words.specs.Steps.{on_ok, each_step}
 use Rattle.cmd_words.specs.Texts.{pieces, is_empty, at_first_equals}

@@ -4,8 +4,8 @@ use Rattle.std.specs.Str.{bytes_eq}
 use Rattle.cmd_words.specs.declared.fault.WordWhy.{WordWhy}
 use Rattle.cmd_words.specs.declared.fault.WordWhy.TheVariants as why
 use Rattle.cmd_words.specs.declared.word_groups.Word.{Word}
-use Rattle.cmd_words.specs.declared.job.SourceWord.{SourceWord}
-use Rattle.cmd_words.specs.declared.job.Owner.TheVariants as owner
+use Rattle.job_terms.specs.declared.job.SourceWord.{SourceWord}
+use Rattle.job_terms.specs.declared.job.Owner.TheVariants as owner
 use Rattle.cmd_words.specs.declared.commands.Keyword.{Keyword}
 use Rattle.cmd_words.specs.Rows.{Text, Form, Row, row_of, import_form}
 use Rattle.cmd_words.specs.Steps.{on_ok, each_step}

@@ -2,8 +2,8 @@ ghost use Rattle.cmd_words.specs.ActionWords.{FitsAction, FitsCommand, FitsJoin,
 ghost use Rattle.cmd_words.specs.Expressions.{FitsTest};
 
 use crate::expressions::{Assignments, Expression};
-use crate::job::{Action, Command, LayerAction, Origin, Target};
 use expr_lang::Expr;
+use job_terms::{Action, Command, LayerAction, Origin, Target};
 use table_terms::{CalcSpec, JoinSpec};
 use text_core::Text;
 

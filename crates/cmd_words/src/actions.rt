@@ -5,12 +5,12 @@ ghost use Rattle.cmd_words.specs.Chains.{list_or_empty, target_of, argument_text
 
 use crate::action_words::ActionWords;
 use crate::commands::{ExpressionKeyword, JointKeyword, Keyword, LayerKeyword};
-use crate::job::{Action, JointAction, LayerAction, Origin, OutForm, Target};
 use crate::quantities::{count_from, gap_from, least_area_from};
 use crate::texts::{form_by_ending, is_standard, names_file, pieces};
 use crate::values::{form_named, rule_of};
 use crate::word_groups::Group;
 use grid_base::OverlapRule;
+use job_terms::{Action, JointAction, LayerAction, Origin, OutForm, Target};
 use std::alloc::{AllocError, Global};
 use table_terms::{CalcSpec, GroupSpec, JoinSpec};
 use text_core::{NameList, Text};

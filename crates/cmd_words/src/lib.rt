@@ -14,11 +14,9 @@ mod action_words;
 mod actions;
 mod areas;
 mod calculations;
-mod chain_lists;
 mod commands;
 mod expressions;
 mod fault;
-mod job;
 mod options;
 mod quantities;
 mod reading;
@@ -29,10 +27,9 @@ mod values;
 mod word_groups;
 
 pub use action_words::{ActionWords, CommandWords};
-pub use chain_lists::{CommandList, SourceList};
 pub use fault::{ExprWhy, WordFault, WordWhy};
-pub use job::{
-    Action, Chain, Command, Job, JointAction, LayerAction, Origin, OutForm, Owner, SourceWord,
-    Target,
+pub use job_terms::{
+    Action, Chain, Command, CommandList, Job, JointAction, LayerAction, Origin, OutForm, Owner,
+    SourceList, SourceWord, Target,
 };
 pub use reading::read_chain;

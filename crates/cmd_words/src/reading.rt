@@ -17,12 +17,12 @@ use crate::actions::{lacks_argument, lacks_form};
 use crate::areas::places_of;
 use crate::commands::{CommandRow, GroupForm, IMPORT, Keyword, row_of};
 use crate::fault::{WordFault, WordWhy};
-use crate::job::{Chain, Job};
 use crate::options::take_word;
 use crate::so_far::SoFar;
 use crate::synth::read_synth;
 use crate::texts::is_command;
 use crate::word_groups::Group;
+use job_terms::{Chain, Job};
 use std::alloc::Global;
 use text_core::{Text, Words};
 

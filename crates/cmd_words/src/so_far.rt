@@ -6,12 +6,11 @@ ghost use Rattle.cmd_words.specs.Words.{imported};
 
 use crate::action_words::{CommandWords, whole_command};
 use crate::actions::{action, argument_text, copy_of, list_or_empty, takes_source, target_of};
-use crate::chain_lists::{CommandList, SourceList};
 use crate::commands::Keyword;
-use crate::job::{Chain, Owner, SourceWord};
 use crate::texts::{is_standard, names_file};
 use crate::word_groups::Group;
 use grid_base::{BoxList, Rect};
+use job_terms::{Chain, CommandList, Owner, SourceList, SourceWord};
 use std::alloc::{AllocError, Global};
 use std::marker::Model;
 use text_core::Text;

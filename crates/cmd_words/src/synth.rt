@@ -5,8 +5,8 @@ ghost use Rattle.cmd_words.specs.Words.{read_seed, read_synth};
 ghost use Rattle.cmd_words.specs.Tells.{Tells, FitsJob};
 
 use crate::fault::{WordFault, WordWhy};
-use crate::job::Job;
 use crate::quantities::number_in;
+use job_terms::Job;
 use text_core::Text;
 
 /// Reads the words after `synth`: a seed and a size, in decimal digits.

@@ -3,7 +3,7 @@ ghost use Rattle.cmd_words.specs.Texts.{pieces, has_empty_piece, at_first_equals
 ghost use Rattle.cmd_words.specs.Seen.{form_seen, parts_seen};
 
 use crate::commands::{ArgumentForm, GroupForm};
-use crate::job::OutForm;
+use job_terms::OutForm;
 use std::alloc::{AllocError, Global};
 use text_core::{NameList, Text};
 

@@ -4,9 +4,9 @@ ghost use Rattle.cmd_words.specs.Texts.{at_first_equals};
 ghost use Rattle.cmd_words.specs.Steps.{Gives};
 
 use crate::fault::{Refusal, WordWhy};
-use crate::job::OutForm;
 use crate::texts::{at_first_equals, pieces};
 use grid_base::OverlapRule;
+use job_terms::OutForm;
 use std::alloc::{AllocError, Global};
 use table_terms::{Rename, RenameList};
 use text_core::Text;

@@ -5,11 +5,10 @@ ghost use Rattle.cmd_words.specs.Settings.{value_named};
 ghost use Rattle.cmd_words.specs.Words.{import_source};
 
 use crate::actions::list_or_empty;
-use crate::chain_lists::SourceList;
 use crate::expressions::{Assignments, Expression};
-use crate::job::{Owner, SourceWord};
 use crate::texts::is_standard;
 use grid_base::Rect;
+use job_terms::{Owner, SourceList, SourceWord};
 use std::alloc::{AllocError, Global};
 use std::marker::Model;
 use std::mem;

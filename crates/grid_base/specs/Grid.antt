@@ -1,15 +1,8 @@
 -- The bounds of the grid, and rectangles: words for whole numbers of the plane.
 use Rattle.std.specs.Prelude.{ℕ, ℤ, pos, neg_ℤ, int_le, ◌≤ℤ◌, Bool, ◌&&◌, if◌then◌else◌, Option, Some, None}
+pub use Rattle.grid_bounds.specs.Bounds.{limit, most_places}
 use Rattle.plane_model.specs.Points.{GridPoint}
 use Rattle.plane_model.specs.Hot.{IsWithinBounds}
-
--- a number of the grid is at most this, either way
-abbrev pub limit : ℕ
-limit = 200000000000
-
--- the greatest number of decimal places that a grid has
-abbrev pub most_places : ℕ
-most_places = 9
 
 -- the least and the greatest number of the grid
 abbrev pub least : ℤ

@@ -23,13 +23,14 @@ mod snapped;
 
 pub use area::Rect;
 pub use drawing::Drawing;
+pub use grid_bounds::{LIMIT, MOST_PLACES};
 pub use kinds::{Kind, OverlapRule};
 pub use link::Link;
 pub use list_types::{
     BoxList, GroupList, IdList, LinkList, Path, PathList, PolygonRings, PtList, RingsList,
 };
 pub use numbers::{ArcId, FaceId, FeatId};
-pub use point::{LIMIT, MOST_PLACES, Pt, determinant, step, turn};
+pub use point::{Pt, determinant, step, turn};
 pub use segment::Seg;
 pub use signed_arc::SignedArc;
 pub use snapped::Snapped;

@@ -3,13 +3,8 @@ ghost use Rattle.plane_model.specs.Points.{GridPoint, Segment, cross};
 ghost use Rattle.grid_base.specs.Grid.{grid_point, IsOnGrid};
 ghost use Rattle.grid_base.specs.Sizes.{IsStep, IsCross};
 
+use grid_bounds::LIMIT;
 use std::marker::Model;
-
-/// A number of the grid is at most this, either way: 200,000,000,000.
-pub const LIMIT: i64 = 200_000_000_000;
-
-/// The greatest number of decimal places that a grid has.
-pub const MOST_PLACES: u8 = 9;
 
 /// A point of the grid. Points are ordered by x, then by y.
 #[derive(Clone, Copy, PartialEq, Eq, PartialOrd, Ord, Debug)]

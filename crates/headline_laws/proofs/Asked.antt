@@ -2,9 +2,9 @@
 use Rattle.std.proofs.Common.{◌≡◌, ℕ, List, take, Ok, Err, sym, ap, ◌∙◌, subst}
 use Rattle.io_core.specs.Contents.{Content, FileMap}
 use Rattle.geojson_io.specs.LayerContent.{LayerContent}
-use Rattle.cmd_words.specs.declared.job.Chain.{Chain}
-use Rattle.cmd_words.specs.declared.job.Job.TheVariants as job
-use Rattle.cmd_words.specs.declared.job.SourceWord.{SourceWord}
+use Rattle.job_terms.specs.declared.job.Chain.{Chain}
+use Rattle.job_terms.specs.declared.job.Job.TheVariants as job
+use Rattle.job_terms.specs.declared.job.SourceWord.{SourceWord}
 use Rattle.cmd_words.specs.Tells.{FitsChain, FitsJob}
 use Rattle.cmd_words.specs.Words.{ChainWords, JobWords, Reading, synth, chain}
 use Rattle.run_sources.specs.Sources.{SourcesSeen, GivesAll, StopsAtSource}

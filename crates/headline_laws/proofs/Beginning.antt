@@ -7,8 +7,8 @@ use Rattle.plane_model.specs.Drawing.{Drawing}
 use Rattle.plane_model.specs.Snapped.{link_count, links_of, snapped}
 use Rattle.io_core.specs.Contents.{Content, FileMap}
 use Rattle.geojson_io.specs.LayerContent.{LayerContent}
-use Rattle.cmd_words.specs.declared.job.Chain.{Chain}
-use Rattle.cmd_words.specs.declared.job.Job.TheVariants as job
+use Rattle.job_terms.specs.declared.job.Chain.{Chain}
+use Rattle.job_terms.specs.declared.job.Job.TheVariants as job
 use Rattle.run_plane.specs.Begun.{IsFew}
 use Rattle.run_sources.specs.Sources.{SourcesSeen}
 use Rattle.run_outcome.specs.declared.outcome.Outcome.{Outcome}

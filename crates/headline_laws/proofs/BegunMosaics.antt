@@ -9,7 +9,7 @@ use Rattle.synth_model.specs.Cells.{cells}
 use Rattle.snap_round.specs.Snapping.{FaultMeans}
 use Rattle.snap_round.specs.declared.fault.SnapFault.{SnapFault}
 use Rattle.snap_round.specs.declared.fault.SnapFault.TheVariants as snap
-use Rattle.cmd_words.specs.declared.job.Job.TheVariants as job
+use Rattle.job_terms.specs.declared.job.Job.TheVariants as job
 use Rattle.cmd_words.specs.Tells.{FitsJob}
 use Rattle.cmd_words.specs.Words.{JobWords, Reading}
 use Rattle.run_outcome.specs.Ends.{of_drawing}

@@ -2,9 +2,9 @@
 use Rattle.std.proofs.Common.{◌≡◌, inl, inr, refl, sym, ◌∙◌, subst, ℕ, List, [], ◌∷◌, ◌++◌, Result, Ok, append_assoc}
 use Rattle.std.specs.List.{AllZip}
 use Rattle.io_core.specs.Contents.{Content, FileMap}
-use Rattle.cmd_words.specs.declared.job.Chain.{Chain}
-use Rattle.cmd_words.specs.declared.job.Command.{Command}
-use Rattle.cmd_words.specs.declared.job.Job.TheVariants as job
+use Rattle.job_terms.specs.declared.job.Chain.{Chain}
+use Rattle.job_terms.specs.declared.job.Command.{Command}
+use Rattle.job_terms.specs.declared.job.Job.TheVariants as job
 use Rattle.cmd_words.specs.Words.{JobWords, Reading}
 use Rattle.run_sources.specs.Sources.{SourcesSeen}
 use Rattle.run_state.specs.Origins.{Base}

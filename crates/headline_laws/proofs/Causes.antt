@@ -11,14 +11,14 @@ use Rattle.cmd_words.specs.declared.fault.WordFault.TheVariants as word
 use Rattle.cmd_words.specs.declared.action_words.ActionWords.{ActionWords}
 use Rattle.cmd_words.specs.declared.action_words.ActionWords.TheVariants as asked
 use Rattle.cmd_words.specs.declared.action_words.CommandWords.{CommandWords}
-use Rattle.cmd_words.specs.declared.job.Action.{Action}
-use Rattle.cmd_words.specs.declared.job.Action.TheVariants as action
-use Rattle.cmd_words.specs.declared.job.Chain.{Chain}
-use Rattle.cmd_words.specs.declared.job.Command.{Command}
-use Rattle.cmd_words.specs.declared.job.Job.{Job}
-use Rattle.cmd_words.specs.declared.job.Job.TheVariants as job
-use Rattle.cmd_words.specs.declared.job.OutForm.{OutForm}
-use Rattle.cmd_words.specs.declared.job.SourceWord.{SourceWord}
+use Rattle.job_terms.specs.declared.job.Action.{Action}
+use Rattle.job_terms.specs.declared.job.Action.TheVariants as action
+use Rattle.job_terms.specs.declared.job.Chain.{Chain}
+use Rattle.job_terms.specs.declared.job.Command.{Command}
+use Rattle.job_terms.specs.declared.job.Job.{Job}
+use Rattle.job_terms.specs.declared.job.Job.TheVariants as job
+use Rattle.job_terms.specs.declared.job.OutForm.{OutForm}
+use Rattle.job_terms.specs.declared.job.SourceWord.{SourceWord}
 use Rattle.cmd_words.specs.ActionWords.{FitsAction, whole, join, spatial_join, filter, each, sort, uniq, FitsCommand, FitEach}
 use Rattle.cmd_words.specs.Tells.{Tells, FitsJob, FitsChain}
 use Rattle.cmd_words.specs.Words.{Reading, ChainWords, JobWords, synth, chain}

@@ -2,8 +2,8 @@
 use Rattle.std.proofs.Common.{◌≡◌, ◌⊎◌, inl, inr, refl, sym, subst, List, Ok}
 use Rattle.std.specs.Prelude.{◌≢◌}
 use Rattle.io_core.specs.Contents.{Content, FileMap}
-use Rattle.cmd_words.specs.declared.job.Chain.{Chain}
-use Rattle.cmd_words.specs.declared.job.Job.TheVariants as job
+use Rattle.job_terms.specs.declared.job.Chain.{Chain}
+use Rattle.job_terms.specs.declared.job.Job.TheVariants as job
 use Rattle.run_sources.specs.Sources.{SourcesSeen}
 use Rattle.run_state.specs.Targets.{first_layers}
 use Rattle.run_outcome.specs.declared.outcome.Outcome.{Outcome}

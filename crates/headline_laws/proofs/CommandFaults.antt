@@ -1,8 +1,8 @@
 -- Commands in order: what is refused, or failed to be written, is of the command that is answered.
 use Rattle.std.proofs.Common.{◌≡◌, ◌⊎◌, inl, inr, ℕ, ◌+◌, suc, List, [], ◌∷◌, slice_get, Some, refl, ap, sym, ◌∙◌, arith, subst}
-use Rattle.cmd_words.specs.declared.job.Action.{Action}
-use Rattle.cmd_words.specs.declared.job.Action.TheVariants as action
-use Rattle.cmd_words.specs.declared.job.Command.{Command}
+use Rattle.job_terms.specs.declared.job.Action.{Action}
+use Rattle.job_terms.specs.declared.job.Action.TheVariants as action
+use Rattle.job_terms.specs.declared.job.Command.{Command}
 use Rattle.run_state.specs.Origins.{Base}
 use Rattle.run_state.specs.declared.refusal.RefuseWhy.{RefuseWhy}
 use Rattle.run_state.specs.declared.state.CommandStop.{CommandStop}

@@ -4,10 +4,10 @@ use Rattle.std.specs.Prelude.{⊤}
 use Rattle.std.specs.List.{AllZip}
 use Rattle.io_core.specs.Contents.{Content}
 use Rattle.table_terms.specs.Names.{Text}
-use Rattle.cmd_words.specs.declared.job.Action.{Action}
-use Rattle.cmd_words.specs.declared.job.Action.TheVariants as action
-use Rattle.cmd_words.specs.declared.job.Command.{Command}
-use Rattle.cmd_words.specs.declared.job.OutForm.{OutForm}
+use Rattle.job_terms.specs.declared.job.Action.{Action}
+use Rattle.job_terms.specs.declared.job.Action.TheVariants as action
+use Rattle.job_terms.specs.declared.job.Command.{Command}
+use Rattle.job_terms.specs.declared.job.OutForm.{OutForm}
 use Rattle.run_state.specs.Origins.{Base}
 use Rattle.run_state.specs.Targets.{targets}
 use Rattle.run_state.specs.declared.refusal.RefuseWhy.{RefuseWhy}

@@ -12,9 +12,9 @@ use Rattle.cmd_words.specs.Tells.{FitsChain, FitsJob}
 use Rattle.cmd_words.specs.Words.{ChainWords, JobWords, Reading, synth, chain}
 use Rattle.cmd_words.specs.declared.fault.WordFault.{WordFault}
 use Rattle.cmd_words.specs.declared.fault.WordFault.TheVariants as words
-use Rattle.cmd_words.specs.declared.job.Chain.{Chain}
-use Rattle.cmd_words.specs.declared.job.Job.{Job}
-use Rattle.cmd_words.specs.declared.job.Job.TheVariants as job
+use Rattle.job_terms.specs.declared.job.Chain.{Chain}
+use Rattle.job_terms.specs.declared.job.Job.{Job}
+use Rattle.job_terms.specs.declared.job.Job.TheVariants as job
 use Rattle.run_sources.specs.Sources.{SourcesSeen}
 use Rattle.run_sources.specs.declared.fault.SourceFault.{SourceFault}
 use Rattle.run_sources.specs.declared.fault.SourceFault.TheVariants as fault

@@ -4,9 +4,9 @@ use Rattle.io_core.specs.Contents.{Content, FileMap, SameFiles}
 use Rattle.io_core.specs.Counts.{Rose, NeverFell}
 use Rattle.io_core.specs.Whole.{MissesName}
 use Rattle.io_core.proofs.Reading.{NeverFell-refl}
-use Rattle.cmd_words.specs.declared.job.Action.{Action}
-use Rattle.cmd_words.specs.declared.job.Action.TheVariants as action
-use Rattle.cmd_words.specs.declared.job.SourceWord.{SourceWord}
+use Rattle.job_terms.specs.declared.job.Action.{Action}
+use Rattle.job_terms.specs.declared.job.Action.TheVariants as action
+use Rattle.job_terms.specs.declared.job.SourceWord.{SourceWord}
 use Rattle.run_sources.specs.Budget.{whole_budget}
 use Rattle.geojson_io.specs.LayerContent.{LayerContent}
 use Rattle.word_laws.proofs.Shown.{TypeOf}

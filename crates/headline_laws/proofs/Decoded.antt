@@ -22,7 +22,7 @@ use Rattle.csv_io.specs.CsvTable.{ReadsText, table_of_text}
 use Rattle.csv_io.specs.CsvUtf8.{EndsUtf8At}
 use Rattle.csv_io.specs.declared.fault.CsvFault.{CsvFault}
 use Rattle.csv_io.specs.declared.fault.CsvFault.TheVariants as csv
-use Rattle.cmd_words.specs.declared.job.SourceWord.{SourceWord}
+use Rattle.job_terms.specs.declared.job.SourceWord.{SourceWord}
 use Rattle.run_sources.specs.Decoding.{TextGives, JsonGives, JsonRefuses, IsTableText, IsRefusedTable, ValueAnswers, or_shape_fault, or_topology_fault}
 use Rattle.run_sources.specs.Decoding as run
 use Rattle.run_sources.specs.Formats as format

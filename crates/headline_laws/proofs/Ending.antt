@@ -8,8 +8,8 @@ use Rattle.geojson_io.specs.LayerContent.{LayerContent}
 use Rattle.snap_round.specs.Snapping.{FaultMeans}
 use Rattle.snap_round.specs.declared.fault.SnapFault.{SnapFault}
 use Rattle.snap_round.specs.declared.fault.SnapFault.TheVariants as snap
-use Rattle.cmd_words.specs.declared.job.Chain.{Chain}
-use Rattle.cmd_words.specs.declared.job.Job.TheVariants as job
+use Rattle.job_terms.specs.declared.job.Chain.{Chain}
+use Rattle.job_terms.specs.declared.job.Job.TheVariants as job
 use Rattle.cmd_words.specs.Words.{JobWords, Reading}
 use Rattle.run_sources.specs.Sources.{SourcesSeen, GivesAll, StopsAtSource}
 use Rattle.run_sources.specs.declared.fault.SourceFault.{SourceFault}

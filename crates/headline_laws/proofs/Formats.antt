@@ -5,7 +5,7 @@ use Rattle.json_read.specs.Lists.{fields_list, value_named}
 use Rattle.io_core.specs.Contents.{Content}
 use Rattle.geojson_io.specs.Geometries.{text_of}
 use Rattle.std.specs.Str.{bytes_eq}
-use Rattle.cmd_words.specs.declared.job.SourceWord.{SourceWord}
+use Rattle.job_terms.specs.declared.job.SourceWord.{SourceWord}
 use Rattle.run_sources.specs.Decoding as run
 use Rattle.run_sources.specs.Formats as format
 use Rattle.run_sources.specs.Titles as title

@@ -4,7 +4,7 @@ use Rattle.std.specs.Prelude.{nat_lt}
 use Rattle.std.proofs.lemmas.Bool.{ltb-false, ltb-true}
 use Rattle.geojson_io.specs.LayerContent.{LayerContent}
 use Rattle.io_core.specs.Counts.{last, raised}
-use Rattle.cmd_words.specs.declared.job.SourceWord.{SourceWord}
+use Rattle.job_terms.specs.declared.job.SourceWord.{SourceWord}
 use Rattle.run_sources.specs.Budget.{whole_budget}
 use Rattle.run_sources.specs.Sources.{SourcesSeen, Grew, SourcesGive, ReadsMore}
 use Rattle.headline_laws.proofs.Counts.{Budget}

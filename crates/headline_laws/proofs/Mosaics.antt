@@ -8,7 +8,7 @@ use Rattle.io_core.proofs.FileReading.{SameFiles-refl}
 use Rattle.synth_model.specs.Cells.{cells}
 use Rattle.snap_round.specs.declared.fault.SnapFault.{SnapFault}
 use Rattle.snap_round.specs.declared.fault.SnapFault.TheVariants as snap
-use Rattle.cmd_words.specs.declared.job.Job.TheVariants as job
+use Rattle.job_terms.specs.declared.job.Job.TheVariants as job
 use Rattle.cmd_words.specs.Tells.{FitsJob}
 use Rattle.cmd_words.specs.Words.{JobWords, Reading}
 use Rattle.run_sources.specs.Sources.{SourcesSeen}

@@ -8,8 +8,8 @@ use Rattle.table_terms.specs.Names.{Text}
 use Rattle.table_terms.specs.Refusals.{on_ok, first_refusal}
 use Rattle.cmd_words.specs.declared.fault.WordWhy.{WordWhy}
 use Rattle.cmd_words.specs.declared.fault.WordWhy.TheVariants as why
-use Rattle.cmd_words.specs.declared.job.Owner.TheVariants as owner
-use Rattle.cmd_words.specs.declared.job.SourceWord.{SourceWord}
+use Rattle.job_terms.specs.declared.job.Owner.TheVariants as owner
+use Rattle.job_terms.specs.declared.job.SourceWord.{SourceWord}
 use Rattle.cmd_words.specs.Chains.{SoFar}
 use Rattle.cmd_words.specs.Expressions.{Refusals}
 use Rattle.cmd_words.specs.Texts.{is_standard, names_file}

@@ -9,8 +9,8 @@ use Rattle.cmd_words.specs.ActionWords.{FitEach}
 use Rattle.cmd_words.specs.Tells.{FitsChain}
 use Rattle.cmd_words.specs.Words.{ChainWords}
 use Rattle.cmd_words.specs.declared.action_words.CommandWords.{CommandWords}
-use Rattle.cmd_words.specs.declared.job.Chain.{Chain}
-use Rattle.cmd_words.specs.declared.job.Command.{Command}
+use Rattle.job_terms.specs.declared.job.Chain.{Chain}
+use Rattle.job_terms.specs.declared.job.Command.{Command}
 use Rattle.region_model.specs.Answers.{Answers, Plane, plane_of}
 use Rattle.chain_model.specs.Beginning.{drawing_of}
 use Rattle.chain_model.specs.Outcome as model

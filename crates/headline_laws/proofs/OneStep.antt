@@ -27,12 +27,12 @@ use Rattle.cmd_words.specs.Expressions.{FitsTest}
 use Rattle.cmd_words.specs.declared.action_words.ActionWords.{ActionWords}
 use Rattle.cmd_words.specs.declared.action_words.ActionWords.TheVariants as words
 use Rattle.cmd_words.specs.declared.action_words.CommandWords.{CommandWords}
-use Rattle.cmd_words.specs.declared.job.Action.{Action}
-use Rattle.cmd_words.specs.declared.job.Action.TheVariants as action
-use Rattle.cmd_words.specs.declared.job.Command.{Command}
-use Rattle.cmd_words.specs.declared.job.LayerAction.{LayerAction}
-use Rattle.cmd_words.specs.declared.job.LayerAction.TheVariants as layer
-use Rattle.cmd_words.specs.declared.job.Origin.{Origin}
+use Rattle.job_terms.specs.declared.job.Action.{Action}
+use Rattle.job_terms.specs.declared.job.Action.TheVariants as action
+use Rattle.job_terms.specs.declared.job.Command.{Command}
+use Rattle.job_terms.specs.declared.job.LayerAction.{LayerAction}
+use Rattle.job_terms.specs.declared.job.LayerAction.TheVariants as layer
+use Rattle.job_terms.specs.declared.job.Origin.{Origin}
 use Rattle.region_model.specs.Answers.{Answers, Plane}
 use Rattle.chain_model.specs.Features.{Outputs, with_features, with_table}
 use Rattle.chain_model.specs.Features as features

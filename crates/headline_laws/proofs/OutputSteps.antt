@@ -6,11 +6,11 @@ use Rattle.std.proofs.lemmas.List.{length-map}
 use Rattle.lists.specs.Lists.{each_once}
 use Rattle.table_terms.specs.Names.{Text}
 use Rattle.table_terms.specs.Refusals.{on_ok, unless}
-use Rattle.cmd_words.specs.declared.job.Action.{Action}
-use Rattle.cmd_words.specs.declared.job.Action.TheVariants as does
-use Rattle.cmd_words.specs.declared.job.Command.{Command}
-use Rattle.cmd_words.specs.declared.job.OutForm.{OutForm}
-use Rattle.cmd_words.specs.declared.job.OutForm.TheVariants as form
+use Rattle.job_terms.specs.declared.job.Action.{Action}
+use Rattle.job_terms.specs.declared.job.Action.TheVariants as does
+use Rattle.job_terms.specs.declared.job.Command.{Command}
+use Rattle.job_terms.specs.declared.job.OutForm.{OutForm}
+use Rattle.job_terms.specs.declared.job.OutForm.TheVariants as form
 use Rattle.run_plane.specs.declared.layer.Layer.{Layer}
 use Rattle.run_state.specs.Origins.{Base}
 use Rattle.run_state.specs.Targets.{has_target, targets}

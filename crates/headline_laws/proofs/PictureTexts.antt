@@ -6,8 +6,8 @@ use Rattle.geojson_io.specs.LayerContent.{LayerContent}
 use Rattle.topo_io.specs.ArcLayerContent.{ArcLayerContent}
 use Rattle.topo_io.specs.Texts.{topojson_text}
 use Rattle.csv_io.specs.CsvText.{csv_text}
-use Rattle.cmd_words.specs.declared.job.OutForm.{OutForm}
-use Rattle.cmd_words.specs.declared.job.OutForm.TheVariants as form
+use Rattle.job_terms.specs.declared.job.OutForm.{OutForm}
+use Rattle.job_terms.specs.declared.job.OutForm.TheVariants as form
 use Rattle.run_plane.specs.declared.layer.Layer.{Layer}
 use Rattle.run_state.specs.Origins.{Base, one_layer}
 use Rattle.run_state.specs.declared.refusal.RefuseWhy.{RefuseWhy}

@@ -12,7 +12,7 @@ use Rattle.geojson_io.specs.declared.layer.Room.{Room}
 use Rattle.geojson_io.specs.declared.shape.GeoShape.{GeoShape}
 use Rattle.geojson_io.specs.declared.shape.GeoShape.TheVariants as shape
 use Rattle.table_terms.specs.Refusals.{on_ok}
-use Rattle.cmd_words.specs.declared.job.SourceWord.{SourceWord}
+use Rattle.job_terms.specs.declared.job.SourceWord.{SourceWord}
 use Rattle.run_sources.specs.Budget.{whole_budget, budget_behind, feature_count, position_count, positions_in}
 use Rattle.run_sources.specs.Sources.{SourcesSeen, AtSource, SourceMissing, LeavesInput, SourceGives, SourcesGive, SourceStops, IsRefusedInput}
 use Rattle.run_sources.specs.declared.fault.SourceFault.{SourceFault}

@@ -4,7 +4,7 @@ use Rattle.io_core.specs.Contents.{Content, FileMap}
 use Rattle.cmd_words.specs.declared.fault.WordFault.{WordFault}
 use Rattle.cmd_words.specs.declared.fault.WordFault.TheVariants as words
 use Rattle.cmd_words.specs.declared.fault.WordWhy.{WordWhy}
-use Rattle.cmd_words.specs.declared.job.Job.{Job}
+use Rattle.job_terms.specs.declared.job.Job.{Job}
 use Rattle.cmd_words.specs.Tells.{Tells, FitsJob}
 use Rattle.cmd_words.specs.Words.{Reading, JobWords}
 use Rattle.run_sources.specs.Sources.{SourcesSeen}

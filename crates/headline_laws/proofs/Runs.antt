@@ -4,8 +4,8 @@ use Rattle.io_core.specs.Contents.{Content, FileMap}
 use Rattle.cmd_words.specs.Words.{JobWords, Reading}
 use Rattle.cmd_words.specs.declared.fault.WordFault.{WordFault}
 use Rattle.cmd_words.specs.declared.fault.WordFault.TheVariants as words
-use Rattle.cmd_words.specs.declared.job.Job.{Job}
-use Rattle.cmd_words.specs.declared.job.Job.TheVariants as job
+use Rattle.job_terms.specs.declared.job.Job.{Job}
+use Rattle.job_terms.specs.declared.job.Job.TheVariants as job
 use Rattle.run_sources.specs.Sources.{SourcesSeen}
 use Rattle.run_outcome.specs.declared.outcome.Outcome.{Outcome}
 use Rattle.run_chain.specs.Effects.{OutsideSeen}

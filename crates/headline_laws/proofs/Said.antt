@@ -5,7 +5,7 @@ use Rattle.io_core.specs.Contents.{Content}
 use Rattle.expr_lang.specs.Grammar.{Cond, Assigns}
 use Rattle.cmd_words.specs.declared.fault.ExprWhy.{ExprWhy}
 use Rattle.cmd_words.specs.declared.fault.WordFault.{WordFault}
-use Rattle.cmd_words.specs.declared.job.Job.{Job}
+use Rattle.job_terms.specs.declared.job.Job.{Job}
 use Rattle.cmd_words.specs.Expressions.{Refusals, AreRefusals, TextKind, HasFault, expression, assignments, fault_at}
 use Rattle.cmd_words.specs.Tells.{Tells, FitsJob}
 use Rattle.cmd_words.specs.Words.{Reading, JobWords, read_words}

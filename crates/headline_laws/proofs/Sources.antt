@@ -3,7 +3,7 @@ use Rattle.std.proofs.Common.{◌≡◌, inl, inr, ◌+◌, Bool, true, false, n
 use Rattle.std.specs.List.{list_any}
 use Rattle.io_core.specs.Contents.{Content, FileMap}
 use Rattle.cmd_words.specs.Words.{JobWords, Reading}
-use Rattle.cmd_words.specs.declared.job.SourceWord.{SourceWord}
+use Rattle.job_terms.specs.declared.job.SourceWord.{SourceWord}
 use Rattle.run_sources.specs.Budget.{whole_budget}
 use Rattle.word_model.specs.Words.{standard_among}
 use Rattle.chain_model.specs.Headline.{needed_files, needed_input, sources_of}

@@ -1,12 +1,12 @@
 -- What each command does to layers shows what the state's step does, and so do all commands in order.
 use Rattle.std.proofs.Common.{◌≡◌, refl, List, [], ◌∷◌}
-use Rattle.cmd_words.specs.declared.job.Action.{Action}
-use Rattle.cmd_words.specs.declared.job.Action.TheVariants as action
-use Rattle.cmd_words.specs.declared.job.Command.{Command}
-use Rattle.cmd_words.specs.declared.job.JointAction.{JointAction}
-use Rattle.cmd_words.specs.declared.job.JointAction.TheVariants as joint
-use Rattle.cmd_words.specs.declared.job.LayerAction.{LayerAction}
-use Rattle.cmd_words.specs.declared.job.LayerAction.TheVariants as layer
+use Rattle.job_terms.specs.declared.job.Action.{Action}
+use Rattle.job_terms.specs.declared.job.Action.TheVariants as action
+use Rattle.job_terms.specs.declared.job.Command.{Command}
+use Rattle.job_terms.specs.declared.job.JointAction.{JointAction}
+use Rattle.job_terms.specs.declared.job.JointAction.TheVariants as joint
+use Rattle.job_terms.specs.declared.job.LayerAction.{LayerAction}
+use Rattle.job_terms.specs.declared.job.LayerAction.TheVariants as layer
 use Rattle.run_state.specs.Origins.{Base}
 use Rattle.run_state.specs.declared.state.Held.{Held}
 use Rattle.chain_model.specs.State.{State}

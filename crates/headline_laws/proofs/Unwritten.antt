@@ -4,9 +4,9 @@ use Rattle.io_core.specs.Contents.{Content, SameFiles}
 use Rattle.io_core.proofs.FileReading.{SameFiles-refl}
 use Rattle.std.specs.Io.KnownBytes.{Appends}
 use Rattle.io_core.specs.Counts.{Rose}
-use Rattle.cmd_words.specs.declared.job.Chain.{Chain}
-use Rattle.cmd_words.specs.declared.job.Job.{Job}
-use Rattle.cmd_words.specs.declared.job.Job.TheVariants as job
+use Rattle.job_terms.specs.declared.job.Chain.{Chain}
+use Rattle.job_terms.specs.declared.job.Job.{Job}
+use Rattle.job_terms.specs.declared.job.Job.TheVariants as job
 use Rattle.cmd_words.specs.declared.fault.WordFault.{WordFault}
 use Rattle.run_sources.specs.Sources.{SourcesSeen}
 use Rattle.run_state.specs.Targets.{first_layers}

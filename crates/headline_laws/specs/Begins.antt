@@ -1,8 +1,8 @@
 -- The law of chains whose commands begin: the layers of the run show those of the state of the model.
 use Rattle.std.specs.Prelude.{◌≡◌, List, Ok}
 use Rattle.io_core.specs.Contents.{Content, FileMap}
-use Rattle.cmd_words.specs.declared.job.Chain.{Chain}
-use Rattle.cmd_words.specs.declared.job.Job.TheVariants as job
+use Rattle.job_terms.specs.declared.job.Chain.{Chain}
+use Rattle.job_terms.specs.declared.job.Job.TheVariants as job
 use Rattle.run_sources.specs.Sources.{SourcesSeen}
 use Rattle.run_plane.specs.declared.layer.Layer.{Layer}
 use Rattle.run_state.specs.Origins.{Base}

@@ -1,9 +1,9 @@
 -- Laws of chains that end before their commands begin: at a source, or at the drawing of all of them.
 use Rattle.std.specs.Prelude.{◌≡◌, ◌≢◌, ℕ, ⊤, List, Ok, Err}
 use Rattle.io_core.specs.Contents.{Content, FileMap}
-use Rattle.cmd_words.specs.declared.job.Chain.{Chain}
-use Rattle.cmd_words.specs.declared.job.Job.{Job}
-use Rattle.cmd_words.specs.declared.job.Job.TheVariants as job
+use Rattle.job_terms.specs.declared.job.Chain.{Chain}
+use Rattle.job_terms.specs.declared.job.Job.{Job}
+use Rattle.job_terms.specs.declared.job.Job.TheVariants as job
 use Rattle.run_sources.specs.Sources.{SourcesSeen}
 use Rattle.run_outcome.specs.declared.outcome.Outcome.{Outcome}
 use Rattle.run_outcome.specs.declared.outcome.Outcome.TheVariants as end

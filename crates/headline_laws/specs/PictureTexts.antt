@@ -3,10 +3,10 @@ use Rattle.std.specs.Prelude.{◌≡◌, ℕ, Bool, List, Some, None, Ok}
 use Rattle.std.specs.List.{AllZip}
 use Rattle.io_core.specs.Contents.{Content}
 use Rattle.table_terms.specs.Names.{Text}
-use Rattle.cmd_words.specs.declared.job.Action.TheVariants as does
-use Rattle.cmd_words.specs.declared.job.Command.{Command}
-use Rattle.cmd_words.specs.declared.job.OutForm.{OutForm}
-use Rattle.cmd_words.specs.declared.job.OutForm.TheVariants as form
+use Rattle.job_terms.specs.declared.job.Action.TheVariants as does
+use Rattle.job_terms.specs.declared.job.Command.{Command}
+use Rattle.job_terms.specs.declared.job.OutForm.{OutForm}
+use Rattle.job_terms.specs.declared.job.OutForm.TheVariants as form
 use Rattle.run_plane.specs.declared.layer.Layer.{Layer}
 use Rattle.run_state.specs.Origins.{Base}
 use Rattle.run_state.specs.Targets.{targets}

@@ -1,9 +1,9 @@
 -- What each command does to layers shows what the state's step does, whatever the command and the layers are.
 use Rattle.std.specs.Prelude.{◌≡◌, List}
-use Rattle.cmd_words.specs.declared.job.Action.TheVariants as action
-use Rattle.cmd_words.specs.declared.job.Command.{Command}
-use Rattle.cmd_words.specs.declared.job.JointAction.{JointAction}
-use Rattle.cmd_words.specs.declared.job.LayerAction.{LayerAction}
+use Rattle.job_terms.specs.declared.job.Action.TheVariants as action
+use Rattle.job_terms.specs.declared.job.Command.{Command}
+use Rattle.job_terms.specs.declared.job.JointAction.{JointAction}
+use Rattle.job_terms.specs.declared.job.LayerAction.{LayerAction}
 use Rattle.run_state.specs.Origins.{Base}
 use Rattle.run_state.specs.declared.state.Held.{Held}
 use Rattle.chain_model.specs.State.{State}

@@ -3,7 +3,7 @@ use Rattle.std.specs.Prelude.{◌≡◌, Bool, false, List, [], ◌∷◌, Some,
 use Rattle.std.specs.List.{list_any}
 use Rattle.io_core.specs.Contents.{Content, FileMap}
 use Rattle.cmd_words.specs.Words.{JobWords, Reading}
-use Rattle.cmd_words.specs.declared.job.SourceWord.{SourceWord}
+use Rattle.job_terms.specs.declared.job.SourceWord.{SourceWord}
 use Rattle.run_sources.specs.Sources.{SourcesSeen}
 use Rattle.run_sources.specs.declared.fault.InputWhy.{InputWhy}
 use Rattle.run_sources.specs.declared.fault.InputWhy.TheVariants as input

@@ -2,7 +2,7 @@
 use Rattle.std.specs.Prelude.{◌≡◌}
 use Rattle.cmd_words.specs.ActionWords.{FitsCommand}
 use Rattle.cmd_words.specs.declared.action_words.CommandWords.{CommandWords}
-use Rattle.cmd_words.specs.declared.job.Command.{Command}
+use Rattle.job_terms.specs.declared.job.Command.{Command}
 use Rattle.region_model.specs.Answers.{Answers, Plane}
 use Rattle.chain_model.specs.State.{State}
 use Rattle.chain_model.specs.Steps.{step}

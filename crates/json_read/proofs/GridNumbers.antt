@@ -5,7 +5,7 @@ use Rattle.std.proofs.lemmas.Bool.{cases_lt}
 use Rattle.std.proofs.lemmas.Int.{ints}
 use Rattle.std.proofs.lemmas.Nat.{div-mul-add, mod-mul-add, div-add-mod', pow-add}
 use Rattle.std.proofs.Math.Nat.{mul_comm, mod-lt, one-le-pow, mul-le-mul_right, lt_of_mul-lt-mul_right, mul-le-mul, pow-le-pow_right}
-use Rattle.grid_base.specs.Grid.{limit}
+use Rattle.grid_bounds.specs.Bounds.{limit}
 use Rattle.json_read.specs.Numeral.{signed, numeral_of, rounded, floor_div, checked_grid, grid_at, grid_of_text, Numeral, RoundedIsNearest}
 use Rattle.json_read.specs.Decimal.{of_grid, decimal_text, is_negative}
 use Rattle.json_read.specs.Scaling.{IsScaled, goes_up, one_if}

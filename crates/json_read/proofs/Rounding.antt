@@ -6,7 +6,7 @@ use Rattle.std.proofs.lemmas.Bool.Decides.{nat_tests, Decides-eqb}
 use Rattle.std.proofs.lemmas.Int.{ints}
 use Rattle.std.proofs.lemmas.Nat.{div-mul-add, mod-mul-add, div-add-mod'}
 use Rattle.std.proofs.Math.Nat.{mul_comm, mod-lt, one-le-pow, mul-le-mul_right}
-use Rattle.grid_base.specs.Grid.{limit}
+use Rattle.grid_bounds.specs.Bounds.{limit}
 use Rattle.json_read.specs.Numeral.{signed, numeral_of, rounded, floor_div, checked_grid, grid_at, grid_of_text}
 use Rattle.json_read.specs.Plain.{IsSize}
 use Rattle.json_read.specs.Scaling.{IsScaled, goes_up, one_if}

@@ -1,7 +1,7 @@
 -- Laws of the grammar and the machine.
 use Rattle.std.specs.Prelude.{ℕ, suc, ◌≡◌, ◌≤◌, List, [], ◌∷◌, ◌⊎◌, ◌<◌, ◌^◌, ℤ, Some, unsigned_abs}
 use Rattle.json_read.specs.Grammar.{JsonText, Number}
-use Rattle.grid_base.specs.Grid.{limit}
+use Rattle.grid_bounds.specs.Bounds.{limit}
 use Rattle.json_read.specs.Numeral.{IsNumeral, grid_of_text}
 use Rattle.json_read.specs.Proper.{IsProper, respelled}
 use Rattle.json_read.specs.ProperCells.{IsProperCell}

@@ -1,6 +1,6 @@
 -- The number that a numeral denotes (RFC 8259, section 6), and its place on the grid.
 use Rattle.std.specs.Prelude.{◌≡◌, ℕ, suc, ◌+◌, ◌-◌, ◌*◌, ◌/◌, ◌^◌, Bool, true, false, not, ◌&&◌, ◌||◌, ◌==◌, nat_le, ℤ, pos, negsuc, ◌+ℤ◌, ◌-ℤ◌, ◌*ℤ◌, neg_ℤ, ◌≤ℤ◌, ◌<ℤ◌, unsigned_abs, List, [], ◌∷◌, ◌++◌, length, take_while, drop, Option, Some, None, if◌then◌else◌, fold, ◌↔◌, is_some, IsTrue, option_and_then}
-use Rattle.grid_base.specs.Grid.{limit}
+use Rattle.grid_bounds.specs.Bounds.{limit}
 use Rattle.json_read.specs.Bytes.{is_digit, is_exponent_letter}
 
 -- a numeral stands for mantissa * 10 ^ exponent

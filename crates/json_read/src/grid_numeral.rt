@@ -1,5 +1,5 @@
 ghost use Rattle.std.specs.Prelude.{◌≡◌, ◌≤◌, None, MatchOption};
-ghost use Rattle.grid_base.specs.Grid.{limit};
+ghost use Rattle.grid_bounds.specs.Bounds.{limit};
 ghost use Rattle.json_read.specs.Numeral.{grid_of_text, numeral_of, signed};
 ghost use Rattle.json_read.specs.Plain.{IsSize};
 ghost use Rattle.json_read.specs.Scaling.{goes_up, one_if};
@@ -7,7 +7,7 @@ ghost use Rattle.json_read.specs.Scaling.{goes_up, one_if};
 use crate::numerals::Scaled;
 use crate::plain_numeral::Plain;
 use crate::units::any_size_of;
-use grid_base::LIMIT;
+use grid_bounds::LIMIT;
 
 /// Grid numbers go this far, either way.
 const GRID_LIMIT: u128 = LIMIT as u128;

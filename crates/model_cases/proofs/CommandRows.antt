@@ -16,9 +16,9 @@ use Rattle.expr_lang.specs.declared.expr.Node.TheVariants as node
 use Rattle.expr_lang.specs.declared.token.Operator.TheVariants.{Plus, Times}
 use Rattle.table_ops.specs.declared.fault.EvalWhy.TheVariants.{Unknown}
 use Rattle.table_ops.specs.declared.fault.TableWhy.TheVariants.{Eval}
-use Rattle.cmd_words.specs.declared.job.Action.TheVariants as c
-use Rattle.cmd_words.specs.declared.job.LayerAction.{LayerAction}
-use Rattle.cmd_words.specs.declared.job.LayerAction.TheVariants as each
+use Rattle.job_terms.specs.declared.job.Action.TheVariants as c
+use Rattle.job_terms.specs.declared.job.LayerAction.{LayerAction}
+use Rattle.job_terms.specs.declared.job.LayerAction.TheVariants as each
 use Rattle.calc_ops.specs.EachRow.{each_rows}
 use Rattle.region_model.specs.Region.{feature, any_of, less, gap_of, part}
 use Rattle.chain_model.specs.Outcome.{Outcome, done, refused, wrong_kind, in_table}

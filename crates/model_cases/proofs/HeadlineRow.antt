@@ -17,13 +17,13 @@ use Rattle.table_terms.specs.Names.{Text}
 use Rattle.cmd_words.specs.ActionWords.{whole}
 use Rattle.cmd_words.specs.Tells.{FitsJob}
 use Rattle.cmd_words.specs.Words.{ChainWords, JobWords, Reading, chain}
-use Rattle.cmd_words.specs.declared.job.Job.TheVariants as job
-use Rattle.cmd_words.specs.declared.job.OutForm.TheVariants.{Geo, Csv}
-use Rattle.cmd_words.specs.declared.job.Owner.TheVariants as owner
+use Rattle.job_terms.specs.declared.job.Job.TheVariants as job
+use Rattle.job_terms.specs.declared.job.OutForm.TheVariants.{Geo, Csv}
+use Rattle.job_terms.specs.declared.job.Owner.TheVariants as owner
 use Rattle.cmd_words.specs.declared.action_words.ActionWords.TheVariants as words
-use Rattle.cmd_words.specs.declared.job.Action.TheVariants as ask
-use Rattle.cmd_words.specs.declared.job.OutForm.{OutForm}
-use Rattle.cmd_words.specs.declared.job.Target.TheVariants as target
+use Rattle.job_terms.specs.declared.job.Action.TheVariants as ask
+use Rattle.job_terms.specs.declared.job.OutForm.{OutForm}
+use Rattle.job_terms.specs.declared.job.Target.TheVariants as target
 use Rattle.cmd_words.specs.declared.fault.WordWhy.TheVariants.{NoInput}
 use Rattle.io_core.specs.Contents.{FileMap}
 use Rattle.region_model.specs.Region.{Region, Regions, feature, box, any, both, less, part, gap, no_regions, one_more, Has, SomeHas}

@@ -10,9 +10,9 @@ use Rattle.geojson_io.specs.declared.shape.GeoShape.TheVariants.{Lines, Points}
 use Rattle.table_terms.specs.declared.calculations.Calc.TheVariants.{Count, Sum}
 use Rattle.table_terms.specs.declared.calculations.CalcSpec.{CalcSpec}
 use Rattle.table_ops.specs.declared.fault.TableWhy.TheVariants.{FieldTwice, NotNumber}
-use Rattle.cmd_words.specs.declared.job.Action.TheVariants as c
-use Rattle.cmd_words.specs.declared.job.LayerAction.TheVariants as each
-use Rattle.cmd_words.specs.declared.job.Origin.TheVariants as origin
+use Rattle.job_terms.specs.declared.job.Action.TheVariants as c
+use Rattle.job_terms.specs.declared.job.LayerAction.TheVariants as each
+use Rattle.job_terms.specs.declared.job.Origin.TheVariants as origin
 use Rattle.region_model.specs.Region.{feature}
 use Rattle.chain_model.specs.Outcome.{Outcome, done, refused, no_layer, many_layers, wrong_kind, in_table}
 use Rattle.chain_model.specs.State as st

@@ -15,7 +15,7 @@ use Rattle.table_terms.specs.Names.{Text as Words}
 use Rattle.table_ops.specs.declared.fault.TableWhy.TheVariants.{FieldsDiffer, NoField}
 use Rattle.cmd_words.specs.Areas.{area_of, places_of}
 use Rattle.cmd_words.specs.Words.{JobWords, Reading, synth, chain}
-use Rattle.cmd_words.specs.declared.job.Chain.{Chain}
+use Rattle.job_terms.specs.declared.job.Chain.{Chain}
 use Rattle.region_model.specs.Answers.{Answers, Plane, boundary, plane_of}
 use Rattle.chain_model.specs.Outcome.{Outcome, done, bad_words, refused, wrong_kind, name_twice, in_table}
 use Rattle.chain_model.specs.State as st

@@ -12,14 +12,14 @@ use Rattle.geojson_io.specs.declared.shape.GeoShape.TheVariants.{Polygons, Point
 use Rattle.table_terms.specs.Names.{Text}
 use Rattle.table_ops.specs.declared.fault.TableWhy.TheVariants.{NoField, NotNumber, FieldsDiffer}
 use Rattle.table_terms.specs.declared.specifications.GroupSpec.{GroupSpec}
-use Rattle.cmd_words.specs.declared.job.Action.{Action}
-use Rattle.cmd_words.specs.declared.job.Action.TheVariants as c
-use Rattle.cmd_words.specs.declared.job.LayerAction.TheVariants as each
-use Rattle.cmd_words.specs.declared.job.JointAction.TheVariants as joint
-use Rattle.cmd_words.specs.declared.job.Command.{Command}
-use Rattle.cmd_words.specs.declared.job.Origin.TheVariants as origin
-use Rattle.cmd_words.specs.declared.job.OutForm.TheVariants.{Geo}
-use Rattle.cmd_words.specs.declared.job.Target.TheVariants as target
+use Rattle.job_terms.specs.declared.job.Action.{Action}
+use Rattle.job_terms.specs.declared.job.Action.TheVariants as c
+use Rattle.job_terms.specs.declared.job.LayerAction.TheVariants as each
+use Rattle.job_terms.specs.declared.job.JointAction.TheVariants as joint
+use Rattle.job_terms.specs.declared.job.Command.{Command}
+use Rattle.job_terms.specs.declared.job.Origin.TheVariants as origin
+use Rattle.job_terms.specs.declared.job.OutForm.TheVariants.{Geo}
+use Rattle.job_terms.specs.declared.job.Target.TheVariants as target
 use Rattle.region_model.specs.Region.{feature, any_of, less, both, box}
 use Rattle.region_model.specs.Answers.{Plane, plane_of}
 use Rattle.chain_model.specs.Outcome.{Outcome, refused, wrong_kind, no_group_points, many_layers, no_layer, in_table}

@@ -8,9 +8,9 @@ use Rattle.geojson_io.specs.LayerContent.{LayerContent}
 use Rattle.geojson_io.specs.declared.shape.GeoShape.{GeoShape}
 use Rattle.geojson_io.specs.declared.shape.GeoShape.TheVariants.{Points}
 use Rattle.table_terms.specs.Names.{Text}
-use Rattle.cmd_words.specs.declared.job.Action.TheVariants as c
-use Rattle.cmd_words.specs.declared.job.Command.{Command}
-use Rattle.cmd_words.specs.declared.job.JointAction.TheVariants as joint
+use Rattle.job_terms.specs.declared.job.Action.TheVariants as c
+use Rattle.job_terms.specs.declared.job.Command.{Command}
+use Rattle.job_terms.specs.declared.job.JointAction.TheVariants as joint
 use Rattle.region_model.specs.Region.{Region, feature, any_of, both, less, part}
 use Rattle.region_model.specs.Answers.{boundary}
 use Rattle.region_model.specs.UnionCommand.{Choice, choices, united}

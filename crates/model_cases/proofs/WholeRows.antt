@@ -11,12 +11,12 @@ use Rattle.table_terms.specs.Names.{Text}
 use Rattle.cmd_words.specs.declared.action_words.ActionWords.{ActionWords}
 use Rattle.cmd_words.specs.declared.action_words.ActionWords.TheVariants as words
 use Rattle.cmd_words.specs.declared.action_words.CommandWords.{CommandWords}
-use Rattle.cmd_words.specs.declared.job.Action.{Action}
-use Rattle.cmd_words.specs.declared.job.Action.TheVariants as ask
-use Rattle.cmd_words.specs.declared.job.Command.{Command}
-use Rattle.cmd_words.specs.declared.job.LayerAction.TheVariants as each
+use Rattle.job_terms.specs.declared.job.Action.{Action}
+use Rattle.job_terms.specs.declared.job.Action.TheVariants as ask
+use Rattle.job_terms.specs.declared.job.Command.{Command}
+use Rattle.job_terms.specs.declared.job.LayerAction.TheVariants as each
 use Rattle.cmd_words.specs.Words.{ChainWords, JobWords, Reading, synth, chain}
-use Rattle.cmd_words.specs.declared.job.Chain.{Chain}
+use Rattle.job_terms.specs.declared.job.Chain.{Chain}
 use Rattle.chain_model.specs.Outcome.{Outcome, done, bad_words, bad_input, missing, syntax, repeated_name, unequal_row, no_header}
 use Rattle.chain_model.specs.Running.{run_from, Output, Begun, begins}
 use Rattle.chain_model.specs.Sources.{Readings}

@@ -14,12 +14,12 @@ use Rattle.cmd_words.specs.declared.fault.WordWhy.TheVariants as why
 use Rattle.cmd_words.specs.declared.action_words.ActionWords.{ActionWords}
 use Rattle.cmd_words.specs.declared.action_words.ActionWords.TheVariants as words
 use Rattle.cmd_words.specs.declared.action_words.CommandWords.{CommandWords}
-use Rattle.cmd_words.specs.declared.job.Action.TheVariants as ask
-use Rattle.cmd_words.specs.declared.job.LayerAction.TheVariants as each
-use Rattle.cmd_words.specs.declared.job.Origin.TheVariants as origin
-use Rattle.cmd_words.specs.declared.job.OutForm.TheVariants.{Geo, Csv}
-use Rattle.cmd_words.specs.declared.job.Owner.TheVariants as owner
-use Rattle.cmd_words.specs.declared.job.Target.TheVariants as target
+use Rattle.job_terms.specs.declared.job.Action.TheVariants as ask
+use Rattle.job_terms.specs.declared.job.LayerAction.TheVariants as each
+use Rattle.job_terms.specs.declared.job.Origin.TheVariants as origin
+use Rattle.job_terms.specs.declared.job.OutForm.TheVariants.{Geo, Csv}
+use Rattle.job_terms.specs.declared.job.Owner.TheVariants as owner
+use Rattle.job_terms.specs.declared.job.Target.TheVariants as target
 use Rattle.word_model.specs.Words.{words_say}
 
 -- no text is an expression, nor assignments

@@ -14,8 +14,8 @@ use Rattle.geojson_io.specs.LayerContent.{LayerContent}
 use Rattle.geojson_io.specs.Layers.{same_kind}
 use Rattle.geojson_io.specs.declared.shape.GeoShape.{GeoShape}
 use Rattle.table_terms.specs.Refusals.{on_ok}
-use Rattle.cmd_words.specs.declared.job.Chain.{Chain}
-use Rattle.cmd_words.specs.declared.job.SourceWord.{SourceWord}
+use Rattle.job_terms.specs.declared.job.Chain.{Chain}
+use Rattle.job_terms.specs.declared.job.SourceWord.{SourceWord}
 use Rattle.region_model.specs.Answers.{Plane, plane_of}
 use Rattle.chain_model.specs.Beginning.{command_layers, count_of, drawing_of, first_layers, first_shape, first_sources, has_links, import_layers, is_import, points_of, shapes_of}
 use Rattle.chain_model.specs.Outcome.{Outcome, too_dense}

@@ -8,7 +8,7 @@ use Rattle.plane_model.specs.SnappedRings.{HasClosedRings}
 use Rattle.io_core.specs.Contents.{Content, FileMap}
 use Rattle.geojson_io.specs.LayerContent.{LayerContent}
 use Rattle.table_terms.specs.Refusals.{on_ok}
-use Rattle.cmd_words.specs.declared.job.Chain.{Chain}
+use Rattle.job_terms.specs.declared.job.Chain.{Chain}
 use Rattle.region_model.specs.Answers.{plane_of}
 use Rattle.chain_model.specs.Beginning.{drawing_of}
 use Rattle.chain_model.specs.Outcome.{Outcome, too_dense}

@@ -27,7 +27,7 @@ use Rattle.topo_io.specs.Topologies.{read_topojson}
 use Rattle.csv_io.specs.CsvTable.{table_of_text}
 use Rattle.csv_io.specs.declared.fault.CsvFault.{CsvFault}
 use Rattle.table_terms.specs.Refusals.{on_ok}
-use Rattle.cmd_words.specs.declared.job.SourceWord.{SourceWord}
+use Rattle.job_terms.specs.declared.job.SourceWord.{SourceWord}
 use Rattle.synth_model.specs.Cells.{cell, cells}
 use Rattle.chain_model.specs.Beginning.{drawing_of, polygons_of, shapes_of}
 use Rattle.chain_model.specs.Outcome.{InputWhy, Outcome, too_long, utf8}

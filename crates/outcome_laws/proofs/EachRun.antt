@@ -16,9 +16,9 @@ use Rattle.geojson_io.specs.declared.shape.GeoShape.TheVariants as geo
 use Rattle.table_terms.specs.Names.{Text}
 use Rattle.table_terms.specs.Refusals.{on_ok}
 use Rattle.cmd_words.specs.Words.{JobWords, Reading}
-use Rattle.cmd_words.specs.declared.job.Chain.{Chain}
-use Rattle.cmd_words.specs.declared.job.Job.{Job}
-use Rattle.cmd_words.specs.declared.job.Job.TheVariants as job
+use Rattle.job_terms.specs.declared.job.Chain.{Chain}
+use Rattle.job_terms.specs.declared.job.Job.{Job}
+use Rattle.job_terms.specs.declared.job.Job.TheVariants as job
 use Rattle.region_model.specs.Answers.{Answers, AreRight, Plane, is_empty, plane_of}
 use Rattle.region_model.specs.Printed.{Fits}
 use Rattle.region_model.specs.Region.{Region}

@@ -8,10 +8,10 @@ use Rattle.cmd_words.specs.ActionWords.{FitEach}
 use Rattle.cmd_words.specs.Tells.{FitsChain, FitsJob}
 use Rattle.cmd_words.specs.Words.{ChainWords, JobWords, Reading, chain, synth}
 use Rattle.cmd_words.specs.declared.action_words.CommandWords.{CommandWords}
-use Rattle.cmd_words.specs.declared.job.Chain.{Chain}
-use Rattle.cmd_words.specs.declared.job.Command.{Command}
-use Rattle.cmd_words.specs.declared.job.Job.{Job}
-use Rattle.cmd_words.specs.declared.job.Job.TheVariants as job
+use Rattle.job_terms.specs.declared.job.Chain.{Chain}
+use Rattle.job_terms.specs.declared.job.Command.{Command}
+use Rattle.job_terms.specs.declared.job.Job.{Job}
+use Rattle.job_terms.specs.declared.job.Job.TheVariants as job
 use Rattle.region_model.specs.Answers.{Answers, AreRight}
 use Rattle.synth_model.specs.Cells.{cells}
 use Rattle.chain_model.specs.Outcome.{Outcome, bad_words}

@@ -1,6 +1,6 @@
 -- Commands in order give the same outputs and the same end by answers that are alike, and write layers on the plane.
 use Rattle.std.proofs.Common.{◌≡◌, refl, ap, ◌∙◌, ℕ, ◌+◌, List, [], ◌∷◌, ◌++◌, Option, Some, None, Result, Ok, Err}
-use Rattle.cmd_words.specs.declared.job.Command.{Command}
+use Rattle.job_terms.specs.declared.job.Command.{Command}
 use Rattle.region_model.specs.Answers.{Answers, Plane}
 use Rattle.chain_model.specs.Outcome.{Outcome, RefuseWhy, refused}
 use Rattle.chain_model.specs.Running.{Output, output_of, run_from}

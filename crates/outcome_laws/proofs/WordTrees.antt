@@ -18,11 +18,11 @@ use Rattle.cmd_words.specs.declared.action_words.CommandWords.{CommandWords}
 use Rattle.cmd_words.specs.declared.fault.ExprWhy.{ExprWhy}
 use Rattle.cmd_words.specs.declared.fault.WordWhy.{WordWhy}
 use Rattle.cmd_words.specs.declared.fault.WordWhy.TheVariants as why
-use Rattle.cmd_words.specs.declared.job.Action.{Action}
-use Rattle.cmd_words.specs.declared.job.Command.{Command}
-use Rattle.cmd_words.specs.declared.job.Job.{Job}
-use Rattle.cmd_words.specs.declared.job.Job.TheVariants as job
-use Rattle.cmd_words.specs.declared.job.Origin.{Origin}
+use Rattle.job_terms.specs.declared.job.Action.{Action}
+use Rattle.job_terms.specs.declared.job.Command.{Command}
+use Rattle.job_terms.specs.declared.job.Job.{Job}
+use Rattle.job_terms.specs.declared.job.Job.TheVariants as job
+use Rattle.job_terms.specs.declared.job.Origin.{Origin}
 use Rattle.word_model.specs.CommandTable.{ArgumentForm, CommandLine, Item, Line, Said, ValueForm, a_box, a_format, a_list, a_precision, a_rule, a_text, an_area, an_expression, argument, argument_in, argument_text, assignments, bare, calc_spec, calculations, command_lines, expression, files, form_in, form_of, has_argument, has_option, import_line, join_spec, joins, line_of, list, nothing, number_in, one_or_more, option, renames, source, text, two_names, value_in, zero_or_more}
 use Rattle.word_model.specs.Words.{Groups, Word, after_import, argument_number, expression_fault, finished, groups_of, has_room, imported, is_excluded, is_list, is_standard_item, item_of, lacks_value, places_in, read_command, read_commands, read_groups, read_job, read_line, read_synth, reads_standard, refused_argument, refused_if, refused_item, refused_option, refused_text, refused_value, says, with_command, without_import_word, word_limit, words_say}
 use Rattle.outcome_laws.proofs.Every.{Every, every_append}

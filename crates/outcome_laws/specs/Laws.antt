@@ -11,7 +11,7 @@ use Rattle.geojson_io.specs.LayerContent.{LayerContent}
 use Rattle.geojson_io.specs.declared.shape.GeoShape.{GeoShape}
 use Rattle.geojson_io.specs.declared.shape.GeoShape.TheVariants as shape
 use Rattle.table_terms.specs.Names.{Text}
-use Rattle.cmd_words.specs.declared.job.Chain.{Chain}
+use Rattle.job_terms.specs.declared.job.Chain.{Chain}
 use Rattle.region_model.specs.Answers.{Answers, AreRight, Plane, plane_of}
 use Rattle.synth_model.specs.Cells.{cells}
 use Rattle.chain_model.specs.Outcome.{Outcome}

@@ -12,8 +12,8 @@ use Rattle.grid_base.specs.declared.kinds.Kind.{Kind}
 use Rattle.grid_base.specs.declared.kinds.Kind.TheVariants as kinds
 use Rattle.geojson_io.specs.LayerContent.{LayerContent}
 use Rattle.geojson_io.specs.declared.shape.GeoShape.{GeoShape}
-use Rattle.cmd_words.specs.declared.job.Owner.{Owner}
-use Rattle.cmd_words.specs.declared.job.Owner.TheVariants as owner
+use Rattle.job_terms.specs.declared.job.Owner.{Owner}
+use Rattle.job_terms.specs.declared.job.Owner.TheVariants as owner
 use Rattle.run_plane.specs.OnPlane.{AreBelow, AreLayersOn, AreOn, AreAllOn, IsLayerOn, IsOn}
 use Rattle.run_plane.specs.declared.layer.Layer.{Layer}
 use Rattle.run_plane.specs.declared.layer.Shape.{Shape}

@@ -13,9 +13,9 @@ ghost use Rattle.run_beginning.specs.Drawing.{drawing_of, points_of};
 
 use crate::drawing::drawing_of;
 use arc_table::{ArcTable, SignedPaths};
-use cmd_words::Owner;
 use geojson_io::{GeoLayer, GeoShape, GeoShapeList};
 use grid_base::{BoxList, FeatId, Kind, PtList, Snapped};
+use job_terms::Owner;
 use ring_trace::FaceSet;
 use run_plane::{Laid, Layer, Plane, Shape, laid_out};
 use run_sources::ReadSource;

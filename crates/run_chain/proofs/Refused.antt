@@ -8,7 +8,7 @@ use Rattle.expr_laws.proofs.OneFault.{assigns_have_no_fault, tree_has_no_fault}
 use Rattle.cmd_words.specs.declared.fault.ExprWhy.{ExprWhy}
 use Rattle.cmd_words.specs.declared.fault.ExprWhy.TheVariants as expr
 use Rattle.cmd_words.specs.declared.fault.WordFault.{WordFault}
-use Rattle.cmd_words.specs.declared.job.Job.{Job}
+use Rattle.job_terms.specs.declared.job.Job.{Job}
 use Rattle.cmd_words.specs.Expressions.{AreRefusals, HasFault, Refusals, TextKind, assignments, expression, fault_at}
 use Rattle.cmd_words.specs.Rows.{Text}
 use Rattle.cmd_words.specs.Tells.{Tells, FitsJob}

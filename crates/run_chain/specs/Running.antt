@@ -13,14 +13,14 @@ use Rattle.cmd_words.specs.Expressions.{Refusals, AreRefusals}
 use Rattle.cmd_words.specs.Tells.{Tells, FitsJob}
 use Rattle.cmd_words.specs.Words.{read_words}
 use Rattle.cmd_words.specs.declared.fault.WordFault.{WordFault}
-use Rattle.cmd_words.specs.declared.job.Job.{Job}
-use Rattle.cmd_words.specs.declared.job.Job.TheVariants as job
-use Rattle.cmd_words.specs.declared.job.Chain.{Chain}
-use Rattle.cmd_words.specs.declared.job.Command.{Command}
-use Rattle.cmd_words.specs.declared.job.Action.{Action}
-use Rattle.cmd_words.specs.declared.job.Action.TheVariants as action
-use Rattle.cmd_words.specs.declared.job.OutForm.{OutForm}
-use Rattle.cmd_words.specs.declared.job.SourceWord.{SourceWord}
+use Rattle.job_terms.specs.declared.job.Job.{Job}
+use Rattle.job_terms.specs.declared.job.Job.TheVariants as job
+use Rattle.job_terms.specs.declared.job.Chain.{Chain}
+use Rattle.job_terms.specs.declared.job.Command.{Command}
+use Rattle.job_terms.specs.declared.job.Action.{Action}
+use Rattle.job_terms.specs.declared.job.Action.TheVariants as action
+use Rattle.job_terms.specs.declared.job.OutForm.{OutForm}
+use Rattle.job_terms.specs.declared.job.SourceWord.{SourceWord}
 use Rattle.run_sources.specs.Sources.{SourcesSeen, StopsAtSource, GivesAll}
 use Rattle.run_sources.specs.declared.fault.SourceFault.{SourceFault}
 use Rattle.run_plane.specs.Begun.{IsFew}

@@ -7,8 +7,9 @@ ghost use Rattle.run_chain.specs.Running.{StepMeans, CommandsRun, BegunRuns, Cha
 ghost use Rattle.run_outcome.specs.Telling.{TellsOutcome};
 
 use crate::writing::write_text;
-use cmd_words::{Action, Chain, Command, Job, read_chain};
+use cmd_words::read_chain;
 use io_core::{Failed, Files, Sink, Source, Words, write_whole};
+use job_terms::{Action, Chain, Command, Job};
 use run_beginning::{Begun, begin};
 use run_outcome::{Outcome, tell};
 use run_sources::read_sources;

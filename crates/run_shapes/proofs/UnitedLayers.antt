@@ -8,7 +8,7 @@ use Rattle.union_ops.specs.Choices.{IsChoiceFrom}
 use Rattle.union_ops.specs.Union.{IsItemOf}
 use Rattle.union_ops.specs.UnionTable.{IsOfTables}
 use Rattle.union_ops.specs.declared.union_lists.UnionItem.{UnionItem}
-use Rattle.cmd_words.specs.declared.job.Target.{Target}
+use Rattle.job_terms.specs.declared.job.Target.{Target}
 use Rattle.run_plane.specs.declared.layer.Layer.{Layer}
 use Rattle.run_state.specs.Targets.{is_selected, targets}
 use Rattle.run_state.specs.declared.state.Held.{Held}

@@ -2,8 +2,8 @@
 use Rattle.std.specs.Prelude.{ℕ, Bool, MatchBool, nat_lt, List, [], map, slice_index_or, Result, Ok, Err}
 use Rattle.std.specs.List.{flat_map}
 use Rattle.lists.specs.Lists.{ascending}
-use Rattle.cmd_words.specs.declared.job.Origin.{Origin}
-use Rattle.cmd_words.specs.declared.job.Origin.TheVariants as origin
+use Rattle.job_terms.specs.declared.job.Origin.{Origin}
+use Rattle.job_terms.specs.declared.job.Origin.TheVariants as origin
 use Rattle.run_plane.specs.Shapes.{faces_in}
 use Rattle.run_plane.specs.declared.layer.Layer.{Layer}
 use Rattle.run_plane.specs.declared.layer.Shape.{Shape}

@@ -4,8 +4,8 @@ ghost use Rattle.run_shapes.specs.FaceSets.{HasSets, any_faces, area_of, face_sh
 ghost use Rattle.run_state.specs.Origins.{base_of, refused_origin};
 ghost use Rattle.run_state.specs.Stops.{StopsFor};
 
-use cmd_words::Origin;
 use grid_base::FaceId;
+use job_terms::Origin;
 use ring_trace::{FaceSet, SetList};
 use run_plane::{Layer, Shape};
 use run_state::{CommandStop, Ground, Held, nonempty, numbers_below, source_layer, with_shapes};

@@ -5,8 +5,8 @@ ghost use Rattle.run_state.specs.OnPlane.{AreHeldOn};
 ghost use Rattle.run_state.specs.Targets.{has_target, targets};
 
 use crate::face_sets::sets_of;
-use cmd_words::Target;
 use grid_base::Kind;
+use job_terms::Target;
 use run_plane::{Layer, Plane, Shape, copy_text};
 use run_state::{Held, copy_table, first_target, is_selected};
 use std::alloc::{AllocError, Global};

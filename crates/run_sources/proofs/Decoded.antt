@@ -6,7 +6,7 @@ use Rattle.json_read.specs.Table.{TableContent}
 use Rattle.geojson_io.specs.Sound.{LayerIsSound, ShapeIsSound}
 use Rattle.geojson_io.specs.declared.layer.Room.{Room}
 use Rattle.geojson_io.specs.declared.shape.GeoShape.TheVariants.{Nothing}
-use Rattle.cmd_words.specs.declared.job.SourceWord.{SourceWord}
+use Rattle.job_terms.specs.declared.job.SourceWord.{SourceWord}
 use Rattle.csv_io.specs.CsvTable.{ReadsText}
 use Rattle.csv_io.specs.declared.fault.CsvFault.{CsvFault}
 use Rattle.csv_io.specs.declared.fault.CsvFault.TheVariants as csv

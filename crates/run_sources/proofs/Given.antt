@@ -1,6 +1,6 @@
 -- Sources that were read in order, and one more after them.
 use Rattle.std.proofs.Common.{◌≡◌, ◌++◌, ◌∷◌, [], ℕ, List, refl, sym, subst}
-use Rattle.cmd_words.specs.declared.job.SourceWord.{SourceWord}
+use Rattle.job_terms.specs.declared.job.SourceWord.{SourceWord}
 use Rattle.geojson_io.specs.LayerContent.{LayerContent}
 use Rattle.run_sources.specs.declared.sources.Budget.{Budget}
 use Rattle.run_sources.specs.Sources.{SourcesSeen, Grew, SourceGives, SourcesGive}

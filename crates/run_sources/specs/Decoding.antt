@@ -22,7 +22,7 @@ use Rattle.geojson_io.specs.declared.shape.GeoShape.TheVariants.{Nothing}
 use Rattle.csv_io.specs.CsvTable.{ReadsText}
 use Rattle.csv_io.specs.declared.fault.CsvFault.{CsvFault}
 use Rattle.csv_io.specs.declared.fault.CsvFault.TheVariants as csv
-use Rattle.cmd_words.specs.declared.job.SourceWord.{SourceWord}
+use Rattle.job_terms.specs.declared.job.SourceWord.{SourceWord}
 use Rattle.io_core.specs.Contents.{Content}
 use Rattle.run_sources.specs.Formats.{is_csv}
 use Rattle.run_sources.specs.Titles.{title_of}

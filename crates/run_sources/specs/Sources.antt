@@ -7,7 +7,7 @@ use Rattle.io_core.specs.Whole.{AtName, MissesName}
 use Rattle.io_core.specs.declared.whole.FileStop.{FileStop}
 use Rattle.io_core.specs.declared.whole.FileStop.TheVariants as stop
 use Rattle.geojson_io.specs.LayerContent.{LayerContent}
-use Rattle.cmd_words.specs.declared.job.SourceWord.{SourceWord}
+use Rattle.job_terms.specs.declared.job.SourceWord.{SourceWord}
 use Rattle.run_sources.specs.Budget.{whole_budget, budget_behind}
 use Rattle.run_sources.specs.Decoding.{Decodes}
 use Rattle.run_sources.specs.declared.decoding.DecodeStop.TheVariants.{Refused}

@@ -2,7 +2,7 @@
 use Rattle.std.specs.Prelude.{codes, unwrap_or, option_map, if◌then◌else◌}
 use Rattle.std.specs.Path.{rsplit_once}
 use Rattle.io_core.specs.Contents.{Content}
-use Rattle.cmd_words.specs.declared.job.SourceWord.{SourceWord}
+use Rattle.job_terms.specs.declared.job.SourceWord.{SourceWord}
 
 -- what stands after the last slash, or the whole name where it has none
 abbrev pub behind_slash : Content → Content

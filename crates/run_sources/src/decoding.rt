@@ -7,7 +7,6 @@ ghost use Rattle.geojson_io.specs.declared.shape.GeoShape.TheVariants.{Nothing};
 
 use crate::fault::InputWhy;
 use crate::formats::{is_csv, title_of};
-use cmd_words::SourceWord;
 use csv_io::{CsvFault, Room2, read_csv};
 use geojson_io::{
     GeoLayer, GeoLayers, GeoShape, GeoShapeList, Parsed, Room, ShapeFault, parse_features,
@@ -15,6 +14,7 @@ use geojson_io::{
 };
 use grid_base::Kind;
 use io_core::Text;
+use job_terms::SourceWord;
 use json_read::{Json, JsonFault, Table};
 use std::alloc::{AllocError, Global};
 use topo_io::{TopoFault, read_topojson};

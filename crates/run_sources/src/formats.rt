@@ -2,7 +2,7 @@ ghost use Rattle.std.specs.Prelude.{◌≡◌};
 ghost use Rattle.run_sources.specs.Formats.{is_white, skip_mark, opens_json, ends_in_csv, is_csv};
 ghost use Rattle.run_sources.specs.Titles.{behind_slash, before_point, title_of};
 
-use cmd_words::SourceWord;
+use job_terms::SourceWord;
 
 /// Whether the bytes of a source are comma-separated text: those of a file by its name, those of standard input
 /// where no JSON object or array begins.

@@ -8,10 +8,10 @@ ghost use Rattle.run_sources.specs.Sources.{Grew, BytesMean, stopped, SourceGive
 
 use crate::decoding::{DecodeStop, decoded};
 use crate::fault::SourceFault;
-use cmd_words::{Owner, SourceWord};
 use geojson_io::{GeoLayer, GeoLayers, GeoShape, Room};
 use grid_base::{PolygonRings, PtList};
 use io_core::{Bytes, FileStop, Files, ReadStop, Source, read_file, read_whole};
+use job_terms::{Owner, SourceWord};
 use std::alloc::Global;
 
 /// The most bytes that the sources of a run have together.

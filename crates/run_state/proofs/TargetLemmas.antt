@@ -9,7 +9,7 @@ use Rattle.json_read.specs.Table.{TableContent, RowValues}
 use Rattle.table_ops.specs.Rows.{take_rows}
 use Rattle.run_plane.specs.declared.layer.Layer.{Layer}
 use Rattle.run_state.specs.Targets.{are_layers, has_target, is_selected, targets}
-use Rattle.cmd_words.specs.declared.job.Target.{Target}
+use Rattle.job_terms.specs.declared.job.Target.{Target}
 use Rattle.run_state.specs.declared.state.Held.{Held}
 
 -- all rows of a table are the table

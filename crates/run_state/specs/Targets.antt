@@ -5,9 +5,9 @@ use Rattle.std.specs.Str.{bytes_eq}
 use Rattle.lists.specs.Lists.{first_or}
 use Rattle.io_core.specs.Contents.{Content}
 use Rattle.table_terms.specs.Names.{has_name}
-use Rattle.cmd_words.specs.declared.job.Target.{Target}
-use Rattle.cmd_words.specs.declared.job.Target.TheVariants as target
-use Rattle.cmd_words.specs.declared.job.Command.{Command}
+use Rattle.job_terms.specs.declared.job.Target.{Target}
+use Rattle.job_terms.specs.declared.job.Target.TheVariants as target
+use Rattle.job_terms.specs.declared.job.Command.{Command}
 use Rattle.run_plane.specs.declared.layer.Layer.{Layer}
 use Rattle.run_state.specs.declared.refusal.RefuseWhy.{RefuseWhy}
 use Rattle.run_state.specs.declared.refusal.RefuseWhy.TheVariants.{NoLayer}

@@ -4,7 +4,7 @@ ghost use Rattle.run_state.specs.Origins.{named_layers, one_layer, origin_layers
 use crate::refusal::RefuseWhy;
 use crate::state::Held;
 use crate::targets::{Wanted, only_where};
-use cmd_words::Origin;
+use job_terms::Origin;
 use run_plane::Layer;
 
 /// The one layer of a source.

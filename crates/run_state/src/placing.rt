@@ -5,7 +5,7 @@ ghost use Rattle.run_state.specs.Targets.{behind_all, in_place, in_places, place
 
 use crate::state::Held;
 use crate::targets::is_selected;
-use cmd_words::{Command, Target};
+use job_terms::{Command, Target};
 use run_plane::Layer;
 use std::alloc::{AllocError, Global};
 use std::vec::IntoIter;

@@ -6,8 +6,8 @@ ghost use Rattle.run_state.specs.Targets.{TargetAnswers, are_layers, is_layer, i
 
 use crate::refusal::RefuseWhy;
 use crate::state::Held;
-use cmd_words::Target;
 use io_core::Text;
+use job_terms::Target;
 use run_plane::Layer;
 
 /// Refuses a target that names a layer that isn't there, or selects none.

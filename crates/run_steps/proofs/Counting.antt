@@ -8,12 +8,12 @@ use Rattle.std.proofs.lemmas.List.Sums.{sum_by-cons}
 use Rattle.table_ops.specs.Splitting.{split_rows}
 use Rattle.table_ops.specs.declared.fault.TableWhy.{TableWhy}
 use Rattle.table_ops.specs.declared.split.SplitItem.{SplitItem}
-use Rattle.cmd_words.specs.declared.job.Command.{Command}
-use Rattle.cmd_words.specs.declared.job.JointAction.{JointAction}
-use Rattle.cmd_words.specs.declared.job.JointAction.TheVariants as joint
-use Rattle.cmd_words.specs.declared.job.LayerAction.{LayerAction}
-use Rattle.cmd_words.specs.declared.job.LayerAction.TheVariants as action
-use Rattle.cmd_words.specs.declared.job.Target.{Target}
+use Rattle.job_terms.specs.declared.job.Command.{Command}
+use Rattle.job_terms.specs.declared.job.JointAction.{JointAction}
+use Rattle.job_terms.specs.declared.job.JointAction.TheVariants as joint
+use Rattle.job_terms.specs.declared.job.LayerAction.{LayerAction}
+use Rattle.job_terms.specs.declared.job.LayerAction.TheVariants as action
+use Rattle.job_terms.specs.declared.job.Target.{Target}
 use Rattle.run_plane.specs.declared.layer.Layer.{Layer}
 use Rattle.run_state.specs.Origins.{Base}
 use Rattle.run_state.specs.Targets.{behind_all, in_place, in_places, is_selected, placed, put_out, staying, targets}

@@ -6,8 +6,8 @@ use Rattle.io_core.specs.Contents.{Content}
 use Rattle.table_ops.specs.Join.{join_tables}
 use Rattle.table_terms.specs.declared.calculations.CalcSpec.{CalcSpec}
 use Rattle.table_terms.specs.declared.specifications.JoinSpec.{JoinSpec}
-use Rattle.cmd_words.specs.declared.job.Origin.{Origin}
-use Rattle.cmd_words.specs.declared.job.Target.{Target}
+use Rattle.job_terms.specs.declared.job.Origin.{Origin}
+use Rattle.job_terms.specs.declared.job.Target.{Target}
 use Rattle.spatial_join.specs.Joined.{join_matched}
 use Rattle.run_plane.specs.OnPlane.{AreAllOn, AreLayersOn, AreOn, IsLayerOn}
 use Rattle.run_plane.specs.declared.layer.Layer.{Layer}

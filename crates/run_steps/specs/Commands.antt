@@ -11,13 +11,13 @@ use Rattle.table_ops.specs.Join.{join_tables}
 use Rattle.table_terms.specs.declared.calculations.CalcSpec.{CalcSpec}
 use Rattle.table_terms.specs.declared.specifications.JoinSpec.{JoinSpec}
 use Rattle.spatial_join.specs.Joined.{join_matched}
-use Rattle.cmd_words.specs.declared.job.Origin.{Origin}
-use Rattle.cmd_words.specs.declared.job.Target.{Target}
-use Rattle.cmd_words.specs.declared.job.Command.{Command}
-use Rattle.cmd_words.specs.declared.job.JointAction.{JointAction}
-use Rattle.cmd_words.specs.declared.job.JointAction.TheVariants as joint
-use Rattle.cmd_words.specs.declared.job.LayerAction.{LayerAction}
-use Rattle.cmd_words.specs.declared.job.LayerAction.TheVariants as action
+use Rattle.job_terms.specs.declared.job.Origin.{Origin}
+use Rattle.job_terms.specs.declared.job.Target.{Target}
+use Rattle.job_terms.specs.declared.job.Command.{Command}
+use Rattle.job_terms.specs.declared.job.JointAction.{JointAction}
+use Rattle.job_terms.specs.declared.job.JointAction.TheVariants as joint
+use Rattle.job_terms.specs.declared.job.LayerAction.{LayerAction}
+use Rattle.job_terms.specs.declared.job.LayerAction.TheVariants as action
 use Rattle.run_plane.specs.declared.layer.Layer.{Layer}
 use Rattle.run_shapes.specs.Borders.{AreInnerLines, AreOutlines}
 use Rattle.run_shapes.specs.Cleaning.{IsCleaned, IsMosaicOf}

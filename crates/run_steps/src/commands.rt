@@ -31,8 +31,8 @@ ghost use Rattle.run_steps.specs.Refusals.{
 };
 
 use crate::outputs::{each_outputs, joint_output};
-use cmd_words::{Command, JointAction, LayerAction, Origin, Target};
 use grid_base::Kind;
+use job_terms::{Command, JointAction, LayerAction, Origin, Target};
 use run_plane::Layer;
 use run_state::{
     CommandStop, Ground, Held, RefuseWhy, State, check_target, first_target, is_selected,

@@ -11,8 +11,8 @@ ghost use Rattle.run_steps.specs.Refusals.{RefusesHeld, RefusesIn, RefusesLayer,
 ghost use Rattle.run_tables.specs.Made.{GivesTable, One};
 ghost use Rattle.spatial_join.specs.Joined.{join_matched};
 
-use cmd_words::{Command, JointAction, LayerAction, Origin, Target};
 use io_core::Text;
+use job_terms::{Command, JointAction, LayerAction, Origin, Target};
 use ring_trace::FaceSet;
 use run_plane::{Layer, Plane, copy_text};
 use run_shapes::{

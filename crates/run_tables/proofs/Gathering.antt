@@ -9,7 +9,7 @@ use Rattle.table_terms.specs.Refusals.{unless}
 use Rattle.table_ops.specs.Refusals.{Answers}
 use Rattle.table_ops.specs.declared.fault.TableFault.{TableFault}
 use Rattle.table_ops.specs.declared.fault.TableFault.TheVariants.{Bad, Memory}
-use Rattle.cmd_words.specs.declared.job.Target.{Target}
+use Rattle.job_terms.specs.declared.job.Target.{Target}
 use Rattle.run_plane.specs.declared.layer.Layer.{Layer}
 use Rattle.run_state.specs.Stops.{StopsFor, stop_of, table_refusal}
 use Rattle.run_state.specs.Targets.{is_selected, targets}

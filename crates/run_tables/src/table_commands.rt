@@ -9,10 +9,10 @@ ghost use Rattle.spatial_join.specs.Joined.{join_matched};
 ghost use Rattle.table_ops.specs.Join.{join_tables};
 ghost use Rattle.run_tables.specs.Made.{GivesTable, HasTable, IsFiltered, IsMerged, kept_numbers, refused_layers};
 
-use cmd_words::Target;
 use expr_lang::Expr;
 use grid_base::{GroupList, IdList};
 use io_core::NameList;
+use job_terms::Target;
 use json_read::Table;
 use run_plane::{Layer, Shape, copy_shape, copy_shapes, copy_text};
 use run_state::{

@@ -8,9 +8,9 @@ use Rattle.csv_io.specs.CsvText.{csv_text}
 use Rattle.table_terms.specs.Names.{has_name}
 use Rattle.topo_io.specs.ArcLayerContent.{ArcLayerContent}
 use Rattle.topo_io.specs.Texts.{topojson_text}
-use Rattle.cmd_words.specs.declared.job.OutForm.{OutForm}
-use Rattle.cmd_words.specs.declared.job.OutForm.TheVariants as form
-use Rattle.cmd_words.specs.declared.job.Target.{Target}
+use Rattle.job_terms.specs.declared.job.OutForm.{OutForm}
+use Rattle.job_terms.specs.declared.job.OutForm.TheVariants as form
+use Rattle.job_terms.specs.declared.job.Target.{Target}
 use Rattle.run_state.specs.Origins.{Base, one_layer}
 use Rattle.run_state.specs.Stops.{refusal_of}
 use Rattle.run_texts.specs.Pictures.{IsPicture}

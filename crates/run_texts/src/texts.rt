@@ -12,10 +12,10 @@ ghost use Rattle.run_texts.specs.Written.{IsCsvText, IsGeoText, IsTopoText, Outp
 
 use crate::arc_pictures::arc_layer_of;
 use crate::pictures::picture_text;
-use cmd_words::{OutForm, Target};
 use csv_io::write_csv;
 use indexmap::IndexSet;
 use io_core::Bytes;
+use job_terms::{OutForm, Target};
 use run_plane::Plane;
 use run_state::{CommandStop, Ground, Held, RefuseWhy, check_target, is_selected, only_target};
 use std::alloc::{AllocError, Global};

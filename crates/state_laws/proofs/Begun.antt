@@ -21,9 +21,9 @@ use Rattle.geojson_io.specs.LayerContent.{LayerContent}
 use Rattle.geojson_io.specs.Layers.{same_kind}
 use Rattle.geojson_io.specs.declared.shape.GeoShape.{GeoShape}
 use Rattle.geojson_io.specs.declared.shape.GeoShape.TheVariants as geo
-use Rattle.cmd_words.specs.declared.job.Owner.{Owner}
-use Rattle.cmd_words.specs.declared.job.Owner.TheVariants as owner
-use Rattle.cmd_words.specs.declared.job.SourceWord.{SourceWord}
+use Rattle.job_terms.specs.declared.job.Owner.{Owner}
+use Rattle.job_terms.specs.declared.job.Owner.TheVariants as owner
+use Rattle.job_terms.specs.declared.job.SourceWord.{SourceWord}
 use Rattle.face_walk.specs.Holders.{list_at}
 use Rattle.region_model.specs.Region.{feature}
 use Rattle.line_laws.specs.Linked.{AreLinked, AreThere}

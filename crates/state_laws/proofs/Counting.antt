@@ -4,7 +4,7 @@ use Rattle.std.specs.List.{AllZip}
 use Rattle.std.proofs.lemmas.List.{length-map, map-append}
 use Rattle.std.proofs.lemmas.List.Sums.{sum_by-cons}
 use Rattle.lists.specs.Lists.{has, joined_up}
-use Rattle.cmd_words.specs.declared.job.Target.{Target}
+use Rattle.job_terms.specs.declared.job.Target.{Target}
 use Rattle.run_state.specs.Targets.{is_selected, targets}
 use Rattle.run_state.specs.declared.state.Held.{Held}
 use Rattle.run_state.proofs.TargetLemmas.{other_first, target_first}

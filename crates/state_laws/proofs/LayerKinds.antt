@@ -4,9 +4,9 @@ use Rattle.std.specs.List.{AllZip, list_all}
 use Rattle.grid_base.specs.declared.kinds.Kind.{Kind}
 use Rattle.grid_base.specs.declared.kinds.Kind.TheVariants as kinds
 use Rattle.table_terms.specs.Refusals.{first_refusal}
-use Rattle.cmd_words.specs.declared.job.Action.TheVariants as does
-use Rattle.cmd_words.specs.declared.job.LayerAction.{LayerAction}
-use Rattle.cmd_words.specs.declared.job.LayerAction.TheVariants as action
+use Rattle.job_terms.specs.declared.job.Action.TheVariants as does
+use Rattle.job_terms.specs.declared.job.LayerAction.{LayerAction}
+use Rattle.job_terms.specs.declared.job.LayerAction.TheVariants as action
 use Rattle.run_plane.specs.declared.layer.Layer.{Layer}
 use Rattle.run_state.specs.declared.refusal.RefuseWhy.TheVariants.{WrongKind}
 use Rattle.run_steps.specs.Refusals as held

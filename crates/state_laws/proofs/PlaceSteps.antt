@@ -9,11 +9,11 @@ use Rattle.geojson_io.specs.Layers.{same_kind}
 use Rattle.table_terms.specs.Refusals.{first_refusal, on_ok}
 use Rattle.table_terms.specs.declared.calculations.CalcSpec.{CalcSpec}
 use Rattle.spatial_join.specs.Joined.{join_matched}
-use Rattle.cmd_words.specs.declared.job.Action.TheVariants as does
-use Rattle.cmd_words.specs.declared.job.Command.{Command}
-use Rattle.cmd_words.specs.declared.job.LayerAction.{LayerAction}
-use Rattle.cmd_words.specs.declared.job.LayerAction.TheVariants as action
-use Rattle.cmd_words.specs.declared.job.Origin.{Origin}
+use Rattle.job_terms.specs.declared.job.Action.TheVariants as does
+use Rattle.job_terms.specs.declared.job.Command.{Command}
+use Rattle.job_terms.specs.declared.job.LayerAction.{LayerAction}
+use Rattle.job_terms.specs.declared.job.LayerAction.TheVariants as action
+use Rattle.job_terms.specs.declared.job.Origin.{Origin}
 use Rattle.run_plane.specs.declared.layer.Layer.{Layer}
 use Rattle.run_shapes.specs.Matching.{AreMatches}
 use Rattle.run_state.specs.Origins as run

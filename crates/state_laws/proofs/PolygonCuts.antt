@@ -14,7 +14,7 @@ use Rattle.ring_trace.specs.Sets.{IsInnerFace}
 use Rattle.region_ops.specs.Cut.{meet, minus}
 use Rattle.region_model.specs.Region.{Region, any_of, both, box, less}
 use Rattle.region_laws.proofs.Sets.{meets_are_followed, remainders_are_followed}
-use Rattle.cmd_words.specs.declared.job.Origin.TheVariants as origin
+use Rattle.job_terms.specs.declared.job.Origin.TheVariants as origin
 use Rattle.run_plane.specs.declared.layer.Layer.{Layer}
 use Rattle.run_plane.specs.declared.layer.Shape.{Shape}
 use Rattle.run_plane.specs.declared.layer.Shape.TheVariants as shape

@@ -16,12 +16,12 @@ use Rattle.table_ops.specs.declared.fault.TableWhy.{TableWhy}
 use Rattle.table_ops.specs.declared.group.Grouped.{Grouped}
 use Rattle.region_model.specs.LineCommands.{SidedArc, outer_and_inner}
 use Rattle.region_model.specs.Region.{Region, any_of}
-use Rattle.cmd_words.specs.declared.job.Action.TheVariants as does
-use Rattle.cmd_words.specs.declared.job.Command.{Command}
-use Rattle.cmd_words.specs.declared.job.LayerAction.{LayerAction}
-use Rattle.cmd_words.specs.declared.job.LayerAction.TheVariants as action
-use Rattle.cmd_words.specs.declared.job.Origin.{Origin}
-use Rattle.cmd_words.specs.declared.job.Origin.TheVariants as origin
+use Rattle.job_terms.specs.declared.job.Action.TheVariants as does
+use Rattle.job_terms.specs.declared.job.Command.{Command}
+use Rattle.job_terms.specs.declared.job.LayerAction.{LayerAction}
+use Rattle.job_terms.specs.declared.job.LayerAction.TheVariants as action
+use Rattle.job_terms.specs.declared.job.Origin.{Origin}
+use Rattle.job_terms.specs.declared.job.Origin.TheVariants as origin
 use Rattle.run_plane.specs.declared.layer.Layer.{Layer}
 use Rattle.run_plane.specs.declared.layer.Shape.{Shape}
 use Rattle.run_state.specs.Origins as run

@@ -4,9 +4,9 @@ use Rattle.std.specs.List.{AllZip, list_all, list_any, range_with_len}
 use Rattle.lists.specs.Lists.{numbers_from, numbers_where}
 use Rattle.table_terms.specs.Names.{Text, has_name}
 use Rattle.table_ops.proofs.Numbers.{numbers_where-none}
-use Rattle.cmd_words.specs.declared.job.Origin.TheVariants as origin
-use Rattle.cmd_words.specs.declared.job.Target.{Target}
-use Rattle.cmd_words.specs.declared.job.Target.TheVariants as target
+use Rattle.job_terms.specs.declared.job.Origin.TheVariants as origin
+use Rattle.job_terms.specs.declared.job.Target.{Target}
+use Rattle.job_terms.specs.declared.job.Target.TheVariants as target
 use Rattle.run_plane.specs.declared.layer.Layer.{Layer}
 use Rattle.run_state.specs.Targets.{has_target, is_layer, is_selected}
 use Rattle.run_state.specs.declared.state.Held.{Held}

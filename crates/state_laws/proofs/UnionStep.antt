@@ -7,9 +7,9 @@ use Rattle.lists.specs.Lists.{joined_up}
 use Rattle.grid_base.specs.declared.kinds.Kind.{Kind}
 use Rattle.grid_base.specs.declared.kinds.Kind.TheVariants as kinds
 use Rattle.table_terms.specs.Refusals.{first_refusal, on_ok}
-use Rattle.cmd_words.specs.declared.job.Action.TheVariants as does
-use Rattle.cmd_words.specs.declared.job.Command.{Command}
-use Rattle.cmd_words.specs.declared.job.JointAction.TheVariants as joint
+use Rattle.job_terms.specs.declared.job.Action.TheVariants as does
+use Rattle.job_terms.specs.declared.job.Command.{Command}
+use Rattle.job_terms.specs.declared.job.JointAction.TheVariants as joint
 use Rattle.run_plane.specs.declared.layer.Layer.{Layer}
 use Rattle.run_shapes.specs.Uniting.{IsUnited}
 use Rattle.run_state.specs.Origins.{Base}

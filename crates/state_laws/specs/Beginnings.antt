@@ -7,8 +7,8 @@ use Rattle.plane_model.specs.Drawing.{Drawing}
 use Rattle.plane_model.specs.Snapped.{snapped}
 use Rattle.grid_base.specs.Grid.{Corners}
 use Rattle.geojson_io.specs.LayerContent.{LayerContent}
-use Rattle.cmd_words.specs.declared.job.Owner.{Owner}
-use Rattle.cmd_words.specs.declared.job.SourceWord.{SourceWord}
+use Rattle.job_terms.specs.declared.job.Owner.{Owner}
+use Rattle.job_terms.specs.declared.job.SourceWord.{SourceWord}
 use Rattle.face_walk.specs.Places.{FaceTable}
 use Rattle.run_plane.specs.declared.layer.Layer.{Layer}
 use Rattle.run_beginning.specs.BegunLayers.{BeginsOver}

@@ -3,10 +3,10 @@
 use Rattle.std.specs.Prelude.{◌≡◌, ℕ, true, List}
 use Rattle.table_terms.specs.declared.calculations.CalcSpec.{CalcSpec}
 use Rattle.spatial_join.specs.Joined.{join_matched}
-use Rattle.cmd_words.specs.declared.job.Action.TheVariants as does
-use Rattle.cmd_words.specs.declared.job.Command.{Command}
-use Rattle.cmd_words.specs.declared.job.LayerAction.TheVariants as action
-use Rattle.cmd_words.specs.declared.job.Origin.{Origin}
+use Rattle.job_terms.specs.declared.job.Action.TheVariants as does
+use Rattle.job_terms.specs.declared.job.Command.{Command}
+use Rattle.job_terms.specs.declared.job.LayerAction.TheVariants as action
+use Rattle.job_terms.specs.declared.job.Origin.{Origin}
 use Rattle.run_plane.specs.declared.layer.Layer.{Layer}
 use Rattle.run_plane.specs.declared.plane.Plane.{Plane}
 use Rattle.run_shapes.specs.Matching.{AreMatches}

@@ -2,8 +2,8 @@
 use Rattle.std.specs.Prelude.{◌≡◌, ◌≤◌, ◌<◌, List, [], ◌∷◌, drop, length, if◌then◌else◌, Ok, Err}
 use Rattle.std.specs.List.{AllZip}
 use Rattle.lists.specs.Lists.{first_or, joined_up}
-use Rattle.cmd_words.specs.declared.job.Command.{Command}
-use Rattle.cmd_words.specs.declared.job.Target.{Target}
+use Rattle.job_terms.specs.declared.job.Command.{Command}
+use Rattle.job_terms.specs.declared.job.Target.{Target}
 use Rattle.run_plane.specs.declared.layer.Layer.{Layer}
 use Rattle.run_state.specs.Targets.{is_selected, placed}
 use Rattle.run_state.specs.declared.state.Held.{Held}

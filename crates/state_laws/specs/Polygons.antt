@@ -7,7 +7,7 @@ use Rattle.grid_base.specs.declared.kinds.Kind.TheVariants as kinds
 use Rattle.grid_base.specs.declared.kinds.OverlapRule.{OverlapRule}
 use Rattle.table_terms.specs.declared.specifications.GroupSpec.{GroupSpec}
 use Rattle.region_model.specs.Region.{Region, box}
-use Rattle.cmd_words.specs.declared.job.Origin.{Origin}
+use Rattle.job_terms.specs.declared.job.Origin.{Origin}
 use Rattle.run_plane.specs.declared.layer.Layer.{Layer}
 use Rattle.run_plane.specs.declared.plane.Plane.{Plane}
 use Rattle.run_state.specs.Origins.{Base}

@@ -2,8 +2,8 @@
 use Rattle.std.specs.Prelude.{◌≡◌, ℕ, true, false, List, Ok, Err}
 use Rattle.std.specs.List.{AllZip}
 use Rattle.lists.specs.Lists.{numbers_where}
-use Rattle.cmd_words.specs.declared.job.Origin.{Origin}
-use Rattle.cmd_words.specs.declared.job.Target.{Target}
+use Rattle.job_terms.specs.declared.job.Origin.{Origin}
+use Rattle.job_terms.specs.declared.job.Target.{Target}
 use Rattle.run_plane.specs.declared.layer.Layer.{Layer}
 use Rattle.run_state.specs.Origins as run
 use Rattle.run_state.specs.Targets.{first_layers, has_target, is_selected, targets}

@@ -4,8 +4,9 @@
 //! the fault. `read_repeated` takes a number and the word that stands so often. `read_columns` takes words too; it
 //! answers the columns that the first command calculates, if it is a join by place, a line for each, or the fault.
 use case_lists::{bytes_of_text, names_at, number_at, text_at, told, unknown_call};
-use cmd_words::{Action, Chain, Job, LayerAction, read_chain};
+use cmd_words::read_chain;
 use io_core::{Bytes, Text, Words};
+use job_terms::{Action, Chain, Job, LayerAction};
 use json_read::Json;
 use std::alloc::{AllocError, Global};
 use table_terms::Calc;

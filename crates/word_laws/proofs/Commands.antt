@@ -10,9 +10,9 @@ use Rattle.cmd_words.specs.declared.fault.WordWhy.{WordWhy}
 use Rattle.cmd_words.specs.declared.fault.WordWhy.TheVariants as why
 use Rattle.cmd_words.specs.declared.action_words.ActionWords.{ActionWords}
 use Rattle.cmd_words.specs.declared.action_words.CommandWords.{CommandWords}
-use Rattle.cmd_words.specs.declared.job.Owner.TheVariants as owner
-use Rattle.cmd_words.specs.declared.job.SourceWord.{SourceWord}
-use Rattle.cmd_words.specs.declared.job.Target.{Target}
+use Rattle.job_terms.specs.declared.job.Owner.TheVariants as owner
+use Rattle.job_terms.specs.declared.job.SourceWord.{SourceWord}
+use Rattle.job_terms.specs.declared.job.Target.{Target}
 use Rattle.cmd_words.specs.Areas.{area_of}
 use Rattle.cmd_words.specs.Expressions.{Refusals}
 use Rattle.cmd_words.specs.Rows.{Row, Form, row_of}

@@ -5,9 +5,9 @@ use Rattle.table_terms.specs.Names.{Text}
 use Rattle.table_terms.specs.Refusals as table
 use Rattle.cmd_words.specs.declared.fault.WordFault.{WordFault}
 use Rattle.cmd_words.specs.declared.fault.WordWhy.TheVariants as why
-use Rattle.cmd_words.specs.declared.job.Job.{Job}
-use Rattle.cmd_words.specs.declared.job.Owner.TheVariants as owner
-use Rattle.cmd_words.specs.declared.job.SourceWord.{SourceWord}
+use Rattle.job_terms.specs.declared.job.Job.{Job}
+use Rattle.job_terms.specs.declared.job.Owner.TheVariants as owner
+use Rattle.job_terms.specs.declared.job.SourceWord.{SourceWord}
 use Rattle.cmd_words.specs.Areas.{places_of}
 use Rattle.cmd_words.specs.Quantities.{number_in}
 use Rattle.cmd_words.specs.Expressions.{Refusals}

@@ -13,14 +13,14 @@ use Rattle.table_terms.specs.declared.specifications.GroupSpec.{GroupSpec}
 use Rattle.table_terms.specs.declared.specifications.JoinSpec.{JoinSpec}
 use Rattle.cmd_words.specs.declared.action_words.ActionWords.{ActionWords}
 use Rattle.cmd_words.specs.declared.action_words.ActionWords.TheVariants as words
-use Rattle.cmd_words.specs.declared.job.Action.{Action}
-use Rattle.cmd_words.specs.declared.job.Action.TheVariants as ask
-use Rattle.cmd_words.specs.declared.job.LayerAction.TheVariants as each
-use Rattle.cmd_words.specs.declared.job.JointAction.TheVariants as joint
-use Rattle.cmd_words.specs.declared.job.Origin.{Origin}
-use Rattle.cmd_words.specs.declared.job.Origin.TheVariants as origin
-use Rattle.cmd_words.specs.declared.job.OutForm.{OutForm}
-use Rattle.cmd_words.specs.declared.job.OutForm.TheVariants.{Geo}
+use Rattle.job_terms.specs.declared.job.Action.{Action}
+use Rattle.job_terms.specs.declared.job.Action.TheVariants as ask
+use Rattle.job_terms.specs.declared.job.LayerAction.TheVariants as each
+use Rattle.job_terms.specs.declared.job.JointAction.TheVariants as joint
+use Rattle.job_terms.specs.declared.job.Origin.{Origin}
+use Rattle.job_terms.specs.declared.job.Origin.TheVariants as origin
+use Rattle.job_terms.specs.declared.job.OutForm.{OutForm}
+use Rattle.job_terms.specs.declared.job.OutForm.TheVariants.{Geo}
 use Rattle.cmd_words.specs.Rows.{Row, rows}
 use Rattle.cmd_words.specs.Texts.{form_by_ending, is_standard, names_file, pieces}
 use Rattle.cmd_words.specs.Values.{form_named, rule_of}

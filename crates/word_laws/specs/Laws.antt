@@ -4,7 +4,7 @@ use Rattle.table_terms.specs.Names.{Text}
 use Rattle.table_terms.specs.declared.calculations.Calc.{Calc}
 use Rattle.cmd_words.specs.Calculations.{calculation_of}
 use Rattle.cmd_words.specs.declared.fault.WordFault.{WordFault}
-use Rattle.cmd_words.specs.declared.job.Job.{Job}
+use Rattle.job_terms.specs.declared.job.Job.{Job}
 use Rattle.cmd_words.specs.Expressions.{Refusals}
 use Rattle.cmd_words.specs.Quantities.{doubled_below, doubled_above}
 use Rattle.cmd_words.specs.Tells.{Tells, FitsJob}

@@ -16,15 +16,15 @@ use Rattle.cmd_words.specs.Quantities.{area_units, doubled_below, doubled_above}
 use Rattle.cmd_words.specs.Calculations.{calculations_of}
 use Rattle.cmd_words.specs.declared.action_words.ActionWords.{ActionWords}
 use Rattle.cmd_words.specs.declared.action_words.ActionWords.TheVariants as words
-use Rattle.cmd_words.specs.declared.job.Action.TheVariants as ask
-use Rattle.cmd_words.specs.declared.job.LayerAction.{LayerAction}
-use Rattle.cmd_words.specs.declared.job.LayerAction.TheVariants as each
-use Rattle.cmd_words.specs.declared.job.JointAction.TheVariants as joint
-use Rattle.cmd_words.specs.declared.job.Origin.{Origin}
-use Rattle.cmd_words.specs.declared.job.OutForm.{OutForm}
-use Rattle.cmd_words.specs.declared.job.OutForm.TheVariants.{Geo}
-use Rattle.cmd_words.specs.declared.job.Target.{Target}
-use Rattle.cmd_words.specs.declared.job.Target.TheVariants as target
+use Rattle.job_terms.specs.declared.job.Action.TheVariants as ask
+use Rattle.job_terms.specs.declared.job.LayerAction.{LayerAction}
+use Rattle.job_terms.specs.declared.job.LayerAction.TheVariants as each
+use Rattle.job_terms.specs.declared.job.JointAction.TheVariants as joint
+use Rattle.job_terms.specs.declared.job.Origin.{Origin}
+use Rattle.job_terms.specs.declared.job.OutForm.{OutForm}
+use Rattle.job_terms.specs.declared.job.OutForm.TheVariants.{Geo}
+use Rattle.job_terms.specs.declared.job.Target.{Target}
+use Rattle.job_terms.specs.declared.job.Target.TheVariants as target
 
 -- ---- what the words of a group say
 

@@ -17,10 +17,10 @@ use Rattle.cmd_words.specs.Words.{JobWords, Reading, synth, chain}
 use Rattle.cmd_words.specs.declared.fault.ExprWhy.{ExprWhy}
 use Rattle.cmd_words.specs.declared.fault.WordWhy.{WordWhy}
 use Rattle.cmd_words.specs.declared.fault.WordWhy.TheVariants as why
-use Rattle.cmd_words.specs.declared.job.Origin.{Origin}
-use Rattle.cmd_words.specs.declared.job.Origin.TheVariants as origin
-use Rattle.cmd_words.specs.declared.job.Owner.TheVariants as owner
-use Rattle.cmd_words.specs.declared.job.SourceWord.{SourceWord}
+use Rattle.job_terms.specs.declared.job.Origin.{Origin}
+use Rattle.job_terms.specs.declared.job.Origin.TheVariants as origin
+use Rattle.job_terms.specs.declared.job.Owner.TheVariants as owner
+use Rattle.job_terms.specs.declared.job.SourceWord.{SourceWord}
 use Rattle.word_model.specs.CommandTable.{Item, option, bare, argument, Said, ValueForm, a_text, a_list, two_names, a_precision, a_rule, a_format, a_box, an_expression, an_area, one_or_more, zero_or_more, calculations, ArgumentForm, nothing, files, source, list, expression, assignments, renames, Line, CommandLine, value_in, has_option, has_bare, has_argument, argument_text, list_or_empty, target_of, form_in, number_in, count_of, import_line, line_of, form_of}
 
 -- ---- what a word is in its group

@@ -1,6 +1,6 @@
 use Rattle.std.proofs.Common.{◌≡◌, sym, subst}
 use Rattle.cmd_words.specs.declared.action_words.ActionWords.{ActionWords}
-use Rattle.cmd_words.specs.declared.job.Action.{Action}
+use Rattle.job_terms.specs.declared.job.Action.{Action}
 use Rattle.cmd_words.specs.ActionWords.{FitsAction, whole, join, spatial_join, filter, each, sort, uniq}
 use Rattle.cmd_words.proofs.action_words.whole_action.Goals as goal
 

@@ -1,5 +1,5 @@
 use Rattle.std.proofs.Common.{◌++◌, ◌∷◌, [], List, sym, subst}
-use Rattle.cmd_words.specs.declared.job.Command.{Command}
+use Rattle.job_terms.specs.declared.job.Command.{Command}
 use Rattle.cmd_words.specs.ActionWords.{FitEach}
 use Rattle.cmd_words.proofs.Readings.{one_more_fits}
 use Rattle.cmd_words.proofs.so_far.whole_commands.Goals as goal

@@ -1,7 +1,7 @@
 use Rattle.std.proofs.Common.{◌≡◌, ◌∙◌, [], ap, arith, rules, drop, length, map, subst, List}
 use Rattle.std.specs.Vec.Iter.{into_iter_items}
 use Rattle.std.proofs.lemmas.List.{nil_from_length}
-use Rattle.cmd_words.specs.declared.job.Owner.{Owner}
+use Rattle.job_terms.specs.declared.job.Owner.{Owner}
 use Rattle.geojson_io.specs.LayerContent.{LayerContent}
 use Rattle.run_beginning.specs.BegunLayers.{AreBegun, Left, behind_all}
 use Rattle.run_sources.specs.declared.sources.ReadSource.{ReadSource}

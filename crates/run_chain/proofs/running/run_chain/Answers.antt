@@ -1,10 +1,10 @@
 use Rattle.std.proofs.Common.{◌∙◌, List, ap, inl, inr, map, refl, subst}
 use Rattle.lists.specs.Lists.{joined_up}
 use Rattle.plane_model.specs.Snapped.{snapped}
-use Rattle.cmd_words.specs.declared.job.Owner.{Owner}
+use Rattle.job_terms.specs.declared.job.Owner.{Owner}
 use Rattle.run_beginning.specs.BegunLayers.{BeginsOver}
 use Rattle.run_beginning.specs.Drawing.{drawing_of}
-use Rattle.cmd_words.specs.declared.job.SourceWord.{SourceWord}
+use Rattle.job_terms.specs.declared.job.SourceWord.{SourceWord}
 use Rattle.io_core.proofs.Reading.{NeverFell-refl}
 use Rattle.run_chain.specs.Effects.{OutsideSeen}
 use Rattle.run_sources.specs.Sources.{SourcesSeen, GivesAll, StopsAtSource}

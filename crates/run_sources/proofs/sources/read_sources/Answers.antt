@@ -5,8 +5,8 @@ use Rattle.std.proofs.lemmas.List.Elements.{All-nil, All-push}
 use Rattle.std.proofs.lemmas.Option.{slice_get_read, get_or_from_slice_get}
 use Rattle.geojson_io.specs.LayerContent.{LayerContent}
 use Rattle.geojson_io.specs.Sound.{LayerIsSound}
-use Rattle.cmd_words.specs.declared.job.Owner.{Owner}
-use Rattle.cmd_words.specs.declared.job.SourceWord.{SourceWord}
+use Rattle.job_terms.specs.declared.job.Owner.{Owner}
+use Rattle.job_terms.specs.declared.job.SourceWord.{SourceWord}
 use Rattle.run_sources.specs.Budget.{whole_budget}
 use Rattle.run_sources.specs.Sources.{SourcesSeen, SourcesGive}
 use Rattle.run_sources.specs.declared.sources.ReadSource.{ReadSource}

@@ -2,7 +2,7 @@ use Rattle.std.proofs.Common.{◌≡◌, take, map}
 use Rattle.std.specs.Prelude.{All}
 use Rattle.io_core.specs.Counts.{NoneFell}
 use Rattle.geojson_io.specs.Sound.{LayerIsSound}
-use Rattle.cmd_words.specs.declared.job.SourceWord.{SourceWord}
+use Rattle.job_terms.specs.declared.job.SourceWord.{SourceWord}
 use Rattle.run_sources.specs.declared.sources.ReadSource.{ReadSource}
 use Rattle.run_sources.specs.Budget.{whole_budget}
 use Rattle.run_sources.specs.Sources.{Grew, SourcesGive}

@@ -13,7 +13,7 @@ pub struct SourceList {
 
 impl Model for SourceList {
     ghost use Rattle.std.specs.Prelude.{List, ℕ, ◌<◌, ◌^◌, length};
-    ghost use Rattle.cmd_words.specs.declared.job.SourceWord.{SourceWord};
+    ghost use Rattle.job_terms.specs.declared.job.SourceWord.{SourceWord};
 
     ghost Value = { List SourceWord };
 
@@ -70,7 +70,7 @@ pub struct CommandList {
 
 impl Model for CommandList {
     ghost use Rattle.std.specs.Prelude.{List, ℕ, ◌<◌, ◌^◌, length};
-    ghost use Rattle.cmd_words.specs.declared.job.Command.{Command};
+    ghost use Rattle.job_terms.specs.declared.job.Command.{Command};
     ghost use Rattle.cmd_words.specs.contracts.job.Command as command;
     ghost use Rattle.std.specs.Coded.{coded_list};
 
