@@ -27,7 +27,7 @@ pub(crate) struct SoFar {
 
 impl Model for SoFar {
     ghost use Rattle.cmd_words.specs.Chains.{SoFar as SoFarWords};
-    ghost use Rattle.cmd_words.specs.contracts.chain_lists.SourceList as sources_type;
+    ghost use Rattle.job_terms.specs.contracts.chain_lists.SourceList as sources_type;
     ghost use Rattle.grid_base.specs.contracts.list_types.BoxList as boxes_type;
     ghost use Rattle.cmd_words.specs.contracts.action_words.CommandWords as command_type;
     ghost use Rattle.std.specs.Prelude.{refl};

@@ -71,7 +71,7 @@ pub struct CommandList {
 impl Model for CommandList {
     ghost use Rattle.std.specs.Prelude.{List, ℕ, ◌<◌, ◌^◌, length};
     ghost use Rattle.job_terms.specs.declared.job.Command.{Command};
-    ghost use Rattle.cmd_words.specs.contracts.job.Command as command;
+    ghost use Rattle.job_terms.specs.contracts.job.Command as command;
     ghost use Rattle.std.specs.Coded.{coded_list};
 
     ghost Value = { List Command };
