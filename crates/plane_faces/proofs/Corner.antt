@@ -4,13 +4,15 @@ use Rattle.std.proofs.Math.IntN.{ℤ, pos, neg_ℤ}
 use Rattle.std.specs.Prelude.{All, Contains, int_lt, ◌<ℤ◌}
 use Rattle.std.proofs.lemmas.Int.{ints}
 use Rattle.std.proofs.lemmas.List.Elements.{All-head, All-tail, All-nil, All-weaker, All-contains, All-contains_itself}
+use Rattle.std.proofs.lemmas.Bool.{and_from}
 use Rattle.plane_algebra.proofs.Sign.{signs}
+use Rattle.plane_algebra.proofs.Tests.{lt_to, lt_from}
 use Rattle.plane_parity.proofs.Determinant.{turn-first}
 use Rattle.plane_parity.proofs.AlongLink.{decide_link, rises-zero}
-use Rattle.plane_parity.proofs.Abscissa.{ray_law_nothing, and_both, times_zero}
+use Rattle.plane_parity.proofs.Abscissa.{ray_law_nothing, times_zero}
 use Rattle.plane_parity.proofs.LinkOrder.{is_under-trans, is_under-total}
 use Rattle.plane_parity.proofs.Sight.{link_kind}
-use Rattle.plane_parity.proofs.Sector.{turn_other, under_through, over_start, up_is_later, flat_of_turn, first_gap, positive_zero, rise_at, lt_shows, up_means, up_shows}
+use Rattle.plane_parity.proofs.Sector.{turn_other, under_through, over_start, up_is_later, flat_of_turn, first_gap, positive_zero, rise_at}
 use Rattle.plane_parity.proofs.BoundaryEven.{up_alone}
 use Rattle.plane_model.specs.Points.{GridPoint, Segment, step_x, turn, at, same_segment}
 use Rattle.plane_model.specs.Parity.{xor, odd_count, is_below, is_over}
@@ -79,20 +81,20 @@ module _ (S : List Segment) (arr : IsArrangement S) where
   -- of two links that leave one vertex one comes before the other
   pub precedes_total : (k l : Segment) → Contains S k → Contains S l → k.start ≡ l.start → (k ≡ l) ⊎ ((precedes (forward_dart k) (forward_dart l) ≡ true) ⊎ (precedes (forward_dart l) (forward_dart k) ≡ true))
   precedes_total k l ck cl s = elim (signs (from_to k l)) [
-    | inl h ↦ inr (inl (subst (λ (q : GridPoint). int_lt (pos 0) (turn (at q) (at k.stop) (at l.stop)) ≡ true) (sym s) (sym (up_shows (from_to k l) h))))
+    | inl h ↦ inr (inl (subst (λ (q : GridPoint). int_lt (pos 0) (turn (at q) (at k.stop) (at l.stop)) ≡ true) (sym s) (lt_to (pos 0) (from_to k l) h)))
     | inr r ↦ elim r [
       | inl e ↦ inl (same_direction k l ck cl s e)
-      | inr h ↦ inr (inr (sym (up_shows (turn (at l.start) (at l.stop) (at k.stop)) (turned_up (turn (at l.start) (at l.stop) (at k.stop)) (from_to k l) (turn_other (at l.start) (at l.stop) (at k.stop)) h))))
+      | inr h ↦ inr (inr (lt_to (pos 0) (turn (at l.start) (at l.stop) (at k.stop)) (turned_up (turn (at l.start) (at l.stop) (at k.stop)) (from_to k l) (turn_other (at l.start) (at l.stop) (at k.stop)) h)))
     ]
   ]
 
   -- for links that are not vertical, the order of rotation is that from below
   under_of : (k l : Segment) → k.start ≡ l.start → pos 0 <ℤ step_x (at k.start) (at k.stop) → pos 0 <ℤ step_x (at l.start) (at l.stop) → pos 0 <ℤ from_to k l → is_under (at l.start) l k ≡ true
   under_of k l s dk dl t =
-      and_both (is_over (at l.start) k) (rises (rise (at l.start) k l) (turn (at l.start) (at l.stop) (at k.stop))) (over_there k l s dk)
+      and_from (is_over (at l.start) k) (rises (rise (at l.start) k l) (turn (at l.start) (at l.stop) (at k.stop))) (over_there k l s dk)
       (rises-zero (rise (at l.start) k l) (turn (at l.start) (at l.stop) (at k.stop))
       (rise_at (at l.start) k l (turn-first (at l.start) (at l.stop)) ∙ times_zero (step_x (at l.start) (at l.stop)) (turn (at k.start) (at k.stop) (at l.start)) (through k l s))
-      ∙ sym (lt_shows (turn (at l.start) (at l.stop) (at k.stop)) (turned_low (turn (at l.start) (at l.stop) (at k.stop)) (from_to k l) (turn_other (at l.start) (at l.stop) (at k.stop)) t)))
+      ∙ lt_to (turn (at l.start) (at l.stop) (at k.stop)) (pos 0) (turned_low (turn (at l.start) (at l.stop) (at k.stop)) (from_to k l) (turn_other (at l.start) (at l.stop) (at k.stop)) t))
 
   pub turn_trans : (a b c : Segment) → Contains S a → Contains S b → Contains S c → a.start ≡ c.start → b.start ≡ c.start
       → pos 0 <ℤ turn (at c.start) (at a.stop) (at b.stop) → pos 0 <ℤ turn (at c.start) (at b.stop) (at c.stop) → pos 0 <ℤ turn (at c.start) (at a.stop) (at c.stop)
@@ -176,9 +178,9 @@ module _ (S : List Segment) (arr : IsArrangement S) where
       inr (
         k.0 ∙ h.0,
         subst (λ (q : GridPoint). int_lt (pos 0) (turn (at q) (at a.stop) (at c.stop)) ≡ true) (k.0 ∙ h.0)
-            (sym (up_shows (from_to a c) (turn_trans S arr a b c ca cb cc' (sym (k.0 ∙ h.0)) (sym k.0)
-            (subst (λ (q : GridPoint). pos 0 <ℤ turn (at q) (at a.stop) (at b.stop)) (sym (k.0 ∙ h.0)) (up_means (turn (at a.start) (at a.stop) (at b.stop)) h.1))
-            (subst (λ (q : GridPoint). pos 0 <ℤ turn (at q) (at b.stop) (at c.stop)) (sym k.0) (up_means (turn (at b.start) (at b.stop) (at c.stop)) k.1))))),
+            (lt_to (pos 0) (from_to a c) (turn_trans S arr a b c ca cb cc' (sym (k.0 ∙ h.0)) (sym k.0)
+            (subst (λ (q : GridPoint). pos 0 <ℤ turn (at q) (at a.stop) (at b.stop)) (sym (k.0 ∙ h.0)) (lt_from (pos 0) (turn (at a.start) (at a.stop) (at b.stop)) h.1))
+            (subst (λ (q : GridPoint). pos 0 <ℤ turn (at q) (at b.stop) (at c.stop)) (sym k.0) (lt_from (pos 0) (turn (at b.start) (at b.stop) (at c.stop)) k.1)))),
       )
 
   later_total : (a b : Segment) → Contains S a → Contains S b → (a ≡ b) ⊎ (IsLater a b ⊎ IsLater b a)

@@ -5,8 +5,8 @@ use Rattle.std.specs.Prelude.{All, Contains, int_lt, ◌<ℤ◌}
 use Rattle.std.specs.List.Sorted.{IsPermutation}
 use Rattle.std.proofs.lemmas.List.Elements.{All-head, All-tail, All-cons, All-nil, All-weaker, All-contains, All-contains_itself}
 use Rattle.std.proofs.lemmas.List.Sorted.{IsPermutation-refl, IsPermutation-trans, IsPermutation-cons, IsPermutation-middle, All-permutation}
+use Rattle.plane_algebra.proofs.Tests.{lt_to, lt_from}
 use Rattle.plane_parity.proofs.HalfTurn.{rot_grid, rot_link, rot_links, rot_link_rot, arrangement_rot, contains_rot, turn-rot}
-use Rattle.plane_parity.proofs.Sector.{up_means, up_shows}
 use Rattle.plane_model.specs.Points.{GridPoint, Segment, turn, at, same_point}
 use Rattle.plane_model.specs.Arrangement.{IsArrangement, IsDistinct}
 use Rattle.plane_model.specs.Rotation.{Dart, tail, precedes}
@@ -20,9 +20,9 @@ forward_trans : (S : List Segment) → IsArrangement S → (a b c : Segment) →
     → precedes (forward_dart a) (forward_dart b) ≡ true → precedes (forward_dart b) (forward_dart c) ≡ true → precedes (forward_dart a) (forward_dart c) ≡ true
 forward_trans S arr a b c ca cb cc' sa sb ab bc =
     subst (λ (q : GridPoint). int_lt (pos 0) (turn (at q) (at a.stop) (at c.stop)) ≡ true) (sym sa)
-    (sym (up_shows (turn (at c.start) (at a.stop) (at c.stop)) (turn_trans S arr a b c ca cb cc' sa sb
-    (subst (λ (q : GridPoint). pos 0 <ℤ turn (at q) (at a.stop) (at b.stop)) sa (up_means (turn (at a.start) (at a.stop) (at b.stop)) ab))
-    (subst (λ (q : GridPoint). pos 0 <ℤ turn (at q) (at b.stop) (at c.stop)) sb (up_means (turn (at b.start) (at b.stop) (at c.stop)) bc)))))
+    (lt_to (pos 0) (turn (at c.start) (at a.stop) (at c.stop)) (turn_trans S arr a b c ca cb cc' sa sb
+    (subst (λ (q : GridPoint). pos 0 <ℤ turn (at q) (at a.stop) (at b.stop)) sa (lt_from (pos 0) (turn (at a.start) (at a.stop) (at b.stop)) ab))
+    (subst (λ (q : GridPoint). pos 0 <ℤ turn (at q) (at b.stop) (at c.stop)) sb (lt_from (pos 0) (turn (at b.start) (at b.stop) (at c.stop)) bc))))
 
 -- those that arrive, after a half turn
 turned : (k l : Segment) → precedes (forward_dart (rot_link k)) (forward_dart (rot_link l)) ≡ precedes (backward_dart k) (backward_dart l)
