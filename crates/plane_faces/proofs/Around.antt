@@ -6,13 +6,14 @@ use Rattle.std.proofs.lemmas.Int.{ints}
 use Rattle.std.proofs.lemmas.List.Elements.{All-head, All-tail, All-cons, All-nil, All-append, All-weaker, All-contains, Contains-append_left, Contains-append_right}
 use Rattle.std.proofs.lemmas.List.Sorted.{Contains-permutation, All-permutation}
 use Rattle.lists.specs.Lists.{last_of}
+use Rattle.lists.proofs.Members.{Contains-head, Contains-later, Contains-nil}
 use Rattle.plane_parity.proofs.Sector.{turn_other}
 use Rattle.plane_parity.proofs.Telescope.{same_point-true, same_point-self}
 use Rattle.plane_model.specs.Points.{GridPoint, Segment, turn, at, same_point}
 use Rattle.plane_model.specs.Rotation.{Dart, tail, precedes, IsNext}
 use Rattle.plane_faces.specs.Around.{forward_dart, backward_dart, darts_at, InRotation, IsRotation}
 use Rattle.plane_faces.specs.Places.{Consecutive}
-use Rattle.plane_faces.proofs.Lists.{contains_head, contains_tail, contains_cases, contains_none}
+use Rattle.plane_faces.proofs.Lists.{contains_cases}
 
 -- ---- the order of rotation
 
@@ -46,9 +47,9 @@ if_there b d = cond b (d ∷ []) []
 pub darts_are_there : (p : GridPoint) (S : List Segment) → All (λ d. Contains S d.link × (tail d ≡ p)) (darts_at p S)
 darts_are_there p [] = All-nil (λ d. Contains [] d.link × (tail d ≡ p))
 darts_are_there p (l ∷ S) =
-    All-append Here (if_there (same_point p l.start) (forward_dart l)) (if_there (same_point p l.stop) (backward_dart l) ++ darts_at p S) (one (same_point p l.start) (forward_dart l) (λ e. (contains_head l S, same_point-true p l.start e)))
-    (All-append Here (if_there (same_point p l.stop) (backward_dart l)) (darts_at p S) (one (same_point p l.stop) (backward_dart l) (λ e. (contains_head l S, same_point-true p l.stop e)))
-    (All-weaker (λ d. Contains S d.link × (tail d ≡ p)) Here (λ d h. (contains_tail l S d.link h.0, h.1)) (darts_at p S) (darts_are_there p S)))
+    All-append Here (if_there (same_point p l.start) (forward_dart l)) (if_there (same_point p l.stop) (backward_dart l) ++ darts_at p S) (one (same_point p l.start) (forward_dart l) (λ e. (Contains-head l S, same_point-true p l.start e)))
+    (All-append Here (if_there (same_point p l.stop) (backward_dart l)) (darts_at p S) (one (same_point p l.stop) (backward_dart l) (λ e. (Contains-head l S, same_point-true p l.stop e)))
+    (All-weaker (λ d. Contains S d.link × (tail d ≡ p)) Here (λ d h. (Contains-later l S d.link h.0, h.1)) (darts_at p S) (darts_are_there p S)))
   where
     Here : Dart → Type 0
     Here d = Contains (l ∷ S) d.link × (tail d ≡ p)
@@ -58,7 +59,7 @@ darts_are_there p (l ∷ S) =
     one false d h = All-nil Here
 
 pub there_are_darts : (p : GridPoint) (S : List Segment) (d : Dart) → Contains S d.link → tail d ≡ p → Contains (darts_at p S) d
-there_are_darts p [] d c t = absurd (contains_none d.link c)
+there_are_darts p [] d c t = absurd (Contains-nil d.link c)
 there_are_darts p (l ∷ S) d c t = elim (contains_cases l S d.link c) [
   | inl e ↦ this d.link d.forward e t
   | inr k ↦
@@ -67,7 +68,7 @@ there_are_darts p (l ∷ S) d c t = elim (contains_cases l S d.link c) [
 ]
   where
     is_there : (b : Bool) (d : Dart) → b ≡ true → Contains (if_there b d) d
-    is_there true d e = contains_head d []
+    is_there true d e = Contains-head d []
     is_there false d e = let f : false ≡ true = e in absurd (cc)
 
     same : (q : GridPoint) → q ≡ p → same_point p q ≡ true
@@ -82,7 +83,7 @@ there_are_darts p (l ∷ S) d c t = elim (contains_cases l S d.link c) [
 
 -- ---- each dart and the next
 
-pub last-All : (P : Dart → Type 0) (d : Dart) (ds : List Dart) → All P (d ∷ ds) → P (last_of d ds)
+pub last-All : {X : Type 0} (P : X → Type 0) (d : X) (ds : List X) → All P (d ∷ ds) → P (last_of d ds)
 last-All P d [] h = All-head P d [] h
 last-All P d (e ∷ ds) h = last-All P e ds (All-tail P d (e ∷ ds) h)
 
@@ -103,7 +104,7 @@ module _ (S : List Segment) (p : GridPoint) where
     tt,
     λ c h. elim (each c h) [
       | inl b ↦ not_after c d h (All-head Here d [] here) (All-head (λ x. precedes c x ≡ true) d [] b)
-      | inr k ↦ elim (contains_cases d [] c k) [ inl e ↦ subst (λ (x : Dart). precedes d x ≡ false) (sym e) (precedes_not_itself d) | inr n ↦ absurd (contains_none c n) ]
+      | inr k ↦ elim (contains_cases d [] c k) [ inl e ↦ subst (λ (x : Dart). precedes d x ≡ false) (sym e) (precedes_not_itself d) | inr n ↦ absurd (Contains-nil c n) ]
     ],
   )
   walk d (e ∷ ds) sorted here each =

@@ -5,6 +5,7 @@ use Rattle.std.specs.List.Sorted.{IsPermutation}
 use Rattle.std.proofs.lemmas.List.{append-nil}
 use Rattle.std.proofs.lemmas.List.Elements.{All-head, All-tail, All-cons, All-nil, All-append, All-contains}
 use Rattle.std.proofs.lemmas.List.Sorted.{IsPermutation-trans, IsPermutation-append_comm, All-permutation}
+use Rattle.plane_snapping.proofs.Steps.{last_of-append}
 use Rattle.lists.specs.Lists.{last_of}
 use Rattle.plane_model.specs.Points.{GridPoint, Segment}
 use Rattle.plane_model.specs.Arrangement.{IsBefore, IsArrangement}
@@ -98,17 +99,13 @@ module _ {A : Type 0} (f : Place → A) where
   rows_joined a [] b ys h k l = (k, l)
   rows_joined a (x ∷ xs) b ys h k l = (h.0, rows_joined x xs b ys h.1 k l)
 
-  last_behind : (a : Dart) (xs : List Dart) (b : Dart) (ys : List Dart) → last_of a (xs ++ (b ∷ ys)) ≡ last_of b ys
-  last_behind a [] b ys = refl
-  last_behind a (x ∷ xs) b ys = last_behind x xs b ys
-
   pub agrees_turned : (xs ys : List Dart) → AgreesAround f (xs ++ ys) → AgreesAround f (ys ++ xs)
   agrees_turned [] ys h = subst (AgreesAround f) (sym (append-nil ys)) h
   agrees_turned (x ∷ xs) [] h = subst (AgreesAround f) (append-nil (x ∷ xs)) h
   agrees_turned (x ∷ xs) (y ∷ ys) h =
       let r = rows_cut x xs y ys h.0 in (
-        rows_joined y ys x xs r.2 (subst (λ (d : Dart). Agree d x) (last_behind x xs y ys) h.1) r.0,
-        subst (λ (d : Dart). Agree d y) (sym (last_behind y ys x xs)) r.1,
+        rows_joined y ys x xs r.2 (subst (λ (d : Dart). Agree d x) (last_of-append x xs (y ∷ ys)) h.1) r.0,
+        subst (λ (d : Dart). Agree d y) (sym (last_of-append y ys (x ∷ xs))) r.1,
       )
 
 -- a row from the positive x axis gives one from straight down, around which the same agrees

@@ -4,6 +4,7 @@ use Rattle.std.specs.Prelude.{All, Contains, nat_eq}
 use Rattle.std.proofs.lemmas.Bool.{eq-eqb, eqb-true}
 use Rattle.std.proofs.lemmas.List.{append-nil}
 use Rattle.std.proofs.lemmas.List.Elements.{All-cons, All-nil, All-weaker, All-contains, All-contains_itself}
+use Rattle.lists.proofs.Members.{Contains-filter}
 use Rattle.plane_algebra.proofs.Tests.{by_test}
 use Rattle.plane_parity.proofs.SnappedRings.{closed_runs_are_even_lists, faces_have_one_list_of_holders}
 use Rattle.plane_parity.proofs.Visible.{seen_from_left, seen_from_right}
@@ -23,7 +24,7 @@ use Rattle.plane_faces.proofs.Order.{place_exists}
 use Rattle.plane_faces.proofs.Sorting.{rotations_exist}
 use Rattle.plane_faces.proofs.FaceLaws.{one_face, among_agrees}
 use Rattle.plane_faces.proofs.Sighted.{test_from_left, test_from_right}
-use Rattle.plane_faces.proofs.Parts.{contains_filter, passes_filter, border_in}
+use Rattle.plane_faces.proofs.Parts.{passes_filter, border_in}
 use Rattle.plane_faces.proofs.Laws.{parts_not_separated}
 use Rattle.plane_faces.proofs.Separating.{faces_by_ring, parts_by_ring}
 
@@ -116,7 +117,7 @@ borders_are_boundaries S arr distinct f agrees = record {
   links = All-weaker (Contains (border f S)) (λ l. Contains S l × IsBoundaryLink S (PointsWhere S f) l)
       (λ l c. let there = All-contains (Contains S) (border f S) l (border_in S f) c in (there, boundary_of S arr distinct f agrees l there (passes_filter (λ k. xor (f (left_side k)) (f (right_side k))) S l c)))
       (border f S) (All-contains_itself (border f S));
-  all = λ l c h. contains_filter (λ k. xor (f (left_side k)) (f (right_side k))) S l c (of_boundary S arr distinct f agrees l c h);
+  all = λ l c h. Contains-filter (λ k. xor (f (left_side k)) (f (right_side k))) S l c (of_boundary S arr distinct f agrees l c h);
 }
 
 -- ---- parts
@@ -126,7 +127,7 @@ parts_are_joined S arr distinct label faces F none part parts u v a b h k fa fb 
   λ e boundary are runs closed.
       let even = closed_runs_are_even_lists boundary runs closed in
       let within = All-weaker (Contains boundary) (Contains (border held S))
-      (λ l c. let i = All-contains (λ m. Contains S m × IsBoundaryLink S (PointsWhere S held) m) boundary l are.links c in contains_filter (λ m. xor (held (left_side m)) (held (right_side m))) S l i.0 (of_boundary S arr distinct held agrees l i.0 i.1))
+      (λ l c. let i = All-contains (λ m. Contains S m × IsBoundaryLink S (PointsWhere S held) m) boundary l are.links c in Contains-filter (λ m. xor (held (left_side m)) (held (right_side m))) S l i.0 (of_boundary S arr distinct held agrees l i.0 i.1))
       (links_of_paths runs) even.within in
       parts_not_separated S arr label faces F part parts (links_of_paths runs) within even.even u v a b h k fa fb e,
   λ joined. equal_or (part (label a)) (part (label b)) (λ e. e)

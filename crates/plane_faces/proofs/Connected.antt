@@ -3,6 +3,7 @@ use Rattle.std.proofs.Common.{◌≡◌, inl, inr, ℕ, zero, suc, ◌<◌, refl
 use Rattle.std.proofs.Math.IntN.{pos}
 use Rattle.std.specs.Prelude.{All, Contains, int_lt}
 use Rattle.std.proofs.lemmas.List.Elements.{All-head, All-tail, All-weaker, All-contains, All-contains_itself}
+use Rattle.lists.proofs.Members.{Contains-nil}
 use Rattle.plane_parity.proofs.Telescope.{same_of_xor, odd_count-equal, same_point-true, same_point-self}
 use Rattle.plane_parity.proofs.Abscissa.{ray_law, ray_law_nothing}
 use Rattle.plane_parity.proofs.Boundary.{mem, mem_itself, mem_filter, filter_all}
@@ -17,7 +18,7 @@ use Rattle.plane_model.specs.Below.{IsTopmostBelow}
 use Rattle.plane_model.specs.Rotation.{Dart, tail, precedes, IsNext, odd_left_of, odd_right_of}
 use Rattle.plane_faces.specs.Places.{Consecutive, Place, outside, left_of, left_side, right_side, IsBeside, IsPlaceOf, IsMinimum, IsFirst, AgreesWherePlacesMeet, border, odd_at}
 use Rattle.plane_faces.specs.Around.{forward_dart, backward_dart, opposite, IsRotation}
-use Rattle.plane_faces.proofs.Lists.{contains_cases, contains_none, find}
+use Rattle.plane_faces.proofs.Lists.{contains_cases, find}
 use Rattle.plane_faces.proofs.Crossing.{crossing_law}
 use Rattle.plane_faces.proofs.Around.{rotation-here, rotation-all, rotation-consecutive, rotation-first}
 use Rattle.plane_faces.proofs.BorderEven.{border_even}
@@ -70,7 +71,7 @@ module _ (S : List Segment) (arr : IsArrangement S) (rotations : HasRotations S)
 
   -- about a vertex all is one
   along : (d : Dart) (ds : List Dart) → Consecutive (IsNext S) d ds → All (λ e. Contains S e.link) (d ∷ ds) → (c : Dart) → Contains (d ∷ ds) c → g (left_of c) ≡ g (left_of d)
-  along d [] next here c k = elim (contains_cases d [] c k) [ inl e ↦ ap (λ (x : Dart). g (left_of x)) e | inr n ↦ absurd (contains_none c n) ]
+  along d [] next here c k = elim (contains_cases d [] c k) [ inl e ↦ ap (λ (x : Dart). g (left_of x)) e | inr n ↦ absurd (Contains-nil c n) ]
   along d (e ∷ ds) next here c k = elim (contains_cases d (e ∷ ds) c k) [
     | inl i ↦ ap (λ (x : Dart). g (left_of x)) i
     | inr k' ↦
@@ -83,7 +84,7 @@ module _ (S : List Segment) (arr : IsArrangement S) (rotations : HasRotations S)
   about d e cd ce t = go (rotations (tail d)).0 (rotations (tail d)).1
     where
       go : (ds : List Dart) → IsRotation S (tail d) ds → g (left_of d) ≡ g (left_of e)
-      go [] r = absurd (contains_none d (rotation-all S (tail d) [] r d (cd, refl)))
+      go [] r = absurd (Contains-nil d (rotation-all S (tail d) [] r d (cd, refl)))
       go (c ∷ ds) r =
           let links : All (λ x. Contains S x.link) (c ∷ ds) = All-weaker (λ x. Contains S x.link × (tail x ≡ tail d)) (λ x. Contains S x.link) (λ x h. h.0) (c ∷ ds) (rotation-here S (tail d) (c ∷ ds) r) in
           along c ds (rotation-consecutive S (tail d) c ds r) links d (rotation-all S (tail d) (c ∷ ds) r d (cd, refl))
@@ -94,7 +95,7 @@ module _ (S : List Segment) (arr : IsArrangement S) (rotations : HasRotations S)
   first_exists l c least = go (rotations l.start).0 (rotations l.start).1
     where
       go : (ds : List Dart) → IsRotation S l.start ds → (k : Segment) × Contains S k × (k.start ≡ l.start) × IsFirst S k
-      go [] r = absurd (contains_none (forward_dart l) (rotation-all S l.start [] r (forward_dart l) (c, refl)))
+      go [] r = absurd (Contains-nil (forward_dart l) (rotation-all S l.start [] r (forward_dart l) (c, refl)))
       go (d ∷ ds) r = dart d.link d.forward (All-head (λ x. Contains S x.link × (tail x ≡ l.start)) d ds (rotation-here S l.start (d ∷ ds) r)) (rotation-first S l.start d ds r)
         where
           dart : (k : Segment) (f : Bool) → Contains S k × (tail (record { link = k; forward = f }) ≡ l.start) → ((e : Dart) → Contains S e.link × (tail e ≡ l.start) → precedes e (record { link = k; forward = f }) ≡ false) → (k : Segment) × Contains S k × (k.start ≡ l.start) × IsFirst S k

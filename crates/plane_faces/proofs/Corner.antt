@@ -1,19 +1,20 @@
 -- Links that leave one vertex, in order of rotation, and the lowest link of a list.
-use Rattle.std.proofs.Common.{◌≡◌, ◌⊎◌, inl, inr, refl, sym, ap, subst, ◌∙◌, arith, Bool, true, false, List, [], ◌∷◌}
-use Rattle.std.proofs.Math.IntN.{ℤ, pos, neg_ℤ}
+use Rattle.std.proofs.Common.{◌≡◌, ◌⊎◌, inl, inr, refl, sym, ap, subst, ◌∙◌, Bool, true, false, List, [], ◌∷◌}
+use Rattle.std.proofs.Math.IntN.{ℤ, pos}
 use Rattle.std.specs.Prelude.{All, Contains, int_lt, ◌<ℤ◌}
-use Rattle.std.proofs.lemmas.Int.{ints}
 use Rattle.std.proofs.lemmas.List.Elements.{All-head, All-tail, All-nil, All-weaker, All-contains, All-contains_itself}
 use Rattle.std.proofs.lemmas.Bool.{and_from}
+use Rattle.lists.proofs.Members.{Contains-head, Contains-later, Contains-nil}
 use Rattle.plane_algebra.proofs.Sign.{signs}
 use Rattle.plane_algebra.proofs.Tests.{lt_to, lt_from}
 use Rattle.plane_parity.proofs.Determinant.{turn-first}
-use Rattle.plane_parity.proofs.AlongLink.{decide_link, rises-zero}
-use Rattle.plane_parity.proofs.Abscissa.{ray_law_nothing, times_zero}
+use Rattle.plane_parity.proofs.AlongLink.{decide_link, rises-zero, not_zero_low}
+use Rattle.plane_parity.proofs.Abscissa.{ray_law_nothing, not_still_self, times_still, not_still}
 use Rattle.plane_parity.proofs.LinkOrder.{is_under-trans, is_under-total}
 use Rattle.plane_parity.proofs.Sight.{link_kind}
-use Rattle.plane_parity.proofs.Sector.{turn_other, under_through, over_start, up_is_later, flat_of_turn, first_gap, positive_zero, rise_at}
+use Rattle.plane_parity.proofs.Sector.{turn_other, under_through, over_start, up_is_later, flat_of_turn, first_gap, rise_at, still_low}
 use Rattle.plane_parity.proofs.BoundaryEven.{up_alone}
+use Rattle.plane_parity.proofs.Passing.{turned_up, turned_down}
 use Rattle.plane_model.specs.Points.{GridPoint, Segment, step_x, turn, at, same_segment}
 use Rattle.plane_model.specs.Parity.{xor, odd_count, is_below, is_over}
 use Rattle.plane_model.specs.Arrangement.{IsBefore, IsArrangement}
@@ -23,25 +24,10 @@ use Rattle.plane_model.specs.Sides.{odd_left, odd_right}
 use Rattle.plane_model.specs.Rotation.{precedes}
 use Rattle.plane_faces.specs.Around.{forward_dart}
 use Rattle.plane_faces.specs.Places.{IsLater, IsLowest}
-use Rattle.plane_faces.proofs.Lists.{contains_head, contains_tail, contains_cases, contains_none}
+use Rattle.plane_faces.proofs.Lists.{contains_cases}
 use Rattle.plane_faces.proofs.Crossing.{crossing_law}
 use Rattle.plane_faces.proofs.Around.{precedes_once, precedes_not_itself}
 use Rattle.plane_faces.proofs.Order.{before_trans, before_not_itself, order_cases, below_starts_before}
-
-turned_zero : (a b : ℤ) → a ≡ neg_ℤ b → b ≡ pos 0 → a <ℤ pos 0 → ⊥
-turned_zero a b e f h = omega (arith, ints)
-
-turned_zero' : (a b : ℤ) → a ≡ neg_ℤ b → b ≡ pos 0 → pos 0 <ℤ a → ⊥
-turned_zero' a b e f h = omega (arith, ints)
-
-low_zero : (a : ℤ) → a <ℤ pos 0 → a ≡ pos 0 → ⊥
-low_zero a h e = omega (arith, ints)
-
-turned_up : (a b : ℤ) → a ≡ neg_ℤ b → b <ℤ pos 0 → pos 0 <ℤ a
-turned_up a b e h = omega (arith, ints)
-
-turned_low : (a b : ℤ) → a ≡ neg_ℤ b → pos 0 <ℤ b → a <ℤ pos 0
-turned_low a b e h = omega (arith, ints)
 
 -- the turn at the start of l from k to l
 abbrev pub from_to : Segment → Segment → ℤ
@@ -62,21 +48,21 @@ module _ (S : List Segment) (arr : IsArrangement S) where
   same_direction k l ck cl s t = elim (link_kind S arr k ck) [
     | inl dk ↦ elim (link_kind S arr l cl) [
       | inl dl ↦ elim (decide_link k l) [ inl e ↦ e | inr n ↦ absurd (both dk dl n (is_under (at l.start) l k) refl) ]
-      | inr ul ↦ absurd (positive_zero (from_to k l) (up_is_later S [] arr nothing (λ q. refl) k l s dk ul.0 ul.1) t)
+      | inr ul ↦ absurd (not_still_self (from_to k l) (up_is_later S [] arr nothing (λ q. refl) k l s dk ul.0 ul.1) t)
     ]
     | inr uk ↦ elim (link_kind S arr l cl) [
-      | inl dl ↦ absurd (turned_zero' (turn (at l.start) (at l.stop) (at k.stop)) (from_to k l) (turn_other (at l.start) (at l.stop) (at k.stop)) t
-          (subst (λ (q : GridPoint). pos 0 <ℤ turn (at q) (at l.stop) (at k.stop)) s (up_is_later S [] arr nothing (λ q. refl) l k (sym s) dl uk.0 uk.1)))
+      | inl dl ↦ absurd (not_still (turn (at l.start) (at l.stop) (at k.stop)) (from_to k l) (turn_other (at l.start) (at l.stop) (at k.stop))
+          (subst (λ (q : GridPoint). pos 0 <ℤ turn (at q) (at l.stop) (at k.stop)) s (up_is_later S [] arr nothing (λ q. refl) l k (sym s) dl uk.0 uk.1)) t)
       | inr ul ↦ up_alone S arr k l ck cl s uk ul
     ]
   ]
     where
       both : pos 0 <ℤ step_x (at k.start) (at k.stop) → pos 0 <ℤ step_x (at l.start) (at l.stop) → (k ≡ l → ⊥) → (b : Bool) → is_under (at l.start) l k ≡ b → ⊥
-      both dk dl n true u = turned_zero (turn (at l.start) (at l.stop) (at k.stop)) (from_to k l) (turn_other (at l.start) (at l.stop) (at k.stop)) t
+      both dk dl n true u = still_low (turn (at l.start) (at l.stop) (at k.stop)) (from_to k l) (turn_other (at l.start) (at l.stop) (at k.stop)) t
           ((under_through (at l.start) l k dl (turn-first (at l.start) (at l.stop)) u).1 (through k l s))
       both dk dl n false u =
           let v : is_under (at l.start) k l ≡ true = is_under-total S arr k l ck cl (at l.start) (over_there k l s dk) (over_start l dl) n u in
-          low_zero (from_to k l) (subst (λ (q : GridPoint). turn (at q) (at k.stop) (at l.stop) <ℤ pos 0) s ((under_through (at l.start) k l dk (through k l s) v).1 (turn-first (at l.start) (at l.stop)))) t
+          not_zero_low (from_to k l) (subst (λ (q : GridPoint). turn (at q) (at k.stop) (at l.stop) <ℤ pos 0) s ((under_through (at l.start) k l dk (through k l s) v).1 (turn-first (at l.start) (at l.stop)))) t
 
   -- of two links that leave one vertex one comes before the other
   pub precedes_total : (k l : Segment) → Contains S k → Contains S l → k.start ≡ l.start → (k ≡ l) ⊎ ((precedes (forward_dart k) (forward_dart l) ≡ true) ⊎ (precedes (forward_dart l) (forward_dart k) ≡ true))
@@ -93,8 +79,8 @@ module _ (S : List Segment) (arr : IsArrangement S) where
   under_of k l s dk dl t =
       and_from (is_over (at l.start) k) (rises (rise (at l.start) k l) (turn (at l.start) (at l.stop) (at k.stop))) (over_there k l s dk)
       (rises-zero (rise (at l.start) k l) (turn (at l.start) (at l.stop) (at k.stop))
-      (rise_at (at l.start) k l (turn-first (at l.start) (at l.stop)) ∙ times_zero (step_x (at l.start) (at l.stop)) (turn (at k.start) (at k.stop) (at l.start)) (through k l s))
-      ∙ lt_to (turn (at l.start) (at l.stop) (at k.stop)) (pos 0) (turned_low (turn (at l.start) (at l.stop) (at k.stop)) (from_to k l) (turn_other (at l.start) (at l.stop) (at k.stop)) t))
+      (rise_at (at l.start) k l (turn-first (at l.start) (at l.stop)) ∙ times_still (step_x (at l.start) (at l.stop)) (turn (at k.start) (at k.stop) (at l.start)) (through k l s))
+      ∙ lt_to (turn (at l.start) (at l.stop) (at k.stop)) (pos 0) (turned_down (turn (at l.start) (at l.stop) (at k.stop)) (from_to k l) (turn_other (at l.start) (at l.stop) (at k.stop)) t))
 
   pub turn_trans : (a b c : Segment) → Contains S a → Contains S b → Contains S c → a.start ≡ c.start → b.start ≡ c.start
       → pos 0 <ℤ turn (at c.start) (at a.stop) (at b.stop) → pos 0 <ℤ turn (at c.start) (at b.stop) (at c.stop) → pos 0 <ℤ turn (at c.start) (at a.stop) (at c.stop)
@@ -161,7 +147,7 @@ module _ (S L : List Segment) (arr : IsArrangement S) (within : All (Contains S)
   -- nothing of the list is below its lowest link
   pub lowest_right : odd_right L a ≡ false
   lowest_right =
-      first_gap (a ∷ L) L (sub_arrangement S (a ∷ L) arr both) (All-tail (Contains (a ∷ L)) a L (All-contains_itself (a ∷ L))) even a (contains_head a L) first
+      first_gap (a ∷ L) L (sub_arrangement S (a ∷ L) arr both) (All-tail (Contains (a ∷ L)) a L (All-contains_itself (a ∷ L))) even a (Contains-head a L) first
       ∙ ray_law_nothing (a ∷ L) L (All-tail (Contains (a ∷ L)) a L (All-contains_itself (a ∷ L))) (at a.start) none_below
 
   pub lowest_left : odd_left L a ≡ odd_count (same_segment a) L
@@ -196,7 +182,7 @@ module _ (S : List Segment) (arr : IsArrangement S) where
   ]
 
   pub lowest_exists : (x : Segment) (xs : List Segment) → All (Contains S) (x ∷ xs) → (a : Segment) × Contains (x ∷ xs) a × IsLowest (x ∷ xs) a
-  lowest_exists x [] within = (x, contains_head x [], λ k c. elim (contains_cases x [] k c) [ inl e ↦ inl e | inr n ↦ absurd (contains_none k n) ])
+  lowest_exists x [] within = (x, Contains-head x [], λ k c. elim (contains_cases x [] k c) [ inl e ↦ inl e | inr n ↦ absurd (Contains-nil k n) ])
   lowest_exists x (y ∷ ys) within =
       let r : (a : Segment) × Contains (y ∷ ys) a × IsLowest (y ∷ ys) a = lowest_exists y ys (All-tail (Contains S) x (y ∷ ys) within) in
       compare r.0 r.1 r.2 (later_total x r.0 cx (All-contains (Contains S) (y ∷ ys) r.0 (All-tail (Contains S) x (y ∷ ys) within) r.1))
@@ -205,10 +191,10 @@ module _ (S : List Segment) (arr : IsArrangement S) where
       cx = All-head (Contains S) x (y ∷ ys) within
 
       compare : (b : Segment) → Contains (y ∷ ys) b → IsLowest (y ∷ ys) b → (x ≡ b) ⊎ (IsLater x b ⊎ IsLater b x) → (a : Segment) × Contains (x ∷ (y ∷ ys)) a × IsLowest (x ∷ (y ∷ ys)) a
-      compare b cb low (inl e) = (b, contains_tail x (y ∷ ys) b cb, λ k c. elim (contains_cases x (y ∷ ys) k c) [ inl f ↦ inl (f ∙ e) | inr i ↦ low k i ])
+      compare b cb low (inl e) = (b, Contains-later x (y ∷ ys) b cb, λ k c. elim (contains_cases x (y ∷ ys) k c) [ inl f ↦ inl (f ∙ e) | inr i ↦ low k i ])
       compare b cb low (inr (inl h)) = (
         x,
-        contains_head x (y ∷ ys),
+        Contains-head x (y ∷ ys),
         λ k c. elim (contains_cases x (y ∷ ys) k c) [
           | inl f ↦ inl f
           | inr i ↦ elim (low k i) [
@@ -217,4 +203,4 @@ module _ (S : List Segment) (arr : IsArrangement S) where
           ]
         ],
       )
-      compare b cb low (inr (inr h)) = (b, contains_tail x (y ∷ ys) b cb, λ k c. elim (contains_cases x (y ∷ ys) k c) [ inl f ↦ inr (subst (IsLater b) (sym f) h) | inr i ↦ low k i ])
+      compare b cb low (inr (inr h)) = (b, Contains-later x (y ∷ ys) b cb, λ k c. elim (contains_cases x (y ∷ ys) k c) [ inl f ↦ inr (subst (IsLater b) (sym f) h) | inr i ↦ low k i ])

@@ -8,12 +8,12 @@ use Rattle.plane_parity.proofs.Determinant.{step_x-self, step_y-self, step_y-swa
 use Rattle.plane_parity.proofs.Cut.{is_from, is_right_of, xor-false}
 use Rattle.plane_parity.proofs.Telescope.{telescope, odd_count-xor, xor_comm}
 use Rattle.plane_parity.proofs.AlongLink.{decide_link}
-use Rattle.plane_parity.proofs.Abscissa.{left_side, right_side, same_link-self, same_link-false}
+use Rattle.plane_parity.proofs.Abscissa.{left_side, right_side, same_link-self, same_link-false, not_still_self}
 use Rattle.plane_parity.proofs.LinkOrder.{same_grid}
 use Rattle.plane_parity.proofs.Sight.{link_kind, plain_up, plain_still}
 use Rattle.plane_parity.proofs.VerticalLine.{crosses, on_and, is_not_negative, is_not_negative-BySign}
 use Rattle.plane_parity.proofs.HalfTurn.{stays_not_negative, on_upright}
-use Rattle.plane_parity.proofs.Sector.{left_at, right_at, over_start, up_left, up_right, shares_end, end_itself, positive_zero}
+use Rattle.plane_parity.proofs.Sector.{left_at, right_at, over_start, up_left, up_right, shares_end, end_itself}
 use Rattle.plane_parity.proofs.BoundaryEven.{up_alone}
 use Rattle.plane_model.specs.Points.{GridPoint, Segment, step_x, step_y, turn, at, same_segment}
 use Rattle.plane_model.specs.Parity.{xor, odd_count}
@@ -48,7 +48,7 @@ module _ (S L : List Segment) (arr : IsArrangement S) (within : All (Contains S)
         where
           starts : k.start ≡ l.start → ⊥
           starts s = elim (link_kind S arr k c) [
-            | inl long ↦ positive_zero (step_x (at k.start) (at k.stop)) long (on_upright (at l.start) k f g)
+            | inl long ↦ not_still_self (step_x (at k.start) (at k.stop)) long (on_upright (at l.start) k f g)
             | inr u ↦ n (up_alone S arr k l c cl s u (up, rise'))
           ]
 

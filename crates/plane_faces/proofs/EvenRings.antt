@@ -5,6 +5,7 @@ use Rattle.std.specs.List.Sorted.{IsPermutation}
 use Rattle.std.proofs.lemmas.List.Elements.{All-contains}
 use Rattle.std.proofs.lemmas.List.Sorted.{All-permutation}
 use Rattle.lists.specs.Lists.{last_of}
+use Rattle.lists.proofs.Members.{Contains-head}
 use Rattle.plane_parity.proofs.Cut.{xor-self}
 use Rattle.plane_parity.proofs.Telescope.{odd_count-append, odd_count-ends, same_point-true, same_point-self}
 use Rattle.plane_parity.proofs.ClosedRun.{run_ends}
@@ -16,7 +17,7 @@ use Rattle.plane_model.specs.EvenList.{IsEven}
 use Rattle.plane_model.specs.Rotation.{Dart, tail, head}
 use Rattle.plane_faces.proofs.Runs.{between, links_from, links_of_runs, dart_between, darts_of_runs, darts_from}
 use Rattle.plane_faces.specs.Rings.{links_of_path, IsRing, darts_of_path}
-use Rattle.plane_faces.proofs.Lists.{contains_head, find, count, count_append, count-permutation, count_none, odd_count-permutation, odd_of_none, all_right}
+use Rattle.plane_faces.proofs.Lists.{find, count, count_append, count-permutation, count_none, odd_count-permutation, odd_of_none, all_right}
 use Rattle.plane_faces.proofs.Order.{before_not_back, before_not_itself}
 use Rattle.plane_faces.proofs.Tracing.{Traces, rings, edges_from, edges_of, edges_of_all}
 
@@ -71,7 +72,7 @@ unfolding ends_at
 link_traces = record {
   shuffled = λ L M h b. (from_even_at M (λ p. sym (odd_count-permutation (ends_at p) L M h) ∙ even_at L b.0 p), All-permutation Ordered L M h b.1);
   ends = λ x M b.
-      let o : Ordered x = All-contains Ordered (x ∷ M) x b.1 (contains_head x M) in
+      let o : Ordered x = All-contains Ordered (x ∷ M) x b.1 (Contains-head x M) in
       (x.start, x.stop, sym (between_on x.start x.stop o), (ordered_apart x.start x.stop o).0);
   more = λ q run M open' b. more q run M open' b.0 (all_right Ordered (edges_from between q run) M b.1);
   rest = λ p run M h b. (
@@ -207,7 +208,7 @@ dart_traces : Traces dart_between BalancedDarts
 dart_traces = record {
   shuffled = λ L M h b. (λ p. sym (count-permutation (leaves p) L M h) ∙ b.0 p ∙ count-permutation (arrives p) L M h, All-permutation OrderedDart L M h b.1);
   ends = λ x M b.
-      let o : OrderedDart x = All-contains OrderedDart (x ∷ M) x b.1 (contains_head x M) in
+      let o : OrderedDart x = All-contains OrderedDart (x ∷ M) x b.1 (Contains-head x M) in
       (tail x, head x, sym (dart_is_between x o), dart_apart x o);
   more = λ q run M open' b. more q run M open' b.0 (all_right OrderedDart (edges_from dart_between q run) M b.1);
   rest = λ p run M h b. (

@@ -3,16 +3,17 @@ use Rattle.std.proofs.Common.{◌≡◌, inl, inr, ℕ, zero, suc, ◌+◌, refl
 use Rattle.std.specs.Prelude.{All, Contains}
 use Rattle.std.specs.List.Sorted.{IsPermutation}
 use Rattle.std.proofs.lemmas.List.Elements.{All-nil, All-cons, All-contains}
+use Rattle.lists.proofs.Members.{Contains-nil}
 use Rattle.plane_parity.proofs.Abscissa.{same_link-self, same_link-true}
 use Rattle.plane_model.specs.Points.{GridPoint, Segment, same_segment, Path}
 use Rattle.plane_model.specs.Arrangement.{IsDistinct}
 use Rattle.plane_faces.specs.Rings.{links_of_path}
 use Rattle.plane_faces.proofs.Runs.{links_of_runs, passes}
-use Rattle.plane_faces.proofs.Lists.{contains_cases, contains_none, count, count_append, count-permutation, count_none, odd_of_none, odd_of_one}
+use Rattle.plane_faces.proofs.Lists.{contains_cases, count, count_append, count-permutation, count_none, odd_of_none, odd_of_one}
 
 pub distinct_count : (B : List Segment) → IsDistinct B → (a : Segment) → Contains B a → count (same_segment a) B ≡ 1
 unfolding count
-distinct_count [] d a c = absurd (contains_none a c)
+distinct_count [] d a c = absurd (Contains-nil a c)
 distinct_count (b ∷ B) d a c = elim (contains_cases b B a c) [
   | inl e ↦ here (same_segment a b) (subst (λ (k : Segment). same_segment a k ≡ true) e (same_link-self a)) (count_none (same_segment a) B (λ k ck. not_same k ck (same_segment a k) refl e))
   | inr i ↦ there (same_segment a b) (not_first i (same_segment a b) refl) (distinct_count B d.1 a i)

@@ -1,5 +1,5 @@
 -- Faces are just the classes of points that even lists do not separate.
-use Rattle.std.proofs.Common.{◌≡◌, ℕ, refl, sym, ap, ◌∙◌, Bool, true, false, not, List}
+use Rattle.std.proofs.Common.{◌≡◌, ℕ, refl, sym, ap, ◌∙◌, Bool, true, false, not, List, ne_eqb}
 use Rattle.std.specs.Prelude.{All, Contains, nat_eq}
 use Rattle.std.proofs.lemmas.Bool.{eq-eqb, eqb-true}
 use Rattle.plane_model.specs.Points.{RationalPoint, Segment}
@@ -20,13 +20,6 @@ among_agrees S label p F = record {
 pub place_beside : (S : List Segment) (z : RationalPoint) (a : Place) → IsPlaceOf S z a → IsBeside S a
 place_beside S z outside h = tt
 place_beside S z (left_of d) h = h.1
-
-eq_false : (m n : ℕ) → (m ≡ n → ⊥) → nat_eq m n ≡ false
-eq_false m n ne = go (nat_eq m n) refl
-  where
-    go : (b : Bool) → nat_eq m n ≡ b → b ≡ false
-    go true e = absurd (ne (eqb-true m n e))
-    go false e = refl
 
 -- two labels that differ are told apart by the border of one of them
 pub different_faces : (S : List Segment) → IsArrangement S → IsDistinct S → HasRotations S → (label : Place → ℕ) → AgreesWherePlacesMeet S label
@@ -49,11 +42,11 @@ different_faces S arr distinct rotations label agrees z z' a a' h h' ne = go (na
     go : (b : Bool) → nat_eq (label outside) (label a) ≡ b → (L : List Segment) × All (Contains S) L × IsEven L × (odd L z ≡ not (odd L z'))
     go false e =
         let r = of (label a) e in
-        (r.0, r.1, r.2, r.3 z a h ∙ eq-eqb (label a) (label a) refl ∙ ap not (sym (r.3 z' a' h' ∙ eq_false (label a') (label a) (λ i. ne (sym i)))))
+        (r.0, r.1, r.2, r.3 z a h ∙ eq-eqb (label a) (label a) refl ∙ ap not (sym (r.3 z' a' h' ∙ ne_eqb (label a') (label a) (λ i. ne (sym i)))))
     go true e =
         let i : label outside ≡ label a = eqb-true (label outside) (label a) e in
-        let r = of (label a') (eq_false (label outside) (label a') (λ j. ne (sym i ∙ j))) in
-        (r.0, r.1, r.2, r.3 z a h ∙ eq_false (label a) (label a') ne ∙ ap not (sym (r.3 z' a' h' ∙ eq-eqb (label a') (label a') refl)))
+        let r = of (label a') (ne_eqb (label outside) (label a') (λ j. ne (sym i ∙ j))) in
+        (r.0, r.1, r.2, r.3 z a h ∙ ne_eqb (label a) (label a') ne ∙ ap not (sym (r.3 z' a' h' ∙ eq-eqb (label a') (label a') refl)))
 
 -- an even list has one parity at all places of one label
 pub one_face_at : (S : List Segment) → IsArrangement S → (label : Place → ℕ) → IsFaceLabelling S label → (L : List Segment) → All (Contains S) L → IsEven L

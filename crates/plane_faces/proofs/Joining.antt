@@ -3,6 +3,7 @@ use Rattle.std.proofs.Common.{◌≡◌, inl, inr, ℕ, suc, refl, sym, ap, subs
 use Rattle.std.specs.Prelude.{All, Contains, nat_eq}
 use Rattle.std.proofs.lemmas.Bool.{eq-eqb, eqb-true, and_parts}
 use Rattle.std.proofs.lemmas.List.Elements.{All-head, All-tail, All-cons, All-nil, All-append, All-weaker, All-contains_itself}
+use Rattle.lists.proofs.Members.{Contains-head, Contains-later, Contains-nil}
 use Rattle.plane_parity.proofs.Abscissa.{same_link-self, same_link-true}
 use Rattle.plane_parity.proofs.Telescope.{same_point-true, same_point-self}
 use Rattle.plane_model.specs.Points.{GridPoint, Segment, at, same_point, same_segment}
@@ -11,7 +12,7 @@ use Rattle.plane_model.specs.Rotation.{Dart, tail, precedes, IsNext}
 use Rattle.plane_faces.specs.Around.{forward_dart, backward_dart, opposite, IsRotation}
 use Rattle.plane_faces.specs.Places.{Consecutive, Place, outside, left_of, left_side, right_side, IsBeside, IsPlaceOf, IsMinimum, IsFirst, AgreesWherePlacesMeet}
 use Rattle.plane_faces.specs.Labels.{IsFaceLabelling, among, IsWithin, IsConstantWithin, IsPartLabelling}
-use Rattle.plane_faces.proofs.Lists.{contains_head, contains_tail, contains_cases, contains_none, find, all_left, all_right}
+use Rattle.plane_faces.proofs.Lists.{contains_cases, find, all_left, all_right}
 use Rattle.plane_faces.proofs.Around.{rotation-here, rotation-all, rotation-consecutive, rotation-round}
 use Rattle.plane_faces.proofs.Order.{place_exists}
 use Rattle.plane_faces.proofs.FaceLaws.{place_beside}
@@ -107,7 +108,7 @@ module _ (S : List Segment) (label : Place → ℕ) (F : ℕ → Bool) where
 
   inner : (xs : List Segment) → All (Contains S) xs → Inner xs
   unfolding Inner
-  inner [] within = ([], All-nil (λ p. IsBeside S p.0 × IsBeside S p.1), λ f c. All-nil (λ p. f p.0 ≡ f p.1), λ g a l c w. absurd (contains_none l c))
+  inner [] within = ([], All-nil (λ p. IsBeside S p.0 × IsBeside S p.1), λ f c. All-nil (λ p. f p.0 ≡ f p.1), λ g a l c w. absurd (Contains-nil l c))
   inner (x ∷ xs) within = go (among label F (left_side x)) refl (among label F (right_side x)) refl (inner xs (All-tail (Contains S) x xs within))
     where
       cx : Contains S x
@@ -192,7 +193,7 @@ number (x ∷ xs) a = cond (same_place x a) 0 (suc (number xs a))
 
 number_is_one : (xs : List Place) (a b : Place) → Contains xs a → Contains xs b → number xs a ≡ number xs b → a ≡ b
 unfolding number
-number_is_one [] a b ca cb e = absurd (contains_none a ca)
+number_is_one [] a b ca cb e = absurd (Contains-nil a ca)
 number_is_one (x ∷ xs) a b ca cb e = go (same_place x a) refl (same_place x b) refl e (λ ka kb h. number_is_one xs a b ka kb h)
   where
     deeper : (c : Place) → Contains (x ∷ xs) c → same_place x c ≡ false → Contains xs c
@@ -216,19 +217,19 @@ sides (l ∷ ls) = left_side l ∷ (right_side l ∷ sides ls)
 
 has_side : (xs : List Segment) (l : Segment) (b : Bool) → Contains xs l → Contains (sides xs) (left_of (record { link = l; forward = b }))
 unfolding sides
-has_side [] l b c = absurd (contains_none l c)
+has_side [] l b c = absurd (Contains-nil l c)
 has_side (x ∷ xs) l b c = elim (contains_cases x xs l c) [
   | inl e ↦ subst (λ (k : Segment). Contains (sides (x ∷ xs)) (left_of (record { link = k; forward = b }))) (sym e) (here b)
-  | inr k ↦ contains_tail (left_side x) (right_side x ∷ sides xs) (left_of (record { link = l; forward = b })) (contains_tail (right_side x) (sides xs) (left_of (record { link = l; forward = b })) (has_side xs l b k))
+  | inr k ↦ Contains-later (left_side x) (right_side x ∷ sides xs) (left_of (record { link = l; forward = b })) (Contains-later (right_side x) (sides xs) (left_of (record { link = l; forward = b })) (has_side xs l b k))
 ]
   where
     here : (b : Bool) → Contains (left_side x ∷ (right_side x ∷ sides xs)) (left_of (record { link = x; forward = b }))
-    here true = contains_head (left_side x) (right_side x ∷ sides xs)
-    here false = contains_tail (left_side x) (right_side x ∷ sides xs) (right_side x) (contains_head (right_side x) (sides xs))
+    here true = Contains-head (left_side x) (right_side x ∷ sides xs)
+    here false = Contains-later (left_side x) (right_side x ∷ sides xs) (right_side x) (Contains-head (right_side x) (sides xs))
 
 has_place : (S : List Segment) (a : Place) → IsBeside S a → Contains (outside ∷ sides S) a
-has_place S outside h = contains_head outside (sides S)
-has_place S (left_of d) h = contains_tail outside (sides S) (left_of d) (has_side S d.link d.forward h)
+has_place S outside h = Contains-head outside (sides S)
+has_place S (left_of d) h = Contains-later outside (sides S) (left_of d) (has_side S d.link d.forward h)
 
 -- ---- faces
 
@@ -241,7 +242,7 @@ module _ (S : List Segment) (arr : IsArrangement S) (distinct : IsDistinct S) wh
   next_exists d cd = go (rotations_exist S arr distinct (tail d)).0 (rotations_exist S arr distinct (tail d)).1
     where
       go : (ds : List Dart) → IsRotation S (tail d) ds → (e : Dart) × Contains S e.link × IsNext S d e
-      go [] r = absurd (contains_none d (rotation-all S (tail d) [] r d (cd, refl)))
+      go [] r = absurd (Contains-nil d (rotation-all S (tail d) [] r d (cd, refl)))
       go (c ∷ ds) r =
           let here : All (λ x. Contains S x.link) (c ∷ ds) = All-weaker (λ x. Contains S x.link × (tail x ≡ tail d)) (λ x. Contains S x.link) (λ x h. h.0) (c ∷ ds) (rotation-here S (tail d) (c ∷ ds) r) in
           elim (successor S arr (λ a. outside) c ds (rotation-consecutive S (tail d) c ds r) (agree_trivially c ds) here d (rotation-all S (tail d) (c ∷ ds) r d (cd, refl))) [
@@ -299,7 +300,7 @@ module _ (S : List Segment) (arr : IsArrangement S) (distinct : IsDistinct S) wh
 
   steps : (xs : List Segment) → All (Contains S) xs → Steps xs
   unfolding Steps Rays
-  steps [] within = ([], All-nil (λ p. IsBeside S p.0 × IsBeside S p.1), λ f p. All-nil (λ q. f q.0 ≡ f q.1), λ g a l c. absurd (contains_none l c))
+  steps [] within = ([], All-nil (λ p. IsBeside S p.0 × IsBeside S p.1), λ f p. All-nil (λ q. f q.0 ≡ f q.1), λ g a l c. absurd (Contains-nil l c))
   steps (x ∷ xs) within = more (steps xs (All-tail (Contains S) x xs within)) (next_exists (forward_dart x) cx) (next_exists (backward_dart x) cx) (rays x cx)
     where
       cx : Contains S x

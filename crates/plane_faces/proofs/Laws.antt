@@ -4,6 +4,7 @@ use Rattle.std.specs.Prelude.{All, Contains}
 use Rattle.std.specs.List.Sorted.{IsPermutation}
 use Rattle.std.proofs.lemmas.List.Elements.{All-weaker, All-contains, All-contains_itself}
 use Rattle.std.proofs.lemmas.List.Sorted.{IsPermutation-refl, IsPermutation-sym, IsPermutation-trans, IsPermutation-map, All-permutation}
+use Rattle.lists.proofs.Members.{Contains-head, Contains-later, Contains-nil}
 use Rattle.plane_parity.proofs.ClosedRun.{closed_run_even}
 use Rattle.plane_model.specs.Points.{RationalPoint, GridPoint, Segment, Path}
 use Rattle.plane_model.specs.Arrangement.{IsBefore, IsArrangement, IsDistinct}
@@ -14,7 +15,7 @@ use Rattle.plane_faces.specs.Rings.{links_of_path, IsRing, StartsLeast, darts_of
 use Rattle.plane_faces.proofs.Runs.{links_of_runs, darts_of_runs, links_are, darts_are}
 use Rattle.plane_faces.specs.Places.{Place, outside, IsBeside, left_of, IsPlaceOf, AgreesWherePlacesMeet, border, border_darts}
 use Rattle.plane_faces.specs.Labels.{IsFaceLabelling, IsPartLabelling, among, in_part}
-use Rattle.plane_faces.proofs.Lists.{contains_head, contains_tail, contains_cases, contains_none}
+use Rattle.plane_faces.proofs.Lists.{contains_cases}
 use Rattle.plane_faces.proofs.EvenRings.{rings_of_even}
 use Rattle.plane_faces.proofs.Sorting.{rotations_exist}
 use Rattle.plane_faces.proofs.Connected.{parity_at_place}
@@ -69,10 +70,10 @@ border_rings S arr distinct f agrees =
         link_there runs d c = subst (λ (ls : List Segment). Contains ls d.link) (links_of_darts runs) (mapped (darts_of_runs runs) d c)
           where
             mapped : (ds : List Dart) (d : Dart) → Contains ds d → Contains (map link_of ds) d.link
-            mapped [] d c = absurd (contains_none d c)
+            mapped [] d c = absurd (Contains-nil d c)
             mapped (e ∷ ds) d c = elim (contains_cases e ds d c) [
-              | inl i ↦ subst (Contains (e.link ∷ map link_of ds)) (ap link_of (sym i)) (contains_head e.link (map link_of ds))
-              | inr k ↦ contains_tail e.link (map link_of ds) d.link (mapped ds d k)
+              | inl i ↦ subst (Contains (e.link ∷ map link_of ds)) (ap link_of (sym i)) (Contains-head e.link (map link_of ds))
+              | inr k ↦ Contains-later e.link (map link_of ds) d.link (mapped ds d k)
             ]
 
 -- ---- the rings of a border, as paths of one list

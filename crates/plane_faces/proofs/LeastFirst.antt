@@ -5,6 +5,7 @@ use Rattle.std.specs.List.Sorted.{IsPermutation}
 use Rattle.std.proofs.lemmas.List.{append_assoc}
 use Rattle.std.proofs.lemmas.List.Elements.{All-head, All-tail, All-cons, All-nil, All-append, All-weaker, All-contains, All-contains_itself}
 use Rattle.std.proofs.lemmas.List.Sorted.{IsPermutation-append_comm, IsPermutation-append, IsPermutation-refl, All-permutation}
+use Rattle.plane_snapping.proofs.Steps.{last_of-append}
 use Rattle.lists.specs.Lists.{last_of, least_of}
 use Rattle.plane_model.specs.Points.{GridPoint, Segment, is_before, Path}
 use Rattle.plane_model.specs.Parity.{xor}
@@ -32,15 +33,11 @@ darts_join : (p : GridPoint) (ys zs : List GridPoint) → darts_from p (ys ++ zs
 darts_join p [] zs = refl
 darts_join p (y ∷ ys) zs = ap (λ (ds : List Dart). dart_between p y ∷ ds) (darts_join y ys zs)
 
-last_cut : (c : GridPoint) (xs : List GridPoint) (p : GridPoint) (ys : List GridPoint) → last_of c (xs ++ (p ∷ ys)) ≡ last_of p ys
-last_cut c [] p ys = refl
-last_cut c (x ∷ xs) p ys = last_cut x xs p ys
-
 begun_at : (c : GridPoint) (xs : List GridPoint) (p : GridPoint) (ys : List GridPoint) → last_of c (xs ++ (p ∷ ys)) ≡ c → IsPermutation (darts_from c (xs ++ (p ∷ ys))) (darts_from p (ys ++ (xs ++ (p ∷ []))))
 begun_at c xs p ys closed =
     subst (λ (ds : List Dart). IsPermutation ds (darts_from p (ys ++ (xs ++ (p ∷ []))))) (sym (darts_cut c xs p ys))
     (subst (IsPermutation (darts_from c (xs ++ (p ∷ [])) ++ darts_from p ys))
-    (ap (λ (q : GridPoint). darts_from p ys ++ darts_from q (xs ++ (p ∷ []))) (sym closed ∙ last_cut c xs p ys) ∙ sym (darts_join p ys (xs ++ (p ∷ []))))
+    (ap (λ (q : GridPoint). darts_from p ys ++ darts_from q (xs ++ (p ∷ []))) (sym closed ∙ last_of-append c xs (p ∷ ys)) ∙ sym (darts_join p ys (xs ++ (p ∷ []))))
     (IsPermutation-append_comm (darts_from c (xs ++ (p ∷ []))) (darts_from p ys)))
 
 -- ---- lists without repeats
@@ -144,7 +141,7 @@ module _ (S : List Segment) (arr : IsArrangement S) (f : Place → Bool) where
   begun p (r ∷ []) after different b =
       absurd (not_back p r (All-head (IsBefore p) r [] after) (All-head Bordering (dart_between p r) (dart_between r p ∷ []) b) (All-head Bordering (dart_between r p) [] (All-tail Bordering (dart_between p r) (dart_between r p ∷ []) b)))
   begun p (r ∷ (s ∷ m)) after different b = (
-    (last_cut r (s ∷ m) p [], pairs_differ (r ∷ (s ∷ (m ++ (p ∷ [])))) different),
+    (last_of-append r (s ∷ m) (p ∷ []), pairs_differ (r ∷ (s ∷ (m ++ (p ∷ [])))) different),
     record {
       least = p;
       next = r;
@@ -195,7 +192,7 @@ module _ (S : List Segment) (arr : IsArrangement S) (f : Place → Bool) where
           (All-weaker (NotIn (p ∷ [])) (λ x. x ≡ p → ⊥) (λ x n e. All-head (λ y. y ≡ x → ⊥) p [] n (sym e)) mid (different_parts mid (p ∷ []) different).2)
 
       closes : last_of p t.2 ≡ c
-      closes = sym (last_cut c t.0 p t.2) ∙ sym (ap (last_of c) t.3) ∙ h.0
+      closes = sym (last_of-append c t.0 (p ∷ t.2)) ∙ sym (ap (last_of c) t.3) ∙ h.0
 
       others : All (Other p) mid
       others = All-weaker (NotIn (p ∷ [])) (Other p) (λ x n e. All-head (λ y. y ≡ x → ⊥) p [] n (sym e)) mid (different_parts mid (p ∷ []) different).2

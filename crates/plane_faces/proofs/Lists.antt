@@ -3,9 +3,10 @@ use Rattle.std.proofs.Common.{◌≡◌, ◌⊎◌, inl, inr, ℕ, zero, suc, �
 use Rattle.std.specs.Prelude.{All, Contains}
 use Rattle.std.specs.List.{sum_by}
 use Rattle.std.specs.List.Sorted.{IsPermutation}
-use Rattle.std.proofs.lemmas.List.Elements.{All-head, All-tail, All-cons, All-nil, All-weaker, All-contains, All-contains_itself, Contains-append_left, Contains-append_right}
+use Rattle.std.proofs.lemmas.List.Elements.{All-cons, All-weaker, All-contains, All-contains_itself, Contains-append_left, Contains-append_right}
 use Rattle.std.proofs.lemmas.List.Sorted.{sum_by-IsPermutation}
 use Rattle.std.proofs.lemmas.List.Sums.{sum_by-cons}
+use Rattle.lists.proofs.Members.{Contains-head, Contains-later, Contains-nil}
 use Rattle.plane_model.specs.Parity.{xor, odd_count}
 
 -- how a parity is read off a number
@@ -19,18 +20,18 @@ odd_number (suc n) = not (odd_number n)
 
 module _ {X : Type 0} where
   pub contains_head : (x : X) (xs : List X) → Contains (x ∷ xs) x
-  contains_head x xs = All-head (Contains (x ∷ xs)) x xs (All-contains_itself (x ∷ xs))
+  contains_head x xs = Contains-head x xs
 
   pub contains_tail : (x : X) (xs : List X) (y : X) → Contains xs y → Contains (x ∷ xs) y
-  contains_tail x xs y c = All-contains (Contains (x ∷ xs)) xs y (All-tail (Contains (x ∷ xs)) x xs (All-contains_itself (x ∷ xs))) c
+  contains_tail x xs y c = Contains-later x xs y c
+
+  pub contains_none : (y : X) → Contains [] y → ⊥
+  contains_none y c = Contains-nil y c
 
   pub contains_cases : (x : X) (xs : List X) (y : X) → Contains (x ∷ xs) y → (y ≡ x) ⊎ Contains xs y
   contains_cases x xs y c =
       All-contains (λ z. (z ≡ x) ⊎ Contains xs z) (x ∷ xs) y
       (All-cons (λ z. (z ≡ x) ⊎ Contains xs z) x xs (inl refl) (All-weaker (Contains xs) (λ z. (z ≡ x) ⊎ Contains xs z) (λ z k. inr k) xs (All-contains_itself xs))) c
-
-  pub contains_none : (y : X) → Contains [] y → ⊥
-  contains_none y c = All-contains (λ z. ⊥) [] y (All-nil (λ z. ⊥)) c
 
   pub all_left : (P : X → Type 0) (xs ys : List X) → All P (xs ++ ys) → All P xs
   all_left P xs ys h = All-weaker (Contains xs) P (λ y c. All-contains P (xs ++ ys) y h (Contains-append_left xs ys y c)) xs (All-contains_itself xs)
@@ -40,13 +41,13 @@ module _ {X : Type 0} where
 
   -- an element that passes the test, or none
   pub find : (t : X → Bool) (xs : List X) → ((x : X) × Contains xs x × (t x ≡ true)) ⊎ ((x : X) → Contains xs x → t x ≡ false)
-  find t [] = inr (λ x c. absurd (contains_none x c))
+  find t [] = inr (λ x c. absurd (Contains-nil x c))
   find t (x ∷ xs) = go (t x) refl (find t xs)
     where
       go : (b : Bool) → t x ≡ b → ((y : X) × Contains xs y × (t y ≡ true)) ⊎ ((y : X) → Contains xs y → t y ≡ false)
           → ((y : X) × Contains (x ∷ xs) y × (t y ≡ true)) ⊎ ((y : X) → Contains (x ∷ xs) y → t y ≡ false)
-      go true e r = inl (x, contains_head x xs, e)
-      go false e (inl f) = inl (f.0, contains_tail x xs f.0 f.1, f.2)
+      go true e r = inl (x, Contains-head x xs, e)
+      go false e (inl f) = inl (f.0, Contains-later x xs f.0 f.1, f.2)
       go false e (inr n) = inr (λ y c. elim (contains_cases x xs y c) [ inl g ↦ subst (λ (z : X). t z ≡ false) (sym g) e | inr k ↦ n y k ])
 
   -- ---- numbers of elements
@@ -58,7 +59,7 @@ module _ {X : Type 0} where
   pub count_le : (t u : X → Bool) (xs : List X) → ((x : X) → Contains xs x → t x ≡ true → u x ≡ true) → count t xs ≤ count u xs
   unfolding count
   count_le t u [] h = omega arith
-  count_le t u (x ∷ xs) h = go (t x) (u x) (h x (contains_head x xs)) (count_le t u xs (λ y c. h y (contains_tail x xs y c)))
+  count_le t u (x ∷ xs) h = go (t x) (u x) (h x (Contains-head x xs)) (count_le t u xs (λ y c. h y (Contains-later x xs y c)))
     where
       go : (a b : Bool) → (a ≡ true → b ≡ true) → count t xs ≤ count u xs → cond a (suc (count t xs)) (count t xs) ≤ cond b (suc (count u xs)) (count u xs)
       go true true i l = omega arith
@@ -68,10 +69,10 @@ module _ {X : Type 0} where
 
   pub count_lt : (t u : X → Bool) (xs : List X) → ((x : X) → Contains xs x → t x ≡ true → u x ≡ true) → (y : X) → Contains xs y → t y ≡ false → u y ≡ true → count t xs < count u xs
   unfolding count
-  count_lt t u [] h y c e f = absurd (contains_none y c)
+  count_lt t u [] h y c e f = absurd (Contains-nil y c)
   count_lt t u (x ∷ xs) h y c e f = elim (contains_cases x xs y c) [
-    | inl g ↦ here (t x) (u x) (subst (λ (z : X). t z ≡ false) g e) (subst (λ (z : X). u z ≡ true) g f) (count_le t u xs (λ z k. h z (contains_tail x xs z k)))
-    | inr k ↦ there (t x) (u x) (h x (contains_head x xs)) (count_lt t u xs (λ z j. h z (contains_tail x xs z j)) y k e f)
+    | inl g ↦ here (t x) (u x) (subst (λ (z : X). t z ≡ false) g e) (subst (λ (z : X). u z ≡ true) g f) (count_le t u xs (λ z k. h z (Contains-later x xs z k)))
+    | inr k ↦ there (t x) (u x) (h x (Contains-head x xs)) (count_lt t u xs (λ z j. h z (Contains-later x xs z j)) y k e f)
   ]
     where
       here : (a b : Bool) → a ≡ false → b ≡ true → count t xs ≤ count u xs → cond a (suc (count t xs)) (count t xs) < cond b (suc (count u xs)) (count u xs)
@@ -138,7 +139,7 @@ module _ {X : Type 0} where
   pub count_none : (t : X → Bool) (xs : List X) → ((x : X) → Contains xs x → t x ≡ false) → count t xs ≡ 0
   unfolding count
   count_none t [] h = refl
-  count_none t (x ∷ xs) h = go (t x) (h x (contains_head x xs)) (count_none t xs (λ y c. h y (contains_tail x xs y c)))
+  count_none t (x ∷ xs) h = go (t x) (h x (Contains-head x xs)) (count_none t xs (λ y c. h y (Contains-later x xs y c)))
     where
       go : (b : Bool) → b ≡ false → count t xs ≡ 0 → cond b (suc (count t xs)) (count t xs) ≡ 0
       go true e h = let f : true ≡ false = e in absurd (cc)

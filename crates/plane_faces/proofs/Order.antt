@@ -4,6 +4,7 @@ use Rattle.std.proofs.Math.IntN.{ℤ, pos, ◌*ℤ◌, ◌-ℤ◌}
 use Rattle.std.specs.Prelude.{Contains, int_lt, int_le, ◌<ℤ◌}
 use Rattle.std.proofs.lemmas.Int.{ints}
 use Rattle.std.proofs.lemmas.Bool.{and_parts}
+use Rattle.lists.proofs.Members.{Contains-head, Contains-later, Contains-nil}
 use Rattle.plane_algebra.proofs.Tests.{by_test}
 use Rattle.plane_model.proofs.PointOrder.{is_before-IsStrictOrder, before_from, before_to}
 use Rattle.plane_parity.proofs.AlongLink.{decide_link}
@@ -14,7 +15,7 @@ use Rattle.plane_model.specs.Arrangement.{IsBefore, IsArrangement}
 use Rattle.plane_model.specs.Parity.{is_below, is_over}
 use Rattle.plane_model.specs.Below.{is_under}
 use Rattle.plane_faces.specs.Places.{Place, outside, left_side, IsPlaceOf}
-use Rattle.plane_faces.proofs.Lists.{contains_head, contains_tail, contains_cases, contains_none, count, count_lt}
+use Rattle.plane_faces.proofs.Lists.{contains_cases, count, count_lt}
 
 -- ---- vertices in order by x, then y
 
@@ -58,17 +59,17 @@ module _ (S : List Segment) (arr : IsArrangement S) (z : RationalPoint) where
 
   topmost_of : (xs : List Segment) → ((k : Segment) → Contains xs k → Contains S k) → ((l : Segment) × Top xs l) ⊎ ((k : Segment) → Contains xs k → is_below z k ≡ false)
   unfolding Top
-  topmost_of [] within = inr (λ k c. absurd (contains_none k c))
-  topmost_of (x ∷ xs) within = go (is_below z x) refl (topmost_of xs (λ k c. within k (contains_tail x xs k c)))
+  topmost_of [] within = inr (λ k c. absurd (Contains-nil k c))
+  topmost_of (x ∷ xs) within = go (is_below z x) refl (topmost_of xs (λ k c. within k (Contains-later x xs k c)))
     where
       higher : (t : Segment) → Top xs t → IsBelow x → (x ≡ t) ⊎ (x ≡ t → ⊥) → (b : Bool) → is_under z t x ≡ b → (l : Segment) × Top (x ∷ xs) l
       higher t h e d true u = (t, (h.0, h.1, λ k c i. elim (contains_cases x xs k c) [ inl g ↦ inr (subst (λ (j : Segment). is_under z t j ≡ true) (sym g) u) | inr c' ↦ h.2 k c' i ]))
       higher t h e (inl same) false u = (t, (h.0, h.1, λ k c i. elim (contains_cases x xs k c) [ inl g ↦ inl (g ∙ same) | inr c' ↦ h.2 k c' i ]))
       higher t h e (inr other) false u =
-          let v : is_under z x t ≡ true = is_under-total S arr x t (within x (contains_head x xs)) h.0 z (below_over x e) (below_over t h.1) other u in (
+          let v : is_under z x t ≡ true = is_under-total S arr x t (within x (Contains-head x xs)) h.0 z (below_over x e) (below_over t h.1) other u in (
             x,
             (
-              within x (contains_head x xs),
+              within x (Contains-head x xs),
               e,
               λ k c i. elim (contains_cases x xs k c) [
                 | inl g ↦ inl g
@@ -87,7 +88,7 @@ module _ (S : List Segment) (arr : IsArrangement S) (z : RationalPoint) where
           clash k g i = let h : true ≡ false = sym (subst (λ (j : Segment). is_below z j ≡ true) g i) ∙ e in absurd (cc)
       go false e (inr n) = inr (λ k c. elim (contains_cases x xs k c) [ inl g ↦ subst (λ (j : Segment). is_below z j ≡ false) (sym g) e | inr c' ↦ n k c' ])
       go true e (inl t) = inl (higher t.0 t.1 e (decide_link x t.0) (is_under z t.0 x) refl)
-      go true e (inr n) = inl (x, (within x (contains_head x xs), e, λ k c i. elim (contains_cases x xs k c) [ inl g ↦ inl g | inr c' ↦ absurd (clash k c' i) ]))
+      go true e (inr n) = inl (x, (within x (Contains-head x xs), e, λ k c i. elim (contains_cases x xs k c) [ inl g ↦ inl g | inr c' ↦ absurd (clash k c' i) ]))
         where
           clash : (k : Segment) → Contains xs k → is_below z k ≡ true → ⊥
           clash k c i = let h : true ≡ false = sym i ∙ n k c in absurd (cc)

@@ -5,6 +5,7 @@ use Rattle.std.specs.Prelude.{All, Contains, int_lt, nat_eq, ◌<ℤ◌}
 use Rattle.std.proofs.lemmas.Bool.{eqb-true, and_parts}
 use Rattle.std.proofs.lemmas.List.Elements.{All-head, All-tail, All-nil, All-cons, All-weaker, All-contains}
 use Rattle.lists.specs.Lists.{last_of}
+use Rattle.lists.proofs.Members.{Contains-head, Contains-later}
 use Rattle.std.proofs.lemmas.Int.{ints}
 use Rattle.plane_parity.proofs.Sector.{turn_other}
 use Rattle.plane_algebra.proofs.Tests.{lt_from}
@@ -21,7 +22,7 @@ use Rattle.plane_faces.specs.Rings.{links_of_path, ring_by}
 use Rattle.plane_faces.specs.Around.{forward_dart, backward_dart}
 use Rattle.plane_faces.specs.Places.{Place, left_of, left_side, right_side, IsBeside, IsPlaceOf, border, odd_at, IsLater}
 use Rattle.plane_faces.specs.Labels.{IsFaceLabelling, among, IsPartLabelling, in_part}
-use Rattle.plane_faces.proofs.Lists.{contains_head, contains_tail, contains_cases}
+use Rattle.plane_faces.proofs.Lists.{contains_cases}
 use Rattle.plane_faces.proofs.Around.{precedes_once}
 use Rattle.plane_faces.proofs.Order.{before_not_back, before_not_itself}
 use Rattle.plane_faces.proofs.Corner.{precedes_total, lowest_left, lowest_right}
@@ -65,8 +66,8 @@ module _ (p q : GridPoint) (hq : IsBefore p q) where
   last_is r (s ∷ ps) = last_is s ps
 
   pub has_last : (r : GridPoint) (ps : List GridPoint) → Contains (links_from r (ps ++ (q ∷ (p ∷ [])))) (link p q)
-  has_last r [] = subst (Contains (between r q ∷ (between q p ∷ []))) (ap (λ (d : Dart). d.link) (dart_back p q hq)) (contains_tail (between r q) (between q p ∷ []) (between q p) (contains_head (between q p) []))
-  has_last r (s ∷ ps) = contains_tail (between r s) (links_from s (ps ++ (q ∷ (p ∷ [])))) (link p q) (has_last s ps)
+  has_last r [] = subst (Contains (between r q ∷ (between q p ∷ []))) (ap (λ (d : Dart). d.link) (dart_back p q hq)) (Contains-later (between r q) (between q p ∷ []) (between q p) (Contains-head (between q p) []))
+  has_last r (s ∷ ps) = Contains-later (between r s) (links_from s (ps ++ (q ∷ (p ∷ [])))) (link p q) (has_last s ps)
 
 -- ---- the law
 

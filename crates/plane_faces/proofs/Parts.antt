@@ -1,8 +1,9 @@
 -- Parts of a set of faces: their borders, and what separates them.
-use Rattle.std.proofs.Common.{◌≡◌, inl, inr, ℕ, refl, sym, ap, subst, ◌∙◌, Bool, true, false, cond, ◌&&◌, List, [], ◌∷◌}
+use Rattle.std.proofs.Common.{◌≡◌, ℕ, refl, sym, ap, subst, ◌∙◌, Bool, true, false, ◌&&◌, List, [], ◌∷◌}
 use Rattle.std.specs.Prelude.{All, Contains, nat_eq, filter}
 use Rattle.std.proofs.lemmas.Bool.{eq-eqb, eqb-true}
 use Rattle.std.proofs.lemmas.List.Elements.{All-weaker, All-contains, All-contains_itself, filter_passes}
+use Rattle.lists.proofs.Members.{Contains-filter}
 use Rattle.plane_parity.proofs.Abscissa.{same_link-true}
 use Rattle.plane_parity.proofs.Cut.{xor-false}
 use Rattle.plane_parity.proofs.Telescope.{odd_count-same}
@@ -14,25 +15,12 @@ use Rattle.plane_model.specs.EvenList.{IsEven}
 use Rattle.plane_model.specs.Sides.{odd_right}
 use Rattle.plane_faces.specs.Places.{Place, outside, left_side, right_side, IsBeside, IsPlaceOf, AgreesWherePlacesMeet, border, odd_at}
 use Rattle.plane_faces.specs.Labels.{IsFaceLabelling, among, IsWithin, IsConstantWithin, IsPartLabelling, in_part}
-use Rattle.plane_faces.proofs.Lists.{contains_head, contains_tail, contains_cases, contains_none}
 use Rattle.plane_faces.proofs.Crossing.{crossing_law}
 use Rattle.plane_faces.proofs.Connected.{HasRotations, parity_at_place, border_is_even, border_parity}
 use Rattle.plane_faces.proofs.FaceLaws.{among_agrees, place_beside, one_face_at}
 
 pub contains_filter : (p : Segment → Bool) (xs : List Segment) (x : Segment) → Contains xs x → p x ≡ true → Contains (filter p xs) x
-contains_filter p [] x c e = absurd (contains_none x c)
-contains_filter p (y ∷ xs) x c e = elim (contains_cases y xs x c) [
-  | inl g ↦ here (p y) (subst (λ (z : Segment). p z ≡ true) g e) g
-  | inr k ↦ there (p y) (contains_filter p xs x k e)
-]
-  where
-    here : (b : Bool) → b ≡ true → x ≡ y → Contains (cond b (y ∷ filter p xs) (filter p xs)) x
-    here true e g = subst (Contains (y ∷ filter p xs)) (sym g) (contains_head y (filter p xs))
-    here false e g = let f : false ≡ true = e in absurd (cc)
-
-    there : (b : Bool) → Contains (filter p xs) x → Contains (cond b (y ∷ filter p xs) (filter p xs)) x
-    there true c = contains_tail y (filter p xs) x c
-    there false c = c
+contains_filter p xs x c e = Contains-filter p xs x c e
 
 pub passes_filter : (p : Segment → Bool) (xs : List Segment) (x : Segment) → Contains (filter p xs) x → p x ≡ true
 passes_filter p xs x c = All-contains (λ y. p y ≡ true) (filter p xs) x (filter_passes p xs) c
@@ -86,7 +74,7 @@ module _ (S : List Segment) (label : Place → ℕ) (F : ℕ → Bool) (part : �
   part_border_within parts n =
       filter_all (Contains (border (among label F) S)) (λ l. xor (inside n (left_side l)) (inside n (right_side l))) S
       (All-weaker (Contains S) (λ l. xor (inside n (left_side l)) (inside n (right_side l)) ≡ true → Contains (border (among label F) S) l)
-      (λ l c e. contains_filter (λ k. xor (among label F (left_side k)) (among label F (right_side k))) S l c (part_of_border parts n l c e)) S (All-contains_itself S))
+      (λ l c e. Contains-filter (λ k. xor (among label F (left_side k)) (among label F (right_side k))) S l c (part_of_border parts n l c e)) S (All-contains_itself S))
 
   -- an even list of links of the border has one parity on all of a part
   module _ (arr : IsArrangement S) (faces : IsFaceLabelling S label) (parts : IsPartLabelling S label F part) (L : List Segment) (within : All (Contains S) L) (bordering : All (Contains (border (among label F) S)) L) (even : IsEven L) where

@@ -5,6 +5,7 @@ use Rattle.std.specs.List.Sorted.{IsPermutation}
 use Rattle.std.proofs.lemmas.List.Elements.{All-head, All-tail, All-cons, All-nil, All-append, All-weaker, All-contains, All-contains_itself}
 use Rattle.std.proofs.lemmas.List.Sorted.{All-permutation, IsPermutation-sym, IsPermutation-map}
 use Rattle.std.proofs.Math.IntN.{ℤ}
+use Rattle.lists.proofs.Members.{Contains-head, Contains-later}
 use Rattle.plane_model.specs.Sees.{midpoint}
 use Rattle.plane_model.specs.Sides.{counts_on_left}
 use Rattle.plane_model.specs.Drawing.{steps}
@@ -23,7 +24,7 @@ use Rattle.plane_faces.specs.Rings.{links_of_path, ring_by, darts_of_path, Start
 use Rattle.plane_faces.proofs.Runs.{links_of_runs, dart_between, darts_from, darts_of_runs, passes, turn_by_ends, all_links}
 use Rattle.plane_faces.specs.Places.{Place, outside, left_of, left_side, right_side, IsBeside, border, odd_at, IsLowest}
 use Rattle.plane_faces.specs.Labels.{IsFaceLabelling, among, IsPartLabelling, in_part}
-use Rattle.plane_faces.proofs.Lists.{contains_head, contains_tail, all_left, all_right, odd_count-permutation}
+use Rattle.plane_faces.proofs.Lists.{all_left, all_right, odd_count-permutation}
 use Rattle.plane_faces.proofs.Connected.{HasRotations, border_at}
 use Rattle.plane_faces.proofs.Parts.{border_in}
 use Rattle.plane_faces.proofs.Corner.{lowest_exists}
@@ -32,8 +33,8 @@ use Rattle.plane_faces.proofs.Exterior.{OnePasses, one_passes}
 use Rattle.plane_faces.proofs.Orientation.{last_is, oriented_at, turns}
 
 last_dart : (r : GridPoint) (ps : List GridPoint) (q p : GridPoint) → Contains (darts_from r (ps ++ (q ∷ (p ∷ [])))) (dart_between q p)
-last_dart r [] q p = contains_tail (dart_between r q) (dart_between q p ∷ []) (dart_between q p) (contains_head (dart_between q p) [])
-last_dart r (s ∷ ps) q p = contains_tail (dart_between r s) (darts_from s (ps ++ (q ∷ (p ∷ [])))) (dart_between q p) (last_dart s ps q p)
+last_dart r [] q p = Contains-later (dart_between r q) (dart_between q p ∷ []) (dart_between q p) (Contains-head (dart_between q p) [])
+last_dart r (s ∷ ps) q p = Contains-later (dart_between r s) (darts_from s (ps ++ (q ∷ (p ∷ [])))) (dart_between q p) (last_dart s ps q p)
 
 pub starts_closed : (run : List GridPoint) → StartsLeast run → IsClosed run
 starts_closed run s = subst IsClosed (sym s.is) (last_is s.least s.last s.last_after s.next s.others)

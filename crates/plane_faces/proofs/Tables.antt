@@ -4,6 +4,7 @@ use Rattle.std.proofs.Common.{◌≡◌, ◌⊎◌, inl, inr, refl, sym, ap, sub
 use Rattle.std.specs.Prelude.{All, Contains}
 use Rattle.std.proofs.lemmas.List.Elements.{All-head, All-tail, All-weaker}
 use Rattle.lists.specs.Lists.{last_of}
+use Rattle.lists.proofs.Members.{Contains-nil}
 use Rattle.plane_parity.proofs.Abscissa.{not_under_itself}
 use Rattle.plane_parity.proofs.LinkOrder.{is_under-trans}
 use Rattle.plane_model.specs.Points.{RationalPoint, GridPoint, Segment, at}
@@ -11,16 +12,14 @@ use Rattle.plane_model.specs.Parity.{is_below}
 use Rattle.plane_model.specs.Arrangement.{IsArrangement}
 use Rattle.plane_model.specs.Below.{is_under, IsTopmostBelow}
 use Rattle.plane_model.specs.Rotation.{Dart, tail, precedes, is_passed, IsNext}
+use Rattle.plane_model.proofs.PointOrder.{clash}
 use Rattle.plane_faces.specs.Places.{Consecutive, Place, outside, left_of, right_side, IsPlaceOf, IsMinimum, IsFirst, AgreesAround}
 use Rattle.plane_faces.specs.Around.{forward_dart, opposite, IsRotation}
-use Rattle.plane_faces.proofs.Lists.{contains_cases, contains_none}
+use Rattle.plane_faces.proofs.Lists.{contains_cases}
 use Rattle.plane_faces.proofs.Around.{rotation-here, rotation-all, rotation-consecutive, rotation-first, rotation-round}
 use Rattle.plane_faces.proofs.Order.{below_over}
 use Rattle.plane_faces.proofs.Corner.{precedes_total}
 use Rattle.plane_faces.proofs.Sorting.{total}
-
-clash : {P : Type 0} (b : Bool) → b ≡ true → b ≡ false → P
-clash b e f = let g : true ≡ false = sym e ∙ f in absurd (cc)
 
 -- ---- the next dart
 
@@ -98,16 +97,13 @@ module _ (S : List Segment) (arr : IsArrangement S) where
 -- ---- sectors, by a table
 
 module _ {A : Type 0} (S : List Segment) (arr : IsArrangement S) (f : Place → A) where
-  Agree : Dart → Dart → Type 0
-  Agree d e = f (left_of d) ≡ f (left_of (opposite e))
-
   abbrev pub After : Dart → Dart → Type 0
   After x y = Contains S y.link × IsNext S x y × (f (left_of x) ≡ f (left_of (opposite y)))
 
   -- each dart of a row but the last has one after it
   pub successor : (d : Dart) (ds : List Dart) → Consecutive (IsNext S) d ds → Consecutive (λ x y. f (left_of x) ≡ f (left_of (opposite y))) d ds → All (λ x. Contains S x.link) (d ∷ ds)
       → (x : Dart) → Contains (d ∷ ds) x → ((y : Dart) × After x y) ⊎ (x ≡ last_of d ds)
-  successor d [] next agree here x c = elim (contains_cases d [] x c) [ inl e ↦ inr e | inr n ↦ absurd (contains_none x n) ]
+  successor d [] next agree here x c = elim (contains_cases d [] x c) [ inl e ↦ inr e | inr n ↦ absurd (Contains-nil x n) ]
   successor d (e ∷ ds) next agree here x c = elim (contains_cases d (e ∷ ds) x c) [
     | inl i ↦ inl (e, subst (λ (y : Dart). Contains S e.link × IsNext S y e × (f (left_of y) ≡ f (left_of (opposite e)))) (sym i) (All-head (λ y. Contains S y.link) e ds (All-tail (λ y. Contains S y.link) d (e ∷ ds) here), next.0, agree.0))
     | inr k ↦ successor e ds next.1 agree.1 (All-tail (λ y. Contains S y.link) d (e ∷ ds) here) x k
@@ -120,7 +116,7 @@ module _ {A : Type 0} (S : List Segment) (arr : IsArrangement S) (f : Place → 
       same y h = h.2 ∙ ap (λ (x : Dart). f (left_of (opposite x))) (next_is_one S arr d y e h.0 ce h.1 next)
 
       go : (ds : List Dart) → IsRotation S (tail d) ds → AgreesAround f ds → f (left_of d) ≡ f (left_of (opposite e))
-      go [] r a = absurd (contains_none d (rotation-all S (tail d) [] r d (cd, refl)))
+      go [] r a = absurd (Contains-nil d (rotation-all S (tail d) [] r d (cd, refl)))
       go (c ∷ ds) r a =
           let here : All (λ x. Contains S x.link) (c ∷ ds) = All-weaker (λ x. Contains S x.link × (tail x ≡ tail d)) (λ x. Contains S x.link) (λ x h. h.0) (c ∷ ds) (rotation-here S (tail d) (c ∷ ds) r) in
           elim (successor c ds (rotation-consecutive S (tail d) c ds r) a.0 here d (rotation-all S (tail d) (c ∷ ds) r d (cd, refl))) [

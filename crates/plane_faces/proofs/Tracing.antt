@@ -7,11 +7,13 @@ use Rattle.std.specs.List.Sorted.{IsPermutation}
 use Rattle.std.proofs.lemmas.List.{length-append, append_assoc}
 use Rattle.std.proofs.lemmas.List.Elements.{All-head, All-tail, All-cons, All-nil}
 use Rattle.std.proofs.lemmas.List.Sorted.{IsPermutation-refl, IsPermutation-sym, IsPermutation-trans, IsPermutation-middle, IsPermutation-remove, IsPermutation-append_right, length_permutation}
+use Rattle.plane_snapping.proofs.Steps.{last_of-append}
 use Rattle.lists.specs.Lists.{last_of}
 use Rattle.plane_parity.proofs.Telescope.{same_point-true, same_point-self}
 use Rattle.plane_model.specs.Points.{GridPoint, same_point, Path}
 use Rattle.plane_faces.proofs.Runs.{AreDifferent, pairs_differ}
 use Rattle.plane_faces.specs.Rings.{IsRing}
+use Rattle.plane_faces.proofs.Around.{last-All}
 
 -- ---- lists of points
 
@@ -36,14 +38,6 @@ front P (x ∷ xs) r ys h = All-cons P x (xs ++ (r ∷ [])) (All-head P x (xs ++
 different_front : (xs : List GridPoint) (r : GridPoint) (ys : List GridPoint) → AreDifferent (xs ++ (r ∷ ys)) → AreDifferent (xs ++ (r ∷ []))
 different_front [] r ys h = (All-nil (λ q. q ≡ r → ⊥), tt)
 different_front (x ∷ xs) r ys h = (front (λ q. q ≡ x → ⊥) xs r ys h.0, different_front xs r ys h.1)
-
-last_in : (P : GridPoint → Type 0) (q : GridPoint) (run : List GridPoint) → All P (q ∷ run) → P (last_of q run)
-last_in P q [] h = All-head P q [] h
-last_in P q (r ∷ run) h = last_in P r run (All-tail P q (r ∷ run) h)
-
-last_added : (q : GridPoint) (xs : List GridPoint) (r : GridPoint) → last_of q (xs ++ (r ∷ [])) ≡ r
-last_added q [] r = refl
-last_added q (x ∷ xs) r = last_added x xs r
 
 -- ---- one element taken out
 
@@ -89,7 +83,7 @@ module _ {E : Type 0} (edge : GridPoint → GridPoint → E) where
       closes q run M r M' different perm out xs ys e = (
         r ∷ (q ∷ (xs ++ (r ∷ []))),
         edges_from r ys ++ M',
-        (last_added q xs r, pairs_differ (q ∷ (xs ++ (r ∷ []))) (different_front (q ∷ xs) r ys (subst (λ (ps : List GridPoint). AreDifferent (q ∷ ps)) e different))),
+        (last_of-append q xs (r ∷ []), pairs_differ (q ∷ (xs ++ (r ∷ []))) (different_front (q ∷ xs) r ys (subst (λ (ps : List GridPoint). AreDifferent (q ∷ ps)) e different))),
         IsPermutation-trans (edge r q ∷ (edges_from q (xs ++ (r ∷ [])) ++ (edges_from r ys ++ M'))) (edges_from q run ++ (edge r q ∷ M')) L
             (subst (λ (es : List E). IsPermutation (edge r q ∷ es) (edges_from q run ++ (edge r q ∷ M'))) regroup
             (IsPermutation-sym (edges_from q run ++ (edge r q ∷ M')) (edge r q ∷ (edges_from q run ++ M')) (IsPermutation-middle (edges_from q run) (edge r q) M')))
@@ -110,7 +104,7 @@ module _ {E : Type 0} (edge : GridPoint → GridPoint → E) where
               elim (cut t.0 run) [
                 | inl h ↦ closes q run M t.0 out.0 different perm out.1 h.0 h.1 h.2
                 | inr n ↦ on t.0 out.0 (length_permutation M (edge t.0 q ∷ out.0) out.1) (All-cons (λ p. p ≡ t.0 → ⊥) q run (λ e. t.2 (sym e)) n, different)
-                    (λ e. last_in (λ p. p ≡ t.0 → ⊥) q run (All-cons (λ p. p ≡ t.0 → ⊥) q run (λ f. t.2 (sym f)) n) e)
+                    (λ e. last-All (λ p. p ≡ t.0 → ⊥) q run (All-cons (λ p. p ≡ t.0 → ⊥) q run (λ f. t.2 (sym f)) n) e)
                     (IsPermutation-trans (edge t.0 q ∷ (edges_from q run ++ out.0)) (edges_from q run ++ (edge t.0 q ∷ out.0)) L
                     (IsPermutation-sym (edges_from q run ++ (edge t.0 q ∷ out.0)) (edge t.0 q ∷ (edges_from q run ++ out.0)) (IsPermutation-middle (edges_from q run) (edge t.0 q) out.0))
                     (IsPermutation-trans (edges_from q run ++ (edge t.0 q ∷ out.0)) (edges_from q run ++ M) L (IsPermutation-append_right (edges_from q run) (edge t.0 q ∷ out.0) M (IsPermutation-sym M (edge t.0 q ∷ out.0) out.1)) perm))

@@ -4,6 +4,7 @@ use Rattle.std.specs.Prelude.{All, if◌then◌else◌}
 use Rattle.std.specs.List.Sorted.{IsPermutation}
 use Rattle.std.proofs.lemmas.List.{append_assoc}
 use Rattle.std.proofs.lemmas.List.Elements.{All-head, All-tail}
+use Rattle.plane_snapping.proofs.Steps.{last_of-append}
 use Rattle.lists.specs.Lists.{first_or, last_of, least_of}
 use Rattle.plane_parity.proofs.Telescope.{same_point-self, same_point-true}
 use Rattle.plane_model.specs.Points.{GridPoint, Path, at, turn, same_point, is_before}
@@ -54,10 +55,6 @@ module _ (p : GridPoint) where
   least_last d (z ∷ []) h = lesser p z refl (All-head (IsBefore p) z [] h)
   least_last d (z ∷ (y ∷ zs)) h = lesser (least_of is_before d ((y ∷ zs) ++ (p ∷ []))) z (least_last d (y ∷ zs) (All-tail (IsBefore p) z (y ∷ zs) h)) (All-head (IsBefore p) z (y ∷ zs) h)
 
-last_join : (a : GridPoint) (ys xs : List GridPoint) → last_of a (ys ++ xs) ≡ last_of (last_of a ys) xs
-last_join a [] xs = refl
-last_join a (y ∷ ys) xs = last_join y ys xs
-
 first_there : (a b p : GridPoint) (xs : List GridPoint) → first_or a (xs ++ (p ∷ [])) ≡ first_or b (xs ++ (p ∷ []))
 first_there a b p [] = refl
 first_there a b p (x ∷ xs) = refl
@@ -74,7 +71,7 @@ turn_begun_at c q p run xs ys e closed least before others after =
     ∙ ap (λ (ps : List GridPoint). turn_at p (c ∷ (ps ++ (q ∷ [])))) e
     ∙ ap (λ (ps : List GridPoint). turn_at p (c ∷ ps)) (append_assoc xs (p ∷ ys) (q ∷ []))
     ∙ found_before p c xs ys q before
-    ∙ ap (λ (a : GridPoint). turn (at a) (at p) (at (first_or q ys))) (ap (λ (z : GridPoint). last_of z xs) (sym closed) ∙ sym (last_join p ys xs))
+    ∙ ap (λ (a : GridPoint). turn (at a) (at p) (at (first_or q ys))) (ap (λ (z : GridPoint). last_of z xs) (sym closed) ∙ sym (last_of-append p ys xs))
     ∙ ap (λ (n : GridPoint). turn (at (last_of p (ys ++ xs))) (at p) (at n)) (sym (first_round p q run xs ys e))
     ∙ sym (found p p (ys ++ xs) (first_or p ((ys ++ xs) ++ (p ∷ []))) [] others)
     ∙ sym (ap (λ (ps : List GridPoint). turn_at p (p ∷ ps)) (append_assoc (ys ++ xs) (p ∷ []) (first_or p ((ys ++ xs) ++ (p ∷ [])) ∷ [])))
