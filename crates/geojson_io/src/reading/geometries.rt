@@ -1,8 +1,9 @@
-ghost use Rattle.std.specs.Prelude.{◌≡◌, ◌++◌, ◌∷◌, [], OnOk, filter, map};
+ghost use Rattle.std.specs.Prelude.{◌≡◌, ◌++◌, ◌∷◌, [], All, OnOk, filter, map};
 ghost use Rattle.json_read.specs.Seen.{json_value};
 ghost use Rattle.geojson_io.specs.Reads.{Answers, each};
 ghost use Rattle.geojson_io.specs.Positions.{position, line};
 ghost use Rattle.geojson_io.specs.Geometries.{has_rings, each_with_rings, one, several, one_polygon, several_polygons, some_points, some_lines, some_polygons, shape_of, geometry, geometry_of_fields};
+ghost use Rattle.geojson_io.specs.Sound.{HasPoints, IsRing, ShapeIsSound};
 
 use crate::fault::{ShapeWhy, Stop};
 use crate::reading::positions::{line, position, positions, rings};
@@ -64,7 +65,8 @@ fn several_lines(alloc: Global, json: &Json, places: u8, left: &mut u32) -> Resu
 
 /// Adds a polygon, unless it has no rings.
 pub fn push_polygon(polygons: &mut RingsList, polygon: PolygonRings) -> Result<(), AllocError>
-    ensures { OnOk result (polygons.new ≡ polygons.old ++ filter has_rings (polygon ∷ [])) }
+    ensures exact { OnOk result (polygons.new ≡ polygons.old ++ filter has_rings (polygon ∷ [])) }
+    ensures sound { OnOk result (All (All IsRing) polygons.old → All IsRing polygon → All (All IsRing) polygons.new) }
 {
     if polygon.len() > 0 {
         polygons.push(polygon)?;
@@ -113,7 +115,8 @@ fn several_polygons(
 
 /// The shape of these points, or nothing where there is none.
 pub fn some_points(points: PtList) -> GeoShape
-    ensures { result ≡ some_points points }
+    ensures exact { result ≡ some_points points }
+    ensures sound { ShapeIsSound result }
 {
     if points.len() == 0 {
         return GeoShape::Nothing;
@@ -123,7 +126,8 @@ pub fn some_points(points: PtList) -> GeoShape
 
 /// The shape of these lines, or nothing where there is none.
 pub fn some_lines(lines: PathList) -> GeoShape
-    ensures { result ≡ some_lines lines }
+    ensures exact { result ≡ some_lines lines }
+    ensures sound { All HasPoints lines → ShapeIsSound result }
 {
     if lines.len() == 0 {
         return GeoShape::Nothing;
@@ -133,7 +137,8 @@ pub fn some_lines(lines: PathList) -> GeoShape
 
 /// The shape of these polygons, or nothing where there is none.
 pub fn some_polygons(polygons: RingsList) -> GeoShape
-    ensures { result ≡ some_polygons polygons }
+    ensures exact { result ≡ some_polygons polygons }
+    ensures sound { All (All IsRing) polygons → ShapeIsSound result }
 {
     if polygons.len() == 0 {
         return GeoShape::Nothing;

@@ -3,7 +3,6 @@ ghost use Rattle.std.specs.Option.{option_copied, option_map};
 ghost use Rattle.grid_base.specs.Grid.{most_places};
 ghost use Rattle.json_read.specs.Lists.{items_list};
 ghost use Rattle.json_read.specs.Seen.{json_value};
-ghost use Rattle.geojson_io.specs.Geometries.{has_rings, some_lines, some_points, some_polygons};
 ghost use Rattle.geojson_io.specs.Reads.{each};
 ghost use Rattle.topo_io.specs.Reads.{Answers};
 ghost use Rattle.topo_io.specs.Shapes.{one_line, one_point, one_polygon, paths_in, points_in, polygon_of, position, several_lines, several_points, several_polygons, shape_in, stitched_shape};
@@ -120,16 +119,6 @@ fn several_lines(
     Ok(lines)
 }
 
-// Adds a polygon, unless it has no rings.
-fn add_polygon(polygons: &mut RingsList, polygon: PolygonRings) -> Result<(), AllocError>
-    requires polygons { All (All IsRing) polygons.old }
-    requires rings { All IsRing polygon }
-    ensures exact { OnOk result (polygons.new ≡ polygons.old ++ filter has_rings (polygon ∷ [])) }
-    ensures sound { OnOk result (All (All IsRing) polygons.new) }
-{
-    push_polygon(polygons, polygon)
-}
-
 fn one_polygon(
     alloc: Global,
     items: &[Json],
@@ -141,7 +130,7 @@ fn one_polygon(
 {
     let mut polygons = RingsList::new(alloc);
     let polygon = rings_of(alloc, items, arcs, left)?;
-    add_polygon(&mut polygons, polygon)?;
+    push_polygon(&mut polygons, polygon)?;
     Ok(polygons)
 }
 
@@ -172,32 +161,9 @@ fn several_polygons(
     let mut polygons = RingsList::new(alloc);
     for item in items {
         let polygon = polygon_of(alloc, item, arcs, left)?;
-        add_polygon(&mut polygons, polygon)?;
+        push_polygon(&mut polygons, polygon)?;
     }
     Ok(polygons)
-}
-
-fn shape_of_points(points: PtList) -> GeoShape
-    ensures exact { result ≡ some_points points }
-    ensures sound { ShapeIsSound result }
-{
-    some_points(points)
-}
-
-fn shape_of_lines(lines: PathList) -> GeoShape
-    requires { All HasPoints lines }
-    ensures exact { result ≡ some_lines lines }
-    ensures sound { ShapeIsSound result }
-{
-    some_lines(lines)
-}
-
-fn shape_of_polygons(polygons: RingsList) -> GeoShape
-    requires { All (All IsRing) polygons }
-    ensures exact { result ≡ some_polygons polygons }
-    ensures sound { ShapeIsSound result }
-{
-    some_polygons(polygons)
 }
 
 // The shape of lists of arc indexes.
@@ -212,10 +178,10 @@ fn stitched_shape(
     ensures sound { IfOk result (λ shape. ShapeIsSound shape) }
 {
     match kind {
-        GeoType::LineString => Ok(shape_of_lines(one_line(alloc, items, arcs, left)?)),
-        GeoType::MultiLineString => Ok(shape_of_lines(several_lines(alloc, items, arcs, left)?)),
-        GeoType::Polygon => Ok(shape_of_polygons(one_polygon(alloc, items, arcs, left)?)),
-        GeoType::MultiPolygon => Ok(shape_of_polygons(several_polygons(alloc, items, arcs, left)?)),
+        GeoType::LineString => Ok(some_lines(one_line(alloc, items, arcs, left)?)),
+        GeoType::MultiLineString => Ok(some_lines(several_lines(alloc, items, arcs, left)?)),
+        GeoType::Polygon => Ok(some_polygons(one_polygon(alloc, items, arcs, left)?)),
+        GeoType::MultiPolygon => Ok(some_polygons(several_polygons(alloc, items, arcs, left)?)),
         GeoType::Point | GeoType::MultiPoint => Ok(GeoShape::Nothing),
     }
 }
@@ -247,7 +213,7 @@ fn point_in(
     ensures sound { IfOk result (λ shape. ShapeIsSound shape) }
 {
     match json {
-        Some(json) => Ok(shape_of_points(one_point(alloc, json, frame, left)?)),
+        Some(json) => Ok(some_points(one_point(alloc, json, frame, left)?)),
         None => Err(Stop::Why(TopoWhy::BadPosition)),
     }
 }
@@ -263,7 +229,7 @@ fn points_in(
     ensures sound { IfOk result (λ shape. ShapeIsSound shape) }
 {
     match json {
-        Some(json) => Ok(shape_of_points(several_points(alloc, json, frame, left)?)),
+        Some(json) => Ok(some_points(several_points(alloc, json, frame, left)?)),
         None => Err(Stop::Why(TopoWhy::BadPosition)),
     }
 }

@@ -21,7 +21,7 @@ loop-item-init c = subst (λ (ps : List Polygon). IsReadAndKept c.args.places c.
 pub loop-item-preserved : goal.loop-item-preserved
 loop-item-preserved c =
     one_polygon_more c.args.places c.args.items.now c.loop-item.item-index c.item-item.result c.args.left.now c.loop-item.polygons c.push_polygon.new.polygons c.loop-item.left c.in_ok-polygon.polygon c.rings.new.left
-    c.loop-item-test.true c.item-item.is c.loop-item.invariant c.in_ok-polygon.ensures c.in_ok-push_polygon.ensures
+    c.loop-item-test.true c.item-item.is c.loop-item.invariant c.in_ok-polygon.ensures c.in_ok-push_polygon.ensures.exact
 
 pub returns : goal.returns
 returns c = all_polygons c.args.places c.args.items.now c.loop-item.item-index c.args.left.now c.loop-item.polygons c.loop-item.left c.loop-item-test.false c.loop-item.invariant

@@ -23,9 +23,9 @@ loop-item-init c =
 
 pub loop-item-preserved : goal.loop-item-preserved
 loop-item-preserved c = (
-  one_kept_more has_rings (polygon_of c.args.arcs.now) c.args.items.now c.loop-item.item-index c.item-item.result c.args.left.now c.loop-item.polygons c.add_polygon.new.polygons c.loop-item.left c.in_ok-polygon.polygon c.polygon_of.new.left
-      c.loop-item-test.true c.item-item.is c.loop-item.invariant.0 c.in_ok-polygon.ensures.read c.in_ok-add_polygon.ensures.exact,
-  c.in_ok-add_polygon.ensures.sound,
+  one_kept_more has_rings (polygon_of c.args.arcs.now) c.args.items.now c.loop-item.item-index c.item-item.result c.args.left.now c.loop-item.polygons c.push_polygon.new.polygons c.loop-item.left c.in_ok-polygon.polygon c.polygon_of.new.left
+      c.loop-item-test.true c.item-item.is c.loop-item.invariant.0 c.in_ok-polygon.ensures.read c.in_ok-push_polygon.ensures.exact,
+  c.in_ok-push_polygon.ensures.sound c.loop-item.invariant.1 c.in_ok-polygon.ensures.sound,
 )
 
 pub returns : goal.returns
