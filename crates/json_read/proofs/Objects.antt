@@ -13,7 +13,7 @@ use Rattle.json_read.specs.declared.reader.Fault.TheVariants.{Syntax}
 use Rattle.json_read.specs.declared.reader.Stop.{Stop}
 use Rattle.json_read.specs.declared.reader.Stop.TheVariants as stop
 use Rattle.json_read.specs.Machine.{Place, Open, in_object, run, step, fault, value, first_name, next_name, after}
-use Rattle.json_read.specs.Reading.{Runs, Passes, Breaks, AtFault, NextFails, NextIsNot, drop_while, NameText, PassesAt, BreaksAt, outside, inside, behind, ShowsPadded, ObjectText}
+use Rattle.json_read.specs.Reading.{Runs, Passes, Breaks, AtFault, NextFails, NextIsNot, drop_while, MembersSoFar, NameText, PassesAt, BreaksAt, outside, inside, behind, ShowsPadded, ObjectText}
 use Rattle.json_read.proofs.Names.{ByteFault, SomeName}
 use Rattle.json_read.proofs.Runs.{moves, stops, moves_alike}
 use Rattle.json_read.proofs.Sequences.{Then, then_passes_at, then_breaks_at, first_breaks_at, as_breaks_at, as_passes_at, lifted, lifted_breaks, white_passes, white_append}
@@ -22,11 +22,6 @@ use Rattle.json_read.proofs.Whiles.{next_fails_after}
 
 abbrev pub Member : Type 0
 Member = List ℕ × JsonValue
-
--- an object that goes on with text, after members that were merged to fields
-abbrev pub MembersSoFar : ℕ → FieldList → List ℕ → Type 0
-MembersSoFar d fields text =
-    (rest : List ℕ) (ms : List Member) → Members d rest ms → (all : List Member) × (Members d (text ++ rest) all × (merged [] all ≡ merged (fields_list fields) ms))
 
 -- ## White space in front
 

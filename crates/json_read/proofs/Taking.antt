@@ -1,6 +1,6 @@
 -- Objects that are read with the items of one array taken one by one.
-use Rattle.std.proofs.Common.{ℕ, suc, ◌≡◌, ◌++◌, List, [], ◌∷◌, Bool, true, false, refl, ap, ◌∙◌, sym, subst, append_assoc, Option, Some, Result, Ok, Err, ◌⊎◌, inl, inr}
-use Rattle.std.specs.Prelude.{MatchBool, IfSome}
+use Rattle.std.proofs.Common.{ℕ, suc, ◌≡◌, ◌++◌, List, [], ◌∷◌, Bool, true, false, refl, ap, ◌∙◌, sym, subst, append_assoc, Option, Some, None, is_some, Result, Ok, Err, ◌⊎◌, inl, inr}
+use Rattle.std.specs.Prelude.{MatchBool, IfNone, IfOk, IfSome}
 use Rattle.std.specs.Str.{bytes_eq}
 use Rattle.json_read.specs.Bytes.{is_white}
 use Rattle.json_read.specs.Grammar.{Mark}
@@ -14,11 +14,11 @@ use Rattle.json_read.specs.declared.reader.Stop.{Stop}
 use Rattle.json_read.specs.declared.reader.taking.Taking.{Taking}
 use Rattle.json_read.specs.declared.reader.taking.TakenObject.{TakenObject}
 use Rattle.json_read.specs.Machine.{in_array, in_object, start, value, first_value, first_name, next_name, after}
-use Rattle.json_read.specs.Reading.{AtFault, NextFails, NextIsNot, drop_while, Passes, NameText, PassesAt, BreaksAt, outside, inside, behind, Shows, ShowsPadded, ArrayText, ObjectText, FaultsAt}
-use Rattle.json_read.specs.Taking.{TakesOne, TakesAll, TookNamed, AreFieldsOf, IsTakenText, HasTakenArray, PutsOther, TakesFirst, HasValue, HasFirstArray, HasMember, ValueBreaks, TakesValue, TakesMember}
+use Rattle.json_read.specs.Reading.{AtFault, NextFails, NextIsNot, drop_while, Reads, Passes, MembersSoFar, NameText, PassesAt, BreaksAt, outside, inside, behind, Shows, ShowsPadded, ArrayText, ObjectText, FaultsAt}
+use Rattle.json_read.specs.Taking.{TakesOne, TakesAll, TookNamed, AreFieldsOf, IsTakenText, HasOtherMember, IsNoFirstArray, HasTakenArray, PutsOther, TakesFirst, HasValue, HasFirstArray, HasMember, ValueBreaks, TakesValue, TakesMember}
 use Rattle.json_read.proofs.Arrays.{ItemsSoFar, array_empty, array_init, array_more, array_ends, array_item_breaks, array_comma_breaks, items_list-items_of}
 use Rattle.json_read.proofs.Names.{ByteFault}
-use Rattle.json_read.proofs.Objects.{MembersSoFar, object_empty, object_init, object_more, object_ends}
+use Rattle.json_read.proofs.Objects.{object_empty, object_init, object_more, object_ends}
 use Rattle.json_read.proofs.Putting.{put_on, put_here, flips, same_bytes, value_here, value_further}
 use Rattle.json_read.proofs.Seen.{Member, fields_list-fields_of}
 use Rattle.json_read.proofs.Texts.{text_value, text_end, text_whole}
@@ -141,6 +141,7 @@ other_put : (P M Q : List JsonValue → Type 0) (wanted name : List ℕ) (v : Js
 other_put P M Q wanted name v a b whole h p = record {
   others = λ other e. after_member other whole name v ∙ both_put other name v (fields_list whole) (fields_list a.fields) (h.others other e) ∙ sym (ap (λ (gs : List Member). value_named other gs) p.fields);
   taken = subst (λ (t : Bool). MatchBool t (TookNamed P Q wanted (with_member whole name v)) ((with_member whole name v ≡ b.fields) × TakesAll P Q [])) (sym p.same) (go a.is_taken h.taken);
+  absent = λ e. ap (λ (gs : List Member). value_named wanted gs) p.fields ∙ value_put_other wanted name v (fields_list a.fields) p.is_other ∙ h.absent (sym p.same ∙ e);
 }
   where
     go : (t : Bool) → MatchBool t (TookNamed P M wanted whole) ((whole ≡ a.fields) × TakesAll P M []) → MatchBool t (TookNamed P Q wanted (with_member whole name v)) ((with_member whole name v ≡ b.fields) × TakesAll P Q [])
@@ -163,6 +164,7 @@ first_put P M Q wanted name v a b whole h named p =
     record {
       others = λ other e. after_member other whole name v ∙ value_put_other other name v (fields_list whole) (differs other e) ∙ h.others other e ∙ ap (λ (fs : FieldList). value_named other (fields_list fs)) (sym p.fields);
       taken = subst (λ (t : Bool). MatchBool t (TookNamed P Q wanted (with_member whole name v)) ((with_member whole name v ≡ b.fields) × TakesAll P Q [])) (sym p.is_taken) (p.items, found, takes_first P M Q (items_list p.items) before.1 p.all);
+      absent = λ e. absurd (let t : true ≡ false = sym p.is_taken ∙ e in cc);
     }
 
 member_put : (P M Q : List JsonValue → Type 0) (wanted name : List ℕ) (v : JsonValue) (a b : Taking) (whole : FieldList) → AreFieldsOf P M wanted a.fields a.is_taken whole → PutsOther M Q wanted name v a b ⊎ ((bytes_eq name wanted ≡ true) × TakesFirst M Q v a b) → AreFieldsOf P Q wanted b.fields b.is_taken (with_member whole name v)
@@ -175,18 +177,18 @@ abbrev pub MembersTaken : ℕ → (List JsonValue → Type 0) → (List JsonValu
 MembersTaken d P Q wanted fields is_taken old new =
     (whole : FieldList) × PassesAt (MembersSoFar d whole) (inside in_object d first_name) (inside in_object d next_name) old new × AreFieldsOf P Q wanted fields is_taken whole
 
-nothing_taken : (P : List JsonValue → Type 0) (wanted : List ℕ) (fs : FieldList) → AreFieldsOf P P wanted fs false fs
-nothing_taken P wanted fs = record { others = λ other e. refl; taken = (refl, takes_none P) }
+nothing_taken : (P : List JsonValue → Type 0) (wanted : List ℕ) (fs : FieldList) → fs ≡ no_fields → AreFieldsOf P P wanted fs false fs
+nothing_taken P wanted fs is = record { others = λ other e. refl; taken = (refl, takes_none P); absent = λ e. ap (λ (gs : FieldList). value_named wanted (fields_list gs)) is }
 
 abbrev finished : (P Q : List JsonValue → Type 0) (wanted : List ℕ) (a b : FieldList) (s t : Bool) (whole : FieldList) → (b ≡ a) × (t ≡ s) → AreFieldsOf P Q wanted a s whole → AreFieldsOf P Q wanted b t whole
 finished P Q wanted a b s t whole e h = subst (λ (fs : FieldList). AreFieldsOf P Q wanted fs t whole) (sym e.0) (subst (λ (u : Bool). AreFieldsOf P Q wanted a u whole) (sym e.1) h)
 
 pub members_none : (d : ℕ) (P : List JsonValue → Type 0) (wanted : List ℕ) (fields result : FieldList) (is_taken : Bool) (old m1 new : List ℕ)
     → fields ≡ no_fields → m1 ≡ drop_while is_white old → m1 ≡ 125 ∷ new → (result ≡ fields) × (is_taken ≡ false) → (whole : FieldList) × PassesAt (ObjectText d whole) (inside in_object d first_name) (behind d) old new × AreFieldsOf P P wanted result is_taken whole
-members_none d P wanted fields result is_taken old m1 new is w e f = (fields, object_empty d fields old m1 new is w e, finished P P wanted fields result false is_taken fields f (nothing_taken P wanted fields))
+members_none d P wanted fields result is_taken old m1 new is w e f = (fields, object_empty d fields old m1 new is w e, finished P P wanted fields result false is_taken fields f (nothing_taken P wanted fields is))
 
 pub members_init : (d : ℕ) (P : List JsonValue → Type 0) (wanted : List ℕ) (fields : FieldList) (old m1 new : List ℕ) → fields ≡ no_fields → m1 ≡ drop_while is_white old → new ≡ m1 → NextIsNot 125 new → MembersTaken d P P wanted fields false old new
-members_init d P wanted fields old m1 new is w s n = (fields, object_init d fields old m1 new is w s n, nothing_taken P wanted fields)
+members_init d P wanted fields old m1 new is w s n = (fields, object_init d fields old m1 new is w s n, nothing_taken P wanted fields is)
 
 pub members_more : (d : ℕ) (P M Q : List JsonValue → Type 0) (wanted name : List ℕ) (a b : Taking) (old m1 m2 m3 m4 new : List ℕ)
     → MembersTaken d P M wanted a.fields a.is_taken old m1 → Passes (NameText name) next_name value m1 m2 → HasMember d M Q wanted name a b m2 m3 → m4 ≡ m3 → m4 ≡ 44 ∷ new → MembersTaken d P Q wanted b.fields b.is_taken old new
@@ -238,3 +240,26 @@ wanted_member d P Q wanted name a b (Err stop) old new named h = h
 -- what was found
 pub found_object : (P : TakenObject → Type 0) (found : Option TakenObject) (o : TakenObject) → found ≡ Some o → IfSome found P → P o
 found_object P found o e h = subst (λ (f : Option TakenObject). IfSome f P) e h
+
+-- ## What is read otherwise
+
+pub named_other : (wanted name old : List ℕ) (a : Taking) (r : Result Bool Stop) → bytes_eq name wanted ≡ true → IfOk r (λ is_read. is_read ≡ false → IsNoFirstArray a old)
+    → IfOk r (λ is_read. is_read ≡ false → (bytes_eq name wanted ≡ true) × IsNoFirstArray a old)
+named_other wanted name old a (Ok is_read) named h = λ e. (named, h e)
+named_other wanted name old a (Err stop) named h = tt
+
+-- a member of the wanted name that is no array, or comes after one that was taken
+pub other_member : (d : ℕ) (P Q : List JsonValue → Type 0) (wanted name : List ℕ) (a : Taking) (old m1 m2 : List ℕ) → MembersTaken d P Q wanted a.fields a.is_taken old m1 → Passes (NameText name) next_name value m1 m2
+    → (bytes_eq name wanted ≡ true) × IsNoFirstArray a m2 → HasOtherMember d wanted old
+other_member d P Q wanted name a old m1 m2 h n p = (h.0, m1, m2, h.1.reads, subst (λ (k : List ℕ). Reads (NameText k) m1 m2) (same_bytes name wanted p.0) n.reads, go p.1)
+  where
+    go : IsNoFirstArray a m2 → (is_some (value_named wanted (fields_list h.0)) ≡ true) ⊎ NextIsNot 91 (drop_while is_white m2)
+    go (inl e) =
+        let taken : TookNamed P Q wanted h.0 = subst (λ (t : Bool). MatchBool t (TookNamed P Q wanted h.0) ((h.0 ≡ a.fields) × TakesAll P Q [])) e h.2.taken in
+        inl (ap (λ (v : Option JsonValue). is_some v) taken.1)
+    go (inr next) = inr next
+
+-- what was not found
+pub none_found : (P : Type 0) (found : Option TakenObject) → ((o : TakenObject) → found ≡ Some o → ⊥) → IfNone found P → P
+none_found P None other h = h
+none_found P (Some o) other h = absurd (other o refl)

@@ -9,7 +9,8 @@ use Rattle.json_read.specs.Json.{JsonValue, ItemList, FieldList, array, object}
 use Rattle.json_read.specs.declared.json.Json.{Json}
 use Rattle.std.specs.Char.{digit_value}
 use Rattle.std.specs.Str.{encode_utf8_all}
-use Rattle.json_read.specs.Grammar.{Chars, Spells, SomeDigits, Number, joined, Denotes, Padded, White, Quoted, JsonText}
+use Rattle.json_read.specs.Grammar.{Chars, Spells, SomeDigits, Number, joined, Denotes, Members, Padded, White, Quoted, JsonText}
+use Rattle.json_read.specs.Lists.{fields_list, merged}
 use Rattle.json_read.specs.Bytes.{is_digit, is_hex}
 use Rattle.json_read.specs.declared.reader.Fault.TheVariants.{Syntax, Utf8}
 
@@ -151,6 +152,11 @@ ArrayText d items t = Denotes (suc d) (91 ∷ t) (array items)
 
 abbrev pub ObjectText : ℕ → FieldList → List ℕ → Type 0
 ObjectText d fields t = Denotes (suc d) (123 ∷ t) (object fields)
+
+-- an object goes on with text, after members that were merged to fields
+abbrev pub MembersSoFar : ℕ → FieldList → List ℕ → Type 0
+MembersSoFar d fields text =
+    (rest : List ℕ) (ms : List (List ℕ × JsonValue)) → Members d rest ms → (all : List (List ℕ × JsonValue)) × (Members d (text ++ rest) all × (merged [] all ≡ merged (fields_list fields) ms))
 
 -- the value of a Json
 abbrev pub Shows : ℕ → Json → List ℕ → Type 0

@@ -1,12 +1,12 @@
 -- Objects that are read with the items of one array taken one by one.
-use Rattle.std.specs.Prelude.{ℕ, ◌≡◌, List, [], ◌∷◌, ◌++◌, Bool, true, false, Option, Some, Result, MatchResult, MatchBool, IfSome, ◌⊎◌}
+use Rattle.std.specs.Prelude.{ℕ, ◌≡◌, ◌-◌, List, [], ◌∷◌, ◌++◌, Bool, true, false, Option, Some, None, is_some, Result, MatchResult, MatchBool, IfSome, ◌⊎◌}
 use Rattle.std.specs.Str.{bytes_eq}
 use Rattle.json_read.specs.Bytes.{is_white}
-use Rattle.json_read.specs.Grammar.{JsonText}
+use Rattle.json_read.specs.Grammar.{JsonText, Mark}
 use Rattle.json_read.specs.Json.{JsonValue, ItemList, FieldList, array, object}
 use Rattle.json_read.specs.Lists.{items_list, fields_list, put, value_named}
-use Rattle.json_read.specs.Machine.{in_array, in_object, first_value, first_name, value, after}
-use Rattle.json_read.specs.Reading.{AtFault, NextFails, PassesAt, BreaksAt, outside, inside, behind, ShowsPadded, ArrayText, ObjectText, FaultsAt}
+use Rattle.json_read.specs.Machine.{start, in_array, in_object, first_value, first_name, value, after}
+use Rattle.json_read.specs.Reading.{AtFault, NextFails, NextIsNot, drop_while, Reads, Passes, MembersSoFar, NameText, PassesAt, BreaksAt, outside, inside, behind, ShowsPadded, ArrayText, ObjectText, FaultsAt}
 use Rattle.json_read.specs.Seen.{json_value}
 use Rattle.json_read.specs.declared.json.Json.{Json}
 use Rattle.json_read.specs.declared.reader.Stop.{Stop}
@@ -24,15 +24,26 @@ TakesAll P Q ws = (vs : List JsonValue) → P vs → Q (vs ++ ws)
 abbrev pub TookNamed : (List JsonValue → Type 0) → (List JsonValue → Type 0) → List ℕ → FieldList → Type 0
 TookNamed P Q name whole = (items : ItemList) × (value_named name (fields_list whole) ≡ Some (array items)) × TakesAll P Q (items_list items)
 
--- These are the fields of an object: all of them where nothing was taken; else all but the array of this name, of
--- which the items were taken.
+-- These are the fields of an object: all of them where nothing was taken, since none has this name; else all but the
+-- array of this name, of which the items were taken.
 pub record AreFieldsOf (P Q : List JsonValue → Type 0) (name : List ℕ) (fields : FieldList) (is_taken : Bool) (whole : FieldList) : Type 0 where
   pub others : (other : List ℕ) → bytes_eq other name ≡ false → value_named other (fields_list whole) ≡ value_named other (fields_list fields)
   pub taken : MatchBool is_taken (TookNamed P Q name whole) ((whole ≡ fields) × TakesAll P Q [])
+  pub absent : is_taken ≡ false → value_named name (fields_list fields) ≡ None
 
 -- the bytes are an object with these fields, of which the items of the array with this name may have been taken
 abbrev pub IsTakenText : ℕ → (List JsonValue → Type 0) → (List JsonValue → Type 0) → List ℕ → FieldList → Bool → List ℕ → Type 0
 IsTakenText d P Q name fields is_taken bytes = (whole : FieldList) × JsonText d bytes (object whole) × AreFieldsOf P Q name fields is_taken whole
+
+-- after its brace an object has members, and then one of this name that is no array, or whose name stands among them
+abbrev pub HasOtherMember : ℕ → List ℕ → List ℕ → Type 0
+HasOtherMember d name bytes =
+    (fields : FieldList) × (named rest : List ℕ) × Reads (MembersSoFar d fields) bytes named × Reads (NameText name) named rest × ((is_some (value_named name (fields_list fields)) ≡ true) ⊎ NextIsNot 91 (drop_while is_white rest))
+
+-- after a byte order mark, if there is one, the bytes begin no object, or one with such a member
+abbrev pub IsReadOtherwise : ℕ → List ℕ → List ℕ → Type 0
+IsReadOtherwise d name bytes =
+    (unmarked : List ℕ) × Passes Mark start value bytes unmarked × (NextIsNot 123 (drop_while is_white unmarked) ⊎ ((inner : List ℕ) × (drop_while is_white unmarked ≡ 123 ∷ inner) × HasOtherMember (d - 1) name inner))
 
 -- ## Parts of a text
 
@@ -76,7 +87,10 @@ HasMember d P Q wanted name a b old new =
 abbrev pub ValueBreaks : ℕ → Stop → List ℕ → List ℕ → Type 0
 ValueBreaks d e old new = AtFault (λ f. BreaksAt (λ t. (j : Json) × ShowsPadded d j t) (outside d value) f old new) e
 
--- where the answer is false, nothing is said: the text is read otherwise
+-- the array of the wanted name was read before, or none begins here
+abbrev pub IsNoFirstArray : Taking → List ℕ → Type 0
+IsNoFirstArray a old = (a.is_taken ≡ true) ⊎ NextIsNot 91 (drop_while is_white old)
+
 abbrev pub TakesValue : ℕ → (List JsonValue → Type 0) → (List JsonValue → Type 0) → Taking → Taking → Result Bool Stop → List ℕ → List ℕ → Type 0
 TakesValue d P Q a b result old new =
     MatchResult result (λ is_read. is_read ≡ true → HasFirstArray d P Q a b old new) (λ e. ValueBreaks d e old new)

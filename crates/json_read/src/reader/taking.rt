@@ -1,9 +1,10 @@
-ghost use Rattle.std.specs.Prelude.{◌≡◌, ◌<◌, true, List, IfOk, IfSome, IfErr, MatchResult, OnOk};
+ghost use Rattle.std.specs.Prelude.{◌≡◌, ◌<◌, true, false, List, IfOk, IfNone, IfSome, IfErr, MatchResult, OnOk};
+ghost use Rattle.std.specs.Str.{bytes_eq};
 ghost use Rattle.json_read.specs.Bytes.{is_white};
 ghost use Rattle.json_read.specs.Json.{JsonValue};
 ghost use Rattle.json_read.specs.Seen.{json_value};
 ghost use Rattle.json_read.specs.Faults.{FaultFits};
-ghost use Rattle.json_read.specs.Taking.{TakesOne, TakesArray, TakesValue, TakesMember, TakesObject, TakesText, IsTakenText};
+ghost use Rattle.json_read.specs.Taking.{TakesOne, TakesArray, TakesValue, TakesMember, TakesObject, TakesText, HasOtherMember, IsNoFirstArray, IsReadOtherwise, IsTakenText};
 
 use crate::fault::JsonFault;
 use crate::growing_fields::GrowingFields;
@@ -42,7 +43,8 @@ struct Taking {
 impl Json {
     /// Reads an object, and hands the items of the array in its field `name` to `taker`, each as soon as it is read.
     ///
-    /// `None` where the bytes aren't read so: they are no object, or their field `name` is no array or stands twice.
+    /// `None` where the bytes aren't read so: they begin no object, or one whose field `name` is no array or stands twice.
+    /// What follows is left unread then, so that the text may be accepted or not.
     /// Errors: as `parse`; the taker may have taken items then, as it may where the answer is `None`.
     /// Source: RFC 8259, as for `parse`.
     pub fn parse_taking<T: ItemTaker>(
@@ -52,6 +54,7 @@ impl Json {
         taker: &mut T,
     ) -> Result<Option<TakenObject>, JsonFault>
         ensures ok { IfOk result (λ found. (first : T) → IfSome found (λ object. IsTakenText 64 (T.took first taker.old) (T.took first taker.new) name.now object.fields object.is_taken bytes.now)) }
+        ensures other { IfOk result (λ found. IfNone found (IsReadOtherwise 64 name.now bytes.now)) }
         ensures fault { IfErr result (FaultFits 64 bytes.now) }
     {
         let mut reader = Reader::new(alloc, bytes);
@@ -70,7 +73,8 @@ impl<'a> Reader<'a> {
         wanted: &str,
         taker: &mut T,
     ) -> Result<Option<TakenObject>, Stop>
-        ensures { (first : T) → TakesText GREATEST_DEPTH (T.took first taker.old) (T.took first taker.new) wanted.now result self.old.rest.now self.new.rest.now }
+        ensures taken { (first : T) → TakesText GREATEST_DEPTH (T.took first taker.old) (T.took first taker.new) wanted.now result self.old.rest.now self.new.rest.now }
+        ensures other { IfOk result (λ found. IfNone found (IsReadOtherwise GREATEST_DEPTH wanted.now self.old.rest.now)) }
     {
         self.mark()?;
         self.skip_white();
@@ -96,7 +100,8 @@ impl<'a> Reader<'a> {
         taker: &mut T,
     ) -> Result<Option<TakenObject>, Stop>
         requires { 0 < depth }
-        ensures { (first : T) → TakesObject depth (T.took first taker.old) (T.took first taker.new) wanted.now result self.old.rest.now self.new.rest.now }
+        ensures taken { (first : T) → TakesObject depth (T.took first taker.old) (T.took first taker.new) wanted.now result self.old.rest.now self.new.rest.now }
+        ensures other { IfOk result (λ found. IfNone found (HasOtherMember depth wanted.now self.old.rest.now)) }
     {
         let mut taking = Taking {
             fields: GrowingFields::new(self.alloc),
@@ -128,7 +133,8 @@ impl<'a> Reader<'a> {
         taking: &mut Taking,
     ) -> Result<bool, Stop>
         requires { 0 < depth }
-        ensures { (first : T) → TakesMember depth (T.took first taker.old) (T.took first taker.new) wanted.now name taking.old taking.new result self.old.rest.now self.new.rest.now }
+        ensures taken { (first : T) → TakesMember depth (T.took first taker.old) (T.took first taker.new) wanted.now name taking.old taking.new result self.old.rest.now self.new.rest.now }
+        ensures other { IfOk result (λ is_read. is_read ≡ false → (bytes_eq name wanted.now ≡ true) × IsNoFirstArray taking.old self.old.rest.now) }
     {
         if name.as_str() == wanted {
             return self.array_taking(depth, taker, taking);
@@ -146,7 +152,8 @@ impl<'a> Reader<'a> {
         taking: &mut Taking,
     ) -> Result<bool, Stop>
         requires { 0 < depth }
-        ensures { (first : T) → TakesValue depth (T.took first taker.old) (T.took first taker.new) taking.old taking.new result self.old.rest.now self.new.rest.now }
+        ensures taken { (first : T) → TakesValue depth (T.took first taker.old) (T.took first taker.new) taking.old taking.new result self.old.rest.now self.new.rest.now }
+        ensures other { IfOk result (λ is_read. is_read ≡ false → IsNoFirstArray taking.old self.old.rest.now) }
     {
         if taking.is_taken {
             return Ok(false);
