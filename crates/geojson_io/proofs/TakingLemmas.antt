@@ -1,5 +1,5 @@
 -- A collection of features that is read feature by feature.
-use Rattle.std.proofs.Common.{◌≡◌, ℕ, ◌+◌, ◌<◌, ◌≤◌, List, [], ◌∷◌, ◌++◌, length, sym, ap, ◌∙◌, subst, refl, arith, append_assoc, length-append, Bool, true, false, Option, Some, None, MatchOption, Result, Ok, Err, MatchResult, codes, All}
+use Rattle.std.proofs.Common.{◌≡◌, ℕ, ◌+◌, ◌<◌, ◌≤◌, List, [], ◌∷◌, ◌++◌, length, sym, ap, ◌∙◌, subst, refl, arith, append_assoc, length-append, Bool, true, false, Option, Some, None, MatchOption, Result, Ok, Err, MatchResult, codes, All, inl, inr}
 use Rattle.std.specs.Prelude.{if◌then◌else◌, IfOk, IfSome, is_some}
 use Rattle.std.specs.List.{enumerate_from}
 use Rattle.std.specs.Str.{bytes_eq}
@@ -12,7 +12,7 @@ use Rattle.geojson_io.specs.Reads.{Reads, Fault, IsFault, AnswersIn, on_ok, each
 use Rattle.geojson_io.specs.Geometries.{text_of, type_of}
 use Rattle.geojson_io.specs.Features.{numbered, members, in_list, top_members, features_among, features_of}
 use Rattle.geojson_io.specs.Layers.{layers_of, read_geojson}
-use Rattle.geojson_io.specs.Taking.{features_from, HasRead, HasTaken, AreLayersOf, is_collection, IsReadOf, IsCollectionText, IsParsed, IsValueOf, ParsedIsSound}
+use Rattle.geojson_io.specs.Taking.{features_from, HasRead, HasTaken, AreLayersOf, is_collection, IsReadOf, IsCollectionText, HaveNoFeatures, IsWholeOnlyOf}
 use Rattle.geojson_io.specs.Sound.{LayerIsSound}
 use Rattle.json_read.specs.declared.fault.JsonFault.{JsonFault}
 use Rattle.json_read.specs.declared.reader.taking.TakenObject.{TakenObject}
@@ -118,8 +118,8 @@ if_true false x y e = absurd (let t : false ≡ true = e in cc)
 collection_members : (whole : FieldList) (items : ItemList) → is_collection (object whole) ≡ true → value_named (codes "features") (fields_list whole) ≡ Some (array items) → top_members (object whole) ≡ Some (member.Feature, items_list items)
 collection_members whole items c e = if_true (bytes_eq (type_of whole) (codes "FeatureCollection")) _ _ c ∙ ap (λ (o : Option JsonValue). in_list member.Feature o) e
 
-same_type : (P Q : List JsonValue → Type 0) (others whole : FieldList) (t : Bool) → AreFieldsOf P Q (codes "features") others t whole → bytes_eq (type_of others) (codes "FeatureCollection") ≡ true → is_collection (object whole) ≡ true
-same_type P Q others whole t h e = ap (λ (o : Option JsonValue). bytes_eq (text_of o) (codes "FeatureCollection")) (h.others (codes "type") refl) ∙ e
+same_type : (P Q : List JsonValue → Type 0) (others whole : FieldList) (t b : Bool) → AreFieldsOf P Q (codes "features") others t whole → bytes_eq (type_of others) (codes "FeatureCollection") ≡ b → is_collection (object whole) ≡ b
+same_type P Q others whole t b h e = ap (λ (o : Option JsonValue). bytes_eq (text_of o) (codes "FeatureCollection")) (h.others (codes "type") refl) ∙ e
 
 collection_read : (places : ℕ) (name : List ℕ) (positions limit : ℕ) (whole : FieldList) (items : ItemList) → top_members (object whole) ≡ Some (member.Feature, items_list items)
     → features_of places limit (object whole) positions ≡ members member.Feature places limit (items_list items) positions
@@ -155,7 +155,7 @@ pub collection_text : (first now : FeatureTaker) (name : List ℕ) (fields : Fie
 collection_text first now name fields bytes result start h c answer =
     let taken : TookNamed (HasTaken first first) (HasTaken first now) (codes "features") h.0 = h.2.taken in
     let has : HasTaken first now (items_list taken.0) = taken.2 [] start in
-    let collection : is_collection (object h.0) ≡ true = same_type (HasTaken first first) (HasTaken first now) fields h.0 true h.2 c in
+    let collection : is_collection (object h.0) ≡ true = same_type (HasTaken first first) (HasTaken first now) fields h.0 true true h.2 c in
     record {
       value = object h.0;
       text = h.1;
@@ -167,15 +167,21 @@ collection_text first now name fields bytes result start h c answer =
 pub whole_text : (P Q : List JsonValue → Type 0) (all : FieldList) (bytes : List ℕ) → IsTakenText 64 P Q (codes "features") all false bytes → JsonText 64 bytes (object all)
 whole_text P Q all bytes h = subst (λ (w : FieldList). JsonText 64 bytes (object w)) h.2.taken.0 h.1
 
+-- no features: of that name, or of a collection
+pub without_features : (P Q : List JsonValue → Type 0) (all : FieldList) (bytes : List ℕ) → IsTakenText 64 P Q (codes "features") all false bytes → HaveNoFeatures bytes
+without_features P Q all bytes h = inr (h.0, h.1, inl (ap (λ (w : FieldList). value_named (codes "features") (fields_list w)) h.2.taken.0 ∙ h.2.absent refl))
+
+pub of_other_type : (P Q : List JsonValue → Type 0) (fields : FieldList) (bytes : List ℕ) → IsTakenText 64 P Q (codes "features") fields true bytes → bytes_eq (type_of fields) (codes "FeatureCollection") ≡ false → HaveNoFeatures bytes
+of_other_type P Q fields bytes h e = inr (h.0, h.1, inr (same_type P Q fields h.0 true false h.2 e))
+
+pub whole_only : (bytes : List ℕ) (r : Result Parsed JsonFault) → HaveNoFeatures bytes → IfOk r (IsWholeOnlyOf bytes)
+whole_only bytes (Ok (parsed.Features result)) h = tt
+whole_only bytes (Ok (parsed.Value json)) h = h
+whole_only bytes (Err fault) h = tt
+
 pub collection_sound : (places : ℕ) (name : List ℕ) (positions limit : ℕ) (bytes : List ℕ) (result : Result (List LayerContent) ShapeFault) → IsCollectionText places name positions limit bytes result → IfOk result (λ (layers : List LayerContent). All LayerIsSound layers)
 collection_sound places name positions limit bytes (Ok layers) h = layers_sound places name positions limit h.value layers h.read
 collection_sound places name positions limit bytes (Err fault) h = tt
-
--- a value that was read says nothing of layers
-pub value_parsed : (places : ℕ) (name : List ℕ) (positions limit : ℕ) (bytes : List ℕ) (r : Result Parsed JsonFault) → IfOk r (IsValueOf bytes) → IfOk r (IsParsed places name positions limit bytes) × IfOk r ParsedIsSound
-value_parsed places name positions limit bytes (Ok (parsed.Features result)) h = absurd h
-value_parsed places name positions limit bytes (Ok (parsed.Value json)) h = (h, tt)
-value_parsed places name positions limit bytes (Err fault) h = (tt, tt)
 
 pub none_there : (o : Option ShapeFault) → is_some o ≡ false → o ≡ None
 none_there None e = refl

@@ -1,9 +1,11 @@
 -- A collection of features that is read feature by feature.
-use Rattle.std.specs.Prelude.{ℕ, ◌≡◌, ◌≤◌, ⊤, Bool, true, false, List, ◌++◌, length, codes, All, Result, Ok, Err, IfOk, MatchOption, MatchResult}
+use Rattle.std.specs.Prelude.{ℕ, ◌≡◌, ◌≤◌, ⊤, Bool, true, false, List, ◌++◌, length, codes, All, None, Result, Ok, Err, IfOk, MatchOption, MatchResult, ◌⊎◌}
 use Rattle.std.specs.Str.{bytes_eq}
 use Rattle.json_read.specs.Grammar.{JsonText}
-use Rattle.json_read.specs.Json.{JsonValue, null, boolean, number, string, array, object}
+use Rattle.json_read.specs.Json.{JsonValue, FieldList, null, boolean, number, string, array, object}
+use Rattle.json_read.specs.Lists.{fields_list, value_named}
 use Rattle.json_read.specs.Seen.{json_value}
+use Rattle.json_read.specs.Taking.{IsReadOtherwise}
 use Rattle.geojson_io.specs.Features.{members}
 use Rattle.geojson_io.specs.Geometries.{type_of}
 use Rattle.geojson_io.specs.LayerContent.{LayerContent}
@@ -68,6 +70,15 @@ IsParsed places name positions features bytes (parsed.Value json) = JsonText 64 
 abbrev pub IsValueOf : List ℕ → Parsed → Type 0
 IsValueOf bytes (parsed.Features result) = ⊥
 IsValueOf bytes (parsed.Value json) = JsonText 64 bytes (json_value json)
+
+-- no features can be taken of the bytes: they are read otherwise, or are an object without features or of another type
+abbrev pub HaveNoFeatures : List ℕ → Type 0
+HaveNoFeatures bytes =
+    IsReadOtherwise 64 (codes "features") bytes ⊎ ((fields : FieldList) × JsonText 64 bytes (object fields) × ((value_named (codes "features") (fields_list fields) ≡ None) ⊎ (is_collection (object fields) ≡ false)))
+
+abbrev pub IsWholeOnlyOf : List ℕ → Parsed → Type 0
+IsWholeOnlyOf bytes (parsed.Features result) = ⊤
+IsWholeOnlyOf bytes (parsed.Value json) = HaveNoFeatures bytes
 
 abbrev pub ParsedIsSound : Parsed → Type 0
 ParsedIsSound (parsed.Features result) = IfOk result (λ layers. All LayerIsSound layers)

@@ -1,7 +1,7 @@
 ghost use Rattle.std.specs.Prelude.{◌≤◌, IfOk, IfErr};
 ghost use Rattle.grid_base.specs.Grid.{most_places};
 ghost use Rattle.json_read.specs.Faults.{FaultFits};
-ghost use Rattle.geojson_io.specs.Taking.{AreLayersOf, IsParsed, IsValueOf, ParsedIsSound};
+ghost use Rattle.geojson_io.specs.Taking.{AreLayersOf, IsParsed, IsValueOf, IsWholeOnlyOf, ParsedIsSound};
 
 use crate::fault::ShapeFault;
 use crate::layer::{GeoLayers, Room};
@@ -80,6 +80,7 @@ pub fn parse_features(
     ensures ok { IfOk result (IsParsed places name.now room.positions room.features bytes.now) }
     ensures fault { IfErr result (FaultFits 64 bytes.now) }
     ensures sound { IfOk result ParsedIsSound }
+    ensures whole { IfOk result (IsWholeOnlyOf bytes.now) }
 {
     let mut taker = FeatureTaker {
         alloc,
