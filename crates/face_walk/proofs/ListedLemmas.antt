@@ -1,13 +1,14 @@
 -- Signed arcs beside the faces on their left: those of one face stand together, and a stable sort by faces keeps their order.
-use Rattle.std.proofs.Common.{◌≡◌, inl, inr, refl, sym, ap, ◌∙◌, arith, ℕ, suc, ◌+◌, ◌-◌, ◌*◌, ◌<◌, ◌≤◌, Bool, true, false, not, ◌&&◌, cond, List, [], ◌∷◌, ◌++◌, All, length, get_or, map, take, drop, length-drop, append-nil}
+use Rattle.std.proofs.Common.{◌≡◌, inl, inr, refl, sym, ap, ◌∙◌, subst, arith, ℕ, suc, ◌+◌, ◌-◌, ◌*◌, ◌<◌, ◌≤◌, Bool, true, false, not, ◌&&◌, cond, List, [], ◌∷◌, ◌++◌, All, length, get_or, map, take, drop, length-drop, append-nil}
 use Rattle.std.specs.Prelude.{filter, nat_eq, nat_lt}
 use Rattle.std.specs.Ordering.{nat_cmp, is_lt}
 use Rattle.std.specs.Cmp.{nat_cmp_is}
 use Rattle.std.specs.declared.cmp.Ordering.TheVariants.{Less, Equal, Greater}
 use Rattle.std.specs.List.Sorted.{IsNonDecreasingBy, IsPartitionedBy, IsPartitionPoint, IsStableByKey, ties}
 use Rattle.std.proofs.lemmas.Bool.{cases_order, eqb-true, eq-eqb, ne_eqb, ltb-true, ltb-false}
-use Rattle.std.proofs.lemmas.List.{append_assoc, map-append, get_or-map, length-map, get_or-take, get_or-drop, length-take-le, take-append-drop}
+use Rattle.std.proofs.lemmas.List.{append_assoc, map-append, get_or-map, length-map, get_or-take, get_or-drop, length-take-le, take_all, take-append-drop}
 use Rattle.std.proofs.lemmas.List.Elements.{filter-append}
+use Rattle.std.proofs.lemmas.List.Sorted.{IsPartitionedBy-ltb}
 use Rattle.plane_model.specs.Arcs.{SignedArc, forward, backward}
 use Rattle.face_walk.specs.Places.{place_of, face_left_of, has_left, signed_below, arcs_with_left}
 use Rattle.face_walk.specs.Sides.{HasLeft, AreInOrder, AreListed}
@@ -38,20 +39,45 @@ filter_mapped {X} {Y} g p (x ∷ xs) = go (p (g x)) (filter_mapped g p xs)
 
 -- ---- the run of one face
 
-pub by_same : (faces : List ℕ) (f first : ℕ) → IsNonDecreasingBy (λ (g : ℕ). g) faces → first ≤ length faces → IsPartitionPoint (λ (g : ℕ). nat_lt g f ≡ true) (λ (g : ℕ). nat_lt g f ≡ false) faces first →
-    IsPartitionedBy (λ (g : ℕ). nat_eq g f) (drop first faces)
-by_same faces f first up bound at_first i j d l m e =
-    let size = length-drop first faces in
-    let gi = get_or-drop first faces i d in
-    let gj = get_or-drop first faces j d in
-    let low = ltb-false (get_or faces (first + i) d) f (at_first.1 (first + i) d (omega arith) (omega arith)) in
-    let mid = up (first + i) (first + j) d (omega arith) (omega arith) in
-    let top = eqb-true (get_or (drop first faces) j d) f e in
-    eq-eqb (get_or (drop first faces) i d) f (omega arith)
+-- faces in order from `first` to before `first + count` are f, and no others are
+pub record IsRunOf (faces : List ℕ) (f first count : ℕ) : Type 0 where
+  pub bound : first ≤ length faces
+  pub at_first : IsPartitionPoint (λ (g : ℕ). nat_lt g f ≡ true) (λ (g : ℕ). nat_lt g f ≡ false) faces first
+  pub count_bound : count ≤ length (drop first faces)
+  pub at_count : IsPartitionPoint (λ (g : ℕ). nat_eq g f ≡ true) (λ (g : ℕ). nat_eq g f ≡ false) (drop first faces) count
 
-module _ (faces : List ℕ) (arcs : List SignedArc) (key : SignedArc → ℕ) (is : faces ≡ map key arcs) (f first count : ℕ) (bound : first ≤ length faces)
-    (at_first : IsPartitionPoint (λ (g : ℕ). nat_lt g f ≡ true) (λ (g : ℕ). nat_lt g f ≡ false) faces first) (count_bound : count ≤ length (drop first faces))
-    (at_count : IsPartitionPoint (λ (g : ℕ). nat_eq g f ≡ true) (λ (g : ℕ). nat_eq g f ≡ false) (drop first faces) count) where
+-- the first face that is not below f is found in all of them, and the first that is not below f + 1 in the rest
+pub run_found : (faces : List ℕ) (f first count : ℕ) → IsNonDecreasingBy (λ (g : ℕ). g) faces → first ≤ length faces
+    → (IsPartitionedBy (λ (g : ℕ). nat_lt g f) faces → IsPartitionPoint (λ (g : ℕ). nat_lt g f ≡ true) (λ (g : ℕ). nat_lt g f ≡ false) faces first)
+    → count ≤ length (take (length faces - first) (drop first faces))
+    → (IsPartitionedBy (λ (g : ℕ). nat_lt g (f + 1)) (take (length faces - first) (drop first faces))
+    → IsPartitionPoint (λ (g : ℕ). nat_lt g (f + 1) ≡ true) (λ (g : ℕ). nat_lt g (f + 1) ≡ false) (take (length faces - first) (drop first faces)) count)
+    → IsRunOf faces f first count
+run_found faces f first count up bound first_found within rest_found =
+    let size = length-drop first faces in
+    let rest_is : take (length faces - first) (drop first faces) ≡ drop first faces = take_all (length faces - first) (drop first faces) (omega arith) in
+    let count_bound : count ≤ length (drop first faces) = subst (λ (xs : List ℕ). count ≤ length xs) rest_is within in
+    let at_first : IsPartitionPoint (λ (g : ℕ). nat_lt g f ≡ true) (λ (g : ℕ). nat_lt g f ≡ false) faces first = first_found (IsPartitionedBy-ltb (λ (g : ℕ). g) faces f up) in
+    let rest_up : IsNonDecreasingBy (λ (g : ℕ). g) (drop first faces) =
+    λ i j d l m. (let gi = get_or-drop first faces i d in let gj = get_or-drop first faces j d in let h = up (first + i) (first + j) d (omega arith) (omega arith) in omega arith) in
+    let next : IsPartitionPoint (λ (g : ℕ). nat_lt g (f + 1) ≡ true) (λ (g : ℕ). nat_lt g (f + 1) ≡ false) (drop first faces) count =
+    subst (λ (xs : List ℕ). IsPartitionPoint (λ (g : ℕ). nat_lt g (f + 1) ≡ true) (λ (g : ℕ). nat_lt g (f + 1) ≡ false) xs count) rest_is
+    (rest_found (subst (λ (xs : List ℕ). IsPartitionedBy (λ (g : ℕ). nat_lt g (f + 1)) xs) (sym rest_is) (IsPartitionedBy-ltb (λ (g : ℕ). g) (drop first faces) (f + 1) rest_up))) in
+    record {
+      bound = bound;
+      at_first = at_first;
+      count_bound = count_bound;
+      at_count = (
+        (λ k d a l.
+            (let g = get_or-drop first faces k d in
+            let low = ltb-false (get_or faces (first + k) d) f (at_first.1 (first + k) d (omega arith) (omega arith)) in
+            let high = ltb-true (get_or (drop first faces) k d) (f + 1) (next.0 k d a l) in
+            eq-eqb (get_or (drop first faces) k d) f (omega arith))),
+        (λ k d a l. (let high = ltb-false (get_or (drop first faces) k d) (f + 1) (next.1 k d a l) in ne_eqb (get_or (drop first faces) k d) f (λ same. omega arith))),
+      );
+    }
+
+module _ (faces : List ℕ) (arcs : List SignedArc) (key : SignedArc → ℕ) (is : faces ≡ map key arcs) (f first count : ℕ) (run : IsRunOf faces f first count) where
   abbrev test : SignedArc → Bool
   test a = nat_eq (key a) f
 
@@ -78,14 +104,14 @@ module _ (faces : List ℕ) (arcs : List SignedArc) (key : SignedArc → ℕ) (i
       let size = length-take-le first arcs (omega arith) in
       let g = get_or-take first arcs k d (omega arith) in
       let e = key_at k d (omega arith) in
-      let low = ltb-true (get_or faces k 0) f (at_first.0 k 0 (omega arith) (omega arith)) in
+      let low = ltb-true (get_or faces k 0) f (run.at_first.0 k 0 (omega arith) (omega arith)) in
       (λ i. test (g i)) ∙ ne_eqb (key (get_or arcs k d)) f (λ same. omega arith)
 
   inside : All (λ (a : SignedArc). test a ≡ true) (take count rest)
   inside k d l =
       let n = rest_size in
       let size = length-take-le count rest (omega arith) in
-      (λ i. test (get_or-take count rest k d (omega arith) i)) ∙ (λ i. nat_eq (rest_key k d (omega arith) i) f) ∙ at_count.0 k 0 (omega arith) (omega arith)
+      (λ i. test (get_or-take count rest k d (omega arith) i)) ∙ (λ i. nat_eq (rest_key k d (omega arith) i) f) ∙ run.at_count.0 k 0 (omega arith) (omega arith)
 
   pub all_of_one : All (λ (a : SignedArc). key a ≡ f) (take count rest)
   all_of_one k d l = eqb-true (key (get_or (take count rest) k d)) f (inside k d l)
@@ -94,7 +120,7 @@ module _ (faces : List ℕ) (arcs : List SignedArc) (key : SignedArc → ℕ) (i
   after k d l =
       let n = rest_size in
       let size = length-drop count rest in
-      (λ i. test (get_or-drop count rest k d i)) ∙ (λ i. nat_eq (rest_key (count + k) d (omega arith) i) f) ∙ at_count.1 (count + k) 0 (omega arith) (omega arith)
+      (λ i. test (get_or-drop count rest k d i)) ∙ (λ i. nat_eq (rest_key (count + k) d (omega arith) i) f) ∙ run.at_count.1 (count + k) 0 (omega arith) (omega arith)
 
   pub run_of_one : take count rest ≡ filter test arcs
   run_of_one =

@@ -7,7 +7,7 @@ pub record AreAllBelow (count : ℕ) (numbers : List ℕ) : Type 0 where
   pub below : All (λ n. n < count) numbers
   pub used : (n : ℕ) → n < count → has nat_eq numbers n ≡ true
 
--- So many numbers are given to the elements of classes: one to each class, a lesser one to a class with a lesser least number, and none is left out.
+-- The numbers below a count are given to the elements of classes: one to each class, a lesser one to a class with a lesser least number, and none is left out.
 pub record IsNumbering (classes numbers : List ℕ) (count : ℕ) : Type 0 where
   pub each : length numbers ≡ length classes
   pub same : (j k : ℕ) → j < length classes → k < length classes → (slice_index numbers j ≡ slice_index numbers k) ↔ (slice_index classes j ≡ slice_index classes k)

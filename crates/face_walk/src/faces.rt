@@ -12,7 +12,7 @@ use crate::numbering::{FaceSide, Numbering, arcs_of, faces_of, numbering_of, sid
 use crate::places::{MAX_ARCS, OUTSIDE, place_of};
 use crate::rays::{LinkSearch, join_rays};
 use crate::sectors::join_sectors;
-use crate::side_places::{count_of, first_from, start_at, starts_of};
+use crate::side_places::{first_from, start_at, starts_of};
 use arc_table::ArcTable;
 use grid_base::{FaceId, Pt, SignedArc};
 use std::alloc::{AllocError, Global};
@@ -184,8 +184,8 @@ fn arcs_left<'a>(faces: &[u32], arcs: &'a [SignedArc], f: u32, starts: &[u32]) -
 {
     let start = start_at(starts, f);
     let next = start_at(starts, f.wrapping_add(1));
-    let first = first_from(faces, f, start);
-    let count = count_of(&faces[first..], f, next.wrapping_sub(start));
+    let first = first_from(faces, f as u64, start);
+    let count = first_from(&faces[first..], f as u64 + 1, next.wrapping_sub(start));
     &arcs[first..first + count]
 }
 

@@ -26,7 +26,7 @@ impl Model for Joining {
 }
 
 impl Joining {
-    /// So many numbers, each in a class of its own.
+    /// The numbers from 0 to below `count`, each in a class of its own.
     pub fn new(alloc: Global, count: u32) -> Result<Joining, AllocError>
         ensures count { IfOk result (λ j. length j ≡ count) }
         ensures alone { IfOk result AreAlone }

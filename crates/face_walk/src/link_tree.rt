@@ -36,16 +36,16 @@ enum Cut {
     Along(u32),
 }
 
-/// So many steps at most lead to a part with few links.
+/// The greatest number of steps that lead to a part with few links.
 pub const MAX_STEPS: u32 = 100;
 
-// So few links are not parted.
+// The greatest number of links that are not parted.
 const FEW: usize = 32;
 
 // The number of links that are tried for a cut.
 const CANDIDATES: u64 = 5;
 
-// Among this number of links of the list.
+// How many links of the list these are chosen among.
 const SAMPLE: u64 = 9;
 
 /// The topmost link below `p`, of `best` and the links of a tree.

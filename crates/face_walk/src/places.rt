@@ -6,7 +6,7 @@ use grid_base::SignedArc;
 /// The number of the place outside of all arcs.
 pub const OUTSIDE: u32 = 0;
 
-/// So many arcs at most have places.
+/// The greatest number of arcs that have places.
 pub const MAX_ARCS: u32 = 2_000_000_000;
 
 /// The number of the place left of a signed arc.

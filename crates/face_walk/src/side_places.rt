@@ -1,4 +1,4 @@
-ghost use Rattle.std.specs.Prelude.{◌≡◌, ◌-◌, ◌<◌, ◌≤◌, true, false, length, nat_eq, nat_lt, slice_index};
+ghost use Rattle.std.specs.Prelude.{◌≡◌, ◌-◌, ◌<◌, ◌≤◌, true, false, length, nat_lt, slice_index};
 ghost use Rattle.std.specs.List.Sorted.{IsPartitionedBy, IsPartitionPoint};
 
 use std::alloc::{AllocError, Global};
@@ -31,7 +31,7 @@ pub fn start_at(starts: &[u32], f: u32) -> usize {
 }
 
 /// The place of the first of faces in order that is not below `f`, looked for at `guess` first.
-pub fn first_from(faces: &[u32], f: u32, guess: usize) -> usize
+pub fn first_from(faces: &[u32], f: u64, guess: usize) -> usize
     ensures bound { result ≤ length faces.now }
     ensures exact { IsPartitionedBy (λ g. nat_lt g f) faces.now → IsPartitionPoint (λ g. nat_lt g f ≡ true) (λ g. nat_lt g f ≡ false) faces.now result }
 {
@@ -41,33 +41,17 @@ pub fn first_from(faces: &[u32], f: u32, guess: usize) -> usize
     {
         return guess;
     }
-    faces.partition_point(|g| *g < f)
+    faces.partition_point(|g| (*g as u64) < f)
 }
 
-/// How many of faces in order are `f`, where none is below it; `guess` is tried first.
-pub fn count_of(faces: &[u32], f: u32, guess: usize) -> usize
-    ensures bound { result ≤ length faces.now }
-    ensures exact { IsPartitionedBy (λ g. nat_eq g f) faces.now → IsPartitionPoint (λ g. nat_eq g f ≡ true) (λ g. nat_eq g f ≡ false) faces.now result }
+fn is_below(g: u32, f: u64) -> bool
+    ensures exact { result ≡ nat_lt g f }
 {
-    if guess <= faces.len() && is_same_before(faces, f, guess) && is_none_same_at(faces, f, guess) {
-        return guess;
-    }
-    faces.partition_point(|g| *g == f)
+    (g as u64) < f
 }
 
-fn is_below(g: u32, f: u32) -> bool
-    ensures { result ≡ nat_lt g f }
-{
-    g < f
-}
-
-fn is_same(g: u32, f: u32) -> bool
-    ensures { result ≡ nat_eq g f }
-{
-    g == f
-}
-
-fn is_below_before(faces: &[u32], f: u32, k: usize) -> bool
+// Whether the face before a place, if there is one, is below `f`.
+fn is_below_before(faces: &[u32], f: u64, k: usize) -> bool
     requires { k ≤ length faces.now }
     ensures { result ≡ true → 0 < k → nat_lt (slice_index faces.now (k - 1)) f ≡ true }
 {
@@ -77,35 +61,14 @@ fn is_below_before(faces: &[u32], f: u32, k: usize) -> bool
     is_below(faces[k - 1], f)
 }
 
-fn is_none_below_at(faces: &[u32], f: u32, k: usize) -> bool
+// Whether the face at a place, if there is one, isn't below `f`.
+fn is_none_below_at(faces: &[u32], f: u64, k: usize) -> bool
     ensures { result ≡ true → k < length faces.now → nat_lt (slice_index faces.now k) f ≡ false }
 {
     if k >= faces.len() {
         return true;
     }
     if is_below(faces[k], f) {
-        return false;
-    }
-    true
-}
-
-fn is_same_before(faces: &[u32], f: u32, k: usize) -> bool
-    requires { k ≤ length faces.now }
-    ensures { result ≡ true → 0 < k → nat_eq (slice_index faces.now (k - 1)) f ≡ true }
-{
-    if k == 0 {
-        return true;
-    }
-    is_same(faces[k - 1], f)
-}
-
-fn is_none_same_at(faces: &[u32], f: u32, k: usize) -> bool
-    ensures { result ≡ true → k < length faces.now → nat_eq (slice_index faces.now k) f ≡ false }
-{
-    if k >= faces.len() {
-        return true;
-    }
-    if is_same(faces[k], f) {
         return false;
     }
     true

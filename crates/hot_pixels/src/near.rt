@@ -38,7 +38,7 @@ const SHORT_RUN: usize = 8;
 // A run is this many times as long as its parts.
 const PARTS: usize = 4;
 
-// So many lengths of runs there are: the longest has 33,554,432 points.
+// How many lengths of runs there are: the longest has 33,554,432 points.
 const LEVELS: u32 = 12;
 
 const LONGEST_RUN: usize = 33_554_432;

@@ -7,13 +7,13 @@ use crate::pairs::{add_crossings_among, spot_at};
 use grid_base::{Pt, Seg, turn};
 use std::alloc::{AllocError, Global};
 
-/// So many lines at most part the segments of a bucket, one after the other.
+/// The greatest number of lines that part the segments of a bucket, one after the other.
 pub const MAX_LINES: u32 = 40;
 
-// So few segments are tried pair by pair.
+// The greatest number of segments that are tried pair by pair.
 const FEW: usize = 64;
 
-// So many segments are looked at for a line.
+// How many segments are looked at for a line.
 const SAMPLE: u64 = 9;
 
 /// Adds the pixels of the crossings among spots with these numbers to `points`, some of them often.
