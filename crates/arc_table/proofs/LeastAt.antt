@@ -15,10 +15,11 @@ use Rattle.std.proofs.lemmas.List.Sorted.{sorted_far, Contains-permutation, IsPe
 use Rattle.lists.proofs.Members.{Contains-map, map-Contains}
 use Rattle.plane_model.specs.Points.{GridPoint, Path, same_point}
 use Rattle.plane_model.proofs.PointOrder.{clash, same_point_from, same_point_to}
-use Rattle.arc_table.specs.Steps.{point_cmp}
+use Rattle.grid_base.specs.Order.{point_cmp}
+use Rattle.grid_base.proofs.PointSearch.{point_cmp-total}
 use Rattle.arc_table.specs.Lookup.{HasVertex, IsArcAt, IsFirstAt, AreVertices, vertices_below, vertex_cmp}
 use Rattle.arc_table.specs.declared.vertices.ArcVertex.{ArcVertex}
-use Rattle.arc_table.proofs.StepSearch.{point_cmp-total, first_counts}
+use Rattle.arc_table.proofs.StepSearch.{first_counts}
 use Rattle.arc_table.proofs.Others.{same_from_both}
 
 vertex_cmp-total : IsTotalOrder vertex_cmp

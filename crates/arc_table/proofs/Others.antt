@@ -2,19 +2,19 @@
 use Rattle.std.proofs.Common.{◌≡◌, ◌⊎◌, inl, inr, refl, sym, ap, ◌∙◌, subst, arith, ℕ, ◌+◌, ◌-◌, ◌<◌, ◌≤◌, true, false, List, [], ◌∷◌, ◌++◌, length, get_or, Some, None, Option, IfSome, Contains, Ordering}
 use Rattle.std.specs.Prelude.{◌≢◌}
 use Rattle.std.proofs.Math.ListN.{get_or-append}
-use Rattle.std.specs.List.{HoldsAt}
-use Rattle.std.specs.List.Sorted.{IsSorted, IsNonDecreasingBy, IsPartitionPoint}
-use Rattle.std.specs.Ordering.{ordering_then, ordering_reverse, ordering_index, is_lt}
+use Rattle.std.specs.List.Sorted.{IsSorted}
+use Rattle.std.specs.Ordering.{ordering_then, ordering_reverse, is_lt}
 use Rattle.std.specs.declared.cmp.Ordering.TheVariants.{Less, Equal, Greater}
 use Rattle.std.proofs.lemmas.Bool.{cases_lt}
-use Rattle.std.proofs.lemmas.Cmp.{tied_itself}
 use Rattle.std.proofs.lemmas.List.MinMax.{ranks_by}
-use Rattle.std.proofs.lemmas.List.Sorted.{sorted_far, searchable_from_sorted}
+use Rattle.std.proofs.lemmas.List.Sorted.{sorted_far}
 use Rattle.std.proofs.lemmas.Option.{slice_get-get_or, slice_get_cases, get_or_from_slice_get}
 use Rattle.plane_model.specs.Points.{GridPoint, Segment, same_point, is_before}
 use Rattle.plane_model.proofs.PointOrder.{clash, same_point_from, same_point_to}
-use Rattle.arc_table.specs.Steps.{point_cmp, step_cmp, StartsAt, IsOther, IsOtherAt, LeadsOn, IsOnward, AreOnward}
-use Rattle.arc_table.proofs.StepSearch.{point_cmp-total, step_cmp-total, same_point_is, not_before}
+use Rattle.grid_base.specs.Order.{point_cmp}
+use Rattle.grid_base.proofs.PointSearch.{point_cmp-total, equal_is}
+use Rattle.arc_table.specs.Steps.{step_cmp, StartsAt, IsOther, IsOtherAt, LeadsOn, IsOnward, AreOnward}
+use Rattle.arc_table.proofs.StepSearch.{step_cmp-total, not_before}
 
 pub starts_yes : (p q : GridPoint) → same_point p q ≡ true → p ≡ q
 starts_yes p q e = same_point_from p q e
@@ -41,7 +41,7 @@ same_from_both p q e f = go (point_cmp p q) (point_cmp q p) refl e f (point_cmp-
   where
     go : (a b : Ordering) → point_cmp p q ≡ a → is_lt a ≡ false → is_lt b ≡ false → a ≡ ordering_reverse b → p ≡ q
     go Less b g e f h = absurd (cc)
-    go Equal b g e f h = same_point_is p q g
+    go Equal b g e f h = equal_is p q g
     go Greater Less g e f h = absurd (cc)
     go Greater Equal g e f h = absurd (cc)
     go Greater Greater g e f h = absurd (cc)
@@ -143,22 +143,6 @@ module _ (steps : List Segment) (up : IsSorted step_cmp steps) where
   pub other_either : (h : ℕ) (r : Option ℕ) → IfSome r (IsOther steps h) → (r ≡ None → IsOther steps h (h - 1) → ⊥) → (IsOther steps h (h + 1) → ⊥) → IsOtherAt steps h r
   other_either h (Some k) other before after = other
   other_either h None other before after = none_beside h after (before refl)
-
--- ---- a turn looked for
-
-module _ (points : List GridPoint) (p : GridPoint) where
-  pub point_found : (i : ℕ) → i < length points → HoldsAt (λ (q : GridPoint). point_cmp q p ≡ Equal) points i → Contains points p
-  point_found i l h = (i, l, same_point_is (get_or points i p) p (h p))
-
-  pub point_misses : IsSorted point_cmp points → (i : ℕ)
-      → (IsNonDecreasingBy (λ (q : GridPoint). ordering_index (point_cmp q p)) points → IsPartitionPoint (λ (q : GridPoint). point_cmp q p ≡ Less) (λ (q : GridPoint). point_cmp q p ≡ Greater) points i) → Contains points p → ⊥
-  point_misses up i h c =
-      let s = h (searchable_from_sorted point_cmp-total (λ (q : GridPoint). q) points p up) in
-      let itself = tied_itself point_cmp-total p in
-      elim (cases_lt c.0 i) [
-        | inl m ↦ (let e : Less ≡ Equal = sym (subst (λ (q : GridPoint). point_cmp q p ≡ Less) c.2 (s.0 c.0 p (omega arith) m)) ∙ itself in absurd (cc))
-        | inr m ↦ (let e : Greater ≡ Equal = sym (subst (λ (q : GridPoint). point_cmp q p ≡ Greater) c.2 (s.1 c.0 p m c.1)) ∙ itself in absurd (cc))
-      ]
 
 -- ---- steps onward
 

@@ -7,7 +7,7 @@ use Rattle.std.specs.Ordering.{ordering_then, ordering_index, is_lt, nat_cmp, Ma
 use Rattle.std.specs.declared.cmp.Ordering.TheVariants.{Less, Equal, Greater}
 use Rattle.std.specs.Cmp.{IsTotalOrder}
 use Rattle.std.proofs.lemmas.Bool.{cases_lt, false_from_ne_true}
-use Rattle.std.proofs.lemmas.Cmp.{int_cmp_total, on_total, then_total, int_ranked, tied_itself}
+use Rattle.std.proofs.lemmas.Cmp.{on_total, then_total, int_ranked, tied_itself}
 use Rattle.std.proofs.lemmas.List.{get_or-map, length-map}
 use Rattle.std.proofs.lemmas.List.Sorted.{searchable_from_sorted, Contains-permutation, IsPermutation-sym}
 use Rattle.std.proofs.lemmas.Option.{slice_get-get_or, slice_get_cases, get_or_from_slice_get}
@@ -18,24 +18,13 @@ use Rattle.lists.proofs.Members.{Contains-map, map-Contains}
 use Rattle.plane_model.specs.Points.{GridPoint, Segment, same_point, is_before, reversed}
 use Rattle.plane_model.specs.Arrangement.{IsBefore}
 use Rattle.plane_model.proofs.PointOrder.{point_is, segment_is, same_point_from, before_to, is_before-IsStrictOrder}
-use Rattle.arc_table.specs.Steps.{point_cmp, step_cmp, AreSteps, HasBoth, AreTwins}
+use Rattle.grid_base.specs.Order.{point_cmp}
+use Rattle.grid_base.proofs.PointSearch.{point_cmp-total, equal_is}
+use Rattle.arc_table.specs.Steps.{step_cmp, AreSteps, HasBoth, AreTwins}
 use Rattle.arc_table.specs.declared.half_links.LinkedStep.{LinkedStep}
-
-pub point_cmp-total : IsTotalOrder point_cmp
-point_cmp-total = then_total (on_total (λ (p : GridPoint). p.x) int_cmp_total) (on_total (λ (p : GridPoint). p.y) int_cmp_total)
 
 pub step_cmp-total : IsTotalOrder step_cmp
 step_cmp-total = then_total (on_total (λ (s : Segment). s.start) point_cmp-total) (on_total (λ (s : Segment). s.stop) point_cmp-total)
-
-pub same_point_is : (p q : GridPoint) → point_cmp p q ≡ Equal → p ≡ q
-same_point_is p q e = go (int_cmp p.x q.x) (int_cmp p.y q.y) (int_ranked p.x q.x (int_cmp p.x q.x) refl) (int_ranked p.y q.y (int_cmp p.y q.y) refl) e
-  where
-    go : (a b : Ordering) → MatchOrdering a (p.x <ℤ q.x) (p.x ≡ q.x) (q.x <ℤ p.x) → MatchOrdering b (p.y <ℤ q.y) (p.y ≡ q.y) (q.y <ℤ p.y) → ordering_then a b ≡ Equal → p ≡ q
-    go Less b h k e = absurd cc
-    go Equal Less h k e = absurd cc
-    go Equal Equal h k e = point_is p q h k
-    go Equal Greater h k e = absurd cc
-    go Greater b h k e = absurd cc
 
 pub not_before : (p q : GridPoint) → is_lt (point_cmp p q) ≡ false → is_before p q ≡ false
 not_before p q e = go (int_cmp p.x q.x) (int_cmp p.y q.y) (int_ranked p.x q.x (int_cmp p.x q.x) refl) (int_ranked p.y q.y (int_cmp p.y q.y) refl) e
@@ -56,7 +45,7 @@ same_step_is s t e = go (point_cmp s.start t.start) (point_cmp s.stop t.stop) re
     go : (a b : Ordering) → point_cmp s.start t.start ≡ a → point_cmp s.stop t.stop ≡ b → ordering_then a b ≡ Equal → s ≡ t
     go Less b f g e = absurd cc
     go Equal Less f g e = absurd cc
-    go Equal Equal f g e = segment_is s t (same_point_is s.start t.start f) (same_point_is s.stop t.stop g)
+    go Equal Equal f g e = segment_is s t (equal_is s.start t.start f) (equal_is s.stop t.stop g)
     go Equal Greater f g e = absurd cc
     go Greater b f g e = absurd cc
 

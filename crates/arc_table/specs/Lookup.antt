@@ -6,7 +6,8 @@ use Rattle.std.specs.declared.cmp.Ordering.{Ordering}
 use Rattle.plane_model.specs.Points.{GridPoint, Segment, Path}
 use Rattle.plane_model.specs.Drawing.{steps}
 use Rattle.plane_model.specs.Arcs.{SignedArc}
-use Rattle.arc_table.specs.Steps.{point_cmp, step_cmp}
+use Rattle.grid_base.specs.Order.{point_cmp}
+use Rattle.arc_table.specs.Steps.{step_cmp}
 use Rattle.arc_table.specs.Around.{signed_below, first_step}
 use Rattle.arc_table.specs.declared.vertices.ArcVertex.{ArcVertex}
 

@@ -5,8 +5,8 @@ use Rattle.std.specs.List.Sorted.{IsPermutation, IsSorted}
 use Rattle.lists.specs.Lists.{joined_up}
 use Rattle.plane_model.specs.Points.{GridPoint, Path, same_point}
 use Rattle.plane_model.specs.Drawing.{Drawing, rings_of}
+use Rattle.grid_base.specs.Order.{point_cmp}
 use Rattle.arc_table.specs.Direction.{point_at}
-use Rattle.arc_table.specs.Steps.{point_cmp}
 
 -- the points inside a path that have the same point before and after
 abbrev pub turns_back : Path → List GridPoint

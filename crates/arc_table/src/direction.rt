@@ -1,8 +1,7 @@
 ghost use Rattle.std.specs.Prelude.{◌≡◌, ◌<◌, length};
-ghost use Rattle.plane_model.specs.Points.{same_point, is_before};
 ghost use Rattle.arc_table.specs.Direction.{is_backward, in_direction, IsForward};
 
-use grid_base::Pt;
+use grid_base::{Pt, is_before, is_same};
 
 /// Turns the points of an arc round, where they go against its direction: from its lesser end, or where its ends
 /// are one, towards the lesser neighbour.
@@ -31,18 +30,4 @@ fn is_backward(points: &[Pt]) -> bool
     let last = points.len() - 1;
     is_before(points[last], points[0])
         || is_same(points[last], points[0]) && is_before(points[last - 1], points[1])
-}
-
-/// Whether `p` comes before `q`: points are ordered by x, then by y.
-pub fn is_before(p: Pt, q: Pt) -> bool
-    ensures { result ≡ is_before p q }
-{
-    p < q
-}
-
-/// Whether two points are equal, in x and in y.
-pub fn is_same(p: Pt, q: Pt) -> bool
-    ensures { result ≡ same_point p q }
-{
-    p == q
 }

@@ -4,9 +4,8 @@ ghost use Rattle.std.specs.Ordering.{is_lt};
 ghost use Rattle.arc_table.specs.Around.{signed_below, first_of, half_of, comes_round_first, comes_first};
 ghost use Rattle.plane_model.specs.Arcs.{goes_up};
 
-use crate::direction::{is_before, is_same};
 use crate::half_links::Step;
-use grid_base::{ArcId, Pt, SignedArc, turn};
+use grid_base::{ArcId, Pt, SignedArc, is_before, is_same, turn};
 use span_pool::{SpanId, SpanPool};
 use std::alloc::{AllocError, Global};
 use std::cmp::Ordering;

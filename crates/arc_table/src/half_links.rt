@@ -1,10 +1,10 @@
-ghost use Rattle.std.specs.Prelude.{◌≡◌, ◌≢◌, ◌+◌, ◌<◌, ◌≤◌, ◌^◌, ◌-◌, ◌++◌, true, false, All, Contains, IfOk, OnOk, OnSome, IfSome, None, length, slice_get, slice_index, vec_len, map};
+ghost use Rattle.std.specs.Prelude.{◌≡◌, ◌≢◌, ◌+◌, ◌<◌, ◌≤◌, ◌^◌, ◌-◌, ◌++◌, true, false, All, IfOk, OnOk, OnSome, IfSome, None, length, slice_get, slice_index, vec_len, map};
 ghost use Rattle.plane_model.specs.Points.{Segment, reversed};
 ghost use Rattle.std.specs.List.Sorted.{IsSorted};
-ghost use Rattle.arc_table.specs.Steps.{point_cmp, step_cmp, StartsAt, IsOther, IsOtherAt, LeadsOnAt, IsOnward, AreLinks, AreOnward, AreBothWays, NoneTurnsBack, AreProper, AreSteps, IsPlace, HasBoth, AreTwins};
+ghost use Rattle.grid_base.specs.Order.{point_cmp};
+ghost use Rattle.arc_table.specs.Steps.{step_cmp, StartsAt, IsOther, IsOtherAt, LeadsOnAt, IsOnward, AreLinks, AreOnward, AreBothWays, NoneTurnsBack, AreProper, AreSteps, IsPlace, HasBoth, AreTwins};
 
-use crate::direction::is_same;
-use grid_base::{Link, LinkList, Pt};
+use grid_base::{Link, LinkList, Pt, has_point, is_same};
 use std::alloc::{AllocError, Global};
 use std::marker::Model;
 
@@ -367,18 +367,6 @@ fn leads_on(steps: &[Step], turns: &[Pt], h: usize) -> Option<usize>
             }
         }
         None => None,
-    }
-}
-
-// The point is one of these, which stand in order.
-fn has_point(points: &[Pt], p: Pt) -> bool
-    requires sorted { IsSorted point_cmp points.now }
-    ensures yes { result ≡ true → Contains points.now p }
-    ensures no { result ≡ false → Contains points.now p → ⊥ }
-{
-    match points.binary_search(&p) {
-        Ok(_) => true,
-        Err(_) => false,
     }
 }
 

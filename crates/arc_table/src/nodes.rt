@@ -2,8 +2,7 @@ ghost use Rattle.std.specs.Prelude.{◌≡◌, ◌+◌, ◌++◌, ◌<◌, ◌�
 ghost use Rattle.std.specs.List.{flat_map};
 ghost use Rattle.arc_table.specs.Nodes.{AreTurns, ends_of, turns_at_start, turns_back, turns_of_drawing, turns_of_line, turns_of_ring};
 
-use crate::direction::is_same;
-use grid_base::{FeatId, Pt, PtList, RingsList, Snapped};
+use grid_base::{FeatId, Pt, PtList, RingsList, Snapped, is_same};
 use std::alloc::{AllocError, Global};
 
 /// The vertices where a line path starts or ends, or a path turns back, in order.

@@ -9,13 +9,12 @@ ghost use Rattle.arc_table.specs.Order.{AreNumbered};
 ghost use Rattle.arc_table.specs.PathArcs.{IsAloneAt};
 ghost use Rattle.arc_table.specs.WholeArcs.{IsWholeArc, StartsAtLeast};
 
-use crate::direction::{is_before, is_same};
 use crate::first_steps::{FirstStep, first_steps, turn_rows, turning};
 use crate::half_links::{Net, Step, place_of};
 use crate::nodes::turns_of;
 use crate::numbering::{pool_of, ways_of};
 use crate::vertices::{ArcVertex, least_at, vertices_in_order};
-use grid_base::{ArcId, Pt, SignedArc, Snapped};
+use grid_base::{ArcId, Pt, SignedArc, Snapped, is_before, is_same};
 use span_pool::{SpanId, SpanPool};
 use std::alloc::{AllocError, Global};
 use std::marker::Model;

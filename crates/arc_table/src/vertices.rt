@@ -2,8 +2,7 @@ ghost use Rattle.std.specs.Prelude.{◌≡◌, ◌++◌, IfOk, OnOk, map, length
 ghost use Rattle.std.specs.List.Sorted.{IsSorted};
 ghost use Rattle.arc_table.specs.Lookup.{AreVertices, IsFirstAt, vertices_below, vertex_cmp};
 
-use crate::direction::is_same;
-use grid_base::{ArcId, Pt};
+use grid_base::{ArcId, Pt, is_same};
 use span_pool::{SpanId, SpanPool};
 use std::alloc::{AllocError, Global};
 

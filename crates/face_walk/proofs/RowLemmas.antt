@@ -1,12 +1,9 @@
--- Links by their starts, and sorted points.
+-- Links by their starts.
 use Rattle.std.proofs.Common.{◌≡◌, ◌⊎◌, inl, inr, refl, sym, ap, ◌∙◌, subst, arith, ℕ, zero, suc, ◌+◌, ◌-◌, ◌<◌, ◌≤◌, Bool, true, false, cond, not, List, map, length, get_or, [], ◌∷◌, ◌++◌, pos, All, Some, Contains, Ordering}
-use Rattle.std.specs.List.{HoldsAt}
-use Rattle.std.specs.List.Sorted.{IsSorted, IsSortedBy, IsNonDecreasingBy, IsPartitionPoint}
-use Rattle.std.specs.Ordering.{ordering_then, ordering_index, ordering_reverse, is_lt}
-use Rattle.std.specs.declared.cmp.Ordering.TheVariants.{Less, Equal, Greater}
+use Rattle.std.specs.List.Sorted.{IsSorted, IsSortedBy}
+use Rattle.std.specs.Ordering.{ordering_then, is_lt}
 use Rattle.std.proofs.lemmas.Bool.{cases_lt}
-use Rattle.std.proofs.lemmas.Cmp.{tied_itself}
-use Rattle.std.proofs.lemmas.List.Sorted.{searchable_from_sorted, sorted_far}
+use Rattle.std.proofs.lemmas.List.Sorted.{sorted_far}
 use Rattle.std.proofs.lemmas.List.MinMax.{ranks_by}
 use Rattle.std.proofs.lemmas.List.{length-map, get_or-map}
 use Rattle.std.proofs.lemmas.List.Elements.{All-nil, All-cons, All-append, Contains-append_left, Contains-append_right}
@@ -14,41 +11,13 @@ use Rattle.std.proofs.lemmas.Option.{slice_get-get_or}
 use Rattle.plane_model.specs.Points.{GridPoint, same_point}
 use Rattle.plane_model.specs.Arcs.{forward}
 use Rattle.plane_model.proofs.PointOrder.{clash, same_point_from, same_point_to}
+use Rattle.grid_base.specs.Order.{point_cmp}
+use Rattle.grid_base.proofs.PointSearch.{point_cmp-total}
 use Rattle.face_walk.specs.Rays.{IsMinimum, IsFirstFrom, IsRay, AreRays}
 use Rattle.face_walk.specs.Rows.{starts_of, start_at, starts_row, AreByStart, IsFirstOfRow}
 use Rattle.face_walk.specs.declared.links.ArcLink.{ArcLink}
-use Rattle.arc_table.specs.Steps.{point_cmp}
-use Rattle.arc_table.proofs.StepSearch.{point_cmp-total, same_point_is}
-
-pub point_found : (xs : List GridPoint) (x : GridPoint) (i : ℕ) → i < length xs → HoldsAt (λ y. point_cmp y x ≡ Equal) xs i → Contains xs x
-point_found xs x i l h = (i, l, same_point_is (get_or xs i x) x (h x))
-
-pub point_misses : (xs : List GridPoint) (x : GridPoint) → IsSorted point_cmp xs → (i : ℕ)
-    → (IsNonDecreasingBy (λ y. ordering_index (point_cmp y x)) xs → IsPartitionPoint (λ y. point_cmp y x ≡ Less) (λ y. point_cmp y x ≡ Greater) xs i) → Contains xs x → ⊥
-point_misses xs x up i h c =
-    let s = h (searchable_from_sorted point_cmp-total (λ (y : GridPoint). y) xs x up) in
-    let itself = tied_itself point_cmp-total x in
-    elim (cases_lt c.0 i) [
-      | inl m ↦ (let e : Less ≡ Equal = sym (subst (λ (y : GridPoint). point_cmp y x ≡ Less) c.2 (s.0 c.0 x (omega arith) m)) ∙ itself in absurd (cc))
-      | inr m ↦ (let e : Greater ≡ Equal = sym (subst (λ (y : GridPoint). point_cmp y x ≡ Greater) c.2 (s.1 c.0 x m c.1)) ∙ itself in absurd (cc))
-    ]
-
--- ---- links by their starts
-
-neither : (p q : GridPoint) → is_lt (point_cmp p q) ≡ false → is_lt (point_cmp q p) ≡ false → p ≡ q
-neither p q h k = go (point_cmp p q) (point_cmp q p) refl refl (point_cmp-total.antisymm p q) h k
-  where
-    go : (a b : Ordering) → point_cmp p q ≡ a → point_cmp q p ≡ b → point_cmp p q ≡ ordering_reverse (point_cmp q p) → is_lt (point_cmp p q) ≡ false → is_lt (point_cmp q p) ≡ false → p ≡ q
-    go Less b e f r h k = absurd (let g : true ≡ false = ap is_lt (sym e) ∙ h in cc)
-    go Equal b e f r h k = same_point_is p q e
-    go Greater Less e f r h k = absurd (let g : true ≡ false = ap is_lt (sym f) ∙ k in cc)
-    go Greater Equal e f r h k = sym (same_point_is q p f)
-    go Greater Greater e f r h k = absurd (let g : Greater ≡ Less = sym e ∙ r ∙ ap ordering_reverse f in cc)
-
-first_counts : (o p : Ordering) → is_lt (ordering_then o p) ≡ false → is_lt o ≡ false
-first_counts Less p e = e
-first_counts Equal p e = refl
-first_counts Greater p e = refl
+use Rattle.arc_table.proofs.StepSearch.{first_counts}
+use Rattle.arc_table.proofs.Others.{same_from_both}
 
 -- what is sorted by starts first is sorted by starts
 pub by_start : (xs : List ArcLink) (then other : ArcLink → ArcLink → Ordering) → IsSorted (λ a b. ordering_then (ordering_then (point_cmp a.link.start b.link.start) (then a b)) (other a b)) xs → AreByStart xs
@@ -81,7 +50,7 @@ module _ (links : List ArcLink) (up : AreByStart links) where
 
   -- between two links from one vertex all links leave it
   between : (i m j : ℕ) → i ≤ m → m ≤ j → j < length links → start_at links i ≡ start_at links j → start_at links m ≡ start_at links i
-  between i m j l h k e = neither (start_at links m) (start_at links i) (never_back i m l (omega arith)) (subst (λ (p : GridPoint). is_lt (point_cmp p (start_at links m)) ≡ false) (sym e) (never_back m j h k))
+  between i m j l h k e = same_from_both (start_at links m) (start_at links i) (never_back i m l (omega arith)) (subst (λ (p : GridPoint). is_lt (point_cmp p (start_at links m)) ≡ false) (sym e) (never_back m j h k))
 
   -- where a row starts, no link before leaves its vertex
   none_before : (i j : ℕ) → starts_row links i ≡ true → j < i → i < length links → start_at links j ≡ start_at links i → ⊥

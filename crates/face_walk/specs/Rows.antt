@@ -3,7 +3,7 @@ use Rattle.std.specs.Prelude.{◌≡◌, ◌⊎◌, ℕ, zero, suc, pos, ◌≤�
 use Rattle.std.specs.List.Sorted.{IsPermutation, IsSorted}
 use Rattle.plane_model.specs.Points.{GridPoint, same_point, is_before, cross}
 use Rattle.arc_table.specs.Direction.{point_at}
-use Rattle.arc_table.specs.Steps.{point_cmp}
+use Rattle.grid_base.specs.Order.{point_cmp}
 use Rattle.face_walk.specs.declared.links.ArcLink.{ArcLink}
 
 -- the lesser ends of links, and the greater ones

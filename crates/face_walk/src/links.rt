@@ -1,11 +1,10 @@
 ghost use Rattle.std.specs.Prelude.{◌≡◌, ◌++◌, ◌<◌, All, IfOk, IfSome, OnOk, ℕ, length};
 ghost use Rattle.std.specs.Option.{option_to_list};
-ghost use Rattle.plane_model.specs.Points.{is_before};
 ghost use Rattle.face_walk.specs.Rows.{AreByStart, AreStops};
 ghost use Rattle.face_walk.specs.Rays.{AreLinksOf, HasGridEnds, IsOnTheGrid, box_of, boxes_of, greater, lesser, link_at, links_along};
 
 use arc_table::ArcTable;
-use grid_base::{ArcId, BoxList, Link, Pt, Rect, SignedArc};
+use grid_base::{ArcId, BoxList, Link, Pt, Rect, SignedArc, is_before};
 use std::alloc::{AllocError, Global};
 
 /// A link of an arc, and the signed arc that goes along it from its lesser to its greater end. They are ordered by
@@ -72,12 +71,6 @@ fn step_along(id: ArcId, from: Pt, to: Pt) -> Option<ArcLink>
         SignedArc::backward(id)
     };
     Some(ArcLink { link, along })
-}
-
-fn is_before(p: Pt, q: Pt) -> bool
-    ensures { result ≡ is_before p q }
-{
-    p < q
 }
 
 /// The boxes of links, in their order.

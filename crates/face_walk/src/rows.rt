@@ -1,12 +1,9 @@
-ghost use Rattle.std.specs.Prelude.{◌≡◌, ◌<◌, true, false, All, Contains, length};
-ghost use Rattle.std.specs.List.Sorted.{IsSorted};
-ghost use Rattle.arc_table.specs.Steps.{point_cmp};
-ghost use Rattle.plane_model.specs.Points.{same_point};
+ghost use Rattle.std.specs.Prelude.{◌≡◌, ◌<◌, true, false, All, length};
 ghost use Rattle.face_walk.specs.Rays.{HasGridEnds, IsMinimum};
 ghost use Rattle.face_walk.specs.Rows.{AreStops, IsFirstOfRow, IsFirstOfTwo, start_at, starts_row};
 
 use crate::links::ArcLink;
-use grid_base::{Pt, turn};
+use grid_base::{Pt, has_point, is_same, turn};
 
 /// Whether the link at a place is the first of those that leave its lesser end, and none arrives there.
 pub fn is_lowest(links: &[ArcLink], highs: &[Pt], i: usize) -> bool
@@ -25,24 +22,6 @@ fn starts_row(links: &[ArcLink], i: usize) -> bool
     ensures exact { result ≡ starts_row links.now i }
 {
     i == 0 || !is_same(links[i - 1].link.low(), links[i].link.low())
-}
-
-fn is_same(p: Pt, q: Pt) -> bool
-    ensures { result ≡ same_point p q }
-{
-    p == q
-}
-
-// Whether a point is among points in order.
-fn has_point(points: &[Pt], p: Pt) -> bool
-    requires sorted { IsSorted point_cmp points.now }
-    ensures yes { result ≡ true → Contains points.now p }
-    ensures no { result ≡ false → Contains points.now p → ⊥ }
-{
-    match points.binary_search(&p) {
-        Ok(_) => true,
-        Err(_) => false,
-    }
 }
 
 /// Of the links that leave one vertex, from the one at `i` on, the first counterclockwise from straight down.

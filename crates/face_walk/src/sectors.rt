@@ -1,6 +1,5 @@
 ghost use Rattle.std.specs.Prelude.{◌≡◌, ◌+◌, ◌*◌, ◌<◌, ◌≤◌, All, length};
 ghost use Rattle.arc_table.specs.Around.{IsTurned};
-ghost use Rattle.plane_model.specs.Points.{same_point};
 ghost use Rattle.face_walk.specs.Joining.{made_one};
 ghost use Rattle.face_walk.specs.Joins.{joined_by};
 ghost use Rattle.face_walk.specs.Places.{HasPlaces, place_of};
@@ -8,7 +7,7 @@ ghost use Rattle.face_walk.specs.Sectors.{arc_at, goes_on, place_right_of, secto
 
 use crate::joining::Joining;
 use crate::places::place_of;
-use grid_base::{Pt, SignedArc};
+use grid_base::{Pt, SignedArc, is_same};
 
 /// Joins round each vertex where arcs start the places of each sector between two arcs, of all signed arcs by their
 /// starts.
@@ -36,12 +35,6 @@ fn goes_on(starts: &[Pt], i: usize) -> bool
     ensures exact { result ≡ goes_on starts.now i }
 {
     i + 1 < starts.len() && is_same(starts[i], starts[i + 1])
-}
-
-fn is_same(p: Pt, q: Pt) -> bool
-    ensures { result ≡ same_point p q }
-{
-    p == q
 }
 
 // Joins the left of the arc at place `i` with the right of the one at place `next`.

@@ -1,3 +1,4 @@
 pub mod Bounds
+pub mod PointSearch
 pub mod LastLemmas
 pub mod RepeatLemmas

@@ -1,3 +1,4 @@
 pub mod Grid
+pub mod Order
 pub mod Sizes
 pub mod Drawn

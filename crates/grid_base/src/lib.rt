@@ -4,7 +4,8 @@
 //! `plane_model`, a `Seg` and a `Link` as a `Segment`, and a list as the list of its items.
 //!
 //! 1. `point`, `segment`, `link` and `area`: two grid numbers make a point, two points a segment, a link or a box; or
-//!    `None`, where they make none. `turn` says to which side three points turn.
+//!    `None`, where they make none. `turn` says to which side three points turn, and `is_before` which of two comes
+//!    first.
 //! 2. `numbers`, `signed_arc` and `kinds`: numbers of arcs, faces and features, directions of arcs, kinds of layers.
 //! 3. `list_types`: lists of points, paths, polygons, boxes, links and numbers.
 //! 4. `drawing` takes features and boxes one by one; `snapped` is a drawing after snapping, with its links.
@@ -30,7 +31,7 @@ pub use list_types::{
     BoxList, GroupList, IdList, LinkList, Path, PathList, PolygonRings, PtList, RingsList,
 };
 pub use numbers::{ArcId, FaceId, FeatId};
-pub use point::{Pt, determinant, step, turn};
+pub use point::{Pt, determinant, has_point, is_before, is_same, step, turn};
 pub use segment::Seg;
 pub use signed_arc::SignedArc;
 pub use snapped::Snapped;

@@ -1,6 +1,8 @@
-ghost use Rattle.std.specs.Prelude.{◌≡◌, ◌-ℤ◌, ◌*ℤ◌};
-ghost use Rattle.plane_model.specs.Points.{GridPoint, Segment, cross};
+ghost use Rattle.std.specs.Prelude.{◌≡◌, ◌-ℤ◌, ◌*ℤ◌, true, false, Contains};
+ghost use Rattle.std.specs.List.Sorted.{IsSorted};
+ghost use Rattle.plane_model.specs.Points.{GridPoint, Segment, cross, is_before, same_point};
 ghost use Rattle.grid_base.specs.Grid.{grid_point, IsOnGrid};
+ghost use Rattle.grid_base.specs.Order.{point_cmp};
 ghost use Rattle.grid_base.specs.Sizes.{IsStep, IsCross};
 
 use grid_bounds::LIMIT;
@@ -53,6 +55,34 @@ impl Pt {
         ensures bounded { IsOnGrid self.now }
     {
         self.y
+    }
+}
+
+/// Whether two points are equal, in x and in y.
+pub fn is_same(p: Pt, q: Pt) -> bool
+    ensures exact { result ≡ same_point p q }
+{
+    p == q
+}
+
+/// Whether `p` comes before `q`: points are ordered by x, then by y.
+pub fn is_before(p: Pt, q: Pt) -> bool
+    ensures exact { result ≡ is_before p q }
+{
+    p < q
+}
+
+/// Whether a point is among points in order.
+///
+/// Cost: a binary search.
+pub fn has_point(points: &[Pt], p: Pt) -> bool
+    requires sorted { IsSorted point_cmp points.now }
+    ensures yes { result ≡ true → Contains points.now p }
+    ensures no { result ≡ false → Contains points.now p → ⊥ }
+{
+    match points.binary_search(&p) {
+        Ok(_) => true,
+        Err(_) => false,
     }
 }
 

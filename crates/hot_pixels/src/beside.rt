@@ -1,12 +1,11 @@
 ghost use Rattle.std.specs.Prelude.{◌≡◌, true, false, None, IsTrue};
-ghost use Rattle.plane_model.specs.Points.{same_point};
 ghost use Rattle.plane_model.specs.Pixel.{meets, crossing_pixel};
 ghost use Rattle.hot_pixels.specs.Near.{is_outside};
 ghost use Rattle.hot_pixels.specs.Spots.{is_end, share_end};
 
 use crate::half_open::meets;
 use crate::pairs::{greater, lesser};
-use grid_base::{Pt, Seg};
+use grid_base::{Pt, Seg, is_same};
 
 /// Whether a and b are both below `low`, or both above `high`.
 pub fn is_outside(a: i64, b: i64, low: i64, high: i64) -> bool
@@ -46,12 +45,6 @@ pub fn is_met(s: &Seg, p: Pt) -> bool
         return false;
     }
     meets(s, p)
-}
-
-fn is_same(p: Pt, q: Pt) -> bool
-    ensures { result ≡ same_point p q }
-{
-    p == q
 }
 
 /// Whether a point is an end of a segment.

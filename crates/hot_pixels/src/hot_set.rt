@@ -15,7 +15,7 @@ use crate::near::{Run, along_curve, count_near, met_near, runs_over};
 use crate::pairs::{add_crossings, buckets_over};
 use crate::quiet::{Marking, append_ends, marks_of, with_ends};
 use crate::spots::spots_of;
-use grid_base::{Drawing, Pt, PtList, Seg};
+use grid_base::{Drawing, Pt, PtList, Seg, has_point};
 use std::alloc::{AllocError, Global};
 use std::marker::Model;
 
@@ -209,10 +209,7 @@ fn is_listed(points: &[Pt], p: Pt) -> bool
     requires { AllPairs (λ (q r : Point). IsTrue (is_before q r)) points.now }
     ensures { IsTrue result ↔ Contains points.now p }
 {
-    match points.binary_search(&p) {
-        Ok(_) => true,
-        Err(_) => false,
-    }
+    has_point(points, p)
 }
 
 fn copy_of(alloc: Global, points: &[Pt]) -> Result<Vec<Pt>, AllocError>

@@ -15,7 +15,7 @@ use Rattle.plane_model.specs.Points.{GridPoint, Path}
 use Rattle.plane_model.specs.Arcs.{SignedArc, points_of}
 use Rattle.arc_table.specs.Direction.{point_at}
 use Rattle.arc_table.specs.Around.{start_of}
-use Rattle.arc_table.specs.Steps.{point_cmp}
+use Rattle.grid_base.specs.Order.{point_cmp}
 use Rattle.ring_trace.specs.declared.pairing.Edge.{Edge}
 use Rattle.ring_trace.specs.declared.pairing.EdgeEnd.{EdgeEnd}
 use Rattle.ring_trace.specs.Rings.{edge_at}

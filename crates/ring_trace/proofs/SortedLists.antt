@@ -13,8 +13,8 @@ use Rattle.std.proofs.lemmas.List.Sums.{sum_by-cons}
 use Rattle.lists.proofs.Members.{Contains-head, Contains-later, Contains-cases}
 use Rattle.plane_model.specs.Points.{same_point}
 use Rattle.plane_model.proofs.PointOrder.{same_point_from, same_point_to}
-use Rattle.arc_table.specs.Steps.{point_cmp}
-use Rattle.arc_table.proofs.StepSearch.{point_cmp-total, same_point_is}
+use Rattle.grid_base.specs.Order.{point_cmp}
+use Rattle.grid_base.proofs.PointSearch.{point_cmp-total, equal_is}
 use Rattle.ring_trace.specs.Pairing.{Corner, same_corner, corner_cmp}
 
 abbrev pub tick : Bool → ℕ
@@ -111,7 +111,7 @@ tied_corner v w e = go (nat_cmp v.part w.part) (ranked v.part w.part (nat_cmp v.
   where
     go : (o : Ordering) → MatchOrdering o (v.part < w.part) (v.part ≡ w.part) (w.part < v.part) → nat_cmp v.part w.part ≡ o → ordering_then o (point_cmp v.point w.point) ≡ Equal → v ≡ w
     go Less l f h = absurd (cc)
-    go Equal l f h = corner_is v w l (same_point_is v.point w.point h)
+    go Equal l f h = corner_is v w l (equal_is v.point w.point h)
     go Greater l f h = absurd (cc)
 
 pub corner_itself : (v : Corner) → same_corner v v ≡ true

@@ -6,7 +6,7 @@ use Rattle.std.specs.declared.cmp.Ordering.{Ordering}
 use Rattle.plane_model.specs.Points.{GridPoint, Path, same_point}
 use Rattle.plane_model.specs.Arcs.{SignedArc}
 use Rattle.arc_table.specs.Around.{start_of}
-use Rattle.arc_table.specs.Steps.{point_cmp}
+use Rattle.grid_base.specs.Order.{point_cmp}
 use Rattle.ring_trace.specs.declared.joined_faces.Side.{Side}
 use Rattle.ring_trace.specs.declared.pairing.Edge.{Edge}
 use Rattle.ring_trace.specs.declared.pairing.EdgeEnd.{EdgeEnd}

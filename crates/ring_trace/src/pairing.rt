@@ -1,7 +1,6 @@
 ghost use Rattle.std.specs.Prelude.{◌≡◌, ◌<◌, ◌≤◌, ◌^◌, ℕ, All, IfOk, List, false, length, map, true};
 ghost use Rattle.std.specs.List.{range_with_len};
 ghost use Rattle.std.specs.List.Sorted.{IsPermutation, IsSorted, IsStrictlyIncreasing};
-ghost use Rattle.plane_model.specs.Points.{same_point};
 ghost use Rattle.face_walk.specs.Places.{FaceTable, IsBuiltOf};
 ghost use Rattle.ring_trace.specs.Boundary.{sides_of};
 ghost use Rattle.ring_trace.specs.Joined.{AreJoinedBy};
@@ -23,7 +22,7 @@ ghost use Rattle.ring_trace.specs.Rings.{edge_at};
 
 use crate::joined_faces::{Parts, Side};
 use arc_table::ArcTable;
-use grid_base::{Pt, SignedArc};
+use grid_base::{Pt, SignedArc, is_same};
 use std::alloc::{AllocError, Global};
 
 /// A signed arc of the boundary of a part, and where it starts. They are ordered by the part, then by the start.
@@ -157,10 +156,4 @@ fn is_same_start(a: Edge, b: Edge) -> bool
     ensures exact { result ≡ same_corner (start_corner a) (start_corner b) }
 {
     a.part == b.part && is_same(a.start, b.start)
-}
-
-fn is_same(p: Pt, q: Pt) -> bool
-    ensures exact { result ≡ same_point p q }
-{
-    p == q
 }

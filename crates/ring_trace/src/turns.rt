@@ -3,7 +3,6 @@
 ghost use Rattle.std.specs.Prelude.{◌≡◌, ◌+◌, ◌++◌, ◌-◌, ◌<◌, ◌≤◌, All, IfOk, OnOk, length, slice_index_or, int_lt, nat_lt, pos, if◌then◌else◌};
 ghost use Rattle.lists.specs.Lists.{without_last};
 ghost use Rattle.plane_model.specs.Arcs.{points_of};
-ghost use Rattle.plane_model.specs.Points.{is_before};
 ghost use Rattle.plane_model.specs.Rings.{turn_at_least};
 ghost use Rattle.ring_trace.specs.Keys.{arcs_along, edges_between};
 ghost use Rattle.ring_trace.specs.Rings.{IsSpan, IsWhole};
@@ -12,7 +11,7 @@ ghost use Rattle.ring_trace.specs.Turns.{IsFirstLeast, closed, points_along, rou
 use crate::pairing::Edge;
 use crate::simple_rings::{RingSpan, Rings};
 use arc_table::ArcTable;
-use grid_base::{Pt, SignedArc, turn};
+use grid_base::{Pt, SignedArc, is_before, turn};
 use std::alloc::{AllocError, Global};
 
 /// The points of a ring from one of its edges on, and the first of them again.
@@ -123,10 +122,4 @@ fn least_point(points: &[Pt]) -> usize
         }
     }
     least
-}
-
-fn is_before(p: Pt, q: Pt) -> bool
-    ensures { result ≡ is_before p q }
-{
-    p < q
 }

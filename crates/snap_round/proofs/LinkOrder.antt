@@ -12,7 +12,9 @@ use Rattle.std.proofs.lemmas.List.Sorted.{Contains-permutation, IsPermutation-sy
 use Rattle.lists.proofs.Ascending.{IsAscending}
 use Rattle.plane_model.specs.Points.{Segment, is_before, same_point, link_before}
 use Rattle.plane_model.proofs.PointOrder.{segment_is, same_point_to}
-use Rattle.hot_pixels.proofs.SortLemmas.{point_cmp, point_cmp-total, less_is, equal_is, both_equal, point_ties}
+use Rattle.grid_base.specs.Order.{point_cmp}
+use Rattle.grid_base.proofs.PointSearch.{point_cmp-total, less_is, equal_is}
+use Rattle.hot_pixels.proofs.SortLemmas.{both_equal, point_ties}
 
 abbrev pub link_cmp : Segment → Segment → Ordering
 link_cmp k l = ordering_then (point_cmp k.start l.start) (point_cmp k.stop l.stop)

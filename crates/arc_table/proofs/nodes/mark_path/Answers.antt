@@ -13,7 +13,7 @@ loop-i-preserved c =
     let b = c.index-path-i-in-loop-i.result in
     elim c.if-is_same.branch [
       | then-is_same+in_ok-push w ↦ with_turn path i old before a b (omega arith) (omega arith) c.index-path-i.is c.index-path-i-in-loop-i.is c.loop-i.invariant
-          c.if-is_same.turns.items w.index-path-i-then-is_same.result w.index-path-i-then-is_same.is (sym c.is_same.ensures ∙ w.if-is_same.true) ((λ j. (w.turns-is j).items) ∙ w.in_ok-push.ensures.items)
+          c.if-is_same.turns.items w.index-path-i-then-is_same.result w.index-path-i-then-is_same.is (sym c.is_same.ensures.exact ∙ w.if-is_same.true) ((λ j. (w.turns-is j).items) ∙ w.in_ok-push.ensures.items)
       | else-is_same w ↦ (λ j. (w.turns-is j).items)
-          ∙ (without_turn path i old before a b (omega arith) (omega arith) c.index-path-i.is c.index-path-i-in-loop-i.is c.loop-i.invariant (sym c.is_same.ensures ∙ w.if-is_same.false))
+          ∙ (without_turn path i old before a b (omega arith) (omega arith) c.index-path-i.is c.index-path-i-in-loop-i.is c.loop-i.invariant (sym c.is_same.ensures.exact ∙ w.if-is_same.false))
     ]

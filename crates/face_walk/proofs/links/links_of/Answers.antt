@@ -1,5 +1,5 @@
 use Rattle.std.specs.Ordering.{ordering_then, bool_cmp, nat_cmp}
-use Rattle.arc_table.specs.Steps.{point_cmp}
+use Rattle.grid_base.specs.Order.{point_cmp}
 use Rattle.face_walk.specs.declared.links.ArcLink.{ArcLink}
 use Rattle.face_walk.proofs.RowLemmas.{by_start}
 use Rattle.face_walk.proofs.links.links_of.Goals as goal

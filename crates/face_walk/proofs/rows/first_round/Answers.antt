@@ -40,7 +40,7 @@ returns-then-not-is_same c =
           | inr more ↦
               (let one : c.low.result ≡ c.low-in-loop-j.result =
               c.low.ensures.lesser ∙ ap (λ (x : ArcLink). x.link.start) (sym c.index-links-j.is) ∙ sym (start_is links j c.index-links-j.result l (sym c.index-links-j.is)) ∙ same j (omega arith) more ∙ sym h.leaves ∙ sym c.low-in-loop-j.ensures.lesser in
-              clash (same_point c.low.result c.low-in-loop-j.result) (same_point_to c.low.result c.low-in-loop-j.result one) (sym c.if-not-is_same.ensures))
+              clash (same_point c.low.result c.low-in-loop-j.result) (same_point_to c.low.result c.low-in-loop-j.result one) (sym c.if-not-is_same.ensures.exact))
         ];
       };
     }
@@ -56,7 +56,7 @@ loop-j-preserved c =
     let u = c.first_of_two-first.ensures.exact in
     let here : next.link.start ≡ start_at links c.args.i =
     sym (start_is links j next l (sym c.index-links-j-in-loop-j.is)) ∙ start_is links j c.index-links-j.result l (sym c.index-links-j.is) ∙ ap (λ (x : ArcLink). x.link.start) c.index-links-j.is ∙ sym c.low.ensures.lesser
-    ∙ same_point_from c.low.result c.low-in-loop-j.result (sym c.if-not-is_same.ensures) ∙ c.low-in-loop-j.ensures.lesser ∙ h.leaves in
+    ∙ same_point_from c.low.result c.low-in-loop-j.result (sym c.if-not-is_same.ensures.exact) ∙ c.low-in-loop-j.ensures.lesser ∙ h.leaves in
     record {
       there = elim u.one [
         | inl e ↦ subst (Contains links) (sym e) h.there

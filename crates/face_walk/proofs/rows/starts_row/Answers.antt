@@ -12,4 +12,4 @@ returns-else-i-eq0 c =
     let l = c.requires in
     let before : c.low.result ≡ start_at links (i - 1) = c.low.ensures.lesser ∙ ap (λ (x : ArcLink). x.link.start) (sym c.index-links-i.is) ∙ sym (start_is links (i - 1) c.index-links-i.result (omega arith) (sym c.index-links-i.is)) in
     let here : c.low-else-i-eq0.result ≡ start_at links i = c.low-else-i-eq0.ensures.lesser ∙ ap (λ (x : ArcLink). x.link.start) (sym c.index-links-i-else-i-eq0.is) ∙ sym (start_is links i c.index-links-i-else-i-eq0.result l (sym c.index-links-i-else-i-eq0.is)) in
-    record { exact = ap not c.is_same.ensures ∙ (λ t. not (same_point (before t) (here t))) ∙ sym (starts_row_at links i c.if-i-eq0.false) }
+    record { exact = ap not c.is_same.ensures.exact ∙ (λ t. not (same_point (before t) (here t))) ∙ sym (starts_row_at links i c.if-i-eq0.false) }

@@ -1,9 +1,10 @@
-use Rattle.std.proofs.Common.{refl}
-use Rattle.hot_pixels.proofs.SortLemmas.{search_found, search_misses}
+use Rattle.std.proofs.Common.{inl, inr}
+use Rattle.std.proofs.lemmas.Bool.{cases_Bool}
+use Rattle.hot_pixels.proofs.SortLemmas.{in_order}
 use Rattle.hot_pixels.proofs.hot_set.is_listed.Goals as goal
 
-pub returns-in-Ok : goal.returns-in-Ok
-returns-in-Ok c = ((λ _. search_found c.args.points.now c.args.p c.requires c.in-Ok.field-0 c.in-Ok.ensures.bound c.in-Ok.ensures.position), λ _. refl)
+pub has_point-requires : goal.has_point-requires
+has_point-requires c = record { sorted = in_order c.args.points.now c.requires }
 
-pub returns-in-Err : goal.returns-in-Err
-returns-in-Err c = ((λ e. absurd cc), λ w. search_misses c.args.points.now c.args.p c.requires c.in-Err.field-0 c.in-Err.ensures.position w)
+pub returns : goal.returns
+returns c = (c.has_point.ensures.yes, λ w. elim (cases_Bool c.has_point.result) [ inl e ↦ e | inr e ↦ absurd (c.has_point.ensures.no e w) ])

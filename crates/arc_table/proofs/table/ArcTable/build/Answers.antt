@@ -2,7 +2,8 @@ use Rattle.std.proofs.Common.{◌≡◌, List, All, map, sym, ap, subst, ◌∙�
 use Rattle.std.specs.List.Sorted.{IsSorted}
 use Rattle.plane_model.specs.Points.{Segment}
 use Rattle.plane_model.specs.Snapped.{links_of}
-use Rattle.arc_table.specs.Steps.{AreLinks, AreSteps, point_cmp}
+use Rattle.grid_base.specs.Order.{point_cmp}
+use Rattle.arc_table.specs.Steps.{AreLinks, AreSteps}
 use Rattle.arc_table.specs.Numbering.{arc_points}
 use Rattle.arc_table.specs.Along.{GoAlong}
 use Rattle.arc_table.specs.Nodes.{AreTurns}
