@@ -11,11 +11,12 @@ use Rattle.plane_algebra.proofs.Sign.{zero_or_less}
 use Rattle.plane_model.specs.Points.{GridPoint, at, step_x, turn}
 use Rattle.plane_model.specs.Parity.{is_over, is_below}
 use Rattle.plane_model.specs.Below.{rise, rises}
+use Rattle.grid_base.specs.Boxes.{lesser, greater, box_of}
 use Rattle.grid_base.specs.Grid.{Corners, greatest, least}
 use Rattle.bucket_grid.specs.Areas.{share_point, boxes_near}
 use Rattle.grid_base.specs.Grid.{IsOnGrid, is_on_grid, grid_point}
 use Rattle.bucket_grid.specs.Areas.{Holds}
-use Rattle.face_walk.specs.Rays.{lesser, greater, box_of, HasGridEnds, IsTopmostBelow, boxes_of}
+use Rattle.face_walk.specs.Rays.{HasGridEnds, IsTopmostBelow, boxes_of}
 use Rattle.face_walk.specs.Descent.{IsNotAbove, IsFound, IsBelowPoint, IsUpper, IsNextBelow, IsSettled, bottom_of, past_bottom}
 use Rattle.face_walk.specs.declared.links.ArcLink.{ArcLink}
 use Rattle.face_walk.proofs.UnderLemmas.{le_step, lt_step, under_chain, under_by, not_under_itself, not_both_under, passes_below, not_below}

@@ -1,11 +1,12 @@
 -- The links of arcs, and which of them a ray that goes straight down from a point meets first.
-use Rattle.std.specs.Prelude.{◌≡◌, ℕ, zero, suc, int_le, ℤ, pos, ◌≤ℤ◌, true, false, List, [], ◌++◌, filter_map, Contains, All, length, slice_index_or, map, Option, Some, None, if◌then◌else◌, IsTrue}
+use Rattle.std.specs.Prelude.{◌≡◌, ℕ, zero, suc, pos, ◌≤ℤ◌, true, false, List, [], ◌++◌, filter_map, Contains, All, length, slice_index_or, map, Option, Some, None, if◌then◌else◌, IsTrue}
 use Rattle.std.specs.List.Sorted.{IsPermutation}
 use Rattle.plane_model.specs.Points.{GridPoint, Segment, Path, at, same_point, is_before, link_between, cross}
 use Rattle.plane_model.specs.Drawing.{steps}
 use Rattle.plane_model.specs.Arcs.{forward, backward}
 use Rattle.plane_model.specs.Parity.{is_below}
 use Rattle.plane_model.specs.Below.{is_under}
+use Rattle.grid_base.specs.Boxes.{box_of}
 use Rattle.grid_base.specs.Grid.{Corners, IsOnGrid}
 use Rattle.face_walk.specs.PlaceNumbers.{place_of}
 use Rattle.face_walk.specs.Sectors.{place_right_of}
@@ -77,19 +78,6 @@ pub record AreRays (links : List ArcLink) (rays : List (ℕ × ℕ)) : Type 0 wh
   pub all : (l : ArcLink) → Contains links l → IsMinimum links l.link.start → (ray : ℕ × ℕ) × Contains rays ray × IsRay links l.link.start ray
 
 -- ---- boxes
-
-abbrev pub lesser : ℤ → ℤ → ℤ
-lesser m n = if int_le m n then m else n
-
-abbrev pub greater : ℤ → ℤ → ℤ
-greater m n = if int_le m n then n else m
-
--- the least rectangle that holds a link
-abbrev pub box_of : Segment → Corners
-box_of l = record {
-  low = record { x = lesser l.start.x l.stop.x; y = lesser l.start.y l.stop.y };
-  high = record { x = greater l.start.x l.stop.x; y = greater l.start.y l.stop.y };
-}
 
 abbrev pub boxes_of : List ArcLink → List Corners
 boxes_of links = map (λ (l : ArcLink). box_of l.link) links

@@ -1,7 +1,7 @@
 ghost use Rattle.std.specs.Prelude.{◌≡◌, ◌++◌, ◌<◌, All, IfOk, IfSome, OnOk, ℕ, length};
 ghost use Rattle.std.specs.Option.{option_to_list};
 ghost use Rattle.face_walk.specs.Rows.{AreByStart, AreStops};
-ghost use Rattle.face_walk.specs.Rays.{AreLinksOf, HasGridEnds, IsOnTheGrid, box_of, boxes_of, greater, lesser, link_at, links_along};
+ghost use Rattle.face_walk.specs.Rays.{AreLinksOf, HasGridEnds, boxes_of, link_at, links_along};
 
 use arc_table::ArcTable;
 use grid_base::{ArcId, BoxList, Link, Pt, Rect, SignedArc, is_before};
@@ -80,34 +80,10 @@ pub fn boxes_of(alloc: Global, links: &[ArcLink]) -> Result<BoxList, AllocError>
 {
     let mut boxes = BoxList::with_capacity(alloc, links.len())?;
     for l in links {
-        let area = box_of(l.link)?;
+        let area = Rect::around(l.link.low(), l.link.high());
         boxes.push(area)?;
     }
     Ok(boxes)
-}
-
-// The least rectangle that holds a link.
-fn box_of(link: Link) -> Result<Rect, AllocError>
-    ensures exact { IfOk result (λ area. area ≡ box_of link) }
-    ensures on_grid { IfOk result (λ area. IsOnTheGrid link) }
-{
-    let (a, b) = (link.low(), link.high());
-    let low = Pt::new(lesser(a.x(), b.x()), lesser(a.y(), b.y())).ok_or(AllocError)?;
-    let high = Pt::new(greater(a.x(), b.x()), greater(a.y(), b.y())).ok_or(AllocError)?;
-    let area = Rect::new(low, high).ok_or(AllocError)?;
-    Ok(area)
-}
-
-fn lesser(m: i64, n: i64) -> i64
-    ensures { result ≡ lesser m n }
-{
-    if m <= n { m } else { n }
-}
-
-fn greater(m: i64, n: i64) -> i64
-    ensures { result ≡ greater m n }
-{
-    if m <= n { n } else { m }
 }
 
 /// The greater ends of links, in order.

@@ -1,4 +1,5 @@
 pub mod Bounds
+pub mod BoxLemmas
 pub mod PointSearch
 pub mod LastLemmas
 pub mod RepeatLemmas

@@ -1,4 +1,5 @@
 pub mod Grid
 pub mod Order
+pub mod Boxes
 pub mod Sizes
 pub mod Drawn

@@ -1,7 +1,9 @@
 ghost use Rattle.std.specs.Prelude.{◌≡◌};
-ghost use Rattle.grid_base.specs.Grid.{corners_of, IsAtMost};
+ghost use Rattle.plane_model.specs.Points.{Segment};
+ghost use Rattle.grid_base.specs.Grid.{corners_of, IsAtMost, IsOnGrid};
+ghost use Rattle.grid_base.specs.Boxes.{box_of};
 
-use crate::point::Pt;
+use crate::point::{Pt, lower_left, upper_right};
 use std::marker::Model;
 
 /// A rectangle with sides along the axes; it may be flat.
@@ -32,6 +34,18 @@ impl Rect {
             Some(Rect { low, high })
         } else {
             None
+        }
+    }
+
+    /// The least rectangle that holds two points.
+    pub fn around(p: Pt, q: Pt) -> Rect
+        ensures exact { result ≡ box_of (record { start = p; stop = q }) }
+        ensures first_on_grid { IsOnGrid p }
+        ensures second_on_grid { IsOnGrid q }
+    {
+        Rect {
+            low: lower_left(p, q),
+            high: upper_right(p, q),
         }
     }
 

@@ -31,7 +31,10 @@ pub use list_types::{
     BoxList, GroupList, IdList, LinkList, Path, PathList, PolygonRings, PtList, RingsList,
 };
 pub use numbers::{ArcId, FaceId, FeatId};
-pub use point::{Pt, determinant, has_point, is_before, is_same, step, turn};
+pub use point::{
+    Pt, determinant, greater, has_point, is_before, is_same, lesser, lower_left, step, turn,
+    upper_right,
+};
 pub use segment::Seg;
 pub use signed_arc::SignedArc;
 pub use snapped::Snapped;

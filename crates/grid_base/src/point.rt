@@ -3,6 +3,7 @@ ghost use Rattle.std.specs.List.Sorted.{IsSorted};
 ghost use Rattle.plane_model.specs.Points.{GridPoint, Segment, cross, is_before, same_point};
 ghost use Rattle.grid_base.specs.Grid.{grid_point, IsOnGrid};
 ghost use Rattle.grid_base.specs.Order.{point_cmp};
+ghost use Rattle.grid_base.specs.Boxes.{greater, lesser, lower_left, upper_right};
 ghost use Rattle.grid_base.specs.Sizes.{IsStep, IsCross};
 
 use grid_bounds::LIMIT;
@@ -84,6 +85,40 @@ pub fn has_point(points: &[Pt], p: Pt) -> bool
         Ok(_) => true,
         Err(_) => false,
     }
+}
+
+/// The lesser of two numbers.
+pub fn lesser(a: i64, b: i64) -> i64
+    ensures exact { result ≡ lesser a b }
+{
+    if a <= b { a } else { b }
+}
+
+/// The greater of two numbers.
+pub fn greater(a: i64, b: i64) -> i64
+    ensures exact { result ≡ greater a b }
+{
+    if a <= b { b } else { a }
+}
+
+/// The lower left corner of the least rectangle that holds two points.
+pub fn lower_left(p: Pt, q: Pt) -> Pt
+    ensures exact { result ≡ lower_left p q }
+    ensures first_on_grid { IsOnGrid p }
+    ensures second_on_grid { IsOnGrid q }
+{
+    let x = lesser(p.x(), q.x());
+    let y = lesser(p.y(), q.y());
+    Pt { x, y }
+}
+
+/// The upper right corner of the least rectangle that holds two points.
+pub fn upper_right(p: Pt, q: Pt) -> Pt
+    ensures exact { result ≡ upper_right p q }
+{
+    let x = greater(p.x(), q.x());
+    let y = greater(p.y(), q.y());
+    Pt { x, y }
 }
 
 /// How far `to` stands to the right of `from`, and above it.

@@ -21,7 +21,7 @@ use Rattle.grid_base.specs.Grid.{Corners}
 use Rattle.bucket_grid.specs.Areas.{AreaLists, Holds, share_point, boxes_near}
 use Rattle.bucket_grid.proofs.SharedPoints.{overlap_to}
 use Rattle.bucket_grid.proofs.Numbers.{Contains-numbers_where}
-use Rattle.hot_pixels.specs.Boxes.{box_of, lesser, greater}
+use Rattle.grid_base.specs.Boxes.{box_of, lesser, greater}
 use Rattle.hot_pixels.specs.Spots.{is_end, share_end, crossing_at, crossing_between, crossings_with, crossings_among}
 use Rattle.hot_pixels.specs.Quiet.{IsEndOf}
 use Rattle.hot_pixels.specs.Crossing.{HasGridEnds}

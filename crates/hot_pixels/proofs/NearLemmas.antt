@@ -14,7 +14,7 @@ use Rattle.plane_snapping.proofs.Boxes.{met_pixels_lie_in_the_box, crossings_lie
 use Rattle.plane_snapping.proofs.MeetsComputed.{meets_is_computed}
 use Rattle.grid_base.specs.Grid.{Corners}
 use Rattle.bucket_grid.specs.Areas.{Holds}
-use Rattle.hot_pixels.specs.Boxes.{lesser, greater, box_of}
+use Rattle.grid_base.specs.Boxes.{lesser, greater, box_of}
 use Rattle.hot_pixels.specs.Near.{HoldsMore, HoldsBetween, MeetsNoneBetween, is_outside}
 use Rattle.hot_pixels.proofs.Appending.{get_or-alike}
 use Rattle.hot_pixels.proofs.CrossingLemmas.{box_holds}

@@ -22,7 +22,7 @@ use Rattle.plane_snapping.proofs.Passing.{meets_start, meets_stop, start_is_firs
 use Rattle.grid_base.specs.Grid.{Corners}
 use Rattle.bucket_grid.specs.Areas.{AreaLists, Holds, IsPlaceOf, boxes_near, share_point}
 use Rattle.bucket_grid.proofs.Numbers.{numbers_where_below}
-use Rattle.hot_pixels.specs.Boxes.{box_of}
+use Rattle.grid_base.specs.Boxes.{box_of}
 use Rattle.hot_pixels.specs.Found.{AreBucketsOver}
 use Rattle.hot_pixels.specs.Quiet.{IsEndOf, IsMarked, IsSeen, KeepMarks, AreMarks, AreCrowdsMarked, MeetsEndsAlone, HasUnmarkedEdge, ends_of}
 use Rattle.hot_pixels.proofs.EdgeLemmas.{alone_along}

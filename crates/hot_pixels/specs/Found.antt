@@ -5,7 +5,7 @@ use Rattle.plane_model.specs.Pixel.{crossing_pixel}
 use Rattle.grid_base.specs.Grid.{IsOnGrid}
 use Rattle.bucket_grid.specs.Areas.{AreaLists, IsPlaceOf, boxes_near}
 use Rattle.hot_pixels.specs.Crossing.{HasGridEnds}
-use Rattle.hot_pixels.specs.Boxes.{box_of}
+use Rattle.grid_base.specs.Boxes.{box_of}
 use Rattle.hot_pixels.specs.Spots.{share_end, crossing_at}
 
 -- two of the spots cross in the pixel of g

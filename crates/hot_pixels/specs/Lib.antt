@@ -1,7 +1,6 @@
 pub mod Crossing
 pub mod Sides
 pub mod Spots
-pub mod Boxes
 pub mod Parting
 pub mod Found
 pub mod Stops

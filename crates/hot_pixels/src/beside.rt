@@ -4,8 +4,7 @@ ghost use Rattle.hot_pixels.specs.Near.{is_outside};
 ghost use Rattle.hot_pixels.specs.Spots.{is_end, share_end};
 
 use crate::half_open::meets;
-use crate::pairs::{greater, lesser};
-use grid_base::{Pt, Seg, is_same};
+use grid_base::{Pt, Seg, greater, is_same, lesser};
 
 /// Whether a and b are both below `low`, or both above `high`.
 pub fn is_outside(a: i64, b: i64, low: i64, high: i64) -> bool

@@ -7,8 +7,7 @@ ghost use Rattle.bucket_grid.specs.Areas.{Holds};
 ghost use Rattle.hot_pixels.specs.Near.{HoldsRun, HoldsBetween, HoldsMore, MeetsNoneBetween};
 
 use crate::beside::{is_met, is_outside};
-use crate::pairs::{greater, lesser};
-use grid_base::{LIMIT, Pt, Rect, Seg};
+use grid_base::{LIMIT, Pt, Rect, Seg, lower_left, upper_right};
 use std::alloc::{AllocError, Global};
 use std::cmp::Ordering;
 
@@ -46,10 +45,9 @@ const LONGEST_RUN: usize = 33_554_432;
 fn widened(area: Rect, p: Pt) -> Result<Rect, AllocError>
     ensures { IfOk result (HoldsMore area p) }
 {
-    let (low, high) = (area.low(), area.high());
-    let below = Pt::new(lesser(low.x(), p.x()), lesser(low.y(), p.y())).ok_or(AllocError)?;
-    let above = Pt::new(greater(high.x(), p.x()), greater(high.y(), p.y())).ok_or(AllocError)?;
-    let wide = Rect::new(below, above).ok_or(AllocError)?;
+    let low = lower_left(area.low(), p);
+    let high = upper_right(area.high(), p);
+    let wide = Rect::new(low, high).ok_or(AllocError)?;
     Ok(wide)
 }
 

@@ -1,7 +1,7 @@
 ghost use Rattle.std.specs.Prelude.{◌≡◌, ◌++◌, OnOk, IfOk, All, map, length, ◌<◌, Some, slice_get};
 ghost use Rattle.std.specs.Option.{option_to_list};
+ghost use Rattle.grid_base.specs.Boxes.{box_of};
 ghost use Rattle.hot_pixels.specs.Found.{AreBucketsOver, HasAllCrossings, HasCrossingsBefore};
-ghost use Rattle.hot_pixels.specs.Boxes.{box_of, lesser, greater};
 ghost use Rattle.hot_pixels.specs.Crossing.{HasGridEnds};
 ghost use Rattle.hot_pixels.specs.Spots.{crossing_at, crossings_with, crossings_among};
 
@@ -12,41 +12,13 @@ use bucket_grid::Buckets;
 use grid_base::{BoxList, Pt, Rect, Seg};
 use std::alloc::{AllocError, Global};
 
-/// The lesser of two numbers.
-pub fn lesser(a: i64, b: i64) -> i64
-    ensures { result ≡ lesser a b }
-{
-    if a <= b { a } else { b }
-}
-
-/// The greater of two numbers.
-pub fn greater(a: i64, b: i64) -> i64
-    ensures { result ≡ greater a b }
-{
-    if a <= b { b } else { a }
-}
-
-/// The least rectangle that holds a segment.
-///
-/// Errors: `AllocError` in place of a corner off the grid.
-pub fn box_of(s: Seg) -> Result<Rect, AllocError>
-    ensures exact { IfOk result (λ r. r ≡ box_of s) }
-    ensures on_grid { IfOk result (λ r. HasGridEnds s) }
-{
-    let (a, b) = (s.a(), s.b());
-    let low = Pt::new(lesser(a.x(), b.x()), lesser(a.y(), b.y())).ok_or(AllocError)?;
-    let high = Pt::new(greater(a.x(), b.x()), greater(a.y(), b.y())).ok_or(AllocError)?;
-    let area = Rect::new(low, high).ok_or(AllocError)?;
-    Ok(area)
-}
-
 fn boxes_of(alloc: Global, spots: &[Seg]) -> Result<BoxList, AllocError>
     ensures exact { IfOk result (λ boxes. boxes ≡ map box_of spots.now) }
     ensures on_grid { IfOk result (λ boxes. All HasGridEnds spots.now) }
 {
     let mut boxes = BoxList::with_capacity(alloc, spots.len())?;
     for s in spots {
-        let area = box_of(*s)?;
+        let area = Rect::around(s.a(), s.b());
         boxes.push(area)?;
     }
     Ok(boxes)

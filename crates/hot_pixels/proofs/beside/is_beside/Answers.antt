@@ -1,6 +1,6 @@
 use Rattle.std.proofs.Common.{rules, ◌≡◌, ◌∙◌, sym, FitsSigned, to_z-of_z, w64}
 use Rattle.hot_pixels.specs.Near.{is_outside}
-use Rattle.hot_pixels.specs.Boxes.{lesser, greater}
+use Rattle.grid_base.specs.Boxes.{lesser, greater}
 use Rattle.hot_pixels.proofs.NearLemmas.{cross_beside_across, cross_beside_upward}
 use Rattle.hot_pixels.proofs.beside.is_beside.Goals as goal
 
@@ -15,8 +15,8 @@ returns-then-is_outside c = λ _.
     let f₇ : FitsSigned w64 c.lesser.result = search rules in
     let f₈ : FitsSigned w64 c.greater.result = search rules in
     let e : c.is_outside.result ≡ is_outside c.x.result c.x-2.result c.lesser.result c.greater.result = simp to_z-of_z at c.is_outside.ensures in
-    let l : c.lesser.result ≡ lesser c.x-3.result c.x-4.result = simp to_z-of_z at c.lesser.ensures in
-    let g : c.greater.result ≡ greater c.x-5.result c.x-6.result = simp to_z-of_z at c.greater.ensures in
+    let l : c.lesser.result ≡ lesser c.x-3.result c.x-4.result = simp to_z-of_z at c.lesser.ensures.exact in
+    let g : c.greater.result ≡ greater c.x-5.result c.x-6.result = simp to_z-of_z at c.greater.ensures.exact in
     let ax = c.x.ensures.exact ∙ (λ i. (c.a-a.ensures i).x) in
     let bx = c.x-2.ensures.exact ∙ (λ i. (c.b-b.ensures i).x) in
     let lx = l ∙ (λ i. lesser ((c.x-3.ensures.exact ∙ (λ j. (c.a-c.ensures j).x)) i) ((c.x-4.ensures.exact ∙ (λ j. (c.b-d.ensures j).x)) i)) in
@@ -34,8 +34,8 @@ returns c = λ t.
     let f₇ : FitsSigned w64 c.lesser-2.result = search rules in
     let f₈ : FitsSigned w64 c.greater-2.result = search rules in
     let e : c.is_outside-2.result ≡ is_outside c.y.result c.y-2.result c.lesser-2.result c.greater-2.result = simp to_z-of_z at c.is_outside-2.ensures in
-    let l : c.lesser-2.result ≡ lesser c.y-3.result c.y-4.result = simp to_z-of_z at c.lesser-2.ensures in
-    let g : c.greater-2.result ≡ greater c.y-5.result c.y-6.result = simp to_z-of_z at c.greater-2.ensures in
+    let l : c.lesser-2.result ≡ lesser c.y-3.result c.y-4.result = simp to_z-of_z at c.lesser-2.ensures.exact in
+    let g : c.greater-2.result ≡ greater c.y-5.result c.y-6.result = simp to_z-of_z at c.greater-2.ensures.exact in
     let ay = c.y.ensures.exact ∙ (λ i. (c.a-a.ensures i).y) in
     let by = c.y-2.ensures.exact ∙ (λ i. (c.b-b.ensures i).y) in
     let ly = l ∙ (λ i. lesser ((c.y-3.ensures.exact ∙ (λ j. (c.a-c.ensures j).y)) i) ((c.y-4.ensures.exact ∙ (λ j. (c.b-d.ensures j).y)) i)) in

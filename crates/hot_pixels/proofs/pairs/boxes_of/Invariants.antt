@@ -1,6 +1,6 @@
 use Rattle.std.proofs.Common.{◌≡◌, take, map, All}
+use Rattle.grid_base.specs.Boxes.{box_of}
 use Rattle.hot_pixels.specs.Crossing.{HasGridEnds}
-use Rattle.hot_pixels.specs.Boxes.{box_of}
 use Rattle.hot_pixels.proofs.pairs.boxes_of.Given as goal
 
 abbrev pub invariant-loop-s : goal.invariant-loop-s
