@@ -4,7 +4,6 @@ ghost use Rattle.run_state.specs.Features.{HasRows, LeavesOut, TakesFeatures};
 ghost use Rattle.run_plane.specs.Shapes.{shape_at, with_geometry};
 
 use grid_base::IdList;
-use json_read::Table;
 use run_plane::{Layer, Shape, copy_shape, copy_text};
 use std::alloc::{AllocError, Global};
 use table_ops::take_rows;
@@ -99,14 +98,4 @@ fn take_shapes(alloc: Global, shapes: &[Shape], numbers: &[u32]) -> Result<Vec<S
         taken.push(copy_shape(alloc, &shapes[*number as usize])?)?;
     }
     Ok(taken)
-}
-
-/// A table with the same names and rows.
-#[tactic(auto, using(crate::proofs::TargetLemmas::whole_table))]
-pub fn copy_table(alloc: Global, table: &Table) -> Result<Table, AllocError>
-    ensures copied { IfOk result (λ copy. copy ≡ table.now) }
-    ensures count { IfOk result (λ copy. length copy.rows ≡ length table.now.rows) }
-{
-    let all = numbers_below(alloc, table.row_count())?;
-    take_rows(alloc, table, &all)
 }

@@ -15,9 +15,7 @@ mod refusal;
 mod state;
 mod targets;
 
-pub use features::{
-    copy_table, nonempty, numbers_below, take_features, with_geometry, with_shapes,
-};
+pub use features::{nonempty, numbers_below, take_features, with_geometry, with_shapes};
 pub use ground::Ground;
 pub use origins::source_layer;
 pub use placing::placed;

@@ -10,9 +10,9 @@ use crate::table_commands::with_table;
 use io_core::{Bytes, Text};
 use json_read::{Table, Value};
 use run_plane::Layer;
-use run_state::{CommandStop, copy_table, take_features};
+use run_state::{CommandStop, take_features};
 use std::alloc::{AllocError, Global};
-use table_ops::{SplitItem, SplitList, TableFault, split_rows};
+use table_ops::{SplitItem, SplitList, TableFault, copy_table, split_rows};
 
 /// A layer for each value of the field, named by its plain text; without a field a layer for each feature, named by
 /// the layer's name and its number from 1. A layer without features is put out as it is.

@@ -16,12 +16,13 @@ use job_terms::Target;
 use json_read::Table;
 use run_plane::{Layer, Shape, copy_shape, copy_shapes, copy_text};
 use run_state::{
-    CommandStop, Held, copy_table, first_target, is_selected, numbers_below, take_features,
-    with_geometry,
+    CommandStop, Held, first_target, is_selected, numbers_below, take_features, with_geometry,
 };
 use spatial_join::join_matched;
 use std::alloc::{AllocError, Global};
-use table_ops::{TableList, filter_rows, join_tables, keep_fields, merge_tables, rename_fields};
+use table_ops::{
+    TableList, copy_table, filter_rows, join_tables, keep_fields, merge_tables, rename_fields,
+};
 use table_terms::{CalcSpec, JoinSpec, RenameList};
 
 /// The features for which the expression is true, or, with `invert`, false; with `remove_empty` those without

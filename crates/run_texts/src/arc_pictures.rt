@@ -9,8 +9,8 @@ use arc_table::SignedPaths;
 use grid_base::PtList;
 use ring_trace::{FaceSet, trace};
 use run_plane::{Layer, Plane, Shape, copy_paths, copy_points, copy_text};
-use run_state::copy_table;
 use std::alloc::{AllocError, Global};
+use table_ops::copy_table;
 use topo_io::{ArcLayer, ArcShape, ArcShapeList};
 
 /// A layer with its shapes as arcs of the plane: rings of faces, and paths.

@@ -3,7 +3,7 @@
 //!
 //! In: tables, and the terms of `table_terms`. Out: a table, or numbers of rows; or the first `TableFault`.
 //!
-//! 1. `rows` takes rows by their numbers; `filter` finds them by an expression, `group` and `split` by their values.
+//! 1. `rows` copies tables, and takes rows by their numbers; `filter` finds them by an expression, `group` and `split` by their values.
 //! 2. `columns` keeps columns, `rename` renames them; `merge` puts tables one under another.
 //! 3. `join` joins by keys, in steps that serve other joins too: `check_fields` and `candidates` say what of the
 //!    source takes part, `copied_columns` which columns the table has, and `copied_row` what a row has of its match.
@@ -34,5 +34,5 @@ pub use join::{candidates, check_fields, copied_row, join_tables};
 pub use join_columns::{Column, Columns, CopiedFields, copied_columns, copied_names};
 pub use merge::{TableList, merge_tables};
 pub use rename::rename_fields;
-pub use rows::{copy_names, take_rows};
+pub use rows::{copy_names, copy_table, take_rows};
 pub use split::{SplitItem, SplitList, split_rows};

@@ -20,6 +20,16 @@ pub fn take_rows(alloc: Global, t: &Table, rows: &IdList) -> Result<Table, Alloc
     Ok(Table::new(names, taken))
 }
 
+/// A table with the same names and rows.
+pub fn copy_table(alloc: Global, t: &Table) -> Result<Table, AllocError>
+    ensures copied { IfOk result (λ copy. copy ≡ t.now) }
+    ensures count { IfOk result (λ copy. length copy.rows ≡ length t.now.rows) }
+{
+    let names = copy_names(alloc, t.names())?;
+    let rows = copy_rows(alloc, t.rows())?;
+    Ok(Table::new(names, rows))
+}
+
 fn rows_at(alloc: Global, rows: &RowList, numbers: &[u32]) -> Result<RowList, AllocError>
     requires numbers { All (λ n. n < length rows.now) numbers.now }
     ensures taken { IfOk result (λ taken. taken ≡ map (row_at rows.now) numbers.now) }
