@@ -76,6 +76,13 @@ impl MosaicList {
     {
         &self.items
     }
+
+    /// The pieces themselves; takes no memory.
+    pub fn into_vec(self) -> Vec<MosaicItem>
+        ensures all { result.items ≡ self }
+    {
+        self.items
+    }
 }
 
 /// A list of parts of sets.
@@ -131,5 +138,12 @@ impl PartList {
         ensures all { result.now ≡ self.now }
     {
         &self.items
+    }
+
+    /// The parts themselves; takes no memory.
+    pub fn into_vec(self) -> Vec<PartItem>
+        ensures all { result.items ≡ self }
+    {
+        self.items
     }
 }

@@ -77,6 +77,13 @@ impl SetList {
     {
         &self.items
     }
+
+    /// The sets themselves; takes no memory.
+    pub fn into_vec(self) -> Vec<FaceSet>
+        ensures all { result.items ≡ self }
+    {
+        self.items
+    }
 }
 
 // The faces of the sets, set by set.

@@ -176,4 +176,11 @@ impl UnionList {
     {
         &self.items
     }
+
+    /// The parts themselves; takes no memory.
+    pub fn into_vec(self) -> Vec<UnionItem>
+        ensures all { result.items ≡ self }
+    {
+        self.items
+    }
 }
