@@ -1,9 +1,9 @@
 -- The crossings of boxes near each area are all crossings.
-use Rattle.std.proofs.Common.{◌≡◌, inl, inr, refl, sym, ap, ◌∙◌, subst, arith, ℕ, ◌<◌, ltb, Bool, true, false, cond, List, [], length, get_or, map, Option, Some, None, Contains, ℤ, pos, ◌+ℤ◌, ◌-ℤ◌, ◌*ℤ◌, ◌≤ℤ◌, int_le, ◌||◌}
+use Rattle.std.proofs.Common.{◌≡◌, inl, inr, refl, sym, ap, ◌∙◌, subst, arith, ℕ, ◌<◌, ltb, Bool, true, false, cond, List, [], length, get_or, map, Option, Some, None, Contains, ℤ, pos, ◌+ℤ◌, ◌-ℤ◌, ◌*ℤ◌, ◌≤ℤ◌, int_le}
 use Rattle.std.specs.List.{slice_get}
 use Rattle.std.specs.Option.{option_to_list}
-use Rattle.std.proofs.lemmas.Bool.{lt-ltb, cases_lt}
-use Rattle.std.proofs.lemmas.List.{get_or-map, length-map}
+use Rattle.std.proofs.lemmas.Bool.{lt-ltb, cases_lt, or_left, or_right}
+use Rattle.std.proofs.lemmas.List.{get_or-map, length-map, get_or_default}
 use Rattle.std.proofs.lemmas.Option.{slice_get-get_or, slice_get_within, get_or_from_slice_get}
 use Rattle.std.proofs.lemmas.List.Elements.{All-contains}
 use Rattle.lists.proofs.Members.{Contains-nil, Contains-cases, flat_map-Contains}
@@ -27,7 +27,6 @@ use Rattle.hot_pixels.specs.Quiet.{IsEndOf}
 use Rattle.hot_pixels.specs.Crossing.{HasGridEnds}
 use Rattle.hot_pixels.specs.Found.{IsCrossingOf, HasAllCrossings, HasCrossingsBefore, AreBucketsOver}
 use Rattle.hot_pixels.proofs.Shares.{crossing_on_grid}
-use Rattle.hot_pixels.proofs.Appending.{get_or-alike}
 
 -- ---- a crossing has no order, and no segment crosses itself
 
@@ -98,13 +97,6 @@ module _ (s t : Segment) (g : GridPoint) (e : crossing_pixel s t ≡ Some g) whe
 
 same_point-turned : (p q : GridPoint) → same_point p q ≡ true → same_point q p ≡ true
 same_point-turned p q e = same_point_to q p (sym (same_point_from p q e))
-
-or_left : (a b : Bool) → a ≡ true → (a || b) ≡ true
-or_left a b e = ap (λ (c : Bool). c || b) e
-
-or_right : (a b : Bool) → b ≡ true → (a || b) ≡ true
-or_right true b e = refl
-or_right false b e = e
 
 pub share_end-turned : (s t : Segment) → share_end s t ≡ true → share_end t s ≡ true
 share_end-turned s t e = or_cases (is_end t s.start) (is_end t s.stop) e
@@ -191,7 +183,7 @@ listed_crosses spots near g c =
 
 -- one number names one spot
 same_spot : (spots : List Segment) (i j : ℕ) (s t : Segment) → j ≡ i → i < length spots → get_or spots i s ≡ s → get_or spots j t ≡ t → t ≡ s
-same_spot spots i j s t e l f g = sym g ∙ ap (λ (n : ℕ). get_or spots n t) e ∙ get_or-alike spots i t s l ∙ f
+same_spot spots i j s t e l f g = sym g ∙ ap (λ (n : ℕ). get_or spots n t) e ∙ get_or_default spots i t s l ∙ f
 
 -- spot i is near an area that holds a point of its box
 pub near_area : (spots : List Segment) (i : ℕ) (s : Segment) (area : Corners) (g : GridPoint) → i < length spots → get_or spots i s ≡ s → Holds area g → IsInBox s g → Contains (boxes_near (map box_of spots) area) i
@@ -219,7 +211,7 @@ module _ (spots : List Segment) (buckets : AreaLists) (b : AreBucketsOver spots 
       let area : Corners = get_or buckets.areas place.0 (box_of s) in
       let held = place.1.held (box_of s) in
       let near : List ℕ = boxes_near boxes area in
-      let at : slice_get buckets.near place.0 ≡ Some near = near_listed place.0 area place.1.below (get_or-alike buckets.areas place.0 area (box_of s) place.1.below) in
+      let at : slice_get buckets.near place.0 ≡ Some near = near_listed place.0 area place.1.below (get_or_default buckets.areas place.0 area (box_of s) place.1.below) in
       let si : slice_get spots i ≡ Some s = slice_get-get_or spots i s li ∙ ap Some ei in
       let sj : slice_get spots j ≡ Some t = slice_get-get_or spots j t lj ∙ ap Some ej in
       let crossing : crossing_at spots i j ≡ Some g = ap (λ (b : Bool). cond b (crossing_between (slice_get spots i) (slice_get spots j)) None) (lt-ltb i j l) ∙ (λ k. crossing_between (si k) (sj k)) ∙ ap (λ (b : Bool). cond b None (crossing_pixel s t)) apart ∙ e in

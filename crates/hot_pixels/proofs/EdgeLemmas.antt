@@ -72,9 +72,6 @@ alone_along points s e h k = record { others = λ p c m. end_along s e p h (k.ot
 
 -- ---- the edges of more and more segments
 
-pub no_edges : AreEdgesOf [] []
-no_edges = record { from = λ e c. Contains-nil e c; to = λ s c. Contains-nil s c }
-
 pub edges_more : (segments old new : List Segment) (k : ℕ) (s : Segment) → k < length segments → s ≡ get_or segments k s → IsEdgeAdded old new s → AreEdgesOf (take k segments) old → AreEdgesOf (take (k + 1) segments) new
 edges_more segments old new k s l is h so_far = record {
   from = λ e c. subst (λ (xs : List Segment). Contains xs e) (sym next) (elim (h.from e c) [

@@ -1,6 +1,7 @@
 -- The ends of a segment of the drawing, and the inner points that it meets, are the points of its chain.
 use Rattle.std.proofs.Common.{◌≡◌, inl, inr, refl, sym, ap, ◌∙◌, subst, arith, ℕ, ◌≤◌, Bool, true, false, not, ◌||◌, cond, List, [], ◌∷◌, ◌++◌, filter, AllPairs, IsTrue, Contains}
 use Rattle.std.proofs.lemmas.List.Elements.{Contains-append_left, Contains-append_right, Contains-append_cases}
+use Rattle.std.proofs.lemmas.Bool.{not-true}
 use Rattle.lists.proofs.Members.{Contains-head, Contains-later, Contains-nil, Contains-cases, Contains-filter, filter-Contains}
 use Rattle.plane_algebra.proofs.Tests.{by_test, or_cases}
 use Rattle.plane_model.specs.Points.{GridPoint, Segment, Path, same_point, is_before}
@@ -88,10 +89,6 @@ module _ (s : Segment) where
 
 -- ---- a segment of the drawing
 
-other_is : (b : Bool) → not b ≡ true → b ≡ false
-other_is true e = absurd cc
-other_is false e = refl
-
 module _ (points : List GridPoint) (edges : List Segment) (marks : List Bool) (inner : List GridPoint) (i : ℕ) (s : Segment) (h : AreMarks points edges marks inner) (at : HasEdgeAt edges s i)
     (from : Contains points s.start) (to : Contains points s.stop) (up : AllPairs (λ p q. IsTrue (is_before p q)) points) where
   abbrev met : List GridPoint
@@ -113,7 +110,7 @@ module _ (points : List GridPoint) (edges : List Segment) (marks : List Bool) (i
       (counted g points (omega arith), b.1)
 
   no_end : (g : GridPoint) → Contains others g → is_end s g ≡ false
-  no_end g c = other_is (is_end s g) (filter-Contains (λ p. not (is_end s p)) met g c).1
+  no_end g c = not-true (is_end s g) (filter-Contains (λ p. not (is_end s p)) met g c).1
 
   met_is_listed : (g : GridPoint) → Contains points g → meets s g ≡ true → Contains (ends_of s ++ others) g
   met_is_listed g c m = by_test (is_end s g)

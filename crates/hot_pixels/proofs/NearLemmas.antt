@@ -1,9 +1,9 @@
 -- What a search may pass over, and rectangles that grow.
 use Rattle.std.proofs.Common.{◌≡◌, inl, inr, refl, sym, ap, ◌∙◌, subst, arith, ℕ, zero, suc, ◌+◌, ◌-◌, ◌<◌, ◌≤◌, Bool, true, false, ◌&&◌, cond, List, [], ◌∷◌, ◌++◌, length, get_or, take, filter, ℤ, ◌≤ℤ◌, ◌<ℤ◌, ◌-ℤ◌, int_le}
 use Rattle.std.specs.Prelude.{int_lt, Option, Some, None}
-use Rattle.std.proofs.lemmas.Bool.{cases_lt}
+use Rattle.std.proofs.lemmas.Bool.{cases_lt, and_parts}
 use Rattle.std.specs.List.{count_by}
-use Rattle.std.proofs.lemmas.List.{append-nil}
+use Rattle.std.proofs.lemmas.List.{append-nil, get_or_default}
 use Rattle.std.proofs.lemmas.List.Elements.{filter_more}
 use Rattle.std.proofs.lemmas.List.Sums.{length-filter}
 use Rattle.plane_algebra.proofs.Order.{order, order_cases}
@@ -16,7 +16,6 @@ use Rattle.grid_base.specs.Grid.{Corners}
 use Rattle.bucket_grid.specs.Areas.{Holds}
 use Rattle.grid_base.specs.Boxes.{lesser, greater, box_of}
 use Rattle.hot_pixels.specs.Near.{HoldsMore, HoldsBetween, MeetsNoneBetween, is_outside}
-use Rattle.hot_pixels.proofs.Appending.{get_or-alike}
 use Rattle.hot_pixels.proofs.CrossingLemmas.{box_holds}
 
 record IsBetween (a b : ℤ) : Type 0 where
@@ -68,15 +67,10 @@ module _ (s : Segment) (xs : List GridPoint) (d : GridPoint) where
 
 -- ---- areas beside a segment
 
-from_both : (p q : Bool) → (p && q) ≡ true → (p ≡ true) × (q ≡ true)
-from_both true true e = (refl, refl)
-from_both true false e = absurd cc
-from_both false q e = absurd cc
-
 outside_not : (a b low high g : ℤ) → is_outside a b low high ≡ true → low ≤ℤ g → g ≤ℤ high → SameWay (g -ℤ a) (b -ℤ g) → ⊥
 outside_not a b low high g e l m w = or_cases (int_lt a low && int_lt b low) (int_lt high a && int_lt high b) e
-    (λ f. let h = from_both (int_lt a low) (int_lt b low) f in below (lt_from a low h.0) (lt_from b low h.1) w)
-    (λ f. let h = from_both (int_lt high a) (int_lt high b) f in above (lt_from high a h.0) (lt_from high b h.1) w)
+    (λ f. let h = and_parts (int_lt a low) (int_lt b low) f in below (lt_from a low h.0) (lt_from b low h.1) w)
+    (λ f. let h = and_parts (int_lt high a) (int_lt high b) f in above (lt_from high a h.0) (lt_from high b h.1) w)
   where
     below : a <ℤ low → b <ℤ low → SameWay (g -ℤ a) (b -ℤ g) → ⊥
     below i j (inl v) = let p = v.0 in let q = v.1 in absurd (omega order)
@@ -101,7 +95,7 @@ pub holds_more : (area wide : Corners) (points : List GridPoint) (start k : ℕ)
 holds_more area wide points start k p d h m l e = record {
   held = λ j c a b. elim (cases_lt j k) [
     | inl n ↦ m.others (get_or points j c) (h.held j c a n)
-    | inr n ↦ (let same : k ≡ j = omega arith in subst (Holds wide) (e ∙ get_or-alike points k d c l ∙ ap (λ (i : ℕ). get_or points i c) same) m.point)
+    | inr n ↦ (let same : k ≡ j = omega arith in subst (Holds wide) (e ∙ get_or_default points k d c l ∙ ap (λ (i : ℕ). get_or points i c) same) m.point)
   ];
 }
 

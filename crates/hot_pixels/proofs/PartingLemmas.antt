@@ -10,6 +10,7 @@ use Rattle.plane_model.proofs.PointOrder.{same_point_to, clash}
 use Rattle.plane_snapping.proofs.CrossingComputed.{crossing_is_computed}
 use Rattle.plane_snapping.proofs.Means.{IsAt, IsMean}
 use Rattle.plane_snapping.proofs.Readings.{mean_of_on}
+use Rattle.plane_snapping.proofs.Links.{flip_mean}
 use Rattle.hot_pixels.specs.Spots.{is_end, share_end}
 use Rattle.hot_pixels.specs.Quiet.{IsEndOf}
 use Rattle.hot_pixels.specs.Parting.{side, are_left, is_left}
@@ -98,16 +99,6 @@ at_second p q a b P m z = (one P.X p.x q.x m.across, one P.Y p.y q.y m.upward)
             ∙ (λ i. (sym z i +ℤ b) *ℤ X) ∙ e ∙ (λ i. P.W *ℤ (z i *ℤ u +ℤ b *ℤ v))
             ∙ ring 4 (λ b W u v. W ⊠ (num (pos 0) ⊠ u ⊞ b ⊠ v) ≐ b ⊠ (W ⊠ v)) tt b P.W u v
 
-mean_turned : (p q : GridPoint) (a b : ℤ) (P : RationalPoint) → IsMean p q a b P → IsMean q p b a P
-mean_turned p q a b P m = record {
-  weights = record { first = m.weights.second; second = m.weights.first; some = let s = m.weights.some in omega order };
-  across = one P.X p.x q.x m.across;
-  upward = one P.Y p.y q.y m.upward;
-}
-  where
-    one : (X u v : ℤ) → (a +ℤ b) *ℤ X ≡ P.W *ℤ (a *ℤ u +ℤ b *ℤ v) → (b +ℤ a) *ℤ X ≡ P.W *ℤ (b *ℤ v +ℤ a *ℤ u)
-    one X u v e = ring 3 (λ a b X. (b ⊞ a) ⊠ X ≐ (a ⊞ b) ⊠ X) tt a b X ∙ e ∙ ring 5 (λ a b W u v. W ⊠ (a ⊠ u ⊞ b ⊠ v) ≐ W ⊠ (b ⊠ v ⊞ a ⊠ u)) tt a b P.W u v
-
 no_weight : (a v : ℤ) → v <ℤ pos 0 → a *ℤ v ≡ pos 0 → a ≡ pos 0
 no_weight a v h e = zero_of_mul (neg_ℤ v) a (omega order) (ring 2 (λ a v. (⊖ v) ⊠ a ≐ ⊖ (a ⊠ v)) tt a v ∙ ap neg_ℤ e)
 
@@ -140,7 +131,7 @@ module _ (line s : Segment) (h : IsOnRight line s) (P : RationalPoint) (a b : �
       let g = second_low in
       elim h.some [
         | inl k ↦ (s.stop, inr (λ i. s.stop), at_second s.start s.stop a b P m (no_weight a (side line s.start) k (let r : first_part ≡ pos 0 = omega order in r)))
-        | inr k ↦ (s.start, inl (λ i. s.start), at_second s.stop s.start b a P (mean_turned s.start s.stop a b P m) (no_weight b (side line s.stop) k (let r : second_part ≡ pos 0 = omega order in r)))
+        | inr k ↦ (s.start, inl (λ i. s.start), at_second s.stop s.start b a P (flip_mean m) (no_weight b (side line s.stop) k (let r : second_part ≡ pos 0 = omega order in r)))
       ]
 
 -- ---- common ends

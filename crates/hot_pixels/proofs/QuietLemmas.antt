@@ -1,9 +1,8 @@
 -- Segments that meet their ends alone: what marks keep, and what their chains are.
-use Rattle.std.proofs.Common.{◌≡◌, ◌≢◌, ◌⊎◌, inl, inr, refl, sym, ap, ◌∙◌, subst, arith, ℕ, ◌+◌, ◌<◌, ◌≤◌, Bool, true, false, cond, List, [], ◌∷◌, length, get_or, set, map, take, filter, All, Contains, Option, Some, None, ◌++◌}
+use Rattle.std.proofs.Common.{◌≡◌, ◌⊎◌, inl, inr, refl, sym, ap, ◌∙◌, subst, arith, ℕ, ◌+◌, ◌<◌, ◌≤◌, Bool, true, false, cond, List, [], ◌∷◌, length, get_or, set, map, take, filter, All, Contains, Option, Some, None, ◌++◌}
 use Rattle.std.specs.List.{slice_get}
 use Rattle.std.specs.Option.{option_map}
-use Rattle.std.proofs.lemmas.Bool.{cases_lt}
-use Rattle.std.proofs.lemmas.List.{length-set, length-map, get_or-set_same, get_or-set_other, take_more}
+use Rattle.std.proofs.lemmas.List.{length-set, length-map, get_or-set_same, take_more}
 use Rattle.std.proofs.lemmas.List.{take_all}
 use Rattle.std.proofs.lemmas.List.Elements.{All-contains, All-weaker, All-more, Contains-append_cases, Contains-append_left, Contains-append_right}
 use Rattle.std.specs.List.Sorted.{IsPermutation}
@@ -48,24 +47,6 @@ marked_at marks i l e = slice_get-get_or marks i false l ∙ ap Some e
 pub is_marked : (marks : List Bool) (i : ℕ) → i < length marks → IsMarked (set marks i true) i
 is_marked marks i l = marked_at (set marks i true) i (let n = length-set marks i true in omega arith) (get_or-set_same marks i true false l)
 
-pub others_kept : (marks : List Bool) (i : ℕ) → i < length marks → KeepMarks marks (set marks i true)
-others_kept marks i l = record {
-  each = length-set marks i true;
-  kept = λ j m. elim (cases_lt i j) [
-    | inl k ↦ other j m (omega arith)
-    | inr k ↦ elim (cases_lt j i) [
-      | inl n ↦ other j m (omega arith)
-      | inr n ↦ (let e : j ≡ i = omega arith in subst (IsMarked (set marks i true)) (sym e) (is_marked marks i l))
-    ]
-  ];
-}
-  where
-    other : (j : ℕ) → IsMarked marks j → j ≢ i → IsMarked (set marks i true) j
-    other j m apart =
-        let within : j < length marks = slice_get_within marks j true m in
-        marked_at (set marks i true) j (let n = length-set marks i true in omega arith)
-        (get_or-set_other marks i j true false apart ∙ get_or_from_slice_get marks j true false m)
-
 -- the first items have marks, and one more
 pub marked_more : (old mid new : List Bool) (near : List ℕ) (k : ℕ) → k < length near → KeepMarks mid new → IsMarked new (get_or near k 0) →
     KeepMarks old mid × All (IsMarked mid) (take k near) → KeepMarks old new × All (IsMarked new) (take (k + 1) near)
@@ -87,21 +68,6 @@ all_taken P xs k l h = subst (All P) (take_all k xs l) h
 pub crowds_kept : (count : ℕ) (near : List (List ℕ)) (old new : List Bool) → KeepMarks old new → AreCrowdsMarked count near old → AreCrowdsMarked count near new
 crowds_kept count near old new k h = record {
   all = λ place l list e m. All-weaker (IsMarked old) (IsMarked new) k.kept list (h.all place l list e m);
-}
-
-pub no_crowds : (near : List (List ℕ)) (marks : List Bool) → AreCrowdsMarked 0 near marks
-no_crowds near marks = record { all = λ place l list e m. absurd (omega arith) }
-
-pub crowds_more : (n : ℕ) (near : List (List ℕ)) (old new : List Bool) (list : List ℕ) → KeepMarks old new → slice_get near n ≡ Some list → (64 < length list → All (IsMarked new) list) → AreCrowdsMarked n near old → AreCrowdsMarked (n + 1) near new
-crowds_more n near old new list k is here h = record {
-  all = λ place l other e m. elim (cases_lt place n) [
-    | inl b ↦ (crowds_kept n near old new k h).all place b other e m
-    | inr b ↦
-        let at : place ≡ n = omega arith in
-        let same : Some list ≡ Some other = sym is ∙ ap (λ (i : ℕ). slice_get near i) (sym at) ∙ e in
-        let one : list ≡ other = cc in
-        subst (λ (xs : List ℕ). All (IsMarked new) xs) one (here (subst (λ (xs : List ℕ). 64 < length xs) (sym one) m))
-  ];
 }
 
 -- marks and inner points, as far as the first points say
