@@ -8,7 +8,7 @@ use crate::crossings::{Crossing, crossings_of};
 use crate::faces::Faces;
 use crate::ring_steps::{RingStep, box_steps, polygon_steps, steps_along};
 use arc_table::ArcTable;
-use grid_base::{FaceId, FeatId, Snapped};
+use grid_base::{FaceId, FeatId, Snapped, empty_lists};
 use std::alloc::{AllocError, Global};
 use std::marker::Model;
 
@@ -81,24 +81,13 @@ fn held_lists(
     ensures rising { IfOk result (λ v. All (λ w. IsStrictlyIncreasing w.items) v.items) }
     ensures each { IfOk result (λ v. length v.items ≡ f.now.count) }
 {
-    let mut held = empty_lists(alloc, f.count())?;
+    let mut held: Vec<Vec<u32>> = empty_lists(alloc, f.count() as usize)?;
     for c in crossings {
         let from = &held[c.from.num() as usize];
         let into = flipped(alloc, from, steps_along(steps, c.arc))?;
         held[c.into.num() as usize] = into;
     }
     Ok(held)
-}
-
-fn empty_lists(alloc: Global, count: u32) -> Result<Vec<Vec<u32>>, AllocError>
-    ensures free { IfOk result (λ v. All (λ w. w.items ≡ []) v.items) }
-    ensures each { IfOk result (λ v. length v.items ≡ count) }
-{
-    let mut lists = Vec::with_capacity(alloc, count as usize)?;
-    for _face in 0..count {
-        lists.push(Vec::new(alloc))?;
-    }
-    Ok(lists)
 }
 
 // The items that hold a face across an arc from a face that `held` holds: those that are in one of the two lists, or

@@ -29,6 +29,7 @@ pub use kinds::{Kind, OverlapRule};
 pub use link::Link;
 pub use list_types::{
     BoxList, GroupList, IdList, LinkList, Path, PathList, PolygonRings, PtList, RingsList,
+    empty_lists,
 };
 pub use numbers::{ArcId, FaceId, FeatId};
 pub use point::{

@@ -1,4 +1,4 @@
-ghost use Rattle.std.specs.Prelude.{◌≡◌, ◌++◌, ◌∷◌, [], IfOk, OnOk, OnErr, length, slice_get};
+ghost use Rattle.std.specs.Prelude.{◌≡◌, ◌++◌, ◌∷◌, [], All, IfOk, OnOk, OnErr, length, map, slice_get};
 ghost use Rattle.std.specs.Option.{option_copied};
 ghost use Rattle.std.specs.Prelude.{◌<◌};
 ghost use Rattle.grid_base.specs.Drawn.{with_last, without_repeats};
@@ -515,4 +515,18 @@ impl GroupList {
     {
         &self.items
     }
+}
+
+/// As many empty lists as `count` says.
+pub fn empty_lists<T>(alloc: Global, count: usize) -> Result<Vec<Vec<T>>, AllocError>
+where
+    T: Drop,
+    ensures each { IfOk result (λ v. length v.items ≡ count) }
+    ensures empty { IfOk result (λ v. All (λ list. list ≡ []) (map (λ list. list.items) v.items)) }
+{
+    let mut lists = Vec::with_capacity(alloc, count)?;
+    for _list in 0..count {
+        lists.push(Vec::new(alloc))?;
+    }
+    Ok(lists)
 }

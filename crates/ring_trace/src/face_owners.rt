@@ -4,7 +4,7 @@ ghost use Rattle.ring_trace.specs.Owners.{AreOwners, IsNumbered, with_number};
 
 use crate::set_list::SetList;
 use face_walk::Faces;
-use grid_base::FaceId;
+use grid_base::{FaceId, empty_lists};
 use std::alloc::{AllocError, Global};
 use std::marker::Model;
 
@@ -31,7 +31,7 @@ impl FaceOwners {
         ensures each { IfOk result (λ o. length o ≡ f.now.count) }
         ensures numbers { IfOk result (All (All (λ n. n < length sets.now))) }
     {
-        let mut lists = empty_lists(alloc, f.count())?;
+        let mut lists = empty_lists(alloc, f.count() as usize)?;
         for n in 0..sets.len() {
             add_owner(&mut lists, sets.as_slice()[n as usize].faces(), n)?;
         }
@@ -47,17 +47,6 @@ impl FaceOwners {
             None => &[],
         }
     }
-}
-
-fn empty_lists(alloc: Global, count: u32) -> Result<Vec<Vec<u32>>, AllocError>
-    ensures each { IfOk result (λ v. length v.items ≡ count) }
-    ensures empty { IfOk result (λ v. All (λ list. list ≡ []) (map (λ list. list.items) v.items)) }
-{
-    let mut lists = Vec::with_capacity(alloc, count as usize)?;
-    for _face in 0..count {
-        lists.push(Vec::new(alloc))?;
-    }
-    Ok(lists)
 }
 
 // Puts the number of a set to the owners of each of its faces.

@@ -2,7 +2,7 @@ use Rattle.std.proofs.Common.{◌≡◌, ◌∙◌, ap, sym, subst, arith, ℕ, 
 use Rattle.std.specs.Prelude.{slice_get}
 use Rattle.std.specs.List.Sorted.{IsStrictlyIncreasing}
 use Rattle.std.proofs.lemmas.List.{get_or-map, length-map, length-set, map-set}
-use Rattle.std.proofs.lemmas.List.Elements.{All-map, All-set, All-weaker}
+use Rattle.std.proofs.lemmas.List.Elements.{All-set}
 use Rattle.std.proofs.lemmas.Option.{slice_get-get_or}
 use Rattle.face_walk.specs.Crossings.{outer_of}
 use Rattle.face_walk.specs.Holders.{AreAcross, AreHeldBy, list_at, steps_on}
@@ -13,12 +13,16 @@ use Rattle.face_walk.proofs.labels.held_lists.Goals as goal
 
 pub loop-c-init : goal.loop-c-init
 loop-c-init c =
-    let lists = c.in_ok-held.held.items in
-    let free = c.in_ok-held.ensures.free in
+    let held = c.in_ok-held.held.items in
+    let lists : List (List ℕ) = map (λ w. w.items) held in
+    let empty = c.in_ok-held.ensures.empty in
+    let size : length lists ≡ length held = length-map held (λ w. w.items) in
     record {
       each = c.in_ok-held.ensures.each ∙ c.count.ensures.exact;
-      held = held_none c.args.steps.now (outer_of c.args.f.now) (map (λ w. w.items) lists) (All-map (λ (items : List ℕ). items ≡ []) (λ w. w.items) lists free);
-      rising = All-weaker (λ w. w.items ≡ []) (λ w. IsStrictlyIncreasing w.items) (λ w e. subst (λ (items : List ℕ). IsStrictlyIncreasing items) (sym e) (λ k l. absurd (omega arith))) lists free;
+      held = held_none c.args.steps.now (outer_of c.args.f.now) lists empty;
+      rising = λ n w l.
+          (let none : get_or lists n [] ≡ [] = empty n [] (omega arith) in
+          subst (λ (items : List ℕ). IsStrictlyIncreasing items) (sym none ∙ get_or-map (λ w. w.items) held n w [] l) (λ k m. absurd (omega arith)));
     }
 
 pub loop-c-preserved : goal.loop-c-preserved
