@@ -5,5 +5,4 @@ pub mod OwnerSets
 pub mod FillLemmas
 pub mod ExplodedLemmas
 pub mod ListOrder
-pub mod GroupLemmas
 pub mod MosaicLemmas

@@ -1,18 +1,18 @@
 -- The choice of a face, from the lists of the sets that have it.
-use Rattle.std.proofs.Common.{◌≡◌, refl, sym, ap, ◌∙◌, subst, inl, inr, true≢false, arith, ℕ, suc, ◌+◌, ◌<◌, Bool, true, ◌||◌, ◌≤◌, cond, nat_eq, List, [], ◌∷◌, ◌++◌, length, get_or, slice_get, take, drop, map, All, Contains, Option, Some, None, is_some, unwrap_or}
+use Rattle.std.proofs.Common.{◌≡◌, refl, sym, ap, ◌∙◌, subst, inl, inr, true≢false, arith, ℕ, suc, ◌+◌, ◌<◌, Bool, true, ◌||◌, ◌≤◌, nat_eq, List, [], ◌∷◌, ◌++◌, length, get_or, slice_get, take, drop, map, All, Contains, Option, Some, None, is_some, unwrap_or}
 use Rattle.std.specs.declared.cmp.Ordering.{Ordering}
 use Rattle.std.specs.declared.cmp.Ordering.TheVariants.{Less, Greater}
 use Rattle.std.specs.Cmp.Lexicographic.{slice_cmp}
 use Rattle.std.proofs.lemmas.Bool.{cases_Bool, cases_lt, eq-eqb}
 use Rattle.std.proofs.lemmas.List.{take_more, get_or-map, get_or_default, length-map, drop_more, drop_all, length_push, get_or_append_left, get_or_push}
-use Rattle.std.proofs.lemmas.List.Elements.{All-head, All-tail, All-contains}
+use Rattle.std.proofs.lemmas.List.Elements.{All-head, All-tail}
 use Rattle.std.proofs.lemmas.List.Folds.{list_any_at}
-use Rattle.lists.specs.Lists.{has, numbers_from}
+use Rattle.lists.specs.Lists.{has}
 use Rattle.bucket_grid.proofs.Numbers.{Contains-numbers_where, numbers_where_below}
 use Rattle.face_walk.specs.Places.{FaceTable}
 use Rattle.ring_trace.specs.Owners.{owners_of, AreOwners}
 use Rattle.ring_trace.specs.Sets.{IsInnerFace, IsSetOf}
-use Rattle.ring_trace.proofs.BoundaryLemmas.{has_Contains}
+use Rattle.face_groups.proofs.Groups.{held_inside}
 use Rattle.union_ops.specs.Choices.{Choice, first_with, choice_of, has_number, number_order, IsChoiceFrom, AreChoices, AreLayerOwners, choice_among}
 use Rattle.union_ops.specs.Union.{IsHeld}
 
@@ -93,17 +93,9 @@ choice_from layers k =
 pub number_inside : (t : FaceTable) (k : ℕ) (layers : List (List (List ℕ))) → All (All (IsSetOf t)) layers → has_number (choice_of layers k) ≡ true → IsInnerFace t k
 number_inside t k [] h e = absurd (true≢false (sym e))
 number_inside t k (sets ∷ layers) h e = elim (cases_Bool (is_some (first_with sets k))) [
-  | inl found ↦ held_inside 0 sets (All-head (All (IsSetOf t)) sets layers h) (λ none. true≢false (sym found ∙ ap (λ (ns : List ℕ). is_some (slice_get ns 0)) none))
+  | inl found ↦ held_inside t k 0 sets (All-head (All (IsSetOf t)) sets layers h) (λ none. true≢false (sym found ∙ ap (λ (ns : List ℕ). is_some (slice_get ns 0)) none))
   | inr missed ↦ number_inside t k layers (All-tail (All (IsSetOf t)) sets layers h) (ap (λ (b : Bool). b || has_number (choice_of layers k)) (sym missed) ∙ e)
 ]
-  where
-    held_inside : (n : ℕ) (ss : List (List ℕ)) → All (IsSetOf t) ss → (numbers_from n (λ (set : List ℕ). has nat_eq set k) ss ≡ [] → ⊥) → IsInnerFace t k
-    held_inside n [] g some = absurd (some refl)
-    held_inside n (set ∷ ss) g some = elim (cases_Bool (has nat_eq set k)) [
-      | inl found ↦ All-contains (IsInnerFace t) set k (All-head (IsSetOf t) set ss g) (has_Contains set k found)
-      | inr missed ↦ held_inside (n + 1) ss (All-tail (IsSetOf t) set ss g) (λ none. some
-          (ap (λ (b : Bool). cond b (n ∷ numbers_from (n + 1) (λ (s : List ℕ). has nat_eq s k) ss) (numbers_from (n + 1) (λ (s : List ℕ). has nat_eq s k) ss)) missed ∙ none))
-    ]
 
 some_first : (xs : List ℕ) (x : ℕ) → Contains xs x → is_some (slice_get xs 0) ≡ true
 some_first [] x c = absurd (let l : c.0 < 0 = c.1 in omega arith)

@@ -1,6 +1,5 @@
 pub mod ChoiceOrder
 pub mod ChoiceLemmas
-pub mod GroupLemmas
 pub mod UnionLemmas
 pub mod NameLemmas
 pub mod TableLemmas

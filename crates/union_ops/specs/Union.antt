@@ -1,10 +1,10 @@
 -- The union of layers: the parts of the faces that have one choice.
-use Rattle.std.specs.Prelude.{◌≡◌, ℕ, ◌<◌, ◌≤◌, Bool, true, false, nat_lt, List, [], ◌++◌, All, AllPairs, Contains, filter, length, map, slice_index, slice_index_or, take}
+use Rattle.std.specs.Prelude.{◌≡◌, ℕ, ◌<◌, Bool, true, List, [], ◌++◌, All, AllPairs, Contains, filter, length, map, slice_index_or}
 use Rattle.std.specs.List.{flat_map, range_with_len}
-use Rattle.lists.specs.Lists.{ascending}
 use Rattle.face_walk.specs.Places.{FaceTable}
 use Rattle.ring_trace.specs.Joined.{AreParts}
-use Rattle.ring_trace.specs.Sets.{IsInnerFace, IsSetOf}
+use Rattle.ring_trace.specs.Sets.{IsSetOf}
+use Rattle.face_groups.specs.Groups.{AreGroupsOf}
 use Rattle.union_ops.specs.Choices.{Choice, choice_of, has_number, same_choice, choice_before, IsChoiceFrom}
 use Rattle.union_ops.specs.declared.union_lists.UnionItem.{UnionItem}
 
@@ -67,48 +67,15 @@ pub record IsItemOf (faces : FaceTable) (layers : List (List (List ℕ))) (item 
 
 -- ---- on the way, by choices for the faces
 
--- the choice of a face is this one; it has a number
-abbrev pub HasChoice : List Choice → Choice → ℕ → Type 0
-HasChoice choices choice k = slice_index_or choices k [] ≡ choice
+abbrev pub choice_at : List Choice → ℕ → Choice
+choice_at choices k = slice_index_or choices k []
 
-abbrev pub IsChosen : List Choice → ℕ → Type 0
-IsChosen choices k = has_number (slice_index_or choices k []) ≡ true
+-- the choice of a face has a number; or comes before that of another
+abbrev pub is_chosen : List Choice → ℕ → Bool
+is_chosen choices k = has_number (choice_at choices k)
 
--- an inner face with a choice that has a number; all such faces are there
-pub record IsChosenInside (faces : FaceTable) (choices : List Choice) (k : ℕ) : Type 0 where
-  pub inner : IsInnerFace faces k
-  pub chosen : IsChosen choices k
-
-abbrev pub HasAllChosen : FaceTable → List Choice → List ℕ → Type 0
-HasAllChosen faces choices chosen = (k : ℕ) → IsChosenInside faces choices k → Contains chosen k
-
--- the choice of one face comes before that of another
-abbrev pub comes_before : List Choice → ℕ → ℕ → Bool
-comes_before choices j k = choice_before (slice_index_or choices j []) (slice_index_or choices k [])
-
--- along the faces their choices do not fall
-abbrev pub AreByChoice : List Choice → List ℕ → Type 0
-AreByChoice choices chosen = (i j : ℕ) → i ≤ j → j < length chosen → comes_before choices (slice_index chosen j) (slice_index chosen i) ≡ false
-
--- the faces before a place have lesser choices than the one there; or one of them has the same
-abbrev pub BeginsChoice : List Choice → List ℕ → ℕ → Type 0
-BeginsChoice choices chosen i = (k : ℕ) → Contains (take i chosen) k → comes_before choices k (slice_index chosen i) ≡ true
-
-abbrev pub GoesOnChoice : List Choice → List ℕ → ℕ → Type 0
-GoesOnChoice choices chosen i = (k : ℕ) × Contains (take i chosen) k × HasChoice choices (slice_index_or choices (slice_index chosen i) []) k
-
--- the faces from one place to another have the choice, and those after them have not
-pub record IsChoiceRun (choices : List Choice) (chosen : List ℕ) (choice : Choice) (first end : ℕ) : Type 0 where
-  pub within : end ≤ length chosen
-  pub inside : (k : ℕ) → first ≤ k → k < end → HasChoice choices choice (slice_index chosen k)
-  pub beyond : (k : ℕ) → end ≤ k → k < length chosen → HasChoice choices choice (slice_index chosen k) → ⊥
-
--- those of the faces that have the choice
-abbrev pub has_choice : List Choice → Choice → ℕ → Bool
-has_choice choices choice k = same_choice (slice_index_or choices k []) choice
-
-abbrev pub faces_with : List Choice → Choice → List ℕ → List ℕ
-faces_with choices choice chosen = ascending nat_lt (filter (has_choice choices choice) chosen)
+abbrev pub chosen_before : List Choice → ℕ → ℕ → Bool
+chosen_before choices j k = choice_before (choice_at choices j) (choice_at choices k)
 
 -- the items of the parts of a set of faces appended to others
 pub record IsGroupPushed (faces : FaceTable) (choice : Choice) (set : List ℕ) (old new : List UnionItem) : Type 0 where
@@ -116,11 +83,6 @@ pub record IsGroupPushed (faces : FaceTable) (choice : Choice) (set : List ℕ) 
   pub are : AreParts faces set parts
   pub items : new ≡ old ++ items_of choice parts
 
--- the items of the choices of some of the faces
-pub record AreGrouped (faces : FaceTable) (choices : List Choice) (chosen some : List ℕ) (items : List UnionItem) : Type 0 where
-  pub groups : List Group
-  pub in_order : AreAscending groups
-  pub used : (g : Group) → Contains groups g → (k : ℕ) × Contains some k × HasChoice choices g.choice k
-  pub reached : (k : ℕ) → Contains some k → (g : Group) × Contains groups g × (g.choice ≡ slice_index_or choices k [])
-  pub parts : (g : Group) → Contains groups g → AreParts faces (faces_with choices g.choice chosen) g.parts
-  pub listed : items ≡ items_of_groups groups
+-- the items of the parts of each set, with the choice of its first face
+abbrev pub ArePieces : FaceTable → List Choice → List (List ℕ) → List UnionItem → Type 0
+ArePieces faces choices sets items = AreGroupsOf faces (choice_at choices) (λ (g : Group). g.choice) (λ (g : Group). g.parts) (λ (g : Group). items_of g.choice g.parts) sets items

@@ -3,6 +3,7 @@ ghost use Rattle.std.specs.Cmp.Lexicographic.{slice_cmp};
 ghost use Rattle.union_ops.specs.Choices.{AreChoices, AreLayerOwners, choice_among, has_number, number_order as order_of_numbers};
 
 use crate::union_lists::LayerSets;
+use face_groups::FaceKeys;
 use face_walk::Faces;
 use grid_base::FaceId;
 use ring_trace::FaceOwners;
@@ -54,6 +55,23 @@ impl FaceChoices {
     }
 }
 
+// The choices in lexicographic order; no key where no layer has a set.
+impl FaceKeys for FaceChoices {
+    ghost use Rattle.union_ops.specs.Union.{chosen_before, is_chosen};
+
+    ghost is_keyed = { is_chosen };
+
+    ghost comes_before = { chosen_before };
+
+    fn has_key(&self, face: FaceId) -> bool {
+        has_number(self.at(face))
+    }
+
+    fn order(&self, a: FaceId, b: FaceId) -> Ordering {
+        choice_order(self.at(a), self.at(b))
+    }
+}
+
 // For each layer the sets that have each face.
 fn layer_owners(alloc: Global, f: &Faces, layers: &LayerSets) -> Result<Vec<FaceOwners>, AllocError>
     ensures { IfOk result (λ v. AreLayerOwners layers.now f.now.count v.items) }
@@ -85,8 +103,8 @@ fn first_number(numbers: &[u32]) -> Option<u32>
     numbers.first().copied()
 }
 
-/// Whether some layer has a set in the choice.
-pub(crate) fn has_number(choice: &[Option<u32>]) -> bool
+// Whether some layer has a set in the choice.
+fn has_number(choice: &[Option<u32>]) -> bool
     ensures { result ≡ has_number choice.now }
 {
     for number in choice {
@@ -97,8 +115,8 @@ pub(crate) fn has_number(choice: &[Option<u32>]) -> bool
     false
 }
 
-/// Choices in lexicographic order.
-pub(crate) fn choice_order(a: &[Option<u32>], b: &[Option<u32>]) -> Ordering
+// Choices in lexicographic order.
+fn choice_order(a: &[Option<u32>], b: &[Option<u32>]) -> Ordering
     ensures { result ≡ slice_cmp order_of_numbers a.now b.now }
 {
     for i in 0..a.len() {

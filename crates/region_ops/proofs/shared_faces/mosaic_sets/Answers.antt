@@ -1,17 +1,20 @@
-use Rattle.std.proofs.Common.{subst, ℕ, List}
-use Rattle.region_ops.specs.Mosaic.{AreGrouped}
-use Rattle.region_ops.proofs.MosaicLemmas.{shared_pieces, is_mosaic}
+use Rattle.std.proofs.lemmas.Cmp.{nat_list_cmp_total}
+use Rattle.std.proofs.lemmas.List.Sorted.{ranks_by}
+use Rattle.face_walk.specs.Holders.{list_at}
+use Rattle.region_ops.specs.Mosaic.{IsMosaic}
+use Rattle.region_ops.proofs.MosaicLemmas.{is_mosaic, each_shared, each_inner}
 use Rattle.region_ops.proofs.shared_faces.mosaic_sets.Goals as goal
 
-pub returns-clause-shared : goal.returns-clause-shared
-returns-clause-shared c =
-    let made = c.in_ok-items.ensures in
-    shared_pieces c.args.f.now c.args.old.now c.in_ok-owners.owners c.in_ok-items.items c.in_ok-owners.ensures.exact made.inner made.owned
+pub sets_by_key-requires : goal.sets_by_key-requires
+sets_by_key-requires c = record { ordered = ranks_by nat_list_cmp_total (list_at c.in_ok-owners.owners) }
 
-pub returns-clause-exact : goal.returns-clause-exact
-returns-clause-exact c =
-    let made = c.in_ok-shared.ensures in
-    let owners = c.in_ok-owners.owners in
-    let shared = c.in_ok-shared.shared.items in
-    is_mosaic c.args.f.now c.args.old.now owners shared c.in_ok-owners.ensures.exact c.requires.faces made.inner made.owned made.all c.in_ok-items.items
-    (subst (λ (xs : List ℕ). AreGrouped c.args.f.now owners xs xs c.in_ok-items.items) c.deref.ensures.value c.in_ok-items.ensures.exact)
+pub pieces_of-requires-clause-sets : goal.pieces_of-requires-clause-sets
+pieces_of-requires-clause-sets c = c.in_ok-sets.ensures.exact
+
+pub returns : goal.returns
+returns c =
+    let t = c.args.f.now in
+    let sets = c.args.old.now in
+    let items = c.in_ok-items.items in
+    let u : IsMosaic t sets items = is_mosaic t sets c.in_ok-owners.owners c.in_ok-owners.ensures.exact c.requires.faces c.in_ok-sets.sets items c.in_ok-sets.ensures.exact c.in_ok-items.ensures.exact in
+    record { exact = u; shared = each_shared t sets c.requires.faces items u; inner = each_inner t sets c.requires.faces items u }

@@ -1,38 +1,34 @@
-use Rattle.std.proofs.Common.{◌≡◌, ◌∙◌, sym, ap, subst, ℕ, ◌++◌, List, [], get_or, take}
+use Rattle.std.proofs.Common.{◌≡◌, ◌∙◌, sym, ap, subst, ℕ, ◌++◌, List, get_or}
 use Rattle.std.proofs.lemmas.List.{get_or_default, take_all}
 use Rattle.ring_trace.specs.Joined.{AreParts}
+use Rattle.face_groups.proofs.Groups.{items_more}
 use Rattle.union_ops.specs.Choices.{Choice}
-use Rattle.union_ops.specs.Union.{IsGroupPushed, faces_with, items_of}
-use Rattle.union_ops.proofs.GroupLemmas.{parts_more}
+use Rattle.union_ops.specs.Union.{IsGroupPushed, choice_at, items_of}
 use Rattle.union_ops.proofs.united_faces.push_parts.Goals as goal
 
 pub loop-part-preserved : goal.loop-part-preserved
 loop-part-preserved c =
-    let part = c.part-item.result in
+    let choice = c.at-choice.result.now in
+    let piece = c.part-item.result in
+    let item = c.in_ok-union_item.field-0 in
     let made = c.in_ok-union_item.ensures in
+    let is : item ≡ record { choice = choice; set = piece } = λ i. record { choice = made.choice i; set = made.set i } in
     c.in_ok-push.ensures.ok
-    ∙ parts_more c.at-choice.result.now c.loop-part.part-index c.as_slice-part-items.result.now part part c.args.items.now c.loop-part.items c.in_ok-union_item.field-0 c.loop-part-test.true c.part-item.is made.choice made.set c.loop-part.invariant
+    ∙ items_more (λ (set : List ℕ). record { choice = choice; set = set }) c.as_slice-part-items.result.now c.loop-part.part-index piece piece c.args.items.now c.loop-part.items item c.loop-part-test.true c.part-item.is is c.loop-part.invariant
 
 pub returns : goal.returns
 returns c =
-    let t = c.args.f.now in
     let choices = c.args.choices.now in
-    let chosen = c.args.chosen.now in
-    let first = c.args.first in
-    let old = c.args.items.now in
-    let set = c.in_ok-set.set in
+    let set = c.args.set.now in
     let choice = c.at-choice.result.now in
     let pieces = c.as_slice-part-items.result.now in
-    let face = c.index-chosen-first.result in
-    let here : face ≡ get_or chosen first 0 = c.index-chosen-first.is ∙ get_or_default chosen first face 0 c.requires.place in
-    let is : choice ≡ get_or choices (get_or chosen first 0) [] = c.at-choice.ensures.exact ∙ ap (λ (k : ℕ). get_or choices k []) here in
-    let done = c.loop-part-test.false in
-    let all : take c.loop-part.part-index pieces ≡ pieces = take_all c.loop-part.part-index pieces done in
+    let face = c.index-faces-0.result in
+    let here : face ≡ get_or set 0 0 = c.index-faces-0.is ∙ ap (λ (xs : List ℕ). get_or xs 0 face) c.faces.ensures.all ∙ get_or_default set 0 face 0 c.requires.some in
+    let is : choice ≡ choice_at choices (get_or set 0 0) = c.at-choice.ensures.exact ∙ ap (choice_at choices) here in
     record {
-      exact = subst (λ (ns : Choice). IsGroupPushed t ns (faces_with choices ns chosen) old c.loop-part.items) is (record {
+      exact = subst (λ (ns : Choice). IsGroupPushed c.args.f.now ns set c.args.items.now c.loop-part.items) is (record {
         parts = pieces;
-        are = subst (λ (s : List ℕ). AreParts t s pieces) c.in_ok-set.ensures.exact
-            (subst (λ (ps : List (List ℕ)). AreParts t set ps) (sym c.as_slice-part-items.ensures.all) c.in_ok-parts.ensures.exact);
-        items = c.loop-part.invariant ∙ ap (λ (ps : List (List ℕ)). old ++ items_of choice ps) all;
+        are = subst (AreParts c.args.f.now set) (sym c.as_slice-part-items.ensures.all) c.in_ok-parts.ensures.exact;
+        items = c.loop-part.invariant ∙ ap (λ (ps : List (List ℕ)). c.args.items.now ++ items_of choice ps) (take_all c.loop-part.part-index pieces c.loop-part-test.false);
       });
     }
