@@ -1,12 +1,12 @@
 -- A collection of features that is read feature by feature.
 use Rattle.std.proofs.Common.{◌≡◌, ℕ, ◌+◌, ◌<◌, ◌≤◌, List, [], ◌∷◌, ◌++◌, length, sym, ap, ◌∙◌, subst, refl, arith, append_assoc, length-append, Bool, true, false, Option, Some, None, MatchOption, Result, Ok, Err, MatchResult, codes, All, inl, inr}
-use Rattle.std.specs.Prelude.{if◌then◌else◌, IfOk, IfSome, is_some}
+use Rattle.std.specs.Prelude.{if◌then◌else◌, IfNone, IfOk, IfSome, is_some}
 use Rattle.std.specs.List.{enumerate_from}
 use Rattle.std.specs.Str.{bytes_eq}
 use Rattle.json_read.specs.Json.{JsonValue, ItemList, FieldList, array, object}
 use Rattle.json_read.specs.Lists.{items_list, fields_list, value_named}
 use Rattle.json_read.specs.Grammar.{JsonText}
-use Rattle.json_read.specs.Taking.{TakesOne, TookNamed, AreFieldsOf, IsTakenText}
+use Rattle.json_read.specs.Taking.{TakesOne, TookNamed, AreFieldsOf, IsReadOtherwise, IsTakenText}
 use Rattle.geojson_io.specs.LayerContent.{LayerContent}
 use Rattle.geojson_io.specs.Reads.{Reads, Fault, IsFault, AnswersIn, on_ok, each}
 use Rattle.geojson_io.specs.Geometries.{text_of, type_of}
@@ -167,7 +167,11 @@ collection_text first now name fields bytes result start h c answer =
 pub whole_text : (P Q : List JsonValue → Type 0) (all : FieldList) (bytes : List ℕ) → IsTakenText 64 P Q (codes "features") all false bytes → JsonText 64 bytes (object all)
 whole_text P Q all bytes h = subst (λ (w : FieldList). JsonText 64 bytes (object w)) h.2.taken.0 h.1
 
--- no features: of that name, or of a collection
+-- no features: of bytes that are read otherwise, of no field of that name, or of no collection
+pub not_found : (found : Option TakenObject) (bytes : List ℕ) → ((o : TakenObject) → found ≡ Some o → ⊥) → IfNone found (IsReadOtherwise 64 (codes "features") bytes) → HaveNoFeatures bytes
+not_found None bytes other h = inl h
+not_found (Some o) bytes other h = absurd (other o refl)
+
 pub without_features : (P Q : List JsonValue → Type 0) (all : FieldList) (bytes : List ℕ) → IsTakenText 64 P Q (codes "features") all false bytes → HaveNoFeatures bytes
 without_features P Q all bytes h = inr (h.0, h.1, inl (ap (λ (w : FieldList). value_named (codes "features") (fields_list w)) h.2.taken.0 ∙ h.2.absent refl))
 

@@ -1,11 +1,9 @@
-use Rattle.std.proofs.Common.{◌≡◌, refl, sym, ap, ◌∙◌, true, false, None, List, ℕ, codes, inl}
+use Rattle.std.proofs.Common.{◌≡◌, refl, sym, ap, ◌∙◌, true, false, None, List, ℕ, codes}
 use Rattle.std.specs.Str.{bytes_eq}
 use Rattle.geojson_io.specs.Geometries.{type_of}
 use Rattle.geojson_io.specs.Taking.{HasTaken, IsCollectionText}
 use Rattle.geojson_io.specs.declared.reading.taking.FeatureTaker.{FeatureTaker}
-use Rattle.json_read.specs.Taking.{IsReadOtherwise}
-use Rattle.json_read.proofs.Taking.{none_found}
-use Rattle.geojson_io.proofs.TakingLemmas.{nothing_taken, found_text, whole_text, without_features, of_other_type, whole_only, collection_text, collection_sound}
+use Rattle.geojson_io.proofs.TakingLemmas.{nothing_taken, found_text, whole_text, not_found, without_features, of_other_type, whole_only, collection_text, collection_sound}
 use Rattle.geojson_io.proofs.reading.taking.parse_features.Goals as goal
 
 pub returns-then-not-object-clause-ok : goal.returns-then-not-object-clause-ok
@@ -31,7 +29,7 @@ returns-then-eq-clause-sound c =
 
 pub returns-in_default-clause-whole : goal.returns-in_default-clause-whole
 returns-in_default-clause-whole c =
-    whole_only c.args.bytes.now c.parse_value.result (inl (none_found (IsReadOtherwise 64 (codes "features") c.args.bytes.now) c.in_ok-object.field-0 c.in_default.not-Some c.in_ok-object.ensures.other))
+    whole_only c.args.bytes.now c.parse_value.result (not_found c.in_ok-object.field-0 c.args.bytes.now c.in_default.not-Some c.in_ok-object.ensures.other)
 
 pub returns-then-not-object-clause-whole : goal.returns-then-not-object-clause-whole
 returns-then-not-object-clause-whole c =
