@@ -10,7 +10,7 @@ ghost use Rattle.region_ops.specs.Filled.{AreGifts, AreTogether, IsFilled, IsRec
 
 use crate::cleaned_sets::first_of;
 use face_walk::Faces;
-use grid_base::{FaceId, OverlapRule, SignedArc};
+use grid_base::{FaceId, OverlapRule, SignedArc, empty_lists};
 use ring_trace::{FaceOwners, FaceSet, SetList};
 use std::alloc::{AllocError, Global};
 
@@ -58,17 +58,6 @@ fn gifts_of(
         give(&mut gifts, gap.faces(), to)?;
     }
     Ok(gifts)
-}
-
-fn empty_lists(alloc: Global, count: usize) -> Result<Vec<Vec<FaceId>>, AllocError>
-    ensures each { IfOk result (λ v. length v.items ≡ count) }
-    ensures empty { IfOk result (λ v. All (λ list. list ≡ []) (map (λ list. list.items) v.items)) }
-{
-    let mut lists = Vec::with_capacity(alloc, count)?;
-    for _list in 0..count {
-        lists.push(Vec::new(alloc))?;
-    }
-    Ok(lists)
 }
 
 // The set that a gap goes to, where the gap is filled.

@@ -8,7 +8,7 @@ ghost use Rattle.spatial_join.specs.Matches.{AreFoundAlong, AreMatchedPoints, Ar
 use crate::beside::push_sets_at;
 use arc_table::ArcTable;
 use face_walk::Faces;
-use grid_base::{GroupList, IdList, PathList, Pt};
+use grid_base::{GroupList, IdList, PathList, Pt, empty_lists};
 use ring_trace::{FaceOwners, SetList};
 use std::alloc::{AllocError, Global};
 
@@ -110,22 +110,11 @@ fn turned_round(alloc: Global, lists: &GroupList, count: u32) -> Result<GroupLis
     requires ascending { All IsStrictlyIncreasing lists.now }
     ensures exact { IfOk result (λ g. g ≡ map (owners_of lists.now) (range_with_len 0 count)) }
 {
-    let mut places = empty_lists(alloc, count)?;
+    let mut places = empty_lists(alloc, count as usize)?;
     for n in 0..lists.len() {
         add_number(&mut places, lists.as_slice()[n as usize].as_slice(), n)?;
     }
     group_list(alloc, &places)
-}
-
-fn empty_lists(alloc: Global, count: u32) -> Result<Vec<Vec<u32>>, AllocError>
-    ensures each { IfOk result (λ v. length v.items ≡ count) }
-    ensures empty { IfOk result (λ v. All (λ list. list ≡ []) (map (λ list. list.items) v.items)) }
-{
-    let mut lists = Vec::with_capacity(alloc, count as usize)?;
-    for _place in 0..count {
-        lists.push(Vec::new(alloc))?;
-    }
-    Ok(lists)
 }
 
 // Puts a number to the lists at each of some places.
