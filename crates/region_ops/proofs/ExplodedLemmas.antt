@@ -1,9 +1,9 @@
 -- Items for the pieces of one set after another.
-use Rattle.std.proofs.Common.{◌≡◌, refl, sym, ap, ◌∙◌, subst, arith, ℕ, ◌+◌, ◌<◌, List, [], ◌∷◌, ◌++◌, length, get_or, take, inl, inr, append-nil, append_assoc}
+use Rattle.std.proofs.Common.{◌≡◌, refl, sym, ap, ◌∙◌, subst, arith, ℕ, ◌+◌, List, [], ◌∷◌, ◌++◌, length, get_or, inl, inr, append-nil}
 use Rattle.std.specs.List.{flat_map, enumerate_from}
 use Rattle.std.proofs.lemmas.Bool.{cases_lt}
 use Rattle.std.proofs.lemmas.Grind.{flat_map-append}
-use Rattle.std.proofs.lemmas.List.{length_push, get_or_append_left, get_or_push, take_more, map-append}
+use Rattle.std.proofs.lemmas.List.{length_push, get_or_append_left, get_or_push}
 use Rattle.face_walk.specs.Places.{FaceTable}
 use Rattle.region_ops.specs.declared.item_lists.PartItem.{PartItem}
 use Rattle.region_ops.specs.Exploded.{ArePieces, items_of, IsPushed, AreExploded}
@@ -36,18 +36,6 @@ exploded_more faces sets n old new h p =
           ∙ ap (λ (is : List PartItem). flat_map items_of_set (enumerate_from 0 h.pieces) ++ is) (sym (append-nil (items_of n p.pieces)))
           ∙ sym (ap (flat_map items_of_set) (enumerate_push 0 n h.pieces p.pieces (omega arith)) ∙ flat_map-append items_of_set (enumerate_from 0 h.pieces) ((n, p.pieces) ∷ []));
     }
-
--- one piece more
-pub pieces_more : (n i : ℕ) (pieces : List (List ℕ)) (d piece : List ℕ) (old so_far : List PartItem) (item : PartItem) → i < length pieces → piece ≡ get_or pieces i d → item.feature ≡ n → item.set ≡ piece →
-    so_far ≡ old ++ items_of n (take i pieces) → so_far ++ item ∷ [] ≡ old ++ items_of n (take (i + 1) pieces)
-pieces_more n i pieces d piece old so_far item l is feature set before =
-    ap (λ (is : List PartItem). is ++ item ∷ []) before ∙ append_assoc old (items_of n (take i pieces)) (item ∷ [])
-    ∙ ap (λ (is : List PartItem). old ++ is)
-    (ap (λ (x : PartItem). items_of n (take i pieces) ++ x ∷ []) one
-    ∙ sym (ap (items_of n) (take_more pieces i d l) ∙ map-append (λ (p : List ℕ). record { feature = n; set = p }) (take i pieces) (get_or pieces i d ∷ [])))
-  where
-    one : item ≡ record { feature = n; set = get_or pieces i d }
-    one = λ j. record { feature = feature j; set = (set ∙ is) j }
 
 pub pieces_of_empty : (faces : FaceTable) (set : List ℕ) (pieces : List (List ℕ)) → set ≡ [] → pieces ≡ [] ∷ [] → ArePieces faces set pieces
 pieces_of_empty faces set pieces e f = record { empty = λ _. f; parts = λ n. absurd (n e) }

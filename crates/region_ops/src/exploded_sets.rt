@@ -1,7 +1,7 @@
-ghost use Rattle.std.specs.Prelude.{◌≡◌, ◌<◌, [], All, IfOk, OnOk, length, slice_index_or};
+ghost use Rattle.std.specs.Prelude.{◌≡◌, ◌++◌, ◌<◌, [], All, IfOk, OnOk, length, slice_index_or};
 ghost use Rattle.face_walk.specs.Places.{IsBuiltOf};
 ghost use Rattle.ring_trace.specs.Sets.{IsSetOf};
-ghost use Rattle.region_ops.specs.Exploded.{ArePieces, IsExploded, IsPushed};
+ghost use Rattle.region_ops.specs.Exploded.{ArePieces, IsExploded, IsPushed, items_of};
 ghost use Rattle.region_ops.specs.Items.{IsPart};
 
 use crate::item_lists::{PartItem, PartList};
@@ -61,25 +61,15 @@ fn push_pieces(
     ensures parts { OnOk result (All (IsPart f.now (length old.now)) items.new) }
 {
     let pieces = pieces_of(alloc, t, f, &old.as_slice()[n as usize])?;
-    for piece in pieces.as_slice() {
-        items.push(part_item(alloc, f, old, n, piece)?)?;
-    }
+    push_items(items, n, pieces.into_vec())?;
     Ok(())
 }
 
-fn part_item(
-    alloc: Global,
-    f: &Faces,
-    old: &SetList,
-    n: u32,
-    piece: &FaceSet,
-) -> Result<PartItem, AllocError>
-    requires number { n < length old.now }
-    requires piece { IsSetOf f.now piece.now }
-    ensures feature { IfOk result (λ item. item.feature ≡ n) }
-    ensures set { IfOk result (λ item. item.set ≡ piece.now) }
-    ensures part { IfOk result (IsPart f.now (length old.now)) }
+fn push_items(items: &mut PartList, n: u32, pieces: Vec<FaceSet>) -> Result<(), AllocError>
+    ensures exact { OnOk result (items.new ≡ items.old ++ items_of n pieces.items) }
 {
-    let set = piece.copy(alloc)?;
-    Ok(PartItem { feature: n, set })
+    for set in pieces {
+        items.push(PartItem { feature: n, set })?;
+    }
+    Ok(())
 }

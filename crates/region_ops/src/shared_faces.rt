@@ -1,11 +1,11 @@
-ghost use Rattle.std.specs.Prelude.{◌≡◌, ◌<◌, All, IfOk, OnOk, length, slice_index};
+ghost use Rattle.std.specs.Prelude.{◌≡◌, ◌++◌, ◌<◌, All, IfOk, OnOk, length, slice_index};
 ghost use Rattle.face_walk.specs.Holders.{list_at};
 ghost use Rattle.face_walk.specs.Places.{IsBuiltOf};
 ghost use Rattle.ring_trace.specs.Sets.{IsSetOf};
 ghost use Rattle.face_groups.specs.Groups.{AreKeySets, IsKeyed};
 ghost use Rattle.face_groups.specs.Keys.{is_owned, owned_before};
 ghost use Rattle.region_ops.specs.Items.{IsPiece};
-ghost use Rattle.region_ops.specs.Mosaic.{ArePieces, IsGroupPushed, IsMosaic, IsShared};
+ghost use Rattle.region_ops.specs.Mosaic.{ArePieces, IsGroupPushed, IsMosaic, IsShared, items_of};
 
 use crate::item_lists::{MosaicItem, MosaicList};
 use arc_table::ArcTable;
@@ -71,19 +71,24 @@ fn push_pieces(
     ensures exact { OnOk result (IsGroupPushed f.now (list_at owners.now (slice_index set.now 0)) set.now items.old items.new) }
 {
     let ids = owners.at(set.faces()[0]);
-    for piece in parts(alloc, t, f, set)?.as_slice() {
-        items.push(mosaic_item(alloc, ids, piece)?)?;
-    }
+    let pieces = parts(alloc, t, f, set)?;
+    push_items(alloc, items, ids, pieces.into_vec())?;
     Ok(())
 }
 
-fn mosaic_item(alloc: Global, ids: &[u32], piece: &FaceSet) -> Result<MosaicItem, AllocError>
-    ensures ids { IfOk result (λ item. item.ids ≡ ids.now) }
-    ensures set { IfOk result (λ item. item.set ≡ piece.now) }
+fn push_items(
+    alloc: Global,
+    items: &mut MosaicList,
+    ids: &[u32],
+    pieces: Vec<FaceSet>,
+) -> Result<(), AllocError>
+    ensures exact { OnOk result (items.new ≡ items.old ++ items_of ids.now pieces.items) }
 {
-    let ids = id_list(alloc, ids)?;
-    let set = piece.copy(alloc)?;
-    Ok(MosaicItem { ids, set })
+    for set in pieces {
+        let list = id_list(alloc, ids)?;
+        items.push(MosaicItem { ids: list, set })?;
+    }
+    Ok(())
 }
 
 fn id_list(alloc: Global, ids: &[u32]) -> Result<IdList, AllocError>
