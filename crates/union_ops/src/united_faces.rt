@@ -1,4 +1,4 @@
-ghost use Rattle.std.specs.Prelude.{◌≡◌, ◌<◌, All, IfOk, OnOk, length, slice_index};
+ghost use Rattle.std.specs.Prelude.{◌≡◌, ◌++◌, ◌<◌, All, IfOk, OnOk, length, slice_index};
 ghost use Rattle.face_walk.specs.Places.{IsBuiltOf};
 ghost use Rattle.ring_trace.specs.Sets.{IsSetOf};
 ghost use Rattle.face_groups.specs.Groups.{AreKeySets, IsKeyed};
@@ -11,6 +11,7 @@ ghost use Rattle.union_ops.specs.Union.{
   choice_at,
   chosen_before,
   is_chosen,
+  items_of,
 };
 
 use crate::face_choices::FaceChoices;
@@ -79,23 +80,24 @@ fn push_parts(
     ensures exact { OnOk result (IsGroupPushed f.now (choice_at choices.now (slice_index set.now 0)) set.now items.old items.new) }
 {
     let choice = choices.at(set.faces()[0]);
-    for part in parts(alloc, t, f, set)?.as_slice() {
-        items.push(union_item(alloc, choice, part)?)?;
-    }
+    let pieces = parts(alloc, t, f, set)?;
+    push_items(alloc, items, choice, pieces.into_vec())?;
     Ok(())
 }
 
-fn union_item(
+fn push_items(
     alloc: Global,
+    items: &mut UnionList,
     choice: &[Option<u32>],
-    part: &FaceSet,
-) -> Result<UnionItem, AllocError>
-    ensures choice { IfOk result (λ item. item.choice ≡ choice.now) }
-    ensures set { IfOk result (λ item. item.set ≡ part.now) }
+    pieces: Vec<FaceSet>,
+) -> Result<(), AllocError>
+    ensures exact { OnOk result (items.new ≡ items.old ++ items_of choice.now pieces.items) }
 {
-    let choice = choice_list(alloc, choice)?;
-    let set = part.copy(alloc)?;
-    Ok(UnionItem { choice, set })
+    for set in pieces {
+        let list = choice_list(alloc, choice)?;
+        items.push(UnionItem { choice: list, set })?;
+    }
+    Ok(())
 }
 
 fn choice_list(alloc: Global, choice: &[Option<u32>]) -> Result<ChoiceList, AllocError>
