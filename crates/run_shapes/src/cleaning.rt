@@ -44,7 +44,7 @@ pub fn mosaic(alloc: Global, plane: &Plane, layer: &Layer) -> Result<Layer, Allo
     let sets = sets_of(alloc, &layer.shapes)?;
     let items = mosaic_sets(alloc, &plane.arcs, &plane.faces, &sets)?;
     let rows = holder_rows(alloc, items.as_slice())?;
-    let shapes = mosaic_shapes(alloc, items.as_slice())?;
+    let shapes = mosaic_shapes(alloc, items.into_vec())?;
     let mut names = NameList::new(alloc);
     names.push(Text::of(alloc, "ids")?)?;
     Ok(Layer {
@@ -55,13 +55,13 @@ pub fn mosaic(alloc: Global, plane: &Plane, layer: &Layer) -> Result<Layer, Allo
     })
 }
 
-fn mosaic_shapes(alloc: Global, items: &[MosaicItem]) -> Result<Vec<Shape>, AllocError>
-    ensures exact { IfOk result (λ shapes. shapes.items ≡ map piece_shape items.now) }
-    ensures count { IfOk result (λ shapes. length shapes.items ≡ length items.now) }
+fn mosaic_shapes(alloc: Global, items: Vec<MosaicItem>) -> Result<Vec<Shape>, AllocError>
+    ensures exact { IfOk result (λ shapes. shapes.items ≡ map piece_shape items.items) }
+    ensures count { IfOk result (λ shapes. length shapes.items ≡ length items.items) }
 {
     let mut shapes = Vec::new(alloc);
     for item in items {
-        shapes.push(Shape::Faces(item.set.copy(alloc)?))?;
+        shapes.push(Shape::Faces(item.set))?;
     }
     Ok(shapes)
 }

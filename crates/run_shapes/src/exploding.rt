@@ -68,7 +68,7 @@ fn parts_of(alloc: Global, plane: &Plane, shapes: &[Shape]) -> Result<Pieces, Al
     let sets = sets_of(alloc, shapes)?;
     let items = explode_sets(alloc, &plane.arcs, &plane.faces, &sets)?;
     let numbers = part_numbers(alloc, items.as_slice())?;
-    let shapes = part_shapes(alloc, items.as_slice())?;
+    let shapes = part_shapes(alloc, items.into_vec())?;
     Ok(Pieces { numbers, shapes })
 }
 
@@ -83,13 +83,13 @@ fn part_numbers(alloc: Global, items: &[PartItem]) -> Result<IdList, AllocError>
     Ok(numbers)
 }
 
-fn part_shapes(alloc: Global, items: &[PartItem]) -> Result<Vec<Shape>, AllocError>
-    ensures exact { IfOk result (λ shapes. shapes.items ≡ map part_shape items.now) }
-    ensures count { IfOk result (λ shapes. length shapes.items ≡ length items.now) }
+fn part_shapes(alloc: Global, items: Vec<PartItem>) -> Result<Vec<Shape>, AllocError>
+    ensures exact { IfOk result (λ shapes. shapes.items ≡ map part_shape items.items) }
+    ensures count { IfOk result (λ shapes. length shapes.items ≡ length items.items) }
 {
     let mut shapes = Vec::new(alloc);
     for item in items {
-        shapes.push(Shape::Faces(item.set.copy(alloc)?))?;
+        shapes.push(Shape::Faces(item.set))?;
     }
     Ok(shapes)
 }

@@ -53,7 +53,7 @@ fn united_like(
     let Gathered { tables, sets } = gather(alloc, layers, target)?;
     let items = union_sets(alloc, &plane.arcs, &plane.faces, &sets)?;
     let table = union_tables(alloc, &tables, &items)?;
-    let shapes = item_shapes(alloc, items.as_slice())?;
+    let shapes = item_shapes(alloc, items.into_vec())?;
     Ok(Layer {
         name: copy_text(alloc, &first.name)?,
         kind: Kind::Polygon,
@@ -83,13 +83,13 @@ fn gather(alloc: Global, layers: &[Held], target: &Target) -> Result<Gathered, A
     Ok(Gathered { tables, sets })
 }
 
-fn item_shapes(alloc: Global, items: &[UnionItem]) -> Result<Vec<Shape>, AllocError>
-    ensures exact { IfOk result (λ shapes. shapes.items ≡ map item_shape items.now) }
-    ensures count { IfOk result (λ shapes. length shapes.items ≡ length items.now) }
+fn item_shapes(alloc: Global, items: Vec<UnionItem>) -> Result<Vec<Shape>, AllocError>
+    ensures exact { IfOk result (λ shapes. shapes.items ≡ map item_shape items.items) }
+    ensures count { IfOk result (λ shapes. length shapes.items ≡ length items.items) }
 {
     let mut shapes = Vec::new(alloc);
     for item in items {
-        shapes.push(Shape::Faces(item.set.copy(alloc)?))?;
+        shapes.push(Shape::Faces(item.set))?;
     }
     Ok(shapes)
 }

@@ -14,7 +14,7 @@ mosaic_sets-requires-clause-faces c = sets_inner c.args.plane.now c.args.layer.n
 pub returns-clause-on : goal.returns-clause-on
 returns-clause-on c =
     let plane = c.args.plane.now in
-    subst (AreOn plane) (sym (c.in_ok-shapes.ensures.exact ∙ ap (map piece_shape) c.as_slice-2.ensures.all)) (pieces_on plane c.in_ok-items.items c.in_ok-items.ensures.inner)
+    subst (AreOn plane) (sym (c.in_ok-shapes.ensures.exact ∙ ap (map piece_shape) c.into_vec.ensures.all)) (pieces_on plane c.in_ok-items.items c.in_ok-items.ensures.inner)
 
 pub new-requires-clause-distinct : goal.new-requires-clause-distinct
 new-requires-clause-distinct c =

@@ -12,7 +12,7 @@ explode_sets-requires-clause-faces c = sets_inner c.args.plane.now c.args.shapes
 pub returns-clause-on : goal.returns-clause-on
 returns-clause-on c =
     let plane = c.args.plane.now in
-    subst (AreOn plane) (sym (c.in_ok-shapes.ensures.exact ∙ ap (map part_shape) c.as_slice-2.ensures.all)) (parts_on plane (length c.in_ok-sets.sets) c.in_ok-items.items c.in_ok-items.ensures.parts)
+    subst (AreOn plane) (sym (c.in_ok-shapes.ensures.exact ∙ ap (map part_shape) c.into_vec.ensures.all)) (parts_on plane (length c.in_ok-sets.sets) c.in_ok-items.items c.in_ok-items.ensures.parts)
 
 pub returns-clause-below : goal.returns-clause-below
 returns-clause-below c =

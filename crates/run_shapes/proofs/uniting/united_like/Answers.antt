@@ -21,7 +21,7 @@ returns c =
     let faces = c.args.plane.now.faces in
     let items = c.in_ok-items.items in
     let gathered = c.in_ok-tables.ensures.gathered in
-    let shapes = c.in_ok-shapes.ensures.exact ∙ ap (map item_shape) c.as_slice.ensures.all in
+    let shapes = c.in_ok-shapes.ensures.exact ∙ ap (map item_shape) c.into_vec.ensures.all in
     record {
       made = record {
         first = c.args.first.now;
