@@ -31,7 +31,7 @@ pub fn cleaned(
 {
     let old = sets_of(alloc, &layer.shapes)?;
     let sets = clean_sets(alloc, &plane.arcs, &plane.faces, &old, rule, gap)?;
-    with_sets(alloc, layer, &sets, allow_empty)
+    with_sets(alloc, layer, sets, allow_empty)
 }
 
 /// A feature for each part of the faces that just the same features hold, in the order of the lists of their numbers,

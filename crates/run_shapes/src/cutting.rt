@@ -68,7 +68,7 @@ fn cut_polygons(
 {
     let sets = sets_of(alloc, shapes)?;
     let left = cut_sets(alloc, &sets, area, keeps)?;
-    shapes_of(alloc, left.as_slice())
+    shapes_of(alloc, left.into_vec())
 }
 
 fn cut_sets(

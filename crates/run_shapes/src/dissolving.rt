@@ -83,7 +83,7 @@ fn united(alloc: Global, shapes: &[Shape], groups: &GroupList) -> Result<Vec<Sha
 {
     let sets = sets_of(alloc, shapes)?;
     let united = dissolve_sets(alloc, &sets, groups)?;
-    shapes_of(alloc, united.as_slice())
+    shapes_of(alloc, united.into_vec())
 }
 
 fn lines_of_groups(

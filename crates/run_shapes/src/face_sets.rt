@@ -61,7 +61,7 @@ fn faces_in(shape: &Shape) -> &[FaceId]
 }
 
 /// For each shape of a layer its faces.
-pub fn sets_of(alloc: Global, shapes: &[Shape]) -> Result<SetList, AllocError>
+pub(crate) fn sets_of(alloc: Global, shapes: &[Shape]) -> Result<SetList, AllocError>
     ensures exact { IfOk result (λ sets. sets ≡ sets_in shapes.now) }
     ensures count { IfOk result (λ sets. length sets ≡ length shapes.now) }
 {
@@ -82,13 +82,13 @@ fn set_of(alloc: Global, shape: &Shape) -> Result<FaceSet, AllocError>
 }
 
 /// A shape for each set.
-pub fn shapes_of(alloc: Global, sets: &[FaceSet]) -> Result<Vec<Shape>, AllocError>
-    ensures exact { IfOk result (λ shapes. shapes.items ≡ face_shapes sets.now) }
-    ensures count { IfOk result (λ shapes. length shapes.items ≡ length sets.now) }
+pub(crate) fn shapes_of(alloc: Global, sets: Vec<FaceSet>) -> Result<Vec<Shape>, AllocError>
+    ensures exact { IfOk result (λ shapes. shapes.items ≡ face_shapes sets.items) }
+    ensures count { IfOk result (λ shapes. length shapes.items ≡ length sets.items) }
 {
     let mut shapes = Vec::new(alloc);
     for set in sets {
-        shapes.push(Shape::Faces(set.copy(alloc)?))?;
+        shapes.push(Shape::Faces(set))?;
     }
     Ok(shapes)
 }
@@ -97,13 +97,13 @@ pub fn shapes_of(alloc: Global, sets: &[FaceSet]) -> Result<Vec<Shape>, AllocErr
 pub(crate) fn with_sets(
     alloc: Global,
     layer: &Layer,
-    sets: &SetList,
+    sets: SetList,
     keeps_empty: bool,
 ) -> Result<Layer, AllocError>
-    requires each { length sets.now ≡ length layer.now.table.rows }
-    ensures made { IfOk result (HasSets keeps_empty layer.now sets.now) }
+    requires each { length sets ≡ length layer.now.table.rows }
+    ensures made { IfOk result (HasSets keeps_empty layer.now sets) }
 {
-    let shapes = shapes_of(alloc, sets.as_slice())?;
+    let shapes = shapes_of(alloc, sets.into_vec())?;
     if keeps_empty {
         let all = numbers_below(alloc, layer.table.row_count())?;
         return with_shapes(alloc, layer, &all, shapes);

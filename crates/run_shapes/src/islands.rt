@@ -31,5 +31,5 @@ pub fn without_islands(
         least_area,
         least_links,
     )?;
-    with_sets(alloc, layer, &sets, !remove_empty)
+    with_sets(alloc, layer, sets, !remove_empty)
 }

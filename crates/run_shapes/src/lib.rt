@@ -26,7 +26,7 @@ pub use cleaning::{cleaned, mosaic};
 pub use cutting::{CutKeeps, cut};
 pub use dissolving::dissolved;
 pub use exploding::exploded;
-pub use face_sets::{area_of, sets_of, shapes_of, union_of};
+pub use face_sets::{area_of, union_of};
 pub use islands::without_islands;
 pub use matching::matches_of;
 pub use uniting::united;

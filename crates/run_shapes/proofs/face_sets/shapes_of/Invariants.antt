@@ -1,9 +1,11 @@
-use Rattle.std.proofs.Common.{◌≡◌, length, take}
+use Rattle.std.proofs.Common.{◌≡◌, ◌+◌, ◌++◌, length}
+use Rattle.std.specs.Vec.Iter.{into_iter_items, into_iter_len}
 use Rattle.run_shapes.specs.FaceSets.{face_shapes}
 use Rattle.run_shapes.proofs.face_sets.shapes_of.Given as goal
 
 abbrev pub invariant-loop-set : goal.invariant-loop-set
 invariant-loop-set l = record {
-  exact : l.shapes.items ≡ face_shapes (take l.set-index l.sets);
-  count : length l.shapes.items ≡ l.set-index;
+  exact : l.shapes.items ++ face_shapes (into_iter_items l.set-iterator) ≡ face_shapes l.fn.sets.items;
+  count : length l.shapes.items + length (into_iter_items l.set-iterator) ≡ length l.fn.sets.items;
+  left : into_iter_len l.set-iterator ≡ length (into_iter_items l.set-iterator);
 }
