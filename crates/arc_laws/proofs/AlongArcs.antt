@@ -1,8 +1,9 @@
 -- The arc of the model along a step is the arc of the table that the step goes along.
 use Rattle.std.proofs.Common.{◌≡◌, inl, inr, refl, sym, ap, ◌∙◌, subst, arith, ℕ, zero, suc, ◌+◌, ◌-◌, ◌<◌, ◌≤◌, Bool, true, false, not, ◌&&◌, List, [], ◌∷◌, ◌++◌, length, get_or, drop, take, reverse, All, Contains, append_assoc, take-append-drop, drop-cons}
 use Rattle.std.specs.Prelude.{if◌then◌else◌}
-use Rattle.std.proofs.lemmas.Bool.{cases_Bool, cases_eq, cases_lt, false_from_ne_true}
+use Rattle.std.proofs.lemmas.Bool.{cases_Bool, cases_eq, cases_lt, false_from_ne_true, or_parts}
 use Rattle.std.proofs.lemmas.List.{get_or-drop, get_or-reverse, get_or_append_left, get_or_default, length-append, length-drop, length-reverse, reverse-append, reverse-reverse}
+use Rattle.std.proofs.Math.Seq.{drop-append_seam}
 use Rattle.lists.specs.Lists.{last_of, list_before, tail, without_last}
 use Rattle.plane_model.specs.Points.{GridPoint, Segment, Path, is_before, link_between, reversed, same_point}
 use Rattle.plane_model.specs.Drawing.{Drawing}
@@ -17,7 +18,7 @@ use Rattle.arc_table.specs.Nodes.{IsRingOf}
 use Rattle.arc_table.specs.WholeArcs.{IsNode, IsPassed, IsWholeArc, StartsAtLeast}
 use Rattle.arc_table.proofs.Proper.{link_turned}
 use Rattle.arc_table.proofs.WholeBack.{back_least}
-use Rattle.arc_laws.proofs.Nodes.{if_passed, node_if, or_false}
+use Rattle.arc_laws.proofs.Nodes.{if_passed, node_if}
 use Rattle.arc_laws.proofs.Runs.{begun_is, first_alike, first_apart, run_is}
 use Rattle.arc_laws.proofs.Ways.{W_high, W_long, W_low, apart_round, apart_steps, is_whole, moves, on, open_run, round_run, start_at, tail_at, tail_long}
 
@@ -29,10 +30,6 @@ tail_drop zero (p ∷ path) = refl
 tail_drop (suc k) [] = refl
 tail_drop (suc k) (p ∷ path) = tail_drop k path
 
-drop_exact : (xs ys : Path) → drop (length xs) (xs ++ ys) ≡ ys
-drop_exact [] ys = refl
-drop_exact (x ∷ xs) ys = drop_exact xs ys
-
 -- the first j points of a path, taken from the reversed path
 front_back : (j : ℕ) (path : Path) → j ≤ length path → reverse (drop (length path - j) (reverse path)) ≡ take j path
 front_back j path l =
@@ -41,7 +38,7 @@ front_back j path l =
     let size = length-reverse (drop j path) in
     let part = length-drop j path in
     let many : length path - j ≡ length (reverse (drop j path)) = omega arith in
-    ap reverse ((λ i. drop (many i) (back i)) ∙ drop_exact (reverse (drop j path)) (reverse (take j path))) ∙ reverse-reverse (take j path)
+    ap reverse ((λ i. drop (many i) (back i)) ∙ drop-append_seam (reverse (drop j path)) (reverse (take j path))) ∙ reverse-reverse (take j path)
 
 last_at : (d : GridPoint) (path : Path) → 0 < length path → last_of d path ≡ point_at path (length path - 1)
 last_at d [] l = absurd (omega arith)
@@ -91,7 +88,7 @@ module _ (s : Drawing) (distinct : IsDistinct (links_of s)) (closed : (ring : Pa
       let x : GridPoint = point_at arc 0 in
       let y : GridPoint = point_at arc (length arc - 1) in
       let told : is_backward arc ≡ false = (fore n [] below).forward in
-      let (not_far, not_near) = or_false (is_before y x) (same_point y x && is_before (point_at arc (length arc - 2)) (point_at arc 1)) told in
+      let (not_far, not_near) = or_parts (is_before y x) (same_point y x && is_before (point_at arc (length arc - 2)) (point_at arc 1)) told in
       let ends : reverse arc ≡ y ∷ point_at arc (length arc - 2) ∷ B = behind ∙ (λ i. far i ∷ near i ∷ B) in
       elim (cases_Bool (is_before x y)) [
         | inl less ↦
@@ -149,9 +146,6 @@ module _ (s : Drawing) (distinct : IsDistinct (links_of s)) (closed : (ring : Pa
       go false = least a.arc [] below
       go true = back_least s (get_or arcs a.arc []) (long a.arc [] below) (whole a.arc [] below) (least a.arc [] below)
 
-  other : SignedArc → SignedArc
-  other a = record { arc = a.arc; is_reversed = not a.is_reversed }
-
   other_path : (a : SignedArc) → points_of arcs (record { arc = a.arc; is_reversed = not a.is_reversed }) ≡ reverse (path_of a)
   other_path a = go a.is_reversed
     where
@@ -165,10 +159,6 @@ module _ (s : Drawing) (distinct : IsDistinct (links_of s)) (closed : (ring : Pa
 
     abbrev at_step : Segment
     at_step = record { start = point_at Q j; stop = point_at Q (suc j) }
-
-    -- the two ways in which the model puts the arc together
-    by_runs : Path → Path → Bool → Path
-    by_runs on back b = if b then forward_way (begun_at_least on) else forward_way (reverse (tail (tail back)) ++ on)
 
     -- an arc between nodes
     module _ (first : IsNode s (point_at Q 0)) (last : IsNode s (point_at Q (length Q - 1))) where

@@ -50,7 +50,7 @@ rings_closed d paths ring c = elim (Contains-append_cases (flat_map rings_of d.p
 
 -- ---- lists of points that are one
 
-same_from : (P Q : Path) → same_list same_point P Q ≡ true → P ≡ Q
+pub same_from : (P Q : Path) → same_list same_point P Q ≡ true → P ≡ Q
 same_from [] [] e = refl
 same_from [] (q ∷ Q) e = absurd (let f : false ≡ true = e in cc)
 same_from (p ∷ P) [] e = absurd (let f : false ≡ true = e in cc)

@@ -3,7 +3,7 @@ use Rattle.std.proofs.Common.{◌≡◌, ◌⊎◌, inl, inr, refl, sym, ap, ◌
 use Rattle.std.specs.Prelude.{◌≢◌, if◌then◌else◌}
 use Rattle.std.specs.Cmp.{unsigned_Decides}
 use Rattle.std.specs.List.{flat_map, list_any}
-use Rattle.std.proofs.lemmas.Bool.{and_parts, cases_eq, cases_lt, false_from_ne_true, le-ltb, lt-ltb, or_cases, or_left, or_right}
+use Rattle.std.proofs.lemmas.Bool.{and_parts, cases_eq, cases_lt, false_from_ne_true, le-ltb, lt-ltb, or_cases, or_left, or_right, or_parts}
 use Rattle.std.proofs.lemmas.List.{get_or_default, get_or_append_left, get_or-append_right, length-append}
 use Rattle.std.proofs.lemmas.List.Elements.{Contains-get_or}
 use Rattle.std.proofs.lemmas.List.Folds.{Any-from_list_any, list_any_at}
@@ -50,7 +50,7 @@ across_no_end p l e (inr f) = go (same_point l.start p) refl
     go true g = let n : Some l.stop ≡ None = sym (across_start p l (same_point_from l.start p g)) ∙ e in cc
     go false g = let n : Some l.start ≡ None = sym (across_stop p l (λ h. let z : true ≡ false = sym (same_point_to l.start p h) ∙ g in cc) f) ∙ e in cc
 
-pairs_of : (S : List Segment) → IsDistinct S → AllPairs (λ k l. k ≢ l) S
+pub pairs_of : (S : List Segment) → IsDistinct S → AllPairs (λ k l. k ≢ l) S
 pairs_of [] h = λ i j d less l. absurd (omega arith)
 pairs_of (k ∷ S) h = AllPairs-cons (λ k l. k ≢ l) k S (λ i d l e. h.0 i d l (sym e)) (pairs_of S h.1)
 
@@ -237,10 +237,6 @@ module _ (ring : Path) (p : GridPoint) (closed : IsClosed ring) where
 
 -- ---- nodes
 
-pub or_false : (b c : Bool) → (b || c) ≡ false → (b ≡ false) × (c ≡ false)
-or_false false c e = (refl, e)
-or_false true c e = absurd (let f : true ≡ false = e in cc)
-
 any_false : {A : Type 0} (test : A → Bool) (xs : List A) (x : A) → Contains xs x → list_any test xs ≡ false → test x ≡ true → ⊥
 any_false test xs x c e f =
     let some = list_any_at test xs c.0 x c.1 (ap test c.2 ∙ f) in
@@ -258,8 +254,8 @@ module _ (s : Drawing) (distinct : IsDistinct (links_of s)) (closed : (ring : Pa
 
   pub passed_if : (p : GridPoint) → is_node s S p ≡ false → IsPassed s p
   passed_if p e =
-      let (open_ways, rings) = or_false (not (length (joined_to S p) == 2) || list_any (line_test p) (joined_up s.lines)) (list_any (ring_test p) (flat_map rings_of s.polygons ++ s.boxes)) e in
-      let (few, lines) = or_false (not (length (joined_to S p) == 2)) (list_any (line_test p) (joined_up s.lines)) open_ways in
+      let (open_ways, rings) = or_parts (not (length (joined_to S p) == 2) || list_any (line_test p) (joined_up s.lines)) (list_any (ring_test p) (flat_map rings_of s.polygons ++ s.boxes)) e in
+      let (few, lines) = or_parts (not (length (joined_to S p) == 2)) (list_any (line_test p) (joined_up s.lines)) open_ways in
       record {
         two = has_two S distinct p (record { start = p; stop = p }) (two_of (length (joined_to S p) == 2) refl few);
         plain = λ t. elim t [

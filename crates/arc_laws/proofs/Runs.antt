@@ -65,7 +65,7 @@ place_behind test (x ∷ xs) ys z none e =
     ∙ ap suc (place_behind test xs ys z (All-tail (λ x. test x ≡ false) x xs none) e)
 
 module _ {A : Type 0} (before : A → A → Bool) (order : IsStrictOrder before) where
-  least_in : (d x : A) (xs : List A) → Contains (x ∷ xs) (least_of before d (x ∷ xs))
+  pub least_in : (d x : A) (xs : List A) → Contains (x ∷ xs) (least_of before d (x ∷ xs))
   least_in d x [] = Contains-head x []
   least_in d x (y ∷ ys) = go (before (least_of before d (y ∷ ys)) x) (least_in d y ys)
     where

@@ -19,7 +19,7 @@ use Rattle.arc_table.specs.WholeArcs.{IsPassed, IsWholeArc}
 use Rattle.arc_table.proofs.ArcSteps.{IsStepOf, moving, on_link_of, one_place_of, step_between, steps_fit, steps_many}
 use Rattle.arc_table.proofs.Proper.{link_is, link_turned}
 use Rattle.arc_table.proofs.Runs.{too_many}
-use Rattle.arc_table.proofs.Walks.{all_long, all_whole, ends_at_start, ends_at_stop, pick}
+use Rattle.arc_table.proofs.Walks.{all_whole, ends_at_start, ends_at_stop, pick}
 use Rattle.arc_laws.proofs.Nodes.{across_start, across_stop, if_passed, joined_two, node_if, other_next}
 use Rattle.arc_laws.proofs.Runs.{IsRun}
 
@@ -121,9 +121,6 @@ module _ (s : Drawing) (distinct : IsDistinct (links_of s)) (closed : (ring : Pa
 
     pub is_whole : IsWholeArc s Q
     is_whole = all_whole s arcs ordered along whole long a below
-
-    pub long_path : 1 < length Q
-    long_path = all_long s arcs ordered along whole long a below
 
     inner : (k : ℕ) → 0 < k → suc k < length Q → IsPassed s (point_at Q k)
     inner k some l = is_whole.inner k some (omega arith)
