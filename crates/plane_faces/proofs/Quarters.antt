@@ -5,6 +5,7 @@ use Rattle.std.specs.Prelude.{int_lt, ◌<ℤ◌, ◌≤ℤ◌}
 use Rattle.std.proofs.lemmas.Int.{ints}
 use Rattle.plane_parity.proofs.Mix.{nonneg_of_positive}
 use Rattle.plane_parity.proofs.Passing.{zero-nonneg}
+use Rattle.plane_parity.proofs.NearPoint.{neg_positive}
 use Rattle.plane_algebra.proofs.Ring.{ring, ◌⊞◌, ◌⊟◌, ◌⊠◌, ⊖◌, num, ◌≐◌}
 use Rattle.plane_algebra.proofs.Sign.{mul-nonneg, mul-positive}
 use Rattle.plane_algebra.proofs.Tests.{lt_from, lt_to, by_test}
@@ -70,10 +71,7 @@ fourth_of a b (inr h) (inr k) = absurd (omega (arith, ints, h.1, k.0))
 not_positive : (a : ℤ) → a ≤ℤ pos 0 → pos 0 ≤ℤ neg_ℤ a
 not_positive a h = omega (arith, ints)
 
-negative : (a : ℤ) → a <ℤ pos 0 → pos 0 <ℤ neg_ℤ a
-negative a h = omega (arith, ints)
-
-none' : (a : ℤ) → a ≡ pos 0 → pos 0 ≤ℤ neg_ℤ a
+pub none' : (a : ℤ) → a ≡ pos 0 → pos 0 ≤ℤ neg_ℤ a
 none' a e = omega (arith, ints)
 
 neg_both : (a b : ℤ) → neg_ℤ a *ℤ neg_ℤ b ≡ a *ℤ b
@@ -91,30 +89,30 @@ below x y z h e k n = omega (arith, ints)
 -- ---- how two directions turn
 
 fourth_first : (a b c d : ℤ) → Fourth a b → First c d → pos 0 <ℤ (a *ℤ d -ℤ b *ℤ c)
-fourth_first a b c d f (inl h) = above (a *ℤ d) (b *ℤ c) (neg_ℤ b *ℤ c) (mul-nonneg a d (nonneg_of_positive a f.0) h.1) (mul-positive (neg_ℤ b) c (negative b f.1) h.0) (neg-mul_ℤ b c)
-fourth_first a b c d f (inr h) = above' (a *ℤ d) (b *ℤ c) (neg_ℤ b *ℤ c) (mul-positive a d f.0 h.1) (mul-nonneg (neg_ℤ b) c (nonneg_of_positive (neg_ℤ b) (negative b f.1)) (zero-nonneg c h.0)) (neg-mul_ℤ b c)
+fourth_first a b c d f (inl h) = above (a *ℤ d) (b *ℤ c) (neg_ℤ b *ℤ c) (mul-nonneg a d (nonneg_of_positive a f.0) h.1) (mul-positive (neg_ℤ b) c (neg_positive b f.1) h.0) (neg-mul_ℤ b c)
+fourth_first a b c d f (inr h) = above' (a *ℤ d) (b *ℤ c) (neg_ℤ b *ℤ c) (mul-positive a d f.0 h.1) (mul-nonneg (neg_ℤ b) c (nonneg_of_positive (neg_ℤ b) (neg_positive b f.1)) (zero-nonneg c h.0)) (neg-mul_ℤ b c)
 
 second_third : (a b c d : ℤ) → Second a b → Third c d → pos 0 <ℤ (a *ℤ d -ℤ b *ℤ c)
 second_third a b c d s (inl h) =
     above (a *ℤ d) (b *ℤ c) (b *ℤ neg_ℤ c)
-    (subst (λ (z : ℤ). pos 0 ≤ℤ z) (neg_both a d) (mul-nonneg (neg_ℤ a) (neg_ℤ d) (nonneg_of_positive (neg_ℤ a) (negative a s.0)) (not_positive d h.1)))
-    (mul-positive b (neg_ℤ c) s.1 (negative c h.0)) (mul-neg b c)
+    (subst (λ (z : ℤ). pos 0 ≤ℤ z) (neg_both a d) (mul-nonneg (neg_ℤ a) (neg_ℤ d) (nonneg_of_positive (neg_ℤ a) (neg_positive a s.0)) (not_positive d h.1)))
+    (mul-positive b (neg_ℤ c) s.1 (neg_positive c h.0)) (mul-neg b c)
 second_third a b c d s (inr h) =
     above' (a *ℤ d) (b *ℤ c) (b *ℤ neg_ℤ c)
-    (subst (λ (z : ℤ). pos 0 <ℤ z) (neg_both a d) (mul-positive (neg_ℤ a) (neg_ℤ d) (negative a s.0) (negative d h.1)))
+    (subst (λ (z : ℤ). pos 0 <ℤ z) (neg_both a d) (mul-positive (neg_ℤ a) (neg_ℤ d) (neg_positive a s.0) (neg_positive d h.1)))
     (mul-nonneg b (neg_ℤ c) (nonneg_of_positive b s.1) (none' c h.0)) (mul-neg b c)
 
 second_not_first : (a b c d : ℤ) → Second a b → First c d → pos 0 <ℤ (a *ℤ d -ℤ b *ℤ c) → ⊥
-second_not_first a b c d s (inl h) = below (a *ℤ d) (b *ℤ c) (neg_ℤ a *ℤ d) (mul-nonneg (neg_ℤ a) d (nonneg_of_positive (neg_ℤ a) (negative a s.0)) h.1) (neg-mul_ℤ a d) (mul-nonneg b c (nonneg_of_positive b s.1) (nonneg_of_positive c h.0))
-second_not_first a b c d s (inr h) = below (a *ℤ d) (b *ℤ c) (neg_ℤ a *ℤ d) (mul-nonneg (neg_ℤ a) d (nonneg_of_positive (neg_ℤ a) (negative a s.0)) (nonneg_of_positive d h.1)) (neg-mul_ℤ a d) (mul-nonneg b c (nonneg_of_positive b s.1) (zero-nonneg c h.0))
+second_not_first a b c d s (inl h) = below (a *ℤ d) (b *ℤ c) (neg_ℤ a *ℤ d) (mul-nonneg (neg_ℤ a) d (nonneg_of_positive (neg_ℤ a) (neg_positive a s.0)) h.1) (neg-mul_ℤ a d) (mul-nonneg b c (nonneg_of_positive b s.1) (nonneg_of_positive c h.0))
+second_not_first a b c d s (inr h) = below (a *ℤ d) (b *ℤ c) (neg_ℤ a *ℤ d) (mul-nonneg (neg_ℤ a) d (nonneg_of_positive (neg_ℤ a) (neg_positive a s.0)) (nonneg_of_positive d h.1)) (neg-mul_ℤ a d) (mul-nonneg b c (nonneg_of_positive b s.1) (zero-nonneg c h.0))
 
 fourth_not_third : (a b c d : ℤ) → Fourth a b → Third c d → pos 0 <ℤ (a *ℤ d -ℤ b *ℤ c) → ⊥
 fourth_not_third a b c d f (inl h) =
     below (a *ℤ d) (b *ℤ c) (a *ℤ neg_ℤ d) (mul-nonneg a (neg_ℤ d) (nonneg_of_positive a f.0) (not_positive d h.1)) (mul-neg a d)
-    (subst (λ (z : ℤ). pos 0 ≤ℤ z) (neg_both b c) (mul-nonneg (neg_ℤ b) (neg_ℤ c) (nonneg_of_positive (neg_ℤ b) (negative b f.1)) (nonneg_of_positive (neg_ℤ c) (negative c h.0))))
+    (subst (λ (z : ℤ). pos 0 ≤ℤ z) (neg_both b c) (mul-nonneg (neg_ℤ b) (neg_ℤ c) (nonneg_of_positive (neg_ℤ b) (neg_positive b f.1)) (nonneg_of_positive (neg_ℤ c) (neg_positive c h.0))))
 fourth_not_third a b c d f (inr h) =
-    below (a *ℤ d) (b *ℤ c) (a *ℤ neg_ℤ d) (mul-nonneg a (neg_ℤ d) (nonneg_of_positive a f.0) (nonneg_of_positive (neg_ℤ d) (negative d h.1))) (mul-neg a d)
-    (subst (λ (z : ℤ). pos 0 ≤ℤ z) (neg_both b c) (mul-nonneg (neg_ℤ b) (neg_ℤ c) (nonneg_of_positive (neg_ℤ b) (negative b f.1)) (none' c h.0)))
+    below (a *ℤ d) (b *ℤ c) (a *ℤ neg_ℤ d) (mul-nonneg a (neg_ℤ d) (nonneg_of_positive a f.0) (nonneg_of_positive (neg_ℤ d) (neg_positive d h.1))) (mul-neg a d)
+    (subst (λ (z : ℤ). pos 0 ≤ℤ z) (neg_both b c) (mul-nonneg (neg_ℤ b) (neg_ℤ c) (nonneg_of_positive (neg_ℤ b) (neg_positive b f.1)) (none' c h.0)))
 
 -- ---- the quarter of a dart
 

@@ -4,14 +4,14 @@ use Rattle.std.proofs.Math.IntN.{ℤ, pos, ◌+ℤ◌, ◌*ℤ◌, ◌-ℤ◌}
 use Rattle.std.specs.Prelude.{All, Contains, int_le, int_lt, ◌<ℤ◌}
 use Rattle.std.proofs.lemmas.Int.{ints}
 use Rattle.std.proofs.lemmas.List.Elements.{All-weaker, All-cons, All-map}
-use Rattle.lists.proofs.Members.{Contains-map, map-Contains}
+use Rattle.lists.proofs.Members.{Contains-map, map-Contains, Contains-later}
 use Rattle.plane_algebra.proofs.Differences.{as_dif, same_dif, difs}
 use Rattle.plane_algebra.proofs.Sign.{mul-positive, zero_of_mul, positive_of_mul}
 use Rattle.plane_parity.proofs.Passing.{same_test}
 use Rattle.plane_parity.proofs.AlongLink.{decide_link}
 use Rattle.plane_parity.proofs.Abscissa.{same_link-self, same_link-false}
 use Rattle.plane_parity.proofs.Telescope.{same_point-true, same_point-self}
-use Rattle.plane_faces.proofs.Lists.{contains_cases, contains_tail}
+use Rattle.plane_faces.proofs.Lists.{contains_cases}
 use Rattle.plane_model.specs.Points.{RationalPoint, GridPoint, Segment, step_x, step_y, turn, SameWay, at, IsOn, SamePlace, same_point, same_segment}
 use Rattle.plane_model.specs.Parity.{xor, odd_count, is_below, odd}
 use Rattle.plane_model.specs.Arrangement.{IsBefore, IsEnd, IsArrangement}
@@ -30,7 +30,7 @@ shrink w h r = record { X = r.X; Y = r.Y; W = w *ℤ r.W; positive = mul-positiv
 
 -- ---- steps and turns
 
-to_grown : (w a x d : ℤ) → x *ℤ pos 1 -ℤ (w *ℤ a) *ℤ d ≡ x *ℤ pos 1 -ℤ a *ℤ (w *ℤ d)
+pub to_grown : (w a x d : ℤ) → x *ℤ pos 1 -ℤ (w *ℤ a) *ℤ d ≡ x *ℤ pos 1 -ℤ a *ℤ (w *ℤ d)
 to_grown w a x d = rw (as_dif w, as_dif a, as_dif x, as_dif d, as_dif (pos 1)) (simp difs (same_dif _ _ _ _ (omega arith)))
 
 from_grown : (w a x d : ℤ) → (w *ℤ a) *ℤ d -ℤ x *ℤ pos 1 ≡ a *ℤ (w *ℤ d) -ℤ x *ℤ pos 1
@@ -252,4 +252,4 @@ module _ (w : ℤ) (h : pos 0 <ℤ w) where
 
     pub within_grown : (L : List Segment) → All (Contains S) L → All (Contains grown) (map (grow_link w) L)
     within_grown L within = All-map (Contains grown) (grow_link w) L
-        (All-weaker (Contains S) (λ k. Contains grown (grow_link w k)) (λ k c. contains_tail q (map (grow_link w) S) (grow_link w k) (Contains-map (grow_link w) S k c)) L within)
+        (All-weaker (Contains S) (λ k. Contains grown (grow_link w k)) (λ k c. Contains-later q (map (grow_link w) S) (grow_link w k) (Contains-map (grow_link w) S k c)) L within)

@@ -1,4 +1,3 @@
-pub mod NearPoint
 pub mod SightLemmas
 pub mod FreePoints
 pub mod Grown

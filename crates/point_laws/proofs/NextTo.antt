@@ -2,44 +2,34 @@
 -- link.
 use Rattle.std.proofs.Common.{◌≡◌, ◌⊎◌, inl, inr, refl, sym, ap, subst, ◌∙◌, arith, ℕ, suc, max, ◌≤◌, Bool, true, false, cond, List}
 use Rattle.std.proofs.Math.IntN.{ℤ, pos, nat_abs, ◌+ℤ◌, ◌*ℤ◌, ◌-ℤ◌, neg_ℤ}
-use Rattle.std.specs.Prelude.{Contains, int_lt, ◌≤ℤ◌, ◌<ℤ◌}
+use Rattle.std.specs.Prelude.{Contains, int_lt, ◌<ℤ◌}
 use Rattle.std.proofs.lemmas.Int.{ints}
 use Rattle.std.proofs.lemmas.List.Elements.{All-contains}
 use Rattle.plane_algebra.proofs.Ring.{ring, ◌⊞◌, ◌⊟◌, ◌⊠◌, ⊖◌, num, ◌≐◌}
 use Rattle.plane_algebra.proofs.Sign.{signs, zero_of_mul}
-use Rattle.plane_parity.proofs.Cut.{IsOnSegment-swap}
+use Rattle.plane_parity.proofs.Cut.{IsOnSegment-swap, zero_turned}
 use Rattle.plane_parity.proofs.Determinant.{turn-swap}
 use Rattle.plane_parity.proofs.LinkOrder.{same_grid}
 use Rattle.plane_parity.proofs.Place.{SamePlace-sym}
 use Rattle.plane_parity.proofs.Sector.{shares_end, still_place}
 use Rattle.plane_parity.proofs.AlongLink.{decide_place}
+use Rattle.plane_parity.proofs.Passing.{turned_up, turned_down, zero-nonneg}
+use Rattle.plane_parity.proofs.Mix.{nonneg_of_positive}
 use Rattle.plane_model.specs.Points.{RationalPoint, GridPoint, Segment, step_x, step_y, turn, at, IsOn, IsOnSegment, SamePlace}
 use Rattle.plane_model.specs.Arrangement.{IsArrangement, IsBefore, IsEnd}
 use Rattle.plane_model.specs.Rotation.{Dart, tail, head, precedes}
 use Rattle.plane_model.specs.Sees.{SeesPoint}
 use Rattle.plane_faces.specs.Around.{forward_dart, backward_dart}
 use Rattle.plane_faces.proofs.Sorting.{total}
-use Rattle.point_laws.proofs.NearPoint.{near, Misses, FromSome, IsAslant, misses_link, from_each, both_below, overcome, step_x-near}
-use Rattle.point_laws.proofs.Ways.{way, area, dot, Heads, heads, loose, turned, long_way, area-swap, opposite_ways, Order, Aside}
+use Rattle.plane_parity.proofs.NearPoint.{near, Misses, FromSome, IsAslant, misses_link, from_each, both_below, overcome, step_x-near, neg_positive}
+use Rattle.point_laws.proofs.Ways.{way, area, dot, Heads, heads, long_way, area-swap, opposite_ways, Order, Aside}
 
 -- ---- numbers
-
-turned_low : (a b : ℤ) → a ≡ neg_ℤ b → pos 0 <ℤ b → a <ℤ pos 0
-turned_low a b e h = omega (arith, ints)
-
-turned_up : (a b : ℤ) → a ≡ neg_ℤ b → b <ℤ pos 0 → pos 0 <ℤ a
-turned_up a b e h = omega (arith, ints)
-
-turned_zero : (a b : ℤ) → a ≡ neg_ℤ b → b ≡ pos 0 → a ≡ pos 0
-turned_zero a b e h = omega (arith, ints)
-
-zero_up : (a : ℤ) → a ≡ pos 0 → pos 0 ≤ℤ a
-zero_up a h = omega (arith, ints)
 
 -- a factor that is not zero is left out
 zero_by : (a b : ℤ) → (pos 0 <ℤ a) ⊎ (a <ℤ pos 0) → a *ℤ b ≡ pos 0 → b ≡ pos 0
 zero_by a b (inl h) e = zero_of_mul a b h e
-zero_by a b (inr h) e = zero_of_mul (neg_ℤ a) b (turned a h) (turned_zero (neg_ℤ a *ℤ b) (a *ℤ b) (go a b) e)
+zero_by a b (inr h) e = zero_of_mul (neg_ℤ a) b (neg_positive a h) (zero_turned (neg_ℤ a *ℤ b) (a *ℤ b) (go a b) e)
   where
     go : (a b : ℤ) → neg_ℤ a *ℤ b ≡ neg_ℤ (a *ℤ b)
     go = ring 2 (λ a b. ⊖ a ⊠ b ≐ ⊖ (a ⊠ b)) tt
@@ -88,7 +78,7 @@ beside_aslant n f a h b = elim (signs a.x) [
   | inl i ↦ inl (right (pos (suc n) *ℤ a.x) a.y (overcome n a.x (neg_ℤ a.y) i (size a.y b)))
   | inr r ↦ elim r [
     | inl e ↦ upright f h e
-    | inr i ↦ inr (left (pos (suc n) *ℤ neg_ℤ a.x) (pos (suc n) *ℤ a.x) a.y (go (pos (suc n)) a.x) (overcome n (neg_ℤ a.x) a.y (turned a.x i) b))
+    | inr i ↦ inr (left (pos (suc n) *ℤ neg_ℤ a.x) (pos (suc n) *ℤ a.x) a.y (go (pos (suc n)) a.x) (overcome n (neg_ℤ a.x) a.y (neg_positive a.x i) b))
   ]
 ]
   where
@@ -115,7 +105,7 @@ beside_aslant n f a h b = elim (signs a.x) [
 
     upright : (f : Bool) → Heads f a → a.x ≡ pos 0 → IsAslant (beside n a)
     upright true (inl h) e = absurd (still a.x e h)
-    upright true (inr h) e = inr (turned_low (pos (suc n) *ℤ a.x -ℤ a.y) a.y (none (pos (suc n)) a.x a.y e) h.1)
+    upright true (inr h) e = inr (turned_down (pos (suc n) *ℤ a.x -ℤ a.y) a.y (none (pos (suc n)) a.x a.y e) h.1)
     upright false (inl h) e = absurd (still' a.x e h)
     upright false (inr h) e = inl (turned_up (pos (suc n) *ℤ a.x -ℤ a.y) a.y (none (pos (suc n)) a.x a.y e) h.1)
 
@@ -167,7 +157,7 @@ module _ (S : List Segment) (arr : IsArrangement S) (d : Dart) (cd : Contains S 
         let flags = ahead_and_back e.forward d.forward (ap (Order e.forward d.forward) (sym (flat (area (way e) (way d)) z)) ∙ sym (by_ways e d (sym s)) ∙ h) in
         opposite_ways (way e) (way d) (subst (λ (f : Bool). Heads f (way e)) flags.0 (dart_heads e ce)) (subst (λ (f : Bool). Heads f (way d)) flags.1 (dart_heads d cd)) z
     | inr h ↦
-        let z' : area (way d) (way e) ≡ pos 0 = turned_zero (area (way d) (way e)) (area (way e) (way d)) (area-swap (way d) (way e)) z in
+        let z' : area (way d) (way e) ≡ pos 0 = zero_turned (area (way d) (way e)) (area (way e) (way d)) (area-swap (way d) (way e)) z in
         let flags = ahead_and_back d.forward e.forward (ap (Order d.forward e.forward) (sym (flat (area (way d) (way e)) z')) ∙ sym (by_ways d e s) ∙ h) in
         subst (λ (t : ℤ). t <ℤ pos 0) (commuted (way d) (way e))
         (opposite_ways (way d) (way e) (subst (λ (f : Bool). Heads f (way d)) flags.0 (dart_heads d cd)) (subst (λ (f : Bool). Heads f (way e)) flags.1 (dart_heads e ce)) z')
@@ -185,19 +175,19 @@ module _ (S : List Segment) (arr : IsArrangement S) (d : Dart) (cd : Contains S 
   between_none e ce s r = elim (signs (area (way e) (way d))) [
     | inl h ↦ inr (
       subst (λ (t : ℤ). pos 0 <ℤ t) (sym (area_beside times (way d) (way e))) (overcome times (area (way e) (way d)) (dot (way e) (way d)) h (in_reach e ce)),
-      turned_low (area (way d) (way e)) (area (way e) (way d)) (area-swap (way d) (way e)) h,
+      turned_down (area (way d) (way e)) (area (way e) (way d)) (area-swap (way d) (way e)) h,
     )
     | inr t ↦ elim t [
       | inl z ↦ inl (
         subst (λ (t : ℤ). t <ℤ pos 0) (sym (area_beside times (way d) (way e))) (flat (pos (suc times)) (area (way e) (way d)) (dot (way e) (way d)) z (in_line e ce s z r)),
-        zero_up (area (way d) (way e)) (turned_zero (area (way d) (way e)) (area (way e) (way d)) (area-swap (way d) (way e)) z),
+        zero-nonneg (area (way d) (way e)) (zero_turned (area (way d) (way e)) (area (way e) (way d)) (area-swap (way d) (way e)) z),
       )
       | inr h ↦ inl (
         subst (λ (t : ℤ). t <ℤ pos 0) (sym (area_beside times (way d) (way e)))
-            (turned_low (pos (suc times) *ℤ area (way e) (way d) +ℤ dot (way e) (way d)) (pos (suc times) *ℤ neg_ℤ (area (way e) (way d)) +ℤ neg_ℤ (dot (way e) (way d)))
+            (turned_down (pos (suc times) *ℤ area (way e) (way d) +ℤ dot (way e) (way d)) (pos (suc times) *ℤ neg_ℤ (area (way e) (way d)) +ℤ neg_ℤ (dot (way e) (way d)))
             (go (pos (suc times)) (area (way e) (way d)) (dot (way e) (way d)))
-            (overcome times (neg_ℤ (area (way e) (way d))) (neg_ℤ (dot (way e) (way d))) (turned (area (way e) (way d)) h) (size (dot (way e) (way d)) times (in_reach e ce)))),
-        loose (area (way d) (way e)) (turned_up (area (way d) (way e)) (area (way e) (way d)) (area-swap (way d) (way e)) h),
+            (overcome times (neg_ℤ (area (way e) (way d))) (neg_ℤ (dot (way e) (way d))) (neg_positive (area (way e) (way d)) h) (size (dot (way e) (way d)) times (in_reach e ce)))),
+        nonneg_of_positive (area (way d) (way e)) (turned_up (area (way d) (way e)) (area (way e) (way d)) (area-swap (way d) (way e)) h),
       )
     ]
   ]
@@ -311,7 +301,7 @@ module _ (S : List Segment) (arr : IsArrangement S) (d : Dart) (cd : Contains S 
         where
           go : (l : Segment) (f : Bool) → turn (at l.start) (at l.stop) r ≡ pos 0 → turn (at (cond f l.start l.stop)) (at (cond f l.stop l.start)) r ≡ pos 0
           go l true h = h
-          go l false h = turned_zero (turn (at l.stop) (at l.start) r) (turn (at l.start) (at l.stop) r) (turn-swap (at l.stop) (at l.start) r) h
+          go l false h = zero_turned (turn (at l.stop) (at l.start) r) (turn (at l.start) (at l.stop) r) (turn-swap (at l.stop) (at l.start) r) h
 
       clear : (l : Segment) → Contains S l → (r : RationalPoint) → IsOnSegment beside_dart (at (tail d)) r → IsOn l r → SamePlace r (at (tail d))
       clear l c r on onl = elim (decide_end l) [

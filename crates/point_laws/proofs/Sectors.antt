@@ -2,7 +2,7 @@
 use Rattle.std.proofs.Common.{◌≡◌, ◌⊎◌, inl, inr, refl, sym, ap, subst, ◌∙◌, Bool, true, false, cond, ◌&&◌, ◌||◌, ℕ, List, [], ◌∷◌, map}
 use Rattle.std.specs.Prelude.{All, Contains}
 use Rattle.std.proofs.lemmas.List.Elements.{All-head, All-tail, All-weaker, All-map, All-contains_itself}
-use Rattle.lists.proofs.Members.{Contains-map}
+use Rattle.lists.proofs.Members.{Contains-map, Contains-head, Contains-later, Contains-nil}
 use Rattle.lists.specs.Lists.{last_of}
 use Rattle.plane_parity.proofs.Abscissa.{same_link-false}
 use Rattle.plane_parity.proofs.FreeSegment.{same_parity}
@@ -17,7 +17,7 @@ use Rattle.plane_model.specs.Sees.{SeesPoint, midpoint}
 use Rattle.plane_model.specs.Sides.{odd_left, odd_right}
 use Rattle.plane_faces.specs.Around.{IsRotation}
 use Rattle.plane_faces.specs.Places.{Place, left_of, IsPlaceOf, AgreesWherePlacesMeet, Consecutive}
-use Rattle.plane_faces.proofs.Lists.{contains_cases, contains_none, contains_head, contains_tail}
+use Rattle.plane_faces.proofs.Lists.{contains_cases}
 use Rattle.plane_faces.proofs.Around.{precedes_not_itself, rotation-here, rotation-all, rotation-consecutive, rotation-round, last-All}
 use Rattle.plane_faces.proofs.Connected.{parity_at_place}
 use Rattle.plane_faces.proofs.Crossing.{crossing_law}
@@ -32,7 +32,7 @@ use Rattle.point_laws.proofs.Spoke.{spoke, spoke_aside, spoke_is_new, spoke_turn
 
 module _ (S : List Segment) (arr : IsArrangement S) (distinct : IsDistinct S) where
   before_in_row : (d : Dart) (ds : List Dart) → Consecutive (IsNext S) d ds → All (λ x. Contains S x.link) (d ∷ ds) → (x : Dart) → Contains (d ∷ ds) x → (x ≡ d) ⊎ ((y : Dart) × Contains S y.link × IsNext S y x)
-  before_in_row d [] next here x c = elim (contains_cases d [] x c) [ inl e ↦ inl e | inr n ↦ absurd (contains_none x n) ]
+  before_in_row d [] next here x c = elim (contains_cases d [] x c) [ inl e ↦ inl e | inr n ↦ absurd (Contains-nil x n) ]
   before_in_row d (e ∷ ds) next here x c = elim (contains_cases d (e ∷ ds) x c) [
     | inl i ↦ inl i
     | inr k ↦ elim (before_in_row e ds next.1 (All-tail (λ y. Contains S y.link) d (e ∷ ds) here) x k) [
@@ -45,7 +45,7 @@ module _ (S : List Segment) (arr : IsArrangement S) (distinct : IsDistinct S) wh
   before_exists c cc' = go (rotations_exist S arr distinct (tail c)).0 (rotations_exist S arr distinct (tail c)).1
     where
       go : (ds : List Dart) → IsRotation S (tail c) ds → (d : Dart) × Contains S d.link × IsNext S d c
-      go [] r = absurd (contains_none c (rotation-all S (tail c) [] r c (cc', refl)))
+      go [] r = absurd (Contains-nil c (rotation-all S (tail c) [] r c (cc', refl)))
       go (f ∷ ds) r =
           let here : All (λ x. Contains S x.link) (f ∷ ds) = All-weaker (λ x. Contains S x.link × (tail x ≡ tail c)) (λ x. Contains S x.link) (λ x h. h.0) (f ∷ ds) (rotation-here S (tail c) (f ∷ ds) r) in
           elim (before_in_row f ds (rotation-consecutive S (tail c) f ds r) here c (rotation-all S (tail c) (f ∷ ds) r c (cc', refl))) [
@@ -66,7 +66,7 @@ module _ (S : List Segment) (arr : IsArrangement S) (distinct : IsDistinct S) (d
   all_arranged = grown_arrangement z.W z.positive S arr (spoke S arr d cd z sees).dart.link (spoke S arr d cd z sees).before (spoke_aside S arr d cd z sees)
 
   pub q_there : Contains all q.link
-  q_there = contains_head q.link (map (grow_link z.W) S)
+  q_there = Contains-head q.link (map (grow_link z.W) S)
 
   all_distinct : IsDistinct all
   all_distinct = (
@@ -90,7 +90,7 @@ module _ (S : List Segment) (arr : IsArrangement S) (distinct : IsDistinct S) (d
       go false = refl
 
   pub grown_there : (l : Segment) → Contains S l → Contains all (grow_link z.W l)
-  grown_there l c = contains_tail q.link (map (grow_link z.W) S) (grow_link z.W l) (Contains-map (grow_link z.W) S l c)
+  grown_there l c = Contains-later q.link (map (grow_link z.W) S) (grow_link z.W l) (Contains-map (grow_link z.W) S l c)
 
   -- the spoke does not follow itself
   not_alone : IsNext all q q → ⊥

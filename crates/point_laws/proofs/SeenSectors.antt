@@ -4,6 +4,7 @@ use Rattle.std.proofs.Math.IntN.{ℤ, pos, ◌+ℤ◌, ◌*ℤ◌, ◌-ℤ◌, n
 use Rattle.std.specs.Prelude.{Contains, ◌≤ℤ◌, ◌<ℤ◌}
 use Rattle.std.proofs.lemmas.Int.{ints}
 use Rattle.std.proofs.lemmas.List.Elements.{All-contains}
+use Rattle.plane_parity.proofs.Mix.{nonneg_of_positive}
 use Rattle.plane_algebra.proofs.Ring.{ring, ◌⊞◌, ◌⊟◌, ◌⊠◌, ⊖◌, num, ◌≐◌}
 use Rattle.plane_algebra.proofs.Sign.{mul-positive, mul-nonneg}
 use Rattle.plane_model.specs.Points.{RationalPoint, GridPoint, Segment}
@@ -12,8 +13,8 @@ use Rattle.plane_model.specs.Rotation.{Dart, tail, precedes, is_passed}
 use Rattle.plane_model.specs.Sees.{SeesPoint}
 use Rattle.plane_faces.proofs.Around.{precedes_not_itself}
 use Rattle.point_laws.specs.Sight.{SectorsAreSeen}
-use Rattle.point_laws.proofs.NearPoint.{near}
-use Rattle.point_laws.proofs.Ways.{way, area, heads, loose, turned, Passed, Aside, not_passed}
+use Rattle.plane_parity.proofs.NearPoint.{near, neg_positive}
+use Rattle.point_laws.proofs.Ways.{way, area, heads, Passed, Aside, not_passed}
 use Rattle.point_laws.proofs.NextTo.{by_ways, toward, turned_left, kinds, count, beside_dart, sees_vertex}
 use Rattle.point_laws.proofs.Grown.{grow, kind, same_ungrown}
 use Rattle.point_laws.proofs.SightLemmas.{seeing_is_off}
@@ -47,7 +48,7 @@ both_grown w a b = go w a.x a.y b.x b.y
 
 module _ (w : ℤ) (h : pos 0 <ℤ w) where
   low_times : (a : ℤ) → a <ℤ pos 0 → (w *ℤ a) <ℤ pos 0
-  low_times a i = back (w *ℤ neg_ℤ a) (w *ℤ a) (go w a) (mul-positive w (neg_ℤ a) h (turned a i))
+  low_times a i = back (w *ℤ neg_ℤ a) (w *ℤ a) (go w a) (mul-positive w (neg_ℤ a) h (neg_positive a i))
     where
       go : (w a : ℤ) → w *ℤ neg_ℤ a ≡ neg_ℤ (w *ℤ a)
       go = ring 2 (λ w a. w ⊠ ⊖ a ≐ ⊖ (w ⊠ a)) tt
@@ -58,7 +59,7 @@ module _ (w : ℤ) (h : pos 0 <ℤ w) where
   aside_grown : (a b u : GridPoint) → Aside a b u → Aside (grow w a) (grow w b) u
   unfolding Aside
   aside_grown a b u s = elim s [
-    | inl i ↦ inl (subst (λ (t : ℤ). t <ℤ pos 0) (sym (grown_area w b u)) (low_times (area b u) i.0), subst (λ (t : ℤ). pos 0 ≤ℤ t) (sym (both_grown w a b)) (mul-nonneg w (w *ℤ area a b) (loose w h) (mul-nonneg w (area a b) (loose w h) i.1)))
+    | inl i ↦ inl (subst (λ (t : ℤ). t <ℤ pos 0) (sym (grown_area w b u)) (low_times (area b u) i.0), subst (λ (t : ℤ). pos 0 ≤ℤ t) (sym (both_grown w a b)) (mul-nonneg w (w *ℤ area a b) (nonneg_of_positive w h) (mul-nonneg w (area a b) (nonneg_of_positive w h) i.1)))
     | inr i ↦ inr (subst (λ (t : ℤ). pos 0 <ℤ t) (sym (grown_area w b u)) (mul-positive w (area b u) h i.0), subst (λ (t : ℤ). t <ℤ pos 0) (sym (both_grown w a b)) (low_times (w *ℤ area a b) (low_times (area a b) i.1)))
   ]
 

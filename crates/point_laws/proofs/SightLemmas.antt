@@ -14,7 +14,7 @@ use Rattle.plane_parity.proofs.AlongLink.{IsOnSegment-first}
 use Rattle.plane_parity.proofs.Sight.{IsOnSegment-moved}
 use Rattle.plane_parity.proofs.SnappedRings.{closed_runs_are_even_lists}
 use Rattle.point_laws.specs.Sight.{SeenFromOneFace, FreePointsAreSeen}
-use Rattle.point_laws.proofs.NearPoint.{free_to_right}
+use Rattle.plane_parity.proofs.NearPoint.{free_to_right}
 
 -- a link that the sight met would pass through the point
 pub sight_is_free : (S : List Segment) (p : GridPoint) → IsOffLinks S (at p) → (z : RationalPoint) → SeesPoint S p z → IsFree S z (at p)

@@ -18,13 +18,10 @@ use Rattle.plane_model.specs.Arrangement.{IsBefore, IsEnd, IsArrangement, IsFree
 use Rattle.plane_model.specs.Rotation.{Dart, tail, head}
 use Rattle.plane_model.specs.Sees.{SeesPoint, midpoint}
 use Rattle.plane_model.proofs.PointOrder.{before_from, is_before-IsStrictOrder}
-use Rattle.point_laws.proofs.Grown.{grow, grow_link, shrink, on_shrunk, place_grown}
+use Rattle.point_laws.proofs.Grown.{grow, grow_link, shrink, on_shrunk, place_grown, to_grown}
 use Rattle.point_laws.proofs.SightLemmas.{seeing_is_off}
 
 -- ---- numbers
-
-start_step : (w a x d : ℤ) → x *ℤ pos 1 -ℤ (w *ℤ a) *ℤ d ≡ x *ℤ pos 1 -ℤ a *ℤ (w *ℤ d)
-start_step w a x d = rw (as_dif w, as_dif a, as_dif x, as_dif d, as_dif (pos 1)) (simp difs (same_dif _ _ _ _ (omega arith)))
 
 stop_step : (w x a d : ℤ) → x *ℤ (w *ℤ d) -ℤ a *ℤ w ≡ w *ℤ (x *ℤ d -ℤ a *ℤ pos 1)
 stop_step w x a d = rw (as_dif w, as_dif a, as_dif x, as_dif d, as_dif (pos 1)) (simp difs (same_dif _ _ _ _ (omega arith)))
@@ -148,8 +145,8 @@ module _ (S : List Segment) (arr : IsArrangement S) (d : Dart) (cd : Contains S 
   on_sight : (r : RationalPoint) → IsOnSegment (at (grow z.W (tail d))) (at (grown_point z)) r → IsOnSegment (at (tail d)) z (shrink z.W z.positive r)
   on_sight r on = record {
     collinear = sight_turn z.W (tail d).x (tail d).y z.X z.Y r.X r.Y r.W ∙ on.collinear;
-    between_x = way_times z.W (step_x (at (grow z.W (tail d))) r) (step_x r (at (grown_point z))) (step_x (at (tail d)) (shrink z.W z.positive r)) (step_x (shrink z.W z.positive r) z) z.positive (start_step z.W (tail d).x r.X r.W) (stop_step z.W z.X r.X r.W) on.between_x;
-    between_y = way_times z.W (step_y (at (grow z.W (tail d))) r) (step_y r (at (grown_point z))) (step_y (at (tail d)) (shrink z.W z.positive r)) (step_y (shrink z.W z.positive r) z) z.positive (start_step z.W (tail d).y r.Y r.W) (stop_step z.W z.Y r.Y r.W) on.between_y;
+    between_x = way_times z.W (step_x (at (grow z.W (tail d))) r) (step_x r (at (grown_point z))) (step_x (at (tail d)) (shrink z.W z.positive r)) (step_x (shrink z.W z.positive r) z) z.positive (to_grown z.W (tail d).x r.X r.W) (stop_step z.W z.X r.X r.W) on.between_x;
+    between_y = way_times z.W (step_y (at (grow z.W (tail d))) r) (step_y r (at (grown_point z))) (step_y (at (tail d)) (shrink z.W z.positive r)) (step_y (shrink z.W z.positive r) z) z.positive (to_grown z.W (tail d).y r.Y r.W) (stop_step z.W z.Y r.Y r.W) on.between_y;
   }
 
   vertex_is_end : IsEnd d.link (at (tail d))

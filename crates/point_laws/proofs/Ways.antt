@@ -1,10 +1,16 @@
 -- Steps in whole numbers: how two of them turn, and between which others a step lies.
 use Rattle.std.proofs.Common.{◌≡◌, ◌⊎◌, inl, inr, refl, sym, ap, subst, ◌∙◌, arith, Bool, true, false, cond, ◌&&◌, ◌||◌}
-use Rattle.std.proofs.Math.IntN.{ℤ, pos, negsuc, ◌+ℤ◌, ◌*ℤ◌, ◌-ℤ◌, neg_ℤ}
+use Rattle.std.proofs.Math.IntN.{ℤ, pos, ◌+ℤ◌, ◌*ℤ◌, ◌-ℤ◌, neg_ℤ}
 use Rattle.std.specs.Prelude.{int_lt, ◌≤ℤ◌, ◌<ℤ◌}
 use Rattle.std.proofs.lemmas.Int.{ints}
+use Rattle.plane_faces.proofs.Quarters.{none'}
+use Rattle.plane_parity.proofs.Mix.{nonneg_of_positive, sum_positive}
+use Rattle.plane_parity.proofs.NearPoint.{neg_positive}
+use Rattle.plane_parity.proofs.Passing.{zero-nonneg}
+use Rattle.plane_parity.proofs.Visible.{square_nonneg}
 use Rattle.plane_algebra.proofs.Ring.{ring, ◌⊞◌, ◌⊟◌, ◌⊠◌, ⊖◌, num, ◌≐◌}
 use Rattle.plane_algebra.proofs.Sign.{mul-nonneg, mul-positive, positive_of_mul, zero_of_mul}
+use Rattle.plane_algebra.proofs.Tests.{lt_to, lt_from}
 use Rattle.plane_model.specs.Points.{GridPoint, Segment}
 use Rattle.plane_model.specs.Arrangement.{IsBefore}
 use Rattle.plane_model.specs.Rotation.{Dart, tail, head}
@@ -50,28 +56,12 @@ heads d = go d.link d.forward
 
 -- ---- signs
 
-pub loose : (a : ℤ) → pos 0 <ℤ a → pos 0 ≤ℤ a
-loose a h = omega (arith, ints)
-
-none : (a : ℤ) → a ≡ pos 0 → pos 0 ≤ℤ a
-none a e = omega (arith, ints)
-
-none' : (a : ℤ) → a ≡ pos 0 → pos 0 ≤ℤ neg_ℤ a
-none' a e = omega (arith, ints)
-
 lower : (a : ℤ) → a <ℤ pos 0 → pos 0 ≤ℤ neg_ℤ a
 lower a h = omega (arith, ints)
 
-pub turned : (a : ℤ) → a <ℤ pos 0 → pos 0 <ℤ neg_ℤ a
-turned a h = omega (arith, ints)
-
-square : (a : ℤ) → pos 0 ≤ℤ (a *ℤ a)
-square (pos a) = mul-nonneg (pos a) (pos a) (omega (arith, ints)) (omega (arith, ints))
-square (negsuc a) = omega (arith, ints)
-
 positive_square : (a : ℤ) → (pos 0 <ℤ a) ⊎ (a <ℤ pos 0) → pos 0 <ℤ (a *ℤ a)
 positive_square a (inl h) = mul-positive a a h h
-positive_square a (inr h) = subst (λ (t : ℤ). pos 0 <ℤ t) (both_turned a) (mul-positive (neg_ℤ a) (neg_ℤ a) (turned a h) (turned a h))
+positive_square a (inr h) = subst (λ (t : ℤ). pos 0 <ℤ t) (both_turned a) (mul-positive (neg_ℤ a) (neg_ℤ a) (neg_positive a h) (neg_positive a h))
   where
     both_turned : (a : ℤ) → neg_ℤ a *ℤ neg_ℤ a ≡ a *ℤ a
     both_turned = ring 1 (λ a. ⊖ a ⊠ ⊖ a ≐ a ⊠ a) tt
@@ -79,15 +69,12 @@ positive_square a (inr h) = subst (λ (t : ℤ). pos 0 <ℤ t) (both_turned a) (
 more_first : (a b : ℤ) → pos 0 <ℤ a → pos 0 ≤ℤ b → pos 0 <ℤ (a +ℤ b)
 more_first a b h k = omega (arith, ints)
 
-more_second : (a b : ℤ) → pos 0 ≤ℤ a → pos 0 <ℤ b → pos 0 <ℤ (a +ℤ b)
-more_second a b h k = omega (arith, ints)
-
 -- a step that goes anywhere has a length
 pub long_way : (f : Bool) (a : GridPoint) → Heads f a → pos 0 <ℤ dot a a
-long_way true a (inl h) = more_first (a.x *ℤ a.x) (a.y *ℤ a.y) (positive_square a.x (inl h)) (square a.y)
-long_way true a (inr h) = more_second (a.x *ℤ a.x) (a.y *ℤ a.y) (square a.x) (positive_square a.y (inl h.1))
-long_way false a (inl h) = more_first (a.x *ℤ a.x) (a.y *ℤ a.y) (positive_square a.x (inr h)) (square a.y)
-long_way false a (inr h) = more_second (a.x *ℤ a.x) (a.y *ℤ a.y) (square a.x) (positive_square a.y (inr h.1))
+long_way true a (inl h) = more_first (a.x *ℤ a.x) (a.y *ℤ a.y) (positive_square a.x (inl h)) (square_nonneg a.y)
+long_way true a (inr h) = sum_positive (a.x *ℤ a.x) (a.y *ℤ a.y) (square_nonneg a.x) (positive_square a.y (inl h.1))
+long_way false a (inl h) = more_first (a.x *ℤ a.x) (a.y *ℤ a.y) (positive_square a.x (inr h)) (square_nonneg a.y)
+long_way false a (inr h) = sum_positive (a.x *ℤ a.x) (a.y *ℤ a.y) (square_nonneg a.x) (positive_square a.y (inr h.1))
 
 -- ---- steps along one line
 
@@ -105,14 +92,14 @@ pub opposite_ways : (a b : GridPoint) → Heads true a → Heads false b → are
 opposite_ways a b (inl h) (inl k) e =
     low (dot a b) (positive_of_mul a.x (neg_ℤ (dot a b)) h
     (moved (a.x *ℤ neg_ℤ (dot a b)) (neg_ℤ b.x *ℤ dot a a) (area a b) (neg_ℤ a.y) (lengthened a.x a.y b.x b.y) e
-    (mul-positive (neg_ℤ b.x) (dot a a) (turned b.x k) (long_way true a (inl h)))))
+    (mul-positive (neg_ℤ b.x) (dot a a) (neg_positive b.x k) (long_way true a (inl h)))))
   where
     low : (a : ℤ) → pos 0 <ℤ neg_ℤ a → a <ℤ pos 0
     low a h = omega (arith, ints)
 
     moved : (a b c s : ℤ) → a ≡ b +ℤ s *ℤ c → c ≡ pos 0 → pos 0 <ℤ b → pos 0 <ℤ a
     moved a b c s e f h = let g : a ≡ b +ℤ s *ℤ pos 0 = rw f at e in omega (arith, ints)
-opposite_ways a b (inl h) (inr k) e = absurd (clash (a.x *ℤ neg_ℤ b.y) (area a b) (flat a.x a.y b.x b.y ∙ lost (neg_ℤ (area a b)) a.y b.x k.0) (mul-positive a.x (neg_ℤ b.y) h (turned b.y k.1)) e)
+opposite_ways a b (inl h) (inr k) e = absurd (clash (a.x *ℤ neg_ℤ b.y) (area a b) (flat a.x a.y b.x b.y ∙ lost (neg_ℤ (area a b)) a.y b.x k.0) (mul-positive a.x (neg_ℤ b.y) h (neg_positive b.y k.1)) e)
   where
     flat : (a b c d : ℤ) → a *ℤ neg_ℤ d ≡ neg_ℤ (a *ℤ d -ℤ b *ℤ c) +ℤ neg_ℤ b *ℤ c
     flat = ring 4 (λ a b c d. a ⊠ ⊖ d ≐ ⊖ (a ⊠ d ⊟ b ⊠ c) ⊞ ⊖ b ⊠ c) tt
@@ -122,7 +109,7 @@ opposite_ways a b (inl h) (inr k) e = absurd (clash (a.x *ℤ neg_ℤ b.y) (area
 
     clash : (a b : ℤ) → a ≡ neg_ℤ b → pos 0 <ℤ a → b ≡ pos 0 → ⊥
     clash a b e h f = omega (arith, ints)
-opposite_ways a b (inr h) (inl k) e = absurd (clash (a.y *ℤ neg_ℤ b.x) (area a b) (flat a.x a.y b.x b.y ∙ lost (area a b) a.x b.y h.0) (mul-positive a.y (neg_ℤ b.x) h.1 (turned b.x k)) e)
+opposite_ways a b (inr h) (inl k) e = absurd (clash (a.y *ℤ neg_ℤ b.x) (area a b) (flat a.x a.y b.x b.y ∙ lost (area a b) a.x b.y h.0) (mul-positive a.y (neg_ℤ b.x) h.1 (neg_positive b.x k)) e)
   where
     flat : (a b c d : ℤ) → b *ℤ neg_ℤ c ≡ (a *ℤ d -ℤ b *ℤ c) +ℤ neg_ℤ d *ℤ a
     flat = ring 4 (λ a b c d. b ⊠ ⊖ c ≐ (a ⊠ d ⊟ b ⊠ c) ⊞ ⊖ d ⊠ a) tt
@@ -132,7 +119,7 @@ opposite_ways a b (inr h) (inl k) e = absurd (clash (a.y *ℤ neg_ℤ b.x) (area
 
     clash : (a b : ℤ) → a ≡ b → pos 0 <ℤ a → b ≡ pos 0 → ⊥
     clash a b e h f = omega (arith, ints)
-opposite_ways a b (inr h) (inr k) e = upright (dot a b) (a.y *ℤ neg_ℤ b.y) b.x a.x (flat a.x a.y b.x b.y) h.0 (mul-positive a.y (neg_ℤ b.y) h.1 (turned b.y k.1))
+opposite_ways a b (inr h) (inr k) e = upright (dot a b) (a.y *ℤ neg_ℤ b.y) b.x a.x (flat a.x a.y b.x b.y) h.0 (mul-positive a.y (neg_ℤ b.y) h.1 (neg_positive b.y k.1))
   where
     flat : (a b c d : ℤ) → a *ℤ c +ℤ b *ℤ d ≡ c *ℤ a -ℤ b *ℤ neg_ℤ d
     flat = ring 4 (λ a b c d. a ⊠ c ⊞ b ⊠ d ≐ c ⊠ a ⊟ b ⊠ ⊖ d) tt
@@ -148,8 +135,8 @@ Faces true a = pos 0 ≤ℤ a.x
 Faces false a = pos 0 ≤ℤ neg_ℤ a.x
 
 faces : (f : Bool) (a : GridPoint) → Heads f a → Faces f a
-faces true a (inl h) = loose a.x h
-faces true a (inr h) = none a.x h.0
+faces true a (inl h) = nonneg_of_positive a.x h
+faces true a (inr h) = zero-nonneg a.x h.0
 faces false a (inl h) = lower a.x h
 faces false a (inr h) = none' a.x h.0
 
@@ -157,7 +144,7 @@ faces false a (inr h) = none' a.x h.0
 three_ways : (a b c : GridPoint) → Faces true a → Faces true b → Faces true c → pos 0 <ℤ area a b → pos 0 <ℤ area b c → pos 0 <ℤ area c a → ⊥
 three_ways a b c fa fb fc ab bc ca =
     let nothing = all_none (area a b *ℤ c.x) (area b c *ℤ a.x) (area c a *ℤ b.x) (round a.x a.y b.x b.y c.x c.y)
-    (mul-nonneg (area a b) c.x (loose (area a b) ab) fc) (mul-nonneg (area b c) a.x (loose (area b c) bc) fa) (mul-nonneg (area c a) b.x (loose (area c a) ca) fb) in
+    (mul-nonneg (area a b) c.x (nonneg_of_positive (area a b) ab) fc) (mul-nonneg (area b c) a.x (nonneg_of_positive (area b c) bc) fa) (mul-nonneg (area c a) b.x (nonneg_of_positive (area c a) ca) fb) in
     flat a.x a.y b.x b.y (zero_of_mul (area b c) a.x bc nothing.0) (zero_of_mul (area c a) b.x ca nothing.1) ab
   where
     round : (a b c d e f : ℤ) → (a *ℤ d -ℤ b *ℤ c) *ℤ e +ℤ (c *ℤ f -ℤ d *ℤ e) *ℤ a +ℤ (e *ℤ b -ℤ f *ℤ a) *ℤ c ≡ pos 0
@@ -178,33 +165,24 @@ Order f g turns = cond f (cond g turns true) (cond g false turns)
 abbrev pub Passed : Bool → Bool → Bool → Bool
 Passed from_first whole to_last = cond whole (from_first && to_last) (from_first || to_last)
 
-pub up_test : (a : ℤ) → pos 0 <ℤ a → int_lt (pos 0) a ≡ true
-up_test a h = sym (test a h)
-  where
-    test : (a : ℤ) → pos 0 <ℤ a → true ≡ int_lt (pos 0) a
-    test a h = omega (arith, ints)
-
 low_test : (a : ℤ) → a <ℤ pos 0 → int_lt (pos 0) a ≡ false
 low_test a h = sym (test a h)
   where
     test : (a : ℤ) → a <ℤ pos 0 → false ≡ int_lt (pos 0) a
     test a h = omega (arith, ints)
 
-up_from : (a : ℤ) → int_lt (pos 0) a ≡ true → pos 0 <ℤ a
-up_from a e = omega (arith, ints)
-
 -- u is just counterclockwise of v, and w is on its one side or the other as it is on that of v
 unfoldable pub Aside : GridPoint → GridPoint → GridPoint → Type 0
 Aside v w u = ((area w u <ℤ pos 0) × (pos 0 ≤ℤ area v w)) ⊎ ((pos 0 <ℤ area w u) × (area v w <ℤ pos 0))
 
 back_left : (a b : GridPoint) → area a b <ℤ pos 0 → pos 0 <ℤ area (back a) b
-back_left a b h = subst (λ (t : ℤ). pos 0 <ℤ t) (sym (go a.x a.y b.x b.y)) (turned (area a b) h)
+back_left a b h = subst (λ (t : ℤ). pos 0 <ℤ t) (sym (go a.x a.y b.x b.y)) (neg_positive (area a b) h)
   where
     go : (a b c d : ℤ) → neg_ℤ a *ℤ d -ℤ neg_ℤ b *ℤ c ≡ neg_ℤ (a *ℤ d -ℤ b *ℤ c)
     go = ring 4 (λ a b c d. ⊖ a ⊠ d ⊟ ⊖ b ⊠ c ≐ ⊖ (a ⊠ d ⊟ b ⊠ c)) tt
 
 back_right : (a b : GridPoint) → area a b <ℤ pos 0 → pos 0 <ℤ area a (back b)
-back_right a b h = subst (λ (t : ℤ). pos 0 <ℤ t) (sym (go a.x a.y b.x b.y)) (turned (area a b) h)
+back_right a b h = subst (λ (t : ℤ). pos 0 <ℤ t) (sym (go a.x a.y b.x b.y)) (neg_positive (area a b) h)
   where
     go : (a b c d : ℤ) → a *ℤ neg_ℤ d -ℤ b *ℤ neg_ℤ c ≡ neg_ℤ (a *ℤ d -ℤ b *ℤ c)
     go = ring 4 (λ a b c d. a ⊠ ⊖ d ⊟ b ⊠ ⊖ c ≐ ⊖ (a ⊠ d ⊟ b ⊠ c)) tt
@@ -232,13 +210,13 @@ pub not_passed : (v w u : GridPoint) (f g h : Bool) → Heads f v → Heads g w 
     → Passed (Order f g (int_lt (pos 0) (area v w))) (Order f h (int_lt (pos 0) (area v u))) (Order g h (int_lt (pos 0) (area w u))) ≡ false
 unfolding Aside
 not_passed v w u f g h hv hw hu whole aside =
-    ap (λ (t : Bool). Passed (Order f g (int_lt (pos 0) (area v w))) (Order f h t) (Order g h (int_lt (pos 0) (area w u)))) (up_test (area v u) whole)
+    ap (λ (t : Bool). Passed (Order f g (int_lt (pos 0) (area v w))) (Order f h t) (Order g h (int_lt (pos 0) (area w u)))) (lt_to (pos 0) (area v u) whole)
     ∙ elim aside [
       | inl s ↦
           ap (λ (t : Bool). Passed (Order f g (int_lt (pos 0) (area v w))) (Order f h true) (Order g h t)) (low_test (area w u) s.0)
           ∙ right f g h (int_lt (pos 0) (area v w)) refl (faces f v hv) (faces g w hw) (faces h u hu) s.0
       | inr s ↦
-          (λ i. Passed (Order f g (low_test (area v w) s.1 i)) (Order f h true) (Order g h (up_test (area w u) s.0 i)))
+          (λ i. Passed (Order f g (low_test (area v w) s.1 i)) (Order f h true) (Order g h (lt_to (pos 0) (area w u) s.0 i)))
           ∙ left f g h (faces f v hv) (faces g w hw) (faces h u hu) s.0 s.1
     ]
   where
@@ -248,7 +226,7 @@ not_passed v w u f g h hv hw hu whole aside =
         and_none : (t : Bool) → (t && false) ≡ false
         and_none true = refl
         and_none false = refl
-    right true true false true e fv fw fu b = absurd (three_ways v w (back u) fv fw fu (up_from (area v w) e) (back_right w u b) (back_first v u whole))
+    right true true false true e fv fw fu b = absurd (three_ways v w (back u) fv fw fu (lt_from (pos 0) (area v w) e) (back_right w u b) (back_first v u whole))
     right true true false false e fv fw fu b = refl
     right true false h t e fv fw fu b = go h
       where
@@ -260,7 +238,7 @@ not_passed v w u f g h hv hw hu whole aside =
         go : (h : Bool) → Passed false (Order false h true) (Order true h false) ≡ false
         go true = refl
         go false = refl
-    right false false true true e fv fw fu b = absurd (three_ways (back v) (back w) u fv fw fu (back_both v w (up_from (area v w) e)) (back_left w u b) (back_second v u whole))
+    right false false true true e fv fw fu b = absurd (three_ways (back v) (back w) u fv fw fu (back_both v w (lt_from (pos 0) (area v w) e)) (back_left w u b) (back_second v u whole))
     right false false true false e fv fw fu b = refl
     right false false false t e fv fw fu b = and_none t
       where

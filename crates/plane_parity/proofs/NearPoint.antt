@@ -6,22 +6,23 @@ use Rattle.std.proofs.lemmas.Int.{ints}
 use Rattle.std.proofs.lemmas.List.Elements.{All-head, All-tail, All-weaker, All-contains, All-cons, All-nil, All-contains_itself}
 use Rattle.plane_algebra.proofs.Differences.{as_dif, same_dif, difs}
 use Rattle.plane_algebra.proofs.Ring.{ring, ◌⊞◌, ◌⊟◌, ◌⊠◌, ⊖◌, ◌≐◌}
-use Rattle.plane_algebra.proofs.Sign.{signs, mul-positive, mul-nonneg, positive_of_mul}
-use Rattle.plane_parity.proofs.Mix.{nonneg_of_positive, strip-IsOnSegment}
-use Rattle.plane_parity.proofs.Cut.{IsOnSegment-swap}
+use Rattle.plane_algebra.proofs.Sign.{signs, mul-positive, mul-nonneg, positive_of_mul, more_or_zero}
+use Rattle.plane_parity.proofs.Mix.{nonneg_of_positive, sum_positive, strip-IsOnSegment}
+use Rattle.plane_parity.proofs.Cut.{IsOnSegment-swap, step_x-positive_by, zero_turned}
+use Rattle.plane_parity.proofs.Passing.{zero-nonneg}
 use Rattle.plane_parity.proofs.Determinant.{step_x-swap, step_y-swap}
-use Rattle.plane_parity.proofs.Place.{between_x-forward, form_on_line}
-use Rattle.plane_parity.proofs.FreeSegment.{link_order}
-use Rattle.plane_parity.proofs.Sector.{in_order_x, in_order_y}
+use Rattle.plane_parity.proofs.Place.{between_x-forward, form_on_line, turned_nonneg}
+use Rattle.plane_parity.proofs.FreeSegment.{link_order, not_both}
+use Rattle.plane_parity.proofs.AlongLink.{zero_low, turned_low}
+use Rattle.plane_parity.proofs.Sector.{in_order_x, in_order_y, nonneg_cases}
 use Rattle.plane_parity.proofs.Sight.{plain_up}
-use Rattle.plane_parity.proofs.Visible.{away}
 use Rattle.plane_model.specs.Points.{GridPoint, RationalPoint, Segment, step_x, step_y, turn, at, IsOn, IsOnSegment}
 use Rattle.plane_model.specs.Arrangement.{IsArrangement, IsBefore, IsFree}
 use Rattle.plane_model.specs.Sees.{IsOffLinks}
 
 -- ---- a linear form that keeps a point from a link
 
-abbrev form : ℤ → ℤ → ℤ → RationalPoint → ℤ
+abbrev pub form : ℤ → ℤ → ℤ → RationalPoint → ℤ
 form g h k r = g *ℤ r.X +ℤ h *ℤ r.Y +ℤ k *ℤ r.W
 
 weighed : (d a b c s t g u : ℤ) → d *ℤ a ≡ s *ℤ b +ℤ t *ℤ c +ℤ g *ℤ u → u ≡ pos 0 → d *ℤ a ≡ s *ℤ b +ℤ t *ℤ c
@@ -30,14 +31,18 @@ weighed d a b c s t g u e f = let h : d *ℤ a ≡ s *ℤ b +ℤ t *ℤ c +ℤ g
 positive_weighed : (s t b c : ℤ) → pos 0 ≤ℤ s → pos 0 ≤ℤ t → (pos 0 <ℤ s) ⊎ (pos 0 <ℤ t) → pos 0 <ℤ b → pos 0 <ℤ c → pos 0 <ℤ (s *ℤ b +ℤ t *ℤ c)
 positive_weighed s t b c hs ht w hb hc = elim w [
   | inl i ↦ one (s *ℤ b) (t *ℤ c) (mul-positive s b i hb) (mul-nonneg t c ht (nonneg_of_positive c hc))
-  | inr i ↦ two (s *ℤ b) (t *ℤ c) (mul-nonneg s b hs (nonneg_of_positive b hb)) (mul-positive t c i hc)
+  | inr i ↦ sum_positive (s *ℤ b) (t *ℤ c) (mul-nonneg s b hs (nonneg_of_positive b hb)) (mul-positive t c i hc)
 ]
   where
     one : (a b : ℤ) → pos 0 <ℤ a → pos 0 ≤ℤ b → pos 0 <ℤ (a +ℤ b)
     one a b h k = omega (arith, ints)
 
-    two : (a b : ℤ) → pos 0 ≤ℤ a → pos 0 <ℤ b → pos 0 <ℤ (a +ℤ b)
-    two a b h k = omega (arith, ints)
+-- a point of a segment is away from one end
+away : (u v r : RationalPoint) → pos 0 <ℤ step_x u v → pos 0 ≤ℤ step_x r v → pos 0 ≤ℤ step_x u r → (pos 0 <ℤ step_x r v) ⊎ (pos 0 <ℤ step_x u r)
+away u v r d h k = elim (nonneg_cases (step_x u r) k) [
+  | inl i ↦ inr i
+  | inr e ↦ inl (step_x-positive_by r u v (zero-nonneg (step_x r u) (zero_turned (step_x r u) (step_x u r) (step_x-swap r u) e)) d)
+]
 
 -- a form that is positive at both ends of a segment is positive on it
 form_between : (g h k : ℤ) (u v r : RationalPoint) → pos 0 <ℤ step_x u v → IsOnSegment u v r → pos 0 <ℤ form g h k u → pos 0 <ℤ form g h k v → pos 0 <ℤ form g h k r
@@ -69,32 +74,17 @@ form_y b c x y w = rw (as_dif b, as_dif c, as_dif x, as_dif y, as_dif w, as_dif 
 form_y' : (b c x y w : ℤ) → pos 0 *ℤ x +ℤ b *ℤ y +ℤ neg_ℤ c *ℤ w ≡ y *ℤ b -ℤ c *ℤ w
 form_y' b c x y w = rw (as_dif b, as_dif c, as_dif x, as_dif y, as_dif w, as_dif (pos 0)) (simp difs (same_dif _ _ _ _ (omega arith)))
 
-moved_positive : (a b : ℤ) → a ≡ b → pos 0 <ℤ b → pos 0 <ℤ a
+pub moved_positive : (a b : ℤ) → a ≡ b → pos 0 <ℤ b → pos 0 <ℤ a
 moved_positive a b e h = rw e h
 
 moved_low : (a b : ℤ) → a ≡ b → b ≤ℤ pos 0 → a ≤ℤ pos 0
 moved_low a b e h = rw e h
 
-neg_positive : (a : ℤ) → a <ℤ pos 0 → pos 0 <ℤ neg_ℤ a
+pub neg_positive : (a : ℤ) → a <ℤ pos 0 → pos 0 <ℤ neg_ℤ a
 neg_positive a h = omega (arith, ints)
 
 neg_zero_low : (a : ℤ) → a ≡ pos 0 → neg_ℤ a ≤ℤ pos 0
 neg_zero_low a h = omega (arith, ints)
-
-zero_low' : (a : ℤ) → a ≡ pos 0 → a ≤ℤ pos 0
-zero_low' a h = omega (arith, ints)
-
-turned_nonneg : (a b : ℤ) → a ≡ neg_ℤ b → a ≤ℤ pos 0 → pos 0 ≤ℤ b
-turned_nonneg a b e h = omega (arith, ints)
-
-nonneg_turned' : (a b : ℤ) → a ≡ neg_ℤ b → pos 0 ≤ℤ b → a ≤ℤ pos 0
-nonneg_turned' a b e h = omega (arith, ints)
-
-low_or_up : (a : ℤ) → (pos 0 <ℤ a) ⊎ (a ≤ℤ pos 0)
-low_or_up a = elim (signs a) [ inl h ↦ inl h | inr r ↦ inr (elim r [ inl e ↦ zero_low' a e | inr h ↦ low a h ]) ]
-  where
-    low : (a : ℤ) → a <ℤ pos 0 → a ≤ℤ pos 0
-    low a h = omega (arith, ints)
 
 -- a form that is positive at a point off a link, and nowhere on the link
 separates : (m : RationalPoint) (k : Segment) → IsBefore k.start k.stop → (IsOn k m → ⊥) → Separates m k
@@ -104,7 +94,7 @@ separates m k before n = elim (signs (turn (at k.start) (at k.stop) m)) [
     h = step_x (at k.start) (at k.stop);
     i = (at k.start).X *ℤ (at k.stop).Y -ℤ (at k.start).Y *ℤ (at k.stop).X;
     at_point = h;
-    at_link = λ r on. zero_low' (turn (at k.start) (at k.stop) r) on.collinear;
+    at_link = λ r on. zero_low (turn (at k.start) (at k.stop) r) on.collinear;
   }
   | inr s ↦ elim s [
     | inl e ↦ outside e
@@ -132,7 +122,7 @@ separates m k before n = elim (signs (turn (at k.start) (at k.stop) m)) [
       i = (at k.start).X;
       at_point = moved_positive (form (neg_ℤ (at k.start).W) (pos 0) (at k.start).X m) (step_x m (at k.start)) (form_x (at k.start).W (at k.start).X m.X m.Y m.W) h;
       at_link = λ r on. moved_low (form (neg_ℤ (at k.start).W) (pos 0) (at k.start).X r) (step_x r (at k.start)) (form_x (at k.start).W (at k.start).X r.X r.Y r.W)
-          (nonneg_turned' (step_x r (at k.start)) (step_x (at k.start) r) (step_x-swap r (at k.start)) (in_order_x (at k.start) (at k.stop) r order on.between_x).0);
+          (turned_low (step_x r (at k.start)) (step_x (at k.start) r) (step_x-swap r (at k.start)) (in_order_x (at k.start) (at k.stop) r order on.between_x).0);
     }
 
     right_of : pos 0 <ℤ step_x (at k.stop) m → Separates m k
@@ -142,7 +132,7 @@ separates m k before n = elim (signs (turn (at k.start) (at k.stop) m)) [
       i = neg_ℤ (at k.stop).X;
       at_point = moved_positive (form (at k.stop).W (pos 0) (neg_ℤ (at k.stop).X) m) (step_x (at k.stop) m) (form_x' (at k.stop).W (at k.stop).X m.X m.Y m.W) h;
       at_link = λ r on. moved_low (form (at k.stop).W (pos 0) (neg_ℤ (at k.stop).X) r) (step_x (at k.stop) r) (form_x' (at k.stop).W (at k.stop).X r.X r.Y r.W)
-          (nonneg_turned' (step_x (at k.stop) r) (step_x r (at k.stop)) (step_x-swap (at k.stop) r) (in_order_x (at k.start) (at k.stop) r order on.between_x).1);
+          (turned_low (step_x (at k.stop) r) (step_x r (at k.stop)) (step_x-swap (at k.stop) r) (in_order_x (at k.start) (at k.stop) r order on.between_x).1);
     }
 
     below : pos 0 ≤ℤ step_y (at k.start) (at k.stop) → pos 0 <ℤ step_y m (at k.start) → Separates m k
@@ -152,7 +142,7 @@ separates m k before n = elim (signs (turn (at k.start) (at k.stop) m)) [
       i = (at k.start).Y;
       at_point = moved_positive (form (pos 0) (neg_ℤ (at k.start).W) (at k.start).Y m) (step_y m (at k.start)) (form_y (at k.start).W (at k.start).Y m.X m.Y m.W) h;
       at_link = λ r on. moved_low (form (pos 0) (neg_ℤ (at k.start).W) (at k.start).Y r) (step_y r (at k.start)) (form_y (at k.start).W (at k.start).Y r.X r.Y r.W)
-          (nonneg_turned' (step_y r (at k.start)) (step_y (at k.start) r) (step_y-swap r (at k.start)) (in_order_y (at k.start) (at k.stop) r o on.between_y).0);
+          (turned_low (step_y r (at k.start)) (step_y (at k.start) r) (step_y-swap r (at k.start)) (in_order_y (at k.start) (at k.stop) r o on.between_y).0);
     }
 
     above : pos 0 ≤ℤ step_y (at k.start) (at k.stop) → pos 0 <ℤ step_y (at k.stop) m → Separates m k
@@ -162,16 +152,16 @@ separates m k before n = elim (signs (turn (at k.start) (at k.stop) m)) [
       i = neg_ℤ (at k.stop).Y;
       at_point = moved_positive (form (pos 0) (at k.stop).W (neg_ℤ (at k.stop).Y) m) (step_y (at k.stop) m) (form_y' (at k.stop).W (at k.stop).Y m.X m.Y m.W) h;
       at_link = λ r on. moved_low (form (pos 0) (at k.stop).W (neg_ℤ (at k.stop).Y) r) (step_y (at k.stop) r) (form_y' (at k.stop).W (at k.stop).Y r.X r.Y r.W)
-          (nonneg_turned' (step_y (at k.stop) r) (step_y r (at k.stop)) (step_y-swap (at k.stop) r) (in_order_y (at k.start) (at k.stop) r o on.between_y).1);
+          (turned_low (step_y (at k.stop) r) (step_y r (at k.stop)) (step_y-swap (at k.stop) r) (in_order_y (at k.start) (at k.stop) r o on.between_y).1);
     }
 
     on_it : IsOn k m → Separates m k
     on_it h = absurd (n h)
 
     outside : turn (at k.start) (at k.stop) m ≡ pos 0 → Separates m k
-    outside e = elim (low_or_up (step_x m (at k.start))) [
+    outside e = elim (more_or_zero (step_x m (at k.start))) [
       | inl h ↦ left_of h
-      | inr h ↦ elim (low_or_up (step_x (at k.stop) m)) [
+      | inr h ↦ elim (more_or_zero (step_x (at k.stop) m)) [
         | inl i ↦ right_of i
         | inr i ↦ within (turned_nonneg (step_x m (at k.start)) (step_x (at k.start) m) (step_x-swap m (at k.start)) h) (turned_nonneg (step_x (at k.stop) m) (step_x m (at k.stop)) (step_x-swap (at k.stop) m) i)
       ]
@@ -180,9 +170,9 @@ separates m k before n = elim (signs (turn (at k.start) (at k.stop) m)) [
         upright : (k.start.x ≡ k.stop.x) × (k.start.y <ℤ k.stop.y) → pos 0 ≤ℤ step_x (at k.start) m → pos 0 ≤ℤ step_x m (at k.stop) → Separates m k
         upright u h i =
             let o : pos 0 ≤ℤ step_y (at k.start) (at k.stop) = nonneg_of_positive (step_y (at k.start) (at k.stop)) (plain_up k.start.y k.stop.y u.1) in
-            elim (low_or_up (step_y m (at k.start))) [
+            elim (more_or_zero (step_y m (at k.start))) [
               | inl j ↦ below o j
-              | inr j ↦ elim (low_or_up (step_y (at k.stop) m)) [
+              | inr j ↦ elim (more_or_zero (step_y (at k.stop) m)) [
                 | inl j' ↦ above o j'
                 | inr j' ↦ on_it (record {
                   collinear = e;
@@ -211,7 +201,7 @@ near a m n = record {
 near_form : (t g h k x y w a b : ℤ) → g *ℤ (t *ℤ x +ℤ a) +ℤ h *ℤ (t *ℤ y +ℤ b) +ℤ k *ℤ (t *ℤ w) ≡ t *ℤ (g *ℤ x +ℤ h *ℤ y +ℤ k *ℤ w) +ℤ (g *ℤ a +ℤ h *ℤ b)
 near_form = ring 9 (λ t g h k x y w a b. g ⊠ (t ⊠ x ⊞ a) ⊞ h ⊠ (t ⊠ y ⊞ b) ⊞ k ⊠ (t ⊠ w) ≐ t ⊠ (g ⊠ x ⊞ h ⊠ y ⊞ k ⊠ w) ⊞ (g ⊠ a ⊞ h ⊠ b)) tt
 
-form-near : (g h k : ℤ) (a : GridPoint) (m : RationalPoint) (n : ℕ) → form g h k (near a m n) ≡ pos (suc n) *ℤ form g h k m +ℤ (g *ℤ a.x +ℤ h *ℤ a.y)
+pub form-near : (g h k : ℤ) (a : GridPoint) (m : RationalPoint) (n : ℕ) → form g h k (near a m n) ≡ pos (suc n) *ℤ form g h k m +ℤ (g *ℤ a.x +ℤ h *ℤ a.y)
 unfolding near
 form-near g h k a m n = near_form (pos (suc n)) g h k m.X m.Y m.W a.x a.y
 
@@ -256,12 +246,9 @@ Misses a m k n = (r : RationalPoint) → IsOnSegment m (near a m n) r → IsOn k
 abbrev pub FromSome : (ℕ → Type 0) → Type 0
 FromSome P = (n : ℕ) × ((j : ℕ) → n ≤ j → P j)
 
-positive_not_low : (a : ℤ) → pos 0 <ℤ a → a ≤ℤ pos 0 → ⊥
-positive_not_low a h k = omega (arith, ints)
-
 pub misses_link : (a : GridPoint) → IsAslant a → (m : RationalPoint) (k : Segment) → IsBefore k.start k.stop → (IsOn k m → ⊥) → FromSome (Misses a m k)
 misses_link a slant m k before off =
-    (nat_abs (s.g *ℤ a.x +ℤ s.h *ℤ a.y), λ n len r on onk. positive_not_low (form s.g s.h s.i r) (form_on_way s.g s.h s.i a slant m n r on s.at_point (there n len)) (s.at_link r onk))
+    (nat_abs (s.g *ℤ a.x +ℤ s.h *ℤ a.y), λ n len r on onk. not_both (form s.g s.h s.i r) (form_on_way s.g s.h s.i a slant m n r on s.at_point (there n len)) (s.at_link r onk))
   where
     s : Separates m k
     s = separates m k before off
