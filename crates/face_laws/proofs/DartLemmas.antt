@@ -4,9 +4,10 @@ use Rattle.plane_model.specs.Points.{GridPoint, Segment, is_before, link_between
 use Rattle.plane_model.specs.Arrangement.{IsBefore}
 use Rattle.plane_model.specs.Rotation.{Dart, tail, precedes, is_passed, IsNext}
 use Rattle.plane_model.proofs.PointOrder.{clash, before_to, is_before-IsStrictOrder}
-use Rattle.plane_faces.specs.Around.{opposite, step_of_dart}
+use Rattle.plane_faces.specs.Around.{opposite}
 use Rattle.plane_faces.specs.Rings.{dart_of_step}
 use Rattle.plane_faces.proofs.Around.{precedes_not_itself}
+use Rattle.plane_faces.proofs.Order.{before_not_itself}
 
 -- the step's link goes from its lesser to its greater end
 abbrev pub Moves : Segment → Type 0
@@ -26,22 +27,12 @@ step_head s = go (is_before s.start s.stop)
     go true = refl
     go false = refl
 
-pub step_back : (s : Segment) → step_of_dart (dart_of_step s) ≡ s
-step_back s = go (is_before s.start s.stop)
-  where
-    go : (b : Bool) → ◌≡◌ {A = Segment} (record { start = cond b (cond b s (reversed s)).start (cond b s (reversed s)).stop; stop = cond b (cond b s (reversed s)).stop (cond b s (reversed s)).start }) s
-    go true = refl
-    go false = refl
-
-not_itself : (p : GridPoint) → IsBefore p p → ⊥
-not_itself p h = is_before-IsStrictOrder.irreflexive p (before_to p p h)
-
 pub ends_differ : (s : Segment) → Moves s → s.start ≡ s.stop → ⊥
 ends_differ s m e = go (is_before s.start s.stop) m
   where
     go : (b : Bool) → IsBefore (cond b s (reversed s)).start (cond b s (reversed s)).stop → ⊥
-    go true h = not_itself s.start (subst (λ (p : GridPoint). IsBefore s.start p) (sym e) h)
-    go false h = not_itself s.start (subst (λ (p : GridPoint). IsBefore p s.start) (sym e) h)
+    go true h = before_not_itself s.start (subst (λ (p : GridPoint). IsBefore s.start p) (sym e) h)
+    go false h = before_not_itself s.start (subst (λ (p : GridPoint). IsBefore p s.start) (sym e) h)
 
 pub dart_back : (s : Segment) → Moves s → dart_of_step (reversed s) ≡ opposite (dart_of_step s)
 dart_back s m = go (is_before s.start s.stop) (is_before s.stop s.start) refl refl m

@@ -11,7 +11,7 @@ use Rattle.plane_model.specs.Points.{at}
 use Rattle.plane_model.specs.Drawing.{Polygon}
 use Rattle.plane_model.specs.Parity.{rings_hold}
 use Rattle.plane_model.specs.Snapped.{snapped}
-use Rattle.bucket_grid.proofs.Growth.{slice_get-append_left}
+use Rattle.bucket_grid.proofs.Growth.{slice_get-append_left, slice_get-append_right}
 use Rattle.face_walk.specs.Holders.{AreOwnersOf, list_at}
 use Rattle.face_walk.specs.RingSteps.{owners_from}
 use Rattle.face_laws.specs.Holders.{FeaturesOfADrawing}
@@ -27,7 +27,7 @@ any_there {X} t (x ∷ xs) e = go (t x) refl e (any_there t xs)
     go true is f later = (x, Contains-head x xs, is)
     go false is f later = let (y, there, passes) = later f in (y, Contains-later x xs y there, passes)
 
-there_any : {X : Type 0} (t : X → Bool) (xs : List X) (x : X) → Contains xs x → t x ≡ true → list_any t xs ≡ true
+pub there_any : {X : Type 0} (t : X → Bool) (xs : List X) (x : X) → Contains xs x → t x ≡ true → list_any t xs ≡ true
 there_any t [] x c e = Contains-nil x c
 there_any t (y ∷ xs) x c e = elim (Contains-cases y xs x c) [
   | inl same ↦ ap (λ (b : Bool). b || list_any t xs) (ap t same ∙ e)
@@ -42,10 +42,6 @@ there_any t (y ∷ xs) x c e = elim (Contains-cases y xs x c) [
 
 get_first : {X : Type 0} (xs ys : List X) (i : ℕ) (x : X) → i < length xs → slice_get (xs ++ ys) i ≡ Some x → slice_get xs i ≡ Some x
 get_first xs ys i x l e = slice_get-get_or xs i x l ∙ ap Some (sym (get_or_append_left xs ys x i l) ∙ get_or_from_slice_get (xs ++ ys) i x x e)
-
-get_later : {X : Type 0} (xs ys : List X) (i : ℕ) → slice_get (xs ++ ys) (length xs + i) ≡ slice_get ys i
-get_later [] ys i = let e : 0 + i ≡ i = omega arith in ap (slice_get ys) e
-get_later (x ∷ xs) ys i = let e : suc (length xs) + i ≡ suc (length xs + i) = omega arith in ap (slice_get (x ∷ (xs ++ ys))) e ∙ get_later xs ys i
 
 same_value : (k : ℕ) (polygons : List Polygon) (i n : ℕ) → slice_get (map (λ (p : Polygon). k) polygons) i ≡ Some n → k ≡ n
 same_value k [] i n e = absurd (let f : None ≡ Some n = e in cc)
@@ -71,8 +67,8 @@ owner_has k (polygons ∷ features) i n polygon e f = elim (cases_lt i (length p
       let many = length-map polygons (λ (p : Polygon). k) in
       let at_one : length polygons + (i - length polygons) ≡ i = omega arith in
       let at_two : length (map (λ (p : Polygon). k) polygons) + (i - length polygons) ≡ i = omega arith in
-      let one = sym (get_later polygons (joined_up features) (i - length polygons)) ∙ ap (slice_get (polygons ++ joined_up features)) at_one ∙ e in
-      let two = sym (get_later (map (λ (p : Polygon). k) polygons) (owners_from (k + 1) features) (i - length polygons)) ∙ ap (slice_get (map (λ (p : Polygon). k) polygons ++ owners_from (k + 1) features)) at_two ∙ f in
+      let one = sym (slice_get-append_right polygons (joined_up features) (i - length polygons)) ∙ ap (slice_get (polygons ++ joined_up features)) at_one ∙ e in
+      let two = sym (slice_get-append_right (map (λ (p : Polygon). k) polygons) (owners_from (k + 1) features) (i - length polygons)) ∙ ap (slice_get (map (λ (p : Polygon). k) polygons ++ owners_from (k + 1) features)) at_two ∙ f in
       let (j, feature, is, found, there) = owner_has (k + 1) features (i - length polygons) n polygon one two in
       (suc j, feature, omega arith, found, there))
 ]
@@ -95,8 +91,8 @@ has_owned k (polygons ∷ features) (suc j) feature polygon e c =
     let moved : length polygons + i ≡ length (map (λ (p : Polygon). k) polygons) + i = omega arith in
     let value : k + 1 + j ≡ k + suc j = omega arith in (
       length polygons + i,
-      get_later polygons (joined_up features) i ∙ found,
-      ap (slice_get (map (λ (p : Polygon). k) polygons ++ owners_from (k + 1) features)) moved ∙ get_later (map (λ (p : Polygon). k) polygons) (owners_from (k + 1) features) i ∙ owned ∙ ap Some value,
+      slice_get-append_right polygons (joined_up features) i ∙ found,
+      ap (slice_get (map (λ (p : Polygon). k) polygons ++ owners_from (k + 1) features)) moved ∙ slice_get-append_right (map (λ (p : Polygon). k) polygons) (owners_from (k + 1) features) i ∙ owned ∙ ap Some value,
     )
 
 -- the owners of the polygons that pass a test are the features of which a polygon passes it

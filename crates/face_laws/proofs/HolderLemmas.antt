@@ -3,13 +3,15 @@ use Rattle.std.proofs.Common.{◌≡◌, inl, inr, refl, sym, ap, subst, ◌∙�
 use Rattle.std.proofs.Math.Logic.{∥∥₁_elim}
 use Rattle.std.proofs.Math.Bool.{Bool-set}
 use Rattle.std.specs.Prelude.{nat_eq, slice_get}
+use Rattle.std.specs.Cmp.{both_ways}
 use Rattle.std.specs.List.{list_any}
 use Rattle.std.proofs.lemmas.Bool.{eqb-true, eq-eqb}
 use Rattle.std.proofs.lemmas.List.{get_or-map, length-map}
 use Rattle.std.proofs.lemmas.List.Elements.{All-contains}
 use Rattle.std.proofs.lemmas.Option.{get_or_from_slice_get, slice_get_within}
+use Rattle.plane_parity.proofs.BoundaryEven.{solve}
 use Rattle.lists.proofs.Members.{Contains-map}
-use Rattle.plane_model.specs.Points.{RationalPoint, Segment, Path, at, link_between, same_segment}
+use Rattle.plane_model.specs.Points.{Segment, Path, at, link_between, same_segment}
 use Rattle.plane_model.specs.Drawing.{steps as steps_of}
 use Rattle.plane_model.specs.Arcs.{SignedArc, forward, backward}
 use Rattle.plane_model.specs.Arrangement.{IsArrangement, IsDistinct}
@@ -19,11 +21,11 @@ use Rattle.plane_model.specs.Rotation.{Dart, odd_right_of}
 use Rattle.plane_model.specs.Sides.{odd_left, odd_right}
 use Rattle.plane_faces.specs.Around.{opposite}
 use Rattle.plane_faces.specs.Labels.{IsFaceLabelling, among}
-use Rattle.plane_faces.specs.Places.{Place, outside, left_of, left_side, right_side, IsBeside, IsPlaceOf, odd_at}
+use Rattle.plane_faces.specs.Places.{Place, outside, left_of, left_side, right_side, IsBeside, odd_at}
 use Rattle.plane_faces.specs.Rings.{dart_of_step}
 use Rattle.plane_faces.proofs.Connected.{connected, parity_agrees, parity_at_place}
 use Rattle.plane_faces.proofs.Crossing.{crossing_law}
-use Rattle.plane_faces.proofs.FaceLaws.{among_agrees}
+use Rattle.plane_faces.proofs.FaceLaws.{among_agrees, place_beside}
 use Rattle.plane_faces.proofs.Sorting.{rotations_exist}
 use Rattle.arc_table.specs.Along.{GoAlong}
 use Rattle.face_walk.specs.Crossings.{AreCrossings, IsCrossing, IsReached, LeaveNone, face_across, outer_of}
@@ -41,16 +43,6 @@ use Rattle.face_laws.proofs.StepLemmas.{IsStep, arc_of, step_of_link, step_on, s
 
 -- ---- across a link
 
-back_across : (a b c : Bool) → a ≡ xor b c → b ≡ xor a c
-back_across a false false e = sym e ∙ step a
-  where
-    step : (d : Bool) → d ≡ xor d false
-    step false = refl
-    step true = refl
-back_across a false true e = ap (λ (x : Bool). xor x true) (sym e)
-back_across a true false e = ap (λ (x : Bool). xor x false) (sym e)
-back_across a true true e = ap (λ (x : Bool). xor x true) (sym e)
-
 -- the parity left of a dart, and right of it
 other_side : (S L : List Segment) → IsArrangement S → IsEvenListOf S L → (d : Dart) → Contains S d.link → odd_at L (left_of (opposite d)) ≡ xor (odd_at L (left_of d)) (odd_count (same_segment d.link) L)
 other_side S L arr even d c = go d.forward
@@ -59,7 +51,7 @@ other_side S L arr even d c = go d.forward
     law = crossing_law S L arr even.within even.even d.link c
 
     go : (b : Bool) → cond (not b) (odd_left L d.link) (odd_right L d.link) ≡ xor (cond b (odd_left L d.link) (odd_right L d.link)) (odd_count (same_segment d.link) L)
-    go true = back_across (odd_left L d.link) (odd_right L d.link) (odd_count (same_segment d.link) L) law
+    go true = solve (odd_left L d.link) (odd_right L d.link) (odd_count (same_segment d.link) L) law
     go false = law
 
 -- ---- faces that are reached
@@ -104,11 +96,6 @@ module _ (outer : ℕ) (crossings : List Crossing) where
       go true g = refl
       go false g = g
 
-both_or_none : (a b : Bool) → (a ≡ true → b ≡ true) → (b ≡ true → a ≡ true) → a ≡ b
-both_or_none true b f g = sym (f refl)
-both_or_none false true f g = g refl
-both_or_none false false f g = refl
-
 -- ---- by the labels of places
 
 module _ (S : List Segment) (arr : IsArrangement S) (distinct : IsDistinct S) (arcs : List Path) (long : All (λ arc. 1 < length arc) arcs) (along : GoAlong S arcs)
@@ -136,7 +123,7 @@ module _ (S : List Segment) (arr : IsArrangement S) (distinct : IsDistinct S) (a
       let (n, j, s, h, e) = step_of_link arcs S arr long along l c in
       let below = h.arc in
       let one : reached (face_left_of faces.places (forward n)) ≡ reached (face_left_of faces.places (backward n)) =
-      both_or_none (reached (face_left_of faces.places (forward n))) (reached (face_left_of faces.places (backward n))) (crossed_over (forward n) below) (crossed_over (backward n) below) in
+      both_ways (reached (face_left_of faces.places (forward n))) (reached (face_left_of faces.places (backward n))) (crossed_over (forward n) below) (crossed_over (backward n) below) in
       let two : reached (label (left_of (dart_of_step s))) ≡ reached (label (left_of (opposite (dart_of_step s)))) = ap reached (at_left n j s h) ∙ one ∙ ap reached (sym (at_right n j s h)) in
       elim (one_of_two s (record { link = l; forward = true }) (sym e)) [
         | inl f ↦ ap (λ (d : Dart). reached (label (left_of d))) f ∙ two ∙ ap (λ (d : Dart). reached (label (left_of (opposite d)))) (sym f)
@@ -203,7 +190,7 @@ module _ (S : List Segment) (arr : IsArrangement S) (distinct : IsDistinct S) (a
             over_arc c is.along.arc below (sym is.arc) (left_of (opposite (dart_of_step first.0))) (left_of (dart_of_step first.0)) on on
             (at_right is.along.arc 0 first.0 first.1 ∙ ap (λ (b : Bool). face_left_of faces.places (record { arc = is.along.arc; is_reversed = b })) (sym e) ∙ is.left)
             (at_left is.along.arc 0 first.0 first.1 ∙ ap (λ (b : Bool). face_across faces.places (record { arc = is.along.arc; is_reversed = b })) (sym e) ∙ is.right)
-            (back_across (odd_at L (left_of (opposite (dart_of_step first.0)))) (odd_at L (left_of (dart_of_step first.0))) (odd_count (λ (s : RingStep). nat_eq i s.item) (steps_on steps is.along.arc)) turned)
+            (solve (odd_at L (left_of (opposite (dart_of_step first.0)))) (odd_at L (left_of (dart_of_step first.0))) (odd_count (λ (s : RingStep). nat_eq i s.item) (steps_on steps is.along.arc)) turned)
             across before
 
     -- so it is at each face that is reached
@@ -224,10 +211,6 @@ module _ (S : List Segment) (arr : IsArrangement S) (distinct : IsDistinct S) (a
 
 -- ---- at points
 
-pub beside_of : (S : List Segment) (z : RationalPoint) (a : Place) → IsPlaceOf S z a → IsBeside S a
-beside_of S z outside h = tt
-beside_of S z (left_of d) h = h.1
-
 pub items_hold_by_parity : ItemsHoldByParity
 items_hold_by_parity S arr distinct arcs long along free faces built crossings are closed steps held lists i L even agree p f over =
     let (label, by) = each_table_has_labels S arr arcs along faces in
@@ -236,7 +219,7 @@ items_hold_by_parity S arr distinct arcs long along free faces built crossings a
     (λ all.
     let (a, at_p, is_f) = face_of_point S arr arcs long along faces all label by p f over in
     ap (λ (n : ℕ). stands_oddly (list_at held n) i) (sym is_f)
-    ∙ odd_of_place S arr distinct arcs long along faces built.places_counted label by labelling crossings are closed steps held lists i L even agree a (beside_of S (at p) a at_p)
+    ∙ odd_of_place S arr distinct arcs long along faces built.places_counted label by labelling crossings are closed steps held lists i L even agree a (place_beside S (at p) a at_p)
     ∙ sym (parity_at_place S L arr even.within even.even (at p) a at_p))
 
 -- ---- beside arcs

@@ -8,6 +8,7 @@ use Rattle.std.specs.List.Sorted.{IsStrictlyIncreasing}
 use Rattle.std.proofs.lemmas.Bool.{cases_lt}
 use Rattle.std.proofs.lemmas.List.Elements.{All-contains, Contains-append_left, Contains-append_right, Contains-get_or}
 use Rattle.std.proofs.lemmas.Option.{get_or_from_slice_get, slice_get-get_or, slice_get_within}
+use Rattle.plane_faces.proofs.FaceLaws.{place_beside}
 use Rattle.lists.specs.Lists.{joined_up}
 use Rattle.lists.proofs.Ascending.{Contains-ascending}
 use Rattle.lists.proofs.Members.{Contains-cases, Contains-nil, Contains-flat_map, Contains-joined_up, Contains-map, joined_up-Contains, map-Contains}
@@ -33,7 +34,7 @@ use Rattle.face_walk.proofs.OddLemmas.{stands_once, stands_there}
 use Rattle.face_laws.specs.Faces.{AreFreeInside}
 use Rattle.face_laws.specs.Holders.{AreHeldAt, ItemsOfADrawing}
 use Rattle.face_laws.proofs.ClassLemmas.{faces_are_classes}
-use Rattle.face_laws.proofs.HolderLemmas.{beside_of, each_reached, items_hold_by_parity}
+use Rattle.face_laws.proofs.HolderLemmas.{each_reached, items_hold_by_parity}
 use Rattle.face_laws.proofs.ItemLemmas.{none_along, steps_are_along}
 use Rattle.face_laws.proofs.LabelLemmas.{each_table_has_labels}
 use Rattle.face_laws.proofs.PointLemmas.{face_of_point, whole_are_free}
@@ -66,7 +67,7 @@ module _ (s : Drawing) (arr : IsArrangement (links_of s)) (distinct : IsDistinct
       ∥∥₁_elim built.all_links (Bool-set (stands_oddly (list_at held f) i) true)
       (λ all.
       let (a, at_p, is_f) = face_of_point (links_of s) arr arcs table.long table.links faces all label by p f over in
-      let reached = each_reached (links_of s) arr distinct arcs table.long table.links faces built.places_counted label by labelling crossings are closed a (beside_of (links_of s) (at p) a at_p) in
+      let reached = each_reached (links_of s) arr distinct arcs table.long table.links faces built.places_counted label by labelling crossings are closed a (place_beside (links_of s) (at p) a at_p) in
       stands_once (list_at held f) (rising_at steps (outer_of faces) crossings held lists (length crossings) f (subst (IsReached (outer_of faces) crossings (length crossings)) is_f reached)) i c)
 
   pub held_at : AreHeldAt items (list_at held f) p

@@ -1,7 +1,7 @@
 -- The steps of items along arcs are, in parity, the links of their rings.
-use Rattle.std.proofs.Common.{◌≡◌, ◌≢◌, refl, sym, ap, subst, ◌∙◌, arith, ℕ, zero, suc, ◌+◌, ◌<◌, ◌≤◌, Bool, true, false, cond, ◌&&◌, Some, List, [], ◌∷◌, All, length, get_or, map}
-use Rattle.std.specs.Prelude.{nat_eq, slice_get, filter}
-use Rattle.std.proofs.lemmas.Bool.{eq-eqb, ne_eqb}
+use Rattle.std.proofs.Common.{◌≡◌, ◌≢◌, refl, sym, ap, subst, ◌∙◌, arith, ℕ, zero, suc, ◌+◌, ◌<◌, ◌≤◌, Bool, true, false, ◌&&◌, Some, List, [], ◌∷◌, All, length, get_or, map}
+use Rattle.std.specs.Prelude.{nat_eq, slice_get}
+use Rattle.std.proofs.lemmas.Bool.{eq-eqb, ne_eqb, and_right}
 use Rattle.std.proofs.lemmas.List.{get_or-map, length-map}
 use Rattle.std.proofs.lemmas.Option.{same_Some, slice_get_within}
 use Rattle.plane_model.specs.Points.{Segment, Path, link_between, same_segment}
@@ -11,6 +11,8 @@ use Rattle.plane_model.specs.Arrangement.{IsArrangement}
 use Rattle.plane_model.specs.Joined.{IsClosed}
 use Rattle.plane_model.specs.Parity.{xor, odd_count, links_of_paths}
 use Rattle.plane_parity.proofs.Telescope.{odd_count-append}
+use Rattle.plane_parity.proofs.Boundary.{filter_count}
+use Rattle.plane_parity.proofs.Sight.{and_true}
 use Rattle.plane_faces.proofs.Lists.{odd_count-permutation}
 use Rattle.arc_table.specs.Along.{GoAlong}
 use Rattle.arc_table.specs.PathArcs.{AreArcsOf, IsDrawn}
@@ -21,33 +23,17 @@ use Rattle.face_laws.specs.Holders.{StepAlong}
 use Rattle.face_laws.proofs.RingLemmas.{in_rings}
 use Rattle.face_laws.proofs.StepLemmas.{arc_of, step_at}
 
-odd_of_filter : {X : Type 0} (p g : X → Bool) (xs : List X) → odd_count g (filter p xs) ≡ odd_count (λ (x : X). p x && g x) xs
-odd_of_filter p g [] = refl
-odd_of_filter {X} p g (x ∷ xs) = go (p x) (odd_of_filter p g xs)
-  where
-    go : (b : Bool) → odd_count g (filter p xs) ≡ odd_count (λ (y : X). p y && g y) xs → odd_count g (cond b (x ∷ filter p xs) (filter p xs)) ≡ xor (b && g x) (odd_count (λ (y : X). p y && g y) xs)
-    go true e = ap (xor (g x)) e
-    go false e = e
-
-and_true : (b : Bool) → (b && true) ≡ b
-and_true false = refl
-and_true true = refl
-
-and_false : (b : Bool) → (b && false) ≡ false
-and_false false = refl
-and_false true = refl
-
 -- the step is item i's, along arc n
 abbrev is_step : ℕ → ℕ → RingStep → Bool
 is_step n i s = nat_eq s.arc n && nat_eq i s.item
 
 own_block : (n i : ℕ) (named : List SignedArc) → odd_count (is_step n i) (map (step_along i) named) ≡ odd_count (λ (a : SignedArc). nat_eq a.arc n) named
 own_block n i [] = refl
-own_block n i (a ∷ named) = λ k. xor ((ap (λ (b : Bool). nat_eq a.arc n && b) (eq-eqb i i refl) ∙ and_true (nat_eq a.arc n)) k) (own_block n i named k)
+own_block n i (a ∷ named) = λ k. xor ((ap (λ (b : Bool). nat_eq a.arc n && b) (eq-eqb i i refl) ∙ and_true (nat_eq a.arc n) true refl) k) (own_block n i named k)
 
 other_block : (n i m : ℕ) (named : List SignedArc) → i ≢ m → odd_count (is_step n i) (map (step_along m) named) ≡ false
 other_block n i m [] other = refl
-other_block n i m (a ∷ named) other = λ k. xor ((ap (λ (b : Bool). nat_eq a.arc n && b) (ne_eqb i m other) ∙ and_false (nat_eq a.arc n)) k) (other_block n i m named other k)
+other_block n i m (a ∷ named) other = λ k. xor ((ap (λ (b : Bool). nat_eq a.arc n && b) (ne_eqb i m other) ∙ and_right (nat_eq a.arc n) false refl) k) (other_block n i m named other k)
 
 none_before : (arcs : List Path) (n i k : ℕ) (items : List (List Path)) (steps : List RingStep) → i < k → AreStepsFrom arcs k items steps → odd_count (is_step n i) steps ≡ false
 none_before arcs n i k [] steps l h = ap (odd_count (is_step n i)) h
@@ -92,7 +78,7 @@ its_arcs arcs k (first ∷ items) steps h (suc j) i paths e f =
     }
 
 on_arc : (arcs : List Path) (items : List (List Path)) (steps : List RingStep) (h : AreStepsOf arcs items steps) (n i : ℕ) → odd_count (λ (s : RingStep). nat_eq i s.item) (steps_on steps n) ≡ odd_count (is_step n i) h.taken
-on_arc arcs items steps h n i = odd_of_filter (λ (s : RingStep). nat_eq s.arc n) (λ (s : RingStep). nat_eq i s.item) steps ∙ sym (odd_count-permutation (is_step n i) h.taken steps h.moved)
+on_arc arcs items steps h n i = filter_count (λ (s : RingStep). nat_eq s.arc n) (λ (s : RingStep). nat_eq i s.item) steps ∙ sym (odd_count-permutation (is_step n i) h.taken steps h.moved)
 
 -- ---- items step along the links of their rings
 

@@ -9,7 +9,8 @@ use Rattle.plane_model.specs.Drawing.{steps}
 use Rattle.plane_model.specs.Arcs.{forward, backward}
 use Rattle.plane_model.specs.Arrangement.{IsArrangement}
 use Rattle.plane_model.specs.Rotation.{Dart}
-use Rattle.plane_model.proofs.PointOrder.{same_point_from, same_point_to, segment_is}
+use Rattle.plane_model.proofs.PointOrder.{same_point_from, segment_is}
+use Rattle.plane_parity.proofs.Abscissa.{same_link-self}
 use Rattle.plane_faces.specs.Around.{opposite}
 use Rattle.plane_faces.specs.Places.{Place, outside, left_of}
 use Rattle.plane_faces.specs.Rings.{dart_of_step, darts_of_path}
@@ -18,16 +19,12 @@ use Rattle.face_walk.specs.PlaceNumbers.{place_of}
 use Rattle.face_laws.specs.Faces.{IsByNumber, EachTableHasLabels}
 use Rattle.face_laws.proofs.StepLemmas.{IsStep, arc_of, one_place}
 
-same_way : Bool → Bool → Bool
-same_way b c = cond b c (not c)
+abbrev pub same_dart : Dart → Dart → Bool
+same_dart d e = same_segment d.link e.link && cond d.forward e.forward (not e.forward)
 
-same_dart : Dart → Dart → Bool
-same_dart d e = same_segment d.link e.link && same_way d.forward e.forward
-
-dart_from : (d e : Dart) → same_dart d e ≡ true → d ≡ e
-unfolding same_dart same_way
+pub dart_from : (d e : Dart) → same_dart d e ≡ true → d ≡ e
 dart_from d e h =
-    let (links, ways) = and_parts (same_segment d.link e.link) (same_way d.forward e.forward) h in
+    let (links, ways) = and_parts (same_segment d.link e.link) (cond d.forward e.forward (not e.forward)) h in
     let (starts, stops) = and_parts (same_point d.link.start e.link.start) (same_point d.link.stop e.link.stop) links in
     let link : d.link ≡ e.link = segment_is d.link e.link (same_point_from d.link.start e.link.start starts) (same_point_from d.link.stop e.link.stop stops) in
     let way : d.forward ≡ e.forward = go d.forward e.forward ways in
@@ -35,15 +32,12 @@ dart_from d e h =
   where
     go : (b c : Bool) → cond b c (not c) ≡ true → b ≡ c
     go true true h = refl
-    go true false h = absurd (cc)
-    go false true h = absurd (cc)
+    go true false h = absurd (let g : false ≡ true = h in cc)
+    go false true h = absurd (let g : false ≡ true = h in cc)
     go false false h = refl
 
-dart_to : (d : Dart) → same_dart d d ≡ true
-unfolding same_dart same_way
-dart_to d =
-    and_from (same_segment d.link d.link) (same_way d.forward d.forward)
-    (and_from (same_point d.link.start d.link.start) (same_point d.link.stop d.link.stop) (same_point_to d.link.start d.link.start refl) (same_point_to d.link.stop d.link.stop refl)) (go d.forward)
+pub dart_to : (d : Dart) → same_dart d d ≡ true
+dart_to d = and_from (same_segment d.link d.link) (cond d.forward d.forward (not d.forward)) (same_link-self d.link) (go d.forward)
   where
     go : (b : Bool) → cond b b (not b) ≡ true
     go true = refl

@@ -12,6 +12,7 @@ use Rattle.plane_model.proofs.PointOrder.{same_point_from}
 use Rattle.plane_faces.specs.Around.{opposite, step_of_dart}
 use Rattle.plane_faces.specs.Places.{Place, left_of}
 use Rattle.plane_faces.specs.Rings.{dart_of_step}
+use Rattle.plane_faces.proofs.UsedOnce.{same_step}
 use Rattle.arc_table.specs.Along.{GoAlong}
 use Rattle.arc_table.specs.Around.{IsTurned, comes_round_first, first_step, start_of}
 use Rattle.arc_table.proofs.SignedArcs.{once_in}
@@ -19,7 +20,7 @@ use Rattle.face_laws.specs.Faces.{AreFreeInside, IsByNumber}
 use Rattle.face_walk.specs.PlaceNumbers.{place_of}
 use Rattle.face_walk.specs.Sectors.{arc_at, first_in_row, goes_on, next_in_row, place_right_of}
 use Rattle.face_walk.proofs.SectorLemmas.{first_within, next_on, next_off}
-use Rattle.face_laws.proofs.DartLemmas.{Moves, dart_back, ends_differ, step_back, step_head, step_tail, twice_opposite}
+use Rattle.face_laws.proofs.DartLemmas.{Moves, dart_back, ends_differ, step_head, step_tail, twice_opposite}
 use Rattle.face_laws.proofs.StepLemmas.{IsInnerDart, IsStep, arc_of, begins_with, first_link, none_starts_inside, one_place, step_moves, step_on, alone_inside, they_meet, where_it_starts}
 use Rattle.face_laws.proofs.RoundLemmas.{IsRow, first_after_last, next_is_next, turns_first}
 use Rattle.face_laws.proofs.TurnedRows.{first_starts, in_turn, is_there, none_after, none_before, on_starts, stands, start_is}
@@ -51,7 +52,7 @@ module _ (S : List Segment) (arr : IsArrangement S) (arcs : List Path) (long : A
   one_arc a b l m e =
       let (i, s, h) = begins_with S arr arcs long along a l in
       let (j, t, k) = begins_with S arr arcs long along b m in
-      let first : first_step arcs a ≡ first_step arcs b = sym (step_back (first_step arcs a)) ∙ ap step_of_dart e ∙ step_back (first_step arcs b) in
+      let first : first_step arcs a ≡ first_step arcs b = sym (same_step (first_step arcs a)) ∙ ap step_of_dart e ∙ same_step (first_step arcs b) in
       let links : link_between s ≡ link_between t = sym (first_link S arr arcs long along a i s h) ∙ ap (λ (d : Dart). d.link) e ∙ first_link S arr arcs long along b j t k in
       let (same, at) = one_place arcs along.once a.arc b.arc i j s t h.step k.step links in
       let steps_are : s ≡ t = one_step a.arc b.arc i j s t h.step k.step same at in
@@ -123,7 +124,7 @@ module _ (S : List Segment) (arr : IsArrangement S) (arcs : List Path) (long : A
           let lj = there j hj.0 in
           let lk = there k hk.0 in
           turns_first S arr p (dart_at j) (dart_at k) (here j hj) (here k hk) (dart_moves aj lj) (dart_moves ak lk) (differ j k hj.0 hk.0 jk) (still aj lj) (still ak lk)
-          ((λ x. comes_round_first (step_back (first_step arcs ak) x) (step_back (first_step arcs aj) x)) ∙ in_turn arcs starts outs t j k (omega arith) hk.0 (hk.1 ∙ sym hj.1)));
+          ((λ x. comes_round_first (same_step (first_step arcs ak) x) (same_step (first_step arcs aj) x)) ∙ in_turn arcs starts outs t j k (omega arith) hk.0 (hk.1 ∙ sym hj.1)));
       all = begins p i w;
     }
       where
@@ -131,7 +132,7 @@ module _ (S : List Segment) (arr : IsArrangement S) (arcs : List Path) (long : A
         here k h = (dart_on (arc_at outs k) (there k h.0), step_tail (first_step arcs (arc_at outs k)) ∙ h.1)
 
         still : (a : SignedArc) → a.arc < length arcs → same_point (step_of_dart (dart_of a)).start (step_of_dart (dart_of a)).stop ≡ false
-        still a l = (λ x. same_point (step_back (first_step arcs a) x).start (step_back (first_step arcs a) x).stop) ∙ not_same (first_step arcs a) (dart_moves a l)
+        still a l = (λ x. same_point (same_step (first_step arcs a) x).start (same_step (first_step arcs a) x).stop) ∙ not_same (first_step arcs a) (dart_moves a l)
 
         differ : (j k : ℕ) → j < length outs → k < length outs → j < k → dart_at j ≡ dart_at k → ⊥
         differ j k lj lk jk e = once_in (length arcs) outs t.all j k (forward 0) jk lk (one_arc (arc_at outs j) (arc_at outs k) (there j lj) (there k lk) e)

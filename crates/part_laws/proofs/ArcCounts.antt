@@ -1,36 +1,35 @@
 -- How often darts are along signed arcs, along rings, and in borders.
-use Rattle.std.proofs.Common.{◌≡◌, ◌⊎◌, inl, inr, refl, sym, ap, ◌∙◌, subst, arith, ℕ, suc, ◌+◌, ◌*◌, ◌-◌, ◌<◌, Bool, true, false, not, ◌&&◌, cond, List, [], ◌∷◌, ◌++◌, map, length, get_or, take, nat_eq, All, Contains, append_assoc}
-use Rattle.std.specs.List.{sum_by, count_by, cons_option, flat_map}
-use Rattle.std.specs.List.Sorted.{IsPermutation}
-use Rattle.std.proofs.lemmas.List.Sorted.{IsPermutation-map, IsPermutation-sym}
+use Rattle.std.proofs.Common.{◌≡◌, ◌⊎◌, inl, inr, refl, sym, ap, ◌∙◌, subst, arith, ℕ, suc, ◌+◌, ◌*◌, ◌-◌, ◌<◌, Bool, true, false, not, ◌&&◌, cond, List, [], ◌∷◌, ◌++◌, length, get_or, take, nat_eq, All, Contains, append_assoc}
+use Rattle.std.specs.List.{sum_by, count_by, flat_map}
 use Rattle.std.proofs.lemmas.Bool.{cases_Bool, cases_eq, eq-eqb, ne_eqb, false_from_ne_true, and_parts}
 use Rattle.std.proofs.lemmas.List.{get_or-map, length-map, take_more, take_all, length-append}
+use Rattle.plane_parity.proofs.Abscissa.{same_link-self}
+use Rattle.plane_snapping.proofs.LinkCount.{sum_map}
 use Rattle.lists.specs.Lists.{without_last}
 use Rattle.lists.proofs.Members.{Contains-head, Contains-later, Contains-cases, Contains-nil}
 use Rattle.plane_model.specs.Points.{GridPoint, Segment, Path, same_point, same_segment}
-use Rattle.plane_model.specs.Drawing.{steps, steps_of_paths}
+use Rattle.plane_model.specs.Drawing.{steps}
 use Rattle.plane_model.specs.Arcs.{SignedArc, forward, backward, points_of}
 use Rattle.plane_model.specs.Arrangement.{IsArrangement, IsDistinct}
-use Rattle.plane_model.specs.Boundary.{boundary_step}
 use Rattle.plane_model.specs.Parity.{xor}
 use Rattle.plane_model.specs.Rotation.{Dart}
 use Rattle.plane_model.proofs.PointOrder.{same_point_from, segment_is}
-use Rattle.plane_faces.specs.Around.{opposite, step_of_dart}
+use Rattle.plane_faces.specs.Around.{opposite}
 use Rattle.plane_faces.specs.Places.{Place, left_side, right_side, border, border_darts}
-use Rattle.plane_faces.specs.Rings.{dart_of_step, darts_of_path, darts_of_paths}
-use Rattle.plane_faces.specs.UsedOnce.{border_steps}
+use Rattle.plane_faces.specs.Rings.{dart_of_step, darts_of_path}
 use Rattle.arc_table.specs.Along.{GoAlong}
 use Rattle.arc_table.specs.Around.{start_of}
 use Rattle.arc_table.specs.Direction.{point_at}
-use Rattle.face_laws.proofs.DartLemmas.{Moves, step_back, twice_opposite}
+use Rattle.face_laws.proofs.DartLemmas.{Moves, twice_opposite}
 use Rattle.face_laws.proofs.StepLemmas.{IsStep, arc_of, one_place, step_at, step_moves, step_on}
+use Rattle.face_laws.proofs.LabelLemmas.{same_dart, dart_from, dart_to}
 use Rattle.ring_trace.specs.Pairing.{stop_of}
 use Rattle.ring_trace.specs.Traced.{same_arc}
 use Rattle.ring_trace.specs.Turns.{points_along, round_of}
 use Rattle.ring_trace.specs.Ways.{IsWay, IsSimpleRing}
 use Rattle.ring_trace.proofs.LeastTurn.{point_along, points_counted, without_last_is}
 use Rattle.ring_trace.proofs.PartSides.{sum_by_same}
-use Rattle.part_laws.proofs.CountLemmas.{same_dart, dart_from, dart_itself, same_link, tick, dart_count, count_back, none_at, once_at, steps_joined, sum_of_none, sum_of_one, sum_over_filter, sum_over_flat, sum_over_map}
+use Rattle.part_laws.proofs.CountLemmas.{tick, dart_count, count_back, none_at, once_at, steps_joined, sum_of_none, sum_of_one, sum_over_filter, sum_over_flat}
 
 module _ (S : List Segment) (arr : IsArrangement S) (arcs : List Path) (long : All (λ arc. 1 < length arc) arcs) (along : GoAlong S arcs) where
   all_move : (n : ℕ) → n < length arcs → All Moves (steps (arc_of arcs n))
@@ -65,7 +64,7 @@ module _ (S : List Segment) (arr : IsArrangement S) (arcs : List Path) (long : A
         let size = length-map (steps (arc_of arcs n)) dart_of_step in
         let there = h.there in
         once_at (same_dart D) (darts_of_path (arc_of arcs n)) j D (omega arith)
-        (ap (same_dart D) (get_or-map dart_of_step (steps (arc_of arcs n)) j s D h.there ∙ ap dart_of_step h.is) ∙ dart_itself D)
+        (ap (same_dart D) (get_or-map dart_of_step (steps (arc_of arcs n)) j s D h.there ∙ ap dart_of_step h.is) ∙ dart_to D)
         (λ i l e. let (below, is, step) = found D n i s h.arc l e in let (same, at) = one_place arcs along.once n n j i s (get_or (steps (arc_of arcs n)) i s) h step (ap (λ (x : Dart). x.link) is) in sym at)
 
     step_count : (m : ℕ) → m < length arcs → dart_count D (arc_of arcs m) ≡ tick (nat_eq m n)
@@ -197,7 +196,7 @@ module _ (S : List Segment) (arr : IsArrangement S) (arcs : List Path) (long : A
       ap (sum_by f) (ring_steps ring some below h)
       ∙ sum_over_flat f steps_of_arc ring
       ∙ sum_by_same (λ (x : SignedArc). sum_by f (steps_of_arc x)) g ring (λ x (k, l, is).
-      sym (sum_over_map (λ (e : Dart). cond (same_dart d e) 1 0) dart_of_step (steps_of_arc x)) ∙ counts x (subst (λ (y : SignedArc). y.arc < length arcs) is (below k x l)))
+      sym (sum_map dart_of_step (λ (e : Dart). cond (same_dart d e) 1 0) (steps_of_arc x)) ∙ counts x (subst (λ (y : SignedArc). y.arc < length arcs) is (below k x l)))
 
 -- ---- in borders
 
@@ -211,7 +210,7 @@ decided l (k ∷ S) = elim (cases_Bool (same_segment k l)) [
   | inr e ↦ elim (decided l S) [
     | inl c ↦ inl (Contains-later k S l c)
     | inr n ↦ inr (λ c. elim (Contains-cases k S l c) [
-      | inl is ↦ (let f : true ≡ false = sym (same_link l) ∙ sym (ap (λ (x : Segment). same_segment x l) is) ∙ e in absurd (cc))
+      | inl is ↦ (let f : true ≡ false = sym (same_link-self l) ∙ sym (ap (λ (x : Segment). same_segment x l) is) ∙ e in absurd (cc))
       | inr d ↦ n d
     ])
   ]
@@ -224,7 +223,7 @@ module _ (S : List Segment) (f : Place → Bool) (d : Dart) where
   summed : count_by (same_dart d) (border_darts f S) ≡ sum_by value S
   unfolding value
   summed =
-      sum_over_map (λ (e : Dart). cond (same_dart d e) 1 0) (λ (l : Segment). record { link = l; forward = f (left_side l) }) (border f S)
+      sum_map (λ (l : Segment). record { link = l; forward = f (left_side l) }) (λ (e : Dart). cond (same_dart d e) 1 0) (border f S)
       ∙ sum_over_filter (λ (l : Segment). xor (f (left_side l)) (f (right_side l))) (λ (l : Segment). tick (same_dart d (record { link = l; forward = f (left_side l) }))) S
 
   other_link : (l : Segment) → (l ≡ d.link → ⊥) → value l ≡ 0
@@ -242,7 +241,7 @@ module _ (S : List Segment) (f : Place → Bool) (d : Dart) where
   unfolding value
   border_count distinct c =
       summed ∙ sum_of_one value S d.link distinct c (λ l n ne. other_link l ne)
-      ∙ ap (λ (b : Bool). cond (xor (f (left_side d.link)) (f (right_side d.link))) (tick (b && cond d.forward (f (left_side d.link)) (not (f (left_side d.link))))) 0) (same_link d.link)
+      ∙ ap (λ (b : Bool). cond (xor (f (left_side d.link)) (f (right_side d.link))) (tick (b && cond d.forward (f (left_side d.link)) (not (f (left_side d.link))))) 0) (same_link-self d.link)
       ∙ tests d.forward (f (left_side d.link)) (f (right_side d.link))
     where
       tests : (w x y : Bool) → cond (xor x y) (tick (true && cond w x (not x))) 0 ≡ tick (cond w (x && not y) (y && not x))
@@ -257,31 +256,3 @@ module _ (S : List Segment) (f : Place → Bool) (d : Dart) where
 
   pub border_none : (Contains S d.link → ⊥) → count_by (same_dart d) (border_darts f S) ≡ 0
   border_none out = summed ∙ sum_of_none value S (λ l c. other_link l (λ e. out (subst (λ (x : Segment). Contains S x) e c)))
-
--- ---- darts and steps
-
-all_steps : (xs : List Segment) → map step_of_dart (map dart_of_step xs) ≡ xs
-all_steps [] = refl
-all_steps (s ∷ xs) = λ i. step_back s i ∷ all_steps xs i
-
-module _ (f : Place → Bool) where
-  abbrev directed : Segment → Dart
-  directed l = record { link = l; forward = f (left_side l) }
-
-  steps_of_border : (xs : List Segment) → map step_of_dart (map directed (border f xs)) ≡ border_steps f xs
-  steps_of_border [] = refl
-  steps_of_border (l ∷ xs) = go (f (left_side l)) (f (right_side l)) refl (steps_of_border xs)
-    where
-      go : (x y : Bool) → f (left_side l) ≡ x → map step_of_dart (map directed (border f xs)) ≡ border_steps f xs
-          → map step_of_dart (map directed (cond (xor x y) (l ∷ border f xs) (border f xs))) ≡ cons_option (boundary_step x y l) (border_steps f xs)
-      go true true e h = h
-      go true false e h = λ i. (record { start = cond (e i) l.start l.stop; stop = cond (e i) l.stop l.start }) ∷ h i
-      go false true e h = λ i. (record { start = cond (e i) l.start l.stop; stop = cond (e i) l.stop l.start }) ∷ h i
-      go false false e h = h
-
-  -- rings that use the darts of a border once use its steps once
-  pub steps_used : (S : List Segment) (rings : List Path) → IsPermutation (darts_of_paths rings) (border_darts f S) → IsPermutation (border_steps f S) (steps_of_paths rings)
-  steps_used S rings h =
-      subst (IsPermutation (border_steps f S)) (all_steps (steps_of_paths rings))
-      (subst (λ (xs : List Segment). IsPermutation xs (map step_of_dart (darts_of_paths rings))) (steps_of_border S)
-      (IsPermutation-map step_of_dart (border_darts f S) (darts_of_paths rings) (IsPermutation-sym (darts_of_paths rings) (border_darts f S) h)))

@@ -2,49 +2,23 @@
 use Rattle.std.proofs.Common.{◌≡◌, inl, inr, refl, sym, ap, ◌∙◌, subst, arith, ℕ, zero, suc, ◌+◌, ◌<◌, Bool, true, false, not, ◌&&◌, cond, List, [], ◌∷◌, ◌++◌, map, filter, length, get_or, reverse, All, Contains, append_assoc}
 use Rattle.std.specs.List.{sum_by, count_by, flat_map}
 use Rattle.std.specs.List.Sorted.{IsPermutation}
-use Rattle.std.proofs.lemmas.Bool.{and_from, and_parts, cases_Bool, false_from_ne_true}
+use Rattle.std.proofs.lemmas.Bool.{cases_Bool, false_from_ne_true}
 use Rattle.std.proofs.lemmas.List.{reverse-append}
 use Rattle.std.proofs.lemmas.List.Sums.{sum_by-cons, sum_by-append}
 use Rattle.std.proofs.lemmas.List.Sorted.{IsPermutation-refl, IsPermutation-cons, IsPermutation-sym, IsPermutation-trans, sum_by-IsPermutation}
+use Rattle.plane_snapping.proofs.LinkCount.{sum_map}
 use Rattle.lists.proofs.Members.{Contains-head, Contains-later, Contains-cases, Contains-nil}
-use Rattle.plane_model.specs.Points.{GridPoint, Segment, Path, same_point, same_segment}
+use Rattle.plane_model.specs.Points.{GridPoint, Segment, Path, same_segment}
 use Rattle.plane_model.specs.Drawing.{steps}
 use Rattle.plane_model.specs.Arrangement.{IsDistinct}
 use Rattle.plane_model.specs.Rotation.{Dart}
-use Rattle.plane_model.proofs.PointOrder.{same_point_from, same_point_to, segment_is}
 use Rattle.plane_faces.specs.Around.{opposite}
 use Rattle.plane_faces.specs.Rings.{dart_of_step, darts_of_path}
 use Rattle.plane_faces.proofs.Tracing.{take_out}
 use Rattle.face_laws.proofs.DartLemmas.{Moves, dart_back}
+use Rattle.face_laws.proofs.LabelLemmas.{same_dart, dart_from, dart_to}
 
 -- ---- one dart
-
-abbrev pub same_dart : Dart → Dart → Bool
-same_dart d e = same_segment d.link e.link && cond d.forward e.forward (not e.forward)
-
-pub dart_from : (d e : Dart) → same_dart d e ≡ true → d ≡ e
-dart_from d e h =
-    let (links, ways) = and_parts (same_segment d.link e.link) (cond d.forward e.forward (not e.forward)) h in
-    let (starts, stops) = and_parts (same_point d.link.start e.link.start) (same_point d.link.stop e.link.stop) links in
-    let link : d.link ≡ e.link = segment_is d.link e.link (same_point_from d.link.start e.link.start starts) (same_point_from d.link.stop e.link.stop stops) in
-    let way : d.forward ≡ e.forward = go d.forward e.forward ways in
-    (λ i. record { link = link i; forward = way i })
-  where
-    go : (b c : Bool) → cond b c (not c) ≡ true → b ≡ c
-    go true true h = refl
-    go true false h = absurd (let g : false ≡ true = h in cc)
-    go false true h = absurd (let g : false ≡ true = h in cc)
-    go false false h = refl
-
-pub same_link : (l : Segment) → same_segment l l ≡ true
-same_link l = and_from (same_point l.start l.start) (same_point l.stop l.stop) (same_point_to l.start l.start refl) (same_point_to l.stop l.stop refl)
-
-pub dart_itself : (d : Dart) → same_dart d d ≡ true
-dart_itself d = and_from (same_segment d.link d.link) (cond d.forward d.forward (not d.forward)) (same_link d.link) (go d.forward)
-  where
-    go : (b : Bool) → cond b b (not b) ≡ true
-    go true = refl
-    go false = refl
 
 turned_test : (d e : Dart) → same_dart d (opposite e) ≡ same_dart (opposite d) e
 turned_test d e = ap (λ (b : Bool). same_segment d.link e.link && b) (go d.forward e.forward)
@@ -59,14 +33,6 @@ turned_test d e = ap (λ (b : Bool). same_segment d.link e.link && b) (go d.forw
 
 abbrev pub tick : Bool → ℕ
 tick b = cond b 1 0
-
-pub sum_over_map : {X Y : Type 0} (f : Y → ℕ) (g : X → Y) (xs : List X) → sum_by f (map g xs) ≡ sum_by (λ (x : X). f (g x)) xs
-sum_over_map f g [] = refl
-sum_over_map f g (x ∷ xs) =
-    let m = sum_by-cons f (g x) (map g xs) in
-    let n = sum_by-cons (λ (y : _). f (g y)) x xs in
-    let r = sum_over_map f g xs in
-    omega arith
 
 pub sum_over_flat : {X Y : Type 0} (f : Y → ℕ) (g : X → List Y) (xs : List X) → sum_by f (flat_map g xs) ≡ sum_by (λ (x : X). sum_by f (g x)) xs
 sum_over_flat f g [] = refl
@@ -144,7 +110,7 @@ counted_there d (x ∷ xs) l = elim (cases_Bool (same_dart d x)) [
 head_there : (x : Dart) (xs : List Dart) → 0 < count_by (same_dart x) (x ∷ xs)
 head_there x xs =
     let m = sum_by-cons (λ (y : Dart). cond (same_dart x y) 1 0) x xs in
-    let f : tick (same_dart x x) ≡ 1 = ap tick (dart_itself x) in
+    let f : tick (same_dart x x) ≡ 1 = ap tick (dart_to x) in
     omega arith
 
 pub permuted : (xs ys : List Dart) → ((d : Dart) → count_by (same_dart d) xs ≡ count_by (same_dart d) ys) → IsPermutation xs ys
@@ -174,9 +140,9 @@ dart_count d path = count_by (same_dart d) (darts_of_path path)
 count_split : (d : Dart) (xs ys : List Segment) → count_by (same_dart d) (map dart_of_step (xs ++ ys)) ≡ count_by (same_dart d) (map dart_of_step xs) + count_by (same_dart d) (map dart_of_step ys)
 count_split d xs ys =
     let f : Dart → ℕ = λ e. cond (same_dart d e) 1 0 in
-    let all = sum_over_map f dart_of_step (xs ++ ys) in
-    let one = sum_over_map f dart_of_step xs in
-    let two = sum_over_map f dart_of_step ys in
+    let all = sum_map dart_of_step f (xs ++ ys) in
+    let one = sum_map dart_of_step f xs in
+    let two = sum_map dart_of_step f ys in
     let both = sum_by-append (λ (s : Segment). f (dart_of_step s)) xs ys in
     omega arith
 

@@ -2,10 +2,11 @@
 use Rattle.std.proofs.Common.{◌≡◌, inl, inr, refl, sym, ap, ◌∙◌, subst, arith, ℕ, zero, suc, ◌+◌, ◌<◌, ◌≤◌, Bool, true, false, ◌||◌, List, [], ◌∷◌, map, length, get_or, All, AllPairs, Contains, pos}
 use Rattle.std.specs.Prelude.{IsTrue, ◌<ℤ◌}
 use Rattle.std.specs.List.{sum_by}
-use Rattle.std.proofs.lemmas.Bool.{cases_lt}
 use Rattle.std.proofs.lemmas.List.{get_or_default, get_or-map, length-append, length-map}
 use Rattle.std.proofs.lemmas.List.Elements.{All-cons, All-map, All-nil}
 use Rattle.std.proofs.lemmas.List.Sums.{get_or-le-sum_by, sum_by-cons}
+use Rattle.std.proofs.Math.Numerals.{lt_of_le_of_ne}
+use Rattle.plane_parity.proofs.Abscissa.{same_link-self}
 use Rattle.plane_model.specs.Points.{Segment, Path, same_segment}
 use Rattle.plane_model.specs.Drawing.{steps}
 use Rattle.plane_model.specs.Arcs.{SignedArc, begins_arc, points_of}
@@ -23,14 +24,13 @@ use Rattle.ring_trace.proofs.PartSides.{of_test}
 use Rattle.face_walk.specs.Places.{FaceTable, face_left_of}
 use Rattle.part_laws.specs.Parts.{AreFacesOf, AreTraced, HasExteriorFirst, TracedPolygonsFit}
 use Rattle.part_laws.proofs.ArcCounts.{ring_steps}
-use Rattle.part_laws.proofs.CountLemmas.{same_link}
 use Rattle.part_laws.proofs.NumberLaws.{first_along, least_is, some_steps, steps_along}
 use Rattle.part_laws.proofs.PolygonLaws.{are_rings, at_least_one, once_most, used_true, uses}
 use Rattle.part_laws.proofs.TracedLaws.{some_arc, traced_polygons_have_exteriors}
 
 -- ---- rings
 
-ring_is_simple : (ring : Path) → IsRing ring → IsSimple ring
+pub ring_is_simple : (ring : Path) → IsRing ring → IsSimple ring
 ring_is_simple [] h = absurd h
 ring_is_simple (p ∷ []) h = absurd h
 ring_is_simple (p ∷ q ∷ rest) h = h.1
@@ -39,7 +39,7 @@ ring_is_simple (p ∷ q ∷ rest) h = h.1
 begins_with : (path : Path) (s : Segment) → 1 < length path → get_or (steps path) 0 s ≡ s → begins_arc s path ≡ true
 begins_with [] s l e = absurd (omega arith)
 begins_with (p ∷ []) s l e = absurd (omega arith)
-begins_with (p ∷ q ∷ rest) s l e = ap (λ (b : Bool). b || false) (ap (same_segment s) e ∙ same_link s)
+begins_with (p ∷ q ∷ rest) s l e = ap (λ (b : Bool). b || false) (ap (same_segment s) e ∙ same_link-self s)
 
 begins_at : (arcs : List Path) (path : Path) (d : Segment) (a : SignedArc) → 0 < length (steps path) → least_arc arcs path ≡ a.arc → begins_arc (get_or (steps path) 0 d) (points_of arcs a) ≡ true → BeginsAtLeastArc arcs path
 begins_at arcs [] d a l e h = absurd (omega arith)
@@ -49,9 +49,6 @@ begins_at arcs (p ∷ q ∷ rest) d a l e h = (
   All-cons (λ s. IsTrue (begins_arc s (points_of arcs (record { arc = least_arc arcs (p ∷ q ∷ rest); is_reversed = a.is_reversed })))) (get_or (steps (p ∷ q ∷ rest)) 0 d) []
       (ap (λ (n : ℕ). begins_arc (get_or (steps (p ∷ q ∷ rest)) 0 d) (points_of arcs (record { arc = n; is_reversed = a.is_reversed }))) e ∙ h) (All-nil _),
 )
-
-strictly : (m n : ℕ) → m ≤ n → (m ≡ n → ⊥) → m < n
-strictly m n l apart = elim (cases_lt m n) [ inl less ↦ less | inr more ↦ absurd (apart (omega arith)) ]
 
 two_summed : {X : Type 0} (f : X → ℕ) (xs : List X) (i j : ℕ) (d : X) → i < j → j < length xs → f (get_or xs i d) + f (get_or xs j d) ≤ sum_by f xs
 two_summed f [] i j d less l = absurd (omega arith)
@@ -161,7 +158,7 @@ module _ (S : List Segment) (arcs : List Path) (faces : FaceTable) (table : AreF
           (λ e. first_apart (suc i) (suc j) none (omega arith) (omega arith) (ap first_number (hole_at i none) ∙ e ∙ sym (ap first_number (hole_at j none)))) in
           let e_i = ap (least_arc arcs) at_i in
           let e_j = ap (least_arc arcs) at_j in
-          let strict = strictly (first_number (get_or first.holes i none)) (first_number (get_or first.holes j none)) up apart in
+          let strict = lt_of_le_of_ne up apart in
           omega arith
 
 pub traced_polygons_fit : TracedPolygonsFit

@@ -7,6 +7,8 @@ use Rattle.std.proofs.lemmas.List.{get_or_append_left, get_or-map, length-append
 use Rattle.std.proofs.lemmas.List.Elements.{All-head, All-tail, Contains-get_or}
 use Rattle.std.proofs.lemmas.List.Folds.{Any-from_list_any, list_any_at}
 use Rattle.std.proofs.lemmas.List.Sorted.{Contains-permutation, IsPermutation-sym}
+use Rattle.std.proofs.Math.Bool.{or-true}
+use Rattle.plane_parity.proofs.Abscissa.{same_link-self}
 use Rattle.lists.specs.Lists.{has, least_of, place_of}
 use Rattle.lists.proofs.Members.{Contains-map, flat_map-Contains, map-Contains}
 use Rattle.plane_model.specs.Points.{Segment, Path, link_between, reversed, same_point, same_segment}
@@ -27,7 +29,6 @@ use Rattle.ring_trace.specs.Turns.{first_number, round_of}
 use Rattle.ring_trace.specs.Ways.{IsSimpleRing}
 use Rattle.ring_trace.proofs.LeastTurn.{points_counted}
 use Rattle.part_laws.proofs.ArcCounts.{ring_steps}
-use Rattle.part_laws.proofs.CountLemmas.{same_link}
 
 -- ---- lists
 
@@ -56,10 +57,6 @@ least_is_first (x ∷ y ∷ rest) m l e h =
     (false_from_ne_true (nat_lt (least_of nat_lt 0 (y ∷ rest)) x) (λ f. let less = ltb-true (least_of nat_lt 0 (y ∷ rest)) x f in omega arith))
     ∙ e
 
-either : (b : Bool) → (b || true) ≡ true
-either true = refl
-either false = refl
-
 -- ---- steps and arcs
 
 module _ (S : List Segment) (arr : IsArrangement S) (arcs : List Path) (long : All (λ arc. 1 < length arc) arcs) (along : GoAlong S arcs) where
@@ -81,14 +78,14 @@ module _ (S : List Segment) (arr : IsArrangement S) (arcs : List Path) (long : A
           (j, t, record { arc = below; there = l; is = is }, sym e)
 
   has_step : (n j : ℕ) (t : Segment) → IsStep arcs n j t → has same_segment (steps (arc_of arcs n)) t ≡ true
-  has_step n j t h = list_any_at (same_segment t) (steps (arc_of arcs n)) j t h.there (ap (same_segment t) h.is ∙ same_link t)
+  has_step n j t h = list_any_at (same_segment t) (steps (arc_of arcs n)) j t h.there (ap (same_segment t) h.is ∙ same_link-self t)
 
   goes_if : (n : ℕ) (s : Segment) → IsAlong n s → goes_along s (arc_of arcs n) ≡ true
   goes_if n s (j, t, h, e) = elim (one_link s t e) [
     | inl is ↦ ap (λ (b : Bool). b || has same_segment (steps (arc_of arcs n)) (reversed s)) (ap (has same_segment (steps (arc_of arcs n))) is ∙ has_step n j t h)
     | inr is ↦
         ap (λ (b : Bool). has same_segment (steps (arc_of arcs n)) s || b) (ap (λ (u : Segment). has same_segment (steps (arc_of arcs n)) (reversed u)) is ∙ has_step n j t h)
-        ∙ either (has same_segment (steps (arc_of arcs n)) s)
+        ∙ or-true (has same_segment (steps (arc_of arcs n)) s)
   ]
 
   step_from : (n : ℕ) (s : Segment) → n < length arcs → has same_segment (steps (arc_of arcs n)) s ≡ true → (j : ℕ) × IsStep arcs n j s

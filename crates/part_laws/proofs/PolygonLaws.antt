@@ -7,6 +7,7 @@ use Rattle.std.proofs.lemmas.List.{get_or_default}
 use Rattle.std.proofs.lemmas.List.Elements.{All-contains, All-map, Contains-get_or}
 use Rattle.std.proofs.lemmas.List.Sums.{sum_by-cons, get_or-le-sum_by}
 use Rattle.std.proofs.lemmas.Option.{slice_get-get_or}
+use Rattle.plane_snapping.proofs.LinkCount.{sum_map}
 use Rattle.lists.specs.Lists.{has}
 use Rattle.plane_model.specs.Points.{Segment, Path}
 use Rattle.plane_model.specs.Drawing.{steps, steps_of_paths}
@@ -20,7 +21,7 @@ use Rattle.plane_faces.specs.Places.{Place, outside, left_of, left_side, right_s
 use Rattle.plane_faces.specs.Rings.{IsPolygon, IsRing, dart_of_step, darts_of_paths}
 use Rattle.plane_faces.specs.UsedOnce.{border_steps}
 use Rattle.plane_faces.proofs.Runs.{ring_closed}
-use Rattle.plane_faces.proofs.UsedOnce.{parts_used_once_are_polygons}
+use Rattle.plane_faces.proofs.UsedOnce.{parts_used_once_are_polygons, once_by_steps}
 use Rattle.arc_table.specs.Along.{GoAlong}
 use Rattle.arc_table.specs.Around.{start_of}
 use Rattle.face_walk.specs.Places.{FaceTable, IsBuiltOf, face_left_of}
@@ -37,9 +38,10 @@ use Rattle.ring_trace.specs.Ways.{IsSimpleRing}
 use Rattle.ring_trace.proofs.BoundaryLemmas.{has_Contains, Contains_has, same_or_other}
 use Rattle.ring_trace.proofs.PartSides.{of_test, sum_by_same, sum_by_none}
 use Rattle.part_laws.specs.Parts.{PolygonsHaveExteriors, number_of}
-use Rattle.part_laws.proofs.ArcCounts.{arc_back_count, arc_count, border_count, border_none, decided, none_on_arc, ring_count, steps_used}
+use Rattle.face_laws.proofs.LabelLemmas.{same_dart}
+use Rattle.part_laws.proofs.ArcCounts.{arc_back_count, arc_count, border_count, border_none, decided, none_on_arc, ring_count}
 use Rattle.part_laws.proofs.ClassLemmas.{are_classes, numbered}
-use Rattle.part_laws.proofs.CountLemmas.{dart_count, permuted, same_dart, sum_over_flat, sum_over_map, tick}
+use Rattle.part_laws.proofs.CountLemmas.{dart_count, permuted, sum_over_flat, tick}
 use Rattle.part_laws.proofs.LinkLemmas.{left_at, link_of_arc, right_at}
 use Rattle.part_laws.proofs.RingLemmas.{rings_go_round}
 
@@ -111,9 +113,9 @@ module _ (S : List Segment) (arr : IsArrangement S) (distinct : IsDistinct S) (a
   polygon_count : (d : Dart) (g : SignedArc → ℕ) → ((x : SignedArc) → x.arc < length arcs → dart_count d (points_of arcs x) ≡ g x) → count_by (same_dart d) (darts_of_paths (map (round_of arcs) polygon)) ≡ sum_by (λ (ring : List SignedArc). sum_by g ring) polygon
   polygon_count d g counts =
       let f : Segment → ℕ = λ s. tick (same_dart d (dart_of_step s)) in
-      sum_over_map (λ (e : Dart). cond (same_dart d e) 1 0) dart_of_step (steps_of_paths (map (round_of arcs) polygon))
+      sum_map dart_of_step (λ (e : Dart). cond (same_dart d e) 1 0) (steps_of_paths (map (round_of arcs) polygon))
       ∙ sum_over_flat f steps (map (round_of arcs) polygon)
-      ∙ sum_over_map (λ (p : Path). sum_by f (steps p)) (round_of arcs) polygon
+      ∙ sum_map (round_of arcs) (λ (p : Path). sum_by f (steps p)) polygon
       ∙ sum_by_same (λ (ring : List SignedArc). sum_by f (steps (round_of arcs ring))) (λ (ring : List SignedArc). sum_by g ring) polygon (λ ring c.
       ring_count S arr arcs long along d g counts ring (All-contains (λ r. 0 < length r) polygon ring some c) (All-contains (All (λ a. a.arc < length arcs)) polygon ring below c)
       (All-contains (IsSimpleRing (start_of arcs) (stop_of arcs)) polygon ring simple c))
@@ -160,7 +162,7 @@ module _ (S : List Segment) (arr : IsArrangement S) (distinct : IsDistinct S) (a
   pub uses : UsesOnce (border_steps inside S) (map (round_of arcs) polygon)
   uses = record {
     closed = λ k d l. ring_closed (get_or (map (round_of arcs) polygon) k d) (are_rings k d l);
-    steps_once = steps_used inside S (map (round_of arcs) polygon) (permuted (darts_of_paths (map (round_of arcs) polygon)) (border_darts inside S) same_counts);
+    steps_once = once_by_steps inside S (map (round_of arcs) polygon) (permuted (darts_of_paths (map (round_of arcs) polygon)) (border_darts inside S) same_counts);
   }
 
 -- ---- the polygons

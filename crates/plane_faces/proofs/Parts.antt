@@ -19,9 +19,6 @@ use Rattle.plane_faces.proofs.Crossing.{crossing_law}
 use Rattle.plane_faces.proofs.Connected.{HasRotations, parity_at_place, border_is_even, border_parity}
 use Rattle.plane_faces.proofs.FaceLaws.{among_agrees, place_beside, one_face_at}
 
-pub contains_filter : (p : Segment → Bool) (xs : List Segment) (x : Segment) → Contains xs x → p x ≡ true → Contains (filter p xs) x
-contains_filter p xs x c e = Contains-filter p xs x c e
-
 pub passes_filter : (p : Segment → Bool) (xs : List Segment) (x : Segment) → Contains (filter p xs) x → p x ≡ true
 passes_filter p xs x c = All-contains (λ y. p y ≡ true) (filter p xs) x (filter_passes p xs) c
 

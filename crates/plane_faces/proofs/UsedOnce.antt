@@ -25,7 +25,7 @@ use Rattle.plane_faces.proofs.LeastFirst.{Bordering, least_starts}
 use Rattle.plane_faces.proofs.Laws.{border_rings, part_paths}
 
 -- a step has one dart, and a dart one step
-same_step : (s : Segment) → step_of_dart (dart_of_step s) ≡ s
+pub same_step : (s : Segment) → step_of_dart (dart_of_step s) ≡ s
 same_step s = λ i. record { start = between_tail s.start s.stop i; stop = between_head s.start s.stop i }
 
 all_steps : (xs : List Segment) → map step_of_dart (map dart_of_step xs) ≡ xs
@@ -62,7 +62,7 @@ module _ (f : Place → Bool) where
       go false false e o h = h
 
   -- by darts, and by steps
-  once_by_steps : (S : List Segment) (rings : List Path) → IsPermutation (darts_of_paths rings) (border_darts f S) → IsPermutation (border_steps f S) (steps_of_paths rings)
+  pub once_by_steps : (S : List Segment) (rings : List Path) → IsPermutation (darts_of_paths rings) (border_darts f S) → IsPermutation (border_steps f S) (steps_of_paths rings)
   once_by_steps S rings h =
       subst (IsPermutation (border_steps f S)) (all_steps (steps_of_paths rings))
       (subst (λ (xs : List Segment). IsPermutation xs (map step_of_dart (darts_of_paths rings))) (steps_of_border S)

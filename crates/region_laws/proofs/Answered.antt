@@ -5,6 +5,7 @@ use Rattle.std.specs.List.{range_with_len}
 use Rattle.std.proofs.lemmas.Bool.{cases_lt, false_from_ne_true}
 use Rattle.std.proofs.lemmas.List.{get_or_default}
 use Rattle.std.proofs.lemmas.List.FromFn.{get_or-map-range_with_len, length-map-range_with_len}
+use Rattle.std.proofs.lemmas.List.Elements.{Contains-get_or}
 use Rattle.lists.specs.Lists.{has, joined_up}
 use Rattle.lists.proofs.Ascending.{Contains-ascending, ascending-Contains}
 use Rattle.lists.proofs.Members.{Contains-joined_up, joined_up-Contains}
@@ -39,9 +40,6 @@ use Rattle.region_laws.proofs.Walked.{arcs_free, labels_faces, links_arranged, l
 
 -- ---- layers
 
-there : {A : Type 0} (xs : List A) (n : ℕ) (d : A) → n < length xs → Contains xs (get_or xs n d)
-there xs n d l = (n, l, get_or_default xs n (get_or xs n d) d l)
-
 found : {A : Type 0} (xs : List A) (x d : A) (c : Contains xs x) → x ≡ get_or xs c.0 d
 found xs x d c = sym c.2 ∙ get_or_default xs c.0 x d c.1
 
@@ -52,13 +50,13 @@ layers_are_followed d arcs label sets regions (many, each) z off a here = (
       let n : ℕ = in_regions.0 in
       let below : n < length sets = let l = in_regions.1 in omega arith in
       let in_set : Contains (get_or sets n []) (label a) = (each n below z off a here).0 (subst (λ (t : Region). Has d arcs t z) (found regions r (any_of []) in_regions) held) in
-      Contains-ascending nat_lt nat_order (joined_up sets) (label a) (Contains-joined_up sets (get_or sets n []) (label a) (there sets n [] below) in_set),
+      Contains-ascending nat_lt nat_order (joined_up sets) (label a) (Contains-joined_up sets (get_or sets n []) (label a) (Contains-get_or sets n [] below) in_set),
   λ c.
       let (set, in_sets, in_set) = joined_up-Contains sets (label a) (ascending-Contains nat_lt nat_order (joined_up sets) (label a) c) in
       let n : ℕ = in_sets.0 in
       let below : n < length regions = let l = in_sets.1 in omega arith in
       let held : Has d arcs (get_or regions n (any_of [])) z = (each n in_sets.1 z off a here).1 (subst (λ (xs : List ℕ). Contains xs (label a)) (found sets set [] in_sets) in_set) in
-      some_has d arcs z regions (get_or regions n (any_of [])) (there regions n (any_of []) below) held,
+      some_has d arcs z regions (get_or regions n (any_of [])) (Contains-get_or regions n (any_of []) below) held,
 )
 
 -- ---- sides

@@ -1,7 +1,7 @@
 -- The nonempty ascending lists of some numbers stand in lexicographic order.
-use Rattle.std.proofs.Common.{◌≡◌, ◌⊎◌, inl, inr, refl, sym, subst, ◌∙◌, arith, ℕ, Bool, true, false, not, cond, ◌&&◌, ◌||◌, List, [], ◌∷◌, ◌++◌, Contains, filter, map, nat_lt}
+use Rattle.std.proofs.Common.{◌≡◌, inl, inr, refl, sym, subst, ◌∙◌, arith, ℕ, Bool, true, false, not, cond, ◌&&◌, ◌||◌, List, [], ◌∷◌, ◌++◌, Contains, filter, map, nat_lt}
 use Rattle.std.proofs.lemmas.Bool.{false_from_ne_true, or_left}
-use Rattle.std.proofs.lemmas.List.Elements.{Contains-append_left, Contains-append_right}
+use Rattle.std.proofs.lemmas.List.Elements.{Contains-append_left, Contains-append_right, Contains-append_cases}
 use Rattle.lists.specs.Lists.{list_before}
 use Rattle.lists.proofs.Ascending.{IsAscending}
 use Rattle.lists.proofs.Members.{Contains-cases, Contains-head, Contains-later, Contains-map, Contains-nil, filter-Contains, map-Contains}
@@ -9,13 +9,6 @@ use Rattle.ring_trace.proofs.SetLemmas.{nat_order}
 use Rattle.region_model.specs.PolygonCommands.{ascending_lists}
 
 -- ---- ascending lists of anything
-
-either_of : {A : Type 0} (xs ys : List A) (y : A) → Contains (xs ++ ys) y → Contains xs y ⊎ Contains ys y
-either_of [] ys y c = inr c
-either_of (x ∷ xs) ys y c = elim (Contains-cases x (xs ++ ys) y c) [
-  | inl e ↦ inl (0, omega arith, e)
-  | inr more ↦ elim (either_of xs ys y more) [ inl there ↦ inl (Contains-later x xs y there) | inr there ↦ inr there ]
-]
 
 module _ {A : Type 0} (before : A → A → Bool) where
   pub filter_ascends : (p : A → Bool) (xs : List A) → IsAscending before xs → IsAscending before (filter p xs)
@@ -29,7 +22,7 @@ module _ {A : Type 0} (before : A → A → Bool) where
   pub join_ascends : (xs ys : List A) → IsAscending before xs → IsAscending before ys → ((x y : A) → Contains xs x → Contains ys y → before x y ≡ true) → IsAscending before (xs ++ ys)
   join_ascends [] ys h k between = k
   join_ascends (x ∷ xs) ys h k between = (
-    λ y c. elim (either_of xs ys y c) [ inl there ↦ h.0 y there | inr there ↦ between x y (Contains-head x xs) there ],
+    λ y c. elim (Contains-append_cases xs ys y c) [ inl there ↦ h.0 y there | inr there ↦ between x y (Contains-head x xs) there ],
     join_ascends xs ys h.1 k (λ z y cz cy. between z y (Contains-later x xs z cz) cy),
   )
 
@@ -77,7 +70,7 @@ is_list_of (n ∷ ns) up xs c =
     let rest : (ys : List ℕ) → Contains (ascending_lists ns) ys → IsListOf ns ys = is_list_of ns up.1 in
     elim (Contains-cases (n ∷ []) (map (λ (L : List ℕ). n ∷ L) (ascending_lists ns) ++ ascending_lists ns) xs c) [
       | inl e ↦ subst (IsListOf (n ∷ ns)) e (one_alone n ns)
-      | inr more ↦ elim (either_of (map (λ (L : List ℕ). n ∷ L) (ascending_lists ns)) (ascending_lists ns) xs more) [
+      | inr more ↦ elim (Contains-append_cases (map (λ (L : List ℕ). n ∷ L) (ascending_lists ns)) (ascending_lists ns) xs more) [
         | inl there ↦ (let (ys, in_rest, is) = map-Contains (λ (L : List ℕ). n ∷ L) (ascending_lists ns) xs there in subst (IsListOf (n ∷ ns)) is (one_more n ns ys up (rest ys in_rest)))
         | inr there ↦ of_more n ns xs (rest xs there)
       ]
@@ -151,7 +144,7 @@ lists_ascend (n ∷ ns) up =
     let listed : (ys : List ℕ) → Contains (ascending_lists ns) ys → IsListOf ns ys = is_list_of ns up.1 in
     let rest : IsAscending list_less (ascending_lists ns) = lists_ascend ns up.1 in
     let later : (xs ys : List ℕ) → Contains (ascending_lists ns) ys → list_less (n ∷ xs) ys ≡ true = (λ xs ys c. lesser_first n xs ys (listed ys c).some (λ m cm. up.0 m ((listed ys c).within m cm))) in (
-      λ ys c. elim (either_of (map (λ (L : List ℕ). n ∷ L) (ascending_lists ns)) (ascending_lists ns) ys c) [
+      λ ys c. elim (Contains-append_cases (map (λ (L : List ℕ). n ∷ L) (ascending_lists ns)) (ascending_lists ns) ys c) [
         | inl there ↦ (let (zs, in_rest, is) = map-Contains (λ (L : List ℕ). n ∷ L) (ascending_lists ns) ys there in subst (λ (us : List ℕ). list_less (n ∷ []) us ≡ true) is (nothing_first n zs (listed zs in_rest).some))
         | inr there ↦ later [] ys there
       ],

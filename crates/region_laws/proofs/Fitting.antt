@@ -1,10 +1,10 @@
 -- What is traced for the set of a region fits the region.
-use Rattle.std.proofs.Common.{◌≡◌, refl, sym, ap, subst, ◌∙◌, arith, ℕ, zero, suc, ◌+◌, ◌<◌, List, [], ◌∷◌, ◌++◌, length, get_or, map, nat_eq}
+use Rattle.std.proofs.Common.{◌≡◌, sym, subst, ◌∙◌, arith, ℕ, zero, suc, ◌+◌, ◌<◌, List, [], ◌∷◌, length, get_or, map, nat_eq}
 use Rattle.std.specs.List.{AllZip, range_with_len}
-use Rattle.std.proofs.lemmas.List.{get_or-map, length-map, map-append}
-use Rattle.lists.specs.Lists.{has, joined_up}
+use Rattle.std.proofs.lemmas.List.{get_or-map, length-map}
+use Rattle.plane_snapping.proofs.SnappedLinks.{joined_map}
+use Rattle.lists.specs.Lists.{has}
 use Rattle.plane_model.specs.Points.{Segment, Path}
-use Rattle.plane_model.specs.Arcs.{SignedArc}
 use Rattle.plane_model.specs.Rings.{FitsPart, UsesOnce}
 use Rattle.plane_model.specs.Snapped.{links_of, snapped}
 use Rattle.plane_faces.specs.Places.{Place, left_side, right_side}
@@ -22,10 +22,6 @@ use Rattle.region_laws.proofs.PartLaws.{parts_are_followed}
 use Rattle.region_laws.proofs.Prints.{faces_of_links, traces_use_boundaries}
 use Rattle.region_laws.proofs.SideTests.{left_same, one_boundary, right_same}
 
-rounds_joined : (f : List SignedArc → Path) (polygons : List (List (List SignedArc))) → map f (joined_up polygons) ≡ joined_up (map (map f) polygons)
-rounds_joined f [] = refl
-rounds_joined f (polygon ∷ polygons) = map-append f polygon (joined_up polygons) ∙ ap (λ (rings : List Path). map f polygon ++ rings) (rounds_joined f polygons)
-
 -- a relation of numbers in a row and the elements of a list
 in_a_row : {Y : Type 0} (R : ℕ → Y → Type 0) (d : Y) (ys : List Y) (a n : ℕ) → n ≡ length ys → ((k : ℕ) → k < length ys → R (a + k) (get_or ys k d)) → AllZip R (range_with_len a n) ys
 in_a_row R d [] a zero many h = tt
@@ -39,7 +35,7 @@ in_a_row R d (y ∷ ys) a (suc n) many h = (
 pub traces_fit : TracesFit
 traces_fit d arcs faces label walked set parts polygons traced used r follows A sides each_sides counted =
     record {
-      whole = subst (UsesOnce (boundary (plane_with d arcs) A r)) (rounds_joined (round_of arcs) polygons) (traces_use_boundaries d arcs faces label walked set parts polygons traced used r follows (A.left r) (A.right r) sides);
+      whole = subst (UsesOnce (boundary (plane_with d arcs) A r)) (sym (joined_map (round_of arcs) polygons)) (traces_use_boundaries d arcs faces label walked set parts polygons traced used r follows (A.left r) (A.right r) sides);
       by_parts = in_a_row (FitsPartOf (plane_with d arcs) A r) [] (map (map (round_of arcs)) polygons) 0 (A.parts r) (many ∙ sym (length-map polygons (map (round_of arcs)))) one;
     }
   where

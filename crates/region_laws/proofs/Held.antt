@@ -9,13 +9,13 @@ use Rattle.plane_model.specs.Parity.{feature_holds, links_of_paths, rings_hold}
 use Rattle.plane_model.specs.Snapped.{links_of, snapped}
 use Rattle.plane_faces.specs.Places.{Place, IsPlaceOf, odd_at}
 use Rattle.plane_faces.proofs.Connected.{parity_at_place}
+use Rattle.plane_faces.proofs.FaceLaws.{place_beside}
 use Rattle.face_walk.specs.Crossings.{outer_of}
 use Rattle.face_walk.specs.Holders.{AreHeldBy, AreHolders, HolderTable, list_at}
 use Rattle.face_walk.specs.Places.{FaceTable}
 use Rattle.face_walk.specs.RingSteps.{AreStepsOf}
 use Rattle.face_walk.specs.declared.ring_steps.RingStep.{RingStep}
 use Rattle.face_laws.proofs.FeatureLemmas.{owners_with}
-use Rattle.face_laws.proofs.HolderLemmas.{beside_of}
 use Rattle.face_laws.proofs.HoldingLemmas.{IsSound, boxes_sound, polygons_sound}
 use Rattle.face_laws.proofs.SideLemmas.{held_at_place}
 use Rattle.region_laws.specs.Followed.{BoxesAreFollowed, FeaturesAreFollowed, IsWalked}
@@ -37,7 +37,7 @@ module _ (d : Drawing) (arcs : List Path) (faces : FaceTable) (label : Place →
       (i : ℕ) → Contains (list_at held (label a)) i ↔ ((paths : List Path) × (slice_get items i ≡ Some paths) × (rings_hold z paths ≡ true))
   items_hold items sound steps of_items held lists z a here i =
       let both_ways = held_at_place (snapped d) (links_arranged d) (links_distinct d) arcs walked.table faces walked.built label walked.labelled (labels_faces d arcs faces label walked)
-      h.crossings h.crossed h.all items sound steps of_items held lists a (beside_of S z a here) i in
+      h.crossings h.crossed h.all items sound steps of_items held lists a (place_beside S z a here) i in
       let same : (paths : List Path) → slice_get items i ≡ Some paths → rings_hold z paths ≡ odd_at (links_of_paths paths) a =
       (λ paths found. parity_at_place S (links_of_paths paths) (links_arranged d) (sound i paths found).even.within (sound i paths found).even.even z a here) in (
         λ c. (let (paths, found, odd) = both_ways.0 c in (paths, found, same paths found ∙ odd)),
@@ -49,11 +49,11 @@ module _ (d : Drawing) (arcs : List Path) (faces : FaceTable) (label : Place →
   holders_hold z a here =
       owners_with (rings_hold z) (snapped d).polygons (list_at h.polygons (label a)) (list_at labels.holders (label a))
       (items_hold (joined_up (snapped d).polygons) (polygons_sound (snapped d) walked.paths) h.polygon_steps h.of_polygons h.polygons h.held z a here)
-      (h.owned (label a) (label_below d arcs faces label walked a (beside_of S z a here)))
+      (h.owned (label a) (label_below d arcs faces label walked a (place_beside S z a here)))
 
 pub features_are_followed : FeaturesAreFollowed
 features_are_followed d arcs faces label walked labels h n set has z off a here =
-    let below = label_below d arcs faces label walked a (beside_of (links_of (snapped d)) z a here) in
+    let below = label_below d arcs faces label walked a (place_beside (links_of (snapped d)) z a here) in
     let holders = holders_hold d arcs faces label walked labels h z a here n in (
       λ held. (has (label a) below).1 (holders.1 (get_or (snapped d).polygons n [], passing_is_there (feature_holds z) (snapped d).polygons n [] refl held, held)),
       λ c. (let (feature, found, held) = holders.0 ((has (label a) below).0 c) in ap (feature_holds z) (get_or_from_slice_get (snapped d).polygons n feature [] found) ∙ held),
@@ -61,7 +61,7 @@ features_are_followed d arcs faces label walked labels h n set has z off a here 
 
 pub boxes_are_followed : BoxesAreFollowed
 boxes_are_followed d arcs faces label walked labels h n set has z off a here =
-    let below = label_below d arcs faces label walked a (beside_of (links_of (snapped d)) z a here) in
+    let below = label_below d arcs faces label walked a (place_beside (links_of (snapped d)) z a here) in
     let boxes = items_hold d arcs faces label walked labels h (map (λ (path : Path). path ∷ []) (snapped d).boxes) (boxes_sound (snapped d) walked.paths) h.box_steps h.of_boxes labels.boxes h.boxed z a here n in (
       λ held. (has (label a) below).1 (boxes.1 (get_or (snapped d).boxes n [] ∷ [], mapped (snapped d).boxes n (get_or (snapped d).boxes n []) (passing_is_there (λ (path : Path). rings_hold z (path ∷ [])) (snapped d).boxes n [] refl held), held)),
       λ c. (let (paths, found, held) = boxes.0 ((has (label a) below).0 c) in ap (rings_hold z) (of_mapped (snapped d).boxes n paths found) ∙ held),

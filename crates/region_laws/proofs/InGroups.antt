@@ -1,7 +1,8 @@
 -- Sets of faces beside the regions that they follow, group by group.
-use Rattle.std.proofs.Common.{◌≡◌, refl, sym, ap, subst, ◌∙◌, arith, ℕ, zero, suc, ◌<◌, List, [], ◌∷◌, ◌++◌, Contains, length, get_or, map}
+use Rattle.std.proofs.Common.{◌≡◌, refl, sym, ap, subst, ◌∙◌, arith, ℕ, zero, suc, ◌<◌, List, [], ◌∷◌, ◌++◌, Contains, length, get_or, map, map-id}
 use Rattle.std.specs.List.{AllZip, flat_map}
 use Rattle.std.proofs.lemmas.List.{map-append}
+use Rattle.std.proofs.lemmas.Simd.{map-map}
 use Rattle.lists.proofs.Members.{Contains-head, Contains-later}
 use Rattle.plane_model.specs.Points.{Path}
 use Rattle.plane_model.specs.Drawing.{Drawing}
@@ -49,17 +50,9 @@ one_value_each b [] (y ∷ ys) e = absurd (omega arith)
 one_value_each b (x ∷ xs) [] e = absurd (omega arith)
 one_value_each b (x ∷ xs) (y ∷ ys) e = ap (λ (bs : List _). b ∷ bs) (one_value_each b xs ys (omega arith))
 
-map_twice : {A B C : Type 0} (g : B → C) (f : A → B) (xs : List A) → map g (map f xs) ≡ map (λ (x : A). g (f x)) xs
-map_twice g f [] = refl
-map_twice g f (x ∷ xs) = ap (λ (ys : List _). g (f x) ∷ ys) (map_twice g f xs)
-
-map_itself : {A : Type 0} (xs : List A) → map (λ (x : A). x) xs ≡ xs
-map_itself [] = refl
-map_itself (x ∷ xs) = ap (λ (ys : List _). x ∷ ys) (map_itself xs)
-
 -- the second of pairs with one first
 pub seconds_of : {K : Type 0} (key : K) (regions : List Region) → map (λ (m : K × Region). m.1) (map (λ (r : Region). (key, r)) regions) ≡ regions
-seconds_of {K} key regions = map_twice (λ (m : K × Region). m.1) (λ (r : Region). (key, r)) regions ∙ map_itself regions
+seconds_of {K} key regions = map-map (λ (m : K × Region). m.1) (λ (r : Region). (key, r)) regions ∙ map-id regions
 
 -- ---- group by group: an item has the key of its group, and one of its sets
 
@@ -78,10 +71,10 @@ module _ {K G I : Type 0} (key_of : G → K) (sets_of : G → List (List ℕ)) (
     module _ (key_in : I → K) (keyed : (key : K) (set : List ℕ) → key_in (item key set) ≡ key) where
       keys_alike : (g : G) → length (sets_of g) ≡ length (made (key_of g)) → map key_in (items_of g) ≡ map (λ (m : K × Region). m.0) (made_with (key_of g))
       keys_alike g many =
-          map_twice key_in (item (key_of g)) (sets_of g)
+          map-map key_in (item (key_of g)) (sets_of g)
           ∙ ap (λ (f : List ℕ → K). map f (sets_of g)) (λ i set. keyed (key_of g) set i)
           ∙ one_value_each (key_of g) (sets_of g) (made (key_of g)) many
-          ∙ sym (map_twice (λ (m : K × Region). m.0) (λ (r : Region). (key_of g, r)) (made (key_of g)))
+          ∙ sym (map-map (λ (m : K × Region). m.0) (λ (r : Region). (key_of g, r)) (made (key_of g)))
 
       pub all_keys : (groups : List G) → ((g : G) → Contains groups g → IsGroupOf g) → map key_in (flat_map items_of groups) ≡ map (λ (m : K × Region). m.0) (flat_map made_with (map key_of groups))
       all_keys [] h = refl
@@ -92,7 +85,7 @@ module _ {K G I : Type 0} (key_of : G → K) (sets_of : G → List (List ℕ)) (
 
     module _ (set_in : I → List ℕ) (holds : (key : K) (set : List ℕ) → set_in (item key set) ≡ set) where
       sets_alike : (g : G) → map set_in (items_of g) ≡ sets_of g
-      sets_alike g = map_twice set_in (item (key_of g)) (sets_of g) ∙ ap (λ (f : List ℕ → List ℕ). map f (sets_of g)) (λ i set. holds (key_of g) set i) ∙ map_itself (sets_of g)
+      sets_alike g = map-map set_in (item (key_of g)) (sets_of g) ∙ ap (λ (f : List ℕ → List ℕ). map f (sets_of g)) (λ i set. holds (key_of g) set i) ∙ map-id (sets_of g)
 
       abbrev region_of : K × Region → Region
       region_of m = m.1

@@ -46,16 +46,16 @@ region_of m = m.1
 
 -- ---- the lists of numbers
 
-low : (a n k : ℕ) → Contains (range_with_len a n) k → a ≤ k
-low a zero k c = Contains-nil k c
-low a (suc n) k c = elim (Contains-cases a (range_with_len (a + 1) n) k c) [
+pub from_start : (a n k : ℕ) → Contains (range_with_len a n) k → a ≤ k
+from_start a zero k c = Contains-nil k c
+from_start a (suc n) k c = elim (Contains-cases a (range_with_len (a + 1) n) k c) [
   | inl e ↦ omega arith
-  | inr more ↦ (let l = low (a + 1) n k more in omega arith)
+  | inr more ↦ (let l = from_start (a + 1) n k more in omega arith)
 ]
 
 pub rising_range : (a n : ℕ) → IsAscending nat_lt (range_with_len a n)
 rising_range a zero = tt
-rising_range a (suc n) = (λ y c. lt-ltb a y (let l = low (a + 1) n y c in omega arith), rising_range (a + 1) n)
+rising_range a (suc n) = (λ y c. lt-ltb a y (let l = from_start (a + 1) n y c in omega arith), rising_range (a + 1) n)
 
 abbrev list_less : List ℕ → List ℕ → Bool
 list_less xs ys = list_before nat_lt xs ys

@@ -14,8 +14,8 @@ use Rattle.plane_model.specs.Sees.{IsOffLinks}
 use Rattle.plane_model.specs.Snapped.{links_of, snapped}
 use Rattle.plane_faces.specs.Places.{Place, IsPlaceOf}
 use Rattle.plane_faces.proofs.Order.{place_exists}
+use Rattle.plane_faces.proofs.FaceLaws.{place_beside}
 use Rattle.face_walk.specs.Places.{FaceTable}
-use Rattle.face_laws.proofs.HolderLemmas.{beside_of}
 use Rattle.ring_trace.specs.Owners.{owners_of}
 use Rattle.ring_trace.specs.Sets.{IsInnerFace, IsSetOf}
 use Rattle.ring_trace.proofs.BoundaryLemmas.{Contains_has, has_Contains}
@@ -117,7 +117,7 @@ module _ (d : Drawing) (arcs : List Path) (faces : FaceTable) (label : Place →
 
   pub faces_followed : (ids : List ℕ) → (ids ≡ [] → ⊥) → All (λ n. n < length sets) ids → IsStrictlyIncreasing ids → Follows (snapped d) arcs label (faces_of sets faces.count ids) (exactly region (length sets) ids)
   faces_followed ids some below up z off a here = (
-    λ h. in_faces sets faces.count ids (label a) (label_below d arcs faces label walked a (beside_of (links_of (snapped d)) z a here)) (these z off a here ids some below up h),
+    λ h. in_faces sets faces.count ids (label a) (label_below d arcs faces label walked a (place_beside (links_of (snapped d)) z a here)) (these z off a here ids some below up h),
     λ c.
         (let (l, same) = of_faces sets faces.count ids (label a) c in
         (exactly_has_points (snapped d) arcs region (length sets) ids some below z).1
@@ -149,7 +149,7 @@ mosaics_are_followed d arcs faces label walked sets inner region each items is =
   all = λ numbers some all_below up z off h.
       (let (a, here) = place_exists (links_of (snapped d)) (links_arranged d) z in
       let same = these d arcs faces label walked sets inner region each z off a here numbers some all_below up h in
-      let (g, there, ids_are) = is.all (label a) (label_below d arcs faces label walked a (beside_of (links_of (snapped d)) z a here)) (λ e. some (sym same ∙ e)) in
+      let (g, there, ids_are) = is.all (label a) (label_below d arcs faces label walked a (place_beside (links_of (snapped d)) z a here)) (λ e. some (sym same ∙ e)) in
       (g, there, ids_are ∙ same));
 }
   where

@@ -1,5 +1,5 @@
 -- Numbers of elements that pass a test.
-use Rattle.std.proofs.Common.{◌≡◌, inl, inr, refl, sym, ap, subst, ◌∙◌, arith, ℕ, zero, suc, ◌+◌, ◌<◌, Bool, true, false, cond, ◌||◌, List, [], ◌∷◌, Contains, length, get_or, nat_eq, nat_lt}
+use Rattle.std.proofs.Common.{◌≡◌, inl, inr, refl, sym, subst, ◌∙◌, arith, ℕ, zero, suc, ◌+◌, ◌<◌, Bool, true, false, cond, ◌||◌, List, [], ◌∷◌, Contains, length, get_or, nat_eq, nat_lt}
 use Rattle.std.specs.List.{list_any, range_with_len}
 use Rattle.std.proofs.lemmas.Bool.{lt-ltb}
 use Rattle.std.proofs.lemmas.List.FromFn.{get_or-range_with_len, length-range_with_len}
@@ -16,17 +16,6 @@ any_there {X} t (x ∷ xs) e = go (t x) refl e (any_there t xs)
     go : (b : Bool) → t x ≡ b → (b || list_any t xs) ≡ true → (list_any t xs ≡ true → (y : X) × Contains xs y × (t y ≡ true)) → (y : X) × Contains (x ∷ xs) y × (t y ≡ true)
     go true is f later = (x, Contains-head x xs, is)
     go false is f later = let (y, there, passes) = later f in (y, Contains-later x xs y there, passes)
-
-pub there_any : {X : Type 0} (t : X → Bool) (xs : List X) (x : X) → Contains xs x → t x ≡ true → list_any t xs ≡ true
-there_any t [] x c e = Contains-nil x c
-there_any t (y ∷ xs) x c e = elim (Contains-cases y xs x c) [
-  | inl same ↦ ap (λ (b : Bool). b || list_any t xs) (ap t same ∙ e)
-  | inr d ↦ go (t y) (there_any t xs x d e)
-]
-  where
-    go : (b : Bool) → list_any t xs ≡ true → (b || list_any t xs) ≡ true
-    go true f = refl
-    go false f = f
 
 -- the numbers below n
 pub in_range : (n m : ℕ) → m < n → Contains (range_with_len 0 n) m

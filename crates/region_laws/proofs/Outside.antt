@@ -2,7 +2,7 @@
 use Rattle.std.proofs.Common.{◌≡◌, inl, inr, refl, sym, ap, subst, ◌∙◌, ℕ, ◌<◌, Bool, true, false, not, List, [], ◌∷◌, All, Contains, length, get_or, nat_eq}
 use Rattle.std.specs.Prelude.{◌↔◌}
 use Rattle.std.specs.List.{range_with_len}
-use Rattle.std.proofs.lemmas.Bool.{cases_Bool, false_from_ne_true}
+use Rattle.std.proofs.lemmas.Bool.{cases_Bool, false_from_ne_true, both_ways}
 use Rattle.std.proofs.lemmas.List.Elements.{All-contains, All-contains_itself, All-cons, All-head, All-nil, All-tail, All-weaker}
 use Rattle.std.proofs.lemmas.List.Sorted.{All-permutation, IsPermutation-sym}
 use Rattle.lists.specs.Lists.{has}
@@ -23,7 +23,7 @@ use Rattle.plane_faces.proofs.Connected.{border_parity}
 use Rattle.plane_faces.proofs.FaceLaws.{among_agrees}
 use Rattle.plane_faces.proofs.Laws.{border_rings, parts_not_separated}
 use Rattle.plane_faces.proofs.Lists.{all_left, all_right, odd_count-permutation}
-use Rattle.plane_faces.proofs.Parts.{border_in, contains_filter, passes_filter}
+use Rattle.plane_faces.proofs.Parts.{border_in, passes_filter}
 use Rattle.plane_faces.proofs.Runs.{links_are, links_of_runs, ring_closed}
 use Rattle.plane_faces.proofs.Sorting.{rotations_exist}
 use Rattle.plane_faces.proofs.Tables.{place_is_one}
@@ -117,7 +117,7 @@ module _ (S : List Segment) (arr : IsArrangement S) (distinct : IsDistinct S) (a
       let even = closed_runs_are_even_lists boundary runs closed in
       let within : All (Contains (border held S)) (links_of_paths runs) =
       All-weaker (Contains boundary) (Contains (border held S))
-      (λ m c. let (there, bounding) = All-contains (λ n. Contains S n × IsBoundaryLink S R n) boundary m bounds.links c in contains_filter differ S m there (crosses m there bounding))
+      (λ m c. let (there, bounding) = All-contains (λ n. Contains S n × IsBoundaryLink S R n) boundary m bounds.links c in Contains-filter differ S m there (crosses m there bounding))
       (links_of_paths runs) even.within in
       parts_not_separated S arr label labelling (has nat_eq out) (number_of parts) classes (links_of_paths runs) within even.even u v a b at_u at_v
       (Contains_has out (label a) (of_out k (label a) l in_u)) (Contains_has out (label b) (of_out k (label b) l in_v))
@@ -141,9 +141,6 @@ module _ (S : List Segment) (arr : IsArrangement S) (distinct : IsDistinct S) (a
     off_set : (a : Place) → held a ≡ false → Contains set (label a) → ⊥
     off_set a e c = let f : true ≡ false = sym (Contains_has set (label a) c) ∙ e in absurd (cc)
 
-    clash : (b : Bool) → b ≡ false → b ≡ true → ⊥
-    clash b e f = let g : false ≡ true = sym e ∙ f in absurd (cc)
-
     -- across a link of the part's border is the set
     beyond : (m : Segment) → Contains S m → xor (here (left_side m)) (here (right_side m)) ≡ true → xor (held (left_side m)) (held (right_side m)) ≡ true
     beyond m c = go (here (left_side m)) refl (here (right_side m)) refl
@@ -151,13 +148,13 @@ module _ (S : List Segment) (arr : IsArrangement S) (distinct : IsDistinct S) (a
         right_held : here (left_side m) ≡ true → here (right_side m) ≡ false → held (right_side m) ≡ true
         right_held e f = elim (cases_Bool (held (right_side m))) [
           | inl yes_held ↦ yes_held
-          | inr not_held ↦ absurd (clash (here (right_side m)) f (Contains_has (part k) (label (right_side m)) (left_to_right k m l c (has_Contains (part k) (label (left_side m)) e) (off_set (right_side m) not_held))))
+          | inr not_held ↦ absurd (both_ways (here (right_side m)) f (Contains_has (part k) (label (right_side m)) (left_to_right k m l c (has_Contains (part k) (label (left_side m)) e) (off_set (right_side m) not_held))))
         ]
 
         left_held : here (left_side m) ≡ false → here (right_side m) ≡ true → held (left_side m) ≡ true
         left_held e f = elim (cases_Bool (held (left_side m))) [
           | inl yes_held ↦ yes_held
-          | inr not_held ↦ absurd (clash (here (left_side m)) e (Contains_has (part k) (label (left_side m)) (right_to_left k m l c (has_Contains (part k) (label (right_side m)) f) (off_set (left_side m) not_held))))
+          | inr not_held ↦ absurd (both_ways (here (left_side m)) e (Contains_has (part k) (label (left_side m)) (right_to_left k m l c (has_Contains (part k) (label (right_side m)) f) (off_set (left_side m) not_held))))
         ]
 
         go : (x : Bool) → here (left_side m) ≡ x → (y : Bool) → here (right_side m) ≡ y → xor x y ≡ true → xor (held (left_side m)) (held (right_side m)) ≡ true
@@ -188,7 +185,7 @@ module _ (S : List Segment) (arr : IsArrangement S) (distinct : IsDistinct S) (a
         let (rings, are_rings, starts, moved, lefts, darts) = border_rings S arr distinct here here_agrees in
         let within : All (Contains T) B =
         All-weaker (Contains B) (Contains T)
-        (λ m c. let there = All-contains (Contains S) B m (border_in S here) c in contains_filter (λ n. xor (held (left_side n)) (held (right_side n))) S m there (beyond m there (passes_filter (λ n. xor (here (left_side n)) (here (right_side n))) S m c)))
+        (λ m c. let there = All-contains (Contains S) B m (border_in S here) c in Contains-filter (λ n. xor (held (left_side n)) (held (right_side n))) S m there (beyond m there (passes_filter (λ n. xor (here (left_side n)) (here (right_side n))) S m c)))
         B (All-contains_itself B) in
         let closed : All (IsClosedRun T) rings = runs_of T rings are_rings (All-permutation (Contains T) B (links_of_runs rings) (IsPermutation-sym (links_of_runs rings) B moved) within) in
         let same : odd (links_of_paths rings) u ≡ odd (links_of_paths rings) v = joined T boundary_there rings closed in

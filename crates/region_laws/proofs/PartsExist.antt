@@ -1,8 +1,9 @@
 -- Each set of faces has parts.
-use Rattle.std.proofs.Common.{◌≡◌, inl, inr, refl, sym, ap, subst, ◌∙◌, arith, ℕ, suc, ◌+◌, ◌<◌, Bool, true, false, cond, ◌&&◌, List, [], ◌∷◌, All, Contains, length, filter, get_or, map, nat_eq, nat_lt}
+use Rattle.std.proofs.Common.{◌≡◌, inl, inr, refl, sym, ap, subst, ◌∙◌, arith, ℕ, ◌+◌, ◌<◌, Bool, true, false, cond, ◌&&◌, List, [], ◌∷◌, All, Contains, length, filter, get_or, map, nat_eq, nat_lt}
 use Rattle.std.specs.Prelude.{◌↔◌}
+use Rattle.std.specs.Cmp.{both_ways}
 use Rattle.std.specs.List.Sorted.{IsStrictlyIncreasing}
-use Rattle.std.proofs.lemmas.Bool.{eq-eqb, eqb-true, lt-ltb, ltb-true}
+use Rattle.std.proofs.lemmas.Bool.{eq-eqb, eqb-true, lt-ltb, ltb-true, and_from, and_parts}
 use Rattle.std.proofs.lemmas.List.{get_or-map, get_or_default, length-map}
 use Rattle.std.proofs.lemmas.List.Elements.{All-head, All-tail, Contains-get_or}
 use Rattle.std.proofs.lemmas.List.Kept.{AllPairs-from_increasing, IsStrictlyIncreasing-filter}
@@ -21,25 +22,7 @@ use Rattle.ring_trace.proofs.JoinedLemmas.{joined_back, joined_itself, joined_on
 use Rattle.ring_trace.proofs.SetLemmas.{from_ascending, nat_order}
 use Rattle.region_laws.specs.Answered.{PartsExist}
 use Rattle.region_laws.proofs.Least.{lowest, lowest_least, lowest_there}
-
-same_by : (p q : ℕ → Bool) (xs : List ℕ) → ((x : ℕ) → Contains xs x → p x ≡ q x) → filter p xs ≡ filter q xs
-same_by p q [] h = refl
-same_by p q (x ∷ xs) h =
-    λ i. cond (h x (0, omega arith, refl) i) (x ∷ same_by p q xs (λ y c. h y (c.0 + 1, omega (arith, c.1), subst (λ (k : ℕ). get_or (x ∷ xs) k y ≡ y) (let e : suc c.0 ≡ c.0 + 1 = omega arith in e) c.2)) i)
-    (same_by p q xs (λ y c. h y (c.0 + 1, omega (arith, c.1), subst (λ (k : ℕ). get_or (x ∷ xs) k y ≡ y) (let e : suc c.0 ≡ c.0 + 1 = omega arith in e) c.2)) i)
-
-both_are : (a b : Bool) → a ≡ true → b ≡ true → (a && b) ≡ true
-both_are true b e f = f
-both_are false b e f = e
-
-are_both : (a b : Bool) → (a && b) ≡ true → (a ≡ true) × (b ≡ true)
-are_both true b e = (refl, e)
-are_both false b e = absurd (let f : false ≡ true = e in cc)
-
-alike : (a b : Bool) → (a ≡ true → b ≡ true) → (b ≡ true → a ≡ true) → a ≡ b
-alike true b to from = sym (to refl)
-alike false true to from = from refl
-alike false false to from = refl
+use Rattle.region_laws.proofs.TieLaws.{filter_same}
 
 -- ---- classes of joined faces
 
@@ -84,7 +67,7 @@ module _ (faces : FaceTable) (set : List ℕ) where
     where
       go : (b : Bool) → is_between a ≡ b → IsSound (class_of rest) → IsSound (λ k. next b (class_of rest) a k)
       go true e sound =
-          let (l, r) = are_both (has nat_eq set (left a)) (has nat_eq set (right a)) e in
+          let (l, r) = and_parts (has nat_eq set (left a)) (has nat_eq set (right a)) e in
           merge_sound (class_of rest) sound a (All-head (HasArc faces) a rest h) (has_Contains set (left a) l) (has_Contains set (right a) r)
       go false e sound = sound
 
@@ -104,7 +87,7 @@ module _ (faces : FaceTable) (set : List ℕ) where
     where
       here : Contains set (left a) → Contains set (right a) → class_of (a ∷ rest) (left a) ≡ class_of (a ∷ rest) (right a)
       here on_left on_right =
-          let yes : is_between a ≡ true = both_are (has nat_eq set (left a)) (has nat_eq set (right a)) (Contains_has set (left a) on_left) (Contains_has set (right a) on_right) in
+          let yes : is_between a ≡ true = and_from (has nat_eq set (left a)) (has nat_eq set (right a)) (Contains_has set (left a) on_left) (Contains_has set (right a) on_right) in
           (λ i. cond (yes i) (relabel (class_of rest (left a)) (class_of rest (right a)) (class_of rest (left a))) (class_of rest (left a)))
           ∙ made_one (class_of rest (left a)) (class_of rest (right a))
           ∙ sym (λ i. cond (yes i) (relabel (class_of rest (left a)) (class_of rest (right a)) (class_of rest (right a))) (class_of rest (right a)))
@@ -141,9 +124,6 @@ module _ (arcs : List Path) (faces : FaceTable) (built : IsBuiltOf arcs faces) (
   abbrev members : ℕ → List ℕ
   members c = filter (λ (k : ℕ). nat_eq (class k) c) set
 
-  member : (k : ℕ) → Contains set k → Contains (members (class k)) k
-  member k c = Contains-filter (λ (j : ℕ). nat_eq (class j) (class k)) set k c (eq-eqb (class k) (class k) refl)
-
   of_class : (c k : ℕ) → Contains (members c) k → Contains set k × (class k ≡ c)
   of_class c k there = let (in_set, e) = filter-Contains (λ (j : ℕ). nat_eq (class j) c) set k there in (in_set, eqb-true (class k) c e)
 
@@ -155,12 +135,12 @@ module _ (arcs : List Path) (faces : FaceTable) (built : IsBuiltOf arcs faces) (
   on_round : (c : ℕ) (a : SignedArc) → IsOnBoundary faces (members c) a → Contains (round c) a
   on_round c a on =
       Contains-filter (λ (b : SignedArc). has nat_eq (members c) (face_left_of faces.places b) && is_outward faces.places (members c) b) all_arcs a (in_arcs a on.arc)
-      (both_are (has nat_eq (members c) (face_left_of faces.places a)) (is_outward faces.places (members c) a) (Contains_has (members c) (face_left_of faces.places a) on.left) (outward_if faces.places (members c) a on.right))
+      (and_from (has nat_eq (members c) (face_left_of faces.places a)) (is_outward faces.places (members c) a) (Contains_has (members c) (face_left_of faces.places a) on.left) (outward_if faces.places (members c) a on.right))
 
   round_on : (c : ℕ) (a : SignedArc) → Contains (round c) a → IsOnBoundary faces (members c) a
   round_on c a there =
       let (in_all, passes) = filter-Contains (λ (b : SignedArc). has nat_eq (members c) (face_left_of faces.places b) && is_outward faces.places (members c) b) all_arcs a there in
-      let (l, r) = are_both (has nat_eq (members c) (face_left_of faces.places a)) (is_outward faces.places (members c) a) passes in
+      let (l, r) = and_parts (has nat_eq (members c) (face_left_of faces.places a)) (is_outward faces.places (members c) a) passes in
       record { arc = has_arc a (below_arc (length arcs) a in_all); left = has_Contains (members c) (face_left_of faces.places a) l; right = outward_from faces.places (members c) a r }
 
   abbrev arcs_round : ℕ → List ℕ
@@ -273,8 +253,8 @@ module _ (arcs : List Path) (faces : FaceTable) (built : IsBuiltOf arcs faces) (
   part_class : (i k : ℕ) → i < length all_parts → Contains (get_or all_parts i []) k → get_or all_parts i [] ≡ members (class k)
   part_class i k l c =
       let (k_in, k_key) = in_part i k l c in
-      part_is i l ∙ same_by (λ (j : ℕ). nat_eq (key j) (get_or keys i 0)) (λ (j : ℕ). nat_eq (class j) (class k)) set (λ j cj.
-      alike (nat_eq (key j) (get_or keys i 0)) (nat_eq (class j) (class k))
+      part_is i l ∙ filter_same (λ (j : ℕ). nat_eq (key j) (get_or keys i 0)) (λ (j : ℕ). nat_eq (class j) (class k)) set (λ j cj.
+      both_ways (nat_eq (key j) (get_or keys i 0)) (nat_eq (class j) (class k))
       (λ e. eq-eqb (class j) (class k) (number_joins j k (eqb-true (key j) (get_or keys i 0) e ∙ sym k_key)))
       (λ e. eq-eqb (key j) (get_or keys i 0) (ap number (eqb-true (class j) (class k) e) ∙ k_key)))
 

@@ -1,7 +1,7 @@
 -- Numbers sorted by rank are in order of rank.
-use Rattle.std.proofs.Common.{◌≡◌, ◌⊎◌, inl, inr, refl, subst, arith, ℕ, zero, suc, ◌+◌, ◌<◌, ◌≤◌, Bool, true, false, cond, ℤ, List, [], ◌∷◌, Contains}
+use Rattle.std.proofs.Common.{◌≡◌, ◌⊎◌, inl, inr, refl, subst, arith, ℕ, zero, suc, ◌+◌, ◌<◌, Bool, true, false, cond, ℤ, List, [], ◌∷◌, Contains}
 use Rattle.std.specs.List.{range_with_len}
-use Rattle.std.proofs.lemmas.List.FromFn.{get_or-range_with_len, length-range_with_len}
+use Rattle.region_laws.proofs.MosaicTold.{from_start}
 use Rattle.lists.specs.Lists.{insert_stable, sort_stable}
 use Rattle.lists.proofs.Ascending.{IsAscending}
 use Rattle.lists.proofs.Members.{Contains-cases, Contains-head, Contains-later, Contains-nil}
@@ -70,12 +70,6 @@ module _ (rule : OverlapRule) (area : ℕ → ℤ) where
             (λ z c. elim (Contains-cases y ys z c) [ inl g ↦ subst (λ (w : ℕ). before x w ≡ true) g next | inr d ↦ before_both x y z next (h.0 z d) (l z (Contains-later y ys z d)) ]),
             h,
           )
-
-  from_start : (a n y : ℕ) → Contains (range_with_len a n) y → a ≤ y
-  from_start a n y (k, l, e) =
-      let long = length-range_with_len a n in
-      let at = get_or-range_with_len a n k y (omega (arith, long, l)) in
-      omega (arith, at, e)
 
   pub ranked : (a n : ℕ) → IsAscending before (sort_stable before (range_with_len a n))
   ranked a zero = tt

@@ -1,9 +1,10 @@
 -- Unions, meets and what is left of sets follow the like of regions.
-use Rattle.std.proofs.Common.{◌≡◌, ◌⊎◌, inl, inr, sym, ap, subst, ◌∙◌, arith, ℕ, ◌<◌, Bool, true, false, not, List, [], ◌∷◌, ◌++◌, Contains, length, filter, get_or, map, nat_eq, nat_lt}
+use Rattle.std.proofs.Common.{◌≡◌, inl, inr, sym, ap, subst, ◌∙◌, arith, ℕ, ◌<◌, Bool, true, false, not, List, [], ◌∷◌, ◌++◌, Contains, length, filter, get_or, map, nat_eq, nat_lt}
 use Rattle.std.specs.List.{flat_map, range_with_len}
 use Rattle.std.proofs.lemmas.Bool.{false_from_ne_true}
 use Rattle.std.proofs.lemmas.List.{get_or-map, length-map}
-use Rattle.std.proofs.lemmas.List.Elements.{All-contains, Contains-append_left, Contains-append_right}
+use Rattle.std.proofs.lemmas.List.Elements.{All-contains, Contains-append_left, Contains-append_right, Contains-append_cases}
+use Rattle.face_laws.proofs.FeatureLemmas.{there_any}
 use Rattle.lists.specs.Lists.{has}
 use Rattle.lists.proofs.Ascending.{Contains-ascending, ascending-Contains}
 use Rattle.lists.proofs.Members.{Contains-cases, Contains-filter, Contains-flat_map, Contains-head, Contains-later, Contains-map, Contains-nil, filter-Contains, flat_map-Contains, map-Contains}
@@ -20,7 +21,7 @@ use Rattle.region_model.specs.Region.{Region, any_of, both, less, regions_of, Ha
 use Rattle.region_laws.specs.Regions.{Follows}
 use Rattle.region_model.specs.PolygonCommands.{regions_at}
 use Rattle.region_laws.specs.Followed.{before, CleanedSetsAreFollowed, ClippedSetsAreFollowed, DissolvedSetsAreFollowed, ErasedSetsAreFollowed, MeetsAreFollowed, RemaindersAreFollowed, UnionsAreFollowed}
-use Rattle.region_laws.proofs.Numbers.{any_there, in_owners, in_range, of_owners, of_range, there_any}
+use Rattle.region_laws.proofs.Numbers.{any_there, in_owners, in_range, of_owners, of_range}
 
 -- ---- any of some regions
 
@@ -55,13 +56,6 @@ kept_out source k out = ap not (false_from_ne_true (has nat_eq source k) (λ e. 
 pub out_kept : (source : List ℕ) (k : ℕ) → not (has nat_eq source k) ≡ true → Contains source k → ⊥
 out_kept source k e c = let f : false ≡ true = ap not (sym (Contains_has source k c)) ∙ e in absurd (cc)
 
-in_one : (xs ys : List ℕ) (k : ℕ) → Contains (xs ++ ys) k → Contains xs k ⊎ Contains ys k
-in_one [] ys k c = inr c
-in_one (x ∷ xs) ys k c = elim (Contains-cases x (xs ++ ys) k c) [
-  | inl e ↦ inl (0, omega arith, e)
-  | inr more ↦ elim (in_one xs ys k more) [ inl there ↦ inl (Contains-later x xs k there) | inr there ↦ inr there ]
-]
-
 pub unions_are_followed : UnionsAreFollowed
 unions_are_followed d arcs label f g r s in_f in_g z off a here = (
   λ h. Contains-ascending nat_lt nat_order (f ++ g) (label a) (elim h [
@@ -69,7 +63,7 @@ unions_are_followed d arcs label f g r s in_f in_g z off a here = (
     | inr (inl in_s) ↦ Contains-append_right f g (label a) ((in_g z off a here).0 in_s)
     | inr (inr none) ↦ absurd none
   ]),
-  λ c. elim (in_one f g (label a) (ascending-Contains nat_lt nat_order (f ++ g) (label a) c)) [
+  λ c. elim (Contains-append_cases f g (label a) (ascending-Contains nat_lt nat_order (f ++ g) (label a) c)) [
     | inl there ↦ inl ((in_f z off a here).1 there)
     | inr there ↦ inr (inl ((in_g z off a here).1 there))
   ],

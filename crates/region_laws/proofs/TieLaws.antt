@@ -177,7 +177,7 @@ one_set_follows d arcs faces label walked f g up_f up_g inner_f inner_g r in_f i
 
 -- ---- sets cleaned by the areas of regions
 
-filter_same : (p q : ℕ → Bool) (xs : List ℕ) → ((x : ℕ) → Contains xs x → p x ≡ q x) → filter p xs ≡ filter q xs
+pub filter_same : (p q : ℕ → Bool) (xs : List ℕ) → ((x : ℕ) → Contains xs x → p x ≡ q x) → filter p xs ≡ filter q xs
 filter_same p q [] h = refl
 filter_same p q (x ∷ xs) h = λ i. cond (h x (Contains-head x xs) i) (x ∷ filter_same p q xs (λ y c. h y (Contains-later x xs y c)) i) (filter_same p q xs (λ y c. h y (Contains-later x xs y c)) i)
 

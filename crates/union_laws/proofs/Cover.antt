@@ -4,7 +4,7 @@ use Rattle.std.specs.List.{range_with_len}
 use Rattle.lists.proofs.Members.{Contains-flat_map, Contains-map}
 use Rattle.plane_model.specs.Snapped.{links_of, snapped}
 use Rattle.plane_faces.proofs.Order.{place_exists}
-use Rattle.face_laws.proofs.HolderLemmas.{beside_of}
+use Rattle.plane_faces.proofs.FaceLaws.{place_beside}
 use Rattle.union_ops.specs.Choices.{choice_of, has_number}
 use Rattle.region_model.specs.Region.{Region, part}
 use Rattle.region_model.specs.PolygonCommands.{parts_of}
@@ -34,7 +34,7 @@ united_cover d arcs faces label walked layers inner regions follow A tell z off 
     let (j, below, in_part) = (parts_are_followed d arcs faces label walked set set_inner left set_follows parts are).all z off ((left_by_choice (snapped d) arcs z regions c long some).1 first) in
     let numbered = (tell.parts c j).1 (z, off, in_part) in
     let made : Choice → List (Choice × Region) = λ (e : Choice). map (λ (s : Region). (e, s)) (parts_of A (union_region regions e)) in
-    let leaves = face_leaves d arcs faces label walked layers inner regions follow A tell (label a) (label_below d arcs faces label walked a (beside_of (links_of (snapped d)) z a here)) some in (
+    let leaves = face_leaves d arcs faces label walked layers inner regions follow A tell (label a) (label_below d arcs faces label walked a (place_beside (links_of (snapped d)) z a here)) some in (
       (c, part left j),
       Contains-flat_map made _ c (c, part left j) leaves (Contains-map (λ (s : Region). (c, s)) (parts_of A left) (part left j) (Contains-map (part left) (range_with_len 0 (A.parts left)) j (in_range (A.parts left) j numbered))),
       in_part,

@@ -12,8 +12,8 @@ use Rattle.plane_model.specs.Points.{Path}
 use Rattle.plane_model.specs.Drawing.{Drawing}
 use Rattle.plane_model.specs.Snapped.{links_of, snapped}
 use Rattle.plane_faces.specs.Places.{Place}
+use Rattle.plane_faces.proofs.FaceLaws.{place_beside}
 use Rattle.face_walk.specs.Places.{FaceTable}
-use Rattle.face_laws.proofs.HolderLemmas.{beside_of}
 use Rattle.ring_trace.specs.Sets.{IsInnerFace, IsSetOf}
 use Rattle.ring_trace.proofs.SetLemmas.{from_ascending}
 use Rattle.union_ops.specs.Choices.{choice_before, choice_of, has_number, same_choice}
@@ -82,7 +82,7 @@ module _ (d : Drawing) (arcs : List Path) (faces : FaceTable) (label : Place →
   follow_choice c long some z off a here =
       let first = first_sets (snapped d) arcs label z off a here layers regions follow in
       let by = left_by_choice (snapped d) arcs z regions c long some in (
-        λ h. in_faces layers faces.count c (label a) (label_below d arcs faces label walked a (beside_of (links_of (snapped d)) z a here)) (one_choice (snapped d) arcs z regions (choice_of layers (label a)) c first (by.0 h)),
+        λ h. in_faces layers faces.count c (label a) (label_below d arcs faces label walked a (place_beside (links_of (snapped d)) z a here)) (one_choice (snapped d) arcs z regions (choice_of layers (label a)) c first (by.0 h)),
         λ m. by.1 (subst (λ (e : Choice). AreFirst (snapped d) arcs z e regions) (of_faces layers faces.count c (label a) m).1 first),
       )
 
