@@ -1,6 +1,7 @@
 -- A part of a set stands alone along its boundary, by the owners of the faces beside its arcs, exactly if its region
 -- does, by the regions that have the sides of the links of its boundary.
 use Rattle.std.proofs.Common.{◌≡◌, inl, inr, refl, sym, ap, ◌∙◌, subst, arith, ℕ, suc, ◌+◌, ◌<◌, Bool, true, false, cond, ◌&&◌, List, [], ◌∷◌, Contains, Option, Some, length, get_or, nat_eq}
+use Rattle.std.specs.Cmp.{both_ways}
 use Rattle.std.specs.List.{list_all}
 use Rattle.std.proofs.lemmas.Bool.{and_from, and_parts, eq-eqb, eqb-true, false_from_ne_true}
 use Rattle.std.proofs.lemmas.List.Elements.{All-contains}
@@ -47,11 +48,6 @@ all_pass t (y ∷ xs) e x c = elim (Contains-cases y xs x c) [
 pass_all : {X : Type 0} (t : X → Bool) (xs : List X) → ((x : X) → Contains xs x → t x ≡ true) → list_all t xs ≡ true
 pass_all t [] h = refl
 pass_all t (x ∷ xs) h = and_from (t x) (list_all t xs) (h x (Contains-head x xs)) (pass_all t xs (λ y c. h y (Contains-later x xs y c)))
-
-one_value : (a b : Bool) → (a ≡ true → b ≡ true) → (b ≡ true → a ≡ true) → a ≡ b
-one_value true b to from = sym (to refl)
-one_value false true to from = from refl
-one_value false false to from = refl
 
 -- tests that agree element by element pass the same numbers
 numbers_alike : {X Y : Type 0} (k : ℕ) (t : X → Bool) (u : Y → Bool) (xs : List X) (ys : List Y) (c : X) (e : Y) → length ys ≡ length xs → ((i : ℕ) → i < length xs → t (get_or xs i c) ≡ u (get_or ys i e)) → numbers_from k t xs ≡ numbers_from k u ys
@@ -223,5 +219,5 @@ module _ (d : Drawing) (arcs : List Path) (faces : FaceTable) (label : Place →
           ]
 
       pub detached_alike : sets.is_detached faces owned n (border arcs faces set) ≡ model.is_detached (plane_with d arcs) A (all_regions region (length owned)) n q
-      detached_alike = one_value (sets.is_detached faces owned n (border arcs faces set)) (model.is_detached (plane_with d arcs) A all n q)
+      detached_alike = both_ways (sets.is_detached faces owned n (border arcs faces set)) (model.is_detached (plane_with d arcs) A all n q)
           (λ e. pass_all alone_by_side (boundary (plane_with d arcs) A q) (to_steps e)) (λ e. pass_all alone_by_set (border arcs faces set) (to_arcs e))

@@ -1,6 +1,7 @@
 -- Lines and points cut by a region, and the regions at the two sides of arcs.
 use Rattle.std.proofs.Common.{◌≡◌, ◌⊎◌, inl, inr, refl, sym, ap, ◌∙◌, subst, arith, ℕ, zero, suc, ◌+◌, ◌<◌, Bool, true, false, not, cond, ◌||◌, nat_eq, List, [], ◌∷◌, ◌++◌, map, length, get_or, All, Contains}
 use Rattle.std.specs.Prelude.{◌↔◌}
+use Rattle.std.specs.Cmp.{both_ways}
 use Rattle.std.specs.List.{AllZip, flat_map}
 use Rattle.std.proofs.lemmas.Bool.{or_cases, or_left, or_right}
 use Rattle.std.proofs.lemmas.List.{get_or-map, length-map, map-append}
@@ -166,11 +167,6 @@ paths_cut_by_regions d arcs faces label on A set r tell paths there linked = (
 
 -- ---- points
 
-one_value : (a b : Bool) → (a ≡ true → b ≡ true) → (b ≡ true → a ≡ true) → a ≡ b
-one_value true b to from = sym (to refl)
-one_value false true to from = from refl
-one_value false false to from = refl
-
 answers_are : {X : Type 0} (R : X → Bool → Type 0) (told : X → Bool) (xs : List X) (answers : List Bool) → ((x : X) → Contains xs x → (b : Bool) → R x b → b ≡ told x) → AllZip R xs answers → answers ≡ map told xs
 answers_are R told [] [] one h = refl
 answers_are R told [] (b ∷ answers) one h = absurd h
@@ -186,7 +182,7 @@ points_cut_by_regions d arcs faces label on A set r follows right points vertice
         let vertex : Contains (vertices_of (snapped d)) p = All-contains (Contains (vertices_of (snapped d))) points p vertices c in
         let answered = vertices_of_a_drawing d arcs on.table.long on.table.links on.table.whole faces on.built label on.by_face set p vertex inside is in
         let alike = inside_alike (links_of (snapped d)) (PointsOf (links_of (snapped d)) label set) (Has (snapped d) arcs r) (points_same d label set (Has (snapped d) arcs r) follows) p in
-        one_value inside (A.inside r p) (λ e. (right p vertex).1 (alike.0 (answered.0 e))) (λ e. answered.1 (alike.1 ((right p vertex).0 e)))
+        both_ways inside (A.inside r p) (λ e. (right p vertex).1 (alike.0 (answered.0 e))) (λ e. answered.1 (alike.1 ((right p vertex).0 e)))
 
 -- ---- the two sides of arcs
 
@@ -254,7 +250,7 @@ module _ (d : Drawing) (arcs : List Path) (faces : FaceTable) (label : Place →
         let f : ℕ = sides.left_of faces (forward n) in
         let tells = left_told (is_before s.start s.stop) moving in
         let alike = side_same d label set R tell.follows (is_before s.start s.stop) (link_between s) in
-        one_value (has nat_eq set f) (on_left A r s)
+        both_ways (has nat_eq set f) (on_left A r s)
         (λ e. tells.1 (alike.0 (beside.0.1 (has_Contains set f e))))
         (λ e. Contains_has set f (beside.0.0 (alike.1 (tells.0 e))))
         ∙ sym (arc_begins.first (on_left A r))
@@ -265,7 +261,7 @@ module _ (d : Drawing) (arcs : List Path) (faces : FaceTable) (label : Place →
         let moves = All-contains (λ l. IsBefore l.start l.stop) (links_of (snapped d)) (link_between s) on.table.arrangement.ordered moving in
         let tells = right_told (is_before s.start s.stop) (is_before s.stop s.start) refl refl moves moving in
         let alike = side_same d label set R tell.follows (not (is_before s.start s.stop)) (link_between s) in
-        one_value (has nat_eq set f) (on_right A r s)
+        both_ways (has nat_eq set f) (on_right A r s)
         (λ e. tells.1 (alike.0 (beside.1.1 (has_Contains set f e))))
         (λ e. Contains_has set f (beside.1.0 (alike.1 (tells.0 e))))
         ∙ sym (arc_begins.first (on_right A r))

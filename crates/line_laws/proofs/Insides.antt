@@ -1,7 +1,7 @@
 -- Which vertices are inside a region, told by its set.
 use Rattle.std.proofs.Common.{◌≡◌, ◌⊎◌, ◌↔◌, inl, inr, refl, sym, ap, ◌∙◌, subst, ℕ, Bool, true, false, cond, ◌&&◌, ◌||◌, nat_eq, List, Contains}
 use Rattle.std.specs.List.{list_any}
-use Rattle.std.proofs.lemmas.Bool.{or_cases, or_left, or_right}
+use Rattle.std.proofs.lemmas.Bool.{or_cases, or_left, or_right, and_from, and_parts}
 use Rattle.std.proofs.lemmas.List.Folds.{Any-from_list_any, list_any_at}
 use Rattle.lists.specs.Lists.{has}
 use Rattle.plane_model.specs.Points.{GridPoint, RationalPoint, Segment, Path, at, same_point}
@@ -26,14 +26,6 @@ use Rattle.point_laws.proofs.SightLemmas.{free_points_are_seen, seeing_is_off, s
 use Rattle.region_model.specs.Region.{Has}
 use Rattle.line_laws.specs.Regions.{AreFacesOf, HasFacesOf, InsidesAreTold}
 use Rattle.line_laws.proofs.LinkSides.{drawings_are_labelled, labels_agree}
-
-both_are : (a b : Bool) → a ≡ true → b ≡ true → (a && b) ≡ true
-both_are true b e f = f
-both_are false b e f = e
-
-are_both : (a b : Bool) → (a && b) ≡ true → (a ≡ true) × (b ≡ true)
-are_both true b e = (refl, e)
-are_both false b e = absurd (let f : false ≡ true = e in cc)
 
 -- p is an end of the link
 abbrev ends_at : GridPoint → Segment → Bool
@@ -74,16 +66,16 @@ module _ (d : Drawing) (label : Place → ℕ) (agrees : AgreesWherePlacesMeet (
       let (i, l, below, is, here) = Any-from_list_any has_sector S e in
       elim (or_cases (same_point l.start p && has_left l true) (same_point l.stop p && has_left l false) here) [
         | inl first ↦ (
-            let (starts, there) = are_both (same_point l.start p) (has_left l true) first in
+            let (starts, there) = and_parts (same_point l.start p) (has_left l true) first in
             sector_seen (record { link = l; forward = true }) (i, below, is) (same_point_from l.start p starts) (has_Contains set (label (left_of (record { link = l; forward = true }))) there))
         | inr second ↦ (
-            let (stops, there) = are_both (same_point l.stop p) (has_left l false) second in
+            let (stops, there) = and_parts (same_point l.stop p) (has_left l false) second in
             sector_seen (record { link = l; forward = false }) (i, below, is) (same_point_from l.stop p stops) (has_Contains set (label (left_of (record { link = l; forward = false }))) there))
       ]
 
   has_dart : (l : Segment) (b : Bool) → tail (record { link = l; forward = b }) ≡ p → has_left l b ≡ true → has_sector l ≡ true
-  has_dart l true e h = or_left (same_point l.start p && has_left l true) (same_point l.stop p && has_left l false) (both_are (same_point l.start p) (has_left l true) (same_point_to l.start p e) h)
-  has_dart l false e h = or_right (same_point l.start p && has_left l true) (same_point l.stop p && has_left l false) (both_are (same_point l.stop p) (has_left l false) (same_point_to l.stop p e) h)
+  has_dart l true e h = or_left (same_point l.start p && has_left l true) (same_point l.stop p && has_left l false) (and_from (same_point l.start p) (has_left l true) (same_point_to l.start p e) h)
+  has_dart l false e h = or_right (same_point l.start p && has_left l true) (same_point l.stop p && has_left l false) (and_from (same_point l.stop p) (has_left l false) (same_point_to l.stop p e) h)
 
   seen_told : list_any (ends_at p) S ≡ true → IsInside S R p → list_any has_sector S ≡ true
   seen_told ends (z, sees, in_r) =

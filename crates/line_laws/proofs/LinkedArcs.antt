@@ -1,10 +1,11 @@
 -- Paths of arcs that follow each other: lines of a drawing, their runs, and the arcs that they go along.
-use Rattle.std.proofs.Common.{◌≡◌, ◌⊎◌, inl, inr, refl, sym, ap, ◌∙◌, subst, arith, ℕ, zero, suc, ◌<◌, Bool, true, false, cond, ◌&&◌, ◌||◌, nat_lt, List, [], ◌∷◌, ◌++◌, map, length, get_or, All, Contains, append-nil}
+use Rattle.std.proofs.Common.{◌≡◌, ◌⊎◌, inl, inr, refl, sym, ap, ◌∙◌, subst, arith, ℕ, zero, suc, ◌<◌, Bool, true, false, cond, ◌||◌, nat_lt, List, [], ◌∷◌, ◌++◌, map, length, get_or, All, Contains, append-nil}
 use Rattle.std.specs.List.{flat_map}
-use Rattle.std.proofs.lemmas.Bool.{cases_lt, false_from_ne_true, or_cases, or_left, or_right}
+use Rattle.std.proofs.lemmas.Bool.{cases_lt, false_from_ne_true, or_cases, or_left, or_right, and_parts}
 use Rattle.std.proofs.lemmas.List.{length-append}
 use Rattle.std.proofs.lemmas.List.Elements.{All-contains, All-weaker, Contains-get_or}
 use Rattle.std.proofs.lemmas.List.Folds.{Any-from_list_any, list_any_at}
+use Rattle.plane_parity.proofs.Abscissa.{same_link-self}
 use Rattle.lists.specs.Lists.{ascending, has, place_of, without_last}
 use Rattle.lists.proofs.Ascending.{Contains-ascending, ascending-Contains, ascending-IsAscending, one_ascending}
 use Rattle.lists.proofs.Members.{Contains-flat_map, Contains-map, flat_map-Contains, map-Contains}
@@ -14,7 +15,7 @@ use Rattle.plane_model.specs.Arrangement.{IsArrangement}
 use Rattle.plane_model.specs.Drawing.{Drawing, steps, steps_of_paths}
 use Rattle.plane_model.specs.Joined.{links_of_arc}
 use Rattle.plane_model.specs.Snapped.{links_of, snapped}
-use Rattle.plane_model.proofs.PointOrder.{same_point_from, same_point_to, segment_is}
+use Rattle.plane_model.proofs.PointOrder.{same_point_from, segment_is}
 use Rattle.arc_table.specs.Along.{GoAlong}
 use Rattle.arc_table.specs.Direction.{point_at}
 use Rattle.arc_table.specs.Nodes.{IsLineOf}
@@ -69,20 +70,13 @@ place_is test [] n d l e none = absurd (omega arith)
 place_is test (x ∷ xs) zero d l e none = λ i. cond (e i) zero (suc (place_of test xs))
 place_is test (x ∷ xs) (suc n) d l e none = (λ i. cond (none 0 (omega arith) i) zero (suc (place_of test xs))) ∙ ap suc (place_is test xs n d (omega arith) e (λ m k. none (suc m) (omega arith)))
 
-same_itself : (s : Segment) → same_segment s s ≡ true
-same_itself s = λ i. same_point_to s.start s.start refl i && same_point_to s.stop s.stop refl i
-
 has_itself : (ss : List Segment) (s : Segment) → Contains ss s → has same_segment ss s ≡ true
-has_itself ss s c = list_any_at (same_segment s) ss c.0 s c.1 (ap (same_segment s) c.2 ∙ same_itself s)
-
-both_parts : (a b : Bool) → (a && b) ≡ true → (a ≡ true) × (b ≡ true)
-both_parts true b e = (refl, e)
-both_parts false b e = absurd (let f : false ≡ true = e in cc)
+has_itself ss s c = list_any_at (same_segment s) ss c.0 s c.1 (ap (same_segment s) c.2 ∙ same_link-self s)
 
 in_steps : (ss : List Segment) (s : Segment) → has same_segment ss s ≡ true → Contains ss s
 in_steps ss s e =
     let (i, t, l, at, same) = Any-from_list_any (same_segment s) ss e in
-    let (starts, ends) = both_parts (same_point s.start t.start) (same_point s.stop t.stop) same in
+    let (starts, ends) = and_parts (same_point s.start t.start) (same_point s.stop t.stop) same in
     let is : s ≡ t = segment_is s t (same_point_from s.start t.start starts) (same_point_from s.stop t.stop ends) in
     subst (Contains ss) (sym is) (i, l, at)
 

@@ -1,5 +1,6 @@
 -- Paths cut by a set of faces: from runs of arcs to runs of steps.
 use Rattle.std.proofs.Common.{◌≡◌, ◌↔◌, inl, inr, refl, sym, ap, ◌∙◌, subst, arith, ℕ, suc, ◌-◌, ◌<◌, Bool, true, false, not, ◌||◌, nat_eq, List, [], ◌∷◌, ◌++◌, map, reverse, length, get_or, All, Contains, append-nil}
+use Rattle.std.specs.Cmp.{both_ways}
 use Rattle.std.specs.List.{flat_map}
 use Rattle.std.proofs.lemmas.Bool.{cases_lt, or_cases, or_left, or_right}
 use Rattle.std.proofs.lemmas.List.{get_or-reverse, length-reverse, map-append}
@@ -90,18 +91,13 @@ module _ (S : List Segment) (arr : IsArrangement S) (arcs : List Path) (long : A
 
 module _ (S : List Segment) (arcs : List Path) (faces : FaceTable) (label : Place → ℕ) (h : AreLabelled S arcs faces label) where
   module _ (set : List ℕ) (test : Segment → Bool) (tests : TestsInside S (PointsOf S label set) test) where
-    same_bool : (x y : Bool) → (x ≡ true → y ≡ true) → (y ≡ true → x ≡ true) → x ≡ y
-    same_bool true y f g = sym (f refl)
-    same_bool false true f g = g refl
-    same_bool false false f g = refl
-
     -- each step of a signed arc goes along a link that is inside exactly if the arc is
     step_inside : (a : SignedArc) → a.arc < length arcs → (s : Segment) → Contains (steps_along arcs a) s → goes_inside test s ≡ is_inside faces set a
     step_inside a below s c =
         let (of_arc, of_links) = link_along S h.arrangement arcs h.long h.along a s below c in
         let by_arc = All-contains (λ (l : Segment). (is_inside faces set a ≡ true) ↔ IsLinkInside S (PointsOf S label set) l) (links_of_arc arcs a.arc) (link_between s) (arcs_are_inside S arcs faces label h set a below) of_arc in
         let by_test = tests (link_between s) of_links in
-        same_bool (goes_inside test s) (is_inside faces set a) (λ e. by_arc.1 (by_test.0 e)) (λ e. by_test.1 (by_arc.0 e))
+        both_ways (goes_inside test s) (is_inside faces set a) (λ e. by_arc.1 (by_test.0 e)) (λ e. by_test.1 (by_arc.0 e))
 
     inner_pieces : (named : List SignedArc) → All (λ a. a.arc < length arcs) named → All (IsPiece (steps_along arcs) (is_inside faces set) (goes_inside test)) named
     inner_pieces named there = All-weaker (λ a. a.arc < length arcs) (IsPiece (steps_along arcs) (is_inside faces set) (goes_inside test))

@@ -1,10 +1,12 @@
 -- Matches by the regions of the sets.
 use Rattle.std.proofs.Common.{◌≡◌, ◌↔◌, refl, sym, ap, subst, ◌∙◌, arith, ℕ, zero, suc, ◌+◌, ◌<◌, Bool, true, false, cond, ◌||◌, nat_eq, List, [], ◌∷◌, All, Contains, length, get_or, map}
+use Rattle.std.specs.Cmp.{both_ways}
 use Rattle.std.specs.List.{AllZip, list_any, range_with_len}
 use Rattle.std.proofs.lemmas.List.{ext_get_or, get_or-map, get_or_default, length-map}
 use Rattle.std.proofs.lemmas.List.Elements.{All-contains, All-head, All-tail}
 use Rattle.std.proofs.lemmas.List.Folds.{Any-from_list_any, list_any_at}
 use Rattle.std.proofs.lemmas.List.FromFn.{get_or-map-range_with_len, length-map-range_with_len}
+use Rattle.std.proofs.lemmas.Slice.Zip.{AllZip-long}
 use Rattle.lists.specs.Lists.{has, numbers_from}
 use Rattle.bucket_grid.proofs.Numbers.{Contains-numbers_where}
 use Rattle.plane_model.specs.Points.{GridPoint, RationalPoint, Path}
@@ -27,11 +29,6 @@ use Rattle.line_laws.proofs.RisingLists.{numbers_where_pass}
 use Rattle.place_laws.specs.Matched.{IsSetOfRegion, IsToldInside, MatchesAreInside, PointsAreMatched, SetsAreMatched}
 
 -- ---- lists
-
-one_value : (a b : Bool) → (a ≡ true → b ≡ true) → (b ≡ true → a ≡ true) → a ≡ b
-one_value true b to from = sym (to refl)
-one_value false true to from = from refl
-one_value false false to from = refl
 
 any_mapped : {X : Type 0} (test : X → Bool) (xs : List X) → list_any test xs ≡ list_any (λ (b : Bool). b) (map test xs)
 any_mapped test [] = refl
@@ -59,12 +56,6 @@ zip_mapped R g [] [] h = tt
 zip_mapped R g [] (y ∷ ys) h = absurd h
 zip_mapped R g (x ∷ xs) [] h = absurd h
 zip_mapped R g (x ∷ xs) (y ∷ ys) h = (h.0, zip_mapped R g xs ys h.1)
-
-zip_long : {X Y : Type 0} (R : X → Y → Type 0) (xs : List X) (ys : List Y) → AllZip R xs ys → length xs ≡ length ys
-zip_long R [] [] h = refl
-zip_long R [] (y ∷ ys) h = absurd h
-zip_long R (x ∷ xs) [] h = absurd h
-zip_long R (x ∷ xs) (y ∷ ys) h = ap suc (zip_long R xs ys h.1)
 
 zip_at : {X Y : Type 0} (R : X → Y → Type 0) (xs : List X) (ys : List Y) (n : ℕ) (c : X) (e : Y) → AllZip R xs ys → n < length xs → R (get_or xs n c) (get_or ys n e)
 zip_at R [] ys n c e h l = absurd (omega arith)
@@ -118,7 +109,7 @@ pub matches_are_inside : MatchesAreInside
 matches_are_inside d arcs faces label on sets regions follow points vertices matched is n = (to, from)
   where
     many : length sets ≡ length regions
-    many = zip_long (IsSetOfRegion d arcs label) sets regions follow
+    many = sym (AllZip-long (IsSetOfRegion d arcs label) sets regions follow)
 
     by_set : n < length sets → (says_some is.insides (get_or sets n []) ≡ true) ↔ ((p : GridPoint) × Contains points p × IsInside (links_of (snapped d)) (Has (snapped d) arcs (get_or regions n (any_of []))) p)
     by_set l = says_inside d arcs faces label on points vertices is.insides is.tell (get_or sets n []) (get_or regions n (any_of [])) (zip_at (IsSetOfRegion d arcs label) sets regions n [] (any_of []) follow l)
@@ -164,11 +155,11 @@ sets_are_matched d arcs faces label on A sets regions told points vertices match
     around = map (around_points A regions) points
 
     many : length sets ≡ length regions
-    many = zip_long (IsToldInside d arcs label A) sets regions told
+    many = sym (AllZip-long (IsToldInside d arcs label A) sets regions told)
 
     -- a region is among those around some points exactly if some of them are inside it
     among : (n : ℕ) → n < length regions → (list : List GridPoint) → has nat_eq (around_points A regions list) n ≡ has_inside A (get_or regions n (any_of [])) list
-    among n l list = one_value (has nat_eq (around_points A regions list) n) (has_inside A (get_or regions n (any_of [])) list)
+    among n l list = both_ways (has nat_eq (around_points A regions list) n) (has_inside A (get_or regions n (any_of [])) list)
         (λ e.
         let w = numbers_where_pass (λ (r : Region). has_inside A r list) regions n (has_Contains (around_points A regions list) n e) in
         let number = w.number in
