@@ -1,10 +1,12 @@
 -- The steps of a boundary: each goes one way along a link, no two are one, and the steps of a ring of them are a trail.
-use Rattle.std.proofs.Common.{◌≡◌, ◌⊎◌, inl, inr, refl, sym, ap, ◌∙◌, subst, arith, suc, Bool, true, false, List, [], ◌∷◌, ◌++◌, Contains, Some, None}
-use Rattle.std.specs.Prelude.{◌≢◌, All, AllPairs}
+use Rattle.std.proofs.Common.{◌≡◌, ◌⊎◌, inl, inr, refl, sym, ap, ◌∙◌, subst, Bool, true, false, List, [], ◌∷◌, ◌++◌, Contains, Some, None}
+use Rattle.std.specs.Prelude.{All}
 use Rattle.std.specs.List.{cons_option}
 use Rattle.std.specs.List.Sorted.{IsPermutation}
 use Rattle.std.proofs.lemmas.List.Elements.{All-contains, All-contains_itself, All-head, All-tail, All-weaker, Contains-append_right}
-use Rattle.std.proofs.lemmas.List.Kept.{AllPairs-cons}
+use Rattle.std.proofs.lemmas.Option.{same_Some}
+use Rattle.region_laws.proofs.Totals.{distinct_from_pairs}
+use Rattle.arc_laws.proofs.Nodes.{pairs_of}
 use Rattle.lists.specs.Lists.{last_of}
 use Rattle.lists.proofs.Members.{Contains-cases, Contains-head, Contains-later, Contains-nil, filter_map-Contains}
 use Rattle.plane_model.specs.Points.{GridPoint, Segment, Path, reversed}
@@ -14,20 +16,12 @@ use Rattle.plane_model.specs.Drawing.{steps}
 use Rattle.plane_faces.specs.Rings.{IsRing}
 use Rattle.plane_faces.proofs.Order.{before_not_itself, before_trans}
 use Rattle.arc_table.proofs.Proper.{once_moved}
-use Rattle.answer_laws.proofs.Trails.{IsTrail, Linked, from_some}
+use Rattle.answer_laws.proofs.Trails.{IsTrail, Linked}
 
 -- ---- lists of distinct steps
 
-pairs_distinct : (xs : List Segment) → IsDistinct xs → AllPairs (λ (s t : Segment). s ≢ t) xs
-pairs_distinct [] h = λ i j d less below. absurd (omega arith)
-pairs_distinct (x ∷ xs) h = AllPairs-cons (λ (s t : Segment). s ≢ t) x xs (λ k d below e. h.0 k d below (sym e)) (pairs_distinct xs h.1)
-
-distinct_pairs : (xs : List Segment) → AllPairs (λ (s t : Segment). s ≢ t) xs → IsDistinct xs
-distinct_pairs [] h = tt
-distinct_pairs (x ∷ xs) h = (λ k d below e. h 0 (suc k) d (omega arith) (omega arith) (sym e), distinct_pairs xs (λ i j d less below. h (suc i) (suc j) d (omega arith) (omega arith)))
-
 pub distinct_moved : (xs ys : List Segment) → IsPermutation xs ys → IsDistinct xs → IsDistinct ys
-distinct_moved xs ys p h = distinct_pairs ys (once_moved xs ys p (pairs_distinct xs h))
+distinct_moved xs ys p h = distinct_from_pairs ys (once_moved xs ys p (pairs_of xs h))
 
 -- of two lists joined no element stands in both
 pub distinct_joined : (xs ys : List Segment) → IsDistinct (xs ++ ys) → IsDistinct ys × ((t : Segment) → Contains xs t → Contains ys t → ⊥)
@@ -55,8 +49,8 @@ module _ (left right : Segment → Bool) where
     where
       go : (l : Segment) (a b : Bool) → left l ≡ a → right l ≡ b → boundary_step a b l ≡ Some t → IsAlong l t
       go l true true e f g = absurd (let h : None ≡ Some t = g in cc)
-      go l true false e f g = inl (sym (from_some l t g), e, f)
-      go l false true e f g = inr (sym (from_some (reversed l) t g), e, f)
+      go l true false e f g = inl (sym (same_Some l t g), e, f)
+      go l false true e f g = inr (sym (same_Some (reversed l) t g), e, f)
       go l false false e f g = absurd (let h : None ≡ Some t = g in cc)
 
   abbrev Ordered : Segment → Type 0

@@ -1,8 +1,8 @@
 -- The arcs of a drawing: each link stands in one, and a trail goes along all of an arc or none of it.
 use Rattle.std.proofs.Common.{◌≡◌, ◌⊎◌, inl, inr, refl, sym, ap, ◌∙◌, subst, ℕ, ◌<◌, Bool, true, false, not, List, [], ◌∷◌, map, filter, length, get_or, Contains}
 use Rattle.std.specs.Prelude.{if◌then◌else◌}
-use Rattle.std.proofs.lemmas.Bool.{and_parts}
 use Rattle.std.proofs.lemmas.List.{get_or_default}
+use Rattle.arc_laws.proofs.Modelled.{same_from}
 use Rattle.lists.specs.Lists.{each_once, same_list}
 use Rattle.lists.proofs.Ascending.{Contains-ascending, ascending-Contains}
 use Rattle.lists.proofs.Members.{Contains-cases, Contains-filter, Contains-head, Contains-later, Contains-map, Contains-nil, map-Contains}
@@ -10,7 +10,7 @@ use Rattle.plane_model.specs.Points.{Segment, Path, is_before, link_before, link
 use Rattle.plane_model.specs.Arcs.{arc_along, arcs_of, is_node}
 use Rattle.plane_model.specs.Drawing.{Drawing, paths_of, steps, steps_of_paths}
 use Rattle.plane_model.specs.Snapped.{links_of}
-use Rattle.plane_model.proofs.PointOrder.{link_before-IsStrictOrder, same_point_from}
+use Rattle.plane_model.proofs.PointOrder.{link_before-IsStrictOrder}
 use Rattle.printed_laws.proofs.ArcSides.{once_there, two_links}
 use Rattle.printed_laws.proofs.Constant.{there_or_not}
 use Rattle.answer_laws.proofs.Trails.{GoesAlong, IsWhole, arc_goes_along, arc_whole}
@@ -28,14 +28,6 @@ there_once {A} same tells (x ∷ xs) y c = elim (Contains-cases x xs y c) [
     go : (b : Bool) → same x y ≡ b → Contains (each_once same xs) y → Contains (x ∷ (filter (λ z. not (same x z)) (each_once same xs))) y
     go true f rest = here (tells x y f)
     go false f rest = Contains-later x (filter (λ z. not (same x z)) (each_once same xs)) y (Contains-filter (λ z. not (same x z)) (each_once same xs) y rest (ap not f))
-
-same_paths : (P Q : Path) → same_list same_point P Q ≡ true → P ≡ Q
-same_paths [] [] e = refl
-same_paths [] (q ∷ Q) e = absurd (let f : false ≡ true = e in cc)
-same_paths (p ∷ P) [] e = absurd (let f : false ≡ true = e in cc)
-same_paths (p ∷ P) (q ∷ Q) e =
-    let (first, rest) = and_parts (same_point p q) (same_list same_point P Q) e in
-    λ i. same_point_from p q first i ∷ same_paths P Q rest i
 
 -- a link is a step along it, or the reverse of one
 of_link : (u l : Segment) → link_between u ≡ l → (l ≡ u) ⊎ (l ≡ reversed u)
@@ -66,7 +58,7 @@ module _ (s : Drawing) where
   some_arc l c =
       let (u, at_u, is) = map-Contains link_between (steps_of_paths (paths_of s)) l (ascending-Contains link_before link_before-IsStrictOrder (map link_between (steps_of_paths (paths_of s))) l c) in
       let arc : Path = arc_along (is_node s S) S u in
-      let (n, below, at) = there_once (same_list same_point) same_paths (map (arc_along (is_node s S) S) (steps_of_paths (paths_of s))) arc (Contains-map (arc_along (is_node s S) S) (steps_of_paths (paths_of s)) u at_u) in
+      let (n, below, at) = there_once (same_list same_point) same_from (map (arc_along (is_node s S) S) (steps_of_paths (paths_of s))) arc (Contains-map (arc_along (is_node s S) S) (steps_of_paths (paths_of s)) u at_u) in
       let here : get_or arcs n [] ≡ arc = get_or_default arcs n [] arc below ∙ at in
       (n, below, subst (GoesAlong l) (sym here) (along u arc (of_link u l is) (arc_goes_along (is_node s S) S u)))
     where

@@ -1,6 +1,7 @@
 -- Whether a region has a point can be told, region by region, so the plane of a drawing has right answers.
 use Rattle.std.proofs.Common.{◌≡◌, inr, ℕ, Bool, true, List, [], ◌∷◌, Contains, get_or}
 use Rattle.std.specs.Prelude.{◌↔◌}
+use Rattle.region_laws.proofs.Walked.{links_arranged, links_distinct}
 use Rattle.plane_model.specs.Points.{GridPoint, RationalPoint, Segment, Path}
 use Rattle.plane_model.specs.Arcs.{arcs_of}
 use Rattle.plane_model.specs.Drawing.{Drawing, vertices_of}
@@ -13,7 +14,6 @@ use Rattle.region_model.specs.Region.{Region, Regions, feature, box, any, both, 
 use Rattle.region_model.specs.Answers.{AreSides, RightAnswersExist}
 use Rattle.printed_laws.proofs.ArcSides.{arc_sides}
 use Rattle.printed_laws.proofs.Constant.{has_face, some_face}
-use Rattle.printed_laws.proofs.Tests.{arranged, distinct}
 use Rattle.answer_laws.proofs.Deciding.{IsTold, both_told, either_told, not_told, test_told, tested}
 use Rattle.answer_laws.proofs.FaceSets.{IsFaceSet, label, labelling, points_told, sides_tested}
 use Rattle.answer_laws.proofs.Insides.{inside_told}
@@ -24,7 +24,7 @@ use Rattle.answer_laws.proofs.Parts.{gaps_told, parts_told}
 pub links_of_arcs : (d : Drawing) (n : ℕ) (l : Segment) → Contains (links_of_arc (arcs_of (snapped d) (links_of (snapped d))) n) l → Contains (links_of (snapped d)) l
 links_of_arcs d n l c =
     let S : List Segment = links_of (snapped d) in
-    let (a, b, sides) = arc_sides (snapped d) (arranged d) (label S (arranged d) (distinct d)) (labelling S (arranged d) (distinct d)).agrees n in
+    let (a, b, sides) = arc_sides (snapped d) (links_arranged d) (label S (links_arranged d) (links_distinct d)) (labelling S (links_arranged d) (links_distinct d)).agrees n in
     (sides l c).0
 
 module _ (d : Drawing) (closed : HasClosedRings d) where
@@ -42,10 +42,10 @@ module _ (d : Drawing) (closed : HasClosedRings d) where
 
   -- the parts of a region, and the gaps between some, once points are told
   parts_by : (r : Region) → ((z : RationalPoint) → IsTold (HasIt r z)) → (count : ℕ) × ArePlaces S (HasIt r) (IsInPart S arcs (HasIt r)) count
-  parts_by r told = parts_told S (arranged d) (distinct d) arcs (links_of_arcs d) (HasIt r) (record { told = told; faces = has_face d closed arcs r })
+  parts_by r told = parts_told S (links_arranged d) (links_distinct d) arcs (links_of_arcs d) (HasIt r) (record { told = told; faces = has_face d closed arcs r })
 
   gaps_by : (rs : Regions) → ((z : RationalPoint) → IsTold (SomeHasIt rs z)) → (count : ℕ) × ArePlaces S (λ z. SomeHasIt rs z → ⊥) (IsInGap S arcs (SomeHasIt rs)) count
-  gaps_by rs told = gaps_told S (arranged d) (distinct d) arcs (links_of_arcs d) (SomeHasIt rs) (record { told = told; faces = some_face d closed arcs rs })
+  gaps_by rs told = gaps_told S (links_arranged d) (links_distinct d) arcs (links_of_arcs d) (SomeHasIt rs) (record { told = told; faces = some_face d closed arcs rs })
 
   mutual
     pub has_told : (r : Region) (z : RationalPoint) → IsTold (HasIt r z)
@@ -65,7 +65,7 @@ module _ (d : Drawing) (closed : HasClosedRings d) where
   region_set r = record { told = has_told r; faces = has_face d closed arcs r }
 
   sides : (r : Region) → (left : Segment → Bool) × (right : Segment → Bool) × AreSides S (HasIt r) left right
-  sides r = sides_tested S (arranged d) (distinct d) (HasIt r) (region_set r)
+  sides r = sides_tested S (links_arranged d) (links_distinct d) (HasIt r) (region_set r)
 
   insides : (r : Region) → (f : GridPoint → Bool) × ((p : GridPoint) → Contains (vertices_of (snapped d)) p → (f p ≡ true) ↔ IsInside S (HasIt r) p)
   insides r = tested points_told (IsInside S (HasIt r)) (vertices_of (snapped d)) (λ p vertex. inside_told d (HasIt r) (region_set r) p vertex)

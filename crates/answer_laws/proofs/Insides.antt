@@ -1,6 +1,7 @@
 -- Whether a vertex is inside a set of points can be told: by the sides of the links that end there, or by the vertex
 -- itself where it is on no link.
 use Rattle.std.proofs.Common.{◌≡◌, ◌⊎◌, inl, inr, sym, ◌∙◌, subst, Bool, true, false, cond, List, Contains}
+use Rattle.region_laws.proofs.Walked.{links_arranged, links_distinct}
 use Rattle.plane_model.specs.Points.{GridPoint, Segment, at}
 use Rattle.plane_model.specs.Drawing.{Drawing, vertices_of}
 use Rattle.plane_model.specs.Rotation.{Dart, tail}
@@ -16,7 +17,6 @@ use Rattle.point_laws.proofs.Sectors.{seen_from_sectors}
 use Rattle.point_laws.proofs.SeenSectors.{sectors_are_seen}
 use Rattle.point_laws.proofs.SightLemmas.{free_points_are_seen, seen_from_one_face}
 use Rattle.printed_laws.proofs.Constant.{past_back}
-use Rattle.printed_laws.proofs.Tests.{arranged, distinct}
 use Rattle.answer_laws.proofs.Deciding.{IsTold, both_told, either_told, same_told, some_told}
 use Rattle.answer_laws.proofs.FaceSets.{IsFaceSet, has_left, has_right, label, labelling, left_has, left_told, points_told, right_has, right_told}
 
@@ -33,37 +33,37 @@ module _ (d : Drawing) (Q : Points) (set : IsFaceSet (links_of (snapped d)) Q) (
   -- the side is seen from p
   side_seen : (l : Segment) → Contains (links_of (snapped d)) l → HasSide l → IsInside (links_of (snapped d)) Q p
   side_seen l c (inl (starts, belongs)) =
-      let (z, sees, off, says) = sectors_are_seen S (arranged d) (distinct d) (forward_dart l) c in
-      let (a, here) = place_exists S (arranged d) z in
-      (z, subst (λ (q : GridPoint). SeesPoint S q z) starts sees, left_has S (arranged d) (distinct d) Q set l c belongs z a here (says (label S (arranged d) (distinct d)) (labelling S (arranged d) (distinct d)).agrees a here))
+      let (z, sees, off, says) = sectors_are_seen S (links_arranged d) (links_distinct d) (forward_dart l) c in
+      let (a, here) = place_exists S (links_arranged d) z in
+      (z, subst (λ (q : GridPoint). SeesPoint S q z) starts sees, left_has S (links_arranged d) (links_distinct d) Q set l c belongs z a here (says (label S (links_arranged d) (links_distinct d)) (labelling S (links_arranged d) (links_distinct d)).agrees a here))
   side_seen l c (inr (stops, belongs)) =
-      let (z, sees, off, says) = sectors_are_seen S (arranged d) (distinct d) (backward_dart l) c in
-      let (a, here) = place_exists S (arranged d) z in
-      (z, subst (λ (q : GridPoint). SeesPoint S q z) stops sees, right_has S (arranged d) (distinct d) Q set l c belongs z a here (says (label S (arranged d) (distinct d)) (labelling S (arranged d) (distinct d)).agrees a here))
+      let (z, sees, off, says) = sectors_are_seen S (links_arranged d) (links_distinct d) (backward_dart l) c in
+      let (a, here) = place_exists S (links_arranged d) z in
+      (z, subst (λ (q : GridPoint). SeesPoint S q z) stops sees, right_has S (links_arranged d) (links_distinct d) Q set l c belongs z a here (says (label S (links_arranged d) (links_distinct d)) (labelling S (links_arranged d) (links_distinct d)).agrees a here))
 
   seen_side : (e : Dart) → Contains (links_of (snapped d)) e.link → tail e ≡ p → IsInside (links_of (snapped d)) Q p → (l : Segment) × Contains (links_of (snapped d)) l × HasSide l
   seen_side e c starts (z, sees, q) =
-      let (a, here) = place_exists S (arranged d) z in
-      let (f, on, tails, same) = seen_from_sectors S (arranged d) (distinct d) (label S (arranged d) (distinct d)) (labelling S (arranged d) (distinct d)).agrees e c z (subst (λ (g : GridPoint). SeesPoint S g z) (sym starts) sees) a here in
+      let (a, here) = place_exists S (links_arranged d) z in
+      let (f, on, tails, same) = seen_from_sectors S (links_arranged d) (links_distinct d) (label S (links_arranged d) (links_distinct d)) (labelling S (links_arranged d) (links_distinct d)).agrees e c z (subst (λ (g : GridPoint). SeesPoint S g z) (sym starts) sees) a here in
       (f.link, on, by_direction f.forward f.link on a here (tails ∙ starts) same)
     where
       by_direction : (forward : Bool) (l : Segment) → Contains (links_of (snapped d)) l → (a : Place) → IsPlaceOf (links_of (snapped d)) z a → cond forward l.start l.stop ≡ p →
-          label (links_of (snapped d)) (arranged d) (distinct d) a ≡ label (links_of (snapped d)) (arranged d) (distinct d) (left_of (record { link = l; forward = forward })) → HasSide l
-      by_direction true l on a here at_p same = inl (at_p, has_left S (arranged d) (distinct d) Q set l on z a here same q)
-      by_direction false l on a here at_p same = inr (at_p, has_right S (arranged d) (distinct d) Q set l on z a here same q)
+          label (links_of (snapped d)) (links_arranged d) (links_distinct d) a ≡ label (links_of (snapped d)) (links_arranged d) (links_distinct d) (left_of (record { link = l; forward = forward })) → HasSide l
+      by_direction true l on a here at_p same = inl (at_p, has_left S (links_arranged d) (links_distinct d) Q set l on z a here same q)
+      by_direction false l on a here at_p same = inr (at_p, has_right S (links_arranged d) (links_distinct d) Q set l on z a here same q)
 
   at_links : (e : Dart) → Contains (links_of (snapped d)) e.link → tail e ≡ p → IsTold (IsInside (links_of (snapped d)) Q p)
   at_links e c starts =
       same_told (λ (h : (l : Segment) × Contains S l × HasSide l). side_seen h.0 h.1 h.2) (seen_side e c starts)
-      (some_told HasSide S (λ l on. either_told (both_told (points_told l.start p) (left_told S (arranged d) (distinct d) Q set l on)) (both_told (points_told l.stop p) (right_told S (arranged d) (distinct d) Q set l on))))
+      (some_told HasSide S (λ l on. either_told (both_told (points_told l.start p) (left_told S (links_arranged d) (links_distinct d) Q set l on)) (both_told (points_told l.stop p) (right_told S (links_arranged d) (links_distinct d) Q set l on))))
 
   -- ---- on no link
 
   alone : IsOffLinks (links_of (snapped d)) (at p) → IsTold (IsInside (links_of (snapped d)) Q p)
   alone off =
       same_told
-      (λ q. (let (z, sees, off_z) = free_points_are_seen S (arranged d) p off in (z, sees, set.faces (at p) z (past_back S z (at p) (seen_from_one_face S (arranged d) p off z sees)) q)))
-      (λ (z, sees, q). set.faces z (at p) (seen_from_one_face S (arranged d) p off z sees) q) (set.told (at p))
+      (λ q. (let (z, sees, off_z) = free_points_are_seen S (links_arranged d) p off in (z, sees, set.faces (at p) z (past_back S z (at p) (seen_from_one_face S (links_arranged d) p off z sees)) q)))
+      (λ (z, sees, q). set.faces z (at p) (seen_from_one_face S (links_arranged d) p off z sees) q) (set.told (at p))
 
   -- p is an end of a link, or on none
   abbrev EndsThere : Segment → Type 0

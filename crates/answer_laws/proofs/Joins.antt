@@ -1,10 +1,11 @@
 -- Whether two points are joined in a set can be told: the boundary of the set is an arrangement, which has faces of its
 -- own.
-use Rattle.std.proofs.Common.{◌≡◌, inl, inr, arith, ℕ, ◌<◌, Bool, true, false, cond, List, [], ◌∷◌, Contains, filter, length, map, subst}
+use Rattle.std.proofs.Common.{◌≡◌, inl, inr, arith, ℕ, ◌<◌, true, List, [], Contains, filter, length, map, subst}
 use Rattle.std.specs.Prelude.{◌↔◌}
 use Rattle.std.proofs.lemmas.Bool.{cases_eq, cases_lt}
 use Rattle.std.proofs.lemmas.List.{get_or_past}
 use Rattle.std.proofs.lemmas.List.Elements.{All-contains, All-contains_itself, All-filter, All-weaker}
+use Rattle.plane_parity.proofs.Boundary.{filter_distinct}
 use Rattle.lists.proofs.Members.{Contains-filter, Contains-nil, filter-Contains}
 use Rattle.plane_model.specs.Points.{RationalPoint, Segment, Path, link_between}
 use Rattle.plane_model.specs.Arrangement.{IsArrangement, IsBefore, IsDistinct}
@@ -17,14 +18,6 @@ use Rattle.plane_faces.proofs.Order.{place_exists}
 use Rattle.printed_laws.proofs.Constant.{joined_back, joined_by_face, joined_on, past_back}
 use Rattle.answer_laws.proofs.Deciding.{IsTold, both_told, either_told, not_told, same_told, some_told, tested}
 use Rattle.answer_laws.proofs.FaceSets.{IsFaceSet, left_told, links_told, right_told}
-
-distinct_filter : (f : Segment → Bool) (ls : List Segment) → IsDistinct ls → IsDistinct (filter f ls)
-distinct_filter f [] h = tt
-distinct_filter f (l ∷ ls) h = go (f l) (distinct_filter f ls h.1)
-  where
-    go : (b : Bool) → IsDistinct (filter f ls) → IsDistinct (cond b (l ∷ filter f ls) (filter f ls))
-    go true rest = (All-filter f (λ k. k ≡ l → ⊥) ls h.0, rest)
-    go false rest = rest
 
 -- the points that a set has not
 pub complement : (S : List Segment) (R : Points) → IsFaceSet S R → IsFaceSet S (λ z. R z → ⊥)
@@ -60,7 +53,7 @@ module _ (S : List Segment) (arr : IsArrangement S) (distinct : IsDistinct S) (R
             ordered = All-filter f (λ l. IsBefore l.start l.stop) S arr.ordered;
             apart = λ k l ck cl. arr.apart k l (there k ck).0 (there l cl).0;
           };
-          different = distinct_filter f S distinct;
+          different = filter_distinct f S distinct;
         },
       )
 

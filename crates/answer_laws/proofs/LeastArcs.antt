@@ -7,6 +7,7 @@ use Rattle.std.proofs.lemmas.List.{reverse-reverse}
 use Rattle.std.proofs.lemmas.List.Elements.{All-cons, All-nil, Contains-get_or}
 use Rattle.std.proofs.lemmas.List.Folds.{Any-from_list_any, list_any_at}
 use Rattle.std.proofs.lemmas.List.Sorted.{Contains-permutation, IsPermutation-map, IsPermutation-sym}
+use Rattle.arc_laws.proofs.Runs.{least_in}
 use Rattle.lists.specs.Lists.{has, least_of, place_of}
 use Rattle.lists.proofs.Members.{Contains-cases, Contains-head, Contains-map, Contains-nil, map-Contains}
 use Rattle.plane_model.specs.Points.{Segment, Path, reversed, same_segment}
@@ -18,10 +19,11 @@ use Rattle.plane_model.specs.Rings.{BeginsAtLeastArc, least_arc}
 use Rattle.plane_model.specs.Snapped.{links_of}
 use Rattle.plane_parity.proofs.Abscissa.{same_link-self, same_link-true}
 use Rattle.plane_faces.specs.Rings.{IsRing}
+use Rattle.ring_trace.proofs.SetLemmas.{nat_order}
 use Rattle.printed_laws.proofs.EachStep.{each_back}
 use Rattle.answer_laws.proofs.Bounding.{of_boundary, ring_trail}
 use Rattle.answer_laws.proofs.Covers.{arcs_whole, some_arc}
-use Rattle.answer_laws.proofs.Rounds.{IsBegunWith, begun_with, least_in}
+use Rattle.answer_laws.proofs.Rounds.{IsBegunWith, begun_with}
 use Rattle.answer_laws.proofs.Trails.{GoesAlong, IsTrail, IsWhole, trail_back, whole_back}
 
 -- ---- least numbers
@@ -43,8 +45,8 @@ one_least : (xs ys : List ℕ) → IsPermutation xs ys → (x : ℕ) → Contain
 one_least [] ys p x c = Contains-nil x c
 one_least (x ∷ xs) [] p y c = Contains-nil y (Contains-permutation (x ∷ xs) [] y p c)
 one_least (x ∷ xs) (y ∷ ys) p z c =
-    let down = least_low 0 x xs (least_of nat_lt 0 (y ∷ ys)) (Contains-permutation (y ∷ ys) (x ∷ xs) (least_of nat_lt 0 (y ∷ ys)) (IsPermutation-sym (x ∷ xs) (y ∷ ys) p) (least_in nat_lt 0 y ys)) in
-    let up = least_low 0 y ys (least_of nat_lt 0 (x ∷ xs)) (Contains-permutation (x ∷ xs) (y ∷ ys) (least_of nat_lt 0 (x ∷ xs)) p (least_in nat_lt 0 x xs)) in
+    let down = least_low 0 x xs (least_of nat_lt 0 (y ∷ ys)) (Contains-permutation (y ∷ ys) (x ∷ xs) (least_of nat_lt 0 (y ∷ ys)) (IsPermutation-sym (x ∷ xs) (y ∷ ys) p) (least_in nat_lt nat_order 0 y ys)) in
+    let up = least_low 0 y ys (least_of nat_lt 0 (x ∷ xs)) (Contains-permutation (x ∷ xs) (y ∷ ys) (least_of nat_lt 0 (x ∷ xs)) p (least_in nat_lt nat_order 0 x xs)) in
     omega arith
 
 -- the place of an element that passes, where there is one
@@ -136,7 +138,7 @@ module _ (s : Drawing) (arr : IsArrangement (links_of s)) (distinct : IsDistinct
         go (p ∷ []) h = absurd h
         go (p ∷ q ∷ rest) h =
             let t : Segment = record { start = p; stop = q } in
-            map-Contains (arc_number arcs) (t ∷ steps (q ∷ rest)) (least_arc arcs (p ∷ q ∷ rest)) (least_in nat_lt 0 (arc_number arcs t) (map (arc_number arcs) (steps (q ∷ rest))))
+            map-Contains (arc_number arcs) (t ∷ steps (q ∷ rest)) (least_arc arcs (p ∷ q ∷ rest)) (least_in nat_lt nat_order 0 (arc_number arcs t) (map (arc_number arcs) (steps (q ∷ rest))))
 
     -- the ring goes along the first step of the arc
     first_used : (n : ℕ) (t : Segment) → Contains (steps ring) t → GoesAlong t (get_or (arcs_of s (links_of s)) n []) → Contains (steps ring) (first_of n) ⊎ Contains (steps ring) (reversed (first_of n))

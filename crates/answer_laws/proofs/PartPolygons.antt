@@ -2,6 +2,7 @@
 -- an exterior.
 use Rattle.std.proofs.Common.{◌≡◌, inl, inr, refl, sym, ap, ◌∙◌, subst, ℕ, Bool, true, false, ◌&&◌, nat_eq, List, Contains}
 use Rattle.std.specs.Prelude.{All, ◌↔◌}
+use Rattle.std.specs.Cmp.{both_ways}
 use Rattle.std.proofs.lemmas.Bool.{and_parts, cases_eq, eq-eqb, eqb-true, false_from_ne_true}
 use Rattle.std.proofs.lemmas.List.Elements.{All-weaker}
 use Rattle.plane_model.specs.Points.{RationalPoint, Segment, Path}
@@ -30,10 +31,10 @@ use Rattle.region_model.specs.Answers.{Answers, AreRight, boundary, plane_of}
 use Rattle.region_laws.proofs.FarLeft.{exists_far_left, left_is_outside}
 use Rattle.region_laws.proofs.OffLinks.{off_from_left, off_from_right}
 use Rattle.region_laws.proofs.SideTests.{one_boundary}
+use Rattle.region_laws.proofs.Walked.{links_arranged, links_distinct}
 use Rattle.printed_laws.proofs.Constant.{has_face, joined_back, one_part}
 use Rattle.printed_laws.proofs.JoinedParts.{joined_in_part}
 use Rattle.printed_laws.proofs.Outside.{not_outside}
-use Rattle.printed_laws.proofs.Tests.{arranged, distinct, one_value}
 use Rattle.answer_laws.proofs.Deciding.{both_told, same_told, test, test_says}
 use Rattle.answer_laws.proofs.Exist.{has_told}
 use Rattle.answer_laws.proofs.FaceSets.{IsFaceSet, from_left, from_right, label, labelling, one_face, point_told}
@@ -68,7 +69,7 @@ module _ (d : Drawing) (closed : HasClosedRings d) (r : Region) where
   R z = Has (snapped d) (arcs_of (snapped d) (links_of (snapped d))) r z
 
   abbrev name : Place → ℕ
-  name a = label (links_of (snapped d)) (arranged d) (distinct d) a
+  name a = label (links_of (snapped d)) (links_arranged d) (links_distinct d) a
 
   -- ---- the labels of the region
 
@@ -79,28 +80,28 @@ module _ (d : Drawing) (closed : HasClosedRings d) (r : Region) where
   named : (n : ℕ) → IsFaceSet (links_of (snapped d)) (Named n)
   named n = record {
     told = λ z.
-        (let (a, here) = place_exists S (arranged d) z in
-        both_told (has_told d closed r z) (same_told (λ e. (a, here, e)) (λ (b, there, e). ap name (place_is_one S (arranged d) z a b here there) ∙ e) (cases_eq (name a) n)));
+        (let (a, here) = place_exists S (links_arranged d) z in
+        both_told (has_told d closed r z) (same_told (λ e. (a, here, e)) (λ (b, there, e). ap name (place_is_one S (links_arranged d) z a b here there) ∙ e) (cases_eq (name a) n)));
     faces = λ u v one (held, (a, at_u, e)).
-        (let (b, at_v) = place_exists S (arranged d) v in
-        (has_face d closed arcs r u v one held, (b, at_v, sym ((labels_are_faces S (arranged d) (distinct d) (label S (arranged d) (distinct d)) (labelling S (arranged d) (distinct d)) u v a b at_u at_v).1 one) ∙ e)));
+        (let (b, at_v) = place_exists S (links_arranged d) v in
+        (has_face d closed arcs r u v one held, (b, at_v, sym ((labels_are_faces S (links_arranged d) (links_distinct d) (label S (links_arranged d) (links_distinct d)) (labelling S (links_arranged d) (links_distinct d)) u v a b at_u at_v).1 one) ∙ e)));
   }
 
   pub has_label : ℕ → Bool
-  has_label n = test (point_told S (arranged d) (distinct d) (Named n) (named n))
+  has_label n = test (point_told S (links_arranged d) (links_distinct d) (Named n) (named n))
 
   -- a point off the links has a label of the region exactly if it is in it
   pub label_tells : (z : RationalPoint) (a : Place) → IsOffLinks (links_of (snapped d)) z → IsPlaceOf (links_of (snapped d)) z a → (has_label (name a) ≡ true) ↔ R z
   unfolding has_label
   label_tells z a off here =
-      let says = test_says (point_told S (arranged d) (distinct d) (Named (name a)) (named (name a))) in (
-        λ e. (let (w, off_w, (held, (b, there, same))) = says.0 e in has_face d closed arcs r w z (one_face S (arranged d) (distinct d) w z b a there here same) held),
+      let says = test_says (point_told S (links_arranged d) (links_distinct d) (Named (name a)) (named (name a))) in (
+        λ e. (let (w, off_w, (held, (b, there, same))) = says.0 e in has_face d closed arcs r w z (one_face S (links_arranged d) (links_distinct d) w z b a there here same) held),
         λ held. says.1 (z, off, (held, (a, here, refl))),
       )
 
   pub not_outer : has_label (name outside) ≡ false
   not_outer = false_from_ne_true (has_label (name outside)) (λ e.
-      let (far, off, left) = exists_far_left S (arranged d) in
+      let (far, off, left) = exists_far_left S (links_arranged d) in
       let here : IsPlaceOf S far outside = left_is_outside S far left in
       not_outside d closed arcs r far here ((label_tells far outside off here).0 e))
 
@@ -115,12 +116,12 @@ module _ (d : Drawing) (closed : HasClosedRings d) (r : Region) where
   pub joined_by_part : (u v : RationalPoint) (a b : Place) → IsOffLinks (links_of (snapped d)) u → IsOffLinks (links_of (snapped d)) v → IsPlaceOf (links_of (snapped d)) u a → IsPlaceOf (links_of (snapped d)) v b → R u → R v →
       (part_of (name a) ≡ part_of (name b)) ↔ AreJoinedIn (links_of (snapped d)) R u v
   joined_by_part u v a b off_u off_v at_u at_v in_u in_v =
-      let by_labels = parts_are_joined S (arranged d) (distinct d) (label S (arranged d) (distinct d)) (labelling S (arranged d) (distinct d)) has_label not_outer part_of parts_labelled u v a b at_u at_v
+      let by_labels = parts_are_joined S (links_arranged d) (links_distinct d) (label S (links_arranged d) (links_distinct d)) (labelling S (links_arranged d) (links_distinct d)) has_label not_outer part_of parts_labelled u v a b at_u at_v
       ((label_tells u a off_u at_u).1 in_u) ((label_tells v b off_v at_v).1 in_v) in
       (λ e. joined_too S (PointsWhere S (among name has_label)) R of_label to_label u v (by_labels.0 e), λ joined. by_labels.1 (joined_too S R (PointsWhere S (among name has_label)) to_label of_label u v joined))
     where
       to_label : (z : RationalPoint) → IsOffLinks (links_of (snapped d)) z → R z → PointsWhere (links_of (snapped d)) (among name has_label) z
-      to_label z off held = let (a, here) = place_exists S (arranged d) z in (a, here, (label_tells z a off here).1 held)
+      to_label z off held = let (a, here) = place_exists S (links_arranged d) z in (a, here, (label_tells z a off here).1 held)
 
       of_label : (z : RationalPoint) → IsOffLinks (links_of (snapped d)) z → PointsWhere (links_of (snapped d)) (among name has_label) z → R z
       of_label z off (a, here, e) = (label_tells z a off here).0 e
@@ -148,28 +149,28 @@ module _ (d : Drawing) (closed : HasClosedRings d) (r : Region) where
 
     left_is : (l : Segment) → Contains (links_of (snapped d)) l → A.left (part r j) l ≡ in_it (left_side l)
     left_is l c =
-        let (z, sees) = seen_from_left S (arranged d) l c in
-        let (a, here) = place_exists S (arranged d) z in
-        let same : in_it a ≡ in_it (left_side l) = ap (in_part has_label part_of (part_of (name b))) (from_left S (arranged d) (distinct d) l c z sees a here) in
+        let (z, sees) = seen_from_left S (links_arranged d) l c in
+        let (a, here) = place_exists S (links_arranged d) z in
+        let same : in_it a ≡ in_it (left_side l) = ap (in_part has_label part_of (part_of (name b))) (from_left S (links_arranged d) (links_distinct d) l c z sees a here) in
         let tells = in_it_tells z a (off_from_left S l z sees) here in
         let set = (right.sides (part r j)).left_side l c in
-        one_value (A.left (part r j) l) (in_it (left_side l))
+        both_ways (A.left (part r j) l) (in_it (left_side l))
         (λ e. (let (u, sees_u, held) = set.0 e in
-        let (x, at_u) = place_exists S (arranged d) u in
-        sym (ap (in_part has_label part_of (part_of (name b))) (from_left S (arranged d) (distinct d) l c u sees_u x at_u)) ∙ (in_it_tells u x (off_from_left S l u sees_u) at_u).1 held))
+        let (x, at_u) = place_exists S (links_arranged d) u in
+        sym (ap (in_part has_label part_of (part_of (name b))) (from_left S (links_arranged d) (links_distinct d) l c u sees_u x at_u)) ∙ (in_it_tells u x (off_from_left S l u sees_u) at_u).1 held))
         (λ e. set.1 (z, sees, tells.0 (same ∙ e)))
 
     right_is : (l : Segment) → Contains (links_of (snapped d)) l → A.right (part r j) l ≡ in_it (right_side l)
     right_is l c =
-        let (z, sees) = seen_from_right S (arranged d) l c in
-        let (a, here) = place_exists S (arranged d) z in
-        let same : in_it a ≡ in_it (right_side l) = ap (in_part has_label part_of (part_of (name b))) (from_right S (arranged d) (distinct d) l c z sees a here) in
+        let (z, sees) = seen_from_right S (links_arranged d) l c in
+        let (a, here) = place_exists S (links_arranged d) z in
+        let same : in_it a ≡ in_it (right_side l) = ap (in_part has_label part_of (part_of (name b))) (from_right S (links_arranged d) (links_distinct d) l c z sees a here) in
         let tells = in_it_tells z a (off_from_right S l z sees) here in
         let set = (right.sides (part r j)).right_side l c in
-        one_value (A.right (part r j) l) (in_it (right_side l))
+        both_ways (A.right (part r j) l) (in_it (right_side l))
         (λ e. (let (u, sees_u, held) = set.0 e in
-        let (x, at_u) = place_exists S (arranged d) u in
-        sym (ap (in_part has_label part_of (part_of (name b))) (from_right S (arranged d) (distinct d) l c u sees_u x at_u)) ∙ (in_it_tells u x (off_from_right S l u sees_u) at_u).1 held))
+        let (x, at_u) = place_exists S (links_arranged d) u in
+        sym (ap (in_part has_label part_of (part_of (name b))) (from_right S (links_arranged d) (links_distinct d) l c u sees_u x at_u)) ∙ (in_it_tells u x (off_from_right S l u sees_u) at_u).1 held))
         (λ e. set.1 (z, sees, tells.0 (same ∙ e)))
 
     -- its border is the boundary of the part
@@ -178,20 +179,20 @@ module _ (d : Drawing) (closed : HasClosedRings d) (r : Region) where
 
     exterior_of : (rings : List Path) → UsesOnce (border_steps (among name (in_part has_label part_of (part_of (name b)))) (links_of (snapped d))) rings → All IsRing rings → HasExterior rings
     exterior_of rings uses are_rings =
-        let polygon = parts_used_once_are_polygons S (arranged d) (distinct d) (label S (arranged d) (distinct d)) (labelling S (arranged d) (distinct d)) has_label not_outer part_of parts_labelled (part_of (name b)) rings uses are_rings
+        let polygon = parts_used_once_are_polygons S (links_arranged d) (links_distinct d) (label S (links_arranged d) (links_distinct d)) (labelling S (links_arranged d) (links_distinct d)) has_label not_outer part_of parts_labelled (part_of (name b)) rings uses are_rings
         b (place_beside S w b at_w) ((in_it_tells w b off_w at_w).1 (in_w, part_w)) in
         record { before = polygon.before; exterior = polygon.exterior; after = polygon.after; are = polygon.are; turns_left = polygon.exterior_turns_left; turn_right = polygon.holes_turn_right }
 
     pub part_polygon : (polygon : Polygon) × FitsPart (arcs_of (snapped d) (links_of (snapped d))) (boundary (plane_of d) A (part r j)) polygon
     part_polygon =
         let f : Place → Bool = among name (in_part has_label part_of (part_of (name b))) in
-        let agrees : AgreesWherePlacesMeet S f = among_agrees S (label S (arranged d) (distinct d)) (labelling S (arranged d) (distinct d)).agrees (in_part has_label part_of (part_of (name b))) in
-        let (rings, uses, are_rings, least) = borders_are_used_once S (arranged d) (distinct d) f agrees in
+        let agrees : AgreesWherePlacesMeet S f = among_agrees S (label S (links_arranged d) (links_distinct d)) (labelling S (links_arranged d) (links_distinct d)).agrees (in_part has_label part_of (part_of (name b))) in
+        let (rings, uses, are_rings, least) = borders_are_used_once S (links_arranged d) (links_distinct d) f agrees in
         subst (λ (steps : List Segment). (polygon : Polygon) × FitsPart arcs steps polygon) (sym border_is)
-        (polygon_fits (snapped d) (arranged d) (distinct d) (λ l. f (left_side l)) (λ l. f (right_side l)) rings uses are_rings exterior_of)
+        (polygon_fits (snapped d) (links_arranged d) (links_distinct d) (λ l. f (left_side l)) (λ l. f (right_side l)) rings uses are_rings exterior_of)
 
 pub each_part_is_printed : EachPartIsPrinted
 each_part_is_printed d A closed right r j below =
     let (w, off, (in_w, part_w)) = (right.parts r j).0 below in
-    let (b, at_w) = place_exists (links_of (snapped d)) (arranged d) w in
+    let (b, at_w) = place_exists (links_of (snapped d)) (links_arranged d) w in
     part_polygon d closed r A right j w off in_w part_w b at_w

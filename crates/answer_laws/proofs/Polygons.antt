@@ -8,6 +8,7 @@ use Rattle.std.proofs.lemmas.Grind.{flat_map-append}
 use Rattle.std.proofs.lemmas.List.Elements.{All-append, All-cons, All-contains, All-contains_itself, All-head, All-nil, All-tail, All-weaker, Contains-append_left, Contains-append_right}
 use Rattle.std.proofs.lemmas.List.Kept.{AllPairs-cons}
 use Rattle.std.proofs.lemmas.List.Sorted.{All-permutation, Contains-permutation, IsPermutation-append, IsPermutation-append_comm, IsPermutation-cons, IsPermutation-middle, IsPermutation-refl, IsPermutation-sym, IsPermutation-trans}
+use Rattle.part_laws.proofs.FitLaws.{ring_is_simple}
 use Rattle.lists.proofs.Members.{Contains-flat_map}
 use Rattle.plane_model.specs.Points.{Segment, Path, reversed}
 use Rattle.plane_model.specs.Arcs.{arcs_of}
@@ -106,11 +107,6 @@ module _ (key : Path → ℕ) where
       )
 
 -- ---- the rings of a boundary
-
-ring_is_simple : (ring : Path) → IsRing ring → IsSimple ring
-ring_is_simple [] h = absurd h
-ring_is_simple (p ∷ []) h = absurd h
-ring_is_simple (p ∷ q ∷ rest) h = h.1
 
 -- of the rings one turns left, all others right
 pub record HasExterior (rings : List Path) : Type 0 where

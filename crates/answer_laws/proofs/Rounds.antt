@@ -1,5 +1,5 @@
 -- A closed path begun at another of its points has the same steps.
-use Rattle.std.proofs.Common.{◌≡◌, inl, inr, refl, sym, ap, ◌∙◌, subst, suc, Bool, true, false, cond, List, [], ◌∷◌, ◌++◌, length, append_assoc, Contains}
+use Rattle.std.proofs.Common.{◌≡◌, inl, inr, refl, sym, ap, ◌∙◌, subst, suc, Bool, true, false, List, [], ◌∷◌, ◌++◌, length, append_assoc, Contains}
 use Rattle.std.specs.Prelude.{◌≢◌, AllPairs, if◌then◌else◌}
 use Rattle.std.specs.Bool.{Decides}
 use Rattle.std.specs.List.Sorted.{IsPermutation}
@@ -7,12 +7,14 @@ use Rattle.std.proofs.lemmas.List.{append-nil}
 use Rattle.std.proofs.lemmas.List.Sorted.{IsPermutation-append_comm, IsPermutation-refl}
 use Rattle.std.proofs.lemmas.Map.Keys.{IsDistinct-IsPermutation}
 use Rattle.std.proofs.lemmas.Map.Made.{AllPairs-from_IsDistinct, IsDistinct-from_AllPairs}
+use Rattle.printed_laws.proofs.ArcSides.{same_back}
+use Rattle.arc_laws.proofs.Runs.{least_in}
 use Rattle.lists.specs.Lists.{last_of, least_of, place_of, turned}
-use Rattle.lists.proofs.Members.{Contains-cases, Contains-head, Contains-later, Contains-nil}
+use Rattle.lists.proofs.Members.{Contains-cases, Contains-nil}
 use Rattle.plane_model.specs.Points.{GridPoint, Segment, Path, is_before, same_point}
 use Rattle.plane_model.specs.Arcs.{begun_at_least}
 use Rattle.plane_model.specs.Drawing.{steps}
-use Rattle.plane_model.proofs.PointOrder.{clash, same_point_from, same_point_to}
+use Rattle.plane_model.proofs.PointOrder.{clash, is_before-IsStrictOrder, same_point_from, same_point_to}
 use Rattle.plane_snapping.proofs.Steps.{last_of-append}
 use Rattle.plane_faces.specs.Rings.{IsRing}
 use Rattle.part_laws.proofs.CountLemmas.{steps_joined}
@@ -31,15 +33,6 @@ round_steps c xs p ys closes =
     (IsPermutation-append_comm (steps (c ∷ (xs ++ p ∷ []))) (steps (p ∷ ys))))
 
 -- ---- begun at the least vertex
-
--- the least element is one of the list
-pub least_in : {A : Type 0} (before : A → A → Bool) (d x : A) (xs : List A) → Contains (x ∷ xs) (least_of before d (x ∷ xs))
-least_in before d x [] = Contains-head x []
-least_in {A} before d x (y ∷ ys) = go (before (least_of before d (y ∷ ys)) x) (least_in before d y ys)
-  where
-    go : (b : Bool) → Contains (y ∷ ys) (least_of before d (y ∷ ys)) → Contains (x ∷ y ∷ ys) (cond b (least_of before d (y ∷ ys)) x)
-    go true c = Contains-later x (y ∷ ys) (least_of before d (y ∷ ys)) c
-    go false c = Contains-head x (y ∷ ys)
 
 -- a list, cut at the first element that passes a test
 record IsCut {A : Type 0} (test : A → Bool) (xs : List A) : Type 0 where
@@ -79,7 +72,7 @@ begun_steps p (x ∷ xs) closes =
     (subst (λ (path : Path). IsPermutation (steps (p ∷ (k.before ++ k.here ∷ k.after))) (steps path)) (sym shape) (round_steps p k.before k.here k.after ends))
   where
     k : IsCut (same_point (least_of is_before p (x ∷ xs))) (x ∷ xs)
-    k = cut (same_point (least_of is_before p (x ∷ xs))) (x ∷ xs) (least_of is_before p (x ∷ xs)) (least_in is_before p x xs) (same_point_to (least_of is_before p (x ∷ xs)) (least_of is_before p (x ∷ xs)) refl)
+    k = cut (same_point (least_of is_before p (x ∷ xs))) (x ∷ xs) (least_of is_before p (x ∷ xs)) (least_in is_before is_before-IsStrictOrder p x xs) (same_point_to (least_of is_before p (x ∷ xs)) (least_of is_before p (x ∷ xs)) refl)
 
     ends : last_of k.here k.after ≡ p
     ends = sym (last_of-append p k.before (k.here ∷ k.after)) ∙ sym (ap (last_of p) k.are) ∙ closes
@@ -95,17 +88,9 @@ begun_steps p (x ∷ xs) closes =
 same_point-Decides : (p q : GridPoint) → Decides (same_point p q) (p ≡ q)
 same_point-Decides p q = (same_point_from p q, same_point_to p q)
 
-same_point-flips : (p q : GridPoint) → same_point p q ≡ same_point q p
-same_point-flips p q = go (same_point p q) (same_point q p) refl refl
-  where
-    go : (a b : Bool) → same_point p q ≡ a → same_point q p ≡ b → same_point p q ≡ same_point q p
-    go true b e f = e ∙ sym (same_point_to q p (sym (same_point_from p q e)))
-    go false true e f = same_point_to p q (sym (same_point_from q p f)) ∙ sym f
-    go false false e f = e ∙ sym f
-
 points_moved : (xs ys : Path) → IsPermutation xs ys → AllPairs (λ (p q : GridPoint). p ≢ q) xs → AllPairs (λ (p q : GridPoint). p ≢ q) ys
 points_moved xs ys p h =
-    AllPairs-from_IsDistinct same_point-Decides ys (IsDistinct-IsPermutation same_point same_point-flips xs ys p (IsDistinct-from_AllPairs same_point-Decides xs h))
+    AllPairs-from_IsDistinct same_point-Decides ys (IsDistinct-IsPermutation same_point same_back xs ys p (IsDistinct-from_AllPairs same_point-Decides xs h))
 
 ring_parts : (c : GridPoint) (zs : Path) → IsRing (c ∷ zs) → (last_of c zs ≡ c) × AllPairs (λ (p q : GridPoint). p ≢ q) zs
 ring_parts c [] h = absurd h

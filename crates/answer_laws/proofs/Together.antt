@@ -20,7 +20,9 @@ use Rattle.plane_model.specs.Sees.{IsOffLinks, SeesLeft, SeesRight}
 use Rattle.plane_model.specs.Sides.{LeftIn, Points, RightIn}
 use Rattle.plane_model.specs.Snapped.{links_of, snapped}
 use Rattle.plane_model.specs.SnappedRings.{HasClosedRings}
+use Rattle.plane_model.proofs.PointOrder.{clash}
 use Rattle.plane_parity.proofs.Visible.{seen_from_left, seen_from_right}
+use Rattle.plane_parity.proofs.Counted.{link_itself, link_reversed}
 use Rattle.plane_faces.specs.Labels.{among, in_part}
 use Rattle.plane_faces.specs.Places.{Place, outside, left_side, right_side, AgreesWherePlacesMeet, IsPlaceOf, border}
 use Rattle.plane_faces.proofs.Connected.{border_parity}
@@ -33,10 +35,10 @@ use Rattle.region_model.specs.Answers.{Answers, AreRight, boundary, plane_of}
 use Rattle.region_model.specs.Printed.{EachRegionIsPrinted, FitsPartOf}
 use Rattle.region_laws.proofs.Numbers.{in_range}
 use Rattle.region_laws.proofs.OffLinks.{off_from_left, off_from_right}
+use Rattle.region_laws.proofs.MosaicTold.{from_start}
+use Rattle.region_laws.proofs.Walked.{links_arranged, links_distinct}
 use Rattle.printed_laws.proofs.Constant.{has_face, joined_back, one_part}
 use Rattle.printed_laws.proofs.Counted.{one_number}
-use Rattle.printed_laws.proofs.Printed.{link_itself, link_reversed}
-use Rattle.printed_laws.proofs.Tests.{arranged, distinct}
 use Rattle.answer_laws.proofs.Bounding.{IsAlong, boundary_distinct, distinct_moved, not_turned, of_boundary}
 use Rattle.answer_laws.proofs.Covers.{some_arc}
 use Rattle.answer_laws.proofs.Exist.{has_told, links_of_arcs}
@@ -79,13 +81,6 @@ distinct_together (x ∷ xs) ys h k apart = (
   distinct_together xs ys h.1 k (λ t c m. apart t (Contains-later x xs t c) m),
 )
 
-from_first : (a n y : ℕ) → Contains (range_with_len a n) y → a ≤ y
-from_first a zero y c = Contains-nil y c
-from_first a (suc n) y c = elim (Contains-cases a (range_with_len (a + 1) n) y c) [
-  | inl e ↦ omega arith
-  | inr k ↦ (let more = from_first (a + 1) n y k in omega arith)
-]
-
 -- lists by number, of which no two have a common element
 distinct_lists : (f : ℕ → List Segment) → ((j : ℕ) → IsDistinct (f j)) → ((i j : ℕ) (t : Segment) → Contains (f i) t → Contains (f j) t → i ≡ j) → (a n : ℕ) → IsDistinct (flat_map f (range_with_len a n))
 distinct_lists f each apart a zero = tt
@@ -93,7 +88,7 @@ distinct_lists f each apart a (suc n) =
     distinct_together (f a) (flat_map f (range_with_len (a + 1) n)) (each a) (distinct_lists f each apart (a + 1) n)
     (λ t c k. (let (j, there, in_j) = flat_map-Contains f (range_with_len (a + 1) n) t k in
     let e = apart a j t c in_j in
-    let more = from_first (a + 1) n j there in
+    let more = from_start (a + 1) n j there in
     omega arith))
 
 -- ---- polygons by number
@@ -116,7 +111,7 @@ module _ (d : Drawing) (closed : HasClosedRings d) (r : Region) (A : Answers) (r
   R z = Has (snapped d) (arcs_of (snapped d) (links_of (snapped d))) r z
 
   abbrev name : Place → ℕ
-  name a = label (links_of (snapped d)) (arranged d) (distinct d) a
+  name a = label (links_of (snapped d)) (links_arranged d) (links_distinct d) a
 
   abbrev named : Place → Bool
   named a = has_label d closed r (name a)
@@ -125,7 +120,7 @@ module _ (d : Drawing) (closed : HasClosedRings d) (r : Region) (A : Answers) (r
   class a = part_of d closed r (name a)
 
   ordered : (l : Segment) → Contains (links_of (snapped d)) l → IsBefore l.start l.stop
-  ordered l c = All-contains (λ (k : Segment). IsBefore k.start k.stop) S l (arranged d).ordered c
+  ordered l c = All-contains (λ (k : Segment). IsBefore k.start k.stop) S l (links_arranged d).ordered c
 
   -- the sides of a link with the region on both are of one part
   one_class : (l : Segment) → Contains (links_of (snapped d)) l → named (left_side l) ≡ true → named (right_side l) ≡ true → class (left_side l) ≡ class (right_side l)
@@ -133,13 +128,13 @@ module _ (d : Drawing) (closed : HasClosedRings d) (r : Region) (A : Answers) (r
 
   left_named : (l : Segment) → Contains (links_of (snapped d)) l → (z : RationalPoint) → SeesLeft (links_of (snapped d)) l z → R z → named (left_side l) ≡ true
   left_named l c z sees held =
-      let (a, here) = place_exists S (arranged d) z in
-      sym (ap (has_label d closed r) (from_left S (arranged d) (distinct d) l c z sees a here)) ∙ (label_tells d closed r z a (off_from_left S l z sees) here).1 held
+      let (a, here) = place_exists S (links_arranged d) z in
+      sym (ap (has_label d closed r) (from_left S (links_arranged d) (links_distinct d) l c z sees a here)) ∙ (label_tells d closed r z a (off_from_left S l z sees) here).1 held
 
   right_named : (l : Segment) → Contains (links_of (snapped d)) l → (z : RationalPoint) → SeesRight (links_of (snapped d)) l z → R z → named (right_side l) ≡ true
   right_named l c z sees held =
-      let (a, here) = place_exists S (arranged d) z in
-      sym (ap (has_label d closed r) (from_right S (arranged d) (distinct d) l c z sees a here)) ∙ (label_tells d closed r z a (off_from_right S l z sees) here).1 held
+      let (a, here) = place_exists S (links_arranged d) z in
+      sym (ap (has_label d closed r) (from_right S (links_arranged d) (links_distinct d) l c z sees a here)) ∙ (label_tells d closed r z a (off_from_right S l z sees) here).1 held
 
   -- ---- each point of the region is in a part
 
@@ -153,7 +148,7 @@ module _ (d : Drawing) (closed : HasClosedRings d) (r : Region) (A : Answers) (r
   module _ (z : RationalPoint) (a : Place) (off : IsOffLinks (links_of (snapped d)) z) (here : IsPlaceOf (links_of (snapped d)) z a) (held : R z) where
     -- the places of the part of z
     abbrev beside : Place → Bool
-    beside b = among (label (links_of (snapped d)) (arranged d) (distinct d)) (in_part (has_label d closed r) (part_of d closed r) (class a)) b
+    beside b = among (label (links_of (snapped d)) (links_arranged d) (links_distinct d)) (in_part (has_label d closed r) (part_of d closed r) (class a)) b
 
     to_beside : (b : Place) → named b ≡ true → class b ≡ class a → beside b ≡ true
     to_beside b e f = let g = eq-eqb (class b) (class a) f in (λ i. e i && g i)
@@ -163,10 +158,10 @@ module _ (d : Drawing) (closed : HasClosedRings d) (r : Region) (A : Answers) (r
 
     bounded : (l : Segment) × Contains (border beside (links_of (snapped d))) l
     bounded =
-        let agrees : AgreesWherePlacesMeet S beside = among_agrees S (label S (arranged d) (distinct d)) (labelling S (arranged d) (distinct d)).agrees (in_part (has_label d closed r) (part_of d closed r) (class a)) in
+        let agrees : AgreesWherePlacesMeet S beside = among_agrees S (label S (links_arranged d) (links_distinct d)) (labelling S (links_arranged d) (links_distinct d)).agrees (in_part (has_label d closed r) (part_of d closed r) (class a)) in
         let outer : beside outside ≡ false = ap (λ (b : Bool). b && nat_eq (class outside) (class a)) (not_outer d closed r) in
         some_odd (border beside S)
-        (border_parity S (arranged d) (distinct d) (rotations_exist S (arranged d) (distinct d)) beside agrees outer z a here ∙ to_beside a ((label_tells d closed r z a off here).1 held) refl)
+        (border_parity S (links_arranged d) (links_distinct d) (rotations_exist S (links_arranged d) (links_distinct d)) beside agrees outer z a here ∙ to_beside a ((label_tells d closed r z a off here).1 held) refl)
       where
         some_odd : (ls : List Segment) → odd ls z ≡ true → (l : Segment) × Contains ls l
         some_odd [] e = absurd (let f : false ≡ true = e in cc)
@@ -175,33 +170,30 @@ module _ (d : Drawing) (closed : HasClosedRings d) (r : Region) (A : Answers) (r
     abbrev HasArc : Type 0
     HasArc = (n : ℕ) × IsArcOfPart (links_of (snapped d)) (arcs_of (snapped d) (links_of (snapped d))) R z n
 
-    no_clash : (b : Bool) → b ≡ true → b ≡ false → ⊥
-    no_clash b e f = let g : true ≡ false = sym e ∙ f in absurd (cc)
-
     by_left : (l : Segment) → Contains (links_of (snapped d)) l → beside (left_side l) ≡ true → beside (right_side l) ≡ false → HasArc
     by_left l c e f =
         let (n, l_on) = on_arc l c in
-        let (u, sees) = seen_from_left S (arranged d) l c in
-        let (x, at_u) = place_exists S (arranged d) u in
-        let same : name x ≡ name (left_side l) = from_left S (arranged d) (distinct d) l c u sees x at_u in
+        let (u, sees) = seen_from_left S (links_arranged d) l c in
+        let (x, at_u) = place_exists S (links_arranged d) u in
+        let same : name x ≡ name (left_side l) = from_left S (links_arranged d) (links_distinct d) l c u sees x at_u in
         let (labelled, of_class) = of_beside (left_side l) e in
         let off_u = off_from_left S l u sees in
         let held_u : R u = (label_tells d closed r u x off_u at_u).0 (ap (has_label d closed r) same ∙ labelled) in
         let joined = (joined_by_part d closed r z u a x off off_u here at_u held held_u).0 (sym of_class ∙ sym (ap (part_of d closed r) same)) in
-        let none : RightIn S R l → ⊥ = (λ (v, sees_v, held_v). (let g = right_named l c v sees_v held_v in no_clash (beside (right_side l)) (to_beside (right_side l) g (sym (one_class l c labelled g) ∙ of_class)) f)) in
+        let none : RightIn S R l → ⊥ = (λ (v, sees_v, held_v). (let g = right_named l c v sees_v held_v in clash (beside (right_side l)) (to_beside (right_side l) g (sym (one_class l c labelled g) ∙ of_class)) f)) in
         (n, (l, l_on, (inl ((u, sees, held_u), none), (u, (held_u, joined), inl sees))))
 
     by_right : (l : Segment) → Contains (links_of (snapped d)) l → beside (left_side l) ≡ false → beside (right_side l) ≡ true → HasArc
     by_right l c f e =
         let (n, l_on) = on_arc l c in
-        let (u, sees) = seen_from_right S (arranged d) l c in
-        let (x, at_u) = place_exists S (arranged d) u in
-        let same : name x ≡ name (right_side l) = from_right S (arranged d) (distinct d) l c u sees x at_u in
+        let (u, sees) = seen_from_right S (links_arranged d) l c in
+        let (x, at_u) = place_exists S (links_arranged d) u in
+        let same : name x ≡ name (right_side l) = from_right S (links_arranged d) (links_distinct d) l c u sees x at_u in
         let (labelled, of_class) = of_beside (right_side l) e in
         let off_u = off_from_right S l u sees in
         let held_u : R u = (label_tells d closed r u x off_u at_u).0 (ap (has_label d closed r) same ∙ labelled) in
         let joined = (joined_by_part d closed r z u a x off off_u here at_u held held_u).0 (sym of_class ∙ sym (ap (part_of d closed r) same)) in
-        let none : LeftIn S R l → ⊥ = (λ (v, sees_v, held_v). (let g = left_named l c v sees_v held_v in no_clash (beside (left_side l)) (to_beside (left_side l) g (one_class l c g labelled ∙ of_class)) f)) in
+        let none : LeftIn S R l → ⊥ = (λ (v, sees_v, held_v). (let g = left_named l c v sees_v held_v in clash (beside (left_side l)) (to_beside (left_side l) g (one_class l c g labelled ∙ of_class)) f)) in
         (n, (l, l_on, (inr ((u, sees, held_u), none), (u, (held_u, joined), inr sees))))
 
     has_arc : HasArc
@@ -218,9 +210,9 @@ module _ (d : Drawing) (closed : HasClosedRings d) (r : Region) (A : Answers) (r
 
   exists_part : (z : RationalPoint) → IsOffLinks (links_of (snapped d)) z → R z → (j : ℕ) × Has (snapped d) (arcs_of (snapped d) (links_of (snapped d))) (part r j) z
   exists_part z off held =
-      let (a, here) = place_exists S (arranged d) z in
+      let (a, here) = place_exists S (links_arranged d) z in
       let (n, arc) = has_arc z a off here held in
-      let (j, in_j) = part_exists S (arranged d) (distinct d) arcs (links_of_arcs d) R (record { told = has_told d closed r; faces = has_face d closed arcs r }) z n arc in
+      let (j, in_j) = part_exists S (links_arranged d) (links_distinct d) arcs (links_of_arcs d) R (record { told = has_told d closed r; faces = has_face d closed arcs r }) z n arc in
       (j, (held, in_j))
 
   -- ---- the boundaries of parts
@@ -228,18 +220,15 @@ module _ (d : Drawing) (closed : HasClosedRings d) (r : Region) (A : Answers) (r
   abbrev PartSteps : ℕ → List Segment
   PartSteps j = boundary (plane_of d) A (part r j)
 
-  clash : (b : Bool) → b ≡ true → b ≡ false → ⊥
-  clash b e f = let g : true ≡ false = sym e ∙ f in absurd (cc)
-
   -- points on both sides of a link are joined
   across : (l : Segment) → Contains (links_of (snapped d)) l → (u v : RationalPoint) → SeesLeft (links_of (snapped d)) l u → SeesRight (links_of (snapped d)) l v → R u → R v → AreJoinedIn (links_of (snapped d)) R u v
   across l c u v sees_u sees_v in_u in_v =
-      let (a, at_u) = place_exists S (arranged d) u in
-      let (b, at_v) = place_exists S (arranged d) v in
+      let (a, at_u) = place_exists S (links_arranged d) u in
+      let (b, at_v) = place_exists S (links_arranged d) v in
       (joined_by_part d closed r u v a b (off_from_left S l u sees_u) (off_from_right S l v sees_v) at_u at_v in_u in_v).0
-      (ap (part_of d closed r) (from_left S (arranged d) (distinct d) l c u sees_u a at_u)
+      (ap (part_of d closed r) (from_left S (links_arranged d) (links_distinct d) l c u sees_u a at_u)
       ∙ one_class l c (left_named l c u sees_u in_u) (right_named l c v sees_v in_v)
-      ∙ sym (ap (part_of d closed r) (from_right S (arranged d) (distinct d) l c v sees_v b at_v)))
+      ∙ sym (ap (part_of d closed r) (from_right S (links_arranged d) (links_distinct d) l c v sees_v b at_v)))
 
   to_part : (t : Segment) → Contains (boundary (plane_of d) A r) t → (j : ℕ) × (j < A.parts r) × Contains (PartSteps j) t
   to_part t c = let (l, there, along) = of_boundary (A.left r) (A.right r) S t c in by_way l there along
@@ -285,17 +274,17 @@ module _ (d : Drawing) (closed : HasClosedRings d) (r : Region) (A : Answers) (r
   left_of_one : (i j : ℕ) (l : Segment) → Contains (links_of (snapped d)) l → A.left (part r i) l ≡ true → A.left (part r j) l ≡ true → i ≡ j
   left_of_one i j l c e f =
       let (z, sees, (held, in_i)) = ((right.sides (part r i)).left_side l c).0 e in
-      let (a, here) = place_exists S (arranged d) z in
-      let in_j = left_has S (arranged d) (distinct d) (λ w. Has (snapped d) arcs (part r j) w) (record { told = has_told d closed (part r j); faces = has_face d closed arcs (part r j) }) l c (((right.sides (part r j)).left_side l c).0 f) z a here
-      (from_left S (arranged d) (distinct d) l c z sees a here) in
+      let (a, here) = place_exists S (links_arranged d) z in
+      let in_j = left_has S (links_arranged d) (links_distinct d) (λ w. Has (snapped d) arcs (part r j) w) (record { told = has_told d closed (part r j); faces = has_face d closed arcs (part r j) }) l c (((right.sides (part r j)).left_side l c).0 f) z a here
+      (from_left S (links_arranged d) (links_distinct d) l c z sees a here) in
       one_number S arcs R z i j in_i in_j.1
 
   right_of_one : (i j : ℕ) (l : Segment) → Contains (links_of (snapped d)) l → A.right (part r i) l ≡ true → A.right (part r j) l ≡ true → i ≡ j
   right_of_one i j l c e f =
       let (z, sees, (held, in_i)) = ((right.sides (part r i)).right_side l c).0 e in
-      let (a, here) = place_exists S (arranged d) z in
-      let in_j = right_has S (arranged d) (distinct d) (λ w. Has (snapped d) arcs (part r j) w) (record { told = has_told d closed (part r j); faces = has_face d closed arcs (part r j) }) l c (((right.sides (part r j)).right_side l c).0 f) z a here
-      (from_right S (arranged d) (distinct d) l c z sees a here) in
+      let (a, here) = place_exists S (links_arranged d) z in
+      let in_j = right_has S (links_arranged d) (links_distinct d) (λ w. Has (snapped d) arcs (part r j) w) (record { told = has_told d closed (part r j); faces = has_face d closed arcs (part r j) }) l c (((right.sides (part r j)).right_side l c).0 f) z a here
+      (from_right S (links_arranged d) (links_distinct d) l c z sees a here) in
       one_number S arcs R z i j in_i in_j.1
 
   of_one_part : (i j : ℕ) (t : Segment) → Contains (PartSteps i) t → Contains (PartSteps j) t → i ≡ j
@@ -312,8 +301,8 @@ module _ (d : Drawing) (closed : HasClosedRings d) (r : Region) (A : Answers) (r
 
   pub together : IsPermutation (boundary (plane_of d) A r) (flat_map PartSteps (range_with_len 0 (A.parts r)))
   together =
-      same_elements (boundary (plane_of d) A r) (flat_map PartSteps (range_with_len 0 (A.parts r))) (boundary_distinct (A.left r) (A.right r) S (arranged d) (distinct d))
-      (distinct_lists PartSteps (λ j. boundary_distinct (A.left (part r j)) (A.right (part r j)) S (arranged d) (distinct d)) of_one_part 0 (A.parts r))
+      same_elements (boundary (plane_of d) A r) (flat_map PartSteps (range_with_len 0 (A.parts r))) (boundary_distinct (A.left r) (A.right r) S (links_arranged d) (links_distinct d))
+      (distinct_lists PartSteps (λ j. boundary_distinct (A.left (part r j)) (A.right (part r j)) S (links_arranged d) (links_distinct d)) of_one_part 0 (A.parts r))
       (λ t c. (let (j, below, k) = to_part t c in Contains-flat_map PartSteps (range_with_len 0 (A.parts r)) j t (in_range (A.parts r) j below) k))
       (λ t c. (let (j, there, k) = flat_map-Contains PartSteps (range_with_len 0 (A.parts r)) t c in of_part j t k))
 

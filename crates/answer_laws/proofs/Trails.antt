@@ -1,9 +1,10 @@
 -- Steps that go on from vertex to vertex and never back go along all of an arc, or along none of it.
-use Rattle.std.proofs.Common.{◌≡◌, ◌⊎◌, inl, inr, refl, sym, ap, ◌∙◌, subst, arith, ℕ, zero, suc, Bool, true, false, not, ◌&&◌, ◌||◌, List, [], ◌∷◌, ◌++◌, filter, length, reverse, Contains, Option, Some, None}
+use Rattle.std.proofs.Common.{◌≡◌, ◌⊎◌, inl, inr, refl, sym, ap, ◌∙◌, subst, arith, ℕ, zero, suc, Bool, true, false, not, ◌&&◌, ◌||◌, List, [], ◌∷◌, ◌++◌, filter, length, reverse, Contains, Some, None}
 use Rattle.std.specs.Prelude.{if◌then◌else◌, ◌↔◌}
 use Rattle.std.proofs.lemmas.List.{reverse-append, reverse-reverse}
 use Rattle.std.proofs.lemmas.List.Elements.{Contains-append_cases, Contains-append_left, Contains-append_right}
 use Rattle.std.proofs.lemmas.List.Sorted.{Contains-permutation, IsPermutation-sym}
+use Rattle.std.proofs.lemmas.Option.{same_Some}
 use Rattle.lists.specs.Lists.{first_or, last_of, list_before, tail}
 use Rattle.lists.proofs.Members.{Contains-cases, Contains-filter_map, Contains-head, Contains-later, Contains-nil, filter_map-Contains}
 use Rattle.plane_model.specs.Points.{GridPoint, Segment, Path, is_before, link_between, reversed, same_point}
@@ -34,9 +35,6 @@ linked_step S s = go (is_before s.start s.stop)
 
 -- ---- the vertices that are joined to one
 
-pub from_some : {A : Type 0} (x y : A) → Some x ≡ Some y → x ≡ y
-from_some {A} x y e = ap (λ (o : Option A). elim o [ None ↦ x | Some z ↦ z ]) e
-
 linked_joined : (S : List Segment) (p q : GridPoint) → Linked S p q → Contains (joined_to S q) p
 linked_joined S p q (l, c, inl (starts, stops)) = Contains-filter_map (across_from q) S l p c (elim (points_told l.start q) [
   | inl e ↦ across_start q l e ∙ ap (λ (x : GridPoint). Some x) (stops ∙ sym e ∙ starts)
@@ -56,9 +54,9 @@ joined_linked : (S : List Segment) (q r : GridPoint) → Contains (joined_to S q
 joined_linked S q r c =
     let (l, there, e) = filter_map-Contains (across_from q) S r c in
     elim (points_told l.start q) [
-      | inl starts ↦ (l, there, inl (starts, from_some l.stop r (sym (across_start q l starts) ∙ e)))
+      | inl starts ↦ (l, there, inl (starts, same_Some l.stop r (sym (across_start q l starts) ∙ e)))
       | inr no_start ↦ elim (points_told l.stop q) [
-        | inl stops ↦ (l, there, inr (from_some l.start r (sym (across_stop q l no_start stops) ∙ e), stops))
+        | inl stops ↦ (l, there, inr (same_Some l.start r (sym (across_stop q l no_start stops) ∙ e), stops))
         | inr no_stop ↦ absurd (across_none q l r no_start no_stop e)
       ]
     ]

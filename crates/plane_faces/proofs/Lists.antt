@@ -19,15 +19,6 @@ odd_number zero = false
 odd_number (suc n) = not (odd_number n)
 
 module _ {X : Type 0} where
-  pub contains_head : (x : X) (xs : List X) → Contains (x ∷ xs) x
-  contains_head x xs = Contains-head x xs
-
-  pub contains_tail : (x : X) (xs : List X) (y : X) → Contains xs y → Contains (x ∷ xs) y
-  contains_tail x xs y c = Contains-later x xs y c
-
-  pub contains_none : (y : X) → Contains [] y → ⊥
-  contains_none y c = Contains-nil y c
-
   pub contains_cases : (x : X) (xs : List X) (y : X) → Contains (x ∷ xs) y → (y ≡ x) ⊎ Contains xs y
   contains_cases x xs y c =
       All-contains (λ z. (z ≡ x) ⊎ Contains xs z) (x ∷ xs) y

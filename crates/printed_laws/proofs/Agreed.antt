@@ -1,6 +1,7 @@
 -- Of polygons that fit a region both readings agree, so that no point lies in two.
 use Rattle.std.proofs.Common.{◌≡◌, refl, sym, ◌∙◌, arith, ℕ, [], ◌∷◌}
 use Rattle.std.specs.List.{range_with_len}
+use Rattle.region_laws.proofs.Walked.{links_arranged, links_distinct}
 use Rattle.plane_model.specs.Points.{RationalPoint}
 use Rattle.plane_model.specs.Drawing.{Drawing, Polygon}
 use Rattle.plane_model.specs.Parity.{rings_hold}
@@ -11,12 +12,12 @@ use Rattle.region_model.specs.Printed.{FitsPartOf, PolygonsAreApart, ReadingsAgr
 use Rattle.printed_laws.specs.Counted.{RegionsAreRead}
 use Rattle.printed_laws.proofs.Counted.{at_number, joined_points_are_held_by_one, part_at, zip_weaker, none_is_held_twice}
 use Rattle.printed_laws.proofs.Readings.{readings}
-use Rattle.printed_laws.proofs.Tests.{arranged, distinct, test_agrees, test_of}
+use Rattle.printed_laws.proofs.Tests.{test_agrees, test_of}
 
 of_part : (d : Drawing) (A : Answers) (r : Region) (j : ℕ) → HasClosedRings d → AreRight (plane_of d) A → (polygon : Polygon) → FitsPartOf (plane_of d) A r j polygon → (z : RationalPoint) → rings_hold z polygon ≡ polygon_holds z polygon
 of_part d A r j closed right [] fits z = absurd fits.order
 of_part d A r j closed right (exterior ∷ holes) fits z =
-    readings _ (arranged d) (test_of (A.left (part r j)) (A.right (part r j))) (distinct d)
+    readings _ (links_arranged d) (test_of (A.left (part r j)) (A.right (part r j))) (links_distinct d)
     (test_agrees d closed _ (part r j) (A.left (part r j)) (A.right (part r j)) (right.sides (part r j))) refl exterior holes fits.uses fits.simple fits.order.0 fits.order.1 z
 
 pub readings_agree : ReadingsAgree

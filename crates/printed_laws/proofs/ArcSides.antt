@@ -1,7 +1,7 @@
 -- All links of an arc have the same two faces on their sides: an arc passes no vertex where other links end.
 use Rattle.std.proofs.Common.{◌≡◌, ◌⊎◌, inl, inr, refl, sym, ap, subst, ◌∙◌, arith, ℕ, zero, suc, ◌==◌, Bool, true, false, cond, not, ◌&&◌, ◌||◌, List, [], ◌∷◌, ◌++◌, map, filter, length, reverse, get_or, Contains, Some, None}
 use Rattle.std.specs.Prelude.{All, ◌↔◌, if◌then◌else◌}
-use Rattle.std.specs.Cmp.{unsigned_Decides}
+use Rattle.std.specs.Cmp.{both_ways, unsigned_Decides}
 use Rattle.std.specs.List.{cons_option, list_any, flat_map}
 use Rattle.std.proofs.lemmas.Bool.{or_parts}
 use Rattle.std.proofs.lemmas.List.{reverse-append}
@@ -28,12 +28,11 @@ use Rattle.plane_faces.proofs.Runs.{dart_between}
 use Rattle.face_laws.proofs.DartLemmas.{dart_back, next_of_two, step_head, step_tail, twice_opposite}
 use Rattle.printed_laws.proofs.Constant.{there_or_not}
 use Rattle.printed_laws.proofs.EachStep.{EachStep, each_back, each_begun, each_from, each_joined, each_later, each_none}
-use Rattle.printed_laws.proofs.Tests.{one_value}
 
 -- ---- the vertices that links join to a vertex are the heads of the darts there
 
-same_back : (p q : GridPoint) → same_point p q ≡ same_point q p
-same_back p q = one_value (same_point p q) (same_point q p) (λ e. same_point_to q p (sym (same_point_from p q e))) (λ e. same_point_to p q (sym (same_point_from q p e)))
+pub same_back : (p q : GridPoint) → same_point p q ≡ same_point q p
+same_back p q = both_ways (same_point p q) (same_point q p) (λ e. same_point_to q p (sym (same_point_from p q e))) (λ e. same_point_to p q (sym (same_point_from q p e)))
 
 abbrev Ordered : Segment → Type 0
 Ordered l = IsBefore l.start l.stop

@@ -4,6 +4,7 @@ use Rattle.std.proofs.Common.{◌≡◌, ◌⊎◌, inl, inr, sym, ap, subst, �
 use Rattle.std.specs.Prelude.{Any}
 use Rattle.std.proofs.lemmas.Bool.{cases_eq, cases_lt, ltb-true}
 use Rattle.std.proofs.lemmas.List.{get_or_default}
+use Rattle.region_laws.proofs.Walked.{links_arranged, links_distinct}
 use Rattle.lists.proofs.Ascending.{IsAscending}
 use Rattle.lists.proofs.Members.{Contains-cases, Contains-head, Contains-later, Contains-nil}
 use Rattle.plane_model.specs.Points.{RationalPoint, Segment, Path}
@@ -30,7 +31,6 @@ use Rattle.printed_laws.proofs.Agreed.{readings_agree}
 use Rattle.printed_laws.proofs.ArcSides.{IsFaceBeside, arc_sides}
 use Rattle.printed_laws.proofs.Constant.{has_face, joined_back, joined_by_face, joined_on}
 use Rattle.printed_laws.proofs.Counted.{joined_points_are_held_by_one, part_at}
-use Rattle.printed_laws.proofs.Tests.{arranged, distinct}
 
 -- ---- parts of one place have one number
 
@@ -83,33 +83,33 @@ module _ (d : Drawing) (closed : HasClosedRings d) (r : Region) where
   R z = Has (snapped d) (arcs_of (snapped d) (links_of (snapped d))) r z
 
   label : Place → ℕ
-  label = (face_labelling S (arranged d) (distinct d)).0
+  label = (face_labelling S (links_arranged d) (links_distinct d)).0
 
   labelling : IsFaceLabelling (links_of (snapped d)) label
   unfolding label
-  labelling = (face_labelling S (arranged d) (distinct d)).1
+  labelling = (face_labelling S (links_arranged d) (links_distinct d)).1
 
   -- points whose places have one label are of one face
   one_face : (u v : RationalPoint) (a b : Place) → IsPlaceOf S u a → IsPlaceOf S v b → label a ≡ label b → AreOfOneFace S u v
-  one_face u v a b at_u at_v e = (labels_are_faces S (arranged d) (distinct d) label labelling u v a b at_u at_v).0 e
+  one_face u v a b at_u at_v e = (labels_are_faces S (links_arranged d) (links_distinct d) label labelling u v a b at_u at_v).0 e
 
   from_left : (l : Segment) → Contains S l → (z : RationalPoint) → SeesLeft S l z → (a : Place) → IsPlaceOf S z a → label a ≡ label (left_side l)
-  from_left l c z sees a here = label_from_left S (arranged d) (distinct d) (rotations_exist S (arranged d) (distinct d)) label labelling.agrees l c z sees a here
+  from_left l c z sees a here = label_from_left S (links_arranged d) (links_distinct d) (rotations_exist S (links_arranged d) (links_distinct d)) label labelling.agrees l c z sees a here
 
   from_right : (l : Segment) → Contains S l → (z : RationalPoint) → SeesRight S l z → (a : Place) → IsPlaceOf S z a → label a ≡ label (right_side l)
-  from_right l c z sees a here = label_from_right S (arranged d) (distinct d) (rotations_exist S (arranged d) (distinct d)) label labelling.agrees l c z sees a here
+  from_right l c z sees a here = label_from_right S (links_arranged d) (links_distinct d) (rotations_exist S (links_arranged d) (links_distinct d)) label labelling.agrees l c z sees a here
 
   -- the face of a point of the region that is on the left of a link, or on its right
   left_has : (l : Segment) → Contains S l → (u : RationalPoint) (a : Place) → IsPlaceOf S u a → R u → label a ≡ label (left_side l) → LeftIn S R l
   left_has l c u a at_u in_r e =
-      let (z, sees) = seen_from_left S (arranged d) l c in
-      let (b, at_z) = place_exists S (arranged d) z in
+      let (z, sees) = seen_from_left S (links_arranged d) l c in
+      let (b, at_z) = place_exists S (links_arranged d) z in
       (z, sees, has_face d closed arcs r u z (one_face u z a b at_u at_z (e ∙ sym (from_left l c z sees b at_z))) in_r)
 
   right_has : (l : Segment) → Contains S l → (u : RationalPoint) (a : Place) → IsPlaceOf S u a → R u → label a ≡ label (right_side l) → RightIn S R l
   right_has l c u a at_u in_r e =
-      let (z, sees) = seen_from_right S (arranged d) l c in
-      let (b, at_z) = place_exists S (arranged d) z in
+      let (z, sees) = seen_from_right S (links_arranged d) l c in
+      let (b, at_z) = place_exists S (links_arranged d) z in
       (z, sees, has_face d closed arcs r u z (one_face u z a b at_u at_z (e ∙ sym (from_right l c z sees b at_z))) in_r)
 
   -- no link of the boundary has the region on both sides
@@ -137,11 +137,11 @@ module _ (d : Drawing) (closed : HasClosedRings d) (r : Region) where
       let same = one_number S arcs R j z w off_z off_w in_z in_w h k in
       let (l, on_l, (bounding, (u, (in_u, z_to_u), u_sees))) = h.is_number.is_arc in
       let (m, on_m, (_, (v, (in_v, w_to_v), v_sees))) = k.is_number.is_arc in
-      let (x, y, sides) = arc_sides (snapped d) (arranged d) label labelling.agrees h.number in
+      let (x, y, sides) = arc_sides (snapped d) (links_arranged d) label labelling.agrees h.number in
       let (there_l, of_l) = sides l on_l in
       let (there_m, of_m) = sides m (subst (λ (n : ℕ). Contains (links_of_arc arcs n) m) (sym same) on_m) in
-      let (a, at_u) = place_exists S (arranged d) u in
-      let (b, at_v) = place_exists S (arranged d) v in
+      let (a, at_u) = place_exists S (links_arranged d) u in
+      let (b, at_v) = place_exists S (links_arranged d) v in
       let e = one_side l there_l bounding u v a b at_u at_v in_u in_v (beside l there_l u u_sees a at_u) ((of_l (label b)).1 ((of_m (label b)).0 (beside m there_m v v_sees b at_v))) in
       joined_on S R z u w z_to_u (joined_on S R u v w (joined_by_face S R u v (one_face u v a b at_u at_v e)) (joined_back S R w v w_to_v))
 

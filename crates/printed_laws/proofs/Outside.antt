@@ -1,5 +1,5 @@
 -- No region has a point that is outside of all links.
-use Rattle.std.proofs.Common.{◌≡◌, inl, inr, refl, sym, ap, ◌∙◌, ℕ, Bool, true, false, List, [], ◌∷◌, get_or}
+use Rattle.std.proofs.Common.{◌≡◌, inl, inr, refl, sym, ap, ◌∙◌, ℕ, false, List, [], ◌∷◌, get_or}
 use Rattle.std.specs.List.{list_any}
 use Rattle.plane_model.specs.Points.{RationalPoint, Segment, Path}
 use Rattle.plane_model.specs.Drawing.{Drawing, Polygon}
@@ -7,6 +7,7 @@ use Rattle.plane_model.specs.Joined.{AreOfOneFace}
 use Rattle.plane_model.specs.Parity.{feature_holds, links_of_paths, rings_hold}
 use Rattle.plane_model.specs.Snapped.{links_of, snapped}
 use Rattle.plane_model.specs.SnappedRings.{HasClosedRings}
+use Rattle.plane_model.proofs.PointOrder.{clash}
 use Rattle.plane_parity.proofs.Abscissa.{ray_law_nothing}
 use Rattle.plane_parity.proofs.SnappedRings.{closed_runs_are_even_lists, list_any_same, snapped_boxes_are_even_lists, snapped_polygons_are_even_lists}
 use Rattle.plane_snapping.proofs.SnappedLinks.{snapped_links_are_an_arrangement}
@@ -14,9 +15,6 @@ use Rattle.plane_faces.specs.Places.{outside, IsPlaceOf}
 use Rattle.region_model.specs.Region.{Region, Regions, feature, box, any, both, less, part, gap, no_regions, one_more, Has, SomeHas}
 use Rattle.region_laws.proofs.FarLeft.{exists_far_left, left_is_outside}
 use Rattle.printed_laws.proofs.Constant.{joined_by_face, there_or_not}
-
-not_both : (b : Bool) → b ≡ true → b ≡ false → ⊥
-not_both b e f = let g : true ≡ false = sym e ∙ f in absurd (cc)
 
 never_any : {A : Type 0} (xs : List A) → list_any (λ (x : A). false) xs ≡ false
 never_any [] = refl
@@ -36,17 +34,17 @@ module _ (d : Drawing) (closed : HasClosedRings d) (arcs : List Path) where
   no_feature n z here h = elim (there_or_not (snapped d).polygons n []) [
     | inl c ↦ (
         let f : List Polygon = get_or (snapped d).polygons n [] in
-        not_both (feature_holds z f) h
+        clash (feature_holds z f) h
         (list_any_same (rings_hold z) (λ (p : Polygon). false) f (λ p k. ray_law_nothing S (links_of_paths p) (snapped_polygons_are_even_lists d closed f p c k).within z here) ∙ never_any f))
-    | inr none ↦ not_both (feature_holds z (get_or (snapped d).polygons n [])) h (ap (feature_holds z) none)
+    | inr none ↦ clash (feature_holds z (get_or (snapped d).polygons n [])) h (ap (feature_holds z) none)
   ]
 
   no_box : (n : ℕ) (z : RationalPoint) → IsPlaceOf (links_of (snapped d)) z outside → Has (snapped d) arcs (box n) z → ⊥
   no_box n z here h = elim (there_or_not (snapped d).boxes n []) [
     | inl c ↦ (
         let b : Path = get_or (snapped d).boxes n [] in
-        not_both (rings_hold z (b ∷ [])) h (ray_law_nothing S (links_of_paths (b ∷ [])) (snapped_boxes_are_even_lists d closed b c).within z here))
-    | inr none ↦ not_both (rings_hold z (get_or (snapped d).boxes n [] ∷ [])) h (ap (λ (p : Path). rings_hold z (p ∷ [])) none)
+        clash (rings_hold z (b ∷ [])) h (ray_law_nothing S (links_of_paths (b ∷ [])) (snapped_boxes_are_even_lists d closed b c).within z here))
+    | inr none ↦ clash (rings_hold z (get_or (snapped d).boxes n [] ∷ [])) h (ap (λ (p : Path). rings_hold z (p ∷ [])) none)
   ]
 
   mutual

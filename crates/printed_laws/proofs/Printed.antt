@@ -1,12 +1,14 @@
 -- Rings that use the boundary of a region once hold its points.
 use Rattle.std.proofs.Common.{◌≡◌, refl, sym, subst, ◌∙◌, Bool, true, false, cond, List, [], ◌∷◌, map, filter}
-use Rattle.std.specs.Prelude.{◌↔◌, All, if◌then◌else◌}
+use Rattle.std.specs.Prelude.{◌↔◌, All}
 use Rattle.std.specs.List.{cons_option}
 use Rattle.std.specs.List.Sorted.{IsPermutation}
 use Rattle.std.proofs.lemmas.List.Elements.{All-head, All-tail}
 use Rattle.std.proofs.lemmas.List.Sorted.{IsPermutation-map, IsPermutation-sym}
+use Rattle.region_laws.proofs.Walked.{links_arranged, links_distinct}
+use Rattle.plane_parity.proofs.Counted.{link_itself, link_reversed}
 use Rattle.lists.specs.Lists.{joined_up}
-use Rattle.plane_model.specs.Points.{RationalPoint, Segment, Path, is_before, link_between, reversed}
+use Rattle.plane_model.specs.Points.{RationalPoint, Segment, Path, link_between}
 use Rattle.plane_model.specs.Arrangement.{IsArrangement, IsBefore}
 use Rattle.plane_model.specs.Boundary.{boundary_by, boundary_step}
 use Rattle.plane_model.specs.Drawing.{Drawing, steps_of_paths}
@@ -14,7 +16,6 @@ use Rattle.plane_model.specs.Parity.{is_below, links_of_paths, rings_hold, xor}
 use Rattle.plane_model.specs.Rings.{UsesOnce}
 use Rattle.plane_model.specs.Snapped.{links_of, snapped}
 use Rattle.plane_model.specs.SnappedRings.{HasClosedRings}
-use Rattle.plane_model.proofs.PointOrder.{before_to, is_before-IsStrictOrder}
 use Rattle.plane_faces.specs.Places.{Place, border, left_side, right_side}
 use Rattle.plane_faces.specs.UsedOnce.{border_steps}
 use Rattle.plane_faces.proofs.Connected.{border_parity}
@@ -24,25 +25,9 @@ use Rattle.plane_faces.proofs.Sorting.{rotations_exist}
 use Rattle.region_model.specs.Region.{Region, Has}
 use Rattle.region_model.specs.Answers.{AreSides}
 use Rattle.region_model.specs.Printed.{RegionsArePrinted}
-use Rattle.printed_laws.proofs.Tests.{arranged, distinct, test_agrees, test_of, test_tells}
+use Rattle.printed_laws.proofs.Tests.{test_agrees, test_of, test_tells}
 
 -- ---- the steps of a boundary are its links, each directed
-
-pub link_itself : (l : Segment) → IsBefore l.start l.stop → link_between l ≡ l
-link_itself l h = go (is_before l.start l.stop) (before_to l.start l.stop h)
-  where
-    go : (b : Bool) → b ≡ true → (if b then l else reversed l) ≡ l
-    go b e = rw e refl
-
-pub link_reversed : (l : Segment) → IsBefore l.start l.stop → link_between (reversed l) ≡ l
-link_reversed l h = go (is_before l.stop l.start) (not_back (is_before l.stop l.start) refl)
-  where
-    go : (b : Bool) → b ≡ false → (if b then reversed l else l) ≡ l
-    go b e = rw e refl
-
-    not_back : (b : Bool) → is_before l.stop l.start ≡ b → b ≡ false
-    not_back true e = absurd (is_before-IsStrictOrder.irreflexive l.start (is_before-IsStrictOrder.trans l.start l.stop l.start (before_to l.start l.stop h) e))
-    not_back false e = refl
 
 abbrev Ordered : Segment → Type 0
 Ordered l = IsBefore l.start l.stop
@@ -72,10 +57,10 @@ boundary_holds d closed arcs r left right sides rings uses z =
     let S : List Segment = links_of (snapped d) in
     let f : Place → Bool = test_of left right in
     let agrees = test_agrees d closed arcs r left right sides in
-    let (a, here) = place_exists S (arranged d) z in
+    let (a, here) = place_exists S (links_arranged d) z in
     let same : rings_hold z rings ≡ f a =
-    odd_count-permutation (is_below z) (links_of_paths rings) (border f S) (links_used S (arranged d) f rings uses)
-    ∙ border_parity S (arranged d) (distinct d) (rotations_exist S (arranged d) (distinct d)) f agrees refl z a here in
+    odd_count-permutation (is_below z) (links_of_paths rings) (border f S) (links_used S (links_arranged d) f rings uses)
+    ∙ border_parity S (links_arranged d) (links_distinct d) (rotations_exist S (links_arranged d) (links_distinct d)) f agrees refl z a here in
     let tells = test_tells d closed arcs r left right sides z a here in
     (λ e. tells.0 (sym same ∙ e), λ h. same ∙ tells.1 h)
 

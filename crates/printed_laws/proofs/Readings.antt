@@ -7,7 +7,7 @@ use Rattle.std.proofs.lemmas.Int.{ints}
 use Rattle.std.proofs.lemmas.List.{append-nil}
 use Rattle.std.proofs.lemmas.List.Elements.{All-cons, All-contains, All-contains_itself, All-head, All-nil, All-tail, All-weaker}
 use Rattle.std.proofs.lemmas.List.Sorted.{All-permutation, IsPermutation-sym}
-use Rattle.lists.proofs.Members.{Contains-flat_map, Contains-map, map-Contains}
+use Rattle.lists.proofs.Members.{Contains-flat_map, Contains-map, map-Contains, Contains-head, Contains-later}
 use Rattle.plane_model.specs.Points.{GridPoint, RationalPoint, Segment, Path, link_between, reversed, same_segment}
 use Rattle.plane_model.specs.Arrangement.{IsArrangement, IsBefore, IsDistinct}
 use Rattle.plane_model.specs.Boundary.{boundary_step}
@@ -27,7 +27,7 @@ use Rattle.plane_faces.specs.UsedOnce.{border_steps}
 use Rattle.plane_faces.proofs.Connected.{border_parity, connected, in_border, parity_agrees, parity_at_place}
 use Rattle.plane_faces.proofs.Crossing.{crossing_law}
 use Rattle.plane_faces.proofs.FaceLaws.{place_beside}
-use Rattle.plane_faces.proofs.Lists.{contains_head, contains_tail, count, count-permutation, count_append, count_none, find, odd_count-permutation, odd_of_none}
+use Rattle.plane_faces.proofs.Lists.{count, count-permutation, count_append, count_none, find, odd_count-permutation, odd_of_none}
 use Rattle.plane_faces.proofs.Order.{place_exists}
 use Rattle.plane_faces.proofs.Orientation.{dart_back, dart_on}
 use Rattle.plane_faces.proofs.Parts.{border_in}
@@ -39,9 +39,6 @@ use Rattle.printed_laws.proofs.RingTurn.{IsHeldLeft, across, dart_of_link, same_
 
 abbrev one : Bool → ℕ
 one b = cond b 1 0
-
-no_clash : (b : Bool) → b ≡ true → b ≡ false → ⊥
-no_clash b e f = let g : true ≡ false = sym e ∙ f in absurd (cc)
 
 -- inside the exterior and in no hole, from the balance
 by_left : (u i y : Bool) (t : ℕ) → ((y ≡ false) × (t ≡ 0)) ⊎ ((y ≡ true) × (1 ≤ t)) → one i ≡ t + one u → u ≡ i && not y
@@ -205,8 +202,8 @@ module _ (S : List Segment) (arr : IsArrangement S) (f : Place → Bool) where
   unfolding total
   total_same [] a b h = refl
   total_same (hole ∷ holes) a b h =
-      let first : one (inside hole a) ≡ one (inside hole b) = ap one (h hole (contains_head hole holes)) in
-      let rest = total_same holes a b (λ ring c. h ring (contains_tail hole holes ring c)) in
+      let first : one (inside hole a) ≡ one (inside hole b) = ap one (h hole (Contains-head hole holes)) in
+      let rest = total_same holes a b (λ ring c. h ring (Contains-later hole holes ring c)) in
       omega arith
 
   some_inside : (hs : List Path) (a : Place) → ((list_any (λ (hole : Path). inside hole a) hs ≡ false) × (total hs a ≡ 0)) ⊎ ((list_any (λ (hole : Path). inside hole a) hs ≡ true) × (1 ≤ total hs a))
@@ -228,13 +225,13 @@ module _ (S : List Segment) (arr : IsArrangement S) (f : Place → Bool) where
       ⊎ ((count (same_segment l) (links_of_runs holes) ≡ 1) × (total holes (left_side l) + one (f (left_side l)) ≡ total holes (right_side l) + one (f (right_side l))))
   unfolding total HasHoles count
   holes_over [] hs l c few = inl (refl, refl)
-  holes_over (hole ∷ holes) hs l c few = go (count (same_segment l) (links_of_path hole)) refl (holes_over holes (λ ring m. hs ring (contains_tail hole holes ring m)) l c (let s = sum in omega arith))
+  holes_over (hole ∷ holes) hs l c few = go (count (same_segment l) (links_of_path hole)) refl (holes_over holes (λ ring m. hs ring (Contains-later hole holes ring m)) l c (let s = sum in omega arith))
     where
       sum : count (same_segment l) (links_of_path hole ++ links_of_runs holes) ≡ count (same_segment l) (links_of_path hole) + count (same_segment l) (links_of_runs holes)
       sum = count_append (same_segment l) (links_of_path hole) (links_of_runs holes)
 
       own : (h : IsBounding hole) × (side hole h ≡ false)
-      own = hs hole (contains_head hole holes)
+      own = hs hole (Contains-head hole holes)
 
       turned : (i j u v : Bool) → i ≡ not u → j ≡ not v → one i + one u ≡ one j + one v
       turned i j u v e g = flat u i e ∙ sym (flat v j g)
@@ -407,10 +404,10 @@ module _ (S : List Segment) (arr : IsArrangement S) (f : Place → Bool) where
   readings distinct agrees none exterior holes uses simple left right z =
       let polygon : Polygon = exterior ∷ holes in
       let (a, here) = place_exists S arr z in
-      let outer : IsBounding exterior = bounding polygon uses simple exterior (contains_head exterior holes) (λ e. not_left (turn_at_least exterior) left e) in
+      let outer : IsBounding exterior = bounding polygon uses simple exterior (Contains-head exterior holes) (λ e. not_left (turn_at_least exterior) left e) in
       let hs : HasHoles holes = (λ ring c.
       (let turned = All-contains (λ (hole : Path). turn_at_least hole <ℤ pos 0) holes ring right c in
-      let h = bounding polygon uses simple ring (contains_tail exterior holes ring c) (λ e. not_right (turn_at_least ring) turned e) in
+      let h = bounding polygon uses simple ring (Contains-later exterior holes ring c) (λ e. not_right (turn_at_least ring) turned e) in
       (h, on_right_of_holes ring h turned))) in
       odd_count-permutation (is_below z) (links_of_paths polygon) (border f S) (links_used S arr f polygon uses)
       ∙ border_parity S arr distinct (rotations_exist S arr distinct) f agrees none z a here

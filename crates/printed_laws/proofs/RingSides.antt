@@ -2,13 +2,14 @@
 use Rattle.std.proofs.Common.{◌≡◌, ◌⊎◌, inl, inr, refl, sym, ap, subst, ◌∙◌, ℕ, Bool, true, false, not, cond, ◌&&◌, ◌||◌, List, [], ◌∷◌, Contains}
 use Rattle.std.proofs.lemmas.List.Elements.{All-contains}
 use Rattle.lists.specs.Lists.{last_of}
+use Rattle.lists.proofs.Members.{Contains-head, Contains-later, Contains-nil}
 use Rattle.plane_model.specs.Points.{GridPoint, Segment, Path}
 use Rattle.plane_model.specs.Rotation.{Dart, head, tail, precedes, is_passed}
 use Rattle.plane_faces.specs.Around.{opposite}
 use Rattle.plane_faces.specs.Places.{Place, left_of, AgreesWherePlacesMeet}
 use Rattle.plane_faces.proofs.Around.{precedes_not_itself}
 use Rattle.plane_faces.proofs.EvenRings.{between_head, between_tail}
-use Rattle.plane_faces.proofs.Lists.{contains_cases, contains_head, contains_none, contains_tail}
+use Rattle.plane_faces.proofs.Lists.{contains_cases}
 use Rattle.plane_faces.proofs.Runs.{AreDifferent, dart_between, darts_from}
 use Rattle.face_laws.proofs.DartLemmas.{twice_opposite}
 
@@ -20,28 +21,28 @@ tail_of_opposite e = go e.forward
     go false = refl
 
 last_in : (r : GridPoint) (rest : Path) → Contains (r ∷ rest) (last_of r rest)
-last_in r [] = contains_head r []
-last_in r (s ∷ rest) = contains_tail r (s ∷ rest) (last_of s rest) (last_in s rest)
+last_in r [] = Contains-head r []
+last_in r (s ∷ rest) = Contains-later r (s ∷ rest) (last_of s rest) (last_in s rest)
 
 pub heads : (p : GridPoint) (run : Path) (x : Dart) → Contains (darts_from p run) x → Contains run (head x)
-heads p [] x c = absurd (contains_none x c)
+heads p [] x c = absurd (Contains-nil x c)
 heads p (q ∷ run) x c = elim (contains_cases (dart_between p q) (darts_from q run) x c) [
-  | inl e ↦ subst (Contains (q ∷ run)) (sym (ap head e ∙ between_head p q)) (contains_head q run)
-  | inr k ↦ contains_tail q run (head x) (heads q run x k)
+  | inl e ↦ subst (Contains (q ∷ run)) (sym (ap head e ∙ between_head p q)) (Contains-head q run)
+  | inr k ↦ Contains-later q run (head x) (heads q run x k)
 ]
 
 tails : (p : GridPoint) (run : Path) (x : Dart) → Contains (darts_from p run) x → Contains (p ∷ run) (tail x)
-tails p [] x c = absurd (contains_none x c)
+tails p [] x c = absurd (Contains-nil x c)
 tails p (q ∷ run) x c = elim (contains_cases (dart_between p q) (darts_from q run) x c) [
-  | inl e ↦ subst (Contains (p ∷ q ∷ run)) (sym (ap tail e ∙ between_tail p q)) (contains_head p (q ∷ run))
-  | inr k ↦ contains_tail p (q ∷ run) (tail x) (tails q run x k)
+  | inl e ↦ subst (Contains (p ∷ q ∷ run)) (sym (ap tail e ∙ between_tail p q)) (Contains-head p (q ∷ run))
+  | inr k ↦ Contains-later p (q ∷ run) (tail x) (tails q run x k)
 ]
 
 differs : (q : GridPoint) (run : Path) → AreDifferent (q ∷ run) → (u : GridPoint) → Contains run u → u ≡ q → ⊥
 differs q run different u c = All-contains (λ (v : GridPoint). v ≡ q → ⊥) run u different.0 c
 
 one_arrival : (p : GridPoint) (run : Path) → AreDifferent run → (x y : Dart) → Contains (darts_from p run) x → Contains (darts_from p run) y → head x ≡ head y → x ≡ y
-one_arrival p [] different x y cx cy e = absurd (contains_none x cx)
+one_arrival p [] different x y cx cy e = absurd (Contains-nil x cx)
 one_arrival p (q ∷ run) different x y cx cy e = elim (contains_cases (dart_between p q) (darts_from q run) x cx) [
   | inl i ↦ elim (contains_cases (dart_between p q) (darts_from q run) y cy) [
     | inl j ↦ i ∙ sym j
@@ -103,25 +104,25 @@ module _ (T : List Segment) (label : Place → ℕ) (agrees : AgreesWherePlacesM
         (p ≡ c) ⊎ (Contains (q ∷ rest) p → ⊥) → Known p (q ∷ rest) → (x : Dart) → Contains (darts_from p (q ∷ rest)) x → label (left_of x) ≡ label (left_of (dart_between p q))
     along_ring p q [] within apart closes first known x k = elim (contains_cases (dart_between p q) [] x k) [
       | inl i ↦ ap (λ (d : Dart). label (left_of d)) i
-      | inr n ↦ absurd (contains_none x n)
+      | inr n ↦ absurd (Contains-nil x n)
     ]
     along_ring p q (r ∷ rest) within apart closes first known x k = elim (contains_cases (dart_between p q) (darts_from q (r ∷ rest)) x k) [
       | inl i ↦ ap (λ (d : Dart). label (left_of d)) i
-      | inr m ↦ along_ring q r rest (λ y h. within y (contains_tail (dart_between p q) (darts_from q (r ∷ rest)) y h)) apart.1 closes (inr (λ h. differs q (r ∷ rest) apart q h refl)) later x m
+      | inr m ↦ along_ring q r rest (λ y h. within y (Contains-later (dart_between p q) (darts_from q (r ∷ rest)) y h)) apart.1 closes (inr (λ h. differs q (r ∷ rest) apart q h refl)) later x m
           ∙ junction p q r (there (dart_between p q) in_d) (there (dart_between q r) in_e) only
     ]
       where
         in_d : Contains (darts_from c run) (dart_between p q)
-        in_d = within (dart_between p q) (contains_head (dart_between p q) (darts_from q (r ∷ rest)))
+        in_d = within (dart_between p q) (Contains-head (dart_between p q) (darts_from q (r ∷ rest)))
 
         in_e : Contains (darts_from c run) (dart_between q r)
-        in_e = within (dart_between q r) (contains_tail (dart_between p q) (darts_from q (r ∷ rest)) (dart_between q r) (contains_head (dart_between q r) (darts_from r rest)))
+        in_e = within (dart_between q r) (Contains-later (dart_between p q) (darts_from q (r ∷ rest)) (dart_between q r) (Contains-head (dart_between q r) (darts_from r rest)))
 
         not_end : q ≡ c → ⊥
         not_end e = differs q (r ∷ rest) apart (last_of r rest) (last_in r rest) (closes ∙ sym e)
 
         here : Contains (q ∷ r ∷ rest) q
-        here = contains_head q (r ∷ rest)
+        here = Contains-head q (r ∷ rest)
 
         leaves : (y : Dart) → Contains (darts_from c run) y → tail y ≡ q → y ≡ dart_between q r
         leaves y h e = elim (known y h) [
@@ -146,12 +147,12 @@ module _ (T : List Segment) (label : Place → ℕ) (agrees : AgreesWherePlacesM
           | inl i ↦ elim (contains_cases (dart_between p q) (darts_from q (r ∷ rest)) y i) [
             | inl j ↦ elim first [
               | inl f ↦ inr (inl (ap tail j ∙ between_tail p q ∙ f))
-              | inr f ↦ inr (inr (λ m. f (subst (Contains (q ∷ r ∷ rest)) (ap tail j ∙ between_tail p q) (contains_tail q (r ∷ rest) (tail y) m))))
+              | inr f ↦ inr (inr (λ m. f (subst (Contains (q ∷ r ∷ rest)) (ap tail j ∙ between_tail p q) (Contains-later q (r ∷ rest) (tail y) m))))
             ]
             | inr j ↦ inl j
           ]
           | inr (inl i) ↦ inr (inl i)
-          | inr (inr i) ↦ inr (inr (λ m. i (contains_tail q (r ∷ rest) (tail y) m)))
+          | inr (inr i) ↦ inr (inr (λ m. i (Contains-later q (r ∷ rest) (tail y) m)))
         ]
 
     -- all darts of the ring have the face of its first on their left

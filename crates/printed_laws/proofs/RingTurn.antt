@@ -9,6 +9,7 @@ use Rattle.std.proofs.lemmas.List.{append-nil}
 use Rattle.std.proofs.lemmas.List.Elements.{All-cons, All-contains, All-contains_itself, All-nil, All-weaker, Contains-append_right}
 use Rattle.std.proofs.lemmas.List.Sorted.{IsPermutation-refl}
 use Rattle.lists.specs.Lists.{last_of}
+use Rattle.lists.proofs.Members.{Contains-head, Contains-later, Contains-nil}
 use Rattle.plane_model.specs.Points.{GridPoint, Segment, Path, is_before, link_between, reversed, same_segment}
 use Rattle.plane_model.specs.Arrangement.{IsArrangement, IsDistinct}
 use Rattle.plane_model.specs.Boundary.{boundary_step}
@@ -18,6 +19,7 @@ use Rattle.plane_model.specs.Joined.{IsClosed}
 use Rattle.plane_model.specs.Parity.{odd_count, xor}
 use Rattle.plane_model.specs.Rings.{UsesOnce, turn_at_least}
 use Rattle.plane_model.specs.Rotation.{Dart, head}
+use Rattle.plane_model.proofs.PointOrder.{clash}
 use Rattle.plane_parity.proofs.Abscissa.{same_link-self, same_link-true}
 use Rattle.plane_parity.proofs.ClosedRun.{closed_run_even}
 use Rattle.plane_faces.specs.Around.{opposite}
@@ -31,7 +33,7 @@ use Rattle.plane_faces.proofs.FaceLaws.{one_face_at}
 use Rattle.plane_faces.proofs.Joining.{face_labelling, part_labelling}
 use Rattle.plane_faces.proofs.Corner.{sub_arrangement}
 use Rattle.plane_faces.proofs.Parts.{not_counted}
-use Rattle.plane_faces.proofs.Lists.{contains_cases, contains_head, contains_none, contains_tail}
+use Rattle.plane_faces.proofs.Lists.{contains_cases}
 use Rattle.plane_faces.proofs.Runs.{AreDifferent, dart_between, darts_from, links_from}
 use Rattle.plane_faces.proofs.UsedOnce.{parts_used_once_are_polygons}
 use Rattle.printed_laws.proofs.RingSides.{heads, one_left}
@@ -39,17 +41,17 @@ use Rattle.printed_laws.proofs.RingSides.{heads, one_left}
 -- ---- links and darts of a ring
 
 pub dart_of_link : (p : GridPoint) (run : Path) (l : Segment) → Contains (links_from p run) l → (x : Dart) × Contains (darts_from p run) x × (x.link ≡ l)
-dart_of_link p [] l c = absurd (contains_none l c)
+dart_of_link p [] l c = absurd (Contains-nil l c)
 dart_of_link p (q ∷ run) l c = elim (contains_cases (dart_between p q).link (links_from q run) l c) [
-  | inl e ↦ (dart_between p q, contains_head (dart_between p q) (darts_from q run), sym e)
-  | inr k ↦ (let (x, there, is) = dart_of_link q run l k in (x, contains_tail (dart_between p q) (darts_from q run) x there, is))
+  | inl e ↦ (dart_between p q, Contains-head (dart_between p q) (darts_from q run), sym e)
+  | inr k ↦ (let (x, there, is) = dart_of_link q run l k in (x, Contains-later (dart_between p q) (darts_from q run) x there, is))
 ]
 
 pub link_of_dart : (p : GridPoint) (run : Path) (x : Dart) → Contains (darts_from p run) x → Contains (links_from p run) x.link
-link_of_dart p [] x c = absurd (contains_none x c)
+link_of_dart p [] x c = absurd (Contains-nil x c)
 link_of_dart p (q ∷ run) x c = elim (contains_cases (dart_between p q) (darts_from q run) x c) [
-  | inl e ↦ subst (Contains (links_from p (q ∷ run))) (sym (ap (λ (d : Dart). d.link) e)) (contains_head (dart_between p q).link (links_from q run))
-  | inr k ↦ contains_tail (dart_between p q).link (links_from q run) x.link (link_of_dart q run x k)
+  | inl e ↦ subst (Contains (links_from p (q ∷ run))) (sym (ap (λ (d : Dart). d.link) e)) (Contains-head (dart_between p q).link (links_from q run))
+  | inr k ↦ Contains-later (dart_between p q).link (links_from q run) x.link (link_of_dart q run x k)
 ]
 
 pub same_or_opposite : (x y : Dart) → x.link ≡ y.link → (x ≡ y) ⊎ (x ≡ opposite y)
@@ -66,27 +68,24 @@ same_or_opposite x y e = go x.forward y.forward (λ g i. record { link = e i; fo
 abbrev pub IsHeldLeft : (Place → Bool) → List Dart → Type 0
 IsHeldLeft f darts = (x : Dart) → Contains darts x → (f (left_of x) ≡ true) × (f (left_of (opposite x)) ≡ false)
 
-no_clash : (b : Bool) → b ≡ true → b ≡ false → ⊥
-no_clash b e f = let g : true ≡ false = sym e ∙ f in absurd (cc)
-
 -- where each dart of a ring has a test on its left alone, no link stands in it twice
 pub links_differ : (f : Place → Bool) (p : GridPoint) (run : Path) → AreDifferent run → IsHeldLeft f (darts_from p run) → IsDistinct (links_from p run)
 links_differ f p [] different held = tt
-links_differ f p (q ∷ run) different held = (first, links_differ f q run different.1 (λ x c. held x (contains_tail (dart_between p q) (darts_from q run) x c)))
+links_differ f p (q ∷ run) different held = (first, links_differ f q run different.1 (λ x c. held x (Contains-later (dart_between p q) (darts_from q run) x c)))
   where
     apart : (l : Segment) → Contains (links_from q run) l → l ≡ (dart_between p q).link → ⊥
     apart l c e =
         let (x, there, is) = dart_of_link q run l c in
         elim (same_or_opposite x (dart_between p q) (is ∙ e)) [
           | inl i ↦ All-contains (λ (u : GridPoint). u ≡ q → ⊥) run (head x) different.0 (heads q run x there) (ap head i ∙ between_head p q)
-          | inr i ↦ no_clash (f (left_of x)) (held x (contains_tail (dart_between p q) (darts_from q run) x there)).0 (ap (λ (y : Dart). f (left_of y)) i ∙ (held (dart_between p q) (contains_head (dart_between p q) (darts_from q run))).1)
+          | inr i ↦ clash (f (left_of x)) (held x (Contains-later (dart_between p q) (darts_from q run) x there)).0 (ap (λ (y : Dart). f (left_of y)) i ∙ (held (dart_between p q) (Contains-head (dart_between p q) (darts_from q run))).1)
         ]
 
     first : All (λ l. l ≡ (dart_between p q).link → ⊥) (links_from q run)
     first = All-weaker (Contains (links_from q run)) (λ l. l ≡ (dart_between p q).link → ⊥) apart (links_from q run) (All-contains_itself (links_from q run))
 
 pub counted_once : (T : List Segment) → IsDistinct T → (l : Segment) → Contains T l → odd_count (same_segment l) T ≡ true
-counted_once [] distinct l c = absurd (contains_none l c)
+counted_once [] distinct l c = absurd (Contains-nil l c)
 counted_once (k ∷ ks) distinct l c = elim (contains_cases k ks l c) [
   | inl e ↦
       ap (λ (m : Segment). xor (same_segment l m) (odd_count (same_segment l) ks)) (sym e)
@@ -110,13 +109,13 @@ step_is f s = go (is_before s.start s.stop)
 steps_back : (f : Place → Bool) (p : GridPoint) (run : Path) → IsHeldLeft f (darts_from p run) → border_steps f (links_from p run) ≡ steps (p ∷ run)
 steps_back f p [] held = refl
 steps_back f p (q ∷ run) held =
-    let h = held (dart_between p q) (contains_head (dart_between p q) (darts_from q run)) in
+    let h = held (dart_between p q) (Contains-head (dart_between p q) (darts_from q run)) in
     let one = step_is f (record { start = p; stop = q }) h.0 h.1 in
-    let rest = steps_back f q run (λ x c. held x (contains_tail (dart_between p q) (darts_from q run) x c)) in
+    let rest = steps_back f q run (λ x c. held x (Contains-later (dart_between p q) (darts_from q run) x c)) in
     (λ i. cons_option (one i) (rest i))
 
 only_one : {X : Type 0} (before : List X) (x : X) (after : List X) (y : X) → y ∷ [] ≡ before ++ (x ∷ after) → x ≡ y
-only_one before x after y e = elim (contains_cases y [] x (subst (λ (xs : List _). Contains xs x) (sym e) (Contains-append_right before (x ∷ after) x (contains_head x after)))) [ inl i ↦ i | inr n ↦ absurd (contains_none x n) ]
+only_one before x after y e = elim (contains_cases y [] x (subst (λ (xs : List _). Contains xs x) (sym e) (Contains-append_right before (x ∷ after) x (Contains-head x after)))) [ inl i ↦ i | inr n ↦ absurd (Contains-nil x n) ]
 
 -- ---- a ring alone
 
@@ -157,7 +156,7 @@ module _ (S : List Segment) (arr : IsArrangement S) (f : Place → Bool) (c q : 
   first = dart_between c q
 
   in_first : Contains D (dart_between c q)
-  in_first = contains_head (dart_between c q) (darts_from q rest)
+  in_first = Contains-head (dart_between c q) (darts_from q rest)
 
   -- all darts of the ring have the same parity on their left
   pub same_left : (x : Dart) → Contains (darts_from c (q ∷ rest)) x → odd_at (links_from c (q ∷ rest)) (left_of x) ≡ odd_at (links_from c (q ∷ rest)) (left_of (dart_between c q))
@@ -207,12 +206,12 @@ module _ (S : List Segment) (arr : IsArrangement S) (f : Place → Bool) (c q : 
       of_it a e = eqb-true (label a) n (and_parts (F (label a)) (nat_eq (part (label a)) (part n)) e).0
 
       outer : F (label outside) ≡ false
-      outer = false_from_ne_true (F (label outside)) (λ e. no_clash (odd_at T outside) (odd_there outside tt (eqb-true (label outside) n e)) refl)
+      outer = false_from_ne_true (F (label outside)) (λ e. clash (odd_at T outside) (odd_there outside tt (eqb-true (label outside) n e)) refl)
 
       on_left : IsHeldLeft g (darts_from c (q ∷ rest))
       on_left x k = (
         ap (in_part F part (part n)) (one_face x k) ∙ in_it,
-        false_from_ne_true (g (left_of (opposite x))) (λ e. no_clash (odd_at T (left_of x)) (odd_there (left_of x) (link_of_dart c (q ∷ rest) x k) (one_face x k))
+        false_from_ne_true (g (left_of (opposite x))) (λ e. clash (odd_at T (left_of x)) (odd_there (left_of x) (link_of_dart c (q ∷ rest) x k) (one_face x k))
             (across x k ∙ ap not (odd_there (left_of (opposite x)) (link_of_dart c (q ∷ rest) x k) (of_it (left_of (opposite x)) e)))),
       )
 

@@ -1,13 +1,12 @@
 -- Right answers on the sides of links are a test of places, which tells the points of a region.
 use Rattle.std.proofs.Common.{◌≡◌, refl, sym, ◌∙◌, ℕ, Bool, true, false, cond, List, Contains}
 use Rattle.std.specs.Prelude.{◌↔◌}
+use Rattle.std.specs.Cmp.{both_ways}
 use Rattle.plane_model.specs.Points.{RationalPoint, Segment, Path, at}
-use Rattle.plane_model.specs.Arrangement.{IsArrangement, IsDistinct}
 use Rattle.plane_model.specs.Drawing.{Drawing}
 use Rattle.plane_model.specs.Snapped.{links_of, snapped}
 use Rattle.plane_model.specs.SnappedRings.{HasClosedRings}
 use Rattle.plane_parity.proofs.Visible.{seen_from_left, seen_from_right}
-use Rattle.plane_snapping.proofs.SnappedLinks.{snapped_links_are_an_arrangement}
 use Rattle.plane_faces.specs.Around.{opposite}
 use Rattle.plane_faces.specs.Labels.{IsFaceLabelling}
 use Rattle.plane_faces.specs.Places.{Place, outside, left_of, AgreesWherePlacesMeet, IsBeside, IsPlaceOf, left_side, right_side}
@@ -20,24 +19,14 @@ use Rattle.plane_faces.proofs.Sorting.{rotations_exist}
 use Rattle.region_model.specs.Region.{Region, Has}
 use Rattle.region_model.specs.Answers.{AreSides}
 use Rattle.region_laws.proofs.FarLeft.{exists_far_left, left_is_outside}
+use Rattle.region_laws.proofs.Walked.{links_arranged, links_distinct}
 use Rattle.printed_laws.proofs.Constant.{has_face}
 use Rattle.printed_laws.proofs.Outside.{not_outside}
-
-pub one_value : (a b : Bool) → (a ≡ true → b ≡ true) → (b ≡ true → a ≡ true) → a ≡ b
-one_value true b to from = sym (to refl)
-one_value false true to from = from refl
-one_value false false to from = refl
 
 -- the answers of the sides, at places
 abbrev pub test_of : (Segment → Bool) → (Segment → Bool) → Place → Bool
 test_of left right outside = false
 test_of left right (left_of e) = cond e.forward (left e.link) (right e.link)
-
-pub arranged : (d : Drawing) → IsArrangement (links_of (snapped d))
-arranged d = (snapped_links_are_an_arrangement d).0
-
-pub distinct : (d : Drawing) → IsDistinct (links_of (snapped d))
-distinct d = (snapped_links_are_an_arrangement d).1
 
 module _ (d : Drawing) (closed : HasClosedRings d) (arcs : List Path) (r : Region) (left right : Segment → Bool) (sides : AreSides (links_of (snapped d)) (Has (snapped d) arcs r) left right) where
   abbrev S : List Segment
@@ -47,14 +36,14 @@ module _ (d : Drawing) (closed : HasClosedRings d) (arcs : List Path) (r : Regio
   held z = Has (snapped d) arcs r z
 
   label : Place → ℕ
-  label = (face_labelling S (arranged d) (distinct d)).0
+  label = (face_labelling S (links_arranged d) (links_distinct d)).0
 
   labelling : IsFaceLabelling (links_of (snapped d)) label
   unfolding label
-  labelling = (face_labelling S (arranged d) (distinct d)).1
+  labelling = (face_labelling S (links_arranged d) (links_distinct d)).1
 
   one_has : (u v : RationalPoint) (a b : Place) → IsPlaceOf S u a → IsPlaceOf S v b → label a ≡ label b → held u → held v
-  one_has u v a b at_u at_v e h = has_face d closed arcs r u v ((labels_are_faces S (arranged d) (distinct d) label labelling u v a b at_u at_v).0 e) h
+  one_has u v a b at_u at_v e h = has_face d closed arcs r u v ((labels_are_faces S (links_arranged d) (links_distinct d) label labelling u v a b at_u at_v).0 e) h
 
   -- a point of the face of a place, which the region has just if the test is passed
   record IsTold (a : Place) : Type 0 where
@@ -66,10 +55,10 @@ module _ (d : Drawing) (closed : HasClosedRings d) (arcs : List Path) (r : Regio
 
   told_left : (l : Segment) → Contains S l → IsTold (left_side l)
   told_left l c =
-      let (z, sees) = seen_from_left S (arranged d) l c in
-      let (a, at_z) = place_exists S (arranged d) z in
-      let rotations = rotations_exist S (arranged d) (distinct d) in
-      let e = label_from_left S (arranged d) (distinct d) rotations label labelling.agrees l c z sees a at_z in
+      let (z, sees) = seen_from_left S (links_arranged d) l c in
+      let (a, at_z) = place_exists S (links_arranged d) z in
+      let rotations = rotations_exist S (links_arranged d) (links_distinct d) in
+      let e = label_from_left S (links_arranged d) (links_distinct d) rotations label labelling.agrees l c z sees a at_z in
       record {
         point = z;
         place = a;
@@ -78,18 +67,18 @@ module _ (d : Drawing) (closed : HasClosedRings d) (arcs : List Path) (r : Regio
         told = (
           λ yes.
               (let (w, w_sees, has) = (sides.left_side l c).0 yes in
-              let (b, at_w) = place_exists S (arranged d) w in
-              one_has w z b a at_w at_z (label_from_left S (arranged d) (distinct d) rotations label labelling.agrees l c w w_sees b at_w ∙ sym e) has),
+              let (b, at_w) = place_exists S (links_arranged d) w in
+              one_has w z b a at_w at_z (label_from_left S (links_arranged d) (links_distinct d) rotations label labelling.agrees l c w w_sees b at_w ∙ sym e) has),
           λ has. (sides.left_side l c).1 (z, sees, has),
         );
       }
 
   told_right : (l : Segment) → Contains S l → IsTold (right_side l)
   told_right l c =
-      let (z, sees) = seen_from_right S (arranged d) l c in
-      let (a, at_z) = place_exists S (arranged d) z in
-      let rotations = rotations_exist S (arranged d) (distinct d) in
-      let e = label_from_right S (arranged d) (distinct d) rotations label labelling.agrees l c z sees a at_z in
+      let (z, sees) = seen_from_right S (links_arranged d) l c in
+      let (a, at_z) = place_exists S (links_arranged d) z in
+      let rotations = rotations_exist S (links_arranged d) (links_distinct d) in
+      let e = label_from_right S (links_arranged d) (links_distinct d) rotations label labelling.agrees l c z sees a at_z in
       record {
         point = z;
         place = a;
@@ -98,15 +87,15 @@ module _ (d : Drawing) (closed : HasClosedRings d) (arcs : List Path) (r : Regio
         told = (
           λ yes.
               (let (w, w_sees, has) = (sides.right_side l c).0 yes in
-              let (b, at_w) = place_exists S (arranged d) w in
-              one_has w z b a at_w at_z (label_from_right S (arranged d) (distinct d) rotations label labelling.agrees l c w w_sees b at_w ∙ sym e) has),
+              let (b, at_w) = place_exists S (links_arranged d) w in
+              one_has w z b a at_w at_z (label_from_right S (links_arranged d) (links_distinct d) rotations label labelling.agrees l c w w_sees b at_w ∙ sym e) has),
           λ has. (sides.right_side l c).1 (z, sees, has),
         );
       }
 
   told_outside : IsTold outside
   told_outside =
-      let (z, off, far) = exists_far_left S (arranged d) in
+      let (z, off, far) = exists_far_left S (links_arranged d) in
       let at_z : IsPlaceOf S z outside = left_is_outside S z far in
       record {
         point = z;
@@ -128,7 +117,7 @@ module _ (d : Drawing) (closed : HasClosedRings d) (arcs : List Path) (r : Regio
   one_test a b beside_a beside_b e =
       let at_a = told_at a beside_a in
       let at_b = told_at b beside_b in
-      one_value (test_of left right a) (test_of left right b)
+      both_ways (test_of left right a) (test_of left right b)
       (λ yes. at_b.told.1 (one_has at_a.point at_b.point at_a.place at_b.place at_a.here at_b.here (at_a.same ∙ e ∙ sym at_b.same) (at_a.told.0 yes)))
       (λ yes. at_a.told.1 (one_has at_b.point at_a.point at_b.place at_a.place at_b.here at_a.here (at_b.same ∙ sym e ∙ sym at_a.same) (at_b.told.0 yes)))
 
