@@ -1,9 +1,10 @@
 -- Counts that rose, seen from further back.
-use Rattle.std.proofs.Common.{ℕ, Bool, true, false, List, [], ◌∷◌, Option, Some, None, MatchBool, sym, ◌∙◌, arith, subst}
+use Rattle.std.proofs.Common.{ℕ, Bool, true, false, List, [], ◌∷◌, Option, Some, None, MatchBool, sym, ◌∙◌, subst}
 use Rattle.io_core.specs.Contents.{Content, FileMap, SameFiles}
-use Rattle.io_core.specs.Counts.{Rose, NeverFell}
+use Rattle.io_core.specs.Counts.{Rose}
 use Rattle.io_core.specs.Whole.{MissesName}
 use Rattle.io_core.proofs.Reading.{NeverFell-refl}
+use Rattle.io_core.proofs.FileReading.{Rose-earlier}
 use Rattle.job_terms.specs.declared.job.Action.{Action}
 use Rattle.job_terms.specs.declared.job.Action.TheVariants as action
 use Rattle.job_terms.specs.declared.job.SourceWord.{SourceWord}
@@ -14,9 +15,6 @@ use Rattle.run_sources.specs.Sources.{SourcesSeen, Grew, SourcesGive}
 use Rattle.run_sources.specs.Sources as sources
 use Rattle.run_sources.proofs.Growing.{grew_same, grew_on}
 use Rattle.run_chain.specs.Effects.{OutsideSeen, CountsGrew, WriteRose}
-
-pub rose_before : (b m x : ℕ) → NeverFell b m → Rose m x → Rose b x
-rose_before b m x n r = omega (arith, n.later, r)
 
 -- ## Sources
 
@@ -36,8 +34,8 @@ source_rose seen middle after s grew rose = go s.standard rose
   where
     go : (b : Bool) → MatchBool b (Rose middle.input_faults after.input_faults) (Rose (middle.file_faults s.name) (after.file_faults s.name))
         → MatchBool b (Rose seen.input_faults after.input_faults) (Rose (seen.file_faults s.name) (after.file_faults s.name))
-    go true r = rose_before seen.input_faults middle.input_faults after.input_faults grew.input_faults r
-    go false r = rose_before (seen.file_faults s.name) (middle.file_faults s.name) (after.file_faults s.name) (grew.file_faults s.name) r
+    go true r = Rose-earlier seen.input_faults middle.input_faults after.input_faults grew.input_faults r
+    go false r = Rose-earlier (seen.file_faults s.name) (middle.file_faults s.name) (after.file_faults s.name) (grew.file_faults s.name) r
 
 misses_name : (a b : Option FileMap) (name : Content) (P Q : Type 0) → SameFiles a b → (P → Q) → MissesName b name P → MissesName a name Q
 misses_name None None name P Q s f p = f p
@@ -51,7 +49,7 @@ source_missing seen middle after s grew missing = go s.standard missing
     go : (b : Bool) → MatchBool b ⊥ (MissesName middle.files s.name (Rose (middle.file_faults s.name) (after.file_faults s.name)))
         → MatchBool b ⊥ (MissesName seen.files s.name (Rose (seen.file_faults s.name) (after.file_faults s.name)))
     go true r = r
-    go false r = misses_name seen.files middle.files s.name (Rose (middle.file_faults s.name) (after.file_faults s.name)) (Rose (seen.file_faults s.name) (after.file_faults s.name)) grew.files (rose_before (seen.file_faults s.name) (middle.file_faults s.name) (after.file_faults s.name) (grew.file_faults s.name)) r
+    go false r = misses_name seen.files middle.files s.name (Rose (middle.file_faults s.name) (after.file_faults s.name)) (Rose (seen.file_faults s.name) (after.file_faults s.name)) grew.files (Rose-earlier (seen.file_faults s.name) (middle.file_faults s.name) (after.file_faults s.name) (grew.file_faults s.name)) r
 
 -- ## Outputs
 
@@ -65,8 +63,8 @@ ActionRose before after (action.Each a) = ⊥
 ActionRose before after (action.Together a) = ⊥
 
 write_rose : (standard : Bool) (name : Content) (before middle after : OutsideSeen) → CountsGrew before middle → WriteRose standard name middle after → WriteRose standard name before after
-write_rose true name before middle after grew r = rose_before before.stream_faults middle.stream_faults after.stream_faults grew.stream r
-write_rose false name before middle after grew r = rose_before (before.file_faults name) (middle.file_faults name) (after.file_faults name) (grew.files name) r
+write_rose true name before middle after grew r = Rose-earlier before.stream_faults middle.stream_faults after.stream_faults grew.stream r
+write_rose false name before middle after grew r = Rose-earlier (before.file_faults name) (middle.file_faults name) (after.file_faults name) (grew.files name) r
 
 pub action_rose : (a : Action) (before middle after : OutsideSeen) → CountsGrew before middle → ActionRose middle after a → ActionRose before after a
 action_rose (action.Write to standard form) before middle after grew r = write_rose standard to before middle after grew r

@@ -5,6 +5,7 @@ use Rattle.std.proofs.lemmas.Bool.{cases_lt}
 use Rattle.std.proofs.lemmas.List.{length-append}
 use Rattle.std.proofs.lemmas.List.Elements.{All-cons, All-nil}
 use Rattle.std.proofs.lemmas.List.Sums.{sum_by-append, sum_by-cons}
+use Rattle.part_laws.proofs.PolygonLaws.{once_most}
 use Rattle.plane_model.specs.Points.{GridPoint, same_point}
 use Rattle.plane_model.specs.Arcs.{SignedArc}
 use Rattle.plane_model.proofs.PointOrder.{same_point_from, same_point_to}
@@ -51,11 +52,7 @@ found test (x ∷ xs) some = go (test x) refl (found test xs)
         let h = more (omega arith) in
         record { before = x ∷ h.before; one = h.one; behind = h.behind; are = ap (λ (ys : List SignedArc). x ∷ ys) h.are; passes = h.passes }
 
-once_small : (b : Bool) → once_if b ≤ 1
-once_small true = omega arith
-once_small false = omega arith
-
-over : (a : SignedArc) (xs ys : List SignedArc) → times a (xs ++ ys) ≡ times a xs + times a ys
+pub over : (a : SignedArc) (xs ys : List SignedArc) → times a (xs ++ ys) ≡ times a xs + times a ys
 over a xs ys = sum_by-append (λ (y : SignedArc). cond (same_arc a y) 1 0) xs ys
 
 -- ---- rings
@@ -227,7 +224,7 @@ module _ (start stop : SignedArc → GridPoint) where
   one_ring : (a : SignedArc) (arcs : List SignedArc) → AreEven (a ∷ arcs) → Ringed (a ∷ arcs)
   one_ring a arcs even = walked (length arcs) (a ∷ arcs) a [] arcs (stop a) (omega arith) (record {
     leads = (refl, refl);
-    once = λ x. let m = sum_by-cons (λ (b : SignedArc). once_if (same_point x (start b))) a [] in let s = once_small (same_point x (start a)) in omega arith;
+    once = λ x. let m = sum_by-cons (λ (b : SignedArc). once_if (same_point x (start b))) a [] in let s = once_most (same_point x (start a)) in omega arith;
     same = λ b. sym (over b (a ∷ []) arcs);
     even = λ x. let s = starts_over x (a ∷ []) arcs in let t = stops_over x (a ∷ []) arcs in let e = even x in omega arith;
     size = omega arith;

@@ -4,8 +4,9 @@ use Rattle.std.specs.List.{enumerate_from, list_any}
 use Rattle.std.proofs.lemmas.Bool.{or_parts, or_from}
 use Rattle.std.proofs.lemmas.List.{append-nil}
 use Rattle.std.proofs.lemmas.List.Folds.{list_any-append}
+use Rattle.word_laws.proofs.Tests.{first_is_none, second_is_none, refused_none}
 use Rattle.table_terms.specs.Names.{Text}
-use Rattle.table_terms.specs.Refusals.{on_ok, first_refusal}
+use Rattle.table_terms.specs.Refusals.{on_ok}
 use Rattle.cmd_words.specs.declared.fault.WordWhy.{WordWhy}
 use Rattle.cmd_words.specs.declared.fault.WordWhy.TheVariants as why
 use Rattle.job_terms.specs.declared.job.Owner.TheVariants as owner
@@ -44,24 +45,12 @@ record ReadsOnce (taken : Bool) (form : ArgumentForm) (said : Said) : Type 0 whe
   one : HasAtMostOne (is_standard_item form) said
   none : taken ≡ true → list_any (is_standard_item form) said ≡ false
 
-first_none : (a b : Option WordWhy) → first_refusal a b ≡ None → a ≡ None
-first_none None b e = refl
-first_none (Some w) b e = e
-
-second_none : (a b : Option WordWhy) → first_refusal a b ≡ None → b ≡ None
-second_none None b e = e
-second_none (Some w) b e = absurd (cc)
-
-not_refused : (b : Bool) (w : WordWhy) → refused_if b w ≡ None → b ≡ false
-not_refused true w e = absurd (cc)
-not_refused false w e = refl
-
 module _ (refuses : Refusals) (places : ℕ) (taken : Bool) (l : Line) where
   -- an argument that is not refused reads it only as the first
   argument_free : (before : Said) (s : Text) → refused_argument refuses taken l.argument before s ≡ None → (reads_standard l.argument s && (taken || list_any (is_standard_item l.argument) before)) ≡ false
-  argument_free before s e = not_refused (reads_standard l.argument s && (taken || list_any (is_standard_item l.argument) before)) why.ExtraWord
-      (first_none (refused_if (reads_standard l.argument s && (taken || list_any (is_standard_item l.argument) before)) why.ExtraWord) (refused_text refuses l.argument s)
-      (second_none (refused_if (not (has_room l.argument before)) why.ExtraWord) _ (second_none _ _ e)))
+  argument_free before s e = refused_none (reads_standard l.argument s && (taken || list_any (is_standard_item l.argument) before)) why.ExtraWord
+      (first_is_none (refused_if (reads_standard l.argument s && (taken || list_any (is_standard_item l.argument) before)) why.ExtraWord) (refused_text refuses l.argument s)
+      (second_is_none (refused_if (not (has_room l.argument before)) why.ExtraWord) _ (second_is_none _ _ e)))
 
   item_free : (before : Said) (i : Item) → refused_item refuses places taken l before i ≡ None → (is_standard_item l.argument i && (taken || list_any (is_standard_item l.argument) before)) ≡ false
   item_free before (argument s) e = argument_free before s e

@@ -1,17 +1,17 @@
 -- Rings of one polygon, each begun with its least arc, in order.
-use Rattle.std.proofs.Common.{◌≡◌, ◌⊎◌, inl, inr, refl, sym, ap, ◌∙◌, subst, arith, suc, ◌+◌, ◌<◌, ◌≤◌, Bool, true, false, cond, List, [], ◌∷◌, ◌++◌, length, get_or, All, AllPairs, Contains}
+use Rattle.std.proofs.Common.{◌≡◌, ◌⊎◌, inl, inr, refl, sym, ap, ◌∙◌, subst, arith, suc, ◌+◌, ◌<◌, ◌≤◌, Bool, true, false, List, [], ◌∷◌, ◌++◌, length, get_or, All, AllPairs, Contains}
 use Rattle.std.proofs.lemmas.Bool.{cases_lt}
 use Rattle.std.proofs.lemmas.List.Elements.{All-append, All-cons, All-contains, All-head, All-nil, All-tail, All-weaker, Contains-get_or}
 use Rattle.std.proofs.lemmas.List.Kept.{AllPairs-cons}
-use Rattle.std.proofs.lemmas.List.Sums.{sum_by-append, sum_by-cons}
+use Rattle.std.proofs.lemmas.List.Sums.{sum_by-cons}
 use Rattle.lists.proofs.Members.{Contains-cases, Contains-head, Contains-later, Contains-nil}
 use Rattle.plane_model.specs.Points.{GridPoint, Path}
 use Rattle.plane_model.specs.Arcs.{SignedArc}
-use Rattle.ring_trace.specs.Traced.{BeginsWithLeast, same_arc, times, times_round}
+use Rattle.ring_trace.specs.Traced.{BeginsWithLeast, times, times_round}
 use Rattle.ring_trace.specs.Turns.{MayStandBefore, first_number, is_left}
 use Rattle.ring_trace.specs.Ways.{IsSimpleRing}
 use Rattle.ring_trace.proofs.TurnLemmas.{turned_ring}
-use Rattle.headline_laws.proofs.Cycles.{AreEven, rings_exist}
+use Rattle.headline_laws.proofs.Cycles.{AreEven, rings_exist, over}
 
 -- ---- the least arc of a ring
 
@@ -47,9 +47,6 @@ least_at a (b ∷ ring) =
 all_split : {X : Type 0} (P : X → Type 0) (xs ys : List X) → All P (xs ++ ys) → All P xs × All P ys
 all_split P [] ys h = (All-nil P, h)
 all_split P (x ∷ xs) ys h = let (a, b) = all_split P xs ys (All-tail P x (xs ++ ys) h) in (All-cons P x xs (All-head P x (xs ++ ys) h) a, b)
-
-over : (a : SignedArc) (xs ys : List SignedArc) → times a (xs ++ ys) ≡ times a xs + times a ys
-over a xs ys = sum_by-append (λ (y : SignedArc). cond (same_arc a y) 1 0) xs ys
 
 -- ---- rings begun there
 

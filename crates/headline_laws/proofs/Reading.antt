@@ -4,6 +4,7 @@ use Rattle.std.proofs.Math.Path.{fun_ext}
 use Rattle.std.specs.Prelude.{⊤, nat_lt, sum_by}
 use Rattle.std.specs.List.{list_any}
 use Rattle.std.proofs.lemmas.Bool.{lt-ltb, le-ltb, or_parts}
+use Rattle.std.proofs.lemmas.Option.{MatchOption-at_some}
 use Rattle.io_core.specs.Contents.{Content, FileMap, SameFiles}
 use Rattle.io_core.specs.Whole.{AtName, MissesName}
 use Rattle.io_core.specs.Counts.{Rose}
@@ -94,10 +95,6 @@ module _ (files : FileMap) (input : Content) where
     there : bytes_of files input s ≡ Some bytes
     holds : fact bytes
 
-  in_input : (told : Option Content) (fact : Content → Type 0) → told ≡ Some input → MatchOption told ⊤ fact → fact input
-  in_input None fact e h = absurd (cc)
-  in_input (Some c) fact e h = let same : c ≡ input = cc in subst fact same h
-
   in_files : (told : Option FileMap) (name : Content) (fact : Content → Type 0) → MatchOption told ⊥ (λ (held : FileMap). (name : Content) → held name ≡ files name) → AtName told name ⊥ fact → (bytes : Content) × (files name ≡ Some bytes) × fact bytes
   in_files None name fact same h = absurd same
   in_files (Some held) name fact same h = go (held name) refl h
@@ -122,7 +119,7 @@ module _ (files : FileMap) (input : Content) where
   found s ss seen fact held given at = go s.standard refl at
     where
       go : (b : Bool) → s.standard ≡ b → MatchBool b (MatchOption seen.input ⊤ fact) (AtName seen.files s.name ⊥ fact) → Found s fact
-      go true e h = record { bytes = input; there = ap (λ (b : Bool). cond b (Some input) (files s.name)) e; holds = in_input seen.input fact (input_told s ss seen.input e given) h }
+      go true e h = record { bytes = input; there = ap (λ (b : Bool). cond b (Some input) (files s.name)) e; holds = MatchOption-at_some ⊤ fact input (input_told s ss seen.input e given) h }
       go false e h =
           let f = in_files seen.files s.name fact (files_told s ss seen.files e held) h in
           record { bytes = f.0; there = ap (λ (b : Bool). cond b (Some input) (files s.name)) e ∙ f.1; holds = f.2 }
@@ -189,18 +186,7 @@ module _ (files : FileMap) (input : Content) where
         ∙ ap (λ (k : ℕ). on_ok (imported read places files input (before + k) (room_behind room layers) (n + 1) ss) (λ (more : List (List LayerContent)). Ok (layers ∷ more))) size
         ∙ ap (λ (r : Imported). on_ok r (λ (more : List (List LayerContent)). Ok (layers ∷ more))) others
 
-    pub all_accepted : (ss : List SourceWord) (budget left : Budget) (seen after : SourcesSeen) (all : List (List LayerContent)) (before : ℕ) (room : Room) (n : ℕ) → Fits budget before room → FilesFit ss seen.files → InputFits ss seen.input → SourcesGive places ss budget seen left after all
-        → imported read places files input before room n ss ≡ Ok all
-    all_accepted [] budget left seen after [] before room n fits held given g = refl
-    all_accepted [] budget left seen after (layers ∷ more) before room n fits held given g = absurd g
-    all_accepted (s ∷ ss) budget left seen after [] before room n fits held given g = absurd g
-    all_accepted (s ∷ ss) budget left seen after (layers ∷ more) before room n fits held given g =
-        let one = one_accepted s ss budget g.0 seen g.1 layers before room n fits held given g.2 in
-        goes_on s ss layers before (length (g.2).bytes) room n (Ok more) one.0 one.1
-        (all_accepted ss g.0 left g.1 after more (before + length (g.2).bytes) (room_behind room layers) (n + 1) (fits_on budget g.0 before (length (g.2).bytes) room layers fits (g.2).within (g.2).left_behind)
-        (files_on s ss seen.files (g.1).files held (g.3).files) (input_on s ss seen g.1 given (g.2).leaves) g.4)
-
-    -- so do the first of them
+    -- where the first of the sources gave layers, they are imported
     pub first_accepted : (ss : List SourceWord) (k : ℕ) (budget left : Budget) (seen after : SourcesSeen) (all : List (List LayerContent)) (before : ℕ) (room : Room) (n : ℕ) → Fits budget before room → FilesFit ss seen.files → InputFits ss seen.input → SourcesGive places (take k ss) budget seen left after all
         → imported read places files input before room n (take k ss) ≡ Ok all
     first_accepted [] zero budget left seen after [] before room n fits held given g = refl

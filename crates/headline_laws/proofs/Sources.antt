@@ -1,16 +1,17 @@
 -- What is read of the sources of words is what the model imports.
-use Rattle.std.proofs.Common.{◌≡◌, inl, inr, ◌+◌, Bool, true, false, not, cond, Option, Some, None, refl, ap, [], arith}
+use Rattle.std.proofs.Common.{◌≡◌, inl, inr, ◌+◌, Bool, true, false, not, cond, Option, Some, None, refl, sym, ap, subst, ◌∙◌, List, [], length, take, take_all, arith}
 use Rattle.std.specs.List.{list_any}
 use Rattle.io_core.specs.Contents.{Content, FileMap}
 use Rattle.cmd_words.specs.Words.{JobWords, Reading}
 use Rattle.job_terms.specs.declared.job.SourceWord.{SourceWord}
 use Rattle.run_sources.specs.Budget.{whole_budget}
+use Rattle.run_sources.specs.Sources.{GivesAll}
 use Rattle.word_model.specs.Words.{standard_among}
 use Rattle.chain_model.specs.Headline.{needed_files, needed_input, sources_of}
-use Rattle.chain_model.specs.Sources.{whole_room}
+use Rattle.chain_model.specs.Sources.{imported, whole_room}
 use Rattle.headline_laws.specs.ToldSources.{IsReadOnce}
 use Rattle.headline_laws.specs.Imported.{AcceptedSourcesAreImported, FirstSourcesAreImported, RefusedSourcesAreRefused}
-use Rattle.headline_laws.proofs.Reading.{FilesFit, InputFits, fits_whole, all_accepted, first_accepted, first_refused}
+use Rattle.headline_laws.proofs.Reading.{FilesFit, InputFits, fits_whole, first_accepted, first_refused}
 
 files_fit : (words : Reading JobWords) (told : Option FileMap) (files : FileMap) (input : Content) → needed_files words told ≡ Some files → FilesFit files input (sources_of words) told
 files_fit words (Some held) files input e = inr (λ name. ap (λ (f : FileMap). f name) (let same : held ≡ files = cc in same))
@@ -31,13 +32,16 @@ input_fits words None files input once e = go (standard_among (sources_of words)
     go true e f = absurd (cc)
     go false e f = inl e
 
-pub accepted_sources : AcceptedSourcesAreImported
-accepted_sources read right words once places seen seen' files bytes told layers given =
-    all_accepted files bytes read right places (sources_of words) whole_budget given.0 seen seen' layers 0 whole_room 1 fits_whole (files_fit words seen.files files bytes told.of_files) (input_fits words seen.input files bytes once told.of_input) given.1
-
 pub first_sources : FirstSourcesAreImported
 first_sources read right words once places seen seen' files bytes told k layers given =
     first_accepted files bytes read right places (sources_of words) k whole_budget given.0 seen seen' layers 0 whole_room 1 fits_whole (files_fit words seen.files files bytes told.of_files) (input_fits words seen.input files bytes once told.of_input) given.1
+
+-- all of them are the first of them, as many as there are
+pub accepted_sources : AcceptedSourcesAreImported
+accepted_sources read right words once places seen seen' files bytes told layers given =
+    let all : take (length (sources_of words)) (sources_of words) ≡ sources_of words = take_all (length (sources_of words)) (sources_of words) (omega arith) in
+    ap (imported read places files bytes 0 whole_room 1) (sym all)
+    ∙ first_sources read right words once places seen seen' files bytes told (length (sources_of words)) layers (subst (λ (ss : List SourceWord). GivesAll places ss seen seen' layers) (sym all) given)
 
 pub refused_sources : RefusedSourcesAreRefused
 refused_sources read right words once places seen seen' files bytes told fault mine s =

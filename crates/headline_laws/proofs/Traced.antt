@@ -1,8 +1,7 @@
 -- What is traced for a set of faces fits the region that the set follows, drawn as points.
-use Rattle.std.proofs.Common.{◌≡◌, refl, sym, ap, ◌∙◌, subst, arith, ℕ, zero, suc, ◌<◌, ◌≤◌, Bool, true, false, ◌&&◌, nat_eq, nat_lt, List, [], ◌∷◌, map, length, get_or, All, AllPairs}
-use Rattle.std.specs.List.{sum_by}
+use Rattle.std.proofs.Common.{◌≡◌, refl, sym, ap, ◌∙◌, subst, arith, ℕ, ◌<◌, ◌≤◌, true, ◌&&◌, nat_eq, nat_lt, List, [], ◌∷◌, map, length, get_or, All, AllPairs}
 use Rattle.std.proofs.lemmas.Bool.{and_parts, eq-eqb, ltb-true}
-use Rattle.std.proofs.lemmas.List.Sums.{sum_by-cons}
+use Rattle.std.proofs.lemmas.List.Sums.{get_or-le-sum_by}
 use Rattle.std.proofs.lemmas.List.Elements.{All-head, All-tail, All-weaker}
 use Rattle.lists.specs.Lists.{has}
 use Rattle.plane_model.specs.Points.{Path, Segment}
@@ -21,6 +20,8 @@ use Rattle.ring_trace.specs.Traced.{BeginsWithLeast, HasPolygonsOfParts, UsesBou
 use Rattle.ring_trace.specs.Turns.{MayStandBefore, round_of}
 use Rattle.ring_trace.specs.Ways.{IsSimpleRing}
 use Rattle.part_laws.specs.Parts.{AreTraced}
+use Rattle.part_laws.proofs.PolygonLaws.{used_true}
+use Rattle.part_laws.proofs.TracedLaws.{some_arc}
 use Rattle.region_model.specs.Region.{Region, part}
 use Rattle.region_model.specs.Answers.{Answers, AreRight}
 use Rattle.region_model.specs.Printed.{Fits}
@@ -37,31 +38,18 @@ use Rattle.headline_laws.proofs.Named.{arcs_named}
 
 -- ---- the arcs of rings are there
 
-one_summed : {X : Type 0} (f : X → ℕ) (xs : List X) (i : ℕ) (d : X) → i < length xs → f (get_or xs i d) ≤ sum_by f xs
-one_summed f [] i d l = absurd (omega arith)
-one_summed f (x ∷ xs) zero d l = let m = sum_by-cons f x xs in omega arith
-one_summed f (x ∷ xs) (suc i) d l = let m = sum_by-cons f x xs in let h = one_summed f xs i d (omega arith) in omega arith
-
-once_told : (b : Bool) → 1 ≤ once_if b → b ≡ true
-once_told true l = refl
-once_told false l = absurd (let e : 1 ≤ 0 = l in omega (arith, e))
-
 all_there : (places : List ℕ) (many : ℕ) (set : List ℕ) (polygons : List (List (List SignedArc))) → UsesBoundary places many set polygons → All (All (All (λ a. a.arc < many))) polygons
 all_there places many set polygons h k d l j e m i f n =
     let polygon = get_or polygons k d in
     let ring = get_or polygon j e in
     let a = get_or ring i f in
     let itself : once_if (same_arc a a) ≡ 1 = ap once_if (eq-eqb (place_of a) (place_of a) refl) in
-    let in_ring : once_if (same_arc a a) ≤ times a ring = one_summed (λ (b : SignedArc). once_if (same_arc a b)) ring i f n in
-    let in_polygon : times a ring ≤ times_round a polygon = one_summed (times a) polygon j e m in
-    let in_all : times_round a polygon ≤ times_traced a polygons = one_summed (times_round a) polygons k d l in
+    let in_ring : once_if (same_arc a a) ≤ times a ring = get_or-le-sum_by (λ (b : SignedArc). once_if (same_arc a b)) ring i f n in
+    let in_polygon : times a ring ≤ times_round a polygon = get_or-le-sum_by (times a) polygon j e m in
+    let in_all : times_round a polygon ≤ times_traced a polygons = get_or-le-sum_by (times_round a) polygons k d l in
     let used = h.once a in
-    let told : is_of_boundary places many set a ≡ true = once_told (is_of_boundary places many set a) (omega arith) in
+    let told : is_of_boundary places many set a ≡ true = used_true (is_of_boundary places many set a) (omega arith) in
     ltb-true a.arc many (and_parts (nat_lt a.arc many) (has nat_eq set (face_left_of places a) && is_outward places set a) told).0
-
-some_arc : (ring : List SignedArc) → BeginsWithLeast ring → 0 < length ring
-some_arc [] h = absurd h
-some_arc (a ∷ ring) h = omega arith
 
 -- ---- paths of arcs that follow each other, drawn as points
 
