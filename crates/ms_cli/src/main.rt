@@ -4,18 +4,11 @@
 //! line on standard error for an outcome other than `Done`, and the exit status.
 //!
 //! 1. `main` takes the words. One that is not UTF-8 text ends the program with status 1.
-//! 2. `host_streams` and `host_files` make the host's streams and files into the `Source`, `Sink` and `Files` of
-//!    `io_core`.
+//! 2. `host_io` makes the host's streams and files into the `Source`, `Sink` and `Files` of `io_core`.
 //! 3. `ms_chain::run` does the rest; its outcome has the exit status.
 #![tactic(auto)]
 
-mod host_files;
-mod host_streams;
-#[cfg(test)]
-mod tests;
-
-use host_files::HostFiles;
-use host_streams::{StdSink, StdSource};
+use host_io::{HostFiles, StdSink, StdSource};
 use io_core::{Sink, Text, Words};
 use ms_chain::{Outcome, run, status_of};
 use std::process::ExitCode;

@@ -1,7 +1,6 @@
 //! What no clause says: that the host's files and streams move the right bytes.
 
-use crate::host_files::HostFiles;
-use crate::host_streams::{StdSink, StdSource};
+use crate::{HostFiles, StdSink, StdSource};
 use io_core::{Failed, FileFault, Files, Sink, Source};
 use std::test::Fail;
 use std::{env, fs, process};
@@ -11,7 +10,7 @@ fn host_files_hold_what_was_appended(rt: HostRuntime) -> Result<(), Fail> {
     let alloc = rt.alloc();
     let folder = env::temp_dir(&rt)?;
     let number = process::id(rt.process());
-    let path = format!(in alloc; "{}/ms_cli-host-files-{number}.json", folder.as_str())?;
+    let path = format!(in alloc; "{}/host_io-files-{number}.json", folder.as_str())?;
     let name = path.as_str();
     let mut files = HostFiles::new(rt.clone()?);
     let mut buf = [0u8; 8];
