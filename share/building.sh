@@ -8,6 +8,8 @@ FIRST_BUILD_TAKES="about fifty minutes on four processors"
 
 # The kit that the proofs were made with, as rt version prints it; README.md and docs/install.md name it too.
 KIT="rattle-kit-13f logic dac8208d650f15bf"
+# An older kit, by which the program was built too.
+OLDER_KIT="rattle-kit-13b logic dac8208d650f15bf"
 
 out="$top/crates/ms_cli/out"
 log="$out/build.log"
@@ -99,7 +101,7 @@ tell_what_comes() {
   local what="not built yet" kit
   [ ! -e "$program" ] || what="older than its sources"
   kit=$(rt version </dev/null 2>/dev/null)
-  [ "$kit" = "$KIT" ] || say "the kit here is ${kit:-of no known line}; the proofs were made with $KIT, and another may refuse them"
+  [ "$kit" = "$KIT" ] || [ "$kit" = "$OLDER_KIT" ] || say "the kit here is ${kit:-of no known line}; the proofs were made with $KIT, and another may refuse them"
   find_keeping
   say "the program is $what: proving ${#crates[@]} crates, then compiling it"
   say "from nothing this takes $FIRST_BUILD_TAKES; $keeping"

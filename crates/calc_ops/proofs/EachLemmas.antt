@@ -12,8 +12,8 @@ use Rattle.json_read.specs.Table.{RowValues, AreRows}
 use Rattle.json_read.specs.declared.value.Value.{Value}
 use Rattle.table_terms.specs.Names.{Text, place_of}
 use Rattle.table_terms.specs.Refusals.{on_ok}
-use Rattle.table_ops.specs.declared.fault.TableWhy.{TableWhy}
-use Rattle.table_ops.specs.Rows.{row_at}
+use Rattle.table_rows.specs.declared.fault.TableWhy.{TableWhy}
+use Rattle.table_rows.specs.Rows.{row_at}
 use Rattle.table_ops.specs.Filtering.{value_for}
 use Rattle.table_ops.proofs.Testing.{behind, behind_one}
 use Rattle.calc_ops.specs.EachRow.{with_name, with_value, assigned_row, assigned_rows, names_after, places_after}

@@ -5,7 +5,7 @@ use Rattle.std.proofs.lemmas.Bool.{cases_lt, lt-ltb, le-ltb}
 use Rattle.std.proofs.lemmas.List.Sums.{sum_by_push}
 use Rattle.json_read.specs.Value.{same}
 use Rattle.json_read.specs.declared.value.Value.{Value}
-use Rattle.table_ops.specs.Same.{same_decides}
+use Rattle.table_rows.specs.Same.{same_decides}
 use Rattle.calc_ops.specs.EarlyRows.{early_behind, same_equivalent}
 
 pub early_push : (most : ℕ) (before keys : List Value) (key : Value)

@@ -9,7 +9,7 @@ use Rattle.json_read.specs.declared.value.Value.{Value}
 use Rattle.table_terms.specs.Names.{Text, place_of}
 use Rattle.table_terms.specs.Refusals.{on_ok}
 use Rattle.table_ops.specs.Filtering.{value_for}
-use Rattle.table_ops.specs.declared.fault.TableWhy.{TableWhy}
+use Rattle.table_rows.specs.declared.fault.TableWhy.{TableWhy}
 
 -- the names of the columns with one that is set: a name that is new goes last
 abbrev pub with_name : List Text → Text → List Text

@@ -12,8 +12,8 @@ use Rattle.json_read.specs.Value.{same}
 use Rattle.json_read.specs.declared.value.Value.{Value}
 use Rattle.json_read.specs.declared.value.Value.TheVariants as cell
 use Rattle.table_terms.specs.Refusals.{on_ok}
-use Rattle.table_ops.specs.Same.{same_decides}
-use Rattle.table_ops.specs.declared.fault.TableWhy.{TableWhy}
+use Rattle.table_rows.specs.Same.{same_decides}
+use Rattle.table_rows.specs.declared.fault.TableWhy.{TableWhy}
 use Rattle.calc_ops.specs.Keys.{keys_of}
 
 -- for each of some keys that stand after others, whether fewer than `most` before it are the same

@@ -11,7 +11,7 @@ use Rattle.json_read.specs.Table.{TableContent}
 use Rattle.json_read.specs.declared.value.Value.{Value}
 use Rattle.json_read.specs.declared.value.Value.TheVariants as cell
 use Rattle.table_terms.specs.Refusals.{on_ok}
-use Rattle.table_ops.specs.declared.fault.TableWhy.{TableWhy}
+use Rattle.table_rows.specs.declared.fault.TableWhy.{TableWhy}
 use Rattle.calc_ops.specs.Keys.{key_at, keys_of}
 
 -- booleans stand before numbers and these before texts; the other values are no keys of an expression

@@ -8,7 +8,7 @@ use Rattle.json_read.specs.declared.value.Value.TheVariants as cell
 use Rattle.table_terms.specs.Names.{Text}
 use Rattle.table_terms.specs.Refusals.{on_ok}
 use Rattle.table_ops.specs.Filtering.{value_for}
-use Rattle.table_ops.specs.declared.fault.TableWhy.{TableWhy}
+use Rattle.table_rows.specs.declared.fault.TableWhy.{TableWhy}
 
 -- the keys of rows, from number n on, or the first refusal
 abbrev pub keys_from : List Text → Tree → ℕ → List RowValues → Result (List Value) TableWhy

@@ -4,7 +4,7 @@ ghost use Rattle.lists.specs.Lists.{numbers_where};
 ghost use Rattle.expr_lang.specs.Tree.{tree_of};
 ghost use Rattle.json_read.specs.Value.{same};
 ghost use Rattle.json_read.specs.declared.value.Value as cell;
-ghost use Rattle.table_ops.specs.Refusals.{Answers};
+ghost use Rattle.table_rows.specs.Refusals.{Answers};
 ghost use Rattle.calc_ops.specs.EarlyRows.{are_early, count_in, uniq_rows};
 
 use crate::keys::keys_of;
@@ -14,7 +14,8 @@ use grid_base::IdList;
 use indexmap::IndexMap;
 use json_read::{Table, Value};
 use std::alloc::{AllocError, Global};
-use table_ops::{TableFault, numbers_of};
+use table_ops::numbers_of;
+use table_rows::TableFault;
 
 /// The numbers of the rows for which fewer than `most` rows before them have the same key, or with `invert` those of
 /// the other rows, ascending. The key of a row is the value of the expression for it, which is evaluated once.

@@ -1,12 +1,13 @@
 ghost use Rattle.std.specs.Prelude.{◌≡◌, ◌++◌, ◌∷◌, [], IfOk, OnOk, length};
 ghost use Rattle.expr_lang.specs.Tree.{tree_of};
-ghost use Rattle.table_ops.specs.Refusals.{AnswersAs};
+ghost use Rattle.table_rows.specs.Refusals.{AnswersAs};
 ghost use Rattle.calc_ops.specs.Keys.{keys_of};
 
 use expr_lang::Expr;
 use json_read::{Table, Value};
 use std::alloc::{AllocError, Global};
-use table_ops::{TableFault, value_for_row};
+use table_ops::value_for_row;
+use table_rows::TableFault;
 
 /// The value of the expression for each row, evaluated once and in order.
 ///

@@ -2,7 +2,7 @@ ghost use Rattle.std.specs.Prelude.{◌≡◌};
 ghost use Rattle.std.specs.Hash.{same_Alike};
 ghost use Rattle.std.specs.Cmp.{partial_equiv_from_equiv};
 ghost use Rattle.json_read.specs.Value.{same};
-ghost use Rattle.table_ops.specs.Same.{same_decides};
+ghost use Rattle.table_rows.specs.Same.{same_decides};
 ghost use Rattle.calc_ops.specs.EarlyRows.{key_writes, same_equivalent};
 
 use json_read::Value;

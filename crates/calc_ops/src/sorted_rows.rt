@@ -1,7 +1,7 @@
 ghost use Rattle.std.specs.Prelude.{◌≡◌, ◌<◌, All, IfOk, length};
 ghost use Rattle.std.specs.List.{range_with_len};
 ghost use Rattle.expr_lang.specs.Tree.{tree_of};
-ghost use Rattle.table_ops.specs.Refusals.{Answers};
+ghost use Rattle.table_rows.specs.Refusals.{Answers};
 ghost use Rattle.calc_ops.specs.KeyOrder.{numbers_by_key, row_order as order_of_rows, sort_rows};
 ghost use Rattle.calc_ops.specs.Keys.{key_at as key_of_row};
 ghost use Rattle.json_read.specs.declared.value.Value.TheVariants as is;
@@ -13,7 +13,7 @@ use grid_base::IdList;
 use json_read::{Table, Value};
 use std::alloc::{AllocError, Global};
 use std::cmp::Ordering;
-use table_ops::TableFault;
+use table_rows::TableFault;
 
 /// The numbers of the rows in the order of their keys. The key of a row is the value of the expression for it, which
 /// is evaluated once.

@@ -4,7 +4,7 @@ use csv_io::{Room2, read_csv, write_csv};
 use expr_lang::{Expr, ExprFault};
 use std::alloc::Global;
 use std::test::Fail;
-use table_ops::{EvalWhy, TableFault, TableWhy};
+use table_rows::{EvalWhy, TableFault, TableWhy};
 use text_core::{Bytes, NameList};
 
 /// A table in comma-separated text after assignments.

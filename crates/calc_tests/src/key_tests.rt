@@ -6,7 +6,7 @@ use grid_base::IdList;
 use json_read::Table;
 use std::alloc::Global;
 use std::test::Fail;
-use table_ops::{EvalWhy, TableFault, TableWhy};
+use table_rows::{EvalWhy, TableFault, TableWhy};
 use text_core::NameList;
 
 /// Four rows: of `v` the values 2, null, 1 and 2.

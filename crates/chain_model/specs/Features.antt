@@ -17,22 +17,22 @@ use Rattle.expr_lang.specs.Tree.{all_assigned, tree_of}
 use Rattle.expr_lang.specs.declared.assign.Assign.{Assign}
 use Rattle.expr_lang.specs.declared.expr.Expr.{Expr}
 use Rattle.table_terms.specs.Names.{Text, cell}
-use Rattle.table_ops.specs.Rows.{row_at}
+use Rattle.table_rows.specs.Rows.{row_at}
 use Rattle.table_terms.specs.Refusals.{unless, on_ok}
-use Rattle.table_ops.specs.Refusals.{refused_item}
+use Rattle.table_rows.specs.Refusals.{refused_item}
 use Rattle.table_ops.specs.Filtering.{filter_rows}
-use Rattle.table_ops.specs.Columns.{keep_fields, rename_fields}
-use Rattle.table_ops.specs.Grouping.{group_rows}
+use Rattle.table_rows.specs.Columns.{keep_fields, rename_fields}
+use Rattle.table_rows.specs.Grouping.{group_rows}
 use Rattle.table_ops.specs.Join.{join_tables}
-use Rattle.table_ops.specs.Splitting.{split_rows}
-use Rattle.table_ops.specs.Merge.{merge_tables}
-use Rattle.table_ops.specs.declared.fault.TableWhy.{TableWhy}
-use Rattle.table_ops.specs.declared.group.Grouped.{Grouped}
-use Rattle.table_terms.specs.declared.calculations.CalcSpec.{CalcSpec}
+use Rattle.table_rows.specs.Splitting.{split_rows}
+use Rattle.table_rows.specs.Merge.{merge_tables}
+use Rattle.table_rows.specs.declared.fault.TableWhy.{TableWhy}
+use Rattle.table_rows.specs.declared.group.Grouped.{Grouped}
+use Rattle.join_terms.specs.declared.calculations.CalcSpec.{CalcSpec}
 use Rattle.table_terms.specs.declared.renames.Rename.{Rename}
-use Rattle.table_terms.specs.declared.specifications.GroupSpec.{GroupSpec}
-use Rattle.table_terms.specs.declared.specifications.JoinSpec.{JoinSpec}
-use Rattle.table_ops.specs.declared.split.SplitItem.{SplitItem}
+use Rattle.table_terms.specs.declared.groupings.GroupSpec.{GroupSpec}
+use Rattle.join_terms.specs.declared.joins.JoinSpec.{JoinSpec}
+use Rattle.table_rows.specs.declared.split.SplitItem.{SplitItem}
 use Rattle.spatial_join.specs.Joined.{join_matched}
 use Rattle.calc_ops.specs.EachRow.{each_rows}
 use Rattle.calc_ops.specs.EarlyRows.{uniq_rows}

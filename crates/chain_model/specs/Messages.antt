@@ -9,10 +9,10 @@ use Rattle.topo_io.specs.declared.fault.TopoWhy.TheVariants as topo
 use Rattle.topo_io.specs.declared.fault.TopoPlace.{TopoPlace}
 use Rattle.topo_io.specs.declared.fault.TopoPlace.TheVariants as place
 use Rattle.table_terms.specs.Names.{Text}
-use Rattle.table_ops.specs.declared.fault.EvalWhy.{EvalWhy}
-use Rattle.table_ops.specs.declared.fault.EvalWhy.TheVariants as eval
-use Rattle.table_ops.specs.declared.fault.TableWhy.{TableWhy}
-use Rattle.table_ops.specs.declared.fault.TableWhy.TheVariants as table
+use Rattle.table_rows.specs.declared.fault.EvalWhy.{EvalWhy}
+use Rattle.table_rows.specs.declared.fault.EvalWhy.TheVariants as eval
+use Rattle.table_rows.specs.declared.fault.TableWhy.{TableWhy}
+use Rattle.table_rows.specs.declared.fault.TableWhy.TheVariants as table
 use Rattle.cmd_words.specs.declared.fault.ExprWhy.{ExprWhy}
 use Rattle.cmd_words.specs.declared.fault.ExprWhy.TheVariants as expr
 use Rattle.cmd_words.specs.declared.fault.WordWhy.{WordWhy}

@@ -3,7 +3,7 @@ use Rattle.std.specs.Prelude.{ℕ}
 use Rattle.geojson_io.specs.declared.fault.ShapeWhy.{ShapeWhy}
 use Rattle.topo_io.specs.declared.fault.TopoWhy.{TopoWhy}
 use Rattle.topo_io.specs.declared.fault.TopoPlace.{TopoPlace}
-use Rattle.table_ops.specs.declared.fault.TableWhy.{TableWhy}
+use Rattle.table_rows.specs.declared.fault.TableWhy.{TableWhy}
 use Rattle.cmd_words.specs.declared.fault.WordWhy.{WordWhy}
 
 -- why a source is refused: at a byte of it; in a feature of GeoJSON; at a place of a topology; in a column or a row of

@@ -5,7 +5,7 @@ use Rattle.plane_model.specs.Points.{GridPoint, Path}
 use Rattle.grid_base.specs.declared.kinds.Kind.{Kind}
 use Rattle.json_read.specs.Table.{TableContent}
 use Rattle.table_terms.specs.Names.{Text}
-use Rattle.table_ops.specs.Rows.{take_rows}
+use Rattle.table_rows.specs.Rows.{take_rows}
 use Rattle.region_model.specs.Region.{Region, any_of}
 use Rattle.region_model.specs.Answers.{Plane, Answers, is_empty, is_nil}
 

@@ -4,7 +4,7 @@ use Rattle.std.specs.List.{range_with_len}
 use Rattle.lists.specs.Lists.{first_or}
 use Rattle.json_read.specs.Table.{TableContent}
 use Rattle.table_terms.specs.Names.{Text, has_name}
-use Rattle.table_ops.specs.Merge.{all_names}
+use Rattle.table_rows.specs.Merge.{all_names}
 use Rattle.region_model.specs.UnionCommand.{Choice}
 use Rattle.union_ops.specs.ColumnNames.{numbered}
 use Rattle.union_ops.specs.UnionTable.{union_row}

@@ -4,8 +4,8 @@ use Rattle.expr_lang.specs.declared.assign.Assign.{Assign}
 use Rattle.expr_lang.specs.declared.expr.Expr.{Expr}
 use Rattle.expr_lang.specs.Tree.{tree_of, all_assigned}
 use Rattle.expr_lang.specs.Faults.{IsTree, AreAssigns}
-use Rattle.table_terms.specs.declared.calculations.CalcSpec.{CalcSpec}
-use Rattle.table_terms.specs.declared.specifications.JoinSpec.{JoinSpec}
+use Rattle.join_terms.specs.declared.calculations.CalcSpec.{CalcSpec}
+use Rattle.join_terms.specs.declared.joins.JoinSpec.{JoinSpec}
 use Rattle.job_terms.specs.declared.job.Action.{Action}
 use Rattle.job_terms.specs.declared.job.Action.TheVariants as action
 use Rattle.job_terms.specs.declared.job.LayerAction.TheVariants as layer

@@ -6,8 +6,8 @@ use Rattle.std.specs.Str.{bytes_eq}
 use Rattle.json_read.specs.Bytes.{is_white}
 use Rattle.json_read.specs.Reading.{drop_while}
 use Rattle.expr_lang.specs.Tokens.{is_name_start, is_name_byte, is_other_word}
-use Rattle.table_terms.specs.declared.calculations.Calc.{Calc}
-use Rattle.table_terms.specs.declared.calculations.Calc.TheVariants as calc
+use Rattle.join_terms.specs.declared.calculations.Calc.{Calc}
+use Rattle.join_terms.specs.declared.calculations.Calc.TheVariants as calc
 use Rattle.cmd_words.specs.declared.fault.WordWhy.{WordWhy}
 use Rattle.cmd_words.specs.declared.fault.WordWhy.TheVariants as why
 use Rattle.cmd_words.specs.Rows.{Text}

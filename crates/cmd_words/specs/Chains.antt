@@ -4,9 +4,9 @@ use Rattle.std.specs.Option.{option_to_list}
 use Rattle.std.specs.Str.{bytes_eq}
 use Rattle.grid_base.specs.Grid.{Corners}
 use Rattle.grid_base.specs.declared.kinds.OverlapRule.TheVariants as rule
-use Rattle.table_terms.specs.declared.calculations.CalcSpec.{CalcSpec}
-use Rattle.table_terms.specs.declared.specifications.GroupSpec.{GroupSpec}
-use Rattle.table_terms.specs.declared.specifications.JoinSpec.{JoinSpec}
+use Rattle.join_terms.specs.declared.calculations.CalcSpec.{CalcSpec}
+use Rattle.table_terms.specs.declared.groupings.GroupSpec.{GroupSpec}
+use Rattle.join_terms.specs.declared.joins.JoinSpec.{JoinSpec}
 use Rattle.cmd_words.specs.declared.commands.Keyword.{Keyword}
 use Rattle.cmd_words.specs.declared.commands.Keyword.TheVariants as k
 use Rattle.cmd_words.specs.declared.commands.LayerKeyword.{LayerKeyword}

@@ -1,7 +1,7 @@
 -- The words of one group that were read so far.
 use Rattle.std.specs.Prelude.{ℕ, Bool, List, [], ◌∷◌, Option, Some, None}
 use Rattle.grid_base.specs.Grid.{Corners}
-use Rattle.table_terms.specs.declared.calculations.Calc.{Calc}
+use Rattle.join_terms.specs.declared.calculations.Calc.{Calc}
 use Rattle.table_terms.specs.declared.renames.Rename.{Rename}
 use Rattle.cmd_words.specs.declared.word_groups.Word.{Word}
 use Rattle.cmd_words.specs.declared.word_groups.Setting.{Setting}

@@ -4,7 +4,7 @@ ghost use Rattle.cmd_words.specs.Expressions.{FitsTest};
 use crate::expressions::{Assignments, Expression};
 use expr_lang::Expr;
 use job_terms::{Action, Command, LayerAction, Origin, Target};
-use table_terms::{CalcSpec, JoinSpec};
+use join_terms::{CalcSpec, JoinSpec};
 use text_core::Text;
 
 /// An action as its words ask for it, which are seen with the texts of its expressions.

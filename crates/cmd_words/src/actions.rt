@@ -11,8 +11,9 @@ use crate::values::{form_named, rule_of};
 use crate::word_groups::Group;
 use grid_base::OverlapRule;
 use job_terms::{Action, JointAction, LayerAction, Origin, OutForm, Target};
+use join_terms::{CalcSpec, JoinSpec};
 use std::alloc::{AllocError, Global};
-use table_terms::{CalcSpec, GroupSpec, JoinSpec};
+use table_terms::GroupSpec;
 use text_core::{NameList, Text};
 
 /// What a command asks for, where its chain so far has `sources` sources and `boxes` boxes, with `places` decimal

@@ -7,8 +7,8 @@ ghost use Rattle.cmd_words.specs.Steps.{Gives};
 
 use crate::fault::{Refusal, WordWhy};
 use crate::texts::pieces;
+use join_terms::{Calc, CalcList};
 use std::alloc::Global;
-use table_terms::{Calc, CalcList};
 use text_core::Text;
 
 /// Columns to be calculated: items joined by commas, each a name, `=`, and `count()` or `sum(field)`.

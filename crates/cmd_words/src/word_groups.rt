@@ -9,10 +9,11 @@ use crate::expressions::{Assignments, Expression};
 use crate::texts::is_standard;
 use grid_base::Rect;
 use job_terms::{Owner, SourceList, SourceWord};
+use join_terms::CalcList;
 use std::alloc::{AllocError, Global};
 use std::marker::Model;
 use std::mem;
-use table_terms::{CalcList, RenameList};
+use table_terms::RenameList;
 use text_core::{NameList, Text};
 
 /// A word, and its number from 1.

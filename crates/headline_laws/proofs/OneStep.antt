@@ -12,9 +12,9 @@ use Rattle.expr_lang.proofs.OneTree.{one_tree}
 use Rattle.expr_lang.specs.Tokens.{tokens_of}
 use Rattle.table_terms.specs.Names.{Text}
 use Rattle.table_terms.specs.Refusals.{first_refusal, on_ok, unless}
-use Rattle.table_terms.specs.declared.calculations.CalcSpec.{CalcSpec}
-use Rattle.table_terms.specs.declared.specifications.JoinSpec.{JoinSpec}
-use Rattle.table_ops.specs.declared.fault.TableWhy.{TableWhy}
+use Rattle.join_terms.specs.declared.calculations.CalcSpec.{CalcSpec}
+use Rattle.join_terms.specs.declared.joins.JoinSpec.{JoinSpec}
+use Rattle.table_rows.specs.declared.fault.TableWhy.{TableWhy}
 use Rattle.table_ops.specs.Filtering.{filter_rows}
 use Rattle.table_ops.specs.Join.{candidates, join_tables, joined_table, refused_join}
 use Rattle.spatial_join.specs.Joined as place

@@ -1,7 +1,8 @@
 use crate::chain_lists::{CommandList, SourceList};
 use expr_lang::{AssignList, Expr};
 use grid_base::{BoxList, OverlapRule};
-use table_terms::{CalcSpec, GroupSpec, JoinSpec, RenameList};
+use join_terms::{CalcSpec, JoinSpec};
+use table_terms::{GroupSpec, RenameList};
 use text_core::{NameList, Text};
 
 /// What a command line asks for.

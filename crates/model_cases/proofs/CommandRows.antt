@@ -14,8 +14,8 @@ use Rattle.expr_lang.specs.declared.expr.Expr.{Expr}
 use Rattle.expr_lang.specs.declared.expr.Node.{Node}
 use Rattle.expr_lang.specs.declared.expr.Node.TheVariants as node
 use Rattle.expr_lang.specs.declared.token.Operator.TheVariants.{Plus, Times}
-use Rattle.table_ops.specs.declared.fault.EvalWhy.TheVariants.{Unknown}
-use Rattle.table_ops.specs.declared.fault.TableWhy.TheVariants.{Eval}
+use Rattle.table_rows.specs.declared.fault.EvalWhy.TheVariants.{Unknown}
+use Rattle.table_rows.specs.declared.fault.TableWhy.TheVariants.{Eval}
 use Rattle.job_terms.specs.declared.job.Action.TheVariants as c
 use Rattle.job_terms.specs.declared.job.LayerAction.{LayerAction}
 use Rattle.job_terms.specs.declared.job.LayerAction.TheVariants as each

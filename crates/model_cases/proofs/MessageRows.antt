@@ -4,8 +4,8 @@ use Rattle.std.specs.Fmt.{digits}
 use Rattle.geojson_io.specs.declared.fault.ShapeWhy.TheVariants.{Range}
 use Rattle.topo_io.specs.declared.fault.TopoWhy.TheVariants.{ArcIndex, ArcShort, NotTopology}
 use Rattle.topo_io.specs.declared.fault.TopoPlace.TheVariants as place
-use Rattle.table_ops.specs.declared.fault.EvalWhy.TheVariants.{Types}
-use Rattle.table_ops.specs.declared.fault.TableWhy.TheVariants.{Eval, FieldsDiffer, NoField, NotBoolean}
+use Rattle.table_rows.specs.declared.fault.EvalWhy.TheVariants.{Types}
+use Rattle.table_rows.specs.declared.fault.TableWhy.TheVariants.{Eval, FieldsDiffer, NoField, NotBoolean}
 use Rattle.cmd_words.specs.declared.fault.ExprWhy.TheVariants.{Unsupported}
 use Rattle.cmd_words.specs.declared.fault.WordWhy.TheVariants.{BadExpression, BadPrecision}
 use Rattle.chain_model.specs.Outcome.{done, bad_words, missing, bad_input, refused, write_fault, too_dense, memory, syntax, shape, topo, no_header, repeated_name, unequal_row, no_layer, lone_layer, in_table}

@@ -7,9 +7,9 @@ use Rattle.json_read.specs.declared.value.Value.TheVariants.{Null, Text as Words
 use Rattle.geojson_io.specs.LayerContent.{LayerContent}
 use Rattle.geojson_io.specs.declared.shape.GeoShape.{GeoShape}
 use Rattle.geojson_io.specs.declared.shape.GeoShape.TheVariants.{Lines, Points}
-use Rattle.table_terms.specs.declared.calculations.Calc.TheVariants.{Count, Sum}
-use Rattle.table_terms.specs.declared.calculations.CalcSpec.{CalcSpec}
-use Rattle.table_ops.specs.declared.fault.TableWhy.TheVariants.{FieldTwice, NotNumber}
+use Rattle.join_terms.specs.declared.calculations.Calc.TheVariants.{Count, Sum}
+use Rattle.join_terms.specs.declared.calculations.CalcSpec.{CalcSpec}
+use Rattle.table_rows.specs.declared.fault.TableWhy.TheVariants.{FieldTwice, NotNumber}
 use Rattle.job_terms.specs.declared.job.Action.TheVariants as c
 use Rattle.job_terms.specs.declared.job.LayerAction.TheVariants as each
 use Rattle.job_terms.specs.declared.job.Origin.TheVariants as origin

@@ -12,7 +12,7 @@ use Rattle.json_read.specs.declared.value.Value.TheVariants.{Null, Num, Text}
 use Rattle.geojson_io.specs.LayerContent.{LayerContent}
 use Rattle.geojson_io.specs.declared.shape.GeoShape.TheVariants.{Nothing, Polygons, Lines, Points}
 use Rattle.table_terms.specs.Names.{Text as Words}
-use Rattle.table_ops.specs.declared.fault.TableWhy.TheVariants.{FieldsDiffer, NoField}
+use Rattle.table_rows.specs.declared.fault.TableWhy.TheVariants.{FieldsDiffer, NoField}
 use Rattle.cmd_words.specs.Areas.{area_of, places_of}
 use Rattle.cmd_words.specs.Words.{JobWords, Reading, synth, chain}
 use Rattle.job_terms.specs.declared.job.Chain.{Chain}

@@ -10,8 +10,8 @@ use Rattle.geojson_io.specs.LayerContent.{LayerContent}
 use Rattle.geojson_io.specs.declared.shape.GeoShape.{GeoShape}
 use Rattle.geojson_io.specs.declared.shape.GeoShape.TheVariants.{Polygons, Points}
 use Rattle.table_terms.specs.Names.{Text}
-use Rattle.table_ops.specs.declared.fault.TableWhy.TheVariants.{NoField, NotNumber, FieldsDiffer}
-use Rattle.table_terms.specs.declared.specifications.GroupSpec.{GroupSpec}
+use Rattle.table_rows.specs.declared.fault.TableWhy.TheVariants.{NoField, NotNumber, FieldsDiffer}
+use Rattle.table_terms.specs.declared.groupings.GroupSpec.{GroupSpec}
 use Rattle.job_terms.specs.declared.job.Action.{Action}
 use Rattle.job_terms.specs.declared.job.Action.TheVariants as c
 use Rattle.job_terms.specs.declared.job.LayerAction.TheVariants as each

@@ -10,12 +10,12 @@ use Rattle.geojson_io.specs.Layers.{same_kind}
 use Rattle.json_read.specs.Table.{TableContent}
 use Rattle.table_terms.specs.Names.{Text}
 use Rattle.table_terms.specs.Refusals.{on_ok, unless}
-use Rattle.table_terms.specs.declared.calculations.CalcSpec.{CalcSpec}
-use Rattle.table_terms.specs.declared.specifications.GroupSpec.{GroupSpec}
-use Rattle.table_ops.specs.Grouping.{group_rows}
-use Rattle.table_ops.specs.Refusals.{refused_item}
-use Rattle.table_ops.specs.declared.fault.TableWhy.{TableWhy}
-use Rattle.table_ops.specs.declared.group.Grouped.{Grouped}
+use Rattle.join_terms.specs.declared.calculations.CalcSpec.{CalcSpec}
+use Rattle.table_terms.specs.declared.groupings.GroupSpec.{GroupSpec}
+use Rattle.table_rows.specs.Grouping.{group_rows}
+use Rattle.table_rows.specs.Refusals.{refused_item}
+use Rattle.table_rows.specs.declared.fault.TableWhy.{TableWhy}
+use Rattle.table_rows.specs.declared.group.Grouped.{Grouped}
 use Rattle.spatial_join.specs.Joined.{join_matched}
 use Rattle.region_model.specs.Region.{Region}
 use Rattle.region_model.specs.Answers.{Answers, Plane}

@@ -5,7 +5,7 @@ use Rattle.lists.specs.Lists.{numbers_where}
 use Rattle.region_model.specs.Region.{Region}
 use Rattle.region_model.specs.Answers.{Answers, Plane}
 use Rattle.table_terms.specs.Refusals.{on_ok}
-use Rattle.table_ops.specs.declared.fault.TableWhy.{TableWhy}
+use Rattle.table_rows.specs.declared.fault.TableWhy.{TableWhy}
 use Rattle.chain_model.specs.Features.{Outputs, in_layer}
 use Rattle.chain_model.specs.Outcome.{RefuseWhy}
 use Rattle.chain_model.specs.State.{Shape, StateLayer, region, paths, points, no_shape, is_empty_shape, points_of, shape_at, take_features, without_empty}

@@ -9,13 +9,13 @@ use Rattle.expr_lang.specs.declared.expr.Expr.{Expr}
 use Rattle.table_terms.specs.Names.{Text}
 use Rattle.table_terms.specs.Refusals.{on_ok}
 use Rattle.table_terms.specs.declared.renames.Rename.{Rename}
-use Rattle.table_terms.specs.declared.specifications.JoinSpec.{JoinSpec}
-use Rattle.table_ops.specs.Columns.{keep_fields, rename_fields}
+use Rattle.join_terms.specs.declared.joins.JoinSpec.{JoinSpec}
+use Rattle.table_rows.specs.Columns.{keep_fields, rename_fields}
 use Rattle.table_ops.specs.Join.{join_tables}
-use Rattle.table_ops.specs.Merge.{merge_tables}
-use Rattle.table_ops.specs.Splitting.{split_rows}
-use Rattle.table_ops.specs.declared.fault.TableWhy.{TableWhy}
-use Rattle.table_ops.specs.declared.split.SplitItem.{SplitItem}
+use Rattle.table_rows.specs.Merge.{merge_tables}
+use Rattle.table_rows.specs.Splitting.{split_rows}
+use Rattle.table_rows.specs.declared.fault.TableWhy.{TableWhy}
+use Rattle.table_rows.specs.declared.split.SplitItem.{SplitItem}
 use Rattle.calc_ops.specs.EachRow.{each_rows}
 use Rattle.calc_ops.specs.EarlyRows.{uniq_rows}
 use Rattle.calc_ops.specs.KeyOrder.{sort_rows}

@@ -11,7 +11,7 @@ use io_core::{Sink, write_whole};
 use itoa::Buffer;
 use run_sources::InputWhy;
 use run_state::RefuseWhy;
-use table_ops::{EvalWhy, TableWhy};
+use table_rows::{EvalWhy, TableWhy};
 use topo_io::{TopoPlace, TopoWhy};
 
 /// More bytes than any message has.

@@ -14,7 +14,7 @@ use Rattle.region_ops.specs.declared.item_lists.PartItem.{PartItem}
 use Rattle.region_ops.proofs.Inner.{unions_inner}
 use Rattle.ring_trace.specs.Sets.{IsInnerFace, IsSetOf}
 use Rattle.ring_trace.proofs.SetLemmas.{All-ascending}
-use Rattle.table_terms.specs.declared.specifications.GroupSpec.{GroupSpec}
+use Rattle.table_terms.specs.declared.groupings.GroupSpec.{GroupSpec}
 use Rattle.union_ops.specs.Union.{IsItemOf}
 use Rattle.union_ops.specs.declared.union_lists.UnionItem.{UnionItem}
 use Rattle.run_plane.specs.OnPlane.{AreBelow, AreLayersOn, AreOn, IsLayerOn, IsOn}

@@ -8,8 +8,8 @@ use Rattle.json_read.specs.declared.value.Value.TheVariants as cell
 use Rattle.grid_base.specs.declared.kinds.Kind.TheVariants as kinds
 use Rattle.line_ops.specs.Sided.{has_both, sided_among}
 use Rattle.line_ops.specs.declared.sides.SidedArc.{SidedArc}
-use Rattle.table_ops.specs.Columns.{keep_fields}
-use Rattle.table_ops.specs.Rows.{row_at}
+use Rattle.table_rows.specs.Columns.{keep_fields}
+use Rattle.table_rows.specs.Rows.{row_at}
 use Rattle.run_shapes.specs.Dissolving.{path_along}
 use Rattle.run_shapes.specs.FaceSets.{sets_in}
 use Rattle.run_plane.specs.declared.layer.Layer.{Layer}

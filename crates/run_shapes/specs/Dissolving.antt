@@ -7,9 +7,9 @@ use Rattle.grid_base.specs.declared.kinds.Kind.TheVariants as kinds
 use Rattle.plane_model.specs.Points.{GridPoint}
 use Rattle.plane_model.specs.Arcs.{SignedArc, forward}
 use Rattle.region_ops.specs.Dissolved.{union_of}
-use Rattle.table_ops.specs.Grouping.{group_rows}
-use Rattle.table_ops.specs.declared.group.Grouped.{Grouped}
-use Rattle.table_terms.specs.declared.specifications.GroupSpec.{GroupSpec}
+use Rattle.table_rows.specs.Grouping.{group_rows}
+use Rattle.table_rows.specs.declared.group.Grouped.{Grouped}
+use Rattle.table_terms.specs.declared.groupings.GroupSpec.{GroupSpec}
 use Rattle.run_shapes.specs.FaceSets.{sets_in, face_shapes}
 use Rattle.run_plane.specs.Shapes.{points_in, shape_at}
 use Rattle.run_plane.specs.declared.layer.Layer.{Layer}

@@ -15,7 +15,7 @@ ghost use Rattle.run_shapes.specs.Borders.{
   type_and_rank,
 };
 ghost use Rattle.run_state.specs.Stops.{StopsFor, table_refusal};
-ghost use Rattle.table_ops.specs.Columns.{keep_fields};
+ghost use Rattle.table_rows.specs.Columns.{keep_fields};
 
 use crate::face_sets::sets_of;
 use crate::paths::path_along;
@@ -27,7 +27,7 @@ use line_ops::{SidedArc, inner_arcs, sided_arcs};
 use run_plane::{Layer, Plane, Shape, copy_text};
 use run_state::CommandStop;
 use std::alloc::{AllocError, Global};
-use table_ops::keep_fields;
+use table_rows::keep_fields;
 
 /// A line for each arc with holders at both sides, not the same ones; without columns.
 pub fn inner_lines(alloc: Global, plane: &Plane, layer: &Layer) -> Result<Layer, AllocError>

@@ -27,7 +27,7 @@ use region_ops::dissolve_sets;
 use run_plane::{Layer, Shape, copy_text};
 use run_state::{CommandStop, RefuseWhy};
 use std::alloc::{AllocError, Global};
-use table_ops::group_rows;
+use table_rows::group_rows;
 use table_terms::GroupSpec;
 
 /// A feature for each group of rows that have the same values in the listed columns: the faces of any member, each arc

@@ -10,7 +10,7 @@ use job_terms::Target;
 use run_plane::{Layer, Plane, Shape, copy_text};
 use run_state::{Held, first_target, is_selected};
 use std::alloc::{AllocError, Global};
-use table_ops::{TableList, copy_table};
+use table_rows::{TableList, copy_table};
 use union_ops::{LayerSets, UnionItem, union_sets, union_tables};
 
 /// The union of the target's layers, under the name of the first: a feature for each part of the faces that the same

@@ -2,10 +2,10 @@
 use Rattle.std.proofs.Common.{◌≡◌, Option, None, Some, Result, Ok, Err, ap, ◌∙◌}
 use Rattle.std.specs.Prelude.{IfErr}
 use Rattle.table_terms.specs.Refusals.{first_refusal}
-use Rattle.table_ops.specs.Refusals.{Answers}
-use Rattle.table_ops.specs.declared.fault.TableFault.{TableFault}
-use Rattle.table_ops.specs.declared.fault.TableFault.TheVariants.{Bad, Memory}
-use Rattle.table_ops.specs.declared.fault.TableWhy.{TableWhy}
+use Rattle.table_rows.specs.Refusals.{Answers}
+use Rattle.table_rows.specs.declared.fault.TableFault.{TableFault}
+use Rattle.table_rows.specs.declared.fault.TableFault.TheVariants.{Bad, Memory}
+use Rattle.table_rows.specs.declared.fault.TableWhy.{TableWhy}
 use Rattle.run_state.specs.Stops.{StopsFor, stop_of, table_refusal}
 use Rattle.run_state.specs.declared.refusal.RefuseWhy.{RefuseWhy}
 use Rattle.run_state.specs.declared.state.CommandStop.{CommandStop}

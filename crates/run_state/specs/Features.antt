@@ -1,7 +1,7 @@
 -- The features of a layer, by their numbers from 0.
 use Rattle.std.specs.Prelude.{◌≡◌, ℕ, List, map, length}
 use Rattle.std.specs.List.{range_with_len}
-use Rattle.table_ops.specs.Rows.{take_rows}
+use Rattle.table_rows.specs.Rows.{take_rows}
 use Rattle.run_plane.specs.Shapes.{shape_at, with_geometry}
 use Rattle.run_plane.specs.declared.layer.Layer.{Layer}
 use Rattle.run_plane.specs.declared.layer.Shape.{Shape}

@@ -1,8 +1,8 @@
 -- Why a command stops: for its refusal, or for want of memory.
 use Rattle.std.specs.Prelude.{◌≡◌, Option, Some, None, Result, Ok, Err}
-use Rattle.table_ops.specs.declared.fault.TableFault.{TableFault}
-use Rattle.table_ops.specs.declared.fault.TableFault.TheVariants as fault
-use Rattle.table_ops.specs.declared.fault.TableWhy.{TableWhy}
+use Rattle.table_rows.specs.declared.fault.TableFault.{TableFault}
+use Rattle.table_rows.specs.declared.fault.TableFault.TheVariants as fault
+use Rattle.table_rows.specs.declared.fault.TableWhy.{TableWhy}
 use Rattle.run_state.specs.declared.refusal.RefuseWhy.{RefuseWhy}
 use Rattle.run_state.specs.declared.refusal.RefuseWhy.TheVariants.{Table}
 use Rattle.run_state.specs.declared.state.CommandStop.{CommandStop}

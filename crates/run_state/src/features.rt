@@ -6,7 +6,7 @@ ghost use Rattle.run_plane.specs.Shapes.{shape_at, with_geometry};
 use grid_base::IdList;
 use run_plane::{Layer, Shape, copy_shape, copy_text};
 use std::alloc::{AllocError, Global};
-use table_ops::take_rows;
+use table_rows::take_rows;
 
 /// The features with these numbers, counted from 0, as a layer of the same name and kind.
 pub fn take_features(alloc: Global, layer: &Layer, numbers: &IdList) -> Result<Layer, AllocError>

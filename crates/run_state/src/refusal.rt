@@ -1,4 +1,4 @@
-use table_ops::TableWhy;
+use table_rows::TableWhy;
 
 /// Why a command is refused.
 #[derive(Clone, Copy, Debug, PartialEq, Eq)]

@@ -1,7 +1,7 @@
 use crate::refusal::RefuseWhy;
 use run_plane::Layer;
 use std::alloc::{AllocError, AllocFailed, Global};
-use table_ops::TableFault;
+use table_rows::TableFault;
 
 /// A layer of the run.
 #[derive(Drop)]

@@ -1,6 +1,6 @@
 -- What a join by place is refused for, by the rows that match.
 use Rattle.std.proofs.Common.{◌≡◌, ℕ, List, None, Some, Result, Ok, Err, refl, sym, subst}
-use Rattle.table_terms.specs.declared.calculations.CalcSpec.{CalcSpec}
+use Rattle.join_terms.specs.declared.calculations.CalcSpec.{CalcSpec}
 use Rattle.spatial_join.specs.Joined.{join_matched}
 use Rattle.run_plane.specs.declared.layer.Layer.{Layer}
 use Rattle.run_plane.specs.declared.plane.Plane.{Plane}

@@ -5,9 +5,9 @@ use Rattle.std.specs.List.{AllZip, enumerate_from, flat_map, position_or_len}
 use Rattle.std.proofs.lemmas.List.{length-map}
 use Rattle.std.proofs.lemmas.List.FromFn.{length-enumerate_from}
 use Rattle.std.proofs.lemmas.List.Sums.{sum_by-cons}
-use Rattle.table_ops.specs.Splitting.{split_rows}
-use Rattle.table_ops.specs.declared.fault.TableWhy.{TableWhy}
-use Rattle.table_ops.specs.declared.split.SplitItem.{SplitItem}
+use Rattle.table_rows.specs.Splitting.{split_rows}
+use Rattle.table_rows.specs.declared.fault.TableWhy.{TableWhy}
+use Rattle.table_rows.specs.declared.split.SplitItem.{SplitItem}
 use Rattle.job_terms.specs.declared.job.Command.{Command}
 use Rattle.job_terms.specs.declared.job.JointAction.{JointAction}
 use Rattle.job_terms.specs.declared.job.JointAction.TheVariants as joint

@@ -4,8 +4,8 @@ use Rattle.std.specs.List.{AllZip, position_or_len}
 use Rattle.std.proofs.lemmas.List.Elements.{All-append, All-cons, All-head, All-nil, All-replicate, All-tail}
 use Rattle.io_core.specs.Contents.{Content}
 use Rattle.table_ops.specs.Join.{join_tables}
-use Rattle.table_terms.specs.declared.calculations.CalcSpec.{CalcSpec}
-use Rattle.table_terms.specs.declared.specifications.JoinSpec.{JoinSpec}
+use Rattle.join_terms.specs.declared.calculations.CalcSpec.{CalcSpec}
+use Rattle.join_terms.specs.declared.joins.JoinSpec.{JoinSpec}
 use Rattle.job_terms.specs.declared.job.Origin.{Origin}
 use Rattle.job_terms.specs.declared.job.Target.{Target}
 use Rattle.spatial_join.specs.Joined.{join_matched}

@@ -6,10 +6,10 @@ use Rattle.expr_lang.specs.Tree.{all_assigned, tree_of}
 use Rattle.calc_ops.specs.EachRow.{each_rows}
 use Rattle.calc_ops.specs.EarlyRows.{uniq_rows}
 use Rattle.calc_ops.specs.KeyOrder.{sort_rows}
-use Rattle.table_ops.specs.Columns.{keep_fields, rename_fields}
+use Rattle.table_rows.specs.Columns.{keep_fields, rename_fields}
 use Rattle.table_ops.specs.Join.{join_tables}
-use Rattle.table_terms.specs.declared.calculations.CalcSpec.{CalcSpec}
-use Rattle.table_terms.specs.declared.specifications.JoinSpec.{JoinSpec}
+use Rattle.join_terms.specs.declared.calculations.CalcSpec.{CalcSpec}
+use Rattle.join_terms.specs.declared.joins.JoinSpec.{JoinSpec}
 use Rattle.spatial_join.specs.Joined.{join_matched}
 use Rattle.job_terms.specs.declared.job.Origin.{Origin}
 use Rattle.job_terms.specs.declared.job.Target.{Target}

@@ -13,6 +13,7 @@ ghost use Rattle.spatial_join.specs.Joined.{join_matched};
 
 use io_core::Text;
 use job_terms::{Command, JointAction, LayerAction, Origin, Target};
+use join_terms::{CalcSpec, JoinSpec};
 use ring_trace::FaceSet;
 use run_plane::{Layer, Plane, copy_text};
 use run_shapes::{
@@ -25,7 +26,6 @@ use run_tables::{
     with_fields,
 };
 use std::alloc::{AllocError, Global};
-use table_terms::{CalcSpec, JoinSpec};
 
 /// The layer that the command makes of its target's layers, in the place of the first, under the name of `name=` where
 /// it stands.

@@ -2,13 +2,13 @@
 use Rattle.std.proofs.Common.{◌≡◌, ◌<◌, Err, slice_get, Bool, true, false, List, [], ◌∷◌, ◌++◌, length, map, Option, Some, None, Ok, refl, ap, sym, ◌∙◌, arith, length-append}
 use Rattle.std.proofs.lemmas.List.{length-map}
 use Rattle.json_read.specs.Table.{TableContent}
-use Rattle.table_ops.specs.Columns.{cells}
-use Rattle.table_ops.specs.Merge.{merge_tables, merged_names, merged_rows, refused_merge}
+use Rattle.table_rows.specs.Columns.{cells}
+use Rattle.table_rows.specs.Merge.{merge_tables, merged_names, merged_rows, refused_merge}
 use Rattle.table_terms.specs.Names.{Text}
 use Rattle.table_terms.specs.Refusals.{unless}
-use Rattle.table_ops.specs.Refusals.{Answers}
-use Rattle.table_ops.specs.declared.fault.TableFault.{TableFault}
-use Rattle.table_ops.specs.declared.fault.TableFault.TheVariants.{Bad, Memory}
+use Rattle.table_rows.specs.Refusals.{Answers}
+use Rattle.table_rows.specs.declared.fault.TableFault.{TableFault}
+use Rattle.table_rows.specs.declared.fault.TableFault.TheVariants.{Bad, Memory}
 use Rattle.job_terms.specs.declared.job.Target.{Target}
 use Rattle.run_plane.specs.declared.layer.Layer.{Layer}
 use Rattle.run_state.specs.Stops.{StopsFor, stop_of, table_refusal}

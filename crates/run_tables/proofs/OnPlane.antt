@@ -5,8 +5,8 @@ use Rattle.std.proofs.lemmas.List.Elements.{All-cons, All-nil}
 use Rattle.io_core.specs.Contents.{Content}
 use Rattle.json_read.specs.Table.{TableContent}
 use Rattle.expr_lang.specs.declared.expr.Expr.{Expr}
-use Rattle.table_ops.specs.declared.fault.TableWhy.{TableWhy}
-use Rattle.table_ops.specs.declared.split.SplitItem.{SplitItem}
+use Rattle.table_rows.specs.declared.fault.TableWhy.{TableWhy}
+use Rattle.table_rows.specs.declared.split.SplitItem.{SplitItem}
 use Rattle.run_plane.specs.OnPlane.{AreLayersOn, AreOn, IsLayerOn, IsOn}
 use Rattle.run_plane.specs.Shapes.{with_geometry}
 use Rattle.run_plane.specs.declared.layer.Layer.{Layer}

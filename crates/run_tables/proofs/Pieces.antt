@@ -2,7 +2,7 @@
 use Rattle.std.proofs.Common.{◌≡◌, ℕ, ◌+◌, ◌<◌, List, [], ◌∷◌, ◌++◌, length, get_or, take, ap, sym, subst, ◌∙◌, arith}
 use Rattle.std.specs.List.{AllZip, enumerate_from}
 use Rattle.std.proofs.lemmas.List.{length-take-le, take_more}
-use Rattle.table_ops.specs.declared.split.SplitItem.{SplitItem}
+use Rattle.table_rows.specs.declared.split.SplitItem.{SplitItem}
 use Rattle.run_plane.proofs.Growth.{zipped_on}
 use Rattle.run_plane.specs.declared.layer.Layer.{Layer}
 use Rattle.run_tables.specs.Pieces.{IsPiece}

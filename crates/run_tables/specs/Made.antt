@@ -5,8 +5,8 @@ use Rattle.json_read.specs.Table.{TableContent}
 use Rattle.expr_lang.specs.Tree.{tree_of}
 use Rattle.expr_lang.specs.declared.expr.Expr.{Expr}
 use Rattle.table_ops.specs.Filtering.{filter_rows}
-use Rattle.table_ops.specs.Merge.{merge_tables}
-use Rattle.table_ops.specs.declared.fault.TableWhy.{TableWhy}
+use Rattle.table_rows.specs.Merge.{merge_tables}
+use Rattle.table_rows.specs.declared.fault.TableWhy.{TableWhy}
 use Rattle.run_plane.specs.Shapes.{with_geometry}
 use Rattle.run_plane.specs.declared.layer.Layer.{Layer}
 use Rattle.run_state.specs.Features.{TakesFeatures, all_numbers}

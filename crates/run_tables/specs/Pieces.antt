@@ -4,9 +4,9 @@ use Rattle.std.specs.List.{AllZip, enumerate_from}
 use Rattle.io_core.specs.Contents.{Content}
 use Rattle.json_read.specs.Value.{plain_text}
 use Rattle.json_read.specs.declared.value.Value.{Value}
-use Rattle.table_ops.specs.Rows.{take_rows}
-use Rattle.table_ops.specs.Splitting.{split_rows}
-use Rattle.table_ops.specs.declared.split.SplitItem.{SplitItem}
+use Rattle.table_rows.specs.Rows.{take_rows}
+use Rattle.table_rows.specs.Splitting.{split_rows}
+use Rattle.table_rows.specs.declared.split.SplitItem.{SplitItem}
 use Rattle.run_plane.specs.Shapes.{shape_at}
 use Rattle.run_plane.specs.declared.layer.Layer.{Layer}
 use Rattle.run_tables.specs.Made.{HasTable, One}

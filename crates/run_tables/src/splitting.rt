@@ -1,8 +1,8 @@
 ghost use Rattle.std.specs.Prelude.{◌≡◌, ◌<◌, ◌++◌, [], IfErr, IfOk, None, All, codes, decimal, length, option_copied};
 ghost use Rattle.std.specs.List.{AllZip, enumerate_from};
 ghost use Rattle.json_read.specs.Value.{plain_text};
-ghost use Rattle.table_ops.specs.Refusals.{Answers};
-ghost use Rattle.table_ops.specs.Splitting.{split_rows};
+ghost use Rattle.table_rows.specs.Refusals.{Answers};
+ghost use Rattle.table_rows.specs.Splitting.{split_rows};
 ghost use Rattle.run_state.specs.Stops.{StopsFor, table_refusal};
 ghost use Rattle.run_tables.specs.Pieces.{ArePieces, IsPiece, IsSplit, piece_name};
 
@@ -12,7 +12,7 @@ use json_read::{Table, Value};
 use run_plane::Layer;
 use run_state::{CommandStop, take_features};
 use std::alloc::{AllocError, Global};
-use table_ops::{SplitItem, SplitList, TableFault, copy_table, split_rows};
+use table_rows::{SplitItem, SplitList, TableFault, copy_table, split_rows};
 
 /// A layer for each value of the field, named by its plain text; without a field a layer for each feature, named by
 /// the layer's name and its number from 1. A layer without features is put out as it is.

@@ -4,7 +4,7 @@ ghost use Rattle.std.specs.List.{flat_map};
 ghost use Rattle.std.specs.List.Sorted.{IsStrictlyIncreasing};
 ghost use Rattle.run_state.specs.Stops.{StopsFor, table_refusal};
 ghost use Rattle.run_state.specs.Targets.{has_target, targets};
-ghost use Rattle.table_ops.specs.Columns.{keep_fields, rename_fields};
+ghost use Rattle.table_rows.specs.Columns.{keep_fields, rename_fields};
 ghost use Rattle.spatial_join.specs.Joined.{join_matched};
 ghost use Rattle.table_ops.specs.Join.{join_tables};
 ghost use Rattle.run_tables.specs.Made.{GivesTable, HasTable, IsFiltered, IsMerged, kept_numbers, refused_layers};
@@ -13,6 +13,7 @@ use expr_lang::Expr;
 use grid_base::{GroupList, IdList};
 use io_core::NameList;
 use job_terms::Target;
+use join_terms::{CalcSpec, JoinSpec};
 use json_read::Table;
 use run_plane::{Layer, Shape, copy_shape, copy_shapes, copy_text};
 use run_state::{
@@ -20,10 +21,9 @@ use run_state::{
 };
 use spatial_join::join_matched;
 use std::alloc::{AllocError, Global};
-use table_ops::{
-    TableList, copy_table, filter_rows, join_tables, keep_fields, merge_tables, rename_fields,
-};
-use table_terms::{CalcSpec, JoinSpec, RenameList};
+use table_ops::{filter_rows, join_tables};
+use table_rows::{TableList, copy_table, keep_fields, merge_tables, rename_fields};
+use table_terms::RenameList;
 
 /// The features for which the expression is true, or, with `invert`, false; with `remove_empty` those without
 /// geometry go too.

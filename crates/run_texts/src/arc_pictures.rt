@@ -10,7 +10,7 @@ use grid_base::PtList;
 use ring_trace::{FaceSet, trace};
 use run_plane::{Layer, Plane, Shape, copy_paths, copy_points, copy_text};
 use std::alloc::{AllocError, Global};
-use table_ops::copy_table;
+use table_rows::copy_table;
 use topo_io::{ArcLayer, ArcShape, ArcShapeList};
 
 /// A layer with its shapes as arcs of the plane: rings of faces, and paths.

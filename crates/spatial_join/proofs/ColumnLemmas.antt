@@ -11,14 +11,14 @@ use Rattle.json_read.specs.Table.{TableContent, RowValues, AreRows}
 use Rattle.json_read.specs.declared.value.Value.TheVariants as is
 use Rattle.table_terms.specs.Names.{Text, has_name}
 use Rattle.table_terms.specs.Refusals.{on_ok, unless}
-use Rattle.table_terms.specs.declared.calculations.Calc.{Calc}
-use Rattle.table_terms.specs.declared.calculations.Calc.TheVariants.{Count, Sum}
-use Rattle.table_terms.specs.declared.calculations.CalcSpec.{CalcSpec}
-use Rattle.table_terms.specs.declared.specifications.JoinSpec.{JoinSpec}
+use Rattle.join_terms.specs.declared.calculations.Calc.{Calc}
+use Rattle.join_terms.specs.declared.calculations.Calc.TheVariants.{Count, Sum}
+use Rattle.join_terms.specs.declared.calculations.CalcSpec.{CalcSpec}
+use Rattle.join_terms.specs.declared.joins.JoinSpec.{JoinSpec}
 use Rattle.table_ops.specs.Join.{candidates, copied_name, joined_row}
 use Rattle.table_ops.specs.JoinColumns.{columns_of, column_value}
-use Rattle.table_ops.specs.declared.fault.TableWhy.{TableWhy}
-use Rattle.table_ops.specs.declared.fault.TableWhy.TheVariants.{NoField, FieldTwice}
+use Rattle.table_rows.specs.declared.fault.TableWhy.{TableWhy}
+use Rattle.table_rows.specs.declared.fault.TableWhy.TheVariants.{NoField, FieldTwice}
 use Rattle.table_ops.specs.declared.join_columns.Column.{Column}
 use Rattle.table_ops.proofs.Joining.{as_many_names as as_many_copied, joined_names_differ as copied_differ, or_first, or_second, values_joined}
 use Rattle.spatial_join.specs.CalcColumns.{summed_place, calculated_at, row_by_places, rows_by_places}

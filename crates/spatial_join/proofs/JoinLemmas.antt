@@ -19,10 +19,10 @@ use Rattle.ring_trace.proofs.SetLemmas.{nat_order, to_ascending}
 use Rattle.table_terms.specs.Refusals.{on_ok}
 use Rattle.table_ops.specs.Filtering.{tests_of}
 use Rattle.table_ops.specs.Join.{candidates}
-use Rattle.table_ops.specs.Refusals.{Refuses}
-use Rattle.table_ops.specs.declared.fault.TableFault.{TableFault}
-use Rattle.table_ops.specs.declared.fault.TableFault.TheVariants.{Bad, Memory}
-use Rattle.table_ops.specs.declared.fault.TableWhy.{TableWhy}
+use Rattle.table_rows.specs.Refusals.{Refuses}
+use Rattle.table_rows.specs.declared.fault.TableFault.{TableFault}
+use Rattle.table_rows.specs.declared.fault.TableFault.TheVariants.{Bad, Memory}
+use Rattle.table_rows.specs.declared.fault.TableWhy.{TableWhy}
 use Rattle.table_ops.specs.declared.join_columns.Column.{Column}
 use Rattle.table_ops.proofs.Testing.{behind, behind_one}
 use Rattle.spatial_join.specs.CalcColumns.{calculated_at, row_by_places, rows_by_places, with_sums}

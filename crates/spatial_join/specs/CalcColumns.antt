@@ -5,12 +5,12 @@ use Rattle.json_read.specs.Table.{RowValues}
 use Rattle.json_read.specs.declared.value.Value.TheVariants as is
 use Rattle.table_terms.specs.Names.{Text, place_of}
 use Rattle.table_terms.specs.Refusals.{on_ok}
-use Rattle.table_terms.specs.declared.calculations.Calc.{Calc}
-use Rattle.table_terms.specs.declared.calculations.Calc.TheVariants.{Count, Sum}
-use Rattle.table_ops.specs.Grouping.{column_sum}
+use Rattle.join_terms.specs.declared.calculations.Calc.{Calc}
+use Rattle.join_terms.specs.declared.calculations.Calc.TheVariants.{Count, Sum}
+use Rattle.table_rows.specs.Grouping.{column_sum}
 use Rattle.table_ops.specs.JoinColumns.{column_value}
 use Rattle.table_ops.specs.declared.join_columns.Column.{Column}
-use Rattle.table_ops.specs.declared.fault.TableWhy.{TableWhy}
+use Rattle.table_rows.specs.declared.fault.TableWhy.{TableWhy}
 use Rattle.spatial_join.specs.Joined.{each_ok, first_row, matching}
 
 -- ---- calculated columns

@@ -8,16 +8,16 @@ use Rattle.json_read.specs.Table.{TableContent, RowValues}
 use Rattle.json_read.specs.declared.value.Value.TheVariants as is
 use Rattle.table_terms.specs.Names.{Text, has_name, place_of}
 use Rattle.table_terms.specs.Refusals.{unless, first_refusal, on_ok}
-use Rattle.table_terms.specs.declared.calculations.Calc.{Calc}
-use Rattle.table_terms.specs.declared.calculations.Calc.TheVariants.{Count, Sum}
-use Rattle.table_terms.specs.declared.calculations.CalcSpec.{CalcSpec}
-use Rattle.table_terms.specs.declared.specifications.JoinSpec.{JoinSpec}
-use Rattle.table_ops.specs.Grouping.{column_sum}
+use Rattle.join_terms.specs.declared.calculations.Calc.{Calc}
+use Rattle.join_terms.specs.declared.calculations.Calc.TheVariants.{Count, Sum}
+use Rattle.join_terms.specs.declared.calculations.CalcSpec.{CalcSpec}
+use Rattle.join_terms.specs.declared.joins.JoinSpec.{JoinSpec}
+use Rattle.table_rows.specs.Grouping.{column_sum}
 use Rattle.table_ops.specs.Join.{candidates, copied_name, joined_row, new_fields}
-use Rattle.table_ops.specs.Refusals.{refused_item}
-use Rattle.table_ops.specs.Rows.{row_at}
-use Rattle.table_ops.specs.declared.fault.TableWhy.{TableWhy}
-use Rattle.table_ops.specs.declared.fault.TableWhy.TheVariants.{NoField, FieldTwice}
+use Rattle.table_rows.specs.Refusals.{refused_item}
+use Rattle.table_rows.specs.Rows.{row_at}
+use Rattle.table_rows.specs.declared.fault.TableWhy.{TableWhy}
+use Rattle.table_rows.specs.declared.fault.TableWhy.TheVariants.{NoField, FieldTwice}
 
 -- ---- columns
 

@@ -2,14 +2,16 @@ ghost use Rattle.std.specs.Prelude.{◌≡◌, [], Ok, IfOk, length, unwrap_or};
 ghost use Rattle.std.specs.List.{IsDistinct};
 ghost use Rattle.std.specs.Str.{bytes_eq};
 ghost use Rattle.table_ops.specs.JoinColumns.{columns_of};
-ghost use Rattle.table_ops.specs.Refusals.{AnswersAs};
+ghost use Rattle.table_rows.specs.Refusals.{AnswersAs};
 ghost use Rattle.table_terms.specs.Refusals.{unless};
 ghost use Rattle.spatial_join.specs.Joined.{as_join, joined_names, refused_items};
 
 use crate::calculations::{append_names, check_calculations};
+use join_terms::CalcSpec;
 use std::alloc::Global;
-use table_ops::{Columns, CopiedFields, TableFault, check_fields, copied_columns, copied_names};
-use table_terms::{CalcSpec, NameSet};
+use table_ops::{Columns, CopiedFields, check_fields, copied_columns, copied_names};
+use table_rows::TableFault;
+use table_terms::NameSet;
 use text_core::NameList;
 
 /// The columns of the target and after them those of the copied fields whose names are new, and all names: those of

@@ -1,13 +1,14 @@
 ghost use Rattle.std.specs.Prelude.{◌≡◌, ◌<◌, ◌+◌, ◌++◌, ◌∷◌, [], All, IfOk, OnOk, length, map};
-ghost use Rattle.table_ops.specs.Refusals.{Answers, Refuses};
+ghost use Rattle.table_rows.specs.Refusals.{Answers, Refuses};
 ghost use Rattle.spatial_join.specs.CalcColumns.{calculated_at, summed_place, with_sums};
 ghost use Rattle.spatial_join.specs.Joined.{calc_name, lacks_field, refused_calc};
 
 use grid_base::IdList;
+use join_terms::Calc;
 use json_read::{Decimal, Row, RowList, Value};
 use std::alloc::{AllocError, Global};
-use table_ops::{TableFault, TableWhy, column_sum};
-use table_terms::{Calc, NameSet};
+use table_rows::{TableFault, TableWhy, column_sum};
+use table_terms::NameSet;
 use text_core::{NameList, Text};
 
 /// Tests the calculations, which count from `first`: the source has the field of each sum, and the name of each is that

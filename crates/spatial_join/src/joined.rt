@@ -3,17 +3,19 @@ ghost use Rattle.std.specs.List.{zip};
 ghost use Rattle.std.specs.List.Sorted.{IsStrictlyIncreasing};
 ghost use Rattle.std.specs.Option.{option_copied};
 ghost use Rattle.lists.specs.Lists.{has};
-ghost use Rattle.table_ops.specs.Refusals.{Answers};
+ghost use Rattle.table_rows.specs.Refusals.{Answers};
 ghost use Rattle.spatial_join.specs.CalcColumns.{row_by_places, rows_by_places};
 ghost use Rattle.spatial_join.specs.Joined.{first_row, join_matched, matching};
 
 use crate::calc_columns::joined_columns;
 use crate::calculations::{summed_places, with_sums};
 use grid_base::{GroupList, IdList};
+use join_terms::CalcSpec;
 use json_read::{Row, RowList, Table};
 use std::alloc::{AllocError, Global};
-use table_ops::{Column, TableFault, candidates, copied_row};
-use table_terms::{CalcSpec, NameSet};
+use table_ops::{Column, candidates, copied_row};
+use table_rows::TableFault;
+use table_terms::NameSet;
 
 /// Fields of the source go to the rows of the target: to each from the first source row that matches it, and after them
 /// what is calculated of all that match it. For each target row `matches` has the numbers of those, ascending.

@@ -11,15 +11,15 @@ use Rattle.expr_lang.specs.Meaning.{evaluated}
 use Rattle.expr_lang.specs.Tree.{Tree}
 use Rattle.table_terms.specs.Names.{Text, place_of}
 use Rattle.table_terms.specs.Refusals.{on_ok, unless}
-use Rattle.table_ops.specs.Columns.{cells}
+use Rattle.table_rows.specs.Columns.{cells}
 use Rattle.table_ops.specs.Filtering.{filter_rows, says, tests_from, tests_of, value_for}
-use Rattle.table_ops.specs.Groups.{groups_of, keys_once}
-use Rattle.table_ops.specs.Keys.{same_values}
-use Rattle.table_ops.specs.Refusals.{refused_item}
-use Rattle.table_ops.specs.Splitting.{pieces_by, single_rows, split_rows}
-use Rattle.table_ops.specs.declared.split.SplitItem.{SplitItem}
-use Rattle.table_ops.proofs.Numbers.{numbers_where-below}
-use Rattle.table_ops.proofs.Pieces.{pieces_below, singles_below}
+use Rattle.table_rows.specs.Groups.{groups_of, keys_once}
+use Rattle.table_rows.specs.Keys.{same_values}
+use Rattle.table_rows.specs.Refusals.{refused_item}
+use Rattle.table_rows.specs.Splitting.{pieces_by, single_rows, split_rows}
+use Rattle.table_rows.specs.declared.split.SplitItem.{SplitItem}
+use Rattle.table_rows.proofs.Numbers.{numbers_where-below}
+use Rattle.table_rows.proofs.Pieces.{pieces_below, singles_below}
 use Rattle.calc_ops.specs.EarlyRows.{are_early, early_behind, uniq_rows}
 use Rattle.calc_ops.specs.Keys.{keys_from, keys_of}
 use Rattle.calc_ops.specs.KeyOrder.{comes_before, sort_rows}

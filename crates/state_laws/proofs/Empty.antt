@@ -10,7 +10,7 @@ use Rattle.plane_model.specs.Points.{Path}
 use Rattle.plane_model.specs.Arcs.{SignedArc}
 use Rattle.grid_base.specs.declared.kinds.Kind.{Kind}
 use Rattle.grid_base.specs.declared.kinds.Kind.TheVariants as kinds
-use Rattle.table_ops.specs.Rows.{row_at}
+use Rattle.table_rows.specs.Rows.{row_at}
 use Rattle.region_model.specs.Answers.{is_empty as is_empty_region, is_nil}
 use Rattle.region_laws.proofs.Answered.{emptiness_is_told}
 use Rattle.line_laws.specs.Linked.{points_along}

@@ -15,10 +15,10 @@ use Rattle.grid_base.specs.declared.kinds.Kind.{Kind}
 use Rattle.grid_base.specs.declared.kinds.Kind.TheVariants as kinds
 use Rattle.geojson_io.specs.Layers.{same_kind}
 use Rattle.table_terms.specs.Refusals.{on_ok}
-use Rattle.table_terms.specs.declared.specifications.GroupSpec.{GroupSpec}
-use Rattle.table_ops.specs.Grouping.{group_rows}
-use Rattle.table_ops.specs.declared.fault.TableWhy.{TableWhy}
-use Rattle.table_ops.specs.declared.group.Grouped.{Grouped}
+use Rattle.table_terms.specs.declared.groupings.GroupSpec.{GroupSpec}
+use Rattle.table_rows.specs.Grouping.{group_rows}
+use Rattle.table_rows.specs.declared.fault.TableWhy.{TableWhy}
+use Rattle.table_rows.specs.declared.group.Grouped.{Grouped}
 use Rattle.ring_trace.proofs.SetLemmas.{nat_order}
 use Rattle.region_model.specs.LineCommands.{dissolved_paths}
 use Rattle.line_laws.specs.Linked.{AreLinked, AreThere, along_one, arcs_along, points_along}

@@ -10,8 +10,8 @@ use Rattle.grid_base.specs.declared.kinds.Kind.TheVariants as kinds
 use Rattle.json_read.specs.Table.{TableContent}
 use Rattle.geojson_io.specs.Layers.{same_kind}
 use Rattle.table_terms.specs.Refusals.{first_refusal, on_ok}
-use Rattle.table_ops.specs.Merge.{merge_tables}
-use Rattle.table_ops.specs.declared.fault.TableWhy.{TableWhy}
+use Rattle.table_rows.specs.Merge.{merge_tables}
+use Rattle.table_rows.specs.declared.fault.TableWhy.{TableWhy}
 use Rattle.job_terms.specs.declared.job.Action.TheVariants as does
 use Rattle.job_terms.specs.declared.job.Command.{Command}
 use Rattle.job_terms.specs.declared.job.JointAction.{JointAction}

@@ -5,8 +5,8 @@ use Rattle.std.proofs.lemmas.List.Elements.{All-cons}
 use Rattle.grid_base.specs.declared.kinds.Kind.{Kind}
 use Rattle.json_read.specs.Table.{TableContent}
 use Rattle.table_terms.specs.Refusals.{on_ok}
-use Rattle.table_ops.specs.Merge.{merge_tables}
-use Rattle.table_ops.specs.declared.fault.TableWhy.{TableWhy}
+use Rattle.table_rows.specs.Merge.{merge_tables}
+use Rattle.table_rows.specs.declared.fault.TableWhy.{TableWhy}
 use Rattle.run_plane.specs.declared.layer.Layer.{Layer}
 use Rattle.run_plane.specs.declared.layer.Shape.{Shape}
 use Rattle.run_state.specs.Stops.{table_refusal}

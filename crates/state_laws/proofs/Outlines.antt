@@ -15,11 +15,11 @@ use Rattle.line_ops.specs.Sided.{has_both, sided_among}
 use Rattle.line_ops.specs.declared.sides.SidedArc.{SidedArc}
 use Rattle.table_terms.specs.Names.{cell}
 use Rattle.table_terms.specs.Refusals.{unless}
-use Rattle.table_ops.specs.Columns.{cells, keep_fields, kept_columns}
-use Rattle.table_ops.specs.Refusals.{refused_item}
-use Rattle.table_ops.specs.Rows.{row_at}
-use Rattle.table_ops.specs.declared.fault.TableWhy.{TableWhy}
-use Rattle.table_ops.proofs.Numbers.{numbers_where-below}
+use Rattle.table_rows.specs.Columns.{cells, keep_fields, kept_columns}
+use Rattle.table_rows.specs.Refusals.{refused_item}
+use Rattle.table_rows.specs.Rows.{row_at}
+use Rattle.table_rows.specs.declared.fault.TableWhy.{TableWhy}
+use Rattle.table_rows.proofs.Numbers.{numbers_where-below}
 use Rattle.region_model.specs.Region.{Region, any_of}
 use Rattle.region_model.specs.LineCommands as model
 use Rattle.region_model.specs.LineCommands.{differs, holders_left, holders_right, inner_lines, on_left, on_right, outer_and_inner, side_of_first}

@@ -7,7 +7,7 @@ use Rattle.grid_base.specs.declared.kinds.Kind.{Kind}
 use Rattle.grid_base.specs.declared.kinds.Kind.TheVariants as kinds
 use Rattle.geojson_io.specs.Layers.{same_kind}
 use Rattle.table_terms.specs.Refusals.{first_refusal, on_ok}
-use Rattle.table_terms.specs.declared.calculations.CalcSpec.{CalcSpec}
+use Rattle.join_terms.specs.declared.calculations.CalcSpec.{CalcSpec}
 use Rattle.spatial_join.specs.Joined.{join_matched}
 use Rattle.job_terms.specs.declared.job.Action.TheVariants as does
 use Rattle.job_terms.specs.declared.job.Command.{Command}

@@ -8,7 +8,7 @@ use Rattle.grid_base.specs.declared.kinds.Kind.{Kind}
 use Rattle.grid_base.specs.declared.kinds.OverlapRule.{OverlapRule}
 use Rattle.json_read.specs.Table.{TableContent}
 use Rattle.plane_model.specs.Snapped.{snapped}
-use Rattle.table_ops.specs.Rows.{take_rows}
+use Rattle.table_rows.specs.Rows.{take_rows}
 use Rattle.face_walk.specs.Places.{FaceTable}
 use Rattle.ring_trace.specs.Sets.{IsInnerFace, IsSetOf}
 use Rattle.region_ops.specs.Cleaned.{IsCleaned as AreCleaned, is_lost}

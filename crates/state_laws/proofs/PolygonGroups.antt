@@ -10,15 +10,15 @@ use Rattle.grid_base.specs.declared.kinds.Kind.TheVariants as kinds
 use Rattle.json_read.specs.Table.{RowValues, TableContent}
 use Rattle.plane_model.specs.Snapped.{snapped}
 use Rattle.table_terms.specs.Refusals.{first_refusal, on_ok}
-use Rattle.table_terms.specs.declared.specifications.GroupSpec.{GroupSpec}
-use Rattle.table_ops.specs.Columns.{cells}
-use Rattle.table_ops.specs.Grouping.{field_places, group_rows, groups_by, listed_fields, refused_sums, table_of_groups}
-use Rattle.table_ops.specs.Groups.{groups_of, keys_once}
-use Rattle.table_ops.specs.Keys.{same_values}
-use Rattle.table_ops.specs.Refusals.{refused_item}
-use Rattle.table_ops.specs.declared.fault.TableWhy.{TableWhy}
-use Rattle.table_ops.specs.declared.group.Grouped.{Grouped}
-use Rattle.table_ops.proofs.Numbers.{numbers_where-below}
+use Rattle.table_terms.specs.declared.groupings.GroupSpec.{GroupSpec}
+use Rattle.table_rows.specs.Columns.{cells}
+use Rattle.table_rows.specs.Grouping.{field_places, group_rows, groups_by, listed_fields, refused_sums, table_of_groups}
+use Rattle.table_rows.specs.Groups.{groups_of, keys_once}
+use Rattle.table_rows.specs.Keys.{same_values}
+use Rattle.table_rows.specs.Refusals.{refused_item}
+use Rattle.table_rows.specs.declared.fault.TableWhy.{TableWhy}
+use Rattle.table_rows.specs.declared.group.Grouped.{Grouped}
+use Rattle.table_rows.proofs.Numbers.{numbers_where-below}
 use Rattle.ring_trace.specs.Sets.{IsSetOf}
 use Rattle.ring_trace.proofs.SetLemmas.{from_ascending, nat_order}
 use Rattle.region_ops.specs.Dissolved.{set_at, union_of}

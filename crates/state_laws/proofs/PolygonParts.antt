@@ -11,7 +11,7 @@ use Rattle.json_read.specs.Table.{RowValues, TableContent}
 use Rattle.json_read.specs.declared.value.Value.TheVariants as value
 use Rattle.plane_model.specs.Snapped.{snapped}
 use Rattle.table_terms.specs.Names.{Text}
-use Rattle.table_ops.specs.Rows.{row_at, take_rows}
+use Rattle.table_rows.specs.Rows.{row_at, take_rows}
 use Rattle.face_walk.specs.Places.{FaceTable}
 use Rattle.ring_trace.specs.Joined.{AreParts}
 use Rattle.ring_trace.specs.Parts.{IsPieceOf}

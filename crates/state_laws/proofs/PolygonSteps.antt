@@ -10,10 +10,10 @@ use Rattle.grid_base.specs.declared.kinds.Kind.TheVariants as kinds
 use Rattle.geojson_io.specs.Layers.{same_kind}
 use Rattle.table_terms.specs.Names.{Text}
 use Rattle.table_terms.specs.Refusals.{on_ok, unless}
-use Rattle.table_ops.specs.Grouping.{group_rows}
-use Rattle.table_ops.specs.Refusals.{refused_item}
-use Rattle.table_ops.specs.declared.fault.TableWhy.{TableWhy}
-use Rattle.table_ops.specs.declared.group.Grouped.{Grouped}
+use Rattle.table_rows.specs.Grouping.{group_rows}
+use Rattle.table_rows.specs.Refusals.{refused_item}
+use Rattle.table_rows.specs.declared.fault.TableWhy.{TableWhy}
+use Rattle.table_rows.specs.declared.group.Grouped.{Grouped}
 use Rattle.region_model.specs.LineCommands.{SidedArc, outer_and_inner}
 use Rattle.region_model.specs.Region.{Region, any_of}
 use Rattle.job_terms.specs.declared.job.Action.TheVariants as does

@@ -8,7 +8,7 @@ use Rattle.lists.proofs.Members.{Contains-head, Contains-later}
 use Rattle.grid_base.specs.declared.kinds.Kind.{Kind}
 use Rattle.json_read.specs.Table.{TableContent}
 use Rattle.plane_model.specs.Snapped.{snapped}
-use Rattle.table_ops.specs.Merge.{all_names}
+use Rattle.table_rows.specs.Merge.{all_names}
 use Rattle.face_walk.specs.Places.{FaceTable}
 use Rattle.ring_trace.specs.Sets.{IsSetOf}
 use Rattle.union_ops.specs.Union.{Group, IsUnion, faces_of, items_of, items_of_groups}

@@ -5,9 +5,9 @@ use Rattle.std.proofs.lemmas.List.Elements.{All-head, All-tail}
 use Rattle.json_read.specs.Table.{TableContent}
 use Rattle.json_read.specs.declared.value.Value.{Value}
 use Rattle.table_terms.specs.Names.{Text}
-use Rattle.table_ops.specs.Splitting.{split_rows}
-use Rattle.table_ops.specs.declared.fault.TableWhy.{TableWhy}
-use Rattle.table_ops.specs.declared.split.SplitItem.{SplitItem}
+use Rattle.table_rows.specs.Splitting.{split_rows}
+use Rattle.table_rows.specs.declared.fault.TableWhy.{TableWhy}
+use Rattle.table_rows.specs.declared.split.SplitItem.{SplitItem}
 use Rattle.table_terms.specs.Refusals.{on_ok}
 use Rattle.region_model.specs.Answers.{is_nil}
 use Rattle.run_plane.specs.Shapes.{shape_at}

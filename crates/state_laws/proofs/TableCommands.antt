@@ -6,10 +6,10 @@ use Rattle.json_read.specs.Table.{TableContent}
 use Rattle.expr_lang.specs.Tree.{all_assigned, tree_of}
 use Rattle.expr_lang.specs.declared.expr.Expr.{Expr}
 use Rattle.table_terms.specs.Refusals.{on_ok}
-use Rattle.table_ops.specs.Columns.{keep_fields, rename_fields}
+use Rattle.table_rows.specs.Columns.{keep_fields, rename_fields}
 use Rattle.table_ops.specs.Filtering.{filter_rows}
 use Rattle.table_ops.specs.Join.{join_tables}
-use Rattle.table_ops.specs.declared.fault.TableWhy.{TableWhy}
+use Rattle.table_rows.specs.declared.fault.TableWhy.{TableWhy}
 use Rattle.calc_ops.specs.EachRow.{each_rows}
 use Rattle.calc_ops.specs.EarlyRows.{uniq_rows}
 use Rattle.calc_ops.specs.KeyOrder.{sort_rows}

@@ -6,12 +6,12 @@ use Rattle.std.proofs.lemmas.List.FromFn.{length-enumerate_from}
 use Rattle.json_read.specs.Table.{TableContent}
 use Rattle.expr_lang.specs.Tree.{all_assigned, tree_of}
 use Rattle.table_terms.specs.Refusals.{on_ok}
-use Rattle.table_terms.specs.declared.specifications.JoinSpec.{JoinSpec}
-use Rattle.table_ops.specs.Columns.{keep_fields, rename_fields}
+use Rattle.join_terms.specs.declared.joins.JoinSpec.{JoinSpec}
+use Rattle.table_rows.specs.Columns.{keep_fields, rename_fields}
 use Rattle.table_ops.specs.Join.{join_tables}
-use Rattle.table_ops.specs.Splitting.{split_rows}
-use Rattle.table_ops.specs.declared.fault.TableWhy.{TableWhy}
-use Rattle.table_ops.specs.declared.split.SplitItem.{SplitItem}
+use Rattle.table_rows.specs.Splitting.{split_rows}
+use Rattle.table_rows.specs.declared.fault.TableWhy.{TableWhy}
+use Rattle.table_rows.specs.declared.split.SplitItem.{SplitItem}
 use Rattle.calc_ops.specs.EachRow.{each_rows}
 use Rattle.calc_ops.specs.EarlyRows.{uniq_rows}
 use Rattle.calc_ops.specs.KeyOrder.{sort_rows}

@@ -3,7 +3,7 @@ use Rattle.std.proofs.Common.{◌≡◌, refl, sym, ap, ◌∙◌, ℕ, ◌+◌,
 use Rattle.std.specs.List.{AllZip, list_all, list_any, range_with_len}
 use Rattle.lists.specs.Lists.{numbers_from, numbers_where}
 use Rattle.table_terms.specs.Names.{Text, has_name}
-use Rattle.table_ops.proofs.Numbers.{numbers_where-none}
+use Rattle.table_rows.proofs.Numbers.{numbers_where-none}
 use Rattle.job_terms.specs.declared.job.Origin.TheVariants as origin
 use Rattle.job_terms.specs.declared.job.Target.{Target}
 use Rattle.job_terms.specs.declared.job.Target.TheVariants as target

@@ -3,8 +3,8 @@
 use Rattle.std.specs.Prelude.{◌≡◌, ◌≢◌, ℕ, Bool, List, None}
 use Rattle.io_core.specs.Contents.{Content}
 use Rattle.grid_base.specs.declared.kinds.Kind.TheVariants as kinds
-use Rattle.table_terms.specs.declared.specifications.GroupSpec.{GroupSpec}
-use Rattle.table_ops.specs.Columns.{keep_fields}
+use Rattle.table_terms.specs.declared.groupings.GroupSpec.{GroupSpec}
+use Rattle.table_rows.specs.Columns.{keep_fields}
 use Rattle.region_model.specs.Region.{Region}
 use Rattle.run_plane.specs.declared.layer.Layer.{Layer}
 use Rattle.run_plane.specs.declared.plane.Plane.{Plane}

@@ -1,7 +1,7 @@
 -- Laws of joins by place: a join of points with polygons, or of polygons with points, shows that of the state's layers,
 -- and so does its step.
 use Rattle.std.specs.Prelude.{◌≡◌, ℕ, true, List}
-use Rattle.table_terms.specs.declared.calculations.CalcSpec.{CalcSpec}
+use Rattle.join_terms.specs.declared.calculations.CalcSpec.{CalcSpec}
 use Rattle.spatial_join.specs.Joined.{join_matched}
 use Rattle.job_terms.specs.declared.job.Action.TheVariants as does
 use Rattle.job_terms.specs.declared.job.Command.{Command}

@@ -5,7 +5,7 @@ use Rattle.std.specs.List.{AllZip}
 use Rattle.plane_model.specs.Snapped.{snapped}
 use Rattle.grid_base.specs.declared.kinds.Kind.TheVariants as kinds
 use Rattle.grid_base.specs.declared.kinds.OverlapRule.{OverlapRule}
-use Rattle.table_terms.specs.declared.specifications.GroupSpec.{GroupSpec}
+use Rattle.table_terms.specs.declared.groupings.GroupSpec.{GroupSpec}
 use Rattle.region_model.specs.Region.{Region, box}
 use Rattle.job_terms.specs.declared.job.Origin.{Origin}
 use Rattle.run_plane.specs.declared.layer.Layer.{Layer}

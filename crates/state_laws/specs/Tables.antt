@@ -7,10 +7,10 @@ use Rattle.expr_lang.specs.Tree.{all_assigned, tree_of}
 use Rattle.expr_lang.specs.declared.assign.Assign.{Assign}
 use Rattle.expr_lang.specs.declared.expr.Expr.{Expr}
 use Rattle.table_terms.specs.declared.renames.Rename.{Rename}
-use Rattle.table_terms.specs.declared.specifications.JoinSpec.{JoinSpec}
-use Rattle.table_ops.specs.Columns.{keep_fields, rename_fields}
+use Rattle.join_terms.specs.declared.joins.JoinSpec.{JoinSpec}
+use Rattle.table_rows.specs.Columns.{keep_fields, rename_fields}
 use Rattle.table_ops.specs.Join.{join_tables}
-use Rattle.table_ops.specs.Splitting.{split_rows}
+use Rattle.table_rows.specs.Splitting.{split_rows}
 use Rattle.calc_ops.specs.EachRow.{each_rows}
 use Rattle.calc_ops.specs.EarlyRows.{uniq_rows}
 use Rattle.calc_ops.specs.KeyOrder.{sort_rows}

@@ -14,17 +14,17 @@ use Rattle.json_read.specs.Table.{RowValues, AreRows}
 use Rattle.json_read.specs.Value.{same}
 use Rattle.json_read.specs.declared.value.Value.{Value}
 use Rattle.table_terms.specs.Names.{Text, has_name, value_at, place_of}
-use Rattle.table_ops.specs.Rows.{row_at}
-use Rattle.table_ops.specs.Keys.{same_values}
-use Rattle.table_ops.specs.Same.{same_decides, rows_decide}
+use Rattle.table_rows.specs.Rows.{row_at}
+use Rattle.table_rows.specs.Keys.{same_values}
+use Rattle.table_rows.specs.Same.{same_decides, rows_decide}
 use Rattle.table_ops.specs.Join.{copied_fields, copied_name, new_fields, forced_field, is_null, matches, kept_cell, new_cell, joined_row}
 use Rattle.table_ops.specs.JoinColumns.{kept_at, kept_column, added_column, columns_of, column_value, row_found}
-use Rattle.table_terms.specs.declared.specifications.JoinSpec.{JoinSpec}
+use Rattle.join_terms.specs.declared.joins.JoinSpec.{JoinSpec}
 use Rattle.table_ops.specs.declared.join_columns.Column.{Column}
-use Rattle.table_ops.proofs.Cells.{map_map}
+use Rattle.table_rows.proofs.Cells.{map_map}
 use Rattle.table_terms.proofs.Distinct.{IsDistinct-map}
 use Rattle.table_terms.proofs.Mapped.{position_or_len-map}
-use Rattle.table_ops.proofs.Numbers.{numbers_where_more}
+use Rattle.table_rows.proofs.Numbers.{numbers_where_more}
 
 texts_decide : (s t : Text) → Decides (bytes_eq s t) (s ≡ t)
 texts_decide = pointwise_decides unsigned_Decides

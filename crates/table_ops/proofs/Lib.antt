@@ -1,11 +1,2 @@
-pub mod Answering
-pub mod TakenRows
-pub mod Cells
-pub mod Merging
 pub mod Testing
-pub mod Numbers
-pub mod Renaming
-pub mod Grouping
-pub mod Pieces
 pub mod Joining
-pub mod Summing

@@ -7,7 +7,7 @@ use Rattle.json_read.specs.Table.{RowValues}
 use Rattle.table_terms.specs.Names.{Text}
 use Rattle.table_terms.specs.Refusals.{on_ok}
 use Rattle.table_ops.specs.Filtering.{says, tests_from}
-use Rattle.table_ops.specs.declared.fault.TableWhy.{TableWhy}
+use Rattle.table_rows.specs.declared.fault.TableWhy.{TableWhy}
 
 -- these items before those of an answer
 abbrev pub behind : {A E : Type 0} → List A → Result (List A) E → Result (List A) E

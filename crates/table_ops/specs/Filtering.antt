@@ -10,9 +10,9 @@ use Rattle.json_read.specs.declared.value.Value.{Value}
 use Rattle.json_read.specs.declared.value.Value.TheVariants as cell
 use Rattle.table_terms.specs.Names.{Text}
 use Rattle.table_terms.specs.Refusals.{on_ok}
-use Rattle.table_ops.specs.declared.fault.EvalWhy.TheVariants as why
-use Rattle.table_ops.specs.declared.fault.TableWhy.{TableWhy}
-use Rattle.table_ops.specs.declared.fault.TableWhy.TheVariants.{Eval, NotBoolean}
+use Rattle.table_rows.specs.declared.fault.EvalWhy.TheVariants as why
+use Rattle.table_rows.specs.declared.fault.TableWhy.{TableWhy}
+use Rattle.table_rows.specs.declared.fault.TableWhy.TheVariants.{Eval, NotBoolean}
 
 -- the value for row n, or why there is none; that memory is wanting is no value of an expression
 abbrev pub value_for : ℕ → Evaluated → Result Value TableWhy

@@ -9,13 +9,13 @@ use Rattle.json_read.specs.Value.{same}
 use Rattle.json_read.specs.declared.value.Value.{Value}
 use Rattle.json_read.specs.declared.value.Value.TheVariants as is
 use Rattle.table_terms.specs.Names.{Text, has_name, cell}
-use Rattle.table_ops.specs.Rows.{row_at}
+use Rattle.table_rows.specs.Rows.{row_at}
 use Rattle.table_ops.specs.Filtering.{filter_rows}
 use Rattle.table_terms.specs.Refusals.{unless, first_refusal, on_ok}
-use Rattle.table_ops.specs.Refusals.{refused_item}
-use Rattle.table_terms.specs.declared.specifications.JoinSpec.{JoinSpec}
-use Rattle.table_ops.specs.declared.fault.TableWhy.{TableWhy}
-use Rattle.table_ops.specs.declared.fault.TableWhy.TheVariants.{NoField}
+use Rattle.table_rows.specs.Refusals.{refused_item}
+use Rattle.join_terms.specs.declared.joins.JoinSpec.{JoinSpec}
+use Rattle.table_rows.specs.declared.fault.TableWhy.{TableWhy}
+use Rattle.table_rows.specs.declared.fault.TableWhy.TheVariants.{NoField}
 
 -- ---- columns, by the names of the two tables
 

@@ -5,7 +5,7 @@ use Rattle.json_read.specs.declared.value.Value.{Value}
 use Rattle.json_read.specs.declared.value.Value.TheVariants as is
 use Rattle.table_terms.specs.Names.{Text, value_at, place_of}
 use Rattle.table_ops.specs.Join.{forced_field, new_fields}
-use Rattle.table_terms.specs.declared.specifications.JoinSpec.{JoinSpec}
+use Rattle.join_terms.specs.declared.joins.JoinSpec.{JoinSpec}
 use Rattle.table_ops.specs.declared.join_columns.Column.{Column}
 use Rattle.table_ops.specs.declared.join_columns.Column.TheVariants.{Kept, Forced, Added}
 use Rattle.table_ops.specs.declared.join_columns.CopiedFields.{CopiedFields}

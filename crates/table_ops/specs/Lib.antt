@@ -1,12 +1,3 @@
-pub mod Refusals
-pub mod Rows
-pub mod Columns
-pub mod Merge
-pub mod Keys
-pub mod Same
 pub mod Filtering
-pub mod Groups
-pub mod Splitting
 pub mod Join
 pub mod JoinColumns
-pub mod Grouping

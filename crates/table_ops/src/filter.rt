@@ -5,14 +5,13 @@ ghost use Rattle.expr_lang.specs.Meaning.{Evaluated, FaultIs, evaluated};
 ghost use Rattle.expr_lang.specs.Tree.{tree_of};
 ghost use Rattle.json_read.specs.declared.value.Value as cell;
 ghost use Rattle.table_ops.specs.Filtering.{filter_rows, says, tests_of, truth_for, value_for};
-ghost use Rattle.table_ops.specs.Refusals.{Answers, AnswersAs};
+ghost use Rattle.table_rows.specs.Refusals.{Answers, AnswersAs};
 
-use crate::fault::{EvalWhy, TableFault, TableWhy};
-use crate::rows::row_of;
 use expr_lang::{EvalFault, Expr, eval_values};
 use grid_base::IdList;
 use json_read::{Row, Table, Value};
 use std::alloc::{AllocError, Global};
+use table_rows::{EvalWhy, TableFault, TableWhy, row_of};
 use text_core::{NameList, Text};
 
 /// The numbers of the rows for which the expression is true, or with `invert` false.
@@ -102,7 +101,7 @@ fn refusal(fault: EvalFault, row: u32) -> TableFault
 }
 
 /// The places of the tests with this answer, counted from 0, ascending.
-#[tactic(auto, using(crate::proofs::Numbers::numbers_where_more))]
+#[tactic(auto, using(table_rows::proofs::Numbers::numbers_where_more))]
 pub fn numbers_of(alloc: Global, tests: &[bool], wanted: bool) -> Result<IdList, AllocError>
     ensures exact { IfOk result (λ numbers. numbers ≡ numbers_where (beq wanted) tests.now) }
     ensures within { IfOk result (λ numbers. All (λ n. n < length tests.now) numbers) }

@@ -7,23 +7,21 @@ ghost use Rattle.json_read.specs.Table.{RowValues};
 ghost use Rattle.lists.specs.Lists.{numbers_where};
 ghost use Rattle.table_ops.specs.Join.{candidates, join_tables, joined_table, refused_join, refused_key};
 ghost use Rattle.table_ops.specs.JoinColumns.{column_value, row_found};
-ghost use Rattle.table_ops.specs.Keys.{same_values};
+ghost use Rattle.table_rows.specs.Keys.{same_values};
 ghost use Rattle.table_terms.specs.Names.{value_at};
-ghost use Rattle.table_ops.specs.Refusals.{Answers, Refuses, refused_item};
+ghost use Rattle.table_rows.specs.Refusals.{Answers, Refuses, refused_item};
 
-use crate::fault::{TableFault, TableWhy};
 use crate::filter::filter_rows;
-use crate::items::check_list;
 use crate::join_columns::{Column, columns_of};
 use crate::join_matches::{first_rows, match_of};
-use crate::key::Key;
-use crate::rows::copy_at;
 use expr_lang::Expr;
 use grid_base::IdList;
 use indexmap::IndexMap;
+use join_terms::JoinSpec;
 use json_read::{Row, RowList, Table, Value};
 use std::alloc::{AllocError, Global};
-use table_terms::{JoinSpec, NameSet};
+use table_rows::{Key, TableFault, TableWhy, check_list, copy_at};
+use table_terms::NameSet;
 use text_core::NameList;
 
 /// Fields of the source go to the rows of the target: to each from the first source row whose key is

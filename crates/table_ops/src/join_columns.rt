@@ -5,9 +5,10 @@ ghost use Rattle.table_ops.specs.Join.{copied_fields, copied_name, forced_field,
 ghost use Rattle.table_ops.specs.JoinColumns.{added_column, columns_of, join_of, kept_column};
 ghost use Rattle.table_terms.specs.Names.{Text, has_name, place_of};
 
-use crate::rows::copy_names;
+use join_terms::JoinSpec;
 use std::alloc::{AllocError, Global};
-use table_terms::{JoinSpec, NameSet};
+use table_rows::copy_names;
+use table_terms::NameSet;
 use text_core::{NameList, Text};
 
 /// Where a column of a joined table comes from; places are counted from 0.

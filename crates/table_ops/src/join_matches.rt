@@ -5,15 +5,14 @@ ghost use Rattle.json_read.specs.Table.{RowValues};
 ghost use Rattle.json_read.specs.declared.value.Value.{Value};
 ghost use Rattle.table_ops.specs.Join.{is_null, matches};
 ghost use Rattle.table_ops.specs.JoinColumns.{row_found};
-ghost use Rattle.table_ops.specs.Keys.{same_values};
+ghost use Rattle.table_rows.specs.Keys.{same_values};
 ghost use Rattle.table_terms.specs.Names.{value_at};
-ghost use Rattle.table_ops.specs.Rows.{row_at};
+ghost use Rattle.table_rows.specs.Rows.{row_at};
 
-use crate::key::Key;
-use crate::rows::row_of;
 use indexmap::IndexMap;
 use json_read::{Row, RowList, Value};
 use std::alloc::{AllocError, Global};
+use table_rows::{Key, row_of};
 
 /// The number of the first of these rows with each value at a place; null is no value.
 pub(crate) fn first_rows(

@@ -1,20 +1,17 @@
-//! The terms in which tables are asked for: names of columns, renames, and what a grouping or a join takes.
+//! The terms in which rows and columns are asked for: names of columns, renames, and what a grouping takes. Those of
+//! joins, which may have an expression, are in `join_terms`.
 //!
 //! 1. `names` has sets of names, which answer the place of a name.
 //! 2. `renames` has lists of new names for columns.
-//! 3. `specifications` says what a grouping or a join by keys takes, `calculations` what a join of rows that are
-//!    matched already takes, and what it calculates.
+//! 3. `groupings` says what a grouping takes.
 //!
-//! In `cmd_words` the words of a command line become these terms. `table_ops` and `spatial_join` say what tables then
-//! give.
+//! In `cmd_words` the words of a command line become these terms. `table_rows` says what tables then give.
 #![tactic(auto)]
 
-mod calculations;
+mod groupings;
 mod names;
 mod renames;
-mod specifications;
 
-pub use calculations::{Calc, CalcList, CalcSpec};
+pub use groupings::GroupSpec;
 pub use names::NameSet;
 pub use renames::{Rename, RenameList};
-pub use specifications::{GroupSpec, JoinSpec};

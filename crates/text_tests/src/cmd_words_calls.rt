@@ -7,9 +7,9 @@ use case_lists::{bytes_of_text, names_at, number_at, text_at, told, unknown_call
 use cmd_words::read_chain;
 use io_core::{Bytes, Text, Words};
 use job_terms::{Action, Chain, Job, LayerAction};
+use join_terms::Calc;
 use json_read::Json;
 use std::alloc::{AllocError, Global};
-use table_terms::Calc;
 
 /// What a call of `cmd_words` answers to a case, as this module says; to a call that isn't there, what `unknown_call`
 /// answers.

@@ -18,14 +18,16 @@ use csv_io::{Room2, read_csv, write_csv};
 use expr_lang::Expr;
 use grid_base::IdList;
 use io_core::{Bytes, NameList, Text};
+use join_terms::JoinSpec;
 use json_read::{Json, Table};
 use std::alloc::{AllocError, Global};
 use std::fmt::Debug;
-use table_ops::{
-    Grouped, SplitItem, SplitList, TableFault, TableList, filter_rows, group_rows, join_tables,
-    keep_fields, merge_tables, rename_fields, split_rows, take_rows,
+use table_ops::{filter_rows, join_tables};
+use table_rows::{
+    Grouped, SplitItem, SplitList, TableFault, TableList, group_rows, keep_fields, merge_tables,
+    rename_fields, split_rows, take_rows,
 };
-use table_terms::{GroupSpec, JoinSpec, Rename, RenameList};
+use table_terms::{GroupSpec, Rename, RenameList};
 
 /// What ends a call before its answer: a fault, as it is told, or memory.
 #[derive(Drop)]

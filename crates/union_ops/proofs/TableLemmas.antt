@@ -5,8 +5,8 @@ use Rattle.std.proofs.lemmas.Grind.{flat_map-append}
 use Rattle.std.proofs.lemmas.List.{append-nil, length-append, length-map, get_or_default, take_more, take_all}
 use Rattle.std.proofs.lemmas.Slice.Zip.{get_or-zip, length-zip}
 use Rattle.json_read.specs.Table.{TableContent, RowValues, AreRows}
-use Rattle.table_ops.specs.Merge.{all_names}
-use Rattle.table_ops.proofs.Merging.{all_names_more}
+use Rattle.table_rows.specs.Merge.{all_names}
+use Rattle.table_rows.proofs.Merging.{all_names_more}
 use Rattle.union_ops.specs.Choices.{Choice, IsChoiceFrom}
 use Rattle.union_ops.specs.UnionTable.{chosen_row, union_row}
 

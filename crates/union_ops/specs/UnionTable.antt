@@ -4,8 +4,8 @@ use Rattle.std.specs.List.{flat_map}
 use Rattle.json_read.specs.Table.{TableContent, RowValues}
 use Rattle.json_read.specs.declared.value.Value.TheVariants as is
 use Rattle.table_terms.specs.Names.{Text}
-use Rattle.table_ops.specs.Merge.{all_names}
-use Rattle.table_ops.specs.Rows.{row_at}
+use Rattle.table_rows.specs.Merge.{all_names}
+use Rattle.table_rows.specs.Rows.{row_at}
 use Rattle.union_ops.specs.Choices.{Choice, IsChoiceFrom}
 use Rattle.union_ops.specs.ColumnNames.{AreNewNames}
 use Rattle.union_ops.specs.declared.union_lists.UnionItem.{UnionItem}

@@ -1,7 +1,7 @@
 ghost use Rattle.std.specs.Prelude.{◌≡◌, ◌<◌, ◌++◌, ◌∷◌, [], List, ℕ, false, IfOk, OnOk};
 ghost use Rattle.std.specs.List.{IsDistinct};
 ghost use Rattle.std.specs.Str.{bytes_eq};
-ghost use Rattle.table_ops.specs.Merge.{all_names};
+ghost use Rattle.table_rows.specs.Merge.{all_names};
 ghost use Rattle.table_terms.specs.Names.{has_name};
 ghost use Rattle.union_ops.specs.ColumnNames.{AreNewNames, AreTried, IsFree, IsNewName, numbered as name_with_number};
 

@@ -1,7 +1,7 @@
 ghost use Rattle.std.specs.Prelude.{◌≡◌, ◌+◌, ◌++◌, All, IfOk, OnOk, length, map};
 ghost use Rattle.json_read.specs.Table.{AreRows};
 ghost use Rattle.json_read.specs.declared.value.Value.TheVariants as is;
-ghost use Rattle.table_ops.specs.Merge.{all_names};
+ghost use Rattle.table_rows.specs.Merge.{all_names};
 ghost use Rattle.union_ops.specs.Choices.{IsChoiceFrom};
 ghost use Rattle.union_ops.specs.UnionTable.{IsChosenFrom, IsOfTables, IsUnionTable, chosen_row, union_row};
 
@@ -9,7 +9,7 @@ use crate::column_names::union_names;
 use crate::union_lists::{UnionItem, UnionList};
 use json_read::{Row, RowList, Table, Value};
 use std::alloc::{AllocError, Global};
-use table_ops::TableList;
+use table_rows::TableList;
 use text_core::NameList;
 
 /// The columns of the tables side by side, and for each item a row: the values of the rows that it has chosen, and

@@ -10,8 +10,8 @@ use Rattle.json_read.specs.Bytes.{is_white}
 use Rattle.json_read.specs.Reading.{drop_while}
 use Rattle.expr_lang.specs.Tokens.{is_name_start, is_name_byte}
 use Rattle.table_terms.specs.Names.{Text}
-use Rattle.table_terms.specs.declared.calculations.Calc.{Calc}
-use Rattle.table_terms.specs.declared.calculations.Calc.TheVariants as calc
+use Rattle.join_terms.specs.declared.calculations.Calc.{Calc}
+use Rattle.join_terms.specs.declared.calculations.Calc.TheVariants as calc
 use Rattle.cmd_words.specs.Texts.{split_at, is_empty}
 use Rattle.cmd_words.specs.Calculations.{is_name, behind_white, trimmed, enclosed, call_of, calculated, calculation_of}
 use Rattle.word_laws.specs.Calculations.{Spaced, item, IsCalculation, counts, sums}

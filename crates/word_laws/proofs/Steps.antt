@@ -6,7 +6,7 @@ use Rattle.grid_base.specs.Grid.{Corners}
 use Rattle.table_terms.specs.Names.{Text}
 use Rattle.table_terms.specs.Names as names
 use Rattle.table_terms.specs.Refusals.{unless}
-use Rattle.table_terms.specs.declared.calculations.Calc.{Calc}
+use Rattle.join_terms.specs.declared.calculations.Calc.{Calc}
 use Rattle.table_terms.specs.declared.renames.Rename.{Rename}
 use Rattle.cmd_words.specs.declared.fault.ExprWhy.{ExprWhy}
 use Rattle.cmd_words.specs.declared.fault.WordWhy.{WordWhy}

@@ -4,8 +4,8 @@ use Rattle.std.specs.Prelude.{◌≡◌, true, ◌∷◌, [], ◌++◌, codes}
 use Rattle.std.specs.List.{list_all}
 use Rattle.json_read.specs.Bytes.{is_white}
 use Rattle.table_terms.specs.Names.{Text}
-use Rattle.table_terms.specs.declared.calculations.Calc.{Calc}
-use Rattle.table_terms.specs.declared.calculations.Calc.TheVariants as calc
+use Rattle.join_terms.specs.declared.calculations.Calc.{Calc}
+use Rattle.join_terms.specs.declared.calculations.Calc.TheVariants as calc
 use Rattle.cmd_words.specs.Calculations.{is_name}
 
 -- s is this word with white space round it

@@ -1,7 +1,7 @@
 -- Laws of words: the table of commands, and the definition that the reader keeps to, say the same.
 use Rattle.std.specs.Prelude.{◌≡◌, ℕ, ◌+◌, ◌-◌, ◌*◌, ◌/◌, ◌^◌, ◌≤◌, ◌↔◌, List, Some, Result}
 use Rattle.table_terms.specs.Names.{Text}
-use Rattle.table_terms.specs.declared.calculations.Calc.{Calc}
+use Rattle.join_terms.specs.declared.calculations.Calc.{Calc}
 use Rattle.cmd_words.specs.Calculations.{calculation_of}
 use Rattle.cmd_words.specs.declared.fault.WordFault.{WordFault}
 use Rattle.job_terms.specs.declared.job.Job.{Job}

@@ -5,9 +5,9 @@ use Rattle.expr_lang.specs.declared.assign.Assign.{Assign}
 use Rattle.expr_lang.specs.Meaning.{evaluated}
 use Rattle.expr_lang.specs.Tree.{all_assigned, tree_of}
 use Rattle.json_read.specs.Table.{RowValues, AreRows}
-use Rattle.table_ops.specs.Rows.{row_at}
-use Rattle.table_ops.proofs.TakenRows.{long_at}
-use Rattle.table_ops.proofs.Answering.{answers_other}
+use Rattle.table_rows.specs.Rows.{row_at}
+use Rattle.table_rows.proofs.TakenRows.{long_at}
+use Rattle.table_rows.proofs.Answering.{answers_other}
 use Rattle.table_ops.specs.Filtering.{value_for}
 use Rattle.calc_ops.specs.EachRow.{assigned_row, names_after, places_after, with_value}
 use Rattle.calc_ops.proofs.EachLemmas.{SoFar, none_set, row_stops, row_sets}

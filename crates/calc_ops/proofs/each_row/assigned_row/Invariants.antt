@@ -1,4 +1,4 @@
-use Rattle.table_ops.specs.Rows.{row_at}
+use Rattle.table_rows.specs.Rows.{row_at}
 use Rattle.calc_ops.proofs.EachLemmas.{SoFar}
 use Rattle.calc_ops.proofs.each_row.assigned_row.Given as goal
 

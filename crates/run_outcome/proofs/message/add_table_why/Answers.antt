@@ -1,5 +1,5 @@
 use Rattle.std.proofs.Common.{◌++◌, ℕ, codes, decimal, ap, sym, ◌∙◌}
-use Rattle.table_ops.specs.declared.fault.TableWhy.{TableWhy}
+use Rattle.table_rows.specs.declared.fault.TableWhy.{TableWhy}
 use Rattle.run_outcome.specs.Messages.{table_text}
 use Rattle.run_outcome.proofs.message.add_table_why.Goals as goal
 

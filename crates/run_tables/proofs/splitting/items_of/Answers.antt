@@ -1,7 +1,7 @@
 use Rattle.std.proofs.Common.{◌≡◌, ◌∙◌, Option, Some, ap, option_copied, subst, sym}
 use Rattle.io_core.specs.Contents.{Content}
-use Rattle.table_ops.specs.Refusals.{Answers}
-use Rattle.table_ops.specs.Splitting.{split_rows}
+use Rattle.table_rows.specs.Refusals.{Answers}
+use Rattle.table_rows.specs.Splitting.{split_rows}
 use Rattle.run_tables.proofs.splitting.items_of.Goals as goal
 
 pub returns-in-Some-clause-exact : goal.returns-in-Some-clause-exact

@@ -1,7 +1,7 @@
 use Rattle.std.proofs.Common.{◌+◌, ◌<◌, All, List, length, subst, sym, take}
 use Rattle.std.specs.List.{AllZip, enumerate_from}
 use Rattle.std.proofs.lemmas.List.Elements.{All-get_or}
-use Rattle.table_ops.specs.declared.split.SplitItem.{SplitItem}
+use Rattle.table_rows.specs.declared.split.SplitItem.{SplitItem}
 use Rattle.run_plane.specs.declared.layer.Layer.{Layer}
 use Rattle.run_tables.specs.Pieces.{IsPiece}
 use Rattle.run_tables.proofs.Pieces.{pieces_more}

@@ -1,6 +1,6 @@
 use Rattle.std.proofs.Common.{List, Ok, refl, sym, subst, ◌≡◌}
 use Rattle.json_read.specs.Table.{TableContent}
-use Rattle.table_ops.specs.Merge.{merge_tables}
+use Rattle.table_rows.specs.Merge.{merge_tables}
 use Rattle.run_state.specs.Targets.{targets}
 use Rattle.run_tables.proofs.Gathering.{merge_goes}
 use Rattle.run_tables.proofs.table_commands.merged_like.Goals as goal

@@ -2,12 +2,12 @@ use Rattle.std.proofs.Common.{◌≡◌, ◌++◌, ◌∙◌, List, [], Some, No
 use Rattle.std.specs.List.{IsDistinct}
 use Rattle.std.specs.Str.{bytes_eq}
 use Rattle.table_terms.specs.Names.{Text}
-use Rattle.table_terms.specs.declared.calculations.CalcSpec.{CalcSpec}
-use Rattle.table_terms.specs.declared.specifications.JoinSpec.{JoinSpec}
+use Rattle.join_terms.specs.declared.calculations.CalcSpec.{CalcSpec}
+use Rattle.join_terms.specs.declared.joins.JoinSpec.{JoinSpec}
 use Rattle.table_ops.specs.Join.{copied_name, new_fields}
 use Rattle.table_ops.specs.JoinColumns.{columns_of}
-use Rattle.table_ops.specs.Refusals.{refused_item}
-use Rattle.table_ops.proofs.Answering.{none_refused}
+use Rattle.table_rows.specs.Refusals.{refused_item}
+use Rattle.table_rows.proofs.Answering.{none_refused}
 use Rattle.table_ops.proofs.Joining.{listed_differ}
 use Rattle.spatial_join.specs.Joined.{calc_name, copied_names, joined_names, refused_calc}
 use Rattle.spatial_join.proofs.ColumnLemmas.{joined_names_differ}

@@ -1,7 +1,7 @@
 use Rattle.std.proofs.Common.{◌≡◌, ◌∙◌, ap, sym, ◌+◌, ◌++◌, ◌∷◌, List, length, drop, drop-cons, suc, Err}
 use Rattle.std.proofs.lemmas.Result.{err_from_is_err_and}
 use Rattle.table_terms.specs.Names.{Text}
-use Rattle.table_terms.specs.declared.calculations.Calc.{Calc}
+use Rattle.join_terms.specs.declared.calculations.Calc.{Calc}
 use Rattle.spatial_join.specs.Joined.{refused_calc}
 use Rattle.spatial_join.proofs.ColumnLemmas.{calc_stops}
 use Rattle.spatial_join.proofs.JoinLemmas.{refuses_whole}

@@ -3,7 +3,7 @@ use Rattle.std.proofs.lemmas.List.Elements.{All-filter}
 use Rattle.std.proofs.lemmas.Result.{err_from_is_err_and}
 use Rattle.json_read.specs.Table.{RowValues}
 use Rattle.lists.specs.Lists.{has}
-use Rattle.table_ops.proofs.Answering.{answers_other}
+use Rattle.table_rows.proofs.Answering.{answers_other}
 use Rattle.spatial_join.proofs.JoinLemmas.{rows_done, rows_next, rows_stop}
 use Rattle.spatial_join.proofs.joined.joined_rows.Goals as goal
 

@@ -1,6 +1,6 @@
 use Rattle.std.proofs.Common.{◌<◌, All, Bool, length, take, sym, subst, arith, length-take}
 use Rattle.std.specs.Bool.{beq}
-use Rattle.table_ops.proofs.Numbers.{numbers_from-below}
+use Rattle.table_rows.proofs.Numbers.{numbers_from-below}
 use Rattle.table_ops.proofs.filter.numbers_of.Goals as goal
 
 -- the tests that the loop went over are all of them, at most

@@ -3,7 +3,7 @@ use Rattle.std.proofs.lemmas.List.{map_more}
 use Rattle.indexmap.specs.IndexMap.{get}
 use Rattle.json_read.specs.Table.{RowValues}
 use Rattle.table_ops.specs.JoinColumns.{column_value, row_found}
-use Rattle.table_ops.specs.Keys.{same_values}
+use Rattle.table_rows.specs.Keys.{same_values}
 use Rattle.table_terms.specs.Names.{value_at}
 use Rattle.table_ops.proofs.join.joined_rows.Goals as goal
 

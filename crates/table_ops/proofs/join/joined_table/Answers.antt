@@ -6,9 +6,9 @@ use Rattle.json_read.specs.Table.{RowValues, AreRows}
 use Rattle.json_read.specs.declared.value.Value.{Value}
 use Rattle.table_ops.specs.Join.{copied_name, new_fields, matches, first_match, match_of, joined_row}
 use Rattle.table_ops.specs.JoinColumns.{columns_of, column_value, row_found}
-use Rattle.table_ops.specs.Keys.{same_values}
+use Rattle.table_rows.specs.Keys.{same_values}
 use Rattle.table_terms.specs.Names.{value_at, place_of, cell}
-use Rattle.table_ops.specs.Rows.{row_at}
+use Rattle.table_rows.specs.Rows.{row_at}
 use Rattle.table_ops.proofs.Joining.{values_joined, values_long, found_row, as_many_names}
 use Rattle.table_ops.proofs.join.joined_table.Goals as goal
 

@@ -3,7 +3,7 @@ use Rattle.std.specs.List.{IsDistinct}
 use Rattle.std.specs.Str.{bytes_eq}
 use Rattle.std.proofs.lemmas.Result.{IfOk-weaker}
 use Rattle.table_terms.specs.Names.{Text}
-use Rattle.table_terms.specs.declared.specifications.JoinSpec.{JoinSpec}
+use Rattle.join_terms.specs.declared.joins.JoinSpec.{JoinSpec}
 use Rattle.table_ops.specs.Join.{copied_name, new_fields}
 use Rattle.table_ops.specs.JoinColumns.{columns_of}
 use Rattle.table_ops.proofs.Joining.{fields_differ, joined_names_differ}

@@ -3,7 +3,7 @@ use Rattle.std.specs.Option.{option_or}
 use Rattle.json_read.specs.declared.value.Value.{Value}
 use Rattle.table_ops.specs.Join.{matches}
 use Rattle.table_terms.specs.Names.{value_at}
-use Rattle.table_ops.specs.Rows.{row_at}
+use Rattle.table_rows.specs.Rows.{row_at}
 use Rattle.table_ops.proofs.Joining.{find_more}
 use Rattle.table_ops.proofs.join_matches.first_rows.Goals as goal
 

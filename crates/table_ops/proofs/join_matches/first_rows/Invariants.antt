@@ -2,9 +2,9 @@ use Rattle.std.proofs.Common.{◌≡◌, ◌∷◌, [], ℕ, take, find}
 use Rattle.indexmap.specs.IndexMap.{get}
 use Rattle.json_read.specs.declared.value.Value.{Value}
 use Rattle.table_ops.specs.Join.{matches}
-use Rattle.table_ops.specs.Keys.{same_values}
+use Rattle.table_rows.specs.Keys.{same_values}
 use Rattle.table_terms.specs.Names.{value_at}
-use Rattle.table_ops.specs.Rows.{row_at}
+use Rattle.table_rows.specs.Rows.{row_at}
 use Rattle.table_ops.proofs.join_matches.first_rows.Given as goal
 
 abbrev pub invariant-loop-number : goal.invariant-loop-number

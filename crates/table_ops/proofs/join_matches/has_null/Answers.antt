@@ -1,6 +1,6 @@
 use Rattle.std.proofs.Common.{ap, sym, ◌∙◌}
 use Rattle.table_ops.specs.Join.{is_null}
-use Rattle.table_ops.proofs.Cells.{cell_there, cell_missing}
+use Rattle.table_rows.proofs.Cells.{cell_there, cell_missing}
 use Rattle.table_ops.proofs.join_matches.has_null.Goals as goal
 
 pub returns-in-Some : goal.returns-in-Some

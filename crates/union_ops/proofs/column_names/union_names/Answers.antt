@@ -1,7 +1,7 @@
 use Rattle.std.proofs.Common.{◌∙◌, sym, ap, subst, List, ◌++◌, take}
 use Rattle.json_read.specs.Table.{TableContent}
-use Rattle.table_ops.specs.Merge.{all_names}
-use Rattle.table_ops.proofs.Merging.{all_names_more}
+use Rattle.table_rows.specs.Merge.{all_names}
+use Rattle.table_rows.proofs.Merging.{all_names_more}
 use Rattle.table_terms.specs.Names.{Text}
 use Rattle.union_ops.specs.ColumnNames.{AreNewNames}
 use Rattle.union_ops.proofs.column_names.union_names.Goals as goal

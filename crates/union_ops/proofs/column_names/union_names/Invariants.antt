@@ -1,7 +1,7 @@
 use Rattle.std.proofs.Common.{◌≡◌, take}
 use Rattle.std.specs.List.{IsDistinct}
 use Rattle.std.specs.Str.{bytes_eq}
-use Rattle.table_ops.specs.Merge.{all_names}
+use Rattle.table_rows.specs.Merge.{all_names}
 use Rattle.union_ops.specs.ColumnNames.{AreNewNames, AreTried}
 use Rattle.union_ops.proofs.column_names.union_names.Given as goal
 

@@ -1,5 +1,5 @@
 use Rattle.std.proofs.Common.{◌≡◌, length, take}
-use Rattle.table_ops.specs.Merge.{all_names}
+use Rattle.table_rows.specs.Merge.{all_names}
 use Rattle.union_ops.proofs.TableLemmas.{row_so_far}
 use Rattle.union_ops.proofs.united_tables.union_row.Given as goal
 

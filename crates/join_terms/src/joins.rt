@@ -1,0 +1,17 @@
+use expr_lang::Expr;
+use text_core::{NameList, Text};
+
+/// A join by keys: which columns of the source go to the rows of the target whose key is the same.
+#[derive(Drop)]
+pub struct JoinSpec {
+    pub target_key: Text,
+    pub source_key: Text,
+    /// The copied columns; without them, all but the key.
+    pub fields: Option<NameList>,
+    /// Copied columns take the place of columns of their name.
+    pub force: bool,
+    /// Source rows for which it isn't true are left out.
+    pub test: Option<Expr>,
+    /// Stands before the name of each copied column.
+    pub prefix: Text,
+}

@@ -1,0 +1,9 @@
+pub mod Answering
+pub mod TakenRows
+pub mod Cells
+pub mod Merging
+pub mod Numbers
+pub mod Renaming
+pub mod Grouping
+pub mod Pieces
+pub mod Summing

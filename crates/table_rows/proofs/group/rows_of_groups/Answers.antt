@@ -1,0 +1,26 @@
+use Rattle.std.proofs.Common.{◌≡◌, map, ◌∙◌}
+use Rattle.std.specs.Prelude.{fold}
+use Rattle.std.specs.List.{flat_map}
+use Rattle.table_rows.specs.Grouping.{earlier, field_places, group_row, refusals}
+use Rattle.table_terms.specs.Names.{place_of}
+use Rattle.table_rows.proofs.group.rows_of_groups.Goals as goal
+
+pub returns-clause-rows : goal.returns-clause-rows
+returns-clause-rows c =
+    let t = c.args.t.now in
+    let spec = c.args.spec.now in
+    let by : c.as_slice-4.result.now ≡ field_places t spec.by =
+    c.as_slice-4.ensures.value ∙ c.in_ok-by.ensures.places ∙ (λ i. map (place_of (c.requires.columns i)) (c.as_slice.ensures.all i)) in
+    let copied : c.as_slice-5.result.now ≡ field_places t spec.copy =
+    c.as_slice-5.ensures.value ∙ c.in_ok-copied.ensures.places ∙ (λ i. map (place_of (c.requires.columns i)) (c.as_slice-2.ensures.all i)) in
+    let summed : c.as_slice-6.result.now ≡ field_places t spec.sum =
+    c.as_slice-6.ensures.value ∙ c.in_ok-summed.ensures.places ∙ (λ i. map (place_of (c.requires.columns i)) (c.as_slice-3.ensures.all i)) in
+    c.in_ok-rows.ensures.rows ∙ (λ i. map (group_row (c.rows.ensures.rows i) (by i) (copied i) (summed i)) c.args.members.now)
+
+pub returns-clause-refused : goal.returns-clause-refused
+returns-clause-refused c =
+    let t = c.args.t.now in
+    let spec = c.args.spec.now in
+    let summed : c.as_slice-6.result.now ≡ field_places t spec.sum =
+    c.as_slice-6.ensures.value ∙ c.in_ok-summed.ensures.places ∙ (λ i. map (place_of (c.requires.columns i)) (c.as_slice-3.ensures.all i)) in
+    c.in_ok-rows.ensures.refused ∙ (λ i. fold earlier c.args.refused.now (flat_map (refusals (c.rows.ensures.rows i) (summed i)) c.args.members.now))

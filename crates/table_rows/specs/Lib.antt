@@ -1,0 +1,9 @@
+pub mod Refusals
+pub mod Rows
+pub mod Columns
+pub mod Merge
+pub mod Keys
+pub mod Same
+pub mod Groups
+pub mod Splitting
+pub mod Grouping

@@ -1,0 +1,240 @@
+ghost use Rattle.std.specs.Prelude.{◌≡◌, ◌++◌, ◌∷◌, [], ◌<◌, IfOk, OnOk, OnErr, false, length, map, slice_get};
+ghost use Rattle.std.specs.Option.{option_copied};
+ghost use Rattle.std.specs.List.{IsDistinct, list_all};
+ghost use Rattle.std.specs.Str.{bytes_eq};
+ghost use Rattle.indexmap.specs.IndexSet.{insert_all};
+ghost use Rattle.table_rows.specs.Columns.{cells};
+ghost use Rattle.table_rows.specs.Merge.{all_names, differing, merge_tables, merged_rows, refused_merge};
+ghost use Rattle.table_terms.specs.Names.{has_name};
+ghost use Rattle.table_rows.specs.Refusals.{Answers, Refuses};
+ghost use Rattle.table_rows.specs.Rows.{picked};
+
+use crate::fault::{TableFault, TableWhy};
+use crate::items::places_of;
+use crate::rows::pick_row;
+use json_read::{RowList, Table};
+use std::alloc::{AllocError, Global};
+use std::marker::Model;
+use table_terms::NameSet;
+use text_core::{NameList, Text};
+
+/// A list of tables; counted from 0.
+#[derive(Drop)]
+pub struct TableList {
+    items: Vec<Table>,
+}
+
+impl Model for TableList {
+    ghost use Rattle.std.specs.Prelude.{List, ◌<◌, ◌^◌, length, refl};
+    ghost use Rattle.std.specs.Coded.{coded×, coded_ℕ, coded_list, code_by};
+    ghost use Rattle.json_read.specs.contracts.value.Value as cell;
+    ghost use Rattle.json_read.specs.Table.{TableContent};
+
+    ghost Value = { List TableContent };
+
+    ghost coded = { coded_list (code_by _ (coded× (coded_list (coded_list coded_ℕ)) (coded_list (coded_list cell.the_row.coded))) (λ t. (t.names, t.rows)) (λ p. record { names = p.0; rows = p.1 }) (λ _. refl)) };
+
+    ghost view = { λ l. l.items.items };
+
+    ghost invariant = { λ l. length l.items.items < 2 ^ 32 };
+}
+
+impl TableList {
+    pub fn new(alloc: Global) -> TableList
+        ensures empty { result ≡ [] }
+    {
+        TableList {
+            items: Vec::new(alloc),
+        }
+    }
+
+    pub fn push(&mut self, item: Table) -> Result<(), AllocError>
+        ensures ok { OnOk result (self.new ≡ self.old ++ item ∷ []) }
+        ensures err { OnErr result (self.new ≡ self.old) }
+    {
+        if self.items.len() >= u32::MAX as usize {
+            return Err(AllocError);
+        }
+        self.items.push(item)?;
+        Ok(())
+    }
+
+    pub fn len(&self) -> u32
+        ensures count { result ≡ length self.now }
+    {
+        self.items.len() as u32
+    }
+
+    pub fn get(&self, i: u32) -> Option<&Table>
+        ensures lookup { option_copied result ≡ slice_get self.now i }
+    {
+        self.items.get(i as usize)
+    }
+
+    pub fn as_slice(&self) -> &[Table]
+        ensures all { result.now ≡ self.now }
+    {
+        &self.items
+    }
+}
+
+/// The tables one under another: the columns of the first, then new ones in order; a value that a
+/// table lacks is null.
+///
+/// Errors: without `force`, `FieldsDiffer` at the first table whose set of names is not that of the
+/// first.
+/// Cost: in proportion to the cells of the answer and the names.
+pub fn merge_tables(alloc: Global, tables: &TableList, force: bool) -> Result<Table, TableFault>
+    requires some { 0 < length tables.now }
+    ensures exact { Answers result (merge_tables tables.now force) }
+    ensures rows { IfOk result (λ m. m.rows ≡ merged_rows m.names tables.now) }
+{
+    if force {
+        return Ok(merged(alloc, tables.as_slice())?);
+    }
+    check_names(alloc, tables.as_slice())?;
+    Ok(merged(alloc, tables.as_slice())?)
+}
+
+/// Refuses the first table whose set of names is not that of the first.
+fn check_names(alloc: Global, tables: &[Table]) -> Result<(), TableFault>
+    requires some { 0 < length tables.now }
+    ensures exact { Refuses result (refused_merge false tables.now) }
+{
+    let first = tables[0].names();
+    let names = NameSet::of(alloc, first)?;
+    for i in 1..tables.len() {
+        check_layer(alloc, &names, first, &tables[i], i)?;
+    }
+    Ok(())
+}
+
+fn check_layer(
+    alloc: Global,
+    names: &NameSet,
+    first: &NameList,
+    table: &Table,
+    i: usize,
+) -> Result<(), TableFault>
+    requires same { names.now ≡ first.now }
+    ensures exact { Refuses result (differing first.now i (table.now ∷ [])) }
+{
+    let others = NameSet::of(alloc, table.names())?;
+    if has_all(&others, first) && has_all(names, table.names()) {
+        return Ok(());
+    }
+    let Ok(layer) = u32::try_from(i) else {
+        return Err(TableFault::Memory);
+    };
+    let why = TableWhy::FieldsDiffer { layer };
+    Err(TableFault::Bad { why })
+}
+
+fn has_all(set: &NameSet, names: &NameList) -> bool
+    ensures all { result ≡ list_all (has_name set.now) names.now }
+{
+    for name in names.as_slice() {
+        if !set.has(name.as_str()) {
+            return false;
+        }
+    }
+    true
+}
+
+/// The tables one under another, whatever their names.
+fn merged(alloc: Global, tables: &[Table]) -> Result<Table, AllocError>
+    ensures names { IfOk result (λ t. t.names ≡ insert_all bytes_eq [] (all_names tables.now)) }
+    ensures rows { IfOk result (λ t. t.rows ≡ merged_rows t.names tables.now) }
+{
+    let names = merged_names(alloc, tables)?;
+    let rows = merged_rows(alloc, tables, &names)?;
+    Ok(Table::new(names, rows))
+}
+
+/// The names of all tables, in order of first appearance.
+#[tactic(auto, using(crate::proofs::Merging::merged_names_more))]
+fn merged_names(alloc: Global, tables: &[Table]) -> Result<NameList, AllocError>
+    ensures names { IfOk result (λ names. names ≡ insert_all bytes_eq [] (all_names tables.now)) }
+    ensures distinct { IfOk result (λ names. IsDistinct bytes_eq names) }
+{
+    let mut seen = NameSet::new(alloc);
+    let mut names = NameList::new(alloc);
+    for table in tables {
+        add_names(alloc, &mut seen, &mut names, table.names())?;
+    }
+    Ok(names)
+}
+
+#[tactic(auto, using(table_terms::proofs::Inserted::insert_all_more))]
+fn add_names(
+    alloc: Global,
+    seen: &mut NameSet,
+    names: &mut NameList,
+    more: &NameList,
+) -> Result<(), AllocError>
+    requires same { names.old ≡ seen.old }
+    ensures same { OnOk result (names.new ≡ seen.new) }
+    ensures added { OnOk result (seen.new ≡ insert_all bytes_eq seen.old more.now) }
+    ensures distinct { OnOk result (IsDistinct bytes_eq seen.old → IsDistinct bytes_eq seen.new) }
+{
+    for name in more.as_slice() {
+        add_name(alloc, seen, names, name.as_str())?;
+    }
+    Ok(())
+}
+
+fn add_name(
+    alloc: Global,
+    seen: &mut NameSet,
+    names: &mut NameList,
+    name: &str,
+) -> Result<(), AllocError>
+    requires same { names.old ≡ seen.old }
+    ensures same { OnOk result (names.new ≡ seen.new) }
+    ensures added { OnOk result (seen.new ≡ insert_all bytes_eq seen.old (name.now ∷ [])) }
+    ensures distinct { OnOk result (IsDistinct bytes_eq seen.new) }
+{
+    if !seen.add(alloc, name)? {
+        return Ok(());
+    }
+    names.push(Text::of(alloc, name)?)
+}
+
+/// The rows of each table under these names.
+#[tactic(auto, using(crate::proofs::Merging::merged_rows_more))]
+fn merged_rows(alloc: Global, tables: &[Table], names: &NameList) -> Result<RowList, AllocError>
+    ensures rows { IfOk result (λ rows. rows ≡ merged_rows names.now tables.now) }
+{
+    let mut rows = RowList::new(alloc);
+    for table in tables {
+        append_rows(alloc, &mut rows, table, names)?;
+    }
+    Ok(rows)
+}
+
+fn append_rows(
+    alloc: Global,
+    rows: &mut RowList,
+    table: &Table,
+    names: &NameList,
+) -> Result<(), AllocError>
+    ensures rows { OnOk result (rows.new ≡ rows.old ++ map (cells table.now.names names.now) table.now.rows) }
+{
+    let columns = NameSet::of(alloc, table.names())?;
+    let places = places_of(alloc, &columns, names.as_slice())?;
+    append_picked_rows(alloc, rows, table.rows(), places.as_slice())
+}
+
+fn append_picked_rows(
+    alloc: Global,
+    rows: &mut RowList,
+    more: &RowList,
+    places: &[u32],
+) -> Result<(), AllocError>
+    ensures rows { OnOk result (rows.new ≡ rows.old ++ map (picked places.now) more.now) }
+{
+    for row in more.as_slice() {
+        rows.push(pick_row(alloc, row, places)?)?;
+    }
+    Ok(())
+}

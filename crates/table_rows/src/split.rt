@@ -1,0 +1,156 @@
+ghost use Rattle.std.specs.Prelude.{◌≡◌, ◌<◌, ◌++◌, ◌∷◌, [], All, IfOk, OnOk, OnErr, Some, length, map, slice_get};
+ghost use Rattle.std.specs.Option.{option_copied};
+ghost use Rattle.table_terms.specs.Names.{value_at};
+ghost use Rattle.table_rows.specs.Refusals.{Answers};
+ghost use Rattle.table_rows.specs.Rows.{first_of};
+ghost use Rattle.table_rows.specs.Splitting.{piece, single_rows, split_rows};
+
+use crate::fault::TableFault;
+use crate::groups::groups_at;
+use crate::items::check_item;
+use crate::rows::{copy_at, first_row};
+use grid_base::IdList;
+use json_read::{RowList, Table, Value};
+use std::alloc::{AllocError, Global};
+use std::marker::Model;
+use table_terms::NameSet;
+
+/// The rows of one value of a field, or without a field one row.
+#[derive(Drop)]
+pub struct SplitItem {
+    pub value: Option<Value>,
+    pub rows: IdList,
+}
+
+/// A list of split items; counted from 0.
+#[derive(Drop)]
+pub struct SplitList {
+    items: Vec<SplitItem>,
+}
+
+impl Model for SplitList {
+    ghost use Rattle.std.specs.Prelude.{List, ◌<◌, ◌^◌, length};
+    ghost use Rattle.std.specs.Coded.{coded_list};
+    ghost use Rattle.table_rows.specs.contracts.split.SplitItem as pieces;
+    ghost use Rattle.table_rows.specs.declared.split.SplitItem.{SplitItem};
+
+    ghost Value = { List SplitItem };
+
+    ghost coded = { coded_list pieces.the_row.coded };
+
+    ghost view = { λ l. l.items.items };
+
+    ghost invariant = { λ l. length l.items.items < 2 ^ 32 };
+}
+
+impl SplitList {
+    pub fn new(alloc: Global) -> SplitList
+        ensures empty { result ≡ [] }
+    {
+        SplitList {
+            items: Vec::new(alloc),
+        }
+    }
+
+    pub fn push(&mut self, item: SplitItem) -> Result<(), AllocError>
+        ensures ok { OnOk result (self.new ≡ self.old ++ item ∷ []) }
+        ensures err { OnErr result (self.new ≡ self.old) }
+    {
+        if self.items.len() >= u32::MAX as usize {
+            return Err(AllocError);
+        }
+        self.items.push(item)?;
+        Ok(())
+    }
+
+    pub fn len(&self) -> u32
+        ensures count { result ≡ length self.now }
+    {
+        self.items.len() as u32
+    }
+
+    pub fn get(&self, i: u32) -> Option<&SplitItem>
+        ensures lookup { option_copied result ≡ slice_get self.now i }
+    {
+        self.items.get(i as usize)
+    }
+
+    pub fn as_slice(&self) -> &[SplitItem]
+        ensures all { result.now ≡ self.now }
+    {
+        &self.items
+    }
+}
+
+/// The rows for each value of a field, in order of first appearance; without a field each row.
+///
+/// Errors: `NoField` at item 0, where the table lacks the field.
+/// Cost: in proportion to the cells of the field, and one look-up for each.
+pub fn split_rows(alloc: Global, t: &Table, field: Option<&str>) -> Result<SplitList, TableFault>
+    ensures exact { Answers result (split_rows t.now (option_copied field.entry)) }
+    ensures below { IfOk result (λ items. All (λ item. All (λ n. n < length t.now.rows) item.rows) items) }
+{
+    match field {
+        Some(field) => split_by(alloc, t, field),
+        None => Ok(single_rows(alloc, t.rows())?),
+    }
+}
+
+fn split_by(alloc: Global, t: &Table, field: &str) -> Result<SplitList, TableFault>
+    ensures exact { Answers result (split_rows t.now (Some field.now)) }
+    ensures below { IfOk result (λ items. All (λ item. All (λ n. n < length t.now.rows) item.rows) items) }
+{
+    let columns = NameSet::of(alloc, t.names())?;
+    let mut seen = NameSet::new(alloc);
+    check_item(alloc, &columns, &mut seen, 0, field)?;
+    let place = columns.place_or_end(field);
+    let members = groups_at(alloc, t.rows(), &[place])?;
+    Ok(with_values(alloc, t.rows(), place, members)?)
+}
+
+/// Each group with the value that its first row has at a place.
+fn with_values(
+    alloc: Global,
+    rows: &RowList,
+    place: u32,
+    members: Vec<IdList>,
+) -> Result<SplitList, AllocError>
+    ensures pieces { IfOk result (λ items. items ≡ map (piece rows.now place) members.items) }
+{
+    let mut items = SplitList::new(alloc);
+    for group in members {
+        let value = value_of(alloc, rows, place, &group)?;
+        items.push(SplitItem {
+            value: Some(value),
+            rows: group,
+        })?;
+    }
+    Ok(items)
+}
+
+/// The value of the first row of a group at a place.
+fn value_of(alloc: Global, rows: &RowList, place: u32, group: &IdList) -> Result<Value, AllocError>
+    ensures value { IfOk result (λ v. v ≡ value_at (first_of rows.now group.now) place) }
+{
+    match first_row(rows, group) {
+        Some(row) => copy_at(alloc, row, place),
+        None => Ok(Value::Null),
+    }
+}
+
+#[tactic(auto, using(crate::proofs::Pieces::singles_more))]
+fn single_rows(alloc: Global, rows: &RowList) -> Result<SplitList, AllocError>
+    ensures each { IfOk result (λ items. items ≡ single_rows 0 rows.now) }
+    ensures below { IfOk result (λ items. All (λ item. All (λ n. n < length rows.now) item.rows) items) }
+{
+    let mut items = SplitList::new(alloc);
+    for n in 0..rows.len() {
+        let mut single = IdList::new(alloc);
+        single.push(n)?;
+        items.push(SplitItem {
+            value: None,
+            rows: single,
+        })?;
+    }
+    Ok(items)
+}
