@@ -45,7 +45,7 @@ pub fn begin(alloc: Global, sources: Vec<ReadSource>, boxes: &BoxList) -> Result
     ensures fault { IfErr result (FaultMeans (drawing_of (joined_up (map (λ read. read.layers) sources.items)) boxes.now)) }
 {
     let drawing = drawing_of(alloc, &sources, boxes)?;
-    let laid = laid_out(alloc, &drawing)?;
+    let laid = laid_out(alloc, drawing)?;
     match begun_with(alloc, laid, sources) {
         Ok(begun) => Ok(begun),
         Err(_) => Err(SnapFault::Memory),

@@ -37,16 +37,17 @@ pub struct Laid {
     pub features: Vec<FaceSet>,
 }
 
-/// Snaps a drawing, and builds its arcs and faces.
+/// Snaps a drawing, lets it go, and builds the arcs and faces of the snapped one.
 ///
 /// Errors: `TooDense`, where its snapped paths have more than 8,000,000 links, and `Memory`.
-pub fn laid_out(alloc: Global, drawing: &Drawing) -> Result<Laid, SnapFault>
-    ensures fault { IfErr result (FaultMeans drawing.now) }
-    ensures few { IfOk result (λ laid. IsFew drawing.now) }
-    ensures snapped { IfOk result (λ laid. laid.snapped ≡ snapped drawing.now) }
+pub fn laid_out(alloc: Global, drawing: Drawing) -> Result<Laid, SnapFault>
+    ensures fault { IfErr result (FaultMeans drawing) }
+    ensures few { IfOk result (λ laid. IsFew drawing) }
+    ensures snapped { IfOk result (λ laid. laid.snapped ≡ snapped drawing) }
     ensures laid { IfOk result (λ laid. IsLaidOut laid.snapped laid.plane.arcs laid.plane.faces laid.plane.boxes.items laid.features.items) }
 {
-    let snapped = snap(alloc, drawing)?;
+    let snapped = snap(alloc, &drawing)?;
+    drop(drawing);
     match built(alloc, snapped) {
         Ok(laid) => Ok(laid),
         Err(_) => Err(SnapFault::Memory),

@@ -28,7 +28,7 @@ pub fn synth_line(alloc: Global, seed: u32, n: u32) -> Result<String, SnapFault>
     ensures told { IfOk result (λ line. IsToldOf (cells seed n) (n * n) (string_bytes line)) }
 {
     let drawing = cells_of(alloc, seed, n)?;
-    let laid = laid_out(alloc, &drawing)?;
+    let laid = laid_out(alloc, drawing)?;
     Ok(line_of(alloc, count_of(n), laid)?)
 }
 
