@@ -8,11 +8,8 @@ use Rattle.std.proofs.lemmas.List.{append-nil, get_or-replicate, length-replicat
 use Rattle.std.proofs.lemmas.List.Elements.{filter-append}
 use Rattle.std.proofs.lemmas.List.Folds.{list_any_more}
 use Rattle.lists.specs.Lists.{has, put_in_order}
-use Rattle.plane_model.specs.Points.{Path}
-use Rattle.plane_model.specs.Drawing.{Drawing}
-use Rattle.face_walk.specs.Holders.{AreHolders, HolderTable, list_at}
-use Rattle.face_walk.specs.Places.{FaceTable}
-use Rattle.run_plane.specs.LaidOut.{AreHeld, AreHeldFaces, PutsInto, held_faces, put_where}
+use Rattle.face_walk.specs.Holders.{list_at}
+use Rattle.run_plane.specs.LaidOut.{AreHeldFaces, PutsInto, held_faces, put_where}
 use Rattle.run_plane.proofs.Growth.{range_more}
 
 -- ---- a number put into an ascending list
@@ -129,15 +126,3 @@ faces_more lists items k sets new numbers face h f e p =
           let there : n < length sets = omega (arith, h.each) in
           put.put n there ∙ ap (put_where (has nat_eq (list_at lists k) n) k) (h.held n l) ∙ face_more lists k n;
     }
-
--- ---- the whole
-
-module _ (s : Drawing) (arcs : List Path) (faces : FaceTable) (labels : HolderTable) where
-  pub held_by_labels : (boxes features : List (List ℕ)) (polygons areas : ℕ) → AreHolders arcs s faces labels →
-      polygons ≡ length s.polygons → AreHeldFaces labels.holders faces.count polygons features → areas ≡ length s.boxes → AreHeldFaces labels.boxes faces.count areas boxes → AreHeld s arcs faces boxes features
-  held_by_labels boxes features polygons areas h e f g i = record {
-    labels = labels;
-    are_holders = h;
-    of_features = subst (λ (n : ℕ). AreHeldFaces labels.holders faces.count n features) e f;
-    of_boxes = subst (λ (n : ℕ). AreHeldFaces labels.boxes faces.count n boxes) g i;
-  }

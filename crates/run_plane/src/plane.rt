@@ -105,8 +105,28 @@ impl HeldFaces {
         ensures held { IfOk result (λ held. AreHeld snapped.now arcs.now faces.now held.boxes.items held.features.items) }
     {
         let labels = Labels::of(alloc, arcs, faces, snapped)?;
-        let features = features_held(alloc, snapped.polygon_count(), faces, &labels)?;
-        let boxes = boxes_held(alloc, snapped.box_count(), faces, &labels)?;
+        HeldFaces::by_labels(alloc, faces, &labels, snapped)
+    }
+
+    // For each feature and each box the faces whose labels have it.
+    fn by_labels(
+        alloc: Global,
+        faces: &Faces,
+        labels: &Labels,
+        snapped: &Snapped,
+    ) -> Result<HeldFaces, AllocError>
+        requires holders { length labels.now.holders ≡ faces.now.count }
+        requires boxes { length labels.now.boxes ≡ faces.now.count }
+        ensures features { IfOk result (λ held. AreHeldFaces labels.now.holders faces.now.count (length snapped.now.polygons) held.features.items) }
+        ensures boxes { IfOk result (λ held. AreHeldFaces labels.now.boxes faces.now.count (length snapped.now.boxes) held.boxes.items) }
+    {
+        let mut features = empty_sets(alloc, snapped.polygon_count())?;
+        let mut boxes = empty_sets(alloc, snapped.box_count())?;
+        for number in 0..faces.count() {
+            let face = FaceId::new(number);
+            put_in_features(&mut features, labels.holders(face), face)?;
+            put_in_boxes(&mut boxes, labels.boxes(face), face)?;
+        }
         Ok(HeldFaces { features, boxes })
     }
 }
@@ -121,24 +141,6 @@ fn arcs_of(alloc: Global, snapped: &Snapped) -> Result<ArcTable, AllocError>
     ArcTable::build(alloc, snapped)
 }
 
-// The faces that each of `count` polygon features holds, by its number.
-fn features_held(
-    alloc: Global,
-    count: u32,
-    faces: &Faces,
-    labels: &Labels,
-) -> Result<Vec<FaceSet>, AllocError>
-    requires each { length labels.now.holders ≡ faces.now.count }
-    ensures held { IfOk result (λ sets. AreHeldFaces labels.now.holders faces.now.count count sets.items) }
-{
-    let mut sets = empty_sets(alloc, count)?;
-    for number in 0..faces.count() {
-        let face = FaceId::new(number);
-        put_in_features(&mut sets, labels.holders(face), face)?;
-    }
-    Ok(sets)
-}
-
 fn put_in_features(
     sets: &mut Vec<FaceSet>,
     features: &[FeatId],
@@ -150,24 +152,6 @@ fn put_in_features(
         put_face(sets, feature.num(), face)?;
     }
     Ok(())
-}
-
-// The faces that each of `count` boxes holds, by its number.
-fn boxes_held(
-    alloc: Global,
-    count: u32,
-    faces: &Faces,
-    labels: &Labels,
-) -> Result<Vec<FaceSet>, AllocError>
-    requires each { length labels.now.boxes ≡ faces.now.count }
-    ensures held { IfOk result (λ sets. AreHeldFaces labels.now.boxes faces.now.count count sets.items) }
-{
-    let mut sets = empty_sets(alloc, count)?;
-    for number in 0..faces.count() {
-        let face = FaceId::new(number);
-        put_in_boxes(&mut sets, labels.boxes(face), face)?;
-    }
-    Ok(sets)
 }
 
 fn put_in_boxes(sets: &mut Vec<FaceSet>, boxes: &[u32], face: FaceId) -> Result<(), AllocError>

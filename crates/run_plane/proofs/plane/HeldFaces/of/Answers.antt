@@ -1,8 +1,23 @@
-use Rattle.run_plane.proofs.FacesHeld.{held_by_labels}
+use Rattle.std.proofs.Common.{Err, Ok, Result, length}
+use Rattle.std.specs.Prelude.{IfOk}
+use Rattle.run_plane.specs.LaidOut.{AreHeld, AreHeldFaces}
+use Rattle.run_plane.specs.declared.plane.HeldFaces.{HeldFaces}
 use Rattle.run_plane.proofs.plane.HeldFaces.of.Goals as goal
 
+both_ok : {T E : Type 0} (r : Result T E) (P Q R : T → Type 0) → ((x : T) → P x → Q x → R x) → IfOk r P → IfOk r Q → IfOk r R
+both_ok (Ok x) P Q R f p q = f x p q
+both_ok (Err e) P Q R f p q = tt
+
 pub returns : goal.returns
-returns c = record {
-  held = held_by_labels c.args.snapped.now c.args.arcs.now c.args.faces.now c.in_ok-labels.labels c.in_ok-boxes.boxes.items c.in_ok-features.features.items c.polygon_count.result c.box_count.result
-      c.in_ok-labels.ensures.exact c.polygon_count.ensures.count c.in_ok-features.ensures.held c.box_count.ensures.count c.in_ok-boxes.ensures.held;
-}
+returns c =
+    let labels = c.in_ok-labels.labels in
+    let s = c.args.snapped.now in
+    let faces = c.args.faces.now in
+    record {
+      held = both_ok c.by_labels.result
+          (λ (held : HeldFaces). AreHeldFaces labels.holders faces.count (length s.polygons) held.features.items)
+          (λ (held : HeldFaces). AreHeldFaces labels.boxes faces.count (length s.boxes) held.boxes.items)
+          (λ (held : HeldFaces). AreHeld s c.args.arcs.now faces held.boxes.items held.features.items)
+          (λ held f b. record { labels = labels; are_holders = c.in_ok-labels.ensures.exact; of_features = f; of_boxes = b })
+          c.by_labels.ensures.features c.by_labels.ensures.boxes;
+    }
