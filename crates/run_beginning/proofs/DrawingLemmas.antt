@@ -1,14 +1,12 @@
 -- What is added to a drawing, or to its last feature, piece by piece.
 use Rattle.std.proofs.Common.{◌≡◌, refl, sym, ap, ◌∙◌, ℕ, ◌+◌, ◌<◌, List, [], ◌∷◌, ◌++◌, map, take, length, get_or, append_assoc}
-use Rattle.std.proofs.lemmas.List.{append-nil, map-append}
+use Rattle.std.proofs.lemmas.List.{map-append}
 use Rattle.std.proofs.lemmas.List.Concat.{flat_map-append}
-use Rattle.lists.specs.Lists.{joined_up, last_of}
+use Rattle.lists.specs.Lists.{last_of}
 use Rattle.plane_model.specs.Points.{GridPoint, Path}
 use Rattle.plane_model.specs.Drawing.{Drawing, Polygon}
 use Rattle.grid_base.specs.Drawn.{with_last, without_repeats, add_polygon, outline}
 use Rattle.grid_base.specs.Grid.{Corners}
-use Rattle.grid_base.specs.declared.kinds.Kind.{Kind}
-use Rattle.grid_base.specs.declared.kinds.Kind.TheVariants as kinds
 use Rattle.geojson_io.specs.LayerContent.{LayerContent}
 use Rattle.geojson_io.specs.declared.shape.GeoShape.{GeoShape}
 use Rattle.geojson_io.specs.declared.shape.GeoShape.TheVariants as shape
@@ -109,18 +107,6 @@ points_stay points d = last_length (λ (ps : List GridPoint). ps ++ points) d.po
 
 -- ---- shapes of another kind
 
-pub other_polygons : (d : Drawing) (s : GeoShape) → ((polygons : List (List Path)) → s ≡ shape.Polygons polygons → ⊥) → d ≡ with_polygons (polygons_of s) d
-other_polygons d shape.Nothing n = no_polygons d
-other_polygons d (shape.Polygons polygons) n = absurd (n polygons refl)
-other_polygons d (shape.Lines lines) n = no_polygons d
-other_polygons d (shape.Points points) n = no_polygons d
-
-pub other_lines : (d : Drawing) (s : GeoShape) → ((lines : List Path) → s ≡ shape.Lines lines → ⊥) → d ≡ with_lines (lines_of s) d
-other_lines d shape.Nothing n = no_lines d
-other_lines d (shape.Polygons polygons) n = no_lines d
-other_lines d (shape.Lines lines) n = absurd (n lines refl)
-other_lines d (shape.Points points) n = no_lines d
-
 pub other_points : (d : Drawing) (s : GeoShape) → ((points : List GridPoint) → s ≡ shape.Points points → ⊥) → d ≡ with_points (points_of s) d
 other_points d shape.Nothing n = no_points d
 other_points d (shape.Polygons polygons) n = no_points d
@@ -129,19 +115,21 @@ other_points d (shape.Points points) n = absurd (n points refl)
 
 -- ---- features
 
-pub polygon_features_more : (d : Drawing) (shapes : List GeoShape) (i : ℕ) (shape : GeoShape) → i < length shapes → shape ≡ get_or shapes i shape →
-    with_polygons (polygons_of shape) (record d { polygons = (d.polygons ++ map polygons_of (take i shapes)) ++ [] ∷ [] }) ≡ record d { polygons = d.polygons ++ map polygons_of (take (i + 1) shapes) }
-polygon_features_more d shapes i shape l e =
-    let same = in_new (polygons_of shape) (d.polygons ++ map polygons_of (take i shapes)) in
-    let next = put_more (polygons_of shape) d.polygons (map polygons_of (take i shapes)) (map polygons_of (take (i + 1) shapes)) (mapped_more polygons_of shapes i shape l e) in
-    λ j. record d { polygons = (same ∙ next) j }
+-- the next feature, and those after it
+next_in : {A B : Type 0} (f : B → List A) (xss : List (List A)) (x : B) (rest : List B) → with_last (λ (xs : List A). xs ++ f x) (xss ++ [] ∷ []) ++ map f rest ≡ xss ++ map f (x ∷ rest)
+next_in {A} f xss x rest = ap (λ (yss : List (List A)). yss ++ map f rest) (in_new (f x) xss) ∙ append_assoc xss (f x ∷ []) (map f rest)
 
-pub line_features_more : (d : Drawing) (shapes : List GeoShape) (i : ℕ) (shape : GeoShape) → i < length shapes → shape ≡ get_or shapes i shape →
-    with_lines (lines_of shape) (record d { lines = (d.lines ++ map lines_of (take i shapes)) ++ [] ∷ [] }) ≡ record d { lines = d.lines ++ map lines_of (take (i + 1) shapes) }
-line_features_more d shapes i shape l e =
-    let same = in_new (lines_of shape) (d.lines ++ map lines_of (take i shapes)) in
-    let next = put_more (lines_of shape) d.lines (map lines_of (take i shapes)) (map lines_of (take (i + 1) shapes)) (mapped_more lines_of shapes i shape l e) in
-    λ j. record d { lines = (same ∙ next) j }
+abbrev pub with_polygon_features : List GeoShape → Drawing → Drawing
+with_polygon_features shapes d = record d { polygons = d.polygons ++ map polygons_of shapes }
+
+pub polygon_features_next : (d : Drawing) (shape : GeoShape) (rest : List GeoShape) → with_polygon_features rest (with_polygons (polygons_of shape) (record d { polygons = d.polygons ++ [] ∷ [] })) ≡ with_polygon_features (shape ∷ rest) d
+polygon_features_next d shape rest = λ j. record d { polygons = next_in polygons_of d.polygons shape rest j }
+
+abbrev pub with_line_features : List GeoShape → Drawing → Drawing
+with_line_features shapes d = record d { lines = d.lines ++ map lines_of shapes }
+
+pub line_features_next : (d : Drawing) (shape : GeoShape) (rest : List GeoShape) → with_line_features rest (with_lines (lines_of shape) (record d { lines = d.lines ++ [] ∷ [] })) ≡ with_line_features (shape ∷ rest) d
+line_features_next d shape rest = λ j. record d { lines = next_in lines_of d.lines shape rest j }
 
 pub point_features_more : (d : Drawing) (shapes : List GeoShape) (i : ℕ) (shape : GeoShape) → i < length shapes → shape ≡ get_or shapes i shape →
     with_points (points_of shape) (record d { points = (d.points ++ map points_of (take i shapes)) ++ [] ∷ [] }) ≡ record d { points = d.points ++ map points_of (take (i + 1) shapes) }
@@ -159,43 +147,8 @@ boxes_more d boxes i box l e =
 
 -- ---- layers
 
--- the features of a layer of each kind
-module _ (d : Drawing) (layer : LayerContent) where
-  abbrev put : Kind → Drawing
-  put kind = record d {
-    polygons = d.polygons ++ (polygon_features kind layer.shapes ++ []);
-    lines = d.lines ++ (line_features kind layer.shapes ++ []);
-    points = d.points ++ (point_features kind layer.shapes ++ []);
-  }
-
-  pub polygon_layer : layer.kind ≡ kinds.Polygon → record d { polygons = d.polygons ++ map polygons_of layer.shapes } ≡ with_layers (layer ∷ []) d
-  polygon_layer e =
-      let all = map polygons_of layer.shapes in
-      let here : record d { polygons = d.polygons ++ all } ≡ put kinds.Polygon = λ j. record d { polygons = d.polygons ++ sym (append-nil all) j; lines = sym (append-nil d.lines) j; points = sym (append-nil d.points) j } in
-      here ∙ ap put (sym e)
-
-  pub line_layer : layer.kind ≡ kinds.Line → record d { lines = d.lines ++ map lines_of layer.shapes } ≡ with_layers (layer ∷ []) d
-  line_layer e =
-      let all = map lines_of layer.shapes in
-      let here : record d { lines = d.lines ++ all } ≡ put kinds.Line = λ j. record d { polygons = sym (append-nil d.polygons) j; lines = d.lines ++ sym (append-nil all) j; points = sym (append-nil d.points) j } in
-      here ∙ ap put (sym e)
-
-  pub point_layer : layer.kind ≡ kinds.Point → record d { points = d.points ++ map points_of layer.shapes } ≡ with_layers (layer ∷ []) d
-  point_layer e =
-      let all = map points_of layer.shapes in
-      let here : record d { points = d.points ++ all } ≡ put kinds.Point = λ j. record d { polygons = sym (append-nil d.polygons) j; lines = sym (append-nil d.lines) j; points = d.points ++ sym (append-nil all) j } in
-      here ∙ ap put (sym e)
-
-  pub table_layer : layer.kind ≡ kinds.Table → d ≡ with_layers (layer ∷ []) d
-  table_layer e =
-      let here : d ≡ put kinds.Table = λ j. record d { polygons = sym (append-nil d.polygons) j; lines = sym (append-nil d.lines) j; points = sym (append-nil d.points) j } in
-      here ∙ ap put (sym e)
-
-pub no_layers : (d : Drawing) → d ≡ with_layers [] d
-no_layers d = λ j. record d { polygons = sym (append-nil d.polygons) j; lines = sym (append-nil d.lines) j; points = sym (append-nil d.points) j }
-
 -- layers after layers
-layers_apart : (d : Drawing) (xs ys : List LayerContent) → with_layers ys (with_layers xs d) ≡ with_layers (xs ++ ys) d
+pub layers_apart : (d : Drawing) (xs ys : List LayerContent) → with_layers ys (with_layers xs d) ≡ with_layers (xs ++ ys) d
 layers_apart d xs ys =
     let polygons = flat_map-append (λ (layer : LayerContent). polygon_features layer.kind layer.shapes) xs ys in
     let lines = flat_map-append (λ (layer : LayerContent). line_features layer.kind layer.shapes) xs ys in
@@ -205,18 +158,3 @@ layers_apart d xs ys =
       lines = (append_assoc d.lines (lines_in xs) (lines_in ys) ∙ ap (λ (ws : List (List Path)). d.lines ++ ws) (sym lines)) j;
       points = (append_assoc d.points (points_in xs) (points_in ys) ∙ ap (λ (ws : List (List GridPoint)). d.points ++ ws) (sym points)) j;
     }
-
-pub layers_more : (d : Drawing) (layers : List LayerContent) (i : ℕ) (layer : LayerContent) → i < length layers → layer ≡ get_or layers i layer →
-    with_layers (layer ∷ []) (with_layers (take i layers) d) ≡ with_layers (take (i + 1) layers) d
-layers_more d layers i layer l e = layers_apart d (take i layers) (layer ∷ []) ∙ ap (λ (ls : List LayerContent). with_layers ls d) (taken_more layers i layer l e)
-
-joined_apart : {A : Type 0} (xss : List (List A)) (xs : List A) → joined_up (xss ++ xs ∷ []) ≡ joined_up xss ++ xs
-joined_apart [] xs = append-nil xs
-joined_apart {A} (ys ∷ xss) xs = ap (λ (zs : List A). ys ++ zs) (joined_apart xss xs) ∙ sym (append_assoc ys (joined_up xss) xs)
-
--- the layers of one source more
-pub sources_more : {S : Type 0} (f : S → List LayerContent) (d : Drawing) (sources : List S) (i : ℕ) (source : S) → i < length sources → source ≡ get_or sources i source →
-    with_layers (f source) (with_layers (joined_up (map f (take i sources))) d) ≡ with_layers (joined_up (map f (take (i + 1) sources))) d
-sources_more f d sources i source l e =
-    layers_apart d (joined_up (map f (take i sources))) (f source)
-    ∙ ap (λ (ls : List LayerContent). with_layers ls d) (sym (joined_apart (map f (take i sources)) (f source)) ∙ ap (λ (ls : List (List LayerContent)). joined_up ls) (mapped_more f sources i source l e))

@@ -44,9 +44,9 @@ pub fn begin(alloc: Global, sources: Vec<ReadSource>, boxes: &BoxList) -> Result
     ensures sources_on { IfOk result (λ begun. AreAllOn begun.plane (map (λ own. own.items) begun.sources.items)) }
     ensures fault { IfErr result (FaultMeans (drawing_of (joined_up (map (λ read. read.layers) sources.items)) boxes.now)) }
 {
-    let drawing = drawing_of(alloc, &sources, boxes)?;
-    let laid = laid_out(alloc, drawing)?;
-    match begun_with(alloc, laid, sources) {
+    let drawn = drawing_of(alloc, sources, boxes)?;
+    let laid = laid_out(alloc, drawn.drawing)?;
+    match begun_with(alloc, laid, drawn.sources) {
         Ok(begun) => Ok(begun),
         Err(_) => Err(SnapFault::Memory),
     }

@@ -2,51 +2,76 @@ ghost use Rattle.std.specs.Prelude.{◌≡◌, ◌<◌, ◌++◌, ◌∷◌, [],
 ghost use Rattle.lists.specs.Lists.{joined_up, last_of};
 ghost use Rattle.geojson_io.specs.Sound.{HasPoints, IsRing, LayerIsSound, ShapeIsSound};
 ghost use Rattle.snap_round.specs.Paths.{with_lines, with_points, with_polygons, with_rings};
-ghost use Rattle.run_beginning.specs.Drawing.{drawing_of, drawn_boxes, drawn_lines, drawn_rings, lines_of, points_of, polygons_of, with_layers};
+ghost use Rattle.run_beginning.specs.Drawing.{drawing_of, drawn_boxes, drawn_lines, drawn_rings, lines_of, nothing_of, points_of, polygons_of, shapes_without_paths, with_features, with_layers, without_paths};
 
-use geojson_io::{GeoLayer, GeoShape};
+use geojson_io::{GeoLayer, GeoLayers, GeoShape, GeoShapeList};
 use grid_base::{BoxList, Drawing, Kind, PolygonRings, Pt, PtList, Rect};
 use run_plane::copy_points;
 use run_sources::ReadSource;
 use std::alloc::{AllocError, Global};
 
-/// The one drawing of all features of the sources, in order, and of the boxes.
-pub(crate) fn drawing_of(
-    alloc: Global,
-    sources: &[ReadSource],
-    boxes: &BoxList,
-) -> Result<Drawing, AllocError>
-    requires sound { All (λ read. All LayerIsSound read.layers) sources.now }
-    ensures exact { IfOk result (λ d. d ≡ drawing_of (joined_up (map (λ read. read.layers) sources.now)) boxes.now) }
-{
-    let mut drawing = Drawing::new(alloc);
-    add_sources(alloc, &mut drawing, sources)?;
-    add_boxes(&mut drawing, boxes.as_slice())?;
-    Ok(drawing)
+/// A drawing of sources, and the sources without the paths that it has.
+#[derive(Drop)]
+pub(crate) struct Drawn {
+    pub(crate) drawing: Drawing,
+    pub(crate) sources: Vec<ReadSource>,
 }
 
+/// The one drawing of all features of the sources, in order, and of the boxes. The paths of a feature are let go as
+/// soon as they are drawn.
+pub(crate) fn drawing_of(
+    alloc: Global,
+    sources: Vec<ReadSource>,
+    boxes: &BoxList,
+) -> Result<Drawn, AllocError>
+    requires sound { All (λ read. All LayerIsSound read.layers) sources.items }
+    ensures exact { IfOk result (λ drawn. drawn.drawing ≡ drawing_of (joined_up (map (λ read. read.layers) sources.items)) boxes.now) }
+    ensures owners { IfOk result (λ drawn. map (λ read. read.owner) drawn.sources.items ≡ map (λ read. read.owner) sources.items) }
+    ensures left { IfOk result (λ drawn. map (λ read. read.layers) drawn.sources.items ≡ map (map without_paths) (map (λ read. read.layers) sources.items)) }
+{
+    let mut drawing = Drawing::new(alloc);
+    let sources = add_sources(alloc, &mut drawing, sources)?;
+    add_boxes(&mut drawing, boxes.as_slice())?;
+    Ok(Drawn { drawing, sources })
+}
+
+// Adds the features of sources, and answers what is left of these.
 fn add_sources(
     alloc: Global,
     drawing: &mut Drawing,
-    sources: &[ReadSource],
-) -> Result<(), AllocError>
-    requires sound { All (λ read. All LayerIsSound read.layers) sources.now }
-    ensures added { OnOk result (drawing.new ≡ with_layers (joined_up (map (λ read. read.layers) sources.now)) drawing.old) }
+    sources: Vec<ReadSource>,
+) -> Result<Vec<ReadSource>, AllocError>
+    requires sound { All (λ read. All LayerIsSound read.layers) sources.items }
+    ensures added { OnOk result (drawing.new ≡ with_layers (joined_up (map (λ read. read.layers) sources.items)) drawing.old) }
+    ensures owners { IfOk result (λ left. map (λ read. read.owner) left.items ≡ map (λ read. read.owner) sources.items) }
+    ensures left { IfOk result (λ left. map (λ read. read.layers) left.items ≡ map (map without_paths) (map (λ read. read.layers) sources.items)) }
 {
+    let mut left = Vec::new(alloc);
     for source in sources {
-        add_layers(alloc, drawing, source.layers.as_slice())?;
+        let layers = add_layers(alloc, drawing, source.layers.into_vec())?;
+        left.push(ReadSource {
+            owner: source.owner,
+            layers,
+        })?;
     }
-    Ok(())
+    Ok(left)
 }
 
-fn add_layers(alloc: Global, drawing: &mut Drawing, layers: &[GeoLayer]) -> Result<(), AllocError>
-    requires sound { All LayerIsSound layers.now }
-    ensures added { OnOk result (drawing.new ≡ with_layers layers.now drawing.old) }
+// Adds the features of layers, and answers what is left of these.
+fn add_layers(
+    alloc: Global,
+    drawing: &mut Drawing,
+    layers: Vec<GeoLayer>,
+) -> Result<GeoLayers, AllocError>
+    requires sound { All LayerIsSound layers.items }
+    ensures added { OnOk result (drawing.new ≡ with_layers layers.items drawing.old) }
+    ensures left { IfOk result (λ left. left ≡ map without_paths layers.items) }
 {
+    let mut left = GeoLayers::new(alloc);
     for layer in layers {
-        add_layer(alloc, drawing, layer)?;
+        left.push(add_layer(alloc, drawing, layer)?)?;
     }
-    Ok(())
+    Ok(left)
 }
 
 fn add_boxes(drawing: &mut Drawing, boxes: &[Rect]) -> Result<(), AllocError>
@@ -58,46 +83,81 @@ fn add_boxes(drawing: &mut Drawing, boxes: &[Rect]) -> Result<(), AllocError>
     Ok(())
 }
 
-fn add_layer(alloc: Global, drawing: &mut Drawing, layer: &GeoLayer) -> Result<(), AllocError>
-    requires sound { LayerIsSound layer.now }
-    ensures added { OnOk result (drawing.new ≡ with_layers (layer.now ∷ []) drawing.old) }
+// Adds the features of a layer, and answers what is left of it.
+fn add_layer(alloc: Global, drawing: &mut Drawing, layer: GeoLayer) -> Result<GeoLayer, AllocError>
+    requires sound { LayerIsSound layer }
+    ensures added { OnOk result (drawing.new ≡ with_layers (layer ∷ []) drawing.old) }
+    ensures left { IfOk result (λ left. left ≡ without_paths layer) }
 {
-    let shapes = layer.shapes.as_slice();
-    match layer.kind {
-        Kind::Polygon => add_polygon_features(alloc, drawing, shapes),
-        Kind::Line => add_line_features(alloc, drawing, shapes),
-        Kind::Point => add_point_features(drawing, shapes),
-        Kind::Table => Ok(()),
+    let GeoLayer {
+        name,
+        kind,
+        table,
+        shapes,
+    } = layer;
+    let shapes = add_features(alloc, drawing, kind, shapes)?;
+    Ok(GeoLayer {
+        name,
+        kind,
+        table,
+        shapes,
+    })
+}
+
+// Adds the features of a layer of some kind, and answers what is left of their shapes.
+fn add_features(
+    alloc: Global,
+    drawing: &mut Drawing,
+    kind: Kind,
+    shapes: GeoShapeList,
+) -> Result<GeoShapeList, AllocError>
+    requires sound { All ShapeIsSound shapes }
+    ensures added { OnOk result (drawing.new ≡ with_features kind shapes drawing.old) }
+    ensures left { IfOk result (λ left. left ≡ shapes_without_paths kind shapes) }
+    ensures each { IfOk result (λ left. length left ≡ length shapes) }
+{
+    match kind {
+        Kind::Polygon => add_polygon_features(alloc, drawing, shapes.into_vec()),
+        Kind::Line => add_line_features(alloc, drawing, shapes.into_vec()),
+        Kind::Point => {
+            add_point_features(drawing, shapes.as_slice())?;
+            Ok(shapes)
+        }
+        Kind::Table => Ok(shapes),
     }
 }
 
 fn add_polygon_features(
     alloc: Global,
     drawing: &mut Drawing,
-    shapes: &[GeoShape],
-) -> Result<(), AllocError>
-    requires sound { All ShapeIsSound shapes.now }
-    ensures added { OnOk result (drawing.new ≡ record drawing.old { polygons = drawing.old.polygons ++ map polygons_of shapes.now }) }
+    shapes: Vec<GeoShape>,
+) -> Result<GeoShapeList, AllocError>
+    requires sound { All ShapeIsSound shapes.items }
+    ensures added { OnOk result (drawing.new ≡ record drawing.old { polygons = drawing.old.polygons ++ map polygons_of shapes.items }) }
+    ensures left { IfOk result (λ left. left ≡ map nothing_of shapes.items) }
 {
+    let mut left = GeoShapeList::new(alloc);
     for shape in shapes {
         drawing.add_feature(Kind::Polygon)?;
         add_shape_polygons(alloc, drawing, shape)?;
+        left.push(GeoShape::Nothing)?;
     }
-    Ok(())
+    Ok(left)
 }
 
+#[tactic(auto, using(crate::proofs::DrawingLemmas::no_polygons))]
 fn add_shape_polygons(
     alloc: Global,
     drawing: &mut Drawing,
-    shape: &GeoShape,
+    shape: GeoShape,
 ) -> Result<(), AllocError>
     requires feature { 0 < length drawing.old.polygons }
-    requires sound { ShapeIsSound shape.now }
-    ensures added { OnOk result (drawing.new ≡ with_polygons (polygons_of shape.now) drawing.old) }
+    requires sound { ShapeIsSound shape }
+    ensures added { OnOk result (drawing.new ≡ with_polygons (polygons_of shape) drawing.old) }
 {
     match shape {
         GeoShape::Polygons(polygons) => add_polygons(alloc, drawing, polygons.as_slice()),
-        _ => Ok(()),
+        GeoShape::Nothing | GeoShape::Lines(_) | GeoShape::Points(_) => Ok(()),
     }
 }
 
@@ -132,26 +192,30 @@ fn add_rings(alloc: Global, drawing: &mut Drawing, rings: &[PtList]) -> Result<(
 fn add_line_features(
     alloc: Global,
     drawing: &mut Drawing,
-    shapes: &[GeoShape],
-) -> Result<(), AllocError>
-    requires sound { All ShapeIsSound shapes.now }
-    ensures added { OnOk result (drawing.new ≡ record drawing.old { lines = drawing.old.lines ++ map lines_of shapes.now }) }
+    shapes: Vec<GeoShape>,
+) -> Result<GeoShapeList, AllocError>
+    requires sound { All ShapeIsSound shapes.items }
+    ensures added { OnOk result (drawing.new ≡ record drawing.old { lines = drawing.old.lines ++ map lines_of shapes.items }) }
+    ensures left { IfOk result (λ left. left ≡ map nothing_of shapes.items) }
 {
+    let mut left = GeoShapeList::new(alloc);
     for shape in shapes {
         drawing.add_feature(Kind::Line)?;
         add_shape_lines(alloc, drawing, shape)?;
+        left.push(GeoShape::Nothing)?;
     }
-    Ok(())
+    Ok(left)
 }
 
-fn add_shape_lines(alloc: Global, drawing: &mut Drawing, shape: &GeoShape) -> Result<(), AllocError>
+#[tactic(auto, using(crate::proofs::DrawingLemmas::no_lines))]
+fn add_shape_lines(alloc: Global, drawing: &mut Drawing, shape: GeoShape) -> Result<(), AllocError>
     requires feature { 0 < length drawing.old.lines }
-    requires sound { ShapeIsSound shape.now }
-    ensures added { OnOk result (drawing.new ≡ with_lines (lines_of shape.now) drawing.old) }
+    requires sound { ShapeIsSound shape }
+    ensures added { OnOk result (drawing.new ≡ with_lines (lines_of shape) drawing.old) }
 {
     match shape {
         GeoShape::Lines(lines) => add_lines(alloc, drawing, lines.as_slice()),
-        _ => Ok(()),
+        GeoShape::Nothing | GeoShape::Polygons(_) | GeoShape::Points(_) => Ok(()),
     }
 }
 

@@ -1,21 +1,23 @@
-use Rattle.std.proofs.Common.{◌∙◌, ap, arith, subst, sym, [], ◌∷◌}
-use Rattle.std.proofs.lemmas.List.Elements.{All-get_or}
+use Rattle.std.proofs.Common.{◌∙◌, ap, append_assoc, rules, subst, sym, List, [], ◌∷◌}
+use Rattle.std.specs.Prelude.{All}
+use Rattle.std.specs.Vec.Iter.{into_iter_items}
+use Rattle.std.proofs.lemmas.List.Elements.{All-tail}
+use Rattle.geojson_io.specs.LayerContent.{LayerContent}
 use Rattle.geojson_io.specs.Sound.{LayerIsSound}
 use Rattle.run_beginning.specs.Drawing.{with_layers}
-use Rattle.run_beginning.proofs.DrawingLemmas.{layers_more, no_layers}
+use Rattle.run_beginning.proofs.DrawingLemmas.{layers_apart}
 use Rattle.run_beginning.proofs.drawing.add_layers.Goals as goal
-
-pub loop-layer-init : goal.loop-layer-init
-loop-layer-init c = no_layers c.args.drawing.now
 
 pub loop-layer-preserved : goal.loop-layer-preserved
 loop-layer-preserved c =
-    let layer = c.layer-item.result in
-    c.in_ok-add_layer.ensures.added
-    ∙ ap (with_layers (layer ∷ [])) c.loop-layer.invariant
-    ∙ layers_more c.args.drawing.now c.args.layers.now c.loop-layer.layer-index layer (omega arith) c.layer-item.is
-
-pub add_layer-requires : goal.add_layer-requires
-add_layer-requires c =
-    let layer = c.layer-item.result in
-    record { sound = subst LayerIsSound (sym c.layer-item.is) (All-get_or LayerIsSound c.args.layers.now c.loop-layer.layer-index layer (omega arith) c.requires.sound) }
+    let steps = c.in-Some.ensures.steps in
+    let layer = c.in-Some.layer in
+    let rest = into_iter_items c.next.new.self in
+    let before = c.loop-layer.drawing in
+    let so_far = c.loop-layer.invariant in
+    record {
+      added = ap (with_layers rest) c.in_ok-add_layer.ensures.added ∙ layers_apart before (layer ∷ []) rest ∙ ap (λ (layers : List LayerContent). with_layers layers before) (sym steps.0) ∙ so_far.added;
+      left = search (rules, append_assoc);
+      sound = All-tail LayerIsSound layer rest (subst (All LayerIsSound) steps.0 so_far.sound);
+      count = search rules;
+    }

@@ -1,25 +1,28 @@
-use Rattle.std.proofs.Common.{◌≡◌, ◌++◌, ◌∙◌, sym, ap, arith, map, subst, take, [], ◌∷◌}
-use Rattle.std.proofs.lemmas.List.{append-nil}
-use Rattle.std.proofs.lemmas.List.Elements.{All-get_or}
+use Rattle.std.proofs.Common.{◌≡◌, ◌++◌, ◌∙◌, ap, append_assoc, rules, subst, sym, List, [], ◌∷◌}
+use Rattle.std.specs.Prelude.{All}
+use Rattle.std.specs.Vec.Iter.{into_iter_items}
+use Rattle.std.proofs.lemmas.List.Elements.{All-tail}
 use Rattle.geojson_io.specs.Sound.{ShapeIsSound}
+use Rattle.geojson_io.specs.declared.shape.GeoShape.{GeoShape}
 use Rattle.snap_round.specs.Paths.{with_lines}
 use Rattle.run_beginning.specs.Drawing.{lines_of}
-use Rattle.run_beginning.proofs.DrawingLemmas.{line_features_more}
+use Rattle.run_beginning.proofs.DrawingLemmas.{line_features_next, with_line_features}
 use Rattle.run_beginning.proofs.drawing.add_line_features.Goals as goal
-
-pub loop-shape-init : goal.loop-shape-init
-loop-shape-init c = λ i. record c.args.drawing.now { lines = sym (append-nil c.args.drawing.now.lines) i }
 
 pub loop-shape-preserved : goal.loop-shape-preserved
 loop-shape-preserved c =
-    let shape = c.shape-item.result in
-    let grown : c.add_feature.new.self ≡ record c.loop-shape.drawing { lines = c.loop-shape.drawing.lines ++ [] ∷ [] } = λ i. (c.in_ok-add_feature.ensures.ok i).1 in
-    c.in_ok-add_shape_lines.ensures.added
-    ∙ (λ i. with_lines (lines_of shape) (grown i))
-    ∙ (λ i. with_lines (lines_of shape) (record (c.loop-shape.invariant i) { lines = (c.loop-shape.invariant i).lines ++ [] ∷ [] }))
-    ∙ line_features_more c.args.drawing.now c.args.shapes.now c.loop-shape.shape-index shape (omega arith) c.shape-item.is
-
-pub add_shape_lines-requires-clause-sound : goal.add_shape_lines-requires-clause-sound
-add_shape_lines-requires-clause-sound c =
-    let shape = c.shape-item.result in
-    subst ShapeIsSound (sym c.shape-item.is) (All-get_or ShapeIsSound c.args.shapes.now c.loop-shape.shape-index shape (omega arith) c.requires.sound)
+    let steps = c.in-Some.ensures.steps in
+    let shape = c.in-Some.shape in
+    let rest = into_iter_items c.next.new.self in
+    let before = c.loop-shape.drawing in
+    let so_far = c.loop-shape.invariant in
+    let grown : c.add_feature.new.self ≡ record before { lines = before.lines ++ [] ∷ [] } = λ i. (c.in_ok-add_feature.ensures.ok i).1 in
+    record {
+      added = ap (with_line_features rest) (c.in_ok-add_shape_lines.ensures.added ∙ ap (with_lines (lines_of shape)) grown)
+          ∙ line_features_next before shape rest
+          ∙ ap (λ (shapes : List GeoShape). with_line_features shapes before) (sym steps.0)
+          ∙ so_far.added;
+      left = search (rules, append_assoc);
+      sound = All-tail ShapeIsSound shape rest (subst (All ShapeIsSound) steps.0 so_far.sound);
+      count = search rules;
+    }

@@ -1,27 +1,38 @@
-use Rattle.std.proofs.Common.{◌∙◌, ap, arith, subst, sym}
+use Rattle.std.proofs.Common.{◌∙◌, ap, append_assoc, map, rules, subst, sym, List}
 use Rattle.std.specs.Prelude.{All}
-use Rattle.std.proofs.lemmas.List.Elements.{All-get_or}
+use Rattle.std.specs.Vec.Iter.{into_iter_items}
+use Rattle.std.proofs.lemmas.List.{map-append}
+use Rattle.std.proofs.lemmas.List.Elements.{All-tail}
+use Rattle.lists.specs.Lists.{joined_up}
+use Rattle.geojson_io.specs.LayerContent.{LayerContent}
 use Rattle.geojson_io.specs.Sound.{LayerIsSound}
 use Rattle.run_sources.specs.declared.sources.ReadSource.{ReadSource}
 use Rattle.run_beginning.specs.Drawing.{with_layers}
-use Rattle.run_beginning.proofs.DrawingLemmas.{no_layers, sources_more}
+use Rattle.run_beginning.proofs.DrawingLemmas.{layers_apart}
 use Rattle.run_beginning.proofs.drawing.add_sources.Goals as goal
 
 abbrev is_sound : ReadSource → Type 0
 is_sound read = All LayerIsSound read.layers
 
-pub loop-source-init : goal.loop-source-init
-loop-source-init c = no_layers c.args.drawing.now
+abbrev layers_of : ReadSource → List LayerContent
+layers_of read = read.layers
 
 pub loop-source-preserved : goal.loop-source-preserved
 loop-source-preserved c =
-    let source = c.source-item.result in
-    c.in_ok-add_layers.ensures.added
-    ∙ (λ i. with_layers (c.as_slice.ensures.all i) (c.loop-source.invariant i))
-    ∙ sources_more (λ (read : ReadSource). read.layers) c.args.drawing.now c.args.sources.now c.loop-source.source-index source (omega arith) c.source-item.is
-
-pub add_layers-requires : goal.add_layers-requires
-add_layers-requires c =
-    let source = c.source-item.result in
-    let here = subst is_sound (sym c.source-item.is) (All-get_or is_sound c.args.sources.now c.loop-source.source-index source (omega arith) c.requires.sound) in
-    record { sound = subst (All LayerIsSound) (sym c.as_slice.ensures.all) here }
+    let steps = c.in-Some.ensures.steps in
+    let source = c.in-Some.source in
+    let rest = into_iter_items c.next.new.self in
+    let before = c.loop-source.drawing in
+    let so_far = c.loop-source.invariant in
+    let given = c.into_vec.ensures.all in
+    let made = c.in_ok-layers.ensures in
+    record {
+      added = ap (with_layers (joined_up (map layers_of rest))) (made.added ∙ ap (λ (layers : List LayerContent). with_layers layers before) given)
+          ∙ layers_apart before source.layers (joined_up (map layers_of rest))
+          ∙ ap (λ (reads : List ReadSource). with_layers (joined_up (map layers_of reads)) before) (sym steps.0)
+          ∙ so_far.added;
+      owners = search (rules, map-append, append_assoc);
+      left = search (rules, map-append, append_assoc);
+      sound = All-tail is_sound source rest (subst (All is_sound) steps.0 so_far.sound);
+      count = search rules;
+    }
