@@ -101,18 +101,28 @@ width_at n [] i row h l e = absurd (omega arith)
 width_at n (r ∷ rows) zero row h l e = sym (ap length e ∙ h.0)
 width_at n (r ∷ rows) (suc i) row h l e = width_at n rows i row h.1 (omega arith) e
 
--- a feature, piece by piece
-pub feature_written : (places : ℕ) (keys : List Text) (row : RowValues) (shape : GeoShape) (old a b c d e : Text)
-    → a ≡ old ++ codes "{\"type\":\"Feature\",\"geometry\":" → b ≡ a ++ geometry_text places shape → c ≡ b ++ codes ",\"properties\":" → d ≡ c ++ properties_text keys row → e ≡ d ++ 125 ∷ []
-    → e ≡ old ++ feature_text places keys (row, shape)
-feature_written places keys row shape old a b c d e ea eb ec ed ee =
+-- the end of a feature, piece by piece
+pub feature_ended : (keys : List Text) (row : RowValues) (old a b e : Text)
+    → a ≡ old ++ codes ",\"properties\":" → b ≡ a ++ properties_text keys row → e ≡ b ++ 125 ∷ []
+    → e ≡ old ++ (codes ",\"properties\":" ++ (properties_text keys row ++ 125 ∷ []))
+feature_ended keys row old a b e ea eb ee =
+    let first : Text = codes ",\"properties\":" in
+    let p : Text = properties_text keys row in
+    ee ∙ ap (λ (w : Text). w ++ 125 ∷ []) (eb ∙ ap (λ (w : Text). w ++ p) ea)
+    ∙ append_assoc (old ++ first) p (125 ∷ []) ∙ append_assoc old first (p ++ 125 ∷ [])
+
+-- a feature after what parts it from the one before it, piece by piece
+pub feature_written : (places : ℕ) (keys : List Text) (row : RowValues) (shape : GeoShape) (mark old a b e : Text)
+    → a ≡ old ++ (mark ++ codes "{\"type\":\"Feature\",\"geometry\":") → b ≡ a ++ geometry_text places shape
+    → e ≡ b ++ (codes ",\"properties\":" ++ (properties_text keys row ++ 125 ∷ []))
+    → e ≡ old ++ (mark ++ feature_text places keys (row, shape))
+feature_written places keys row shape mark old a b e ea eb ee =
     let first : Text = codes "{\"type\":\"Feature\",\"geometry\":" in
     let g : Text = geometry_text places shape in
-    let mid : Text = codes ",\"properties\":" in
-    let p : Text = properties_text keys row in
-    ee ∙ ap (λ (w : Text). w ++ 125 ∷ []) (ed ∙ ap (λ (w : Text). w ++ p) (ec ∙ ap (λ (w : Text). w ++ mid) (eb ∙ ap (λ (w : Text). w ++ g) ea)))
-    ∙ append_assoc (((old ++ first) ++ g) ++ mid) p (125 ∷ []) ∙ append_assoc ((old ++ first) ++ g) mid (p ++ 125 ∷ [])
-    ∙ append_assoc (old ++ first) g (mid ++ (p ++ 125 ∷ [])) ∙ append_assoc old first (g ++ (mid ++ (p ++ 125 ∷ [])))
+    let last : Text = codes ",\"properties\":" ++ (properties_text keys row ++ 125 ∷ []) in
+    ee ∙ ap (λ (w : Text). w ++ last) (eb ∙ ap (λ (w : Text). w ++ g) ea)
+    ∙ append_assoc (old ++ (mark ++ first)) g last ∙ append_assoc old (mark ++ first) (g ++ last)
+    ∙ ap (λ (w : Text). old ++ w) (append_assoc mark first (g ++ last))
 
 -- no features
 pub no_features : (places : ℕ) (keys : List Text) (rows : List RowValues) (start : Text) → start ≡ start ++ features_text places keys rows []

@@ -6,7 +6,7 @@
 //!   gives the value of any other JSON text.
 //! - `write_geojson` takes a layer with its table and makes the text, `null` for a feature without geometry. It is made
 //!   of `start_collection`, `write_next_feature` for each feature, and `end_collection`, by which others may write
-//!   features whose shapes they don't keep.
+//!   features whose shapes they don't keep. `write_next_points` does it for a feature of points that are lent.
 //! - `Room` is what is left for positions and features of all sources together.
 //!
 //! `topo_io` reads and writes the same features in TopoJSON 1.0, and takes the parts for that from here.
@@ -32,4 +32,4 @@ pub use reading::{
 pub use writing::{keys_of, write_comma, write_point, write_properties};
 
 // The text of a layer, feature by feature.
-pub use writing::{end_collection, start_collection, write_next_feature};
+pub use writing::{end_collection, start_collection, write_next_feature, write_next_points};

@@ -1,7 +1,7 @@
-ghost use Rattle.std.specs.Prelude.{◌≡◌, ◌≤◌, ◌++◌, List, IfOk, OnOk, codes, length};
+ghost use Rattle.std.specs.Prelude.{◌≡◌, ◌≤◌, ◌++◌, ◌∷◌, [], List, IfOk, OnOk, codes, length};
 ghost use Rattle.grid_base.specs.Grid.{most_places};
 ghost use Rattle.json_read.specs.Table.{AreRows};
-ghost use Rattle.geojson_io.specs.Texts.{before_item, collection_end, collection_start, feature_text, features_text, geojson_text};
+ghost use Rattle.geojson_io.specs.Texts.{before_item, collection_end, collection_start, feature_text, features_text, geojson_text, properties_text};
 ghost use Rattle.geojson_io.specs.declared.shape.GeoShape.{GeoShape};
 
 mod geometries;
@@ -10,8 +10,9 @@ mod properties;
 
 use crate::layer::GeoLayer;
 use crate::shape::GeoShape;
-use geometries::write_geometry;
+use geometries::{write_geometry, write_points};
 pub use geometries::{write_comma, write_point};
+use grid_base::Pt;
 use json_read::Row;
 pub use properties::{keys_of, write_properties};
 use std::alloc::{AllocError, Global};
@@ -61,8 +62,28 @@ pub fn write_next_feature(
     requires width { length keys.now ≡ length row.now }
     ensures { OnOk result (out.new ≡ out.old ++ (before_item (codes ",\n") i ++ feature_text places keys.now (row.now, shape.now))) }
 {
-    write_break(i, out)?;
-    write_feature(keys, row, shape, places, out)
+    start_feature(i, out)?;
+    write_geometry(shape, places, out)?;
+    end_feature(keys, row, out)
+}
+
+/// Feature number `i` of these points, which stay the caller's: what `write_next_feature` writes of a shape of them,
+/// without a geometry where there is none.
+pub fn write_next_points(
+    i: usize,
+    keys: &[Bytes],
+    row: &Row,
+    points: &[Pt],
+    places: u8,
+    out: &mut Bytes,
+) -> Result<(), AllocError>
+    requires places { places ≤ most_places }
+    requires width { length keys.now ≡ length row.now }
+    ensures written { OnOk result (out.new ≡ out.old ++ (before_item (codes ",\n") i ++ feature_text places keys.now (row.now, GeoShape.Points points.now))) }
+{
+    start_feature(i, out)?;
+    write_points(points, places, out)?;
+    end_feature(keys, row, out)
 }
 
 /// What stands after the last of `features` features.
@@ -75,6 +96,14 @@ pub fn end_collection(features: usize, out: &mut Bytes) -> Result<(), AllocError
     out.extend(b"\n]}\n")
 }
 
+// What stands before the geometry of feature number `i`, with what parts it from the feature before it.
+fn start_feature(i: usize, out: &mut Bytes) -> Result<(), AllocError>
+    ensures written { OnOk result (out.new ≡ out.old ++ (before_item (codes ",\n") i ++ codes "{\"type\":\"Feature\",\"geometry\":")) }
+{
+    write_break(i, out)?;
+    out.extend(b"{\"type\":\"Feature\",\"geometry\":")
+}
+
 // A comma and a line feed before each feature but the first.
 fn write_break(i: usize, out: &mut Bytes) -> Result<(), AllocError>
     ensures { OnOk result (out.new ≡ out.old ++ before_item (codes ",\n") i) }
@@ -85,19 +114,11 @@ fn write_break(i: usize, out: &mut Bytes) -> Result<(), AllocError>
     Ok(())
 }
 
-fn write_feature(
-    keys: &[Bytes],
-    row: &Row,
-    shape: &GeoShape,
-    places: u8,
-    out: &mut Bytes,
-) -> Result<(), AllocError>
-    requires places { places ≤ most_places }
+// What stands after the geometry of a feature.
+fn end_feature(keys: &[Bytes], row: &Row, out: &mut Bytes) -> Result<(), AllocError>
     requires width { length keys.now ≡ length row.now }
-    ensures { OnOk result (out.new ≡ out.old ++ feature_text places keys.now (row.now, shape.now)) }
+    ensures written { OnOk result (out.new ≡ out.old ++ (codes ",\"properties\":" ++ (properties_text keys.now row.now ++ 125 ∷ []))) }
 {
-    out.extend(b"{\"type\":\"Feature\",\"geometry\":")?;
-    write_geometry(shape, places, out)?;
     out.extend(b",\"properties\":")?;
     write_properties(keys, row, out)?;
     out.push(b'}')

@@ -73,7 +73,8 @@ fn write_type(name: &str, out: &mut Bytes) -> Result<(), AllocError>
     out.extend(b"\",\"coordinates\":")
 }
 
-fn write_points(points: &[Pt], places: u8, out: &mut Bytes) -> Result<(), AllocError>
+/// The geometry object of points, or null where there is none.
+pub fn write_points(points: &[Pt], places: u8, out: &mut Bytes) -> Result<(), AllocError>
     requires { places ≤ most_places }
     ensures { OnOk result (out.new ≡ out.old ++ one_or_many (codes "Point") (codes "MultiPoint") (point_text places) points.now) }
 {
