@@ -7,6 +7,7 @@
 //!    the target as a topology.
 //! 2. `arc_pictures` shows a layer as rings and paths of arcs.
 //! 3. `pictures` draws it as rings and paths of points, feature by feature, and prints each before it draws the next.
+//!    Points are lent to the printing as they are.
 #![tactic(auto)]
 
 mod arc_pictures;

@@ -2,19 +2,20 @@ ghost use Rattle.std.specs.Prelude.{◌≡◌, ◌<◌, ◌≤◌, ◌==◌, ◌
 ghost use Rattle.plane_model.specs.Arcs.{points_of};
 ghost use Rattle.grid_base.specs.Grid.{most_places};
 ghost use Rattle.json_read.specs.Table.{AreRows};
-ghost use Rattle.topo_io.specs.Arcs.{ShapeIsBelow};
-ghost use Rattle.run_plane.specs.OnPlane.{AreOn, IsLayerOn, IsOn};
-ghost use Rattle.run_texts.specs.Pictures.{AreWritten, IsDrawn, IsPictureText, on_grid, points_along, without_shared};
+ghost use Rattle.ring_trace.specs.Sets.{IsSetOf};
+ghost use Rattle.run_plane.specs.OnPlane.{AreBelow, AreOn, IsLayerOn};
+ghost use Rattle.run_texts.specs.Pictures.{AreWritten, IsDrawn, IsPictureText, points_along, without_shared};
 
-use crate::arc_pictures::arc_shape;
 use arc_table::{ArcTable, SignedPath, SignedPaths};
-use geojson_io::{GeoShape, end_collection, keys_of, start_collection, write_next_feature};
+use geojson_io::{
+    GeoShape, end_collection, keys_of, start_collection, write_next_feature, write_next_points,
+};
 use grid_base::{PathList, PolygonRings, Pt, PtList, RingsList, SignedArc};
 use io_core::Bytes;
 use json_read::Row;
+use ring_trace::{FaceSet, trace};
 use run_plane::{Layer, Plane, Shape};
 use std::alloc::{AllocError, Global};
-use topo_io::ArcShape;
 
 /// The GeoJSON text of a layer with its shapes as grid points: rings of faces, points along arcs.
 pub(crate) fn picture_text(
@@ -43,7 +44,8 @@ pub(crate) fn picture_text(
     Ok(out)
 }
 
-// A feature for each shape, printed as soon as it is drawn: only one shape at a time is held in points.
+// A feature for each shape, printed as soon as it is drawn: only one shape at a time is held in points, and the points
+// of a point feature are lent.
 fn write_shapes(
     alloc: Global,
     plane: &Plane,
@@ -60,33 +62,46 @@ fn write_shapes(
     ensures written { OnOk result (AreWritten plane.now places keys.now rows.now shapes.now out.old out.new) }
 {
     for (i, shape) in shapes.iter().enumerate() {
-        let drawn = shape_of(alloc, plane, shape)?;
-        write_next_feature(i, keys, &rows[i], &drawn, places, out)?;
+        let row = &rows[i];
+        let drawn = match shape {
+            Shape::Nothing => GeoShape::Nothing,
+            Shape::Faces(faces) => drawn_faces(alloc, plane, faces)?,
+            Shape::Paths(paths) => drawn_paths(alloc, plane, paths)?,
+            Shape::Points(points) => {
+                write_next_points(i, keys, row, points.as_slice(), places, out)?;
+                continue;
+            }
+        };
+        write_next_feature(i, keys, row, &drawn, places, out)?;
     }
     Ok(())
 }
 
-fn shape_of(alloc: Global, plane: &Plane, shape: &Shape) -> Result<GeoShape, AllocError>
-    requires on { IsOn plane.now shape.now }
-    ensures drawn { IfOk result (IsDrawn plane.now shape.now) }
+// The rings round a set of faces; nothing where it is empty.
+#[tactic(auto, using(crate::proofs::Drawing::no_faces_drawn))]
+fn drawn_faces(alloc: Global, plane: &Plane, faces: &FaceSet) -> Result<GeoShape, AllocError>
+    requires on { IsSetOf plane.now.faces faces.now }
+    ensures drawn { IfOk result (IsDrawn plane.now (Shape.Faces faces.now)) }
 {
-    let traced = arc_shape(alloc, plane, shape)?;
-    let drawn = on_grid(alloc, &plane.arcs, traced)?;
-    Ok(drawn)
+    if faces.is_empty() {
+        return Ok(GeoShape::Nothing);
+    }
+    let polygons = trace(alloc, &plane.arcs, &plane.faces, faces)?;
+    let drawn = polygons_along(alloc, &plane.arcs, polygons.as_slice())?;
+    Ok(GeoShape::Polygons(drawn))
 }
 
-fn on_grid(alloc: Global, arcs: &ArcTable, traced: ArcShape) -> Result<GeoShape, AllocError>
-    requires { ShapeIsBelow (length arcs.now) traced }
-    ensures exact { IfOk result (λ drawn. drawn ≡ on_grid arcs.now traced) }
+// The lines along paths; nothing where there are none.
+#[tactic(auto, using(crate::proofs::Drawing::no_paths_drawn, crate::proofs::Drawing::paths_drawn))]
+fn drawn_paths(alloc: Global, plane: &Plane, paths: &SignedPaths) -> Result<GeoShape, AllocError>
+    requires on { AreBelow (length plane.now.arcs) paths.now }
+    ensures drawn { IfOk result (IsDrawn plane.now (Shape.Paths paths.now)) }
 {
-    Ok(match traced {
-        ArcShape::Nothing => GeoShape::Nothing,
-        ArcShape::Polygons(polygons) => {
-            GeoShape::Polygons(polygons_along(alloc, arcs, polygons.as_slice())?)
-        }
-        ArcShape::Lines(paths) => GeoShape::Lines(lines_along(alloc, arcs, paths.as_slice())?),
-        ArcShape::Points(points) => GeoShape::Points(points),
-    })
+    if paths.len() == 0 {
+        return Ok(GeoShape::Nothing);
+    }
+    let drawn = lines_along(alloc, &plane.arcs, paths.as_slice())?;
+    Ok(GeoShape::Lines(drawn))
 }
 
 fn polygons_along(
