@@ -1,14 +1,15 @@
 -- Named values: where a name stands among them, and what a put, a look-up and a row make of it.
-use Rattle.std.proofs.Common.{ℕ, zero, suc, ◌≡◌, ◌<◌, ◌+◌, List, [], ◌∷◌, ◌++◌, Bool, true, false, ◌||◌, cond, refl, ap, ◌∙◌, sym, subst, length, map, take, take_all, set, get_or, arith, Option, Some, None, true≢false}
-use Rattle.std.proofs.lemmas.List.{take_more, map-append, length-map, get_or-map}
+use Rattle.std.proofs.Common.{ℕ, zero, suc, ◌≡◌, ◌<◌, ◌+◌, List, [], ◌∷◌, ◌++◌, Bool, true, false, ◌||◌, cond, refl, ap, ◌∙◌, sym, subst, length, map, take, take_all, set, get_or, arith, Option, Some, None}
+use Rattle.std.proofs.lemmas.List.{take_more, map-append, length-map}
 use Rattle.std.proofs.lemmas.List.Folds.{list_any-append}
+use Rattle.std.proofs.lemmas.List.FromFn.{get_or-enumerate_from, length-enumerate_from}
 use Rattle.std.proofs.lemmas.Option.{slice_get_within, slice_get-get_or, get_or_from_slice_get, none-some, same_Some}
 use Rattle.std.proofs.lemmas.List.Quantifiers.{position-Some}
 use Rattle.std.proofs.lemmas.Slice.Eq.{bytes_eq-Decides}
 use Rattle.std.proofs.lemmas.Cmp.{nat_list_eq_equiv}
 use Rattle.std.proofs.lemmas.Map.Keys.{apart_from_distinct, IsDistinct-push}
-use Rattle.std.specs.Prelude.{slice_get, unwrap_or, position, is_some, IfSome, IfNone}
-use Rattle.std.specs.List.{list_any, IsDistinct}
+use Rattle.std.specs.Prelude.{slice_get, unwrap_or, position, is_some, IfSome, IfNone, MatchOption}
+use Rattle.std.specs.List.{enumerate_from, list_any, IsDistinct}
 use Rattle.std.specs.Str.{bytes_eq}
 use Rattle.std.specs.String.{string_bytes}
 use Rattle.json_read.specs.Table.{NamedValues, RowValues, put_value, named_value, value_or_null, row_of, add_name, add_names, IsNewName, IsPlaceOf, AreDistinctNames}
@@ -157,15 +158,28 @@ row_with (name ∷ ns) fs f (suc i) d e h =
     ∙ ap (λ (vs : RowValues). value_or_null name fs ∷ vs) (row_with ns fs f i d.1 e h)
 
 -- the row of one field more
-pub row_more : (ns : List (List ℕ)) (fs : NamedValues) (i : ℕ) (f : Field) (place : ℕ) → i < length fs → f ≡ get_or fs i f → AreDistinctNames ns → AreDistinctNames (names fs) → slice_get ns place ≡ Some f.0
+row_more : (ns : List (List ℕ)) (fs : NamedValues) (i : ℕ) (f : Field) (place : ℕ) → i < length fs → f ≡ get_or fs i f → AreDistinctNames ns → AreDistinctNames (names fs) → slice_get ns place ≡ Some f.0
     → set (row_of ns (take i fs)) place f.1 ≡ row_of ns (take (i + 1) fs)
 row_more ns fs i f place l e d n p =
     sym (row_with ns (take i fs) f place d p (new_at fs i f l e n)) ∙ ap (λ (g : Field). row_of ns (take i fs ++ g ∷ [])) e ∙ ap (λ (gs : NamedValues). row_of ns gs) (sym (take_more fs i f l))
 
-pub row_same : (ns : List (List ℕ)) (fs : NamedValues) (i : ℕ) (f : Field) → i < length fs → f ≡ get_or fs i f → AreDistinctNames (names fs) → list_any (bytes_eq f.0) ns ≡ false
+row_same : (ns : List (List ℕ)) (fs : NamedValues) (i : ℕ) (f : Field) → i < length fs → f ≡ get_or fs i f → AreDistinctNames (names fs) → list_any (bytes_eq f.0) ns ≡ false
     → row_of ns (take i fs) ≡ row_of ns (take (i + 1) fs)
 row_same ns fs i f l e n p =
     sym (row_without ns (take i fs) f p (new_at fs i f l e n)) ∙ ap (λ (g : Field). row_of ns (take i fs ++ g ∷ [])) e ∙ ap (λ (gs : NamedValues). row_of ns gs) (sym (take_more fs i f l))
+
+-- the row of one field more, where the place of its name, or that it has none, was looked up
+pub row_set : (ns : List (List ℕ)) (fs : NamedValues) (i : ℕ) (f : Field) (o : Option ℕ) (row new : RowValues) → i < length fs → f ≡ get_or fs i f → AreDistinctNames ns → AreDistinctNames (names fs)
+    → IfSome o (λ place. slice_get ns place ≡ Some f.0) → IfNone o (list_any (bytes_eq f.0) ns ≡ false) → row ≡ row_of ns (take i fs) → MatchOption o (new ≡ row) (λ place. new ≡ set row place f.1)
+    → new ≡ row_of ns (take (i + 1) fs)
+row_set ns fs i f None row new l e d n p q r s = s ∙ r ∙ row_same ns fs i f l e n q
+row_set ns fs i f (Some place) row new l e d n p q r s = s ∙ ap (λ (vs : RowValues). set vs place f.1) r ∙ row_more ns fs i f place l e d n p
+
+-- the field that comes next, where the fields are counted
+pub counted_field : (fs : NamedValues) (n i : ℕ) (f : Field) → (n < length (enumerate_from 0 fs)) × ((i, f) ≡ get_or (enumerate_from 0 fs) n (i, f)) → (n < length fs) × (f ≡ get_or fs n f)
+counted_field fs n i f next =
+    let within : n < length fs = omega (arith, length-enumerate_from 0 fs, next.0) in
+    (within, ap (λ (p : ℕ × Field). p.1) (next.1 ∙ get_or-enumerate_from 0 fs n (i, f) within))
 
 pub row_done : (ns : List (List ℕ)) (fs : NamedValues) (i : ℕ) → i ≡ length fs → row_of ns (take i fs) ≡ row_of ns fs
 row_done ns fs i e = ap (λ (gs : NamedValues). row_of ns gs) (take_all i fs (omega arith))

@@ -181,4 +181,11 @@ impl FieldsList {
     {
         &self.items
     }
+
+    /// The fields themselves; takes no memory.
+    pub fn into_vec(self) -> Vec<Fields>
+        ensures all { result.items ≡ self }
+    {
+        self.items
+    }
 }

@@ -1,4 +1,4 @@
-ghost use Rattle.std.specs.Prelude.{◌≡◌, ◌<◌, ◌++◌, ◌∷◌, [], IfNone, IfOk, IfSome, IsTrue, length, map, OnOk, OnErr, Some, false, slice_get, slice_set};
+ghost use Rattle.std.specs.Prelude.{◌≡◌, ◌<◌, ◌++◌, ◌∷◌, [], IfNone, IfOk, IfSome, IsTrue, MatchOption, length, map, OnOk, OnErr, Some, false, slice_get, slice_set};
 ghost use Rattle.std.specs.List.{list_any};
 ghost use Rattle.std.specs.Option.{option_copied};
 ghost use Rattle.std.specs.Str.{bytes_eq};
@@ -171,12 +171,12 @@ impl Table {
     }
 
     /// A column for each name, in the order of first appearance; a missing value is `Null`.
-    pub fn from_fields(alloc: Global, rows: &FieldsList) -> Result<Table, AllocError>
-        ensures exact { IfOk result (λ t. t ≡ table_of rows.now) }
+    pub fn from_fields(alloc: Global, rows: FieldsList) -> Result<Table, AllocError>
+        ensures exact { IfOk result (λ t. t ≡ table_of rows) }
     {
         let names = all_names(alloc, rows.as_slice())?;
         let mut table_rows = RowList::new(alloc);
-        for fields in rows.as_slice() {
+        for fields in rows.into_vec() {
             table_rows.push(row_of(alloc, &names, fields)?)?;
         }
         Ok(Table {
@@ -277,16 +277,14 @@ pub(crate) fn add_name(
 }
 
 // The values of these names; one that is missing is Null.
-fn row_of(alloc: Global, names: &IndexSet<String>, fields: &Fields) -> Result<Row, AllocError>
+fn row_of(alloc: Global, names: &IndexSet<String>, fields: Fields) -> Result<Row, AllocError>
     requires { IsUnique string_eq names.now }
-    ensures { IfOk result (λ row. row ≡ values_of (map string_bytes names.now.keys) fields.now) }
+    ensures { IfOk result (λ row. row ≡ values_of (map string_bytes names.now.keys) fields) }
 {
     let mut row = nulls(alloc, names.as_slice())?;
-    for i in 0..fields.entries.len() {
-        let field = &fields.entries[i];
-        if let Some(place) = place_of(names, i, field.0.as_str()) {
-            set_value(&mut row, place, field.1.copy(alloc)?);
-        }
+    for (i, field) in fields.entries.into_iter().enumerate() {
+        let place = place_of(names, i, field.0.as_str());
+        set_value(&mut row, place, field);
     }
     Ok(row)
 }
@@ -315,11 +313,14 @@ fn place_of(names: &IndexSet<String>, guess: usize, name: &str) -> Option<usize>
     names.get_index_of(name)
 }
 
-fn set_value(row: &mut Row, place: usize, value: Value)
-    requires { place < length row.old }
-    ensures { row.new ≡ slice_set row.old place value }
+// Moves the value of a field to its place in the row; a field without one goes.
+fn set_value(row: &mut Row, place: Option<usize>, field: (Text, Value))
+    requires { IfSome place (λ i. i < length row.old) }
+    ensures { MatchOption place (row.new ≡ row.old) (λ i. row.new ≡ slice_set row.old i field.1) }
 {
-    row.items[place] = value;
+    if let Some(place) = place {
+        row.items[place] = field.1;
+    }
 }
 
 fn name_list(alloc: Global, names: &[String]) -> Result<NameList, AllocError>
