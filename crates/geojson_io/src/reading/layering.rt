@@ -59,7 +59,7 @@ fn layer_of(
         rows.push(fields)?;
         shapes.push(shape)?;
     }
-    let table = Table::from_fields(alloc, &rows)?;
+    let table = Table::from_fields(alloc, rows)?;
     Ok(GeoLayer {
         name,
         kind,
