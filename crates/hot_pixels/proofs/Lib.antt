@@ -8,6 +8,7 @@ pub mod HotLemmas
 pub mod SortLemmas
 pub mod ChainLemmas
 pub mod NearLemmas
+pub mod AsideLemmas
 pub mod QuietLemmas
 pub mod KeyLemmas
 pub mod EdgeLemmas

@@ -119,3 +119,12 @@ cross_beside_across s t e = no_crossing s t (λ g b h. outside_not s.start.x s.s
 
 pub cross_beside_upward : (s t : Segment) → is_outside s.start.y s.stop.y (lesser t.start.y t.stop.y) (greater t.start.y t.stop.y) ≡ true → crossing_pixel s t ≡ None
 cross_beside_upward s t e = no_crossing s t (λ g b h. outside_not s.start.y s.stop.y (box_of t).low.y (box_of t).high.y g.y e h.lower h.upper b.1)
+
+-- ---- a search that goes on
+
+-- the points before `done` are done; those from there to `from` are passed over, and those to below `stop` are next
+pub record GoesOn (s : Segment) (points : List GridPoint) (done from stop : ℕ) : Type 0 where
+  pub onward : done ≤ from
+  pub ordered : from ≤ stop
+  pub within : stop ≤ length points
+  pub passed : MeetsNoneBetween s points done from

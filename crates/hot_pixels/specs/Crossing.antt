@@ -1,5 +1,5 @@
 -- The parts of a crossing: shares of the way along two segments, and the point that they give.
-use Rattle.std.specs.Prelude.{ℕ, ◌≤◌, ℤ, pos, ◌-ℤ◌, unsigned_abs, int_le, Bool, ◌&&◌, if◌then◌else◌, Option, Some, None}
+use Rattle.std.specs.Prelude.{ℕ, ℤ, pos, ◌-ℤ◌, int_le, Bool, ◌&&◌, if◌then◌else◌, Option, Some, None}
 use Rattle.plane_model.specs.Points.{GridPoint, Segment}
 use Rattle.plane_model.specs.Pixel.{rounded}
 use Rattle.grid_base.specs.Grid.{IsOnGrid}

@@ -15,7 +15,7 @@
 //!   segment and the one that runs back along it have one edge.
 //! - `chain_of` lists the hot points whose pixels a segment meets, in the order in which the segment passes them, and
 //!   `chain_links` counts the links between them without memory. Both pass over runs of hot points that lie beside the
-//!   segment's box.
+//!   segment's box, and, where a search has tried many, over those that lie aside of its line.
 //! - `append_chain` appends the chain of a segment of the drawing to a path. Segments that meet their ends alone, as
 //!   most do in a drawing of areas, were found when the set was made, and are not searched for. For the others the inner
 //!   points are searched alone: those that some segment of the drawing meets and doesn't end at.
@@ -23,6 +23,7 @@
 //!   asked for.
 #![tactic(auto)]
 
+mod aside;
 mod beside;
 mod chains;
 mod crossing;

@@ -6,6 +6,7 @@ ghost use Rattle.plane_model.specs.Pixel.{meets};
 ghost use Rattle.bucket_grid.specs.Areas.{Holds};
 ghost use Rattle.hot_pixels.specs.Near.{HoldsRun, HoldsBetween, HoldsMore, MeetsNoneBetween};
 
+use crate::aside::is_aside;
 use crate::beside::{is_met, is_outside};
 use grid_base::{LIMIT, Pt, Rect, Seg, lower_left, upper_right};
 use std::alloc::{AllocError, Global};
@@ -23,12 +24,14 @@ pub struct Run {
 }
 
 // How far a search has come: the points before `from` are done, those from there to below `stop` are to be tried, and
-// `run` is the run to look at next.
+// `run` is the run to look at next. `credit` is how many short runs could have been tried for what the search has saved
+// and not spent.
 #[derive(Clone, Copy)]
 struct Place {
     run: usize,
     from: usize,
     stop: usize,
+    credit: usize,
 }
 
 // Shorter runs have no parts.
@@ -36,6 +39,13 @@ const SHORT_RUN: usize = 8;
 
 // A run is this many times as long as its parts.
 const PARTS: usize = 4;
+
+// With so much credit a search asks on which side of a segment's line a run with parts lies. Each short run that it
+// tries is worth 1, so that a search of few points never asks; a run that is passed over, the short runs in it.
+const ASKING: usize = 32;
+
+// What a question in vain takes of the credit, so that it is asked seldom where most are in vain.
+const VAIN: usize = 32;
 
 // How many lengths of runs there are: the longest has 33,554,432 points.
 const LEVELS: u32 = 12;
@@ -149,6 +159,11 @@ fn is_apart(area: Rect, s: &Seg) -> bool
     is_outside(a.y(), b.y(), low.y(), high.y())
 }
 
+// Whether a run has no parts.
+fn is_short(run: &Run) -> bool {
+    run.stop <= run.start.saturating_add(SHORT_RUN)
+}
+
 // The next points to try: a run that lies beside the segment is passed over.
 fn next_place(points: &[Pt], runs: &[Run], s: &Seg, at: Place) -> Place
     requires held { All (HoldsRun points.now) runs.now }
@@ -164,6 +179,7 @@ fn next_place(points: &[Pt], runs: &[Run], s: &Seg, at: Place) -> Place
             run: at.run,
             from: done,
             stop: done,
+            credit: at.credit,
         };
     };
     if run.start <= done && done <= run.stop && is_apart(run.area, s) {
@@ -171,18 +187,56 @@ fn next_place(points: &[Pt], runs: &[Run], s: &Seg, at: Place) -> Place
             run: run.next,
             from: run.stop,
             stop: run.stop,
+            credit: at.credit,
         };
     }
-    let is_short = run.stop <= run.start.saturating_add(SHORT_RUN);
-    let stop = if is_short && done <= run.stop {
-        run.stop
-    } else {
-        done
-    };
+    if is_short(run) && done <= run.stop {
+        return Place {
+            run: at.run.saturating_add(1),
+            from: done,
+            stop: run.stop,
+            credit: at.credit.saturating_add(1),
+        };
+    }
     Place {
         run: at.run.saturating_add(1),
         from: done,
-        stop,
+        stop: done,
+        credit: at.credit,
+    }
+}
+
+// The same, where a run that lies on one side of the segment's line is passed over too.
+fn next_asked(points: &[Pt], runs: &[Run], s: &Seg, at: Place) -> Place
+    requires held { All (HoldsRun points.now) runs.now }
+    requires within { at.stop ≤ length points.now }
+    ensures from { at.stop ≤ result.from }
+    ensures stop { result.from ≤ result.stop }
+    ensures within { result.stop ≤ length points.now }
+    ensures passed { MeetsNoneBetween s.now points.now at.stop result.from }
+{
+    let done = at.stop;
+    let Some(run) = runs.get(at.run) else {
+        return next_place(points, runs, s, at);
+    };
+    let is_ahead = run.start <= done && done <= run.stop;
+    if !is_ahead || is_short(run) || is_apart(run.area, s) {
+        return next_place(points, runs, s, at);
+    }
+    if is_aside(run.area, s) {
+        let saved = run.stop.saturating_sub(run.start) / SHORT_RUN;
+        return Place {
+            run: run.next,
+            from: run.stop,
+            stop: run.stop,
+            credit: at.credit.saturating_add(saved),
+        };
+    }
+    Place {
+        run: at.run.saturating_add(1),
+        from: done,
+        stop: done,
+        credit: at.credit.saturating_sub(VAIN),
     }
 }
 
@@ -210,13 +264,18 @@ pub fn count_near(points: &[Pt], runs: &[Run], s: &Seg) -> u64
         run: 0,
         from: 0,
         stop: 0,
+        credit: 0,
     };
     let mut count: u64 = 0;
     for _step in 0..runs.len() {
         if at.run >= runs.len() {
             break;
         }
-        at = next_place(points, runs, s, at);
+        at = if at.credit < ASKING {
+            next_place(points, runs, s, at)
+        } else {
+            next_asked(points, runs, s, at)
+        };
         count += count_between(points, at.from, at.stop, s);
     }
     count + count_between(points, at.stop, points.len(), s)
@@ -252,13 +311,18 @@ pub fn met_near(alloc: Global, points: &[Pt], runs: &[Run], s: &Seg) -> Result<V
         run: 0,
         from: 0,
         stop: 0,
+        credit: 0,
     };
     let mut met = Vec::new(alloc);
     for _step in 0..runs.len() {
         if at.run >= runs.len() {
             break;
         }
-        at = next_place(points, runs, s, at);
+        at = if at.credit < ASKING {
+            next_place(points, runs, s, at)
+        } else {
+            next_asked(points, runs, s, at)
+        };
         add_between(&mut met, points, at.from, at.stop, s)?;
     }
     add_between(&mut met, points, at.stop, points.len(), s)?;

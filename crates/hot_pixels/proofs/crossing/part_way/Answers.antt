@@ -1,4 +1,4 @@
-use Rattle.std.proofs.Common.{◌≡◌, sym, ap, subst, arith, rules, ◌≤◌, ◌*◌, ◌^◌, ℤ, pos, ◌+ℤ◌, ◌*ℤ◌, unsigned_abs, FitsSigned, to_z-of_z, lit<, w64}
+use Rattle.std.proofs.Common.{◌≡◌, sym, ap, subst, rules, ◌≤◌, ◌*◌, ℤ, pos, ◌+ℤ◌, ◌*ℤ◌, unsigned_abs, FitsSigned, to_z-of_z, lit<, w64}
 use Rattle.std.specs.Int.{w128}
 use Rattle.plane_model.specs.Pixel.{floor_div, rounded}
 use Rattle.grid_base.specs.Grid.{limit}

@@ -1,4 +1,4 @@
-use Rattle.std.proofs.Common.{◌≡◌, ◌∙◌, sym, ap, subst, rules, true, Some, IsTrue, ℤ, pos, negsuc, ◌-ℤ◌, ◌≤ℤ◌, unsigned_abs, FitsSigned, to_z-of_z, lit<, w64}
+use Rattle.std.proofs.Common.{◌≡◌, ◌∙◌, sym, ap, subst, rules, true, Some, IsTrue, ℤ, ◌-ℤ◌, ◌≤ℤ◌, unsigned_abs, FitsSigned, to_z-of_z, w64}
 use Rattle.plane_model.specs.Points.{GridPoint}
 use Rattle.plane_model.specs.Pixel.{rounded}
 use Rattle.grid_base.specs.Grid.{IsOnGrid, greatest, is_grid_number, least}
