@@ -81,7 +81,7 @@ fn table_of(alloc: Global, objects: &[Json]) -> Result<Table, AllocError> {
             rows.push(properties_of(alloc, members)?)?;
         }
     }
-    Table::from_fields(alloc, &rows)
+    Table::from_fields(alloc, rows)
 }
 
 fn print_rows(out: &mut Bytes, rows: &[Row]) -> Result<(), AllocError> {

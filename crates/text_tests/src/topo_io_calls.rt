@@ -115,7 +115,7 @@ fn one_row(alloc: Global, names: &NameList) -> Result<Table, AllocError>
     }
     let mut rows = FieldsList::new(alloc);
     rows.push(fields)?;
-    Table::from_fields(alloc, &rows)
+    Table::from_fields(alloc, rows)
 }
 
 // A list of one layer with one feature.
