@@ -40,8 +40,11 @@ const SHORT_RUN: usize = 8;
 // A run is this many times as long as its parts.
 const PARTS: usize = 4;
 
-// With so much credit a search asks on which side of a segment's line a run with parts lies. Each short run that it
-// tries is worth 1, so that a search of few points never asks; a run that is passed over, the short runs in it.
+// A search of so many runs asks of no line.
+const FEW_RUNS: usize = 128;
+
+// With so much credit a longer search asks on which side of a segment's line a run with parts lies. Each short run that
+// it tries is worth 1; a run that is passed over, the short runs in it.
 const ASKING: usize = 32;
 
 // What a question in vain takes of the credit, so that it is asked seldom where most are in vain.
@@ -271,11 +274,7 @@ pub fn count_near(points: &[Pt], runs: &[Run], s: &Seg) -> u64
         if at.run >= runs.len() {
             break;
         }
-        at = if at.credit < ASKING {
-            next_place(points, runs, s, at)
-        } else {
-            next_asked(points, runs, s, at)
-        };
+        at = next_place(points, runs, s, at);
         count += count_between(points, at.from, at.stop, s);
     }
     count + count_between(points, at.stop, points.len(), s)
@@ -303,6 +302,9 @@ fn add_between(
 }
 
 /// The points that a segment meets.
+///
+/// A search of few runs asks of each whether it lies beside the segment's box, and a longer one besides on which side of
+/// the segment's line some lie.
 pub fn met_near(alloc: Global, points: &[Pt], runs: &[Run], s: &Seg) -> Result<Vec<Pt>, AllocError>
     requires { All (HoldsRun points.now) runs.now }
     ensures { IfOk result (λ met. met.items ≡ filter (meets s.now) points.now) }
@@ -314,6 +316,34 @@ pub fn met_near(alloc: Global, points: &[Pt], runs: &[Run], s: &Seg) -> Result<V
         credit: 0,
     };
     let mut met = Vec::new(alloc);
+    for _step in 0..FEW_RUNS {
+        if at.run >= runs.len() {
+            break;
+        }
+        at = next_place(points, runs, s, at);
+        add_between(&mut met, points, at.from, at.stop, s)?;
+    }
+    add_rest(&mut met, points, runs, s, at)?;
+    Ok(met)
+}
+
+// Adds the points that the segment meets and that a search has not come to.
+fn add_rest(
+    met: &mut Vec<Pt>,
+    points: &[Pt],
+    runs: &[Run],
+    s: &Seg,
+    start: Place,
+) -> Result<(), AllocError>
+    requires held { All (HoldsRun points.now) runs.now }
+    requires within { start.stop ≤ length points.now }
+    requires met { met.old.items ≡ filter (meets s.now) (take start.stop points.now) }
+    ensures all { OnOk result (met.new.items ≡ filter (meets s.now) points.now) }
+{
+    let mut at = Place {
+        credit: ASKING,
+        ..start
+    };
     for _step in 0..runs.len() {
         if at.run >= runs.len() {
             break;
@@ -323,10 +353,9 @@ pub fn met_near(alloc: Global, points: &[Pt], runs: &[Run], s: &Seg) -> Result<V
         } else {
             next_asked(points, runs, s, at)
         };
-        add_between(&mut met, points, at.from, at.stop, s)?;
+        add_between(met, points, at.from, at.stop, s)?;
     }
-    add_between(&mut met, points, at.stop, points.len(), s)?;
-    Ok(met)
+    add_between(met, points, at.stop, points.len(), s)
 }
 
 // Whether the highest bit of m is below that of n.
