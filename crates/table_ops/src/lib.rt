@@ -1,4 +1,4 @@
-//! Tables of named columns: rows filtered by an expression, and tables joined, beside all of `table_rows`, which is
+//! Tables of named columns: rows filtered by an expression, and tables joined. What `table_rows` does to tables is
 //! handed on.
 //!
 //! In: tables, and the terms of `join_terms`. Out: a table, or numbers of rows; or the first `TableFault`.
