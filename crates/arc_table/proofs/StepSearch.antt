@@ -21,7 +21,6 @@ use Rattle.plane_model.proofs.PointOrder.{point_is, segment_is, same_point_from,
 use Rattle.grid_base.specs.Order.{point_cmp}
 use Rattle.grid_base.proofs.PointSearch.{point_cmp-total, equal_is}
 use Rattle.arc_table.specs.Steps.{step_cmp, AreSteps, HasBoth, AreTwins}
-use Rattle.arc_table.specs.declared.half_links.LinkedStep.{LinkedStep}
 
 pub step_cmp-total : IsTotalOrder step_cmp
 step_cmp-total = then_total (on_total (λ (s : Segment). s.start) point_cmp-total) (on_total (λ (s : Segment). s.stop) point_cmp-total)
@@ -62,26 +61,12 @@ search_misses xs x up i h c =
       | inr m ↦ (let e : Greater ≡ Equal = sym (subst (λ (y : Segment). step_cmp y x ≡ Greater) c.2 (s.1 c.0 x m c.1)) ∙ itself in absurd (cc))
     ]
 
--- ---- steps with the numbers of their links
-
-abbrev linked_cmp : LinkedStep → LinkedStep → Ordering
-linked_cmp a b = ordering_then (step_cmp a.step b.step) (nat_cmp a.link b.link)
+-- ---- what is in order by more than a step
 
 pub first_counts : (o p : Ordering) → is_lt (ordering_then o p) ≡ false → is_lt o ≡ false
 first_counts Less p e = e
 first_counts Equal p e = refl
 first_counts Greater p e = refl
-
-pub sorted_steps : (xs : List LinkedStep) → IsSorted linked_cmp xs → IsSorted step_cmp (map (λ (s : LinkedStep). s.step) xs)
-sorted_steps xs up k d l m =
-    let step : LinkedStep → Segment = λ s. s.step in
-    let n = length-map xs step in
-    let none : LinkedStep = record { step = d; link = 0 } in
-    let here : k < length xs = omega arith in
-    let next : k + 1 < length xs = omega arith in
-    let e = get_or-map step xs k none d here in
-    let f = get_or-map step xs (k + 1) none d next in
-    (λ i. is_lt (step_cmp (f i) (e i))) ∙ first_counts (step_cmp (get_or xs (k + 1) none).step (get_or xs k none).step) (nat_cmp (get_or xs (k + 1) none).link (get_or xs k none).link) (up k none l next)
 
 pub same_ends : (s t : Segment) → (same_point s.start t.start && same_point s.stop t.stop) ≡ true → s ≡ t
 same_ends s t e =

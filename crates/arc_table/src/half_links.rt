@@ -5,6 +5,7 @@ ghost use Rattle.grid_base.specs.Order.{point_cmp};
 ghost use Rattle.arc_table.specs.Steps.{step_cmp, StartsAt, IsOther, IsOtherAt, LeadsOnAt, IsOnward, AreLinks, AreOnward, AreBothWays, NoneTurnsBack, AreProper, AreSteps, IsPlace, HasBoth, AreTwins};
 
 use grid_base::{Link, LinkList, Pt, has_point, is_same};
+use known_order::move_to_positions;
 use std::alloc::{AllocError, Global};
 use std::marker::Model;
 
@@ -79,17 +80,21 @@ pub struct Net {
 
 impl Net {
     /// The steps along the links, where `turns` are in order the vertices that are nodes whatever their number of
-    /// links.
-    pub fn of(alloc: Global, links: &LinkList, turns: &[Pt]) -> Result<Net, AllocError>
+    /// links. Positions and twins are those of `StepOrder`: wrong ones cost time alone.
+    pub fn of(
+        alloc: Global,
+        links: &LinkList,
+        turns: &[Pt],
+        positions: Vec<u32>,
+        twin_guesses: &[u32],
+    ) -> Result<Net, AllocError>
         requires links { AreLinks links.now }
         requires turns { IsSorted point_cmp turns.now }
         ensures steps { IfOk result (λ n. AreSteps links.now n.steps.items) }
         ensures on { IfOk result (λ n. AreOnward n.steps.items n.twins.items turns.now n.onward.items (length n.steps.items)) }
     {
-        let linked = linked_steps(alloc, links.as_slice())?;
-        let guesses = twin_guesses(alloc, &linked)?;
-        let steps = steps_of(alloc, &linked)?;
-        let twins = twins_of(alloc, &steps, &guesses)?;
+        let steps = steps_of(alloc, links.as_slice(), positions)?;
+        let twins = twins_of(alloc, &steps, twin_guesses)?;
         let onward = onward_of(alloc, &steps, &twins, turns)?;
         Ok(Net {
             steps,
@@ -135,95 +140,46 @@ impl Net {
     }
 }
 
-/// A step along a link, with the number of the link.
-#[derive(Clone, Copy, PartialEq, Eq, PartialOrd, Ord, Debug)]
-pub struct LinkedStep {
-    pub step: Step,
-    pub link: u32,
-}
-
-// Both steps along each link, in order. The steps up stand in order already, as the links do: a stable sort keeps them,
-// and sorts the others alone.
-fn linked_steps(alloc: Global, links: &[Link]) -> Result<Vec<LinkedStep>, AllocError>
-    ensures exact { IfOk result (λ v. AreSteps links.now (map (λ s. s.step) v.items)) }
+// Both steps along each link, in order, where `positions` has the position of each: of the steps up along the links, and
+// then of those down.
+fn steps_of(alloc: Global, links: &[Link], positions: Vec<u32>) -> Result<Vec<Step>, AllocError>
+    ensures exact { IfOk result (λ v. AreSteps links.now v.items) }
     ensures few { IfOk result (λ v. length v.items < 2 ^ 32) }
 {
     if links.len() > (u32::MAX / 2) as usize {
         return Err(AllocError);
     }
+    let mut positions = positions;
     let mut steps = Vec::with_capacity(alloc, 2 * links.len())?;
     push_up(&mut steps, links)?;
     push_down(&mut steps, links)?;
-    steps.sort()?;
+    move_to_positions(&mut steps, &mut positions);
+    // After this the sort has only to find the steps in order.
+    steps.sort_unstable();
     Ok(steps)
 }
 
-fn push_up(steps: &mut Vec<LinkedStep>, links: &[Link]) -> Result<(), AllocError>
-    requires few { length links.now < 2 ^ 31 }
-    ensures count { OnOk result (length steps.new.items ≡ length steps.old.items + length links.now) }
-    ensures pushed { OnOk result (map (λ s. s.step) steps.new.items ≡ map (λ s. s.step) steps.old.items ++ links.now) }
+fn push_up(steps: &mut Vec<Step>, links: &[Link]) -> Result<(), AllocError>
+    ensures pushed { OnOk result (steps.new.items ≡ steps.old.items ++ links.now) }
 {
-    for i in 0..links.len() {
-        steps.push(LinkedStep {
-            step: Step::new(links[i].low(), links[i].high()),
-            link: i as u32,
-        })?;
+    for link in links {
+        steps.push(Step::new(link.low(), link.high()))?;
     }
     Ok(())
 }
 
-fn push_down(steps: &mut Vec<LinkedStep>, links: &[Link]) -> Result<(), AllocError>
-    requires few { length links.now < 2 ^ 31 }
-    ensures count { OnOk result (length steps.new.items ≡ length steps.old.items + length links.now) }
-    ensures pushed { OnOk result (map (λ s. s.step) steps.new.items ≡ map (λ s. s.step) steps.old.items ++ map reversed links.now) }
+fn push_down(steps: &mut Vec<Step>, links: &[Link]) -> Result<(), AllocError>
+    ensures pushed { OnOk result (steps.new.items ≡ steps.old.items ++ map reversed links.now) }
 {
-    for i in 0..links.len() {
-        steps.push(LinkedStep {
-            step: Step::new(links[i].high(), links[i].low()),
-            link: i as u32,
-        })?;
+    for link in links {
+        steps.push(Step::new(link.high(), link.low()))?;
     }
     Ok(())
 }
 
-// Where the twin of each step is to be looked for first: the step up along a link comes before the step down.
-fn twin_guesses(alloc: Global, steps: &[LinkedStep]) -> Result<Vec<u32>, AllocError>
-    requires { length steps.now < 2 ^ 32 }
-    ensures each { IfOk result (λ v. length v.items ≡ length steps.now) }
-{
-    let mut ups = Vec::with_capacity(alloc, steps.len() / 2)?;
-    let mut guesses = Vec::with_capacity(alloc, steps.len())?;
-    for h in 0..steps.len() {
-        guesses.push(h as u32)?;
-        if steps[h].step.from() < steps[h].step.to() {
-            ups.push(h as u32)?;
-        } else if let Some(up) = ups.get(steps[h].link as usize) {
-            pair(&mut guesses, *up as usize, h);
-        }
-    }
-    Ok(guesses)
-}
-
-fn pair(guesses: &mut Vec<u32>, g: usize, h: usize)
-    requires few { length guesses.old.items < 2 ^ 32 }
-    ensures each { length guesses.new.items ≡ length guesses.old.items }
-{
-    if g < guesses.len() && h < guesses.len() {
-        guesses[g] = h as u32;
-        guesses[h] = g as u32;
-    }
-}
-
-fn steps_of(alloc: Global, linked: &[LinkedStep]) -> Result<Vec<Step>, AllocError>
-    ensures { IfOk result (λ v. v.items ≡ map (λ s. s.step) linked.now) }
-{
-    linked.iter().map(|s| s.step).collect(alloc)
-}
-
-// The place of the twin of each step.
+// The place of the twin of each step, looked for where `guesses` has it first.
 fn twins_of(alloc: Global, steps: &[Step], guesses: &[u32]) -> Result<Vec<u32>, AllocError>
     requires few { length steps.now < 2 ^ 32 }
-    requires guesses { length guesses.now ≡ length steps.now }
     requires sorted { IsSorted step_cmp steps.now }
     requires both { HasBoth steps.now }
     ensures back { IfOk result (λ v. AreTwins steps.now v.items (length steps.now)) }
@@ -232,10 +188,17 @@ fn twins_of(alloc: Global, steps: &[Step], guesses: &[u32]) -> Result<Vec<u32>, 
 {
     let mut twins = Vec::with_capacity(alloc, steps.len())?;
     for h in 0..steps.len() {
-        let twin = twin_of(steps, h, guesses[h] as usize);
+        let twin = twin_of(steps, h, guess_at(guesses, h));
         twins.push(twin as u32)?;
     }
     Ok(twins)
+}
+
+fn guess_at(guesses: &[u32], h: usize) -> usize {
+    match guesses.get(h) {
+        Some(guess) => *guess as usize,
+        None => usize::MAX,
+    }
 }
 
 // The place of the twin of step `h`, looked for at `guess` first.

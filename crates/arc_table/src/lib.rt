@@ -9,6 +9,7 @@
 //! A signed arc is numbered as in TopoJSON 1.0, section 2.1.4: arc `n` forward by `n`, reversed by `-n - 1`.
 #![tactic(auto)]
 
+mod arc_order;
 mod direction;
 mod first_steps;
 mod half_links;
@@ -17,6 +18,7 @@ mod nodes;
 mod numbering;
 mod rows;
 mod signed_paths;
+mod step_order;
 mod table;
 mod vertices;
 

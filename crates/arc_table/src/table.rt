@@ -9,12 +9,16 @@ ghost use Rattle.arc_table.specs.Order.{AreNumbered};
 ghost use Rattle.arc_table.specs.PathArcs.{IsAloneAt};
 ghost use Rattle.arc_table.specs.WholeArcs.{IsWholeArc, StartsAtLeast};
 
+use crate::arc_order::ArcOrder;
 use crate::first_steps::{FirstStep, first_steps, turn_rows, turning};
 use crate::half_links::{Net, Step, place_of};
 use crate::nodes::turns_of;
 use crate::numbering::{pool_of, ways_of};
+use crate::rows::LinkOrder;
+use crate::step_order::StepOrder;
 use crate::vertices::{ArcVertex, least_at, vertices_in_order};
 use grid_base::{ArcId, Pt, SignedArc, Snapped, is_before, is_same};
+use known_order::{move_to_positions, positions_by_key};
 use span_pool::{SpanId, SpanPool};
 use std::alloc::{AllocError, Global};
 use std::marker::Model;
@@ -33,6 +37,7 @@ pub struct ArcTable {
     pub(crate) outs: Vec<SignedArc>,
     // the vertices of all arcs, in order
     vertices: Vec<ArcVertex>,
+    pub(crate) order: LinkOrder,
 }
 
 impl Model for ArcTable {
@@ -71,20 +76,42 @@ impl ArcTable {
         ensures numbered { IfOk result (λ t. AreNumbered s.now t) }
     {
         let turns = turns_of(alloc, s)?;
-        let net = Net::of(alloc, s.links(), &turns)?;
+        let links = s.links();
+        let StepOrder {
+            positions,
+            twins,
+            highs,
+        } = StepOrder::of(alloc, links.as_slice())?;
+        let net = Net::of(alloc, links, &turns, positions, &twins)?;
         let ways = ways_of(alloc, &net, s)?;
         let arcs = pool_of(alloc, &net, &ways)?;
+        let order = ArcOrder::of(alloc, &net, &ways)?;
+        let steps = net.step_count();
         drop(net);
-        ArcTable::of_arcs(alloc, arcs)
+        ArcTable::of_arcs(alloc, arcs, order, highs, steps)
     }
 
-    fn of_arcs(alloc: Global, arcs: SpanPool) -> Result<ArcTable, AllocError>
+    fn of_arcs(
+        alloc: Global,
+        arcs: SpanPool,
+        order: ArcOrder,
+        highs: Vec<u32>,
+        steps: usize,
+    ) -> Result<ArcTable, AllocError>
         requires long { All (λ arc. 1 < length arc) arcs.spans }
         requires forward { All IsForward arcs.spans }
         requires once { AllPairs (λ k l. k ≢ l) (links_of_arcs arcs.spans) }
         ensures same { IfOk result (λ t. t ≡ arcs.spans) }
     {
+        let ArcOrder {
+            firsts: first_keys,
+            vertices: vertex_keys,
+            links,
+        } = order;
         let mut firsts = first_steps(alloc, &arcs)?;
+        let mut positions = positions_by_key(alloc, &first_keys, steps)?;
+        move_to_positions(&mut firsts, &mut positions);
+        // After this the sort has only to find the steps in order.
         firsts.sort_unstable();
         let begins = steps_of(alloc, &firsts)?;
         let begun = arcs_of(alloc, &firsts)?;
@@ -95,7 +122,7 @@ impl ArcTable {
         let starts = starts_of(alloc, &by_turn)?;
         let outs = arcs_of(alloc, &by_turn)?;
         drop(by_turn);
-        let vertices = vertices_in_order(alloc, &arcs)?;
+        let vertices = vertices_in_order(alloc, &arcs, &vertex_keys, steps)?;
         Ok(ArcTable {
             arcs,
             begins,
@@ -103,6 +130,11 @@ impl ArcTable {
             starts,
             outs,
             vertices,
+            order: LinkOrder {
+                links,
+                highs,
+                steps,
+            },
         })
     }
 

@@ -3,6 +3,7 @@ ghost use Rattle.std.specs.List.Sorted.{IsSorted};
 ghost use Rattle.arc_table.specs.Lookup.{AreVertices, IsFirstAt, vertices_below, vertex_cmp};
 
 use grid_base::{ArcId, Pt, is_same};
+use known_order::{move_to_positions, positions_by_key};
 use span_pool::{SpanId, SpanPool};
 use std::alloc::{AllocError, Global};
 
@@ -13,11 +14,20 @@ pub struct ArcVertex {
     pub arc: ArcId,
 }
 
-/// The vertices of all arcs, in order.
-pub fn vertices_in_order(alloc: Global, arcs: &SpanPool) -> Result<Vec<ArcVertex>, AllocError>
+/// The vertices of all arcs, in order. `keys` has for each of them, one arc after another, its number among the
+/// vertices of the drawing, below `count`: a wrong one costs time alone.
+pub fn vertices_in_order(
+    alloc: Global,
+    arcs: &SpanPool,
+    keys: &[u32],
+    count: usize,
+) -> Result<Vec<ArcVertex>, AllocError>
     ensures exact { IfOk result (λ v. AreVertices arcs.now.spans v.items) }
 {
     let mut vertices = vertices_of(alloc, arcs)?;
+    let mut positions = positions_by_key(alloc, keys, count)?;
+    move_to_positions(&mut vertices, &mut positions);
+    // After this the sort has only to find the vertices in order.
     vertices.sort_unstable();
     Ok(vertices)
 }

@@ -3,6 +3,7 @@ pub mod NumberingLemmas
 pub mod AreaLemmas
 pub mod SideLemmas
 pub mod ListedLemmas
+pub mod SortedSides
 pub mod JoinLemmas
 pub mod LinkLemmas
 pub mod SectorLemmas

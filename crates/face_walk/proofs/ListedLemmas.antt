@@ -1,10 +1,10 @@
--- Signed arcs beside the faces on their left: those of one face stand together, and a stable sort by faces keeps their order.
+-- Signed arcs beside the faces on their left: those of one face stand together, in the order of their numbers.
 use Rattle.std.proofs.Common.{◌≡◌, inl, inr, refl, sym, ap, ◌∙◌, subst, arith, ℕ, suc, ◌+◌, ◌-◌, ◌*◌, ◌<◌, ◌≤◌, Bool, true, false, not, ◌&&◌, cond, List, [], ◌∷◌, ◌++◌, All, length, get_or, map, take, drop, length-drop, append-nil}
 use Rattle.std.specs.Prelude.{filter, nat_eq, nat_lt}
 use Rattle.std.specs.Ordering.{nat_cmp, is_lt}
 use Rattle.std.specs.Cmp.{nat_cmp_is}
 use Rattle.std.specs.declared.cmp.Ordering.TheVariants.{Less, Equal, Greater}
-use Rattle.std.specs.List.Sorted.{IsNonDecreasingBy, IsPartitionedBy, IsPartitionPoint, IsStableByKey, ties}
+use Rattle.std.specs.List.Sorted.{IsNonDecreasingBy, IsPartitionedBy, IsPartitionPoint}
 use Rattle.std.proofs.lemmas.Bool.{cases_order, eqb-true, eq-eqb, ne_eqb, ltb-true, ltb-false}
 use Rattle.std.proofs.lemmas.List.{append_assoc, map-append, get_or-map, length-map, get_or-take, get_or-drop, length-take-le, take_all, take-append-drop}
 use Rattle.std.proofs.lemmas.List.Elements.{filter-append}
@@ -149,15 +149,6 @@ sides_with_more places n sides s t is sl tl e f =
 
 -- ---- sorted by their faces
 
-tie_is : (f g : ℕ) → (not (is_lt (nat_cmp f g)) && not (is_lt (nat_cmp g f))) ≡ nat_eq g f
-tie_is f g = elim (cases_order f g) [
-  | inl e ↦ (λ i. not (is_lt (sym (nat_cmp_is f g Equal e) i)) && not (is_lt (sym (nat_cmp_is g f Equal (sym e)) i))) ∙ sym (eq-eqb g f (sym e))
-  | inr other ↦ elim other [
-    | inl l ↦ (λ i. not (is_lt (sym (nat_cmp_is f g Less l) i)) && not (is_lt (nat_cmp g f))) ∙ sym (ne_eqb g f (λ same. omega arith))
-    | inr l ↦ (λ i. not (is_lt (sym (nat_cmp_is f g Greater l) i)) && not (is_lt (sym (nat_cmp_is g f Less l) i))) ∙ sym (ne_eqb g f (λ same. omega arith))
-  ]
-]
-
 left_mapped : (places : List ℕ) (sides : List FaceSide) → All (HasLeft places) sides → map (λ (s : FaceSide). s.face) sides ≡ map (face_left_of places) (map (λ (s : FaceSide). s.arc) sides)
 left_mapped places [] h = refl
 left_mapped places (s ∷ sides) h = let rest = left_mapped places sides (λ k d l. h (suc k) d (omega arith)) in λ i. h 0 s (omega arith) i ∷ rest i
@@ -175,21 +166,13 @@ faces_in_order sides up i j d l m =
     let h = up i j none l (omega arith) in
     omega arith
 
-module _ (places : List ℕ) (n : ℕ) (old new : List FaceSide) (is : old ≡ map (side_with places) (signed_below n)) (left : All (HasLeft places) new) (stable : IsStableByKey (λ (s : FaceSide). s.face) nat_cmp old new) where
-  -- those of one face
-  sides_of_one : (f : ℕ) → filter (λ (s : FaceSide). nat_eq s.face f) new ≡ filter (λ (s : FaceSide). nat_eq s.face f) old
-  sides_of_one f =
-      let x : FaceSide = record { face = f; arc = forward 0 } in
-      let lt : FaceSide → FaceSide → Bool = λ s t. is_lt (nat_cmp s.face t.face) in
-      let test : FaceSide → Bool = λ s. nat_eq s.face f in
-      filter_same test (ties lt x) new (λ k d l. sym (tie_is f (get_or new k d).face)) ∙ stable x ∙ filter_same (ties lt x) test old (λ k d l. tie_is f (get_or old k d).face)
-
+module _ (places : List ℕ) (n : ℕ) (old new : List FaceSide) (is : old ≡ map (side_with places) (signed_below n)) (left : All (HasLeft places) new) (of_one : (f : ℕ) → filter (λ (s : FaceSide). nat_eq s.face f) new ≡ filter (λ (s : FaceSide). nat_eq s.face f) old) where
   arcs_of_one : (f : ℕ) → filter (has_left places f) (map (λ (s : FaceSide). s.arc) new) ≡ arcs_with_left places n f
   arcs_of_one f =
       let test : FaceSide → Bool = λ s. nat_eq s.face f in
       let arc_of : FaceSide → SignedArc = λ s. s.arc in
       filter_mapped arc_of (has_left places f) new
-      ∙ ap (map arc_of) (filter_same (λ (s : FaceSide). has_left places f s.arc) test new (λ k d l i. nat_eq (sym (left k d l) i) f) ∙ sides_of_one f ∙ ap (filter test) is ∙ filter_mapped (side_with places) test (signed_below n))
+      ∙ ap (map arc_of) (filter_same (λ (s : FaceSide). has_left places f s.arc) test new (λ k d l i. nat_eq (sym (left k d l) i) f) ∙ of_one f ∙ ap (filter test) is ∙ filter_mapped (side_with places) test (signed_below n))
       ∙ arcs_back places (arcs_with_left places n f)
 
   pub sides_are_listed : length places ≡ 2 * n + 1 → AreInOrder new → AreListed places (map (λ (s : FaceSide). s.face) new) (map (λ (s : FaceSide). s.arc) new)

@@ -66,7 +66,7 @@ impl Faces {
         let mut joining = Joining::new(alloc, 2 * t.count() + 1)?;
         let (starts, outs) = t.rows();
         join_sectors(&mut joining, starts, outs);
-        join_rays(alloc, &mut joining, &search)?;
+        join_rays(alloc, &mut joining, &search, t.high_positions())?;
         let numbering = numbering_of(alloc, &joining)?;
         let sides = sides_of(alloc, t.count(), &numbering.places)?;
         Faces::of_sides(alloc, t, search, numbering, &sides)

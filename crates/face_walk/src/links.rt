@@ -5,6 +5,7 @@ ghost use Rattle.face_walk.specs.Rays.{AreLinksOf, HasGridEnds, boxes_of, link_a
 
 use arc_table::ArcTable;
 use grid_base::{ArcId, BoxList, Link, Pt, Rect, SignedArc, is_before};
+use known_order::move_to_positions;
 use std::alloc::{AllocError, Global};
 
 /// A link of an arc, and the signed arc that goes along it from its lesser to its greater end. They are ordered by
@@ -26,6 +27,9 @@ pub fn links_of(alloc: Global, t: &ArcTable) -> Result<Vec<ArcLink>, AllocError>
         let id = ArcId::new(n);
         push_links(&mut links, id, t.points_of(id))?;
     }
+    let mut positions = t.link_positions(alloc)?;
+    move_to_positions(&mut links, &mut positions);
+    // After this the sort has only to find the links in order.
     links.sort_unstable();
     Ok(links)
 }
@@ -86,14 +90,19 @@ pub fn boxes_of(alloc: Global, links: &[ArcLink]) -> Result<BoxList, AllocError>
     Ok(boxes)
 }
 
-/// The greater ends of links, in order.
-pub fn highs_of(alloc: Global, links: &[ArcLink]) -> Result<Vec<Pt>, AllocError>
+/// The greater ends of links, in order, where `positions` has for each link the position of its end: a wrong one costs
+/// time alone.
+pub fn highs_of(alloc: Global, links: &[ArcLink], positions: &[u32]) -> Result<Vec<Pt>, AllocError>
     ensures exact { IfOk result (λ v. AreStops links.now v.items) }
 {
     let mut highs = Vec::with_capacity(alloc, links.len())?;
     for l in links {
         highs.push(l.link.high())?;
     }
+    let mut left = Vec::with_capacity(alloc, positions.len())?;
+    left.extend_from_slice(positions)?;
+    move_to_positions(&mut highs, &mut left);
+    // After this the sort has only to find the ends in order.
     highs.sort_unstable();
     Ok(highs)
 }

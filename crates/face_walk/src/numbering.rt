@@ -6,6 +6,7 @@ ghost use Rattle.face_walk.specs.Sides.{AreInOrder, AreListed, AreSides};
 use crate::joining::Joining;
 use crate::places::place_of;
 use grid_base::{ArcId, SignedArc};
+use known_order::{move_to_positions, positions_by_key};
 use std::alloc::{AllocError, Global};
 
 /// The number of the face of each place, and how many faces there are.
@@ -16,8 +17,8 @@ pub struct Numbering {
     ghost below: { All (λ n. n < count) places.items },
 }
 
-/// The face on the left of a signed arc.
-#[derive(Clone, Copy, Debug)]
+/// The face on the left of a signed arc. They are ordered by the face, then by the arc.
+#[derive(Clone, Copy, PartialEq, Eq, PartialOrd, Ord, Debug)]
 pub struct FaceSide {
     pub face: u32,
     pub arc: SignedArc,
@@ -65,7 +66,11 @@ pub fn sides_of(alloc: Global, arc_count: u32, places: &[u32]) -> Result<Vec<Fac
         sides.push(side_of(places, SignedArc::forward(id)))?;
         sides.push(side_of(places, SignedArc::backward(id)))?;
     }
-    sides.sort_by_key(|s| s.face)?;
+    // The places beside arcs stand as the signed arcs do, after the outside.
+    let mut positions = positions_by_key(alloc, &places[1..], places.len())?;
+    move_to_positions(&mut sides, &mut positions);
+    // After this the sort has only to find the sides in order.
+    sides.sort_unstable();
     Ok(sides)
 }
 

@@ -53,7 +53,7 @@ impl LinkSearch {
         let links = links_of(alloc, t)?;
         let boxes = boxes_of(alloc, &links)?;
         let buckets = Buckets::build(alloc, &boxes)?;
-        let trees = trees_of(alloc, &links, &buckets)?;
+        let trees = trees_of(alloc, &links, t.high_positions(), &buckets)?;
         Ok(LinkSearch {
             links,
             buckets,
@@ -140,6 +140,7 @@ fn has_many_rays(links: &[ArcLink], highs: &[Pt], near: &[u32]) -> bool
 fn trees_of(
     alloc: Global,
     links: &[ArcLink],
+    high_positions: &[u32],
     buckets: &Buckets,
 ) -> Result<Vec<Option<LinkTree>>, AllocError>
     ensures { IfOk result (λ trees. AreTreesOver links.now buckets.now.near trees.items) }
@@ -148,7 +149,7 @@ fn trees_of(
     if !has_crowds(buckets) {
         return Ok(trees);
     }
-    let highs = highs_of(alloc, links)?;
+    let highs = highs_of(alloc, links, high_positions)?;
     for place in 0..buckets.count() {
         trees.push(tree_at(alloc, links, &highs, buckets, place)?)?;
     }
@@ -282,18 +283,19 @@ fn upper_of_two(k: ArcLink, l: ArcLink, p: Pt) -> Option<ArcLink>
 }
 
 /// Joins along the ray from each vertex that all its links leave: the right of the first of them with the left of the
-/// topmost link below the vertex, or with the outside.
+/// topmost link below the vertex, or with the outside. `high_positions` are those of the table of arcs.
 pub fn join_rays(
     alloc: Global,
     joining: &mut Joining,
     search: &LinkSearch,
+    high_positions: &[u32],
 ) -> Result<(), AllocError>
     requires few { length joining.old ≤ 4000000001 }
     requires there { All (λ l. HasPlaces (length joining.old) l.along) search.now.links.items }
     ensures count { length joining.new ≡ length joining.old }
     ensures exact { OnOk result ((rays : List (ℕ × ℕ)) × AreRays search.now.links.items rays × (joining.new ≡ joined_by rays joining.old)) }
 {
-    let highs = highs_of(alloc, &search.links)?;
+    let highs = highs_of(alloc, &search.links, high_positions)?;
     for i in 0..search.links.len() {
         if is_lowest(&search.links, &highs, i) {
             join_ray(joining, search, i);

@@ -1,11 +1,12 @@
 ghost use Rattle.std.specs.Prelude.{◌≡◌, ℕ, ◌∷◌, ◌++◌, [], IfOk, List, OnOk, filter, length, map, nat_eq};
-ghost use Rattle.std.specs.List.Sorted.{IsNonDecreasingBy};
+ghost use Rattle.std.specs.List.Sorted.{IsNonDecreasingBy, IsPermutation};
 ghost use Rattle.lists.specs.Lists.{joined_up};
 ghost use Rattle.plane_model.specs.Points.{Path as Way};
 ghost use Rattle.face_walk.specs.RingSteps.{AreAdded, AreStepsFrom, AreStepsOf, owners_from};
 
 use arc_table::ArcTable;
 use grid_base::{ArcId, FeatId, Path, PtList, RingsList, Snapped};
+use known_order::{move_to_positions, positions_by_key};
 use std::alloc::{AllocError, Global};
 
 /// A step along an arc, by a ring of a polygon or by a box; these are known by numbers from 0. Steps are ordered by the
@@ -36,7 +37,7 @@ pub fn polygon_steps(alloc: Global, t: &ArcTable, s: &Snapped) -> Result<Polygon
         let feature = FeatId::new(f);
         push_polygons(alloc, &mut all, t, feature, s.rings_of(feature))?;
     }
-    all.steps.sort_unstable();
+    sort_by_arc(alloc, &mut all.steps, t.count())?;
     Ok(all)
 }
 
@@ -48,8 +49,21 @@ pub fn box_steps(alloc: Global, t: &ArcTable, s: &Snapped) -> Result<Vec<RingSte
     for b in 0..s.box_count() {
         push_steps(alloc, &mut steps, t, b, s.box_of(b))?;
     }
-    steps.sort_unstable();
+    sort_by_arc(alloc, &mut steps, t.count())?;
     Ok(steps)
+}
+
+// Sorts steps along arcs with numbers below `count`. Those along one arc, in whose order they mostly stand, are moved
+// together first.
+fn sort_by_arc(alloc: Global, steps: &mut Vec<RingStep>, count: u32) -> Result<(), AllocError>
+    ensures moved { OnOk result (IsPermutation steps.old.items steps.new.items) }
+    ensures sorted { OnOk result (IsNonDecreasingBy (λ s. s.arc) steps.new.items) }
+{
+    let keys: Vec<u32> = steps.iter().map(|s| s.arc.num()).collect(alloc)?;
+    let mut positions = positions_by_key(alloc, &keys, count as usize)?;
+    move_to_positions(steps, &mut positions);
+    steps.sort_unstable();
+    Ok(())
 }
 
 // The polygons of one feature more.

@@ -1,12 +1,13 @@
 use Rattle.std.proofs.Common.{rules, ◌≡◌, ◌∙◌, sym, ap, subst, arith, ℕ, ◌+◌, List, [], ◌∷◌, ◌++◌, get_or, map}
-use Rattle.std.proofs.lemmas.Fn.{always_returns_same}
-use Rattle.std.proofs.lemmas.List.Sorted.{IsNonDecreasingBy-from_sort_by_key}
+use Rattle.std.specs.List.Sorted.{IsPermutation}
+use Rattle.std.proofs.lemmas.List.Sorted.{IsPermutation-trans}
 use Rattle.plane_model.specs.Arcs.{SignedArc, forward, backward}
 use Rattle.face_walk.specs.Places.{place_of, signed_below}
 use Rattle.face_walk.specs.declared.numbering.FaceSide.{FaceSide}
 use Rattle.face_walk.specs.Sides.{AreInOrder, AreSides, HasLeft}
 use Rattle.face_walk.proofs.SideLemmas.{sides_more, sides_moved}
 use Rattle.face_walk.proofs.ListedLemmas.{side_with, sides_with_more, sides_are_listed}
+use Rattle.face_walk.proofs.SortedSides.{RiseBelow, faces_up, sides_of_one, sides_rise}
 use Rattle.face_walk.proofs.numbering.sides_of.Goals as goal
 
 pub loop-n-preserved : goal.loop-n-preserved
@@ -29,31 +30,36 @@ returns-clause-exact c =
     let end = c.loop-n.auto.n-end in
     let done = c.loop-n-test.false in
     let all : c.loop-n.n ≡ c.args.arc_count = omega arith in
-    sides_moved c.args.places.now c.args.arc_count c.loop-n.sides.items c.sort_by_key.new.self.items c.in_ok-sort_by_key.ensures.permutation
-    (subst (λ (n : ℕ). AreSides c.args.places.now n c.loop-n.sides.items) all c.loop-n.invariant.0)
+    let old = c.loop-n.sides.items in
+    let new = c.sort_unstable.new.self.items in
+    let moved : IsPermutation old new = IsPermutation-trans old c.move_to_positions.new.items.items new c.move_to_positions.ensures.same c.sort_unstable.ensures.permutation in
+    sides_moved c.args.places.now c.args.arc_count old new moved (subst (λ (n : ℕ). AreSides c.args.places.now n old) all c.loop-n.invariant.0)
 
 pub returns-clause-in_order : goal.returns-clause-in_order
-returns-clause-in_order c = IsNonDecreasingBy-from_sort_by_key (λ (s : FaceSide). s.face) c.sort_by_key.new.self.items c.in_ok-sort_by_key.ensures.sorted (λ a r q k. search rules)
+returns-clause-in_order c = faces_up c.sort_unstable.new.self.items c.sort_unstable.ensures.sorted
 
 pub returns-clause-there : goal.returns-clause-there
 returns-clause-there c =
     let end = c.loop-n.auto.n-end in
     let done = c.loop-n-test.false in
     let all : c.loop-n.n ≡ c.args.arc_count = omega arith in
-    (sides_moved c.args.places.now c.args.arc_count c.loop-n.sides.items c.sort_by_key.new.self.items c.in_ok-sort_by_key.ensures.permutation
-    (subst (λ (n : ℕ). AreSides c.args.places.now n c.loop-n.sides.items) all c.loop-n.invariant.0)).there
+    let old = c.loop-n.sides.items in
+    let new = c.sort_unstable.new.self.items in
+    let moved : IsPermutation old new = IsPermutation-trans old c.move_to_positions.new.items.items new c.move_to_positions.ensures.same c.sort_unstable.ensures.permutation in
+    (sides_moved c.args.places.now c.args.arc_count old new moved (subst (λ (n : ℕ). AreSides c.args.places.now n old) all c.loop-n.invariant.0)).there
 
 pub returns-clause-listed : goal.returns-clause-listed
 returns-clause-listed c =
     let end = c.loop-n.auto.n-end in
     let done = c.loop-n-test.false in
     let places = c.args.places.now in
+    let many = c.args.arc_count in
     let old = c.loop-n.sides.items in
-    let new = c.sort_by_key.new.self.items in
-    let all : c.loop-n.n ≡ c.args.arc_count = omega arith in
-    let is : old ≡ map (side_with places) (signed_below c.args.arc_count) = c.loop-n.invariant.1 ∙ ap (λ (n : ℕ). map (side_with places) (signed_below n)) all in
-    let sides = sides_moved places c.args.arc_count old new c.in_ok-sort_by_key.ensures.permutation (subst (λ (n : ℕ). AreSides places n old) all c.loop-n.invariant.0) in
-    let up : AreInOrder new = IsNonDecreasingBy-from_sort_by_key (λ (s : FaceSide). s.face) new c.in_ok-sort_by_key.ensures.sorted (λ a r q k. search rules) in
-    sides_are_listed places c.args.arc_count old new is sides.left
-    (c.in_ok-sort_by_key.ensures.stable (λ (s : FaceSide). s.face) (always_returns_same _ (λ a r. r ≡ a.0.now.face) _ (λ a r q k. search rules)))
-    c.requires.each up
+    let new = c.sort_unstable.new.self.items in
+    let moved : IsPermutation old new = IsPermutation-trans old c.move_to_positions.new.items.items new c.move_to_positions.ensures.same c.sort_unstable.ensures.permutation in
+    let all : c.loop-n.n ≡ many = omega arith in
+    let is : old ≡ map (side_with places) (signed_below many) = c.loop-n.invariant.1 ∙ ap (λ (n : ℕ). map (side_with places) (signed_below n)) all in
+    let sides = sides_moved places many old new moved (subst (λ (n : ℕ). AreSides places n old) all c.loop-n.invariant.0) in
+    let rising : RiseBelow many old = subst (RiseBelow many) (sym is) (sides_rise places many) in
+    sides_are_listed places many old new is sides.left (sides_of_one many old new rising moved c.sort_unstable.ensures.sorted) c.requires.each
+    (faces_up new c.sort_unstable.ensures.sorted)

@@ -3,7 +3,7 @@ use Rattle.std.proofs.lemmas.List.{take_all, map-append, length-map, length-take
 use Rattle.std.proofs.lemmas.Option.{slice_get_within}
 use Rattle.plane_model.specs.Points.{Path}
 use Rattle.face_walk.specs.RingSteps.{AreStepsFrom}
-use Rattle.face_walk.proofs.RingStepLemmas.{arcs_in_order, steps_more, take_found}
+use Rattle.face_walk.proofs.RingStepLemmas.{steps_more, take_found}
 use Rattle.face_walk.proofs.ring_steps.box_steps.Goals as goal
 
 abbrev alone : Path → List Path
@@ -33,7 +33,7 @@ returns c =
       steps = record {
         taken = c.loop-b.steps.items;
         each = subst (λ (xs : List Path). AreStepsFrom c.args.t.now 0 (map alone xs) c.loop-b.steps.items) all c.loop-b.invariant;
-        moved = c.sort_unstable.ensures.permutation;
-        by_arc = arcs_in_order c.sort_unstable.new.self.items c.sort_unstable.ensures.sorted;
+        moved = c.in_ok-sort_by_arc.ensures.moved;
+        by_arc = c.in_ok-sort_by_arc.ensures.sorted;
       };
     }

@@ -6,7 +6,7 @@ use Rattle.lists.specs.Lists.{joined_up}
 use Rattle.plane_model.specs.Points.{Path}
 use Rattle.plane_model.specs.Drawing.{Polygon}
 use Rattle.face_walk.specs.RingSteps.{AreStepsFrom, owners_from}
-use Rattle.face_walk.proofs.RingStepLemmas.{arcs_in_order, joined_more, owners_counted, owners_more, take_found}
+use Rattle.face_walk.proofs.RingStepLemmas.{joined_more, owners_counted, owners_more, take_found}
 use Rattle.face_walk.proofs.ring_steps.polygon_steps.Goals as goal
 
 pub loop-f-preserved : goal.loop-f-preserved
@@ -39,6 +39,6 @@ returns-clause-steps c =
     record {
       taken = c.loop-f.all.steps.items;
       each = subst (λ (xs : List (List Polygon)). AreStepsFrom c.args.t.now 0 (joined_up xs) c.loop-f.all.steps.items) all c.loop-f.invariant.steps;
-      moved = c.sort_unstable.ensures.permutation;
-      by_arc = arcs_in_order c.sort_unstable.new.self.items c.sort_unstable.ensures.sorted;
+      moved = c.in_ok-sort_by_arc.ensures.moved;
+      by_arc = c.in_ok-sort_by_arc.ensures.sorted;
     }

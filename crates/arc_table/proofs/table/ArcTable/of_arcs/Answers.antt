@@ -26,9 +26,11 @@ invariant_of-result c =
     let all_there = firsts_there c.args.arcs.spans in
     let made : List FirstStep = map (first_of c.args.arcs.spans) (signed_below n) in
     let sorted = c.sort_unstable.new.self.items in
-    let begun : IsPermutation made sorted = subst (λ (fs : List FirstStep). IsPermutation fs sorted) c.in_ok-firsts.ensures.exact c.sort_unstable.ensures.permutation in
+    let moved_first = c.move_to_positions.new.items.items in
+    let begun : IsPermutation made sorted = subst (λ (fs : List FirstStep). IsPermutation fs sorted) c.in_ok-firsts.ensures.exact
+    (IsPermutation-trans c.in_ok-firsts.firsts.items moved_first sorted c.move_to_positions.ensures.same c.sort_unstable.ensures.permutation) in
     let rows = c.turn_rows.new.firsts in
-    let by_rows : IsPermutation sorted rows = subst (λ (fs : List FirstStep). IsPermutation fs rows) c.deref_mut.ensures.value c.turn_rows.ensures.same in
+    let by_rows : IsPermutation sorted rows = subst (λ (fs : List FirstStep). IsPermutation fs rows) c.deref_mut-2.ensures.value c.turn_rows.ensures.same in
     let len = c.sort_unstable.new.self.len in
     let size : length sorted ≡ len = search rules in
     let by_turn : IsPermutation sorted (take len (rows ++ drop (length rows) sorted)) = subst (IsPermutation sorted) (sym (take_at rows (drop (length rows) sorted) len (length_permutation sorted rows by_rows ∙ size))) by_rows in
@@ -36,12 +38,12 @@ invariant_of-result c =
     let in_order = c.sort_unstable_by.ensures.sorted (λ (f : FirstStep) (g : FirstStep). comes_first f.step g.step) (comes_first-IsStrictWeakOrder (λ (f : FirstStep). f.step))
     (answers_always _ _ _ (λ f a r g k. search rules)) in
     let turned_there = All-permutation there made turned moved all_there in
-    let starts : c.in_ok-starts.starts.items ≡ map (λ (f : FirstStep). f.step.start) turned = c.in_ok-starts.ensures ∙ ap (map (λ (f : FirstStep). f.step.start)) c.deref-3.ensures.value in
-    let outs : c.in_ok-outs.outs.items ≡ map (λ (f : FirstStep). f.arc) turned = c.in_ok-outs.ensures ∙ ap (map (λ (f : FirstStep). f.arc)) c.deref-4.ensures.value in (
+    let starts : c.in_ok-starts.starts.items ≡ map (λ (f : FirstStep). f.step.start) turned = c.in_ok-starts.ensures ∙ ap (map (λ (f : FirstStep). f.step.start)) c.deref-4.ensures.value in
+    let outs : c.in_ok-outs.outs.items ≡ map (λ (f : FirstStep). f.arc) turned = c.in_ok-outs.ensures ∙ ap (map (λ (f : FirstStep). f.arc)) c.deref-5.ensures.value in (
       c.requires.long,
       are_begun c.args.arcs.spans sorted c.in_ok-begins.begins.items c.in_ok-begun.begun.items begun
           (sorted_by_first (λ (f : FirstStep). f.step) (λ (f : FirstStep) (g : FirstStep). ordering_then (nat_cmp f.arc.arc g.arc.arc) (bool_cmp f.arc.is_reversed g.arc.is_reversed)) sorted c.sort_unstable.ensures.sorted)
-          (c.in_ok-begins.ensures ∙ ap (map (λ (f : FirstStep). f.step)) c.deref.ensures.value) (c.in_ok-begun.ensures ∙ ap (map (λ (f : FirstStep). f.arc)) c.deref-2.ensures.value),
+          (c.in_ok-begins.ensures ∙ ap (map (λ (f : FirstStep). f.step)) c.deref-2.ensures.value) (c.in_ok-begun.ensures ∙ ap (map (λ (f : FirstStep). f.arc)) c.deref-3.ensures.value),
       ap (λ (xs : List GridPoint). length xs) starts ∙ length-map turned (λ (f : FirstStep). f.step.start) ∙ sym (length-map turned (λ (f : FirstStep). f.arc)) ∙ sym (ap (λ (xs : List SignedArc). length xs) outs),
       All-same below c.in_ok-outs.outs.items (map (λ (f : FirstStep). f.arc) turned) outs (All-mapped there below (λ (f : FirstStep). f.arc) (λ f h. h) turned turned_there),
       c.in_ok-vertices.ensures.exact,

@@ -1,0 +1,112 @@
+use crate::half_links::{Net, Step};
+use crate::numbering::Way;
+use grid_base::{is_before, is_same};
+use std::alloc::{AllocError, Global};
+
+/// Where what the arcs have stands in order. It is not proved: a wrong one costs time alone.
+#[derive(Drop)]
+pub struct ArcOrder {
+    /// For each arc where its first step stands among all steps, and where the first step back along it does.
+    pub firsts: Vec<u32>,
+    /// For each vertex of each arc the number of the vertex, in the order of the vertices.
+    pub vertices: Vec<u32>,
+    /// For each link of each arc where the step up along it stands among all steps.
+    pub links: Vec<u32>,
+}
+
+impl ArcOrder {
+    /// The order of what arcs have that go along these ways.
+    pub fn of(alloc: Global, net: &Net, ways: &[Way]) -> Result<ArcOrder, AllocError> {
+        let numbers = vertex_numbers(alloc, &net.steps)?;
+        let links = net.step_count() / 2;
+        let mut order = ArcOrder {
+            firsts: Vec::with_capacity(alloc, ways.len().saturating_mul(2))?,
+            vertices: Vec::with_capacity(alloc, ways.len().saturating_add(links))?,
+            links: Vec::with_capacity(alloc, links)?,
+        };
+        let mut walked = Vec::new(alloc);
+        for way in ways {
+            walk(&mut walked, net, *way)?;
+            turn_forward(&mut walked, net);
+            order.add_arc(net, &numbers, &walked)?;
+        }
+        Ok(order)
+    }
+
+    // Adds an arc with these steps.
+    fn add_arc(&mut self, net: &Net, numbers: &[u32], steps: &[u32]) -> Result<(), AllocError> {
+        let Some(first) = steps.first() else {
+            return Ok(());
+        };
+        let mut back = *first;
+        for h in steps {
+            back = twin_at(net, *h);
+            self.vertices.push(number_at(numbers, *h))?;
+            self.links.push(back.min(*h))?;
+        }
+        self.vertices.push(number_at(numbers, back))?;
+        self.firsts.push(*first)?;
+        self.firsts.push(back)?;
+        Ok(())
+    }
+}
+
+// The number of the vertex that each step starts at, in the order of the vertices.
+fn vertex_numbers(alloc: Global, steps: &[Step]) -> Result<Vec<u32>, AllocError> {
+    let mut numbers = Vec::with_capacity(alloc, steps.len())?;
+    let mut number = 0u32;
+    for h in 0..steps.len() {
+        if h > 0 && !is_same(steps[h - 1].from(), steps[h].from()) {
+            number = number.wrapping_add(1);
+        }
+        numbers.push(number)?;
+    }
+    Ok(numbers)
+}
+
+// Where the steps along a way stand, in place of what `walked` held.
+fn walk(walked: &mut Vec<u32>, net: &Net, way: Way) -> Result<(), AllocError> {
+    walked.clear();
+    let mut at = way.start;
+    for _step in 0..way.steps {
+        walked.push(at)?;
+        at = number_at(&net.onward, at);
+    }
+    Ok(())
+}
+
+// Turns the steps round, where they go against the direction of their arc.
+fn turn_forward(walked: &mut Vec<u32>, net: &Net) {
+    if !is_backward(walked, net) {
+        return;
+    }
+    walked.reverse();
+    for h in walked.iter_mut() {
+        *h = twin_at(net, *h);
+    }
+}
+
+fn is_backward(walked: &[u32], net: &Net) -> bool {
+    let (Some(first), Some(last)) = (step_at(net, walked.first()), step_at(net, walked.last()))
+    else {
+        return false;
+    };
+    is_before(last.to(), first.from())
+        || is_same(last.to(), first.from()) && is_before(last.from(), first.to())
+}
+
+fn step_at(net: &Net, h: Option<&u32>) -> Option<Step> {
+    net.steps.get(*h? as usize).copied()
+}
+
+fn twin_at(net: &Net, h: u32) -> u32 {
+    number_at(&net.twins, h)
+}
+
+// The number at a place, which is itself where there is none.
+fn number_at(numbers: &[u32], h: u32) -> u32 {
+    match numbers.get(h as usize) {
+        Some(number) => *number,
+        None => h,
+    }
+}
