@@ -1,10 +1,12 @@
--- The points that a segment meets, sorted by their keys, are its chain.
-use Rattle.std.proofs.Common.{◌≡◌, ◌≢◌, refl, sym, ap, ◌∙◌, subst, arith, ℕ, zero, suc, ◌+◌, ◌<◌, ◌≤◌, Bool, true, false, not, cond, List, [], ◌∷◌, ◌++◌, length, get_or, filter, Contains, AllPairs, IsTrue, Ordering, int_cmp, ℤ, ◌<ℤ◌, ◌≤ℤ◌}
+-- The points that a segment meets, in the order of their keys, are its chain.
+use Rattle.std.proofs.Common.{◌≡◌, ◌≢◌, inl, inr, refl, sym, ap, ◌∙◌, subst, arith, ℕ, zero, suc, ◌+◌, ◌-◌, ◌<◌, ◌≤◌, Bool, true, false, not, cond, List, [], ◌∷◌, ◌++◌, length, get_or, filter, Contains, AllPairs, IsTrue, Ordering, int_cmp, ℤ, ◌<ℤ◌, ◌≤ℤ◌}
 use Rattle.std.specs.List.{count_by}
 use Rattle.std.specs.List.Sorted.{IsPermutation, IsSortedByKey}
 use Rattle.std.specs.Ordering.{is_lt, MatchOrdering}
 use Rattle.std.specs.declared.cmp.Ordering.TheVariants.{Less, Equal, Greater}
 use Rattle.std.proofs.lemmas.Cmp.{int_cmp_total, int_ranked}
+use Rattle.std.proofs.lemmas.Bool.{cases_lt}
+use Rattle.std.proofs.lemmas.List.{get_or_default}
 use Rattle.std.proofs.lemmas.List.Kept.{AllPairs-filter}
 use Rattle.std.proofs.lemmas.List.Sums.{sum_by-cons, sum_by-append, get_or-le-sum_by, length-filter}
 use Rattle.std.proofs.lemmas.List.Filters.{sum_by-filter_both}
@@ -22,7 +24,7 @@ use Rattle.plane_model.proofs.PointOrder.{same_point_from, same_point_to, is_bef
 use Rattle.plane_snapping.proofs.Keys.{keys_agree}
 use Rattle.plane_snapping.proofs.MeetsComputed.{meets_is_computed}
 use Rattle.plane_snapping.proofs.Passing.{passed-IsStrictOrder}
-use Rattle.hot_pixels.specs.Chains.{AreHotPointsOf}
+use Rattle.hot_pixels.specs.Chains.{AreHotPointsOf, DoRise}
 
 -- ---- how often a point stands in a list
 
@@ -150,21 +152,24 @@ not_less a b e = go (int_cmp a b) (int_ranked a b (int_cmp a b) refl) e
     go Equal h e = omega order
     go Greater h e = omega order
 
--- each of these points is one of the points that s meets, and the other way round, and none stands there twice
-pub record AreMetOnce (s : Segment) (points met : List GridPoint) : Type 0 where
+-- each of these points is one of the points that s meets, and the other way round
+pub record AreMet (s : Segment) (points met : List GridPoint) : Type 0 where
   pub from : (g : GridPoint) → Contains met g → Contains points g × (meets s g ≡ true)
   pub to : (g : GridPoint) → Contains points g → meets s g ≡ true → Contains met g
-  pub once : (g : GridPoint) → times g met ≤ 1
 
-module _ (s : Segment) (points met sorted : List GridPoint) (h : AreMetOnce s points met) (moved : IsPermutation met sorted) (in_order : IsSortedByKey (order_key s) int_cmp sorted) where
+module _ (s : Segment) (points met sorted : List GridPoint) (h : AreMet s points met) (moved : IsPermutation met sorted) where
   from_sorted : (g : GridPoint) → Contains sorted g → Contains points g × (meets s g ≡ true)
   from_sorted g c = h.from g (Contains-permutation sorted met g (IsPermutation-sym met sorted moved) c)
 
   is_met : (g : GridPoint) → Contains sorted g → Meets s g
   is_met g c = (meets_is_computed s g).0 (from_sorted g c).1
 
-  sorted_once : (g : GridPoint) → times g sorted ≤ 1
-  sorted_once g = let a = moved_times g met sorted moved in let b = h.once g in omega arith
+  ascending_is_chain : IsAscending (is_passed_before s) sorted → sorted ≡ chain_among points s
+  ascending_is_chain up =
+      one_ascending (is_passed_before s) (passed-IsStrictOrder s) sorted (chain_among points s) up (ascending-IsAscending (is_passed_before s) (passed-IsStrictOrder s) (filter (meets s) points))
+      (λ g c. let m = from_sorted g c in Contains-ascending (is_passed_before s) (passed-IsStrictOrder s) (filter (meets s) points) g (Contains-filter (meets s) points g m.0 m.1))
+      (λ g c. let m = filter-Contains (meets s) points g (ascending-Contains (is_passed_before s) (passed-IsStrictOrder s) (filter (meets s) points) g c) in
+      Contains-permutation met sorted g moved (h.to g m.0 m.1))
 
   -- points with one key are one point
   one_key : (g h : GridPoint) → Meets s g → Meets s h → order_key s g ≡ order_key s h → g ≡ h
@@ -179,35 +184,70 @@ module _ (s : Segment) (points met sorted : List GridPoint) (h : AreMetOnce s po
       (λ k. absurd (apart (one_key g h m n (omega order))))
       (λ k. (keys_agree s g h m n).1 k)
 
-  sorted_ascending : IsAscending (is_passed_before s) sorted
-  sorted_ascending =
-      ascending_of_pairs (is_passed_before s) (λ g h. (order_key s g ≤ℤ order_key s h) × (g ≢ h)) sorted
+  -- where no point stands twice, those in the order of their keys are the chain
+  pub once_is_chain : ((g : GridPoint) → times g met ≤ 1) → IsSortedByKey (order_key s) int_cmp sorted → sorted ≡ chain_among points s
+  once_is_chain once in_order = ascending_is_chain
+      (ascending_of_pairs (is_passed_before s) (λ g h. (order_key s g ≤ℤ order_key s h) × (g ≢ h)) sorted
       (λ i j d l m. (
         not_less (order_key s (get_or sorted j d)) (order_key s (get_or sorted i d)) (sorted_far (λ g h. is_lt (int_cmp (order_key s g) (order_key s h))) (ranks_by int_cmp_total (order_key s)) sorted in_order i j d (omega arith) m),
-        all_differ sorted sorted_once i j d l m,
+        all_differ sorted (λ g. let a = moved_times g met sorted moved in let b = once g in omega arith) i j d l m,
       ))
-      (λ g h c k r. keys_rise g h (is_met g c) (is_met h k) r.1 r.0)
+      (λ g h c k r. keys_rise g h (is_met g c) (is_met h k) r.1 r.0))
 
-  pub once_is_chain : sorted ≡ chain_among points s
-  once_is_chain =
-      one_ascending (is_passed_before s) (passed-IsStrictOrder s) sorted (chain_among points s) sorted_ascending (ascending-IsAscending (is_passed_before s) (passed-IsStrictOrder s) (filter (meets s) points))
-      (λ g c. let m = from_sorted g c in Contains-ascending (is_passed_before s) (passed-IsStrictOrder s) (filter (meets s) points) g (Contains-filter (meets s) points g m.0 m.1))
-      (λ g c. let m = filter-Contains (meets s) points g (ascending-Contains (is_passed_before s) (passed-IsStrictOrder s) (filter (meets s) points) g c) in
-      Contains-permutation met sorted g moved (h.to g m.0 m.1))
+  -- and those whose keys rise
+  pub rising_is_chain : DoRise s sorted → sorted ≡ chain_among points s
+  rising_is_chain up = ascending_is_chain
+      (ascending_of_pairs (is_passed_before s) (λ g h. order_key s g <ℤ order_key s h) sorted
+      (λ i j d l m. subst (λ (k : ℕ). order_key s (get_or sorted i d) <ℤ order_key s (get_or sorted k d)) (omega arith) (far i (j - i - 1) d (omega arith)))
+      (λ g h c k r. (keys_agree s g h (is_met g c) (is_met h k)).1 r))
+    where
+      far : (i n : ℕ) (d : GridPoint) → i + 1 + n < length sorted → order_key s (get_or sorted i d) <ℤ order_key s (get_or sorted (i + 1 + n) d)
+      far i zero d l = subst (λ (k : ℕ). order_key s (get_or sorted i d) <ℤ order_key s (get_or sorted k d)) (omega arith) (up.rise i d (omega arith))
+      far i (suc n) d l =
+          let a = far i n d (omega arith) in
+          let b = up.rise (i + 1 + n) d (omega arith) in
+          let c : order_key s (get_or sorted i d) <ℤ order_key s (get_or sorted (i + 1 + n + 1) d) = omega order in
+          subst (λ (k : ℕ). order_key s (get_or sorted i d) <ℤ order_key s (get_or sorted k d)) (omega arith) c
+
+-- ---- keys that rise, pair by pair
+
+pub record RiseTo (s : Segment) (points : List GridPoint) (k : ℕ) : Type 0 where
+  pub rise : (j : ℕ) (d : GridPoint) → j + 1 < k → j + 1 < length points → order_key s (get_or points j d) <ℤ order_key s (get_or points (j + 1) d)
+
+module _ (s : Segment) (points : List GridPoint) where
+  pub rise_begins : RiseTo s points 1
+  rise_begins = record { rise = λ j d l m. absurd (omega arith) }
+
+  pub rise_goes_on : (k : ℕ) (p q : GridPoint) → 1 ≤ k → k < length points → p ≡ get_or points (k - 1) p → q ≡ get_or points k q → order_key s p <ℤ order_key s q → RiseTo s points k → RiseTo s points (k + 1)
+  rise_goes_on k p q one l p_is q_is up h = record {
+    rise = λ j d a b. elim (cases_lt (j + 1) k) [
+      | inl m ↦ h.rise j d m b
+      | inr m ↦
+          let same : j + 1 ≡ k = omega arith in
+          let before : k - 1 ≡ j = omega arith in
+          let e : p ≡ get_or points j d = p_is ∙ ap (λ (i : ℕ). get_or points i p) before ∙ get_or_default points j p d (omega arith) in
+          let f : q ≡ get_or points (j + 1) d = q_is ∙ ap (λ (i : ℕ). get_or points i q) (sym same) ∙ get_or_default points (j + 1) q d b in
+          subst (λ (x : GridPoint). order_key s x <ℤ order_key s (get_or points (j + 1) d)) e (subst (λ (x : GridPoint). order_key s p <ℤ order_key s x) f up)
+    ];
+  }
+
+  pub rise_ends : (k : ℕ) → length points ≤ k → RiseTo s points k → DoRise s points
+  rise_ends k l h = record { rise = λ j d b. h.rise j d (omega arith) b }
 
 pub up_once : (points : List GridPoint) → AllPairs (λ p q. IsTrue (is_before p q)) points → (g : GridPoint) → times g points ≤ 1
 up_once points up g = at_most_once points (ascending_of_pairs is_before (λ p q. IsTrue (is_before p q)) points up (λ x y c d r. r)) g
 
 module _ (s : Segment) (points mixed sorted : List GridPoint) (up : AllPairs (λ p q. IsTrue (is_before p q)) points) (placed_so : IsPermutation points mixed) (moved : IsPermutation (filter (meets s) mixed) sorted) (in_order : IsSortedByKey (order_key s) int_cmp sorted) where
-  met_once : AreMetOnce s points (filter (meets s) mixed)
-  met_once = record {
+  are_met : AreMet s points (filter (meets s) mixed)
+  are_met = record {
     from = λ g c. let m = filter-Contains (meets s) mixed g c in (Contains-permutation mixed points g (IsPermutation-sym points mixed placed_so) m.0, m.1);
     to = λ g c m. Contains-filter (meets s) mixed g (Contains-permutation points mixed g placed_so c) m;
-    once = λ g. let b = kept_times g (meets s) mixed in let c = moved_times g points mixed placed_so in let d = up_once points up g in omega arith;
   }
 
   pub sorted_is_chain : sorted ≡ chain_among points s
-  sorted_is_chain = once_is_chain s points (filter (meets s) mixed) sorted met_once moved in_order
+  sorted_is_chain = once_is_chain s points (filter (meets s) mixed) sorted are_met moved
+      (λ g. let b = kept_times g (meets s) mixed in let c = moved_times g points mixed placed_so in let d = up_once points up g in omega arith)
+      in_order
 
 -- ---- the chains of a drawing are those of its hot points, ascending
 

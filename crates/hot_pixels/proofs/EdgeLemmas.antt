@@ -1,5 +1,5 @@
 -- A segment and its edge meet the same pixels, cross the same segments there, and have the same ends.
-use Rattle.std.proofs.Common.{◌≡◌, inl, inr, sym, ap, ◌∙◌, subst, ℕ, ◌+◌, ◌<◌, true, List, [], ◌∷◌, ◌++◌, length, get_or, take, Contains, Some, ℤ, pos, ◌-ℤ◌, ◌*ℤ◌, neg_ℤ}
+use Rattle.std.proofs.Common.{◌≡◌, inl, inr, refl, sym, ap, ◌∙◌, subst, ℕ, ◌+◌, ◌<◌, true, List, [], ◌∷◌, ◌++◌, length, get_or, take, Contains, Some, ℤ, pos, ◌-ℤ◌, ◌*ℤ◌, neg_ℤ}
 use Rattle.std.proofs.lemmas.List.{take_more}
 use Rattle.std.proofs.lemmas.List.Elements.{Contains-append_left, Contains-append_right, Contains-append_cases}
 use Rattle.lists.proofs.Members.{Contains-head, Contains-nil, Contains-cases}
@@ -51,6 +51,10 @@ meets_along s e g (inl h) m = subst (λ (t : Segment). meets t g ≡ true) (sym 
 meets_along s e g (inr h) m =
     let k = (meets_is_computed s g).0 m in
     subst (λ (t : Segment). meets t g ≡ true) (sym h) ((meets_is_computed (reversed s) g).1 (k.0, on_reversed s k.0 k.1, k.2))
+
+pub meets_back : (s e : Segment) (g : GridPoint) → IsEdgeOf s e → meets e g ≡ true → meets s g ≡ true
+meets_back s e g (inl h) m = subst (λ (t : Segment). meets t g ≡ true) h m
+meets_back s e g (inr h) m = meets_along (reversed s) s g (inr refl) (subst (λ (t : Segment). meets t g ≡ true) h m)
 
 pub crossing_along : (s e t : Segment) (g : GridPoint) → IsEdgeOf s e → crossing_pixel s t ≡ Some g → crossing_pixel e t ≡ Some g
 crossing_along s e t g (inl h) m = subst (λ (u : Segment). crossing_pixel u t ≡ Some g) (sym h) m

@@ -9,6 +9,7 @@ pub mod SortLemmas
 pub mod ChainLemmas
 pub mod NearLemmas
 pub mod AsideLemmas
+pub mod MeetingLemmas
 pub mod QuietLemmas
 pub mod KeyLemmas
 pub mod EdgeLemmas

@@ -1,12 +1,12 @@
--- Segments that meet their ends alone: what marks keep, and what their chains are.
-use Rattle.std.proofs.Common.{◌≡◌, ◌⊎◌, inl, inr, refl, sym, ap, ◌∙◌, subst, arith, ℕ, ◌+◌, ◌<◌, ◌≤◌, Bool, true, false, cond, List, [], ◌∷◌, length, get_or, set, map, take, filter, All, Contains, Option, Some, None, ◌++◌}
+-- Segments that meet their ends alone, and where the points are that others meet.
+use Rattle.std.proofs.Common.{◌≡◌, ◌⊎◌, inl, inr, refl, sym, ap, ◌∙◌, subst, arith, ℕ, ◌+◌, ◌<◌, ◌≤◌, Bool, true, false, cond, List, [], ◌∷◌, length, get_or, set, map, take, filter, replicate, All, Contains, Option, Some, None, ◌++◌}
 use Rattle.std.specs.List.{slice_get}
 use Rattle.std.specs.Option.{option_map}
-use Rattle.std.proofs.lemmas.List.{length-set, length-map, get_or-set_same, take_more}
+use Rattle.std.proofs.lemmas.List.{length-set, length-map, get_or-set_same, get_or-replicate, length-replicate, take_more}
 use Rattle.std.proofs.lemmas.List.{take_all}
 use Rattle.std.proofs.lemmas.List.Elements.{All-contains, All-weaker, All-more, Contains-append_cases, Contains-append_left, Contains-append_right}
 use Rattle.std.specs.List.Sorted.{IsPermutation}
-use Rattle.std.proofs.lemmas.List.Sorted.{Contains-permutation}
+use Rattle.std.proofs.lemmas.List.Sorted.{IsPermutation-sym, Contains-permutation}
 use Rattle.std.proofs.lemmas.Option.{slice_get-get_or, slice_get-map, slice_get_within, get_or_from_slice_get}
 use Rattle.lists.proofs.Members.{Contains-head, Contains-later, Contains-nil, Contains-cases, Contains-filter, filter-Contains}
 use Rattle.lists.proofs.Ascending.{IsStrictOrder, IsAscending, ascending-IsAscending, ascending-Contains, Contains-ascending, one_ascending}
@@ -23,10 +23,12 @@ use Rattle.bucket_grid.specs.Areas.{AreaLists, Holds, IsPlaceOf, boxes_near, sha
 use Rattle.bucket_grid.proofs.Numbers.{numbers_where_below}
 use Rattle.grid_base.specs.Boxes.{box_of}
 use Rattle.hot_pixels.specs.Found.{AreBucketsOver}
-use Rattle.hot_pixels.specs.Quiet.{IsEndOf, IsMarked, IsSeen, KeepMarks, AreMarks, AreCrowdsMarked, MeetsEndsAlone, HasUnmarkedEdge, ends_of}
+use Rattle.hot_pixels.specs.declared.meetings.Meeting.{Meeting}
+use Rattle.hot_pixels.specs.Meetings.{AreBack, IsListed, AddsMeetings}
+use Rattle.hot_pixels.specs.Quiet.{IsEndOf, IsMarked, IsFound, IsGathered, IsSeen, KeepMarks, AreMarks, AreCrowdsMarked, MeetsEndsAlone, HasQuietEdge, ends_of}
 use Rattle.hot_pixels.proofs.EdgeLemmas.{alone_along}
 use Rattle.hot_pixels.proofs.CrossingLemmas.{near_area}
-use Rattle.hot_pixels.proofs.ChainLemmas.{times, times-last, moved_times}
+use Rattle.hot_pixels.proofs.MeetingLemmas.{adds_twice, none_back, no_lists}
 
 -- ---- marks
 
@@ -35,11 +37,6 @@ kept_all marks = record { each = refl; kept = λ i m. m }
 
 pub kept_twice : (old mid new : List Bool) → KeepMarks old mid → KeepMarks mid new → KeepMarks old new
 kept_twice old mid new h k = record { each = k.each ∙ h.each; kept = λ i m. k.kept i (h.kept i m) }
-
-pub seen_later : (spots : List Segment) (old new : List Bool) (a b : Bool) (p : GridPoint) (i : ℕ) → KeepMarks old new → (a ≡ true → b ≡ true) → IsSeen spots old a p i → IsSeen spots new b p i
-seen_later spots old new a b p i k grows h = record {
-  seen = λ s e m. elim (h.seen s e m) [ inl f ↦ inl f | inr f ↦ inr (k.kept i f.0, grows f.1) ];
-}
 
 marked_at : (marks : List Bool) (i : ℕ) → i < length marks → get_or marks i false ≡ true → IsMarked marks i
 marked_at marks i l e = slice_get-get_or marks i false l ∙ ap Some e
@@ -55,34 +52,60 @@ marked_more old mid new near k l kept here h = (
   All-more (IsMarked new) near k 0 l (All-weaker (IsMarked mid) (IsMarked new) kept.kept (take k near) h.1) here,
 )
 
-pub seen_more : (spots : List Segment) (p : GridPoint) (old mid new : List Bool) (a b : Bool) (near : List ℕ) (k : ℕ) → k < length near → KeepMarks mid new → (a ≡ true → b ≡ true) → IsSeen spots new b p (get_or near k 0) →
-    KeepMarks old mid × All (IsSeen spots mid a p) (take k near) → KeepMarks old new × All (IsSeen spots new b p) (take (k + 1) near)
-seen_more spots p old mid new a b near k l kept grows here h = (
-  kept_twice old mid new h.0 kept,
-  All-more (IsSeen spots new b p) near k 0 l (All-weaker (IsSeen spots mid a p) (IsSeen spots new b p) (λ j s. seen_later spots mid new a b p j kept grows s) (take k near) h.1) here,
-)
-
 pub all_taken : (P : ℕ → Type 0) (xs : List ℕ) (k : ℕ) → length xs ≤ k → All P (take k xs) → All P xs
 all_taken P xs k l h = subst (All P) (take_all k xs l) h
 
-pub crowds_kept : (count : ℕ) (near : List (List ℕ)) (old new : List Bool) → KeepMarks old new → AreCrowdsMarked count near old → AreCrowdsMarked count near new
-crowds_kept count near old new k h = record {
-  all = λ place l list e m. All-weaker (IsMarked old) (IsMarked new) k.kept list (h.all place l list e m);
-}
+-- ---- points that are found
 
--- marks and inner points, as far as the first points say
-pub record IsMarking (near : List (List ℕ)) (spots : List Segment) (points : List GridPoint) (marks : List Bool) (inner : List GridPoint) : Type 0 where
-  pub crowds : AreCrowdsMarked (length near) near marks
-  pub are_marks : AreMarks points spots marks inner
+found_later : (crowded : List Bool) (old new : List (Option ℕ)) (before after : List Meeting) (P Q : Type 0) (i : ℕ) (p : GridPoint) → (IsListed old before i p → IsListed new after i p) → (P → Q) → IsFound crowded old before P i p → IsFound crowded new after Q i p
+found_later crowded old new before after P Q i p kept grows (inl f) = inl (f.0, grows f.1)
+found_later crowded old new before after P Q i p kept grows (inr f) = inr (f.0, kept f.1)
+
+module _ (edges : List Segment) (crowded : List Bool) (p : GridPoint) where
+  seen_later : (old new : List (Option ℕ)) (before after : List Meeting) (a b : Bool) (i : ℕ) → AddsMeetings edges p old before new after → (a ≡ true → b ≡ true) → IsSeen edges crowded old before a p i → IsSeen edges crowded new after b p i
+  seen_later old new before after a b i adds grows h = record {
+    seen = λ s e m. elim (h.seen s e m) [ inl f ↦ inl f | inr f ↦ inr (found_later crowded old new before after (a ≡ true) (b ≡ true) i p (adds.kept i p) grows f) ];
+  }
+
+  pub seen_more : (old mid new : List (Option ℕ)) (before between after : List Meeting) (a b : Bool) (near : List ℕ) (k : ℕ) → k < length near → AddsMeetings edges p mid between new after → (a ≡ true → b ≡ true) → IsSeen edges crowded new after b p (get_or near k 0) →
+      AddsMeetings edges p old before mid between × All (IsSeen edges crowded mid between a p) (take k near) → AddsMeetings edges p old before new after × All (IsSeen edges crowded new after b p) (take (k + 1) near)
+  seen_more old mid new before between after a b near k l adds grows here h = (
+    adds_twice edges p old mid new before between after h.0 adds,
+    All-more (IsSeen edges crowded new after b p) near k 0 l (All-weaker (IsSeen edges crowded mid between a p) (IsSeen edges crowded new after b p) (λ j s. seen_later mid new between after a b j adds grows s) (take k near) h.1) here,
+  )
+
+  pub gathered_is_seen : (lasts : List (Option ℕ)) (meetings : List Meeting) (b : Bool) (i : ℕ) → slice_get crowded i ≡ Some false → IsGathered edges lasts meetings p i → IsSeen edges crowded lasts meetings b p i
+  gathered_is_seen lasts meetings b i e h = record { seen = λ s f m. elim (h.seen s f m) [ inl n ↦ inl n | inr n ↦ inr (inr (e, n)) ] }
+
+-- all are crowded
+pub all_inner : (edges : List Segment) (points : List GridPoint) → AreMarks points edges (replicate (length edges) true) (replicate (length edges) None) [] points
+all_inner edges points = record {
+  seen = λ p c i s e m. inr (inl (marked i s e, c));
+  lists = no_lists edges;
+  hot = λ m c. Contains-nil m c;
+  inside = λ p c. c;
+}
+  where
+    marked : (i : ℕ) (s : Segment) → slice_get edges i ≡ Some s → IsMarked (replicate (length edges) true) i
+    marked i s e =
+        let l = slice_get_within edges i s e in
+        let n = length-replicate (length edges) true in
+        marked_at (replicate (length edges) true) i (omega arith) (get_or-replicate (length edges) i true false l)
 
 -- p at the end of a list, if it is wanted
 abbrev pub with_wanted : List GridPoint → GridPoint → Bool → List GridPoint
 with_wanted points p b = cond b (points ++ p ∷ []) points
 
-module _ (spots : List Segment) (points : List GridPoint) (old new : List Bool) (b : Bool) (inner more : List GridPoint) (k : ℕ) (p : GridPoint) (l : k < length points) (e : p ≡ get_or points k p)
-    (kept : KeepMarks old new) (here : (i : ℕ) → IsSeen spots new b p i) (is : more ≡ with_wanted inner p b) (h : AreMarks (take k points) spots old inner) where
+module _ (edges : List Segment) (points : List GridPoint) (crowded : List Bool) (old new : List (Option ℕ)) (before after : List Meeting) (b : Bool) (inner more : List GridPoint) (k : ℕ) (p : GridPoint) (l : k < length points) (e : p ≡ get_or points k p)
+    (adds : AddsMeetings edges p old before new after) (here : (i : ℕ) → IsSeen edges crowded new after b p i) (is : more ≡ with_wanted inner p b) (h : AreMarks (take k points) edges crowded old before inner) where
   next : take (k + 1) points ≡ take k points ++ p ∷ []
   next = take_more points k p l ∙ ap (λ (x : GridPoint). take k points ++ x ∷ []) (sym e)
+
+  one_of : (q : GridPoint) → Contains (take k points) q → Contains (take (k + 1) points) q
+  one_of q c = subst (λ (xs : List GridPoint). Contains xs q) (sym next) (Contains-append_left (take k points) (p ∷ []) q c)
+
+  last_one : Contains (take (k + 1) points) p
+  last_one = subst (λ (xs : List GridPoint). Contains xs p) (sym next) (Contains-append_right (take k points) (p ∷ []) p (Contains-head p []))
 
   still_wanted : (q : GridPoint) → Contains inner q → Contains more q
   still_wanted q c = subst (λ (xs : List GridPoint). Contains xs q) (sym is) (go b)
@@ -94,50 +117,53 @@ module _ (spots : List Segment) (points : List GridPoint) (old new : List Bool) 
   wanted_now : b ≡ true → Contains more p
   wanted_now t = subst (λ (xs : List GridPoint). Contains xs p) (sym (is ∙ ap (with_wanted inner p) t)) (Contains-append_right inner (p ∷ []) p (Contains-head p []))
 
-  seen_of : (q : GridPoint) (i : ℕ) (s : Segment) → Contains (take k points) q → slice_get spots i ≡ Some s → meets s q ≡ true → IsEndOf s q ⊎ (IsMarked new i × Contains more q)
-  seen_of q i s d f m = elim (h.seen q d i s f m) [ inl n ↦ inl n | inr n ↦ inr (kept.kept i n.0, still_wanted q n.1) ]
-
-  seen_now : (i : ℕ) (s : Segment) → slice_get spots i ≡ Some s → meets s p ≡ true → IsEndOf s p ⊎ (IsMarked new i × Contains more p)
-  seen_now i s f m = elim ((here i).seen s f m) [ inl n ↦ inl n | inr n ↦ inr (n.0, wanted_now n.1) ]
-
-  listed_of : (q : GridPoint) → times q more ≤ times q (take (k + 1) points)
-  listed_of q =
-      let f = ap (times q) is in
-      let g = ap (times q) next in
-      let n = times-last q (take k points) p in
-      let m = go b in
-      omega arith
+  wanted_is : (q : GridPoint) → Contains more q → Contains inner q ⊎ (p ≡ q)
+  wanted_is q c = go b (subst (λ (xs : List GridPoint). Contains xs q) is c)
     where
-      go : (b : Bool) → times q (with_wanted inner p b) ≤ times q (take k points ++ p ∷ [])
-      go true = let n = times-last q (take k points) p in let m = times-last q inner p in let o = h.listed q in omega arith
-      go false = let n = times-last q (take k points) p in let o = h.listed q in omega arith
+      go : (b : Bool) → Contains (with_wanted inner p b) q → Contains inner q ⊎ (p ≡ q)
+      go true d = elim (Contains-append_cases inner (p ∷ []) q d) [ inl m ↦ inl m | inr m ↦ elim (Contains-cases p [] q m) [ inl s ↦ inr s | inr n ↦ Contains-nil q n ] ]
+      go false d = inl d
 
-  pub are_marks_more : AreMarks (take (k + 1) points) spots new more
+  seen_of : (q : GridPoint) (i : ℕ) (s : Segment) → Contains (take k points) q → slice_get edges i ≡ Some s → meets s q ≡ true → IsEndOf s q ⊎ IsFound crowded new after (Contains more q) i q
+  seen_of q i s d f m = elim (h.seen q d i s f m) [ inl n ↦ inl n | inr n ↦ inr (found_later crowded old new before after (Contains inner q) (Contains more q) i q (adds.kept i q) (still_wanted q) n) ]
+
+  seen_now : (i : ℕ) (s : Segment) → slice_get edges i ≡ Some s → meets s p ≡ true → IsEndOf s p ⊎ IsFound crowded new after (Contains more p) i p
+  seen_now i s f m = elim ((here i).seen s f m) [ inl n ↦ inl n | inr n ↦ inr (found_later crowded new new after after (b ≡ true) (Contains more p) i p (λ g. g) wanted_now n) ]
+
+  pub are_marks_more : AreMarks (take (k + 1) points) edges crowded new after more
   are_marks_more = record {
-    each = kept.each ∙ h.each;
     seen = λ q c i s f m. elim (Contains-append_cases (take k points) (p ∷ []) q (subst (λ (xs : List GridPoint). Contains xs q) next c)) [
       | inl d ↦ seen_of q i s d f m
       | inr d ↦ elim (Contains-cases p [] q d) [
-        | inl same ↦ subst (λ (x : GridPoint). IsEndOf s x ⊎ (IsMarked new i × Contains more x)) same (seen_now i s f (subst (λ (x : GridPoint). meets s x ≡ true) (sym same) m))
+        | inl same ↦ subst (λ (x : GridPoint). IsEndOf s x ⊎ IsFound crowded new after (Contains more x) i x) same (seen_now i s f (subst (λ (x : GridPoint). meets s x ≡ true) (sym same) m))
         | inr none ↦ Contains-nil q none
       ]
     ];
-    listed = listed_of;
+    lists = adds.lists;
+    hot = λ m c. elim (adds.from m c) [ inl d ↦ one_of m.point (h.hot m d) | inr d ↦ subst (Contains (take (k + 1) points)) (sym d) last_one ];
+    inside = λ q c. elim (wanted_is q c) [ inl d ↦ one_of q (h.inside q d) | inr d ↦ subst (Contains (take (k + 1) points)) d last_one ];
   }
 
--- moved points are listed as well
-pub marks_moved : (points : List GridPoint) (spots : List Segment) (marks : List Bool) (inner moved : List GridPoint) → IsPermutation inner moved → AreMarks points spots marks inner → AreMarks points spots marks moved
-marks_moved points spots marks inner moved same h = record {
-  each = h.each;
-  seen = λ p c i s f m. elim (h.seen p c i s f m) [ inl n ↦ inl n | inr n ↦ inr (n.0, Contains-permutation inner moved p same n.1) ];
-  listed = λ p. let e = moved_times p inner moved same in let l = h.listed p in omega arith;
+-- moved points are inner as well
+pub marks_moved : (points : List GridPoint) (edges : List Segment) (crowded : List Bool) (lasts : List (Option ℕ)) (meetings : List Meeting) (inner moved : List GridPoint) → IsPermutation inner moved → AreMarks points edges crowded lasts meetings inner → AreMarks points edges crowded lasts meetings moved
+marks_moved points edges crowded lasts meetings inner moved same h = record {
+  seen = λ p c i s e m. elim (h.seen p c i s e m) [ inl n ↦ inl n | inr n ↦ inr (found_later crowded lasts lasts meetings meetings (Contains inner p) (Contains moved p) i p (λ g. g) (Contains-permutation inner moved p same) n) ];
+  lists = h.lists;
+  hot = h.hot;
+  inside = λ p c. h.inside p (Contains-permutation moved inner p (IsPermutation-sym inner moved same) c);
 }
 
--- a segment whose edge has no mark meets its ends alone
-pub quiet_at : (points : List GridPoint) (edges : List Segment) (marks : List Bool) (inner : List GridPoint) (s : Segment) → AreMarks points edges marks inner → HasUnmarkedEdge edges marks s → MeetsEndsAlone points s
-quiet_at points edges marks inner s h at = alone_along points s at.has_edge.edge at.has_edge.along (record {
-  others = λ p c m. elim (h.seen p c at.number at.has_edge.edge at.has_edge.there m) [ inl e ↦ e | inr e ↦ absurd (let f : Some false ≡ Some true = sym at.unmarked ∙ e.0 in cc) ];
+-- a segment whose edge is of no crowd and has no meeting meets its ends alone
+pub quiet_at : (points : List GridPoint) (edges : List Segment) (crowded : List Bool) (lasts : List (Option ℕ)) (meetings : List Meeting) (inner : List GridPoint) (s : Segment) → AreMarks points edges crowded lasts meetings inner → HasQuietEdge edges crowded lasts s → MeetsEndsAlone points s
+quiet_at points edges crowded lasts meetings inner s h at = alone_along points s at.has_edge.edge at.has_edge.along (record {
+  others = λ p c m. elim (h.seen p c at.number at.has_edge.edge at.has_edge.there m) [ inl e ↦ e | inr f ↦ elim f [ inl k ↦ absurd (let n : Some false ≡ Some true = sym at.apart ∙ k.0 in cc) | inr k ↦ not_listed p k.1 ] ];
 })
+  where
+    not_listed : (p : GridPoint) → IsListed lasts meetings at.number p → IsEndOf at.has_edge.edge p
+    not_listed p k =
+        let none : k.last ≡ None = (let f : Some k.last ≡ Some None = sym k.there ∙ at.alone in cc) in
+        let empty : k.points ≡ [] = none_back meetings None k.points (subst (λ (o : Option ℕ). AreBack meetings o k.points) none k.back) refl in
+        Contains-nil p (subst (λ (xs : List GridPoint). Contains xs p) empty k.listed)
 
 -- ---- the spots near a point
 
@@ -168,16 +194,15 @@ module _ (spots : List Segment) (b : AreaLists) (h : AreBucketsOver spots b) (pl
       (met_pixels_lie_in_the_box s p ((meets_is_computed s p).0 m)))
 
   -- where the segments that are near are seen, all are
-  pub all_seen : (p : GridPoint) → IsPlaceOf b.areas p place → (marks : List Bool) (is_inner : Bool) → All (IsSeen spots marks is_inner p) near → (i : ℕ) → IsSeen spots marks is_inner p i
-  all_seen p at marks is_inner h i = record {
-    seen = λ s e m. (All-contains (IsSeen spots marks is_inner p) near i h (met_is_near p at i s e m)).seen s e m;
+  pub all_seen : (p : GridPoint) → IsPlaceOf b.areas p place → (crowded : List Bool) (lasts : List (Option ℕ)) (meetings : List Meeting) (is_inner : Bool) → All (IsSeen spots crowded lasts meetings is_inner p) near → (i : ℕ) → IsSeen spots crowded lasts meetings is_inner p i
+  all_seen p at crowded lasts meetings is_inner h i = record {
+    seen = λ s e m. (All-contains (IsSeen spots crowded lasts meetings is_inner p) near i h (met_is_near p at i s e m)).seen s e m;
   }
 
-  crowd_seen : (p : GridPoint) (marks : List Bool) → All (IsMarked marks) near → All (IsSeen spots marks true p) near
-  crowd_seen p marks h = All-weaker (IsMarked marks) (IsSeen spots marks true p) (λ i m. record { seen = λ s e f. inr (m, refl) }) near h
-
-  pub all_seen_in_crowd : (p : GridPoint) → IsPlaceOf b.areas p place → (marks : List Bool) → AreCrowdsMarked (length b.near) b.near marks → 64 < length near → (i : ℕ) → IsSeen spots marks true p i
-  all_seen_in_crowd p at marks h many = all_seen p at marks true (crowd_seen p marks (h.all place (slice_get_within b.near place near is) near is many))
+  pub all_seen_in_crowd : (p : GridPoint) → IsPlaceOf b.areas p place → (crowded : List Bool) (lasts : List (Option ℕ)) (meetings : List Meeting) → AreCrowdsMarked (length b.near) b.near crowded → 64 < length near → (i : ℕ) → IsSeen spots crowded lasts meetings true p i
+  all_seen_in_crowd p at crowded lasts meetings h many = all_seen p at crowded lasts meetings true
+      (All-weaker (IsMarked crowded) (IsSeen spots crowded lasts meetings true p) (λ i m. record { seen = λ s e f. inr (inl (m, refl)) }) near
+      (h.all place (slice_get_within b.near place near is) near is many))
 
 -- ---- chains of the ends alone
 

@@ -6,6 +6,7 @@ pub mod Found
 pub mod Stops
 pub mod Chains
 pub mod Near
+pub mod Meetings
 pub mod Quiet
 pub mod Keys
 pub mod Edges

@@ -1,8 +1,8 @@
-ghost use Rattle.std.specs.Prelude.{◌≡◌, ◌-ℤ◌, ◌*ℤ◌, IfOk};
+ghost use Rattle.std.specs.Prelude.{◌≡◌, ◌-ℤ◌, ◌*ℤ◌, ◌<ℤ◌, true, IfOk};
 ghost use Rattle.std.specs.Int.{int_signum};
 ghost use Rattle.plane_model.specs.Hot.{order_key};
 ghost use Rattle.grid_base.specs.Sizes.{IsGridNumber};
-ghost use Rattle.hot_pixels.specs.Chains.{AreSortedAlong};
+ghost use Rattle.hot_pixels.specs.Chains.{AreSortedAlong, DoRise};
 
 use grid_base::{Pt, PtList, Seg};
 use std::alloc::{AllocError, Global};
@@ -45,4 +45,22 @@ pub fn sorted_along(alloc: Global, met: Vec<Pt>, s: &Seg) -> Result<PtList, Allo
     let mut sorted = met;
     sorted.sort_unstable_by_key(|p| key_along(s, p));
     list_of(alloc, &sorted)
+}
+
+fn has_lower_key(s: &Seg, p: &Pt, q: &Pt) -> bool
+    ensures { result ≡ true → order_key s.now p.now <ℤ order_key s.now q.now }
+{
+    key_along(s, p) < key_along(s, q)
+}
+
+/// Whether the keys of the points along a segment rise, so that no point stands twice.
+pub fn do_rise(points: &[Pt], s: &Seg) -> bool
+    ensures { result ≡ true → DoRise s.now points.now }
+{
+    for k in 1..points.len() {
+        if !has_lower_key(s, &points[k - 1], &points[k]) {
+            return false;
+        }
+    }
+    true
 }

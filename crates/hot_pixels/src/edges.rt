@@ -65,8 +65,10 @@ fn edge_beside(edges: &[Seg], last: u32, s: &Seg) -> Option<u32>
     }
 }
 
-// A count as a number of 32 bits. More edges are out of memory.
-fn next_number(count: usize) -> Result<u32, AllocError> {
+/// A count as a number of 32 bits. More are out of memory.
+pub fn next_number(count: usize) -> Result<u32, AllocError>
+    ensures { IfOk result (λ n. n ≡ count) }
+{
     if count > u32::MAX as usize {
         return Err(AllocError);
     }

@@ -1,16 +1,17 @@
-ghost use Rattle.std.specs.Prelude.{◌≡◌, ◌↔◌, ◌++◌, ◌-◌, true, false, Some, slice_get, IfOk, OnOk, IsTrue, Contains, AllPairs, map, length};
+ghost use Rattle.std.specs.Prelude.{◌≡◌, ◌↔◌, ◌++◌, ◌-◌, ℕ, true, false, Option, Some, None, slice_get, IfOk, OnOk, IsTrue, All, Contains, AllPairs, map, length};
 ghost use Rattle.lists.specs.Lists.{ascending};
 ghost use Rattle.plane_model.specs.Points.{GridPoint as Point, is_before};
 ghost use Rattle.plane_model.specs.Drawing.{Drawing as Map};
 ghost use Rattle.plane_model.specs.Hot.{hot_points, chain_among, chain_of};
 ghost use Rattle.hot_pixels.specs.Chains.{AreHotPointsOf};
-ghost use Rattle.hot_pixels.specs.Near.{IsSearchable};
-ghost use Rattle.hot_pixels.specs.Quiet.{MeetsEndsAlone, HasUnmarkedEdge, AreMarks};
+ghost use Rattle.hot_pixels.specs.Near.{IsSearchable, HoldsRun};
+ghost use Rattle.hot_pixels.specs.Quiet.{MeetsEndsAlone, HasQuietEdge, AreMarks, AreLookedUp};
 ghost use Rattle.hot_pixels.specs.Stops.{stop_of};
 
-use crate::chains::sorted_along;
+use crate::chains::{do_rise, sorted_along};
 use crate::edges::{Edges, edges_of, known_edge};
 use crate::keys::each_once;
+use crate::meetings::points_back;
 use crate::near::{Run, along_curve, count_near, met_near, runs_over};
 use crate::pairs::{add_crossings, buckets_over};
 use crate::quiet::{Marking, append_ends, marks_of, with_ends};
@@ -25,13 +26,11 @@ pub struct HotSet {
     points: Vec<Pt>,
     mixed: Vec<Pt>,
     runs: Vec<Run>,
-    // the edges of the drawing, with a mark for each that may meet hot pixels besides those of its ends
+    // the edges of the drawing, and for each of its segments the number of its edge
     edges: Vec<Seg>,
-    marks: Vec<bool>,
-    // for each segment of the drawing the number of its edge
     numbers: Vec<u32>,
-    // the hot points that these may meet besides their ends
-    inner: Vec<Pt>,
+    // the hot points that edges meet besides their ends
+    marking: Marking,
     inner_runs: Vec<Run>,
 }
 
@@ -45,7 +44,7 @@ impl Model for HotSet {
 
     ghost view = { λ s. s.points.items };
 
-    ghost invariant = { λ s. IsSearchable s.points.items s.mixed.items s.runs.items × (AreMarks s.points.items s.edges.items s.marks.items s.inner.items × All (HoldsRun s.inner.items) s.inner_runs.items) };
+    ghost invariant = { λ s. IsSearchable s.points.items s.mixed.items s.runs.items × (AreMarks s.points.items s.edges.items s.marking.crowded.items s.marking.lasts.items s.marking.meetings.items s.marking.inner.items × All (HoldsRun s.marking.inner.items) s.inner_runs.items) };
 }
 
 impl HotSet {
@@ -84,10 +83,15 @@ impl HotSet {
         marking: Marking,
     ) -> Result<HotSet, AllocError>
         requires searchable { IsSearchable points.items mixed.items runs.items }
-        requires marked { AreMarks points.items edges.segments.items marking.marks.items marking.inner.items }
+        requires marked { AreMarks points.items edges.segments.items marking.crowded.items marking.lasts.items marking.meetings.items marking.inner.items }
         ensures exact { IfOk result (λ s. s ≡ points.items) }
     {
-        let Marking { marks, inner } = marking;
+        let Marking {
+            crowded,
+            lasts,
+            meetings,
+            inner,
+        } = marking;
         let inner = along_curve(alloc, &inner)?;
         let inner_runs = runs_over(alloc, &inner)?;
         let Edges { segments, numbers } = edges;
@@ -96,9 +100,13 @@ impl HotSet {
             mixed,
             runs,
             edges: segments,
-            marks,
             numbers,
-            inner,
+            marking: Marking {
+                crowded,
+                lasts,
+                meetings,
+                inner,
+            },
             inner_runs,
         })
     }
@@ -145,18 +153,23 @@ impl HotSet {
         path.append(chain.as_slice())
     }
 
-    // The chain of a segment between hot points. Where the segment stands at this place, only inner points are tried.
+    // The chain of a segment between hot points. Where the segment stands at this place, its meetings were gathered, or
+    // only inner points are tried.
     fn chain_at(&self, alloc: Global, s: &Seg, place: usize) -> Result<PtList, AllocError>
         requires start { Contains self.now s.now.start }
         requires stop { Contains self.now s.now.stop }
         ensures exact { IfOk result (λ chain. chain ≡ chain_among self.now s.now) }
     {
-        let Some(_number) = known_edge(&self.edges, &self.numbers, place, s) else {
+        let Some(number) = known_edge(&self.edges, &self.numbers, place, s) else {
             return self.chain_of(alloc, s);
         };
-        let met = met_near(alloc, &self.inner, &self.inner_runs, s)?;
+        let met = looked_up(alloc, &self.marking, &self.inner_runs, number, s)?;
         let all = with_ends(alloc, &met, s)?;
-        sorted_along(alloc, all, s)
+        let chain = sorted_along(alloc, all, s)?;
+        if do_rise(chain.as_slice(), s) {
+            return Ok(chain);
+        }
+        self.chain_of(alloc, s)
     }
 
     // Whether the segment stands at this place, and meets no hot pixel besides those of its ends.
@@ -164,7 +177,7 @@ impl HotSet {
         ensures quiet { result ≡ true → MeetsEndsAlone self.now s.now }
         ensures ascending { AllPairs (λ (p q : Point). IsTrue (is_before p q)) self.now }
     {
-        is_unmarked(&self.edges, &self.numbers, &self.marks, place, s)
+        has_quiet_edge(&self.edges, &self.numbers, &self.marking, place, s)
     }
 
     /// How many links the chain of a segment has: one less than its points, and none where it has no point.
@@ -185,9 +198,9 @@ impl HotSet {
     }
 }
 
-// Whether there is no mark with this number.
+// Whether there is a place with this number that has no mark.
 fn has_no_mark(marks: &[bool], i: u32) -> bool
-    ensures { result ≡ true → slice_get marks.now i ≡ Some false }
+    ensures { IsTrue result ↔ slice_get marks.now i ≡ Some false }
 {
     match marks.get(i as usize) {
         Some(mark) => !*mark,
@@ -195,14 +208,60 @@ fn has_no_mark(marks: &[bool], i: u32) -> bool
     }
 }
 
-// Whether the edge of a segment, with the number that stands at this place, has no mark.
-fn is_unmarked(edges: &[Seg], numbers: &[u32], marks: &[bool], place: usize, s: &Seg) -> bool
-    ensures { result ≡ true → HasUnmarkedEdge edges.now marks.now s.now }
+fn has_no_meeting(lasts: &[Option<u32>], i: u32) -> bool
+    ensures { result ≡ true → slice_get lasts.now i ≡ Some None }
 {
-    match known_edge(edges, numbers, place, s) {
-        Some(i) => has_no_mark(marks, i),
+    match lasts.get(i as usize) {
+        Some(last) => last.is_none(),
         None => false,
     }
+}
+
+// Whether an edge is of no crowded bucket and has no meeting.
+fn is_quiet_edge(marking: &Marking, i: u32) -> bool
+    ensures apart { result ≡ true → slice_get marking.now.crowded.items i ≡ Some false }
+    ensures alone { result ≡ true → slice_get marking.now.lasts.items i ≡ Some None }
+{
+    if !has_no_mark(&marking.crowded, i) {
+        return false;
+    }
+    has_no_meeting(&marking.lasts, i)
+}
+
+// Whether the edge of a segment, with the number that stands at this place, is quiet.
+fn has_quiet_edge(edges: &[Seg], numbers: &[u32], marking: &Marking, place: usize, s: &Seg) -> bool
+    ensures { result ≡ true → HasQuietEdge edges.now marking.now.crowded.items marking.now.lasts.items s.now }
+{
+    match known_edge(edges, numbers, place, s) {
+        Some(i) => is_quiet_edge(marking, i),
+        None => false,
+    }
+}
+
+fn last_of(lasts: &[Option<u32>], i: u32) -> Option<u32>
+    ensures { (last : Option ℕ) → slice_get lasts.now i ≡ Some last → result ≡ last }
+{
+    match lasts.get(i as usize) {
+        Some(last) => *last,
+        None => None,
+    }
+}
+
+// The points that a segment whose edge has this number may meet besides its ends.
+fn looked_up(
+    alloc: Global,
+    marking: &Marking,
+    runs: &[Run],
+    i: u32,
+    s: &Seg,
+) -> Result<Vec<Pt>, AllocError>
+    requires { All (HoldsRun marking.now.inner.items) runs.now }
+    ensures { IfOk result (λ met. AreLookedUp marking.now.crowded.items marking.now.lasts.items marking.now.meetings.items marking.now.inner.items s.now i met.items) }
+{
+    if has_no_mark(&marking.crowded, i) {
+        return points_back(alloc, &marking.meetings, last_of(&marking.lasts, i));
+    }
+    met_near(alloc, &marking.inner, runs, s)
 }
 
 fn is_listed(points: &[Pt], p: Pt) -> bool

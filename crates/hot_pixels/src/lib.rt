@@ -31,6 +31,7 @@ mod edges;
 mod half_open;
 mod hot_set;
 mod keys;
+mod meetings;
 mod near;
 mod pairs;
 mod parting;

@@ -1,10 +1,13 @@
 ghost use Rattle.std.specs.Prelude.{◌≡◌, ◌++◌, ◌∷◌, [], ◌<◌, ℕ, true, false, if◌then◌else◌, All, OnOk, IfOk, length};
 ghost use Rattle.plane_model.specs.Pixel.{meets};
 ghost use Rattle.hot_pixels.specs.Found.{AreBucketsOver};
-ghost use Rattle.hot_pixels.specs.Quiet.{IsEndOf, IsMarked, IsSeen, KeepMarks, AreMarks, AreCrowdsMarked, ends_of, others_of};
+ghost use Rattle.hot_pixels.specs.Meetings.{AreLists, AddsMeetings};
+ghost use Rattle.hot_pixels.specs.Quiet.{IsEndOf, IsMarked, IsGathered, IsSeen, KeepMarks, AreMarks, AreCrowdsMarked, ends_of, others_of};
 
 use crate::beside::{is_end, is_off};
+use crate::edges::next_number;
 use crate::half_open::meets;
+use crate::meetings::Meeting;
 use crate::pairs::near_of;
 use bucket_grid::Buckets;
 use grid_base::{Pt, PtList, Seg};
@@ -13,15 +16,23 @@ use std::alloc::{AllocError, Global};
 // The segments of a bucket that has more are not tried point by point.
 const CROWD: usize = 64;
 
-/// Marks of segments, and the points that may be met by a segment that doesn't end there.
+// With more meetings for each point, on average, none are kept.
+const MANY: usize = 4;
+
+/// What is known of the points that edges meet besides their ends.
+///
+/// An edge of a crowded bucket has a mark, and what it meets is among the inner points. Any other has its meetings, from
+/// the last one back.
 #[derive(Drop)]
 pub struct Marking {
-    pub marks: Vec<bool>,
+    pub crowded: Vec<bool>,
+    pub lasts: Vec<Option<u32>>,
+    pub meetings: Vec<Meeting>,
     pub inner: Vec<Pt>,
 }
 
-/// Marks of segments: those that meet a point besides their ends have one, and all of crowded buckets. The points that
-/// are met so, and all of crowded buckets, are listed.
+/// Marks of the segments of crowded buckets; of the others the points that they meet besides their ends. The points that
+/// a marked one may meet so are inner.
 pub fn marks_of(
     alloc: Global,
     points: &[Pt],
@@ -29,16 +40,43 @@ pub fn marks_of(
     buckets: &Buckets,
 ) -> Result<Marking, AllocError>
     requires over { AreBucketsOver spots.now buckets.now }
-    ensures exact { IfOk result (λ m. AreMarks points.now spots.now m.marks.items m.inner.items) }
+    ensures exact { IfOk result (λ m. AreMarks points.now spots.now m.crowded.items m.lasts.items m.meetings.items m.inner.items) }
 {
-    let mut marks = vec![in alloc; false; spots.len()]?;
-    mark_crowds(&mut marks, spots, buckets);
+    let room = points.len().saturating_mul(MANY);
+    let mut crowded = vec![in alloc; false; spots.len()]?;
+    mark_crowds(&mut crowded, spots, buckets);
+    let mut lasts = vec![in alloc; None; spots.len()]?;
+    let mut meetings = Vec::new(alloc);
     let mut inner = Vec::new(alloc);
     for p in points {
-        let is_inner = mark_near(&mut marks, spots, buckets, *p);
+        if meetings.len() > room {
+            return all_crowded(alloc, points, spots);
+        }
+        let is_inner = gather_near(&mut lasts, &mut meetings, &crowded, spots, buckets, *p)?;
         push_if(&mut inner, *p, is_inner)?;
     }
-    Ok(Marking { marks, inner })
+    Ok(Marking {
+        crowded,
+        lasts,
+        meetings,
+        inner,
+    })
+}
+
+// All segments have marks, and all points are inner.
+fn all_crowded(alloc: Global, points: &[Pt], spots: &[Seg]) -> Result<Marking, AllocError>
+    ensures { IfOk result (λ m. AreMarks points.now spots.now m.crowded.items m.lasts.items m.meetings.items m.inner.items) }
+{
+    let crowded = vec![in alloc; true; spots.len()]?;
+    let lasts = vec![in alloc; None; spots.len()]?;
+    let mut inner = Vec::with_capacity(alloc, points.len())?;
+    inner.extend_from_slice(points)?;
+    Ok(Marking {
+        crowded,
+        lasts,
+        meetings: Vec::new(alloc),
+        inner,
+    })
 }
 
 fn push_if(points: &mut Vec<Pt>, p: Pt, is_wanted: bool) -> Result<(), AllocError>
@@ -91,57 +129,103 @@ fn mark(marks: &mut Vec<bool>, i: u32)
     marks[i as usize] = true;
 }
 
-// Marks the segments that meet a point besides their ends. Those of a crowded bucket have marks. The answer is whether
-// the point may be met so.
-fn mark_near(marks: &mut Vec<bool>, spots: &[Seg], buckets: &Buckets, p: Pt) -> bool
+// Gathers the meetings of segments with a point. Those of a crowded bucket have marks. The answer is whether a marked one
+// may meet the point besides its ends.
+fn gather_near(
+    lasts: &mut Vec<Option<u32>>,
+    meetings: &mut Vec<Meeting>,
+    crowded: &[bool],
+    spots: &[Seg],
+    buckets: &Buckets,
+    p: Pt,
+) -> Result<bool, AllocError>
     requires over { AreBucketsOver spots.now buckets.now }
-    requires each { length marks.old.items ≡ length spots.now }
-    requires crowds { AreCrowdsMarked (length buckets.now.near) buckets.now.near marks.old.items }
-    ensures kept { KeepMarks marks.old.items marks.new.items }
-    ensures seen { (i : ℕ) → IsSeen spots.now marks.new.items result p i }
+    requires each { length crowded.now ≡ length spots.now }
+    requires crowds { AreCrowdsMarked (length buckets.now.near) buckets.now.near crowded.now }
+    requires lists { AreLists spots.now lasts.old.items meetings.old.items }
+    ensures adds { OnOk result (AddsMeetings spots.now p lasts.old.items meetings.old.items lasts.new.items meetings.new.items) }
+    ensures seen { IfOk result (λ is_inner. (i : ℕ) → IsSeen spots.now crowded.now lasts.new.items meetings.new.items is_inner p i) }
 {
     let near = near_of(buckets, buckets.bucket_of(p));
     if near.len() > CROWD {
-        return true;
+        return Ok(true);
     }
-    mark_met(marks, spots, near, p)
+    gather_met(lasts, meetings, crowded, spots, near, p)
 }
 
-fn mark_met(marks: &mut Vec<bool>, spots: &[Seg], near: &[u32], p: Pt) -> bool
+fn gather_met(
+    lasts: &mut Vec<Option<u32>>,
+    meetings: &mut Vec<Meeting>,
+    crowded: &[bool],
+    spots: &[Seg],
+    near: &[u32],
+    p: Pt,
+) -> Result<bool, AllocError>
     requires there { All (λ i. i < length spots.now) near.now }
-    requires each { length marks.old.items ≡ length spots.now }
-    ensures kept { KeepMarks marks.old.items marks.new.items }
-    ensures seen { All (IsSeen spots.now marks.new.items result p) near.now }
+    requires each { length crowded.now ≡ length spots.now }
+    requires lists { AreLists spots.now lasts.old.items meetings.old.items }
+    ensures adds { OnOk result (AddsMeetings spots.now p lasts.old.items meetings.old.items lasts.new.items meetings.new.items) }
+    ensures seen { IfOk result (λ is_inner. All (IsSeen spots.now crowded.now lasts.new.items meetings.new.items is_inner p) near.now) }
 {
     let mut is_inner = false;
     for k in 0..near.len() {
-        is_inner = mark_if_met(marks, spots, near[k], p, is_inner);
+        is_inner = gather_if_met(lasts, meetings, crowded, spots, near[k], p, is_inner)?;
     }
-    is_inner
+    Ok(is_inner)
 }
 
-// Marks a segment that meets a point besides its ends. The answer is whether the point is met so, by this segment or by
-// one before.
-fn mark_if_met(marks: &mut Vec<bool>, spots: &[Seg], i: u32, p: Pt, is_inner: bool) -> bool
+// Gathers the meeting of a segment with a point, where it has no mark. The answer is whether a marked one meets the point
+// besides its ends: this segment or one before.
+fn gather_if_met(
+    lasts: &mut Vec<Option<u32>>,
+    meetings: &mut Vec<Meeting>,
+    crowded: &[bool],
+    spots: &[Seg],
+    i: u32,
+    p: Pt,
+    is_inner: bool,
+) -> Result<bool, AllocError>
     requires there { i < length spots.now }
-    requires each { length marks.old.items ≡ length spots.now }
-    ensures kept { KeepMarks marks.old.items marks.new.items }
-    ensures grows { is_inner ≡ true → result ≡ true }
-    ensures seen { IsSeen spots.now marks.new.items result p i }
+    requires each { length crowded.now ≡ length spots.now }
+    requires lists { AreLists spots.now lasts.old.items meetings.old.items }
+    ensures adds { OnOk result (AddsMeetings spots.now p lasts.old.items meetings.old.items lasts.new.items meetings.new.items) }
+    ensures grows { IfOk result (λ after. is_inner ≡ true → after ≡ true) }
+    ensures seen { IfOk result (λ after. IsSeen spots.now crowded.now lasts.new.items meetings.new.items after p i) }
 {
-    if is_inner && marks[i as usize] {
-        return true;
+    if crowded[i as usize] {
+        return Ok(is_inner || is_met_inside(&spots[i as usize], p));
     }
-    if is_met_inside(&spots[i as usize], p) {
-        mark(marks, i);
-        return true;
+    gather(lasts, meetings, spots, i, p)?;
+    Ok(is_inner)
+}
+
+// Adds the meeting of a segment with a point, if it meets the point besides its ends.
+fn gather(
+    lasts: &mut Vec<Option<u32>>,
+    meetings: &mut Vec<Meeting>,
+    spots: &[Seg],
+    i: u32,
+    p: Pt,
+) -> Result<(), AllocError>
+    requires there { i < length spots.now }
+    requires lists { AreLists spots.now lasts.old.items meetings.old.items }
+    ensures adds { OnOk result (AddsMeetings spots.now p lasts.old.items meetings.old.items lasts.new.items meetings.new.items) }
+    ensures found { OnOk result (IsGathered spots.now lasts.new.items meetings.new.items p i) }
+{
+    if !is_met_inside(&spots[i as usize], p) {
+        return Ok(());
     }
-    is_inner
+    let before = lasts[i as usize];
+    let number = next_number(meetings.len())?;
+    meetings.push(Meeting { point: p, before })?;
+    lasts[i as usize] = Some(number);
+    Ok(())
 }
 
 // Whether a segment meets a point that is none of its ends.
 fn is_met_inside(s: &Seg, p: Pt) -> bool
-    ensures { result ≡ false → meets s.now p ≡ true → IsEndOf s.now p }
+    ensures met { result ≡ true → meets s.now p ≡ true }
+    ensures ends { result ≡ false → meets s.now p ≡ true → IsEndOf s.now p }
 {
     if is_off(s, p) {
         return false;

@@ -1,12 +1,16 @@
-use Rattle.hot_pixels.proofs.QuietLemmas.{crowds_kept, are_marks_more}
+use Rattle.std.proofs.Common.{List, Bool, subst}
+use Rattle.hot_pixels.specs.Quiet.{IsSeen}
+use Rattle.hot_pixels.proofs.QuietLemmas.{are_marks_more}
 use Rattle.hot_pixels.proofs.quiet.marks_of.Goals as goal
 
 pub loop-p-preserved : goal.loop-p-preserved
 loop-p-preserved c =
-    let near = c.args.buckets.now.near in
-    let h = c.loop-p.invariant in
-    record {
-      crowds = crowds_kept _ near c.loop-p.marks.items c.mark_near-is_inner.new.marks.items c.mark_near-is_inner.ensures.kept h.crowds;
-      are_marks = are_marks_more c.args.spots.now c.args.points.now c.loop-p.marks.items c.mark_near-is_inner.new.marks.items c.mark_near-is_inner.result c.loop-p.inner.items c.push_if.new.points.items c.loop-p.p-index c.p-item.result
-          c.loop-p-test.true c.p-item.is c.mark_near-is_inner.ensures.kept c.mark_near-is_inner.ensures.seen c.in_ok-push_if.ensures h.are_marks;
-    }
+    let spots = c.args.spots.now in
+    let lasts = c.gather_near.new.lasts.items in
+    let meetings = c.gather_near.new.meetings.items in
+    let is_inner = c.in_ok-is_inner.is_inner in
+    let p = c.p-item.result in
+    are_marks_more spots c.args.points.now c.mark_crowds.new.marks.items c.loop-p.lasts.items lasts c.loop-p.meetings.items meetings is_inner c.loop-p.inner.items c.push_if.new.points.items c.loop-p.p-index p
+    c.loop-p-test.true c.p-item.is c.in_ok-is_inner.ensures.adds
+    (λ i. subst (λ (crowded : List Bool). IsSeen spots crowded lasts meetings is_inner p i) c.deref.ensures.value (c.in_ok-is_inner.ensures.seen i))
+    c.in_ok-push_if.ensures c.loop-p.invariant

@@ -8,10 +8,11 @@ use Rattle.hot_pixels.proofs.hot_set.HotSet.over.Goals as goal
 
 pub invariant_of-result : goal.invariant_of-result
 invariant_of-result c =
-    let moved = c.in_ok-inner.inner.items in (
+    let moved = c.in_ok-inner.inner.items in
+    let marking = c.args.marking in (
       c.requires.searchable,
       (
-        marks_moved c.args.points.items c.args.edges.segments.items c.args.marking.marks.items c.args.marking.inner.items moved
+        marks_moved c.args.points.items c.args.edges.segments.items marking.crowded.items marking.lasts.items marking.meetings.items marking.inner.items moved
             (subst (λ (xs : List GridPoint). IsPermutation xs moved) c.deref.ensures.value c.in_ok-inner.ensures) c.requires.marked,
         subst (λ (xs : List GridPoint). All (HoldsRun xs) c.in_ok-inner_runs.inner_runs.items) c.deref-2.ensures.value c.in_ok-inner_runs.ensures,
       ),
