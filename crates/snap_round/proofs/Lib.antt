@@ -3,5 +3,6 @@ pub mod LastLemmas
 pub mod LinkOrder
 pub mod LinkLemmas
 pub mod PathLemmas
+pub mod PointLemmas
 pub mod CountLemmas
 pub mod SpotCount

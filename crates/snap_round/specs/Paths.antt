@@ -1,5 +1,5 @@
 -- Snapped paths put into the last feature of a drawing.
-use Rattle.std.specs.Prelude.{List, ◌++◌, All}
+use Rattle.std.specs.Prelude.{List, [], ◌++◌, All}
 use Rattle.plane_model.specs.Points.{GridPoint, Path}
 use Rattle.plane_model.specs.Drawing.{Drawing, Polygon}
 use Rattle.grid_base.specs.Drawn.{with_last}
@@ -16,6 +16,10 @@ with_lines lines d = record d { lines = with_last (λ (feature : List Path). fea
 
 abbrev pub with_points : List GridPoint → Drawing → Drawing
 with_points points d = record d { points = with_last (λ (feature : List GridPoint). feature ++ points) d.points }
+
+-- the same paths, and no point
+abbrev pub without_points : Drawing → Drawing
+without_points d = record d { points = [] }
 
 -- the paths of d are paths, and rings where they have to be, of hot points
 pub record HasHotPaths (hot : List GridPoint) (d : Drawing) : Type 0 where

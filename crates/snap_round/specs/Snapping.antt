@@ -1,5 +1,5 @@
--- When a drawing is not snapped.
-use Rattle.std.specs.Prelude.{◌≡◌, ◌<◌, ⊤}
+-- Which drawings stay as they are, and when one is not snapped.
+use Rattle.std.specs.Prelude.{◌≡◌, ◌<◌, length, ⊤}
 use Rattle.plane_model.specs.Drawing.{Drawing}
 use Rattle.plane_model.specs.Snapped.{snapped, link_count}
 use Rattle.snap_round.specs.declared.fault.SnapFault.{SnapFault}
@@ -9,3 +9,9 @@ use Rattle.snap_round.specs.declared.fault.SnapFault.TheVariants.{TooDense, Memo
 abbrev pub FaultMeans : Drawing → SnapFault → Type 0
 FaultMeans d (TooDense count) = (count ≡ link_count (snapped d)) × (8000000 < count)
 FaultMeans d Memory = ⊤
+
+-- no path is drawn
+pub record HasPointsAlone (d : Drawing) : Type 0 where
+  pub no_polygons : length d.polygons ≡ 0
+  pub no_lines : length d.lines ≡ 0
+  pub no_boxes : length d.boxes ≡ 0

@@ -2,12 +2,12 @@ ghost use Rattle.std.specs.Prelude.{◌≡◌, ◌<◌, ◌++◌, [], IfOk, OnOk
 ghost use Rattle.lists.specs.Lists.{last_of};
 ghost use Rattle.plane_model.specs.Snapped.{snapped_path, snapped_by};
 ghost use Rattle.snap_round.specs.Joining.{IsHotPath, IsHotRing};
-ghost use Rattle.snap_round.specs.Paths.{with_rings, with_polygons, with_lines, with_points, HasHotPaths};
+ghost use Rattle.snap_round.specs.Paths.{with_rings, with_polygons, with_lines, with_points, without_points, HasHotPaths};
 
 use crate::joining::{PathStop, Progress, joined_chains};
 use grid_base::{Drawing, FeatId, Kind, PolygonRings, Pt, PtList};
 use hot_pixels::HotSet;
-use std::alloc::Global;
+use std::alloc::{AllocError, Global};
 
 // Adds the snapped rings of a polygon to the last polygon.
 fn add_rings(
@@ -102,31 +102,36 @@ fn add_line_features(
     Ok(())
 }
 
-// Adds the points to the last point feature, and goes on past their places.
-fn add_points(out: &mut Drawing, progress: &mut Progress, points: &[Pt]) -> Result<(), PathStop>
+// Adds the points to the last point feature.
+fn add_points(out: &mut Drawing, points: &[Pt]) -> Result<(), AllocError>
     requires feature { 0 < length out.old.points }
     ensures { OnOk result (out.new ≡ with_points points.now out.old) }
 {
     for p in points {
         out.add_point(*p)?;
     }
-    progress.place = progress.place.wrapping_add(points.len());
     Ok(())
 }
 
-fn add_point_features(
-    out: &mut Drawing,
-    progress: &mut Progress,
-    d: &Drawing,
-) -> Result<(), PathStop>
+/// Adds the point features of a drawing, as they are.
+pub fn add_point_features(out: &mut Drawing, d: &Drawing) -> Result<(), AllocError>
     ensures { OnOk result (out.new ≡ record out.old { points = out.old.points ++ d.now.points }) }
 {
     for f in 0..d.point_count() {
         let points = d.points_of(FeatId::new(f));
         out.add_feature(Kind::Point)?;
-        add_points(out, progress, points.as_slice())?;
+        add_points(out, points.as_slice())?;
     }
     Ok(())
+}
+
+// How many points the point features have: as many places stand between those of lines and those of boxes.
+fn count_points(d: &Drawing) -> usize {
+    let mut count: usize = 0;
+    for f in 0..d.point_count() {
+        count = count.wrapping_add(d.points_of(FeatId::new(f)).len() as usize);
+    }
+    count
 }
 
 fn add_boxes(
@@ -146,7 +151,8 @@ fn add_boxes(
     Ok(())
 }
 
-/// The drawing with each path snapped to these hot points, whose chains have no more points than there is room for.
+/// The drawing without its points, each path snapped to these hot points, where their chains have no more points than
+/// there is room for.
 pub fn snapped_paths(
     alloc: Global,
     progress: &mut Progress,
@@ -154,12 +160,12 @@ pub fn snapped_paths(
     d: &Drawing,
 ) -> Result<Drawing, PathStop>
     requires { HasHotPaths hot.now d.now }
-    ensures { IfOk result (λ paths. paths ≡ snapped_by hot.now d.now) }
+    ensures { IfOk result (λ paths. paths ≡ without_points (snapped_by hot.now d.now)) }
 {
     let mut paths = Drawing::new(alloc);
     add_polygon_features(alloc, &mut paths, progress, hot, d)?;
     add_line_features(alloc, &mut paths, progress, hot, d)?;
-    add_point_features(&mut paths, progress, d)?;
+    progress.place = progress.place.wrapping_add(count_points(d));
     add_boxes(alloc, &mut paths, progress, hot, d)?;
     Ok(paths)
 }

@@ -1,17 +1,18 @@
-ghost use Rattle.std.specs.Prelude.{◌≡◌, ◌≤◌, IfOk, IfErr, IfSome};
+ghost use Rattle.std.specs.Prelude.{◌≡◌, ◌≤◌, true, IfOk, IfErr, IfSome};
 ghost use Rattle.lists.specs.Lists.{ascending};
 ghost use Rattle.plane_model.specs.Points.{is_before};
 ghost use Rattle.plane_model.specs.Hot.{hot_points};
-ghost use Rattle.plane_model.specs.Snapped.{snapped, link_count};
+ghost use Rattle.plane_model.specs.Snapped.{snapped, links_of, link_count};
 ghost use Rattle.grid_base.specs.Drawn.{HasPaths};
-ghost use Rattle.snap_round.specs.Snapping.{FaultMeans};
+ghost use Rattle.snap_round.specs.Paths.{without_points};
+ghost use Rattle.snap_round.specs.Snapping.{FaultMeans, HasPointsAlone};
 
 use crate::counting::count_links;
 use crate::fault::SnapFault;
 use crate::joining::{PathStop, Progress};
 use crate::links::few_links_of;
-use crate::paths::snapped_paths;
-use grid_base::{Drawing, Snapped};
+use crate::paths::{add_point_features, snapped_paths};
+use grid_base::{Drawing, LinkList, Snapped};
 use hot_pixels::{HotSet, spots_of};
 use std::alloc::{AllocError, Global};
 
@@ -31,19 +32,30 @@ fn count_of(alloc: Global, hot: &HotSet, d: &Drawing) -> Result<u64, AllocError>
     count_links(hot, &spots)
 }
 
-// The drawing of these snapped paths; `None` where they may have more than `most` links, repeats counted.
+// The snapped drawing of these paths, which have these links, and of the points of the drawing: they stay.
+fn with_its_points(paths: Drawing, links: LinkList, d: &Drawing) -> Result<Snapped, AllocError>
+    requires paths { paths ≡ without_points (snapped d.now) }
+    requires links { links ≡ links_of (snapped d.now) }
+    ensures { IfOk result (λ s. s ≡ snapped d.now) }
+{
+    let mut all = paths;
+    add_point_features(&mut all, d)?;
+    Ok(Snapped::new(all, links))
+}
+
+// The snapped drawing of these paths; `None` where they may have more than `most` links, repeats counted.
 fn few_snapped(
     alloc: Global,
     paths: Drawing,
     d: &Drawing,
     most: u64,
 ) -> Result<Option<Snapped>, AllocError>
-    requires snapped { paths ≡ snapped d.now }
+    requires snapped { paths ≡ without_points (snapped d.now) }
     ensures exact { IfOk result (λ found. IfSome found (λ s. s ≡ snapped d.now)) }
     ensures few { IfOk result (λ found. IfSome found (λ s. link_count (snapped d.now) ≤ most)) }
 {
     match few_links_of(alloc, &paths, most)? {
-        Some(links) => Ok(Some(Snapped::new(paths, links))),
+        Some(links) => Ok(Some(with_its_points(paths, links, d)?)),
         None => Ok(None),
     }
 }
@@ -70,17 +82,38 @@ fn snapped_within(
     }
 }
 
+// Whether a drawing has neither polygon features nor line features nor boxes.
+fn has_points_alone(d: &Drawing) -> bool
+    ensures { result ≡ true → HasPointsAlone d.now }
+{
+    d.polygon_count() == 0 && d.line_count() == 0 && d.box_count() == 0
+}
+
+// The snapped drawing of one that has points alone: there are no links.
+fn snapped_points(alloc: Global, d: &Drawing) -> Result<Snapped, AllocError>
+    requires alone { HasPointsAlone d.now }
+    ensures exact { IfOk result (λ s. s ≡ snapped d.now) }
+    ensures few { IfOk result (λ s. link_count (snapped d.now) ≡ 0) }
+{
+    let paths = Drawing::new(alloc);
+    let links = LinkList::new(alloc);
+    with_its_points(paths, links, d)
+}
+
 /// The snapped drawing: each path by the chains of its segments, joined end to end, and each point as it is.
 ///
 /// `TooDense` comes exactly where the snapped paths have more than 8,000,000 links together, repeats counted, and says
 /// how many; it takes no more memory than the hot points and paths of that many links. `Memory` may come at any size.
 /// Cost: with n segments, m crossings and l links, sorting n + m and l, and a search among the hot points for each
-/// segment.
+/// segment; where there are points alone, a copy of them.
 pub fn snap(alloc: Global, d: &Drawing) -> Result<Snapped, SnapFault>
     ensures exact { IfOk result (λ s. s ≡ snapped d.now) }
     ensures within { IfOk result (λ s. link_count (snapped d.now) ≤ 8000000) }
     ensures fault { IfErr result (FaultMeans d.now) }
 {
+    if has_points_alone(d) {
+        return Ok(snapped_points(alloc, d)?);
+    }
     d.keeps_paths();
     let hot = HotSet::for_spots(alloc, d)?;
     if let Some(s) = snapped_within(alloc, &hot, d, CHAIN_ROOM, MOST_LINKS)? {
