@@ -10,7 +10,7 @@ use Rattle.grid_base.specs.declared.kinds.OverlapRule.{OverlapRule}
 use Rattle.region_ops.specs.Filled.{IsCleanedAndFilled}
 use Rattle.region_ops.specs.Mosaic.{IsMosaic}
 use Rattle.region_ops.specs.declared.item_lists.MosaicItem.{MosaicItem}
-use Rattle.run_shapes.specs.FaceSets.{HasSets, sets_in}
+use Rattle.run_state.specs.FaceSets.{HasSets, sets_in}
 use Rattle.run_plane.specs.declared.layer.Layer.{Layer}
 use Rattle.run_plane.specs.declared.layer.Shape.{Shape}
 use Rattle.run_plane.specs.declared.layer.Shape.TheVariants as shape

@@ -10,7 +10,7 @@ use Rattle.region_ops.specs.Cut.{meet, minus}
 use Rattle.line_ops.specs.Inside.{is_inside, is_outside}
 use Rattle.line_ops.specs.Points.{IsInsideAt}
 use Rattle.line_ops.specs.Runs.{runs_where}
-use Rattle.run_shapes.specs.FaceSets.{sets_in, face_shapes}
+use Rattle.run_state.specs.FaceSets.{sets_in, face_shapes}
 use Rattle.run_state.specs.Features.{LeavesOut}
 use Rattle.run_shapes.specs.declared.cutting.CutKeeps.{CutKeeps}
 use Rattle.run_shapes.specs.declared.cutting.CutKeeps.TheVariants as keeps

@@ -7,7 +7,7 @@ use Rattle.plane_model.specs.Points.{GridPoint}
 use Rattle.plane_model.specs.Arcs.{SignedArc}
 use Rattle.region_ops.specs.Exploded.{IsExploded as AreParts}
 use Rattle.region_ops.specs.declared.item_lists.PartItem.{PartItem}
-use Rattle.run_shapes.specs.FaceSets.{sets_in}
+use Rattle.run_state.specs.FaceSets.{sets_in}
 use Rattle.run_state.specs.Features.{HasRows}
 use Rattle.run_plane.specs.declared.layer.Layer.{Layer}
 use Rattle.run_plane.specs.declared.layer.Shape.{Shape}

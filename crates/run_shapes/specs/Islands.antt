@@ -1,7 +1,7 @@
 -- Layers without their islands.
 use Rattle.std.specs.Prelude.{ℕ, Bool, not, List, length}
 use Rattle.calc_ops.specs.Islands.{AreWithoutIslands}
-use Rattle.run_shapes.specs.FaceSets.{HasSets, sets_in}
+use Rattle.run_state.specs.FaceSets.{HasSets, sets_in}
 use Rattle.run_plane.specs.declared.layer.Layer.{Layer}
 use Rattle.run_plane.specs.declared.plane.Plane.{Plane}
 

@@ -5,13 +5,13 @@ ghost use Rattle.json_read.specs.Table.{AreRows};
 ghost use Rattle.run_plane.specs.OnPlane.{AreOn, IsLayerOn};
 ghost use Rattle.run_shapes.specs.Cleaning.{IsCleaned, IsMosaicOf, after_comma, ids_row, ids_text, piece_shape};
 
-use crate::face_sets::{sets_of, with_sets};
 use grid_base::{Kind, OverlapRule};
 use io_core::{NameList, Text};
 use itoa::Buffer;
 use json_read::{Row, RowList, Table, Value};
 use region_ops::{MosaicItem, clean_sets, mosaic_sets};
 use run_plane::{Layer, Plane, Shape, copy_text};
+use run_state::{sets_of, with_sets};
 use std::alloc::{AllocError, Global};
 
 /// The layer with each face that several features hold left with the one that the rule ranks first. A gap between
@@ -66,7 +66,7 @@ fn mosaic_shapes(alloc: Global, items: Vec<MosaicItem>) -> Result<Vec<Shape>, Al
     Ok(shapes)
 }
 
-#[tactic(auto, using(crate::proofs::Rows::rows_grown))]
+#[tactic(auto, using(run_state::proofs::Rows::rows_grown))]
 fn holder_rows(alloc: Global, items: &[MosaicItem]) -> Result<RowList, AllocError>
     ensures exact { IfOk result (λ rows. rows ≡ map ids_row items.now) }
     ensures count { IfOk result (λ rows. length rows ≡ length items.now) }

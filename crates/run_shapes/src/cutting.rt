@@ -2,16 +2,15 @@ ghost use Rattle.std.specs.Prelude.{◌≡◌, ◌++◌, ◌∷◌, [], IfOk, On
 ghost use Rattle.std.specs.List.{AllZip};
 ghost use Rattle.run_plane.specs.OnPlane.{AreBelow, AreOn, IsLayerOn, IsOn};
 ghost use Rattle.run_shapes.specs.Cutting.{ArePointsLeft, AreShapesLeft, IsCut, IsShapeLeft, StaysAt, cut_faces, cut_paths};
-ghost use Rattle.run_shapes.specs.FaceSets.{face_shapes, sets_in};
+ghost use Rattle.run_state.specs.FaceSets.{face_shapes, sets_in};
 
-use crate::face_sets::{sets_of, shapes_of};
 use arc_table::SignedPaths;
 use grid_base::{Kind, Pt, PtList};
 use line_ops::{clip_paths, erase_paths, point_inside};
 use region_ops::{clip_sets, erase_sets};
 use ring_trace::{FaceSet, SetList};
 use run_plane::{Layer, Plane, Shape};
-use run_state::nonempty;
+use run_state::{nonempty, sets_of, shapes_of};
 use std::alloc::{AllocError, Global};
 
 /// What stays of a feature: what lies inside the cutting set, or what doesn't.

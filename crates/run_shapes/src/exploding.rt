@@ -14,12 +14,11 @@ ghost use Rattle.run_shapes.specs.Exploding.{
   split_shape,
 };
 
-use crate::face_sets::sets_of;
 use arc_table::{SignedPath, SignedPaths};
 use grid_base::{IdList, Kind, Pt, PtList, SignedArc};
 use region_ops::{PartItem, explode_sets};
 use run_plane::{Layer, Plane, Shape, copy_path, copy_shape};
-use run_state::with_shapes;
+use run_state::{sets_of, with_shapes};
 use std::alloc::{AllocError, Global};
 
 /// Pieces of features, with the numbers of their features.

@@ -2,9 +2,9 @@ ghost use Rattle.std.specs.Prelude.{IfOk};
 ghost use Rattle.run_plane.specs.OnPlane.{IsLayerOn};
 ghost use Rattle.run_shapes.specs.Islands.{IsMainland};
 
-use crate::face_sets::{sets_of, with_sets};
 use calc_ops::drop_islands;
 use run_plane::{Layer, Plane};
+use run_state::{sets_of, with_sets};
 use std::alloc::{AllocError, Global};
 
 /// The layer without its islands: a part of a feature goes where no other feature borders it, and twice its area is

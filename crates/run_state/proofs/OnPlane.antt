@@ -1,14 +1,16 @@
 -- What is taken of layers that lie on the plane, and where they are put, keeps them there.
-use Rattle.std.proofs.Common.{◌≡◌, sym, subst, ℕ, zero, suc, ◌-◌, Bool, true, false, if◌then◌else◌, List, [], ◌∷◌, map, Ok}
+use Rattle.std.proofs.Common.{◌≡◌, ◌∙◌, sym, ap, subst, ℕ, zero, suc, ◌-◌, Bool, true, false, if◌then◌else◌, List, [], ◌∷◌, All, map, Ok}
 use Rattle.std.specs.List.{filter, flat_map}
 use Rattle.std.proofs.lemmas.List.Elements.{All-append, All-cons, All-filter, All-head, All-map, All-nil, All-tail}
 use Rattle.job_terms.specs.declared.job.Command.{Command}
 use Rattle.job_terms.specs.declared.job.Target.{Target}
+use Rattle.ring_trace.specs.Sets.{IsSetOf}
 use Rattle.run_plane.specs.OnPlane.{AreLayersOn, AreOn, AreAllOn, IsLayerOn}
 use Rattle.run_plane.specs.declared.layer.Layer.{Layer}
 use Rattle.run_plane.specs.declared.layer.Shape.{Shape}
 use Rattle.run_plane.specs.declared.plane.Plane.{Plane}
-use Rattle.run_plane.proofs.OnPlane.{taken_on}
+use Rattle.run_plane.proofs.OnPlane.{sets_are_inner, sets_on, taken_on}
+use Rattle.run_state.specs.FaceSets.{HasSets, face_shapes, sets_in}
 use Rattle.run_state.specs.Features.{HasRows, LeavesOut, TakesFeatures, all_numbers}
 use Rattle.run_plane.specs.Shapes.{with_geometry}
 use Rattle.run_state.specs.OnPlane.{AreHeldOn}
@@ -30,6 +32,16 @@ module _ (plane : Plane) where
 
   pub left_on : (layer : Layer) (parts : List Shape) (made : Layer) → LeavesOut layer parts made → AreOn plane parts → IsLayerOn plane made
   left_on layer parts made h on = subst (AreOn plane) (sym h.shapes) (taken_on plane parts (with_geometry parts (all_numbers layer)) on)
+
+  -- ---- sets of faces
+
+  -- those of shapes
+  pub sets_inner : (shapes given : List Shape) (sets : List (List ℕ)) → sets ≡ sets_in given → given ≡ shapes → AreOn plane shapes → All (IsSetOf plane.faces) sets
+  sets_inner shapes given sets e f on = subst (All (IsSetOf plane.faces)) (sym (e ∙ ap sets_in f)) (sets_are_inner plane shapes on)
+
+  pub has_sets_on : (keeps_empty : Bool) (layer : Layer) (sets : List (List ℕ)) (made : Layer) → HasSets keeps_empty layer sets made → All (IsSetOf plane.faces) sets → IsLayerOn plane made
+  has_sets_on true layer sets made h inner = rows_on plane layer (all_numbers layer) (face_shapes sets) made h (sets_on plane sets inner)
+  has_sets_on false layer sets made h inner = left_on plane layer (face_shapes sets) made h (sets_on plane sets inner)
 
   -- ---- layers of a state
 

@@ -1,3 +1,4 @@
+pub mod FaceSets
 pub mod Features
 pub mod OnPlane
 pub mod Origins

@@ -5,10 +5,12 @@
 //! 3. `targets` says which layers a command works on, `origins` which one it takes from elsewhere, and `placing` where
 //!    the layers go that it puts out.
 //! 4. `features` takes features out of a layer by their numbers.
+//! 5. `layer_sets` has the sets of faces of a layer, and those that `-clip` and `-erase` cut by.
 #![tactic(auto)]
 
 mod features;
 mod ground;
+mod layer_sets;
 mod origins;
 mod placing;
 mod refusal;
@@ -17,6 +19,7 @@ mod targets;
 
 pub use features::{nonempty, numbers_below, take_features, with_geometry, with_shapes};
 pub use ground::Ground;
+pub use layer_sets::{area_of, sets_of, shapes_of, union_of, with_sets};
 pub use origins::source_layer;
 pub use placing::placed;
 pub use refusal::RefuseWhy;

@@ -4,7 +4,7 @@ use Rattle.join_terms.specs.declared.calculations.CalcSpec.{CalcSpec}
 use Rattle.spatial_join.specs.Joined.{join_matched}
 use Rattle.run_plane.specs.declared.layer.Layer.{Layer}
 use Rattle.run_plane.specs.declared.plane.Plane.{Plane}
-use Rattle.run_shapes.specs.Matching.{AreMatches}
+use Rattle.run_tables.specs.Matching.{AreMatches}
 use Rattle.run_state.specs.Stops.{StopsAs, StopsFor, table_refusal}
 use Rattle.run_state.specs.declared.refusal.RefuseWhy.{RefuseWhy}
 use Rattle.run_state.specs.declared.state.CommandStop.{CommandStop}

@@ -19,15 +19,15 @@ use Rattle.job_terms.specs.declared.job.JointAction.TheVariants as joint
 use Rattle.job_terms.specs.declared.job.LayerAction.{LayerAction}
 use Rattle.job_terms.specs.declared.job.LayerAction.TheVariants as action
 use Rattle.run_plane.specs.declared.layer.Layer.{Layer}
-use Rattle.run_shapes.specs.Borders.{AreInnerLines, AreOutlines}
+use Rattle.run_borders.specs.Borders.{AreInnerLines, AreOutlines}
 use Rattle.run_shapes.specs.Cleaning.{IsCleaned, IsMosaicOf}
 use Rattle.run_shapes.specs.Cutting.{IsCut}
-use Rattle.run_shapes.specs.Dissolving.{IsGrouped}
+use Rattle.run_borders.specs.Dissolving.{IsGrouped}
 use Rattle.run_shapes.specs.Exploding.{IsExploded}
-use Rattle.run_shapes.specs.FaceSets.{area_of}
+use Rattle.run_state.specs.FaceSets.{area_of}
 use Rattle.run_shapes.specs.Islands.{IsMainland}
-use Rattle.run_shapes.specs.Matching.{AreMatches}
-use Rattle.run_shapes.specs.Uniting.{IsUnited}
+use Rattle.run_tables.specs.Matching.{AreMatches}
+use Rattle.run_borders.specs.Uniting.{IsUnited}
 use Rattle.run_shapes.specs.declared.cutting.CutKeeps.TheVariants as keeps
 use Rattle.run_state.specs.Origins.{Base, one_layer, origin_layers}
 use Rattle.run_state.specs.Targets.{is_selected, placed, targets}

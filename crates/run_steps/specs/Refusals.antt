@@ -27,8 +27,8 @@ use Rattle.job_terms.specs.declared.job.Origin.TheVariants as origin
 use Rattle.job_terms.specs.declared.job.Target.{Target}
 use Rattle.run_plane.specs.declared.layer.Layer.{Layer}
 use Rattle.run_plane.specs.declared.plane.Plane.{Plane}
-use Rattle.run_shapes.specs.Dissolving.{refused_dissolve}
-use Rattle.run_shapes.specs.Matching.{AreMatches}
+use Rattle.run_borders.specs.Dissolving.{refused_dissolve}
+use Rattle.run_tables.specs.Matching.{AreMatches}
 use Rattle.run_state.specs.Origins.{Base, Owned, one_layer, origin_layers}
 use Rattle.run_state.specs.Stops.{refusal_of, table_refusal}
 use Rattle.run_state.specs.Targets.{has_target, is_selected, targets}

@@ -1,7 +1,7 @@
 ghost use Rattle.std.specs.Prelude.{◌≡◌, ◌∷◌, [], ℕ, List, IfErr, IfOk, None, Ok, map, option_copied, replicate, true};
 ghost use Rattle.std.specs.List.{AllZip, position_or_len};
 ghost use Rattle.run_plane.specs.OnPlane.{AreAllOn, AreLayersOn, IsLayerOn};
-ghost use Rattle.run_shapes.specs.Matching.{AreMatches};
+ghost use Rattle.run_tables.specs.Matching.{AreMatches};
 ghost use Rattle.run_state.specs.OnPlane.{AreHeldOn};
 ghost use Rattle.run_state.specs.Targets.{has_target, is_selected, targets};
 ghost use Rattle.run_state.specs.Origins.{base_of, one_layer, origin_layers};
@@ -15,15 +15,13 @@ use io_core::Text;
 use job_terms::{Command, JointAction, LayerAction, Origin, Target};
 use join_terms::{CalcSpec, JoinSpec};
 use ring_trace::FaceSet;
+use run_borders::{dissolved, inner_lines, outlines, united};
 use run_plane::{Layer, Plane, copy_text};
-use run_shapes::{
-    CutKeeps, area_of, cleaned, cut, dissolved, exploded, inner_lines, matches_of, mosaic,
-    outlines, united, without_islands,
-};
-use run_state::{CommandStop, Ground, Held, is_selected, source_layer};
+use run_shapes::{CutKeeps, cleaned, cut, exploded, mosaic, without_islands};
+use run_state::{CommandStop, Ground, Held, area_of, is_selected, source_layer};
 use run_tables::{
-    calculated, filtered, joined, joined_by_matches, merged, renamed, sorted, split, unrepeated,
-    with_fields,
+    calculated, filtered, joined, joined_by_matches, matches_of, merged, renamed, sorted, split,
+    unrepeated, with_fields,
 };
 use std::alloc::{AllocError, Global};
 

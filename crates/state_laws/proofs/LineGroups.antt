@@ -27,7 +27,7 @@ use Rattle.run_plane.specs.Shapes.{points_in, shape_at}
 use Rattle.run_plane.specs.declared.layer.Layer.{Layer}
 use Rattle.run_plane.specs.declared.layer.Shape.{Shape}
 use Rattle.run_plane.specs.declared.layer.Shape.TheVariants as shape
-use Rattle.run_shapes.specs.Dissolving.{IsGrouped, arcs_in, grouped_shapes, is_point, line_shape, member_arcs, no_shape, point_shape, refused_dissolve}
+use Rattle.run_borders.specs.Dissolving.{IsGrouped, arcs_in, grouped_shapes, is_point, line_shape, member_arcs, no_shape, point_shape, refused_dissolve}
 use Rattle.run_state.specs.Stops.{table_refusal}
 use Rattle.run_state.specs.declared.refusal.RefuseWhy.{RefuseWhy}
 use Rattle.run_state.specs.declared.refusal.RefuseWhy.TheVariants.{NoGroupPoints}

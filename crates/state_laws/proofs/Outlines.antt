@@ -32,10 +32,10 @@ use Rattle.line_laws.specs.Linked.{AreLinked, AreThere}
 use Rattle.run_plane.specs.declared.layer.Layer.{Layer}
 use Rattle.run_plane.specs.declared.layer.Shape.{Shape}
 use Rattle.run_plane.specs.declared.plane.Plane.{Plane}
-use Rattle.run_shapes.specs.Borders as run
-use Rattle.run_shapes.specs.Borders.{AreInnerLines, AreOutlines, bare_table, border_line, borders_of, inner_arcs_of, line_along, ranked_row, ranked_table, row_by}
-use Rattle.run_shapes.specs.Dissolving.{path_along}
-use Rattle.run_shapes.specs.FaceSets.{sets_in}
+use Rattle.run_borders.specs.Borders as run
+use Rattle.run_borders.specs.Borders.{AreInnerLines, AreOutlines, bare_table, border_line, borders_of, inner_arcs_of, line_along, ranked_row, ranked_table, row_by}
+use Rattle.run_borders.specs.Dissolving.{path_along}
+use Rattle.run_state.specs.FaceSets.{sets_in}
 use Rattle.run_state.specs.Stops.{table_refusal}
 use Rattle.chain_model.specs.State as state
 use Rattle.chain_model.specs.State.{StateLayer, regions_in}

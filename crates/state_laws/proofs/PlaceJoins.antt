@@ -17,8 +17,8 @@ use Rattle.place_laws.proofs.MatchLaws.{points_are_matched, sets_are_matched}
 use Rattle.run_plane.specs.Shapes.{points_in}
 use Rattle.run_plane.specs.declared.layer.Shape.{Shape}
 use Rattle.run_plane.specs.declared.plane.Plane.{Plane}
-use Rattle.run_shapes.specs.FaceSets.{sets_in}
-use Rattle.run_shapes.specs.Matching.{AreMatchesOf, point_lists}
+use Rattle.run_state.specs.FaceSets.{sets_in}
+use Rattle.run_tables.specs.Matching.{AreMatchesOf, point_lists}
 use Rattle.run_steps.specs.Refusals.{joins_with}
 use Rattle.chain_model.specs.State as state
 use Rattle.chain_model.specs.Features.{matches_of}

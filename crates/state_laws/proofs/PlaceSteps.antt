@@ -15,7 +15,7 @@ use Rattle.job_terms.specs.declared.job.LayerAction.{LayerAction}
 use Rattle.job_terms.specs.declared.job.LayerAction.TheVariants as action
 use Rattle.job_terms.specs.declared.job.Origin.{Origin}
 use Rattle.run_plane.specs.declared.layer.Layer.{Layer}
-use Rattle.run_shapes.specs.Matching.{AreMatches}
+use Rattle.run_tables.specs.Matching.{AreMatches}
 use Rattle.run_state.specs.Origins as run
 use Rattle.run_state.specs.Origins.{Base}
 use Rattle.run_state.specs.Stops.{refusal_of, table_refusal}

@@ -25,7 +25,7 @@ use Rattle.run_plane.specs.declared.plane.Plane.{Plane}
 use Rattle.run_state.specs.Features.{all_numbers}
 use Rattle.run_state.proofs.TargetLemmas.{whole_table}
 use Rattle.run_shapes.specs.Cleaning.{IsCleaned}
-use Rattle.run_shapes.specs.FaceSets.{HasSets, face_shapes}
+use Rattle.run_state.specs.FaceSets.{HasSets, face_shapes}
 use Rattle.chain_model.specs.State.{StateLayer, region_at, regions_in, without_empty}
 use Rattle.chain_model.specs.Features.{clean_layer, count_of, shapes_by}
 use Rattle.state_laws.specs.Shown.{View, IsView, FacesShow, LayerShows, ShapeShows, plane_of, IsSeenIn}

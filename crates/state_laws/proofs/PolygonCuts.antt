@@ -23,7 +23,7 @@ use Rattle.run_state.specs.Origins as run
 use Rattle.run_state.specs.declared.refusal.RefuseWhy.{RefuseWhy}
 use Rattle.run_state.specs.declared.refusal.RefuseWhy.TheVariants.{WrongKind}
 use Rattle.run_shapes.specs.Cutting.{AreShapesLeft, IsCut, cut_faces}
-use Rattle.run_shapes.specs.FaceSets.{any_faces, face_shapes, layer_faces}
+use Rattle.run_state.specs.FaceSets.{any_faces, face_shapes, layer_faces}
 use Rattle.run_shapes.specs.declared.cutting.CutKeeps.{CutKeeps}
 use Rattle.run_shapes.specs.declared.cutting.CutKeeps.TheVariants as keeps
 use Rattle.run_steps.specs.Refusals.{is_polygon, refused_polygons}

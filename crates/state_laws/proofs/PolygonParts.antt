@@ -35,7 +35,7 @@ use Rattle.run_plane.specs.declared.plane.Plane.{Plane}
 use Rattle.run_shapes.specs.Cleaning.{IsMosaicOf, after_comma, ids_row, ids_text, piece_shape}
 use Rattle.run_shapes.specs.Exploding as run
 use Rattle.run_shapes.specs.Exploding.{ArePartsOf, part_shape}
-use Rattle.run_shapes.specs.FaceSets.{face_shapes}
+use Rattle.run_state.specs.FaceSets.{face_shapes}
 use Rattle.chain_model.specs.State as state
 use Rattle.chain_model.specs.State.{StateLayer, region_at, region_of, regions_in}
 use Rattle.chain_model.specs.Features.{Feature, count_of, explode_layer, exploded_shapes, mosaic_layer, numbers_text}

@@ -20,7 +20,7 @@ use Rattle.region_laws.proofs.Answered.{layers_are_followed}
 use Rattle.run_plane.specs.Shapes.{faces_in}
 use Rattle.run_plane.specs.declared.layer.Layer.{Layer}
 use Rattle.run_plane.specs.declared.layer.Shape.{Shape}
-use Rattle.run_shapes.specs.FaceSets.{any_faces, face_shapes, sets_in}
+use Rattle.run_state.specs.FaceSets.{any_faces, face_shapes, sets_in}
 use Rattle.chain_model.specs.State as state
 use Rattle.chain_model.specs.State.{StateLayer, region_at, region_of, regions_in}
 use Rattle.chain_model.specs.Features.{count_of}

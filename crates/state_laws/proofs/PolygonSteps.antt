@@ -30,7 +30,7 @@ use Rattle.run_state.specs.Targets.{targets}
 use Rattle.run_state.specs.declared.refusal.RefuseWhy.{RefuseWhy}
 use Rattle.run_state.specs.declared.state.Held.{Held}
 use Rattle.run_plane.specs.Shapes.{faces_in}
-use Rattle.run_shapes.specs.FaceSets.{any_faces, area_of, layer_faces}
+use Rattle.run_state.specs.FaceSets.{any_faces, area_of, layer_faces}
 use Rattle.run_steps.specs.Commands.{PutsOut}
 use Rattle.run_steps.specs.Refusals as held
 use Rattle.chain_model.specs.Outcome as outcome

@@ -23,9 +23,9 @@ use Rattle.run_plane.specs.declared.layer.Layer.{Layer}
 use Rattle.run_plane.specs.declared.layer.Shape.{Shape}
 use Rattle.run_plane.specs.declared.layer.Shape.TheVariants as shape
 use Rattle.run_plane.specs.declared.plane.Plane.{Plane}
-use Rattle.run_shapes.specs.FaceSets.{face_shapes}
-use Rattle.run_shapes.specs.Uniting.{IsUnited, item_shape, layer_tables}
-use Rattle.run_shapes.specs.Uniting as run
+use Rattle.run_state.specs.FaceSets.{face_shapes}
+use Rattle.run_borders.specs.Uniting.{IsUnited, item_shape, layer_tables}
+use Rattle.run_borders.specs.Uniting as run
 use Rattle.chain_model.specs.State as state
 use Rattle.chain_model.specs.State.{StateLayer, regions_in}
 use Rattle.chain_model.specs.Features.{united_layer}

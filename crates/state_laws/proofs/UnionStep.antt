@@ -11,7 +11,7 @@ use Rattle.job_terms.specs.declared.job.Action.TheVariants as does
 use Rattle.job_terms.specs.declared.job.Command.{Command}
 use Rattle.job_terms.specs.declared.job.JointAction.TheVariants as joint
 use Rattle.run_plane.specs.declared.layer.Layer.{Layer}
-use Rattle.run_shapes.specs.Uniting.{IsUnited}
+use Rattle.run_borders.specs.Uniting.{IsUnited}
 use Rattle.run_state.specs.Origins.{Base}
 use Rattle.run_state.specs.Targets as places
 use Rattle.run_state.specs.Targets.{has_target, is_selected, targets}

@@ -8,9 +8,9 @@ use Rattle.table_rows.specs.Columns.{keep_fields}
 use Rattle.region_model.specs.Region.{Region}
 use Rattle.run_plane.specs.declared.layer.Layer.{Layer}
 use Rattle.run_plane.specs.declared.plane.Plane.{Plane}
-use Rattle.run_shapes.specs.Borders.{AreInnerLines, AreOutlines}
+use Rattle.run_borders.specs.Borders.{AreInnerLines, AreOutlines}
 use Rattle.run_shapes.specs.Cutting.{IsCut}
-use Rattle.run_shapes.specs.Dissolving.{IsGrouped, refused_dissolve}
+use Rattle.run_borders.specs.Dissolving.{IsGrouped, refused_dissolve}
 use Rattle.run_shapes.specs.Exploding.{IsExploded}
 use Rattle.run_shapes.specs.declared.cutting.CutKeeps.TheVariants as keeps
 use Rattle.run_state.specs.Stops.{table_refusal}

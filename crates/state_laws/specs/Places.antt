@@ -9,7 +9,7 @@ use Rattle.job_terms.specs.declared.job.LayerAction.TheVariants as action
 use Rattle.job_terms.specs.declared.job.Origin.{Origin}
 use Rattle.run_plane.specs.declared.layer.Layer.{Layer}
 use Rattle.run_plane.specs.declared.plane.Plane.{Plane}
-use Rattle.run_shapes.specs.Matching.{AreMatches}
+use Rattle.run_tables.specs.Matching.{AreMatches}
 use Rattle.run_state.specs.Origins.{Base}
 use Rattle.run_state.specs.Stops.{table_refusal}
 use Rattle.run_state.specs.declared.state.Held.{Held}

@@ -16,11 +16,11 @@ use Rattle.run_state.specs.declared.state.Held.{Held}
 use Rattle.run_tables.specs.Made.{One}
 use Rattle.run_shapes.specs.Cleaning.{IsCleaned, IsMosaicOf}
 use Rattle.run_shapes.specs.Cutting.{IsCut}
-use Rattle.run_shapes.specs.Dissolving.{IsGrouped, refused_dissolve}
+use Rattle.run_borders.specs.Dissolving.{IsGrouped, refused_dissolve}
 use Rattle.run_shapes.specs.Exploding.{IsExploded}
-use Rattle.run_shapes.specs.FaceSets.{area_of}
+use Rattle.run_state.specs.FaceSets.{area_of}
 use Rattle.run_shapes.specs.Islands.{IsMainland}
-use Rattle.run_shapes.specs.Uniting.{IsUnited}
+use Rattle.run_borders.specs.Uniting.{IsUnited}
 use Rattle.run_shapes.specs.declared.cutting.CutKeeps.TheVariants as keeps
 use Rattle.run_steps.specs.Refusals.{refused_alone, refused_area}
 use Rattle.chain_model.specs.Outcome as state

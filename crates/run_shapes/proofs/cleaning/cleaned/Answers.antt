@@ -1,7 +1,7 @@
 use Rattle.std.proofs.lemmas.Result.{IfOk-weaker}
 use Rattle.run_plane.specs.OnPlane.{IsLayerOn}
-use Rattle.run_shapes.specs.FaceSets.{HasSets}
-use Rattle.run_shapes.proofs.OnPlane.{has_sets_on, sets_inner}
+use Rattle.run_state.specs.FaceSets.{HasSets}
+use Rattle.run_state.proofs.OnPlane.{has_sets_on, sets_inner}
 use Rattle.run_shapes.proofs.cleaning.cleaned.Goals as goal
 
 pub clean_sets-requires-clause-faces : goal.clean_sets-requires-clause-faces

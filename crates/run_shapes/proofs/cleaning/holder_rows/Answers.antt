@@ -1,8 +1,8 @@
 use Rattle.std.proofs.Common.{[], ◌∷◌, length, sym, ap, subst, arith, length-append}
 use Rattle.json_read.specs.Table.{AreRows}
 use Rattle.run_shapes.specs.Cleaning.{ids_row}
-use Rattle.run_shapes.proofs.Mapped.{mapped_on}
-use Rattle.run_shapes.proofs.Rows.{rows_grown}
+use Rattle.run_state.proofs.Mapped.{mapped_on}
+use Rattle.run_state.proofs.Rows.{rows_grown}
 use Rattle.run_shapes.proofs.cleaning.holder_rows.Goals as goal
 
 pub loop-item-preserved : goal.loop-item-preserved

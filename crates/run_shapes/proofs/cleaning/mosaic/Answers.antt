@@ -4,8 +4,9 @@ use Rattle.region_ops.specs.Items.{IsPiece}
 use Rattle.region_ops.specs.declared.item_lists.MosaicItem.{MosaicItem}
 use Rattle.run_plane.specs.OnPlane.{AreOn}
 use Rattle.run_shapes.specs.Cleaning.{piece_shape}
-use Rattle.run_shapes.proofs.OnPlane.{pieces_on, sets_inner}
-use Rattle.run_shapes.proofs.Rows.{one_name}
+use Rattle.run_state.proofs.OnPlane.{sets_inner}
+use Rattle.run_shapes.proofs.OnPlane.{pieces_on}
+use Rattle.run_state.proofs.Rows.{one_name}
 use Rattle.run_shapes.proofs.cleaning.mosaic.Goals as goal
 
 pub mosaic_sets-requires-clause-faces : goal.mosaic_sets-requires-clause-faces

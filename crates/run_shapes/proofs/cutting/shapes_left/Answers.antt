@@ -2,7 +2,7 @@ use Rattle.std.proofs.Common.{◌≡◌, map, sym, subst}
 use Rattle.std.proofs.lemmas.Result.{IfOk-weaker}
 use Rattle.run_plane.specs.OnPlane.{AreOn}
 use Rattle.run_shapes.specs.Cutting.{cut_faces}
-use Rattle.run_shapes.specs.FaceSets.{face_shapes, sets_in}
+use Rattle.run_state.specs.FaceSets.{face_shapes, sets_in}
 use Rattle.run_shapes.proofs.OnPlane.{cuts_on}
 use Rattle.run_shapes.proofs.cutting.shapes_left.Goals as goal
 

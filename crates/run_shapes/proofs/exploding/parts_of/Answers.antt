@@ -2,7 +2,8 @@ use Rattle.std.proofs.Common.{length, map, ap, refl, sym, subst, ◌∙◌}
 use Rattle.region_ops.specs.declared.item_lists.PartItem.{PartItem}
 use Rattle.run_plane.specs.OnPlane.{AreOn}
 use Rattle.run_shapes.specs.Exploding.{part_shape}
-use Rattle.run_shapes.proofs.OnPlane.{parts_on, sets_inner}
+use Rattle.run_state.proofs.OnPlane.{sets_inner}
+use Rattle.run_shapes.proofs.OnPlane.{parts_on}
 use Rattle.run_shapes.proofs.Pieces.{features_below}
 use Rattle.run_shapes.proofs.exploding.parts_of.Goals as goal
 

@@ -2,9 +2,9 @@ use Rattle.std.proofs.Common.{ℕ, List, not, length, ap, subst, ◌∙◌}
 use Rattle.std.proofs.lemmas.Result.{IfOk-weaker}
 use Rattle.calc_ops.specs.Islands.{AreWithoutIslands}
 use Rattle.run_plane.specs.OnPlane.{IsLayerOn}
-use Rattle.run_shapes.specs.FaceSets.{HasSets, sets_in}
+use Rattle.run_state.specs.FaceSets.{HasSets, sets_in}
 use Rattle.run_shapes.specs.Islands.{IsMainland}
-use Rattle.run_shapes.proofs.OnPlane.{has_sets_on, sets_inner}
+use Rattle.run_state.proofs.OnPlane.{has_sets_on, sets_inner}
 use Rattle.run_shapes.proofs.islands.without_islands.Goals as goal
 
 pub drop_islands-requires-clause-faces : goal.drop_islands-requires-clause-faces

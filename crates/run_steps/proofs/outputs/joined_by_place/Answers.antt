@@ -1,7 +1,7 @@
 use Rattle.std.proofs.Common.{List, ℕ, None, Ok}
 use Rattle.run_plane.specs.declared.layer.Layer.{Layer}
 use Rattle.run_plane.proofs.Growth.{if_ok_on}
-use Rattle.run_shapes.specs.Matching.{AreMatches}
+use Rattle.run_tables.specs.Matching.{AreMatches}
 use Rattle.run_state.specs.Origins.{base_of, one_layer, origin_layers}
 use Rattle.run_state.specs.Stops.{StopsAs}
 use Rattle.run_state.proofs.Stops.{if_err_on}

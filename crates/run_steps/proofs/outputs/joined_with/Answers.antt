@@ -1,7 +1,7 @@
 use Rattle.std.proofs.Common.{◌≡◌, ◌∷◌, [], List, ℕ, subst, sym}
 use Rattle.run_plane.specs.declared.layer.Layer.{Layer}
 use Rattle.run_plane.proofs.Growth.{if_ok_on}
-use Rattle.run_shapes.specs.Matching.{AreMatches}
+use Rattle.run_tables.specs.Matching.{AreMatches}
 use Rattle.run_tables.specs.Made.{GivesTable, One}
 use Rattle.spatial_join.specs.Joined.{join_matched}
 use Rattle.run_steps.proofs.outputs.joined_with.Goals as goal

@@ -2,7 +2,7 @@ use Rattle.std.proofs.Common.{option_copied}
 use Rattle.std.proofs.lemmas.Result.{IfOk-weaker}
 use Rattle.run_plane.specs.OnPlane.{AreLayersOn}
 use Rattle.run_state.specs.Origins.{base_of}
-use Rattle.run_shapes.proofs.OnPlane.{grouped_on}
+use Rattle.run_borders.proofs.OnPlane.{grouped_on}
 use Rattle.run_tables.proofs.OnPlane.{filtered_on, given_on, numbers_on, split_on}
 use Rattle.run_tables.specs.Pieces.{IsSplit}
 use Rattle.run_steps.specs.Commands.{Joins, JoinsByPlace}

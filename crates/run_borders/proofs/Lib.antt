@@ -1,0 +1,5 @@
+pub mod Beside
+pub mod Differences
+pub mod OnPlane
+pub mod UnitedLayers
+pub mod Widths

@@ -1,0 +1,8 @@
+use Rattle.std.proofs.Common.{◌≡◌, ℕ, take}
+use Rattle.std.specs.List.{flat_map}
+use Rattle.run_borders.specs.Dissolving.{arcs_in}
+use Rattle.run_plane.specs.Shapes.{shape_at}
+use Rattle.run_borders.proofs.dissolving.arcs_of.Given as goal
+
+abbrev pub invariant-loop-member : goal.invariant-loop-member
+invariant-loop-member l = l.arcs.items ≡ flat_map (λ (n : ℕ). arcs_in (shape_at l.shapes n)) (take l.member-index l.members)

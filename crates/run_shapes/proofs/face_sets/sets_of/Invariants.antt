@@ -1,9 +1,0 @@
-use Rattle.std.proofs.Common.{◌≡◌, length, take}
-use Rattle.run_shapes.specs.FaceSets.{sets_in}
-use Rattle.run_shapes.proofs.face_sets.sets_of.Given as goal
-
-abbrev pub invariant-loop-shape : goal.invariant-loop-shape
-invariant-loop-shape l = record {
-  exact : l.sets ≡ sets_in (take l.shape-index l.shapes);
-  count : length l.sets ≡ l.shape-index;
-}
