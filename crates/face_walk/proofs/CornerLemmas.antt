@@ -1,10 +1,10 @@
 -- The links that leave a vertex, all to the right or straight up: which is the first counterclockwise from straight down.
-use Rattle.std.proofs.Common.{◌≡◌, ◌⊎◌, refl, sym, ap, ◌∙◌, subst, arith, Bool, true, false, ◌&&◌, ◌||◌, ℤ, pos, negsuc, ◌+ℤ◌, ◌-ℤ◌, ◌*ℤ◌, neg_ℤ, inl, inr}
+use Rattle.std.proofs.Common.{◌≡◌, ◌⊎◌, refl, ap, ◌∙◌, arith, Bool, true, false, ◌&&◌, ◌||◌, ℤ, pos, ◌-ℤ◌, ◌*ℤ◌, inl, inr}
 use Rattle.std.specs.Prelude.{◌<ℤ◌, ◌≤ℤ◌, int_lt, int_le}
 use Rattle.std.proofs.lemmas.Int.{ints}
-use Rattle.plane_algebra.proofs.Ring.{ring, ◌⊞◌, ◌⊟◌, ◌⊠◌, num, ◌≐◌}
-use Rattle.plane_algebra.proofs.Sign.{mul-nonneg, mul-nonpos, mul-positive, nonneg_of_mul, zero_or_less}
-use Rattle.plane_model.specs.Points.{GridPoint, Segment, same_int, is_before, cross}
+use Rattle.plane_algebra.proofs.Ring.{ring, ◌⊟◌, ◌⊠◌, num, ◌≐◌}
+use Rattle.plane_algebra.proofs.Sign.{mul-nonneg, mul-nonpos, mul-positive, nonneg_of_mul}
+use Rattle.plane_model.specs.Points.{Segment, is_before, cross}
 
 -- to the right, or straight up
 abbrev IsRightward : ℤ → ℤ → Type 0

@@ -1,19 +1,17 @@
 -- Steps from face to face, one after another.
-use Rattle.std.proofs.Common.{◌≡◌, ◌≢◌, ◌⊎◌, ◌↔◌, inl, inr, refl, sym, ap, subst, ◌∙◌, arith, ℕ, zero, suc, ◌+◌, ◌*◌, ◌<◌, ◌≤◌, Bool, true, false, cond, Some, List, [], ◌∷◌, ◌++◌, All, Contains, length, get_or, set, replicate, append_assoc, append-nil}
+use Rattle.std.proofs.Common.{◌≡◌, ◌≢◌, ◌⊎◌, ◌↔◌, inl, inr, refl, sym, ap, subst, ◌∙◌, arith, ℕ, zero, suc, ◌+◌, ◌<◌, ◌≤◌, Bool, true, false, cond, Some, List, [], ◌∷◌, ◌++◌, Contains, length, get_or, set, append_assoc, append-nil}
 use Rattle.std.specs.Prelude.{slice_get}
 use Rattle.std.specs.List.{count_by}
 use Rattle.std.proofs.lemmas.Bool.{cases_lt, cases_eq, eq-eqb}
-use Rattle.std.proofs.lemmas.List.{get_or_append_left, get_or-set_other, get_or-set_same, get_or-replicate, length-replicate, length-set, length_push, length-append}
-use Rattle.std.proofs.lemmas.List.Elements.{All-contains, All-push, Contains-append_left, Contains-append_right}
+use Rattle.std.proofs.lemmas.List.{get_or_append_left, get_or-set_other, get_or-set_same, length-set, length_push, length-append}
+use Rattle.std.proofs.lemmas.List.Elements.{All-push, Contains-append_left, Contains-append_right}
 use Rattle.std.proofs.lemmas.List.Sums.{count_by-le-length, sum_by-set}
-use Rattle.std.proofs.lemmas.List.Folds.{sum_by-replicate}
 use Rattle.std.proofs.lemmas.Option.{get_or_from_slice_get, same_Some, slice_get-get_or, slice_get_within}
 use Rattle.lists.proofs.Members.{Contains-filter}
-use Rattle.plane_model.specs.Points.{Path}
 use Rattle.plane_model.specs.Arcs.{SignedArc, forward, backward}
 use Rattle.bucket_grid.proofs.Growth.{slice_get-append_end, slice_get-append_left}
-use Rattle.face_walk.specs.Places.{FaceTable, HasArc, face_left_of, has_left, signed_below, arcs_with_left}
-use Rattle.face_walk.specs.Crossings.{outer_of, face_across, IsCrossing, IsReached, AreCrossings, IsDone, LeaveNone, AreMarked, IsLonger}
+use Rattle.face_walk.specs.Places.{FaceTable, face_left_of, has_left, signed_below, arcs_with_left}
+use Rattle.face_walk.specs.Crossings.{outer_of, face_across, IsCrossing, IsReached, IsDone, LeaveNone, AreMarked, IsLonger}
 use Rattle.face_walk.specs.declared.crossings.Crossing.{Crossing}
 
 -- ---- elements before the end

@@ -1,5 +1,5 @@
 -- Going down from a point, bucket by bucket: the topmost link so far, and the point to go on from.
-use Rattle.std.specs.Prelude.{◌≡◌, ◌⊎◌, ℕ, pos, ◌-ℤ◌, ◌≤ℤ◌, true, false, List, Contains, Option, Some, None, ⊤}
+use Rattle.std.specs.Prelude.{◌≡◌, ◌⊎◌, pos, ◌-ℤ◌, ◌≤ℤ◌, true, false, List, Contains, Option, Some, None, ⊤}
 use Rattle.plane_model.specs.Points.{GridPoint, at, turn}
 use Rattle.plane_model.specs.Parity.{is_below}
 use Rattle.plane_model.specs.Below.{is_under}

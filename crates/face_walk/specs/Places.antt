@@ -1,5 +1,5 @@
 -- Places beside arcs, the faces that they belong to, and the faces of a table of arcs.
-use Rattle.std.specs.Prelude.{◌≡◌, ℕ, zero, suc, ◌+◌, ◌*◌, ◌<◌, ℤ, Bool, nat_eq, List, [], ◌∷◌, ◌++◌, if◌then◌else◌, filter, length, map, slice_index, Option}
+use Rattle.std.specs.Prelude.{◌≡◌, ℕ, zero, suc, ◌+◌, ◌*◌, ℤ, Bool, nat_eq, List, [], ◌∷◌, ◌++◌, filter, length, map, slice_index, Option}
 use Rattle.std.specs.List.{range_with_len}
 use Rattle.plane_model.specs.Points.{GridPoint, Path}
 use Rattle.plane_model.specs.Arcs.{SignedArc, forward, backward}

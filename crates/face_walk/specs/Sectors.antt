@@ -1,5 +1,5 @@
 -- The sectors round the vertices where arcs start, as pairs of places: between an arc and the next counterclockwise.
-use Rattle.std.specs.Prelude.{◌≡◌, ℕ, zero, suc, pos, ◌+◌, Bool, not, ◌&&◌, nat_lt, List, [], ◌∷◌, ◌++◌, length, slice_index_or, if◌then◌else◌}
+use Rattle.std.specs.Prelude.{ℕ, zero, suc, ◌+◌, Bool, not, ◌&&◌, nat_lt, List, [], ◌∷◌, ◌++◌, length, slice_index_or, if◌then◌else◌}
 use Rattle.plane_model.specs.Points.{GridPoint, same_point}
 use Rattle.plane_model.specs.Arcs.{SignedArc, forward}
 use Rattle.arc_table.specs.Direction.{point_at}

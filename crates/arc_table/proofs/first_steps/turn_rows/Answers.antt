@@ -1,7 +1,6 @@
-use Rattle.std.proofs.Common.{◌≡◌, sym, subst, List}
+use Rattle.std.proofs.Common.{sym, subst}
 use Rattle.std.specs.List.Sorted.{IsPermutation}
 use Rattle.std.proofs.lemmas.List.Sorted.{IsPermutation-refl, IsPermutation-trans}
-use Rattle.arc_table.specs.declared.first_steps.FirstStep.{FirstStep}
 use Rattle.arc_table.proofs.first_steps.turn_rows.Goals.{then-begins_row, else-begins_row}
 use Rattle.arc_table.proofs.first_steps.turn_rows.Goals as goal
 

@@ -1,4 +1,4 @@
-use Rattle.std.proofs.Common.{◌≡◌, sym, subst, arith, ◌+◌, ◌*◌, ◌<◌, ◌∷◌, [], ◌++◌, All, Contains, List, get_or, length, take}
+use Rattle.std.proofs.Common.{◌≡◌, sym, subst, arith, ◌<◌, All, Contains, List, length, take}
 use Rattle.std.proofs.lemmas.List.{take_all}
 use Rattle.std.proofs.lemmas.List.Elements.{All-contains, All-push, All-weaker}
 use Rattle.plane_model.specs.Arcs.{SignedArc}

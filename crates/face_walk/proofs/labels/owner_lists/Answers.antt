@@ -1,4 +1,4 @@
-use Rattle.std.proofs.Common.{◌≡◌, ◌∙◌, ap, sym, subst, arith, ℕ, ◌+◌, [], ◌∷◌, ◌++◌, List, get_or, length, map}
+use Rattle.std.proofs.Common.{◌≡◌, ◌∙◌, ap, sym, subst, arith, ℕ, ◌+◌, [], ◌∷◌, ◌++◌, List, length, map}
 use Rattle.std.proofs.lemmas.List.{get_or-map, length-map, length_push, map-append}
 use Rattle.face_walk.specs.Holders.{AreOwnersOf, AreOwnersOfEach, list_at}
 use Rattle.face_walk.proofs.HeldLemmas.{owned_more}

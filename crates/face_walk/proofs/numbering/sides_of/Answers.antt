@@ -1,10 +1,10 @@
-use Rattle.std.proofs.Common.{rules, ◌≡◌, ◌∙◌, sym, ap, subst, arith, ℕ, ◌+◌, List, [], ◌∷◌, ◌++◌, get_or, map}
+use Rattle.std.proofs.Common.{◌≡◌, ◌∙◌, sym, ap, subst, arith, ℕ, ◌+◌, List, [], ◌∷◌, ◌++◌, get_or, map}
 use Rattle.std.specs.List.Sorted.{IsPermutation}
 use Rattle.std.proofs.lemmas.List.Sorted.{IsPermutation-trans}
 use Rattle.plane_model.specs.Arcs.{SignedArc, forward, backward}
 use Rattle.face_walk.specs.Places.{place_of, signed_below}
 use Rattle.face_walk.specs.declared.numbering.FaceSide.{FaceSide}
-use Rattle.face_walk.specs.Sides.{AreInOrder, AreSides, HasLeft}
+use Rattle.face_walk.specs.Sides.{AreSides, HasLeft}
 use Rattle.face_walk.proofs.SideLemmas.{sides_more, sides_moved}
 use Rattle.face_walk.proofs.ListedLemmas.{side_with, sides_with_more, sides_are_listed}
 use Rattle.face_walk.proofs.SortedSides.{RiseBelow, faces_up, sides_of_one, sides_rise}

@@ -1,4 +1,4 @@
-use Rattle.std.proofs.Common.{◌≡◌, ℕ, ◌++◌, List, length, map, take}
+use Rattle.std.proofs.Common.{◌≡◌, ◌++◌, List, length, map, take}
 use Rattle.plane_model.specs.Points.{Path}
 use Rattle.plane_model.specs.Drawing.{Polygon}
 use Rattle.face_walk.specs.RingSteps.{AreStepsFrom}

@@ -1,7 +1,6 @@
-use Rattle.std.proofs.Common.{◌≡◌, ◌<◌, ℕ, List, All, length, map, ap, sym, subst, ◌∙◌, arith}
-use Rattle.std.specs.List.Sorted.{IsSorted}
+use Rattle.std.proofs.Common.{◌≡◌, ◌<◌, ℕ, List, All, length, ap, sym, subst, ◌∙◌, arith}
 use Rattle.plane_model.specs.Points.{Segment}
-use Rattle.arc_table.specs.Steps.{AreLinks, AreProper, step_cmp, HasBoth, AreTwins, AreOnward}
+use Rattle.arc_table.specs.Steps.{AreLinks, HasBoth, AreTwins, AreOnward}
 use Rattle.arc_table.proofs.Proper.{proper_steps}
 use Rattle.arc_table.proofs.Onward.{both_ways, none_back}
 use Rattle.arc_table.proofs.StepSearch.{both_of}

@@ -3,7 +3,7 @@ use Rattle.std.specs.List.Sorted.{IsNonDecreasing}
 use Rattle.std.proofs.lemmas.Bool.{cases_lt}
 use Rattle.std.proofs.lemmas.List.{get_or_past, length-map}
 use Rattle.face_walk.specs.Crossings.{outer_of}
-use Rattle.face_walk.specs.Holders.{AreHeldBy, AreHolders, AreOwnersOf, AreOwnersOfEach, list_at}
+use Rattle.face_walk.specs.Holders.{AreHeldBy, AreOwnersOf, AreOwnersOfEach, list_at}
 use Rattle.face_walk.specs.RingSteps.{owners_from}
 use Rattle.face_walk.specs.declared.crossings.Crossing.{Crossing}
 use Rattle.face_walk.specs.declared.ring_steps.RingStep.{RingStep}
