@@ -40,8 +40,8 @@ module _ (plane : Plane) where
   sets_inner shapes given sets e f on = subst (All (IsSetOf plane.faces)) (sym (e ∙ ap sets_in f)) (sets_are_inner plane shapes on)
 
   pub has_sets_on : (keeps_empty : Bool) (layer : Layer) (sets : List (List ℕ)) (made : Layer) → HasSets keeps_empty layer sets made → All (IsSetOf plane.faces) sets → IsLayerOn plane made
-  has_sets_on true layer sets made h inner = rows_on plane layer (all_numbers layer) (face_shapes sets) made h (sets_on plane sets inner)
-  has_sets_on false layer sets made h inner = left_on plane layer (face_shapes sets) made h (sets_on plane sets inner)
+  has_sets_on true layer sets made h inner = rows_on layer (all_numbers layer) (face_shapes sets) made h (sets_on plane sets inner)
+  has_sets_on false layer sets made h inner = left_on layer (face_shapes sets) made h (sets_on plane sets inner)
 
   -- ---- layers of a state
 
