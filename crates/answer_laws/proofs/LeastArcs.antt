@@ -19,7 +19,7 @@ use Rattle.plane_model.specs.Rings.{BeginsAtLeastArc, least_arc}
 use Rattle.plane_model.specs.Snapped.{links_of}
 use Rattle.plane_parity.proofs.Abscissa.{same_link-self, same_link-true}
 use Rattle.plane_faces.specs.Rings.{IsRing}
-use Rattle.ring_trace.proofs.SetLemmas.{nat_order}
+use Rattle.face_sets.proofs.SetLemmas.{nat_order}
 use Rattle.printed_laws.proofs.EachStep.{each_back}
 use Rattle.answer_laws.proofs.Bounding.{of_boundary, ring_trail}
 use Rattle.answer_laws.proofs.Covers.{arcs_whole, some_arc}

@@ -12,7 +12,7 @@ use Rattle.plane_model.specs.Arrangement.{IsArrangement, IsDistinct}
 use Rattle.plane_model.specs.Joined.{AreOfOneFace}
 use Rattle.plane_model.specs.Sees.{IsOffLinks}
 use Rattle.plane_model.specs.Sides.{Points}
-use Rattle.ring_trace.proofs.SetLemmas.{from_ascending, nat_order, to_ascending}
+use Rattle.face_sets.proofs.SetLemmas.{from_ascending, nat_order, to_ascending}
 use Rattle.region_laws.proofs.AscendingLists.{filter_ascends}
 use Rattle.answer_laws.proofs.Deciding.{IsTold, all_of_them, same_told}
 use Rattle.answer_laws.proofs.FaceSets.{IsFaceSet, point_told}

@@ -10,7 +10,7 @@ use Rattle.lists.specs.Lists.{joined_up}
 use Rattle.plane_model.specs.Points.{Path}
 use Rattle.plane_model.specs.Arcs.{SignedArc}
 use Rattle.face_walk.specs.Places.{FaceTable, face_left_of, place_of}
-use Rattle.ring_trace.specs.Boundary.{face_right_of, other_way}
+use Rattle.face_sets.specs.Boundary.{face_right_of, other_way}
 use Rattle.calc_ops.specs.Islands.{is_island, mainland, set_at, IsWithoutIslands, AreWithoutIslands}
 
 -- ---- lists that are joined

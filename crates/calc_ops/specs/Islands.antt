@@ -5,10 +5,10 @@ use Rattle.lists.specs.Lists.{ascending, joined_up, same_list}
 use Rattle.plane_model.specs.Points.{Path}
 use Rattle.plane_model.specs.Arcs.{SignedArc}
 use Rattle.face_walk.specs.Places.{FaceTable, face_left_of}
-use Rattle.ring_trace.specs.Boundary.{face_right_of, outward_at}
-use Rattle.ring_trace.specs.Joined.{AreParts}
-use Rattle.ring_trace.specs.Owners.{owners_of}
-use Rattle.ring_trace.specs.Sets.{area_of}
+use Rattle.face_sets.specs.Boundary.{face_right_of, outward_at}
+use Rattle.face_sets.specs.Joined.{AreParts}
+use Rattle.face_sets.specs.Owners.{owners_of}
+use Rattle.face_sets.specs.Sets.{area_of}
 
 abbrev pub set_at : List (List ℕ) → ℕ → List ℕ
 set_at sets n = slice_index_or sets n []

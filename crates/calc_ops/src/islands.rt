@@ -2,15 +2,15 @@ ghost use Rattle.std.specs.Prelude.{◌≡◌, ◌<◌, ◌+◌, ◌-◌, ◌++�
 ghost use Rattle.lists.specs.Lists.{same_list};
 ghost use Rattle.plane_model.specs.Points.{Path};
 ghost use Rattle.face_walk.specs.Places.{HasArc, IsBuiltOf, face_left_of};
-ghost use Rattle.ring_trace.specs.Boundary.{is_outward, outward_at};
-ghost use Rattle.ring_trace.specs.Owners.{AreOwners, owners_of};
-ghost use Rattle.ring_trace.specs.Sets.{IsSetOf, area_of};
+ghost use Rattle.face_sets.specs.Boundary.{is_outward, outward_at};
+ghost use Rattle.face_sets.specs.Owners.{AreOwners, owners_of};
+ghost use Rattle.face_sets.specs.Sets.{IsSetOf, area_of};
 ghost use Rattle.calc_ops.specs.Islands.{AreWithoutIslands, IsWithoutIslands, border, is_detached, is_island, is_small, links_of, stands_alone};
 
 use arc_table::ArcTable;
+use face_sets::{FaceOwners, FaceSet, SetList, parts};
 use face_walk::Faces;
 use grid_base::{FaceId, SignedArc};
-use ring_trace::{FaceOwners, FaceSet, SetList, parts};
 use std::alloc::{AllocError, Global};
 
 /// Below which size a detached part is an island.

@@ -1,7 +1,7 @@
 //! Islands among squares. Two squares with a common side, and a small one apart.
 use crate::squares::{Plane, Square, plane_of, sets_at};
 use calc_ops::drop_islands;
-use ring_trace::SetList;
+use face_sets::SetList;
 use std::alloc::Global;
 use std::test::Fail;
 

@@ -1,12 +1,12 @@
 //! Squares on the grid, and the faces between them.
 ghost use Rattle.std.specs.Prelude.{◌≡◌, All, IfOk};
 ghost use Rattle.face_walk.specs.Places.{IsBuiltOf};
-ghost use Rattle.ring_trace.specs.Sets.{IsInnerFace, IsSetOf};
+ghost use Rattle.face_sets.specs.Sets.{IsInnerFace, IsSetOf};
 
 use arc_table::ArcTable;
+use face_sets::{FaceSet, SetList};
 use face_walk::Faces;
 use grid_base::{Drawing, FaceId, Pt, Rect};
-use ring_trace::{FaceSet, SetList};
 use snap_round::snap;
 use std::alloc::{AllocError, Global};
 use std::test::Fail;

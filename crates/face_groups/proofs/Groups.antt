@@ -12,10 +12,10 @@ use Rattle.lists.specs.Lists.{has, numbers_from}
 use Rattle.lists.proofs.Ascending.{IsStrictOrder, one_ascending}
 use Rattle.lists.proofs.Members.{Contains-head, Contains-later, Contains-filter, filter-Contains, flat_map-Contains, map-Contains}
 use Rattle.face_walk.specs.Places.{FaceTable}
-use Rattle.ring_trace.specs.Joined.{AreParts}
-use Rattle.ring_trace.specs.Sets.{IsInnerFace, IsSetOf}
-use Rattle.ring_trace.proofs.BoundaryLemmas.{has_Contains}
-use Rattle.ring_trace.proofs.SetLemmas.{nat_order, to_ascending}
+use Rattle.face_sets.specs.Joined.{AreParts}
+use Rattle.face_sets.specs.Sets.{IsInnerFace, IsSetOf}
+use Rattle.face_sets.proofs.BoundaryLemmas.{has_Contains}
+use Rattle.face_sets.proofs.SetLemmas.{nat_order, to_ascending}
 use Rattle.face_groups.specs.Groups.{AreGroupsOf, AreKeySets, IsGroupOf, IsKeySet, IsKeyed}
 
 pub inner_of : (faces : FaceTable) (keyed : ℕ → Bool) (before : ℕ → ℕ → Bool) (set : List ℕ) → IsKeySet (IsKeyed faces keyed) before set → IsSetOf faces set

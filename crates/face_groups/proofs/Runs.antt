@@ -7,7 +7,7 @@ use Rattle.std.proofs.lemmas.List.{get_or-take, get_or-drop, length-drop, get_or
 use Rattle.std.proofs.lemmas.List.Elements.{All-nil, All-weaker, All-contains, All-push, Contains-get_or, Contains-append_left, Contains-push}
 use Rattle.lists.specs.Lists.{ascending}
 use Rattle.lists.proofs.Ascending.{ascending-IsAscending, ascending-Contains, Contains-ascending}
-use Rattle.ring_trace.proofs.SetLemmas.{nat_order, from_ascending}
+use Rattle.face_sets.proofs.SetLemmas.{nat_order, from_ascending}
 use Rattle.face_groups.specs.Groups.{AreBefore, AreByKey, AreKeySets, IsKeyRun, IsKeySet}
 
 -- the face stands from one place on before another

@@ -3,8 +3,8 @@ use Rattle.std.specs.Prelude.{◌≡◌, ℕ, ◌<◌, ◌≤◌, Bool, true, fa
 use Rattle.std.specs.List.{flat_map}
 use Rattle.std.specs.List.Sorted.{IsStrictlyIncreasing}
 use Rattle.face_walk.specs.Places.{FaceTable}
-use Rattle.ring_trace.specs.Joined.{AreParts}
-use Rattle.ring_trace.specs.Sets.{IsInnerFace}
+use Rattle.face_sets.specs.Joined.{AreParts}
+use Rattle.face_sets.specs.Sets.{IsInnerFace}
 
 -- an inner face that has a key
 pub record IsKeyed (faces : FaceTable) (keyed : ℕ → Bool) (k : ℕ) : Type 0 where

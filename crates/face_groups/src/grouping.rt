@@ -4,9 +4,9 @@ ghost use Rattle.lists.specs.Lists.{ascending};
 ghost use Rattle.face_groups.specs.Groups.{AreByKey, AreKeySets, AreKeyed, IsKeyRun, IsKeyed};
 
 use crate::keys::FaceKeys;
+use face_sets::{FaceSet, SetList};
 use face_walk::Faces;
 use grid_base::FaceId;
-use ring_trace::{FaceSet, SetList};
 use std::alloc::{AllocError, Global};
 
 /// The inner faces that have a key: for each key the set of those that have it, in the order of the keys.

@@ -2,8 +2,8 @@ ghost use Rattle.std.specs.Prelude.{◌≡◌, Bool, ℕ};
 ghost use Rattle.std.specs.Ordering.{is_lt};
 ghost use Rattle.face_groups.specs.Keys.{is_owned, owned_before};
 
+use face_sets::FaceOwners;
 use grid_base::FaceId;
-use ring_trace::FaceOwners;
 use std::cmp::Ordering;
 
 /// Keys of faces, in some order. A face may have none.

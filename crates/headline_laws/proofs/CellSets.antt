@@ -11,7 +11,7 @@ use Rattle.lists.specs.Lists.{ascending, joined_up}
 use Rattle.plane_model.specs.Snapped.{snapped}
 use Rattle.grid_base.specs.declared.kinds.Kind.TheVariants as kinds
 use Rattle.grid_base.specs.declared.kinds.OverlapRule.{OverlapRule}
-use Rattle.ring_trace.specs.Sets.{IsInnerFace, IsSetOf, area_of}
+use Rattle.face_sets.specs.Sets.{IsInnerFace, IsSetOf, area_of}
 use Rattle.region_ops.specs.Cleaned.{IsCleaned, is_lost}
 use Rattle.region_ops.specs.Dissolved.{set_at}
 use Rattle.region_model.specs.Region.{Region, any_of, feature}

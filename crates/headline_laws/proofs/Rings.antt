@@ -14,16 +14,16 @@ use Rattle.plane_model.specs.Snapped.{links_of, snapped}
 use Rattle.plane_faces.specs.Places.{Place}
 use Rattle.arc_table.specs.Around.{start_of}
 use Rattle.face_walk.specs.Places.{FaceTable, HasArc, IsBuiltOf, face_left_of, place_of, signed_below}
-use Rattle.ring_trace.specs.Boundary.{boundary, face_right_of, is_outward}
-use Rattle.ring_trace.specs.Joined.{AreParts}
+use Rattle.face_sets.specs.Boundary.{boundary, face_right_of, is_outward}
+use Rattle.face_sets.specs.Joined.{AreParts}
 use Rattle.ring_trace.specs.Pairing.{stop_of}
-use Rattle.ring_trace.specs.Sets.{IsSetOf}
+use Rattle.face_sets.specs.Sets.{IsSetOf}
 use Rattle.ring_trace.specs.Traced.{BeginsWithLeast, HasPolygonsOfParts, UsesBoundary, bounded, is_of_boundary, once_if, same_arc, times, times_round}
 use Rattle.ring_trace.specs.Turns.{MayStandBefore}
 use Rattle.ring_trace.specs.Ways.{IsSimpleRing}
 use Rattle.ring_trace.proofs.BalanceLemmas.{balanced_faces, sum_same}
-use Rattle.ring_trace.proofs.BoundaryLemmas.{Contains_has, has_Contains}
-use Rattle.ring_trace.proofs.JoinedLemmas.{joined_over}
+use Rattle.face_sets.proofs.BoundaryLemmas.{Contains_has, has_Contains}
+use Rattle.face_sets.proofs.JoinedLemmas.{joined_over}
 use Rattle.ring_trace.proofs.UsedLemmas.{same_place, sum_by-map}
 use Rattle.part_laws.proofs.BoundedLaws.{parts_have_boundaries}
 use Rattle.region_laws.specs.Followed.{IsWalked}

@@ -11,7 +11,7 @@ use Rattle.grid_base.specs.declared.kinds.OverlapRule.TheVariants as rule
 use Rattle.face_walk.specs.Places.{FaceTable}
 use Rattle.face_laws.proofs.CountLemmas.{count_is_exact}
 use Rattle.io_core.specs.Contents.{Content}
-use Rattle.ring_trace.specs.Sets.{area_of}
+use Rattle.face_sets.specs.Sets.{area_of}
 use Rattle.region_ops.specs.Cleaned.{IsCleaned}
 use Rattle.region_model.specs.Region.{any_of, feature}
 use Rattle.region_model.specs.Answers as answers

@@ -13,9 +13,9 @@ use Rattle.plane_model.specs.Snapped.{links_of, snapped}
 use Rattle.plane_faces.specs.Places.{Place}
 use Rattle.arc_table.specs.Around.{start_of}
 use Rattle.face_walk.specs.Places.{FaceTable, face_left_of, place_of}
-use Rattle.ring_trace.specs.Boundary.{is_outward}
+use Rattle.face_sets.specs.Boundary.{is_outward}
 use Rattle.ring_trace.specs.Pairing.{stop_of}
-use Rattle.ring_trace.specs.Sets.{IsSetOf}
+use Rattle.face_sets.specs.Sets.{IsSetOf}
 use Rattle.ring_trace.specs.Traced.{BeginsWithLeast, HasPolygonsOfParts, UsesBoundary, is_of_boundary, once_if, same_arc, times, times_round, times_traced}
 use Rattle.ring_trace.specs.Turns.{MayStandBefore, round_of}
 use Rattle.ring_trace.specs.Ways.{IsSimpleRing}

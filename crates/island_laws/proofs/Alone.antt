@@ -19,9 +19,9 @@ use Rattle.plane_model.proofs.PointOrder.{before_to}
 use Rattle.plane_faces.specs.Places.{Place, left_side, right_side}
 use Rattle.plane_faces.proofs.Order.{before_not_back}
 use Rattle.face_walk.specs.Places.{FaceTable, arcs_with_left, face_left_of, has_left, signed_below}
-use Rattle.ring_trace.specs.Boundary.{face_right_of, is_outward, other_way, outward_at}
-use Rattle.ring_trace.specs.Owners.{owners_of}
-use Rattle.ring_trace.proofs.BoundaryLemmas.{Contains_has, arc_below, back_again, below_arc, has_Contains, outward_from, outward_if, same_or_other}
+use Rattle.face_sets.specs.Boundary.{face_right_of, is_outward, other_way, outward_at}
+use Rattle.face_sets.specs.Owners.{owners_of}
+use Rattle.face_sets.proofs.BoundaryLemmas.{Contains_has, arc_below, back_again, below_arc, has_Contains, outward_from, outward_if, same_or_other}
 use Rattle.part_laws.proofs.LinkLemmas.{GoesAlong, arc_of_link, link_of_arc}
 use Rattle.calc_ops.specs.Islands as sets
 use Rattle.calc_ops.specs.Islands.{border}

@@ -21,8 +21,8 @@ use Rattle.arc_table.specs.Along.{GoAlong, links_of_arcs}
 use Rattle.face_walk.specs.Places.{FaceTable, arcs_with_left, face_left_of, has_left, signed_below}
 use Rattle.face_laws.specs.Faces.{IsFaceOfPlace}
 use Rattle.face_laws.proofs.StepLemmas.{IsStep, arc_of, steps_counted}
-use Rattle.ring_trace.specs.Boundary.{is_outward, other_way, outward_at}
-use Rattle.ring_trace.proofs.SetLemmas.{to_ascending}
+use Rattle.face_sets.specs.Boundary.{is_outward, other_way, outward_at}
+use Rattle.face_sets.proofs.SetLemmas.{to_ascending}
 use Rattle.part_laws.proofs.LinkLemmas.{left_at, right_at}
 use Rattle.calc_ops.specs.Islands as sets
 use Rattle.calc_ops.specs.Islands.{border, links_along}

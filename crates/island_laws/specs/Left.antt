@@ -5,7 +5,7 @@ use Rattle.plane_model.specs.Drawing.{Drawing}
 use Rattle.plane_model.specs.Snapped.{snapped}
 use Rattle.plane_faces.specs.Places.{Place}
 use Rattle.face_walk.specs.Places.{FaceTable}
-use Rattle.ring_trace.specs.Sets.{IsSetOf}
+use Rattle.face_sets.specs.Sets.{IsSetOf}
 use Rattle.calc_ops.specs.Islands.{AreWithoutIslands}
 use Rattle.region_model.specs.Region.{Region, part}
 use Rattle.region_model.specs.Answers.{Plane, Answers, HasSome}

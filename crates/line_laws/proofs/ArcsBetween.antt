@@ -29,8 +29,8 @@ use Rattle.face_laws.specs.Holders.{FeaturesHoldLeftOf}
 use Rattle.face_laws.proofs.HoldingLemmas.{polygons_sound}
 use Rattle.face_laws.proofs.LabelLemmas.{each_table_has_labels}
 use Rattle.face_laws.proofs.SideLemmas.{dart_there, features_beside_arcs}
-use Rattle.ring_trace.specs.Owners.{owners_of}
-use Rattle.ring_trace.proofs.BoundaryLemmas.{has_Contains, Contains_has}
+use Rattle.face_sets.specs.Owners.{owners_of}
+use Rattle.face_sets.proofs.BoundaryLemmas.{has_Contains, Contains_has}
 use Rattle.line_ops.specs.Inside as sides
 use Rattle.line_ops.specs.Sided.{left_sets, right_sets, sided_among}
 use Rattle.line_ops.proofs.SideLemmas.{among_below}

@@ -19,7 +19,7 @@ use Rattle.plane_faces.proofs.Order.{place_exists}
 use Rattle.plane_faces.proofs.Sighted.{label_along_a_segment}
 use Rattle.plane_faces.proofs.Sorting.{rotations_exist}
 use Rattle.face_walk.specs.Places.{FaceTable}
-use Rattle.ring_trace.proofs.BoundaryLemmas.{has_Contains, Contains_has}
+use Rattle.face_sets.proofs.BoundaryLemmas.{has_Contains, Contains_has}
 use Rattle.point_laws.proofs.Sectors.{seen_from_sectors}
 use Rattle.point_laws.proofs.SeenSectors.{sectors_are_seen}
 use Rattle.point_laws.proofs.SightLemmas.{free_points_are_seen, seeing_is_off, sight_is_free}

@@ -31,7 +31,7 @@ use Rattle.face_laws.proofs.ClassLemmas.{faces_are_classes}
 use Rattle.face_laws.proofs.DartLemmas.{twice_opposite}
 use Rattle.face_laws.proofs.PointLemmas.{whole_are_free}
 use Rattle.face_laws.proofs.SideLemmas.{dart_there, label_there}
-use Rattle.ring_trace.proofs.BoundaryLemmas.{has_Contains, Contains_has}
+use Rattle.face_sets.proofs.BoundaryLemmas.{has_Contains, Contains_has}
 use Rattle.line_ops.specs.Inside as sides
 use Rattle.point_laws.specs.Sight.{PointsOf}
 use Rattle.line_laws.specs.Lines.{AreLabelled, LeftSideIn, IsLinkInside, HasJustOne, DrawingsAreLabelled, SidesOfArcs, ArcsAreInside, BoundaryOfArcs, BoundaryIsDirected, SidesAreWhole}

@@ -25,7 +25,7 @@ use Rattle.arc_table.proofs.ArcSteps.{steps_many}
 use Rattle.arc_table.proofs.Proper.{one_link}
 use Rattle.face_laws.proofs.DartLemmas.{dart_back}
 use Rattle.face_laws.proofs.StepLemmas.{IsStep, one_place, step_moves}
-use Rattle.ring_trace.proofs.SetLemmas.{nat_order}
+use Rattle.face_sets.proofs.SetLemmas.{nat_order}
 use Rattle.plane_model.specs.Rotation.{Dart}
 use Rattle.line_ops.specs.Runs.{runs_where}
 use Rattle.region_model.specs.Answers.{Plane}

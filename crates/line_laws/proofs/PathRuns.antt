@@ -24,7 +24,7 @@ use Rattle.arc_table.proofs.ArcSteps.{step_between, steps_fit, steps_many}
 use Rattle.face_walk.specs.Places.{FaceTable}
 use Rattle.face_laws.proofs.DartLemmas.{dart_back}
 use Rattle.face_laws.proofs.StepLemmas.{IsStep, step_moves, step_on}
-use Rattle.ring_trace.proofs.BoundaryLemmas.{has_Contains, Contains_has}
+use Rattle.face_sets.proofs.BoundaryLemmas.{has_Contains, Contains_has}
 use Rattle.line_ops.specs.Inside.{is_inside, is_outside}
 use Rattle.line_ops.specs.Runs.{runs_where}
 use Rattle.point_laws.specs.Sight.{PointsOf}

@@ -19,7 +19,7 @@ use Rattle.arc_table.specs.PathArcs.{AreArcsOf, ArePathArcs, RunsFrom, round_fro
 use Rattle.face_walk.specs.Holders.{AreHolders, HolderTable}
 use Rattle.face_walk.specs.Places.{FaceTable, IsBuiltOf}
 use Rattle.face_laws.specs.Faces.{AreFreeInside, IsFaceOfPlace, SeesSide, directed_as}
-use Rattle.ring_trace.specs.Boundary.{IsOnBoundary}
+use Rattle.face_sets.specs.Boundary.{IsOnBoundary}
 use Rattle.line_ops.specs.Inside.{is_inside, is_outside, left_of, right_of}
 use Rattle.line_ops.specs.Runs.{runs_where}
 use Rattle.point_laws.specs.Sight.{PointsOf}

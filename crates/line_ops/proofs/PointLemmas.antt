@@ -11,7 +11,7 @@ use Rattle.plane_model.specs.Arcs.{SignedArc, forward}
 use Rattle.arc_table.specs.Around.{IsAround, start_of}
 use Rattle.arc_table.specs.Lookup.{IsArcAt, IsLeastAt}
 use Rattle.face_walk.specs.Places.{FaceTable, IsFaceOver, place_of}
-use Rattle.ring_trace.proofs.BoundaryLemmas.{has_Contains, Contains_has}
+use Rattle.face_sets.proofs.BoundaryLemmas.{has_Contains, Contains_has}
 use Rattle.line_ops.specs.Inside.{is_inside, left_of}
 use Rattle.line_ops.specs.Points.{Leaves, IsNode, IsInsideAt, has_some_left}
 

@@ -3,7 +3,7 @@ use Rattle.std.specs.Prelude.{ℕ, Bool, true, false, ◌&&◌, if◌then◌else
 use Rattle.std.specs.List.{range_with_len}
 use Rattle.lists.specs.Lists.{same_list}
 use Rattle.face_walk.specs.Places.{FaceTable}
-use Rattle.ring_trace.specs.Owners.{owners_of}
+use Rattle.face_sets.specs.Owners.{owners_of}
 use Rattle.line_ops.specs.Inside.{left_of}
 use Rattle.line_ops.specs.declared.sides.SidedArc.{SidedArc}
 

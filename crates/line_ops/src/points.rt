@@ -8,9 +8,9 @@ ghost use Rattle.line_ops.specs.Points.{IsInsideAt, has_some_left};
 
 use crate::inside::is_inside;
 use arc_table::ArcTable;
+use face_sets::FaceSet;
 use face_walk::Faces;
 use grid_base::{Pt, SignedArc};
-use ring_trace::FaceSet;
 
 /// Whether a vertex of the drawing is inside a set: where it is on no link, by the face in which it lies, else by the
 /// faces next to it. Takes no memory.

@@ -6,9 +6,9 @@ ghost use Rattle.line_ops.specs.Runs.{ended, runs_where};
 
 use crate::inside::is_inside;
 use arc_table::{SignedPath, SignedPaths};
+use face_sets::FaceSet;
 use face_walk::Faces;
 use grid_base::SignedArc;
-use ring_trace::FaceSet;
 use std::alloc::{AllocError, Global};
 
 /// Of which arcs runs are made.

@@ -1,14 +1,14 @@
 ghost use Rattle.std.specs.Prelude.{◌≡◌, ◌++◌, ◌∷◌, ◌<◌, [], false, ℕ, List, All, IfOk, OnOk, OnErr, filter, length, map, slice_get};
 ghost use Rattle.std.specs.Option.{option_copied, option_to_list};
-ghost use Rattle.ring_trace.specs.Owners.{AreOwners, owners_of};
+ghost use Rattle.face_sets.specs.Owners.{AreOwners, owners_of};
 ghost use Rattle.line_ops.specs.Inside.{left_of};
 ghost use Rattle.line_ops.specs.Sided.{has_both, sided, sided_among};
 ghost use Rattle.face_walk.specs.Places.{HasArc, IsBuiltOf};
 
 use arc_table::{ArcList, ArcTable};
+use face_sets::{FaceOwners, SetList};
 use face_walk::Faces;
 use grid_base::{ArcId, SignedArc};
-use ring_trace::{FaceOwners, SetList};
 use std::alloc::{AllocError, Global};
 use std::marker::Model;
 

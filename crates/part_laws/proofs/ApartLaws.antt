@@ -34,12 +34,12 @@ use Rattle.face_laws.specs.Faces.{IsFaceOfPlace}
 use Rattle.face_laws.proofs.ClassLemmas.{faces_are_classes}
 use Rattle.face_laws.proofs.LabelLemmas.{each_table_has_labels}
 use Rattle.face_laws.proofs.PointLemmas.{face_of_point, whole_are_free}
-use Rattle.ring_trace.specs.Boundary.{boundary}
-use Rattle.ring_trace.specs.Parts.{IsPieceOf}
-use Rattle.ring_trace.specs.Sets.{IsInnerFace, IsSetOf}
+use Rattle.face_sets.specs.Boundary.{boundary}
+use Rattle.face_sets.specs.Parts.{IsPieceOf}
+use Rattle.face_sets.specs.Sets.{IsInnerFace, IsSetOf}
 use Rattle.ring_trace.specs.Traced.{bounded}
 use Rattle.ring_trace.specs.Turns.{round_of}
-use Rattle.ring_trace.proofs.BoundaryLemmas.{has_Contains, Contains_has}
+use Rattle.face_sets.proofs.BoundaryLemmas.{has_Contains, Contains_has}
 use Rattle.part_laws.specs.Parts.{AreFacesOf, AreInOne, AreTraced, IsInSome, IsWithin, PolygonsAreApart, PolygonsAreJoinedPoints, PolygonsHoldByParity, PolygonsHoldTheSet, PolygonsOfADrawing, number_of}
 use Rattle.part_laws.proofs.BoundedLaws.{bounded_at, outside_is_not}
 use Rattle.part_laws.proofs.ClassLemmas.{are_classes, numbered}

@@ -21,11 +21,11 @@ use Rattle.face_walk.proofs.NumberingLemmas.{number_there}
 use Rattle.face_laws.specs.Faces.{AreFreeInside, IsFaceOfPlace}
 use Rattle.face_laws.proofs.ClassLemmas.{faces_are_classes}
 use Rattle.face_laws.proofs.LabelLemmas.{each_table_has_labels}
-use Rattle.ring_trace.specs.Boundary.{IsOnBoundary, boundary, face_right_of, is_outward, other_way}
-use Rattle.ring_trace.specs.Joined.{AreParts}
-use Rattle.ring_trace.specs.Sets.{IsInnerFace, IsSetOf}
+use Rattle.face_sets.specs.Boundary.{IsOnBoundary, boundary, face_right_of, is_outward, other_way}
+use Rattle.face_sets.specs.Joined.{AreParts}
+use Rattle.face_sets.specs.Sets.{IsInnerFace, IsSetOf}
 use Rattle.ring_trace.specs.Traced.{bounded}
-use Rattle.ring_trace.proofs.BoundaryLemmas.{arc_below, back_again, has_Contains, Contains_has, same_or_other}
+use Rattle.face_sets.proofs.BoundaryLemmas.{arc_below, back_again, has_Contains, Contains_has, same_or_other}
 use Rattle.part_laws.specs.Parts.{PartsHaveBoundaries}
 use Rattle.part_laws.proofs.LinkLemmas.{arc_of_link, link_of_arc}
 use Rattle.part_laws.proofs.TracedLaws.{on_boundary}

@@ -9,10 +9,10 @@ use Rattle.plane_faces.specs.Places.{Place, IsBeside, left_side, right_side}
 use Rattle.arc_table.specs.Along.{GoAlong}
 use Rattle.face_walk.specs.Places.{FaceTable, HasArc, IsBuiltOf, face_left_of}
 use Rattle.face_laws.specs.Faces.{IsFaceOfPlace}
-use Rattle.ring_trace.specs.Boundary.{face_right_of}
-use Rattle.ring_trace.specs.Joined.{AreJoined, AreParts, IsChain}
-use Rattle.ring_trace.proofs.BoundaryLemmas.{back_again, has_Contains, Contains_has, same_or_other}
-use Rattle.ring_trace.proofs.JoinedLemmas.{joined_over}
+use Rattle.face_sets.specs.Boundary.{face_right_of}
+use Rattle.face_sets.specs.Joined.{AreJoined, AreParts, IsChain}
+use Rattle.face_sets.proofs.BoundaryLemmas.{back_again, has_Contains, Contains_has, same_or_other}
+use Rattle.face_sets.proofs.JoinedLemmas.{joined_over}
 use Rattle.part_laws.specs.Parts.{PartsAreClasses, number_of}
 use Rattle.part_laws.proofs.LinkLemmas.{GoesAlong, arc_of_link, link_of_arc}
 

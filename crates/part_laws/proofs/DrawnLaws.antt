@@ -16,7 +16,7 @@ use Rattle.face_laws.proofs.LabelLemmas.{each_table_has_labels}
 use Rattle.face_laws.proofs.PointLemmas.{face_of_point, whole_are_free}
 use Rattle.ring_trace.specs.Traced.{bounded}
 use Rattle.ring_trace.specs.Turns.{MayStandBefore, round_of}
-use Rattle.ring_trace.proofs.BoundaryLemmas.{has_Contains, Contains_has}
+use Rattle.face_sets.proofs.BoundaryLemmas.{has_Contains, Contains_has}
 use Rattle.part_laws.specs.Parts.{IsWithin, TracedPolygonsOfADrawing}
 use Rattle.part_laws.proofs.TracedLaws.{all_back, nothing_before, split_map, traced_polygons_have_exteriors}
 

@@ -13,12 +13,12 @@ use Rattle.plane_model.specs.Arcs.{SignedArc, begins_arc, points_of}
 use Rattle.plane_model.specs.Rings.{AreExteriorAndHoles, BeginsAtLeastArc, IsSimple, least_arc, turn_at_least}
 use Rattle.plane_faces.specs.Rings.{IsRing}
 use Rattle.arc_table.specs.Around.{start_of}
-use Rattle.ring_trace.specs.Boundary.{IsOnBoundary}
+use Rattle.face_sets.specs.Boundary.{IsOnBoundary}
 use Rattle.ring_trace.specs.Pairing.{stop_of}
 use Rattle.ring_trace.specs.Traced.{BeginsWithLeast, bounded, is_of_boundary, once_if, times, times_round}
 use Rattle.ring_trace.specs.Turns.{first_number, round_of}
 use Rattle.ring_trace.specs.Ways.{IsSimpleRing}
-use Rattle.ring_trace.proofs.BoundaryLemmas.{same_or_other}
+use Rattle.face_sets.proofs.BoundaryLemmas.{same_or_other}
 use Rattle.ring_trace.proofs.LeastTurn.{points_counted}
 use Rattle.ring_trace.proofs.PartSides.{of_test}
 use Rattle.face_walk.specs.Places.{FaceTable, face_left_of}

@@ -14,7 +14,7 @@ use Rattle.face_walk.specs.Places.{FaceTable, face_left_of}
 use Rattle.face_laws.specs.Faces.{IsFaceOfPlace}
 use Rattle.face_laws.proofs.DartLemmas.{one_of_two, twice_opposite}
 use Rattle.face_laws.proofs.StepLemmas.{IsStep, arc_of, step_at, step_on, step_of_link, steps_counted}
-use Rattle.ring_trace.specs.Boundary.{other_way}
+use Rattle.face_sets.specs.Boundary.{other_way}
 
 module _ (S : List Segment) (arr : IsArrangement S) (arcs : List Path) (long : All (λ arc. 1 < length arc) arcs) (along : GoAlong S arcs) (faces : FaceTable) (label : Place → ℕ) (by : IsFaceOfPlace arcs faces label) where
   -- left of the dart of a step is the face left of the arc, and right of it that right of the arc

@@ -29,13 +29,13 @@ use Rattle.face_laws.specs.Faces.{AreFreeInside, IsFaceOfPlace}
 use Rattle.face_laws.proofs.ClassLemmas.{faces_are_classes}
 use Rattle.face_laws.proofs.DartLemmas.{one_of_two, twice_opposite}
 use Rattle.face_laws.proofs.StepLemmas.{step_of_link}
-use Rattle.ring_trace.specs.Boundary.{IsOnBoundary, face_right_of}
+use Rattle.face_sets.specs.Boundary.{IsOnBoundary, face_right_of}
 use Rattle.ring_trace.specs.Pairing.{stop_of}
-use Rattle.ring_trace.specs.Sets.{IsInnerFace}
+use Rattle.face_sets.specs.Sets.{IsInnerFace}
 use Rattle.ring_trace.specs.Traced.{is_of_boundary, once_if, same_arc, times, times_round}
 use Rattle.ring_trace.specs.Turns.{round_of}
 use Rattle.ring_trace.specs.Ways.{IsSimpleRing}
-use Rattle.ring_trace.proofs.BoundaryLemmas.{has_Contains, Contains_has, same_or_other}
+use Rattle.face_sets.proofs.BoundaryLemmas.{has_Contains, Contains_has, same_or_other}
 use Rattle.ring_trace.proofs.PartSides.{of_test, sum_by_same, sum_by_none}
 use Rattle.part_laws.specs.Parts.{PolygonsHaveExteriors, number_of}
 use Rattle.face_laws.proofs.LabelLemmas.{same_dart}

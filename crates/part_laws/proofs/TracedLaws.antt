@@ -15,11 +15,11 @@ use Rattle.plane_model.specs.Rings.{turn_at_least}
 use Rattle.plane_faces.specs.Places.{Place}
 use Rattle.plane_faces.specs.Rings.{IsPolygon}
 use Rattle.face_walk.specs.Places.{FaceTable, face_left_of, signed_below}
-use Rattle.ring_trace.specs.Boundary.{IsOnBoundary, boundary, is_outward}
+use Rattle.face_sets.specs.Boundary.{IsOnBoundary, boundary, is_outward}
 use Rattle.ring_trace.specs.Traced.{BeginsWithLeast, bounded, is_of_boundary, once_if}
 use Rattle.ring_trace.specs.Turns.{MayStandBefore, is_left, round_of}
 use Rattle.ring_trace.proofs.PartSides.{of_test}
-use Rattle.ring_trace.proofs.BoundaryLemmas.{below_arc}
+use Rattle.face_sets.proofs.BoundaryLemmas.{below_arc}
 use Rattle.part_laws.specs.Parts.{HasExteriorFirst, TracedPolygonsHaveExteriors}
 use Rattle.part_laws.proofs.PolygonLaws.{polygons_have_exteriors}
 

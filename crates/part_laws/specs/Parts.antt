@@ -19,10 +19,10 @@ use Rattle.arc_table.specs.Around.{start_of}
 use Rattle.arc_table.specs.WholeArcs.{IsWholeArc}
 use Rattle.face_walk.specs.Places.{FaceTable, IsBuiltOf, IsFaceOver}
 use Rattle.face_laws.specs.Faces.{AreFreeInside, IsFaceOfPlace}
-use Rattle.ring_trace.specs.Boundary.{IsOnBoundary}
-use Rattle.ring_trace.specs.Joined.{AreParts}
+use Rattle.face_sets.specs.Boundary.{IsOnBoundary}
+use Rattle.face_sets.specs.Joined.{AreParts}
 use Rattle.ring_trace.specs.Pairing.{stop_of}
-use Rattle.ring_trace.specs.Sets.{IsSetOf}
+use Rattle.face_sets.specs.Sets.{IsSetOf}
 use Rattle.ring_trace.specs.Traced.{BeginsWithLeast, UseParts, UsesBoundary, bounded, is_of_boundary, once_if, times_round}
 use Rattle.ring_trace.specs.Turns.{MayStandBefore, first_number, round_of}
 use Rattle.ring_trace.specs.Ways.{IsSimpleRing}

@@ -15,8 +15,8 @@ use Rattle.plane_model.specs.Sides.{IsInside}
 use Rattle.plane_model.specs.Snapped.{links_of, snapped}
 use Rattle.plane_faces.specs.Places.{Place}
 use Rattle.face_walk.specs.Places.{FaceTable}
-use Rattle.ring_trace.specs.Owners.{owners_of}
-use Rattle.ring_trace.proofs.BoundaryLemmas.{Contains_has, has_Contains}
+use Rattle.face_sets.specs.Owners.{owners_of}
+use Rattle.face_sets.proofs.BoundaryLemmas.{Contains_has, has_Contains}
 use Rattle.line_ops.specs.Points.{IsInsideAt}
 use Rattle.region_model.specs.Region.{Region, any_of, Has}
 use Rattle.region_model.specs.Answers.{Answers}

@@ -1,12 +1,12 @@
 //! A drawing laid out as arcs, faces and holders.
 ghost use Rattle.std.specs.Prelude.{◌≡◌, ◌<◌, All, IfOk, length};
 ghost use Rattle.face_walk.specs.Places.{IsBuiltOf};
-ghost use Rattle.ring_trace.specs.Sets.{IsInnerFace, IsSetOf};
+ghost use Rattle.face_sets.specs.Sets.{IsInnerFace, IsSetOf};
 
 use arc_table::ArcTable;
+use face_sets::{FaceSet, SetList};
 use face_walk::{Faces, Labels};
 use grid_base::{Drawing, FaceId, FeatId, Snapped};
-use ring_trace::{FaceSet, SetList};
 use snap_round::{SnapFault, snap};
 use std::alloc::{AllocError, Global};
 

@@ -12,6 +12,7 @@
 mod arc_table_calls;
 mod bucket_grid_calls;
 mod drawings;
+mod face_sets_calls;
 mod face_walk_calls;
 mod grid_base_calls;
 mod hot_pixels_calls;
@@ -87,6 +88,7 @@ fn answer_of_laid(
     match of {
         "arc_table" => arc_table_calls::answer(alloc, &laid.arcs, call, case),
         "face_walk" => face_walk_calls::answer(alloc, laid, call, case),
+        "face_sets" => face_sets_calls::answer(alloc, laid, call, case),
         "ring_trace" => ring_trace_calls::answer(alloc, laid, call, case),
         "region_ops" => region_ops_calls::answer(alloc, laid, call, case),
         "line_ops" => line_ops_calls::answer(alloc, laid, call, case),

@@ -6,15 +6,16 @@
 //!   feature, a line each, after a line `feature`.
 //! - `mosaic_sets` answers which features hold each piece, and how many faces it has, a line each.
 ghost use Rattle.std.specs.Prelude.{All};
-ghost use Rattle.ring_trace.specs.Sets.{IsSetOf};
+ghost use Rattle.face_sets.specs.Sets.{IsSetOf};
 
 use crate::laid::{Holder, Laid, features, held};
 use crate::texts::polygons_text;
 use case_lists::{number_at, text_at, told, unknown_call};
+use face_sets::{FaceSet, SetList};
 use grid_base::OverlapRule;
 use json_read::Json;
 use region_ops::{clean_sets, clip_sets, erase_sets, mosaic_sets};
-use ring_trace::{FaceSet, SetList, trace};
+use ring_trace::trace;
 use std::alloc::{AllocError, Global};
 use text_core::Bytes;
 

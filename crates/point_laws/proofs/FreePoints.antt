@@ -22,7 +22,7 @@ use Rattle.face_laws.proofs.ClassLemmas.{faces_are_classes}
 use Rattle.face_laws.proofs.PointLemmas.{face_of_point, whole_are_free}
 use Rattle.face_laws.proofs.StepLemmas.{IsStep, arc_of, begins_with, step_between, step_of_link, steps_counted}
 use Rattle.line_ops.specs.Points.{IsNode}
-use Rattle.ring_trace.proofs.BoundaryLemmas.{has_Contains, Contains_has}
+use Rattle.face_sets.proofs.BoundaryLemmas.{has_Contains, Contains_has}
 use Rattle.point_laws.specs.Sight.{PointsOf, FreePointsAreInside, FreePointsOfADrawing}
 use Rattle.point_laws.proofs.SightLemmas.{sight_is_free, free_points_are_seen}
 

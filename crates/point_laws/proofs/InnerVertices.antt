@@ -25,7 +25,7 @@ use Rattle.face_laws.proofs.DartLemmas.{step_head, step_tail, two_there}
 use Rattle.face_laws.proofs.StepLemmas.{IsStep, alone_inside, arc_of, step_at, step_between, step_moves, step_on, steps_counted, they_meet}
 use Rattle.line_ops.specs.Inside as sides
 use Rattle.line_ops.specs.Points.{IsNode}
-use Rattle.ring_trace.proofs.BoundaryLemmas.{has_Contains, Contains_has}
+use Rattle.face_sets.proofs.BoundaryLemmas.{has_Contains, Contains_has}
 use Rattle.point_laws.specs.Sight.{PointsOf, InnerVerticesAreInside}
 use Rattle.point_laws.proofs.Sectors.{seen_from_sectors}
 use Rattle.point_laws.proofs.SeenSectors.{sectors_are_seen}

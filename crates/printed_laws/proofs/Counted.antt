@@ -11,7 +11,7 @@ use Rattle.plane_model.specs.Drawing.{Drawing, Polygon, steps, steps_of_paths}
 use Rattle.plane_model.specs.Parity.{is_below, links_of_paths, odd_count, rings_hold, xor}
 use Rattle.plane_model.specs.Sides.{Points}
 use Rattle.plane_parity.proofs.Telescope.{odd_count-append}
-use Rattle.ring_trace.proofs.SetLemmas.{nat_order, to_ascending}
+use Rattle.face_sets.proofs.SetLemmas.{nat_order, to_ascending}
 use Rattle.region_model.specs.Region.{Region, IsInPart, part}
 use Rattle.region_model.specs.Answers.{Answers, PointsOf, plane_of}
 use Rattle.region_model.specs.Printed.{ArePrinted, FitsPartOf, IsOff}

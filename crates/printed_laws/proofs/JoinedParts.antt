@@ -24,7 +24,7 @@ use Rattle.plane_faces.proofs.Joining.{face_labelling}
 use Rattle.plane_faces.proofs.Order.{place_exists}
 use Rattle.plane_faces.proofs.Sighted.{label_from_left, label_from_right}
 use Rattle.plane_faces.proofs.Sorting.{rotations_exist}
-use Rattle.ring_trace.proofs.SetLemmas.{to_ascending}
+use Rattle.face_sets.proofs.SetLemmas.{to_ascending}
 use Rattle.region_model.specs.Region.{Region, Has, IsInPart}
 use Rattle.region_model.specs.Printed.{PolygonsAreParts, polygon_holds}
 use Rattle.printed_laws.proofs.Agreed.{readings_agree}

@@ -24,8 +24,8 @@ use Rattle.face_walk.specs.Places.{FaceTable, IsBuiltOf, arcs_with_left, face_le
 use Rattle.face_walk.proofs.AreaLemmas.{area_of_signed}
 use Rattle.face_laws.specs.Faces.{IsFaceOfPlace}
 use Rattle.face_laws.proofs.StepLemmas.{IsStep, arc_of}
-use Rattle.ring_trace.specs.Sets.{IsInnerFace, IsSetOf}
-use Rattle.ring_trace.proofs.SetLemmas.{to_ascending}
+use Rattle.face_sets.specs.Sets.{IsInnerFace, IsSetOf}
+use Rattle.face_sets.proofs.SetLemmas.{to_ascending}
 use Rattle.part_laws.proofs.LinkLemmas.{left_at, right_at}
 use Rattle.region_ops.specs.Cleaned.{area_of}
 use Rattle.region_laws.specs.Followed.{AreasAreThoseOfRegions}

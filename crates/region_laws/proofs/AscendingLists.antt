@@ -5,7 +5,7 @@ use Rattle.std.proofs.lemmas.List.Elements.{Contains-append_left, Contains-appen
 use Rattle.lists.specs.Lists.{list_before}
 use Rattle.lists.proofs.Ascending.{IsAscending}
 use Rattle.lists.proofs.Members.{Contains-cases, Contains-head, Contains-later, Contains-map, Contains-nil, filter-Contains, map-Contains}
-use Rattle.ring_trace.proofs.SetLemmas.{nat_order}
+use Rattle.face_sets.proofs.SetLemmas.{nat_order}
 use Rattle.region_model.specs.PolygonCommands.{ascending_lists}
 
 -- ---- ascending lists of anything

@@ -23,13 +23,13 @@ use Rattle.plane_faces.proofs.Order.{before_not_back}
 use Rattle.grid_base.specs.declared.kinds.OverlapRule.{OverlapRule}
 use Rattle.grid_base.specs.declared.kinds.OverlapRule.TheVariants.{MinId, MaxId, MinArea, MaxArea}
 use Rattle.face_walk.specs.Places.{FaceTable, face_left_of}
-use Rattle.ring_trace.specs.Boundary.{face_right_of, other_way}
-use Rattle.ring_trace.specs.Gaps.{AreGaps, has_outer, outside_of}
-use Rattle.ring_trace.specs.Parts.{IsPieceOf}
-use Rattle.ring_trace.specs.Sets.{IsSetOf}
-use Rattle.ring_trace.proofs.BoundaryLemmas.{back_again, same_or_other}
-use Rattle.ring_trace.proofs.GapLemmas.{gaps_inner}
-use Rattle.ring_trace.proofs.SetLemmas.{nat_order}
+use Rattle.face_sets.specs.Boundary.{face_right_of, other_way}
+use Rattle.face_sets.specs.Gaps.{AreGaps, has_outer, outside_of}
+use Rattle.face_sets.specs.Parts.{IsPieceOf}
+use Rattle.face_sets.specs.Sets.{IsSetOf}
+use Rattle.face_sets.proofs.BoundaryLemmas.{back_again, same_or_other}
+use Rattle.face_sets.proofs.GapLemmas.{gaps_inner}
+use Rattle.face_sets.proofs.SetLemmas.{nat_order}
 use Rattle.part_laws.proofs.LinkLemmas.{arc_of_link, link_of_arc}
 use Rattle.region_ops.specs.Cleaned.{IsCleaned, area_of, is_lost, ranks_before}
 use Rattle.region_ops.specs.Dissolved.{set_at}

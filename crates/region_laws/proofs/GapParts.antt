@@ -11,11 +11,11 @@ use Rattle.lists.proofs.Ascending.{Contains-ascending, ascending-Contains}
 use Rattle.lists.proofs.Members.{Contains-joined_up, filter-Contains, joined_up-Contains}
 use Rattle.plane_model.specs.Arcs.{SignedArc}
 use Rattle.face_walk.specs.Places.{FaceTable}
-use Rattle.ring_trace.specs.Boundary.{IsLeastArc, face_right_of}
-use Rattle.ring_trace.specs.Joined.{AreJoined, AreParts, IsChain}
-use Rattle.ring_trace.specs.Parts.{IsPieceOf}
-use Rattle.ring_trace.proofs.JoinedLemmas.{joined_back, joined_itself, joined_over}
-use Rattle.ring_trace.proofs.SetLemmas.{nat_order}
+use Rattle.face_sets.specs.Boundary.{IsLeastArc, face_right_of}
+use Rattle.face_sets.specs.Joined.{AreJoined, AreParts, IsChain}
+use Rattle.face_sets.specs.Parts.{IsPieceOf}
+use Rattle.face_sets.proofs.JoinedLemmas.{joined_back, joined_itself, joined_over}
+use Rattle.face_sets.proofs.SetLemmas.{nat_order}
 
 module _ (faces : FaceTable) (set : List ℕ) (parts : List (List ℕ)) (are : AreParts faces set parts) (test : List ℕ → Bool) where
   abbrev kept : List (List ℕ)

@@ -24,12 +24,12 @@ use Rattle.arc_table.specs.Along.{GoAlong}
 use Rattle.face_walk.specs.Places.{FaceTable, IsBuiltOf}
 use Rattle.face_laws.specs.Faces.{AreFreeInside, IsFaceOfPlace}
 use Rattle.face_laws.proofs.StepLemmas.{step_on}
-use Rattle.ring_trace.specs.Gaps.{has_outer, outside_of}
-use Rattle.ring_trace.specs.Joined.{AreParts}
-use Rattle.ring_trace.specs.Sets.{IsInnerFace, IsSetOf}
-use Rattle.ring_trace.proofs.BoundaryLemmas.{Contains_has, has_Contains}
-use Rattle.ring_trace.proofs.GapLemmas.{gaps_inner}
-use Rattle.ring_trace.proofs.SetLemmas.{nat_order}
+use Rattle.face_sets.specs.Gaps.{has_outer, outside_of}
+use Rattle.face_sets.specs.Joined.{AreParts}
+use Rattle.face_sets.specs.Sets.{IsInnerFace, IsSetOf}
+use Rattle.face_sets.proofs.BoundaryLemmas.{Contains_has, has_Contains}
+use Rattle.face_sets.proofs.GapLemmas.{gaps_inner}
+use Rattle.face_sets.proofs.SetLemmas.{nat_order}
 use Rattle.part_laws.specs.Parts.{number_of}
 use Rattle.part_laws.proofs.BoundedLaws.{outside_is_not}
 use Rattle.part_laws.proofs.ClassLemmas.{are_classes, numbered}

@@ -13,8 +13,8 @@ use Rattle.plane_model.specs.Drawing.{Drawing}
 use Rattle.plane_model.specs.Snapped.{snapped}
 use Rattle.plane_faces.specs.Places.{Place}
 use Rattle.face_walk.specs.Places.{FaceTable}
-use Rattle.ring_trace.specs.Sets.{IsSetOf}
-use Rattle.ring_trace.proofs.SetLemmas.{from_ascending}
+use Rattle.face_sets.specs.Sets.{IsSetOf}
+use Rattle.face_sets.proofs.SetLemmas.{from_ascending}
 use Rattle.region_ops.specs.Mosaic.{Group, IsMosaic, faces_of, items_of_groups}
 use Rattle.region_ops.specs.declared.item_lists.MosaicItem.{MosaicItem}
 use Rattle.region_ops.proofs.ListOrder.{list_order}

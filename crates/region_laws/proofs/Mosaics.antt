@@ -16,10 +16,10 @@ use Rattle.plane_faces.specs.Places.{Place, IsPlaceOf}
 use Rattle.plane_faces.proofs.Order.{place_exists}
 use Rattle.plane_faces.proofs.FaceLaws.{place_beside}
 use Rattle.face_walk.specs.Places.{FaceTable}
-use Rattle.ring_trace.specs.Owners.{owners_of}
-use Rattle.ring_trace.specs.Sets.{IsInnerFace, IsSetOf}
-use Rattle.ring_trace.proofs.BoundaryLemmas.{Contains_has, has_Contains}
-use Rattle.ring_trace.proofs.SetLemmas.{from_ascending, nat_order, to_ascending}
+use Rattle.face_sets.specs.Owners.{owners_of}
+use Rattle.face_sets.specs.Sets.{IsInnerFace, IsSetOf}
+use Rattle.face_sets.proofs.BoundaryLemmas.{Contains_has, has_Contains}
+use Rattle.face_sets.proofs.SetLemmas.{from_ascending, nat_order, to_ascending}
 use Rattle.region_ops.specs.Mosaic.{Group, faces_of}
 use Rattle.region_ops.proofs.ListOrder.{same_from_test, test_from_same}
 use Rattle.region_model.specs.Region.{Region, Has}

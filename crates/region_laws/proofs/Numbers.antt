@@ -6,8 +6,8 @@ use Rattle.std.proofs.lemmas.List.FromFn.{get_or-range_with_len, length-range_wi
 use Rattle.lists.specs.Lists.{has, numbers_from}
 use Rattle.lists.proofs.Ascending.{IsAscending}
 use Rattle.lists.proofs.Members.{Contains-cases, Contains-head, Contains-later, Contains-nil}
-use Rattle.ring_trace.specs.Owners.{owners_of}
-use Rattle.ring_trace.proofs.BoundaryLemmas.{Contains_has, has_Contains}
+use Rattle.face_sets.specs.Owners.{owners_of}
+use Rattle.face_sets.proofs.BoundaryLemmas.{Contains_has, has_Contains}
 
 pub any_there : {X : Type 0} (t : X → Bool) (xs : List X) → list_any t xs ≡ true → (x : X) × Contains xs x × (t x ≡ true)
 any_there t [] e = absurd (let f : false ≡ true = e in cc)

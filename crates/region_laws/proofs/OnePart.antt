@@ -16,15 +16,15 @@ use Rattle.plane_faces.specs.UsedOnce.{border_steps}
 use Rattle.arc_table.specs.Around.{start_of}
 use Rattle.face_walk.specs.Places.{FaceTable}
 use Rattle.face_laws.specs.Faces.{IsFaceOfPlace}
-use Rattle.ring_trace.specs.Boundary.{boundary, face_right_of}
-use Rattle.ring_trace.specs.Joined.{AreJoined, AreParts, IsChain}
+use Rattle.face_sets.specs.Boundary.{boundary, face_right_of}
+use Rattle.face_sets.specs.Joined.{AreJoined, AreParts, IsChain}
 use Rattle.ring_trace.specs.Pairing.{stop_of}
-use Rattle.ring_trace.specs.Parts.{IsPieceOf}
-use Rattle.ring_trace.specs.Sets.{IsInnerFace, IsSetOf}
+use Rattle.face_sets.specs.Parts.{IsPieceOf}
+use Rattle.face_sets.specs.Sets.{IsInnerFace, IsSetOf}
 use Rattle.ring_trace.specs.Traced.{BeginsWithLeast, UsesBoundary, bounded, is_of_boundary, once_if, times_round}
 use Rattle.ring_trace.specs.Turns.{MayStandBefore, round_of}
 use Rattle.ring_trace.specs.Ways.{IsSimpleRing}
-use Rattle.ring_trace.proofs.JoinedLemmas.{joined_over}
+use Rattle.face_sets.proofs.JoinedLemmas.{joined_over}
 use Rattle.part_laws.specs.Parts.{AreFacesOf, AreTraced}
 use Rattle.part_laws.proofs.BoundedLaws.{parts_have_boundaries}
 use Rattle.part_laws.proofs.TogetherLaws.{traces_use_the_border}

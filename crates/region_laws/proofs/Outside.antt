@@ -30,9 +30,9 @@ use Rattle.plane_faces.proofs.Tables.{place_is_one}
 use Rattle.arc_table.specs.Along.{GoAlong}
 use Rattle.face_walk.specs.Places.{FaceTable, IsBuiltOf}
 use Rattle.face_laws.specs.Faces.{IsFaceOfPlace}
-use Rattle.ring_trace.specs.Gaps.{outside_of}
-use Rattle.ring_trace.specs.Joined.{AreParts}
-use Rattle.ring_trace.proofs.BoundaryLemmas.{Contains_has, has_Contains}
+use Rattle.face_sets.specs.Gaps.{outside_of}
+use Rattle.face_sets.specs.Joined.{AreParts}
+use Rattle.face_sets.proofs.BoundaryLemmas.{Contains_has, has_Contains}
 use Rattle.part_laws.specs.Parts.{number_of}
 use Rattle.part_laws.proofs.ClassLemmas.{are_classes, numbered}
 use Rattle.region_laws.proofs.Numbers.{in_range}

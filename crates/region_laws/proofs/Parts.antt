@@ -29,12 +29,12 @@ use Rattle.face_walk.specs.Places.{FaceTable, IsBuiltOf, face_left_of, signed_be
 use Rattle.face_laws.specs.Faces.{AreFreeInside, IsFaceOfPlace}
 use Rattle.face_laws.proofs.DartLemmas.{one_of_two, twice_opposite}
 use Rattle.face_laws.proofs.StepLemmas.{IsStep, arc_of, step_at, step_on, steps_counted}
-use Rattle.ring_trace.specs.Boundary.{IsLeastArc, IsOnBoundary, boundary, face_right_of, is_outward, other_way}
-use Rattle.ring_trace.specs.Joined.{AreParts}
-use Rattle.ring_trace.specs.Sets.{IsSetOf}
-use Rattle.ring_trace.proofs.BoundaryLemmas.{Contains_has, arc_below, back_again, outward_if, same_or_other}
-use Rattle.ring_trace.proofs.JoinedLemmas.{joined_over}
-use Rattle.ring_trace.proofs.SetLemmas.{nat_order, to_ascending}
+use Rattle.face_sets.specs.Boundary.{IsLeastArc, IsOnBoundary, boundary, face_right_of, is_outward, other_way}
+use Rattle.face_sets.specs.Joined.{AreParts}
+use Rattle.face_sets.specs.Sets.{IsSetOf}
+use Rattle.face_sets.proofs.BoundaryLemmas.{Contains_has, arc_below, back_again, outward_if, same_or_other}
+use Rattle.face_sets.proofs.JoinedLemmas.{joined_over}
+use Rattle.face_sets.proofs.SetLemmas.{nat_order, to_ascending}
 use Rattle.part_laws.specs.Parts.{number_of}
 use Rattle.part_laws.proofs.BoundedLaws.{each_has_arc, outside_is_not}
 use Rattle.part_laws.proofs.ClassLemmas.{are_classes, numbered}

@@ -14,12 +14,12 @@ use Rattle.plane_model.specs.Points.{Path}
 use Rattle.plane_model.specs.Arcs.{SignedArc}
 use Rattle.plane_faces.specs.Labels.{relabel}
 use Rattle.face_walk.specs.Places.{FaceTable, HasArc, IsBuiltOf, face_left_of, signed_below}
-use Rattle.ring_trace.specs.Boundary.{IsLeastArc, IsOnBoundary, boundary, face_right_of, is_outward}
-use Rattle.ring_trace.specs.Joined.{AreJoined, AreParts, IsChain}
-use Rattle.ring_trace.specs.Parts.{IsPieceOf}
-use Rattle.ring_trace.proofs.BoundaryLemmas.{Contains_has, arc_below, below_arc, has_Contains, one_place, outward_from, outward_if, same_or_other}
-use Rattle.ring_trace.proofs.JoinedLemmas.{joined_back, joined_itself, joined_on, joined_over}
-use Rattle.ring_trace.proofs.SetLemmas.{from_ascending, nat_order}
+use Rattle.face_sets.specs.Boundary.{IsLeastArc, IsOnBoundary, boundary, face_right_of, is_outward}
+use Rattle.face_sets.specs.Joined.{AreJoined, AreParts, IsChain}
+use Rattle.face_sets.specs.Parts.{IsPieceOf}
+use Rattle.face_sets.proofs.BoundaryLemmas.{Contains_has, arc_below, below_arc, has_Contains, one_place, outward_from, outward_if, same_or_other}
+use Rattle.face_sets.proofs.JoinedLemmas.{joined_back, joined_itself, joined_on, joined_over}
+use Rattle.face_sets.proofs.SetLemmas.{from_ascending, nat_order}
 use Rattle.region_laws.specs.Answered.{PartsExist}
 use Rattle.region_laws.proofs.Least.{lowest, lowest_least, lowest_there}
 use Rattle.region_laws.proofs.TieLaws.{filter_same}

@@ -11,9 +11,9 @@ use Rattle.lists.proofs.Members.{Contains-cases, Contains-filter, Contains-flat_
 use Rattle.plane_model.specs.Points.{RationalPoint, Path}
 use Rattle.plane_model.specs.Drawing.{Drawing}
 use Rattle.plane_faces.specs.Places.{Place}
-use Rattle.ring_trace.specs.Owners.{owners_of}
-use Rattle.ring_trace.proofs.BoundaryLemmas.{Contains_has, has_Contains}
-use Rattle.ring_trace.proofs.SetLemmas.{nat_order}
+use Rattle.face_sets.specs.Owners.{owners_of}
+use Rattle.face_sets.proofs.BoundaryLemmas.{Contains_has, has_Contains}
+use Rattle.face_sets.proofs.SetLemmas.{nat_order}
 use Rattle.region_ops.specs.Cleaned.{area_of, is_lost, ranks_before}
 use Rattle.region_ops.specs.Cut.{meet, minus}
 use Rattle.region_ops.specs.Dissolved.{set_at, union_of}

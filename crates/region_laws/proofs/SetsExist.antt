@@ -17,12 +17,12 @@ use Rattle.plane_faces.specs.Places.{Place}
 use Rattle.face_walk.specs.Crossings.{outer_of}
 use Rattle.face_walk.specs.Holders.{AreHolders, HolderTable, list_at}
 use Rattle.face_walk.specs.Places.{FaceTable}
-use Rattle.ring_trace.specs.Gaps.{has_outer, outside_of}
-use Rattle.ring_trace.specs.Joined.{AreParts}
-use Rattle.ring_trace.specs.Sets.{IsInnerFace, IsSetOf}
-use Rattle.ring_trace.proofs.BoundaryLemmas.{Contains_has, has_Contains}
-use Rattle.ring_trace.proofs.GapLemmas.{gaps_inner, outside_rises}
-use Rattle.ring_trace.proofs.SetLemmas.{from_ascending, nat_order}
+use Rattle.face_sets.specs.Gaps.{has_outer, outside_of}
+use Rattle.face_sets.specs.Joined.{AreParts}
+use Rattle.face_sets.specs.Sets.{IsInnerFace, IsSetOf}
+use Rattle.face_sets.proofs.BoundaryLemmas.{Contains_has, has_Contains}
+use Rattle.face_sets.proofs.GapLemmas.{gaps_inner, outside_rises}
+use Rattle.face_sets.proofs.SetLemmas.{from_ascending, nat_order}
 use Rattle.region_ops.specs.Cut.{meet, minus}
 use Rattle.region_ops.specs.Filled.{all_faces}
 use Rattle.std.proofs.lemmas.List.Kept.{IsStrictlyIncreasing-filter}

@@ -10,7 +10,7 @@ use Rattle.plane_model.specs.Drawing.{Drawing}
 use Rattle.plane_model.specs.Snapped.{links_of, snapped}
 use Rattle.plane_faces.specs.Places.{Place, left_side, right_side}
 use Rattle.face_walk.specs.Places.{FaceTable}
-use Rattle.ring_trace.proofs.BoundaryLemmas.{Contains_has, has_Contains}
+use Rattle.face_sets.proofs.BoundaryLemmas.{Contains_has, has_Contains}
 use Rattle.region_model.specs.Region.{Region, Has}
 use Rattle.region_laws.specs.Regions.{Follows}
 use Rattle.region_model.specs.Answers.{AreSides}

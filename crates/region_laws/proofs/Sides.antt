@@ -17,7 +17,7 @@ use Rattle.plane_faces.proofs.Order.{place_exists}
 use Rattle.plane_faces.proofs.Sighted.{label_from_left, label_from_right}
 use Rattle.plane_faces.proofs.Sorting.{rotations_exist}
 use Rattle.plane_faces.proofs.Tables.{place_is_one}
-use Rattle.ring_trace.proofs.BoundaryLemmas.{Contains_has, has_Contains}
+use Rattle.face_sets.proofs.BoundaryLemmas.{Contains_has, has_Contains}
 use Rattle.region_laws.proofs.OffLinks.{off_from_left, off_from_right}
 
 module _ (S : List Segment) (arr : IsArrangement S) (distinct : IsDistinct S) (label : Place → ℕ) (labelling : IsFaceLabelling S label) where

@@ -25,9 +25,9 @@ use Rattle.face_laws.specs.Faces.{directed_as}
 use Rattle.face_laws.proofs.ShownLemmas.{faces_have_arcs}
 use Rattle.face_laws.proofs.SideLemmas.{dart_there, label_there}
 use Rattle.face_laws.proofs.StepLemmas.{arc_of}
-use Rattle.ring_trace.specs.Sets.{IsInnerFace, IsSetOf}
-use Rattle.ring_trace.proofs.BoundaryLemmas.{Contains_has, same_or_other}
-use Rattle.ring_trace.proofs.SetLemmas.{nat_order, to_ascending}
+use Rattle.face_sets.specs.Sets.{IsInnerFace, IsSetOf}
+use Rattle.face_sets.proofs.BoundaryLemmas.{Contains_has, same_or_other}
+use Rattle.face_sets.proofs.SetLemmas.{nat_order, to_ascending}
 use Rattle.region_ops.specs.Cleaned.{area_of, ranks_before}
 use Rattle.region_ops.specs.Dissolved.{set_at}
 use Rattle.part_laws.proofs.BoundedLaws.{outside_is_not}

@@ -11,7 +11,7 @@ use Rattle.lists.proofs.Ascending.{IsAscending}
 use Rattle.lists.proofs.Members.{Contains-cases, Contains-head, Contains-later, Contains-nil}
 use Rattle.plane_model.specs.Points.{Segment}
 use Rattle.plane_model.specs.Arrangement.{IsDistinct}
-use Rattle.ring_trace.proofs.BoundaryLemmas.{has_Contains}
+use Rattle.face_sets.proofs.BoundaryLemmas.{has_Contains}
 
 abbrev pub total : {X : Type 0} → (X → ℤ) → List X → ℤ
 total f [] = pos 0

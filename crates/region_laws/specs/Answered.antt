@@ -10,8 +10,8 @@ use Rattle.plane_faces.specs.Places.{Place}
 use Rattle.grid_base.specs.declared.kinds.OverlapRule.{OverlapRule}
 use Rattle.face_walk.specs.Holders.{AreHolders, HolderTable}
 use Rattle.face_walk.specs.Places.{FaceTable, IsBuiltOf}
-use Rattle.ring_trace.specs.Joined.{AreParts}
-use Rattle.ring_trace.specs.Sets.{IsSetOf}
+use Rattle.face_sets.specs.Joined.{AreParts}
+use Rattle.face_sets.specs.Sets.{IsSetOf}
 use Rattle.ring_trace.specs.Traced.{UsesBoundary}
 use Rattle.ring_trace.specs.Turns.{round_of}
 use Rattle.part_laws.specs.Parts.{AreTraced}

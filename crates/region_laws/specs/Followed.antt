@@ -15,8 +15,8 @@ use Rattle.arc_table.specs.PathArcs.{AreArcsOf}
 use Rattle.face_walk.specs.Holders.{AreHolders, HolderTable, list_at}
 use Rattle.face_walk.specs.Places.{FaceTable, IsBuiltOf}
 use Rattle.face_laws.specs.Faces.{IsFaceOfPlace}
-use Rattle.ring_trace.specs.Joined.{AreParts}
-use Rattle.ring_trace.specs.Sets.{IsSetOf}
+use Rattle.face_sets.specs.Joined.{AreParts}
+use Rattle.face_sets.specs.Sets.{IsSetOf}
 use Rattle.region_ops.specs.Cleaned.{IsCleaned, area_of, ranks_before}
 use Rattle.region_ops.specs.Cut.{meet, minus}
 use Rattle.region_ops.specs.Dissolved.{set_at, union_of}

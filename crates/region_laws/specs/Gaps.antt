@@ -10,8 +10,8 @@ use Rattle.plane_model.specs.Snapped.{links_of, snapped}
 use Rattle.plane_faces.specs.Places.{Place}
 use Rattle.grid_base.specs.declared.kinds.OverlapRule.{OverlapRule}
 use Rattle.face_walk.specs.Places.{FaceTable}
-use Rattle.ring_trace.specs.Gaps.{AreGaps}
-use Rattle.ring_trace.specs.Sets.{IsSetOf}
+use Rattle.face_sets.specs.Gaps.{AreGaps}
+use Rattle.face_sets.specs.Sets.{IsSetOf}
 use Rattle.region_ops.specs.Filled.{IsCleanedAndFilled, all_faces}
 use Rattle.region_model.specs.Region.{Region, GapWith, IsLeftOfLinks, gap_of, regions_of, Has, SomeHas}
 use Rattle.region_model.specs.Answers.{Answers, AreRight}

@@ -16,7 +16,7 @@ use Rattle.plane_faces.specs.Rings.{darts_of_path}
 use Rattle.grid_base.specs.declared.kinds.OverlapRule.{OverlapRule}
 use Rattle.face_walk.specs.Places.{FaceTable, face_left_of}
 use Rattle.face_laws.specs.Faces.{directed_as}
-use Rattle.ring_trace.specs.Sets.{IsSetOf}
+use Rattle.face_sets.specs.Sets.{IsSetOf}
 use Rattle.region_ops.specs.Cleaned.{IsCleaned, ranks_before}
 use Rattle.region_model.specs.Region.{Region, less, any_of, Has}
 use Rattle.region_laws.specs.Regions.{Follows, FollowEach}

@@ -12,13 +12,13 @@ use Rattle.plane_model.specs.Arcs.{SignedArc}
 use Rattle.plane_model.specs.Points.{Path}
 use Rattle.grid_base.specs.declared.kinds.OverlapRule.{OverlapRule}
 use Rattle.face_walk.specs.Places.{FaceTable, IsBuiltOf, arcs_with_left, face_left_of, has_left, signed_below}
-use Rattle.ring_trace.specs.Boundary.{face_right_of}
-use Rattle.ring_trace.specs.Gaps.{AreGaps}
-use Rattle.ring_trace.specs.Owners.{owners_of}
-use Rattle.ring_trace.specs.Sets.{IsInnerFace, IsSetOf, area_of}
-use Rattle.ring_trace.proofs.BoundaryLemmas.{below_arc, listed_left}
-use Rattle.ring_trace.proofs.GapLemmas.{gaps_inner}
-use Rattle.ring_trace.proofs.SetLemmas.{from_ascending, nat_order}
+use Rattle.face_sets.specs.Boundary.{face_right_of}
+use Rattle.face_sets.specs.Gaps.{AreGaps}
+use Rattle.face_sets.specs.Owners.{owners_of}
+use Rattle.face_sets.specs.Sets.{IsInnerFace, IsSetOf, area_of}
+use Rattle.face_sets.proofs.BoundaryLemmas.{below_arc, listed_left}
+use Rattle.face_sets.proofs.GapLemmas.{gaps_inner}
+use Rattle.face_sets.proofs.SetLemmas.{from_ascending, nat_order}
 use Rattle.region_ops.specs.Cleaned.{IsFirst, is_before, ranks_before}
 use Rattle.region_ops.specs.Dissolved.{set_at}
 use Rattle.region_ops.specs.Filled.{AreGifts, AreTogether, Borders, GoesTo, IsFilled, IsGiven, IsReceiver, all_faces, given, is_filled, neighbours_of, sets_round}

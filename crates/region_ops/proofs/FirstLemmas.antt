@@ -11,11 +11,11 @@ use Rattle.grid_base.specs.declared.kinds.OverlapRule.{OverlapRule}
 use Rattle.std.proofs.lemmas.List.Kept.{IsStrictlyIncreasing-filter}
 use Rattle.lists.specs.Lists.{has, ascending}
 use Rattle.lists.proofs.Ascending.{one_ascending, ascending-IsAscending, ascending-Contains, Contains-ascending}
-use Rattle.ring_trace.proofs.SetLemmas.{nat_order, to_ascending}
+use Rattle.face_sets.proofs.SetLemmas.{nat_order, to_ascending}
 use Rattle.bucket_grid.proofs.Numbers.{Contains-numbers_where}
 use Rattle.face_walk.specs.Places.{FaceTable}
-use Rattle.ring_trace.specs.Owners.{owners_of, AreOwners}
-use Rattle.ring_trace.specs.Sets.{IsInnerFace, IsSetOf}
+use Rattle.face_sets.specs.Owners.{owners_of, AreOwners}
+use Rattle.face_sets.specs.Sets.{IsInnerFace, IsSetOf}
 use Rattle.region_ops.specs.Dissolved.{set_at}
 use Rattle.region_ops.specs.Cleaned.{area_of, ranks_before, is_lost, IsCleaned, is_before, earlier, IsFirst, AreFirsts, is_number, is_first, AreWon}
 use Rattle.region_ops.proofs.Ranks.{not_before_itself, not_both_before, not_before_through, one_before}

@@ -3,8 +3,8 @@ use Rattle.std.proofs.Common.{ℕ, zero, suc, Bool, List, [], ◌∷◌, All, ma
 use Rattle.std.specs.List.{flat_map}
 use Rattle.std.proofs.lemmas.List.Elements.{All-nil, All-cons, All-head, All-tail, All-append, All-weaker, All-take, All-map, All-filter}
 use Rattle.face_walk.specs.Places.{FaceTable}
-use Rattle.ring_trace.specs.Sets.{IsInnerFace, IsSetOf}
-use Rattle.ring_trace.proofs.SetLemmas.{All-ascending}
+use Rattle.face_sets.specs.Sets.{IsInnerFace, IsSetOf}
+use Rattle.face_sets.proofs.SetLemmas.{All-ascending}
 use Rattle.region_ops.specs.Dissolved.{set_at, union_of}
 
 pub filtered_inner : (t : FaceTable) (test : ℕ → Bool) (sets : List (List ℕ)) (n : ℕ) → All (IsSetOf t) sets → All (IsSetOf t) (map (filter test) (take n sets))

@@ -10,8 +10,8 @@ use Rattle.lists.specs.Lists.{same_list}
 use Rattle.lists.proofs.Members.{filter-Contains}
 use Rattle.face_walk.specs.Holders.{list_at}
 use Rattle.face_walk.specs.Places.{FaceTable}
-use Rattle.ring_trace.specs.Owners.{AreOwners, owners_of}
-use Rattle.ring_trace.specs.Sets.{IsInnerFace, IsSetOf}
+use Rattle.face_sets.specs.Owners.{AreOwners, owners_of}
+use Rattle.face_sets.specs.Sets.{IsInnerFace, IsSetOf}
 use Rattle.face_groups.specs.Groups.{AreKeySets, IsKeyed}
 use Rattle.face_groups.specs.Keys.{is_owned, owned_before}
 use Rattle.face_groups.proofs.Groups.{AreKeyGroups, each_item, held_inside, key_groups, part_inside}

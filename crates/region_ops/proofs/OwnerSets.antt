@@ -3,8 +3,8 @@ use Rattle.std.proofs.Common.{◌≡◌, inl, inr, refl, subst, arith, ℕ, suc,
 use Rattle.lists.specs.Lists.{has, numbers_from}
 use Rattle.lists.proofs.Members.{Contains-cases, Contains-nil}
 use Rattle.bucket_grid.proofs.Numbers.{Contains-numbers_where}
-use Rattle.ring_trace.specs.Owners.{owners_of}
-use Rattle.ring_trace.proofs.BoundaryLemmas.{Contains_has, has_Contains}
+use Rattle.face_sets.specs.Owners.{owners_of}
+use Rattle.face_sets.proofs.BoundaryLemmas.{Contains_has, has_Contains}
 
 -- a listed number is that of an element that passes
 of_numbers : {X : Type 0} (k : ℕ) (test : X → Bool) (xs : List X) (m : ℕ) (d : X) → Contains (numbers_from k test xs) m → (n : ℕ) × (m ≡ k + n) × (n < length xs) × (test (get_or xs n d) ≡ true)

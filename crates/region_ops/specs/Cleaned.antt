@@ -3,8 +3,8 @@ use Rattle.std.specs.Prelude.{◌≡◌, ℕ, ◌<◌, Bool, false, not, ◌&&�
 use Rattle.std.specs.List.{list_any}
 use Rattle.grid_base.specs.declared.kinds.OverlapRule.{OverlapRule}
 use Rattle.grid_base.specs.declared.kinds.OverlapRule.TheVariants.{MinId, MaxId, MinArea, MaxArea}
-use Rattle.ring_trace.specs.Owners.{owners_of}
-pub use Rattle.ring_trace.specs.Sets.{area_of}
+use Rattle.face_sets.specs.Owners.{owners_of}
+pub use Rattle.face_sets.specs.Sets.{area_of}
 use Rattle.region_ops.specs.Dissolved.{set_at}
 
 -- of two areas of sets m and n: less, or equal and of the lower number

@@ -2,7 +2,7 @@
 use Rattle.std.specs.Prelude.{◌≡◌, ℕ, ◌<◌, List, [], ◌∷◌, ◌++◌, length, map, slice_index_or}
 use Rattle.std.specs.List.{flat_map, enumerate_from}
 use Rattle.face_walk.specs.Places.{FaceTable}
-use Rattle.ring_trace.specs.Joined.{AreParts}
+use Rattle.face_sets.specs.Joined.{AreParts}
 use Rattle.region_ops.specs.declared.item_lists.PartItem.{PartItem}
 
 -- the pieces of a set: the set itself where it is empty, else its parts

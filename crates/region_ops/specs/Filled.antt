@@ -7,10 +7,10 @@ use Rattle.plane_model.specs.Arcs.{SignedArc}
 use Rattle.plane_model.specs.Points.{Path}
 use Rattle.grid_base.specs.declared.kinds.OverlapRule.{OverlapRule}
 use Rattle.face_walk.specs.Places.{FaceTable, HasArc, arcs_with_left, face_left_of}
-use Rattle.ring_trace.specs.Boundary.{face_right_of}
-use Rattle.ring_trace.specs.Gaps.{AreGaps}
-use Rattle.ring_trace.specs.Owners.{owners_of}
-use Rattle.ring_trace.specs.Sets.{area_of}
+use Rattle.face_sets.specs.Boundary.{face_right_of}
+use Rattle.face_sets.specs.Gaps.{AreGaps}
+use Rattle.face_sets.specs.Owners.{owners_of}
+use Rattle.face_sets.specs.Sets.{area_of}
 use Rattle.region_ops.specs.Cleaned.{IsCleaned, IsFirst, ranks_before}
 use Rattle.region_ops.specs.Dissolved.{set_at}
 

@@ -1,7 +1,7 @@
 -- Items that hold a set of inner faces: parts with the number of their set, and pieces of a mosaic.
 use Rattle.std.specs.Prelude.{ℕ, ◌<◌}
 use Rattle.face_walk.specs.Places.{FaceTable}
-use Rattle.ring_trace.specs.Sets.{IsSetOf}
+use Rattle.face_sets.specs.Sets.{IsSetOf}
 use Rattle.region_ops.specs.declared.item_lists.MosaicItem.{MosaicItem}
 use Rattle.region_ops.specs.declared.item_lists.PartItem.{PartItem}
 

@@ -4,8 +4,8 @@ use Rattle.std.specs.List.{flat_map, range_with_len}
 use Rattle.lists.specs.Lists.{list_before, same_list}
 use Rattle.face_walk.specs.Holders.{list_at}
 use Rattle.face_walk.specs.Places.{FaceTable}
-use Rattle.ring_trace.specs.Joined.{AreParts}
-use Rattle.ring_trace.specs.Owners.{owners_of}
+use Rattle.face_sets.specs.Joined.{AreParts}
+use Rattle.face_sets.specs.Owners.{owners_of}
 use Rattle.face_groups.specs.Groups.{AreGroupsOf}
 use Rattle.region_ops.specs.declared.item_lists.MosaicItem.{MosaicItem}
 

@@ -1,14 +1,14 @@
 ghost use Rattle.std.specs.Prelude.{◌≡◌, All, IfOk, filter, length, map, pos, slice_index_or};
 ghost use Rattle.face_walk.specs.Places.{IsBuiltOf};
-ghost use Rattle.ring_trace.specs.Sets.{IsSetOf, area_of};
+ghost use Rattle.face_sets.specs.Sets.{IsSetOf, area_of};
 ghost use Rattle.region_ops.specs.Cleaned.{AreFirsts, IsCleaned, IsFirst, earlier, is_first, ranks_before};
 ghost use Rattle.region_ops.specs.Filled.{IsCleanedAndFilled};
 
 use crate::filled_sets::filled_sets;
 use arc_table::ArcTable;
+use face_sets::{FaceOwners, FaceSet, SetList, gaps};
 use face_walk::Faces;
 use grid_base::{FaceId, OverlapRule};
-use ring_trace::{FaceOwners, FaceSet, SetList, gaps};
 use std::alloc::{AllocError, Global};
 
 /// For each set its faces that no set has which the rule ranks before it, and then the gaps between the sets that go to

@@ -1,9 +1,9 @@
 ghost use Rattle.std.specs.Prelude.{◌≡◌, All, IfOk, map};
 ghost use Rattle.face_walk.specs.Places.{FaceTable};
-ghost use Rattle.ring_trace.specs.Sets.{IsSetOf};
+ghost use Rattle.face_sets.specs.Sets.{IsSetOf};
 ghost use Rattle.region_ops.specs.Cut.{meet, minus};
 
-use ring_trace::{FaceSet, SetList};
+use face_sets::{FaceSet, SetList};
 use std::alloc::{AllocError, Global};
 
 /// For each set its faces that are in the source too. A set may become empty.

@@ -1,11 +1,11 @@
 ghost use Rattle.std.specs.Prelude.{◌≡◌, ◌<◌, All, IfOk, length, map};
 ghost use Rattle.std.specs.List.{flat_map};
 ghost use Rattle.face_walk.specs.Places.{FaceTable};
-ghost use Rattle.ring_trace.specs.Sets.{IsSetOf};
+ghost use Rattle.face_sets.specs.Sets.{IsSetOf};
 ghost use Rattle.region_ops.specs.Dissolved.{set_at, union_of};
 
+use face_sets::{FaceSet, SetList};
 use grid_base::{FaceId, GroupList};
-use ring_trace::{FaceSet, SetList};
 use std::alloc::{AllocError, Global};
 
 /// For each group, which lists the numbers of its members, the faces of any of them.

@@ -1,13 +1,13 @@
 ghost use Rattle.std.specs.Prelude.{◌≡◌, ◌++◌, ◌<◌, [], All, IfOk, OnOk, length, slice_index_or};
 ghost use Rattle.face_walk.specs.Places.{IsBuiltOf};
-ghost use Rattle.ring_trace.specs.Sets.{IsSetOf};
+ghost use Rattle.face_sets.specs.Sets.{IsSetOf};
 ghost use Rattle.region_ops.specs.Exploded.{ArePieces, IsExploded, IsPushed, items_of};
 ghost use Rattle.region_ops.specs.Items.{IsPart};
 
 use crate::item_lists::{PartItem, PartList};
 use arc_table::ArcTable;
+use face_sets::{FaceSet, SetList, parts};
 use face_walk::Faces;
-use ring_trace::{FaceSet, SetList, parts};
 use std::alloc::{AllocError, Global};
 
 /// The parts of each set, set by set, in order. An empty set stays one item.

@@ -2,16 +2,16 @@ ghost use Rattle.std.specs.Prelude.{◌≡◌, ◌++◌, ◌<◌, All, IfOk, Lis
 ghost use Rattle.lists.specs.Lists.{ascending};
 ghost use Rattle.plane_model.specs.Points.{Path};
 ghost use Rattle.face_walk.specs.Places.{HasArc, IsBuiltOf};
-ghost use Rattle.ring_trace.specs.Boundary.{face_right_of};
-ghost use Rattle.ring_trace.specs.Gaps.{AreGaps};
-ghost use Rattle.ring_trace.specs.Owners.{AreOwners, owners_of};
-ghost use Rattle.ring_trace.specs.Sets.{IsSetOf, area_of};
+ghost use Rattle.face_sets.specs.Boundary.{face_right_of};
+ghost use Rattle.face_sets.specs.Gaps.{AreGaps};
+ghost use Rattle.face_sets.specs.Owners.{AreOwners, owners_of};
+ghost use Rattle.face_sets.specs.Sets.{IsSetOf, area_of};
 ghost use Rattle.region_ops.specs.Filled.{AreGifts, AreTogether, IsFilled, IsReceiver, all_faces, given, neighbours_of, sets_round};
 
 use crate::cleaned_sets::first_of;
+use face_sets::{FaceOwners, FaceSet, SetList};
 use face_walk::Faces;
 use grid_base::{FaceId, OverlapRule, SignedArc, empty_lists};
-use ring_trace::{FaceOwners, FaceSet, SetList};
 use std::alloc::{AllocError, Global};
 
 /// The sets, each with the gaps between them that go to it, of those of at most the area `most`, doubled.

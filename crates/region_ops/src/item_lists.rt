@@ -1,8 +1,8 @@
 ghost use Rattle.std.specs.Prelude.{◌≡◌, ◌++◌, ◌∷◌, [], OnOk, OnErr, length, slice_get};
 ghost use Rattle.std.specs.Option.{option_copied};
 
+use face_sets::FaceSet;
 use grid_base::IdList;
-use ring_trace::FaceSet;
 use std::alloc::{AllocError, Global};
 use std::marker::Model;
 

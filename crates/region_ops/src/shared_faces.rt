@@ -1,7 +1,7 @@
 ghost use Rattle.std.specs.Prelude.{◌≡◌, ◌++◌, ◌<◌, All, IfOk, OnOk, length, slice_index};
 ghost use Rattle.face_walk.specs.Holders.{list_at};
 ghost use Rattle.face_walk.specs.Places.{IsBuiltOf};
-ghost use Rattle.ring_trace.specs.Sets.{IsSetOf};
+ghost use Rattle.face_sets.specs.Sets.{IsSetOf};
 ghost use Rattle.face_groups.specs.Groups.{AreKeySets, IsKeyed};
 ghost use Rattle.face_groups.specs.Keys.{is_owned, owned_before};
 ghost use Rattle.region_ops.specs.Items.{IsPiece};
@@ -10,9 +10,9 @@ ghost use Rattle.region_ops.specs.Mosaic.{ArePieces, IsGroupPushed, IsMosaic, Is
 use crate::item_lists::{MosaicItem, MosaicList};
 use arc_table::ArcTable;
 use face_groups::sets_by_key;
+use face_sets::{FaceOwners, FaceSet, SetList, parts};
 use face_walk::Faces;
 use grid_base::IdList;
-use ring_trace::{FaceOwners, FaceSet, SetList, parts};
 use std::alloc::{AllocError, Global};
 
 /// For each list of sets that are all the sets that have some face, in lexicographic order of lists, the parts of

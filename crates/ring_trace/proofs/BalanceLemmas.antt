@@ -19,10 +19,10 @@ use Rattle.face_walk.specs.Places.{FaceTable, HasJoins, IsBuiltOf, face_left_of,
 use Rattle.face_walk.specs.Sectors.{arc_at, goes_on, first_in_row, next_in_row, sector_after, sectors_below, sectors}
 use Rattle.face_walk.specs.declared.links.ArcLink.{ArcLink}
 use Rattle.face_walk.proofs.SectorLemmas.{next_on, next_off}
-use Rattle.ring_trace.specs.Boundary.{other_way, face_right_of}
+use Rattle.face_sets.specs.Boundary.{other_way, face_right_of}
 use Rattle.ring_trace.specs.Traced.{once_if}
 use Rattle.ring_trace.specs.Pairing.{stop_of}
-use Rattle.ring_trace.proofs.BoundaryLemmas.{back_again}
+use Rattle.face_sets.proofs.BoundaryLemmas.{back_again}
 
 -- ---- sums over the numbers below n
 

@@ -13,15 +13,15 @@ use Rattle.plane_model.specs.Points.{GridPoint, Path, same_point}
 use Rattle.plane_model.specs.Arcs.{SignedArc}
 use Rattle.arc_table.specs.Around.{start_of}
 use Rattle.face_walk.specs.Places.{FaceTable, HasArc, IsBuiltOf, face_left_of, has_left, signed_below, arcs_with_left}
-use Rattle.ring_trace.specs.declared.joined_faces.Side.{Side}
+use Rattle.face_sets.specs.declared.joined_faces.Side.{Side}
 use Rattle.ring_trace.specs.declared.pairing.Edge.{Edge}
-use Rattle.ring_trace.specs.Boundary.{face_right_of, is_outward, outward_at, side_at, sides_from, sides_of}
-use Rattle.ring_trace.specs.Joined.{AreJoined, AreJoinedBy}
+use Rattle.face_sets.specs.Boundary.{face_right_of, is_outward, outward_at, side_at, sides_from, sides_of}
+use Rattle.face_sets.specs.Joined.{AreJoined, AreJoinedBy}
 use Rattle.ring_trace.specs.Traced.{once_if}
 use Rattle.ring_trace.specs.Pairing.{stop_of, number_at, edge_of, AreEdgesOf, AreBalanced, same_corner, start_corner, stop_corner}
-use Rattle.ring_trace.proofs.SetLemmas.{to_ascending}
-use Rattle.ring_trace.proofs.BoundaryLemmas.{has_Contains, place_in, below_arc}
-use Rattle.ring_trace.proofs.JoinedLemmas.{joined_over}
+use Rattle.face_sets.proofs.SetLemmas.{to_ascending}
+use Rattle.face_sets.proofs.BoundaryLemmas.{has_Contains, place_in, below_arc}
+use Rattle.face_sets.proofs.JoinedLemmas.{joined_over}
 use Rattle.ring_trace.proofs.UsedLemmas.{sum_by-map, not_later}
 use Rattle.ring_trace.proofs.BalanceLemmas.{sum_both, starts_edge, stops_edge, balanced_faces}
 

@@ -13,7 +13,7 @@ use Rattle.ring_trace.specs.declared.pairing.Edge.{Edge}
 use Rattle.ring_trace.specs.declared.ring_keys.RingKey.{RingKey}
 use Rattle.ring_trace.specs.declared.simple_rings.Rings.{Rings}
 use Rattle.ring_trace.specs.Keys.{AreByPart, BeginsPart, StaysInPart, HasKeyPart, keys_of_part, path_along}
-use Rattle.ring_trace.proofs.PartLemmas.{rises_more}
+use Rattle.face_sets.proofs.PartLemmas.{rises_more}
 use Rattle.ring_trace.proofs.PairLemmas.{first_counts}
 
 pub no_key : RingKey

@@ -16,6 +16,7 @@ use Rattle.plane_model.specs.Arcs.{SignedArc, points_of}
 use Rattle.arc_table.specs.Direction.{point_at}
 use Rattle.arc_table.specs.Around.{start_of}
 use Rattle.grid_base.specs.Order.{point_cmp}
+use Rattle.face_sets.proofs.GapLemmas.{range_more}
 use Rattle.ring_trace.specs.declared.pairing.Edge.{Edge}
 use Rattle.ring_trace.specs.declared.pairing.EdgeEnd.{EdgeEnd}
 use Rattle.ring_trace.specs.Rings.{edge_at}
@@ -155,10 +156,6 @@ module _ (count : ℕ) (ends : List EdgeEnd) (places : IsPermutation (range_with
         ∙ get_or-map end_corner ends j none d lj
         ∙ stops j none lj
         ∙ ap (λ (n : ℕ). stop_corner arcs (edge_at edges n)) is_j
-
-pub range_more : (a n : ℕ) → range_with_len a (n + 1) ≡ range_with_len a n ++ (a + n) ∷ []
-range_more a zero = λ i. (let e : a ≡ a + 0 = omega arith in e) i ∷ []
-range_more a (suc n) = ap (range_with_len a) (let e : suc n + 1 ≡ suc (n + 1) = omega arith in e) ∙ ap (λ (xs : List ℕ). a ∷ xs) (range_more (a + 1) n) ∙ ap (λ (m : ℕ). a ∷ (range_with_len (a + 1) n ++ m ∷ [])) (let e : a + 1 + n ≡ a + suc n = omega arith in e)
 
 -- ---- one more
 

@@ -10,13 +10,13 @@ use Rattle.lists.proofs.Members.{Contains-head, Contains-later}
 use Rattle.plane_model.specs.Arcs.{SignedArc}
 use Rattle.face_walk.specs.Places.{FaceTable, face_left_of}
 use Rattle.face_walk.specs.Joining.{AreClasses}
-use Rattle.ring_trace.specs.declared.joined_faces.Side.{Side}
-use Rattle.ring_trace.specs.Boundary.{face_right_of, sides_of, IsOnBoundary, IsLeastArc}
-use Rattle.ring_trace.specs.Joined.{AreJoined, AreJoinedBy, AreLeastNumbers, AreParts}
+use Rattle.face_sets.specs.declared.joined_faces.Side.{Side}
+use Rattle.face_sets.specs.Boundary.{face_right_of, sides_of, IsOnBoundary, IsLeastArc}
+use Rattle.face_sets.specs.Joined.{AreJoined, AreJoinedBy, AreLeastNumbers, AreParts}
 use Rattle.ring_trace.specs.Pairing.{number_at}
 use Rattle.ring_trace.specs.Traced.{same_arc, is_of_boundary, once_if}
-use Rattle.ring_trace.proofs.BoundaryLemmas.{AreSidesOf, same_or_other, has_Contains, Contains_has, outward_from, outward_if}
-use Rattle.ring_trace.proofs.JoinedLemmas.{joined_over}
+use Rattle.face_sets.proofs.BoundaryLemmas.{AreSidesOf, same_or_other, has_Contains, Contains_has, outward_from, outward_if}
+use Rattle.face_sets.proofs.JoinedLemmas.{joined_over}
 use Rattle.ring_trace.proofs.UsedLemmas.{same_place, once_along_sides}
 
 -- ---- sums

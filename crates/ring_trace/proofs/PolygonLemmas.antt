@@ -17,22 +17,22 @@ use Rattle.plane_model.specs.Arcs.{SignedArc}
 use Rattle.arc_table.specs.Around.{start_of}
 use Rattle.face_walk.specs.Places.{FaceTable, face_left_of, signed_below}
 use Rattle.face_walk.specs.Joining.{AreClasses}
-use Rattle.ring_trace.specs.declared.joined_faces.Side.{Side}
+use Rattle.face_sets.specs.declared.joined_faces.Side.{Side}
 use Rattle.ring_trace.specs.declared.pairing.Edge.{Edge}
 use Rattle.ring_trace.specs.declared.ring_keys.RingKey.{RingKey}
 use Rattle.ring_trace.specs.declared.simple_rings.Rings.{Rings}
 use Rattle.ring_trace.specs.declared.simple_rings.RingSpan.{RingSpan}
-use Rattle.ring_trace.specs.Boundary.{is_outward, boundary, sides_of, IsOnBoundary, IsLeastArc}
-use Rattle.ring_trace.specs.Joined.{AreJoinedBy, AreLeastNumbers, AreParts}
+use Rattle.face_sets.specs.Boundary.{is_outward, boundary, sides_of, IsOnBoundary, IsLeastArc}
+use Rattle.face_sets.specs.Joined.{AreJoinedBy, AreLeastNumbers, AreParts}
 use Rattle.ring_trace.specs.Keys.{AreByPart, IsKey, IsKeyOfSome, IsLeastFirst, along_key, along_span, arc_number, arcs_along, keys_of_part, path_along}
 use Rattle.ring_trace.specs.Pairing.{AreEdgesOf, edge_of, number_at}
 use Rattle.ring_trace.specs.Rings.{AreTiled, HasEachOnce, edge_at}
 use Rattle.ring_trace.specs.Traced.{BeginsWithLeast, UseParts, bounded, is_of_boundary, once_if, same_arc, times, times_along, times_round}
 use Rattle.ring_trace.specs.Ways.{IsSimpleRing, AreRingsByCorners, edges_in, start_at, stop_at}
-use Rattle.ring_trace.proofs.BoundaryLemmas.{AreSidesOf, arc_below, below_arc}
+use Rattle.face_sets.proofs.BoundaryLemmas.{AreSidesOf, arc_below, below_arc}
 use Rattle.ring_trace.proofs.GatherLemmas.{key_of_some}
 use Rattle.ring_trace.proofs.PartSides.{sum_by_same, sum_by_none, test_of, of_test, of_part, number_is, part_sum}
-use Rattle.ring_trace.proofs.SetLemmas.{nat_order, to_ascending}
+use Rattle.face_sets.proofs.SetLemmas.{nat_order, to_ascending}
 use Rattle.ring_trace.proofs.TileLemmas.{sum_halves, sum_tiled}
 use Rattle.ring_trace.proofs.TurnLemmas.{along_times, arc_at, same_part, span_halves}
 use Rattle.ring_trace.proofs.UsedLemmas.{sum_by-map}

@@ -9,14 +9,14 @@ use Rattle.lists.proofs.Members.{Contains-map, map-Contains}
 use Rattle.lists.proofs.Ascending.{ascending-Contains, ascending-IsAscending, Contains-ascending}
 use Rattle.face_walk.specs.Joining.{AreClasses}
 use Rattle.face_walk.specs.Places.{FaceTable}
-use Rattle.ring_trace.specs.declared.joined_faces.Side.{Side}
-use Rattle.ring_trace.specs.declared.part_sets.PartFace.{PartFace}
-use Rattle.ring_trace.specs.Joined.{AreJoinedBy, AreLeastNumbers, AreParts, IsRanked, rank_of}
-use Rattle.ring_trace.specs.Parts.{AreGroups, IsFaceOf, faces_of_part}
-use Rattle.ring_trace.proofs.BoundaryLemmas.{AreSidesOf}
-use Rattle.ring_trace.proofs.PartLemmas.{none, numbered_each}
-use Rattle.ring_trace.proofs.RankedLemmas.{parts_are}
-use Rattle.ring_trace.proofs.SetLemmas.{nat_order, from_ascending}
+use Rattle.face_sets.specs.declared.joined_faces.Side.{Side}
+use Rattle.face_sets.specs.declared.part_sets.PartFace.{PartFace}
+use Rattle.face_sets.specs.Joined.{AreJoinedBy, AreLeastNumbers, AreParts, IsRanked, rank_of}
+use Rattle.face_sets.specs.Parts.{AreGroups, IsFaceOf, faces_of_part}
+use Rattle.face_sets.proofs.BoundaryLemmas.{AreSidesOf}
+use Rattle.face_sets.proofs.PartLemmas.{none, numbered_each}
+use Rattle.face_sets.proofs.RankedLemmas.{parts_are}
+use Rattle.face_sets.proofs.SetLemmas.{nat_order, from_ascending}
 
 -- ---- the sets of equal numbers
 

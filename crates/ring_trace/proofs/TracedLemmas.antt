@@ -4,10 +4,10 @@ use Rattle.std.specs.List.{sum_by}
 use Rattle.std.specs.List.Sorted.{IsPermutation, IsStrictlyIncreasing}
 use Rattle.std.proofs.lemmas.List.Sorted.{sum_by-IsPermutation}
 use Rattle.plane_model.specs.Arcs.{SignedArc}
-use Rattle.ring_trace.specs.declared.joined_faces.Side.{Side}
+use Rattle.face_sets.specs.declared.joined_faces.Side.{Side}
 use Rattle.ring_trace.specs.declared.pairing.Edge.{Edge}
 use Rattle.ring_trace.specs.declared.simple_rings.Rings.{Rings}
-use Rattle.ring_trace.specs.Boundary.{sides_of}
+use Rattle.face_sets.specs.Boundary.{sides_of}
 use Rattle.ring_trace.specs.Keys.{along_span}
 use Rattle.ring_trace.specs.Rings.{AreTiled, HasEachOnce}
 use Rattle.ring_trace.specs.Traced.{same_arc, times_along, is_of_boundary, once_if}

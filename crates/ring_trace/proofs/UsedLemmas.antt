@@ -10,10 +10,10 @@ use Rattle.lists.specs.Lists.{has}
 use Rattle.lists.proofs.Ascending.{IsAscending}
 use Rattle.plane_model.specs.Arcs.{SignedArc, forward, backward}
 use Rattle.face_walk.specs.Places.{place_of, face_left_of, has_left, signed_below, arcs_with_left}
-use Rattle.ring_trace.specs.declared.joined_faces.Side.{Side}
-use Rattle.ring_trace.specs.Boundary.{is_outward, outward_at, side_at, sides_from, sides_of}
+use Rattle.face_sets.specs.declared.joined_faces.Side.{Side}
+use Rattle.face_sets.specs.Boundary.{is_outward, outward_at, side_at, sides_from, sides_of}
 use Rattle.ring_trace.specs.Traced.{same_arc, times, is_of_boundary, once_if}
-use Rattle.ring_trace.proofs.SetLemmas.{to_ascending}
+use Rattle.face_sets.proofs.SetLemmas.{to_ascending}
 
 -- ---- one arc
 

@@ -1,12 +1,6 @@
-pub mod Parts
-pub mod Sets
 pub mod Rings
 pub mod Ways
 pub mod Keys
-pub mod Owners
-pub mod Boundary
-pub mod Joined
-pub mod Gaps
 pub mod Pairing
 pub mod Traced
 pub mod Turns

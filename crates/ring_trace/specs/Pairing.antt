@@ -7,10 +7,10 @@ use Rattle.plane_model.specs.Points.{GridPoint, Path, same_point}
 use Rattle.plane_model.specs.Arcs.{SignedArc}
 use Rattle.arc_table.specs.Around.{start_of}
 use Rattle.grid_base.specs.Order.{point_cmp}
-use Rattle.ring_trace.specs.declared.joined_faces.Side.{Side}
+use Rattle.face_sets.specs.declared.joined_faces.Side.{Side}
 use Rattle.ring_trace.specs.declared.pairing.Edge.{Edge}
 use Rattle.ring_trace.specs.declared.pairing.EdgeEnd.{EdgeEnd}
-use Rattle.ring_trace.specs.Boundary.{other_way}
+use Rattle.face_sets.specs.Boundary.{other_way}
 use Rattle.ring_trace.specs.Rings.{edge_at}
 
 -- where a signed arc ends

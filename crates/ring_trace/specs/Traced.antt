@@ -5,8 +5,8 @@ use Rattle.lists.specs.Lists.{has}
 use Rattle.plane_model.specs.Arcs.{SignedArc}
 use Rattle.face_walk.specs.Places.{FaceTable, place_of, face_left_of}
 use Rattle.ring_trace.specs.declared.pairing.Edge.{Edge}
-use Rattle.ring_trace.specs.Boundary.{is_outward, boundary}
-use Rattle.ring_trace.specs.Joined.{AreParts}
+use Rattle.face_sets.specs.Boundary.{is_outward, boundary}
+use Rattle.face_sets.specs.Joined.{AreParts}
 use Rattle.ring_trace.specs.Rings.{edge_at}
 
 -- the same arc in the same direction

@@ -2,8 +2,8 @@ ghost use Rattle.std.specs.Prelude.{◌≡◌, ◌<◌, ◌≤◌, ◌^◌, ℕ,
 ghost use Rattle.std.specs.List.{range_with_len};
 ghost use Rattle.std.specs.List.Sorted.{IsPermutation, IsSorted, IsStrictlyIncreasing};
 ghost use Rattle.face_walk.specs.Places.{FaceTable, IsBuiltOf};
-ghost use Rattle.ring_trace.specs.Boundary.{sides_of};
-ghost use Rattle.ring_trace.specs.Joined.{AreJoinedBy};
+ghost use Rattle.face_sets.specs.Boundary.{sides_of};
+ghost use Rattle.face_sets.specs.Joined.{AreJoinedBy};
 ghost use Rattle.ring_trace.specs.Pairing.{
   AreApart,
   AreBalanced,
@@ -17,11 +17,11 @@ ghost use Rattle.ring_trace.specs.Pairing.{
   start_corner,
   stop_corner,
 };
-ghost use Rattle.ring_trace.specs.Parts.{IsSide};
+ghost use Rattle.face_sets.specs.Parts.{IsSide};
 ghost use Rattle.ring_trace.specs.Rings.{edge_at};
 
-use crate::joined_faces::{Parts, Side};
 use arc_table::ArcTable;
+use face_sets::{Parts, Side};
 use grid_base::{Pt, SignedArc, is_same};
 use std::alloc::{AllocError, Global};
 

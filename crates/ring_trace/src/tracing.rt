@@ -5,21 +5,20 @@ ghost use Rattle.plane_model.specs.Arcs.{SignedArc};
 ghost use Rattle.plane_model.specs.Points.{Path};
 ghost use Rattle.arc_table.specs.Around.{start_of};
 ghost use Rattle.face_walk.specs.Places.{IsBuiltOf};
-ghost use Rattle.ring_trace.specs.Sets.{IsSetOf};
+ghost use Rattle.face_sets.specs.Sets.{IsSetOf};
 ghost use Rattle.ring_trace.specs.Rings.{IsWhole};
-ghost use Rattle.ring_trace.specs.Joined.{AreParts};
+ghost use Rattle.face_sets.specs.Joined.{AreParts};
 ghost use Rattle.ring_trace.specs.Keys.{AreByPart, BeginsPart, HasKeyPart, IsKey, StaysInPart, along_key, arcs_along, path_along};
 ghost use Rattle.ring_trace.specs.Pairing.{stop_of};
 ghost use Rattle.ring_trace.specs.Ways.{IsSimpleRing};
 ghost use Rattle.ring_trace.specs.Turns.{MayStandBefore};
 ghost use Rattle.ring_trace.specs.Traced.{BeginsWithLeast, HasPolygonsOfParts, UseParts, UsesBoundary, times, times_along, times_traced};
 
-use crate::face_set::FaceSet;
-use crate::joined_faces::{Parts, boundary_of};
 use crate::pairing::{Edge, edges_of};
 use crate::ring_keys::{RingKey, keys_of};
 use crate::simple_rings::{Rings, rings_of};
 use arc_table::{ArcTable, Polys, SignedPath, SignedPaths};
+use face_sets::{FaceSet, Parts, boundary_of};
 use face_walk::Faces;
 use std::alloc::{AllocError, Global};
 

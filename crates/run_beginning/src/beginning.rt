@@ -13,10 +13,10 @@ ghost use Rattle.run_beginning.specs.Drawing.{drawing_of, points_of};
 
 use crate::drawing::drawing_of;
 use arc_table::{ArcTable, SignedPaths};
+use face_sets::FaceSet;
 use geojson_io::{GeoLayer, GeoShape, GeoShapeList};
 use grid_base::{BoxList, FeatId, Kind, PtList, Snapped};
 use job_terms::Owner;
-use ring_trace::FaceSet;
 use run_plane::{Laid, Layer, Plane, Shape, laid_out};
 use run_sources::ReadSource;
 use snap_round::SnapFault;

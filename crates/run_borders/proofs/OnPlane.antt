@@ -8,8 +8,8 @@ use Rattle.plane_model.specs.Arcs.{SignedArc, forward}
 use Rattle.line_ops.specs.declared.sides.SidedArc.{SidedArc}
 use Rattle.region_ops.specs.Dissolved.{union_of}
 use Rattle.region_ops.proofs.Inner.{unions_inner}
-use Rattle.ring_trace.specs.Sets.{IsSetOf}
-use Rattle.ring_trace.proofs.SetLemmas.{All-ascending}
+use Rattle.face_sets.specs.Sets.{IsSetOf}
+use Rattle.face_sets.proofs.SetLemmas.{All-ascending}
 use Rattle.table_terms.specs.declared.groupings.GroupSpec.{GroupSpec}
 use Rattle.union_ops.specs.Union.{IsItemOf}
 use Rattle.union_ops.specs.declared.union_lists.UnionItem.{UnionItem}

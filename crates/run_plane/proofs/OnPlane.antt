@@ -14,8 +14,8 @@ use Rattle.plane_model.specs.Drawing.{Drawing}
 use Rattle.plane_model.specs.Points.{Path}
 use Rattle.face_walk.specs.Holders.{list_at}
 use Rattle.face_walk.specs.Places.{FaceTable, HasArc, IsBuiltOf}
-use Rattle.ring_trace.specs.Sets.{IsInnerFace, IsSetOf}
-use Rattle.ring_trace.proofs.BoundaryLemmas.{has_Contains}
+use Rattle.face_sets.specs.Sets.{IsInnerFace, IsSetOf}
+use Rattle.face_sets.proofs.BoundaryLemmas.{has_Contains}
 use Rattle.run_plane.specs.LaidOut.{IsLaidOut, held_faces}
 use Rattle.run_plane.specs.OnPlane.{AreBelow, AreOn, IsOn}
 use Rattle.run_plane.specs.Shapes.{faces_in, shape_at}

@@ -1,7 +1,7 @@
 -- What lies on a plane: sets of its faces other than the outer one, and paths along its arcs.
 use Rattle.std.specs.Prelude.{ℕ, ◌<◌, ⊤, All, List, length}
 use Rattle.plane_model.specs.Arcs.{SignedArc}
-use Rattle.ring_trace.specs.Sets.{IsSetOf}
+use Rattle.face_sets.specs.Sets.{IsSetOf}
 use Rattle.run_plane.specs.declared.layer.Layer.{Layer}
 use Rattle.run_plane.specs.declared.layer.Shape.{Shape}
 use Rattle.run_plane.specs.declared.layer.Shape.TheVariants as shape

@@ -13,9 +13,9 @@ ghost use Rattle.run_plane.specs.Begun.{IsFew};
 ghost use Rattle.run_plane.specs.LaidOut.{AreHeld, AreHeldFaces, IsLaidOut, PutsInto};
 
 use arc_table::ArcTable;
+use face_sets::FaceSet;
 use face_walk::{Faces, Labels};
 use grid_base::{Drawing, FaceId, FeatId, Snapped};
-use ring_trace::FaceSet;
 use snap_round::{SnapFault, snap};
 use std::alloc::{AllocError, Global};
 

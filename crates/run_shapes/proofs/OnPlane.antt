@@ -7,7 +7,7 @@ use Rattle.plane_model.specs.Points.{GridPoint}
 use Rattle.region_ops.specs.Items.{IsPart, IsPiece}
 use Rattle.region_ops.specs.declared.item_lists.MosaicItem.{MosaicItem}
 use Rattle.region_ops.specs.declared.item_lists.PartItem.{PartItem}
-use Rattle.ring_trace.specs.Sets.{IsInnerFace, IsSetOf}
+use Rattle.face_sets.specs.Sets.{IsInnerFace, IsSetOf}
 use Rattle.run_plane.specs.OnPlane.{AreBelow, AreOn, IsOn}
 use Rattle.run_plane.specs.declared.layer.Shape.{Shape}
 use Rattle.run_plane.specs.declared.layer.Shape.TheVariants as shape

@@ -5,10 +5,10 @@ ghost use Rattle.run_shapes.specs.Cutting.{ArePointsLeft, AreShapesLeft, IsCut, 
 ghost use Rattle.run_state.specs.FaceSets.{face_shapes, sets_in};
 
 use arc_table::SignedPaths;
+use face_sets::{FaceSet, SetList};
 use grid_base::{Kind, Pt, PtList};
 use line_ops::{clip_paths, erase_paths, point_inside};
 use region_ops::{clip_sets, erase_sets};
-use ring_trace::{FaceSet, SetList};
 use run_plane::{Layer, Plane, Shape};
 use run_state::{nonempty, sets_of, shapes_of};
 use std::alloc::{AllocError, Global};

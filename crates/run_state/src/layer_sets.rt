@@ -8,9 +8,9 @@ use crate::features::{nonempty, numbers_below, with_shapes};
 use crate::ground::Ground;
 use crate::origins::source_layer;
 use crate::state::{CommandStop, Held};
+use face_sets::{FaceSet, SetList};
 use grid_base::FaceId;
 use job_terms::Origin;
-use ring_trace::{FaceSet, SetList};
 use run_plane::{Layer, Shape};
 use std::alloc::{AllocError, Global};
 

@@ -11,10 +11,10 @@ ghost use Rattle.run_steps.specs.Refusals.{RefusesHeld, RefusesIn, RefusesLayer,
 ghost use Rattle.run_tables.specs.Made.{GivesTable, One};
 ghost use Rattle.spatial_join.specs.Joined.{join_matched};
 
+use face_sets::FaceSet;
 use io_core::Text;
 use job_terms::{Command, JointAction, LayerAction, Origin, Target};
 use join_terms::{CalcSpec, JoinSpec};
-use ring_trace::FaceSet;
 use run_borders::{dissolved, inner_lines, outlines, united};
 use run_plane::{Layer, Plane, copy_text};
 use run_shapes::{CutKeeps, cleaned, cut, exploded, mosaic, without_islands};

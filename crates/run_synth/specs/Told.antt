@@ -6,7 +6,7 @@ use Rattle.plane_model.specs.Points.{Path}
 use Rattle.plane_model.specs.Snapped.{snapped}
 use Rattle.grid_base.specs.declared.kinds.OverlapRule.TheVariants.{MaxArea}
 use Rattle.face_walk.specs.Places.{FaceTable}
-use Rattle.ring_trace.specs.Sets.{area_of}
+use Rattle.face_sets.specs.Sets.{area_of}
 use Rattle.region_ops.specs.Cleaned.{IsCleaned}
 use Rattle.run_plane.specs.Begun.{IsFew}
 use Rattle.run_plane.specs.LaidOut.{IsLaidOut}

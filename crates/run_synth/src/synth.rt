@@ -2,17 +2,17 @@ ghost use Rattle.std.specs.Prelude.{◌≡◌, ◌*◌, ◌≤◌, ◌++◌, All
 ghost use Rattle.std.specs.Fmt.{signed_decimal};
 ghost use Rattle.std.specs.String.{string_bytes};
 ghost use Rattle.snap_round.specs.Snapping.{FaultMeans};
-ghost use Rattle.ring_trace.specs.Sets.{IsSetOf};
+ghost use Rattle.face_sets.specs.Sets.{IsSetOf};
 ghost use Rattle.run_plane.specs.LaidOut.{IsLaidOut};
 ghost use Rattle.synth_model.specs.Cells.{cells};
 ghost use Rattle.synth_model.specs.Line.{line_text, named};
 ghost use Rattle.run_synth.specs.Told.{AreNumbersOf, IsLineOf, IsToldOf, filled};
 
 use crate::cells::{cells_of, count_of};
+use face_sets::{FaceSet, SetList};
 use grid_base::OverlapRule;
 use itoa::Buffer;
 use region_ops::separate_sets;
-use ring_trace::{FaceSet, SetList};
 use run_plane::{Laid, Plane, laid_out};
 use snap_round::SnapFault;
 use std::alloc::{AllocError, Global};

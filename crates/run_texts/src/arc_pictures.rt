@@ -1,13 +1,14 @@
 ghost use Rattle.std.specs.Prelude.{◌≡◌, ℕ, All, IfOk, length};
 ghost use Rattle.std.specs.List.{AllZip};
 ghost use Rattle.topo_io.specs.Arcs.{LayerIsBelow, ShapeIsBelow};
-ghost use Rattle.ring_trace.specs.Sets.{IsSetOf};
+ghost use Rattle.face_sets.specs.Sets.{IsSetOf};
 ghost use Rattle.run_plane.specs.OnPlane.{AreBelow, AreOn, IsLayerOn, IsOn};
 ghost use Rattle.run_texts.specs.Tracing.{AreTraced, IsTraced, IsTracedLayer, lines_along, points_alone};
 
 use arc_table::SignedPaths;
+use face_sets::FaceSet;
 use grid_base::PtList;
-use ring_trace::{FaceSet, trace};
+use ring_trace::trace;
 use run_plane::{Layer, Plane, Shape, copy_paths, copy_points, copy_text};
 use std::alloc::{AllocError, Global};
 use table_rows::copy_table;

@@ -2,18 +2,19 @@ ghost use Rattle.std.specs.Prelude.{◌≡◌, ◌<◌, ◌≤◌, ◌==◌, ◌
 ghost use Rattle.plane_model.specs.Arcs.{points_of};
 ghost use Rattle.grid_base.specs.Grid.{most_places};
 ghost use Rattle.json_read.specs.Table.{AreRows};
-ghost use Rattle.ring_trace.specs.Sets.{IsSetOf};
+ghost use Rattle.face_sets.specs.Sets.{IsSetOf};
 ghost use Rattle.run_plane.specs.OnPlane.{AreBelow, AreOn, IsLayerOn};
 ghost use Rattle.run_texts.specs.Pictures.{AreWritten, IsDrawn, IsPictureText, points_along, without_shared};
 
 use arc_table::{ArcTable, SignedPath, SignedPaths};
+use face_sets::FaceSet;
 use geojson_io::{
     GeoShape, end_collection, keys_of, start_collection, write_next_feature, write_next_points,
 };
 use grid_base::{PathList, PolygonRings, Pt, PtList, RingsList, SignedArc};
 use io_core::Bytes;
 use json_read::Row;
-use ring_trace::{FaceSet, trace};
+use ring_trace::trace;
 use run_plane::{Layer, Plane, Shape};
 use std::alloc::{AllocError, Global};
 

@@ -13,7 +13,7 @@ use Rattle.plane_model.specs.Arcs.{SignedArc, forward, backward}
 use Rattle.arc_table.specs.Around.{IsAround, start_of}
 use Rattle.arc_table.specs.Lookup.{IsArcAt, IsLeastAt}
 use Rattle.face_walk.specs.Places.{FaceTable, IsFaceOver, place_of}
-use Rattle.ring_trace.proofs.BoundaryLemmas.{has_Contains, Contains_has}
+use Rattle.face_sets.proofs.BoundaryLemmas.{has_Contains, Contains_has}
 use Rattle.line_ops.specs.Inside.{left_of, right_of}
 use Rattle.line_ops.specs.Points.{IsNode, IsInsideAt}
 use Rattle.line_ops.proofs.RunLemmas.{flat_map_more}

@@ -14,8 +14,8 @@ use Rattle.expr_lang.specs.Tree.{tree_of}
 use Rattle.expr_lang.specs.declared.expr.Expr.{Expr}
 use Rattle.json_read.specs.Table.{TableContent, RowValues, AreRows}
 use Rattle.json_read.specs.declared.value.Value.TheVariants as is
-use Rattle.ring_trace.proofs.BoundaryLemmas.{has_Contains, Contains_has}
-use Rattle.ring_trace.proofs.SetLemmas.{nat_order, to_ascending}
+use Rattle.face_sets.proofs.BoundaryLemmas.{has_Contains, Contains_has}
+use Rattle.face_sets.proofs.SetLemmas.{nat_order, to_ascending}
 use Rattle.table_terms.specs.Refusals.{on_ok}
 use Rattle.table_ops.specs.Filtering.{tests_of}
 use Rattle.table_ops.specs.Join.{candidates}

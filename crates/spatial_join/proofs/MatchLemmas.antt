@@ -14,8 +14,8 @@ use Rattle.lists.proofs.Ascending.{one_ascending, ascending-IsAscending, ascendi
 use Rattle.lists.proofs.Members.{Contains-flat_map, flat_map-Contains}
 use Rattle.plane_model.specs.Points.{GridPoint, Path}
 use Rattle.face_walk.specs.Places.{FaceTable}
-use Rattle.ring_trace.specs.Owners.{owners_of, AreOwners}
-use Rattle.ring_trace.proofs.SetLemmas.{nat_order, to_ascending}
+use Rattle.face_sets.specs.Owners.{owners_of, AreOwners}
+use Rattle.face_sets.proofs.SetLemmas.{nat_order, to_ascending}
 use Rattle.table_terms.proofs.Mapped.{list_any-map}
 use Rattle.spatial_join.specs.Beside.{AreBeside, AreFoundAt, lists_of}
 use Rattle.spatial_join.specs.Matches.{TellsInside, says_some, AreSetsAt, AreFoundAlong, AreMatchedPoints, AreMatchedSets}

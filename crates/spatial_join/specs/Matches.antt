@@ -5,7 +5,7 @@ use Rattle.lists.specs.Lists.{numbers_where}
 use Rattle.plane_model.specs.Points.{GridPoint, Path}
 use Rattle.face_walk.specs.Places.{FaceTable}
 use Rattle.line_ops.specs.Points.{IsInsideAt}
-use Rattle.ring_trace.specs.Owners.{owners_of}
+use Rattle.face_sets.specs.Owners.{owners_of}
 use Rattle.spatial_join.specs.Beside.{AreBeside, lists_of}
 
 -- it tells of each set whether the point is inside

@@ -5,9 +5,9 @@ ghost use Rattle.line_ops.specs.Points.{IsNode};
 ghost use Rattle.spatial_join.specs.Beside.{AreFoundAt, lists_left_of};
 
 use arc_table::ArcTable;
+use face_sets::FaceOwners;
 use face_walk::Faces;
 use grid_base::{FaceId, Pt, SignedArc};
-use ring_trace::FaceOwners;
 use std::alloc::AllocError;
 
 /// Appends the numbers of the sets that have a face beside a vertex of the drawing, for each such face.

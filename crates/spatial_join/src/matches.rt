@@ -2,14 +2,14 @@ ghost use Rattle.std.specs.Prelude.{◌≡◌, ◌<◌, [], ℕ, List, All, IfOk
 ghost use Rattle.std.specs.List.{range_with_len};
 ghost use Rattle.std.specs.List.Sorted.{IsStrictlyIncreasing};
 ghost use Rattle.face_walk.specs.Places.{IsBuiltOf};
-ghost use Rattle.ring_trace.specs.Owners.{AreOwners, IsNumbered, owners_of, with_number};
+ghost use Rattle.face_sets.specs.Owners.{AreOwners, IsNumbered, owners_of, with_number};
 ghost use Rattle.spatial_join.specs.Matches.{AreFoundAlong, AreMatchedPoints, AreMatchedSets, AreSetsAt};
 
 use crate::beside::push_sets_at;
 use arc_table::ArcTable;
+use face_sets::{FaceOwners, SetList};
 use face_walk::Faces;
 use grid_base::{GroupList, IdList, PathList, Pt, empty_lists};
-use ring_trace::{FaceOwners, SetList};
 use std::alloc::{AllocError, Global};
 
 /// For each list of points the numbers of the sets that some point of it is inside of, ascending. The points are

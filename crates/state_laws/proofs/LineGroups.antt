@@ -19,7 +19,7 @@ use Rattle.table_terms.specs.declared.groupings.GroupSpec.{GroupSpec}
 use Rattle.table_rows.specs.Grouping.{group_rows}
 use Rattle.table_rows.specs.declared.fault.TableWhy.{TableWhy}
 use Rattle.table_rows.specs.declared.group.Grouped.{Grouped}
-use Rattle.ring_trace.proofs.SetLemmas.{nat_order}
+use Rattle.face_sets.proofs.SetLemmas.{nat_order}
 use Rattle.region_model.specs.LineCommands.{dissolved_paths}
 use Rattle.line_laws.specs.Linked.{AreLinked, AreThere, along_one, arcs_along, points_along}
 use Rattle.line_laws.proofs.LinkedArcs.{lines_are_dissolved}

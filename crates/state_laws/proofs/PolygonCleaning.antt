@@ -10,7 +10,7 @@ use Rattle.json_read.specs.Table.{TableContent}
 use Rattle.plane_model.specs.Snapped.{snapped}
 use Rattle.table_rows.specs.Rows.{take_rows}
 use Rattle.face_walk.specs.Places.{FaceTable}
-use Rattle.ring_trace.specs.Sets.{IsInnerFace, IsSetOf}
+use Rattle.face_sets.specs.Sets.{IsInnerFace, IsSetOf}
 use Rattle.region_ops.specs.Cleaned.{IsCleaned as AreCleaned, is_lost}
 use Rattle.region_ops.specs.Dissolved.{set_at}
 use Rattle.region_ops.specs.Filled.{IsCleanedAndFilled}

@@ -10,7 +10,7 @@ use Rattle.grid_base.specs.declared.kinds.Kind.TheVariants as kinds
 use Rattle.geojson_io.specs.Layers.{same_kind}
 use Rattle.plane_model.specs.Snapped.{snapped}
 use Rattle.table_terms.specs.Refusals.{on_ok}
-use Rattle.ring_trace.specs.Sets.{IsInnerFace}
+use Rattle.face_sets.specs.Sets.{IsInnerFace}
 use Rattle.region_ops.specs.Cut.{meet, minus}
 use Rattle.region_model.specs.Region.{Region, any_of, both, box, less}
 use Rattle.region_laws.proofs.Sets.{meets_are_followed, remainders_are_followed}

@@ -19,8 +19,8 @@ use Rattle.table_rows.specs.Refusals.{refused_item}
 use Rattle.table_rows.specs.declared.fault.TableWhy.{TableWhy}
 use Rattle.table_rows.specs.declared.group.Grouped.{Grouped}
 use Rattle.table_rows.proofs.Numbers.{numbers_where-below}
-use Rattle.ring_trace.specs.Sets.{IsSetOf}
-use Rattle.ring_trace.proofs.SetLemmas.{from_ascending, nat_order}
+use Rattle.face_sets.specs.Sets.{IsSetOf}
+use Rattle.face_sets.proofs.SetLemmas.{from_ascending, nat_order}
 use Rattle.region_ops.specs.Dissolved.{set_at, union_of}
 use Rattle.region_ops.proofs.Inner.{unions_inner}
 use Rattle.region_model.specs.PolygonCommands.{dissolved}

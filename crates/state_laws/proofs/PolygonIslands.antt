@@ -8,8 +8,8 @@ use Rattle.lists.proofs.Ascending.{ascending-IsAscending}
 use Rattle.plane_model.specs.Points.{Path}
 use Rattle.plane_model.specs.Snapped.{snapped}
 use Rattle.face_walk.specs.Places.{FaceTable}
-use Rattle.ring_trace.specs.Sets.{IsInnerFace, IsSetOf}
-use Rattle.ring_trace.proofs.SetLemmas.{All-ascending, from_ascending, nat_order}
+use Rattle.face_sets.specs.Sets.{IsInnerFace, IsSetOf}
+use Rattle.face_sets.proofs.SetLemmas.{All-ascending, from_ascending, nat_order}
 use Rattle.calc_ops.specs.Islands.{AreWithoutIslands, is_island, mainland, set_at}
 use Rattle.region_model.specs.Region.{Region, part}
 use Rattle.region_model.specs.PolygonCommands.{without_islands}

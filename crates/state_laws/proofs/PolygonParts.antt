@@ -13,9 +13,9 @@ use Rattle.plane_model.specs.Snapped.{snapped}
 use Rattle.table_terms.specs.Names.{Text}
 use Rattle.table_rows.specs.Rows.{row_at, take_rows}
 use Rattle.face_walk.specs.Places.{FaceTable}
-use Rattle.ring_trace.specs.Joined.{AreParts}
-use Rattle.ring_trace.specs.Parts.{IsPieceOf}
-use Rattle.ring_trace.specs.Sets.{IsInnerFace, IsSetOf}
+use Rattle.face_sets.specs.Joined.{AreParts}
+use Rattle.face_sets.specs.Parts.{IsPieceOf}
+use Rattle.face_sets.specs.Sets.{IsInnerFace, IsSetOf}
 use Rattle.region_ops.specs.Exploded.{ArePieces, items_of}
 use Rattle.region_ops.specs.Exploded as exploding
 use Rattle.region_ops.specs.Mosaic.{Group, IsMosaic, items_of_groups}

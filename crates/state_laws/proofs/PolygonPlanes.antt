@@ -7,7 +7,7 @@ use Rattle.lists.proofs.Members.{Contains-nil}
 use Rattle.plane_model.specs.Points.{Path}
 use Rattle.plane_model.specs.Parity.{rings_hold}
 use Rattle.plane_model.specs.Snapped.{snapped}
-use Rattle.ring_trace.specs.Sets.{IsInnerFace}
+use Rattle.face_sets.specs.Sets.{IsInnerFace}
 use Rattle.region_model.specs.Region.{box}
 use Rattle.state_laws.specs.Shown.{View, FacesShow}
 use Rattle.state_laws.specs.Polygons.{PlanesAreSeen}

@@ -11,8 +11,8 @@ use Rattle.grid_base.specs.declared.kinds.Kind.{Kind}
 use Rattle.lists.specs.Lists.{ascending, joined_up}
 use Rattle.lists.proofs.Ascending.{ascending-IsAscending}
 use Rattle.plane_model.specs.Snapped.{snapped}
-use Rattle.ring_trace.specs.Sets.{IsInnerFace, IsSetOf}
-use Rattle.ring_trace.proofs.SetLemmas.{All-ascending, from_ascending, nat_order}
+use Rattle.face_sets.specs.Sets.{IsInnerFace, IsSetOf}
+use Rattle.face_sets.proofs.SetLemmas.{All-ascending, from_ascending, nat_order}
 use Rattle.region_model.specs.Region.{Region, any_of}
 use Rattle.region_laws.specs.Regions.{FollowEach, Follows}
 use Rattle.region_laws.specs.Answered.{FollowInOrder}

@@ -10,7 +10,7 @@ use Rattle.json_read.specs.Table.{TableContent}
 use Rattle.plane_model.specs.Snapped.{snapped}
 use Rattle.table_rows.specs.Merge.{all_names}
 use Rattle.face_walk.specs.Places.{FaceTable}
-use Rattle.ring_trace.specs.Sets.{IsSetOf}
+use Rattle.face_sets.specs.Sets.{IsSetOf}
 use Rattle.union_ops.specs.Union.{Group, IsUnion, faces_of, items_of, items_of_groups}
 use Rattle.union_ops.specs.UnionTable.{IsUnionTable, union_row}
 use Rattle.union_ops.specs.declared.union_lists.UnionItem.{UnionItem}

@@ -13,7 +13,7 @@ use Rattle.grid_base.specs.declared.kinds.Kind.{Kind}
 use Rattle.grid_base.specs.declared.kinds.Kind.TheVariants as kinds
 use Rattle.face_walk.specs.Holders.{AreHolders, HolderTable}
 use Rattle.face_walk.specs.Places.{FaceTable}
-use Rattle.ring_trace.specs.Sets.{IsSetOf}
+use Rattle.face_sets.specs.Sets.{IsSetOf}
 use Rattle.region_model.specs.Region.{Region, box}
 use Rattle.region_model.specs.Answers.{Plane, Answers, AreRight}
 use Rattle.region_laws.specs.Regions.{Follows}

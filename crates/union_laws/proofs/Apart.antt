@@ -11,7 +11,7 @@ use Rattle.lists.proofs.Ascending.{IsAscending, one_ascending}
 use Rattle.lists.proofs.Members.{Contains-head, Contains-later, filter-Contains, flat_map-Contains, map-Contains}
 use Rattle.plane_model.specs.Points.{RationalPoint, Segment, Path}
 use Rattle.plane_model.specs.Sides.{Points}
-use Rattle.ring_trace.proofs.SetLemmas.{nat_order, to_ascending}
+use Rattle.face_sets.proofs.SetLemmas.{nat_order, to_ascending}
 use Rattle.union_ops.specs.Choices.{choice_before, has_number}
 use Rattle.union_ops.proofs.ChoiceOrder.{choice_order}
 use Rattle.region_model.specs.Region.{Region, IsInPart, part}

@@ -11,7 +11,7 @@ use Rattle.plane_model.specs.Drawing.{Drawing}
 use Rattle.plane_model.specs.Sees.{IsOffLinks}
 use Rattle.plane_model.specs.Snapped.{links_of}
 use Rattle.plane_faces.specs.Places.{Place, IsPlaceOf}
-use Rattle.ring_trace.specs.Owners.{owners_of}
+use Rattle.face_sets.specs.Owners.{owners_of}
 use Rattle.union_ops.specs.Choices.{choice_of, first_with, has_number}
 use Rattle.region_model.specs.Region.{Region, any_of, regions_of, Has, SomeHas}
 use Rattle.region_model.specs.PolygonCommands.{all_of}

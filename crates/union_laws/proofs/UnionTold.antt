@@ -14,8 +14,8 @@ use Rattle.plane_model.specs.Snapped.{links_of, snapped}
 use Rattle.plane_faces.specs.Places.{Place}
 use Rattle.plane_faces.proofs.FaceLaws.{place_beside}
 use Rattle.face_walk.specs.Places.{FaceTable}
-use Rattle.ring_trace.specs.Sets.{IsInnerFace, IsSetOf}
-use Rattle.ring_trace.proofs.SetLemmas.{from_ascending}
+use Rattle.face_sets.specs.Sets.{IsInnerFace, IsSetOf}
+use Rattle.face_sets.proofs.SetLemmas.{from_ascending}
 use Rattle.union_ops.specs.Choices.{choice_before, choice_of, has_number, same_choice}
 use Rattle.union_ops.specs.Union.{Group, IsUnion, faces_of, items_of_groups}
 use Rattle.union_ops.specs.declared.union_lists.UnionItem.{UnionItem}

@@ -10,8 +10,8 @@ use Rattle.std.proofs.lemmas.List.Folds.{list_any_at}
 use Rattle.lists.specs.Lists.{has}
 use Rattle.bucket_grid.proofs.Numbers.{Contains-numbers_where, numbers_where_below}
 use Rattle.face_walk.specs.Places.{FaceTable}
-use Rattle.ring_trace.specs.Owners.{owners_of, AreOwners}
-use Rattle.ring_trace.specs.Sets.{IsInnerFace, IsSetOf}
+use Rattle.face_sets.specs.Owners.{owners_of, AreOwners}
+use Rattle.face_sets.specs.Sets.{IsInnerFace, IsSetOf}
 use Rattle.face_groups.proofs.Groups.{held_inside}
 use Rattle.union_ops.specs.Choices.{Choice, first_with, choice_of, has_number, number_order, IsChoiceFrom, AreChoices, AreLayerOwners, choice_among}
 use Rattle.union_ops.specs.Union.{IsHeld}

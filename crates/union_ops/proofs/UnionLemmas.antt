@@ -6,7 +6,7 @@ use Rattle.std.proofs.lemmas.List.Elements.{All-append, All-map, All-weaker, All
 use Rattle.std.proofs.lemmas.List.Kept.{AllPairs-cons}
 use Rattle.lists.proofs.Members.{Contains-filter, filter-Contains, Contains-later, Contains-head, Contains-map, Contains-flat_map}
 use Rattle.face_walk.specs.Places.{FaceTable}
-use Rattle.ring_trace.specs.Sets.{IsInnerFace, IsSetOf}
+use Rattle.face_sets.specs.Sets.{IsInnerFace, IsSetOf}
 use Rattle.face_groups.specs.Groups.{AreKeySets, IsKeyed}
 use Rattle.face_groups.proofs.Groups.{AreKeyGroups, each_item, in_range, key_groups, part_inside}
 use Rattle.union_ops.specs.declared.union_lists.UnionItem.{UnionItem}

@@ -6,7 +6,7 @@ use Rattle.std.specs.Ordering.{nat_cmp, is_lt}
 use Rattle.std.specs.declared.cmp.Ordering.{Ordering}
 use Rattle.std.specs.declared.cmp.Ordering.TheVariants.{Less, Equal, Greater}
 use Rattle.std.specs.Cmp.Lexicographic.{pointwise, slice_cmp}
-use Rattle.ring_trace.specs.Owners.{owners_of, AreOwners}
+use Rattle.face_sets.specs.Owners.{owners_of, AreOwners}
 
 abbrev pub Choice : Type 0
 Choice = List (Option ℕ)

@@ -4,9 +4,9 @@ ghost use Rattle.union_ops.specs.Choices.{AreChoices, AreLayerOwners, choice_amo
 
 use crate::union_lists::LayerSets;
 use face_groups::FaceKeys;
+use face_sets::FaceOwners;
 use face_walk::Faces;
 use grid_base::FaceId;
-use ring_trace::FaceOwners;
 use std::alloc::{AllocError, Global};
 use std::cmp::Ordering;
 use std::marker::Model;

@@ -1,7 +1,7 @@
 ghost use Rattle.std.specs.Prelude.{◌≡◌, ◌++◌, ◌∷◌, [], OnOk, OnErr, length, slice_get};
 ghost use Rattle.std.specs.Option.{option_copied};
 
-use ring_trace::{FaceSet, SetList};
+use face_sets::{FaceSet, SetList};
 use std::alloc::{AllocError, Global};
 use std::marker::Model;
 

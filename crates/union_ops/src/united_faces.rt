@@ -1,6 +1,6 @@
 ghost use Rattle.std.specs.Prelude.{◌≡◌, ◌++◌, ◌<◌, All, IfOk, OnOk, length, slice_index};
 ghost use Rattle.face_walk.specs.Places.{IsBuiltOf};
-ghost use Rattle.ring_trace.specs.Sets.{IsSetOf};
+ghost use Rattle.face_sets.specs.Sets.{IsSetOf};
 ghost use Rattle.face_groups.specs.Groups.{AreKeySets, IsKeyed};
 ghost use Rattle.union_ops.specs.Union.{
   ArePieces,
@@ -18,8 +18,8 @@ use crate::face_choices::FaceChoices;
 use crate::union_lists::{ChoiceList, LayerSets, UnionItem, UnionList};
 use arc_table::ArcTable;
 use face_groups::sets_by_key;
+use face_sets::{FaceSet, SetList, parts};
 use face_walk::Faces;
-use ring_trace::{FaceSet, SetList, parts};
 use std::alloc::{AllocError, Global};
 
 /// For each choice that some face has, with a set of at least one layer, the parts of the faces that have it, in

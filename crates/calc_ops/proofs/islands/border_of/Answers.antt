@@ -1,7 +1,7 @@
 use Rattle.std.proofs.Common.{◌∙◌, sym, ap, ◌++◌, length, arith}
 use Rattle.std.specs.List.{flat_map}
 use Rattle.std.proofs.lemmas.List.{take_all}
-use Rattle.ring_trace.specs.Boundary.{outward_at}
+use Rattle.face_sets.specs.Boundary.{outward_at}
 use Rattle.calc_ops.proofs.IslandLemmas.{flat_map_more}
 use Rattle.calc_ops.proofs.islands.border_of.Goals as goal
 

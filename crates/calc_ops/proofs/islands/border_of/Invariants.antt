@@ -2,7 +2,7 @@ use Rattle.std.proofs.Common.{◌≡◌, List, length, take, All}
 use Rattle.std.specs.List.{flat_map}
 use Rattle.plane_model.specs.Points.{Path}
 use Rattle.face_walk.specs.Places.{HasArc, IsBuiltOf}
-use Rattle.ring_trace.specs.Boundary.{outward_at}
+use Rattle.face_sets.specs.Boundary.{outward_at}
 use Rattle.calc_ops.proofs.islands.border_of.Given as goal
 
 abbrev pub invariant-loop-face : goal.invariant-loop-face

@@ -1,7 +1,7 @@
 use Rattle.std.proofs.Common.{◌≡◌, ◌∙◌, ◌+◌, ◌<◌, sym, subst, ap, ℕ, List, [], All, length, get_or, arith}
 use Rattle.std.proofs.lemmas.List.{get_or_default}
 use Rattle.std.proofs.lemmas.List.Elements.{All-push}
-use Rattle.ring_trace.specs.Sets.{IsSetOf}
+use Rattle.face_sets.specs.Sets.{IsSetOf}
 use Rattle.calc_ops.specs.Islands.{AreWithoutIslands, IsWithoutIslands, set_at}
 use Rattle.calc_ops.proofs.IslandLemmas.{left_more}
 use Rattle.calc_ops.proofs.islands.drop_islands.Goals as goal

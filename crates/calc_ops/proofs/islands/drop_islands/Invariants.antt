@@ -1,5 +1,5 @@
 use Rattle.std.proofs.Common.{All}
-use Rattle.ring_trace.specs.Sets.{IsSetOf}
+use Rattle.face_sets.specs.Sets.{IsSetOf}
 use Rattle.calc_ops.specs.Islands.{AreWithoutIslands}
 use Rattle.calc_ops.proofs.islands.drop_islands.Given as goal
 

@@ -1,5 +1,5 @@
 use Rattle.std.proofs.Common.{◌≡◌, ℕ, List, true, take}
-use Rattle.ring_trace.specs.Owners.{AreOwners}
+use Rattle.face_sets.specs.Owners.{AreOwners}
 use Rattle.calc_ops.specs.Islands.{is_detached}
 use Rattle.calc_ops.proofs.islands.is_detached.Given as goal
 

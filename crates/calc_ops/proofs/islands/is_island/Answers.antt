@@ -3,7 +3,7 @@ use Rattle.std.proofs.lemmas.List.Elements.{All-weaker}
 use Rattle.std.proofs.lemmas.Result.{IfOk-weaker}
 use Rattle.plane_model.specs.Arcs.{SignedArc}
 use Rattle.face_walk.specs.Places.{HasArc}
-use Rattle.ring_trace.specs.Sets.{area_of}
+use Rattle.face_sets.specs.Sets.{area_of}
 use Rattle.calc_ops.specs.Islands.{border, is_detached, is_small, is_island, links_of}
 use Rattle.calc_ops.proofs.islands.is_island.Goals as goal
 

@@ -3,7 +3,7 @@ use Rattle.std.proofs.lemmas.List.{take_all}
 use Rattle.std.proofs.lemmas.List.Elements.{All-get_or}
 use Rattle.plane_model.specs.Arcs.{SignedArc}
 use Rattle.face_walk.specs.Places.{HasArc}
-use Rattle.ring_trace.specs.Boundary.{is_outward}
+use Rattle.face_sets.specs.Boundary.{is_outward}
 use Rattle.calc_ops.proofs.IslandLemmas.{picked_more, All-if}
 use Rattle.calc_ops.proofs.islands.push_border.Goals as goal
 

@@ -1,6 +1,6 @@
 use Rattle.std.proofs.Common.{◌≡◌, ◌++◌, filter, take, All}
 use Rattle.face_walk.specs.Places.{HasArc}
-use Rattle.ring_trace.specs.Boundary.{is_outward}
+use Rattle.face_sets.specs.Boundary.{is_outward}
 use Rattle.calc_ops.proofs.islands.push_border.Given as goal
 
 abbrev pub invariant-loop-arc : goal.invariant-loop-arc

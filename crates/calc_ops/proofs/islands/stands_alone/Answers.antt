@@ -1,6 +1,6 @@
 use Rattle.std.proofs.Common.{◌∙◌, ap, nat_eq, ◌&&◌, [], ◌∷◌}
 use Rattle.lists.specs.Lists.{same_list}
-use Rattle.ring_trace.specs.Owners.{owners_of}
+use Rattle.face_sets.specs.Owners.{owners_of}
 use Rattle.calc_ops.proofs.IslandLemmas.{other_side}
 use Rattle.calc_ops.proofs.islands.stands_alone.Goals as goal
 

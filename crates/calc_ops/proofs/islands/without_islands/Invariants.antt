@@ -1,6 +1,6 @@
 use Rattle.std.proofs.Common.{◌≡◌, ℕ, List, take}
-use Rattle.ring_trace.specs.Owners.{AreOwners}
-use Rattle.ring_trace.specs.Sets.{IsSetOf}
+use Rattle.face_sets.specs.Owners.{AreOwners}
+use Rattle.face_sets.specs.Sets.{IsSetOf}
 use Rattle.calc_ops.specs.Islands.{mainland}
 use Rattle.calc_ops.proofs.islands.without_islands.Given as goal
 

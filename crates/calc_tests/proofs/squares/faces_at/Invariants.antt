@@ -1,5 +1,5 @@
 use Rattle.std.specs.Prelude.{All}
-use Rattle.ring_trace.specs.Sets.{IsInnerFace}
+use Rattle.face_sets.specs.Sets.{IsInnerFace}
 use Rattle.calc_tests.proofs.squares.faces_at.Given as goal
 
 abbrev pub invariant-loop-point : goal.invariant-loop-point

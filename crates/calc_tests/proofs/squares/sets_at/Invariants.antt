@@ -1,5 +1,5 @@
 use Rattle.std.specs.Prelude.{All}
-use Rattle.ring_trace.specs.Sets.{IsSetOf}
+use Rattle.face_sets.specs.Sets.{IsSetOf}
 use Rattle.calc_tests.proofs.squares.sets_at.Given as goal
 
 abbrev pub invariant-loop-points : goal.invariant-loop-points

@@ -1,6 +1,6 @@
 use Rattle.std.proofs.Common.{◌∙◌, sym, ap}
 use Rattle.plane_model.specs.Arcs.{SignedArc}
-use Rattle.ring_trace.specs.Owners.{owners_of}
+use Rattle.face_sets.specs.Owners.{owners_of}
 use Rattle.line_ops.specs.Inside.{left_of}
 use Rattle.line_ops.proofs.SideLemmas.{none_sided, some_sided}
 use Rattle.line_ops.proofs.sides.sides_of.Goals as goal

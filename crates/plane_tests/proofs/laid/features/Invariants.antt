@@ -1,5 +1,5 @@
 use Rattle.std.specs.Prelude.{◌≡◌, All, length}
-use Rattle.ring_trace.specs.Sets.{IsSetOf}
+use Rattle.face_sets.specs.Sets.{IsSetOf}
 use Rattle.plane_tests.proofs.laid.features.Given as goal
 
 abbrev pub invariant-loop-number : goal.invariant-loop-number

@@ -1,5 +1,5 @@
 use Rattle.std.specs.Prelude.{All}
-use Rattle.ring_trace.specs.Sets.{IsInnerFace}
+use Rattle.face_sets.specs.Sets.{IsInnerFace}
 use Rattle.plane_tests.proofs.laid.inner_faces.Given as goal
 
 abbrev pub invariant-loop-number : goal.invariant-loop-number

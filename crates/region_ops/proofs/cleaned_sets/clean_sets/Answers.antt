@@ -1,7 +1,7 @@
 use Rattle.std.proofs.Common.{◌≡◌, ◌∙◌, subst, ℕ, List, All, IfOk, length}
 use Rattle.std.proofs.lemmas.Result.{IfOk-weaker}
-use Rattle.ring_trace.specs.Gaps.{AreGaps}
-use Rattle.ring_trace.specs.Sets.{IsSetOf}
+use Rattle.face_sets.specs.Gaps.{AreGaps}
+use Rattle.face_sets.specs.Sets.{IsSetOf}
 use Rattle.region_ops.specs.Filled.{IsCleanedAndFilled, IsFilled}
 use Rattle.region_ops.proofs.FillLemmas.{filled_inner}
 use Rattle.region_ops.proofs.cleaned_sets.clean_sets.Goals as goal

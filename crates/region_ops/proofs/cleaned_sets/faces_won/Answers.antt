@@ -2,7 +2,7 @@ use Rattle.std.proofs.Common.{◌≡◌, ◌∙◌, sym, subst, ap, ℕ, ◌≤�
 use Rattle.std.proofs.lemmas.List.{take_all}
 use Rattle.std.proofs.lemmas.List.Elements.{All-filter}
 use Rattle.lists.specs.Lists.{ascending}
-use Rattle.ring_trace.specs.Sets.{IsInnerFace, IsSetOf}
+use Rattle.face_sets.specs.Sets.{IsInnerFace, IsSetOf}
 use Rattle.region_ops.specs.Cleaned.{is_first}
 use Rattle.region_ops.proofs.FirstLemmas.{filter_in_order}
 use Rattle.region_ops.proofs.cleaned_sets.faces_won.Goals as goal

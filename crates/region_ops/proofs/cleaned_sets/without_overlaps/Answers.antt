@@ -1,6 +1,6 @@
 use Rattle.std.proofs.Common.{◌≡◌, ◌∙◌, ◌+◌, ◌<◌, sym, subst, ap, ℕ, ℤ, List, [], All, filter, length, get_or, arith}
 use Rattle.std.proofs.lemmas.List.Elements.{All-push}
-use Rattle.ring_trace.specs.Sets.{IsSetOf}
+use Rattle.face_sets.specs.Sets.{IsSetOf}
 use Rattle.region_ops.specs.Dissolved.{set_at}
 use Rattle.region_ops.specs.Cleaned.{AreFirsts, AreWon, is_first}
 use Rattle.region_ops.proofs.FirstLemmas.{won_more, are_cleaned, same_read}

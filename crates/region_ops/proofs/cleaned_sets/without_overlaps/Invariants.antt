@@ -1,5 +1,5 @@
 use Rattle.std.proofs.Common.{All}
-use Rattle.ring_trace.specs.Sets.{IsSetOf}
+use Rattle.face_sets.specs.Sets.{IsSetOf}
 use Rattle.region_ops.specs.Cleaned.{AreWon}
 use Rattle.region_ops.proofs.cleaned_sets.without_overlaps.Given as goal
 

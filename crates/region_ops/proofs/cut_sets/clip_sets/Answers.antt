@@ -1,7 +1,7 @@
 use Rattle.std.proofs.Common.{sym, subst, ℕ, List, All}
 use Rattle.std.specs.Prelude.{nat_eq}
 use Rattle.lists.specs.Lists.{has}
-use Rattle.ring_trace.specs.Sets.{IsSetOf}
+use Rattle.face_sets.specs.Sets.{IsSetOf}
 use Rattle.region_ops.proofs.Inner.{filtered_inner}
 use Rattle.region_ops.proofs.cut_sets.clip_sets.Goals as goal
 

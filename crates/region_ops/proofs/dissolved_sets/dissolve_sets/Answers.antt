@@ -1,5 +1,5 @@
 use Rattle.std.proofs.Common.{sym, subst, ℕ, List, All, take}
-use Rattle.ring_trace.specs.Sets.{IsSetOf}
+use Rattle.face_sets.specs.Sets.{IsSetOf}
 use Rattle.region_ops.proofs.Inner.{unions_inner}
 use Rattle.region_ops.proofs.dissolved_sets.dissolve_sets.Goals as goal
 

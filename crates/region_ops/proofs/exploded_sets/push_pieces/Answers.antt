@@ -1,6 +1,6 @@
 use Rattle.std.proofs.Common.{sym, subst, ℕ, List, All, length}
 use Rattle.std.proofs.lemmas.List.Elements.{All-append, All-map, All-weaker}
-use Rattle.ring_trace.specs.Sets.{IsSetOf}
+use Rattle.face_sets.specs.Sets.{IsSetOf}
 use Rattle.region_ops.specs.declared.item_lists.PartItem.{PartItem}
 use Rattle.region_ops.specs.Exploded.{items_of}
 use Rattle.region_ops.specs.Items.{IsPart}

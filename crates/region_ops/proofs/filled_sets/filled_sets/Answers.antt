@@ -1,7 +1,7 @@
 use Rattle.std.proofs.Common.{◌≡◌, ◌∙◌, sym, ap, subst, ℕ, ℤ, List, length, map, Vec, Global}
 use Rattle.std.proofs.lemmas.List.{length-map}
 use Rattle.std.proofs.lemmas.Result.{IfOk-weaker}
-use Rattle.ring_trace.specs.Sets.{area_of}
+use Rattle.face_sets.specs.Sets.{area_of}
 use Rattle.region_ops.specs.Filled.{AreGifts, AreTogether, IsFilled}
 use Rattle.region_ops.proofs.FillLemmas.{are_filled}
 use Rattle.region_ops.proofs.filled_sets.filled_sets.Goals as goal

@@ -1,7 +1,7 @@
 use Rattle.std.proofs.Common.{◌≡◌, List, ℕ, take}
 use Rattle.plane_model.specs.Points.{Path}
 use Rattle.face_walk.specs.Places.{IsBuiltOf}
-use Rattle.ring_trace.specs.Owners.{AreOwners}
+use Rattle.face_sets.specs.Owners.{AreOwners}
 use Rattle.region_ops.specs.Filled.{neighbours_of}
 use Rattle.region_ops.proofs.filled_sets.neighbours_of.Given as goal
 

@@ -2,8 +2,8 @@ use Rattle.std.proofs.Common.{◌∙◌, ap, arith, ℕ, List, ◌++◌}
 use Rattle.std.specs.List.{flat_map}
 use Rattle.std.proofs.lemmas.List.{take_all}
 use Rattle.plane_model.specs.Arcs.{SignedArc}
-use Rattle.ring_trace.specs.Boundary.{face_right_of}
-use Rattle.ring_trace.specs.Owners.{owners_of}
+use Rattle.face_sets.specs.Boundary.{face_right_of}
+use Rattle.face_sets.specs.Owners.{owners_of}
 use Rattle.region_ops.proofs.FillLemmas.{round_more}
 use Rattle.region_ops.proofs.filled_sets.push_neighbours.Goals as goal
 

@@ -1,7 +1,7 @@
 use Rattle.std.proofs.Common.{◌≡◌, ◌++◌, List, ℕ, take}
 use Rattle.std.specs.List.{flat_map}
-use Rattle.ring_trace.specs.Boundary.{face_right_of}
-use Rattle.ring_trace.specs.Owners.{AreOwners, owners_of}
+use Rattle.face_sets.specs.Boundary.{face_right_of}
+use Rattle.face_sets.specs.Owners.{AreOwners, owners_of}
 use Rattle.region_ops.proofs.filled_sets.push_neighbours.Given as goal
 
 abbrev pub invariant-loop-arc : goal.invariant-loop-arc

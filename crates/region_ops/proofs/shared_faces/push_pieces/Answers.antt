@@ -1,7 +1,7 @@
 use Rattle.std.proofs.Common.{◌≡◌, ◌∙◌, sym, ap, subst, ℕ, List, get_or}
 use Rattle.std.proofs.lemmas.List.{get_or_default}
 use Rattle.face_walk.specs.Holders.{list_at}
-use Rattle.ring_trace.specs.Joined.{AreParts}
+use Rattle.face_sets.specs.Joined.{AreParts}
 use Rattle.region_ops.specs.Mosaic.{IsGroupPushed}
 use Rattle.region_ops.proofs.shared_faces.push_pieces.Goals as goal
 

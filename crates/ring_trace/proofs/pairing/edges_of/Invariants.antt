@@ -1,6 +1,6 @@
 use Rattle.std.proofs.Common.{◌≡◌, ◌<◌, length, map, take, All}
 use Rattle.ring_trace.specs.declared.pairing.Edge.{Edge}
-use Rattle.ring_trace.specs.declared.joined_faces.Side.{Side}
+use Rattle.face_sets.specs.declared.joined_faces.Side.{Side}
 use Rattle.ring_trace.specs.Pairing.{edge_of}
 use Rattle.ring_trace.proofs.pairing.edges_of.Given as goal
 

@@ -4,7 +4,7 @@ use Rattle.std.specs.List.Sorted.{IsPermutation}
 use Rattle.std.specs.Ordering.{nat_cmp}
 use Rattle.std.proofs.lemmas.List.{take_all, get_or_default}
 use Rattle.arc_table.specs.Around.{start_of}
-use Rattle.ring_trace.specs.Boundary.{other_way}
+use Rattle.face_sets.specs.Boundary.{other_way}
 use Rattle.std.proofs.lemmas.List.Sorted.{IsPermutation-map, All-permutation}
 use Rattle.ring_trace.specs.declared.pairing.Edge.{Edge}
 use Rattle.ring_trace.specs.declared.pairing.EdgeEnd.{EdgeEnd}

@@ -4,17 +4,17 @@ use Rattle.std.specs.List.Sorted.{IsPermutation, IsStrictlyIncreasing}
 use Rattle.std.proofs.lemmas.Result.{IfOk-weaker}
 use Rattle.plane_model.specs.Arcs.{SignedArc}
 use Rattle.arc_table.specs.Around.{start_of}
-use Rattle.ring_trace.specs.declared.joined_faces.Side.{Side}
+use Rattle.face_sets.specs.declared.joined_faces.Side.{Side}
 use Rattle.ring_trace.specs.declared.pairing.Edge.{Edge}
 use Rattle.ring_trace.specs.declared.ring_keys.RingKey.{RingKey}
-use Rattle.ring_trace.specs.Joined.{AreLeastNumbers, AreParts}
+use Rattle.face_sets.specs.Joined.{AreLeastNumbers, AreParts}
 use Rattle.ring_trace.specs.Keys.{AreByPart, IsHoleBy, IsLeastFirst, along_key}
 use Rattle.ring_trace.specs.Pairing.{AreBalanced, AreByStart, AreEdgesOf, stop_of}
 use Rattle.ring_trace.specs.Rings.{HasEachOnce}
 use Rattle.ring_trace.specs.Traced.{BeginsWithLeast, HasPolygonsOfParts, UseParts, UsesBoundary, times_along, times_traced, is_of_boundary, once_if}
 use Rattle.ring_trace.specs.Turns.{MayStandBefore}
 use Rattle.ring_trace.specs.Ways.{IsSimpleRing, AreRingsByCorners}
-use Rattle.ring_trace.proofs.BoundaryLemmas.{sides_are}
+use Rattle.face_sets.proofs.BoundaryLemmas.{sides_are}
 use Rattle.ring_trace.proofs.OrderLemmas.{polygons_in_order}
 use Rattle.ring_trace.proofs.PolygonLemmas.{keyed_least, keyed_part, parts_used, rings_all}
 use Rattle.ring_trace.proofs.SomeParts.{some_parts}

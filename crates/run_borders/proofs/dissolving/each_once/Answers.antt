@@ -1,6 +1,6 @@
 use Rattle.std.proofs.Common.{◌∙◌, nat_eq}
 use Rattle.std.proofs.lemmas.List.Filters.{dedup_is}
-use Rattle.ring_trace.proofs.SetLemmas.{sorted_once}
+use Rattle.face_sets.proofs.SetLemmas.{sorted_once}
 use Rattle.run_borders.proofs.dissolving.each_once.Goals as goal
 
 pub returns : goal.returns

@@ -1,6 +1,6 @@
 use Rattle.std.proofs.Common.{◌∙◌, All, List, ℕ, ap, map, refl, subst, sym}
 use Rattle.json_read.specs.Table.{TableContent}
-use Rattle.ring_trace.specs.Sets.{IsSetOf}
+use Rattle.face_sets.specs.Sets.{IsSetOf}
 use Rattle.union_ops.specs.Union.{IsUnion}
 use Rattle.union_ops.specs.UnionTable.{IsUnionTable}
 use Rattle.run_plane.specs.OnPlane.{AreOn}

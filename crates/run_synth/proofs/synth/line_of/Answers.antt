@@ -1,7 +1,7 @@
 use Rattle.std.proofs.Common.{◌≡◌, sym, subst, ℕ, List, All}
 use Rattle.std.specs.String.{string_bytes}
 use Rattle.std.proofs.lemmas.Result.{IfOk-weaker}
-use Rattle.ring_trace.specs.Sets.{IsSetOf}
+use Rattle.face_sets.specs.Sets.{IsSetOf}
 use Rattle.synth_model.specs.Line.{line_text}
 use Rattle.run_synth.specs.Told.{AreNumbersOf, IsLineOf}
 use Rattle.run_plane.proofs.OnPlane.{features_are_inner}

@@ -1,5 +1,5 @@
 use Rattle.std.proofs.Common.{sym, subst}
-use Rattle.ring_trace.specs.Sets.{IsSetOf}
+use Rattle.face_sets.specs.Sets.{IsSetOf}
 use Rattle.run_synth.proofs.InnerSets.{together_inner}
 use Rattle.run_synth.proofs.synth.numbers_of.Goals as goal
 

@@ -1,5 +1,5 @@
 use Rattle.std.proofs.Common.{sym}
-use Rattle.ring_trace.proofs.SetLemmas.{search_found, search_misses}
+use Rattle.face_sets.proofs.SetLemmas.{search_found, search_misses}
 use Rattle.spatial_join.proofs.joined.is_listed.Goals as goal
 
 pub returns-in-Ok : goal.returns-in-Ok

@@ -1,6 +1,6 @@
 use Rattle.std.proofs.Common.{refl, sym, subst, ℕ, ◌+◌, List, get_or, map, take}
-use Rattle.ring_trace.specs.Owners.{IsNumbered}
-use Rattle.ring_trace.proofs.OwnerLemmas.{numbered_more}
+use Rattle.face_sets.specs.Owners.{IsNumbered}
+use Rattle.face_sets.proofs.OwnerLemmas.{numbered_more}
 use Rattle.spatial_join.proofs.matches.add_number.Goals as goal
 
 pub loop-place-preserved : goal.loop-place-preserved

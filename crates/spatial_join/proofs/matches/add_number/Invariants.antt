@@ -1,5 +1,5 @@
 use Rattle.std.proofs.Common.{map, take}
-use Rattle.ring_trace.specs.Owners.{IsNumbered}
+use Rattle.face_sets.specs.Owners.{IsNumbered}
 use Rattle.spatial_join.proofs.matches.add_number.Given as goal
 
 abbrev pub invariant-loop-place : goal.invariant-loop-place

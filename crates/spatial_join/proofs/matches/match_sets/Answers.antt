@@ -2,7 +2,7 @@ use Rattle.std.proofs.Common.{◌≡◌, ◌∙◌, ap, List, ℕ, ◌<◌, All,
 use Rattle.std.specs.List.{range_with_len}
 use Rattle.std.specs.List.Sorted.{IsStrictlyIncreasing}
 use Rattle.std.proofs.lemmas.Result.{IfOk-weaker}
-use Rattle.ring_trace.specs.Owners.{owners_of}
+use Rattle.face_sets.specs.Owners.{owners_of}
 use Rattle.spatial_join.specs.Matches.{AreMatchedSets}
 use Rattle.spatial_join.proofs.MatchLemmas.{turned_below, turned_each, turned_rise}
 use Rattle.spatial_join.proofs.matches.match_sets.Goals as goal

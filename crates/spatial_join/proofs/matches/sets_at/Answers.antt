@@ -1,7 +1,7 @@
 use Rattle.std.proofs.Common.{◌≡◌, ◌∙◌, nat_eq, List, ℕ}
 use Rattle.std.proofs.lemmas.List.Filters.{dedup_is}
 use Rattle.std.proofs.lemmas.Result.{IfOk-weaker}
-use Rattle.ring_trace.proofs.SetLemmas.{sorted_once}
+use Rattle.face_sets.proofs.SetLemmas.{sorted_once}
 use Rattle.spatial_join.specs.Matches.{AreSetsAt}
 use Rattle.spatial_join.proofs.MatchLemmas.{sets_along}
 use Rattle.spatial_join.proofs.matches.sets_at.Goals as goal

@@ -2,8 +2,8 @@ use Rattle.std.proofs.Common.{◌≡◌, ◌∙◌, subst, ap, arith, ℕ, List,
 use Rattle.std.specs.List.{range_with_len}
 use Rattle.std.proofs.lemmas.List.{length-map, take_all}
 use Rattle.std.proofs.lemmas.Result.{IfOk-weaker}
-use Rattle.ring_trace.specs.Owners.{AreOwners, IsNumbered, owners_of}
-use Rattle.ring_trace.proofs.OwnerLemmas.{owners_none, owners_more}
+use Rattle.face_sets.specs.Owners.{AreOwners, IsNumbered, owners_of}
+use Rattle.face_sets.proofs.OwnerLemmas.{owners_none, owners_more}
 use Rattle.spatial_join.proofs.MatchLemmas.{all_owners}
 use Rattle.spatial_join.proofs.matches.turned_round.Goals as goal
 

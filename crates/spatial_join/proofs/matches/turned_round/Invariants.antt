@@ -1,5 +1,5 @@
 use Rattle.std.proofs.Common.{map, take}
-use Rattle.ring_trace.specs.Owners.{AreOwners}
+use Rattle.face_sets.specs.Owners.{AreOwners}
 use Rattle.spatial_join.proofs.matches.turned_round.Given as goal
 
 abbrev pub invariant-loop-n : goal.invariant-loop-n

@@ -1,6 +1,6 @@
 use Rattle.std.proofs.Common.{◌≡◌, ◌∙◌, sym, ap, subst, ℕ, List, get_or}
 use Rattle.std.proofs.lemmas.List.{get_or_default}
-use Rattle.ring_trace.specs.Joined.{AreParts}
+use Rattle.face_sets.specs.Joined.{AreParts}
 use Rattle.union_ops.specs.Choices.{Choice}
 use Rattle.union_ops.specs.Union.{IsGroupPushed, choice_at}
 use Rattle.union_ops.proofs.united_faces.push_parts.Goals as goal

@@ -1,0 +1,82 @@
+-- The faces outside a set, and the parts of them that the outer face isn't in.
+use Rattle.std.proofs.Common.{◌≡◌, ◌∙◌, sym, ap, arith, ℕ, zero, suc, ◌+◌, ◌<◌, Bool, true, false, cond, not, List, [], ◌∷◌, ◌++◌, length, get_or, take, filter, nat_eq, All, Contains}
+use Rattle.std.specs.List.{range_with_len}
+use Rattle.std.specs.List.Sorted.{IsStrictlyIncreasing}
+use Rattle.std.proofs.lemmas.List.{take_more}
+use Rattle.std.proofs.lemmas.List.Elements.{All-contains, All-filter, All-from_get_or, Contains-get_or, filter-append}
+use Rattle.std.proofs.lemmas.List.FromFn.{length-range_with_len, get_or-range_with_len}
+use Rattle.std.proofs.lemmas.List.Kept.{IsStrictlyIncreasing-filter}
+use Rattle.std.proofs.lemmas.Option.{get_or_from_slice_get}
+use Rattle.lists.specs.Lists.{has, joined_up}
+use Rattle.lists.proofs.Members.{filter-Contains}
+use Rattle.face_walk.specs.Places.{FaceTable}
+use Rattle.face_walk.proofs.RingStepLemmas.{joined_more}
+use Rattle.face_sets.specs.Gaps.{outside_of, has_outer}
+use Rattle.face_sets.specs.Parts.{IsPieceOf}
+use Rattle.face_sets.specs.Sets.{IsInnerFace, IsSetOf}
+use Rattle.face_sets.proofs.BoundaryLemmas.{Contains_has}
+
+-- ---- what is outside
+
+pub range_more : (a n : ℕ) → range_with_len a (n + 1) ≡ range_with_len a n ++ (a + n) ∷ []
+range_more a zero = λ i. (let e : a ≡ a + 0 = omega arith in e) i ∷ []
+range_more a (suc n) = ap (range_with_len a) (let e : suc n + 1 ≡ suc (n + 1) = omega arith in e) ∙ ap (λ (xs : List ℕ). a ∷ xs) (range_more (a + 1) n) ∙ ap (λ (m : ℕ). a ∷ (range_with_len (a + 1) n ++ m ∷ [])) (let e : a + 1 + n ≡ a + suc n = omega arith in e)
+
+pub outside_more : (set : List ℕ) (n : ℕ) (b : Bool) → b ≡ has nat_eq set n →
+    filter (λ (k : ℕ). not (has nat_eq set k)) (range_with_len 0 (n + 1)) ≡ filter (λ (k : ℕ). not (has nat_eq set k)) (range_with_len 0 n) ++ cond (not b) (n ∷ []) []
+outside_more set n b is =
+    let test : ℕ → Bool = λ (k : ℕ). not (has nat_eq set k) in
+    let same : 0 + n ≡ n = omega arith in
+    ap (filter test) (range_more 0 n) ∙ filter-append test (range_with_len 0 n) ((0 + n) ∷ [])
+    ∙ ap (λ (m : ℕ). filter test (range_with_len 0 n) ++ filter test (m ∷ [])) same
+    ∙ ap (λ (c : Bool). filter test (range_with_len 0 n) ++ cond (not c) (n ∷ []) []) (sym is)
+
+range_rises : (n : ℕ) → IsStrictlyIncreasing (range_with_len 0 n)
+range_rises n k l =
+    let e = length-range_with_len 0 n in
+    let here = get_or-range_with_len 0 n k 0 (omega arith) in
+    let next = get_or-range_with_len 0 n (k + 1) 0 (omega arith) in
+    omega arith
+
+pub outside_rises : (set : List ℕ) (n : ℕ) → IsStrictlyIncreasing (filter (λ (k : ℕ). not (has nat_eq set k)) (range_with_len 0 n))
+outside_rises set n = IsStrictlyIncreasing-filter (λ (k : ℕ). not (has nat_eq set k)) (range_with_len 0 n) (range_rises n)
+
+range_below : (n : ℕ) → All (λ k. k < n) (range_with_len 0 n)
+range_below n = All-from_get_or (λ k. k < n) (range_with_len 0 n) 0 (λ i l.
+    let e = length-range_with_len 0 n in
+    let h = get_or-range_with_len 0 n i 0 (omega arith) in
+    omega arith)
+
+outside_below : (faces : FaceTable) (set : List ℕ) → All (λ k. k < faces.count) (outside_of faces set)
+outside_below faces set = All-filter (λ (k : ℕ). not (has nat_eq set k)) (λ k. k < faces.count) (range_with_len 0 faces.count) (range_below faces.count)
+
+-- ---- parts that the outer face isn't in
+
+one_not_other : (b : Bool) → not b ≡ true → b ≡ true → ⊥
+one_not_other true e f = let h : false ≡ true = e in cc
+one_not_other false e f = let h : false ≡ true = f in cc
+
+-- a part of what is outside that has no outer face has inner faces alone
+shut_in_inner : (faces : FaceTable) (set part : List ℕ) → IsPieceOf (outside_of faces set) part → not (has_outer faces part) ≡ true → IsSetOf faces part
+shut_in_inner faces set part piece without = All-from_get_or (IsInnerFace faces) part 0 (λ i l.
+    let k : ℕ = get_or part i 0 in
+    let listed : Contains part k = Contains-get_or part i 0 l in
+    record {
+      there = All-contains (λ k. k < faces.count) (outside_of faces set) k (outside_below faces set) (All-contains (Contains (outside_of faces set)) part k piece.faces listed);
+      not_outer = λ e.
+          let is : get_or faces.places 0 0 ≡ k = get_or_from_slice_get faces.places 0 k 0 e in
+          one_not_other (has_outer faces part) without (ap (has nat_eq part) is ∙ Contains_has part k listed);
+    })
+
+pub gaps_inner : (faces : FaceTable) (set : List ℕ) (parts : List (List ℕ)) → All (IsPieceOf (outside_of faces set)) parts → All (IsSetOf faces) (filter (λ (part : List ℕ). not (has_outer faces part)) parts)
+gaps_inner faces set parts pieces =
+    let test : List ℕ → Bool = λ (part : List ℕ). not (has_outer faces part) in
+    All-from_get_or (IsSetOf faces) (filter test parts) [] (λ i l.
+    let part : List ℕ = get_or (filter test parts) i [] in
+    let (listed, passes) = filter-Contains test parts part (Contains-get_or (filter test parts) i [] l) in
+    shut_in_inner faces set part (All-contains (IsPieceOf (outside_of faces set)) parts part pieces listed) passes)
+
+-- ---- the faces of all sets, one more set
+
+pub faces_more : (sets : List (List ℕ)) (i : ℕ) (d : List ℕ) → i < length sets → joined_up (take (i + 1) sets) ≡ joined_up (take i sets) ++ get_or sets i d
+faces_more sets i d l = ap joined_up (take_more sets i d l) ∙ joined_more (take i sets) (get_or sets i d)

@@ -1,6 +1,0 @@
-use Rattle.std.proofs.Common.{map, take}
-use Rattle.ring_trace.specs.Owners.{IsNumbered}
-use Rattle.ring_trace.proofs.face_owners.add_owner.Given as goal
-
-abbrev pub invariant-loop-face : goal.invariant-loop-face
-invariant-loop-face l = IsNumbered l.n (take l.face-index l.faces) (map (λ list. list.items) l.fn.lists.items) (map (λ list. list.items) l.lists.items)

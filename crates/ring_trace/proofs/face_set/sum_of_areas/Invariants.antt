@@ -1,6 +1,0 @@
-use Rattle.std.proofs.Common.{◌≡◌, take}
-use Rattle.ring_trace.specs.Sets.{area_of}
-use Rattle.ring_trace.proofs.face_set.sum_of_areas.Given as goal
-
-abbrev pub invariant-loop-face : goal.invariant-loop-face
-invariant-loop-face l = l.sum ≡ area_of l.f.areas (take l.face-index l.faces)

@@ -1,6 +1,0 @@
-use Rattle.std.proofs.Common.{ℕ, ◌<◌, ◌≤◌}
-use Rattle.ring_trace.specs.Parts.{HasPart}
-use Rattle.ring_trace.proofs.part_sets.end_of_part.Given as goal
-
-abbrev pub invariant-loop-i : goal.invariant-loop-i
-invariant-loop-i l = (k : ℕ) → l.first ≤ k → k < l.i → HasPart l.numbered k l.part
