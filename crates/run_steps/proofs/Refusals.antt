@@ -19,7 +19,8 @@ use Rattle.run_state.specs.declared.state.CommandStop.TheVariants as stop
 use Rattle.run_state.specs.declared.state.Held.{Held}
 use Rattle.run_state.proofs.Stops.{stops_second}
 use Rattle.run_state.proofs.TargetLemmas.{target_first, other_first}
-use Rattle.run_steps.specs.Refusals.{FirstOf, RefusesIn, refused_area, refused_count, refused_polygons}
+use Rattle.run_checks.specs.Checks.{refused_area, refused_polygons}
+use Rattle.run_steps.specs.Refusals.{FirstOf, RefusesIn, refused_count}
 
 -- ---- the source
 

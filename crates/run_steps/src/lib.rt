@@ -3,10 +3,10 @@
 //! In: what commands stand on (`Ground`), a command, and the layers before it (`State`). Out: the state after it, or
 //! a `CommandStop`: its first refusal, or memory ran out.
 //!
-//! 1. `commands` tests the target of a command, then its source, then the kinds and the number of its layers. It has
-//!    layers put out and placed among the others, and refuses more than 1,000 of them.
+//! 1. `commands` has a command tested (`run_checks`), layers put out and placed among the others, and refuses more than
+//!    1,000 of them.
 //! 2. `outputs` says what a command puts out for each layer of its target, or for all of them together, by the calls
-//!    of `run_shapes` and `run_tables`.
+//!    of `run_shapes`, `run_borders` and `run_tables`.
 #![tactic(auto)]
 
 mod commands;

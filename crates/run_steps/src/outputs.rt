@@ -7,7 +7,8 @@ ghost use Rattle.run_state.specs.Targets.{has_target, is_selected, targets};
 ghost use Rattle.run_state.specs.Origins.{base_of, one_layer, origin_layers};
 ghost use Rattle.run_state.specs.Stops.{StopsAs, StopsFor};
 ghost use Rattle.run_steps.specs.Commands.{CutsBy, IsTitled, Joins, JoinsByPlace, MadeTogether, PutsFor, PutsOut, PutsTogether, at_first};
-ghost use Rattle.run_steps.specs.Refusals.{RefusesHeld, RefusesIn, RefusesLayer, RefusesByPlace, refused_join, refused_source, refused_together};
+ghost use Rattle.run_checks.specs.Checks.{refused_source};
+ghost use Rattle.run_steps.specs.Refusals.{RefusesHeld, RefusesIn, RefusesLayer, RefusesByPlace, refused_join, refused_together};
 ghost use Rattle.run_tables.specs.Made.{GivesTable, One};
 ghost use Rattle.spatial_join.specs.Joined.{join_matched};
 

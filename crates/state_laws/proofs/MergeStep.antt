@@ -27,6 +27,7 @@ use Rattle.run_state.specs.declared.state.Held.{Held}
 use Rattle.run_state.proofs.TargetLemmas.{other_first, target_first}
 use Rattle.run_tables.specs.Made.{IsMerged, refused_layers}
 use Rattle.run_steps.specs.Commands.{ChangesTogether, at_first}
+use Rattle.run_checks.specs.Checks as checks
 use Rattle.run_steps.specs.Refusals as run
 use Rattle.chain_model.specs.Outcome as state
 use Rattle.chain_model.specs.Outcome.{no_layer}
@@ -50,7 +51,7 @@ use Rattle.state_laws.proofs.Zipped.{zip_all, zip_long}
 
 -- ---- layers of one kind
 
-kinds_same : (j k : Kind) → same_kind j k ≡ run.same_kind j k
+kinds_same : (j k : Kind) → same_kind j k ≡ checks.same_kind j k
 kinds_same kinds.Polygon kinds.Polygon = refl
 kinds_same kinds.Polygon kinds.Line = refl
 kinds_same kinds.Polygon kinds.Point = refl
@@ -68,7 +69,7 @@ kinds_same kinds.Table kinds.Line = refl
 kinds_same kinds.Table kinds.Point = refl
 kinds_same kinds.Table kinds.Table = refl
 
-same_is : (j k : Kind) → run.same_kind j k ≡ true → k ≡ j
+same_is : (j k : Kind) → checks.same_kind j k ≡ true → k ≡ j
 same_is kinds.Polygon kinds.Polygon e = refl
 same_is kinds.Line kinds.Line e = refl
 same_is kinds.Point kinds.Point e = refl
@@ -76,19 +77,19 @@ same_is kinds.Table kinds.Table e = refl
 same_is j k e = absurd (true≢false (sym e))
 
 abbrev all_same : Kind → List Layer → Bool
-all_same k layers = list_all (λ (layer : Layer). run.same_kind k layer.kind) layers
+all_same k layers = list_all (λ (layer : Layer). checks.same_kind k layer.kind) layers
 
 all_of_kind : (k : Kind) (layers : List Layer) → all_same k layers ≡ true → All (λ (layer : Layer). layer.kind ≡ k) layers
 all_of_kind k [] e = All-nil (λ (layer : Layer). layer.kind ≡ k)
 all_of_kind k (layer ∷ layers) e =
-    let both = and_parts (run.same_kind k layer.kind) (all_same k layers) e in
+    let both = and_parts (checks.same_kind k layer.kind) (all_same k layers) e in
     All-cons (λ (other : Layer). other.kind ≡ k) layer layers (same_is k layer.kind both.0) (all_of_kind k layers both.1)
 
 pub one_kind_told : (b : Bool) → (if b then None else Some WrongKind) ≡ None → b ≡ true
 one_kind_told true e = refl
 one_kind_told false e = absurd (let some : Some WrongKind ≡ None = e in cc)
 
-firsts_same : (v : View) (ts : List Layer) (ls : List StateLayer) → AllZip (LayerShows v) ts ls → first_kind ls ≡ run.first_kind ts
+firsts_same : (v : View) (ts : List Layer) (ls : List StateLayer) → AllZip (LayerShows v) ts ls → first_kind ls ≡ checks.first_kind ts
 firsts_same v [] [] shown = refl
 firsts_same v [] (l ∷ ls) shown = absurd shown
 firsts_same v (layer ∷ ts) [] shown = absurd shown
@@ -102,25 +103,25 @@ module _ (force : Bool) where
   abbrev a : JointAction
   a = joint.MergeLayers force
 
-  kinds_alike : (v : View) (sources : SourceLayers) (s : State) (ts : List Layer) (ls : List StateLayer) → AllZip (LayerShows v) ts ls → unfit sources s (does.Together a) ls ≡ option_map why_of (run.refused_mixture a ts)
+  kinds_alike : (v : View) (sources : SourceLayers) (s : State) (ts : List Layer) (ls : List StateLayer) → AllZip (LayerShows v) ts ls → unfit sources s (does.Together a) ls ≡ option_map why_of (checks.refused_mixture a ts)
   kinds_alike v sources s ts ls shown =
-      let same : list_all (λ (l : StateLayer). same_kind (first_kind ls) l.kind) ls ≡ all_same (run.first_kind ts) ts =
-      sym (zip_all (LayerShows v) (λ (layer : Layer). run.same_kind (run.first_kind ts) layer.kind) (λ (l : StateLayer). same_kind (first_kind ls) l.kind)
-      (λ layer l h. sym (kinds_same (run.first_kind ts) layer.kind) ∙ (λ i. same_kind (sym (firsts_same v ts ls shown) i) (sym h.kind i))) ts ls shown) in
-      ap (λ (b : Bool). first_refusal (if b then None else Some state.wrong_kind) None) same ∙ mixture_told (all_same (run.first_kind ts) ts)
+      let same : list_all (λ (l : StateLayer). same_kind (first_kind ls) l.kind) ls ≡ all_same (checks.first_kind ts) ts =
+      sym (zip_all (LayerShows v) (λ (layer : Layer). checks.same_kind (checks.first_kind ts) layer.kind) (λ (l : StateLayer). same_kind (first_kind ls) l.kind)
+      (λ layer l h. sym (kinds_same (checks.first_kind ts) layer.kind) ∙ (λ i. same_kind (sym (firsts_same v ts ls shown) i) (sym h.kind i))) ts ls shown) in
+      ap (λ (b : Bool). first_refusal (if b then None else Some state.wrong_kind) None) same ∙ mixture_told (all_same (checks.first_kind ts) ts)
 
   -- ---- what is merged
 
-  merged_at : (v : View) (ts : List Layer) (ls : List StateLayer) → AllZip (LayerShows v) ts ls → run.refused_mixture a ts ≡ None → (made : Layer) → IsMerged force ts made → MergedShows v made (drop 1 ts) (merged_layers force ls)
+  merged_at : (v : View) (ts : List Layer) (ls : List StateLayer) → AllZip (LayerShows v) ts ls → checks.refused_mixture a ts ≡ None → (made : Layer) → IsMerged force ts made → MergedShows v made (drop 1 ts) (merged_layers force ls)
   merged_at v [] ls shown none made is = absurd (let e : None ≡ Some is.first = is.begins in cc)
   merged_at v (first ∷ rest) ls shown none made is =
-      let alike = all_of_kind first.kind rest (and_parts (run.same_kind first.kind first.kind) (all_same first.kind rest) (one_kind_told (all_same first.kind (first ∷ rest)) none)).1 in
+      let alike = all_of_kind first.kind rest (and_parts (checks.same_kind first.kind first.kind) (all_same first.kind rest) (one_kind_told (all_same first.kind (first ∷ rest)) none)).1 in
       (merged_layers_show v first rest ls shown alike force).0 made is
 
-  refused_at : (v : View) (ts : List Layer) (ls : List StateLayer) → AllZip (LayerShows v) ts ls → 0 < length ts → run.refused_mixture a ts ≡ None → RefusedAlike (refused_layers force ts) (merged_layers force ls)
+  refused_at : (v : View) (ts : List Layer) (ls : List StateLayer) → AllZip (LayerShows v) ts ls → 0 < length ts → checks.refused_mixture a ts ≡ None → RefusedAlike (refused_layers force ts) (merged_layers force ls)
   refused_at v [] ls shown some none = absurd (omega (arith, some))
   refused_at v (first ∷ rest) ls shown some none =
-      let alike = all_of_kind first.kind rest (and_parts (run.same_kind first.kind first.kind) (all_same first.kind rest) (one_kind_told (all_same first.kind (first ∷ rest)) none)).1 in
+      let alike = all_of_kind first.kind rest (and_parts (checks.same_kind first.kind first.kind) (all_same first.kind rest) (one_kind_told (all_same first.kind (first ∷ rest)) none)).1 in
       (merged_layers_show v first rest ls shown alike force).1
 
 -- ---- how many
@@ -223,7 +224,7 @@ module _ (v : View) (base : Base) (sources : SourceLayers) (layers : List Held) 
   shown : AllZip (LayerShows v) ts ls
   shown = (targets_show v layers s h c.target).show
 
-  at_work : (answer : Result (List (List StateLayer)) state.RefuseWhy) → has_target c.target layers ≡ true → run.refused_mixture (joint.MergeLayers force) ts ≡ None → merged_layers force ls ≡ answer →
+  at_work : (answer : Result (List (List StateLayer)) state.RefuseWhy) → has_target c.target layers ≡ true → checks.refused_mixture (joint.MergeLayers force) ts ≡ None → merged_layers force ls ≡ answer →
       step (plane_of v) v.answers sources s c ≡ stepped (on_ok answer (put s c ns))
   at_work answer there none is =
       let fit : unfit sources s (does.Together (joint.MergeLayers force)) ls ≡ None = kinds_alike force v sources s ts ls shown ∙ ap (option_map why_of) none in
@@ -234,7 +235,7 @@ module _ (v : View) (base : Base) (sources : SourceLayers) (layers : List Held) 
       StepGives v sources s c after
   goes_on none after changes =
       let (before, work) = none_of_two (run.unfit_together layers c (joint.MergeLayers force)) (run.failed_together layers c (joint.MergeLayers force)) none in
-      let (target, mixture, number) = none_of_three (run.refused_target c.target layers) (run.refused_mixture (joint.MergeLayers force) ts) None before in
+      let (target, mixture, number) = none_of_three (checks.refused_target c.target layers) (checks.refused_mixture (joint.MergeLayers force) ts) None before in
       let there : has_target c.target layers ≡ true = target_there (has_target c.target layers) target in
       let merged : MergedShows v changes.puts.made (drop 1 ts) (merged_layers force ls) = merged_at force v ts ls shown mixture changes.puts.made changes.puts.of_all in
       let outs : List (List StateLayer) = (merged.merged ∷ []) ∷ map (λ (other : Layer). []) (drop 1 ts) in
@@ -252,7 +253,7 @@ module _ (v : View) (base : Base) (sources : SourceLayers) (layers : List Held) 
       let (t, is, shows) = after_it.few few in
       (t, at_work (Ok outs) there mixture merged.answers ∙ ap stepped is, subst (λ (held : List Held). StateShows v held t) (sym changes.placed) shows)
 
-  unfit_stops : (why : RefuseWhy) → First why (run.refused_target c.target layers) (run.refused_mixture (joint.MergeLayers force) ts) None → StepRefuses v sources s c why
+  unfit_stops : (why : RefuseWhy) → First why (checks.refused_target c.target layers) (checks.refused_mixture (joint.MergeLayers force) ts) None → StepRefuses v sources s c why
   unfit_stops why (is_first target) =
       let absent = target_absent (has_target c.target layers) why target in
       step_refused v sources s c (does.Together (joint.MergeLayers force)) merges (λ n. refl) no_layer ((targets_show v layers s h c.target).absent absent.0) ∙ ap (λ (w : RefuseWhy). Err (why_of w)) absent.1
@@ -265,7 +266,7 @@ module _ (v : View) (base : Base) (sources : SourceLayers) (layers : List Held) 
   tables_stop : (why : RefuseWhy) (refusal : Option RefuseWhy) → refusal ≡ Some why → RefusedAlike refusal (merged_layers force ls) → merged_layers force ls ≡ Err (why_of why)
   tables_stop why refusal e alike = subst (λ (o : Option RefuseWhy). RefusedAlike o (merged_layers force ls)) e alike
 
-  count_stops : (why : RefuseWhy) → has_target c.target layers ≡ true → run.refused_mixture (joint.MergeLayers force) ts ≡ None → refused_layers force ts ≡ None → run.refused_count (run.stay_count c layers + 1) ≡ Some why →
+  count_stops : (why : RefuseWhy) → has_target c.target layers ≡ true → checks.refused_mixture (joint.MergeLayers force) ts ≡ None → refused_layers force ts ≡ None → run.refused_count (run.stay_count c layers + 1) ≡ Some why →
       StepRefuses v sources s c why
   count_stops why there mixture tables count =
       let many = too_many_told (nat_lt 1000 (run.stay_count c layers + 1)) why count in
@@ -283,7 +284,7 @@ module _ (v : View) (base : Base) (sources : SourceLayers) (layers : List Held) 
       ∙ ap (λ (b : Bool). stepped (counted (placed s c.keep ns named) b)) (lt-ltb 1000 (length (placed s c.keep ns named)) more)
       ∙ ap (λ (w : RefuseWhy). Err (why_of w)) many.1
 
-  work_stops : (why : RefuseWhy) → has_target c.target layers ≡ true → run.refused_mixture (joint.MergeLayers force) ts ≡ None → (refused_layers force ts ≡ Some why) ⊎ ((refused_layers force ts ≡ None) × (run.refused_count (run.stay_count c layers + 1) ≡ Some why)) →
+  work_stops : (why : RefuseWhy) → has_target c.target layers ≡ true → checks.refused_mixture (joint.MergeLayers force) ts ≡ None → (refused_layers force ts ≡ Some why) ⊎ ((refused_layers force ts ≡ None) × (run.refused_count (run.stay_count c layers + 1) ≡ Some why)) →
       StepRefuses v sources s c why
   work_stops why there mixture (inl tables) =
       at_work (Err (why_of why)) there mixture (tables_stop why (refused_layers force ts) tables (refused_at force v ts ls shown (targets_there c.target layers there) mixture))
@@ -291,9 +292,9 @@ module _ (v : View) (base : Base) (sources : SourceLayers) (layers : List Held) 
 
   stops_for : (why : RefuseWhy) → (run.unfit_together layers c (joint.MergeLayers force) ≡ Some why) ⊎ ((run.unfit_together layers c (joint.MergeLayers force) ≡ None) × (run.failed_together layers c (joint.MergeLayers force) ≡ Some why)) →
       StepRefuses v sources s c why
-  stops_for why (inl before) = unfit_stops why (which why (run.refused_target c.target layers) (run.refused_mixture (joint.MergeLayers force) ts) None before)
+  stops_for why (inl before) = unfit_stops why (which why (checks.refused_target c.target layers) (checks.refused_mixture (joint.MergeLayers force) ts) None before)
   stops_for why (inr (none, fails)) =
-      let (target, mixture, number) = none_of_three (run.refused_target c.target layers) (run.refused_mixture (joint.MergeLayers force) ts) None none in
+      let (target, mixture, number) = none_of_three (checks.refused_target c.target layers) (checks.refused_mixture (joint.MergeLayers force) ts) None none in
       work_stops why (target_there (has_target c.target layers) target) mixture (first_of_two why (refused_layers force ts) (run.refused_count (run.stay_count c layers + 1)) fails)
 
 pub merge_steps_show : MergeStepsShow

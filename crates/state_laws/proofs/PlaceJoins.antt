@@ -19,7 +19,7 @@ use Rattle.run_plane.specs.declared.layer.Shape.{Shape}
 use Rattle.run_plane.specs.declared.plane.Plane.{Plane}
 use Rattle.run_state.specs.FaceSets.{sets_in}
 use Rattle.run_tables.specs.Matching.{AreMatchesOf, point_lists}
-use Rattle.run_steps.specs.Refusals.{joins_with}
+use Rattle.run_checks.specs.Checks.{joins_with}
 use Rattle.chain_model.specs.State as state
 use Rattle.chain_model.specs.Features.{matches_of}
 use Rattle.state_laws.specs.Shown.{View, IsView, AreVertices, FacesShow, PointsShow, PolygonShows, ShapeShows, IsSeenIn}

@@ -25,8 +25,9 @@ use Rattle.run_state.specs.declared.refusal.RefuseWhy.TheVariants.{WrongKind}
 use Rattle.run_state.specs.declared.state.Held.{Held}
 use Rattle.run_tables.specs.Made.{GivesTable, One}
 use Rattle.run_steps.specs.Commands.{JoinsByPlace, PutsOut}
+use Rattle.run_checks.specs.Checks as checks
 use Rattle.run_steps.specs.Refusals as held
-use Rattle.run_steps.specs.Refusals.{joins_all, joins_with}
+use Rattle.run_checks.specs.Checks.{joins_all, joins_with}
 use Rattle.chain_model.specs.Outcome as outcome
 use Rattle.chain_model.specs.State.{State, StateLayer}
 use Rattle.chain_model.specs.Targets as model
@@ -101,7 +102,7 @@ each_fits source (layer ∷ ts) e =
     let same : source ≡ other = let e : Ok source ≡ Ok other = is in cc in
     subst (λ (from : Layer). joins_with from.kind layer.kind ≡ true) same both.0) (each_fits source ts both.1)
 
-all_fit : (found : Result Layer RefuseWhy) (ts : List Layer) → held.refused_pairs found ts ≡ None → All (Fits found) ts
+all_fit : (found : Result Layer RefuseWhy) (ts : List Layer) → checks.refused_pairs found ts ≡ None → All (Fits found) ts
 all_fit (Ok source) ts none = each_fits source ts (one_kind_told (joins_all source.kind ts) none)
 all_fit (Err why) ts none = absurd (let some : Some why ≡ None = none in cc)
 
@@ -119,7 +120,7 @@ module _ (v : View) (from : Origin) (spec : CalcSpec) (ts : List Layer) (ls : Li
   abbrev stopped_by : Result StateLayer outcome.RefuseWhy → Option outcome.RefuseWhy
   stopped_by taken = first_refusal (steps.refusal_of taken) (first_refusal (refused_kinds (does.Each (action.SpatialJoin from spec)) ls) (refused_pairs taken ls))
 
-  stopped_so : (source : Layer) (m : StateLayer) → LayerShows v source m → 0 < length ts → (b : Bool) → is_joined m.kind ≡ b → stopped_by (polygons_or_points m) ≡ option_map why_of (held.refused_pairs (Ok source) ts)
+  stopped_so : (source : Layer) (m : StateLayer) → LayerShows v source m → 0 < length ts → (b : Bool) → is_joined m.kind ≡ b → stopped_by (polygons_or_points m) ≡ option_map why_of (checks.refused_pairs (Ok source) ts)
   stopped_so source m h some true on =
       let same : joins_all source.kind ts ≡ list_all (λ (l : StateLayer). same_kind (other_kind m.kind) l.kind) ls =
       zip_all (LayerShows v) (λ (layer : Layer). joins_with source.kind layer.kind) (λ (l : StateLayer). same_kind (other_kind m.kind) l.kind)
@@ -133,7 +134,7 @@ module _ (v : View) (from : Origin) (spec : CalcSpec) (ts : List Layer) (ls : Li
       ∙ sym (ap (λ (b : Bool). option_map why_of (if b then None else Some WrongKind)) (none_fits source.kind (ap is_joined (sym h.kind) ∙ off) ts some))
 
   stopped_alike : (found : Result Layer RefuseWhy) (has : Result StateLayer outcome.RefuseWhy) → AnswerShows (LayerShows v) found has → 0 < length ts →
-      stopped_by (on_ok has polygons_or_points) ≡ option_map why_of (first_refusal (refusal_of found) (held.refused_pairs found ts))
+      stopped_by (on_ok has polygons_or_points) ≡ option_map why_of (first_refusal (refusal_of found) (checks.refused_pairs found ts))
   stopped_alike (Ok source) (Ok m) h some = stopped_so source m h some (is_joined m.kind) refl
   stopped_alike (Err why) (Err w) h some = ap Some h
   stopped_alike (Ok source) (Err w) h some = absurd h
@@ -215,7 +216,7 @@ module _ (v : View) (view : IsView v) (base : Base) (seen : IsSeenIn v base.plan
   abbrev Alike : Layer → StateLayer → Type 0
   Alike layer l = LayerShows v layer l × LayerAlike v (PutsOut base layers a layer) (held.RefusesLayer base layers a layer) (made l)
 
-  pairs_alike : held.refused_kinds base.sources layers a ts ≡ None → AllZip Alike ts ls
+  pairs_alike : checks.refused_kinds base.sources layers a ts ≡ None → AllZip Alike ts ls
   pairs_alike none =
       zip_weaker (λ (layer : Layer) (l : StateLayer). LayerShows v layer l × Fits found layer) Alike
       (λ layer l pair. (pair.0, layer_alike v view base seen spec layer l pair.0 found has found_shows pair.1 (JoinsByPlace base layers from spec layer) (λ made joins. (joins.source, joins.found, joins.matches, joins.are, joins.joined)))) ts ls

@@ -26,7 +26,7 @@ use Rattle.run_shapes.specs.Cutting.{AreShapesLeft, IsCut, cut_faces}
 use Rattle.run_state.specs.FaceSets.{any_faces, face_shapes, layer_faces}
 use Rattle.run_shapes.specs.declared.cutting.CutKeeps.{CutKeeps}
 use Rattle.run_shapes.specs.declared.cutting.CutKeeps.TheVariants as keeps
-use Rattle.run_steps.specs.Refusals.{is_polygon, refused_polygons}
+use Rattle.run_checks.specs.Checks.{is_polygon, refused_polygons}
 use Rattle.chain_model.specs.Outcome as outcome
 use Rattle.chain_model.specs.State as state
 use Rattle.chain_model.specs.State.{StateLayer, region_of, regions_in, without_empty}

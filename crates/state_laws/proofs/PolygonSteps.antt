@@ -32,6 +32,7 @@ use Rattle.run_state.specs.declared.state.Held.{Held}
 use Rattle.run_plane.specs.Shapes.{faces_in}
 use Rattle.run_state.specs.FaceSets.{any_faces, area_of, layer_faces}
 use Rattle.run_steps.specs.Commands.{PutsOut}
+use Rattle.run_checks.specs.Checks as checks
 use Rattle.run_steps.specs.Refusals as held
 use Rattle.chain_model.specs.Outcome as outcome
 use Rattle.chain_model.specs.State as state
@@ -84,7 +85,7 @@ module _ (v : View) where
   no_area_in layer l h kinds.Table e why some =
       ap (ascending nat_lt) (no_faces NothingShows (λ held s shows. ap faces_in shows.has) layer.shapes.items l.shapes (subst (λ (k : Kind). AllZip (ShapeShows v k) layer.shapes.items l.shapes) e h.shapes))
 
-  no_area_of : (answer : Result Layer RefuseWhy) (other : Result StateLayer outcome.RefuseWhy) → AnswerShows (LayerShows v) answer other → (why : RefuseWhy) → held.refused_polygons answer ≡ Some why → layer_faces answer ≡ []
+  no_area_of : (answer : Result Layer RefuseWhy) (other : Result StateLayer outcome.RefuseWhy) → AnswerShows (LayerShows v) answer other → (why : RefuseWhy) → checks.refused_polygons answer ≡ Some why → layer_faces answer ≡ []
   no_area_of (Ok layer) (Ok l) h why some = no_area_in layer l h layer.kind refl why some
   no_area_of (Ok layer) (Err w) h why some = absurd h
   no_area_of (Err w) other h why some = refl
@@ -136,7 +137,7 @@ by_source_is (Ok r) source f ls same none = ap (λ (q : Region). each_layer (f q
 by_source_is (Err why) source f ls same none = absurd (let w : Some why ≡ None = none in cc)
 
 module _ (v : View) (view : IsView v) (base : Base) (seen : IsSeenIn v base.plane) (sources : SourceLayers) (owns : SourcesShow v base.sources sources) (layers : List Held) (s : State) (h : StateShows v layers s) where
-  no_area : (from : Origin) (why : RefuseWhy) → held.refused_area base.sources layers from ≡ Some why → area_of base layers from ≡ []
+  no_area : (from : Origin) (why : RefuseWhy) → checks.refused_area base.sources layers from ≡ Some why → area_of base layers from ≡ []
   no_area (origin.Area n) why some = absurd (let none : None ≡ Some why = some in cc)
   no_area (origin.Layer name) why some =
       no_area_of v (run.one_layer (run.origin_layers base.sources layers (origin.Layer name))) (model.one_layer (model.origin_layers sources s (origin.Layer name)))
@@ -149,7 +150,7 @@ module _ (v : View) (view : IsView v) (base : Base) (seen : IsSeenIn v base.plan
   Cuts from = CutRegion v (area_of base layers from) (source_region sources s from)
 
   cut_by : (from : Origin) → Cuts from
-  cut_by from = cut_region v (held.refused_area base.sources layers from) (area_of base layers from) (source_region sources s from) (areas_show v view base seen sources owns layers s h from) (no_area from)
+  cut_by from = cut_region v (checks.refused_area base.sources layers from) (area_of base layers from) (source_region sources s from) (areas_show v view base seen sources owns layers s h from) (no_area from)
 
   -- the region that the command cuts by, where it cuts
   abbrev by_region : LayerAction → Region
@@ -221,9 +222,9 @@ module _ (v : View) (view : IsView v) (base : Base) (seen : IsSeenIn v base.plan
 
   -- ---- the source, and the kinds
 
-  source_alike : (a : LayerAction) → is_on_polygons a ≡ true → refused_source sources s (does.Each a) ≡ option_map why_of (held.refused_source base.sources layers a)
-  source_alike (action.Clip from) on = area_alike v (held.refused_area base.sources layers from) (area_of base layers from) (source_region sources s from) (areas_show v view base seen sources owns layers s h from)
-  source_alike (action.Erase from) on = area_alike v (held.refused_area base.sources layers from) (area_of base layers from) (source_region sources s from) (areas_show v view base seen sources owns layers s h from)
+  source_alike : (a : LayerAction) → is_on_polygons a ≡ true → refused_source sources s (does.Each a) ≡ option_map why_of (checks.refused_source base.sources layers a)
+  source_alike (action.Clip from) on = area_alike v (checks.refused_area base.sources layers from) (area_of base layers from) (source_region sources s from) (areas_show v view base seen sources owns layers s h from)
+  source_alike (action.Erase from) on = area_alike v (checks.refused_area base.sources layers from) (area_of base layers from) (source_region sources s from) (areas_show v view base seen sources owns layers s h from)
   source_alike (action.Dissolve spec group_points) on = refl
   source_alike (action.Clean rule allow_empty gap) on = refl
   source_alike action.Mosaic on = refl
@@ -233,7 +234,7 @@ module _ (v : View) (view : IsView v) (base : Base) (seen : IsSeenIn v base.plan
   source_alike (action.FilterIslands least_area least_links remove_empty) on = refl
   source_alike a on = other on
 
-  kinds_alike : (a : LayerAction) → is_on_polygons a ≡ true → (ts : List Layer) (ls : List StateLayer) → AllZip (LayerShows v) ts ls → unfit sources s (does.Each a) ls ≡ option_map why_of (held.refused_kinds base.sources layers a ts)
+  kinds_alike : (a : LayerAction) → is_on_polygons a ≡ true → (ts : List Layer) (ls : List StateLayer) → AllZip (LayerShows v) ts ls → unfit sources s (does.Each a) ls ≡ option_map why_of (checks.refused_kinds base.sources layers a ts)
   kinds_alike (action.Clip from) on ts ls shown = only_taken v (action.Clip from) ts ls shown
   kinds_alike (action.Erase from) on ts ls shown = only_taken v (action.Erase from) ts ls shown
   kinds_alike (action.Dissolve spec group_points) on ts ls shown = only_taken v (action.Dissolve spec group_points) ts ls shown
@@ -260,8 +261,8 @@ module _ (v : View) (view : IsView v) (base : Base) (seen : IsSeenIn v base.plan
 
     is_alike : IsAlike v base layers sources s c a (made a)
     is_alike = record {
-      stops = λ there. first_alike (refused_source sources s (does.Each a)) (unfit sources s (does.Each a) (layers_at s (target_numbers c.target layers))) (held.refused_source base.sources layers a)
-          (held.refused_kinds base.sources layers a (targets c.target layers)) (source_alike a on) (kinds_alike a on (targets c.target layers) (layers_at s (target_numbers c.target layers)) (targets_show v layers s h c.target).show);
+      stops = λ there. first_alike (refused_source sources s (does.Each a)) (unfit sources s (does.Each a) (layers_at s (target_numbers c.target layers))) (checks.refused_source base.sources layers a)
+          (checks.refused_kinds base.sources layers a (targets c.target layers)) (source_alike a on) (kinds_alike a on (targets c.target layers) (layers_at s (target_numbers c.target layers)) (targets_show v layers s h c.target).show);
       outputs = λ none ls. outputs_are a on none ls;
       pairs = λ kinds. all_alike;
       count = so_many a on;
@@ -308,25 +309,25 @@ module _ (v : View) (view : IsView v) (base : Base) (seen : IsSeenIn v base.plan
   by_kind P layer is apart kinds.Point e = apart (λ p. let clash : kinds.Point ≡ kinds.Polygon = sym e ∙ p in cc)
   by_kind P layer is apart kinds.Table e = apart (λ p. let clash : kinds.Table ≡ kinds.Polygon = sym e ∙ p in cc)
 
-  taken_so : (a : LayerAction) → is_on_shapes a ≡ true → (ts : List Layer) → held.refused_kinds base.sources layers a ts ≡ None → held.takes_all a ts ≡ true
-  taken_so (action.Clip from) on ts none = one_kind_told (held.takes_all (action.Clip from) ts) none
-  taken_so (action.Erase from) on ts none = one_kind_told (held.takes_all (action.Erase from) ts) none
-  taken_so (action.Dissolve spec group_points) on ts none = one_kind_told (held.takes_all (action.Dissolve spec group_points) ts) none
-  taken_so action.Explode on ts none = one_kind_told (held.takes_all action.Explode ts) none
-  taken_so (action.Clean rule allow_empty gap) on ts none = one_kind_told (held.takes_all (action.Clean rule allow_empty gap) ts) none
-  taken_so action.Mosaic on ts none = one_kind_told (held.takes_all action.Mosaic ts) none
-  taken_so action.InnerLines on ts none = one_kind_told (held.takes_all action.InnerLines ts) none
-  taken_so (action.Lines fields) on ts none = one_kind_told (held.takes_all (action.Lines fields) ts) none
-  taken_so (action.FilterIslands least_area least_links remove_empty) on ts none = one_kind_told (held.takes_all (action.FilterIslands least_area least_links remove_empty) ts) none
+  taken_so : (a : LayerAction) → is_on_shapes a ≡ true → (ts : List Layer) → checks.refused_kinds base.sources layers a ts ≡ None → checks.takes_all a ts ≡ true
+  taken_so (action.Clip from) on ts none = one_kind_told (checks.takes_all (action.Clip from) ts) none
+  taken_so (action.Erase from) on ts none = one_kind_told (checks.takes_all (action.Erase from) ts) none
+  taken_so (action.Dissolve spec group_points) on ts none = one_kind_told (checks.takes_all (action.Dissolve spec group_points) ts) none
+  taken_so action.Explode on ts none = one_kind_told (checks.takes_all action.Explode ts) none
+  taken_so (action.Clean rule allow_empty gap) on ts none = one_kind_told (checks.takes_all (action.Clean rule allow_empty gap) ts) none
+  taken_so action.Mosaic on ts none = one_kind_told (checks.takes_all action.Mosaic ts) none
+  taken_so action.InnerLines on ts none = one_kind_told (checks.takes_all action.InnerLines ts) none
+  taken_so (action.Lines fields) on ts none = one_kind_told (checks.takes_all (action.Lines fields) ts) none
+  taken_so (action.FilterIslands least_area least_links remove_empty) on ts none = one_kind_told (checks.takes_all (action.FilterIslands least_area least_links remove_empty) ts) none
   taken_so a on ts none = other on
 
-  each_taken : (a : LayerAction) (ts : List Layer) → held.takes_all a ts ≡ true → All (λ (layer : Layer). held.takes a layer.kind ≡ true) ts
-  each_taken a [] e = All-nil (λ (layer : Layer). held.takes a layer.kind ≡ true)
+  each_taken : (a : LayerAction) (ts : List Layer) → checks.takes_all a ts ≡ true → All (λ (layer : Layer). checks.takes a layer.kind ≡ true) ts
+  each_taken a [] e = All-nil (λ (layer : Layer). checks.takes a layer.kind ≡ true)
   each_taken a (layer ∷ ts) e =
-      let both = and_parts (held.takes a layer.kind) (held.takes_all a ts) e in
-      All-cons (λ (one : Layer). held.takes a one.kind ≡ true) layer ts both.0 (each_taken a ts both.1)
+      let both = and_parts (checks.takes a layer.kind) (checks.takes_all a ts) e in
+      All-cons (λ (one : Layer). checks.takes a one.kind ≡ true) layer ts both.0 (each_taken a ts both.1)
 
-  shapes_alike : (a : LayerAction) → is_on_shapes a ≡ true → (layer : Layer) (l : StateLayer) → LayerShows v layer l → held.takes a layer.kind ≡ true → Alike a layer l
+  shapes_alike : (a : LayerAction) → is_on_shapes a ≡ true → (layer : Layer) (l : StateLayer) → LayerShows v layer l → checks.takes a layer.kind ≡ true → Alike a layer l
   shapes_alike (action.Clip from) on layer l shown taken = by_kind (Alike (action.Clip from) layer l) layer (of_polygons (action.Clip from) refl layer l shown) (clipped_alike from layer l shown) layer.kind refl
   shapes_alike (action.Erase from) on layer l shown taken = by_kind (Alike (action.Erase from) layer l) layer (of_polygons (action.Erase from) refl layer l shown) (erased_alike from layer l shown) layer.kind refl
   shapes_alike (action.Dissolve spec group_points) on layer l shown taken =
@@ -345,12 +346,12 @@ module _ (v : View) (view : IsView v) (base : Base) (seen : IsSeenIn v base.plan
       let ts : List Layer = targets c.target layers in
       let ls : List StateLayer = layers_at s (target_numbers c.target layers) in
       record {
-        stops = λ there. first_alike (refused_source sources s (does.Each a)) (unfit sources s (does.Each a) ls) (held.refused_source base.sources layers a) (held.refused_kinds base.sources layers a ts)
+        stops = λ there. first_alike (refused_source sources s (does.Each a)) (unfit sources s (does.Each a) ls) (checks.refused_source base.sources layers a) (checks.refused_kinds base.sources layers a ts)
             (source_alike v view base seen sources owns layers s h a (takes_polygons a on)) (kinds_alike v view base seen sources owns layers s h a (takes_polygons a on) ts ls (targets_show v layers s h c.target).show);
         outputs = λ none ls. outputs_are v view base seen sources owns layers s h a (takes_polygons a on) none ls;
-        pairs = λ none. zip_weaker (λ (layer : Layer) (l : StateLayer). LayerShows v layer l × (held.takes a layer.kind ≡ true)) (λ (layer : Layer) (l : StateLayer). LayerShows v layer l × Alike a layer l)
+        pairs = λ none. zip_weaker (λ (layer : Layer) (l : StateLayer). LayerShows v layer l × (checks.takes a layer.kind ≡ true)) (λ (layer : Layer) (l : StateLayer). LayerShows v layer l × Alike a layer l)
             (λ layer l pair. (pair.0, shapes_alike a on layer l pair.0 pair.1)) ts ls
-            (zip_with_all (LayerShows v) (λ (layer : Layer). held.takes a layer.kind ≡ true) ts ls (targets_show v layers s h c.target).show (each_taken a ts (taken_so a on ts none)));
+            (zip_with_all (LayerShows v) (λ (layer : Layer). checks.takes a layer.kind ≡ true) ts ls (targets_show v layers s h c.target).show (each_taken a ts (taken_so a on ts none)));
         count = so_many v view base seen sources owns layers s h a (takes_polygons a on);
       }
 

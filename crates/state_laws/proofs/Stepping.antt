@@ -17,6 +17,7 @@ use Rattle.run_state.specs.declared.refusal.RefuseWhy.{RefuseWhy}
 use Rattle.run_state.specs.declared.refusal.RefuseWhy.TheVariants.{NoLayer, TooManyLayers}
 use Rattle.run_state.specs.declared.state.Held.{Held}
 use Rattle.run_steps.specs.Commands.{ChangesEach, PutsFor, PutsOut, Titles}
+use Rattle.run_checks.specs.Checks as checks
 use Rattle.run_steps.specs.Refusals as run
 use Rattle.chain_model.specs.Outcome as state
 use Rattle.chain_model.specs.Outcome.{no_layer}
@@ -116,13 +117,13 @@ abbrev pub stopped_before : SourceLayers → State → Action → List StateLaye
 stopped_before sources s act ls = first_refusal (refused_source sources s act) (unfit sources s act ls)
 
 abbrev pub refused_before : Base → List Held → LayerAction → List Layer → Option RefuseWhy
-refused_before base layers a ts = first_refusal (run.refused_source base.sources layers a) (run.refused_kinds base.sources layers a ts)
+refused_before base layers a ts = first_refusal (checks.refused_source base.sources layers a) (checks.refused_kinds base.sources layers a ts)
 
 -- what the state does is what a function makes of each layer, which is alike
 pub record IsAlike (v : View) (base : Base) (layers : List Held) (sources : SourceLayers) (s : State) (c : Command) (a : LayerAction) (f : StateLayer → Outputs) : Type 0 where
   pub stops : has_target c.target layers ≡ true → stopped_before sources s (does.Each a) (layers_at s (target_numbers c.target layers)) ≡ option_map why_of (refused_before base layers a (targets c.target layers))
   pub outputs : refused_source sources s (does.Each a) ≡ None → (ls : List StateLayer) → outputs_of (plane_of v) v.answers sources s (does.Each a) ls ≡ each_layer f ls
-  pub pairs : run.refused_kinds base.sources layers a (targets c.target layers) ≡ None → AllZip (λ (layer : Layer) (l : StateLayer). LayerShows v layer l × LayerAlike v (PutsOut base layers a layer) (run.RefusesLayer base layers a layer) (f l)) (targets c.target layers) (layers_at s (target_numbers c.target layers))
+  pub pairs : checks.refused_kinds base.sources layers a (targets c.target layers) ≡ None → AllZip (λ (layer : Layer) (l : StateLayer). LayerShows v layer l × LayerAlike v (PutsOut base layers a layer) (run.RefusesLayer base layers a layer) (f l)) (targets c.target layers) (layers_at s (target_numbers c.target layers))
   pub count : (layer : Layer) (l : StateLayer) → LayerShows v layer l → (outs : List StateLayer) → f l ≡ Ok outs → length outs ≡ run.output_count a layer
 
 module _ (v : View) (base : Base) (layers : List Held) (sources : SourceLayers) (s : State) (h : StateShows v layers s) (c : Command) (a : LayerAction) (does_each : c.action ≡ does.Each a) (f : StateLayer → Outputs) (alike : IsAlike v base layers sources s c a f) where
@@ -154,13 +155,13 @@ module _ (v : View) (base : Base) (layers : List Held) (sources : SourceLayers) 
   made_titled outputs puts =
       zip_weaker (Titles base layers c a) (MakesTitled v c.name Made Refuses f) (λ layer out titles. record { made = titles.made; makes = titles.puts; are = titles.titled }) ts (target_outputs c.target layers outputs) (targets_put base layers c a layers outputs puts)
 
-  only_alike : run.refused_kinds base.sources layers a ts ≡ None → AllZip (λ (layer : Layer) (l : StateLayer). LayerAlike v (Made layer) (Refuses layer) (f l)) ts ls
+  only_alike : checks.refused_kinds base.sources layers a ts ≡ None → AllZip (λ (layer : Layer) (l : StateLayer). LayerAlike v (Made layer) (Refuses layer) (f l)) ts ls
   only_alike kinds = zip_weaker (λ (layer : Layer) (l : StateLayer). LayerShows v layer l × LayerAlike v (Made layer) (Refuses layer) (f l)) (λ (layer : Layer) (l : StateLayer). LayerAlike v (Made layer) (Refuses layer) (f l)) (λ layer l pair. pair.1) ts ls (alike.pairs kinds)
 
   goes_on : run.RefusesEach base layers c a None → (after : List Held) → ChangesEach base c a layers after → StepGives v sources s c after
   goes_on none after changes =
-      let (target, before) = none_of_two (run.refused_target c.target layers) (refused_before base layers a ts) none.0 in
-      let kinds = (none_of_two (run.refused_source base.sources layers a) (run.refused_kinds base.sources layers a ts) before).1 in
+      let (target, before) = none_of_two (checks.refused_target c.target layers) (refused_before base layers a ts) none.0 in
+      let kinds = (none_of_two (checks.refused_source base.sources layers a) (checks.refused_kinds base.sources layers a ts) before).1 in
       let (outs, is, shown) = outputs_show v c.name Made Refuses f ts ls (only_alike kinds) none.1.0 (target_outputs c.target layers changes.outputs) (made_titled changes.outputs changes.puts) in
       let placed = placed_outputs_show v layers s h c changes.outputs (map (map (titled c.name)) outs) (record { show = shown; all = others_put base layers c a layers changes.outputs changes.puts }) in
       let few : length (places.placed c layers changes.outputs) ≤ 1000 = subst (λ (held : List Held). length held ≤ 1000) changes.placed changes.few in
@@ -168,7 +169,7 @@ module _ (v : View) (base : Base) (layers : List Held) (sources : SourceLayers) 
       (t, at_work (Ok outs) (target_there (has_target c.target layers) target) before is ∙ ap (stepped) put_out, subst (λ (held : List Held). StateShows v held t) (sym changes.placed) shows)
 
   -- before it works
-  unfit_stops : (why : RefuseWhy) → (run.refused_target c.target layers ≡ Some why) ⊎ ((run.refused_target c.target layers ≡ None) × (refused_before base layers a ts ≡ Some why)) → StepRefuses v sources s c why
+  unfit_stops : (why : RefuseWhy) → (checks.refused_target c.target layers ≡ Some why) ⊎ ((checks.refused_target c.target layers ≡ None) × (refused_before base layers a ts ≡ Some why)) → StepRefuses v sources s c why
   unfit_stops why (inl target) =
       let absent = target_absent (has_target c.target layers) why target in
       step_refused v sources s c (does.Each a) does_each (λ n. refl) no_layer ((targets_show v layers s h c.target).absent absent.0) ∙ ap (λ (w : RefuseWhy). Err (why_of w)) absent.1
@@ -181,10 +182,10 @@ module _ (v : View) (base : Base) (layers : List Held) (sources : SourceLayers) 
   -- at work, for a layer of the target or for the number of layers
   work_stops : (why : RefuseWhy) → has_target c.target layers ≡ true → refused_before base layers a ts ≡ None → run.FailsEach base layers c a (Some why) → StepRefuses v sources s c why
   work_stops why there none (inl layer) =
-      let kinds = (none_of_two (run.refused_source base.sources layers a) (run.refused_kinds base.sources layers a ts) none).1 in
+      let kinds = (none_of_two (checks.refused_source base.sources layers a) (checks.refused_kinds base.sources layers a ts) none).1 in
       at_work (Err (why_of why)) there none (first_stops v c.name Made Refuses f ts ls (only_alike kinds) why layer)
   work_stops why there none (inr (layer, count)) =
-      let kinds = (none_of_two (run.refused_source base.sources layers a) (run.refused_kinds base.sources layers a ts) none).1 in
+      let kinds = (none_of_two (checks.refused_source base.sources layers a) (checks.refused_kinds base.sources layers a ts) none).1 in
       let many = too_many_told (nat_lt 1000 (run.stay_count c layers + sum_by (run.output_count a) ts)) why count in
       let (outs, is, long, sum) = none_stops v c.name Made Refuses f (run.output_count a) alike.count ts ls (alike.pairs kinds) layer in
       let named : List (List StateLayer) = map (map (titled c.name)) outs in
@@ -198,9 +199,9 @@ module _ (v : View) (base : Base) (layers : List Held) (sources : SourceLayers) 
       ∙ ap (λ (w : RefuseWhy). Err (why_of w)) many.1
 
   stops : (why : RefuseWhy) → run.RefusesEach base layers c a (Some why) → StepRefuses v sources s c why
-  stops why (inl before) = unfit_stops why (first_of_two why (run.refused_target c.target layers) (refused_before base layers a ts) before)
+  stops why (inl before) = unfit_stops why (first_of_two why (checks.refused_target c.target layers) (refused_before base layers a ts) before)
   stops why (inr (none, fails)) =
-      let (target, before) = none_of_two (run.refused_target c.target layers) (refused_before base layers a ts) none in
+      let (target, before) = none_of_two (checks.refused_target c.target layers) (refused_before base layers a ts) none in
       work_stops why (target_there (has_target c.target layers) target) before fails
 
   pub step_shows : StepShows v base layers sources s c a

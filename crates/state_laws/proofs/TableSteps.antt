@@ -28,6 +28,7 @@ use Rattle.run_state.specs.declared.refusal.RefuseWhy.{RefuseWhy}
 use Rattle.run_state.specs.declared.state.Held.{Held}
 use Rattle.run_tables.specs.Made.{GivesTable, One}
 use Rattle.run_steps.specs.Commands.{Joins, PutsOut}
+use Rattle.run_checks.specs.Checks as checks
 use Rattle.run_steps.specs.Refusals as held
 use Rattle.chain_model.specs.Outcome as state
 use Rattle.chain_model.specs.State.{State, StateLayer, take_features}
@@ -172,7 +173,7 @@ found_alike v (Ok layer) (Err w) shown = absurd shown
 found_alike v (Err why) (Ok l) shown = absurd shown
 
 source_alike : (v : View) (base : Base) (sources : SourceLayers) → SourcesShow v base.sources sources → (layers : List Held) (s : State) → StateShows v layers s → (a : LayerAction) → is_on_tables a ≡ true →
-    refused_source sources s (does.Each a) ≡ option_map why_of (held.refused_source base.sources layers a)
+    refused_source sources s (does.Each a) ≡ option_map why_of (checks.refused_source base.sources layers a)
 source_alike v base sources owns layers s h (action.Join from spec) on =
     found_alike v (run.one_layer (run.origin_layers base.sources layers from)) (model.one_layer (model.origin_layers sources s from))
     (one_layer_shows v (run.origin_layers base.sources layers from) (model.origin_layers sources s from) (origins_show v layers s h base.sources sources owns from))
@@ -187,7 +188,7 @@ source_alike v base sources owns layers s h a on = other on
 
 -- the kinds alone are looked at
 kinds_alike : (v : View) (base : Base) (sources : SourceLayers) (layers : List Held) (s : State) (a : LayerAction) → is_on_tables a ≡ true → (ts : List Layer) (ls : List StateLayer) → AllZip (LayerShows v) ts ls →
-    unfit sources s (does.Each a) ls ≡ option_map why_of (held.refused_kinds base.sources layers a ts)
+    unfit sources s (does.Each a) ls ≡ option_map why_of (checks.refused_kinds base.sources layers a ts)
 kinds_alike v base sources layers s (action.Join from spec) on ts ls shown = only_taken v (action.Join from spec) ts ls shown
 kinds_alike v base sources layers s (action.Filter test invert remove_empty) on ts ls shown = only_taken v (action.Filter test invert remove_empty) ts ls shown
 kinds_alike v base sources layers s (action.FilterFields fields) on ts ls shown = only_taken v (action.FilterFields fields) ts ls shown
@@ -212,7 +213,7 @@ module _ (v : View) (view : IsView v) (base : Base) (sources : SourceLayers) (ow
 
   is_alike : IsAlike v base layers sources s c a (made_of v sources s a)
   is_alike = record {
-    stops = λ there. first_alike (refused_source sources s (does.Each a)) (unfit sources s (does.Each a) (layers_at s (target_numbers c.target layers))) (held.refused_source base.sources layers a) (held.refused_kinds base.sources layers a (targets c.target layers))
+    stops = λ there. first_alike (refused_source sources s (does.Each a)) (unfit sources s (does.Each a) (layers_at s (target_numbers c.target layers))) (checks.refused_source base.sources layers a) (checks.refused_kinds base.sources layers a (targets c.target layers))
         (source_alike v base sources owns layers s h a on) (kinds_alike v base sources layers s a on (targets c.target layers) (layers_at s (target_numbers c.target layers)) (targets_show v layers s h c.target).show);
     outputs = λ none ls. outputs_are v sources s a on none ls;
     pairs = λ kinds. all_alike;

@@ -19,6 +19,7 @@ use Rattle.run_state.specs.declared.refusal.RefuseWhy.{RefuseWhy}
 use Rattle.run_state.specs.declared.refusal.RefuseWhy.TheVariants.{OneLayer}
 use Rattle.run_state.specs.declared.state.Held.{Held}
 use Rattle.run_steps.specs.Commands.{ChangesTogether}
+use Rattle.run_checks.specs.Checks as checks
 use Rattle.run_steps.specs.Refusals as run
 use Rattle.chain_model.specs.Outcome as state
 use Rattle.chain_model.specs.Outcome.{no_layer}
@@ -45,38 +46,38 @@ use Rattle.state_laws.proofs.Zipped.{zip_all, zip_long}
 
 -- ---- layers of polygons
 
-tests_same : (k : Kind) → is_polygon k ≡ run.is_polygon k
+tests_same : (k : Kind) → is_polygon k ≡ checks.is_polygon k
 tests_same kinds.Polygon = refl
 tests_same kinds.Line = refl
 tests_same kinds.Point = refl
 tests_same kinds.Table = refl
 
-pub polygon_is : (k : Kind) → run.is_polygon k ≡ true → k ≡ kinds.Polygon
+pub polygon_is : (k : Kind) → checks.is_polygon k ≡ true → k ≡ kinds.Polygon
 polygon_is kinds.Polygon e = refl
 polygon_is kinds.Line e = absurd (true≢false (sym e))
 polygon_is kinds.Point e = absurd (true≢false (sym e))
 polygon_is kinds.Table e = absurd (true≢false (sym e))
 
 abbrev all_polygons : List Layer → Bool
-all_polygons layers = list_all (λ (layer : Layer). run.is_polygon layer.kind) layers
+all_polygons layers = list_all (λ (layer : Layer). checks.is_polygon layer.kind) layers
 
 polygons_show : (v : View) (ts : List Layer) (ls : List StateLayer) → AllZip (LayerShows v) ts ls → all_polygons ts ≡ true → AllZip (PolygonsShow v) ts ls
 polygons_show v [] [] shown e = tt
 polygons_show v [] (l ∷ ls) shown e = absurd shown
 polygons_show v (layer ∷ ts) [] shown e = absurd shown
 polygons_show v (layer ∷ ts) (l ∷ ls) shown e =
-    let both = and_parts (run.is_polygon layer.kind) (all_polygons ts) e in
+    let both = and_parts (checks.is_polygon layer.kind) (all_polygons ts) e in
     (record { shows = shown.0; polygons = polygon_is layer.kind both.0 }, polygons_show v ts ls shown.1 both.1)
 
-kinds_alike : (v : View) (sources : SourceLayers) (s : State) (ts : List Layer) (ls : List StateLayer) → AllZip (LayerShows v) ts ls → unfit sources s (does.Together joint.Union) ls ≡ option_map why_of (run.refused_mixture joint.Union ts)
+kinds_alike : (v : View) (sources : SourceLayers) (s : State) (ts : List Layer) (ls : List StateLayer) → AllZip (LayerShows v) ts ls → unfit sources s (does.Together joint.Union) ls ≡ option_map why_of (checks.refused_mixture joint.Union ts)
 kinds_alike v sources s ts ls shown =
     let same : list_all (λ (l : StateLayer). is_polygon l.kind) ls ≡ all_polygons ts =
-    sym (zip_all (LayerShows v) (λ (layer : Layer). run.is_polygon layer.kind) (λ (l : StateLayer). is_polygon l.kind) (λ layer l h. sym (tests_same layer.kind) ∙ ap is_polygon (sym h.kind)) ts ls shown) in
+    sym (zip_all (LayerShows v) (λ (layer : Layer). checks.is_polygon layer.kind) (λ (l : StateLayer). is_polygon l.kind) (λ layer l h. sym (tests_same layer.kind) ∙ ap is_polygon (sym h.kind)) ts ls shown) in
     ap (λ (b : Bool). first_refusal (if b then None else Some state.wrong_kind) None) same ∙ mixture_told (all_polygons ts)
 
 -- ---- what is united
 
-united_at : (v : View) (view : IsView v) (base : Base) (seen : IsSeenIn v base.plane) (ts : List Layer) (ls : List StateLayer) → AllZip (PolygonsShow v) ts ls → 0 < length ts → run.refused_alone ts ≡ None →
+united_at : (v : View) (view : IsView v) (base : Base) (seen : IsSeenIn v base.plane) (ts : List Layer) (ls : List StateLayer) → AllZip (PolygonsShow v) ts ls → 0 < length ts → checks.refused_alone ts ≡ None →
     (made : Layer) → IsUnited base.plane ts made → MergedShows v made (drop 1 ts) (united_layers (plane_of v) v.answers ls)
 united_at v view base seen [] ls shown some several made is = absurd (omega (arith, some))
 united_at v view base seen (first ∷ []) ls shown some several made is = absurd (let one : Some OneLayer ≡ None = several in cc)
@@ -109,10 +110,10 @@ module _ (v : View) (view : IsView v) (base : Base) (seen : IsSeenIn v base.plan
   shown : AllZip (LayerShows v) ts ls
   shown = (targets_show v layers s h c.target).show
 
-  lone : RefusedAlike (run.refused_alone ts) (united_layers (plane_of v) v.answers ls)
+  lone : RefusedAlike (checks.refused_alone ts) (united_layers (plane_of v) v.answers ls)
   lone = lone_layers_are_refused v ts ls shown
 
-  at_work : (answer : Result (List (List StateLayer)) state.RefuseWhy) → has_target c.target layers ≡ true → run.refused_mixture joint.Union ts ≡ None → united_layers (plane_of v) v.answers ls ≡ answer →
+  at_work : (answer : Result (List (List StateLayer)) state.RefuseWhy) → has_target c.target layers ≡ true → checks.refused_mixture joint.Union ts ≡ None → united_layers (plane_of v) v.answers ls ≡ answer →
       step (plane_of v) v.answers sources s c ≡ stepped (on_ok answer (put s c ns))
   at_work answer there none is =
       let fit : unfit sources s (does.Together joint.Union) ls ≡ None = kinds_alike v sources s ts ls shown ∙ ap (option_map why_of) none in
@@ -122,7 +123,7 @@ module _ (v : View) (view : IsView v) (base : Base) (seen : IsSeenIn v base.plan
   goes_on : run.refusal_together layers c joint.Union ≡ None → (after : List Held) → ChangesTogether base c joint.Union layers after → StepGives v sources s c after
   goes_on none after changes =
       let (before, work) = none_of_two (run.unfit_together layers c joint.Union) (run.failed_together layers c joint.Union) none in
-      let (target, mixture, several) = none_of_three (run.refused_target c.target layers) (run.refused_mixture joint.Union ts) (run.refused_alone ts) before in
+      let (target, mixture, several) = none_of_three (checks.refused_target c.target layers) (checks.refused_mixture joint.Union ts) (checks.refused_alone ts) before in
       let there : has_target c.target layers ≡ true = target_there (has_target c.target layers) target in
       let some : 0 < length ts = targets_there c.target layers there in
       let polygons : AllZip (PolygonsShow v) ts ls = polygons_show v ts ls shown (one_kind_told (all_polygons ts) mixture) in
@@ -142,7 +143,7 @@ module _ (v : View) (view : IsView v) (base : Base) (seen : IsSeenIn v base.plan
       let (t, is, shows) = after_it.few few in
       (t, at_work (Ok outs) there mixture united.answers ∙ ap stepped is, subst (λ (held : List Held). StateShows v held t) (sym changes.placed) shows)
 
-  unfit_stops : (why : RefuseWhy) → First why (run.refused_target c.target layers) (run.refused_mixture joint.Union ts) (run.refused_alone ts) → StepRefuses v sources s c why
+  unfit_stops : (why : RefuseWhy) → First why (checks.refused_target c.target layers) (checks.refused_mixture joint.Union ts) (checks.refused_alone ts) → StepRefuses v sources s c why
   unfit_stops why (is_first target) =
       let absent = target_absent (has_target c.target layers) why target in
       step_refused v sources s c (does.Together joint.Union) unites (λ n. refl) no_layer ((targets_show v layers s h c.target).absent absent.0) ∙ ap (λ (w : RefuseWhy). Err (why_of w)) absent.1
@@ -153,7 +154,7 @@ module _ (v : View) (view : IsView v) (base : Base) (seen : IsSeenIn v base.plan
   unfit_stops why (is_third target mixture number) =
       at_work (Err (why_of why)) (target_there (has_target c.target layers) target) mixture (subst (λ (o : Option RefuseWhy). RefusedAlike o (united_layers (plane_of v) v.answers ls)) number lone)
 
-  count_stops : (why : RefuseWhy) → has_target c.target layers ≡ true → run.refused_mixture joint.Union ts ≡ None → run.refused_alone ts ≡ None → run.refused_count (run.stay_count c layers + 1) ≡ Some why → StepRefuses v sources s c why
+  count_stops : (why : RefuseWhy) → has_target c.target layers ≡ true → checks.refused_mixture joint.Union ts ≡ None → checks.refused_alone ts ≡ None → run.refused_count (run.stay_count c layers + 1) ≡ Some why → StepRefuses v sources s c why
   count_stops why there mixture several count =
       let many = too_many_told (nat_lt 1000 (run.stay_count c layers + 1)) why count in
       let some : 0 < length ts = targets_there c.target layers there in
@@ -171,9 +172,9 @@ module _ (v : View) (view : IsView v) (base : Base) (seen : IsSeenIn v base.plan
       ∙ ap (λ (w : RefuseWhy). Err (why_of w)) many.1
 
   stops_for : (why : RefuseWhy) → (run.unfit_together layers c joint.Union ≡ Some why) ⊎ ((run.unfit_together layers c joint.Union ≡ None) × (run.failed_together layers c joint.Union ≡ Some why)) → StepRefuses v sources s c why
-  stops_for why (inl before) = unfit_stops why (which why (run.refused_target c.target layers) (run.refused_mixture joint.Union ts) (run.refused_alone ts) before)
+  stops_for why (inl before) = unfit_stops why (which why (checks.refused_target c.target layers) (checks.refused_mixture joint.Union ts) (checks.refused_alone ts) before)
   stops_for why (inr (none, fails)) =
-      let (target, mixture, several) = none_of_three (run.refused_target c.target layers) (run.refused_mixture joint.Union ts) (run.refused_alone ts) none in
+      let (target, mixture, several) = none_of_three (checks.refused_target c.target layers) (checks.refused_mixture joint.Union ts) (checks.refused_alone ts) none in
       count_stops why (target_there (has_target c.target layers) target) mixture several fails
 
 pub union_steps_show : UnionStepsShow

@@ -13,7 +13,7 @@ use Rattle.run_tables.specs.Matching.{AreMatches}
 use Rattle.run_state.specs.Origins.{Base}
 use Rattle.run_state.specs.Stops.{table_refusal}
 use Rattle.run_state.specs.declared.state.Held.{Held}
-use Rattle.run_steps.specs.Refusals.{joins_with}
+use Rattle.run_checks.specs.Checks.{joins_with}
 use Rattle.run_tables.specs.Made.{GivesTable, One}
 use Rattle.chain_model.specs.State.{State, StateLayer}
 use Rattle.chain_model.specs.Features.{place_join_layer}

@@ -22,7 +22,7 @@ use Rattle.run_state.specs.FaceSets.{area_of}
 use Rattle.run_shapes.specs.Islands.{IsMainland}
 use Rattle.run_borders.specs.Uniting.{IsUnited}
 use Rattle.run_shapes.specs.declared.cutting.CutKeeps.TheVariants as keeps
-use Rattle.run_steps.specs.Refusals.{refused_alone, refused_area}
+use Rattle.run_checks.specs.Checks.{refused_alone, refused_area}
 use Rattle.chain_model.specs.Outcome as state
 use Rattle.chain_model.specs.State.{State, StateLayer}
 use Rattle.chain_model.specs.Features.{clean_layer, clip_layer, dissolve_layer, erase_layer, explode_layer, islands_layer, mosaic_layer, united_layers}
