@@ -8,8 +8,8 @@ use Rattle.std.proofs.lemmas.List.{length-map, length-set, length_push}
 use Rattle.expr_lang.specs.declared.assign.Assign.{Assign}
 use Rattle.expr_lang.specs.Meaning.{Evaluated, cell, column_at, evaluated, on_ok as on_value, signed, joined, chosen}
 use Rattle.expr_lang.specs.Tree.{Tree, constant, column, feature_number, unary, binary, choice, Assigned, assigned, all_assigned, tree_of}
-use Rattle.json_read.specs.Table.{RowValues, AreRows}
-use Rattle.json_read.specs.declared.value.Value.{Value}
+use Rattle.json_values.specs.Table.{RowValues, AreRows}
+use Rattle.json_values.specs.declared.value.Value.{Value}
 use Rattle.table_terms.specs.Names.{Text, place_of}
 use Rattle.table_terms.specs.Refusals.{on_ok}
 use Rattle.table_rows.specs.declared.fault.TableWhy.{TableWhy}

@@ -16,8 +16,8 @@ use Rattle.std.proofs.lemmas.Map.Keys.{IsDistinct-IsPermutation, IsDistinct-from
 use Rattle.lists.specs.Lists.{insert_stable, sort_stable}
 use Rattle.lists.proofs.Members.{Contains-head, Contains-later, Contains-nil, Contains-cases}
 use Rattle.lists.proofs.Ascending.{IsStrictOrder, IsAscending, one_ascending, ascending_of_pairs}
-use Rattle.json_read.specs.declared.value.Value.{Value}
-use Rattle.json_read.specs.declared.value.Value.TheVariants as cell
+use Rattle.json_values.specs.declared.value.Value.{Value}
+use Rattle.json_values.specs.declared.value.Value.TheVariants as cell
 use Rattle.calc_ops.specs.Keys.{key_at}
 use Rattle.calc_ops.specs.KeyOrder.{type_place, value_order, key_order, comes_before, row_order}
 

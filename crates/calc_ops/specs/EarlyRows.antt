@@ -7,10 +7,10 @@ use Rattle.std.specs.Hash.{HashWrites}
 use Rattle.indexmap.specs.IndexMap.{IndexMap, get}
 use Rattle.lists.specs.Lists.{numbers_where}
 use Rattle.expr_lang.specs.Tree.{Tree}
-use Rattle.json_read.specs.Table.{TableContent}
-use Rattle.json_read.specs.Value.{same}
-use Rattle.json_read.specs.declared.value.Value.{Value}
-use Rattle.json_read.specs.declared.value.Value.TheVariants as cell
+use Rattle.json_values.specs.Table.{TableContent}
+use Rattle.json_values.specs.Value.{same}
+use Rattle.json_values.specs.declared.value.Value.{Value}
+use Rattle.json_values.specs.declared.value.Value.TheVariants as cell
 use Rattle.table_terms.specs.Refusals.{on_ok}
 use Rattle.table_rows.specs.Same.{same_decides}
 use Rattle.table_rows.specs.declared.fault.TableWhy.{TableWhy}

@@ -7,9 +7,9 @@ use Rattle.std.specs.Cmp.Lexicographic.{slice_cmp}
 use Rattle.std.specs.List.{range_with_len}
 use Rattle.lists.specs.Lists.{sort_stable}
 use Rattle.expr_lang.specs.Tree.{Tree}
-use Rattle.json_read.specs.Table.{TableContent}
-use Rattle.json_read.specs.declared.value.Value.{Value}
-use Rattle.json_read.specs.declared.value.Value.TheVariants as cell
+use Rattle.json_values.specs.Table.{TableContent}
+use Rattle.json_values.specs.declared.value.Value.{Value}
+use Rattle.json_values.specs.declared.value.Value.TheVariants as cell
 use Rattle.table_terms.specs.Refusals.{on_ok}
 use Rattle.table_rows.specs.declared.fault.TableWhy.{TableWhy}
 use Rattle.calc_ops.specs.Keys.{key_at, keys_of}

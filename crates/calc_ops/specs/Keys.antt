@@ -2,9 +2,9 @@
 use Rattle.std.specs.Prelude.{ℕ, ◌+◌, List, [], ◌∷◌, Result, Ok, slice_index_or}
 use Rattle.expr_lang.specs.Meaning.{evaluated}
 use Rattle.expr_lang.specs.Tree.{Tree}
-use Rattle.json_read.specs.Table.{TableContent, RowValues}
-use Rattle.json_read.specs.declared.value.Value.{Value}
-use Rattle.json_read.specs.declared.value.Value.TheVariants as cell
+use Rattle.json_values.specs.Table.{TableContent, RowValues}
+use Rattle.json_values.specs.declared.value.Value.{Value}
+use Rattle.json_values.specs.declared.value.Value.TheVariants as cell
 use Rattle.table_terms.specs.Names.{Text}
 use Rattle.table_terms.specs.Refusals.{on_ok}
 use Rattle.table_ops.specs.Filtering.{value_for}

@@ -1,13 +1,13 @@
 ghost use Rattle.std.specs.Prelude.{◌≡◌, ◌<◌, IfOk, OnOk, length, vec_items};
 ghost use Rattle.expr_lang.specs.Tree.{all_assigned};
-ghost use Rattle.json_read.specs.Table.{AreDistinctNames, AreRows};
+ghost use Rattle.json_values.specs.Table.{AreDistinctNames, AreRows};
 ghost use Rattle.table_rows.specs.Refusals.{Answers, AnswersAs};
 ghost use Rattle.table_rows.specs.Rows.{row_at};
 ghost use Rattle.table_terms.specs.Names.{place_of};
 ghost use Rattle.calc_ops.specs.EachRow.{assigned_row, assigned_rows, each_rows, names_after, places_after, with_name, with_value};
 
 use expr_lang::AssignList;
-use json_read::{Row, RowList, Table, Value};
+use json_values::{Row, RowList, Table, Value};
 use std::alloc::{AllocError, Global};
 use table_ops::value_for_row;
 use table_rows::{TableFault, copy_names};

@@ -2,8 +2,8 @@ ghost use Rattle.std.specs.Prelude.{◌≡◌, ◌<◌, ◌+◌, ◌++◌, ◌�
 ghost use Rattle.std.specs.Bool.{beq};
 ghost use Rattle.lists.specs.Lists.{numbers_where};
 ghost use Rattle.expr_lang.specs.Tree.{tree_of};
-ghost use Rattle.json_read.specs.Value.{same};
-ghost use Rattle.json_read.specs.declared.value.Value as cell;
+ghost use Rattle.json_values.specs.Value.{same};
+ghost use Rattle.json_values.specs.declared.value.Value as cell;
 ghost use Rattle.table_rows.specs.Refusals.{Answers};
 ghost use Rattle.calc_ops.specs.EarlyRows.{are_early, count_in, uniq_rows};
 
@@ -12,7 +12,7 @@ use crate::row_key::RowKey;
 use expr_lang::Expr;
 use grid_base::IdList;
 use indexmap::IndexMap;
-use json_read::{Table, Value};
+use json_values::{Table, Value};
 use std::alloc::{AllocError, Global};
 use table_ops::numbers_of;
 use table_rows::TableFault;

@@ -1,7 +1,7 @@
 ghost use Rattle.std.specs.Prelude.{◌≡◌};
 ghost use Rattle.calc_ops.specs.KeyOrder.{key_order as order_of_keys, type_place as place_of_type, value_order as order_of_values};
 
-use json_read::Value;
+use json_values::Value;
 use std::cmp::Ordering;
 
 /// The order of two keys, ascending or descending; null is last in both.

@@ -4,7 +4,7 @@ ghost use Rattle.table_rows.specs.Refusals.{AnswersAs};
 ghost use Rattle.calc_ops.specs.Keys.{keys_of};
 
 use expr_lang::Expr;
-use json_read::{Table, Value};
+use json_values::{Table, Value};
 use std::alloc::{AllocError, Global};
 use table_ops::value_for_row;
 use table_rows::TableFault;

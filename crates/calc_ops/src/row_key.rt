@@ -1,11 +1,11 @@
 ghost use Rattle.std.specs.Prelude.{◌≡◌};
 ghost use Rattle.std.specs.Hash.{same_Alike};
 ghost use Rattle.std.specs.Cmp.{partial_equiv_from_equiv};
-ghost use Rattle.json_read.specs.Value.{same};
+ghost use Rattle.json_values.specs.Value.{same};
 ghost use Rattle.table_rows.specs.Same.{same_decides};
 ghost use Rattle.calc_ops.specs.EarlyRows.{key_writes, same_equivalent};
 
-use json_read::Value;
+use json_values::Value;
 use std::hash::{Hash, Hasher};
 use std::marker::Model;
 
@@ -17,8 +17,8 @@ pub(crate) struct RowKey {
 }
 
 impl Model for RowKey {
-    ghost use Rattle.json_read.specs.contracts.value.Value as cell;
-    ghost use Rattle.json_read.specs.declared.value.Value as values;
+    ghost use Rattle.json_values.specs.contracts.value.Value as cell;
+    ghost use Rattle.json_values.specs.declared.value.Value as values;
 
     ghost Value = { values.Value };
 

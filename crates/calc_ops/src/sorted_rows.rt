@@ -4,13 +4,13 @@ ghost use Rattle.expr_lang.specs.Tree.{tree_of};
 ghost use Rattle.table_rows.specs.Refusals.{Answers};
 ghost use Rattle.calc_ops.specs.KeyOrder.{numbers_by_key, row_order as order_of_rows, sort_rows};
 ghost use Rattle.calc_ops.specs.Keys.{key_at as key_of_row};
-ghost use Rattle.json_read.specs.declared.value.Value.TheVariants as is;
+ghost use Rattle.json_values.specs.declared.value.Value.TheVariants as is;
 
 use crate::key_order::key_order;
 use crate::keys::keys_of;
 use expr_lang::Expr;
 use grid_base::IdList;
-use json_read::{Table, Value};
+use json_values::{Table, Value};
 use std::alloc::{AllocError, Global};
 use std::cmp::Ordering;
 use table_rows::TableFault;

@@ -3,7 +3,7 @@ use calc_ops::{sort_rows, uniq_rows};
 use csv_io::{Room2, read_csv};
 use expr_lang::Expr;
 use grid_base::IdList;
-use json_read::Table;
+use json_values::Table;
 use std::alloc::Global;
 use std::test::Fail;
 use table_rows::{EvalWhy, TableFault, TableWhy};

@@ -1,5 +1,5 @@
 use crate::items::text_at;
-use json_read::{Json, JsonList};
+use json_values::{Json, JsonList};
 use std::alloc::{AllocError, Global};
 use std::fmt::Debug;
 use text_core::Bytes;

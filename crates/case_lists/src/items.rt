@@ -1,4 +1,4 @@
-use json_read::{Json, JsonList};
+use json_values::{Json, JsonList};
 use std::alloc::{AllocError, Global};
 use text_core::{NameList, Text};
 

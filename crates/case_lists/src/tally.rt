@@ -1,6 +1,6 @@
 use crate::answers::is_wanted;
 use crate::items::text_in;
-use json_read::Json;
+use json_values::Json;
 use std::io;
 use text_core::Bytes;
 

@@ -25,7 +25,7 @@ use std::io;
 
 fn main(rt: HostRuntime) -> io::Result<()> {
     let text = io::read_to_string(rt.alloc(), rt.stdin())?;
-    let Ok(Json::List(cases)) = Json::parse(rt.alloc(), text.as_bytes()) else {
+    let Ok(Json::List(cases)) = json_read::parse(rt.alloc(), text.as_bytes()) else {
         return println!(rt; "no list of cases");
     };
     let mut different = 0u64;

@@ -6,11 +6,11 @@ use Rattle.plane_model.specs.Points.{GridPoint, Path}
 use Rattle.grid_base.specs.declared.kinds.Kind.{Kind}
 use Rattle.grid_base.specs.declared.kinds.Kind.TheVariants as kind
 use Rattle.grid_base.specs.declared.kinds.OverlapRule.{OverlapRule}
-use Rattle.json_read.specs.Table.{TableContent, RowValues}
-use Rattle.json_read.specs.Decimal.{of_grid}
-use Rattle.json_read.specs.Value.{same, plain_text}
-use Rattle.json_read.specs.declared.value.Value.{Value}
-use Rattle.json_read.specs.declared.value.Value.TheVariants as value
+use Rattle.json_values.specs.Table.{TableContent, RowValues}
+use Rattle.numerals.specs.Decimal.{of_grid}
+use Rattle.json_values.specs.Value.{same, plain_text}
+use Rattle.json_values.specs.declared.value.Value.{Value}
+use Rattle.json_values.specs.declared.value.Value.TheVariants as value
 use Rattle.geojson_io.specs.Layers.{same_kind}
 use Rattle.geojson_io.specs.Texts.{separated}
 use Rattle.expr_lang.specs.Tree.{all_assigned, tree_of}

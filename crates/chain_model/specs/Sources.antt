@@ -6,9 +6,9 @@ use Rattle.plane_model.specs.Points.{Path}
 use Rattle.grid_base.specs.declared.kinds.Kind.TheVariants as kind
 use Rattle.io_core.specs.Contents.{Content, FileMap}
 use Rattle.json_read.specs.Faults.{IsFault}
-use Rattle.json_read.specs.Grammar.{JsonText}
-use Rattle.json_read.specs.Json.{JsonValue, object}
-use Rattle.json_read.specs.Table.{TableContent, RowValues}
+use Rattle.json_values.specs.Grammar.{JsonText}
+use Rattle.json_values.specs.Json.{JsonValue, object}
+use Rattle.json_values.specs.Table.{TableContent, RowValues}
 use Rattle.json_read.specs.declared.reader.Fault.TheVariants as fault
 use Rattle.geojson_io.specs.Geometries.{type_of}
 use Rattle.geojson_io.specs.LayerContent.{LayerContent}

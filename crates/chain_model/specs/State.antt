@@ -3,7 +3,7 @@ use Rattle.std.specs.Prelude.{ℕ, Bool, true, not, List, [], map, slice_index_o
 use Rattle.lists.specs.Lists.{numbers_where}
 use Rattle.plane_model.specs.Points.{GridPoint, Path}
 use Rattle.grid_base.specs.declared.kinds.Kind.{Kind}
-use Rattle.json_read.specs.Table.{TableContent}
+use Rattle.json_values.specs.Table.{TableContent}
 use Rattle.table_terms.specs.Names.{Text}
 use Rattle.table_rows.specs.Rows.{take_rows}
 use Rattle.region_model.specs.Region.{Region, any_of}

@@ -2,7 +2,7 @@
 use Rattle.std.specs.Prelude.{ℕ, ◌+◌, not, List, [], ◌∷◌, ◌++◌, map, filter, length, if◌then◌else◌}
 use Rattle.std.specs.List.{range_with_len}
 use Rattle.lists.specs.Lists.{first_or}
-use Rattle.json_read.specs.Table.{TableContent}
+use Rattle.json_values.specs.Table.{TableContent}
 use Rattle.table_terms.specs.Names.{Text, has_name}
 use Rattle.table_rows.specs.Merge.{all_names}
 use Rattle.region_model.specs.UnionCommand.{Choice}

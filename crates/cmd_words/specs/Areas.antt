@@ -1,8 +1,8 @@
 -- Decimal places, and boxes of four numerals.
 use Rattle.std.specs.Prelude.{ℕ, ◌^◌, ℤ, pos, Bool, not, ◌&&◌, List, [], ◌∷◌, Option, Some, None, is_some, option_and_then, position, Result, Ok, Err, if◌then◌else◌}
 use Rattle.std.specs.Ordering.{int_eq}
-use Rattle.json_read.specs.Numeral.{numeral_of, grid_of_text}
-use Rattle.json_read.specs.Decimal.{decimal_of_text}
+use Rattle.numerals.specs.Numeral.{numeral_of, grid_of_text}
+use Rattle.numerals.specs.Decimal.{decimal_of_text}
 use Rattle.plane_model.specs.Points.{GridPoint}
 use Rattle.grid_base.specs.Grid.{Corners, grid_point, corners_of}
 use Rattle.cmd_words.specs.declared.fault.WordWhy.{WordWhy}

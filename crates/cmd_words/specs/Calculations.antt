@@ -3,8 +3,7 @@
 use Rattle.std.specs.Prelude.{Bool, false, not, ◌&&◌, ◌||◌, List, [], ◌∷◌, ◌++◌, reverse, codes, Option, Some, None, option_map, option_and_then, Result, Ok, Err, if◌then◌else◌}
 use Rattle.std.specs.List.{list_all}
 use Rattle.std.specs.Str.{bytes_eq}
-use Rattle.json_read.specs.Bytes.{is_white}
-use Rattle.json_read.specs.Reading.{drop_while}
+use Rattle.numerals.specs.Bytes.{is_white, drop_while}
 use Rattle.expr_lang.specs.Tokens.{is_name_start, is_name_byte, is_other_word}
 use Rattle.join_terms.specs.declared.calculations.Calc.{Calc}
 use Rattle.join_terms.specs.declared.calculations.Calc.TheVariants as calc

@@ -2,7 +2,7 @@
 use Rattle.std.specs.Prelude.{ℕ, ◌+◌, ◌-◌, ◌*◌, ◌/◌, ◌^◌, ℤ, pos, negsuc, ◌&&◌, nat_lt, nat_le, length, Option, Some, None, option_map, option_and_then, unwrap_or, if◌then◌else◌}
 use Rattle.std.specs.Str.{all_ascii_digits}
 use Rattle.std.specs.Str.Parse.{digits_value}
-use Rattle.json_read.specs.Decimal.{decimal_of_text}
+use Rattle.numerals.specs.Decimal.{decimal_of_text}
 use Rattle.cmd_words.specs.Rows.{Text}
 
 -- decimal digits for a number within bounds

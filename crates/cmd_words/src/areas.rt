@@ -6,7 +6,7 @@ ghost use Rattle.cmd_words.specs.Steps.{Gives};
 use crate::fault::{Refusal, WordWhy};
 use crate::texts::pieces;
 use grid_base::{Pt, Rect};
-use json_read::{Decimal, is_numeral, numeral_to_grid};
+use numerals::{Decimal, is_numeral, numeral_to_grid};
 use std::alloc::Global;
 use text_core::Text;
 

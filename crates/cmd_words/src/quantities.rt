@@ -3,7 +3,7 @@ ghost use Rattle.std.specs.Option.{option_copied};
 ghost use Rattle.std.specs.Str.{all_ascii_digits};
 ghost use Rattle.cmd_words.specs.Quantities.{number_in, count_of, count_from, area_units, units_from_zero, square_unit, doubled_below, doubled_above, gap_from, least_area_from};
 
-use json_read::Decimal;
+use numerals::Decimal;
 
 /// How many decimal places the units of an area have.
 const AREA_PLACES: u32 = 18;

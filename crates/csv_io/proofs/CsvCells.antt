@@ -8,12 +8,12 @@ use Rattle.std.proofs.lemmas.List.{drop_more}
 use Rattle.std.proofs.lemmas.Bool.{cond-true, lt-ltb}
 use Rattle.csv.specs.Records.{field_at}
 use Rattle.csv.proofs.RecordFacts.{field-get}
-use Rattle.json_read.specs.Bytes.{is_digit}
-use Rattle.json_read.specs.Numeral.{Numeral, numeral_of, digits_at, is_some_digits}
-use Rattle.json_read.specs.Decimal.{decimal_of_text, checked, is_decimal, of_grid}
+use Rattle.numerals.specs.Bytes.{is_digit}
+use Rattle.numerals.specs.Numeral.{Numeral, numeral_of, digits_at, is_some_digits}
+use Rattle.numerals.specs.Decimal.{decimal_of_text, checked, is_decimal, of_grid}
 use Rattle.json_read.proofs.Numbers.{number_utf8}
-use Rattle.json_read.proofs.NumbersAreNumerals.{numeral_is_number}
-use Rattle.json_read.proofs.Quotients.{text_none}
+use Rattle.numerals.proofs.NumbersAreNumerals.{numeral_is_number}
+use Rattle.numerals.proofs.Quotients.{text_none}
 use Rattle.table_terms.specs.Names.{Text}
 use Rattle.csv_io.specs.CsvCells.{cell_at, has_idle_zero, without_zeros}
 

@@ -7,7 +7,7 @@ use Rattle.csv.specs.Records.{Row, fields_of}
 use Rattle.std.specs.Prelude.{Option, Some, None, Result, Ok, Err}
 use Rattle.std.specs.Str.{IsUtf8}
 use Rattle.csv.specs.Reading.{default_config, records, strip_bom}
-use Rattle.json_read.specs.Table.{TableContent, AreRows, RowValues}
+use Rattle.json_values.specs.Table.{TableContent, AreRows, RowValues}
 use Rattle.csv_io.proofs.CsvTable.{same_columns, table_long}
 use Rattle.table_terms.specs.Names.{Text}
 use Rattle.table_terms.specs.Refusals.{unless, first_refusal}

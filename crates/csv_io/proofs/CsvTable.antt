@@ -6,7 +6,7 @@ use Rattle.std.specs.Str.{bytes_eq}
 use Rattle.std.specs.Cmp.{unsigned_Decides}
 use Rattle.std.specs.Cmp.Lexicographic.{pointwise_decides}
 use Rattle.indexmap.specs.IndexSet.{insert_all}
-use Rattle.json_read.specs.Table.{AreRows}
+use Rattle.json_values.specs.Table.{AreRows}
 use Rattle.table_terms.specs.Names.{Text, has_name}
 use Rattle.std.specs.List.{list_all, list_any}
 use Rattle.csv.specs.Records.{Row, fields_of}

@@ -1,10 +1,10 @@
 -- Cells of comma-separated text: plain decimals, and the values that cells stand for.
 use Rattle.std.specs.Prelude.{ℕ, ◌==◌, Bool, true, false, ◌&&◌, ℤ, neg_ℤ, List, [], ◌∷◌, length, slice_index_or, Option, Some, None, option_map, if◌then◌else◌}
-use Rattle.json_read.specs.Bytes.{is_digit}
-use Rattle.json_read.specs.Numeral.{digits_at, after_digits, is_some_digits}
-use Rattle.json_read.specs.Decimal.{decimal_of_text}
-use Rattle.json_read.specs.declared.value.Value.{Value}
-use Rattle.json_read.specs.declared.value.Value.TheVariants as is
+use Rattle.numerals.specs.Bytes.{is_digit}
+use Rattle.numerals.specs.Numeral.{digits_at, after_digits, is_some_digits}
+use Rattle.numerals.specs.Decimal.{decimal_of_text}
+use Rattle.json_values.specs.declared.value.Value.{Value}
+use Rattle.json_values.specs.declared.value.Value.TheVariants as is
 use Rattle.table_terms.specs.Names.{Text}
 
 -- nothing, or a point and digits up to the end

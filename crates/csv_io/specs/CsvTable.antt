@@ -2,7 +2,7 @@
 use Rattle.std.specs.Prelude.{◌≡◌, ℕ, ◌+◌, ◌==◌, Bool, not, ◌&&◌, ◌||◌, List, [], ◌∷◌, ◌++◌, map, length, Result, Ok, Err, Option, Some, None, is_some, if◌then◌else◌, IsUtf8}
 use Rattle.std.specs.List.{list_all, list_any}
 use Rattle.csv.specs.Reading.{default_config, records, strip_bom}
-use Rattle.json_read.specs.Table.{TableContent, RowValues}
+use Rattle.json_values.specs.Table.{TableContent, RowValues}
 use Rattle.table_terms.specs.Names.{Text, has_name}
 use Rattle.table_terms.specs.Refusals.{unless, first_refusal}
 use Rattle.csv_io.specs.CsvCells.{cell_at, cell_value, is_empty_cell, plain_decimal}

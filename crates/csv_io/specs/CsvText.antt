@@ -4,8 +4,8 @@ use Rattle.std.specs.Global.{Global}
 use Rattle.std.specs.List.{flat_map}
 use Rattle.csv.specs.Writing.{default_writer, fields_written, has_written, row_text, writer_pending, writer_setup, writer_under}
 use Rattle.csv.specs.declared.writer.Writer.{Writer}
-use Rattle.json_read.specs.Table.{TableContent, RowValues}
-use Rattle.json_read.specs.Value.{plain_text}
+use Rattle.json_values.specs.Table.{TableContent, RowValues}
+use Rattle.json_values.specs.Value.{plain_text}
 use Rattle.table_terms.specs.Names.{Text}
 
 -- the record of a row: the plain texts of its values

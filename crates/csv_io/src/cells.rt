@@ -1,11 +1,12 @@
 ghost use Rattle.std.specs.Prelude.{◌≡◌, ◌≤◌, IfOk, length, neg_ℤ};
-ghost use Rattle.json_read.specs.Bytes.{is_digit as is_a_digit};
-ghost use Rattle.json_read.specs.Numeral.{digits_at};
+ghost use Rattle.numerals.specs.Bytes.{is_digit as is_a_digit};
+ghost use Rattle.numerals.specs.Numeral.{digits_at};
 ghost use Rattle.csv.specs.Records.{fields_of};
 ghost use Rattle.csv_io.specs.CsvCells.{cell_at, cell_value, has_idle_zero, is_plain, is_plain_end, plain_decimal, plain_size, without_zeros};
 
 use csv::ByteRecord;
-use json_read::{Decimal, Value};
+use json_values::Value;
+use numerals::Decimal;
 use std::alloc::{AllocError, Global};
 use text_core::Text;
 

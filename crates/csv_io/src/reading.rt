@@ -10,7 +10,7 @@ use crate::columns::{check_rows, header_names, number_columns};
 use crate::fault::{CsvFault, Room2};
 use crate::utf8::utf8_fault;
 use csv::{ByteRecord, ReaderBuilder};
-use json_read::{Row, RowList, Table};
+use json_values::{Row, RowList, Table};
 use std::alloc::{AllocError, Global};
 use table_terms::NameSet;
 use text_core::NameList;

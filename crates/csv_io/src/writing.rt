@@ -4,7 +4,7 @@ ghost use Rattle.csv.specs.Writing.{default_writer, row_text};
 ghost use Rattle.csv_io.specs.CsvText.{IsBetweenRecords, csv_text, records_text, row_cells, text_so_far};
 
 use csv::{ByteRecord, Writer, WriterBuilder};
-use json_read::{Row, RowList, Table};
+use json_values::{Row, RowList, Table};
 use std::alloc::{AllocError, Global};
 use text_core::{Bytes, NameList};
 

@@ -8,9 +8,8 @@ use Rattle.std.proofs.lemmas.Slice.Eq.{starts_is}
 use Rattle.std.proofs.lemmas.Bool.{eqb-true}
 use Rattle.std.proofs.lemmas.Bool.Decides.{Decides-eqb}
 use Rattle.expr_lang.specs.declared.token.Symbol.{Symbol}
-use Rattle.json_read.specs.Bytes.{is_digit}
-use Rattle.json_read.specs.Numeral.{skip_sign}
-use Rattle.json_read.specs.Reading.{drop_while}
+use Rattle.numerals.specs.Bytes.{is_digit, drop_while}
+use Rattle.numerals.specs.Numeral.{skip_sign}
 use Rattle.expr_lang.specs.Tokens.{Text, begins_with_digit, skip_whole, skip_fraction, skip_exponent, behind_number, three_bytes, two_bytes, one_byte, other_byte}
 
 -- ---- one ASCII character

@@ -1,6 +1,6 @@
 -- Operands and the signs before them.
 use Rattle.std.proofs.Common.{ℕ, zero, suc, ◌≡◌, ◌+◌, ◌<◌, ◌≤◌, [], ◌∷◌, ◌++◌, Some, None, Ok, Err, Result, option_map, refl, ap, ◌∙◌, sym, subst, arith, Bool, true, false}
-use Rattle.json_read.specs.declared.value.Value.TheVariants as value
+use Rattle.json_values.specs.declared.value.Value.TheVariants as value
 use Rattle.expr_lang.specs.declared.token.Sign.{Sign}
 use Rattle.expr_lang.specs.declared.token.Mark.TheVariants as mark
 use Rattle.expr_lang.specs.declared.token.Token.{Token}

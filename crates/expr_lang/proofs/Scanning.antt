@@ -5,9 +5,8 @@ use Rattle.expr_lang.specs.declared.token.Token.TheVariants as token
 use Rattle.expr_lang.specs.declared.token.Symbol.{Symbol}
 use Rattle.expr_lang.specs.Grammar.{Toks}
 use Rattle.expr_lang.proofs.Parts.{append_nil}
-use Rattle.json_read.specs.Bytes.{is_white, is_digit}
-use Rattle.json_read.specs.Numeral.{skip_sign}
-use Rattle.json_read.specs.Reading.{drop_while}
+use Rattle.numerals.specs.Bytes.{is_white, is_digit, drop_while}
+use Rattle.numerals.specs.Numeral.{skip_sign}
 use Rattle.expr_lang.specs.Tokens.{Text, Lexed, begins_with_digit, skip_whole, skip_fraction, skip_exponent, behind_number, text_at, escape_at, is_quote, escape_of, with_byte, content_token, is_name_start, is_name_byte, symbol_or, symbol_at, three_bytes, two_bytes, one_byte, token_at, tokens_from, tokens_of}
 
 -- no white space comes next

@@ -1,7 +1,7 @@
 -- The grammars of expressions and of assignments over tokens, and the trees of each. In each family n bounds how deep
 -- parentheses, operators before one operand and branches of a choice go.
 use Rattle.std.specs.Prelude.{◌≡◌, ℕ, zero, suc, true, false, codes, List, [], ◌∷◌, ◌++◌, Option, Some, None}
-use Rattle.json_read.specs.declared.value.Value.TheVariants as value
+use Rattle.json_values.specs.declared.value.Value.TheVariants as value
 use Rattle.expr_lang.specs.declared.token.Operator.{Operator}
 use Rattle.expr_lang.specs.declared.token.Operator.TheVariants as op
 use Rattle.expr_lang.specs.declared.token.Sign.{Sign}

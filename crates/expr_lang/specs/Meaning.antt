@@ -5,16 +5,16 @@ use Rattle.std.specs.Bool.{beq}
 use Rattle.std.specs.Ordering.{nat_cmp, int_eq, int_cmp, is_lt, is_le, is_gt, is_ge}
 use Rattle.std.specs.Str.{bytes_eq}
 use Rattle.std.specs.Cmp.Lexicographic.{slice_cmp}
-use Rattle.json_read.specs.declared.value.Value.{Value}
-use Rattle.json_read.specs.declared.value.Value.TheVariants as value
+use Rattle.json_values.specs.declared.value.Value.{Value}
+use Rattle.json_values.specs.declared.value.Value.TheVariants as value
 use Rattle.expr_lang.specs.declared.token.Operator.{Operator}
 use Rattle.expr_lang.specs.declared.token.Operator.TheVariants as op
 use Rattle.expr_lang.specs.declared.token.Sign.{Sign}
 use Rattle.expr_lang.specs.declared.token.Sign.TheVariants as sign
 use Rattle.expr_lang.specs.declared.fault.EvalFault.{EvalFault}
 use Rattle.expr_lang.specs.declared.fault.EvalFault.TheVariants as fault
-use Rattle.json_read.specs.Decimal.{checked, checked_product, of_grid}
-use Rattle.json_read.specs.Value.{same}
+use Rattle.numerals.specs.Decimal.{checked, checked_product, of_grid}
+use Rattle.json_values.specs.Value.{same}
 use Rattle.expr_lang.specs.Tree.{Tree, constant, column, feature_number, unary, binary, choice}
 
 abbrev pub Evaluated : Type 0

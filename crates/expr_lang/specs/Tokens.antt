@@ -9,10 +9,9 @@ use Rattle.expr_lang.specs.declared.token.Symbol.TheVariants as symbol
 use Rattle.expr_lang.specs.declared.token.Token.{Token}
 use Rattle.expr_lang.specs.declared.token.Token.TheVariants as token
 use Rattle.expr_lang.specs.Grammar.{Toks}
-use Rattle.json_read.specs.Bytes.{is_white, is_digit}
-use Rattle.json_read.specs.Numeral.{skip_sign}
-use Rattle.json_read.specs.Decimal.{decimal_of_text}
-use Rattle.json_read.specs.Reading.{drop_while}
+use Rattle.numerals.specs.Bytes.{is_white, is_digit, drop_while}
+use Rattle.numerals.specs.Numeral.{skip_sign}
+use Rattle.numerals.specs.Decimal.{decimal_of_text}
 
 abbrev pub Text : Type 0
 Text = List ℕ

@@ -1,6 +1,6 @@
 -- The tree of an expression. A place is the number of a byte in the text, counted from 0.
 use Rattle.std.specs.Prelude.{ℕ, List, map}
-use Rattle.json_read.specs.declared.value.Value.{Value}
+use Rattle.json_values.specs.declared.value.Value.{Value}
 use Rattle.expr_lang.specs.declared.token.Operator.{Operator}
 use Rattle.expr_lang.specs.declared.token.Sign.{Sign}
 use Rattle.expr_lang.specs.declared.assign.Assign.{Assign}

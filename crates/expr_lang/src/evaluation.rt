@@ -7,7 +7,8 @@ use crate::expr::{Expr, Node};
 use crate::fault::EvalFault;
 use crate::operators::{applied, decided, signed, truth};
 use crate::token::{Operator, Sign};
-use json_read::{Decimal, Row, Value};
+use json_values::{Row, Value};
+use numerals::Decimal;
 use std::alloc::Global;
 use text_core::{NameList, Text};
 

@@ -1,5 +1,5 @@
 use crate::token::{Operator, Sign};
-use json_read::Value;
+use json_values::Value;
 use text_core::Text;
 
 /// An expression that was read. Only `Expr::parse` makes one.

@@ -1,11 +1,12 @@
 ghost use Rattle.std.specs.Prelude.{◌≡◌, ◌-ℤ◌, ◌*ℤ◌, ◌++◌, IfOk};
 ghost use Rattle.std.specs.Str.{bytes_eq};
 ghost use Rattle.expr_lang.specs.Meaning.{Answers, alike as alike_value, order_of as order_of_values, applied as applied_value, decided as decided_value, bool_at, other_bool_at, ordered as ordered_value, in_range_at, by_numbers, truth_at, signed as signed_value, added as added_value};
-ghost use Rattle.json_read.specs.Decimal.{checked, checked_product};
+ghost use Rattle.numerals.specs.Decimal.{checked, checked_product};
 
 use crate::fault::EvalFault;
 use crate::token::{Operator, Sign};
-use json_read::{Decimal, Value};
+use json_values::Value;
+use numerals::Decimal;
 use std::alloc::{AllocError, Global};
 use std::cmp::Ordering;
 use text_core::Text;

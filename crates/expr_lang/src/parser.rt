@@ -16,7 +16,7 @@ use crate::assign::{Assign, AssignList};
 use crate::expr::{Expr, Node};
 use crate::fault::ExprFault;
 use crate::token::{Mark, Operator, Sign, Token};
-use json_read::Value;
+use json_values::Value;
 use std::alloc::{AllocError, Global};
 use text_core::Text;
 

@@ -1,17 +1,16 @@
 ghost use Rattle.std.specs.Prelude.{◌≡◌, ◌∷◌, ◌++◌, ◌<◌, ◌-◌, [], List, ℕ, true, false, length, take, drop, ◌^◌, MatchOption, IfOk, Some, encode_utf8};
 ghost use Rattle.std.specs.Str.{bytes_eq, IsCharBoundary};
 ghost use Rattle.std.specs.String.{string_bytes};
-ghost use Rattle.json_read.specs.Bytes.{is_white, is_digit, is_digit as is_a_digit};
-ghost use Rattle.json_read.specs.Decimal.{decimal_of_text};
-ghost use Rattle.json_read.specs.Numeral.{skip_sign};
-ghost use Rattle.json_read.specs.Reading.{drop_while};
+ghost use Rattle.numerals.specs.Bytes.{is_white, is_digit, is_digit as is_a_digit, drop_while};
+ghost use Rattle.numerals.specs.Decimal.{decimal_of_text};
+ghost use Rattle.numerals.specs.Numeral.{skip_sign};
 ghost use Rattle.expr_lang.specs.Tokens.{begins_with_digit, skip_whole, skip_fraction, skip_exponent, behind_number, number_token, escape_of as escape_byte, is_quote, is_quote as is_a_quote, text_at, content_token, is_name_start as starts_name, is_name_byte, is_other_word as is_left_out, word_token as token_of_word, symbol_token as token_of_symbol, symbol_at, token_at, tokens_of};
 ghost use Rattle.expr_lang.specs.Reading.{known_content, EndsLine};
 ghost use Rattle.expr_lang.specs.declared.token.Token.TheVariants as token;
 
 use crate::symbols::{one_byte, three_bytes, two_bytes};
 use crate::token::{Symbol, Token};
-use json_read::Decimal;
+use numerals::Decimal;
 use std::alloc::{AllocError, Global};
 use text_core::Text;
 

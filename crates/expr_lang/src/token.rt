@@ -1,4 +1,4 @@
-use json_read::Decimal;
+use numerals::Decimal;
 use text_core::Text;
 
 /// An operator between two operands.

@@ -3,9 +3,9 @@ use Rattle.std.proofs.Common.{◌≡◌, ℕ, suc, ◌+◌, ◌<◌, ◌≤◌, 
 use Rattle.std.specs.List.{enumerate_from}
 use Rattle.std.proofs.lemmas.List.{take_more, take_all, map-append, take-append-drop, length-map, length-take-le}
 use Rattle.std.proofs.Math.Seq.{drop-cons}
-use Rattle.json_read.specs.Json.{JsonValue}
-use Rattle.json_read.specs.Seen.{json_value}
-use Rattle.json_read.specs.declared.json.Json.{Json}
+use Rattle.json_values.specs.Json.{JsonValue}
+use Rattle.json_values.specs.Seen.{json_value}
+use Rattle.json_values.specs.declared.json.Json.{Json}
 use Rattle.std.specs.Prelude.{IfErr}
 use Rattle.geojson_io.specs.Reads.{Reads, Fault, IsFault, each}
 use Rattle.geojson_io.specs.declared.fault.ShapeFault.{ShapeFault}

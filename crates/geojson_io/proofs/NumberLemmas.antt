@@ -9,9 +9,9 @@ use Rattle.std.proofs.lemmas.Nat.{pow-add, div-add-mod', mod-mul-add}
 use Rattle.std.proofs.Math.Nat.{mod-lt, div-le_self, mul_assoc, mul-lt-mul_of_pos_right, mul-div-mul_right, mul-div_left, mul-mod_left, one-le-pow, div-div-eq-div-mul, mul_comm, div-one}
 use Rattle.std.proofs.Math.Arith.{mod-mul}
 use Rattle.grid_base.specs.Grid.{limit}
-use Rattle.json_read.specs.Decimal.{of_grid, fraction_text as decimal_fraction, is_negative, last_digits, sign_text, trimmed_digits}
-use Rattle.json_read.proofs.Digits.{decimal_text-parts, fraction_text-zero, fraction_text-other, last_digits-suc, last_digits-zero, trimmed_digits-zero}
-use Rattle.json_read.proofs.Scaling.{pow_ten}
+use Rattle.numerals.specs.Decimal.{of_grid, fraction_text as decimal_fraction, is_negative, last_digits, sign_text, trimmed_digits}
+use Rattle.numerals.proofs.Digits.{decimal_text-parts, fraction_text-zero, fraction_text-other, last_digits-suc, last_digits-zero, trimmed_digits-zero}
+use Rattle.numerals.proofs.Scaling.{pow_ten}
 use Rattle.geojson_io.specs.Numbers.{fraction_text, whole_digits}
 use Rattle.plane_model.specs.Points.{GridPoint}
 use Rattle.geojson_io.specs.Texts.{grid_text, point_text}

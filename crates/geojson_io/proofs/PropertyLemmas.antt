@@ -9,10 +9,10 @@ use Rattle.std.proofs.lemmas.List.{take_more, map-append, length-map}
 use Rattle.std.proofs.Math.ListN.{get_or-map}
 use Rattle.std.proofs.lemmas.List.Elements.{All-from_recursion}
 use Rattle.std.proofs.lemmas.Option.{slice_get-get_or}
-use Rattle.json_read.specs.Json.{JsonValue}
-use Rattle.json_read.specs.Lists.{HaveDistinctNames}
-use Rattle.json_read.specs.Table.{NamedValues, IsNewName}
-use Rattle.json_read.specs.declared.value.Value.{Value}
+use Rattle.json_values.specs.Json.{JsonValue}
+use Rattle.json_values.specs.Lists.{HaveDistinctNames}
+use Rattle.json_values.specs.Table.{NamedValues, IsNewName}
+use Rattle.json_values.specs.declared.value.Value.{Value}
 use Rattle.geojson_io.specs.Features.{property}
 
 abbrev Member : Type 0

@@ -2,9 +2,9 @@
 use Rattle.std.proofs.Common.{◌≡◌, ℕ, suc, ◌+◌, ◌<◌, List, [], ◌∷◌, ◌++◌, length, take, drop, map, get_or, refl, sym, ap, ◌∙◌, subst, Result, Ok, Err}
 use Rattle.std.proofs.lemmas.List.{take_more, map-append, take-append-drop}
 use Rattle.std.proofs.Math.Seq.{drop-cons}
-use Rattle.json_read.specs.Json.{JsonValue}
-use Rattle.json_read.specs.Seen.{json_value}
-use Rattle.json_read.specs.declared.json.Json.{Json}
+use Rattle.json_values.specs.Json.{JsonValue}
+use Rattle.json_values.specs.Seen.{json_value}
+use Rattle.json_values.specs.declared.json.Json.{Json}
 use Rattle.geojson_io.specs.Reads.{Reads, on_ok, each, Answers}
 use Rattle.geojson_io.specs.declared.fault.ShapeWhy.{ShapeWhy}
 use Rattle.geojson_io.specs.declared.fault.Stop.{Stop}

@@ -5,9 +5,9 @@ use Rattle.std.specs.List.{enumerate_from}
 use Rattle.std.specs.Str.{bytes_eq}
 use Rattle.std.proofs.lemmas.Result.{IfOk-at_ok}
 use Rattle.std.proofs.lemmas.List.Elements.{All-cons, All-nil, All-filter}
-use Rattle.json_read.specs.Json.{JsonValue, FieldList, null, boolean, number, string, array, object}
-use Rattle.json_read.specs.Lists.{fields_list, value_named}
-use Rattle.json_read.specs.Table.{NamedValues}
+use Rattle.json_values.specs.Json.{JsonValue, FieldList, null, boolean, number, string, array, object}
+use Rattle.json_values.specs.Lists.{fields_list, value_named}
+use Rattle.json_values.specs.Table.{NamedValues}
 use Rattle.plane_model.specs.Points.{GridPoint, Path}
 use Rattle.plane_model.specs.Drawing.{Polygon}
 use Rattle.geojson_io.specs.LayerContent.{LayerContent}

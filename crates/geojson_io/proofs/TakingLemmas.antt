@@ -3,9 +3,9 @@ use Rattle.std.proofs.Common.{◌≡◌, ℕ, ◌+◌, ◌<◌, ◌≤◌, List,
 use Rattle.std.specs.Prelude.{if◌then◌else◌, IfNone, IfOk, IfSome, is_some}
 use Rattle.std.specs.List.{enumerate_from}
 use Rattle.std.specs.Str.{bytes_eq}
-use Rattle.json_read.specs.Json.{JsonValue, ItemList, FieldList, array, object}
-use Rattle.json_read.specs.Lists.{items_list, fields_list, value_named}
-use Rattle.json_read.specs.Grammar.{JsonText}
+use Rattle.json_values.specs.Json.{JsonValue, ItemList, FieldList, array, object}
+use Rattle.json_values.specs.Lists.{items_list, fields_list, value_named}
+use Rattle.json_values.specs.Grammar.{JsonText}
 use Rattle.json_read.specs.Taking.{TakesOne, TookNamed, AreFieldsOf, IsReadOtherwise, IsTakenText}
 use Rattle.geojson_io.specs.LayerContent.{LayerContent}
 use Rattle.geojson_io.specs.Reads.{Reads, Fault, IsFault, AnswersIn, on_ok, each}

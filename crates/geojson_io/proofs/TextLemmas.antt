@@ -5,10 +5,10 @@ use Rattle.std.proofs.lemmas.Bool.Decides.{nat_tests}
 use Rattle.geojson_io.specs.Texts.{Text, separated, before_item, list_text, grid_text, point_text, type_text, typed, one_or_many, geometry_text, member_text, properties_text, feature_text, key_text, features_text, collection_start, collection_end, geojson_text}
 use Rattle.geojson_io.specs.LayerContent.{LayerContent}
 use Rattle.std.proofs.lemmas.Slice.Zip.{get_or-zip, length-zip}
-use Rattle.json_read.specs.Table.{RowValues, AreRows}
-use Rattle.json_read.specs.declared.value.Value.{Value}
+use Rattle.json_values.specs.Table.{RowValues, AreRows}
+use Rattle.json_values.specs.declared.value.Value.{Value}
 use Rattle.geojson_io.specs.declared.shape.GeoShape.{GeoShape}
-use Rattle.json_read.specs.Decimal.{of_grid, decimal_text}
+use Rattle.numerals.specs.Decimal.{of_grid, decimal_text}
 use Rattle.plane_model.specs.Points.{GridPoint}
 
 before_some : (c : Text) (n : ℕ) → before_item c (suc n) ≡ c

@@ -3,13 +3,13 @@
 use Rattle.std.specs.Prelude.{ℕ, ◌==◌, List, [], ◌∷◌, map, codes, Option, Some, None, Result, Ok, Err, if◌then◌else◌}
 use Rattle.std.specs.Str.{bytes_eq}
 use Rattle.std.specs.List.{enumerate_from}
-use Rattle.json_read.specs.Json.{JsonValue, FieldList, null, boolean, number, string, array, object}
-use Rattle.json_read.specs.Lists.{items_list, fields_list, value_named}
-use Rattle.json_read.specs.Table.{NamedValues}
-use Rattle.json_read.specs.Value.{value_of}
-use Rattle.json_read.specs.declared.json.Json.{Json}
-use Rattle.json_read.specs.declared.json.Json.TheVariants as json
-use Rattle.json_read.specs.declared.value.Value.{Value}
+use Rattle.json_values.specs.Json.{JsonValue, FieldList, null, boolean, number, string, array, object}
+use Rattle.json_values.specs.Lists.{items_list, fields_list, value_named}
+use Rattle.json_values.specs.Table.{NamedValues}
+use Rattle.json_values.specs.Value.{value_of}
+use Rattle.json_values.specs.declared.json.Json.{Json}
+use Rattle.json_values.specs.declared.json.Json.TheVariants as json
+use Rattle.json_values.specs.declared.value.Value.{Value}
 use Rattle.geojson_io.specs.Reads.{Reads, Fault, gives, fails, each, ◌>>=◌}
 use Rattle.geojson_io.specs.Geometries.{geometry, type_of, geo_type_of}
 use Rattle.geojson_io.specs.declared.fault.ShapeWhy.{ShapeWhy}

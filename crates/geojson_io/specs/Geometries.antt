@@ -1,8 +1,8 @@
 -- Geometries, after RFC 7946, section 3.1: an empty list of coordinates stands for nothing, and an empty polygon too.
 use Rattle.std.specs.Prelude.{ℕ, Bool, true, false, List, [], ◌∷◌, filter, codes, Option, Some, None, if◌then◌else◌}
 use Rattle.std.specs.Str.{bytes_eq}
-use Rattle.json_read.specs.Json.{JsonValue, FieldList, null, string, object}
-use Rattle.json_read.specs.Lists.{fields_list, value_named}
+use Rattle.json_values.specs.Json.{JsonValue, FieldList, null, string, object}
+use Rattle.json_values.specs.Lists.{fields_list, value_named}
 use Rattle.plane_model.specs.Points.{GridPoint, Path}
 use Rattle.plane_model.specs.Drawing.{Polygon}
 use Rattle.geojson_io.specs.Reads.{Reads, gives, fails, each, ◌>>=◌}

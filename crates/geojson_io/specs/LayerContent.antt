@@ -1,6 +1,6 @@
 -- What a layer holds.
 use Rattle.std.specs.Prelude.{ℕ, List}
-use Rattle.json_read.specs.Table.{TableContent}
+use Rattle.json_values.specs.Table.{TableContent}
 use Rattle.grid_base.specs.declared.kinds.Kind.{Kind}
 use Rattle.geojson_io.specs.declared.shape.GeoShape.{GeoShape}
 

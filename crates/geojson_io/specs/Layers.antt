@@ -1,8 +1,8 @@
 -- Layers: how the features of a file become a layer for each kind.
 use Rattle.std.specs.Prelude.{ℕ, Bool, ◌==◌, List, [], ◌∷◌, ◌++◌, map, filter, filter_map, codes, Option, Some, None, Result, Ok}
 use Rattle.lists.specs.Lists.{each_once}
-use Rattle.json_read.specs.Json.{JsonValue}
-use Rattle.json_read.specs.Table.{table_of}
+use Rattle.json_values.specs.Json.{JsonValue}
+use Rattle.json_values.specs.Table.{table_of}
 use Rattle.grid_base.specs.declared.kinds.Kind.{Kind}
 use Rattle.grid_base.specs.declared.kinds.Kind.TheVariants as kind
 use Rattle.geojson_io.specs.Reads.{Fault, on_ok}

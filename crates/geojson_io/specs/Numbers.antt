@@ -1,6 +1,6 @@
 -- The text of a grid number, in parts: a sign, the whole part, and the fraction.
 use Rattle.std.specs.Prelude.{ℕ, ◌==◌, List, [], ◌∷◌, if◌then◌else◌}
-use Rattle.json_read.specs.Decimal.{trimmed_digits}
+use Rattle.numerals.specs.Decimal.{trimmed_digits}
 
 -- the greatest number of digits in the whole part of a number of the grid
 abbrev pub whole_digits : ℕ

@@ -2,9 +2,9 @@
 -- number of a position is dropped.
 use Rattle.std.specs.Prelude.{ℕ, ◌-◌, Bool, true, ◌==◌, nat_lt, ℤ, List, [], ◌∷◌, length, Option, Some, None, Result, Ok, Err, if◌then◌else◌}
 use Rattle.lists.specs.Lists.{last_of}
-use Rattle.json_read.specs.Json.{JsonValue, number, array, item}
-use Rattle.json_read.specs.Lists.{items_list}
-use Rattle.json_read.specs.Numeral.{grid_of_text}
+use Rattle.json_values.specs.Json.{JsonValue, number, array, item}
+use Rattle.json_values.specs.Lists.{items_list}
+use Rattle.numerals.specs.Numeral.{grid_of_text}
 use Rattle.plane_model.specs.Points.{GridPoint, Path, same_point}
 use Rattle.plane_model.specs.Drawing.{Polygon}
 use Rattle.grid_base.specs.Grid.{grid_point}

@@ -1,10 +1,10 @@
 -- A collection of features that is read feature by feature.
 use Rattle.std.specs.Prelude.{ℕ, ◌≡◌, ◌≤◌, ⊤, Bool, true, false, List, ◌++◌, length, codes, All, None, Result, Ok, Err, IfOk, MatchOption, MatchResult, ◌⊎◌}
 use Rattle.std.specs.Str.{bytes_eq}
-use Rattle.json_read.specs.Grammar.{JsonText}
-use Rattle.json_read.specs.Json.{JsonValue, FieldList, null, boolean, number, string, array, object}
-use Rattle.json_read.specs.Lists.{fields_list, value_named}
-use Rattle.json_read.specs.Seen.{json_value}
+use Rattle.json_values.specs.Grammar.{JsonText}
+use Rattle.json_values.specs.Json.{JsonValue, FieldList, null, boolean, number, string, array, object}
+use Rattle.json_values.specs.Lists.{fields_list, value_named}
+use Rattle.json_values.specs.Seen.{json_value}
 use Rattle.json_read.specs.Taking.{IsReadOtherwise}
 use Rattle.geojson_io.specs.Features.{members}
 use Rattle.geojson_io.specs.Geometries.{type_of}

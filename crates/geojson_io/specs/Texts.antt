@@ -2,11 +2,11 @@
 use Rattle.std.specs.Prelude.{ℕ, ◌==◌, ℤ, List, [], ◌∷◌, ◌++◌, map, zip, codes, if◌then◌else◌}
 use Rattle.plane_model.specs.Points.{GridPoint, Path}
 use Rattle.plane_model.specs.Drawing.{Polygon}
-use Rattle.json_read.specs.Decimal.{of_grid, decimal_text}
-use Rattle.json_read.specs.Text.{string_text}
-use Rattle.json_read.specs.Value.{value_text}
-use Rattle.json_read.specs.Table.{RowValues}
-use Rattle.json_read.specs.declared.value.Value.{Value}
+use Rattle.numerals.specs.Decimal.{of_grid, decimal_text}
+use Rattle.json_values.specs.Text.{string_text}
+use Rattle.json_values.specs.Value.{value_text}
+use Rattle.json_values.specs.Table.{RowValues}
+use Rattle.json_values.specs.declared.value.Value.{Value}
 use Rattle.geojson_io.specs.LayerContent.{LayerContent}
 use Rattle.geojson_io.specs.declared.shape.GeoShape.{GeoShape}
 use Rattle.geojson_io.specs.declared.shape.GeoShape.TheVariants.{Nothing, Polygons, Lines, Points}

@@ -20,7 +20,7 @@ pub struct GeoLayer {
 impl Model for GeoLayer {
     ghost use Rattle.std.specs.Prelude.{◌≡◌, length, refl};
     ghost use Rattle.std.specs.Coded.{coded×, coded_ℕ, coded_list, code_by};
-    ghost use Rattle.json_read.specs.contracts.table.Table as cells;
+    ghost use Rattle.json_values.specs.contracts.table.Table as cells;
     ghost use Rattle.grid_base.specs.contracts.kinds.Kind as kinds;
     ghost use Rattle.geojson_io.specs.contracts.shape.GeoShape as geo;
     ghost use Rattle.geojson_io.specs.LayerContent.{LayerContent};

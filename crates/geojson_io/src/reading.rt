@@ -1,6 +1,6 @@
 ghost use Rattle.std.specs.Prelude.{◌≡◌, ◌≤◌, All, IfOk, IfErr, Ok};
 ghost use Rattle.grid_base.specs.Grid.{most_places};
-ghost use Rattle.json_read.specs.Seen.{json_value};
+ghost use Rattle.json_values.specs.Seen.{json_value};
 ghost use Rattle.geojson_io.specs.Reads.{IsFault};
 ghost use Rattle.geojson_io.specs.Layers.{read_geojson as geojson_layers};
 ghost use Rattle.geojson_io.specs.Sound.{LayerIsSound};

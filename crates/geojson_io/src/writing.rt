@@ -1,6 +1,6 @@
 ghost use Rattle.std.specs.Prelude.{◌≡◌, ◌≤◌, ◌++◌, ◌∷◌, [], List, IfOk, OnOk, codes, length};
 ghost use Rattle.grid_base.specs.Grid.{most_places};
-ghost use Rattle.json_read.specs.Table.{AreRows};
+ghost use Rattle.json_values.specs.Table.{AreRows};
 ghost use Rattle.geojson_io.specs.Texts.{before_item, collection_end, collection_start, feature_text, features_text, geojson_text, properties_text};
 ghost use Rattle.geojson_io.specs.declared.shape.GeoShape.{GeoShape};
 

@@ -3,9 +3,9 @@ use Rattle.std.proofs.Common.{◌≡◌, ℕ, Bool, true, false, cond, List, [],
 use Rattle.std.specs.Prelude.{IsUtf8, MatchResult, replicate}
 use Rattle.io_core.specs.Contents.{Content}
 use Rattle.json_read.specs.Faults.{IsFault}
-use Rattle.json_read.specs.Grammar.{JsonText}
-use Rattle.json_read.specs.Json.{JsonValue}
-use Rattle.json_read.specs.Table.{TableContent, RowValues}
+use Rattle.json_values.specs.Grammar.{JsonText}
+use Rattle.json_values.specs.Json.{JsonValue}
+use Rattle.json_values.specs.Table.{TableContent, RowValues}
 use Rattle.json_read.specs.declared.reader.Fault.{Fault}
 use Rattle.json_read.specs.declared.reader.Fault.TheVariants as json
 use Rattle.json_read.proofs.Unique.{text_one}

@@ -1,7 +1,7 @@
 -- The format and the title of a source are those of the model.
 use Rattle.std.proofs.Common.{◌≡◌, ◌==◌, ◌&&◌, ◌||◌, Bool, true, false, not, cond, [], ◌∷◌, codes, Option, Some, None, refl, ap, ◌∙◌}
-use Rattle.json_read.specs.Json.{JsonValue, null, boolean, number, string, array, object}
-use Rattle.json_read.specs.Lists.{fields_list, value_named}
+use Rattle.json_values.specs.Json.{JsonValue, null, boolean, number, string, array, object}
+use Rattle.json_values.specs.Lists.{fields_list, value_named}
 use Rattle.io_core.specs.Contents.{Content}
 use Rattle.geojson_io.specs.Geometries.{text_of}
 use Rattle.std.specs.Str.{bytes_eq}

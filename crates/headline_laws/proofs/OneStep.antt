@@ -1,7 +1,7 @@
 -- Commands that fit the same words make the same steps: expressions of one text are one tree.
 use Rattle.std.proofs.Common.{◌≡◌, refl, sym, ap, ◌∙◌, ℕ, Bool, true, if◌then◌else◌, not, List, map, Option, Some, None, Result, Ok}
 use Rattle.std.proofs.Math.Path.{fun_ext}
-use Rattle.json_read.specs.Table.{TableContent}
+use Rattle.json_values.specs.Table.{TableContent}
 use Rattle.grid_base.specs.declared.kinds.Kind.{Kind}
 use Rattle.expr_lang.specs.Faults.{AreAssigns, IsTree}
 use Rattle.expr_lang.specs.Tree.{Assigned, Tree, all_assigned, tree_of}

@@ -3,7 +3,7 @@ use Rattle.std.proofs.Common.{◌≡◌, ◌<◌, ◌≤◌, ℕ, drop, sym, ◌
 use Rattle.std.proofs.lemmas.Bool.{cases_order}
 use Rattle.io_core.specs.Contents.{Content}
 use Rattle.json_read.specs.Faults.{IsFault}
-use Rattle.json_read.specs.Grammar.{LongestViable}
+use Rattle.json_values.specs.Grammar.{LongestViable}
 use Rattle.json_read.specs.Machine as machine
 use Rattle.json_read.specs.declared.reader.Fault.{Fault}
 use Rattle.csv_io.specs.CsvUtf8.{EndsUtf8At}

@@ -1,18 +1,18 @@
 -- Arrays.
 use Rattle.std.proofs.Common.{ℕ, suc, Some, ◌≡◌, ◌+◌, ◌++◌, List, [], ◌∷◌, refl, ap, ◌∙◌, sym, subst, length, append_assoc, eqb}
 use Rattle.std.proofs.lemmas.Bool.{cond-false, ne_eqb}
-use Rattle.json_read.specs.Bytes.{is_white}
-use Rattle.json_read.specs.Grammar.{White, Denotes, Elements, Padded, padded, last_element, element, no_elements, elements}
-use Rattle.json_read.specs.Lists.{items_list}
-use Rattle.json_read.specs.Seen.{json_value}
-use Rattle.json_read.specs.Json.{JsonValue, ItemList, no_items, items_of, array}
-use Rattle.json_read.specs.declared.json.Json.{Json}
+use Rattle.numerals.specs.Bytes.{is_white, NextFails, drop_while}
+use Rattle.json_values.specs.Grammar.{White, Denotes, Elements, Padded, padded, last_element, element, no_elements, elements}
+use Rattle.json_values.specs.Lists.{items_list}
+use Rattle.json_values.specs.Seen.{json_value}
+use Rattle.json_values.specs.Json.{JsonValue, ItemList, no_items, items_of, array}
+use Rattle.json_values.specs.declared.json.Json.{Json}
 use Rattle.json_read.specs.declared.reader.Fault.{Fault}
 use Rattle.json_read.specs.declared.reader.Fault.TheVariants.{Syntax}
 use Rattle.json_read.specs.declared.reader.Stop.{Stop}
 use Rattle.json_read.specs.declared.reader.Stop.TheVariants as stop
 use Rattle.json_read.specs.Machine.{Place, Open, in_array, run, step, fault, value, first_value, after}
-use Rattle.json_read.specs.Reading.{Runs, AtFault, NextFails, NextIsNot, drop_while, PassesAt, BreaksAt, outside, inside, behind, ShowsPadded, ArrayText}
+use Rattle.json_read.specs.Reading.{Runs, AtFault, NextIsNot, PassesAt, BreaksAt, outside, inside, behind, ShowsPadded, ArrayText}
 use Rattle.json_read.proofs.Names.{ByteFault}
 use Rattle.json_read.proofs.Runs.{moves, stops, moves_alike}
 use Rattle.json_read.proofs.Sequences.{Then, then_passes_at, then_breaks_at, first_breaks_at, as_breaks_at, as_passes_at, lifted, white_passes, white_append}

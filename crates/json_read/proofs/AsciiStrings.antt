@@ -5,7 +5,7 @@ use Rattle.std.specs.Str.{IsUtf8, IsAscii, encode_utf8_all}
 use Rattle.std.proofs.lemmas.Bool.Decides.{nat_tests}
 use Rattle.std.proofs.lemmas.Bool.{and_parts}
 use Rattle.std.proofs.lemmas.Str.{IsUtf8-from_ascii, encodes-IsAscii}
-use Rattle.json_read.specs.Grammar.{Chars, no_chars, stands_plain, is_high, mended, joined}
+use Rattle.json_values.specs.Grammar.{Chars, no_chars, stands_plain, is_high, mended, joined}
 use Rattle.json_read.specs.Machine.{Role, in_string, closed, run}
 use Rattle.json_read.specs.Reading.{Passes, ClosesAs}
 use Rattle.json_read.specs.AsciiStrings.{AllAlone, ClosesAsAscii, stands_alone}

@@ -1,6 +1,5 @@
 pub mod Runs
 pub mod Whiles
-pub mod Seen
 pub mod Parts
 pub mod Numbers
 pub mod Hex
@@ -13,7 +12,6 @@ pub mod Names
 pub mod Values
 pub mod Arrays
 pub mod Objects
-pub mod Putting
 pub mod Texts
 pub mod Accepts
 pub mod Viability
@@ -22,24 +20,5 @@ pub mod AcceptsStrings
 pub mod AsciiStrings
 pub mod Depths
 pub mod Unique
-pub mod Products
-pub mod SignedProducts
-pub mod Decimals
-pub mod Tables
-pub mod NamedValues
-pub mod Digits
-pub mod Escapes
-pub mod Scaling
-pub mod NumeralParts
-pub mod Shifts
-pub mod Quotients
-pub mod Sameness
-pub mod Rounding
-pub mod Indexing
-pub mod NumbersAreNumerals
-pub mod RoundTrip
-pub mod PrintedTexts
-pub mod PrintedCells
-pub mod GridNumbers
 pub mod ProperValues
 mod Taking

@@ -1,19 +1,19 @@
 -- Objects.
 use Rattle.std.proofs.Common.{ℕ, suc, Some, ◌≡◌, ◌+◌, ◌++◌, List, [], ◌∷◌, refl, ap, ◌∙◌, sym, subst, length, append_assoc, eqb, codes}
 use Rattle.std.proofs.lemmas.Bool.{cond-false, ne_eqb}
-use Rattle.json_read.specs.Bytes.{is_white}
-use Rattle.json_read.specs.Grammar.{White, no_white, Denotes, is_null, Members, padded, last_member, member, no_members, members}
-use Rattle.json_read.specs.Lists.{fields_list, merged, put}
-use Rattle.json_read.specs.Seen.{json_value}
-use Rattle.json_read.specs.Json.{JsonValue, FieldList, no_fields, fields_of, object}
-use Rattle.json_read.specs.declared.json.Json.{Json}
-use Rattle.json_read.specs.declared.json.Json.TheVariants as json
+use Rattle.numerals.specs.Bytes.{is_white, NextFails, drop_while}
+use Rattle.json_values.specs.Grammar.{White, no_white, Denotes, is_null, Members, padded, last_member, member, no_members, members}
+use Rattle.json_values.specs.Lists.{fields_list, merged, put}
+use Rattle.json_values.specs.Seen.{json_value}
+use Rattle.json_values.specs.Json.{JsonValue, FieldList, no_fields, fields_of, object}
+use Rattle.json_values.specs.declared.json.Json.{Json}
+use Rattle.json_values.specs.declared.json.Json.TheVariants as json
 use Rattle.json_read.specs.declared.reader.Fault.{Fault}
 use Rattle.json_read.specs.declared.reader.Fault.TheVariants.{Syntax}
 use Rattle.json_read.specs.declared.reader.Stop.{Stop}
 use Rattle.json_read.specs.declared.reader.Stop.TheVariants as stop
 use Rattle.json_read.specs.Machine.{Place, Open, in_object, run, step, fault, value, first_name, next_name, after}
-use Rattle.json_read.specs.Reading.{Runs, Passes, Breaks, AtFault, NextFails, NextIsNot, drop_while, MembersSoFar, NameText, PassesAt, BreaksAt, outside, inside, behind, ShowsPadded, ObjectText}
+use Rattle.json_read.specs.Reading.{Runs, Passes, Breaks, AtFault, NextIsNot, MembersSoFar, NameText, PassesAt, BreaksAt, outside, inside, behind, ShowsPadded, ObjectText}
 use Rattle.json_read.proofs.Names.{ByteFault, SomeName}
 use Rattle.json_read.proofs.Runs.{moves, stops, moves_alike}
 use Rattle.json_read.proofs.Sequences.{Then, then_passes_at, then_breaks_at, first_breaks_at, as_breaks_at, as_passes_at, lifted, lifted_breaks, white_passes, white_append}

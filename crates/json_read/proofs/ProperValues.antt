@@ -4,12 +4,12 @@ use Rattle.std.proofs.lemmas.Bool.Decides.{nat_tests}
 use Rattle.std.proofs.Math.Utf8.{scalars, scalar}
 use Rattle.std.specs.List.{IsDistinct}
 use Rattle.std.specs.Str.{IsUtf8, bytes_eq}
-use Rattle.json_read.specs.Json.{JsonValue, ItemList, FieldList, no_items, item, no_fields, field}
-use Rattle.json_read.specs.Lists.{items_list, fields_list, put, merged, HaveDistinctNames}
-use Rattle.json_read.specs.Grammar.{is_high, is_low, pair, mended, joined, Quoted, quoted, Denotes, is_null, is_true, is_false, is_number, is_string, no_elements, elements, no_members, members, Elements, last_element, element, Members, last_member, member, Padded, padded, JsonText, text}
-use Rattle.json_read.specs.Proper.{IsProper, AreProper, AreProperFields}
-use Rattle.json_read.proofs.Seen.{Member}
-use Rattle.json_read.proofs.Putting.{put_distinct}
+use Rattle.json_values.specs.Json.{JsonValue, ItemList, FieldList, no_items, item, no_fields, field}
+use Rattle.json_values.specs.Lists.{items_list, fields_list, put, merged, HaveDistinctNames}
+use Rattle.json_values.specs.Grammar.{is_high, is_low, pair, mended, joined, Quoted, quoted, Denotes, is_null, is_true, is_false, is_number, is_string, no_elements, elements, no_members, members, Elements, last_element, element, Members, last_member, member, Padded, padded, JsonText, text}
+use Rattle.json_values.specs.Proper.{IsProper, AreProper, AreProperFields}
+use Rattle.json_values.proofs.Seen.{Member}
+use Rattle.json_values.proofs.Putting.{put_distinct}
 
 -- ## Texts are UTF-8
 

@@ -2,25 +2,25 @@
 use Rattle.std.proofs.Common.{ℕ, suc, ◌≡◌, ◌++◌, List, [], ◌∷◌, Bool, true, false, refl, ap, ◌∙◌, sym, subst, append_assoc, Option, Some, None, is_some, Result, Ok, Err, ◌⊎◌, inl, inr}
 use Rattle.std.specs.Prelude.{MatchBool, IfNone, IfOk, IfSome}
 use Rattle.std.specs.Str.{bytes_eq}
-use Rattle.json_read.specs.Bytes.{is_white}
-use Rattle.json_read.specs.Grammar.{Mark}
-use Rattle.json_read.specs.Json.{JsonValue, ItemList, FieldList, no_items, no_fields, items_of, fields_of, array, field}
-use Rattle.json_read.specs.Lists.{items_list, fields_list, put, value_named}
-use Rattle.json_read.specs.Seen.{json_value}
-use Rattle.json_read.specs.declared.json.Json.{Json}
-use Rattle.json_read.specs.declared.json.Json.TheVariants as json
+use Rattle.numerals.specs.Bytes.{is_white, NextFails, drop_while}
+use Rattle.json_values.specs.Grammar.{Mark}
+use Rattle.json_values.specs.Json.{JsonValue, ItemList, FieldList, no_items, no_fields, items_of, fields_of, array, field}
+use Rattle.json_values.specs.Lists.{items_list, fields_list, put, value_named}
+use Rattle.json_values.specs.Seen.{json_value}
+use Rattle.json_values.specs.declared.json.Json.{Json}
+use Rattle.json_values.specs.declared.json.Json.TheVariants as json
 use Rattle.json_read.specs.declared.reader.Fault.TheVariants.{Syntax}
 use Rattle.json_read.specs.declared.reader.Stop.{Stop}
 use Rattle.json_read.specs.declared.reader.taking.Taking.{Taking}
 use Rattle.json_read.specs.declared.reader.taking.TakenObject.{TakenObject}
 use Rattle.json_read.specs.Machine.{in_array, in_object, start, value, first_value, first_name, next_name, after}
-use Rattle.json_read.specs.Reading.{AtFault, NextFails, NextIsNot, drop_while, Reads, Passes, MembersSoFar, NameText, PassesAt, BreaksAt, outside, inside, behind, Shows, ShowsPadded, ArrayText, ObjectText, FaultsAt}
+use Rattle.json_read.specs.Reading.{AtFault, NextIsNot, Reads, Passes, MembersSoFar, NameText, PassesAt, BreaksAt, outside, inside, behind, Shows, ShowsPadded, ArrayText, ObjectText, FaultsAt}
 use Rattle.json_read.specs.Taking.{TakesOne, TakesAll, TookNamed, AreFieldsOf, IsTakenText, HasOtherMember, IsNoFirstArray, HasTakenArray, PutsOther, TakesFirst, HasValue, HasFirstArray, HasMember, ValueBreaks, TakesValue, TakesMember}
 use Rattle.json_read.proofs.Arrays.{ItemsSoFar, array_empty, array_init, array_more, array_ends, array_item_breaks, array_comma_breaks, items_list-items_of}
 use Rattle.json_read.proofs.Names.{ByteFault}
 use Rattle.json_read.proofs.Objects.{object_empty, object_init, object_more, object_ends}
-use Rattle.json_read.proofs.Putting.{put_on, put_here, flips, same_bytes, value_here, value_further}
-use Rattle.json_read.proofs.Seen.{Member, fields_list-fields_of}
+use Rattle.json_values.proofs.Putting.{put_on, put_here, flips, same_bytes, value_here, value_further}
+use Rattle.json_values.proofs.Seen.{Member, fields_list-fields_of}
 use Rattle.json_read.proofs.Texts.{text_value, text_end, text_whole}
 use Rattle.json_read.proofs.Values.{SomePadded, padded_passes, padded_breaks, held_value, held_breaks}
 use Rattle.json_read.proofs.Whiles.{next_fails_after}

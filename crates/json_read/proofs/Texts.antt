@@ -1,18 +1,18 @@
 -- A whole text: the byte order mark, a value, and the end.
 use Rattle.std.proofs.Common.{ℕ, Some, ◌≡◌, ◌++◌, List, [], ◌∷◌, refl, ap, ◌∙◌, sym, subst, arith, cond, eqb, codes}
 use Rattle.std.proofs.lemmas.Bool.{cond-false, ne_eqb}
-use Rattle.json_read.specs.Bytes.{is_white}
-use Rattle.json_read.specs.Grammar.{no_white, is_null, Padded, padded, Mark, no_mark, mark, JsonText, text}
-use Rattle.json_read.specs.Seen.{json_value}
-use Rattle.json_read.specs.Json.{JsonValue}
-use Rattle.json_read.specs.declared.json.Json.{Json}
-use Rattle.json_read.specs.declared.json.Json.TheVariants as json
+use Rattle.numerals.specs.Bytes.{is_white, NextFails}
+use Rattle.json_values.specs.Grammar.{no_white, is_null, Padded, padded, Mark, no_mark, mark, JsonText, text}
+use Rattle.json_values.specs.Seen.{json_value}
+use Rattle.json_values.specs.Json.{JsonValue}
+use Rattle.json_values.specs.declared.json.Json.{Json}
+use Rattle.json_values.specs.declared.json.Json.TheVariants as json
 use Rattle.json_read.specs.declared.reader.Fault.{Fault}
 use Rattle.json_read.specs.declared.reader.Fault.TheVariants.{Syntax}
 use Rattle.json_read.specs.declared.reader.Stop.{Stop}
 use Rattle.json_read.specs.declared.reader.Stop.TheVariants as stop
 use Rattle.json_read.specs.Machine.{Place, Moves, run, fault, start, in_mark, value, after}
-use Rattle.json_read.specs.Reading.{Reads, Runs, Fails, Passes, Breaks, AtFault, NextFails, NextIsNot, PassesAt, BreaksAt, outside, ShowsPadded, FaultsAt}
+use Rattle.json_read.specs.Reading.{Reads, Runs, Fails, Passes, Breaks, AtFault, NextIsNot, PassesAt, BreaksAt, outside, ShowsPadded, FaultsAt}
 use Rattle.json_read.proofs.Names.{ByteFault}
 use Rattle.json_read.proofs.Parts.{passes_none, passes_one, breaks_here, append_nil}
 use Rattle.json_read.proofs.Runs.{stops, moves_alike}

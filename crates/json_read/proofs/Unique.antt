@@ -5,12 +5,13 @@ use Rattle.std.proofs.lemmas.Bool.Decides.{nat_tests}
 use Rattle.std.proofs.lemmas.Str.{encode_same, char_from_byte, length-encode, len_utf8_bounds}
 use Rattle.std.specs.Str.{encode_utf8_all}
 use lib.Utf8.{encode}
-use Rattle.json_read.specs.Bytes.{is_white, is_digit}
-use Rattle.json_read.specs.Grammar.{White, no_white, white, Digits, no_digits, digit, SomeDigits, some_digits, Whole, zero_alone, from_one, Fraction, no_fraction, fraction, Exponent, no_exponent, exponent, Number, numeral, Chars, no_chars, plain, escape, unicode, short_escape, stands_plain, four_hex, joined, Quoted, quoted, Denotes, is_null, is_true, is_false, is_number, is_string, no_elements, elements, no_members, members, Elements, last_element, element, Members, last_member, member, Padded, padded, Mark, no_mark, mark, JsonText, text}
-use Rattle.json_read.specs.Lists.{items_list, fields_list, merged}
+use Rattle.numerals.specs.Bytes.{is_white, is_digit, NextFails, drop_while}
+use Rattle.json_values.specs.Grammar.{White, no_white, white, Chars, no_chars, plain, escape, unicode, short_escape, stands_plain, four_hex, joined, Quoted, quoted, Denotes, is_null, is_true, is_false, is_number, is_string, no_elements, elements, no_members, members, Elements, last_element, element, Members, last_member, member, Padded, padded, Mark, no_mark, mark, JsonText, text}
+use Rattle.numerals.specs.Numbers.{Digits, no_digits, digit, SomeDigits, some_digits, Whole, zero_alone, from_one, Fraction, no_fraction, fraction, Exponent, no_exponent, exponent, Number, numeral}
+use Rattle.json_values.specs.Lists.{items_list, fields_list, merged}
 use Rattle.json_read.specs.Machine.{run, fault, value, after}
-use Rattle.json_read.specs.Reading.{NextFails, NextIsNot, drop_while}
-use Rattle.json_read.specs.Json.{JsonValue, ItemList, FieldList, number, string, array, object, no_items, item, items_of, no_fields, field, fields_of}
+use Rattle.json_read.specs.Reading.{NextIsNot}
+use Rattle.json_values.specs.Json.{JsonValue, ItemList, FieldList, number, string, array, object, no_items, item, items_of, no_fields, field, fields_of}
 use Rattle.json_read.specs.declared.reader.Fault.TheVariants.{Syntax}
 use Rattle.json_read.proofs.Accepts.{denotes_runs, denotes_first, FirstByte, padded_unmarked}
 use Rattle.json_read.proofs.AcceptsNumbers.{Ends, white_ends, number_first}

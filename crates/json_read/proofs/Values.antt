@@ -2,18 +2,18 @@
 use Rattle.std.proofs.Common.{ℕ, suc, None, ◌≡◌, ◌+◌, ◌++◌, ◌<◌, ◌≤◌, List, [], ◌∷◌, true, false, refl, ap, ◌∙◌, sym, subst, length, arith, eqb, ltb, codes, ◌⊎◌}
 use Rattle.std.proofs.lemmas.Bool.{cond-true, cond-false, ne_eqb, lt-ltb, le-ltb}
 use Rattle.std.proofs.lemmas.Bool.Decides.{nat_tests}
-use Rattle.json_read.specs.Bytes.{is_white, is_nonzero_digit}
-use Rattle.json_read.specs.Grammar.{White, no_white, Quoted, quoted, Denotes, is_null, is_number, is_string, Padded, padded}
-use Rattle.json_read.specs.Seen.{json_value}
-use Rattle.json_read.specs.Json.{JsonValue, number}
-use Rattle.json_read.specs.declared.json.Json.{Json}
-use Rattle.json_read.specs.declared.json.Json.TheVariants as json
+use Rattle.numerals.specs.Bytes.{is_white, is_nonzero_digit, NextFails, drop_while}
+use Rattle.json_values.specs.Grammar.{White, no_white, Quoted, quoted, Denotes, is_null, is_number, is_string, Padded, padded}
+use Rattle.json_values.specs.Seen.{json_value}
+use Rattle.json_values.specs.Json.{JsonValue, number}
+use Rattle.json_values.specs.declared.json.Json.{Json}
+use Rattle.json_values.specs.declared.json.Json.TheVariants as json
 use Rattle.json_read.specs.declared.reader.Fault.{Fault}
 use Rattle.json_read.specs.declared.reader.Fault.TheVariants.{Syntax, Depth}
 use Rattle.json_read.specs.declared.reader.Stop.{Stop}
 use Rattle.json_read.specs.declared.reader.Stop.TheVariants as stop
 use Rattle.json_read.specs.Machine.{Place, Open, run, step, fault, opens_deeper, opens, value, after, in_string, is_value, in_word}
-use Rattle.json_read.specs.Reading.{Runs, Passes, Breaks, AtFault, NextFails, drop_while, ClosesAs, NumeralOf, run_at, PassesAt, BreaksAt, outside, inside, behind, Shows, ShowsPadded}
+use Rattle.json_read.specs.Reading.{Runs, Passes, Breaks, AtFault, ClosesAs, NumeralOf, run_at, PassesAt, BreaksAt, outside, inside, behind, Shows, ShowsPadded}
 use Rattle.json_read.proofs.Parts.{passes_one}
 use Rattle.json_read.proofs.Runs.{moves, stops, moves_alike}
 use Rattle.json_read.proofs.Sequences.{Then, then_passes_at, then_breaks_at, first_breaks_at, as_breaks_at, as_passes_at, lifted, lifted_breaks, white_passes}

@@ -4,7 +4,7 @@ use Rattle.std.proofs.lemmas.Bool.{cases_lt}
 use Rattle.std.proofs.Math.Seq.{take-append_seam, drop-append_seam, take-append-add}
 use Rattle.json_read.specs.Faults.{IsFault, FaultFits, fault_of as fault_named}
 use Rattle.json_read.specs.declared.reader.Fault.TheVariants as kinds
-use Rattle.json_read.specs.Grammar.{JsonText, Viable}
+use Rattle.json_values.specs.Grammar.{JsonText, Viable}
 use Rattle.json_read.specs.Machine.{Place, Open, Moves, accepted, fault, run, step, fault_of, at_end, start, after, behind_zero, in_whole, in_fraction, behind_mantissa, in_exponent}
 use Rattle.json_read.specs.Reading.{FaultsAt}
 use Rattle.json_read.specs.declared.reader.Fault.{Fault}

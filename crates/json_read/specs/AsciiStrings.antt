@@ -1,7 +1,7 @@
 -- Strings of ASCII without escapes (RFC 8259, section 7).
 use Rattle.std.specs.Prelude.{ℕ, ◌≡◌, nat_lt, ◌&&◌, List, ◌∷◌, ◌++◌, Bool, IsTrue}
 use Rattle.std.specs.List.{list_all}
-use Rattle.json_read.specs.Grammar.{stands_plain}
+use Rattle.json_values.specs.Grammar.{stands_plain}
 
 -- a byte that is a character of ASCII and stands unescaped
 abbrev pub stands_alone : ℕ → Bool

@@ -1,8 +1,8 @@
 -- What a fault says of the bytes.
 use Rattle.std.specs.Prelude.{ℕ, ◌≡◌, List, [], drop}
-use Rattle.json_read.specs.Grammar.{JsonText, LongestViable}
+use Rattle.json_values.specs.Grammar.{JsonText, LongestViable}
 use Rattle.json_read.specs.Machine.{run, fault, start}
-use Rattle.json_read.specs.Json.{JsonValue}
+use Rattle.json_values.specs.Json.{JsonValue}
 use Rattle.json_read.specs.declared.fault.JsonFault.{JsonFault}
 use Rattle.json_read.specs.declared.fault.JsonFault.TheVariants as json
 use Rattle.json_read.specs.declared.reader.Fault.{Fault}

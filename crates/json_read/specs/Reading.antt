@@ -1,32 +1,23 @@
 -- What a reader has read of the bytes that it had, and what it met.
-use Rattle.std.specs.Prelude.{ℕ, suc, ◌≡◌, ◌+◌, ◌<◌, nat_le, nat_lt, ◌&&◌, List, [], ◌∷◌, ◌++◌, Bool, true, false, Option, Result, MatchResult, length, IsTrue, ◌⊎◌}
+use Rattle.std.specs.Prelude.{ℕ, suc, ◌≡◌, ◌+◌, ◌<◌, nat_le, nat_lt, ◌&&◌, List, [], ◌∷◌, ◌++◌, Bool, true, Option, Result, MatchResult, length, IsTrue, ◌⊎◌}
 use Rattle.json_read.specs.declared.reader.Fault.{Fault}
 use Rattle.json_read.specs.declared.reader.Stop.{Stop}
 use Rattle.json_read.specs.declared.reader.Stop.TheVariants as stop
 use Rattle.json_read.specs.Machine.{Place, Open, Outcome, run, fault, start, after}
-use Rattle.json_read.specs.Seen.{json_value}
-use Rattle.json_read.specs.Json.{JsonValue, ItemList, FieldList, array, object}
-use Rattle.json_read.specs.declared.json.Json.{Json}
+use Rattle.json_values.specs.Seen.{json_value}
+use Rattle.json_values.specs.Json.{JsonValue, ItemList, FieldList, array, object}
+use Rattle.json_values.specs.declared.json.Json.{Json}
 use Rattle.std.specs.Char.{digit_value}
 use Rattle.std.specs.Str.{encode_utf8_all}
-use Rattle.json_read.specs.Grammar.{Chars, Spells, SomeDigits, Number, joined, Denotes, Members, Padded, White, Quoted, JsonText}
-use Rattle.json_read.specs.Lists.{fields_list, merged}
-use Rattle.json_read.specs.Bytes.{is_digit, is_hex}
+use Rattle.json_values.specs.Grammar.{Chars, Spells, joined, Denotes, Members, Padded, White, Quoted, JsonText}
+use Rattle.numerals.specs.Numbers.{SomeDigits, Number}
+use Rattle.json_values.specs.Lists.{fields_list, merged}
+use Rattle.numerals.specs.Bytes.{is_digit, is_hex, NextFails}
 use Rattle.json_read.specs.declared.reader.Fault.TheVariants.{Syntax, Utf8}
-
--- the next byte fails the test, or there is none
-abbrev pub NextFails : (ℕ → Bool) → List ℕ → Type 0
-NextFails test [] = Unit {0}
-NextFails test (b ∷ bs) = test b ≡ false
 
 -- the next byte is another than b, or there is none
 abbrev pub NextIsNot : ℕ → List ℕ → Type 0
 NextIsNot b bytes = (bs : List ℕ) → bytes ≡ b ∷ bs → ⊥
-
--- what is left after the bytes that pass the test
-abbrev pub drop_while : (ℕ → Bool) → List ℕ → List ℕ
-drop_while test [] = []
-drop_while test (b ∷ bs) = elim (test b) [ true ↦ drop_while test bs | false ↦ b ∷ bs ]
 
 -- a text with R was read
 abbrev pub Reads : (List ℕ → Type 0) → List ℕ → List ℕ → Type 0

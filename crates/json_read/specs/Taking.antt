@@ -1,14 +1,14 @@
 -- Objects that are read with the items of one array taken one by one.
 use Rattle.std.specs.Prelude.{ℕ, ◌≡◌, ◌-◌, List, [], ◌∷◌, ◌++◌, Bool, true, false, Option, Some, None, is_some, Result, MatchResult, MatchBool, IfSome, ◌⊎◌}
 use Rattle.std.specs.Str.{bytes_eq}
-use Rattle.json_read.specs.Bytes.{is_white}
-use Rattle.json_read.specs.Grammar.{JsonText, Mark}
-use Rattle.json_read.specs.Json.{JsonValue, ItemList, FieldList, array, object}
-use Rattle.json_read.specs.Lists.{items_list, fields_list, put, value_named}
+use Rattle.numerals.specs.Bytes.{is_white, NextFails, drop_while}
+use Rattle.json_values.specs.Grammar.{JsonText, Mark}
+use Rattle.json_values.specs.Json.{JsonValue, ItemList, FieldList, array, object}
+use Rattle.json_values.specs.Lists.{items_list, fields_list, put, value_named}
 use Rattle.json_read.specs.Machine.{start, in_array, in_object, first_value, first_name, value, after}
-use Rattle.json_read.specs.Reading.{AtFault, NextFails, NextIsNot, drop_while, Reads, Passes, MembersSoFar, NameText, PassesAt, BreaksAt, outside, inside, behind, ShowsPadded, ArrayText, ObjectText, FaultsAt}
-use Rattle.json_read.specs.Seen.{json_value}
-use Rattle.json_read.specs.declared.json.Json.{Json}
+use Rattle.json_read.specs.Reading.{AtFault, NextIsNot, Reads, Passes, MembersSoFar, NameText, PassesAt, BreaksAt, outside, inside, behind, ShowsPadded, ArrayText, ObjectText, FaultsAt}
+use Rattle.json_values.specs.Seen.{json_value}
+use Rattle.json_values.specs.declared.json.Json.{Json}
 use Rattle.json_read.specs.declared.reader.Stop.{Stop}
 use Rattle.json_read.specs.declared.reader.taking.Taking.{Taking}
 use Rattle.json_read.specs.declared.reader.taking.TakenObject.{TakenObject}

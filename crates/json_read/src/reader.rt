@@ -1,21 +1,21 @@
 ghost use Rattle.std.specs.Prelude.{◌≡◌, ◌++◌, ◌∷◌, ◌<◌, ◌≤◌, IfSome, IfNone, [], List, ℕ, true, false, length, MatchOption, MatchResult, OnOk, OnErr, IfOk, IfErr, IsTrue, if◌then◌else◌};
 ghost use Rattle.std.specs.String.{string_bytes};
 ghost use Rattle.std.specs.List.{prefix_len};
-ghost use Rattle.json_read.specs.Bytes.{is_white, is_digit, is_hex, is_exponent_letter};
-ghost use Rattle.json_read.specs.Grammar.{Minus, Whole, Fraction, Exponent, Number, Sign, short_escape, Mark, is_high, is_low, mended as mended_char, pair as pair_char};
+ghost use Rattle.numerals.specs.Bytes.{is_white, is_digit, is_hex, is_exponent_letter, NextFails, drop_while};
+ghost use Rattle.json_values.specs.Grammar.{short_escape, Mark, is_high, is_low, mended as mended_char, pair as pair_char};
+ghost use Rattle.numerals.specs.Numbers.{Minus, Whole, Fraction, Exponent, Number, Sign};
 ghost use Rattle.json_read.specs.Machine.{behind_minus, behind_zero, behind_mantissa, behind_letter, behind_sign, value, start, after, first_value, first_name, next_name, in_word, in_array, in_object, Role, in_string, in_escape, in_hex, closed, second_bounds as bounds_of};
-ghost use Rattle.json_read.specs.Reading.{NextFails, NextIsNot, drop_while, Passes, Part, ReadsDigits, NumberBegins, NumeralOf, ClosesAs, StandsFor, StandsEscaped, StandsInHex, ReadsHexDigit, ReadsFollowing, joined_onto, PartAt, Shows, ShowsPadded, ArrayText, ObjectText, NameText, ReadsByte, ReadsText, outside, inside, behind};
+ghost use Rattle.json_read.specs.Reading.{NextIsNot, Passes, Part, ReadsDigits, NumberBegins, NumeralOf, ClosesAs, StandsFor, StandsEscaped, StandsInHex, ReadsHexDigit, ReadsFollowing, joined_onto, PartAt, Shows, ShowsPadded, ArrayText, ObjectText, NameText, ReadsByte, ReadsText, outside, inside, behind};
 ghost use Rattle.json_read.specs.AsciiStrings.{stands_alone, AllAlone, ClosesAsAscii};
 ghost use Rattle.json_read.specs.declared.reader.Fault.TheVariants.{Syntax};
 ghost use Rattle.json_read.specs.declared.reader.Stop.TheVariants.{Memory};
 
 mod taking;
 
-use crate::growing_fields::GrowingFields;
-use crate::json::{Json, JsonFields, JsonList};
-use crate::numerals::digit_count;
+use json_values::{GrowingFields, Json, JsonFields, JsonList};
+use numerals::digit_count;
 use std::alloc::{AllocError, Global};
-pub use taking::{ItemTaker, TakenObject};
+pub use taking::{ItemTaker, TakenObject, parse_taking};
 use text_core::Text;
 
 /// The greatest depth of an array or an object.

@@ -4,8 +4,8 @@ use Rattle.std.proofs.Common.{◌≡◌, refl, ℕ, List, [], ◌∷◌, Ok, cod
 use Rattle.grid_base.specs.declared.kinds.Kind.{Kind}
 use Rattle.grid_base.specs.declared.kinds.Kind.TheVariants as kind
 use Rattle.grid_base.specs.declared.kinds.OverlapRule.TheVariants.{MaxArea, MinArea}
-use Rattle.json_read.specs.Table.{TableContent}
-use Rattle.json_read.specs.declared.value.Value.TheVariants.{Null, Text as Words}
+use Rattle.json_values.specs.Table.{TableContent}
+use Rattle.json_values.specs.declared.value.Value.TheVariants.{Null, Text as Words}
 use Rattle.geojson_io.specs.LayerContent.{LayerContent}
 use Rattle.geojson_io.specs.declared.shape.GeoShape.{GeoShape}
 use Rattle.geojson_io.specs.declared.shape.GeoShape.TheVariants.{Points, Polygons}

@@ -8,9 +8,9 @@ use Rattle.csv.specs.Reading.{records_from, strip_bom}
 use Rattle.csv.specs.Writing.{escaped, fields_text, is_blank}
 use Rattle.plane_model.specs.Points.{RationalPoint}
 use Rattle.grid_base.specs.declared.kinds.Kind.TheVariants as kind
-use Rattle.json_read.specs.Decimal.{decimal_of_text, decimal_text, fraction_text, last_digits, trimmed_digits}
-use Rattle.json_read.specs.Numeral.{numeral_of}
-use Rattle.json_read.specs.declared.value.Value.TheVariants.{Null, Num}
+use Rattle.numerals.specs.Decimal.{decimal_of_text, decimal_text, fraction_text, last_digits, trimmed_digits}
+use Rattle.numerals.specs.Numeral.{numeral_of}
+use Rattle.json_values.specs.declared.value.Value.TheVariants.{Null, Num}
 use Rattle.geojson_io.specs.LayerContent.{LayerContent}
 use Rattle.geojson_io.specs.declared.shape.GeoShape.TheVariants.{Nothing}
 use Rattle.table_terms.specs.Names.{Text}

@@ -5,10 +5,10 @@ use Rattle.lists.specs.Lists.{joined_up}
 use Rattle.plane_model.specs.Points.{GridPoint, Segment, Path}
 use Rattle.grid_base.specs.declared.kinds.Kind.{Kind}
 use Rattle.grid_base.specs.declared.kinds.Kind.TheVariants as kind
-use Rattle.json_read.specs.Decimal.{decimal_of_text, decimal_text, fraction_text, last_digits, trimmed_digits}
-use Rattle.json_read.specs.Numeral.{numeral_of, grid_of_text}
-use Rattle.json_read.specs.Table.{TableContent}
-use Rattle.json_read.specs.declared.value.Value.TheVariants.{Null, Num, Text}
+use Rattle.numerals.specs.Decimal.{decimal_of_text, decimal_text, fraction_text, last_digits, trimmed_digits}
+use Rattle.numerals.specs.Numeral.{numeral_of, grid_of_text}
+use Rattle.json_values.specs.Table.{TableContent}
+use Rattle.json_values.specs.declared.value.Value.TheVariants.{Null, Num, Text}
 use Rattle.geojson_io.specs.LayerContent.{LayerContent}
 use Rattle.geojson_io.specs.declared.shape.GeoShape.TheVariants.{Nothing, Polygons, Lines, Points}
 use Rattle.table_terms.specs.Names.{Text as Words}

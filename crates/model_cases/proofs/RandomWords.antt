@@ -3,8 +3,8 @@ use Rattle.std.proofs.Common.{◌≡◌, refl, ℕ, List, [], ◌∷◌, Some, N
 use Rattle.std.specs.Prelude.{if◌then◌else◌}
 use Rattle.std.specs.Str.{bytes_eq}
 use Rattle.table_terms.specs.Names.{Text}
-use Rattle.json_read.specs.Decimal.{decimal_of_text}
-use Rattle.json_read.specs.Numeral.{numeral_of, grid_of_text}
+use Rattle.numerals.specs.Decimal.{decimal_of_text}
+use Rattle.numerals.specs.Numeral.{numeral_of, grid_of_text}
 use Rattle.cmd_words.specs.Areas.{places_of, area_of}
 use Rattle.cmd_words.specs.Expressions.{Refusals}
 use Rattle.cmd_words.specs.Words.{JobWords, Reading}

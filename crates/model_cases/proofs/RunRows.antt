@@ -3,9 +3,9 @@ use Rattle.std.proofs.Common.{◌≡◌, refl, ℕ, List, [], ◌∷◌, ◌++�
 use Rattle.grid_base.specs.Grid.{Corners}
 use Rattle.grid_base.specs.declared.kinds.Kind.TheVariants as kind
 use Rattle.grid_base.specs.declared.kinds.OverlapRule.TheVariants.{MaxArea}
-use Rattle.json_read.specs.Decimal.{of_grid}
-use Rattle.json_read.specs.declared.value.Value.{Value}
-use Rattle.json_read.specs.declared.value.Value.TheVariants.{Null, Num, Text as Words}
+use Rattle.numerals.specs.Decimal.{of_grid}
+use Rattle.json_values.specs.declared.value.Value.{Value}
+use Rattle.json_values.specs.declared.value.Value.TheVariants.{Null, Num, Text as Words}
 use Rattle.geojson_io.specs.LayerContent.{LayerContent}
 use Rattle.geojson_io.specs.declared.shape.GeoShape.{GeoShape}
 use Rattle.geojson_io.specs.declared.shape.GeoShape.TheVariants.{Polygons, Points}

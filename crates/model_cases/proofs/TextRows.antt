@@ -2,8 +2,8 @@
 use Rattle.std.proofs.Common.{◌≡◌, refl, pos, [], ◌∷◌, codes}
 use Rattle.std.specs.Fmt.{digits}
 use Rattle.grid_base.specs.declared.kinds.Kind.TheVariants as kind
-use Rattle.json_read.specs.Decimal.{decimal_text, fraction_text, of_grid, last_digits, trimmed_digits}
-use Rattle.json_read.specs.declared.value.Value.TheVariants.{Null, Num, Text}
+use Rattle.numerals.specs.Decimal.{decimal_text, fraction_text, of_grid, last_digits, trimmed_digits}
+use Rattle.json_values.specs.declared.value.Value.TheVariants.{Null, Num, Text}
 use Rattle.geojson_io.specs.declared.shape.GeoShape.TheVariants.{Polygons, Lines, Points}
 use Rattle.job_terms.specs.declared.job.OutForm.TheVariants as form
 use Rattle.chain_model.specs.Pictures.{text_in}

@@ -3,7 +3,7 @@ use Rattle.std.proofs.Common.{◌≡◌, refl, [], ◌∷◌, List, map, Some, N
 use Rattle.std.specs.Fmt.{digits}
 use Rattle.plane_model.specs.Points.{Segment}
 use Rattle.grid_base.specs.declared.kinds.Kind.TheVariants as kind
-use Rattle.json_read.specs.declared.value.Value.TheVariants.{Null, Text as Words}
+use Rattle.json_values.specs.declared.value.Value.TheVariants.{Null, Text as Words}
 use Rattle.geojson_io.specs.LayerContent.{LayerContent}
 use Rattle.geojson_io.specs.declared.shape.GeoShape.{GeoShape}
 use Rattle.geojson_io.specs.declared.shape.GeoShape.TheVariants.{Points}

@@ -4,8 +4,8 @@ use Rattle.std.specs.Fmt.{digits}
 use Rattle.csv.specs.Machine.{next_record}
 use Rattle.csv.specs.Reading.{records_from, strip_bom}
 use Rattle.csv.specs.Writing.{escaped, fields_text, is_blank}
-use Rattle.json_read.specs.Decimal.{decimal_of_text, decimal_text, fraction_text, last_digits, trimmed_digits}
-use Rattle.json_read.specs.Numeral.{numeral_of}
+use Rattle.numerals.specs.Decimal.{decimal_of_text, decimal_text, fraction_text, last_digits, trimmed_digits}
+use Rattle.numerals.specs.Numeral.{numeral_of}
 use Rattle.csv_io.specs.CsvText.{csv_text}
 use Rattle.table_terms.specs.Names.{Text}
 use Rattle.cmd_words.specs.declared.action_words.ActionWords.{ActionWords}

@@ -1,8 +1,8 @@
 -- Words that are refused, and chains, by the table of commands.
 use Rattle.std.proofs.Common.{◌≡◌, refl, ℕ, pos, List, [], ◌∷◌, Option, Some, None, Result, Ok, Err, codes, true, false}
 use Rattle.table_terms.specs.Names.{Text}
-use Rattle.json_read.specs.Decimal.{decimal_of_text}
-use Rattle.json_read.specs.Numeral.{numeral_of, grid_of_text}
+use Rattle.numerals.specs.Decimal.{decimal_of_text}
+use Rattle.numerals.specs.Numeral.{numeral_of, grid_of_text}
 use Rattle.grid_base.specs.declared.kinds.OverlapRule.TheVariants.{MaxArea, MinArea}
 use Rattle.cmd_words.specs.Areas.{places_of, area_of}
 use Rattle.cmd_words.specs.Expressions.{Refusals, expression, assignments}

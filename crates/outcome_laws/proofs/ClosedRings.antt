@@ -14,8 +14,8 @@ use Rattle.grid_base.specs.declared.kinds.Kind.{Kind}
 use Rattle.grid_base.specs.declared.kinds.Kind.TheVariants as kind
 use Rattle.grid_base.proofs.RepeatLemmas.{is_ring}
 use Rattle.io_core.specs.Contents.{Content, FileMap}
-use Rattle.json_read.specs.Json.{JsonValue}
-use Rattle.json_read.specs.Table.{RowValues, TableContent}
+use Rattle.json_values.specs.Json.{JsonValue}
+use Rattle.json_values.specs.Table.{RowValues, TableContent}
 use Rattle.geojson_io.specs.LayerContent.{LayerContent}
 use Rattle.geojson_io.specs.Layers.{read_geojson, same_kind}
 use Rattle.geojson_io.specs.Sound.{IsRing, LayerIsSound, ShapeIsSound}

@@ -7,7 +7,7 @@ use Rattle.plane_model.specs.Points.{GridPoint, Path}
 use Rattle.grid_base.specs.declared.kinds.Kind.{Kind}
 use Rattle.grid_base.specs.declared.kinds.Kind.TheVariants as kind
 use Rattle.geojson_io.specs.Layers.{same_kind}
-use Rattle.json_read.specs.Table.{TableContent}
+use Rattle.json_values.specs.Table.{TableContent}
 use Rattle.table_terms.specs.Names.{Text}
 use Rattle.table_terms.specs.Refusals.{on_ok, unless}
 use Rattle.join_terms.specs.declared.calculations.CalcSpec.{CalcSpec}

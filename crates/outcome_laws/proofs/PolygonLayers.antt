@@ -5,8 +5,8 @@ use Rattle.std.specs.List.{flat_map, range_with_len}
 use Rattle.std.proofs.Math.Path.{fun_ext}
 use Rattle.plane_model.specs.Points.{GridPoint, Path}
 use Rattle.grid_base.specs.declared.kinds.OverlapRule.{OverlapRule}
-use Rattle.json_read.specs.Table.{RowValues}
-use Rattle.json_read.specs.declared.value.Value.TheVariants as value
+use Rattle.json_values.specs.Table.{RowValues}
+use Rattle.json_values.specs.declared.value.Value.TheVariants as value
 use Rattle.region_model.specs.Region.{Region}
 use Rattle.region_model.specs.Answers.{Answers, Plane}
 use Rattle.region_model.specs.PolygonCommands.{cleaned_and_filled, exploded, mosaic, without_islands}

@@ -3,9 +3,9 @@ use Rattle.std.proofs.Common.{◌≡◌, refl, subst, ℕ, ◌+◌, Bool, true, 
 use Rattle.std.specs.Prelude.{◌==◌, if◌then◌else◌}
 use Rattle.std.specs.List.{enumerate_from}
 use Rattle.std.proofs.lemmas.List.Elements.{All-append, All-cons, All-filter, All-head, All-nil, All-tail}
-use Rattle.json_read.specs.Json.{FieldList, JsonValue, array, boolean, null, number, object, string}
-use Rattle.json_read.specs.Lists.{fields_list, value_named}
-use Rattle.json_read.specs.Table.{NamedValues}
+use Rattle.json_values.specs.Json.{FieldList, JsonValue, array, boolean, null, number, object, string}
+use Rattle.json_values.specs.Lists.{fields_list, value_named}
+use Rattle.json_values.specs.Table.{NamedValues}
 use Rattle.plane_model.specs.Points.{GridPoint, Path}
 use Rattle.plane_model.specs.Drawing.{Polygon}
 use Rattle.plane_model.specs.Joined.{IsClosed}

@@ -2,7 +2,7 @@
 use Rattle.std.proofs.Common.{ℕ, ◌+◌, Bool, true, false, List, [], ◌∷◌, map, Option, Result, Ok, Err}
 use Rattle.std.specs.Prelude.{if◌then◌else◌}
 use Rattle.std.specs.List.{enumerate_from, flat_map}
-use Rattle.json_read.specs.Table.{TableContent}
+use Rattle.json_values.specs.Table.{TableContent}
 use Rattle.expr_lang.specs.Tree.{all_assigned, tree_of}
 use Rattle.expr_lang.specs.declared.assign.Assign.{Assign}
 use Rattle.expr_lang.specs.declared.expr.Expr.{Expr}

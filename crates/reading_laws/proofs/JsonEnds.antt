@@ -1,10 +1,10 @@
 -- From each place that the machine comes to, some bytes end a text; so what it read before a fault begins one.
 use Rattle.std.proofs.Common.{ℕ, zero, suc, ◌≡◌, ◌-◌, ◌++◌, ◌<◌, List, [], ◌∷◌, Bool, true, false, cond, Option, Some, None, refl, ap, ◌∙◌, sym, subst, length, arith, ◌⊎◌, inl, inr, eqb, ltb, leb}
 use Rattle.std.proofs.lemmas.Bool.{cond-true, eq-eqb, le-leb, lt-ltb, and_from}
-use Rattle.json_read.specs.Bytes.{is_white, is_digit, is_nonzero_digit, is_exponent_letter, is_hex}
+use Rattle.numerals.specs.Bytes.{is_white, is_digit, is_nonzero_digit, is_exponent_letter, is_hex}
 use Rattle.json_read.specs.Faults.{IsFault}
-use Rattle.json_read.specs.Grammar.{JsonText, short_escape}
-use Rattle.json_read.specs.Json.{JsonValue}
+use Rattle.json_values.specs.Grammar.{JsonText, short_escape}
+use Rattle.json_values.specs.Json.{JsonValue}
 use Rattle.json_read.specs.Machine.{Place, Open, Role, Moves, Outcome, in_array, in_object, is_value, is_name, start, in_mark, value, first_value, first_name, next_name, colon, after, in_word, behind_minus, behind_zero, in_whole, behind_point, in_fraction, behind_mantissa, behind_letter, behind_sign, in_exponent, in_string, in_escape, in_hex, in_character, step, run, at_end, ends, begins, begins_whole, begins_name, second_bounds, further_bytes, leads_by, string_step, follows, hex_follows, escape_step, word_step, mark_step, exponent_or_end, point_or_end, accepted, fault, fault_of}
 use Rattle.json_read.specs.declared.reader.Fault.{Fault}
 use Rattle.json_read.specs.Reading.{is_between}

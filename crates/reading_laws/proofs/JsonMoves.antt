@@ -1,14 +1,15 @@
 -- What the machine accepts is a text.
 use Rattle.std.proofs.Common.{ℕ, suc, ◌≡◌, ◌-◌, ◌++◌, ◌<◌, List, [], ◌∷◌, true, false, Some, None, IsTrue, refl, ap, ◌∙◌, sym, subst, length, arith, append_assoc, codes, inl, inr, ⊎_elim, eqb, ltb}
 use Rattle.std.proofs.lemmas.Bool.{ltb-true, eqb-true}
-use Rattle.json_read.specs.Bytes.{is_white}
-use Rattle.json_read.specs.Grammar.{White, no_white, white, Digits, no_digits, no_fraction, no_exponent, no_minus, minus, quoted, Denotes, is_null, is_true, is_false, is_number, is_string, no_elements, elements, no_members, members, Elements, Members, Mark, no_mark, mark, JsonText, text, padded}
-use Rattle.json_read.specs.Json.{JsonValue, number, string, array, object, boolean, null, no_items, no_fields, items_of, fields_of}
-use Rattle.json_read.specs.Lists.{items_list, merged}
+use Rattle.numerals.specs.Bytes.{is_white}
+use Rattle.json_values.specs.Grammar.{White, no_white, white, quoted, Denotes, is_null, is_true, is_false, is_number, is_string, no_elements, elements, no_members, members, Elements, Members, Mark, no_mark, mark, JsonText, text, padded}
+use Rattle.numerals.specs.Numbers.{Digits, no_digits, no_fraction, no_exponent, no_minus, minus}
+use Rattle.json_values.specs.Json.{JsonValue, number, string, array, object, boolean, null, no_items, no_fields, items_of, fields_of}
+use Rattle.json_values.specs.Lists.{items_list, merged}
 use Rattle.json_read.specs.Machine.{Place, Open, Moves, in_array, in_object, is_value, is_name, start, in_mark, value, first_value, first_name, next_name, colon, after, in_word, behind_minus, behind_zero, in_whole, behind_point, in_fraction, behind_mantissa, behind_letter, behind_sign, in_exponent, in_string, in_escape, in_hex, in_character, step, run, at_end, ends, begins, begins_name, opens, word_step, mark_step, accepted, fault, fault_of}
 use Rattle.json_read.specs.declared.reader.Fault.{Fault}
 use Rattle.json_read.proofs.Runs.{moves, stops}
-use Rattle.json_read.proofs.Seen.{fields_list-fields_of}
+use Rattle.json_values.proofs.Seen.{fields_list-fields_of}
 use Rattle.reading_laws.proofs.JsonRests.{Then, then_none, then_more, Byte, After, at_last, Value, AtValue, AtColon, Name, AtName, Shuts, elements_of, members_of, FromPoint, FromWhole, InWhole, InFraction, Behind, Stands, Later, split, at_byte}
 use Rattle.reading_laws.proofs.JsonNumbers.{ends_back, exponent_back, point_back, whole_back, fraction_back, point_digit_back, some_digits_back, digits_back, letter_back, begins_whole_back, number_of}
 use Rattle.reading_laws.proofs.JsonStrings.{string_back, escape_back, hex_back, second_back}

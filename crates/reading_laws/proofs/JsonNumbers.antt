@@ -1,7 +1,8 @@
 -- Numbers and ends of values, one byte more.
 use Rattle.std.proofs.Common.{ℕ, ◌++◌, List, [], ◌∷◌, IsTrue, refl, ap, ◌∙◌, sym, subst, ⊎_elim, eqb}
-use Rattle.json_read.specs.Bytes.{is_white, is_digit, is_nonzero_digit, is_exponent_letter}
-use Rattle.json_read.specs.Grammar.{no_white, Digits, no_digits, digit, SomeDigits, some_digits, Minus, no_sign, plus_sign, minus_sign, zero_alone, from_one, no_fraction, fraction, Exponent, no_exponent, exponent, Number, numeral}
+use Rattle.numerals.specs.Bytes.{is_white, is_digit, is_nonzero_digit, is_exponent_letter}
+use Rattle.json_values.specs.Grammar.{no_white}
+use Rattle.numerals.specs.Numbers.{Digits, no_digits, digit, SomeDigits, some_digits, Minus, no_sign, plus_sign, minus_sign, zero_alone, from_one, no_fraction, fraction, Exponent, no_exponent, exponent, Number, numeral}
 use Rattle.json_read.specs.Machine.{Open, in_array, in_object, ends, ends_item, exponent_or_end, point_or_end, begins_whole, step, behind_letter, behind_sign, in_exponent, in_whole, in_fraction, behind_point}
 use Rattle.reading_laws.proofs.JsonRests.{Then, then_none, then_more, After, shuts_array, next_element, shuts_object, next_member, after_white, elements_of, members_of, FromPoint, FromWhole, InWhole, BehindPoint, InFraction, BehindLetter, Later, split, at_byte}
 

@@ -1,9 +1,10 @@
 -- What is left of a JSON text from each place of the machine on.
 use Rattle.std.proofs.Common.{ℕ, zero, suc, ◌≡◌, ◌-◌, ◌++◌, List, [], ◌∷◌, Bool, true, false, cond, Some, None, IsTrue, refl, ap, sym, subst, length, append_assoc, ◌⊎◌, inl, inr, eqb}
 use Rattle.std.proofs.lemmas.Bool.{eqb-true}
-use Rattle.json_read.specs.Bytes.{is_white, is_hex}
-use Rattle.json_read.specs.Grammar.{White, white, Digits, SomeDigits, Sign, Whole, Fraction, Exponent, Chars, Quoted, Denotes, Elements, last_element, element, Members, last_member, member, padded, Mark}
-use Rattle.json_read.specs.Json.{JsonValue}
+use Rattle.numerals.specs.Bytes.{is_white, is_hex}
+use Rattle.json_values.specs.Grammar.{White, white, Chars, Quoted, Denotes, Elements, last_element, element, Members, last_member, member, padded, Mark}
+use Rattle.numerals.specs.Numbers.{Digits, SomeDigits, Sign, Whole, Fraction, Exponent}
+use Rattle.json_values.specs.Json.{JsonValue}
 use Rattle.json_read.specs.Machine.{Place, Open, Role, Moves, in_array, in_object, is_value, is_name, start, in_mark, value, first_value, first_name, next_name, colon, after, in_word, behind_minus, behind_zero, in_whole, behind_point, in_fraction, behind_mantissa, behind_letter, behind_sign, in_exponent, in_string, in_escape, in_hex, in_character}
 use Rattle.json_read.specs.Reading.{is_between}
 

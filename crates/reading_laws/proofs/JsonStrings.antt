@@ -1,8 +1,8 @@
 -- Strings, one byte more.
 use Rattle.std.proofs.Common.{ℕ, zero, suc, ◌*◌, append_assoc, ◌≡◌, ◌+◌, ◌-◌, ◌++◌, ◌<◌, ◌≤◌, List, [], ◌∷◌, false, Option, Some, None, IsTrue, refl, ap, ◌∙◌, sym, subst, arith, ⊎_elim, eqb, ltb, leb}
 use Rattle.std.proofs.lemmas.Bool.{cases_lt, ltb-true, ltb-false, lt-ltb, le-ltb, le-leb, cond-true, cond-false, and_from}
-use Rattle.json_read.specs.Bytes.{is_hex}
-use Rattle.json_read.specs.Grammar.{Chars, no_chars, escape, unicode, short_escape, stands_plain, four_hex}
+use Rattle.numerals.specs.Bytes.{is_hex}
+use Rattle.json_values.specs.Grammar.{Chars, no_chars, escape, unicode, short_escape, stands_plain, four_hex}
 use Rattle.json_read.specs.Machine.{Open, Role, is_value, is_name, closed, string_step, leads, leads_by, second_bounds, further_bytes, hex_follows, follows, escape_step, step, in_escape, in_hex, in_character}
 use Rattle.json_read.specs.Reading.{StandsFor, is_between}
 use Rattle.json_read.proofs.Characters.{stands_ascii}

@@ -3,8 +3,8 @@ use Rattle.std.proofs.Common.{ℕ, ◌⊎◌, inl, inr, Result, Ok, Err}
 use Rattle.std.specs.Prelude.{MatchResult}
 use Rattle.io_core.specs.Contents.{Content}
 use Rattle.json_read.specs.Faults.{IsFault}
-use Rattle.json_read.specs.Grammar.{JsonText}
-use Rattle.json_read.specs.Json.{JsonValue}
+use Rattle.json_values.specs.Grammar.{JsonText}
+use Rattle.json_values.specs.Json.{JsonValue}
 use Rattle.json_read.specs.declared.reader.Fault.{Fault}
 use Rattle.json_read.specs.declared.reader.Fault.TheVariants as json
 use Rattle.chain_model.specs.Outcome.{InputWhy, syntax, depth, utf8}

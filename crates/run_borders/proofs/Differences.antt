@@ -1,8 +1,8 @@
 -- The first difference of two rows, value by value.
 use Rattle.std.proofs.Common.{◌≡◌, ℕ, zero, suc, ◌+◌, ◌<◌, ◌≤◌, Bool, true, false, cond, [], ◌∷◌, length, get_or, drop, refl, sym, ap, ◌∙◌, arith}
-use Rattle.json_read.specs.Table.{RowValues}
-use Rattle.json_read.specs.Value.{same}
-use Rattle.json_read.specs.declared.value.Value.{Value}
+use Rattle.json_values.specs.Table.{RowValues}
+use Rattle.json_values.specs.Value.{same}
+use Rattle.json_values.specs.declared.value.Value.{Value}
 use Rattle.run_borders.specs.Borders.{first_difference}
 
 none_right : (left : RowValues) → first_difference left [] ≡ 0

@@ -1,6 +1,6 @@
 -- The rows of a table are of one length.
 use Rattle.std.proofs.Common.{◌≡◌, ℕ, zero, suc, ◌<◌, List, [], ◌∷◌, length, get_or, sym, ap, ◌∙◌, arith}
-use Rattle.json_read.specs.Table.{AreRows, RowValues}
+use Rattle.json_values.specs.Table.{AreRows, RowValues}
 
 wide : (n : ℕ) (rows : List RowValues) (i : ℕ) (row : RowValues) → AreRows n rows → i < length rows → row ≡ get_or rows i row → length row ≡ n
 wide n [] i row h l e = absurd (omega arith)

@@ -1,10 +1,10 @@
 -- Lines along the arcs between the features of a layer of polygons, and what such an arc parts.
 use Rattle.std.specs.Prelude.{◌≡◌, ℕ, ◌+◌, ◌<◌, pos, if◌then◌else◌, List, [], ◌∷◌, map, filter, length, replicate, codes, slice_index_or, Option, Some, None, IfSome, Ok}
 use Rattle.io_core.specs.Contents.{Content}
-use Rattle.json_read.specs.Decimal.{of_grid}
-use Rattle.json_read.specs.Table.{RowValues, TableContent}
-use Rattle.json_read.specs.Value.{same}
-use Rattle.json_read.specs.declared.value.Value.TheVariants as cell
+use Rattle.numerals.specs.Decimal.{of_grid}
+use Rattle.json_values.specs.Table.{RowValues, TableContent}
+use Rattle.json_values.specs.Value.{same}
+use Rattle.json_values.specs.declared.value.Value.TheVariants as cell
 use Rattle.grid_base.specs.declared.kinds.Kind.TheVariants as kinds
 use Rattle.line_ops.specs.Sided.{has_both, sided_among}
 use Rattle.line_ops.specs.declared.sides.SidedArc.{SidedArc}

@@ -1,7 +1,7 @@
 -- The union of layers of polygons.
 use Rattle.std.specs.Prelude.{◌≡◌, ℕ, List, length, map, slice_get, Some}
 use Rattle.grid_base.specs.declared.kinds.Kind.TheVariants as kinds
-use Rattle.json_read.specs.Table.{TableContent}
+use Rattle.json_values.specs.Table.{TableContent}
 use Rattle.union_ops.specs.Union.{IsUnion}
 use Rattle.union_ops.specs.UnionTable.{IsUnionTable}
 use Rattle.union_ops.specs.declared.union_lists.UnionItem.{UnionItem}

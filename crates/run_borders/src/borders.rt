@@ -1,5 +1,5 @@
 ghost use Rattle.std.specs.Prelude.{◌≡◌, ◌+◌, ◌<◌, ◌^◌, All, IfErr, IfOk, None, codes, length, map, slice_index_or};
-ghost use Rattle.json_read.specs.Table.{AreRows};
+ghost use Rattle.json_values.specs.Table.{AreRows};
 ghost use Rattle.run_plane.specs.OnPlane.{IsLayerOn};
 ghost use Rattle.run_borders.specs.Borders.{
   AreInnerLines,
@@ -21,8 +21,9 @@ use crate::paths::path_along;
 use arc_table::SignedPaths;
 use grid_base::{ArcId, Kind};
 use io_core::{NameList, Text};
-use json_read::{Decimal, Row, RowList, Table, Value};
+use json_values::{Row, RowList, Table, Value};
 use line_ops::{SidedArc, inner_arcs, sided_arcs};
+use numerals::Decimal;
 use run_plane::{Layer, Plane, Shape, copy_text};
 use run_state::{CommandStop, sets_of};
 use std::alloc::{AllocError, Global};

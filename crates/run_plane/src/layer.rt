@@ -3,7 +3,7 @@ ghost use Rattle.std.specs.Prelude.{◌≡◌, length};
 use arc_table::SignedPaths;
 use face_sets::FaceSet;
 use grid_base::{Kind, PtList};
-use json_read::Table;
+use json_values::Table;
 use text_core::Text;
 
 /// What a feature has of the plane that all layers of a run share. A shape may be empty: the feature then has no

@@ -3,8 +3,8 @@
 use Rattle.std.specs.Prelude.{◌≡◌, ℕ, Bool, List, [], ◌∷◌, ◌++◌, map, codes, decimal}
 use Rattle.std.specs.List.{flat_map}
 use Rattle.io_core.specs.Contents.{Content}
-use Rattle.json_read.specs.Table.{RowValues}
-use Rattle.json_read.specs.declared.value.Value.TheVariants as cell
+use Rattle.json_values.specs.Table.{RowValues}
+use Rattle.json_values.specs.declared.value.Value.TheVariants as cell
 use Rattle.grid_base.specs.declared.kinds.Kind.TheVariants as kinds
 use Rattle.grid_base.specs.declared.kinds.OverlapRule.{OverlapRule}
 use Rattle.region_ops.specs.Filled.{IsCleanedAndFilled}

@@ -1,14 +1,14 @@
 ghost use Rattle.std.specs.Prelude.{◌≡◌, ◌++◌, IfOk, OnOk, decimal, length, map};
 ghost use Rattle.std.specs.List.{flat_map};
 ghost use Rattle.std.specs.String.{string_bytes};
-ghost use Rattle.json_read.specs.Table.{AreRows};
+ghost use Rattle.json_values.specs.Table.{AreRows};
 ghost use Rattle.run_plane.specs.OnPlane.{AreOn, IsLayerOn};
 ghost use Rattle.run_shapes.specs.Cleaning.{IsCleaned, IsMosaicOf, after_comma, ids_row, ids_text, piece_shape};
 
 use grid_base::{Kind, OverlapRule};
 use io_core::{NameList, Text};
 use itoa::Buffer;
-use json_read::{Row, RowList, Table, Value};
+use json_values::{Row, RowList, Table, Value};
 use region_ops::{MosaicItem, clean_sets, mosaic_sets};
 use run_plane::{Layer, Plane, Shape, copy_text};
 use run_state::{sets_of, with_sets};

@@ -2,7 +2,7 @@
 use Rattle.std.proofs.Common.{refl, length, ◌∷◌, [], All, Ok, Err}
 use Rattle.std.proofs.lemmas.List.Elements.{All-cons, All-nil, All-replicate}
 use Rattle.io_core.specs.Contents.{Content}
-use Rattle.json_read.specs.Table.{TableContent}
+use Rattle.json_values.specs.Table.{TableContent}
 use Rattle.geojson_io.specs.Sound.{LayerIsSound, ShapeIsSound}
 use Rattle.geojson_io.specs.declared.layer.Room.{Room}
 use Rattle.geojson_io.specs.declared.shape.GeoShape.TheVariants.{Nothing}

@@ -1,9 +1,9 @@
 -- What becomes of the bytes of a source: layers, or why they are refused.
 use Rattle.std.specs.Prelude.{◌≡◌, ℕ, ⊤, ◌⊎◌, Bool, false, List, [], ◌∷◌, length, replicate, codes, Option, Some, None, Result, Ok, Err, MatchBool}
 use Rattle.std.specs.Str.{bytes_eq}
-use Rattle.json_read.specs.Json.{JsonValue, null, boolean, number, string, array, object}
-use Rattle.json_read.specs.Lists.{fields_list, value_named}
-use Rattle.json_read.specs.Grammar.{JsonText}
+use Rattle.json_values.specs.Json.{JsonValue, null, boolean, number, string, array, object}
+use Rattle.json_values.specs.Lists.{fields_list, value_named}
+use Rattle.json_values.specs.Grammar.{JsonText}
 use Rattle.json_read.specs.Faults.{IsFault}
 use Rattle.json_read.specs.declared.reader.Fault.TheVariants as fault
 use Rattle.json_read.specs.declared.fault.JsonFault.{JsonFault}
@@ -16,7 +16,7 @@ use Rattle.geojson_io.specs.Layers.{read_geojson}
 use Rattle.geojson_io.specs.declared.layer.Room.{Room}
 use Rattle.topo_io.specs.Reads.{Fault as TopologyFault}
 use Rattle.topo_io.specs.Topologies.{read_topojson}
-use Rattle.json_read.specs.Table.{TableContent}
+use Rattle.json_values.specs.Table.{TableContent}
 use Rattle.grid_base.specs.declared.kinds.Kind.TheVariants as Kind
 use Rattle.geojson_io.specs.declared.shape.GeoShape.TheVariants.{Nothing}
 use Rattle.csv_io.specs.CsvTable.{ReadsText}

@@ -1,6 +1,6 @@
 ghost use Rattle.std.specs.Prelude.{◌≡◌, ◌≤◌, ◌∷◌, [], All, IfOk, replicate};
 ghost use Rattle.grid_base.specs.Grid.{most_places};
-ghost use Rattle.json_read.specs.Seen.{json_value};
+ghost use Rattle.json_values.specs.Seen.{json_value};
 ghost use Rattle.run_sources.specs.Decoding.{features_given, json_stop, table_stop, is_topology, table_layer, Decodes, DecodesJson, DecodesTable, TopologyGives, ValueGives};
 ghost use Rattle.geojson_io.specs.Sound.{LayerIsSound};
 ghost use Rattle.geojson_io.specs.declared.shape.GeoShape.TheVariants.{Nothing};

@@ -2,7 +2,7 @@
 use Rattle.std.proofs.Common.{◌≡◌, ℕ, false, List, [], ◌∷◌, ◌++◌, length}
 use Rattle.std.specs.List.{IsDistinct}
 use Rattle.std.specs.Str.{bytes_eq}
-use Rattle.json_read.specs.Table.{AreRows, AreDistinctNames, RowValues}
+use Rattle.json_values.specs.Table.{AreRows, AreDistinctNames, RowValues}
 
 pub rows_grown : (n : ℕ) (rows : List RowValues) (row : RowValues) → AreRows n rows → length row ≡ n → AreRows n (rows ++ row ∷ [])
 rows_grown n [] row h e = (e, tt)

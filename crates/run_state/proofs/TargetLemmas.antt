@@ -5,7 +5,7 @@ use Rattle.std.proofs.lemmas.List.Elements.{filter-append}
 use Rattle.std.specs.List.{filter, list_any, range_with_len}
 use Rattle.std.specs.Prelude.{slice_get, slice_index_or}
 use Rattle.std.proofs.lemmas.List.FromFn.{fill_by_all}
-use Rattle.json_read.specs.Table.{TableContent, RowValues}
+use Rattle.json_values.specs.Table.{TableContent, RowValues}
 use Rattle.table_rows.specs.Rows.{take_rows}
 use Rattle.run_plane.specs.declared.layer.Layer.{Layer}
 use Rattle.run_state.specs.Targets.{are_layers, has_target, is_selected, targets}

@@ -1,7 +1,7 @@
 -- A merged table has as many rows as the tables together.
 use Rattle.std.proofs.Common.{◌≡◌, ◌<◌, Err, slice_get, Bool, true, false, List, [], ◌∷◌, ◌++◌, length, map, Option, Some, None, Ok, refl, ap, sym, ◌∙◌, arith, length-append}
 use Rattle.std.proofs.lemmas.List.{length-map}
-use Rattle.json_read.specs.Table.{TableContent}
+use Rattle.json_values.specs.Table.{TableContent}
 use Rattle.table_rows.specs.Columns.{cells}
 use Rattle.table_rows.specs.Merge.{merge_tables, merged_names, merged_rows, refused_merge}
 use Rattle.table_terms.specs.Names.{Text}

@@ -3,7 +3,7 @@ use Rattle.std.proofs.Common.{sym, subst, ℕ, Bool, if◌then◌else◌, List, 
 use Rattle.std.specs.List.{AllZip, enumerate_from}
 use Rattle.std.proofs.lemmas.List.Elements.{All-cons, All-nil}
 use Rattle.io_core.specs.Contents.{Content}
-use Rattle.json_read.specs.Table.{TableContent}
+use Rattle.json_values.specs.Table.{TableContent}
 use Rattle.expr_lang.specs.declared.expr.Expr.{Expr}
 use Rattle.table_rows.specs.declared.fault.TableWhy.{TableWhy}
 use Rattle.table_rows.specs.declared.split.SplitItem.{SplitItem}

@@ -1,7 +1,7 @@
 -- What commands on rows and columns make of layers.
 use Rattle.std.specs.Prelude.{◌≡◌, ℕ, Bool, not, if◌then◌else◌, List, [], ◌∷◌, map, slice_get, Option, Some, None, Result, Ok}
 use Rattle.std.specs.List.{flat_map}
-use Rattle.json_read.specs.Table.{TableContent}
+use Rattle.json_values.specs.Table.{TableContent}
 use Rattle.expr_lang.specs.Tree.{tree_of}
 use Rattle.expr_lang.specs.declared.expr.Expr.{Expr}
 use Rattle.table_ops.specs.Filtering.{filter_rows}

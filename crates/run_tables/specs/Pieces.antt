@@ -2,8 +2,8 @@
 use Rattle.std.specs.Prelude.{◌≡◌, ℕ, ◌++◌, codes, decimal, List, [], ◌∷◌, map, Option, Some, None, Ok}
 use Rattle.std.specs.List.{AllZip, enumerate_from}
 use Rattle.io_core.specs.Contents.{Content}
-use Rattle.json_read.specs.Value.{plain_text}
-use Rattle.json_read.specs.declared.value.Value.{Value}
+use Rattle.json_values.specs.Value.{plain_text}
+use Rattle.json_values.specs.declared.value.Value.{Value}
 use Rattle.table_rows.specs.Rows.{take_rows}
 use Rattle.table_rows.specs.Splitting.{split_rows}
 use Rattle.table_rows.specs.declared.split.SplitItem.{SplitItem}

@@ -1,6 +1,6 @@
 ghost use Rattle.std.specs.Prelude.{◌≡◌, ◌<◌, ◌++◌, [], IfErr, IfOk, None, All, codes, decimal, length, option_copied};
 ghost use Rattle.std.specs.List.{AllZip, enumerate_from};
-ghost use Rattle.json_read.specs.Value.{plain_text};
+ghost use Rattle.json_values.specs.Value.{plain_text};
 ghost use Rattle.table_rows.specs.Refusals.{Answers};
 ghost use Rattle.table_rows.specs.Splitting.{split_rows};
 ghost use Rattle.run_state.specs.Stops.{StopsFor, table_refusal};
@@ -8,7 +8,7 @@ ghost use Rattle.run_tables.specs.Pieces.{ArePieces, IsPiece, IsSplit, piece_nam
 
 use crate::table_commands::with_table;
 use io_core::{Bytes, Text};
-use json_read::{Table, Value};
+use json_values::{Table, Value};
 use run_plane::Layer;
 use run_state::{CommandStop, take_features};
 use std::alloc::{AllocError, Global};

@@ -14,7 +14,7 @@ use grid_base::{GroupList, IdList};
 use io_core::NameList;
 use job_terms::Target;
 use join_terms::{CalcSpec, JoinSpec};
-use json_read::Table;
+use json_values::Table;
 use run_plane::{Layer, Shape, copy_shape, copy_shapes, copy_text};
 use run_state::{
     CommandStop, Held, first_target, is_selected, numbers_below, take_features, with_geometry,

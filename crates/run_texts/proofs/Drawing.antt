@@ -5,7 +5,7 @@ use Rattle.std.proofs.lemmas.Slice.Zip.{AllZip-long}
 use Rattle.plane_model.specs.Arcs.{SignedArc}
 use Rattle.plane_model.specs.Points.{Path}
 use Rattle.io_core.specs.Contents.{Content}
-use Rattle.json_read.specs.Table.{RowValues}
+use Rattle.json_values.specs.Table.{RowValues}
 use Rattle.geojson_io.specs.Texts.{before_item, feature_text}
 use Rattle.geojson_io.specs.declared.shape.GeoShape.{GeoShape}
 use Rattle.geojson_io.specs.declared.shape.GeoShape.TheVariants as geo

@@ -5,7 +5,7 @@ use Rattle.lists.specs.Lists.{tail}
 use Rattle.plane_model.specs.Arcs.{SignedArc, points_of}
 use Rattle.plane_model.specs.Points.{Path}
 use Rattle.io_core.specs.Contents.{Content}
-use Rattle.json_read.specs.Table.{RowValues}
+use Rattle.json_values.specs.Table.{RowValues}
 use Rattle.geojson_io.specs.LayerContent.{LayerContent}
 use Rattle.geojson_io.specs.Texts.{features_text, geojson_text}
 use Rattle.geojson_io.specs.declared.shape.GeoShape.{GeoShape}

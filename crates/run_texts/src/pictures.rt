@@ -1,7 +1,7 @@
 ghost use Rattle.std.specs.Prelude.{◌≡◌, ◌<◌, ◌≤◌, ◌==◌, ◌++◌, All, IfOk, OnOk, if◌then◌else◌, length, map, reverse};
 ghost use Rattle.plane_model.specs.Arcs.{points_of};
 ghost use Rattle.grid_base.specs.Grid.{most_places};
-ghost use Rattle.json_read.specs.Table.{AreRows};
+ghost use Rattle.json_values.specs.Table.{AreRows};
 ghost use Rattle.face_sets.specs.Sets.{IsSetOf};
 ghost use Rattle.run_plane.specs.OnPlane.{AreBelow, AreOn, IsLayerOn};
 ghost use Rattle.run_texts.specs.Pictures.{AreWritten, IsDrawn, IsPictureText, points_along, without_shared};
@@ -13,7 +13,7 @@ use geojson_io::{
 };
 use grid_base::{PathList, PolygonRings, Pt, PtList, RingsList, SignedArc};
 use io_core::Bytes;
-use json_read::Row;
+use json_values::Row;
 use ring_trace::trace;
 use run_plane::{Layer, Plane, Shape};
 use std::alloc::{AllocError, Global};

@@ -7,8 +7,8 @@ use Rattle.std.specs.Cmp.Lexicographic.{nat_list_eq_equiv}
 use Rattle.std.proofs.lemmas.List.{length-map}
 use Rattle.std.proofs.lemmas.List.Folds.{list_any-append}
 use Rattle.std.proofs.lemmas.Map.Keys.{IsDistinct-push}
-use Rattle.json_read.specs.Table.{TableContent, RowValues, AreRows}
-use Rattle.json_read.specs.declared.value.Value.TheVariants as is
+use Rattle.json_values.specs.Table.{TableContent, RowValues, AreRows}
+use Rattle.json_values.specs.declared.value.Value.TheVariants as is
 use Rattle.table_terms.specs.Names.{Text, has_name}
 use Rattle.table_terms.specs.Refusals.{on_ok, unless}
 use Rattle.join_terms.specs.declared.calculations.Calc.{Calc}

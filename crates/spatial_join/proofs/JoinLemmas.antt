@@ -12,8 +12,8 @@ use Rattle.lists.proofs.Ascending.{one_ascending}
 use Rattle.lists.proofs.Members.{Contains-filter, filter-Contains}
 use Rattle.expr_lang.specs.Tree.{tree_of}
 use Rattle.expr_lang.specs.declared.expr.Expr.{Expr}
-use Rattle.json_read.specs.Table.{TableContent, RowValues, AreRows}
-use Rattle.json_read.specs.declared.value.Value.TheVariants as is
+use Rattle.json_values.specs.Table.{TableContent, RowValues, AreRows}
+use Rattle.json_values.specs.declared.value.Value.TheVariants as is
 use Rattle.face_sets.proofs.BoundaryLemmas.{has_Contains, Contains_has}
 use Rattle.face_sets.proofs.SetLemmas.{nat_order, to_ascending}
 use Rattle.table_terms.specs.Refusals.{on_ok}

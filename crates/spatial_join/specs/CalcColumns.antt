@@ -1,8 +1,8 @@
 -- The rows of a join of matched rows by places: the values of their columns.
 use Rattle.std.specs.Prelude.{ℕ, ℤ, pos, List, ◌++◌, map, length, Result, Ok, Option, Some, None}
-use Rattle.json_read.specs.Decimal.{of_grid}
-use Rattle.json_read.specs.Table.{RowValues}
-use Rattle.json_read.specs.declared.value.Value.TheVariants as is
+use Rattle.numerals.specs.Decimal.{of_grid}
+use Rattle.json_values.specs.Table.{RowValues}
+use Rattle.json_values.specs.declared.value.Value.TheVariants as is
 use Rattle.table_terms.specs.Names.{Text, place_of}
 use Rattle.table_terms.specs.Refusals.{on_ok}
 use Rattle.join_terms.specs.declared.calculations.Calc.{Calc}

@@ -3,9 +3,9 @@
 use Rattle.std.specs.Prelude.{ℕ, ◌+◌, Bool, false, not, nat_eq, ℤ, pos, List, [], ◌∷◌, ◌++◌, map, filter, length, Result, Ok, Option, Some, None, unwrap_or, if◌then◌else◌}
 use Rattle.std.specs.List.{zip}
 use Rattle.lists.specs.Lists.{has}
-use Rattle.json_read.specs.Decimal.{of_grid}
-use Rattle.json_read.specs.Table.{TableContent, RowValues}
-use Rattle.json_read.specs.declared.value.Value.TheVariants as is
+use Rattle.numerals.specs.Decimal.{of_grid}
+use Rattle.json_values.specs.Table.{TableContent, RowValues}
+use Rattle.json_values.specs.declared.value.Value.TheVariants as is
 use Rattle.table_terms.specs.Names.{Text, has_name, place_of}
 use Rattle.table_terms.specs.Refusals.{unless, first_refusal, on_ok}
 use Rattle.join_terms.specs.declared.calculations.Calc.{Calc}

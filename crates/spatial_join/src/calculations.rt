@@ -5,7 +5,8 @@ ghost use Rattle.spatial_join.specs.Joined.{calc_name, lacks_field, refused_calc
 
 use grid_base::IdList;
 use join_terms::Calc;
-use json_read::{Decimal, Row, RowList, Value};
+use json_values::{Row, RowList, Value};
+use numerals::Decimal;
 use std::alloc::{AllocError, Global};
 use table_rows::{TableFault, TableWhy, column_sum};
 use table_terms::NameSet;

@@ -11,7 +11,7 @@ use crate::calc_columns::joined_columns;
 use crate::calculations::{summed_places, with_sums};
 use grid_base::{GroupList, IdList};
 use join_terms::CalcSpec;
-use json_read::{Row, RowList, Table};
+use json_values::{Row, RowList, Table};
 use std::alloc::{AllocError, Global};
 use table_ops::{Column, candidates, copied_row};
 use table_rows::TableFault;

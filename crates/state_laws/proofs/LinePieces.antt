@@ -9,7 +9,7 @@ use Rattle.plane_model.specs.Drawing.{vertices_of}
 use Rattle.plane_model.specs.Snapped.{snapped}
 use Rattle.grid_base.specs.declared.kinds.Kind.{Kind}
 use Rattle.grid_base.specs.declared.kinds.Kind.TheVariants as kinds
-use Rattle.json_read.specs.Table.{RowValues, TableContent}
+use Rattle.json_values.specs.Table.{RowValues, TableContent}
 use Rattle.table_rows.specs.Rows.{row_at}
 use Rattle.line_laws.specs.Linked.{AreLinked, AreThere, points_along}
 use Rattle.run_plane.specs.declared.layer.Layer.{Layer}

@@ -3,7 +3,7 @@ use Rattle.std.proofs.Common.{◌≡◌, refl, sym, ap, ◌∙◌, subst, Bool, 
 use Rattle.std.specs.List.{AllZip, flat_map}
 use Rattle.std.proofs.lemmas.List.Elements.{All-cons}
 use Rattle.grid_base.specs.declared.kinds.Kind.{Kind}
-use Rattle.json_read.specs.Table.{TableContent}
+use Rattle.json_values.specs.Table.{TableContent}
 use Rattle.table_terms.specs.Refusals.{on_ok}
 use Rattle.table_rows.specs.Merge.{merge_tables}
 use Rattle.table_rows.specs.declared.fault.TableWhy.{TableWhy}

@@ -9,8 +9,8 @@ use Rattle.plane_model.specs.Snapped.{links_of, snapped}
 use Rattle.io_core.specs.Contents.{Content}
 use Rattle.grid_base.specs.declared.kinds.Kind.{Kind}
 use Rattle.grid_base.specs.declared.kinds.Kind.TheVariants as kinds
-use Rattle.json_read.specs.Table.{RowValues, TableContent}
-use Rattle.json_read.specs.Value.{same}
+use Rattle.json_values.specs.Table.{RowValues, TableContent}
+use Rattle.json_values.specs.Value.{same}
 use Rattle.line_ops.specs.Sided.{has_both, sided_among}
 use Rattle.line_ops.specs.declared.sides.SidedArc.{SidedArc}
 use Rattle.table_terms.specs.Names.{cell}

@@ -6,7 +6,7 @@ use Rattle.std.proofs.lemmas.List.{length-map}
 use Rattle.std.proofs.lemmas.List.Elements.{All-filter, All-from_get_or, All-get_or}
 use Rattle.grid_base.specs.declared.kinds.Kind.{Kind}
 use Rattle.grid_base.specs.declared.kinds.OverlapRule.{OverlapRule}
-use Rattle.json_read.specs.Table.{TableContent}
+use Rattle.json_values.specs.Table.{TableContent}
 use Rattle.plane_model.specs.Snapped.{snapped}
 use Rattle.table_rows.specs.Rows.{take_rows}
 use Rattle.face_walk.specs.Places.{FaceTable}

@@ -7,7 +7,7 @@ use Rattle.lists.specs.Lists.{numbers_where}
 use Rattle.lists.proofs.Ascending.{ascending-IsAscending}
 use Rattle.grid_base.specs.declared.kinds.Kind.{Kind}
 use Rattle.grid_base.specs.declared.kinds.Kind.TheVariants as kinds
-use Rattle.json_read.specs.Table.{RowValues, TableContent}
+use Rattle.json_values.specs.Table.{RowValues, TableContent}
 use Rattle.plane_model.specs.Snapped.{snapped}
 use Rattle.table_terms.specs.Refusals.{first_refusal, on_ok}
 use Rattle.table_terms.specs.declared.groupings.GroupSpec.{GroupSpec}

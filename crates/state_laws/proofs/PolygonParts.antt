@@ -7,8 +7,8 @@ use Rattle.std.proofs.lemmas.Simd.{map-map}
 use Rattle.lists.proofs.Members.{Contains-head, Contains-later}
 use Rattle.grid_base.specs.declared.kinds.Kind.{Kind}
 use Rattle.geojson_io.specs.Texts.{separated}
-use Rattle.json_read.specs.Table.{RowValues, TableContent}
-use Rattle.json_read.specs.declared.value.Value.TheVariants as value
+use Rattle.json_values.specs.Table.{RowValues, TableContent}
+use Rattle.json_values.specs.declared.value.Value.TheVariants as value
 use Rattle.plane_model.specs.Snapped.{snapped}
 use Rattle.table_terms.specs.Names.{Text}
 use Rattle.table_rows.specs.Rows.{row_at, take_rows}

@@ -6,7 +6,7 @@ use Rattle.std.proofs.lemmas.List.Elements.{All-append, All-cons, All-map, All-n
 use Rattle.std.proofs.lemmas.Simd.{map-map}
 use Rattle.lists.proofs.Members.{Contains-head, Contains-later}
 use Rattle.grid_base.specs.declared.kinds.Kind.{Kind}
-use Rattle.json_read.specs.Table.{TableContent}
+use Rattle.json_values.specs.Table.{TableContent}
 use Rattle.plane_model.specs.Snapped.{snapped}
 use Rattle.table_rows.specs.Merge.{all_names}
 use Rattle.face_walk.specs.Places.{FaceTable}

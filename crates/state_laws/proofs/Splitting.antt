@@ -2,8 +2,8 @@
 use Rattle.std.proofs.Common.{◌≡◌, refl, sym, ap, ◌∙◌, ℕ, ◌+◌, arith, List, [], ◌∷◌, ◌++◌, map, All, Option, Some, None, Result, Ok, Err, codes, decimal, append_assoc, if◌then◌else◌}
 use Rattle.std.specs.List.{AllZip, enumerate_from}
 use Rattle.std.proofs.lemmas.List.Elements.{All-head, All-tail}
-use Rattle.json_read.specs.Table.{TableContent}
-use Rattle.json_read.specs.declared.value.Value.{Value}
+use Rattle.json_values.specs.Table.{TableContent}
+use Rattle.json_values.specs.declared.value.Value.{Value}
 use Rattle.table_terms.specs.Names.{Text}
 use Rattle.table_rows.specs.Splitting.{split_rows}
 use Rattle.table_rows.specs.declared.fault.TableWhy.{TableWhy}

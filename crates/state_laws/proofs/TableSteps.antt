@@ -3,7 +3,7 @@ use Rattle.std.proofs.Common.{◌≡◌, refl, sym, ap, ◌∙◌, subst, true�
 use Rattle.std.specs.List.{AllZip, enumerate_from}
 use Rattle.std.proofs.lemmas.List.{length-map}
 use Rattle.std.proofs.lemmas.List.FromFn.{length-enumerate_from}
-use Rattle.json_read.specs.Table.{TableContent}
+use Rattle.json_values.specs.Table.{TableContent}
 use Rattle.expr_lang.specs.Tree.{all_assigned, tree_of}
 use Rattle.table_terms.specs.Refusals.{on_ok}
 use Rattle.join_terms.specs.declared.joins.JoinSpec.{JoinSpec}

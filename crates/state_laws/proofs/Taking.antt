@@ -2,7 +2,7 @@
 use Rattle.std.proofs.Common.{◌≡◌, sym, ap, ◌∙◌, subst, ℕ, ◌<◌, List, length, map, All}
 use Rattle.std.specs.List.{AllZip}
 use Rattle.grid_base.specs.declared.kinds.Kind.{Kind}
-use Rattle.json_read.specs.Table.{TableContent}
+use Rattle.json_values.specs.Table.{TableContent}
 use Rattle.table_rows.specs.Rows.{take_rows}
 use Rattle.run_plane.specs.Shapes.{shape_at}
 use Rattle.run_plane.specs.declared.layer.Layer.{Layer}

@@ -10,9 +10,9 @@ use Rattle.std.proofs.lemmas.List.{take_more, length-map, map-append, append_can
 use Rattle.std.proofs.lemmas.List.Folds.{find_at, find-append}
 use Rattle.std.proofs.lemmas.Option.{slice_get-get_or}
 use Rattle.lists.specs.Lists.{numbers_where}
-use Rattle.json_read.specs.Table.{RowValues, AreRows}
-use Rattle.json_read.specs.Value.{same}
-use Rattle.json_read.specs.declared.value.Value.{Value}
+use Rattle.json_values.specs.Table.{RowValues, AreRows}
+use Rattle.json_values.specs.Value.{same}
+use Rattle.json_values.specs.declared.value.Value.{Value}
 use Rattle.table_terms.specs.Names.{Text, has_name, value_at, place_of}
 use Rattle.table_rows.specs.Rows.{row_at}
 use Rattle.table_rows.specs.Keys.{same_values}

@@ -3,7 +3,7 @@ use Rattle.std.proofs.Common.{◌≡◌, ℕ, ◌+◌, ◌<◌, Bool, List, [], 
 use Rattle.std.specs.Prelude.{Result, Ok, Err}
 use Rattle.expr_lang.specs.Meaning.{evaluated}
 use Rattle.expr_lang.specs.Tree.{Tree}
-use Rattle.json_read.specs.Table.{RowValues}
+use Rattle.json_values.specs.Table.{RowValues}
 use Rattle.table_terms.specs.Names.{Text}
 use Rattle.table_terms.specs.Refusals.{on_ok}
 use Rattle.table_ops.specs.Filtering.{says, tests_from}

@@ -5,9 +5,9 @@ use Rattle.lists.specs.Lists.{numbers_where}
 use Rattle.expr_lang.specs.Meaning.{Evaluated, evaluated}
 use Rattle.expr_lang.specs.Tree.{Tree}
 use Rattle.expr_lang.specs.declared.fault.EvalFault.TheVariants as fault
-use Rattle.json_read.specs.Table.{TableContent, RowValues}
-use Rattle.json_read.specs.declared.value.Value.{Value}
-use Rattle.json_read.specs.declared.value.Value.TheVariants as cell
+use Rattle.json_values.specs.Table.{TableContent, RowValues}
+use Rattle.json_values.specs.declared.value.Value.{Value}
+use Rattle.json_values.specs.declared.value.Value.TheVariants as cell
 use Rattle.table_terms.specs.Names.{Text}
 use Rattle.table_terms.specs.Refusals.{on_ok}
 use Rattle.table_rows.specs.declared.fault.EvalWhy.TheVariants as why

@@ -4,10 +4,10 @@ use Rattle.std.specs.Str.{bytes_eq}
 use Rattle.lists.specs.Lists.{numbers_where}
 use Rattle.expr_lang.specs.Tree.{tree_of}
 use Rattle.expr_lang.specs.declared.expr.Expr.{Expr}
-use Rattle.json_read.specs.Table.{TableContent, RowValues}
-use Rattle.json_read.specs.Value.{same}
-use Rattle.json_read.specs.declared.value.Value.{Value}
-use Rattle.json_read.specs.declared.value.Value.TheVariants as is
+use Rattle.json_values.specs.Table.{TableContent, RowValues}
+use Rattle.json_values.specs.Value.{same}
+use Rattle.json_values.specs.declared.value.Value.{Value}
+use Rattle.json_values.specs.declared.value.Value.TheVariants as is
 use Rattle.table_terms.specs.Names.{Text, has_name, cell}
 use Rattle.table_rows.specs.Rows.{row_at}
 use Rattle.table_ops.specs.Filtering.{filter_rows}

@@ -1,8 +1,8 @@
 -- The columns of a joined table by places: where each comes from, and its value in a row.
 use Rattle.std.specs.Prelude.{ℕ, List, [], ◌++◌, map, Option, Some, None, option_map, slice_get}
-use Rattle.json_read.specs.Table.{RowValues}
-use Rattle.json_read.specs.declared.value.Value.{Value}
-use Rattle.json_read.specs.declared.value.Value.TheVariants as is
+use Rattle.json_values.specs.Table.{RowValues}
+use Rattle.json_values.specs.declared.value.Value.{Value}
+use Rattle.json_values.specs.declared.value.Value.TheVariants as is
 use Rattle.table_terms.specs.Names.{Text, value_at, place_of}
 use Rattle.table_ops.specs.Join.{forced_field, new_fields}
 use Rattle.join_terms.specs.declared.joins.JoinSpec.{JoinSpec}

@@ -3,13 +3,13 @@ ghost use Rattle.std.specs.Bool.{beq};
 ghost use Rattle.lists.specs.Lists.{numbers_where};
 ghost use Rattle.expr_lang.specs.Meaning.{Evaluated, FaultIs, evaluated};
 ghost use Rattle.expr_lang.specs.Tree.{tree_of};
-ghost use Rattle.json_read.specs.declared.value.Value as cell;
+ghost use Rattle.json_values.specs.declared.value.Value as cell;
 ghost use Rattle.table_ops.specs.Filtering.{filter_rows, says, tests_of, truth_for, value_for};
 ghost use Rattle.table_rows.specs.Refusals.{Answers, AnswersAs};
 
 use expr_lang::{EvalFault, Expr, eval_values};
 use grid_base::IdList;
-use json_read::{Row, Table, Value};
+use json_values::{Row, Table, Value};
 use std::alloc::{AllocError, Global};
 use table_rows::{EvalWhy, TableFault, TableWhy, row_of};
 use text_core::{NameList, Text};

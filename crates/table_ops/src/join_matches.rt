@@ -1,8 +1,8 @@
 ghost use Rattle.std.specs.Prelude.{◌≡◌, ◌<◌, ◌∷◌, [], All, Some, None, IfOk, OnOk, cond, find, length, map};
 ghost use Rattle.std.specs.Option.{option_copied, option_or};
 ghost use Rattle.indexmap.specs.IndexMap.{get};
-ghost use Rattle.json_read.specs.Table.{RowValues};
-ghost use Rattle.json_read.specs.declared.value.Value.{Value};
+ghost use Rattle.json_values.specs.Table.{RowValues};
+ghost use Rattle.json_values.specs.declared.value.Value.{Value};
 ghost use Rattle.table_ops.specs.Join.{is_null, matches};
 ghost use Rattle.table_ops.specs.JoinColumns.{row_found};
 ghost use Rattle.table_rows.specs.Keys.{same_values};
@@ -10,7 +10,7 @@ ghost use Rattle.table_terms.specs.Names.{value_at};
 ghost use Rattle.table_rows.specs.Rows.{row_at};
 
 use indexmap::IndexMap;
-use json_read::{Row, RowList, Value};
+use json_values::{Row, RowList, Value};
 use std::alloc::{AllocError, Global};
 use table_rows::{Key, row_of};
 

@@ -2,12 +2,12 @@
 use Rattle.std.proofs.Common.{◌≡◌, ◌++◌, ◌∷◌, ℕ, List, [], map, length, slice_get, Some, None, sym, refl, ap}
 use Rattle.std.proofs.lemmas.List.{length-map}
 use Rattle.std.proofs.lemmas.Option.{get_or_from_slice_get}
-use Rattle.json_read.specs.Table.{RowValues, AreRows}
+use Rattle.json_values.specs.Table.{RowValues, AreRows}
 use Rattle.table_terms.specs.Names.{Text, value_at, place_of}
 use Rattle.table_rows.specs.Rows.{picked}
 use Rattle.table_rows.specs.Columns.{cells}
-use Rattle.json_read.specs.declared.value.Value.{Value}
-use Rattle.json_read.specs.declared.value.Value.TheVariants as is
+use Rattle.json_values.specs.declared.value.Value.{Value}
+use Rattle.json_values.specs.declared.value.Value.TheVariants as is
 use Rattle.table_rows.proofs.TakenRows.{missing_is_default}
 
 pub cell_missing : (row : RowValues) (p : ℕ) → None ≡ slice_get row p → value_at row p ≡ is.Null

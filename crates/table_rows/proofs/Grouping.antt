@@ -5,7 +5,7 @@ use Rattle.std.proofs.lemmas.List.{map_more, length-map, length-take}
 use Rattle.std.proofs.lemmas.List.Elements.{All-map}
 use Rattle.indexmap.specs.IndexSet.{insert_key}
 use Rattle.lists.specs.Lists.{numbers_where}
-use Rattle.json_read.specs.Table.{RowValues}
+use Rattle.json_values.specs.Table.{RowValues}
 use Rattle.table_rows.specs.Keys.{same_values}
 use Rattle.table_rows.specs.Groups.{keys_once, groups_of, with_member}
 use Rattle.table_rows.specs.Same.{rows_decide, rows_equivalent}

@@ -4,7 +4,7 @@ use Rattle.std.specs.List.{flat_map}
 use Rattle.std.specs.Str.{bytes_eq}
 use Rattle.std.proofs.lemmas.List.{take_more}
 use Rattle.indexmap.specs.IndexSet.{insert_all}
-use Rattle.json_read.specs.Table.{TableContent, AreRows}
+use Rattle.json_values.specs.Table.{TableContent, AreRows}
 use Rattle.table_terms.specs.Names.{Text}
 use Rattle.table_rows.specs.Columns.{cells}
 use Rattle.table_rows.specs.Merge.{all_names, merged_rows}

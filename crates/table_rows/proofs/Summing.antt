@@ -2,8 +2,8 @@
 use Rattle.std.proofs.Common.{◌≡◌, ℕ, ◌+◌, List, [], ◌∷◌, ◌++◌, map, length, ◌∙◌, length-append}
 use Rattle.std.specs.Prelude.{pos}
 use Rattle.std.proofs.lemmas.List.{length-map}
-use Rattle.json_read.specs.Table.{RowValues, AreRows}
-use Rattle.json_read.specs.declared.value.Value.TheVariants as is
+use Rattle.json_values.specs.Table.{RowValues, AreRows}
+use Rattle.json_values.specs.declared.value.Value.TheVariants as is
 use Rattle.table_terms.specs.Names.{value_at}
 use Rattle.table_rows.specs.Rows.{first_of, picked}
 use Rattle.table_rows.specs.Grouping.{column_sum, sum_or_zero, sums, group_row}

@@ -1,7 +1,7 @@
 -- Rows that are taken from a table are as long as its names.
 use Rattle.std.proofs.Common.{◌≡◌, ℕ, suc, zero, ◌<◌, List, [], ◌∷◌, map, length, slice_get, get_or, unwrap_or, Option, Some, None, All, refl, sym, ap, ◌∙◌, true≢false, is_some, arith}
 use Rattle.std.proofs.lemmas.Option.{unwrap_or-slice_get}
-use Rattle.json_read.specs.Table.{RowValues, AreRows}
+use Rattle.json_values.specs.Table.{RowValues, AreRows}
 use Rattle.table_rows.specs.Rows.{row_at, first_of}
 
 pub missing_is_default : {A : Type 0} (xs : List A) (i : ℕ) (d : A) → slice_get xs i ≡ None → get_or xs i d ≡ d

@@ -4,7 +4,7 @@ use Rattle.std.specs.Str.{bytes_eq}
 use Rattle.std.specs.List.{last_or}
 use Rattle.lists.specs.Lists.{numbers_where}
 use Rattle.table_terms.specs.Names.{Text, cell}
-use Rattle.json_read.specs.Table.{TableContent, RowValues}
+use Rattle.json_values.specs.Table.{TableContent, RowValues}
 use Rattle.table_terms.specs.Refusals.{unless, first_refusal}
 use Rattle.table_rows.specs.Refusals.{refused_item}
 use Rattle.table_rows.specs.declared.fault.TableWhy.{TableWhy}

@@ -1,10 +1,10 @@
 -- A table with a row for each group of rows: the listed values, those of the first row, and sums.
 use Rattle.std.specs.Prelude.{ℕ, ℤ, pos, ◌+ℤ◌, List, [], ◌∷◌, ◌++◌, map, fold, nat_lt, Result, Ok, Err, Option, Some, None, if◌then◌else◌}
 use Rattle.std.specs.List.{flat_map}
-use Rattle.json_read.specs.Decimal.{checked}
-use Rattle.json_read.specs.Table.{TableContent, RowValues}
-use Rattle.json_read.specs.declared.value.Value.{Value}
-use Rattle.json_read.specs.declared.value.Value.TheVariants as is
+use Rattle.numerals.specs.Decimal.{checked}
+use Rattle.json_values.specs.Table.{TableContent, RowValues}
+use Rattle.json_values.specs.declared.value.Value.{Value}
+use Rattle.json_values.specs.declared.value.Value.TheVariants as is
 use Rattle.table_terms.specs.Names.{Text, value_at, place_of}
 use Rattle.table_rows.specs.Rows.{row_at, first_of, picked}
 use Rattle.table_rows.specs.Columns.{cells}

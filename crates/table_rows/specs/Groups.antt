@@ -2,7 +2,7 @@
 use Rattle.std.specs.Prelude.{ℕ, zero, suc, List, [], ◌∷◌, ◌++◌, map}
 use Rattle.lists.specs.Lists.{numbers_where}
 use Rattle.indexmap.specs.IndexSet.{insert_all}
-use Rattle.json_read.specs.Table.{RowValues}
+use Rattle.json_values.specs.Table.{RowValues}
 use Rattle.table_rows.specs.Keys.{same_values}
 
 -- keys, each once, in order of first appearance

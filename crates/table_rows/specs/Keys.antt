@@ -2,9 +2,9 @@
 use Rattle.std.specs.Prelude.{ℕ, Bool, List, [], ◌∷◌, ◌++◌}
 use Rattle.std.specs.List.{flat_map}
 use Rattle.std.specs.Cmp.Lexicographic.{pointwise}
-use Rattle.json_read.specs.Table.{RowValues}
-use Rattle.json_read.specs.Value.{same, value_text}
-use Rattle.json_read.specs.declared.value.Value.{Value}
+use Rattle.json_values.specs.Table.{RowValues}
+use Rattle.json_values.specs.Value.{same, value_text}
+use Rattle.json_values.specs.declared.value.Value.{Value}
 
 -- the same values, one by one
 abbrev pub same_values : RowValues → RowValues → Bool

@@ -3,7 +3,7 @@ use Rattle.std.specs.Prelude.{ℕ, ◌+◌, Bool, ◌&&◌, List, [], ◌∷◌,
 use Rattle.std.specs.List.{list_all, flat_map}
 use Rattle.std.specs.Str.{bytes_eq}
 use Rattle.indexmap.specs.IndexSet.{insert_all}
-use Rattle.json_read.specs.Table.{TableContent, RowValues}
+use Rattle.json_values.specs.Table.{TableContent, RowValues}
 use Rattle.table_terms.specs.Names.{Text, has_name}
 use Rattle.table_rows.specs.Columns.{cells}
 use Rattle.table_terms.specs.Refusals.{unless}

@@ -1,6 +1,6 @@
 -- Rows taken from a table.
 use Rattle.std.specs.Prelude.{ℕ, List, [], ◌∷◌, map, slice_index_or}
-use Rattle.json_read.specs.Table.{TableContent, RowValues}
+use Rattle.json_values.specs.Table.{TableContent, RowValues}
 use Rattle.table_terms.specs.Names.{value_at}
 
 abbrev pub row_at : List RowValues → ℕ → RowValues

@@ -4,14 +4,14 @@ use Rattle.std.specs.Bool.{Decides}
 use Rattle.std.specs.Str.{bytes_eq}
 use Rattle.std.specs.Cmp.{IsEquivalence, decided, booleans_Decides, signed_Decides, unsigned_Decides}
 use Rattle.std.specs.Cmp.Lexicographic.{pointwise_decides}
-use Rattle.json_read.specs.Json.{JsonValue, ItemList, FieldList, null, boolean, number, string, array, object, no_items, item, no_fields, field}
-use Rattle.json_read.specs.Seen.{json_value}
-use Rattle.json_read.specs.Value.{same, same_json, same_items, same_fields}
-use Rattle.json_read.specs.declared.json.Json.{Json}
-use Rattle.json_read.specs.declared.json.Json.TheVariants as json
-use Rattle.json_read.specs.declared.value.Value.{Value}
-use Rattle.json_read.specs.declared.value.Value.TheVariants as cell
-use Rattle.json_read.specs.Table.{RowValues}
+use Rattle.json_values.specs.Json.{JsonValue, ItemList, FieldList, null, boolean, number, string, array, object, no_items, item, no_fields, field}
+use Rattle.json_values.specs.Seen.{json_value}
+use Rattle.json_values.specs.Value.{same, same_json, same_items, same_fields}
+use Rattle.json_values.specs.declared.json.Json.{Json}
+use Rattle.json_values.specs.declared.json.Json.TheVariants as json
+use Rattle.json_values.specs.declared.value.Value.{Value}
+use Rattle.json_values.specs.declared.value.Value.TheVariants as cell
+use Rattle.json_values.specs.Table.{RowValues}
 use Rattle.table_rows.specs.Keys.{same_values}
 
 texts_decide : (s t : List ℕ) → Decides (bytes_eq s t) (s ≡ t)

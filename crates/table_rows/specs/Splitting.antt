@@ -1,6 +1,6 @@
 -- A table in pieces: a piece for each value of a field, or for each row.
 use Rattle.std.specs.Prelude.{ℕ, ◌+◌, List, [], ◌∷◌, map, Result, Ok, Option, Some, None}
-use Rattle.json_read.specs.Table.{TableContent, RowValues}
+use Rattle.json_values.specs.Table.{TableContent, RowValues}
 use Rattle.table_terms.specs.Names.{Text, value_at, place_of}
 use Rattle.table_rows.specs.Columns.{cells}
 use Rattle.table_rows.specs.Groups.{groups_of}

@@ -4,12 +4,12 @@ ghost use Rattle.table_terms.specs.Names.{place_of};
 ghost use Rattle.table_terms.specs.Refusals.{unless};
 ghost use Rattle.table_rows.specs.Refusals.{Answers, AnswersAs, refused_item};
 ghost use Rattle.table_rows.specs.Rows.{picked};
-ghost use Rattle.json_read.specs.Table.{AreDistinctNames};
+ghost use Rattle.json_values.specs.Table.{AreDistinctNames};
 
 use crate::fault::TableFault;
 use crate::items::{check_list, places_of};
 use crate::rows::{copy_names, pick_row};
-use json_read::{RowList, Table};
+use json_values::{RowList, Table};
 use std::alloc::{AllocError, Global};
 use table_terms::NameSet;
 use text_core::NameList;

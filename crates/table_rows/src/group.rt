@@ -14,7 +14,7 @@ use crate::groups::{group_list, groups_at};
 use crate::items::{check_list, places_of};
 use crate::rows::{append_picked, first_row};
 use grid_base::{GroupList, IdList};
-use json_read::{Row, RowList, Table};
+use json_values::{Row, RowList, Table};
 use std::alloc::{AllocError, Global};
 use table_terms::{GroupSpec, NameSet};
 use text_core::{NameList, Text};

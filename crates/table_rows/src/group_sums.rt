@@ -5,7 +5,8 @@ ghost use Rattle.table_terms.specs.Names.{value_at};
 use crate::fault::TableWhy;
 use crate::rows::row_of;
 use grid_base::IdList;
-use json_read::{Decimal, Row, RowList, Value};
+use json_values::{Row, RowList, Value};
+use numerals::Decimal;
 use std::alloc::AllocError;
 
 /// Appends the sums at these places over the rows of a group, 0 for one that is refused, and notes

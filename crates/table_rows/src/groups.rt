@@ -9,7 +9,7 @@ use crate::key::Key;
 use crate::rows::row_of;
 use grid_base::{GroupList, IdList};
 use indexmap::IndexSet;
-use json_read::RowList;
+use json_values::RowList;
 use std::alloc::{AllocError, Global};
 
 /// The rows in groups of the same values at these places, in order of first appearance: the numbers

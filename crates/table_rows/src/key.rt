@@ -7,7 +7,7 @@ ghost use Rattle.table_rows.specs.Keys.{key_text, same_values};
 ghost use Rattle.table_rows.specs.Rows.{picked};
 
 use crate::rows::pick_row;
-use json_read::{Row, Value};
+use json_values::{Row, Value};
 use std::alloc::{AllocError, Global};
 use std::hash::{Hash, Hasher};
 use std::marker::Model;
@@ -23,8 +23,8 @@ pub struct Key {
 impl Model for Key {
     ghost use Rattle.std.specs.Prelude.{◌≡◌};
     ghost use Rattle.std.specs.Coded.{coded_list};
-    ghost use Rattle.json_read.specs.contracts.value.Value as cell;
-    ghost use Rattle.json_read.specs.Table.{RowValues};
+    ghost use Rattle.json_values.specs.contracts.value.Value as cell;
+    ghost use Rattle.json_values.specs.Table.{RowValues};
     ghost use Rattle.table_rows.specs.Keys.{key_text};
 
     ghost Value = { RowValues };

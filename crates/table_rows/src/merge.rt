@@ -12,7 +12,7 @@ ghost use Rattle.table_rows.specs.Rows.{picked};
 use crate::fault::{TableFault, TableWhy};
 use crate::items::places_of;
 use crate::rows::pick_row;
-use json_read::{RowList, Table};
+use json_values::{RowList, Table};
 use std::alloc::{AllocError, Global};
 use std::marker::Model;
 use table_terms::NameSet;
@@ -27,8 +27,8 @@ pub struct TableList {
 impl Model for TableList {
     ghost use Rattle.std.specs.Prelude.{List, ◌<◌, ◌^◌, length, refl};
     ghost use Rattle.std.specs.Coded.{coded×, coded_ℕ, coded_list, code_by};
-    ghost use Rattle.json_read.specs.contracts.value.Value as cell;
-    ghost use Rattle.json_read.specs.Table.{TableContent};
+    ghost use Rattle.json_values.specs.contracts.value.Value as cell;
+    ghost use Rattle.json_values.specs.Table.{TableContent};
 
     ghost Value = { List TableContent };
 

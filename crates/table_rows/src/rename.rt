@@ -2,7 +2,7 @@ ghost use Rattle.std.specs.Prelude.{◌≡◌, ◌<◌, [], ℕ, List, Ok, Some,
 ghost use Rattle.std.specs.List.{last_or};
 ghost use Rattle.std.specs.Str.{bytes_eq};
 ghost use Rattle.indexmap.specs.IndexSet.{insert_key};
-ghost use Rattle.json_read.specs.Table.{AreDistinctNames};
+ghost use Rattle.json_values.specs.Table.{AreDistinctNames};
 ghost use Rattle.lists.specs.Lists.{numbers_where};
 ghost use Rattle.table_rows.specs.Columns.{fields_of_pairs, is_twice, refused_label, refused_renames, rename_fields, renamed};
 ghost use Rattle.table_terms.specs.Names.{has_name};
@@ -12,7 +12,7 @@ ghost use Rattle.table_rows.specs.Refusals.{Answers, Refuses, refused_item};
 use crate::fault::{TableFault, TableWhy};
 use crate::items::check_items;
 use crate::rows::copy_rows;
-use json_read::Table;
+use json_values::Table;
 use std::alloc::{AllocError, Global};
 use table_terms::{NameSet, Rename, RenameList};
 use text_core::{NameList, Text};

@@ -4,7 +4,7 @@ ghost use Rattle.table_rows.specs.Rows.{first_of, picked, row_at, take_rows};
 ghost use Rattle.table_terms.specs.Names.{value_at};
 
 use grid_base::IdList;
-use json_read::{Row, RowList, Table, Value};
+use json_values::{Row, RowList, Table, Value};
 use std::alloc::{AllocError, Global};
 use text_core::{NameList, Text};
 

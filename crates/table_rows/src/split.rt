@@ -10,7 +10,7 @@ use crate::groups::groups_at;
 use crate::items::check_item;
 use crate::rows::{copy_at, first_row};
 use grid_base::IdList;
-use json_read::{RowList, Table, Value};
+use json_values::{RowList, Table, Value};
 use std::alloc::{AllocError, Global};
 use std::marker::Model;
 use table_terms::NameSet;

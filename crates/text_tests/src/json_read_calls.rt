@@ -26,7 +26,7 @@ pub fn answer(alloc: Global, call: &str, case: &[Json]) -> Result<Bytes, AllocEr
 
 fn parsed(alloc: Global, case: &[Json]) -> Result<Bytes, AllocError> {
     let bytes = bytes_at(alloc, case, 0)?;
-    match Json::parse(alloc, &bytes) {
+    match json_read::parse(alloc, &bytes) {
         Ok(_) => bytes_of_text(alloc, "read"),
         Err(fault) => told(alloc, &fault),
     }
@@ -34,7 +34,7 @@ fn parsed(alloc: Global, case: &[Json]) -> Result<Bytes, AllocError> {
 
 fn printed(alloc: Global, case: &[Json]) -> Result<Bytes, AllocError> {
     let bytes = bytes_at(alloc, case, 0)?;
-    let json = match Json::parse(alloc, &bytes) {
+    let json = match json_read::parse(alloc, &bytes) {
         Ok(json) => json,
         Err(fault) => return told(alloc, &fault),
     };
@@ -45,7 +45,7 @@ fn printed(alloc: Global, case: &[Json]) -> Result<Bytes, AllocError> {
 
 fn printed_as_value(alloc: Global, case: &[Json]) -> Result<Bytes, AllocError> {
     let bytes = bytes_at(alloc, case, 0)?;
-    let json = match Json::parse(alloc, &bytes) {
+    let json = match json_read::parse(alloc, &bytes) {
         Ok(json) => json,
         Err(fault) => return told(alloc, &fault),
     };

@@ -5,8 +5,8 @@ use Rattle.std.proofs.lemmas.Option.{get_or_from_slice_get, slice_get_within}
 use Rattle.std.proofs.Math.Seq.{drop-cons}
 use Rattle.std.proofs.Math.Numerals.{add-one}
 use Rattle.std.proofs.Math.ListN.{drop_of_length-le}
-use Rattle.json_read.specs.Json.{JsonValue, FieldList}
-use Rattle.json_read.specs.Lists.{fields_list}
+use Rattle.json_values.specs.Json.{JsonValue, FieldList}
+use Rattle.json_values.specs.Lists.{fields_list}
 use Rattle.geojson_io.specs.LayerContent.{LayerContent}
 use Rattle.geojson_io.specs.Layers.{layers_of}
 use Rattle.geojson_io.specs.Reads.{on_ok}

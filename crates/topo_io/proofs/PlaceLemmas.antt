@@ -10,7 +10,7 @@ use Rattle.plane_algebra.proofs.Ring.{ring, num, ◌≐◌, ◌⊞◌, ◌⊠◌
 use Rattle.plane_algebra.proofs.Rounding.{quotient_is}
 use Rattle.plane_model.specs.Points.{GridPoint}
 use Rattle.grid_base.specs.Grid.{grid_point, limit, most_places}
-use Rattle.json_read.specs.Numeral.{checked_grid, floor_div, rounded}
+use Rattle.numerals.specs.Numeral.{checked_grid, floor_div, rounded}
 use Rattle.geojson_io.specs.Positions.{numbered_point}
 use Rattle.topo_io.specs.Transform.{AxisUnits, axis_place, part}
 

@@ -4,9 +4,9 @@ use Rattle.std.specs.Prelude.{IfErr}
 use Rattle.std.proofs.lemmas.List.{take_all}
 use Rattle.std.proofs.lemmas.List.Elements.{filter-append}
 use Rattle.std.proofs.Math.ListN.{drop_of_length-le}
-use Rattle.json_read.specs.Json.{JsonValue}
-use Rattle.json_read.specs.Seen.{json_value}
-use Rattle.json_read.specs.declared.json.Json.{Json}
+use Rattle.json_values.specs.Json.{JsonValue}
+use Rattle.json_values.specs.Seen.{json_value}
+use Rattle.json_values.specs.declared.json.Json.{Json}
 use Rattle.geojson_io.specs.Reads.{Reads, on_ok, each}
 use Rattle.geojson_io.proofs.ReadLemmas.{IsReadTo, one_item_more, item_stops}
 use Rattle.topo_io.specs.Reads.{Answers, AnswersAt, AnswersPlain, Fault, IsFault, along, stopped_at}

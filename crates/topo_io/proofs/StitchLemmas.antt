@@ -2,8 +2,8 @@
 use Rattle.std.proofs.Common.{◌≡◌, ℕ, ◌+◌, ◌-◌, ◌<◌, ◌≤◌, cond, List, [], ◌∷◌, length, drop, map, get_or, sym, ap, ◌∙◌, arith, Result, Ok, Err}
 use Rattle.std.proofs.Math.ListN.{drop_of_length-le}
 use Rattle.lists.specs.Lists.{last_of}
-use Rattle.json_read.specs.Seen.{json_value}
-use Rattle.json_read.specs.declared.json.Json.{Json}
+use Rattle.json_values.specs.Seen.{json_value}
+use Rattle.json_values.specs.declared.json.Json.{Json}
 use Rattle.plane_model.specs.Points.{GridPoint, Path, same_point}
 use Rattle.grid_base.proofs.LastLemmas.{last_is}
 use Rattle.geojson_io.specs.Reads.{on_ok}

@@ -1,7 +1,7 @@
 -- The sums of quantized positions: both stay within the limit, or none is answered.
 use Rattle.std.proofs.Common.{◌≡◌, Bool, true, false, cond, refl, sym, ap, ◌∙◌, ℤ, ◌+ℤ◌, Some, None, Ok, Err}
 use Rattle.std.specs.Prelude.{◌&&◌, if◌then◌else◌}
-use Rattle.json_read.specs.Json.{JsonValue}
+use Rattle.json_values.specs.Json.{JsonValue}
 use Rattle.std.proofs.lemmas.Option.{none-some, same_Some}
 use Rattle.topo_io.specs.Positions.{is_sum, sums_after, sums_from, whole_pair}
 use Rattle.topo_io.specs.declared.fault.TopoWhy.TheVariants.{TransformRange}

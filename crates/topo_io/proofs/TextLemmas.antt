@@ -1,7 +1,7 @@
 -- Texts of topologies, piece by piece.
 use Rattle.std.proofs.Common.{◌≡◌, codes, ◌<◌, ◌≤◌, List, [], ◌∷◌, ◌++◌, length, get_or, ap, ◌∙◌, arith}
 use Rattle.std.proofs.lemmas.List.{append_assoc}
-use Rattle.json_read.specs.Table.{RowValues}
+use Rattle.json_values.specs.Table.{RowValues}
 use Rattle.geojson_io.specs.Texts.{Text, list_text, properties_text}
 use Rattle.topo_io.specs.Texts.{type_text, one_or_many, row_member}
 

@@ -1,10 +1,10 @@
 -- Positions of a topology, after TopoJSON 1.0, sections 2.1.2 and 2.1.3. With a transform they are whole numbers; in an
 -- arc each but the first is the difference from the one before.
 use Rattle.std.specs.Prelude.{ℕ, ◌^◌, Bool, nat_lt, nat_le, ◌&&◌, ℤ, pos, ◌+ℤ◌, unsigned_abs, List, codes, Option, Some, None, Result, Ok, Err, if◌then◌else◌}
-use Rattle.json_read.specs.Json.{JsonValue, number, array, object, item, no_items}
-use Rattle.json_read.specs.Lists.{fields_list, value_named}
-use Rattle.json_read.specs.Numeral.{checked_grid}
-use Rattle.json_read.specs.Units.{units_of_text}
+use Rattle.json_values.specs.Json.{JsonValue, number, array, object, item, no_items}
+use Rattle.json_values.specs.Lists.{fields_list, value_named}
+use Rattle.numerals.specs.Numeral.{checked_grid}
+use Rattle.numerals.specs.Units.{units_of_text}
 use Rattle.plane_model.specs.Points.{GridPoint}
 use Rattle.grid_base.specs.Sizes.{most_step}
 use Rattle.geojson_io.specs.Reads.{on_ok}

@@ -1,8 +1,8 @@
 -- Geometries of a topology, after TopoJSON 1.0, section 2.2: an empty list stands for nothing, and so does a geometry
 -- of which nothing remains.
 use Rattle.std.specs.Prelude.{◌-◌, ◌==◌, Bool, true, false, List, [], ◌∷◌, codes, Option, Some, None, Ok, Err, if◌then◌else◌}
-use Rattle.json_read.specs.Json.{JsonValue, FieldList, null, array}
-use Rattle.json_read.specs.Lists.{items_list, fields_list, value_named}
+use Rattle.json_values.specs.Json.{JsonValue, FieldList, null, array}
+use Rattle.json_values.specs.Lists.{items_list, fields_list, value_named}
 use Rattle.plane_model.specs.Points.{GridPoint, Path}
 use Rattle.plane_model.specs.Drawing.{Polygon}
 use Rattle.std.specs.Str.{bytes_eq}

@@ -1,9 +1,9 @@
 -- Arcs, and the paths and rings that are stitched from them, after TopoJSON 1.0, sections 2.1.3 and 2.1.4.
 use Rattle.std.specs.Prelude.{ℕ, ◌+◌, ◌-◌, Bool, true, false, nat_lt, ℤ, List, [], ◌∷◌, ◌++◌, filter, length, Option, Some, None, Result, Ok, Err, if◌then◌else◌}
 use Rattle.lists.specs.Lists.{last_of}
-use Rattle.json_read.specs.Json.{JsonValue, number, array}
-use Rattle.json_read.specs.Lists.{items_list}
-use Rattle.json_read.specs.Units.{units_of_text}
+use Rattle.json_values.specs.Json.{JsonValue, number, array}
+use Rattle.json_values.specs.Lists.{items_list}
+use Rattle.numerals.specs.Units.{units_of_text}
 use Rattle.plane_model.specs.Points.{Path, same_point}
 use Rattle.plane_model.specs.Arcs.{SignedArc, arc_of_index, points_of}
 use Rattle.plane_model.specs.Drawing.{Polygon}

@@ -3,8 +3,8 @@
 use Rattle.std.specs.Prelude.{ℕ, Bool, pos, ◌-ℤ◌, List, [], ◌∷◌, ◌++◌, map, zip, length, codes, slice_index_or}
 use Rattle.plane_model.specs.Points.{GridPoint, Path}
 use Rattle.plane_model.specs.Arcs.{SignedArc, index_of}
-use Rattle.json_read.specs.Text.{string_text}
-use Rattle.json_read.specs.Table.{RowValues}
+use Rattle.json_values.specs.Text.{string_text}
+use Rattle.json_values.specs.Table.{RowValues}
 use Rattle.geojson_io.specs.Texts.{Text, separated, list_text, grid_text, point_text, key_text, properties_text}
 use Rattle.topo_io.specs.ArcLayerContent.{ArcLayerContent}
 use Rattle.topo_io.specs.Arcs.{is_named, marks_before, numbers_of_marks}

@@ -3,9 +3,9 @@
 use Rattle.std.specs.Prelude.{◌≡◌, ℕ, ◌+◌, ◌==◌, List, [], ◌∷◌, ◌++◌, map, length, codes, Option, Some, None, Result, Ok, Err, if◌then◌else◌}
 use Rattle.std.specs.Str.{bytes_eq}
 use Rattle.std.specs.List.{enumerate_from}
-use Rattle.json_read.specs.Json.{JsonValue, FieldList, null, array, object}
-use Rattle.json_read.specs.Lists.{items_list, fields_list, value_named}
-use Rattle.json_read.specs.Table.{NamedValues}
+use Rattle.json_values.specs.Json.{JsonValue, FieldList, null, array, object}
+use Rattle.json_values.specs.Lists.{items_list, fields_list, value_named}
+use Rattle.json_values.specs.Table.{NamedValues}
 use Rattle.plane_model.specs.Points.{Path}
 use Rattle.geojson_io.specs.Reads.{Reads, on_ok, gives, fails, each, ◌>>=◌}
 use Rattle.geojson_io.specs.Features.{property}

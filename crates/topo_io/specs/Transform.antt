@@ -1,7 +1,7 @@
 -- The transform of a topology, after TopoJSON 1.0, section 2.1.2: quantized numbers and their places on the grid.
 use Rattle.std.specs.Prelude.{ℕ, ◌+◌, ◌*◌, ◌^◌, ℤ, pos, ◌+ℤ◌, ◌-ℤ◌, ◌*ℤ◌}
 use Rattle.grid_base.specs.Sizes.{most_step}
-use Rattle.json_read.specs.Numeral.{rounded}
+use Rattle.numerals.specs.Numeral.{rounded}
 
 -- n stands for n * scale + offset; both in units of 10^-28
 pub record AxisUnits : Type 0 where

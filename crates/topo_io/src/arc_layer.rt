@@ -3,7 +3,7 @@ ghost use Rattle.std.specs.Option.{option_copied};
 
 use arc_table::{Polys, SignedPaths};
 use grid_base::{Kind, PtList};
-use json_read::Table;
+use json_values::Table;
 use std::alloc::{AllocError, Global};
 use std::marker::Model;
 use text_core::Text;
@@ -85,7 +85,7 @@ pub struct ArcLayer {
 impl Model for ArcLayer {
     ghost use Rattle.std.specs.Prelude.{◌≡◌, length, refl};
     ghost use Rattle.std.specs.Coded.{coded×, coded_ℕ, coded_list, code_by};
-    ghost use Rattle.json_read.specs.contracts.table.Table as cells;
+    ghost use Rattle.json_values.specs.contracts.table.Table as cells;
     ghost use Rattle.grid_base.specs.contracts.kinds.Kind as kinds;
     ghost use Rattle.topo_io.specs.contracts.arc_layer.ArcShape as arcs;
     ghost use Rattle.topo_io.specs.ArcLayerContent.{ArcLayerContent};

@@ -2,7 +2,7 @@ ghost use Rattle.std.specs.Prelude.{◌≡◌, ◌≤◌, ◌<◌, ◌*◌, ◌-
 ghost use Rattle.std.specs.Int.{int_div_euclid, int_rem_euclid};
 ghost use Rattle.grid_base.specs.Grid.{most_places};
 ghost use Rattle.grid_base.specs.Sizes.{IsStep};
-ghost use Rattle.json_read.specs.Numeral.{checked_grid};
+ghost use Rattle.numerals.specs.Numeral.{checked_grid};
 ghost use Rattle.topo_io.specs.Transform.{axis_place, most_line, part};
 ghost use Rattle.topo_io.specs.Positions.{axis_with, quantized_point};
 

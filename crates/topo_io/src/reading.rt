@@ -1,7 +1,7 @@
 ghost use Rattle.std.specs.Prelude.{◌≡◌, ◌≤◌, All, Err, IfErr, IfOk, Ok};
 ghost use Rattle.grid_base.specs.Grid.{most_places};
-ghost use Rattle.json_read.specs.Lists.{items_list};
-ghost use Rattle.json_read.specs.Seen.{json_value};
+ghost use Rattle.json_values.specs.Lists.{items_list};
+ghost use Rattle.json_values.specs.Seen.{json_value};
 ghost use Rattle.topo_io.specs.Reads.{AnswersAt, IsFault};
 ghost use Rattle.geojson_io.specs.Sound.{LayerIsSound};
 ghost use Rattle.topo_io.specs.Topologies.{Members, layers_in, members, read_topojson as topology_layers};
@@ -20,7 +20,7 @@ use arcs::arcs_of;
 pub use features::Numbers;
 use geojson_io::{GeoLayers, Room, type_of};
 use grid_base::PathList;
-use json_read::{Json, JsonFields, JsonList};
+use json_values::{Json, JsonFields, JsonList};
 use objects::layers_of_objects;
 pub use positions::Sums;
 use std::alloc::Global;

@@ -1,6 +1,6 @@
 ghost use Rattle.std.specs.Prelude.{◌≡◌, ◌≤◌, ◌++◌, ◌∷◌, [], All, IfOk, OnOk, length, map};
 ghost use Rattle.grid_base.specs.Grid.{most_places};
-ghost use Rattle.json_read.specs.Text.{string_text};
+ghost use Rattle.json_values.specs.Text.{string_text};
 ghost use Rattle.geojson_io.specs.Texts.{separated};
 ghost use Rattle.topo_io.specs.Arcs.{LayerIsBelow};
 ghost use Rattle.topo_io.specs.Texts.{head_text, object_text, topojson_text};
@@ -13,8 +13,9 @@ use crate::arc_layer::{ArcLayer, ArcLayers};
 use arc_table::ArcTable;
 use arcs::write_arcs;
 use geojson_io::{keys_of, write_comma};
-use json_read::{Decimal, Value};
+use json_values::Value;
 use numbering::Numbering;
+use numerals::Decimal;
 use shapes::write_geometries;
 use std::alloc::{AllocError, Global};
 use text_core::{Bytes, Text};

@@ -4,7 +4,7 @@ use Rattle.std.specs.List.{flat_map}
 use Rattle.std.proofs.lemmas.Grind.{flat_map-append}
 use Rattle.std.proofs.lemmas.List.{append-nil, length-append, length-map, get_or_default, take_more, take_all}
 use Rattle.std.proofs.lemmas.Slice.Zip.{get_or-zip, length-zip}
-use Rattle.json_read.specs.Table.{TableContent, RowValues, AreRows}
+use Rattle.json_values.specs.Table.{TableContent, RowValues, AreRows}
 use Rattle.table_rows.specs.Merge.{all_names}
 use Rattle.table_rows.proofs.Merging.{all_names_more}
 use Rattle.union_ops.specs.Choices.{Choice, IsChoiceFrom}

@@ -1,8 +1,8 @@
 -- The table of a union of layers: the columns of their tables side by side.
 use Rattle.std.specs.Prelude.{◌≡◌, ℕ, ◌<◌, List, map, zip, length, Option, Some, None}
 use Rattle.std.specs.List.{flat_map}
-use Rattle.json_read.specs.Table.{TableContent, RowValues}
-use Rattle.json_read.specs.declared.value.Value.TheVariants as is
+use Rattle.json_values.specs.Table.{TableContent, RowValues}
+use Rattle.json_values.specs.declared.value.Value.TheVariants as is
 use Rattle.table_terms.specs.Names.{Text}
 use Rattle.table_rows.specs.Merge.{all_names}
 use Rattle.table_rows.specs.Rows.{row_at}

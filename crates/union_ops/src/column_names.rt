@@ -5,7 +5,7 @@ ghost use Rattle.table_rows.specs.Merge.{all_names};
 ghost use Rattle.table_terms.specs.Names.{has_name};
 ghost use Rattle.union_ops.specs.ColumnNames.{AreNewNames, AreTried, IsFree, IsNewName, numbered as name_with_number};
 
-use json_read::Table;
+use json_values::Table;
 use std::alloc::{AllocError, Global};
 use table_terms::NameSet;
 use text_core::{NameList, Text};

@@ -1,13 +1,13 @@
 ghost use Rattle.std.specs.Prelude.{◌≡◌, ◌+◌, ◌++◌, All, IfOk, OnOk, length, map};
-ghost use Rattle.json_read.specs.Table.{AreRows};
-ghost use Rattle.json_read.specs.declared.value.Value.TheVariants as is;
+ghost use Rattle.json_values.specs.Table.{AreRows};
+ghost use Rattle.json_values.specs.declared.value.Value.TheVariants as is;
 ghost use Rattle.table_rows.specs.Merge.{all_names};
 ghost use Rattle.union_ops.specs.Choices.{IsChoiceFrom};
 ghost use Rattle.union_ops.specs.UnionTable.{IsChosenFrom, IsOfTables, IsUnionTable, chosen_row, union_row};
 
 use crate::column_names::union_names;
 use crate::union_lists::{UnionItem, UnionList};
-use json_read::{Row, RowList, Table, Value};
+use json_values::{Row, RowList, Table, Value};
 use std::alloc::{AllocError, Global};
 use table_rows::TableList;
 use text_core::NameList;

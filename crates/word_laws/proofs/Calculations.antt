@@ -6,8 +6,7 @@ use Rattle.std.proofs.lemmas.Bool.Decides.{nat_tests}
 use Rattle.std.proofs.lemmas.List.{append-nil, take-append-drop, take_at, drop_at, reverse-append, reverse-reverse}
 use Rattle.std.proofs.lemmas.List.Folds.{list_all-append}
 use Rattle.std.proofs.lemmas.List.Sums.{passes_at_first}
-use Rattle.json_read.specs.Bytes.{is_white}
-use Rattle.json_read.specs.Reading.{drop_while}
+use Rattle.numerals.specs.Bytes.{is_white, drop_while}
 use Rattle.expr_lang.specs.Tokens.{is_name_start, is_name_byte}
 use Rattle.table_terms.specs.Names.{Text}
 use Rattle.join_terms.specs.declared.calculations.Calc.{Calc}

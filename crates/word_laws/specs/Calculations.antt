@@ -2,7 +2,7 @@
 -- before and after each token.
 use Rattle.std.specs.Prelude.{◌≡◌, true, ◌∷◌, [], ◌++◌, codes}
 use Rattle.std.specs.List.{list_all}
-use Rattle.json_read.specs.Bytes.{is_white}
+use Rattle.numerals.specs.Bytes.{is_white}
 use Rattle.table_terms.specs.Names.{Text}
 use Rattle.join_terms.specs.declared.calculations.Calc.{Calc}
 use Rattle.join_terms.specs.declared.calculations.Calc.TheVariants as calc

@@ -1,8 +1,8 @@
 ghost use Rattle.std.specs.Prelude.{◌≡◌, ◌<◌, ◌≤◌, ◌++◌, ◌∷◌, [], MatchOption, IfOk, IfErr, OnOk, None, Some, Ok, ⊤, map, slice_get};
 ghost use Rattle.std.specs.Option.{option_copied, option_map};
-ghost use Rattle.json_read.specs.Lists.{fields_list};
-ghost use Rattle.json_read.specs.Seen.{json_value};
-ghost use Rattle.json_read.specs.Table.{IsNewName};
+ghost use Rattle.json_values.specs.Lists.{fields_list};
+ghost use Rattle.json_values.specs.Seen.{json_value};
+ghost use Rattle.json_values.specs.Table.{IsNewName};
 ghost use Rattle.geojson_io.specs.Reads.{Answers, AnswersIn, IsFault};
 ghost use Rattle.geojson_io.specs.Features.{properties, property, feature, feature_of_fields, bare_feature, member_of, numbered, members, top_members, in_list};
 

@@ -1,5 +1,5 @@
 ghost use Rattle.std.specs.Prelude.{◌≡◌, ◌++◌, ◌∷◌, [], All, OnOk, filter, map};
-ghost use Rattle.json_read.specs.Seen.{json_value};
+ghost use Rattle.json_values.specs.Seen.{json_value};
 ghost use Rattle.geojson_io.specs.Reads.{Answers, each};
 ghost use Rattle.geojson_io.specs.Positions.{position, line};
 ghost use Rattle.geojson_io.specs.Geometries.{has_rings, each_with_rings, one, several, one_polygon, several_polygons, some_points, some_lines, some_polygons, shape_of, geometry, geometry_of_fields};

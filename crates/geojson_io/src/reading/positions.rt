@@ -1,5 +1,5 @@
 ghost use Rattle.std.specs.Prelude.{◌≡◌, map, MatchOption};
-ghost use Rattle.json_read.specs.Seen.{json_value};
+ghost use Rattle.json_values.specs.Seen.{json_value};
 ghost use Rattle.geojson_io.specs.Reads.{Answers, each};
 ghost use Rattle.geojson_io.specs.Positions.{place, position, positions, line, is_closed, ring, rings, items_of};
 

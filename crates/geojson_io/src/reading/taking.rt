@@ -67,7 +67,7 @@ impl ItemTaker for FeatureTaker {
 /// is kept than a feature at a time.
 ///
 /// Shape and units: as `read_geojson`, whose answer the layers of a FeatureCollection, or its fault, are.
-/// Errors: as `Json::parse`, also where a feature has a fault too.
+/// Errors: as `json_read::parse`, also where a feature has a fault too.
 /// Source: RFC 8259; RFC 7946, section 3.3.
 pub fn parse_features(
     alloc: Global,
@@ -91,7 +91,7 @@ pub fn parse_features(
         features: Vec::new(alloc),
         fault: None,
     };
-    let Some(object) = Json::parse_taking(alloc, bytes, "features", &mut taker)? else {
+    let Some(object) = json_read::parse_taking(alloc, bytes, "features", &mut taker)? else {
         return parse_value(alloc, bytes);
     };
     if !object.is_taken {
@@ -107,7 +107,7 @@ fn parse_value(alloc: Global, bytes: &[u8]) -> Result<Parsed, JsonFault>
     ensures ok { IfOk result (IsValueOf bytes.now) }
     ensures fault { IfErr result (FaultFits 64 bytes.now) }
 {
-    Ok(Parsed::Value(Json::parse(alloc, bytes)?))
+    Ok(Parsed::Value(json_read::parse(alloc, bytes)?))
 }
 
 impl FeatureTaker {

@@ -1,5 +1,5 @@
 ghost use Rattle.std.specs.Prelude.{◌≡◌};
-ghost use Rattle.json_read.specs.Lists.{value_named};
+ghost use Rattle.json_values.specs.Lists.{value_named};
 ghost use Rattle.geojson_io.specs.Geometries.{geo_type_of, type_of};
 
 use json_read::{Json, JsonFields};

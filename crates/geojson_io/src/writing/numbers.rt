@@ -1,7 +1,7 @@
 ghost use Rattle.std.specs.Prelude.{◌≡◌, ◌++◌, ◌∷◌, [], ◌+◌, ◌≤◌, ◌<◌, OnOk, length, drop};
 ghost use Rattle.grid_base.specs.Grid.{most_places};
 ghost use Rattle.grid_base.specs.Sizes.{IsGridNumber};
-ghost use Rattle.json_read.specs.Decimal.{is_negative, last_digits, sign_text, trimmed_digits};
+ghost use Rattle.numerals.specs.Decimal.{is_negative, last_digits, sign_text, trimmed_digits};
 ghost use Rattle.geojson_io.specs.Numbers.{fraction_text, whole_digits};
 ghost use Rattle.geojson_io.specs.Texts.{grid_text};
 

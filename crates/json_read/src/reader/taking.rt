@@ -1,16 +1,15 @@
 ghost use Rattle.std.specs.Prelude.{◌≡◌, ◌<◌, true, false, List, IfOk, IfNone, IfSome, IfErr, MatchResult, OnOk};
 ghost use Rattle.std.specs.Str.{bytes_eq};
-ghost use Rattle.json_read.specs.Bytes.{is_white};
-ghost use Rattle.json_read.specs.Json.{JsonValue};
-ghost use Rattle.json_read.specs.Seen.{json_value};
+ghost use Rattle.numerals.specs.Bytes.{is_white};
+ghost use Rattle.json_values.specs.Json.{JsonValue};
+ghost use Rattle.json_values.specs.Seen.{json_value};
 ghost use Rattle.json_read.specs.Faults.{FaultFits};
 ghost use Rattle.json_read.specs.Taking.{TakesOne, TakesArray, TakesValue, TakesMember, TakesObject, TakesText, HasOtherMember, IsNoFirstArray, IsReadOtherwise, IsTakenText};
 
 use crate::fault::JsonFault;
-use crate::growing_fields::GrowingFields;
-use crate::json::{Json, JsonFields};
 use crate::parsing::fault_at;
 use crate::reader::{Fault, GREATEST_DEPTH, Reader, Stop};
+use json_values::{GrowingFields, Json, JsonFields};
 use std::alloc::{AllocError, Global};
 use text_core::Text;
 
@@ -40,29 +39,27 @@ struct Taking {
     is_taken: bool,
 }
 
-impl Json {
-    /// Reads an object, and hands the items of the array in its field `name` to `taker`, each as soon as it is read.
-    ///
-    /// `None` where the bytes aren't read so: they begin no object, or one whose field `name` is no array or stands twice.
-    /// What follows is left unread then, so that the text may be accepted or not.
-    /// Errors: as `parse`; the taker may have taken items then, as it may where the answer is `None`.
-    /// Source: RFC 8259, as for `parse`.
-    pub fn parse_taking<T: ItemTaker>(
-        alloc: Global,
-        bytes: &[u8],
-        name: &str,
-        taker: &mut T,
-    ) -> Result<Option<TakenObject>, JsonFault>
-        ensures ok { IfOk result (λ found. (first : T) → IfSome found (λ object. IsTakenText 64 (T.took first taker.old) (T.took first taker.new) name.now object.fields object.is_taken bytes.now)) }
-        ensures other { IfOk result (λ found. IfNone found (IsReadOtherwise 64 name.now bytes.now)) }
-        ensures fault { IfErr result (FaultFits 64 bytes.now) }
-    {
-        let mut reader = Reader::new(alloc, bytes);
-        match reader.text_taking(name, taker) {
-            Ok(found) => Ok(found),
-            Err(Stop::Memory) => Err(JsonFault::Memory),
-            Err(Stop::Fault(fault)) => Err(fault_at(fault, bytes.len() - reader.left())),
-        }
+/// Reads an object, and hands the items of the array in its field `name` to `taker`, each as soon as it is read.
+///
+/// `None` where the bytes aren't read so: they begin no object, or one whose field `name` is no array or stands twice.
+/// What follows is left unread then, so that the text may be accepted or not.
+/// Errors: as `parse`; the taker may have taken items then, as it may where the answer is `None`.
+/// Source: RFC 8259, as for `parse`.
+pub fn parse_taking<T: ItemTaker>(
+    alloc: Global,
+    bytes: &[u8],
+    name: &str,
+    taker: &mut T,
+) -> Result<Option<TakenObject>, JsonFault>
+    ensures ok { IfOk result (λ found. (first : T) → IfSome found (λ object. IsTakenText 64 (T.took first taker.old) (T.took first taker.new) name.now object.fields object.is_taken bytes.now)) }
+    ensures other { IfOk result (λ found. IfNone found (IsReadOtherwise 64 name.now bytes.now)) }
+    ensures fault { IfErr result (FaultFits 64 bytes.now) }
+{
+    let mut reader = Reader::new(alloc, bytes);
+    match reader.text_taking(name, taker) {
+        Ok(found) => Ok(found),
+        Err(Stop::Memory) => Err(JsonFault::Memory),
+        Err(Stop::Fault(fault)) => Err(fault_at(fault, bytes.len() - reader.left())),
     }
 }
 

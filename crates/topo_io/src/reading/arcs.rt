@@ -1,7 +1,7 @@
 ghost use Rattle.std.specs.Prelude.{◌≤◌, map};
 ghost use Rattle.grid_base.specs.Grid.{most_places};
-ghost use Rattle.json_read.specs.Lists.{items_list};
-ghost use Rattle.json_read.specs.Seen.{json_value};
+ghost use Rattle.json_values.specs.Lists.{items_list};
+ghost use Rattle.json_values.specs.Seen.{json_value};
 ghost use Rattle.topo_io.specs.Positions.{no_sums, position_after};
 ghost use Rattle.topo_io.specs.Reads.{AnswersAt, AnswersPlain, along};
 ghost use Rattle.topo_io.specs.Stitching.{arc, arcs, numbered_arc};
@@ -10,7 +10,7 @@ use crate::fault::{Stop, TopoFault, TopoPlace, TopoWhy};
 use crate::frame::Frame;
 use crate::reading::positions::{Sums, position_after};
 use grid_base::{PathList, PtList};
-use json_read::{Json, JsonList};
+use json_values::{Json, JsonList};
 use std::alloc::Global;
 
 // The positions of an arc: the first by itself, each other as a difference where there is a transform.

@@ -1,8 +1,8 @@
 ghost use Rattle.std.specs.Prelude.{◌≡◌, ◌≤◌, ◌<◌, ◌+◌, All, OnOk, IfErr, IfOk, Ok, length, map};
 ghost use Rattle.std.specs.Option.{option_copied, option_map};
 ghost use Rattle.grid_base.specs.Grid.{most_places};
-ghost use Rattle.json_read.specs.Lists.{fields_list, value_named};
-ghost use Rattle.json_read.specs.Seen.{json_value};
+ghost use Rattle.json_values.specs.Lists.{fields_list, value_named};
+ghost use Rattle.json_values.specs.Seen.{json_value};
 ghost use Rattle.topo_io.specs.Reads.{Answers, AnswersIn, AnswersPlain, IsFault, StandsAt};
 ghost use Rattle.topo_io.specs.Shapes.{geometry, typed_geometry};
 ghost use Rattle.geojson_io.specs.Sound.{ShapeIsSound, FeatureIsSound};
@@ -13,7 +13,7 @@ use crate::fault::{Stop, TopoFault, TopoPlace, TopoWhy};
 use crate::reading::Topology;
 use crate::reading::shapes::shape_in;
 use geojson_io::{Feature, GeoShape, GeoType, properties_of, type_of};
-use json_read::{Fields, Json, JsonFields};
+use json_values::{Fields, Json, JsonFields};
 use std::alloc::Global;
 
 fn properties(alloc: Global, json: Option<&Json>) -> Result<Fields, Stop>

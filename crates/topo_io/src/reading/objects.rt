@@ -1,8 +1,8 @@
 ghost use Rattle.std.specs.Prelude.{◌≡◌, ◌≤◌, ◌+◌, ◌++◌, All, IfErr, IfOk, None, OnOk, Ok, Some, MatchOption, map, length, slice_get};
 ghost use Rattle.std.specs.Option.{option_copied, option_map};
 ghost use Rattle.grid_base.specs.Grid.{most_places};
-ghost use Rattle.json_read.specs.Lists.{fields_list, value_named};
-ghost use Rattle.json_read.specs.Seen.{json_value};
+ghost use Rattle.json_values.specs.Lists.{fields_list, value_named};
+ghost use Rattle.json_values.specs.Seen.{json_value};
 ghost use Rattle.geojson_io.specs.Layers.{layers_of};
 ghost use Rattle.topo_io.specs.Reads.{AnswersAt, IsFault};
 ghost use Rattle.geojson_io.specs.Sound.{FeatureIsSound, LayerIsSound};
@@ -12,7 +12,7 @@ use crate::fault::{TopoFault, TopoPlace, TopoWhy};
 use crate::reading::Topology;
 use crate::reading::features::{Numbers, features_of};
 use geojson_io::{Feature, GeoLayers, Room, layers_of, type_of};
-use json_read::{Json, JsonFields};
+use json_values::{Json, JsonFields};
 use std::alloc::{AllocError, Global};
 use std::slice;
 

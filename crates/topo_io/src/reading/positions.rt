@@ -1,8 +1,8 @@
 ghost use Rattle.std.specs.Prelude.{◌≡◌, ◌≤◌, ℤ, ◌+ℤ◌, IfOk, IfSome, None, Some, MatchOption, unsigned_abs, if◌then◌else◌};
 ghost use Rattle.grid_base.specs.Grid.{most_places};
 ghost use Rattle.grid_base.specs.Sizes.{IsStep};
-ghost use Rattle.json_read.specs.Seen.{json_value};
-ghost use Rattle.json_read.specs.Units.{counted, units_cap};
+ghost use Rattle.json_values.specs.Seen.{json_value};
+ghost use Rattle.numerals.specs.Units.{counted, units_cap};
 ghost use Rattle.geojson_io.specs.Reads.{on_ok};
 ghost use Rattle.topo_io.specs.Positions.{at_sums, is_sum, lone_position, plain, position_after, sums_after, whole_pair};
 
@@ -10,7 +10,8 @@ use crate::fault::TopoWhy;
 use crate::frame::{Frame, Transform};
 use geojson_io::{ShapeWhy, place};
 use grid_base::{LIMIT, Pt};
-use json_read::{Json, whole_units};
+use json_values::Json;
+use numerals::whole_units;
 
 /// The sums of quantized positions stay within this, either way: twice the limit of the grid.
 const SUM_LIMIT: u128 = 2 * LIMIT as u128;

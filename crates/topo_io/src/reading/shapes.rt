@@ -1,8 +1,8 @@
 ghost use Rattle.std.specs.Prelude.{◌≡◌, ◌≤◌, [], ◌∷◌, ◌++◌, filter, map, All, IfOk, OnOk};
 ghost use Rattle.std.specs.Option.{option_copied, option_map};
 ghost use Rattle.grid_base.specs.Grid.{most_places};
-ghost use Rattle.json_read.specs.Lists.{items_list};
-ghost use Rattle.json_read.specs.Seen.{json_value};
+ghost use Rattle.json_values.specs.Lists.{items_list};
+ghost use Rattle.json_values.specs.Seen.{json_value};
 ghost use Rattle.geojson_io.specs.Reads.{each};
 ghost use Rattle.topo_io.specs.Reads.{Answers};
 ghost use Rattle.topo_io.specs.Shapes.{one_line, one_point, one_polygon, paths_in, points_in, polygon_of, position, several_lines, several_points, several_polygons, shape_in, stitched_shape};
@@ -16,7 +16,7 @@ use crate::reading::positions::lone_position;
 use crate::reading::stitching::{path_of, rings_of, stitched};
 use geojson_io::{GeoShape, GeoType, push_polygon, some_lines, some_points, some_polygons};
 use grid_base::{PathList, PolygonRings, Pt, PtList, RingsList};
-use json_read::{Json, JsonFields};
+use json_values::{Json, JsonFields};
 use std::alloc::{AllocError, Global};
 
 // A position by itself, which takes one of the room that is left.

@@ -1,6 +1,6 @@
 ghost use Rattle.std.specs.Prelude.{◌≡◌, ◌<◌, [], map, reverse, All, IfErr, IfOk, IfSome, OnOk, Err, Ok, ◌∷◌, ◌++◌, filter, length, true};
-ghost use Rattle.json_read.specs.Seen.{json_value};
-ghost use Rattle.json_read.specs.Units.{units_of_text};
+ghost use Rattle.json_values.specs.Seen.{json_value};
+ghost use Rattle.numerals.specs.Units.{units_of_text};
 ghost use Rattle.plane_model.specs.Arcs.{points_of};
 ghost use Rattle.geojson_io.specs.Positions.{is_closed as ends_meet};
 ghost use Rattle.topo_io.specs.Reads.{Answers};
@@ -10,7 +10,8 @@ ghost use Rattle.topo_io.specs.Stitching.{arc_at, fresh_points, has_points, name
 use crate::fault::{Stop, TopoWhy};
 use geojson_io::is_closed;
 use grid_base::{PathList, PolygonRings, Pt, PtList, SignedArc};
-use json_read::{Json, whole_units};
+use json_values::Json;
+use numerals::whole_units;
 use std::alloc::{AllocError, Global};
 
 // The arc that an item names. A list there is wrongly nested; anything else that names none is no index.

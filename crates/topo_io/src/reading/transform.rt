@@ -1,12 +1,13 @@
 ghost use Rattle.std.specs.Prelude.{◌≡◌, codes, None, Some, MatchOption};
 ghost use Rattle.std.specs.Option.{option_copied, option_map};
-ghost use Rattle.json_read.specs.Lists.{fields_list, value_named};
-ghost use Rattle.json_read.specs.Seen.{json_value};
+ghost use Rattle.json_values.specs.Lists.{fields_list, value_named};
+ghost use Rattle.json_values.specs.Seen.{json_value};
 ghost use Rattle.topo_io.specs.Positions.{axis_of, number_pair, transform_by, transform_of};
 
 use crate::fault::TopoWhy;
 use crate::frame::{Axis, Transform};
-use json_read::{Json, JsonFields, whole_units};
+use json_values::{Json, JsonFields};
+use numerals::whole_units;
 
 /// The transform of a topology, which may be absent.
 pub fn transform_of(json: Option<&Json>) -> Result<Option<Transform>, TopoWhy>

@@ -6,7 +6,7 @@ ghost use Rattle.topo_io.specs.Texts.{arc_text, numbered_arc_text, arcs_text};
 use arc_table::ArcTable;
 use geojson_io::write_comma;
 use grid_base::{ArcId, Pt};
-use json_read::Decimal;
+use numerals::Decimal;
 use std::alloc::AllocError;
 use text_core::Bytes;
 

@@ -1,6 +1,6 @@
 ghost use Rattle.std.specs.Prelude.{◌≡◌, ◌++◌, All, OnOk, codes, length};
 ghost use Rattle.geojson_io.specs.Texts.{list_text, point_text};
-ghost use Rattle.json_read.specs.Table.{AreRows};
+ghost use Rattle.json_values.specs.Table.{AreRows};
 ghost use Rattle.topo_io.specs.Arcs.{IsBelow, ShapeIsBelow};
 ghost use Rattle.topo_io.specs.Texts.{index_text, indexes_text, rings_text, type_text, null_text, one_or_many, shape_text, row_member, geometry_text, geometries_text};
 
@@ -10,7 +10,7 @@ use crate::writing::numbering::Numbering;
 use arc_table::{SignedPath, SignedPaths};
 use geojson_io::{write_comma, write_point, write_properties};
 use grid_base::{Pt, SignedArc};
-use json_read::Row;
+use json_values::Row;
 use std::alloc::AllocError;
 use text_core::Bytes;
 

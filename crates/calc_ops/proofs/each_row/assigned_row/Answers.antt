@@ -4,7 +4,7 @@ use Rattle.std.proofs.lemmas.Result.{err_from_is_err_and}
 use Rattle.expr_lang.specs.declared.assign.Assign.{Assign}
 use Rattle.expr_lang.specs.Meaning.{evaluated}
 use Rattle.expr_lang.specs.Tree.{all_assigned, tree_of}
-use Rattle.json_read.specs.Table.{RowValues, AreRows}
+use Rattle.json_values.specs.Table.{RowValues, AreRows}
 use Rattle.table_rows.specs.Rows.{row_at}
 use Rattle.table_rows.proofs.TakenRows.{long_at}
 use Rattle.table_rows.proofs.Answering.{answers_other}

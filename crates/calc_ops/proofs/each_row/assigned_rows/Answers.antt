@@ -2,7 +2,7 @@ use Rattle.std.proofs.Common.{◌≡◌, ◌∙◌, ap, sym, subst, arith, List,
 use Rattle.std.proofs.lemmas.Bool.Decides.{nat_tests}
 use Rattle.std.proofs.lemmas.List.{length_push}
 use Rattle.expr_lang.specs.Tree.{all_assigned}
-use Rattle.json_read.specs.Table.{RowValues, AreRows}
+use Rattle.json_values.specs.Table.{RowValues, AreRows}
 use Rattle.calc_ops.specs.EachRow.{assigned_row, assigned_rows}
 use Rattle.calc_ops.proofs.EachLemmas.{rows_push, rows_step}
 use Rattle.calc_ops.proofs.each_row.assigned_rows.Goals as goal

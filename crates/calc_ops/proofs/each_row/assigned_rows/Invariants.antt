@@ -1,6 +1,6 @@
 use Rattle.std.proofs.Common.{◌≡◌, drop, length}
 use Rattle.expr_lang.specs.Tree.{all_assigned}
-use Rattle.json_read.specs.Table.{AreRows}
+use Rattle.json_values.specs.Table.{AreRows}
 use Rattle.table_ops.proofs.Testing.{behind}
 use Rattle.calc_ops.specs.EachRow.{assigned_rows}
 use Rattle.calc_ops.proofs.each_row.assigned_rows.Given as goal

@@ -1,6 +1,6 @@
 use Rattle.std.proofs.Common.{◌≡◌, ◌++◌, drop}
 use Rattle.expr_lang.specs.Tree.{all_assigned}
-use Rattle.json_read.specs.Table.{AreDistinctNames}
+use Rattle.json_values.specs.Table.{AreDistinctNames}
 use Rattle.calc_ops.specs.EachRow.{names_after, places_after}
 use Rattle.calc_ops.proofs.each_row.targets_of.Given as goal
 

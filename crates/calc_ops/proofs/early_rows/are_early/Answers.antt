@@ -1,8 +1,8 @@
 use Rattle.std.proofs.Common.{◌≡◌, ◌∙◌, refl, sym, ap, cond, ℕ, ◌+◌, ◌++◌, ◌∷◌, [], nat_lt, length}
 use Rattle.std.specs.Prelude.{count_by, min, ◌&&◌}
 use Rattle.std.proofs.lemmas.List.{length_push}
-use Rattle.json_read.specs.Value.{same}
-use Rattle.json_read.specs.declared.value.Value.{Value}
+use Rattle.json_values.specs.Value.{same}
+use Rattle.json_values.specs.declared.value.Value.{Value}
 use Rattle.calc_ops.specs.EarlyRows.{count_in}
 use Rattle.calc_ops.proofs.EarlyLemmas.{early_push, early_is, counted_more}
 use Rattle.calc_ops.proofs.early_rows.are_early.Goals as goal

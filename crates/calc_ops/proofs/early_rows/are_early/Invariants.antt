@@ -1,7 +1,7 @@
 use Rattle.std.proofs.Common.{◌≡◌, length}
 use Rattle.std.specs.Prelude.{count_by, min}
-use Rattle.json_read.specs.Value.{same}
-use Rattle.json_read.specs.declared.value.Value.{Value}
+use Rattle.json_values.specs.Value.{same}
+use Rattle.json_values.specs.declared.value.Value.{Value}
 use Rattle.calc_ops.specs.EarlyRows.{are_early, count_in}
 use Rattle.calc_ops.proofs.early_rows.are_early.Given as goal
 

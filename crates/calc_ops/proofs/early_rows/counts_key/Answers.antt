@@ -1,8 +1,8 @@
 use Rattle.std.proofs.Common.{◌∙◌, refl, ap, ℕ, Option}
 use Rattle.std.specs.Prelude.{unwrap_or}
 use Rattle.indexmap.specs.IndexMap.{get}
-use Rattle.json_read.specs.Value.{same}
-use Rattle.json_read.specs.declared.value.Value.{Value}
+use Rattle.json_values.specs.Value.{same}
+use Rattle.json_values.specs.declared.value.Value.{Value}
 use Rattle.calc_ops.proofs.EarlyLemmas.{one_counted}
 use Rattle.calc_ops.proofs.early_rows.counts_key.Goals as goal
 

@@ -1,5 +1,5 @@
 use Rattle.std.proofs.Common.{◌≡◌, ◌+◌, length, drop}
-use Rattle.json_read.specs.Numeral.{digits_at}
+use Rattle.numerals.specs.Numeral.{digits_at}
 use Rattle.csv_io.proofs.cells.digit_count.Given as goal
 
 abbrev pub invariant-loop-i : goal.invariant-loop-i

@@ -1,5 +1,5 @@
 use Rattle.std.proofs.Common.{rules, ◌≡◌, Ok}
-use Rattle.json_read.specs.Seen.{json_value}
+use Rattle.json_values.specs.Seen.{json_value}
 use Rattle.geojson_io.specs.Layers.{read_geojson}
 use Rattle.geojson_io.proofs.SoundReads.{layers_sound}
 use Rattle.geojson_io.proofs.reading.read_geojson.Goals as goal

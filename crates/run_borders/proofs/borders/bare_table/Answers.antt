@@ -1,6 +1,6 @@
 use Rattle.std.proofs.Common.{◌++◌, List, [], ◌∷◌, length, replicate, sym, ap, subst, ◌∙◌, arith, length-append}
 use Rattle.std.proofs.lemmas.List.{replicate_more}
-use Rattle.json_read.specs.Table.{AreRows, AreDistinctNames, RowValues}
+use Rattle.json_values.specs.Table.{AreRows, AreDistinctNames, RowValues}
 use Rattle.run_state.proofs.Rows.{no_names, rows_grown}
 use Rattle.run_borders.proofs.borders.bare_table.Goals as goal
 

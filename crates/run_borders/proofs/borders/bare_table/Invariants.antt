@@ -1,5 +1,5 @@
 use Rattle.std.proofs.Common.{◌≡◌, [], length, replicate}
-use Rattle.json_read.specs.Table.{AreRows}
+use Rattle.json_values.specs.Table.{AreRows}
 use Rattle.run_borders.proofs.borders.bare_table.Given as goal
 
 abbrev pub invariant-loop-row : goal.invariant-loop-row

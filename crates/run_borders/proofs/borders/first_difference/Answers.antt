@@ -1,5 +1,5 @@
 use Rattle.std.proofs.Common.{◌∙◌, List, get_or, sym, ap, arith}
-use Rattle.json_read.specs.declared.value.Value.{Value}
+use Rattle.json_values.specs.declared.value.Value.{Value}
 use Rattle.run_borders.proofs.Differences.{agrees_here, agrees_to_end, differs_here}
 use Rattle.run_borders.proofs.borders.first_difference.Goals as goal
 

@@ -1,6 +1,6 @@
 use Rattle.std.proofs.Common.{◌<◌, ℕ, List, Option, length, sym, ap, subst, arith}
 use Rattle.std.specs.Prelude.{IfSome}
-use Rattle.json_read.specs.Table.{AreRows, RowValues}
+use Rattle.json_values.specs.Table.{AreRows, RowValues}
 use Rattle.run_borders.proofs.Widths.{rows_alike}
 use Rattle.run_borders.proofs.borders.ranked_row.Goals as goal
 

@@ -1,6 +1,6 @@
 use Rattle.std.proofs.Common.{ℕ, List, [], ◌∷◌, ◌++◌, codes, sym, ap, subst, ◌∙◌}
 use Rattle.std.specs.Str.{bytes_eq}
-use Rattle.json_read.specs.Table.{AreDistinctNames}
+use Rattle.json_values.specs.Table.{AreDistinctNames}
 use Rattle.run_state.proofs.Rows.{two_names}
 use Rattle.run_borders.proofs.borders.ranked_table.Goals as goal
 

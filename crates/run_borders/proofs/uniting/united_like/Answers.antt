@@ -1,5 +1,5 @@
 use Rattle.std.proofs.Common.{◌∙◌, All, List, ℕ, ap, map, refl, subst, sym}
-use Rattle.json_read.specs.Table.{TableContent}
+use Rattle.json_values.specs.Table.{TableContent}
 use Rattle.face_sets.specs.Sets.{IsSetOf}
 use Rattle.union_ops.specs.Union.{IsUnion}
 use Rattle.union_ops.specs.UnionTable.{IsUnionTable}

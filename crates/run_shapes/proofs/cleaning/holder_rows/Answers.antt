@@ -1,5 +1,5 @@
 use Rattle.std.proofs.Common.{[], ◌∷◌, length, sym, ap, subst, arith, length-append}
-use Rattle.json_read.specs.Table.{AreRows}
+use Rattle.json_values.specs.Table.{AreRows}
 use Rattle.run_shapes.specs.Cleaning.{ids_row}
 use Rattle.run_state.proofs.Mapped.{mapped_on}
 use Rattle.run_state.proofs.Rows.{rows_grown}

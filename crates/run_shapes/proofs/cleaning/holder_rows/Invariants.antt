@@ -1,5 +1,5 @@
 use Rattle.std.proofs.Common.{◌≡◌, length, map, take}
-use Rattle.json_read.specs.Table.{AreRows}
+use Rattle.json_values.specs.Table.{AreRows}
 use Rattle.run_shapes.specs.Cleaning.{ids_row}
 use Rattle.run_shapes.proofs.cleaning.holder_rows.Given as goal
 

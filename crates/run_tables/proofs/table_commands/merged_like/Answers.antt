@@ -1,5 +1,5 @@
 use Rattle.std.proofs.Common.{List, Ok, refl, sym, subst, ◌≡◌}
-use Rattle.json_read.specs.Table.{TableContent}
+use Rattle.json_values.specs.Table.{TableContent}
 use Rattle.table_rows.specs.Merge.{merge_tables}
 use Rattle.run_state.specs.Targets.{targets}
 use Rattle.run_tables.proofs.Gathering.{merge_goes}

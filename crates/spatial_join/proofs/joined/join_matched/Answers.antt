@@ -3,7 +3,7 @@ use Rattle.std.specs.Prelude.{None, Ok}
 use Rattle.std.specs.List.{zip}
 use Rattle.std.specs.List.Sorted.{IsStrictlyIncreasing}
 use Rattle.std.proofs.lemmas.Result.{err_from_is_err_and}
-use Rattle.json_read.specs.Table.{RowValues}
+use Rattle.json_values.specs.Table.{RowValues}
 use Rattle.table_rows.proofs.Answering.{answers_other, unless_parts}
 use Rattle.spatial_join.specs.CalcColumns.{row_by_places, summed_place}
 use Rattle.spatial_join.specs.Joined.{joined_names, matching, refused_items}

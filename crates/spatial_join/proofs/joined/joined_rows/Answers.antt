@@ -1,7 +1,7 @@
 use Rattle.std.proofs.Common.{◌∙◌, ap, sym, subst, arith, ℕ, ◌<◌, List, nat_eq, All, Err, length, get_or}
 use Rattle.std.proofs.lemmas.List.Elements.{All-filter}
 use Rattle.std.proofs.lemmas.Result.{err_from_is_err_and}
-use Rattle.json_read.specs.Table.{RowValues}
+use Rattle.json_values.specs.Table.{RowValues}
 use Rattle.lists.specs.Lists.{has}
 use Rattle.table_rows.proofs.Answering.{answers_other}
 use Rattle.spatial_join.proofs.JoinLemmas.{rows_done, rows_next, rows_stop}

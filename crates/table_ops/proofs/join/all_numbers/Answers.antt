@@ -1,5 +1,5 @@
 use Rattle.std.proofs.Common.{rules, ◌++◌, ◌∷◌, [], All, ℕ, List, ◌<◌, true, length, take, ap, subst, sym, ◌∙◌, arith, length-take}
-use Rattle.json_read.specs.Table.{RowValues}
+use Rattle.json_values.specs.Table.{RowValues}
 use Rattle.table_ops.proofs.Joining.{all_numbers_more}
 use Rattle.table_rows.proofs.Numbers.{numbers_from-below}
 use Rattle.table_ops.proofs.join.all_numbers.Goals as goal

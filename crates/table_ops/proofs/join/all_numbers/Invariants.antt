@@ -1,5 +1,5 @@
 use Rattle.std.proofs.Common.{◌≡◌, true, take}
-use Rattle.json_read.specs.Table.{RowValues}
+use Rattle.json_values.specs.Table.{RowValues}
 use Rattle.lists.specs.Lists.{numbers_where}
 use Rattle.table_ops.proofs.join.all_numbers.Given as goal
 

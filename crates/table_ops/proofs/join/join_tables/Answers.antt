@@ -1,7 +1,7 @@
 use Rattle.std.proofs.Common.{◌≡◌, List, ℕ, length, ap, sym, ◌∙◌}
 use Rattle.std.specs.Prelude.{Option, Result, None, Ok}
 use Rattle.std.proofs.lemmas.List.{length-map}
-use Rattle.json_read.specs.Table.{RowValues}
+use Rattle.json_values.specs.Table.{RowValues}
 use Rattle.table_ops.specs.Join.{candidates, joined_table, joined_row, match_of, refused_join}
 use Rattle.table_terms.specs.Refusals.{unless, on_ok}
 use Rattle.table_ops.proofs.join.join_tables.Goals as goal

@@ -2,8 +2,8 @@ use Rattle.std.proofs.Common.{◌≡◌, ◌++◌, ◌∷◌, [], ℕ, find, map
 use Rattle.std.specs.List.{position_or_len}
 use Rattle.std.specs.Str.{bytes_eq}
 use Rattle.indexmap.specs.IndexMap.{get}
-use Rattle.json_read.specs.Table.{RowValues, AreRows}
-use Rattle.json_read.specs.declared.value.Value.{Value}
+use Rattle.json_values.specs.Table.{RowValues, AreRows}
+use Rattle.json_values.specs.declared.value.Value.{Value}
 use Rattle.table_ops.specs.Join.{copied_name, new_fields, matches, first_match, match_of, joined_row}
 use Rattle.table_ops.specs.JoinColumns.{columns_of, column_value, row_found}
 use Rattle.table_rows.specs.Keys.{same_values}

@@ -1,7 +1,7 @@
 use Rattle.std.proofs.Common.{◌∷◌, [], Some, None, cond, sym, ◌∙◌}
 use Rattle.std.specs.Option.{option_or}
 use Rattle.indexmap.specs.IndexMap.{get}
-use Rattle.json_read.specs.declared.value.Value.{Value}
+use Rattle.json_values.specs.declared.value.Value.{Value}
 use Rattle.table_rows.specs.Keys.{same_values}
 use Rattle.table_terms.specs.Names.{value_at}
 use Rattle.table_ops.proofs.Joining.{null_matches_none, others_match}

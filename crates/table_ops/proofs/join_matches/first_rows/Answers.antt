@@ -1,6 +1,6 @@
 use Rattle.std.proofs.Common.{ℕ, Some, None, cond, get_or, sym, ◌∙◌}
 use Rattle.std.specs.Option.{option_or}
-use Rattle.json_read.specs.declared.value.Value.{Value}
+use Rattle.json_values.specs.declared.value.Value.{Value}
 use Rattle.table_ops.specs.Join.{matches}
 use Rattle.table_terms.specs.Names.{value_at}
 use Rattle.table_rows.specs.Rows.{row_at}

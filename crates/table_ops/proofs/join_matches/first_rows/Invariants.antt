@@ -1,6 +1,6 @@
 use Rattle.std.proofs.Common.{◌≡◌, ◌∷◌, [], ℕ, take, find}
 use Rattle.indexmap.specs.IndexMap.{get}
-use Rattle.json_read.specs.declared.value.Value.{Value}
+use Rattle.json_values.specs.declared.value.Value.{Value}
 use Rattle.table_ops.specs.Join.{matches}
 use Rattle.table_rows.specs.Keys.{same_values}
 use Rattle.table_terms.specs.Names.{value_at}

@@ -1,6 +1,6 @@
 use Rattle.std.proofs.Common.{rules, ◌≡◌, true, false, is_some, ◌∙◌}
 use Rattle.indexmap.specs.IndexMap.{get}
-use Rattle.json_read.specs.Table.{RowValues}
+use Rattle.json_values.specs.Table.{RowValues}
 use Rattle.table_rows.specs.Keys.{same_values}
 use Rattle.table_ops.proofs.Joining.{noted_before, noted_new}
 use Rattle.table_ops.proofs.join_matches.note_key.Goals as goal

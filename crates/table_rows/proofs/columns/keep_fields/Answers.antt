@@ -2,7 +2,7 @@ use Rattle.std.proofs.Common.{◌≡◌, ℕ, [], map, length, sym, subst, ap, �
 use Rattle.std.specs.Prelude.{Option, None, Ok, Err, vec_items}
 use Rattle.std.proofs.lemmas.List.{length-map}
 use Rattle.std.proofs.lemmas.Result.{err_from_is_err_and}
-use Rattle.json_read.specs.Table.{AreRows}
+use Rattle.json_values.specs.Table.{AreRows}
 use Rattle.table_rows.specs.Rows.{picked}
 use Rattle.table_terms.specs.Names.{place_of}
 use Rattle.table_rows.specs.Columns.{cells, kept_columns}

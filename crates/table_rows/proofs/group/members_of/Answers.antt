@@ -1,5 +1,5 @@
 use Rattle.std.proofs.Common.{◌≡◌, ◌<◌, All, List, map, length, subst, ap, ◌∙◌}
-use Rattle.json_read.specs.Table.{RowValues}
+use Rattle.json_values.specs.Table.{RowValues}
 use Rattle.table_rows.specs.Grouping.{field_places}
 use Rattle.table_rows.specs.Groups.{groups_of}
 use Rattle.table_terms.specs.Names.{place_of}

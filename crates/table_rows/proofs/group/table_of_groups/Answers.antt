@@ -1,7 +1,7 @@
 use Rattle.std.proofs.Common.{◌≡◌, ◌+◌, ◌++◌, ℕ, map, length, sym, subst, ap, ◌∙◌, length-append}
 use Rattle.std.specs.Prelude.{Option, None, Ok}
 use Rattle.std.proofs.lemmas.List.{length-map}
-use Rattle.json_read.specs.Table.{AreRows}
+use Rattle.json_values.specs.Table.{AreRows}
 use Rattle.table_rows.specs.Grouping.{field_places, group_row, groups_by, refused_sums, table_of_groups}
 use Rattle.table_terms.specs.Names.{place_of}
 use Rattle.table_terms.specs.Refusals.{unless}

@@ -1,5 +1,5 @@
 use Rattle.std.proofs.Common.{sym, subst, length}
-use Rattle.json_read.specs.Table.{AreRows}
+use Rattle.json_values.specs.Table.{AreRows}
 use Rattle.table_rows.proofs.Merging.{merged_long}
 use Rattle.table_rows.proofs.merge.merged.Goals as goal
 

@@ -4,7 +4,7 @@ use Rattle.std.specs.List.{last_or}
 use Rattle.std.proofs.lemmas.List.{length-map}
 use Rattle.std.proofs.lemmas.Result.{err_from_is_err_and}
 use Rattle.lists.specs.Lists.{numbers_where}
-use Rattle.json_read.specs.Table.{AreDistinctNames}
+use Rattle.json_values.specs.Table.{AreDistinctNames}
 use Rattle.table_rows.specs.Columns.{renamed, is_twice, refused_label}
 use Rattle.table_terms.specs.declared.renames.Rename.{Rename}
 use Rattle.table_rows.specs.declared.fault.TableWhy.TheVariants.{FieldTwice}

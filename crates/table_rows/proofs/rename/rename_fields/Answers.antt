@@ -1,7 +1,7 @@
 use Rattle.std.proofs.Common.{◌≡◌, map, length, subst, sym, ap, ◌∙◌}
 use Rattle.std.specs.Prelude.{Option, None, Ok, Err}
 use Rattle.std.proofs.lemmas.Result.{err_from_is_err_and}
-use Rattle.json_read.specs.Table.{AreRows}
+use Rattle.json_values.specs.Table.{AreRows}
 use Rattle.table_rows.specs.Columns.{renamed, refused_renames}
 use Rattle.table_terms.specs.Refusals.{unless}
 use Rattle.table_rows.proofs.Answering.{answers_other, refused_alone, unless_parts, unless_refused}

@@ -1,5 +1,5 @@
 use Rattle.std.proofs.Common.{sym}
-use Rattle.json_read.specs.declared.value.Value.TheVariants.{Null}
+use Rattle.json_values.specs.declared.value.Value.TheVariants.{Null}
 use Rattle.table_rows.proofs.TakenRows.{missing_is_default}
 use Rattle.table_rows.proofs.rows.copy_at.Goals as goal
 

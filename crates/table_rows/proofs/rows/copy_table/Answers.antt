@@ -1,5 +1,5 @@
 use Rattle.std.proofs.Common.{length, ap, sym, subst₂, ◌∙◌}
-use Rattle.json_read.specs.Table.{AreRows}
+use Rattle.json_values.specs.Table.{AreRows}
 use Rattle.table_rows.proofs.rows.copy_table.Goals as goal
 
 pub new-requires-clause-widths : goal.new-requires-clause-widths

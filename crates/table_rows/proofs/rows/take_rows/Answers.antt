@@ -1,5 +1,5 @@
 use Rattle.std.proofs.Common.{sym, subst, ℕ, ◌∙◌, ap, map, length}
-use Rattle.json_read.specs.Table.{AreRows}
+use Rattle.json_values.specs.Table.{AreRows}
 use Rattle.table_rows.specs.Rows.{row_at}
 use Rattle.table_rows.proofs.TakenRows.{taken_as_long}
 use Rattle.table_rows.proofs.rows.take_rows.Goals as goal

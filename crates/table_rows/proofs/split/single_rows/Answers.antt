@@ -1,5 +1,5 @@
 use Rattle.std.proofs.Common.{All, ◌<◌, length, take, subst, sym, arith, length-take}
-use Rattle.json_read.specs.Table.{RowValues}
+use Rattle.json_values.specs.Table.{RowValues}
 use Rattle.table_rows.specs.declared.split.SplitItem.{SplitItem}
 use Rattle.table_rows.proofs.Pieces.{singles_below}
 use Rattle.table_rows.proofs.split.single_rows.Goals as goal

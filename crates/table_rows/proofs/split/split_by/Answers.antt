@@ -1,6 +1,6 @@
 use Rattle.std.proofs.Common.{◌≡◌, ◌+◌, ◌<◌, All, List, [], ◌∷◌, map, length, sym, subst, ap, ◌∙◌}
 use Rattle.std.specs.Prelude.{Option, None, Ok}
-use Rattle.json_read.specs.Table.{RowValues}
+use Rattle.json_values.specs.Table.{RowValues}
 use Rattle.table_rows.specs.Rows.{picked}
 use Rattle.table_terms.specs.Names.{place_of}
 use Rattle.table_rows.specs.Groups.{groups_of}

@@ -1,6 +1,6 @@
 use Rattle.std.proofs.Common.{◌≡◌, ◌∙◌, ◌∷◌, [], ◌++◌, ap, pos, codes}
 use Rattle.std.proofs.lemmas.Result.{on_ok_weaker}
-use Rattle.json_read.specs.Decimal.{of_grid, decimal_text}
+use Rattle.numerals.specs.Decimal.{of_grid, decimal_text}
 use Rattle.geojson_io.specs.Texts.{grid_text}
 use Rattle.topo_io.proofs.TextLemmas.{five}
 use Rattle.topo_io.proofs.writing.write_head.Goals as goal

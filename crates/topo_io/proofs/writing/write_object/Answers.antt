@@ -1,6 +1,6 @@
 use Rattle.std.proofs.Common.{◌≡◌, ◌∙◌, ◌++◌, ap, map, codes}
 use Rattle.std.proofs.lemmas.Result.{on_ok_weaker}
-use Rattle.json_read.specs.Text.{string_text}
+use Rattle.json_values.specs.Text.{string_text}
 use Rattle.geojson_io.specs.Texts.{key_text}
 use Rattle.topo_io.specs.Texts.{geometries_text}
 use Rattle.topo_io.proofs.TextLemmas.{four}

@@ -1,5 +1,5 @@
 use Rattle.std.proofs.Common.{◌∙◌, sym, ap, subst, List, ◌++◌, take}
-use Rattle.json_read.specs.Table.{TableContent}
+use Rattle.json_values.specs.Table.{TableContent}
 use Rattle.table_rows.specs.Merge.{all_names}
 use Rattle.table_rows.proofs.Merging.{all_names_more}
 use Rattle.table_terms.specs.Names.{Text}

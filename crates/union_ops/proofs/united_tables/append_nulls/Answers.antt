@@ -1,8 +1,8 @@
 use Rattle.std.proofs.Common.{◌∙◌, sym, ap, arith, ◌<◌, [], ◌∷◌, ◌++◌, length, map, take, append_assoc}
 use Rattle.std.proofs.lemmas.List.{map_more}
-use Rattle.json_read.specs.Table.{RowValues}
-use Rattle.json_read.specs.declared.value.Value.{Value}
-use Rattle.json_read.specs.declared.value.Value.TheVariants.{Null}
+use Rattle.json_values.specs.Table.{RowValues}
+use Rattle.json_values.specs.declared.value.Value.{Value}
+use Rattle.json_values.specs.declared.value.Value.TheVariants.{Null}
 use Rattle.table_terms.specs.Names.{Text}
 use Rattle.union_ops.proofs.united_tables.append_nulls.Goals as goal
 

@@ -1,5 +1,5 @@
 use Rattle.std.proofs.Common.{◌≡◌, ◌++◌, map, take}
-use Rattle.json_read.specs.declared.value.Value.TheVariants.{Null}
+use Rattle.json_values.specs.declared.value.Value.TheVariants.{Null}
 use Rattle.table_terms.specs.Names.{Text}
 use Rattle.union_ops.proofs.united_tables.append_nulls.Given as goal
 

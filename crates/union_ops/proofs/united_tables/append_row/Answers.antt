@@ -2,7 +2,7 @@ use Rattle.std.proofs.Common.{◌≡◌, ◌∙◌, sym, ap, subst, ℕ, ◌+◌
 use Rattle.std.proofs.lemmas.List.{length-append}
 use Rattle.std.proofs.lemmas.Option.{get_or_from_slice_get}
 use Rattle.std.proofs.lemmas.Result.{on_ok_weaker}
-use Rattle.json_read.specs.Table.{RowValues, AreRows}
+use Rattle.json_values.specs.Table.{RowValues, AreRows}
 use Rattle.table_rows.specs.Rows.{row_at}
 use Rattle.table_rows.proofs.TakenRows.{long_at}
 use Rattle.union_ops.proofs.united_tables.append_row.Goals as goal

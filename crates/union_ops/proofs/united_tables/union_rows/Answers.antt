@@ -1,6 +1,6 @@
 use Rattle.std.proofs.Common.{◌≡◌, ◌∙◌, sym, ap, subst, ◌∷◌, ◌++◌, [], length}
 use Rattle.std.proofs.lemmas.List.{map_more}
-use Rattle.json_read.specs.Table.{RowValues, AreRows}
+use Rattle.json_values.specs.Table.{RowValues, AreRows}
 use Rattle.table_rows.specs.Merge.{all_names}
 use Rattle.union_ops.specs.declared.union_lists.UnionItem.{UnionItem}
 use Rattle.union_ops.specs.Choices.{IsChoiceFrom}

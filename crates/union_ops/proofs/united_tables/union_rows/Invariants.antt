@@ -1,5 +1,5 @@
 use Rattle.std.proofs.Common.{◌≡◌, length, map, take}
-use Rattle.json_read.specs.Table.{AreRows}
+use Rattle.json_values.specs.Table.{AreRows}
 use Rattle.table_rows.specs.Merge.{all_names}
 use Rattle.union_ops.specs.declared.union_lists.UnionItem.{UnionItem}
 use Rattle.union_ops.specs.UnionTable.{union_row}

@@ -1,6 +1,6 @@
 use Rattle.std.proofs.Common.{◌∙◌, sym, ap, subst, ℕ, List, length, map}
 use Rattle.std.proofs.lemmas.List.{length-map}
-use Rattle.json_read.specs.Table.{TableContent, AreRows}
+use Rattle.json_values.specs.Table.{TableContent, AreRows}
 use Rattle.table_rows.specs.Merge.{all_names}
 use Rattle.union_ops.specs.declared.union_lists.UnionItem.{UnionItem}
 use Rattle.union_ops.specs.ColumnNames.{AreNewNames}

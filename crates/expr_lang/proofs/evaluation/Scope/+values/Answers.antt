@@ -1,5 +1,5 @@
 use Rattle.std.proofs.Common.{ℕ, ◌≡◌, List, Ok, ap, sym, subst, ◌∙◌}
-use Rattle.json_read.specs.declared.value.Value.{Value}
+use Rattle.json_values.specs.declared.value.Value.{Value}
 use Rattle.expr_lang.specs.declared.token.Operator.{Operator}
 use Rattle.expr_lang.specs.Tree.{Tree, node_tree, binary}
 use Rattle.expr_lang.specs.Meaning.{Evaluated, Answers, evaluated, on_ok, joined}

@@ -1,6 +1,6 @@
 use Rattle.std.proofs.Common.{◌≡◌, length}
 use Rattle.expr_lang.specs.Tokens.{is_name_byte}
-use Rattle.json_read.specs.Reading.{drop_while}
+use Rattle.numerals.specs.Bytes.{drop_while}
 use Rattle.expr_lang.proofs.scanner.Scanner.name_bytes.Given as goal
 
 abbrev pub invariant-loop-self : goal.invariant-loop-self

@@ -1,6 +1,5 @@
 use Rattle.std.proofs.Common.{◌≡◌, length}
-use Rattle.json_read.specs.Bytes.{is_white}
-use Rattle.json_read.specs.Reading.{drop_while}
+use Rattle.numerals.specs.Bytes.{is_white, drop_while}
 use Rattle.expr_lang.proofs.scanner.Scanner.skip_white.Given as goal
 
 abbrev pub invariant-loop-self : goal.invariant-loop-self

@@ -1,6 +1,6 @@
 use Rattle.std.proofs.Common.{◌≡◌, ◌+◌, ◌∙◌, ap, sym, subst, map, List, Err, get_or, arith}
 use Rattle.std.proofs.lemmas.Result.{err_from_is_err_and}
-use Rattle.json_read.specs.Seen.{json_value}
+use Rattle.json_values.specs.Seen.{json_value}
 use Rattle.geojson_io.specs.Features.{numbered, members}
 use Rattle.geojson_io.specs.declared.reading.features.Feature.{Feature}
 use Rattle.geojson_io.proofs.FeatureLemmas.{IsNumberedTo, one_member_more, member_stops, all_members, fault_passes_on}

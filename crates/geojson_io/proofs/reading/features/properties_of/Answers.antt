@@ -1,5 +1,5 @@
 use Rattle.std.proofs.Common.{arith}
-use Rattle.json_read.specs.Lists.{fields_list}
+use Rattle.json_values.specs.Lists.{fields_list}
 use Rattle.geojson_io.proofs.PropertyLemmas.{next_is_new, one_property_more}
 use Rattle.geojson_io.proofs.reading.features.properties_of.Goals as goal
 

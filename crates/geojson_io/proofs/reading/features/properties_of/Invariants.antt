@@ -1,5 +1,5 @@
 use Rattle.std.proofs.Common.{◌≡◌, map, take}
-use Rattle.json_read.specs.Lists.{fields_list}
+use Rattle.json_values.specs.Lists.{fields_list}
 use Rattle.geojson_io.specs.Features.{property}
 use Rattle.geojson_io.proofs.reading.features.properties_of.Given as goal
 

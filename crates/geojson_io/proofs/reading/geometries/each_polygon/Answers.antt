@@ -1,7 +1,7 @@
 use Rattle.std.proofs.Common.{◌∙◌, ap, sym, subst, map, List, Err}
 use Rattle.plane_model.specs.Drawing.{Polygon}
 use Rattle.std.proofs.lemmas.Result.{err_from_is_err_and}
-use Rattle.json_read.specs.Seen.{json_value}
+use Rattle.json_values.specs.Seen.{json_value}
 use Rattle.geojson_io.specs.Positions.{rings}
 use Rattle.geojson_io.specs.Geometries.{each_with_rings}
 use Rattle.geojson_io.proofs.ReadLemmas.{passes_on}

@@ -1,7 +1,7 @@
 use Rattle.std.proofs.Common.{sym, subst, List}
-use Rattle.json_read.specs.Json.{JsonValue}
-use Rattle.json_read.specs.Seen.{json_value}
-use Rattle.json_read.specs.declared.json.Json.{Json}
+use Rattle.json_values.specs.Json.{JsonValue}
+use Rattle.json_values.specs.Seen.{json_value}
+use Rattle.json_values.specs.declared.json.Json.{Json}
 use Rattle.geojson_io.specs.Reads.{Answers}
 use Rattle.geojson_io.specs.Geometries.{each_with_rings, several_polygons}
 use Rattle.geojson_io.proofs.reading.geometries.several_polygons.Goals as goal

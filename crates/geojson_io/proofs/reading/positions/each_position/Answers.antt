@@ -1,6 +1,6 @@
 use Rattle.std.proofs.Common.{◌+◌, ◌∙◌, ap, sym, subst, map, List, Err}
 use Rattle.std.proofs.lemmas.Result.{err_from_is_err_and}
-use Rattle.json_read.specs.Seen.{json_value}
+use Rattle.json_values.specs.Seen.{json_value}
 use Rattle.plane_model.specs.Points.{GridPoint}
 use Rattle.geojson_io.specs.Reads.{each}
 use Rattle.geojson_io.specs.Positions.{position}

@@ -1,5 +1,5 @@
 use Rattle.std.proofs.Common.{◌≡◌, ◌≤◌, ◌+◌, ◌++◌, drop}
-use Rattle.json_read.specs.Decimal.{last_digits}
+use Rattle.numerals.specs.Decimal.{last_digits}
 use Rattle.geojson_io.proofs.writing.numbers.put_digits.Given as goal
 
 abbrev pub invariant-loop-left : goal.invariant-loop-left

@@ -1,6 +1,6 @@
 use Rattle.std.proofs.Common.{◌≡◌, ◌≤◌, ◌^◌, ◌%◌, ◌/◌, ◌++◌, ℕ, length, drop, decimal, rules, arith, ap, ◌∙◌, w64, FitsSigned, to_z-of_z}
 use Rattle.std.specs.Prelude.{unsigned_abs}
-use Rattle.json_read.specs.Decimal.{is_negative}
+use Rattle.numerals.specs.Decimal.{is_negative}
 use Rattle.geojson_io.specs.Numbers.{fraction_text, whole_digits}
 use Rattle.geojson_io.proofs.NumberLemmas.{unit_positive, short_whole, number_written}
 use Rattle.geojson_io.proofs.writing.numbers.put_number.Goals as goal

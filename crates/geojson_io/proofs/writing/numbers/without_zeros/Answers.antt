@@ -1,5 +1,5 @@
 use Rattle.std.proofs.Common.{arith, ◌-◌, ◌∙◌, sym, inl, inr}
-use Rattle.json_read.proofs.Digits.{trim_step, trim_end}
+use Rattle.numerals.proofs.Digits.{trim_step, trim_end}
 use Rattle.geojson_io.proofs.writing.numbers.without_zeros.Goals as goal
 
 pub loop-left-preserved : goal.loop-left-preserved

@@ -1,5 +1,5 @@
 use Rattle.std.proofs.Common.{◌≡◌, ◌≤◌}
-use Rattle.json_read.specs.Decimal.{trimmed_digits}
+use Rattle.numerals.specs.Decimal.{trimmed_digits}
 use Rattle.geojson_io.proofs.writing.numbers.without_zeros.Given as goal
 
 abbrev pub invariant-loop-left : goal.invariant-loop-left

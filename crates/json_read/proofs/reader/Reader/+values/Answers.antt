@@ -1,11 +1,11 @@
 use Rattle.std.proofs.Common.{arith, refl, ◌-◌, suc, ◌≡◌, codes, true, false, inl, inr, rules}
-use Rattle.json_read.specs.Bytes.{is_white}
-use Rattle.json_read.specs.Json.{ItemList, FieldList}
+use Rattle.numerals.specs.Bytes.{is_white}
+use Rattle.json_values.specs.Json.{ItemList, FieldList}
 use Rattle.json_read.proofs.reader.Reader.+values.Goals.{value-in_default-first-via-then-this-lt48, value-in_default-first-via-else-this-lt48+else-this-lt58}
-use Rattle.json_read.specs.Grammar.{is_null, is_true, is_false}
+use Rattle.json_values.specs.Grammar.{is_null, is_true, is_false}
 use Rattle.json_read.specs.Machine.{in_array, in_object, first_value, first_name, is_value}
 use Rattle.json_read.specs.Reading.{ArrayText, ObjectText}
-use Rattle.json_read.specs.declared.json.Json.TheVariants as json
+use Rattle.json_values.specs.declared.json.Json.TheVariants as json
 use Rattle.json_read.proofs.Arrays.{array_empty, array_init, array_more, array_ends, array_item_breaks, array_comma_breaks}
 use Rattle.json_read.proofs.Objects.{object_empty, object_init, object_more, object_ends, object_name_breaks, object_item_breaks, object_comma_breaks}
 use Rattle.json_read.proofs.Values.{padded_passes, padded_breaks, no_value, string_value, string_value_breaks, number_value, number_value_breaks, word_value, word_value_breaks, too_deep, nothing_begins, held_value, held_breaks}

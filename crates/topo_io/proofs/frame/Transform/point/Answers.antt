@@ -1,6 +1,6 @@
 use Rattle.std.proofs.Common.{rules, ◌≡◌, Some, FitsSigned, to_z-of_z}
 use Rattle.std.specs.Int.{w64}
-use Rattle.json_read.specs.Numeral.{checked_grid}
+use Rattle.numerals.specs.Numeral.{checked_grid}
 use Rattle.grid_base.specs.Grid.{grid_point}
 use Rattle.topo_io.specs.Transform.{axis_place}
 use Rattle.topo_io.proofs.PlaceLemmas.{point_is}

@@ -1,5 +1,5 @@
 use Rattle.std.proofs.Common.{◌≡◌, ℕ, ◌+◌, ◌++◌, ◌∷◌, [], ◌∙◌, ap, sym, subst, length, length-append, map, arith, List, Ok, Err}
-use Rattle.json_read.specs.Seen.{json_value}
+use Rattle.json_values.specs.Seen.{json_value}
 use Rattle.plane_model.specs.Points.{Path}
 use Rattle.geojson_io.specs.Reads.{on_ok}
 use Rattle.topo_io.specs.Reads.{along, in_place}

@@ -1,7 +1,7 @@
 use Rattle.std.proofs.Common.{◌≡◌, ℕ, [], ◌∷◌, length-append, ◌+◌, ◌∙◌, All, ap, sym, subst, map, length, List, Err, get_or, arith}
 use Rattle.std.proofs.lemmas.List.Elements.{All-push}
 use Rattle.std.proofs.lemmas.Result.{err_from_is_err_and}
-use Rattle.json_read.specs.Seen.{json_value}
+use Rattle.json_values.specs.Seen.{json_value}
 use Rattle.geojson_io.specs.declared.reading.features.Feature.{Feature}
 use Rattle.geojson_io.proofs.FeatureLemmas.{IsNumberedTo, member_stops, one_member_more}
 use Rattle.geojson_io.specs.Sound.{FeatureIsSound}

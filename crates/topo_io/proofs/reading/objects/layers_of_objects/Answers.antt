@@ -1,9 +1,9 @@
 use Rattle.std.proofs.Common.{ℕ, ◌∙◌, All, ap, sym, subst, List, Err, arith}
 use Rattle.std.proofs.lemmas.List.Elements.{All-nil}
 use Rattle.std.proofs.lemmas.Result.{err_from_is_err_and}
-use Rattle.json_read.specs.Json.{JsonValue}
-use Rattle.json_read.specs.Lists.{fields_list}
-use Rattle.json_read.specs.Seen.{json_value}
+use Rattle.json_values.specs.Json.{JsonValue}
+use Rattle.json_values.specs.Lists.{fields_list}
+use Rattle.json_values.specs.Seen.{json_value}
 use Rattle.geojson_io.specs.LayerContent.{LayerContent}
 use Rattle.geojson_io.specs.Sound.{LayerIsSound}
 use Rattle.topo_io.proofs.ObjectLemmas.{AreLayersTo, all_layers, no_layers, numbers_at, object_more, object_stops}

@@ -1,5 +1,5 @@
 use Rattle.std.proofs.Common.{◌≤◌, All}
-use Rattle.json_read.specs.Lists.{fields_list}
+use Rattle.json_values.specs.Lists.{fields_list}
 use Rattle.geojson_io.specs.Sound.{LayerIsSound}
 use Rattle.topo_io.proofs.ObjectLemmas.{AreLayersTo}
 use Rattle.topo_io.proofs.reading.objects.layers_of_objects.Given as goal

@@ -1,6 +1,6 @@
 use Rattle.std.proofs.Common.{rules, ◌≡◌, ◌+ℤ◌, Some, None, if◌then◌else◌, FitsSigned, to_z-of_z}
 use Rattle.std.specs.Int.{w64}
-use Rattle.json_read.specs.Seen.{json_value}
+use Rattle.json_values.specs.Seen.{json_value}
 use Rattle.topo_io.specs.Positions.{is_sum}
 use Rattle.topo_io.proofs.SumLemmas.{sums_are, sums_past}
 use Rattle.topo_io.proofs.reading.positions.sums_after.Goals as goal

@@ -1,7 +1,7 @@
 use Rattle.std.proofs.Common.{sym, subst, List}
-use Rattle.json_read.specs.Json.{JsonValue}
-use Rattle.json_read.specs.Seen.{json_value}
-use Rattle.json_read.specs.declared.json.Json.{Json}
+use Rattle.json_values.specs.Json.{JsonValue}
+use Rattle.json_values.specs.Seen.{json_value}
+use Rattle.json_values.specs.declared.json.Json.{Json}
 use Rattle.topo_io.specs.Reads.{Answers}
 use Rattle.topo_io.specs.Shapes.{polygon_of}
 use Rattle.topo_io.specs.Stitching.{rings_of}

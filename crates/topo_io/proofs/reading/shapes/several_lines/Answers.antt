@@ -1,7 +1,7 @@
 use Rattle.std.proofs.Common.{◌∙◌, All, ap, sym, subst, map, List, Err}
 use Rattle.std.proofs.lemmas.List.Elements.{All-nil}
 use Rattle.std.proofs.lemmas.Result.{err_from_is_err_and}
-use Rattle.json_read.specs.Seen.{json_value}
+use Rattle.json_values.specs.Seen.{json_value}
 use Rattle.plane_model.specs.Points.{Path}
 use Rattle.topo_io.specs.Shapes.{several_lines}
 use Rattle.topo_io.specs.Stitching.{has_points, path_of}

@@ -1,7 +1,7 @@
 use Rattle.std.proofs.Common.{◌∙◌, All, ap, sym, subst, map, List, Err}
 use Rattle.std.proofs.lemmas.List.Elements.{All-nil}
 use Rattle.std.proofs.lemmas.Result.{err_from_is_err_and}
-use Rattle.json_read.specs.Seen.{json_value}
+use Rattle.json_values.specs.Seen.{json_value}
 use Rattle.plane_model.specs.Drawing.{Polygon}
 use Rattle.geojson_io.specs.Geometries.{has_rings}
 use Rattle.topo_io.specs.Shapes.{polygon_of, several_polygons}

@@ -1,6 +1,6 @@
 use Rattle.std.proofs.Common.{[], ◌∙◌, ap, sym, subst, map, refl, Err}
 use Rattle.std.proofs.lemmas.Result.{err_from_is_err_and}
-use Rattle.json_read.specs.Seen.{json_value}
+use Rattle.json_values.specs.Seen.{json_value}
 use Rattle.plane_model.specs.Points.{Path}
 use Rattle.topo_io.specs.Stitching.{stitched, with_arc}
 use Rattle.topo_io.proofs.ReadLemmas.{passes_on}

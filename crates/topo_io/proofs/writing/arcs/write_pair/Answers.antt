@@ -1,6 +1,6 @@
 use Rattle.std.proofs.Common.{◌≡◌, ◌++◌, refl, to_z-of_z}
 use Rattle.std.proofs.lemmas.Result.{on_ok_weaker}
-use Rattle.json_read.specs.Decimal.{of_grid}
+use Rattle.numerals.specs.Decimal.{of_grid}
 use Rattle.geojson_io.specs.Texts.{grid_text}
 use Rattle.geojson_io.proofs.TextLemmas.{point_written}
 use Rattle.topo_io.proofs.writing.arcs.write_pair.Goals as goal

@@ -1,6 +1,6 @@
 use Rattle.std.proofs.Common.{◌≡◌, ◌∙◌, ap, ◌++◌, to_z-of_z}
 use Rattle.std.proofs.lemmas.Result.{on_ok_weaker}
-use Rattle.json_read.specs.Decimal.{of_grid, decimal_text}
+use Rattle.numerals.specs.Decimal.{of_grid, decimal_text}
 use Rattle.topo_io.proofs.writing.arcs.write_whole.Goals as goal
 
 pub returns : goal.returns

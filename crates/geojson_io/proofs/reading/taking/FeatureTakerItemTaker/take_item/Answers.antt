@@ -1,5 +1,5 @@
 use Rattle.std.proofs.Common.{◌≡◌, refl, sym, subst, ◌∙◌, None}
-use Rattle.json_read.specs.Seen.{json_value}
+use Rattle.json_values.specs.Seen.{json_value}
 use Rattle.json_read.specs.Taking.{TakesOne}
 use Rattle.geojson_io.specs.Taking.{HasTaken}
 use Rattle.geojson_io.specs.declared.reading.taking.FeatureTaker.{FeatureTaker}

@@ -1,9 +1,0 @@
-use Rattle.std.proofs.Common.{◌≡◌, ◌≤◌}
-use Rattle.json_read.specs.Decimal.{trimmed_digits}
-use Rattle.json_read.proofs.decimal.print_trimmed.Given as goal
-
-abbrev pub invariant-loop-count : goal.invariant-loop-count
-invariant-loop-count l = (l.count ≤ 18) × (trimmed_digits l.fn.count l.fn.n ≡ trimmed_digits l.count l.n)
-
-abbrev pub decreases-loop-count : goal.decreases-loop-count
-decreases-loop-count l = l.count

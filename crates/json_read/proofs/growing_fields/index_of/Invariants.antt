@@ -1,8 +1,0 @@
-use Rattle.std.proofs.Common.{◌≡◌, [], take, map}
-use Rattle.std.specs.String.{string_bytes, string_eq}
-use Rattle.indexmap.specs.IndexSet.{IsUnique}
-use Rattle.json_read.specs.Table.{add_names}
-use Rattle.json_read.proofs.growing_fields.index_of.Given as goal
-
-abbrev pub invariant-loop-i : goal.invariant-loop-i
-invariant-loop-i l = (map string_bytes l.names.keys ≡ add_names [] (map (λ f. f.0) (take l.i l.fields-inside.fields.items))) × IsUnique string_eq l.names

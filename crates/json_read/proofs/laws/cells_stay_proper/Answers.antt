@@ -1,5 +1,0 @@
-use Rattle.json_read.proofs.PrintedCells.{cell_proper}
-use Rattle.json_read.proofs.laws.cells_stay_proper.Goals as goal
-
-pub returns : goal.returns
-returns c = cell_proper

@@ -1,5 +1,0 @@
-use Rattle.json_read.proofs.RoundTrip.{reads_back}
-use Rattle.json_read.proofs.laws.decimals_read_back.Goals as goal
-
-pub returns : goal.returns
-returns c units l = reads_back units l

@@ -1,5 +1,0 @@
-use Rattle.json_read.proofs.NumbersAreNumerals.{number_has_value, numeral_is_number}
-use Rattle.json_read.proofs.laws.numbers_are_numerals.Goals as goal
-
-pub returns : goal.returns
-returns c t = (number_has_value t, numeral_is_number t)

@@ -1,5 +1,0 @@
-use Rattle.json_read.proofs.PrintedTexts.{printed_text_denotes}
-use Rattle.json_read.proofs.laws.printed_texts_denote.Goals as goal
-
-pub returns : goal.returns
-returns c d v p = printed_text_denotes d v p

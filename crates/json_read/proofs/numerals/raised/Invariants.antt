@@ -1,6 +1,0 @@
-use Rattle.std.proofs.Common.{◌≡◌, ◌*◌, ◌^◌, min}
-use Rattle.json_read.specs.Units.{units_cap}
-use Rattle.json_read.proofs.numerals.raised.Given as goal
-
-abbrev pub invariant-loop : goal.invariant-loop
-invariant-loop l = l.n ≡ min (l.fn.n * 10 ^ l.counter) units_cap

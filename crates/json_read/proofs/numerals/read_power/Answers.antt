@@ -1,6 +1,0 @@
-use Rattle.std.proofs.Common.{pos, refl}
-use Rattle.json_read.proofs.NumeralParts.{exponent_none}
-use Rattle.json_read.proofs.numerals.read_power.Goals as goal
-
-pub returns-in_default : goal.returns-in_default
-returns-in_default c = (pos 0, exponent_none c.args.text.now c.in_default.len_below, refl)

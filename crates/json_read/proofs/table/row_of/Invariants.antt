@@ -1,7 +1,0 @@
-use Rattle.std.proofs.Common.{◌≡◌, length, take, map}
-use Rattle.std.specs.String.{string_bytes}
-use Rattle.json_read.specs.Table.{row_of}
-use Rattle.json_read.proofs.table.row_of.Given as goal
-
-abbrev pub invariant-loop-i : goal.invariant-loop-i
-invariant-loop-i l = l.row ≡ row_of (map string_bytes l.names.keys) (take (length l.yielded) l.fn.fields)

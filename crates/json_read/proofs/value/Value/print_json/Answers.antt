@@ -1,9 +1,0 @@
-use Rattle.std.proofs.lemmas.Result.{on_ok_weaker}
-use Rattle.json_read.specs.Value.{value_text}
-use Rattle.json_read.proofs.PrintedCells.{printed_cell_denotes}
-use Rattle.json_read.proofs.value.Value.print_json.Goals as goal
-
-pub returns-clause-denotes : goal.returns-clause-denotes
-returns-clause-denotes c =
-    let v = c.args.self.now in
-    on_ok_weaker c.print_value.result (λ e d p. (value_text v, e, printed_cell_denotes d v p)) c.print_value.ensures.ok

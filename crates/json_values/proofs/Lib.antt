@@ -1,0 +1,10 @@
+pub mod Seen
+pub mod Putting
+pub mod Tables
+pub mod NamedValues
+pub mod Escapes
+pub mod Sameness
+pub mod Indexing
+pub mod PrintedTexts
+pub mod PrintedCells
+pub mod NumberTexts

@@ -1,0 +1,5 @@
+use Rattle.json_values.proofs.PrintedCells.{cell_proper}
+use Rattle.json_values.proofs.laws.cells_stay_proper.Goals as goal
+
+pub returns : goal.returns
+returns c = cell_proper

@@ -1,0 +1,13 @@
+pub mod Json
+pub mod Seen
+pub mod Falls
+pub mod Code
+pub mod Lists
+pub mod Grammar
+pub mod Putting
+pub mod Laws
+pub mod Text
+pub mod Value
+pub mod Table
+pub mod Proper
+pub mod ProperCells

@@ -1,0 +1,12 @@
+pub mod Products
+pub mod SignedProducts
+pub mod Decimals
+pub mod Digits
+pub mod Scaling
+pub mod NumeralParts
+pub mod Shifts
+pub mod Quotients
+pub mod Rounding
+pub mod NumbersAreNumerals
+pub mod RoundTrip
+pub mod GridNumbers

@@ -1,0 +1,59 @@
+ghost use Rattle.std.specs.Prelude.{◌≡◌, ◌≤◌, None, MatchOption};
+ghost use Rattle.grid_bounds.specs.Bounds.{limit};
+ghost use Rattle.numerals.specs.Numeral.{grid_of_text, numeral_of, signed};
+ghost use Rattle.numerals.specs.Plain.{IsSize};
+ghost use Rattle.numerals.specs.Scaling.{goes_up, one_if};
+
+use crate::numerals::Scaled;
+use crate::plain_numeral::Plain;
+use crate::units::any_size_of;
+use grid_bounds::LIMIT;
+
+/// Grid numbers go this far, either way.
+const GRID_LIMIT: u128 = LIMIT as u128;
+
+/// The grid number of a decimal numeral.
+///
+/// Shape and units: `places` decimal places, so that 1 in the result is 10^-`places`.
+/// Errors: `None` where the grid number passes [`LIMIT`] either way, and for a text that is no numeral.
+/// Cost: one pass over the digits; takes no memory.
+/// Source: RFC 8259, section 6, for the numeral; the rounding `floor(v * 10^places + 1/2)` is ours.
+pub fn numeral_to_grid(text: &str, places: u8) -> Option<i64>
+    ensures exact { result ≡ grid_of_text places text.now }
+{
+    let (minus, scaled) = size_of(text.as_bytes(), places)?;
+    let size = scaled.units + rounding(&scaled, minus);
+    if size > GRID_LIMIT {
+        return None;
+    }
+    Some(with_sign(minus, size))
+}
+
+// Whether a numeral has a minus, and its size in units of 10^-`places`.
+fn size_of(text: &[u8], places: u8) -> Option<(bool, Scaled)>
+    ensures { MatchOption result (numeral_of text.now ≡ None) (λ r. IsSize places (numeral_of text.now) r.0 r.1) }
+{
+    match Plain::read(text) {
+        Some(plain) => Some((plain.minus, plain.scaled(places))),
+        None => any_size_of(text, places),
+    }
+}
+
+// What rounding adds to the size. Halves go up: away from zero above it, towards zero below it.
+fn rounding(scaled: &Scaled, minus: bool) -> u128
+    ensures { result ≡ one_if (goes_up minus scaled.now) }
+{
+    if scaled.tenths > 5 || scaled.tenths == 5 && (scaled.more || !minus) {
+        1
+    } else {
+        0
+    }
+}
+
+fn with_sign(minus: bool, size: u128) -> i64
+    requires { size ≤ limit }
+    ensures { result ≡ signed minus size }
+{
+    let size = size as i64;
+    if minus { -size } else { size }
+}
