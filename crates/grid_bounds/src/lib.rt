@@ -1,6 +1,6 @@
 //! How far the grid goes: the limit of its numbers, and its greatest number of decimal places.
 //!
-//! They stand apart from `grid_base`, which hands them on, so that the numerals of `json_read` needn't wait for points.
+//! They stand apart from `grid_base`, which hands them on, so that `numerals` needn't wait for points.
 #![tactic(auto)]
 
 /// A number of the grid is at most this, either way: 200,000,000,000.
