@@ -19,13 +19,13 @@ mod running;
 mod tests;
 
 use comparing::{Difference, difference_of};
-use json_read::Json;
+use json_read::{Json, ReadJson};
 use running::run_case;
 use std::io;
 
 fn main(rt: HostRuntime) -> io::Result<()> {
     let text = io::read_to_string(rt.alloc(), rt.stdin())?;
-    let Ok(Json::List(cases)) = json_read::parse(rt.alloc(), text.as_bytes()) else {
+    let Ok(Json::List(cases)) = Json::parse(rt.alloc(), text.as_bytes()) else {
         return println!(rt; "no list of cases");
     };
     let mut different = 0u64;

@@ -9,3 +9,4 @@ pub mod KindLemmas
 pub mod SoundLemmas
 pub mod SoundReads
 mod TakingLemmas
+mod StraightLemmas

@@ -9,3 +9,4 @@ pub mod Sound
 pub mod Texts
 pub mod Numbers
 pub mod Taking
+pub mod Straight

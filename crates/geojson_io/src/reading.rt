@@ -9,6 +9,8 @@ mod features;
 mod geometries;
 mod layering;
 mod positions;
+mod straight_features;
+mod straight_shapes;
 mod taking;
 mod types;
 

@@ -21,4 +21,5 @@ pub mod AsciiStrings
 pub mod Depths
 pub mod Unique
 pub mod ProperValues
-mod Taking
+pub mod Taking
+mod Straight

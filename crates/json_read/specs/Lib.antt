@@ -4,3 +4,4 @@ pub mod AsciiStrings
 pub mod Faults
 pub mod Laws
 pub mod Taking
+pub mod Straight

@@ -1,6 +1,6 @@
 //! JSON texts (RFC 8259), read.
 //!
-//! In: bytes. `parse` gives the value that they denote, or the kind and the place of the first fault: the length of the
+//! In: bytes. `Json::parse` gives the value that they denote, or the kind and the place of the first fault: the length of the
 //! longest prefix that begins some text. `parse_taking` reads the same of an object, and hands the items of one array
 //! in it to an `ItemTaker`, each as soon as it is read, so that a long list is never kept whole.
 //!
@@ -18,5 +18,5 @@ mod reader;
 pub use fault::JsonFault;
 pub use json_values::{Fields, FieldsList, Json, JsonFields, JsonList, Row, RowList, Table, Value};
 pub use numerals::{Decimal, is_numeral, numeral_to_grid, whole_units};
-pub use parsing::parse;
-pub use reader::{Fault, ItemTaker, TakenObject, parse_taking};
+pub use parsing::ReadJson;
+pub use reader::{Fault, ItemTaker, MemberTaker, Reader, TakenObject, ValueTaker, parse_taking};

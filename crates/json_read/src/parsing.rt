@@ -11,22 +11,28 @@ use crate::reader::{Fault, Reader, Stop};
 use json_values::Json;
 use std::alloc::Global;
 
-/// The value that the bytes denote, where they are a text of the grammar.
-///
-/// Shape: arrays and objects nest at most 64 deep; a repeated name keeps its first place and its last
-/// value; a number keeps its spelling.
-/// Errors: the place and the kind of the first fault, or `Memory`.
-/// Source: RFC 8259; the byte order mark, the depth and U+FFFD for half a surrogate pair are ours.
-pub fn parse(alloc: Global, bytes: &[u8]) -> Result<Json, JsonFault>
-    ensures ok { IfOk result (λ json. JsonText 64 bytes.now (json_value json)) }
-    ensures proper { IfOk result (λ json. IsProper 64 (json_value json)) }
-    ensures fault { IfErr result (FaultFits 64 bytes.now) }
-{
-    let mut reader = Reader::new(alloc, bytes);
-    match reader.text() {
-        Ok(json) => Ok(json),
-        Err(Stop::Memory) => Err(JsonFault::Memory),
-        Err(Stop::Fault(fault)) => Err(fault_at(fault, bytes.len() - reader.left())),
+/// Reading a JSON value: `Json::parse`. It is a trait since values stand in a crate below the reader.
+pub trait ReadJson {
+    /// The value that the bytes denote, where they are a text of the grammar.
+    ///
+    /// Shape: arrays and objects nest at most 64 deep; a repeated name keeps its first place and its last
+    /// value; a number keeps its spelling.
+    /// Errors: the place and the kind of the first fault, or `Memory`.
+    /// Source: RFC 8259; the byte order mark, the depth and U+FFFD for half a surrogate pair are ours.
+    fn parse(alloc: Global, bytes: &[u8]) -> Result<Json, JsonFault>
+        ensures ok { IfOk result (λ json. JsonText 64 bytes.now (json_value json)) }
+        ensures proper { IfOk result (λ json. IsProper 64 (json_value json)) }
+        ensures fault { IfErr result (FaultFits 64 bytes.now) };
+}
+
+impl ReadJson for Json {
+    fn parse(alloc: Global, bytes: &[u8]) -> Result<Json, JsonFault> {
+        let mut reader = Reader::new(alloc, bytes);
+        match reader.text() {
+            Ok(json) => Ok(json),
+            Err(Stop::Memory) => Err(JsonFault::Memory),
+            Err(Stop::Fault(fault)) => Err(fault_at(fault, bytes.len() - reader.left())),
+        }
     }
 }
 

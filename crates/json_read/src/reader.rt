@@ -10,11 +10,13 @@ ghost use Rattle.json_read.specs.AsciiStrings.{stands_alone, AllAlone, ClosesAsA
 ghost use Rattle.json_read.specs.declared.reader.Fault.TheVariants.{Syntax};
 ghost use Rattle.json_read.specs.declared.reader.Stop.TheVariants.{Memory};
 
+mod straight;
 mod taking;
 
 use json_values::{GrowingFields, Json, JsonFields, JsonList};
 use numerals::digit_count;
 use std::alloc::{AllocError, Global};
+pub use straight::{MemberTaker, ValueTaker};
 pub use taking::{ItemTaker, TakenObject, parse_taking};
 use text_core::Text;
 

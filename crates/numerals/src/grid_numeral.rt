@@ -1,12 +1,10 @@
-ghost use Rattle.std.specs.Prelude.{◌≡◌, ◌≤◌, None, MatchOption};
+ghost use Rattle.std.specs.Prelude.{◌≡◌, ◌≤◌};
 ghost use Rattle.grid_bounds.specs.Bounds.{limit};
-ghost use Rattle.numerals.specs.Numeral.{grid_of_text, numeral_of, signed};
-ghost use Rattle.numerals.specs.Plain.{IsSize};
+ghost use Rattle.numerals.specs.Numeral.{grid_of_text, signed};
 ghost use Rattle.numerals.specs.Scaling.{goes_up, one_if};
 
 use crate::numerals::Scaled;
-use crate::plain_numeral::Plain;
-use crate::units::any_size_of;
+use crate::units::size_of;
 use grid_bounds::LIMIT;
 
 /// Grid numbers go this far, either way.
@@ -27,16 +25,6 @@ pub fn numeral_to_grid(text: &str, places: u8) -> Option<i64>
         return None;
     }
     Some(with_sign(minus, size))
-}
-
-// Whether a numeral has a minus, and its size in units of 10^-`places`.
-fn size_of(text: &[u8], places: u8) -> Option<(bool, Scaled)>
-    ensures { MatchOption result (numeral_of text.now ≡ None) (λ r. IsSize places (numeral_of text.now) r.0 r.1) }
-{
-    match Plain::read(text) {
-        Some(plain) => Some((plain.minus, plain.scaled(places))),
-        None => any_size_of(text, places),
-    }
 }
 
 // What rounding adds to the size. Halves go up: away from zero above it, towards zero below it.

@@ -6,7 +6,7 @@ ghost use Rattle.numerals.specs.Scaling.{AreDigits, IsRead, IsScaled, IsCut, IsP
 ghost use Rattle.numerals.specs.Units.{units_cap};
 
 /// Numbers are counted no further than this: 10^37.
-const UNITS_CAP: u128 = 10_000_000_000_000_000_000_000_000_000_000_000_000;
+pub(crate) const UNITS_CAP: u128 = 10_000_000_000_000_000_000_000_000_000_000_000_000;
 /// Exponents are counted no further than this, either way: far more than a text has digits.
 const POWER_CAP: u128 = 1_000_000_000_000_000_000_000_000_000_000;
 

@@ -1,9 +1,10 @@
-ghost use Rattle.std.specs.Prelude.{◌≡◌, ℕ, suc, ◌<◌, ◌≤◌, ◌^◌, pos, ◌+ℤ◌, ◌-ℤ◌, IfSome, length, take};
+ghost use Rattle.std.specs.Prelude.{◌≡◌, ℕ, suc, ◌<◌, ◌≤◌, ◌*◌, ◌^◌, min, pos, ◌+ℤ◌, ◌-ℤ◌, IfSome, length, take};
 ghost use Rattle.numerals.specs.Numeral.{digits_at, number_onto, numeral_of, unsigned_numeral};
 ghost use Rattle.numerals.specs.Plain.{HasFraction, IsPlain};
 ghost use Rattle.numerals.specs.Scaling.{IsScaled, IsCut};
+ghost use Rattle.numerals.specs.Units.{units_cap};
 
-use crate::numerals::{Scaled, is_digit, is_whole, raised};
+use crate::numerals::{Scaled, UNITS_CAP, is_digit, is_whole, raised};
 
 /// A digit may follow a number below this: 10^17.
 const NUMBER_LIMIT: u64 = 100_000_000_000_000_000;
@@ -57,7 +58,7 @@ impl Plain {
             return cut_number(self.number, self.fraction - places);
         }
         Scaled {
-            units: raised(u128::from(self.number), (places - self.fraction) as u128),
+            units: raised_word(self.number, places - self.fraction),
             tenths: 0,
             more: false,
         }
@@ -110,6 +111,29 @@ fn cut_number(n: u64, dropped: usize) -> Scaled
         tenths: (n % unit / tenth) as u8,
         more: n % tenth != 0,
     }
+}
+
+// n * 10^power, counted no further than 10^37.
+fn raised_word(n: u64, power: usize) -> u128
+    ensures { result ≡ min (n * 10 ^ power) units_cap }
+{
+    if power > GREATEST_FRACTION {
+        return raised(u128::from(n), power as u128);
+    }
+    times(n, wide_ten_to(power)).min(UNITS_CAP)
+}
+
+fn times(a: u64, b: u64) -> u128
+    ensures { result ≡ a * b }
+{
+    u128::from(a) * u128::from(b)
+}
+
+fn wide_ten_to(power: usize) -> u64
+    requires { power ≤ 18 }
+    ensures { result ≡ 10 ^ power }
+{
+    10_u64.pow(power as u32)
 }
 
 fn ten_to(power: usize) -> u64

@@ -28,7 +28,7 @@ mod texts;
 use case_lists::{Tally, list_at, list_in, text_in, told, unknown_call};
 use drawings::drawing_of;
 use grid_base::Drawing;
-use json_read::Json;
+use json_read::{Json, ReadJson};
 use laid::{Laid, laid_out};
 use std::alloc::{AllocError, Global};
 use std::io;
@@ -36,7 +36,7 @@ use text_core::Bytes;
 
 fn main(rt: HostRuntime) -> io::Result<()> {
     let text = io::read_to_string(rt.alloc(), rt.stdin())?;
-    let Ok(Json::List(groups)) = json_read::parse(rt.alloc(), text.as_bytes()) else {
+    let Ok(Json::List(groups)) = Json::parse(rt.alloc(), text.as_bytes()) else {
         return println!(rt; "no list of groups");
     };
     let mut tally = Tally::new();

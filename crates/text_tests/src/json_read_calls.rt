@@ -8,7 +8,7 @@
 use case_lists::{bytes_at, bytes_of_text, list_at, number_at, text_at, told, unknown_call};
 use geojson_io::properties_of;
 use io_core::{Bytes, Text};
-use json_read::{FieldsList, Json, Row, Table, Value, numeral_to_grid};
+use json_read::{FieldsList, Json, ReadJson, Row, Table, Value, numeral_to_grid};
 use std::alloc::{AllocError, Global};
 
 /// What a call of `json_read` answers to a case, as this module says; to a call that isn't there, what `unknown_call`
@@ -26,7 +26,7 @@ pub fn answer(alloc: Global, call: &str, case: &[Json]) -> Result<Bytes, AllocEr
 
 fn parsed(alloc: Global, case: &[Json]) -> Result<Bytes, AllocError> {
     let bytes = bytes_at(alloc, case, 0)?;
-    match json_read::parse(alloc, &bytes) {
+    match Json::parse(alloc, &bytes) {
         Ok(_) => bytes_of_text(alloc, "read"),
         Err(fault) => told(alloc, &fault),
     }
@@ -34,7 +34,7 @@ fn parsed(alloc: Global, case: &[Json]) -> Result<Bytes, AllocError> {
 
 fn printed(alloc: Global, case: &[Json]) -> Result<Bytes, AllocError> {
     let bytes = bytes_at(alloc, case, 0)?;
-    let json = match json_read::parse(alloc, &bytes) {
+    let json = match Json::parse(alloc, &bytes) {
         Ok(json) => json,
         Err(fault) => return told(alloc, &fault),
     };
@@ -45,7 +45,7 @@ fn printed(alloc: Global, case: &[Json]) -> Result<Bytes, AllocError> {
 
 fn printed_as_value(alloc: Global, case: &[Json]) -> Result<Bytes, AllocError> {
     let bytes = bytes_at(alloc, case, 0)?;
-    let json = match json_read::parse(alloc, &bytes) {
+    let json = match Json::parse(alloc, &bytes) {
         Ok(json) => json,
         Err(fault) => return told(alloc, &fault),
     };

@@ -18,13 +18,13 @@ mod topo_io_calls;
 
 use case_lists::{Tally, list_at, list_in, text_in, unknown_call};
 use io_core::Bytes;
-use json_read::Json;
+use json_read::{Json, ReadJson};
 use std::alloc::{AllocError, Global};
 use std::io;
 
 fn main(rt: HostRuntime) -> io::Result<()> {
     let text = io::read_to_string(rt.alloc(), rt.stdin())?;
-    let Ok(Json::List(groups)) = json_read::parse(rt.alloc(), text.as_bytes()) else {
+    let Ok(Json::List(groups)) = Json::parse(rt.alloc(), text.as_bytes()) else {
         return println!(rt; "no list of groups");
     };
     let mut tally = Tally::new();

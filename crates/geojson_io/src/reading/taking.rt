@@ -3,12 +3,14 @@ ghost use Rattle.grid_base.specs.Grid.{most_places};
 ghost use Rattle.json_read.specs.Faults.{FaultFits};
 ghost use Rattle.geojson_io.specs.Taking.{AreLayersOf, IsParsed, IsValueOf, IsWholeOnlyOf, ParsedIsSound};
 
+mod straight;
+
 use crate::fault::ShapeFault;
 use crate::layer::{GeoLayers, Room};
 use crate::reading::features::{Feature, numbered};
 use crate::reading::layering::layers_of;
 use crate::reading::types::{Member, type_of};
-use json_read::{ItemTaker, Json, JsonFault};
+use json_read::{ItemTaker, Json, JsonFault, ReadJson, Reader};
 use std::alloc::{AllocError, Global};
 
 /// A JSON text as it was read.
@@ -37,6 +39,13 @@ impl ItemTaker for FeatureTaker {
     ghost use Rattle.geojson_io.specs.Taking.{HasTaken};
 
     ghost took = { HasTaken };
+
+    fn take_text(&mut self, reader: &mut Reader<'_>, depth: u32) -> Result<bool, AllocError> {
+        if self.fault.is_some() || self.number >= self.limit {
+            return Ok(false);
+        }
+        self.take_straight(reader, depth)
+    }
 
     fn take_item(&mut self, item: Json) -> Result<(), AllocError> {
         if self.fault.is_some() {
@@ -67,7 +76,7 @@ impl ItemTaker for FeatureTaker {
 /// is kept than a feature at a time.
 ///
 /// Shape and units: as `read_geojson`, whose answer the layers of a FeatureCollection, or its fault, are.
-/// Errors: as `json_read::parse`, also where a feature has a fault too.
+/// Errors: as `Json::parse`, also where a feature has a fault too.
 /// Source: RFC 8259; RFC 7946, section 3.3.
 pub fn parse_features(
     alloc: Global,
@@ -107,7 +116,7 @@ fn parse_value(alloc: Global, bytes: &[u8]) -> Result<Parsed, JsonFault>
     ensures ok { IfOk result (IsValueOf bytes.now) }
     ensures fault { IfErr result (FaultFits 64 bytes.now) }
 {
-    Ok(Parsed::Value(json_read::parse(alloc, bytes)?))
+    Ok(Parsed::Value(Json::parse(alloc, bytes)?))
 }
 
 impl FeatureTaker {

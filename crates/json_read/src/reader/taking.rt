@@ -5,6 +5,7 @@ ghost use Rattle.json_values.specs.Json.{JsonValue};
 ghost use Rattle.json_values.specs.Seen.{json_value};
 ghost use Rattle.json_read.specs.Faults.{FaultFits};
 ghost use Rattle.json_read.specs.Taking.{TakesOne, TakesArray, TakesValue, TakesMember, TakesObject, TakesText, HasOtherMember, IsNoFirstArray, IsReadOtherwise, IsTakenText};
+ghost use Rattle.json_read.specs.Straight.{HasRead, TakesItem};
 
 use crate::fault::JsonFault;
 use crate::parsing::fault_at;
@@ -18,6 +19,13 @@ use text_core::Text;
 /// `took` says of its state at first and its state now that it has taken these values in between, in order.
 pub trait ItemTaker {
     ghost took: { Self → Self → List JsonValue → Type 0 };
+
+    /// Reads the next item, with white space around it, and takes it, as `take_item` would.
+    ///
+    /// `false` where it isn't read so, and then nothing was taken; nothing is said of what is left to read.
+    fn take_text(&mut self, reader: &mut Reader<'_>, depth: u32) -> Result<bool, AllocError>
+        ensures taken { IfOk result (λ is_taken. is_taken ≡ true → (first : Self) → HasRead depth (TakesOne (took first self.old) (took first self.new)) reader.old reader.new) }
+        ensures kept { IfOk result (λ is_taken. is_taken ≡ false → self.new ≡ self.old) };
 
     /// Takes the next item.
     fn take_item(&mut self, item: Json) -> Result<(), AllocError>
@@ -174,13 +182,26 @@ impl<'a> Reader<'a> {
             return Ok(());
         }
         loop {
-            let item = self.padded(depth)?;
-            taker.take_item(item)?;
+            self.item_taking(depth, taker)?;
             if self.take(b']') {
                 return Ok(());
             }
             self.expect(b',')?;
         }
+    }
+
+    // The next item, with white space around it.
+    fn item_taking<T: ItemTaker>(&mut self, depth: u32, taker: &mut T) -> Result<(), Stop>
+        ensures { (first : T) → TakesItem depth (T.took first taker.old) (T.took first taker.new) result self.old.rest.now self.new.rest.now }
+    {
+        let start = self.rest;
+        if taker.take_text(self, depth)? {
+            return Ok(());
+        }
+        self.rest = start;
+        let item = self.padded(depth)?;
+        taker.take_item(item)?;
+        Ok(())
     }
 }
 

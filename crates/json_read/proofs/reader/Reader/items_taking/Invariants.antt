@@ -2,8 +2,8 @@ use Rattle.std.proofs.Common.{length}
 use Rattle.json_read.proofs.Taking.{ItemsTaken}
 use Rattle.json_read.proofs.reader.Reader.items_taking.Given as goal
 
-abbrev pub invariant-loop-item : goal.invariant-loop-item
-invariant-loop-item g l = (first : _) → ItemsTaken l.depth (g.T.ItemTaker.took first l.fn.taker) (g.T.ItemTaker.took first l.taker) l.fn.self.rest.now l.self.rest.now
+abbrev pub invariant-loop-self : goal.invariant-loop-self
+invariant-loop-self g l = (first : _) → ItemsTaken l.depth (g.T.ItemTaker.took first l.fn.taker) (g.T.ItemTaker.took first l.taker) l.fn.self.rest.now l.self.rest.now
 
-abbrev pub decreases-loop-item : goal.decreases-loop-item
-decreases-loop-item g l = length l.self.rest.now
+abbrev pub decreases-loop-self : goal.decreases-loop-self
+decreases-loop-self g l = length l.self.rest.now

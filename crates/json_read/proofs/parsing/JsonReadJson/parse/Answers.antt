@@ -5,7 +5,7 @@ use Rattle.json_read.specs.declared.fault.JsonFault.{JsonFault}
 use Rattle.json_read.specs.declared.reader.TheConstants.{GREATEST_DEPTH}
 use Rattle.json_read.proofs.Viability.{fault_fits, is_fault}
 use Rattle.json_read.proofs.ProperValues.{text_proper}
-use Rattle.json_read.proofs.parsing.parse.Goals as goal
+use Rattle.json_read.proofs.parsing.JsonReadJson.parse.Goals as goal
 
 pub returns-in-Ok-clause-proper : goal.returns-in-Ok-clause-proper
 returns-in-Ok-clause-proper c =

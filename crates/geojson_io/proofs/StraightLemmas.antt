@@ -1,0 +1,263 @@
+-- Features that are read straight from their texts.
+use Rattle.std.proofs.Common.{◌≡◌, ℕ, ℤ, ◌-◌, ◌<◌, ◌≤◌, List, [], ◌∷◌, ◌++◌, length, refl, sym, ap, ◌∙◌, subst, arith, eqb, Bool, true, false, not, Option, Some, None, Result, Ok, Err, codes}
+use Rattle.std.specs.Prelude.{if◌then◌else◌, IfSome, MatchOption, is_some}
+use Rattle.std.specs.Str.{bytes_eq}
+use Rattle.std.proofs.lemmas.Bool.{cond-false, ne_eqb, le-ltb}
+use Rattle.json_values.specs.Json.{JsonValue, ItemList, FieldList, null, boolean, number, string, array, object, no_items, item}
+use Rattle.json_values.specs.Lists.{items_list, fields_list, put, value_named}
+use Rattle.numerals.specs.Numeral.{grid_of_text}
+use Rattle.json_read.specs.Straight.{IsPair, IsTakenArray, IsTakenObject, PutsOne}
+use Rattle.json_values.specs.Table.{NamedValues}
+use Rattle.json_read.specs.Taking.{TakesOne}
+use Rattle.json_values.proofs.Putting.{same_bytes}
+use Rattle.json_read.proofs.Taking.{value_put_other, value_put_same}
+use Rattle.plane_model.specs.Points.{GridPoint, Path}
+use Rattle.plane_model.specs.Drawing.{Polygon}
+use Rattle.grid_base.specs.Grid.{grid_point}
+use Rattle.geojson_io.specs.Reads.{Reads, Fault, on_ok, each, gives, fails, ◌>>=◌}
+use Rattle.geojson_io.specs.Positions.{numbered_point, or_range, position, positions, items_of, line, line_of, ring, ring_of, rings, is_closed}
+use Rattle.geojson_io.specs.Geometries.{geo_type_of, geometry, shape_of, shape_typed, some_points, some_lines, some_polygons, text_of, with_rings}
+use Rattle.geojson_io.specs.Features.{feature, feature_of_fields, in_feature, numbered, or_null, properties}
+use Rattle.geojson_io.specs.Straight.{ReadsAs, ReadsListAs, HasEach, Member, HasType, HasShape, HasGeometry, HasParts}
+use Rattle.geojson_io.specs.declared.fault.ShapeWhy.{ShapeWhy}
+use Rattle.geojson_io.specs.declared.fault.ShapeWhy.TheVariants.{BadPosition, Collection, LineShort, NotGeo, RingOpen, RingShort}
+use Rattle.geojson_io.specs.declared.shape.GeoShape.{GeoShape}
+use Rattle.geojson_io.specs.declared.shape.GeoShape.TheVariants.{Lines, Points, Polygons}
+use Rattle.geojson_io.specs.declared.reading.features.Feature.{Feature}
+use Rattle.geojson_io.specs.declared.reading.types.GeoType.{GeoType}
+use Rattle.geojson_io.specs.declared.reading.types.GeoType.TheVariants as type
+use Rattle.geojson_io.specs.declared.reading.types.Member.TheVariants as member
+use Rattle.geojson_io.specs.declared.reading.straight_features.GeometryTaker.{GeometryTaker}
+use Rattle.geojson_io.specs.declared.reading.straight_features.PartTaker.{PartTaker}
+use Rattle.geojson_io.proofs.ReadLemmas.{each_more}
+
+-- ## Positions, and lists of them
+
+pub position_read : (places room : ℕ) (x y : ℤ) (p : GridPoint) (v : JsonValue) → (room ≡ 0 → ⊥) → IsPair places x y v → Some p ≡ grid_point x y → ReadsListAs (position places) room p (room - 1) v
+position_read places room x y p v n h e =
+    let read : position places (array (item (number h.0) (item (number h.1) no_items))) room ≡ Ok (p, room - 1) =
+    cond-false (eqb room 0) _ _ (ne_eqb room 0 n) ∙ (λ i. on_ok (or_range (numbered_point (h.3 i) (h.4 i))) (λ (q : GridPoint). Ok (q, room - 1))) ∙ ap (λ (o : Option GridPoint). on_ok (or_range o) (λ (q : GridPoint). Ok (q, room - 1))) (sym e) in
+    ((number h.0, item (number h.1) no_items, h.2), subst (λ (w : JsonValue). position places w room ≡ Ok (p, room - 1)) (sym h.2) read)
+
+pub each_taken : {A : Type 0} (read : ℕ → JsonValue → Reads ShapeWhy A) (first_places room places left : ℕ) (xs : List A) (x : A) (after : ℕ) (ys : List A) (v : JsonValue)
+    → ReadsAs (read places) left x after v → ys ≡ xs ++ x ∷ [] → TakesOne (HasEach read first_places room places left xs) (HasEach read first_places room places after ys) v
+each_taken {A} read first_places room places left xs x after ys v e s vs h =
+    (h.0, each_more (read first_places) vs v room xs left x after h.1 (subst (λ (n : ℕ). read n v left ≡ Ok (x, after)) h.0 e) ∙ ap (λ (zs : List A). Ok (zs, after)) (sym s))
+
+pub list_read : {A : Type 0} (read : ℕ → JsonValue → Reads ShapeWhy A) (places room now : ℕ) (start xs : List A) (after : ℕ) (v : JsonValue)
+    → start ≡ [] → IsTakenArray (HasEach read places room places room start) (HasEach read places room now after xs) v → ReadsAs (λ (j : JsonValue). items_of j >>= each (read places)) room xs after v
+list_read {A} read places room now start xs after v s h =
+    subst (λ (w : JsonValue). (items_of w >>= each (read places)) room ≡ Ok (xs, after)) (sym h.1) (h.2 [] (refl, ap (λ (zs : List A). Ok (zs, room)) (sym s))).1
+
+abbrev line_if : Bool → Path → Reads ShapeWhy Path
+line_if short path = if short then fails LineShort else gives path
+
+pub line_read : (places room : ℕ) (path : Path) (after : ℕ) (v : JsonValue) → ReadsAs (positions places) room path after v → 2 ≤ length path → ReadsAs (line places) room path after v
+line_read places room path after v e l =
+    ap (λ (r : Result (Path × ℕ) ShapeWhy). on_ok r (λ (p : Path × ℕ). line_of p.0 p.1)) e ∙ ap (λ (b : Bool). line_if b path after) (le-ltb (length path) 2 l)
+
+abbrev ring_if : Bool → Bool → Path → Reads ShapeWhy Path
+ring_if short closed path = if short then fails RingShort else (if closed then gives path else fails RingOpen)
+
+pub ring_read : (places room : ℕ) (path : Path) (after : ℕ) (v : JsonValue) → ReadsAs (positions places) room path after v → 4 ≤ length path → is_closed path ≡ true → ReadsAs (ring places) room path after v
+ring_read places room path after v e l c =
+    ap (λ (r : Result (Path × ℕ) ShapeWhy). on_ok r (λ (p : Path × ℕ). ring_of p.0 p.1)) e ∙ (λ i. ring_if (le-ltb (length path) 4 l i) (c i) path after)
+
+-- ## Shapes
+
+no_fault : {A E : Type 0} (x : E) (y : A) → Err x ≡ Ok y → ⊥
+no_fault x y e = cc
+
+abbrev one_point : Result (GridPoint × ℕ) ShapeWhy → Result (GeoShape × ℕ) ShapeWhy
+one_point r = on_ok (on_ok r (λ (q : GridPoint × ℕ). Ok (q.0 ∷ [], q.1))) (λ (q : List GridPoint × ℕ). Ok (some_points q.0, q.1))
+
+pub point_shape : (places room : ℕ) (p : GridPoint) (after : ℕ) (v : JsonValue) (ps : List GridPoint) → ReadsListAs (position places) room p after v → ps ≡ p ∷ [] → ReadsAs (shape_of places type.Point) room (Points ps) after v
+point_shape places room p after v ps h s =
+    let e : position places (array (item h.0.0 h.0.1)) room ≡ Ok (p, after) = subst (λ (w : JsonValue). position places w room ≡ Ok (p, after)) h.0.2 h.1 in
+    subst (λ (w : JsonValue). shape_of places type.Point w room ≡ Ok (Points ps, after)) (sym h.0.2) (ap one_point e ∙ ap (λ (qs : List GridPoint). Ok (Points qs, after)) (sym s))
+
+pub points_shape : (places room : ℕ) (ps : List GridPoint) (after : ℕ) (v : JsonValue) (shape : GeoShape) → ReadsAs (positions places) room ps after v → shape ≡ some_points ps → ReadsAs (shape_of places type.MultiPoint) room shape after v
+points_shape places room ps after v shape e s =
+    ap (λ (r : Result (List GridPoint × ℕ) ShapeWhy). on_ok r (λ (q : List GridPoint × ℕ). Ok (some_points q.0, q.1))) e ∙ ap (λ (g : GeoShape). Ok (g, after)) (sym s)
+
+abbrev one_line : Result (Path × ℕ) ShapeWhy → Result (GeoShape × ℕ) ShapeWhy
+one_line r = on_ok (on_ok r (λ (q : Path × ℕ). Ok (q.0 ∷ [], q.1))) (λ (q : List Path × ℕ). Ok (some_lines q.0, q.1))
+
+pub line_shape : (places room : ℕ) (path : Path) (after : ℕ) (v : JsonValue) (ls : List Path) → ReadsAs (line places) room path after v → ls ≡ path ∷ [] → ReadsAs (shape_of places type.LineString) room (Lines ls) after v
+line_shape places room path after (array (item w ws)) ls e s = ap one_line e ∙ ap (λ (qs : List Path). Ok (Lines qs, after)) (sym s)
+line_shape places room path after (array no_items) ls e s = absurd (no_fault LineShort (path, after) e)
+line_shape places room path after null ls e s = absurd (no_fault BadPosition (path, after) e)
+line_shape places room path after (boolean b) ls e s = absurd (no_fault BadPosition (path, after) e)
+line_shape places room path after (number n) ls e s = absurd (no_fault BadPosition (path, after) e)
+line_shape places room path after (string t) ls e s = absurd (no_fault BadPosition (path, after) e)
+line_shape places room path after (object fs) ls e s = absurd (no_fault BadPosition (path, after) e)
+
+abbrev one_polygon : Result (Polygon × ℕ) ShapeWhy → Result (GeoShape × ℕ) ShapeWhy
+one_polygon r = on_ok (on_ok r (λ (q : Polygon × ℕ). with_rings (q.0 ∷ []) q.1)) (λ (q : List Polygon × ℕ). Ok (some_polygons q.0, q.1))
+
+pub polygon_shape : (places room : ℕ) (polygon : Polygon) (after : ℕ) (v : JsonValue) (ps : List Polygon) → ReadsAs (rings places) room polygon after v → (length polygon ≡ 0 → ⊥) → ps ≡ polygon ∷ [] → ReadsAs (shape_of places type.Polygon) room (Polygons ps) after v
+polygon_shape places room [] after v ps e n s = absurd (n refl)
+polygon_shape places room (r ∷ rs) after v ps e n s = ap one_polygon e ∙ ap (λ (qs : List Polygon). Ok (Polygons qs, after)) (sym s)
+
+-- ## Geometries
+
+-- no member yet, or a type
+abbrev StartsWith : List Member → Option GeoType → Type 0
+StartsWith fs kind = MatchOption kind (fs ≡ []) (λ t. (s : List ℕ) × (geo_type_of s ≡ Some t) × (fs ≡ (codes "type", string s) ∷ []))
+
+pub type_taken : (first old new : GeometryTaker) (s : List ℕ) (t : GeoType) (v : JsonValue)
+    → old.kind ≡ None → old.shape ≡ None → v ≡ string s → geo_type_of s ≡ Some t → new.places ≡ old.places → new.left ≡ old.left → new.kind ≡ Some t → new.shape ≡ None → PutsOne (HasGeometry first old) (HasGeometry first new) (codes "type") v
+type_taken first old new s t v kind shape is named places left new_kind new_shape fs h =
+    let before : HasType first old fs = subst (λ (o : Option GeoShape). MatchOption o (HasType first old fs) (λ g. HasShape first old g fs)) shape h.1 in
+    let none : fs ≡ [] = subst (StartsWith fs) kind before.1 in
+    let later : List Member = put fs (codes "type") v in
+    let one : later ≡ (codes "type", string s) ∷ [] = ap (λ (gs : List Member). put gs (codes "type") v) none ∙ ap (λ (w : JsonValue). (codes "type", w) ∷ []) is in
+    (places ∙ h.0,
+      subst (λ (o : Option GeoShape). MatchOption o (HasType first new later) (λ g. HasShape first new g later)) (sym new_shape)
+      (left ∙ before.0, subst (StartsWith later) (sym new_kind) (s, named, one)))
+
+pub coordinates_taken : (first old new : GeometryTaker) (t : GeoType) (g : GeoShape) (v : JsonValue)
+    → old.kind ≡ Some t → old.shape ≡ None → ReadsAs (shape_of old.places t) old.left g new.left v → new.places ≡ old.places → new.shape ≡ Some g → PutsOne (HasGeometry first old) (HasGeometry first new) (codes "coordinates") v
+coordinates_taken first old new t g v kind shape read places new_shape fs h =
+    let before : HasType first old fs = subst (λ (o : Option GeoShape). MatchOption o (HasType first old fs) (λ g. HasShape first old g fs)) shape h.1 in
+    let typed : (s : List ℕ) × (geo_type_of s ≡ Some t) × (fs ≡ (codes "type", string s) ∷ []) = subst (StartsWith fs) kind before.1 in
+    let later : List Member = put fs (codes "coordinates") v in
+    let two : later ≡ (codes "type", string typed.0) ∷ (codes "coordinates", v) ∷ [] = ap (λ (gs : List Member). put gs (codes "coordinates") v) typed.2 in
+    let read_first : shape_of first.places t v first.left ≡ Ok (g, new.left) = subst (λ (n : ℕ). shape_of first.places t v n ≡ Ok (g, new.left)) before.0 (subst (λ (n : ℕ). shape_of n t v old.left ≡ Ok (g, new.left)) h.0 read) in
+    (places ∙ h.0, subst (λ (o : Option GeoShape). MatchOption o (HasType first new later) (λ g. HasShape first new g later)) (sym new_shape) (typed.0, t, v, typed.1, two, read_first))
+
+no_collection : (s : List ℕ) (t : GeoType) → geo_type_of s ≡ Some t → bytes_eq s (codes "GeometryCollection") ≡ false
+no_collection s t e = go (bytes_eq s (codes "GeometryCollection")) refl
+  where
+    go : (b : Bool) → bytes_eq s (codes "GeometryCollection") ≡ b → b ≡ false
+    go true h = absurd (let none : None ≡ Some t = subst (λ (x : List ℕ). geo_type_of x ≡ Some t) (same_bytes s (codes "GeometryCollection") h) e in cc)
+    go false h = refl
+
+abbrev typed_if : ℕ → Bool → Option GeoType → Option JsonValue → Reads ShapeWhy GeoShape
+typed_if places collection t j = if collection then fails Collection else shape_typed places t j
+
+abbrev typed_at : ℕ → ℕ → List Member → Result (GeoShape × ℕ) ShapeWhy
+typed_at places room ms =
+    typed_if places (bytes_eq (text_of (value_named (codes "type") ms)) (codes "GeometryCollection")) (geo_type_of (text_of (value_named (codes "type") ms))) (value_named (codes "coordinates") ms) room
+
+pub geometry_read : (first now : GeometryTaker) (g : GeoShape) (v : JsonValue) → IsTakenObject (HasGeometry first first) (HasGeometry first now) v → first.kind ≡ None → first.shape ≡ None → now.shape ≡ Some g → ReadsAs (geometry first.places) first.left g now.left v
+geometry_read first now g v h kind shape now_shape =
+    let start : HasGeometry first first [] =
+    (refl,
+      subst (λ (o : Option GeoShape). MatchOption o (HasType first first []) (λ g. HasShape first first g [])) (sym shape)
+      (refl, subst (StartsWith []) (sym kind) refl)) in
+    let ms : List Member = fields_list h.0 in
+    let shaped : HasShape first now g ms = subst (λ (o : Option GeoShape). MatchOption o (HasType first now ms) (λ g. HasShape first now g ms)) now_shape (h.2 start).1 in
+    let read : typed_at first.places first.left ms ≡ Ok (g, now.left) =
+    ap (typed_at first.places first.left) shaped.4 ∙ (λ i. typed_if first.places (no_collection shaped.0 shaped.1 shaped.3 i) (shaped.3 i) (Some shaped.2) first.left) ∙ shaped.5 in
+    subst (λ (w : JsonValue). geometry first.places w first.left ≡ Ok (g, now.left)) (sym h.1) read
+
+-- ## Features
+
+abbrev Typed : Bool → Option JsonValue → Type 0
+Typed b m = b ≡ true → m ≡ Some (string (codes "Feature"))
+
+abbrev Named : Option NamedValues → Option JsonValue → Type 0
+Named o m = IfSome o (λ ps. (room : ℕ) → properties m room ≡ Ok (ps, room))
+
+abbrev Shaped : PartTaker → Option GeoShape → ℕ → Option JsonValue → Type 0
+Shaped first o left m = MatchOption o (left ≡ first.left) (λ g. ReadsAs (geometry first.places) first.left g left (or_null m))
+
+typed_as : (b c : Bool) (m n : Option JsonValue) → c ≡ b → n ≡ m → Typed b m → Typed c n
+typed_as b c m n e f h = subst (λ (o : Option JsonValue). Typed c o) (sym f) (subst (λ (d : Bool). Typed d m) (sym e) h)
+
+named_as : (o p : Option NamedValues) (m n : Option JsonValue) → p ≡ o → n ≡ m → Named o m → Named p n
+named_as o p m n e f h = subst (λ (j : Option JsonValue). Named p j) (sym f) (subst (λ (q : Option NamedValues). Named q m) (sym e) h)
+
+shaped_as : (first : PartTaker) (o p : Option GeoShape) (left after : ℕ) (m n : Option JsonValue) → p ≡ o → after ≡ left → n ≡ m → Shaped first o left m → Shaped first p after n
+shaped_as first o p left after m n e l f h =
+    subst (λ (j : Option JsonValue). Shaped first p after j) (sym f) (subst (λ (k : ℕ). Shaped first p k m) (sym l) (subst (λ (q : Option GeoShape). Shaped first q left m) (sym e) h))
+
+pub part_type : (first old new : PartTaker) (v : JsonValue) → v ≡ string (codes "Feature")
+    → new.places ≡ old.places → new.left ≡ old.left → new.fields ≡ old.fields → new.shape ≡ old.shape → PutsOne (HasParts first old) (HasParts first new) (codes "type") v
+part_type first old new v is places left fields shape fs h = record {
+  places = places ∙ h.places;
+  feature = λ e. value_put_same (codes "type") (codes "type") v fs refl ∙ ap (λ (w : JsonValue). Some w) is;
+  named = named_as old.fields new.fields _ _ fields (value_put_other (codes "properties") (codes "type") v fs refl) h.named;
+  shape = shaped_as first old.shape new.shape old.left new.left _ _ shape left (value_put_other (codes "geometry") (codes "type") v fs refl) h.shape;
+}
+
+pub part_geometry : (first old new : PartTaker) (g : GeoShape) (v : JsonValue) → old.shape ≡ None → ReadsAs (geometry old.places) old.left g new.left v
+    → new.places ≡ old.places → new.is_feature ≡ old.is_feature → new.fields ≡ old.fields → new.shape ≡ Some g → PutsOne (HasParts first old) (HasParts first new) (codes "geometry") v
+part_geometry first old new g v none read places is_feature fields shape fs h =
+    let left : old.left ≡ first.left = subst (λ (o : Option GeoShape). Shaped first o old.left (value_named (codes "geometry") fs)) none h.shape in
+    let read_first : ReadsAs (geometry first.places) first.left g new.left v = subst (λ (n : ℕ). geometry first.places v n ≡ Ok (g, new.left)) left (subst (λ (n : ℕ). geometry n v old.left ≡ Ok (g, new.left)) h.places read) in
+    record {
+      places = places ∙ h.places;
+      feature = typed_as old.is_feature new.is_feature _ _ is_feature (value_put_other (codes "type") (codes "geometry") v fs refl) h.feature;
+      named = named_as old.fields new.fields _ _ fields (value_put_other (codes "properties") (codes "geometry") v fs refl) h.named;
+      shape = shaped_as first (Some g) new.shape new.left new.left (Some v) _ shape refl (value_put_same (codes "geometry") (codes "geometry") v fs refl) read_first;
+    }
+
+pub part_properties : (first old new : PartTaker) (ps : NamedValues) (v : JsonValue) → ((room : ℕ) → properties (Some v) room ≡ Ok (ps, room))
+    → new.places ≡ old.places → new.left ≡ old.left → new.is_feature ≡ old.is_feature → new.fields ≡ Some ps → new.shape ≡ old.shape → PutsOne (HasParts first old) (HasParts first new) (codes "properties") v
+part_properties first old new ps v read places left is_feature fields shape fs h = record {
+  places = places ∙ h.places;
+  feature = typed_as old.is_feature new.is_feature _ _ is_feature (value_put_other (codes "type") (codes "properties") v fs refl) h.feature;
+  named = named_as (Some ps) new.fields (Some v) _ fields (value_put_same (codes "properties") (codes "properties") v fs refl) read;
+  shape = shaped_as first old.shape new.shape old.left new.left _ _ shape left (value_put_other (codes "geometry") (codes "properties") v fs refl) h.shape;
+}
+
+pub part_other : (first now : PartTaker) (name : List ℕ) (v : JsonValue) → bytes_eq name (codes "type") ≡ false → bytes_eq name (codes "geometry") ≡ false → bytes_eq name (codes "properties") ≡ false → PutsOne (HasParts first now) (HasParts first now) name v
+part_other first now name v t g p fs h = record {
+  places = h.places;
+  feature = typed_as now.is_feature now.is_feature _ _ refl (value_put_other (codes "type") name v fs t) h.feature;
+  named = named_as now.fields now.fields _ _ refl (value_put_other (codes "properties") name v fs p) h.named;
+  shape = shaped_as first now.shape now.shape now.left now.left _ _ refl refl (value_put_other (codes "geometry") name v fs g) h.shape;
+}
+
+-- a member by its name
+pub named_member : (P Q : List Member → Type 0) (name wanted : List ℕ) (v : JsonValue) → bytes_eq name wanted ≡ true → PutsOne P Q wanted v → PutsOne P Q name v
+named_member P Q name wanted v e h = subst (λ (n : List ℕ). PutsOne P Q n v) (sym (same_bytes name wanted e)) h
+
+abbrev feature_with : GeoShape → NamedValues → Feature
+feature_with g ps = record { shape = g; fields = ps }
+
+abbrev feature_if : ℕ → Bool → FieldList → Reads ShapeWhy Feature
+feature_if places typed fields = if typed then feature_of_fields places fields else fails NotGeo
+
+pub feature_read : (first now : PartTaker) (ps : NamedValues) (g : GeoShape) (v : JsonValue) → IsTakenObject (HasParts first first) (HasParts first now) v
+    → first.is_feature ≡ false → first.fields ≡ None → first.shape ≡ None → now.is_feature ≡ true → now.fields ≡ Some ps → now.shape ≡ Some g → ReadsAs (feature first.places) first.left (feature_with g ps) now.left v
+feature_read first now ps g v h untyped no_fields no_shape typed fields shape =
+    let start : HasParts first first [] = record {
+      places = refl;
+      feature = λ e. absurd (let t : false ≡ true = sym untyped ∙ e in cc);
+      named = named_as None first.fields None None no_fields refl tt;
+      shape = shaped_as first None first.shape first.left first.left None None no_shape refl refl refl;
+    } in
+    let ms : List Member = fields_list h.0 in
+    let end : HasParts first now ms = h.2 start in
+    let named : Named (Some ps) (value_named (codes "properties") ms) = subst (λ (o : Option NamedValues). Named o (value_named (codes "properties") ms)) fields end.named in
+    let shaped : Shaped first (Some g) now.left (value_named (codes "geometry") ms) = subst (λ (o : Option GeoShape). Shaped first o now.left (value_named (codes "geometry") ms)) shape end.shape in
+    let read : feature first.places (object h.0) first.left ≡ Ok (feature_with g ps, now.left) =
+    (λ i. feature_if first.places (bytes_eq (text_of (end.feature typed i)) (codes "Feature")) h.0 first.left)
+    ∙ ap (λ (r : Result (GeoShape × ℕ) ShapeWhy). on_ok r (λ (q : GeoShape × ℕ). on_ok (properties (value_named (codes "properties") ms) q.1) (λ (n : NamedValues × ℕ). Ok (feature_with q.0 n.0, n.1)))) shaped
+    ∙ ap (λ (r : Result (NamedValues × ℕ) ShapeWhy). on_ok r (λ (n : NamedValues × ℕ). Ok (feature_with g n.0, n.1))) (named now.left) in
+    subst (λ (w : JsonValue). feature first.places w first.left ≡ Ok (feature_with g ps, now.left)) (sym h.1) read
+
+pub feature_numbered : (places limit n room : ℕ) (v : JsonValue) (f : Feature) (after : ℕ) → n < limit → feature places v room ≡ Ok (f, after) → numbered member.Feature places limit (n, v) room ≡ Ok (f, after)
+feature_numbered places limit n room v f after l e =
+    cond-false (eqb n limit) _ _ (ne_eqb n limit (λ s. omega arith)) ∙ ap (λ (r : Result (Feature × ℕ) ShapeWhy). in_feature n r) e
+
+-- ## Options
+
+pub some_there : {A : Type 0} (P : A → Type 0) (o : Option A) → ((a : A) → o ≡ Some a → P a) → IfSome o P
+some_there P None h = tt
+some_there P (Some a) h = h a refl
+
+pub has_some : {A : Type 0} (P : A → Type 0) (o : Option A) → is_some o ≡ true → IfSome o P → (a : A) × P a
+has_some P None e h = absurd (let t : false ≡ true = e in cc)
+has_some P (Some a) e h = (a, h)
+
+pub nothing_there : {A : Type 0} (o : Option A) → is_some o ≡ false → o ≡ None
+nothing_there None e = refl
+nothing_there (Some a) e = absurd (let t : true ≡ false = e in cc)
+
+pub not_false : (b : Bool) → false ≡ not b → b ≡ true
+not_false true e = refl
+not_false false e = absurd (let t : false ≡ true = e in cc)

@@ -1,0 +1,211 @@
+ghost use Rattle.std.specs.Prelude.{◌≡◌, true, IfOk, IfSome, codes};
+ghost use Rattle.json_read.specs.Straight.{HasRead, PutsOne};
+ghost use Rattle.geojson_io.specs.Features.{feature};
+ghost use Rattle.geojson_io.specs.Geometries.{geometry};
+ghost use Rattle.geojson_io.specs.Straight.{ReadsAs, HasGeometry, HasParts};
+
+use crate::reading::features::{Feature, properties_of};
+use crate::reading::straight_shapes::straight_shape;
+use crate::reading::types::GeoType;
+use crate::shape::GeoShape;
+use json_read::{Fields, Json, MemberTaker, Reader};
+use std::alloc::{AllocError, Global};
+
+// These read features straight from a text. Each answers `None` or `false` where the text may be a fault, or is none of
+// the common forms; it is read as a JSON value then.
+
+// A geometry that is read member by member: its type, and then its coordinates.
+#[derive(Drop)]
+struct GeometryTaker {
+    alloc: Global,
+    places: u8,
+    left: u32,
+    kind: Option<GeoType>,
+    shape: Option<GeoShape>,
+}
+
+impl MemberTaker for GeometryTaker {
+    ghost use Rattle.geojson_io.specs.Straight.{HasGeometry};
+
+    ghost took = { HasGeometry };
+
+    fn take_member(
+        &mut self,
+        name: &str,
+        reader: &mut Reader<'_>,
+        depth: u32,
+    ) -> Result<bool, AllocError> {
+        if name == "type" {
+            return Ok(self.take_type(reader, depth));
+        }
+        if name == "coordinates" {
+            return self.take_coordinates(reader, depth);
+        }
+        Ok(false)
+    }
+}
+
+impl GeometryTaker {
+    fn take_type(&mut self, reader: &mut Reader<'_>, depth: u32) -> bool
+        ensures { result ≡ true → (first : GeometryTaker) → HasRead depth (PutsOne (HasGeometry first self.old) (HasGeometry first self.new) (codes "type")) reader.old reader.new }
+    {
+        if self.kind.is_some() || self.shape.is_some() {
+            return false;
+        }
+        let Some(name) = reader.plain_text() else {
+            return false;
+        };
+        let Some(kind) = GeoType::named(name) else {
+            return false;
+        };
+        self.kind = Some(kind);
+        true
+    }
+
+    fn take_coordinates(&mut self, reader: &mut Reader<'_>, depth: u32) -> Result<bool, AllocError>
+        ensures { IfOk result (λ is_taken. is_taken ≡ true → (first : GeometryTaker) → HasRead depth (PutsOne (HasGeometry first self.old) (HasGeometry first self.new) (codes "coordinates")) reader.old reader.new) }
+    {
+        let Some(kind) = self.kind else {
+            return Ok(false);
+        };
+        if self.shape.is_some() {
+            return Ok(false);
+        }
+        match straight_shape(self.alloc, kind, reader, depth, self.places, &mut self.left)? {
+            None => Ok(false),
+            Some(shape) => {
+                self.shape = Some(shape);
+                Ok(true)
+            }
+        }
+    }
+}
+
+fn straight_geometry(
+    alloc: Global,
+    reader: &mut Reader<'_>,
+    depth: u32,
+    places: u8,
+    left: &mut u32,
+) -> Result<Option<GeoShape>, AllocError>
+    ensures { IfOk result (λ found. IfSome found (λ shape. HasRead depth (ReadsAs (geometry places) left.old shape left.new) reader.old reader.new)) }
+{
+    let mut taker = GeometryTaker {
+        alloc,
+        places,
+        left: *left,
+        kind: None,
+        shape: None,
+    };
+    if !reader.members_by(depth, &mut taker)? {
+        return Ok(None);
+    }
+    *left = taker.left;
+    Ok(taker.shape)
+}
+
+// A feature that is read member by member, in any order.
+#[derive(Drop)]
+struct PartTaker {
+    alloc: Global,
+    places: u8,
+    left: u32,
+    is_feature: bool,
+    fields: Option<Fields>,
+    shape: Option<GeoShape>,
+}
+
+impl MemberTaker for PartTaker {
+    ghost use Rattle.geojson_io.specs.Straight.{HasParts};
+
+    ghost took = { HasParts };
+
+    fn take_member(
+        &mut self,
+        name: &str,
+        reader: &mut Reader<'_>,
+        depth: u32,
+    ) -> Result<bool, AllocError> {
+        if name == "type" {
+            return Ok(self.take_type(reader, depth));
+        }
+        if name == "geometry" {
+            return self.take_geometry(reader, depth);
+        }
+        if name == "properties" {
+            return self.take_properties(reader, depth);
+        }
+        let other = reader.any_value(depth)?;
+        Ok(other.is_some())
+    }
+}
+
+impl PartTaker {
+    fn take_type(&mut self, reader: &mut Reader<'_>, depth: u32) -> bool
+        ensures { result ≡ true → (first : PartTaker) → HasRead depth (PutsOne (HasParts first self.old) (HasParts first self.new) (codes "type")) reader.old reader.new }
+    {
+        let Some(name) = reader.plain_text() else {
+            return false;
+        };
+        if name != "Feature" {
+            return false;
+        }
+        self.is_feature = true;
+        true
+    }
+
+    fn take_geometry(&mut self, reader: &mut Reader<'_>, depth: u32) -> Result<bool, AllocError>
+        ensures { IfOk result (λ is_taken. is_taken ≡ true → (first : PartTaker) → HasRead depth (PutsOne (HasParts first self.old) (HasParts first self.new) (codes "geometry")) reader.old reader.new) }
+    {
+        if self.shape.is_some() {
+            return Ok(false);
+        }
+        match straight_geometry(self.alloc, reader, depth, self.places, &mut self.left)? {
+            None => Ok(false),
+            Some(shape) => {
+                self.shape = Some(shape);
+                Ok(true)
+            }
+        }
+    }
+
+    fn take_properties(&mut self, reader: &mut Reader<'_>, depth: u32) -> Result<bool, AllocError>
+        ensures { IfOk result (λ is_taken. is_taken ≡ true → (first : PartTaker) → HasRead depth (PutsOne (HasParts first self.old) (HasParts first self.new) (codes "properties")) reader.old reader.new) }
+    {
+        let Some(Json::Object(object)) = reader.any_value(depth)? else {
+            return Ok(false);
+        };
+        let fields = properties_of(self.alloc, &object)?;
+        self.fields = Some(fields);
+        Ok(true)
+    }
+}
+
+/// The next feature of a text, with white space around it; `None` where it has to be read as a JSON value.
+pub fn straight_feature(
+    alloc: Global,
+    reader: &mut Reader<'_>,
+    depth: u32,
+    places: u8,
+    left: &mut u32,
+) -> Result<Option<Feature>, AllocError>
+    ensures { IfOk result (λ found. IfSome found (λ read. HasRead depth (ReadsAs (feature places) left.old read left.new) reader.old reader.new)) }
+{
+    let mut taker = PartTaker {
+        alloc,
+        places,
+        left: *left,
+        is_feature: false,
+        fields: None,
+        shape: None,
+    };
+    if !reader.members_by(depth, &mut taker)? || !taker.is_feature {
+        return Ok(None);
+    }
+    let PartTaker { left: rest, fields, shape, .. } = taker;
+    let (Some(fields), Some(shape)) = (fields, shape) else {
+        return Ok(None);
+    };
+    *left = rest;
+    Ok(Some(Feature { shape, fields }))
+}

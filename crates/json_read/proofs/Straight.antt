@@ -1,0 +1,94 @@
+-- Values that are read straight from a text.
+use Rattle.std.proofs.Common.{ℕ, ℤ, suc, ◌≡◌, ◌++◌, List, [], ◌∷◌, refl, ap, sym, subst, Some}
+use Rattle.json_read.specs.AsciiStrings.{ClosesAsAscii}
+use Rattle.numerals.specs.Bytes.{is_white}
+use Rattle.json_values.specs.Json.{JsonValue, ItemList, FieldList, no_items, item, no_fields, fields_of, number, string}
+use Rattle.json_values.specs.Lists.{fields_list, put}
+use Rattle.json_read.specs.Machine.{in_array, in_object, is_name, is_value, first_value, first_name, next_name, value, after}
+use Rattle.numerals.specs.Numeral.{grid_of_text}
+use Rattle.json_read.specs.Reading.{MembersSoFar, NameText, NextIsNot, NumeralOf, Passes, PassesAt, ArrayText, ObjectText, Shows, inside, outside, behind}
+use Rattle.numerals.specs.Bytes.{drop_while}
+use Rattle.json_values.specs.Seen.{json_value}
+use Rattle.json_read.specs.Straight.{HasReadAt, HasTakenMembers, IsGridNumber, IsPair, IsTakenArray, IsTakenObject, PutsOne}
+use Rattle.json_read.specs.Taking.{HasTakenArray, HasValue, TakesOne}
+use Rattle.json_values.specs.declared.json.Json.{Json}
+use Rattle.json_values.specs.declared.json.Json.TheVariants as json
+use Rattle.json_read.proofs.Arrays.{ItemsSoFar, array_init, array_more, array_ends}
+use Rattle.json_read.proofs.AsciiStrings.{ascii_passes}
+use Rattle.json_read.proofs.Names.{name_passes}
+use Rattle.json_read.proofs.Objects.{object_init, object_more, object_ends}
+use Rattle.json_values.proofs.Seen.{Member, fields_list-fields_of}
+use Rattle.json_read.proofs.Taking.{ItemsTaken, items_more, items_end}
+use Rattle.json_read.proofs.Values.{held_value, number_value, padded_passes, string_value}
+use Rattle.json_read.proofs.Whiles.{next_fails_after}
+
+-- a value with white space around it
+value_around : (d : ℕ) (j : Json) (old m1 m2 new : List ℕ) → m1 ≡ drop_while is_white old → PassesAt (Shows d j) (outside d value) (outside d after) m1 m2 → new ≡ drop_while is_white m2 → HasValue d j old new
+value_around d j old m1 m2 new w a u = record { passes = padded_passes d j old m1 m2 new w a u; trimmed = next_fails_after is_white m2 new u }
+
+-- ## Texts and numbers
+
+pub text_read : (d : ℕ) (s old m1 m2 m3 new : List ℕ) → m1 ≡ drop_while is_white old → m1 ≡ 34 ∷ m2 → ClosesAsAscii s m2 m3 → new ≡ drop_while is_white m3 → HasReadAt d (λ v. v ≡ string s) old new
+text_read d s old m1 m2 m3 new w e h u = (json.Text s, value_around d (json.Text s) old m1 m3 new w (string_value d s m1 m2 m3 e (ascii_passes is_value s m2 m3 h)) u, refl)
+
+pub name_read : (s old m1 m2 m3 m4 new : List ℕ) → m1 ≡ drop_while is_white old → m1 ≡ 34 ∷ m2 → ClosesAsAscii s m2 m3 → m4 ≡ drop_while is_white m3 → m4 ≡ 58 ∷ new → Passes (NameText s) next_name value old new
+name_read s old m1 m2 m3 m4 new w e h u c = name_passes s old m1 m2 m3 m4 new w e (ascii_passes is_name s m2 m3 h) u c
+
+pub number_read : (d places : ℕ) (g : ℤ) (s old m1 m2 new : List ℕ) → m1 ≡ drop_while is_white old → Passes (NumeralOf s) value after m1 m2 → new ≡ drop_while is_white m2 → grid_of_text places s ≡ Some g → HasReadAt d (IsGridNumber places g) old new
+number_read d places g s old m1 m2 new w n u e = (json.Num s, value_around d (json.Num s) old m1 m2 new w (number_value d s m1 m2 n) u, (s, refl, e))
+
+-- ## Arrays
+
+array_shown : (d inner : ℕ) (items : ItemList) (old m1 new : List ℕ) → suc inner ≡ d → old ≡ 91 ∷ m1 → PassesAt (ArrayText inner items) (inside in_array inner first_value) (behind inner) m1 new → PassesAt (Shows d (json.List items)) (outside d value) (outside d after) old new
+array_shown d inner items old m1 new up e a = held_value in_array first_value 91 d inner (ArrayText inner items) (json.List items) old m1 new up e (λ n l. refl) (λ s h. h) a
+
+pub taken_array : (d inner : ℕ) (P Q : List JsonValue → Type 0) (old m1 m2 m3 new : List ℕ) → suc inner ≡ d → m1 ≡ drop_while is_white old → m1 ≡ 91 ∷ m2 → HasTakenArray inner P Q m2 m3 → new ≡ drop_while is_white m3 → HasReadAt d (IsTakenArray P Q) old new
+taken_array d inner P Q old m1 m2 m3 new up w e h u = (json.List h.0, value_around d (json.List h.0) old m1 m3 new w (array_shown d inner h.0 m1 m2 m3 up e h.1) u, (h.0, refl, h.2))
+
+pub pair_read : (d inner places : ℕ) (x y : ℤ) (old m1 m2 m3 m4 m5 m6 m7 m8 new : List ℕ)
+    → suc inner ≡ d → m1 ≡ drop_while is_white old → m1 ≡ 91 ∷ m2 → m3 ≡ drop_while is_white m2 → m4 ≡ m3 → NextIsNot 93 m4
+    → HasReadAt inner (IsGridNumber places x) m4 m5 → m5 ≡ 44 ∷ m6 → HasReadAt inner (IsGridNumber places y) m6 m7 → m7 ≡ 93 ∷ m8 → new ≡ drop_while is_white m8 → HasReadAt d (IsPair places x y) old new
+pair_read d inner places x y old m1 m2 m3 m4 m5 m6 m7 m8 new up w b v s n h c k e u =
+    let first : ItemList = item (number h.2.0) no_items in
+    let both : ItemList = item (number h.2.0) (item (number k.2.0) no_items) in
+    let one : PassesAt (ItemsSoFar inner first) (inside in_array inner first_value) (inside in_array inner value) m2 m6 = array_more inner no_items first h.0 m2 m4 m5 m5 m6 (array_init inner no_items m2 m3 m4 refl v s n) h.1.passes (ap (λ (z : JsonValue). z ∷ []) (sym h.2.1)) refl c in
+    let two : PassesAt (ArrayText inner both) (inside in_array inner first_value) (behind inner) m2 m8 = array_ends inner first both k.0 m2 m6 m7 m8 one k.1.passes (ap (λ (z : JsonValue). number h.2.0 ∷ z ∷ []) (sym k.2.1)) e in
+    (json.List both, value_around d (json.List both) old m1 m8 new w (array_shown d inner both m1 m2 m8 up b two) u, (h.2.0, k.2.0, refl, h.2.2, k.2.2))
+
+-- an item that was read and taken, and what follows it
+pub item_more : (d : ℕ) (P M Q : List JsonValue → Type 0) (old m1 m2 m3 new : List ℕ) → ItemsTaken d P M old m1 → HasReadAt d (TakesOne M Q) m1 m2 → m3 ≡ m2 → m3 ≡ 44 ∷ new → ItemsTaken d P Q old new
+item_more d P M Q old m1 m2 m3 new h v s c = items_more d P M Q v.0 old m1 m2 m3 new h v.1.passes v.2 s c
+
+pub item_end : (d : ℕ) (P M Q : List JsonValue → Type 0) (old m1 m2 new : List ℕ) → ItemsTaken d P M old m1 → HasReadAt d (TakesOne M Q) m1 m2 → m2 ≡ 93 ∷ new → HasTakenArray d P Q old new
+item_end d P M Q old m1 m2 new h v c = items_end d P M Q v.0 old m1 m2 new h v.1.passes v.2 c
+
+-- ## Objects
+
+abbrev pub MembersTaken : ℕ → (List Member → Type 0) → (List Member → Type 0) → List ℕ → List ℕ → Type 0
+MembersTaken d P Q old new = (fields : FieldList) × PassesAt (MembersSoFar d fields) (inside in_object d first_name) (inside in_object d next_name) old new × (P [] → Q (fields_list fields))
+
+pub members_init : (d : ℕ) (P : List Member → Type 0) (old m1 new : List ℕ) → m1 ≡ drop_while is_white old → new ≡ m1 → NextIsNot 125 new → MembersTaken d P P old new
+members_init d P old m1 new w s n = (no_fields, object_init d no_fields old m1 new refl w s n, λ p. p)
+
+abbrev later : FieldList → List ℕ → Json → FieldList
+later fields name j = fields_of (put (fields_list fields) name (json_value j))
+
+is_put : (fields : FieldList) (name : List ℕ) (j : Json) → fields_list (later fields name j) ≡ put (fields_list fields) name (json_value j)
+is_put fields name j = fields_list-fields_of (put (fields_list fields) name (json_value j))
+
+takes_put : (P M Q : List Member → Type 0) (fields : FieldList) (name : List ℕ) (j : Json) → (P [] → M (fields_list fields)) → PutsOne M Q name (json_value j) → P [] → Q (fields_list (later fields name j))
+takes_put P M Q fields name j all one p = subst Q (sym (is_put fields name j)) (one (fields_list fields) (all p))
+
+pub members_more : (d : ℕ) (P M Q : List Member → Type 0) (name old m1 m2 m3 m4 new : List ℕ) → MembersTaken d P M old m1 → Passes (NameText name) next_name value m1 m2 → HasReadAt d (PutsOne M Q name) m2 m3 → m4 ≡ m3 → m4 ≡ 44 ∷ new → MembersTaken d P Q old new
+members_more d P M Q name old m1 m2 m3 m4 new h n v s c =
+    (later h.0 name v.0, object_more d h.0 (later h.0 name v.0) name v.0 old m1 m2 m3 m4 new h.1 n v.1.passes (is_put h.0 name v.0) s c, takes_put P M Q h.0 name v.0 h.2 v.2)
+
+pub members_end : (d : ℕ) (P M Q : List Member → Type 0) (name old m1 m2 m3 new : List ℕ) → MembersTaken d P M old m1 → Passes (NameText name) next_name value m1 m2 → HasReadAt d (PutsOne M Q name) m2 m3 → m3 ≡ 125 ∷ new → HasTakenMembers d P Q old new
+members_end d P M Q name old m1 m2 m3 new h n v c =
+    (later h.0 name v.0, object_ends d h.0 (later h.0 name v.0) name v.0 old m1 m2 m3 new h.1 n v.1.passes (is_put h.0 name v.0) c, takes_put P M Q h.0 name v.0 h.2 v.2)
+
+object_shown : (d inner : ℕ) (fields : FieldList) (old m1 new : List ℕ) → suc inner ≡ d → old ≡ 123 ∷ m1 → PassesAt (ObjectText inner fields) (inside in_object inner first_name) (behind inner) m1 new → PassesAt (Shows d (json.Object fields)) (outside d value) (outside d after) old new
+object_shown d inner fields old m1 new up e a = held_value in_object first_name 123 d inner (ObjectText inner fields) (json.Object fields) old m1 new up e (λ n l. refl) (λ s h. h) a
+
+pub taken_object : (d inner : ℕ) (P Q : List Member → Type 0) (old m1 m2 m3 new : List ℕ) → suc inner ≡ d → m1 ≡ drop_while is_white old → m1 ≡ 123 ∷ m2 → HasTakenMembers inner P Q m2 m3 → new ≡ drop_while is_white m3 → HasReadAt d (IsTakenObject P Q) old new
+taken_object d inner P Q old m1 m2 m3 new up w e h u = (json.Object h.0, value_around d (json.Object h.0) old m1 m3 new w (object_shown d inner h.0 m1 m2 m3 up e h.1) u, (h.0, refl, h.2))

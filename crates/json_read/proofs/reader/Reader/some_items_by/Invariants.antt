@@ -1,0 +1,9 @@
+use Rattle.std.proofs.Common.{length}
+use Rattle.json_read.proofs.Taking.{ItemsTaken}
+use Rattle.json_read.proofs.reader.Reader.some_items_by.Given as goal
+
+abbrev pub invariant-loop-self : goal.invariant-loop-self
+invariant-loop-self g l = (first : _) → ItemsTaken l.depth (g.T.ValueTaker.took first l.fn.taker) (g.T.ValueTaker.took first l.taker) l.fn.self.rest.now l.self.rest.now
+
+abbrev pub decreases-loop-self : goal.decreases-loop-self
+decreases-loop-self g l = length l.self.rest.now
