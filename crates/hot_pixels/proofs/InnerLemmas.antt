@@ -1,5 +1,5 @@
 -- The ends of a segment of the drawing, and the points that are looked up for it, are the points of its chain.
-use Rattle.std.proofs.Common.{◌≡◌, inl, inr, refl, sym, ap, ◌∙◌, subst, arith, ℕ, Bool, true, false, not, cond, List, [], ◌∷◌, ◌++◌, get_or, filter, Contains, Option, Some, None}
+use Rattle.std.proofs.Common.{◌≡◌, inl, inr, refl, sym, ap, ◌∙◌, subst, arith, ℕ, Bool, true, false, not, cond, List, [], ◌∷◌, ◌++◌, get_or, Contains, Option, Some, None}
 use Rattle.std.specs.List.{slice_get}
 use Rattle.std.proofs.lemmas.Option.{slice_get-get_or, slice_get_within}
 use Rattle.std.proofs.lemmas.List.Elements.{Contains-append_left, Contains-append_right, Contains-append_cases}
@@ -13,8 +13,8 @@ use Rattle.plane_snapping.proofs.Passing.{meets_start, meets_stop}
 use Rattle.hot_pixels.specs.Spots.{is_end}
 use Rattle.hot_pixels.specs.Edges.{HasEdgeAt}
 use Rattle.hot_pixels.specs.declared.meetings.Meeting.{Meeting}
-use Rattle.hot_pixels.specs.Meetings.{AreBack}
-use Rattle.hot_pixels.specs.Quiet.{IsEndOf, IsFound, AreMarks, AreLookedUp, ends_of, others_of}
+use Rattle.hot_pixels.specs.Meetings.{AreMetBack}
+use Rattle.hot_pixels.specs.Quiet.{IsEndOf, IsFound, AreMarks, AreEndsAnd, AreLookedUp, ends_of, others_of}
 use Rattle.hot_pixels.proofs.EdgeLemmas.{meets_along, meets_back, end_along}
 use Rattle.hot_pixels.proofs.MeetingLemmas.{back_found}
 use Rattle.hot_pixels.proofs.ChainLemmas.{AreMet}
@@ -47,58 +47,58 @@ module _ (s : Segment) where
       go false f (inl h) = subst (Contains (s.start ∷ s.stop ∷ [])) (sym h) (Contains-head s.start (s.stop ∷ []))
       go false f (inr h) = subst (Contains (s.start ∷ s.stop ∷ [])) (sym h) (Contains-later s.start (s.stop ∷ []) s.stop (Contains-head s.stop []))
 
+-- the ends, and those of some points that are none
+pub with_ends_are : (s : Segment) (met all : List GridPoint) → all ≡ ends_of s ++ others_of s met → AreEndsAnd s met all
+with_ends_are s met all e = subst (AreEndsAnd s met) (sym e) (record {
+  from = λ g c. elim (Contains-append_cases (ends_of s) (others_of s met) g c) [ inl d ↦ inl (listed_end s g d) | inr d ↦ inr (filter-Contains (λ p. not (is_end s p)) met g d).0 ];
+  ends = λ g n. Contains-append_left (ends_of s) (others_of s met) g (end_listed s g n);
+  others = λ g c. by_test (is_end s g)
+      (λ f. Contains-append_left (ends_of s) (others_of s met) g (end_listed s g (end_from s g f)))
+      (λ f. Contains-append_right (ends_of s) (others_of s met) g (Contains-filter (λ p. not (is_end s p)) met g c (ap not f)));
+})
+
 -- ---- a segment of the drawing
 
-module _ (points : List GridPoint) (edges : List Segment) (crowded : List Bool) (lasts : List (Option ℕ)) (meetings : List Meeting) (inner : List GridPoint) (i : ℕ) (s : Segment) (met : List GridPoint) (h : AreMarks points edges crowded lasts meetings inner) (at : HasEdgeAt edges s i)
-    (looked : AreLookedUp crowded lasts meetings inner s i met) (from : Contains points s.start) (to : Contains points s.stop) where
-  abbrev others : List GridPoint
-  others = filter (λ p. not (is_end s p)) met
-
+module _ (points : List GridPoint) (edges : List Segment) (crowded : List Bool) (lasts : List (Option ℕ)) (meetings : List Meeting) (inner : List GridPoint) (i : ℕ) (s : Segment) (all : List GridPoint) (h : AreMarks points edges crowded lasts meetings inner) (at : HasEdgeAt edges s i)
+    (looked : AreLookedUp crowded lasts meetings inner s i all) (from : Contains points s.start) (to : Contains points s.stop) where
   end_is_met : (g : GridPoint) → IsEndOf s g → Contains points g × (meets s g ≡ true)
   end_is_met g (inl e) = (subst (Contains points) (sym e) from, subst (λ (p : GridPoint). meets s p ≡ true) (sym e) ((meets_is_computed s s.start).1 (meets_start s)))
   end_is_met g (inr e) = (subst (Contains points) (sym e) to, subst (λ (p : GridPoint). meets s p ≡ true) (sym e) ((meets_is_computed s s.stop).1 (meets_stop s)))
 
-  listed_is_met : (last : Option ℕ) → slice_get lasts i ≡ Some last → ((points : List GridPoint) → AreBack meetings last points → met ≡ points) → (g : GridPoint) → Contains met g → Contains points g × (meets s g ≡ true)
-  listed_is_met last e is g c =
-      let mine = h.lists.met i at.edge last at.there e in
-      let d : Contains mine.points g = subst (λ (xs : List GridPoint). Contains xs g) (is mine.points mine.back) c in
-      let found = back_found meetings last mine.points g mine.back d in
-      (subst (Contains points) found.2 (h.hot found.0 found.1), meets_back s at.edge g at.along (mine.met g d))
+  abbrev last : Option ℕ
+  last = get_or lasts i None
 
-  has_last : slice_get lasts i ≡ Some (get_or lasts i None)
+  has_last : slice_get lasts i ≡ Some last
   has_last = let l = slice_get_within edges i at.edge at.there in let n = h.lists.each in slice_get-get_or lasts i None (omega arith)
 
-  looked_up_is_met : (g : GridPoint) → Contains met g → Contains points g × (meets s g ≡ true)
-  looked_up_is_met g c = elim looked [
-    | inl f ↦ listed_is_met (get_or lasts i None) has_last (λ xs b. f.1 (get_or lasts i None) xs has_last b) g c
-    | inr f ↦ let m = filter-Contains (meets s) inner g (subst (λ (xs : List GridPoint). Contains xs g) f.1 c) in (h.inside g m.0, m.1)
+  mine : AreMetBack meetings at.edge last
+  mine = h.lists.met i at.edge last at.there has_last
+
+  listed_is_met : (g : GridPoint) → Contains mine.points g → Contains points g × (meets s g ≡ true)
+  listed_is_met g c =
+      let found = back_found meetings last mine.points g mine.back c in
+      (subst (Contains points) found.2 (h.hot found.0 found.1), meets_back s at.edge g at.along (mine.met g c))
+
+  from_all : (g : GridPoint) → Contains all g → Contains points g × (meets s g ≡ true)
+  from_all g c = elim looked [
+    | inl f ↦ elim ((f.1 last mine.points has_last mine.back).from g c) [ inl e ↦ end_is_met g e | inr d ↦ listed_is_met g d ]
+    | inr f ↦ elim (f.1.from g c) [ inl e ↦ end_is_met g e | inr d ↦ (let m = filter-Contains (meets s) inner g d in (h.inside g m.0, m.1)) ]
   ]
 
-  found_is_looked_up : (g : GridPoint) → meets s g ≡ true → IsFound crowded lasts meetings (Contains inner g) i g → Contains met g
-  found_is_looked_up g m found = elim looked [
+  end_in_all : (g : GridPoint) → IsEndOf s g → Contains all g
+  end_in_all g e = elim looked [ inl f ↦ (f.1 last mine.points has_last mine.back).ends g e | inr f ↦ f.1.ends g e ]
+
+  found_in_all : (g : GridPoint) → meets s g ≡ true → IsFound crowded lasts meetings (Contains inner g) i g → Contains all g
+  found_in_all g m found = elim looked [
     | inl f ↦ elim found [
       | inl k ↦ absurd (let n : Some false ≡ Some true = sym f.0 ∙ k.0 in cc)
-      | inr k ↦ (let l = k.1 in subst (λ (xs : List GridPoint). Contains xs g) (sym (f.1 l.last l.points l.there l.back)) l.listed)
+      | inr k ↦ (let l = k.1 in (f.1 l.last l.points l.there l.back).others g l.listed)
     ]
-    | inr f ↦ elim found [
-      | inl k ↦ subst (λ (xs : List GridPoint). Contains xs g) (sym f.1) (Contains-filter (meets s) inner g k.1 m)
-      | inr k ↦ absurd (f.0 k.0)
-    ]
+    | inr f ↦ elim found [ inl k ↦ f.1.others g (Contains-filter (meets s) inner g k.1 m) | inr k ↦ absurd (f.0 k.0) ]
   ]
 
-  met_is_listed : (g : GridPoint) → Contains points g → meets s g ≡ true → Contains (ends_of s ++ others) g
-  met_is_listed g c m = by_test (is_end s g)
-      (λ e. Contains-append_left (ends_of s) others g (end_listed s g (end_from s g e)))
-      (λ e. elim (h.seen g c i at.edge at.there (meets_along s at.edge g at.along m)) [
-        | inl f ↦ Contains-append_left (ends_of s) others g (end_listed s g (end_along s at.edge g at.along f))
-        | inr f ↦ Contains-append_right (ends_of s) others g (Contains-filter (λ p. not (is_end s p)) met g (found_is_looked_up g m f) (ap not e))
-      ])
-
-  pub looked_up_met : AreMet s points (ends_of s ++ others_of s met)
+  pub looked_up_met : AreMet s points all
   looked_up_met = record {
-    from = λ g c. elim (Contains-append_cases (ends_of s) others g c) [
-      | inl d ↦ end_is_met g (listed_end s g d)
-      | inr d ↦ looked_up_is_met g (filter-Contains (λ p. not (is_end s p)) met g d).0
-    ];
-    to = met_is_listed;
+    from = from_all;
+    to = λ g c m. elim (h.seen g c i at.edge at.there (meets_along s at.edge g at.along m)) [ inl f ↦ end_in_all g (end_along s at.edge g at.along f) | inr f ↦ found_in_all g m f ];
   }

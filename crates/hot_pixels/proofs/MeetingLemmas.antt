@@ -1,16 +1,19 @@
 -- Meetings of edges that are listed back from each edge's last, as more are added.
-use Rattle.std.proofs.Common.{◌≡◌, ◌≢◌, inl, inr, refl, sym, ap, ◌∙◌, subst, arith, ℕ, ◌+◌, ◌<◌, ◌≤◌, true, List, [], ◌∷◌, ◌++◌, length, get_or, set, replicate, Contains, Option, Some, None, append_assoc, length-append}
+use Rattle.std.proofs.Common.{◌≡◌, ◌≢◌, ◌⊎◌, inl, inr, refl, sym, ap, ◌∙◌, subst, arith, ℕ, ◌+◌, ◌<◌, ◌≤◌, true, List, [], ◌∷◌, ◌++◌, length, get_or, set, replicate, Contains, Option, Some, None, append_assoc, length-append}
 use Rattle.std.specs.List.{slice_get}
 use Rattle.std.proofs.lemmas.Bool.{cases_eq}
 use Rattle.std.proofs.lemmas.List.{append-nil, length-set, length-replicate, get_or-set_same, get_or-set_other, get_or-replicate}
-use Rattle.std.proofs.lemmas.List.Elements.{Contains-append_cases}
+use Rattle.std.proofs.lemmas.List.Elements.{Contains-append_left, Contains-append_right, Contains-append_cases}
 use Rattle.std.proofs.lemmas.Option.{slice_get-get_or, slice_get_within, slice_get_read, get_or_from_slice_get}
+use Rattle.std.specs.List.Sorted.{IsPermutation}
+use Rattle.std.proofs.lemmas.List.Sorted.{IsPermutation-sym, Contains-permutation}
 use Rattle.lists.proofs.Members.{Contains-head, Contains-later, Contains-nil, Contains-cases}
 use Rattle.plane_model.specs.Points.{GridPoint, Segment}
 use Rattle.plane_model.specs.Pixel.{meets}
 use Rattle.bucket_grid.proofs.Growth.{slice_get-append_left, slice_get-append_end}
 use Rattle.hot_pixels.specs.declared.meetings.Meeting.{Meeting}
 use Rattle.hot_pixels.specs.Meetings.{meeting_at, count_to, AreBack, IsListed, AreMetBack, AreLists, AddsMeetings}
+use Rattle.hot_pixels.specs.Quiet.{IsEndOf, AreEndsAnd}
 
 -- ---- lists of marks that change at one place
 
@@ -66,16 +69,16 @@ module _ (meetings : List Meeting) where
 
 -- ---- a walk back
 
--- so many points have been passed, from the last one back to a place: with the rest they are all
-pub record IsWalked (meetings : List Meeting) (last : Option ℕ) (met : List GridPoint) (at : Option ℕ) (count : ℕ) : Type 0 where
-  pub many : length met ≡ count
-  pub rest : (points : List GridPoint) → AreBack meetings last points → (rest : List GridPoint) × AreBack meetings at rest × (met ++ rest ≡ points)
+-- so many points have been added to those from which it began, from the last one back to a place: with the rest they are all
+pub record IsWalked (meetings : List Meeting) (last : Option ℕ) (begun met : List GridPoint) (at : Option ℕ) (count : ℕ) : Type 0 where
+  pub many : length met ≡ length begun + count
+  pub rest : (points : List GridPoint) → AreBack meetings last points → (rest : List GridPoint) × AreBack meetings at rest × (met ++ rest ≡ begun ++ points)
 
-module _ (meetings : List Meeting) (last : Option ℕ) where
-  pub walk_begins : IsWalked meetings last [] last 0
-  walk_begins = record { many = refl; rest = λ points h. (points, h, refl) }
+module _ (meetings : List Meeting) (last : Option ℕ) (begun : List GridPoint) where
+  pub walk_begins : IsWalked meetings last begun begun last 0
+  walk_begins = record { many = omega arith; rest = λ points h. (points, h, refl) }
 
-  pub walk_goes_on : (met : List GridPoint) (at : Option ℕ) (count : ℕ) (m : Meeting) → meeting_at meetings at ≡ Some m → IsWalked meetings last met at count → IsWalked meetings last (met ++ m.point ∷ []) m.before (count + 1)
+  pub walk_goes_on : (met : List GridPoint) (at : Option ℕ) (count : ℕ) (m : Meeting) → meeting_at meetings at ≡ Some m → IsWalked meetings last begun met at count → IsWalked meetings last begun (met ++ m.point ∷ []) m.before (count + 1)
   walk_goes_on met at count m e h = record {
     many = (let n = h.many in omega (arith, length-append met (m.point ∷ [])));
     rest = λ points b.
@@ -84,7 +87,7 @@ module _ (meetings : List Meeting) (last : Option ℕ) where
         (next.0, next.2, append_assoc met (m.point ∷ []) next.0 ∙ ap (λ (xs : List GridPoint). met ++ xs) (sym next.1) ∙ k.2);
   }
 
-  pub walk_stops : (met : List GridPoint) (at : Option ℕ) (count : ℕ) → meeting_at meetings at ≡ None → IsWalked meetings last met at count → (points : List GridPoint) → AreBack meetings last points → met ≡ points
+  pub walk_stops : (met : List GridPoint) (at : Option ℕ) (count : ℕ) → meeting_at meetings at ≡ None → IsWalked meetings last begun met at count → (points : List GridPoint) → AreBack meetings last points → met ≡ begun ++ points
   walk_stops met at count e h points b =
       let k = h.rest points b in
       sym (append-nil met) ∙ ap (λ (xs : List GridPoint). met ++ xs) (sym (none_back meetings at k.0 k.1 e)) ∙ k.2
@@ -93,15 +96,41 @@ module _ (meetings : List Meeting) (last : Option ℕ) where
   nothing_left [] l = refl
   nothing_left (x ∷ xs) l = absurd (omega arith)
 
-  pub walk_ends : (met : List GridPoint) (at : Option ℕ) (count : ℕ) → length meetings ≤ count → IsWalked meetings last met at count → (points : List GridPoint) → AreBack meetings last points → met ≡ points
+  pub walk_ends : (met : List GridPoint) (at : Option ℕ) (count : ℕ) → length meetings ≤ count → IsWalked meetings last begun met at count → (points : List GridPoint) → AreBack meetings last points → met ≡ begun ++ points
   walk_ends met at count l h points b =
       let k = h.rest points b in
       let many = h.many in
       let few = few_back meetings last points b in
       let all = within meetings last points b in
-      let sum : length (met ++ k.0) ≡ length points = ap (λ (xs : List GridPoint). length xs) k.2 in
-      let left : length k.0 ≤ 0 = omega (arith, length-append met k.0) in
+      let sum : length (met ++ k.0) ≡ length (begun ++ points) = ap (λ (xs : List GridPoint). length xs) k.2 in
+      let left : length k.0 ≤ 0 = omega (arith, length-append met k.0, length-append begun points) in
       sym (append-nil met) ∙ ap (λ (xs : List GridPoint). met ++ xs) (sym (nothing_left k.0 left)) ∙ k.2
+
+-- ---- the ends of a segment, and points between them
+
+-- points with one before them and one after, which are the ends
+pub ends_around : (s : Segment) (p q : GridPoint) (points all : List GridPoint) → all ≡ p ∷ [] ++ points ++ q ∷ [] → IsEndOf s p → IsEndOf s q → ((g : GridPoint) → IsEndOf s g → (p ≡ g) ⊎ (q ≡ g)) → AreEndsAnd s points all
+ends_around s p q points all e p_end q_end both = subst (AreEndsAnd s points) (sym e) (record {
+  from = λ g c. elim (Contains-append_cases (p ∷ [] ++ points) (q ∷ []) g c) [
+    | inl d ↦ elim (Contains-append_cases (p ∷ []) points g d) [
+      | inl f ↦ elim (Contains-cases p [] g f) [ inl k ↦ inl (subst (IsEndOf s) k p_end) | inr k ↦ Contains-nil g k ]
+      | inr f ↦ inr f
+    ]
+    | inr d ↦ elim (Contains-cases q [] g d) [ inl k ↦ inl (subst (IsEndOf s) k q_end) | inr k ↦ Contains-nil g k ]
+  ];
+  ends = λ g n. elim (both g n) [
+    | inl k ↦ subst (Contains (p ∷ [] ++ points ++ q ∷ [])) k (Contains-append_left (p ∷ [] ++ points) (q ∷ []) p (Contains-append_left (p ∷ []) points p (Contains-head p [])))
+    | inr k ↦ subst (Contains (p ∷ [] ++ points ++ q ∷ [])) k (Contains-append_right (p ∷ [] ++ points) (q ∷ []) q (Contains-head q []))
+  ];
+  others = λ g c. Contains-append_left (p ∷ [] ++ points) (q ∷ []) g (Contains-append_right (p ∷ []) points g c);
+})
+
+pub ends_moved : (s : Segment) (points all moved : List GridPoint) → IsPermutation all moved → AreEndsAnd s points all → AreEndsAnd s points moved
+ends_moved s points all moved same h = record {
+  from = λ g c. h.from g (Contains-permutation moved all g (IsPermutation-sym all moved same) c);
+  ends = λ g n. Contains-permutation all moved g same (h.ends g n);
+  others = λ g c. Contains-permutation all moved g same (h.others g c);
+}
 
 -- ---- meetings that are added
 

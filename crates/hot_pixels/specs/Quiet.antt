@@ -65,9 +65,15 @@ pub record HasQuietEdge (edges : List Segment) (crowded : List Bool) (lasts : Li
   pub apart : slice_get crowded number ≡ Some false
   pub alone : slice_get lasts number ≡ Some None
 
--- the points that are looked up for a segment whose edge is number i: those listed for it, or those of the inner that it
--- meets
+-- all these are the ends of a segment, and some points
+pub record AreEndsAnd (s : Segment) (points all : List GridPoint) : Type 0 where
+  pub from : (g : GridPoint) → Contains all g → IsEndOf s g ⊎ Contains points g
+  pub ends : (g : GridPoint) → IsEndOf s g → Contains all g
+  pub others : (g : GridPoint) → Contains points g → Contains all g
+
+-- what is looked up for a segment whose edge is number i: its ends, and the points that are listed for the edge, or those
+-- of the inner that it meets
 abbrev pub AreLookedUp : List Bool → List (Option ℕ) → List Meeting → List GridPoint → Segment → ℕ → List GridPoint → Type 0
-AreLookedUp crowded lasts meetings inner s i met =
-    ((slice_get crowded i ≡ Some false) × ((last : Option ℕ) (points : List GridPoint) → slice_get lasts i ≡ Some last → AreBack meetings last points → met ≡ points))
-    ⊎ ((slice_get crowded i ≡ Some false → ⊥) × (met ≡ filter (meets s) inner))
+AreLookedUp crowded lasts meetings inner s i all =
+    ((slice_get crowded i ≡ Some false) × ((last : Option ℕ) (points : List GridPoint) → slice_get lasts i ≡ Some last → AreBack meetings last points → AreEndsAnd s points all))
+    ⊎ ((slice_get crowded i ≡ Some false → ⊥) × AreEndsAnd s (filter (meets s) inner) all)

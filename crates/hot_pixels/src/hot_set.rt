@@ -11,7 +11,7 @@ ghost use Rattle.hot_pixels.specs.Stops.{stop_of};
 use crate::chains::{do_rise, sorted_along};
 use crate::edges::{Edges, edges_of, known_edge};
 use crate::keys::each_once;
-use crate::meetings::points_back;
+use crate::meetings::ends_and_back;
 use crate::near::{Run, along_curve, count_near, met_near, runs_over};
 use crate::pairs::{add_crossings, buckets_over};
 use crate::quiet::{Marking, append_ends, marks_of, with_ends};
@@ -149,27 +149,41 @@ impl HotSet {
         if self.is_quiet(s, place) {
             return append_ends(path, s);
         }
-        let chain = self.chain_at(alloc, s, place)?;
-        path.append(chain.as_slice())
+        self.append_at(alloc, path, s, place)
     }
 
-    // The chain of a segment between hot points. Where the segment stands at this place, its meetings were gathered, or
-    // only inner points are tried.
-    fn chain_at(&self, alloc: Global, s: &Seg, place: usize) -> Result<PtList, AllocError>
+    // The same. Where the segment stands at this place, its points were gathered, or only inner ones are tried.
+    fn append_at(
+        &self,
+        alloc: Global,
+        path: &mut PtList,
+        s: &Seg,
+        place: usize,
+    ) -> Result<(), AllocError>
         requires start { Contains self.now s.now.start }
         requires stop { Contains self.now s.now.stop }
-        ensures exact { IfOk result (λ chain. chain ≡ chain_among self.now s.now) }
+        ensures appended { OnOk result (path.new ≡ path.old ++ chain_among self.now s.now) }
     {
         let Some(number) = known_edge(&self.edges, &self.numbers, place, s) else {
-            return self.chain_of(alloc, s);
+            return self.append_searched(alloc, path, s);
         };
-        let met = looked_up(alloc, &self.marking, &self.inner_runs, number, s)?;
-        let all = with_ends(alloc, &met, s)?;
-        let chain = sorted_along(alloc, all, s)?;
-        if do_rise(chain.as_slice(), s) {
-            return Ok(chain);
+        let found = looked_up(alloc, &self.marking, &self.inner_runs, number, s)?;
+        if do_rise(&found, s) {
+            return path.append(&found);
         }
-        self.chain_of(alloc, s)
+        let sorted = sorted_along(alloc, found, s)?;
+        if do_rise(sorted.as_slice(), s) {
+            return path.append(sorted.as_slice());
+        }
+        self.append_searched(alloc, path, s)
+    }
+
+    // The same, by a search among all points.
+    fn append_searched(&self, alloc: Global, path: &mut PtList, s: &Seg) -> Result<(), AllocError>
+        ensures appended { OnOk result (path.new ≡ path.old ++ chain_among self.now s.now) }
+    {
+        let chain = self.chain_of(alloc, s)?;
+        path.append(chain.as_slice())
     }
 
     // Whether the segment stands at this place, and meets no hot pixel besides those of its ends.
@@ -247,7 +261,8 @@ fn last_of(lasts: &[Option<u32>], i: u32) -> Option<u32>
     }
 }
 
-// The points that a segment whose edge has this number may meet besides its ends.
+// The points that a segment whose edge has this number may meet: its ends, and those that were gathered for the edge or
+// are found among the inner ones.
 fn looked_up(
     alloc: Global,
     marking: &Marking,
@@ -256,12 +271,15 @@ fn looked_up(
     s: &Seg,
 ) -> Result<Vec<Pt>, AllocError>
     requires { All (HoldsRun marking.now.inner.items) runs.now }
-    ensures { IfOk result (λ met. AreLookedUp marking.now.crowded.items marking.now.lasts.items marking.now.meetings.items marking.now.inner.items s.now i met.items) }
+    ensures { IfOk result (λ all. AreLookedUp marking.now.crowded.items marking.now.lasts.items marking.now.meetings.items marking.now.inner.items s.now i all.items) }
 {
     if has_no_mark(&marking.crowded, i) {
-        return points_back(alloc, &marking.meetings, last_of(&marking.lasts, i));
+        let gathered = ends_and_back(alloc, &marking.meetings, last_of(&marking.lasts, i), s)?;
+        return Ok(gathered);
     }
-    met_near(alloc, &marking.inner, runs, s)
+    let met = met_near(alloc, &marking.inner, runs, s)?;
+    let searched = with_ends(alloc, &met, s)?;
+    Ok(searched)
 }
 
 fn is_listed(points: &[Pt], p: Pt) -> bool

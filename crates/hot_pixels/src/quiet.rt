@@ -192,14 +192,17 @@ fn gather_if_met(
     ensures grows { IfOk result (λ after. is_inner ≡ true → after ≡ true) }
     ensures seen { IfOk result (λ after. IsSeen spots.now crowded.now lasts.new.items meetings.new.items after p i) }
 {
+    if is_off_or_end(&spots[i as usize], p) {
+        return Ok(is_inner);
+    }
     if crowded[i as usize] {
-        return Ok(is_inner || is_met_inside(&spots[i as usize], p));
+        return Ok(is_inner || meets(&spots[i as usize], p));
     }
     gather(lasts, meetings, spots, i, p)?;
     Ok(is_inner)
 }
 
-// Adds the meeting of a segment with a point, if it meets the point besides its ends.
+// Adds the meeting of a segment with a point, if it meets the point.
 fn gather(
     lasts: &mut Vec<Option<u32>>,
     meetings: &mut Vec<Meeting>,
@@ -212,7 +215,7 @@ fn gather(
     ensures adds { OnOk result (AddsMeetings spots.now p lasts.old.items meetings.old.items lasts.new.items meetings.new.items) }
     ensures found { OnOk result (IsGathered spots.now lasts.new.items meetings.new.items p i) }
 {
-    if !is_met_inside(&spots[i as usize], p) {
+    if !meets(&spots[i as usize], p) {
         return Ok(());
     }
     let before = lasts[i as usize];
@@ -222,18 +225,14 @@ fn gather(
     Ok(())
 }
 
-// Whether a segment meets a point that is none of its ends.
-fn is_met_inside(s: &Seg, p: Pt) -> bool
-    ensures met { result ≡ true → meets s.now p ≡ true }
-    ensures ends { result ≡ false → meets s.now p ≡ true → IsEndOf s.now p }
+// Whether a point is beside a segment's box, or an end of the segment.
+fn is_off_or_end(s: &Seg, p: Pt) -> bool
+    ensures { result ≡ true → meets s.now p ≡ true → IsEndOf s.now p }
 {
     if is_off(s, p) {
-        return false;
+        return true;
     }
-    if is_end(s, p) {
-        return false;
-    }
-    meets(s, p)
+    is_end(s, p)
 }
 
 /// Appends the ends of a segment to a path.

@@ -1,4 +1,4 @@
-use Rattle.std.proofs.Common.{◌≡◌, inr, rules, length}
+use Rattle.std.proofs.Common.{◌≡◌, ◌∙◌, inr, sym, rules, length}
 use Rattle.hot_pixels.proofs.MeetingLemmas.{gathers}
 use Rattle.hot_pixels.proofs.quiet.gather.Goals as goal
 
@@ -8,5 +8,5 @@ returns c =
     let many = c.len.ensures in
     let n : c.in_ok-number.number ≡ length c.args.meetings.now.items = search rules in
     let h = gathers c.args.spots.now c.args.lasts.now.items c.args.meetings.now.items c.push.new.self.items c.args.i c.index-spots-i.result c.args.p c.index-before.result.now c.in_ok-number.number c.requires.lists c.requires.there c.index-spots-i.is c.index-before.ensures
-    (c.is_met_inside.ensures.met c.if-not-is_met_inside.false) n c.in_ok-push.ensures.items in
+    (sym c.meets.ensures.exact ∙ c.if-not-meets.false) n c.in_ok-push.ensures.items in
     record { adds = h.0; found = record { seen = λ s e m. inr h.1 } }
