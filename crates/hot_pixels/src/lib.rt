@@ -16,9 +16,10 @@
 //! - `chain_of` lists the hot points whose pixels a segment meets, in the order in which the segment passes them, and
 //!   `chain_links` counts the links between them without memory. Both pass over runs of hot points that lie beside the
 //!   segment's box, and, where a search has tried many, over those that lie aside of its line.
-//! - `append_chain` appends the chain of a segment of the drawing to a path. Segments that meet their ends alone, as
-//!   most do in a drawing of areas, were found when the set was made, and are not searched for. For the others the inner
-//!   points are searched alone: those that some segment of the drawing meets and doesn't end at.
+//! - `append_chain` appends the chain of a segment of the drawing to a path. When the set is made, each hot point is tried
+//!   against the segments of its bucket, and the meetings of an edge with points besides its ends are gathered: none for
+//!   most in a drawing of areas. They are the chain, mostly in its order. The segments of a crowded bucket are not tried;
+//!   for these the inner points are searched alone: those that one of them may meet and doesn't end at.
 //! - `HotSet::for_spots` makes the same set in less time, where the chains of the drawing's own segments are all that is
 //!   asked for.
 #![tactic(auto)]
