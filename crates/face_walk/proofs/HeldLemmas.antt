@@ -14,6 +14,7 @@ use Rattle.face_walk.specs.RingSteps.{owners_from}
 use Rattle.face_walk.specs.Holders.{AreAcross, AreHeldBy, AreOwnersOf, AreOwnersOfEach, list_at, steps_on}
 use Rattle.face_walk.specs.declared.crossings.Crossing.{Crossing}
 use Rattle.face_walk.specs.declared.ring_steps.RingStep.{RingStep}
+use Rattle.face_walk.proofs.OddLemmas.{across_none}
 use Rattle.face_walk.proofs.RingStepLemmas.{take_found}
 
 -- ---- no item yet
@@ -23,6 +24,17 @@ free_at lists f h = elim (cases_lt f (length lists)) [ inl less ↦ h f [] less 
 
 pub held_none : (steps : List RingStep) (outer : ℕ) (lists : List (List ℕ)) → All (λ (items : List ℕ). items ≡ []) lists → AreHeldBy steps outer [] lists
 held_none steps outer lists h = record { outer_free = free_at lists outer h; across = λ k d l. absurd (omega arith) }
+
+-- without steps no item holds a face
+pub held_by_none : (steps : List RingStep) (outer : ℕ) (crossings : List Crossing) (lists : List (List ℕ)) → steps ≡ [] → All (λ (items : List ℕ). items ≡ []) lists → AreHeldBy steps outer crossings lists
+held_by_none steps outer crossings lists none h = record {
+  outer_free = free_at lists outer h;
+  across = λ k d l.
+      (let c = get_or crossings k d in
+      subst (λ (along : List RingStep). AreAcross (steps_on along c.arc) (list_at lists c.from) (list_at lists c.into)) (sym none)
+      (subst (λ (from : List ℕ). AreAcross [] from (list_at lists c.into)) (sym (free_at lists c.from h))
+      (subst (AreAcross [] []) (sym (free_at lists c.into h)) across_none)));
+}
 
 -- ---- one crossing more
 

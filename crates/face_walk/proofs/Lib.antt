@@ -15,6 +15,7 @@ pub mod RowLemmas
 pub mod BuiltLemmas
 pub mod RingStepLemmas
 pub mod RunLemmas
+pub mod RunPlaces
 pub mod OddLemmas
 pub mod CrossingLemmas
 pub mod HeldLemmas

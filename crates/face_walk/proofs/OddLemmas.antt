@@ -27,6 +27,16 @@ pub xor_none : (a : Bool) → xor a false ≡ a
 xor_none false = refl
 xor_none true = refl
 
+xor_swap : (a b c : Bool) → xor (xor a b) c ≡ xor (xor a c) b
+xor_swap false false false = refl
+xor_swap false false true = refl
+xor_swap false true false = refl
+xor_swap false true true = refl
+xor_swap true false false = refl
+xor_swap true false true = refl
+xor_swap true true false = refl
+xor_swap true true true = refl
+
 xor_twice : (a b : Bool) → a ≡ xor (xor a b) b
 xor_twice false false = refl
 xor_twice false true = refl
@@ -158,6 +168,26 @@ number_in xs ys n h low other e = record {
   parity = λ m. ap (λ (zs : List ℕ). stands_oddly zs m) e ∙ odd_of_two (nat_eq m) xs (n ∷ []) ∙ ap (xor (stands_oddly xs m)) (xor_none (nat_eq m n));
 }
 
+-- in any place, by the odd ones of the list with the number
+pub number_sorted : (old pushed sorted new : List ℕ) (n : ℕ) → pushed ≡ old ++ n ∷ [] → IsPermutation pushed sorted → AreOddOnes sorted new → IsFlipped old n new
+number_sorted old pushed sorted new n e moved h = record {
+  rising = h.rising;
+  parity = λ m. h.parity m ∙ odd_of_moved (nat_eq m) pushed sorted moved ∙ ap (λ (zs : List ℕ). stands_oddly zs m) e ∙ odd_of_two (nat_eq m) old (n ∷ []) ∙ ap (xor (stands_oddly old m)) (xor_none (nat_eq m n));
+}
+
+-- what is no less than the last number is no less than any
+pub low_last : (xs : List ℕ) (last n : ℕ) → IsStrictlyIncreasing xs → slice_get xs (length xs - 1) ≡ Some last → last ≤ n → All (λ (m : ℕ). m ≤ n) xs
+low_last xs last n up found l j d below =
+    let value = get_or_from_slice_get xs (length xs - 1) last 0 found in
+    let here = get_or_default xs j d 0 below in
+    elim (cases_lt j (length xs - 1)) [
+      | inl less ↦ (let far = rises_on xs up j (length xs - 1) less (omega arith) in omega arith)
+      | inr more ↦ (let same : j ≡ length xs - 1 = omega arith in let at_last = ap (λ (k : ℕ). get_or xs k 0) same in omega arith)
+    ]
+
+pub low_none : (xs : List ℕ) (n : ℕ) → slice_get xs (length xs - 1) ≡ None → All (λ (m : ℕ). m ≤ n) xs
+low_none xs n none j d below = absurd (none-some (get_or xs (length xs - 1) 0) (sym none ∙ slice_get-get_or xs (length xs - 1) 0 (omega arith)))
+
 -- ---- the numbers of a list in order, one after another
 
 pub odd_none : AreOddOnes [] []
@@ -184,12 +214,32 @@ odd_more sorted odd new k n l e h f = record {
 
 -- ---- across an arc
 
-pub across_from : (along : List RingStep) (held items sorted odd : List ℕ) → items ≡ held ++ map (λ (s : RingStep). s.item) along → IsPermutation items sorted → AreOddOnes sorted odd → AreAcross along held odd
-across_from along held items sorted odd e moved h = record {
-  rising = h.rising;
-  parity = λ i. h.parity i ∙ odd_of_moved (nat_eq i) items sorted moved ∙ ap (λ (zs : List ℕ). stands_oddly zs i) e
-      ∙ odd_of_two (nat_eq i) held (map (λ (s : RingStep). s.item) along)
-      ∙ ap (xor (stands_oddly held i)) (odd_of_map (λ (s : RingStep). s.item) (nat_eq i) along);
+pub across_none : AreAcross [] [] []
+across_none = record { rising = λ k l. absurd (omega arith); parity = λ i. refl }
+
+-- one number more of the face that is left
+pub across_held : (along : List RingStep) (held items new : List ℕ) (k n : ℕ) → k < length held → get_or held k n ≡ n → AreAcross along (take k held) items → IsFlipped items n new → AreAcross along (take (k + 1) held) new
+across_held along held items new k n l e h f = record {
+  rising = f.rising;
+  parity = λ i. (
+      let a = stands_oddly (take k held) i in
+      let o = odd_count (λ (s : RingStep). nat_eq i s.item) along in
+      let more : stands_oddly (take (k + 1) held) i ≡ xor a (nat_eq i n) =
+      ap (λ (zs : List ℕ). stands_oddly zs i) (take_item held k n l e) ∙ odd_of_two (nat_eq i) (take k held) (n ∷ []) ∙ ap (xor a) (xor_none (nat_eq i n)) in
+      f.parity i ∙ ap (λ (b : Bool). xor b (nat_eq i n)) (h.parity i) ∙ xor_swap a o (nat_eq i n) ∙ ap (λ (b : Bool). xor b o) (sym more));
+}
+
+-- one step more along the arc
+pub across_step : (along : List RingStep) (held items new : List ℕ) (k : ℕ) (s : RingStep) → k < length along → get_or along k s ≡ s → AreAcross (take k along) held items → IsFlipped items s.item new → AreAcross (take (k + 1) along) held new
+across_step along held items new k s l e h f = record {
+  rising = f.rising;
+  parity = λ i. (
+      let test : RingStep → Bool = λ t. nat_eq i t.item in
+      let a = stands_oddly held i in
+      let o = odd_count test (take k along) in
+      let more : odd_count test (take (k + 1) along) ≡ xor o (test s) =
+      ap (odd_count test) (take_item along k s l e) ∙ odd_of_two test (take k along) (s ∷ []) ∙ ap (xor o) (xor_none (test s)) in
+      f.parity i ∙ ap (λ (b : Bool). xor b (test s)) (h.parity i) ∙ xor_assoc a o (test s) ∙ ap (xor a) (sym more));
 }
 
 -- ---- owners

@@ -1,5 +1,5 @@
-ghost use Rattle.std.specs.Prelude.{◌≡◌, ◌-◌, ◌<◌, ◌≤◌, [], true, false, All, IfOk, OnOk, Some, length, map, slice_get, slice_index_or};
-ghost use Rattle.std.specs.List.Sorted.{IsNonDecreasing, IsNonDecreasingBy, IsStrictlyIncreasing};
+ghost use Rattle.std.specs.Prelude.{◌≡◌, ◌⊎◌, ◌-◌, ◌<◌, ◌≤◌, [], true, false, All, IfOk, OnOk, Some, filter, length, map, nat_eq, nat_lt, slice_get, slice_index_or};
+ghost use Rattle.std.specs.List.Sorted.{IsNonDecreasing, IsNonDecreasingBy, IsPartitionPoint, IsStrictlyIncreasing};
 ghost use Rattle.face_walk.specs.Holders.{AreAcross, AreHeldBy, AreHolders, AreOddOnes, AreOwnersOf, AreOwnersOfEach, IsFlipped, IsPut, list_at};
 ghost use Rattle.face_walk.specs.Places.{IsBuiltOf};
 ghost use Rattle.face_walk.specs.Crossings.{AreCrossings, outer_of};
@@ -8,7 +8,7 @@ use crate::crossings::{Crossing, crossings_of};
 use crate::faces::Faces;
 use crate::ring_steps::{RingStep, box_steps, polygon_steps, steps_along};
 use arc_table::ArcTable;
-use grid_base::{FaceId, FeatId, Snapped, empty_lists};
+use grid_base::{ArcId, FaceId, FeatId, Snapped, empty_lists};
 use std::alloc::{AllocError, Global};
 use std::marker::Model;
 
@@ -82,26 +82,152 @@ fn held_lists(
     ensures each { IfOk result (λ v. length v.items ≡ f.now.count) }
 {
     let mut held: Vec<Vec<u32>> = empty_lists(alloc, f.count() as usize)?;
+    if steps.is_empty() {
+        return Ok(held);
+    }
+    let starts = starts_of(alloc, steps)?;
     for c in crossings {
         let from = &held[c.from.num() as usize];
-        let into = flipped(alloc, from, steps_along(steps, c.arc))?;
+        let into = flipped(alloc, from, run_along(steps, &starts, c.arc))?;
         held[c.into.num() as usize] = into;
     }
     Ok(held)
 }
 
+// For each arc the place of its first step, or of the next one: a guess, and a wrong one costs time alone.
+fn starts_of(alloc: Global, steps: &[RingStep]) -> Result<Vec<usize>, AllocError> {
+    let mut starts = Vec::new(alloc);
+    for (place, step) in steps.iter().enumerate() {
+        starts.resize((step.arc.num() as usize).saturating_add(1), place)?;
+    }
+    starts.push(steps.len())?;
+    Ok(starts)
+}
+
+fn start_at(starts: &[usize], arc: usize) -> usize {
+    match starts.get(arc) {
+        Some(start) => *start,
+        None => 0,
+    }
+}
+
+// The steps along one arc, looked for first where they are guessed to begin and to end.
+fn run_along<'a>(steps: &'a [RingStep], starts: &[usize], arc: ArcId) -> &'a [RingStep]
+    requires by_arc { IsNonDecreasingBy (λ s. s.arc) steps.now }
+    ensures exact { result.now ≡ filter (λ s. nat_eq s.arc arc) steps.now }
+{
+    let first = start_at(starts, arc.num() as usize);
+    let stop = start_at(starts, arc.num() as usize + 1);
+    if begins_at(steps, first, arc) && ends_at(steps, stop, arc) && first <= stop {
+        &steps[first..stop]
+    } else {
+        steps_along(steps, arc)
+    }
+}
+
+// Whether the first step along an arc stands at a place.
+fn begins_at(steps: &[RingStep], first: usize, arc: ArcId) -> bool
+    requires by_arc { IsNonDecreasingBy (λ s. s.arc) steps.now }
+    ensures there { result ≡ true → first < length steps.now }
+    ensures parted { result ≡ true → IsPartitionPoint (λ s. nat_lt s.arc arc ≡ true) (λ s. nat_lt s.arc arc ≡ false) steps.now first }
+{
+    if first >= steps.len() {
+        return false;
+    }
+    if steps[first].arc.num() != arc.num() {
+        return false;
+    }
+    if first == 0 {
+        return true;
+    }
+    steps[first - 1].arc.num() != arc.num()
+}
+
+// Whether the last step along an arc stands before a place.
+fn ends_at(steps: &[RingStep], stop: usize, arc: ArcId) -> bool
+    requires by_arc { IsNonDecreasingBy (λ s. s.arc) steps.now }
+    ensures there { result ≡ true → stop ≤ length steps.now }
+    ensures parted { result ≡ true → IsPartitionPoint (λ s. nat_lt arc s.arc ≡ false) (λ s. nat_lt arc s.arc ≡ true) steps.now stop }
+{
+    if stop == 0 || steps.len() < stop {
+        return false;
+    }
+    if steps[stop - 1].arc.num() != arc.num() {
+        return false;
+    }
+    if stop == steps.len() {
+        return true;
+    }
+    steps[stop].arc.num() != arc.num()
+}
+
 // The items that hold a face across an arc from a face that `held` holds: those that are in one of the two lists, or
 // that step along the arc an even number of times and are in `held`.
+//
+// Both lists are gone through at once, so that numbers come in order where those of the steps do.
 fn flipped(alloc: Global, held: &[u32], steps: &[RingStep]) -> Result<Vec<u32>, AllocError>
     ensures exact { IfOk result (λ v. AreAcross steps.now held.now v.items) }
 {
-    let mut items = Vec::with_capacity(alloc, held.len().saturating_add(steps.len()))?;
-    items.extend_from_slice(held)?;
-    for s in steps {
-        items.push(s.item)?;
+    let count = held.len() + steps.len();
+    let mut items = Vec::with_capacity(alloc, count)?;
+    let (mut i, mut j) = (0, 0);
+    for _number in 0..count {
+        if is_next(held, i, steps, j) {
+            flip(alloc, &mut items, held[i])?;
+            i += 1;
+        } else {
+            flip(alloc, &mut items, steps[j].item)?;
+            j += 1;
+        }
     }
+    Ok(items)
+}
+
+// Whether the number at `i` comes before the step at `j`, or there is no such step.
+fn is_next(held: &[u32], i: usize, steps: &[RingStep], j: usize) -> bool
+    ensures yes { result ≡ true → i < length held.now }
+    ensures no { result ≡ false → (length held.now ≤ i) ⊎ (j < length steps.now) }
+{
+    if i >= held.len() {
+        false
+    } else if j >= steps.len() {
+        true
+    } else {
+        held[i] <= steps[j].item
+    }
+}
+
+// Puts a number into a rising list, or takes it out where it is there.
+fn flip(alloc: Global, items: &mut Vec<u32>, n: u32) -> Result<(), AllocError>
+    requires rising { IsStrictlyIncreasing items.old.items }
+    ensures flipped { OnOk result (IsFlipped items.old.items n items.new.items) }
+{
+    if ends_above(items, n) {
+        flip_inside(alloc, items, n)
+    } else {
+        flip_number(items, n)
+    }
+}
+
+fn ends_above(numbers: &[u32], n: u32) -> bool
+    requires rising { IsStrictlyIncreasing numbers.now }
+    ensures no { result ≡ false → All (λ m. m ≤ n) numbers.now }
+{
+    match numbers.last() {
+        Some(last) => *last > n,
+        None => false,
+    }
+}
+
+// Puts a number into a list, or takes it out where it is there. No number comes out of order where steps are in the
+// order of their items too.
+fn flip_inside(alloc: Global, items: &mut Vec<u32>, n: u32) -> Result<(), AllocError>
+    ensures flipped { OnOk result (IsFlipped items.old.items n items.new.items) }
+{
+    items.push(n)?;
     items.sort_unstable();
-    odd_ones(alloc, &items)
+    *items = odd_ones(alloc, items)?;
+    Ok(())
 }
 
 // Of numbers in order, those that stand an odd number of times, each once.
