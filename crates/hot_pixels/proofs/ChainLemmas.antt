@@ -1,5 +1,5 @@
 -- The points that a segment meets, in the order of their keys, are its chain.
-use Rattle.std.proofs.Common.{◌≡◌, ◌≢◌, inl, inr, refl, sym, ap, ◌∙◌, subst, arith, ℕ, zero, suc, ◌+◌, ◌-◌, ◌<◌, ◌≤◌, Bool, true, false, not, cond, List, [], ◌∷◌, ◌++◌, length, get_or, filter, Contains, AllPairs, IsTrue, Ordering, int_cmp, ℤ, ◌<ℤ◌, ◌≤ℤ◌}
+use Rattle.std.proofs.Common.{◌≡◌, ◌≢◌, inl, inr, refl, sym, ap, ◌∙◌, subst, arith, ℕ, zero, suc, ◌+◌, ◌-◌, ◌<◌, ◌≤◌, Bool, true, false, not, cond, List, [], ◌∷◌, length, get_or, filter, Contains, AllPairs, IsTrue, Ordering, int_cmp, ℤ, ◌<ℤ◌, ◌≤ℤ◌}
 use Rattle.std.specs.List.{count_by}
 use Rattle.std.specs.List.Sorted.{IsPermutation, IsSortedByKey}
 use Rattle.std.specs.Ordering.{is_lt, MatchOrdering}
@@ -8,7 +8,7 @@ use Rattle.std.proofs.lemmas.Cmp.{int_cmp_total, int_ranked}
 use Rattle.std.proofs.lemmas.Bool.{cases_lt}
 use Rattle.std.proofs.lemmas.List.{get_or_default}
 use Rattle.std.proofs.lemmas.List.Kept.{AllPairs-filter}
-use Rattle.std.proofs.lemmas.List.Sums.{sum_by-cons, sum_by-append, get_or-le-sum_by, length-filter}
+use Rattle.std.proofs.lemmas.List.Sums.{sum_by-cons, get_or-le-sum_by, length-filter}
 use Rattle.std.proofs.lemmas.List.Filters.{sum_by-filter_both}
 use Rattle.std.proofs.lemmas.List.Sorted.{IsPermutation-sym, Contains-permutation, sum_by-IsPermutation, sorted_far, ranks_by}
 use Rattle.lists.specs.Lists.{ascending, put_in_order}
@@ -36,12 +36,6 @@ once_if b = cond b 1 0
 
 pub times-cons : (g x : GridPoint) (xs : List GridPoint) → times g (x ∷ xs) ≡ once_if (same_point g x) + times g xs
 times-cons g x xs = sum_by-cons (λ y. cond (same_point g y) 1 0) x xs
-
-pub times-joined : (g : GridPoint) (xs ys : List GridPoint) → times g (xs ++ ys) ≡ times g xs + times g ys
-times-joined g xs ys = sum_by-append (λ y. cond (same_point g y) 1 0) xs ys
-
-pub times-last : (g : GridPoint) (xs : List GridPoint) (x : GridPoint) → times g (xs ++ x ∷ []) ≡ times g xs + once_if (same_point g x)
-times-last g xs x = let e = times-joined g xs (x ∷ []) in let f = times-cons g x [] in omega arith
 
 pub never : (g : GridPoint) (xs : List GridPoint) → ((y : GridPoint) → Contains xs y → same_point g y ≡ false) → times g xs ≡ 0
 never g [] h = refl
@@ -72,18 +66,6 @@ at_least_once g xs j d l e =
     let f = get_or-le-sum_by (λ y. cond (same_point g y) 1 0) xs j d l in
     let k : once_if (same_point g (get_or xs j d)) ≡ 1 = ap once_if (same_point_to g (get_or xs j d) (sym e)) in
     omega arith
-
-pub counts : (g : GridPoint) (xs : List GridPoint) → Contains xs g → 1 ≤ times g xs
-counts g xs c = at_least_once g xs c.0 g c.1 c.2
-
-pub counted : (g : GridPoint) (xs : List GridPoint) → 1 ≤ times g xs → Contains xs g
-counted g [] l = absurd (omega arith)
-counted g (x ∷ xs) l = by_test (same_point g x)
-    (λ e. subst (λ (y : GridPoint). Contains (x ∷ xs) y) (sym (same_point_from g x e)) (Contains-head x xs))
-    (λ e.
-    let c = times-cons g x xs in
-    let f : once_if (same_point g x) ≡ 0 = ap once_if e in
-    Contains-later x xs g (counted g xs (omega arith)))
 
 twice : (g : GridPoint) (xs : List GridPoint) (i j : ℕ) (d : GridPoint) → i < j → j < length xs → get_or xs i d ≡ g → get_or xs j d ≡ g → 2 ≤ times g xs
 twice g [] i j d l m e f = absurd (omega arith)

@@ -25,7 +25,7 @@ use Rattle.grid_base.specs.Boxes.{box_of}
 use Rattle.hot_pixels.specs.Found.{AreBucketsOver}
 use Rattle.hot_pixels.specs.declared.meetings.Meeting.{Meeting}
 use Rattle.hot_pixels.specs.Meetings.{AreBack, IsListed, AddsMeetings}
-use Rattle.hot_pixels.specs.Quiet.{IsEndOf, IsMarked, IsFound, IsGathered, IsSeen, KeepMarks, AreMarks, AreCrowdsMarked, MeetsEndsAlone, HasQuietEdge, ends_of}
+use Rattle.hot_pixels.specs.Quiet.{IsEndOf, IsMarked, IsFound, IsSeen, KeepMarks, AreMarks, AreCrowdsMarked, MeetsEndsAlone, HasQuietEdge, ends_of}
 use Rattle.hot_pixels.proofs.EdgeLemmas.{alone_along}
 use Rattle.hot_pixels.proofs.CrossingLemmas.{near_area}
 use Rattle.hot_pixels.proofs.MeetingLemmas.{adds_twice, none_back, no_lists}
@@ -73,9 +73,6 @@ module _ (edges : List Segment) (crowded : List Bool) (p : GridPoint) where
     adds_twice edges p old mid new before between after h.0 adds,
     All-more (IsSeen edges crowded new after b p) near k 0 l (All-weaker (IsSeen edges crowded mid between a p) (IsSeen edges crowded new after b p) (λ j s. seen_later mid new between after a b j adds grows s) (take k near) h.1) here,
   )
-
-  pub gathered_is_seen : (lasts : List (Option ℕ)) (meetings : List Meeting) (b : Bool) (i : ℕ) → slice_get crowded i ≡ Some false → IsGathered edges lasts meetings p i → IsSeen edges crowded lasts meetings b p i
-  gathered_is_seen lasts meetings b i e h = record { seen = λ s f m. elim (h.seen s f m) [ inl n ↦ inl n | inr n ↦ inr (inr (e, n)) ] }
 
 -- all are crowded
 pub all_inner : (edges : List Segment) (points : List GridPoint) → AreMarks points edges (replicate (length edges) true) (replicate (length edges) None) [] points

@@ -1,8 +1,8 @@
-ghost use Rattle.std.specs.Prelude.{◌≡◌, ◌-ℤ◌, ◌*ℤ◌, ◌<ℤ◌, true, IfOk};
+ghost use Rattle.std.specs.Prelude.{◌≡◌, ◌-ℤ◌, ◌*ℤ◌, ◌<ℤ◌, true, false, IfOk};
 ghost use Rattle.std.specs.Int.{int_signum};
 ghost use Rattle.plane_model.specs.Hot.{order_key};
 ghost use Rattle.grid_base.specs.Sizes.{IsGridNumber};
-ghost use Rattle.hot_pixels.specs.Chains.{AreSortedAlong, DoRise};
+ghost use Rattle.hot_pixels.specs.Chains.{AreSortedAlong, AppendsRising, DoRise};
 
 use grid_base::{Pt, PtList, Seg};
 use std::alloc::{AllocError, Global};
@@ -53,8 +53,8 @@ fn has_lower_key(s: &Seg, p: &Pt, q: &Pt) -> bool
     key_along(s, p) < key_along(s, q)
 }
 
-/// Whether the keys of the points along a segment rise, so that no point stands twice.
-pub fn do_rise(points: &[Pt], s: &Seg) -> bool
+// Whether the keys of the points along a segment rise, so that no point stands twice.
+fn do_rise(points: &[Pt], s: &Seg) -> bool
     ensures { result ≡ true → DoRise s.now points.now }
 {
     for k in 1..points.len() {
@@ -63,4 +63,28 @@ pub fn do_rise(points: &[Pt], s: &Seg) -> bool
         }
     }
     true
+}
+
+/// Appends points to a path in the order of their keys along a segment, where no two have one key.
+///
+/// The answer is whether it did; else the path stays as it was.
+pub fn append_rising(
+    alloc: Global,
+    path: &mut PtList,
+    points: Vec<Pt>,
+    s: &Seg,
+) -> Result<bool, AllocError>
+    ensures did { IfOk result (λ did. did ≡ true → AppendsRising s.now path.old points.items path.new) }
+    ensures stayed { IfOk result (λ did. did ≡ false → path.new ≡ path.old) }
+{
+    if do_rise(&points, s) {
+        path.append(&points)?;
+        return Ok(true);
+    }
+    let sorted = sorted_along(alloc, points, s)?;
+    if !do_rise(sorted.as_slice(), s) {
+        return Ok(false);
+    }
+    path.append(sorted.as_slice())?;
+    Ok(true)
 }

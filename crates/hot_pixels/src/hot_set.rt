@@ -8,7 +8,7 @@ ghost use Rattle.hot_pixels.specs.Near.{IsSearchable, HoldsRun};
 ghost use Rattle.hot_pixels.specs.Quiet.{MeetsEndsAlone, HasQuietEdge, AreMarks, AreLookedUp};
 ghost use Rattle.hot_pixels.specs.Stops.{stop_of};
 
-use crate::chains::{do_rise, sorted_along};
+use crate::chains::{append_rising, sorted_along};
 use crate::edges::{Edges, edges_of, known_edge};
 use crate::keys::each_once;
 use crate::meetings::ends_and_back;
@@ -168,12 +168,9 @@ impl HotSet {
             return self.append_searched(alloc, path, s);
         };
         let found = looked_up(alloc, &self.marking, &self.inner_runs, number, s)?;
-        if do_rise(&found, s) {
-            return path.append(&found);
-        }
-        let sorted = sorted_along(alloc, found, s)?;
-        if do_rise(sorted.as_slice(), s) {
-            return path.append(sorted.as_slice());
+        let is_done = append_rising(alloc, path, found, s)?;
+        if is_done {
+            return Ok(());
         }
         self.append_searched(alloc, path, s)
     }
