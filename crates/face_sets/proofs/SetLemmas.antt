@@ -1,10 +1,12 @@
 -- Ascending lists of numbers: what a binary search tells of them, and what is put in its place.
-use Rattle.std.proofs.Common.{◌≡◌, refl, sym, ap, ◌∙◌, subst, arith, ℕ, zero, suc, ◌+◌, ◌<◌, ◌≤◌, Bool, true, false, List, [], ◌∷◌, length, get_or, nat_eq, nat_lt, Ok, Err, Contains, All, inl, inr}
-use Rattle.std.specs.Prelude.{if◌then◌else◌}
+use Rattle.std.proofs.Common.{◌≡◌, refl, sym, ap, ◌∙◌, subst, arith, ℕ, zero, suc, ◌+◌, ◌-◌, ◌<◌, ◌≤◌, Bool, true, false, List, [], ◌∷◌, ◌++◌, length, get_or, nat_eq, nat_lt, Some, Ok, Err, Contains, All, inl, inr}
+use Rattle.std.specs.Prelude.{if◌then◌else◌, slice_get}
 use Rattle.std.specs.List.{insert, dedup}
 use Rattle.std.specs.List.Sorted.{IsStrictlyIncreasing, IsBinarySearchResult, IsPermutation, IsSorted}
 use Rattle.std.specs.Ordering.{nat_cmp}
 use Rattle.std.proofs.lemmas.Bool.{cases_lt, ltb-true, ltb-false, lt-ltb, le-ltb, eq-eqb, ne_eqb}
+use Rattle.std.proofs.lemmas.List.{get_or_default}
+use Rattle.std.proofs.lemmas.Option.{get_or_from_slice_get}
 use Rattle.std.proofs.lemmas.List.Folds.{list_any_at, list_any_none}
 use Rattle.std.proofs.lemmas.List.Elements.{All-from_get_or, All-contains, Contains-get_or}
 use Rattle.std.proofs.lemmas.List.Sorted.{searched, IsPermutation-sym, Contains-permutation}
@@ -83,6 +85,23 @@ put_found xs x i up r = let s = searched xs x (Ok i) r (rises xs up) in sym (put
 
 pub put_missed : (xs : List ℕ) (x i : ℕ) → IsStrictlyIncreasing xs → IsBinarySearchResult (λ y. nat_cmp y x) xs (Err i) → insert xs i x ≡ put_in_order nat_lt x xs
 put_missed xs x i up r = let s = searched xs x (Err i) r (rises xs up) in put_new xs i x s.0 s.1 s.2
+
+pub put_past : (xs : List ℕ) (x : ℕ) → All (λ (y : ℕ). y < x) xs → xs ++ x ∷ [] ≡ put_in_order nat_lt x xs
+put_past [] x below = refl
+put_past (y ∷ ys) x below =
+    let less : y < x = below 0 0 (omega arith) in
+    let e : nat_lt x y ≡ false = le-ltb x y (omega arith) in
+    let f : nat_lt y x ≡ true = lt-ltb y x less in
+    let more : ys ++ x ∷ [] ≡ put_in_order nat_lt x ys = put_past ys x (λ i d l. below (suc i) d (omega arith)) in
+    ap (λ zs. y ∷ zs) more ∙ sym (λ j. placed x y ys (e j) (f j))
+
+-- all are below what the last is below
+pub below_last : (xs : List ℕ) (last x : ℕ) → IsStrictlyIncreasing xs → slice_get xs (length xs - 1) ≡ Some last → last < x → All (λ (y : ℕ). y < x) xs
+below_last xs last x up found less i d l =
+    let first = get_or_default xs i d 0 l in
+    let value = get_or_from_slice_get xs (length xs - 1) last 0 found in
+    let far = rises xs up i (length xs - 1) (omega arith) (omega arith) in
+    omega arith
 
 pub put_IsStrictlyIncreasing : (x : ℕ) (xs : List ℕ) → IsStrictlyIncreasing xs → IsStrictlyIncreasing (put_in_order nat_lt x xs)
 put_IsStrictlyIncreasing x xs up = from_ascending (put_in_order nat_lt x xs) (put-IsAscending nat_lt nat_order x xs (to_ascending xs up))

@@ -1,4 +1,4 @@
-ghost use Rattle.std.specs.Prelude.{◌≡◌, ◌==◌, ◌++◌, ◌+ℤ◌, [], not, IfOk, OnOk, OnErr, filter, length, nat_eq, nat_lt};
+ghost use Rattle.std.specs.Prelude.{◌≡◌, ◌<◌, ◌==◌, ◌++◌, ◌+ℤ◌, [], true, not, All, IfOk, OnOk, OnErr, filter, length, nat_eq, nat_lt};
 ghost use Rattle.std.specs.List.Sorted.{IsStrictlyIncreasing};
 ghost use Rattle.lists.specs.Lists.{has, put_in_order, ascending};
 ghost use Rattle.face_sets.specs.Sets.{IsSetOf, area_of};
@@ -49,7 +49,7 @@ impl FaceSet {
 
     /// Puts a face into the set, where it isn't yet.
     ///
-    /// Cost: a binary search, and a move of the greater faces.
+    /// Cost: a binary search, and a move of the greater faces; neither where there is none.
     pub fn insert(&mut self, f: FaceId) -> Result<(), AllocError>
         ensures ok { OnOk result (self.new ≡ put_in_order nat_lt f self.old) }
         ensures err { OnErr result (self.new ≡ self.old) }
@@ -154,12 +154,27 @@ fn put(faces: &mut Vec<FaceId>, f: FaceId) -> Result<(), AllocError>
     ensures err { OnErr result (faces.new.items ≡ faces.old.items) }
     ensures ascending { IsStrictlyIncreasing faces.new.items }
 {
+    if is_past(faces, f) {
+        faces.push(f)?;
+        return Ok(());
+    }
     match faces.binary_search(&f) {
         Ok(_) => Ok(()),
         Err(place) => {
             faces.insert(place, f)?;
             Ok(())
         }
+    }
+}
+
+// Whether a face is greater than all of an ascending list.
+fn is_past(faces: &[FaceId], f: FaceId) -> bool
+    requires { IsStrictlyIncreasing faces.now }
+    ensures { result ≡ true → All (λ g. g < f) faces.now }
+{
+    match faces.last() {
+        Some(last) => last.num() < f.num(),
+        None => true,
     }
 }
 
