@@ -1,24 +1,29 @@
 -- Features that are read straight from their texts.
-use Rattle.std.proofs.Common.{◌≡◌, ℕ, ℤ, ◌-◌, ◌<◌, ◌≤◌, List, [], ◌∷◌, ◌++◌, length, refl, sym, ap, ◌∙◌, subst, arith, eqb, Bool, true, false, not, Option, Some, None, Result, Ok, Err, codes}
+use Rattle.std.proofs.Common.{◌≡◌, ℕ, ℤ, ◌-◌, ◌<◌, ◌≤◌, List, [], ◌∷◌, ◌++◌, filter, length, map, refl, sym, ap, ◌∙◌, subst, arith, eqb, Bool, true, false, not, Option, Some, None, Result, Ok, Err, codes}
 use Rattle.std.specs.Prelude.{if◌then◌else◌, IfSome, MatchOption, is_some}
 use Rattle.std.specs.Str.{bytes_eq}
 use Rattle.std.proofs.lemmas.Bool.{cond-false, ne_eqb, le-ltb}
-use Rattle.json_values.specs.Json.{JsonValue, ItemList, FieldList, null, boolean, number, string, array, object, no_items, item}
+use Rattle.std.proofs.lemmas.List.Elements.{filter-append}
+use Rattle.json_values.specs.Json.{JsonValue, FieldList, null, boolean, number, string, array, object, no_items, item}
 use Rattle.json_values.specs.Lists.{items_list, fields_list, put, value_named}
-use Rattle.numerals.specs.Numeral.{grid_of_text}
 use Rattle.json_read.specs.Straight.{IsPair, IsTakenArray, IsTakenObject, PutsOne}
-use Rattle.json_values.specs.Table.{NamedValues}
+use Rattle.json_values.specs.Seen.{json_value}
+use Rattle.json_values.specs.Table.{NamedValues, put_value}
 use Rattle.json_read.specs.Taking.{TakesOne}
-use Rattle.json_values.proofs.Putting.{same_bytes}
+use Rattle.json_values.specs.Value.{value_of}
+use Rattle.json_values.specs.declared.json.Json.{Json}
+use Rattle.json_values.specs.declared.json.Json.TheVariants as json
+use Rattle.json_values.specs.declared.value.Value.{Value}
+use Rattle.json_values.proofs.Putting.{flips, put_here, put_on, same_bytes}
 use Rattle.json_read.proofs.Taking.{value_put_other, value_put_same}
 use Rattle.plane_model.specs.Points.{GridPoint, Path}
 use Rattle.plane_model.specs.Drawing.{Polygon}
 use Rattle.grid_base.specs.Grid.{grid_point}
-use Rattle.geojson_io.specs.Reads.{Reads, Fault, on_ok, each, gives, fails, ◌>>=◌}
+use Rattle.geojson_io.specs.Reads.{Reads, on_ok, each, gives, fails, ◌>>=◌}
 use Rattle.geojson_io.specs.Positions.{numbered_point, or_range, position, positions, items_of, line, line_of, ring, ring_of, rings, is_closed}
-use Rattle.geojson_io.specs.Geometries.{geo_type_of, geometry, shape_of, shape_typed, some_points, some_lines, some_polygons, text_of, with_rings}
-use Rattle.geojson_io.specs.Features.{feature, feature_of_fields, in_feature, numbered, or_null, properties}
-use Rattle.geojson_io.specs.Straight.{ReadsAs, ReadsListAs, HasEach, Member, HasType, HasShape, HasGeometry, HasParts}
+use Rattle.geojson_io.specs.Geometries.{geo_type_of, geometry, has_rings, shape_of, shape_typed, some_points, some_lines, some_polygons, text_of, with_rings}
+use Rattle.geojson_io.specs.Features.{feature, feature_of_fields, in_feature, json_of, numbered, or_null, properties, property}
+use Rattle.geojson_io.specs.Straight.{AreProperties, ReadsAs, ReadsListAs, HasEach, HasGeometry, HasParts, HasPolygons, HasProperties, HasShape, HasType, Member}
 use Rattle.geojson_io.specs.declared.fault.ShapeWhy.{ShapeWhy}
 use Rattle.geojson_io.specs.declared.fault.ShapeWhy.TheVariants.{BadPosition, Collection, LineShort, NotGeo, RingOpen, RingShort}
 use Rattle.geojson_io.specs.declared.shape.GeoShape.{GeoShape}
@@ -28,7 +33,9 @@ use Rattle.geojson_io.specs.declared.reading.types.GeoType.{GeoType}
 use Rattle.geojson_io.specs.declared.reading.types.GeoType.TheVariants as type
 use Rattle.geojson_io.specs.declared.reading.types.Member.TheVariants as member
 use Rattle.geojson_io.specs.declared.reading.straight_features.GeometryTaker.{GeometryTaker}
+use Rattle.geojson_io.specs.declared.reading.straight_shapes.PolygonTaker.{PolygonTaker}
 use Rattle.geojson_io.specs.declared.reading.straight_features.PartTaker.{PartTaker}
+use Rattle.geojson_io.specs.declared.reading.straight_features.PropertyTaker.{PropertyTaker}
 use Rattle.geojson_io.proofs.ReadLemmas.{each_more}
 
 -- ## Positions, and lists of them
@@ -99,6 +106,23 @@ pub polygon_shape : (places room : ℕ) (polygon : Polygon) (after : ℕ) (v : J
 polygon_shape places room [] after v ps e n s = absurd (n refl)
 polygon_shape places room (r ∷ rs) after v ps e n s = ap one_polygon e ∙ ap (λ (qs : List Polygon). Ok (Polygons qs, after)) (sym s)
 
+pub lines_shape : (places room : ℕ) (ls : List Path) (after : ℕ) (v : JsonValue) (shape : GeoShape) → ReadsAs (λ (j : JsonValue). items_of j >>= each (line places)) room ls after v → shape ≡ some_lines ls → ReadsAs (shape_of places type.MultiLineString) room shape after v
+lines_shape places room ls after v shape e s =
+    ap (λ (r : Result (List Path × ℕ) ShapeWhy). on_ok r (λ (q : List Path × ℕ). Ok (some_lines q.0, q.1))) e ∙ ap (λ (g : GeoShape). Ok (g, after)) (sym s)
+
+pub polygon_taken : (first old new : PolygonTaker) (polygon : Polygon) (v : JsonValue) → ReadsAs (rings old.places) old.left polygon new.left v → new.places ≡ old.places → new.polygons ≡ old.polygons ++ filter has_rings (polygon ∷ []) → TakesOne (HasPolygons first old) (HasPolygons first new) v
+polygon_taken first old new polygon v e places more vs h =
+    let all : HasEach rings first.places first.left old.places new.left (h.0 ++ polygon ∷ []) (vs ++ v ∷ []) = each_taken rings first.places first.left old.places old.left h.0 polygon new.left (h.0 ++ polygon ∷ []) v e refl vs h.1 in
+    (h.0 ++ polygon ∷ [], (places ∙ all.0, all.1), more ∙ ap (λ (ps : List Polygon). ps ++ filter has_rings (polygon ∷ [])) h.2 ∙ sym (filter-append has_rings h.0 (polygon ∷ [])))
+
+pub polygons_shape : (first now : PolygonTaker) (v : JsonValue) (shape : GeoShape) → first.polygons ≡ [] → IsTakenArray (HasPolygons first first) (HasPolygons first now) v → shape ≡ some_polygons now.polygons → ReadsAs (shape_of first.places type.MultiPolygon) first.left shape now.left v
+polygons_shape first now v shape start h s =
+    let end : HasPolygons first now (items_list h.0) = h.2 [] ([], (refl, refl), start) in
+    let read : shape_of first.places type.MultiPolygon (array h.0) first.left ≡ Ok (shape, now.left) =
+    ap (λ (r : Result (List Polygon × ℕ) ShapeWhy). on_ok (on_ok r (λ (q : List Polygon × ℕ). with_rings q.0 q.1)) (λ (q : List Polygon × ℕ). Ok (some_polygons q.0, q.1))) end.1.1
+    ∙ ap (λ (ps : List Polygon). Ok (some_polygons ps, now.left)) (sym end.2) ∙ ap (λ (g : GeoShape). Ok (g, now.left)) (sym s) in
+    subst (λ (w : JsonValue). shape_of first.places type.MultiPolygon w first.left ≡ Ok (shape, now.left)) (sym h.1) read
+
 -- ## Geometries
 
 -- no member yet, or a type
@@ -111,10 +135,11 @@ type_taken first old new s t v kind shape is named places left new_kind new_shap
     let before : HasType first old fs = subst (λ (o : Option GeoShape). MatchOption o (HasType first old fs) (λ g. HasShape first old g fs)) shape h.1 in
     let none : fs ≡ [] = subst (StartsWith fs) kind before.1 in
     let later : List Member = put fs (codes "type") v in
-    let one : later ≡ (codes "type", string s) ∷ [] = ap (λ (gs : List Member). put gs (codes "type") v) none ∙ ap (λ (w : JsonValue). (codes "type", w) ∷ []) is in
-    (places ∙ h.0,
+    let one : later ≡ (codes "type", string s) ∷ [] = ap (λ (gs : List Member). put gs (codes "type") v) none ∙ ap (λ (w : JsonValue). (codes "type", w) ∷ []) is in (
+      places ∙ h.0,
       subst (λ (o : Option GeoShape). MatchOption o (HasType first new later) (λ g. HasShape first new g later)) (sym new_shape)
-      (left ∙ before.0, subst (StartsWith later) (sym new_kind) (s, named, one)))
+          (left ∙ before.0, subst (StartsWith later) (sym new_kind) (s, named, one)),
+    )
 
 pub coordinates_taken : (first old new : GeometryTaker) (t : GeoType) (g : GeoShape) (v : JsonValue)
     → old.kind ≡ Some t → old.shape ≡ None → ReadsAs (shape_of old.places t) old.left g new.left v → new.places ≡ old.places → new.shape ≡ Some g → PutsOne (HasGeometry first old) (HasGeometry first new) (codes "coordinates") v
@@ -142,15 +167,49 @@ typed_at places room ms =
 
 pub geometry_read : (first now : GeometryTaker) (g : GeoShape) (v : JsonValue) → IsTakenObject (HasGeometry first first) (HasGeometry first now) v → first.kind ≡ None → first.shape ≡ None → now.shape ≡ Some g → ReadsAs (geometry first.places) first.left g now.left v
 geometry_read first now g v h kind shape now_shape =
-    let start : HasGeometry first first [] =
-    (refl,
+    let start : HasGeometry first first [] = (
+      refl,
       subst (λ (o : Option GeoShape). MatchOption o (HasType first first []) (λ g. HasShape first first g [])) (sym shape)
-      (refl, subst (StartsWith []) (sym kind) refl)) in
+          (refl, subst (StartsWith []) (sym kind) refl),
+    ) in
     let ms : List Member = fields_list h.0 in
     let shaped : HasShape first now g ms = subst (λ (o : Option GeoShape). MatchOption o (HasType first now ms) (λ g. HasShape first now g ms)) now_shape (h.2 start).1 in
     let read : typed_at first.places first.left ms ≡ Ok (g, now.left) =
     ap (typed_at first.places first.left) shaped.4 ∙ (λ i. typed_if first.places (no_collection shaped.0 shaped.1 shaped.3 i) (shaped.3 i) (Some shaped.2) first.left) ∙ shaped.5 in
     subst (λ (w : JsonValue). geometry first.places w first.left ≡ Ok (g, now.left)) (sym h.1) read
+
+-- ## Properties
+
+abbrev put_if : Bool → List ℕ × Value → NamedValues → List ℕ → Value → NamedValues
+put_if here f fs name w = if here then (f.0, w) ∷ fs else f ∷ put_value fs name w
+
+property_put : (fs : List Member) (name : List ℕ) (v : JsonValue) → map property (put fs name v) ≡ put_value (map property fs) name (value_of (json_of v))
+property_put [] name v = refl
+property_put (f ∷ fs) name v = go (bytes_eq f.0 name) refl (property_put fs name v)
+  where
+    go : (b : Bool) → bytes_eq f.0 name ≡ b → map property (put fs name v) ≡ put_value (map property fs) name (value_of (json_of v)) → map property (put (f ∷ fs) name v) ≡ put_value (map property (f ∷ fs)) name (value_of (json_of v))
+    go true e h =
+        ap (λ (gs : List Member). map property gs) (put_here f fs name v e) ∙ ap (λ (n : List ℕ). (n, value_of (json_of v)) ∷ map property fs) (sym (same_bytes f.0 name e))
+        ∙ sym (ap (λ (b : Bool). put_if b (property f) (map property fs) name (value_of (json_of v))) (flips name f.0 ∙ e))
+    go false e h =
+        ap (λ (gs : List Member). map property gs) (put_on f fs name v e) ∙ ap (λ (gs : NamedValues). property f ∷ gs) h
+        ∙ sym (ap (λ (b : Bool). put_if b (property f) (map property fs) name (value_of (json_of v))) (flips name f.0 ∙ e))
+
+json_again : (j : Json) → json_of (json_value j) ≡ j
+json_again json.Null = refl
+json_again (json.Bool b) = refl
+json_again (json.Num t) = refl
+json_again (json.Text t) = refl
+json_again (json.List items) = refl
+json_again (json.Object fs) = refl
+
+pub property_taken : (first old new : PropertyTaker) (name : List ℕ) (j : Json) (value : Value) → value ≡ value_of j → new.fields ≡ put_value old.fields name value → PutsOne (HasProperties first old) (HasProperties first new) name (json_value j)
+property_taken first old new name j value e put_is fs h =
+    put_is ∙ (λ i. put_value (h i) name ((e ∙ ap (λ (k : Json). value_of k) (sym (json_again j))) i)) ∙ sym (property_put fs name (json_value j))
+
+pub properties_read : (first now : PropertyTaker) (v : JsonValue) → first.fields ≡ [] → IsTakenObject (HasProperties first first) (HasProperties first now) v → AreProperties now.fields v
+properties_read first now v start h room =
+    subst (λ (w : JsonValue). properties (Some w) room ≡ Ok (now.fields, room)) (sym h.1) (ap (λ (ps : NamedValues). Ok (ps, room)) (sym (h.2 start)))
 
 -- ## Features
 

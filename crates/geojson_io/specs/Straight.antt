@@ -1,18 +1,23 @@
 -- Features that are read straight from their texts, without a JSON value of their coordinates.
-use Rattle.std.specs.Prelude.{ℕ, ◌≡◌, true, List, [], ◌∷◌, codes, Some, Ok, IfSome, MatchOption}
+use Rattle.std.specs.Prelude.{ℕ, ◌≡◌, true, List, [], ◌∷◌, filter, map, codes, Some, Ok, IfSome, MatchOption}
 use Rattle.json_values.specs.Json.{JsonValue, ItemList, string, array, item}
 use Rattle.json_values.specs.Lists.{value_named}
+use Rattle.json_values.specs.Table.{NamedValues}
+use Rattle.plane_model.specs.Drawing.{Polygon}
 use Rattle.geojson_io.specs.Reads.{Reads, each}
 use Rattle.geojson_io.specs.Positions.{position, line, ring, rings}
-use Rattle.geojson_io.specs.Geometries.{geo_type_of, geometry, shape_of}
-use Rattle.geojson_io.specs.Features.{or_null, properties}
+use Rattle.geojson_io.specs.Geometries.{geo_type_of, geometry, has_rings, shape_of}
+use Rattle.geojson_io.specs.Features.{or_null, properties, property}
 use Rattle.geojson_io.specs.declared.fault.ShapeWhy.{ShapeWhy}
 use Rattle.geojson_io.specs.declared.shape.GeoShape.{GeoShape}
 use Rattle.geojson_io.specs.declared.reading.types.GeoType.{GeoType}
+use Rattle.geojson_io.specs.declared.reading.straight_shapes.LineTaker.{LineTaker}
+use Rattle.geojson_io.specs.declared.reading.straight_shapes.PolygonTaker.{PolygonTaker}
 use Rattle.geojson_io.specs.declared.reading.straight_shapes.PositionTaker.{PositionTaker}
 use Rattle.geojson_io.specs.declared.reading.straight_shapes.RingTaker.{RingTaker}
 use Rattle.geojson_io.specs.declared.reading.straight_features.GeometryTaker.{GeometryTaker}
 use Rattle.geojson_io.specs.declared.reading.straight_features.PartTaker.{PartTaker}
+use Rattle.geojson_io.specs.declared.reading.straight_features.PropertyTaker.{PropertyTaker}
 
 -- this is read of a value, which leaves `after` of the room
 abbrev pub ReadsAs : {A : Type 0} → (JsonValue → Reads ShapeWhy A) → ℕ → A → ℕ → JsonValue → Type 0
@@ -34,6 +39,13 @@ HasPositions first now = HasEach position first.places first.left now.places now
 abbrev pub HasRings : RingTaker → RingTaker → List JsonValue → Type 0
 HasRings first now = HasEach ring first.places first.left now.places now.left now.polygon
 
+abbrev pub HasLines : LineTaker → LineTaker → List JsonValue → Type 0
+HasLines first now = HasEach line first.places first.left now.places now.left now.lines
+
+-- those that have rings are kept
+abbrev pub HasPolygons : PolygonTaker → PolygonTaker → List JsonValue → Type 0
+HasPolygons first now vs = (ps : List Polygon) × HasEach rings first.places first.left now.places now.left ps vs × (now.polygons ≡ filter has_rings ps)
+
 abbrev pub Member : Type 0
 Member = List ℕ × JsonValue
 
@@ -49,6 +61,13 @@ HasShape first now g fs =
 
 abbrev pub HasGeometry : GeometryTaker → GeometryTaker → List Member → Type 0
 HasGeometry first now fs = (now.places ≡ first.places) × MatchOption now.shape (HasType first now fs) (λ g. HasShape first now g fs)
+
+abbrev pub HasProperties : PropertyTaker → PropertyTaker → List Member → Type 0
+HasProperties first now fs = now.fields ≡ map property fs
+
+-- a value that has these named values as properties
+abbrev pub AreProperties : NamedValues → JsonValue → Type 0
+AreProperties fields v = (room : ℕ) → properties (Some v) room ≡ Ok (fields, room)
 
 -- the parts of a feature that its members hold
 pub record HasParts (first now : PartTaker) (fs : List Member) : Type 0 where

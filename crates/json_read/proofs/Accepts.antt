@@ -5,7 +5,8 @@ use Rattle.std.proofs.lemmas.Bool.Decides.{nat_tests}
 use Rattle.numerals.specs.Bytes.{is_white, is_digit, NextFails}
 use Rattle.json_values.specs.Grammar.{White, no_white, white, Quoted, quoted, Denotes, is_null, is_true, is_false, is_number, is_string, no_elements, elements, no_members, members, Elements, last_element, element, Members, last_member, member, Padded, padded, Mark, no_mark, mark, JsonText, text}
 use Rattle.json_read.specs.Machine.{Place, Open, in_array, in_object, is_value, is_name, run, step, opens, accepted, start, in_mark, value, first_value, first_name, next_name, colon, after, in_word}
-use Rattle.json_read.specs.Reading.{Runs, NextIsNot}
+use Rattle.json_read.specs.Reading.{Runs}
+use Rattle.numerals.specs.Bytes.{NextIsNot}
 use Rattle.json_values.specs.Json.{JsonValue}
 use Rattle.json_read.proofs.AcceptsNumbers.{Ends, white_ends, number_runs, number_first}
 use Rattle.json_read.proofs.AcceptsStrings.{quoted_runs}

@@ -12,7 +12,8 @@ use Rattle.json_read.specs.declared.reader.Fault.TheVariants.{Syntax}
 use Rattle.json_read.specs.declared.reader.Stop.{Stop}
 use Rattle.json_read.specs.declared.reader.Stop.TheVariants as stop
 use Rattle.json_read.specs.Machine.{Place, Open, in_array, run, step, fault, value, first_value, after}
-use Rattle.json_read.specs.Reading.{Runs, AtFault, NextIsNot, PassesAt, BreaksAt, outside, inside, behind, ShowsPadded, ArrayText}
+use Rattle.json_read.specs.Reading.{Runs, AtFault, PassesAt, BreaksAt, outside, inside, behind, ShowsPadded, ArrayText}
+use Rattle.numerals.specs.Bytes.{NextIsNot}
 use Rattle.json_read.proofs.Names.{ByteFault}
 use Rattle.json_read.proofs.Runs.{moves, stops, moves_alike}
 use Rattle.json_read.proofs.Sequences.{Then, then_passes_at, then_breaks_at, first_breaks_at, as_breaks_at, as_passes_at, lifted, white_passes, white_append}

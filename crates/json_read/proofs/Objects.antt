@@ -13,7 +13,8 @@ use Rattle.json_read.specs.declared.reader.Fault.TheVariants.{Syntax}
 use Rattle.json_read.specs.declared.reader.Stop.{Stop}
 use Rattle.json_read.specs.declared.reader.Stop.TheVariants as stop
 use Rattle.json_read.specs.Machine.{Place, Open, in_object, run, step, fault, value, first_name, next_name, after}
-use Rattle.json_read.specs.Reading.{Runs, Passes, Breaks, AtFault, NextIsNot, MembersSoFar, NameText, PassesAt, BreaksAt, outside, inside, behind, ShowsPadded, ObjectText}
+use Rattle.json_read.specs.Reading.{Runs, Passes, Breaks, AtFault, MembersSoFar, NameText, PassesAt, BreaksAt, outside, inside, behind, ShowsPadded, ObjectText}
+use Rattle.numerals.specs.Bytes.{NextIsNot}
 use Rattle.json_read.proofs.Names.{ByteFault, SomeName}
 use Rattle.json_read.proofs.Runs.{moves, stops, moves_alike}
 use Rattle.json_read.proofs.Sequences.{Then, then_passes_at, then_breaks_at, first_breaks_at, as_breaks_at, as_passes_at, lifted, lifted_breaks, white_passes, white_append}

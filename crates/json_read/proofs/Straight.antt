@@ -1,22 +1,26 @@
 -- Values that are read straight from a text.
-use Rattle.std.proofs.Common.{ℕ, ℤ, suc, ◌≡◌, ◌++◌, List, [], ◌∷◌, refl, ap, sym, subst, Some}
+use Rattle.std.proofs.Common.{ℕ, ℤ, suc, ◌≡◌, List, [], ◌∷◌, refl, ap, ◌∙◌, sym, subst, take, drop, take-append-drop, Option, Some, None, is_some, IsTrue}
 use Rattle.json_read.specs.AsciiStrings.{ClosesAsAscii}
 use Rattle.numerals.specs.Bytes.{is_white}
 use Rattle.json_values.specs.Json.{JsonValue, ItemList, FieldList, no_items, item, no_fields, fields_of, number, string}
 use Rattle.json_values.specs.Lists.{fields_list, put}
-use Rattle.json_read.specs.Machine.{in_array, in_object, is_name, is_value, first_value, first_name, next_name, value, after}
-use Rattle.numerals.specs.Numeral.{grid_of_text}
-use Rattle.json_read.specs.Reading.{MembersSoFar, NameText, NextIsNot, NumeralOf, Passes, PassesAt, ArrayText, ObjectText, Shows, inside, outside, behind}
-use Rattle.numerals.specs.Bytes.{drop_while}
+use Rattle.json_read.specs.Machine.{run, in_array, in_object, is_name, is_value, first_value, first_name, next_name, value, after}
+use Rattle.numerals.specs.Numeral.{Numeral, grid_at, grid_of_text, numeral_of, IsNumeral}
+use Rattle.numerals.specs.Plain.{IsGridFront, is_numeric}
+use Rattle.numerals.specs.Numbers.{Number}
+use Rattle.json_read.specs.Reading.{MembersSoFar, NameText, NumeralOf, Passes, PassesAt, ArrayText, ObjectText, Shows, inside, outside, behind}
+use Rattle.numerals.specs.Bytes.{NextFails, NextIsNot, drop_while}
 use Rattle.json_values.specs.Seen.{json_value}
 use Rattle.json_read.specs.Straight.{HasReadAt, HasTakenMembers, IsGridNumber, IsPair, IsTakenArray, IsTakenObject, PutsOne}
 use Rattle.json_read.specs.Taking.{HasTakenArray, HasValue, TakesOne}
 use Rattle.json_values.specs.declared.json.Json.{Json}
 use Rattle.json_values.specs.declared.json.Json.TheVariants as json
+use Rattle.json_read.proofs.AcceptsNumbers.{number_runs}
+use Rattle.numerals.proofs.NumbersAreNumerals.{numeral_is_number}
 use Rattle.json_read.proofs.Arrays.{ItemsSoFar, array_init, array_more, array_ends}
 use Rattle.json_read.proofs.AsciiStrings.{ascii_passes}
 use Rattle.json_read.proofs.Names.{name_passes}
-use Rattle.json_read.proofs.Objects.{object_init, object_more, object_ends}
+use Rattle.json_read.proofs.Objects.{object_empty, object_init, object_more, object_ends}
 use Rattle.json_values.proofs.Seen.{Member, fields_list-fields_of}
 use Rattle.json_read.proofs.Taking.{ItemsTaken, items_more, items_end}
 use Rattle.json_read.proofs.Values.{held_value, number_value, padded_passes, string_value}
@@ -36,6 +40,24 @@ name_read s old m1 m2 m3 m4 new w e h u c = name_passes s old m1 m2 m3 m4 new w 
 
 pub number_read : (d places : ℕ) (g : ℤ) (s old m1 m2 new : List ℕ) → m1 ≡ drop_while is_white old → Passes (NumeralOf s) value after m1 m2 → new ≡ drop_while is_white m2 → grid_of_text places s ≡ Some g → HasReadAt d (IsGridNumber places g) old new
 number_read d places g s old m1 m2 new w n u e = (json.Num s, value_around d (json.Num s) old m1 m2 new w (number_value d s m1 m2 n) u, (s, refl, e))
+
+-- a number that a numeral is, and what ends it
+front_passes : (n : ℕ) (old : List ℕ) → IsNumeral (take n old) → NextFails is_numeric (drop n old) → Passes (NumeralOf (take n old)) value after old (drop n old)
+front_passes n old h ends =
+    let number : Number (take n old) = numeral_is_number (take n old) h in
+    record { reads = (take n old, sym (take-append-drop n old), (number, refl)); runs = λ d k. ap (run d value k) (sym (take-append-drop n old)) ∙ number_runs (drop n old) number ends d k }
+
+grid_is_numeral : (places : ℕ) (g : ℤ) (s : List ℕ) → grid_of_text places s ≡ Some g → IsNumeral s
+unfolding grid_of_text
+grid_is_numeral places g s e = go (numeral_of s) refl
+  where
+    go : (v : Option Numeral) → numeral_of s ≡ v → IsNumeral s
+    go None n = absurd (let t : None ≡ Some g = sym (ap (grid_at places) n) ∙ e in cc)
+    go (Some v) n = subst (λ (o : Option Numeral). IsTrue (is_some o)) (sym n) refl
+
+pub front_read : (d places n : ℕ) (g : ℤ) (old m1 m2 new : List ℕ) → m1 ≡ drop_while is_white old → IsGridFront places m1 g n → m2 ≡ drop n m1 → new ≡ drop_while is_white m2 → HasReadAt d (IsGridNumber places g) old new
+front_read d places n g old m1 m2 new w h back u =
+    number_read d places g (take n m1) old m1 (drop n m1) new w (front_passes n m1 (grid_is_numeral places g (take n m1) h.0) h.1) (u ∙ ap (λ (xs : List ℕ). drop_while is_white xs) back) h.0
 
 -- ## Arrays
 
@@ -66,6 +88,9 @@ item_end d P M Q old m1 m2 new h v c = items_end d P M Q v.0 old m1 m2 new h v.1
 
 abbrev pub MembersTaken : ℕ → (List Member → Type 0) → (List Member → Type 0) → List ℕ → List ℕ → Type 0
 MembersTaken d P Q old new = (fields : FieldList) × PassesAt (MembersSoFar d fields) (inside in_object d first_name) (inside in_object d next_name) old new × (P [] → Q (fields_list fields))
+
+pub members_none : (d : ℕ) (P : List Member → Type 0) (old m1 new : List ℕ) → m1 ≡ drop_while is_white old → m1 ≡ 125 ∷ new → HasTakenMembers d P P old new
+members_none d P old m1 new w e = (no_fields, object_empty d no_fields old m1 new refl w e, λ p. p)
 
 pub members_init : (d : ℕ) (P : List Member → Type 0) (old m1 new : List ℕ) → m1 ≡ drop_while is_white old → new ≡ m1 → NextIsNot 125 new → MembersTaken d P P old new
 members_init d P old m1 new w s n = (no_fields, object_init d no_fields old m1 new refl w s n, λ p. p)

@@ -14,7 +14,8 @@ use Rattle.json_read.specs.declared.reader.Stop.{Stop}
 use Rattle.json_read.specs.declared.reader.taking.Taking.{Taking}
 use Rattle.json_read.specs.declared.reader.taking.TakenObject.{TakenObject}
 use Rattle.json_read.specs.Machine.{in_array, in_object, start, value, first_value, first_name, next_name, after}
-use Rattle.json_read.specs.Reading.{AtFault, NextIsNot, Reads, Passes, MembersSoFar, NameText, PassesAt, BreaksAt, outside, inside, behind, Shows, ShowsPadded, ArrayText, ObjectText, FaultsAt}
+use Rattle.json_read.specs.Reading.{AtFault, Reads, Passes, MembersSoFar, NameText, PassesAt, BreaksAt, outside, inside, behind, Shows, ShowsPadded, ArrayText, ObjectText, FaultsAt}
+use Rattle.numerals.specs.Bytes.{NextIsNot}
 use Rattle.json_read.specs.Taking.{TakesOne, TakesAll, TookNamed, AreFieldsOf, IsTakenText, HasOtherMember, IsNoFirstArray, HasTakenArray, PutsOther, TakesFirst, HasValue, HasFirstArray, HasMember, ValueBreaks, TakesValue, TakesMember}
 use Rattle.json_read.proofs.Arrays.{ItemsSoFar, array_empty, array_init, array_more, array_ends, array_item_breaks, array_comma_breaks, items_list-items_of}
 use Rattle.json_read.proofs.Names.{ByteFault}

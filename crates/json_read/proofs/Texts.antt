@@ -12,7 +12,8 @@ use Rattle.json_read.specs.declared.reader.Fault.TheVariants.{Syntax}
 use Rattle.json_read.specs.declared.reader.Stop.{Stop}
 use Rattle.json_read.specs.declared.reader.Stop.TheVariants as stop
 use Rattle.json_read.specs.Machine.{Place, Moves, run, fault, start, in_mark, value, after}
-use Rattle.json_read.specs.Reading.{Reads, Runs, Fails, Passes, Breaks, AtFault, NextIsNot, PassesAt, BreaksAt, outside, ShowsPadded, FaultsAt}
+use Rattle.json_read.specs.Reading.{Reads, Runs, Fails, Passes, Breaks, AtFault, PassesAt, BreaksAt, outside, ShowsPadded, FaultsAt}
+use Rattle.numerals.specs.Bytes.{NextIsNot}
 use Rattle.json_read.proofs.Names.{ByteFault}
 use Rattle.json_read.proofs.Parts.{passes_none, passes_one, breaks_here, append_nil}
 use Rattle.json_read.proofs.Runs.{stops, moves_alike}

@@ -10,7 +10,7 @@ use Rattle.json_values.specs.Grammar.{White, no_white, white, Chars, no_chars, p
 use Rattle.numerals.specs.Numbers.{Digits, no_digits, digit, SomeDigits, some_digits, Whole, zero_alone, from_one, Fraction, no_fraction, fraction, Exponent, no_exponent, exponent, Number, numeral}
 use Rattle.json_values.specs.Lists.{items_list, fields_list, merged}
 use Rattle.json_read.specs.Machine.{run, fault, value, after}
-use Rattle.json_read.specs.Reading.{NextIsNot}
+use Rattle.numerals.specs.Bytes.{NextIsNot}
 use Rattle.json_values.specs.Json.{JsonValue, ItemList, FieldList, number, string, array, object, no_items, item, items_of, no_fields, field, fields_of}
 use Rattle.json_read.specs.declared.reader.Fault.TheVariants.{Syntax}
 use Rattle.json_read.proofs.Accepts.{denotes_runs, denotes_first, FirstByte, padded_unmarked}

@@ -12,12 +12,8 @@ use Rattle.std.specs.Str.{encode_utf8_all}
 use Rattle.json_values.specs.Grammar.{Chars, Spells, joined, Denotes, Members, Padded, White, Quoted, JsonText}
 use Rattle.numerals.specs.Numbers.{SomeDigits, Number}
 use Rattle.json_values.specs.Lists.{fields_list, merged}
-use Rattle.numerals.specs.Bytes.{is_digit, is_hex, NextFails}
+use Rattle.numerals.specs.Bytes.{is_digit, is_hex, NextFails, NextIsNot}
 use Rattle.json_read.specs.declared.reader.Fault.TheVariants.{Syntax, Utf8}
-
--- the next byte is another than b, or there is none
-abbrev pub NextIsNot : ℕ → List ℕ → Type 0
-NextIsNot b bytes = (bs : List ℕ) → bytes ≡ b ∷ bs → ⊥
 
 -- a text with R was read
 abbrev pub Reads : (List ℕ → Type 0) → List ℕ → List ℕ → Type 0

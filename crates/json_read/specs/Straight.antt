@@ -1,8 +1,8 @@
 -- Values that are read straight from a text, without a `Json` of them.
-use Rattle.std.specs.Prelude.{ℕ, ℤ, ◌≡◌, List, [], ◌∷◌, Some, Result, MatchResult}
+use Rattle.std.specs.Prelude.{ℕ, ℤ, ◌≡◌, List, [], Some, Result, MatchResult}
 use Rattle.json_values.specs.Json.{JsonValue, ItemList, FieldList, number, array, object, no_items, item}
 use Rattle.json_values.specs.Lists.{items_list, fields_list, put}
-use Rattle.json_read.specs.Machine.{in_array, in_object, first_value, first_name}
+use Rattle.json_read.specs.Machine.{in_object, first_name}
 use Rattle.numerals.specs.Numeral.{grid_of_text}
 use Rattle.json_read.specs.Reading.{PassesAt, ObjectText, inside, behind}
 use Rattle.json_values.specs.Seen.{json_value}

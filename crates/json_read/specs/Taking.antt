@@ -6,7 +6,8 @@ use Rattle.json_values.specs.Grammar.{JsonText, Mark}
 use Rattle.json_values.specs.Json.{JsonValue, ItemList, FieldList, array, object}
 use Rattle.json_values.specs.Lists.{items_list, fields_list, put, value_named}
 use Rattle.json_read.specs.Machine.{start, in_array, in_object, first_value, first_name, value, after}
-use Rattle.json_read.specs.Reading.{AtFault, NextIsNot, Reads, Passes, MembersSoFar, NameText, PassesAt, BreaksAt, outside, inside, behind, ShowsPadded, ArrayText, ObjectText, FaultsAt}
+use Rattle.json_read.specs.Reading.{AtFault, Reads, Passes, MembersSoFar, NameText, PassesAt, BreaksAt, outside, inside, behind, ShowsPadded, ArrayText, ObjectText, FaultsAt}
+use Rattle.numerals.specs.Bytes.{NextIsNot}
 use Rattle.json_values.specs.Seen.{json_value}
 use Rattle.json_values.specs.declared.json.Json.{Json}
 use Rattle.json_read.specs.declared.reader.Stop.{Stop}

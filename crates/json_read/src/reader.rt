@@ -5,7 +5,8 @@ ghost use Rattle.numerals.specs.Bytes.{is_white, is_digit, is_hex, is_exponent_l
 ghost use Rattle.json_values.specs.Grammar.{short_escape, Mark, is_high, is_low, mended as mended_char, pair as pair_char};
 ghost use Rattle.numerals.specs.Numbers.{Minus, Whole, Fraction, Exponent, Number, Sign};
 ghost use Rattle.json_read.specs.Machine.{behind_minus, behind_zero, behind_mantissa, behind_letter, behind_sign, value, start, after, first_value, first_name, next_name, in_word, in_array, in_object, Role, in_string, in_escape, in_hex, closed, second_bounds as bounds_of};
-ghost use Rattle.json_read.specs.Reading.{NextIsNot, Passes, Part, ReadsDigits, NumberBegins, NumeralOf, ClosesAs, StandsFor, StandsEscaped, StandsInHex, ReadsHexDigit, ReadsFollowing, joined_onto, PartAt, Shows, ShowsPadded, ArrayText, ObjectText, NameText, ReadsByte, ReadsText, outside, inside, behind};
+ghost use Rattle.json_read.specs.Reading.{Passes, Part, ReadsDigits, NumberBegins, NumeralOf, ClosesAs, StandsFor, StandsEscaped, StandsInHex, ReadsHexDigit, ReadsFollowing, joined_onto, PartAt, Shows, ShowsPadded, ArrayText, ObjectText, NameText, ReadsByte, ReadsText, outside, inside, behind};
+ghost use Rattle.numerals.specs.Bytes.{NextIsNot};
 ghost use Rattle.json_read.specs.AsciiStrings.{stands_alone, AllAlone, ClosesAsAscii};
 ghost use Rattle.json_read.specs.declared.reader.Fault.TheVariants.{Syntax};
 ghost use Rattle.json_read.specs.declared.reader.Stop.TheVariants.{Memory};

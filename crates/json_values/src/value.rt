@@ -39,6 +39,29 @@ impl Value {
         })
     }
 
+    /// The value of a cell that holds this JSON value, whose memory it keeps.
+    pub fn of_owned(json: Json) -> Value
+        ensures exact { result ≡ value_of json }
+    {
+        match json {
+            Json::Null => Value::Null,
+            Json::Bool(b) => Value::Bool(b),
+            Json::Num(numeral) => Value::of_owned_numeral(numeral),
+            Json::Text(text) => Value::Text(text),
+            Json::List(items) => Value::Tree(Json::List(items)),
+            Json::Object(fields) => Value::Tree(Json::Object(fields)),
+        }
+    }
+
+    fn of_owned_numeral(numeral: Text) -> Value
+        ensures exact { result ≡ number_value numeral (decimal_of_text numeral) }
+    {
+        match Decimal::parse(numeral.as_str()) {
+            Some(decimal) => Value::Num(decimal),
+            None => Value::Long(numeral),
+        }
+    }
+
     fn of_numeral(alloc: Global, numeral: &Text) -> Result<Value, AllocError>
         ensures exact { IfOk result (λ v. v ≡ number_value numeral.now (decimal_of_text numeral.now)) }
     {

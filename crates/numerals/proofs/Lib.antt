@@ -4,6 +4,7 @@ pub mod Decimals
 pub mod Digits
 pub mod Scaling
 pub mod NumeralParts
+pub mod NumeralFronts
 pub mod Shifts
 pub mod Quotients
 pub mod Rounding

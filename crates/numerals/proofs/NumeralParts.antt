@@ -38,7 +38,7 @@ exponent_none (b ∷ bs) l = absurd (omega arith)
 
 -- ## Digits at the front
 
-front : (text : List ℕ) (k n : ℕ) → n ≡ length (take k text) → take n text ≡ take k text
+pub front : (text : List ℕ) (k n : ℕ) → n ≡ length (take k text) → take n text ≡ take k text
 front text k n e = go (cases_lt (length text) k)
   where
     go : (length text < k) ⊎ (k ≤ length text) → take n text ≡ take k text

@@ -35,3 +35,7 @@ drop_while test (b ∷ bs) = elim (test b) [ true ↦ drop_while test bs | false
 -- the bytes of `new` begin with those of `old`
 abbrev pub Begins : List ℕ → List ℕ → Type 0
 Begins old new = (more : List ℕ) × (new ≡ old ++ more)
+
+-- the next byte is another than b, or there is none
+abbrev pub NextIsNot : ℕ → List ℕ → Type 0
+NextIsNot b bytes = (bs : List ℕ) → bytes ≡ b ∷ bs → ⊥

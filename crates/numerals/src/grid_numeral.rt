@@ -1,9 +1,11 @@
-ghost use Rattle.std.specs.Prelude.{◌≡◌, ◌≤◌};
+ghost use Rattle.std.specs.Prelude.{◌≡◌, ◌≤◌, IfSome, Some};
 ghost use Rattle.grid_bounds.specs.Bounds.{limit};
-ghost use Rattle.numerals.specs.Numeral.{grid_of_text, signed};
+ghost use Rattle.numerals.specs.Numeral.{grid_at, grid_of_text, signed};
+ghost use Rattle.numerals.specs.Plain.{IsGridFront, plain_numeral};
 ghost use Rattle.numerals.specs.Scaling.{goes_up, one_if};
 
 use crate::numerals::Scaled;
+use crate::plain_numeral::Plain;
 use crate::units::size_of;
 use grid_bounds::LIMIT;
 
@@ -25,6 +27,33 @@ pub fn numeral_to_grid(text: &str, places: u8) -> Option<i64>
         return None;
     }
     Some(with_sign(minus, size))
+}
+
+/// The grid number of the numeral at the front of a text, behind which no byte stands that could go on with it, and how
+/// many bytes it has.
+///
+/// Shape and units: as for `numeral_to_grid`.
+/// Errors: `None` where the grid number passes [`LIMIT`] either way, and also for a numeral that is long or has an
+/// exponent, which has to be read otherwise.
+pub fn front_to_grid(text: &[u8], places: u8) -> Option<(i64, usize)>
+    ensures { IfSome result (λ r. IsGridFront places text.now r.0 r.1) }
+{
+    let (plain, size) = Plain::front(text)?;
+    let number = plain_to_grid(&plain, places)?;
+    Some((number, size))
+}
+
+// The grid number of such a numeral.
+fn plain_to_grid(plain: &Plain, places: u8) -> Option<i64>
+    requires { plain.now.fraction ≤ 18 }
+    ensures exact { result ≡ grid_at places (Some (plain_numeral plain.now)) }
+{
+    let scaled = plain.scaled(places);
+    let size = scaled.units + rounding(&scaled, plain.minus);
+    if size > GRID_LIMIT {
+        return None;
+    }
+    Some(with_sign(plain.minus, size))
 }
 
 // What rounding adds to the size. Halves go up: away from zero above it, towards zero below it.

@@ -16,6 +16,6 @@ mod plain_numeral;
 mod units;
 
 pub use decimal::Decimal;
-pub use grid_numeral::numeral_to_grid;
+pub use grid_numeral::{front_to_grid, numeral_to_grid};
 pub use numerals::{digit_count, is_numeral};
 pub use units::whole_units;

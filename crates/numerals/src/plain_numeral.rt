@@ -1,6 +1,7 @@
-ghost use Rattle.std.specs.Prelude.{◌≡◌, ℕ, suc, ◌<◌, ◌≤◌, ◌*◌, ◌^◌, min, pos, ◌+ℤ◌, ◌-ℤ◌, IfSome, length, take};
-ghost use Rattle.numerals.specs.Numeral.{digits_at, number_onto, numeral_of, unsigned_numeral};
-ghost use Rattle.numerals.specs.Plain.{HasFraction, IsPlain};
+ghost use Rattle.std.specs.Prelude.{◌≡◌, ℕ, suc, ◌<◌, ◌≤◌, ◌*◌, ◌^◌, min, pos, ◌+ℤ◌, ◌-ℤ◌, ◌∷◌, IfNone, IfSome, length, take, false};
+ghost use Rattle.numerals.specs.Numeral.{digits_at, number_onto, numeral_of};
+ghost use Rattle.numerals.specs.Plain.{FrontFraction, IsPlain, IsPlainFront, IsUnsignedFront, is_numeric};
+ghost use Rattle.numerals.specs.Bytes.{NextFails, NextIsNot};
 ghost use Rattle.numerals.specs.Scaling.{IsScaled, IsCut};
 ghost use Rattle.numerals.specs.Units.{units_cap};
 
@@ -22,33 +23,50 @@ pub(crate) struct Plain {
 
 impl Plain {
     /// The numeral that a text is, where it is such a numeral.
-    #[tactic(auto, unfolding(crate::specs::Numeral::numeral_of))]
     pub(crate) fn read(text: &[u8]) -> Option<Plain>
         ensures { IfSome result (λ p. IsPlain (numeral_of text.now) p) }
     {
-        match text {
-            [b'-', unsigned @ ..] => Plain::read_unsigned(true, unsigned),
-            _ => Plain::read_unsigned(false, text),
+        let (plain, size) = Plain::front(text)?;
+        if size < text.len() {
+            return None;
+        }
+        Some(plain)
+    }
+
+    /// The numeral of this kind at the front of a text, behind which no byte stands that could go on with it, and how
+    /// many bytes it has.
+    pub(crate) fn front(text: &[u8]) -> Option<(Plain, usize)>
+        ensures { IfSome result (λ r. IsPlainFront text.now r.0 r.1) }
+    {
+        match behind_byte(text, b'-') {
+            Some(unsigned) => {
+                let (plain, size) = Plain::unsigned_front(true, unsigned)?;
+                Some((plain, size + 1))
+            }
+            None => Plain::unsigned_front(false, text),
         }
     }
 
-    fn read_unsigned(minus: bool, text: &[u8]) -> Option<Plain>
-        ensures { IfSome result (λ p. IsPlain (unsigned_numeral minus text.now) p) }
+    #[inline(always)]
+    fn unsigned_front(minus: bool, text: &[u8]) -> Option<(Plain, usize)>
+        ensures { IfSome result (λ r. IsUnsignedFront minus text.now r.0 r.1) }
     {
-        let (number, count) = front_number(0, text)?;
+        let (front, count) = front_number(0, text)?;
         let (whole, rest) = text.split_at(count);
         if !is_whole(whole) {
             return None;
         }
-        let (number, fraction) = fraction_number(number, rest)?;
-        Some(Plain {
+        let (number, fraction, size) = front_fraction(front, rest)?;
+        let plain = Plain {
             minus,
             number,
             fraction,
-        })
+        };
+        Some((plain, count + size))
     }
 
     /// Its size in units of 10^-`places`.
+    #[inline(always)]
     pub(crate) fn scaled(&self, places: u8) -> Scaled
         requires { self.now.fraction ≤ 18 }
         ensures { IsScaled self.now.number ((pos 0 -ℤ pos self.now.fraction) +ℤ pos places) result }
@@ -67,6 +85,7 @@ impl Plain {
 
 // The number that the digits at the front make after those of `n`, and how many they are; none where the number might
 // pass a machine word.
+#[inline(always)]
 fn front_number(n: u64, text: &[u8]) -> Option<(u64, usize)>
     ensures number { IfSome result (λ r. r.0 ≡ number_onto n (take r.1 text.now)) }
     ensures count { IfSome result (λ r. r.1 ≡ length (digits_at text.now)) }
@@ -84,18 +103,57 @@ fn front_number(n: u64, text: &[u8]) -> Option<(u64, usize)>
     Some((number, count))
 }
 
-// The same of a point and digits up to the end, or of nothing.
-fn fraction_number(n: u64, text: &[u8]) -> Option<(u64, usize)>
-    ensures { IfSome result (λ r. HasFraction n text.now r.0 r.1) }
+// The same of a point and digits, or of nothing, behind which no byte stands that could go on with a number; and how
+// many bytes these are.
+#[inline(always)]
+fn front_fraction(n: u64, text: &[u8]) -> Option<(u64, usize, usize)>
+    ensures { IfSome result (λ r. FrontFraction n text.now r.0 r.1 r.2) }
 {
-    let [b'.', behind @ ..] = text else {
-        return if text.is_empty() { Some((n, 0)) } else { None };
+    let Some(behind) = behind_byte(text, b'.') else {
+        return whole_front(n, text);
     };
     let (number, count) = front_number(n, behind)?;
-    if count == 0 || count < behind.len() || count > GREATEST_FRACTION {
+    let (_, rest) = behind.split_at(count);
+    if count == 0 || count > GREATEST_FRACTION || goes_on(rest) {
         return None;
     }
-    Some((number, count))
+    Some((number, count, count + 1))
+}
+
+fn whole_front(n: u64, text: &[u8]) -> Option<(u64, usize, usize)>
+    ensures { IfSome result (λ r. FrontFraction n text.now r.0 r.1 r.2) }
+{
+    if goes_on(text) {
+        return None;
+    }
+    Some((n, 0, 0))
+}
+
+// What is behind the byte `b`, where it is the next one.
+fn behind_byte(text: &[u8], b: u8) -> Option<&[u8]>
+    ensures some { IfSome result (λ behind. text.now ≡ b ∷ behind.now) }
+    ensures none { IfNone result (NextIsNot b text.now) }
+{
+    match text {
+        [next, behind @ ..] if *next == b => Some(behind),
+        _ => None,
+    }
+}
+
+// Whether the next byte may stand in a number.
+fn goes_on(text: &[u8]) -> bool
+    ensures { result ≡ false → NextFails is_numeric text.now }
+{
+    match text {
+        [] => false,
+        [next, ..] => is_in_number(*next),
+    }
+}
+
+fn is_in_number(byte: u8) -> bool
+    ensures { result ≡ is_numeric byte }
+{
+    is_digit(byte) || byte == b'e' || byte == b'E' || byte == b'.'
 }
 
 // The size of a number whose last `dropped` digits stand after the units.

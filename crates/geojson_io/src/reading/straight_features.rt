@@ -2,14 +2,18 @@ ghost use Rattle.std.specs.Prelude.{◌≡◌, true, IfOk, IfSome, codes};
 ghost use Rattle.json_read.specs.Straight.{HasRead, PutsOne};
 ghost use Rattle.geojson_io.specs.Features.{feature};
 ghost use Rattle.geojson_io.specs.Geometries.{geometry};
-ghost use Rattle.geojson_io.specs.Straight.{ReadsAs, HasGeometry, HasParts};
+ghost use Rattle.geojson_io.specs.Straight.{AreProperties, ReadsAs, HasGeometry, HasParts};
 
-use crate::reading::features::{Feature, properties_of};
+use crate::reading::features::Feature;
 use crate::reading::straight_shapes::straight_shape;
 use crate::reading::types::GeoType;
 use crate::shape::GeoShape;
-use json_read::{Fields, Json, MemberTaker, Reader};
+use json_read::{Fields, MemberTaker, Reader, Value};
 use std::alloc::{AllocError, Global};
+use text_core::Text;
+
+/// Properties of more names are read as a JSON value, which has an index of the names.
+const MOST_FIELDS: u32 = 64;
 
 // These read features straight from a text. Each answers `None` or `false` where the text may be a fault, or is none of
 // the common forms; it is read as a JSON value then.
@@ -104,10 +108,61 @@ fn straight_geometry(
     Ok(taker.shape)
 }
 
+// Properties that are read one by one.
+#[derive(Drop)]
+struct PropertyTaker {
+    alloc: Global,
+    fields: Fields,
+}
+
+impl MemberTaker for PropertyTaker {
+    ghost use Rattle.geojson_io.specs.Straight.{HasProperties};
+
+    ghost took = { HasProperties };
+
+    fn take_member(
+        &mut self,
+        name: &str,
+        reader: &mut Reader<'_>,
+        depth: u32,
+    ) -> Result<bool, AllocError> {
+        if self.fields.len() >= MOST_FIELDS {
+            return Ok(false);
+        }
+        let Some(json) = reader.any_value(depth)? else {
+            return Ok(false);
+        };
+        let name = Text::of(self.alloc, name)?;
+        self.fields.put(name, Value::of_owned(json))?;
+        Ok(true)
+    }
+}
+
+// Named values, for `width` of which room is made at first.
+fn straight_properties(
+    alloc: Global,
+    width: u32,
+    reader: &mut Reader<'_>,
+    depth: u32,
+) -> Result<Option<Fields>, AllocError>
+    ensures { IfOk result (λ found. IfSome found (λ fields. HasRead depth (AreProperties fields) reader.old reader.new)) }
+{
+    let mut taker = PropertyTaker {
+        alloc,
+        fields: Fields::with_capacity(alloc, width)?,
+    };
+    if !reader.members_by(depth, &mut taker)? {
+        return Ok(None);
+    }
+    Ok(Some(taker.fields))
+}
+
 // A feature that is read member by member, in any order.
 #[derive(Drop)]
 struct PartTaker {
     alloc: Global,
+    // how many properties are looked for
+    width: u32,
     places: u8,
     left: u32,
     is_feature: bool,
@@ -172,18 +227,22 @@ impl PartTaker {
     fn take_properties(&mut self, reader: &mut Reader<'_>, depth: u32) -> Result<bool, AllocError>
         ensures { IfOk result (λ is_taken. is_taken ≡ true → (first : PartTaker) → HasRead depth (PutsOne (HasParts first self.old) (HasParts first self.new) (codes "properties")) reader.old reader.new) }
     {
-        let Some(Json::Object(object)) = reader.any_value(depth)? else {
-            return Ok(false);
-        };
-        let fields = properties_of(self.alloc, &object)?;
-        self.fields = Some(fields);
-        Ok(true)
+        match straight_properties(self.alloc, self.width, reader, depth)? {
+            None => Ok(false),
+            Some(fields) => {
+                self.fields = Some(fields);
+                Ok(true)
+            }
+        }
     }
 }
 
 /// The next feature of a text, with white space around it; `None` where it has to be read as a JSON value.
+///
+/// Cost: room is made for `width` properties at first.
 pub fn straight_feature(
     alloc: Global,
+    width: u32,
     reader: &mut Reader<'_>,
     depth: u32,
     places: u8,
@@ -193,6 +252,7 @@ pub fn straight_feature(
 {
     let mut taker = PartTaker {
         alloc,
+        width,
         places,
         left: *left,
         is_feature: false,
@@ -202,7 +262,12 @@ pub fn straight_feature(
     if !reader.members_by(depth, &mut taker)? || !taker.is_feature {
         return Ok(None);
     }
-    let PartTaker { left: rest, fields, shape, .. } = taker;
+    let PartTaker {
+        left: rest,
+        fields,
+        shape,
+        ..
+    } = taker;
     let (Some(fields), Some(shape)) = (fields, shape) else {
         return Ok(None);
     };

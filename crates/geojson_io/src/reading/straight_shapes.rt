@@ -5,7 +5,7 @@ ghost use Rattle.geojson_io.specs.Geometries.{shape_of};
 ghost use Rattle.geojson_io.specs.Straight.{ReadsAs, ReadsListAs};
 ghost use Rattle.geojson_io.specs.declared.reading.types.GeoType.TheVariants as type;
 
-use crate::reading::geometries::some_points;
+use crate::reading::geometries::{push_polygon, some_lines, some_points, some_polygons};
 use crate::reading::positions::is_closed;
 use crate::reading::types::GeoType;
 use crate::shape::GeoShape;
@@ -221,6 +221,96 @@ fn polygon_shape(
     Ok(Some(GeoShape::Polygons(polygons)))
 }
 
+// Lines that are read one by one.
+#[derive(Drop)]
+struct LineTaker {
+    alloc: Global,
+    places: u8,
+    left: u32,
+    lines: PathList,
+}
+
+impl ValueTaker for LineTaker {
+    ghost use Rattle.geojson_io.specs.Straight.{HasLines};
+
+    ghost took = { HasLines };
+
+    fn take_value(&mut self, reader: &mut Reader<'_>, depth: u32) -> Result<bool, AllocError> {
+        let Some(path) = line(self.alloc, reader, depth, self.places, &mut self.left)? else {
+            return Ok(false);
+        };
+        self.lines.push(path)?;
+        Ok(true)
+    }
+}
+
+fn lines_shape(
+    alloc: Global,
+    reader: &mut Reader<'_>,
+    depth: u32,
+    places: u8,
+    left: &mut u32,
+) -> Result<Option<GeoShape>, AllocError>
+    ensures { IfOk result (λ found. IfSome found (λ shape. HasRead depth (ReadsAs (shape_of places type.MultiLineString) left.old shape left.new) reader.old reader.new)) }
+{
+    let mut taker = LineTaker {
+        alloc,
+        places,
+        left: *left,
+        lines: PathList::new(alloc),
+    };
+    if !reader.items_by(depth, &mut taker)? {
+        return Ok(None);
+    }
+    *left = taker.left;
+    Ok(Some(some_lines(taker.lines)))
+}
+
+// Polygons that are read one by one.
+#[derive(Drop)]
+struct PolygonTaker {
+    alloc: Global,
+    places: u8,
+    left: u32,
+    polygons: RingsList,
+}
+
+impl ValueTaker for PolygonTaker {
+    ghost use Rattle.geojson_io.specs.Straight.{HasPolygons};
+
+    ghost took = { HasPolygons };
+
+    fn take_value(&mut self, reader: &mut Reader<'_>, depth: u32) -> Result<bool, AllocError> {
+        let Some(polygon) = rings(self.alloc, reader, depth, self.places, &mut self.left)? else {
+            return Ok(false);
+        };
+        push_polygon(&mut self.polygons, polygon)?;
+        Ok(true)
+    }
+}
+
+fn polygons_shape(
+    alloc: Global,
+    reader: &mut Reader<'_>,
+    depth: u32,
+    places: u8,
+    left: &mut u32,
+) -> Result<Option<GeoShape>, AllocError>
+    ensures { IfOk result (λ found. IfSome found (λ shape. HasRead depth (ReadsAs (shape_of places type.MultiPolygon) left.old shape left.new) reader.old reader.new)) }
+{
+    let mut taker = PolygonTaker {
+        alloc,
+        places,
+        left: *left,
+        polygons: RingsList::new(alloc),
+    };
+    if !reader.items_by(depth, &mut taker)? {
+        return Ok(None);
+    }
+    *left = taker.left;
+    Ok(Some(some_polygons(taker.polygons)))
+}
+
 // The shape of coordinates of this type.
 pub(crate) fn straight_shape(
     alloc: Global,
@@ -237,6 +327,7 @@ pub(crate) fn straight_shape(
         GeoType::MultiPoint => points_shape(alloc, reader, depth, places, left),
         GeoType::LineString => line_shape(alloc, reader, depth, places, left),
         GeoType::Polygon => polygon_shape(alloc, reader, depth, places, left),
-        GeoType::MultiLineString | GeoType::MultiPolygon => Ok(None),
+        GeoType::MultiLineString => lines_shape(alloc, reader, depth, places, left),
+        GeoType::MultiPolygon => polygons_shape(alloc, reader, depth, places, left),
     }
 }

@@ -7,7 +7,7 @@ ghost use Rattle.json_read.specs.Straight.{HasRead, HasTakenMembers, IsGridNumbe
 
 use crate::reader::{Reader, Stop, numeral_text};
 use json_values::Json;
-use numerals::numeral_to_grid;
+use numerals::{front_to_grid, numeral_to_grid};
 use std::alloc::AllocError;
 
 /// What takes the items of an array one after another, and reads each of them itself.
@@ -99,6 +99,22 @@ impl<'a> Reader<'a> {
     fn grid_number(&mut self, places: u8) -> Option<i64>
         ensures { IfSome result (λ g. (d : ℕ) → HasRead d (IsGridNumber places g) self.old self.new) }
     {
+        let start = self.rest;
+        self.skip_white();
+        let Some((number, size)) = front_to_grid(self.rest, places) else {
+            self.rest = start;
+            return self.any_grid_number(places);
+        };
+        let (_, behind) = self.rest.split_at(size);
+        self.rest = behind;
+        self.skip_white();
+        Some(number)
+    }
+
+    // The same of any numeral.
+    fn any_grid_number(&mut self, places: u8) -> Option<i64>
+        ensures { IfSome result (λ g. (d : ℕ) → HasRead d (IsGridNumber places g) self.old self.new) }
+    {
         self.skip_white();
         let text = self.numeral()?;
         self.skip_white();
@@ -139,11 +155,7 @@ impl<'a> Reader<'a> {
     }
 
     /// An array of one item or more, whose items the taker reads and takes; `false` where it is none.
-    pub fn items_by<T: ValueTaker>(
-        &mut self,
-        depth: u32,
-        taker: &mut T,
-    ) -> Result<bool, AllocError>
+    pub fn items_by<T: ValueTaker>(&mut self, depth: u32, taker: &mut T) -> Result<bool, AllocError>
         ensures { IfOk result (λ is_taken. is_taken ≡ true → (first : T) → HasRead depth (IsTakenArray (T.took first taker.old) (T.took first taker.new)) self.old self.new) }
     {
         self.skip_white();
@@ -180,7 +192,7 @@ impl<'a> Reader<'a> {
         }
     }
 
-    /// An object of one member or more, whose members the taker reads and takes; `false` where it is none.
+    /// An object, whose members the taker reads and takes; `false` where it is none.
     pub fn members_by<T: MemberTaker>(
         &mut self,
         depth: u32,
@@ -207,7 +219,7 @@ impl<'a> Reader<'a> {
     {
         self.skip_white();
         if self.take(b'}') {
-            return Ok(false);
+            return Ok(true);
         }
         loop {
             let Some(name) = self.plain_name() else {

@@ -21,12 +21,29 @@ impl FeatureTaker {
         ensures kept { IfOk result (λ is_taken. is_taken ≡ false → self.new ≡ self.old) }
     {
         let mut left = self.left;
-        let Some(feature) = straight_feature(self.alloc, reader, depth, self.places, &mut left)? else {
+        let width = self.last_width();
+        let Some(feature) = straight_feature(
+            self.alloc,
+            width,
+            reader,
+            depth,
+            self.places,
+            &mut left,
+        )?
+        else {
             return Ok(false);
         };
         self.features.push(feature)?;
         self.left = left;
         self.number += 1;
         Ok(true)
+    }
+
+    // How many properties the last feature has; most have as many.
+    fn last_width(&self) -> u32 {
+        match self.features.as_slice() {
+            [.., last] => last.fields.len(),
+            [] => 0,
+        }
     }
 }

@@ -1,5 +1,5 @@
 use Rattle.std.proofs.Common.{arith, refl, suc, ◌-◌, ◌≡◌, ◌∙◌, true, List, ℕ, subst, inl, inr}
-use Rattle.json_read.specs.Reading.{NextIsNot}
+use Rattle.numerals.specs.Bytes.{NextIsNot}
 use Rattle.json_read.proofs.Parts.{at_exit}
 use Rattle.json_read.proofs.Taking.{array_taken, array_breaks}
 use Rattle.json_read.proofs.reader.Reader.array_taking.Goals as goal

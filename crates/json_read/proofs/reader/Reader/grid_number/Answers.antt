@@ -1,11 +1,9 @@
-use Rattle.std.proofs.Common.{◌≡◌, Some, sym, rules, FitsSigned, to_z-of_z}
+use Rattle.std.proofs.Common.{rules, FitsSigned, to_z-of_z}
 use Rattle.std.specs.Int.{w64}
-use Rattle.numerals.specs.Numeral.{grid_of_text}
-use Rattle.json_read.proofs.Straight.{number_read}
+use Rattle.json_read.proofs.Straight.{front_read}
 use Rattle.json_read.proofs.reader.Reader.grid_number.Goals as goal
 
 pub returns : goal.returns
 returns c d =
-    let fits : FitsSigned w64 c.in_ok-number.number = search rules in
-    let is : grid_of_text c.args.places c.in_ok-text.text.now ≡ Some c.in_ok-number.number = sym (c.in_ok-number.ensures.exact) in
-    number_read d c.args.places _ c.in_ok-text.text.now _ _ _ _ c.skip_white.ensures c.in_ok-text.ensures c.skip_white-2.ensures (simp to_z-of_z is)
+    let fits : FitsSigned w64 c.in-Some.number = search rules in
+    simp to_z-of_z (front_read d c.args.places c.in-Some.size c.in-Some.number _ _ _ _ c.skip_white.ensures c.in-Some.ensures c.split_at.ensures.back c.skip_white-2.ensures)

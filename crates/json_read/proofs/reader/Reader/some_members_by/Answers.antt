@@ -1,7 +1,10 @@
 use Rattle.std.proofs.Common.{arith, ap, length}
 use Rattle.json_read.proofs.Sequences.{reads_shorter}
-use Rattle.json_read.proofs.Straight.{members_init, members_more, members_end}
+use Rattle.json_read.proofs.Straight.{members_none, members_init, members_more, members_end}
 use Rattle.json_read.proofs.reader.Reader.some_members_by.Goals as goal
+
+pub returns-then-take : goal.returns-then-take
+returns-then-take g c = λ e first. members_none c.args.depth (g.T.MemberTaker.took first c.args.taker.now) _ _ _ c.skip_white.ensures (c.take.ensures.taken c.if-take.true)
 
 pub loop-name-init : goal.loop-name-init
 loop-name-init g c = λ first. members_init c.args.depth (g.T.MemberTaker.took first c.args.taker.now) _ _ _ c.skip_white.ensures (c.take.ensures.stays c.if-take.false) (c.take.ensures.other c.if-take.false)

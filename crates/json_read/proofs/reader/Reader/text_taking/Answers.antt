@@ -1,6 +1,6 @@
 use Rattle.std.proofs.Common.{length, ap, sym, ◌∙◌, refl, ◌-◌, List, ℕ, subst, inl, inr}
 use Rattle.std.proofs.lemmas.Bool.{eqb-true, eqb-false}
-use Rattle.json_read.specs.Reading.{NextIsNot}
+use Rattle.numerals.specs.Bytes.{NextIsNot}
 use Rattle.json_read.specs.Taking.{HasTakenObject, HasOtherMember}
 use Rattle.json_read.specs.declared.reader.TheConstants.{GREATEST_DEPTH}
 use Rattle.json_read.proofs.Parts.{at_exit, empty}

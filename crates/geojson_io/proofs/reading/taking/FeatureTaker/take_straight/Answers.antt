@@ -11,6 +11,9 @@ returns-clause-taken c =
     let left = c.straight_feature.new.left in
     let new : FeatureTaker = record { alloc = old.alloc; places = old.places; limit = old.limit; left = left; number = old.number + 1; features = c.push.new.self; fault = old.fault } in
     let h = rw c.in-Some.is at c.in_ok-feature.ensures in
-    λ e first. (h.0, h.1,
+    λ e first. (
+      h.0,
+      h.1,
       one_read_more first old new (json_value h.0) c.in-Some.feature (λ l. feature_numbered old.places old.limit old.number old.left (json_value h.0) c.in-Some.feature left c.requires.room h.2)
-      c.requires.room c.requires.sound refl refl refl c.in_ok-push.ensures.items c.requires.sound)
+          c.requires.room c.requires.sound refl refl refl c.in_ok-push.ensures.items c.requires.sound,
+    )
