@@ -192,9 +192,6 @@ fn gather_if_met(
     ensures grows { IfOk result (λ after. is_inner ≡ true → after ≡ true) }
     ensures seen { IfOk result (λ after. IsSeen spots.now crowded.now lasts.new.items meetings.new.items after p i) }
 {
-    if is_inner && crowded[i as usize] {
-        return Ok(true);
-    }
     if is_off_or_end(&spots[i as usize], p) {
         return Ok(is_inner);
     }
