@@ -2,13 +2,13 @@
 //!
 //! `snap` takes nothing; it answers the vertices of the first path of each line feature, a line each, and on a line of
 //! its own the number of links, or the fault. `snap_repeated` takes a number of points from (0, 0) to the right, and
-//! how often a line from the first to the last of them stands; it answers so of that drawing.
+//! how often a line from the first to the last of them stands; it answers so of that drawing, by `into_snapped`.
 use crate::drawings::repeated_lines;
 use crate::texts::print_points;
 use case_lists::{number_at, told, unknown_call};
 use grid_base::{Drawing, FeatId, Snapped};
 use json_read::Json;
-use snap_round::snap;
+use snap_round::{SnapFault, into_snapped, snap};
 use std::alloc::{AllocError, Global};
 use text_core::Bytes;
 
@@ -21,17 +21,17 @@ pub fn answer(
     case: &[Json],
 ) -> Result<Bytes, AllocError> {
     match call {
-        "snap" => snapped(alloc, drawing),
+        "snap" => snapped(alloc, snap(alloc, drawing)),
         "snap_repeated" => {
             let lines = repeated_lines(alloc, number_at(case, 0), number_at(case, 1))?;
-            snapped(alloc, &lines)
+            snapped(alloc, into_snapped(alloc, lines))
         }
         _ => unknown_call(alloc),
     }
 }
 
-fn snapped(alloc: Global, drawing: &Drawing) -> Result<Bytes, AllocError> {
-    match snap(alloc, drawing) {
+fn snapped(alloc: Global, result: Result<Snapped, SnapFault>) -> Result<Bytes, AllocError> {
+    match result {
         Ok(snapped) => lines_text(alloc, &snapped),
         Err(fault) => told(alloc, &fault),
     }

@@ -16,7 +16,7 @@ use arc_table::ArcTable;
 use face_sets::FaceSet;
 use face_walk::{Faces, Labels};
 use grid_base::{Drawing, FaceId, FeatId, Snapped};
-use snap_round::{SnapFault, snap};
+use snap_round::{SnapFault, into_snapped};
 use std::alloc::{AllocError, Global};
 
 /// The snapped drawing of all sources and boxes of a run, as arcs and faces.
@@ -46,8 +46,7 @@ pub fn laid_out(alloc: Global, drawing: Drawing) -> Result<Laid, SnapFault>
     ensures snapped { IfOk result (λ laid. laid.snapped ≡ snapped drawing) }
     ensures laid { IfOk result (λ laid. IsLaidOut laid.snapped laid.plane.arcs laid.plane.faces laid.plane.boxes.items laid.features.items) }
 {
-    let snapped = snap(alloc, &drawing)?;
-    drop(drawing);
+    let snapped = into_snapped(alloc, drawing)?;
     match built(alloc, snapped) {
         Ok(laid) => Ok(laid),
         Err(_) => Err(SnapFault::Memory),

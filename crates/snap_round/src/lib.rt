@@ -4,8 +4,8 @@
 //! within half a unit of where it was. Two distinct links meet at common ends alone, and no vertex, points included,
 //! lies inside a link.
 //!
-//! 1. `snapping` has `snap`: the hot points, by `hot_pixels`, then the paths, then their links; points stay, and where
-//!    there is no path, that is all.
+//! 1. `snapping` has `snap`: the hot points, by `hot_pixels`, then the paths, then their links; points stay. Where
+//!    there is no path, `into_snapped` has the snapped drawing at once.
 //! 2. `paths` and `joining` make the paths: each segment becomes the chain of the hot points whose pixels it meets,
 //!    and the chains of a path are joined end to end.
 //! 3. `links` lists the links. Where they may be more than 8,000,000, `counting` counts them by the hot points alone.
@@ -19,4 +19,4 @@ mod paths;
 mod snapping;
 
 pub use fault::SnapFault;
-pub use snapping::snap;
+pub use snapping::{into_snapped, snap};

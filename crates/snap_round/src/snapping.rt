@@ -82,38 +82,17 @@ fn snapped_within(
     }
 }
 
-// Whether a drawing has neither polygon features nor line features nor boxes.
-fn has_points_alone(d: &Drawing) -> bool
-    ensures { result ≡ true → HasPointsAlone d.now }
-{
-    d.polygon_count() == 0 && d.line_count() == 0 && d.box_count() == 0
-}
-
-// The snapped drawing of one that has points alone: there are no links.
-fn snapped_points(alloc: Global, d: &Drawing) -> Result<Snapped, AllocError>
-    requires alone { HasPointsAlone d.now }
-    ensures exact { IfOk result (λ s. s ≡ snapped d.now) }
-    ensures few { IfOk result (λ s. link_count (snapped d.now) ≡ 0) }
-{
-    let paths = Drawing::new(alloc);
-    let links = LinkList::new(alloc);
-    with_its_points(paths, links, d)
-}
-
 /// The snapped drawing: each path by the chains of its segments, joined end to end, and each point as it is.
 ///
 /// `TooDense` comes exactly where the snapped paths have more than 8,000,000 links together, repeats counted, and says
 /// how many; it takes no more memory than the hot points and paths of that many links. `Memory` may come at any size.
 /// Cost: with n segments, m crossings and l links, sorting n + m and l, and a search among the hot points for each
-/// segment; where there are points alone, a copy of them.
+/// segment.
 pub fn snap(alloc: Global, d: &Drawing) -> Result<Snapped, SnapFault>
     ensures exact { IfOk result (λ s. s ≡ snapped d.now) }
     ensures within { IfOk result (λ s. link_count (snapped d.now) ≤ 8000000) }
     ensures fault { IfErr result (FaultMeans d.now) }
 {
-    if has_points_alone(d) {
-        return Ok(snapped_points(alloc, d)?);
-    }
     d.keeps_paths();
     let hot = HotSet::for_spots(alloc, d)?;
     if let Some(s) = snapped_within(alloc, &hot, d, CHAIN_ROOM, MOST_LINKS)? {
@@ -128,4 +107,33 @@ pub fn snap(alloc: Global, d: &Drawing) -> Result<Snapped, SnapFault>
         Some(s) => Ok(s),
         None => Err(SnapFault::Memory),
     }
+}
+
+/// The same of a drawing that is let go. One that has points alone becomes the snapped one, without a search or a copy.
+pub fn into_snapped(alloc: Global, d: Drawing) -> Result<Snapped, SnapFault>
+    ensures exact { IfOk result (λ s. s ≡ snapped d) }
+    ensures within { IfOk result (λ s. link_count (snapped d) ≤ 8000000) }
+    ensures fault { IfErr result (FaultMeans d) }
+{
+    if has_points_alone(&d) {
+        return Ok(as_snapped(alloc, d));
+    }
+    snap(alloc, &d)
+}
+
+// Whether a drawing has neither polygon features nor line features nor boxes.
+fn has_points_alone(d: &Drawing) -> bool
+    ensures { result ≡ true → HasPointsAlone d.now }
+{
+    d.polygon_count() == 0 && d.line_count() == 0 && d.box_count() == 0
+}
+
+// A drawing that has points alone: they stay, and there are no links.
+fn as_snapped(alloc: Global, d: Drawing) -> Snapped
+    requires alone { HasPointsAlone d }
+    ensures exact { result ≡ snapped d }
+    ensures few { link_count (snapped d) ≡ 0 }
+{
+    let links = LinkList::new(alloc);
+    Snapped::new(d, links)
 }
