@@ -3,7 +3,8 @@
 //! - `read_geojson` takes a JSON value and gives layers of grid points, one for each kind of geometry, or the first
 //!   fault in order. A coordinate is rounded to a grid number: the decimal times ten to the decimal places, halves up.
 //! - `parse_features` does the same with the bytes of a FeatureCollection, feature by feature as their texts are read, and
-//!   gives the value of any other JSON text.
+//!   gives the value of any other JSON text. A feature of the common form is read straight, without a JSON value of its
+//!   coordinates.
 //! - `write_geojson` takes a layer with its table and makes the text, `null` for a feature without geometry. It is made
 //!   of `start_collection`, `write_next_feature` for each feature, and `end_collection`, by which others may write
 //!   features whose shapes they don't keep. `write_next_points` does it for a feature of points that are lent.

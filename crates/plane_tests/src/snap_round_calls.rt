@@ -30,8 +30,8 @@ pub fn answer(
     }
 }
 
-fn snapped(alloc: Global, result: Result<Snapped, SnapFault>) -> Result<Bytes, AllocError> {
-    match result {
+fn snapped(alloc: Global, outcome: Result<Snapped, SnapFault>) -> Result<Bytes, AllocError> {
+    match outcome {
         Ok(snapped) => lines_text(alloc, &snapped),
         Err(fault) => told(alloc, &fault),
     }
