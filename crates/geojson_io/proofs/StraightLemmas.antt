@@ -5,8 +5,8 @@ use Rattle.std.specs.Str.{bytes_eq}
 use Rattle.std.proofs.lemmas.Bool.{cond-false, ne_eqb, le-ltb}
 use Rattle.std.proofs.lemmas.List.Elements.{filter-append}
 use Rattle.json_values.specs.Json.{JsonValue, FieldList, null, boolean, number, string, array, object, no_items, item}
-use Rattle.json_values.specs.Lists.{items_list, fields_list, put, value_named}
-use Rattle.json_read.specs.Straight.{IsPair, IsTakenArray, IsTakenObject, PutsOne}
+use Rattle.json_values.specs.Lists.{fields_list, put, value_named}
+use Rattle.json_read.specs.Straight.{BeginsWithPair, IsTakenArray, IsTakenObject, PutsOne}
 use Rattle.json_values.specs.Seen.{json_value}
 use Rattle.json_values.specs.Table.{NamedValues, put_value}
 use Rattle.json_read.specs.Taking.{TakesOne}
@@ -20,41 +20,42 @@ use Rattle.plane_model.specs.Points.{GridPoint, Path}
 use Rattle.plane_model.specs.Drawing.{Polygon}
 use Rattle.grid_base.specs.Grid.{grid_point}
 use Rattle.geojson_io.specs.Reads.{Reads, on_ok, each, gives, fails, ◌>>=◌}
-use Rattle.geojson_io.specs.Positions.{numbered_point, or_range, position, positions, items_of, line, line_of, ring, ring_of, rings, is_closed}
-use Rattle.geojson_io.specs.Geometries.{geo_type_of, geometry, has_rings, shape_of, shape_typed, some_points, some_lines, some_polygons, text_of, with_rings}
+use Rattle.geojson_io.specs.Positions.{numbered_point, or_range, position, positions, line, line_of, ring, ring_of, rings, is_closed}
+use Rattle.geojson_io.specs.Geometries.{each_with_rings, geo_type_of, geometry, has_rings, shape_of, shape_typed, some_points, some_lines, some_polygons, text_of, with_rings}
 use Rattle.geojson_io.specs.Features.{feature, feature_of_fields, in_feature, json_of, numbered, or_null, properties, property}
-use Rattle.geojson_io.specs.Straight.{AreProperties, ReadsAs, ReadsListAs, HasEach, HasGeometry, HasParts, HasPolygons, HasProperties, HasShape, HasType, Member}
+use Rattle.geojson_io.specs.Straight.{AddsOne, AreProperties, ReadsAs, ReadsListAs, HasGeometry, HasList, HasParts, HasProperties, HasShape, HasType, Member, list_of}
 use Rattle.geojson_io.specs.declared.fault.ShapeWhy.{ShapeWhy}
 use Rattle.geojson_io.specs.declared.fault.ShapeWhy.TheVariants.{BadPosition, Collection, LineShort, NotGeo, RingOpen, RingShort}
 use Rattle.geojson_io.specs.declared.shape.GeoShape.{GeoShape}
-use Rattle.geojson_io.specs.declared.shape.GeoShape.TheVariants.{Lines, Points, Polygons}
+use Rattle.geojson_io.specs.declared.shape.GeoShape.TheVariants.{Lines, Nothing, Points, Polygons}
 use Rattle.geojson_io.specs.declared.reading.features.Feature.{Feature}
 use Rattle.geojson_io.specs.declared.reading.types.GeoType.{GeoType}
 use Rattle.geojson_io.specs.declared.reading.types.GeoType.TheVariants as type
 use Rattle.geojson_io.specs.declared.reading.types.Member.TheVariants as member
 use Rattle.geojson_io.specs.declared.reading.straight_features.GeometryTaker.{GeometryTaker}
-use Rattle.geojson_io.specs.declared.reading.straight_shapes.PolygonTaker.{PolygonTaker}
 use Rattle.geojson_io.specs.declared.reading.straight_features.PartTaker.{PartTaker}
 use Rattle.geojson_io.specs.declared.reading.straight_features.PropertyTaker.{PropertyTaker}
 use Rattle.geojson_io.proofs.ReadLemmas.{each_more}
 
 -- ## Positions, and lists of them
 
-pub position_read : (places room : ℕ) (x y : ℤ) (p : GridPoint) (v : JsonValue) → (room ≡ 0 → ⊥) → IsPair places x y v → Some p ≡ grid_point x y → ReadsListAs (position places) room p (room - 1) v
+pub position_read : (places room : ℕ) (x y : ℤ) (p : GridPoint) (v : JsonValue) → (room ≡ 0 → ⊥) → BeginsWithPair places x y v → Some p ≡ grid_point x y → ReadsListAs (position places) room p (room - 1) v
 position_read places room x y p v n h e =
-    let read : position places (array (item (number h.0) (item (number h.1) no_items))) room ≡ Ok (p, room - 1) =
-    cond-false (eqb room 0) _ _ (ne_eqb room 0 n) ∙ (λ i. on_ok (or_range (numbered_point (h.3 i) (h.4 i))) (λ (q : GridPoint). Ok (q, room - 1))) ∙ ap (λ (o : Option GridPoint). on_ok (or_range o) (λ (q : GridPoint). Ok (q, room - 1))) (sym e) in
-    ((number h.0, item (number h.1) no_items, h.2), subst (λ (w : JsonValue). position places w room ≡ Ok (p, room - 1)) (sym h.2) read)
+    let read : position places (array (item (number h.0) (item (number h.1) h.2))) room ≡ Ok (p, room - 1) =
+    cond-false (eqb room 0) _ _ (ne_eqb room 0 n) ∙ (λ i. on_ok (or_range (numbered_point (h.4 i) (h.5 i))) (λ (q : GridPoint). Ok (q, room - 1))) ∙ ap (λ (o : Option GridPoint). on_ok (or_range o) (λ (q : GridPoint). Ok (q, room - 1))) (sym e) in
+    ((number h.0, item (number h.1) h.2, h.3), subst (λ (w : JsonValue). position places w room ≡ Ok (p, room - 1)) (sym h.3) read)
 
-pub each_taken : {A : Type 0} (read : ℕ → JsonValue → Reads ShapeWhy A) (first_places room places left : ℕ) (xs : List A) (x : A) (after : ℕ) (ys : List A) (v : JsonValue)
-    → ReadsAs (read places) left x after v → ys ≡ xs ++ x ∷ [] → TakesOne (HasEach read first_places room places left xs) (HasEach read first_places room places after ys) v
-each_taken {A} read first_places room places left xs x after ys v e s vs h =
-    (h.0, each_more (read first_places) vs v room xs left x after h.1 (subst (λ (n : ℕ). read n v left ≡ Ok (x, after)) h.0 e) ∙ ap (λ (zs : List A). Ok (zs, after)) (sym s))
+pub each_added : {A : Type 0} (read : JsonValue → Reads ShapeWhy A) (xs : List A) (left : ℕ) (x : A) (after : ℕ) (ys : List A) (v : JsonValue) → ReadsAs read left x after v → ys ≡ xs ++ x ∷ [] → AddsOne (each read) xs left ys after v
+each_added {A} read xs left x after ys v e s room vs h = each_more read vs v room xs left x after h e ∙ ap (λ (zs : List A). Ok (zs, after)) (sym s)
 
-pub list_read : {A : Type 0} (read : ℕ → JsonValue → Reads ShapeWhy A) (places room now : ℕ) (start xs : List A) (after : ℕ) (v : JsonValue)
-    → start ≡ [] → IsTakenArray (HasEach read places room places room start) (HasEach read places room now after xs) v → ReadsAs (λ (j : JsonValue). items_of j >>= each (read places)) room xs after v
-list_read {A} read places room now start xs after v s h =
-    subst (λ (w : JsonValue). (items_of w >>= each (read places)) room ≡ Ok (xs, after)) (sym h.1) (h.2 [] (refl, ap (λ (zs : List A). Ok (zs, room)) (sym s))).1
+pub one_taken : {A : Type 0} (reads : ℕ → List JsonValue → Reads ShapeWhy A) (first_places room places : ℕ) (old : A) (left : ℕ) (new : A) (after : ℕ) (v : JsonValue)
+    → AddsOne (reads places) old left new after v → TakesOne (HasList reads first_places room places old left) (HasList reads first_places room places new after) v
+one_taken reads first_places room places old left new after v adds vs h =
+    (h.0, subst (λ (n : ℕ). reads n vs room ≡ Ok (old, left) → reads n (vs ++ v ∷ []) room ≡ Ok (new, after)) h.0 (adds room vs) h.1)
+
+pub list_read : {A : Type 0} (reads : ℕ → List JsonValue → Reads ShapeWhy A) (places room now : ℕ) (start xs : A) (after : ℕ) (v : JsonValue)
+    → reads places [] room ≡ Ok (start, room) → IsTakenArray (HasList reads places room places start room) (HasList reads places room now xs after) v → ReadsAs (list_of (reads places)) room xs after v
+list_read reads places room now start xs after v s h = subst (λ (w : JsonValue). list_of (reads places) w room ≡ Ok (xs, after)) (sym h.1) (h.2 [] (refl, s)).1
 
 abbrev line_if : Bool → Path → Reads ShapeWhy Path
 line_if short path = if short then fails LineShort else gives path
@@ -83,9 +84,10 @@ point_shape places room p after v ps h s =
     let e : position places (array (item h.0.0 h.0.1)) room ≡ Ok (p, after) = subst (λ (w : JsonValue). position places w room ≡ Ok (p, after)) h.0.2 h.1 in
     subst (λ (w : JsonValue). shape_of places type.Point w room ≡ Ok (Points ps, after)) (sym h.0.2) (ap one_point e ∙ ap (λ (qs : List GridPoint). Ok (Points qs, after)) (sym s))
 
-pub points_shape : (places room : ℕ) (ps : List GridPoint) (after : ℕ) (v : JsonValue) (shape : GeoShape) → ReadsAs (positions places) room ps after v → shape ≡ some_points ps → ReadsAs (shape_of places type.MultiPoint) room shape after v
-points_shape places room ps after v shape e s =
-    ap (λ (r : Result (List GridPoint × ℕ) ShapeWhy). on_ok r (λ (q : List GridPoint × ℕ). Ok (some_points q.0, q.1))) e ∙ ap (λ (g : GeoShape). Ok (g, after)) (sym s)
+-- the shape of a list
+pub list_shape : {A : Type 0} (read : JsonValue → Reads ShapeWhy A) (some : A → GeoShape) (room : ℕ) (xs : A) (after : ℕ) (v : JsonValue) (shape : GeoShape) → ReadsAs read room xs after v → shape ≡ some xs → ReadsAs (λ (j : JsonValue). read j >>= (λ (ys : A). gives (some ys))) room shape after v
+list_shape {A} read some room xs after v shape e s =
+    ap (λ (r : Result (A × ℕ) ShapeWhy). on_ok r (λ (q : A × ℕ). Ok (some q.0, q.1))) e ∙ ap (λ (g : GeoShape). Ok (g, after)) (sym s)
 
 abbrev one_line : Result (Path × ℕ) ShapeWhy → Result (GeoShape × ℕ) ShapeWhy
 one_line r = on_ok (on_ok r (λ (q : Path × ℕ). Ok (q.0 ∷ [], q.1))) (λ (q : List Path × ℕ). Ok (some_lines q.0, q.1))
@@ -106,22 +108,21 @@ pub polygon_shape : (places room : ℕ) (polygon : Polygon) (after : ℕ) (v : J
 polygon_shape places room [] after v ps e n s = absurd (n refl)
 polygon_shape places room (r ∷ rs) after v ps e n s = ap one_polygon e ∙ ap (λ (qs : List Polygon). Ok (Polygons qs, after)) (sym s)
 
-pub lines_shape : (places room : ℕ) (ls : List Path) (after : ℕ) (v : JsonValue) (shape : GeoShape) → ReadsAs (λ (j : JsonValue). items_of j >>= each (line places)) room ls after v → shape ≡ some_lines ls → ReadsAs (shape_of places type.MultiLineString) room shape after v
-lines_shape places room ls after v shape e s =
-    ap (λ (r : Result (List Path × ℕ) ShapeWhy). on_ok r (λ (q : List Path × ℕ). Ok (some_lines q.0, q.1))) e ∙ ap (λ (g : GeoShape). Ok (g, after)) (sym s)
+same_ok : {A E : Type 0} (p q : A × ℕ) → ◌≡◌ {A = Result (A × ℕ) E} (Ok p) (Ok q) → p ≡ q
+same_ok p q e = cc
 
-pub polygon_taken : (first old new : PolygonTaker) (polygon : Polygon) (v : JsonValue) → ReadsAs (rings old.places) old.left polygon new.left v → new.places ≡ old.places → new.polygons ≡ old.polygons ++ filter has_rings (polygon ∷ []) → TakesOne (HasPolygons first old) (HasPolygons first new) v
-polygon_taken first old new polygon v e places more vs h =
-    let all : HasEach rings first.places first.left old.places new.left (h.0 ++ polygon ∷ []) (vs ++ v ∷ []) = each_taken rings first.places first.left old.places old.left h.0 polygon new.left (h.0 ++ polygon ∷ []) v e refl vs h.1 in
-    (h.0 ++ polygon ∷ [], (places ∙ all.0, all.1), more ∙ ap (λ (ps : List Polygon). ps ++ filter has_rings (polygon ∷ [])) h.2 ∙ sym (filter-append has_rings h.0 (polygon ∷ [])))
-
-pub polygons_shape : (first now : PolygonTaker) (v : JsonValue) (shape : GeoShape) → first.polygons ≡ [] → IsTakenArray (HasPolygons first first) (HasPolygons first now) v → shape ≡ some_polygons now.polygons → ReadsAs (shape_of first.places type.MultiPolygon) first.left shape now.left v
-polygons_shape first now v shape start h s =
-    let end : HasPolygons first now (items_list h.0) = h.2 [] ([], (refl, refl), start) in
-    let read : shape_of first.places type.MultiPolygon (array h.0) first.left ≡ Ok (shape, now.left) =
-    ap (λ (r : Result (List Polygon × ℕ) ShapeWhy). on_ok (on_ok r (λ (q : List Polygon × ℕ). with_rings q.0 q.1)) (λ (q : List Polygon × ℕ). Ok (some_polygons q.0, q.1))) end.1.1
-    ∙ ap (λ (ps : List Polygon). Ok (some_polygons ps, now.left)) (sym end.2) ∙ ap (λ (g : GeoShape). Ok (g, now.left)) (sym s) in
-    subst (λ (w : JsonValue). shape_of first.places type.MultiPolygon w first.left ≡ Ok (shape, now.left)) (sym h.1) read
+pub polygon_added : (places : ℕ) (kept : List Polygon) (left : ℕ) (polygon : Polygon) (after : ℕ) (now : List Polygon) (v : JsonValue) → ReadsAs (rings places) left polygon after v → now ≡ kept ++ filter has_rings (polygon ∷ []) → AddsOne (each_with_rings places) kept left now after v
+polygon_added places kept left polygon after now v e s room vs h = go (each (rings places) vs room) refl h
+  where
+    go : (r : Result (List Polygon × ℕ) ShapeWhy) → each (rings places) vs room ≡ r → on_ok r (λ (p : List Polygon × ℕ). with_rings p.0 p.1) ≡ Ok (kept, left) → each_with_rings places (vs ++ v ∷ []) room ≡ Ok (now, after)
+    go (Err why) is k = absurd (no_fault why (kept, left) k)
+    go (Ok p) is k =
+        let got : List Polygon × ℕ = (filter has_rings p.0, p.1) in
+        let wanted : List Polygon × ℕ = (kept, left) in
+        let same : got ≡ wanted = same_ok got wanted k in
+        let all : each (rings places) (vs ++ v ∷ []) room ≡ Ok (p.0 ++ polygon ∷ [], after) = each_more (rings places) vs v room p.0 p.1 polygon after is (subst (λ (n : ℕ). rings places v n ≡ Ok (polygon, after)) (sym (ap (λ (q : List Polygon × ℕ). q.1) same)) e) in
+        let grown : filter has_rings (p.0 ++ polygon ∷ []) ≡ now = filter-append has_rings p.0 (polygon ∷ []) ∙ ap (λ (q : List Polygon × ℕ). q.0 ++ filter has_rings (polygon ∷ [])) same ∙ sym s in
+        ap (λ (r : Result (List Polygon × ℕ) ShapeWhy). on_ok r (λ (q : List Polygon × ℕ). with_rings q.0 q.1)) all ∙ ap (λ (ps : List Polygon). Ok (ps, after)) grown
 
 -- ## Geometries
 
@@ -165,6 +166,9 @@ abbrev typed_at : ℕ → ℕ → List Member → Result (GeoShape × ℕ) Shape
 typed_at places room ms =
     typed_if places (bytes_eq (text_of (value_named (codes "type") ms)) (codes "GeometryCollection")) (geo_type_of (text_of (value_named (codes "type") ms))) (value_named (codes "coordinates") ms) room
 
+pub no_geometry : (places room : ℕ) (v : JsonValue) → v ≡ null → ReadsAs (geometry places) room Nothing room v
+no_geometry places room v e = subst (λ (w : JsonValue). geometry places w room ≡ Ok (Nothing, room)) (sym e) refl
+
 pub geometry_read : (first now : GeometryTaker) (g : GeoShape) (v : JsonValue) → IsTakenObject (HasGeometry first first) (HasGeometry first now) v → first.kind ≡ None → first.shape ≡ None → now.shape ≡ Some g → ReadsAs (geometry first.places) first.left g now.left v
 geometry_read first now g v h kind shape now_shape =
     let start : HasGeometry first first [] = (
@@ -179,6 +183,9 @@ geometry_read first now g v h kind shape now_shape =
     subst (λ (w : JsonValue). geometry first.places w first.left ≡ Ok (g, now.left)) (sym h.1) read
 
 -- ## Properties
+
+pub no_properties : (fields : NamedValues) (v : JsonValue) → fields ≡ [] → v ≡ null → AreProperties fields v
+no_properties fields v s e room = subst (λ (w : JsonValue). properties (Some w) room ≡ Ok (fields, room)) (sym e) (ap (λ (ps : NamedValues). Ok (ps, room)) (sym s))
 
 abbrev put_if : Bool → List ℕ × Value → NamedValues → List ℕ → Value → NamedValues
 put_if here f fs name w = if here then (f.0, w) ∷ fs else f ∷ put_value fs name w

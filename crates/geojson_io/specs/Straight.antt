@@ -1,20 +1,15 @@
 -- Features that are read straight from their texts, without a JSON value of their coordinates.
-use Rattle.std.specs.Prelude.{ℕ, ◌≡◌, true, List, [], ◌∷◌, filter, map, codes, Some, Ok, IfSome, MatchOption}
+use Rattle.std.specs.Prelude.{ℕ, ◌≡◌, true, List, [], ◌∷◌, ◌++◌, map, codes, Some, Ok, IfSome, MatchOption}
 use Rattle.json_values.specs.Json.{JsonValue, ItemList, string, array, item}
 use Rattle.json_values.specs.Lists.{value_named}
 use Rattle.json_values.specs.Table.{NamedValues}
-use Rattle.plane_model.specs.Drawing.{Polygon}
-use Rattle.geojson_io.specs.Reads.{Reads, each}
-use Rattle.geojson_io.specs.Positions.{position, line, ring, rings}
-use Rattle.geojson_io.specs.Geometries.{geo_type_of, geometry, has_rings, shape_of}
+use Rattle.geojson_io.specs.Reads.{Reads, ◌>>=◌}
+use Rattle.geojson_io.specs.Positions.{items_of}
+use Rattle.geojson_io.specs.Geometries.{geo_type_of, geometry, shape_of}
 use Rattle.geojson_io.specs.Features.{or_null, properties, property}
 use Rattle.geojson_io.specs.declared.fault.ShapeWhy.{ShapeWhy}
 use Rattle.geojson_io.specs.declared.shape.GeoShape.{GeoShape}
 use Rattle.geojson_io.specs.declared.reading.types.GeoType.{GeoType}
-use Rattle.geojson_io.specs.declared.reading.straight_shapes.LineTaker.{LineTaker}
-use Rattle.geojson_io.specs.declared.reading.straight_shapes.PolygonTaker.{PolygonTaker}
-use Rattle.geojson_io.specs.declared.reading.straight_shapes.PositionTaker.{PositionTaker}
-use Rattle.geojson_io.specs.declared.reading.straight_shapes.RingTaker.{RingTaker}
 use Rattle.geojson_io.specs.declared.reading.straight_features.GeometryTaker.{GeometryTaker}
 use Rattle.geojson_io.specs.declared.reading.straight_features.PartTaker.{PartTaker}
 use Rattle.geojson_io.specs.declared.reading.straight_features.PropertyTaker.{PropertyTaker}
@@ -27,24 +22,19 @@ ReadsAs read room x after v = read v room ≡ Ok (x, after)
 abbrev pub ReadsListAs : {A : Type 0} → (JsonValue → Reads ShapeWhy A) → ℕ → A → ℕ → JsonValue → Type 0
 ReadsListAs read room x after v = ((w : JsonValue) × (ws : ItemList) × (v ≡ array (item w ws))) × ReadsAs read room x after v
 
+-- what is read of the items of an array
+abbrev pub list_of : {A : Type 0} → (List JsonValue → Reads ShapeWhy A) → JsonValue → Reads ShapeWhy A
+list_of reads j = items_of j >>= reads
+
+-- what was read of some values becomes what is read of them and one more
+abbrev pub AddsOne : {A : Type 0} → (List JsonValue → Reads ShapeWhy A) → A → ℕ → A → ℕ → JsonValue → Type 0
+AddsOne reads old left new after v = (room : ℕ) (vs : List JsonValue) → reads vs room ≡ Ok (old, left) → reads (vs ++ v ∷ []) room ≡ Ok (new, after)
+
 -- ## What was taken, by the state at first and the state now
 
--- these were read of values, one of each
-abbrev pub HasEach : {A : Type 0} → (ℕ → JsonValue → Reads ShapeWhy A) → ℕ → ℕ → ℕ → ℕ → List A → List JsonValue → Type 0
-HasEach read first_places room places left xs vs = (places ≡ first_places) × (each (read first_places) vs room ≡ Ok (xs, left))
-
-abbrev pub HasPositions : PositionTaker → PositionTaker → List JsonValue → Type 0
-HasPositions first now = HasEach position first.places first.left now.places now.left now.path
-
-abbrev pub HasRings : RingTaker → RingTaker → List JsonValue → Type 0
-HasRings first now = HasEach ring first.places first.left now.places now.left now.polygon
-
-abbrev pub HasLines : LineTaker → LineTaker → List JsonValue → Type 0
-HasLines first now = HasEach line first.places first.left now.places now.left now.lines
-
--- those that have rings are kept
-abbrev pub HasPolygons : PolygonTaker → PolygonTaker → List JsonValue → Type 0
-HasPolygons first now vs = (ps : List Polygon) × HasEach rings first.places first.left now.places now.left ps vs × (now.polygons ≡ filter has_rings ps)
+-- a list was read of values
+abbrev pub HasList : {A : Type 0} → (ℕ → List JsonValue → Reads ShapeWhy A) → ℕ → ℕ → ℕ → A → ℕ → List JsonValue → Type 0
+HasList reads first_places room places list left vs = (places ≡ first_places) × (reads first_places vs room ≡ Ok (list, left))
 
 abbrev pub Member : Type 0
 Member = List ℕ × JsonValue

@@ -1,6 +1,6 @@
 -- Values that are read straight from a text, without a `Json` of them.
-use Rattle.std.specs.Prelude.{ℕ, ℤ, ◌≡◌, List, [], Some, Result, MatchResult}
-use Rattle.json_values.specs.Json.{JsonValue, ItemList, FieldList, number, array, object, no_items, item}
+use Rattle.std.specs.Prelude.{ℕ, ℤ, ◌≡◌, List, [], ◌∷◌, Some, Result, MatchResult, ◌⊎◌}
+use Rattle.json_values.specs.Json.{JsonValue, ItemList, FieldList, number, array, object, item}
 use Rattle.json_values.specs.Lists.{items_list, fields_list, put}
 use Rattle.json_read.specs.Machine.{in_object, first_name}
 use Rattle.numerals.specs.Numeral.{grid_of_text}
@@ -22,10 +22,15 @@ HasRead d Q old new = HasReadAt d Q old.rest.now new.rest.now
 abbrev pub IsGridNumber : ℕ → ℤ → JsonValue → Type 0
 IsGridNumber places g v = (s : List ℕ) × (v ≡ number s) × (grid_of_text places s ≡ Some g)
 
--- two numbers with these grid numbers
-abbrev pub IsPair : ℕ → ℤ → ℤ → JsonValue → Type 0
-IsPair places x y v =
-    (s t : List ℕ) × (v ≡ array (item (number s) (item (number t) no_items))) × (grid_of_text places s ≡ Some x) × (grid_of_text places t ≡ Some y)
+-- an array that begins with two numbers, with these grid numbers
+abbrev pub BeginsWithPair : ℕ → ℤ → ℤ → JsonValue → Type 0
+BeginsWithPair places x y v =
+    (s t : List ℕ) × (rest : ItemList) × (v ≡ array (item (number s) (item (number t) rest))) × (grid_of_text places s ≡ Some x) × (grid_of_text places t ≡ Some y)
+
+-- an array ends here, or after one more item
+abbrev pub EndsSoon : ℕ → List ℕ → List ℕ → Type 0
+EndsSoon d old new =
+    (old ≡ 93 ∷ new) ⊎ ((j : Json) × (mid last : List ℕ) × (old ≡ 44 ∷ mid) × HasValue d j mid last × (last ≡ 93 ∷ new))
 
 -- an array, of which the items were taken
 abbrev pub IsTakenArray : (List JsonValue → Type 0) → (List JsonValue → Type 0) → JsonValue → Type 0

@@ -1,4 +1,4 @@
-ghost use Rattle.std.specs.Prelude.{◌≡◌, ◌<◌, ◌≤◌, ◌++◌, ◌∷◌, [], MatchOption, IfOk, IfErr, OnOk, None, Some, Ok, ⊤, map, slice_get};
+ghost use Rattle.std.specs.Prelude.{◌≡◌, ◌<◌, ◌≤◌, ◌++◌, ◌∷◌, [], MatchOption, IfOk, IfErr, OnOk, None, Some, Ok, ⊤, length, map, slice_get};
 ghost use Rattle.std.specs.Option.{option_copied, option_map};
 ghost use Rattle.json_values.specs.Lists.{fields_list};
 ghost use Rattle.json_values.specs.Seen.{json_value};
@@ -29,13 +29,14 @@ fn put_property(
     i: u32,
     fields: &mut Fields,
 ) -> Result<(), AllocError>
+    requires within { i < length (fields_list object.now) }
     requires new { MatchOption (slice_get (fields_list object.now) i) ⊤ (λ f. IsNewName f.0 fields.old) }
     ensures { OnOk result (MatchOption (slice_get (fields_list object.now) i) ⊤ (λ f. fields.new ≡ fields.old ++ property f ∷ [])) }
 {
     match object.name_at(i) {
-        None => Ok(()),
+        None => unreachable!(),
         Some(name) => match object.at(i) {
-            None => Ok(()),
+            None => unreachable!(),
             Some(json) => {
                 let name = Text::of(alloc, name)?;
                 let value = Value::of_json(alloc, json)?;

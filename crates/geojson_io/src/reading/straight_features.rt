@@ -9,7 +9,7 @@ use crate::reading::straight_shapes::straight_shape;
 use crate::reading::types::GeoType;
 use crate::shape::GeoShape;
 use json_read::{Fields, MemberTaker, Reader, Value};
-use std::alloc::{AllocError, Global};
+use std::alloc::AllocError;
 use text_core::Text;
 
 /// Properties of more names are read as a JSON value, which has an index of the names.
@@ -21,7 +21,6 @@ const MOST_FIELDS: u32 = 64;
 // A geometry that is read member by member: its type, and then its coordinates.
 #[derive(Drop)]
 struct GeometryTaker {
-    alloc: Global,
     places: u8,
     left: u32,
     kind: Option<GeoType>,
@@ -75,7 +74,7 @@ impl GeometryTaker {
         if self.shape.is_some() {
             return Ok(false);
         }
-        match straight_shape(self.alloc, kind, reader, depth, self.places, &mut self.left)? {
+        match straight_shape(kind, reader, depth, self.places, &mut self.left)? {
             None => Ok(false),
             Some(shape) => {
                 self.shape = Some(shape);
@@ -86,7 +85,6 @@ impl GeometryTaker {
 }
 
 fn straight_geometry(
-    alloc: Global,
     reader: &mut Reader<'_>,
     depth: u32,
     places: u8,
@@ -94,8 +92,10 @@ fn straight_geometry(
 ) -> Result<Option<GeoShape>, AllocError>
     ensures { IfOk result (λ found. IfSome found (λ shape. HasRead depth (ReadsAs (geometry places) left.old shape left.new) reader.old reader.new)) }
 {
+    if reader.null() {
+        return Ok(Some(GeoShape::Nothing));
+    }
     let mut taker = GeometryTaker {
-        alloc,
         places,
         left: *left,
         kind: None,
@@ -111,7 +111,6 @@ fn straight_geometry(
 // Properties that are read one by one.
 #[derive(Drop)]
 struct PropertyTaker {
-    alloc: Global,
     fields: Fields,
 }
 
@@ -132,7 +131,7 @@ impl MemberTaker for PropertyTaker {
         let Some(json) = reader.any_value(depth)? else {
             return Ok(false);
         };
-        let name = Text::of(self.alloc, name)?;
+        let name = Text::of(reader.alloc(), name)?;
         self.fields.put(name, Value::of_owned(json))?;
         Ok(true)
     }
@@ -140,16 +139,17 @@ impl MemberTaker for PropertyTaker {
 
 // Named values, for `width` of which room is made at first.
 fn straight_properties(
-    alloc: Global,
     width: u32,
     reader: &mut Reader<'_>,
     depth: u32,
 ) -> Result<Option<Fields>, AllocError>
     ensures { IfOk result (λ found. IfSome found (λ fields. HasRead depth (AreProperties fields) reader.old reader.new)) }
 {
+    if reader.null() {
+        return Ok(Some(Fields::new(reader.alloc())));
+    }
     let mut taker = PropertyTaker {
-        alloc,
-        fields: Fields::with_capacity(alloc, width)?,
+        fields: Fields::with_capacity(reader.alloc(), width)?,
     };
     if !reader.members_by(depth, &mut taker)? {
         return Ok(None);
@@ -160,7 +160,6 @@ fn straight_properties(
 // A feature that is read member by member, in any order.
 #[derive(Drop)]
 struct PartTaker {
-    alloc: Global,
     // how many properties are looked for
     width: u32,
     places: u8,
@@ -215,7 +214,7 @@ impl PartTaker {
         if self.shape.is_some() {
             return Ok(false);
         }
-        match straight_geometry(self.alloc, reader, depth, self.places, &mut self.left)? {
+        match straight_geometry(reader, depth, self.places, &mut self.left)? {
             None => Ok(false),
             Some(shape) => {
                 self.shape = Some(shape);
@@ -227,7 +226,7 @@ impl PartTaker {
     fn take_properties(&mut self, reader: &mut Reader<'_>, depth: u32) -> Result<bool, AllocError>
         ensures { IfOk result (λ is_taken. is_taken ≡ true → (first : PartTaker) → HasRead depth (PutsOne (HasParts first self.old) (HasParts first self.new) (codes "properties")) reader.old reader.new) }
     {
-        match straight_properties(self.alloc, self.width, reader, depth)? {
+        match straight_properties(self.width, reader, depth)? {
             None => Ok(false),
             Some(fields) => {
                 self.fields = Some(fields);
@@ -241,7 +240,6 @@ impl PartTaker {
 ///
 /// Cost: room is made for `width` properties at first.
 pub fn straight_feature(
-    alloc: Global,
     width: u32,
     reader: &mut Reader<'_>,
     depth: u32,
@@ -251,7 +249,6 @@ pub fn straight_feature(
     ensures { IfOk result (λ found. IfSome found (λ read. HasRead depth (ReadsAs (feature places) left.old read left.new) reader.old reader.new)) }
 {
     let mut taker = PartTaker {
-        alloc,
         width,
         places,
         left: *left,

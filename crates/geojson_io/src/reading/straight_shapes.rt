@@ -1,8 +1,11 @@
-ghost use Rattle.std.specs.Prelude.{◌≡◌, IfOk, IfSome};
+ghost use Rattle.std.specs.Prelude.{◌≡◌, ℕ, true, [], List, Ok, IfOk, IfSome};
+ghost use Rattle.json_values.specs.Json.{JsonValue};
 ghost use Rattle.json_read.specs.Straight.{HasRead};
-ghost use Rattle.geojson_io.specs.Positions.{position, positions, line, ring, rings};
-ghost use Rattle.geojson_io.specs.Geometries.{shape_of};
-ghost use Rattle.geojson_io.specs.Straight.{ReadsAs, ReadsListAs};
+ghost use Rattle.geojson_io.specs.Reads.{Reads, each};
+ghost use Rattle.geojson_io.specs.Positions.{position, line, ring};
+ghost use Rattle.geojson_io.specs.Geometries.{each_with_rings, shape_of};
+ghost use Rattle.geojson_io.specs.Straight.{AddsOne, HasList, ReadsAs, ReadsListAs, list_of};
+ghost use Rattle.geojson_io.specs.declared.fault.ShapeWhy.{ShapeWhy};
 ghost use Rattle.geojson_io.specs.declared.reading.types.GeoType.TheVariants as type;
 
 use crate::reading::geometries::{push_polygon, some_lines, some_points, some_polygons};
@@ -16,26 +19,60 @@ use std::alloc::{AllocError, Global};
 // These read shapes straight from a text. Each answers `None` where the text may be a fault, or is none of the common
 // forms; it is read as a JSON value then.
 
-// Positions that are read one by one.
-#[derive(Drop)]
-struct PositionTaker {
-    places: u8,
-    left: u32,
-    path: PtList,
+// A list that is read item by item. `reads` says what is read of values.
+trait ReadList: Drop {
+    ghost reads: { ℕ → List JsonValue → Reads ShapeWhy Self };
+
+    fn empty(alloc: Global) -> Self
+        ensures none { (places room : ℕ) → reads places [] room ≡ Ok (result, room) };
+
+    // Reads the next item, and adds it.
+    fn read_item(
+        &mut self,
+        reader: &mut Reader<'_>,
+        depth: u32,
+        places: u8,
+        left: &mut u32,
+    ) -> Result<bool, AllocError>
+        ensures added { IfOk result (λ is_read. is_read ≡ true → HasRead depth (AddsOne (reads places) self.old left.old self.new left.new) reader.old reader.new) };
 }
 
-impl ValueTaker for PositionTaker {
-    ghost use Rattle.geojson_io.specs.Straight.{HasPositions};
+// The list so far, and the positions for which there is room.
+#[derive(Drop)]
+struct ListTaker<L> {
+    places: u8,
+    left: u32,
+    list: L,
+}
 
-    ghost took = { HasPositions };
+impl<L: ReadList> ValueTaker for ListTaker<L> {
+    ghost took = { λ first now. HasList L.reads first.places first.left now.places now.list now.left };
 
     fn take_value(&mut self, reader: &mut Reader<'_>, depth: u32) -> Result<bool, AllocError> {
-        let Some(point) = position(reader, depth, self.places, &mut self.left) else {
-            return Ok(false);
-        };
-        self.path.push(point)?;
-        Ok(true)
+        self.list
+            .read_item(reader, depth, self.places, &mut self.left)
     }
+}
+
+// The list of an array with one item or more.
+fn read_list<L: ReadList>(
+    reader: &mut Reader<'_>,
+    depth: u32,
+    places: u8,
+    left: &mut u32,
+) -> Result<Option<L>, AllocError>
+    ensures read { IfOk result (λ found. IfSome found (λ list. HasRead depth (ReadsAs (list_of (L.reads places)) left.old list left.new) reader.old reader.new)) }
+{
+    let mut taker = ListTaker {
+        places,
+        left: *left,
+        list: L::empty(reader.alloc()),
+    };
+    if !reader.items_by(depth, &mut taker)? {
+        return Ok(None);
+    }
+    *left = taker.left;
+    Ok(Some(taker.list))
 }
 
 fn position(reader: &mut Reader<'_>, depth: u32, places: u8, left: &mut u32) -> Option<Pt>
@@ -50,29 +87,29 @@ fn position(reader: &mut Reader<'_>, depth: u32, places: u8, left: &mut u32) -> 
     Some(point)
 }
 
-fn positions(
-    alloc: Global,
-    reader: &mut Reader<'_>,
-    depth: u32,
-    places: u8,
-    left: &mut u32,
-) -> Result<Option<PtList>, AllocError>
-    ensures { IfOk result (λ found. IfSome found (λ path. HasRead depth (ReadsAs (positions places) left.old path left.new) reader.old reader.new)) }
-{
-    let mut taker = PositionTaker {
-        places,
-        left: *left,
-        path: PtList::new(alloc),
-    };
-    if !reader.items_by(depth, &mut taker)? {
-        return Ok(None);
+impl ReadList for PtList {
+    ghost reads = { λ places. each (position places) };
+
+    fn empty(alloc: Global) -> PtList {
+        PtList::new(alloc)
     }
-    *left = taker.left;
-    Ok(Some(taker.path))
+
+    fn read_item(
+        &mut self,
+        reader: &mut Reader<'_>,
+        depth: u32,
+        places: u8,
+        left: &mut u32,
+    ) -> Result<bool, AllocError> {
+        let Some(point) = position(reader, depth, places, left) else {
+            return Ok(false);
+        };
+        self.push(point)?;
+        Ok(true)
+    }
 }
 
 fn line(
-    alloc: Global,
     reader: &mut Reader<'_>,
     depth: u32,
     places: u8,
@@ -80,7 +117,7 @@ fn line(
 ) -> Result<Option<PtList>, AllocError>
     ensures { IfOk result (λ found. IfSome found (λ path. HasRead depth (ReadsAs (line places) left.old path left.new) reader.old reader.new)) }
 {
-    let Some(path) = positions(alloc, reader, depth, places, left)? else {
+    let Some(path) = read_list::<PtList>(reader, depth, places, left)? else {
         return Ok(None);
     };
     if path.len() < 2 {
@@ -89,8 +126,29 @@ fn line(
     Ok(Some(path))
 }
 
+impl ReadList for PathList {
+    ghost reads = { λ places. each (line places) };
+
+    fn empty(alloc: Global) -> PathList {
+        PathList::new(alloc)
+    }
+
+    fn read_item(
+        &mut self,
+        reader: &mut Reader<'_>,
+        depth: u32,
+        places: u8,
+        left: &mut u32,
+    ) -> Result<bool, AllocError> {
+        let Some(path) = line(reader, depth, places, left)? else {
+            return Ok(false);
+        };
+        self.push(path)?;
+        Ok(true)
+    }
+}
+
 fn ring(
-    alloc: Global,
     reader: &mut Reader<'_>,
     depth: u32,
     places: u8,
@@ -98,7 +156,7 @@ fn ring(
 ) -> Result<Option<PtList>, AllocError>
     ensures { IfOk result (λ found. IfSome found (λ path. HasRead depth (ReadsAs (ring places) left.old path left.new) reader.old reader.new)) }
 {
-    let Some(path) = positions(alloc, reader, depth, places, left)? else {
+    let Some(path) = read_list::<PtList>(reader, depth, places, left)? else {
         return Ok(None);
     };
     if path.len() < 4 || !is_closed(&path) {
@@ -107,53 +165,51 @@ fn ring(
     Ok(Some(path))
 }
 
-// Rings that are read one by one.
-#[derive(Drop)]
-struct RingTaker {
-    alloc: Global,
-    places: u8,
-    left: u32,
-    polygon: PolygonRings,
-}
+impl ReadList for PolygonRings {
+    ghost reads = { λ places. each (ring places) };
 
-impl ValueTaker for RingTaker {
-    ghost use Rattle.geojson_io.specs.Straight.{HasRings};
+    fn empty(alloc: Global) -> PolygonRings {
+        PolygonRings::new(alloc)
+    }
 
-    ghost took = { HasRings };
-
-    fn take_value(&mut self, reader: &mut Reader<'_>, depth: u32) -> Result<bool, AllocError> {
-        let Some(path) = ring(self.alloc, reader, depth, self.places, &mut self.left)? else {
+    fn read_item(
+        &mut self,
+        reader: &mut Reader<'_>,
+        depth: u32,
+        places: u8,
+        left: &mut u32,
+    ) -> Result<bool, AllocError> {
+        let Some(path) = ring(reader, depth, places, left)? else {
             return Ok(false);
         };
-        self.polygon.push(path)?;
+        self.push(path)?;
         Ok(true)
     }
 }
 
-fn rings(
-    alloc: Global,
-    reader: &mut Reader<'_>,
-    depth: u32,
-    places: u8,
-    left: &mut u32,
-) -> Result<Option<PolygonRings>, AllocError>
-    ensures { IfOk result (λ found. IfSome found (λ polygon. HasRead depth (ReadsAs (rings places) left.old polygon left.new) reader.old reader.new)) }
-{
-    let mut taker = RingTaker {
-        alloc,
-        places,
-        left: *left,
-        polygon: PolygonRings::new(alloc),
-    };
-    if !reader.items_by(depth, &mut taker)? {
-        return Ok(None);
+impl ReadList for RingsList {
+    ghost reads = { each_with_rings };
+
+    fn empty(alloc: Global) -> RingsList {
+        RingsList::new(alloc)
     }
-    *left = taker.left;
-    Ok(Some(taker.polygon))
+
+    fn read_item(
+        &mut self,
+        reader: &mut Reader<'_>,
+        depth: u32,
+        places: u8,
+        left: &mut u32,
+    ) -> Result<bool, AllocError> {
+        let Some(polygon) = read_list::<PolygonRings>(reader, depth, places, left)? else {
+            return Ok(false);
+        };
+        push_polygon(self, polygon)?;
+        Ok(true)
+    }
 }
 
 fn point_shape(
-    alloc: Global,
     reader: &mut Reader<'_>,
     depth: u32,
     places: u8,
@@ -164,13 +220,12 @@ fn point_shape(
     let Some(point) = position(reader, depth, places, left) else {
         return Ok(None);
     };
-    let mut points = PtList::new(alloc);
+    let mut points = PtList::new(reader.alloc());
     points.push(point)?;
     Ok(Some(GeoShape::Points(points)))
 }
 
 fn points_shape(
-    alloc: Global,
     reader: &mut Reader<'_>,
     depth: u32,
     places: u8,
@@ -178,14 +233,13 @@ fn points_shape(
 ) -> Result<Option<GeoShape>, AllocError>
     ensures { IfOk result (λ found. IfSome found (λ shape. HasRead depth (ReadsAs (shape_of places type.MultiPoint) left.old shape left.new) reader.old reader.new)) }
 {
-    let Some(points) = positions(alloc, reader, depth, places, left)? else {
+    let Some(points) = read_list::<PtList>(reader, depth, places, left)? else {
         return Ok(None);
     };
     Ok(Some(some_points(points)))
 }
 
 fn line_shape(
-    alloc: Global,
     reader: &mut Reader<'_>,
     depth: u32,
     places: u8,
@@ -193,59 +247,15 @@ fn line_shape(
 ) -> Result<Option<GeoShape>, AllocError>
     ensures { IfOk result (λ found. IfSome found (λ shape. HasRead depth (ReadsAs (shape_of places type.LineString) left.old shape left.new) reader.old reader.new)) }
 {
-    let Some(path) = line(alloc, reader, depth, places, left)? else {
+    let Some(path) = line(reader, depth, places, left)? else {
         return Ok(None);
     };
-    let mut lines = PathList::new(alloc);
+    let mut lines = PathList::new(reader.alloc());
     lines.push(path)?;
     Ok(Some(GeoShape::Lines(lines)))
 }
 
-fn polygon_shape(
-    alloc: Global,
-    reader: &mut Reader<'_>,
-    depth: u32,
-    places: u8,
-    left: &mut u32,
-) -> Result<Option<GeoShape>, AllocError>
-    ensures { IfOk result (λ found. IfSome found (λ shape. HasRead depth (ReadsAs (shape_of places type.Polygon) left.old shape left.new) reader.old reader.new)) }
-{
-    let Some(polygon) = rings(alloc, reader, depth, places, left)? else {
-        return Ok(None);
-    };
-    if polygon.len() == 0 {
-        return Ok(None);
-    }
-    let mut polygons = RingsList::new(alloc);
-    polygons.push(polygon)?;
-    Ok(Some(GeoShape::Polygons(polygons)))
-}
-
-// Lines that are read one by one.
-#[derive(Drop)]
-struct LineTaker {
-    alloc: Global,
-    places: u8,
-    left: u32,
-    lines: PathList,
-}
-
-impl ValueTaker for LineTaker {
-    ghost use Rattle.geojson_io.specs.Straight.{HasLines};
-
-    ghost took = { HasLines };
-
-    fn take_value(&mut self, reader: &mut Reader<'_>, depth: u32) -> Result<bool, AllocError> {
-        let Some(path) = line(self.alloc, reader, depth, self.places, &mut self.left)? else {
-            return Ok(false);
-        };
-        self.lines.push(path)?;
-        Ok(true)
-    }
-}
-
 fn lines_shape(
-    alloc: Global,
     reader: &mut Reader<'_>,
     depth: u32,
     places: u8,
@@ -253,44 +263,32 @@ fn lines_shape(
 ) -> Result<Option<GeoShape>, AllocError>
     ensures { IfOk result (λ found. IfSome found (λ shape. HasRead depth (ReadsAs (shape_of places type.MultiLineString) left.old shape left.new) reader.old reader.new)) }
 {
-    let mut taker = LineTaker {
-        alloc,
-        places,
-        left: *left,
-        lines: PathList::new(alloc),
+    let Some(lines) = read_list::<PathList>(reader, depth, places, left)? else {
+        return Ok(None);
     };
-    if !reader.items_by(depth, &mut taker)? {
+    Ok(Some(some_lines(lines)))
+}
+
+fn polygon_shape(
+    reader: &mut Reader<'_>,
+    depth: u32,
+    places: u8,
+    left: &mut u32,
+) -> Result<Option<GeoShape>, AllocError>
+    ensures { IfOk result (λ found. IfSome found (λ shape. HasRead depth (ReadsAs (shape_of places type.Polygon) left.old shape left.new) reader.old reader.new)) }
+{
+    let Some(polygon) = read_list::<PolygonRings>(reader, depth, places, left)? else {
+        return Ok(None);
+    };
+    if polygon.len() == 0 {
         return Ok(None);
     }
-    *left = taker.left;
-    Ok(Some(some_lines(taker.lines)))
-}
-
-// Polygons that are read one by one.
-#[derive(Drop)]
-struct PolygonTaker {
-    alloc: Global,
-    places: u8,
-    left: u32,
-    polygons: RingsList,
-}
-
-impl ValueTaker for PolygonTaker {
-    ghost use Rattle.geojson_io.specs.Straight.{HasPolygons};
-
-    ghost took = { HasPolygons };
-
-    fn take_value(&mut self, reader: &mut Reader<'_>, depth: u32) -> Result<bool, AllocError> {
-        let Some(polygon) = rings(self.alloc, reader, depth, self.places, &mut self.left)? else {
-            return Ok(false);
-        };
-        push_polygon(&mut self.polygons, polygon)?;
-        Ok(true)
-    }
+    let mut polygons = RingsList::new(reader.alloc());
+    polygons.push(polygon)?;
+    Ok(Some(GeoShape::Polygons(polygons)))
 }
 
 fn polygons_shape(
-    alloc: Global,
     reader: &mut Reader<'_>,
     depth: u32,
     places: u8,
@@ -298,22 +296,14 @@ fn polygons_shape(
 ) -> Result<Option<GeoShape>, AllocError>
     ensures { IfOk result (λ found. IfSome found (λ shape. HasRead depth (ReadsAs (shape_of places type.MultiPolygon) left.old shape left.new) reader.old reader.new)) }
 {
-    let mut taker = PolygonTaker {
-        alloc,
-        places,
-        left: *left,
-        polygons: RingsList::new(alloc),
-    };
-    if !reader.items_by(depth, &mut taker)? {
+    let Some(polygons) = read_list::<RingsList>(reader, depth, places, left)? else {
         return Ok(None);
-    }
-    *left = taker.left;
-    Ok(Some(some_polygons(taker.polygons)))
+    };
+    Ok(Some(some_polygons(polygons)))
 }
 
 // The shape of coordinates of this type.
 pub(crate) fn straight_shape(
-    alloc: Global,
     kind: GeoType,
     reader: &mut Reader<'_>,
     depth: u32,
@@ -323,11 +313,11 @@ pub(crate) fn straight_shape(
     ensures { IfOk result (λ found. IfSome found (λ shape. HasRead depth (ReadsAs (shape_of places kind) left.old shape left.new) reader.old reader.new)) }
 {
     match kind {
-        GeoType::Point => point_shape(alloc, reader, depth, places, left),
-        GeoType::MultiPoint => points_shape(alloc, reader, depth, places, left),
-        GeoType::LineString => line_shape(alloc, reader, depth, places, left),
-        GeoType::Polygon => polygon_shape(alloc, reader, depth, places, left),
-        GeoType::MultiLineString => lines_shape(alloc, reader, depth, places, left),
-        GeoType::MultiPolygon => polygons_shape(alloc, reader, depth, places, left),
+        GeoType::Point => point_shape(reader, depth, places, left),
+        GeoType::MultiPoint => points_shape(reader, depth, places, left),
+        GeoType::LineString => line_shape(reader, depth, places, left),
+        GeoType::Polygon => polygon_shape(reader, depth, places, left),
+        GeoType::MultiLineString => lines_shape(reader, depth, places, left),
+        GeoType::MultiPolygon => polygons_shape(reader, depth, places, left),
     }
 }

@@ -31,6 +31,8 @@ struct FeatureTaker {
     limit: u32,
     left: u32,
     number: u32,
+    // the features up to the last that was read straight from its text
+    straight: u32,
     features: Vec<Feature>,
     fault: Option<ShapeFault>,
 }
@@ -41,7 +43,7 @@ impl ItemTaker for FeatureTaker {
     ghost took = { HasTaken };
 
     fn take_text(&mut self, reader: &mut Reader<'_>, depth: u32) -> Result<bool, AllocError> {
-        if self.fault.is_some() || self.number >= self.limit {
+        if self.fault.is_some() || self.number >= self.limit || !self.is_tried() {
             return Ok(false);
         }
         self.take_straight(reader, depth)
@@ -97,6 +99,7 @@ pub fn parse_features(
         limit: room.features,
         left: room.positions,
         number: 0,
+        straight: 0,
         features: Vec::new(alloc),
         fault: None,
     };

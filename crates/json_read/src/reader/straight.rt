@@ -1,14 +1,15 @@
 ghost use Rattle.std.specs.Prelude.{◌≡◌, ◌<◌, List, ℕ, true, false, IfOk, IfSome};
-ghost use Rattle.json_values.specs.Json.{JsonValue, string};
+ghost use Rattle.json_values.specs.Json.{JsonValue, null, string};
 ghost use Rattle.json_read.specs.Machine.{value, after, next_name};
 ghost use Rattle.json_read.specs.Reading.{NameText, NumberBegins, NumeralOf, Passes};
 ghost use Rattle.json_read.specs.Taking.{TakesOne, HasTakenArray, HasValue};
-ghost use Rattle.json_read.specs.Straight.{HasRead, HasTakenMembers, IsGridNumber, IsPair, IsTakenArray, IsTakenObject, PutsOne};
+ghost use Rattle.json_read.specs.Straight.{HasRead, HasTakenMembers, BeginsWithPair, EndsSoon, IsGridNumber, IsTakenArray, IsTakenObject, PutsOne};
 
 use crate::reader::{Reader, Stop, numeral_text};
 use json_values::Json;
 use numerals::{front_to_grid, numeral_to_grid};
-use std::alloc::AllocError;
+use std::alloc::{AllocError, Global};
+use text_core::Text;
 
 /// What takes the items of an array one after another, and reads each of them itself.
 ///
@@ -44,6 +45,11 @@ pub trait MemberTaker {
 // Parts of a text that others read, each with white space around it. Where a part is none, nothing is said of what is
 // left.
 impl<'a> Reader<'a> {
+    /// What has memory for parts that are read.
+    pub fn alloc(&self) -> Global {
+        self.alloc
+    }
+
     /// Any value, with at most `depth` arrays and objects in one another; `None` where there is a fault.
     ///
     /// Source: RFC 8259, as for `Json::parse`.
@@ -55,6 +61,21 @@ impl<'a> Reader<'a> {
             Err(Stop::Memory) => Err(AllocError),
             Err(Stop::Fault(_)) => Ok(None),
         }
+    }
+
+    /// Whether `null` was read; where it is none, nothing was.
+    pub fn null(&mut self) -> bool
+        ensures taken { result ≡ true → (d : ℕ) → HasRead d (λ v. v ≡ null) self.old self.new }
+        ensures stays { result ≡ false → self.new.rest.now ≡ self.old.rest.now }
+    {
+        let start = self.rest;
+        self.skip_white();
+        let Ok(()) = self.word(b"null") else {
+            self.rest = start;
+            return false;
+        };
+        self.skip_white();
+        true
     }
 
     /// A string of ASCII without escapes.
@@ -70,11 +91,11 @@ impl<'a> Reader<'a> {
         Some(text)
     }
 
-    /// The grid numbers of an array of two numbers.
+    /// The grid numbers of an array of two numbers, or of the first two of three.
     ///
     /// Shape and units: as for `numeral_to_grid`.
     pub fn pair(&mut self, depth: u32, places: u8) -> Option<(i64, i64)>
-        ensures { IfSome result (λ p. HasRead depth (IsPair places p.0 p.1) self.old self.new) }
+        ensures read { IfSome result (λ p. HasRead depth (BeginsWithPair places p.0 p.1) self.old self.new) }
     {
         self.skip_white();
         if depth == 0 || !self.take(b'[') {
@@ -89,11 +110,27 @@ impl<'a> Reader<'a> {
             return None;
         }
         let y = self.grid_number(places)?;
-        if !self.take(b']') {
+        if !self.ends_soon(places) {
             return None;
         }
         self.skip_white();
         Some((x, y))
+    }
+
+    // Whether the end of an array was read, at once or after one more number.
+    fn ends_soon(&mut self, places: u8) -> bool
+        ensures ended { result ≡ true → (d : ℕ) → EndsSoon d self.old.rest.now self.new.rest.now }
+    {
+        if self.take(b']') {
+            return true;
+        }
+        if !self.take(b',') {
+            return false;
+        }
+        let Some(_height) = self.grid_number(places) else {
+            return false;
+        };
+        self.take(b']')
     }
 
     fn grid_number(&mut self, places: u8) -> Option<i64>
@@ -222,10 +259,10 @@ impl<'a> Reader<'a> {
             return Ok(true);
         }
         loop {
-            let Some(name) = self.plain_name() else {
+            let Some(name) = self.any_name()? else {
                 return Ok(false);
             };
-            if !taker.take_member(name, self, depth)? {
+            if !taker.take_member(name.as_str(), self, depth)? {
                 return Ok(false);
             }
             if self.take(b'}') {
@@ -237,19 +274,14 @@ impl<'a> Reader<'a> {
         }
     }
 
-    // A name of ASCII without escapes, and its colon.
-    fn plain_name(&mut self) -> Option<&'a str>
-        ensures { IfSome result (λ name. Passes (NameText name.now) next_name value self.old.rest.now self.new.rest.now) }
+    // A name and its colon; `None` where there is a fault.
+    fn any_name(&mut self) -> Result<Option<Text>, AllocError>
+        ensures read { IfOk result (λ found. IfSome found (λ name. Passes (NameText name) next_name value self.old.rest.now self.new.rest.now)) }
     {
-        self.skip_white();
-        if !self.take(b'"') {
-            return None;
+        match self.name() {
+            Ok(name) => Ok(Some(name)),
+            Err(Stop::Memory) => Err(AllocError),
+            Err(Stop::Fault(_)) => Ok(None),
         }
-        let name = self.ascii_string()?;
-        self.skip_white();
-        if !self.take(b':') {
-            return None;
-        }
-        Some(name)
     }
 }

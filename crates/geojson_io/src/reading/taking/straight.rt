@@ -9,6 +9,12 @@ use json_read::Reader;
 use std::alloc::AllocError;
 
 impl FeatureTaker {
+    // Whether the next feature is tried. Where some in a row are of no common form, the first three are tried, and then
+    // the fifth, the ninth and so on, so that few texts are read twice.
+    pub(crate) fn is_tried(&self) -> bool {
+        self.number.saturating_sub(self.straight).count_ones() < 2
+    }
+
     // Reads the next feature straight from its text, and takes it; false where it has to be read as a JSON value.
     pub(crate) fn take_straight(
         &mut self,
@@ -22,20 +28,13 @@ impl FeatureTaker {
     {
         let mut left = self.left;
         let width = self.last_width();
-        let Some(feature) = straight_feature(
-            self.alloc,
-            width,
-            reader,
-            depth,
-            self.places,
-            &mut left,
-        )?
-        else {
+        let Some(feature) = straight_feature(width, reader, depth, self.places, &mut left)? else {
             return Ok(false);
         };
         self.features.push(feature)?;
         self.left = left;
         self.number += 1;
+        self.straight = self.number;
         Ok(true)
     }
 

@@ -6,7 +6,7 @@ use Rattle.geojson_io.proofs.reading.straight_shapes.position.Goals as goal
 
 pub returns : goal.returns
 returns c =
-    let h = c.in_ok-x.ensures in
+    let h = c.in_ok-x.ensures.read in
     let x_fits : FitsSigned w64 c.in_ok-x.x = search rules in
     let y_fits : FitsSigned w64 c.in_ok-x.y = search rules in
     let is = simp to_z-of_z at c.in_ok-point.ensures.exact in

@@ -7,7 +7,7 @@ use Rattle.geojson_io.proofs.reading.straight_features.GeometryTaker.take_type.G
 pub returns : goal.returns
 returns c =
     let old = c.args.self.now in
-    let new : GeometryTaker = record { alloc = old.alloc; places = old.places; left = old.left; kind = Some c.in-Some-named.kind; shape = old.shape } in
+    let new : GeometryTaker = record { places = old.places; left = old.left; kind = Some c.in-Some-named.kind; shape = old.shape } in
     let h = c.in-Some.ensures c.args.depth in
     let no_kind : old.kind ≡ None = nothing_there old.kind (sym c.is_some.ensures ∙ c.if-is_some.false) in
     let no_shape : old.shape ≡ None = nothing_there old.shape (sym c.is_some-else-is_some.ensures ∙ c.if-is_some-2.false) in

@@ -7,7 +7,7 @@ use Rattle.geojson_io.proofs.reading.straight_features.PropertyTakerMemberTaker.
 pub returns : goal.returns
 returns c =
     let old = c.args.self.now in
-    let new : PropertyTaker = record { alloc = old.alloc; fields = c.put.new.self } in
+    let new : PropertyTaker = record { fields = c.put.new.self } in
     let j = c.in-Some.json in
     let value = c.of_owned.result in
     let h = rw c.in-Some.is at c.in_ok-json.ensures in
