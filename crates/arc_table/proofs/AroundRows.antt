@@ -1,5 +1,5 @@
 -- The signed arcs that start at a vertex stand together in a table by start and in turn.
-use Rattle.std.proofs.Common.{◌≡◌, inl, inr, refl, sym, ap, ◌∙◌, subst, arith, ℕ, ◌+◌, ◌-◌, ◌<◌, ◌≤◌, Bool, true, false, List, length, get_or, take, drop, length-drop, All, Contains}
+use Rattle.std.proofs.Common.{◌≡◌, inl, inr, refl, sym, ap, ◌∙◌, subst, arith, ℕ, ◌+◌, ◌-◌, ◌<◌, ◌≤◌, Bool, true, false, List, length, get_or, take, drop, length-drop, length-take, All, Contains}
 use Rattle.std.specs.List.Sorted.{IsPartitionedBy, IsPartitionPoint}
 use Rattle.std.proofs.lemmas.Bool.{cases_lt}
 use Rattle.std.proofs.lemmas.List.{get_or-map, length-map, get_or-take, get_or-drop, length-take-le}
@@ -10,6 +10,39 @@ use Rattle.plane_model.proofs.PointOrder.{clash, same_point_from, same_point_to,
 use Rattle.arc_table.specs.Around.{signed_below, first_step, start_of, comes_first, comes_round_first, IsTurned, IsAround}
 use Rattle.arc_table.proofs.SignedArcs.{all_below, Contains-signed_below, once_in}
 use Rattle.arc_table.proofs.TurnOrder.{comes_first-IsStrictWeakOrder, not_first_from, not_before_chain}
+
+-- ---- the first few of points that are parted
+
+module _ (p : GridPoint → Bool) (points : List GridPoint) (few : ℕ) where
+  pub parts_at_front : IsPartitionedBy p points → IsPartitionedBy p (take few points)
+  parts_at_front parts i j d l m e =
+      let n = length-take few points in
+      subst (λ (q : GridPoint). p q ≡ true) (sym (get_or-take few points i d (omega arith)))
+      (parts i j d l (omega arith) (subst (λ (q : GridPoint). p q ≡ true) (get_or-take few points j d (omega arith)) e))
+
+  pub first_part : (count : ℕ) → count < few → few ≤ length points → IsPartitionedBy p points → IsPartitionPoint (λ q. p q ≡ true) (λ q. p q ≡ false) (take few points) count
+      → IsPartitionPoint (λ q. p q ≡ true) (λ q. p q ≡ false) points count
+  first_part count l m parts h = (
+    (λ i d a b. let size = n in subst (λ (q : GridPoint). p q ≡ true) (get_or-take few points i d (omega arith)) (h.0 i d (omega arith) b)),
+    (λ i d a b. elim (cases_lt i few) [
+      | inl k ↦ (let size = n in subst (λ (q : GridPoint). p q ≡ false) (get_or-take few points i d k) (h.1 i d a (omega arith)))
+      | inr k ↦ past i d k b
+    ]),
+  )
+    where
+      n : length (take few points) ≡ few
+      n = length-take-le few points m
+
+      past : (i : ℕ) (d : GridPoint) → few ≤ i → i < length points → p (get_or points i d) ≡ false
+      past i d k b = go (p (get_or points i d)) refl
+        where
+          go : (t : Bool) → p (get_or points i d) ≡ t → t ≡ false
+          go false e = refl
+          go true e =
+              let size = n in
+              clash (p (get_or points count d)) (parts count i d (omega arith) b e) (subst (λ (q : GridPoint). p q ≡ false) (get_or-take few points count d l) (h.1 count d (omega arith) (omega arith)))
+
+-- ---- rows
 
 module _ (arcs : List Path) (starts : List GridPoint) (outs : List SignedArc) (t : IsTurned arcs starts outs) (p : GridPoint) where
   as_many : length starts ≡ length outs

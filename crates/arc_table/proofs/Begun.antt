@@ -1,66 +1,20 @@
--- The signed arc that a step begins, among first steps in order.
-use Rattle.std.proofs.Common.{◌≡◌, refl, sym, ap, subst, ◌∙◌, ℕ, zero, suc, ◌-◌, ◌<◌, List, [], ◌∷◌, ◌++◌, map, length, get_or, arith, All, Contains, Some, None}
-use Rattle.std.specs.Prelude.{slice_get}
-use Rattle.std.specs.List.Sorted.{IsPermutation, IsSorted}
-use Rattle.std.proofs.lemmas.List.{get_or-map, length-map}
-use Rattle.std.proofs.lemmas.List.Elements.{All-head, All-tail, All-append, All-cons, All-nil}
-use Rattle.std.proofs.lemmas.List.Sorted.{All-permutation, Contains-permutation, IsPermutation-map}
-use Rattle.std.proofs.lemmas.Option.{get_or_from_slice_get}
-use Rattle.lists.proofs.Members.{Contains-map, Contains-head, Contains-later}
+-- The signed arc that a step begins, and the steps of a path.
+use Rattle.std.proofs.Common.{◌≡◌, refl, sym, ap, subst, ◌∙◌, ℕ, zero, suc, ◌-◌, ◌<◌, List, [], ◌∷◌, ◌++◌, length, get_or, arith, All, Contains, Option, Some, None}
+use Rattle.std.specs.Prelude.{IfSome}
+use Rattle.std.proofs.lemmas.List.Elements.{All-append, All-contains, All-cons, All-nil}
+use Rattle.lists.proofs.Members.{Contains-head, Contains-later}
 use Rattle.plane_model.specs.Points.{GridPoint, Segment, Path}
 use Rattle.plane_model.specs.Drawing.{step_of, steps}
 use Rattle.plane_model.specs.Arcs.{SignedArc}
-use Rattle.arc_table.specs.Steps.{step_cmp}
-use Rattle.arc_table.specs.Around.{signed_below, first_step, first_of}
-use Rattle.arc_table.specs.Lookup.{AreBegun, BeginAlong, IsBegunBy}
-use Rattle.arc_table.specs.declared.first_steps.FirstStep.{FirstStep}
-use Rattle.arc_table.proofs.Everywhere.{All-map_any}
-use Rattle.arc_table.proofs.SignedArcs.{all_below, Contains-signed_below}
+use Rattle.arc_table.specs.Around.{first_step, IsAround}
+use Rattle.arc_table.specs.Lookup.{BeginAlong, IsBegunBy}
 
-module _ (arcs : List Path) where
-  -- the first step is that of the arc
-  abbrev Fits : FirstStep → Type 0
-  Fits f = f.step ≡ first_step arcs f.arc
-
-  steps_same : (fs : List FirstStep) → All Fits fs → map (λ (f : FirstStep). f.step) fs ≡ map (first_step arcs) (map (λ (f : FirstStep). f.arc) fs)
-  steps_same [] h = refl
-  steps_same (f ∷ fs) h =
-      let one = All-head Fits f fs h in
-      let rest = steps_same fs (All-tail Fits f fs h) in
-      λ i. one i ∷ rest i
-
-  arcs_back : (xs : List SignedArc) → map (λ (f : FirstStep). f.arc) (map (first_of arcs) xs) ≡ xs
-  arcs_back [] = refl
-  arcs_back (a ∷ xs) = λ i. a ∷ arcs_back xs i
-
-  pub are_begun : (fs : List FirstStep) (begins : List Segment) (begun : List SignedArc) → IsPermutation (map (first_of arcs) (signed_below (length arcs))) fs
-      → IsSorted step_cmp (map (λ (f : FirstStep). f.step) fs) → begins ≡ map (λ (f : FirstStep). f.step) fs → begun ≡ map (λ (f : FirstStep). f.arc) fs → AreBegun arcs begins begun
-  are_begun fs begins begun moved up e f = record {
-    begins_of = e ∙ steps_same fs (All-permutation Fits (map (first_of arcs) (signed_below (length arcs))) fs moved (All-map_any Fits (first_of arcs) (λ a. refl) (signed_below (length arcs)))) ∙ sym (ap (map (first_step arcs)) f);
-    all = subst (IsPermutation (signed_below (length arcs))) (sym f) (subst (λ (xs : List SignedArc). IsPermutation xs (map (λ (g : FirstStep). g.arc) fs)) (arcs_back (signed_below (length arcs)))
-        (IsPermutation-map (λ (g : FirstStep). g.arc) (map (first_of arcs) (signed_below (length arcs))) fs moved));
-    sorted = subst (IsSorted step_cmp) (sym e) up;
-  }
-
-  module _ (begins : List Segment) (begun : List SignedArc) (t : AreBegun arcs begins begun) (s : Segment) where
-    pub as_many : length begins ≡ length begun
-    as_many = ap (λ (xs : List Segment). length xs) t.begins_of ∙ length-map begun (first_step arcs)
-
-    pub begun_there : All (λ (a : SignedArc). a.arc < length arcs) begun
-    begun_there = All-permutation (λ (a : SignedArc). a.arc < length arcs) (signed_below (length arcs)) begun t.all (all_below (length arcs) (length arcs) (omega arith))
-
-    pub found_begun : (k : ℕ) (a : SignedArc) → k < length begins → slice_get begins k ≡ Some s → a ≡ get_or begun k a → IsBegunBy arcs s (Some a)
-    found_begun k a l e f =
-        let n = as_many in
-        let here : k < length begun = omega arith in (
-          subst (λ (b : SignedArc). b.arc < length arcs) (sym f) (begun_there k a here),
-          ap (first_step arcs) f ∙ sym (get_or-map (first_step arcs) begun k a s here) ∙ sym (ap (λ (xs : List Segment). get_or xs k s) t.begins_of) ∙ get_or_from_slice_get begins k s s e,
-        )
-
-    pub none_begun : (Contains begins s → ⊥) → IsBegunBy arcs s None
-    none_begun h = λ a l e. h
-        (subst (λ (x : Segment). Contains begins x) e (subst (λ (xs : List Segment). Contains xs (first_step arcs a)) (sym t.begins_of)
-        (Contains-map (first_step arcs) begun a (Contains-permutation (signed_below (length arcs)) begun a t.all (Contains-signed_below (length arcs) a l)))))
+-- among the signed arcs from its start, the one that begins with the step, or none
+pub begun_from : (arcs : List Path) (s : Segment) (row : List SignedArc) (found : Option SignedArc) → IsAround arcs s.start row → IfSome found (λ (a : SignedArc). (a.arc < length arcs) × (first_step arcs a ≡ s))
+    → (found ≡ None → All (λ (a : SignedArc). first_step arcs a ≡ s → ⊥) row) → IsBegunBy arcs s found
+begun_from arcs s row None around h none =
+    λ a l e. All-contains (λ (b : SignedArc). first_step arcs b ≡ s → ⊥) row a (none refl) (around.all a l (ap (λ (t : Segment). t.start) e)) e
+begun_from arcs s row (Some a) around h none = h
 
 -- ---- steps of a path
 

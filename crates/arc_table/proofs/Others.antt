@@ -1,16 +1,16 @@
 -- The steps from one start stand together among sorted steps.
-use Rattle.std.proofs.Common.{◌≡◌, ◌⊎◌, inl, inr, refl, sym, ap, ◌∙◌, subst, arith, ℕ, ◌+◌, ◌-◌, ◌<◌, ◌≤◌, true, false, List, [], ◌∷◌, ◌++◌, length, get_or, Some, None, Option, IfSome, Contains, Ordering}
+use Rattle.std.proofs.Common.{◌≡◌, ◌⊎◌, inl, inr, refl, sym, ap, ◌∙◌, subst, arith, ℕ, ◌+◌, ◌-◌, ◌<◌, ◌≤◌, true, false, List, [], ◌∷◌, ◌++◌, length, get_or, Some, None, Option, IfSome, Contains}
 use Rattle.std.specs.Prelude.{◌≢◌}
 use Rattle.std.proofs.Math.ListN.{get_or-append}
 use Rattle.std.specs.List.Sorted.{IsSorted}
-use Rattle.std.specs.Ordering.{ordering_then, ordering_reverse, is_lt}
-use Rattle.std.specs.declared.cmp.Ordering.TheVariants.{Less, Equal, Greater}
+use Rattle.std.specs.Ordering.{is_lt}
 use Rattle.std.proofs.lemmas.Bool.{cases_lt}
 use Rattle.std.proofs.lemmas.List.MinMax.{ranks_by}
 use Rattle.std.proofs.lemmas.List.Sorted.{sorted_far}
 use Rattle.std.proofs.lemmas.Option.{slice_get-get_or, slice_get_cases, get_or_from_slice_get}
 use Rattle.plane_model.specs.Points.{GridPoint, Segment, same_point, is_before}
 use Rattle.plane_model.proofs.PointOrder.{clash, same_point_from, same_point_to}
+use Rattle.known_order.proofs.Orders.{first_counts, tied_from_both}
 use Rattle.grid_base.specs.Order.{point_cmp}
 use Rattle.grid_base.proofs.PointSearch.{point_cmp-total, equal_is}
 use Rattle.arc_table.specs.Steps.{step_cmp, StartsAt, IsOther, IsOtherAt, LeadsOn, IsOnward, AreOnward}
@@ -29,22 +29,10 @@ pub start_is : (steps : List Segment) (k : ℕ) (p : GridPoint) (d : Segment) �
 start_is steps k p d c = ap (λ (s : Segment). s.start) (get_or_from_slice_get steps k c.0 d c.1) ∙ c.2
 
 not_less : (s t : Segment) → is_lt (step_cmp s t) ≡ false → is_lt (point_cmp s.start t.start) ≡ false
-not_less s t e = go (point_cmp s.start t.start) (point_cmp s.stop t.stop) e
-  where
-    go : (a b : Ordering) → is_lt (ordering_then a b) ≡ false → is_lt a ≡ false
-    go Less b e = e
-    go Equal b e = refl
-    go Greater b e = refl
+not_less s t e = first_counts (point_cmp s.start t.start) (point_cmp s.stop t.stop) e
 
 pub same_from_both : (p q : GridPoint) → is_lt (point_cmp p q) ≡ false → is_lt (point_cmp q p) ≡ false → p ≡ q
-same_from_both p q e f = go (point_cmp p q) (point_cmp q p) refl e f (point_cmp-total.antisymm p q)
-  where
-    go : (a b : Ordering) → point_cmp p q ≡ a → is_lt a ≡ false → is_lt b ≡ false → a ≡ ordering_reverse b → p ≡ q
-    go Less b g e f h = absurd (cc)
-    go Equal b g e f h = equal_is p q g
-    go Greater Less g e f h = absurd (cc)
-    go Greater Equal g e f h = absurd (cc)
-    go Greater Greater g e f h = absurd (cc)
+same_from_both p q e f = equal_is p q (tied_from_both point_cmp point_cmp-total p q e f)
 
 module _ (steps : List Segment) (up : IsSorted step_cmp steps) (p : GridPoint) where
   -- what stands between two steps from p starts at p

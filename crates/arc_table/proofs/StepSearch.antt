@@ -8,16 +8,15 @@ use Rattle.std.specs.declared.cmp.Ordering.TheVariants.{Less, Equal, Greater}
 use Rattle.std.specs.Cmp.{IsTotalOrder}
 use Rattle.std.proofs.lemmas.Bool.{cases_lt, false_from_ne_true}
 use Rattle.std.proofs.lemmas.Cmp.{on_total, then_total, int_ranked, tied_itself}
-use Rattle.std.proofs.lemmas.List.{get_or-map, length-map}
 use Rattle.std.proofs.lemmas.List.Sorted.{searchable_from_sorted, Contains-permutation, IsPermutation-sym}
 use Rattle.std.proofs.lemmas.Option.{slice_get-get_or, slice_get_cases, get_or_from_slice_get}
-use Rattle.std.proofs.lemmas.Bool.{and_parts}
+use Rattle.std.proofs.lemmas.Bool.{and_parts, and_from}
 use Rattle.std.proofs.Math.ListN.{get_or-append}
 use Rattle.std.proofs.lemmas.List.Elements.{Contains-append_left, Contains-append_right, Contains-append_cases}
 use Rattle.lists.proofs.Members.{Contains-map, map-Contains}
 use Rattle.plane_model.specs.Points.{GridPoint, Segment, same_point, is_before, reversed}
 use Rattle.plane_model.specs.Arrangement.{IsBefore}
-use Rattle.plane_model.proofs.PointOrder.{point_is, segment_is, same_point_from, before_to, is_before-IsStrictOrder}
+use Rattle.plane_model.proofs.PointOrder.{clash, point_is, segment_is, same_point_from, same_point_to, before_to, is_before-IsStrictOrder}
 use Rattle.grid_base.specs.Order.{point_cmp}
 use Rattle.grid_base.proofs.PointSearch.{point_cmp-total, equal_is}
 use Rattle.arc_table.specs.Steps.{step_cmp, AreSteps, HasBoth, AreTwins}
@@ -61,32 +60,17 @@ search_misses xs x up i h c =
       | inr m ↦ (let e : Greater ≡ Equal = sym (subst (λ (y : Segment). step_cmp y x ≡ Greater) c.2 (s.1 c.0 x m c.1)) ∙ itself in absurd (cc))
     ]
 
--- ---- what is in order by more than a step
-
-pub first_counts : (o p : Ordering) → is_lt (ordering_then o p) ≡ false → is_lt o ≡ false
-first_counts Less p e = e
-first_counts Equal p e = refl
-first_counts Greater p e = refl
+-- ---- the ends of steps
 
 pub same_ends : (s t : Segment) → (same_point s.start t.start && same_point s.stop t.stop) ≡ true → s ≡ t
 same_ends s t e =
     let p = and_parts (same_point s.start t.start) (same_point s.stop t.stop) e in
     segment_is s t (same_point_from s.start t.start p.0) (same_point_from s.stop t.stop p.1)
 
--- what is in order first by a step is in order by it
-pub sorted_by_first : {X : Type 0} (step : X → Segment) (second : X → X → Ordering) (xs : List X) → IsSorted (λ (a : X) (b : X). ordering_then (step_cmp (step a) (step b)) (second a b)) xs → IsSorted step_cmp (map step xs)
-sorted_by_first step second xs up k d l m =
-    let n = length-map xs step in
-    let here : k < length xs = omega arith in
-    let next : k + 1 < length xs = omega arith in
-    let some = get_or_some xs k here in
-    let e = get_or-map step xs k some d here in
-    let f = get_or-map step xs (k + 1) some d next in
-    (λ i. is_lt (step_cmp (f i) (e i))) ∙ first_counts (step_cmp (step (get_or xs (k + 1) some)) (step (get_or xs k some))) (second (get_or xs (k + 1) some) (get_or xs k some)) (up k some l next)
-  where
-    get_or_some : {X : Type 0} (xs : List X) (k : ℕ) → k < length xs → X
-    get_or_some [] k l = absurd (omega arith)
-    get_or_some (x ∷ xs) k l = x
+pub other_ends : (s t : Segment) → (same_point s.start t.start && same_point s.stop t.stop) ≡ false → s ≡ t → ⊥
+other_ends s t e f =
+    clash (same_point s.start t.start && same_point s.stop t.stop)
+    (and_from (same_point s.start t.start) (same_point s.stop t.stop) (same_point_to s.start t.start (ap (λ (x : Segment). x.start) f)) (same_point_to s.stop t.stop (ap (λ (x : Segment). x.stop) f))) e
 
 -- ---- both steps along each link
 

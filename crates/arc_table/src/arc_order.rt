@@ -8,8 +8,8 @@ use std::alloc::{AllocError, Global};
 pub struct ArcOrder {
     /// For each arc where its first step stands among all steps, and where the first step back along it does.
     pub firsts: Vec<u32>,
-    /// For each vertex of each arc the number of the vertex, in the order of the vertices.
-    pub vertices: Vec<u32>,
+    /// For each vertex of each arc between its ends the number of the vertex, in the order of the vertices.
+    pub inner: Vec<u32>,
     /// For each link of each arc where the step up along it stands among all steps.
     pub links: Vec<u32>,
 }
@@ -21,7 +21,7 @@ impl ArcOrder {
         let links = net.step_count() / 2;
         let mut order = ArcOrder {
             firsts: Vec::with_capacity(alloc, ways.len().saturating_mul(2))?,
-            vertices: Vec::with_capacity(alloc, ways.len().saturating_add(links))?,
+            inner: Vec::with_capacity(alloc, links.saturating_sub(ways.len()))?,
             links: Vec::with_capacity(alloc, links)?,
         };
         let mut walked = Vec::new(alloc);
@@ -39,12 +39,13 @@ impl ArcOrder {
             return Ok(());
         };
         let mut back = *first;
-        for h in steps {
+        for (place, h) in steps.iter().enumerate() {
             back = twin_at(net, *h);
-            self.vertices.push(number_at(numbers, *h))?;
             self.links.push(back.min(*h))?;
+            if place > 0 {
+                self.inner.push(number_at(numbers, *h))?;
+            }
         }
-        self.vertices.push(number_at(numbers, back))?;
         self.firsts.push(*first)?;
         self.firsts.push(back)?;
         Ok(())

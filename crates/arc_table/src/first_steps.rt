@@ -10,8 +10,8 @@ use span_pool::{SpanId, SpanPool};
 use std::alloc::{AllocError, Global};
 use std::cmp::Ordering;
 
-/// A signed arc with its first step. They are ordered by the step.
-#[derive(Clone, Copy, PartialEq, Eq, PartialOrd, Ord, Debug)]
+/// A signed arc with its first step.
+#[derive(Clone, Copy, Debug)]
 pub struct FirstStep {
     pub step: Step,
     pub arc: SignedArc,
@@ -19,7 +19,7 @@ pub struct FirstStep {
 
 /// The first steps of all arcs, of each forward and then reversed.
 pub fn first_steps(alloc: Global, arcs: &SpanPool) -> Result<Vec<FirstStep>, AllocError>
-    requires { All (λ arc. 1 < length arc) arcs.now.spans }
+    requires long { All (λ arc. 1 < length arc) arcs.now.spans }
     ensures exact { IfOk result (λ v. v.items ≡ map (first_of arcs.now.spans) (signed_below (length arcs.now.spans))) }
 {
     let mut firsts = Vec::with_capacity(alloc, 2 * arcs.count() as usize)?;
@@ -34,7 +34,7 @@ pub fn first_steps(alloc: Global, arcs: &SpanPool) -> Result<Vec<FirstStep>, All
 }
 
 fn starting(from: Pt, to: Pt, arc: SignedArc) -> FirstStep
-    ensures { result ≡ record { step = record { start = from; stop = to }; arc = arc } }
+    ensures made { result ≡ record { step = record { start = from; stop = to }; arc = arc } }
 {
     FirstStep {
         step: Step::new(from, to),
@@ -64,14 +64,14 @@ fn turn_row(firsts: &mut [FirstStep], first: usize, end: usize)
 
 // Whether the step before is not from the same vertex.
 fn begins_row(firsts: &[FirstStep], i: usize) -> bool
-    requires { i < length firsts.now }
+    requires there { i < length firsts.now }
 {
     i == 0 || !is_same(firsts[i - 1].step.from(), firsts[i].step.from())
 }
 
 // The place after the last step of the row that begins at `first`.
 fn row_end(firsts: &[FirstStep], first: usize) -> usize
-    requires { first < length firsts.now }
+    requires there { first < length firsts.now }
     ensures after { first ≤ result }
     ensures within { result ≤ length firsts.now }
 {
@@ -96,16 +96,18 @@ pub fn turning(a: &FirstStep, b: &FirstStep) -> Ordering
     }
 }
 
-fn comes_first(a: &Step, b: &Step) -> bool
-    ensures { result ≡ comes_first a.now b.now }
+/// Whether a step comes before another by start, or at one start counterclockwise from the direction of the positive x
+/// axis.
+pub fn comes_first(a: &Step, b: &Step) -> bool
+    ensures exact { result ≡ comes_first a.now b.now }
 {
     is_before(a.from(), b.from()) || is_same(a.from(), b.from()) && comes_round_first(a, b)
 }
 
 // Counterclockwise from the direction of the positive x axis, for steps from one point.
 fn comes_round_first(a: &Step, b: &Step) -> bool
-    requires { a.now.start ≡ b.now.start }
-    ensures { result ≡ comes_round_first a.now b.now }
+    requires together { a.now.start ≡ b.now.start }
+    ensures exact { result ≡ comes_round_first a.now b.now }
 {
     let (half, other) = (half_of(a), half_of(b));
     half < other || half == other && 0 < turn(a.from(), a.to(), b.to())
@@ -113,7 +115,7 @@ fn comes_round_first(a: &Step, b: &Step) -> bool
 
 // 0 for a step up or along the positive x axis, 1 for another, and 2 for one that stays where it is.
 fn half_of(step: &Step) -> u32
-    ensures { result ≡ half_of step.now }
+    ensures exact { result ≡ half_of step.now }
 {
     if goes_up(step) {
         0
@@ -126,7 +128,7 @@ fn half_of(step: &Step) -> u32
 
 // The step goes up, or along the positive x axis.
 fn goes_up(step: &Step) -> bool
-    ensures { result ≡ goes_up step.now }
+    ensures exact { result ≡ goes_up step.now }
 {
     let (from, to) = (step.from(), step.to());
     from.y() < to.y() || from.y() == to.y() && from.x() < to.x()

@@ -239,9 +239,10 @@ fn stands_at(steps: &[Step], h: usize, step: Step) -> bool
 }
 
 /// Whether two steps are the same.
-#[tactic(auto, using(crate::proofs::StepSearch::same_ends))]
+#[tactic(auto, using(crate::proofs::StepSearch::same_ends, crate::proofs::StepSearch::other_ends))]
 pub fn is_step(a: Step, b: Step) -> bool
     ensures same { result ≡ true → a ≡ b }
+    ensures other { result ≡ false → a ≢ b }
 {
     is_same(a.from(), b.from()) && is_same(a.to(), b.to())
 }

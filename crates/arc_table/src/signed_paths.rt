@@ -56,13 +56,11 @@ impl ArcTable {
         if n >= self.count() {
             return None;
         }
-        let id = ArcId::new(n);
-        let points = self.points_of(id);
-        let last = points.len() - 1;
-        if is_step(Step::new(points[0], points[1]), step) {
-            Some(SignedArc::forward(id))
-        } else if is_step(Step::new(points[last], points[last - 1]), step) {
-            Some(SignedArc::backward(id))
+        let forward = SignedArc::forward(ArcId::new(n));
+        if is_step(self.first_step(forward), step) {
+            Some(forward)
+        } else if is_step(self.first_step(forward.flip()), step) {
+            Some(forward.flip())
         } else {
             None
         }

@@ -1,22 +1,24 @@
-ghost use Rattle.std.specs.Prelude.{◌≡◌, ◌≢◌, AllPairs, ◌+◌, ◌<◌, ◌≤◌, [], ◌++◌, All, IfOk, IfSome, OnOk, Some, length, map, slice_get, slice_index_or};
+ghost use Rattle.std.specs.Prelude.{◌≡◌, ◌≢◌, AllPairs, ◌+◌, ◌<◌, ◌≤◌, [], ◌++◌, All, IfOk, IfSome, None, OnOk, Some, false, length, map, slice_get, slice_index_or, true};
+ghost use Rattle.std.specs.List.Sorted.{IsPartitionPoint, IsPartitionedBy};
+ghost use Rattle.plane_model.specs.Points.{same_point};
 ghost use Rattle.plane_model.specs.Arcs.{points_of};
 ghost use Rattle.plane_model.specs.Snapped.{links_of};
 ghost use Rattle.arc_table.specs.Along.{GoAlong, links_of_arcs};
 ghost use Rattle.arc_table.specs.Direction.{IsForward};
-ghost use Rattle.arc_table.specs.Around.{IsAround};
+ghost use Rattle.arc_table.specs.Around.{IsAround, first_step};
 ghost use Rattle.arc_table.specs.Lookup.{IsArcAt, IsBegunBy};
 ghost use Rattle.arc_table.specs.Order.{AreNumbered};
 ghost use Rattle.arc_table.specs.PathArcs.{IsAloneAt};
 ghost use Rattle.arc_table.specs.WholeArcs.{IsWholeArc, StartsAtLeast};
 
 use crate::arc_order::ArcOrder;
-use crate::first_steps::{FirstStep, first_steps, turn_rows, turning};
-use crate::half_links::{Net, Step, place_of};
+use crate::first_steps::{FirstStep, comes_first, first_steps, turn_rows, turning};
+use crate::half_links::{Net, Step, is_step};
 use crate::nodes::turns_of;
 use crate::numbering::{pool_of, ways_of};
 use crate::rows::LinkOrder;
 use crate::step_order::StepOrder;
-use crate::vertices::{ArcVertex, least_at, vertices_in_order};
+use crate::vertices::{ArcVertex, inner_vertices, least_at, least_of, lesser_of};
 use grid_base::{ArcId, Pt, SignedArc, Snapped, is_before, is_same};
 use known_order::{move_to_positions, positions_by_key};
 use span_pool::{SpanId, SpanPool};
@@ -27,16 +29,12 @@ use std::marker::Model;
 #[derive(Drop)]
 pub struct ArcTable {
     arcs: SpanPool,
-    // the first steps of the signed arcs, in order
-    begins: Vec<Step>,
-    // the signed arc of each of `begins`
-    begun: Vec<SignedArc>,
     // where each signed arc of `outs` starts
     pub(crate) starts: Vec<Pt>,
     // the signed arcs by their starts, and counterclockwise at each
     pub(crate) outs: Vec<SignedArc>,
-    // the vertices of all arcs, in order
-    vertices: Vec<ArcVertex>,
+    // the vertices of all arcs between their ends, in order
+    inner: Vec<ArcVertex>,
     pub(crate) order: LinkOrder,
 }
 
@@ -46,17 +44,16 @@ impl Model for ArcTable {
     ghost use Rattle.arc_table.specs.Direction.{IsForward};
     ghost use Rattle.arc_table.specs.Along.{links_of_arcs};
     ghost use Rattle.arc_table.specs.Around.{IsTurned};
-    ghost use Rattle.arc_table.specs.Lookup.{AreBegun, AreVertices};
+    ghost use Rattle.arc_table.specs.Lookup.{AreInner};
 
     ghost Value = { List (List GridPoint) };
 
     ghost view = { λ t. t.arcs.spans };
 
     ghost invariant = { λ t. All (λ arc. 1 < length arc) t.arcs.spans
-        × AreBegun t.arcs.spans t.begins.items t.begun.items
         × (length t.starts.items ≡ length t.outs.items)
         × All (λ a. a.arc < length t.arcs.spans) t.outs.items
-        × AreVertices t.arcs.spans t.vertices.items
+        × AreInner t.arcs.spans t.inner.items
         × All IsForward t.arcs.spans
         × IsTurned t.arcs.spans t.starts.items t.outs.items
         × AllPairs (λ k l. k ≢ l) (links_of_arcs t.arcs.spans) };
@@ -105,31 +102,24 @@ impl ArcTable {
     {
         let ArcOrder {
             firsts: first_keys,
-            vertices: vertex_keys,
+            inner: inner_keys,
             links,
         } = order;
         let mut firsts = first_steps(alloc, &arcs)?;
         let mut positions = positions_by_key(alloc, &first_keys, steps)?;
         move_to_positions(&mut firsts, &mut positions);
-        // After this the sort has only to find the steps in order.
-        firsts.sort_unstable();
-        let begins = steps_of(alloc, &firsts)?;
-        let begun = arcs_of(alloc, &firsts)?;
-        let mut by_turn = firsts;
-        // After this the sort has only to find the steps in order.
-        turn_rows(&mut by_turn);
-        by_turn.sort_unstable_by(turning);
-        let starts = starts_of(alloc, &by_turn)?;
-        let outs = arcs_of(alloc, &by_turn)?;
-        drop(by_turn);
-        let vertices = vertices_in_order(alloc, &arcs, &vertex_keys, steps)?;
+        turn_rows(&mut firsts);
+        // The sort has only to find the steps in order.
+        firsts.sort_unstable_by(turning);
+        let starts = starts_of(alloc, &firsts)?;
+        let outs = arcs_of(alloc, &firsts)?;
+        drop(firsts);
+        let inner = inner_vertices(alloc, &arcs, &inner_keys, steps)?;
         Ok(ArcTable {
             arcs,
-            begins,
-            begun,
             starts,
             outs,
-            vertices,
+            inner,
             order: LinkOrder {
                 links,
                 highs,
@@ -176,18 +166,20 @@ impl ArcTable {
         ensures exact { IsAround self.now p result.now }
     {
         let first = self.starts.partition_point(|q| is_before(*q, p));
-        let count = self.starts[first..].partition_point(|q| is_same(*q, p));
+        let count = row_length(&self.starts[first..], p);
         &self.outs[first..first + count]
     }
 
     /// The least arc that has `p` as a vertex; `None` exactly where there is none. Where no arc starts at `p`, it is
     /// the only one. Takes no memory.
+    ///
+    /// Cost: log n for n vertices, and a step for each arc that starts at `p`.
     pub fn arc_at(&self, p: Pt) -> Option<ArcId>
         ensures exact { IsArcAt self.now p result }
         ensures alone { IfSome result (IsAloneAt self.now p) }
         ensures there { IfSome result (λ id. id < length self.now) }
     {
-        least_at(&self.vertices, p)
+        lesser_of(least_of(self.around(p)), least_at(&self.inner, p))
     }
 
     // The signed arc that begins with a step; `None` exactly where none does.
@@ -195,27 +187,98 @@ impl ArcTable {
         ensures exact { IsBegunBy self.now step result }
         ensures there { IfSome result (λ a. a.arc < length self.now) }
     {
-        match place_of(&self.begins, step) {
-            Some(k) => Some(self.begun[k]),
-            None => None,
+        let row = self.around(step.from());
+        match self.begun_in_turn(row, step) {
+            Some(a) => Some(a),
+            None => self.begun_among(row, step),
+        }
+    }
+
+    // The signed arc that begins with a step, where it stands in its turn in a row: in the row of a snapped drawing it
+    // does if it is there.
+    fn begun_in_turn(&self, row: &[SignedArc], step: Step) -> Option<SignedArc>
+        requires there { All (λ a. a.arc < length self.now) row.now }
+        ensures found { IfSome result (λ a. (a.arc < length self.now) × (first_step self.now a ≡ step)) }
+    {
+        let a = *row.get(self.place_in_turn(row, step))?;
+        if is_step(self.first_step(a), step) {
+            Some(a)
+        } else {
+            None
+        }
+    }
+
+    // How many arcs of a row that turns counterclockwise come before a step: a wrong number costs time alone.
+    fn place_in_turn(&self, row: &[SignedArc], step: Step) -> usize
+        requires there { All (λ a. a.arc < length self.now) row.now }
+    {
+        let mut low = 0;
+        let mut count = row.len();
+        while count > 0 {
+            let half = count / 2;
+            if comes_first(&self.first_step(row[low + half]), &step) {
+                low += half + 1;
+                count -= half + 1;
+            } else {
+                count = half;
+            }
+        }
+        low
+    }
+
+    // The first of some signed arcs that begins with a step; `None` exactly where none does.
+    fn begun_among(&self, arcs: &[SignedArc], step: Step) -> Option<SignedArc>
+        requires there { All (λ a. a.arc < length self.now) arcs.now }
+        ensures found { IfSome result (λ a. (a.arc < length self.now) × (first_step self.now a ≡ step)) }
+        ensures none { result ≡ None → All (λ a. first_step self.now a ≢ step) arcs.now }
+    {
+        for a in arcs {
+            if is_step(self.first_step(*a), step) {
+                return Some(*a);
+            }
+        }
+        None
+    }
+
+    // The step that a signed arc begins with.
+    pub(crate) fn first_step(&self, a: SignedArc) -> Step
+        requires there { a.arc < length self.now }
+        ensures exact { result ≡ first_step self.now a }
+    {
+        let points = self.points_of(a.id());
+        let last = points.len() - 1;
+        if a.is_reversed() {
+            Step::new(points[last], points[last - 1])
+        } else {
+            Step::new(points[0], points[1])
         }
     }
 }
 
-fn steps_of(alloc: Global, firsts: &[FirstStep]) -> Result<Vec<Step>, AllocError>
-    ensures { IfOk result (λ v. v.items ≡ map (λ f. f.step) firsts.now) }
+// How many points at the front of points in order are `p`. Rows are short mostly, so that the first few points are
+// looked at by themselves.
+fn row_length(points: &[Pt], p: Pt) -> usize
+    ensures within { result ≤ length points.now }
+    ensures exact { IsPartitionedBy (λ q. same_point q p) points.now →
+        IsPartitionPoint (λ q. same_point q p ≡ true) (λ q. same_point q p ≡ false) points.now result }
 {
-    firsts.iter().map(|f| f.step).collect(alloc)
+    let few = points.len().min(8);
+    let count = points[..few].partition_point(|q| is_same(*q, p));
+    if count < few {
+        count
+    } else {
+        points.partition_point(|q| is_same(*q, p))
+    }
 }
 
 fn starts_of(alloc: Global, firsts: &[FirstStep]) -> Result<Vec<Pt>, AllocError>
-    ensures { IfOk result (λ v. v.items ≡ map (λ f. f.step.start) firsts.now) }
+    ensures exact { IfOk result (λ v. v.items ≡ map (λ f. f.step.start) firsts.now) }
 {
     firsts.iter().map(|f| f.step.from()).collect(alloc)
 }
 
 fn arcs_of(alloc: Global, firsts: &[FirstStep]) -> Result<Vec<SignedArc>, AllocError>
-    ensures { IfOk result (λ v. v.items ≡ map (λ f. f.arc) firsts.now) }
+    ensures exact { IfOk result (λ v. v.items ≡ map (λ f. f.arc) firsts.now) }
 {
     firsts.iter().map(|f| f.arc).collect(alloc)
 }

@@ -1,8 +1,8 @@
-ghost use Rattle.std.specs.Prelude.{◌≡◌, ◌++◌, IfOk, OnOk, map, length};
+ghost use Rattle.std.specs.Prelude.{◌≡◌, ◌++◌, ◌<◌, All, IfOk, OnOk, map, length};
 ghost use Rattle.std.specs.List.Sorted.{IsSorted};
-ghost use Rattle.arc_table.specs.Lookup.{AreVertices, IsFirstAt, vertices_below, vertex_cmp};
+ghost use Rattle.arc_table.specs.Lookup.{AreInner, IsFirstAt, IsLeastNamed, inner_below, lesser_of, vertex_cmp};
 
-use grid_base::{ArcId, Pt, is_same};
+use grid_base::{ArcId, Pt, SignedArc, is_same};
 use known_order::{move_to_positions, positions_by_key};
 use span_pool::{SpanId, SpanPool};
 use std::alloc::{AllocError, Global};
@@ -14,17 +14,18 @@ pub struct ArcVertex {
     pub arc: ArcId,
 }
 
-/// The vertices of all arcs, in order. `keys` has for each of them, one arc after another, its number among the
-/// vertices of the drawing, below `count`: a wrong one costs time alone.
-pub fn vertices_in_order(
+/// The vertices of all arcs between their ends, in order. `keys` has for each of them, one arc after another, its
+/// number among the vertices of the drawing, below `count`: a wrong one costs time alone.
+pub fn inner_vertices(
     alloc: Global,
     arcs: &SpanPool,
     keys: &[u32],
     count: usize,
 ) -> Result<Vec<ArcVertex>, AllocError>
-    ensures exact { IfOk result (λ v. AreVertices arcs.now.spans v.items) }
+    requires long { All (λ arc. 1 < length arc) arcs.now.spans }
+    ensures exact { IfOk result (λ v. AreInner arcs.now.spans v.items) }
 {
-    let mut vertices = vertices_of(alloc, arcs)?;
+    let mut vertices = vertices_of(alloc, arcs, keys.len())?;
     let mut positions = positions_by_key(alloc, keys, count)?;
     move_to_positions(&mut vertices, &mut positions);
     // After this the sort has only to find the vertices in order.
@@ -32,28 +33,22 @@ pub fn vertices_in_order(
     Ok(vertices)
 }
 
-// How many vertices the arcs have. It is not proved: a wrong one costs time alone.
-fn vertex_count(arcs: &SpanPool) -> usize {
-    let mut count: usize = 0;
-    for n in 0..arcs.count() {
-        count = count.saturating_add(arcs.get(SpanId::new(n)).len());
-    }
-    count
-}
-
-// The vertices of all arcs, arc by arc.
-fn vertices_of(alloc: Global, arcs: &SpanPool) -> Result<Vec<ArcVertex>, AllocError>
-    ensures exact { IfOk result (λ v. v.items ≡ vertices_below arcs.now.spans (length arcs.now.spans)) }
+// The vertices of all arcs between their ends, arc by arc; room is made for `count` of them at first.
+fn vertices_of(alloc: Global, arcs: &SpanPool, count: usize) -> Result<Vec<ArcVertex>, AllocError>
+    requires long { All (λ arc. 1 < length arc) arcs.now.spans }
+    ensures exact { IfOk result (λ v. v.items ≡ inner_below arcs.now.spans (length arcs.now.spans)) }
 {
-    let mut vertices = Vec::with_capacity(alloc, vertex_count(arcs))?;
+    let mut vertices = Vec::with_capacity(alloc, count)?;
     for n in 0..arcs.count() {
-        push_vertices(&mut vertices, ArcId::new(n), arcs.get(SpanId::new(n)))?;
+        let points = arcs.get(SpanId::new(n));
+        let id = ArcId::new(n);
+        push_vertices(&mut vertices, id, &points[1..points.len() - 1])?;
     }
     Ok(vertices)
 }
 
 fn push_vertices(vertices: &mut Vec<ArcVertex>, arc: ArcId, points: &[Pt]) -> Result<(), AllocError>
-    ensures { OnOk result (vertices.new.items ≡ vertices.old.items ++ map (λ p. record { at = p; arc = arc }) points.now) }
+    ensures pushed { OnOk result (vertices.new.items ≡ vertices.old.items ++ map (λ p. record { at = p; arc = arc }) points.now) }
 {
     for p in points {
         vertices.push(ArcVertex { at: *p, arc })?;
@@ -80,4 +75,28 @@ pub fn least_at(vertices: &[ArcVertex], p: Pt) -> Option<ArcId>
     } else {
         None
     }
+}
+
+/// The least of the arcs that signed arcs name; `None` where there are none.
+pub fn least_of(named: &[SignedArc]) -> Option<ArcId>
+    ensures exact { IsLeastNamed named.now result }
+{
+    let mut least = None;
+    for a in named {
+        least = lesser_of(least, Some(a.id()));
+    }
+    least
+}
+
+/// The lesser of two arcs, or the only one.
+pub fn lesser_of(one: Option<ArcId>, other: Option<ArcId>) -> Option<ArcId>
+    ensures exact { result ≡ lesser_of one other }
+{
+    let Some(m) = one else {
+        return other;
+    };
+    let Some(n) = other else {
+        return one;
+    };
+    if n.num() < m.num() { other } else { one }
 }

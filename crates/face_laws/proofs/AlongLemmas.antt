@@ -11,7 +11,7 @@ use Rattle.plane_faces.specs.Places.{Place, outside, left_of}
 use Rattle.plane_faces.specs.Rings.{dart_of_step}
 use Rattle.arc_table.specs.Along.{GoAlong}
 use Rattle.face_laws.specs.Faces.{AreFreeInside, IsByNumber}
-use Rattle.face_walk.specs.PlaceNumbers.{place_of}
+use Rattle.link_search.specs.PlaceNumbers.{place_of}
 use Rattle.face_laws.proofs.DartLemmas.{twice_opposite, on_next, back_next}
 use Rattle.face_laws.proofs.StepLemmas.{IsStep, arc_of, step_at, step_on, step_moves, alone_inside, they_meet}
 

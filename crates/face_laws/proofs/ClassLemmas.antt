@@ -16,11 +16,11 @@ use Rattle.plane_faces.specs.Rings.{dart_of_step}
 use Rattle.plane_faces.proofs.Tables.{next_is_one, rays_of_table}
 use Rattle.arc_table.specs.Along.{GoAlong}
 use Rattle.face_laws.specs.Faces.{AreFreeInside, IsByNumber, FacesAreClasses}
-use Rattle.face_walk.specs.PlaceNumbers.{place_of}
+use Rattle.link_search.specs.PlaceNumbers.{place_of}
 use Rattle.face_walk.specs.Places.{HasJoins}
 use Rattle.face_walk.specs.Rays.{AreLinksOf, IsRay}
 use Rattle.face_walk.specs.Sectors.{arc_at, next_in_row, place_right_of, sector_after, sectors_below, sectors}
-use Rattle.face_walk.specs.declared.links.ArcLink.{ArcLink}
+use Rattle.link_search.specs.declared.links.ArcLink.{ArcLink}
 use Rattle.face_laws.proofs.AlongLemmas.{IsOneInSectors, inner_back, inner_on, is_by_number, place_numbered}
 use Rattle.face_laws.proofs.DartLemmas.{one_of_two, twice_opposite}
 use Rattle.face_laws.proofs.DrawnLemmas.{first_to, left_at, listed_in, listing, minimum_from, minimum_to, place_of_met, place_to, ray_ends, ray_starts, right_at}

@@ -22,10 +22,10 @@ use Rattle.plane_faces.specs.Rings.{dart_of_step}
 use Rattle.plane_faces.proofs.Order.{below_over}
 use Rattle.arc_table.specs.Along.{GoAlong}
 use Rattle.face_laws.specs.Faces.{IsByNumber}
-use Rattle.face_walk.specs.PlaceNumbers.{place_of}
+use Rattle.link_search.specs.PlaceNumbers.{place_of}
 use Rattle.face_walk.specs.Sectors.{place_right_of}
 use Rattle.face_walk.specs.Rays.{AreLinksOf, IsFirstFrom, IsMinimum, IsRay, IsTopmostBelow, link_at, links_along, links_below, place_met}
-use Rattle.face_walk.specs.declared.links.ArcLink.{ArcLink}
+use Rattle.link_search.specs.declared.links.ArcLink.{ArcLink}
 use Rattle.face_laws.proofs.DartLemmas.{Moves, ends_differ}
 use Rattle.face_laws.proofs.RoundLemmas.{turn_is, cross_swapped}
 use Rattle.face_laws.proofs.StepLemmas.{IsStep, arc_of, step_on, step_moves, step_of_link}

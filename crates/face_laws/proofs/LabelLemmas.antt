@@ -15,7 +15,7 @@ use Rattle.plane_faces.specs.Around.{opposite}
 use Rattle.plane_faces.specs.Places.{Place, outside, left_of}
 use Rattle.plane_faces.specs.Rings.{dart_of_step, darts_of_path}
 use Rattle.arc_table.specs.Along.{GoAlong}
-use Rattle.face_walk.specs.PlaceNumbers.{place_of}
+use Rattle.link_search.specs.PlaceNumbers.{place_of}
 use Rattle.face_laws.specs.Faces.{IsByNumber, EachTableHasLabels}
 use Rattle.face_laws.proofs.StepLemmas.{IsStep, arc_of, one_place}
 

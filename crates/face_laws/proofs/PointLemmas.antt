@@ -15,7 +15,7 @@ use Rattle.plane_faces.proofs.Classes as classes
 use Rattle.arc_table.specs.Along.{GoAlong}
 use Rattle.face_walk.specs.Places.{FaceTable, IsFaceOver}
 use Rattle.face_walk.specs.Rays.{AreLinksOf, IsTopmostBelow, place_met}
-use Rattle.face_walk.specs.declared.links.ArcLink.{ArcLink}
+use Rattle.link_search.specs.declared.links.ArcLink.{ArcLink}
 use Rattle.face_laws.specs.Faces.{AreFreeInside, IsFaceOfPlace, PointsHaveOneFace, PointsOfADrawing}
 use Rattle.face_laws.proofs.ClassLemmas.{faces_are_classes}
 use Rattle.face_laws.proofs.DrawnLemmas.{left_of_link, place_of_met, place_to}

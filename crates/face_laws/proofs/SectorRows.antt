@@ -17,7 +17,7 @@ use Rattle.arc_table.specs.Along.{GoAlong}
 use Rattle.arc_table.specs.Around.{IsTurned, comes_round_first, first_step, start_of}
 use Rattle.arc_table.proofs.SignedArcs.{once_in}
 use Rattle.face_laws.specs.Faces.{AreFreeInside, IsByNumber}
-use Rattle.face_walk.specs.PlaceNumbers.{place_of}
+use Rattle.link_search.specs.PlaceNumbers.{place_of}
 use Rattle.face_walk.specs.Sectors.{arc_at, first_in_row, goes_on, next_in_row, place_right_of}
 use Rattle.face_walk.proofs.SectorLemmas.{first_within, next_on, next_off}
 use Rattle.face_laws.proofs.DartLemmas.{Moves, dart_back, ends_differ, step_head, step_tail, twice_opposite}
@@ -26,7 +26,7 @@ use Rattle.face_laws.proofs.RoundLemmas.{IsRow, first_after_last, next_is_next, 
 use Rattle.face_laws.proofs.TurnedRows.{first_starts, in_turn, is_there, none_after, none_before, on_starts, stands, start_is}
 use Rattle.face_laws.proofs.DrawnLemmas.{left_at, right_at}
 use Rattle.face_walk.specs.Rays.{AreLinksOf}
-use Rattle.face_walk.specs.declared.links.ArcLink.{ArcLink}
+use Rattle.link_search.specs.declared.links.ArcLink.{ArcLink}
 
 not_same : (s : Segment) → Moves s → same_point s.start s.stop ≡ false
 not_same s m = go (same_point s.start s.stop) refl

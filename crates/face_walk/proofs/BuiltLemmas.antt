@@ -9,11 +9,11 @@ use Rattle.arc_table.specs.Around.{IsTurned}
 use Rattle.face_walk.specs.Joining.{AreAlone}
 use Rattle.face_walk.specs.Joins.{joined_by}
 use Rattle.face_walk.specs.Numbering.{IsNumbering}
-use Rattle.face_walk.specs.PlaceNumbers.{place_of, HasPlaces}
+use Rattle.link_search.specs.PlaceNumbers.{place_of, HasPlaces}
 use Rattle.face_walk.specs.Places.{HasJoins}
 use Rattle.face_walk.specs.Sectors.{arc_at, first_in_row, next_in_row, place_right_of, sector_after, sectors_below, sectors}
 use Rattle.face_walk.specs.Rays.{IsRay, AreRays, IsTopmostBelow, place_met}
-use Rattle.face_walk.specs.declared.links.ArcLink.{ArcLink}
+use Rattle.link_search.specs.declared.links.ArcLink.{ArcLink}
 use Rattle.face_walk.proofs.JoinLemmas.{IsPairBelow, joined_append, numbers_are_joined}
 use Rattle.face_walk.proofs.SectorLemmas.{first_within}
 

@@ -1,10 +1,10 @@
 -- Lists of items for faces, filled crossing by crossing, and lists of their owners.
-use Rattle.std.proofs.Common.{◌≡◌, inl, inr, refl, sym, ap, subst, ◌∙◌, arith, ℕ, zero, suc, ◌+◌, ◌-◌, ◌<◌, ◌≤◌, Some, List, [], ◌∷◌, ◌++◌, All, length, get_or, map, set, take}
+use Rattle.std.proofs.Common.{◌≡◌, inl, inr, refl, sym, ap, subst, ◌∙◌, arith, ℕ, zero, suc, ◌+◌, ◌<◌, ◌≤◌, Some, List, [], ◌∷◌, ◌++◌, All, length, get_or, map, replicate, set, take}
 use Rattle.std.specs.Prelude.{slice_get}
-use Rattle.std.specs.List.Sorted.{IsNonDecreasing}
+use Rattle.std.specs.List.Sorted.{IsNonDecreasing, IsStrictlyIncreasing}
 use Rattle.std.proofs.lemmas.Bool.{cases_lt}
-use Rattle.std.proofs.lemmas.List.{get_or_append_left, get_or-append_right, get_or_past, get_or-set_other, get_or-set_same, get_or-take, length-take-le}
-use Rattle.std.proofs.lemmas.List.Elements.{All-cons, All-push, All-weaker}
+use Rattle.std.proofs.lemmas.List.{get_or_past, get_or-set_other, get_or-set_same, get_or-take, length-take-le}
+use Rattle.std.proofs.lemmas.List.Elements.{All-cons, All-push, All-replicate, All-same, All-weaker}
 use Rattle.lists.proofs.Members.{Contains-nil}
 use Rattle.plane_model.specs.Drawing.{Polygon}
 use Rattle.std.proofs.lemmas.Option.{get_or_from_slice_get, slice_get-get_or, slice_get_within}
@@ -18,6 +18,12 @@ use Rattle.face_walk.proofs.OddLemmas.{across_none}
 use Rattle.face_walk.proofs.RingStepLemmas.{take_found}
 
 -- ---- no item yet
+
+pub none_yet : (lists : List (List ℕ)) (count : ℕ) → lists ≡ replicate count [] → All (λ (items : List ℕ). items ≡ []) lists
+none_yet lists count e = All-same (λ (items : List ℕ). items ≡ []) lists (replicate count []) e (All-replicate (λ (items : List ℕ). items ≡ []) count [] refl)
+
+pub rising_none : (lists : List (List ℕ)) → All (λ (items : List ℕ). items ≡ []) lists → All IsStrictlyIncreasing lists
+rising_none lists h = All-weaker (λ (items : List ℕ). items ≡ []) IsStrictlyIncreasing (λ items e. subst IsStrictlyIncreasing (sym e) (λ k l. absurd (omega arith))) lists h
 
 free_at : (lists : List (List ℕ)) (f : ℕ) → All (λ (items : List ℕ). items ≡ []) lists → list_at lists f ≡ []
 free_at lists f h = elim (cases_lt f (length lists)) [ inl less ↦ h f [] less | inr more ↦ get_or_past lists f [] more ]
@@ -86,13 +92,12 @@ held_more faces steps crossings k c lists into are each found h step = record {
 
 -- ---- owners of one list more
 
-pub owned_more : (owners : List ℕ) (items features : List (List ℕ)) (k : ℕ) (next : List ℕ) → length features ≡ k → AreOwnersOfEach owners k items features → AreOwnersOf owners (list_at items k) next → AreOwnersOfEach owners (k + 1) items (features ++ next ∷ [])
-owned_more owners items features k next size h more f l = elim (cases_lt f k) [
-  | inl less ↦ subst (AreOwnersOf owners (list_at items f)) (sym (get_or_append_left features (next ∷ []) [] f (omega arith))) (h f less)
+pub owned_put : (owners : List ℕ) (items features : List (List ℕ)) (k : ℕ) (next : List ℕ) → k < length features → AreOwnersOfEach owners k items features → AreOwnersOf owners (list_at items k) next → AreOwnersOfEach owners (k + 1) items (set features k next)
+owned_put owners items features k next there h more f l = elim (cases_lt f k) [
+  | inl less ↦ subst (AreOwnersOf owners (list_at items f)) (sym (get_or-set_other features k f next [] (λ same. omega arith))) (h f less)
   | inr not_less ↦ (let same : k ≡ f = omega arith in
-      let zeroth : f - k ≡ 0 = omega arith in
-      let here : list_at (features ++ next ∷ []) f ≡ next = get_or-append_right features (next ∷ []) k f [] size not_less ∙ ap (λ (n : ℕ). get_or (next ∷ []) n []) zeroth in
-      subst (AreOwnersOf owners (list_at items f)) (sym here) (subst (λ (n : ℕ). AreOwnersOf owners (list_at items n) next) same more))
+      subst (λ (n : ℕ). AreOwnersOf owners (list_at items n) (list_at (set features k next) n)) same
+      (subst (AreOwnersOf owners (list_at items k)) (sym (get_or-set_same features k next [] there)) more))
 ]
 
 pub owners_free : (owners features : List ℕ) → AreOwnersOf owners [] features → features ≡ []

@@ -8,7 +8,7 @@ use Rattle.std.proofs.lemmas.List.Elements.{All-append, All-cons, All-nil, filte
 use Rattle.plane_model.specs.Points.{GridPoint, Segment, Path}
 use Rattle.plane_model.specs.Drawing.{steps, step_of}
 use Rattle.face_walk.specs.Rays.{link_at, links_along}
-use Rattle.face_walk.specs.declared.links.ArcLink.{ArcLink}
+use Rattle.link_search.specs.declared.links.ArcLink.{ArcLink}
 
 -- one step more
 steps_more : (path : Path) (p q : GridPoint) → steps ((path ++ p ∷ []) ++ q ∷ []) ≡ steps (path ++ p ∷ []) ++ record { start = p; stop = q } ∷ []

@@ -1,9 +1,8 @@
-pub mod PlaceNumbers
 pub mod Joining
 pub mod Places
-pub mod Under
 pub mod Crossings
 pub mod RingSteps
+pub mod FaceLists
 pub mod Holders
 pub mod Numbering
 pub mod Areas
@@ -11,6 +10,3 @@ pub mod Sides
 pub mod Joins
 pub mod Sectors
 pub mod Rays
-pub mod Descent
-pub mod Parting
-pub mod Rows

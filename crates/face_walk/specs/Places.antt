@@ -5,12 +5,12 @@ use Rattle.plane_model.specs.Points.{GridPoint, Path}
 use Rattle.plane_model.specs.Arcs.{SignedArc, forward, backward}
 use Rattle.arc_table.specs.Around.{IsTurned}
 use Rattle.face_walk.specs.Areas.{area_within}
-pub use Rattle.face_walk.specs.PlaceNumbers.{place_of, HasPlaces}
+pub use Rattle.link_search.specs.PlaceNumbers.{place_of, HasPlaces}
 use Rattle.face_walk.specs.Joins.{AreJoinedBy}
 use Rattle.face_walk.specs.Numbering.{AreAllBelow}
 use Rattle.face_walk.specs.Sectors.{sectors}
 use Rattle.face_walk.specs.Rays.{AreLinksOf, AreRays, IsTopmostBelow, place_met}
-use Rattle.face_walk.specs.declared.links.ArcLink.{ArcLink}
+use Rattle.link_search.specs.declared.links.ArcLink.{ArcLink}
 
 -- the first n arcs, each forward and then reversed
 abbrev pub signed_below : ℕ → List SignedArc

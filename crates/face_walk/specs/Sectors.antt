@@ -3,7 +3,7 @@ use Rattle.std.specs.Prelude.{ℕ, zero, suc, ◌+◌, Bool, not, ◌&&◌, nat_
 use Rattle.plane_model.specs.Points.{GridPoint, same_point}
 use Rattle.plane_model.specs.Arcs.{SignedArc, forward}
 use Rattle.arc_table.specs.Direction.{point_at}
-use Rattle.face_walk.specs.PlaceNumbers.{place_of}
+use Rattle.link_search.specs.PlaceNumbers.{place_of}
 
 -- the place right of a signed arc
 abbrev pub place_right_of : SignedArc → ℕ

@@ -1,8 +1,7 @@
 ghost use Rattle.std.specs.Prelude.{◌≡◌, ◌*◌, ◌<◌, ◌≤◌, ◌^◌, ◌+ℤ◌, ◌-ℤ◌, ◌*ℤ◌, All, IfOk, length, unsigned_abs};
 ghost use Rattle.plane_model.specs.Arcs.{points_of};
 ghost use Rattle.grid_base.specs.Sizes.{IsGridNumber};
-ghost use Rattle.face_walk.specs.Areas.{area_along, area_within};
-ghost use Rattle.face_walk.specs.Under.{IsTriangle, most_triangle};
+ghost use Rattle.face_walk.specs.Areas.{IsTriangle, area_along, area_within, most_triangle};
 
 use arc_table::ArcTable;
 use grid_base::{Pt, SignedArc};
@@ -53,7 +52,7 @@ fn area_along(points: &[Pt]) -> i128
 
 // The same of an arc; it has fewer points than 2^32.
 fn area_of_arc(t: &ArcTable, a: SignedArc) -> Result<i128, AllocError>
-    requires { a.arc < length t.now }
+    requires there { a.arc < length t.now }
     ensures exact { IfOk result (λ area. area ≡ area_along (points_of t.now a)) }
     ensures small { IfOk result (λ area. unsigned_abs area ≤ 2 ^ 32 * most_triangle) }
 {
@@ -76,7 +75,7 @@ pub fn added(sum: i128, area: i128) -> Result<i128, AllocError>
 
 /// Twice the area of a face, by the arcs that it is left of: `x1 * y2 - y1 * x2` over their steps.
 pub fn area_of_face(t: &ArcTable, arcs: &[SignedArc]) -> Result<i128, AllocError>
-    requires { All (λ a. a.arc < length t.now) arcs.now }
+    requires there { All (λ a. a.arc < length t.now) arcs.now }
     ensures exact { IfOk result (λ area. area ≡ area_within t.now arcs.now) }
 {
     let mut area = 0i128;

@@ -24,7 +24,7 @@ pub fn crossings_of(alloc: Global, f: &Faces) -> Result<Vec<Crossing>, AllocErro
     let outer = f.outer();
     let mut reached = vec![in alloc; false; f.count() as usize]?;
     reached[outer.num() as usize] = true;
-    let mut crossings = Vec::new(alloc);
+    let mut crossings = Vec::with_capacity(alloc, f.count() as usize)?;
     reach_all(&mut crossings, &mut reached, f, outer)?;
     Ok(crossings)
 }

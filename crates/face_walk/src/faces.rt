@@ -8,13 +8,15 @@ ghost use Rattle.face_walk.specs.Sides.{AreListed};
 
 use crate::areas::area_of_face;
 use crate::joining::Joining;
+use crate::links::search_of;
 use crate::numbering::{FaceSide, Numbering, arcs_of, faces_of, numbering_of, sides_of};
 use crate::places::{MAX_ARCS, OUTSIDE, place_of};
-use crate::rays::{LinkSearch, join_rays};
+use crate::rays::join_rays;
 use crate::sectors::join_sectors;
 use crate::side_places::{first_from, start_at, starts_of};
 use arc_table::ArcTable;
 use grid_base::{FaceId, Pt, SignedArc};
+use link_search::LinkSearch;
 use std::alloc::{AllocError, Global};
 use std::marker::Model;
 
@@ -62,14 +64,15 @@ impl Faces {
         if t.count() > MAX_ARCS {
             return Err(AllocError);
         }
-        let search = LinkSearch::of(alloc, t)?;
+        let search = search_of(alloc, t)?;
         let mut joining = Joining::new(alloc, 2 * t.count() + 1)?;
         let (starts, outs) = t.rows();
         join_sectors(&mut joining, starts, outs);
         join_rays(alloc, &mut joining, &search, t.high_positions())?;
         let numbering = numbering_of(alloc, &joining)?;
+        drop(joining);
         let sides = sides_of(alloc, t.count(), &numbering.places)?;
-        Faces::of_sides(alloc, t, search, numbering, &sides)
+        Faces::of_sides(alloc, t, search, numbering, sides)
     }
 
     fn of_sides(
@@ -77,20 +80,21 @@ impl Faces {
         t: &ArcTable,
         search: LinkSearch,
         numbering: Numbering,
-        sides: &[FaceSide],
+        sides: Vec<FaceSide>,
     ) -> Result<Faces, AllocError>
         requires few { length t.now ≤ 2000000000 }
         requires places { length numbering.places.items ≡ 2 * length t.now + 1 }
-        requires sides { All (λ s. s.arc.arc < length t.now) sides.now }
-        requires listed { AreListed numbering.places.items (map (λ s. s.face) sides.now) (map (λ s. s.arc) sides.now) }
+        requires sides { All (λ s. s.arc.arc < length t.now) sides.items }
+        requires listed { AreListed numbering.places.items (map (λ s. s.face) sides.items) (map (λ s. s.arc) sides.items) }
         requires joined { HasJoins t.now search.links.items numbering.places.items }
         requires numbered { AreAllBelow numbering.count numbering.places.items }
         requires all { AreLinksOf t.now search.links.items }
         requires links { All (λ l. HasPlaces (length numbering.places.items) l.along) search.links.items }
         ensures built { IfOk result (IsBuiltOf t.now) }
     {
-        let side_faces = faces_of(alloc, sides)?;
-        let side_arcs = arcs_of(alloc, sides)?;
+        let side_faces = faces_of(alloc, &sides)?;
+        let side_arcs = arcs_of(alloc, &sides)?;
+        drop(sides);
         let side_starts = starts_of(alloc, &side_faces, numbering.count)?;
         let areas = areas_of(
             alloc,
@@ -175,7 +179,7 @@ impl Faces {
 // Of arcs that stand by the faces on their left, in order, those of one face. They are looked for where `starts` has
 // them first.
 fn arcs_left<'a>(faces: &[u32], arcs: &'a [SignedArc], f: u32, starts: &[u32]) -> &'a [SignedArc]
-    requires { length faces.now ≡ length arcs.now }
+    requires each { length faces.now ≡ length arcs.now }
     ensures exact { (places : List ℕ) (many : ℕ) → AreListed places faces.now arcs.now → length places ≡ 2 * many + 1 →
         result.now ≡ arcs_with_left places many f }
     ensures left { (places : List ℕ) → AreListed places faces.now arcs.now → All (λ a. face_left_of places a ≡ f) result.now }

@@ -1,31 +1,32 @@
-ghost use Rattle.std.specs.Prelude.{◌≡◌, ◌⊎◌, ◌-◌, ◌<◌, ◌≤◌, [], true, false, All, IfOk, OnOk, Some, filter, length, map, nat_eq, nat_lt, slice_get, slice_index_or};
+ghost use Rattle.std.specs.Prelude.{◌≡◌, ◌⊎◌, ◌-◌, ◌<◌, ◌≤◌, [], true, false, All, IfOk, OnOk, Some, filter, length, nat_eq, nat_lt, slice_get, slice_index_or};
 ghost use Rattle.std.specs.List.Sorted.{IsNonDecreasing, IsNonDecreasingBy, IsPartitionPoint, IsStrictlyIncreasing};
 ghost use Rattle.face_walk.specs.Holders.{AreAcross, AreHeldBy, AreHolders, AreOddOnes, AreOwnersOf, AreOwnersOfEach, IsFlipped, IsPut, list_at};
 ghost use Rattle.face_walk.specs.Places.{IsBuiltOf};
 ghost use Rattle.face_walk.specs.Crossings.{AreCrossings, outer_of};
 
 use crate::crossings::{Crossing, crossings_of};
+use crate::face_lists::FaceLists;
 use crate::faces::Faces;
-use crate::ring_steps::{RingStep, box_steps, polygon_steps, steps_along};
+use crate::ring_steps::{RingStep, box_steps, next_number, polygon_steps, steps_along};
+use crate::side_places::start_at;
 use arc_table::ArcTable;
-use grid_base::{ArcId, FaceId, FeatId, Snapped, empty_lists};
+use grid_base::{ArcId, FaceId, FeatId, Snapped};
 use std::alloc::{AllocError, Global};
 use std::marker::Model;
 
 /// The polygon features and the boxes that hold each face.
 #[derive(Drop)]
 pub struct Labels {
-    holders: Vec<Vec<FeatId>>,
-    boxes: Vec<Vec<u32>>,
+    holders: FaceLists<FeatId>,
+    boxes: FaceLists<u32>,
 }
 
 impl Model for Labels {
-    ghost use Rattle.std.specs.Prelude.{map};
     ghost use Rattle.face_walk.specs.Holders.{HolderTable};
 
     ghost Value = { HolderTable };
 
-    ghost view = { λ l. record { holders = map (λ v. v.items) l.holders.items; boxes = map (λ v. v.items) l.boxes.items } };
+    ghost view = { λ l. record { holders = l.holders; boxes = l.boxes } };
 }
 
 impl Labels {
@@ -43,9 +44,10 @@ impl Labels {
         let crossings = crossings_of(alloc, f)?;
         let all = polygon_steps(alloc, t, s)?;
         let polygons = held_lists(alloc, f, &crossings, &all.steps)?;
-        let holders = owner_lists(alloc, &all.owners, &polygons)?;
+        drop(all.steps);
+        let holders = owner_lists(alloc, f.count(), &all.owners, &polygons)?;
         drop(polygons);
-        drop(all);
+        drop(all.owners);
         let steps = box_steps(alloc, t, s)?;
         let boxes = held_lists(alloc, f, &crossings, &steps)?;
         Ok(Labels { holders, boxes })
@@ -56,7 +58,7 @@ impl Labels {
         requires { f < length self.now.holders }
         ensures exact { result.now ≡ slice_index_or self.now.holders f [] }
     {
-        &self.holders[f.num() as usize]
+        self.holders.at(f)
     }
 
     /// The boxes that hold a face, ascending. Takes no memory.
@@ -64,7 +66,7 @@ impl Labels {
         requires { f < length self.now.boxes }
         ensures exact { result.now ≡ slice_index_or self.now.boxes f [] }
     {
-        &self.boxes[f.num() as usize]
+        self.boxes.at(f)
     }
 }
 
@@ -74,50 +76,45 @@ fn held_lists(
     f: &Faces,
     crossings: &[Crossing],
     steps: &[RingStep],
-) -> Result<Vec<Vec<u32>>, AllocError>
+) -> Result<FaceLists<u32>, AllocError>
     requires crossings { AreCrossings f.now crossings.now }
     requires by_arc { IsNonDecreasingBy (λ s. s.arc) steps.now }
-    ensures held { IfOk result (λ v. AreHeldBy steps.now (outer_of f.now) crossings.now (map (λ w. w.items) v.items)) }
-    ensures rising { IfOk result (λ v. All (λ w. IsStrictlyIncreasing w.items) v.items) }
-    ensures each { IfOk result (λ v. length v.items ≡ f.now.count) }
+    ensures held { IfOk result (AreHeldBy steps.now (outer_of f.now) crossings.now) }
+    ensures rising { IfOk result (All IsStrictlyIncreasing) }
+    ensures each { IfOk result (λ lists. length lists ≡ f.now.count) }
 {
-    let mut held: Vec<Vec<u32>> = empty_lists(alloc, f.count() as usize)?;
+    let mut held: FaceLists<u32> = FaceLists::empty(alloc, f.count())?;
     if steps.is_empty() {
         return Ok(held);
     }
     let starts = starts_of(alloc, steps)?;
+    let mut items = Vec::new(alloc);
     for c in crossings {
-        let from = &held[c.from.num() as usize];
-        let into = flipped(alloc, from, run_along(steps, &starts, c.arc))?;
-        held[c.into.num() as usize] = into;
+        let along = run_along(steps, &starts, c.arc);
+        list_across(alloc, &mut items, held.at(c.from), along)?;
+        held.put(c.into, &items)?;
     }
     Ok(held)
 }
 
 // For each arc the place of its first step, or of the next one: a guess, and a wrong one costs time alone.
-fn starts_of(alloc: Global, steps: &[RingStep]) -> Result<Vec<usize>, AllocError> {
+fn starts_of(alloc: Global, steps: &[RingStep]) -> Result<Vec<u32>, AllocError> {
     let mut starts = Vec::new(alloc);
     for (place, step) in steps.iter().enumerate() {
-        starts.resize((step.arc.num() as usize).saturating_add(1), place)?;
+        let number = next_number(place)?;
+        starts.resize((step.arc.num() as usize).saturating_add(1), number)?;
     }
-    starts.push(steps.len())?;
+    starts.push(next_number(steps.len())?)?;
     Ok(starts)
 }
 
-fn start_at(starts: &[usize], arc: usize) -> usize {
-    match starts.get(arc) {
-        Some(start) => *start,
-        None => 0,
-    }
-}
-
 // The steps along one arc, looked for first where they are guessed to begin and to end.
-fn run_along<'a>(steps: &'a [RingStep], starts: &[usize], arc: ArcId) -> &'a [RingStep]
+fn run_along<'a>(steps: &'a [RingStep], starts: &[u32], arc: ArcId) -> &'a [RingStep]
     requires by_arc { IsNonDecreasingBy (λ s. s.arc) steps.now }
     ensures exact { result.now ≡ filter (λ s. nat_eq s.arc arc) steps.now }
 {
-    let first = start_at(starts, arc.num() as usize);
-    let stop = start_at(starts, arc.num() as usize + 1);
+    let first = start_at(starts, arc.num());
+    let stop = start_at(starts, arc.num().wrapping_add(1));
     if begins_at(steps, first, arc) && ends_at(steps, stop, arc) && first <= stop {
         &steps[first..stop]
     } else {
@@ -161,26 +158,31 @@ fn ends_at(steps: &[RingStep], stop: usize, arc: ArcId) -> bool
     steps[stop].arc.num() != arc.num()
 }
 
-// The items that hold a face across an arc from a face that `held` holds: those that are in one of the two lists, or
-// that step along the arc an even number of times and are in `held`.
+// Makes `items` those that hold a face across an arc from a face that `held` holds: those that are in one of the two
+// lists, or that step along the arc an even number of times and are in `held`.
 //
 // Both lists are gone through at once, so that numbers come in order where those of the steps do.
-fn flipped(alloc: Global, held: &[u32], steps: &[RingStep]) -> Result<Vec<u32>, AllocError>
-    ensures exact { IfOk result (λ v. AreAcross steps.now held.now v.items) }
+fn list_across(
+    alloc: Global,
+    items: &mut Vec<u32>,
+    held: &[u32],
+    steps: &[RingStep],
+) -> Result<(), AllocError>
+    ensures exact { OnOk result (AreAcross steps.now held.now items.new.items) }
 {
+    items.clear();
     let count = held.len() + steps.len();
-    let mut items = Vec::with_capacity(alloc, count)?;
     let (mut i, mut j) = (0, 0);
     for _number in 0..count {
         if is_next(held, i, steps, j) {
-            flip(alloc, &mut items, held[i])?;
+            flip(alloc, items, held[i])?;
             i += 1;
         } else {
-            flip(alloc, &mut items, steps[j].item)?;
+            flip(alloc, items, steps[j].item)?;
             j += 1;
         }
     }
-    Ok(items)
+    Ok(())
 }
 
 // Whether the number at `i` comes before the step at `j`, or there is no such step.
@@ -269,34 +271,43 @@ fn ends_in(numbers: &[u32], n: u32) -> bool
 // The features of polygons, for each face.
 fn owner_lists(
     alloc: Global,
+    count: u32,
     owners: &[FeatId],
-    polygons: &[Vec<u32>],
-) -> Result<Vec<Vec<FeatId>>, AllocError>
+    polygons: &FaceLists<u32>,
+) -> Result<FaceLists<FeatId>, AllocError>
     requires owners { IsNonDecreasing owners.now }
-    requires rising { All (λ w. IsStrictlyIncreasing w.items) polygons.now }
-    ensures exact { IfOk result (λ v. AreOwnersOfEach owners.now (length polygons.now) (map (λ w. w.items) polygons.now) (map (λ w. w.items) v.items)) }
-    ensures each { IfOk result (λ v. length v.items ≡ length polygons.now) }
+    requires rising { All IsStrictlyIncreasing polygons.now }
+    requires each { length polygons.now ≡ count }
+    ensures exact { IfOk result (AreOwnersOfEach owners.now count polygons.now) }
+    ensures each { IfOk result (λ lists. length lists ≡ count) }
 {
-    let mut lists = Vec::with_capacity(alloc, polygons.len())?;
-    for items in polygons {
-        lists.push(owners_of(alloc, owners, items)?)?;
+    let mut lists: FaceLists<FeatId> = FaceLists::empty(alloc, count)?;
+    let mut features = Vec::new(alloc);
+    for number in 0..count {
+        let face = FaceId::new(number);
+        list_owners(&mut features, owners, polygons.at(face))?;
+        lists.put(face, &features)?;
     }
     Ok(lists)
 }
 
-// The features of rising polygons, each once.
-fn owners_of(alloc: Global, owners: &[FeatId], items: &[u32]) -> Result<Vec<FeatId>, AllocError>
+// Makes `features` those of rising polygons, each once.
+fn list_owners(
+    features: &mut Vec<FeatId>,
+    owners: &[FeatId],
+    items: &[u32],
+) -> Result<(), AllocError>
     requires owners { IsNonDecreasing owners.now }
     requires rising { IsStrictlyIncreasing items.now }
-    ensures exact { IfOk result (λ v. AreOwnersOf owners.now items.now v.items) }
+    ensures exact { OnOk result (AreOwnersOf owners.now items.now features.new.items) }
 {
-    let mut features = Vec::new(alloc);
+    features.clear();
     for i in items {
         if let Some(owner) = owner_of(owners, *i) {
-            put_owner(&mut features, owner)?;
+            put_owner(features, owner)?;
         }
     }
-    Ok(features)
+    Ok(())
 }
 
 fn owner_of(owners: &[FeatId], i: u32) -> Option<FeatId>

@@ -3,8 +3,8 @@
 //! 1. A place is the outside, or the left of a signed arc. Places are numbered, the outside first.
 //! 2. Round each vertex where arcs end, the left of an arc is joined with the right of the next arc counterclockwise.
 //! 3. From each vertex that all its links leave a ray goes straight down. The place right of the first of these links
-//!    is joined with the left of the topmost link below, or where there is none with the outside. The links are in
-//!    buckets; where many are in one, a tree parts them by abscissas and along links.
+//!    is joined with the left of the topmost link below, or where there is none with the outside; `link_search` looks
+//!    for that link.
 //! 4. The places that are joined are a face. Faces are numbered in the order of their least places, so that the outer
 //!    face is the first.
 //! 5. Holders go from the outer face from face to face: across an arc, a polygon holds the other face or no longer
@@ -15,19 +15,17 @@
 
 mod areas;
 mod crossings;
+mod face_lists;
 mod faces;
 mod joining;
 mod labels;
-mod link_tree;
 mod links;
 mod numbering;
 mod places;
 mod rays;
 mod ring_steps;
-mod rows;
 mod sectors;
 mod side_places;
-mod under;
 
 pub use areas::added;
 pub use faces::Faces;

@@ -1,23 +1,27 @@
 ghost use Rattle.std.specs.Prelude.{◌≡◌, ◌++◌, ◌<◌, All, IfOk, IfSome, OnOk, ℕ, length};
 ghost use Rattle.std.specs.Option.{option_to_list};
-ghost use Rattle.face_walk.specs.Rows.{AreByStart, AreStops};
-ghost use Rattle.face_walk.specs.Rays.{AreLinksOf, HasGridEnds, boxes_of, link_at, links_along};
+ghost use Rattle.link_search.specs.Rows.{AreByStart};
+ghost use Rattle.face_walk.specs.Rays.{AreLinksOf, link_at, links_along};
 
 use arc_table::ArcTable;
-use grid_base::{ArcId, BoxList, Link, Pt, Rect, SignedArc, is_before};
+use grid_base::{ArcId, Link, Pt, SignedArc, is_before};
 use known_order::move_to_positions;
+use link_search::{ArcLink, LinkSearch};
 use std::alloc::{AllocError, Global};
 
-/// A link of an arc, and the signed arc that goes along it from its lesser to its greater end. They are ordered by
-/// the link.
-#[derive(Clone, Copy, PartialEq, Eq, PartialOrd, Ord, Debug)]
-pub struct ArcLink {
-    pub link: Link,
-    pub along: SignedArc,
+/// The search among the links of all arcs.
+///
+/// Errors: `AllocError` for want of memory, or of numbers below 2^32 for links or buckets.
+pub fn search_of(alloc: Global, t: &ArcTable) -> Result<LinkSearch, AllocError>
+    ensures all { IfOk result (λ s. AreLinksOf t.now s.links.items) }
+    ensures there { IfOk result (λ s. All (λ l. l.along.arc < length t.now) s.links.items) }
+{
+    let links = links_of(alloc, t)?;
+    LinkSearch::of(alloc, links, t.high_positions())
 }
 
-/// The links of all arcs, in order.
-pub fn links_of(alloc: Global, t: &ArcTable) -> Result<Vec<ArcLink>, AllocError>
+// The links of all arcs, in order.
+fn links_of(alloc: Global, t: &ArcTable) -> Result<Vec<ArcLink>, AllocError>
     ensures all { IfOk result (λ v. AreLinksOf t.now v.items) }
     ensures there { IfOk result (λ v. All (λ l. l.along.arc < length t.now) v.items) }
     ensures sorted { IfOk result (λ v. AreByStart v.items) }
@@ -55,7 +59,7 @@ fn push_links(links: &mut Vec<ArcLink>, id: ArcId, points: &[Pt]) -> Result<(), 
 }
 
 fn push_some(links: &mut Vec<ArcLink>, found: Option<ArcLink>) -> Result<(), AllocError>
-    ensures { OnOk result (links.new.items ≡ links.old.items ++ option_to_list found) }
+    ensures exact { OnOk result (links.new.items ≡ links.old.items ++ option_to_list found) }
 {
     if let Some(l) = found {
         links.push(l)?;
@@ -75,34 +79,4 @@ fn step_along(id: ArcId, from: Pt, to: Pt) -> Option<ArcLink>
         SignedArc::backward(id)
     };
     Some(ArcLink { link, along })
-}
-
-/// The boxes of links, in their order.
-pub fn boxes_of(alloc: Global, links: &[ArcLink]) -> Result<BoxList, AllocError>
-    ensures exact { IfOk result (λ boxes. boxes ≡ boxes_of links.now) }
-    ensures on_grid { IfOk result (λ boxes. All HasGridEnds links.now) }
-{
-    let mut boxes = BoxList::with_capacity(alloc, links.len())?;
-    for l in links {
-        let area = Rect::around(l.link.low(), l.link.high());
-        boxes.push(area)?;
-    }
-    Ok(boxes)
-}
-
-/// The greater ends of links, in order, where `positions` has for each link the position of its end: a wrong one costs
-/// time alone.
-pub fn highs_of(alloc: Global, links: &[ArcLink], positions: &[u32]) -> Result<Vec<Pt>, AllocError>
-    ensures exact { IfOk result (λ v. AreStops links.now v.items) }
-{
-    let mut highs = Vec::with_capacity(alloc, links.len())?;
-    for l in links {
-        highs.push(l.link.high())?;
-    }
-    let mut left = Vec::with_capacity(alloc, positions.len())?;
-    left.extend_from_slice(positions)?;
-    move_to_positions(&mut highs, &mut left);
-    // After this the sort has only to find the ends in order.
-    highs.sort_unstable();
-    Ok(highs)
 }

@@ -45,8 +45,8 @@ pub fn numbering_of(alloc: Global, joining: &Joining) -> Result<Numbering, Alloc
 }
 
 fn face_at(places: &[u32], n: u32) -> u32
-    requires { n < length places.now }
-    ensures { result ≡ slice_index places.now n }
+    requires there { n < length places.now }
+    ensures exact { result ≡ slice_index places.now n }
 {
     places[n as usize]
 }
@@ -89,14 +89,14 @@ fn side_of(places: &[u32], arc: SignedArc) -> FaceSide
 
 /// The number of the face of each side, in the order of the sides; `AllocError` for want of memory.
 pub fn faces_of(alloc: Global, sides: &[FaceSide]) -> Result<Vec<u32>, AllocError>
-    ensures { IfOk result (λ v. v.items ≡ map (λ s. s.face) sides.now) }
+    ensures exact { IfOk result (λ v. v.items ≡ map (λ s. s.face) sides.now) }
 {
     sides.iter().map(|s| s.face).collect(alloc)
 }
 
 /// The signed arc of each side, in the order of the sides; `AllocError` for want of memory.
 pub fn arcs_of(alloc: Global, sides: &[FaceSide]) -> Result<Vec<SignedArc>, AllocError>
-    ensures { IfOk result (λ v. v.items ≡ map (λ s. s.arc) sides.now) }
+    ensures exact { IfOk result (λ v. v.items ≡ map (λ s. s.arc) sides.now) }
 {
     sides.iter().map(|s| s.arc).collect(alloc)
 }

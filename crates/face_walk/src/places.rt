@@ -11,7 +11,7 @@ pub const MAX_ARCS: u32 = 2_000_000_000;
 
 /// The number of the place left of a signed arc.
 pub fn place_of(a: SignedArc) -> u32
-    requires { a.arc < 2000000000 }
+    requires few { a.arc < 2000000000 }
     ensures exact { result ≡ place_of a }
     ensures some { 0 < result }
     ensures within { result ≤ 2 * a.arc + 2 }

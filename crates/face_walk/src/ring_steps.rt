@@ -87,8 +87,10 @@ fn push_polygons(
     Ok(())
 }
 
-// The number of the next item of a list.
-fn next_number(count: usize) -> Result<u32, AllocError>
+/// The number of the next item after `count` of them.
+///
+/// Errors: `AllocError` where a `u32` has no such number.
+pub fn next_number(count: usize) -> Result<u32, AllocError>
     ensures exact { IfOk result (λ n. n ≡ count) }
 {
     if count >= u32::MAX as usize {

@@ -31,7 +31,7 @@ pub fn join_sectors(joining: &mut Joining, starts: &[Pt], outs: &[SignedArc])
 
 // Whether the arc after the one at place `i` starts where that one does.
 fn goes_on(starts: &[Pt], i: usize) -> bool
-    requires { i < length starts.now }
+    requires there { i < length starts.now }
     ensures exact { result ≡ goes_on starts.now i }
 {
     i + 1 < starts.len() && is_same(starts[i], starts[i + 1])

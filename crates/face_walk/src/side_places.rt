@@ -14,7 +14,7 @@ pub fn starts_of(alloc: Global, faces: &[u32], count: u32) -> Result<Vec<u32>, A
 }
 
 fn put_start(starts: &mut Vec<u32>, faces: &[u32], k: usize)
-    requires { k < length faces.now }
+    requires there { k < length faces.now }
 {
     let f = faces[k] as usize;
     if f < starts.len() && (k == 0 || faces[k - 1] != faces[k]) {
@@ -22,9 +22,9 @@ fn put_start(starts: &mut Vec<u32>, faces: &[u32], k: usize)
     }
 }
 
-/// Where the sides of a face begin by such a list.
-pub fn start_at(starts: &[u32], f: u32) -> usize {
-    match starts.get(f as usize) {
+/// Where what belongs to a number begins by such a list.
+pub fn start_at(starts: &[u32], number: u32) -> usize {
+    match starts.get(number as usize) {
         Some(start) => *start as usize,
         None => usize::MAX,
     }
@@ -52,8 +52,8 @@ fn is_below(g: u32, f: u64) -> bool
 
 // Whether the face before a place, if there is one, is below `f`.
 fn is_below_before(faces: &[u32], f: u64, k: usize) -> bool
-    requires { k ≤ length faces.now }
-    ensures { result ≡ true → 0 < k → nat_lt (slice_index faces.now (k - 1)) f ≡ true }
+    requires within { k ≤ length faces.now }
+    ensures yes { result ≡ true → 0 < k → nat_lt (slice_index faces.now (k - 1)) f ≡ true }
 {
     if k == 0 {
         return true;
@@ -63,7 +63,7 @@ fn is_below_before(faces: &[u32], f: u64, k: usize) -> bool
 
 // Whether the face at a place, if there is one, isn't below `f`.
 fn is_none_below_at(faces: &[u32], f: u64, k: usize) -> bool
-    ensures { result ≡ true → k < length faces.now → nat_lt (slice_index faces.now k) f ≡ false }
+    ensures yes { result ≡ true → k < length faces.now → nat_lt (slice_index faces.now k) f ≡ false }
 {
     if k >= faces.len() {
         return true;

@@ -14,15 +14,16 @@ use Rattle.plane_model.specs.Arcs.{SignedArc, forward, backward}
 use Rattle.plane_model.proofs.PointOrder.{same_point_from}
 use Rattle.arc_table.specs.Direction.{point_at}
 use Rattle.arc_table.specs.Around as around
-use Rattle.arc_table.specs.Around.{start_of, IsTurned}
+use Rattle.arc_table.specs.Around.{start_of}
 use Rattle.face_walk.specs.Places.{FaceTable, HasJoins, IsBuiltOf, face_left_of, signed_below}
 use Rattle.face_walk.specs.Sectors.{arc_at, goes_on, first_in_row, next_in_row, sector_after, sectors_below, sectors}
-use Rattle.face_walk.specs.declared.links.ArcLink.{ArcLink}
+use Rattle.link_search.specs.declared.links.ArcLink.{ArcLink}
 use Rattle.face_walk.proofs.SectorLemmas.{next_on, next_off}
 use Rattle.face_sets.specs.Boundary.{other_way, face_right_of}
 use Rattle.ring_trace.specs.Traced.{once_if}
 use Rattle.ring_trace.specs.Pairing.{stop_of}
 use Rattle.face_sets.proofs.BoundaryLemmas.{back_again}
+use Rattle.ring_trace.proofs.Sums.{sum_by_same}
 
 -- ---- sums over the numbers below n
 
@@ -167,13 +168,7 @@ sum_both f g (x ∷ xs) =
     omega arith
 
 pub sum_same : {A : Type 0} (f g : A → ℕ) (xs : List A) → ((x : A) → f x ≡ g x) → sum_by f xs ≡ sum_by g xs
-sum_same f g [] h = refl
-sum_same f g (x ∷ xs) h =
-    let b = sum_by-cons f x xs in
-    let c = sum_by-cons g x xs in
-    let r = sum_same f g xs h in
-    let e = h x in
-    omega arith
+sum_same f g xs h = sum_by_same f g xs (λ x c. h x)
 
 -- each arc stands forward and reversed
 turned_round : (g : SignedArc → ℕ) (n : ℕ) → sum_by g (signed_below n) ≡ sum_by (λ a. g (other_way a)) (signed_below n)

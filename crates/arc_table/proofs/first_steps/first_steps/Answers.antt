@@ -48,11 +48,11 @@ loop-n-preserved c =
     let arcs = c.args.arcs.now.spans in
     let n = c.loop-n.n in
     let here : n < length arcs = omega arith in
-    let long = c.requires n [] here in
+    let long = c.requires.long n [] here in
     let points = c.get-points.result.now in
     one_more arcs n c.loop-n.firsts.items c.push.new.self.items c.push-in-loop-n.new.self.items c.starting.result c.starting-in-loop-n.result
     c.loop-n.invariant c.in_ok-push.ensures.items c.in_ok-push-2.ensures.items
     (first_forward arcs n c.new.result points c.new.ensures.made c.get-points.ensures.exact long c.index-points-0.result c.index-points-1.result c.forward.result c.starting.result
-    c.index-points-0.is c.index-points-1.is (c.forward.ensures.made ∙ ap forward c.new-id.ensures.made) c.starting.ensures)
+    c.index-points-0.is c.index-points-1.is (c.forward.ensures.made ∙ ap forward c.new-id.ensures.made) c.starting.ensures.made)
     (first_backward arcs n c.new.result points c.new.ensures.made c.get-points.ensures.exact long c.index-points-last.result c.index-points-last-in-loop-n.result c.backward.result c.starting-in-loop-n.result
-    c.index-points-last.is c.index-points-last-in-loop-n.is (c.backward.ensures.made ∙ ap backward c.new-id.ensures.made) c.starting-in-loop-n.ensures)
+    c.index-points-last.is c.index-points-last-in-loop-n.is (c.backward.ensures.made ∙ ap backward c.new-id.ensures.made) c.starting-in-loop-n.ensures.made)

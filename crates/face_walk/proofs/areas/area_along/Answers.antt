@@ -2,7 +2,7 @@ use Rattle.std.proofs.Common.{◌≡◌, ◌∙◌, sym, ap, arith, ◌+◌, ◌
 use Rattle.std.specs.Int.{w128}
 use Rattle.std.proofs.lemmas.List.{get_or_default}
 use Rattle.face_walk.specs.Areas.{area_along}
-use Rattle.face_walk.specs.Under.{most_triangle}
+use Rattle.face_walk.specs.Areas.{most_triangle}
 use Rattle.grid_base.proofs.Bounds.{sum_bound, fits_128}
 use Rattle.face_walk.proofs.AreaLemmas.{turn, area_taken}
 use Rattle.face_walk.proofs.areas.area_along.Goals as goal

@@ -1,6 +1,6 @@
 use Rattle.std.proofs.Common.{◌≡◌, ◌*◌, ◌≤◌, take, unsigned_abs}
 use Rattle.face_walk.specs.Areas.{area_along}
-use Rattle.face_walk.specs.Under.{most_triangle}
+use Rattle.face_walk.specs.Areas.{most_triangle}
 use Rattle.face_walk.proofs.areas.area_along.Given as goal
 
 abbrev pub invariant-loop-i : goal.invariant-loop-i

@@ -2,7 +2,7 @@ use Rattle.std.proofs.Common.{◌≡◌, ◌∙◌, sym, ap, arith, ℕ, ◌*◌
 use Rattle.std.specs.Int.{w128}
 use Rattle.plane_model.specs.Arcs.{points_of}
 use Rattle.face_walk.specs.Areas.{area_along}
-use Rattle.face_walk.specs.Under.{most_triangle}
+use Rattle.face_walk.specs.Areas.{most_triangle}
 use Rattle.grid_base.proofs.Bounds.{difference_bound, fits_128}
 use Rattle.face_walk.proofs.AreaLemmas.{area_of_signed}
 use Rattle.face_walk.proofs.areas.area_of_arc.Goals as goal

@@ -3,7 +3,7 @@ use Rattle.std.specs.Int.{w128}
 use Rattle.grid_base.specs.Grid.{limit}
 use Rattle.grid_base.specs.Sizes.{IsGridNumber}
 use Rattle.grid_base.proofs.Bounds.{product_bound, difference_bound, fits_128}
-use Rattle.face_walk.specs.Under.{IsTriangle, most_triangle}
+use Rattle.face_walk.specs.Areas.{IsTriangle, most_triangle}
 use Rattle.face_walk.proofs.areas.cross.Goals as goal
 
 -- two products of numbers of the grid and their difference fit 128 bits

@@ -1,4 +1,4 @@
-use Rattle.std.proofs.Common.{◌≡◌, All, length, map, take}
+use Rattle.std.proofs.Common.{◌≡◌, All, length, take}
 use Rattle.std.specs.List.Sorted.{IsStrictlyIncreasing}
 use Rattle.face_walk.specs.Crossings.{outer_of}
 use Rattle.face_walk.specs.Holders.{AreHeldBy}
@@ -6,7 +6,7 @@ use Rattle.face_walk.proofs.labels.held_lists.Given as goal
 
 abbrev pub invariant-loop-c : goal.invariant-loop-c
 invariant-loop-c l = record {
-  each : length l.held.items ≡ l.f.count;
-  held : AreHeldBy l.steps (outer_of l.f) (take l.c-index l.crossings) (map (λ w. w.items) l.held.items);
-  rising : All (λ w. IsStrictlyIncreasing w.items) l.held.items;
+  each : length l.held ≡ l.f.count;
+  held : AreHeldBy l.steps (outer_of l.f) (take l.c-index l.crossings) l.held;
+  rising : All IsStrictlyIncreasing l.held;
 }

@@ -4,8 +4,8 @@ use Rattle.std.specs.Ordering.{ordering_then, bool_cmp, nat_cmp}
 use Rattle.std.proofs.lemmas.List.Sorted.{All-permutation, IsPermutation-trans}
 use Rattle.grid_base.specs.Order.{point_cmp}
 use Rattle.face_walk.specs.Rays.{links_below}
-use Rattle.face_walk.specs.declared.links.ArcLink.{ArcLink}
-use Rattle.face_walk.proofs.RowLemmas.{by_start}
+use Rattle.link_search.specs.declared.links.ArcLink.{ArcLink}
+use Rattle.link_search.proofs.RowLemmas.{by_start}
 use Rattle.face_walk.proofs.links.links_of.Goals as goal
 
 pub returns-clause-sorted : goal.returns-clause-sorted

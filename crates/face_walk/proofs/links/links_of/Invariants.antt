@@ -1,6 +1,6 @@
 use Rattle.std.proofs.Common.{◌≡◌, ◌<◌, length, All}
 use Rattle.face_walk.specs.Rays.{links_below}
-use Rattle.face_walk.specs.declared.links.ArcLink.{ArcLink}
+use Rattle.link_search.specs.declared.links.ArcLink.{ArcLink}
 use Rattle.face_walk.proofs.links.links_of.Given as goal
 
 abbrev pub invariant-loop-n : goal.invariant-loop-n

@@ -3,7 +3,7 @@ use Rattle.std.specs.Option.{option_to_list}
 use Rattle.std.proofs.lemmas.List.{get_or_default}
 use Rattle.plane_model.specs.Points.{GridPoint, Path}
 use Rattle.face_walk.specs.Rays.{link_at, links_along}
-use Rattle.face_walk.specs.declared.links.ArcLink.{ArcLink}
+use Rattle.link_search.specs.declared.links.ArcLink.{ArcLink}
 use Rattle.face_walk.proofs.LinkLemmas.{links_taken, all_with, some_below}
 use Rattle.face_walk.proofs.links.push_links.Goals as goal
 
@@ -19,7 +19,7 @@ loop-i-preserved c =
     let end = c.loop-i-test.true in
     let start = c.loop-i.auto.i in
     let last = c.loop-i.auto.i-end in
-    let new : c.push_some.new.links.items ≡ before ++ option_to_list found = c.in_ok-push_some.ensures in
+    let new : c.push_some.new.links.items ≡ before ++ option_to_list found = c.in_ok-push_some.ensures.exact in
     let from : c.index-points-i.result ≡ get_or points (i - 1) d = c.index-points-i.is in
     let to : c.index-points-i-in-loop-i.result ≡ get_or points i d = c.index-points-i-in-loop-i.is ∙ get_or_default points i c.index-points-i-in-loop-i.result d (omega arith) in
     let is : found ≡ link_at id (record { start = get_or points (i - 1) d; stop = get_or points i d }) = c.step_along.ensures.exact ∙ (λ t. link_at id (record { start = from t; stop = to t })) in

@@ -1,6 +1,6 @@
 use Rattle.std.proofs.Common.{◌≡◌, ◌++◌, ℕ, ◌<◌, All, take}
 use Rattle.face_walk.specs.Rays.{links_along}
-use Rattle.face_walk.specs.declared.links.ArcLink.{ArcLink}
+use Rattle.link_search.specs.declared.links.ArcLink.{ArcLink}
 use Rattle.face_walk.proofs.links.push_links.Given as goal
 
 abbrev pub invariant-loop-i : goal.invariant-loop-i

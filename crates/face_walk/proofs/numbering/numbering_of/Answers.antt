@@ -16,7 +16,7 @@ loop-n-preserved c =
     let l : n < length classes = omega arith in
     elim c.if-least-n.branch [
       | then-least-n+in_ok-push w ↦
-          (let read : w.face_at-face.result ≡ get_or places least 0 = w.face_at-face.ensures ∙ ap (λ (xs : List ℕ). get_or xs least 0) w.deref.ensures.value in
+          (let read : w.face_at-face.result ≡ get_or places least 0 = w.face_at-face.ensures.exact ∙ ap (λ (xs : List ℕ). get_or xs least 0) w.deref.ensures.value in
           let items : c.if-least-n.places.items ≡ places ++ get_or places least 0 ∷ [] = ap (λ v. v.items) w.places-is ∙ w.in_ok-push.ensures.items ∙ ap (λ (k : ℕ). places ++ k ∷ []) read in
           let e = w.count-is in
           numbered_step classes c.if-least-n.places.items c.if-least-n.count n l (omega arith)

@@ -4,9 +4,9 @@ use Rattle.face_walk.specs.Joining.{made_one}
 use Rattle.face_walk.specs.Places.{place_of}
 use Rattle.face_walk.specs.Sectors.{place_right_of}
 use Rattle.face_walk.specs.Rays.{IsTopmostBelow, place_met}
-use Rattle.face_walk.specs.Rows.{IsFirstOfRow, start_at}
-use Rattle.face_walk.specs.declared.links.ArcLink.{ArcLink}
-use Rattle.face_walk.proofs.RowLemmas.{first_from}
+use Rattle.link_search.specs.Rows.{IsFirstOfRow, start_at}
+use Rattle.link_search.specs.declared.links.ArcLink.{ArcLink}
+use Rattle.link_search.proofs.RowLemmas.{first_from}
 use Rattle.face_walk.proofs.rays.join_ray.Goals as goal
 
 pub returns-clause-exact : goal.returns-clause-exact

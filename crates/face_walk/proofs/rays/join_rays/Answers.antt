@@ -1,10 +1,10 @@
 use Rattle.std.proofs.Common.{◌≡◌, ◌∙◌, ◌∷◌, [], ◌++◌, sym, ap, subst, arith, ℕ, List, length, true}
 use Rattle.face_walk.specs.Joining.{made_one}
 use Rattle.face_walk.specs.Rays.{IsMinimum}
-use Rattle.face_walk.specs.Rows.{start_at, starts_row}
-use Rattle.face_walk.specs.declared.links.ArcLink.{ArcLink}
+use Rattle.link_search.specs.Rows.{start_at, starts_row}
+use Rattle.link_search.specs.declared.links.ArcLink.{ArcLink}
 use Rattle.face_walk.proofs.JoinLemmas.{joined_more}
-use Rattle.face_walk.proofs.RowLemmas.{AreRaysBelow, one_more_ray, no_more_rays, all_rays}
+use Rattle.face_walk.proofs.RaysBelow.{AreRaysBelow, one_more_ray, no_more_rays, all_rays}
 use Rattle.face_walk.proofs.rays.join_rays.Goals.{then-is_lowest, else-is_lowest}
 use Rattle.face_walk.proofs.rays.join_rays.Goals as goal
 

@@ -1,6 +1,6 @@
 use Rattle.std.proofs.Common.{◌≡◌, ℕ, List, length}
 use Rattle.face_walk.specs.Joins.{joined_by}
-use Rattle.face_walk.proofs.RowLemmas.{AreRaysBelow}
+use Rattle.face_walk.proofs.RaysBelow.{AreRaysBelow}
 use Rattle.face_walk.proofs.rays.join_rays.Given as goal
 
 abbrev pub invariant-loop-i : goal.invariant-loop-i

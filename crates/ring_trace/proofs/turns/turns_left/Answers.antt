@@ -5,7 +5,7 @@ use Rattle.std.proofs.lemmas.List.{get_or_read}
 use Rattle.plane_model.specs.Points.{at, turn}
 use Rattle.plane_model.specs.Rings.{turn_at_least}
 use Rattle.arc_table.specs.Direction.{point_at}
-use Rattle.face_walk.proofs.UnderLemmas.{turn_at}
+use Rattle.link_search.proofs.UnderLemmas.{turn_at}
 use Rattle.ring_trace.proofs.LeastTurn.{turn_is}
 use Rattle.ring_trace.proofs.turns.turns_left.Goals as goal
 

@@ -13,9 +13,9 @@ returns-clause-exact c =
     let arcs = c.self.inside.arcs.spans in
     let starts = c.self.inside.starts.items in
     let outs = c.self.inside.outs.items in
-    let turned : IsTurned arcs starts outs = c.self.invariant.6 in
+    let turned : IsTurned arcs starts outs = c.self.invariant.5 in
     let first = c.partition_point-first.result in
-    let count = c.partition_point-count.result in
+    let count = c.row_length-count.result in
     let before : GridPoint → Bool = λ q. is_before q p in
     let same : GridPoint → Bool = λ q. same_point q p in
     let starts_is = c.deref.ensures.value in
@@ -29,11 +29,10 @@ returns-clause-exact c =
     let rest : List GridPoint = take (length again - first) (drop first again) in
     let size_left = length-drop first again in
     let rest_is : rest ≡ drop first starts = take_all (length again - first) (drop first again) (omega arith) ∙ ap (λ (xs : List GridPoint). drop first xs) again_is in
-    let count_bound : count ≤ length (drop first starts) = subst (λ (xs : List GridPoint). count ≤ length xs) rest_is c.partition_point-count.ensures.bound in
+    let count_bound : count ≤ length (drop first starts) = subst (λ (xs : List GridPoint). count ≤ length xs) rest_is c.row_length-count.ensures.within in
     let at_count : IsPartitionPoint (λ (q : GridPoint). same_point q p ≡ true) (λ (q : GridPoint). same_point q p ≡ false) (drop first starts) count =
     subst (λ (xs : List GridPoint). IsPartitionPoint (λ (q : GridPoint). same_point q p ≡ true) (λ (q : GridPoint). same_point q p ≡ false) xs count) rest_is
-    (IsPartitionPoint-from_clause same rest count c.partition_point-count.ensures.partitioned
-    (subst (λ (xs : List GridPoint). IsPartitionedBy same xs) (sym rest_is) (by_same arcs starts outs turned p first bound at_first)) (λ a r f k. search rules)) in
+    (c.row_length-count.ensures.exact (subst (λ (xs : List GridPoint). IsPartitionedBy same xs) (sym rest_is) (by_same arcs starts outs turned p first bound at_first))) in
     let rows = rows_are_around arcs starts outs turned p first bound at_first count count_bound at_count in
     let size : first + count - first ≡ count = omega arith in
     let result_is : take (first + count - first) (drop first c.deref-3.result.now) ≡ take count (drop first outs) = (λ i. take (size i) (drop first (c.deref-3.ensures.value i))) in

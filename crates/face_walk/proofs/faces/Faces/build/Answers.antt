@@ -2,8 +2,8 @@ use Rattle.std.proofs.Common.{◌∙◌, ◌<◌, ap, arith, length}
 use Rattle.std.proofs.lemmas.List.Elements.{All-weaker}
 use Rattle.plane_model.specs.Arcs.{SignedArc}
 use Rattle.face_walk.specs.Joins.{joined_by}
-use Rattle.face_walk.specs.PlaceNumbers.{HasPlaces}
-use Rattle.face_walk.specs.declared.links.ArcLink.{ArcLink}
+use Rattle.link_search.specs.PlaceNumbers.{HasPlaces}
+use Rattle.link_search.specs.declared.links.ArcLink.{ArcLink}
 use Rattle.face_walk.proofs.BuiltLemmas.{built_by}
 use Rattle.face_walk.proofs.NumberingLemmas.{none_left_out}
 use Rattle.face_walk.proofs.faces.Faces.build.Goals as goal

@@ -1,9 +1,0 @@
-use Rattle.std.proofs.Common.{◌≡◌, length}
-use Rattle.face_walk.specs.Parting.{AreTreesOver}
-use Rattle.face_walk.proofs.rays.trees_of.Given as goal
-
-abbrev pub invariant-loop-place : goal.invariant-loop-place
-invariant-loop-place l = record {
-  count : length l.trees.items ≡ l.place;
-  over : AreTreesOver l.links l.buckets.near l.trees.items;
-}

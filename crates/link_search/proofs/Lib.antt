@@ -1,0 +1,5 @@
+pub mod CornerLemmas
+pub mod RayLemmas
+pub mod RowLemmas
+pub mod TreeLemmas
+pub mod UnderLemmas

@@ -1,0 +1,34 @@
+use Rattle.std.proofs.Common.{◌≡◌, ◌∙◌, refl, sym, ap, subst, Bool, true, false, not, Contains}
+use Rattle.std.proofs.lemmas.List.Sorted.{Contains-permutation, IsPermutation-sym}
+use Rattle.lists.proofs.Members.{Contains-map, map-Contains}
+use Rattle.plane_model.specs.Points.{GridPoint}
+use Rattle.link_search.specs.Rows.{start_at, stops_of}
+use Rattle.link_search.specs.declared.links.ArcLink.{ArcLink}
+use Rattle.link_search.proofs.RowLemmas.{start_is}
+use Rattle.link_search.proofs.rows.is_lowest.Goals as goal
+
+is_false : (b : Bool) → not b ≡ true → b ≡ false
+is_false true e = absurd (let g : false ≡ true = e in cc)
+is_false false e = refl
+
+is_true : (b : Bool) → not b ≡ false → b ≡ true
+is_true true e = refl
+is_true false e = absurd (let g : true ≡ false = e in cc)
+
+abbrev stop_of : ArcLink → GridPoint
+stop_of l = l.link.stop
+
+pub returns-then-starts_row-clause-vertex : goal.returns-then-starts_row-clause-vertex
+returns-then-starts_row-clause-vertex c = λ e k h s.
+    let links = c.args.links.now in
+    let highs = c.args.highs.now in
+    let low : start_at links c.args.i ≡ c.low.result = start_is links c.args.i c.index-links-i.result c.requires.there (sym c.index-links-i.is) ∙ ap (λ (x : ArcLink). x.link.start) c.index-links-i.is ∙ sym c.low.ensures.lesser in
+    c.has_point.ensures.no (is_false c.has_point.result e) (subst (Contains highs) (s ∙ low) (Contains-permutation (stops_of links) highs k.link.stop c.requires.highs.all (Contains-map stop_of links k h)))
+
+pub returns-then-starts_row-clause-no : goal.returns-then-starts_row-clause-no
+returns-then-starts_row-clause-no c = λ e s m.
+    let links = c.args.links.now in
+    let highs = c.args.highs.now in
+    let low : start_at links c.args.i ≡ c.low.result = start_is links c.args.i c.index-links-i.result c.requires.there (sym c.index-links-i.is) ∙ ap (λ (x : ArcLink). x.link.start) c.index-links-i.is ∙ sym c.low.ensures.lesser in
+    let found = map-Contains stop_of links c.low.result (Contains-permutation highs (stops_of links) c.low.result (IsPermutation-sym (stops_of links) highs c.requires.highs.all) (c.has_point.ensures.yes (is_true c.has_point.result e))) in
+    m found.0 found.1 (found.2 ∙ sym low)

@@ -1,0 +1,45 @@
+ghost use Rattle.std.specs.Prelude.{◌≡◌, All, IfOk};
+ghost use Rattle.link_search.specs.Rows.{AreStops};
+ghost use Rattle.link_search.specs.Topmost.{HasGridEnds, boxes_of};
+
+use grid_base::{BoxList, Link, Pt, Rect, SignedArc};
+use known_order::move_to_positions;
+use std::alloc::{AllocError, Global};
+
+/// A link of an arc, and the signed arc that goes along it from its lesser to its greater end. They are ordered by
+/// the link.
+#[derive(Clone, Copy, PartialEq, Eq, PartialOrd, Ord, Debug)]
+pub struct ArcLink {
+    pub link: Link,
+    pub along: SignedArc,
+}
+
+/// The boxes of links, in their order.
+pub fn boxes_of(alloc: Global, links: &[ArcLink]) -> Result<BoxList, AllocError>
+    ensures exact { IfOk result (λ boxes. boxes ≡ boxes_of links.now) }
+    ensures on_grid { IfOk result (λ boxes. All HasGridEnds links.now) }
+{
+    let mut boxes = BoxList::with_capacity(alloc, links.len())?;
+    for l in links {
+        let area = Rect::around(l.link.low(), l.link.high());
+        boxes.push(area)?;
+    }
+    Ok(boxes)
+}
+
+/// The greater ends of links, in order, where `positions` has for each link the position of its end: a wrong one costs
+/// time alone.
+pub fn highs_of(alloc: Global, links: &[ArcLink], positions: &[u32]) -> Result<Vec<Pt>, AllocError>
+    ensures exact { IfOk result (λ v. AreStops links.now v.items) }
+{
+    let mut highs = Vec::with_capacity(alloc, links.len())?;
+    for l in links {
+        highs.push(l.link.high())?;
+    }
+    let mut left = Vec::with_capacity(alloc, positions.len())?;
+    left.extend_from_slice(positions)?;
+    move_to_positions(&mut highs, &mut left);
+    // After this the sort has only to find the ends in order.
+    highs.sort_unstable();
+    Ok(highs)
+}
