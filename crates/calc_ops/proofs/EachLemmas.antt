@@ -1,14 +1,14 @@
 -- A row that is being set, one assignment further, and the names that are known there.
-use Rattle.std.proofs.Common.{◌≡◌, ℕ, zero, suc, ◌+◌, ◌<◌, ◌≤◌, Bool, true, false, not, nat_lt, ◌||◌, Option, Some, None, List, [], ◌∷◌, ◌++◌, length, drop, get_or, map, cond, drop-cons, add-one, refl, sym, ap, ◌∙◌, subst, append_assoc, append-nil, arith}
+use Rattle.std.proofs.Common.{◌≡◌, ℕ, zero, suc, ◌+◌, ◌<◌, ◌≤◌, Bool, true, false, nat_lt, Option, Some, List, [], ◌∷◌, ◌++◌, length, drop, get_or, cond, drop-cons, add-one, refl, sym, ap, ◌∙◌, subst, append_assoc, append-nil, arith}
 use Rattle.std.specs.Prelude.{Result, Ok, Err, slice_set}
 use Rattle.std.specs.Str.{bytes_eq}
 use Rattle.std.specs.List.{list_any, position_or_len}
 use Rattle.std.proofs.lemmas.Bool.Decides.{nat_tests}
-use Rattle.std.proofs.lemmas.List.{length-map, length-set, length_push}
+use Rattle.std.proofs.lemmas.List.{length-set, length_push}
 use Rattle.expr_lang.specs.declared.assign.Assign.{Assign}
 use Rattle.expr_lang.specs.Meaning.{Evaluated, cell, column_at, evaluated, on_ok as on_value, signed, joined, chosen}
 use Rattle.expr_lang.specs.Tree.{Tree, constant, column, feature_number, unary, binary, choice, Assigned, assigned, all_assigned, tree_of}
-use Rattle.json_values.specs.Table.{RowValues, AreRows}
+use Rattle.json_values.specs.Table.{RowValues}
 use Rattle.json_values.specs.declared.value.Value.{Value}
 use Rattle.table_terms.specs.Names.{Text, place_of}
 use Rattle.table_terms.specs.Refusals.{on_ok}
@@ -81,10 +81,6 @@ with_long row names name v e = go (list_any (bytes_eq name) names) refl
 pub length_places : (names : List Text) (list : List Assigned) → length (places_after names list) ≡ length list
 length_places names [] = refl
 length_places names (a ∷ list) = ap suc (length_places (with_name names a.0) list)
-
-pub rows_push : (n : ℕ) (rows : List RowValues) (row : RowValues) → AreRows n rows → length row ≡ n → AreRows n (rows ++ row ∷ [])
-rows_push n [] row h e = (e, tt)
-rows_push n (r ∷ rows) row h e = (h.0, rows_push n rows row h.1 e)
 
 -- ---- one assignment further
 

@@ -1,16 +1,15 @@
 -- Boundaries and lists of sets, one more at a time.
-use Rattle.std.proofs.Common.{◌≡◌, refl, sym, ap, ◌∙◌, subst, inl, inr, arith, ℕ, ◌+◌, ◌<◌, Bool, true, false, cond, not, ◌&&◌, List, [], ◌∷◌, ◌++◌, length, get_or, take, filter, All, Some, append-nil, append_assoc}
-use Rattle.std.specs.List.{slice_get, flat_map}
-use Rattle.std.proofs.lemmas.Bool.{cases_lt}
-use Rattle.std.proofs.lemmas.List.{get_or_append_left, get_or_default, get_or_push, take_more, length_push}
+use Rattle.std.proofs.Common.{◌≡◌, refl, sym, ap, ◌∙◌, subst, arith, ℕ, ◌+◌, ◌<◌, Bool, true, false, cond, not, ◌&&◌, List, [], ◌∷◌, ◌++◌, length, get_or, take, filter, All, append-nil, append_assoc}
+use Rattle.std.specs.List.{flat_map}
+use Rattle.std.proofs.lemmas.List.{get_or_default, take_more, length_push}
 use Rattle.std.proofs.lemmas.List.Concat.{flat_map-append}
 use Rattle.std.proofs.lemmas.List.Elements.{All-append, All-push, filter_more}
-use Rattle.std.proofs.lemmas.Option.{get_or_from_slice_get}
 use Rattle.lists.specs.Lists.{joined_up}
 use Rattle.plane_model.specs.Points.{Path}
 use Rattle.plane_model.specs.Arcs.{SignedArc}
-use Rattle.face_walk.specs.Places.{FaceTable, face_left_of, place_of}
+use Rattle.face_walk.specs.Places.{FaceTable, face_left_of}
 use Rattle.face_sets.specs.Boundary.{face_right_of, other_way}
+use Rattle.face_sets.proofs.SetLemmas.{pushed}
 use Rattle.calc_ops.specs.Islands.{is_island, mainland, set_at, IsWithoutIslands, AreWithoutIslands}
 
 -- ---- lists that are joined
@@ -42,14 +41,6 @@ module _ (arcs : List Path) (faces : FaceTable) (sets : List (List ℕ)) (least_
       ∙ ap (λ ys. before ++ ys) (one_joined (island (get_or pieces i piece)) (get_or pieces i piece)))
 
 -- ---- what is left of sets
-
-pushed : {A : Type 0} (xs : List A) (x d : A) (n : ℕ) (Q : ℕ → A → Type 0) → length xs ≡ n → ((j : ℕ) → j < n → Q j (get_or xs j d)) → Q n x → (j : ℕ) → j < n + 1 → Q j (get_or (xs ++ x ∷ []) j d)
-pushed {A} xs x d n Q e h one j l = elim (cases_lt j n) [
-  | inl less ↦ subst (Q j) (sym (get_or_append_left xs (x ∷ []) d j (omega arith))) (h j less)
-  | inr more ↦
-      let same : n ≡ j = omega arith in
-      subst (λ (i : ℕ). Q i (get_or (xs ++ x ∷ []) i d)) same (subst (Q n) (sym (get_or_push xs x d n e)) one)
-]
 
 pub left_none : (arcs : List Path) (faces : FaceTable) (sets : List (List ℕ)) (least_area least_links : ℕ) → AreWithoutIslands arcs faces sets least_area least_links 0 []
 left_none arcs faces sets least_area least_links = record { each = refl; exact = λ n l. absurd (omega (arith, l)) }
@@ -89,6 +80,3 @@ read_is xs i a d l is = is ∙ get_or_default xs i a d l
 -- the other side of an arc
 pub other_side : (places : List ℕ) (a turned : SignedArc) → turned ≡ other_way a → face_left_of places turned ≡ face_right_of places a
 other_side places a turned e = ap (face_left_of places) e
-
-pub right_read : (places : List ℕ) (a turned : SignedArc) (x : ℕ) → turned ≡ other_way a → slice_get places (place_of turned) ≡ Some x → x ≡ face_right_of places a
-right_read places a turned x e h = sym (get_or_from_slice_get places (place_of turned) x 0 h) ∙ ap (face_left_of places) e

@@ -1,5 +1,5 @@
 -- The order of keys is total, and sorted numbers are those that a stable sort gives.
-use Rattle.std.proofs.Common.{◌≡◌, ◌⊎◌, inl, inr, refl, sym, ap, ◌∙◌, subst, arith, add-one, cond, ℕ, ◌+◌, ◌<◌, ◌≤◌, zero, suc, Bool, true, false, true≢false, nat_cmp, nat_eq, ℤ, pos, List, [], ◌∷◌, ◌++◌, get_or, All, Contains}
+use Rattle.std.proofs.Common.{◌≡◌, ◌⊎◌, inl, inr, refl, sym, ap, ◌∙◌, subst, arith, cond, ℕ, ◌+◌, ◌<◌, ◌≤◌, zero, suc, Bool, true, false, true≢false, nat_cmp, nat_eq, ℤ, pos, List, [], ◌∷◌, get_or, All, Contains}
 use Rattle.std.specs.Ordering.{int_cmp, is_lt, is_eq, ordering_then, ordering_reverse, on, then_cmp, flip_args}
 use Rattle.std.specs.declared.cmp.Ordering.{Ordering}
 use Rattle.std.specs.declared.cmp.Ordering.TheVariants.{Less, Equal, Greater}
@@ -261,13 +261,6 @@ module _ (descending : Bool) (keys : List Value) where
       (λ z c. Contains-permutation (range_with_len 0 n) numbers z moved (sort-Contains (range_with_len 0 n) z c))
 
 -- ---- the first n numbers
-
-pub range_more : (a n : ℕ) → range_with_len a (n + 1) ≡ range_with_len a n ++ (a + n) ∷ []
-range_more a n = ap (range_with_len a) (add-one n) ∙ go a n
-  where
-    go : (a n : ℕ) → range_with_len a (suc n) ≡ range_with_len a n ++ (a + n) ∷ []
-    go a zero = ap (λ (k : ℕ). k ∷ []) (omega arith)
-    go a (suc n) = ap (λ (ks : List ℕ). a ∷ ks) (go (a + 1) n ∙ ap (λ (k : ℕ). range_with_len (a + 1) n ++ k ∷ []) (omega arith))
 
 pub numbers_moved : (n : ℕ) (numbers : List ℕ) → IsPermutation (range_with_len 0 n) numbers → All (λ k. k < n) numbers
 numbers_moved n numbers moved =

@@ -53,7 +53,7 @@ fn numbers_by_key(
     Ok(numbers)
 }
 
-#[tactic(auto, using(crate::proofs::SortLemmas::range_more))]
+#[tactic(auto, using(face_sets::proofs::GapLemmas::range_more))]
 fn numbers_below(alloc: Global, count: u32) -> Result<Vec<u32>, AllocError>
     ensures exact { IfOk result (λ numbers. numbers.items ≡ range_with_len 0 count) }
 {

@@ -1,10 +1,9 @@
 -- What holds of the groups that are made of the sets of keys, and of the items of the groups.
-use Rattle.std.proofs.Common.{◌≡◌, refl, sym, ap, ◌∙◌, subst, inl, inr, arith, ℕ, zero, suc, ◌+◌, ◌<◌, Bool, true, cond, nat_eq, nat_lt, List, [], ◌∷◌, ◌++◌, length, get_or, take, map, filter, All, AllPairs, Contains, append-nil, append_assoc}
+use Rattle.std.proofs.Common.{◌≡◌, refl, sym, ap, ◌∙◌, subst, inl, inr, arith, ℕ, zero, suc, ◌+◌, ◌<◌, Bool, true, cond, nat_eq, nat_lt, List, [], ◌∷◌, ◌++◌, length, get_or, take, map, filter, All, AllPairs, Contains, append-nil}
 use Rattle.std.specs.List.{flat_map, range_with_len}
-use Rattle.std.specs.List.Sorted.{IsStrictlyIncreasing}
 use Rattle.std.proofs.lemmas.Bool.{cases_Bool, cases_lt}
 use Rattle.std.proofs.lemmas.Grind.{flat_map-append}
-use Rattle.std.proofs.lemmas.List.{take_more, get_or_append_left, get_or_push, get_or_default, length_push, map-append}
+use Rattle.std.proofs.lemmas.List.{take_more, get_or_append_left, get_or_push, get_or_default, length_push}
 use Rattle.std.proofs.lemmas.List.Elements.{All-contains, All-head, All-tail, Contains-get_or}
 use Rattle.std.proofs.lemmas.List.FromFn.{length-range_with_len, get_or-range_with_len}
 use Rattle.std.proofs.lemmas.List.Kept.{IsStrictlyIncreasing-filter}
@@ -15,6 +14,7 @@ use Rattle.face_walk.specs.Places.{FaceTable}
 use Rattle.face_sets.specs.Joined.{AreParts}
 use Rattle.face_sets.specs.Sets.{IsInnerFace, IsSetOf}
 use Rattle.face_sets.proofs.BoundaryLemmas.{has_Contains}
+use Rattle.face_sets.proofs.GapLemmas.{range_rises}
 use Rattle.face_sets.proofs.SetLemmas.{nat_order, to_ascending}
 use Rattle.face_groups.specs.Groups.{AreGroupsOf, AreKeySets, IsGroupOf, IsKeySet, IsKeyed}
 
@@ -34,13 +34,6 @@ held_inside t k n (set ∷ sets) h some = elim (cases_Bool (has nat_eq set k)) [
 ]
 
 -- ---- numbers that pass a test
-
-range_rises : (n : ℕ) → IsStrictlyIncreasing (range_with_len 0 n)
-range_rises n k l =
-    let e = length-range_with_len 0 n in
-    let here = get_or-range_with_len 0 n k 0 (omega arith) in
-    let next = get_or-range_with_len 0 n (k + 1) 0 (omega arith) in
-    omega arith
 
 pub in_range : (n k : ℕ) → k < n → Contains (range_with_len 0 n) k
 in_range n k l =
@@ -182,12 +175,3 @@ each_item {Group} {Item} parts item Q groups h k d l =
     let (g, there, c) = flat_map-Contains (λ (a : Group). map (item a) (parts a)) groups (get_or items k d) (Contains-get_or items k d l) in
     let (part, in_group, is) = map-Contains (item g) (parts g) (get_or items k d) c in
     subst Q is (h g there part in_group)
-
--- the item of one part more
-pub items_more : {Item : Type 0} (item : List ℕ → Item) (parts : List (List ℕ)) (i : ℕ) (d part : List ℕ) (old so_far : List Item) (new : Item) → i < length parts → part ≡ get_or parts i d → new ≡ item part →
-    so_far ≡ old ++ map item (take i parts) → so_far ++ new ∷ [] ≡ old ++ map item (take (i + 1) parts)
-items_more {Item} item parts i d part old so_far new l is made before =
-    ap (λ (items : List Item). items ++ new ∷ []) before ∙ append_assoc old (map item (take i parts)) (new ∷ [])
-    ∙ ap (λ (items : List Item). old ++ items)
-    (ap (λ (x : Item). map item (take i parts) ++ x ∷ []) (made ∙ ap item is)
-    ∙ sym (ap (map item) (take_more parts i d l) ∙ map-append item (take i parts) (get_or parts i d ∷ [])))

@@ -1,10 +1,10 @@
 -- The faces outside a set, and the parts of them that the outer face isn't in.
-use Rattle.std.proofs.Common.{◌≡◌, ◌∙◌, sym, ap, arith, ℕ, zero, suc, ◌+◌, ◌<◌, Bool, true, false, cond, not, List, [], ◌∷◌, ◌++◌, length, get_or, take, filter, nat_eq, All, Contains}
+use Rattle.std.proofs.Common.{◌≡◌, ◌∙◌, sym, ap, arith, ℕ, ◌+◌, ◌<◌, Bool, true, false, cond, not, List, [], ◌∷◌, ◌++◌, length, get_or, take, filter, nat_eq, All, Contains, map-id}
 use Rattle.std.specs.List.{range_with_len}
 use Rattle.std.specs.List.Sorted.{IsStrictlyIncreasing}
 use Rattle.std.proofs.lemmas.List.{take_more}
 use Rattle.std.proofs.lemmas.List.Elements.{All-contains, All-filter, All-from_get_or, Contains-get_or, filter-append}
-use Rattle.std.proofs.lemmas.List.FromFn.{length-range_with_len, get_or-range_with_len}
+use Rattle.std.proofs.lemmas.List.FromFn.{length-range_with_len, get_or-range_with_len, map-range_with_len_more}
 use Rattle.std.proofs.lemmas.List.Kept.{IsStrictlyIncreasing-filter}
 use Rattle.std.proofs.lemmas.Option.{get_or_from_slice_get}
 use Rattle.lists.specs.Lists.{has, joined_up}
@@ -18,20 +18,19 @@ use Rattle.face_sets.proofs.BoundaryLemmas.{Contains_has}
 
 -- ---- what is outside
 
-pub range_more : (a n : ℕ) → range_with_len a (n + 1) ≡ range_with_len a n ++ (a + n) ∷ []
-range_more a zero = λ i. (let e : a ≡ a + 0 = omega arith in e) i ∷ []
-range_more a (suc n) = ap (range_with_len a) (let e : suc n + 1 ≡ suc (n + 1) = omega arith in e) ∙ ap (λ (xs : List ℕ). a ∷ xs) (range_more (a + 1) n) ∙ ap (λ (m : ℕ). a ∷ (range_with_len (a + 1) n ++ m ∷ [])) (let e : a + 1 + n ≡ a + suc n = omega arith in e)
+pub range_more : (n : ℕ) → range_with_len 0 (n + 1) ≡ range_with_len 0 n ++ n ∷ []
+range_more n =
+    sym (map-id (range_with_len 0 (n + 1))) ∙ map-range_with_len_more (λ (k : ℕ). k) 0 n n (omega arith)
+    ∙ ap (λ (ks : List ℕ). ks ++ n ∷ []) (map-id (range_with_len 0 n))
 
 pub outside_more : (set : List ℕ) (n : ℕ) (b : Bool) → b ≡ has nat_eq set n →
     filter (λ (k : ℕ). not (has nat_eq set k)) (range_with_len 0 (n + 1)) ≡ filter (λ (k : ℕ). not (has nat_eq set k)) (range_with_len 0 n) ++ cond (not b) (n ∷ []) []
 outside_more set n b is =
     let test : ℕ → Bool = λ (k : ℕ). not (has nat_eq set k) in
-    let same : 0 + n ≡ n = omega arith in
-    ap (filter test) (range_more 0 n) ∙ filter-append test (range_with_len 0 n) ((0 + n) ∷ [])
-    ∙ ap (λ (m : ℕ). filter test (range_with_len 0 n) ++ filter test (m ∷ [])) same
+    ap (filter test) (range_more n) ∙ filter-append test (range_with_len 0 n) (n ∷ [])
     ∙ ap (λ (c : Bool). filter test (range_with_len 0 n) ++ cond (not c) (n ∷ []) []) (sym is)
 
-range_rises : (n : ℕ) → IsStrictlyIncreasing (range_with_len 0 n)
+pub range_rises : (n : ℕ) → IsStrictlyIncreasing (range_with_len 0 n)
 range_rises n k l =
     let e = length-range_with_len 0 n in
     let here = get_or-range_with_len 0 n k 0 (omega arith) in

@@ -4,5 +4,6 @@ pub mod PartLemmas
 pub mod BoundaryLemmas
 pub mod JoinedLemmas
 pub mod RankedLemmas
+pub mod SomeParts
 pub mod AreaLemmas
 pub mod GapLemmas

@@ -10,7 +10,7 @@ use Rattle.lists.proofs.Members.{Contains-filter, filter-Contains, Contains-map,
 use Rattle.lists.proofs.Ascending.{ascending-Contains, Contains-ascending}
 use Rattle.face_sets.specs.declared.part_sets.PartFace.{PartFace}
 use Rattle.face_sets.specs.Parts.{AreNumbered, HasPart, AreInOrder, Begins, GoesOn, IsRun, faces_of_part, AreGroups, IsDivided, IsFaceOf, IsPieceOf}
-use Rattle.face_sets.proofs.SetLemmas.{nat_order}
+use Rattle.face_sets.proofs.SetLemmas.{nat_order, pushed}
 
 abbrev pub none : PartFace
 none = record { part = 0; face = 0 }
@@ -201,12 +201,7 @@ divided faces numbered sets listed are g = record {
 
 pub face_pushed : (numbered : List PartFace) (x : PartFace) (faces : List ℕ) (i : ℕ) → length numbered ≡ i → x.face ≡ get_or faces i 0 → ((k : ℕ) (d : PartFace) → k < i → (get_or numbered k d).face ≡ get_or faces k 0) →
     (k : ℕ) (d : PartFace) → k < i + 1 → (get_or (numbered ++ x ∷ []) k d).face ≡ get_or faces k 0
-face_pushed numbered x faces i e is before k d l = elim (cases_lt k i) [
-  | inl less ↦ ap (λ (p : PartFace). p.face) (get_or_append_left numbered (x ∷ []) d k (omega arith)) ∙ before k d less
-  | inr more ↦
-      (let same : i ≡ k = omega arith in
-      ap (λ (p : PartFace). p.face) (get_or_push numbered x d k (omega arith)) ∙ is ∙ ap (λ (j : ℕ). get_or faces j 0) same)
-]
+face_pushed numbered x faces i e is before k d l = pushed numbered x d i (λ (j : ℕ) (p : PartFace). p.face ≡ get_or faces j 0) e (λ j m. before j d m) is k l
 
 pub numbered_each : (faces : List ℕ) (numbered : List PartFace) → IsStrictlyIncreasing faces → length numbered ≡ length faces → ((k : ℕ) (d : PartFace) → k < length faces → (get_or numbered k d).face ≡ get_or faces k 0) → AreNumbered faces numbered
 numbered_each faces numbered up each face = record {

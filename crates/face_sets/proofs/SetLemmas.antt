@@ -5,7 +5,7 @@ use Rattle.std.specs.List.{insert, dedup}
 use Rattle.std.specs.List.Sorted.{IsStrictlyIncreasing, IsBinarySearchResult, IsPermutation, IsSorted}
 use Rattle.std.specs.Ordering.{nat_cmp}
 use Rattle.std.proofs.lemmas.Bool.{cases_lt, ltb-true, ltb-false, lt-ltb, le-ltb, eq-eqb, ne_eqb}
-use Rattle.std.proofs.lemmas.List.{get_or_default}
+use Rattle.std.proofs.lemmas.List.{get_or_append_left, get_or_default, get_or_push}
 use Rattle.std.proofs.lemmas.Option.{get_or_from_slice_get}
 use Rattle.std.proofs.lemmas.List.Folds.{list_any_at, list_any_none}
 use Rattle.std.proofs.lemmas.List.Elements.{All-from_get_or, All-contains, Contains-get_or}
@@ -30,6 +30,15 @@ from_ascending xs h = λ k within. pairs_of_ascending nat_lt (λ x y. x < y) xs 
 
 rises : (xs : List ℕ) → IsStrictlyIncreasing xs → (i j : ℕ) → i ≤ j → j < length xs → get_or xs i 0 ≤ get_or xs j 0
 rises xs up i j h k = non_decreasing_from_sorted xs (sorted_from_strictly_increasing xs up) i j 0 h k
+
+-- a list that a fact fits place by place, and one more element
+pub pushed : {A : Type 0} (xs : List A) (x d : A) (n : ℕ) (Q : ℕ → A → Type 0) → length xs ≡ n → ((j : ℕ) → j < n → Q j (get_or xs j d)) → Q n x → (j : ℕ) → j < n + 1 → Q j (get_or (xs ++ x ∷ []) j d)
+pushed {A} xs x d n Q e h one j l = elim (cases_lt j n) [
+  | inl less ↦ subst (Q j) (sym (get_or_append_left xs (x ∷ []) d j (omega arith))) (h j less)
+  | inr more ↦
+      let same : n ≡ j = omega arith in
+      subst (λ (i : ℕ). Q i (get_or (xs ++ x ∷ []) i d)) same (subst (Q n) (sym (get_or_push xs x d n e)) one)
+]
 
 -- ---- what a search tells
 

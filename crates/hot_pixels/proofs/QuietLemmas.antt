@@ -1,8 +1,8 @@
 -- Segments that meet their ends alone, and where the points are that others meet.
-use Rattle.std.proofs.Common.{◌≡◌, ◌⊎◌, inl, inr, refl, sym, ap, ◌∙◌, subst, arith, ℕ, ◌+◌, ◌<◌, ◌≤◌, Bool, true, false, cond, List, [], ◌∷◌, length, get_or, set, map, take, filter, replicate, All, Contains, Option, Some, None, ◌++◌}
+use Rattle.std.proofs.Common.{◌≡◌, ◌⊎◌, inl, inr, refl, sym, ap, ◌∙◌, subst, arith, ℕ, ◌+◌, ◌<◌, ◌≤◌, Bool, true, false, cond, List, [], ◌∷◌, length, get_or, map, take, filter, replicate, All, Contains, Option, Some, None, ◌++◌}
 use Rattle.std.specs.List.{slice_get}
 use Rattle.std.specs.Option.{option_map}
-use Rattle.std.proofs.lemmas.List.{length-set, length-map, get_or-set_same, get_or-replicate, length-replicate, take_more}
+use Rattle.std.proofs.lemmas.List.{length-map, get_or-replicate, length-replicate, take_more}
 use Rattle.std.proofs.lemmas.List.{take_all}
 use Rattle.std.proofs.lemmas.List.Elements.{All-contains, All-weaker, All-more, Contains-append_cases, Contains-append_left, Contains-append_right}
 use Rattle.std.specs.List.Sorted.{IsPermutation}
@@ -32,17 +32,11 @@ use Rattle.hot_pixels.proofs.MeetingLemmas.{adds_twice, none_back, no_lists}
 
 -- ---- marks
 
-pub kept_all : (marks : List Bool) → KeepMarks marks marks
-kept_all marks = record { each = refl; kept = λ i m. m }
-
 pub kept_twice : (old mid new : List Bool) → KeepMarks old mid → KeepMarks mid new → KeepMarks old new
 kept_twice old mid new h k = record { each = k.each ∙ h.each; kept = λ i m. k.kept i (h.kept i m) }
 
 marked_at : (marks : List Bool) (i : ℕ) → i < length marks → get_or marks i false ≡ true → IsMarked marks i
 marked_at marks i l e = slice_get-get_or marks i false l ∙ ap Some e
-
-pub is_marked : (marks : List Bool) (i : ℕ) → i < length marks → IsMarked (set marks i true) i
-is_marked marks i l = marked_at (set marks i true) i (let n = length-set marks i true in omega arith) (get_or-set_same marks i true false l)
 
 -- the first items have marks, and one more
 pub marked_more : (old mid new : List Bool) (near : List ℕ) (k : ℕ) → k < length near → KeepMarks mid new → IsMarked new (get_or near k 0) →

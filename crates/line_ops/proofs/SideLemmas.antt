@@ -7,6 +7,7 @@ use Rattle.std.specs.Cmp.Lexicographic.{pointwise}
 use Rattle.std.proofs.lemmas.List.Elements.{All-nil, All-cons, filter_map-append}
 use Rattle.lists.specs.Lists.{same_list}
 use Rattle.face_walk.specs.Places.{FaceTable}
+use Rattle.face_sets.proofs.GapLemmas.{range_more}
 use Rattle.line_ops.specs.declared.sides.SidedArc.{SidedArc}
 use Rattle.line_ops.specs.Sided.{left_sets, right_sets, sided, sided_among}
 
@@ -31,13 +32,6 @@ module _ (t : FaceTable) (sets : List (List ℕ)) (a : ℕ) (l r : List ℕ) (le
       ∙ (λ j. cond (sym (are_same ∙ e) j) None (Some (record { arc = a; left = slice_get (left_sets t sets a) 0; right = slice_get (right_sets t sets a) 0 })))
 
 -- ---- one more arc
-
-range_pushed : (a n m : ℕ) → m ≡ a + n → range_with_len a (suc n) ≡ range_with_len a n ++ m ∷ []
-range_pushed a zero m e = ap (λ (k : ℕ). k ∷ []) (let f : a ≡ m = omega arith in f)
-range_pushed a (suc n) m e = ap (λ (ks : List ℕ). a ∷ ks) (range_pushed (a + 1) n m (omega arith))
-
-range_more : (n : ℕ) → range_with_len 0 (n + 1) ≡ range_with_len 0 n ++ n ∷ []
-range_more n = ap (range_with_len 0) (let e : n + 1 ≡ suc n = omega arith in e) ∙ range_pushed 0 n n (omega arith)
 
 one_option : (r : Option SidedArc) → cons_option r [] ≡ option_to_list r
 one_option None = refl

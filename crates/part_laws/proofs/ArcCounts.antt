@@ -28,8 +28,8 @@ use Rattle.ring_trace.specs.Traced.{same_arc}
 use Rattle.ring_trace.specs.Turns.{points_along, round_of}
 use Rattle.ring_trace.specs.Ways.{IsWay, IsSimpleRing}
 use Rattle.ring_trace.proofs.LeastTurn.{point_along, points_counted, without_last_is}
-use Rattle.ring_trace.proofs.PartSides.{sum_by_same}
-use Rattle.part_laws.proofs.CountLemmas.{tick, dart_count, count_back, none_at, once_at, steps_joined, sum_of_none, sum_of_one, sum_over_filter, sum_over_flat}
+use Rattle.ring_trace.proofs.Sums.{sum_by_same, sum_by_none, sum_by-filter}
+use Rattle.part_laws.proofs.CountLemmas.{tick, dart_count, count_back, none_at, once_at, steps_joined, sum_of_one, sum_over_flat}
 
 module _ (S : List Segment) (arr : IsArrangement S) (arcs : List Path) (long : All (λ arc. 1 < length arc) arcs) (along : GoAlong S arcs) where
   all_move : (n : ℕ) → n < length arcs → All Moves (steps (arc_of arcs n))
@@ -224,7 +224,7 @@ module _ (S : List Segment) (f : Place → Bool) (d : Dart) where
   unfolding value
   summed =
       sum_map (λ (l : Segment). record { link = l; forward = f (left_side l) }) (λ (e : Dart). cond (same_dart d e) 1 0) (border f S)
-      ∙ sum_over_filter (λ (l : Segment). xor (f (left_side l)) (f (right_side l))) (λ (l : Segment). tick (same_dart d (record { link = l; forward = f (left_side l) }))) S
+      ∙ sum_by-filter (λ (l : Segment). xor (f (left_side l)) (f (right_side l))) (λ (l : Segment). tick (same_dart d (record { link = l; forward = f (left_side l) }))) S
 
   other_link : (l : Segment) → (l ≡ d.link → ⊥) → value l ≡ 0
   unfolding value
@@ -255,4 +255,4 @@ module _ (S : List Segment) (f : Place → Bool) (d : Dart) where
       tests false false false = refl
 
   pub border_none : (Contains S d.link → ⊥) → count_by (same_dart d) (border_darts f S) ≡ 0
-  border_none out = summed ∙ sum_of_none value S (λ l c. other_link l (λ e. out (subst (λ (x : Segment). Contains S x) e c)))
+  border_none out = summed ∙ sum_by_none value S (λ l c. other_link l (λ e. out (subst (λ (x : Segment). Contains S x) e c)))

@@ -1,5 +1,5 @@
 -- How often darts are in lists.
-use Rattle.std.proofs.Common.{◌≡◌, inl, inr, refl, sym, ap, ◌∙◌, subst, arith, ℕ, zero, suc, ◌+◌, ◌<◌, Bool, true, false, not, ◌&&◌, cond, List, [], ◌∷◌, ◌++◌, map, filter, length, get_or, reverse, All, Contains, append_assoc}
+use Rattle.std.proofs.Common.{◌≡◌, inl, inr, refl, sym, ap, ◌∙◌, subst, arith, ℕ, zero, suc, ◌+◌, ◌<◌, Bool, true, false, not, ◌&&◌, cond, List, [], ◌∷◌, ◌++◌, map, length, get_or, reverse, All, Contains, append_assoc}
 use Rattle.std.specs.List.{sum_by, count_by, flat_map}
 use Rattle.std.specs.List.Sorted.{IsPermutation}
 use Rattle.std.proofs.lemmas.Bool.{cases_Bool, false_from_ne_true}
@@ -15,6 +15,7 @@ use Rattle.plane_model.specs.Rotation.{Dart}
 use Rattle.plane_faces.specs.Around.{opposite}
 use Rattle.plane_faces.specs.Rings.{dart_of_step, darts_of_path}
 use Rattle.plane_faces.proofs.Tracing.{take_out}
+use Rattle.ring_trace.proofs.Sums.{sum_by_none}
 use Rattle.face_laws.proofs.DartLemmas.{Moves, dart_back}
 use Rattle.face_laws.proofs.LabelLemmas.{same_dart, dart_from, dart_to}
 
@@ -42,30 +43,14 @@ sum_over_flat f g (x ∷ xs) =
     let r = sum_over_flat f g xs in
     omega arith
 
-pub sum_over_filter : {X : Type 0} (q : X → Bool) (g : X → ℕ) (xs : List X) → sum_by g (filter q xs) ≡ sum_by (λ (x : X). cond (q x) (g x) 0) xs
-sum_over_filter q g [] = refl
-sum_over_filter q g (x ∷ xs) = go (q x) (sum_over_filter q g xs) ∙ sym (sum_by-cons (λ (y : _). cond (q y) (g y) 0) x xs)
-  where
-    go : (b : Bool) → sum_by g (filter q xs) ≡ sum_by (λ (y : _). cond (q y) (g y) 0) xs → sum_by g (cond b (x ∷ filter q xs) (filter q xs)) ≡ cond b (g x) 0 + sum_by (λ (y : _). cond (q y) (g y) 0) xs
-    go true e = let m = sum_by-cons g x (filter q xs) in omega arith
-    go false e = let f : sum_by g (filter q xs) ≡ 0 + sum_by (λ (y : _). cond (q y) (g y) 0) xs = omega arith in f
-
 -- of distinct links all but one add nothing
-pub sum_of_none : (g : Segment → ℕ) (S : List Segment) → ((l : Segment) → Contains S l → g l ≡ 0) → sum_by g S ≡ 0
-sum_of_none g [] h = refl
-sum_of_none g (l ∷ ls) h =
-    let m = sum_by-cons g l ls in
-    let e = h l (Contains-head l ls) in
-    let r = sum_of_none g ls (λ k c. h k (Contains-later l ls k c)) in
-    omega arith
-
 pub sum_of_one : (g : Segment → ℕ) (S : List Segment) (x : Segment) → IsDistinct S → Contains S x → ((l : Segment) → Contains S l → (l ≡ x → ⊥) → g l ≡ 0) → sum_by g S ≡ g x
 sum_of_one g [] x distinct c h = Contains-nil x c
 sum_of_one g (l ∷ ls) x distinct c h =
     let m = sum_by-cons g l ls in
     elim (Contains-cases l ls x c) [
       | inl e ↦
-          (let r = sum_of_none g ls (λ k n. h k (Contains-later l ls k n) (λ f. distinct.0 n.0 k n.1 (n.2 ∙ f ∙ sym e))) in
+          (let r = sum_by_none g ls (λ k n. h k (Contains-later l ls k n) (λ f. distinct.0 n.0 k n.1 (n.2 ∙ f ∙ sym e))) in
           let v : g l ≡ g x = ap g e in
           omega arith)
       | inr n ↦

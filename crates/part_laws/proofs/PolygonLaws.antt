@@ -36,7 +36,8 @@ use Rattle.ring_trace.specs.Traced.{is_of_boundary, once_if, same_arc, times, ti
 use Rattle.ring_trace.specs.Turns.{round_of}
 use Rattle.ring_trace.specs.Ways.{IsSimpleRing}
 use Rattle.face_sets.proofs.BoundaryLemmas.{has_Contains, Contains_has, same_or_other}
-use Rattle.ring_trace.proofs.PartSides.{of_test, sum_by_same, sum_by_none}
+use Rattle.ring_trace.proofs.PartSides.{of_test}
+use Rattle.ring_trace.proofs.Sums.{sum_by_same, sum_by_none}
 use Rattle.part_laws.specs.Parts.{PolygonsHaveExteriors, number_of}
 use Rattle.face_laws.proofs.LabelLemmas.{same_dart}
 use Rattle.part_laws.proofs.ArcCounts.{arc_back_count, arc_count, border_count, border_none, decided, none_on_arc, ring_count}

@@ -1,17 +1,17 @@
 -- The first of some sets by a rule, and which faces each set keeps.
-use Rattle.std.proofs.Common.{◌≡◌, refl, sym, ap, ◌∙◌, subst, inl, inr, arith, ℕ, zero, suc, ◌+◌, ◌<◌, Bool, true, false, cond, not, ℤ, pos, nat_lt, List, [], ◌∷◌, ◌++◌, length, get_or, take, map, filter, nat_eq, All, Contains, Option, Some, None}
+use Rattle.std.proofs.Common.{◌≡◌, refl, sym, ap, ◌∙◌, subst, inl, inr, arith, ℕ, ◌+◌, ◌<◌, Bool, true, false, cond, not, ℤ, pos, nat_lt, List, [], ◌∷◌, ◌++◌, length, get_or, take, map, filter, nat_eq, All, Contains, Option, Some, None}
 use Rattle.std.specs.List.{list_any}
 use Rattle.std.specs.List.Sorted.{IsStrictlyIncreasing}
 use Rattle.std.proofs.Math.ListN.{get_or-map}
-use Rattle.std.proofs.lemmas.Bool.{cases_lt, cases_eq, eq-eqb, ne_eqb}
-use Rattle.std.proofs.lemmas.List.{get_or_append_left, get_or_push, take_more}
+use Rattle.std.proofs.lemmas.Bool.{cases_eq, eq-eqb, ne_eqb}
+use Rattle.std.proofs.lemmas.List.{length_push, take_more}
 use Rattle.std.proofs.lemmas.List.Elements.{All-nil, All-head, All-tail, All-push, All-weaker, All-contains, All-get_or, All-from_get_or, Contains-push, Contains-append_left}
 use Rattle.std.proofs.lemmas.List.Folds.{list_any_at, list_any_none}
 use Rattle.grid_base.specs.declared.kinds.OverlapRule.{OverlapRule}
 use Rattle.std.proofs.lemmas.List.Kept.{IsStrictlyIncreasing-filter}
 use Rattle.lists.specs.Lists.{has, ascending}
 use Rattle.lists.proofs.Ascending.{one_ascending, ascending-IsAscending, ascending-Contains, Contains-ascending}
-use Rattle.face_sets.proofs.SetLemmas.{nat_order, to_ascending}
+use Rattle.face_sets.proofs.SetLemmas.{nat_order, pushed, to_ascending}
 use Rattle.bucket_grid.proofs.Numbers.{Contains-numbers_where}
 use Rattle.face_walk.specs.Places.{FaceTable}
 use Rattle.face_sets.specs.Owners.{owners_of, AreOwners}
@@ -19,19 +19,6 @@ use Rattle.face_sets.specs.Sets.{IsInnerFace, IsSetOf}
 use Rattle.region_ops.specs.Dissolved.{set_at}
 use Rattle.region_ops.specs.Cleaned.{area_of, ranks_before, is_lost, IsCleaned, is_before, earlier, IsFirst, AreFirsts, is_number, is_first, AreWon}
 use Rattle.region_ops.proofs.Ranks.{not_before_itself, not_both_before, not_before_through, one_before}
-
--- a list that a fact fits place by place, and one more element
-pub pushed : {A : Type 0} (xs : List A) (x d : A) (n : ℕ) (Q : ℕ → A → Type 0) → length xs ≡ n → ((j : ℕ) → j < n → Q j (get_or xs j d)) → Q n x → (j : ℕ) → j < n + 1 → Q j (get_or (xs ++ x ∷ []) j d)
-pushed {A} xs x d n Q e h one j l = elim (cases_lt j n) [
-  | inl less ↦ subst (Q j) (sym (get_or_append_left xs (x ∷ []) d j (omega arith))) (h j less)
-  | inr more ↦
-      let same : n ≡ j = omega arith in
-      subst (λ (i : ℕ). Q i (get_or (xs ++ x ∷ []) i d)) same (subst (Q n) (sym (get_or_push xs x d n e)) one)
-]
-
-pub length_pushed : {A : Type 0} (xs : List A) (x : A) → length (xs ++ x ∷ []) ≡ length xs + 1
-length_pushed [] x = refl
-length_pushed (y ∷ ys) x = let e = length_pushed ys x in omega arith
 
 -- ---- one more number
 
@@ -64,14 +51,14 @@ first_more rule areas numbers j n d first within is h =
 pub firsts_more : (rule : OverlapRule) (areas : List ℤ) (owners : List (List ℕ)) (n : ℕ) (firsts : List (Option ℕ)) (first : Option ℕ) →
     AreFirsts rule areas owners n firsts → IsFirst rule areas (get_or owners n []) first → AreFirsts rule areas owners (n + 1) (firsts ++ first ∷ [])
 firsts_more rule areas owners n firsts first h one = record {
-  each = length_pushed firsts first ∙ ap (λ (m : ℕ). m + 1) h.each;
+  each = length_push firsts first ∙ ap (λ (m : ℕ). m + 1) h.each;
   exact = pushed firsts first None n (λ k f. IsFirst rule areas (get_or owners k []) f) h.each h.exact one;
 }
 
 pub won_more : (firsts : List (Option ℕ)) (sets : List (List ℕ)) (n : ℕ) (won : List (List ℕ)) (set : List ℕ) →
     AreWon firsts sets n won → set ≡ filter (is_first firsts n) (set_at sets n) → AreWon firsts sets (n + 1) (won ++ set ∷ [])
 won_more firsts sets n won set h one = record {
-  each = length_pushed won set ∙ ap (λ (m : ℕ). m + 1) h.each;
+  each = length_push won set ∙ ap (λ (m : ℕ). m + 1) h.each;
   exact = pushed won set [] n (λ m kept. kept ≡ filter (is_first firsts m) (set_at sets m)) h.each h.exact one;
 }
 
@@ -113,14 +100,6 @@ are_cleaned rule t sets owners firsts won inner owned first kept = record {
       first_is rule areas (owners_of sets k) n (get_or firsts k None) (subst (λ (numbers : List ℕ). IsFirst rule areas numbers (get_or firsts k None)) (owned.exact k there) (first.exact k there)) owns
       ∙ (λ j. not (list_any (λ (m : ℕ). ranks_before rule m (area_is t.areas sets m j) n (area_is t.areas sets n j)) (owners_of sets k)))));
 }
-
--- ---- reading lists
-
--- within a list it doesn't matter what stands for what is past it
-pub same_read : {A : Type 0} (xs : List A) (i : ℕ) (d e : A) → i < length xs → get_or xs i d ≡ get_or xs i e
-same_read [] i d e l = absurd (omega arith)
-same_read (x ∷ xs) zero d e l = refl
-same_read (x ∷ xs) (suc i) d e l = same_read xs i d e (omega arith)
 
 -- some of an ascending list are in order
 pub filter_in_order : (test : ℕ → Bool) (xs : List ℕ) → IsStrictlyIncreasing xs → ascending nat_lt (filter test xs) ≡ filter test xs

@@ -1,13 +1,12 @@
 -- The edges of parts are balanced: at each point as many end as start.
-use Rattle.std.proofs.Common.{◌≡◌, refl, sym, ap, ◌∙◌, subst, arith, ℕ, zero, suc, ◌+◌, ◌<◌, Bool, true, false, not, ◌&&◌, ◌||◌, cond, List, [], ◌∷◌, length, get_or, map, filter, nat_eq, nat_lt, Contains}
+use Rattle.std.proofs.Common.{◌≡◌, refl, sym, ap, ◌∙◌, subst, arith, ℕ, zero, suc, ◌+◌, ◌<◌, Bool, true, false, not, ◌&&◌, ◌||◌, cond, List, [], ◌∷◌, length, get_or, map, nat_eq, nat_lt, Contains}
 use Rattle.std.specs.List.{sum_by}
 use Rattle.std.specs.List.Sorted.{IsStrictlyIncreasing}
 use Rattle.std.proofs.lemmas.Bool.{eq-eqb, eqb-true, ne_eqb, ltb-true}
 use Rattle.std.proofs.lemmas.List.Elements.{Contains-get_or}
-use Rattle.std.proofs.lemmas.List.Sums.{sum_by-cons, sum_by-append}
+use Rattle.std.proofs.lemmas.List.Sums.{sum_by-append}
 use Rattle.std.proofs.lemmas.List.Sorted.{sum_by-IsPermutation}
 use Rattle.lists.specs.Lists.{has}
-use Rattle.lists.proofs.Members.{Contains-head, Contains-later}
 use Rattle.lists.proofs.Ascending.{IsAscending}
 use Rattle.plane_model.specs.Points.{GridPoint, Path, same_point}
 use Rattle.plane_model.specs.Arcs.{SignedArc}
@@ -24,38 +23,7 @@ use Rattle.face_sets.proofs.BoundaryLemmas.{has_Contains, place_in, below_arc}
 use Rattle.face_sets.proofs.JoinedLemmas.{joined_over}
 use Rattle.ring_trace.proofs.UsedLemmas.{sum_by-map, not_later}
 use Rattle.ring_trace.proofs.BalanceLemmas.{sum_both, starts_edge, stops_edge, balanced_faces}
-
--- ---- sums over what passes a test
-
-sum_filter : {A : Type 0} (g : A → ℕ) (q : A → Bool) (xs : List A) → sum_by g (filter q xs) ≡ sum_by (λ x. cond (q x) (g x) 0) xs
-sum_filter g q [] = refl
-sum_filter g q (x ∷ xs) = go (q x) refl (sum_filter g q xs)
-  where
-    go : (b : Bool) → q x ≡ b → sum_by g (filter q xs) ≡ sum_by (λ y. cond (q y) (g y) 0) xs → sum_by g (filter q (x ∷ xs)) ≡ sum_by (λ y. cond (q y) (g y) 0) (x ∷ xs)
-    go true e r =
-        let a : sum_by g (filter q (x ∷ xs)) ≡ sum_by g (x ∷ filter q xs) = ap (λ (b : Bool). sum_by g (cond b (x ∷ filter q xs) (filter q xs))) e in
-        let b = sum_by-cons g x (filter q xs) in
-        let c = sum_by-cons (λ (y : _). cond (q y) (g y) 0) x xs in
-        let d : cond (q x) (g x) 0 ≡ g x = ap (λ (b : Bool). cond b (g x) 0) e in
-        omega arith
-    go false e r =
-        let a : sum_by g (filter q (x ∷ xs)) ≡ sum_by g (filter q xs) = ap (λ (b : Bool). sum_by g (cond b (x ∷ filter q xs) (filter q xs))) e in
-        let c = sum_by-cons (λ (y : _). cond (q y) (g y) 0) x xs in
-        let d : cond (q x) (g x) 0 ≡ 0 = ap (λ (b : Bool). cond b (g x) 0) e in
-        omega arith
-
-sum_zero : {A : Type 0} (xs : List A) → sum_by (λ (x : A). 0) xs ≡ 0
-sum_zero [] = refl
-sum_zero {A} (x ∷ xs) = let c = sum_by-cons (λ (y : A). 0) x xs in let r = sum_zero xs in omega arith
-
-sum_same_in : {A : Type 0} (f g : A → ℕ) (xs : List A) → ((x : A) → Contains xs x → f x ≡ g x) → sum_by f xs ≡ sum_by g xs
-sum_same_in f g [] h = refl
-sum_same_in f g (x ∷ xs) h =
-    let b = sum_by-cons f x xs in
-    let c = sum_by-cons g x xs in
-    let r = sum_same_in f g xs (λ y m. h y (Contains-later x xs y m)) in
-    let e = h x (Contains-head x xs) in
-    omega arith
+use Rattle.ring_trace.proofs.Sums.{sum_by_same, sum_by_none, sum_by-filter}
 
 -- ---- faces that have a number
 
@@ -96,13 +64,13 @@ along_sides g places set i [] a = 0
 along_sides g places set i (f ∷ fs) a = cond (has_left places f a) (cond (is_outward places set a) (g (side_at i a)) 0) 0 + along_sides g places set (i + 1) fs a
 
 sum_sides : (g : Side → ℕ) (places : List ℕ) (many : ℕ) (set : List ℕ) (i : ℕ) (fs : List ℕ) → sum_by g (sides_from places many set i fs) ≡ sum_by (along_sides g places set i fs) (signed_below many)
-sum_sides g places many set i [] = sym (sum_zero (signed_below many))
+sum_sides g places many set i [] = sym (sum_by_none (along_sides g places set i []) (signed_below many) (λ a c. refl))
 sum_sides g places many set i (f ∷ fs) =
     let of_side : SignedArc → ℕ = λ a. g (side_at i a) in
     let of_out : SignedArc → ℕ = λ a. cond (is_outward places set a) (g (side_at i a)) 0 in
     let here : SignedArc → ℕ = λ a. cond (has_left places f a) (of_out a) 0 in
     let split = sum_by-append g (map (side_at i) (outward_at places many set f)) (sides_from places many set (i + 1) fs) in
-    let one = sum_by-map g (side_at i) (outward_at places many set f) ∙ sum_filter of_side (is_outward places set) (arcs_with_left places many f) ∙ sum_filter of_out (has_left places f) (signed_below many) in
+    let one = sum_by-map g (side_at i) (outward_at places many set f) ∙ sum_by-filter (is_outward places set) of_side (arcs_with_left places many f) ∙ sum_by-filter (has_left places f) of_out (signed_below many) in
     let rest = sum_sides g places many set (i + 1) fs in
     let joined = sum_both here (along_sides g places set (i + 1) fs) (signed_below many) in
     let all : sum_by g (sides_from places many set i (f ∷ fs)) ≡ sum_by here (signed_below many) + sum_by (along_sides g places set (i + 1) fs) (signed_below many) = omega arith in
@@ -205,9 +173,9 @@ module _ (arcs : List Path) (faces : FaceTable) (inside classes numbers : List �
       let has_it : HasArc faces a = (let e = built.places_counted in omega arith) in
       one_arc faces.places inside num n p end_of a 0 inside rising ∙ ap (λ (b : Bool). once_if (same_point p (end_of a) && b)) (leads_out_of n a has_it)) in
       sum_sides (at_corner faces.places inside num n p (start_of arcs)) faces.places (length arcs) inside 0 inside
-      ∙ sum_same_in (along_sides (at_corner faces.places inside num n p (start_of arcs)) faces.places inside 0 inside) (starts_edge arcs faces.places kind p) all (one (start_of arcs))
+      ∙ sum_by_same (along_sides (at_corner faces.places inside num n p (start_of arcs)) faces.places inside 0 inside) (starts_edge arcs faces.places kind p) all (one (start_of arcs))
       ∙ balanced_faces arcs faces kind p built
-      ∙ sym (sum_same_in (along_sides (at_corner faces.places inside num n p (stop_of arcs)) faces.places inside 0 inside) (stops_edge arcs faces.places kind p) all (one (stop_of arcs)))
+      ∙ sym (sum_by_same (along_sides (at_corner faces.places inside num n p (stop_of arcs)) faces.places inside 0 inside) (stops_edge arcs faces.places kind p) all (one (stop_of arcs)))
       ∙ sym (sum_sides (at_corner faces.places inside num n p (stop_of arcs)) faces.places (length arcs) inside 0 inside)
 
   pub balanced_edges : (sides : List Side) (edges : List Edge) → sides ≡ sides_of faces.places (length arcs) inside → AreEdgesOf arcs classes numbers sides edges → AreBalanced arcs edges

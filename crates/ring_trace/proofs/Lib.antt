@@ -1,4 +1,4 @@
-pub mod SomeParts
+pub mod Sums
 pub mod UsedLemmas
 pub mod TileLemmas
 pub mod TracedLemmas

@@ -174,7 +174,7 @@ ends_more arcs edges k old new e items l part stop edge h =
     let each = h.each in record {
       each = ap (λ (xs : List EdgeEnd). length xs) items ∙ (omega arith);
       there = subst (λ (xs : List EdgeEnd). All (λ (x : EdgeEnd). x.edge < length edges) xs) (sym items) (All-push (λ (x : EdgeEnd). x.edge < length edges) old e h.there (omega arith));
-      places = ap (map (λ (x : EdgeEnd). x.edge)) items ∙ map_push (λ (x : EdgeEnd). x.edge) old e ∙ (λ i. h.places i ++ edge i ∷ []) ∙ ap (λ (n : ℕ). range_with_len 0 k ++ n ∷ []) (let z : k ≡ 0 + k = omega arith in z) ∙ sym (range_more 0 k);
+      places = ap (map (λ (x : EdgeEnd). x.edge)) items ∙ map_push (λ (x : EdgeEnd). x.edge) old e ∙ (λ i. h.places i ++ edge i ∷ []) ∙ sym (range_more k);
       stops = subst (λ (xs : List EdgeEnd). All (λ (x : EdgeEnd). end_corner x ≡ stop_corner arcs (edge_at edges x.edge)) xs) (sym items)
           (All-push (λ (x : EdgeEnd). end_corner x ≡ stop_corner arcs (edge_at edges x.edge)) old e h.stops (corner ∙ sym (ap (λ (n : ℕ). stop_corner arcs (edge_at edges n)) edge)));
       corners = ap (map end_corner) items ∙ map_push end_corner old e ∙ (λ i. h.corners i ++ corner i ∷ []) ∙ sym (map_more (stop_corner arcs) edges k (edge_at [] 0) l);

@@ -1,12 +1,10 @@
 -- The sides of a part, by its number.
-use Rattle.std.proofs.Common.{◌≡◌, inl, inr, refl, sym, ap, ◌∙◌, subst, arith, ℕ, ◌+◌, ◌*◌, ◌^◌, ◌<◌, Bool, true, false, cond, List, [], ◌∷◌, length, get_or, nat_eq, nat_lt, Contains}
+use Rattle.std.proofs.Common.{◌≡◌, inl, inr, refl, sym, ap, ◌∙◌, subst, arith, ℕ, ◌+◌, ◌*◌, ◌^◌, ◌<◌, Bool, true, false, cond, List, [], length, get_or, nat_eq, nat_lt, Contains}
 use Rattle.std.specs.List.{sum_by}
 use Rattle.std.specs.List.Sorted.{IsStrictlyIncreasing}
 use Rattle.std.proofs.lemmas.Bool.{eq-eqb, eqb-true, and_parts, and_from, lt-ltb, ltb-true}
 use Rattle.std.proofs.lemmas.List.Elements.{Contains-get_or, All-contains}
-use Rattle.std.proofs.lemmas.List.Sums.{sum_by-cons}
 use Rattle.lists.specs.Lists.{has}
-use Rattle.lists.proofs.Members.{Contains-head, Contains-later}
 use Rattle.plane_model.specs.Arcs.{SignedArc}
 use Rattle.face_walk.specs.Places.{FaceTable, face_left_of}
 use Rattle.face_walk.specs.Joining.{AreClasses}
@@ -17,26 +15,8 @@ use Rattle.ring_trace.specs.Pairing.{number_at}
 use Rattle.ring_trace.specs.Traced.{same_arc, is_of_boundary, once_if}
 use Rattle.face_sets.proofs.BoundaryLemmas.{AreSidesOf, same_or_other, has_Contains, Contains_has, outward_from, outward_if}
 use Rattle.face_sets.proofs.JoinedLemmas.{joined_over}
+use Rattle.ring_trace.proofs.Sums.{sum_by_same, sum_by_none}
 use Rattle.ring_trace.proofs.UsedLemmas.{same_place, once_along_sides}
-
--- ---- sums
-
-pub sum_by_same : {X : Type 0} (f g : X → ℕ) (xs : List X) → ((x : X) → Contains xs x → f x ≡ g x) → sum_by f xs ≡ sum_by g xs
-sum_by_same f g [] h = refl
-sum_by_same f g (x ∷ xs) h =
-    let m = sum_by-cons f x xs in
-    let n = sum_by-cons g x xs in
-    let e = h x (Contains-head x xs) in
-    let r = sum_by_same f g xs (λ y c. h y (Contains-later x xs y c)) in
-    omega arith
-
-pub sum_by_none : {X : Type 0} (f : X → ℕ) (xs : List X) → ((x : X) → Contains xs x → f x ≡ 0) → sum_by f xs ≡ 0
-sum_by_none f [] h = refl
-sum_by_none f (x ∷ xs) h =
-    let m = sum_by-cons f x xs in
-    let e = h x (Contains-head x xs) in
-    let r = sum_by_none f xs (λ y c. h y (Contains-later x xs y c)) in
-    omega arith
 
 -- ---- the boundary, as a test
 

@@ -1,11 +1,11 @@
 -- The polygons of a set are those of its parts.
-use Rattle.std.proofs.Common.{◌≡◌, inl, inr, refl, sym, ap, ◌∙◌, subst, arith, ℕ, zero, suc, ◌+◌, ◌-◌, ◌*◌, ◌<◌, ◌≤◌, ◌&&◌, Bool, true, false, cond, List, [], ◌∷◌, ◌++◌, length, get_or, take, drop, map, filter, nat_eq, nat_lt, All, Contains}
+use Rattle.std.proofs.Common.{◌≡◌, inl, inr, refl, sym, ap, ◌∙◌, subst, arith, ℕ, zero, suc, ◌+◌, ◌-◌, ◌*◌, ◌<◌, ◌≤◌, ◌&&◌, Bool, true, false, cond, List, [], ◌∷◌, ◌++◌, length, get_or, take, drop, map, nat_eq, nat_lt, All, Contains}
 use Rattle.std.specs.List.{sum_by}
 use Rattle.std.specs.List.Sorted.{IsStrictlyIncreasing}
 use Rattle.std.proofs.lemmas.Bool.{and_from, and_parts, cases_lt, lt-ltb, ltb-true}
 use Rattle.std.proofs.lemmas.List.{length-map, length-take-le, length-drop, get_or-map, get_or-take, get_or-drop, get_or_default, drop_more, take_at, drop_at}
 use Rattle.std.proofs.lemmas.List.Elements.{All-append, All-take, All-drop, All-map, All-filter, All-tail, All-contains, Contains-get_or}
-use Rattle.std.proofs.lemmas.List.Sums.{sum_by-cons, sum_by-append}
+use Rattle.std.proofs.lemmas.List.Sums.{sum_by-append}
 use Rattle.std.proofs.lemmas.List.Sorted.{Contains-permutation, IsPermutation-sym, sum_by-IsPermutation}
 use Rattle.std.proofs.lemmas.List.Kept.{AllPairs-filter}
 use Rattle.std.specs.List.{AllPairs}
@@ -31,8 +31,9 @@ use Rattle.ring_trace.specs.Traced.{BeginsWithLeast, UseParts, bounded, is_of_bo
 use Rattle.ring_trace.specs.Ways.{IsSimpleRing, AreRingsByCorners, edges_in, start_at, stop_at}
 use Rattle.face_sets.proofs.BoundaryLemmas.{AreSidesOf, arc_below, below_arc}
 use Rattle.ring_trace.proofs.GatherLemmas.{key_of_some}
-use Rattle.ring_trace.proofs.PartSides.{sum_by_same, sum_by_none, test_of, of_test, of_part, number_is, part_sum}
+use Rattle.ring_trace.proofs.PartSides.{test_of, of_test, of_part, number_is, part_sum}
 use Rattle.face_sets.proofs.SetLemmas.{nat_order, to_ascending}
+use Rattle.ring_trace.proofs.Sums.{sum_by_same, sum_by_none, sum_by-filter}
 use Rattle.ring_trace.proofs.TileLemmas.{sum_halves, sum_tiled}
 use Rattle.ring_trace.proofs.TurnLemmas.{along_times, arc_at, same_part, span_halves}
 use Rattle.ring_trace.proofs.UsedLemmas.{sum_by-map}
@@ -107,14 +108,6 @@ picked_sum n p f g es h = go (nat_eq p n) ∙ sym (sum_by_same (λ (e : ℕ). co
     go : (b : Bool) → cond b (sum_by g es) 0 ≡ sum_by (λ (e : ℕ). cond b (g e) 0) es
     go true = refl
     go false = sym (sum_by_none (λ (e : ℕ). let z : ℕ = 0 in z) es (λ e c. refl))
-
-sum_by-filter : {X : Type 0} (q : X → Bool) (g : X → ℕ) (xs : List X) → sum_by g (filter q xs) ≡ sum_by (λ (x : X). cond (q x) (g x) 0) xs
-sum_by-filter q g [] = refl
-sum_by-filter q g (x ∷ xs) = go (q x) (sum_by-filter q g xs) ∙ sym (sum_by-cons (λ (y : _). cond (q y) (g y) 0) x xs)
-  where
-    go : (b : Bool) → sum_by g (filter q xs) ≡ sum_by (λ (y : _). cond (q y) (g y) 0) xs → sum_by g (cond b (x ∷ filter q xs) (filter q xs)) ≡ cond b (g x) 0 + sum_by (λ (y : _). cond (q y) (g y) 0) xs
-    go true e = let m = sum_by-cons g x (filter q xs) in omega arith
-    go false e = let f : sum_by g (filter q xs) ≡ 0 + sum_by (λ (y : _). cond (q y) (g y) 0) xs = omega arith in f
 
 module _ (arcs : List Path) (classes numbers : List ℕ) (sides : List Side) (edges : List Edge) (rings : Rings) (keys : List RingKey) (made : AreEdgesOf arcs classes numbers sides edges) (once : HasEachOnce edges rings)
     (tiled : AreTiled 0 rings.spans.items (length rings.edges.items)) (are : All (IsKey rings) keys) (parts_are : All (λ (key : RingKey). All (λ e. (edge_at edges e).part ≡ key.part) (take (key.end - key.begin) (drop key.begin rings.edges.items))) keys)

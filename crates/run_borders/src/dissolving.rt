@@ -202,7 +202,7 @@ fn points_of(alloc: Global, shapes: &[Shape], members: &[u32]) -> Result<PtList,
 {
     let mut points = PtList::new(alloc);
     for member in members {
-        append_points(&mut points, points_at(shapes, *member))?;
+        points.append(points_at(shapes, *member))?;
     }
     Ok(points)
 }
@@ -224,13 +224,4 @@ fn points_in(shape: &Shape) -> &[Pt]
         Shape::Points(points) => points.as_slice(),
         Shape::Nothing | Shape::Faces(_) | Shape::Paths(_) => &[],
     }
-}
-
-fn append_points(points: &mut PtList, more: &[Pt]) -> Result<(), AllocError>
-    ensures all { OnOk result (points.new ≡ points.old ++ more.now) }
-{
-    for point in more {
-        points.push(*point)?;
-    }
-    Ok(())
 }

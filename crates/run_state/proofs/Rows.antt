@@ -3,10 +3,10 @@ use Rattle.std.proofs.Common.{◌≡◌, ℕ, false, List, [], ◌∷◌, ◌++�
 use Rattle.std.specs.List.{IsDistinct}
 use Rattle.std.specs.Str.{bytes_eq}
 use Rattle.json_values.specs.Table.{AreRows, AreDistinctNames, RowValues}
+use Rattle.table_rows.proofs.Cells.{rows_long-append}
 
 pub rows_grown : (n : ℕ) (rows : List RowValues) (row : RowValues) → AreRows n rows → length row ≡ n → AreRows n (rows ++ row ∷ [])
-rows_grown n [] row h e = (e, tt)
-rows_grown n (r ∷ rows) row h e = (h.0, rows_grown n rows row h.1 e)
+rows_grown n rows row h e = rows_long-append n rows (row ∷ []) h (e, tt)
 
 pub no_names : AreDistinctNames []
 unfolding IsDistinct

@@ -1,5 +1,6 @@
 -- The layers of a name or of a target, in lists of layers that grow.
-use Rattle.std.proofs.Common.{◌&&◌, ◌||◌, Bool, true, false, None, Some, if◌then◌else◌, true≢false, ◌≡◌, ℕ, ◌+◌, List, [], ◌∷◌, ◌++◌, length, ◌<◌, get_or, take, refl, ap, sym, ◌∙◌, append-nil, map}
+use Rattle.std.proofs.Common.{◌||◌, Bool, true, false, None, Some, if◌then◌else◌, true≢false, ◌≡◌, ℕ, ◌+◌, List, [], ◌∷◌, ◌++◌, length, ◌<◌, get_or, take, refl, ap, sym, ◌∙◌, append-nil, map}
+use Rattle.std.proofs.lemmas.Bool.{and_parts}
 use Rattle.std.proofs.lemmas.List.{map-append, take_more}
 use Rattle.std.proofs.lemmas.List.Elements.{filter-append}
 use Rattle.std.specs.List.{filter, list_any, range_with_len}
@@ -36,10 +37,6 @@ other_first t held rest e = first_passed (is_selected t) held rest false e
 
 -- a target that is there has a first layer
 
-second_true : (a b : Bool) → (a && b) ≡ true → b ≡ true
-second_true true b h = h
-second_true false b h = absurd (true≢false (sym h))
-
 no_first : (p : Held → Bool) (held : Held) (rest : List Held) → (list_any p rest ≡ true → None ≡ slice_get (passed p rest) 0 → ⊥) →
     (b : Bool) → p held ≡ b → list_any p (held ∷ rest) ≡ true → None ≡ slice_get (passed p (held ∷ rest)) 0 → ⊥
 no_first p held rest onward true e h none =
@@ -52,7 +49,7 @@ passed_first p [] h none = absurd (true≢false (sym h))
 passed_first p (held ∷ rest) h none = no_first p held rest (passed_first p rest) (p held) refl h none
 
 pub has_first : (t : Target) (layers : List Held) → has_target t layers ≡ true → None ≡ slice_get (targets t layers) 0 → ⊥
-has_first t layers h none = passed_first (is_selected t) layers (second_true (are_layers t layers) (list_any (is_selected t) layers) h) none
+has_first t layers h none = passed_first (is_selected t) layers (and_parts (are_layers t layers) (list_any (is_selected t) layers) h).1 none
 
 -- with one more layer after others
 

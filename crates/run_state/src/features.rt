@@ -36,7 +36,7 @@ fn leave_out_empty(shapes: &mut Vec<Shape>)
 }
 
 /// The numbers from 0 below a count.
-#[tactic(auto, using(crate::proofs::Numbers::all_more))]
+#[tactic(auto, using(run_plane::proofs::Growth::range_more))]
 pub fn numbers_below(alloc: Global, count: u32) -> Result<IdList, AllocError>
     ensures all { IfOk result (λ numbers. numbers ≡ range_with_len 0 count) }
     ensures below { IfOk result (λ numbers. All (λ n. n < count) numbers) }

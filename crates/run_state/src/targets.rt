@@ -36,36 +36,21 @@ fn are_layers(layers: &[Held], target: &Target) -> bool
 fn are_names(layers: &[Held], names: &[Text]) -> bool
     ensures exact { result ≡ list_all (is_layer layers.now) names.now }
 {
-    for name in names {
-        if !is_layer(layers, name.as_str()) {
-            return false;
-        }
-    }
-    true
+    names.iter().all(|name| is_layer(layers, name.as_str()))
 }
 
 /// Whether some layer has the name.
 pub fn is_layer(layers: &[Held], name: &str) -> bool
     ensures exact { result ≡ is_layer layers.now name.now }
 {
-    for held in layers {
-        if name == held.layer.name.as_str() {
-            return true;
-        }
-    }
-    false
+    layers.iter().any(|held| name == held.layer.name.as_str())
 }
 
 /// Whether the target has some layer.
 pub fn selects_some(layers: &[Held], target: &Target) -> bool
     ensures exact { result ≡ list_any (is_selected target.now) layers.now }
 {
-    for held in layers {
-        if is_selected(target, held) {
-            return true;
-        }
-    }
-    false
+    layers.iter().any(|held| is_selected(target, held))
 }
 
 /// Whether the command of this target works on the layer.
@@ -82,12 +67,7 @@ pub fn is_selected(target: &Target, held: &Held) -> bool
 fn is_among(names: &[Text], name: &str) -> bool
     ensures exact { result ≡ has_name names.now name.now }
 {
-    for listed in names {
-        if name == listed.as_str() {
-            return true;
-        }
-    }
-    false
+    names.iter().any(|listed| name == listed.as_str())
 }
 
 /// The first layer of a target.

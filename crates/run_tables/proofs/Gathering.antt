@@ -1,5 +1,5 @@
 -- A merged table has as many rows as the tables together.
-use Rattle.std.proofs.Common.{◌≡◌, ◌<◌, Err, slice_get, Bool, true, false, List, [], ◌∷◌, ◌++◌, length, map, Option, Some, None, Ok, refl, ap, sym, ◌∙◌, arith, length-append}
+use Rattle.std.proofs.Common.{◌≡◌, ◌<◌, Err, slice_get, Bool, List, [], ◌∷◌, length, map, Option, Some, None, Ok, refl, ap, sym, ◌∙◌, arith, length-append}
 use Rattle.std.proofs.lemmas.List.{length-map}
 use Rattle.json_values.specs.Table.{TableContent}
 use Rattle.table_rows.specs.Columns.{cells}
@@ -9,12 +9,8 @@ use Rattle.table_terms.specs.Refusals.{unless}
 use Rattle.table_rows.specs.Refusals.{Answers}
 use Rattle.table_rows.specs.declared.fault.TableFault.{TableFault}
 use Rattle.table_rows.specs.declared.fault.TableFault.TheVariants.{Bad, Memory}
-use Rattle.job_terms.specs.declared.job.Target.{Target}
 use Rattle.run_plane.specs.declared.layer.Layer.{Layer}
 use Rattle.run_state.specs.Stops.{StopsFor, stop_of, table_refusal}
-use Rattle.run_state.specs.Targets.{is_selected, targets}
-use Rattle.run_state.specs.declared.state.Held.{Held}
-use Rattle.run_state.proofs.TargetLemmas.{targets_off, targets_on}
 use Rattle.run_tables.specs.Gathering.{all_rows}
 use Rattle.run_tables.specs.Made.{refused_layers}
 
@@ -31,14 +27,6 @@ pub merged_count : (ts : List TableContent) (force : Bool) (t : TableContent) �
 merged_count ts force t h =
     let e = answered (refused_merge force ts) (record { names = merged_names ts; rows = merged_rows (merged_names ts) ts }) t h in
     sym (ap (λ (x : TableContent). length x.rows) e) ∙ rows_counted (merged_names ts) ts
-
--- one layer more, which is a target or is none
-
-pub target_taken : (t : Target) (front : List Held) (held : Held) → is_selected t held ≡ true → targets t (front ++ held ∷ []) ≡ targets t front ++ held.layer ∷ []
-target_taken t front held e = targets_on t front held e
-
-pub target_passed : (t : Target) (front : List Held) (held : Held) → is_selected t held ≡ false → targets t (front ++ held ∷ []) ≡ targets t front
-target_passed t front held e = targets_off t front held e
 
 -- ---- why layers are not merged
 

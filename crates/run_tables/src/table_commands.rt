@@ -187,7 +187,7 @@ struct Gathered {
     ghost each: { length shapes.items ≡ length (all_rows tables) },
 }
 
-#[tactic(auto, using(crate::proofs::Gathering::target_taken, crate::proofs::Gathering::target_passed))]
+#[tactic(auto, using(run_state::proofs::TargetLemmas::targets_on, run_state::proofs::TargetLemmas::targets_off))]
 fn gather(alloc: Global, layers: &[Held], target: &Target) -> Result<Gathered, AllocError>
     ensures tables { IfOk result (λ all. all.tables ≡ map (λ layer. layer.table) (targets target.now layers.now)) }
     ensures shapes { IfOk result (λ all. all.shapes.items ≡ flat_map (λ layer. layer.shapes.items) (targets target.now layers.now)) }

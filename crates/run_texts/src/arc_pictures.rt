@@ -46,8 +46,8 @@ fn arc_shapes(alloc: Global, plane: &Plane, shapes: &[Shape]) -> Result<ArcShape
     Ok(traced)
 }
 
-/// A shape as arcs of the plane; nothing for one that is empty.
-pub(crate) fn arc_shape(alloc: Global, plane: &Plane, shape: &Shape) -> Result<ArcShape, AllocError>
+// A shape as arcs of the plane; nothing for one that is empty.
+fn arc_shape(alloc: Global, plane: &Plane, shape: &Shape) -> Result<ArcShape, AllocError>
     requires on { IsOn plane.now shape.now }
     ensures below { IfOk result (ShapeIsBelow (length plane.now.arcs)) }
     ensures traced { IfOk result (IsTraced plane.now shape.now) }

@@ -8,7 +8,7 @@ use cmd_words::read_chain;
 use io_core::{Bytes, Text, Words};
 use job_terms::{Action, Chain, Job, LayerAction};
 use join_terms::Calc;
-use json_read::Json;
+use json_values::Json;
 use std::alloc::{AllocError, Global};
 
 /// What a call of `cmd_words` answers to a case, as this module says; to a call that isn't there, what `unknown_call`

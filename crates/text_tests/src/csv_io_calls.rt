@@ -5,7 +5,7 @@
 use case_lists::{bytes_at, names_at, number_at, told, unknown_call};
 use csv_io::{Room2, read_csv, write_csv};
 use io_core::Bytes;
-use json_read::Json;
+use json_values::Json;
 use std::alloc::{AllocError, Global};
 
 /// What a call of `csv_io` answers to a case, as this module says; to a call that isn't there, what `unknown_call`

@@ -9,7 +9,8 @@
 use case_lists::{bytes_of_text, number_at, text_at, told, unknown_call};
 use expr_lang::{Expr, eval};
 use io_core::{Bytes, NameList, Text};
-use json_read::{Decimal, Json, Row, Value};
+use json_values::{Json, Row, Value};
+use numerals::Decimal;
 use std::alloc::{AllocError, Global};
 
 const COLUMNS: [&str; 4] = ["pop", "name", "e", "nothing"];

@@ -10,7 +10,7 @@ use case_lists::{number_at, told, unknown_call};
 use geojson_io::{GeoLayers, Room, read_geojson, write_geojson};
 use grid_base::MOST_PLACES;
 use io_core::Bytes;
-use json_read::Json;
+use json_values::Json;
 use std::alloc::{AllocError, Global};
 
 /// Room for more than any source of the cases has.

@@ -15,7 +15,7 @@ use case_lists::{
 use io_core::{
     Bytes, MemFiles, MemSink, MemSource, read_file, read_whole, write_file, write_whole,
 };
-use json_read::Json;
+use json_values::Json;
 use std::alloc::{AllocError, Global};
 
 /// What a call of `io_core` answers to a case, as this module says; to a call that isn't there, what `unknown_call`

@@ -13,12 +13,15 @@ mod expr_lang_calls;
 mod geojson_io_calls;
 mod io_core_calls;
 mod json_read_calls;
+mod json_values_calls;
+mod numerals_calls;
 mod table_ops_calls;
 mod topo_io_calls;
 
 use case_lists::{Tally, list_at, list_in, text_in, unknown_call};
 use io_core::Bytes;
-use json_read::{Json, ReadJson};
+use json_read::ReadJson;
+use json_values::Json;
 use std::alloc::{AllocError, Global};
 use std::io;
 
@@ -53,6 +56,8 @@ fn answer_of(alloc: Global, group: &Json, case: &[Json]) -> Result<Bytes, AllocE
         "geojson_io" => geojson_io_calls::answer(alloc, call, case),
         "io_core" => io_core_calls::answer(alloc, call, case),
         "json_read" => json_read_calls::answer(alloc, call, case),
+        "json_values" => json_values_calls::answer(alloc, call, case),
+        "numerals" => numerals_calls::answer(alloc, call, case),
         "table_ops" => table_ops_calls::answer(alloc, call, case),
         "topo_io" => topo_io_calls::answer(alloc, call, case),
         _ => unknown_call(alloc),

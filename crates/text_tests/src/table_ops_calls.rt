@@ -19,7 +19,7 @@ use expr_lang::Expr;
 use grid_base::IdList;
 use io_core::{Bytes, NameList, Text};
 use join_terms::JoinSpec;
-use json_read::{Json, Table};
+use json_values::{Json, Table};
 use std::alloc::{AllocError, Global};
 use std::fmt::Debug;
 use table_ops::{filter_rows, join_tables};

@@ -15,7 +15,7 @@ use case_lists::{bytes_of_text, list_at, names_at, number_at, told, unknown_call
 use geojson_io::Room;
 use grid_base::{Drawing, Kind, Path, Pt, PtList};
 use io_core::{Bytes, NameList, Text};
-use json_read::{Fields, FieldsList, Json, Table, Value};
+use json_values::{Fields, FieldsList, Json, Table, Value};
 use snap_round::snap;
 use std::alloc::{AllocError, Global};
 use topo_io::{ArcLayer, ArcLayers, ArcShape, ArcShapeList, read_topojson, write_topojson};

@@ -12,19 +12,12 @@ use Rattle.bucket_grid.proofs.Numbers.{Contains-numbers_where, numbers_where_bel
 use Rattle.face_walk.specs.Places.{FaceTable}
 use Rattle.face_sets.specs.Owners.{owners_of, AreOwners}
 use Rattle.face_sets.specs.Sets.{IsInnerFace, IsSetOf}
+use Rattle.face_sets.proofs.SetLemmas.{pushed}
 use Rattle.face_groups.proofs.Groups.{held_inside}
 use Rattle.union_ops.specs.Choices.{Choice, first_with, choice_of, has_number, number_order, IsChoiceFrom, AreChoices, AreLayerOwners, choice_among}
 use Rattle.union_ops.specs.Union.{IsHeld}
 
--- ---- a list that a fact fits place by place, and one more element
-
-pushed : {A : Type 0} (xs : List A) (x d : A) (n : ℕ) (Q : ℕ → A → Type 0) → length xs ≡ n → ((j : ℕ) → j < n → Q j (get_or xs j d)) → Q n x → (j : ℕ) → j < n + 1 → Q j (get_or (xs ++ x ∷ []) j d)
-pushed {A} xs x d n Q e h one j l = elim (cases_lt j n) [
-  | inl less ↦ subst (Q j) (sym (get_or_append_left xs (x ∷ []) d j (omega arith))) (h j less)
-  | inr more ↦
-      let same : n ≡ j = omega arith in
-      subst (λ (i : ℕ). Q i (get_or (xs ++ x ∷ []) i d)) same (subst (Q n) (sym (get_or_push xs x d n e)) one)
-]
+-- ---- one more face
 
 pub choices_more : (layers : List (List (List ℕ))) (n : ℕ) (choices : List Choice) (choice : Choice) → AreChoices layers n choices → choice ≡ choice_of layers n → AreChoices layers (n + 1) (choices ++ choice ∷ [])
 choices_more layers n choices choice h one = record {

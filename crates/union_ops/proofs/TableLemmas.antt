@@ -4,7 +4,7 @@ use Rattle.std.specs.List.{flat_map}
 use Rattle.std.proofs.lemmas.Grind.{flat_map-append}
 use Rattle.std.proofs.lemmas.List.{append-nil, length-append, length-map, get_or_default, take_more, take_all}
 use Rattle.std.proofs.lemmas.Slice.Zip.{get_or-zip, length-zip}
-use Rattle.json_values.specs.Table.{TableContent, RowValues, AreRows}
+use Rattle.json_values.specs.Table.{TableContent, RowValues}
 use Rattle.table_rows.specs.Merge.{all_names}
 use Rattle.table_rows.proofs.Merging.{all_names_more}
 use Rattle.union_ops.specs.Choices.{Choice, IsChoiceFrom}
@@ -48,8 +48,3 @@ width_more tables i d t l is = sym
     (ap (λ (names : List (List ℕ)). length names) (all_names_more tables i d l)
     ∙ length-append (all_names (take i tables)) (get_or tables i d).names
     ∙ ap (λ (u : TableContent). length (all_names (take i tables)) + length u.names) (sym is))
-
--- one row more
-pub rows_push : (n : ℕ) (rows : List RowValues) (row : RowValues) → AreRows n rows → length row ≡ n → AreRows n (rows ++ row ∷ [])
-rows_push n [] row h e = (e, tt)
-rows_push n (r ∷ rows) row h e = (h.0, rows_push n rows row h.1 e)

@@ -151,7 +151,7 @@ pub fn layers_of_objects(
     let mut before = 0;
     for object in 0..objects.len() {
         let Some((name, json)) = member_at(objects, object) else {
-            return Ok(layers);
+            unreachable!()
         };
         let numbers = Numbers {
             object,

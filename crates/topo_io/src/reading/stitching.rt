@@ -101,7 +101,7 @@ fn with_signed_arc(
     ensures { Answers (with_points path (points_of arcs.now arc)) left.old result left.new }
 {
     let Some(points) = arcs.get(arc.id().num()) else {
-        return Err(Stop::Why(TopoWhy::ArcIndex));
+        unreachable!()
     };
     if arc.is_reversed() {
         let points = turned(alloc, points.as_slice())?;

@@ -15,9 +15,9 @@ use Rattle.ring_trace.specs.Traced.{BeginsWithLeast, HasPolygonsOfParts, UsePart
 use Rattle.ring_trace.specs.Turns.{MayStandBefore}
 use Rattle.ring_trace.specs.Ways.{IsSimpleRing, AreRingsByCorners}
 use Rattle.face_sets.proofs.BoundaryLemmas.{sides_are}
+use Rattle.face_sets.proofs.SomeParts.{some_parts}
 use Rattle.ring_trace.proofs.OrderLemmas.{polygons_in_order}
 use Rattle.ring_trace.proofs.PolygonLemmas.{keyed_least, keyed_part, parts_used, rings_all}
-use Rattle.ring_trace.proofs.SomeParts.{some_parts}
 use Rattle.ring_trace.proofs.TracedLemmas.{traced_once, all_ok}
 use Rattle.ring_trace.proofs.TurnLemmas.{made_starts, keyed_ring}
 use Rattle.ring_trace.proofs.tracing.trace.Goals as goal

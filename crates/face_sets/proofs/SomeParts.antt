@@ -10,20 +10,13 @@ use Rattle.lists.proofs.Ascending.{ascending-Contains, ascending-IsAscending, Co
 use Rattle.face_walk.specs.Joining.{AreClasses}
 use Rattle.face_walk.specs.Places.{FaceTable}
 use Rattle.face_sets.specs.declared.joined_faces.Side.{Side}
+use Rattle.face_sets.specs.declared.part_sets.PartFace.{PartFace}
 use Rattle.face_sets.specs.Joined.{AreJoinedBy, AreLeastNumbers, AreParts, IsRanked, rank_of}
 use Rattle.face_sets.specs.Parts.{AreGroups, IsFaceOf, faces_of_part}
 use Rattle.face_sets.proofs.BoundaryLemmas.{AreSidesOf}
 use Rattle.face_sets.proofs.PartLemmas.{none, numbered_each}
 use Rattle.face_sets.proofs.RankedLemmas.{parts_are}
 use Rattle.face_sets.proofs.SetLemmas.{nat_order, from_ascending}
-
--- ---- a face with the number of its part, by the type that the lemmas on such faces speak of
-
-abbrev type_of : {A : Type 0} → A → Type 0
-type_of {A} x = A
-
-abbrev PartFace : Type 0
-PartFace = type_of none
 
 -- ---- the sets of equal numbers
 
