@@ -9,8 +9,6 @@
 
 mod files;
 mod streams;
-#[cfg(test)]
-mod tests;
 
 pub use files::HostFiles;
 pub use streams::{StdSink, StdSource};
