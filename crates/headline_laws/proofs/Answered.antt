@@ -11,7 +11,7 @@ use Rattle.run_plane.specs.declared.plane.Plane.{Plane}
 use Rattle.run_state.specs.declared.state.Held.{Held}
 use Rattle.chain_model.specs.State as state
 use Rattle.chain_model.specs.State.{State, StateLayer}
-use Rattle.state_laws.specs.Shown.{View, FacesShow, IsSeenIn, IsView, LayerShows, ShapeShows, SourcesShow, StateShows, plane_of}
+use Rattle.layer_laws.specs.Shown.{View, FacesShow, IsSeenIn, IsView, LayerShows, ShapeShows, SourcesShow, StateShows, plane_of}
 
 module _ (v : View) (A : Answers) where
   abbrev pub answered : View

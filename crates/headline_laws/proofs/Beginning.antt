@@ -21,13 +21,13 @@ use Rattle.chain_model.specs.Outcome as model
 use Rattle.chain_model.specs.Running.{Begun, begins, begun_with}
 use Rattle.chain_model.specs.Sources.{Readings}
 use Rattle.chain_model.specs.State.{StateLayer}
-use Rattle.state_laws.specs.Beginnings.{BeginningShows, drawing_by}
-use Rattle.state_laws.specs.Shown.{View, IsSeenIn, LayerShows, SourcesShow}
-use Rattle.state_laws.specs.Shown as shown
-use Rattle.state_laws.specs.Views.{IsViewOf}
-use Rattle.state_laws.proofs.Begun.{beginnings_show, drawings_are_one}
-use Rattle.state_laws.proofs.PolygonPlanes.{planes_are_seen}
-use Rattle.state_laws.proofs.Targeting.{first_layers_show}
+use Rattle.layer_laws.specs.Beginnings.{BeginningShows, drawing_by}
+use Rattle.layer_laws.specs.Shown.{View, IsSeenIn, LayerShows, SourcesShow}
+use Rattle.layer_laws.specs.Shown as shown
+use Rattle.layer_laws.specs.Views.{IsViewOf}
+use Rattle.layer_laws.proofs.Begun.{beginnings_show, drawings_are_one}
+use Rattle.layer_laws.proofs.PolygonPlanes.{planes_are_seen}
+use Rattle.layer_laws.proofs.Targeting.{first_layers_show}
 use Rattle.headline_laws.specs.Begins.{BegunShows, ChainsBegin}
 use Rattle.headline_laws.specs.Ends.{IsAsked}
 use Rattle.headline_laws.proofs.Asked.{all_imported}

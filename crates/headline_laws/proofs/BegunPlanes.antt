@@ -17,8 +17,8 @@ use Rattle.region_laws.specs.Answered.{plane_with}
 use Rattle.run_plane.specs.LaidOut.{IsLaidOut}
 use Rattle.chain_model.specs.State.{Shape, StateLayer}
 use Rattle.chain_model.specs.Beginning.{count_of, first_layer, first_layers, first_shape, first_sources}
-use Rattle.state_laws.specs.Shown.{View, plane_of as view_plane_of}
-use Rattle.state_laws.specs.Views.{IsViewOf}
+use Rattle.layer_laws.specs.Shown.{View, plane_of as view_plane_of}
+use Rattle.layer_laws.specs.Views.{IsViewOf}
 
 module _ (drawing : Drawing) (links : List Segment) (some others : List Path) where
   abbrev here : Plane

@@ -20,8 +20,8 @@ use Rattle.chain_model.specs.Outcome as model
 use Rattle.chain_model.specs.Pictures.{IsTextOf}
 use Rattle.chain_model.specs.Running.{Begun, Effect, IsEffectOf, Output, Runs, RunsOrStops, WordsTell, begins, file_of, run_from}
 use Rattle.chain_model.specs.Sources.{Readings}
-use Rattle.state_laws.specs.Shown.{View}
-use Rattle.state_laws.proofs.Zipped.{zip_joined}
+use Rattle.layer_laws.specs.Shown.{View}
+use Rattle.layer_laws.proofs.Zipped.{zip_joined}
 use Rattle.headline_laws.specs.Outcomes.{outcome_as}
 use Rattle.headline_laws.specs.Refused.{outside_of}
 use Rattle.headline_laws.proofs.Unchanged.{unchanged}

@@ -23,10 +23,10 @@ use Rattle.region_laws.proofs.Answered.{cleaned_as_told}
 use Rattle.region_laws.proofs.Areas.{areas_are_those_of_regions}
 use Rattle.run_plane.specs.declared.layer.Shape.TheVariants as shape
 use Rattle.chain_model.specs.State as state
-use Rattle.state_laws.specs.Shown.{View, IsView, FacesShow, plane_of}
-use Rattle.state_laws.specs.Views.{ShowEach}
-use Rattle.state_laws.proofs.Empty.{emptiness_shows}
-use Rattle.state_laws.proofs.PolygonSets.{joined_show, show_in_order}
+use Rattle.layer_laws.specs.Shown.{View, IsView, FacesShow, plane_of}
+use Rattle.layer_laws.specs.Views.{ShowEach}
+use Rattle.layer_laws.proofs.Empty.{emptiness_shows}
+use Rattle.layer_laws.proofs.PolygonSets.{joined_show, show_in_order}
 
 module _ (v : View) (view : IsView v) where
   -- ---- sets that show regions, by their numbers

@@ -28,8 +28,8 @@ use Rattle.chain_model.specs.Pictures.{IsTextOf}
 use Rattle.chain_model.specs.Running.{Begun, Effect, IsEffectOf, Output, output_of, run_from}
 use Rattle.chain_model.specs.State.{State}
 use Rattle.chain_model.specs.Steps.{Stepped, step}
-use Rattle.state_laws.specs.Reasons.{why_of}
-use Rattle.state_laws.specs.Shown.{View, StateShows, plane_of}
+use Rattle.layer_laws.specs.Reasons.{why_of}
+use Rattle.layer_laws.specs.Shown.{View, StateShows, plane_of}
 use Rattle.state_laws.specs.Steps.{StepGives, StepRefuses}
 use Rattle.headline_laws.specs.Outcomes.{outcome_as, refusal_as}
 use Rattle.headline_laws.specs.Refused.{outside_of}

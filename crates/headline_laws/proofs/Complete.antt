@@ -32,7 +32,7 @@ use Rattle.chain_model.specs.Headline.{HasCause, IsComplete, NothingFailed}
 use Rattle.chain_model.specs.Outcome as model
 use Rattle.chain_model.specs.Running.{Begun, Effect, JobTells, Runs, RunsOrStops, SynthesizesOrStops, WordsTell, begins, checked_density, run_from}
 use Rattle.chain_model.specs.Sources.{AreReadings, Readings}
-use Rattle.state_laws.specs.Shown.{StateShows, View, plane_of}
+use Rattle.layer_laws.specs.Shown.{StateShows, View, plane_of}
 use Rattle.headline_laws.specs.Causes.{counts_of}
 use Rattle.headline_laws.specs.Outcomes.{outcome_as}
 use Rattle.headline_laws.specs.Refused.{outside_of}

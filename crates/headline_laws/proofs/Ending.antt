@@ -28,7 +28,7 @@ use Rattle.chain_model.specs.Headline.{Binds, RunMeans, StopsInRead}
 use Rattle.chain_model.specs.Outcome as model
 use Rattle.chain_model.specs.Running.{Begun, RunsOrStops, WordsTell, begins, begun_with, checked_density}
 use Rattle.chain_model.specs.Sources.{Readings}
-use Rattle.state_laws.proofs.Begun.{drawings_are_one}
+use Rattle.layer_laws.proofs.Begun.{drawings_are_one}
 use Rattle.headline_laws.specs.Outcomes.{outcome_as}
 use Rattle.headline_laws.specs.Refused.{outside_of}
 use Rattle.headline_laws.proofs.Unchanged.{keeps}

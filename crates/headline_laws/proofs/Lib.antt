@@ -36,16 +36,6 @@ pub mod SynthLine
 pub mod Effects
 pub mod Commands
 pub mod Bound
-pub mod Along
-pub mod Named
-pub mod Traced
-pub mod Shapes
-pub mod Layers
-pub mod Cycles
-pub mod Orders
-pub mod Rings
-pub mod Pictured
 pub mod PictureTexts
 pub mod Twice
 pub mod OutputSteps
-pub mod PicturePlanes

@@ -23,13 +23,13 @@ use Rattle.chain_model.specs.Outcome.{name_twice, no_layer}
 use Rattle.chain_model.specs.State.{State, StateLayer}
 use Rattle.chain_model.specs.Steps.{Stepped, Written, by_action, refused_write, step}
 use Rattle.chain_model.specs.Targets.{SourceLayers, layer_names, layers_at, selected}
-use Rattle.state_laws.specs.Shown.{View, LayerShows, StateShows, plane_of}
-use Rattle.state_laws.specs.Reasons.{why_of}
+use Rattle.layer_laws.specs.Shown.{View, LayerShows, StateShows, plane_of}
+use Rattle.layer_laws.specs.Reasons.{why_of}
 use Rattle.state_laws.specs.Steps.{StepRefuses}
-use Rattle.state_laws.specs.Targets.{target_numbers}
+use Rattle.layer_laws.specs.Targets.{target_numbers}
 use Rattle.state_laws.proofs.MergeStep.{targets_there}
-use Rattle.state_laws.proofs.Targeting.{targets_show}
-use Rattle.state_laws.proofs.Zipped.{zip_same}
+use Rattle.layer_laws.proofs.Targeting.{targets_show}
+use Rattle.layer_laws.proofs.Zipped.{zip_same}
 use Rattle.headline_laws.specs.PictureTexts.{OutputStepsShow}
 use Rattle.headline_laws.proofs.PictureTexts.{texts_show}
 use Rattle.headline_laws.proofs.Twice.{fewer_names}

@@ -17,10 +17,10 @@ use Rattle.run_texts.specs.Tracing.{IsTracedLayer}
 use Rattle.run_texts.specs.Written.{IsCsvText}
 use Rattle.chain_model.specs.Pictures.{Shows, in_arcs, text_in}
 use Rattle.chain_model.specs.State.{StateLayer}
-use Rattle.state_laws.specs.Shown.{View, IsView, IsSeenIn, LayerShows, plane_of}
+use Rattle.layer_laws.specs.Shown.{View, IsView, IsSeenIn, LayerShows, plane_of}
 use Rattle.headline_laws.specs.PictureTexts.{GeoTextsShow, TableTextsShow, TextIsOf, TextsExist, TextsShow, TopoTextsShow}
-use Rattle.headline_laws.proofs.Layers.{pictures_show, traced_shows}
-use Rattle.headline_laws.proofs.Pictured.{all_pictured}
+use Rattle.picture_laws.proofs.Layers.{pictures_show, traced_shows}
+use Rattle.picture_laws.proofs.Pictured.{all_pictured}
 
 -- an answer that is an error has no layer, and one that is a layer has no other
 stops : (r : Result Layer RefuseWhy) (why : RefuseWhy) (x : Layer) → r ≡ Err why → r ≡ Ok x → ⊥

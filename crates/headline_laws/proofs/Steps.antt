@@ -11,7 +11,7 @@ use Rattle.run_state.specs.Origins.{Base}
 use Rattle.run_state.specs.declared.state.Held.{Held}
 use Rattle.chain_model.specs.State.{State}
 use Rattle.chain_model.specs.Targets.{SourceLayers}
-use Rattle.state_laws.specs.Shown.{View, IsView, SourcesShow, StateShows, IsSeenIn}
+use Rattle.layer_laws.specs.Shown.{View, IsView, SourcesShow, StateShows, IsSeenIn}
 use Rattle.state_laws.specs.Steps.{StepShows}
 use Rattle.state_laws.proofs.MergeStep.{merge_steps_show}
 use Rattle.state_laws.proofs.PlaceSteps.{place_steps_show}

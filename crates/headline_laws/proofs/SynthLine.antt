@@ -20,9 +20,9 @@ use Rattle.run_synth.specs.Told.{IsLineOf, all_faces, filled}
 use Rattle.synth_model.specs.Cells.{cell, cells}
 use Rattle.synth_model.specs.Line.{line_text}
 use Rattle.chain_model.specs.Synth.{synth_line}
-use Rattle.state_laws.specs.Shown.{View, plane_of}
-use Rattle.state_laws.specs.Views.{IsViewOf}
-use Rattle.state_laws.proofs.Views.{views_exist}
+use Rattle.layer_laws.specs.Shown.{View, plane_of}
+use Rattle.layer_laws.specs.Views.{IsViewOf}
+use Rattle.layer_laws.proofs.Views.{views_exist}
 use Rattle.headline_laws.specs.Mosaics.{LineShows, LinesOfMosaicsShow}
 use Rattle.headline_laws.proofs.CellSets.{area_same, filled_same, has_point}
 use Rattle.headline_laws.proofs.Dense.{not_dense}

@@ -1,8 +1,8 @@
 -- There is a text of whatever an output writes.
 use Rattle.std.proofs.Common.{refl}
 use Rattle.chain_model.specs.Pictures.{text_in}
-use Rattle.state_laws.specs.Shown.{plane_of}
-use Rattle.headline_laws.proofs.Pictured.{all_pictured}
+use Rattle.layer_laws.specs.Shown.{plane_of}
+use Rattle.picture_laws.proofs.Pictured.{all_pictured}
 use Rattle.headline_laws.specs.Texts.{EachOutputHasAText}
 
 pub texts_there : EachOutputHasAText

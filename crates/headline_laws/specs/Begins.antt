@@ -13,7 +13,7 @@ use Rattle.run_chain.specs.Running.{RunsCommands}
 use Rattle.region_model.specs.Answers as model
 use Rattle.chain_model.specs.Running.{Begun, begins}
 use Rattle.chain_model.specs.Sources.{Readings}
-use Rattle.state_laws.specs.Shown.{View, IsSeenIn, IsView, SourcesShow, StateShows, plane_of}
+use Rattle.layer_laws.specs.Shown.{View, IsSeenIn, IsView, SourcesShow, StateShows, plane_of}
 use Rattle.headline_laws.specs.Ends.{IsAsked}
 
 -- what begins by the model is shown by these layers and by those of the sources that commands take, all over one plane

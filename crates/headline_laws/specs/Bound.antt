@@ -14,7 +14,7 @@ use Rattle.word_model.specs.Words.{words_say}
 use Rattle.chain_model.specs.Headline.{Binds}
 use Rattle.chain_model.specs.Running.{Begun, begins}
 use Rattle.chain_model.specs.Sources.{Readings}
-use Rattle.state_laws.specs.Shown.{View, IsView, StateShows, plane_of}
+use Rattle.layer_laws.specs.Shown.{View, IsView, StateShows, plane_of}
 use Rattle.headline_laws.specs.Outcomes.{outcome_as}
 use Rattle.headline_laws.specs.Refused.{outside_of}
 use Rattle.headline_laws.specs.Ends.{IsAsked}

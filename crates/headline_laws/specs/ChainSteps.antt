@@ -20,7 +20,7 @@ use Rattle.chain_model.specs.Pictures.{IsTextOf}
 use Rattle.chain_model.specs.State.{State}
 use Rattle.chain_model.specs.Steps.{Written, step}
 use Rattle.chain_model.specs.Targets.{SourceLayers}
-use Rattle.state_laws.specs.Shown.{View, StateShows, plane_of}
+use Rattle.layer_laws.specs.Shown.{View, StateShows, plane_of}
 use Rattle.state_laws.specs.Steps.{StepGives, StepRefuses, StepShows}
 
 -- ---- one command

@@ -13,7 +13,4 @@ pub mod Begins
 pub mod Mosaics
 pub mod ChainSteps
 pub mod Bound
-pub mod Drawn
-pub mod Pictured
 pub mod PictureTexts
-pub mod Planes

@@ -6,7 +6,7 @@ use Rattle.run_synth.specs.Told.{IsToldOf}
 use Rattle.region_model.specs.Answers as model
 use Rattle.chain_model.specs.Running.{checked_density}
 use Rattle.chain_model.specs.Synth.{IsSynthLine}
-use Rattle.state_laws.specs.Shown.{View, IsView, plane_of}
+use Rattle.layer_laws.specs.Shown.{View, IsView, plane_of}
 
 -- the line tells of the cells by regions and right answers of a plane of them
 pub record LineShows (seed n : ℕ) (line : Content) : Type 0 where

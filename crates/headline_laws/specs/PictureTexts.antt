@@ -17,7 +17,7 @@ use Rattle.chain_model.specs.Pictures.{IsTextOf}
 use Rattle.chain_model.specs.State.{State, StateLayer}
 use Rattle.chain_model.specs.Steps.{Written, step}
 use Rattle.chain_model.specs.Targets.{SourceLayers}
-use Rattle.state_laws.specs.Shown.{View, IsView, IsSeenIn, LayerShows, StateShows, plane_of}
+use Rattle.layer_laws.specs.Shown.{View, IsView, IsSeenIn, LayerShows, StateShows, plane_of}
 use Rattle.state_laws.specs.Steps.{StepRefuses}
 
 -- the text is one of whatever writes these layers of the state in the form

@@ -1,6 +1,6 @@
 -- The law of texts: there is one of whatever an output writes.
 use Rattle.run_state.specs.Origins.{Base}
-use Rattle.state_laws.specs.Shown.{View, IsView}
+use Rattle.layer_laws.specs.Shown.{View, IsView}
 use Rattle.headline_laws.specs.ChainSteps.{EachHasText}
 
 abbrev pub EachOutputHasAText : Type 0

@@ -13,17 +13,10 @@
 //!   a source, or at the drawing of all of them, ends there in the model too (`contents_end_chains`), and its
 //!   answer binds what is there afterwards (`chains_end_before_they_begin`). Where its commands begin, the layers
 //!   that they begin with show the state of the model (`chains_begin`).
-//! - **Pictures.** A run traces a set of faces as rings of arcs, and draws rings and paths of arcs as points. Arcs
-//!   that follow each other are drawn as the path that they are when they are joined (`paths_are_joined`), a set of
-//!   faces as polygons that fit the region that it follows, or as nothing where that is empty
-//!   (`regions_are_drawn`), and any shape as the one that it shows (`shapes_are_drawn`). So pictures show layers of
-//!   the state (`pictures_show`). Drawn as points, shapes name the arcs that they are traced as
-//!   (`drawn_shapes_name_arcs`), so layers in arcs are those of pictures (`traced_layers_show`).
-//! - **Texts.** Each region of a view has polygons that fit it (`each_region_is_pictured`), and each layer a
-//!   picture (`each_layer_is_pictured`). What an output says is a text of the state's layers (`geo_texts_show`,
-//!   `topo_texts_show`, `table_texts_show`, `texts_show`), and whatever is written has one (`texts_exist`). The
-//!   step of an output writes it to the same place, or is refused for the same reason (`output_steps_show`).
-//! - The plane of a view of what is laid out is that of the model for the drawing (`views_are_modelled`).
+//! - **Texts.** What an output says is a text of the state's layers (`geo_texts_show`, `topo_texts_show`,
+//!   `table_texts_show`, `texts_show`), by the laws of pictures in `picture_laws`, and whatever is written has one
+//!   (`texts_exist`). The step of an output writes it to the same place, or is refused for the same reason
+//!   (`output_steps_show`).
 //! - **Commands in order.** Where each shows that of the state, the answer of all of them binds what files and the
 //!   standard stream hold afterwards (`commands_are_bound`).
 //!
@@ -38,9 +31,6 @@ ghost use Rattle.headline_laws.specs.Outcomes.{StatusesAreOfTheModel};
 ghost use Rattle.headline_laws.specs.Begins.{ChainsBegin};
 ghost use Rattle.headline_laws.specs.Ends.{ChainsEndBeforeTheyBegin, ContentsEndChains, DenseMosaicsEndTheRun};
 ghost use Rattle.headline_laws.specs.Mosaics.{LinesOfMosaicsShow};
-ghost use Rattle.headline_laws.specs.Drawn.{DrawnShapesNameArcs, PathsAreJoined, PicturesShow, RegionsAreDrawn, ShapesAreDrawn, TracedLayersShow};
-ghost use Rattle.headline_laws.specs.Pictured.{EachLayerIsPictured, EachRegionIsPictured};
-ghost use Rattle.headline_laws.specs.Planes.{ViewsAreModelled};
 ghost use Rattle.headline_laws.specs.PictureTexts.{GeoTextsShow, OutputStepsShow, TableTextsShow, TextsExist, TextsShow, TopoTextsShow};
 ghost use Rattle.headline_laws.specs.Bound.{CommandsAreBound};
 ghost use Rattle.headline_laws.specs.Runs.{AnswersAreBound, RunsAreOfTheModel};
@@ -77,46 +67,6 @@ pub fn lines_of_mosaics_show()
     ensures { LinesOfMosaicsShow }
 {}
 
-/// Arcs that follow each other are drawn as the path that they are when they are joined.
-pub fn paths_are_joined()
-    ensures { PathsAreJoined }
-{}
-
-/// A set of faces is drawn as polygons that fit the region that it shows, or as nothing where the region is empty.
-pub fn regions_are_drawn()
-    ensures { RegionsAreDrawn }
-{}
-
-/// Any shape is drawn as the one that it shows.
-pub fn shapes_are_drawn()
-    ensures { ShapesAreDrawn }
-{}
-
-/// Drawn as points, a shape names the arcs that it is traced as.
-pub fn drawn_shapes_name_arcs()
-    ensures { DrawnShapesNameArcs }
-{}
-
-/// The picture of a layer shows the state's layer.
-pub fn pictures_show()
-    ensures { PicturesShow }
-{}
-
-/// A layer in arcs is that of a picture, which shows the state's layer.
-pub fn traced_layers_show()
-    ensures { TracedLayersShow }
-{}
-
-/// Each region of a view has polygons that fit it.
-pub fn each_region_is_pictured()
-    ensures { EachRegionIsPictured }
-{}
-
-/// Each layer of a state has a picture.
-pub fn each_layer_is_pictured()
-    ensures { EachLayerIsPictured }
-{}
-
 /// The text of one layer as GeoJSON is one of the state's layer.
 pub fn geo_texts_show()
     ensures { GeoTextsShow }
@@ -146,11 +96,6 @@ pub fn texts_exist()
 /// reason.
 pub fn output_steps_show()
     ensures { OutputStepsShow }
-{}
-
-/// The plane of a view of a drawing that is laid out is that of the model, with right answers.
-pub fn views_are_modelled()
-    ensures { ViewsAreModelled }
 {}
 
 /// Commands that begin in a run as in the model, each of which shows that of the state over whatever layers those

@@ -20,10 +20,10 @@ use Rattle.chain_model.specs.Outcome as state
 use Rattle.chain_model.specs.State.{StateLayer}
 use Rattle.chain_model.specs.Features.{Outputs}
 use Rattle.chain_model.specs.Steps.{each_layer, titled}
-use Rattle.state_laws.specs.Shown.{View, LayerShows}
-use Rattle.state_laws.specs.Placing.{target_outputs}
-use Rattle.state_laws.specs.Reasons.{MakesAlike, OutputsShow, RefusedAlike, why_of}
-use Rattle.state_laws.proofs.Taking.{shapes_in}
+use Rattle.layer_laws.specs.Shown.{View, LayerShows}
+use Rattle.layer_laws.specs.Placing.{target_outputs}
+use Rattle.layer_laws.specs.Reasons.{MakesAlike, OutputsShow, RefusedAlike, why_of}
+use Rattle.layer_laws.proofs.Taking.{shapes_in}
 
 -- ---- under a name
 

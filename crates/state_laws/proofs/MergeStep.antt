@@ -35,19 +35,19 @@ use Rattle.chain_model.specs.State.{State, StateLayer}
 use Rattle.chain_model.specs.Targets.{SourceLayers, layers_at, placed}
 use Rattle.chain_model.specs.Features.{merged_layers}
 use Rattle.chain_model.specs.Steps.{first_kind, step, titled}
-use Rattle.state_laws.specs.Shown.{View, LayerShows, StateShows, plane_of}
-use Rattle.state_laws.specs.Placing.{PutOutShows, target_outputs}
-use Rattle.state_laws.specs.Reasons.{RefusedAlike, why_of}
+use Rattle.layer_laws.specs.Shown.{View, LayerShows, StateShows, plane_of}
+use Rattle.layer_laws.specs.Placing.{PutOutShows, target_outputs}
+use Rattle.layer_laws.specs.Reasons.{RefusedAlike, why_of}
 use Rattle.state_laws.specs.Steps.{MergeStepsShow, StepGives, StepRefuses}
-use Rattle.state_laws.specs.Tables.{MergedShows}
-use Rattle.state_laws.specs.Targets.{target_numbers}
-use Rattle.state_laws.proofs.Counting.{joined_long, placed_long}
+use Rattle.layer_laws.specs.Tables.{MergedShows}
+use Rattle.layer_laws.specs.Targets.{target_numbers}
+use Rattle.layer_laws.proofs.Counting.{joined_long, placed_long}
 use Rattle.state_laws.proofs.EachLayer.{titled_shows}
-use Rattle.state_laws.proofs.Merging.{merged_layers_show, merged_of}
-use Rattle.state_laws.proofs.Placed.{counted, placed_outputs_show}
+use Rattle.layer_laws.proofs.Merging.{merged_layers_show, merged_of}
+use Rattle.layer_laws.proofs.Placed.{counted, placed_outputs_show}
 use Rattle.state_laws.proofs.Stepping.{First, changed_by, first_of_two, is_first, is_second, is_third, none_of_three, none_of_two, put, step_by, step_refused, stepped, target_absent, target_there, too_many_told, unfit, which}
-use Rattle.state_laws.proofs.Targeting.{targets_show}
-use Rattle.state_laws.proofs.Zipped.{zip_all, zip_long}
+use Rattle.layer_laws.proofs.Targeting.{targets_show}
+use Rattle.layer_laws.proofs.Zipped.{zip_all, zip_long}
 
 -- ---- layers of one kind
 

@@ -22,12 +22,12 @@ use Rattle.run_tables.specs.Matching.{AreMatchesOf, point_lists}
 use Rattle.run_checks.specs.Checks.{joins_with}
 use Rattle.chain_model.specs.State as state
 use Rattle.chain_model.specs.Features.{matches_of}
-use Rattle.state_laws.specs.Shown.{View, IsView, AreVertices, FacesShow, PointsShow, PolygonShows, ShapeShows, IsSeenIn}
+use Rattle.layer_laws.specs.Shown.{View, IsView, AreVertices, FacesShow, PointsShow, PolygonShows, ShapeShows, IsSeenIn}
 use Rattle.state_laws.specs.Places.{PlaceJoinsShow}
-use Rattle.state_laws.proofs.PolygonSets.{sets_show}
-use Rattle.state_laws.proofs.TableCommands.{tables_show}
-use Rattle.state_laws.proofs.Views.{view_faces}
-use Rattle.state_laws.proofs.Zipped.{zip_same, zip_weaker}
+use Rattle.layer_laws.proofs.PolygonSets.{sets_show}
+use Rattle.layer_laws.proofs.TableCommands.{tables_show}
+use Rattle.layer_laws.proofs.Views.{view_faces}
+use Rattle.layer_laws.proofs.Zipped.{zip_same, zip_weaker}
 
 module _ (v : View) (view : IsView v) (plane : Plane) (seen : IsSeenIn v plane) where
   abbrev SetTold : List ℕ → Region → Type 0

@@ -35,18 +35,18 @@ use Rattle.chain_model.specs.Targets.{SourceLayers, layers_at}
 use Rattle.chain_model.specs.Features.{Outputs, matches_of, place_join_layer}
 use Rattle.chain_model.specs.Steps as steps
 use Rattle.chain_model.specs.Steps.{each_layer, first_kind, other_kind, place_source, polygons_or_points, refused_kinds, refused_pairs, takes}
-use Rattle.state_laws.specs.Shown.{View, IsView, LayerShows, SourcesShow, StateShows, IsSeenIn}
-use Rattle.state_laws.specs.Reasons.{AnswerShows, MakesAlike, OutputsShow, RefusedAlike, why_of}
+use Rattle.layer_laws.specs.Shown.{View, IsView, LayerShows, SourcesShow, StateShows, IsSeenIn}
+use Rattle.layer_laws.specs.Reasons.{AnswerShows, MakesAlike, OutputsShow, RefusedAlike, why_of}
 use Rattle.state_laws.specs.Places.{PlaceStepsShow}
-use Rattle.state_laws.specs.Targets.{target_numbers}
+use Rattle.layer_laws.specs.Targets.{target_numbers}
 use Rattle.state_laws.proofs.EachLayer.{LayerAlike}
-use Rattle.state_laws.proofs.LayerKinds.{told_alike}
+use Rattle.layer_laws.proofs.LayerKinds.{told_alike}
 use Rattle.state_laws.proofs.MergeStep.{one_kind_told, targets_there}
 use Rattle.state_laws.proofs.PlaceJoins.{place_joins_show}
 use Rattle.state_laws.proofs.Stepping.{IsAlike, step_shows}
 use Rattle.state_laws.proofs.TableSteps.{one_table}
-use Rattle.state_laws.proofs.Targeting.{one_layer_shows, origins_show, targets_show}
-use Rattle.state_laws.proofs.Zipped.{zip_all, zip_weaker, zip_with_all}
+use Rattle.layer_laws.proofs.Targeting.{one_layer_shows, origins_show, targets_show}
+use Rattle.layer_laws.proofs.Zipped.{zip_all, zip_weaker, zip_with_all}
 
 -- ---- kinds
 

@@ -41,28 +41,28 @@ use Rattle.chain_model.specs.Targets as model
 use Rattle.chain_model.specs.Targets.{SourceLayers, layers_at}
 use Rattle.chain_model.specs.Features.{Outputs, clean_layer, clip_layer, dissolve_layer, dissolved_shape, erase_layer, explode_layer, in_layer, inner_lines_layer, islands_layer, just, line_layer, line_row, lines_layer, mosaic_layer}
 use Rattle.chain_model.specs.Steps.{each_layer, outputs_of, refusal_of, refused_source, source_region}
-use Rattle.state_laws.specs.Shown.{View, IsView, FacesShow, LayerShows, LineShows, NothingShows, PointsShow, ShapeShows, SourcesShow, StateShows, plane_of, IsSeenIn}
-use Rattle.state_laws.specs.Reasons.{AnswerShows, why_of}
-use Rattle.state_laws.specs.Polygons.{AreaShows, PolygonsShow}
+use Rattle.layer_laws.specs.Shown.{View, IsView, FacesShow, LayerShows, LineShows, NothingShows, PointsShow, ShapeShows, SourcesShow, StateShows, plane_of, IsSeenIn}
+use Rattle.layer_laws.specs.Reasons.{AnswerShows, why_of}
+use Rattle.layer_laws.specs.Polygons.{AreaShows, PolygonsShow}
 use Rattle.state_laws.specs.PolygonSteps.{AreOfPolygons, PolygonStepsShow, ShapeStepsShow, is_on_polygons, is_on_shapes}
-use Rattle.state_laws.specs.Targets.{target_numbers}
+use Rattle.layer_laws.specs.Targets.{target_numbers}
 use Rattle.state_laws.proofs.EachLayer.{LayerAlike, alike_unless, alike_with}
-use Rattle.state_laws.proofs.LayerKinds.{only_taken}
-use Rattle.state_laws.proofs.LineCuts.{clipped_lines_show, erased_lines_show}
-use Rattle.state_laws.proofs.LineGroups.{grouped_lines_show}
-use Rattle.state_laws.proofs.LinePieces.{exploded_lines_show}
+use Rattle.layer_laws.proofs.LayerKinds.{only_taken}
+use Rattle.layer_laws.proofs.LineCuts.{clipped_lines_show, erased_lines_show}
+use Rattle.layer_laws.proofs.LineGroups.{grouped_lines_show}
+use Rattle.layer_laws.proofs.LinePieces.{exploded_lines_show}
 use Rattle.state_laws.proofs.MergeStep.{one_kind_told}
-use Rattle.state_laws.proofs.Outlines.{inner_lines_show, outlines_are_shown}
-use Rattle.state_laws.proofs.PolygonCleaning.{cleaned_polygons_show}
-use Rattle.state_laws.proofs.PolygonCuts.{areas_show, clipped_polygons_show, erased_polygons_show, refused_by_kind}
-use Rattle.state_laws.proofs.PolygonGroups.{dissolved_polygons_show}
-use Rattle.state_laws.proofs.PolygonIslands.{islands_show}
-use Rattle.state_laws.proofs.PolygonParts.{exploded_polygons_show, mosaics_show}
-use Rattle.state_laws.proofs.PolygonSets.{joined_show}
+use Rattle.layer_laws.proofs.Outlines.{inner_lines_show, outlines_are_shown}
+use Rattle.layer_laws.proofs.PolygonCleaning.{cleaned_polygons_show}
+use Rattle.layer_laws.proofs.PolygonCuts.{areas_show, clipped_polygons_show, erased_polygons_show, refused_by_kind}
+use Rattle.layer_laws.proofs.PolygonGroups.{dissolved_polygons_show}
+use Rattle.layer_laws.proofs.PolygonIslands.{islands_show}
+use Rattle.layer_laws.proofs.PolygonParts.{exploded_polygons_show, mosaics_show}
+use Rattle.layer_laws.proofs.PolygonSets.{joined_show}
 use Rattle.state_laws.proofs.Stepping.{IsAlike, first_alike, step_shows, unfit}
-use Rattle.state_laws.proofs.Targeting.{one_layer_shows, origins_show, targets_show}
+use Rattle.layer_laws.proofs.Targeting.{one_layer_shows, origins_show, targets_show}
 use Rattle.state_laws.proofs.UnionStep.{polygon_is}
-use Rattle.state_laws.proofs.Zipped.{zip_with_all, zip_weaker}
+use Rattle.layer_laws.proofs.Zipped.{zip_with_all, zip_weaker}
 
 -- ---- an area that is refused has no faces
 

@@ -25,16 +25,16 @@ use Rattle.chain_model.specs.State.{State, StateLayer}
 use Rattle.chain_model.specs.Targets.{SourceLayers, layers_at, placed, selected, with_outputs}
 use Rattle.chain_model.specs.Features.{Outputs}
 use Rattle.chain_model.specs.Steps.{Stepped, by_action, changed, each_layer, outputs_of, refused_beside, refused_kinds, refused_source, step, titled}
-use Rattle.state_laws.specs.Shown.{View, LayerShows, StateShows, plane_of}
-use Rattle.state_laws.specs.Placing.{target_outputs}
-use Rattle.state_laws.specs.Reasons.{why_of}
+use Rattle.layer_laws.specs.Shown.{View, LayerShows, StateShows, plane_of}
+use Rattle.layer_laws.specs.Placing.{target_outputs}
+use Rattle.layer_laws.specs.Reasons.{why_of}
 use Rattle.state_laws.specs.Steps.{StepGives, StepRefuses, StepShows}
-use Rattle.state_laws.specs.Targets.{target_numbers}
-use Rattle.state_laws.proofs.Counting.{joined_long, placed_long}
+use Rattle.layer_laws.specs.Targets.{target_numbers}
+use Rattle.layer_laws.proofs.Counting.{joined_long, placed_long}
 use Rattle.state_laws.proofs.EachLayer.{LayerAlike, MakesTitled, first_stops, none_stops, others_put, outputs_show, targets_put}
-use Rattle.state_laws.proofs.Placed.{counted, placed_outputs_show}
-use Rattle.state_laws.proofs.Targeting.{targets_show}
-use Rattle.state_laws.proofs.Zipped.{zip_weaker}
+use Rattle.layer_laws.proofs.Placed.{counted, placed_outputs_show}
+use Rattle.layer_laws.proofs.Targeting.{targets_show}
+use Rattle.layer_laws.proofs.Zipped.{zip_weaker}
 
 -- ---- the first of two refusals, and of three
 

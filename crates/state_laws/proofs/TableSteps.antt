@@ -38,17 +38,17 @@ use Rattle.chain_model.specs.Features as features
 use Rattle.chain_model.specs.Features.{Outputs, assign_layer, filter_fields_layer, filter_layer, join_layer, rename_fields_layer, sort_layer, split_layer, split_piece, uniq_layer, with_features, with_table}
 use Rattle.chain_model.specs.Steps.{each_layer, outputs_of, refused_source}
 use Rattle.chain_model.specs.Steps as steps
-use Rattle.state_laws.specs.Shown.{View, IsView, LayerShows, SourcesShow, StateShows, plane_of}
-use Rattle.state_laws.specs.Reasons.{AnswerShows, MakesAlike, why_of}
+use Rattle.layer_laws.specs.Shown.{View, IsView, LayerShows, SourcesShow, StateShows, plane_of}
+use Rattle.layer_laws.specs.Reasons.{AnswerShows, MakesAlike, why_of}
 use Rattle.state_laws.specs.Steps.{TableStepsShow, is_on_tables}
-use Rattle.state_laws.specs.Targets.{target_numbers}
+use Rattle.layer_laws.specs.Targets.{target_numbers}
 use Rattle.state_laws.proofs.EachLayer.{LayerAlike, alike_with}
-use Rattle.state_laws.proofs.LayerKinds.{only_taken}
-use Rattle.state_laws.proofs.Splitting.{pieces_are_shown, pieces_of, split_of}
+use Rattle.layer_laws.proofs.LayerKinds.{only_taken}
+use Rattle.layer_laws.proofs.Splitting.{pieces_are_shown, pieces_of, split_of}
 use Rattle.state_laws.proofs.Stepping.{IsAlike, first_alike, step_shows, unfit}
-use Rattle.state_laws.proofs.TableCommands.{assigned_fields_show, early_rows_show, fields_show, filtered_rows_show, joins_show, new_names_show, passed, passed_of, sorted_rows_show}
-use Rattle.state_laws.proofs.Targeting.{one_layer_shows, origins_show, targets_show}
-use Rattle.state_laws.proofs.Zipped.{zip_weaker}
+use Rattle.layer_laws.proofs.TableCommands.{assigned_fields_show, early_rows_show, fields_show, filtered_rows_show, joins_show, new_names_show, passed, passed_of, sorted_rows_show}
+use Rattle.layer_laws.proofs.Targeting.{one_layer_shows, origins_show, targets_show}
+use Rattle.layer_laws.proofs.Zipped.{zip_weaker}
 
 -- ---- what a state makes of a layer
 

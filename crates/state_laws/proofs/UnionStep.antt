@@ -27,22 +27,22 @@ use Rattle.chain_model.specs.State.{State, StateLayer}
 use Rattle.chain_model.specs.Targets.{SourceLayers, layers_at, placed}
 use Rattle.chain_model.specs.Features.{united_layer, united_layers}
 use Rattle.chain_model.specs.Steps.{is_polygon, step, titled}
-use Rattle.state_laws.specs.Shown.{View, IsView, IsSeenIn, LayerShows, StateShows, plane_of}
-use Rattle.state_laws.specs.Placing.{PutOutShows, target_outputs}
-use Rattle.state_laws.specs.Polygons.{PolygonsShow}
+use Rattle.layer_laws.specs.Shown.{View, IsView, IsSeenIn, LayerShows, StateShows, plane_of}
+use Rattle.layer_laws.specs.Placing.{PutOutShows, target_outputs}
+use Rattle.layer_laws.specs.Polygons.{PolygonsShow}
 use Rattle.state_laws.specs.PolygonSteps.{UnionStepsShow}
-use Rattle.state_laws.specs.Reasons.{RefusedAlike, why_of}
+use Rattle.layer_laws.specs.Reasons.{RefusedAlike, why_of}
 use Rattle.state_laws.specs.Steps.{StepGives, StepRefuses}
-use Rattle.state_laws.specs.Tables.{MergedShows}
-use Rattle.state_laws.specs.Targets.{target_numbers}
-use Rattle.state_laws.proofs.Counting.{joined_long, placed_long}
+use Rattle.layer_laws.specs.Tables.{MergedShows}
+use Rattle.layer_laws.specs.Targets.{target_numbers}
+use Rattle.layer_laws.proofs.Counting.{joined_long, placed_long}
 use Rattle.state_laws.proofs.EachLayer.{titled_shows}
 use Rattle.state_laws.proofs.MergeStep.{Longs, first_joined, first_outputs, mixture_told, nothing_joined, nothing_shows, nothings, one_kind_told, targets_there}
-use Rattle.state_laws.proofs.Placed.{counted, placed_outputs_show}
-use Rattle.state_laws.proofs.PolygonUnion.{lone_layers_are_refused, united_layers_show}
+use Rattle.layer_laws.proofs.Placed.{counted, placed_outputs_show}
+use Rattle.layer_laws.proofs.PolygonUnion.{lone_layers_are_refused, united_layers_show}
 use Rattle.state_laws.proofs.Stepping.{First, changed_by, first_of_two, is_first, is_second, is_third, none_of_three, none_of_two, put, step_by, step_refused, stepped, target_absent, target_there, too_many_told, unfit, which}
-use Rattle.state_laws.proofs.Targeting.{targets_show}
-use Rattle.state_laws.proofs.Zipped.{zip_all, zip_long}
+use Rattle.layer_laws.proofs.Targeting.{targets_show}
+use Rattle.layer_laws.proofs.Zipped.{zip_all, zip_long}
 
 -- ---- layers of polygons
 

@@ -1,13 +1,3 @@
-pub mod Placing
-pub mod Reasons
-pub mod Shown
 pub mod Steps
-pub mod Tables
-pub mod Taken
-pub mod Targets
-pub mod Views
-pub mod Beginnings
-pub mod Lines
 pub mod Places
-pub mod Polygons
 pub mod PolygonSteps

@@ -18,8 +18,8 @@ use Rattle.run_tables.specs.Made.{GivesTable, One}
 use Rattle.chain_model.specs.State.{State, StateLayer}
 use Rattle.chain_model.specs.Features.{place_join_layer}
 use Rattle.chain_model.specs.Targets.{SourceLayers}
-use Rattle.state_laws.specs.Shown.{View, IsView, LayerShows, SourcesShow, StateShows, IsSeenIn}
-use Rattle.state_laws.specs.Reasons.{MakesAlike}
+use Rattle.layer_laws.specs.Shown.{View, IsView, LayerShows, SourcesShow, StateShows, IsSeenIn}
+use Rattle.layer_laws.specs.Reasons.{MakesAlike}
 use Rattle.state_laws.specs.Steps.{StepShows}
 
 -- ---- layers

@@ -15,7 +15,7 @@ use Rattle.run_steps.specs.Commands.{ChangesTogether}
 use Rattle.run_steps.specs.Refusals.{refusal_together}
 use Rattle.chain_model.specs.State.{State}
 use Rattle.chain_model.specs.Targets.{SourceLayers}
-use Rattle.state_laws.specs.Shown.{View, IsView, SourcesShow, StateShows, IsSeenIn}
+use Rattle.layer_laws.specs.Shown.{View, IsView, SourcesShow, StateShows, IsSeenIn}
 use Rattle.state_laws.specs.Steps.{StepGives, StepRefuses, StepShows}
 
 -- the command takes polygons

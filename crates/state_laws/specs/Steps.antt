@@ -13,8 +13,8 @@ use Rattle.run_steps.specs.Refusals.{RefusesEach, refusal_together}
 use Rattle.chain_model.specs.State.{State}
 use Rattle.chain_model.specs.Steps.{step}
 use Rattle.chain_model.specs.Targets.{SourceLayers}
-use Rattle.state_laws.specs.Shown.{View, IsView, SourcesShow, StateShows, plane_of}
-use Rattle.state_laws.specs.Reasons.{why_of}
+use Rattle.layer_laws.specs.Shown.{View, IsView, SourcesShow, StateShows, plane_of}
+use Rattle.layer_laws.specs.Reasons.{why_of}
 
 -- the state's step gives a state that these layers show
 abbrev pub StepGives : View → SourceLayers → State → Command → List Held → Type 0

@@ -1,196 +1,23 @@
-//! Laws of states: the layers that a run holds show the layers of a state, and what each command makes of them shows
-//! what its definition makes of the state.
+//! Laws of steps: each command of a run makes of its layers, which show those of a state, what shows the step of that
+//! state.
 //!
-//! A run holds sets of faces, signed arcs and points; a state has regions, paths and points. `specs/Shown.antt` says
-//! when the ones show the others: rows, names and kinds are the same, sets of faces follow regions, arcs run along
-//! paths. `specs/Reasons.antt` says when a refusal of a run is that of the state.
+//! When layers show those of a state, and that what one command makes of one does, say the laws of `layer_laws`. Here a
+//! command takes its targets, works on each or on all of them together, and is refused as in the state; `specs/Steps.antt`
+//! says when a step shows that of the state.
 //!
-//! - What is laid out has a view, in which the sets that features and boxes hold show them (`views_exist`). What a run
-//!   draws is the drawing of the state (`drawings_are_one`), and what begins over it shows what begins in the state
-//!   (`beginnings_show`).
-//! - Features that are taken by their numbers show those that are taken of the state's layer (`taken_features_show`). A
-//!   shape is empty exactly if what it shows is (`emptiness_shows`), so the same features are left out
-//!   (`left_features_show`).
-//! - Commands on rows and columns: `fields_show`, `new_names_show`, `joins_show`, `assigned_fields_show`,
-//!   `sorted_rows_show`, `early_rows_show`, `filtered_rows_show`, `pieces_show` and `merged_layers_show`.
-//! - Lines and points that are clipped or erased show what the region leaves of the state's (`clipped_lines_show`,
-//!   `erased_lines_show`), and so do their paths and points one by one (`exploded_lines_show`) and in groups
-//!   (`grouped_lines_show`). Lines between polygons, and all lines around them with their types and ranks, are those of
-//!   the state (`inner_lines_show`, `outlines_show`), and so are joins by place (`place_joins_show`).
-//! - A command works on the same layers (`targets_show`), takes the same ones from elsewhere (`origins_show`,
-//!   `one_layer_shows`), and its outputs go to the same places (`placed_outputs_show`). The first has all layers for
-//!   its target (`first_layers_show`).
-//! - So the step of a command on the tables of its layers shows that of the state (`table_steps_show`), and so does
-//!   that of one that merges them (`merge_steps_show`).
-//! - Commands on polygons: a run's plane is seen in a view (`planes_are_seen`), and what a command cuts by shows the
-//!   region of the state (`areas_show`). So do `clipped_polygons_show`, `erased_polygons_show`,
-//!   `dissolved_polygons_show`, `cleaned_polygons_show`, `islands_show`, `mosaics_show`, `exploded_polygons_show` and
-//!   `united_layers_show`; a layer that is alone is not united (`lone_layers_are_refused`). The step of a command on
-//!   layers of polygons shows that of the state (`polygon_steps_show`), and so does that of one that unites them
-//!   (`union_steps_show`), that of clip, erase, dissolve, clean, explode, mosaic, innerlines, lines and islands that
-//!   are dropped, whatever the kinds of the layers are (`shape_steps_show`), and that of a join by place
-//!   (`place_steps_show`).
+//! - The step of a command on the tables of its layers shows that of the state (`table_steps_show`), and so does that
+//!   of one that merges them (`merge_steps_show`).
+//! - Joins by place show those of the state (`place_joins_show`), and so do their steps (`place_steps_show`).
+//! - The step of a command on layers of polygons shows that of the state (`polygon_steps_show`), and so does that of
+//!   one that unites them (`union_steps_show`), and that of clip, erase, dissolve, clean, explode, mosaic, innerlines,
+//!   lines and islands that are dropped, whatever the kinds of the layers are (`shape_steps_show`).
 //!
 //! Each function carries one law in its contract, and does nothing.
 #![tactic(auto)]
 
-ghost use Rattle.state_laws.specs.Beginnings.{BeginningsShow, DrawingsAreOne};
-ghost use Rattle.state_laws.specs.Lines.{ClippedLinesShow, ErasedLinesShow, ExplodedLinesShow, GroupedLinesShow, InnerLinesShow, OutlinesShow};
 ghost use Rattle.state_laws.specs.Places.{PlaceJoinsShow, PlaceStepsShow};
-ghost use Rattle.state_laws.specs.Placing.{PlacedOutputsShow};
 ghost use Rattle.state_laws.specs.PolygonSteps.{PolygonStepsShow, ShapeStepsShow, UnionStepsShow};
-ghost use Rattle.state_laws.specs.Polygons.{AreasShow, CleanedPolygonsShow, ClippedPolygonsShow, DissolvedPolygonsShow, ErasedPolygonsShow, ExplodedPolygonsShow, IslandsShow, LoneLayersAreRefused, MosaicsShow, PlanesAreSeen, UnitedLayersShow};
 ghost use Rattle.state_laws.specs.Steps.{MergeStepsShow, TableStepsShow};
-ghost use Rattle.state_laws.specs.Tables.{
-  AssignedFieldsShow,
-  EarlyRowsShow,
-  FieldsShow,
-  FilteredRowsShow,
-  JoinsShow,
-  MergedLayersShow,
-  NewNamesShow,
-  PiecesShow,
-  SortedRowsShow,
-};
-ghost use Rattle.state_laws.specs.Taken.{EmptinessShows, LeftFeaturesShow, TakenFeaturesShow};
-ghost use Rattle.state_laws.specs.Targets.{FirstLayersShow, OneLayerShows, OriginsShow, TargetsShow};
-ghost use Rattle.state_laws.specs.Views.{ViewsExist};
-
-/// A snapped drawing that is laid out has a view: its places have labels by their faces, each question about regions
-/// has a right answer, and the faces that features and boxes hold follow them.
-pub fn views_exist()
-    ensures { ViewsExist }
-{}
-
-/// What a run draws is the drawing of the state.
-pub fn drawings_are_one()
-    ensures { DrawingsAreOne }
-{}
-
-/// What begins over a drawing has a view, in which it shows what begins in the state.
-pub fn beginnings_show()
-    ensures { BeginningsShow }
-{}
-
-/// Features that are taken by their numbers show those that are taken of the state's layer.
-pub fn taken_features_show()
-    ensures { TakenFeaturesShow }
-{}
-
-/// A shape is empty exactly if the shape that it shows is.
-pub fn emptiness_shows()
-    ensures { EmptinessShows }
-{}
-
-/// A layer with other shapes, without the empty ones, shows what is left of the state's layer.
-pub fn left_features_show()
-    ensures { LeftFeaturesShow }
-{}
-
-/// Kept columns show those that are kept of the state's table.
-pub fn fields_show()
-    ensures { FieldsShow }
-{}
-
-/// Columns under other names show those of the state.
-pub fn new_names_show()
-    ensures { NewNamesShow }
-{}
-
-/// A join by keys shows that of the state's layers.
-pub fn joins_show()
-    ensures { JoinsShow }
-{}
-
-/// Fields that are assigned show those that are assigned in the state's layer.
-pub fn assigned_fields_show()
-    ensures { AssignedFieldsShow }
-{}
-
-/// Features in the order of their keys show those of the state.
-pub fn sorted_rows_show()
-    ensures { SortedRowsShow }
-{}
-
-/// Features whose key few before them have show those of the state.
-pub fn early_rows_show()
-    ensures { EarlyRowsShow }
-{}
-
-/// Features that pass a filter show those that pass it in the state.
-pub fn filtered_rows_show()
-    ensures { FilteredRowsShow }
-{}
-
-/// The pieces of a layer show those of the state's layer.
-pub fn pieces_show()
-    ensures { PiecesShow }
-{}
-
-/// Layers that are merged show the state's layers merged.
-pub fn merged_layers_show()
-    ensures { MergedLayersShow }
-{}
-
-/// What a region leaves of lines and points shows what it leaves of the state's.
-pub fn clipped_lines_show()
-    ensures { ClippedLinesShow }
-{}
-
-/// So does what it leaves of them outside of it.
-pub fn erased_lines_show()
-    ensures { ErasedLinesShow }
-{}
-
-/// Each path and each point by itself shows those of the state.
-pub fn exploded_lines_show()
-    ensures { ExplodedLinesShow }
-{}
-
-/// Lines and points that are grouped, where they may be, show the groups of the state.
-pub fn grouped_lines_show()
-    ensures { GroupedLinesShow }
-{}
-
-/// Lines between polygons show those of the state.
-pub fn inner_lines_show()
-    ensures { InnerLinesShow }
-{}
-
-/// So do lines around polygons, with their types and ranks.
-pub fn outlines_show()
-    ensures { OutlinesShow }
-{}
-
-/// A join by place of points with polygons, or of polygons with points, shows that of the state's layers.
-pub fn place_joins_show()
-    ensures { PlaceJoinsShow }
-{}
-
-/// A target has the layers that it selects in the state, or both refuse it.
-pub fn targets_show()
-    ensures { TargetsShow }
-{}
-
-/// The layers that a command takes from elsewhere show those that it takes in the state.
-pub fn origins_show()
-    ensures { OriginsShow }
-{}
-
-/// One layer among several is found, or refused, as in the state.
-pub fn one_layer_shows()
-    ensures { OneLayerShows }
-{}
-
-/// The layers with which the commands begin show the first state.
-pub fn first_layers_show()
-    ensures { FirstLayersShow }
-{}
-
-/// The outputs of a command go to the places to which they go in the state.
-pub fn placed_outputs_show()
-    ensures { PlacedOutputsShow }
-{}
 
 /// The step of a command on the tables of its layers shows that of the state.
 pub fn table_steps_show()
@@ -202,59 +29,9 @@ pub fn merge_steps_show()
     ensures { MergeStepsShow }
 {}
 
-/// The plane of a run is seen in a view with the same arcs and faces, where the faces of its boxes show them.
-pub fn planes_are_seen()
-    ensures { PlanesAreSeen }
-{}
-
-/// What a command cuts by shows the region of the state, or both refuse it.
-pub fn areas_show()
-    ensures { AreasShow }
-{}
-
-/// What a clip leaves of polygons shows what it leaves of the state's regions.
-pub fn clipped_polygons_show()
-    ensures { ClippedPolygonsShow }
-{}
-
-/// What an erasure leaves of polygons shows what it leaves of the state's regions.
-pub fn erased_polygons_show()
-    ensures { ErasedPolygonsShow }
-{}
-
-/// Dissolved polygons show those of the state, or both are refused.
-pub fn dissolved_polygons_show()
-    ensures { DissolvedPolygonsShow }
-{}
-
-/// Polygons that are cleaned, with the gaps that go to them, show those of the state.
-pub fn cleaned_polygons_show()
-    ensures { CleanedPolygonsShow }
-{}
-
-/// Polygons without their islands show those of the state, with or without the features that are left empty.
-pub fn islands_show()
-    ensures { IslandsShow }
-{}
-
-/// A mosaic shows that of the state, with the same numbers.
-pub fn mosaics_show()
-    ensures { MosaicsShow }
-{}
-
-/// Polygons in pieces show those of the state.
-pub fn exploded_polygons_show()
-    ensures { ExplodedPolygonsShow }
-{}
-
-/// Layers that are united show the state's layers united.
-pub fn united_layers_show()
-    ensures { UnitedLayersShow }
-{}
-
-/// One layer alone is not united, as in the state.
-pub fn lone_layers_are_refused()
-    ensures { LoneLayersAreRefused }
+/// A join by place of points with polygons, or of polygons with points, shows that of the state's layers.
+pub fn place_joins_show()
+    ensures { PlaceJoinsShow }
 {}
 
 /// The step of a command on layers of polygons shows that of the state.

@@ -1,6 +1,0 @@
--- The law is proved in `proofs/Along.antt`.
-use Rattle.headline_laws.proofs.Along.{along_joined}
-use Rattle.headline_laws.proofs.paths_are_joined.Goals as goal
-
-pub returns : goal.returns
-returns c = along_joined

@@ -1,6 +1,0 @@
--- The law is proved in `proofs/Planes.antt`.
-use Rattle.headline_laws.proofs.PicturePlanes.{views_are_modelled}
-use Rattle.headline_laws.proofs.views_are_modelled.Goals as goal
-
-pub returns : goal.returns
-returns c = views_are_modelled

@@ -1,0 +1,6 @@
+-- The law is proved in `proofs/Empty.antt`.
+use Rattle.layer_laws.proofs.Empty.{emptiness_shows}
+use Rattle.layer_laws.proofs.emptiness_shows.Goals as goal
+
+pub returns : goal.returns
+returns c = emptiness_shows

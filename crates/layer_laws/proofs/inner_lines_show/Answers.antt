@@ -1,0 +1,6 @@
+-- The law is proved in `proofs/Outlines.antt`.
+use Rattle.layer_laws.proofs.Outlines.{inner_lines_show}
+use Rattle.layer_laws.proofs.inner_lines_show.Goals as goal
+
+pub returns : goal.returns
+returns c = inner_lines_show

@@ -1,0 +1,6 @@
+-- The law is proved in `proofs/Targeting.antt`.
+use Rattle.layer_laws.proofs.Targeting.{one_layer_shows}
+use Rattle.layer_laws.proofs.one_layer_shows.Goals as goal
+
+pub returns : goal.returns
+returns c = one_layer_shows

@@ -1,0 +1,10 @@
+pub mod Placing
+pub mod Reasons
+pub mod Shown
+pub mod Tables
+pub mod Taken
+pub mod Targets
+pub mod Views
+pub mod Beginnings
+pub mod Lines
+pub mod Polygons

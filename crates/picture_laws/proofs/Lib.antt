@@ -1,0 +1,10 @@
+pub mod Along
+pub mod Named
+pub mod Traced
+pub mod Shapes
+pub mod Layers
+pub mod Cycles
+pub mod Orders
+pub mod Rings
+pub mod Pictured
+pub mod PicturePlanes

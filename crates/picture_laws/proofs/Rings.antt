@@ -1,0 +1,288 @@
+-- Each set of faces has polygons as a trace answers them.
+use Rattle.std.proofs.Common.{◌≡◌, ◌⊎◌, inl, inr, refl, sym, ap, ◌∙◌, subst, arith, ℕ, zero, suc, ◌+◌, ◌*◌, ◌<◌, Bool, true, false, cond, not, ◌&&◌, List, [], ◌∷◌, map, length, get_or, filter, nat_eq, nat_lt, All, AllPairs, Contains}
+use Rattle.std.specs.List.{sum_by}
+use Rattle.std.specs.List.Sorted.{IsStrictlyIncreasing}
+use Rattle.std.proofs.lemmas.Bool.{and_parts, cases_eq, cases_lt, eq-eqb, eqb-true, false_from_ne_true, le-ltb, lt-ltb, ltb-true, ne_eqb}
+use Rattle.std.proofs.lemmas.List.{get_or-map, length-map}
+use Rattle.std.proofs.lemmas.List.Elements.{All-contains, All-map}
+use Rattle.std.proofs.lemmas.List.Sums.{sum_by-append, sum_by-cons}
+use Rattle.lists.specs.Lists.{has}
+use Rattle.plane_model.specs.Points.{GridPoint, Path, same_point}
+use Rattle.plane_model.specs.Drawing.{Drawing}
+use Rattle.plane_model.specs.Arcs.{SignedArc, backward, forward}
+use Rattle.plane_model.specs.Snapped.{links_of, snapped}
+use Rattle.plane_faces.specs.Places.{Place}
+use Rattle.arc_table.specs.Around.{start_of}
+use Rattle.face_walk.specs.Places.{FaceTable, HasArc, IsBuiltOf, face_left_of, place_of, signed_below}
+use Rattle.face_sets.specs.Boundary.{boundary, face_right_of, is_outward}
+use Rattle.face_sets.specs.Joined.{AreParts}
+use Rattle.ring_trace.specs.Pairing.{stop_of}
+use Rattle.face_sets.specs.Sets.{IsSetOf}
+use Rattle.ring_trace.specs.Traced.{BeginsWithLeast, HasPolygonsOfParts, UsesBoundary, bounded, is_of_boundary, once_if, same_arc, times, times_round}
+use Rattle.ring_trace.specs.Turns.{MayStandBefore}
+use Rattle.ring_trace.specs.Ways.{IsSimpleRing}
+use Rattle.ring_trace.proofs.BalanceLemmas.{balanced_faces, sum_same}
+use Rattle.face_sets.proofs.BoundaryLemmas.{Contains_has, has_Contains}
+use Rattle.face_sets.proofs.JoinedLemmas.{joined_over}
+use Rattle.ring_trace.proofs.UsedLemmas.{same_place, sum_by-map}
+use Rattle.part_laws.proofs.BoundedLaws.{parts_have_boundaries}
+use Rattle.region_laws.specs.Followed.{IsWalked}
+use Rattle.region_laws.proofs.PartsExist.{parts_exist}
+use Rattle.region_laws.proofs.Prints.{faces_of_links}
+use Rattle.picture_laws.proofs.Cycles.{AreEven}
+use Rattle.picture_laws.proofs.Orders.{IsOfArcs, polygon_exists}
+
+-- ---- sums
+
+sum_filter : {A : Type 0} (g : A → ℕ) (q : A → Bool) (xs : List A) → sum_by g (filter q xs) ≡ sum_by (λ x. cond (q x) (g x) 0) xs
+sum_filter g q [] = refl
+sum_filter g q (x ∷ xs) = go (q x) refl (sum_filter g q xs)
+  where
+    go : (b : Bool) → q x ≡ b → sum_by g (filter q xs) ≡ sum_by (λ y. cond (q y) (g y) 0) xs → sum_by g (filter q (x ∷ xs)) ≡ sum_by (λ y. cond (q y) (g y) 0) (x ∷ xs)
+    go true e r =
+        let a : sum_by g (filter q (x ∷ xs)) ≡ sum_by g (x ∷ filter q xs) = ap (λ (b : Bool). sum_by g (cond b (x ∷ filter q xs) (filter q xs))) e in
+        let b = sum_by-cons g x (filter q xs) in
+        let c = sum_by-cons (λ (y : _). cond (q y) (g y) 0) x xs in
+        let d : cond (q x) (g x) 0 ≡ g x = ap (λ (b : Bool). cond b (g x) 0) e in
+        omega arith
+    go false e r =
+        let a : sum_by g (filter q (x ∷ xs)) ≡ sum_by g (filter q xs) = ap (λ (b : Bool). sum_by g (cond b (x ∷ filter q xs) (filter q xs))) e in
+        let c = sum_by-cons (λ (y : _). cond (q y) (g y) 0) x xs in
+        let d : cond (q x) (g x) 0 ≡ 0 = ap (λ (b : Bool). cond b (g x) 0) e in
+        omega arith
+
+sum_zero : {A : Type 0} (xs : List A) → sum_by (λ (x : A). 0) xs ≡ 0
+sum_zero [] = refl
+sum_zero {A} (x ∷ xs) = let c = sum_by-cons (λ (y : A). 0) x xs in let r = sum_zero xs in omega arith
+
+-- one element alone adds
+sum_alone : {A : Type 0} (f : A → ℕ) (d : A) (xs : List A) (j v : ℕ) → j < length xs → f (get_or xs j d) ≡ v → ((i : ℕ) → i < length xs → (i ≡ j → ⊥) → f (get_or xs i d) ≡ 0) → sum_by f xs ≡ v
+sum_alone f d [] j v l one none = absurd (omega arith)
+sum_alone f d (x ∷ xs) zero v l one none =
+    let m = sum_by-cons f x xs in
+    let r = sum_none f d xs (λ i k. none (suc i) (omega arith) (λ e. omega arith)) in
+    omega arith
+  where
+    sum_none : {A : Type 0} (f : A → ℕ) (d : A) (xs : List A) → ((i : ℕ) → i < length xs → f (get_or xs i d) ≡ 0) → sum_by f xs ≡ 0
+    sum_none f d [] none = refl
+    sum_none f d (x ∷ xs) none =
+        let m = sum_by-cons f x xs in
+        let e = none 0 (omega arith) in
+        let r = sum_none f d xs (λ i k. none (suc i) (omega arith)) in
+        omega arith
+sum_alone f d (x ∷ xs) (suc j) v l one none =
+    let m = sum_by-cons f x xs in
+    let e = none 0 (omega arith) (λ e. omega arith) in
+    let r = sum_alone f d xs j v (omega arith) one (λ i k ne. none (suc i) (omega arith) (λ e. ne (omega arith))) in
+    omega arith
+
+sum_nothing : {A : Type 0} (f : A → ℕ) (d : A) (xs : List A) → ((i : ℕ) → i < length xs → f (get_or xs i d) ≡ 0) → sum_by f xs ≡ 0
+sum_nothing f d [] none = refl
+sum_nothing f d (x ∷ xs) none =
+    let m = sum_by-cons f x xs in
+    let e = none 0 (omega arith) in
+    let r = sum_nothing f d xs (λ i k. none (suc i) (omega arith)) in
+    omega arith
+
+-- ---- how often arcs are in a boundary
+
+times_filter : (a : SignedArc) (q : SignedArc → Bool) (xs : List SignedArc) → times a (filter q xs) ≡ cond (q a) (times a xs) 0
+times_filter a q xs =
+    sum_filter (λ (y : SignedArc). once_if (same_arc a y)) q xs
+    ∙ sum_same (λ (y : SignedArc). cond (q y) (once_if (same_arc a y)) 0) (λ (y : SignedArc). cond (q a) (once_if (same_arc a y)) 0) xs (λ y. one y (same_arc a y) refl)
+    ∙ all (q a)
+  where
+    neither : (b c : Bool) → cond b (once_if false) 0 ≡ cond c (once_if false) 0
+    neither true true = refl
+    neither true false = refl
+    neither false true = refl
+    neither false false = refl
+
+    one : (y : SignedArc) (b : Bool) → same_arc a y ≡ b → cond (q y) (once_if (same_arc a y)) 0 ≡ cond (q a) (once_if (same_arc a y)) 0
+    one y true e = ap (λ (x : SignedArc). cond (q x) (once_if (same_arc a y)) 0) (sym (same_place a y (eqb-true (place_of a) (place_of y) e)))
+    one y false e = ap (λ (b : Bool). cond (q y) (once_if b) 0) e ∙ neither (q y) (q a) ∙ sym (ap (λ (b : Bool). cond (q a) (once_if b) 0) e)
+
+    all : (b : Bool) → sum_by (λ (y : SignedArc). cond b (once_if (same_arc a y)) 0) xs ≡ cond b (times a xs) 0
+    all true = refl
+    all false = sum_zero xs
+
+last_two : (a : SignedArc) (n : ℕ) → times a (forward n ∷ backward n ∷ []) ≡ once_if (nat_eq a.arc n)
+last_two a n = go a.is_reversed refl (cases_eq a.arc n)
+  where
+    f : times a (forward n ∷ backward n ∷ []) ≡ once_if (same_arc a (forward n)) + times a (backward n ∷ [])
+    f = sum_by-cons (λ (y : SignedArc). cond (same_arc a y) 1 0) (forward n) (backward n ∷ [])
+
+    b : times a (backward n ∷ []) ≡ once_if (same_arc a (backward n)) + 0
+    b = sum_by-cons (λ (y : SignedArc). cond (same_arc a y) 1 0) (backward n) []
+
+    place : (t : Bool) → a.is_reversed ≡ t → place_of a ≡ cond t (2 * a.arc + 2) (2 * a.arc + 1)
+    place t e = ap (λ (s : Bool). cond s (2 * a.arc + 2) (2 * a.arc + 1)) e
+
+    both : (s t : Bool) → same_arc a (forward n) ≡ s → same_arc a (backward n) ≡ t → times a (forward n ∷ backward n ∷ []) ≡ once_if s + once_if t
+    both s t e g = let h : times a (forward n ∷ backward n ∷ []) ≡ once_if (same_arc a (forward n)) + once_if (same_arc a (backward n)) = (let ff = f in let bb = b in omega arith) in h ∙ (λ i. once_if (e i) + once_if (g i))
+
+    go : (t : Bool) → a.is_reversed ≡ t → (a.arc ≡ n) ⊎ (a.arc ≡ n → ⊥) → times a (forward n ∷ backward n ∷ []) ≡ once_if (nat_eq a.arc n)
+    go true e (inl same) =
+        let p = place true e in
+        both false true (ne_eqb (place_of a) (2 * n + 1) (λ h. omega arith)) (eq-eqb (place_of a) (2 * n + 2) (omega arith)) ∙ sym (ap once_if (eq-eqb a.arc n same))
+    go false e (inl same) =
+        let p = place false e in
+        both true false (eq-eqb (place_of a) (2 * n + 1) (omega arith)) (ne_eqb (place_of a) (2 * n + 2) (λ h. omega arith)) ∙ sym (ap once_if (eq-eqb a.arc n same))
+    go true e (inr other) =
+        let p = place true e in
+        both false false (ne_eqb (place_of a) (2 * n + 1) (λ h. omega arith)) (ne_eqb (place_of a) (2 * n + 2) (λ h. other (omega arith))) ∙ sym (ap once_if (ne_eqb a.arc n other))
+    go false e (inr other) =
+        let p = place false e in
+        both false false (ne_eqb (place_of a) (2 * n + 1) (λ h. other (omega arith))) (ne_eqb (place_of a) (2 * n + 2) (λ h. omega arith)) ∙ sym (ap once_if (ne_eqb a.arc n other))
+
+times_below : (a : SignedArc) (n : ℕ) → times a (signed_below n) ≡ once_if (nat_lt a.arc n)
+times_below a zero = sym (ap once_if (le-ltb a.arc 0 (omega arith)))
+times_below a (suc n) =
+    let split = sum_by-append (λ (y : SignedArc). cond (same_arc a y) 1 0) (signed_below n) (forward n ∷ backward n ∷ []) in
+    let low = times_below a n in
+    let two = last_two a n in
+    let sums : times a (signed_below (suc n)) ≡ once_if (nat_lt a.arc n) + once_if (nat_eq a.arc n) = omega arith in
+    sums ∙ elim (cases_lt a.arc n) [
+      | inl less ↦ (λ i. once_if (lt-ltb a.arc n less i) + once_if (ne_eqb a.arc n (λ e. omega arith) i)) ∙ sym (ap once_if (lt-ltb a.arc (suc n) (omega arith)))
+      | inr more ↦ elim (cases_eq a.arc n) [
+        | inl same ↦ (λ i. once_if (le-ltb a.arc n more i) + once_if (eq-eqb a.arc n same i)) ∙ sym (ap once_if (lt-ltb a.arc (suc n) (omega arith)))
+        | inr other ↦ (λ i. once_if (le-ltb a.arc n more i) + once_if (ne_eqb a.arc n other i)) ∙ sym (ap once_if (le-ltb a.arc (suc n) (omega arith)))
+      ]
+    ]
+
+-- face on the left and none on the right
+abbrev leads_out : List ℕ → List ℕ → SignedArc → Bool
+leads_out places set a = has nat_eq set (face_left_of places a) && is_outward places set a
+
+boundary_once : (places : List ℕ) (many : ℕ) (set : List ℕ) (a : SignedArc) → times a (boundary places many set) ≡ once_if (is_of_boundary places many set a)
+boundary_once places many set a = times_filter a (leads_out places set) (signed_below many) ∙ ap (λ (n : ℕ). cond (leads_out places set a) n 0) (times_below a many) ∙ tests (nat_lt a.arc many) (leads_out places set a)
+  where
+    tests : (s t : Bool) → cond t (once_if s) 0 ≡ once_if (s && t)
+    tests true true = refl
+    tests true false = refl
+    tests false true = refl
+    tests false false = refl
+
+-- at each point as many arcs of a boundary stop as start
+boundary_even : (arcs : List Path) (faces : FaceTable) → IsBuiltOf arcs faces → (set : List ℕ) → AreEven (start_of arcs) (stop_of arcs) (boundary faces.places (length arcs) set)
+boundary_even arcs faces built set x =
+    counted (start_of arcs) ∙ balanced_faces arcs faces (has nat_eq set) x built ∙ sym (counted (stop_of arcs))
+  where
+    tests : (s t : Bool) → cond t (once_if s) 0 ≡ once_if (s && t)
+    tests true true = refl
+    tests true false = refl
+    tests false true = refl
+    tests false false = refl
+
+    counted : (end_of : SignedArc → GridPoint) → sum_by (λ (a : SignedArc). once_if (same_point x (end_of a))) (boundary faces.places (length arcs) set)
+        ≡ sum_by (λ (a : SignedArc). once_if (same_point x (end_of a) && leads_out faces.places set a)) (signed_below (length arcs))
+    counted end_of =
+        sum_filter (λ (a : SignedArc). once_if (same_point x (end_of a))) (leads_out faces.places set) (signed_below (length arcs))
+        ∙ sum_same (λ (a : SignedArc). cond (leads_out faces.places set a) (once_if (same_point x (end_of a))) 0) (λ (a : SignedArc). once_if (same_point x (end_of a) && leads_out faces.places set a)) (signed_below (length arcs))
+        (λ a. tests (same_point x (end_of a)) (leads_out faces.places set a))
+
+-- ---- the boundaries of the parts of a set
+
+module _ (arcs : List Path) (faces : FaceTable) (built : IsBuiltOf arcs faces) (set : List ℕ) (parts : List (List ℕ)) (are_parts : AreParts faces set parts) (a : SignedArc) where
+  abbrev left : ℕ
+  left = face_left_of faces.places a
+
+  abbrev right : ℕ
+  right = face_right_of faces.places a
+
+  abbrev part_at : ℕ → List ℕ
+  part_at i = get_or parts i []
+
+  abbrev on : List ℕ → ℕ
+  on some = once_if (is_of_boundary faces.places (length arcs) some a)
+
+  in_set : (i f : ℕ) → i < length parts → Contains (part_at i) f → Contains set f
+  in_set i f l c = All-contains (Contains set) (part_at i) f (are_parts.divided.faces i [] l).faces c
+
+  -- the parts of a test
+  bounds : (some : List ℕ) → is_of_boundary faces.places (length arcs) some a ≡ true → (a.arc < length arcs) × Contains some left × (Contains some right → ⊥)
+  bounds some e =
+      let (below, out) = and_parts (nat_lt a.arc (length arcs)) (leads_out faces.places some a) e in
+      let (l, r) = and_parts (has nat_eq some left) (is_outward faces.places some a) out in
+      (ltb-true a.arc (length arcs) below, has_Contains some left l, λ c. let clash : true ≡ false = sym r ∙ ap not (Contains_has some right c) in absurd (cc))
+
+  bounds_if : (some : List ℕ) → a.arc < length arcs → Contains some left → (Contains some right → ⊥) → is_of_boundary faces.places (length arcs) some a ≡ true
+  bounds_if some below l r =
+      (λ i. lt-ltb a.arc (length arcs) below i && (Contains_has some left l i && not (false_from_ne_true (has nat_eq some right) (λ e. r (has_Contains some right e)) i)))
+
+  none_if : (some : List ℕ) → (is_of_boundary faces.places (length arcs) some a ≡ true → ⊥) → on some ≡ 0
+  none_if some never = ap once_if (false_from_ne_true (is_of_boundary faces.places (length arcs) some a) never)
+
+  -- an arc of the boundary of a part is one of the set
+  of_set : (i : ℕ) → i < length parts → is_of_boundary faces.places (length arcs) (part_at i) a ≡ true → is_of_boundary faces.places (length arcs) set a ≡ true
+  of_set i l e =
+      let (below, at_left, not_right) = bounds (part_at i) e in
+      bounds_if set below (in_set i left l at_left) (λ c.
+      let arc : HasArc faces a = (let e = built.places_counted in omega arith) in
+      let (j, m, d) = are_parts.divided.each right c in
+      let same : i ≡ j = (are_parts.joined i j left right l m at_left d).1 (joined_over faces set left a (record { arc = arc; from = refl; into = c })) in
+      not_right (subst (λ (k : ℕ). Contains (part_at k) right) (sym same) d))
+
+  parts_once : sum_by on parts ≡ on set
+  parts_once = go (is_of_boundary faces.places (length arcs) set a) refl
+    where
+      go : (b : Bool) → is_of_boundary faces.places (length arcs) set a ≡ b → sum_by on parts ≡ on set
+      go false e = sum_nothing on [] parts (λ i l. none_if (part_at i) (λ f. let clash : true ≡ false = sym (of_set i l f) ∙ e in absurd (cc))) ∙ sym (ap once_if e)
+      go true e =
+          let (below, at_left, not_right) = bounds set e in
+          let (j, m, d) = are_parts.divided.each left at_left in
+          sum_alone on [] parts j (on set) m
+          (ap once_if (bounds_if (part_at j) below d (λ c. not_right (in_set j right m c)) ∙ sym e))
+          (λ i l ne. none_if (part_at i) (λ f.
+          let here = bounds (part_at i) f in
+          ne (are_parts.divided.once i j left l m here.1 d)))
+
+-- ---- polygons of a set
+
+-- polygons as a trace answers them for the set
+pub record AreFound (arcs : List Path) (faces : FaceTable) (set : List ℕ) (polygons : List (List (List SignedArc))) : Type 0 where
+  pub boundary : UsesBoundary faces.places (length arcs) set polygons
+  pub simple : All (All (IsSimpleRing (start_of arcs) (stop_of arcs))) polygons
+  pub least_first : All (All BeginsWithLeast) polygons
+  pub in_order : All (AllPairs (MayStandBefore arcs)) polygons
+  pub of_parts : HasPolygonsOfParts faces (length arcs) set polygons
+
+module _ (d : Drawing) (arcs : List Path) (faces : FaceTable) (label : Place → ℕ) (walked : IsWalked d arcs faces label) (set : List ℕ) (rising : IsStrictlyIncreasing set) (inner : IsSetOf faces set) where
+  of_part : (part : List ℕ) → (polygon : List (List SignedArc)) × IsOfArcs arcs (start_of arcs) (stop_of arcs) (boundary faces.places (length arcs) part) polygon
+  of_part part = polygon_exists arcs (start_of arcs) (stop_of arcs) (boundary faces.places (length arcs) part) (boundary_even arcs faces walked.built part)
+
+  abbrev polygon_of : List ℕ → List (List SignedArc)
+  polygon_of part = (of_part part).0
+
+  round_part : (part : List ℕ) (a : SignedArc) → times_round a (polygon_of part) ≡ once_if (is_of_boundary faces.places (length arcs) part a)
+  round_part part a = (of_part part).1.same a ∙ boundary_once faces.places (length arcs) part a
+
+  pub polygons_exist : (polygons : List (List (List SignedArc))) × AreFound arcs faces set polygons
+  polygons_exist =
+      let (parts, are_parts) = parts_exist arcs faces walked.built set rising in
+      let all_kept : bounded faces.places (length arcs) parts ≡ parts = (parts_have_boundaries (links_of (snapped d)) arcs faces (faces_of_links d arcs faces label walked) set inner parts are_parts).1 in
+      let long = length-map parts polygon_of in (
+        map polygon_of parts,
+        record {
+          boundary = record {
+            once = λ a.
+                sum_by-map (times_round a) polygon_of parts
+                ∙ sum_same (λ (part : List ℕ). times_round a (polygon_of part)) (λ (part : List ℕ). once_if (is_of_boundary faces.places (length arcs) part a)) parts (λ part. round_part part a)
+                ∙ parts_once arcs faces walked.built set parts are_parts a;
+          };
+          simple = All-map (All (IsSimpleRing (start_of arcs) (stop_of arcs))) polygon_of parts (λ k e l. (of_part (get_or parts k e)).1.simple);
+          least_first = All-map (All BeginsWithLeast) polygon_of parts (λ k e l. (of_part (get_or parts k e)).1.least_first);
+          in_order = All-map (AllPairs (MayStandBefore arcs)) polygon_of parts (λ k e l. (of_part (get_or parts k e)).1.in_order);
+          of_parts = record {
+            parts = parts;
+            are_parts = are_parts;
+            for_each = record {
+              each = long ∙ sym (ap (λ (ps : List (List ℕ)). length ps) all_kept);
+              once = λ k a l.
+                  ap (times_round a) (get_or-map polygon_of parts k [] [] (omega arith))
+                  ∙ round_part (get_or parts k []) a
+                  ∙ ap (λ (ps : List (List ℕ)). once_if (is_of_boundary faces.places (length arcs) (get_or ps k []) a)) (sym all_kept);
+            };
+          };
+        },
+      )

@@ -1,0 +1,6 @@
+-- The law is proved in `proofs/Pictured.antt`.
+use Rattle.picture_laws.proofs.Pictured.{each_layer_is_pictured}
+use Rattle.picture_laws.proofs.each_layer_is_pictured.Goals as goal
+
+pub returns : goal.returns
+returns c = each_layer_is_pictured

@@ -1,6 +1,0 @@
--- The law is proved in `proofs/Begun.antt`.
-use Rattle.state_laws.proofs.Begun.{beginnings_show}
-use Rattle.state_laws.proofs.beginnings_show.Goals as goal
-
-pub returns : goal.returns
-returns c = beginnings_show

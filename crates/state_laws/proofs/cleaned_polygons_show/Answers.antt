@@ -1,6 +1,0 @@
--- The law is proved in `proofs/PolygonCleaning.antt`.
-use Rattle.state_laws.proofs.PolygonCleaning.{cleaned_polygons_show}
-use Rattle.state_laws.proofs.cleaned_polygons_show.Goals as goal
-
-pub returns : goal.returns
-returns c = cleaned_polygons_show

@@ -1,6 +1,0 @@
--- The law is proved in `proofs/LineCuts.antt`.
-use Rattle.state_laws.proofs.LineCuts.{clipped_lines_show}
-use Rattle.state_laws.proofs.clipped_lines_show.Goals as goal
-
-pub returns : goal.returns
-returns c = clipped_lines_show

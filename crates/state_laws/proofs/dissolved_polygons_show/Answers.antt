@@ -1,6 +1,0 @@
--- The law is proved in `proofs/PolygonGroups.antt`.
-use Rattle.state_laws.proofs.PolygonGroups.{dissolved_polygons_show}
-use Rattle.state_laws.proofs.dissolved_polygons_show.Goals as goal
-
-pub returns : goal.returns
-returns c = dissolved_polygons_show

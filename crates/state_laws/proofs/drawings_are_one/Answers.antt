@@ -1,6 +1,0 @@
--- The law is proved in `proofs/Begun.antt`.
-use Rattle.state_laws.proofs.Begun.{drawings_are_one}
-use Rattle.state_laws.proofs.drawings_are_one.Goals as goal
-
-pub returns : goal.returns
-returns c = drawings_are_one

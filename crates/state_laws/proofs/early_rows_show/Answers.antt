@@ -1,6 +1,0 @@
--- The law is proved in `proofs/TableCommands.antt`.
-use Rattle.state_laws.proofs.TableCommands.{early_rows_show}
-use Rattle.state_laws.proofs.early_rows_show.Goals as goal
-
-pub returns : goal.returns
-returns c = early_rows_show

@@ -1,6 +1,0 @@
--- The law is proved in `proofs/LinePieces.antt`.
-use Rattle.state_laws.proofs.LinePieces.{exploded_lines_show}
-use Rattle.state_laws.proofs.exploded_lines_show.Goals as goal
-
-pub returns : goal.returns
-returns c = exploded_lines_show

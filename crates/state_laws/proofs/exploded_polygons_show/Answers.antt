@@ -1,6 +1,0 @@
--- The law is proved in `proofs/PolygonParts.antt`.
-use Rattle.state_laws.proofs.PolygonParts.{exploded_polygons_show}
-use Rattle.state_laws.proofs.exploded_polygons_show.Goals as goal
-
-pub returns : goal.returns
-returns c = exploded_polygons_show

@@ -1,6 +1,0 @@
--- The law is proved in `proofs/TableCommands.antt`.
-use Rattle.state_laws.proofs.TableCommands.{fields_show}
-use Rattle.state_laws.proofs.fields_show.Goals as goal
-
-pub returns : goal.returns
-returns c = fields_show

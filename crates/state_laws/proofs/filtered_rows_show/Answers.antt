@@ -1,6 +1,0 @@
--- The law is proved in `proofs/TableCommands.antt`.
-use Rattle.state_laws.proofs.TableCommands.{filtered_rows_show}
-use Rattle.state_laws.proofs.filtered_rows_show.Goals as goal
-
-pub returns : goal.returns
-returns c = filtered_rows_show

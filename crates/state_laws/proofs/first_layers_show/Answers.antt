@@ -1,6 +1,0 @@
--- The law is proved in `proofs/Targeting.antt`.
-use Rattle.state_laws.proofs.Targeting.{first_layers_show}
-use Rattle.state_laws.proofs.first_layers_show.Goals as goal
-
-pub returns : goal.returns
-returns c = first_layers_show

@@ -1,6 +1,0 @@
--- The law is proved in `proofs/LineGroups.antt`.
-use Rattle.state_laws.proofs.LineGroups.{grouped_lines_show}
-use Rattle.state_laws.proofs.grouped_lines_show.Goals as goal
-
-pub returns : goal.returns
-returns c = grouped_lines_show

@@ -1,6 +1,0 @@
--- The law is proved in `proofs/Outlines.antt`.
-use Rattle.state_laws.proofs.Outlines.{inner_lines_show}
-use Rattle.state_laws.proofs.inner_lines_show.Goals as goal
-
-pub returns : goal.returns
-returns c = inner_lines_show

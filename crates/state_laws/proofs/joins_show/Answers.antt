@@ -1,6 +1,0 @@
--- The law is proved in `proofs/TableCommands.antt`.
-use Rattle.state_laws.proofs.TableCommands.{joins_show}
-use Rattle.state_laws.proofs.joins_show.Goals as goal
-
-pub returns : goal.returns
-returns c = joins_show

@@ -1,6 +1,0 @@
--- The law is proved in `proofs/Empty.antt`.
-use Rattle.state_laws.proofs.Empty.{left_features_show}
-use Rattle.state_laws.proofs.left_features_show.Goals as goal
-
-pub returns : goal.returns
-returns c = left_features_show

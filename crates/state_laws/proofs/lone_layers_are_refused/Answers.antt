@@ -1,6 +1,0 @@
--- The law is proved in `proofs/PolygonUnion.antt`.
-use Rattle.state_laws.proofs.PolygonUnion.{lone_layers_are_refused}
-use Rattle.state_laws.proofs.lone_layers_are_refused.Goals as goal
-
-pub returns : goal.returns
-returns c = lone_layers_are_refused

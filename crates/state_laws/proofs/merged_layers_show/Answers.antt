@@ -1,6 +1,0 @@
--- The law is proved in `proofs/Merging.antt`.
-use Rattle.state_laws.proofs.Merging.{merged_layers_show}
-use Rattle.state_laws.proofs.merged_layers_show.Goals as goal
-
-pub returns : goal.returns
-returns c = merged_layers_show

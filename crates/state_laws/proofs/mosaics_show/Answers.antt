@@ -1,6 +1,0 @@
--- The law is proved in `proofs/PolygonParts.antt`.
-use Rattle.state_laws.proofs.PolygonParts.{mosaics_show}
-use Rattle.state_laws.proofs.mosaics_show.Goals as goal
-
-pub returns : goal.returns
-returns c = mosaics_show

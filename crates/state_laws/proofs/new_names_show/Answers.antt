@@ -1,6 +1,0 @@
--- The law is proved in `proofs/TableCommands.antt`.
-use Rattle.state_laws.proofs.TableCommands.{new_names_show}
-use Rattle.state_laws.proofs.new_names_show.Goals as goal
-
-pub returns : goal.returns
-returns c = new_names_show

@@ -1,6 +1,0 @@
--- The law is proved in `proofs/Targeting.antt`.
-use Rattle.state_laws.proofs.Targeting.{one_layer_shows}
-use Rattle.state_laws.proofs.one_layer_shows.Goals as goal
-
-pub returns : goal.returns
-returns c = one_layer_shows

@@ -1,6 +1,0 @@
--- The law is proved in `proofs/Targeting.antt`.
-use Rattle.state_laws.proofs.Targeting.{origins_show}
-use Rattle.state_laws.proofs.origins_show.Goals as goal
-
-pub returns : goal.returns
-returns c = origins_show

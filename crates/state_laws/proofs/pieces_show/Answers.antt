@@ -1,6 +1,0 @@
--- The law is proved in `proofs/Splitting.antt`.
-use Rattle.state_laws.proofs.Splitting.{pieces_are_shown}
-use Rattle.state_laws.proofs.pieces_show.Goals as goal
-
-pub returns : goal.returns
-returns c = pieces_are_shown

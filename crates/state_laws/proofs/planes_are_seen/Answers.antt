@@ -1,6 +1,0 @@
--- The law is proved in `proofs/PolygonPlanes.antt`.
-use Rattle.state_laws.proofs.PolygonPlanes.{planes_are_seen}
-use Rattle.state_laws.proofs.planes_are_seen.Goals as goal
-
-pub returns : goal.returns
-returns c = planes_are_seen

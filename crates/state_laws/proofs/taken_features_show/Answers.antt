@@ -1,6 +1,0 @@
--- The law is proved in `proofs/Taking.antt`.
-use Rattle.state_laws.proofs.Taking.{taken_features_show}
-use Rattle.state_laws.proofs.taken_features_show.Goals as goal
-
-pub returns : goal.returns
-returns c = taken_features_show

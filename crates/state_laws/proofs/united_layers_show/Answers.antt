@@ -1,6 +1,0 @@
--- The law is proved in `proofs/PolygonUnion.antt`.
-use Rattle.state_laws.proofs.PolygonUnion.{united_layers_show}
-use Rattle.state_laws.proofs.united_layers_show.Goals as goal
-
-pub returns : goal.returns
-returns c = united_layers_show
