@@ -9,13 +9,13 @@ use Rattle.plane_model.specs.Points.{Path}
 use Rattle.plane_model.specs.Drawing.{Drawing}
 use Rattle.plane_faces.specs.Places.{Place}
 use Rattle.face_walk.specs.Places.{FaceTable}
-use Rattle.line_ops.specs.Sided.{has_both, left_sets, right_sets, sided, sided_among}
+use Rattle.line_ops.specs.Sided.{has_both, left_sets, right_sets, sided}
 use Rattle.line_ops.specs.declared.sides.SidedArc.{SidedArc}
 use Rattle.region_model.specs.Region.{Region, any_of}
-use Rattle.region_model.specs.Answers.{Answers, Plane, is_nil}
+use Rattle.region_model.specs.Answers.{Answers, is_nil}
 use Rattle.region_model.specs.LineCommands as model
-use Rattle.region_model.specs.LineCommands.{differs, holders_left, holders_right, inner_lines, is_inner, outer_and_inner, sided_arcs}
-use Rattle.line_laws.specs.Regions.{AreBordersOf, AreFacesOf, BordersAreOfRegions, IsToldOf}
+use Rattle.region_model.specs.LineCommands.{differs, holders_left, holders_right, is_inner, sided_arcs}
+use Rattle.line_laws.specs.Regions.{AreFacesOf, BordersAreOfRegions, IsToldOf}
 use Rattle.line_laws.proofs.ByRegions.{sets_are_holders}
 
 -- ---- arcs with the sets at their sides, in the words of both definitions

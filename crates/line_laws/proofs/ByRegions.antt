@@ -6,7 +6,7 @@ use Rattle.std.specs.List.{AllZip, flat_map}
 use Rattle.std.proofs.lemmas.Bool.{or_cases, or_left, or_right}
 use Rattle.std.proofs.lemmas.List.{get_or-map, length-map, map-append}
 use Rattle.std.proofs.lemmas.List.Elements.{All-contains, All-head, All-tail, All-weaker}
-use Rattle.lists.specs.Lists.{has, numbers_from, numbers_where}
+use Rattle.lists.specs.Lists.{has, numbers_from}
 use Rattle.lists.proofs.Members.{Contains-head, Contains-later, flat_map-Contains}
 use Rattle.plane_model.specs.Points.{GridPoint, RationalPoint, Segment, Path, is_before, link_between, reversed}
 use Rattle.plane_model.specs.Arcs.{SignedArc, forward, joined_points}
@@ -14,7 +14,7 @@ use Rattle.plane_model.specs.Arrangement.{IsBefore}
 use Rattle.plane_model.specs.Drawing.{Drawing, steps, vertices_of}
 use Rattle.plane_model.specs.Rotation.{Dart}
 use Rattle.plane_model.specs.Sees.{IsOffLinks}
-use Rattle.plane_model.specs.Sides.{IsInside, LeftIn, Points, RightIn}
+use Rattle.plane_model.specs.Sides.{Points}
 use Rattle.plane_model.specs.Snapped.{links_of, snapped}
 use Rattle.plane_model.proofs.PointOrder.{before_to, clash, is_before-IsStrictOrder}
 use Rattle.plane_snapping.proofs.SnappedLinks.{snapped_links_are_an_arrangement}
@@ -33,9 +33,9 @@ use Rattle.point_laws.proofs.Vertices.{vertices_of_a_drawing}
 use Rattle.region_model.specs.Region.{Region, any_of, Has}
 use Rattle.region_model.specs.Answers.{Answers, AreSides}
 use Rattle.region_model.specs.LineCommands as model
-use Rattle.region_model.specs.LineCommands.{clipped_path, erased_path, holders_left, holders_right, on_left, on_right, side_of_first}
+use Rattle.region_model.specs.LineCommands.{clipped_path, erased_path, on_left, on_right, side_of_first}
 use Rattle.line_laws.specs.Linked.{AreLinked, AreThere, points_along}
-use Rattle.line_laws.specs.Lines.{AreLabelled, IsLinkInside, LeftSideIn, TestsInside, goes_inside, goes_outside, steps_of_run}
+use Rattle.line_laws.specs.Lines.{AreLabelled, LeftSideIn, TestsInside, goes_inside, goes_outside, steps_of_run}
 use Rattle.line_laws.specs.Regions.{AreFacesOf, HasFacesOf, IsToldOf, PathsCutByRegions, PointsCutByRegions, SetsAreHolders}
 use Rattle.line_laws.proofs.LinkedArcs.{joined_long}
 use Rattle.line_laws.proofs.LinkSides.{drawings_are_labelled, left_off, right_off, sides_of_arcs}

@@ -4,7 +4,7 @@ use Rattle.std.specs.List.{list_any}
 use Rattle.std.proofs.lemmas.Bool.{or_cases, or_left, or_right, and_from, and_parts}
 use Rattle.std.proofs.lemmas.List.Folds.{Any-from_list_any, list_any_at}
 use Rattle.lists.specs.Lists.{has}
-use Rattle.plane_model.specs.Points.{GridPoint, RationalPoint, Segment, Path, at, same_point}
+use Rattle.plane_model.specs.Points.{GridPoint, RationalPoint, Segment, at, same_point}
 use Rattle.plane_model.specs.Arrangement.{IsEnd}
 use Rattle.plane_model.specs.Drawing.{Drawing, vertices_of}
 use Rattle.plane_model.specs.Rotation.{Dart, tail}
@@ -18,13 +18,12 @@ use Rattle.plane_faces.specs.Places.{Place, left_of, IsPlaceOf, AgreesWherePlace
 use Rattle.plane_faces.proofs.Order.{place_exists}
 use Rattle.plane_faces.proofs.Sighted.{label_along_a_segment}
 use Rattle.plane_faces.proofs.Sorting.{rotations_exist}
-use Rattle.face_walk.specs.Places.{FaceTable}
 use Rattle.face_sets.proofs.BoundaryLemmas.{has_Contains, Contains_has}
 use Rattle.point_laws.proofs.Sectors.{seen_from_sectors}
 use Rattle.point_laws.proofs.SeenSectors.{sectors_are_seen}
 use Rattle.point_laws.proofs.SightLemmas.{free_points_are_seen, seeing_is_off, sight_is_free}
 use Rattle.region_model.specs.Region.{Has}
-use Rattle.line_laws.specs.Regions.{AreFacesOf, HasFacesOf, InsidesAreTold}
+use Rattle.line_laws.specs.Regions.{HasFacesOf, InsidesAreTold}
 use Rattle.line_laws.proofs.LinkSides.{drawings_are_labelled, labels_agree}
 
 -- p is an end of the link

@@ -10,16 +10,15 @@ use Rattle.lists.specs.Lists.{ascending, has, place_of, without_last}
 use Rattle.lists.proofs.Ascending.{Contains-ascending, ascending-Contains, ascending-IsAscending, one_ascending}
 use Rattle.lists.proofs.Members.{Contains-flat_map, Contains-map, flat_map-Contains, map-Contains}
 use Rattle.plane_model.specs.Points.{GridPoint, Segment, Path, link_between, reversed, same_point, same_segment}
-use Rattle.plane_model.specs.Arcs.{SignedArc, arc_number, forward, goes_along, joined_points, points_of}
+use Rattle.plane_model.specs.Arcs.{SignedArc, arc_number, goes_along, joined_points, points_of}
 use Rattle.plane_model.specs.Arrangement.{IsArrangement}
-use Rattle.plane_model.specs.Drawing.{Drawing, steps, steps_of_paths}
+use Rattle.plane_model.specs.Drawing.{steps, steps_of_paths}
 use Rattle.plane_model.specs.Joined.{links_of_arc}
 use Rattle.plane_model.specs.Snapped.{links_of, snapped}
 use Rattle.plane_model.proofs.PointOrder.{same_point_from, segment_is}
 use Rattle.arc_table.specs.Along.{GoAlong}
 use Rattle.arc_table.specs.Direction.{point_at}
-use Rattle.arc_table.specs.Nodes.{IsLineOf}
-use Rattle.arc_table.specs.PathArcs.{AreArcsOf, RunsFrom, round_from}
+use Rattle.arc_table.specs.PathArcs.{RunsFrom, round_from}
 use Rattle.arc_table.specs.WholeArcs.{IsPassed}
 use Rattle.arc_table.proofs.ArcSteps.{steps_many}
 use Rattle.arc_table.proofs.Proper.{one_link}
@@ -27,8 +26,6 @@ use Rattle.face_laws.proofs.DartLemmas.{dart_back}
 use Rattle.face_laws.proofs.StepLemmas.{IsStep, one_place, step_moves}
 use Rattle.face_sets.proofs.SetLemmas.{nat_order}
 use Rattle.plane_model.specs.Rotation.{Dart}
-use Rattle.line_ops.specs.Runs.{runs_where}
-use Rattle.region_model.specs.Answers.{Plane}
 use Rattle.line_laws.specs.Linked.{AreLinked, AreThere, LinesAreDissolved, LinesAreLinked, RunsAreLinked, along_one, arcs_along, points_along}
 use Rattle.line_laws.proofs.PathRuns.{is_step, link_along, long_points}
 use Rattle.line_laws.proofs.RunSteps.{IsChain, chain_linked, linked_steps, runs_linked, steps_along, steps_chain}

@@ -20,7 +20,7 @@ use Rattle.job_terms.specs.declared.job.Origin.TheVariants as origin
 use Rattle.region_model.specs.Region.{Region}
 use Rattle.region_model.specs.Answers.{Answers, Plane}
 use Rattle.chain_model.specs.Features as features
-use Rattle.chain_model.specs.Features.{Outputs, in_layer}
+use Rattle.chain_model.specs.Features.{Outputs}
 use Rattle.chain_model.specs.Outcome.{RefuseWhy, too_many_layers, wrong_kind}
 use Rattle.chain_model.specs.State.{State, StateLayer}
 use Rattle.chain_model.specs.Steps.{Stepped, Written, by_action, changed, each_layer, outputs_of, place_source, polygons_or_points, refused_beside, refused_kinds, refused_source, refused_write, source_region, step, titled}

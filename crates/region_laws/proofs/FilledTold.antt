@@ -40,7 +40,7 @@ use Rattle.region_model.specs.Answers as answers
 use Rattle.region_model.specs.Answers.{Answers, AreRight, boundary}
 use Rattle.region_model.specs.LineCommands.{on_right}
 use Rattle.region_model.specs.PolygonCommands as model
-use Rattle.region_model.specs.PolygonCommands.{all_regions, borders, filled_gaps, goes_to, ranking}
+use Rattle.region_model.specs.PolygonCommands.{all_regions, borders, filled_gaps, goes_to}
 use Rattle.region_laws.specs.Regions.{Follows, FollowEach}
 use Rattle.region_laws.specs.Followed.{IsWalked}
 use Rattle.region_laws.specs.Answered.{plane_with}

@@ -11,7 +11,7 @@ use Rattle.plane_model.specs.Arcs.{SignedArc}
 use Rattle.face_walk.specs.Holders.{list_at}
 use Rattle.geojson_io.specs.LayerContent.{LayerContent}
 use Rattle.job_terms.specs.declared.job.Owner.{Owner}
-use Rattle.run_beginning.specs.BegunLayers.{AreArcsOfPath, AreBegun, AreBegunOfEach, AreLineArcs, AreSourcesBegun, GoesAlong, IsBegunLayer, IsLineOf, IsLineShape, Left, behind, behind_all, face_shape, has_links, imported, of_command, of_import, owned}
+use Rattle.run_beginning.specs.BegunLayers.{AreArcsOfPath, AreBegun, AreBegunOfEach, AreLineArcs, AreSourcesBegun, GoesAlong, IsBegunLayer, IsLineOf, Left, behind, behind_all, face_shape, has_links, imported, of_command, of_import, owned}
 use Rattle.run_plane.specs.declared.layer.Layer.{Layer}
 use Rattle.run_plane.specs.declared.layer.Shape.{Shape}
 use Rattle.run_plane.specs.declared.layer.Shape.TheVariants as shape

@@ -6,8 +6,7 @@ use Rattle.std.proofs.lemmas.List.Elements.{All-append, All-cons, All-drop, All-
 use Rattle.plane_model.specs.Arcs.{SignedArc}
 use Rattle.plane_model.specs.Drawing.{Drawing}
 use Rattle.plane_model.specs.Points.{Path}
-use Rattle.face_walk.specs.Holders.{list_at}
-use Rattle.face_sets.specs.Sets.{IsInnerFace, IsSetOf}
+use Rattle.face_sets.specs.Sets.{IsSetOf}
 use Rattle.grid_base.specs.declared.kinds.Kind.{Kind}
 use Rattle.grid_base.specs.declared.kinds.Kind.TheVariants as kinds
 use Rattle.geojson_io.specs.LayerContent.{LayerContent}
@@ -20,7 +19,7 @@ use Rattle.run_plane.specs.declared.layer.Shape.{Shape}
 use Rattle.run_plane.specs.declared.layer.Shape.TheVariants as shape
 use Rattle.run_plane.specs.declared.plane.Plane.{Plane}
 use Rattle.run_plane.proofs.OnPlane.{features_are_inner, set_inner}
-use Rattle.run_beginning.specs.BegunLayers.{AreArcsOfPath, AreBegun, AreBegunOfEach, AreLineArcs, AreShapes, BeginsOver, IsLineOf, IsLineShape, Left, behind, behind_all, face_shape, has_links, imported, line_count, numbers_of, of_command, of_import, owned, point_shape, polygon_count, row_shape}
+use Rattle.run_beginning.specs.BegunLayers.{AreArcsOfPath, AreBegun, AreBegunOfEach, AreShapes, BeginsOver, IsLineOf, IsLineShape, Left, behind, behind_all, face_shape, has_links, imported, numbers_of, of_command, of_import, owned, point_shape, polygon_count, row_shape}
 
 module _ (plane : Plane) where
   abbrev AreInner : Left → Type 0

@@ -14,7 +14,7 @@ use Rattle.run_state.specs.Targets.{is_selected, targets}
 use Rattle.run_state.specs.declared.state.Held.{Held}
 use Rattle.run_state.proofs.TargetLemmas.{other_next, target_next}
 use Rattle.run_state.specs.FaceSets.{sets_in}
-use Rattle.run_borders.specs.Uniting.{AreGathered, layer_sets, layer_tables, row_counts, set_counts}
+use Rattle.run_borders.specs.Uniting.{AreGathered, row_counts, set_counts}
 
 -- ---- one layer more
 

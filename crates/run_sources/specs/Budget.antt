@@ -1,11 +1,9 @@
 -- What a run may still read: bytes, positions and features, which all its sources share.
 use Rattle.std.specs.Prelude.{◌≡◌, ℕ, ◌-◌, List, length, sum_by}
-use Rattle.io_core.specs.Contents.{Content}
 use Rattle.plane_model.specs.Points.{Path}
 use Rattle.geojson_io.specs.LayerContent.{LayerContent}
 use Rattle.geojson_io.specs.declared.shape.GeoShape.{GeoShape}
 use Rattle.geojson_io.specs.declared.shape.GeoShape.TheVariants.{Nothing, Polygons, Lines, Points}
-use Rattle.geojson_io.specs.declared.layer.Room.{Room}
 use Rattle.run_sources.specs.declared.sources.Budget.{Budget}
 
 -- the most bytes that the sources of a run have together

@@ -2,7 +2,7 @@
 use Rattle.std.proofs.Common.{◌≡◌, sym, ap, ◌∙◌, List, [], map}
 use Rattle.std.proofs.lemmas.List.{nil_from_length}
 use Rattle.plane_model.specs.Points.{Path}
-use Rattle.plane_model.specs.Drawing.{Drawing, Polygon}
+use Rattle.plane_model.specs.Drawing.{Drawing}
 use Rattle.plane_model.specs.Hot.{hot_points}
 use Rattle.plane_model.specs.Snapped.{snapped, snapped_path, links_of, link_count}
 use Rattle.snap_round.specs.Snapping.{HasPointsAlone}

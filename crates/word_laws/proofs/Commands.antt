@@ -20,9 +20,9 @@ use Rattle.cmd_words.specs.Steps.{on_ok}
 use Rattle.cmd_words.specs.Texts.{is_standard, names_file}
 use Rattle.cmd_words.specs.Groups.{Group, empty_group, number_of_first}
 use Rattle.cmd_words.specs.Groups as groups
-use Rattle.cmd_words.specs.Chains.{SoFar, action_of, source_of, lacks_argument, lacks_form, takes_source}
+use Rattle.cmd_words.specs.Chains.{SoFar, source_of, takes_source}
 use Rattle.cmd_words.specs.Chains as chains
-use Rattle.cmd_words.specs.Words.{Reading, CommandGroup, Grouped, take_words}
+use Rattle.cmd_words.specs.Words.{Reading, CommandGroup, take_words}
 use Rattle.cmd_words.specs.Words as reader
 use Rattle.word_model.specs.CommandTable.{Item, option, bare, argument, Said, ArgumentForm, nothing, files, source, list, expression, assignments, renames, text, Line, CommandLine, value_in, has_bare, argument_text, list_or_empty, target_of, form_in, line_of}
 use Rattle.word_model.specs.Words.{Word, item_of, is_standard_item, is_source, says, argument_number, origin_of, sources_of, ok_list, standard_among, with_command, finished, read_line, read_command, read_commands}

@@ -29,7 +29,7 @@ use Rattle.cmd_words.specs.Groups.{Group}
 use Rattle.cmd_words.specs.Groups as groups
 use Rattle.cmd_words.specs.Chains.{SoFar, lacks_argument, lacks_form, action_of, takes_source, rule_from, form_from}
 use Rattle.cmd_words.specs.Chains as chains
-use Rattle.word_model.specs.CommandTable.{Said, ValueForm, ArgumentForm, nothing, files, source, list, expression, assignments, renames, text, Line, CommandLine, value_in, has_option, has_bare, has_argument, argument_in, argument_text, list_or_empty, group_spec, join_spec, calc_spec, calculations_in, renames_in, form_in, count_in, doubled_in, each_layer, joins, needs_source, import_line, command_lines, form_of}
+use Rattle.word_model.specs.CommandTable.{Said, ValueForm, ArgumentForm, nothing, files, source, list, expression, assignments, renames, text, Line, CommandLine, value_in, has_option, has_bare, has_argument, argument_in, argument_text, list_or_empty, group_spec, join_spec, calc_spec, calculations_in, form_in, count_in, doubled_in, each_layer, joins, needs_source, import_line, command_lines}
 use Rattle.word_model.specs.CommandTable as table
 use Rattle.word_model.specs.Words.{is_source, origin_of}
 use Rattle.word_laws.proofs.Tests.{same_bytes, left_true, right_true, not_true}

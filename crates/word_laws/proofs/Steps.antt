@@ -25,7 +25,7 @@ use Rattle.cmd_words.specs.Groups.{Group, first_text}
 use Rattle.cmd_words.specs.Options as reader
 use Rattle.word_model.specs.CommandTable.{Item, option, bare, argument, Said, ValueForm, a_text, a_list, two_names, a_precision, a_rule, a_format, a_box, an_expression, an_area, one_or_more, zero_or_more, calculations, ArgumentForm, nothing, files, source, list, expression, assignments, renames, text, Line, value_in, has_option, has_bare, has_argument, argument_in, calculations_from, calculations_in, form_of}
 use Rattle.word_model.specs.Words as said_words
-use Rattle.word_model.specs.Words.{plain_item, item_of, refused_if, refusal_of, expression_fault, lacks_value, refused_value, is_excluded, refused_option, is_list, has_room, reads_standard, refused_text, is_standard_item, refused_argument, is_opposed, refused_bare, refused_item}
+use Rattle.word_model.specs.Words.{plain_item, item_of, refusal_of, expression_fault, lacks_value, refused_value, is_excluded, refused_option, is_list, has_room, reads_standard, refused_text, is_standard_item, refused_argument, is_opposed, refused_bare, refused_item}
 use Rattle.word_laws.proofs.Tests.{left_is_false, same_bytes, has_name_same, or_assoc, not_or, first_is_false, none_of, guard, guard_last, accepts}
 use Rattle.word_laws.proofs.Forms.{form_as, form_of_as, is_option_same, lacks_same, list_same, standard_same}
 use Rattle.word_laws.proofs.Shown.{Word, Value, argument_as, value_as}

@@ -9,7 +9,7 @@ use Rattle.table_rows.specs.Rows.{row_at}
 use Rattle.table_rows.proofs.TakenRows.{long_at}
 use Rattle.table_rows.proofs.Answering.{answers_other}
 use Rattle.table_ops.specs.Filtering.{value_for}
-use Rattle.calc_ops.specs.EachRow.{assigned_row, names_after, places_after, with_value}
+use Rattle.calc_ops.specs.EachRow.{assigned_row, names_after, places_after}
 use Rattle.calc_ops.proofs.EachLemmas.{SoFar, none_set, row_stops, row_sets}
 use Rattle.calc_ops.proofs.IslandLemmas.{read_is}
 use Rattle.calc_ops.proofs.each_row.assigned_row.Goals as goal

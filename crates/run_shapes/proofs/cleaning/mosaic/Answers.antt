@@ -1,7 +1,5 @@
 use Rattle.std.proofs.Common.{ℕ, List, [], ◌∷◌, ◌++◌, map, sym, ap, subst, ◌∙◌}
 use Rattle.json_values.specs.Table.{AreDistinctNames}
-use Rattle.region_ops.specs.Items.{IsPiece}
-use Rattle.region_ops.specs.declared.item_lists.MosaicItem.{MosaicItem}
 use Rattle.run_plane.specs.OnPlane.{AreOn}
 use Rattle.run_shapes.specs.Cleaning.{piece_shape}
 use Rattle.run_state.proofs.OnPlane.{sets_inner}
