@@ -1,52 +1,86 @@
 -- The text of a grid number, written from its end.
-use Rattle.std.proofs.Common.{ℕ, zero, suc, ◌≡◌, ◌≢◌, ◌+◌, ◌-◌, ◌*◌, ◌/◌, ◌%◌, ◌^◌, ◌<◌, ◌≤◌, List, [], ◌∷◌, ◌++◌, Bool, true, cond, ℤ, pos, negsuc, ◌*ℤ◌, neg_ℤ, lit<, refl, ap, ◌∙◌, sym, subst, length, drop, set, arith, append_assoc, decimal, ne_eqb, ⊎_elim}
+use Rattle.std.proofs.Common.{ℕ, zero, suc, ◌≡◌, ◌≢◌, ◌+◌, ◌-◌, ◌*◌, ◌/◌, ◌%◌, ◌^◌, ◌<◌, ◌≤◌, List, [], ◌∷◌, ◌++◌, Bool, true, cond, ℤ, pos, negsuc, ◌*ℤ◌, neg_ℤ, lit<, refl, ap, ◌∙◌, sym, subst, length, drop, set, get_or, arith, add-one, append_assoc, decimal, drop-cons, ne_eqb, ⊎_elim, inr}
 use Rattle.std.specs.Prelude.{unsigned_abs}
 use Rattle.std.proofs.lemmas.Bool.{cases_eq}
 use Rattle.std.proofs.lemmas.List.{drop-set}
-use Rattle.std.proofs.lemmas.Fmt.{length-decimal-le}
+use Rattle.std.proofs.lemmas.Fmt.{decimal_digit, decimal_step, length-decimal-le}
 use Rattle.std.proofs.lemmas.Int.{unsigned_abs-mul}
 use Rattle.std.proofs.lemmas.Nat.{pow-add, div-add-mod', mod-mul-add}
 use Rattle.std.proofs.Math.Nat.{mod-lt, div-le_self, mul_assoc, mul-lt-mul_of_pos_right, mul-div-mul_right, mul-div_left, mul-mod_left, one-le-pow, div-div-eq-div-mul, mul_comm, div-one}
 use Rattle.std.proofs.Math.Arith.{mod-mul}
 use Rattle.grid_base.specs.Grid.{limit}
 use Rattle.numerals.specs.Decimal.{of_grid, fraction_text as decimal_fraction, is_negative, last_digits, sign_text, trimmed_digits}
-use Rattle.numerals.proofs.Digits.{decimal_text-parts, fraction_text-zero, fraction_text-other, last_digits-suc, last_digits-zero, trimmed_digits-zero}
+use Rattle.numerals.proofs.Digits.{decimal_text-parts, fraction_text-zero, fraction_text-other, trim_end, trimmed_digits-zero}
 use Rattle.numerals.proofs.Scaling.{pow_ten}
 use Rattle.geojson_io.specs.Numbers.{fraction_text, whole_digits}
 use Rattle.plane_model.specs.Points.{GridPoint}
 use Rattle.geojson_io.specs.Texts.{grid_text, point_text}
 
--- ## Digits
+-- ## Digits behind a 1
 
--- one more digit, written in front
-pub digit_before : (room : List ℕ) (at j k n : ℕ) → at ≡ j + 1 → j < length room → drop j (set room j (48 + n % 10)) ≡ (48 + n % 10) ∷ drop at room
-digit_before room at j k n e l = drop-set room j (48 + n % 10) l ∙ ap (λ (i : ℕ). (48 + n % 10) ∷ drop i room) (sym e)
+-- a 1 and the k last digits of f
+one_and_digits : (k f n : ℕ) → f < 10 ^ k → n ≡ 10 ^ k + f → n < 2 ^ 64 → decimal n ≡ 49 ∷ last_digits k f
+unfolding last_digits
+one_and_digits zero f n below is fits =
+    let one : n ≡ 1 = omega arith in
+    decimal_digit n (omega arith) ∙ ap (λ (m : ℕ). (48 + m) ∷ []) one
+one_and_digits (suc k) f n below is fits =
+    let P : ℕ = 10 ^ k in
+    let positive : 0 < P = one-le-pow k 10 (lit< tt) in
+    let ten : 10 ^ suc k ≡ P * 10 = pow_ten k in
+    let front : n / 10 ≡ P + f / 10 = omega arith in
+    let last : n % 10 ≡ f % 10 = omega arith in
+    decimal_step n (omega arith) fits
+    ∙ (λ i. one_and_digits k (f / 10) (n / 10) (omega arith) front (omega arith) i ++ (48 + last i) ∷ [])
 
-pub digits_step : (room whole : List ℕ) (at j left less n : ℕ) → at ≡ j + 1 → left ≡ less + 1 → j < length room → last_digits left n ++ drop at room ≡ whole → last_digits less (n / 10) ++ drop j (set room j (48 + n % 10)) ≡ whole
-digits_step room whole at j left less n e f l h =
-    let one_more : left ≡ suc less = omega arith in
-    ap (λ (d : List ℕ). last_digits less (n / 10) ++ d) (digit_before room at j less n e l) ∙ sym (last_digits-suc less n (drop at room)) ∙ ap (λ (k : ℕ). last_digits k n ++ drop at room) (sym one_more) ∙ h
+-- n is a 1 and digits that are those of the fraction, where zeros at the end don't count
+pub record IsOneAnd (places fraction n : ℕ) : Type 0 where
+  pub count : ℕ
+  pub digits : ℕ
+  pub is : n ≡ 10 ^ count + digits
+  pub below : digits < 10 ^ count
+  pub some : digits ≢ 0
+  pub same : trimmed_digits places fraction ≡ trimmed_digits count digits
 
-pub digits_end : (room whole : List ℕ) (at left n : ℕ) → left ≤ 0 → last_digits left n ++ drop at room ≡ whole → drop at room ≡ whole
-digits_end room whole at zero n l h = sym (last_digits-zero n (drop at room)) ∙ h
-digits_end room whole at (suc left) n l h = absurd (omega arith)
+-- there is a digit behind the 1
+no_digits : (digits : ℕ) → digits < 10 ^ 0 → digits ≢ 0 → ⊥
+no_digits digits below some = omega arith
+
+less_by : (places fraction n count digits : ℕ) → n % 10 ≡ 0 → n ≡ 10 ^ count + digits → digits < 10 ^ count → digits ≢ 0
+    → trimmed_digits places fraction ≡ trimmed_digits count digits → IsOneAnd places fraction (n / 10)
+less_by places fraction n zero digits e is below some same = absurd (no_digits digits below some)
+less_by places fraction n (suc k) digits e is below some same =
+    let P : ℕ = 10 ^ k in
+    let ten : 10 ^ suc k ≡ P * 10 = pow_ten k in
+    let last : digits % 10 ≡ 0 = omega arith in
+    record { count = k; digits = digits / 10; is = omega arith; below = omega arith; some = omega arith; same = same ∙ trimmed_digits-zero k digits last }
+
+pub zero_less : (places fraction n : ℕ) → n % 10 ≡ 0 → IsOneAnd places fraction n → IsOneAnd places fraction (n / 10)
+zero_less places fraction n e h = less_by places fraction n h.count h.digits e h.is h.below h.some h.same
+
+last_stays : (count digits n : ℕ) → n % 10 ≢ 0 → n ≡ 10 ^ count + digits → digits < 10 ^ count → digits ≢ 0 → digits % 10 ≢ 0
+last_stays zero digits n d is below some = absurd (no_digits digits below some)
+last_stays (suc k) digits n d is below some = let ten : 10 ^ suc k ≡ 10 ^ k * 10 = pow_ten k in omega arith
+
+pub no_zero_left : (places fraction n : ℕ) → n % 10 ≢ 0 → n < 2 ^ 64 → IsOneAnd places fraction n → decimal n ≡ 49 ∷ trimmed_digits places fraction
+no_zero_left places fraction n d fits h =
+    one_and_digits h.count h.digits n h.below h.is fits
+    ∙ ap (λ (t : List ℕ). 49 ∷ t) (sym (trim_end h.count h.digits (inr (last_stays h.count h.digits n d h.is h.below h.some))) ∙ sym h.same)
 
 -- ## A fraction
 
-pub fraction_none : (places : ℕ) → fraction_text places 0 ≡ []
-fraction_none places = refl
-
-pub fraction_some : (places n : ℕ) → n ≢ 0 → fraction_text places n ≡ 46 ∷ trimmed_digits places n
+fraction_some : (places n : ℕ) → n ≢ 0 → fraction_text places n ≡ 46 ∷ trimmed_digits places n
 fraction_some places n d = ap (λ (b : Bool). cond b [] (46 ∷ trimmed_digits places n)) (ne_eqb n 0 d)
 
-pub fraction_before : (room tail : List ℕ) (start j places n count m : ℕ) → start ≡ j + 1 → j < length room → n ≢ 0 → last_digits count m ≡ trimmed_digits places n
-    → drop start room ≡ last_digits count m ++ tail → drop j (set room j 46) ≡ fraction_text places n ++ tail
-fraction_before room tail start j places n count m e l d t h =
-    drop-set room j 46 l ∙ ap (λ (i : ℕ). 46 ∷ drop i room) (sym e) ∙ ap (λ (x : List ℕ). 46 ∷ x) (h ∙ ap (λ (x : List ℕ). x ++ tail) t)
-    ∙ ap (λ (x : List ℕ). x ++ tail) (sym (fraction_some places n d))
-
-pub fraction_nothing : (tail : List ℕ) (places n : ℕ) → n ≡ 0 → tail ≡ fraction_text places n ++ tail
-fraction_nothing tail places n e = subst (λ (m : ℕ). tail ≡ fraction_text places m ++ tail) (sym e) refl
+-- the point in place of the 1
+pub point_for_one : (room tail : List ℕ) (start places n m : ℕ) → n ≢ 0 → start < length room → decimal m ≡ 49 ∷ trimmed_digits places n
+    → drop start room ≡ decimal m ++ tail → drop start (set room start 46) ≡ fraction_text places n ++ tail
+point_for_one room tail start places n m some l digits h =
+    let first : drop start room ≡ get_or room start 0 ∷ drop (suc start) room = drop-cons room start 0 l in
+    let all : drop start room ≡ 49 ∷ (trimmed_digits places n ++ tail) = h ∙ ap (λ (t : List ℕ). t ++ tail) digits in
+    let behind : drop (suc start) room ≡ trimmed_digits places n ++ tail = cc in
+    drop-set room start 46 l ∙ ap (λ (i : ℕ). 46 ∷ drop i room) (add-one start) ∙ ap (λ (t : List ℕ). 46 ∷ t) behind
+    ∙ ap (λ (t : List ℕ). t ++ tail) (sym (fraction_some places n some))
 
 -- many zeros at the end fall away at once
 trim_many : (k j n : ℕ) → n % 10 ^ k ≡ 0 → trimmed_digits (j + k) n ≡ trimmed_digits j (n / 10 ^ k)
@@ -146,12 +180,8 @@ number_written g places n unit negative a b c tail le size scale sign ea eb ec =
     ec ∙ (λ i. sign_text (sign i) ++ eb i) ∙ (λ i. s ++ (decimal (size i / scale i) ++ ea i)) ∙ (λ i. s ++ (d ++ (fraction_text places (size i % scale i) ++ tail)))
     ∙ ap (λ (t : List ℕ). s ++ t) (sym (append_assoc d f tail)) ∙ sym (append_assoc s (d ++ f) tail) ∙ ap (λ (t : List ℕ). t ++ tail) (sym (grid_parts g places le))
 
--- a point's text, number by number
-pub point_by_numbers : (places : ℕ) (p : GridPoint) (old a b c : List ℕ) (x y : ℤ) → x ≡ p.x → y ≡ p.y
-    → a ≡ old ++ 91 ∷ [] → b ≡ a ++ (grid_text places x ++ 44 ∷ []) → c ≡ b ++ (grid_text places y ++ 93 ∷ []) → c ≡ old ++ point_text places p
-point_by_numbers places p old a b c x y ex ey ea eb ec =
-    let across : List ℕ = grid_text places p.x in
-    let upward : List ℕ = grid_text places p.y ++ 93 ∷ [] in
-    ec ∙ (λ i. eb i ++ (grid_text places (ey i) ++ 93 ∷ [])) ∙ (λ i. (ea i ++ (grid_text places (ex i) ++ 44 ∷ [])) ++ upward)
-    ∙ append_assoc (old ++ 91 ∷ []) (across ++ 44 ∷ []) upward ∙ append_assoc old (91 ∷ []) ((across ++ 44 ∷ []) ++ upward)
-    ∙ ap (λ (w : List ℕ). old ++ 91 ∷ w) (append_assoc across (44 ∷ []) upward)
+-- a point's text, from its end
+pub point_by_numbers : (places : ℕ) (p : GridPoint) (x y : ℤ) (a b c d : List ℕ) → x ≡ p.x → y ≡ p.y
+    → a ≡ grid_text places y ++ 93 ∷ [] → b ≡ 44 ∷ a → c ≡ grid_text places x ++ b → d ≡ 91 ∷ c → d ≡ point_text places p
+point_by_numbers places p x y a b c d ex ey ea eb ec ed =
+    ed ∙ ap (λ (t : List ℕ). 91 ∷ t) (ec ∙ (λ i. grid_text places (ex i) ++ (eb ∙ ap (λ (t : List ℕ). 44 ∷ t) (ea ∙ (λ j. grid_text places (ey j) ++ 93 ∷ []))) i))

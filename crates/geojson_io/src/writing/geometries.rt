@@ -3,7 +3,7 @@ ghost use Rattle.grid_base.specs.Grid.{most_places};
 ghost use Rattle.geojson_io.specs.Texts.{point_text, path_text, polygon_text, list_text, geometry_text, before_item, type_text, one_or_many};
 
 use crate::shape::GeoShape;
-use crate::writing::numbers::write_number;
+use crate::writing::numbers::{put_byte, put_number};
 use grid_base::{PolygonRings, Pt, PtList};
 use std::alloc::AllocError;
 use text_core::Bytes;
@@ -13,9 +13,13 @@ pub fn write_point(point: &Pt, places: u8, out: &mut Bytes) -> Result<(), AllocE
     requires { places ≤ most_places }
     ensures { OnOk result (out.new ≡ out.old ++ point_text places point.now) }
 {
-    out.push(b'[')?;
-    write_number(point.x(), places, b',', out)?;
-    write_number(point.y(), places, b']', out)
+    // From the last byte to the first.
+    let mut room = [b']'; 64];
+    let start = put_number(point.y(), places, &mut room, 63);
+    let start = put_byte(b',', &mut room, start);
+    let start = put_number(point.x(), places, &mut room, start);
+    let start = put_byte(b'[', &mut room, start);
+    out.extend(&room[start..])
 }
 
 /// A comma before each item but the first.

@@ -1,4 +1,5 @@
-use Rattle.std.proofs.Common.{◌≡◌, ◌++◌, ◌∷◌, [], rules, w64, FitsSigned, to_z-of_z}
+use Rattle.std.proofs.Common.{◌≡◌, ◌-◌, ◌++◌, ◌∷◌, [], ◌∙◌, List, ℕ, take, drop, ap, rules, arith, length-drop, w64, FitsSigned, to_z-of_z}
+use Rattle.std.proofs.lemmas.List.{take_all}
 use Rattle.std.proofs.lemmas.Result.{on_ok_weaker}
 use Rattle.geojson_io.specs.Texts.{grid_text}
 use Rattle.geojson_io.proofs.NumberLemmas.{point_by_numbers}
@@ -8,8 +9,10 @@ pub returns : goal.returns
 returns c =
     let across : FitsSigned w64 c.x.result = search rules in
     let upward : FitsSigned w64 c.y.result = search rules in
-    let first : c.write_number.new.out ≡ c.push.new.self ++ (grid_text c.args.places c.x.result ++ 44 ∷ []) = simp to_z-of_z at c.in_ok-write_number.ensures in
-    on_ok_weaker c.write_number-2.result (λ h.
-    let second : c.write_number-2.new.out ≡ c.write_number.new.out ++ (grid_text c.args.places c.y.result ++ 93 ∷ []) = simp to_z-of_z at h in
-    point_by_numbers c.args.places c.args.point.now c.args.out.now c.push.new.self c.write_number.new.out c.write_number-2.new.out c.x.result c.y.result c.x.ensures.exact c.y.ensures.exact
-    c.in_ok-push.ensures.ok first second) c.write_number-2.ensures
+    let first : drop c.put_number-start.result c.put_number-start.new.room ≡ grid_text c.args.places c.y.result ++ 93 ∷ [] = simp to_z-of_z at c.put_number-start.ensures.written in
+    let second : drop c.put_number-start-2.result c.put_number-start-2.new.room ≡ grid_text c.args.places c.x.result ++ drop c.put_byte-start.result c.put_byte-start.new.room = simp to_z-of_z at c.put_number-start-2.ensures.written in
+    let start : ℕ = c.put_byte-start-2.result in
+    let room : List ℕ = c.put_byte-start-2.new.room in
+    let all : take (64 - start) (drop start room) ≡ drop start room = take_all (64 - start) (drop start room) (omega (arith, length-drop start room)) in
+    let point = point_by_numbers c.args.places c.args.point.now c.x.result c.y.result _ _ _ _ c.x.ensures.exact c.y.ensures.exact first c.put_byte-start.ensures.written second c.put_byte-start-2.ensures.written in
+    on_ok_weaker c.extend.result (λ h. h ∙ ap (λ (t : List ℕ). c.args.out.now ++ t) (all ∙ point)) c.extend.ensures.ok
