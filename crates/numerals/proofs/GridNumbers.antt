@@ -8,11 +8,11 @@ use Rattle.std.proofs.Math.Nat.{mul_comm, mod-lt, one-le-pow, mul-le-mul_right, 
 use Rattle.grid_bounds.specs.Bounds.{limit}
 use Rattle.numerals.specs.Numeral.{signed, numeral_of, rounded, floor_div, checked_grid, grid_at, grid_of_text, Numeral, RoundedIsNearest}
 use Rattle.numerals.specs.Decimal.{of_grid, decimal_text, is_negative}
-use Rattle.numerals.specs.Scaling.{IsScaled, goes_up, one_if}
+use Rattle.numerals.specs.Scaling.{IsScaled}
 use Rattle.numerals.specs.declared.numerals.Scaled.{Scaled}
 use Rattle.numerals.proofs.Scaling.{div-small, pow_ten}
 use Rattle.numerals.proofs.Quotients.{times_power}
-use Rattle.numerals.proofs.Rounding.{grid_some}
+use Rattle.numerals.proofs.Rounding.{grid_scaled, grid_some}
 use Rattle.numerals.proofs.RoundTrip.{Written, written_numeral}
 
 -- ## Quotients of integers
@@ -193,9 +193,6 @@ size_kept (negsuc n) p = ap unsigned_abs (times_power true (suc n) p) ∙ size_o
     size_of zero = refl
     size_of (suc n) = refl
 
-exact_sum : (minus : Bool) (n : ℕ) → n ≡ (exact_units n).units + one_if (goes_up minus (exact_units n))
-exact_sum minus n = sym (add-zero n)
-
 grid_read : (places : ℕ) (text : List ℕ) (v : Numeral) → numeral_of text ≡ Some v → grid_of_text places text ≡ checked_grid (rounded v.mantissa (v.exponent +ℤ pos places))
 unfolding grid_of_text
 grid_read places text v e = ap (grid_at places) e
@@ -209,5 +206,6 @@ grid_reads_back g places h l =
     let w : Written (of_grid g places) = written_numeral (of_grid g places) (omega (arith, size, bound)) in
     let scaled : IsScaled w.size ((pos 0 -ℤ pos w.places) +ℤ pos places) (exact_units (unsigned_abs g)) = scaled_back w.size w.places places (unsigned_abs g) w.short h l (w.value ∙ size) in
     grid_read places (decimal_text (of_grid g places)) _ w.is
-    ∙ grid_some (is_negative (of_grid g places)) w.size ((pos 0 -ℤ pos w.places) +ℤ pos places) (exact_units (unsigned_abs g)) (unsigned_abs g) scaled (exact_sum (is_negative (of_grid g places)) (unsigned_abs g)) l
+    ∙ grid_scaled (is_negative (of_grid g places)) w.size ((pos 0 -ℤ pos w.places) +ℤ pos places) (exact_units (unsigned_abs g)) scaled
+    ∙ ap (λ (n : ℕ). checked_grid (signed (is_negative (of_grid g places)) n)) (add-zero (unsigned_abs g)) ∙ grid_some (is_negative (of_grid g places)) (unsigned_abs g) l
     ∙ ap (λ (z : ℤ). Some z) (sign_kept g (10 ^ (18 - places)) some)

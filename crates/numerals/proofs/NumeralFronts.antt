@@ -1,9 +1,9 @@
 -- Plain numerals at the front of a text.
-use Rattle.std.proofs.Common.{ℕ, zero, suc, ◌≡◌, ◌+◌, ◌≤◌, List, [], ◌∷◌, ◌++◌, Bool, true, false, refl, ap, ◌∙◌, sym, subst, length, take, drop, arith, ℤ, pos, ◌-ℤ◌, Option, Some, None, append-nil, length-drop, length-take-le, cond, eqb, option_and_then}
+use Rattle.std.proofs.Common.{ℕ, zero, suc, ◌≡◌, ◌+◌, ◌≤◌, ◌<◌, List, [], ◌∷◌, ◌++◌, Bool, true, false, refl, ap, ◌∙◌, sym, subst, length, take, drop, arith, ℤ, pos, ◌-ℤ◌, Option, Some, None, append-nil, length-drop, length-take-le, cond, eqb, option_and_then, ◌⊎◌, inl, inr}
 use Rattle.std.specs.Prelude.{if◌then◌else◌, IfSome}
 use Rattle.std.proofs.Math.Seq.{take-add}
-use Rattle.std.proofs.lemmas.Bool.{cond-false, ne_eqb}
-use Rattle.std.proofs.lemmas.List.{drop-drop}
+use Rattle.std.proofs.lemmas.Bool.{cases_lt, cond-false, ne_eqb}
+use Rattle.std.proofs.lemmas.List.{drop-drop, take-take}
 use Rattle.std.specs.List.{prefix_len}
 use Rattle.numerals.specs.Bytes.{is_digit}
 use Rattle.numerals.specs.Numeral.{Numeral, digits_at, after_digits, fraction_part, grid_at, grid_of_text, is_some_digits, is_whole_part, number_of, number_onto, numeral_from, numeral_of, signed, unsigned_numeral, with_fraction, with_exponent}
@@ -108,6 +108,29 @@ unsigned_front minus text whole rest n count number fraction size v c l whole_is
     record { numeral_is = ap (λ (xs : List ℕ). unsigned_numeral minus xs) text_is ∙ numeral ∙ parts; few = fr.few } in
     let dropped : drop size rest ≡ drop (count + size) text = ap (λ (xs : List ℕ). drop size xs) rest_is ∙ drop-drop size count text in
     (plain, subst (λ (xs : List ℕ). NextFails is_numeric xs) dropped h.1, omega (arith, h.2, ap length rest_is, length-drop count text, l))
+
+-- the front of a window that goes on behind it
+next_within : (test : ℕ → Bool) (n k : ℕ) (xs : List ℕ) → n < k → NextFails test (drop n (take k xs)) → NextFails test (drop n xs)
+next_within test zero zero xs l h = absurd (omega (arith, l))
+next_within test zero (suc k) [] l h = tt
+next_within test zero (suc k) (x ∷ xs) l h = h
+next_within test (suc n) zero xs l h = absurd (omega (arith, l))
+next_within test (suc n) (suc k) [] l h = tt
+next_within test (suc n) (suc k) (x ∷ xs) l h = next_within test n k xs (omega arith) h
+
+pub window_front : (minus : Bool) (text window beyond : List ℕ) (k size : ℕ) (p : Plain) → k ≤ length text → window ≡ take k text → beyond ≡ drop k text → (size ≡ length window → NextFails is_numeric beyond) → IsUnsignedFront minus window p size → IsUnsignedFront minus text p size
+window_front minus text window beyond k size p l e b n h =
+    let wide : length window ≡ k = ap length e ∙ length-take-le k text l in
+    let within : size ≤ k = omega (arith, h.2, wide) in
+    let front : take size window ≡ take size text = ap (λ (xs : List ℕ). take size xs) e ∙ take-take size k text within in
+    (subst (λ (xs : List ℕ). IsPlain (unsigned_numeral minus xs) p) front h.0, next (cases_lt size k), omega (arith, within, l))
+  where
+    next : (size < k) ⊎ (k ≤ size) → NextFails is_numeric (drop size text)
+    next (inl s) = next_within is_numeric size k text s (subst (λ (xs : List ℕ). NextFails is_numeric (drop size xs)) e h.1)
+    next (inr s) =
+        let wide : length window ≡ k = ap length e ∙ length-take-le k text l in
+        let all : size ≡ k = omega (arith, h.2, wide, s) in
+        subst (λ (m : ℕ). NextFails is_numeric (drop m text)) (sym all) (subst (λ (xs : List ℕ). NextFails is_numeric xs) b (n (all ∙ sym wide)))
 
 pub minus_front : (text unsigned : List ℕ) (p : Plain) (n : ℕ) → text ≡ 45 ∷ unsigned → IsUnsignedFront true unsigned p n → IsPlainFront text p (n + 1)
 unfolding numeral_of

@@ -1,11 +1,11 @@
 -- Rounding a numeral that was scaled to a whole number.
-use Rattle.std.proofs.Common.{ℕ, zero, suc, ◌≡◌, ◌≢◌, ◌+◌, ◌-◌, ◌*◌, ◌/◌, ◌%◌, ◌^◌, ◌<◌, ◌≤◌, List, Bool, true, false, not, cond, ◌&&◌, ◌||◌, ◌==◌, min, ℤ, pos, negsuc, neg_ℤ, ◌+ℤ◌, ◌*ℤ◌, Some, None, refl, ap, ◌∙◌, sym, arith, lit<, true≢false, ◌⊎◌, inl, inr, mul_assoc, add-zero, add-one}
+use Rattle.std.proofs.Common.{ℕ, zero, suc, ◌≡◌, ◌≢◌, ◌+◌, ◌-◌, ◌*◌, ◌/◌, ◌%◌, ◌^◌, ◌<◌, ◌≤◌, List, Bool, true, false, not, cond, ◌&&◌, ◌||◌, ◌==◌, min, ℤ, pos, negsuc, neg_ℤ, ◌+ℤ◌, ◌-ℤ◌, ◌*ℤ◌, Some, None, refl, ap, ◌∙◌, sym, arith, lit<, true≢false, ◌⊎◌, inl, inr, mul_assoc, add-zero, add-one, zero-mul}
 use Rattle.std.specs.Prelude.{nat_lt, nat_le}
 use Rattle.std.proofs.lemmas.Bool.{cases_lt}
 use Rattle.std.proofs.lemmas.Bool.Decides.{nat_tests, Decides-eqb}
 use Rattle.std.proofs.lemmas.Int.{ints}
 use Rattle.std.proofs.lemmas.Nat.{div-mul-add, mod-mul-add, div-add-mod'}
-use Rattle.std.proofs.Math.Nat.{mul_comm, mod-lt, one-le-pow, mul-le-mul_right}
+use Rattle.std.proofs.Math.Nat.{mul_comm, mod-lt, one-le-pow, mul-le-mul_right, pow-le-pow_right}
 use Rattle.grid_bounds.specs.Bounds.{limit}
 use Rattle.numerals.specs.Numeral.{signed, numeral_of, rounded, floor_div, checked_grid, grid_at, grid_of_text}
 use Rattle.numerals.specs.Plain.{IsSize}
@@ -320,18 +320,57 @@ fits x l = grind (arith, nat_tests)
 too_large : (x : ℕ) → limit < x → nat_le x limit ≡ false
 too_large x l = grind (arith, nat_tests)
 
-pub grid_some : (minus : Bool) (n : ℕ) (s : ℤ) (r : Scaled) (size : ℕ) → IsScaled n s r → size ≡ r.units + one_if (goes_up minus r) → size ≤ limit → checked_grid (rounded (signed minus n) s) ≡ Some (signed minus size)
-grid_some minus n s r size h e l =
-    let g = rounded_by minus n s r h in
-    let same : g.0 + one_if (goes_up minus r) ≡ size = omega (arith, g.1, e, l) in
-    let is : rounded (signed minus n) s ≡ signed minus size = g.2 ∙ ap (λ (x : ℕ). signed minus x) same in
-    ap (λ (z : ℤ). checked_grid z) is ∙ ap (λ (b : Bool). cond b (Some (signed minus size)) None) (ap (λ (x : ℕ). nat_le x limit) (signed_size minus size) ∙ fits size l)
+pub grid_some : (minus : Bool) (size : ℕ) → size ≤ limit → checked_grid (signed minus size) ≡ Some (signed minus size)
+grid_some minus size l = ap (λ (b : Bool). cond b (Some (signed minus size)) None) (ap (λ (x : ℕ). nat_le x limit) (signed_size minus size) ∙ fits size l)
 
-pub grid_none : (minus : Bool) (n : ℕ) (s : ℤ) (r : Scaled) (size : ℕ) → IsScaled n s r → size ≡ r.units + one_if (goes_up minus r) → limit < size → checked_grid (rounded (signed minus n) s) ≡ None
-grid_none minus n s r size h e l =
-    let g = rounded_by minus n s r h in
-    let large : limit < g.0 + one_if (goes_up minus r) = omega (arith, g.1, e, l) in
-    ap (λ (z : ℤ). checked_grid z) g.2 ∙ ap (λ (b : Bool). cond b (Some (signed minus (g.0 + one_if (goes_up minus r)))) None) (ap (λ (x : ℕ). nat_le x limit) (signed_size minus (g.0 + one_if (goes_up minus r))) ∙ too_large (g.0 + one_if (goes_up minus r)) large)
+pub grid_none : (minus : Bool) (size : ℕ) → limit < size → checked_grid (signed minus size) ≡ None
+grid_none minus size l = ap (λ (b : Bool). cond b (Some (signed minus size)) None) (ap (λ (x : ℕ). nat_le x limit) (signed_size minus size) ∙ too_large size l)
+
+pub grid_scaled : (minus : Bool) (n : ℕ) (s : ℤ) (r : Scaled) → IsScaled n s r → checked_grid (rounded (signed minus n) s) ≡ checked_grid (signed minus (r.units + one_if (goes_up minus r)))
+grid_scaled minus n s r h = go (rounded_by minus n s r h)
+  where
+    go : (q : ℕ) × (r.units ≡ min q units_cap) × (rounded (signed minus n) s ≡ signed minus (q + one_if (goes_up minus r))) → checked_grid (rounded (signed minus n) s) ≡ checked_grid (signed minus (r.units + one_if (goes_up minus r)))
+    go (q, u, e) = ap (λ (z : ℤ). checked_grid z) e ∙ by (cases_lt q units_cap)
+      where
+        by : (q < units_cap) ⊎ (units_cap ≤ q) → checked_grid (signed minus (q + one_if (goes_up minus r))) ≡ checked_grid (signed minus (r.units + one_if (goes_up minus r)))
+        by (inl l) =
+            let same : q ≡ r.units = omega (arith, u, l) in
+            ap (λ (x : ℕ). checked_grid (signed minus (x + one_if (goes_up minus r)))) same
+        by (inr l) =
+            let capped : r.units ≡ units_cap = omega (arith, u, l) in
+            grid_none minus (q + one_if (goes_up minus r)) (omega (arith, l)) ∙ sym (grid_none minus (r.units + one_if (goes_up minus r)) (omega (arith, capped)))
+
+-- ## A whole number with zeros added
+
+at_up : (f places : ℕ) → f ≤ places → (pos 0 -ℤ pos f) +ℤ pos places ≡ pos (places - f)
+at_up f places l = omega (arith, ints)
+
+-- eighteen zeros are enough to pass the limit
+enough : (minus : Bool) (n z : ℕ) → checked_grid (signed minus (n * 10 ^ min z 18)) ≡ checked_grid (signed minus (n * 10 ^ z))
+enough minus n z = go (cases_lt z 18)
+  where
+    past : (n z : ℕ) → 18 ≤ z → limit < suc n * 10 ^ z
+    past n z l =
+        let a : 10 ^ 18 ≤ 10 ^ z = pow-le-pow_right (lit< tt) l in
+        let b : 1 * 10 ^ z ≤ suc n * 10 ^ z = mul-le-mul_right (10 ^ z) (omega arith) in
+        omega (arith, a, b)
+
+    from : (n : ℕ) → 18 ≤ z → checked_grid (signed minus (n * 10 ^ 18)) ≡ checked_grid (signed minus (n * 10 ^ z))
+    from zero l = ap (λ (x : ℕ). checked_grid (signed minus x)) (zero-mul (10 ^ 18) ∙ sym (zero-mul (10 ^ z)))
+    from (suc n) l = grid_none minus (suc n * 10 ^ 18) (past n 18 (omega arith)) ∙ sym (grid_none minus (suc n * 10 ^ z) (past n z l))
+
+    go : (z < 18) ⊎ (18 ≤ z) → checked_grid (signed minus (n * 10 ^ min z 18)) ≡ checked_grid (signed minus (n * 10 ^ z))
+    go (inl l) =
+        let same : min z 18 ≡ z = omega arith in
+        ap (λ (k : ℕ). checked_grid (signed minus (n * 10 ^ k))) same
+    go (inr l) =
+        let most : min z 18 ≡ 18 = omega arith in
+        ap (λ (k : ℕ). checked_grid (signed minus (n * 10 ^ k))) most ∙ from n l
+
+pub grid_raised : (minus : Bool) (n f places : ℕ) → f ≤ places → checked_grid (rounded (signed minus n) ((pos 0 -ℤ pos f) +ℤ pos places)) ≡ checked_grid (signed minus (n * 10 ^ min (places - f) 18))
+grid_raised minus n f places l =
+    ap (λ (s : ℤ). checked_grid (rounded (signed minus n) s)) (at_up f places l)
+    ∙ ap (λ (z : ℤ). checked_grid z) (times_power minus n (10 ^ (places - f))) ∙ sym (enough minus n (places - f))
 
 pub size_grid : (places : ℕ) (bytes text : List ℕ) (minus : Bool) (r : Scaled) → bytes ≡ text → (h : IsSize places (numeral_of bytes) minus r) → grid_of_text places text ≡ checked_grid (rounded (signed minus h.number) (h.exponent +ℤ pos places))
 unfolding grid_of_text

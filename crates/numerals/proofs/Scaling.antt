@@ -19,6 +19,19 @@ digit_small b e = grind (arith, nat_tests)
 pub pow_ten : (k : ℕ) → 10 ^ suc k ≡ 10 ^ k * 10
 pow_ten k = pow-suc 10 k
 
+-- a number of so many digits, and of one more
+pub word_size : (k n : ℕ) → n < 10 ^ k → k < 19 → n < 10 ^ 18
+word_size k n l h =
+    let few : k ≤ 18 = omega arith in
+    let most : 10 ^ k ≤ 10 ^ 18 = pow-le-pow_right (lit< tt) few in
+    omega (arith, l, most)
+
+pub digit_more : (before count n d : ℕ) → n < 10 ^ (before + count) → d < 10 → n * 10 + d < 10 ^ (before + (count + 1))
+digit_more before count n d l h =
+    let next : before + (count + 1) ≡ suc (before + count) = omega arith in
+    let wide : 10 ^ (before + (count + 1)) ≡ 10 ^ (before + count) * 10 = ap (λ (k : ℕ). 10 ^ k) next ∙ pow_ten (before + count) in
+    omega (arith, l, h, wide)
+
 expand : (n d P : ℕ) → (n * 10 + d) * P ≡ n * (P * 10) + d * P
 expand n d P = omega arith
 

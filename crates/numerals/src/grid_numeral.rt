@@ -1,6 +1,5 @@
 ghost use Rattle.std.specs.Prelude.{◌≡◌, ◌≤◌, IfSome, Some};
-ghost use Rattle.grid_bounds.specs.Bounds.{limit};
-ghost use Rattle.numerals.specs.Numeral.{grid_at, grid_of_text, signed};
+ghost use Rattle.numerals.specs.Numeral.{checked_grid, grid_at, grid_of_text, signed};
 ghost use Rattle.numerals.specs.Plain.{IsGridFront, plain_numeral};
 ghost use Rattle.numerals.specs.Scaling.{goes_up, one_if};
 
@@ -22,11 +21,7 @@ pub fn numeral_to_grid(text: &str, places: u8) -> Option<i64>
     ensures exact { result ≡ grid_of_text places text.now }
 {
     let (minus, scaled) = size_of(text.as_bytes(), places)?;
-    let size = scaled.units + rounding(&scaled, minus);
-    if size > GRID_LIMIT {
-        return None;
-    }
-    Some(with_sign(minus, size))
+    with_sign(minus, scaled.units + rounding(&scaled, minus))
 }
 
 /// The grid number of the numeral at the front of a text, behind which no byte stands that could go on with it, and how
@@ -35,6 +30,7 @@ pub fn numeral_to_grid(text: &str, places: u8) -> Option<i64>
 /// Shape and units: as for `numeral_to_grid`.
 /// Errors: `None` where the grid number passes [`LIMIT`] either way, and also for a numeral that is long or has an
 /// exponent, which has to be read otherwise.
+#[inline(always)]
 pub fn front_to_grid(text: &[u8], places: u8) -> Option<(i64, usize)>
     ensures { IfSome result (λ r. IsGridFront places text.now r.0 r.1) }
 {
@@ -44,16 +40,16 @@ pub fn front_to_grid(text: &[u8], places: u8) -> Option<(i64, usize)>
 }
 
 // The grid number of such a numeral.
+#[inline(always)]
 fn plain_to_grid(plain: &Plain, places: u8) -> Option<i64>
     requires { plain.now.fraction ≤ 18 }
     ensures exact { result ≡ grid_at places (Some (plain_numeral plain.now)) }
 {
-    let scaled = plain.scaled(places);
-    let size = scaled.units + rounding(&scaled, plain.minus);
-    if size > GRID_LIMIT {
-        return None;
+    if plain.is_finer(places) {
+        let scaled = plain.scaled(places);
+        return with_sign(plain.minus, scaled.units + rounding(&scaled, plain.minus));
     }
-    Some(with_sign(plain.minus, size))
+    with_sign(plain.minus, plain.raised(places))
 }
 
 // What rounding adds to the size. Halves go up: away from zero above it, towards zero below it.
@@ -67,10 +63,14 @@ fn rounding(scaled: &Scaled, minus: bool) -> u128
     }
 }
 
-fn with_sign(minus: bool, size: u128) -> i64
-    requires { size ≤ limit }
-    ensures { result ≡ signed minus size }
+// The number of this sign and size, where the grid has it.
+#[inline(always)]
+fn with_sign(minus: bool, size: u128) -> Option<i64>
+    ensures { result ≡ checked_grid (signed minus size) }
 {
+    if size > GRID_LIMIT {
+        return None;
+    }
     let size = size as i64;
-    if minus { -size } else { size }
+    Some(if minus { -size } else { size })
 }

@@ -13,9 +13,11 @@ mod grid_numeral;
 pub mod laws;
 mod numerals;
 mod plain_numeral;
+mod powers;
 mod units;
 
 pub use decimal::Decimal;
 pub use grid_numeral::{front_to_grid, numeral_to_grid};
 pub use numerals::{digit_count, is_numeral};
+pub use powers::ten_to;
 pub use units::whole_units;

@@ -1,4 +1,4 @@
-ghost use Rattle.std.specs.Prelude.{◌≡◌, ℕ, suc, ◌<◌, ◌≤◌, ◌*◌, ◌^◌, min, pos, ◌+ℤ◌, ◌-ℤ◌, ◌∷◌, IfNone, IfSome, length, take, false};
+ghost use Rattle.std.specs.Prelude.{◌≡◌, ℕ, suc, ◌+◌, ◌-◌, ◌<◌, ◌≤◌, ◌*◌, ◌^◌, min, pos, ◌+ℤ◌, ◌-ℤ◌, ◌∷◌, IfNone, IfSome, length, take, true, false};
 ghost use Rattle.numerals.specs.Numeral.{digits_at, number_onto, numeral_of};
 ghost use Rattle.numerals.specs.Plain.{FrontFraction, IsPlain, IsPlainFront, IsUnsignedFront, is_numeric};
 ghost use Rattle.numerals.specs.Bytes.{NextFails, NextIsNot};
@@ -6,11 +6,15 @@ ghost use Rattle.numerals.specs.Scaling.{IsScaled, IsCut};
 ghost use Rattle.numerals.specs.Units.{units_cap};
 
 use crate::numerals::{Scaled, UNITS_CAP, is_digit, is_whole, raised};
+use crate::powers::ten_to;
 
-/// A digit may follow a number below this: 10^17.
-const NUMBER_LIMIT: u64 = 100_000_000_000_000_000;
+/// A number of this many digits fits a machine word.
+const MOST_DIGITS: usize = 19;
 /// The greatest number of digits after the point.
 const GREATEST_FRACTION: usize = 18;
+
+/// A number that isn't 0 passes the limit of the grid with this many zeros after it.
+const MOST_ZEROS: usize = 18;
 
 /// A numeral without an exponent whose digits, read without the point, are a number of one machine word:
 /// `number`, of which `fraction` digits stand after the point.
@@ -51,12 +55,26 @@ impl Plain {
     fn unsigned_front(minus: bool, text: &[u8]) -> Option<(Plain, usize)>
         ensures { IfSome result (λ r. IsUnsignedFront minus text.now r.0 r.1) }
     {
-        let (front, count) = front_number(0, text)?;
+        let (window, beyond) = text.split_at(text.len().min(MOST_DIGITS));
+        let (plain, size) = Plain::short_front(minus, window)?;
+        if is_cut(size, window, beyond) {
+            return None;
+        }
+        Some((plain, size))
+    }
+
+    // The same of a text that is too short to pass a machine word.
+    #[inline(always)]
+    fn short_front(minus: bool, text: &[u8]) -> Option<(Plain, usize)>
+        requires { length text.now ≤ 19 }
+        ensures { IfSome result (λ r. IsUnsignedFront minus text.now r.0 r.1) }
+    {
+        let (front, count) = front_number(0, 0, text);
         let (whole, rest) = text.split_at(count);
         if !is_whole(whole) {
             return None;
         }
-        let (number, fraction, size) = front_fraction(front, rest)?;
+        let (number, fraction, size) = front_fraction(front, count, rest)?;
         let plain = Plain {
             minus,
             number,
@@ -65,8 +83,15 @@ impl Plain {
         Some((plain, count + size))
     }
 
+    /// Whether digits stand after those of the units of 10^-`places`.
+    pub(crate) fn is_finer(&self, places: u8) -> bool
+        ensures finer { result ≡ true → places < self.now.fraction }
+        ensures other { result ≡ false → self.now.fraction ≤ places }
+    {
+        self.fraction > usize::from(places)
+    }
+
     /// Its size in units of 10^-`places`.
-    #[inline(always)]
     pub(crate) fn scaled(&self, places: u8) -> Scaled
         requires { self.now.fraction ≤ 18 }
         ensures { IsScaled self.now.number ((pos 0 -ℤ pos self.now.fraction) +ℤ pos places) result }
@@ -81,40 +106,50 @@ impl Plain {
             more: false,
         }
     }
+
+    /// The same where it is a whole number, but that no more than eighteen zeros are added.
+    pub(crate) fn raised(&self, places: u8) -> u128
+        requires { self.now.fraction ≤ places }
+        ensures { result ≡ self.now.number * 10 ^ min (places - self.now.fraction) 18 }
+    {
+        let zeros = usize::from(places) - self.fraction;
+        times(self.number, ten_to(zeros.min(MOST_ZEROS)))
+    }
 }
 
-// The number that the digits at the front make after those of `n`, and how many they are; none where the number might
-// pass a machine word.
+// The number that the digits at the front make after the `before` digits of `n`, and how many they are.
 #[inline(always)]
-fn front_number(n: u64, text: &[u8]) -> Option<(u64, usize)>
-    ensures number { IfSome result (λ r. r.0 ≡ number_onto n (take r.1 text.now)) }
-    ensures count { IfSome result (λ r. r.1 ≡ length (digits_at text.now)) }
-    ensures fits { IfSome result (λ r. r.1 ≤ length text.now) }
+fn front_number(n: u64, before: usize, text: &[u8]) -> (u64, usize)
+    requires small { n < 10 ^ before }
+    requires few { before + length text.now ≤ 19 }
+    ensures number { result.0 ≡ number_onto n (take result.1 text.now) }
+    ensures count { result.1 ≡ length (digits_at text.now) }
+    ensures fits { result.1 ≤ length text.now }
+    ensures small { result.0 < 10 ^ (before + result.1) }
 {
     let mut number = n;
     let mut count = 0;
     while count < text.len() && is_digit(text[count]) {
-        if number >= NUMBER_LIMIT {
-            return None;
-        }
         number = number * 10 + u64::from(text[count] - b'0');
         count += 1;
     }
-    Some((number, count))
+    (number, count)
 }
 
 // The same of a point and digits, or of nothing, behind which no byte stands that could go on with a number; and how
 // many bytes these are.
 #[inline(always)]
-fn front_fraction(n: u64, text: &[u8]) -> Option<(u64, usize, usize)>
+fn front_fraction(n: u64, before: usize, text: &[u8]) -> Option<(u64, usize, usize)>
+    requires small { n < 10 ^ before }
+    requires few { before + length text.now ≤ 19 }
     ensures { IfSome result (λ r. FrontFraction n text.now r.0 r.1 r.2) }
 {
     let Some(behind) = behind_byte(text, b'.') else {
         return whole_front(n, text);
     };
-    let (number, count) = front_number(n, behind)?;
+    let (number, count) = front_number(n, before, behind);
     let (_, rest) = behind.split_at(count);
-    if count == 0 || count > GREATEST_FRACTION || goes_on(rest) {
+    if count == 0 || goes_on(rest) {
         return None;
     }
     Some((number, count, count + 1))
@@ -150,6 +185,13 @@ fn goes_on(text: &[u8]) -> bool
     }
 }
 
+// Whether what is read up to the end of the window may go on beyond it.
+fn is_cut(size: usize, window: &[u8], beyond: &[u8]) -> bool
+    ensures { result ≡ false → size ≡ length window.now → NextFails is_numeric beyond.now }
+{
+    size == window.len() && goes_on(beyond)
+}
+
 fn is_in_number(byte: u8) -> bool
     ensures { result ≡ is_numeric byte }
 {
@@ -178,27 +220,11 @@ fn raised_word(n: u64, power: usize) -> u128
     if power > GREATEST_FRACTION {
         return raised(u128::from(n), power as u128);
     }
-    times(n, wide_ten_to(power)).min(UNITS_CAP)
+    times(n, ten_to(power)).min(UNITS_CAP)
 }
 
 fn times(a: u64, b: u64) -> u128
     ensures { result ≡ a * b }
 {
     u128::from(a) * u128::from(b)
-}
-
-fn wide_ten_to(power: usize) -> u64
-    requires { power ≤ 18 }
-    ensures { result ≡ 10 ^ power }
-{
-    10_u64.pow(power as u32)
-}
-
-fn ten_to(power: usize) -> u64
-    requires { power ≤ 17 }
-    ensures value { result ≡ 10 ^ power }
-    ensures positive { 0 < result }
-    ensures most { result ≤ 10 ^ 17 }
-{
-    10_u64.pow(power as u32)
 }

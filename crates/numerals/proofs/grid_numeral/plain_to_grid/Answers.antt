@@ -1,21 +1,15 @@
-use Rattle.std.proofs.Common.{rules, ◌≡◌, ◌∙◌, ◌+◌, ap, sym, ℕ, ℤ, Some}
-use Rattle.numerals.specs.Numeral.{grid_at}
-use Rattle.numerals.specs.Plain.{plain_numeral}
-use Rattle.numerals.specs.Scaling.{goes_up, one_if}
-use Rattle.numerals.proofs.Rounding.{grid_some, grid_none}
+use Rattle.std.proofs.Common.{◌∙◌, ◌+◌, ap, sym, ℕ}
+use Rattle.numerals.specs.Numeral.{checked_grid, signed}
+use Rattle.numerals.proofs.Rounding.{grid_raised, grid_scaled}
 use Rattle.numerals.proofs.grid_numeral.plain_to_grid.Goals as goal
 
-pub returns-then-size-gt-GRID_LIMIT : goal.returns-then-size-gt-GRID_LIMIT
-returns-then-size-gt-GRID_LIMIT c =
+pub returns-then-is_finer : goal.returns-then-is_finer
+returns-then-is_finer c =
     let p = c.args.plain.now in
     let r = c.scaled-scaled.result in
-    let size : r.units + c.rounding.result ≡ r.units + one_if (goes_up p.minus r) = ap (λ (x : ℕ). r.units + x) c.rounding.ensures in
-    record { exact = sym (grid_none p.minus p.number _ r (r.units + c.rounding.result) c.scaled-scaled.ensures size c.if-size-gt-GRID_LIMIT.true) }
+    record { exact = c.with_sign.ensures ∙ ap (λ (x : ℕ). checked_grid (signed p.minus (r.units + x))) c.rounding.ensures ∙ sym (grid_scaled p.minus p.number _ r c.scaled-scaled.ensures) }
 
 pub returns : goal.returns
 returns c =
     let p = c.args.plain.now in
-    let r = c.scaled-scaled.result in
-    let size : r.units + c.rounding.result ≡ r.units + one_if (goes_up p.minus r) = ap (λ (x : ℕ). r.units + x) c.rounding.ensures in
-    let is : grid_at c.args.places (Some (plain_numeral p)) ≡ Some c.with_sign.result = grid_some p.minus p.number _ r (r.units + c.rounding.result) c.scaled-scaled.ensures size c.if-size-gt-GRID_LIMIT.false ∙ ap (λ (z : ℤ). Some z) (sym c.with_sign.ensures) in
-    record { exact = search (rules, is) }
+    record { exact = c.with_sign-2.ensures ∙ ap (λ (x : ℕ). checked_grid (signed p.minus x)) c.raised.ensures ∙ sym (grid_raised p.minus p.number p.fraction c.args.places (c.is_finer.ensures.other c.if-is_finer.false)) }

@@ -1,8 +1,8 @@
-use Rattle.std.proofs.Common.{sym}
-use Rattle.numerals.proofs.NumeralFronts.{unsigned_front}
+use Rattle.std.proofs.Common.{arith, ◌≤◌, length}
+use Rattle.numerals.proofs.NumeralFronts.{window_front}
 use Rattle.numerals.proofs.plain_numeral.Plain.unsigned_front.Goals as goal
 
 pub returns : goal.returns
 returns c =
-    unsigned_front c.args.minus c.args.text.now _ _ c.in_ok-front.front c.in_ok-front.count c.in_ok-number.number c.in_ok-number.fraction c.in_ok-number.size
-    c.in_ok-front.ensures.number c.in_ok-front.ensures.count c.in_ok-front.ensures.fits c.split_at.ensures.front c.split_at.ensures.back (sym (c.if-not-is_whole.ensures)) c.in_ok-number.ensures
+    let within : c.min.result ≤ length c.args.text.now = omega (arith, c.min.ensures) in
+    window_front c.args.minus c.args.text.now c.split_at.result.0.now c.split_at.result.1.now c.min.result c.in_ok-plain.size c.in_ok-plain.plain within c.split_at.ensures.front c.split_at.ensures.back (c.is_cut.ensures c.if-is_cut.false) c.in_ok-plain.ensures
