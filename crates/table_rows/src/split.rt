@@ -1,19 +1,22 @@
-ghost use Rattle.std.specs.Prelude.{◌≡◌, ◌<◌, ◌++◌, ◌∷◌, [], All, IfOk, OnOk, OnErr, Some, length, map, slice_get};
+ghost use Rattle.std.specs.Prelude.{◌≡◌, ◌<◌, ◌++◌, ◌∷◌, [], All, Ok, IfOk, OnOk, OnErr, Some, length, map, slice_get};
 ghost use Rattle.std.specs.Option.{option_copied};
-ghost use Rattle.table_terms.specs.Names.{value_at};
-ghost use Rattle.table_rows.specs.Refusals.{Answers};
-ghost use Rattle.table_rows.specs.Rows.{first_of};
+ghost use Rattle.json_values.specs.Table.{AreDistinctNames};
+ghost use Rattle.table_terms.specs.Names.{place_of, value_at};
+ghost use Rattle.table_terms.specs.Refusals.{unless};
+ghost use Rattle.table_rows.specs.Groups.{groups_of};
+ghost use Rattle.table_rows.specs.Refusals.{Answers, refused_item};
+ghost use Rattle.table_rows.specs.Rows.{first_of, picked};
 ghost use Rattle.table_rows.specs.Splitting.{piece, single_rows, split_rows};
 
-use crate::fault::TableFault;
+use crate::fault::{TableFault, TableWhy};
 use crate::groups::groups_at;
-use crate::items::check_item;
 use crate::rows::{copy_at, first_row};
 use grid_base::IdList;
 use json_values::{RowList, Table, Value};
 use std::alloc::{AllocError, Global};
 use std::marker::Model;
 use table_terms::NameSet;
+use text_core::NameList;
 
 /// The rows of one value of a field, or without a field one row.
 #[derive(Drop)]
@@ -100,12 +103,30 @@ fn split_by(alloc: Global, t: &Table, field: &str) -> Result<SplitList, TableFau
     ensures exact { Answers result (split_rows t.now (Some field.now)) }
     ensures below { IfOk result (λ items. All (λ item. All (λ n. n < length t.now.rows) item.rows) items) }
 {
-    let columns = NameSet::of(alloc, t.names())?;
-    let mut seen = NameSet::new(alloc);
-    check_item(alloc, &columns, &mut seen, 0, field)?;
-    let place = columns.place_or_end(field);
-    let members = groups_at(alloc, t.rows(), &[place])?;
-    Ok(with_values(alloc, t.rows(), place, members)?)
+    let place = listed_place(alloc, t.names(), field)?;
+    Ok(pieces_at(alloc, t.rows(), place)?)
+}
+
+/// The place of a field, which is one of the names.
+fn listed_place(alloc: Global, names: &NameList, field: &str) -> Result<u32, TableFault>
+    requires distinct { AreDistinctNames names.now }
+    ensures exact { Answers result (unless (refused_item names.now [] 0 (field.now ∷ [])) (Ok (place_of names.now field.now))) }
+{
+    let columns = NameSet::of(alloc, names)?;
+    if !columns.has(field) {
+        let why = TableWhy::NoField { item: 0 };
+        return Err(TableFault::Bad { why });
+    }
+    Ok(columns.place_or_end(field))
+}
+
+/// The rows for each value at a place, in order of first appearance.
+fn pieces_at(alloc: Global, rows: &RowList, place: u32) -> Result<SplitList, AllocError>
+    ensures pieces { IfOk result (λ items. items ≡ map (piece rows.now place) (groups_of (map (picked (place ∷ [])) rows.now))) }
+    ensures below { IfOk result (λ items. All (λ item. All (λ n. n < length rows.now) item.rows) items) }
+{
+    let members = groups_at(alloc, rows, &[place])?;
+    with_values(alloc, rows, place, members)
 }
 
 /// Each group with the value that its first row has at a place.
