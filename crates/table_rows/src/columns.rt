@@ -8,7 +8,7 @@ ghost use Rattle.json_values.specs.Table.{AreDistinctNames};
 
 use crate::fault::TableFault;
 use crate::items::{check_list, places_of};
-use crate::rows::{copy_names, pick_row};
+use crate::rows::{append_picked_rows, copy_names};
 use json_values::{RowList, Table};
 use std::alloc::{AllocError, Global};
 use table_terms::NameSet;
@@ -48,8 +48,6 @@ pub(crate) fn pick_rows(
     ensures taken { IfOk result (λ r. r ≡ map (picked places.now) rows.now) }
 {
     let mut out = RowList::new(alloc);
-    for row in rows.as_slice() {
-        out.push(pick_row(alloc, row, places)?)?;
-    }
+    append_picked_rows(alloc, &mut out, rows, places)?;
     Ok(out)
 }

@@ -12,12 +12,12 @@ use crate::fault::{TableFault, TableWhy};
 use crate::group_sums::append_sums;
 use crate::groups::{group_list, groups_at};
 use crate::items::{check_list, places_of};
-use crate::rows::{append_picked, first_row};
+use crate::rows::{append_names, append_picked, first_row};
 use grid_base::{GroupList, IdList};
 use json_values::{Row, RowList, Table};
 use std::alloc::{AllocError, Global};
 use table_terms::{GroupSpec, NameSet};
-use text_core::{NameList, Text};
+use text_core::NameList;
 
 /// Rows in groups, and a table with a row for each group.
 #[derive(Drop)]
@@ -57,15 +57,6 @@ fn listed_fields(alloc: Global, spec: &GroupSpec) -> Result<NameList, AllocError
     Ok(names)
 }
 
-fn append_names(alloc: Global, names: &mut NameList, more: &NameList) -> Result<(), AllocError>
-    ensures all { OnOk result (names.new ≡ names.old ++ more.now) }
-{
-    for name in more.as_slice() {
-        names.push(Text::of(alloc, name.as_str())?)?;
-    }
-    Ok(())
-}
-
 /// The rows in groups, and the table of the groups under these names.
 fn table_of_groups(
     alloc: Global,
@@ -103,8 +94,7 @@ fn members_of(
     ensures below { IfOk result (λ members. All (All (λ n. n < length t.now.rows)) members.items) }
 {
     let places = places_of(alloc, columns, fields.as_slice())?;
-    let members = groups_at(alloc, t.rows(), places.as_slice())?;
-    Ok(members)
+    groups_at(alloc, t.rows(), places.as_slice())
 }
 
 /// The row of each group, and the refusal of the lowest row.
@@ -124,7 +114,7 @@ fn rows_of_groups(
     let by = places_of(alloc, columns, spec.by.as_slice())?;
     let copied = places_of(alloc, columns, spec.copy.as_slice())?;
     let summed = places_of(alloc, columns, spec.sum.as_slice())?;
-    let rows = group_rows_of(
+    group_rows_of(
         alloc,
         t.rows(),
         members,
@@ -132,8 +122,7 @@ fn rows_of_groups(
         copied.as_slice(),
         summed.as_slice(),
         refused,
-    )?;
-    Ok(rows)
+    )
 }
 
 fn refuse(refused: Option<TableWhy>) -> Result<(), TableFault>

@@ -4,14 +4,13 @@ ghost use Rattle.std.specs.List.{IsDistinct, list_all};
 ghost use Rattle.std.specs.Str.{bytes_eq};
 ghost use Rattle.indexmap.specs.IndexSet.{insert_all};
 ghost use Rattle.table_rows.specs.Columns.{cells};
-ghost use Rattle.table_rows.specs.Merge.{all_names, differing, merge_tables, merged_rows, refused_merge};
-ghost use Rattle.table_terms.specs.Names.{has_name};
+ghost use Rattle.table_rows.specs.Merge.{all_names, differing, merge_tables, merged_rows, refused_merge, same_names};
+ghost use Rattle.table_terms.specs.Names.{has_name, place_of};
 ghost use Rattle.table_rows.specs.Refusals.{Answers, Refuses};
-ghost use Rattle.table_rows.specs.Rows.{picked};
 
 use crate::fault::{TableFault, TableWhy};
 use crate::items::places_of;
-use crate::rows::pick_row;
+use crate::rows::append_picked_rows;
 use json_values::{RowList, Table};
 use std::alloc::{AllocError, Global};
 use std::marker::Model;
@@ -119,8 +118,7 @@ fn check_layer(
     requires same { names.now ≡ first.now }
     ensures exact { Refuses result (differing first.now i (table.now ∷ [])) }
 {
-    let others = NameSet::of(alloc, table.names())?;
-    if has_all(&others, first) && has_all(names, table.names()) {
+    if has_same_names(alloc, names, first, table)? {
         return Ok(());
     }
     let Ok(layer) = u32::try_from(i) else {
@@ -128,6 +126,20 @@ fn check_layer(
     };
     let why = TableWhy::FieldsDiffer { layer };
     Err(TableFault::Bad { why })
+}
+
+/// Whether the names of a table are those of the first one, in any order.
+fn has_same_names(
+    alloc: Global,
+    names: &NameSet,
+    first: &NameList,
+    table: &Table,
+) -> Result<bool, AllocError>
+    requires same { names.now ≡ first.now }
+    ensures same { IfOk result (λ same. same ≡ same_names first.now table.now.names) }
+{
+    let others = NameSet::of(alloc, table.names())?;
+    Ok(has_all(&others, first) && has_all(names, table.names()))
 }
 
 fn has_all(set: &NameSet, names: &NameList) -> bool
@@ -220,21 +232,14 @@ fn append_rows(
 ) -> Result<(), AllocError>
     ensures rows { OnOk result (rows.new ≡ rows.old ++ map (cells table.now.names names.now) table.now.rows) }
 {
-    let columns = NameSet::of(alloc, table.names())?;
-    let places = places_of(alloc, &columns, names.as_slice())?;
+    let places = places_in(alloc, table, names)?;
     append_picked_rows(alloc, rows, table.rows(), places.as_slice())
 }
 
-fn append_picked_rows(
-    alloc: Global,
-    rows: &mut RowList,
-    more: &RowList,
-    places: &[u32],
-) -> Result<(), AllocError>
-    ensures rows { OnOk result (rows.new ≡ rows.old ++ map (picked places.now) more.now) }
+/// The places of the fields among the names of a table.
+fn places_in(alloc: Global, table: &Table, fields: &NameList) -> Result<Vec<u32>, AllocError>
+    ensures places { IfOk result (λ places. places.items ≡ map (place_of table.now.names) fields.now) }
 {
-    for row in more.as_slice() {
-        rows.push(pick_row(alloc, row, places)?)?;
-    }
-    Ok(())
+    let columns = NameSet::of(alloc, table.names())?;
+    places_of(alloc, &columns, fields.as_slice())
 }

@@ -57,10 +57,21 @@ pub fn copy_names(alloc: Global, names: &NameList) -> Result<NameList, AllocErro
     ensures copied { IfOk result (λ copy. copy ≡ names.now) }
 {
     let mut copy = NameList::new(alloc);
-    for name in names.as_slice() {
-        copy.push(Text::of(alloc, name.as_str())?)?;
-    }
+    append_names(alloc, &mut copy, names)?;
     Ok(copy)
+}
+
+pub(crate) fn append_names(
+    alloc: Global,
+    names: &mut NameList,
+    more: &NameList,
+) -> Result<(), AllocError>
+    ensures all { OnOk result (names.new ≡ names.old ++ more.now) }
+{
+    for name in more.as_slice() {
+        names.push(Text::of(alloc, name.as_str())?)?;
+    }
+    Ok(())
 }
 
 pub(crate) fn copy_row(alloc: Global, row: &Row) -> Result<Row, AllocError>
@@ -104,6 +115,21 @@ pub(crate) fn pick_row(alloc: Global, row: &Row, places: &[u32]) -> Result<Row, 
     let mut out = Row::new(alloc);
     append_picked(alloc, &mut out, row, places)?;
     Ok(out)
+}
+
+/// Appends the values at these places of each row.
+pub(crate) fn append_picked_rows(
+    alloc: Global,
+    rows: &mut RowList,
+    more: &RowList,
+    places: &[u32],
+) -> Result<(), AllocError>
+    ensures rows { OnOk result (rows.new ≡ rows.old ++ map (picked places.now) more.now) }
+{
+    for row in more.as_slice() {
+        rows.push(pick_row(alloc, row, places)?)?;
+    }
+    Ok(())
 }
 
 pub(crate) fn copy_rows(alloc: Global, rows: &RowList) -> Result<RowList, AllocError>

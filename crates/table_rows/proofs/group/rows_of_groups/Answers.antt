@@ -1,6 +1,8 @@
-use Rattle.std.proofs.Common.{◌≡◌, map, ◌∙◌}
-use Rattle.std.specs.Prelude.{fold}
+use Rattle.std.proofs.Common.{◌≡◌, List, map, subst, ◌∙◌}
+use Rattle.std.specs.Prelude.{fold, IfOk, OnOk, Option}
 use Rattle.std.specs.List.{flat_map}
+use Rattle.json_values.specs.Table.{RowValues}
+use Rattle.table_rows.specs.declared.fault.TableWhy.{TableWhy}
 use Rattle.table_rows.specs.Grouping.{earlier, field_places, group_row, refusals}
 use Rattle.table_terms.specs.Names.{place_of}
 use Rattle.table_rows.proofs.group.rows_of_groups.Goals as goal
@@ -15,7 +17,8 @@ returns-clause-rows c =
     c.as_slice-5.ensures.value ∙ c.in_ok-copied.ensures.places ∙ (λ i. map (place_of (c.requires.columns i)) (c.as_slice-2.ensures.all i)) in
     let summed : c.as_slice-6.result.now ≡ field_places t spec.sum =
     c.as_slice-6.ensures.value ∙ c.in_ok-summed.ensures.places ∙ (λ i. map (place_of (c.requires.columns i)) (c.as_slice-3.ensures.all i)) in
-    c.in_ok-rows.ensures.rows ∙ (λ i. map (group_row (c.rows.ensures.rows i) (by i) (copied i) (summed i)) c.args.members.now)
+    subst (λ (out : List RowValues). IfOk c.group_rows_of.result (λ rows. rows ≡ out))
+    (λ i. map (group_row (c.rows.ensures.rows i) (by i) (copied i) (summed i)) c.args.members.now) c.group_rows_of.ensures.rows
 
 pub returns-clause-refused : goal.returns-clause-refused
 returns-clause-refused c =
@@ -23,4 +26,5 @@ returns-clause-refused c =
     let spec = c.args.spec.now in
     let summed : c.as_slice-6.result.now ≡ field_places t spec.sum =
     c.as_slice-6.ensures.value ∙ c.in_ok-summed.ensures.places ∙ (λ i. map (place_of (c.requires.columns i)) (c.as_slice-3.ensures.all i)) in
-    c.in_ok-rows.ensures.refused ∙ (λ i. fold earlier c.args.refused.now (flat_map (refusals (c.rows.ensures.rows i) (summed i)) c.args.members.now))
+    subst (λ (r : Option TableWhy). OnOk c.group_rows_of.result (c.group_rows_of.new.refused ≡ r))
+    (λ i. fold earlier c.args.refused.now (flat_map (refusals (c.rows.ensures.rows i) (summed i)) c.args.members.now)) c.group_rows_of.ensures.refused

@@ -1,5 +1,5 @@
 use Rattle.std.proofs.Common.{◌≡◌, ◌++◌, take}
-use Rattle.table_rows.proofs.group.append_names.Given as goal
+use Rattle.table_rows.proofs.rows.append_names.Given as goal
 
 abbrev pub invariant-loop-name : goal.invariant-loop-name
 invariant-loop-name l = l.names ≡ l.initial.names ++ take l.name-index l.name-items
