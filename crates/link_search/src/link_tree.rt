@@ -1,4 +1,4 @@
-ghost use Rattle.std.specs.Prelude.{◌≡◌, ◌++◌, ◌∷◌, [], Contains, IfOk, OnOk, List, Some, ℕ, filter, slice_get, if◌then◌else◌, true, false};
+ghost use Rattle.std.specs.Prelude.{◌≡◌, Contains, IfOk, List, Some, ℕ, filter, slice_get, true, false};
 ghost use Rattle.plane_model.specs.Points.{at};
 ghost use Rattle.plane_model.specs.Parity.{is_below};
 ghost use Rattle.link_search.specs.Descent.{IsFound, IsNotAbove};
@@ -152,24 +152,14 @@ fn over_link(
     Ok(LinkTree::Over(j, lower, higher))
 }
 
-fn push_if(numbers: &mut Vec<u32>, i: u32, is_wanted: bool) -> Result<(), AllocError>
-    ensures exact { OnOk result (numbers.new.items ≡ (if is_wanted then numbers.old.items ++ i ∷ [] else numbers.old.items)) }
-{
-    if is_wanted {
-        numbers.push(i)?;
-    }
-    Ok(())
-}
-
 // Of links with these numbers, those that start left of an abscissa.
 fn left_of(alloc: Global, links: &[ArcLink], near: &[u32], x: i64) -> Result<Vec<u32>, AllocError>
     ensures exact { IfOk result (λ part. part.items ≡ filter (λ i. starts_before x (slice_get links.now i)) near.now) }
 {
-    let mut part = Vec::new(alloc);
-    for i in near {
-        push_if(&mut part, *i, starts_before(link_at(links, *i), x))?;
-    }
-    Ok(part)
+    near.iter()
+        .copied()
+        .filter(|i| starts_before(link_at(links, *i), x))
+        .collect(alloc)
 }
 
 fn starts_before(k: Option<ArcLink>, x: i64) -> bool
@@ -185,11 +175,10 @@ fn starts_before(k: Option<ArcLink>, x: i64) -> bool
 fn right_of(alloc: Global, links: &[ArcLink], near: &[u32], x: i64) -> Result<Vec<u32>, AllocError>
     ensures exact { IfOk result (λ part. part.items ≡ filter (λ i. stops_past x (slice_get links.now i)) near.now) }
 {
-    let mut part = Vec::new(alloc);
-    for i in near {
-        push_if(&mut part, *i, stops_past(link_at(links, *i), x))?;
-    }
-    Ok(part)
+    near.iter()
+        .copied()
+        .filter(|i| stops_past(link_at(links, *i), x))
+        .collect(alloc)
 }
 
 fn stops_past(k: Option<ArcLink>, x: i64) -> bool
@@ -205,11 +194,10 @@ fn stops_past(k: Option<ArcLink>, x: i64) -> bool
 fn over_of(alloc: Global, links: &[ArcLink], near: &[u32], l: Link) -> Result<Vec<u32>, AllocError>
     ensures exact { IfOk result (λ part. part.items ≡ filter (λ i. comes_over l (slice_get links.now i)) near.now) }
 {
-    let mut part = Vec::new(alloc);
-    for i in near {
-        push_if(&mut part, *i, comes_over(link_at(links, *i), l))?;
-    }
-    Ok(part)
+    near.iter()
+        .copied()
+        .filter(|i| comes_over(link_at(links, *i), l))
+        .collect(alloc)
 }
 
 fn comes_over(k: Option<ArcLink>, l: Link) -> bool
@@ -225,11 +213,10 @@ fn comes_over(k: Option<ArcLink>, l: Link) -> bool
 fn under_of(alloc: Global, links: &[ArcLink], near: &[u32], l: Link) -> Result<Vec<u32>, AllocError>
     ensures exact { IfOk result (λ part. part.items ≡ filter (λ i. comes_under l (slice_get links.now i)) near.now) }
 {
-    let mut part = Vec::new(alloc);
-    for i in near {
-        push_if(&mut part, *i, comes_under(link_at(links, *i), l))?;
-    }
-    Ok(part)
+    near.iter()
+        .copied()
+        .filter(|i| comes_under(link_at(links, *i), l))
+        .collect(alloc)
 }
 
 fn comes_under(k: Option<ArcLink>, l: Link) -> bool

@@ -1,7 +1,0 @@
-use Rattle.std.proofs.Common.{◌≡◌, take, filter}
-use Rattle.std.specs.Prelude.{slice_get}
-use Rattle.link_search.specs.Parting.{stops_past}
-use Rattle.link_search.proofs.link_tree.right_of.Given as goal
-
-abbrev pub invariant-loop-i : goal.invariant-loop-i
-invariant-loop-i l = l.part.items ≡ filter (λ i. stops_past l.x (slice_get l.links i)) (take l.i-index l.near)
