@@ -1,5 +1,5 @@
 -- Assignments: the machine goes over them, and their parts join.
-use Rattle.std.proofs.Common.{ℕ, suc, ◌≡◌, inl, inr, Bool, true, false, List, [], ◌∷◌, ◌++◌, length, ◌==◌, None, refl, ap, ◌∙◌, sym, subst, append_assoc, arith}
+use Rattle.std.proofs.Common.{ℕ, suc, ◌≡◌, inl, inr, Bool, true, false, List, [], ◌∷◌, ◌++◌, length, ◌==◌, None, refl, ap, ◌∙◌, sym, subst, append_assoc, arith, append-nil}
 use Rattle.std.proofs.lemmas.Bool.Decides.{nat_tests}
 use Rattle.expr_lang.specs.declared.token.Mark.TheVariants as mark
 use Rattle.expr_lang.specs.declared.token.Token.{Token}
@@ -13,7 +13,7 @@ use Rattle.expr_lang.specs.Grammar.{Placed, Toks, Cond, OneAssign, becomes, Assi
 use Rattle.expr_lang.specs.Machine.{Open, operand, operator, first_target, next_target, behind_target, assigned_value, run, accepted, stopped, step}
 use Rattle.expr_lang.specs.Reading.{Spot, Passes, Breaks, Some_tree, raised, plainly, before, behind, before_assign, behind_assign, Quiet, NextIsNot, IsMark, IsAName, AssignEnds}
 use Rattle.expr_lang.proofs.Runs.{moves, stops}
-use Rattle.expr_lang.proofs.Parts.{append_nil, passes_then, passes_at, breaks_at, breaks_then, breaks_here}
+use Rattle.expr_lang.proofs.Parts.{passes_then, passes_at, breaks_at, breaks_then, breaks_here}
 use Rattle.expr_lang.proofs.Steps.{level-small}
 use Rattle.expr_lang.proofs.Raised.{one_more_cond}
 use Rattle.expr_lang.proofs.Accepts.{cond_runs}
@@ -58,7 +58,7 @@ semicolon_runs n at ts = moves n operator value (semicolon at) ts next_target []
 
 accepts : {n : ℕ} {s : Toks} {xs : List Assigned} → Assigns n s xs → run n first_target [] s ≡ accepted
 unfolding run
-accepts {n} (last_assign {s = s} h) = ap (run n first_target []) (sym (append_nil s)) ∙ assign_runs h [] tt
+accepts {n} (last_assign {s = s} h) = ap (run n first_target []) (sym (append-nil s)) ∙ assign_runs h [] tt
 accepts {n} (ended_assign at h) = assign_runs h (semicolon at ∷ []) (omega arith) ∙ semicolon_runs n at []
 accepts {n} (more_assigns at {t = t} h g) = assign_runs h (semicolon at ∷ t) (omega arith) ∙ semicolon_runs n at t ∙ next_as_first n t (assigns_begin g) ∙ accepts g
 
@@ -164,7 +164,7 @@ value_breaks at i name f old mid mid' new e g h = breaks_then (Some_tree OneAssi
       [],
       (
         (name, c.0),
-        subst (λ (x : Toks). OneAssign (raised b 64) (x ++ (y ++ [])) (name, c.0)) (sym o) (subst (λ (y : Toks). OneAssign (raised b 64) (target at name ∷ sets i ∷ y) (name, c.0)) (sym (append_nil y)) (becomes c.1)),
+        subst (λ (x : Toks). OneAssign (raised b 64) (x ++ (y ++ [])) (name, c.0)) (sym o) (subst (λ (y : Toks). OneAssign (raised b 64) (target at name ∷ sets i ∷ y) (name, c.0)) (sym (append-nil y)) (becomes c.1)),
       ),
     )
 
@@ -195,7 +195,7 @@ pub assigns_break : (xs : List Assigned) (f : Misfit) (old mid new : Toks) → P
 assigns_break xs f old mid new h g = breaks_stuck Assigns first_target assigns_follow (before_assign 64) tt (λ ts. refl) f old new (breaks_then (Some_tree Assigns 64) h g join)
   where
     join : (b : Bool) (x y : Toks) → Ended 64 x xs → Some_tree OneAssign 64 b y → (more : Toks) × Some_tree Assigns 64 b (x ++ (y ++ more))
-    join b x y o c = ([], (xs ++ c.0 ∷ [], subst (λ (y : Toks). Assigns (raised b 64) (x ++ y) (xs ++ c.0 ∷ [])) (sym (append_nil y)) (ended_on (raise_ended b o) y (c.0 ∷ []) (last_assign c.1))))
+    join b x y o c = ([], (xs ++ c.0 ∷ [], subst (λ (y : Toks). Assigns (raised b 64) (x ++ y) (xs ++ c.0 ∷ [])) (sym (append-nil y)) (ended_on (raise_ended b o) y (c.0 ∷ []) (last_assign c.1))))
 
 all_pass : (xs : List Assigned) (a : Assigned) (old mid new : Toks) → Passes (λ (z : Toks). Ended 64 z xs) (before_assign 64) (before_assign 64) old mid → Passes (λ (z : Toks). OneAssign 64 z a) (before_assign 64) (behind_assign 64) mid new
     → Passes (λ (z : Toks). Assigns 64 z (xs ++ a ∷ [])) (before_assign 64) (behind_assign 64) old new

@@ -1,5 +1,5 @@
 -- Operands with operators between them.
-use Rattle.std.proofs.Common.{ℕ, suc, ◌≡◌, ◌+◌, List, [], ◌∷◌, ◌++◌, Ok, Err, Result, refl, ap, ◌∙◌, sym, subst, append_assoc}
+use Rattle.std.proofs.Common.{ℕ, suc, ◌≡◌, ◌+◌, List, [], ◌∷◌, ◌++◌, Ok, Err, Result, refl, ap, ◌∙◌, sym, subst, append_assoc, append-nil}
 use Rattle.expr_lang.specs.declared.token.Operator.{Operator}
 use Rattle.expr_lang.specs.declared.token.Token.TheVariants as token
 use Rattle.expr_lang.specs.declared.expr.Node.{Node}
@@ -11,14 +11,14 @@ use Rattle.expr_lang.specs.Grammar.{Toks, Level, lowest, single, joined, Unary, 
 use Rattle.expr_lang.specs.Machine.{Open, levels, operand, operator}
 use Rattle.expr_lang.specs.Reading.{run_at, before, behind, plainly, Passes, Breaks, Part, Some_tree, raised}
 use Rattle.expr_lang.proofs.Runs.{moves}
-use Rattle.expr_lang.proofs.Parts.{passes_then, passes_as, passes_at, breaks_at, breaks_then, breaks_on, append_nil}
+use Rattle.expr_lang.proofs.Parts.{passes_then, passes_as, passes_at, breaks_at, breaks_then, breaks_on}
 use Rattle.expr_lang.proofs.Raised.{raise_level}
 
 -- level 0 is an operand with its signs
 lowest_zero : (n : ℕ) (result : Result Node Stop) (old new : Toks) → Part Unary n (before n) (behind n) result old new → Part (Level 0) n (plainly before n) (plainly behind n) result old new
 lowest_zero n (Ok x) old new a = passes_as (λ (z : Toks). Level 0 n z (node_tree x)) (passes_at (λ (k : List Open). (0, k)) a) (λ z h. lowest h)
 lowest_zero n (Err stop.Memory) old new a = tt
-lowest_zero n (Err (stop.Misfit f)) old new a = breaks_on (Some_tree (Level 0) n) (breaks_at (λ (k : List Open). (0, k)) a) (λ b z h. ([], (h.0, subst (λ (z : Toks). Level 0 (raised b n) z h.0) (sym (append_nil z)) (lowest h.1))))
+lowest_zero n (Err (stop.Misfit f)) old new a = breaks_on (Some_tree (Level 0) n) (breaks_at (λ (k : List Open). (0, k)) a) (λ b z h. ([], (h.0, subst (λ (z : Toks). Level 0 (raised b n) z h.0) (sym (append-nil z)) (lowest h.1))))
 
 pub lowest_part : (j n : ℕ) (result : Result Node Stop) (old new : Toks) → j ≡ 0 → Part Unary n (before n) (behind n) result old new → Part (Level j) n (plainly before n) (plainly behind n) result old new
 lowest_part j n result old new z a = subst (λ (j : ℕ). Part (Level j) n (plainly before n) (plainly behind n) result old new) (sym z) (lowest_zero n result old new a)
@@ -30,7 +30,7 @@ single_passes j' j n x old new u a = subst (λ (j : ℕ). Passes (λ (z : Toks).
 pub single_breaks : (j' j n : ℕ) (f : Misfit) (old new : Toks) → suc j' ≡ j → Breaks (Some_tree (Level j') n) (plainly before n) f old new → Breaks (Some_tree (Level j) n) (plainly before n) f old new
 single_breaks j' j n f old new u a =
     subst (λ (j : ℕ). Breaks (Some_tree (Level j) n) (plainly before n) f old new) u
-    (breaks_on (Some_tree (Level (suc j')) n) a (λ b z h. ([], (h.0, subst (λ (z : Toks). Level (suc j') (raised b n) z h.0) (sym (append_nil z)) (single h.1)))))
+    (breaks_on (Some_tree (Level (suc j')) n) a (λ b z h. ([], (h.0, subst (λ (z : Toks). Level (suc j') (raised b n) z h.0) (sym (append-nil z)) (single h.1)))))
 
 -- an operator after operands
 operator_runs : (n at : ℕ) (o : Operator) (mid new : Toks) → mid ≡ (at, token.Operator o) ∷ new → (k : List Open) → run_at (plainly behind n k) mid ≡ run_at (plainly before n k) new
@@ -59,7 +59,7 @@ joined_breaks j' j n at o x f old m₁ m₂ new u a e l b =
       [],
       (
         binary at o x g.0,
-        subst (λ (s : Toks). Level j (raised b n) s (binary at o x g.0)) (sym (append_assoc h.0 ((at, token.Operator o) ∷ []) q) ∙ ap (λ (p : Toks). p ++ q) (sym h.1) ∙ ap (λ (q : Toks). p ++ q) (sym (append_nil q)))
+        subst (λ (s : Toks). Level j (raised b n) s (binary at o x g.0)) (sym (append_assoc h.0 ((at, token.Operator o) ∷ []) q) ∙ ap (λ (p : Toks). p ++ q) (sym h.1) ∙ ap (λ (q : Toks). p ++ q) (sym (append-nil q)))
             (join j u l (raised b n) (raise_level b h.2) g.1),
       ),
     ))

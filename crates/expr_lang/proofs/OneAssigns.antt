@@ -1,10 +1,9 @@
 -- Tokens are assignments in one way at most.
-use Rattle.std.proofs.Common.{ℕ, ◌≡◌, ◌⊎◌, inl, inr, List, [], ◌∷◌, refl, ap, ◌∙◌, sym, arith}
+use Rattle.std.proofs.Common.{ℕ, ◌≡◌, ◌⊎◌, inl, inr, List, [], ◌∷◌, refl, ap, ◌∙◌, sym, arith, append-nil}
 use Rattle.expr_lang.specs.declared.token.Mark.TheVariants as mark
 use Rattle.expr_lang.specs.declared.token.Token.TheVariants as token
 use Rattle.expr_lang.specs.Tree.{Tree, Assigned}
 use Rattle.expr_lang.specs.Grammar.{Toks, becomes, Assigns, last_assign, ended_assign, more_assigns}
-use Rattle.expr_lang.proofs.Parts.{append_nil}
 use Rattle.expr_lang.proofs.OneTree.{ReadsCond, same_next, one_cond, cond_reads}
 
 -- a reading from the left
@@ -47,7 +46,7 @@ one_reading (more q a z g) f (more q' a' z' g') =
 
 reads : {n : ℕ} {s : Toks} {xs : List Assigned} → Assigns n s xs → ReadsAssigns s xs
 reads (last_assign (becomes {at = at} {b = b} {name = name} {s = s} h)) =
-    done 0 (ap (λ (z : Toks). (at, token.Name name) ∷ (b, token.Mark mark.Becomes) ∷ z) (sym (append_nil s))) (cond_reads h [] tt) (inl refl)
+    done 0 (ap (λ (z : Toks). (at, token.Name name) ∷ (b, token.Mark mark.Becomes) ∷ z) (sym (append-nil s))) (cond_reads h [] tt) (inl refl)
 reads (ended_assign c (becomes h)) = done c refl (cond_reads h ((c, token.Mark mark.Semicolon) ∷ []) (omega arith)) (inr refl)
 reads (more_assigns c {t = t} (becomes h) g) = more refl (cond_reads h ((c, token.Mark mark.Semicolon) ∷ t) (omega arith)) refl (reads g)
 

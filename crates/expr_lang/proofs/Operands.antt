@@ -1,5 +1,5 @@
 -- Operands and the signs before them.
-use Rattle.std.proofs.Common.{ℕ, zero, suc, ◌≡◌, ◌+◌, ◌<◌, ◌≤◌, [], ◌∷◌, ◌++◌, Some, None, Ok, Err, Result, option_map, refl, ap, ◌∙◌, sym, subst, arith, Bool, true, false}
+use Rattle.std.proofs.Common.{ℕ, zero, suc, ◌≡◌, ◌+◌, ◌<◌, ◌≤◌, [], ◌∷◌, ◌++◌, Some, None, Ok, Err, Result, option_map, refl, ap, ◌∙◌, sym, subst, arith, Bool, true, false, append-nil}
 use Rattle.json_values.specs.declared.value.Value.TheVariants as value
 use Rattle.expr_lang.specs.declared.token.Sign.{Sign}
 use Rattle.expr_lang.specs.declared.token.Mark.TheVariants as mark
@@ -15,7 +15,7 @@ use Rattle.expr_lang.specs.Grammar.{Placed, Toks, Cond, simple, Level, lowest, s
 use Rattle.expr_lang.specs.Machine.{levels, operand, operator, behind_this, in_parentheses, run, stopped}
 use Rattle.expr_lang.specs.Reading.{Around, run_at, before, behind, plainly, anywhere, NextIsNot, IsMark, IsSign, Passes, Breaks, Part, Some_tree, ThisText, Quiet, raised}
 use Rattle.expr_lang.proofs.Runs.{moves, stops}
-use Rattle.expr_lang.proofs.Parts.{passes_then, passes_as, passes_one, breaks_at, breaks_then, breaks_on, breaks_here, breaks_deep, append_nil}
+use Rattle.expr_lang.proofs.Parts.{passes_then, passes_as, passes_one, breaks_at, breaks_then, breaks_on, breaks_here, breaks_deep}
 use Rattle.expr_lang.proofs.Steps.{opens_more, opens_none, sign_step, sign_stops, leaf_step, begins_none, close_stops}
 use Rattle.expr_lang.proofs.Raised.{raise_cond}
 
@@ -64,8 +64,8 @@ sign_passes n' n at t s x y old mid new u e h a w =
     subst (λ (n : ℕ). Passes (λ (z : Toks). Unary n z y) (before n) (behind n) old new) u (sign_passes_at n' at t s x y old mid new e h a w)
 
 signed_raised : (b : Bool) (n at : ℕ) (t : Token) (s : Sign) (y : Toks) → sign_of t ≡ Some s → Some_tree Unary n b y → (more : Toks) × Some_tree Unary (suc n) b (((at, t) ∷ []) ++ (y ++ more))
-signed_raised false n at t s y h u = ([], (unary at s u.0, subst (λ (z : Toks). Unary (suc n) ((at, t) ∷ z) (unary at s u.0)) (sym (append_nil y)) (signed h u.1)))
-signed_raised true n at t s y h u = ([], (unary at s u.0, subst (λ (z : Toks). Unary (suc (suc n)) ((at, t) ∷ z) (unary at s u.0)) (sym (append_nil y)) (signed h u.1)))
+signed_raised false n at t s y h u = ([], (unary at s u.0, subst (λ (z : Toks). Unary (suc n) ((at, t) ∷ z) (unary at s u.0)) (sym (append-nil y)) (signed h u.1)))
+signed_raised true n at t s y h u = ([], (unary at s u.0, subst (λ (z : Toks). Unary (suc (suc n)) ((at, t) ∷ z) (unary at s u.0)) (sym (append-nil y)) (signed h u.1)))
 
 sign_breaks_at : (n at : ℕ) (t : Token) (s : Sign) (f : Misfit) (old mid new : Toks) → old ≡ (at, t) ∷ mid → sign_of t ≡ Some s → Breaks (Some_tree Unary n) (before n) f mid new → Breaks (Some_tree Unary (suc n)) (before (suc n)) f old new
 sign_breaks_at n at t s f old mid new e h a =
@@ -90,7 +90,7 @@ sign_deep n at t s old mid z e h = subst (λ (n : ℕ). Breaks (Some_tree Unary 
 pub unsigned : (n : ℕ) (result : Result Node Stop) (old new : Toks) → Part Atom n (before n) (behind n) result old new → Part Unary n (before n) (behind n) result old new
 unsigned n (Ok x) old new a = passes_as (λ (z : Toks). Unary n z (node_tree x)) a (λ z h. atom h)
 unsigned n (Err stop.Memory) old new a = tt
-unsigned n (Err (stop.Misfit f)) old new a = breaks_on (Some_tree Unary n) a (λ b z h. ([], (h.0, subst (λ (z : Toks). Unary (raised b n) z h.0) (sym (append_nil z)) (atom h.1))))
+unsigned n (Err (stop.Misfit f)) old new a = breaks_on (Some_tree Unary n) a (λ b z h. ([], (h.0, subst (λ (z : Toks). Unary (raised b n) z h.0) (sym (append-nil z)) (atom h.1))))
 
 -- ---- operands
 
@@ -119,7 +119,7 @@ this_part n at (Ok x) old mid new e a = record {
 this_part n at (Err stop.Memory) old mid new e a = tt
 this_part n at (Err (stop.Misfit f)) old mid new e a =
     let one : Passes (λ (z : Toks). z ≡ (at, token.This) ∷ []) (before n) (λ (i : Around). anywhere behind_this ((levels i.1 + i.0) + n, i.1)) old mid = record { reads = ((at, token.This) ∷ [], e, refl); runs = λ i. this_runs n at old mid e i } in
-    breaks_then (Some_tree Atom n) one (breaks_at (λ (i : Around). ((levels i.1 + i.0) + n, i.1)) a) (λ b x y o u. ([], (u.0, subst (λ (z : Toks). Atom (raised b n) z u.0) (ap (λ (x : Toks). x ++ y) (sym o) ∙ ap (λ (y : Toks). x ++ y) (sym (append_nil y))) u.1)))
+    breaks_then (Some_tree Atom n) one (breaks_at (λ (i : Around). ((levels i.1 + i.0) + n, i.1)) a) (λ b x y o u. ([], (u.0, subst (λ (z : Toks). Atom (raised b n) z u.0) (ap (λ (x : Toks). x ++ y) (sym o) ∙ ap (λ (y : Toks). x ++ y) (sym (append-nil y))) u.1)))
 
 -- ---- parentheses
 
@@ -181,7 +181,7 @@ unclosed_at n at x f old m₁ m₂ new e a q fe ne h =
     let here : Breaks (λ (b : Bool) (z : Toks). z ≡ (0, token.Mark mark.Close) ∷ []) (λ (i : Around). plainly behind n (in_parentheses i.0 ∷ i.1)) Unfit m₂ new =
     breaks_here (λ (b : Bool) (z : Toks). z ≡ (0, token.Mark mark.Close) ∷ []) ne ((0, token.Mark mark.Close) ∷ [], refl) (λ i. close_stops _ i.0 i.1 m₂ q h) in
     subst (λ (f : Misfit). Breaks (Some_tree Atom (suc n)) (before (suc n)) f old new) (sym fe)
-    (breaks_then (Some_tree Atom (suc n)) (inside_passes n at x old m₁ m₂ e a) here (λ b u v g k. ([], subst (λ (w : Toks). Some_tree Atom (suc n) b w) (ap (λ (z : Toks). z ++ ((0, token.Mark mark.Close) ∷ [])) (sym g.1) ∙ ap (λ (z : Toks). u ++ z) (sym k ∙ sym (append_nil v))) (enclosed_raised b n at g.0 (x, raise_cond b g.2)))))
+    (breaks_then (Some_tree Atom (suc n)) (inside_passes n at x old m₁ m₂ e a) here (λ b u v g k. ([], subst (λ (w : Toks). Some_tree Atom (suc n) b w) (ap (λ (z : Toks). z ++ ((0, token.Mark mark.Close) ∷ [])) (sym g.1) ∙ ap (λ (z : Toks). u ++ z) (sym k ∙ sym (append-nil v))) (enclosed_raised b n at g.0 (x, raise_cond b g.2)))))
 
 pub unclosed : (n' n at : ℕ) (x : Tree) (f : Misfit) (old m₁ m₂ new : Toks) → suc n' ≡ n → old ≡ (at, token.Mark mark.Open) ∷ m₁ → Passes (λ (z : Toks). Cond n' z x) (plainly before n') (plainly behind n') m₁ m₂ → Quiet 7 m₂ → f ≡ Unfit → new ≡ m₂ → NextIsNot (IsMark mark.Close) m₂ → Breaks (Some_tree Atom n) (before n) f old new
 unclosed n' n at x f old m₁ m₂ new u e a q fe ne h = subst (λ (n : ℕ). Breaks (Some_tree Atom n) (before n) f old new) u (unclosed_at n' at x f old m₁ m₂ new e a q fe ne h)

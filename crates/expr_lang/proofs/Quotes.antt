@@ -1,6 +1,6 @@
 -- A text in quotes, read by characters and told by bytes.
 use Rattle.std.specs.Prelude.{encode_utf8}
-use Rattle.std.proofs.Common.{ℕ, suc, ◌≡◌, ◌<◌, ◌≤◌, Bool, true, false, [], ◌∷◌, ◌++◌, length, get_or, Option, Some, None, inl, inr, cond, refl, ap, ◌∙◌, sym, subst, arith, ◌==◌, append_assoc, length-append}
+use Rattle.std.proofs.Common.{ℕ, suc, ◌≡◌, ◌<◌, ◌≤◌, Bool, true, false, [], ◌∷◌, ◌++◌, length, get_or, Option, Some, None, inl, inr, cond, refl, ap, ◌∙◌, sym, subst, arith, ◌==◌, append_assoc, length-append, append-nil}
 use Rattle.std.proofs.lemmas.Str.{encode_ascii, length-encode, len_utf8_bounds, inside_one, char_from_byte}
 use Rattle.std.proofs.lemmas.Bool.{ne_eqb, eq-eqb, eqb-true, or_cases, cases_lt}
 use Rattle.std.proofs.lemmas.Bool.Decides.{nat_tests}
@@ -8,10 +8,6 @@ use Rattle.expr_lang.specs.declared.token.Token.TheVariants as token
 use Rattle.expr_lang.specs.Tokens.{Text}
 use Rattle.expr_lang.specs.Reading.{known_content, EndsLine}
 use Rattle.expr_lang.specs.Tokens.{Lexed, is_quote, escape_of, with_byte, content_token, text_at, escape_at}
-
-append_nil : (s : Text) → s ++ [] ≡ s
-append_nil [] = refl
-append_nil (b ∷ bs) = ap (λ (z : Text). b ∷ z) (append_nil bs)
 
 -- a byte that stands for itself in a text after the quote q
 record Plain (q b : ℕ) : Type 0 where
@@ -47,7 +43,7 @@ with_none (b ∷ bs) = with_none bs
 with_known : (other : Bool) (s bs : Text) → with_bytes (known_content other s) bs ≡ known_content other (s ++ bs)
 unfolding with_bytes
 with_known true s bs = with_none bs
-with_known false s [] = ap Some (sym (append_nil s))
+with_known false s [] = ap Some (sym (append-nil s))
 with_known false s (b ∷ bs) = with_known false (s ++ b ∷ []) bs ∙ ap Some (append_assoc s (b ∷ []) bs)
 
 -- ---- characters
@@ -63,7 +59,7 @@ quote_no_escape q h g = elim (or_cases (q == 34) (q == 39) h) as (λ _. ⊥) [ i
 
 -- an ASCII byte in a character's bytes is the character
 byte_inside : (c k : ℕ) → k < length (encode_utf8 c) → get_or (encode_utf8 c) k 0 < 128 → c ≡ get_or (encode_utf8 c) k 0
-byte_inside c k l h = inside_one c [] (encode_utf8 c) k (sym (append_nil (encode_utf8 c))) l h
+byte_inside c k l h = inside_one c [] (encode_utf8 c) k (sym (append-nil (encode_utf8 c))) l h
 
 plain_bytes : (q c : ℕ) → is_quote q ≡ true → (c ≡ q → ⊥) → (c ≡ 10 → ⊥) → (c ≡ 92 → ⊥) → (k : ℕ) → k < length (encode_utf8 c) → Plain q (get_or (encode_utf8 c) k 0)
 plain_bytes q c s h g f k l =
@@ -125,7 +121,7 @@ over_escape q c x other s old mid new i h e g =
 -- the first byte of a character, and its other bytes, none of which is ASCII
 not_inside : (c b : ℕ) (bs : Text) → encode_utf8 c ≡ b ∷ bs → (k : ℕ) → k < length bs → get_or bs k 0 < 128 → ⊥
 not_inside c b bs e k l h =
-    let same : c ≡ get_or bs k 0 = inside_one c [] (b ∷ bs) (suc k) (sym (ap (λ (z : Text). z ++ []) e ∙ append_nil (b ∷ bs))) (subst (λ (z : Text). suc k < length z) (sym e) (omega arith)) h in
+    let same : c ≡ get_or bs k 0 = inside_one c [] (b ∷ bs) (suc k) (sym (ap (λ (z : Text). z ++ []) e ∙ append-nil (b ∷ bs))) (subst (λ (z : Text). suc k < length z) (sym e) (omega arith)) h in
     let one : b ∷ bs ≡ c ∷ [] = sym e ∙ encode_ascii c (omega arith) in
     omega (arith, ap length one)
 
@@ -136,7 +132,7 @@ first_byte c (b ∷ bs) e =
 
 unknown_first : (c b : ℕ) (bs : Text) → encode_utf8 c ≡ b ∷ bs → (c ≡ 10 → ⊥) → escape_of c ≡ None → (b ≡ 10 → ⊥) × (escape_of b ≡ None)
 unknown_first c b bs e h g = elim (cases_lt b 128) as (λ _. (b ≡ 10 → ⊥) × (escape_of b ≡ None)) [
-  | inl l ↦ (let same : c ≡ b = char_from_byte (b ∷ bs) [] c (sym (append_nil (encode_utf8 c) ∙ e)) l (omega arith) in (λ k. h (same ∙ k), ap escape_of (sym same) ∙ g))
+  | inl l ↦ (let same : c ≡ b = char_from_byte (b ∷ bs) [] c (sym (append-nil (encode_utf8 c) ∙ e)) l (omega arith) in (λ k. h (same ∙ k), ap escape_of (sym same) ∙ g))
   | inr l ↦ (λ k. omega arith, no_escape b l)
 ]
 

@@ -1,10 +1,9 @@
 -- The tokens of a text, one after another.
-use Rattle.std.proofs.Common.{ℕ, zero, suc, ◌≡◌, ◌-◌, ◌<◌, ◌≤◌, Bool, true, false, [], ◌∷◌, ◌++◌, length, Option, Some, None, cond, refl, ap, ◌∙◌, sym, subst, arith, append_assoc, length-drop, ◌==◌, ◌&&◌, ◌||◌}
+use Rattle.std.proofs.Common.{ℕ, zero, suc, ◌≡◌, ◌-◌, ◌<◌, ◌≤◌, Bool, true, false, [], ◌∷◌, ◌++◌, length, Option, Some, None, cond, refl, ap, ◌∙◌, sym, subst, arith, append_assoc, length-drop, ◌==◌, ◌&&◌, ◌||◌, append-nil}
 use Rattle.expr_lang.specs.declared.token.Token.{Token}
 use Rattle.expr_lang.specs.declared.token.Token.TheVariants as token
 use Rattle.expr_lang.specs.declared.token.Symbol.{Symbol}
 use Rattle.expr_lang.specs.Grammar.{Toks}
-use Rattle.expr_lang.proofs.Parts.{append_nil}
 use Rattle.numerals.specs.Bytes.{is_white, is_digit, drop_while}
 use Rattle.numerals.specs.Numeral.{skip_sign}
 use Rattle.expr_lang.specs.Tokens.{Text, Lexed, begins_with_digit, skip_whole, skip_fraction, skip_exponent, behind_number, text_at, escape_at, is_quote, escape_of, with_byte, content_token, is_name_start, is_name_byte, symbol_or, symbol_at, three_bytes, two_bytes, one_byte, token_at, tokens_from, tokens_of}
@@ -196,4 +195,4 @@ from_none zero all = refl
 from_none (suc n) all = refl
 
 pub scan_ends : (text : Text) (items : Toks) (rest : Text) → Scanned text items rest → rest ≡ [] → items ≡ tokens_of text
-scan_ends text items rest h e = sym (h.so_far.2 ∙ ap (λ (z : Text). items ++ tokens_from h.so_far.0 (length text) z) e ∙ ap (λ (z : Toks). items ++ z) (from_none h.so_far.0 (length text)) ∙ append_nil items)
+scan_ends text items rest h e = sym (h.so_far.2 ∙ ap (λ (z : Text). items ++ tokens_from h.so_far.0 (length text) z) e ∙ ap (λ (z : Toks). items ++ z) (from_none h.so_far.0 (length text)) ∙ append-nil items)

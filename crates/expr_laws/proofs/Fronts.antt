@@ -1,12 +1,11 @@
 -- Fronts of whole texts at each place of the machine: what was read there, and what is open around it.
-use Rattle.std.proofs.Common.{ℕ, suc, ◌≡◌, ◌+◌, List, [], ◌∷◌, ◌++◌, codes, refl, ap, ◌∙◌, sym, subst, append_assoc, arith}
+use Rattle.std.proofs.Common.{ℕ, suc, ◌≡◌, ◌+◌, List, [], ◌∷◌, ◌++◌, codes, refl, ap, ◌∙◌, sym, subst, append_assoc, arith, append-nil}
 use Rattle.expr_lang.specs.declared.token.Mark.TheVariants as mark
 use Rattle.expr_lang.specs.declared.token.Token.TheVariants as token
 use Rattle.expr_lang.specs.Tree.{Assigned, column, feature_number}
 use Rattle.expr_lang.specs.Grammar.{Placed, Toks, Cond, atom, leaf, this_id, this_property}
 use Rattle.expr_lang.specs.Machine.{Place, Open, levels, operand, operator, behind_this, behind_dot, behind_properties, behind_bracket, behind_name, first_target, next_target, behind_target, in_parentheses, first_branch, last_branch, assigned_value}
 use Rattle.expr_lang.proofs.Assignments.{Ended, nothing_yet, target, sets}
-use Rattle.expr_lang.proofs.Parts.{append_nil}
 use Rattle.expr_laws.proofs.Trees.{Condition, Goes, Kind, Operands, Operand, Text, assigned_text, assignments, condition_of, expression, operands_of}
 
 -- with an operand of b levels after them, the tokens are operands of c levels
@@ -94,10 +93,10 @@ a_branch n = condition_of n ((0, token.Name []) ∷ []) (operands_of n ((0, toke
 -- what is open is closed
 pub finished : {n d : ℕ} {k : List Open} {base : Toks} {g : Kind} → Opened n g k d base → (s : Toks) → Condition d s → Goes g n (base ++ s)
 finished {n} (nothing {front = front} e f) s c =
-    ([], (c.0, subst (λ (z : Toks). Cond n z c.0) (sym (append_nil (front ++ s) ∙ ap (λ (z : Toks). z ++ s) f)) (subst (λ (x : ℕ). Cond x s c.0) e c.1)))
+    ([], (c.0, subst (λ (z : Toks). Cond n z c.0) (sym (append-nil (front ++ s) ∙ ap (λ (z : Toks). z ++ s) f)) (subst (λ (x : ℕ). Cond x s c.0) e c.1)))
 finished {n} (value {front = front} at b name u xs e f h) s c =
     let same : u ++ target at name ∷ sets b ∷ s ≡ front ++ s = rw f (simp append_assoc) in
-    ([], subst (Text assignments n) (same ∙ sym (append_nil (front ++ s))) (assigned_text n at b name u s xs h (subst (λ (x : ℕ). Condition x s) e c)))
+    ([], subst (Text assignments n) (same ∙ sym (append-nil (front ++ s))) (assigned_text n at b name u s xs h (subst (λ (x : ℕ). Condition x s) e c)))
 finished {n} {g = kind} (inside {c = c} {base = base} {front = front} q o e f h) s cs =
     let text : Toks = q ++ (s ++ (0, token.Mark mark.Close) ∷ []) in
     let r : Goes kind n (base ++ text) = finished o text (condition_of c text (h s 0 cs)) in
@@ -131,7 +130,7 @@ pub goes_on_there : {n : ℕ} {p : Place} {k : List Open} {front : Toks} {g : Ki
 goes_on_there (at_operand {b = b} {base = base} {front = front} p o e f h) =
     let branch : Toks = (0, token.Name []) ∷ [] in
     operands_finish front branch o (p ++ branch) (h branch (a_name_there b)) (rw f (simp append_assoc))
-goes_on_there (at_operator {base = base} {front = front} s o f h) = operands_finish front [] o s h (sym (append_nil front ∙ f))
+goes_on_there (at_operator {base = base} {front = front} s o f h) = operands_finish front [] o s h (sym (append-nil front ∙ f))
 goes_on_there (at_member {b = b} {base = base} {front = front} place p w o f h m) =
     let r : (more : Toks) × Operand b (w ++ more) = member_ends b m in
     operands_finish front r.0 o (p ++ (w ++ r.0)) (h (w ++ r.0) r.1) (rw f (simp append_assoc))
@@ -139,7 +138,7 @@ goes_on_there {n} (at_first {front = front} f) =
     let text : Toks = target 0 [] ∷ sets 0 ∷ (0, token.Name []) ∷ [] in
     let same : [] ++ text ≡ front ++ text = rw f refl in
     (text, subst (Text assignments n) same (assigned_text n 0 0 [] [] ((0, token.Name []) ∷ []) [] nothing_yet (a_branch n)))
-goes_on_there {n} (at_next {front = front} u xs f h t) = ([], subst (Text assignments n) (sym (append_nil front ∙ f)) t)
+goes_on_there {n} (at_next {front = front} u xs f h t) = ([], subst (Text assignments n) (sym (append-nil front ∙ f)) t)
 goes_on_there {n} (at_target {front = front} at name u xs f h) =
     let more : Toks = sets 0 ∷ (0, token.Name []) ∷ [] in
     let same : u ++ target at name ∷ more ≡ front ++ more = rw f (simp append_assoc) in

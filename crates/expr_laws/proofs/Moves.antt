@@ -1,5 +1,5 @@
 -- A move of the machine takes a front of a whole text to a longer one.
-use Rattle.std.proofs.Common.{ℕ, zero, suc, ◌≡◌, ◌+◌, ◌<◌, Bool, true, false, List, [], ◌∷◌, ◌++◌, codes, Some, None, refl, ap, ◌∙◌, sym, subst, append_assoc, arith}
+use Rattle.std.proofs.Common.{ℕ, zero, suc, ◌≡◌, ◌+◌, ◌<◌, Bool, true, false, List, [], ◌∷◌, ◌++◌, codes, Some, None, refl, ap, ◌∙◌, sym, subst, append_assoc, arith, append-nil}
 use Rattle.std.proofs.lemmas.Bool.Decides.{nat_tests}
 use Rattle.std.proofs.lemmas.Slice.Eq.{bytes_eq-Decides}
 use Rattle.std.specs.Prelude.{nat_lt, if◌then◌else◌}
@@ -16,7 +16,6 @@ use Rattle.expr_lang.specs.Grammar.{Placed, Toks, Unary, atom, signed, leaf, thi
 use Rattle.expr_lang.specs.Machine.{Place, Open, levels, opens, colon, close, semicolon, a_target, a_becomes, step, misfit_of, operand, operator, behind_this, behind_dot, behind_properties, behind_bracket, behind_name, next_target, behind_target, in_parentheses, first_branch, last_branch, assigned_value}
 use Rattle.expr_lang.proofs.Assignments as assigned
 use Rattle.expr_lang.proofs.Assignments.{Ended, nothing_yet, and_one}
-use Rattle.expr_lang.proofs.Parts.{append_nil}
 use Rattle.expr_lang.proofs.Steps.{opens_more}
 use Rattle.expr_laws.proofs.Trees.{Condition, Kind, Operands, Operand, assignments, choice_of, condition_of, ended_text, one_assign, operands_of, operands_on}
 use Rattle.expr_laws.proofs.Fronts as front
@@ -74,7 +73,7 @@ encloses c b at p h = λ s to x. subst (Operands c) (sym (append_assoc p ((at, t
 parenthesis : {n m c : ℕ} {k : List Open} {base front : Toks} {g : Kind} (b at : ℕ) (p : Toks) → levels k + m < n → Opened n g k c base → c ≡ m + b → front ≡ base ++ p → Begins c b p → At n g (operand 0) (in_parentheses m ∷ k) (front ++ (at, token.Mark mark.Open) ∷ [])
 parenthesis zero at p l o e f h = absurd (omega (arith, levels_are o))
 parenthesis {c = c} (suc b) at p l o e f h =
-    at_operand [] (inside (p ++ (at, token.Mark mark.Open) ∷ []) o (omega arith) (longer _ _ p (at, token.Mark mark.Open) f) (encloses c b at p h)) (omega arith) (sym (append_nil _)) (alone b)
+    at_operand [] (inside (p ++ (at, token.Mark mark.Open) ∷ []) o (omega arith) (longer _ _ p (at, token.Mark mark.Open) f) (encloses c b at p h)) (omega arith) (sym (append-nil _)) (alone b)
 
 begins_at : {n b c : ℕ} {k : List Open} {base front : Toks} {g : Kind} (m : ℕ) (p : Toks) (at : ℕ) (t : Token) (y : Spot) → Opened n g k c base → c ≡ m + b → front ≡ base ++ p → Begins c b p → step n (operand m) k t ≡ Some y → AtSpot n g y (front ++ (at, t) ∷ [])
 begins_at {n} {k = k} m p at (token.Number u) y o e f h s = there n (operator, k) y _ s (one_operand p (at, token.Number u) o f h (_, atom (leaf refl)))
@@ -105,7 +104,7 @@ chooses d at s h = λ t u to x y. subst (Condition (suc d)) (sym (append_assoc s
 
 question : {n : ℕ} {k : List Open} {base front : Toks} {g : Kind} (c at : ℕ) (s : Toks) → levels k < n → Opened n g k c base → front ≡ base ++ s → Operands c s → At n g (operand 0) (first_branch ∷ k) (front ++ (at, token.Mark mark.Question) ∷ [])
 question zero at s l o f h = absurd (omega (arith, levels_are o))
-question (suc d) at s l o f h = at_operand [] (first (s ++ (at, token.Mark mark.Question) ∷ []) o refl (longer _ _ s (at, token.Mark mark.Question) f) (chooses d at s h)) (omega arith) (sym (append_nil _)) (alone d)
+question (suc d) at s l o f h = at_operand [] (first (s ++ (at, token.Mark mark.Question) ∷ []) o refl (longer _ _ s (at, token.Mark mark.Question) f) (chooses d at s h)) (omega arith) (sym (append-nil _)) (alone d)
 
 last_from : (c d at : ℕ) (q s : Toks) → Chooses c d q → Condition d s → Continues c d (q ++ (s ++ (at, token.Mark mark.Colon) ∷ []))
 last_from c d at q s h x = λ t y. subst (Condition c) (sym (append_assoc q (s ++ (at, token.Mark mark.Colon) ∷ []) t ∙ ap (λ (z : Toks). q ++ z) (append_assoc s ((at, token.Mark mark.Colon) ∷ []) t))) (h s t at x y)
@@ -116,7 +115,7 @@ colon_at (value i j name u xs e f o) s at y g x h = cc
 colon_at (inside q o e f i) s at y g x h = cc
 colon_at {n} {front = w} (first {c = c} {d = d} {k = k} {base = base} q o e f i) s at y g x h =
     let same : w ++ (at, token.Mark mark.Colon) ∷ [] ≡ base ++ (q ++ (s ++ (at, token.Mark mark.Colon) ∷ [])) = rw (g, f) (simp append_assoc) in
-    there n (operand 0, last_branch ∷ k) y _ h (at_operand [] (last (q ++ (s ++ (at, token.Mark mark.Colon) ∷ [])) o e same (last_from c d at q s i x)) (omega arith) (sym (append_nil _)) (alone d))
+    there n (operand 0, last_branch ∷ k) y _ h (at_operand [] (last (q ++ (s ++ (at, token.Mark mark.Colon) ∷ [])) o e same (last_from c d at q s i x)) (omega arith) (sym (append-nil _)) (alone d))
 colon_at (last q o e f i) s at y g x h = colon_at o (q ++ s) at y (rw (g, f) (simp append_assoc)) (i s x) h
 
 close_at : {n d : ℕ} {k : List Open} {base front : Toks} {g : Kind} → Opened n g k d base → (s : Toks) (at : ℕ) (y : Spot) → front ≡ base ++ s → Condition d s → close k ≡ Some y → AtSpot n g y (front ++ (at, token.Mark mark.Close) ∷ [])
@@ -213,7 +212,7 @@ target_at u xs at _ y f h e = cc
 becomes_at : {n : ℕ} {front : Toks} (at : ℕ) (name : List ℕ) (u : Toks) (xs : List Assigned) (b : ℕ) (t : Token) (y : Spot) → front ≡ u ++ assigned.target at name ∷ [] → Ended n u xs → a_becomes [] t ≡ Some y → AtSpot n assignments y (front ++ (b, t) ∷ [])
 becomes_at {n} {front} at name u xs b (token.Mark mark.Becomes) y f h e =
     let same : front ++ (b, token.Mark mark.Becomes) ∷ [] ≡ u ++ assigned.target at name ∷ assigned.sets b ∷ [] = rw f (simp append_assoc) in
-    there n (operand 0, assigned_value ∷ []) y _ e (at_operand [] (value at b name u xs refl same h) (omega arith) (sym (append_nil _)) (alone n))
+    there n (operand 0, assigned_value ∷ []) y _ e (at_operand [] (value at b name u xs refl same h) (omega arith) (sym (append-nil _)) (alone n))
 becomes_at at name u xs b _ y f h e = cc
 
 -- ---- each move

@@ -1,5 +1,5 @@
 -- What the machine answers for a text of tokens: a whole text, or where the tokens are stuck.
-use Rattle.std.proofs.Common.{ℕ, suc, ◌≡◌, List, [], ◌∷◌, ◌++◌, Some, None, refl, ap, ◌∙◌, sym, subst, append_assoc, arith}
+use Rattle.std.proofs.Common.{ℕ, suc, ◌≡◌, List, [], ◌∷◌, ◌++◌, Some, None, refl, ap, ◌∙◌, sym, subst, append_assoc, arith, append-nil}
 use Rattle.expr_lang.specs.declared.parser.Misfit.{Misfit}
 use Rattle.expr_lang.specs.declared.parser.Misfit.TheVariants.{TooDeep, Unfit}
 use Rattle.expr_lang.specs.Tree.{Tree, Assigned}
@@ -7,7 +7,6 @@ use Rattle.expr_lang.specs.Grammar.{Placed, Toks, Cond, Assigns}
 use Rattle.expr_lang.specs.Machine.{Place, Open, Moves, Outcome, accepted, stopped, run, step, at_end, ends, operand, first_target}
 use Rattle.expr_lang.specs.Stuck.{GoesOnIn, Stuck, StuckIn}
 use Rattle.expr_lang.proofs.Assignments.{assigns_follow, sets, target}
-use Rattle.expr_lang.proofs.Parts.{append_nil}
 use Rattle.expr_lang.proofs.Runs.{moves, stops}
 use Rattle.expr_lang.proofs.Stops.{GoesDeeper, expressions_follow, stuck}
 use Rattle.expr_laws.proofs.Trees.{Condition, Goes, Kind, Text, assigned_text, assignments, condition_of, expression, operands_of}
@@ -27,7 +26,7 @@ Tells g n text accepted = Text g n text
 Tells g n text (stopped m left) = Halted g n m text left
 
 halted_at_end : (g : Kind) (n : ℕ) (front : Toks) → Goes g n front → Halted g n Unfit front []
-halted_at_end g n front h = record { front = front; cut = sym (append_nil front); goes_on = h; deeper = λ e. cc }
+halted_at_end g n front h = record { front = front; cut = sym (append-nil front); goes_on = h; deeper = λ e. cc }
 
 ends_tell : {n d : ℕ} {k : List Open} {base front : Toks} {g : Kind} → Opened n g k d base → (s : Toks) → front ≡ base ++ s → Condition d s → Goes g n front → Tells g n front (ends k)
 ends_tell {n} (nothing {front = base} e f) s g c o = (c.0, subst (λ (z : Toks). Cond n z c.0) (sym (g ∙ ap (λ (z : Toks). z ++ s) f)) (subst (λ (x : ℕ). Cond x s c.0) e c.1))
@@ -53,7 +52,7 @@ end_tells {n} {front = front} (at_target at name u xs f h) g = halted_at_end ass
 -- from each place, with a level more to see what is too deep
 run_tells : (g : Kind) (ts : Toks) (n : ℕ) (p : Place) (k : List Open) (front : Toks) → At n g p k front → At (suc n) g p k front → Tells g n (front ++ ts) (run n p k ts)
 unfolding run
-run_tells g [] n p k front a b = subst (λ (z : Toks). Tells g n z (at_end p k)) (sym (append_nil front)) (end_tells a (goes_on_there a))
+run_tells g [] n p k front a b = subst (λ (z : Toks). Tells g n z (at_end p k)) (sym (append-nil front)) (end_tells a (goes_on_there a))
 run_tells g (t ∷ ts) n p k front a b = go (step n p k t.1) refl (λ q l a' b'. run_tells g ts n q l (front ++ t ∷ []) a' b')
   where
     go : (m : Moves) → step n p k t.1 ≡ m → ((q : Place) (l : List Open) → At n g q l (front ++ t ∷ []) → At (suc n) g q l (front ++ t ∷ []) → Tells g n ((front ++ t ∷ []) ++ ts) (run n q l ts)) → Tells g n (front ++ t ∷ ts) (run n p k (t ∷ ts))
