@@ -1,8 +1,7 @@
 -- Tables one under another: one more table, one more name.
-use Rattle.std.proofs.Common.{◌≡◌, ℕ, ◌+◌, ◌<◌, List, [], ◌∷◌, ◌++◌, map, length, take, get_or, refl, sym, ap, ◌∙◌, append_assoc}
-use Rattle.std.specs.List.{flat_map}
+use Rattle.std.proofs.Common.{◌≡◌, ℕ, ◌+◌, ◌<◌, List, [], ◌∷◌, ◌++◌, map, length, take, get_or, sym, ap, ◌∙◌}
 use Rattle.std.specs.Str.{bytes_eq}
-use Rattle.std.proofs.lemmas.List.{take_more}
+use Rattle.std.proofs.lemmas.List.{flat_map_more, take_more}
 use Rattle.indexmap.specs.IndexSet.{insert_all}
 use Rattle.json_values.specs.Table.{TableContent, AreRows}
 use Rattle.table_terms.specs.Names.{Text}
@@ -11,17 +10,9 @@ use Rattle.table_rows.specs.Merge.{all_names, merged_rows}
 use Rattle.table_rows.proofs.Cells.{rows_long-append, cells_long}
 use Rattle.table_terms.proofs.Inserted.{insert_all-append}
 
-append_nil : {A : Type 0} (zs : List A) → zs ++ [] ≡ zs
-append_nil [] = refl
-append_nil (z ∷ zs) = ap (λ r. z ∷ r) (append_nil zs)
-
-flat_map-push : {A B : Type 0} (f : A → List B) (xs : List A) (y : A) → flat_map f (xs ++ y ∷ []) ≡ flat_map f xs ++ f y
-flat_map-push f [] y = append_nil (f y)
-flat_map-push f (x ∷ xs) y = ap (λ r. f x ++ r) (flat_map-push f xs y) ∙ sym (append_assoc (f x) (flat_map f xs) (f y))
-
 -- the names of one more table
 pub all_names_more : (ts : List TableContent) (i : ℕ) (d : TableContent) → i < length ts → all_names (take (i + 1) ts) ≡ all_names (take i ts) ++ (get_or ts i d).names
-all_names_more ts i d less = ap all_names (take_more ts i d less) ∙ flat_map-push (λ (t : TableContent). t.names) (take i ts) (get_or ts i d)
+all_names_more ts i d less = ap all_names (take_more ts i d less) ∙ sym (flat_map_more (λ (t : TableContent). t.names) [] (take i ts) (get_or ts i d))
 
 pub merged_names_more : (ts : List TableContent) (i : ℕ) (d : TableContent) → i < length ts
     → insert_all bytes_eq [] (all_names (take (i + 1) ts)) ≡ insert_all bytes_eq (insert_all bytes_eq [] (all_names (take i ts))) (get_or ts i d).names
@@ -30,7 +21,7 @@ merged_names_more ts i d less = ap (insert_all bytes_eq []) (all_names_more ts i
 pub merged_rows_more : (names : List Text) (ts : List TableContent) (i : ℕ) (d : TableContent) → i < length ts
     → merged_rows names (take (i + 1) ts) ≡ merged_rows names (take i ts) ++ map (cells (get_or ts i d).names names) (get_or ts i d).rows
 merged_rows_more names ts i d less =
-    ap (merged_rows names) (take_more ts i d less) ∙ flat_map-push (λ (t : TableContent). map (cells t.names names) t.rows) (take i ts) (get_or ts i d)
+    ap (merged_rows names) (take_more ts i d less) ∙ sym (flat_map_more (λ (t : TableContent). map (cells t.names names) t.rows) [] (take i ts) (get_or ts i d))
 
 -- merged rows are as long as the names
 pub merged_long : (names : List Text) (ts : List TableContent) → AreRows (length names) (merged_rows names ts)
