@@ -8,13 +8,13 @@ use Rattle.std.proofs.lemmas.Bool.{eq-eqb, eqb-true, ne_eqb}
 use Rattle.std.proofs.lemmas.List.{map_push, get_or-take, get_or_default}
 use Rattle.std.proofs.lemmas.List.Elements.{Contains-get_or, Contains-append_left, Contains-push, Contains-push_cases, filter-append}
 use Rattle.lists.proofs.Members.{Contains-nil, Contains-later, Contains-head, Contains-filter, filter-Contains, Contains-map}
+use Rattle.known_order.proofs.Orders.{first_counts}
 use Rattle.plane_model.specs.Arcs.{SignedArc}
 use Rattle.ring_trace.specs.declared.pairing.Edge.{Edge}
 use Rattle.ring_trace.specs.declared.ring_keys.RingKey.{RingKey}
 use Rattle.ring_trace.specs.declared.simple_rings.Rings.{Rings}
 use Rattle.ring_trace.specs.Keys.{AreByPart, BeginsPart, StaysInPart, HasKeyPart, keys_of_part, path_along}
 use Rattle.face_sets.proofs.PartLemmas.{rises_more}
-use Rattle.ring_trace.proofs.PairLemmas.{first_counts}
 
 pub no_key : RingKey
 no_key = record { part = 0; is_hole = false; least = 0; begin = 0; first = 0; end = 0 }

@@ -11,6 +11,7 @@ use Rattle.std.proofs.lemmas.List.Elements.{All-push}
 use Rattle.std.proofs.lemmas.List.FromFn.{length-range_with_len, get_or-range_with_len}
 use Rattle.std.proofs.lemmas.List.Sums.{sum_by-cons, sum_by_more, sum_by-take-drop, get_or-le-sum_by}
 use Rattle.std.proofs.lemmas.List.Sorted.{sum_by-IsPermutation, Contains-permutation, length_permutation}
+use Rattle.known_order.proofs.Orders.{first_counts}
 use Rattle.plane_model.specs.Points.{GridPoint, Path}
 use Rattle.plane_model.specs.Arcs.{SignedArc, points_of}
 use Rattle.arc_table.specs.Direction.{point_at}
@@ -40,11 +41,6 @@ start_is arcs a p h = go a.is_reversed h
         ∙ ap (λ (k : ℕ). get_or xs k (point_at [] 0)) (let f : length xs - 1 - 0 ≡ length xs - 1 = omega arith in f)
 
 -- ---- in order
-
-pub first_counts : (o p : Ordering) → is_lt (ordering_then o p) ≡ false → is_lt o ≡ false
-first_counts Less p e = e
-first_counts Equal p e = refl
-first_counts Greater p e = refl
 
 pub both_count : (o p q : Ordering) → is_lt (ordering_then o (ordering_then p q)) ≡ false → is_lt (ordering_then o p) ≡ false
 both_count Less p q e = e

@@ -14,6 +14,7 @@ use Rattle.face_sets.specs.declared.joined_faces.Side.{Side}
 use Rattle.face_sets.specs.Boundary.{is_outward, outward_at, side_at, sides_from, sides_of}
 use Rattle.ring_trace.specs.Traced.{same_arc, times, is_of_boundary, once_if}
 use Rattle.face_sets.proofs.SetLemmas.{to_ascending}
+use Rattle.ring_trace.proofs.Sums.{sum_by-filter, sum_by_none, sum_by_same}
 
 -- ---- one arc
 
@@ -32,42 +33,26 @@ same_place a b e = go a.is_reversed b.is_reversed refl refl
     go true false f g = let p = place a true f in let q = place b false g in absurd (omega arith)
     go false true f g = let p = place a false f in let q = place b true g in absurd (omega arith)
 
-none_either : (t : Bool) → let n : ℕ = 0 in n ≡ cond t 0 0
-none_either true = refl
-none_either false = refl
-
 -- the arcs that pass a test
-times-filter : (a : SignedArc) (q : SignedArc → Bool) (xs : List SignedArc) → times a (filter q xs) ≡ cond (q a) (times a xs) 0
-times-filter a q [] = none_either (q a)
-times-filter a q (x ∷ xs) = go (same_arc a x) (q x) refl refl (times-filter a q xs)
+pub times-filter : (a : SignedArc) (q : SignedArc → Bool) (xs : List SignedArc) → times a (filter q xs) ≡ cond (q a) (times a xs) 0
+times-filter a q xs =
+    sum_by-filter q (λ (y : SignedArc). once_if (same_arc a y)) xs
+    ∙ sum_by_same (λ (y : SignedArc). cond (q y) (once_if (same_arc a y)) 0) (λ (y : SignedArc). cond (q a) (once_if (same_arc a y)) 0) xs (λ y c. one y (same_arc a y) refl)
+    ∙ all (q a)
   where
-    here : times a (x ∷ xs) ≡ cond (same_arc a x) 1 0 + times a xs
-    here = sum_by-cons (λ (y : SignedArc). cond (same_arc a y) 1 0) x xs
+    neither : (b c : Bool) → cond b (once_if false) 0 ≡ cond c (once_if false) 0
+    neither true true = refl
+    neither true false = refl
+    neither false true = refl
+    neither false false = refl
 
-    kept : times a (x ∷ filter q xs) ≡ cond (same_arc a x) 1 0 + times a (filter q xs)
-    kept = sum_by-cons (λ (y : SignedArc). cond (same_arc a y) 1 0) x (filter q xs)
+    one : (y : SignedArc) (b : Bool) → same_arc a y ≡ b → cond (q y) (once_if (same_arc a y)) 0 ≡ cond (q a) (once_if (same_arc a y)) 0
+    one y true e = ap (λ (x : SignedArc). cond (q x) (once_if (same_arc a y)) 0) (sym (same_place a y (eqb-true (place_of a) (place_of y) e)))
+    one y false e = ap (λ (b : Bool). cond (q y) (once_if b) 0) e ∙ neither (q y) (q a) ∙ sym (ap (λ (b : Bool). cond (q a) (once_if b) 0) e)
 
-    other : (t : Bool) → same_arc a x ≡ false → times a (filter q xs) ≡ cond t (times a xs) 0 → times a (filter q xs) ≡ cond t (times a (x ∷ xs)) 0
-    other true e f = (let h : times a (x ∷ xs) ≡ cond false 1 0 + times a xs = here ∙ ap (λ (b : Bool). cond b 1 0 + times a xs) e in omega arith)
-    other false e f = f
-
-    go : (s t : Bool) → same_arc a x ≡ s → q x ≡ t → times a (filter q xs) ≡ cond (q a) (times a xs) 0 → times a (cond (q x) (x ∷ filter q xs) (filter q xs)) ≡ cond (q a) (times a (x ∷ xs)) 0
-    go true true e f rest =
-        let is : q a ≡ true = ap q (same_place a x (eqb-true (place_of a) (place_of x) e)) ∙ f in
-        let k : times a (x ∷ filter q xs) ≡ 1 + times a (filter q xs) = kept ∙ ap (λ (b : Bool). cond b 1 0 + times a (filter q xs)) e in
-        let h : times a (x ∷ xs) ≡ 1 + times a xs = here ∙ ap (λ (b : Bool). cond b 1 0 + times a xs) e in
-        let r : times a (filter q xs) ≡ times a xs = rest ∙ ap (λ (b : Bool). cond b (times a xs) 0) is in
-        let all : times a (x ∷ filter q xs) ≡ times a (x ∷ xs) = omega arith in
-        ap (λ (b : Bool). times a (cond b (x ∷ filter q xs) (filter q xs))) f ∙ all ∙ sym (ap (λ (b : Bool). cond b (times a (x ∷ xs)) 0) is)
-    go true false e f rest =
-        let is : q a ≡ false = ap q (same_place a x (eqb-true (place_of a) (place_of x) e)) ∙ f in
-        let r : times a (filter q xs) ≡ 0 = rest ∙ ap (λ (b : Bool). cond b (times a xs) 0) is in
-        ap (λ (b : Bool). times a (cond b (x ∷ filter q xs) (filter q xs))) f ∙ r ∙ sym (ap (λ (b : Bool). cond b (times a (x ∷ xs)) 0) is)
-    go false true e f rest =
-        let k : times a (x ∷ filter q xs) ≡ 0 + times a (filter q xs) = kept ∙ ap (λ (b : Bool). cond b 1 0 + times a (filter q xs)) e in
-        let all : times a (x ∷ filter q xs) ≡ times a (filter q xs) = omega arith in
-        ap (λ (b : Bool). times a (cond b (x ∷ filter q xs) (filter q xs))) f ∙ all ∙ other (q a) e rest
-    go false false e f rest = ap (λ (b : Bool). times a (cond b (x ∷ filter q xs) (filter q xs))) f ∙ other (q a) e rest
+    all : (b : Bool) → sum_by (λ (y : SignedArc). cond b (once_if (same_arc a y)) 0) xs ≡ cond b (times a xs) 0
+    all true = refl
+    all false = sum_by_none (λ (y : SignedArc). 0) xs (λ y c. refl)
 
 -- ---- all arcs
 
@@ -100,7 +85,7 @@ last_two a n = go a.is_reversed refl (cases_eq a.arc n)
         let p = place false e in
         both false false (ne_eqb (place_of a) (2 * n + 1) (λ h. other (omega arith))) (ne_eqb (place_of a) (2 * n + 2) (λ h. omega arith)) ∙ sym (ap once_if (ne_eqb a.arc n other))
 
-times_below : (a : SignedArc) (n : ℕ) → times a (signed_below n) ≡ once_if (nat_lt a.arc n)
+pub times_below : (a : SignedArc) (n : ℕ) → times a (signed_below n) ≡ once_if (nat_lt a.arc n)
 times_below a zero = sym (ap once_if (le-ltb a.arc 0 (omega arith)))
 times_below a (suc n) =
     let split = sum_by-append (λ (y : SignedArc). cond (same_arc a y) 1 0) (signed_below n) (forward n ∷ backward n ∷ []) in
