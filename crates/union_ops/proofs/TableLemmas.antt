@@ -1,8 +1,7 @@
 -- Rows of a union: as wide as the names of all tables, and made table by table.
 use Rattle.std.proofs.Common.{◌≡◌, sym, ap, ◌∙◌, arith, ℕ, ◌+◌, ◌<◌, ◌≤◌, List, [], ◌∷◌, ◌++◌, map, zip, length, get_or, take, Option, None}
 use Rattle.std.specs.List.{flat_map}
-use Rattle.std.proofs.lemmas.Grind.{flat_map-append}
-use Rattle.std.proofs.lemmas.List.{append-nil, length-append, length-map, get_or_default, take_more, take_all}
+use Rattle.std.proofs.lemmas.List.{flat_map_more, length-append, length-map, get_or_default, take_more, take_all}
 use Rattle.std.proofs.lemmas.Slice.Zip.{get_or-zip, length-zip}
 use Rattle.json_values.specs.Table.{TableContent, RowValues}
 use Rattle.table_rows.specs.Merge.{all_names}
@@ -17,9 +16,6 @@ row_counts tables = map (λ (t : TableContent). length t.rows) tables
 abbrev pub row_so_far : List TableContent → Choice → ℕ → RowValues
 row_so_far tables choice i = flat_map (λ (p : TableContent × Option ℕ). chosen_row p.0 p.1) (take i (zip tables choice))
 
-flat_map-push : {A B : Type 0} (f : A → List B) (xs : List A) (y : A) → flat_map f (xs ++ y ∷ []) ≡ flat_map f xs ++ f y
-flat_map-push f xs y = flat_map-append f xs (y ∷ []) ∙ ap (λ (zs : List _). flat_map f xs ++ zs) (append-nil (f y))
-
 -- a choice from the rows of tables has a place for each of them
 pub rows_of_all : (tables : List TableContent) (choice : Choice) (i : ℕ) → IsChoiceFrom (row_counts tables) choice → i < length tables → i < length choice
 rows_of_all tables choice i h l = let e = length-map tables (λ (t : TableContent). length t.rows) in let each = h.each in omega arith
@@ -32,7 +28,7 @@ row_more tables choice i d t n l m is at =
     let pairs = zip tables choice in
     let within : i < length pairs = (let e = length-zip tables choice in omega arith) in
     let here : get_or pairs i (d, n) ≡ (t, n) = get_or-zip tables choice i (d, n) l m ∙ (λ j. (sym is j, (get_or_default choice i n None m ∙ sym at) j)) in
-    sym (ap (flat_map values) (take_more pairs i (d, n) within) ∙ flat_map-push values (take i pairs) (get_or pairs i (d, n)) ∙ ap (λ (p : TableContent × Option ℕ). row_so_far tables choice i ++ values p) here)
+    sym (ap (flat_map values) (take_more pairs i (d, n) within) ∙ sym (flat_map_more values [] (take i pairs) (get_or pairs i (d, n))) ∙ ap (λ (p : TableContent × Option ℕ). row_so_far tables choice i ++ values p) here)
 
 pub row_goes_on : (tables : List TableContent) (choice : Choice) (i : ℕ) (t : TableContent) (n : Option ℕ) (old new : RowValues) → i < length tables → i < length choice → t ≡ get_or tables i t →
     new ≡ old ++ chosen_row t n → n ≡ get_or choice i None → old ≡ row_so_far tables choice i → new ≡ row_so_far tables choice (i + 1)
