@@ -2,8 +2,9 @@
 use Rattle.std.proofs.Common.{◌≡◌, refl, sym, ap, ◌∙◌, subst, inl, inr, arith, ℕ, zero, suc, ◌+◌, ◌<◌, Bool, true, cond, nat_eq, nat_lt, List, [], ◌∷◌, ◌++◌, length, get_or, take, map, filter, All, AllPairs, Contains, append-nil}
 use Rattle.std.specs.List.{flat_map, range_with_len}
 use Rattle.std.proofs.lemmas.Bool.{cases_Bool, cases_lt}
+use Rattle.std.proofs.lemmas.Simd.{map-map}
 use Rattle.std.proofs.lemmas.Grind.{flat_map-append}
-use Rattle.std.proofs.lemmas.List.{take_more, get_or_append_left, get_or_push, get_or_default, length_push}
+use Rattle.std.proofs.lemmas.List.{take_more, get_or_append_left, get_or-map, get_or_push, get_or_default, length-map, length_push, map-append}
 use Rattle.std.proofs.lemmas.List.Elements.{All-contains, All-head, All-tail, Contains-get_or}
 use Rattle.std.proofs.lemmas.List.FromFn.{length-range_with_len, get_or-range_with_len}
 use Rattle.std.proofs.lemmas.List.Kept.{IsStrictlyIncreasing-filter}
@@ -17,6 +18,8 @@ use Rattle.face_sets.proofs.BoundaryLemmas.{has_Contains}
 use Rattle.face_sets.proofs.GapLemmas.{range_rises}
 use Rattle.face_sets.proofs.SetLemmas.{nat_order, to_ascending}
 use Rattle.face_groups.specs.Groups.{AreGroupsOf, AreKeySets, IsGroupOf, IsKeySet, IsKeyed}
+use Rattle.face_groups.specs.Pieces.{ArePieces, Group as FirstGroup, pieces_of}
+use Rattle.face_groups.specs.declared.pieces.Piece.{Piece}
 
 pub inner_of : (faces : FaceTable) (keyed : ℕ → Bool) (before : ℕ → ℕ → Bool) (set : List ℕ) → IsKeySet (IsKeyed faces keyed) before set → IsSetOf faces set
 inner_of faces keyed before set h i d l = (h.of_them (get_or set i d) (Contains-get_or set i d l)).inner
@@ -75,6 +78,50 @@ module _ {Key Group Item : Type 0} (faces : FaceTable) (key_of : ℕ → Key) (k
             ∙ sym (flat_map-append items_of h.groups (g ∷ []));
       })
 
+element_at : {A : Type 0} (xs : List A) (i : ℕ) → i < length xs → (x : A) × Contains xs x × ((d : A) → get_or xs i d ≡ x)
+element_at [] i l = absurd (omega arith)
+element_at (x ∷ xs) zero l = (x, Contains-head x xs, λ d. refl)
+element_at (x ∷ xs) (suc i) l = let (y, c, is) = element_at xs i (omega arith) in (y, Contains-later x xs y c, is)
+
+-- groups with any keys, and items with them, of the pieces of sets
+module _ {Key Group Item : Type 0} (faces : FaceTable) (key_of : ℕ → Key) (key : Group → Key) (parts : Group → List (List ℕ)) (item : Key → List ℕ → Item) (group : Key → List (List ℕ) → Group)
+    (key_is : (k : Key) (ps : List (List ℕ)) → key (group k ps) ≡ k) (parts_are : (k : Key) (ps : List (List ℕ)) → parts (group k ps) ≡ ps) where
+  abbrev with_key : FirstGroup → Group
+  with_key g = group (key_of g.face) g.parts
+
+  abbrev one_item : Piece → Item
+  one_item p = item (key_of p.face) p.set
+
+  abbrev group_items : Group → List Item
+  group_items g = map (item (key g)) (parts g)
+
+  items_are : (gs : List FirstGroup) → map one_item (flat_map (λ (g : FirstGroup). pieces_of g.face g.parts) gs) ≡ flat_map group_items (map with_key gs)
+  items_are [] = refl
+  items_are (g ∷ gs) =
+      let pieces = pieces_of g.face g.parts in
+      let one : map one_item pieces ≡ group_items (with_key g) =
+      map-map one_item (λ (part : List ℕ). record { face = g.face; set = part }) g.parts
+      ∙ sym (ap (λ (k : Key). map (item k) (parts (with_key g))) (key_is (key_of g.face) g.parts) ∙ ap (map (item (key_of g.face))) (parts_are (key_of g.face) g.parts)) in
+      map-append one_item pieces (flat_map (λ (h : FirstGroup). pieces_of h.face h.parts) gs)
+      ∙ ap (λ (xs : List Item). xs ++ map one_item (flat_map (λ (h : FirstGroup). pieces_of h.face h.parts) gs)) one
+      ∙ ap (λ (xs : List Item). group_items (with_key g) ++ xs) (items_are gs)
+
+  pub groups_made : (sets : List (List ℕ)) (pieces : List Piece) → ArePieces faces sets pieces → (items : List Item) → items ≡ map one_item pieces → AreGroupsOf faces key_of key parts group_items sets items
+  groups_made sets pieces h items listed = record {
+    groups = map with_key h.groups;
+    count = length-map h.groups with_key ∙ h.count;
+    each = λ i d e l.
+        (let count = h.count in
+        let (first, c, at) = element_at h.groups i (omega arith) in
+        let of = h.each i d first l in
+        let is : get_or (map with_key h.groups) i e ≡ with_key first = get_or-map with_key h.groups i first e (omega arith) ∙ ap with_key (at first) in
+        subst (IsGroupOf faces key_of key parts (get_or sets i d)) (sym is) (record {
+          key_is = key_is (key_of first.face) first.parts ∙ ap key_of (sym (ap (λ (g : FirstGroup). g.face) (at first)) ∙ of.key_is);
+          are = subst (AreParts faces (get_or sets i d)) (ap (λ (g : FirstGroup). g.parts) (at first) ∙ sym (parts_are (key_of first.face) first.parts)) of.are;
+        }));
+    listed = listed ∙ ap (map one_item) h.listed ∙ items_are h.groups;
+  }
+
 -- ---- the groups of all keys
 
 -- Groups in the order of their keys, one for each key that some face has, with the parts of the faces that have it.
@@ -84,11 +131,6 @@ pub record AreKeyGroups {Key Group : Type 0} (faces : FaceTable) (keyed : ℕ �
   pub reached : (k : ℕ) → IsKeyed faces keyed k → (g : Group) × Contains groups g × (key g ≡ key_of k)
   pub parts_are : (g : Group) → Contains groups g → (test : ℕ → Bool) → ((k : ℕ) → k < faces.count → test k ≡ true → IsKeyed faces keyed k × (key_of k ≡ key g)) →
       ((k : ℕ) → IsKeyed faces keyed k → key_of k ≡ key g → test k ≡ true) → AreParts faces (filter test (range_with_len 0 faces.count)) (parts g)
-
-element_at : {A : Type 0} (xs : List A) (i : ℕ) → i < length xs → (x : A) × Contains xs x × ((d : A) → get_or xs i d ≡ x)
-element_at [] i l = absurd (omega arith)
-element_at (x ∷ xs) zero l = (x, Contains-head x xs, λ d. refl)
-element_at (x ∷ xs) (suc i) l = let (y, c, is) = element_at xs i (omega arith) in (y, Contains-later x xs y c, is)
 
 module _ {Key Group Item : Type 0} (faces : FaceTable) (keyed : ℕ → Bool) (key_of : ℕ → Key) (key_before : Key → Key → Bool) (order : IsStrictOrder key_before) (key : Group → Key) (parts : Group → List (List ℕ)) (items_of : Group → List Item)
     (sets : List (List ℕ)) (items : List Item) (h : AreKeySets (IsKeyed faces keyed) (λ (j k : ℕ). key_before (key_of j) (key_of k)) sets) (made : AreGroupsOf faces key_of key parts items_of sets items) where

@@ -1,5 +1,5 @@
 -- The mosaic by the sets themselves, and its pieces one by one.
-use Rattle.std.proofs.Common.{◌≡◌, refl, ◌∙◌, sym, ap, subst, true≢false, arith, ℕ, ◌<◌, true, not, nat_eq, List, [], ◌∷◌, All, Contains, length, get_or}
+use Rattle.std.proofs.Common.{◌≡◌, refl, ◌∙◌, sym, ap, subst, true≢false, arith, ℕ, ◌<◌, true, not, nat_eq, List, [], ◌∷◌, All, Contains, length, get_or, map}
 use Rattle.std.specs.Prelude.{◌==◌}
 use Rattle.std.specs.List.{range_with_len}
 use Rattle.std.specs.Ordering.{nat_cmp, is_lt}
@@ -12,12 +12,14 @@ use Rattle.face_walk.specs.Holders.{list_at}
 use Rattle.face_walk.specs.Places.{FaceTable}
 use Rattle.face_sets.specs.Owners.{AreOwners, owners_of}
 use Rattle.face_sets.specs.Sets.{IsInnerFace, IsSetOf}
-use Rattle.face_groups.specs.Groups.{AreKeySets, IsKeyed}
+use Rattle.face_groups.specs.Groups.{AreGroupsOf, IsKeyed}
 use Rattle.face_groups.specs.Keys.{is_owned, owned_before}
-use Rattle.face_groups.proofs.Groups.{AreKeyGroups, each_item, held_inside, key_groups, part_inside}
+use Rattle.face_groups.specs.Pieces.{AreKeyPieces}
+use Rattle.face_groups.specs.declared.pieces.Piece.{Piece}
+use Rattle.face_groups.proofs.Groups.{AreKeyGroups, each_item, groups_made, held_inside, key_groups, part_inside}
 use Rattle.region_ops.specs.declared.item_lists.MosaicItem.{MosaicItem}
 use Rattle.region_ops.specs.Items.{IsPiece}
-use Rattle.region_ops.specs.Mosaic.{ArePieces, Group, faces_of, items_of, IsMosaic, IsShared}
+use Rattle.region_ops.specs.Mosaic.{Group, faces_of, item_of, items_of, IsMosaic, IsShared}
 use Rattle.region_ops.proofs.ListOrder.{before_is_less, less_order, same_from_test, test_from_same}
 
 not_empty : (xs : List ℕ) → not (length xs == 0) ≡ true → xs ≡ [] → ⊥
@@ -27,28 +29,33 @@ some_list : (xs : List ℕ) → (xs ≡ [] → ⊥) → not (length xs == 0) ≡
 some_list [] some = absurd (some refl)
 some_list (x ∷ xs) some = ap not (ne_eqb (length (x ∷ xs)) 0 (λ e. omega arith))
 
-module _ (t : FaceTable) (sets owners : List (List ℕ)) (are : AreOwners sets t.count owners) (sets_inner : All (IsSetOf t) sets) (lists : List (List ℕ)) (items : List MosaicItem)
-    (h : AreKeySets (IsKeyed t (is_owned owners)) (owned_before owners) lists) (made : ArePieces t owners lists items) where
+module _ (t : FaceTable) (sets owners : List (List ℕ)) (are : AreOwners sets t.count owners) (sets_inner : All (IsSetOf t) sets) (pieces : List Piece) (made : AreKeyPieces t (is_owned owners) (owned_before owners) pieces) (items : List MosaicItem) (listed : items ≡ map (item_of owners) pieces) where
   keyed : (k : ℕ) → k < t.count → (owners_of sets k ≡ [] → ⊥) → IsKeyed t (is_owned owners) k
   keyed k l some = record { inner = held_inside t k 0 sets sets_inner some; has_key = some_list (list_at owners k) (λ e. some (sym (are.exact k l) ∙ e)) }
 
-  groups : AreKeyGroups t (is_owned owners) (list_at owners) (λ (xs ys : List ℕ). is_lt (slice_cmp nat_cmp xs ys)) (λ (g : Group). g.ids) (λ (g : Group). g.parts) made.groups
-  groups = key_groups t (is_owned owners) (list_at owners) (λ (xs ys : List ℕ). is_lt (slice_cmp nat_cmp xs ys)) less_order (λ (g : Group). g.ids) (λ (g : Group). g.parts) (λ (g : Group). items_of g.ids g.parts) lists items h made
+  all : AreGroupsOf t (list_at owners) (λ (g : Group). g.ids) (λ (g : Group). g.parts) (λ (g : Group). items_of g.ids g.parts) made.sets items
+  all =
+      let one : List ℕ → List ℕ → MosaicItem = λ (ids : List ℕ) (part : List ℕ). record { ids = ids; set = part } in
+      groups_made t (list_at owners) (λ (g : Group). g.ids) (λ (g : Group). g.parts) one (λ (ids : List ℕ) (parts : List (List ℕ)). record { ids = ids; parts = parts })
+      (λ ids parts. refl) (λ ids parts. refl) made.sets pieces made.are items listed
 
-  some : (g : Group) → Contains made.groups g → g.ids ≡ [] → ⊥
+  groups : AreKeyGroups t (is_owned owners) (list_at owners) (λ (xs ys : List ℕ). is_lt (slice_cmp nat_cmp xs ys)) (λ (g : Group). g.ids) (λ (g : Group). g.parts) all.groups
+  groups = key_groups t (is_owned owners) (list_at owners) (λ (xs ys : List ℕ). is_lt (slice_cmp nat_cmp xs ys)) less_order (λ (g : Group). g.ids) (λ (g : Group). g.parts) (λ (g : Group). items_of g.ids g.parts) made.sets items made.by_key all
+
+  some : (g : Group) → Contains all.groups g → g.ids ≡ [] → ⊥
   some g c e = let (k, p, is) = groups.used g c in not_empty (list_at owners k) p.has_key (is ∙ e)
 
   pub is_mosaic : IsMosaic t sets items
   is_mosaic = record {
-    groups = made.groups;
-    in_order = λ i j d less l. sym (before_is_less (get_or made.groups i d).ids (get_or made.groups j d).ids) ∙ groups.in_order i j d less l;
+    groups = all.groups;
+    in_order = λ i j d less l. sym (before_is_less (get_or all.groups i d).ids (get_or all.groups j d).ids) ∙ groups.in_order i j d less l;
     some = some;
     used = λ g c. let (k, p, is) = groups.used g c in (k, p.inner.there, sym (are.exact k p.inner.there) ∙ is);
     all = λ k l nonempty. let (g, c, is) = groups.reached k (keyed k l nonempty) in (g, c, is ∙ are.exact k l);
     parts = λ g c. groups.parts_are g c (λ (k : ℕ). same_list nat_eq (owners_of sets k) g.ids)
         (λ k l e. let is = same_from_test (owners_of sets k) g.ids e in (keyed k l (λ none. some g c (sym is ∙ none)), are.exact k l ∙ is))
         (λ k p is. test_from_same (owners_of sets k) g.ids (sym (are.exact k p.inner.there) ∙ is));
-    listed = made.listed;
+    listed = all.listed;
   }
 
 -- ---- piece by piece

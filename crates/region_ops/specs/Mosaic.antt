@@ -1,12 +1,12 @@
 -- The mosaic of sets: the parts of the faces that just the same sets have.
-use Rattle.std.specs.Prelude.{◌≡◌, ℕ, ◌<◌, true, nat_eq, nat_lt, List, [], ◌++◌, All, AllPairs, Contains, filter, map}
+use Rattle.std.specs.Prelude.{◌≡◌, ℕ, ◌<◌, true, nat_eq, nat_lt, List, [], All, AllPairs, Contains, filter, map}
 use Rattle.std.specs.List.{flat_map, range_with_len}
 use Rattle.lists.specs.Lists.{list_before, same_list}
 use Rattle.face_walk.specs.Holders.{list_at}
 use Rattle.face_walk.specs.Places.{FaceTable}
 use Rattle.face_sets.specs.Joined.{AreParts}
 use Rattle.face_sets.specs.Owners.{owners_of}
-use Rattle.face_groups.specs.Groups.{AreGroupsOf}
+use Rattle.face_groups.specs.declared.pieces.Piece.{Piece}
 use Rattle.region_ops.specs.declared.item_lists.MosaicItem.{MosaicItem}
 
 -- of `count` faces, those that just the sets of a list have
@@ -47,12 +47,6 @@ pub record IsShared (sets : List (List ℕ)) (item : MosaicItem) : Type 0 where
 
 -- ---- on the way, by lists for the faces
 
--- the items of the parts of a set of faces appended to others
-pub record IsGroupPushed (faces : FaceTable) (ids set : List ℕ) (old new : List MosaicItem) : Type 0 where
-  pub parts : List (List ℕ)
-  pub are : AreParts faces set parts
-  pub items : new ≡ old ++ items_of ids parts
-
--- the items of the parts of each set, with the list of its first face
-abbrev pub ArePieces : FaceTable → List (List ℕ) → List (List ℕ) → List MosaicItem → Type 0
-ArePieces faces owners sets items = AreGroupsOf faces (list_at owners) (λ (g : Group). g.ids) (λ (g : Group). g.parts) (λ (g : Group). items_of g.ids g.parts) sets items
+-- the piece, with the list of its faces
+abbrev pub item_of : List (List ℕ) → Piece → MosaicItem
+item_of owners piece = record { ids = list_at owners piece.face; set = piece.set }

@@ -7,28 +7,35 @@ use Rattle.std.proofs.lemmas.List.Kept.{AllPairs-cons}
 use Rattle.lists.proofs.Members.{Contains-filter, filter-Contains, Contains-later, Contains-head, Contains-map, Contains-flat_map}
 use Rattle.face_walk.specs.Places.{FaceTable}
 use Rattle.face_sets.specs.Sets.{IsInnerFace, IsSetOf}
-use Rattle.face_groups.specs.Groups.{AreKeySets, IsKeyed}
-use Rattle.face_groups.proofs.Groups.{AreKeyGroups, each_item, in_range, key_groups, part_inside}
+use Rattle.face_groups.specs.Groups.{AreGroupsOf, IsKeyed}
+use Rattle.face_groups.specs.Pieces.{AreKeyPieces}
+use Rattle.face_groups.specs.declared.pieces.Piece.{Piece}
+use Rattle.face_groups.proofs.Groups.{AreKeyGroups, each_item, groups_made, in_range, key_groups, part_inside}
 use Rattle.union_ops.specs.declared.union_lists.UnionItem.{UnionItem}
 use Rattle.union_ops.specs.Choices.{Choice, choice_of, has_number, same_choice, choice_before, IsChoiceFrom, AreChoices}
-use Rattle.union_ops.specs.Union.{ArePieces, faces_of, Group, items_of, items_of_groups, AreAscending, IsUnion, AreApart, IsHeld, CoverOnce, IsItemOf, choice_at, chosen_before, is_chosen}
+use Rattle.union_ops.specs.Union.{faces_of, Group, item_of, items_of, items_of_groups, AreAscending, IsUnion, AreApart, IsHeld, CoverOnce, IsItemOf, choice_at, chosen_before, is_chosen}
 use Rattle.union_ops.proofs.ChoiceOrder.{choice_order, same_from_test, test_from_same}
 use Rattle.union_ops.proofs.ChoiceLemmas.{choice_from, number_inside, held_number}
 
-module _ (t : FaceTable) (layers : List (List (List ℕ))) (choices : List Choice) (are : AreChoices layers t.count choices) (sets_inner : All (All (IsSetOf t)) layers) (sets : List (List ℕ)) (items : List UnionItem)
-    (h : AreKeySets (IsKeyed t (is_chosen choices)) (chosen_before choices) sets) (made : ArePieces t choices sets items) where
+module _ (t : FaceTable) (layers : List (List (List ℕ))) (choices : List Choice) (are : AreChoices layers t.count choices) (sets_inner : All (All (IsSetOf t)) layers) (pieces : List Piece) (made : AreKeyPieces t (is_chosen choices) (chosen_before choices) pieces) (items : List UnionItem) (listed : items ≡ map (item_of choices) pieces) where
   keyed : (k : ℕ) → k < t.count → has_number (choice_of layers k) ≡ true → IsKeyed t (is_chosen choices) k
   keyed k l some = record { inner = number_inside t k layers sets_inner some; has_key = ap has_number (are.exact k l) ∙ some }
 
-  groups : AreKeyGroups t (is_chosen choices) (choice_at choices) choice_before (λ (g : Group). g.choice) (λ (g : Group). g.parts) made.groups
-  groups = key_groups t (is_chosen choices) (choice_at choices) choice_before choice_order (λ (g : Group). g.choice) (λ (g : Group). g.parts) (λ (g : Group). items_of g.choice g.parts) sets items h made
+  all : AreGroupsOf t (choice_at choices) (λ (g : Group). g.choice) (λ (g : Group). g.parts) (λ (g : Group). items_of g.choice g.parts) made.sets items
+  all =
+      let one : Choice → List ℕ → UnionItem = λ (choice : Choice) (part : List ℕ). record { choice = choice; set = part } in
+      groups_made t (choice_at choices) (λ (g : Group). g.choice) (λ (g : Group). g.parts) one (λ (choice : Choice) (parts : List (List ℕ)). record { choice = choice; parts = parts })
+      (λ choice parts. refl) (λ choice parts. refl) made.sets pieces made.are items listed
 
-  some : (g : Group) → Contains made.groups g → has_number g.choice ≡ true
+  groups : AreKeyGroups t (is_chosen choices) (choice_at choices) choice_before (λ (g : Group). g.choice) (λ (g : Group). g.parts) all.groups
+  groups = key_groups t (is_chosen choices) (choice_at choices) choice_before choice_order (λ (g : Group). g.choice) (λ (g : Group). g.parts) (λ (g : Group). items_of g.choice g.parts) made.sets items made.by_key all
+
+  some : (g : Group) → Contains all.groups g → has_number g.choice ≡ true
   some g c = let (k, p, is) = groups.used g c in ap has_number (sym is) ∙ p.has_key
 
   pub is_union : IsUnion t layers items
   is_union = record {
-    groups = made.groups;
+    groups = all.groups;
     in_order = groups.in_order;
     some = some;
     used = λ g c. let (k, p, is) = groups.used g c in (k, p.inner.there, sym (are.exact k p.inner.there) ∙ is);
@@ -36,7 +43,7 @@ module _ (t : FaceTable) (layers : List (List (List ℕ))) (choices : List Choic
     parts = λ g c. groups.parts_are g c (λ (k : ℕ). same_choice (choice_of layers k) g.choice)
         (λ k l e. let is = same_from_test (choice_of layers k) g.choice e in (keyed k l (ap has_number is ∙ some g c), are.exact k l ∙ is))
         (λ k p is. test_from_same (choice_of layers k) g.choice (sym (are.exact k p.inner.there) ∙ is));
-    listed = made.listed;
+    listed = all.listed;
   }
 
 -- ---- each item

@@ -1,10 +1,10 @@
 -- The union of layers: the parts of the faces that have one choice.
-use Rattle.std.specs.Prelude.{◌≡◌, ℕ, ◌<◌, Bool, true, List, [], ◌++◌, All, AllPairs, Contains, filter, length, map, slice_index_or}
+use Rattle.std.specs.Prelude.{◌≡◌, ℕ, ◌<◌, Bool, true, List, [], All, AllPairs, Contains, filter, length, map, slice_index_or}
 use Rattle.std.specs.List.{flat_map, range_with_len}
 use Rattle.face_walk.specs.Places.{FaceTable}
 use Rattle.face_sets.specs.Joined.{AreParts}
 use Rattle.face_sets.specs.Sets.{IsSetOf}
-use Rattle.face_groups.specs.Groups.{AreGroupsOf}
+use Rattle.face_groups.specs.declared.pieces.Piece.{Piece}
 use Rattle.union_ops.specs.Choices.{Choice, choice_of, has_number, same_choice, choice_before, IsChoiceFrom}
 use Rattle.union_ops.specs.declared.union_lists.UnionItem.{UnionItem}
 
@@ -77,12 +77,6 @@ is_chosen choices k = has_number (choice_at choices k)
 abbrev pub chosen_before : List Choice → ℕ → ℕ → Bool
 chosen_before choices j k = choice_before (choice_at choices j) (choice_at choices k)
 
--- the items of the parts of a set of faces appended to others
-pub record IsGroupPushed (faces : FaceTable) (choice : Choice) (set : List ℕ) (old new : List UnionItem) : Type 0 where
-  pub parts : List (List ℕ)
-  pub are : AreParts faces set parts
-  pub items : new ≡ old ++ items_of choice parts
-
--- the items of the parts of each set, with the choice of its first face
-abbrev pub ArePieces : FaceTable → List Choice → List (List ℕ) → List UnionItem → Type 0
-ArePieces faces choices sets items = AreGroupsOf faces (choice_at choices) (λ (g : Group). g.choice) (λ (g : Group). g.parts) (λ (g : Group). items_of g.choice g.parts) sets items
+-- the piece, with the choice of its faces
+abbrev pub item_of : List Choice → Piece → UnionItem
+item_of choices piece = record { choice = choice_at choices piece.face; set = piece.set }

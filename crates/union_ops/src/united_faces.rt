@@ -1,24 +1,12 @@
-ghost use Rattle.std.specs.Prelude.{◌≡◌, ◌++◌, ◌<◌, All, IfOk, OnOk, length, slice_index};
+ghost use Rattle.std.specs.Prelude.{◌≡◌, All, IfOk, map};
 ghost use Rattle.face_walk.specs.Places.{IsBuiltOf};
 ghost use Rattle.face_sets.specs.Sets.{IsSetOf};
-ghost use Rattle.face_groups.specs.Groups.{AreKeySets, IsKeyed};
-ghost use Rattle.union_ops.specs.Union.{
-  ArePieces,
-  CoverOnce,
-  IsGroupPushed,
-  IsItemOf,
-  IsUnion,
-  choice_at,
-  chosen_before,
-  is_chosen,
-  items_of,
-};
+ghost use Rattle.union_ops.specs.Union.{CoverOnce, IsItemOf, IsUnion, item_of};
 
 use crate::face_choices::FaceChoices;
 use crate::union_lists::{ChoiceList, LayerSets, UnionItem, UnionList};
 use arc_table::ArcTable;
-use face_groups::sets_by_key;
-use face_sets::{FaceSet, SetList, parts};
+use face_groups::{Piece, pieces_by_key};
 use face_walk::Faces;
 use std::alloc::{AllocError, Global};
 
@@ -41,63 +29,28 @@ pub fn union_sets(
     ensures items { IfOk result (All (IsItemOf f.now layers.now)) }
 {
     let choices = FaceChoices::of(alloc, f, layers)?;
-    let sets = sets_by_key(alloc, f, &choices)?;
-    let items = items_of_sets(alloc, t, f, &choices, &sets)?;
+    let pieces = pieces_by_key(alloc, t, f, &choices)?;
+    let items = items_of(alloc, &choices, pieces)?;
     Ok(items)
 }
 
-// The parts of the faces of each choice, of a set for each choice.
-fn items_of_sets(
+// An item for each part, with the choice of its faces.
+fn items_of(
     alloc: Global,
-    t: &ArcTable,
-    f: &Faces,
     choices: &FaceChoices,
-    sets: &SetList,
+    pieces: Vec<Piece>,
 ) -> Result<UnionList, AllocError>
-    requires built { IsBuiltOf t.now f.now }
-    requires sets { AreKeySets (IsKeyed f.now (is_chosen choices.now)) (chosen_before choices.now) sets.now }
-    ensures exact { IfOk result (ArePieces f.now choices.now sets.now) }
+    ensures exact { IfOk result (λ items. items ≡ map (item_of choices.now) pieces.items) }
 {
     let mut items = UnionList::new(alloc);
-    for set in sets.as_slice() {
-        push_parts(alloc, t, f, choices, set, &mut items)?;
+    for piece in pieces {
+        let choice = choice_list(alloc, choices.at(piece.face))?;
+        items.push(UnionItem {
+            choice,
+            set: piece.set,
+        })?;
     }
     Ok(items)
-}
-
-// The parts of a set, with the choice of its first face.
-fn push_parts(
-    alloc: Global,
-    t: &ArcTable,
-    f: &Faces,
-    choices: &FaceChoices,
-    set: &FaceSet,
-    items: &mut UnionList,
-) -> Result<(), AllocError>
-    requires built { IsBuiltOf t.now f.now }
-    requires inner { IsSetOf f.now set.now }
-    requires some { 0 < length set.now }
-    ensures exact { OnOk result (IsGroupPushed f.now (choice_at choices.now (slice_index set.now 0)) set.now items.old items.new) }
-{
-    let choice = choices.at(set.faces()[0]);
-    let pieces = parts(alloc, t, f, set)?;
-    push_items(alloc, items, choice, pieces.into_vec())?;
-    Ok(())
-}
-
-fn push_items(
-    alloc: Global,
-    items: &mut UnionList,
-    choice: &[Option<u32>],
-    pieces: Vec<FaceSet>,
-) -> Result<(), AllocError>
-    ensures exact { OnOk result (items.new ≡ items.old ++ items_of choice.now pieces.items) }
-{
-    for set in pieces {
-        let list = choice_list(alloc, choice)?;
-        items.push(UnionItem { choice: list, set })?;
-    }
-    Ok(())
 }
 
 fn choice_list(alloc: Global, choice: &[Option<u32>]) -> Result<ChoiceList, AllocError>
