@@ -58,13 +58,14 @@ pub fn slab_area(area: Rect, slabs: &Slabs, slab: u32) -> Option<Rect>
     strip(area, slabs.axis, low, high)
 }
 
-fn empty_lists(alloc: Global, count: usize) -> Result<Vec<IdList>, AllocError>
+// Empty lists, `count` of them, each with room for `room` numbers.
+fn empty_lists(alloc: Global, count: usize, room: usize) -> Result<Vec<IdList>, AllocError>
     ensures count { IfOk result (λ lists. length lists.items ≡ count) }
     ensures empty { IfOk result (λ lists. (k : ℕ) → slice_index_or lists.items k [] ≡ []) }
 {
     let mut lists = Vec::with_capacity(alloc, count)?;
     for _i in 0..count {
-        lists.push(IdList::new(alloc))?;
+        lists.push(IdList::with_capacity(alloc, room)?)?;
     }
     Ok(lists)
 }
@@ -90,7 +91,10 @@ pub fn slab_lists(
     requires near { All (λ i. i < length boxes.now) near.now }
     ensures exact { IfOk result (λ lists. AreListed slabs.now boxes.now near.now lists.items) }
 {
-    let mut lists = empty_lists(alloc, slabs.last as usize + 1)?;
+    let count = slabs.last as usize + 1;
+    // Most boxes lie in one slab or two.
+    let room = (near.len() / count).saturating_mul(3) / 2;
+    let mut lists = empty_lists(alloc, count, room)?;
     for i in near {
         let area = boxes[*i as usize];
         let from = slab_of(slabs, coordinate(area.low(), slabs.axis));

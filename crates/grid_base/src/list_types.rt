@@ -432,6 +432,15 @@ impl IdList {
         }
     }
 
+    /// An empty list with room for `count` numbers.
+    pub fn with_capacity(alloc: Global, count: usize) -> Result<IdList, AllocError>
+        ensures empty { IfOk result (λ list. list ≡ []) }
+    {
+        Ok(IdList {
+            items: Vec::with_capacity(alloc, count)?,
+        })
+    }
+
     pub fn push(&mut self, item: u32) -> Result<(), AllocError>
         ensures ok { OnOk result (self.new ≡ self.old ++ item ∷ []) }
         ensures err { OnErr result (self.new ≡ self.old) }
