@@ -4,7 +4,7 @@ ghost use Rattle.plane_model.specs.Points.{GridPoint};
 ghost use Rattle.grid_base.specs.Grid.{IsOnGrid};
 ghost use Rattle.bucket_grid.specs.Areas.{IsPlaceOf, boxes_near, whole};
 
-use crate::growing::{Forest, MAX_STEPS, grow};
+use crate::growing::{Forest, MAX_STEPS, fit, grow};
 use crate::sharing::all_near;
 use crate::tree::{Node, child_of, coordinate};
 use grid_base::{BoxList, IdList, LIMIT, Pt, Rect};
@@ -47,6 +47,7 @@ impl Buckets {
             near: Vec::new(alloc),
         };
         let top = grow(&mut forest, alloc, boxes.as_slice(), whole, near, MAX_STEPS)?;
+        fit(&mut forest);
         let Forest {
             mut nodes,
             areas,

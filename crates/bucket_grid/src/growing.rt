@@ -59,6 +59,16 @@ fn add_leaf(forest: &mut Forest, area: Rect, near: IdList) -> Result<Node, Alloc
     Ok(Node::Leaf(place))
 }
 
+/// Gives back the memory that the lists of leaves have to spare.
+pub fn fit(forest: &mut Forest)
+    ensures nodes { forest.new.nodes.items ≡ forest.old.nodes.items }
+    ensures areas { forest.new.areas.items ≡ forest.old.areas.items }
+    ensures near { forest.new.near.items ≡ forest.old.near.items }
+{
+    forest.areas.shrink_to_fit();
+    forest.near.shrink_to_fit();
+}
+
 // Whether a cut leaves each part with fewer boxes, and does not list too many boxes twice.
 fn is_helpful(all: u32, lists: &[IdList]) -> bool {
     let mut count = 0u64;
