@@ -34,7 +34,7 @@ pub fn sort_rows(
 {
     let keys = keys_of(alloc, t, key)?;
     let numbers = numbers_by_key(alloc, &keys, t.row_count(), descending)?;
-    Ok(id_list(alloc, &numbers)?)
+    Ok(IdList::of(alloc, &numbers)?)
 }
 
 /// The numbers of the keys, `count` of them, in the order of the keys.
@@ -81,14 +81,4 @@ fn key_at<'a>(keys: &'a [Value], n: u32, null: &'a Value) -> &'a Value
         Some(key) => key,
         None => null,
     }
-}
-
-fn id_list(alloc: Global, numbers: &[u32]) -> Result<IdList, AllocError>
-    ensures same { IfOk result (λ list. list ≡ numbers.now) }
-{
-    let mut list = IdList::new(alloc);
-    for number in numbers {
-        list.push(*number)?;
-    }
-    Ok(list)
 }

@@ -441,6 +441,18 @@ impl IdList {
         })
     }
 
+    /// A list of these numbers; fails where there are more than `u32::MAX`, or no memory is left.
+    pub fn of(alloc: Global, numbers: &[u32]) -> Result<IdList, AllocError>
+        ensures same { IfOk result (λ list. list ≡ numbers.now) }
+    {
+        if numbers.len() > u32::MAX as usize {
+            return Err(AllocError);
+        }
+        Ok(IdList {
+            items: Vec::from_slice(alloc, numbers)?,
+        })
+    }
+
     pub fn push(&mut self, item: u32) -> Result<(), AllocError>
         ensures ok { OnOk result (self.new ≡ self.old ++ item ∷ []) }
         ensures err { OnErr result (self.new ≡ self.old) }

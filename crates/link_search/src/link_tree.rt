@@ -124,11 +124,7 @@ pub fn tree_of(
 fn few(alloc: Global, near: &[u32]) -> Result<LinkTree, AllocError>
     ensures exact { IfOk result (λ tree. parts_of tree ≡ these near.now) }
 {
-    let mut numbers = IdList::new(alloc);
-    for i in near {
-        numbers.push(*i)?;
-    }
-    Ok(LinkTree::Few(numbers))
+    Ok(LinkTree::Few(IdList::of(alloc, near)?))
 }
 
 fn beside(alloc: Global, x: i64, left: LinkTree, right: LinkTree) -> Result<LinkTree, AllocError>

@@ -44,21 +44,11 @@ fn items_of(
 {
     let mut items = MosaicList::new(alloc);
     for piece in pieces {
-        let ids = id_list(alloc, owners.at(piece.face))?;
+        let ids = IdList::of(alloc, owners.at(piece.face))?;
         items.push(MosaicItem {
             ids,
             set: piece.set,
         })?;
     }
     Ok(items)
-}
-
-fn id_list(alloc: Global, ids: &[u32]) -> Result<IdList, AllocError>
-    ensures same { IfOk result (λ l. l ≡ ids.now) }
-{
-    let mut list = IdList::new(alloc);
-    for id in ids {
-        list.push(*id)?;
-    }
-    Ok(list)
 }

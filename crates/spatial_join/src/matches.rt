@@ -74,7 +74,7 @@ fn sets_at(
     let mut found = found_at(alloc, t, f, owners, points)?;
     found.sort_unstable();
     found.dedup();
-    id_list(alloc, &found)
+    IdList::of(alloc, &found)
 }
 
 // The numbers of the sets that have a face beside some of these points, for each such face.
@@ -93,16 +93,6 @@ fn found_at(
         push_sets_at(t, f, owners, *p, &mut found)?;
     }
     Ok(found)
-}
-
-fn id_list(alloc: Global, numbers: &[u32]) -> Result<IdList, AllocError>
-    ensures same { IfOk result (λ list. list ≡ numbers.now) }
-{
-    let mut list = IdList::new(alloc);
-    for number in numbers {
-        list.push(*number)?;
-    }
-    Ok(list)
 }
 
 // For each of `count` numbers the numbers of the lists that have it, ascending.
@@ -143,7 +133,7 @@ fn group_list(alloc: Global, lists: &[Vec<u32>]) -> Result<GroupList, AllocError
 {
     let mut groups = GroupList::new(alloc);
     for list in lists {
-        groups.push(id_list(alloc, list)?)?;
+        groups.push(IdList::of(alloc, list)?)?;
     }
     Ok(groups)
 }

@@ -14,7 +14,7 @@ returns c =
     let found = c.in_ok-found.found.items in
     let once = c.deref.ensures.value ∙ dedup_is nat_eq _ _ c.dedup.ensures.filtered ∙ sorted_once found c.sort_unstable.new.self.items c.sort_unstable.ensures.permutation c.sort_unstable.ensures.sorted in
     record {
-      exact = λ sets are. IfOk-weaker c.id_list.result (λ (list : List ℕ). list ≡ c.deref.result.now) (AreSetsAt arcs f sets points)
+      exact = λ sets are. IfOk-weaker c.of.result (λ (list : List ℕ). list ≡ c.deref.result.now) (AreSetsAt arcs f sets points)
           (λ list same. sets_along arcs f sets c.args.owners.now points found list are c.in_ok-found.ensures.found (same ∙ once))
-          c.id_list.ensures.same;
+          c.of.ensures.same;
     }
