@@ -1,7 +1,7 @@
 -- Loops that append something for each item: what is there, and what is still to come.
 use Rattle.std.proofs.Common.{◌≡◌, sym, ap, ◌∙◌, arith, ℕ, ◌+◌, ◌<◌, ◌≤◌, List, [], ◌∷◌, ◌++◌, length, get_or, drop, Some, append_assoc}
 use Rattle.std.specs.List.{flat_map, slice_get}
-use Rattle.std.proofs.lemmas.List.{at_drop_more, at_drop_all, append-nil, get_or_default}
+use Rattle.std.proofs.lemmas.List.{at_drop_more, at_drop_all, append-nil}
 use Rattle.std.proofs.lemmas.Option.{get_or_from_slice_get, slice_get_within}
 use Rattle.plane_model.specs.Points.{GridPoint, Segment, Path}
 use Rattle.hot_pixels.specs.Spots.{spots_after, path_spots}
@@ -30,7 +30,3 @@ steps_all all out from xs i l h = sym (h ∙ ap (λ (t : List Segment). out ++ t
 pub path_begins : (path : Path) (p : GridPoint) → 0 < length path → p ≡ get_or path 0 p → spots_after p path ≡ path_spots path
 path_begins [] p l e = absurd (omega arith)
 path_begins (q ∷ rest) p l e = ap (λ (r : GridPoint). spots_after r (q ∷ rest)) e
-
--- inside a list the default does not matter
-pub get_or-alike : {A : Type 0} (xs : List A) (i : ℕ) (d e : A) → i < length xs → get_or xs i d ≡ get_or xs i e
-get_or-alike xs i d e l = get_or_default xs i d e l

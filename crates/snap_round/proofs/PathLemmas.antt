@@ -1,6 +1,7 @@
 -- The paths of a drawing, between its hot points, and the drawing snapped by them.
 use Rattle.std.proofs.Common.{◌≡◌, ◌≢◌, refl, sym, ap, subst, List, [], ◌∷◌, ◌++◌, map, get_or, Contains, All}
 use Rattle.std.specs.List.{flat_map}
+use Rattle.std.proofs.lemmas.List.{get_or_default}
 use Rattle.std.proofs.lemmas.List.Elements.{Contains-append_left, Contains-append_right, All-contains}
 use Rattle.lists.specs.Lists.{drop_repeats, joined_up}
 use Rattle.lists.proofs.Members.{Contains-joined_up, Contains-flat_map, flat_map-Contains, map-Contains}
@@ -15,14 +16,13 @@ use Rattle.plane_snapping.proofs.SnappedPaths.{path_vertex, snapped_path_is, IsC
 use Rattle.plane_snapping.proofs.SnappedLinks.{paths_snapped}
 use Rattle.grid_base.specs.Drawn.{HasPaths, IsPath, IsRing}
 use Rattle.hot_pixels.specs.Chains.{AreHotPointsOf}
-use Rattle.hot_pixels.proofs.Appending.{get_or-alike}
 use Rattle.hot_pixels.proofs.ChainLemmas.{chain_is_drawn}
 use Rattle.snap_round.specs.Joining.{IsHotPath, IsHotRing}
 use Rattle.snap_round.specs.Paths.{HasHotPaths}
 use Rattle.snap_round.specs.Linking.{AllStepsMove}
 
 all_of : {A : Type 0} (P : A → Type 0) (xs : List A) → ((x : A) → Contains xs x → P x) → All P xs
-all_of P xs h = λ i d l. h (get_or xs i d) (i, l, get_or-alike xs i (get_or xs i d) d l)
+all_of P xs h = λ i d l. h (get_or xs i d) (i, l, get_or_default xs i (get_or xs i d) d l)
 
 pub vertex_listed : (d : Drawing) (p : GridPoint) → Contains (vertices_of d) p → Contains (hot_points d) p
 vertex_listed d p c = Contains-append_left (vertices_of d) (flat_map (crossings_with (segments_of d)) (segments_of d)) p c
