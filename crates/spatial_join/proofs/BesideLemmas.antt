@@ -16,11 +16,9 @@ use Rattle.face_walk.specs.Places.{FaceTable, IsFaceOver, place_of}
 use Rattle.face_sets.proofs.BoundaryLemmas.{has_Contains, Contains_has}
 use Rattle.line_ops.specs.Inside.{left_of, right_of}
 use Rattle.line_ops.specs.Points.{IsNode, IsInsideAt}
+use Rattle.line_ops.proofs.PointLemmas.{one_least}
 use Rattle.line_ops.proofs.RunLemmas.{flat_map_more}
 use Rattle.spatial_join.specs.Beside.{AreBeside, AreFoundAt, lists_of, lists_left_of}
-
-one_least : (arcs : List Path) (p : GridPoint) (m n : ℕ) → IsLeastAt arcs p m → IsLeastAt arcs p n → m ≡ n
-one_least arcs p m n h k = let a = h.least n k.there k.on in let b = k.least m h.there h.on in omega arith
 
 or_false : (b : Bool) → (b || false) ≡ b
 or_false true = refl
