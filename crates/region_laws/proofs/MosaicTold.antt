@@ -28,7 +28,8 @@ use Rattle.region_laws.proofs.Answered.{emptiness_is_told, nil_or_not, parts_in_
 use Rattle.region_laws.proofs.AscendingLists.{IsListOf, filter_ascends, is_list_of, list_is_there, lists_ascend}
 use Rattle.region_laws.proofs.InGroups.{all_keys, all_sets, from_zip}
 use Rattle.region_laws.proofs.Mosaics.{faces_followed, faces_inner, first_of, in_faces, of_faces}
-use Rattle.region_laws.proofs.Numbers.{in_range, of_owners, of_range, owners_rise}
+use Rattle.region_ops.proofs.OwnerSets.{of_owners}
+use Rattle.region_laws.proofs.Numbers.{in_range, of_range, owners_rise}
 
 -- ---- pieces by their numbers and their sets
 

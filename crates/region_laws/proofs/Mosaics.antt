@@ -26,7 +26,8 @@ use Rattle.region_model.specs.Region.{Region, Has}
 use Rattle.region_laws.specs.Regions.{Follows, FollowEach}
 use Rattle.region_model.specs.PolygonCommands.{all_of, exactly, regions_at}
 use Rattle.region_laws.specs.Followed.{ExactlyHasPoints, FollowParts, IsWalked, MosaicsAreFollowed}
-use Rattle.region_laws.proofs.Numbers.{in_owners, in_range, of_owners, of_range, owners_rise}
+use Rattle.region_ops.proofs.OwnerSets.{in_owners, of_owners}
+use Rattle.region_laws.proofs.Numbers.{in_range, of_range, owners_rise}
 use Rattle.region_laws.proofs.PartLaws.{parts_are_followed}
 use Rattle.region_laws.proofs.Sets.{at_some, some_at}
 use Rattle.region_laws.proofs.Walked.{label_below, links_arranged}

@@ -1,5 +1,5 @@
 -- Numbers of elements that pass a test.
-use Rattle.std.proofs.Common.{◌≡◌, inl, inr, refl, sym, subst, ◌∙◌, arith, ℕ, zero, suc, ◌+◌, ◌<◌, Bool, true, false, cond, ◌||◌, List, [], ◌∷◌, Contains, length, get_or, nat_eq, nat_lt}
+use Rattle.std.proofs.Common.{◌≡◌, inl, inr, refl, ◌∙◌, arith, ℕ, suc, ◌+◌, ◌<◌, Bool, true, false, cond, ◌||◌, List, [], ◌∷◌, Contains, length, get_or, nat_eq, nat_lt}
 use Rattle.std.specs.List.{list_any, range_with_len}
 use Rattle.std.proofs.lemmas.Bool.{lt-ltb}
 use Rattle.std.proofs.lemmas.List.FromFn.{get_or-range_with_len, length-range_with_len}
@@ -7,7 +7,6 @@ use Rattle.lists.specs.Lists.{has, numbers_from}
 use Rattle.lists.proofs.Ascending.{IsAscending}
 use Rattle.lists.proofs.Members.{Contains-cases, Contains-head, Contains-later, Contains-nil}
 use Rattle.face_sets.specs.Owners.{owners_of}
-use Rattle.face_sets.proofs.BoundaryLemmas.{Contains_has, has_Contains}
 
 pub any_there : {X : Type 0} (t : X → Bool) (xs : List X) → list_any t xs ≡ true → (x : X) × Contains xs x × (t x ≡ true)
 any_there t [] e = absurd (let f : false ≡ true = e in cc)
@@ -28,19 +27,6 @@ of_range n m (i, l, e) =
     omega arith
 
 -- the numbers of the elements that pass
-pub in_numbers : {X : Type 0} (k : ℕ) (test : X → Bool) (xs : List X) (n : ℕ) (d : X) → n < length xs → test (get_or xs n d) ≡ true → Contains (numbers_from k test xs) (k + n)
-in_numbers k test [] n d l e = absurd (omega arith)
-in_numbers k test (x ∷ xs) zero d l e =
-    let same : k ≡ k + 0 = omega arith in
-    subst (λ (b : Bool). Contains (cond b (k ∷ numbers_from (k + 1) test xs) (numbers_from (k + 1) test xs)) (k + 0)) (sym e) (0, omega arith, same)
-in_numbers k test (x ∷ xs) (suc n) d l e =
-    let same : k + 1 + n ≡ k + suc n = omega arith in
-    go (test x) (subst (λ (m : ℕ). Contains (numbers_from (k + 1) test xs) m) same (in_numbers (k + 1) test xs n d (omega arith) e))
-  where
-    go : (b : Bool) → Contains (numbers_from (k + 1) test xs) (k + suc n) → Contains (cond b (k ∷ numbers_from (k + 1) test xs) (numbers_from (k + 1) test xs)) (k + suc n)
-    go true c = Contains-later k (numbers_from (k + 1) test xs) (k + suc n) c
-    go false c = c
-
 pub of_numbers : {X : Type 0} (k : ℕ) (test : X → Bool) (xs : List X) (m : ℕ) (d : X) → Contains (numbers_from k test xs) m → (n : ℕ) × (m ≡ k + n) × (n < length xs) × (test (get_or xs n d) ≡ true)
 of_numbers k test [] m d c = Contains-nil m c
 of_numbers {X} k test (x ∷ xs) m d c = go (test x) refl (of_numbers (k + 1) test xs m d) c
@@ -55,18 +41,6 @@ of_numbers {X} k test (x ∷ xs) m d c = go (test x) refl (of_numbers (k + 1) te
       | inr rest ↦ later (more rest)
     ]
     go false e more c = later (more c)
-
--- the sets that have a face
-pub in_owners : (sets : List (List ℕ)) (k m : ℕ) → m < length sets → Contains (get_or sets m []) k → Contains (owners_of sets k) m
-in_owners sets k m below there =
-    let same : 0 + m ≡ m = omega arith in
-    subst (λ (i : ℕ). Contains (owners_of sets k) i) same (in_numbers 0 (λ (set : List ℕ). has nat_eq set k) sets m [] below (Contains_has (get_or sets m []) k there))
-
-pub of_owners : (sets : List (List ℕ)) (k m : ℕ) → Contains (owners_of sets k) m → (m < length sets) × Contains (get_or sets m []) k
-of_owners sets k m c =
-    let (j, same, below, has_face) = of_numbers 0 (λ (set : List ℕ). has nat_eq set k) sets m [] c in
-    let is_j : j ≡ m = omega arith in
-    (omega arith, has_Contains (get_or sets m []) k (subst (λ (i : ℕ). has nat_eq (get_or sets i []) k ≡ true) is_j has_face))
 
 -- they rise
 pub numbers_rise : {X : Type 0} (k : ℕ) (test : X → Bool) (xs : List X) → IsAscending nat_lt (numbers_from k test xs)

@@ -21,7 +21,8 @@ use Rattle.region_model.specs.Region.{Region, any_of, both, less, regions_of, Ha
 use Rattle.region_laws.specs.Regions.{Follows}
 use Rattle.region_model.specs.PolygonCommands.{regions_at}
 use Rattle.region_laws.specs.Followed.{before, CleanedSetsAreFollowed, ClippedSetsAreFollowed, DissolvedSetsAreFollowed, ErasedSetsAreFollowed, MeetsAreFollowed, RemaindersAreFollowed, UnionsAreFollowed}
-use Rattle.region_laws.proofs.Numbers.{any_there, in_owners, in_range, of_owners, of_range}
+use Rattle.region_ops.proofs.OwnerSets.{in_owners, of_owners}
+use Rattle.region_laws.proofs.Numbers.{any_there, in_range, of_range}
 
 -- ---- any of some regions
 

@@ -18,7 +18,8 @@ use Rattle.region_model.specs.PolygonCommands.{all_of}
 use Rattle.region_model.specs.UnionCommand.{Choice, choices, choices_in, chosen_in, left_out, less_earlier, union_region}
 use Rattle.region_laws.specs.Answered.{FollowInOrder}
 use Rattle.region_laws.proofs.Mosaics.{each_has, has_each}
-use Rattle.region_laws.proofs.Numbers.{in_owners, in_range, of_owners, owners_rise}
+use Rattle.region_ops.proofs.OwnerSets.{in_owners, of_owners}
+use Rattle.region_laws.proofs.Numbers.{in_range, owners_rise}
 
 module _ (d : Drawing) (arcs : List Path) (z : RationalPoint) where
   -- ---- in one layer
