@@ -1,30 +1,31 @@
 -- Each set of faces has polygons as a trace answers them.
-use Rattle.std.proofs.Common.{◌≡◌, ◌⊎◌, inl, inr, refl, sym, ap, ◌∙◌, subst, arith, ℕ, zero, suc, ◌+◌, ◌*◌, ◌<◌, Bool, true, false, cond, not, ◌&&◌, List, [], ◌∷◌, map, length, get_or, filter, nat_eq, nat_lt, All, AllPairs, Contains}
+use Rattle.std.proofs.Common.{◌≡◌, refl, sym, ap, ◌∙◌, subst, arith, ℕ, zero, suc, ◌<◌, Bool, true, false, cond, not, ◌&&◌, List, [], ◌∷◌, map, length, get_or, nat_eq, nat_lt, All, AllPairs, Contains}
 use Rattle.std.specs.List.{sum_by}
 use Rattle.std.specs.List.Sorted.{IsStrictlyIncreasing}
-use Rattle.std.proofs.lemmas.Bool.{and_parts, cases_eq, cases_lt, eq-eqb, eqb-true, false_from_ne_true, le-ltb, lt-ltb, ltb-true, ne_eqb}
+use Rattle.std.proofs.lemmas.Bool.{and_parts, false_from_ne_true, lt-ltb, ltb-true}
 use Rattle.std.proofs.lemmas.List.{get_or-map, length-map}
 use Rattle.std.proofs.lemmas.List.Elements.{All-contains, All-map}
-use Rattle.std.proofs.lemmas.List.Sums.{sum_by-append, sum_by-cons}
+use Rattle.std.proofs.lemmas.List.Sums.{sum_by-cons}
 use Rattle.lists.specs.Lists.{has}
 use Rattle.plane_model.specs.Points.{GridPoint, Path, same_point}
 use Rattle.plane_model.specs.Drawing.{Drawing}
-use Rattle.plane_model.specs.Arcs.{SignedArc, backward, forward}
+use Rattle.plane_model.specs.Arcs.{SignedArc}
 use Rattle.plane_model.specs.Snapped.{links_of, snapped}
 use Rattle.plane_faces.specs.Places.{Place}
 use Rattle.arc_table.specs.Around.{start_of}
-use Rattle.face_walk.specs.Places.{FaceTable, HasArc, IsBuiltOf, face_left_of, place_of, signed_below}
+use Rattle.face_walk.specs.Places.{FaceTable, HasArc, IsBuiltOf, face_left_of, signed_below}
 use Rattle.face_sets.specs.Boundary.{boundary, face_right_of, is_outward}
 use Rattle.face_sets.specs.Joined.{AreParts}
 use Rattle.ring_trace.specs.Pairing.{stop_of}
 use Rattle.face_sets.specs.Sets.{IsSetOf}
-use Rattle.ring_trace.specs.Traced.{BeginsWithLeast, HasPolygonsOfParts, UsesBoundary, bounded, is_of_boundary, once_if, same_arc, times, times_round}
+use Rattle.ring_trace.specs.Traced.{BeginsWithLeast, HasPolygonsOfParts, UsesBoundary, bounded, is_of_boundary, once_if, times, times_round}
 use Rattle.ring_trace.specs.Turns.{MayStandBefore}
 use Rattle.ring_trace.specs.Ways.{IsSimpleRing}
 use Rattle.ring_trace.proofs.BalanceLemmas.{balanced_faces, sum_same}
 use Rattle.face_sets.proofs.BoundaryLemmas.{Contains_has, has_Contains}
 use Rattle.face_sets.proofs.JoinedLemmas.{joined_over}
-use Rattle.ring_trace.proofs.UsedLemmas.{same_place, sum_by-map}
+use Rattle.ring_trace.proofs.Sums.{sum_by-filter}
+use Rattle.ring_trace.proofs.UsedLemmas.{sum_by-map, times-filter, times_below}
 use Rattle.part_laws.proofs.BoundedLaws.{parts_have_boundaries}
 use Rattle.region_laws.specs.Followed.{IsWalked}
 use Rattle.region_laws.proofs.PartsExist.{parts_exist}
@@ -34,48 +35,6 @@ use Rattle.picture_laws.proofs.Orders.{IsOfArcs, polygon_exists}
 
 -- ---- sums
 
-sum_filter : {A : Type 0} (g : A → ℕ) (q : A → Bool) (xs : List A) → sum_by g (filter q xs) ≡ sum_by (λ x. cond (q x) (g x) 0) xs
-sum_filter g q [] = refl
-sum_filter g q (x ∷ xs) = go (q x) refl (sum_filter g q xs)
-  where
-    go : (b : Bool) → q x ≡ b → sum_by g (filter q xs) ≡ sum_by (λ y. cond (q y) (g y) 0) xs → sum_by g (filter q (x ∷ xs)) ≡ sum_by (λ y. cond (q y) (g y) 0) (x ∷ xs)
-    go true e r =
-        let a : sum_by g (filter q (x ∷ xs)) ≡ sum_by g (x ∷ filter q xs) = ap (λ (b : Bool). sum_by g (cond b (x ∷ filter q xs) (filter q xs))) e in
-        let b = sum_by-cons g x (filter q xs) in
-        let c = sum_by-cons (λ (y : _). cond (q y) (g y) 0) x xs in
-        let d : cond (q x) (g x) 0 ≡ g x = ap (λ (b : Bool). cond b (g x) 0) e in
-        omega arith
-    go false e r =
-        let a : sum_by g (filter q (x ∷ xs)) ≡ sum_by g (filter q xs) = ap (λ (b : Bool). sum_by g (cond b (x ∷ filter q xs) (filter q xs))) e in
-        let c = sum_by-cons (λ (y : _). cond (q y) (g y) 0) x xs in
-        let d : cond (q x) (g x) 0 ≡ 0 = ap (λ (b : Bool). cond b (g x) 0) e in
-        omega arith
-
-sum_zero : {A : Type 0} (xs : List A) → sum_by (λ (x : A). 0) xs ≡ 0
-sum_zero [] = refl
-sum_zero {A} (x ∷ xs) = let c = sum_by-cons (λ (y : A). 0) x xs in let r = sum_zero xs in omega arith
-
--- one element alone adds
-sum_alone : {A : Type 0} (f : A → ℕ) (d : A) (xs : List A) (j v : ℕ) → j < length xs → f (get_or xs j d) ≡ v → ((i : ℕ) → i < length xs → (i ≡ j → ⊥) → f (get_or xs i d) ≡ 0) → sum_by f xs ≡ v
-sum_alone f d [] j v l one none = absurd (omega arith)
-sum_alone f d (x ∷ xs) zero v l one none =
-    let m = sum_by-cons f x xs in
-    let r = sum_none f d xs (λ i k. none (suc i) (omega arith) (λ e. omega arith)) in
-    omega arith
-  where
-    sum_none : {A : Type 0} (f : A → ℕ) (d : A) (xs : List A) → ((i : ℕ) → i < length xs → f (get_or xs i d) ≡ 0) → sum_by f xs ≡ 0
-    sum_none f d [] none = refl
-    sum_none f d (x ∷ xs) none =
-        let m = sum_by-cons f x xs in
-        let e = none 0 (omega arith) in
-        let r = sum_none f d xs (λ i k. none (suc i) (omega arith)) in
-        omega arith
-sum_alone f d (x ∷ xs) (suc j) v l one none =
-    let m = sum_by-cons f x xs in
-    let e = none 0 (omega arith) (λ e. omega arith) in
-    let r = sum_alone f d xs j v (omega arith) one (λ i k ne. none (suc i) (omega arith) (λ e. ne (omega arith))) in
-    omega arith
-
 sum_nothing : {A : Type 0} (f : A → ℕ) (d : A) (xs : List A) → ((i : ℕ) → i < length xs → f (get_or xs i d) ≡ 0) → sum_by f xs ≡ 0
 sum_nothing f d [] none = refl
 sum_nothing f d (x ∷ xs) none =
@@ -84,78 +43,27 @@ sum_nothing f d (x ∷ xs) none =
     let r = sum_nothing f d xs (λ i k. none (suc i) (omega arith)) in
     omega arith
 
+-- one element alone adds
+sum_alone : {A : Type 0} (f : A → ℕ) (d : A) (xs : List A) (j v : ℕ) → j < length xs → f (get_or xs j d) ≡ v → ((i : ℕ) → i < length xs → (i ≡ j → ⊥) → f (get_or xs i d) ≡ 0) → sum_by f xs ≡ v
+sum_alone f d [] j v l one none = absurd (omega arith)
+sum_alone f d (x ∷ xs) zero v l one none =
+    let m = sum_by-cons f x xs in
+    let r = sum_nothing f d xs (λ i k. none (suc i) (omega arith) (λ e. omega arith)) in
+    omega arith
+sum_alone f d (x ∷ xs) (suc j) v l one none =
+    let m = sum_by-cons f x xs in
+    let e = none 0 (omega arith) (λ e. omega arith) in
+    let r = sum_alone f d xs j v (omega arith) one (λ i k ne. none (suc i) (omega arith) (λ e. ne (omega arith))) in
+    omega arith
+
 -- ---- how often arcs are in a boundary
-
-times_filter : (a : SignedArc) (q : SignedArc → Bool) (xs : List SignedArc) → times a (filter q xs) ≡ cond (q a) (times a xs) 0
-times_filter a q xs =
-    sum_filter (λ (y : SignedArc). once_if (same_arc a y)) q xs
-    ∙ sum_same (λ (y : SignedArc). cond (q y) (once_if (same_arc a y)) 0) (λ (y : SignedArc). cond (q a) (once_if (same_arc a y)) 0) xs (λ y. one y (same_arc a y) refl)
-    ∙ all (q a)
-  where
-    neither : (b c : Bool) → cond b (once_if false) 0 ≡ cond c (once_if false) 0
-    neither true true = refl
-    neither true false = refl
-    neither false true = refl
-    neither false false = refl
-
-    one : (y : SignedArc) (b : Bool) → same_arc a y ≡ b → cond (q y) (once_if (same_arc a y)) 0 ≡ cond (q a) (once_if (same_arc a y)) 0
-    one y true e = ap (λ (x : SignedArc). cond (q x) (once_if (same_arc a y)) 0) (sym (same_place a y (eqb-true (place_of a) (place_of y) e)))
-    one y false e = ap (λ (b : Bool). cond (q y) (once_if b) 0) e ∙ neither (q y) (q a) ∙ sym (ap (λ (b : Bool). cond (q a) (once_if b) 0) e)
-
-    all : (b : Bool) → sum_by (λ (y : SignedArc). cond b (once_if (same_arc a y)) 0) xs ≡ cond b (times a xs) 0
-    all true = refl
-    all false = sum_zero xs
-
-last_two : (a : SignedArc) (n : ℕ) → times a (forward n ∷ backward n ∷ []) ≡ once_if (nat_eq a.arc n)
-last_two a n = go a.is_reversed refl (cases_eq a.arc n)
-  where
-    f : times a (forward n ∷ backward n ∷ []) ≡ once_if (same_arc a (forward n)) + times a (backward n ∷ [])
-    f = sum_by-cons (λ (y : SignedArc). cond (same_arc a y) 1 0) (forward n) (backward n ∷ [])
-
-    b : times a (backward n ∷ []) ≡ once_if (same_arc a (backward n)) + 0
-    b = sum_by-cons (λ (y : SignedArc). cond (same_arc a y) 1 0) (backward n) []
-
-    place : (t : Bool) → a.is_reversed ≡ t → place_of a ≡ cond t (2 * a.arc + 2) (2 * a.arc + 1)
-    place t e = ap (λ (s : Bool). cond s (2 * a.arc + 2) (2 * a.arc + 1)) e
-
-    both : (s t : Bool) → same_arc a (forward n) ≡ s → same_arc a (backward n) ≡ t → times a (forward n ∷ backward n ∷ []) ≡ once_if s + once_if t
-    both s t e g = let h : times a (forward n ∷ backward n ∷ []) ≡ once_if (same_arc a (forward n)) + once_if (same_arc a (backward n)) = (let ff = f in let bb = b in omega arith) in h ∙ (λ i. once_if (e i) + once_if (g i))
-
-    go : (t : Bool) → a.is_reversed ≡ t → (a.arc ≡ n) ⊎ (a.arc ≡ n → ⊥) → times a (forward n ∷ backward n ∷ []) ≡ once_if (nat_eq a.arc n)
-    go true e (inl same) =
-        let p = place true e in
-        both false true (ne_eqb (place_of a) (2 * n + 1) (λ h. omega arith)) (eq-eqb (place_of a) (2 * n + 2) (omega arith)) ∙ sym (ap once_if (eq-eqb a.arc n same))
-    go false e (inl same) =
-        let p = place false e in
-        both true false (eq-eqb (place_of a) (2 * n + 1) (omega arith)) (ne_eqb (place_of a) (2 * n + 2) (λ h. omega arith)) ∙ sym (ap once_if (eq-eqb a.arc n same))
-    go true e (inr other) =
-        let p = place true e in
-        both false false (ne_eqb (place_of a) (2 * n + 1) (λ h. omega arith)) (ne_eqb (place_of a) (2 * n + 2) (λ h. other (omega arith))) ∙ sym (ap once_if (ne_eqb a.arc n other))
-    go false e (inr other) =
-        let p = place false e in
-        both false false (ne_eqb (place_of a) (2 * n + 1) (λ h. other (omega arith))) (ne_eqb (place_of a) (2 * n + 2) (λ h. omega arith)) ∙ sym (ap once_if (ne_eqb a.arc n other))
-
-times_below : (a : SignedArc) (n : ℕ) → times a (signed_below n) ≡ once_if (nat_lt a.arc n)
-times_below a zero = sym (ap once_if (le-ltb a.arc 0 (omega arith)))
-times_below a (suc n) =
-    let split = sum_by-append (λ (y : SignedArc). cond (same_arc a y) 1 0) (signed_below n) (forward n ∷ backward n ∷ []) in
-    let low = times_below a n in
-    let two = last_two a n in
-    let sums : times a (signed_below (suc n)) ≡ once_if (nat_lt a.arc n) + once_if (nat_eq a.arc n) = omega arith in
-    sums ∙ elim (cases_lt a.arc n) [
-      | inl less ↦ (λ i. once_if (lt-ltb a.arc n less i) + once_if (ne_eqb a.arc n (λ e. omega arith) i)) ∙ sym (ap once_if (lt-ltb a.arc (suc n) (omega arith)))
-      | inr more ↦ elim (cases_eq a.arc n) [
-        | inl same ↦ (λ i. once_if (le-ltb a.arc n more i) + once_if (eq-eqb a.arc n same i)) ∙ sym (ap once_if (lt-ltb a.arc (suc n) (omega arith)))
-        | inr other ↦ (λ i. once_if (le-ltb a.arc n more i) + once_if (ne_eqb a.arc n other i)) ∙ sym (ap once_if (le-ltb a.arc (suc n) (omega arith)))
-      ]
-    ]
 
 -- face on the left and none on the right
 abbrev leads_out : List ℕ → List ℕ → SignedArc → Bool
 leads_out places set a = has nat_eq set (face_left_of places a) && is_outward places set a
 
 boundary_once : (places : List ℕ) (many : ℕ) (set : List ℕ) (a : SignedArc) → times a (boundary places many set) ≡ once_if (is_of_boundary places many set a)
-boundary_once places many set a = times_filter a (leads_out places set) (signed_below many) ∙ ap (λ (n : ℕ). cond (leads_out places set a) n 0) (times_below a many) ∙ tests (nat_lt a.arc many) (leads_out places set a)
+boundary_once places many set a = times-filter a (leads_out places set) (signed_below many) ∙ ap (λ (n : ℕ). cond (leads_out places set a) n 0) (times_below a many) ∙ tests (nat_lt a.arc many) (leads_out places set a)
   where
     tests : (s t : Bool) → cond t (once_if s) 0 ≡ once_if (s && t)
     tests true true = refl
@@ -177,7 +85,7 @@ boundary_even arcs faces built set x =
     counted : (end_of : SignedArc → GridPoint) → sum_by (λ (a : SignedArc). once_if (same_point x (end_of a))) (boundary faces.places (length arcs) set)
         ≡ sum_by (λ (a : SignedArc). once_if (same_point x (end_of a) && leads_out faces.places set a)) (signed_below (length arcs))
     counted end_of =
-        sum_filter (λ (a : SignedArc). once_if (same_point x (end_of a))) (leads_out faces.places set) (signed_below (length arcs))
+        sum_by-filter (leads_out faces.places set) (λ (a : SignedArc). once_if (same_point x (end_of a))) (signed_below (length arcs))
         ∙ sum_same (λ (a : SignedArc). cond (leads_out faces.places set a) (once_if (same_point x (end_of a))) 0) (λ (a : SignedArc). once_if (same_point x (end_of a) && leads_out faces.places set a)) (signed_below (length arcs))
         (λ a. tests (same_point x (end_of a)) (leads_out faces.places set a))
 
