@@ -13,7 +13,7 @@ use span_pool::SpanPool;
 use std::alloc::{AllocError, Global};
 
 /// Where an arc starts, as the place of its first step, and how many steps it has.
-#[derive(Clone, Copy, Debug)]
+#[derive(Clone, Copy)]
 pub struct Way {
     pub start: u32,
     pub steps: u32,

@@ -8,7 +8,7 @@ use span_pool::{SpanId, SpanPool};
 use std::alloc::{AllocError, Global};
 
 /// A vertex of an arc.
-#[derive(Clone, Copy, PartialEq, Eq, PartialOrd, Ord, Debug)]
+#[derive(Clone, Copy, PartialEq, Eq, PartialOrd, Ord)]
 pub struct ArcVertex {
     pub at: Pt,
     pub arc: ArcId,

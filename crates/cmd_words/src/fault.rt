@@ -73,7 +73,7 @@ impl From<AllocError> for WordFault {
 }
 
 /// What is wrong with one word.
-#[derive(Clone, Copy, Debug, PartialEq, Eq)]
+#[derive(Clone, Copy)]
 pub(crate) enum Refusal {
     Why(WordWhy),
     Memory,

@@ -26,7 +26,7 @@ use grid_base::FaceId;
 use std::alloc::{AllocError, Global};
 
 /// A face of a set, with the number of its part: greater for a part that stands later.
-#[derive(Clone, Copy, Debug)]
+#[derive(Clone, Copy)]
 struct PartFace {
     part: u64,
     face: FaceId,

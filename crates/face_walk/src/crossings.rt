@@ -9,7 +9,7 @@ use grid_base::{ArcId, FaceId, SignedArc};
 use std::alloc::{AllocError, Global};
 
 /// A step across an arc, from a face that has been reached into one that has not.
-#[derive(Clone, Copy, Debug)]
+#[derive(Clone, Copy)]
 pub struct Crossing {
     pub from: FaceId,
     pub into: FaceId,

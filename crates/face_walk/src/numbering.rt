@@ -18,7 +18,7 @@ pub struct Numbering {
 }
 
 /// The face on the left of a signed arc. They are ordered by the face, then by the arc.
-#[derive(Clone, Copy, PartialEq, Eq, PartialOrd, Ord, Debug)]
+#[derive(Clone, Copy, PartialEq, Eq, PartialOrd, Ord)]
 pub struct FaceSide {
     pub face: u32,
     pub arc: SignedArc,

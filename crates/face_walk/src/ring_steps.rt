@@ -11,7 +11,7 @@ use std::alloc::{AllocError, Global};
 
 /// A step along an arc, by a ring of a polygon or by a box; these are known by numbers from 0. Steps are ordered by the
 /// arc.
-#[derive(Clone, Copy, PartialEq, Eq, PartialOrd, Ord, Debug)]
+#[derive(Clone, Copy, PartialEq, Eq, PartialOrd, Ord)]
 pub struct RingStep {
     pub arc: ArcId,
     pub item: u32,

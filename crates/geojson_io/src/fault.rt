@@ -63,7 +63,7 @@ impl<T: Drop> From<AllocFailed<T>> for ShapeFault {
 }
 
 // Why a part of the reader stopped.
-#[derive(Clone, Copy, PartialEq, Eq, Debug)]
+#[derive(Clone, Copy)]
 pub(crate) enum Stop {
     Why(ShapeWhy),
     Memory,

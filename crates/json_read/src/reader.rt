@@ -33,7 +33,7 @@ pub enum Fault {
 }
 
 /// Why a reader stopped.
-#[derive(Debug, Drop)]
+#[derive(Drop)]
 pub enum Stop {
     Fault(Fault),
     Memory,

@@ -12,7 +12,7 @@ use grid_base::SignedArc;
 use std::alloc::{AllocError, Global};
 
 /// Of which arcs runs are made.
-#[derive(Clone, Copy, PartialEq, Eq, Debug)]
+#[derive(Clone, Copy, PartialEq, Eq)]
 enum Keeps {
     Inside,
     Outside,

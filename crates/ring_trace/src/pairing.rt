@@ -26,7 +26,7 @@ use grid_base::{Pt, SignedArc, is_same};
 use std::alloc::{AllocError, Global};
 
 /// A signed arc of the boundary of a part, and where it starts. They are ordered by the part, then by the start.
-#[derive(Clone, Copy, PartialEq, Eq, PartialOrd, Ord, Debug)]
+#[derive(Clone, Copy, PartialEq, Eq, PartialOrd, Ord)]
 pub struct Edge {
     pub part: u32,
     pub start: Pt,
@@ -34,7 +34,7 @@ pub struct Edge {
 }
 
 /// The end of an edge, with the place of the edge. They are ordered by the part, then by the end.
-#[derive(Clone, Copy, PartialEq, Eq, PartialOrd, Ord, Debug)]
+#[derive(Clone, Copy, PartialEq, Eq, PartialOrd, Ord)]
 struct EdgeEnd {
     part: u32,
     stop: Pt,

@@ -12,7 +12,7 @@ use std::alloc::{AllocError, Global};
 
 /// A ring of a part, with the place of its edge along the least arc. They are ordered by the part; then the exterior
 /// comes first, and holes are ordered by their least arcs.
-#[derive(Clone, Copy, PartialEq, Eq, PartialOrd, Ord, Debug)]
+#[derive(Clone, Copy, PartialEq, Eq, PartialOrd, Ord)]
 pub struct RingKey {
     pub part: u32,
     pub is_hole: bool,

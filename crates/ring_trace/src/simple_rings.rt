@@ -9,7 +9,7 @@ use arc_table::ArcTable;
 use std::alloc::{AllocError, Global};
 
 /// A ring: where its edges begin and end in a list of edges.
-#[derive(Clone, Copy, Debug)]
+#[derive(Clone, Copy)]
 pub struct RingSpan {
     pub begin: usize,
     pub end: usize,

@@ -20,7 +20,7 @@ use std::alloc::{AllocError, Global};
 use topo_io::{TopoFault, read_topojson};
 
 /// Why the bytes of a source give no layers.
-#[derive(Clone, Copy, Debug, PartialEq, Eq)]
+#[derive(Clone, Copy, PartialEq, Eq)]
 pub(crate) enum DecodeStop {
     Refused(InputWhy),
     Memory,

@@ -48,7 +48,7 @@ fn line_of(alloc: Global, count: u32, laid: Laid) -> Result<String, AllocError>
 }
 
 // What the line tells: how many cells, arcs, faces and cells with a face there are, and twice the area of all cells.
-#[derive(Clone, Copy, Debug)]
+#[derive(Clone, Copy)]
 struct Numbers {
     cells: u32,
     arcs: u32,

@@ -9,7 +9,7 @@ use hot_pixels::HotSet;
 use std::alloc::{AllocError, Global};
 
 /// Why paths are not made: their chains would have more points than there is room for, or memory ran out.
-#[derive(Clone, Copy, PartialEq, Eq, Debug)]
+#[derive(Clone, Copy, PartialEq, Eq)]
 pub enum PathStop {
     Full,
     Memory,

@@ -84,7 +84,7 @@ impl<T: Drop> From<AllocFailed<T>> for TopoFault {
 }
 
 // Why a part of the reader stopped.
-#[derive(Clone, Copy, PartialEq, Eq, Debug)]
+#[derive(Clone, Copy)]
 pub(crate) enum Stop {
     Why(TopoWhy),
     Memory,
