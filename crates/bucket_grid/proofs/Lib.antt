@@ -1,7 +1,7 @@
 pub mod Numbers
 pub mod SharedPoints
 pub mod SlabLemmas
-pub mod MadeAreas
+pub mod MadeRects
 pub mod Growth
 pub mod OnTheWay
 pub mod ListLemmas

@@ -5,11 +5,11 @@ use Rattle.std.proofs.lemmas.Bool.{le-leb, lt-leb, and_from, and_left, and_right
 use Rattle.std.proofs.lemmas.List.Elements.{filter-append}
 use Rattle.grid_base.specs.Grid.{Corners}
 use Rattle.bucket_grid.specs.declared.tree.Slabs.{Slabs}
-use Rattle.bucket_grid.specs.Areas.{whole, share_point, boxes_near}
+use Rattle.bucket_grid.specs.Rects.{whole, share_point, boxes_near}
 use Rattle.lists.specs.Lists.{numbers_from}
 use Rattle.bucket_grid.proofs.Numbers.{filter-numbers_where}
 use Rattle.bucket_grid.proofs.SlabLemmas.{slab_shares}
-use Rattle.bucket_grid.specs.Slabs.{along, slab_at, reaches, AreListed, IsPutInto, DividesArea, slab_part}
+use Rattle.bucket_grid.specs.Slabs.{along, slab_at, reaches, AreListed, IsPutInto, DividesRect, slab_part}
 
 pub put_done : (from end id k : ℕ) (xs ys : List (List ℕ)) → end ≤ k → k ≤ max from end → IsPutInto from k id xs ys → IsPutInto from end id xs ys
 put_done from end id k xs ys l m h = record {
@@ -61,12 +61,12 @@ same_numbers : {A : Type 0} (n : ℕ) (p q : A → Bool) (xs : List A) → ((x :
 same_numbers n p q [] e = refl
 same_numbers n p q (x ∷ xs) e = λ i. cond (e x i) (n ∷ same_numbers (n + 1) p q xs e i) (same_numbers (n + 1) p q xs e i)
 
--- the list of a slab has the boxes near its part of the area
-pub list_is : (s : Slabs) (boxes : List Corners) (area : Corners) (near : List ℕ) (lists : List (List ℕ)) → DividesArea area s → near ≡ boxes_near boxes area → AreListed s boxes near lists →
-    (k : ℕ) → k < length lists → get_or lists k [] ≡ boxes_near boxes (slab_part s k area)
-list_is s boxes area near lists d e h k l =
+-- the list of a slab has the boxes near its part of the rectangle
+pub list_is : (s : Slabs) (boxes : List Corners) (rect : Corners) (near : List ℕ) (lists : List (List ℕ)) → DividesRect rect s → near ≡ boxes_near boxes rect → AreListed s boxes near lists →
+    (k : ℕ) → k < length lists → get_or lists k [] ≡ boxes_near boxes (slab_part s k rect)
+list_is s boxes rect near lists d e h k l =
     let n = h.count in
     h.each k (omega arith)
     ∙ ap (filter (λ i. reaches s k (get_or boxes i whole))) e
-    ∙ filter-numbers_where (share_point area) (reaches s k) whole boxes
-    ∙ sym (same_numbers 0 (share_point (slab_part s k area)) (λ b. share_point area b && reaches s k b) boxes (slab_shares area s d k (omega arith)))
+    ∙ filter-numbers_where (share_point rect) (reaches s k) whole boxes
+    ∙ sym (same_numbers 0 (share_point (slab_part s k rect)) (λ b. share_point rect b && reaches s k b) boxes (slab_shares rect s d k (omega arith)))

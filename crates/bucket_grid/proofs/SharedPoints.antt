@@ -1,4 +1,4 @@
--- Rectangles that share a grid point: by their sides, and in a part of an area.
+-- Rectangles that share a grid point: by their sides, and in a part of a rectangle.
 use Rattle.std.proofs.Common.{◌≡◌, ℕ, ◌<◌, true, ℤ, ◌≤ℤ◌, int_le, ◌&&◌, List, length, All}
 use Rattle.std.proofs.lemmas.List.Elements.{All-same}
 use Rattle.bucket_grid.proofs.Numbers.{numbers_where_below}
@@ -7,7 +7,7 @@ use Rattle.plane_algebra.proofs.Order.{order, order_cases}
 use Rattle.plane_algebra.proofs.Tests.{le_from, le_to}
 use Rattle.plane_model.specs.Points.{GridPoint}
 use Rattle.grid_base.specs.Grid.{Corners}
-use Rattle.bucket_grid.specs.Areas.{share_point, boxes_near, SharingIsComputed}
+use Rattle.bucket_grid.specs.Rects.{share_point, boxes_near, SharingIsComputed}
 
 -- neither rectangle is past the other
 pub record Overlap (a b : Corners) : Type 0 where
@@ -48,6 +48,6 @@ sharing_is_computed a b ordered_a ordered_b = (
   }),
 )
 
--- the numbers of boxes near an area are numbers of boxes
-pub near_below : (boxes : List Corners) (area : Corners) (near : List ℕ) → near ≡ boxes_near boxes area → All (λ i. i < length boxes) near
-near_below boxes area near e = All-same (λ i. i < length boxes) near (boxes_near boxes area) e (numbers_where_below (share_point area) boxes)
+-- the numbers of boxes near a rectangle are numbers of boxes
+pub near_below : (boxes : List Corners) (rect : Corners) (near : List ℕ) → near ≡ boxes_near boxes rect → All (λ i. i < length boxes) near
+near_below boxes rect near e = All-same (λ i. i < length boxes) near (boxes_near boxes rect) e (numbers_where_below (share_point rect) boxes)

@@ -1,4 +1,4 @@
-pub mod Areas
+pub mod Rects
 pub mod Slabs
 pub mod Division
 pub mod Tree

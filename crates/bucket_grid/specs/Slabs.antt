@@ -1,11 +1,11 @@
--- Slabs of an area: parts of one width along an axis, of which the first and the last take in the rest.
+-- Slabs of a rectangle: parts of one width along an axis, of which the first and the last take in the rest.
 use Rattle.std.specs.Prelude.{◌≡◌, ℕ, zero, suc, ◌+◌, ◌*◌, ◌/◌, min, ◌<◌, ◌≤◌, leb, eqb, ℤ, pos, ◌+ℤ◌, ◌-ℤ◌, ◌≤ℤ◌, int_lt, unsigned_abs, ◌&&◌, Bool, List, ◌++◌, ◌∷◌, [], length, filter, slice_index_or, if◌then◌else◌}
 use Rattle.plane_model.specs.Points.{GridPoint}
 use Rattle.grid_base.specs.Grid.{Corners}
 use Rattle.bucket_grid.specs.declared.tree.Axis.{Axis}
 use Rattle.bucket_grid.specs.declared.tree.Axis.TheVariants.{Across, Upward}
 use Rattle.bucket_grid.specs.declared.tree.Slabs.{Slabs}
-use Rattle.bucket_grid.specs.Areas.{whole}
+use Rattle.bucket_grid.specs.Rects.{whole}
 
 -- the number of a point along an axis
 abbrev pub along : Axis → GridPoint → ℤ
@@ -20,27 +20,27 @@ start_of s k = s.first +ℤ pos (k * (s.reach + 1))
 abbrev pub slab_at : Slabs → ℤ → ℕ
 slab_at s z = if int_lt z s.first then 0 else min (unsigned_abs (z -ℤ s.first) / (s.reach + 1)) s.last
 
--- the slabs begin and end within the area
-pub record DividesArea (area : Corners) (s : Slabs) : Type 0 where
-  pub low : along s.axis area.low ≤ℤ s.first
-  pub high : start_of s s.last ≤ℤ along s.axis area.high
+-- the slabs begin and end within the rectangle
+pub record DividesRect (rect : Corners) (s : Slabs) : Type 0 where
+  pub low : along s.axis rect.low ≤ℤ s.first
+  pub high : start_of s s.last ≤ℤ along s.axis rect.high
 
--- the part of an area between two numbers along an axis
+-- the part of a rectangle between two numbers along an axis
 abbrev pub strip : Axis → ℤ → ℤ → Corners → Corners
-strip Across low high area = record { low = record { x = low; y = area.low.y }; high = record { x = high; y = area.high.y } }
-strip Upward low high area = record { low = record { x = area.low.x; y = low }; high = record { x = area.high.x; y = high } }
+strip Across low high rect = record { low = record { x = low; y = rect.low.y }; high = record { x = high; y = rect.high.y } }
+strip Upward low high rect = record { low = record { x = rect.low.x; y = low }; high = record { x = rect.high.x; y = high } }
 
--- the least and the greatest number along the axis in the part of an area that lies in slab k
+-- the least and the greatest number along the axis in the part of a rectangle that lies in slab k
 abbrev pub slab_low : Slabs → ℕ → Corners → ℤ
-slab_low s zero area = along s.axis area.low
-slab_low s (suc k) area = start_of s (suc k)
+slab_low s zero rect = along s.axis rect.low
+slab_low s (suc k) rect = start_of s (suc k)
 
 abbrev pub slab_high : Slabs → ℕ → Corners → ℤ
-slab_high s k area = if eqb k s.last then along s.axis area.high else start_of s (k + 1) -ℤ pos 1
+slab_high s k rect = if eqb k s.last then along s.axis rect.high else start_of s (k + 1) -ℤ pos 1
 
 -- that part
 abbrev pub slab_part : Slabs → ℕ → Corners → Corners
-slab_part s k area = strip s.axis (slab_low s k area) (slab_high s k area) area
+slab_part s k rect = strip s.axis (slab_low s k rect) (slab_high s k rect) rect
 
 -- ---- boxes in slabs
 

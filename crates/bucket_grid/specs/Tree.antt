@@ -1,10 +1,10 @@
--- A tree of divisions, stored as a list of nodes: how it leads a point to the place of an area.
+-- A tree of divisions, stored as a list of nodes: how it leads a point to the place of a rectangle.
 use Rattle.std.specs.Prelude.{◌≡◌, ℕ, zero, suc, ◌+◌, ◌-◌, Option, Some, None, List, ◌++◌, map, length, ◌<◌, slice_get, slice_index_or}
 use Rattle.plane_model.specs.Points.{GridPoint}
 use Rattle.grid_base.specs.Grid.{Corners}
 use Rattle.bucket_grid.specs.declared.tree.Node.{Node}
 use Rattle.bucket_grid.specs.declared.tree.Node.TheVariants.{Leaf, Split}
-use Rattle.bucket_grid.specs.Areas.{Holds, IsPlaceOf, boxes_near}
+use Rattle.bucket_grid.specs.Rects.{Holds, IsPlaceOf, boxes_near}
 use Rattle.bucket_grid.specs.Slabs.{along, slab_at}
 
 -- the place that a node gives g, or that of the node to which it sends g: of its slabs' nodes, which go from the last
@@ -23,13 +23,13 @@ place_from (suc steps) nodes i g = place_by (λ j. place_from steps nodes j g) (
 abbrev pub place_under : ℕ → List Node → Node → GridPoint → Option ℕ
 place_under steps nodes top g = place_by (λ j. place_from steps nodes j g) (Some top) g
 
--- What trees over a region add to lists of nodes, of areas and of boxes near them: places, one for each of the region's
+-- What trees over a region add to lists of nodes, rectangles and boxes near them: places, one for each of the region's
 -- points, to which the top node of each leads them.
-pub record Grew (steps : ℕ) (boxes : List Corners) (region : GridPoint → Type 0) (nodes new_nodes : List Node) (areas new_areas : List Corners) (near new_near : List (List ℕ)) (top : GridPoint → Node) : Type 0 where
+pub record Grew (steps : ℕ) (boxes : List Corners) (region : GridPoint → Type 0) (nodes new_nodes : List Node) (rects new_rects : List Corners) (near new_near : List (List ℕ)) (top : GridPoint → Node) : Type 0 where
   pub more_nodes : List Node
-  pub more_areas : List Corners
+  pub more_rects : List Corners
   pub nodes_are : new_nodes ≡ nodes ++ more_nodes
-  pub areas_are : new_areas ≡ areas ++ more_areas
-  pub near_are : new_near ≡ near ++ map (boxes_near boxes) more_areas
-  pub leads : (g : GridPoint) → region g → (k : ℕ) × (place_under steps new_nodes (top g) g ≡ Some (length areas + k)) × IsPlaceOf more_areas g k
-  pub inside : (k : ℕ) (d : Corners) (g : GridPoint) → k < length more_areas → Holds (slice_index_or more_areas k d) g → region g
+  pub rects_are : new_rects ≡ rects ++ more_rects
+  pub near_are : new_near ≡ near ++ map (boxes_near boxes) more_rects
+  pub leads : (g : GridPoint) → region g → (k : ℕ) × (place_under steps new_nodes (top g) g ≡ Some (length rects + k)) × IsPlaceOf more_rects g k
+  pub inside : (k : ℕ) (d : Corners) (g : GridPoint) → k < length more_rects → Holds (slice_index_or more_rects k d) g → region g

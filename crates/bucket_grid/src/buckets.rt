@@ -2,7 +2,7 @@ ghost use Rattle.std.specs.Prelude.{◌≡◌, ℕ, IfOk, length, map, slice_get
 ghost use Rattle.std.specs.Option.{option_copied, option_map};
 ghost use Rattle.plane_model.specs.Points.{GridPoint};
 ghost use Rattle.grid_base.specs.Grid.{IsOnGrid};
-ghost use Rattle.bucket_grid.specs.Areas.{IsPlaceOf, boxes_near, whole};
+ghost use Rattle.bucket_grid.specs.Rects.{IsPlaceOf, boxes_near, whole};
 
 use crate::growing::{Forest, MAX_STEPS, fit, grow};
 use crate::sharing::all_near;
@@ -11,24 +11,24 @@ use grid_base::{BoxList, IdList, LIMIT, Pt, Rect};
 use std::alloc::{AllocError, Global};
 use std::marker::Model;
 
-/// Areas that part the grid, each with the boxes near it.
+/// Rectangles that part the grid, each with the boxes near it.
 #[derive(Drop)]
 pub struct Buckets {
     nodes: Vec<Node>,
-    areas: Vec<Rect>,
+    rects: Vec<Rect>,
     near: Vec<IdList>,
     root: usize,
 }
 
 impl Model for Buckets {
-    ghost use Rattle.bucket_grid.specs.Areas.{AreaLists};
+    ghost use Rattle.bucket_grid.specs.Rects.{RectLists};
     ghost use Rattle.bucket_grid.specs.Leading.{LeadsEach};
 
-    ghost Value = { AreaLists };
+    ghost Value = { RectLists };
 
-    ghost view = { λ b. record { areas = b.areas.items; near = b.near.items } };
+    ghost view = { λ b. record { rects = b.rects.items; near = b.near.items } };
 
-    ghost invariant = { λ b. LeadsEach b.nodes.items b.areas.items b.near.items b.root };
+    ghost invariant = { λ b. LeadsEach b.nodes.items b.rects.items b.near.items b.root };
 }
 
 impl Buckets {
@@ -36,31 +36,31 @@ impl Buckets {
     ///
     /// Cost: n log n for boxes that rarely overlap.
     pub fn build(alloc: Global, boxes: &BoxList) -> Result<Buckets, AllocError>
-        ensures near { IfOk result (λ b. b.near ≡ map (boxes_near boxes.now) b.areas) }
-        ensures places { IfOk result (λ b. (g : GridPoint) → IsOnGrid g → (k : ℕ) × IsPlaceOf b.areas g k) }
+        ensures near { IfOk result (λ b. b.near ≡ map (boxes_near boxes.now) b.rects) }
+        ensures places { IfOk result (λ b. (g : GridPoint) → IsOnGrid g → (k : ℕ) × IsPlaceOf b.rects g k) }
     {
         let whole = whole_grid()?;
         let near = all_near(alloc, boxes, whole)?;
         let mut forest = Forest {
             nodes: Vec::new(alloc),
-            areas: Vec::new(alloc),
+            rects: Vec::new(alloc),
             near: Vec::new(alloc),
         };
         let top = grow(&mut forest, alloc, boxes.as_slice(), whole, near, MAX_STEPS)?;
         fit(&mut forest);
         let Forest {
             mut nodes,
-            areas,
+            rects,
             near,
         } = forest;
         let root = nodes.len();
         nodes.push(top)?;
-        if areas.len() > u32::MAX as usize {
+        if rects.len() > u32::MAX as usize {
             return Err(AllocError);
         }
         Ok(Buckets {
             nodes,
-            areas,
+            rects,
             near,
             root,
         })
@@ -68,15 +68,15 @@ impl Buckets {
 
     /// How many buckets there are.
     pub fn count(&self) -> u32
-        ensures exact { result ≡ length self.now.areas }
-        ensures lists { length self.now.near ≡ length self.now.areas }
+        ensures exact { result ≡ length self.now.rects }
+        ensures lists { length self.now.near ≡ length self.now.rects }
     {
-        self.areas.len() as u32
+        self.rects.len() as u32
     }
 
-    /// The number of the bucket of a point: that of the only area that holds it.
+    /// The number of the bucket of a point: that of the only rectangle that holds it.
     pub fn bucket_of(&self, p: Pt) -> u32
-        ensures place { IsPlaceOf self.now.areas p result }
+        ensures place { IsPlaceOf self.now.rects p result }
     {
         let mut node = self.root;
         for _step in 0..MAX_STEPS + 1 {
@@ -90,14 +90,14 @@ impl Buckets {
         unreachable!()
     }
 
-    /// The area of a bucket; `None` exactly where `place` is not below the count.
+    /// The rectangle of a bucket; `None` exactly where `place` is not below the count.
     pub fn area_of(&self, place: u32) -> Option<Rect>
-        ensures lookup { result ≡ slice_get self.now.areas place }
+        ensures lookup { result ≡ slice_get self.now.rects place }
     {
-        self.areas.get(place as usize).copied()
+        self.rects.get(place as usize).copied()
     }
 
-    /// The numbers of the boxes that share a grid point with the area of a bucket, ascending; `None` exactly where
+    /// The numbers of the boxes that share a grid point with the rectangle of a bucket, ascending; `None` exactly where
     /// `place` is not below the count.
     pub fn each_near(&self, place: u32) -> Option<&[u32]>
         ensures lookup { option_map (λ ids. ids.now) result ≡ slice_get self.now.near place }
@@ -108,7 +108,7 @@ impl Buckets {
 
 // The rectangle of all grid points.
 fn whole_grid() -> Result<Rect, AllocError>
-    ensures { IfOk result (λ area. area ≡ whole) }
+    ensures { IfOk result (λ rect. rect ≡ whole) }
 {
     let low = Pt::new(-LIMIT, -LIMIT).ok_or(AllocError)?;
     let high = Pt::new(LIMIT, LIMIT).ok_or(AllocError)?;

@@ -1,5 +1,5 @@
 ghost use Rattle.std.specs.Prelude.{IfOk, IfSome};
-ghost use Rattle.bucket_grid.specs.Slabs.{DividesArea};
+ghost use Rattle.bucket_grid.specs.Slabs.{DividesRect};
 
 use crate::dividing::dividing;
 use crate::tree::{Axis, Slabs, coordinate};
@@ -16,15 +16,15 @@ struct Spread {
 // The greatest number of boxes that are looked at for one median.
 const SAMPLE: usize = 12;
 
-fn center(area: Rect, axis: Axis) -> i64 {
-    (coordinate(area.low(), axis) + coordinate(area.high(), axis)) / 2
+fn center(rect: Rect, axis: Axis) -> i64 {
+    (coordinate(rect.low(), axis) + coordinate(rect.high(), axis)) / 2
 }
 
 fn sample(alloc: Global, boxes: &[Rect], near: &[u32], axis: Axis) -> Result<Vec<i64>, AllocError> {
     let mut centers = Vec::with_capacity(alloc, SAMPLE)?;
     for i in near.iter().step_by(near.len() / SAMPLE + 1) {
-        if let Some(area) = boxes.get(*i as usize) {
-            centers.push(center(*area, axis))?;
+        if let Some(rect) = boxes.get(*i as usize) {
+            centers.push(center(*rect, axis))?;
         }
     }
     centers.sort_unstable();
@@ -48,34 +48,34 @@ fn spread_of(
 }
 
 // The cut next to `at`: the points up to a number, and those past it.
-fn cut_at(area: Rect, axis: Axis, at: i64) -> Option<Slabs>
-    ensures { IfSome result (DividesArea area) }
+fn cut_at(rect: Rect, axis: Axis, at: i64) -> Option<Slabs>
+    ensures { IfSome result (DividesRect rect) }
 {
-    let low = coordinate(area.low(), axis);
-    let high = coordinate(area.high(), axis);
+    let low = coordinate(rect.low(), axis);
+    let high = coordinate(rect.high(), axis);
     let cut = Slabs {
         axis,
         first: at.min(high - 1).max(low),
         reach: 0,
         last: 1,
     };
-    dividing(area, cut)
+    dividing(rect, cut)
 }
 
-/// A cut of the area near the median of the boxes, across the axis in which they are spread more.
+/// A cut of the rectangle near the median of the boxes, across the axis in which they are spread more.
 pub fn cut_of(
     alloc: Global,
     boxes: &[Rect],
     near: &[u32],
-    area: Rect,
+    rect: Rect,
 ) -> Result<Option<Slabs>, AllocError>
-    ensures { IfOk result (λ found. IfSome found (DividesArea area)) }
+    ensures { IfOk result (λ found. IfSome found (DividesRect rect)) }
 {
     let across = spread_of(alloc, boxes, near, Axis::Across)?;
     let upward = spread_of(alloc, boxes, near, Axis::Upward)?;
     if across.width >= upward.width {
-        Ok(cut_at(area, Axis::Across, across.middle))
+        Ok(cut_at(rect, Axis::Across, across.middle))
     } else {
-        Ok(cut_at(area, Axis::Upward, upward.middle))
+        Ok(cut_at(rect, Axis::Upward, upward.middle))
     }
 }

@@ -1,5 +1,5 @@
 ghost use Rattle.std.specs.Prelude.{IfSome};
-ghost use Rattle.bucket_grid.specs.Slabs.{DividesArea};
+ghost use Rattle.bucket_grid.specs.Slabs.{DividesRect};
 
 use crate::tree::{Axis, Slabs, coordinate};
 use grid_base::Rect;
@@ -12,7 +12,7 @@ struct Extent {
     lengths: u64,
 }
 
-// The greatest number of slabs that divide an area.
+// The greatest number of slabs that divide a rectangle.
 const MAX_SLABS: u64 = 4096;
 
 // With fewer slabs boxes that lie in several of them can cost more than the division saves: a cut is left to do it.
@@ -26,8 +26,8 @@ fn extent_of(boxes: &[Rect], near: &[u32], axis: Axis) -> Option<Extent> {
         lengths: 0,
     };
     for i in near {
-        if let Some(area) = boxes.get(*i as usize) {
-            let (low, high) = (coordinate(area.low(), axis), coordinate(area.high(), axis));
+        if let Some(rect) = boxes.get(*i as usize) {
+            let (low, high) = (coordinate(rect.low(), axis), coordinate(rect.high(), axis));
             extent.low = extent.low.min(low);
             extent.high = extent.high.max(high);
             extent.lengths = extent.lengths.saturating_add(high.abs_diff(low));
@@ -36,12 +36,12 @@ fn extent_of(boxes: &[Rect], near: &[u32], axis: Axis) -> Option<Extent> {
     Some(extent)
 }
 
-/// The slabs, where they begin and end within the area.
-pub fn dividing(area: Rect, slabs: Slabs) -> Option<Slabs>
-    ensures { IfSome result (DividesArea area) }
+/// The slabs, where they begin and end within the rectangle.
+pub fn dividing(rect: Rect, slabs: Slabs) -> Option<Slabs>
+    ensures { IfSome result (DividesRect rect) }
 {
-    let low = coordinate(area.low(), slabs.axis);
-    let high = coordinate(area.high(), slabs.axis);
+    let low = coordinate(rect.low(), slabs.axis);
+    let high = coordinate(rect.high(), slabs.axis);
     let past = u64::from(slabs.last).checked_mul(u64::from(slabs.reach) + 1)?;
     if low <= slabs.first && slabs.first <= high && past <= high.abs_diff(slabs.first) {
         Some(slabs)
@@ -53,8 +53,8 @@ pub fn dividing(area: Rect, slabs: Slabs) -> Option<Slabs>
 /// About `count` slabs of one width, from where the boxes begin to where they end, or fewer of them, at least twice as
 /// wide as the boxes are on the average: in most layouts a box then lies in one and a half of them, and never in more
 /// than two and a half, on the average.
-pub fn slabs_of(boxes: &[Rect], near: &[u32], area: Rect, axis: Axis, count: u64) -> Option<Slabs>
-    ensures { IfSome result (DividesArea area) }
+pub fn slabs_of(boxes: &[Rect], near: &[u32], rect: Rect, axis: Axis, count: u64) -> Option<Slabs>
+    ensures { IfSome result (DividesRect rect) }
 {
     let extent = extent_of(boxes, near, axis)?;
     let span = extent.high.abs_diff(extent.low);
@@ -71,5 +71,5 @@ pub fn slabs_of(boxes: &[Rect], near: &[u32], area: Rect, axis: Axis, count: u64
         reach,
         last,
     };
-    dividing(area, slabs)
+    dividing(rect, slabs)
 }

@@ -1,26 +1,26 @@
 ghost use Rattle.std.specs.Prelude.{◌≡◌, ◌<◌, List, All, IfOk, IfSome, length, ℕ};
 ghost use Rattle.grid_base.specs.Grid.{Corners};
-ghost use Rattle.bucket_grid.specs.Areas.{Holds, boxes_near};
+ghost use Rattle.bucket_grid.specs.Rects.{Holds, boxes_near};
 ghost use Rattle.bucket_grid.specs.Division.{IsDivisionOf};
-ghost use Rattle.bucket_grid.specs.Slabs.{DividesArea};
+ghost use Rattle.bucket_grid.specs.Slabs.{DividesRect};
 ghost use Rattle.bucket_grid.specs.Tree.{Grew};
 
 use crate::cutting::cut_of;
 use crate::dividing::slabs_of;
-use crate::slab_lists::{slab_area, slab_lists};
+use crate::slab_lists::{slab_lists, slab_rect};
 use crate::tree::{Axis, Node, Slabs};
 use grid_base::{IdList, Rect};
 use std::alloc::{AllocError, Global};
 
-/// A tree of divisions as far as it has grown: its nodes, the areas of its leaves, and the boxes near each.
+/// A tree of divisions as far as it has grown: its nodes, the rectangles of its leaves, and the boxes near each.
 #[derive(Drop)]
 pub struct Forest {
     pub nodes: Vec<Node>,
-    pub areas: Vec<Rect>,
+    pub rects: Vec<Rect>,
     pub near: Vec<IdList>,
 }
 
-/// A division of an area, and for each slab the boxes near it.
+/// A division of a rectangle, and for each slab the boxes near it.
 #[derive(Drop)]
 pub struct Division {
     pub slabs: Slabs,
@@ -33,7 +33,7 @@ pub const MAX_STEPS: u32 = 42;
 // The greatest number of cuts among them.
 const MAX_CUTS: u32 = 40;
 
-// An area that meets at most this number of boxes is not divided.
+// A rectangle that meets at most this number of boxes is not divided.
 const BUCKET_SIZE: u32 = 24;
 
 // The number of boxes that a cell of a column should get, on the average.
@@ -49,12 +49,12 @@ fn next_number(len: usize) -> Result<u32, AllocError>
     Ok(len as u32)
 }
 
-fn add_leaf(forest: &mut Forest, area: Rect, near: IdList) -> Result<Node, AllocError>
-    ensures { IfOk result (λ top. (steps : ℕ) (boxes : List Corners) → near ≡ boxes_near boxes area →
-        Grew steps boxes (Holds area) forest.old.nodes.items forest.new.nodes.items forest.old.areas.items forest.new.areas.items forest.old.near.items forest.new.near.items (λ g. top)) }
+fn add_leaf(forest: &mut Forest, rect: Rect, near: IdList) -> Result<Node, AllocError>
+    ensures { IfOk result (λ top. (steps : ℕ) (boxes : List Corners) → near ≡ boxes_near boxes rect →
+        Grew steps boxes (Holds rect) forest.old.nodes.items forest.new.nodes.items forest.old.rects.items forest.new.rects.items forest.old.near.items forest.new.near.items (λ g. top)) }
 {
-    let place = next_number(forest.areas.len())?;
-    forest.areas.push(area)?;
+    let place = next_number(forest.rects.len())?;
+    forest.rects.push(rect)?;
     forest.near.push(near)?;
     Ok(Node::Leaf(place))
 }
@@ -62,10 +62,10 @@ fn add_leaf(forest: &mut Forest, area: Rect, near: IdList) -> Result<Node, Alloc
 /// Gives back the memory that the lists of leaves have to spare.
 pub fn fit(forest: &mut Forest)
     ensures nodes { forest.new.nodes.items ≡ forest.old.nodes.items }
-    ensures areas { forest.new.areas.items ≡ forest.old.areas.items }
+    ensures rects { forest.new.rects.items ≡ forest.old.rects.items }
     ensures near { forest.new.near.items ≡ forest.old.near.items }
 {
-    forest.areas.shrink_to_fit();
+    forest.rects.shrink_to_fit();
     forest.near.shrink_to_fit();
 }
 
@@ -91,14 +91,14 @@ fn is_even(all: u32, lists: &[IdList]) -> bool {
 }
 
 // Columns for the first step and cells of a column for the second, each where the boxes suit them.
-fn slabs_at(boxes: &[Rect], near: &[u32], area: Rect, steps: u32) -> Option<Slabs>
-    ensures { IfSome result (DividesArea area) }
+fn slabs_at(boxes: &[Rect], near: &[u32], rect: Rect, steps: u32) -> Option<Slabs>
+    ensures { IfSome result (DividesRect rect) }
 {
     let cells = near.len() as u64 / CELL_SIZE;
     if steps > MAX_CUTS + 1 {
-        slabs_of(boxes, near, area, Axis::Across, cells.isqrt())
+        slabs_of(boxes, near, rect, Axis::Across, cells.isqrt())
     } else if steps > MAX_CUTS {
-        slabs_of(boxes, near, area, Axis::Upward, cells)
+        slabs_of(boxes, near, rect, Axis::Upward, cells)
     } else {
         None
     }
@@ -109,20 +109,20 @@ fn division_of(
     alloc: Global,
     boxes: &[Rect],
     near: &IdList,
-    area: Rect,
+    rect: Rect,
     steps: u32,
 ) -> Result<Option<Division>, AllocError>
     requires { All (λ i. i < length boxes.now) near.now }
-    ensures { IfOk result (λ found. IfSome found (IsDivisionOf boxes.now area near.now)) }
+    ensures { IfOk result (λ found. IfSome found (IsDivisionOf boxes.now rect near.now)) }
 {
     let ids = near.as_slice();
-    if let Some(slabs) = slabs_at(boxes, ids, area, steps) {
+    if let Some(slabs) = slabs_at(boxes, ids, rect, steps) {
         let lists = slab_lists(alloc, boxes, ids, &slabs)?;
         if is_even(near.len(), &lists) {
             return Ok(Some(Division { slabs, lists }));
         }
     }
-    let Some(slabs) = cut_of(alloc, boxes, ids, area)? else {
+    let Some(slabs) = cut_of(alloc, boxes, ids, rect)? else {
         return Ok(None);
     };
     let lists = slab_lists(alloc, boxes, ids, &slabs)?;
@@ -132,30 +132,30 @@ fn division_of(
     Ok(Some(Division { slabs, lists }))
 }
 
-/// Grows a tree over an area, divided in at most `steps` steps, and answers its top node, which is not among the nodes.
+/// Grows a tree over a rectangle, in at most `steps` steps, and answers its top node, which is not among the nodes.
 pub fn grow(
     forest: &mut Forest,
     alloc: Global,
     boxes: &[Rect],
-    area: Rect,
+    rect: Rect,
     near: IdList,
     steps: u32,
 ) -> Result<Node, AllocError>
-    requires { near ≡ boxes_near boxes.now area }
+    requires { near ≡ boxes_near boxes.now rect }
     ensures { IfOk result (λ top.
-        Grew steps boxes.now (Holds area) forest.old.nodes.items forest.new.nodes.items forest.old.areas.items forest.new.areas.items forest.old.near.items forest.new.near.items (λ g. top)) }
+        Grew steps boxes.now (Holds rect) forest.old.nodes.items forest.new.nodes.items forest.old.rects.items forest.new.rects.items forest.old.near.items forest.new.near.items (λ g. top)) }
 {
     if steps == 0 || near.len() <= BUCKET_SIZE {
-        return add_leaf(forest, area, near);
+        return add_leaf(forest, rect, near);
     }
-    let Some(division) = division_of(alloc, boxes, &near, area, steps)? else {
-        return add_leaf(forest, area, near);
+    let Some(division) = division_of(alloc, boxes, &near, rect, steps)? else {
+        return add_leaf(forest, rect, near);
     };
     drop(near);
     let Division { slabs, mut lists } = division;
     let mut tops = Vec::with_capacity(alloc, lists.len())?;
     while let Some(part) = lists.pop() {
-        let slab = slab_area(area, &slabs, lists.len() as u32).ok_or(AllocError)?;
+        let slab = slab_rect(rect, &slabs, lists.len() as u32).ok_or(AllocError)?;
         tops.push(grow(forest, alloc, boxes, slab, part, steps - 1)?)?;
     }
     let children = next_number(forest.nodes.len())?;

@@ -1,4 +1,4 @@
-ghost use Rattle.bucket_grid.specs.Areas.{SharingIsComputed};
+ghost use Rattle.bucket_grid.specs.Rects.{SharingIsComputed};
 
 /// Two rectangles share a grid point exactly where neither is past the other, in either direction.
 pub fn sharing_is_computed()

@@ -1,8 +1,8 @@
 //! Boxes in buckets: which of many boxes lie near a point.
 //!
 //! The grid is divided into columns, each column into cells, and a cell that still meets many boxes is cut at medians
-//! of the boxes, until an area meets few boxes or a cut no longer parts them (a k-d tree, after Bentley 1975). Each
-//! area has a bucket, which lists the boxes that share a grid point with it.
+//! of the boxes, until a rectangle meets few boxes or a cut no longer parts them (a k-d tree, after Bentley 1975). Each
+//! rectangle has a bucket, which lists the boxes that share a grid point with it.
 //! - `Buckets::build` takes boxes; they are known by their numbers in that list.
 //! - `bucket_of` finds the bucket of a point, by a few divisions and at most 40 cuts; `area_of` and `each_near` say
 //!   what it has.

@@ -1,5 +1,5 @@
 ghost use Rattle.std.specs.Prelude.{◌≡◌, ◌&&◌, int_le, IfOk};
-ghost use Rattle.bucket_grid.specs.Areas.{share_point, boxes_near};
+ghost use Rattle.bucket_grid.specs.Rects.{share_point, boxes_near};
 
 use grid_base::{BoxList, IdList, Rect};
 use std::alloc::{AllocError, Global};
@@ -19,14 +19,14 @@ pub fn share(a: Rect, b: Rect) -> bool
         && overlap(a.low().y(), a.high().y(), b.low().y(), b.high().y())
 }
 
-/// The boxes near an area.
-pub fn all_near(alloc: Global, boxes: &BoxList, area: Rect) -> Result<IdList, AllocError>
-    ensures { IfOk result (λ ids. ids ≡ boxes_near boxes.now area) }
+/// The boxes near a rectangle.
+pub fn all_near(alloc: Global, boxes: &BoxList, rect: Rect) -> Result<IdList, AllocError>
+    ensures { IfOk result (λ ids. ids ≡ boxes_near boxes.now rect) }
 {
     let mut ids = IdList::new(alloc);
     let items = boxes.as_slice();
     for i in 0..boxes.len() {
-        if share(area, items[i as usize]) {
+        if share(rect, items[i as usize]) {
             ids.push(i)?;
         }
     }

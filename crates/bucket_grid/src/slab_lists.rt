@@ -1,5 +1,5 @@
 ghost use Rattle.std.specs.Prelude.{◌≡◌, ◌<◌, ◌≤◌, [], All, IfOk, IfSome, OnOk, length, slice_index_or, ℕ};
-ghost use Rattle.bucket_grid.specs.Slabs.{AreListed, DividesArea, IsPutInto, slab_high, slab_low, slab_part, start_of as start_of_slab, strip as strip_of};
+ghost use Rattle.bucket_grid.specs.Slabs.{AreListed, DividesRect, IsPutInto, slab_high, slab_low, slab_part, start_of as start_of_slab, strip as strip_of};
 
 use crate::tree::{Axis, Slabs, coordinate, slab_of};
 use grid_base::{IdList, Pt, Rect};
@@ -12,50 +12,50 @@ fn start_of(slabs: &Slabs, slab: u32) -> Option<i64>
     slabs.first.checked_add(past)
 }
 
-// The part of an area from `low` to `high` along an axis.
-fn strip(area: Rect, axis: Axis, low: i64, high: i64) -> Option<Rect>
-    ensures exact { IfSome result (λ part. part ≡ strip_of axis low high area) }
+// The part of a rectangle from `low` to `high` along an axis.
+fn strip(rect: Rect, axis: Axis, low: i64, high: i64) -> Option<Rect>
+    ensures exact { IfSome result (λ part. part ≡ strip_of axis low high rect) }
 {
     match axis {
         Axis::Across => Rect::new(
-            Pt::new(low, area.low().y())?,
-            Pt::new(high, area.high().y())?,
+            Pt::new(low, rect.low().y())?,
+            Pt::new(high, rect.high().y())?,
         ),
         Axis::Upward => Rect::new(
-            Pt::new(area.low().x(), low)?,
-            Pt::new(area.high().x(), high)?,
+            Pt::new(rect.low().x(), low)?,
+            Pt::new(rect.high().x(), high)?,
         ),
     }
 }
 
-// The least number along the axis in the part of an area that lies in a slab.
-fn low_of(area: Rect, slabs: &Slabs, slab: u32) -> Option<i64>
-    ensures exact { IfSome result (λ low. low ≡ slab_low slabs.now slab area) }
+// The least number along the axis in the part of a rectangle that lies in a slab.
+fn low_of(rect: Rect, slabs: &Slabs, slab: u32) -> Option<i64>
+    ensures exact { IfSome result (λ low. low ≡ slab_low slabs.now slab rect) }
 {
     if slab == 0 {
-        return Some(coordinate(area.low(), slabs.axis));
+        return Some(coordinate(rect.low(), slabs.axis));
     }
     start_of(slabs, slab)
 }
 
 // The greatest number there.
-fn high_of(area: Rect, slabs: &Slabs, slab: u32) -> Option<i64>
-    ensures exact { IfSome result (λ high. high ≡ slab_high slabs.now slab area) }
+fn high_of(rect: Rect, slabs: &Slabs, slab: u32) -> Option<i64>
+    ensures exact { IfSome result (λ high. high ≡ slab_high slabs.now slab rect) }
 {
     if slab == slabs.last {
-        return Some(coordinate(area.high(), slabs.axis));
+        return Some(coordinate(rect.high(), slabs.axis));
     }
     let next = start_of(slabs, slab.checked_add(1)?)?;
     next.checked_sub(1)
 }
 
-/// The part of an area that lies in a slab.
-pub fn slab_area(area: Rect, slabs: &Slabs, slab: u32) -> Option<Rect>
-    ensures exact { IfSome result (λ part. part ≡ slab_part slabs.now slab area) }
+/// The part of a rectangle that lies in a slab.
+pub fn slab_rect(rect: Rect, slabs: &Slabs, slab: u32) -> Option<Rect>
+    ensures exact { IfSome result (λ part. part ≡ slab_part slabs.now slab rect) }
 {
-    let low = low_of(area, slabs, slab)?;
-    let high = high_of(area, slabs, slab)?;
-    strip(area, slabs.axis, low, high)
+    let low = low_of(rect, slabs, slab)?;
+    let high = high_of(rect, slabs, slab)?;
+    strip(rect, slabs.axis, low, high)
 }
 
 // Empty lists, `count` of them, each with room for `room` numbers.
@@ -81,7 +81,7 @@ fn add_to_lists(lists: &mut Vec<IdList>, from: usize, end: usize, id: u32) -> Re
     Ok(())
 }
 
-/// For each slab of an area the boxes near it, out of those near the area.
+/// For each slab of a rectangle the boxes near it, out of those near the rectangle.
 pub fn slab_lists(
     alloc: Global,
     boxes: &[Rect],
@@ -96,9 +96,9 @@ pub fn slab_lists(
     let room = (near.len() / count).saturating_mul(3) / 2;
     let mut lists = empty_lists(alloc, count, room)?;
     for i in near {
-        let area = boxes[*i as usize];
-        let from = slab_of(slabs, coordinate(area.low(), slabs.axis));
-        let to = slab_of(slabs, coordinate(area.high(), slabs.axis));
+        let rect = boxes[*i as usize];
+        let from = slab_of(slabs, coordinate(rect.low(), slabs.axis));
+        let to = slab_of(slabs, coordinate(rect.high(), slabs.axis));
         add_to_lists(&mut lists, from as usize, to as usize + 1, *i)?;
     }
     Ok(lists)

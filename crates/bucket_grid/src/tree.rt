@@ -3,14 +3,14 @@ ghost use Rattle.bucket_grid.specs.Slabs.{along, slab_at};
 
 use grid_base::Pt;
 
-/// Along which axis an area is divided.
+/// Along which axis a rectangle is divided.
 #[derive(Clone, Copy)]
 pub enum Axis {
     Across,
     Upward,
 }
 
-/// A division of an area along one axis into slabs of one width, counted from 0.
+/// A division of a rectangle along one axis into slabs of one width, counted from 0.
 ///
 /// The first slab also takes in what lies before it, and the last one what lies past it. Two slabs are a cut.
 #[derive(Clone, Copy)]
@@ -24,7 +24,7 @@ pub struct Slabs {
     pub last: u32,
 }
 
-/// A node of the tree of divisions: the place of an area, or a division, and the number of the node for its last slab;
+/// A node of the tree: the place of a rectangle, or a division, and the number of the node for its last slab;
 /// those for the slabs before it follow, the first slab's at the end.
 #[derive(Clone, Copy)]
 pub enum Node {

@@ -30,8 +30,8 @@ fn add_square(drawing: &mut Drawing, x: i64, y: i64, side: i64) -> Result<(), Fa
     if !(-100..100).contains(&x) || !(-100..100).contains(&y) || !(0..100).contains(&side) {
         return Err(Fail::from("too large"));
     }
-    let area = Rect::new(point(x, y)?, point(x + side, y + side)?).ok_or("turned over")?;
-    drawing.add_box(area)?;
+    let rect = Rect::new(point(x, y)?, point(x + side, y + side)?).ok_or("turned over")?;
+    drawing.add_box(rect)?;
     Ok(())
 }
 

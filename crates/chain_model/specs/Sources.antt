@@ -69,15 +69,15 @@ abbrev pub is_csv : SourceWord → Content → Bool
 is_csv s bytes = if s.standard then not (opens_json (skip_mark bytes)) else ends_in s.name (codes ".csv")
 
 -- what stands after the last slash, and what stands before the last point
-abbrev pub behind_slash : Content → Content
-behind_slash name = unwrap_or (option_map (λ split. split.1) (rsplit_once 47 name)) name
+abbrev pub after_slash : Content → Content
+after_slash name = unwrap_or (option_map (λ split. split.1) (rsplit_once 47 name)) name
 
 abbrev pub before_point : Content → Content
 before_point name = unwrap_or (option_map (λ split. split.0) (rsplit_once 46 name)) name
 
 -- the name of a file without its folders and its ending; standard input is a layer
 abbrev pub title_of : SourceWord → Content
-title_of s = if s.standard then codes "layer" else before_point (behind_slash s.name)
+title_of s = if s.standard then codes "layer" else before_point (after_slash s.name)
 
 -- ---- the layers of a source's bytes
 
@@ -140,8 +140,8 @@ positions_in (shape.Lines lines) = positions_along lines
 positions_in (shape.Points points) = length points
 
 -- the room that is left after some layers: each position and each feature counts
-abbrev pub room_behind : Room → List LayerContent → Room
-room_behind room ls = record {
+abbrev pub room_after : Room → List LayerContent → Room
+room_after room ls = record {
   positions = room.positions - sum_by (λ (l : LayerContent). sum_by positions_in l.shapes) ls;
   features = room.features - sum_by (λ (l : LayerContent). length l.shapes) ls;
 }
@@ -171,5 +171,5 @@ abbrev pub imported : Readings → ℕ → FileMap → Content → ℕ → Room 
 imported read places files input before room n [] = Ok []
 imported read places files input before room n (s ∷ ss) =
     on_ok (source_layers read places before room n s (bytes_of files input s)) (λ (ls : List LayerContent).
-    on_ok (imported read places files input (before + length_of (bytes_of files input s)) (room_behind room ls) (n + 1) ss) (λ (rest : List (List LayerContent)).
+    on_ok (imported read places files input (before + length_of (bytes_of files input s)) (room_after room ls) (n + 1) ss) (λ (rest : List (List LayerContent)).
     Ok (ls ∷ rest)))

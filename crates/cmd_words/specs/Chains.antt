@@ -101,7 +101,7 @@ pub record SoFar : Type 0 where
 -- a command's source: the next box, the next file, or a layer
 abbrev pub origin_of : ℕ → ℕ → Group → Origin
 origin_of sources boxes g =
-    if is_some g.area then origin.Area boxes
+    if is_some g.rect then origin.Area boxes
     else if names_file (argument_text g) then origin.Source (sources + 1)
     else origin.Layer (argument_text g)
 
@@ -164,8 +164,8 @@ command_words places sources boxes keyword g = record {
 -- ## What a command lacks, and what it adds
 
 abbrev pub layer_lacks_argument : LayerKeyword → Group → Bool
-layer_lacks_argument l.Clip g = not (is_some (argument_in g) || is_some g.area)
-layer_lacks_argument l.Erase g = not (is_some (argument_in g) || is_some g.area)
+layer_lacks_argument l.Clip g = not (is_some (argument_in g) || is_some g.rect)
+layer_lacks_argument l.Erase g = not (is_some (argument_in g) || is_some g.rect)
 layer_lacks_argument l.RenameFields g = not (is_some (argument_in g))
 layer_lacks_argument l.FilterIslands g = not (is_some (value_in g (codes "min-area")) || is_some (value_in g (codes "min-vertices")))
 layer_lacks_argument _ g = false
@@ -208,7 +208,7 @@ source_of number keyword g = source_from number (takes_source keyword) (argument
 abbrev pub with_command : ℕ → SoFar → Keyword → Group → SoFar
 with_command places s keyword g = record {
   sources = s.sources ++ option_to_list (source_of (length s.commands + 1) keyword g);
-  boxes = s.boxes ++ option_to_list g.area;
+  boxes = s.boxes ++ option_to_list g.rect;
   commands = s.commands ++ command_words places (length s.sources) (length s.boxes) keyword g ∷ [];
   reads_standard = g.reads_standard;
 }

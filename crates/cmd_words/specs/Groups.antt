@@ -16,14 +16,14 @@ pub record Group : Type 0 where
   pub reads_standard : Bool
   -- the box, the renames, the columns to be calculated and the texts of the expression and of the assignments that a
   -- word gave
-  pub area : Option Corners
+  pub rect : Option Corners
   pub renames : List Rename
   pub calculations : List Calc
   pub test : Option Text
   pub assigns : Option Text
 
 abbrev pub empty_group : Bool → Group
-empty_group reads_standard = record { arguments = []; options = []; bare = []; reads_standard = reads_standard; area = None; renames = []; calculations = []; test = None; assigns = None }
+empty_group reads_standard = record { arguments = []; options = []; bare = []; reads_standard = reads_standard; rect = None; renames = []; calculations = []; test = None; assigns = None }
 
 abbrev pub value_in : Group → Text → Option Text
 value_in g name = value_named g.options name

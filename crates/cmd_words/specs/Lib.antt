@@ -6,7 +6,7 @@ pub mod Settings
 pub mod Groups
 pub mod Steps
 pub mod Values
-pub mod Areas
+pub mod Boxes
 pub mod Quantities
 pub mod Calculations
 pub mod Options

@@ -15,7 +15,7 @@ use Rattle.cmd_words.specs.Expressions as kind
 use Rattle.cmd_words.specs.Expressions.{Refusals}
 use Rattle.cmd_words.specs.Texts.{is_empty, has_empty_piece, option_in, is_standard, names_file}
 use Rattle.cmd_words.specs.Values.{rule_of, form_named, is_pair, renames_of}
-use Rattle.cmd_words.specs.Areas.{places_of, area_of}
+use Rattle.cmd_words.specs.Boxes.{places_of, box_of_text}
 use Rattle.cmd_words.specs.Quantities.{area_units, count_of}
 use Rattle.cmd_words.specs.Calculations.{calculations_of}
 use Rattle.cmd_words.specs.Groups.{Group, value_in, has_bare, argument_in}
@@ -50,7 +50,7 @@ take_value refuses places value.Keys s g = unless (is_pair s) why.BadChoice g
 take_value refuses places value.Precision s g = unless (is_some (places_of s)) why.BadPrecision g
 take_value refuses places value.Rule s g = unless (is_some (rule_of s)) why.BadChoice g
 take_value refuses places value.Format s g = unless (is_some (form_named s)) why.BadChoice g
-take_value refuses places value.Area s g = on_ok (area_of places s) (λ a. Ok (record g { area = Some a }))
+take_value refuses places value.Rect s g = on_ok (box_of_text places s) (λ a. Ok (record g { rect = Some a }))
 take_value refuses places value.Expression s g = with_test (refuses kind.expression s) s g
 take_value refuses places value.SquareUnits s g = unless (is_some (area_units s)) why.BadNumber g
 take_value refuses places value.CountFromOne s g = unless (is_some (count_of 1 s)) why.BadNumber g
@@ -61,7 +61,7 @@ take_value refuses places value.Calculations s g = on_ok (calculations_of s) (λ
 
 -- a box does not stand beside an argument in whose place it is, and a join is by keys or by place
 abbrev pub is_excluded : ValueForm → Group → Bool
-is_excluded value.Area g = is_some (argument_in g)
+is_excluded value.Rect g = is_some (argument_in g)
 is_excluded value.Keys g = is_some (value_in g (codes "calc"))
 is_excluded value.Calculations g = is_some (value_in g (codes "keys"))
 is_excluded _ g = false
@@ -104,7 +104,7 @@ is_read _ = false
 abbrev pub has_room : ArgumentForm → Group → Bool
 has_room argument.Files g = true
 has_room argument.Nothing g = false
-has_room _ g = not (is_some (argument_in g) || is_some g.area)
+has_room _ g = not (is_some (argument_in g) || is_some g.rect)
 
 abbrev pub take_text : Refusals → ArgumentForm → Text → Group → Step
 take_text refuses argument.Files s g = unless (names_file s) why.UnsupportedFile g

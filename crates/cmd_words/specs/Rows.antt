@@ -68,8 +68,8 @@ joint_row w k a os bs = row w (keyword.Together k) a os bs
 
 unfoldable pub rows : List Row
 rows =
-    layer_row (codes "-clip") layer.Clip argument.Source ((codes "bbox", value.Area) ∷ TARGET ∷ NAME ∷ []) (codes "+" ∷ [])
-    ∷ layer_row (codes "-erase") layer.Erase argument.Source ((codes "bbox", value.Area) ∷ TARGET ∷ NAME ∷ []) (codes "+" ∷ [])
+    layer_row (codes "-clip") layer.Clip argument.Source ((codes "bbox", value.Rect) ∷ TARGET ∷ NAME ∷ []) (codes "+" ∷ [])
+    ∷ layer_row (codes "-erase") layer.Erase argument.Source ((codes "bbox", value.Rect) ∷ TARGET ∷ NAME ∷ []) (codes "+" ∷ [])
     ∷ layer_row (codes "-dissolve") layer.Dissolve argument.List ((codes "sum-fields", value.List) ∷ (codes "copy-fields", value.List) ∷ TARGET ∷ NAME ∷ []) (codes "group-points" ∷ codes "+" ∷ [])
     ∷ layer_row (codes "-clean") layer.Clean argument.Nothing ((codes "overlap-rule", value.Rule) ∷ (codes "gap-fill-area", value.SquareUnits) ∷ TARGET ∷ NAME ∷ []) (codes "allow-empty" ∷ codes "+" ∷ [])
     ∷ layer_row (codes "-mosaic") layer.Mosaic argument.Nothing (TARGET ∷ NAME ∷ []) (codes "+" ∷ [])

@@ -11,7 +11,7 @@ use Rattle.cmd_words.specs.Rows.{Text, Form, Row, row_of, import_form}
 use Rattle.cmd_words.specs.Steps.{on_ok, each_step}
 use Rattle.cmd_words.specs.Expressions.{Refusals}
 use Rattle.cmd_words.specs.Texts.{is_command, is_standard}
-use Rattle.cmd_words.specs.Areas.{places_of}
+use Rattle.cmd_words.specs.Boxes.{places_of}
 use Rattle.cmd_words.specs.Quantities.{number_in}
 use Rattle.cmd_words.specs.Groups.{Group, empty_group, value_in, argument_in, first_number}
 use Rattle.cmd_words.specs.Options.{take_word}

@@ -182,7 +182,7 @@ fn joint_action(keyword: JointKeyword, group: &Group) -> JointAction
 fn origin(alloc: Global, sources: u32, boxes: u32, group: &Group) -> Result<Origin, AllocError>
     ensures exact { IfOk result (λ o. o ≡ origin_of sources boxes group.now) }
 {
-    if group.area().is_some() {
+    if group.rect().is_some() {
         return Ok(Origin::Area(boxes));
     }
     let name = argument_text(group);
@@ -325,7 +325,7 @@ fn layer_lacks_argument(keyword: LayerKeyword, group: &Group) -> bool
 {
     match keyword {
         LayerKeyword::Clip | LayerKeyword::Erase => {
-            !(group.has_argument() || group.area().is_some())
+            !(group.has_argument() || group.rect().is_some())
         }
         LayerKeyword::RenameFields => !group.has_argument(),
         LayerKeyword::FilterIslands => {

@@ -70,7 +70,7 @@ pub(crate) enum ValueForm {
     Precision,
     Rule,
     Format,
-    Area,
+    Rect,
     Expression,
     /// An area in squared units of the coordinates: a numeral of at least 0.
     SquareUnits,
@@ -108,7 +108,7 @@ const PRECISION: OptionForm = ("precision", ValueForm::Precision);
 
 const STRING_FIELDS: OptionForm = ("string-fields", ValueForm::List);
 
-const BOX: OptionForm = ("bbox", ValueForm::Area);
+const BOX: OptionForm = ("bbox", ValueForm::Rect);
 
 const SUM_FIELDS: OptionForm = ("sum-fields", ValueForm::List);
 

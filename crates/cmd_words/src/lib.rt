@@ -4,7 +4,7 @@
 //! next one. `read_chain` goes over the groups in order, and in a group over its words:
 //!
 //! 1. `commands` has the table of what may stand in each group: a row for each command.
-//! 2. `options` takes one word: an option, a bare word or an argument; `texts`, `values`, `areas`, `quantities`,
+//! 2. `options` takes one word: an option, a bare word or an argument; `texts`, `values`, `boxes`, `quantities`,
 //!    `calculations` and `expressions` read what they hold.
 //! 3. `word_groups` keeps what a group holds so far.
 //! 4. `actions` says what a whole group asks for (`action_words`), and `so_far` adds it to the chain.
@@ -12,7 +12,7 @@
 
 mod action_words;
 mod actions;
-mod areas;
+mod boxes;
 mod calculations;
 mod commands;
 mod expressions;

@@ -5,7 +5,7 @@ ghost use Rattle.cmd_words.specs.Steps.{Makes};
 ghost use Rattle.cmd_words.specs.Texts.{has_empty_piece, is_standard};
 ghost use Rattle.cmd_words.specs.Options.{lacks_value, take_value, take_known, take_bare, is_opposed, has_room, is_list, is_read, is_excluded, take_text, take_argument, take_plain, take_word};
 
-use crate::areas::{places_of, read_area};
+use crate::boxes::{places_of, read_box};
 use crate::calculations::read_calculations;
 use crate::commands::{ArgumentForm, GroupForm, ValueForm};
 use crate::expressions::{Assignments, Expression};
@@ -75,7 +75,7 @@ fn is_excluded(form: ValueForm, group: &Group) -> bool
     ensures exact { result ≡ is_excluded form group.now }
 {
     match form {
-        ValueForm::Area => group.has_argument(),
+        ValueForm::Rect => group.has_argument(),
         ValueForm::Keys => group.has_option("calc"),
         ValueForm::Calculations => group.has_option("keys"),
         _ => false,
@@ -97,8 +97,8 @@ fn take_value(
         ValueForm::Precision => accepted_if(places_of(value).is_some(), WordWhy::BadPrecision),
         ValueForm::Rule => accepted_if(rule_of(value).is_some(), WordWhy::BadChoice),
         ValueForm::Format => accepted_if(form_named(value).is_some(), WordWhy::BadChoice),
-        ValueForm::Area => {
-            group.set_area(read_area(alloc, places, value)?);
+        ValueForm::Rect => {
+            group.set_rect(read_box(alloc, places, value)?);
             Ok(())
         }
         ValueForm::Expression => {
@@ -207,7 +207,7 @@ fn has_room(form: ArgumentForm, group: &Group) -> bool
     match form {
         ArgumentForm::Files => true,
         ArgumentForm::Nothing => false,
-        _ => !(group.has_argument() || group.area().is_some()),
+        _ => !(group.has_argument() || group.rect().is_some()),
     }
 }
 

@@ -14,7 +14,7 @@ ghost use Rattle.cmd_words.specs.Tells.{Turns, Answers, Tells, FitsChain, FitsJo
 ghost use Rattle.cmd_words.specs.Limits.{KeepsLimits};
 
 use crate::actions::{lacks_argument, lacks_form};
-use crate::areas::places_of;
+use crate::boxes::places_of;
 use crate::commands::{CommandRow, GroupForm, IMPORT, Keyword, row_of};
 use crate::fault::{WordFault, WordWhy};
 use crate::options::take_word;

@@ -72,7 +72,7 @@ impl SoFar {
     {
         let (sources, boxes) = (self.sources.len(), self.boxes.len());
         self.add_source(alloc, keyword, group)?;
-        self.add_box(group.area())?;
+        self.add_box(group.rect())?;
         self.reads_standard = group.reads_standard();
         let command = command_words(alloc, places, sources, boxes, keyword, group)?;
         self.commands.push(command)?;
@@ -94,11 +94,11 @@ impl SoFar {
         Ok(())
     }
 
-    fn add_box(&mut self, area: Option<Rect>) -> Result<(), AllocError>
-        ensures ok { OnOk result (self.new ≡ record self.old { boxes = self.old.boxes ++ option_to_list area }) }
+    fn add_box(&mut self, rect: Option<Rect>) -> Result<(), AllocError>
+        ensures ok { OnOk result (self.new ≡ record self.old { boxes = self.old.boxes ++ option_to_list rect }) }
     {
-        if let Some(area) = area {
-            self.boxes.push(area)?;
+        if let Some(rect) = rect {
+            self.boxes.push(rect)?;
         }
         Ok(())
     }

@@ -38,7 +38,7 @@ pub(crate) struct Group {
     bare: NameList,
     /// Some word of the chain so far reads standard input.
     reads_standard: bool,
-    area: Option<Rect>,
+    rect: Option<Rect>,
     renames: RenameList,
     calculations: CalcList,
     test: Option<Expression>,
@@ -50,7 +50,7 @@ impl Model for Group {
 
     ghost Value = { Words };
 
-    ghost view = { λ g. record { arguments = g.arguments.items; options = g.options.items; bare = g.bare; reads_standard = g.reads_standard; area = g.area; renames = g.renames; calculations = g.calculations; test = g.test; assigns = g.assigns } };
+    ghost view = { λ g. record { arguments = g.arguments.items; options = g.options.items; bare = g.bare; reads_standard = g.reads_standard; rect = g.rect; renames = g.renames; calculations = g.calculations; test = g.test; assigns = g.assigns } };
 }
 
 impl Group {
@@ -65,7 +65,7 @@ impl Group {
             options: Vec::new(alloc),
             bare: NameList::new(alloc),
             reads_standard,
-            area: None,
+            rect: None,
             renames: RenameList::new(alloc),
             calculations: CalcList::new(alloc),
             test: None,
@@ -124,10 +124,10 @@ impl Group {
         self.reads_standard
     }
 
-    pub(crate) fn area(&self) -> Option<Rect>
-        ensures exact { result ≡ self.now.area }
+    pub(crate) fn rect(&self) -> Option<Rect>
+        ensures exact { result ≡ self.now.rect }
     {
-        self.area
+        self.rect
     }
 
     pub(crate) fn has_test(&self) -> bool
@@ -190,10 +190,10 @@ impl Group {
         Ok(())
     }
 
-    pub(crate) fn set_area(&mut self, area: Rect)
-        ensures exact { self.new ≡ record self.old { area = Some area } }
+    pub(crate) fn set_rect(&mut self, rect: Rect)
+        ensures exact { self.new ≡ record self.old { rect = Some rect } }
     {
-        self.area = Some(area);
+        self.rect = Some(rect);
     }
 
     pub(crate) fn set_renames(&mut self, renames: RenameList)

@@ -11,7 +11,7 @@ use Rattle.expr_lang.specs.declared.assign.Assign.{Assign}
 use Rattle.expr_lang.specs.Tree.{Tree, Assigned, assigned, all_assigned}
 use Rattle.expr_lang.specs.Grammar.{Placed, Toks, Cond, OneAssign, becomes, Assigns, last_assign, ended_assign, more_assigns}
 use Rattle.expr_lang.specs.Machine.{Open, operand, operator, first_target, next_target, behind_target, assigned_value, run, accepted, stopped, step}
-use Rattle.expr_lang.specs.Reading.{Spot, Passes, Breaks, Some_tree, raised, plainly, before, behind, before_assign, behind_assign, Quiet, NextIsNot, IsMark, IsAName, AssignEnds}
+use Rattle.expr_lang.specs.Reading.{Spot, Passes, Breaks, Some_tree, raised, plainly, before, behind, before_assign, behind_assign, EndsLevel, NextIsNot, IsMark, IsAName, AssignEnds}
 use Rattle.expr_lang.proofs.Runs.{moves, stops}
 use Rattle.expr_lang.proofs.Parts.{passes_then, passes_at, breaks_at, breaks_then, breaks_here}
 use Rattle.expr_lang.proofs.Steps.{level-small}
@@ -36,7 +36,7 @@ value = assigned_value ∷ []
 
 -- ---- the machine accepts them
 
-assign_runs : {n : ℕ} {s : Toks} {a : Assigned} → OneAssign n s a → (rest : Toks) → Quiet 7 rest → run n first_target [] (s ++ rest) ≡ run n operator value rest
+assign_runs : {n : ℕ} {s : Toks} {a : Assigned} → OneAssign n s a → (rest : Toks) → EndsLevel 7 rest → run n first_target [] (s ++ rest) ≡ run n operator value rest
 assign_runs {n} (becomes {at = at} {b = b} {name = name} {s = s} h) rest q =
     moves n first_target [] (target at name) (sets b ∷ (s ++ rest)) behind_target [] refl
     ∙ moves n behind_target [] (sets b) (s ++ rest) (operand 0) value refl
@@ -201,7 +201,7 @@ all_pass : (xs : List Assigned) (a : Assigned) (old mid new : Toks) → Passes (
     → Passes (λ (z : Toks). Assigns 64 z (xs ++ a ∷ [])) (before_assign 64) (behind_assign 64) old new
 all_pass xs a old mid new h g = passes_then (λ (z : Toks). Assigns 64 z (xs ++ a ∷ [])) h g (λ x y o c. ended_on o y (a ∷ []) (last_assign c))
 
-value_stops : (d : ℕ) (at : ℕ) (t : Token) (us : Toks) → Quiet 7 ((at, t) ∷ us) → (IsMark mark.Semicolon t → ⊥) → run d operator value ((at, t) ∷ us) ≡ stopped Unfit ((at, t) ∷ us)
+value_stops : (d : ℕ) (at : ℕ) (t : Token) (us : Toks) → EndsLevel 7 ((at, t) ∷ us) → (IsMark mark.Semicolon t → ⊥) → run d operator value ((at, t) ∷ us) ≡ stopped Unfit ((at, t) ∷ us)
 unfolding run
 value_stops d at (token.Operator o) us q h = absurd (omega (arith, q, level-small o))
 value_stops d at (token.Mark mark.Question) us q h = absurd (omega (arith, q))
@@ -209,10 +209,10 @@ value_stops d at (token.Mark mark.Semicolon) us q h = absurd (h refl)
 value_stops d at _ us q h = refl
 
 pub assigns_left : (xs : List Assigned) (a : Assigned) (old mid new us : Toks) (t : Placed) → Passes (λ (z : Toks). Ended 64 z xs) (before_assign 64) (before_assign 64) old mid → Passes (λ (z : Toks). OneAssign 64 z a) (before_assign 64) (behind_assign 64) mid new
-    → Quiet 7 new → new ≡ t ∷ us → (IsMark mark.Semicolon t.1 → ⊥) → StuckAt Assigns Unfit old new
+    → EndsLevel 7 new → new ≡ t ∷ us → (IsMark mark.Semicolon t.1 → ⊥) → StuckAt Assigns Unfit old new
 assigns_left xs a old mid new us t h g q e o =
     left_stuck Assigns first_target assigns_follow (before_assign 64) (behind_assign 64) tt (λ ts. refl) (xs ++ a ∷ []) old new (all_pass xs a old mid new h g)
-    (ap (run 64 operator value) e ∙ value_stops 64 t.0 t.1 us (subst (Quiet 7) e q) o ∙ ap (stopped Unfit) (sym e))
+    (ap (run 64 operator value) e ∙ value_stops 64 t.0 t.1 us (subst (EndsLevel 7) e q) o ∙ ap (stopped Unfit) (sym e))
 
 pub assigns_whole : (xs : List Assigned) (a : Assigned) (old mid new after : Toks) → Passes (λ (z : Toks). Ended 64 z xs) (before_assign 64) (before_assign 64) old mid → Passes (λ (z : Toks). OneAssign 64 z a) (before_assign 64) (behind_assign 64) mid new
     → AssignEnds true new after → Assigns 64 old (xs ++ a ∷ [])

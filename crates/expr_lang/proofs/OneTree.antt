@@ -7,7 +7,7 @@ use Rattle.expr_lang.specs.declared.token.Token.{Token}
 use Rattle.expr_lang.specs.declared.token.Token.TheVariants as token
 use Rattle.expr_lang.specs.Tree.{Tree, column, feature_number, unary, binary, choice}
 use Rattle.expr_lang.specs.Grammar.{Placed, Toks, Cond, simple, branches, Level, lowest, single, joined, Unary, atom, signed, Atom, leaf, this_id, this_property, enclosed, level_of, leaf_of, sign_of}
-use Rattle.expr_lang.specs.Reading.{Quiet, NextIsNot, IsMark, IsSign}
+use Rattle.expr_lang.specs.Reading.{EndsLevel, NextIsNot, IsMark, IsSign}
 
 -- no operator of this level comes next
 abbrev pub NotLevel : ℕ → Toks → Type 0
@@ -171,17 +171,17 @@ mutual
 
 -- ---- each text of the grammar is read so
 
-quiet_down : (k : ℕ) (ts : Toks) → Quiet (suc k) ts → Quiet k ts
-quiet_down k [] q = tt
-quiet_down k (t ∷ ts) q = omega arith
+ended_down : (k : ℕ) (ts : Toks) → EndsLevel (suc k) ts → EndsLevel k ts
+ended_down k [] q = tt
+ended_down k (t ∷ ts) q = omega arith
 
-quiet_level : (k : ℕ) (ts : Toks) → Quiet k ts → NotLevel k ts
-quiet_level k ts q at o us e l = (let h : Quiet k ((at, token.Operator o) ∷ us) = subst (Quiet k) e q in omega arith)
+ended_level : (k : ℕ) (ts : Toks) → EndsLevel k ts → NotLevel k ts
+ended_level k ts q at o us e l = (let h : EndsLevel k ((at, token.Operator o) ∷ us) = subst (EndsLevel k) e q in omega arith)
 
-quiet_question : (ts : Toks) → Quiet 7 ts → NextIsNot (IsMark mark.Question) ts
-quiet_question ts q at t us e h = (let g : Quiet 7 ((at, token.Mark mark.Question) ∷ us) = subst (λ (z : Token). Quiet 7 ((at, z) ∷ us)) h (subst (Quiet 7) e q) in omega arith)
+ended_question : (ts : Toks) → EndsLevel 7 ts → NextIsNot (IsMark mark.Question) ts
+ended_question ts q at t us e h = (let g : EndsLevel 7 ((at, token.Mark mark.Question) ∷ us) = subst (λ (z : Token). EndsLevel 7 ((at, z) ∷ us)) h (subst (EndsLevel 7) e q) in omega arith)
 
-leads : (k at : ℕ) (o : Operator) (ts : Toks) → level_of o ≡ suc k → Quiet k ((at, token.Operator o) ∷ ts)
+leads : (k at : ℕ) (o : Operator) (ts : Toks) → level_of o ≡ suc k → EndsLevel k ((at, token.Operator o) ∷ ts)
 leads k at o ts l = omega arith
 
 atom_no_sign : {n : ℕ} {s : Toks} {e : Tree} → Atom n s e → (rest : Toks) → NextIsNot IsSign (s ++ rest)
@@ -191,23 +191,23 @@ atom_no_sign this_property rest at t us g h = (let x = ap sign_of (same_next ref
 atom_no_sign (enclosed b i) rest at t us g h = (let x = ap sign_of (same_next refl g refl).token ∙ h.1 in cc)
 
 mutual
-  pub cond_reads : {n : ℕ} {s : Toks} {e : Tree} → Cond n s e → (rest : Toks) → Quiet 7 rest → ReadsCond (s ++ rest) rest e
-  cond_reads (simple h) rest q = plain (level_reads h rest (quiet_down 6 rest q)) (quiet_question rest q)
+  pub cond_reads : {n : ℕ} {s : Toks} {e : Tree} → Cond n s e → (rest : Toks) → EndsLevel 7 rest → ReadsCond (s ++ rest) rest e
+  cond_reads (simple h) rest q = plain (level_reads h rest (ended_down 6 rest q)) (ended_question rest q)
   cond_reads (branches {n} {at} colon {s} {t} {u} {c = i} {d = j} {e = k} c x y) rest q =
       subst (λ (z : Toks). ReadsCond z rest (choice at i j k)) (sym (append_assoc s _ rest ∙ ap (λ (z : Toks). s ++ (at, token.Mark mark.Question) ∷ z) (append_assoc t _ rest)))
       (chosen (level_reads c ((at, token.Mark mark.Question) ∷ (t ++ (colon, token.Mark mark.Colon) ∷ (u ++ rest))) (omega arith)) refl
       (cond_reads x ((colon, token.Mark mark.Colon) ∷ (u ++ rest)) (omega arith)) refl (cond_reads y rest q) refl)
 
-  level_reads : {k n : ℕ} {s : Toks} {e : Tree} → Level k n s e → (rest : Toks) → Quiet k rest → ReadsLevel k (s ++ rest) rest e
+  level_reads : {k n : ℕ} {s : Toks} {e : Tree} → Level k n s e → (rest : Toks) → EndsLevel k rest → ReadsLevel k (s ++ rest) rest e
   level_reads (lowest h) rest q = base (unary_reads h rest)
-  level_reads (single {k = k} h) rest q = chain (level_reads h rest (quiet_down k rest q)) (done (quiet_level (suc k) rest q) refl refl)
+  level_reads (single {k = k} h) rest q = chain (level_reads h rest (ended_down k rest q)) (done (ended_level (suc k) rest q) refl refl)
   level_reads (joined {k = k} {at = at} {s = s} {t = t} {d = d} {e = e} {o = o} a l b) rest q =
       subst (λ (z : Toks). ReadsLevel (suc k) z rest (binary at o d e)) (sym (append_assoc s _ rest))
       (chain_reads a ((at, token.Operator o) ∷ (t ++ rest)) (leads k at o (t ++ rest) l) rest _
-      (more refl l (level_reads b rest (quiet_down k rest q)) (done (quiet_level (suc k) rest q) refl refl)))
+      (more refl l (level_reads b rest (ended_down k rest q)) (done (ended_level (suc k) rest q) refl refl)))
 
   -- a chain of operators, and the operators after it
-  chain_reads : {k n : ℕ} {s : Toks} {d : Tree} → Level (suc k) n s d → (rest : Toks) → Quiet k rest → (r : Toks) (x : Tree) → ReadsLoop k d rest r x → ReadsLevel (suc k) (s ++ rest) r x
+  chain_reads : {k n : ℕ} {s : Toks} {d : Tree} → Level (suc k) n s d → (rest : Toks) → EndsLevel k rest → (r : Toks) (x : Tree) → ReadsLoop k d rest r x → ReadsLevel (suc k) (s ++ rest) r x
   chain_reads (single h) rest q r x l = chain (level_reads h rest q) l
   chain_reads (joined {k = k} {at = at} {s = s} {t = t} {o = o} a v b) rest q r x l =
       subst (λ (z : Toks). ReadsLevel (suc k) z r x) (sym (append_assoc s _ rest))

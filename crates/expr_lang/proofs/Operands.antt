@@ -13,7 +13,7 @@ use Rattle.expr_lang.specs.declared.parser.Stop.TheVariants as stop
 use Rattle.expr_lang.specs.Tree.{Tree, node_tree, constant, unary}
 use Rattle.expr_lang.specs.Grammar.{Placed, Toks, Cond, simple, Level, lowest, single, Unary, atom, signed, Atom, leaf, enclosed, leaf_of, sign_of}
 use Rattle.expr_lang.specs.Machine.{levels, operand, operator, behind_this, in_parentheses, run, stopped}
-use Rattle.expr_lang.specs.Reading.{Around, run_at, before, behind, plainly, anywhere, NextIsNot, IsMark, IsSign, Passes, Breaks, Part, Some_tree, ThisText, Quiet, raised}
+use Rattle.expr_lang.specs.Reading.{Around, run_at, before, behind, plainly, anywhere, NextIsNot, IsMark, IsSign, Passes, Breaks, Part, Some_tree, ThisText, EndsLevel, raised}
 use Rattle.expr_lang.proofs.Runs.{moves, stops}
 use Rattle.expr_lang.proofs.Parts.{passes_then, passes_as, passes_one, breaks_at, breaks_then, breaks_on, breaks_here, breaks_deep}
 use Rattle.expr_lang.proofs.Steps.{opens_more, opens_none, sign_step, sign_stops, leaf_step, begins_none, close_stops}
@@ -176,12 +176,12 @@ pub open_deep : (n at : ℕ) (old mid : Toks) → n ≡ 0 → old ≡ (at, token
 open_deep n at old mid z e = subst (λ (n : ℕ). Breaks (Some_tree Atom n) (before n) TooDeep old old) (sym z) (open_deep_at at old mid e)
 
 -- no `)` comes next
-unclosed_at : (n at : ℕ) (x : Tree) (f : Misfit) (old m₁ m₂ new : Toks) → old ≡ (at, token.Mark mark.Open) ∷ m₁ → Passes (λ (z : Toks). Cond n z x) (plainly before n) (plainly behind n) m₁ m₂ → Quiet 7 m₂ → f ≡ Unfit → new ≡ m₂ → NextIsNot (IsMark mark.Close) m₂ → Breaks (Some_tree Atom (suc n)) (before (suc n)) f old new
+unclosed_at : (n at : ℕ) (x : Tree) (f : Misfit) (old m₁ m₂ new : Toks) → old ≡ (at, token.Mark mark.Open) ∷ m₁ → Passes (λ (z : Toks). Cond n z x) (plainly before n) (plainly behind n) m₁ m₂ → EndsLevel 7 m₂ → f ≡ Unfit → new ≡ m₂ → NextIsNot (IsMark mark.Close) m₂ → Breaks (Some_tree Atom (suc n)) (before (suc n)) f old new
 unclosed_at n at x f old m₁ m₂ new e a q fe ne h =
     let here : Breaks (λ (b : Bool) (z : Toks). z ≡ (0, token.Mark mark.Close) ∷ []) (λ (i : Around). plainly behind n (in_parentheses i.0 ∷ i.1)) Unfit m₂ new =
     breaks_here (λ (b : Bool) (z : Toks). z ≡ (0, token.Mark mark.Close) ∷ []) ne ((0, token.Mark mark.Close) ∷ [], refl) (λ i. close_stops _ i.0 i.1 m₂ q h) in
     subst (λ (f : Misfit). Breaks (Some_tree Atom (suc n)) (before (suc n)) f old new) (sym fe)
     (breaks_then (Some_tree Atom (suc n)) (inside_passes n at x old m₁ m₂ e a) here (λ b u v g k. ([], subst (λ (w : Toks). Some_tree Atom (suc n) b w) (ap (λ (z : Toks). z ++ ((0, token.Mark mark.Close) ∷ [])) (sym g.1) ∙ ap (λ (z : Toks). u ++ z) (sym k ∙ sym (append-nil v))) (enclosed_raised b n at g.0 (x, raise_cond b g.2)))))
 
-pub unclosed : (n' n at : ℕ) (x : Tree) (f : Misfit) (old m₁ m₂ new : Toks) → suc n' ≡ n → old ≡ (at, token.Mark mark.Open) ∷ m₁ → Passes (λ (z : Toks). Cond n' z x) (plainly before n') (plainly behind n') m₁ m₂ → Quiet 7 m₂ → f ≡ Unfit → new ≡ m₂ → NextIsNot (IsMark mark.Close) m₂ → Breaks (Some_tree Atom n) (before n) f old new
+pub unclosed : (n' n at : ℕ) (x : Tree) (f : Misfit) (old m₁ m₂ new : Toks) → suc n' ≡ n → old ≡ (at, token.Mark mark.Open) ∷ m₁ → Passes (λ (z : Toks). Cond n' z x) (plainly before n') (plainly behind n') m₁ m₂ → EndsLevel 7 m₂ → f ≡ Unfit → new ≡ m₂ → NextIsNot (IsMark mark.Close) m₂ → Breaks (Some_tree Atom n) (before n) f old new
 unclosed n' n at x f old m₁ m₂ new u e a q fe ne h = subst (λ (n : ℕ). Breaks (Some_tree Atom n) (before n) f old new) u (unclosed_at n' at x f old m₁ m₂ new e a q fe ne h)

@@ -127,9 +127,9 @@ level_at (token.Mark mark.Question) = 7
 level_at _ = 8
 
 -- no operator of this level or a lower one comes next
-abbrev pub Quiet : ℕ → Toks → Type 0
-Quiet j [] = Unit {0}
-Quiet j (t ∷ ts) = j < level_at t.1
+abbrev pub EndsLevel : ℕ → Toks → Type 0
+EndsLevel j [] = Unit {0}
+EndsLevel j (t ∷ ts) = j < level_at t.1
 
 -- a text's content so far, if it has no other escape
 abbrev pub known_content : Bool → List ℕ → Option (List ℕ)

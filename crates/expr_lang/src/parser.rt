@@ -1,7 +1,7 @@
 ghost use Rattle.std.specs.Prelude.{◌≡◌, ◌∷◌, ◌+◌, ◌<◌, ◌≤◌, [], List, ℕ, true, false, length, MatchOption, MatchResult, OnOk, IfOk, option_map, Some};
 ghost use Rattle.expr_lang.specs.Grammar.{Placed, Toks, Cond, Level, Unary, Atom, OneAssign, Assigns, level_of as level_number, leaf_of, sign_of};
 ghost use Rattle.expr_lang.specs.Machine.{behind_this, operator};
-ghost use Rattle.expr_lang.specs.Reading.{Part, PartOf, AssignEnds, ThisText, NextIsNot, IsMark, IsName, IsAName, IsText, IsSign, AtMisfit, Quiet, level_at, before, behind, plainly, anywhere, before_assign, behind_assign};
+ghost use Rattle.expr_lang.specs.Reading.{Part, PartOf, AssignEnds, ThisText, NextIsNot, IsMark, IsName, IsAName, IsText, IsSign, AtMisfit, EndsLevel, level_at, before, behind, plainly, anywhere, before_assign, behind_assign};
 ghost use Rattle.expr_lang.specs.Faults.{IsStopAt, fault_of, is_unsupported as unsupported_token};
 ghost use Rattle.expr_lang.specs.Stuck.{ReadsAll};
 ghost use Rattle.expr_lang.specs.Tree.{node_tree, assigned, all_assigned};
@@ -158,7 +158,7 @@ impl<'a> Parser<'a> {
     fn operator(&mut self, level: u32) -> Option<(u32, Operator)>
         requires { level < 7 }
         ensures { MatchOption result ((self.new.rest.now ≡ self.old.rest.now)
-            × ((j : ℕ) → level ≡ j + 1 → Quiet j self.old.rest.now → Quiet level self.old.rest.now))
+            × ((j : ℕ) → level ≡ j + 1 → EndsLevel j self.old.rest.now → EndsLevel level self.old.rest.now))
             (λ r. (self.old.rest.now ≡ (r.0, token.Operator r.1) ∷ self.new.rest.now) × (level_number r.1 ≡ level)) }
     {
         if let Some((at, Token::Operator(operator))) = self.rest.first() {
@@ -197,7 +197,7 @@ impl<'a> Parser<'a> {
     // A name, and the expression that it is set to.
     fn assignment(&mut self) -> Result<Assign, Stop>
         ensures part { PartOf assigned OneAssign 64 (before_assign 64) (behind_assign 64) result self.old.rest.now self.new.rest.now }
-        ensures ends { OnOk result (Quiet 7 self.new.rest.now) }
+        ensures ends { OnOk result (EndsLevel 7 self.new.rest.now) }
     {
         let name = self.target()?;
         self.expect(Mark::Becomes)?;
@@ -247,7 +247,7 @@ impl<'a> Parser<'a> {
     #[cycle(parts)]
     fn cond(&mut self, depth: u32) -> Result<Node, Stop>
         ensures part { Part Cond depth (plainly before depth) (plainly behind depth) result self.old.rest.now self.new.rest.now }
-        ensures ends { OnOk result (Quiet 7 self.new.rest.now) }
+        ensures ends { OnOk result (EndsLevel 7 self.new.rest.now) }
     {
         let condition = self.level(6, depth)?;
         let Some(at) = self.next_mark(Mark::Question) else {
@@ -268,7 +268,7 @@ impl<'a> Parser<'a> {
     fn level(&mut self, level: u32, depth: u32) -> Result<Node, Stop>
         requires { level < 7 }
         ensures part { Part (Level level) depth (plainly before depth) (plainly behind depth) result self.old.rest.now self.new.rest.now }
-        ensures ends { OnOk result (Quiet level self.new.rest.now) }
+        ensures ends { OnOk result (EndsLevel level self.new.rest.now) }
     {
         if level == 0 {
             return self.unary(depth);

@@ -6,7 +6,7 @@ use Rattle.face_walk.specs.declared.face_lists.Span.{Span}
 abbrev pub nowhere : Span
 nowhere = record { start = 0; stop = 0 }
 
--- the span lies among so many items
+-- the span lies among the first `count` items
 pub record IsWithin (count : ℕ) (s : Span) : Type 0 where
   pub ordered : s.start ≤ s.stop
   pub within : s.stop ≤ count

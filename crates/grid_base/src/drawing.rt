@@ -3,11 +3,11 @@ ghost use Rattle.lists.specs.Lists.{last_of};
 ghost use Rattle.plane_model.specs.Joined.{IsClosed};
 ghost use Rattle.grid_base.specs.Drawn.{with_feature, add_polygon, add_ring, add_item, without_repeats, outline, HasPaths};
 
-use crate::area::Rect;
 use crate::kinds::Kind;
 use crate::list_types::{PathList, PolygonRings, PtList, RingsList};
 use crate::numbers::FeatId;
 use crate::point::Pt;
+use crate::rect::Rect;
 use std::alloc::{AllocError, Global};
 use std::marker::Model;
 
@@ -120,12 +120,12 @@ impl Drawing {
     }
 
     /// Adds the outline of `area` as a box, from its lower left corner to the right, and answers the box's number.
-    pub fn add_box(&mut self, area: Rect) -> Result<u32, AllocError>
+    pub fn add_box(&mut self, rect: Rect) -> Result<u32, AllocError>
         ensures number { IfOk result (λ n. n ≡ length self.old.boxes) }
-        ensures ok { OnOk result (self.new ≡ record self.old { boxes = self.old.boxes ++ without_repeats (outline area) ∷ [] }) }
+        ensures ok { OnOk result (self.new ≡ record self.old { boxes = self.old.boxes ++ without_repeats (outline rect) ∷ [] }) }
         ensures err { OnErr result (self.new ≡ self.old) }
     {
-        let ring = outline(self.alloc, area)?;
+        let ring = outline(self.alloc, rect)?;
         self.add_box_path(ring)
     }
 
@@ -147,10 +147,10 @@ impl Drawing {
 }
 
 // The outline of a rectangle, from its lower left corner to the right.
-fn outline(alloc: Global, area: Rect) -> Result<PtList, AllocError>
-    ensures { IfOk result (λ ring. ring ≡ outline area) }
+fn outline(alloc: Global, rect: Rect) -> Result<PtList, AllocError>
+    ensures { IfOk result (λ ring. ring ≡ outline rect) }
 {
-    let (low, high) = (area.low(), area.high());
+    let (low, high) = (rect.low(), rect.high());
     let mut ring = PtList::new(alloc);
     ring.push(low)?;
     ring.push(corner(high, low))?;

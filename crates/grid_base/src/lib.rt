@@ -11,18 +11,17 @@
 //! 4. `drawing` takes features and boxes one by one; `snapped` is a drawing after snapping, with its links.
 #![tactic(auto)]
 
-mod area;
 mod drawing;
 mod kinds;
 mod link;
 mod list_types;
 mod numbers;
 mod point;
+mod rect;
 mod segment;
 mod signed_arc;
 mod snapped;
 
-pub use area::Rect;
 pub use drawing::Drawing;
 pub use grid_bounds::{LIMIT, MOST_PLACES};
 pub use kinds::{Kind, OverlapRule};
@@ -36,6 +35,7 @@ pub use point::{
     Pt, determinant, greater, has_point, is_before, is_same, lesser, lower_left, step, turn,
     upper_right,
 };
+pub use rect::Rect;
 pub use segment::Seg;
 pub use signed_arc::SignedArc;
 pub use snapped::Snapped;

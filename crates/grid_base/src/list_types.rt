@@ -3,9 +3,9 @@ ghost use Rattle.std.specs.Option.{option_copied};
 ghost use Rattle.std.specs.Prelude.{◌<◌};
 ghost use Rattle.grid_base.specs.Drawn.{with_last, without_repeats};
 
-use crate::area::Rect;
 use crate::link::Link;
 use crate::point::Pt;
+use crate::rect::Rect;
 use std::alloc::{AllocError, Global};
 use std::marker::Model;
 

@@ -8,7 +8,7 @@ use Rattle.region_model.specs.Region.{Region}
 use Rattle.run_plane.specs.declared.layer.Layer.{Layer}
 use Rattle.run_plane.specs.declared.layer.Shape.{Shape}
 use Rattle.run_plane.specs.declared.plane.Plane.{Plane}
-use Rattle.run_state.specs.declared.state.Held.{Held}
+use Rattle.run_state.specs.declared.state.HeldLayer.{HeldLayer}
 use Rattle.chain_model.specs.State as state
 use Rattle.chain_model.specs.State.{State, StateLayer}
 use Rattle.layer_laws.specs.Shown.{View, FacesShow, IsSeenIn, IsView, LayerShows, ShapeShows, SourcesShow, StateShows, plane_of}
@@ -50,8 +50,8 @@ module _ (v : View) (A : Answers) where
   sources_still held sources h =
       zip_still (AllZip (LayerShows v)) (AllZip (LayerShows answered)) (λ ls ms. zip_still (LayerShows v) (LayerShows answered) layer_still ls ms) held sources h
 
-  pub state_still : (held : List Held) (s : State) → StateShows v held s → StateShows answered held s
+  pub state_still : (held : List HeldLayer) (s : State) → StateShows v held s → StateShows answered held s
   state_still held s h = record {
-    layers = zip_still (λ (x : Held). LayerShows v x.layer) (λ (x : Held). LayerShows answered x.layer) (λ x l. layer_still x.layer l) held s.layers h.layers;
+    layers = zip_still (λ (x : HeldLayer). LayerShows v x.layer) (λ (x : HeldLayer). LayerShows answered x.layer) (λ x l. layer_still x.layer l) held s.layers h.layers;
     target = h.target;
   }

@@ -8,7 +8,7 @@ use Rattle.job_terms.specs.declared.job.Job.TheVariants as job
 use Rattle.cmd_words.specs.Words.{JobWords, Reading}
 use Rattle.run_sources.specs.Sources.{SourcesSeen}
 use Rattle.run_state.specs.Origins.{Base}
-use Rattle.run_state.specs.declared.state.Held.{Held}
+use Rattle.run_state.specs.declared.state.HeldLayer.{HeldLayer}
 use Rattle.run_outcome.specs.declared.outcome.Outcome.{Outcome}
 use Rattle.run_outcome.specs.declared.outcome.Outcome.TheVariants as end
 use Rattle.run_chain.specs.Effects.{OutsideSeen}
@@ -34,7 +34,7 @@ use Rattle.headline_laws.proofs.Commands.{Cut, IsStated, Ran, Short, Told, Whole
 
 module _ (read : Readings) (line : List Content) (c : Chain) (seen : SourcesSeen) (files : FileMap) (bytes : Content) (a : IsAsked read line (job.Chain c) seen files bytes) where
   -- what begins, where its plane is that of the view
-  module _ (v : View) (base : Base) (layers : List Held) (b : Begun) (is : BeginsSeen c v base layers b) (begun : begins read c files bytes ≡ Ok b) (texts : EachHasText v base) where
+  module _ (v : View) (base : Base) (layers : List HeldLayer) (b : Begun) (is : BeginsSeen c v base layers b) (begun : begins read c files bytes ≡ Ok b) (texts : EachHasText v base) where
     abbrev told : Told v base b is.plane is.places
     told = from v base b is.plane is.places 1 b.state b.commands
 
@@ -131,7 +131,7 @@ bound read line c seen files bytes a b begun v base layers is show texts before 
 
 -- where memory runs out before the first command, nothing has changed
 pub unbegun : (read : Readings) (line : List Content) (c : Chain) (seen : SourcesSeen) (files : FileMap) (bytes : Content) → IsAsked read line (job.Chain c) seen files bytes → (b : Begun) → begins read c files bytes ≡ Ok b →
-    (v : View) (base : Base) (layers : List Held) → BeginsSeen c v base layers b → EachHasText v base → (before after : OutsideSeen) → after ≡ before → Binds read (words_say read.refusals line) files bytes (outside_of before) (outside_of after) model.memory
+    (v : View) (base : Base) (layers : List HeldLayer) → BeginsSeen c v base layers b → EachHasText v base → (before after : OutsideSeen) → after ≡ before → Binds read (words_say read.refusals line) files bytes (outside_of before) (outside_of after) model.memory
 unbegun read line c seen files bytes a b begun v base layers is texts before after kept =
     by_short read line c seen files bytes a v base layers b is begun texts before after
     (record { effects = []; front = []; more = (from v base b is.plane is.places 1 b.state b.commands).0; outputs = refl; gives = tt; held = unchanged before after kept })

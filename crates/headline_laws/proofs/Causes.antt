@@ -45,7 +45,7 @@ use Rattle.headline_laws.specs.Causes.{counts_of, FaultsHaveCauses}
 use Rattle.headline_laws.proofs.Said.{said_by}
 use Rattle.headline_laws.proofs.Counts.{Budget, given_grew, source_rose, source_missing, ActionRose, action_rose}
 use Rattle.headline_laws.proofs.Lengths.{too_much}
-use Rattle.headline_laws.proofs.CommandFaults.{CommandsEnd, Quiet, quiet_by, RefusedOne, FailedWrite, commands_end}
+use Rattle.headline_laws.proofs.CommandFaults.{CommandsEnd, DoneOrMemory, done_or_memory_by, RefusedOne, FailedWrite, commands_end}
 
 -- ## Commands by their words
 
@@ -83,17 +83,17 @@ module _ (seen seen' : SourcesSeen) (before after : OutsideSeen) where
   Told words o = HasCause words seen.files seen.input (counts_of seen before) (counts_of seen' after) (outcome_as o)
 
   -- words that are accepted, where nothing is told of them but Done, or Memory
-  quiet_told : (words : Reading JobWords) → AreAccepted words → (o : Outcome) → Quiet o → Told words o
-  quiet_told words are end.Done q = are
-  quiet_told words are (end.BadWords n why) q = absurd q
-  quiet_told words are (end.ReadFault n) q = absurd q
-  quiet_told words are (end.Missing n) q = absurd q
-  quiet_told words are (end.TooLong n) q = absurd q
-  quiet_told words are (end.BadInput n why) q = absurd q
-  quiet_told words are (end.TooDense n) q = absurd q
-  quiet_told words are (end.Refused n why) q = absurd q
-  quiet_told words are (end.WriteFault n) q = absurd q
-  quiet_told words are end.Memory q = tt
+  done_or_memory_told : (words : Reading JobWords) → AreAccepted words → (o : Outcome) → DoneOrMemory o → Told words o
+  done_or_memory_told words are end.Done q = are
+  done_or_memory_told words are (end.BadWords n why) q = absurd q
+  done_or_memory_told words are (end.ReadFault n) q = absurd q
+  done_or_memory_told words are (end.Missing n) q = absurd q
+  done_or_memory_told words are (end.TooLong n) q = absurd q
+  done_or_memory_told words are (end.BadInput n why) q = absurd q
+  done_or_memory_told words are (end.TooDense n) q = absurd q
+  done_or_memory_told words are (end.Refused n why) q = absurd q
+  done_or_memory_told words are (end.WriteFault n) q = absurd q
+  done_or_memory_told words are end.Memory q = tt
 
   -- a drawing that has too many links
   drawing_told : (words : Reading JobWords) → AreAccepted words → (d : Drawing) (f : SnapFault) → FaultMeans d f → Told words (of_drawing f)
@@ -162,13 +162,13 @@ module _ (seen seen' : SourcesSeen) (before after : OutsideSeen) where
     commands_told o r = go r.ran
       where
         ended : CommandsEnd 0 c.commands r.middle after o → Told words o
-        ended (inl q) = quiet_told words are_accepted o q
+        ended (inl q) = done_or_memory_told words are_accepted o q
         ended (inr (inl x)) = refused_told o x
         ended (inr (inr f)) = failed_told r.middle o r.kept.counts f
 
         go : BegunRuns r.base r.begun c.commands r.middle after o → Told words o
         go (inl ran) = ended (commands_end r.base c.commands 0 (first_layers r.begun) r.middle after o ran)
-        go (inr m) = quiet_told words are_accepted o (quiet_by o end.Memory m.0 tt)
+        go (inr m) = done_or_memory_told words are_accepted o (done_or_memory_by o end.Memory m.0 tt)
 
     chain_told : (o : Outcome) → ChainRuns c seen seen' before after o → Told words o
     chain_told o (inl b) = before_told o b

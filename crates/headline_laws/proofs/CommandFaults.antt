@@ -7,7 +7,7 @@ use Rattle.run_state.specs.Origins.{Base}
 use Rattle.run_state.specs.declared.refusal.RefuseWhy.{RefuseWhy}
 use Rattle.run_state.specs.declared.state.CommandStop.{CommandStop}
 use Rattle.run_state.specs.declared.state.CommandStop.TheVariants as stop
-use Rattle.run_state.specs.declared.state.Held.{Held}
+use Rattle.run_state.specs.declared.state.HeldLayer.{HeldLayer}
 use Rattle.run_outcome.specs.Ends.{of_command}
 use Rattle.run_outcome.specs.declared.outcome.Outcome.{Outcome}
 use Rattle.run_outcome.specs.declared.outcome.Outcome.TheVariants as end
@@ -16,13 +16,13 @@ use Rattle.run_chain.specs.Running.{CommandsRun, EndsWriting, GoesOn}
 use Rattle.headline_laws.proofs.Counts.{ActionRose, action_rose, counts_grew}
 
 -- all is done, or memory ran out
-abbrev pub Quiet : Outcome → Type 0
-Quiet end.Done = Unit {0}
-Quiet end.Memory = Unit {0}
-Quiet _ = ⊥
+abbrev pub DoneOrMemory : Outcome → Type 0
+DoneOrMemory end.Done = Unit {0}
+DoneOrMemory end.Memory = Unit {0}
+DoneOrMemory _ = ⊥
 
-pub quiet_by : (o end' : Outcome) → o ≡ end' → Quiet end' → Quiet o
-quiet_by o end' e q = subst Quiet (sym e) q
+pub done_or_memory_by : (o end' : Outcome) → o ≡ end' → DoneOrMemory end' → DoneOrMemory o
+done_or_memory_by o end' e q = subst DoneOrMemory (sym e) q
 
 -- one of the commands is refused; its number counts the `done` ones before them too
 pub record RefusedOne (done : ℕ) (cs : List Command) (o : Outcome) : Type 0 where
@@ -40,12 +40,12 @@ pub record FailedWrite (done : ℕ) (cs : List Command) (before after : OutsideS
   pub ends : o ≡ end.WriteFault (done + (place + 1))
   pub rose : ActionRose before after command.action
 
-writing_failed : (base : Base) (n : ℕ) (c : Command) (a : Action) (layers : List Held) (before after : OutsideSeen) (o : Outcome) → EndsWriting base n c a layers before after o → (o ≡ end.WriteFault n) × ActionRose before after a
+writing_failed : (base : Base) (n : ℕ) (c : Command) (a : Action) (layers : List HeldLayer) (before after : OutsideSeen) (o : Outcome) → EndsWriting base n c a layers before after o → (o ≡ end.WriteFault n) × ActionRose before after a
 writing_failed base n c (action.Write to standard form) layers before after o e = (e.fault, e.rose)
 writing_failed base n c (action.Each a) layers before after o e = absurd e
 writing_failed base n c (action.Together a) layers before after o e = absurd e
 
-passing_grew : (base : Base) (c : Command) (a : Action) (layers layers' : List Held) (before after : OutsideSeen) → GoesOn base c a layers layers' before after → CountsGrew before after
+passing_grew : (base : Base) (c : Command) (a : Action) (layers layers' : List HeldLayer) (before after : OutsideSeen) → GoesOn base c a layers layers' before after → CountsGrew before after
 passing_grew base c (action.Write to standard form) layers layers' before after g = g.writes.counts
 passing_grew base c (action.Each a) layers layers' before after g = subst (λ (s : OutsideSeen). CountsGrew before s) (sym g.kept) (counts_grew before)
 passing_grew base c (action.Together a) layers layers' before after g = subst (λ (s : OutsideSeen). CountsGrew before s) (sym g.kept) (counts_grew before)
@@ -68,16 +68,16 @@ one_refused_further done c cs o r = record {
   ends = r.ends ∙ ap (λ (n : ℕ). end.Refused n r.why) (omega arith);
 }
 
--- how commands end: quietly, or one of them is refused, or fails to write
+-- how commands end: all are done or memory ran out, or one of them is refused, or fails to write
 abbrev pub CommandsEnd : ℕ → List Command → OutsideSeen → OutsideSeen → Outcome → Type 0
-CommandsEnd done cs before after o = Quiet o ⊎ (RefusedOne done cs o ⊎ FailedWrite done cs before after o)
+CommandsEnd done cs before after o = DoneOrMemory o ⊎ (RefusedOne done cs o ⊎ FailedWrite done cs before after o)
 
 first_stopped : (done : ℕ) (c : Command) (cs : List Command) (before after : OutsideSeen) (o : Outcome) (s : CommandStop) → o ≡ of_command (done + 1) s → CommandsEnd done (c ∷ cs) before after o
 first_stopped done c cs before after o (stop.Refused why) e = inr (inl (record { place = 0; command = c; there = refl; why = why; ends = e }))
-first_stopped done c cs before after o stop.Memory e = inl (quiet_by o end.Memory e tt)
+first_stopped done c cs before after o stop.Memory e = inl (done_or_memory_by o end.Memory e tt)
 
-pub commands_end : (base : Base) (cs : List Command) (done : ℕ) (layers : List Held) (before after : OutsideSeen) (o : Outcome) → CommandsRun base done layers cs before after o → CommandsEnd done cs before after o
-commands_end base [] done layers before after o r = inl (quiet_by o end.Done r.0 tt)
+pub commands_end : (base : Base) (cs : List Command) (done : ℕ) (layers : List HeldLayer) (before after : OutsideSeen) (o : Outcome) → CommandsRun base done layers cs before after o → CommandsEnd done cs before after o
+commands_end base [] done layers before after o r = inl (done_or_memory_by o end.Done r.0 tt)
 commands_end base (c ∷ cs) done layers before after o (inl (inl s)) = first_stopped done c cs before after o s.stop s.ends
 commands_end base (c ∷ cs) done layers before after o (inl (inr w)) =
     let failed : (o ≡ end.WriteFault (done + 1)) × ActionRose before after c.action = writing_failed base (done + 1) c c.action layers before after o w in

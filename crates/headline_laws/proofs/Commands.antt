@@ -14,7 +14,7 @@ use Rattle.run_state.specs.declared.refusal.RefuseWhy.{RefuseWhy}
 use Rattle.run_state.specs.declared.refusal.RefuseWhy.TheVariants as refuse
 use Rattle.run_state.specs.declared.state.CommandStop.{CommandStop}
 use Rattle.run_state.specs.declared.state.CommandStop.TheVariants as stop
-use Rattle.run_state.specs.declared.state.Held.{Held}
+use Rattle.run_state.specs.declared.state.HeldLayer.{HeldLayer}
 use Rattle.run_texts.specs.Written.{OutputSays}
 use Rattle.run_outcome.specs.Ends.{of_command}
 use Rattle.run_outcome.specs.declared.outcome.Outcome.{Outcome}
@@ -127,7 +127,7 @@ module _ (v : View) (base : Base) (begun : Begun) (plane : begun.plane ≡ plane
     no_memory : o ≡ end.Memory → after ≡ before → Ran (from n s (c ∷ cs)) before after o
     no_memory e kept = inr (inl (e, record { effects = []; front = []; more = (from n s (c ∷ cs)).0; outputs = refl; gives = tt; held = unchanged before after kept }))
 
-    module _ (layers : List Held) where
+    module _ (layers : List HeldLayer) where
       stopped : (a : Action) → ActionShows v base layers begun.sources s c a → (why : CommandStop) → StopsBy base c a layers why → o ≡ of_command n why → after ≡ before → Ran (from n s (c ∷ cs)) before after o
       stopped a shows stop.Memory by e kept = no_memory e kept
       stopped (action.Write to standard form) shows (stop.Refused why) by e kept = refused_so why e kept (shows.refused why by)
@@ -169,7 +169,7 @@ module _ (v : View) (base : Base) (begun : Begun) (plane : begun.plane ≡ plane
     },
   ))
 
-  module _ (n : ℕ) (s : State) (c : Command) (cs : List Command) (layers : List Held) (before : OutsideSeen) (o : Outcome) where
+  module _ (n : ℕ) (s : State) (c : Command) (cs : List Command) (layers : List HeldLayer) (before : OutsideSeen) (o : Outcome) where
     -- ## An output and its effect
 
     module _ (to : Text) (standard : Bool) (form : OutForm) (g : WriteGives v base layers begun.sources s c to standard form) where
@@ -219,22 +219,22 @@ module _ (v : View) (base : Base) (begun : Begun) (plane : begun.plane ≡ plane
     fails (action.Together a) after shows f = absurd f
 
     -- the commands after it, over the state that it gives
-    abbrev Further : List Held → OutsideSeen → OutsideSeen → Type 0
+    abbrev Further : List HeldLayer → OutsideSeen → OutsideSeen → Type 0
     Further layers' middle after = (t : State) → StateShows v layers' t → Ran (from (n + 1) t cs) middle after o
 
-    changed : (layers' : List Held) (middle after : OutsideSeen) → middle ≡ before → StepGives v begun.sources s c layers' → Further layers' middle after → Ran (from n s (c ∷ cs)) before after o
+    changed : (layers' : List HeldLayer) (middle after : OutsideSeen) → middle ≡ before → StepGives v begun.sources s c layers' → Further layers' middle after → Ran (from n s (c ∷ cs)) before after o
     changed layers' middle after kept (t, gives, shown) further =
         ran_by n s c cs before after o (Ok (record { state = t; written = None })) gives (subst (λ (x : OutsideSeen). Ran (from (n + 1) t cs) x after o) kept (further t shown))
 
-    goes_on : (a : Action) (layers' : List Held) (middle after : OutsideSeen) → StateShows v layers s → ActionShows v base layers begun.sources s c a → GoesOn base c a layers layers' before middle → Further layers' middle after → Ran (from n s (c ∷ cs)) before after o
+    goes_on : (a : Action) (layers' : List HeldLayer) (middle after : OutsideSeen) → StateShows v layers s → ActionShows v base layers begun.sources s c a → GoesOn base c a layers layers' before middle → Further layers' middle after → Ran (from n s (c ∷ cs)) before after o
     goes_on (action.Write to standard form) layers' middle after state shows g further =
-        written_on to standard form (shows.goes g.accepted) middle after g.writes.text g.writes.says g.writes.wrote (further s (subst (λ (ls : List Held). StateShows v ls s) (sym g.kept) state))
+        written_on to standard form (shows.goes g.accepted) middle after g.writes.text g.writes.says g.writes.wrote (further s (subst (λ (ls : List HeldLayer). StateShows v ls s) (sym g.kept) state))
     goes_on (action.Each a) layers' middle after state shows g further = changed layers' middle after g.kept (shows.goes g.accepted layers' g.changes) further
     goes_on (action.Together a) layers' middle after state shows g further = changed layers' middle after g.kept (shows.goes g.accepted layers' g.changes) further
 
   -- ## All of them
 
-  pub ran_all : (cs : List Command) (done : ℕ) (layers : List Held) (s : State) (before after : OutsideSeen) (o : Outcome) → StateShows v layers s → CommandsShow v base begun.sources layers s cs → CommandsRun base done layers cs before after o → Ran (from (done + 1) s cs) before after o
+  pub ran_all : (cs : List Command) (done : ℕ) (layers : List HeldLayer) (s : State) (before after : OutsideSeen) (o : Outcome) → StateShows v layers s → CommandsShow v base begun.sources layers s cs → CommandsRun base done layers cs before after o → Ran (from (done + 1) s cs) before after o
   ran_all [] done layers s before after o state show (e, kept) = inl (record { stated = subst IsStated (sym e) tt; effects = []; ends = ap outcome_as e; gives = tt; held = unchanged before after kept })
   ran_all (c ∷ cs) done layers s before after o state show (inl (inl x)) = stopped (done + 1) s c cs before after o layers c.action show.0 x.stop x.why x.ends x.kept
   ran_all (c ∷ cs) done layers s before after o state show (inl (inr w)) = fails (done + 1) s c cs layers before o c.action after show.0 w

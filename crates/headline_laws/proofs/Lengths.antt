@@ -39,7 +39,7 @@ all_read places [] budget left seen after (l ∷ ls) g = absurd g
 all_read places (s ∷ ss) budget left seen after [] g = absurd g
 all_read places (s ∷ ss) budget left seen after (l ∷ ls) g =
     let bytes : ℕ = length (g.2).bytes in
-    let behind : (g.0).bytes ≡ budget.bytes - bytes = ap (λ (b : Budget). b.bytes) (g.2).left_behind in
+    let behind : (g.0).bytes ≡ budget.bytes - bytes = ap (λ (b : Budget). b.bytes) (g.2).left_after in
     one_read s.standard bytes seen g.1 after budget.bytes (g.0).bytes left.bytes (g.2).counted g.3 (omega (arith, behind, (g.2).within)) (all_read places ss g.0 left g.1 after ls g.4)
 
 -- more was read than the limit, or a number of bytes stands at its last value

@@ -16,7 +16,7 @@ use Rattle.run_state.specs.Origins.{Base}
 use Rattle.run_state.specs.Targets.{has_target, targets}
 use Rattle.run_state.specs.declared.refusal.RefuseWhy.{RefuseWhy}
 use Rattle.run_state.specs.declared.refusal.RefuseWhy.TheVariants.{NameTwice, NoLayer}
-use Rattle.run_state.specs.declared.state.Held.{Held}
+use Rattle.run_state.specs.declared.state.HeldLayer.{HeldLayer}
 use Rattle.run_texts.specs.Written.{has_name_twice, names_of_layers, refused_form, refused_names, refused_one, refused_output}
 use Rattle.chain_model.specs.Outcome as state
 use Rattle.chain_model.specs.Outcome.{name_twice, no_layer}
@@ -65,7 +65,7 @@ form_alike v form.Topo layers ls show some = names_alike v layers ls show
 
 -- ---- the step
 
-module _ (v : View) (base : Base) (sources : SourceLayers) (layers : List Held) (s : State) (h : StateShows v layers s) (c : Command) (to : Text) (standard : Bool) (f : OutForm) (writes : c.action ≡ does.Write to standard f) where
+module _ (v : View) (base : Base) (sources : SourceLayers) (layers : List HeldLayer) (s : State) (h : StateShows v layers s) (c : Command) (to : Text) (standard : Bool) (f : OutForm) (writes : c.action ≡ does.Write to standard f) where
   abbrev ns : List ℕ
   ns = target_numbers c.target layers
 

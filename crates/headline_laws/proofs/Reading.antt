@@ -14,13 +14,13 @@ use Rattle.geojson_io.specs.declared.shape.GeoShape.{GeoShape}
 use Rattle.geojson_io.specs.declared.shape.GeoShape.TheVariants as shape
 use Rattle.table_terms.specs.Refusals.{on_ok}
 use Rattle.job_terms.specs.declared.job.SourceWord.{SourceWord}
-use Rattle.run_sources.specs.Budget.{whole_budget, budget_behind, feature_count, position_count, positions_in}
+use Rattle.run_sources.specs.Budget.{whole_budget, budget_after, feature_count, position_count, positions_in}
 use Rattle.run_sources.specs.Sources.{SourcesSeen, AtSource, SourceMissing, LeavesInput, SourceGives, SourcesGive, SourceStops, IsRefusedInput}
 use Rattle.run_sources.specs.declared.fault.SourceFault.{SourceFault}
 use Rattle.run_sources.specs.declared.fault.SourceFault.TheVariants as fault
 use Rattle.word_model.specs.Words.{standard_among}
 use Rattle.chain_model.specs.Outcome.{Outcome, missing, too_long, bad_input}
-use Rattle.chain_model.specs.Sources.{Readings, AreReadings, byte_limit, bytes_of, length_of, or_refused, decoded, room_behind, source_layers, imported}
+use Rattle.chain_model.specs.Sources.{Readings, AreReadings, byte_limit, bytes_of, length_of, or_refused, decoded, room_after, source_layers, imported}
 use Rattle.chain_model.specs.Sources as model
 use Rattle.headline_laws.specs.ToldSources.{IsReadOnce, IsOfContents, input_as, fault_as}
 use Rattle.headline_laws.proofs.Decoded.{accepted_bytes, refused_bytes}
@@ -54,13 +54,13 @@ pub record Fits (budget : Budget) (before : ℕ) (room : Room) : Type 0 where
 pub fits_whole : Fits whole_budget 0 model.whole_room
 fits_whole = record { of_bytes = refl; of_room = refl }
 
-fits_on : (budget left : Budget) (before count : ℕ) (room : Room) (layers : List LayerContent) → Fits budget before room → count ≤ budget.bytes → left ≡ budget_behind budget count layers → Fits left (before + count) (room_behind room layers)
+fits_on : (budget left : Budget) (before count : ℕ) (room : Room) (layers : List LayerContent) → Fits budget before room → count ≤ budget.bytes → left ≡ budget_after budget count layers → Fits left (before + count) (room_after room layers)
 fits_on budget left before count room layers fits within behind = record {
   of_bytes = let gone : left.bytes ≡ budget.bytes - count = ap (λ (b : Budget). b.bytes) behind in let whole : budget.bytes + before ≡ byte_limit = fits.of_bytes in omega arith;
   of_room =
       ap (λ (b : Budget). b.room) behind
       ∙ ap (λ (n : ℕ). record { positions = budget.room.positions - n; features = budget.room.features - sum_by feature_count layers }) (counts_same layers)
-      ∙ ap (λ (r : Room). room_behind r layers) fits.of_room;
+      ∙ ap (λ (r : Room). room_after r layers) fits.of_room;
 }
 
 -- ## Contents
@@ -180,10 +180,10 @@ module _ (files : FileMap) (input : Content) where
 
     -- the first one gives layers, and the others go on after it
     goes_on : (s : SourceWord) (ss : List SourceWord) (layers : List LayerContent) (before count : ℕ) (room : Room) (n : ℕ) (rest : Imported) → source_layers read places before room n s (bytes_of files input s) ≡ Ok layers → length_of (bytes_of files input s) ≡ count
-        → imported read places files input (before + count) (room_behind room layers) (n + 1) ss ≡ rest → imported read places files input before room n (s ∷ ss) ≡ on_ok rest (λ (more : List (List LayerContent)). Ok (layers ∷ more))
+        → imported read places files input (before + count) (room_after room layers) (n + 1) ss ≡ rest → imported read places files input before room n (s ∷ ss) ≡ on_ok rest (λ (more : List (List LayerContent)). Ok (layers ∷ more))
     goes_on s ss layers before count room n rest first size others =
-        ap (λ (r : Result (List LayerContent) Outcome). on_ok r (λ (ls : List LayerContent). on_ok (imported read places files input (before + length_of (bytes_of files input s)) (room_behind room ls) (n + 1) ss) (λ (more : List (List LayerContent)). Ok (ls ∷ more)))) first
-        ∙ ap (λ (k : ℕ). on_ok (imported read places files input (before + k) (room_behind room layers) (n + 1) ss) (λ (more : List (List LayerContent)). Ok (layers ∷ more))) size
+        ap (λ (r : Result (List LayerContent) Outcome). on_ok r (λ (ls : List LayerContent). on_ok (imported read places files input (before + length_of (bytes_of files input s)) (room_after room ls) (n + 1) ss) (λ (more : List (List LayerContent)). Ok (ls ∷ more)))) first
+        ∙ ap (λ (k : ℕ). on_ok (imported read places files input (before + k) (room_after room layers) (n + 1) ss) (λ (more : List (List LayerContent)). Ok (layers ∷ more))) size
         ∙ ap (λ (r : Imported). on_ok r (λ (more : List (List LayerContent)). Ok (layers ∷ more))) others
 
     -- where the first of the sources gave layers, they are imported
@@ -199,7 +199,7 @@ module _ (files : FileMap) (input : Content) where
     first_accepted (s ∷ ss) (suc k) budget left seen after (layers ∷ more) before room n fits held given g =
         let one = one_accepted s ss budget g.0 seen g.1 layers before room n fits held given g.2 in
         goes_on s (take k ss) layers before (length (g.2).bytes) room n (Ok more) one.0 one.1
-        (first_accepted ss k g.0 left g.1 after more (before + length (g.2).bytes) (room_behind room layers) (n + 1) (fits_on budget g.0 before (length (g.2).bytes) room layers fits (g.2).within (g.2).left_behind)
+        (first_accepted ss k g.0 left g.1 after more (before + length (g.2).bytes) (room_after room layers) (n + 1) (fits_on budget g.0 before (length (g.2).bytes) room layers fits (g.2).within (g.2).left_after)
         (files_on s ss seen.files (g.1).files held (g.3).files) (input_on s ss seen g.1 given (g.2).leaves) g.4)
 
     pub first_refused : (ss : List SourceWord) (place : ℕ) (s : SourceWord) (budget left : Budget) (seen middle after : SourcesSeen) (all : List (List LayerContent)) (why : SourceFault) (before : ℕ) (room : Room) (n number : ℕ) → number ≡ n + place → Fits budget before room → FilesFit ss seen.files → InputFits ss seen.input
@@ -213,11 +213,11 @@ module _ (files : FileMap) (input : Content) where
         let stops2 = subst (λ (b : Budget). SourceStops places b number t middle after why) g.0 stops1 in
         let stops3 = subst (λ (m : SourcesSeen). SourceStops places budget number t m after why) g.1 stops2 in
         let stops4 = subst (λ (k : ℕ). SourceStops places budget k t seen after why) at stops3 in
-        ap (λ (r : Result (List LayerContent) Outcome). on_ok r (λ (ls : List LayerContent). on_ok (imported read places files input (before + length_of (bytes_of files input t)) (room_behind room ls) (n + 1) ss) (λ (more : List (List LayerContent)). Ok (ls ∷ more))))
+        ap (λ (r : Result (List LayerContent) Outcome). on_ok r (λ (ls : List LayerContent). on_ok (imported read places files input (before + length_of (bytes_of files input t)) (room_after room ls) (n + 1) ss) (λ (more : List (List LayerContent)). Ok (ls ∷ more))))
         (one_refused t ss budget seen after why before room n fits held given mine stops4)
     first_refused (t ∷ ss) (suc place) s budget left seen middle after [] why before room n number is fits held given there g mine stops = absurd g
     first_refused (t ∷ ss) (suc place) s budget left seen middle after (layers ∷ more) why before room n number is fits held given there g mine stops =
         let one = one_accepted t ss budget g.0 seen g.1 layers before room n fits held given g.2 in
         goes_on t ss layers before (length (g.2).bytes) room n (Err (fault_as why)) one.0 one.1
-        (first_refused ss place s g.0 left g.1 middle after more why (before + length (g.2).bytes) (room_behind room layers) (n + 1) number (omega arith) (fits_on budget g.0 before (length (g.2).bytes) room layers fits (g.2).within (g.2).left_behind)
+        (first_refused ss place s g.0 left g.1 middle after more why (before + length (g.2).bytes) (room_after room layers) (n + 1) number (omega arith) (fits_on budget g.0 before (length (g.2).bytes) room layers fits (g.2).within (g.2).left_after)
         (files_on t ss seen.files (g.1).files held (g.3).files) (input_on t ss seen g.1 given (g.2).leaves) there g.4 mine stops)

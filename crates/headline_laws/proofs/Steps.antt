@@ -8,7 +8,7 @@ use Rattle.job_terms.specs.declared.job.JointAction.TheVariants as joint
 use Rattle.job_terms.specs.declared.job.LayerAction.{LayerAction}
 use Rattle.job_terms.specs.declared.job.LayerAction.TheVariants as layer
 use Rattle.run_state.specs.Origins.{Base}
-use Rattle.run_state.specs.declared.state.Held.{Held}
+use Rattle.run_state.specs.declared.state.HeldLayer.{HeldLayer}
 use Rattle.chain_model.specs.State.{State}
 use Rattle.chain_model.specs.Targets.{SourceLayers}
 use Rattle.layer_laws.specs.Shown.{View, IsView, SourcesShow, StateShows, IsSeenIn}
@@ -23,12 +23,12 @@ use Rattle.headline_laws.specs.ChainSteps.{ActionShows, CommandsShow, JointShows
 use Rattle.headline_laws.specs.Steps.{AllCommandsShow, EachJointStepShows, EachStepShows}
 
 module _ (v : View) (view : IsView v) (base : Base) (seen : IsSeenIn v base.plane) (sources : SourceLayers) where
-  joint_shows : (layers : List Held) (s : State) → StateShows v layers s → (c : Command) (a : JointAction) → c.action ≡ action.Together a → JointShows v base layers sources s c a
+  joint_shows : (layers : List HeldLayer) (s : State) → StateShows v layers s → (c : Command) (a : JointAction) → c.action ≡ action.Together a → JointShows v base layers sources s c a
   joint_shows layers s h c (joint.MergeLayers force) is = let shows = merge_steps_show v base sources layers s h c force is in record { goes = shows.goes; refused = shows.refused }
   joint_shows layers s h c joint.Union is = let shows = union_steps_show v view base seen sources layers s h c is in record { goes = shows.goes; refused = shows.refused }
 
   module _ (owned : SourcesShow v base.sources sources) where
-    step_shows : (layers : List Held) (s : State) → StateShows v layers s → (c : Command) (a : LayerAction) → c.action ≡ action.Each a → StepShows v base layers sources s c a
+    step_shows : (layers : List HeldLayer) (s : State) → StateShows v layers s → (c : Command) (a : LayerAction) → c.action ≡ action.Each a → StepShows v base layers sources s c a
     step_shows layers s h c (layer.Clip from) is = shape_steps_show v view base seen sources owned layers s h c (layer.Clip from) is refl
     step_shows layers s h c (layer.Erase from) is = shape_steps_show v view base seen sources owned layers s h c (layer.Erase from) is refl
     step_shows layers s h c (layer.Dissolve spec group_points) is = shape_steps_show v view base seen sources owned layers s h c (layer.Dissolve spec group_points) is refl
@@ -48,7 +48,7 @@ module _ (v : View) (view : IsView v) (base : Base) (seen : IsSeenIn v base.plan
     step_shows layers s h c (layer.Sort key descending) is = table_steps_show v view base sources owned layers s h c (layer.Sort key descending) is refl
     step_shows layers s h c (layer.Uniq key most invert) is = table_steps_show v view base sources owned layers s h c (layer.Uniq key most invert) is refl
 
-    action_shows : (layers : List Held) (s : State) → StateShows v layers s → (c : Command) (a : Action) → c.action ≡ a → ActionShows v base layers sources s c a
+    action_shows : (layers : List HeldLayer) (s : State) → StateShows v layers s → (c : Command) (a : Action) → c.action ≡ a → ActionShows v base layers sources s c a
     action_shows layers s h c (action.Write to standard form) is =
         let shows = output_steps_show v view base seen sources layers s h c to standard form is in
         record {
@@ -58,7 +58,7 @@ module _ (v : View) (view : IsView v) (base : Base) (seen : IsSeenIn v base.plan
     action_shows layers s h c (action.Each a) is = step_shows layers s h c a is
     action_shows layers s h c (action.Together a) is = joint_shows layers s h c a is
 
-    commands_show : (cs : List Command) (layers : List Held) (s : State) → StateShows v layers s → CommandsShow v base sources layers s cs
+    commands_show : (cs : List Command) (layers : List HeldLayer) (s : State) → StateShows v layers s → CommandsShow v base sources layers s cs
     commands_show [] layers s h = tt
     commands_show (c ∷ cs) layers s h = (action_shows layers s h c c.action refl, λ after t leads shown. commands_show cs after t shown)
 

@@ -18,7 +18,7 @@ use Rattle.run_chain.specs.Running.{BegunRuns, ChainRuns, IsUntold, JobRuns, Run
 use Rattle.chain_model.specs.Headline.{HoldsAfter, Unwritten}
 use Rattle.headline_laws.specs.Outcomes.{outcome_as}
 use Rattle.headline_laws.specs.Refused.{outside_of}
-use Rattle.headline_laws.proofs.CommandFaults.{CommandsEnd, Quiet, commands_end, quiet_by}
+use Rattle.headline_laws.proofs.CommandFaults.{CommandsEnd, DoneOrMemory, commands_end, done_or_memory_by}
 use Rattle.headline_laws.proofs.Unchanged.{keeps, unchanged}
 
 module _ (before after : OutsideSeen) where
@@ -42,29 +42,29 @@ module _ (before after : OutsideSeen) where
   same_left held end.Memory = tt
 
   -- where the run is done, or out of memory
-  quiet_left : (o : Outcome) → Quiet o → Left o
-  quiet_left end.Done q = tt
-  quiet_left (end.BadWords n why) q = absurd q
-  quiet_left (end.ReadFault n) q = absurd q
-  quiet_left (end.Missing n) q = absurd q
-  quiet_left (end.TooLong n) q = absurd q
-  quiet_left (end.BadInput n why) q = absurd q
-  quiet_left (end.TooDense count) q = absurd q
-  quiet_left (end.Refused n why) q = absurd q
-  quiet_left (end.WriteFault n) q = absurd q
-  quiet_left end.Memory q = tt
+  done_or_memory_left : (o : Outcome) → DoneOrMemory o → Left o
+  done_or_memory_left end.Done q = tt
+  done_or_memory_left (end.BadWords n why) q = absurd q
+  done_or_memory_left (end.ReadFault n) q = absurd q
+  done_or_memory_left (end.Missing n) q = absurd q
+  done_or_memory_left (end.TooLong n) q = absurd q
+  done_or_memory_left (end.BadInput n why) q = absurd q
+  done_or_memory_left (end.TooDense count) q = absurd q
+  done_or_memory_left (end.Refused n why) q = absurd q
+  done_or_memory_left (end.WriteFault n) q = absurd q
+  done_or_memory_left end.Memory q = tt
 
   commands_left : (c : Chain) (seen : SourcesSeen) (o : Outcome) → RunsCommands c seen before after o → Left o
   commands_left c seen o r = go r.ran
     where
       ended : CommandsEnd 0 c.commands r.middle after o → Left o
-      ended (inl q) = quiet_left o q
+      ended (inl q) = done_or_memory_left o q
       ended (inr (inl x)) = left_as o (end.Refused (0 + (x.place + 1)) x.why) x.ends tt
       ended (inr (inr f)) = left_as o (end.WriteFault (0 + (f.place + 1))) f.ends tt
 
       go : BegunRuns r.base r.begun c.commands r.middle after o → Left o
       go (inl ran) = ended (commands_end r.base c.commands 0 (first_layers r.begun) r.middle after o ran)
-      go (inr m) = quiet_left o (quiet_by o end.Memory m.0 tt)
+      go (inr m) = done_or_memory_left o (done_or_memory_by o end.Memory m.0 tt)
 
   chain_left : (c : Chain) (seen seen' : SourcesSeen) (o : Outcome) → ChainRuns c seen seen' before after o → Left o
   chain_left c seen seen' o (inl ends) = same_left (keeps before after ends.kept.files ends.kept.stream) o

@@ -6,7 +6,7 @@ use Rattle.job_terms.specs.declared.job.Chain.{Chain}
 use Rattle.job_terms.specs.declared.job.Job.TheVariants as job
 use Rattle.run_sources.specs.Sources.{SourcesSeen}
 use Rattle.run_state.specs.Origins.{Base}
-use Rattle.run_state.specs.declared.state.Held.{Held}
+use Rattle.run_state.specs.declared.state.HeldLayer.{HeldLayer}
 use Rattle.run_outcome.specs.declared.outcome.Outcome.{Outcome}
 use Rattle.run_chain.specs.Effects.{OutsideSeen}
 use Rattle.run_chain.specs.Running.{CommandsRun}
@@ -22,7 +22,7 @@ use Rattle.headline_laws.specs.ChainSteps.{CommandsShow, EachHasText}
 
 -- what begins by the model, over the plane of a view, with the places of the run and the commands of the chain; the
 -- layers show its state
-pub record BeginsSeen (c : Chain) (v : View) (base : Base) (layers : List Held) (b : Begun) : Type 0 where
+pub record BeginsSeen (c : Chain) (v : View) (base : Base) (layers : List HeldLayer) (b : Begun) : Type 0 where
   pub is_view : IsView v
   pub plane : b.plane ≡ plane_of v
   pub places : b.places ≡ base.places
@@ -31,5 +31,5 @@ pub record BeginsSeen (c : Chain) (v : View) (base : Base) (layers : List Held) 
 
 abbrev pub CommandsAreBound : Type 0
 CommandsAreBound = (read : Readings) (line : List Content) (c : Chain) (seen : SourcesSeen) (files : FileMap) (bytes : Content) → IsAsked read line (job.Chain c) seen files bytes →
-    (b : Begun) → begins read c files bytes ≡ Ok b → (v : View) (base : Base) (layers : List Held) → BeginsSeen c v base layers b → CommandsShow v base b.sources layers b.state c.commands → EachHasText v base →
+    (b : Begun) → begins read c files bytes ≡ Ok b → (v : View) (base : Base) (layers : List HeldLayer) → BeginsSeen c v base layers b → CommandsShow v base b.sources layers b.state c.commands → EachHasText v base →
     (before after : OutsideSeen) (o : Outcome) → CommandsRun base 0 layers c.commands before after o → Binds read (words_say read.refusals line) files bytes (outside_of before) (outside_of after) (outcome_as o)

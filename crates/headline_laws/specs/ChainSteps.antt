@@ -10,7 +10,7 @@ use Rattle.job_terms.specs.declared.job.OutForm.{OutForm}
 use Rattle.run_state.specs.Origins.{Base}
 use Rattle.run_state.specs.Targets.{targets}
 use Rattle.run_state.specs.declared.refusal.RefuseWhy.{RefuseWhy}
-use Rattle.run_state.specs.declared.state.Held.{Held}
+use Rattle.run_state.specs.declared.state.HeldLayer.{HeldLayer}
 use Rattle.run_steps.specs.Commands.{ChangesTogether}
 use Rattle.run_steps.specs.Refusals.{refusal_together}
 use Rattle.run_texts.specs.Written.{OutputSays, refused_output}
@@ -26,24 +26,24 @@ use Rattle.state_laws.specs.Steps.{StepGives, StepRefuses, StepShows}
 -- ---- one command
 
 -- a command that takes the layers of its target together
-pub record JointShows (v : View) (base : Base) (layers : List Held) (sources : SourceLayers) (s : State) (c : Command) (a : JointAction) : Type 0 where
-  pub goes : refusal_together layers c a ≡ None → (after : List Held) → ChangesTogether base c a layers after → StepGives v sources s c after
+pub record JointShows (v : View) (base : Base) (layers : List HeldLayer) (sources : SourceLayers) (s : State) (c : Command) (a : JointAction) : Type 0 where
+  pub goes : refusal_together layers c a ≡ None → (after : List HeldLayer) → ChangesTogether base c a layers after → StepGives v sources s c after
   pub refused : (why : RefuseWhy) → refusal_together layers c a ≡ Some why → StepRefuses v sources s c why
 
 -- an output goes to the same place, and what it says is a text of what the state's step writes
-pub record WriteGives (v : View) (base : Base) (layers : List Held) (sources : SourceLayers) (s : State) (c : Command) (to : Text) (standard : Bool) (form : OutForm) : Type 0 where
+pub record WriteGives (v : View) (base : Base) (layers : List HeldLayer) (sources : SourceLayers) (s : State) (c : Command) (to : Text) (standard : Bool) (form : OutForm) : Type 0 where
   pub written : Written
   pub gives : step (plane_of v) v.answers sources s c ≡ Ok (record { state = s; written = Some written })
   pub to_there : written.to ≡ to
   pub to_stream : written.standard ≡ standard
   pub text : (text : Content) → OutputSays base form (targets c.target layers) text → IsTextOf (plane_of v) v.answers base.places written text
 
-pub record WriteShows (v : View) (base : Base) (layers : List Held) (sources : SourceLayers) (s : State) (c : Command) (to : Text) (standard : Bool) (form : OutForm) : Type 0 where
+pub record WriteShows (v : View) (base : Base) (layers : List HeldLayer) (sources : SourceLayers) (s : State) (c : Command) (to : Text) (standard : Bool) (form : OutForm) : Type 0 where
   pub goes : refused_output c.target form layers ≡ None → WriteGives v base layers sources s c to standard form
   pub refused : (why : RefuseWhy) → refused_output c.target form layers ≡ Some why → StepRefuses v sources s c why
 
 -- what a command does to layers shows what the state's step does, and both refuse for the same reason
-abbrev pub ActionShows : View → Base → List Held → SourceLayers → State → Command → Action → Type 0
+abbrev pub ActionShows : View → Base → List HeldLayer → SourceLayers → State → Command → Action → Type 0
 ActionShows v base layers sources s c (action.Write to standard form) = WriteShows v base layers sources s c to standard form
 ActionShows v base layers sources s c (action.Each a) = StepShows v base layers sources s c a
 ActionShows v base layers sources s c (action.Together a) = JointShows v base layers sources s c a
@@ -51,14 +51,14 @@ ActionShows v base layers sources s c (action.Together a) = JointShows v base la
 -- ---- all of them
 
 -- the command isn't refused, and leaves these layers
-abbrev pub LeadsTo : Base → Command → List Held → List Held → Type 0
+abbrev pub LeadsTo : Base → Command → List HeldLayer → List HeldLayer → Type 0
 LeadsTo base c layers after = (seen seen' : OutsideSeen) × Passes base c layers after seen seen'
 
 -- each does, over whatever layers those before it lead to
-abbrev pub CommandsShow : View → Base → SourceLayers → List Held → State → List Command → Type 0
+abbrev pub CommandsShow : View → Base → SourceLayers → List HeldLayer → State → List Command → Type 0
 CommandsShow v base sources layers s [] = ⊤
 CommandsShow v base sources layers s (c ∷ cs) = ActionShows v base layers sources s c c.action
-    × ((after : List Held) (t : State) → LeadsTo base c layers after → StateShows v after t → CommandsShow v base sources after t cs)
+    × ((after : List HeldLayer) (t : State) → LeadsTo base c layers after → StateShows v after t → CommandsShow v base sources after t cs)
 
 -- ---- texts
 

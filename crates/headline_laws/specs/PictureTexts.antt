@@ -11,7 +11,7 @@ use Rattle.run_plane.specs.declared.layer.Layer.{Layer}
 use Rattle.run_state.specs.Origins.{Base}
 use Rattle.run_state.specs.Targets.{targets}
 use Rattle.run_state.specs.declared.refusal.RefuseWhy.{RefuseWhy}
-use Rattle.run_state.specs.declared.state.Held.{Held}
+use Rattle.run_state.specs.declared.state.HeldLayer.{HeldLayer}
 use Rattle.run_texts.specs.Written.{IsCsvText, IsGeoText, IsTopoText, OutputSays, refused_output}
 use Rattle.chain_model.specs.Pictures.{IsTextOf}
 use Rattle.chain_model.specs.State.{State, StateLayer}
@@ -47,11 +47,11 @@ TextsExist = (v : View) → IsView v → (places : ℕ) (w : Written) → (text 
 
 -- The state's step writes to the same place, and what the run's output says is a text of what it writes; or both refuse
 -- for the same reason.
-pub record OutputShows (v : View) (base : Base) (layers : List Held) (sources : SourceLayers) (s : State) (c : Command) (to : Text) (standard : Bool) (f : OutForm) : Type 0 where
+pub record OutputShows (v : View) (base : Base) (layers : List HeldLayer) (sources : SourceLayers) (s : State) (c : Command) (to : Text) (standard : Bool) (f : OutForm) : Type 0 where
   pub goes : refused_output c.target f layers ≡ None → (w : Written) × (step (plane_of v) v.answers sources s c ≡ Ok (record { state = s; written = Some w }))
       × (w.to ≡ to) × (w.standard ≡ standard) × ((text : Content) → OutputSays base f (targets c.target layers) text → IsTextOf (plane_of v) v.answers base.places w text)
   pub refused : (why : RefuseWhy) → refused_output c.target f layers ≡ Some why → StepRefuses v sources s c why
 
 abbrev pub OutputStepsShow : Type 0
-OutputStepsShow = (v : View) → IsView v → (base : Base) → IsSeenIn v base.plane → (sources : SourceLayers) (layers : List Held) (s : State) → StateShows v layers s →
+OutputStepsShow = (v : View) → IsView v → (base : Base) → IsSeenIn v base.plane → (sources : SourceLayers) (layers : List HeldLayer) (s : State) → StateShows v layers s →
     (c : Command) (to : Text) (standard : Bool) (f : OutForm) → c.action ≡ does.Write to standard f → OutputShows v base layers sources s c to standard f

@@ -83,13 +83,13 @@ module _ (s : Segment) (g : GridPoint) (a b : ℤ) (ea : a ≡ s.stop.x -ℤ s.s
         le_of_mul-le_ℤ W (pos 2 *ℤ (b *ℤ u -ℤ a *ℤ v)) (reach a b) positive (omega order),
       )
 
-  -- an area left of the line: (x, y) is where the determinant is least
+  -- a rectangle left of the line: (x, y) is where the determinant is least
   pub left_aside : (x y r cross twice : ℤ) → (b *ℤ u) ≤ℤ (b *ℤ x) → (a *ℤ y) ≤ℤ (a *ℤ v) → r ≡ reach a b → cross ≡ a *ℤ y -ℤ b *ℤ x → twice ≡ pos 2 *ℤ cross → r <ℤ twice → meets s g ≡ false
   left_aside x y r cross twice h k er ec et l = by_test (meets s g) (λ e. absurd (
       let n = (near_the_line ((meets_is_computed s g).0 e)).0 in
       omega order)) (λ e. e)
 
-  -- an area right of it
+  -- a rectangle right of it
   pub right_aside : (x y r cross twice : ℤ) → (b *ℤ x) ≤ℤ (b *ℤ u) → (a *ℤ v) ≤ℤ (a *ℤ y) → r ≡ reach a b → cross ≡ b *ℤ x -ℤ a *ℤ y → twice ≡ pos 2 *ℤ cross → r <ℤ twice → meets s g ≡ false
   right_aside x y r cross twice h k er ec et l = by_test (meets s g) (λ e. absurd (
       let n = (near_the_line ((meets_is_computed s g).0 e)).1 in

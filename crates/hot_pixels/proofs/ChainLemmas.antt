@@ -121,9 +121,9 @@ met_ascending : (s : Segment) (points : List GridPoint) → AllPairs (λ p q. Is
 met_ascending s points up =
     ascending_of_pairs is_before (λ p q. IsTrue (is_before p q)) (filter (meets s) points) (AllPairs-filter (λ p q. IsTrue (is_before p q)) (meets s) points up) (λ x y c d r. r)
 
-pub chain_length : (s : Segment) (points mixed : List GridPoint) → AllPairs (λ p q. IsTrue (is_before p q)) points → IsPermutation points mixed → count_by (meets s) mixed ≡ length (chain_among points s)
-chain_length s points mixed up moved =
-    sum_by-IsPermutation (λ y. cond (meets s y) 1 0) points mixed moved
+pub chain_length : (s : Segment) (points curved : List GridPoint) → AllPairs (λ p q. IsTrue (is_before p q)) points → IsPermutation points curved → count_by (meets s) curved ≡ length (chain_among points s)
+chain_length s points curved up moved =
+    sum_by-IsPermutation (λ y. cond (meets s y) 1 0) points curved moved
     ∙ sym (ascending-length (is_passed_before s) (passed-IsStrictOrder s) (filter (meets s) points) (met_ascending s points up) ∙ length-filter (meets s) points)
 
 not_less : (a b : ℤ) → is_lt (int_cmp a b) ≡ false → b ≤ℤ a
@@ -219,16 +219,16 @@ module _ (s : Segment) (points : List GridPoint) where
 pub up_once : (points : List GridPoint) → AllPairs (λ p q. IsTrue (is_before p q)) points → (g : GridPoint) → times g points ≤ 1
 up_once points up g = at_most_once points (ascending_of_pairs is_before (λ p q. IsTrue (is_before p q)) points up (λ x y c d r. r)) g
 
-module _ (s : Segment) (points mixed sorted : List GridPoint) (up : AllPairs (λ p q. IsTrue (is_before p q)) points) (placed_so : IsPermutation points mixed) (moved : IsPermutation (filter (meets s) mixed) sorted) (in_order : IsSortedByKey (order_key s) int_cmp sorted) where
-  are_met : AreMet s points (filter (meets s) mixed)
+module _ (s : Segment) (points curved sorted : List GridPoint) (up : AllPairs (λ p q. IsTrue (is_before p q)) points) (placed_so : IsPermutation points curved) (moved : IsPermutation (filter (meets s) curved) sorted) (in_order : IsSortedByKey (order_key s) int_cmp sorted) where
+  are_met : AreMet s points (filter (meets s) curved)
   are_met = record {
-    from = λ g c. let m = filter-Contains (meets s) mixed g c in (Contains-permutation mixed points g (IsPermutation-sym points mixed placed_so) m.0, m.1);
-    to = λ g c m. Contains-filter (meets s) mixed g (Contains-permutation points mixed g placed_so c) m;
+    from = λ g c. let m = filter-Contains (meets s) curved g c in (Contains-permutation curved points g (IsPermutation-sym points curved placed_so) m.0, m.1);
+    to = λ g c m. Contains-filter (meets s) curved g (Contains-permutation points curved g placed_so c) m;
   }
 
   pub sorted_is_chain : sorted ≡ chain_among points s
-  sorted_is_chain = once_is_chain s points (filter (meets s) mixed) sorted are_met moved
-      (λ g. let b = kept_times g (meets s) mixed in let c = moved_times g points mixed placed_so in let d = up_once points up g in omega arith)
+  sorted_is_chain = once_is_chain s points (filter (meets s) curved) sorted are_met moved
+      (λ g. let b = kept_times g (meets s) curved in let c = moved_times g points curved placed_so in let d = up_once points up g in omega arith)
       in_order
 
 -- ---- the chains of a drawing are those of its hot points, ascending

@@ -1,4 +1,4 @@
--- The crossings of boxes near each area are all crossings.
+-- The crossings of boxes near each rectangle are all crossings.
 use Rattle.std.proofs.Common.{◌≡◌, inl, inr, refl, sym, ap, ◌∙◌, subst, arith, ℕ, ◌<◌, ltb, Bool, true, false, cond, List, [], length, get_or, map, Option, Some, None, Contains, ℤ, pos, ◌+ℤ◌, ◌-ℤ◌, ◌*ℤ◌, ◌≤ℤ◌, int_le}
 use Rattle.std.specs.List.{slice_get}
 use Rattle.std.specs.Option.{option_to_list}
@@ -18,12 +18,12 @@ use Rattle.plane_snapping.proofs.Readings.{on_of_mean}
 use Rattle.plane_snapping.proofs.PixelOf.{in_own_pixel}
 use Rattle.plane_snapping.proofs.Boxes.{crossings_lie_in_both_boxes}
 use Rattle.grid_base.specs.Grid.{Corners}
-use Rattle.bucket_grid.specs.Areas.{AreaLists, Holds, share_point, boxes_near}
+use Rattle.bucket_grid.specs.Rects.{RectLists, Holds, share_point, boxes_near}
 use Rattle.bucket_grid.proofs.SharedPoints.{overlap_to}
 use Rattle.bucket_grid.proofs.Numbers.{Contains-numbers_where}
 use Rattle.grid_base.specs.Boxes.{box_of, lesser, greater}
 use Rattle.hot_pixels.specs.Spots.{is_end, share_end, crossing_at, crossing_between, crossings_with, crossings_among}
-use Rattle.hot_pixels.specs.Quiet.{IsEndOf}
+use Rattle.hot_pixels.specs.Marking.{IsEndOf}
 use Rattle.hot_pixels.specs.Crossing.{HasGridEnds}
 use Rattle.hot_pixels.specs.Found.{IsCrossingOf, HasAllCrossings, HasCrossingsBefore, AreBucketsOver}
 use Rattle.hot_pixels.proofs.Shares.{crossing_on_grid}
@@ -185,37 +185,37 @@ listed_crosses spots near g c =
 same_spot : (spots : List Segment) (i j : ℕ) (s t : Segment) → j ≡ i → i < length spots → get_or spots i s ≡ s → get_or spots j t ≡ t → t ≡ s
 same_spot spots i j s t e l f g = sym g ∙ ap (λ (n : ℕ). get_or spots n t) e ∙ get_or_default spots i t s l ∙ f
 
--- spot i is near an area that holds a point of its box
-pub near_area : (spots : List Segment) (i : ℕ) (s : Segment) (area : Corners) (g : GridPoint) → i < length spots → get_or spots i s ≡ s → Holds area g → IsInBox s g → Contains (boxes_near (map box_of spots) area) i
-near_area spots i s area g l e a b =
-    Contains-numbers_where (share_point area) (map box_of spots) i (box_of s) (let n : length (map box_of spots) ≡ length spots = simp length-map in omega arith)
-    (ap (share_point area) (get_or-map box_of spots i s (box_of s) l ∙ ap box_of e) ∙ shared area (box_of s) g a (box_holds s g b))
+-- spot i is near a rectangle that holds a point of its box
+pub near_rect : (spots : List Segment) (i : ℕ) (s : Segment) (rect : Corners) (g : GridPoint) → i < length spots → get_or spots i s ≡ s → Holds rect g → IsInBox s g → Contains (boxes_near (map box_of spots) rect) i
+near_rect spots i s rect g l e a b =
+    Contains-numbers_where (share_point rect) (map box_of spots) i (box_of s) (let n : length (map box_of spots) ≡ length spots = simp length-map in omega arith)
+    (ap (share_point rect) (get_or-map box_of spots i s (box_of s) l ∙ ap box_of e) ∙ shared rect (box_of s) g a (box_holds s g b))
 
 -- ---- what crosses is listed
 
-module _ (spots : List Segment) (buckets : AreaLists) (b : AreBucketsOver spots buckets) (old new : List GridPoint) (h : HasCrossingsBefore (length buckets.near) buckets.near spots old new) where
+module _ (spots : List Segment) (buckets : RectLists) (b : AreBucketsOver spots buckets) (old new : List GridPoint) (h : HasCrossingsBefore (length buckets.near) buckets.near spots old new) where
   abbrev boxes : List Corners
   boxes = map box_of spots
 
-  near_listed : (place : ℕ) (area : Corners) → place < length buckets.areas → get_or buckets.areas place area ≡ area → slice_get buckets.near place ≡ Some (boxes_near boxes area)
-  near_listed place area l e =
+  near_listed : (place : ℕ) (rect : Corners) → place < length buckets.rects → get_or buckets.rects place rect ≡ rect → slice_get buckets.near place ≡ Some (boxes_near boxes rect)
+  near_listed place rect l e =
       ap (λ (lists : List (List ℕ)). slice_get lists place) b.near
-      ∙ slice_get-get_or (map (boxes_near boxes) buckets.areas) place (boxes_near boxes area) (let n : length (map (boxes_near boxes) buckets.areas) ≡ length buckets.areas = simp length-map in omega arith)
-      ∙ ap Some (get_or-map (boxes_near boxes) buckets.areas place area (boxes_near boxes area) l ∙ ap (boxes_near boxes) e)
+      ∙ slice_get-get_or (map (boxes_near boxes) buckets.rects) place (boxes_near boxes rect) (let n : length (map (boxes_near boxes) buckets.rects) ≡ length buckets.rects = simp length-map in omega arith)
+      ∙ ap Some (get_or-map (boxes_near boxes) buckets.rects place rect (boxes_near boxes rect) l ∙ ap (boxes_near boxes) e)
 
   ordered : (i j : ℕ) (s t : Segment) (g : GridPoint) → i < j → i < length spots → j < length spots → get_or spots i s ≡ s → get_or spots j t ≡ t → share_end s t ≡ false → crossing_pixel s t ≡ Some g → Contains new g
   ordered i j s t g l li lj ei ej apart e =
       let in_boxes = crossings_lie_in_both_boxes s t g e in
       let on_grid = crossing_on_grid s t (All-contains HasGridEnds spots s b.on_grid (i, li, ei)) g e in
       let place = b.places g on_grid in
-      let area : Corners = get_or buckets.areas place.0 (box_of s) in
+      let rect : Corners = get_or buckets.rects place.0 (box_of s) in
       let held = place.1.held (box_of s) in
-      let near : List ℕ = boxes_near boxes area in
-      let at : slice_get buckets.near place.0 ≡ Some near = near_listed place.0 area place.1.below (get_or_default buckets.areas place.0 area (box_of s) place.1.below) in
+      let near : List ℕ = boxes_near boxes rect in
+      let at : slice_get buckets.near place.0 ≡ Some near = near_listed place.0 rect place.1.below (get_or_default buckets.rects place.0 rect (box_of s) place.1.below) in
       let si : slice_get spots i ≡ Some s = slice_get-get_or spots i s li ∙ ap Some ei in
       let sj : slice_get spots j ≡ Some t = slice_get-get_or spots j t lj ∙ ap Some ej in
       let crossing : crossing_at spots i j ≡ Some g = ap (λ (b : Bool). cond b (crossing_between (slice_get spots i) (slice_get spots j)) None) (lt-ltb i j l) ∙ (λ k. crossing_between (si k) (sj k)) ∙ ap (λ (b : Bool). cond b None (crossing_pixel s t)) apart ∙ e in
-      (h.holds place.0 (slice_get_within buckets.near place.0 near at) near at).all i j g (near_area spots i s area g li ei held in_boxes.0) (near_area spots j t area g lj ej held in_boxes.1) crossing
+      (h.holds place.0 (slice_get_within buckets.near place.0 near at) near at).all i j g (near_rect spots i s rect g li ei held in_boxes.0) (near_rect spots j t rect g lj ej held in_boxes.1) crossing
 
   crossing_listed : (s t : Segment) (g : GridPoint) → Contains spots s → Contains spots t → share_end s t ≡ false → crossing_pixel s t ≡ Some g → Contains new g
   crossing_listed s t g c d apart e = elim (cases_lt c.0 d.0) [

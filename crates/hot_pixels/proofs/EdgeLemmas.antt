@@ -10,7 +10,7 @@ use Rattle.plane_model.specs.Pixel.{meets, crossing_pixel}
 use Rattle.plane_snapping.proofs.CrossingComputed.{crossing_is_computed}
 use Rattle.plane_snapping.proofs.MeetsComputed.{meets_is_computed}
 use Rattle.hot_pixels.specs.Edges.{IsEdgeOf, AreEdgesOf, IsEdgeAdded}
-use Rattle.hot_pixels.specs.Quiet.{IsEndOf, MeetsEndsAlone}
+use Rattle.hot_pixels.specs.Marking.{IsEndOf, MeetsEndsAlone}
 use Rattle.hot_pixels.proofs.CrossingLemmas.{crossing_turned}
 
 -- ---- back along a segment

@@ -14,7 +14,7 @@ use Rattle.hot_pixels.specs.Spots.{is_end}
 use Rattle.hot_pixels.specs.Edges.{HasEdgeAt}
 use Rattle.hot_pixels.specs.declared.meetings.Meeting.{Meeting}
 use Rattle.hot_pixels.specs.Meetings.{AreMetBack}
-use Rattle.hot_pixels.specs.Quiet.{IsEndOf, IsFound, AreMarks, AreEndsAnd, AreLookedUp, ends_of, others_of}
+use Rattle.hot_pixels.specs.Marking.{IsEndOf, IsFound, AreMarks, AreEndsAnd, AreLookedUp, ends_of, others_of}
 use Rattle.hot_pixels.proofs.EdgeLemmas.{meets_along, meets_back, end_along}
 use Rattle.hot_pixels.proofs.MeetingLemmas.{back_found}
 use Rattle.hot_pixels.proofs.ChainLemmas.{AreMet}

@@ -10,7 +10,7 @@ pub mod ChainLemmas
 pub mod NearLemmas
 pub mod AsideLemmas
 pub mod MeetingLemmas
-pub mod QuietLemmas
+pub mod MarkingLemmas
 pub mod KeyLemmas
 pub mod EdgeLemmas
 pub mod InnerLemmas

@@ -13,7 +13,7 @@ use Rattle.plane_model.specs.Pixel.{meets}
 use Rattle.bucket_grid.proofs.Growth.{slice_get-append_left, slice_get-append_end}
 use Rattle.hot_pixels.specs.declared.meetings.Meeting.{Meeting}
 use Rattle.hot_pixels.specs.Meetings.{meeting_at, count_to, AreBack, IsListed, AreMetBack, AreLists, AddsMeetings}
-use Rattle.hot_pixels.specs.Quiet.{IsEndOf, AreEndsAnd}
+use Rattle.hot_pixels.specs.Marking.{IsEndOf, AreEndsAnd}
 
 -- ---- lists of marks that change at one place
 
@@ -69,7 +69,7 @@ module _ (meetings : List Meeting) where
 
 -- ---- a walk back
 
--- so many points have been added to those from which it began, from the last one back to a place: with the rest they are all
+-- `count` points have been added to those from which it began, from the last one back to a place: with the rest they are all
 pub record IsWalked (meetings : List Meeting) (last : Option ℕ) (begun met : List GridPoint) (at : Option ℕ) (count : ℕ) : Type 0 where
   pub many : length met ≡ length begun + count
   pub rest : (points : List GridPoint) → AreBack meetings last points → (rest : List GridPoint) × AreBack meetings at rest × (met ++ rest ≡ begun ++ points)

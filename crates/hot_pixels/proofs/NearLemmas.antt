@@ -13,7 +13,7 @@ use Rattle.plane_model.specs.Pixel.{meets, crossing_pixel, IsInBox}
 use Rattle.plane_snapping.proofs.Boxes.{met_pixels_lie_in_the_box, crossings_lie_in_both_boxes}
 use Rattle.plane_snapping.proofs.MeetsComputed.{meets_is_computed}
 use Rattle.grid_base.specs.Grid.{Corners}
-use Rattle.bucket_grid.specs.Areas.{Holds}
+use Rattle.bucket_grid.specs.Rects.{Holds}
 use Rattle.grid_base.specs.Boxes.{lesser, greater, box_of}
 use Rattle.hot_pixels.specs.Near.{HoldsMore, HoldsBetween, MeetsNoneBetween, is_outside}
 use Rattle.hot_pixels.proofs.CrossingLemmas.{box_holds}
@@ -33,12 +33,12 @@ chosen a b false e =
 between : (a b : ℤ) → IsBetween a b
 between a b = let h = chosen a b (int_le a b) refl in record { low_left = h.0; low_right = h.1; high_left = h.2; high_right = h.3 }
 
-pub grown : (area wide : Corners) (p : GridPoint) → wide ≡ record { low = (box_of (record { start = area.low; stop = p })).low; high = (box_of (record { start = area.high; stop = p })).high } → HoldsMore area p wide
-grown area wide p e = subst (HoldsMore area p) (sym e) (
-    let lx = between area.low.x p.x in
-    let ly = between area.low.y p.y in
-    let hx = between area.high.x p.x in
-    let hy = between area.high.y p.y in
+pub grown : (rect wide : Corners) (p : GridPoint) → wide ≡ record { low = (box_of (record { start = rect.low; stop = p })).low; high = (box_of (record { start = rect.high; stop = p })).high } → HoldsMore rect p wide
+grown rect wide p e = subst (HoldsMore rect p) (sym e) (
+    let lx = between rect.low.x p.x in
+    let ly = between rect.low.y p.y in
+    let hx = between rect.high.x p.x in
+    let hy = between rect.high.y p.y in
     record {
       point = record { left = lx.low_right; right = hx.high_right; lower = ly.low_right; upper = hy.high_right };
       others = λ g h.
@@ -65,7 +65,7 @@ module _ (s : Segment) (xs : List GridPoint) (d : GridPoint) where
   pub none_counted : (from stop : ℕ) → from ≤ stop → stop ≤ length xs → MeetsNoneBetween s xs from stop → count_by (meets s) (take stop xs) ≡ count_by (meets s) (take from xs)
   none_counted from stop l m h = sym (length-filter (meets s) (take stop xs)) ∙ ap (λ (ys : List GridPoint). length ys) (none_met from stop l m h) ∙ length-filter (meets s) (take from xs)
 
--- ---- areas beside a segment
+-- ---- rectangles beside a segment
 
 outside_not : (a b low high g : ℤ) → is_outside a b low high ≡ true → low ≤ℤ g → g ≤ℤ high → SameWay (g -ℤ a) (b -ℤ g) → ⊥
 outside_not a b low high g e l m w = or_cases (int_lt a low && int_lt b low) (int_lt high a && int_lt high b) e
@@ -83,16 +83,16 @@ outside_not a b low high g e l m w = or_cases (int_lt a low && int_lt b low) (in
 not_in_box : (s : Segment) (g : GridPoint) → (IsInBox s g → ⊥) → meets s g ≡ false
 not_in_box s g n = by_test (meets s g) (λ e. absurd (n (met_pixels_lie_in_the_box s g ((meets_is_computed s g).0 e)))) (λ e. e)
 
-pub beside_across : (s : Segment) (area : Corners) (g : GridPoint) → is_outside s.start.x s.stop.x area.low.x area.high.x ≡ true → Holds area g → meets s g ≡ false
-beside_across s area g e h = not_in_box s g (λ b. outside_not s.start.x s.stop.x area.low.x area.high.x g.x e h.left h.right b.0)
+pub beside_across : (s : Segment) (rect : Corners) (g : GridPoint) → is_outside s.start.x s.stop.x rect.low.x rect.high.x ≡ true → Holds rect g → meets s g ≡ false
+beside_across s rect g e h = not_in_box s g (λ b. outside_not s.start.x s.stop.x rect.low.x rect.high.x g.x e h.left h.right b.0)
 
-pub beside_upward : (s : Segment) (area : Corners) (g : GridPoint) → is_outside s.start.y s.stop.y area.low.y area.high.y ≡ true → Holds area g → meets s g ≡ false
-beside_upward s area g e h = not_in_box s g (λ b. outside_not s.start.y s.stop.y area.low.y area.high.y g.y e h.lower h.upper b.1)
+pub beside_upward : (s : Segment) (rect : Corners) (g : GridPoint) → is_outside s.start.y s.stop.y rect.low.y rect.high.y ≡ true → Holds rect g → meets s g ≡ false
+beside_upward s rect g e h = not_in_box s g (λ b. outside_not s.start.y s.stop.y rect.low.y rect.high.y g.y e h.lower h.upper b.1)
 
--- ---- an area that grows by one point
+-- ---- a rectangle that grows by one point
 
-pub holds_more : (area wide : Corners) (points : List GridPoint) (start k : ℕ) (p d : GridPoint) → HoldsBetween area points start k → HoldsMore area p wide → k < length points → p ≡ get_or points k d → HoldsBetween wide points start (k + 1)
-holds_more area wide points start k p d h m l e = record {
+pub holds_more : (rect wide : Corners) (points : List GridPoint) (start k : ℕ) (p d : GridPoint) → HoldsBetween rect points start k → HoldsMore rect p wide → k < length points → p ≡ get_or points k d → HoldsBetween wide points start (k + 1)
+holds_more rect wide points start k p d h m l e = record {
   held = λ j c a b. elim (cases_lt j k) [
     | inl n ↦ m.others (get_or points j c) (h.held j c a n)
     | inr n ↦ (let same : k ≡ j = omega arith in subst (Holds wide) (e ∙ get_or_default points k d c l ∙ ap (λ (i : ℕ). get_or points i c) same) m.point)

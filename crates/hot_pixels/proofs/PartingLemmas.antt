@@ -12,7 +12,7 @@ use Rattle.plane_snapping.proofs.Means.{IsAt, IsMean}
 use Rattle.plane_snapping.proofs.Readings.{mean_of_on}
 use Rattle.plane_snapping.proofs.Links.{flip_mean}
 use Rattle.hot_pixels.specs.Spots.{is_end, share_end}
-use Rattle.hot_pixels.specs.Quiet.{IsEndOf}
+use Rattle.hot_pixels.specs.Marking.{IsEndOf}
 use Rattle.hot_pixels.specs.Parting.{side, are_left, is_left}
 use Rattle.hot_pixels.proofs.CrossingLemmas.{share_end-turned}
 

@@ -3,7 +3,7 @@ use Rattle.std.specs.Prelude.{◌≡◌, ◌⊎◌, ℕ, ◌<◌, false, List, m
 use Rattle.plane_model.specs.Points.{GridPoint, Segment}
 use Rattle.plane_model.specs.Pixel.{crossing_pixel}
 use Rattle.grid_base.specs.Grid.{IsOnGrid}
-use Rattle.bucket_grid.specs.Areas.{AreaLists, IsPlaceOf, boxes_near}
+use Rattle.bucket_grid.specs.Rects.{RectLists, IsPlaceOf, boxes_near}
 use Rattle.hot_pixels.specs.Crossing.{HasGridEnds}
 use Rattle.grid_base.specs.Boxes.{box_of}
 use Rattle.hot_pixels.specs.Spots.{share_end, crossing_at}
@@ -40,8 +40,8 @@ pub record HasAllCrossings (spots : List Segment) (old new : List GridPoint) : T
   pub adds : AddsCrossings spots old new
   pub all : (s t : Segment) (g : GridPoint) → Contains spots s → Contains spots t → share_end s t ≡ false → crossing_pixel s t ≡ Some g → Contains new g
 
--- a partition of the grid, and for each area the spots whose boxes share a grid point with it
-pub record AreBucketsOver (spots : List Segment) (buckets : AreaLists) : Type 0 where
+-- a partition of the grid, and for each rectangle the spots whose boxes share a grid point with it
+pub record AreBucketsOver (spots : List Segment) (buckets : RectLists) : Type 0 where
   pub on_grid : All HasGridEnds spots
-  pub places : (g : GridPoint) → IsOnGrid g → (k : ℕ) × IsPlaceOf buckets.areas g k
-  pub near : buckets.near ≡ map (boxes_near (map box_of spots)) buckets.areas
+  pub places : (g : GridPoint) → IsOnGrid g → (k : ℕ) × IsPlaceOf buckets.rects g k
+  pub near : buckets.near ≡ map (boxes_near (map box_of spots)) buckets.rects

@@ -7,6 +7,6 @@ pub mod Stops
 pub mod Chains
 pub mod Near
 pub mod Meetings
-pub mod Quiet
+pub mod Marking
 pub mod Keys
 pub mod Edges

@@ -4,17 +4,17 @@ use Rattle.std.specs.List.Sorted.{IsPermutation}
 use Rattle.plane_model.specs.Points.{GridPoint, Segment, is_before}
 use Rattle.plane_model.specs.Pixel.{meets}
 use Rattle.grid_base.specs.Grid.{Corners}
-use Rattle.bucket_grid.specs.Areas.{Holds}
+use Rattle.bucket_grid.specs.Rects.{Holds}
 use Rattle.hot_pixels.specs.declared.near.Run.{Run}
 
--- the area holds each point from place start to below stop
-pub record HoldsBetween (area : Corners) (points : List GridPoint) (start stop : ℕ) : Type 0 where
-  pub held : (k : ℕ) (d : GridPoint) → start ≤ k → k < stop → Holds area (slice_index_or points k d)
+-- the rectangle holds each point from place start to below stop
+pub record HoldsBetween (rect : Corners) (points : List GridPoint) (start stop : ℕ) : Type 0 where
+  pub held : (k : ℕ) (d : GridPoint) → start ≤ k → k < stop → Holds rect (slice_index_or points k d)
 
--- the wide area holds p, and what the area holds
-pub record HoldsMore (area : Corners) (p : GridPoint) (wide : Corners) : Type 0 where
+-- the wide rectangle holds p, and what the rectangle holds
+pub record HoldsMore (rect : Corners) (p : GridPoint) (wide : Corners) : Type 0 where
   pub point : Holds wide p
-  pub others : (g : GridPoint) → Holds area g → Holds wide g
+  pub others : (g : GridPoint) → Holds rect g → Holds wide g
 
 -- a and b are both below low, or both above high
 abbrev pub is_outside : ℤ → ℤ → ℤ → ℤ → Bool
@@ -23,7 +23,7 @@ is_outside a b low high = (int_lt a low && int_lt b low) || (int_lt high a && in
 -- the run is one of these points
 pub record HoldsRun (points : List GridPoint) (r : Run) : Type 0 where
   pub stop : r.stop ≤ length points
-  pub held : HoldsBetween r.area points r.start r.stop
+  pub held : HoldsBetween r.rect points r.start r.stop
 
 -- s meets no point from place start to below stop
 pub record MeetsNoneBetween (s : Segment) (points : List GridPoint) (start stop : ℕ) : Type 0 where

@@ -2,7 +2,7 @@ ghost use Rattle.std.specs.Prelude.{◌≡◌, ℤ, pos, ◌+ℤ◌, ◌*ℤ◌,
 ghost use Rattle.plane_model.specs.Points.{GridPoint as Point};
 ghost use Rattle.plane_model.specs.Pixel.{meets};
 ghost use Rattle.grid_base.specs.Sizes.{IsStep, IsCross};
-ghost use Rattle.bucket_grid.specs.Areas.{Holds};
+ghost use Rattle.bucket_grid.specs.Rects.{Holds};
 
 use grid_base::{Rect, Seg, determinant, step};
 
@@ -42,15 +42,15 @@ fn doubled(cross: i128) -> i128
     2 * cross
 }
 
-/// Whether an area lies so far on one side of a segment's line that the segment meets the pixel of no point there.
+/// Whether a rectangle lies so far on one side of a segment's line that the segment meets the pixel of no point there.
 ///
-/// Cost: two determinants in 128 bits, one where the area is on the left.
-pub fn is_aside(area: Rect, s: &Seg) -> bool
-    ensures passed { (g : Point) → IsTrue result → Holds area g → meets s.now g ≡ false }
+/// Cost: two determinants in 128 bits, one where the rectangle is on the left.
+pub fn is_aside(rect: Rect, s: &Seg) -> bool
+    ensures passed { (g : Point) → IsTrue result → Holds rect g → meets s.now g ≡ false }
 {
     let (dx, dy) = step(s.a(), s.b());
-    let (west, south) = step(s.a(), area.low());
-    let (east, north) = step(s.a(), area.high());
+    let (west, south) = step(s.a(), rect.low());
+    let (east, north) = step(s.a(), rect.high());
     let reach = reach_of(dx, dy);
     let left = determinant(
         dx,

@@ -5,16 +5,16 @@ ghost use Rattle.plane_model.specs.Drawing.{Drawing as Map};
 ghost use Rattle.plane_model.specs.Hot.{hot_points, chain_among, chain_of};
 ghost use Rattle.hot_pixels.specs.Chains.{AreHotPointsOf};
 ghost use Rattle.hot_pixels.specs.Near.{IsSearchable, HoldsRun};
-ghost use Rattle.hot_pixels.specs.Quiet.{MeetsEndsAlone, HasQuietEdge, AreMarks, AreLookedUp};
+ghost use Rattle.hot_pixels.specs.Marking.{MeetsEndsAlone, HasClearEdge, AreMarks, AreLookedUp};
 ghost use Rattle.hot_pixels.specs.Stops.{stop_of};
 
 use crate::chains::{append_rising, sorted_along};
 use crate::edges::{Edges, edges_of, known_edge};
 use crate::keys::each_once;
+use crate::marking::{Marking, append_ends, marks_of, with_ends};
 use crate::meetings::ends_and_back;
 use crate::near::{Run, along_curve, count_near, met_near, runs_over};
 use crate::pairs::{add_crossings, buckets_over};
-use crate::quiet::{Marking, append_ends, marks_of, with_ends};
 use crate::spots::spots_of;
 use grid_base::{Drawing, Pt, PtList, Seg, has_point};
 use std::alloc::{AllocError, Global};
@@ -24,7 +24,7 @@ use std::marker::Model;
 #[derive(Drop)]
 pub struct HotSet {
     points: Vec<Pt>,
-    mixed: Vec<Pt>,
+    curved: Vec<Pt>,
     runs: Vec<Run>,
     // the edges of the drawing, and for each of its segments the number of its edge
     edges: Vec<Seg>,
@@ -38,13 +38,13 @@ impl Model for HotSet {
     ghost use Rattle.std.specs.Prelude.{List, All};
     ghost use Rattle.plane_model.specs.Points.{GridPoint};
     ghost use Rattle.hot_pixels.specs.Near.{IsSearchable, HoldsRun};
-    ghost use Rattle.hot_pixels.specs.Quiet.{AreMarks};
+    ghost use Rattle.hot_pixels.specs.Marking.{AreMarks};
 
     ghost Value = { List GridPoint };
 
     ghost view = { λ s. s.points.items };
 
-    ghost invariant = { λ s. IsSearchable s.points.items s.mixed.items s.runs.items × (AreMarks s.points.items s.edges.items s.marking.crowded.items s.marking.lasts.items s.marking.meetings.items s.marking.inner.items × All (HoldsRun s.marking.inner.items) s.inner_runs.items) };
+    ghost invariant = { λ s. IsSearchable s.points.items s.curved.items s.runs.items × (AreMarks s.points.items s.edges.items s.marking.crowded.items s.marking.lasts.items s.marking.meetings.items s.marking.inner.items × All (HoldsRun s.marking.inner.items) s.inner_runs.items) };
 }
 
 impl HotSet {
@@ -69,20 +69,20 @@ impl HotSet {
         add_crossings(&mut found, alloc, &edges.segments, &buckets)?;
         let points = each_once(alloc, &found)?;
         let marking = marks_of(alloc, &points, &edges.segments, &buckets)?;
-        let mixed = copy_of(alloc, &points)?;
-        HotSet::over(alloc, points, mixed, Vec::new(alloc), edges, marking)
+        let curved = copy_of(alloc, &points)?;
+        HotSet::over(alloc, points, curved, Vec::new(alloc), edges, marking)
     }
 
     // The set of these points, with runs of the inner ones.
     fn over(
         alloc: Global,
         points: Vec<Pt>,
-        mixed: Vec<Pt>,
+        curved: Vec<Pt>,
         runs: Vec<Run>,
         edges: Edges,
         marking: Marking,
     ) -> Result<HotSet, AllocError>
-        requires searchable { IsSearchable points.items mixed.items runs.items }
+        requires searchable { IsSearchable points.items curved.items runs.items }
         requires marked { AreMarks points.items edges.segments.items marking.crowded.items marking.lasts.items marking.meetings.items marking.inner.items }
         ensures exact { IfOk result (λ s. s ≡ points.items) }
     {
@@ -97,7 +97,7 @@ impl HotSet {
         let Edges { segments, numbers } = edges;
         Ok(HotSet {
             points,
-            mixed,
+            curved,
             runs,
             edges: segments,
             numbers,
@@ -116,8 +116,8 @@ impl HotSet {
         ensures exact { IfOk result (λ s. s ≡ self) }
     {
         let mut set = self;
-        set.mixed = along_curve(alloc, &set.points)?;
-        set.runs = runs_over(alloc, &set.mixed)?;
+        set.curved = along_curve(alloc, &set.points)?;
+        set.runs = runs_over(alloc, &set.curved)?;
         Ok(set)
     }
 
@@ -128,7 +128,7 @@ impl HotSet {
         ensures exact { IfOk result (λ chain. chain ≡ chain_among self.now s.now) }
         ensures drawn { IfOk result (λ chain. (d : Map) → AreHotPointsOf d self.now → chain ≡ chain_of d s.now) }
     {
-        let met = met_near(alloc, &self.mixed, &self.runs, s)?;
+        let met = met_near(alloc, &self.curved, &self.runs, s)?;
         sorted_along(alloc, met, s)
     }
 
@@ -146,7 +146,7 @@ impl HotSet {
         requires stop { Contains self.now s.now.stop }
         ensures appended { OnOk result (path.new ≡ path.old ++ chain_among self.now s.now) }
     {
-        if self.is_quiet(s, place) {
+        if self.meets_ends_alone(s, place) {
             return append_ends(path, s);
         }
         self.append_at(alloc, path, s, place)
@@ -184,11 +184,11 @@ impl HotSet {
     }
 
     // Whether the segment stands at this place, and meets no hot pixel besides those of its ends.
-    fn is_quiet(&self, s: &Seg, place: usize) -> bool
-        ensures quiet { result ≡ true → MeetsEndsAlone self.now s.now }
+    fn meets_ends_alone(&self, s: &Seg, place: usize) -> bool
+        ensures alone { result ≡ true → MeetsEndsAlone self.now s.now }
         ensures ascending { AllPairs (λ (p q : Point). IsTrue (is_before p q)) self.now }
     {
-        has_quiet_edge(&self.edges, &self.numbers, &self.marking, place, s)
+        has_clear_edge(&self.edges, &self.numbers, &self.marking, place, s)
     }
 
     /// How many links the chain of a segment has: one less than its points, and none where it has no point.
@@ -196,7 +196,7 @@ impl HotSet {
         ensures exact { result ≡ length (chain_among self.now s.now) - 1 }
         ensures drawn { (d : Map) → AreHotPointsOf d self.now → result ≡ length (chain_of d s.now) - 1 }
     {
-        count_near(&self.mixed, &self.runs, s).saturating_sub(1)
+        count_near(&self.curved, &self.runs, s).saturating_sub(1)
     }
 
     /// Whether a point is hot.
@@ -229,7 +229,7 @@ fn has_no_meeting(lasts: &[Option<u32>], i: u32) -> bool
 }
 
 // Whether an edge is of no crowded bucket and has no meeting.
-fn is_quiet_edge(marking: &Marking, i: u32) -> bool
+fn is_clear_edge(marking: &Marking, i: u32) -> bool
     ensures apart { result ≡ true → slice_get marking.now.crowded.items i ≡ Some false }
     ensures alone { result ≡ true → slice_get marking.now.lasts.items i ≡ Some None }
 {
@@ -239,12 +239,12 @@ fn is_quiet_edge(marking: &Marking, i: u32) -> bool
     has_no_meeting(&marking.lasts, i)
 }
 
-// Whether the edge of a segment, with the number that stands at this place, is quiet.
-fn has_quiet_edge(edges: &[Seg], numbers: &[u32], marking: &Marking, place: usize, s: &Seg) -> bool
-    ensures { result ≡ true → HasQuietEdge edges.now marking.now.crowded.items marking.now.lasts.items s.now }
+// Whether the edge of a segment, with the number that stands at this place, is clear.
+fn has_clear_edge(edges: &[Seg], numbers: &[u32], marking: &Marking, place: usize, s: &Seg) -> bool
+    ensures { result ≡ true → HasClearEdge edges.now marking.now.crowded.items marking.now.lasts.items s.now }
 {
     match known_edge(edges, numbers, place, s) {
-        Some(i) => is_quiet_edge(marking, i),
+        Some(i) => is_clear_edge(marking, i),
         None => false,
     }
 }

@@ -32,11 +32,11 @@ mod edges;
 mod half_open;
 mod hot_set;
 mod keys;
+mod marking;
 mod meetings;
 mod near;
 mod pairs;
 mod parting;
-mod quiet;
 mod spots;
 
 pub use crossing::crossing_pixel;

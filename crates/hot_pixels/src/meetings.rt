@@ -1,7 +1,7 @@
 ghost use Rattle.std.specs.Prelude.{◌≡◌, ◌++◌, ◌∷◌, [], List, IfOk, OnOk};
 ghost use Rattle.plane_model.specs.Points.{GridPoint as Point};
 ghost use Rattle.hot_pixels.specs.Meetings.{AreBack, meeting_at};
-ghost use Rattle.hot_pixels.specs.Quiet.{AreEndsAnd};
+ghost use Rattle.hot_pixels.specs.Marking.{AreEndsAnd};
 
 use grid_base::{Pt, Seg, is_before};
 use std::alloc::{AllocError, Global};

@@ -3,7 +3,7 @@ ghost use Rattle.std.specs.List.{count_by};
 ghost use Rattle.std.specs.List.Sorted.{IsPermutation};
 ghost use Rattle.plane_model.specs.Points.{GridPoint as Point};
 ghost use Rattle.plane_model.specs.Pixel.{meets};
-ghost use Rattle.bucket_grid.specs.Areas.{Holds};
+ghost use Rattle.bucket_grid.specs.Rects.{Holds};
 ghost use Rattle.hot_pixels.specs.Near.{HoldsRun, HoldsBetween, HoldsMore, MeetsNoneBetween};
 
 use crate::aside::is_aside;
@@ -20,7 +20,7 @@ pub struct Run {
     start: usize,
     stop: usize,
     next: usize,
-    area: Rect,
+    rect: Rect,
 }
 
 // How far a search has come: the points before `from` are done, those from there to below `stop` are to be tried, and
@@ -40,10 +40,10 @@ const SHORT_RUN: usize = 8;
 // A run is this many times as long as its parts.
 const PARTS: usize = 4;
 
-// A search of so many runs asks of no line.
+// A search among at most this number of runs asks of no line.
 const FEW_RUNS: usize = 128;
 
-// With so much credit a longer search asks on which side of a segment's line a run with parts lies. Each short run that
+// With this credit a longer search asks on which side of a segment's line a run with parts lies. Each short run that
 // it tries is worth 1; a run that is passed over, the short runs in it.
 const ASKING: usize = 32;
 
@@ -55,25 +55,25 @@ const LEVELS: u32 = 12;
 
 const LONGEST_RUN: usize = 33_554_432;
 
-fn widened(area: Rect, p: Pt) -> Result<Rect, AllocError>
-    ensures { IfOk result (HoldsMore area p) }
+fn widened(rect: Rect, p: Pt) -> Result<Rect, AllocError>
+    ensures { IfOk result (HoldsMore rect p) }
 {
-    let low = lower_left(area.low(), p);
-    let high = upper_right(area.high(), p);
+    let low = lower_left(rect.low(), p);
+    let high = upper_right(rect.high(), p);
     let wide = Rect::new(low, high).ok_or(AllocError)?;
     Ok(wide)
 }
 
-fn area_over(points: &[Pt], start: usize, stop: usize) -> Result<Rect, AllocError>
+fn rect_over(points: &[Pt], start: usize, stop: usize) -> Result<Rect, AllocError>
     requires some { start < stop }
     requires within { stop ≤ length points.now }
-    ensures { IfOk result (λ area. HoldsBetween area points.now start stop) }
+    ensures { IfOk result (λ rect. HoldsBetween rect points.now start stop) }
 {
-    let mut area = Rect::new(points[start], points[start]).ok_or(AllocError)?;
+    let mut rect = Rect::new(points[start], points[start]).ok_or(AllocError)?;
     for k in start..stop {
-        area = widened(area, points[k])?;
+        rect = widened(rect, points[k])?;
     }
-    Ok(area)
+    Ok(rect)
 }
 
 fn least(a: usize, b: usize) -> usize
@@ -105,13 +105,13 @@ fn add_run(runs: &mut Vec<Run>, points: &[Pt], start: usize, size: usize) -> Res
         return Ok(());
     }
     let stop = least(start.saturating_add(size), points.len());
-    let area = area_over(points, start, stop)?;
+    let rect = rect_over(points, start, stop)?;
     let next = runs_before(stop);
     runs.push(Run {
         start,
         stop,
         next,
-        area,
+        rect,
     })?;
     Ok(())
 }
@@ -150,12 +150,12 @@ pub fn runs_over(alloc: Global, points: &[Pt]) -> Result<Vec<Run>, AllocError>
     Ok(runs)
 }
 
-// Whether the box of a segment lies beside an area.
-fn is_apart(area: Rect, s: &Seg) -> bool
-    ensures { (g : Point) → IsTrue result → Holds area g → meets s.now g ≡ false }
+// Whether the box of a segment lies beside a rectangle.
+fn is_apart(rect: Rect, s: &Seg) -> bool
+    ensures { (g : Point) → IsTrue result → Holds rect g → meets s.now g ≡ false }
 {
     let (a, b) = (s.a(), s.b());
-    let (low, high) = (area.low(), area.high());
+    let (low, high) = (rect.low(), rect.high());
     if is_outside(a.x(), b.x(), low.x(), high.x()) {
         return true;
     }
@@ -185,7 +185,7 @@ fn next_place(points: &[Pt], runs: &[Run], s: &Seg, at: Place) -> Place
             credit: at.credit,
         };
     };
-    if run.start <= done && done <= run.stop && is_apart(run.area, s) {
+    if run.start <= done && done <= run.stop && is_apart(run.rect, s) {
         return Place {
             run: run.next,
             from: run.stop,
@@ -223,10 +223,10 @@ fn next_asked(points: &[Pt], runs: &[Run], s: &Seg, at: Place) -> Place
         return next_place(points, runs, s, at);
     };
     let is_ahead = run.start <= done && done <= run.stop;
-    if !is_ahead || is_short(run) || is_apart(run.area, s) {
+    if !is_ahead || is_short(run) || is_apart(run.rect, s) {
         return next_place(points, runs, s, at);
     }
-    if is_aside(run.area, s) {
+    if is_aside(run.rect, s) {
         let saved = run.stop.saturating_sub(run.start) / SHORT_RUN;
         return Place {
             run: run.next,

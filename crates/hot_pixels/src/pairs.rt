@@ -18,8 +18,8 @@ fn boxes_of(alloc: Global, spots: &[Seg]) -> Result<BoxList, AllocError>
 {
     let mut boxes = BoxList::with_capacity(alloc, spots.len())?;
     for s in spots {
-        let area = Rect::around(s.a(), s.b());
-        boxes.push(area)?;
+        let rect = Rect::around(s.a(), s.b());
+        boxes.push(rect)?;
     }
     Ok(boxes)
 }

@@ -32,7 +32,7 @@ use Rattle.run_plane.specs.declared.layer.Layer.{Layer}
 use Rattle.run_plane.specs.declared.layer.Shape.{Shape}
 use Rattle.run_plane.specs.declared.layer.Shape.TheVariants as shape
 use Rattle.run_beginning.specs.Drawing as run
-use Rattle.run_beginning.specs.BegunLayers.{AreArcsOfPath, AreBegun, AreBegunOfEach, AreLineArcs, AreShapes, IsBegunLayer, IsLineOf, Left, behind, behind_all, face_shape, has_links, imported, line_count, of_command, of_import, owned, point_shape, polygon_count, row_shape}
+use Rattle.run_beginning.specs.BegunLayers.{AreArcsOfPath, AreBegun, AreBegunOfEach, AreLineArcs, AreShapes, IsBegunLayer, IsLineOf, Left, left_after, left_after_all, face_shape, has_links, imported, line_count, of_command, of_import, owned, point_shape, polygon_count, row_shape}
 use Rattle.chain_model.specs.State as state
 use Rattle.chain_model.specs.State.{StateLayer}
 use Rattle.chain_model.specs.Beginning as state_of
@@ -132,8 +132,8 @@ module _ (v : View) (view : IsView v) (features : List (List ℕ)) (show : ShowE
     pub faces : left.faces ≡ drop (count_of kinds.Polygon before) features
     pub lines : left.lines ≡ drop (count_of kinds.Line before) all_lines
 
-  left_behind : (before : List LayerContent) (left : Left) → IsLeft before left → (l : LayerContent) → IsLeft (before ++ l ∷ []) (behind l left)
-  left_behind before left is l =
+  is_left_after : (before : List LayerContent) (left : Left) → IsLeft before left → (l : LayerContent) → IsLeft (before ++ l ∷ []) (left_after l left)
+  is_left_after before left is l =
       let polygons = counted kinds.Polygon before (l ∷ []) in
       let lines = counted kinds.Line before (l ∷ []) in
       let of_polygons : count_of kinds.Polygon (l ∷ []) ≡ polygon_count l.kind (length l.shapes) = one_counted kinds.Polygon l ∙ polygons_counted l.kind l.shapes in
@@ -145,10 +145,10 @@ module _ (v : View) (view : IsView v) (features : List (List ℕ)) (show : ShowE
         lines = ap (drop (line_count l.kind (length l.shapes))) is.lines ∙ drop-drop (line_count l.kind (length l.shapes)) (count_of kinds.Line before) all_lines ∙ ap (λ (n : ℕ). drop n all_lines) there;
       }
 
-  left_behind_all : (ls before : List LayerContent) (left : Left) → IsLeft before left → IsLeft (before ++ ls) (behind_all ls left)
-  left_behind_all [] before left is = subst (λ (b : List LayerContent). IsLeft b left) (sym (append-nil before)) is
-  left_behind_all (l ∷ ls) before left is =
-      subst (λ (b : List LayerContent). IsLeft b (behind_all ls (behind l left))) (append_assoc before (l ∷ []) ls) (left_behind_all ls (before ++ l ∷ []) (behind l left) (left_behind before left is l))
+  is_left_after_all : (ls before : List LayerContent) (left : Left) → IsLeft before left → IsLeft (before ++ ls) (left_after_all ls left)
+  is_left_after_all [] before left is = subst (λ (b : List LayerContent). IsLeft b left) (sym (append-nil before)) is
+  is_left_after_all (l ∷ ls) before left is =
+      subst (λ (b : List LayerContent). IsLeft b (left_after_all ls (left_after l left))) (append_assoc before (l ∷ []) ls) (is_left_after_all ls (before ++ l ∷ []) (left_after l left) (is_left_after before left is l))
 
   -- ---- polygons
 
@@ -288,8 +288,8 @@ module _ (v : View) (view : IsView v) (features : List (List ℕ)) (show : ShowE
         go kinds.Point e = as_its_kind kinds.Point e (vertices l there e)
         go kinds.Table e = as_its_kind kinds.Table e tt
 
-    room_behind : (before : List LayerContent) (l : LayerContent) (ls : List LayerContent) → RoomFor before (l ∷ ls) → RoomFor (before ++ l ∷ []) ls
-    room_behind before l ls room =
+    room_after : (before : List LayerContent) (l : LayerContent) (ls : List LayerContent) → RoomFor before (l ∷ ls) → RoomFor (before ++ l ∷ []) ls
+    room_after before l ls room =
         let first = first_counted l ls in
         let one = first_counted l [] in
         let both = counted kinds.Polygon before (l ∷ []) in
@@ -303,7 +303,7 @@ module _ (v : View) (view : IsView v) (features : List (List ℕ)) (show : ShowE
     layers_show (l ∷ ls) before left is within room (h ∷ held) begun =
         let first = first_counted l ls in (
           layer_shows before left is l (drawn_of before l (within l (Contains-head l ls)) (omega (arith, first, room))) h begun.0,
-          layers_show ls (before ++ l ∷ []) (behind l left) (left_behind before left is l) (λ m c. within m (Contains-later l ls m c)) (room_behind before l ls room) held begun.1,
+          layers_show ls (before ++ l ∷ []) (left_after l left) (is_left_after before left is l) (λ m c. within m (Contains-later l ls m c)) (room_after before l ls room) held begun.1,
         )
 
     sources_show : (given : List (List LayerContent)) (before : List LayerContent) (left : Left) → IsLeft before left → ((l : LayerContent) → Contains (joined_up given) l → Contains total l) → RoomFor before (joined_up given) →
@@ -315,7 +315,7 @@ module _ (v : View) (view : IsView v) (features : List (List ℕ)) (show : ShowE
         let all = counted kinds.Polygon ls (joined_up given) in
         let both = counted kinds.Polygon before ls in (
           layers_show ls before left is (λ l c. within l (Contains-append_left ls (joined_up given) l c)) (omega (arith, all, room)) h begun.0,
-          sources_show given (before ++ ls) (behind_all ls left) (left_behind_all ls before left is) (λ l c. within l (Contains-append_right ls (joined_up given) l c)) (omega (arith, all, both, room)) held begun.1,
+          sources_show given (before ++ ls) (left_after_all ls left) (is_left_after_all ls before left is) (λ l c. within l (Contains-append_right ls (joined_up given) l c)) (omega (arith, all, both, room)) held begun.1,
         )
 
   -- ---- the drawing has their features

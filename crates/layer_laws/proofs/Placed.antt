@@ -7,8 +7,8 @@ use Rattle.lists.specs.Lists.{first_or, has, joined_up}
 use Rattle.job_terms.specs.declared.job.Command.{Command}
 use Rattle.job_terms.specs.declared.job.Target.{Target}
 use Rattle.run_plane.specs.declared.layer.Layer.{Layer}
-use Rattle.run_state.specs.Targets.{behind_all, in_places, is_selected, placed, put_out, staying}
-use Rattle.run_state.specs.declared.state.Held.{Held}
+use Rattle.run_state.specs.Targets.{after_all, in_places, is_selected, placed, put_out, staying}
+use Rattle.run_state.specs.declared.state.HeldLayer.{HeldLayer}
 use Rattle.chain_model.specs.Outcome.{RefuseWhy, too_many_layers}
 use Rattle.chain_model.specs.State.{State, StateLayer}
 use Rattle.chain_model.specs.Targets as state
@@ -20,14 +20,14 @@ use Rattle.layer_laws.proofs.Numbered.{number_tells}
 use Rattle.layer_laws.proofs.Zipped.{zip_joined, zip_joined_up, zip_long, zip_map, zip_numbers, zip_right, zip_weaker}
 
 -- a layer with its mark, and the state's
-abbrev pub MarkShows : View → Held → Marked → Type 0
+abbrev pub MarkShows : View → HeldLayer → Marked → Type 0
 MarkShows v held m = LayerShows v held.layer m.1 × (held.is_default ≡ m.0)
 
 put_shows : (v : View) (out : List Layer) (ls : List StateLayer) → AllZip (LayerShows v) out ls → AllZip (MarkShows v) (map put_out out) (map new ls)
 put_shows v out ls shown = zip_map (LayerShows v) (MarkShows v) put_out new (λ layer l h. (h, refl)) out ls shown
 
-stay_shows : (v : View) (layers : List Held) (ls : List StateLayer) → AllZip (λ (held : Held) (l : StateLayer). LayerShows v held.layer l) layers ls → AllZip (MarkShows v) (map staying layers) (map old ls)
-stay_shows v layers ls shown = zip_map (λ (held : Held) (l : StateLayer). LayerShows v held.layer l) (MarkShows v) staying old (λ held l h. (h, refl)) layers ls shown
+stay_shows : (v : View) (layers : List HeldLayer) (ls : List StateLayer) → AllZip (λ (held : HeldLayer) (l : StateLayer). LayerShows v held.layer l) layers ls → AllZip (MarkShows v) (map staying layers) (map old ls)
+stay_shows v layers ls shown = zip_map (λ (held : HeldLayer) (l : StateLayer). LayerShows v held.layer l) (MarkShows v) staying old (λ held l h. (h, refl)) layers ls shown
 
 -- ---- in their places
 
@@ -39,21 +39,21 @@ replaced_off n ns l ls [] e = refl
 replaced_off n ns l ls (out ∷ outs) e = ap (λ (b : Bool). if b then map new out ++ replaced (n + 1) ns ls outs else old l ∷ replaced (n + 1) ns ls (out ∷ outs)) e
 
 module _ (v : View) (t : Target) (ns : List ℕ) where
-  abbrev pub Tells : ℕ → List Held → Type 0
-  Tells n layers = (k : ℕ) (d : Held) → k < length layers → has nat_eq ns (n + k) ≡ is_selected t (get_or layers k d)
+  abbrev pub Tells : ℕ → List HeldLayer → Type 0
+  Tells n layers = (k : ℕ) (d : HeldLayer) → k < length layers → has nat_eq ns (n + k) ≡ is_selected t (get_or layers k d)
 
-  pub first_told : (n : ℕ) (held : Held) (layers : List Held) → Tells n (held ∷ layers) → has nat_eq ns n ≡ is_selected t held
+  pub first_told : (n : ℕ) (held : HeldLayer) (layers : List HeldLayer) → Tells n (held ∷ layers) → has nat_eq ns n ≡ is_selected t held
   first_told n held layers tells = let first : n ≡ n + 0 = omega arith in ap (has nat_eq ns) first ∙ tells 0 held (omega arith)
 
-  pub rest_told : (n : ℕ) (held : Held) (layers : List Held) → Tells n (held ∷ layers) → Tells (n + 1) layers
+  pub rest_told : (n : ℕ) (held : HeldLayer) (layers : List HeldLayer) → Tells n (held ∷ layers) → Tells (n + 1) layers
   rest_told n held layers tells k d l = let further : n + 1 + k ≡ n + suc k = omega arith in ap (has nat_eq ns) further ∙ tells (suc k) d (omega arith)
 
   -- what stands in the place of one layer, before what stands in the places of the others
-  abbrev Places : ℕ → Held → List Held → StateLayer → List StateLayer → List (List Layer) → List (List StateLayer) → Bool → Type 0
+  abbrev Places : ℕ → HeldLayer → List HeldLayer → StateLayer → List StateLayer → List (List Layer) → List (List StateLayer) → Bool → Type 0
   Places n held layers l ls outputs outs b =
       AllZip (MarkShows v) ((if b then map put_out (first_or [] outputs) else staying held ∷ []) ++ in_places t layers (drop 1 outputs)) (replaced n ns (l ∷ ls) outs)
 
-  place_shows : (n : ℕ) (held : Held) (layers : List Held) (l : StateLayer) (ls : List StateLayer) (outputs : List (List Layer)) (outs : List (List StateLayer)) (b : Bool) → LayerShows v held.layer l → has nat_eq ns n ≡ b →
+  place_shows : (n : ℕ) (held : HeldLayer) (layers : List HeldLayer) (l : StateLayer) (ls : List StateLayer) (outputs : List (List Layer)) (outs : List (List StateLayer)) (b : Bool) → LayerShows v held.layer l → has nat_eq ns n ≡ b →
       AllZip (AllZip (LayerShows v)) (if b then first_or [] outputs ∷ target_outputs t layers (drop 1 outputs) else target_outputs t layers (drop 1 outputs)) outs →
       ((rest : List (List StateLayer)) → AllZip (AllZip (LayerShows v)) (target_outputs t layers (drop 1 outputs)) rest → AllZip (MarkShows v) (in_places t layers (drop 1 outputs)) (replaced (n + 1) ns ls rest)) →
       Places n held layers l ls outputs outs b
@@ -64,7 +64,7 @@ module _ (v : View) (t : Target) (ns : List ℕ) where
   place_shows n held layers l ls outputs outs false h e shown more =
       subst (AllZip (MarkShows v) (staying held ∷ in_places t layers (drop 1 outputs))) (sym (replaced_off n ns l ls outs e)) ((h, refl), more outs shown)
 
-  places_show : (n : ℕ) (layers : List Held) (ls : List StateLayer) → AllZip (λ (held : Held) (l : StateLayer). LayerShows v held.layer l) layers ls → Tells n layers → (outputs : List (List Layer)) (outs : List (List StateLayer)) →
+  places_show : (n : ℕ) (layers : List HeldLayer) (ls : List StateLayer) → AllZip (λ (held : HeldLayer) (l : StateLayer). LayerShows v held.layer l) layers ls → Tells n layers → (outputs : List (List Layer)) (outs : List (List StateLayer)) →
       AllZip (AllZip (LayerShows v)) (target_outputs t layers outputs) outs → AllZip (MarkShows v) (in_places t layers outputs) (replaced n ns ls outs)
   places_show n [] [] h tells outputs outs shown = tt
   places_show n [] (l ∷ ls) h tells outputs outs shown = absurd h
@@ -76,27 +76,27 @@ module _ (v : View) (t : Target) (ns : List ℕ) where
 
 all_put_out : (outputs : List (List Layer)) → flat_map (map put_out) outputs ≡ map put_out (joined_up outputs)
 all_put_out [] = refl
-all_put_out (out ∷ outputs) = ap (λ (rest : List Held). map put_out out ++ rest) (all_put_out outputs) ∙ sym (map-append put_out out (joined_up outputs))
+all_put_out (out ∷ outputs) = ap (λ (rest : List HeldLayer). map put_out out ++ rest) (all_put_out outputs) ∙ sym (map-append put_out out (joined_up outputs))
 
-module _ (v : View) (layers : List Held) (s : State) (h : StateShows v layers s) where
-  behind_shows : (outputs : List (List Layer)) (outs : List (List StateLayer)) → AllZip (LayerShows v) (joined_up outputs) (joined_up outs) → AllZip (MarkShows v) (behind_all layers outputs) (map old s.layers ++ map new (joined_up outs))
-  behind_shows outputs outs shown =
+module _ (v : View) (layers : List HeldLayer) (s : State) (h : StateShows v layers s) where
+  after_all_show : (outputs : List (List Layer)) (outs : List (List StateLayer)) → AllZip (LayerShows v) (joined_up outputs) (joined_up outs) → AllZip (MarkShows v) (after_all layers outputs) (map old s.layers ++ map new (joined_up outs))
+  after_all_show outputs outs shown =
       zip_joined (MarkShows v) (map staying layers) (map old s.layers) (flat_map (map put_out) outputs) (map new (joined_up outs)) (stay_shows v layers s.layers h.layers)
-      (subst (λ (put : List Held). AllZip (MarkShows v) put (map new (joined_up outs))) (sym (all_put_out outputs)) (put_shows v (joined_up outputs) (joined_up outs) shown))
+      (subst (λ (put : List HeldLayer). AllZip (MarkShows v) put (map new (joined_up outs))) (sym (all_put_out outputs)) (put_shows v (joined_up outputs) (joined_up outs) shown))
 
   marks_show : (c : Command) (keep : Bool) (outputs : List (List Layer)) (outs : List (List StateLayer)) → PutOutShows v c.target layers outputs outs →
-      AllZip (MarkShows v) (if keep then behind_all layers outputs else in_places c.target layers outputs) (state.placed s keep (target_numbers c.target layers) outs)
+      AllZip (MarkShows v) (if keep then after_all layers outputs else in_places c.target layers outputs) (state.placed s keep (target_numbers c.target layers) outs)
   marks_show c true outputs outs put =
-      behind_shows outputs outs (subst (λ (all : List Layer). AllZip (LayerShows v) all (joined_up outs)) put.all (zip_joined_up (LayerShows v) (target_outputs c.target layers outputs) outs put.show))
+      after_all_show outputs outs (subst (λ (all : List Layer). AllZip (LayerShows v) all (joined_up outs)) put.all (zip_joined_up (LayerShows v) (target_outputs c.target layers outputs) outs put.show))
   marks_show c false outputs outs put =
       places_show v c.target (target_numbers c.target layers) 0 layers s.layers h.layers (λ k d l. number_tells (is_selected c.target) 0 layers k d l) outputs outs put.show
 
 -- ---- the state after it
 
-pub state_shows : (v : View) (layers : List Held) (ms : List Marked) → AllZip (MarkShows v) layers ms → StateShows v layers (state_of ms)
+pub state_shows : (v : View) (layers : List HeldLayer) (ms : List Marked) → AllZip (MarkShows v) layers ms → StateShows v layers (state_of ms)
 state_shows v layers ms shown = record {
-  layers = zip_right (λ (held : Held) (l : StateLayer). LayerShows v held.layer l) (λ (m : Marked). m.1) layers ms (zip_weaker (MarkShows v) (λ (held : Held) (m : Marked). LayerShows v held.layer m.1) (λ held m h. h.0) layers ms shown);
-  target = sym (zip_numbers (MarkShows v) (λ (held : Held). held.is_default) (λ (m : Marked). m.0) (λ held m h. h.1) layers ms shown);
+  layers = zip_right (λ (held : HeldLayer) (l : StateLayer). LayerShows v held.layer l) (λ (m : Marked). m.1) layers ms (zip_weaker (MarkShows v) (λ (held : HeldLayer) (m : Marked). LayerShows v held.layer m.1) (λ held m h. h.0) layers ms shown);
+  target = sym (zip_numbers (MarkShows v) (λ (held : HeldLayer). held.is_default) (λ (m : Marked). m.0) (λ held m h. h.1) layers ms shown);
 }
 
 -- refused where they are too many

@@ -9,7 +9,7 @@ use Rattle.job_terms.specs.declared.job.Target.{Target}
 use Rattle.job_terms.specs.declared.job.Target.TheVariants as target
 use Rattle.run_plane.specs.declared.layer.Layer.{Layer}
 use Rattle.run_state.specs.Targets.{has_target, is_layer, is_selected}
-use Rattle.run_state.specs.declared.state.Held.{Held}
+use Rattle.run_state.specs.declared.state.HeldLayer.{HeldLayer}
 use Rattle.chain_model.specs.Outcome.{RefuseWhy, no_layer}
 use Rattle.chain_model.specs.State.{State, StateLayer}
 use Rattle.chain_model.specs.Targets.{layer_names, layers_at, selected, some_layers}
@@ -47,24 +47,24 @@ tests_fail false test xs e = refl
 -- ---- a target
 
 -- each listed name is that of a layer
-abbrev all_named : Target → List Held → Bool
+abbrev all_named : Target → List HeldLayer → Bool
 all_named target.Default layers = true
 all_named target.All layers = true
 all_named (target.Names names) layers = list_all (is_layer layers) names
 
-module _ (v : View) (layers : List Held) (s : State) (h : StateShows v layers s) where
-  names_alike : layer_names s.layers ≡ map (λ (held : Held). held.layer.name) layers
-  names_alike = sym (zip_same (λ (held : Held) (l : StateLayer). LayerShows v held.layer l) (λ (held : Held). held.layer.name) (λ (l : StateLayer). l.name) (λ held l shown. sym shown.name) layers s.layers h.layers)
+module _ (v : View) (layers : List HeldLayer) (s : State) (h : StateShows v layers s) where
+  names_alike : layer_names s.layers ≡ map (λ (held : HeldLayer). held.layer.name) layers
+  names_alike = sym (zip_same (λ (held : HeldLayer) (l : StateLayer). LayerShows v held.layer l) (λ (held : HeldLayer). held.layer.name) (λ (l : StateLayer). l.name) (λ held l shown. sym shown.name) layers s.layers h.layers)
 
   name_found : (name : Text) → has_name (layer_names s.layers) name ≡ is_layer layers name
-  name_found name = ap (λ (names : List Text). has_name names name) names_alike ∙ any-map (bytes_eq name) (λ (held : Held). held.layer.name) layers
+  name_found name = ap (λ (names : List Text). has_name names name) names_alike ∙ any-map (bytes_eq name) (λ (held : HeldLayer). held.layer.name) layers
 
   numbers_named : (names : List Text) → numbers_where (has_name names) (layer_names s.layers) ≡ target_numbers (target.Names names) layers
-  numbers_named names = ap (numbers_where (has_name names)) names_alike ∙ numbers-map 0 (has_name names) (λ (held : Held). held.layer.name) layers
+  numbers_named names = ap (numbers_where (has_name names)) names_alike ∙ numbers-map 0 (has_name names) (λ (held : HeldLayer). held.layer.name) layers
 
   all_numbered : range_with_len 0 (length s.layers) ≡ target_numbers target.All layers
   all_numbered =
-      ap (range_with_len 0) (sym (zip_long (λ (held : Held) (l : StateLayer). LayerShows v held.layer l) layers s.layers h.layers)) ∙ sym (all_numbers_pass 0 layers)
+      ap (range_with_len 0) (sym (zip_long (λ (held : HeldLayer) (l : StateLayer). LayerShows v held.layer l) layers s.layers h.layers)) ∙ sym (all_numbers_pass 0 layers)
 
   -- the state selects by the same tests
   selected_by : (t : Target) → selected s t ≡ by_tests (all_named t layers) (target_numbers t layers)
@@ -84,8 +84,8 @@ module _ (v : View) (layers : List Held) (s : State) (h : StateShows v layers s)
   target_shows t = record {
     there = λ e. selected_by t ∙ tests_pass (all_named t layers) (is_selected t) layers (sym (there_by t) ∙ e);
     absent = λ e. selected_by t ∙ tests_fail (all_named t layers) (is_selected t) layers (sym (there_by t) ∙ e);
-    show = zip_left (LayerShows v) (λ (held : Held). held.layer) (filter (is_selected t) layers) (layers_at s (target_numbers t layers))
-        (zip_where (λ (held : Held) (l : StateLayer). LayerShows v held.layer l) (is_selected t) layers s.layers h.layers);
+    show = zip_left (LayerShows v) (λ (held : HeldLayer). held.layer) (filter (is_selected t) layers) (layers_at s (target_numbers t layers))
+        (zip_where (λ (held : HeldLayer) (l : StateLayer). LayerShows v held.layer l) (is_selected t) layers s.layers h.layers);
   }
 
 pub targets_show : TargetsShow
@@ -95,8 +95,8 @@ targets_show v layers s h t = target_shows v layers s h t
 
 pub origins_show : OriginsShow
 origins_show v layers s h owned sources owns (origin.Layer name) =
-    zip_left (LayerShows v) (λ (held : Held). held.layer) (filter (λ (held : Held). bytes_eq name held.layer.name) layers) (filter (λ (l : StateLayer). bytes_eq name l.name) s.layers)
-    (zip_filter (λ (held : Held) (l : StateLayer). LayerShows v held.layer l) (λ (held : Held). bytes_eq name held.layer.name) (λ (l : StateLayer). bytes_eq name l.name) (λ held l shown. ap (bytes_eq name) (sym shown.name)) layers s.layers h.layers)
+    zip_left (LayerShows v) (λ (held : HeldLayer). held.layer) (filter (λ (held : HeldLayer). bytes_eq name held.layer.name) layers) (filter (λ (l : StateLayer). bytes_eq name l.name) s.layers)
+    (zip_filter (λ (held : HeldLayer) (l : StateLayer). LayerShows v held.layer l) (λ (held : HeldLayer). bytes_eq name held.layer.name) (λ (l : StateLayer). bytes_eq name l.name) (λ held l shown. ap (bytes_eq name) (sym shown.name)) layers s.layers h.layers)
 origins_show v layers s h owned sources owns (origin.Source n) = zip_anywhere (AllZip (LayerShows v)) owned sources owns [] [] tt (n - 1)
 origins_show v layers s h owned sources owns (origin.Area n) = tt
 
@@ -111,11 +111,11 @@ one_layer_shows v (layer ∷ other ∷ layers) (l ∷ m ∷ ls) shown = refl
 
 -- ---- the first state
 
-abbrev begun : Layer → Held
+abbrev begun : Layer → HeldLayer
 begun layer = record { layer = layer; is_default = true }
 
 pub first_layers_show : FirstLayersShow
 first_layers_show v layers ls shown = record {
-  layers = zip_left (λ (held : Held) (l : StateLayer). LayerShows v held.layer l) begun layers ls shown;
-  target = ap (range_with_len 0) (sym (zip_long (LayerShows v) layers ls shown)) ∙ sym (numbers-map 0 (λ (held : Held). held.is_default) begun layers ∙ all_numbers_pass 0 layers);
+  layers = zip_left (λ (held : HeldLayer) (l : StateLayer). LayerShows v held.layer l) begun layers ls shown;
+  target = ap (range_with_len 0) (sym (zip_long (LayerShows v) layers ls shown)) ∙ sym (numbers-map 0 (λ (held : HeldLayer). held.is_default) begun layers ∙ all_numbers_pass 0 layers);
 }

@@ -24,12 +24,12 @@ use Rattle.layer_laws.specs.Reasons.{MakesAlike}
 
 -- cut by the faces of a region they show what the region leaves of the state's layer
 abbrev pub ClippedLinesShow : Type 0
-ClippedLinesShow = (v : View) → IsView v → (plane : Plane) → IsSeenIn v plane → (area : List ℕ) (r : Region) → FacesShow v area r → (layer : Layer) (l : StateLayer) → LayerShows v layer l → layer.kind ≢ kinds.Polygon →
-    MakesAlike v (One (IsCut keeps.Inside plane area layer)) None (clip_layer (plane_of v) v.answers r l)
+ClippedLinesShow = (v : View) → IsView v → (plane : Plane) → IsSeenIn v plane → (cut_set : List ℕ) (r : Region) → FacesShow v cut_set r → (layer : Layer) (l : StateLayer) → LayerShows v layer l → layer.kind ≢ kinds.Polygon →
+    MakesAlike v (One (IsCut keeps.Inside plane cut_set layer)) None (clip_layer (plane_of v) v.answers r l)
 
 abbrev pub ErasedLinesShow : Type 0
-ErasedLinesShow = (v : View) → IsView v → (plane : Plane) → IsSeenIn v plane → (area : List ℕ) (r : Region) → FacesShow v area r → (layer : Layer) (l : StateLayer) → LayerShows v layer l → layer.kind ≢ kinds.Polygon →
-    MakesAlike v (One (IsCut keeps.Outside plane area layer)) None (erase_layer (plane_of v) v.answers r l)
+ErasedLinesShow = (v : View) → IsView v → (plane : Plane) → IsSeenIn v plane → (cut_set : List ℕ) (r : Region) → FacesShow v cut_set r → (layer : Layer) (l : StateLayer) → LayerShows v layer l → layer.kind ≢ kinds.Polygon →
+    MakesAlike v (One (IsCut keeps.Outside plane cut_set layer)) None (erase_layer (plane_of v) v.answers r l)
 
 -- each path and each point by itself shows those of the state
 abbrev pub ExplodedLinesShow : Type 0

@@ -12,17 +12,17 @@ use Rattle.run_plane.specs.declared.layer.Layer.{Layer}
 use Rattle.run_plane.specs.declared.plane.Plane.{Plane}
 use Rattle.run_state.specs.Origins.{Base}
 use Rattle.run_state.specs.declared.refusal.RefuseWhy.{RefuseWhy}
-use Rattle.run_state.specs.declared.state.Held.{Held}
+use Rattle.run_state.specs.declared.state.HeldLayer.{HeldLayer}
 use Rattle.run_tables.specs.Made.{One}
 use Rattle.run_shapes.specs.Cleaning.{IsCleaned, IsMosaicOf}
 use Rattle.run_shapes.specs.Cutting.{IsCut}
 use Rattle.run_borders.specs.Dissolving.{IsGrouped, refused_dissolve}
 use Rattle.run_shapes.specs.Exploding.{IsExploded}
-use Rattle.run_state.specs.FaceSets.{area_of}
+use Rattle.run_state.specs.FaceSets.{cut_set_of}
 use Rattle.run_shapes.specs.Islands.{IsMainland}
 use Rattle.run_borders.specs.Uniting.{IsUnited}
 use Rattle.run_shapes.specs.declared.cutting.CutKeeps.TheVariants as keeps
-use Rattle.run_checks.specs.Checks.{refused_alone, refused_area}
+use Rattle.run_checks.specs.Checks.{refused_alone, refused_cut}
 use Rattle.chain_model.specs.Outcome as state
 use Rattle.chain_model.specs.State.{State, StateLayer}
 use Rattle.chain_model.specs.Features.{clean_layer, clip_layer, dissolve_layer, erase_layer, explode_layer, islands_layer, mosaic_layer, united_layers}
@@ -45,23 +45,23 @@ pub record PolygonsShow (v : View) (layer : Layer) (l : StateLayer) : Type 0 whe
 -- ---- what a command cuts by
 
 -- the faces show the region of the answer, or both are refused for the same reason
-pub record AreaShows (v : View) (refusal : Option RefuseWhy) (area : List ℕ) (answer : Result Region state.RefuseWhy) : Type 0 where
-  pub there : refusal ≡ None → (source : Region) × (answer ≡ Ok source) × FacesShow v area source
+pub record CutSetShows (v : View) (refusal : Option RefuseWhy) (cut_set : List ℕ) (answer : Result Region state.RefuseWhy) : Type 0 where
+  pub there : refusal ≡ None → (source : Region) × (answer ≡ Ok source) × FacesShow v cut_set source
   pub refused : (why : RefuseWhy) → refusal ≡ Some why → answer ≡ Err (why_of why)
 
-abbrev pub AreasShow : Type 0
-AreasShow = (v : View) → IsView v → (base : Base) → IsSeenIn v base.plane → (sources : SourceLayers) → SourcesShow v base.sources sources → (layers : List Held) (s : State) → StateShows v layers s → (from : Origin) →
-    AreaShows v (refused_area base.sources layers from) (area_of base layers from) (source_region sources s from)
+abbrev pub CutSetsShow : Type 0
+CutSetsShow = (v : View) → IsView v → (base : Base) → IsSeenIn v base.plane → (sources : SourceLayers) → SourcesShow v base.sources sources → (layers : List HeldLayer) (s : State) → StateShows v layers s → (from : Origin) →
+    CutSetShows v (refused_cut base.sources layers from) (cut_set_of base layers from) (source_region sources s from)
 
 -- ---- clip and erase
 
 abbrev pub ClippedPolygonsShow : Type 0
-ClippedPolygonsShow = (v : View) → IsView v → (plane : Plane) → (layer : Layer) (l : StateLayer) → PolygonsShow v layer l → (area : List ℕ) (source : Region) → FacesShow v area source →
-    MakesAlike v (One (IsCut keeps.Inside plane area layer)) None (clip_layer (plane_of v) v.answers source l)
+ClippedPolygonsShow = (v : View) → IsView v → (plane : Plane) → (layer : Layer) (l : StateLayer) → PolygonsShow v layer l → (cut_set : List ℕ) (source : Region) → FacesShow v cut_set source →
+    MakesAlike v (One (IsCut keeps.Inside plane cut_set layer)) None (clip_layer (plane_of v) v.answers source l)
 
 abbrev pub ErasedPolygonsShow : Type 0
-ErasedPolygonsShow = (v : View) → IsView v → (plane : Plane) → (layer : Layer) (l : StateLayer) → PolygonsShow v layer l → (area : List ℕ) (source : Region) → FacesShow v area source →
-    MakesAlike v (One (IsCut keeps.Outside plane area layer)) None (erase_layer (plane_of v) v.answers source l)
+ErasedPolygonsShow = (v : View) → IsView v → (plane : Plane) → (layer : Layer) (l : StateLayer) → PolygonsShow v layer l → (cut_set : List ℕ) (source : Region) → FacesShow v cut_set source →
+    MakesAlike v (One (IsCut keeps.Outside plane cut_set layer)) None (erase_layer (plane_of v) v.answers source l)
 
 -- ---- dissolve
 

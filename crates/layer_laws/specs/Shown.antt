@@ -24,7 +24,7 @@ use Rattle.run_plane.specs.declared.layer.Layer.{Layer}
 use Rattle.run_plane.specs.declared.layer.Shape.{Shape}
 use Rattle.run_plane.specs.declared.layer.Shape.TheVariants as shape
 use Rattle.run_plane.specs.declared.plane.Plane.{Plane as RunPlane}
-use Rattle.run_state.specs.declared.state.Held.{Held}
+use Rattle.run_state.specs.declared.state.HeldLayer.{HeldLayer}
 use Rattle.chain_model.specs.State as state
 use Rattle.chain_model.specs.State.{State, StateLayer}
 
@@ -116,6 +116,6 @@ abbrev pub SourcesShow : View → List (List Layer) → List (List StateLayer) �
 SourcesShow v held sources = AllZip (AllZip (LayerShows v)) held sources
 
 -- the layers between two commands, with the default target
-pub record StateShows (v : View) (held : List Held) (s : State) : Type 0 where
-  pub layers : AllZip (λ (h : Held). LayerShows v h.layer) held s.layers
-  pub target : s.target ≡ numbers_where (λ (h : Held). h.is_default) held
+pub record StateShows (v : View) (held : List HeldLayer) (s : State) : Type 0 where
+  pub layers : AllZip (λ (h : HeldLayer). LayerShows v h.layer) held s.layers
+  pub target : s.target ≡ numbers_where (λ (h : HeldLayer). h.is_default) held

@@ -7,7 +7,7 @@ use Rattle.job_terms.specs.declared.job.Target.{Target}
 use Rattle.run_plane.specs.declared.layer.Layer.{Layer}
 use Rattle.run_state.specs.Origins as run
 use Rattle.run_state.specs.Targets.{first_layers, has_target, is_selected, targets}
-use Rattle.run_state.specs.declared.state.Held.{Held}
+use Rattle.run_state.specs.declared.state.HeldLayer.{HeldLayer}
 use Rattle.chain_model.specs.Beginning.{first_state}
 use Rattle.chain_model.specs.Outcome.{no_layer}
 use Rattle.chain_model.specs.State.{State, StateLayer}
@@ -17,21 +17,21 @@ use Rattle.layer_laws.specs.Shown.{View, LayerShows, SourcesShow, StateShows}
 use Rattle.layer_laws.specs.Reasons.{AnswerShows}
 
 -- the numbers of the layers that a target selects
-abbrev pub target_numbers : Target → List Held → List ℕ
+abbrev pub target_numbers : Target → List HeldLayer → List ℕ
 target_numbers t layers = numbers_where (is_selected t) layers
 
 -- a target that is there selects its layers in the state too, and any other is refused
-pub record TargetShows (v : View) (t : Target) (layers : List Held) (s : State) : Type 0 where
+pub record TargetShows (v : View) (t : Target) (layers : List HeldLayer) (s : State) : Type 0 where
   pub there : has_target t layers ≡ true → selected s t ≡ Ok (target_numbers t layers)
   pub absent : has_target t layers ≡ false → selected s t ≡ Err no_layer
   pub show : AllZip (LayerShows v) (targets t layers) (layers_at s (target_numbers t layers))
 
 abbrev pub TargetsShow : Type 0
-TargetsShow = (v : View) (layers : List Held) (s : State) → StateShows v layers s → (t : Target) → TargetShows v t layers s
+TargetsShow = (v : View) (layers : List HeldLayer) (s : State) → StateShows v layers s → (t : Target) → TargetShows v t layers s
 
 -- the layers of a name, or those of a source
 abbrev pub OriginsShow : Type 0
-OriginsShow = (v : View) (layers : List Held) (s : State) → StateShows v layers s → (owned : run.Owned) (sources : SourceLayers) → SourcesShow v owned sources → (from : Origin) →
+OriginsShow = (v : View) (layers : List HeldLayer) (s : State) → StateShows v layers s → (owned : run.Owned) (sources : SourceLayers) → SourcesShow v owned sources → (from : Origin) →
     AllZip (LayerShows v) (run.origin_layers owned layers from) (state.origin_layers sources s from)
 
 -- and the one layer among them, or why there is none

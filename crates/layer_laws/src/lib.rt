@@ -21,7 +21,7 @@
 //!   `one_layer_shows`), and its outputs go to the same places (`placed_outputs_show`). The first has all layers for
 //!   its target (`first_layers_show`).
 //! - Commands on polygons: a run's plane is seen in a view (`planes_are_seen`), and what a command cuts by shows the
-//!   region of the state (`areas_show`). So do `clipped_polygons_show`, `erased_polygons_show`,
+//!   region of the state (`cut_sets_show`). So do `clipped_polygons_show`, `erased_polygons_show`,
 //!   `dissolved_polygons_show`, `cleaned_polygons_show`, `islands_show`, `mosaics_show`, `exploded_polygons_show` and
 //!   `united_layers_show`; a layer that is alone is not united (`lone_layers_are_refused`).
 //!
@@ -31,7 +31,7 @@
 ghost use Rattle.layer_laws.specs.Beginnings.{BeginningsShow, DrawingsAreOne};
 ghost use Rattle.layer_laws.specs.Lines.{ClippedLinesShow, ErasedLinesShow, ExplodedLinesShow, GroupedLinesShow, InnerLinesShow, OutlinesShow};
 ghost use Rattle.layer_laws.specs.Placing.{PlacedOutputsShow};
-ghost use Rattle.layer_laws.specs.Polygons.{AreasShow, CleanedPolygonsShow, ClippedPolygonsShow, DissolvedPolygonsShow, ErasedPolygonsShow, ExplodedPolygonsShow, IslandsShow, LoneLayersAreRefused, MosaicsShow, PlanesAreSeen, UnitedLayersShow};
+ghost use Rattle.layer_laws.specs.Polygons.{CutSetsShow, CleanedPolygonsShow, ClippedPolygonsShow, DissolvedPolygonsShow, ErasedPolygonsShow, ExplodedPolygonsShow, IslandsShow, LoneLayersAreRefused, MosaicsShow, PlanesAreSeen, UnitedLayersShow};
 ghost use Rattle.layer_laws.specs.Tables.{
   AssignedFieldsShow,
   EarlyRowsShow,
@@ -184,8 +184,8 @@ pub fn planes_are_seen()
 {}
 
 /// What a command cuts by shows the region of the state, or both refuse it.
-pub fn areas_show()
-    ensures { AreasShow }
+pub fn cut_sets_show()
+    ensures { CutSetsShow }
 {}
 
 /// What a clip leaves of polygons shows what it leaves of the state's regions.

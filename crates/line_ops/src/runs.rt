@@ -18,51 +18,51 @@ enum Keeps {
     Outside,
 }
 
-/// The maximal runs of arcs of each path that are inside the source, path by path, in order.
+/// The maximal runs of arcs of each path that are inside the cut set, path by path, in order.
 ///
 /// A closed path isn't read around: a run at its end and one at its beginning stay two.
 pub fn clip_paths(
     alloc: Global,
     f: &Faces,
     paths: &SignedPaths,
-    source: &FaceSet,
+    cut_set: &FaceSet,
 ) -> Result<SignedPaths, AllocError>
     requires arcs { All (All (HasArc f.now)) paths.now }
-    ensures exact { IfOk result (λ runs. runs ≡ flat_map (runs_where (is_inside f.now source.now)) paths.now) }
+    ensures exact { IfOk result (λ runs. runs ≡ flat_map (runs_where (is_inside f.now cut_set.now)) paths.now) }
     ensures there { (n : ℕ) → All (All (λ a. a.arc < n)) paths.now → IfOk result (All (All (λ a. a.arc < n))) }
 {
-    runs_of_paths(alloc, f, paths, source, Keeps::Inside)
+    runs_of_paths(alloc, f, paths, cut_set, Keeps::Inside)
 }
 
-/// The maximal runs of arcs of each path that aren't inside the source, path by path, in order.
+/// The maximal runs of arcs of each path that aren't inside the cut set, path by path, in order.
 ///
 /// A closed path isn't read around: a run at its end and one at its beginning stay two.
 pub fn erase_paths(
     alloc: Global,
     f: &Faces,
     paths: &SignedPaths,
-    source: &FaceSet,
+    cut_set: &FaceSet,
 ) -> Result<SignedPaths, AllocError>
     requires arcs { All (All (HasArc f.now)) paths.now }
-    ensures exact { IfOk result (λ runs. runs ≡ flat_map (runs_where (is_outside f.now source.now)) paths.now) }
+    ensures exact { IfOk result (λ runs. runs ≡ flat_map (runs_where (is_outside f.now cut_set.now)) paths.now) }
     ensures there { (n : ℕ) → All (All (λ a. a.arc < n)) paths.now → IfOk result (All (All (λ a. a.arc < n))) }
 {
-    runs_of_paths(alloc, f, paths, source, Keeps::Outside)
+    runs_of_paths(alloc, f, paths, cut_set, Keeps::Outside)
 }
 
 fn runs_of_paths(
     alloc: Global,
     f: &Faces,
     paths: &SignedPaths,
-    source: &FaceSet,
+    cut_set: &FaceSet,
     keeps: Keeps,
 ) -> Result<SignedPaths, AllocError>
     requires arcs { All (All (HasArc f.now)) paths.now }
-    ensures exact { IfOk result (λ runs. runs ≡ flat_map (runs_where (is_kept keeps f.now source.now)) paths.now) }
+    ensures exact { IfOk result (λ runs. runs ≡ flat_map (runs_where (is_kept keeps f.now cut_set.now)) paths.now) }
 {
     let mut runs = SignedPaths::new(alloc);
     for path in paths.as_slice() {
-        push_runs(alloc, &mut runs, f, path.as_slice(), source, keeps)?;
+        push_runs(alloc, &mut runs, f, path.as_slice(), cut_set, keeps)?;
     }
     Ok(runs)
 }
@@ -73,15 +73,15 @@ fn push_runs(
     runs: &mut SignedPaths,
     f: &Faces,
     path: &[SignedArc],
-    source: &FaceSet,
+    cut_set: &FaceSet,
     keeps: Keeps,
 ) -> Result<(), AllocError>
     requires arcs { All (HasArc f.now) path.now }
-    ensures exact { OnOk result (runs.new ≡ runs.old ++ runs_where (is_kept keeps f.now source.now) path.now) }
+    ensures exact { OnOk result (runs.new ≡ runs.old ++ runs_where (is_kept keeps f.now cut_set.now) path.now) }
 {
     let mut begun = SignedPath::new(alloc);
     for a in path {
-        if is_kept(f, source, *a, keeps) {
+        if is_kept(f, cut_set, *a, keeps) {
             begun.push(*a)?;
         } else {
             push_run(runs, begun)?;
@@ -91,13 +91,13 @@ fn push_runs(
     push_run(runs, begun)
 }
 
-fn is_kept(f: &Faces, source: &FaceSet, a: SignedArc, keeps: Keeps) -> bool
+fn is_kept(f: &Faces, cut_set: &FaceSet, a: SignedArc, keeps: Keeps) -> bool
     requires arc { HasArc f.now a }
-    ensures exact { result ≡ is_kept keeps f.now source.now a }
+    ensures exact { result ≡ is_kept keeps f.now cut_set.now a }
 {
     match keeps {
-        Keeps::Inside => is_inside(f, source, a),
-        Keeps::Outside => !is_inside(f, source, a),
+        Keeps::Inside => is_inside(f, cut_set, a),
+        Keeps::Outside => !is_inside(f, cut_set, a),
     }
 }
 

@@ -13,9 +13,9 @@ use Rattle.plane_model.specs.Parity.{is_over, is_below}
 use Rattle.plane_model.specs.Below.{rise, rises}
 use Rattle.grid_base.specs.Boxes.{lesser, greater, box_of}
 use Rattle.grid_base.specs.Grid.{Corners, greatest, least}
-use Rattle.bucket_grid.specs.Areas.{share_point, boxes_near}
+use Rattle.bucket_grid.specs.Rects.{share_point, boxes_near}
 use Rattle.grid_base.specs.Grid.{IsOnGrid, is_on_grid, grid_point}
-use Rattle.bucket_grid.specs.Areas.{Holds}
+use Rattle.bucket_grid.specs.Rects.{Holds}
 use Rattle.link_search.specs.Topmost.{HasGridEnds, IsTopmostBelow, boxes_of}
 use Rattle.link_search.specs.Descent.{IsNotAbove, IsFound, IsBelowPoint, IsUpper, IsNextBelow, IsSettled, bottom_of, past_bottom}
 use Rattle.link_search.specs.declared.links.ArcLink.{ArcLink}
@@ -109,7 +109,7 @@ lesser_second m n = go (int_le m n) refl
     go true e = omega (arith, ints)
     go false e = omega (arith, ints)
 
--- a box over the abscissa x shares no point with an area that holds (x, y): it lies above the area or below it
+-- a box over the abscissa x shares no point with a rectangle that holds (x, y): it lies above the rectangle or below it
 apart_upright : (ax bx ay by lx hx ly hy x : ℤ) → ax ≤ℤ x → x ≤ℤ bx → lx ≤ℤ x → x ≤ℤ hx
     → ((int_le ax hx && int_le lx bx) && (int_le ay hy && int_le ly by)) ≡ false → (hy <ℤ ay) ⊎ (by <ℤ ly)
 apart_upright ax bx ay by lx hx ly hy x a b l h e = go (int_le ax hx) (int_le lx bx) (int_le ay hy) (int_le ly by) refl refl refl refl e
@@ -121,9 +121,9 @@ apart_upright ax bx ay by lx hx ly hy x a b l h e = go (int_le ax hx) (int_le lx
     go true true true false f g i j k = inr (omega (arith, ints))
     go true true true true f g i j k = absurd (cc)
 
-module _ (links : List ArcLink) (p : GridPoint) (best result : Option ArcLink) (q : GridPoint) (area : Corners) (held : Holds area q) (down : IsDownTo links p best q)
+module _ (links : List ArcLink) (p : GridPoint) (best result : Option ArcLink) (q : GridPoint) (rect : Corners) (held : Holds rect q) (down : IsDownTo links p best q)
     (kept : (k : ArcLink) → is_below (at p) k.link ≡ true → IsNotAbove p k best → IsNotAbove p k result)
-    (near : (k : ArcLink) → Contains links k → share_point area (box_of k.link) ≡ true → is_below (at p) k.link ≡ true → IsNotAbove p k result) where
+    (near : (k : ArcLink) → Contains links k → share_point rect (box_of k.link) ≡ true → is_below (at p) k.link ≡ true → IsNotAbove p k result) where
   abbrev top : ArcLink → ℤ
   top k = greater k.link.start.y k.link.stop.y
 
@@ -143,8 +143,8 @@ module _ (links : List ArcLink) (p : GridPoint) (best result : Option ArcLink) (
       lt : (a b : ℤ) → int_lt a b ≡ true → a <ℤ b
       lt a b e = omega (arith, ints)
 
-  -- a link below p that stands above the area
-  above : (k : ArcLink) → Contains links k → is_below (at p) k.link ≡ true → area.high.y <ℤ foot k → IsNotAbove p k result
+  -- a link below p that stands above the rectangle
+  above : (k : ArcLink) → Contains links k → is_below (at p) k.link ≡ true → rect.high.y <ℤ foot k → IsNotAbove p k result
   above k c b h = elim (zero_or_less (q.y -ℤ p.y)) [
     | inl level ↦ absurd (not_below p k.link (over_of p k b)
         (let x = lesser_first k.link.start.y k.link.stop.y in let u = held.upper in let d = down.lower in omega (arith, ints))
@@ -156,11 +156,11 @@ module _ (links : List ArcLink) (p : GridPoint) (best result : Option ArcLink) (
     ]
   ]
 
-  -- so one that is not known yet lies below the area
-  unknown : (k : ArcLink) → Contains links k → is_below (at p) k.link ≡ true → (top k <ℤ area.low.y) ⊎ IsNotAbove p k result
-  unknown k c b = go (share_point area (box_of k.link)) refl
+  -- so one that is not known yet lies below the rectangle
+  unknown : (k : ArcLink) → Contains links k → is_below (at p) k.link ≡ true → (top k <ℤ rect.low.y) ⊎ IsNotAbove p k result
+  unknown k c b = go (share_point rect (box_of k.link)) refl
     where
-      go : (t : Bool) → share_point area (box_of k.link) ≡ t → (top k <ℤ area.low.y) ⊎ IsNotAbove p k result
+      go : (t : Bool) → share_point rect (box_of k.link) ≡ t → (top k <ℤ rect.low.y) ⊎ IsNotAbove p k result
       go true e = inr (near k c e b)
       go false e =
           let w = within k b in
@@ -169,28 +169,28 @@ module _ (links : List ArcLink) (p : GridPoint) (best result : Option ArcLink) (
           let hr = held.right in
           let a = lesser_first k.link.start.x k.link.stop.x in
           let z = greater_second k.link.start.x k.link.stop.x in
-          elim (apart_upright area.low.x area.high.x area.low.y area.high.y (lesser k.link.start.x k.link.stop.x) (greater k.link.start.x k.link.stop.x) (foot k) (top k) p.x
+          elim (apart_upright rect.low.x rect.high.x rect.low.y rect.high.y (lesser k.link.start.x k.link.stop.x) (greater k.link.start.x k.link.stop.x) (foot k) (top k) p.x
           (omega (arith, ints)) (omega (arith, ints)) (let m = w.0 in omega (arith, ints)) (let m = w.1 in omega (arith, ints)) e) [
             | inl low ↦ inl low
             | inr high ↦ inr (above k c b high)
           ]
 
-  pub goes_on_down : IsDownTo links p result (past_bottom area p)
+  pub goes_on_down : IsDownTo links p result (past_bottom rect p)
   goes_on_down = record {
     straight = refl;
     lower = (let l = held.lower in let d = down.lower in omega (arith, ints));
     known = λ k c b h. elim (unknown k c b) [ inl low ↦ inl (omega (arith, ints)) | inr known ↦ inr known ];
   }
 
-  settled : (best : Option ArcLink) → IsFound links p best → IsSettled best (bottom_of area p) → (k : ArcLink) → is_below (at p) k.link ≡ true → top k <ℤ area.low.y → IsNotAbove p k best
+  settled : (best : Option ArcLink) → IsFound links p best → IsSettled best (bottom_of rect p) → (k : ArcLink) → is_below (at p) k.link ≡ true → top k <ℤ rect.low.y → IsNotAbove p k best
   settled None f s k b low = s
   settled (Some l) f s k b low =
-      under_by p area.low.y l.link k.link (over_of p l f.1) (over_of p k b) s
-      (passes_below (bottom_of area p) k.link (over_of p k b)
+      under_by p rect.low.y l.link k.link (over_of p l f.1) (over_of p k b) s
+      (passes_below (bottom_of rect p) k.link (over_of p k b)
       (let x = greater_first k.link.start.y k.link.stop.y in omega (arith, ints))
       (let x = greater_second k.link.start.y k.link.stop.y in omega (arith, ints)))
 
-  pub all_known : IsFound links p result → All HasGridEnds links → IsOnGrid p → IsNextBelow area p result None → IsKnown links p result
+  pub all_known : IsFound links p result → All HasGridEnds links → IsOnGrid p → IsNextBelow rect p result None → IsKnown links p result
   all_known f grid here next k c b = elim (unknown k c b) [
     | inr known ↦ known
     | inl low ↦ elim next [
@@ -199,7 +199,7 @@ module _ (links : List ArcLink) (p : GridPoint) (best result : Option ArcLink) (
           let ends = All-contains HasGridEnds links k grid c in
           let y = ends.start.y_low in
           let x = greater_first k.link.start.y k.link.stop.y in
-          absurd (ends_here (p.x) (area.low.y -ℤ pos 1) here.x_low here.x_high (omega (arith, ints)) (let l = held.lower in let d = down.lower in let u = here.y_high in omega (arith, ints)) off))
+          absurd (ends_here (p.x) (rect.low.y -ℤ pos 1) here.x_low here.x_high (omega (arith, ints)) (let l = held.lower in let d = down.lower in let u = here.y_high in omega (arith, ints)) off))
     ]
   ]
     where
@@ -213,39 +213,39 @@ module _ (links : List ArcLink) (p : GridPoint) (best result : Option ArcLink) (
           go true true true false f g i j k = absurd (omega (arith, ints))
           go true true true true f g i j k = absurd (cc)
 
-pub reached_after : (links : List ArcLink) (p : GridPoint) (best result : Option ArcLink) (q : GridPoint) (area : Corners) → Holds area q → IsDownTo links p best q →
+pub reached_after : (links : List ArcLink) (p : GridPoint) (best result : Option ArcLink) (q : GridPoint) (rect : Corners) → Holds rect q → IsDownTo links p best q →
     ((k : ArcLink) → is_below (at p) k.link ≡ true → IsNotAbove p k best → IsNotAbove p k result) →
-    ((k : ArcLink) → Contains links k → share_point area (box_of k.link) ≡ true → is_below (at p) k.link ≡ true → IsNotAbove p k result) →
-    (next : Option GridPoint) → IsFound links p result → All HasGridEnds links → IsOnGrid p → IsNextBelow area p result next → IsReached links p result next
-reached_after links p best result q area held down kept near None f grid here n = all_known links p best result q area held down kept near f grid here n
-reached_after links p best result q area held down kept near (Some r) f grid here n = subst (IsDownTo links p result) (sym n.0) (goes_on_down links p best result q area held down kept near)
+    ((k : ArcLink) → Contains links k → share_point rect (box_of k.link) ≡ true → is_below (at p) k.link ≡ true → IsNotAbove p k result) →
+    (next : Option GridPoint) → IsFound links p result → All HasGridEnds links → IsOnGrid p → IsNextBelow rect p result next → IsReached links p result next
+reached_after links p best result q rect held down kept near None f grid here n = all_known links p best result q rect held down kept near f grid here n
+reached_after links p best result q rect held down kept near (Some r) f grid here n = subst (IsDownTo links p result) (sym n.0) (goes_on_down links p best result q rect held down kept near)
 
--- what is near an area is in its bucket
-pub near_of : (links : List ArcLink) (areas : List Corners) (near : List (List ℕ)) (place : ℕ) (area : Corners) → near ≡ map (boxes_near (boxes_of links)) areas → place < length areas → get_or areas place area ≡ area →
-    (k : ArcLink) → Contains links k → share_point area (box_of k.link) ≡ true → (ids : List ℕ) × (slice_get near place ≡ Some ids) × ((i : ℕ) × Contains ids i × (slice_get links i ≡ Some k))
-near_of links areas near place area e l is k c s =
+-- what is near a rectangle is in its bucket
+pub near_of : (links : List ArcLink) (rects : List Corners) (near : List (List ℕ)) (place : ℕ) (rect : Corners) → near ≡ map (boxes_near (boxes_of links)) rects → place < length rects → get_or rects place rect ≡ rect →
+    (k : ArcLink) → Contains links k → share_point rect (box_of k.link) ≡ true → (ids : List ℕ) × (slice_get near place ≡ Some ids) × ((i : ℕ) × Contains ids i × (slice_get links i ≡ Some k))
+near_of links rects near place rect e l is k c s =
     let boxes = boxes_of links in
     let many : length boxes ≡ length links = length-map links (λ (a : ArcLink). box_of a.link) in
-    let size : length (map (boxes_near boxes) areas) ≡ length areas = length-map areas (boxes_near boxes) in
+    let size : length (map (boxes_near boxes) rects) ≡ length rects = length-map rects (boxes_near boxes) in
     let below = c.1 in (
-      boxes_near boxes area,
-      ap (λ (xs : List (List ℕ)). slice_get xs place) e ∙ slice_get-get_or (map (boxes_near boxes) areas) place (boxes_near boxes area) (omega arith)
-          ∙ ap Some (get_or-map (boxes_near boxes) areas place area (boxes_near boxes area) l ∙ ap (boxes_near boxes) is),
+      boxes_near boxes rect,
+      ap (λ (xs : List (List ℕ)). slice_get xs place) e ∙ slice_get-get_or (map (boxes_near boxes) rects) place (boxes_near boxes rect) (omega arith)
+          ∙ ap Some (get_or-map (boxes_near boxes) rects place rect (boxes_near boxes rect) l ∙ ap (boxes_near boxes) is),
       (
         c.0,
-        Contains-numbers_where (share_point area) boxes c.0 (box_of k.link) (omega arith)
-            (ap (share_point area) (get_or-map (λ (a : ArcLink). box_of a.link) links c.0 k (box_of k.link) below ∙ ap (λ (a : ArcLink). box_of a.link) c.2) ∙ s),
+        Contains-numbers_where (share_point rect) boxes c.0 (box_of k.link) (omega arith)
+            (ap (share_point rect) (get_or-map (λ (a : ArcLink). box_of a.link) links c.0 k (box_of k.link) below ∙ ap (λ (a : ArcLink). box_of a.link) c.2) ∙ s),
         slice_get-get_or links c.0 k below ∙ ap Some c.2,
       ),
     )
 
--- what is left to do below an area
-pub next_of : (area : Corners) (p : GridPoint) (best : Option ArcLink) (next : Option GridPoint) → next ≡ grid_point p.x (area.low.y -ℤ pos 1) → IsNextBelow area p best next
-next_of area p best next e = go (is_on_grid (past_bottom area p)) refl next e
+-- what is left to do below a rectangle
+pub next_of : (rect : Corners) (p : GridPoint) (best : Option ArcLink) (next : Option GridPoint) → next ≡ grid_point p.x (rect.low.y -ℤ pos 1) → IsNextBelow rect p best next
+next_of rect p best next e = go (is_on_grid (past_bottom rect p)) refl next e
   where
-    go : (b : Bool) → is_on_grid (past_bottom area p) ≡ b → (next : Option GridPoint) → next ≡ cond b (Some (past_bottom area p)) None → IsNextBelow area p best next
-    go true f None e = absurd (let g : None ≡ Some (past_bottom area p) = e in cc)
-    go true f (Some q) e = (let g : Some q ≡ Some (past_bottom area p) = e in cc, f)
+    go : (b : Bool) → is_on_grid (past_bottom rect p) ≡ b → (next : Option GridPoint) → next ≡ cond b (Some (past_bottom rect p)) None → IsNextBelow rect p best next
+    go true f None e = absurd (let g : None ≡ Some (past_bottom rect p) = e in cc)
+    go true f (Some q) e = (let g : Some q ≡ Some (past_bottom rect p) = e in cc, f)
     go false f None e = inr f
     go false f (Some q) e = absurd (let g : Some q ≡ None = e in cc)
 

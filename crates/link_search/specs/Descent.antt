@@ -26,19 +26,19 @@ pub record IsUpper (p : GridPoint) (topmost : Option ArcLink) (l : ArcLink) (res
   pub this : is_below (at p) l.link ≡ true → IsNotAbove p l result
   pub kept : (k : ArcLink) → is_below (at p) k.link ≡ true → IsNotAbove p k topmost → IsNotAbove p k result
 
--- the lowest point of an area that is straight below p, and the one below that
+-- the lowest point of a rectangle that is straight below p, and the one below that
 abbrev pub bottom_of : Corners → GridPoint → GridPoint
-bottom_of area p = record { x = p.x; y = area.low.y }
+bottom_of rect p = record { x = p.x; y = rect.low.y }
 
 abbrev pub past_bottom : Corners → GridPoint → GridPoint
-past_bottom area p = record { x = p.x; y = area.low.y -ℤ pos 1 }
+past_bottom rect p = record { x = p.x; y = rect.low.y -ℤ pos 1 }
 
 -- the topmost link so far passes through a point or above it
 abbrev pub IsSettled : Option ArcLink → GridPoint → Type 0
 IsSettled None q = ⊥
 IsSettled (Some l) q = turn (at l.link.start) (at l.link.stop) (at q) ≤ℤ pos 0
 
--- from an area one goes on below it, unless no link further down can be the topmost, or the grid ends
+-- from a rectangle one goes on below it, unless no link further down can be the topmost, or the grid ends
 abbrev pub IsNextBelow : Corners → GridPoint → Option ArcLink → Option GridPoint → Type 0
-IsNextBelow area p best None = IsSettled best (bottom_of area p) ⊎ (is_on_grid (past_bottom area p) ≡ false)
-IsNextBelow area p best (Some q) = (q ≡ past_bottom area p) × (is_on_grid (past_bottom area p) ≡ true)
+IsNextBelow rect p best None = IsSettled best (bottom_of rect p) ⊎ (is_on_grid (past_bottom rect p) ≡ false)
+IsNextBelow rect p best (Some q) = (q ≡ past_bottom rect p) × (is_on_grid (past_bottom rect p) ≡ true)

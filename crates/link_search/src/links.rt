@@ -21,8 +21,8 @@ pub fn boxes_of(alloc: Global, links: &[ArcLink]) -> Result<BoxList, AllocError>
 {
     let mut boxes = BoxList::with_capacity(alloc, links.len())?;
     for l in links {
-        let area = Rect::around(l.link.low(), l.link.high());
-        boxes.push(area)?;
+        let rect = Rect::around(l.link.low(), l.link.high());
+        boxes.push(rect)?;
     }
     Ok(boxes)
 }

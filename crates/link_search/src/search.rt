@@ -1,7 +1,7 @@
 ghost use Rattle.std.specs.Prelude.{◌≡◌, All, Contains, IfOk, IfSome, OnOk, List, Some, ℕ, length, map, slice_get, slice_index_or, true, false, ◌<◌, ◌-ℤ◌, pos};
 ghost use Rattle.plane_model.specs.Points.{at};
 ghost use Rattle.plane_model.specs.Parity.{is_below};
-ghost use Rattle.bucket_grid.specs.Areas.{boxes_near, whole};
+ghost use Rattle.bucket_grid.specs.Rects.{boxes_near, whole};
 ghost use Rattle.grid_base.specs.Grid.{IsOnGrid, grid_point};
 ghost use Rattle.link_search.specs.Descent.{IsBelowPoint, IsFound, IsNextBelow, IsNotAbove, IsSettled, IsUpper};
 ghost use Rattle.link_search.specs.Parting.{AreTreesOver, LeadsToAll, parts_of};
@@ -31,7 +31,7 @@ pub struct LinkSearch {
     pub buckets: Buckets,
     // for each bucket a tree of the links near it, where these are many
     pub trees: Vec<Option<LinkTree>>,
-    ghost near: { buckets.near ≡ map (boxes_near (boxes_of links.items)) buckets.areas },
+    ghost near: { buckets.near ≡ map (boxes_near (boxes_of links.items)) buckets.rects },
     ghost on_grid: { All HasGridEnds links.items },
     ghost sorted: { AreByStart links.items },
     ghost led: { ∥ AreTreesOver links.items buckets.near trees.items ∥₁ },
@@ -79,12 +79,12 @@ impl LinkSearch {
 
     // The next point to look from, below a bucket; `None` where no link in a lower bucket can pass `best`.
     fn next_below(&self, place: u32, p: Pt, best: &Option<ArcLink>) -> Option<Pt>
-        requires place { place < length self.now.buckets.areas }
-        ensures exact { IsNextBelow (slice_index_or self.now.buckets.areas place whole) p best.now result }
+        requires place { place < length self.now.buckets.rects }
+        ensures exact { IsNextBelow (slice_index_or self.now.buckets.rects place whole) p best.now result }
         ensures on_grid { IsOnGrid p }
     {
-        let area = self.buckets.area_of(place)?;
-        let bottom = straight_below(p, area.low())?;
+        let rect = self.buckets.area_of(place)?;
+        let bottom = straight_below(p, rect.low())?;
         if is_settled(best, bottom) {
             return None;
         }
@@ -168,15 +168,15 @@ fn tree_at(
     let Some(near) = buckets.each_near(place) else {
         return Ok(None);
     };
-    let Some(area) = buckets.area_of(place) else {
+    let Some(rect) = buckets.area_of(place) else {
         return Ok(None);
     };
     if near.len() <= CROWD || !has_many_rays(links, highs, near) {
         return Ok(None);
     }
     let stretch = Stretch {
-        low: area.low().x(),
-        high: area.high().x(),
+        low: rect.low().x(),
+        high: rect.high().x(),
     };
     Ok(Some(tree_of(alloc, links, near, stretch, MAX_STEPS)?))
 }

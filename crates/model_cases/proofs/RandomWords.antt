@@ -5,7 +5,7 @@ use Rattle.std.specs.Str.{bytes_eq}
 use Rattle.table_terms.specs.Names.{Text}
 use Rattle.numerals.specs.Decimal.{decimal_of_text}
 use Rattle.numerals.specs.Numeral.{numeral_of, grid_of_text}
-use Rattle.cmd_words.specs.Areas.{places_of, area_of}
+use Rattle.cmd_words.specs.Boxes.{places_of, box_of_text}
 use Rattle.cmd_words.specs.Expressions.{Refusals}
 use Rattle.cmd_words.specs.Words.{JobWords, Reading}
 use Rattle.cmd_words.specs.declared.fault.ExprWhy.{ExprWhy}
@@ -60,7 +60,7 @@ w6 : fault_of (codes "a.json" ∷ codes "-o" ∷ codes "target=a,,b" ∷ codes "
 w6 = refl
 
 w7 : fault_of (codes "b.CSV" ∷ codes "precision=0.0000001" ∷ codes "-clean" ∷ []) ≡ None
-unfolding numeral_of grid_of_text decimal_of_text places_of area_of
+unfolding numeral_of grid_of_text decimal_of_text places_of box_of_text
 w7 = refl
 
 w8 : fault_of (codes "-" ∷ codes "-clip" ∷ codes "-join" ∷ []) ≡ Some (2, why.MissingArgument)
@@ -97,7 +97,7 @@ w18 : fault_of (codes "-" ∷ codes "-split" ∷ codes "name=x" ∷ codes "name=
 w18 = refl
 
 w19 : fault_of (codes "a.json" ∷ codes "precision=10e-1" ∷ codes "-filter" ∷ codes "+" ∷ codes "-split" ∷ codes "target=*" ∷ codes "" ∷ codes "target=" ∷ codes "-explode" ∷ []) ≡ Some (3, why.MissingArgument)
-unfolding numeral_of grid_of_text decimal_of_text places_of area_of
+unfolding numeral_of grid_of_text decimal_of_text places_of box_of_text
 w19 = refl
 
 w20 : fault_of (codes "-" ∷ codes "-mosaic" ∷ codes "name=q" ∷ []) ≡ None
@@ -116,11 +116,11 @@ w24 : fault_of (codes "-" ∷ codes "-merge-layers" ∷ codes "-lines" ∷ codes
 w24 = refl
 
 w25 : fault_of (codes "a.json" ∷ codes "precision=10e-1" ∷ codes "-explode" ∷ codes "target=" ∷ codes "target=" ∷ []) ≡ Some (4, why.MissingValue)
-unfolding numeral_of grid_of_text decimal_of_text places_of area_of
+unfolding numeral_of grid_of_text decimal_of_text places_of box_of_text
 w25 = refl
 
 w26 : fault_of (codes "-" ∷ codes "precision=0.0000001" ∷ codes "-filter" ∷ codes "target=*" ∷ codes "target=*" ∷ codes "a /" ∷ []) ≡ Some (5, why.OptionTwice)
-unfolding numeral_of grid_of_text decimal_of_text places_of area_of
+unfolding numeral_of grid_of_text decimal_of_text places_of box_of_text
 w26 = refl
 
 w27 : fault_of (codes "a.json" ∷ codes "-clean" ∷ codes "-o" ∷ codes "300" ∷ codes "" ∷ codes "-" ∷ codes "-rename-fields" ∷ codes "a=b," ∷ codes "-i" ∷ []) ≡ Some (5, why.ExtraWord)
@@ -136,22 +136,22 @@ w30 : fault_of (codes "-filter-fields" ∷ codes "n=" ∷ []) ≡ Some (1, why.N
 w30 = refl
 
 w31 : fault_of (codes "b.CSV" ∷ codes "precision=1" ∷ codes "-innerlines" ∷ codes "-merge-layers" ∷ codes "target=" ∷ codes "name=q" ∷ []) ≡ Some (5, why.MissingValue)
-unfolding numeral_of grid_of_text decimal_of_text places_of area_of
+unfolding numeral_of grid_of_text decimal_of_text places_of box_of_text
 w31 = refl
 
 w32 : fault_of (codes "b.CSV" ∷ codes "-innerlines" ∷ codes "name=" ∷ []) ≡ Some (3, why.MissingValue)
 w32 = refl
 
 w33 : fault_of (codes "precision=0.0000001" ∷ codes "-o" ∷ codes "-filter-fields" ∷ codes "-filter-fields" ∷ codes "target=x" ∷ []) ≡ Some (1, why.NoInput)
-unfolding numeral_of grid_of_text decimal_of_text places_of area_of
+unfolding numeral_of grid_of_text decimal_of_text places_of box_of_text
 w33 = refl
 
 w34 : fault_of (codes "b.CSV" ∷ codes "precision=0.10" ∷ codes "-erase" ∷ codes "bbox=0,0,1,1" ∷ codes "-dissolve" ∷ codes "" ∷ codes "target=" ∷ codes "-lines" ∷ codes "target=x" ∷ []) ≡ Some (6, why.MissingValue)
-unfolding numeral_of grid_of_text decimal_of_text places_of area_of
+unfolding numeral_of grid_of_text decimal_of_text places_of box_of_text
 w34 = refl
 
 w35 : fault_of (codes "-" ∷ codes "precision=0.5" ∷ codes "-clip" ∷ codes "name=q" ∷ codes "bbox=0,0,1,1" ∷ codes "bbox=0,0,3000000000,1" ∷ []) ≡ Some (2, why.BadPrecision)
-unfolding numeral_of grid_of_text decimal_of_text places_of area_of
+unfolding numeral_of grid_of_text decimal_of_text places_of box_of_text
 w35 = refl
 
 w36 : fault_of (codes "b.CSV" ∷ codes "-rename-fields" ∷ []) ≡ Some (2, why.MissingArgument)
@@ -161,11 +161,11 @@ w37 : fault_of (codes "b.CSV" ∷ codes "-clip" ∷ []) ≡ Some (2, why.Missing
 w37 = refl
 
 w38 : fault_of (codes "-" ∷ codes "string-fields=a,b" ∷ codes "-clip" ∷ codes "name=" ∷ codes "a.json" ∷ codes "bbox=1,0,0,1" ∷ codes "-mosaic" ∷ codes "-merge-layers" ∷ []) ≡ Some (4, why.MissingValue)
-unfolding numeral_of grid_of_text decimal_of_text places_of area_of
+unfolding numeral_of grid_of_text decimal_of_text places_of box_of_text
 w38 = refl
 
 w39 : fault_of (codes "a.json" ∷ codes "precision=0.10" ∷ codes "-clean" ∷ codes "-o" ∷ codes "overlap-rule=min-id" ∷ codes "overlap-rule=big" ∷ []) ≡ Some (5, why.UnknownOption)
-unfolding numeral_of grid_of_text decimal_of_text places_of area_of
+unfolding numeral_of grid_of_text decimal_of_text places_of box_of_text
 w39 = refl
 
 w40 : fault_of (codes "b.CSV" ∷ codes "-merge-layers" ∷ codes "target=" ∷ codes "target=" ∷ codes "-filter" ∷ codes "target=a,,b" ∷ []) ≡ Some (3, why.MissingValue)
@@ -194,18 +194,18 @@ w47 : fault_of (codes "-" ∷ codes "string-fields=a," ∷ codes "-dissolve" ∷
 w47 = refl
 
 w48 : fault_of (codes "a.json" ∷ codes "precision=1" ∷ codes "-mosaic" ∷ codes "target=x" ∷ []) ≡ None
-unfolding numeral_of grid_of_text decimal_of_text places_of area_of
+unfolding numeral_of grid_of_text decimal_of_text places_of box_of_text
 w48 = refl
 
 w49 : fault_of (codes "-split" ∷ codes "-clean" ∷ codes "name=q" ∷ codes "allow-empty" ∷ codes "overlap-rule=big" ∷ codes "-erase" ∷ codes "bbox=0,0,1,1" ∷ codes "name=" ∷ []) ≡ Some (1, why.NoInput)
-unfolding numeral_of grid_of_text decimal_of_text places_of area_of
+unfolding numeral_of grid_of_text decimal_of_text places_of box_of_text
 w49 = refl
 
 w50 : fault_of (codes "b.CSV" ∷ codes "-merge-layers" ∷ codes "-o" ∷ []) ≡ Some (3, why.MissingArgument)
 w50 = refl
 
 w51 : fault_of (codes "a.json" ∷ codes "precision=0.5" ∷ codes "-merge-layers" ∷ codes "name=" ∷ codes "target=x" ∷ codes "name=q" ∷ codes "-explode" ∷ codes "name=q" ∷ []) ≡ Some (2, why.BadPrecision)
-unfolding numeral_of grid_of_text decimal_of_text places_of area_of
+unfolding numeral_of grid_of_text decimal_of_text places_of box_of_text
 w51 = refl
 
 w52 : fault_of (codes "b.CSV" ∷ codes "-dissolve" ∷ codes "copy-fields=q,r" ∷ codes "" ∷ codes "target=" ∷ codes "-explode" ∷ codes "1" ∷ codes "name=" ∷ []) ≡ Some (4, why.MissingValue)
@@ -227,18 +227,18 @@ w57 : fault_of (codes "b.CSV" ∷ codes "-innerlines" ∷ codes "target=a,,b" �
 w57 = refl
 
 w58 : fault_of (codes "a.json" ∷ codes "precision=0.10" ∷ codes "-dissolve" ∷ codes "n,,s" ∷ codes "-erase" ∷ codes "target=a,,b" ∷ codes "x" ∷ codes "-" ∷ codes "-merge-layers" ∷ []) ≡ Some (4, why.MissingValue)
-unfolding numeral_of grid_of_text decimal_of_text places_of area_of
+unfolding numeral_of grid_of_text decimal_of_text places_of box_of_text
 w58 = refl
 
 w59 : fault_of (codes "b.CSV" ∷ codes "x.shp" ∷ codes "-explode" ∷ codes "name=" ∷ codes "name=q" ∷ []) ≡ Some (2, why.UnsupportedFile)
 w59 = refl
 
 w60 : fault_of (codes "a.json" ∷ codes "precision=0.5" ∷ codes "-merge-layers" ∷ []) ≡ Some (2, why.BadPrecision)
-unfolding numeral_of grid_of_text decimal_of_text places_of area_of
+unfolding numeral_of grid_of_text decimal_of_text places_of box_of_text
 w60 = refl
 
 w61 : fault_of (codes "-" ∷ codes "string-fields=a," ∷ codes "-join" ∷ codes "-clip" ∷ codes "keys=a" ∷ codes "bbox=0,0,3000000000,1" ∷ codes "target=*" ∷ []) ≡ Some (2, why.MissingValue)
-unfolding numeral_of grid_of_text decimal_of_text places_of area_of
+unfolding numeral_of grid_of_text decimal_of_text places_of box_of_text
 w61 = refl
 
 w62 : fault_of (codes "-" ∷ codes "-merge-layers" ∷ []) ≡ None
@@ -281,7 +281,7 @@ w74 : fault_of (codes "-" ∷ codes "-merge-layers" ∷ codes "x" ∷ []) ≡ So
 w74 = refl
 
 w75 : fault_of (codes "a.json" ∷ codes "c.topojson" ∷ codes "-rename-fields" ∷ codes "n=" ∷ codes "-clip" ∷ codes "-" ∷ codes "bbox=1,0,0,1" ∷ codes "target=" ∷ []) ≡ Some (4, why.BadChoice)
-unfolding numeral_of grid_of_text decimal_of_text places_of area_of
+unfolding numeral_of grid_of_text decimal_of_text places_of box_of_text
 w75 = refl
 
 w76 : fault_of (codes "a.json" ∷ codes "-clip" ∷ codes "+" ∷ codes "-" ∷ codes "combine-files" ∷ codes "-erase" ∷ codes "target=x" ∷ codes "target=x" ∷ []) ≡ Some (5, why.ExtraWord)
@@ -294,11 +294,11 @@ w78 : fault_of (codes "-" ∷ codes "-clip" ∷ codes "x" ∷ codes "target=a,,b
 w78 = refl
 
 w79 : fault_of (codes "-" ∷ codes "precision=0.5" ∷ codes "-split" ∷ codes "target=" ∷ codes "name=q" ∷ codes "target=a,,b" ∷ []) ≡ Some (2, why.BadPrecision)
-unfolding numeral_of grid_of_text decimal_of_text places_of area_of
+unfolding numeral_of grid_of_text decimal_of_text places_of box_of_text
 w79 = refl
 
 w80 : fault_of (codes "b.CSV" ∷ codes "-erase" ∷ codes "target=*" ∷ codes "-innerlines" ∷ codes "target=*" ∷ codes "bbox=0,0,3000000000,1" ∷ []) ≡ Some (2, why.MissingArgument)
-unfolding numeral_of grid_of_text decimal_of_text places_of area_of
+unfolding numeral_of grid_of_text decimal_of_text places_of box_of_text
 w80 = refl
 
 w81 : fault_of (codes "-" ∷ codes "-filter" ∷ codes "name=q" ∷ []) ≡ Some (2, why.MissingArgument)
@@ -341,7 +341,7 @@ w93 : fault_of (codes "b.CSV" ∷ codes "-dissolve" ∷ codes "target=x" ∷ cod
 w93 = refl
 
 w94 : fault_of (codes "b.CSV" ∷ codes "-clip" ∷ codes "bbox=0,0,3000000000,1" ∷ codes "bbox=1,2,3" ∷ codes "bbox=1,0,0,1" ∷ codes "-rename-fields" ∷ codes "a=b," ∷ codes "n=" ∷ codes "=o" ∷ codes "-dissolve" ∷ codes "target=a,,b" ∷ []) ≡ Some (3, why.BoxRange)
-unfolding numeral_of grid_of_text decimal_of_text places_of area_of
+unfolding numeral_of grid_of_text decimal_of_text places_of box_of_text
 w94 = refl
 
 w95 : fault_of (codes "a.json" ∷ codes "-filter" ∷ codes "target=*" ∷ codes "target=" ∷ codes "name=" ∷ []) ≡ Some (4, why.OptionTwice)
@@ -375,7 +375,7 @@ w104 : fault_of (codes "-" ∷ codes "string-fields=a,b" ∷ codes "-explode" �
 w104 = refl
 
 w105 : fault_of (codes "a.json" ∷ codes "precision=0.10" ∷ codes "-dissolve" ∷ codes "target=*" ∷ []) ≡ None
-unfolding numeral_of grid_of_text decimal_of_text places_of area_of
+unfolding numeral_of grid_of_text decimal_of_text places_of box_of_text
 w105 = refl
 
 w106 : fault_of (codes "-" ∷ codes "combine-files" ∷ codes "-filter" ∷ []) ≡ Some (3, why.MissingArgument)
@@ -400,7 +400,7 @@ w112 : fault_of (codes "-" ∷ codes "-explode" ∷ []) ≡ None
 w112 = refl
 
 w113 : fault_of (codes "a.json" ∷ codes "precision=0.10" ∷ codes "-dissolve" ∷ []) ≡ None
-unfolding numeral_of grid_of_text decimal_of_text places_of area_of
+unfolding numeral_of grid_of_text decimal_of_text places_of box_of_text
 w113 = refl
 
 w114 : fault_of (codes "-" ∷ codes "-merge-layers" ∷ codes "name=q" ∷ codes "target=a,,b" ∷ codes "target=" ∷ codes "-explode" ∷ codes "target=" ∷ codes "-merge-layers" ∷ codes "o.geojson" ∷ codes "target=a,,b" ∷ codes "-rename-fields" ∷ []) ≡ Some (4, why.MissingValue)
@@ -413,7 +413,7 @@ w116 : fault_of (codes "-" ∷ codes "-erase" ∷ codes "-" ∷ []) ≡ Some (3,
 w116 = refl
 
 w117 : fault_of (codes "a.json" ∷ codes "-rename-fields" ∷ codes "target=*" ∷ codes "target=a,,b" ∷ codes "bbox=1,0,0,1" ∷ codes "-innerlines" ∷ codes "name=" ∷ codes "target=*" ∷ codes "name=" ∷ []) ≡ Some (4, why.OptionTwice)
-unfolding numeral_of grid_of_text decimal_of_text places_of area_of
+unfolding numeral_of grid_of_text decimal_of_text places_of box_of_text
 w117 = refl
 
 w118 : fault_of (codes "b.CSV" ∷ codes "-split" ∷ codes "" ∷ []) ≡ None

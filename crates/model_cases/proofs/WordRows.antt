@@ -4,7 +4,7 @@ use Rattle.table_terms.specs.Names.{Text}
 use Rattle.numerals.specs.Decimal.{decimal_of_text}
 use Rattle.numerals.specs.Numeral.{numeral_of, grid_of_text}
 use Rattle.grid_base.specs.declared.kinds.OverlapRule.TheVariants.{MaxArea, MinArea}
-use Rattle.cmd_words.specs.Areas.{places_of, area_of}
+use Rattle.cmd_words.specs.Boxes.{places_of, box_of_text}
 use Rattle.cmd_words.specs.Expressions.{Refusals, expression, assignments}
 use Rattle.cmd_words.specs.Quantities.{area_units, doubled_below, doubled_above}
 use Rattle.cmd_words.specs.Words.{JobWords, Reading, synth, chain}
@@ -27,7 +27,7 @@ abbrev reads : List Text → Reading JobWords
 reads ws = words_say (λ kind s. Some (2, Unsupported)) ws
 
 precision : reads (codes "in.json" ∷ codes "precision=0.5" ∷ codes "-o" ∷ codes "-" ∷ []) ≡ Err (2, why.BadPrecision)
-unfolding numeral_of grid_of_text decimal_of_text places_of area_of
+unfolding numeral_of grid_of_text decimal_of_text places_of box_of_text
 precision = refl
 
 bogus : reads (codes "in.json" ∷ codes "-bogus" ∷ codes "-o" ∷ codes "-" ∷ []) ≡ Err (2, why.UnknownCommand)
@@ -62,7 +62,7 @@ boxed : reads (codes "in.json" ∷ codes "precision=1" ∷ codes "-clip" ∷ cod
     reads_standard = false;
   };
 }))
-unfolding numeral_of grid_of_text decimal_of_text places_of area_of
+unfolding numeral_of grid_of_text decimal_of_text places_of box_of_text
 boxed = refl
 
 -- a source file of a command
@@ -82,11 +82,11 @@ standard_twice : reads (codes "-" ∷ codes "-clip" ∷ codes "-" ∷ []) ≡ Er
 standard_twice = refl
 
 turned_box : reads (codes "in.json" ∷ codes "-clip" ∷ codes "bbox=2,0,1,4" ∷ []) ≡ Err (3, why.BadBox)
-unfolding numeral_of grid_of_text decimal_of_text places_of area_of
+unfolding numeral_of grid_of_text decimal_of_text places_of box_of_text
 turned_box = refl
 
 far_box : reads (codes "in.json" ∷ codes "precision=1" ∷ codes "-clip" ∷ codes "bbox=0,0,200000000001,4" ∷ []) ≡ Err (4, why.BoxRange)
-unfolding numeral_of grid_of_text decimal_of_text places_of area_of
+unfolding numeral_of grid_of_text decimal_of_text places_of box_of_text
 far_box = refl
 
 second_import : reads (codes "-i" ∷ codes "a.json" ∷ codes "-i" ∷ codes "b.json" ∷ []) ≡ Err (3, why.LaterImport)

@@ -31,7 +31,7 @@ use Rattle.job_terms.specs.declared.job.SourceWord.{SourceWord}
 use Rattle.synth_model.specs.Cells.{cell, cells}
 use Rattle.chain_model.specs.Beginning.{drawing_of, polygons_of, shapes_of}
 use Rattle.chain_model.specs.Outcome.{InputWhy, Outcome, too_long, utf8}
-use Rattle.chain_model.specs.Sources.{Layers, Readings, byte_limit, bytes_of, csv_layers, decoded, geojson_layers, imported, is_csv, is_topology, json_layers, length_of, or_refused, room_behind, source_layers, table_layers, title_of, topojson_layers}
+use Rattle.chain_model.specs.Sources.{Layers, Readings, byte_limit, bytes_of, csv_layers, decoded, geojson_layers, imported, is_csv, is_topology, json_layers, length_of, or_refused, room_after, source_layers, table_layers, title_of, topojson_layers}
 use Rattle.outcome_laws.proofs.StitchedRings.{stitched_sound}
 
 -- ## The layers of a source
@@ -101,8 +101,8 @@ followed later g (Ok ls) h = put_before ls h (later ls) (g ls)
 pub sources_sound : (read : Readings) (places : ℕ) (files : FileMap) (input : Content) (before : ℕ) (room : Room) (n : ℕ) (ss : List SourceWord) → AllAreSound (imported read places files input before room n ss)
 sources_sound read places files input before room n [] = All-nil (All LayerIsSound)
 sources_sound read places files input before room n (s ∷ ss) =
-    followed (λ ls. imported read places files input (before + length_of (bytes_of files input s)) (room_behind room ls) (n + 1) ss)
-    (λ ls. sources_sound read places files input (before + length_of (bytes_of files input s)) (room_behind room ls) (n + 1) ss)
+    followed (λ ls. imported read places files input (before + length_of (bytes_of files input s)) (room_after room ls) (n + 1) ss)
+    (λ ls. sources_sound read places files input (before + length_of (bytes_of files input s)) (room_after room ls) (n + 1) ss)
     (source_layers read places before room n s (bytes_of files input s)) (source_sound read places before room n s (bytes_of files input s))
 
 -- ## Their drawing

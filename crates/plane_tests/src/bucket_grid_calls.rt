@@ -41,8 +41,8 @@ fn side_by_side(alloc: Global, columns: u32, count: u32) -> Result<BoxList, Allo
 {
     let mut boxes = BoxList::new(alloc);
     for number in 0..count {
-        if let Some(area) = box_of(columns, number) {
-            boxes.push(area)?;
+        if let Some(rect) = box_of(columns, number) {
+            boxes.push(rect)?;
         }
     }
     Ok(boxes)

@@ -98,8 +98,8 @@ pub fn add_point(drawing: &mut Drawing, point: Pt) -> Result<(), AllocError> {
 
 fn add_boxes(drawing: &mut Drawing, boxes: &[Json]) -> Result<(), AllocError> {
     for place in 0..boxes.len() {
-        if let Some(area) = box_of(list_at(boxes, place)) {
-            drawing.add_box(area)?;
+        if let Some(rect) = box_of(list_at(boxes, place)) {
+            drawing.add_box(rect)?;
         }
     }
     Ok(())

@@ -4,7 +4,7 @@
 //!   the two. `copy` takes one.
 //! - `faces` takes a feature of the group's drawing; it answers how many inner faces it holds.
 //! - `parts` takes a feature; it answers how many parts its faces have.
-use crate::laid::{Holder, Laid, held};
+use crate::laid::{Holder, LaidOut, held};
 use case_lists::{list_at, number_at, told, unknown_call};
 use face_sets::{FaceSet, parts};
 use grid_base::FaceId;
@@ -14,7 +14,12 @@ use text_core::Bytes;
 
 /// What a call of `face_sets` answers to a case, as this module says; to a call that isn't there, what `unknown_call`
 /// answers.
-pub fn answer(alloc: Global, laid: &Laid, call: &str, case: &[Json]) -> Result<Bytes, AllocError> {
+pub fn answer(
+    alloc: Global,
+    laid: &LaidOut,
+    call: &str,
+    case: &[Json],
+) -> Result<Bytes, AllocError> {
     match call {
         "faces" | "parts" => of_feature(alloc, laid, call, number_at(case, 0)),
         _ => {
@@ -25,7 +30,12 @@ pub fn answer(alloc: Global, laid: &Laid, call: &str, case: &[Json]) -> Result<B
     }
 }
 
-fn of_feature(alloc: Global, laid: &Laid, call: &str, feature: u32) -> Result<Bytes, AllocError> {
+fn of_feature(
+    alloc: Global,
+    laid: &LaidOut,
+    call: &str,
+    feature: u32,
+) -> Result<Bytes, AllocError> {
     let set = held(alloc, laid, Holder::Feature(feature))?;
     match call {
         "faces" => told(alloc, &set.faces().len()),

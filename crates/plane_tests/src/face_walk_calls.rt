@@ -2,7 +2,7 @@
 //!
 //! `count` takes nothing; it answers how many faces there are, and which features hold the outer one. `faces_with`
 //! takes a list of features and twice an area; it answers how many faces have that area and just these holders.
-use crate::laid::Laid;
+use crate::laid::LaidOut;
 use case_lists::{integer_at, list_at, number_at, told, unknown_call};
 use grid_base::{FaceId, FeatId};
 use json_read::Json;
@@ -11,7 +11,12 @@ use text_core::Bytes;
 
 /// What a call of `face_walk` answers to a case, as this module says; to a call that isn't there, what `unknown_call`
 /// answers.
-pub fn answer(alloc: Global, laid: &Laid, call: &str, case: &[Json]) -> Result<Bytes, AllocError> {
+pub fn answer(
+    alloc: Global,
+    laid: &LaidOut,
+    call: &str,
+    case: &[Json],
+) -> Result<Bytes, AllocError> {
     match call {
         "count" => {
             let holders = laid.labels.holders(laid.faces.outer());
@@ -36,7 +41,7 @@ fn features_of(alloc: Global, numbers: &[Json]) -> Result<Vec<FeatId>, AllocErro
     Ok(features)
 }
 
-fn faces_with(laid: &Laid, holders: &[FeatId], twice_area: i128) -> u32 {
+fn faces_with(laid: &LaidOut, holders: &[FeatId], twice_area: i128) -> u32 {
     let mut count = 0_u32;
     for number in 0..laid.faces.count() {
         let face = FaceId::new(number);

@@ -12,7 +12,7 @@ use std::alloc::{AllocError, Global};
 
 /// A snapped drawing, its arcs and faces, and for each face the polygon features and boxes that hold it.
 #[derive(Drop)]
-pub struct Laid {
+pub struct LaidOut {
     pub snapped: Snapped,
     pub arcs: ArcTable,
     pub faces: Faces,
@@ -25,16 +25,16 @@ pub struct Laid {
 /// Lays a drawing out: snapped, with its arcs, its faces and their holders.
 ///
 /// Errors: those of `snap`, and `Memory` where there is none for arcs, faces or holders.
-pub fn laid_out(alloc: Global, drawing: &Drawing) -> Result<Laid, SnapFault> {
+pub fn laid_out(alloc: Global, drawing: &Drawing) -> Result<LaidOut, SnapFault> {
     let snapped = snap(alloc, drawing)?;
     Ok(built(alloc, snapped)?)
 }
 
-fn built(alloc: Global, snapped: Snapped) -> Result<Laid, AllocError> {
+fn built(alloc: Global, snapped: Snapped) -> Result<LaidOut, AllocError> {
     let arcs = ArcTable::build(alloc, &snapped)?;
     let faces = Faces::build(alloc, &arcs)?;
     let labels = Labels::of(alloc, &arcs, &faces, &snapped)?;
-    Ok(Laid {
+    Ok(LaidOut {
         snapped,
         arcs,
         faces,
@@ -51,14 +51,14 @@ pub enum Holder {
 
 /// The inner faces that a feature or a box holds.
 #[tactic(auto, using(crate::proofs::Faces::set_of_inner))]
-pub fn held(alloc: Global, laid: &Laid, holder: Holder) -> Result<FaceSet, AllocError>
+pub fn held(alloc: Global, laid: &LaidOut, holder: Holder) -> Result<FaceSet, AllocError>
     ensures inner { IfOk result (IsSetOf laid.now.faces) }
 {
     let faces = inner_faces(alloc, laid, holder)?;
     Ok(FaceSet::from_faces(faces))
 }
 
-fn inner_faces(alloc: Global, laid: &Laid, holder: Holder) -> Result<Vec<FaceId>, AllocError>
+fn inner_faces(alloc: Global, laid: &LaidOut, holder: Holder) -> Result<Vec<FaceId>, AllocError>
     ensures inner { IfOk result (λ faces. All (IsInnerFace laid.now.faces) faces.items) }
 {
     let mut faces = Vec::new(alloc);
@@ -82,7 +82,7 @@ fn holds(labels: &Labels, face: FaceId, holder: Holder) -> bool
 }
 
 /// The faces that each of the first `count` features holds.
-pub fn features(alloc: Global, laid: &Laid, count: u32) -> Result<SetList, AllocError>
+pub fn features(alloc: Global, laid: &LaidOut, count: u32) -> Result<SetList, AllocError>
     ensures each { IfOk result (λ sets. length sets ≡ count) }
     ensures inner { IfOk result (All (IsSetOf laid.now.faces)) }
 {

@@ -9,7 +9,7 @@ ghost use Rattle.std.specs.Prelude.{All, IfOk};
 ghost use Rattle.face_walk.specs.Places.{HasArc};
 
 use crate::drawings::point_at;
-use crate::laid::{Holder, Laid, features, held};
+use crate::laid::{Holder, LaidOut, features, held};
 use crate::texts::paths_text;
 use arc_table::SignedPaths;
 use case_lists::{number_at, told, unknown_call};
@@ -21,7 +21,12 @@ use text_core::Bytes;
 
 /// What a call of `line_ops` answers to a case, as this module says; to a call that isn't there, what `unknown_call`
 /// answers.
-pub fn answer(alloc: Global, laid: &Laid, call: &str, case: &[Json]) -> Result<Bytes, AllocError> {
+pub fn answer(
+    alloc: Global,
+    laid: &LaidOut,
+    call: &str,
+    case: &[Json],
+) -> Result<Bytes, AllocError> {
     let number = number_at(case, 0);
     match call {
         "inner_arcs" => inner(alloc, laid, number),
@@ -32,15 +37,18 @@ pub fn answer(alloc: Global, laid: &Laid, call: &str, case: &[Json]) -> Result<B
     }
 }
 
-fn inside(alloc: Global, laid: &Laid, number: u32, case: &[Json]) -> Result<Bytes, AllocError> {
+fn inside(alloc: Global, laid: &LaidOut, number: u32, case: &[Json]) -> Result<Bytes, AllocError> {
     let Some(point) = point_at(case, 1) else {
         return unknown_call(alloc);
     };
-    let area = held(alloc, laid, Holder::Box(number))?;
-    told(alloc, &point_inside(&laid.arcs, &laid.faces, point, &area))
+    let cut_set = held(alloc, laid, Holder::Box(number))?;
+    told(
+        alloc,
+        &point_inside(&laid.arcs, &laid.faces, point, &cut_set),
+    )
 }
 
-fn inner(alloc: Global, laid: &Laid, count: u32) -> Result<Bytes, AllocError> {
+fn inner(alloc: Global, laid: &LaidOut, count: u32) -> Result<Bytes, AllocError> {
     let sets = features(alloc, laid, count)?;
     let arcs = inner_arcs(alloc, &laid.arcs, &laid.faces, &sets)?;
     let mut numbers = Vec::new(alloc);
@@ -50,7 +58,7 @@ fn inner(alloc: Global, laid: &Laid, count: u32) -> Result<Bytes, AllocError> {
     told(alloc, &numbers)
 }
 
-fn sided(alloc: Global, laid: &Laid, count: u32) -> Result<Bytes, AllocError> {
+fn sided(alloc: Global, laid: &LaidOut, count: u32) -> Result<Bytes, AllocError> {
     let sets = features(alloc, laid, count)?;
     let arcs = sided_arcs(alloc, &laid.arcs, &laid.faces, &sets)?;
     let mut out = Bytes::new(alloc);
@@ -62,15 +70,15 @@ fn sided(alloc: Global, laid: &Laid, count: u32) -> Result<Bytes, AllocError> {
     Ok(out)
 }
 
-fn clipped(alloc: Global, laid: &Laid, number: u32) -> Result<Bytes, AllocError> {
-    let area = held(alloc, laid, Holder::Box(number))?;
-    let kept = clip_paths(alloc, &laid.faces, &line_arcs(alloc, laid)?, &area)?;
+fn clipped(alloc: Global, laid: &LaidOut, number: u32) -> Result<Bytes, AllocError> {
+    let cut_set = held(alloc, laid, Holder::Box(number))?;
+    let kept = clip_paths(alloc, &laid.faces, &line_arcs(alloc, laid)?, &cut_set)?;
     paths_text(alloc, &laid.arcs, &kept)
 }
 
 // The arcs of the first line feature, where it is there.
 #[tactic(auto, using(crate::proofs::Faces::arcs_have_places))]
-fn line_arcs(alloc: Global, laid: &Laid) -> Result<SignedPaths, AllocError>
+fn line_arcs(alloc: Global, laid: &LaidOut) -> Result<SignedPaths, AllocError>
     ensures { IfOk result (All (All (HasArc laid.now.faces))) }
 {
     let mut paths = SignedPaths::new(alloc);

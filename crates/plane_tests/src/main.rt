@@ -29,7 +29,7 @@ use case_lists::{Tally, list_at, list_in, text_in, told, unknown_call};
 use drawings::drawing_of;
 use grid_base::Drawing;
 use json_read::{Json, ReadJson};
-use laid::{Laid, laid_out};
+use laid::{LaidOut, laid_out};
 use std::alloc::{AllocError, Global};
 use std::io;
 use text_core::Bytes;
@@ -80,7 +80,7 @@ fn answer_of(
 // What the calls answer that work on a drawing laid out.
 fn answer_of_laid(
     alloc: Global,
-    laid: &Laid,
+    laid: &LaidOut,
     of: &str,
     call: &str,
     case: &[Json],

@@ -8,7 +8,7 @@
 ghost use Rattle.std.specs.Prelude.{All};
 ghost use Rattle.face_sets.specs.Sets.{IsSetOf};
 
-use crate::laid::{Holder, Laid, features, held};
+use crate::laid::{Holder, LaidOut, features, held};
 use crate::texts::polygons_text;
 use case_lists::{number_at, text_at, told, unknown_call};
 use face_sets::{FaceSet, SetList};
@@ -21,12 +21,17 @@ use text_core::Bytes;
 
 /// What a call of `region_ops` answers to a case, as this module says; to a call that isn't there, what `unknown_call`
 /// answers.
-pub fn answer(alloc: Global, laid: &Laid, call: &str, case: &[Json]) -> Result<Bytes, AllocError> {
+pub fn answer(
+    alloc: Global,
+    laid: &LaidOut,
+    call: &str,
+    case: &[Json],
+) -> Result<Bytes, AllocError> {
     let sets = features(alloc, laid, number_at(case, 0))?;
     match call {
         "clip_sets" | "erase_sets" => {
-            let area = held(alloc, laid, Holder::Box(number_at(case, 1)))?;
-            cut(alloc, laid, call, &sets, &area)
+            let cut_set = held(alloc, laid, Holder::Box(number_at(case, 1)))?;
+            cut(alloc, laid, call, &sets, &cut_set)
         }
         "clean_sets" => {
             let rule = rule_named(text_at(case, 1));
@@ -53,21 +58,21 @@ fn rule_named(name: &str) -> OverlapRule {
 
 fn cut(
     alloc: Global,
-    laid: &Laid,
+    laid: &LaidOut,
     call: &str,
     sets: &SetList,
-    area: &FaceSet,
+    cut_set: &FaceSet,
 ) -> Result<Bytes, AllocError>
     requires { All (IsSetOf laid.now.faces) sets.now }
 {
     if call == "clip_sets" {
-        outlines(alloc, laid, &clip_sets(alloc, sets, area)?)
+        outlines(alloc, laid, &clip_sets(alloc, sets, cut_set)?)
     } else {
-        outlines(alloc, laid, &erase_sets(alloc, sets, area)?)
+        outlines(alloc, laid, &erase_sets(alloc, sets, cut_set)?)
     }
 }
 
-fn outlines(alloc: Global, laid: &Laid, sets: &SetList) -> Result<Bytes, AllocError>
+fn outlines(alloc: Global, laid: &LaidOut, sets: &SetList) -> Result<Bytes, AllocError>
     requires { All (IsSetOf laid.now.faces) sets.now }
 {
     let mut out = Bytes::new(alloc);
@@ -78,7 +83,7 @@ fn outlines(alloc: Global, laid: &Laid, sets: &SetList) -> Result<Bytes, AllocEr
     Ok(out)
 }
 
-fn outline(alloc: Global, laid: &Laid, sets: &SetList, number: u32) -> Result<Bytes, AllocError>
+fn outline(alloc: Global, laid: &LaidOut, sets: &SetList, number: u32) -> Result<Bytes, AllocError>
     requires { All (IsSetOf laid.now.faces) sets.now }
 {
     match sets.get(number) {
@@ -90,7 +95,7 @@ fn outline(alloc: Global, laid: &Laid, sets: &SetList, number: u32) -> Result<By
     }
 }
 
-fn mosaic(alloc: Global, laid: &Laid, sets: &SetList) -> Result<Bytes, AllocError>
+fn mosaic(alloc: Global, laid: &LaidOut, sets: &SetList) -> Result<Bytes, AllocError>
     requires { All (IsSetOf laid.now.faces) sets.now }
 {
     let items = mosaic_sets(alloc, &laid.arcs, &laid.faces, sets)?;

@@ -1,6 +1,6 @@
 //! The commands on polygon layers, on the sets of faces that stand for their features.
 //!
-//! - clip keeps of each set the faces of a source, erase those that aren't of it.
+//! - clip keeps of each set the faces of a cut set, erase those that aren't of it.
 //! - dissolve makes one set of the members of each group: all their faces.
 //! - clean leaves each face that several sets have with the one that a rule ranks first, and then fills small gaps.
 //! - mosaic puts together the faces that the same sets have, and makes a set of each part of them.

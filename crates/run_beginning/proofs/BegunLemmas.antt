@@ -11,7 +11,7 @@ use Rattle.plane_model.specs.Arcs.{SignedArc}
 use Rattle.face_walk.specs.Holders.{list_at}
 use Rattle.geojson_io.specs.LayerContent.{LayerContent}
 use Rattle.job_terms.specs.declared.job.Owner.{Owner}
-use Rattle.run_beginning.specs.BegunLayers.{AreArcsOfPath, AreBegun, AreBegunOfEach, AreLineArcs, AreSourcesBegun, GoesAlong, IsBegunLayer, IsLineOf, Left, behind, behind_all, face_shape, has_links, imported, of_command, of_import, owned}
+use Rattle.run_beginning.specs.BegunLayers.{AreArcsOfPath, AreBegun, AreBegunOfEach, AreLineArcs, AreSourcesBegun, GoesAlong, IsBegunLayer, IsLineOf, Left, left_after, left_after_all, face_shape, has_links, imported, of_command, of_import, owned}
 use Rattle.run_plane.specs.declared.layer.Layer.{Layer}
 use Rattle.run_plane.specs.declared.layer.Shape.{Shape}
 use Rattle.run_plane.specs.declared.layer.Shape.TheVariants as shape
@@ -35,11 +35,11 @@ sets_more all left n set begun e f g =
 pub sets_left : (all left rest : List (List ℕ)) (n : ℕ) → left ≡ drop n all → rest ≡ drop 1 left → rest ≡ drop (n + 1) all
 sets_left all left rest n e f = f ∙ ap (λ (xs : List (List ℕ)). drop 1 xs) e ∙ drop-drop 1 n all
 
-pub lines_behind : (lines : List (List Path)) (line number there : ℕ) → there ≡ line + number → drop there lines ≡ drop number (drop line lines)
-lines_behind lines line number there e = ap (λ (n : ℕ). drop n lines) e ∙ sym (drop-drop number line lines)
+pub lines_after : (lines : List (List Path)) (line number there : ℕ) → there ≡ line + number → drop there lines ≡ drop number (drop line lines)
+lines_after lines line number there e = ap (λ (n : ℕ). drop n lines) e ∙ sym (drop-drop number line lines)
 
-pub no_lines_behind : (lines : List (List Path)) (line number : ℕ) → length lines ≤ line + number → drop (length lines) lines ≡ drop number (drop line lines)
-no_lines_behind lines line number h = drop_all (length lines) lines (omega arith) ∙ sym (drop_all (line + number) lines h) ∙ sym (drop-drop number line lines)
+pub no_lines_after : (lines : List (List Path)) (line number : ℕ) → length lines ≤ line + number → drop (length lines) lines ≡ drop number (drop line lines)
+no_lines_after lines line number h = drop_all (length lines) lines (omega arith) ∙ sym (drop_all (line + number) lines h) ∙ sym (drop-drop number line lines)
 
 line_at : (lines : List (List Path)) (n : ℕ) → slice_index_or lines n [] ≡ slice_index_or (drop n lines) 0 []
 line_at lines n = sym (get_or-drop n lines 0 [] ∙ ap (λ (m : ℕ). get_or lines m []) (let e : n + 0 ≡ n = omega arith in e))
@@ -78,7 +78,7 @@ abbrev pub Goes : List Path → Left → List LayerContent → List Layer → Le
 Goes arcs start all begun left given = (more : List Layer) → AreBegun arcs left given more → AreBegun arcs start all (begun ++ more)
 
 pub layers_more : (arcs : List Path) (start : Left) (all : List LayerContent) (begun : List Layer) (left next : Left) (items given : List LayerContent) (layer : LayerContent) (made : Layer) →
-    items ≡ layer ∷ given → Goes arcs start all begun left items → IsBegunLayer arcs left layer made → next ≡ behind layer left → Goes arcs start all (begun ++ made ∷ []) next given
+    items ≡ layer ∷ given → Goes arcs start all begun left items → IsBegunLayer arcs left layer made → next ≡ left_after layer left → Goes arcs start all (begun ++ made ∷ []) next given
 layers_more arcs start all begun left next items given layer made e goes is f = λ more h.
     subst (λ (ls : List Layer). AreBegun arcs start all ls) (sym (append_assoc begun (made ∷ []) more))
     (goes (made ∷ more) (subst (λ (gs : List LayerContent). AreBegun arcs left gs (made ∷ more)) (sym e) (is, subst (λ (l : Left). AreBegun arcs l given more) f h)))
@@ -87,8 +87,8 @@ pub layers_end : (arcs : List Path) (start : Left) (all : List LayerContent) (be
 layers_end arcs start all begun left items e goes =
     subst (λ (ls : List Layer). AreBegun arcs start all ls) (append-nil begun) (goes [] (subst (λ (gs : List LayerContent). AreBegun arcs left gs []) (sym e) tt))
 
-pub behind_more : (all items given : List LayerContent) (start left next : Left) (layer : LayerContent) → items ≡ layer ∷ given → behind_all items left ≡ behind_all all start → next ≡ behind layer left → behind_all given next ≡ behind_all all start
-behind_more all items given start left next layer e h f = ap (behind_all given) f ∙ sym (ap (λ (gs : List LayerContent). behind_all gs left) e) ∙ h
+pub left_after_more : (all items given : List LayerContent) (start left next : Left) (layer : LayerContent) → items ≡ layer ∷ given → left_after_all items left ≡ left_after_all all start → next ≡ left_after layer left → left_after_all given next ≡ left_after_all all start
+left_after_more all items given start left next layer e h f = ap (left_after_all given) f ∙ sym (ap (λ (gs : List LayerContent). left_after_all gs left) e) ∙ h
 
 -- ---- sources
 
@@ -110,7 +110,7 @@ module _ (arcs : List Path) (start : Left) (owners : List Owner) (given : List (
   }
 
   pub sources_go_on : (S : Type 0) (f : S → Owner) (g : S → List LayerContent) (items rest : List S) (source : S) (layers layers' begun : List Layer) (sources sources' : List (List Layer)) (left next : Left) →
-      items ≡ source ∷ rest → SourcesGo arcs start owners given layers sources left (map f items) (map g items) → AreBegun arcs left (g source) begun → next ≡ behind_all (g source) left →
+      items ≡ source ∷ rest → SourcesGo arcs start owners given layers sources left (map f items) (map g items) → AreBegun arcs left (g source) begun → next ≡ left_after_all (g source) left →
       layers' ≡ layers ++ of_import (f source) begun → sources' ≡ sources ++ of_command (f source) begun ∷ [] → SourcesGo arcs start owners given layers' sources' next (map f rest) (map g rest)
   sources_go_on S f g items rest source layers layers' begun sources sources' left next e go is h imports commands =
       let was : SourcesGo arcs start owners given layers sources left (f source ∷ map f rest) (g source ∷ map g rest) = subst (λ (xs : List S). SourcesGo arcs start owners given layers sources left (map f xs) (map g xs)) e go in

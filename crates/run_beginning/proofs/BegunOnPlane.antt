@@ -19,7 +19,7 @@ use Rattle.run_plane.specs.declared.layer.Shape.{Shape}
 use Rattle.run_plane.specs.declared.layer.Shape.TheVariants as shape
 use Rattle.run_plane.specs.declared.plane.Plane.{Plane}
 use Rattle.run_plane.proofs.OnPlane.{features_are_inner, set_inner}
-use Rattle.run_beginning.specs.BegunLayers.{AreArcsOfPath, AreBegun, AreBegunOfEach, AreShapes, BeginsOver, IsLineOf, IsLineShape, Left, behind, behind_all, face_shape, has_links, imported, numbers_of, of_command, of_import, owned, point_shape, polygon_count, row_shape}
+use Rattle.run_beginning.specs.BegunLayers.{AreArcsOfPath, AreBegun, AreBegunOfEach, AreShapes, BeginsOver, IsLineOf, IsLineShape, Left, left_after, left_after_all, face_shape, has_links, imported, numbers_of, of_command, of_import, owned, point_shape, polygon_count, row_shape}
 
 module _ (plane : Plane) where
   abbrev AreInner : Left → Type 0
@@ -53,12 +53,12 @@ module _ (plane : Plane) where
 
   -- ---- layers
 
-  behind_inner : (layer : LayerContent) (left : Left) → AreInner left → AreInner (behind layer left)
-  behind_inner layer left inner = All-drop (IsSetOf plane.faces) (polygon_count layer.kind (length layer.shapes)) left.faces inner
+  left_after_inner : (layer : LayerContent) (left : Left) → AreInner left → AreInner (left_after layer left)
+  left_after_inner layer left inner = All-drop (IsSetOf plane.faces) (polygon_count layer.kind (length layer.shapes)) left.faces inner
 
-  behind_all_inner : (layers : List LayerContent) (left : Left) → AreInner left → AreInner (behind_all layers left)
-  behind_all_inner [] left inner = inner
-  behind_all_inner (layer ∷ layers) left inner = behind_all_inner layers (behind layer left) (behind_inner layer left inner)
+  left_after_all_inner : (layers : List LayerContent) (left : Left) → AreInner left → AreInner (left_after_all layers left)
+  left_after_all_inner [] left inner = inner
+  left_after_all_inner (layer ∷ layers) left inner = left_after_all_inner layers (left_after layer left) (left_after_inner layer left inner)
 
   layers_on : (left : Left) (given : List LayerContent) (begun : List Layer) → AreInner left → AreBegun plane.arcs left given begun → AreLayersOn plane begun
   layers_on left [] [] inner h = All-nil (IsLayerOn plane)
@@ -66,7 +66,7 @@ module _ (plane : Plane) where
   layers_on left (layer ∷ given) [] inner h = absurd h
   layers_on left (layer ∷ given) (first ∷ begun) inner h =
       All-cons (IsLayerOn plane) first begun (shapes_on left layer.kind layer.shapes first.shapes.items inner h.0.shapes)
-      (layers_on (behind layer left) given begun (behind_inner layer left inner) h.1)
+      (layers_on (left_after layer left) given begun (left_after_inner layer left inner) h.1)
 
   -- ---- sources
 
@@ -76,7 +76,7 @@ module _ (plane : Plane) where
   each_on left (layers ∷ given) [] inner h = absurd h
   each_on left (layers ∷ given) (first ∷ begun) inner h =
       All-cons (AreLayersOn plane) first begun (layers_on left layers first inner h.0)
-      (each_on (behind_all layers left) given begun (behind_all_inner layers left inner) h.1)
+      (each_on (left_after_all layers left) given begun (left_after_all_inner layers left inner) h.1)
 
   import_on : (o : Owner) (layers : List Layer) → AreLayersOn plane layers → AreLayersOn plane (of_import o layers)
   import_on owner.Import layers on = on

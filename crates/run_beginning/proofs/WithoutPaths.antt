@@ -12,10 +12,10 @@ use Rattle.geojson_io.specs.declared.shape.GeoShape.{GeoShape}
 use Rattle.job_terms.specs.declared.job.Owner.{Owner}
 use Rattle.run_plane.specs.declared.layer.Layer.{Layer}
 use Rattle.run_plane.specs.declared.layer.Shape.{Shape}
-use Rattle.run_beginning.specs.BegunLayers.{AreBegun, AreBegunOfEach, AreShapes, BeginsOver, IsLineOf, Left, behind, behind_all, face_shape, line_count, polygon_count}
+use Rattle.run_beginning.specs.BegunLayers.{AreBegun, AreBegunOfEach, AreShapes, BeginsOver, IsLineOf, Left, left_after, left_after_all, face_shape, line_count, polygon_count}
 use Rattle.run_beginning.specs.Drawing.{nothing_of, shapes_without_paths, without_paths}
 
--- ---- as much is left behind them
+-- ---- as much is left after them
 
 as_many : (k : Kind) (given : List GeoShape) → length (shapes_without_paths k given) ≡ length given
 as_many kinds.Polygon given = length-map given nothing_of
@@ -23,15 +23,15 @@ as_many kinds.Line given = length-map given nothing_of
 as_many kinds.Point given = refl
 as_many kinds.Table given = refl
 
-abbrev behind_many : Kind → Left → ℕ → Left
-behind_many k left n = record { faces = drop (polygon_count k n) left.faces; lines = drop (line_count k n) left.lines }
+abbrev left_after_many : Kind → Left → ℕ → Left
+left_after_many k left n = record { faces = drop (polygon_count k n) left.faces; lines = drop (line_count k n) left.lines }
 
-behind_same : (layer : LayerContent) (left : Left) → behind (without_paths layer) left ≡ behind layer left
-behind_same layer left = ap (behind_many layer.kind left) (as_many layer.kind layer.shapes)
+left_after_same : (layer : LayerContent) (left : Left) → left_after (without_paths layer) left ≡ left_after layer left
+left_after_same layer left = ap (left_after_many layer.kind left) (as_many layer.kind layer.shapes)
 
-behind_all_same : (layers : List LayerContent) (left : Left) → behind_all (map without_paths layers) left ≡ behind_all layers left
-behind_all_same [] left = refl
-behind_all_same (layer ∷ layers) left = behind_all_same layers (behind (without_paths layer) left) ∙ ap (behind_all layers) (behind_same layer left)
+left_after_all_same : (layers : List LayerContent) (left : Left) → left_after_all (map without_paths layers) left ≡ left_after_all layers left
+left_after_all_same [] left = refl
+left_after_all_same (layer ∷ layers) left = left_after_all_same layers (left_after (without_paths layer) left) ∙ ap (left_after_all layers) (left_after_same layer left)
 
 -- ---- and they begin as the same
 
@@ -48,7 +48,7 @@ module _ (arcs : List Path) where
   layers_begun left (layer ∷ given) [] h = absurd h
   layers_begun left (layer ∷ given) (first ∷ begun) h = (
     record { name = h.0.name; kind = h.0.kind; table = h.0.table; shapes = shapes_begun left layer.kind layer.shapes first.shapes.items h.0.shapes },
-    layers_begun (behind layer left) given begun (subst (λ (l : Left). AreBegun arcs l (map without_paths given) begun) (behind_same layer left) h.1),
+    layers_begun (left_after layer left) given begun (subst (λ (l : Left). AreBegun arcs l (map without_paths given) begun) (left_after_same layer left) h.1),
   )
 
   each_begun : (left : Left) (given : List (List LayerContent)) (begun : List (List Layer)) → AreBegunOfEach arcs left (map (map without_paths) given) begun → AreBegunOfEach arcs left given begun
@@ -57,7 +57,7 @@ module _ (arcs : List Path) where
   each_begun left (layers ∷ given) [] h = absurd h
   each_begun left (layers ∷ given) (first ∷ begun) h = (
     layers_begun left layers first h.0,
-    each_begun (behind_all layers left) given begun (subst (λ (l : Left). AreBegunOfEach arcs l (map (map without_paths) given) begun) (behind_all_same layers left) h.1),
+    each_begun (left_after_all layers left) given begun (subst (λ (l : Left). AreBegunOfEach arcs l (map (map without_paths) given) begun) (left_after_all_same layers left) h.1),
   )
 
   pub begins_over : (s t : Drawing) (owners owners' : List Owner) (given left : List (List LayerContent)) (faces : FaceTable) (boxes : List (List ℕ)) (layers : List Layer) (sources : List (List Layer)) →

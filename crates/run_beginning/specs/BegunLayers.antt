@@ -39,8 +39,8 @@ line_count kinds.Point n = 0
 line_count kinds.Table n = 0
 
 -- what is left after those of a layer
-abbrev pub behind : LayerContent → Left → Left
-behind layer left = record {
+abbrev pub left_after : LayerContent → Left → Left
+left_after layer left = record {
   faces = drop (polygon_count layer.kind (length layer.shapes)) left.faces;
   lines = drop (line_count layer.kind (length layer.shapes)) left.lines;
 }
@@ -106,11 +106,11 @@ abbrev pub AreBegun : List Path → Left → List LayerContent → List Layer �
 AreBegun arcs left [] [] = ⊤
 AreBegun arcs left [] (layer ∷ begun) = ⊥
 AreBegun arcs left (layer ∷ given) [] = ⊥
-AreBegun arcs left (layer ∷ given) (first ∷ begun) = IsBegunLayer arcs left layer first × AreBegun arcs (behind layer left) given begun
+AreBegun arcs left (layer ∷ given) (first ∷ begun) = IsBegunLayer arcs left layer first × AreBegun arcs (left_after layer left) given begun
 
-abbrev pub behind_all : List LayerContent → Left → Left
-behind_all [] left = left
-behind_all (layer ∷ layers) left = behind_all layers (behind layer left)
+abbrev pub left_after_all : List LayerContent → Left → Left
+left_after_all [] left = left
+left_after_all (layer ∷ layers) left = left_after_all layers (left_after layer left)
 
 -- ---- sources
 
@@ -119,7 +119,7 @@ abbrev pub AreBegunOfEach : List Path → Left → List (List LayerContent) → 
 AreBegunOfEach arcs left [] [] = ⊤
 AreBegunOfEach arcs left [] (layers ∷ begun) = ⊥
 AreBegunOfEach arcs left (layers ∷ given) [] = ⊥
-AreBegunOfEach arcs left (layers ∷ given) (first ∷ begun) = AreBegun arcs left layers first × AreBegunOfEach arcs (behind_all layers left) given begun
+AreBegunOfEach arcs left (layers ∷ given) (first ∷ begun) = AreBegun arcs left layers first × AreBegunOfEach arcs (left_after_all layers left) given begun
 
 -- the layers of a source that was read for the import, or for a command
 abbrev pub of_import : Owner → List Layer → List Layer

@@ -8,7 +8,7 @@ ghost use Rattle.snap_round.specs.Snapping.{FaultMeans};
 ghost use Rattle.run_plane.specs.Begun.{IsFew};
 ghost use Rattle.run_plane.specs.LaidOut.{IsLaidOut};
 ghost use Rattle.run_plane.specs.OnPlane.{AreLayersOn, AreAllOn};
-ghost use Rattle.run_beginning.specs.BegunLayers.{AreBegun, AreLineArcs, AreShapes, BeginsOver, GoesAlong, IsBegunLayer, IsLineOf, behind, behind_all, face_shape, line_count, of_command, of_import, point_shape, polygon_count, row_shape};
+ghost use Rattle.run_beginning.specs.BegunLayers.{AreBegun, AreLineArcs, AreShapes, BeginsOver, GoesAlong, IsBegunLayer, IsLineOf, left_after, left_after_all, face_shape, line_count, of_command, of_import, point_shape, polygon_count, row_shape};
 ghost use Rattle.run_beginning.specs.Drawing.{drawing_of, points_of};
 
 use crate::drawing::drawing_of;
@@ -17,7 +17,7 @@ use face_sets::FaceSet;
 use geojson_io::{GeoLayer, GeoShape, GeoShapeList};
 use grid_base::{BoxList, FeatId, Kind, PtList, Snapped};
 use job_terms::Owner;
-use run_plane::{Laid, Layer, Plane, Shape, laid_out};
+use run_plane::{LaidOut, Layer, Plane, Shape, laid_out};
 use run_sources::ReadSource;
 use snap_round::SnapFault;
 use std::alloc::{AllocError, Global};
@@ -61,11 +61,11 @@ struct Next {
     faces: IntoIter<FaceSet>,
 }
 
-fn begun_with(alloc: Global, laid: Laid, sources: Vec<ReadSource>) -> Result<Begun, AllocError>
+fn begun_with(alloc: Global, laid: LaidOut, sources: Vec<ReadSource>) -> Result<Begun, AllocError>
     requires laid { IsLaidOut laid.snapped laid.plane.arcs laid.plane.faces laid.plane.boxes.items laid.features.items }
     ensures over { IfOk result (λ begun. BeginsOver laid.snapped (map (λ read. read.owner) sources.items) (map (λ read. read.layers) sources.items) begun.plane.arcs begun.plane.faces begun.plane.boxes.items begun.layers.items (map (λ own. own.items) begun.sources.items)) }
 {
-    let Laid {
+    let LaidOut {
         plane,
         snapped,
         features,
@@ -142,7 +142,7 @@ fn begun_layers(
 ) -> Result<Vec<Layer>, AllocError>
     requires count { into_iter_len next.old.faces ≡ length (into_iter_items next.old.faces) }
     ensures begun { IfOk result (λ begun. AreBegun arcs.now (record { faces = into_iter_items next.old.faces; lines = drop next.old.line snapped.now.lines }) layers.items begun.items) }
-    ensures behind { OnOk result (record { faces = into_iter_items next.new.faces; lines = drop next.new.line snapped.now.lines } ≡ behind_all layers.items (record { faces = into_iter_items next.old.faces; lines = drop next.old.line snapped.now.lines })) }
+    ensures left_after { OnOk result (record { faces = into_iter_items next.new.faces; lines = drop next.new.line snapped.now.lines } ≡ left_after_all layers.items (record { faces = into_iter_items next.old.faces; lines = drop next.old.line snapped.now.lines })) }
     ensures count { OnOk result (into_iter_len next.new.faces ≡ length (into_iter_items next.new.faces)) }
 {
     let mut begun = Vec::new(alloc);
@@ -161,7 +161,7 @@ fn begun_layer(
 ) -> Result<Layer, AllocError>
     requires count { into_iter_len next.old.faces ≡ length (into_iter_items next.old.faces) }
     ensures begun { IfOk result (IsBegunLayer arcs.now (record { faces = into_iter_items next.old.faces; lines = drop next.old.line snapped.now.lines }) layer) }
-    ensures behind { OnOk result (record { faces = into_iter_items next.new.faces; lines = drop next.new.line snapped.now.lines } ≡ behind layer (record { faces = into_iter_items next.old.faces; lines = drop next.old.line snapped.now.lines })) }
+    ensures left_after { OnOk result (record { faces = into_iter_items next.new.faces; lines = drop next.new.line snapped.now.lines } ≡ left_after layer (record { faces = into_iter_items next.old.faces; lines = drop next.old.line snapped.now.lines })) }
     ensures count { OnOk result (into_iter_len next.new.faces ≡ length (into_iter_items next.new.faces)) }
 {
     let GeoLayer {
@@ -249,16 +249,16 @@ fn begun_lines(
 {
     let mut begun = Vec::new(alloc);
     for number in 0..count {
-        let there = line_behind(snapped, *line, number);
+        let there = line_after(snapped, *line, number);
         let paths = snapped_paths(alloc, arcs, snapped, there)?;
         begun.push(Shape::Paths(paths))?;
     }
-    *line = line_behind(snapped, *line, count);
+    *line = line_after(snapped, *line, count);
     Ok(begun)
 }
 
 // The number of the line feature that comes `number` features after another, or a number that no line feature has.
-fn line_behind(snapped: &Snapped, line: u32, number: u32) -> u32
+fn line_after(snapped: &Snapped, line: u32, number: u32) -> u32
     ensures exact { drop result snapped.now.lines ≡ drop number (drop line snapped.now.lines) }
 {
     match line.checked_add(number) {

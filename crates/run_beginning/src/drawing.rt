@@ -77,8 +77,8 @@ fn add_layers(
 fn add_boxes(drawing: &mut Drawing, boxes: &[Rect]) -> Result<(), AllocError>
     ensures added { OnOk result (drawing.new ≡ record drawing.old { boxes = drawing.old.boxes ++ drawn_boxes boxes.now }) }
 {
-    for area in boxes {
-        drawing.add_box(*area)?;
+    for rect in boxes {
+        drawing.add_box(*rect)?;
     }
     Ok(())
 }

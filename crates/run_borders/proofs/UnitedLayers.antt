@@ -11,7 +11,7 @@ use Rattle.union_ops.specs.declared.union_lists.UnionItem.{UnionItem}
 use Rattle.job_terms.specs.declared.job.Target.{Target}
 use Rattle.run_plane.specs.declared.layer.Layer.{Layer}
 use Rattle.run_state.specs.Targets.{is_selected, targets}
-use Rattle.run_state.specs.declared.state.Held.{Held}
+use Rattle.run_state.specs.declared.state.HeldLayer.{HeldLayer}
 use Rattle.run_state.proofs.TargetLemmas.{other_next, target_next}
 use Rattle.run_state.specs.FaceSets.{sets_in}
 use Rattle.run_borders.specs.Uniting.{AreGathered, row_counts, set_counts}
@@ -27,7 +27,7 @@ gathered_more layers layer tables sets table own of_table of_set same kept = rec
   each = map-append (λ (t : TableContent). length t.rows) tables (table ∷ []) ∙ (λ i. kept.each i ++ same i ∷ []) ∙ sym (map-append (λ (o : List (List ℕ)). length o) sets (own ∷ []));
 }
 
-module _ (t : Target) (xs : List Held) (i : ℕ) (item : Held) (tables tables' : List TableContent) (sets sets' : List (List (List ℕ))) where
+module _ (t : Target) (xs : List HeldLayer) (i : ℕ) (item : HeldLayer) (tables tables' : List TableContent) (sets sets' : List (List (List ℕ))) where
   pub gathered_on : (table : TableContent) (own : List (List ℕ)) → i < length xs → item ≡ get_or xs i item → is_selected t item ≡ true → tables' ≡ tables ++ table ∷ [] → sets' ≡ sets ++ own ∷ [] →
       table ≡ item.layer.table → own ≡ sets_in item.layer.shapes.items → length table.rows ≡ length own →
       AreGathered (targets t (take i xs)) tables sets → AreGathered (targets t (take (i + 1) xs)) tables' sets'

@@ -7,7 +7,7 @@ ghost use Rattle.run_state.specs.Targets.{has_target, targets};
 use grid_base::Kind;
 use job_terms::Target;
 use run_plane::{Layer, Plane, Shape, copy_text};
-use run_state::{Held, first_target, is_selected, sets_of};
+use run_state::{HeldLayer, first_target, is_selected, sets_of};
 use std::alloc::{AllocError, Global};
 use table_rows::{TableList, copy_table};
 use union_ops::{LayerSets, UnionItem, union_sets, union_tables};
@@ -21,7 +21,7 @@ use union_ops::{LayerSets, UnionItem, union_sets, union_tables};
 pub fn united(
     alloc: Global,
     plane: &Plane,
-    layers: &[Held],
+    layers: &[HeldLayer],
     target: &Target,
 ) -> Result<Layer, AllocError>
     requires there { has_target target.now layers.now ≡ true }
@@ -41,7 +41,7 @@ fn united_like(
     alloc: Global,
     plane: &Plane,
     first: &Layer,
-    layers: &[Held],
+    layers: &[HeldLayer],
     target: &Target,
 ) -> Result<Layer, AllocError>
     requires first { Some first.now ≡ slice_get (targets target.now layers.now) 0 }
@@ -68,7 +68,7 @@ struct Gathered {
     sets: LayerSets,
 }
 
-fn gather(alloc: Global, layers: &[Held], target: &Target) -> Result<Gathered, AllocError>
+fn gather(alloc: Global, layers: &[HeldLayer], target: &Target) -> Result<Gathered, AllocError>
     ensures gathered { IfOk result (λ all. AreGathered (targets target.now layers.now) all.tables all.sets) }
 {
     let mut tables = TableList::new(alloc);

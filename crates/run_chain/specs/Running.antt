@@ -34,7 +34,7 @@ use Rattle.run_state.specs.declared.refusal.RefuseWhy.{RefuseWhy}
 use Rattle.run_state.specs.declared.refusal.RefuseWhy.TheVariants.{NoLayer}
 use Rattle.run_state.specs.declared.state.CommandStop.{CommandStop}
 use Rattle.run_state.specs.declared.state.CommandStop.TheVariants.{Refused}
-use Rattle.run_state.specs.declared.state.Held.{Held}
+use Rattle.run_state.specs.declared.state.HeldLayer.{HeldLayer}
 use Rattle.run_state.specs.declared.state.State.{State}
 use Rattle.run_steps.specs.Commands.{ChangesEach, ChangesTogether}
 use Rattle.run_steps.specs.Refusals.{RefusesEach, refusal_together}
@@ -49,18 +49,18 @@ use Rattle.run_chain.specs.Effects.{OutsideSeen, CountsGrew, WroteText, WriteRos
 -- ---- one command
 
 -- a command that changes layers stops for its first refusal or for want of memory, and without a target as no layer
-pub record StopsChange (c : Command) (layers : List Held) (Refuses : Option RefuseWhy → Type 0) (stop : CommandStop) : Type 0 where
+pub record StopsChange (c : Command) (layers : List HeldLayer) (Refuses : Option RefuseWhy → Type 0) (stop : CommandStop) : Type 0 where
   pub first : StopsAs Refuses stop
   pub absent : has_target c.target layers ≡ false → stop ≡ Refused NoLayer
 
 -- why a command stops: for its first refusal alone, or for want of memory
-abbrev pub StopsBy : Base → Command → Action → List Held → CommandStop → Type 0
+abbrev pub StopsBy : Base → Command → Action → List HeldLayer → CommandStop → Type 0
 StopsBy base c (action.Write to standard form) layers stop = StopsFor (refused_output c.target form layers) stop
 StopsBy base c (action.Each a) layers stop = StopsChange c layers (RefusesEach base layers c a) stop
 StopsBy base c (action.Together a) layers stop = StopsChange c layers (λ (told : Option RefuseWhy). refusal_together layers c a ≡ told) stop
 
 -- the command with this number stops the run, and nothing changes
-pub record IsStopped (base : Base) (n : ℕ) (c : Command) (layers : List Held) (before after : OutsideSeen) (o : Outcome) : Type 0 where
+pub record IsStopped (base : Base) (n : ℕ) (c : Command) (layers : List HeldLayer) (before after : OutsideSeen) (o : Outcome) : Type 0 where
   pub stop : CommandStop
   pub why : StopsBy base c c.action layers stop
   pub ends : o ≡ of_command n stop
@@ -77,13 +77,13 @@ pub record FailsToWrite (Accepted : Type 0) (base : Base) (n : ℕ) (form : OutF
   pub counts : CountsGrew before after
 
 -- a command with this number whose writing fails
-abbrev pub EndsWriting : Base → ℕ → Command → Action → List Held → OutsideSeen → OutsideSeen → Outcome → Type 0
+abbrev pub EndsWriting : Base → ℕ → Command → Action → List HeldLayer → OutsideSeen → OutsideSeen → Outcome → Type 0
 EndsWriting base n c (action.Write to standard form) layers before after o = FailsToWrite (refused_output c.target form layers ≡ None) base n form (targets c.target layers) standard to before after o
 EndsWriting base n c (action.Each a) layers before after o = ⊥
 EndsWriting base n c (action.Together a) layers before after o = ⊥
 
 -- how a command with this number ends a run
-abbrev pub Ends : Base → ℕ → Command → List Held → OutsideSeen → OutsideSeen → Outcome → Type 0
+abbrev pub Ends : Base → ℕ → Command → List HeldLayer → OutsideSeen → OutsideSeen → Outcome → Type 0
 Ends base n c layers before after o = IsStopped base n c layers before after o ⊎ EndsWriting base n c c.action layers before after o
 
 -- the text of an output is written whole
@@ -94,7 +94,7 @@ pub record WritesWhole (base : Base) (form : OutForm) (layers : List Layer) (sta
   pub counts : CountsGrew before after
 
 -- an output that isn't refused writes a whole text and leaves the layers
-pub record GoesOnWriting (base : Base) (c : Command) (form : OutForm) (standard : Bool) (name : Content) (layers layers' : List Held) (before after : OutsideSeen) : Type 0 where
+pub record GoesOnWriting (base : Base) (c : Command) (form : OutForm) (standard : Bool) (name : Content) (layers layers' : List HeldLayer) (before after : OutsideSeen) : Type 0 where
   pub accepted : refused_output c.target form layers ≡ None
   pub kept : layers' ≡ layers
   pub writes : WritesWhole base form (targets c.target layers) standard name before after
@@ -105,28 +105,28 @@ pub record GoesOnChanging (Accepted : Type 0) (Changes : Type 0) (before after :
   pub changes : Changes
   pub kept : after ≡ before
 
-abbrev pub GoesOn : Base → Command → Action → List Held → List Held → OutsideSeen → OutsideSeen → Type 0
+abbrev pub GoesOn : Base → Command → Action → List HeldLayer → List HeldLayer → OutsideSeen → OutsideSeen → Type 0
 GoesOn base c (action.Write to standard form) layers layers' before after = GoesOnWriting base c form standard to layers layers' before after
 GoesOn base c (action.Each a) layers layers' before after = GoesOnChanging (RefusesEach base layers c a None) (ChangesEach base c a layers layers') before after
 GoesOn base c (action.Together a) layers layers' before after = GoesOnChanging (refusal_together layers c a ≡ None) (ChangesTogether base c a layers layers') before after
 
 -- its target is there
-pub record Passes (base : Base) (c : Command) (layers layers' : List Held) (before after : OutsideSeen) : Type 0 where
+pub record Passes (base : Base) (c : Command) (layers layers' : List HeldLayer) (before after : OutsideSeen) : Type 0 where
   pub there : has_target c.target layers ≡ true
   pub goes : GoesOn base c c.action layers layers' before after
 
 -- what a command with this number does: it gives the state after it, or the outcome of the run
-abbrev pub StepMeans : Base → ℕ → Command → List Held → OutsideSeen → OutsideSeen → Result State Outcome → Type 0
+abbrev pub StepMeans : Base → ℕ → Command → List HeldLayer → OutsideSeen → OutsideSeen → Result State Outcome → Type 0
 StepMeans base n c layers before after (Ok state) = Passes base c layers state.layers.items before after
 StepMeans base n c layers before after (Err o) = Ends base n c layers before after o
 
 -- ---- commands in order
 
 -- the commands after `done` others: the first that ends the run is the last that changes anything
-abbrev pub CommandsRun : Base → ℕ → List Held → List Command → OutsideSeen → OutsideSeen → Outcome → Type 0
+abbrev pub CommandsRun : Base → ℕ → List HeldLayer → List Command → OutsideSeen → OutsideSeen → Outcome → Type 0
 CommandsRun base done layers [] before after o = (o ≡ outcome.Done) × (after ≡ before)
 CommandsRun base done layers (c ∷ cs) before after o = Ends base (done + 1) c layers before after o
-    ⊎ ((layers' : List Held) × (middle : OutsideSeen) × Passes base c layers layers' before middle × CommandsRun base (done + 1) layers' cs middle after o)
+    ⊎ ((layers' : List HeldLayer) × (middle : OutsideSeen) × Passes base c layers layers' before middle × CommandsRun base (done + 1) layers' cs middle after o)
 
 -- ---- the whole chain
 

@@ -13,7 +13,7 @@ use job_terms::{Action, Chain, Command, Job};
 use run_beginning::{Begun, begin};
 use run_outcome::{Outcome, tell};
 use run_sources::read_sources;
-use run_state::{Ground, State};
+use run_state::{Base, State};
 use run_steps::{changed_each, changed_together};
 use run_synth::synth_line;
 use run_texts::output_text;
@@ -121,7 +121,7 @@ fn run_begun<F: Files, K: Sink>(
         layers,
         sources,
     } = begun;
-    let ground = Ground {
+    let base = Base {
         places: chain.places,
         plane: &plane,
         sources: &sources,
@@ -129,7 +129,7 @@ fn run_begun<F: Files, K: Sink>(
     match State::new(alloc, layers) {
         Ok(state) => run_commands(
             alloc,
-            &ground,
+            &base,
             0,
             chain.commands.as_slice(),
             state,
@@ -143,25 +143,25 @@ fn run_begun<F: Files, K: Sink>(
 // Runs the commands that follow `done` others.
 fn run_commands<F: Files, K: Sink>(
     alloc: Global,
-    ground: &Ground<'_>,
+    base: &Base<'_>,
     done: u32,
     commands: &[Command],
     state: State,
     files: &mut F,
     output: &mut K,
 ) -> Outcome
-    requires places { ground.now.places ≤ most_places }
+    requires places { base.now.places ≤ most_places }
     requires few { done + length commands.now < 2 ^ 32 }
-    requires on { AreHeldOn ground.now.plane.now state.layers.items }
-    ensures ran { CommandsRun (base_of ground.now) done state.layers.items commands.now
+    requires on { AreHeldOn base.now.plane.now state.layers.items }
+    ensures ran { CommandsRun (base_of base.now) done state.layers.items commands.now
         (record { files = F.held files.old; file_faults = F.write_faults files.old; stream = K.held output.old; stream_faults = K.faults output.old })
         (record { files = F.held files.new; file_faults = F.write_faults files.new; stream = K.held output.new; stream_faults = K.faults output.new }) result }
 {
     let [command, rest @ ..] = commands else {
         return Outcome::Done;
     };
-    match step(alloc, ground, done + 1, command, state, files, output) {
-        Ok(state) => run_commands(alloc, ground, done + 1, rest, state, files, output),
+    match step(alloc, base, done + 1, command, state, files, output) {
+        Ok(state) => run_commands(alloc, base, done + 1, rest, state, files, output),
         Err(outcome) => outcome,
     }
 }
@@ -169,23 +169,23 @@ fn run_commands<F: Files, K: Sink>(
 // The state after a command, or the outcome of the run that it stops.
 fn step<F: Files, K: Sink>(
     alloc: Global,
-    ground: &Ground<'_>,
+    base: &Base<'_>,
     number: u32,
     command: &Command,
     state: State,
     files: &mut F,
     output: &mut K,
 ) -> Result<State, Outcome>
-    requires places { ground.now.places ≤ most_places }
-    requires on { AreHeldOn ground.now.plane.now state.layers.items }
-    ensures means { StepMeans (base_of ground.now) number command.now state.layers.items
+    requires places { base.now.places ≤ most_places }
+    requires on { AreHeldOn base.now.plane.now state.layers.items }
+    ensures means { StepMeans (base_of base.now) number command.now state.layers.items
         (record { files = F.held files.old; file_faults = F.write_faults files.old; stream = K.held output.old; stream_faults = K.faults output.old })
         (record { files = F.held files.new; file_faults = F.write_faults files.new; stream = K.held output.new; stream_faults = K.faults output.new }) result }
-    ensures on { IfOk result (λ state. AreHeldOn ground.now.plane.now state.layers.items) }
+    ensures on { IfOk result (λ state. AreHeldOn base.now.plane.now state.layers.items) }
 {
     match &command.action {
         Action::Write { to, standard, form } => {
-            match output_text(alloc, ground, &state.layers, &command.target, *form) {
+            match output_text(alloc, base, &state.layers, &command.target, *form) {
                 Ok(text) => match write_text(files, output, *standard, to.as_str(), &text) {
                     Ok(()) => Ok(state),
                     Err(Failed) => Err(Outcome::WriteFault { command: number }),
@@ -193,11 +193,11 @@ fn step<F: Files, K: Sink>(
                 Err(stop) => Err(Outcome::of_command(number, stop)),
             }
         }
-        Action::Each(action) => match changed_each(alloc, ground, command, action, state) {
+        Action::Each(action) => match changed_each(alloc, base, command, action, state) {
             Ok(state) => Ok(state),
             Err(stop) => Err(Outcome::of_command(number, stop)),
         },
-        Action::Together(action) => match changed_together(alloc, ground, command, action, state) {
+        Action::Together(action) => match changed_together(alloc, base, command, action, state) {
             Ok(state) => Ok(state),
             Err(stop) => Err(Outcome::of_command(number, stop)),
         },

@@ -17,11 +17,11 @@ use Rattle.run_state.specs.Stops.{refusal_of}
 use Rattle.run_state.specs.Targets.{has_target}
 use Rattle.run_state.specs.declared.refusal.RefuseWhy.{RefuseWhy}
 use Rattle.run_state.specs.declared.refusal.RefuseWhy.TheVariants.{NoLayer, WrongKind, OneLayer}
-use Rattle.run_state.specs.declared.state.Held.{Held}
+use Rattle.run_state.specs.declared.state.HeldLayer.{HeldLayer}
 
 -- ---- the target, and the source
 
-abbrev pub refused_target : Target → List Held → Option RefuseWhy
+abbrev pub refused_target : Target → List HeldLayer → Option RefuseWhy
 refused_target t layers = if has_target t layers then None else Some NoLayer
 
 abbrev pub is_polygon : Kind → Bool
@@ -34,14 +34,14 @@ refused_polygons (Ok layer) = if is_polygon layer.kind then None else Some Wrong
 refused_polygons (Err why) = Some why
 
 -- or a box, which always is there
-abbrev pub refused_area : Owned → List Held → Origin → Option RefuseWhy
-refused_area sources layers (origin.Layer name) = refused_polygons (one_layer (origin_layers sources layers (origin.Layer name)))
-refused_area sources layers (origin.Source n) = refused_polygons (one_layer (origin_layers sources layers (origin.Source n)))
-refused_area sources layers (origin.Area n) = None
+abbrev pub refused_cut : Owned → List HeldLayer → Origin → Option RefuseWhy
+refused_cut sources layers (origin.Layer name) = refused_polygons (one_layer (origin_layers sources layers (origin.Layer name)))
+refused_cut sources layers (origin.Source n) = refused_polygons (one_layer (origin_layers sources layers (origin.Source n)))
+refused_cut sources layers (origin.Area n) = None
 
-abbrev pub refused_source : Owned → List Held → LayerAction → Option RefuseWhy
-refused_source sources layers (action.Clip from) = refused_area sources layers from
-refused_source sources layers (action.Erase from) = refused_area sources layers from
+abbrev pub refused_source : Owned → List HeldLayer → LayerAction → Option RefuseWhy
+refused_source sources layers (action.Clip from) = refused_cut sources layers from
+refused_source sources layers (action.Erase from) = refused_cut sources layers from
 refused_source sources layers (action.Join from spec) = refusal_of (one_layer (origin_layers sources layers from))
 refused_source sources layers (action.SpatialJoin from spec) = refusal_of (one_layer (origin_layers sources layers from))
 refused_source sources layers _ = None
@@ -82,7 +82,7 @@ refused_pairs (Ok source) layers = if joins_all source.kind layers then None els
 refused_pairs (Err why) layers = Some why
 
 -- `ts` are the layers of the target
-abbrev pub refused_kinds : Owned → List Held → LayerAction → List Layer → Option RefuseWhy
+abbrev pub refused_kinds : Owned → List HeldLayer → LayerAction → List Layer → Option RefuseWhy
 refused_kinds sources layers (action.SpatialJoin from spec) ts = refused_pairs (one_layer (origin_layers sources layers from)) ts
 refused_kinds sources layers a ts = if takes_all a ts then None else Some WrongKind
 

@@ -10,7 +10,7 @@ ghost use Rattle.run_checks.specs.Checks.{
   joins_all,
   joins_with,
   refused_alone,
-  refused_area,
+  refused_cut,
   refused_kinds,
   refused_mixture,
   refused_number,
@@ -27,14 +27,14 @@ use grid_base::Kind;
 use job_terms::{JointAction, LayerAction, Origin, Target};
 use run_plane::Layer;
 use run_state::{
-    Held, RefuseWhy, check_target, first_target, is_selected, only_target, source_layer,
+    HeldLayer, RefuseWhy, check_target, first_target, is_selected, only_target, origin_layer,
 };
 
 /// Tests the target, then the source, then the kinds of the target's layers.
 ///
 /// Errors: the first refusal.
 pub fn check_each(
-    layers: &[Held],
+    layers: &[HeldLayer],
     sources: &[Vec<Layer>],
     target: &Target,
     action: &LayerAction,
@@ -54,7 +54,7 @@ pub fn check_each(
 ///
 /// Errors: the first refusal.
 pub fn check_together(
-    layers: &[Held],
+    layers: &[HeldLayer],
     target: &Target,
     action: &JointAction,
 ) -> Result<(), RefuseWhy>
@@ -68,7 +68,7 @@ pub fn check_together(
     }
 }
 
-fn check_joint(layers: &[Held], target: &Target, action: &JointAction) -> Result<(), RefuseWhy>
+fn check_joint(layers: &[HeldLayer], target: &Target, action: &JointAction) -> Result<(), RefuseWhy>
     requires there { has_target target.now layers.now ≡ true }
     ensures exact { refusal_of result ≡ first_refusal (refused_mixture action.now (targets target.now layers.now)) (refused_number action.now (targets target.now layers.now)) }
 {
@@ -79,7 +79,7 @@ fn check_joint(layers: &[Held], target: &Target, action: &JointAction) -> Result
 }
 
 fn check_layers(
-    layers: &[Held],
+    layers: &[HeldLayer],
     sources: &[Vec<Layer>],
     target: &Target,
     action: &LayerAction,
@@ -95,15 +95,15 @@ fn check_layers(
 
 // Tests that the source is there, and has polygons where the command cuts by it.
 fn check_source(
-    layers: &[Held],
+    layers: &[HeldLayer],
     sources: &[Vec<Layer>],
     action: &LayerAction,
 ) -> Result<(), RefuseWhy>
     ensures exact { refusal_of result ≡ refused_source (map (λ own. own.items) sources.now) layers.now action.now }
 {
     match action {
-        LayerAction::Clip { from } => check_area(layers, sources, from),
-        LayerAction::Erase { from } => check_area(layers, sources, from),
+        LayerAction::Clip { from } => check_cut(layers, sources, from),
+        LayerAction::Erase { from } => check_cut(layers, sources, from),
         LayerAction::Join { from, .. } => check_one(layers, sources, from),
         LayerAction::SpatialJoin { from, .. } => check_one(layers, sources, from),
         LayerAction::Dissolve { .. }
@@ -123,23 +123,23 @@ fn check_source(
     }
 }
 
-fn check_one(layers: &[Held], sources: &[Vec<Layer>], from: &Origin) -> Result<(), RefuseWhy>
+fn check_one(layers: &[HeldLayer], sources: &[Vec<Layer>], from: &Origin) -> Result<(), RefuseWhy>
     ensures exact { refusal_of result ≡ refusal_of (one_layer (origin_layers (map (λ own. own.items) sources.now) layers.now from.now)) }
 {
-    match source_layer(layers, sources, from) {
+    match origin_layer(layers, sources, from) {
         Ok(_) => Ok(()),
         Err(why) => Err(why),
     }
 }
 
 // Tests that what a command cuts by is polygons. A box always is there.
-fn check_area(layers: &[Held], sources: &[Vec<Layer>], from: &Origin) -> Result<(), RefuseWhy>
-    ensures exact { refusal_of result ≡ refused_area (map (λ own. own.items) sources.now) layers.now from.now }
+fn check_cut(layers: &[HeldLayer], sources: &[Vec<Layer>], from: &Origin) -> Result<(), RefuseWhy>
+    ensures exact { refusal_of result ≡ refused_cut (map (λ own. own.items) sources.now) layers.now from.now }
 {
     if let Origin::Area(_) = from {
         return Ok(());
     }
-    match source_layer(layers, sources, from) {
+    match origin_layer(layers, sources, from) {
         Ok(layer) if is_polygon(layer.kind) => Ok(()),
         Ok(_) => Err(RefuseWhy::WrongKind),
         Err(why) => Err(why),
@@ -147,7 +147,7 @@ fn check_area(layers: &[Held], sources: &[Vec<Layer>], from: &Origin) -> Result<
 }
 
 fn check_kinds(
-    layers: &[Held],
+    layers: &[HeldLayer],
     sources: &[Vec<Layer>],
     target: &Target,
     action: &LayerAction,
@@ -162,21 +162,21 @@ fn check_kinds(
 
 // Tests that the layers of the target are joined by place with the source.
 fn check_pairs(
-    layers: &[Held],
+    layers: &[HeldLayer],
     sources: &[Vec<Layer>],
     target: &Target,
     from: &Origin,
 ) -> Result<(), RefuseWhy>
     ensures exact { refusal_of result ≡ refused_pairs (one_layer (origin_layers (map (λ own. own.items) sources.now) layers.now from.now)) (targets target.now layers.now) }
 {
-    match source_layer(layers, sources, from) {
+    match origin_layer(layers, sources, from) {
         Ok(source) if joins_all(source.kind, layers, target) => Ok(()),
         Ok(_) => Err(RefuseWhy::WrongKind),
         Err(why) => Err(why),
     }
 }
 
-fn joins_all(source: Kind, layers: &[Held], target: &Target) -> bool
+fn joins_all(source: Kind, layers: &[HeldLayer], target: &Target) -> bool
     ensures exact { result ≡ joins_all source (targets target.now layers.now) }
 {
     for held in layers {
@@ -198,7 +198,7 @@ fn joins_with(source: Kind, kind: Kind) -> bool
     }
 }
 
-fn check_taken(layers: &[Held], target: &Target, action: &LayerAction) -> Result<(), RefuseWhy>
+fn check_taken(layers: &[HeldLayer], target: &Target, action: &LayerAction) -> Result<(), RefuseWhy>
     ensures exact { refusal_of result ≡ (if takes_all action.now (targets target.now layers.now) then None else Some RefuseWhy.WrongKind) }
 {
     if takes_all(layers, target, action) {
@@ -208,7 +208,7 @@ fn check_taken(layers: &[Held], target: &Target, action: &LayerAction) -> Result
     }
 }
 
-fn takes_all(layers: &[Held], target: &Target, action: &LayerAction) -> bool
+fn takes_all(layers: &[HeldLayer], target: &Target, action: &LayerAction) -> bool
     ensures exact { result ≡ takes_all action.now (targets target.now layers.now) }
 {
     for held in layers {
@@ -257,7 +257,11 @@ fn is_polygon(kind: Kind) -> bool
     kind == Kind::Polygon
 }
 
-fn check_mixture(layers: &[Held], target: &Target, action: &JointAction) -> Result<(), RefuseWhy>
+fn check_mixture(
+    layers: &[HeldLayer],
+    target: &Target,
+    action: &JointAction,
+) -> Result<(), RefuseWhy>
     requires there { has_target target.now layers.now ≡ true }
     ensures exact { refusal_of result ≡ refused_mixture action.now (targets target.now layers.now) }
 {
@@ -270,7 +274,7 @@ fn check_mixture(layers: &[Held], target: &Target, action: &JointAction) -> Resu
 
 // The kind of the first layer of the target.
 #[tactic(auto, using(run_state::proofs::TargetLemmas::has_first))]
-fn first_kind(layers: &[Held], target: &Target) -> Kind
+fn first_kind(layers: &[HeldLayer], target: &Target) -> Kind
     requires there { has_target target.now layers.now ≡ true }
     ensures exact { result ≡ first_kind (targets target.now layers.now) }
 {
@@ -280,7 +284,7 @@ fn first_kind(layers: &[Held], target: &Target) -> Kind
     }
 }
 
-fn takes_together(layers: &[Held], target: &Target, action: &JointAction, first: Kind) -> bool
+fn takes_together(layers: &[HeldLayer], target: &Target, action: &JointAction, first: Kind) -> bool
     ensures exact { result ≡ takes_together action.now first (targets target.now layers.now) }
 {
     for held in layers {
@@ -303,7 +307,11 @@ fn takes_beside(action: &JointAction, first: Kind, kind: Kind) -> bool
 }
 
 // Tests that there are as many layers as the command needs.
-fn check_number(layers: &[Held], target: &Target, action: &JointAction) -> Result<(), RefuseWhy>
+fn check_number(
+    layers: &[HeldLayer],
+    target: &Target,
+    action: &JointAction,
+) -> Result<(), RefuseWhy>
     ensures exact { refusal_of result ≡ refused_number action.now (targets target.now layers.now) }
 {
     match action {
@@ -312,7 +320,7 @@ fn check_number(layers: &[Held], target: &Target, action: &JointAction) -> Resul
     }
 }
 
-fn check_several(layers: &[Held], target: &Target) -> Result<(), RefuseWhy>
+fn check_several(layers: &[HeldLayer], target: &Target) -> Result<(), RefuseWhy>
     ensures exact { refusal_of result ≡ refused_alone (targets target.now layers.now) }
 {
     match only_target(layers, target) {

@@ -15,4 +15,4 @@ mod plane;
 
 pub use copies::{copy_path, copy_paths, copy_points, copy_shape, copy_shapes, copy_text};
 pub use layer::{Layer, Shape};
-pub use plane::{Laid, Plane, laid_out};
+pub use plane::{LaidOut, Plane, laid_out};

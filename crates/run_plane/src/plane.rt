@@ -31,7 +31,7 @@ pub struct Plane {
 
 /// A drawing laid out: its plane, its snapped paths, and the faces that each polygon feature holds, by its number.
 #[derive(Drop)]
-pub struct Laid {
+pub struct LaidOut {
     pub plane: Plane,
     pub snapped: Snapped,
     pub features: Vec<FaceSet>,
@@ -40,7 +40,7 @@ pub struct Laid {
 /// Snaps a drawing, lets it go, and builds the arcs and faces of the snapped one.
 ///
 /// Errors: `TooDense`, where its snapped paths have more than 8,000,000 links, and `Memory`.
-pub fn laid_out(alloc: Global, drawing: Drawing) -> Result<Laid, SnapFault>
+pub fn laid_out(alloc: Global, drawing: Drawing) -> Result<LaidOut, SnapFault>
     ensures fault { IfErr result (FaultMeans drawing) }
     ensures few { IfOk result (λ laid. IsFew drawing) }
     ensures snapped { IfOk result (λ laid. laid.snapped ≡ snapped drawing) }
@@ -53,7 +53,7 @@ pub fn laid_out(alloc: Global, drawing: Drawing) -> Result<Laid, SnapFault>
     }
 }
 
-fn built(alloc: Global, snapped: Snapped) -> Result<Laid, AllocError>
+fn built(alloc: Global, snapped: Snapped) -> Result<LaidOut, AllocError>
     ensures snapped { IfOk result (λ laid. laid.snapped ≡ snapped) }
     ensures laid { IfOk result (λ laid. IsLaidOut snapped laid.plane.arcs laid.plane.faces laid.plane.boxes.items laid.features.items) }
 {
@@ -61,7 +61,7 @@ fn built(alloc: Global, snapped: Snapped) -> Result<Laid, AllocError>
     let arcs = arcs_of(alloc, &snapped)?;
     let faces = Faces::build(alloc, &arcs)?;
     let held = HeldFaces::of(alloc, &arcs, &faces, &snapped)?;
-    Ok(Laid {
+    Ok(LaidOut {
         plane: Plane {
             arcs,
             faces,
@@ -156,8 +156,8 @@ fn put_in_features(
 fn put_in_boxes(sets: &mut Vec<FaceSet>, boxes: &[u32], face: FaceId) -> Result<(), AllocError>
     ensures put { OnOk result (PutsInto boxes.now face sets.old.items sets.new.items) }
 {
-    for area in boxes {
-        put_face(sets, *area, face)?;
+    for number in boxes {
+        put_face(sets, *number, face)?;
     }
     Ok(())
 }

@@ -17,17 +17,17 @@ chosen_on R (y ∷ xs) [] x b h = absurd h
 chosen_on R (y ∷ xs) (true ∷ answers) x b h = ap (λ (ys : List _). y ∷ ys) (chosen_on R xs answers x b h.1)
 chosen_on R (y ∷ xs) (false ∷ answers) x b h = chosen_on R xs answers x b h.1
 
-module _ (k : CutKeeps) (plane : Plane) (area : List ℕ) where
-  pub no_points : (left : List GridPoint) → left ≡ [] → ArePointsLeft k plane area [] left
+module _ (k : CutKeeps) (plane : Plane) (cut_set : List ℕ) where
+  pub no_points : (left : List GridPoint) → left ≡ [] → ArePointsLeft k plane cut_set [] left
   no_points left e = record { answers = []; each = tt; are = e }
 
   -- a point more, which stays or goes
-  pub points_more : (points left : List GridPoint) (i : ℕ) (p : GridPoint) (b : Bool) (now : List GridPoint) → i < length points → p ≡ get_or points i p → ArePointsLeft k plane area (take i points) left → StaysAt k plane area p b →
-      now ≡ left ++ (if b then p ∷ [] else []) → ArePointsLeft k plane area (take (i + 1) points) now
+  pub points_more : (points left : List GridPoint) (i : ℕ) (p : GridPoint) (b : Bool) (now : List GridPoint) → i < length points → p ≡ get_or points i p → ArePointsLeft k plane cut_set (take i points) left → StaysAt k plane cut_set p b →
+      now ≡ left ++ (if b then p ∷ [] else []) → ArePointsLeft k plane cut_set (take (i + 1) points) now
   points_more points left i p b now l is h s e =
-      subst (λ (ps : List GridPoint). ArePointsLeft k plane area ps now) (sym (take_more points i p l ∙ ap (λ (q : GridPoint). take i points ++ q ∷ []) (sym is)))
+      subst (λ (ps : List GridPoint). ArePointsLeft k plane cut_set ps now) (sym (take_more points i p l ∙ ap (λ (q : GridPoint). take i points ++ q ∷ []) (sym is)))
       (record {
         answers = h.answers ++ b ∷ [];
-        each = zipped_on (StaysAt k plane area) (take i points) h.answers p b h.each s;
-        are = e ∙ ap (λ (ps : List GridPoint). ps ++ (if b then p ∷ [] else [])) h.are ∙ sym (chosen_on (StaysAt k plane area) (take i points) h.answers p b h.each);
+        each = zipped_on (StaysAt k plane cut_set) (take i points) h.answers p b h.each s;
+        are = e ∙ ap (λ (ps : List GridPoint). ps ++ (if b then p ∷ [] else [])) h.are ∙ sym (chosen_on (StaysAt k plane cut_set) (take i points) h.answers p b h.each);
       })

@@ -24,14 +24,14 @@ module _ (plane : Plane) where
   -- ---- sets
 
   -- what a cut leaves
-  cut_inner : (k : CutKeeps) (area set : List ℕ) → IsSetOf plane.faces set → IsSetOf plane.faces (cut_faces k area set)
-  cut_inner keeps.Inside area set h = All-filter _ (IsInnerFace plane.faces) set h
-  cut_inner keeps.Outside area set h = All-filter _ (IsInnerFace plane.faces) set h
+  cut_inner : (k : CutKeeps) (cut_set set : List ℕ) → IsSetOf plane.faces set → IsSetOf plane.faces (cut_faces k cut_set set)
+  cut_inner keeps.Inside cut_set set h = All-filter _ (IsInnerFace plane.faces) set h
+  cut_inner keeps.Outside cut_set set h = All-filter _ (IsInnerFace plane.faces) set h
 
-  pub cuts_on : (k : CutKeeps) (area : List ℕ) (shapes : List Shape) → AreOn plane shapes → AreOn plane (face_shapes (map (cut_faces k area) (sets_in shapes)))
-  cuts_on k area shapes on =
-      sets_on plane (map (cut_faces k area) (sets_in shapes))
-      (All-map (IsSetOf plane.faces) (cut_faces k area) (sets_in shapes) (All-weaker (IsSetOf plane.faces) (λ (set : List ℕ). IsSetOf plane.faces (cut_faces k area set)) (cut_inner k area) (sets_in shapes) (sets_are_inner plane shapes on)))
+  pub cuts_on : (k : CutKeeps) (cut_set : List ℕ) (shapes : List Shape) → AreOn plane shapes → AreOn plane (face_shapes (map (cut_faces k cut_set) (sets_in shapes)))
+  cuts_on k cut_set shapes on =
+      sets_on plane (map (cut_faces k cut_set) (sets_in shapes))
+      (All-map (IsSetOf plane.faces) (cut_faces k cut_set) (sets_in shapes) (All-weaker (IsSetOf plane.faces) (λ (set : List ℕ). IsSetOf plane.faces (cut_faces k cut_set set)) (cut_inner k cut_set) (sets_in shapes) (sets_are_inner plane shapes on)))
 
   -- pieces and parts
   pub pieces_on : (items : List MosaicItem) → All (IsPiece plane.faces) items → AreOn plane (map piece_shape items)

@@ -25,14 +25,14 @@ pub fn cut(
     alloc: Global,
     plane: &Plane,
     layer: &Layer,
-    area: &FaceSet,
+    cut_set: &FaceSet,
     keeps: CutKeeps,
 ) -> Result<Layer, AllocError>
     requires on { IsLayerOn plane.now layer.now }
-    ensures made { IfOk result (IsCut keeps plane.now area.now layer.now) }
+    ensures made { IfOk result (IsCut keeps plane.now cut_set.now layer.now) }
     ensures on { IfOk result (IsLayerOn plane.now) }
 {
-    let shapes = shapes_left(alloc, plane, layer, area, keeps)?;
+    let shapes = shapes_left(alloc, plane, layer, cut_set, keeps)?;
     nonempty(alloc, layer, shapes)
 }
 
@@ -40,18 +40,18 @@ fn shapes_left(
     alloc: Global,
     plane: &Plane,
     layer: &Layer,
-    area: &FaceSet,
+    cut_set: &FaceSet,
     keeps: CutKeeps,
 ) -> Result<Vec<Shape>, AllocError>
     requires on { IsLayerOn plane.now layer.now }
-    ensures exact { IfOk result (λ left. AreShapesLeft layer.now.kind keeps plane.now area.now layer.now.shapes.items left.items) }
+    ensures exact { IfOk result (λ left. AreShapesLeft layer.now.kind keeps plane.now cut_set.now layer.now.shapes.items left.items) }
     ensures on { IfOk result (λ left. AreOn plane.now left.items) }
     ensures count { IfOk result (λ left. length left.items ≡ length layer.now.shapes.items) }
 {
     match layer.kind {
-        Kind::Polygon => cut_polygons(alloc, &layer.shapes, area, keeps),
+        Kind::Polygon => cut_polygons(alloc, &layer.shapes, cut_set, keeps),
         Kind::Line | Kind::Point | Kind::Table => {
-            cut_shapes(alloc, plane, &layer.shapes, area, keeps)
+            cut_shapes(alloc, plane, &layer.shapes, cut_set, keeps)
         }
     }
 }
@@ -59,29 +59,29 @@ fn shapes_left(
 fn cut_polygons(
     alloc: Global,
     shapes: &[Shape],
-    area: &FaceSet,
+    cut_set: &FaceSet,
     keeps: CutKeeps,
 ) -> Result<Vec<Shape>, AllocError>
-    ensures exact { IfOk result (λ left. left.items ≡ face_shapes (map (cut_faces keeps area.now) (sets_in shapes.now))) }
+    ensures exact { IfOk result (λ left. left.items ≡ face_shapes (map (cut_faces keeps cut_set.now) (sets_in shapes.now))) }
     ensures count { IfOk result (λ left. length left.items ≡ length shapes.now) }
 {
     let sets = sets_of(alloc, shapes)?;
-    let left = cut_sets(alloc, &sets, area, keeps)?;
+    let left = cut_sets(alloc, &sets, cut_set, keeps)?;
     shapes_of(alloc, left.into_vec())
 }
 
 fn cut_sets(
     alloc: Global,
     sets: &SetList,
-    area: &FaceSet,
+    cut_set: &FaceSet,
     keeps: CutKeeps,
 ) -> Result<SetList, AllocError>
-    ensures exact { IfOk result (λ left. left ≡ map (cut_faces keeps area.now) sets.now) }
+    ensures exact { IfOk result (λ left. left ≡ map (cut_faces keeps cut_set.now) sets.now) }
     ensures count { IfOk result (λ left. length left ≡ length sets.now) }
 {
     match keeps {
-        CutKeeps::Inside => clip_sets(alloc, sets, area),
-        CutKeeps::Outside => erase_sets(alloc, sets, area),
+        CutKeeps::Inside => clip_sets(alloc, sets, cut_set),
+        CutKeeps::Outside => erase_sets(alloc, sets, cut_set),
     }
 }
 
@@ -89,17 +89,17 @@ fn cut_shapes(
     alloc: Global,
     plane: &Plane,
     shapes: &[Shape],
-    area: &FaceSet,
+    cut_set: &FaceSet,
     keeps: CutKeeps,
 ) -> Result<Vec<Shape>, AllocError>
     requires on { AreOn plane.now shapes.now }
-    ensures exact { IfOk result (λ left. AllZip (IsShapeLeft keeps plane.now area.now) shapes.now left.items) }
+    ensures exact { IfOk result (λ left. AllZip (IsShapeLeft keeps plane.now cut_set.now) shapes.now left.items) }
     ensures on { IfOk result (λ left. AreOn plane.now left.items) }
     ensures count { IfOk result (λ left. length left.items ≡ length shapes.now) }
 {
     let mut left = Vec::new(alloc);
     for shape in shapes {
-        left.push(cut_shape(alloc, plane, shape, area, keeps)?)?;
+        left.push(cut_shape(alloc, plane, shape, cut_set, keeps)?)?;
     }
     Ok(left)
 }
@@ -108,16 +108,18 @@ fn cut_shape(
     alloc: Global,
     plane: &Plane,
     shape: &Shape,
-    area: &FaceSet,
+    cut_set: &FaceSet,
     keeps: CutKeeps,
 ) -> Result<Shape, AllocError>
     requires on { IsOn plane.now shape.now }
-    ensures exact { IfOk result (IsShapeLeft keeps plane.now area.now shape.now) }
+    ensures exact { IfOk result (IsShapeLeft keeps plane.now cut_set.now shape.now) }
     ensures on { IfOk result (IsOn plane.now) }
 {
     match shape {
-        Shape::Paths(paths) => Ok(Shape::Paths(cut_paths(alloc, plane, paths, area, keeps)?)),
-        Shape::Points(points) => Ok(Shape::Points(cut_points(alloc, plane, points, area, keeps)?)),
+        Shape::Paths(paths) => Ok(Shape::Paths(cut_paths(alloc, plane, paths, cut_set, keeps)?)),
+        Shape::Points(points) => Ok(Shape::Points(cut_points(
+            alloc, plane, points, cut_set, keeps,
+        )?)),
         Shape::Nothing | Shape::Faces(_) => Ok(Shape::Nothing),
     }
 }
@@ -126,16 +128,16 @@ fn cut_paths(
     alloc: Global,
     plane: &Plane,
     paths: &SignedPaths,
-    area: &FaceSet,
+    cut_set: &FaceSet,
     keeps: CutKeeps,
 ) -> Result<SignedPaths, AllocError>
     requires on { AreBelow (length plane.now.arcs) paths.now }
-    ensures exact { IfOk result (λ left. left ≡ cut_paths keeps plane.now area.now paths.now) }
+    ensures exact { IfOk result (λ left. left ≡ cut_paths keeps plane.now cut_set.now paths.now) }
     ensures on { IfOk result (AreBelow (length plane.now.arcs)) }
 {
     match keeps {
-        CutKeeps::Inside => clip_paths(alloc, &plane.faces, paths, area),
-        CutKeeps::Outside => erase_paths(alloc, &plane.faces, paths, area),
+        CutKeeps::Inside => clip_paths(alloc, &plane.faces, paths, cut_set),
+        CutKeeps::Outside => erase_paths(alloc, &plane.faces, paths, cut_set),
     }
 }
 
@@ -143,14 +145,14 @@ fn cut_points(
     alloc: Global,
     plane: &Plane,
     points: &PtList,
-    area: &FaceSet,
+    cut_set: &FaceSet,
     keeps: CutKeeps,
 ) -> Result<PtList, AllocError>
-    ensures exact { IfOk result (ArePointsLeft keeps plane.now area.now points.now) }
+    ensures exact { IfOk result (ArePointsLeft keeps plane.now cut_set.now points.now) }
 {
     let mut left = PtList::new(alloc);
     for point in points.as_slice() {
-        push_if(&mut left, *point, stays(plane, *point, area, keeps))?;
+        push_if(&mut left, *point, stays(plane, *point, cut_set, keeps))?;
     }
     Ok(left)
 }
@@ -164,11 +166,11 @@ fn push_if(points: &mut PtList, point: Pt, stays: bool) -> Result<(), AllocError
     Ok(())
 }
 
-fn stays(plane: &Plane, point: Pt, area: &FaceSet, keeps: CutKeeps) -> bool
-    ensures exact { StaysAt keeps plane.now area.now point result }
+fn stays(plane: &Plane, point: Pt, cut_set: &FaceSet, keeps: CutKeeps) -> bool
+    ensures exact { StaysAt keeps plane.now cut_set.now point result }
 {
     match keeps {
-        CutKeeps::Inside => point_inside(&plane.arcs, &plane.faces, point, area),
-        CutKeeps::Outside => !point_inside(&plane.arcs, &plane.faces, point, area),
+        CutKeeps::Inside => point_inside(&plane.arcs, &plane.faces, point, cut_set),
+        CutKeeps::Outside => !point_inside(&plane.arcs, &plane.faces, point, cut_set),
     }
 }

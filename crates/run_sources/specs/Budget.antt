@@ -31,8 +31,8 @@ abbrev pub feature_count : LayerContent → ℕ
 feature_count layer = length layer.shapes
 
 -- what is left after `bytes` bytes, which gave these layers
-abbrev pub budget_behind : Budget → ℕ → List LayerContent → Budget
-budget_behind b bytes layers = record {
+abbrev pub budget_after : Budget → ℕ → List LayerContent → Budget
+budget_after b bytes layers = record {
   bytes = b.bytes - bytes;
   room = record { positions = b.room.positions - sum_by position_count layers; features = b.room.features - sum_by feature_count layers };
 }

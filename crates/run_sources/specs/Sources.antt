@@ -8,7 +8,7 @@ use Rattle.io_core.specs.declared.whole.FileStop.{FileStop}
 use Rattle.io_core.specs.declared.whole.FileStop.TheVariants as stop
 use Rattle.geojson_io.specs.LayerContent.{LayerContent}
 use Rattle.job_terms.specs.declared.job.SourceWord.{SourceWord}
-use Rattle.run_sources.specs.Budget.{whole_budget, budget_behind}
+use Rattle.run_sources.specs.Budget.{whole_budget, budget_after}
 use Rattle.run_sources.specs.Decoding.{Decodes}
 use Rattle.run_sources.specs.declared.decoding.DecodeStop.TheVariants.{Refused}
 use Rattle.run_sources.specs.declared.sources.Budget.{Budget}
@@ -98,7 +98,7 @@ pub record SourceGives (places : ℕ) (source : SourceWord) (budget left : Budge
   pub counted : ReadsCount (length bytes) seen seen' source
   pub leaves : LeavesInput seen seen' source
   pub decoded : Decodes places budget.room source bytes (Ok layers)
-  pub left_behind : left ≡ budget_behind budget (length bytes) layers
+  pub left_after : left ≡ budget_after budget (length bytes) layers
 
 -- sources that were read in order, each with what the ones before it left, and the layers of each
 abbrev pub SourcesGive : ℕ → List SourceWord → Budget → SourcesSeen → Budget → SourcesSeen → List (List LayerContent) → Type 0

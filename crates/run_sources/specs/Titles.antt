@@ -5,8 +5,8 @@ use Rattle.io_core.specs.Contents.{Content}
 use Rattle.job_terms.specs.declared.job.SourceWord.{SourceWord}
 
 -- what stands after the last slash, or the whole name where it has none
-abbrev pub behind_slash : Content → Content
-behind_slash name = unwrap_or (option_map (λ split. split.1) (rsplit_once 47 name)) name
+abbrev pub after_slash : Content → Content
+after_slash name = unwrap_or (option_map (λ split. split.1) (rsplit_once 47 name)) name
 
 -- what stands before the last point, or the whole name where it has none
 abbrev pub before_point : Content → Content
@@ -14,4 +14,4 @@ before_point file = unwrap_or (option_map (λ split. split.0) (rsplit_once 46 fi
 
 -- the name of a file without its folders and its ending; standard input is a layer
 abbrev pub title_of : SourceWord → Content
-title_of source = if source.standard then codes "layer" else before_point (behind_slash source.name)
+title_of source = if source.standard then codes "layer" else before_point (after_slash source.name)

@@ -1,6 +1,6 @@
 ghost use Rattle.std.specs.Prelude.{◌≡◌};
 ghost use Rattle.run_sources.specs.Formats.{is_white, skip_mark, opens_json, ends_in_csv, is_csv};
-ghost use Rattle.run_sources.specs.Titles.{behind_slash, before_point, title_of};
+ghost use Rattle.run_sources.specs.Titles.{after_slash, before_point, title_of};
 
 use job_terms::SourceWord;
 
@@ -61,13 +61,13 @@ pub(crate) fn title_of(source: &SourceWord) -> &str
     if source.standard {
         "layer"
     } else {
-        before_point(behind_slash(source.name.as_str()))
+        before_point(after_slash(source.name.as_str()))
     }
 }
 
 // What stands after the last slash, or the whole name where it has none.
-fn behind_slash(name: &str) -> &str
-    ensures exact { result.now ≡ behind_slash name.now }
+fn after_slash(name: &str) -> &str
+    ensures exact { result.now ≡ after_slash name.now }
 {
     match name.rsplit_once('/') {
         Some((_, file)) => file,

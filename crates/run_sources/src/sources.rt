@@ -3,7 +3,7 @@ ghost use Rattle.run_sources.specs.declared.fault.SourceFault.TheVariants.{Memor
 ghost use Rattle.io_core.specs.Counts.{NoneFell};
 ghost use Rattle.grid_base.specs.Grid.{most_places};
 ghost use Rattle.geojson_io.specs.Sound.{LayerIsSound};
-ghost use Rattle.run_sources.specs.Budget.{whole_budget, budget_behind, feature_count, position_count, positions_in, positions_along};
+ghost use Rattle.run_sources.specs.Budget.{whole_budget, budget_after, feature_count, position_count, positions_in, positions_along};
 ghost use Rattle.run_sources.specs.Sources.{Grew, BytesMean, stopped, SourceGives, SourceStops, GivesAll, StopsAtSource};
 
 use crate::decoding::{DecodeStop, decoded};
@@ -47,21 +47,21 @@ impl Budget {
     }
 
     // What is left after `bytes` bytes, which gave these layers.
-    fn behind(self, bytes: u64, layers: &GeoLayers) -> Budget
-        ensures left { result ≡ budget_behind self bytes layers.now }
+    fn left_after(self, bytes: u64, layers: &GeoLayers) -> Budget
+        ensures left { result ≡ budget_after self bytes layers.now }
     {
         let layers = layers.as_slice();
         Budget {
             bytes: self.bytes.saturating_sub(bytes),
             room: Room {
-                positions: behind_layers(self.room.positions, layers),
-                features: behind_features(self.room.features, layers),
+                positions: after_layers(self.room.positions, layers),
+                features: after_features(self.room.features, layers),
             },
         }
     }
 }
 
-fn behind_features(room: u32, layers: &[GeoLayer]) -> u32
+fn after_features(room: u32, layers: &[GeoLayer]) -> u32
     ensures left { result ≡ room - sum_by feature_count layers.now }
 {
     let mut left = room;
@@ -71,48 +71,48 @@ fn behind_features(room: u32, layers: &[GeoLayer]) -> u32
     left
 }
 
-fn behind_layers(room: u32, layers: &[GeoLayer]) -> u32
+fn after_layers(room: u32, layers: &[GeoLayer]) -> u32
     ensures left { result ≡ room - sum_by position_count layers.now }
 {
     let mut left = room;
     for layer in layers {
-        left = behind_shapes(left, layer.shapes.as_slice());
+        left = after_shapes(left, layer.shapes.as_slice());
     }
     left
 }
 
-fn behind_shapes(room: u32, shapes: &[GeoShape]) -> u32
+fn after_shapes(room: u32, shapes: &[GeoShape]) -> u32
     ensures left { result ≡ room - sum_by positions_in shapes.now }
 {
     let mut left = room;
     for shape in shapes {
-        left = behind_shape(left, shape);
+        left = after_shape(left, shape);
     }
     left
 }
 
-fn behind_shape(room: u32, shape: &GeoShape) -> u32
+fn after_shape(room: u32, shape: &GeoShape) -> u32
     ensures left { result ≡ room - positions_in shape.now }
 {
     match shape {
         GeoShape::Nothing => room,
         GeoShape::Points(points) => room.saturating_sub(points.len()),
-        GeoShape::Lines(lines) => behind_paths(room, lines.as_slice()),
-        GeoShape::Polygons(polygons) => behind_polygons(room, polygons.as_slice()),
+        GeoShape::Lines(lines) => after_paths(room, lines.as_slice()),
+        GeoShape::Polygons(polygons) => after_polygons(room, polygons.as_slice()),
     }
 }
 
-fn behind_polygons(room: u32, polygons: &[PolygonRings]) -> u32
+fn after_polygons(room: u32, polygons: &[PolygonRings]) -> u32
     ensures left { result ≡ room - sum_by positions_along polygons.now }
 {
     let mut left = room;
     for polygon in polygons {
-        left = behind_paths(left, polygon.as_slice());
+        left = after_paths(left, polygon.as_slice());
     }
     left
 }
 
-fn behind_paths(room: u32, paths: &[PtList]) -> u32
+fn after_paths(room: u32, paths: &[PtList]) -> u32
     ensures left { result ≡ room - positions_along paths.now }
 {
     let mut left = room;
@@ -208,7 +208,7 @@ fn read_source<F: Files, I: Source>(
     };
     match decoded(alloc, source, places, budget.room, bytes.as_slice()) {
         Ok(layers) => {
-            *budget = budget.behind(bytes.len(), &layers);
+            *budget = budget.left_after(bytes.len(), &layers);
             Ok(layers)
         }
         Err(DecodeStop::Refused(why)) => Err(SourceFault::BadInput {

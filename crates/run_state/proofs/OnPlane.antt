@@ -15,11 +15,11 @@ use Rattle.run_state.specs.Features.{HasRows, LeavesOut, TakesFeatures, all_numb
 use Rattle.run_plane.specs.Shapes.{with_geometry}
 use Rattle.run_state.specs.OnPlane.{AreHeldOn}
 use Rattle.run_state.specs.Origins.{one_layer}
-use Rattle.run_state.specs.Targets.{behind_all, first_layers, in_place, in_places, is_selected, placed, put_out, staying, targets}
-use Rattle.run_state.specs.declared.state.Held.{Held}
+use Rattle.run_state.specs.Targets.{after_all, first_layers, in_place, in_places, is_selected, placed, put_out, staying, targets}
+use Rattle.run_state.specs.declared.state.HeldLayer.{HeldLayer}
 
 module _ (plane : Plane) where
-  abbrev IsHeldOn : Held → Type 0
+  abbrev IsHeldOn : HeldLayer → Type 0
   IsHeldOn held = IsLayerOn plane held.layer
 
   -- ---- features
@@ -48,10 +48,10 @@ module _ (plane : Plane) where
   pub first_on : (layers : List Layer) → AreLayersOn plane layers → AreHeldOn plane (first_layers layers)
   first_on layers on = All-map IsHeldOn (λ (layer : Layer). record { layer = layer; is_default = true }) layers on
 
-  passed_on : (p : Held → Bool) (layers : List Held) → AreHeldOn plane layers → AreLayersOn plane (map (λ (held : Held). held.layer) (filter p layers))
-  passed_on p layers on = All-map (IsLayerOn plane) (λ (held : Held). held.layer) (filter p layers) (All-filter p IsHeldOn layers on)
+  passed_on : (p : HeldLayer → Bool) (layers : List HeldLayer) → AreHeldOn plane layers → AreLayersOn plane (map (λ (held : HeldLayer). held.layer) (filter p layers))
+  passed_on p layers on = All-map (IsLayerOn plane) (λ (held : HeldLayer). held.layer) (filter p layers) (All-filter p IsHeldOn layers on)
 
-  pub all_targets_on : (t : Target) (layers : List Held) → AreHeldOn plane layers → AreLayersOn plane (targets t layers)
+  pub all_targets_on : (t : Target) (layers : List HeldLayer) → AreHeldOn plane layers → AreLayersOn plane (targets t layers)
   all_targets_on t layers on = passed_on (is_selected t) layers on
 
   -- the one layer of a list
@@ -60,7 +60,7 @@ module _ (plane : Plane) where
   one_on (first ∷ []) layer h on = subst (IsLayerOn plane) (let e : first ≡ layer = cc in e) (All-head (IsLayerOn plane) first [] on)
   one_on (first ∷ other ∷ rest) layer h on = absurd (cc)
 
-  pub target_on : (t : Target) (layers : List Held) (layer : Layer) → one_layer (targets t layers) ≡ Ok layer → AreHeldOn plane layers → IsLayerOn plane layer
+  pub target_on : (t : Target) (layers : List HeldLayer) (layer : Layer) → one_layer (targets t layers) ≡ Ok layer → AreHeldOn plane layers → IsLayerOn plane layer
   target_on t layers layer h on = one_on (targets t layers) layer h (all_targets_on t layers on)
 
   -- ---- layers put out
@@ -68,14 +68,14 @@ module _ (plane : Plane) where
   put_out_on : (outputs : List Layer) → AreLayersOn plane outputs → AreHeldOn plane (map put_out outputs)
   put_out_on outputs on = All-map IsHeldOn put_out outputs on
 
-  place_on : (t : Target) (held : Held) (outputs : List Layer) → IsHeldOn held → AreLayersOn plane outputs → AreHeldOn plane (in_place t held outputs)
+  place_on : (t : Target) (held : HeldLayer) (outputs : List Layer) → IsHeldOn held → AreLayersOn plane outputs → AreHeldOn plane (in_place t held outputs)
   place_on t held outputs on out = go (is_selected t held)
     where
       go : (b : Bool) → AreHeldOn plane (if b then map put_out outputs else staying held ∷ [])
       go true = put_out_on outputs out
       go false = All-cons IsHeldOn (staying held) [] on (All-nil IsHeldOn)
 
-  places_on : (t : Target) (layers : List Held) (outputs : List (List Layer)) → AreHeldOn plane layers → AreAllOn plane outputs → AreHeldOn plane (in_places t layers outputs)
+  places_on : (t : Target) (layers : List HeldLayer) (outputs : List (List Layer)) → AreHeldOn plane layers → AreAllOn plane outputs → AreHeldOn plane (in_places t layers outputs)
   places_on t [] outputs on out = All-nil IsHeldOn
   places_on t (held ∷ layers) [] on out =
       All-append IsHeldOn (in_place t held []) (in_places t layers []) (place_on t held [] (All-head IsHeldOn held layers on) (All-nil (IsLayerOn plane)))
@@ -84,14 +84,14 @@ module _ (plane : Plane) where
       All-append IsHeldOn (in_place t held first) (in_places t layers rest) (place_on t held first (All-head IsHeldOn held layers on) (All-head (AreLayersOn plane) first rest out))
       (places_on t layers rest (All-tail IsHeldOn held layers on) (All-tail (AreLayersOn plane) first rest out))
 
-  behind_on : (outputs : List (List Layer)) → AreAllOn plane outputs → AreHeldOn plane (flat_map (map put_out) outputs)
-  behind_on [] out = All-nil IsHeldOn
-  behind_on (first ∷ rest) out =
-      All-append IsHeldOn (map put_out first) (flat_map (map put_out) rest) (put_out_on first (All-head (AreLayersOn plane) first rest out)) (behind_on rest (All-tail (AreLayersOn plane) first rest out))
+  after_all_on : (outputs : List (List Layer)) → AreAllOn plane outputs → AreHeldOn plane (flat_map (map put_out) outputs)
+  after_all_on [] out = All-nil IsHeldOn
+  after_all_on (first ∷ rest) out =
+      All-append IsHeldOn (map put_out first) (flat_map (map put_out) rest) (put_out_on first (All-head (AreLayersOn plane) first rest out)) (after_all_on rest (All-tail (AreLayersOn plane) first rest out))
 
-  pub placed_on : (c : Command) (layers : List Held) (outputs : List (List Layer)) → AreHeldOn plane layers → AreAllOn plane outputs → AreHeldOn plane (placed c layers outputs)
+  pub placed_on : (c : Command) (layers : List HeldLayer) (outputs : List (List Layer)) → AreHeldOn plane layers → AreAllOn plane outputs → AreHeldOn plane (placed c layers outputs)
   placed_on c layers outputs on out = go c.keep
     where
-      go : (b : Bool) → AreHeldOn plane (if b then behind_all layers outputs else in_places c.target layers outputs)
-      go true = All-append IsHeldOn (map staying layers) (flat_map (map put_out) outputs) (All-map IsHeldOn staying layers on) (behind_on outputs out)
+      go : (b : Bool) → AreHeldOn plane (if b then after_all layers outputs else in_places c.target layers outputs)
+      go true = All-append IsHeldOn (map staying layers) (flat_map (map put_out) outputs) (All-map IsHeldOn staying layers on) (after_all_on outputs out)
       go false = places_on c.target layers outputs on out

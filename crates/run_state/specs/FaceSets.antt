@@ -11,7 +11,7 @@ use Rattle.run_plane.specs.declared.layer.Shape.TheVariants as shape
 use Rattle.run_state.specs.Features.{HasRows, LeavesOut, all_numbers}
 use Rattle.run_state.specs.Origins.{Base, one_layer, origin_layers}
 use Rattle.run_state.specs.declared.refusal.RefuseWhy.{RefuseWhy}
-use Rattle.run_state.specs.declared.state.Held.{Held}
+use Rattle.run_state.specs.declared.state.HeldLayer.{HeldLayer}
 
 -- the faces of any of the shapes, ascending
 abbrev pub any_faces : List Shape → List ℕ
@@ -23,10 +23,10 @@ layer_faces (Ok layer) = any_faces layer.shapes.items
 layer_faces (Err why) = []
 
 -- the faces that a cut is by: those of any feature of its source, or those in the box with this number, from 0
-abbrev pub area_of : Base → List Held → Origin → List ℕ
-area_of base layers (origin.Area n) = slice_index_or base.plane.boxes.items n []
-area_of base layers (origin.Layer name) = layer_faces (one_layer (origin_layers base.sources layers (origin.Layer name)))
-area_of base layers (origin.Source n) = layer_faces (one_layer (origin_layers base.sources layers (origin.Source n)))
+abbrev pub cut_set_of : Base → List HeldLayer → Origin → List ℕ
+cut_set_of base layers (origin.Area n) = slice_index_or base.plane.boxes.items n []
+cut_set_of base layers (origin.Layer name) = layer_faces (one_layer (origin_layers base.sources layers (origin.Layer name)))
+cut_set_of base layers (origin.Source n) = layer_faces (one_layer (origin_layers base.sources layers (origin.Source n)))
 
 -- for each shape its faces
 abbrev pub sets_in : List Shape → List (List ℕ)

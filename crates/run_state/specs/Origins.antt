@@ -7,10 +7,10 @@ use Rattle.job_terms.specs.declared.job.Origin.TheVariants as origin
 use Rattle.run_plane.specs.declared.layer.Layer.{Layer}
 use Rattle.run_plane.specs.declared.plane.Plane.{Plane}
 use Rattle.run_state.specs.Stops.{refusal_of}
-use Rattle.run_state.specs.declared.ground.Ground.{Ground}
+use Rattle.run_state.specs.declared.base.Base.{Base as Lent}
 use Rattle.run_state.specs.declared.refusal.RefuseWhy.{RefuseWhy}
 use Rattle.run_state.specs.declared.refusal.RefuseWhy.TheVariants.{NoLayer, ManyLayers}
-use Rattle.run_state.specs.declared.state.Held.{Held}
+use Rattle.run_state.specs.declared.state.HeldLayer.{HeldLayer}
 
 -- the layers of each source, in order
 abbrev pub Owned : Type 0
@@ -22,16 +22,16 @@ pub record Base : Type 0 where
   pub plane : Plane
   pub sources : Owned
 
-abbrev pub base_of : Ground → Base
+abbrev pub base_of : Lent → Base
 base_of under = record { places = under.places; plane = under.plane.now; sources = map (λ own. own.items) under.sources.now }
 
 -- ---- the layer that a command takes from elsewhere
 
-abbrev pub named_layers : Content → List Held → List Layer
-named_layers name layers = map (λ (held : Held). held.layer) (filter (λ (held : Held). bytes_eq name held.layer.name) layers)
+abbrev pub named_layers : Content → List HeldLayer → List Layer
+named_layers name layers = map (λ (held : HeldLayer). held.layer) (filter (λ (held : HeldLayer). bytes_eq name held.layer.name) layers)
 
 -- those of a name, or those of the source with this number, from 1
-abbrev pub origin_layers : Owned → List Held → Origin → List Layer
+abbrev pub origin_layers : Owned → List HeldLayer → Origin → List Layer
 origin_layers sources layers (origin.Layer name) = named_layers name layers
 origin_layers sources layers (origin.Source n) = slice_index_or sources (n - 1) []
 origin_layers sources layers (origin.Area n) = []
@@ -42,7 +42,7 @@ one_layer (layer ∷ []) = Ok layer
 one_layer (layer ∷ other ∷ rest) = Err ManyLayers
 
 -- why there is no such layer; a box is none, and always is there
-abbrev pub refused_origin : Owned → List Held → Origin → Option RefuseWhy
+abbrev pub refused_origin : Owned → List HeldLayer → Origin → Option RefuseWhy
 refused_origin sources layers (origin.Layer name) = refusal_of (one_layer (origin_layers sources layers (origin.Layer name)))
 refused_origin sources layers (origin.Source n) = refusal_of (one_layer (origin_layers sources layers (origin.Source n)))
 refused_origin sources layers (origin.Area n) = None

@@ -1,13 +1,13 @@
 ghost use Rattle.std.specs.Prelude.{◌≡◌, [], IfErr, IfOk, length, slice_index_or};
 ghost use Rattle.run_plane.specs.Shapes.{faces_in};
-ghost use Rattle.run_state.specs.FaceSets.{HasSets, any_faces, area_of, face_shapes, sets_in};
+ghost use Rattle.run_state.specs.FaceSets.{HasSets, any_faces, cut_set_of, face_shapes, sets_in};
 ghost use Rattle.run_state.specs.Origins.{base_of, refused_origin};
 ghost use Rattle.run_state.specs.Stops.{StopsFor};
 
+use crate::base::Base;
 use crate::features::{nonempty, numbers_below, with_shapes};
-use crate::ground::Ground;
-use crate::origins::source_layer;
-use crate::state::{CommandStop, Held};
+use crate::origins::origin_layer;
+use crate::state::{CommandStop, HeldLayer};
 use face_sets::{FaceSet, SetList};
 use grid_base::FaceId;
 use job_terms::Origin;
@@ -15,19 +15,19 @@ use run_plane::{Layer, Shape};
 use std::alloc::{AllocError, Global};
 
 /// The faces that `-clip` and `-erase` cut by: those of any feature of the source, or those in the box.
-pub fn area_of(
+pub fn cut_set_of(
     alloc: Global,
-    ground: &Ground<'_>,
-    layers: &[Held],
+    base: &Base<'_>,
+    layers: &[HeldLayer],
     from: &Origin,
 ) -> Result<FaceSet, CommandStop>
-    ensures exact { IfOk result (λ faces. faces ≡ area_of (base_of ground.now) layers.now from.now) }
-    ensures stops { IfErr result (StopsFor (refused_origin (base_of ground.now).sources layers.now from.now)) }
+    ensures exact { IfOk result (λ faces. faces ≡ cut_set_of (base_of base.now) layers.now from.now) }
+    ensures stops { IfErr result (StopsFor (refused_origin (base_of base.now).sources layers.now from.now)) }
 {
     if let Origin::Area(number) = from {
-        return Ok(box_faces(alloc, &ground.plane.boxes, *number)?);
+        return Ok(box_faces(alloc, &base.plane.boxes, *number)?);
     }
-    match source_layer(layers, ground.sources, from) {
+    match origin_layer(layers, base.sources, from) {
         Ok(layer) => Ok(union_of(alloc, &layer.shapes)?),
         Err(why) => Err(CommandStop::Refused(why)),
     }

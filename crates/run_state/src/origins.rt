@@ -2,14 +2,14 @@ ghost use Rattle.std.specs.Prelude.{◌≡◌, ◌-◌, [], IfErr, IfOk, map, sl
 ghost use Rattle.run_state.specs.Origins.{named_layers, one_layer, origin_layers};
 
 use crate::refusal::RefuseWhy;
-use crate::state::Held;
+use crate::state::HeldLayer;
 use crate::targets::{Wanted, only_where};
 use job_terms::Origin;
 use run_plane::Layer;
 
 /// The one layer of a source.
-pub fn source_layer<'a>(
-    layers: &'a [Held],
+pub fn origin_layer<'a>(
+    layers: &'a [HeldLayer],
     sources: &'a [Vec<Layer>],
     origin: &Origin,
 ) -> Result<&'a Layer, RefuseWhy>
@@ -37,7 +37,7 @@ fn layers_of(sources: &[Vec<Layer>], number: u32) -> &[Layer]
     }
 }
 
-fn named_layer<'a>(layers: &'a [Held], name: &str) -> Result<&'a Layer, RefuseWhy>
+fn named_layer<'a>(layers: &'a [HeldLayer], name: &str) -> Result<&'a Layer, RefuseWhy>
     ensures ok { IfOk result (λ layer. one_layer (named_layers name.now layers.now) ≡ Ok layer.now) }
     ensures err { IfErr result (λ why. one_layer (named_layers name.now layers.now) ≡ Err why) }
 {

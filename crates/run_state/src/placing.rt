@@ -1,9 +1,9 @@
 ghost use Rattle.std.specs.Prelude.{◌≡◌, ◌++◌, [], IfOk, OnOk, drop, length, map};
 ghost use Rattle.std.specs.Vec.Iter.{into_iter_items, into_iter_len};
 ghost use Rattle.lists.specs.Lists.{first_or};
-ghost use Rattle.run_state.specs.Targets.{behind_all, in_place, in_places, placed, put_out, staying};
+ghost use Rattle.run_state.specs.Targets.{after_all, in_place, in_places, placed, put_out, staying};
 
-use crate::state::Held;
+use crate::state::HeldLayer;
 use crate::targets::is_selected;
 use job_terms::{Command, Target};
 use run_plane::Layer;
@@ -14,14 +14,14 @@ use std::vec::IntoIter;
 /// with `+`, after all layers.
 pub fn placed(
     alloc: Global,
-    layers: Vec<Held>,
+    layers: Vec<HeldLayer>,
     command: &Command,
     outputs: Vec<Vec<Layer>>,
-) -> Result<Vec<Held>, AllocError>
+) -> Result<Vec<HeldLayer>, AllocError>
     ensures placed { IfOk result (λ after. after.items ≡ placed command.now layers.items (map (λ out. out.items) outputs.items)) }
 {
     if command.keep {
-        behind_all(alloc, layers, outputs)
+        after_all(alloc, layers, outputs)
     } else {
         in_places(alloc, layers, &command.target, outputs)
     }
@@ -29,10 +29,10 @@ pub fn placed(
 
 fn in_places(
     alloc: Global,
-    layers: Vec<Held>,
+    layers: Vec<HeldLayer>,
     target: &Target,
     outputs: Vec<Vec<Layer>>,
-) -> Result<Vec<Held>, AllocError>
+) -> Result<Vec<HeldLayer>, AllocError>
     ensures placed { IfOk result (λ after. after.items ≡ in_places target.now layers.items (map (λ out. out.items) outputs.items)) }
 {
     let mut after = Vec::new(alloc);
@@ -58,9 +58,9 @@ fn next_of(alloc: Global, coming: &mut IntoIter<Vec<Layer>>) -> Vec<Layer>
 }
 
 fn put_in_place(
-    after: &mut Vec<Held>,
+    after: &mut Vec<HeldLayer>,
     target: &Target,
-    held: Held,
+    held: HeldLayer,
     output: Vec<Layer>,
 ) -> Result<(), AllocError>
     ensures put { OnOk result (after.new.items ≡ after.old.items ++ in_place target.now held output.items) }
@@ -72,21 +72,21 @@ fn put_in_place(
     Ok(())
 }
 
-fn stays(held: Held) -> Held
+fn stays(held: HeldLayer) -> HeldLayer
     ensures exact { result ≡ staying held }
 {
-    Held {
+    HeldLayer {
         layer: held.layer,
         is_default: false,
     }
 }
 
-fn behind_all(
+fn after_all(
     alloc: Global,
-    layers: Vec<Held>,
+    layers: Vec<HeldLayer>,
     outputs: Vec<Vec<Layer>>,
-) -> Result<Vec<Held>, AllocError>
-    ensures placed { IfOk result (λ after. after.items ≡ behind_all layers.items (map (λ out. out.items) outputs.items)) }
+) -> Result<Vec<HeldLayer>, AllocError>
+    ensures placed { IfOk result (λ after. after.items ≡ after_all layers.items (map (λ out. out.items) outputs.items)) }
 {
     let mut after = all_stay(alloc, layers)?;
     for output in outputs {
@@ -95,7 +95,7 @@ fn behind_all(
     Ok(after)
 }
 
-fn all_stay(alloc: Global, layers: Vec<Held>) -> Result<Vec<Held>, AllocError>
+fn all_stay(alloc: Global, layers: Vec<HeldLayer>) -> Result<Vec<HeldLayer>, AllocError>
     ensures each { IfOk result (λ after. after.items ≡ map staying layers.items) }
 {
     let mut after = Vec::new(alloc);
@@ -106,11 +106,11 @@ fn all_stay(alloc: Global, layers: Vec<Held>) -> Result<Vec<Held>, AllocError>
 }
 
 // Appends layers that a command puts out.
-fn put_in(place: &mut Vec<Held>, outputs: Vec<Layer>) -> Result<(), AllocError>
+fn put_in(place: &mut Vec<HeldLayer>, outputs: Vec<Layer>) -> Result<(), AllocError>
     ensures put { OnOk result (place.new.items ≡ place.old.items ++ map put_out outputs.items) }
 {
     for layer in outputs {
-        place.push(Held {
+        place.push(HeldLayer {
             layer,
             is_default: true,
         })?;

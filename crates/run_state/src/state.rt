@@ -5,7 +5,7 @@ use table_rows::TableFault;
 
 /// A layer of the run.
 #[derive(Drop)]
-pub struct Held {
+pub struct HeldLayer {
     pub layer: Layer,
     /// The last command that puts layers out put out this one: it is a target where none is named.
     pub is_default: bool,
@@ -14,7 +14,7 @@ pub struct Held {
 /// The layers of a run between two commands, in order.
 #[derive(Drop)]
 pub struct State {
-    pub layers: Vec<Held>,
+    pub layers: Vec<HeldLayer>,
 }
 
 /// Why a command stops a run.
@@ -70,7 +70,7 @@ impl State {
     {
         let mut held = Vec::new(alloc);
         for layer in layers {
-            held.push(Held {
+            held.push(HeldLayer {
                 layer,
                 is_default: true,
             })?;

@@ -5,13 +5,13 @@ ghost use Rattle.run_state.specs.Origins.{one_layer};
 ghost use Rattle.run_state.specs.Targets.{TargetAnswers, are_layers, is_layer, is_selected, is_wanted, targets, wanted_layers};
 
 use crate::refusal::RefuseWhy;
-use crate::state::Held;
+use crate::state::HeldLayer;
 use io_core::Text;
 use job_terms::Target;
 use run_plane::Layer;
 
 /// Refuses a target that names a layer that isn't there, or selects none.
-pub fn check_target(layers: &[Held], target: &Target) -> Result<(), RefuseWhy>
+pub fn check_target(layers: &[HeldLayer], target: &Target) -> Result<(), RefuseWhy>
     ensures answers { TargetAnswers target.now layers.now result }
 {
     if !are_layers(layers, target) {
@@ -23,7 +23,7 @@ pub fn check_target(layers: &[Held], target: &Target) -> Result<(), RefuseWhy>
     Ok(())
 }
 
-fn are_layers(layers: &[Held], target: &Target) -> bool
+fn are_layers(layers: &[HeldLayer], target: &Target) -> bool
     ensures exact { result ≡ are_layers target.now layers.now }
 {
     match target {
@@ -33,28 +33,28 @@ fn are_layers(layers: &[Held], target: &Target) -> bool
     }
 }
 
-fn are_names(layers: &[Held], names: &[Text]) -> bool
+fn are_names(layers: &[HeldLayer], names: &[Text]) -> bool
     ensures exact { result ≡ list_all (is_layer layers.now) names.now }
 {
     names.iter().all(|name| is_layer(layers, name.as_str()))
 }
 
 /// Whether some layer has the name.
-pub fn is_layer(layers: &[Held], name: &str) -> bool
+pub fn is_layer(layers: &[HeldLayer], name: &str) -> bool
     ensures exact { result ≡ is_layer layers.now name.now }
 {
     layers.iter().any(|held| name == held.layer.name.as_str())
 }
 
 /// Whether the target has some layer.
-pub fn selects_some(layers: &[Held], target: &Target) -> bool
+pub fn selects_some(layers: &[HeldLayer], target: &Target) -> bool
     ensures exact { result ≡ list_any (is_selected target.now) layers.now }
 {
     layers.iter().any(|held| is_selected(target, held))
 }
 
 /// Whether the command of this target works on the layer.
-pub fn is_selected(target: &Target, held: &Held) -> bool
+pub fn is_selected(target: &Target, held: &HeldLayer) -> bool
     ensures exact { result ≡ is_selected target.now held.now }
 {
     match target {
@@ -71,7 +71,7 @@ fn is_among(names: &[Text], name: &str) -> bool
 }
 
 /// The first layer of a target.
-pub fn first_target<'a>(layers: &'a [Held], target: &Target) -> Option<&'a Layer>
+pub fn first_target<'a>(layers: &'a [HeldLayer], target: &Target) -> Option<&'a Layer>
     ensures first { option_copied result ≡ slice_get (targets target.now layers.now) 0 }
 {
     for held in layers {
@@ -83,7 +83,7 @@ pub fn first_target<'a>(layers: &'a [Held], target: &Target) -> Option<&'a Layer
 }
 
 /// The one layer of a target.
-pub fn only_target<'a>(layers: &'a [Held], target: &Target) -> Result<&'a Layer, RefuseWhy>
+pub fn only_target<'a>(layers: &'a [HeldLayer], target: &Target) -> Result<&'a Layer, RefuseWhy>
     ensures ok { IfOk result (λ layer. one_layer (targets target.now layers.now) ≡ Ok layer.now) }
     ensures err { IfErr result (λ why. one_layer (targets target.now layers.now) ≡ Err why) }
 {
@@ -98,7 +98,7 @@ pub enum Wanted<'a> {
 }
 
 /// The one layer that is wanted.
-pub fn only_where<'a>(layers: &'a [Held], wanted: &Wanted) -> Result<&'a Layer, RefuseWhy>
+pub fn only_where<'a>(layers: &'a [HeldLayer], wanted: &Wanted) -> Result<&'a Layer, RefuseWhy>
     ensures ok { IfOk result (λ layer. one_layer (wanted_layers wanted.now layers.now) ≡ Ok layer.now) }
     ensures err { IfErr result (λ why. one_layer (wanted_layers wanted.now layers.now) ≡ Err why) }
 {
@@ -114,7 +114,7 @@ pub fn only_where<'a>(layers: &'a [Held], wanted: &Wanted) -> Result<&'a Layer, 
     found.ok_or(RefuseWhy::NoLayer)
 }
 
-fn is_wanted(wanted: &Wanted, held: &Held) -> bool
+fn is_wanted(wanted: &Wanted, held: &HeldLayer) -> bool
     ensures exact { result ≡ is_wanted wanted.now held.now }
 {
     match wanted {

@@ -16,8 +16,8 @@ use Rattle.job_terms.specs.declared.job.LayerAction.TheVariants as action
 use Rattle.job_terms.specs.declared.job.Target.{Target}
 use Rattle.run_plane.specs.declared.layer.Layer.{Layer}
 use Rattle.run_state.specs.Origins.{Base}
-use Rattle.run_state.specs.Targets.{behind_all, in_place, in_places, is_selected, placed, put_out, staying, targets}
-use Rattle.run_state.specs.declared.state.Held.{Held}
+use Rattle.run_state.specs.Targets.{after_all, in_place, in_places, is_selected, placed, put_out, staying, targets}
+use Rattle.run_state.specs.declared.state.HeldLayer.{HeldLayer}
 use Rattle.run_state.proofs.TargetLemmas.{target_first, other_first}
 use Rattle.run_tables.specs.Made.{HasTable, One}
 use Rattle.run_tables.specs.Pieces.{ArePieces, IsPiece}
@@ -43,7 +43,7 @@ pieces_counted layer (item ∷ items) made answer e h =
     let k : length made ≡ length items + 1 = omega (arith, zipped_length (IsPiece layer) (enumerate_from 1 (item ∷ items)) made h, length-enumerate_from 1 (item ∷ items)) in
     k ∙ sym (ap piece_count e)
 
-made_counted : (base : Base) (layers : List Held) (a : LayerAction) (layer : Layer) (made : List Layer) → PutsOut base layers a layer made → length made ≡ output_count a layer
+made_counted : (base : Base) (layers : List HeldLayer) (a : LayerAction) (layer : Layer) (made : List Layer) → PutsOut base layers a layer made → length made ≡ output_count a layer
 made_counted base layers (action.Clip from) layer made h = one_counted _ made h
 made_counted base layers (action.Erase from) layer made h = one_counted _ made h
 made_counted base layers (action.Dissolve spec group_points) layer made h = one_counted _ made h
@@ -65,27 +65,27 @@ made_counted base layers (action.FilterIslands least_area least_links remove_emp
 
 -- ---- layers that stay, and those put out
 
-abbrev stays : Target → List Held → ℕ
-stays t layers = count_by (λ (held : Held). not (is_selected t held)) layers
+abbrev stays : Target → List HeldLayer → ℕ
+stays t layers = count_by (λ (held : HeldLayer). not (is_selected t held)) layers
 
-stays_on : (t : Target) (held : Held) (rest : List Held) (b : Bool) → is_selected t held ≡ b → stays t (held ∷ rest) ≡ cond (not b) 1 0 + stays t rest
+stays_on : (t : Target) (held : HeldLayer) (rest : List HeldLayer) (b : Bool) → is_selected t held ≡ b → stays t (held ∷ rest) ≡ cond (not b) 1 0 + stays t rest
 stays_on t held rest b e =
-    sum_by-cons (λ (other : Held). cond (not (is_selected t other)) 1 0) held rest ∙ ap (λ (c : Bool). cond (not c) 1 0 + stays t rest) e
+    sum_by-cons (λ (other : HeldLayer). cond (not (is_selected t other)) 1 0) held rest ∙ ap (λ (c : Bool). cond (not c) 1 0 + stays t rest) e
 
-module _ (base : Base) (all : List Held) (c : Command) (a : LayerAction) where
-  abbrev puts : List Held → ℕ
+module _ (base : Base) (all : List HeldLayer) (c : Command) (a : LayerAction) where
+  abbrev puts : List HeldLayer → ℕ
   puts layers = sum_by (output_count a) (targets c.target layers)
 
-  puts_on : (held : Held) (rest : List Held) → is_selected c.target held ≡ true → puts (held ∷ rest) ≡ output_count a held.layer + puts rest
+  puts_on : (held : HeldLayer) (rest : List HeldLayer) → is_selected c.target held ≡ true → puts (held ∷ rest) ≡ output_count a held.layer + puts rest
   puts_on held rest e = ap (sum_by (output_count a)) (target_first c.target held rest e) ∙ sum_by-cons (output_count a) held.layer (targets c.target rest)
 
-  puts_off : (held : Held) (rest : List Held) → is_selected c.target held ≡ false → puts (held ∷ rest) ≡ puts rest
+  puts_off : (held : HeldLayer) (rest : List HeldLayer) → is_selected c.target held ≡ false → puts (held ∷ rest) ≡ puts rest
   puts_off held rest e = ap (sum_by (output_count a)) (other_first c.target held rest e)
 
   titled_counted : (layer : Layer) (outputs : List Layer) → Titles base all c a layer outputs → length outputs ≡ output_count a layer
   titled_counted layer outputs h = zipped_length (IsTitled c.name) h.made outputs h.titled ∙ made_counted base all a layer h.made h.puts
 
-  placed_on : (held : Held) (rest : List Held) (out : List Layer) (others : List Held) (b : Bool) → is_selected c.target held ≡ b →
+  placed_on : (held : HeldLayer) (rest : List HeldLayer) (out : List Layer) (others : List HeldLayer) (b : Bool) → is_selected c.target held ≡ b →
       MatchBool b (Titles base all c a held.layer out) (out ≡ []) → length others ≡ stays c.target rest + puts rest →
       length (in_place c.target held out ++ others) ≡ stays c.target (held ∷ rest) + puts (held ∷ rest)
   placed_on held rest out others true e h i =
@@ -102,7 +102,7 @@ module _ (base : Base) (all : List Held) (c : Command) (a : LayerAction) where
       let put = puts_off held rest e in
       omega (arith, here, stay, put, i)
 
-  in_places_counted : (layers : List Held) (outputs : List (List Layer)) → AllZip (PutsFor base all c a) layers outputs →
+  in_places_counted : (layers : List HeldLayer) (outputs : List (List Layer)) → AllZip (PutsFor base all c a) layers outputs →
       length (in_places c.target layers outputs) ≡ stays c.target layers + puts layers
   in_places_counted [] [] h = omega arith
   in_places_counted [] (out ∷ outs) h = absurd h
@@ -110,7 +110,7 @@ module _ (base : Base) (all : List Held) (c : Command) (a : LayerAction) where
   in_places_counted (held ∷ rest) (out ∷ outs) h =
       placed_on held rest out (in_places c.target rest outs) (is_selected c.target held) refl h.0 (in_places_counted rest outs h.1)
 
-  put_on : (held : Held) (rest : List Held) (out : List Layer) (others : List Held) (b : Bool) → is_selected c.target held ≡ b →
+  put_on : (held : HeldLayer) (rest : List HeldLayer) (out : List Layer) (others : List HeldLayer) (b : Bool) → is_selected c.target held ≡ b →
       MatchBool b (Titles base all c a held.layer out) (out ≡ []) → length others ≡ puts rest → length (map put_out out ++ others) ≡ puts (held ∷ rest)
   put_on held rest out others true e h i =
       let both = length-append (map put_out out) others in
@@ -125,14 +125,14 @@ module _ (base : Base) (all : List Held) (c : Command) (a : LayerAction) where
       let put = puts_off held rest e in
       omega (arith, both, each, none, put, i)
 
-  put_counted : (layers : List Held) (outputs : List (List Layer)) → AllZip (PutsFor base all c a) layers outputs → length (flat_map (map put_out) outputs) ≡ puts layers
+  put_counted : (layers : List HeldLayer) (outputs : List (List Layer)) → AllZip (PutsFor base all c a) layers outputs → length (flat_map (map put_out) outputs) ≡ puts layers
   put_counted [] [] h = omega arith
   put_counted [] (out ∷ outs) h = absurd h
   put_counted (held ∷ rest) [] h = absurd h
   put_counted (held ∷ rest) (out ∷ outs) h = put_on held rest out (flat_map (map put_out) outs) (is_selected c.target held) refl h.0 (put_counted rest outs h.1)
 
-  each_counted : (layers : List Held) (outputs : List (List Layer)) (b : Bool) → AllZip (PutsFor base all c a) layers outputs →
-      length (if b then behind_all layers outputs else in_places c.target layers outputs) ≡ (if b then length layers else stays c.target layers) + puts layers
+  each_counted : (layers : List HeldLayer) (outputs : List (List Layer)) (b : Bool) → AllZip (PutsFor base all c a) layers outputs →
+      length (if b then after_all layers outputs else in_places c.target layers outputs) ≡ (if b then length layers else stays c.target layers) + puts layers
   each_counted layers outputs true h =
       let both = length-append (map staying layers) (flat_map (map put_out) outputs) in
       let each = length-map layers staying in
@@ -141,7 +141,7 @@ module _ (base : Base) (all : List Held) (c : Command) (a : LayerAction) where
 
 -- ---- one layer in the place of the first target
 
-rest_on : (t : Target) (held : Held) (rest others : List Held) (b : Bool) → is_selected t held ≡ b → length others ≡ stays t rest →
+rest_on : (t : Target) (held : HeldLayer) (rest others : List HeldLayer) (b : Bool) → is_selected t held ≡ b → length others ≡ stays t rest →
     length (in_place t held [] ++ others) ≡ stays t (held ∷ rest)
 rest_on t held rest others true e i =
     let here : length (in_place t held [] ++ others) ≡ length others = ap (λ (b : Bool). length ((if b then map put_out [] else staying held ∷ []) ++ others)) e in
@@ -150,14 +150,14 @@ rest_on t held rest others false e i =
     let here : length (in_place t held [] ++ others) ≡ length (staying held ∷ others) = ap (λ (b : Bool). length ((if b then map put_out [] else staying held ∷ []) ++ others)) e in
     omega (arith, here, stays_on t held rest false e, i)
 
-rest_counted : (t : Target) (layers : List Held) → length (in_places t layers []) ≡ stays t layers
+rest_counted : (t : Target) (layers : List HeldLayer) → length (in_places t layers []) ≡ stays t layers
 rest_counted t [] = omega arith
 rest_counted t (held ∷ rest) = rest_on t held rest (in_places t rest []) (is_selected t held) refl (rest_counted t rest)
 
 abbrev first_at : ℕ → Layer → List (List Layer)
 first_at n made = replicate n [] ++ (made ∷ []) ∷ []
 
-first_on : (t : Target) (made : Layer) (held : Held) (rest : List Held) → (0 < length (targets t rest) → length (in_places t rest (at_first t rest made)) ≡ stays t rest + 1) →
+first_on : (t : Target) (made : Layer) (held : HeldLayer) (rest : List HeldLayer) → (0 < length (targets t rest) → length (in_places t rest (at_first t rest made)) ≡ stays t rest + 1) →
     (b : Bool) → is_selected t held ≡ b → 0 < length (targets t (held ∷ rest)) → length (in_places t (held ∷ rest) (at_first t (held ∷ rest) made)) ≡ stays t (held ∷ rest) + 1
 first_on t made held rest onward true e some =
     let place : at_first t (held ∷ rest) made ≡ (made ∷ []) ∷ [] = ap (λ (b : Bool). first_at (cond (not b) (1 + position_or_len (is_selected t) rest) 0) made) e in
@@ -174,7 +174,7 @@ first_on t made held rest onward false e some =
     let left : length (targets t (held ∷ rest)) ≡ length (targets t rest) = ap length (other_first t held rest e) in
     omega (arith, all, here, onward (omega (arith, left, some)), stays_on t held rest false e)
 
-first_counted : (t : Target) (made : Layer) (layers : List Held) → 0 < length (targets t layers) → length (in_places t layers (at_first t layers made)) ≡ stays t layers + 1
+first_counted : (t : Target) (made : Layer) (layers : List HeldLayer) → 0 < length (targets t layers) → length (in_places t layers (at_first t layers made)) ≡ stays t layers + 1
 first_counted t made [] some = absurd (omega (arith, some))
 first_counted t made (held ∷ rest) some = first_on t made held rest (first_counted t made rest) (is_selected t held) refl some
 
@@ -182,8 +182,8 @@ one_put : (n : ℕ) (made : Layer) → length (flat_map (map put_out) (first_at 
 one_put zero made = refl
 one_put (suc n) made = one_put n made
 
-joint_counted : (t : Target) (made : Layer) (layers : List Held) (b : Bool) → 0 < length (targets t layers) →
-    length (if b then behind_all layers (at_first t layers made) else in_places t layers (at_first t layers made)) ≡ (if b then length layers else stays t layers) + 1
+joint_counted : (t : Target) (made : Layer) (layers : List HeldLayer) (b : Bool) → 0 < length (targets t layers) →
+    length (if b then after_all layers (at_first t layers made) else in_places t layers (at_first t layers made)) ≡ (if b then length layers else stays t layers) + 1
 joint_counted t made layers true some =
     let both = length-append (map staying layers) (flat_map (map put_out) (at_first t layers made)) in
     let each = length-map layers staying in
@@ -196,7 +196,7 @@ some_first : (layers : List Layer) (first : Layer) → slice_get layers 0 ≡ So
 some_first [] first h = absurd (let e : None ≡ Some first = h in cc)
 some_first (layer ∷ layers) first h = omega arith
 
-pub left_by_each : (base : Base) (layers : List Held) (c : Command) (a : LayerAction) (outputs : List (List Layer)) → AllZip (PutsFor base layers c a) layers outputs →
+pub left_by_each : (base : Base) (layers : List HeldLayer) (c : Command) (a : LayerAction) (outputs : List (List Layer)) → AllZip (PutsFor base layers c a) layers outputs →
     length (placed c layers outputs) ≡ stay_count c layers + sum_by (output_count a) (targets c.target layers)
 left_by_each base layers c a outputs h = each_counted base layers c a layers outputs c.keep h
 
@@ -204,7 +204,7 @@ some_made : (base : Base) (a : JointAction) (layers : List Layer) (made : Layer)
 some_made base (joint.MergeLayers force) layers made h = some_first layers h.first h.begins
 some_made base joint.Union layers made h = some_first layers h.first h.begins
 
-pub left_together : (base : Base) (layers : List Held) (c : Command) (a : JointAction) (outputs : List (List Layer)) → PutsTogether base c a layers outputs →
+pub left_together : (base : Base) (layers : List HeldLayer) (c : Command) (a : JointAction) (outputs : List (List Layer)) → PutsTogether base c a layers outputs →
     length (placed c layers outputs) ≡ stay_count c layers + 1
 left_together base layers c a outputs h =
     let all : length (placed c layers outputs) ≡ length (placed c layers (at_first c.target layers h.titled)) = ap (λ (outs : List (List Layer)). length (placed c layers outs)) h.place in

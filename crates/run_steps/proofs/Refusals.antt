@@ -16,10 +16,10 @@ use Rattle.run_state.specs.declared.refusal.RefuseWhy.{RefuseWhy}
 use Rattle.run_state.specs.declared.refusal.RefuseWhy.TheVariants.{TooManyLayers}
 use Rattle.run_state.specs.declared.state.CommandStop.{CommandStop}
 use Rattle.run_state.specs.declared.state.CommandStop.TheVariants as stop
-use Rattle.run_state.specs.declared.state.Held.{Held}
+use Rattle.run_state.specs.declared.state.HeldLayer.{HeldLayer}
 use Rattle.run_state.proofs.Stops.{stops_second}
 use Rattle.run_state.proofs.TargetLemmas.{target_first, other_first}
-use Rattle.run_checks.specs.Checks.{refused_area, refused_polygons}
+use Rattle.run_checks.specs.Checks.{refused_cut, refused_polygons}
 use Rattle.run_steps.specs.Refusals.{FirstOf, RefusesIn, refused_count}
 
 -- ---- the source
@@ -30,11 +30,11 @@ polygons_there (Ok layer) (stop.Refused why) e h = absurd (let n : None ≡ Some
 polygons_there (Ok layer) stop.Memory e h = refl
 polygons_there (Err w) s e h = absurd (let n : Some w ≡ None = e in cc)
 
-pub area_there : (sources : Owned) (layers : List Held) (from : Origin) (s : CommandStop) → refused_area sources layers from ≡ None → StopsFor (refused_origin sources layers from) s → s ≡ stop.Memory
-area_there sources layers (origin.Layer name) s e h = polygons_there (one_layer (origin_layers sources layers (origin.Layer name))) s e h
-area_there sources layers (origin.Source n) s e h = polygons_there (one_layer (origin_layers sources layers (origin.Source n))) s e h
-area_there sources layers (origin.Area n) (stop.Refused why) e h = absurd (let n : None ≡ Some why = h in cc)
-area_there sources layers (origin.Area n) stop.Memory e h = refl
+pub cut_set_there : (sources : Owned) (layers : List HeldLayer) (from : Origin) (s : CommandStop) → refused_cut sources layers from ≡ None → StopsFor (refused_origin sources layers from) s → s ≡ stop.Memory
+cut_set_there sources layers (origin.Layer name) s e h = polygons_there (one_layer (origin_layers sources layers (origin.Layer name))) s e h
+cut_set_there sources layers (origin.Source n) s e h = polygons_there (one_layer (origin_layers sources layers (origin.Source n))) s e h
+cut_set_there sources layers (origin.Area n) (stop.Refused why) e h = absurd (let n : None ≡ Some why = h in cc)
+cut_set_there sources layers (origin.Area n) stop.Memory e h = refl
 
 -- ---- the first of two
 
@@ -55,48 +55,48 @@ stops_behind First Second stop.Memory f h = tt
 -- ---- layer by layer
 
 module _ (Refuses : Layer → Option RefuseWhy → Type 0) (t : Target) where
-  abbrev RefusesAll : List Held → Option RefuseWhy → Type 0
+  abbrev RefusesAll : List HeldLayer → Option RefuseWhy → Type 0
   RefusesAll layers refusal = RefusesIn Refuses (targets t layers) refusal
 
-  abbrev RefusesOne : Bool → Held → Option RefuseWhy → Type 0
+  abbrev RefusesOne : Bool → HeldLayer → Option RefuseWhy → Type 0
   RefusesOne b held refusal = MatchBool b (Refuses held.layer refusal) (None ≡ refusal)
 
-  one_on : (held : Held) (rest : List Held) (refusal : Option RefuseWhy) → is_selected t held ≡ true → FirstOf (Refuses held.layer) (RefusesAll rest) refusal → RefusesAll (held ∷ rest) refusal
+  one_on : (held : HeldLayer) (rest : List HeldLayer) (refusal : Option RefuseWhy) → is_selected t held ≡ true → FirstOf (Refuses held.layer) (RefusesAll rest) refusal → RefusesAll (held ∷ rest) refusal
   one_on held rest refusal e h = subst (λ (layers : List Layer). RefusesIn Refuses layers refusal) (sym (target_first t held rest e)) h
 
-  one_off : (held : Held) (rest : List Held) (refusal : Option RefuseWhy) → is_selected t held ≡ false → RefusesAll rest refusal → RefusesAll (held ∷ rest) refusal
+  one_off : (held : HeldLayer) (rest : List HeldLayer) (refusal : Option RefuseWhy) → is_selected t held ≡ false → RefusesAll rest refusal → RefusesAll (held ∷ rest) refusal
   one_off held rest refusal e h = subst (λ (layers : List Layer). RefusesIn Refuses layers refusal) (sym (other_first t held rest e)) h
 
-  one_past : (held : Held) (rest : List Held) (refusal : Option RefuseWhy) (b : Bool) → is_selected t held ≡ b → RefusesOne b held None → RefusesAll rest refusal → RefusesAll (held ∷ rest) refusal
+  one_past : (held : HeldLayer) (rest : List HeldLayer) (refusal : Option RefuseWhy) (b : Bool) → is_selected t held ≡ b → RefusesOne b held None → RefusesAll rest refusal → RefusesAll (held ∷ rest) refusal
   one_past held rest refusal true e none h = one_on held rest refusal e (past (Refuses held.layer) (RefusesAll rest) refusal none h)
   one_past held rest refusal false e none h = one_off held rest refusal e h
 
-  one_stops : (held : Held) (rest : List Held) (why : RefuseWhy) (b : Bool) → is_selected t held ≡ b → RefusesOne b held (Some why) → RefusesAll (held ∷ rest) (Some why)
+  one_stops : (held : HeldLayer) (rest : List HeldLayer) (why : RefuseWhy) (b : Bool) → is_selected t held ≡ b → RefusesOne b held (Some why) → RefusesAll (held ∷ rest) (Some why)
   one_stops held rest why true e h = one_on held rest (Some why) e (inl h)
   one_stops held rest why false e h = absurd (let n : None ≡ Some why = h in cc)
 
   -- a list from a place on begins with the layer there
-  from_place : (xs : List Held) (i : ℕ) (item : Held) → i < length xs → slice_get xs i ≡ Some item → drop i xs ≡ item ∷ drop (i + 1) xs
+  from_place : (xs : List HeldLayer) (i : ℕ) (item : HeldLayer) → i < length xs → slice_get xs i ≡ Some item → drop i xs ≡ item ∷ drop (i + 1) xs
   from_place xs i item h there =
-      at_drop_more (λ (ls : List Held). ls) xs i item h ∙ ap (λ (x : Held). x ∷ drop (i + 1) xs) (get_or_from_slice_get xs i item item there)
+      at_drop_more (λ (ls : List HeldLayer). ls) xs i item h ∙ ap (λ (x : HeldLayer). x ∷ drop (i + 1) xs) (get_or_from_slice_get xs i item item there)
 
   -- what refuses the layers from a place on refuses all of them
-  abbrev pub RefuseFrom : List Held → ℕ → Type 0
+  abbrev pub RefuseFrom : List HeldLayer → ℕ → Type 0
   RefuseFrom xs i = (refusal : Option RefuseWhy) → RefusesIn Refuses (targets t (drop i xs)) refusal → RefusesIn Refuses (targets t xs) refusal
 
-  pub goes_past : (xs : List Held) (i : ℕ) (item : Held) → i < length xs → slice_get xs i ≡ Some item → RefuseFrom xs i → RefusesOne (is_selected t item) item None → RefuseFrom xs (i + 1)
+  pub goes_past : (xs : List HeldLayer) (i : ℕ) (item : HeldLayer) → i < length xs → slice_get xs i ≡ Some item → RefuseFrom xs i → RefusesOne (is_selected t item) item None → RefuseFrom xs (i + 1)
   goes_past xs i item h there before none refusal rest =
-      before refusal (subst (λ (layers : List Held). RefusesAll layers refusal) (sym (from_place xs i item h there)) (one_past item (drop (i + 1) xs) refusal (is_selected t item) refl none rest))
+      before refusal (subst (λ (layers : List HeldLayer). RefusesAll layers refusal) (sym (from_place xs i item h there)) (one_past item (drop (i + 1) xs) refusal (is_selected t item) refl none rest))
 
-  pub stops_there : (xs : List Held) (i : ℕ) (item : Held) (s : CommandStop) → i < length xs → slice_get xs i ≡ Some item → RefuseFrom xs i →
+  pub stops_there : (xs : List HeldLayer) (i : ℕ) (item : HeldLayer) (s : CommandStop) → i < length xs → slice_get xs i ≡ Some item → RefuseFrom xs i →
       StopsAs (RefusesOne (is_selected t item) item) s → StopsAs (RefusesIn Refuses (targets t xs)) s
   stops_there xs i item (stop.Refused why) h there before stops =
-      before (Some why) (subst (λ (layers : List Held). RefusesAll layers (Some why)) (sym (from_place xs i item h there)) (one_stops item (drop (i + 1) xs) why (is_selected t item) refl stops))
+      before (Some why) (subst (λ (layers : List HeldLayer). RefusesAll layers (Some why)) (sym (from_place xs i item h there)) (one_stops item (drop (i + 1) xs) why (is_selected t item) refl stops))
   stops_there xs i item stop.Memory h there before stops = tt
 
   -- after the last layer there is none that is refused
-  pub all_pass : (xs : List Held) (i : ℕ) → length xs ≤ i → RefuseFrom xs i → RefusesIn Refuses (targets t xs) None
-  all_pass xs i h before = before None (subst (λ (layers : List Held). RefusesAll layers None) (sym (drop_all i xs h)) refl)
+  pub all_pass : (xs : List HeldLayer) (i : ℕ) → length xs ≤ i → RefuseFrom xs i → RefusesIn Refuses (targets t xs) None
+  all_pass xs i h before = before None (subst (λ (layers : List HeldLayer). RefusesAll layers None) (sym (drop_all i xs h)) refl)
 
 -- ---- the number of layers
 

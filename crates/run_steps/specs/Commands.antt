@@ -24,33 +24,33 @@ use Rattle.run_shapes.specs.Cleaning.{IsCleaned, IsMosaicOf}
 use Rattle.run_shapes.specs.Cutting.{IsCut}
 use Rattle.run_borders.specs.Dissolving.{IsGrouped}
 use Rattle.run_shapes.specs.Exploding.{IsExploded}
-use Rattle.run_state.specs.FaceSets.{area_of}
+use Rattle.run_state.specs.FaceSets.{cut_set_of}
 use Rattle.run_shapes.specs.Islands.{IsMainland}
 use Rattle.run_tables.specs.Matching.{AreMatches}
 use Rattle.run_borders.specs.Uniting.{IsUnited}
 use Rattle.run_shapes.specs.declared.cutting.CutKeeps.TheVariants as keeps
 use Rattle.run_state.specs.Origins.{Base, one_layer, origin_layers}
 use Rattle.run_state.specs.Targets.{is_selected, placed, targets}
-use Rattle.run_state.specs.declared.state.Held.{Held}
+use Rattle.run_state.specs.declared.state.HeldLayer.{HeldLayer}
 use Rattle.run_tables.specs.Made.{GivesTable, IsFiltered, IsMerged, One, TakesNumbers}
 use Rattle.run_tables.specs.Pieces.{IsSplit}
 
 -- ---- what is put out for a layer
 
 -- the faces are those that the command cuts by, where it cuts
-abbrev pub CutsBy : Base → List Held → LayerAction → List ℕ → Type 0
-CutsBy base layers (action.Clip from) area = area ≡ area_of base layers from
-CutsBy base layers (action.Erase from) area = area ≡ area_of base layers from
-CutsBy base layers _ area = ⊤
+abbrev pub CutsBy : Base → List HeldLayer → LayerAction → List ℕ → Type 0
+CutsBy base layers (action.Clip from) cut_set = cut_set ≡ cut_set_of base layers from
+CutsBy base layers (action.Erase from) cut_set = cut_set ≡ cut_set_of base layers from
+CutsBy base layers _ cut_set = ⊤
 
 -- what a join puts out: the layer joined with the one of its source
-pub record Joins (base : Base) (layers : List Held) (from : Origin) (spec : JoinSpec) (layer : Layer) (outputs : List Layer) : Type 0 where
+pub record Joins (base : Base) (layers : List HeldLayer) (from : Origin) (spec : JoinSpec) (layer : Layer) (outputs : List Layer) : Type 0 where
   pub source : Layer
   pub found : one_layer (origin_layers base.sources layers from) ≡ Ok source
   pub joined : One (GivesTable (join_tables layer.table source.table spec) layer) outputs
 
 -- and by place: with the rows of its source that match
-pub record JoinsByPlace (base : Base) (layers : List Held) (from : Origin) (spec : CalcSpec) (layer : Layer) (outputs : List Layer) : Type 0 where
+pub record JoinsByPlace (base : Base) (layers : List HeldLayer) (from : Origin) (spec : CalcSpec) (layer : Layer) (outputs : List Layer) : Type 0 where
   pub source : Layer
   pub found : one_layer (origin_layers base.sources layers from) ≡ Ok source
   pub matches : List (List ℕ)
@@ -58,9 +58,9 @@ pub record JoinsByPlace (base : Base) (layers : List Held) (from : Origin) (spec
   pub joined : One (GivesTable (join_matched layer.table source.table matches spec) layer) outputs
 
 -- what a command that changes each layer puts out for a layer of its target, beside all layers of the state
-abbrev pub PutsOut : Base → List Held → LayerAction → Layer → List Layer → Type 0
-PutsOut base layers (action.Clip from) layer outputs = One (IsCut keeps.Inside base.plane (area_of base layers from) layer) outputs
-PutsOut base layers (action.Erase from) layer outputs = One (IsCut keeps.Outside base.plane (area_of base layers from) layer) outputs
+abbrev pub PutsOut : Base → List HeldLayer → LayerAction → Layer → List Layer → Type 0
+PutsOut base layers (action.Clip from) layer outputs = One (IsCut keeps.Inside base.plane (cut_set_of base layers from) layer) outputs
+PutsOut base layers (action.Erase from) layer outputs = One (IsCut keeps.Outside base.plane (cut_set_of base layers from) layer) outputs
 PutsOut base layers (action.Dissolve spec group_points) layer outputs = One (IsGrouped spec layer) outputs
 PutsOut base layers (action.Clean rule allow_empty gap) layer outputs = One (IsCleaned rule allow_empty gap base.plane layer) outputs
 PutsOut base layers action.Mosaic layer outputs = One (IsMosaicOf base.plane layer) outputs
@@ -91,13 +91,13 @@ pub record IsTitled (title : Option Content) (layer titled : Layer) : Type 0 whe
   pub shapes : titled.shapes ≡ layer.shapes
 
 -- for a layer of the target what the command puts out, under the name of `name=`
-pub record Titles (base : Base) (layers : List Held) (c : Command) (a : LayerAction) (layer : Layer) (outputs : List Layer) : Type 0 where
+pub record Titles (base : Base) (layers : List HeldLayer) (c : Command) (a : LayerAction) (layer : Layer) (outputs : List Layer) : Type 0 where
   pub made : List Layer
   pub puts : PutsOut base layers a layer made
   pub titled : AllZip (IsTitled c.name) made outputs
 
 -- and for any other nothing
-abbrev pub PutsFor : Base → List Held → Command → LayerAction → Held → List Layer → Type 0
+abbrev pub PutsFor : Base → List HeldLayer → Command → LayerAction → HeldLayer → List Layer → Type 0
 PutsFor base layers c a held outputs = MatchBool (is_selected c.target held) (Titles base layers c a held.layer outputs) (outputs ≡ [])
 
 -- ---- what is put out for several layers
@@ -108,11 +108,11 @@ MadeTogether base (joint.MergeLayers force) layers made = IsMerged force layers 
 MadeTogether base joint.Union layers made = IsUnited base.plane layers made
 
 -- a layer in the place of the first target
-abbrev pub at_first : Target → List Held → Layer → List (List Layer)
+abbrev pub at_first : Target → List HeldLayer → Layer → List (List Layer)
 at_first t layers made = replicate (position_or_len (is_selected t) layers) [] ++ (made ∷ []) ∷ []
 
 -- it is put out for all targets, in the place of the first, under the name of `name=`
-pub record PutsTogether (base : Base) (c : Command) (a : JointAction) (layers : List Held) (outputs : List (List Layer)) : Type 0 where
+pub record PutsTogether (base : Base) (c : Command) (a : JointAction) (layers : List HeldLayer) (outputs : List (List Layer)) : Type 0 where
   pub made : Layer
   pub titled : Layer
   pub of_all : MadeTogether base a (targets c.target layers) made
@@ -122,16 +122,16 @@ pub record PutsTogether (base : Base) (c : Command) (a : JointAction) (layers : 
 -- ---- the layers after a command
 
 -- those that it puts out for each layer stand in their places, or after all
-pub record Changes (Puts : List (List Layer) → Type 0) (c : Command) (before after : List Held) : Type 0 where
+pub record Changes (Puts : List (List Layer) → Type 0) (c : Command) (before after : List HeldLayer) : Type 0 where
   pub outputs : List (List Layer)
   pub puts : Puts outputs
   pub placed : after ≡ placed c before outputs
   pub few : length after ≤ 1000
 
 -- after one that changes each layer of its target by itself
-abbrev pub ChangesEach : Base → Command → LayerAction → List Held → List Held → Type 0
+abbrev pub ChangesEach : Base → Command → LayerAction → List HeldLayer → List HeldLayer → Type 0
 ChangesEach base c a before after = Changes (AllZip (PutsFor base before c a) before) c before after
 
 -- after one that changes them together
-abbrev pub ChangesTogether : Base → Command → JointAction → List Held → List Held → Type 0
+abbrev pub ChangesTogether : Base → Command → JointAction → List HeldLayer → List HeldLayer → Type 0
 ChangesTogether base c a before after = Changes (PutsTogether base c a before) c before after

@@ -29,7 +29,7 @@ use Rattle.run_state.specs.Stops.{table_refusal}
 use Rattle.run_state.specs.Targets.{is_selected, targets}
 use Rattle.run_state.specs.declared.refusal.RefuseWhy.{RefuseWhy}
 use Rattle.run_state.specs.declared.refusal.RefuseWhy.TheVariants.{TooManyLayers}
-use Rattle.run_state.specs.declared.state.Held.{Held}
+use Rattle.run_state.specs.declared.state.HeldLayer.{HeldLayer}
 use Rattle.run_tables.specs.Made.{kept_numbers, refused_layers}
 
 -- ---- what the command makes of its layers
@@ -39,7 +39,7 @@ refused_join (Ok source) spec layer = table_refusal (join_tables layer.table sou
 refused_join (Err why) spec layer = Some why
 
 -- why a layer of the target is refused
-abbrev pub refused_layer : Base → List Held → LayerAction → Layer → Option RefuseWhy
+abbrev pub refused_layer : Base → List HeldLayer → LayerAction → Layer → Option RefuseWhy
 refused_layer base layers (action.Dissolve spec group_points) layer = refused_dissolve spec group_points layer
 refused_layer base layers (action.Lines fields) layer = table_refusal (keep_fields layer.table fields)
 refused_layer base layers (action.Join from spec) layer = refused_join (one_layer (origin_layers base.sources layers from)) spec layer
@@ -59,12 +59,12 @@ RefusesByPlace plane (Ok source) spec layer refusal =
 RefusesByPlace plane (Err why) spec layer refusal = Some why ≡ refusal
 
 -- the refusal of a layer of the target, or none
-abbrev pub RefusesLayer : Base → List Held → LayerAction → Layer → Option RefuseWhy → Type 0
+abbrev pub RefusesLayer : Base → List HeldLayer → LayerAction → Layer → Option RefuseWhy → Type 0
 RefusesLayer base layers (action.SpatialJoin from spec) layer refusal = RefusesByPlace base.plane (one_layer (origin_layers base.sources layers from)) spec layer refusal
 RefusesLayer base layers a layer refusal = refused_layer base layers a layer ≡ refusal
 
 -- and any other layer is none that is refused
-abbrev pub RefusesHeld : Base → List Held → Command → LayerAction → Held → Option RefuseWhy → Type 0
+abbrev pub RefusesHeld : Base → List HeldLayer → Command → LayerAction → HeldLayer → Option RefuseWhy → Type 0
 RefusesHeld base layers c a held refusal = MatchBool (is_selected c.target held) (RefusesLayer base layers a held.layer refusal) (None ≡ refusal)
 
 -- the refusal of the first of two that has one, or none
@@ -95,8 +95,8 @@ output_count (action.Split field) layer = piece_count (split_rows layer.table fi
 output_count _ layer = 1
 
 -- how many stay: with `+` all of them, and else those that are not of the target
-abbrev pub stay_count : Command → List Held → ℕ
-stay_count c layers = if c.keep then length layers else count_by (λ (held : Held). not (is_selected c.target held)) layers
+abbrev pub stay_count : Command → List HeldLayer → ℕ
+stay_count c layers = if c.keep then length layers else count_by (λ (held : HeldLayer). not (is_selected c.target held)) layers
 
 abbrev pub refused_count : ℕ → Option RefuseWhy
 refused_count count = if nat_lt 1000 count then Some TooManyLayers else None
@@ -104,32 +104,32 @@ refused_count count = if nat_lt 1000 count then Some TooManyLayers else None
 -- ---- the first refusal of a command that changes each layer of its target by itself
 
 -- before it works: for its target, its source, or the kinds of the target's layers
-abbrev pub unfit_each : Base → List Held → Command → LayerAction → Option RefuseWhy
+abbrev pub unfit_each : Base → List HeldLayer → Command → LayerAction → Option RefuseWhy
 unfit_each base layers c a =
     first_refusal (refused_target c.target layers) (first_refusal (refused_source base.sources layers a) (refused_kinds base.sources layers a (targets c.target layers)))
 
 -- for the number of layers that it would leave
-abbrev pub overfull_each : List Held → Command → LayerAction → Option RefuseWhy
+abbrev pub overfull_each : List HeldLayer → Command → LayerAction → Option RefuseWhy
 overfull_each layers c a = refused_count (stay_count c layers + sum_by (output_count a) (targets c.target layers))
 
 -- at work: for a layer of the target, in order, or for the number of layers
-abbrev pub FailsEach : Base → List Held → Command → LayerAction → Option RefuseWhy → Type 0
+abbrev pub FailsEach : Base → List HeldLayer → Command → LayerAction → Option RefuseWhy → Type 0
 FailsEach base layers c a refusal =
     FirstOf (RefusesIn (RefusesLayer base layers a) (targets c.target layers)) (λ (told : Option RefuseWhy). overfull_each layers c a ≡ told) refusal
 
-abbrev pub RefusesEach : Base → List Held → Command → LayerAction → Option RefuseWhy → Type 0
+abbrev pub RefusesEach : Base → List HeldLayer → Command → LayerAction → Option RefuseWhy → Type 0
 RefusesEach base layers c a refusal = FirstOf (λ (told : Option RefuseWhy). unfit_each base layers c a ≡ told) (FailsEach base layers c a) refusal
 
 -- ---- and of one that changes them together
 
 -- before it works: for its target, for the kinds of the target's layers, or for their number
-abbrev pub unfit_together : List Held → Command → JointAction → Option RefuseWhy
+abbrev pub unfit_together : List HeldLayer → Command → JointAction → Option RefuseWhy
 unfit_together layers c a =
     first_refusal (refused_target c.target layers) (first_refusal (refused_mixture a (targets c.target layers)) (refused_number a (targets c.target layers)))
 
 -- at work: for the layers of the target, or for the number of layers
-abbrev pub failed_together : List Held → Command → JointAction → Option RefuseWhy
+abbrev pub failed_together : List HeldLayer → Command → JointAction → Option RefuseWhy
 failed_together layers c a = first_refusal (refused_together a (targets c.target layers)) (refused_count (stay_count c layers + 1))
 
-abbrev pub refusal_together : List Held → Command → JointAction → Option RefuseWhy
+abbrev pub refusal_together : List HeldLayer → Command → JointAction → Option RefuseWhy
 refusal_together layers c a = first_refusal (unfit_together layers c a) (failed_together layers c a)

@@ -11,7 +11,7 @@ use crate::outputs::{each_outputs, joint_output};
 use job_terms::{Command, JointAction, LayerAction};
 use run_checks::{check_each, check_together};
 use run_plane::Layer;
-use run_state::{CommandStop, Ground, Held, RefuseWhy, State, placed};
+use run_state::{Base, CommandStop, HeldLayer, RefuseWhy, State, placed};
 use std::alloc::Global;
 
 /// The most layers that a command may leave.
@@ -24,21 +24,21 @@ const MAX_LAYERS: usize = 1_000;
 #[tactic(auto, using(crate::proofs::Refusals::past, crate::proofs::Refusals::stops_at_first, crate::proofs::Refusals::stops_behind))]
 pub fn changed_each(
     alloc: Global,
-    ground: &Ground<'_>,
+    base: &Base<'_>,
     command: &Command,
     action: &LayerAction,
     state: State,
 ) -> Result<State, CommandStop>
-    requires on { AreHeldOn ground.now.plane.now state.layers.items }
-    ensures changes { IfOk result (λ after. ChangesEach (base_of ground.now) command.now action.now state.layers.items after.layers.items) }
-    ensures on { IfOk result (λ after. AreHeldOn ground.now.plane.now after.layers.items) }
+    requires on { AreHeldOn base.now.plane.now state.layers.items }
+    ensures changes { IfOk result (λ after. ChangesEach (base_of base.now) command.now action.now state.layers.items after.layers.items) }
+    ensures on { IfOk result (λ after. AreHeldOn base.now.plane.now after.layers.items) }
     ensures there { IfOk result (λ after. has_target command.now.target state.layers.items ≡ true) }
     ensures absent { has_target command.now.target state.layers.items ≡ false → result ≡ Err (CommandStop.Refused RefuseWhy.NoLayer) }
-    ensures accepted { IfOk result (λ after. RefusesEach (base_of ground.now) state.layers.items command.now action.now None) }
-    ensures stops { IfErr result (StopsAs (RefusesEach (base_of ground.now) state.layers.items command.now action.now)) }
+    ensures accepted { IfOk result (λ after. RefusesEach (base_of base.now) state.layers.items command.now action.now None) }
+    ensures stops { IfErr result (StopsAs (RefusesEach (base_of base.now) state.layers.items command.now action.now)) }
 {
-    match check_each(&state.layers, ground.sources, &command.target, action) {
-        Ok(()) => each_changed(alloc, ground, command, action, state),
+    match check_each(&state.layers, base.sources, &command.target, action) {
+        Ok(()) => each_changed(alloc, base, command, action, state),
         Err(why) => Err(CommandStop::Refused(why)),
     }
 }
@@ -50,59 +50,59 @@ pub fn changed_each(
 #[tactic(auto, using(run_state::proofs::Stops::stops_second))]
 pub fn changed_together(
     alloc: Global,
-    ground: &Ground<'_>,
+    base: &Base<'_>,
     command: &Command,
     action: &JointAction,
     state: State,
 ) -> Result<State, CommandStop>
-    requires on { AreHeldOn ground.now.plane.now state.layers.items }
-    ensures changes { IfOk result (λ after. ChangesTogether (base_of ground.now) command.now action.now state.layers.items after.layers.items) }
-    ensures on { IfOk result (λ after. AreHeldOn ground.now.plane.now after.layers.items) }
+    requires on { AreHeldOn base.now.plane.now state.layers.items }
+    ensures changes { IfOk result (λ after. ChangesTogether (base_of base.now) command.now action.now state.layers.items after.layers.items) }
+    ensures on { IfOk result (λ after. AreHeldOn base.now.plane.now after.layers.items) }
     ensures there { IfOk result (λ after. has_target command.now.target state.layers.items ≡ true) }
     ensures absent { has_target command.now.target state.layers.items ≡ false → result ≡ Err (CommandStop.Refused RefuseWhy.NoLayer) }
     ensures accepted { IfOk result (λ after. refusal_together state.layers.items command.now action.now ≡ None) }
     ensures stops { IfErr result (StopsFor (refusal_together state.layers.items command.now action.now)) }
 {
     match check_together(&state.layers, &command.target, action) {
-        Ok(()) => together_changed(alloc, ground, command, action, state),
+        Ok(()) => together_changed(alloc, base, command, action, state),
         Err(why) => Err(CommandStop::Refused(why)),
     }
 }
 
 fn each_changed(
     alloc: Global,
-    ground: &Ground<'_>,
+    base: &Base<'_>,
     command: &Command,
     action: &LayerAction,
     state: State,
 ) -> Result<State, CommandStop>
-    requires sourced { refused_source (base_of ground.now).sources state.layers.items action.now ≡ None }
-    requires on { AreHeldOn ground.now.plane.now state.layers.items }
-    ensures changes { IfOk result (λ after. ChangesEach (base_of ground.now) command.now action.now state.layers.items after.layers.items) }
-    ensures on { IfOk result (λ after. AreHeldOn ground.now.plane.now after.layers.items) }
-    ensures accepted { IfOk result (λ after. FailsEach (base_of ground.now) state.layers.items command.now action.now None) }
-    ensures stops { IfErr result (StopsAs (FailsEach (base_of ground.now) state.layers.items command.now action.now)) }
+    requires sourced { refused_source (base_of base.now).sources state.layers.items action.now ≡ None }
+    requires on { AreHeldOn base.now.plane.now state.layers.items }
+    ensures changes { IfOk result (λ after. ChangesEach (base_of base.now) command.now action.now state.layers.items after.layers.items) }
+    ensures on { IfOk result (λ after. AreHeldOn base.now.plane.now after.layers.items) }
+    ensures accepted { IfOk result (λ after. FailsEach (base_of base.now) state.layers.items command.now action.now None) }
+    ensures stops { IfErr result (StopsAs (FailsEach (base_of base.now) state.layers.items command.now action.now)) }
 {
-    let outputs = each_outputs(alloc, ground, &state.layers, command, action)?;
+    let outputs = each_outputs(alloc, base, &state.layers, command, action)?;
     put_out(alloc, state.layers, command, outputs)
 }
 
 #[tactic(auto, using(run_state::proofs::Stops::stops_first))]
 fn together_changed(
     alloc: Global,
-    ground: &Ground<'_>,
+    base: &Base<'_>,
     command: &Command,
     action: &JointAction,
     state: State,
 ) -> Result<State, CommandStop>
     requires there { has_target command.now.target state.layers.items ≡ true }
-    requires on { AreHeldOn ground.now.plane.now state.layers.items }
-    ensures changes { IfOk result (λ after. ChangesTogether (base_of ground.now) command.now action.now state.layers.items after.layers.items) }
-    ensures on { IfOk result (λ after. AreHeldOn ground.now.plane.now after.layers.items) }
+    requires on { AreHeldOn base.now.plane.now state.layers.items }
+    ensures changes { IfOk result (λ after. ChangesTogether (base_of base.now) command.now action.now state.layers.items after.layers.items) }
+    ensures on { IfOk result (λ after. AreHeldOn base.now.plane.now after.layers.items) }
     ensures accepted { IfOk result (λ after. failed_together state.layers.items command.now action.now ≡ None) }
     ensures stops { IfErr result (StopsFor (failed_together state.layers.items command.now action.now)) }
 {
-    let outputs = joint_output(alloc, ground, &state.layers, command, action)?;
+    let outputs = joint_output(alloc, base, &state.layers, command, action)?;
     put_out(alloc, state.layers, command, outputs)
 }
 
@@ -110,7 +110,7 @@ fn together_changed(
 #[tactic(auto, using(crate::proofs::Refusals::too_many, crate::proofs::Refusals::few_enough))]
 fn put_out(
     alloc: Global,
-    layers: Vec<Held>,
+    layers: Vec<HeldLayer>,
     command: &Command,
     outputs: Vec<Vec<Layer>>,
 ) -> Result<State, CommandStop>

@@ -1,6 +1,6 @@
 //! The commands of a run that change layers.
 //!
-//! In: what commands stand on (`Ground`), a command, and the layers before it (`State`). Out: the state after it, or
+//! In: what commands stand on (`Base`), a command, and the layers before it (`State`). Out: the state after it, or
 //! a `CommandStop`: its first refusal, or memory ran out.
 //!
 //! 1. `commands` has a command tested (`run_checks`), layers put out and placed among the others, and refuses more than

@@ -19,7 +19,7 @@ use join_terms::{CalcSpec, JoinSpec};
 use run_borders::{dissolved, inner_lines, outlines, united};
 use run_plane::{Layer, Plane, copy_text};
 use run_shapes::{CutKeeps, cleaned, cut, exploded, mosaic, without_islands};
-use run_state::{CommandStop, Ground, Held, area_of, is_selected, source_layer};
+use run_state::{Base, CommandStop, HeldLayer, cut_set_of, is_selected, origin_layer};
 use run_tables::{
     calculated, filtered, joined, joined_by_matches, matches_of, merged, renamed, sorted, split,
     unrepeated, with_fields,
@@ -30,47 +30,47 @@ use std::alloc::{AllocError, Global};
 /// it stands.
 pub(crate) fn joint_output(
     alloc: Global,
-    ground: &Ground<'_>,
-    layers: &[Held],
+    base: &Base<'_>,
+    layers: &[HeldLayer],
     command: &Command,
     action: &JointAction,
 ) -> Result<Vec<Vec<Layer>>, CommandStop>
     requires there { has_target command.now.target layers.now ≡ true }
-    requires on { AreHeldOn ground.now.plane.now layers.now }
-    ensures puts { IfOk result (λ outputs. PutsTogether (base_of ground.now) command.now action.now layers.now (map (λ out. out.items) outputs.items)) }
-    ensures on { IfOk result (λ outputs. AreAllOn ground.now.plane.now (map (λ out. out.items) outputs.items)) }
+    requires on { AreHeldOn base.now.plane.now layers.now }
+    ensures puts { IfOk result (λ outputs. PutsTogether (base_of base.now) command.now action.now layers.now (map (λ out. out.items) outputs.items)) }
+    ensures on { IfOk result (λ outputs. AreAllOn base.now.plane.now (map (λ out. out.items) outputs.items)) }
     ensures accepted { IfOk result (λ outputs. refused_together action.now (targets command.now.target layers.now) ≡ None) }
     ensures stops { IfErr result (StopsFor (refused_together action.now (targets command.now.target layers.now))) }
 {
-    let layer = made_together(alloc, ground, layers, &command.target, action)?;
+    let layer = made_together(alloc, base, layers, &command.target, action)?;
     let layer = titled(alloc, layer, command.name.as_ref())?;
     Ok(at_first(alloc, layers, &command.target, layer)?)
 }
 
 fn made_together(
     alloc: Global,
-    ground: &Ground<'_>,
-    layers: &[Held],
+    base: &Base<'_>,
+    layers: &[HeldLayer],
     target: &Target,
     action: &JointAction,
 ) -> Result<Layer, CommandStop>
     requires there { has_target target.now layers.now ≡ true }
-    requires on { AreHeldOn ground.now.plane.now layers.now }
-    ensures made { IfOk result (MadeTogether (base_of ground.now) action.now (targets target.now layers.now)) }
-    ensures on { IfOk result (IsLayerOn ground.now.plane.now) }
+    requires on { AreHeldOn base.now.plane.now layers.now }
+    ensures made { IfOk result (MadeTogether (base_of base.now) action.now (targets target.now layers.now)) }
+    ensures on { IfOk result (IsLayerOn base.now.plane.now) }
     ensures accepted { IfOk result (λ outputs. refused_together action.now (targets target.now layers.now) ≡ None) }
     ensures stops { IfErr result (StopsFor (refused_together action.now (targets target.now layers.now))) }
 {
     match action {
         JointAction::MergeLayers { force } => merged(alloc, layers, target, *force),
-        JointAction::Union => Ok(united(alloc, ground.plane, layers, target)?),
+        JointAction::Union => Ok(united(alloc, base.plane, layers, target)?),
     }
 }
 
 // A layer in the place of the first target.
 fn at_first(
     alloc: Global,
-    layers: &[Held],
+    layers: &[HeldLayer],
     target: &Target,
     layer: Layer,
 ) -> Result<Vec<Vec<Layer>>, AllocError>
@@ -82,7 +82,7 @@ fn at_first(
 }
 
 // How many layers stand before the first target.
-fn before_first(layers: &[Held], target: &Target) -> usize
+fn before_first(layers: &[HeldLayer], target: &Target) -> usize
     ensures exact { result ≡ position_or_len (is_selected target.now) layers.now }
 {
     let mut count = 0;
@@ -109,65 +109,65 @@ fn nothings(alloc: Global, count: usize) -> Result<Vec<Vec<Layer>>, AllocError>
 /// is no target of it.
 pub(crate) fn each_outputs(
     alloc: Global,
-    ground: &Ground<'_>,
-    layers: &[Held],
+    base: &Base<'_>,
+    layers: &[HeldLayer],
     command: &Command,
     action: &LayerAction,
 ) -> Result<Vec<Vec<Layer>>, CommandStop>
-    requires sourced { refused_source (base_of ground.now).sources layers.now action.now ≡ None }
-    requires on { AreHeldOn ground.now.plane.now layers.now }
-    ensures puts { IfOk result (λ outputs. AllZip (PutsFor (base_of ground.now) layers.now command.now action.now) layers.now (map (λ out. out.items) outputs.items)) }
-    ensures on { IfOk result (λ outputs. AreAllOn ground.now.plane.now (map (λ out. out.items) outputs.items)) }
-    ensures accepted { IfOk result (λ outputs. RefusesIn (RefusesLayer (base_of ground.now) layers.now action.now) (targets command.now.target layers.now) None) }
-    ensures stops { IfErr result (StopsAs (RefusesIn (RefusesLayer (base_of ground.now) layers.now action.now) (targets command.now.target layers.now))) }
+    requires sourced { refused_source (base_of base.now).sources layers.now action.now ≡ None }
+    requires on { AreHeldOn base.now.plane.now layers.now }
+    ensures puts { IfOk result (λ outputs. AllZip (PutsFor (base_of base.now) layers.now command.now action.now) layers.now (map (λ out. out.items) outputs.items)) }
+    ensures on { IfOk result (λ outputs. AreAllOn base.now.plane.now (map (λ out. out.items) outputs.items)) }
+    ensures accepted { IfOk result (λ outputs. RefusesIn (RefusesLayer (base_of base.now) layers.now action.now) (targets command.now.target layers.now) None) }
+    ensures stops { IfErr result (StopsAs (RefusesIn (RefusesLayer (base_of base.now) layers.now action.now) (targets command.now.target layers.now))) }
 {
-    let area = cut_area(alloc, ground, layers, action)?;
+    let cut_set = cut_set_for(alloc, base, layers, action)?;
     let mut outputs = Vec::new(alloc);
     for held in layers {
-        outputs.push(held_outputs(alloc, ground, layers, command, action, &area, held)?)?;
+        outputs.push(held_outputs(alloc, base, layers, command, action, &cut_set, held)?)?;
     }
     Ok(outputs)
 }
 
 // The faces that a command cuts by; none where it doesn't cut.
-#[tactic(auto, using(crate::proofs::Refusals::area_there))]
-fn cut_area(
+#[tactic(auto, using(crate::proofs::Refusals::cut_set_there))]
+fn cut_set_for(
     alloc: Global,
-    ground: &Ground<'_>,
-    layers: &[Held],
+    base: &Base<'_>,
+    layers: &[HeldLayer],
     action: &LayerAction,
 ) -> Result<FaceSet, CommandStop>
-    requires sourced { refused_source (base_of ground.now).sources layers.now action.now ≡ None }
-    ensures area { IfOk result (CutsBy (base_of ground.now) layers.now action.now) }
+    requires sourced { refused_source (base_of base.now).sources layers.now action.now ≡ None }
+    ensures cut_set { IfOk result (CutsBy (base_of base.now) layers.now action.now) }
     ensures memory { IfErr result (λ stop. stop ≡ CommandStop.Memory) }
 {
     match action {
-        LayerAction::Clip { from } => area_of(alloc, ground, layers, from),
-        LayerAction::Erase { from } => area_of(alloc, ground, layers, from),
+        LayerAction::Clip { from } => cut_set_of(alloc, base, layers, from),
+        LayerAction::Erase { from } => cut_set_of(alloc, base, layers, from),
         _ => Ok(FaceSet::new(alloc)),
     }
 }
 
 fn held_outputs(
     alloc: Global,
-    ground: &Ground<'_>,
-    layers: &[Held],
+    base: &Base<'_>,
+    layers: &[HeldLayer],
     command: &Command,
     action: &LayerAction,
-    area: &FaceSet,
-    held: &Held,
+    cut_set: &FaceSet,
+    held: &HeldLayer,
 ) -> Result<Vec<Layer>, CommandStop>
-    requires area { CutsBy (base_of ground.now) layers.now action.now area.now }
-    requires on { IsLayerOn ground.now.plane.now held.now.layer }
-    ensures puts { IfOk result (λ outputs. PutsFor (base_of ground.now) layers.now command.now action.now held.now outputs.items) }
-    ensures on { IfOk result (λ outputs. AreLayersOn ground.now.plane.now outputs.items) }
-    ensures accepted { IfOk result (λ outputs. RefusesHeld (base_of ground.now) layers.now command.now action.now held.now None) }
-    ensures stops { IfErr result (StopsAs (RefusesHeld (base_of ground.now) layers.now command.now action.now held.now)) }
+    requires cut_set { CutsBy (base_of base.now) layers.now action.now cut_set.now }
+    requires on { IsLayerOn base.now.plane.now held.now.layer }
+    ensures puts { IfOk result (λ outputs. PutsFor (base_of base.now) layers.now command.now action.now held.now outputs.items) }
+    ensures on { IfOk result (λ outputs. AreLayersOn base.now.plane.now outputs.items) }
+    ensures accepted { IfOk result (λ outputs. RefusesHeld (base_of base.now) layers.now command.now action.now held.now None) }
+    ensures stops { IfErr result (StopsAs (RefusesHeld (base_of base.now) layers.now command.now action.now held.now)) }
 {
     if !is_selected(&command.target, held) {
         return Ok(Vec::new(alloc));
     }
-    let made = layer_outputs(alloc, ground, layers, action, area, &held.layer)?;
+    let made = layer_outputs(alloc, base, layers, action, cut_set, &held.layer)?;
     Ok(all_titled(alloc, made, command.name.as_ref())?)
 }
 
@@ -215,23 +215,29 @@ fn under(layer: Layer, name: Text) -> Layer
 // What the command puts out for one layer of its target.
 fn layer_outputs(
     alloc: Global,
-    ground: &Ground<'_>,
-    layers: &[Held],
+    base: &Base<'_>,
+    layers: &[HeldLayer],
     action: &LayerAction,
-    area: &FaceSet,
+    cut_set: &FaceSet,
     layer: &Layer,
 ) -> Result<Vec<Layer>, CommandStop>
-    requires area { CutsBy (base_of ground.now) layers.now action.now area.now }
-    requires on { IsLayerOn ground.now.plane.now layer.now }
-    ensures puts { IfOk result (λ outputs. PutsOut (base_of ground.now) layers.now action.now layer.now outputs.items) }
-    ensures on { IfOk result (λ outputs. AreLayersOn ground.now.plane.now outputs.items) }
-    ensures accepted { IfOk result (λ outputs. RefusesLayer (base_of ground.now) layers.now action.now layer.now None) }
-    ensures stops { IfErr result (StopsAs (RefusesLayer (base_of ground.now) layers.now action.now layer.now)) }
+    requires cut_set { CutsBy (base_of base.now) layers.now action.now cut_set.now }
+    requires on { IsLayerOn base.now.plane.now layer.now }
+    ensures puts { IfOk result (λ outputs. PutsOut (base_of base.now) layers.now action.now layer.now outputs.items) }
+    ensures on { IfOk result (λ outputs. AreLayersOn base.now.plane.now outputs.items) }
+    ensures accepted { IfOk result (λ outputs. RefusesLayer (base_of base.now) layers.now action.now layer.now None) }
+    ensures stops { IfErr result (StopsAs (RefusesLayer (base_of base.now) layers.now action.now layer.now)) }
 {
-    let plane = ground.plane;
+    let plane = base.plane;
     match action {
-        LayerAction::Clip { .. } => one(alloc, cut(alloc, plane, layer, area, CutKeeps::Inside)?),
-        LayerAction::Erase { .. } => one(alloc, cut(alloc, plane, layer, area, CutKeeps::Outside)?),
+        LayerAction::Clip { .. } => one(
+            alloc,
+            cut(alloc, plane, layer, cut_set, CutKeeps::Inside)?,
+        ),
+        LayerAction::Erase { .. } => one(
+            alloc,
+            cut(alloc, plane, layer, cut_set, CutKeeps::Outside)?,
+        ),
         LayerAction::Dissolve { spec, group_points } => {
             one(alloc, dissolved(alloc, layer, spec, *group_points)?)
         }
@@ -247,9 +253,9 @@ fn layer_outputs(
         LayerAction::Explode => one(alloc, exploded(alloc, plane, layer)?),
         LayerAction::InnerLines => one(alloc, inner_lines(alloc, plane, layer)?),
         LayerAction::Lines { fields } => one(alloc, outlines(alloc, plane, layer, fields)?),
-        LayerAction::Join { from, spec } => joined_by(alloc, ground, layers, from, spec, layer),
+        LayerAction::Join { from, spec } => joined_by(alloc, base, layers, from, spec, layer),
         LayerAction::SpatialJoin { from, spec } => {
-            joined_by_place(alloc, ground, layers, from, spec, layer)
+            joined_by_place(alloc, base, layers, from, spec, layer)
         }
         LayerAction::Filter {
             test,
@@ -289,17 +295,17 @@ fn layer_outputs(
 
 fn joined_by(
     alloc: Global,
-    ground: &Ground<'_>,
-    layers: &[Held],
+    base: &Base<'_>,
+    layers: &[HeldLayer],
     from: &Origin,
     spec: &JoinSpec,
     layer: &Layer,
 ) -> Result<Vec<Layer>, CommandStop>
-    ensures joins { IfOk result (λ outputs. Joins (base_of ground.now) layers.now from.now spec.now layer.now outputs.items) }
-    ensures accepted { IfOk result (λ outputs. refused_join (one_layer (origin_layers (base_of ground.now).sources layers.now from.now)) spec.now layer.now ≡ None) }
-    ensures stops { IfErr result (StopsFor (refused_join (one_layer (origin_layers (base_of ground.now).sources layers.now from.now)) spec.now layer.now)) }
+    ensures joins { IfOk result (λ outputs. Joins (base_of base.now) layers.now from.now spec.now layer.now outputs.items) }
+    ensures accepted { IfOk result (λ outputs. refused_join (one_layer (origin_layers (base_of base.now).sources layers.now from.now)) spec.now layer.now ≡ None) }
+    ensures stops { IfErr result (StopsFor (refused_join (one_layer (origin_layers (base_of base.now).sources layers.now from.now)) spec.now layer.now)) }
 {
-    match source_layer(layers, ground.sources, from) {
+    match origin_layer(layers, base.sources, from) {
         Ok(source) => one(alloc, joined(alloc, layer, source, spec)?),
         Err(why) => Err(CommandStop::Refused(why)),
     }
@@ -308,18 +314,18 @@ fn joined_by(
 #[tactic(auto, using(crate::proofs::ByPlace::no_source))]
 fn joined_by_place(
     alloc: Global,
-    ground: &Ground<'_>,
-    layers: &[Held],
+    base: &Base<'_>,
+    layers: &[HeldLayer],
     from: &Origin,
     spec: &CalcSpec,
     layer: &Layer,
 ) -> Result<Vec<Layer>, CommandStop>
-    ensures joins { IfOk result (λ outputs. JoinsByPlace (base_of ground.now) layers.now from.now spec.now layer.now outputs.items) }
-    ensures accepted { IfOk result (λ outputs. RefusesByPlace (base_of ground.now).plane (one_layer (origin_layers (base_of ground.now).sources layers.now from.now)) spec.now layer.now None) }
-    ensures stops { IfErr result (StopsAs (RefusesByPlace (base_of ground.now).plane (one_layer (origin_layers (base_of ground.now).sources layers.now from.now)) spec.now layer.now)) }
+    ensures joins { IfOk result (λ outputs. JoinsByPlace (base_of base.now) layers.now from.now spec.now layer.now outputs.items) }
+    ensures accepted { IfOk result (λ outputs. RefusesByPlace (base_of base.now).plane (one_layer (origin_layers (base_of base.now).sources layers.now from.now)) spec.now layer.now None) }
+    ensures stops { IfErr result (StopsAs (RefusesByPlace (base_of base.now).plane (one_layer (origin_layers (base_of base.now).sources layers.now from.now)) spec.now layer.now)) }
 {
-    match source_layer(layers, ground.sources, from) {
-        Ok(source) => joined_with(alloc, ground.plane, source, spec, layer),
+    match origin_layer(layers, base.sources, from) {
+        Ok(source) => joined_with(alloc, base.plane, source, spec, layer),
         Err(why) => Err(CommandStop::Refused(why)),
     }
 }

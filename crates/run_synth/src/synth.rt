@@ -13,7 +13,7 @@ use face_sets::{FaceSet, SetList};
 use grid_base::OverlapRule;
 use itoa::Buffer;
 use region_ops::separate_sets;
-use run_plane::{Laid, Plane, laid_out};
+use run_plane::{LaidOut, Plane, laid_out};
 use snap_round::SnapFault;
 use std::alloc::{AllocError, Global};
 
@@ -33,11 +33,11 @@ pub fn synth_line(alloc: Global, seed: u32, n: u32) -> Result<String, SnapFault>
 }
 
 // The line of `count` cells that are laid out.
-fn line_of(alloc: Global, count: u32, laid: Laid) -> Result<String, AllocError>
+fn line_of(alloc: Global, count: u32, laid: LaidOut) -> Result<String, AllocError>
     requires laid { IsLaidOut laid.snapped laid.plane.arcs laid.plane.faces laid.plane.boxes.items laid.features.items }
     ensures told { IfOk result (λ line. IsLineOf laid.snapped count (string_bytes line)) }
 {
-    let Laid {
+    let LaidOut {
         plane,
         snapped: _,
         features,

@@ -17,7 +17,7 @@ use join_terms::{CalcSpec, JoinSpec};
 use json_values::Table;
 use run_plane::{Layer, Shape, copy_shape, copy_shapes, copy_text};
 use run_state::{
-    CommandStop, Held, first_target, is_selected, numbers_below, take_features, with_geometry,
+    CommandStop, HeldLayer, first_target, is_selected, numbers_below, take_features, with_geometry,
 };
 use spatial_join::join_matched;
 use std::alloc::{AllocError, Global};
@@ -140,7 +140,7 @@ pub(crate) fn with_table(alloc: Global, layer: &Layer, table: Table) -> Result<L
 #[tactic(auto, using(run_state::proofs::TargetLemmas::has_first))]
 pub fn merged(
     alloc: Global,
-    layers: &[Held],
+    layers: &[HeldLayer],
     target: &Target,
     force: bool,
 ) -> Result<Layer, CommandStop>
@@ -160,7 +160,7 @@ pub fn merged(
 fn merged_like(
     alloc: Global,
     first: &Layer,
-    layers: &[Held],
+    layers: &[HeldLayer],
     target: &Target,
     force: bool,
 ) -> Result<Layer, CommandStop>
@@ -188,7 +188,7 @@ struct Gathered {
 }
 
 #[tactic(auto, using(run_state::proofs::TargetLemmas::targets_on, run_state::proofs::TargetLemmas::targets_off))]
-fn gather(alloc: Global, layers: &[Held], target: &Target) -> Result<Gathered, AllocError>
+fn gather(alloc: Global, layers: &[HeldLayer], target: &Target) -> Result<Gathered, AllocError>
     ensures tables { IfOk result (λ all. all.tables ≡ map (λ layer. layer.table) (targets target.now layers.now)) }
     ensures shapes { IfOk result (λ all. all.shapes.items ≡ flat_map (λ layer. layer.shapes.items) (targets target.now layers.now)) }
 {

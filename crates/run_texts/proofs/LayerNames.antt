@@ -9,7 +9,7 @@ use Rattle.std.proofs.lemmas.List.Folds.{list_any-append}
 use Rattle.table_terms.specs.Names.{has_name}
 use Rattle.job_terms.specs.declared.job.Target.{Target}
 use Rattle.run_state.specs.Targets.{is_selected, targets}
-use Rattle.run_state.specs.declared.state.Held.{Held}
+use Rattle.run_state.specs.declared.state.HeldLayer.{HeldLayer}
 use Rattle.run_state.proofs.TargetLemmas.{target_first, target_next}
 use Rattle.run_plane.specs.declared.layer.Layer.{Layer}
 use Rattle.run_texts.specs.Written.{has_name_twice, names_of_layers}
@@ -52,30 +52,30 @@ twice_seen (x ∷ names) rest name h = by (twice_seen names rest name) (bytes_eq
 
 -- the layer of a target at a place, beside those before it
 
-abbrev pub target_names : Target → List Held → List (List ℕ)
+abbrev pub target_names : Target → List HeldLayer → List (List ℕ)
 target_names t layers = names_of_layers (targets t layers)
 
-pub names_next : (t : Target) (all : List Held) (i : ℕ) (held : Held) → i < length all → held ≡ get_or all i held → is_selected t held ≡ true → target_names t (take (i + 1) all) ≡ target_names t (take i all) ++ held.layer.name ∷ []
+pub names_next : (t : Target) (all : List HeldLayer) (i : ℕ) (held : HeldLayer) → i < length all → held ≡ get_or all i held → is_selected t held ≡ true → target_names t (take (i + 1) all) ≡ target_names t (take i all) ++ held.layer.name ∷ []
 names_next t all i held there is e = ap names_of_layers (target_next t all i held there is e) ∙ map-append (λ (layer : Layer). layer.name) (targets t (take i all)) (held.layer ∷ [])
 
-names_from : (t : Target) (front rest : List Held) (held : Held) → is_selected t held ≡ true → target_names t (front ++ held ∷ rest) ≡ target_names t front ++ held.layer.name ∷ target_names t rest
+names_from : (t : Target) (front rest : List HeldLayer) (held : HeldLayer) → is_selected t held ≡ true → target_names t (front ++ held ∷ rest) ≡ target_names t front ++ held.layer.name ∷ target_names t rest
 names_from t front rest held e =
     ap names_of_layers
-    (ap (map (λ (h : Held). h.layer)) (filter-append (is_selected t) front (held ∷ rest))
-    ∙ map-append (λ (h : Held). h.layer) (filter (is_selected t) front) (filter (is_selected t) (held ∷ rest))
+    (ap (map (λ (h : HeldLayer). h.layer)) (filter-append (is_selected t) front (held ∷ rest))
+    ∙ map-append (λ (h : HeldLayer). h.layer) (filter (is_selected t) front) (filter (is_selected t) (held ∷ rest))
     ∙ ap (λ (ls : List Layer). targets t front ++ ls) (target_first t held rest e))
     ∙ map-append (λ (layer : Layer). layer.name) (targets t front) (held.layer ∷ targets t rest)
 
-pub name_repeats : (t : Target) (all : List Held) (i : ℕ) (held : Held) → i < length all → held ≡ get_or all i held → is_selected t held ≡ true →
+pub name_repeats : (t : Target) (all : List HeldLayer) (i : ℕ) (held : HeldLayer) → i < length all → held ≡ get_or all i held → is_selected t held ≡ true →
     has_name (target_names t (take i all)) held.layer.name ≡ true → has_name_twice (target_names t all) ≡ true
 name_repeats t all i held there is e h =
-    let rest : drop i all ≡ held ∷ drop (suc i) all = drop-cons all i held there ∙ ap (λ (x : Held). x ∷ drop (suc i) all) (sym is) in
-    let parts : all ≡ take i all ++ held ∷ drop (suc i) all = sym (take-append-drop i all) ∙ ap (λ (xs : List Held). take i all ++ xs) rest in
-    ap (λ (xs : List Held). has_name_twice (target_names t xs)) parts
+    let rest : drop i all ≡ held ∷ drop (suc i) all = drop-cons all i held there ∙ ap (λ (x : HeldLayer). x ∷ drop (suc i) all) (sym is) in
+    let parts : all ≡ take i all ++ held ∷ drop (suc i) all = sym (take-append-drop i all) ∙ ap (λ (xs : List HeldLayer). take i all ++ xs) rest in
+    ap (λ (xs : List HeldLayer). has_name_twice (target_names t xs)) parts
     ∙ ap has_name_twice (names_from t (take i all) (drop (suc i) all) held e)
     ∙ twice_seen (target_names t (take i all)) (target_names t (drop (suc i) all)) held.layer.name h
 
-pub name_differs : (t : Target) (all : List Held) (i : ℕ) (held : Held) → i < length all → held ≡ get_or all i held → is_selected t held ≡ true →
+pub name_differs : (t : Target) (all : List HeldLayer) (i : ℕ) (held : HeldLayer) → i < length all → held ≡ get_or all i held → is_selected t held ≡ true →
     has_name (target_names t (take i all)) held.layer.name ≡ false → has_name_twice (target_names t (take i all)) ≡ false → has_name_twice (target_names t (take (i + 1) all)) ≡ false
 name_differs t all i held there is e h once =
     ap has_name_twice (names_next t all i held there is e) ∙ twice_new (target_names t (take i all)) held.layer.name h once

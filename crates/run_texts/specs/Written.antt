@@ -19,7 +19,7 @@ use Rattle.run_texts.specs.Tracing.{IsTracedLayer}
 use Rattle.run_plane.specs.declared.layer.Layer.{Layer}
 use Rattle.run_state.specs.declared.refusal.RefuseWhy.{RefuseWhy}
 use Rattle.run_state.specs.declared.refusal.RefuseWhy.TheVariants.{NoLayer, NameTwice}
-use Rattle.run_state.specs.declared.state.Held.{Held}
+use Rattle.run_state.specs.declared.state.HeldLayer.{HeldLayer}
 
 -- ---- texts
 
@@ -73,5 +73,5 @@ refused_form form.Csv layers = refused_one layers
 refused_form form.Topo layers = refused_names layers
 
 -- why an output of these layers is refused, where it is: first for its target, then for its form
-abbrev pub refused_output : Target → OutForm → List Held → Option RefuseWhy
+abbrev pub refused_output : Target → OutForm → List HeldLayer → Option RefuseWhy
 refused_output t f layers = if has_target t layers then refused_form f (targets t layers) else Some NoLayer

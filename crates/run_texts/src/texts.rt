@@ -17,71 +17,71 @@ use indexmap::IndexSet;
 use io_core::Bytes;
 use job_terms::{OutForm, Target};
 use run_plane::Plane;
-use run_state::{CommandStop, Ground, Held, RefuseWhy, check_target, is_selected, only_target};
+use run_state::{Base, CommandStop, HeldLayer, RefuseWhy, check_target, is_selected, only_target};
 use std::alloc::{AllocError, Global};
 use topo_io::{ArcLayers, write_topojson};
 
 /// The text of an output: a topology of the layers of the target, or its one layer in another form.
 pub fn output_text(
     alloc: Global,
-    ground: &Ground<'_>,
-    layers: &[Held],
+    base: &Base<'_>,
+    layers: &[HeldLayer],
     target: &Target,
     form: OutForm,
 ) -> Result<Bytes, CommandStop>
-    requires places { ground.now.places ≤ most_places }
-    requires on { AreHeldOn ground.now.plane.now layers.now }
-    ensures says { IfOk result (OutputSays (base_of ground.now) form (targets target.now layers.now)) }
+    requires places { base.now.places ≤ most_places }
+    requires on { AreHeldOn base.now.plane.now layers.now }
+    ensures says { IfOk result (OutputSays (base_of base.now) form (targets target.now layers.now)) }
     ensures there { IfOk result (λ text. has_target target.now layers.now ≡ true) }
     ensures absent { has_target target.now layers.now ≡ false → result ≡ Err (CommandStop.Refused RefuseWhy.NoLayer) }
     ensures accepted { IfOk result (λ text. refused_output target.now form layers.now ≡ None) }
     ensures stops { IfErr result (StopsFor (refused_output target.now form layers.now)) }
 {
     match check_target(layers, target) {
-        Ok(()) => text_of(alloc, ground, layers, target, form),
+        Ok(()) => text_of(alloc, base, layers, target, form),
         Err(why) => Err(CommandStop::Refused(why)),
     }
 }
 
 fn text_of(
     alloc: Global,
-    ground: &Ground<'_>,
-    layers: &[Held],
+    base: &Base<'_>,
+    layers: &[HeldLayer],
     target: &Target,
     form: OutForm,
 ) -> Result<Bytes, CommandStop>
-    requires places { ground.now.places ≤ most_places }
-    requires on { AreHeldOn ground.now.plane.now layers.now }
-    ensures says { IfOk result (OutputSays (base_of ground.now) form (targets target.now layers.now)) }
+    requires places { base.now.places ≤ most_places }
+    requires on { AreHeldOn base.now.plane.now layers.now }
+    ensures says { IfOk result (OutputSays (base_of base.now) form (targets target.now layers.now)) }
     ensures accepted { IfOk result (λ text. refused_form form (targets target.now layers.now) ≡ None) }
     ensures stops { IfErr result (StopsFor (refused_form form (targets target.now layers.now))) }
 {
     match form {
-        OutForm::Topo => topology_text(alloc, ground, layers, target),
-        OutForm::Geo => geo_text(alloc, ground, layers, target),
+        OutForm::Topo => topology_text(alloc, base, layers, target),
+        OutForm::Geo => geo_text(alloc, base, layers, target),
         OutForm::Csv => table_text(alloc, layers, target),
     }
 }
 
 fn geo_text(
     alloc: Global,
-    ground: &Ground<'_>,
-    layers: &[Held],
+    base: &Base<'_>,
+    layers: &[HeldLayer],
     target: &Target,
 ) -> Result<Bytes, CommandStop>
-    requires places { ground.now.places ≤ most_places }
-    requires on { AreHeldOn ground.now.plane.now layers.now }
-    ensures says { IfOk result (IsGeoText (base_of ground.now) (targets target.now layers.now)) }
+    requires places { base.now.places ≤ most_places }
+    requires on { AreHeldOn base.now.plane.now layers.now }
+    ensures says { IfOk result (IsGeoText (base_of base.now) (targets target.now layers.now)) }
     ensures accepted { IfOk result (λ text. refused_one (targets target.now layers.now) ≡ None) }
     ensures stops { IfErr result (StopsFor (refused_one (targets target.now layers.now))) }
 {
     match only_target(layers, target) {
-        Ok(layer) => Ok(picture_text(alloc, ground.plane, layer, ground.places)?),
+        Ok(layer) => Ok(picture_text(alloc, base.plane, layer, base.places)?),
         Err(why) => Err(CommandStop::Refused(why)),
     }
 }
 
-fn table_text(alloc: Global, layers: &[Held], target: &Target) -> Result<Bytes, CommandStop>
+fn table_text(alloc: Global, layers: &[HeldLayer], target: &Target) -> Result<Bytes, CommandStop>
     ensures says { IfOk result (IsCsvText (targets target.now layers.now)) }
     ensures accepted { IfOk result (λ text. refused_one (targets target.now layers.now) ≡ None) }
     ensures stops { IfErr result (StopsFor (refused_one (targets target.now layers.now))) }
@@ -94,26 +94,26 @@ fn table_text(alloc: Global, layers: &[Held], target: &Target) -> Result<Bytes, 
 
 fn topology_text(
     alloc: Global,
-    ground: &Ground<'_>,
-    layers: &[Held],
+    base: &Base<'_>,
+    layers: &[HeldLayer],
     target: &Target,
 ) -> Result<Bytes, CommandStop>
-    requires places { ground.now.places ≤ most_places }
-    requires on { AreHeldOn ground.now.plane.now layers.now }
-    ensures says { IfOk result (IsTopoText (base_of ground.now) (targets target.now layers.now)) }
+    requires places { base.now.places ≤ most_places }
+    requires on { AreHeldOn base.now.plane.now layers.now }
+    ensures says { IfOk result (IsTopoText (base_of base.now) (targets target.now layers.now)) }
     ensures accepted { IfOk result (λ text. refused_names (targets target.now layers.now) ≡ None) }
     ensures stops { IfErr result (StopsFor (refused_names (targets target.now layers.now))) }
 {
     if has_repeat(alloc, layers, target)? {
         return Err(CommandStop::Refused(RefuseWhy::NameTwice));
     }
-    let drawn = arc_layers(alloc, ground.plane, layers, target)?;
-    let text = write_topojson(alloc, &drawn, &ground.plane.arcs, ground.places)?;
+    let drawn = arc_layers(alloc, base.plane, layers, target)?;
+    let text = write_topojson(alloc, &drawn, &base.plane.arcs, base.places)?;
     Ok(text)
 }
 
 // Whether two layers of the target have one name.
-fn has_repeat(alloc: Global, layers: &[Held], target: &Target) -> Result<bool, AllocError>
+fn has_repeat(alloc: Global, layers: &[HeldLayer], target: &Target) -> Result<bool, AllocError>
     ensures exact { IfOk result (λ twice. twice ≡ has_name_twice (names_of_layers (targets target.now layers.now))) }
 {
     let mut seen = IndexSet::new(alloc);
@@ -139,7 +139,7 @@ fn add_name(alloc: Global, names: &mut IndexSet<String>, name: &str) -> Result<b
 fn arc_layers(
     alloc: Global,
     plane: &Plane,
-    all: &[Held],
+    all: &[HeldLayer],
     target: &Target,
 ) -> Result<ArcLayers, AllocError>
     requires on { AreHeldOn plane.now all.now }

@@ -12,7 +12,7 @@ use Rattle.run_plane.specs.declared.layer.Layer.{Layer}
 use Rattle.run_state.specs.Origins.{Base}
 use Rattle.run_state.specs.Targets.{is_selected, targets}
 use Rattle.run_state.specs.declared.refusal.RefuseWhy.{RefuseWhy}
-use Rattle.run_state.specs.declared.state.Held.{Held}
+use Rattle.run_state.specs.declared.state.HeldLayer.{HeldLayer}
 use Rattle.run_state.proofs.TargetLemmas.{other_first, target_first}
 use Rattle.run_steps.specs.Commands.{IsTitled, PutsFor, Titles, title_or}
 use Rattle.run_steps.specs.Refusals.{RefusesIn}
@@ -49,11 +49,11 @@ all_titled v title (layer ∷ made) (l ∷ ls) h (named ∷ out) are = (titled_s
 
 -- ---- of the outputs for each layer, those for the layers of the target
 
-module _ (base : Base) (all : List Held) (c : Command) (a : LayerAction) where
+module _ (base : Base) (all : List HeldLayer) (c : Command) (a : LayerAction) where
   abbrev Puts : Layer → List Layer → Type 0
   Puts layer out = Titles base all c a layer out
 
-  target_first_puts : (held : Held) (layers : List Held) (out : List Layer) (outputs : List (List Layer)) (b : Bool) → is_selected c.target held ≡ b → MatchBool b (Puts held.layer out) (out ≡ []) →
+  target_first_puts : (held : HeldLayer) (layers : List HeldLayer) (out : List Layer) (outputs : List (List Layer)) (b : Bool) → is_selected c.target held ≡ b → MatchBool b (Puts held.layer out) (out ≡ []) →
       AllZip Puts (targets c.target layers) (target_outputs c.target layers outputs) →
       AllZip Puts (targets c.target (held ∷ layers)) (if b then out ∷ target_outputs c.target layers outputs else target_outputs c.target layers outputs)
   target_first_puts held layers out outputs true e puts rest =
@@ -61,18 +61,18 @@ module _ (base : Base) (all : List Held) (c : Command) (a : LayerAction) where
   target_first_puts held layers out outputs false e none rest =
       subst (λ (ts : List Layer). AllZip Puts ts (target_outputs c.target layers outputs)) (sym (other_first c.target held layers e)) rest
 
-  pub targets_put : (layers : List Held) (outputs : List (List Layer)) → AllZip (PutsFor base all c a) layers outputs → AllZip Puts (targets c.target layers) (target_outputs c.target layers outputs)
+  pub targets_put : (layers : List HeldLayer) (outputs : List (List Layer)) → AllZip (PutsFor base all c a) layers outputs → AllZip Puts (targets c.target layers) (target_outputs c.target layers outputs)
   targets_put [] [] puts = tt
   targets_put [] (out ∷ outputs) puts = absurd puts
   targets_put (held ∷ layers) [] puts = absurd puts
   targets_put (held ∷ layers) (out ∷ outputs) puts = target_first_puts held layers out outputs (is_selected c.target held) refl puts.0 (targets_put layers outputs puts.1)
 
-  others_first : (held : Held) (out : List Layer) (theirs rest : List (List Layer)) (b : Bool) → MatchBool b (Puts held.layer out) (out ≡ []) → joined_up theirs ≡ joined_up rest → joined_up (if b then out ∷ theirs else theirs) ≡ joined_up (out ∷ rest)
+  others_first : (held : HeldLayer) (out : List Layer) (theirs rest : List (List Layer)) (b : Bool) → MatchBool b (Puts held.layer out) (out ≡ []) → joined_up theirs ≡ joined_up rest → joined_up (if b then out ∷ theirs else theirs) ≡ joined_up (out ∷ rest)
   others_first held out theirs rest true puts same = ap (λ (more : List Layer). out ++ more) same
   others_first held out theirs rest false none same = same ∙ ap (λ (first : List Layer). first ++ joined_up rest) (sym none)
 
   -- the others put nothing out
-  pub others_put : (layers : List Held) (outputs : List (List Layer)) → AllZip (PutsFor base all c a) layers outputs → joined_up (target_outputs c.target layers outputs) ≡ joined_up outputs
+  pub others_put : (layers : List HeldLayer) (outputs : List (List Layer)) → AllZip (PutsFor base all c a) layers outputs → joined_up (target_outputs c.target layers outputs) ≡ joined_up outputs
   others_put [] [] puts = refl
   others_put [] (out ∷ outputs) puts = absurd puts
   others_put (held ∷ layers) [] puts = absurd puts

@@ -23,7 +23,7 @@ use Rattle.run_state.specs.Targets as places
 use Rattle.run_state.specs.Targets.{are_layers, has_target, is_selected, targets}
 use Rattle.run_state.specs.declared.refusal.RefuseWhy.{RefuseWhy}
 use Rattle.run_state.specs.declared.refusal.RefuseWhy.TheVariants.{WrongKind}
-use Rattle.run_state.specs.declared.state.Held.{Held}
+use Rattle.run_state.specs.declared.state.HeldLayer.{HeldLayer}
 use Rattle.run_state.proofs.TargetLemmas.{other_first, target_first}
 use Rattle.run_tables.specs.Made.{IsMerged, refused_layers}
 use Rattle.run_steps.specs.Commands.{ChangesTogether, at_first}
@@ -154,10 +154,10 @@ some_there test (x ∷ xs) e = go (test x) e (some_there test xs)
     go true e more = omega arith
     go false e more = more e
 
-pub targets_there : (t : Target) (layers : List Held) → has_target t layers ≡ true → 0 < length (targets t layers)
+pub targets_there : (t : Target) (layers : List HeldLayer) → has_target t layers ≡ true → 0 < length (targets t layers)
 targets_there t layers e =
     let some : 0 < length (filter (is_selected t) layers) = some_there (is_selected t) layers (and_parts (are_layers t layers) (list_any (is_selected t) layers) e).1 in
-    let long = length-map (filter (is_selected t) layers) (λ (held : Held). held.layer) in
+    let long = length-map (filter (is_selected t) layers) (λ (held : HeldLayer). held.layer) in
     omega (arith, some, long)
 
 -- ---- where it goes
@@ -166,7 +166,7 @@ abbrev pub nothings : List Layer → List (List Layer)
 nothings layers = map (λ (other : Layer). []) layers
 
 module _ (t : Target) (made : Layer) where
-  no_outputs : (layers : List Held) → target_outputs t layers [] ≡ nothings (targets t layers)
+  no_outputs : (layers : List HeldLayer) → target_outputs t layers [] ≡ nothings (targets t layers)
   no_outputs [] = refl
   no_outputs (held ∷ layers) = go (is_selected t held) refl (no_outputs layers)
     where
@@ -175,13 +175,13 @@ module _ (t : Target) (made : Layer) where
           ap (λ (b : Bool). if b then [] ∷ target_outputs t layers [] else target_outputs t layers []) e ∙ ap (λ (rest : List (List Layer)). [] ∷ rest) more ∙ sym (ap nothings (target_first t held layers e))
       go false e more = ap (λ (b : Bool). if b then [] ∷ target_outputs t layers [] else target_outputs t layers []) e ∙ more ∙ sym (ap nothings (other_first t held layers e))
 
-  abbrev First_at : List Held → Type 0
+  abbrev First_at : List HeldLayer → Type 0
   First_at layers = target_outputs t layers (at_first t layers made) ≡ (made ∷ []) ∷ nothings (drop 1 (targets t layers))
 
   abbrev put_at : ℕ → List (List Layer)
   put_at n = replicate n [] ++ (made ∷ []) ∷ []
 
-  pub first_outputs : (layers : List Held) → 0 < length (targets t layers) → First_at layers
+  pub first_outputs : (layers : List HeldLayer) → 0 < length (targets t layers) → First_at layers
   first_outputs [] some = absurd (omega (arith, some))
   first_outputs (held ∷ layers) some = go (is_selected t held) refl (first_outputs layers)
     where
@@ -211,7 +211,7 @@ nothing_shows v title (x ∷ xs) = (tt, nothing_shows v title xs)
 
 -- ---- the step
 
-module _ (v : View) (base : Base) (sources : SourceLayers) (layers : List Held) (s : State) (h : StateShows v layers s) (c : Command) (force : Bool) (merges : c.action ≡ does.Together (joint.MergeLayers force)) where
+module _ (v : View) (base : Base) (sources : SourceLayers) (layers : List HeldLayer) (s : State) (h : StateShows v layers s) (c : Command) (force : Bool) (merges : c.action ≡ does.Together (joint.MergeLayers force)) where
   abbrev ns : List ℕ
   ns = target_numbers c.target layers
 
@@ -231,7 +231,7 @@ module _ (v : View) (base : Base) (sources : SourceLayers) (layers : List Held) 
       step_by v sources s c (does.Together (joint.MergeLayers force)) merges (λ n. refl) ns ((targets_show v layers s h c.target).there there)
       ∙ (λ i. stepped (changed_by s c ns None (fit i) (is i)))
 
-  goes_on : run.refusal_together layers c (joint.MergeLayers force) ≡ None → (after : List Held) → ChangesTogether base c (joint.MergeLayers force) layers after →
+  goes_on : run.refusal_together layers c (joint.MergeLayers force) ≡ None → (after : List HeldLayer) → ChangesTogether base c (joint.MergeLayers force) layers after →
       StepGives v sources s c after
   goes_on none after changes =
       let (before, work) = none_of_two (run.unfit_together layers c (joint.MergeLayers force)) (run.failed_together layers c (joint.MergeLayers force)) none in
@@ -249,9 +249,9 @@ module _ (v : View) (base : Base) (sources : SourceLayers) (layers : List Held) 
         all = ap joined_up placing ∙ alone ∙ sym one;
       } in
       let after_it = placed_outputs_show v layers s h c changes.outputs (map (map (titled c.name)) outs) put_out in
-      let few : length (places.placed c layers changes.outputs) ≤ 1000 = subst (λ (held : List Held). length held ≤ 1000) changes.placed changes.few in
+      let few : length (places.placed c layers changes.outputs) ≤ 1000 = subst (λ (held : List HeldLayer). length held ≤ 1000) changes.placed changes.few in
       let (t, is, shows) = after_it.few few in
-      (t, at_work (Ok outs) there mixture merged.answers ∙ ap stepped is, subst (λ (held : List Held). StateShows v held t) (sym changes.placed) shows)
+      (t, at_work (Ok outs) there mixture merged.answers ∙ ap stepped is, subst (λ (held : List HeldLayer). StateShows v held t) (sym changes.placed) shows)
 
   unfit_stops : (why : RefuseWhy) → First why (checks.refused_target c.target layers) (checks.refused_mixture (joint.MergeLayers force) ts) None → StepRefuses v sources s c why
   unfit_stops why (is_first target) =

@@ -22,7 +22,7 @@ use Rattle.run_state.specs.Stops.{refusal_of, table_refusal}
 use Rattle.run_state.specs.Targets.{targets}
 use Rattle.run_state.specs.declared.refusal.RefuseWhy.{RefuseWhy}
 use Rattle.run_state.specs.declared.refusal.RefuseWhy.TheVariants.{WrongKind}
-use Rattle.run_state.specs.declared.state.Held.{Held}
+use Rattle.run_state.specs.declared.state.HeldLayer.{HeldLayer}
 use Rattle.run_tables.specs.Made.{GivesTable, One}
 use Rattle.run_steps.specs.Commands.{JoinsByPlace, PutsOut}
 use Rattle.run_checks.specs.Checks as checks
@@ -188,7 +188,7 @@ module _ (v : View) (view : IsView v) (base : Base) (seen : IsSeenIn v base.plan
 
 -- ---- all together
 
-module _ (v : View) (view : IsView v) (base : Base) (seen : IsSeenIn v base.plane) (sources : SourceLayers) (owns : SourcesShow v base.sources sources) (layers : List Held) (s : State) (h : StateShows v layers s) (c : Command) (from : Origin) (spec : CalcSpec) where
+module _ (v : View) (view : IsView v) (base : Base) (seen : IsSeenIn v base.plane) (sources : SourceLayers) (owns : SourcesShow v base.sources sources) (layers : List HeldLayer) (s : State) (h : StateShows v layers s) (c : Command) (from : Origin) (spec : CalcSpec) where
   abbrev a : LayerAction
   a = action.SpatialJoin from spec
 

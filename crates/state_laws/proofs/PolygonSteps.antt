@@ -28,9 +28,9 @@ use Rattle.run_state.specs.Origins as run
 use Rattle.run_state.specs.Origins.{Base}
 use Rattle.run_state.specs.Targets.{targets}
 use Rattle.run_state.specs.declared.refusal.RefuseWhy.{RefuseWhy}
-use Rattle.run_state.specs.declared.state.Held.{Held}
+use Rattle.run_state.specs.declared.state.HeldLayer.{HeldLayer}
 use Rattle.run_plane.specs.Shapes.{faces_in}
-use Rattle.run_state.specs.FaceSets.{any_faces, area_of, layer_faces}
+use Rattle.run_state.specs.FaceSets.{any_faces, cut_set_of, layer_faces}
 use Rattle.run_steps.specs.Commands.{PutsOut}
 use Rattle.run_checks.specs.Checks as checks
 use Rattle.run_steps.specs.Refusals as held
@@ -43,7 +43,7 @@ use Rattle.chain_model.specs.Features.{Outputs, clean_layer, clip_layer, dissolv
 use Rattle.chain_model.specs.Steps.{each_layer, outputs_of, refusal_of, refused_source, source_region}
 use Rattle.layer_laws.specs.Shown.{View, IsView, FacesShow, LayerShows, LineShows, NothingShows, PointsShow, ShapeShows, SourcesShow, StateShows, plane_of, IsSeenIn}
 use Rattle.layer_laws.specs.Reasons.{AnswerShows, why_of}
-use Rattle.layer_laws.specs.Polygons.{AreaShows, PolygonsShow}
+use Rattle.layer_laws.specs.Polygons.{CutSetShows, PolygonsShow}
 use Rattle.state_laws.specs.PolygonSteps.{AreOfPolygons, PolygonStepsShow, ShapeStepsShow, is_on_polygons, is_on_shapes}
 use Rattle.layer_laws.specs.Targets.{target_numbers}
 use Rattle.state_laws.proofs.EachLayer.{LayerAlike, alike_unless, alike_with}
@@ -54,7 +54,7 @@ use Rattle.layer_laws.proofs.LinePieces.{exploded_lines_show}
 use Rattle.state_laws.proofs.MergeStep.{one_kind_told}
 use Rattle.layer_laws.proofs.Outlines.{inner_lines_show, outlines_are_shown}
 use Rattle.layer_laws.proofs.PolygonCleaning.{cleaned_polygons_show}
-use Rattle.layer_laws.proofs.PolygonCuts.{areas_show, clipped_polygons_show, erased_polygons_show, refused_by_kind}
+use Rattle.layer_laws.proofs.PolygonCuts.{cut_sets_show, clipped_polygons_show, erased_polygons_show, refused_by_kind}
 use Rattle.layer_laws.proofs.PolygonGroups.{dissolved_polygons_show}
 use Rattle.layer_laws.proofs.PolygonIslands.{islands_show}
 use Rattle.layer_laws.proofs.PolygonParts.{exploded_polygons_show, mosaics_show}
@@ -64,7 +64,7 @@ use Rattle.layer_laws.proofs.Targeting.{one_layer_shows, origins_show, targets_s
 use Rattle.state_laws.proofs.UnionStep.{polygon_is}
 use Rattle.layer_laws.proofs.Zipped.{zip_with_all, zip_weaker}
 
--- ---- an area that is refused has no faces
+-- ---- a cut set that is refused has no faces
 
 no_faces : (R : Shape → state.Shape → Type 0) → ((held : Shape) (s : state.Shape) → R held s → faces_in held ≡ []) → (shapes : List Shape) (ss : List state.Shape) → AllZip R shapes ss → flat_map faces_in shapes ≡ []
 no_faces R none [] [] z = refl
@@ -76,42 +76,42 @@ no_faces R none (held ∷ shapes) (s ∷ ss) z =
     λ i. here i ++ rest i
 
 module _ (v : View) where
-  no_area_in : (layer : Layer) (l : StateLayer) → LayerShows v layer l → (k : Kind) → layer.kind ≡ k → (why : RefuseWhy) → refused_by_kind k ≡ Some why → any_faces layer.shapes.items ≡ []
-  no_area_in layer l h kinds.Polygon e why some = absurd (let none : None ≡ Some why = some in cc)
-  no_area_in layer l h kinds.Line e why some =
+  no_cut_set_in : (layer : Layer) (l : StateLayer) → LayerShows v layer l → (k : Kind) → layer.kind ≡ k → (why : RefuseWhy) → refused_by_kind k ≡ Some why → any_faces layer.shapes.items ≡ []
+  no_cut_set_in layer l h kinds.Polygon e why some = absurd (let none : None ≡ Some why = some in cc)
+  no_cut_set_in layer l h kinds.Line e why some =
       ap (ascending nat_lt) (no_faces (LineShows v) (λ held s shows. ap faces_in shows.has) layer.shapes.items l.shapes (subst (λ (k : Kind). AllZip (ShapeShows v k) layer.shapes.items l.shapes) e h.shapes))
-  no_area_in layer l h kinds.Point e why some =
+  no_cut_set_in layer l h kinds.Point e why some =
       ap (ascending nat_lt) (no_faces (PointsShow v) (λ held s shows. ap faces_in shows.has) layer.shapes.items l.shapes (subst (λ (k : Kind). AllZip (ShapeShows v k) layer.shapes.items l.shapes) e h.shapes))
-  no_area_in layer l h kinds.Table e why some =
+  no_cut_set_in layer l h kinds.Table e why some =
       ap (ascending nat_lt) (no_faces NothingShows (λ held s shows. ap faces_in shows.has) layer.shapes.items l.shapes (subst (λ (k : Kind). AllZip (ShapeShows v k) layer.shapes.items l.shapes) e h.shapes))
 
-  no_area_of : (answer : Result Layer RefuseWhy) (other : Result StateLayer outcome.RefuseWhy) → AnswerShows (LayerShows v) answer other → (why : RefuseWhy) → checks.refused_polygons answer ≡ Some why → layer_faces answer ≡ []
-  no_area_of (Ok layer) (Ok l) h why some = no_area_in layer l h layer.kind refl why some
-  no_area_of (Ok layer) (Err w) h why some = absurd h
-  no_area_of (Err w) other h why some = refl
+  no_cut_set_of : (answer : Result Layer RefuseWhy) (other : Result StateLayer outcome.RefuseWhy) → AnswerShows (LayerShows v) answer other → (why : RefuseWhy) → checks.refused_polygons answer ≡ Some why → layer_faces answer ≡ []
+  no_cut_set_of (Ok layer) (Ok l) h why some = no_cut_set_in layer l h layer.kind refl why some
+  no_cut_set_of (Ok layer) (Err w) h why some = absurd h
+  no_cut_set_of (Err w) other h why some = refl
 
   nothing_shows : FacesShow v [] (any_of [])
   nothing_shows = joined_show v [] [] tt
 
-  -- the region that the faces show, whether or not the area is refused
-  record CutRegion (area : List ℕ) (answer : Result Region outcome.RefuseWhy) : Type 0 where
+  -- the region that the faces show, whether or not the cut set is refused
+  record CutRegion (cut_set : List ℕ) (answer : Result Region outcome.RefuseWhy) : Type 0 where
     pub source : Region
-    pub shows : FacesShow v area source
+    pub shows : FacesShow v cut_set source
     pub is : (r : Region) → answer ≡ Ok r → r ≡ source
 
-  cut_region : (refusal : Option RefuseWhy) (area : List ℕ) (answer : Result Region outcome.RefuseWhy) → AreaShows v refusal area answer → ((why : RefuseWhy) → refusal ≡ Some why → area ≡ []) → CutRegion area answer
-  cut_region None area answer h none =
+  cut_region : (refusal : Option RefuseWhy) (cut_set : List ℕ) (answer : Result Region outcome.RefuseWhy) → CutSetShows v refusal cut_set answer → ((why : RefuseWhy) → refusal ≡ Some why → cut_set ≡ []) → CutRegion cut_set answer
+  cut_region None cut_set answer h none =
       let (source, is, shows) = h.there refl in
       record { source = source; shows = shows; is = λ r e. let same : Ok r ≡ Ok source = sym e ∙ is in cc }
-  cut_region (Some why) area answer h none = record {
+  cut_region (Some why) cut_set answer h none = record {
     source = any_of [];
     shows = subst (λ (faces : List ℕ). FacesShow v faces (any_of [])) (sym (none why refl)) nothing_shows;
     is = λ r e. let clash : Err (why_of why) ≡ Ok r = sym (h.refused why refl) ∙ e in absurd (cc);
   }
 
-area_alike : (v : View) (refusal : Option RefuseWhy) (area : List ℕ) (answer : Result Region outcome.RefuseWhy) → AreaShows v refusal area answer → refusal_of answer ≡ option_map why_of refusal
-area_alike v None area answer h = let (source, is, shows) = h.there refl in ap refusal_of is
-area_alike v (Some why) area answer h = ap refusal_of (h.refused why refl)
+cut_set_alike : (v : View) (refusal : Option RefuseWhy) (cut_set : List ℕ) (answer : Result Region outcome.RefuseWhy) → CutSetShows v refusal cut_set answer → refusal_of answer ≡ option_map why_of refusal
+cut_set_alike v None cut_set answer h = let (source, is, shows) = h.there refl in ap refusal_of is
+cut_set_alike v (Some why) cut_set answer h = ap refusal_of (h.refused why refl)
 
 -- ---- what a state makes of a layer
 
@@ -136,21 +136,21 @@ by_source_is : (found : Result Region outcome.RefuseWhy) (source : Region) (f : 
 by_source_is (Ok r) source f ls same none = ap (λ (q : Region). each_layer (f q) ls) (same r refl)
 by_source_is (Err why) source f ls same none = absurd (let w : Some why ≡ None = none in cc)
 
-module _ (v : View) (view : IsView v) (base : Base) (seen : IsSeenIn v base.plane) (sources : SourceLayers) (owns : SourcesShow v base.sources sources) (layers : List Held) (s : State) (h : StateShows v layers s) where
-  no_area : (from : Origin) (why : RefuseWhy) → checks.refused_area base.sources layers from ≡ Some why → area_of base layers from ≡ []
-  no_area (origin.Area n) why some = absurd (let none : None ≡ Some why = some in cc)
-  no_area (origin.Layer name) why some =
-      no_area_of v (run.one_layer (run.origin_layers base.sources layers (origin.Layer name))) (model.one_layer (model.origin_layers sources s (origin.Layer name)))
+module _ (v : View) (view : IsView v) (base : Base) (seen : IsSeenIn v base.plane) (sources : SourceLayers) (owns : SourcesShow v base.sources sources) (layers : List HeldLayer) (s : State) (h : StateShows v layers s) where
+  no_cut_set : (from : Origin) (why : RefuseWhy) → checks.refused_cut base.sources layers from ≡ Some why → cut_set_of base layers from ≡ []
+  no_cut_set (origin.Area n) why some = absurd (let none : None ≡ Some why = some in cc)
+  no_cut_set (origin.Layer name) why some =
+      no_cut_set_of v (run.one_layer (run.origin_layers base.sources layers (origin.Layer name))) (model.one_layer (model.origin_layers sources s (origin.Layer name)))
       (one_layer_shows v (run.origin_layers base.sources layers (origin.Layer name)) (model.origin_layers sources s (origin.Layer name)) (origins_show v layers s h base.sources sources owns (origin.Layer name))) why some
-  no_area (origin.Source n) why some =
-      no_area_of v (run.one_layer (run.origin_layers base.sources layers (origin.Source n))) (model.one_layer (model.origin_layers sources s (origin.Source n)))
+  no_cut_set (origin.Source n) why some =
+      no_cut_set_of v (run.one_layer (run.origin_layers base.sources layers (origin.Source n))) (model.one_layer (model.origin_layers sources s (origin.Source n)))
       (one_layer_shows v (run.origin_layers base.sources layers (origin.Source n)) (model.origin_layers sources s (origin.Source n)) (origins_show v layers s h base.sources sources owns (origin.Source n))) why some
 
   abbrev Cuts : Origin → Type 0
-  Cuts from = CutRegion v (area_of base layers from) (source_region sources s from)
+  Cuts from = CutRegion v (cut_set_of base layers from) (source_region sources s from)
 
   cut_by : (from : Origin) → Cuts from
-  cut_by from = cut_region v (checks.refused_area base.sources layers from) (area_of base layers from) (source_region sources s from) (areas_show v view base seen sources owns layers s h from) (no_area from)
+  cut_by from = cut_region v (checks.refused_cut base.sources layers from) (cut_set_of base layers from) (source_region sources s from) (cut_sets_show v view base seen sources owns layers s h from) (no_cut_set from)
 
   -- the region that the command cuts by, where it cuts
   abbrev by_region : LayerAction → Region
@@ -176,8 +176,8 @@ module _ (v : View) (view : IsView v) (base : Base) (seen : IsSeenIn v base.plan
   -- ---- and a run
 
   makes_alike : (a : LayerAction) → is_on_polygons a ≡ true → (layer : Layer) (l : StateLayer) → PolygonsShow v layer l → LayerAlike v (PutsOut base layers a layer) (held.RefusesLayer base layers a layer) (made a l)
-  makes_alike (action.Clip from) on layer l shown = alike_with (clipped_polygons_show v view base.plane layer l shown (area_of base layers from) (by_region (action.Clip from)) (cut_by from).shows)
-  makes_alike (action.Erase from) on layer l shown = alike_with (erased_polygons_show v view base.plane layer l shown (area_of base layers from) (by_region (action.Erase from)) (cut_by from).shows)
+  makes_alike (action.Clip from) on layer l shown = alike_with (clipped_polygons_show v view base.plane layer l shown (cut_set_of base layers from) (by_region (action.Clip from)) (cut_by from).shows)
+  makes_alike (action.Erase from) on layer l shown = alike_with (erased_polygons_show v view base.plane layer l shown (cut_set_of base layers from) (by_region (action.Erase from)) (cut_by from).shows)
   makes_alike (action.Dissolve spec group_points) on layer l shown = alike_with (dissolved_polygons_show v layer l shown spec group_points)
   makes_alike (action.Clean rule allow_empty gap) on layer l shown = alike_with (cleaned_polygons_show v view base.plane seen layer l shown rule allow_empty gap)
   makes_alike action.Mosaic on layer l shown = alike_with (mosaics_show v view base.plane seen layer l shown)
@@ -207,24 +207,24 @@ module _ (v : View) (view : IsView v) (base : Base) (seen : IsSeenIn v base.plan
   one_lined None m outs e = one_of e
   one_lined (Some why) m outs e = absurd (cc)
 
-  so_many : (a : LayerAction) → is_on_polygons a ≡ true → (layer : Layer) (l : StateLayer) → LayerShows v layer l → (outs : List StateLayer) → made a l ≡ Ok outs → length outs ≡ held.output_count a layer
-  so_many (action.Clip from) on layer l shown outs e = one_of e
-  so_many (action.Erase from) on layer l shown outs e = one_of e
-  so_many (action.Dissolve spec group_points) on layer l shown outs e =
+  outputs_counted : (a : LayerAction) → is_on_polygons a ≡ true → (layer : Layer) (l : StateLayer) → LayerShows v layer l → (outs : List StateLayer) → made a l ≡ Ok outs → length outs ≡ held.output_count a layer
+  outputs_counted (action.Clip from) on layer l shown outs e = one_of e
+  outputs_counted (action.Erase from) on layer l shown outs e = one_of e
+  outputs_counted (action.Dissolve spec group_points) on layer l shown outs e =
       one_grouped (same_kind l.kind kinds.Point && not group_points) (λ (g : Grouped). record l { table = g.table; shapes = map (dissolved_shape (plane_of v) l) g.groups }) (group_rows l.table spec) outs e
-  so_many (action.Clean rule allow_empty gap) on layer l shown outs e = one_of e
-  so_many action.Mosaic on layer l shown outs e = one_of e
-  so_many action.Explode on layer l shown outs e = one_of e
-  so_many action.InnerLines on layer l shown outs e = one_of e
-  so_many (action.Lines fields) on layer l shown outs e = one_lined (refused_item l.table.names [] 0 fields) (lined l fields) outs e
-  so_many (action.FilterIslands least_area least_links remove_empty) on layer l shown outs e = one_of e
-  so_many a on layer l shown outs e = other on
+  outputs_counted (action.Clean rule allow_empty gap) on layer l shown outs e = one_of e
+  outputs_counted action.Mosaic on layer l shown outs e = one_of e
+  outputs_counted action.Explode on layer l shown outs e = one_of e
+  outputs_counted action.InnerLines on layer l shown outs e = one_of e
+  outputs_counted (action.Lines fields) on layer l shown outs e = one_lined (refused_item l.table.names [] 0 fields) (lined l fields) outs e
+  outputs_counted (action.FilterIslands least_area least_links remove_empty) on layer l shown outs e = one_of e
+  outputs_counted a on layer l shown outs e = other on
 
   -- ---- the source, and the kinds
 
   source_alike : (a : LayerAction) → is_on_polygons a ≡ true → refused_source sources s (does.Each a) ≡ option_map why_of (checks.refused_source base.sources layers a)
-  source_alike (action.Clip from) on = area_alike v (checks.refused_area base.sources layers from) (area_of base layers from) (source_region sources s from) (areas_show v view base seen sources owns layers s h from)
-  source_alike (action.Erase from) on = area_alike v (checks.refused_area base.sources layers from) (area_of base layers from) (source_region sources s from) (areas_show v view base seen sources owns layers s h from)
+  source_alike (action.Clip from) on = cut_set_alike v (checks.refused_cut base.sources layers from) (cut_set_of base layers from) (source_region sources s from) (cut_sets_show v view base seen sources owns layers s h from)
+  source_alike (action.Erase from) on = cut_set_alike v (checks.refused_cut base.sources layers from) (cut_set_of base layers from) (source_region sources s from) (cut_sets_show v view base seen sources owns layers s h from)
   source_alike (action.Dissolve spec group_points) on = refl
   source_alike (action.Clean rule allow_empty gap) on = refl
   source_alike action.Mosaic on = refl
@@ -265,7 +265,7 @@ module _ (v : View) (view : IsView v) (base : Base) (seen : IsSeenIn v base.plan
           (checks.refused_kinds base.sources layers a (targets c.target layers)) (source_alike a on) (kinds_alike a on (targets c.target layers) (layers_at s (target_numbers c.target layers)) (targets_show v layers s h c.target).show);
       outputs = λ none ls. outputs_are a on none ls;
       pairs = λ kinds. all_alike;
-      count = so_many a on;
+      count = outputs_counted a on;
     }
 
 pub polygon_steps_show : PolygonStepsShow
@@ -274,7 +274,7 @@ polygon_steps_show v view base seen sources owns layers s h c a does_each on pol
 
 -- ---- whatever the kinds are
 
-module _ (v : View) (view : IsView v) (base : Base) (seen : IsSeenIn v base.plane) (sources : SourceLayers) (owns : SourcesShow v base.sources sources) (layers : List Held) (s : State) (h : StateShows v layers s) where
+module _ (v : View) (view : IsView v) (base : Base) (seen : IsSeenIn v base.plane) (sources : SourceLayers) (owns : SourcesShow v base.sources sources) (layers : List HeldLayer) (s : State) (h : StateShows v layers s) where
   abbrev answered : LayerAction → StateLayer → Outputs
   answered a l = made v view base seen sources owns layers s h a l
 
@@ -297,10 +297,10 @@ module _ (v : View) (view : IsView v) (base : Base) (seen : IsSeenIn v base.plan
   of_polygons a on layer l shown polygons = makes_alike v view base seen sources owns layers s h a on layer l (record { shows = shown; polygons = polygons })
 
   clipped_alike : (from : Origin) (layer : Layer) (l : StateLayer) → LayerShows v layer l → layer.kind ≢ kinds.Polygon → Alike (action.Clip from) layer l
-  clipped_alike from layer l shown apart = alike_with (clipped_lines_show v view base.plane seen (area_of base layers from) (CutRegion.source (cut_by v view base seen sources owns layers s h from)) (cut_by v view base seen sources owns layers s h from).shows layer l shown apart)
+  clipped_alike from layer l shown apart = alike_with (clipped_lines_show v view base.plane seen (cut_set_of base layers from) (CutRegion.source (cut_by v view base seen sources owns layers s h from)) (cut_by v view base seen sources owns layers s h from).shows layer l shown apart)
 
   erased_alike : (from : Origin) (layer : Layer) (l : StateLayer) → LayerShows v layer l → layer.kind ≢ kinds.Polygon → Alike (action.Erase from) layer l
-  erased_alike from layer l shown apart = alike_with (erased_lines_show v view base.plane seen (area_of base layers from) (CutRegion.source (cut_by v view base seen sources owns layers s h from)) (cut_by v view base seen sources owns layers s h from).shows layer l shown apart)
+  erased_alike from layer l shown apart = alike_with (erased_lines_show v view base.plane seen (cut_set_of base layers from) (CutRegion.source (cut_by v view base seen sources owns layers s h from)) (cut_by v view base seen sources owns layers s h from).shows layer l shown apart)
 
   -- of polygons, and of all others
   by_kind : (P : Type 0) (layer : Layer) → (layer.kind ≡ kinds.Polygon → P) → (layer.kind ≢ kinds.Polygon → P) → (k : Kind) → layer.kind ≡ k → P
@@ -352,7 +352,7 @@ module _ (v : View) (view : IsView v) (base : Base) (seen : IsSeenIn v base.plan
         pairs = λ none. zip_weaker (λ (layer : Layer) (l : StateLayer). LayerShows v layer l × (checks.takes a layer.kind ≡ true)) (λ (layer : Layer) (l : StateLayer). LayerShows v layer l × Alike a layer l)
             (λ layer l pair. (pair.0, shapes_alike a on layer l pair.0 pair.1)) ts ls
             (zip_with_all (LayerShows v) (λ (layer : Layer). checks.takes a layer.kind ≡ true) ts ls (targets_show v layers s h c.target).show (each_taken a ts (taken_so a on ts none)));
-        count = so_many v view base seen sources owns layers s h a (takes_polygons a on);
+        count = outputs_counted v view base seen sources owns layers s h a (takes_polygons a on);
       }
 
 pub shape_steps_show : ShapeStepsShow

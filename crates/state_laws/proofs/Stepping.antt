@@ -15,7 +15,7 @@ use Rattle.run_state.specs.Targets as places
 use Rattle.run_state.specs.Targets.{has_target, targets}
 use Rattle.run_state.specs.declared.refusal.RefuseWhy.{RefuseWhy}
 use Rattle.run_state.specs.declared.refusal.RefuseWhy.TheVariants.{NoLayer, TooManyLayers}
-use Rattle.run_state.specs.declared.state.Held.{Held}
+use Rattle.run_state.specs.declared.state.HeldLayer.{HeldLayer}
 use Rattle.run_steps.specs.Commands.{ChangesEach, PutsFor, PutsOut, Titles}
 use Rattle.run_checks.specs.Checks as checks
 use Rattle.run_steps.specs.Refusals as run
@@ -116,17 +116,17 @@ module _ (v : View) (sources : SourceLayers) (s : State) (c : Command) (act : Ac
 abbrev pub stopped_before : SourceLayers → State → Action → List StateLayer → Option state.RefuseWhy
 stopped_before sources s act ls = first_refusal (refused_source sources s act) (unfit sources s act ls)
 
-abbrev pub refused_before : Base → List Held → LayerAction → List Layer → Option RefuseWhy
+abbrev pub refused_before : Base → List HeldLayer → LayerAction → List Layer → Option RefuseWhy
 refused_before base layers a ts = first_refusal (checks.refused_source base.sources layers a) (checks.refused_kinds base.sources layers a ts)
 
 -- what the state does is what a function makes of each layer, which is alike
-pub record IsAlike (v : View) (base : Base) (layers : List Held) (sources : SourceLayers) (s : State) (c : Command) (a : LayerAction) (f : StateLayer → Outputs) : Type 0 where
+pub record IsAlike (v : View) (base : Base) (layers : List HeldLayer) (sources : SourceLayers) (s : State) (c : Command) (a : LayerAction) (f : StateLayer → Outputs) : Type 0 where
   pub stops : has_target c.target layers ≡ true → stopped_before sources s (does.Each a) (layers_at s (target_numbers c.target layers)) ≡ option_map why_of (refused_before base layers a (targets c.target layers))
   pub outputs : refused_source sources s (does.Each a) ≡ None → (ls : List StateLayer) → outputs_of (plane_of v) v.answers sources s (does.Each a) ls ≡ each_layer f ls
   pub pairs : checks.refused_kinds base.sources layers a (targets c.target layers) ≡ None → AllZip (λ (layer : Layer) (l : StateLayer). LayerShows v layer l × LayerAlike v (PutsOut base layers a layer) (run.RefusesLayer base layers a layer) (f l)) (targets c.target layers) (layers_at s (target_numbers c.target layers))
   pub count : (layer : Layer) (l : StateLayer) → LayerShows v layer l → (outs : List StateLayer) → f l ≡ Ok outs → length outs ≡ run.output_count a layer
 
-module _ (v : View) (base : Base) (layers : List Held) (sources : SourceLayers) (s : State) (h : StateShows v layers s) (c : Command) (a : LayerAction) (does_each : c.action ≡ does.Each a) (f : StateLayer → Outputs) (alike : IsAlike v base layers sources s c a f) where
+module _ (v : View) (base : Base) (layers : List HeldLayer) (sources : SourceLayers) (s : State) (h : StateShows v layers s) (c : Command) (a : LayerAction) (does_each : c.action ≡ does.Each a) (f : StateLayer → Outputs) (alike : IsAlike v base layers sources s c a f) where
   abbrev ns : List ℕ
   ns = target_numbers c.target layers
 
@@ -158,15 +158,15 @@ module _ (v : View) (base : Base) (layers : List Held) (sources : SourceLayers) 
   only_alike : checks.refused_kinds base.sources layers a ts ≡ None → AllZip (λ (layer : Layer) (l : StateLayer). LayerAlike v (Made layer) (Refuses layer) (f l)) ts ls
   only_alike kinds = zip_weaker (λ (layer : Layer) (l : StateLayer). LayerShows v layer l × LayerAlike v (Made layer) (Refuses layer) (f l)) (λ (layer : Layer) (l : StateLayer). LayerAlike v (Made layer) (Refuses layer) (f l)) (λ layer l pair. pair.1) ts ls (alike.pairs kinds)
 
-  goes_on : run.RefusesEach base layers c a None → (after : List Held) → ChangesEach base c a layers after → StepGives v sources s c after
+  goes_on : run.RefusesEach base layers c a None → (after : List HeldLayer) → ChangesEach base c a layers after → StepGives v sources s c after
   goes_on none after changes =
       let (target, before) = none_of_two (checks.refused_target c.target layers) (refused_before base layers a ts) none.0 in
       let kinds = (none_of_two (checks.refused_source base.sources layers a) (checks.refused_kinds base.sources layers a ts) before).1 in
       let (outs, is, shown) = outputs_show v c.name Made Refuses f ts ls (only_alike kinds) none.1.0 (target_outputs c.target layers changes.outputs) (made_titled changes.outputs changes.puts) in
       let placed = placed_outputs_show v layers s h c changes.outputs (map (map (titled c.name)) outs) (record { show = shown; all = others_put base layers c a layers changes.outputs changes.puts }) in
-      let few : length (places.placed c layers changes.outputs) ≤ 1000 = subst (λ (held : List Held). length held ≤ 1000) changes.placed changes.few in
+      let few : length (places.placed c layers changes.outputs) ≤ 1000 = subst (λ (held : List HeldLayer). length held ≤ 1000) changes.placed changes.few in
       let (t, put_out, shows) = placed.few few in
-      (t, at_work (Ok outs) (target_there (has_target c.target layers) target) before is ∙ ap (stepped) put_out, subst (λ (held : List Held). StateShows v held t) (sym changes.placed) shows)
+      (t, at_work (Ok outs) (target_there (has_target c.target layers) target) before is ∙ ap (stepped) put_out, subst (λ (held : List HeldLayer). StateShows v held t) (sym changes.placed) shows)
 
   -- before it works
   unfit_stops : (why : RefuseWhy) → (checks.refused_target c.target layers ≡ Some why) ⊎ ((checks.refused_target c.target layers ≡ None) × (refused_before base layers a ts ≡ Some why)) → StepRefuses v sources s c why

@@ -25,7 +25,7 @@ use Rattle.run_state.specs.Origins.{Base}
 use Rattle.run_state.specs.Stops.{refusal_of}
 use Rattle.run_state.specs.Targets.{targets}
 use Rattle.run_state.specs.declared.refusal.RefuseWhy.{RefuseWhy}
-use Rattle.run_state.specs.declared.state.Held.{Held}
+use Rattle.run_state.specs.declared.state.HeldLayer.{HeldLayer}
 use Rattle.run_tables.specs.Made.{GivesTable, One}
 use Rattle.run_steps.specs.Commands.{Joins, PutsOut}
 use Rattle.run_checks.specs.Checks as checks
@@ -109,7 +109,7 @@ joins_alike v layer l h (Err why) (Err w) shown spec Makes are = record {
 joins_alike v layer l h (Ok source) (Err w) shown spec Makes are = absurd shown
 joins_alike v layer l h (Err why) (Ok m) shown spec Makes are = absurd shown
 
-module _ (v : View) (view : IsView v) (base : Base) (sources : SourceLayers) (owns : SourcesShow v base.sources sources) (layers : List Held) (s : State) (h : StateShows v layers s) where
+module _ (v : View) (view : IsView v) (base : Base) (sources : SourceLayers) (owns : SourcesShow v base.sources sources) (layers : List HeldLayer) (s : State) (h : StateShows v layers s) where
   makes_alike : (a : LayerAction) → is_on_tables a ≡ true → (layer : Layer) (l : StateLayer) → LayerShows v layer l → LayerAlike v (PutsOut base layers a layer) (held.RefusesLayer base layers a layer) (made_of v sources s a l)
   makes_alike (action.Join from spec) on layer l shown =
       alike_with (joins_alike v layer l shown (run.one_layer (run.origin_layers base.sources layers from)) (model.one_layer (model.origin_layers sources s from))
@@ -149,20 +149,20 @@ pieces_long l (item ∷ items) =
     let each = length-enumerate_from 0 (item ∷ items) in
     omega (arith, all, each)
 
-so_many_pieces : (l : StateLayer) (answer : Result (List SplitItem) TableWhy) (outs : List StateLayer) → split_of l answer ≡ Ok outs → length outs ≡ held.piece_count answer
-so_many_pieces l (Ok items) outs e = let same : pieces_of l items ≡ outs = cc in sym (ap length same) ∙ pieces_long l items
-so_many_pieces l (Err why) outs e = absurd (cc)
+pieces_counted : (l : StateLayer) (answer : Result (List SplitItem) TableWhy) (outs : List StateLayer) → split_of l answer ≡ Ok outs → length outs ≡ held.piece_count answer
+pieces_counted l (Ok items) outs e = let same : pieces_of l items ≡ outs = cc in sym (ap length same) ∙ pieces_long l items
+pieces_counted l (Err why) outs e = absurd (cc)
 
-so_many : (v : View) (sources : SourceLayers) (s : State) (a : LayerAction) → is_on_tables a ≡ true → (layer : Layer) (l : StateLayer) → LayerShows v layer l → (outs : List StateLayer) → made_of v sources s a l ≡ Ok outs → length outs ≡ held.output_count a layer
-so_many v sources s (action.Join from spec) on layer l h outs e = one_joined (model.one_layer (model.origin_layers sources s from)) spec l outs e
-so_many v sources s (action.Filter test invert remove_empty) on layer l h outs e = one_passed v l remove_empty (features.kept_numbers l test invert) outs e
-so_many v sources s (action.FilterFields fields) on layer l h outs e = one_table l (keep_fields l.table fields) outs e
-so_many v sources s (action.RenameFields pairs) on layer l h outs e = one_table l (rename_fields l.table pairs) outs e
-so_many v sources s (action.Split field) on layer l h outs e = so_many_pieces l (split_rows l.table field) outs e ∙ ap (λ (t : TableContent). held.piece_count (split_rows t field)) h.table
-so_many v sources s (action.Each assigns) on layer l h outs e = one_table l (each_rows l.table (all_assigned assigns)) outs e
-so_many v sources s (action.Sort key descending) on layer l h outs e = one_taken l (sort_rows l.table (tree_of key) descending) outs e
-so_many v sources s (action.Uniq key most invert) on layer l h outs e = one_taken l (uniq_rows l.table (tree_of key) most invert) outs e
-so_many v sources s a on layer l h outs e = other on
+outputs_counted : (v : View) (sources : SourceLayers) (s : State) (a : LayerAction) → is_on_tables a ≡ true → (layer : Layer) (l : StateLayer) → LayerShows v layer l → (outs : List StateLayer) → made_of v sources s a l ≡ Ok outs → length outs ≡ held.output_count a layer
+outputs_counted v sources s (action.Join from spec) on layer l h outs e = one_joined (model.one_layer (model.origin_layers sources s from)) spec l outs e
+outputs_counted v sources s (action.Filter test invert remove_empty) on layer l h outs e = one_passed v l remove_empty (features.kept_numbers l test invert) outs e
+outputs_counted v sources s (action.FilterFields fields) on layer l h outs e = one_table l (keep_fields l.table fields) outs e
+outputs_counted v sources s (action.RenameFields pairs) on layer l h outs e = one_table l (rename_fields l.table pairs) outs e
+outputs_counted v sources s (action.Split field) on layer l h outs e = pieces_counted l (split_rows l.table field) outs e ∙ ap (λ (t : TableContent). held.piece_count (split_rows t field)) h.table
+outputs_counted v sources s (action.Each assigns) on layer l h outs e = one_table l (each_rows l.table (all_assigned assigns)) outs e
+outputs_counted v sources s (action.Sort key descending) on layer l h outs e = one_taken l (sort_rows l.table (tree_of key) descending) outs e
+outputs_counted v sources s (action.Uniq key most invert) on layer l h outs e = one_taken l (uniq_rows l.table (tree_of key) most invert) outs e
+outputs_counted v sources s a on layer l h outs e = other on
 
 -- ---- the source, and the kinds
 
@@ -172,7 +172,7 @@ found_alike v (Err why) (Err w) shown = ap Some shown
 found_alike v (Ok layer) (Err w) shown = absurd shown
 found_alike v (Err why) (Ok l) shown = absurd shown
 
-source_alike : (v : View) (base : Base) (sources : SourceLayers) → SourcesShow v base.sources sources → (layers : List Held) (s : State) → StateShows v layers s → (a : LayerAction) → is_on_tables a ≡ true →
+source_alike : (v : View) (base : Base) (sources : SourceLayers) → SourcesShow v base.sources sources → (layers : List HeldLayer) (s : State) → StateShows v layers s → (a : LayerAction) → is_on_tables a ≡ true →
     refused_source sources s (does.Each a) ≡ option_map why_of (checks.refused_source base.sources layers a)
 source_alike v base sources owns layers s h (action.Join from spec) on =
     found_alike v (run.one_layer (run.origin_layers base.sources layers from)) (model.one_layer (model.origin_layers sources s from))
@@ -187,7 +187,7 @@ source_alike v base sources owns layers s h (action.Uniq key most invert) on = r
 source_alike v base sources owns layers s h a on = other on
 
 -- the kinds alone are looked at
-kinds_alike : (v : View) (base : Base) (sources : SourceLayers) (layers : List Held) (s : State) (a : LayerAction) → is_on_tables a ≡ true → (ts : List Layer) (ls : List StateLayer) → AllZip (LayerShows v) ts ls →
+kinds_alike : (v : View) (base : Base) (sources : SourceLayers) (layers : List HeldLayer) (s : State) (a : LayerAction) → is_on_tables a ≡ true → (ts : List Layer) (ls : List StateLayer) → AllZip (LayerShows v) ts ls →
     unfit sources s (does.Each a) ls ≡ option_map why_of (checks.refused_kinds base.sources layers a ts)
 kinds_alike v base sources layers s (action.Join from spec) on ts ls shown = only_taken v (action.Join from spec) ts ls shown
 kinds_alike v base sources layers s (action.Filter test invert remove_empty) on ts ls shown = only_taken v (action.Filter test invert remove_empty) ts ls shown
@@ -201,7 +201,7 @@ kinds_alike v base sources layers s a on ts ls shown = other on
 
 -- ---- all together
 
-module _ (v : View) (view : IsView v) (base : Base) (sources : SourceLayers) (owns : SourcesShow v base.sources sources) (layers : List Held) (s : State) (h : StateShows v layers s) (c : Command) (a : LayerAction) (on : is_on_tables a ≡ true) where
+module _ (v : View) (view : IsView v) (base : Base) (sources : SourceLayers) (owns : SourcesShow v base.sources sources) (layers : List HeldLayer) (s : State) (h : StateShows v layers s) (c : Command) (a : LayerAction) (on : is_on_tables a ≡ true) where
   abbrev Both : Layer → StateLayer → Type 0
   Both layer l = LayerShows v layer l × LayerAlike v (PutsOut base layers a layer) (held.RefusesLayer base layers a layer) (made_of v sources s a l)
 
@@ -217,7 +217,7 @@ module _ (v : View) (view : IsView v) (base : Base) (sources : SourceLayers) (ow
         (source_alike v base sources owns layers s h a on) (kinds_alike v base sources layers s a on (targets c.target layers) (layers_at s (target_numbers c.target layers)) (targets_show v layers s h c.target).show);
     outputs = λ none ls. outputs_are v sources s a on none ls;
     pairs = λ kinds. all_alike;
-    count = so_many v sources s a on;
+    count = outputs_counted v sources s a on;
   }
 
 pub table_steps_show : TableStepsShow

@@ -17,7 +17,7 @@ use Rattle.run_state.specs.Targets as places
 use Rattle.run_state.specs.Targets.{has_target, is_selected, targets}
 use Rattle.run_state.specs.declared.refusal.RefuseWhy.{RefuseWhy}
 use Rattle.run_state.specs.declared.refusal.RefuseWhy.TheVariants.{OneLayer}
-use Rattle.run_state.specs.declared.state.Held.{Held}
+use Rattle.run_state.specs.declared.state.HeldLayer.{HeldLayer}
 use Rattle.run_steps.specs.Commands.{ChangesTogether}
 use Rattle.run_checks.specs.Checks as checks
 use Rattle.run_steps.specs.Refusals as run
@@ -97,7 +97,7 @@ all_united_long v ts (l ∷ m ∷ ls) long some outs e =
 
 -- ---- the step
 
-module _ (v : View) (view : IsView v) (base : Base) (seen : IsSeenIn v base.plane) (sources : SourceLayers) (layers : List Held) (s : State) (h : StateShows v layers s) (c : Command) (unites : c.action ≡ does.Together joint.Union) where
+module _ (v : View) (view : IsView v) (base : Base) (seen : IsSeenIn v base.plane) (sources : SourceLayers) (layers : List HeldLayer) (s : State) (h : StateShows v layers s) (c : Command) (unites : c.action ≡ does.Together joint.Union) where
   abbrev ns : List ℕ
   ns = target_numbers c.target layers
 
@@ -120,7 +120,7 @@ module _ (v : View) (view : IsView v) (base : Base) (seen : IsSeenIn v base.plan
       step_by v sources s c (does.Together joint.Union) unites (λ n. refl) ns ((targets_show v layers s h c.target).there there)
       ∙ (λ i. stepped (changed_by s c ns None (fit i) (is i)))
 
-  goes_on : run.refusal_together layers c joint.Union ≡ None → (after : List Held) → ChangesTogether base c joint.Union layers after → StepGives v sources s c after
+  goes_on : run.refusal_together layers c joint.Union ≡ None → (after : List HeldLayer) → ChangesTogether base c joint.Union layers after → StepGives v sources s c after
   goes_on none after changes =
       let (before, work) = none_of_two (run.unfit_together layers c joint.Union) (run.failed_together layers c joint.Union) none in
       let (target, mixture, several) = none_of_three (checks.refused_target c.target layers) (checks.refused_mixture joint.Union ts) (checks.refused_alone ts) before in
@@ -139,9 +139,9 @@ module _ (v : View) (view : IsView v) (base : Base) (seen : IsSeenIn v base.plan
         all = ap joined_up placing ∙ alone ∙ sym one;
       } in
       let after_it = placed_outputs_show v layers s h c changes.outputs (map (map (titled c.name)) outs) put_out in
-      let few : length (places.placed c layers changes.outputs) ≤ 1000 = subst (λ (held : List Held). length held ≤ 1000) changes.placed changes.few in
+      let few : length (places.placed c layers changes.outputs) ≤ 1000 = subst (λ (held : List HeldLayer). length held ≤ 1000) changes.placed changes.few in
       let (t, is, shows) = after_it.few few in
-      (t, at_work (Ok outs) there mixture united.answers ∙ ap stepped is, subst (λ (held : List Held). StateShows v held t) (sym changes.placed) shows)
+      (t, at_work (Ok outs) there mixture united.answers ∙ ap stepped is, subst (λ (held : List HeldLayer). StateShows v held t) (sym changes.placed) shows)
 
   unfit_stops : (why : RefuseWhy) → First why (checks.refused_target c.target layers) (checks.refused_mixture joint.Union ts) (checks.refused_alone ts) → StepRefuses v sources s c why
   unfit_stops why (is_first target) =

@@ -12,7 +12,7 @@ use Rattle.run_plane.specs.declared.plane.Plane.{Plane}
 use Rattle.run_tables.specs.Matching.{AreMatches}
 use Rattle.run_state.specs.Origins.{Base}
 use Rattle.run_state.specs.Stops.{table_refusal}
-use Rattle.run_state.specs.declared.state.Held.{Held}
+use Rattle.run_state.specs.declared.state.HeldLayer.{HeldLayer}
 use Rattle.run_checks.specs.Checks.{joins_with}
 use Rattle.run_tables.specs.Made.{GivesTable, One}
 use Rattle.chain_model.specs.State.{State, StateLayer}
@@ -34,5 +34,5 @@ PlaceJoinsShow = (v : View) → IsView v → (plane : Plane) → IsSeenIn v plan
 
 -- whatever the kinds of the layers are
 abbrev pub PlaceStepsShow : Type 0
-PlaceStepsShow = (v : View) → IsView v → (base : Base) → IsSeenIn v base.plane → (sources : SourceLayers) → SourcesShow v base.sources sources → (layers : List Held) (s : State) → StateShows v layers s →
+PlaceStepsShow = (v : View) → IsView v → (base : Base) → IsSeenIn v base.plane → (sources : SourceLayers) → SourcesShow v base.sources sources → (layers : List HeldLayer) (s : State) → StateShows v layers s →
     (c : Command) (from : Origin) (spec : CalcSpec) → c.action ≡ does.Each (action.SpatialJoin from spec) → StepShows v base layers sources s c (action.SpatialJoin from spec)

@@ -10,7 +10,7 @@ use Rattle.run_plane.specs.declared.layer.Layer.{Layer}
 use Rattle.run_state.specs.Origins.{Base}
 use Rattle.run_state.specs.Targets.{targets}
 use Rattle.run_state.specs.declared.refusal.RefuseWhy.{RefuseWhy}
-use Rattle.run_state.specs.declared.state.Held.{Held}
+use Rattle.run_state.specs.declared.state.HeldLayer.{HeldLayer}
 use Rattle.run_steps.specs.Commands.{ChangesTogether}
 use Rattle.run_steps.specs.Refusals.{refusal_together}
 use Rattle.chain_model.specs.State.{State}
@@ -36,7 +36,7 @@ AreOfPolygons layers = All (λ (layer : Layer). layer.kind ≡ kinds.Polygon) la
 
 -- where the layers of its target have polygons
 abbrev pub PolygonStepsShow : Type 0
-PolygonStepsShow = (v : View) → IsView v → (base : Base) → IsSeenIn v base.plane → (sources : SourceLayers) → SourcesShow v base.sources sources → (layers : List Held) (s : State) → StateShows v layers s →
+PolygonStepsShow = (v : View) → IsView v → (base : Base) → IsSeenIn v base.plane → (sources : SourceLayers) → SourcesShow v base.sources sources → (layers : List HeldLayer) (s : State) → StateShows v layers s →
     (c : Command) (a : LayerAction) → c.action ≡ does.Each a → is_on_polygons a ≡ true → AreOfPolygons (targets c.target layers) → StepShows v base layers sources s c a
 
 -- the command takes shapes of every kind, or refuses those that are no polygons
@@ -54,15 +54,15 @@ is_on_shapes _ = false
 
 -- whatever the kinds of the layers of its target are
 abbrev pub ShapeStepsShow : Type 0
-ShapeStepsShow = (v : View) → IsView v → (base : Base) → IsSeenIn v base.plane → (sources : SourceLayers) → SourcesShow v base.sources sources → (layers : List Held) (s : State) → StateShows v layers s →
+ShapeStepsShow = (v : View) → IsView v → (base : Base) → IsSeenIn v base.plane → (sources : SourceLayers) → SourcesShow v base.sources sources → (layers : List HeldLayer) (s : State) → StateShows v layers s →
     (c : Command) (a : LayerAction) → c.action ≡ does.Each a → is_on_shapes a ≡ true → StepShows v base layers sources s c a
 
 -- ---- a command that unites the layers of its target
 
-pub record UnionStepShows (v : View) (base : Base) (layers : List Held) (sources : SourceLayers) (s : State) (c : Command) : Type 0 where
-  pub goes : refusal_together layers c joint.Union ≡ None → (after : List Held) → ChangesTogether base c joint.Union layers after → StepGives v sources s c after
+pub record UnionStepShows (v : View) (base : Base) (layers : List HeldLayer) (sources : SourceLayers) (s : State) (c : Command) : Type 0 where
+  pub goes : refusal_together layers c joint.Union ≡ None → (after : List HeldLayer) → ChangesTogether base c joint.Union layers after → StepGives v sources s c after
   pub refused : (why : RefuseWhy) → refusal_together layers c joint.Union ≡ Some why → StepRefuses v sources s c why
 
 abbrev pub UnionStepsShow : Type 0
-UnionStepsShow = (v : View) → IsView v → (base : Base) → IsSeenIn v base.plane → (sources : SourceLayers) (layers : List Held) (s : State) → StateShows v layers s →
+UnionStepsShow = (v : View) → IsView v → (base : Base) → IsSeenIn v base.plane → (sources : SourceLayers) (layers : List HeldLayer) (s : State) → StateShows v layers s →
     (c : Command) → c.action ≡ does.Together joint.Union → UnionStepShows v base layers sources s c

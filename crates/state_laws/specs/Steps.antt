@@ -7,7 +7,7 @@ use Rattle.job_terms.specs.declared.job.LayerAction.{LayerAction}
 use Rattle.job_terms.specs.declared.job.LayerAction.TheVariants as action
 use Rattle.run_state.specs.Origins.{Base}
 use Rattle.run_state.specs.declared.refusal.RefuseWhy.{RefuseWhy}
-use Rattle.run_state.specs.declared.state.Held.{Held}
+use Rattle.run_state.specs.declared.state.HeldLayer.{HeldLayer}
 use Rattle.run_steps.specs.Commands.{ChangesEach, ChangesTogether}
 use Rattle.run_steps.specs.Refusals.{RefusesEach, refusal_together}
 use Rattle.chain_model.specs.State.{State}
@@ -17,7 +17,7 @@ use Rattle.layer_laws.specs.Shown.{View, IsView, SourcesShow, StateShows, plane_
 use Rattle.layer_laws.specs.Reasons.{why_of}
 
 -- the state's step gives a state that these layers show
-abbrev pub StepGives : View → SourceLayers → State → Command → List Held → Type 0
+abbrev pub StepGives : View → SourceLayers → State → Command → List HeldLayer → Type 0
 StepGives v sources s c after = (t : State) × (step (plane_of v) v.answers sources s c ≡ Ok (record { state = t; written = None })) × StateShows v after t
 
 -- or is refused for the reason that the run has
@@ -26,8 +26,8 @@ StepRefuses v sources s c why = step (plane_of v) v.answers sources s c ≡ Err 
 
 -- a command that changes each layer of its target shows that of the state: so is the state after it, and both refuse
 -- for the same reason
-pub record StepShows (v : View) (base : Base) (layers : List Held) (sources : SourceLayers) (s : State) (c : Command) (a : LayerAction) : Type 0 where
-  pub goes : RefusesEach base layers c a None → (after : List Held) → ChangesEach base c a layers after → StepGives v sources s c after
+pub record StepShows (v : View) (base : Base) (layers : List HeldLayer) (sources : SourceLayers) (s : State) (c : Command) (a : LayerAction) : Type 0 where
+  pub goes : RefusesEach base layers c a None → (after : List HeldLayer) → ChangesEach base c a layers after → StepGives v sources s c after
   pub refused : (why : RefuseWhy) → RefusesEach base layers c a (Some why) → StepRefuses v sources s c why
 
 -- the command works on rows and columns
@@ -43,15 +43,15 @@ is_on_tables (action.Uniq key most invert) = true
 is_on_tables _ = false
 
 abbrev pub TableStepsShow : Type 0
-TableStepsShow = (v : View) → IsView v → (base : Base) (sources : SourceLayers) → SourcesShow v base.sources sources → (layers : List Held) (s : State) → StateShows v layers s →
+TableStepsShow = (v : View) → IsView v → (base : Base) (sources : SourceLayers) → SourcesShow v base.sources sources → (layers : List HeldLayer) (s : State) → StateShows v layers s →
     (c : Command) (a : LayerAction) → c.action ≡ does.Each a → is_on_tables a ≡ true → StepShows v base layers sources s c a
 
 -- ---- a command that merges the layers of its target
 
-pub record MergeStepShows (v : View) (base : Base) (layers : List Held) (sources : SourceLayers) (s : State) (c : Command) (force : Bool) : Type 0 where
-  pub goes : refusal_together layers c (joint.MergeLayers force) ≡ None → (after : List Held) → ChangesTogether base c (joint.MergeLayers force) layers after → StepGives v sources s c after
+pub record MergeStepShows (v : View) (base : Base) (layers : List HeldLayer) (sources : SourceLayers) (s : State) (c : Command) (force : Bool) : Type 0 where
+  pub goes : refusal_together layers c (joint.MergeLayers force) ≡ None → (after : List HeldLayer) → ChangesTogether base c (joint.MergeLayers force) layers after → StepGives v sources s c after
   pub refused : (why : RefuseWhy) → refusal_together layers c (joint.MergeLayers force) ≡ Some why → StepRefuses v sources s c why
 
 abbrev pub MergeStepsShow : Type 0
-MergeStepsShow = (v : View) (base : Base) (sources : SourceLayers) (layers : List Held) (s : State) → StateShows v layers s → (c : Command) (force : Bool) → c.action ≡ does.Together (joint.MergeLayers force) →
+MergeStepsShow = (v : View) (base : Base) (sources : SourceLayers) (layers : List HeldLayer) (s : State) → StateShows v layers s → (c : Command) (force : Bool) → c.action ≡ does.Together (joint.MergeLayers force) →
     MergeStepShows v base layers sources s c force

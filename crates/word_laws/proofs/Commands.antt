@@ -13,7 +13,7 @@ use Rattle.cmd_words.specs.declared.action_words.CommandWords.{CommandWords}
 use Rattle.job_terms.specs.declared.job.Owner.TheVariants as owner
 use Rattle.job_terms.specs.declared.job.SourceWord.{SourceWord}
 use Rattle.job_terms.specs.declared.job.Target.{Target}
-use Rattle.cmd_words.specs.Areas.{area_of}
+use Rattle.cmd_words.specs.Boxes.{box_of_text}
 use Rattle.cmd_words.specs.Expressions.{Refusals}
 use Rattle.cmd_words.specs.Rows.{Row, Form, row_of}
 use Rattle.cmd_words.specs.Steps.{on_ok}
@@ -101,9 +101,9 @@ source_list : (b : Bool) (x : SourceWord) → cond b (x ∷ []) [] ≡ option_to
 source_list true x = refl
 source_list false x = refl
 
-boxes_same : (places : ℕ) (o : Option Text) → elim o [ None ↦ [] | Some s ↦ ok_list (area_of places s) ] ≡ option_to_list (box_from places o)
+boxes_same : (places : ℕ) (o : Option Text) → elim o [ None ↦ [] | Some s ↦ ok_list (box_of_text places s) ] ≡ option_to_list (box_from places o)
 boxes_same places None = refl
-boxes_same places (Some s) = go (area_of places s)
+boxes_same places (Some s) = go (box_of_text places s)
   where
     go : (r : Result Corners WordWhy) → ok_list r ≡ option_to_list (ok_option r)
     go (Ok a) = refl

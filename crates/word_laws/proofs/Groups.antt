@@ -10,7 +10,7 @@ use Rattle.table_terms.specs.Names.{Text}
 use Rattle.join_terms.specs.declared.calculations.Calc.{Calc}
 use Rattle.table_terms.specs.declared.renames.Rename.{Rename}
 use Rattle.cmd_words.specs.declared.fault.WordWhy.{WordWhy}
-use Rattle.cmd_words.specs.Areas.{area_of}
+use Rattle.cmd_words.specs.Boxes.{box_of_text}
 use Rattle.cmd_words.specs.Rows as rows
 use Rattle.cmd_words.specs.Settings.{value_named}
 use Rattle.cmd_words.specs.Values.{renames_of}
@@ -49,7 +49,7 @@ ok_option (Ok v) = Some v
 ok_option (Err e) = None
 
 abbrev pub box_from : ℕ → Option Text → Option Corners
-box_from places o = option_and_then (λ (s : Text). ok_option (area_of places s)) o
+box_from places o = option_and_then (λ (s : Text). ok_option (box_of_text places s)) o
 
 abbrev pub box_in : ℕ → Said → Option Corners
 box_in places said = box_from places (value_in said (codes "bbox"))
@@ -68,7 +68,7 @@ assigns_of assignments said = argument_in said
 assigns_of _ said = None
 
 abbrev pub made : List Word → List Setting → List Text → Bool → Option Corners → List Rename → List Calc → Option Text → Option Text → Group
-made a o b r x n m t v = record { arguments = a; options = o; bare = b; reads_standard = r; area = x; renames = n; calculations = m; test = t; assigns = v }
+made a o b r x n m t v = record { arguments = a; options = o; bare = b; reads_standard = r; rect = x; renames = n; calculations = m; test = t; assigns = v }
 
 -- after groups of which one reads standard input, or none
 abbrev pub group_of : ℕ → Bool → ArgumentForm → List Word → Said → Group

@@ -8,7 +8,7 @@ use Rattle.cmd_words.specs.declared.fault.WordWhy.TheVariants as why
 use Rattle.job_terms.specs.declared.job.Job.{Job}
 use Rattle.job_terms.specs.declared.job.Owner.TheVariants as owner
 use Rattle.job_terms.specs.declared.job.SourceWord.{SourceWord}
-use Rattle.cmd_words.specs.Areas.{places_of}
+use Rattle.cmd_words.specs.Boxes.{places_of}
 use Rattle.cmd_words.specs.Quantities.{number_in}
 use Rattle.cmd_words.specs.Expressions.{Refusals}
 use Rattle.cmd_words.specs.Rows.{import_form}

@@ -9,7 +9,7 @@ use Rattle.table_terms.specs.Refusals.{unless, first_refusal}
 use Rattle.table_terms.specs.Refusals as table
 use Rattle.cmd_words.specs.declared.fault.WordWhy.{WordWhy}
 use Rattle.cmd_words.specs.declared.fault.WordWhy.TheVariants as why
-use Rattle.cmd_words.specs.Areas.{area_of}
+use Rattle.cmd_words.specs.Boxes.{box_of_text}
 use Rattle.cmd_words.specs.Expressions.{Refusals}
 use Rattle.cmd_words.specs.Steps.{on_ok}
 use Rattle.cmd_words.specs.Texts.{is_standard}
@@ -91,8 +91,8 @@ accepted_box : (places : ℕ) (r : Result Corners WordWhy) → refusal_of r ≡ 
 accepted_box places (Ok a) e = refl
 accepted_box places (Err w) e = absurd (cc)
 
-box_value : (refuses : Refusals) (places : ℕ) (f : ValueForm) (value : Text) → is_box f ≡ true → refused_value refuses places f value ≡ None → is_some (ok_option (area_of places value)) ≡ true
-box_value refuses places a_box value b e = accepted_box places (area_of places value) e
+box_value : (refuses : Refusals) (places : ℕ) (f : ValueForm) (value : Text) → is_box f ≡ true → refused_value refuses places f value ≡ None → is_some (ok_option (box_of_text places value)) ≡ true
+box_value refuses places a_box value b e = accepted_box places (box_of_text places value) e
 box_value refuses places a_text value b e = absurd (cc)
 box_value refuses places a_list value b e = absurd (cc)
 box_value refuses places two_names value b e = absurd (cc)
@@ -113,7 +113,7 @@ value_accepted refuses places said v name value e =
     second_is_none beside last (second_is_none lacks (first_refusal beside last) (second_is_none (refused_if (has_option said name) why.OptionTwice) (first_refusal lacks (first_refusal beside last)) e))
 
 box_option : (refuses : Refusals) (places : ℕ) (form : ArgumentForm) (said : Said) (name value : Text) (f : Option ValueForm) → ((v : ValueForm) → f ≡ Some v → Placed form v name)
-    → refused_option refuses places said f name value ≡ None → bytes_eq name (codes "bbox") ≡ true → is_some (ok_option (area_of places value)) ≡ true
+    → refused_option refuses places said f name value ≡ None → bytes_eq name (codes "bbox") ≡ true → is_some (ok_option (box_of_text places value)) ≡ true
 box_option refuses places form said name value None p e b = absurd (cc)
 box_option refuses places form said name value (Some v) p e b = box_value refuses places v value ((p v refl).box ∙ b) (value_accepted refuses places said v name value e)
 
@@ -127,7 +127,7 @@ box_said refuses places taken l placed said (bare word) e = refl
 box_said refuses places taken l placed said (argument s) e = refl
 box_said refuses places taken l placed said (option name value) e = choose (bytes_eq name (codes "bbox")) (box_option refuses places l.argument said name value (form_of l name) (placed name) e)
   where
-    choose : (b : Bool) → (b ≡ true → is_some (ok_option (area_of places value)) ≡ true) → is_some (box_from places (cond b (Some value) None)) ≡ is_some (cond b (Some value) None)
+    choose : (b : Bool) → (b ≡ true → is_some (ok_option (box_of_text places value)) ≡ true) → is_some (box_from places (cond b (Some value) None)) ≡ is_some (cond b (Some value) None)
     choose true f = f refl
     choose false f = refl
 

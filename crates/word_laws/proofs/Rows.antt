@@ -97,7 +97,7 @@ pub record Means (form : ArgumentForm) (said : Said) (g : Group) : Type 0 where
   pub value : (name : Text) → groups.value_in g name ≡ value_in said name
   pub bare : (word : Text) → groups.has_bare g word ≡ has_bare said word
   pub argument : groups.argument_in g ≡ argument_in said
-  pub box : is_some g.area ≡ has_option said (codes "bbox")
+  pub box : is_some g.rect ≡ has_option said (codes "bbox")
   pub renames : g.renames ≡ renames_seen form said
   pub calculations : g.calculations ≡ calculations_in said
   pub test : g.test ≡ test_of form said
@@ -226,7 +226,7 @@ module _ (form : ArgumentForm) (said : Said) (g : Group) (m : Means form said g)
   argument_some : is_some (groups.argument_in g) ≡ has_argument said
   argument_some = ap is_some m.argument
 
-  lacks_source : not (is_some (groups.argument_in g) || is_some g.area) ≡ not (needs_source said)
+  lacks_source : not (is_some (groups.argument_in g) || is_some g.rect) ≡ not (needs_source said)
   lacks_source = ap₂ (λ (a b : Bool). not (a || b)) argument_some m.box
 
   lacks_test : not (is_some (groups.argument_in g) || groups.has_bare g (codes "remove-empty")) ≡ not (has_argument said || has_bare said (codes "remove-empty"))

@@ -11,7 +11,7 @@ use Rattle.table_terms.specs.declared.renames.Rename.{Rename}
 use Rattle.cmd_words.specs.declared.fault.ExprWhy.{ExprWhy}
 use Rattle.cmd_words.specs.declared.fault.WordWhy.{WordWhy}
 use Rattle.cmd_words.specs.declared.fault.WordWhy.TheVariants as why
-use Rattle.cmd_words.specs.Areas.{area_of, places_of}
+use Rattle.cmd_words.specs.Boxes.{box_of_text, places_of}
 use Rattle.cmd_words.specs.Quantities.{area_units, count_of}
 use Rattle.cmd_words.specs.Calculations.{calculations_of}
 use Rattle.cmd_words.specs.Expressions as kind
@@ -92,7 +92,7 @@ module _ (refuses : Refusals) (places : ℕ) (taken : Bool) (args : List Word) (
     plain_option : (f : ValueForm) → is_box f ≡ false → is_calculated f ≡ false → is_test f ≡ false → Placed form f name → with_option (box_in places said) (calculations_in said) (test_of form said) ≡ after_option form name value
     plain_option f b c t p = option_said (box_in places said) (calculations_in said) (test_of form said) (no_box f b p) (not_calculated f c p) (no_test f t p)
 
-    box_option : Placed form a_box name → has_option said name ≡ false → (r : Result Corners WordWhy) → area_of places value ≡ r
+    box_option : Placed form a_box name → has_option said name ≡ false → (r : Result Corners WordWhy) → box_of_text places value ≡ r
         → on_ok r (λ (a : Corners). Ok (with_option (Some a) (calculations_in said) (test_of form said))) ≡ unless (refusal_of r) (Ok (after_option form name value))
     box_option p fresh (Err w) e = refl
     box_option p fresh (Ok a) e = ap (λ (g : Group). Ok g) (option_said (Some a) (calculations_in said) (test_of form said) made_box (not_calculated a_box refl p) (no_test a_box refl p))
@@ -160,7 +160,7 @@ module _ (refuses : Refusals) (places : ℕ) (taken : Bool) (args : List Word) (
     value_step a_precision p fresh = accepts (is_some (places_of value)) why.BadPrecision _ _ (plain_option a_precision refl refl refl p)
     value_step a_rule p fresh = accepts (is_some (rule_of value)) why.BadChoice _ _ (plain_option a_rule refl refl refl p)
     value_step a_format p fresh = accepts (is_some (form_named value)) why.BadChoice _ _ (plain_option a_format refl refl refl p)
-    value_step a_box p fresh = box_option p fresh (area_of places value) refl
+    value_step a_box p fresh = box_option p fresh (box_of_text places value) refl
     value_step an_expression p fresh = test_option p fresh (refuses kind.expression value)
     value_step an_area p fresh = accepts (is_some (area_units value)) why.BadNumber _ _ (plain_option an_area refl refl refl p)
     value_step one_or_more p fresh = accepts (is_some (count_of 1 value)) why.BadNumber _ _ (plain_option one_or_more refl refl refl p)

@@ -5,7 +5,7 @@ use Rattle.std.specs.Str.{bytes_eq}
 use Rattle.grid_base.specs.Grid.{Corners}
 use Rattle.table_terms.specs.Names.{Text, has_name}
 use Rattle.table_terms.specs.Refusals.{on_ok, first_refusal}
-use Rattle.cmd_words.specs.Areas.{area_of, places_of}
+use Rattle.cmd_words.specs.Boxes.{box_of_text, places_of}
 use Rattle.cmd_words.specs.Quantities.{area_units}
 use Rattle.cmd_words.specs.Calculations.{calculations_of}
 use Rattle.cmd_words.specs.Chains.{SoFar}
@@ -72,7 +72,7 @@ refused_value refuses places two_names s = refused_if (not (is_pair s)) why.BadC
 refused_value refuses places a_precision s = refused_if (not (is_some (places_of s))) why.BadPrecision
 refused_value refuses places a_rule s = refused_if (not (is_some (rule_of s))) why.BadChoice
 refused_value refuses places a_format s = refused_if (not (is_some (form_named s))) why.BadChoice
-refused_value refuses places a_box s = refusal_of (area_of places s)
+refused_value refuses places a_box s = refusal_of (box_of_text places s)
 refused_value refuses places an_expression s = expression_fault (refuses kind.expression s)
 refused_value refuses places an_area s = refused_if (not (is_some (area_units s))) why.BadNumber
 refused_value refuses places one_or_more s = refused_if (not (is_some (count_of 1 s))) why.BadNumber
@@ -200,7 +200,7 @@ ok_list (Ok v) = v ∷ []
 ok_list (Err e) = []
 
 abbrev pub boxes_of : ℕ → Said → List Corners
-boxes_of places said = elim (value_in said (codes "bbox")) [ None ↦ [] | Some s ↦ ok_list (area_of places s) ]
+boxes_of places said = elim (value_in said (codes "bbox")) [ None ↦ [] | Some s ↦ ok_list (box_of_text places s) ]
 
 abbrev pub standard_among : List SourceWord → Bool
 standard_among sources = list_any (λ (s : SourceWord). s.standard) sources

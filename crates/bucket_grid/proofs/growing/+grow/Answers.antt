@@ -4,7 +4,7 @@ use Rattle.grid_base.specs.Grid.{Corners}
 use Rattle.bucket_grid.specs.declared.growing.Division.{Division}
 use Rattle.bucket_grid.specs.declared.tree.Node.{Node}
 use Rattle.bucket_grid.specs.declared.tree.Node.TheVariants.{Split}
-use Rattle.bucket_grid.specs.Areas.{Holds, boxes_near}
+use Rattle.bucket_grid.specs.Rects.{Holds, boxes_near}
 use Rattle.bucket_grid.specs.Division.{IsDivisionOf}
 use Rattle.bucket_grid.specs.Tree.{Grew}
 use Rattle.bucket_grid.specs.Slabs.{slab_part}
@@ -14,19 +14,19 @@ use Rattle.bucket_grid.proofs.Growth.{IsFrom, top_of, nothing_grown, slab_grown,
 use Rattle.bucket_grid.proofs.growing.+grow.Goals as goal
 
 pub division_of-requires : goal.division_of-requires
-division_of-requires t c = near_below c.args.boxes.now c.args.area c.args.near c.requires
+division_of-requires t c = near_below c.args.boxes.now c.args.rect c.args.near c.requires
 
 pub loop-part-init : goal.loop-part-init
 loop-part-init t c =
     let s = c.in-Some.division.slabs in
     let lists = c.in-Some.division.lists.items in
-    let d : IsDivisionOf c.args.boxes.now c.args.area c.args.near c.in-Some.division =
-    subst (λ (o : Option Division). IfSome o (IsDivisionOf c.args.boxes.now c.args.area c.args.near)) c.in-Some.is c.in_ok-division.ensures in
+    let d : IsDivisionOf c.args.boxes.now c.args.rect c.args.near c.in-Some.division =
+    subst (λ (o : Option Division). IfSome o (IsDivisionOf c.args.boxes.now c.args.rect c.args.near)) c.in-Some.is c.in_ok-division.ensures in
     let n = d.listed.count in
     let forest = c.args.forest.now in (
-      list_is s c.args.boxes.now c.args.area c.args.near lists d.divides c.requires d.listed,
+      list_is s c.args.boxes.now c.args.rect c.args.near lists d.divides c.requires d.listed,
       omega (arith, ap length c.in_ok-tops.ensures.items),
-      nothing_grown (c.args.steps - 1) c.args.boxes.now c.args.area s (length lists) forest.nodes.items forest.areas.items forest.near.items c.in_ok-tops.tops.items (omega arith),
+      nothing_grown (c.args.steps - 1) c.args.boxes.now c.args.rect s (length lists) forest.nodes.items forest.rects.items forest.near.items c.in_ok-tops.tops.items (omega arith),
     )
 
 -- the popped list is the last one
@@ -45,25 +45,25 @@ grow-requires t c =
     let e = c.in-Some-pop.ensures.items in
     let m = longer xs ys c.in-Some-pop.part e in
     let n : c.len-in-Some-pop.result ≡ length ys = omega (arith, c.len-in-Some-pop.ensures, c.pop.new.self.ok.0) in
-    let f : c.in_ok-slab.slab ≡ slab_part s c.len-in-Some-pop.result c.args.area =
-    subst (λ (o : Option Corners). IfSome o (λ part. part ≡ slab_part s c.len-in-Some-pop.result c.args.area)) c.in_ok-slab.ensures.ok_part c.slab_area.ensures.exact in (
+    let f : c.in_ok-slab.slab ≡ slab_part s c.len-in-Some-pop.result c.args.rect =
+    subst (λ (o : Option Corners). IfSome o (λ part. part ≡ slab_part s c.len-in-Some-pop.result c.args.rect)) c.in_ok-slab.ensures.ok_part c.slab_rect.ensures.exact in (
       omega arith,
-      popped xs ys c.in-Some-pop.part e ∙ c.loop-part.invariant.0 (length ys) (omega arith) ∙ ap (λ (k : ℕ). boxes_near c.args.boxes.now (slab_part s k c.args.area)) (sym n) ∙ ap (boxes_near c.args.boxes.now) (sym f),
+      popped xs ys c.in-Some-pop.part e ∙ c.loop-part.invariant.0 (length ys) (omega arith) ∙ ap (λ (k : ℕ). boxes_near c.args.boxes.now (slab_part s k c.args.rect)) (sym n) ∙ ap (boxes_near c.args.boxes.now) (sym f),
     )
 
 pub loop-part-preserved : goal.loop-part-preserved
 loop-part-preserved t c =
     let s = c.in-Some.division.slabs in
     let boxes = c.args.boxes.now in
-    let area = c.args.area in
+    let rect = c.args.rect in
     let xs = c.loop-part.lists.items in
     let ys = c.pop.new.self.items in
     let e = c.in-Some-pop.ensures.items in
     let m = longer xs ys c.in-Some-pop.part e in
     let n : c.len-in-Some-pop.result ≡ length ys = omega (arith, c.len-in-Some-pop.ensures, c.pop.new.self.ok.0) in
-    let f : c.in_ok-slab.slab ≡ slab_part s c.len-in-Some-pop.result area =
-    subst (λ (o : Option Corners). IfSome o (λ part. part ≡ slab_part s c.len-in-Some-pop.result area)) c.in_ok-slab.ensures.ok_part c.slab_area.ensures.exact in
-    let d : IsDivisionOf boxes area c.args.near c.in-Some.division = subst (λ (o : Option Division). IfSome o (IsDivisionOf boxes area c.args.near)) c.in-Some.is c.in_ok-division.ensures in
+    let f : c.in_ok-slab.slab ≡ slab_part s c.len-in-Some-pop.result rect =
+    subst (λ (o : Option Corners). IfSome o (λ part. part ≡ slab_part s c.len-in-Some-pop.result rect)) c.in_ok-slab.ensures.ok_part c.slab_rect.ensures.exact in
+    let d : IsDivisionOf boxes rect c.args.near c.in-Some.division = subst (λ (o : Option Division). IfSome o (IsDivisionOf boxes rect c.args.near)) c.in-Some.is c.in_ok-division.ensures in
     let count = c.loop-part.invariant.1 in
     let tops = c.loop-part.tops.items in
     let top = c.in_ok-grow.field-0 in
@@ -71,15 +71,15 @@ loop-part-preserved t c =
     let old = c.args.forest.now in
     let mid = c.loop-part.forest in
     let new = c.grow.new.forest in
-    let slab_is : c.in_ok-slab.slab ≡ slab_part s (length ys) area = f ∙ ap (λ (k : ℕ). slab_part s k area) n in
-    let l : Grew (c.args.steps - 1) boxes (IsFrom area s (length ys + 1)) old.nodes.items mid.nodes.items old.areas.items mid.areas.items old.near.items mid.near.items (top_of s tops) =
-    subst (λ (k : ℕ). Grew (c.args.steps - 1) boxes (IsFrom area s k) old.nodes.items mid.nodes.items old.areas.items mid.areas.items old.near.items mid.near.items (top_of s tops)) m c.loop-part.invariant.2 in
-    let h : Grew (c.args.steps - 1) boxes (Holds (slab_part s (length ys) area)) mid.nodes.items new.nodes.items mid.areas.items new.areas.items mid.near.items new.near.items (λ g. top) =
-    subst (λ (r : Corners). Grew (c.args.steps - 1) boxes (Holds r) mid.nodes.items new.nodes.items mid.areas.items new.areas.items mid.near.items new.near.items (λ g. top)) slab_is c.in_ok-grow.ensures in (
+    let slab_is : c.in_ok-slab.slab ≡ slab_part s (length ys) rect = f ∙ ap (λ (k : ℕ). slab_part s k rect) n in
+    let l : Grew (c.args.steps - 1) boxes (IsFrom rect s (length ys + 1)) old.nodes.items mid.nodes.items old.rects.items mid.rects.items old.near.items mid.near.items (top_of s tops) =
+    subst (λ (k : ℕ). Grew (c.args.steps - 1) boxes (IsFrom rect s k) old.nodes.items mid.nodes.items old.rects.items mid.rects.items old.near.items mid.near.items (top_of s tops)) m c.loop-part.invariant.2 in
+    let h : Grew (c.args.steps - 1) boxes (Holds (slab_part s (length ys) rect)) mid.nodes.items new.nodes.items mid.rects.items new.rects.items mid.near.items new.near.items (λ g. top) =
+    subst (λ (r : Corners). Grew (c.args.steps - 1) boxes (Holds r) mid.nodes.items new.nodes.items mid.rects.items new.rects.items mid.near.items new.near.items (λ g. top)) slab_is c.in_ok-grow.ensures in (
       λ k b. sym (ap (λ (l : List (List ℕ)). get_or l k []) e ∙ get_or_append_left ys (c.in-Some-pop.part ∷ []) [] k b) ∙ c.loop-part.invariant.0 k (omega arith),
       omega (arith, ap length tops_are, length-append tops (top ∷ [])),
-      subst (λ (l : List Node). Grew (c.args.steps - 1) boxes (IsFrom area s (length ys)) old.nodes.items new.nodes.items old.areas.items new.areas.items old.near.items new.near.items (top_of s l)) (sym tops_are)
-          (slab_grown (c.args.steps - 1) boxes area s old.nodes.items mid.nodes.items new.nodes.items old.areas.items mid.areas.items new.areas.items old.near.items mid.near.items new.near.items tops top (length ys)
+      subst (λ (l : List Node). Grew (c.args.steps - 1) boxes (IsFrom rect s (length ys)) old.nodes.items new.nodes.items old.rects.items new.rects.items old.near.items new.near.items (top_of s l)) (sym tops_are)
+          (slab_grown (c.args.steps - 1) boxes rect s old.nodes.items mid.nodes.items new.nodes.items old.rects.items mid.rects.items new.rects.items old.near.items mid.near.items new.near.items tops top (length ys)
           d.divides (omega arith) l h),
     )
 
@@ -95,9 +95,9 @@ returns t c =
     let count = c.loop-part.invariant.1 in
     let children : c.in_ok-children.children ≡ length mid.nodes.items = omega (arith, c.in_ok-children.ensures, c.len-3.ensures, mid.nodes.ok.0) in
     let nodes : c.extend_from_slice.new.self.items ≡ mid.nodes.items ++ tops = c.in_ok-extend_from_slice.ensures.items ∙ ap (λ (l : List Node). mid.nodes.items ++ l) c.deref.ensures.value in
-    let l : Grew (c.args.steps - 1) c.args.boxes.now (IsFrom c.args.area s 0) old.nodes.items mid.nodes.items old.areas.items mid.areas.items old.near.items mid.near.items (top_of s tops) =
-    subst (λ (k : ℕ). Grew (c.args.steps - 1) c.args.boxes.now (IsFrom c.args.area s k) old.nodes.items mid.nodes.items old.areas.items mid.areas.items old.near.items mid.near.items (top_of s tops)) empty c.loop-part.invariant.2 in
+    let l : Grew (c.args.steps - 1) c.args.boxes.now (IsFrom c.args.rect s 0) old.nodes.items mid.nodes.items old.rects.items mid.rects.items old.near.items mid.near.items (top_of s tops) =
+    subst (λ (k : ℕ). Grew (c.args.steps - 1) c.args.boxes.now (IsFrom c.args.rect s k) old.nodes.items mid.nodes.items old.rects.items mid.rects.items old.near.items mid.near.items (top_of s tops)) empty c.loop-part.invariant.2 in
     let steps : suc (c.args.steps - 1) ≡ c.args.steps = omega arith in
-    subst (λ (n : ℕ). Grew n c.args.boxes.now (Holds c.args.area) old.nodes.items c.extend_from_slice.new.self.items old.areas.items mid.areas.items old.near.items mid.near.items (λ g. Split s c.in_ok-children.children)) steps
-    (split_grown (c.args.steps - 1) c.args.boxes.now c.args.area s old.nodes.items mid.nodes.items c.extend_from_slice.new.self.items old.areas.items mid.areas.items old.near.items mid.near.items tops c.in_ok-children.children
+    subst (λ (n : ℕ). Grew n c.args.boxes.now (Holds c.args.rect) old.nodes.items c.extend_from_slice.new.self.items old.rects.items mid.rects.items old.near.items mid.near.items (λ g. Split s c.in_ok-children.children)) steps
+    (split_grown (c.args.steps - 1) c.args.boxes.now c.args.rect s old.nodes.items mid.nodes.items c.extend_from_slice.new.self.items old.rects.items mid.rects.items old.near.items mid.near.items tops c.in_ok-children.children
     (omega arith) children nodes l)

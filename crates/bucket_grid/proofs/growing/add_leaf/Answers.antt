@@ -5,7 +5,7 @@ use Rattle.bucket_grid.proofs.growing.add_leaf.Goals as goal
 pub returns : goal.returns
 returns c =
     let forest = c.args.forest.now in
-    let place : c.in_ok-place.place ≡ length forest.areas.items = omega (arith, c.in_ok-place.ensures, c.len.ensures, forest.areas.ok.0) in
+    let place : c.in_ok-place.place ≡ length forest.rects.items = omega (arith, c.in_ok-place.ensures, c.len.ensures, forest.rects.ok.0) in
     let v = c.near.view_is in
-    λ steps boxes e. leaf_grown boxes c.args.area forest.nodes.items forest.areas.items c.push.new.self.items forest.near.items c.push-2.new.self.items steps c.args.near c.in_ok-place.place
+    λ steps boxes e. leaf_grown boxes c.args.rect forest.nodes.items forest.rects.items c.push.new.self.items forest.near.items c.push-2.new.self.items steps c.args.near c.in_ok-place.place
     e place c.in_ok-push.ensures.items c.in_ok-push-2.ensures.items

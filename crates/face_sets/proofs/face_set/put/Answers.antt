@@ -10,7 +10,7 @@ use Rattle.face_sets.proofs.face_set.put.Goals as goal
 placed : (xs seen ys : List ℕ) (f i : ℕ) → seen ≡ xs → IsStrictlyIncreasing xs → IsBinarySearchResult (λ y. nat_cmp y f) seen (Err i) → ys ≡ insert xs i f → ys ≡ put_in_order nat_lt f xs
 placed xs seen ys f i e up r made = made ∙ put_missed xs f i up (subst (λ (zs : List ℕ). IsBinarySearchResult (λ y. nat_cmp y f) zs (Err i)) e r)
 
--- the list with f put behind all
+-- the list with f put after all
 appended : (xs seen ys : List ℕ) (f : ℕ) → seen ≡ xs → All (λ (g : ℕ). g < f) seen → ys ≡ xs ++ f ∷ [] → ys ≡ put_in_order nat_lt f xs
 appended xs seen ys f e below made = made ∙ put_past xs f (subst (λ (zs : List ℕ). All (λ (g : ℕ). g < f) zs) e below)
 

@@ -11,10 +11,10 @@ use Rattle.hot_pixels.proofs.aside.is_aside.Goals.{After-reach_of-reach}
 record Known (c : After-reach_of-reach) : Type 0 where
   across : c.step-dx.result.0 ≡ c.args.s.now.stop.x -ℤ c.args.s.now.start.x
   upward : c.step-dx.result.1 ≡ c.args.s.now.stop.y -ℤ c.args.s.now.start.y
-  west : c.step-west.result.0 ≡ c.args.area.low.x -ℤ c.args.s.now.start.x
-  south : c.step-west.result.1 ≡ c.args.area.low.y -ℤ c.args.s.now.start.y
-  east : c.step-east.result.0 ≡ c.args.area.high.x -ℤ c.args.s.now.start.x
-  north : c.step-east.result.1 ≡ c.args.area.high.y -ℤ c.args.s.now.start.y
+  west : c.step-west.result.0 ≡ c.args.rect.low.x -ℤ c.args.s.now.start.x
+  south : c.step-west.result.1 ≡ c.args.rect.low.y -ℤ c.args.s.now.start.y
+  east : c.step-east.result.0 ≡ c.args.rect.high.x -ℤ c.args.s.now.start.x
+  north : c.step-east.result.1 ≡ c.args.rect.high.y -ℤ c.args.s.now.start.y
   reaches : c.reach_of-reach.result ≡ reach c.step-dx.result.0 c.step-dx.result.1
 
 known : (c : After-reach_of-reach) → Known c

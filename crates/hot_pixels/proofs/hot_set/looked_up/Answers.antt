@@ -4,7 +4,7 @@ use Rattle.plane_model.specs.Points.{GridPoint}
 use Rattle.plane_model.specs.Pixel.{meets}
 use Rattle.hot_pixels.specs.declared.meetings.Meeting.{Meeting}
 use Rattle.hot_pixels.specs.Meetings.{AreBack}
-use Rattle.hot_pixels.specs.Quiet.{ends_of, others_of}
+use Rattle.hot_pixels.specs.Marking.{ends_of, others_of}
 use Rattle.hot_pixels.proofs.InnerLemmas.{with_ends_are}
 use Rattle.hot_pixels.proofs.hot_set.looked_up.Goals as goal
 

@@ -14,7 +14,7 @@ returns-then-is_outside c = λ g t h.
     let bx = c.x-2.ensures.exact ∙ (λ i. (c.b-b.ensures i).x) in
     let lx = c.x-3.ensures.exact ∙ (λ i. (c.low-low.ensures.exact i).x) in
     let hx = c.x-4.ensures.exact ∙ (λ i. (c.high-high.ensures.exact i).x) in
-    beside_across c.args.s.now c.args.area g (sym (e ∙ (λ i. is_outside (ax i) (bx i) (lx i) (hx i))) ∙ c.if-is_outside.true) h
+    beside_across c.args.s.now c.args.rect g (sym (e ∙ (λ i. is_outside (ax i) (bx i) (lx i) (hx i))) ∙ c.if-is_outside.true) h
 
 pub returns : goal.returns
 returns c = λ g t h.
@@ -27,4 +27,4 @@ returns c = λ g t h.
     let by = c.y-2.ensures.exact ∙ (λ i. (c.b-b.ensures i).y) in
     let ly = c.y-3.ensures.exact ∙ (λ i. (c.low-low.ensures.exact i).y) in
     let hy = c.y-4.ensures.exact ∙ (λ i. (c.high-high.ensures.exact i).y) in
-    beside_upward c.args.s.now c.args.area g (sym (e ∙ (λ i. is_outside (ay i) (by i) (ly i) (hy i))) ∙ t) h
+    beside_upward c.args.s.now c.args.rect g (sym (e ∙ (λ i. is_outside (ay i) (by i) (ly i) (hy i))) ∙ t) h

@@ -9,7 +9,7 @@ use Rattle.line_ops.proofs.runs.clip_paths.Goals as goal
 
 pub returns-clause-there : goal.returns-clause-there
 returns-clause-there c = λ n h.
-    let test = is_inside c.args.f.now c.args.source.now in
+    let test = is_inside c.args.f.now c.args.cut_set.now in
     let P = λ (a : SignedArc). a.arc < n in
     IfOk-weaker c.runs_of_paths.result (λ (runs : List (List SignedArc)). runs ≡ flat_map (runs_where test) c.args.paths.now) (All (All P))
     (λ runs e. subst (λ (rs : List (List SignedArc)). All (All P) rs) (sym e) (all_runs P test c.args.paths.now h)) c.runs_of_paths.ensures.exact

@@ -7,7 +7,7 @@ use Rattle.line_ops.proofs.runs.push_runs.Goals as goal
 
 pub loop-a-preserved : goal.loop-a-preserved
 loop-a-preserved c =
-    let test = is_kept c.args.keeps c.args.f.now c.args.source.now in
+    let test = is_kept c.args.keeps c.args.f.now c.args.cut_set.now in
     let path = c.args.path.now in
     let i = c.loop-a.a-index in
     let a = c.a-item.result in

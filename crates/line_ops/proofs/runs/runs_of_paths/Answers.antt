@@ -7,7 +7,7 @@ use Rattle.line_ops.proofs.runs.runs_of_paths.Goals as goal
 
 pub loop-path-preserved : goal.loop-path-preserved
 loop-path-preserved c =
-    let test = is_kept c.args.keeps c.args.f.now c.args.source.now in
+    let test = is_kept c.args.keeps c.args.f.now c.args.cut_set.now in
     let i = c.loop-path.path-index in
     let path = c.path-item.result in
     let items = c.as_slice-path-items.ensures.all in

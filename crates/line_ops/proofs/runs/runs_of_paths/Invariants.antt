@@ -5,4 +5,4 @@ use Rattle.line_ops.specs.Runs.{runs_where}
 use Rattle.line_ops.proofs.runs.runs_of_paths.Given as goal
 
 abbrev pub invariant-loop-path : goal.invariant-loop-path
-invariant-loop-path l = l.runs ≡ flat_map (runs_where (is_kept l.keeps l.f l.source)) (take l.path-index l.paths)
+invariant-loop-path l = l.runs ≡ flat_map (runs_where (is_kept l.keeps l.f l.cut_set)) (take l.path-index l.paths)

@@ -3,7 +3,7 @@ use Rattle.std.specs.Vec.Iter.{into_iter_items}
 use Rattle.std.proofs.lemmas.List.{nil_from_length}
 use Rattle.run_beginning.specs.BegunLayers.{Left}
 use Rattle.run_plane.specs.declared.layer.Layer.{Layer}
-use Rattle.run_beginning.proofs.BegunLemmas.{Goes, behind_more, layers_end, layers_more}
+use Rattle.run_beginning.proofs.BegunLemmas.{Goes, left_after_more, layers_end, layers_more}
 use Rattle.run_beginning.proofs.beginning.begun_layers.Goals as goal
 
 pub loop-layer-preserved : goal.loop-layer-preserved
@@ -20,8 +20,8 @@ loop-layer-preserved c =
     let made = c.in_ok-begun_layer.field-0 in
     record {
       goes = subst (λ (begun : List Layer). Goes arcs start c.args.layers.items begun next rest) (sym c.in_ok-push.ensures.items)
-          (layers_more arcs start c.args.layers.items c.loop-layer.begun.items left next items rest layer made steps.0 c.loop-layer.invariant.goes c.in_ok-begun_layer.ensures.begun c.in_ok-begun_layer.ensures.behind);
-      left = behind_more c.args.layers.items items rest start left next layer steps.0 c.loop-layer.invariant.left c.in_ok-begun_layer.ensures.behind;
+          (layers_more arcs start c.args.layers.items c.loop-layer.begun.items left next items rest layer made steps.0 c.loop-layer.invariant.goes c.in_ok-begun_layer.ensures.begun c.in_ok-begun_layer.ensures.left_after);
+      left = left_after_more c.args.layers.items items rest start left next layer steps.0 c.loop-layer.invariant.left c.in_ok-begun_layer.ensures.left_after;
       faces = c.in_ok-begun_layer.ensures.count;
       layers = omega (arith, steps.1, ap length steps.0, c.loop-layer.invariant.layers);
     }

@@ -15,5 +15,5 @@ loop-number-preserved c =
     record {
       each = omega (arith, ap length c.in_ok-push.ensures.items, length-append c.loop-number.begun.items (shape.Paths paths ∷ []), c.loop-number.invariant.each);
       begun = subst (λ (begun : List Shape). AllZip (IsLineOf c.args.arcs.now (drop first lines)) (range_with_len 0 (n + 1)) begun) (sym c.in_ok-push.ensures.items)
-          (line_shapes_more c.args.arcs.now lines first n c.line_behind-there.result paths c.loop-number.begun.items c.loop-number.invariant.begun c.line_behind-there.ensures.exact c.in_ok-paths.ensures.along);
+          (line_shapes_more c.args.arcs.now lines first n c.line_after-there.result paths c.loop-number.begun.items c.loop-number.invariant.begun c.line_after-there.ensures.exact c.in_ok-paths.ensures.along);
     }

@@ -3,7 +3,7 @@ use Rattle.std.specs.Vec.Iter.{into_iter_items}
 use Rattle.std.proofs.lemmas.List.{nil_from_length}
 use Rattle.job_terms.specs.declared.job.Owner.{Owner}
 use Rattle.geojson_io.specs.LayerContent.{LayerContent}
-use Rattle.run_beginning.specs.BegunLayers.{AreBegun, Left, behind_all}
+use Rattle.run_beginning.specs.BegunLayers.{AreBegun, Left, left_after_all}
 use Rattle.run_sources.specs.declared.sources.ReadSource.{ReadSource}
 use Rattle.run_beginning.proofs.BegunLemmas.{sources_begin, sources_end, sources_go_on}
 use Rattle.run_beginning.proofs.beginning.begun_with.Goals as goal
@@ -27,11 +27,11 @@ loop-source-preserved c =
     let rest = into_iter_items c.next.new.self in
     let begun = c.in_ok-begun.begun.items in
     let is = subst (λ (given : List LayerContent). AreBegun arcs left given begun) c.into_vec.ensures.all c.in_ok-begun.ensures.begun in
-    let behind = c.in_ok-begun.ensures.behind ∙ ap (λ (given : List LayerContent). behind_all given left) c.into_vec.ensures.all in
+    let left_after = c.in_ok-begun.ensures.left_after ∙ ap (λ (given : List LayerContent). left_after_all given left) c.into_vec.ensures.all in
     record {
       go = sources_go_on arcs start (map owner_of c.args.sources.items) (map layers_of c.args.sources.items) ReadSource owner_of layers_of items rest source
           c.loop-source.layers.items c.hand_out.new.layers.items begun (map (λ own. own.items) c.loop-source.owned.items) (map (λ own. own.items) c.hand_out.new.owned.items) left next
-          steps.0 c.loop-source.invariant.go is behind c.in_ok-hand_out.ensures.layers c.in_ok-hand_out.ensures.owned;
+          steps.0 c.loop-source.invariant.go is left_after c.in_ok-hand_out.ensures.layers c.in_ok-hand_out.ensures.owned;
       faces = c.in_ok-begun.ensures.count;
       sources = omega (arith, steps.1, ap length steps.0, c.loop-source.invariant.sources);
     }

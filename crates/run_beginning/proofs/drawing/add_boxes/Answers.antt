@@ -5,12 +5,12 @@ use Rattle.run_beginning.specs.Drawing.{drawn_boxes}
 use Rattle.run_beginning.proofs.DrawingLemmas.{boxes_more}
 use Rattle.run_beginning.proofs.drawing.add_boxes.Goals as goal
 
-pub loop-area-init : goal.loop-area-init
-loop-area-init c = λ i. record c.args.drawing.now { boxes = sym (append-nil c.args.drawing.now.boxes) i }
+pub loop-rect-init : goal.loop-rect-init
+loop-rect-init c = λ i. record c.args.drawing.now { boxes = sym (append-nil c.args.drawing.now.boxes) i }
 
-pub loop-area-preserved : goal.loop-area-preserved
-loop-area-preserved c =
-    let area = c.area-item.result in
+pub loop-rect-preserved : goal.loop-rect-preserved
+loop-rect-preserved c =
+    let rect = c.rect-item.result in
     c.in_ok-add_box.ensures.ok
-    ∙ ap (λ (d : Drawing). record d { boxes = d.boxes ++ drawn_boxes (area ∷ []) }) c.loop-area.invariant
-    ∙ boxes_more c.args.drawing.now c.args.boxes.now c.loop-area.area-index area (omega arith) c.area-item.is
+    ∙ ap (λ (d : Drawing). record d { boxes = d.boxes ++ drawn_boxes (rect ∷ []) }) c.loop-rect.invariant
+    ∙ boxes_more c.args.drawing.now c.args.boxes.now c.loop-rect.rect-index rect (omega arith) c.rect-item.is

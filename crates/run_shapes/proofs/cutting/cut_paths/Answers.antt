@@ -12,12 +12,12 @@ erase_paths-requires c = let plane = c.args.plane.now in record { arcs = arcs_th
 
 pub returns-in-Inside : goal.returns-in-Inside
 returns-in-Inside c = record {
-  exact = subst (λ (k : CutKeeps). IfOk c.clip_paths.result (λ left. left ≡ cut_paths k c.args.plane.now c.args.area.now c.args.paths.now)) (sym c.in-Inside.is) c.clip_paths.ensures.exact;
+  exact = subst (λ (k : CutKeeps). IfOk c.clip_paths.result (λ left. left ≡ cut_paths k c.args.plane.now c.args.cut_set.now c.args.paths.now)) (sym c.in-Inside.is) c.clip_paths.ensures.exact;
   on = c.clip_paths.ensures.there (length c.args.plane.now.arcs) c.requires.on;
 }
 
 pub returns-in-Outside : goal.returns-in-Outside
 returns-in-Outside c = record {
-  exact = subst (λ (k : CutKeeps). IfOk c.erase_paths.result (λ left. left ≡ cut_paths k c.args.plane.now c.args.area.now c.args.paths.now)) (sym c.in-Outside.is) c.erase_paths.ensures.exact;
+  exact = subst (λ (k : CutKeeps). IfOk c.erase_paths.result (λ left. left ≡ cut_paths k c.args.plane.now c.args.cut_set.now c.args.paths.now)) (sym c.in-Outside.is) c.erase_paths.ensures.exact;
   on = c.erase_paths.ensures.there (length c.args.plane.now.arcs) c.requires.on;
 }

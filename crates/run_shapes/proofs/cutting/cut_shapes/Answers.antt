@@ -8,7 +8,7 @@ use Rattle.run_shapes.proofs.cutting.cut_shapes.Goals as goal
 
 pub loop-shape-preserved : goal.loop-shape-preserved
 loop-shape-preserved c =
-    let R = IsShapeLeft c.args.keeps c.args.plane.now c.args.area.now in
+    let R = IsShapeLeft c.args.keeps c.args.plane.now c.args.cut_set.now in
     let made = c.in_ok-cut_shape.field-0 in
     let old = c.loop-shape.left.items in
     record {

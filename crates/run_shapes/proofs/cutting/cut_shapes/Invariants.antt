@@ -6,7 +6,7 @@ use Rattle.run_shapes.proofs.cutting.cut_shapes.Given as goal
 
 abbrev pub invariant-loop-shape : goal.invariant-loop-shape
 invariant-loop-shape l = record {
-  exact : AllZip (IsShapeLeft l.keeps l.plane l.area) (take l.shape-index l.shapes) l.left.items;
+  exact : AllZip (IsShapeLeft l.keeps l.plane l.cut_set) (take l.shape-index l.shapes) l.left.items;
   on : AreOn l.plane l.left.items;
   count : length l.left.items ≡ l.shape-index;
 }

@@ -10,7 +10,7 @@ pub returns-in-Polygon-clause-on : goal.returns-in-Polygon-clause-on
 returns-in-Polygon-clause-on c =
     let plane = c.args.plane.now in
     let keeps = c.args.keeps in
-    let area = c.args.area.now in
+    let cut_set = c.args.cut_set.now in
     let shapes = c.deref.result.now in
-    IfOk-weaker c.cut_polygons.result (λ left. left.items ≡ face_shapes (map (cut_faces keeps area) (sets_in shapes))) (λ left. AreOn plane left.items)
-    (λ left e. subst (AreOn plane) (sym e) (cuts_on plane keeps area shapes (subst (AreOn plane) (sym c.deref.ensures.value) c.requires.on))) c.cut_polygons.ensures.exact
+    IfOk-weaker c.cut_polygons.result (λ left. left.items ≡ face_shapes (map (cut_faces keeps cut_set) (sets_in shapes))) (λ left. AreOn plane left.items)
+    (λ left e. subst (AreOn plane) (sym e) (cuts_on plane keeps cut_set shapes (subst (AreOn plane) (sym c.deref.ensures.value) c.requires.on))) c.cut_polygons.ensures.exact

@@ -3,7 +3,7 @@ use Rattle.run_plane.proofs.Growth.{if_ok_on}
 use Rattle.run_state.specs.Origins.{base_of}
 use Rattle.run_state.specs.Stops.{StopsAs}
 use Rattle.run_state.specs.declared.refusal.RefuseWhy.{RefuseWhy}
-use Rattle.run_state.specs.declared.state.Held.{Held}
+use Rattle.run_state.specs.declared.state.HeldLayer.{HeldLayer}
 use Rattle.run_state.proofs.Stops.{if_err_on}
 use Rattle.run_steps.specs.Refusals.{FailsEach, RefusesEach, unfit_each}
 use Rattle.run_steps.proofs.Refusals.{stops_behind}
@@ -11,19 +11,19 @@ use Rattle.run_steps.proofs.commands.changed_each.Goals as goal
 
 pub returns-in-Ok-clause-accepted : goal.returns-in-Ok-clause-accepted
 returns-in-Ok-clause-accepted c =
-    let base = base_of c.args.ground.now in
+    let base = base_of c.args.base.now in
     let layers = c.args.state.layers.items in
     let command = c.args.command.now in
     let action = c.args.action.now in
-    let fit : unfit_each base layers command action ≡ None = subst (λ (seen : List Held). unfit_each base seen command action ≡ None) c.deref.ensures.value (sym c.in-Ok.ensures.exact) in
+    let fit : unfit_each base layers command action ≡ None = subst (λ (seen : List HeldLayer). unfit_each base seen command action ≡ None) c.deref.ensures.value (sym c.in-Ok.ensures.exact) in
     if_ok_on (λ after. FailsEach base layers command action None) (λ after. RefusesEach base layers command action None) c.each_changed.result (λ after h. (fit, h)) c.each_changed.ensures.accepted
 
 pub returns-in-Ok-clause-stops : goal.returns-in-Ok-clause-stops
 returns-in-Ok-clause-stops c =
-    let base = base_of c.args.ground.now in
+    let base = base_of c.args.base.now in
     let layers = c.args.state.layers.items in
     let command = c.args.command.now in
     let action = c.args.action.now in
-    let fit : unfit_each base layers command action ≡ None = subst (λ (seen : List Held). unfit_each base seen command action ≡ None) c.deref.ensures.value (sym c.in-Ok.ensures.exact) in
+    let fit : unfit_each base layers command action ≡ None = subst (λ (seen : List HeldLayer). unfit_each base seen command action ≡ None) c.deref.ensures.value (sym c.in-Ok.ensures.exact) in
     if_err_on (StopsAs (FailsEach base layers command action)) (StopsAs (RefusesEach base layers command action)) c.each_changed.result
     (λ stop h. stops_behind (λ (told : Option RefuseWhy). unfit_each base layers command action ≡ told) (FailsEach base layers command action) stop fit h) c.each_changed.ensures.stops

@@ -12,7 +12,7 @@ use Rattle.run_steps.proofs.commands.each_changed.Goals as goal
 
 pub returns-clause-accepted : goal.returns-clause-accepted
 returns-clause-accepted c =
-    let base = base_of c.args.ground.now in
+    let base = base_of c.args.base.now in
     let layers = c.args.state.layers.items in
     let command = c.args.command.now in
     let outputs = map (λ out. out.items) c.in_ok-outputs.outputs.items in
@@ -21,7 +21,7 @@ returns-clause-accepted c =
 
 pub returns-clause-stops : goal.returns-clause-stops
 returns-clause-stops c =
-    let base = base_of c.args.ground.now in
+    let base = base_of c.args.base.now in
     let layers = c.args.state.layers.items in
     let command = c.args.command.now in
     let outputs = map (λ out. out.items) c.in_ok-outputs.outputs.items in
@@ -30,12 +30,12 @@ returns-clause-stops c =
 
 pub returns-in_err-outputs-clause-stops : goal.returns-in_err-outputs-clause-stops
 returns-in_err-outputs-clause-stops c =
-    let stops = each_stopped (base_of c.args.ground.now) c.args.state.layers.items _ c.args.command.now c.args.action.now c.in_err-outputs.field-0.0 c.deref.ensures.value c.in_err-outputs.ensures.stops in
+    let stops = each_stopped (base_of c.args.base.now) c.args.state.layers.items _ c.args.command.now c.args.action.now c.in_err-outputs.field-0.0 c.deref.ensures.value c.in_err-outputs.ensures.stops in
     search rules
 
 pub returns-clause-on : goal.returns-clause-on
 returns-clause-on c =
-    let plane = c.args.ground.now.plane.now in
+    let plane = c.args.base.now.plane.now in
     let layers = c.args.state.layers.items in
     let command = c.args.command.now in
     let outputs = map (λ out. out.items) c.in_ok-outputs.outputs.items in

@@ -16,7 +16,7 @@ returns-clause-accepted c =
     let command = c.args.command.now in
     let outputs = map (λ out. out.items) c.in_ok-outputs.outputs.items in
     if_ok_on (λ after. refused_count (length (placed command layers outputs)) ≡ None) (λ after. failed_together layers command c.args.action.now ≡ None) c.put_out.result
-    (λ after few. together_goes (base_of c.args.ground.now) layers _ command outputs c.deref.ensures.value c.args.action.now c.in_ok-outputs.ensures.puts c.in_ok-outputs.ensures.accepted few) c.put_out.ensures.accepted
+    (λ after few. together_goes (base_of c.args.base.now) layers _ command outputs c.deref.ensures.value c.args.action.now c.in_ok-outputs.ensures.puts c.in_ok-outputs.ensures.accepted few) c.put_out.ensures.accepted
 
 pub returns-clause-stops : goal.returns-clause-stops
 returns-clause-stops c =
@@ -24,11 +24,11 @@ returns-clause-stops c =
     let command = c.args.command.now in
     let outputs = map (λ out. out.items) c.in_ok-outputs.outputs.items in
     if_err_on (StopsFor (refused_count (length (placed command layers outputs)))) (StopsFor (failed_together layers command c.args.action.now)) c.put_out.result
-    (λ stop h. together_stops (base_of c.args.ground.now) layers _ command outputs c.deref.ensures.value c.args.action.now stop c.in_ok-outputs.ensures.puts c.in_ok-outputs.ensures.accepted h) c.put_out.ensures.stops
+    (λ stop h. together_stops (base_of c.args.base.now) layers _ command outputs c.deref.ensures.value c.args.action.now stop c.in_ok-outputs.ensures.puts c.in_ok-outputs.ensures.accepted h) c.put_out.ensures.stops
 
 pub returns-clause-on : goal.returns-clause-on
 returns-clause-on c =
-    let plane = c.args.ground.now.plane.now in
+    let plane = c.args.base.now.plane.now in
     let layers = c.args.state.layers.items in
     let command = c.args.command.now in
     let outputs = map (λ out. out.items) c.in_ok-outputs.outputs.items in

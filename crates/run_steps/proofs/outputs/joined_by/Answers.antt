@@ -12,7 +12,7 @@ returns-in_ok-joined-in-Ok-clause-joins c =
     let layer : Layer = c.args.layer.now in
     let source : Layer = c.in-Ok.source.now in
     let made : Layer = c.in_ok-joined-in-Ok.field-0 in
-    if_ok_on (λ outputs. outputs.items ≡ made ∷ []) (λ outputs. Joins (base_of c.args.ground.now) c.args.layers.now c.args.from.now c.args.spec.now layer outputs.items) c.one.result
+    if_ok_on (λ outputs. outputs.items ≡ made ∷ []) (λ outputs. Joins (base_of c.args.base.now) c.args.layers.now c.args.from.now c.args.spec.now layer outputs.items) c.one.result
     (λ outputs e. record {
       source = source;
       found = c.in-Ok.ensures.ok;

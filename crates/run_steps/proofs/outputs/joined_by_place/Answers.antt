@@ -14,7 +14,7 @@ use Rattle.run_steps.proofs.outputs.joined_by_place.Goals as goal
 
 pub returns-in-Ok-clause-joins : goal.returns-in-Ok-clause-joins
 returns-in-Ok-clause-joins c =
-    let base = base_of c.args.ground.now in
+    let base = base_of c.args.base.now in
     let source : Layer = c.in-Ok.source.now in
     let layer : Layer = c.args.layer.now in
     let spec = c.args.spec.now in
@@ -24,7 +24,7 @@ returns-in-Ok-clause-joins c =
 
 pub returns-in-Ok-clause-accepted : goal.returns-in-Ok-clause-accepted
 returns-in-Ok-clause-accepted c =
-    let base = base_of c.args.ground.now in
+    let base = base_of c.args.base.now in
     let source : Layer = c.in-Ok.source.now in
     let layer : Layer = c.args.layer.now in
     let spec = c.args.spec.now in
@@ -34,7 +34,7 @@ returns-in-Ok-clause-accepted c =
 
 pub returns-in-Ok-clause-stops : goal.returns-in-Ok-clause-stops
 returns-in-Ok-clause-stops c =
-    let base = base_of c.args.ground.now in
+    let base = base_of c.args.base.now in
     let source : Layer = c.in-Ok.source.now in
     let layer : Layer = c.args.layer.now in
     let spec = c.args.spec.now in

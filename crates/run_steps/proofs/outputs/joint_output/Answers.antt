@@ -20,7 +20,7 @@ returns-clause-puts c =
 
 pub returns-clause-on : goal.returns-clause-on
 returns-clause-on c =
-    let plane = c.args.ground.now.plane.now in
+    let plane = c.args.base.now.plane.now in
     let made : Layer = c.in_ok-layer.layer in
     let named : Layer = c.in_ok-layer-2.layer in
     subst (AreAllOn plane) (sym c.in_ok-at_first.ensures.placed)

@@ -8,7 +8,7 @@ use Rattle.run_steps.proofs.outputs.made_together.Goals as goal
 
 pub returns-in-MergeLayers-clause-on : goal.returns-in-MergeLayers-clause-on
 returns-in-MergeLayers-clause-on c =
-    let plane = c.args.ground.now.plane.now in
+    let plane = c.args.base.now.plane.now in
     let layers = targets c.args.target.now c.args.layers.now in
     let force = c.in-MergeLayers.force in
     IfOk-weaker c.merged.result (IsMerged force layers) (IsLayerOn plane) (merged_on plane force layers (all_targets_on plane c.args.target.now c.args.layers.now c.requires.on)) c.merged.ensures.made

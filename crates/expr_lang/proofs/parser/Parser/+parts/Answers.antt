@@ -1,10 +1,10 @@
 use Rattle.std.proofs.Common.{◌≡◌, ◌+◌, ◌-◌, suc, ap, ◌∙◌, sym, subst, arith, option_map}
 use Rattle.expr_lang.specs.Tree.{node_tree}
-use Rattle.expr_lang.specs.Reading.{Quiet}
+use Rattle.expr_lang.specs.Reading.{EndsLevel}
 use Rattle.expr_lang.proofs.Parts.{at_exit, at_misfit_as, next_is, seen_as}
 use Rattle.expr_lang.proofs.Operands.{no_operand, leaf_passes, begins_no_operand, this_part, enclosed_passes, inside_breaks, open_deep, unclosed, sign_passes, sign_breaks, sign_deep, unsigned}
 use Rattle.expr_lang.proofs.Levels.{lowest_part, single_passes, single_breaks, joined_passes, joined_breaks}
-use Rattle.expr_lang.proofs.Choices.{simple_passes, simple_breaks, quiet_past, choice_passes, question_deep, yes_breaks, no_colon, no_breaks}
+use Rattle.expr_lang.proofs.Choices.{simple_passes, simple_breaks, ended_past, choice_passes, question_deep, yes_breaks, no_colon, no_breaks}
 use Rattle.expr_lang.proofs.parser.Parser.+parts.Goals as goal
 
 pub atom-returns-in_default : goal.atom-returns-in_default
@@ -21,7 +21,7 @@ pub cond-returns-in_default-clause-part : goal.cond-returns-in_default-clause-pa
 cond-returns-in_default-clause-part t c = simple_passes c.args.depth _ _ _ c.in_ok-condition.ensures.part
 
 pub cond-returns-in_default-clause-ends : goal.cond-returns-in_default-clause-ends
-cond-returns-in_default-clause-ends t c = quiet_past _ c.in_ok-condition.ensures.ends c.in_default.ensures
+cond-returns-in_default-clause-ends t c = ended_past _ c.in_ok-condition.ensures.ends c.in_default.ensures
 
 pub cond-returns-then-depth-eq0-clause-part : goal.cond-returns-then-depth-eq0-clause-part
 cond-returns-then-depth-eq0-clause-part t c = question_deep c.args.depth c.in-Some.at _ _ _ c.in-Some.ensures.0 c.if-depth-eq0.true c.in_ok-condition.ensures.part c.in-Some.ensures.1
@@ -62,7 +62,7 @@ level-returns-in_err-left-clause-part t c =
 pub level-loop-at-init : goal.level-loop-at-init
 level-loop-at-init t c =
     let up : suc (c.args.level - 1) ≡ c.args.level = omega arith in
-    record { so_far = single_passes (c.args.level - 1) c.args.level c.args.depth _ _ _ up c.in_ok-left.ensures.part; quiet = c.in_ok-left.ensures.ends }
+    record { so_far = single_passes (c.args.level - 1) c.args.level c.args.depth _ _ _ up c.in_ok-left.ensures.part; ended = c.in_ok-left.ensures.ends }
 
 pub level-returns-in_err-right-clause-part : goal.level-returns-in_err-right-clause-part
 level-returns-in_err-right-clause-part t c =
@@ -77,13 +77,13 @@ level-loop-at-preserved t c =
     let o = c.in-Some.ensures in
     record {
       so_far = joined_passes (c.args.level - 1) c.args.level c.args.depth c.in-Some.at c.in-Some.operator _ _ _ _ _ _ _ up c.loop-at.invariant.so_far o.0 o.1 c.in_ok-right.ensures.part c.in_ok-left-2.ensures;
-      quiet = c.in_ok-right.ensures.ends;
+      ended = c.in_ok-right.ensures.ends;
     }
 
 pub level-returns-clause-ends : goal.level-returns-clause-ends
 level-returns-clause-ends t c =
     let up : c.args.level ≡ (c.args.level - 1) + 1 = omega arith in
-    subst (Quiet c.args.level) (sym c.in_default.ensures.0) (c.in_default.ensures.1 (c.args.level - 1) up c.loop-at.invariant.quiet)
+    subst (EndsLevel c.args.level) (sym c.in_default.ensures.0) (c.in_default.ensures.1 (c.args.level - 1) up c.loop-at.invariant.ended)
 
 pub unary-returns-in_default : goal.unary-returns-in_default
 unary-returns-in_default t c = unsigned c.args.depth c.atom.result _ _ c.atom.ensures

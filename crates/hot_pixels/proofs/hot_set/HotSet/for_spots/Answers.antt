@@ -41,6 +41,6 @@ over-requires-clause-searchable c =
     let is : c.in_ok-points.points.items ≡ ascending is_before made = c.in_ok-points.ensures.exact ∙ ap (ascending is_before) c.deref-5.ensures.value in
     record {
       up = subst (λ (xs : List GridPoint). AllPairs (λ p q. IsTrue (is_before p q)) xs) (sym is) (ascending_pairs made);
-      moved = subst (λ (xs : List GridPoint). IsPermutation c.in_ok-points.points.items xs) (sym (c.in_ok-mixed.ensures ∙ c.deref-8.ensures.value)) (IsPermutation-refl c.in_ok-points.points.items);
+      moved = subst (λ (xs : List GridPoint). IsPermutation c.in_ok-points.points.items xs) (sym (c.in_ok-curved.ensures ∙ c.deref-8.ensures.value)) (IsPermutation-refl c.in_ok-points.points.items);
       held = λ k d l. absurd (let e = ap length c.new.ensures.items in omega arith);
     }

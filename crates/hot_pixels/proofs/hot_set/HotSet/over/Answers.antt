@@ -3,7 +3,7 @@ use Rattle.std.specs.Prelude.{All}
 use Rattle.std.specs.List.Sorted.{IsPermutation}
 use Rattle.plane_model.specs.Points.{GridPoint}
 use Rattle.hot_pixels.specs.Near.{HoldsRun}
-use Rattle.hot_pixels.proofs.QuietLemmas.{marks_moved}
+use Rattle.hot_pixels.proofs.MarkingLemmas.{marks_moved}
 use Rattle.hot_pixels.proofs.hot_set.HotSet.over.Goals as goal
 
 pub invariant_of-result : goal.invariant_of-result

@@ -1,5 +1,0 @@
-use Rattle.hot_pixels.specs.Near.{HoldsBetween}
-use Rattle.hot_pixels.proofs.near.area_over.Given as goal
-
-abbrev pub invariant-loop-k : goal.invariant-loop-k
-invariant-loop-k l = HoldsBetween l.area l.points l.start l.k

@@ -1,6 +1,0 @@
-use Rattle.std.proofs.Common.{◌≡◌, length}
-use Rattle.hot_pixels.specs.Quiet.{AreCrowdsMarked}
-use Rattle.hot_pixels.proofs.quiet.mark_crowds.Given as goal
-
-abbrev pub invariant-loop-place : goal.invariant-loop-place
-invariant-loop-place l = (length l.marks.items ≡ length l.spots) × AreCrowdsMarked l.place l.buckets.near l.marks.items

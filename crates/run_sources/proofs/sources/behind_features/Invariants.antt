@@ -1,6 +1,0 @@
-use Rattle.std.proofs.Common.{◌≡◌, ◌-◌, take, sum_by}
-use Rattle.run_sources.specs.Budget.{feature_count}
-use Rattle.run_sources.proofs.sources.behind_features.Given as goal
-
-abbrev pub invariant-loop-layer : goal.invariant-loop-layer
-invariant-loop-layer l = l.left ≡ l.room - sum_by feature_count (take l.layer-index l.layers)
