@@ -4,7 +4,7 @@ ghost use Rattle.std.specs.Option.{option_copied};
 use crate::expr::Expr;
 use std::alloc::{AllocError, Global};
 use std::marker::Model;
-use text_core::Text;
+use text_core::{Text, push_item};
 
 /// A field, and the expression whose value it is set to.
 #[derive(Drop)]
@@ -47,11 +47,7 @@ impl AssignList {
         ensures ok { OnOk result (self.new ≡ self.old ++ item ∷ []) }
         ensures err { OnErr result (self.new ≡ self.old) }
     {
-        if self.items.len() >= u32::MAX as usize {
-            return Err(AllocError);
-        }
-        self.items.push(item)?;
-        Ok(())
+        push_item(&mut self.items, item)
     }
 
     pub fn len(&self) -> u32

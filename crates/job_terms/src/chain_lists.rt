@@ -4,6 +4,7 @@ ghost use Rattle.std.specs.Option.{option_copied};
 use crate::job::{Command, SourceWord};
 use std::alloc::{AllocError, Global};
 use std::marker::Model;
+use text_core::push_item;
 
 /// The sources of a chain, in the order in which they are read.
 #[derive(Drop)]
@@ -35,11 +36,7 @@ impl SourceList {
         ensures ok { OnOk result (self.new ≡ self.old ++ item ∷ []) }
         ensures err { OnErr result (self.new ≡ self.old) }
     {
-        if self.items.len() >= u32::MAX as usize {
-            return Err(AllocError);
-        }
-        self.items.push(item)?;
-        Ok(())
+        push_item(&mut self.items, item)
     }
 
     pub fn len(&self) -> u32
@@ -96,11 +93,7 @@ impl CommandList {
         ensures ok { OnOk result (self.new ≡ self.old ++ item ∷ []) }
         ensures err { OnErr result (self.new ≡ self.old) }
     {
-        if self.items.len() >= u32::MAX as usize {
-            return Err(AllocError);
-        }
-        self.items.push(item)?;
-        Ok(())
+        push_item(&mut self.items, item)
     }
 
     pub fn len(&self) -> u32

@@ -4,7 +4,7 @@ ghost use Rattle.std.specs.Option.{option_copied};
 use expr_lang::Expr;
 use std::alloc::{AllocError, Global};
 use std::marker::Model;
-use text_core::{NameList, Text};
+use text_core::{NameList, Text, push_item};
 
 /// A new column, of the source rows that match a row of the target.
 #[derive(Drop)]
@@ -45,11 +45,7 @@ impl CalcList {
         ensures ok { OnOk result (self.new ≡ self.old ++ item ∷ []) }
         ensures err { OnErr result (self.new ≡ self.old) }
     {
-        if self.items.len() >= u32::MAX as usize {
-            return Err(AllocError);
-        }
-        self.items.push(item)?;
-        Ok(())
+        push_item(&mut self.items, item)
     }
 
     pub fn len(&self) -> u32

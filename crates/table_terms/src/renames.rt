@@ -3,7 +3,7 @@ ghost use Rattle.std.specs.Option.{option_copied};
 
 use std::alloc::{AllocError, Global};
 use std::marker::Model;
-use text_core::Text;
+use text_core::{Text, push_item};
 
 /// A new name, `label`, for the column that has been called `field`.
 #[derive(Drop)]
@@ -42,11 +42,7 @@ impl RenameList {
         ensures ok { OnOk result (self.new ≡ self.old ++ item ∷ []) }
         ensures err { OnErr result (self.new ≡ self.old) }
     {
-        if self.items.len() >= u32::MAX as usize {
-            return Err(AllocError);
-        }
-        self.items.push(item)?;
-        Ok(())
+        push_item(&mut self.items, item)
     }
 
     pub fn len(&self) -> u32

@@ -31,8 +31,7 @@ impl Bytes {
         ensures ok { OnOk result (self.new ≡ self.old ++ item ∷ []) }
         ensures err { OnErr result (self.new ≡ self.old) }
     {
-        self.items.push(item)?;
-        Ok(())
+        Ok(self.items.push(item)?)
     }
 
     /// Appends all of `piece`.
@@ -40,16 +39,14 @@ impl Bytes {
         ensures ok { OnOk result (self.new ≡ self.old ++ piece.now) }
         ensures err { OnErr result (self.new ≡ self.old) }
     {
-        self.items.extend_from_slice(piece)?;
-        Ok(())
+        self.items.extend_from_slice(piece)
     }
 
     /// Makes room for `more` bytes, so that appending them moves nothing.
     pub fn reserve(&mut self, more: usize) -> Result<(), AllocError>
         ensures kept { self.new ≡ self.old }
     {
-        self.items.reserve(more)?;
-        Ok(())
+        self.items.reserve(more)
     }
 
     pub fn len(&self) -> u64

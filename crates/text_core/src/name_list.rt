@@ -1,6 +1,7 @@
 ghost use Rattle.std.specs.Prelude.{◌≡◌, ◌++◌, ◌∷◌, [], OnOk, OnErr, length, slice_get};
 ghost use Rattle.std.specs.Option.{option_copied};
 
+use crate::items::push_item;
 use crate::text::Text;
 use std::alloc::{AllocError, Global};
 use std::marker::Model;
@@ -37,11 +38,7 @@ impl NameList {
         ensures ok { OnOk result (self.new ≡ self.old ++ item ∷ []) }
         ensures err { OnErr result (self.new ≡ self.old) }
     {
-        if self.items.len() >= u32::MAX as usize {
-            return Err(AllocError);
-        }
-        self.items.push(item)?;
-        Ok(())
+        push_item(&mut self.items, item)
     }
 
     pub fn len(&self) -> u32
