@@ -10,7 +10,6 @@ pub struct Expr {
 
 /// A part of an expression. The number that comes first is the place of its operator or name: of that
 /// byte of the text, counted from 0.
-#[derive(Drop)]
 pub enum Node {
     Constant(Value),
     /// A name, or `this.properties["name"]`, whose place is that of `this`.
@@ -20,4 +19,18 @@ pub enum Node {
     Unary(u32, Sign, Box<Node>),
     Binary(u32, Operator, Box<Node>, Box<Node>),
     Choice(u32, Box<Node>, Box<Node>, Box<Node>),
+}
+
+// One call, wherever a function lets go of a part, in the place of a look at each variant.
+impl Drop for Node {
+    fn drop(self) {
+        match self {
+            Node::Constant(_)
+            | Node::Column(_, _)
+            | Node::FeatureNumber
+            | Node::Unary(_, _, _)
+            | Node::Binary(_, _, _, _)
+            | Node::Choice(_, _, _, _) => {}
+        }
+    }
 }
