@@ -5,7 +5,7 @@
 //! `a = 1; b = a + 1`. `eval` gives the value of an expression for a row, `eval_values` for a row that is
 //! still being made.
 //!
-//! 1. `scanner` cuts the text into tokens, the longest that fit.
+//! 1. `scanner` cuts the text into tokens, the longest that fit, and says which words and bytes make names.
 //! 2. `parser` builds the tree by recursive descent, a function for each rule and one for all levels of
 //!    operators.
 //! 3. `evaluation` walks the tree; `operators` has what each operator does to values.
@@ -28,4 +28,5 @@ pub use evaluation::{eval, eval_values};
 pub use expr::{Expr, Node};
 pub use fault::{EvalFault, ExprFault};
 pub use parser::Misfit;
+pub use scanner::{is_name_start, is_other_word};
 pub use token::{Mark, Operator, Sign, Symbol, Token};

@@ -265,8 +265,9 @@ fn is_quote(b: u8) -> bool
     b == b'"' || b == b'\''
 }
 
-fn is_name_start(b: u8) -> bool
-    ensures { result ≡ starts_name b }
+/// Whether a name may begin with this byte.
+pub fn is_name_start(b: u8) -> bool
+    ensures exact { result ≡ starts_name b }
 {
     (b >= b'A' && b <= b'Z') || (b >= b'a' && b <= b'z') || b == b'_' || b == b'$'
 }
@@ -325,8 +326,9 @@ fn is(word: &str, letters: &str) -> bool
     word == letters
 }
 
-fn is_other_word(word: &str) -> bool
-    ensures { result ≡ is_left_out word.now }
+/// Whether a word is one of JavaScript that expressions leave out.
+pub fn is_other_word(word: &str) -> bool
+    ensures exact { result ≡ is_left_out word.now }
 {
     is(word, "typeof")
         || is(word, "new")
