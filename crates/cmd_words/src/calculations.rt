@@ -1,12 +1,13 @@
 ghost use Rattle.std.specs.Prelude.{◌≡◌, List, ℕ, option_map};
 ghost use Rattle.std.specs.List.{list_all};
-ghost use Rattle.expr_lang.specs.Tokens.{is_name_start as starts_name, is_name_byte as stands_in_name, is_other_word as is_left_out};
+ghost use Rattle.expr_lang.specs.Tokens.{is_name_byte as stands_in_name};
 ghost use Rattle.cmd_words.specs.Calculations.{is_reserved, is_name, behind_white, trimmed, enclosed, call_of, calculated, or_refused, calculation_of, calculations_of};
 ghost use Rattle.cmd_words.specs.Seen.{parts_seen};
 ghost use Rattle.cmd_words.specs.Steps.{Gives};
 
 use crate::fault::{Refusal, WordWhy};
 use crate::texts::pieces;
+use expr_lang::{is_name_start, is_other_word};
 use join_terms::{Calc, CalcList};
 use std::alloc::Global;
 use text_core::Text;
@@ -109,12 +110,6 @@ fn is_name(text: &str) -> bool
     }
 }
 
-fn is_name_start(byte: u8) -> bool
-    ensures exact { result ≡ starts_name byte }
-{
-    byte.is_ascii_alphabetic() || byte == b'_' || byte == b'$'
-}
-
 fn are_name_bytes(text: &[u8]) -> bool
     ensures exact { result ≡ list_all stands_in_name text.now }
 {
@@ -130,21 +125,4 @@ fn is_reserved(word: &str) -> bool
     ensures exact { result ≡ is_reserved word.now }
 {
     word == "true" || word == "false" || word == "null" || word == "this" || is_other_word(word)
-}
-
-// Whether a word is one of JavaScript that expressions leave out.
-fn is_other_word(word: &str) -> bool
-    ensures exact { result ≡ is_left_out word.now }
-{
-    word == "typeof"
-        || word == "new"
-        || word == "function"
-        || word == "in"
-        || word == "instanceof"
-        || word == "var"
-        || word == "let"
-        || word == "const"
-        || word == "delete"
-        || word == "void"
-        || word == "return"
 }
