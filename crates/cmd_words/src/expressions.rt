@@ -35,14 +35,12 @@ impl Expression {
         ensures ok { IfOk result (λ e. e ≡ text.now) }
         ensures exact { (refuses : Refusals) → AreRefusals refuses → MatchResult result (λ _. refuses expression text.now ≡ None) (IsRefusedFor (refuses expression text.now)) }
     {
+        let copy = Text::of(alloc, text)?;
         let tree = match Expr::parse(alloc, text) {
             Ok(tree) => tree,
             Err(fault) => return Err(refusal_of(fault)),
         };
-        Ok(Expression {
-            text: Text::of(alloc, text)?,
-            tree,
-        })
+        Ok(Expression { text: copy, tree })
     }
 
     pub(crate) fn into_tree(self) -> Expr
@@ -78,12 +76,13 @@ impl Assignments {
         ensures ok { IfOk result (λ a. a ≡ text.now) }
         ensures exact { (refuses : Refusals) → AreRefusals refuses → MatchResult result (λ _. refuses assignments text.now ≡ None) (IsRefusedFor (refuses assignments text.now)) }
     {
+        let copy = Text::of(alloc, text)?;
         let assigns = match Expr::parse_each(alloc, text) {
             Ok(assigns) => assigns,
             Err(fault) => return Err(refusal_of(fault)),
         };
         Ok(Assignments {
-            text: Text::of(alloc, text)?,
+            text: copy,
             assigns,
         })
     }
