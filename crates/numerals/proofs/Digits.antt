@@ -54,7 +54,7 @@ pub trim_step : (i j n : ℕ) → i ≡ j + 1 → n % 10 ≡ 0 → trimmed_digit
 trim_step i j n e z = ap (λ (k : ℕ). trimmed_digits k n) (e ∙ add-one j) ∙ trimmed_digits-zero j n z
 
 -- many zeros at the end fall away at once
-trim_many : (k j n : ℕ) → n % 10 ^ k ≡ 0 → trimmed_digits (j + k) n ≡ trimmed_digits j (n / 10 ^ k)
+pub trim_many : (k j n : ℕ) → n % 10 ^ k ≡ 0 → trimmed_digits (j + k) n ≡ trimmed_digits j (n / 10 ^ k)
 trim_many zero j n e =
     let none : j + 0 ≡ j = omega arith in
     ap (λ (i : ℕ). trimmed_digits i n) none ∙ ap (λ (m : ℕ). trimmed_digits j m) (sym (div-one n))
