@@ -19,7 +19,7 @@ digit_small b e = grind (arith, nat_tests)
 pub pow_ten : (k : ℕ) → 10 ^ suc k ≡ 10 ^ k * 10
 pow_ten k = pow-suc 10 k
 
--- a number of so many digits, and of one more
+-- a number of this many digits, and of one more
 pub word_size : (k n : ℕ) → n < 10 ^ k → k < 19 → n < 10 ^ 18
 word_size k n l h =
     let few : k ≤ 18 = omega arith in
