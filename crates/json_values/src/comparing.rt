@@ -10,14 +10,13 @@ impl Json {
     pub(crate) fn same(&self, o: &Json) -> bool
         ensures { result ≡ same_json (json_value self.now) (json_value o.now) }
     {
-        match (self, o) {
-            (Json::Null, Json::Null) => true,
-            (Json::Bool(a), Json::Bool(b)) => *a == *b,
-            (Json::Num(a), Json::Num(b)) => a.as_str() == b.as_str(),
-            (Json::Text(a), Json::Text(b)) => a.as_str() == b.as_str(),
-            (Json::List(a), Json::List(b)) => a.same(b),
-            (Json::Object(a), Json::Object(b)) => a.same(b),
-            _ => false,
+        match self {
+            Json::Null => matches!(o, Json::Null),
+            Json::Bool(a) => matches!(o, Json::Bool(b) if *a == *b),
+            Json::Num(a) => matches!(o, Json::Num(b) if a.as_str() == b.as_str()),
+            Json::Text(a) => matches!(o, Json::Text(b) if a.as_str() == b.as_str()),
+            Json::List(a) => matches!(o, Json::List(b) if a.same(b)),
+            Json::Object(a) => matches!(o, Json::Object(b) if a.same(b)),
         }
     }
 }
