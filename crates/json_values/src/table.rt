@@ -175,13 +175,22 @@ impl Table {
         ensures exact { IfOk result (λ t. t ≡ table_of rows) }
     {
         let names = all_names(alloc, rows.as_slice())?;
-        let mut table_rows = RowList::new(alloc);
-        for fields in rows.into_vec() {
-            table_rows.push(row_of(alloc, &names, fields)?)?;
-        }
+        Table::with_columns(alloc, &names, rows)
+    }
+
+    // A column for each of these names.
+    fn with_columns(
+        alloc: Global,
+        names: &IndexSet<String>,
+        rows: FieldsList,
+    ) -> Result<Table, AllocError>
+        requires { IsUnique string_eq names.now }
+        ensures names { IfOk result (λ t. t.names ≡ map string_bytes names.now.keys) }
+        ensures rows { IfOk result (λ t. t.rows ≡ map (values_of (map string_bytes names.now.keys)) rows) }
+    {
         Ok(Table {
+            rows: rows_of(alloc, names, rows)?,
             names: name_list(alloc, names.as_slice())?,
-            rows: table_rows,
         })
     }
 
@@ -274,6 +283,22 @@ pub(crate) fn add_name(
         Ok(_) => Ok(()),
         Err(_) => Err(AllocError),
     }
+}
+
+// A row of the values of these names for each of the fields.
+fn rows_of(
+    alloc: Global,
+    names: &IndexSet<String>,
+    fields_list: FieldsList,
+) -> Result<RowList, AllocError>
+    requires { IsUnique string_eq names.now }
+    ensures { IfOk result (λ rows. rows ≡ map (values_of (map string_bytes names.now.keys)) fields_list) }
+{
+    let mut rows = RowList::new(alloc);
+    for fields in fields_list.into_vec() {
+        rows.push(row_of(alloc, names, fields)?)?;
+    }
+    Ok(rows)
 }
 
 // The values of these names; one that is missing is Null.

@@ -1,7 +1,7 @@
 use Rattle.std.proofs.Common.{◌≡◌, map}
 use Rattle.std.specs.String.{string_bytes}
 use Rattle.json_values.specs.Table.{row_of}
-use Rattle.json_values.proofs.table.Table.from_fields.Given as goal
+use Rattle.json_values.proofs.table.rows_of.Given as goal
 
 abbrev pub invariant-loop-fields : goal.invariant-loop-fields
-invariant-loop-fields l = l.table_rows ≡ map (row_of (map string_bytes l.names.keys)) l.yielded
+invariant-loop-fields l = l.rows ≡ map (row_of (map string_bytes l.names.keys)) l.yielded
