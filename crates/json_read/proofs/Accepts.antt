@@ -1,5 +1,5 @@
 -- The machine accepts each text.
-use Rattle.std.proofs.Common.{ℕ, suc, ◌≡◌, ◌+◌, ◌++◌, ◌<◌, ◌≤◌, List, [], ◌∷◌, true, false, refl, ap, ◌∙◌, sym, subst, length, arith, append_assoc, ltb, ◌⊎◌, ⊎_elim, codes}
+use Rattle.std.proofs.Common.{ℕ, suc, ◌≡◌, ◌+◌, ◌++◌, ◌<◌, ◌≤◌, List, [], ◌∷◌, true, false, refl, ap, ◌∙◌, sym, subst, length, arith, append_assoc, append-nil, ltb, ◌⊎◌, ⊎_elim, codes}
 use Rattle.std.proofs.lemmas.Bool.{cond-true, lt-ltb}
 use Rattle.std.proofs.lemmas.Bool.Decides.{nat_tests}
 use Rattle.numerals.specs.Bytes.{is_white, is_digit, NextFails}
@@ -12,7 +12,7 @@ use Rattle.json_read.proofs.AcceptsNumbers.{Ends, white_ends, number_runs, numbe
 use Rattle.json_read.proofs.AcceptsStrings.{quoted_runs}
 use Rattle.json_read.proofs.Arrays.{first_as_value}
 use Rattle.json_read.proofs.Objects.{first_as_name}
-use Rattle.json_read.proofs.Parts.{append_nil, heads_same}
+use Rattle.json_read.proofs.Parts.{heads_same}
 use Rattle.json_read.proofs.Runs.{moves, white_runs}
 use Rattle.json_read.proofs.Texts.{start_as_value}
 
@@ -133,4 +133,4 @@ padded_unmarked (padded {w = w} {t = t} {w' = w'} a h b) = go a
 pub text_accepted : (d : ℕ) (t : List ℕ) (v : JsonValue) → JsonText d t v → run d start [] t ≡ accepted
 unfolding run
 text_accepted d t v (text {m = m} {t = p} h g) =
-    ap (λ (z : List ℕ). run d start [] (m ++ z)) (sym (append_nil p)) ∙ mark_runs (p ++ []) h (subst (NextIsNot 0xEF) (sym (append_nil p)) (padded_unmarked g)) d [] ∙ padded_run g d [] [] (omega arith) tt
+    ap (λ (z : List ℕ). run d start [] (m ++ z)) (sym (append-nil p)) ∙ mark_runs (p ++ []) h (subst (NextIsNot 0xEF) (sym (append-nil p)) (padded_unmarked g)) d [] ∙ padded_run g d [] [] (omega arith) tt

@@ -1,5 +1,5 @@
 -- Objects that are read with the items of one array taken one by one.
-use Rattle.std.proofs.Common.{ℕ, suc, ◌≡◌, ◌++◌, List, [], ◌∷◌, Bool, true, false, refl, ap, ◌∙◌, sym, subst, append_assoc, Option, Some, None, is_some, Result, Ok, Err, ◌⊎◌, inl, inr}
+use Rattle.std.proofs.Common.{ℕ, suc, ◌≡◌, ◌++◌, List, [], ◌∷◌, Bool, true, false, refl, ap, ◌∙◌, sym, subst, append_assoc, append-nil, Option, Some, None, is_some, Result, Ok, Err, ◌⊎◌, inl, inr}
 use Rattle.std.specs.Prelude.{MatchBool, IfNone, IfOk, IfSome}
 use Rattle.std.specs.Str.{bytes_eq}
 use Rattle.numerals.specs.Bytes.{is_white, NextFails, drop_while}
@@ -28,12 +28,8 @@ use Rattle.json_read.proofs.Whiles.{next_fails_after}
 
 -- ## What is taken
 
-append_nothing : (vs : List JsonValue) → vs ++ [] ≡ vs
-append_nothing [] = refl
-append_nothing (v ∷ vs) = ap (λ (ws : List JsonValue). v ∷ ws) (append_nothing vs)
-
 pub takes_none : (P : List JsonValue → Type 0) → TakesAll P P []
-takes_none P vs p = subst P (sym (append_nothing vs)) p
+takes_none P vs p = subst P (sym (append-nil vs)) p
 
 pub takes_more : (P M Q : List JsonValue → Type 0) (ws : List JsonValue) (v : JsonValue) → TakesAll P M ws → TakesOne M Q v → TakesAll P Q (ws ++ v ∷ [])
 takes_more P M Q ws v all one vs p = subst Q (append_assoc vs ws (v ∷ [])) (one (vs ++ ws) (all vs p))
@@ -133,7 +129,7 @@ fields_of-fields_list no_fields = refl
 fields_of-fields_list (field name v fs) = ap (λ (gs : FieldList). field name v gs) (fields_of-fields_list fs)
 
 takes_then : (P M Q : List JsonValue → Type 0) (ws : List JsonValue) → TakesAll P M ws → TakesAll M Q [] → TakesAll P Q ws
-takes_then P M Q ws all none vs p = subst Q (append_nothing (vs ++ ws)) (none (vs ++ ws) (all vs p))
+takes_then P M Q ws all none vs p = subst Q (append-nil (vs ++ ws)) (none (vs ++ ws) (all vs p))
 
 after_member : (other : List ℕ) (whole : FieldList) (name : List ℕ) (v : JsonValue) → value_named other (fields_list (with_member whole name v)) ≡ value_named other (put (fields_list whole) name v)
 after_member other whole name v = ap (λ (gs : List Member). value_named other gs) (fields_list-fields_of (put (fields_list whole) name v))
@@ -155,7 +151,7 @@ none_before : (P M : List JsonValue → Type 0) (wanted : List ℕ) (fields whol
 none_before P M wanted fields whole t e h = subst (λ (s : Bool). MatchBool s (TookNamed P M wanted whole) ((whole ≡ fields) × TakesAll P M [])) e h
 
 takes_first : (P M Q : List JsonValue → Type 0) (ws : List JsonValue) → TakesAll P M [] → TakesAll M Q ws → TakesAll P Q ws
-takes_first P M Q ws none all vs p = all vs (subst M (append_nothing vs) (none vs p))
+takes_first P M Q ws none all vs p = all vs (subst M (append-nil vs) (none vs p))
 
 first_put : (P M Q : List JsonValue → Type 0) (wanted name : List ℕ) (v : JsonValue) (a b : Taking) (whole : FieldList) → AreFieldsOf P M wanted a.fields a.is_taken whole → bytes_eq name wanted ≡ true → TakesFirst M Q v a b → AreFieldsOf P Q wanted b.fields b.is_taken (with_member whole name v)
 first_put P M Q wanted name v a b whole h named p =

@@ -1,5 +1,5 @@
 -- A whole text: the byte order mark, a value, and the end.
-use Rattle.std.proofs.Common.{ℕ, Some, ◌≡◌, ◌++◌, List, [], ◌∷◌, refl, ap, ◌∙◌, sym, subst, arith, cond, eqb, codes}
+use Rattle.std.proofs.Common.{ℕ, Some, ◌≡◌, ◌++◌, List, [], ◌∷◌, refl, ap, ◌∙◌, sym, subst, arith, cond, eqb, codes, append-nil}
 use Rattle.std.proofs.lemmas.Bool.{cond-false, ne_eqb}
 use Rattle.numerals.specs.Bytes.{is_white, NextFails}
 use Rattle.json_values.specs.Grammar.{no_white, is_null, Padded, padded, Mark, no_mark, mark, JsonText, text}
@@ -15,7 +15,7 @@ use Rattle.json_read.specs.Machine.{Place, Moves, run, fault, start, in_mark, va
 use Rattle.json_read.specs.Reading.{Reads, Runs, Fails, Passes, Breaks, AtFault, PassesAt, BreaksAt, outside, ShowsPadded, FaultsAt}
 use Rattle.numerals.specs.Bytes.{NextIsNot}
 use Rattle.json_read.proofs.Names.{ByteFault}
-use Rattle.json_read.proofs.Parts.{passes_none, passes_one, breaks_here, append_nil}
+use Rattle.json_read.proofs.Parts.{passes_none, passes_one, breaks_here}
 use Rattle.json_read.proofs.Runs.{stops, moves_alike}
 use Rattle.json_read.proofs.Sequences.{Then, then_passes, then_breaks, first_breaks, as_breaks, reads_then, breaks_second, breaks_first, breaks_as}
 use Rattle.json_read.proofs.Values.{SomePadded}
@@ -115,11 +115,11 @@ pub text_end : (d : ℕ) (j : Json) (old mid new : List ℕ) → Passes Mark sta
 text_end d j old mid new m a w n =
     let r : Reads (SomeText d) old new = (let t : Reads (Then Mark (ShowsPadded d j)) old new = reads_then m.reads a.reads in (t.0, t.1, (json_value j, text_of d (json_value j) t.0 t.2))) in
     record {
-      begins = (r.0, [], r.1, subst (SomeText d) (sym (append_nil r.0)) r.2);
+      begins = (r.0, [], r.1, subst (SomeText d) (sym (append-nil r.0)) r.2);
       fails = m.runs d [] ∙ ap (λ (i : ℕ). run i value [] mid) (omega arith) ∙ a.runs [] ∙ ap (λ (i : ℕ). run i after [] new) (omega arith) ∙ no_end d new w n;
     }
 
 pub text_whole : (d : ℕ) (j : Json) (old mid new : List ℕ) → Passes Mark start value old mid → PassesAt (ShowsPadded d j) (outside d value) (outside d after) mid new → new ≡ [] → JsonText d old (json_value j)
 text_whole d j old mid new m a e =
     let t : Reads (Then Mark (ShowsPadded d j)) old new = reads_then m.reads a.reads in
-    subst (λ (z : List ℕ). JsonText d z (json_value j)) (sym (t.1 ∙ ap (λ (z : List ℕ). t.0 ++ z) e ∙ append_nil t.0)) (text_of d (json_value j) t.0 t.2)
+    subst (λ (z : List ℕ). JsonText d z (json_value j)) (sym (t.1 ∙ ap (λ (z : List ℕ). t.0 ++ z) e ∙ append-nil t.0)) (text_of d (json_value j) t.0 t.2)

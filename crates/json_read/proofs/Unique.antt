@@ -1,5 +1,5 @@
 -- A text denotes one value.
-use Rattle.std.proofs.Common.{ℕ, suc, Some, None, Option, ◌≡◌, ◌+◌, ◌++◌, ◌<◌, ◌≤◌, List, [], ◌∷◌, true, false, IsTrue, refl, ap, ◌∙◌, sym, subst, length, length-append, arith, append_assoc, get_or, eqb, ◌⊎◌, inl, inr, ⊎_elim, codes, cond}
+use Rattle.std.proofs.Common.{ℕ, suc, Some, None, Option, ◌≡◌, ◌+◌, ◌++◌, ◌<◌, ◌≤◌, List, [], ◌∷◌, true, false, IsTrue, refl, ap, ◌∙◌, sym, subst, length, length-append, arith, append_assoc, append-nil, get_or, eqb, ◌⊎◌, inl, inr, ⊎_elim, codes, cond}
 use Rattle.std.proofs.lemmas.Bool.{cond-false}
 use Rattle.std.proofs.lemmas.Bool.Decides.{nat_tests}
 use Rattle.std.proofs.lemmas.Str.{encode_same, char_from_byte, length-encode, len_utf8_bounds}
@@ -16,7 +16,7 @@ use Rattle.json_read.specs.declared.reader.Fault.TheVariants.{Syntax}
 use Rattle.json_read.proofs.Accepts.{denotes_runs, denotes_first, FirstByte, padded_unmarked}
 use Rattle.json_read.proofs.AcceptsNumbers.{Ends, white_ends, number_first}
 use Rattle.json_read.proofs.Depths.{fault_shorter}
-use Rattle.json_read.proofs.Parts.{append_nil, heads_same}
+use Rattle.json_read.proofs.Parts.{heads_same}
 use Rattle.json_read.proofs.Runs.{stops, white_runs}
 use Rattle.json_read.proofs.Whiles.{white_before, drop_while_fails}
 
@@ -73,11 +73,11 @@ whole_solid zero_alone = ([], 48, refl, refl)
 whole_solid (from_one {b = b} i t) = digits_solid b (grind (arith, nat_tests)) t
 
 fraction_solid : {w f : List ℕ} → Solid w → Fraction f → Solid (w ++ f)
-fraction_solid {w} h no_fraction = subst Solid (sym (append_nil w)) h
+fraction_solid {w} h no_fraction = subst Solid (sym (append-nil w)) h
 fraction_solid {w} h (fraction {ds = ds} t) = solid_after w (46 ∷ ds) (solid_after (46 ∷ []) ds (some_solid t))
 
 exponent_solid : {w e : List ℕ} → Solid w → Exponent e → Solid (w ++ e)
-exponent_solid {w} h no_exponent = subst Solid (sym (append_nil w)) h
+exponent_solid {w} h no_exponent = subst Solid (sym (append-nil w)) h
 exponent_solid {w} h (exponent {e = e} {s = s} {ds = ds} l g t) = solid_after w (e ∷ (s ++ ds)) (solid_after (e ∷ []) (s ++ ds) (solid_after s ds (some_solid t)))
 
 number_solid : {t : List ℕ} → Number t → Solid t
@@ -120,7 +120,7 @@ no_more {d} {e} {t} {u} r s x h g end_r end_s is rest =
     go n w.0 (drop_while is_white x) w.1 w.2 (drop_while_fails is_white x) ends
   where
     go : (n : ℕ) (w y : List ℕ) → White w → x ≡ w ++ y → NextFails is_white y → run n after [] (x ++ s) ≡ run n after [] s → x ≡ []
-    go n w [] a q f e = (let only : x ≡ w = q ∙ append_nil w in only ∙ no_white_end t u w (solid g) (is ∙ ap (λ (z : List ℕ). t ++ z) only) a)
+    go n w [] a q f e = (let only : x ≡ w = q ∙ append-nil w in only ∙ no_white_end t u w (solid g) (is ∙ ap (λ (z : List ℕ). t ++ z) only) a)
     go n w (b ∷ y) a q f e =
         (let stop : run n after [] s ≡ fault Syntax (b ∷ (y ++ s)) = sym e ∙ ap (λ (z : List ℕ). run n after [] (z ++ s)) q ∙ ap (run n after []) (append_assoc w (b ∷ y) s) ∙ white_runs n after [] (b ∷ (y ++ s)) refl a ∙ stops n after [] b (y ++ s) (cond-false (is_white b) _ _ f) in
         let short : length (b ∷ (y ++ s)) ≤ length s = fault_shorter n after [] s (b ∷ (y ++ s)) Syntax stop in
@@ -128,7 +128,7 @@ no_more {d} {e} {t} {u} r s x h g end_r end_s is rest =
 
 same_text : {d e : ℕ} {t u : List ℕ} {v w : JsonValue} (r s : List ℕ) → Denotes d t v → Denotes e u w → Ends r → Ends s → t ++ r ≡ u ++ s → (t ≡ u) × (r ≡ s)
 same_text {t = t} {u = u} r s h g a b e =
-    ⊎_elim (λ o. let n : o.0 ≡ [] = no_more r s o.0 h g a b o.1 o.2 in (sym (o.1 ∙ ap (λ (z : List ℕ). t ++ z) n ∙ append_nil t), o.2 ∙ ap (λ (z : List ℕ). z ++ s) n)) (λ o. let n : o.0 ≡ [] = no_more s r o.0 g h b a o.1 o.2 in (o.1 ∙ ap (λ (z : List ℕ). u ++ z) n ∙ append_nil u, sym (o.2 ∙ ap (λ (z : List ℕ). z ++ r) n))) (fronts t r u s e)
+    ⊎_elim (λ o. let n : o.0 ≡ [] = no_more r s o.0 h g a b o.1 o.2 in (sym (o.1 ∙ ap (λ (z : List ℕ). t ++ z) n ∙ append-nil t), o.2 ∙ ap (λ (z : List ℕ). z ++ s) n)) (λ o. let n : o.0 ≡ [] = no_more s r o.0 g h b a o.1 o.2 in (o.1 ∙ ap (λ (z : List ℕ). u ++ z) n ∙ append-nil u, sym (o.2 ∙ ap (λ (z : List ℕ). z ++ r) n))) (fronts t r u s e)
 
 -- ## Strings
 
@@ -258,14 +258,14 @@ not_empty z h e = let f : FirstByte _ = denotes_first h in (let n : length (f.0 
 -- white space is no element and no member
 no_white_padded : {d : ℕ} {t : List ℕ} {v : JsonValue} (w z : List ℕ) → White w → Padded d t v → w ≡ t ++ z → ⊥
 no_white_padded w z a (padded {w = u} {t = t} {w' = x} b h c) e =
-    not_empty (x ++ z) h (white_same w u [] (t ++ (x ++ z)) a b tt (solid_first (x ++ z) h) (append_nil w ∙ e ∙ append_assoc u (t ++ x) z ∙ ap (λ (y : List ℕ). u ++ y) (append_assoc t x z)))
+    not_empty (x ++ z) h (white_same w u [] (t ++ (x ++ z)) a b tt (solid_first (x ++ z) h) (append-nil w ∙ e ∙ append_assoc u (t ++ x) z ∙ ap (λ (y : List ℕ). u ++ y) (append_assoc t x z)))
 
 no_white_elements : {d : ℕ} {t : List ℕ} {vs : List JsonValue} (w : List ℕ) → White w → Elements d t vs → w ≡ t → ⊥
-no_white_elements w a (last_element {t = t} p) e = no_white_padded w [] a p (e ∙ sym (append_nil t))
+no_white_elements w a (last_element {t = t} p) e = no_white_padded w [] a p (e ∙ sym (append-nil t))
 no_white_elements w a (element {rest = rest} p es) e = no_white_padded w (44 ∷ rest) a p e
 
 no_white_name : (w u n name z : List ℕ) → White w → White u → Quoted n name → w ≡ u ++ (n ++ z) → ⊥
-no_white_name w u n name z a b q e = go q (white_same w u [] (n ++ z) a b tt (quoted_first z q) (append_nil w ∙ e))
+no_white_name w u n name z a b q e = go q (white_same w u [] (n ++ z) a b tt (quoted_first z q) (append-nil w ∙ e))
   where
     go : {m : List ℕ} → Quoted m name → [] ≡ m ++ z → ⊥
     go (quoted {inner = i} h) f = (let n : 0 ≡ length (34 ∷ ((i ++ 34 ∷ []) ++ z)) = ap length f in omega arith)
@@ -314,9 +314,9 @@ mutual
   elements_same (last_element {t = t} p) e u ws (last_element {v = w} q) s =
       ap (λ (x : JsonValue). x ∷ []) (padded_same p e u w q [] [] tt tt tt tt (ap (λ (z : List ℕ). z ++ []) s)).0
   elements_same (last_element {t = t} p) e u ws (element {t = y} {rest = rest} {v = w} q es) s =
-      absurd (let n : [] ≡ 44 ∷ rest = (padded_same p e y w q [] (44 ∷ rest) tt refl tt refl (append_nil t ∙ s)).1 in let l : 0 ≡ suc (length rest) = ap length n in omega arith)
+      absurd (let n : [] ≡ 44 ∷ rest = (padded_same p e y w q [] (44 ∷ rest) tt refl tt refl (append-nil t ∙ s)).1 in let l : 0 ≡ suc (length rest) = ap length n in omega arith)
   elements_same (element {t = t} {rest = rest} p es) e u ws (last_element {t = y} {v = w} q) s =
-      absurd (let n : 44 ∷ rest ≡ [] = (padded_same p e y w q (44 ∷ rest) [] refl tt refl tt (s ∙ sym (append_nil y))).1 in let l : suc (length rest) ≡ 0 = ap length n in omega arith)
+      absurd (let n : 44 ∷ rest ≡ [] = (padded_same p e y w q (44 ∷ rest) [] refl tt refl tt (s ∙ sym (append-nil y))).1 in let l : suc (length rest) ≡ 0 = ap length n in omega arith)
   elements_same (element {t = t} {rest = rest} {vs = vs} p es) e u ws (element {t = y} {rest = more} {v = w} {vs = xs} q fs) s =
       let b : _ × (44 ∷ rest ≡ 44 ∷ more) = padded_same p e y w q (44 ∷ rest) (44 ∷ more) refl refl refl refl s in
       ap (λ (x : JsonValue). x ∷ vs) b.0 ∙ ap (λ (z : List JsonValue). w ∷ z) (elements_same es e more xs fs (tails_same 44 44 rest more b.1))
@@ -327,10 +327,10 @@ mutual
       ap (λ (m : List ℕ). (m, v) ∷ []) one.0 ∙ ap (λ (k : JsonValue). (other, k) ∷ []) (padded_same p e y z s [] [] tt tt tt tt (ap (λ (k : List ℕ). k ++ []) one.1)).0
   members_same (last_member {w = w} {w' = w'} {t = t} {name = name} {v = v} a q b p) e u ns (member {w = x} {w' = x'} {t = y} {name = other} {rest = rest} {v = z} c r d s more) h =
       let one : (name ≡ other) × (t ≡ y ++ (44 ∷ rest)) = heads w w' x x' t (y ++ (44 ∷ rest)) a q b c r d h in
-      absurd (let n : [] ≡ 44 ∷ rest = (padded_same p e y z s [] (44 ∷ rest) tt refl tt refl (append_nil t ∙ one.1)).1 in let l : 0 ≡ suc (length rest) = ap length n in omega arith)
+      absurd (let n : [] ≡ 44 ∷ rest = (padded_same p e y z s [] (44 ∷ rest) tt refl tt refl (append-nil t ∙ one.1)).1 in let l : 0 ≡ suc (length rest) = ap length n in omega arith)
   members_same (member {w = w} {w' = w'} {t = t} {name = name} {rest = rest} {v = v} a q b p more) e u ns (last_member {w = x} {w' = x'} {t = y} {name = other} {v = z} c r d s) h =
       let one : (name ≡ other) × (t ++ (44 ∷ rest) ≡ y) = heads w w' x x' (t ++ (44 ∷ rest)) y a q b c r d h in
-      absurd (let n : 44 ∷ rest ≡ [] = (padded_same p e y z s (44 ∷ rest) [] refl tt refl tt (one.1 ∙ sym (append_nil y))).1 in let l : suc (length rest) ≡ 0 = ap length n in omega arith)
+      absurd (let n : 44 ∷ rest ≡ [] = (padded_same p e y z s (44 ∷ rest) [] refl tt refl tt (one.1 ∙ sym (append-nil y))).1 in let l : suc (length rest) ≡ 0 = ap length n in omega arith)
   members_same (member {w = w} {w' = w'} {t = t} {name = name} {rest = rest} {v = v} {ms = ms} a q b p more) e u ns (member {w = x} {w' = x'} {t = y} {name = other} {rest = later} {v = z} {ms = ks} c r d s on) h =
       let one : (name ≡ other) × (t ++ (44 ∷ rest) ≡ y ++ (44 ∷ later)) = heads w w' x x' (t ++ (44 ∷ rest)) (y ++ (44 ∷ later)) a q b c r d h in
       let two : (v ≡ z) × (44 ∷ rest ≡ 44 ∷ later) = padded_same p e y z s (44 ∷ rest) (44 ∷ later) refl refl refl refl one.1 in
