@@ -133,6 +133,11 @@ abbrev pub PartAt : {T : Type 0} → (T → List ℕ → Type 0) → (List Open 
 PartAt {T} R from to result old new =
     MatchResult result (λ x. PassesAt (R x) from to old new) (AtFault (λ f. BreaksAt (λ t. (x : T) × R x t) from f old new))
 
+-- the same where the value is put to a place that is lent
+abbrev pub PartInto : {T U : Type 0} → (T → List ℕ → Type 0) → (List Open → Spot) → (List Open → Spot) → T → Result U Stop → List ℕ → List ℕ → Type 0
+PartInto {T} R from to x result old new =
+    MatchResult result (λ _. PassesAt (R x) from to old new) (AtFault (λ f. BreaksAt (λ t. (x : T) × R x t) from f old new))
+
 -- what stands after `[` or `{`, and its value
 abbrev pub ArrayText : ℕ → ItemList → List ℕ → Type 0
 ArrayText d items t = Denotes (suc d) (91 ∷ t) (array items)

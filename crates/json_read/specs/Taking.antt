@@ -101,13 +101,23 @@ TakesMember d P Q wanted name a b result old new =
     MatchResult result (λ is_read. is_read ≡ true → HasMember d P Q wanted name a b old new) (λ e. ValueBreaks d e old new)
 
 -- the object was read after its brace
+abbrev pub HasTakenFields : ℕ → (List JsonValue → Type 0) → (List JsonValue → Type 0) → List ℕ → FieldList → Bool → List ℕ → List ℕ → Type 0
+HasTakenFields d P Q wanted fields is_taken old new =
+    (whole : FieldList) × PassesAt (ObjectText d whole) (inside in_object d first_name) (behind d) old new × AreFieldsOf P Q wanted fields is_taken whole
+
 abbrev pub HasTakenObject : ℕ → (List JsonValue → Type 0) → (List JsonValue → Type 0) → List ℕ → TakenObject → List ℕ → List ℕ → Type 0
-HasTakenObject d P Q wanted o old new =
-    (whole : FieldList) × PassesAt (ObjectText d whole) (inside in_object d first_name) (behind d) old new × AreFieldsOf P Q wanted o.fields o.is_taken whole
+HasTakenObject d P Q wanted o old new = HasTakenFields d P Q wanted o.fields o.is_taken old new
+
+abbrev pub ObjectBreaks : ℕ → Stop → List ℕ → List ℕ → Type 0
+ObjectBreaks d e old new = AtFault (λ f. BreaksAt (λ t. (fields : FieldList) × ObjectText d fields t) (inside in_object d first_name) f old new) e
+
+abbrev pub TakesMembers : ℕ → (List JsonValue → Type 0) → (List JsonValue → Type 0) → List ℕ → Taking → Result Bool Stop → List ℕ → List ℕ → Type 0
+TakesMembers d P Q wanted a result old new =
+    MatchResult result (λ is_read. is_read ≡ true → HasTakenFields d P Q wanted a.fields a.is_taken old new) (λ e. ObjectBreaks d e old new)
 
 abbrev pub TakesObject : ℕ → (List JsonValue → Type 0) → (List JsonValue → Type 0) → List ℕ → Result (Option TakenObject) Stop → List ℕ → List ℕ → Type 0
 TakesObject d P Q wanted result old new =
-    MatchResult result (λ found. IfSome found (λ o. HasTakenObject d P Q wanted o old new)) (AtFault (λ f. BreaksAt (λ t. (fields : FieldList) × ObjectText d fields t) (inside in_object d first_name) f old new))
+    MatchResult result (λ found. IfSome found (λ o. HasTakenObject d P Q wanted o old new)) (λ e. ObjectBreaks d e old new)
 
 abbrev pub TakesText : ℕ → (List JsonValue → Type 0) → (List JsonValue → Type 0) → List ℕ → Result (Option TakenObject) Stop → List ℕ → List ℕ → Type 0
 TakesText d P Q wanted result old new =

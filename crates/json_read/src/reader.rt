@@ -2,10 +2,11 @@ ghost use Rattle.std.specs.Prelude.{◌≡◌, ◌++◌, ◌∷◌, ◌<◌, ◌
 ghost use Rattle.std.specs.String.{string_bytes};
 ghost use Rattle.std.specs.List.{prefix_len};
 ghost use Rattle.numerals.specs.Bytes.{is_white, is_digit, is_hex, is_exponent_letter, NextFails, drop_while};
+ghost use Rattle.json_values.specs.Json.{no_fields};
 ghost use Rattle.json_values.specs.Grammar.{short_escape, Mark, is_high, is_low, mended as mended_char, pair as pair_char};
 ghost use Rattle.numerals.specs.Numbers.{Minus, Whole, Fraction, Exponent, Number, Sign};
 ghost use Rattle.json_read.specs.Machine.{behind_minus, behind_zero, behind_mantissa, behind_letter, behind_sign, value, start, after, first_value, first_name, next_name, in_word, in_array, in_object, Role, in_string, in_escape, in_hex, closed, second_bounds as bounds_of};
-ghost use Rattle.json_read.specs.Reading.{Passes, Part, ReadsDigits, NumberBegins, NumeralOf, ClosesAs, StandsFor, StandsEscaped, StandsInHex, ReadsHexDigit, ReadsFollowing, joined_onto, PartAt, Shows, ShowsPadded, ArrayText, ObjectText, NameText, ReadsByte, ReadsText, outside, inside, behind};
+ghost use Rattle.json_read.specs.Reading.{Passes, Part, PartInto, ReadsDigits, NumberBegins, NumeralOf, ClosesAs, StandsFor, StandsEscaped, StandsInHex, ReadsHexDigit, ReadsFollowing, joined_onto, PartAt, Shows, ShowsPadded, ArrayText, ObjectText, NameText, ReadsByte, ReadsText, outside, inside, behind};
 ghost use Rattle.numerals.specs.Bytes.{NextIsNot};
 ghost use Rattle.json_read.specs.AsciiStrings.{stands_alone, AllAlone, ClosesAsAscii};
 ghost use Rattle.json_read.specs.declared.reader.Fault.TheVariants.{Syntax};
@@ -536,16 +537,26 @@ impl<'a> Reader<'a> {
         ensures { PartAt (ObjectText depth) (inside in_object depth first_name) (behind depth) result self.old.rest.now self.new.rest.now }
     {
         let mut fields = GrowingFields::new(self.alloc);
+        self.members(depth, &mut fields)?;
+        Ok(fields.finish())
+    }
+
+    // The members of an object, after its brace, which are put to fields.
+    #[cycle(values)]
+    fn members(&mut self, depth: u32, fields: &mut GrowingFields) -> Result<(), Stop>
+        requires { fields.old ≡ no_fields }
+        ensures { PartInto (ObjectText depth) (inside in_object depth first_name) (behind depth) fields.new result self.old.rest.now self.new.rest.now }
+    {
         self.skip_white();
         if self.take(b'}') {
-            return Ok(fields.finish());
+            return Ok(());
         }
         loop {
             let name = self.name()?;
             let item = self.padded(depth)?;
             fields.put(name, item)?;
             if self.take(b'}') {
-                return Ok(fields.finish());
+                return Ok(());
             }
             self.expect(b',')?;
         }

@@ -1,10 +1,10 @@
 ghost use Rattle.std.specs.Prelude.{◌≡◌, ◌<◌, true, false, List, IfOk, IfNone, IfSome, IfErr, MatchResult, OnOk};
 ghost use Rattle.std.specs.Str.{bytes_eq};
 ghost use Rattle.numerals.specs.Bytes.{is_white};
-ghost use Rattle.json_values.specs.Json.{JsonValue};
+ghost use Rattle.json_values.specs.Json.{JsonValue, no_fields};
 ghost use Rattle.json_values.specs.Seen.{json_value};
 ghost use Rattle.json_read.specs.Faults.{FaultFits};
-ghost use Rattle.json_read.specs.Taking.{TakesOne, TakesArray, TakesValue, TakesMember, TakesObject, TakesText, HasOtherMember, IsNoFirstArray, IsReadOtherwise, IsTakenText};
+ghost use Rattle.json_read.specs.Taking.{TakesOne, TakesArray, TakesValue, TakesMember, TakesMembers, TakesObject, TakesText, HasOtherMember, IsNoFirstArray, IsReadOtherwise, IsTakenText};
 ghost use Rattle.json_read.specs.Straight.{HasRead, TakesItem};
 
 use crate::fault::JsonFault;
@@ -112,17 +112,38 @@ impl<'a> Reader<'a> {
             fields: GrowingFields::new(self.alloc),
             is_taken: false,
         };
+        if self.members_taking(depth, wanted, taker, &mut taking)? {
+            Ok(Some(taking.finish()))
+        } else {
+            Ok(None)
+        }
+    }
+
+    // The members of an object, after its brace; false where the text isn't read item by item.
+    fn members_taking<T: ItemTaker>(
+        &mut self,
+        depth: u32,
+        wanted: &str,
+        taker: &mut T,
+        taking: &mut Taking,
+    ) -> Result<bool, Stop>
+        requires some { 0 < depth }
+        requires no_fields { taking.old.fields ≡ no_fields }
+        requires none_taken { taking.old.is_taken ≡ false }
+        ensures taken { (first : T) → TakesMembers depth (T.took first taker.old) (T.took first taker.new) wanted.now taking.new result self.old.rest.now self.new.rest.now }
+        ensures other { IfOk result (λ is_read. is_read ≡ false → HasOtherMember depth wanted.now self.old.rest.now) }
+    {
         self.skip_white();
         if self.take(b'}') {
-            return Ok(Some(taking.finish()));
+            return Ok(true);
         }
         loop {
             let name = self.name()?;
-            if !self.member_taking(depth, name, wanted, taker, &mut taking)? {
-                return Ok(None);
+            if !self.member_taking(depth, name, wanted, taker, taking)? {
+                return Ok(false);
             }
             if self.take(b'}') {
-                return Ok(Some(taking.finish()));
+                return Ok(true);
             }
             self.expect(b',')?;
         }

@@ -119,28 +119,34 @@ array-returns-in_err-expect t c =
 pub padded-value-requires : goal.padded-value-requires
 padded-value-requires t c = (search rules, next_fails_after is_white c.args.self.now.rest.now _ c.skip_white.ensures)
 
-pub object-returns-then-take : goal.object-returns-then-take
-object-returns-then-take t c = rw c.finish.ensures (object_empty c.args.depth c.new-fields.result _ _ _ c.new-fields.ensures c.skip_white.ensures (c.take.ensures.taken c.if-take.true))
+pub object-returns : goal.object-returns
+object-returns t c = rw c.finish.ensures c.in_ok-members.ensures
 
-pub object-loop-fields-init : goal.object-loop-fields-init
-object-loop-fields-init t c = object_init c.args.depth c.new-fields.result _ _ _ c.new-fields.ensures c.skip_white.ensures (c.take.ensures.stays c.if-take.false) (c.take.ensures.other c.if-take.false)
+pub object-returns-in_err-members : goal.object-returns-in_err-members
+object-returns-in_err-members t c = at_exit _ _ c.from_residual.result c.in_err-members.field-0.0 c.from_residual.ensures.1 c.in_err-members.ensures
 
-pub object-returns-in_err-name : goal.object-returns-in_err-name
-object-returns-in_err-name t c =
-    at_exit _ _ c.from_residual.result c.in_err-name.field-0.0 c.from_residual.ensures.1 (object_name_breaks c.args.depth c.loop-fields.fields c.in_err-name.field-0.0 _ _ _ c.loop-fields.invariant c.in_err-name.ensures)
+pub members-returns-then-take : goal.members-returns-then-take
+members-returns-then-take t c = object_empty c.args.depth c.args.fields.now _ _ _ c.requires c.skip_white.ensures (c.take.ensures.taken c.if-take.true)
 
-pub object-returns-in_err-item : goal.object-returns-in_err-item
-object-returns-in_err-item t c =
-    at_exit _ _ c.from_residual-in_err-item.result c.in_err-item.field-0.0 c.from_residual-in_err-item.ensures.1 (object_item_breaks c.args.depth c.loop-fields.fields c.in_ok-name.name c.in_err-item.field-0.0 _ _ _ _ c.loop-fields.invariant c.in_ok-name.ensures c.in_err-item.ensures.part)
+pub members-loop-name-init : goal.members-loop-name-init
+members-loop-name-init t c = object_init c.args.depth c.args.fields.now _ _ _ c.requires c.skip_white.ensures (c.take.ensures.stays c.if-take.false) (c.take.ensures.other c.if-take.false)
 
-pub object-returns-then-take-2 : goal.object-returns-then-take-2
-object-returns-then-take-2 t c =
-    rw c.finish-then-take-2.ensures (object_ends c.args.depth c.loop-fields.fields c.put.new.self c.in_ok-name.name c.in_ok-item.item _ _ _ _ _ c.loop-fields.invariant c.in_ok-name.ensures c.in_ok-item.ensures.part c.in_ok-put.ensures (c.take-in-loop-fields.ensures.taken c.if-take-2.true))
+pub members-returns-in_err-name : goal.members-returns-in_err-name
+members-returns-in_err-name t c =
+    at_exit _ _ c.from_residual.result c.in_err-name.field-0.0 c.from_residual.ensures.1 (object_name_breaks c.args.depth c.loop-name.fields c.in_err-name.field-0.0 _ _ _ c.loop-name.invariant c.in_err-name.ensures)
 
-pub object-loop-fields-preserved : goal.object-loop-fields-preserved
-object-loop-fields-preserved t c =
-    object_more c.args.depth c.loop-fields.fields c.put.new.self c.in_ok-name.name c.in_ok-item.item _ _ _ _ _ _ c.loop-fields.invariant c.in_ok-name.ensures c.in_ok-item.ensures.part c.in_ok-put.ensures (c.take-in-loop-fields.ensures.stays c.if-take-2.false) c.in_ok-expect.ensures
+pub members-returns-in_err-item : goal.members-returns-in_err-item
+members-returns-in_err-item t c =
+    at_exit _ _ c.from_residual-in_err-item.result c.in_err-item.field-0.0 c.from_residual-in_err-item.ensures.1 (object_item_breaks c.args.depth c.loop-name.fields c.in_ok-name.name c.in_err-item.field-0.0 _ _ _ _ c.loop-name.invariant c.in_ok-name.ensures c.in_err-item.ensures.part)
 
-pub object-returns-in_err-expect : goal.object-returns-in_err-expect
-object-returns-in_err-expect t c =
-    at_exit _ _ c.from_residual-in_err-expect.result c.in_err-expect.field-0.0 c.from_residual-in_err-expect.ensures.1 (object_comma_breaks c.args.depth c.loop-fields.fields c.in_ok-name.name c.in_ok-item.item c.in_err-expect.field-0.0 _ _ _ _ _ _ c.loop-fields.invariant c.in_ok-name.ensures c.in_ok-item.ensures.part c.in_ok-item.ensures.trimmed (c.take-in-loop-fields.ensures.stays c.if-take-2.false) (c.take-in-loop-fields.ensures.other c.if-take-2.false) c.in_err-expect.ensures)
+pub members-returns-then-take-2 : goal.members-returns-then-take-2
+members-returns-then-take-2 t c =
+    object_ends c.args.depth c.loop-name.fields c.put.new.self c.in_ok-name.name c.in_ok-item.item _ _ _ _ _ c.loop-name.invariant c.in_ok-name.ensures c.in_ok-item.ensures.part c.in_ok-put.ensures (c.take-in-loop-name.ensures.taken c.if-take-2.true)
+
+pub members-loop-name-preserved : goal.members-loop-name-preserved
+members-loop-name-preserved t c =
+    object_more c.args.depth c.loop-name.fields c.put.new.self c.in_ok-name.name c.in_ok-item.item _ _ _ _ _ _ c.loop-name.invariant c.in_ok-name.ensures c.in_ok-item.ensures.part c.in_ok-put.ensures (c.take-in-loop-name.ensures.stays c.if-take-2.false) c.in_ok-expect.ensures
+
+pub members-returns-in_err-expect : goal.members-returns-in_err-expect
+members-returns-in_err-expect t c =
+    at_exit _ _ c.from_residual-in_err-expect.result c.in_err-expect.field-0.0 c.from_residual-in_err-expect.ensures.1 (object_comma_breaks c.args.depth c.loop-name.fields c.in_ok-name.name c.in_ok-item.item c.in_err-expect.field-0.0 _ _ _ _ _ _ c.loop-name.invariant c.in_ok-name.ensures c.in_ok-item.ensures.part c.in_ok-item.ensures.trimmed (c.take-in-loop-name.ensures.stays c.if-take-2.false) (c.take-in-loop-name.ensures.other c.if-take-2.false) c.in_err-expect.ensures)
