@@ -1,5 +1,5 @@
 -- Values that are read straight from a text.
-use Rattle.std.proofs.Common.{ℕ, ℤ, suc, ◌≡◌, List, [], ◌∷◌, refl, ap, ◌∙◌, sym, subst, take, drop, take-append-drop, Option, Some, None, is_some, IsTrue, codes, ◌++◌, inl, inr}
+use Rattle.std.proofs.Common.{ℕ, ℤ, suc, ◌≡◌, List, [], ◌∷◌, refl, ap, ◌∙◌, sym, subst, take, drop, take-append-drop, Bool, true, Option, Some, None, is_some, Result, Ok, Err, IfOk, IsTrue, codes, ◌++◌, inl, inr}
 use Rattle.json_read.specs.AsciiStrings.{ClosesAsAscii}
 use Rattle.numerals.specs.Bytes.{is_white}
 use Rattle.json_values.specs.Json.{JsonValue, ItemList, FieldList, no_items, item, no_fields, fields_of, null, number, string}
@@ -12,7 +12,7 @@ use Rattle.numerals.specs.Numbers.{Number}
 use Rattle.json_read.specs.Reading.{MembersSoFar, NameText, NumeralOf, Passes, PassesAt, ArrayText, ObjectText, Shows, inside, outside, behind}
 use Rattle.numerals.specs.Bytes.{NextFails, NextIsNot, drop_while}
 use Rattle.json_values.specs.Seen.{json_value}
-use Rattle.json_read.specs.Straight.{HasReadAt, HasTakenMembers, BeginsWithPair, EndsSoon, IsGridNumber, IsTakenArray, IsTakenObject, PutsOne}
+use Rattle.json_read.specs.Straight.{HasReadAt, HasTakenMember, HasTakenMembers, BeginsWithPair, EndsSoon, IsGridNumber, IsTakenArray, IsTakenObject, PutsOne}
 use Rattle.json_read.specs.Taking.{HasTakenArray, HasValue, TakesOne}
 use Rattle.json_values.specs.declared.json.Json.{Json}
 use Rattle.json_values.specs.declared.json.Json.TheVariants as json
@@ -101,6 +101,13 @@ item_end d P M Q old m1 m2 new h v c = items_end d P M Q v.0 old m1 m2 new h v.1
 -- a name by the text that was lent of it
 pub name_lent : (name lent old new : List ℕ) → lent ≡ name → Passes (NameText name) next_name value old new → Passes (NameText lent) next_name value old new
 name_lent name lent old new e h = subst (λ (n : List ℕ). Passes (NameText n) next_name value old new) (sym e) h
+
+-- a member, by its name and by what was taken of its value
+pub member_taken : {T E : Type 0} (d : ℕ) (P Q : T → List Member → Type 0) (name old mid new : List ℕ) (result : Result Bool E) → Passes (NameText name) next_name value old mid
+    → IfOk result (λ is_taken. is_taken ≡ true → (first : T) → HasReadAt d (PutsOne (P first) (Q first) name) mid new)
+    → IfOk result (λ is_taken. is_taken ≡ true → (first : T) → HasTakenMember d (P first) (Q first) old new)
+member_taken d P Q name old mid new (Ok is_taken) n h = λ e first. (name, mid, n, h e first)
+member_taken d P Q name old mid new (Err e) n h = tt
 
 abbrev pub MembersTaken : ℕ → (List Member → Type 0) → (List Member → Type 0) → List ℕ → List ℕ → Type 0
 MembersTaken d P Q old new = (fields : FieldList) × PassesAt (MembersSoFar d fields) (inside in_object d first_name) (inside in_object d next_name) old new × (P [] → Q (fields_list fields))

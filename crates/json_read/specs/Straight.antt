@@ -2,9 +2,9 @@
 use Rattle.std.specs.Prelude.{ℕ, ℤ, ◌≡◌, List, [], ◌∷◌, Some, Result, MatchResult, ◌⊎◌}
 use Rattle.json_values.specs.Json.{JsonValue, ItemList, FieldList, number, array, object, item}
 use Rattle.json_values.specs.Lists.{items_list, fields_list, put}
-use Rattle.json_read.specs.Machine.{in_object, first_name}
+use Rattle.json_read.specs.Machine.{in_object, first_name, next_name, value}
 use Rattle.numerals.specs.Numeral.{grid_of_text}
-use Rattle.json_read.specs.Reading.{PassesAt, ObjectText, inside, behind}
+use Rattle.json_read.specs.Reading.{NameText, Passes, PassesAt, ObjectText, inside, behind}
 use Rattle.json_values.specs.Seen.{json_value}
 use Rattle.json_read.specs.Taking.{HasValue, TakesAll, TakesOne, ValueBreaks}
 use Rattle.json_values.specs.declared.json.Json.{Json}
@@ -39,6 +39,11 @@ IsTakenArray P Q v = (items : ItemList) × (v ≡ array items) × TakesAll P Q (
 -- what took some members, of which P speaks before and Q afterwards, takes one more
 abbrev pub PutsOne : (List (List ℕ × JsonValue) → Type 0) → (List (List ℕ × JsonValue) → Type 0) → List ℕ → JsonValue → Type 0
 PutsOne P Q name v = (fs : List (List ℕ × JsonValue)) → P fs → Q (put fs name v)
+
+-- the next member was read and taken
+abbrev pub HasTakenMember : ℕ → (List (List ℕ × JsonValue) → Type 0) → (List (List ℕ × JsonValue) → Type 0) → List ℕ → List ℕ → Type 0
+HasTakenMember d P Q old new =
+    (name mid : List ℕ) × Passes (NameText name) next_name value old mid × HasReadAt d (PutsOne P Q name) mid new
 
 -- an object, of which the members were taken
 abbrev pub IsTakenObject : (List (List ℕ × JsonValue) → Type 0) → (List (List ℕ × JsonValue) → Type 0) → JsonValue → Type 0

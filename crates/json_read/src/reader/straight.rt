@@ -3,7 +3,7 @@ ghost use Rattle.json_values.specs.Json.{JsonValue, null, string};
 ghost use Rattle.json_read.specs.Machine.{value, after, next_name};
 ghost use Rattle.json_read.specs.Reading.{NameText, NumberBegins, NumeralOf, Passes};
 ghost use Rattle.json_read.specs.Taking.{TakesOne, HasTakenArray, HasValue};
-ghost use Rattle.json_read.specs.Straight.{HasRead, HasTakenMembers, BeginsWithPair, EndsSoon, IsGridNumber, IsTakenArray, IsTakenObject, PutsOne};
+ghost use Rattle.json_read.specs.Straight.{HasRead, HasTakenMember, HasTakenMembers, BeginsWithPair, EndsSoon, IsGridNumber, IsTakenArray, IsTakenObject, PutsOne};
 
 use crate::reader::{Reader, Stop, numeral_text};
 use json_values::Json;
@@ -259,10 +259,7 @@ impl<'a> Reader<'a> {
             return Ok(true);
         }
         loop {
-            let Some(name) = self.any_name()? else {
-                return Ok(false);
-            };
-            if !taker.take_member(name.as_str(), self, depth)? {
+            if !self.member_by(depth, taker)? {
                 return Ok(false);
             }
             if self.take(b'}') {
@@ -272,6 +269,16 @@ impl<'a> Reader<'a> {
                 return Ok(false);
             }
         }
+    }
+
+    // The next member of an object.
+    fn member_by<T: MemberTaker>(&mut self, depth: u32, taker: &mut T) -> Result<bool, AllocError>
+        ensures { IfOk result (λ is_taken. is_taken ≡ true → (first : T) → HasTakenMember depth (T.took first taker.old) (T.took first taker.new) self.old.rest.now self.new.rest.now) }
+    {
+        let Some(name) = self.any_name()? else {
+            return Ok(false);
+        };
+        taker.take_member(name.as_str(), self, depth)
     }
 
     // A name and its colon; `None` where there is a fault.
