@@ -12,7 +12,6 @@ use text_core::{Bytes, Text};
 ///
 /// `Num` is a numeral whose value is a `Decimal`; `Long` is another numeral, as it is spelled; `Tree` is an array
 /// or an object.
-#[derive(Drop)]
 pub enum Value {
     Null,
     Bool(bool),
@@ -20,6 +19,20 @@ pub enum Value {
     Long(Text),
     Text(Text),
     Tree(Json),
+}
+
+// One call, wherever a function lets go of a value, in the place of a look at each variant.
+impl Drop for Value {
+    fn drop(self) {
+        match self {
+            Value::Null
+            | Value::Bool(_)
+            | Value::Num(_)
+            | Value::Long(_)
+            | Value::Text(_)
+            | Value::Tree(_) => {}
+        }
+    }
 }
 
 impl Value {
