@@ -1,14 +1,19 @@
 -- Tables one under another: one more table, one more name.
-use Rattle.std.proofs.Common.{◌≡◌, ℕ, ◌+◌, ◌<◌, List, [], ◌∷◌, ◌++◌, map, length, take, get_or, sym, ap, ◌∙◌}
+use Rattle.std.proofs.Common.{◌≡◌, ℕ, ◌+◌, ◌<◌, false, List, [], ◌∷◌, ◌++◌, map, length, take, drop, get_or, refl, sym, ap, ◌∙◌, arith}
 use Rattle.std.specs.Str.{bytes_eq}
 use Rattle.std.proofs.lemmas.List.{flat_map_more, take_more}
 use Rattle.indexmap.specs.IndexSet.{insert_all}
 use Rattle.json_values.specs.Table.{TableContent, AreRows}
 use Rattle.table_terms.specs.Names.{Text}
 use Rattle.table_rows.specs.Columns.{cells}
-use Rattle.table_rows.specs.Merge.{all_names, merged_rows}
+use Rattle.table_rows.specs.Merge.{all_names, differing, merged_rows, refused_merge}
 use Rattle.table_rows.proofs.Cells.{rows_long-append, cells_long}
 use Rattle.table_terms.proofs.Inserted.{insert_all-append}
+
+-- without force each table but the first is tested against it
+pub first_tested : (ts : List TableContent) (d : TableContent) → 0 < length ts → refused_merge false ts ≡ differing (get_or ts 0 d).names 1 (drop 1 ts)
+first_tested [] d less = absurd (omega arith)
+first_tested (t ∷ ts) d less = refl
 
 -- the names of one more table
 pub all_names_more : (ts : List TableContent) (i : ℕ) (d : TableContent) → i < length ts → all_names (take (i + 1) ts) ≡ all_names (take i ts) ++ (get_or ts i d).names

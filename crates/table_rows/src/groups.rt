@@ -1,4 +1,4 @@
-ghost use Rattle.std.specs.Prelude.{◌≡◌, ◌<◌, ◌≤◌, All, IfOk, OnOk, length, map};
+ghost use Rattle.std.specs.Prelude.{◌≡◌, ◌<◌, ◌≤◌, [], All, IfOk, OnOk, length, map};
 ghost use Rattle.std.specs.List.{IsDistinct, position_or_len};
 ghost use Rattle.indexmap.specs.IndexSet.{insert_key};
 ghost use Rattle.table_rows.specs.Groups.{groups_of, with_member};
@@ -24,11 +24,28 @@ pub(crate) fn groups_at(
 {
     let mut keys = IndexSet::new(alloc);
     let mut members = Vec::new(alloc);
+    add_rows(alloc, &mut keys, &mut members, rows, places)?;
+    Ok(members)
+}
+
+/// Adds all rows to the groups of their keys, of which there are none yet.
+fn add_rows(
+    alloc: Global,
+    keys: &mut IndexSet<Key>,
+    members: &mut Vec<IdList>,
+    rows: &RowList,
+    places: &[u32],
+) -> Result<(), AllocError>
+    requires no_keys { keys.old.keys ≡ [] }
+    requires no_members { members.old.items ≡ [] }
+    ensures members { OnOk result (members.new.items ≡ groups_of (map (picked places.now) rows.now)) }
+    ensures below { OnOk result (All (All (λ n. n < length rows.now)) members.new.items) }
+{
     for i in 0..rows.len() {
         let key = Key::of(alloc, row_of(rows, i), places)?;
-        add_row(alloc, &mut keys, &mut members, key, i)?;
+        add_row(alloc, keys, members, key, i)?;
     }
-    Ok(members)
+    Ok(())
 }
 
 /// Adds a row to the group of its key.

@@ -1,4 +1,4 @@
-ghost use Rattle.std.specs.Prelude.{◌≡◌, ◌++◌, ◌∷◌, [], ◌<◌, IfOk, OnOk, OnErr, false, length, map, slice_get};
+ghost use Rattle.std.specs.Prelude.{◌≡◌, ◌++◌, ◌∷◌, [], ◌<◌, IfOk, OnOk, OnErr, drop, false, length, map, slice_get};
 ghost use Rattle.std.specs.Option.{option_copied};
 ghost use Rattle.std.specs.List.{IsDistinct, list_all};
 ghost use Rattle.std.specs.Str.{bytes_eq};
@@ -102,8 +102,21 @@ fn check_names(alloc: Global, tables: &[Table]) -> Result<(), TableFault>
 {
     let first = tables[0].names();
     let names = NameSet::of(alloc, first)?;
+    check_others(alloc, &names, first, tables)
+}
+
+/// Refuses the first table after the first one whose set of names is another.
+fn check_others(
+    alloc: Global,
+    names: &NameSet,
+    first: &NameList,
+    tables: &[Table],
+) -> Result<(), TableFault>
+    requires same { names.now ≡ first.now }
+    ensures exact { Refuses result (differing first.now 1 (drop 1 tables.now)) }
+{
     for i in 1..tables.len() {
-        check_layer(alloc, &names, first, &tables[i], i)?;
+        check_layer(alloc, names, first, &tables[i], i)?;
     }
     Ok(())
 }

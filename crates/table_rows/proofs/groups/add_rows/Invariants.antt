@@ -3,7 +3,7 @@ use Rattle.std.specs.List.{IsDistinct}
 use Rattle.table_rows.specs.Groups.{groups_of, keys_once}
 use Rattle.table_rows.specs.Keys.{same_values}
 use Rattle.table_rows.specs.Rows.{picked}
-use Rattle.table_rows.proofs.groups.groups_at.Given as goal
+use Rattle.table_rows.proofs.groups.add_rows.Given as goal
 
 abbrev pub invariant-loop-i : goal.invariant-loop-i
 invariant-loop-i l = record {

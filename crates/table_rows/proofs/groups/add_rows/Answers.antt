@@ -4,8 +4,17 @@ use Rattle.indexmap.specs.IndexSet.{insert_key}
 use Rattle.table_rows.specs.Groups.{with_member}
 use Rattle.table_rows.specs.Keys.{same_values}
 use Rattle.table_rows.specs.Rows.{picked}
+use Rattle.table_terms.proofs.Distinct.{IsDistinct-none}
 use Rattle.table_rows.proofs.Grouping.{keys_row, groups_row, groups_below}
-use Rattle.table_rows.proofs.groups.groups_at.Goals as goal
+use Rattle.table_rows.proofs.groups.add_rows.Goals as goal
+
+pub loop-i-init : goal.loop-i-init
+loop-i-init c = record {
+  counts = ap length c.requires.no_keys ∙ sym (ap length c.requires.no_members);
+  distinct = subst (IsDistinct same_values) (sym c.requires.no_keys) (IsDistinct-none same_values);
+  keys = c.requires.no_keys;
+  members = c.requires.no_members;
+}
 
 pub loop-i-preserved : goal.loop-i-preserved
 loop-i-preserved c =
