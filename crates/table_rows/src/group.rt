@@ -41,9 +41,25 @@ pub fn group_rows(alloc: Global, t: &Table, spec: &GroupSpec) -> Result<Grouped,
     ensures each { IfOk result (λ g. length g.table.rows ≡ length g.groups) }
 {
     let columns = NameSet::of(alloc, t.names())?;
+    tested_groups(alloc, t, &columns, spec)
+}
+
+/// The rows in groups, once the fields are tested.
+fn tested_groups(
+    alloc: Global,
+    t: &Table,
+    columns: &NameSet,
+    spec: &GroupSpec,
+) -> Result<Grouped, TableFault>
+    requires columns { columns.now ≡ t.now.names }
+    ensures exact { Answers result (group_rows t.now spec.now) }
+    ensures members { IfOk result (λ g. g.groups ≡ groups_by t.now spec.now.by) }
+    ensures below { IfOk result (λ g. All (All (λ n. n < length t.now.rows)) g.groups) }
+    ensures each { IfOk result (λ g. length g.table.rows ≡ length g.groups) }
+{
     let names = listed_fields(alloc, spec)?;
-    check_list(alloc, &columns, 0, &names)?;
-    table_of_groups(alloc, t, &columns, spec, names)
+    check_list(alloc, columns, 0, &names)?;
+    table_of_groups(alloc, t, columns, spec, names)
 }
 
 /// The fields of the three lists, one list after the other.

@@ -40,7 +40,23 @@ fn names_after(alloc: Global, names: &NameList, pairs: &RenameList) -> Result<Na
 {
     let mut fields = NameSet::new(alloc);
     note_fields(alloc, names, pairs, &mut fields)?;
-    let out = new_names(alloc, names, &fields, pairs)?;
+    distinct_names(alloc, names, &fields, pairs)
+}
+
+/// The names of the columns after the renames of these fields, which are those of the pairs, where none stands twice.
+fn distinct_names(
+    alloc: Global,
+    names: &NameList,
+    fields: &NameSet,
+    pairs: &RenameList,
+) -> Result<NameList, TableFault>
+    requires fields { fields.now ≡ fields_of_pairs pairs.now }
+    requires distinct { AreDistinctNames names.now }
+    ensures exact { Answers result (unless (refused_label (map (renamed pairs.now) names.now) pairs.now) (Ok (map (renamed pairs.now) names.now))) }
+    ensures distinct { IfOk result (λ out. AreDistinctNames out) }
+    ensures each { IfOk result (λ out. length out ≡ length names.now) }
+{
+    let out = new_names(alloc, names, fields, pairs)?;
     check_labels(alloc, pairs, &out)?;
     Ok(out)
 }

@@ -113,11 +113,17 @@ fn listed_place(alloc: Global, names: &NameList, field: &str) -> Result<u32, Tab
     ensures exact { Answers result (unless (refused_item names.now [] 0 (field.now ∷ [])) (Ok (place_of names.now field.now))) }
 {
     let columns = NameSet::of(alloc, names)?;
-    if !columns.has(field) {
-        let why = TableWhy::NoField { item: 0 };
-        return Err(TableFault::Bad { why });
+    place_in(&columns, field)
+}
+
+fn place_in(columns: &NameSet, field: &str) -> Result<u32, TableFault>
+    ensures exact { Answers result (unless (refused_item columns.now [] 0 (field.now ∷ [])) (Ok (place_of columns.now field.now))) }
+{
+    if columns.has(field) {
+        return Ok(columns.place_or_end(field));
     }
-    Ok(columns.place_or_end(field))
+    let why = TableWhy::NoField { item: 0 };
+    Err(TableFault::Bad { why })
 }
 
 /// The rows for each value at a place, in order of first appearance.
@@ -140,13 +146,24 @@ fn with_values(
 {
     let mut items = SplitList::new(alloc);
     for group in members {
-        let value = value_of(alloc, rows, place, &group)?;
-        items.push(SplitItem {
-            value: Some(value),
-            rows: group,
-        })?;
+        items.push(piece_of(alloc, rows, place, group)?)?;
     }
     Ok(items)
+}
+
+fn piece_of(
+    alloc: Global,
+    rows: &RowList,
+    place: u32,
+    group: IdList,
+) -> Result<SplitItem, AllocError>
+    ensures piece { IfOk result (λ item. item ≡ piece rows.now place group) }
+{
+    let value = value_of(alloc, rows, place, &group)?;
+    Ok(SplitItem {
+        value: Some(value),
+        rows: group,
+    })
 }
 
 /// The value of the first row of a group at a place.
