@@ -1,15 +1,16 @@
-ghost use Rattle.std.specs.Prelude.{◌≡◌, ◌<◌, ◌∷◌, [], All, None, Some, true, IfOk, OnOk, length, map, unwrap_or};
+ghost use Rattle.std.specs.Prelude.{◌≡◌, ◌<◌, ◌∷◌, [], All, None, Some, true, IfOk, OnOk, find, length, map, option_map, unwrap_or};
 ghost use Rattle.std.specs.List.{IsDistinct};
 ghost use Rattle.std.specs.Option.{option_copied};
 ghost use Rattle.std.specs.Str.{bytes_eq};
 ghost use Rattle.indexmap.specs.IndexMap.{get};
 ghost use Rattle.json_values.specs.Table.{RowValues};
 ghost use Rattle.lists.specs.Lists.{numbers_where};
-ghost use Rattle.table_ops.specs.Join.{candidates, join_tables, joined_table, refused_join, refused_key};
+ghost use Rattle.table_ops.specs.Join.{candidates, join_tables, joined_table, matches, refused_join, refused_key};
 ghost use Rattle.table_ops.specs.JoinColumns.{column_value, row_found};
 ghost use Rattle.table_rows.specs.Keys.{same_values};
 ghost use Rattle.table_terms.specs.Names.{value_at};
 ghost use Rattle.table_rows.specs.Refusals.{Answers, Refuses, refused_item};
+ghost use Rattle.table_rows.specs.Rows.{row_at};
 
 use crate::filter::filter_rows;
 use crate::join_columns::{Column, columns_of};
@@ -46,14 +47,31 @@ pub fn join_tables(
 {
     let targets = NameSet::of(alloc, target.names())?;
     let sources = NameSet::of(alloc, source.names())?;
-    check_join(alloc, &targets, &sources, spec)?;
+    tested_join(alloc, target, &targets, source, &sources, spec)
+}
+
+/// The joined table, once the keys and the listed fields are tested.
+fn tested_join(
+    alloc: Global,
+    target: &Table,
+    targets: &NameSet,
+    source: &Table,
+    sources: &NameSet,
+    spec: &JoinSpec,
+) -> Result<Table, TableFault>
+    requires target { targets.now ≡ target.now.names }
+    requires source { sources.now ≡ source.now.names }
+    ensures exact { Answers result (join_tables target.now source.now spec.now) }
+    ensures each { IfOk result (λ joined. length joined.rows ≡ length target.now.rows) }
+{
+    check_join(alloc, targets, sources, spec)?;
     let numbers = candidates(alloc, source, &spec.test)?;
     Ok(joined_table(
         alloc,
         target,
-        &targets,
+        targets,
         source,
-        &sources,
+        sources,
         spec,
         numbers.as_slice(),
     )?)
@@ -140,8 +158,6 @@ fn joined_table(
     requires within { All (λ n. n < length source.now.rows) numbers.now }
     ensures exact { IfOk result (λ joined. joined ≡ joined_table target.now source.now spec.now numbers.now) }
 {
-    let source_key = sources.place_or_end(spec.source_key.as_str());
-    let firsts = first_rows(alloc, source.rows(), numbers, source_key)?;
     let columns = columns_of(
         alloc,
         target.names(),
@@ -150,16 +166,34 @@ fn joined_table(
         sources,
         spec,
     )?;
-    let key = targets.place_or_end(spec.target_key.as_str());
-    let rows = joined_rows(
+    let rows = matched_rows(
         alloc,
         target.rows(),
+        targets.place_or_end(spec.target_key.as_str()),
         source.rows(),
-        key,
-        &firsts,
+        sources.place_or_end(spec.source_key.as_str()),
+        numbers,
         columns.cells.as_slice(),
     )?;
     Ok(Table::new(columns.names, rows))
+}
+
+/// The rows of the target with the copied fields of the first of these source rows with the same key; the keys stand at
+/// these places.
+fn matched_rows(
+    alloc: Global,
+    target: &RowList,
+    key: u32,
+    source: &RowList,
+    source_key: u32,
+    numbers: &[u32],
+    columns: &[Column],
+) -> Result<RowList, AllocError>
+    requires within { All (λ n. n < length source.now) numbers.now }
+    ensures rows { IfOk result (λ rows. rows ≡ map (λ (row : RowValues). map (column_value row (option_map (row_at source.now) (find (λ n. matches (value_at row key) (value_at (row_at source.now n) source_key)) numbers.now))) columns.now) target.now) }
+{
+    let firsts = first_rows(alloc, source, numbers, source_key)?;
+    joined_rows(alloc, target, source, key, &firsts, columns)
 }
 
 /// The rows of the target with the copied fields of their matches.
