@@ -1,8 +1,6 @@
 -- Boundaries and lists of sets, one more at a time.
 use Rattle.std.proofs.Common.{◌≡◌, refl, sym, ap, ◌∙◌, subst, arith, ℕ, ◌+◌, ◌<◌, Bool, true, false, cond, not, ◌&&◌, List, [], ◌∷◌, ◌++◌, length, get_or, take, filter, All, append-nil, append_assoc}
-use Rattle.std.specs.List.{flat_map}
-use Rattle.std.proofs.lemmas.List.{get_or_default, take_more, length_push}
-use Rattle.std.proofs.lemmas.List.Concat.{flat_map-append}
+use Rattle.std.proofs.lemmas.List.{get_or_default, length_push}
 use Rattle.std.proofs.lemmas.List.Elements.{All-append, All-push, filter_more}
 use Rattle.lists.specs.Lists.{joined_up}
 use Rattle.plane_model.specs.Points.{Path}
@@ -13,11 +11,6 @@ use Rattle.face_sets.proofs.SetLemmas.{pushed}
 use Rattle.calc_ops.specs.Islands.{is_island, mainland, set_at, IsWithoutIslands, AreWithoutIslands}
 
 -- ---- lists that are joined
-
-pub flat_map_more : {A B : Type 0} (f : A → List B) (xs : List A) (i : ℕ) (d : A) → i < length xs → flat_map f (take (i + 1) xs) ≡ flat_map f (take i xs) ++ f (get_or xs i d)
-flat_map_more f xs i d l =
-    ap (flat_map f) (take_more xs i d l) ∙ flat_map-append f (take i xs) (get_or xs i d ∷ [])
-    ∙ ap (λ ys. flat_map f (take i xs) ++ ys) (append-nil (f (get_or xs i d)))
 
 joined_append : {A : Type 0} (xss yss : List (List A)) → joined_up (xss ++ yss) ≡ joined_up xss ++ joined_up yss
 joined_append [] yss = refl

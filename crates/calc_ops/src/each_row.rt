@@ -1,7 +1,7 @@
-ghost use Rattle.std.specs.Prelude.{◌≡◌, ◌<◌, IfOk, OnOk, length, vec_items};
+ghost use Rattle.std.specs.Prelude.{◌≡◌, ◌<◌, ◌++◌, ◌∷◌, [], IfOk, OnOk, length};
 ghost use Rattle.expr_lang.specs.Tree.{all_assigned};
 ghost use Rattle.json_values.specs.Table.{AreDistinctNames, AreRows};
-ghost use Rattle.table_rows.specs.Refusals.{Answers, AnswersAs};
+ghost use Rattle.table_rows.specs.Refusals.{Answers};
 ghost use Rattle.table_rows.specs.Rows.{row_at};
 ghost use Rattle.table_terms.specs.Names.{place_of};
 ghost use Rattle.calc_ops.specs.EachRow.{assigned_row, assigned_rows, each_rows, names_after, places_after, with_name, with_value};
@@ -45,37 +45,53 @@ fn targets_of(alloc: Global, names: &NameList, a: &AssignList) -> Result<Targets
     ensures places { IfOk result (λ t. t.places.items ≡ places_after names.now (all_assigned a.now)) }
     ensures distinct { IfOk result (λ t. AreDistinctNames t.names) }
 {
-    let mut known = NameSet::of(alloc, names)?;
-    let mut after = copy_names(alloc, names)?;
-    let mut places = Vec::new(alloc);
-    for item in a.as_slice() {
-        let place = add_target(alloc, &mut known, &mut after, item.name.as_str())?;
-        places.push(place)?;
-    }
-    Ok(Targets {
-        names: after,
-        places,
-    })
+    let mut targets = Targets {
+        names: copy_names(alloc, names)?,
+        places: Vec::new(alloc),
+    };
+    add_targets(alloc, names, a, &mut targets)?;
+    Ok(targets)
 }
 
-/// The place of a name, which goes last where it is new.
+/// Adds the targets of all assignments to the names of the columns.
+fn add_targets(
+    alloc: Global,
+    names: &NameList,
+    a: &AssignList,
+    targets: &mut Targets,
+) -> Result<(), AllocError>
+    requires distinct { AreDistinctNames names.now }
+    requires names { targets.old.names ≡ names.now }
+    requires places { targets.old.places.items ≡ [] }
+    ensures names { OnOk result (targets.new.names ≡ names_after names.now (all_assigned a.now)) }
+    ensures places { OnOk result (targets.new.places.items ≡ places_after names.now (all_assigned a.now)) }
+    ensures distinct { OnOk result (AreDistinctNames targets.new.names) }
+{
+    let mut known = NameSet::of(alloc, names)?;
+    for item in a.as_slice() {
+        add_target(alloc, &mut known, targets, item.name.as_str())?;
+    }
+    Ok(())
+}
+
+/// Adds the place of a name, which goes last where it is new.
 fn add_target(
     alloc: Global,
     known: &mut NameSet,
-    names: &mut NameList,
+    targets: &mut Targets,
     name: &str,
-) -> Result<u32, AllocError>
-    requires same { names.old ≡ known.old }
-    ensures place { IfOk result (λ place. place ≡ place_of known.old name.now) }
+) -> Result<(), AllocError>
+    requires same { targets.old.names ≡ known.old }
+    ensures place { OnOk result (targets.new.places.items ≡ targets.old.places.items ++ place_of known.old name.now ∷ []) }
     ensures added { OnOk result (known.new ≡ with_name known.old name.now) }
-    ensures same { OnOk result (names.new ≡ known.new) }
+    ensures same { OnOk result (targets.new.names ≡ known.new) }
     ensures distinct { OnOk result (AreDistinctNames known.new) }
 {
-    let place = known.place_or_end(name);
+    targets.places.push(known.place_or_end(name))?;
     if known.add(alloc, name)? {
-        names.push(Text::of(alloc, name)?)?;
+        targets.names.push(Text::of(alloc, name)?)?;
     }
-    Ok(place)
+    Ok(())
 }
 
 fn assigned_rows(

@@ -1,8 +1,7 @@
-use Rattle.std.proofs.Common.{◌∙◌, sym, ap, ◌++◌, length, arith}
+use Rattle.std.proofs.Common.{◌∙◌, sym, ap, [], ◌++◌, length, take, get_or, arith}
 use Rattle.std.specs.List.{flat_map}
-use Rattle.std.proofs.lemmas.List.{take_all}
+use Rattle.std.proofs.lemmas.List.{flat_map_more, take_all, take_more}
 use Rattle.face_sets.specs.Boundary.{outward_at}
-use Rattle.calc_ops.proofs.IslandLemmas.{flat_map_more}
 use Rattle.calc_ops.proofs.islands.border_of.Goals as goal
 
 pub loop-face-preserved : goal.loop-face-preserved
@@ -14,7 +13,7 @@ loop-face-preserved c = record {
       let part = outward_at c.args.f.now.places (length arcs) c.args.piece.now in
       c.in_ok-push_border.ensures.exact arcs built
       ∙ (λ j. c.loop-face.invariant.so_far arcs built j ++ part (c.face-item.is j))
-      ∙ sym (flat_map_more part faces i face c.loop-face-test.true);
+      ∙ flat_map_more part [] (take i faces) (get_or faces i face) ∙ sym (ap (flat_map part) (take_more faces i face c.loop-face-test.true));
   there = c.in_ok-push_border.ensures.there;
 }
 
