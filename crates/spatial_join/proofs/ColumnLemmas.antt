@@ -1,6 +1,6 @@
 -- Columns by places, rows by places, and the names of a joined table.
 use Rattle.std.proofs.Common.{◌≡◌, ℕ, ◌+◌, ℤ, Bool, true, false, cond, not, ◌||◌, List, [], ◌∷◌, ◌++◌, map, filter, length, Option, Some, None, refl, sym, ap, ◌∙◌, subst, append_assoc, append-nil, length-append}
-use Rattle.std.specs.Prelude.{Result, Ok}
+use Rattle.std.specs.Prelude.{Result, Ok, Err}
 use Rattle.std.specs.List.{IsDistinct, zip}
 use Rattle.std.specs.Str.{bytes_eq}
 use Rattle.std.specs.Cmp.Lexicographic.{nat_list_eq_equiv}
@@ -8,6 +8,7 @@ use Rattle.std.proofs.lemmas.List.{length-map}
 use Rattle.std.proofs.lemmas.List.Folds.{list_any-append}
 use Rattle.std.proofs.lemmas.Map.Keys.{IsDistinct-push}
 use Rattle.json_values.specs.Table.{TableContent, RowValues, AreRows}
+use Rattle.json_values.specs.declared.value.Value.{Value}
 use Rattle.json_values.specs.declared.value.Value.TheVariants as is
 use Rattle.table_terms.specs.Names.{Text, has_name}
 use Rattle.table_terms.specs.Refusals.{on_ok, unless}
@@ -15,15 +16,15 @@ use Rattle.join_terms.specs.declared.calculations.Calc.{Calc}
 use Rattle.join_terms.specs.declared.calculations.Calc.TheVariants.{Count, Sum}
 use Rattle.join_terms.specs.declared.calculations.CalcSpec.{CalcSpec}
 use Rattle.join_terms.specs.declared.joins.JoinSpec.{JoinSpec}
-use Rattle.table_ops.specs.Join.{candidates, copied_name, joined_row}
+use Rattle.table_ops.specs.Join.{candidates, copied_fields, copied_name, joined_row, new_fields}
 use Rattle.table_ops.specs.JoinColumns.{columns_of, column_value}
 use Rattle.table_rows.specs.declared.fault.TableWhy.{TableWhy}
 use Rattle.table_rows.specs.declared.fault.TableWhy.TheVariants.{NoField, FieldTwice}
 use Rattle.table_ops.specs.declared.join_columns.Column.{Column}
 use Rattle.table_ops.proofs.Joining.{as_many_names as as_many_copied, joined_names_differ as copied_differ, or_first, or_second, values_joined}
 use Rattle.spatial_join.specs.CalcColumns.{summed_place, calculated_at, row_by_places, rows_by_places}
-use Rattle.spatial_join.specs.Joined.{as_join, calc_name, copied_fields, copied_names, new_names, joined_names, lacks_field, refused_calc, each_ok, calculated, first_row, calc_row, matching, calc_rows, joined_table, join_matched, refused_items}
-use Rattle.spatial_join.proofs.JoinLemmas.{each_of_map, rows_long, sums_long}
+use Rattle.spatial_join.specs.Joined.{as_join, calc_name, new_names, joined_names, lacks_field, refused_calc, each_ok, calculated, first_row, calc_row, matching, calc_rows, joined_table, join_matched, refused_items}
+use Rattle.spatial_join.proofs.JoinLemmas.{answered, each_long, each_of_map, rows_long, sums_long, zip_long}
 
 -- ---- values
 
@@ -39,7 +40,7 @@ row_joined target source spec row matched =
     ∙ (λ i. on_ok (each_ok (λ (c : Calc). calculated_same source matched c i) spec.calc)
     (λ (numbers : List ℤ). Ok (joined_row target.names source.names (as_join source.names spec) row (first_row source.rows matched) ++ map is.Num numbers)))
 
-pub rows_joined : (target source : TableContent) (matches : List (List ℕ)) (spec : CalcSpec) (remaining : List ℕ)
+rows_joined : (target source : TableContent) (matches : List (List ℕ)) (spec : CalcSpec) (remaining : List ℕ)
     → rows_by_places source.rows (columns_of target.names source.names (as_join source.names spec)) (map (summed_place source.names) spec.calc) remaining (zip target.rows matches) ≡ calc_rows target source matches spec remaining
 rows_joined target source matches spec remaining =
     (λ i. each_ok (λ (p : RowValues × List ℕ). row_joined target source spec p.0 (matching remaining p.1) i) (zip target.rows matches))
@@ -115,45 +116,61 @@ calcs_differ source names earlier n (c ∷ calcs) among h e =
     (IsDistinct-push nat_list_eq_equiv names name h (among name parts.0))
     parts.1)
 
-pub joined_names_differ : (target source : List Text) (spec : CalcSpec) (n : ℕ) → IsDistinct bytes_eq target → IsDistinct bytes_eq (copied_fields source spec) → refused_calc source (target ++ copied_names source spec) n spec.calc ≡ None →
-    IsDistinct bytes_eq ((target ++ new_names target source spec) ++ map calc_name spec.calc)
-joined_names_differ target source spec n h k accepted =
-    let join : JoinSpec = as_join source spec in
-    calcs_differ source (target ++ new_names target source spec) (target ++ copied_names source spec) n spec.calc
+pub joined_names_differ : (target source : List Text) (join : JoinSpec) (calcs : List Calc) (n : ℕ) → IsDistinct bytes_eq target → IsDistinct bytes_eq (copied_fields source join)
+    → refused_calc source (target ++ map (copied_name join) (copied_fields source join)) n calcs ≡ None → IsDistinct bytes_eq ((target ++ map (copied_name join) (new_fields target source join)) ++ map calc_name calcs)
+joined_names_differ target source join calcs n h k accepted =
+    let copied : List Text = map (copied_name join) (copied_fields source join) in
+    let new : List Text = map (copied_name join) (new_fields target source join) in
+    calcs_differ source (target ++ new) (target ++ copied) n calcs
     (λ t e.
-    let two = missing_parts target (copied_names source spec) t e in
-    missing_both target (new_names target source spec) t two.0 (missing_kept (copied_name join) (λ (f : Text). not (has_name target (copied_name join f))) (copied_fields source spec) t two.1))
+    let two = missing_parts target copied t e in
+    missing_both target new t two.0 (missing_kept (copied_name join) (λ (f : Text). not (has_name target (copied_name join f))) (copied_fields source join) t two.1))
     (copied_differ target source join h k)
     accepted
 
 -- ---- the whole
 
-pub rows_as_long : (target source : List Text) (spec : CalcSpec) (names : List Text) (columns : List Column) (sums : List (Option ℕ)) (rows joined : List RowValues) (remaining : List ℕ) (pairs : List (RowValues × List ℕ)) →
-    joined_names target source spec ≡ names → columns ≡ columns_of target source (as_join source spec) → sums ≡ map (summed_place source) spec.calc → rows_by_places rows columns sums remaining pairs ≡ Ok joined → AreRows (length names) joined
-rows_as_long target source spec names columns sums rows joined remaining pairs e f g told =
-    let many : length columns + length sums ≡ length names = (λ i. length (f i) + length (g i)) ∙ sym (as_many_names target source spec) ∙ ap length e in
-    rows_long (λ (p : RowValues × List ℕ). row_by_places rows columns sums p.0 (matching remaining p.1)) (length names)
-    (λ p row said.
-    sums_long rows (matching remaining p.1) (map (column_value p.0 (first_row rows (matching remaining p.1))) columns) row sums said
-    ∙ ap (λ (n : ℕ). n + length sums) (length-map columns (column_value p.0 (first_row rows (matching remaining p.1)))) ∙ many)
-    pairs joined told
+module _ (target source : TableContent) (spec : CalcSpec) where
+  abbrev columns : List Column
+  columns = columns_of target.names source.names (as_join source.names spec)
 
-module _ (target source : TableContent) (matches : List (List ℕ)) (spec : CalcSpec) (remaining : List ℕ) where
-  -- rows by what was read of the tables
-  pub rows_told : (targets sources : List Text) (target_rows source_rows : List RowValues) (columns : List Column) (sums : List (Option ℕ)) (numbers : List ℕ) → targets ≡ target.names → sources ≡ source.names → target_rows ≡ target.rows →
-      source_rows ≡ source.rows → columns ≡ columns_of targets sources (as_join sources spec) → sums ≡ map (summed_place sources) spec.calc → numbers ≡ remaining →
-      calc_rows target source matches spec remaining ≡ rows_by_places source_rows columns sums numbers (zip target_rows matches)
-  rows_told targets sources target_rows source_rows columns sums numbers a b c d e f g =
-      let by_names = e ∙ (λ i. columns_of (a i) (b i) (as_join (b i) spec)) in
-      let by_fields = f ∙ (λ i. map (summed_place (b i)) spec.calc) in
-      sym (rows_joined target source matches spec remaining) ∙ (λ i. rows_by_places (sym d i) (sym by_names i) (sym by_fields i) (sym g i) (zip (sym c i) matches))
+  abbrev sums : List (Option ℕ)
+  sums = map (summed_place source.names) spec.calc
 
-  abbrev with_rows : List RowValues → Result TableContent TableWhy
-  with_rows rows = Ok (record { names = joined_names target.names source.names spec; rows = rows })
+  row_as_long : (row : RowValues) (matched : List ℕ) (new : RowValues) → calc_row target source spec row matched ≡ Ok new → length new ≡ length (joined_names target.names source.names spec)
+  row_as_long row matched new said =
+      let value : Column → Value = column_value row (first_row source.rows matched) in
+      sums_long source.rows matched (map value columns) new sums (row_joined target source spec row matched ∙ said)
+      ∙ ap (λ (n : ℕ). n + length sums) (length-map columns value) ∙ sym (as_many_names target.names source.names spec)
 
-  pub join_goes : (r : Result (List RowValues) TableWhy) → refused_items target.names source.names spec ≡ None → candidates source spec.test ≡ Ok remaining → calc_rows target source matches spec remaining ≡ r →
-      join_matched target source matches spec ≡ on_ok r (λ (rows : List RowValues). Ok (record { names = joined_names target.names source.names spec; rows = rows }))
-  join_goes r accepted all told =
-      ap (λ (o : Option TableWhy). unless o (on_ok (candidates source spec.test) (joined_table target source matches spec))) accepted
-      ∙ ap (λ (q : Result (List ℕ) TableWhy). on_ok q (joined_table target source matches spec)) all
-      ∙ ap (λ (q : Result (List RowValues) TableWhy). on_ok q with_rows) told
+  module _ (matches : List (List ℕ)) where
+    -- rows by what was read of the target
+    pub rows_told : (target_rows : List RowValues) (by_places : List Column) → target_rows ≡ target.rows → by_places ≡ columns_of target.names source.names (as_join source.names spec) →
+        on_ok (candidates source spec.test) (calc_rows target source matches spec)
+        ≡ on_ok (candidates source spec.test) (λ (remaining : List ℕ). rows_by_places source.rows by_places (map (summed_place source.names) spec.calc) remaining (zip target_rows matches))
+    rows_told target_rows by_places e f =
+        (λ i. on_ok (candidates source spec.test) (λ (remaining : List ℕ). sym (rows_joined target source matches spec remaining) i))
+        ∙ (λ i. on_ok (candidates source spec.test) (λ (remaining : List ℕ). rows_by_places source.rows (sym f i) sums remaining (zip (sym e i) matches)))
+
+    -- there are as many rows as in the target, each as long as the names
+    pub rows_made : (rows : List RowValues) → on_ok (candidates source spec.test) (calc_rows target source matches spec) ≡ Ok rows → length matches ≡ length target.rows →
+        (length rows ≡ length target.rows) × AreRows (length (joined_names target.names source.names spec)) rows
+    rows_made rows e each =
+        let (remaining, told, made) = answered (candidates source spec.test) (calc_rows target source matches spec) rows e in
+        let row : RowValues × List ℕ → Result RowValues TableWhy = λ (p : RowValues × List ℕ). calc_row target source spec p.0 (matching remaining p.1) in (
+          each_long row (zip target.rows matches) rows made ∙ zip_long target.rows matches each,
+          rows_long row (length (joined_names target.names source.names spec)) (λ p new said. row_as_long p.0 (matching remaining p.1) new said) (zip target.rows matches) rows made,
+        )
+
+    abbrev with_rows : List RowValues → Result TableContent TableWhy
+    with_rows rows = Ok (record { names = joined_names target.names source.names spec; rows = rows })
+
+    pub join_goes : (r : Result (List RowValues) TableWhy) → refused_items target.names source.names spec ≡ None → on_ok (candidates source spec.test) (calc_rows target source matches spec) ≡ r →
+        join_matched target source matches spec ≡ on_ok r (λ (rows : List RowValues). Ok (record { names = joined_names target.names source.names spec; rows = rows }))
+    join_goes r accepted told =
+        ap (λ (o : Option TableWhy). unless o (on_ok (candidates source spec.test) (joined_table target source matches spec))) accepted
+        ∙ go (candidates source spec.test) ∙ ap (λ (q : Result (List RowValues) TableWhy). on_ok q with_rows) told
+      where
+        go : (q : Result (List ℕ) TableWhy) → on_ok q (joined_table target source matches spec) ≡ on_ok (on_ok q (calc_rows target source matches spec)) with_rows
+        go (Ok remaining) = refl
+        go (Err why) = refl

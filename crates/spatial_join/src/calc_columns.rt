@@ -1,10 +1,11 @@
-ghost use Rattle.std.specs.Prelude.{◌≡◌, [], Ok, IfOk, length, unwrap_or};
+ghost use Rattle.std.specs.Prelude.{◌≡◌, ◌++◌, [], Ok, IfOk, length, map, unwrap_or};
 ghost use Rattle.std.specs.List.{IsDistinct};
 ghost use Rattle.std.specs.Str.{bytes_eq};
-ghost use Rattle.table_ops.specs.JoinColumns.{columns_of};
+ghost use Rattle.table_ops.specs.Join.{copied_name, new_fields};
+ghost use Rattle.table_ops.specs.JoinColumns.{columns_of, join_of};
 ghost use Rattle.table_rows.specs.Refusals.{AnswersAs};
 ghost use Rattle.table_terms.specs.Refusals.{unless};
-ghost use Rattle.spatial_join.specs.Joined.{as_join, joined_names, refused_items};
+ghost use Rattle.spatial_join.specs.Joined.{as_join, calc_name, joined_names, refused_calc, refused_items};
 
 use crate::calculations::{append_names, check_calculations};
 use join_terms::CalcSpec;
@@ -42,10 +43,30 @@ pub(crate) fn joined_columns(
         prefix: &spec.prefix,
         force: spec.force,
     };
+    calculated_columns(alloc, target, targets, sources, &copied, spec)
+}
+
+// The columns of the target and of the copied fields, and the names of all, once the calculations are tested.
+fn calculated_columns(
+    alloc: Global,
+    target: &NameList,
+    targets: &NameSet,
+    sources: &NameSet,
+    copied: &CopiedFields,
+    spec: &CalcSpec,
+) -> Result<Columns, TableFault>
+    requires target { targets.now ≡ target.now }
+    requires copied { copied.now.names ≡ map (copied_name (join_of copied.now)) copied.now.fields.now }
+    requires targets_differ { IsDistinct bytes_eq target.now }
+    requires fields_differ { IsDistinct bytes_eq copied.now.fields.now }
+    ensures exact { AnswersAs (λ c. c.names) result (unless (refused_calc sources.now (target.now ++ copied.now.names) (length (unwrap_or spec.now.fields [])) spec.now.calc) (Ok (target.now ++ map (copied_name (join_of copied.now)) (new_fields target.now sources.now (join_of copied.now)) ++ map calc_name spec.now.calc))) }
+    ensures cells { IfOk result (λ c. c.cells.items ≡ columns_of target.now sources.now (join_of copied.now)) }
+    ensures distinct { IfOk result (λ c. IsDistinct bytes_eq c.names) }
+{
     let calculations = spec.calc.as_slice();
     let first = listed_count(&spec.fields);
     check_calculations(alloc, targets, sources, &copied.names, first, calculations)?;
-    let mut columns = copied_columns(alloc, target, targets, sources, &copied)?;
+    let mut columns = copied_columns(alloc, target, targets, sources, copied)?;
     append_names(alloc, &mut columns.names, calculations)?;
     Ok(columns)
 }

@@ -1,10 +1,12 @@
-ghost use Rattle.std.specs.Prelude.{◌≡◌, ◌<◌, All, IfOk, length, nat_eq};
+ghost use Rattle.std.specs.Prelude.{◌≡◌, ◌<◌, All, IfOk, length, map, nat_eq};
 ghost use Rattle.std.specs.List.{zip};
 ghost use Rattle.std.specs.List.Sorted.{IsStrictlyIncreasing};
 ghost use Rattle.std.specs.Option.{option_copied};
 ghost use Rattle.lists.specs.Lists.{has};
+ghost use Rattle.table_terms.specs.Refusals.{on_ok};
 ghost use Rattle.table_rows.specs.Refusals.{Answers};
-ghost use Rattle.spatial_join.specs.CalcColumns.{row_by_places, rows_by_places};
+ghost use Rattle.table_ops.specs.Join.{candidates};
+ghost use Rattle.spatial_join.specs.CalcColumns.{row_by_places, rows_by_places, summed_place};
 ghost use Rattle.spatial_join.specs.Joined.{first_row, join_matched, matching};
 
 use crate::calc_columns::joined_columns;
@@ -45,26 +47,72 @@ pub fn join_matched(
 {
     let targets = NameSet::of(alloc, target.names())?;
     let sources = NameSet::of(alloc, source.names())?;
+    joined_table(alloc, target, &targets, source, &sources, matches, spec)
+}
+
+// The joined table, where these are the names of the two.
+fn joined_table(
+    alloc: Global,
+    target: &Table,
+    targets: &NameSet,
+    source: &Table,
+    sources: &NameSet,
+    matches: &GroupList,
+    spec: &CalcSpec,
+) -> Result<Table, TableFault>
+    requires target { targets.now ≡ target.now.names }
+    requires source { sources.now ≡ source.now.names }
+    requires each { length matches.now ≡ length target.now.rows }
+    requires ascending { All IsStrictlyIncreasing matches.now }
+    ensures exact { Answers result (join_matched target.now source.now matches.now spec.now) }
+    ensures each { IfOk result (λ joined. length joined.rows ≡ length target.now.rows) }
+{
     let columns = joined_columns(
         alloc,
         target.names(),
-        &targets,
+        targets,
         source.names(),
-        &sources,
+        sources,
         spec,
     )?;
-    let sums = summed_places(alloc, &sources, spec.calc.as_slice())?;
-    let remaining = candidates(alloc, source, &spec.test)?;
-    let rows = joined_rows(
+    let rows = calc_rows(
         alloc,
         target.rows(),
+        source,
+        sources,
+        matches,
+        spec,
+        &columns.cells,
+    )?;
+    Ok(Table::new(columns.names, rows))
+}
+
+// The rows of the joined table, with these columns and the calculated ones.
+fn calc_rows(
+    alloc: Global,
+    target: &RowList,
+    source: &Table,
+    sources: &NameSet,
+    matches: &GroupList,
+    spec: &CalcSpec,
+    columns: &[Column],
+) -> Result<RowList, TableFault>
+    requires source { sources.now ≡ source.now.names }
+    requires each { length matches.now ≡ length target.now }
+    requires ascending { All IsStrictlyIncreasing matches.now }
+    ensures exact { Answers result (on_ok (candidates source.now spec.now.test) (λ remaining. rows_by_places source.now.rows columns.now (map (summed_place source.now.names) spec.now.calc) remaining (zip target.now matches.now))) }
+{
+    let sums = summed_places(alloc, sources, spec.calc.as_slice())?;
+    let remaining = candidates(alloc, source, &spec.test)?;
+    joined_rows(
+        alloc,
+        target,
         source.rows(),
         matches,
         remaining.as_slice(),
-        &columns.cells,
+        columns,
         &sums,
-    )?;
-    Ok(Table::new(columns.names, rows))
+    )
 }
 
 // The rows of the target with what they take of the remaining source rows that match them.
