@@ -1,7 +1,7 @@
 -- One more arc of a path: the run goes on with it, or ends before it.
-use Rattle.std.proofs.Common.{◌≡◌, sym, ap, ◌∙◌, ℕ, ◌+◌, ◌<◌, Bool, true, false, cond, List, [], ◌∷◌, ◌++◌, length, get_or, take, drop, All, append_assoc, append-nil}
+use Rattle.std.proofs.Common.{◌≡◌, sym, ap, ◌∙◌, ℕ, ◌+◌, ◌<◌, Bool, true, false, cond, List, [], ◌∷◌, ◌++◌, length, get_or, take, drop, All, append_assoc}
 use Rattle.std.specs.List.{flat_map}
-use Rattle.std.proofs.lemmas.List.{drop_more, take_more}
+use Rattle.std.proofs.lemmas.List.{drop_more, flat_map_more as one_more, take_more}
 use Rattle.std.proofs.lemmas.List.Elements.{All-nil, All-cons, All-head, All-tail, All-push, All-append}
 use Rattle.line_ops.specs.Runs.{ended, runs_after, runs_where}
 
@@ -43,8 +43,4 @@ all_runs P test (path ∷ paths) h =
     All-append (All P) (runs_where test path) (flat_map (runs_where test) paths) (runs_kept P test [] path (All-nil P) (All-head (All P) path paths h)) (all_runs P test paths (All-tail (All P) path paths h))
 
 pub flat_map_more : {A B : Type 0} (f : A → List B) (xs : List A) (i : ℕ) (x d : A) → i < length xs → x ≡ get_or xs i d → flat_map f (take (i + 1) xs) ≡ flat_map f (take i xs) ++ f x
-flat_map_more {A} {B} f xs i x d within is = ap (flat_map f) (take_more xs i d within ∙ ap (λ (y : A). take i xs ++ y ∷ []) (sym is)) ∙ go (take i xs)
-  where
-    go : (ys : List A) → flat_map f (ys ++ x ∷ []) ≡ flat_map f ys ++ f x
-    go [] = append-nil (f x)
-    go (y ∷ ys) = ap (λ (zs : List B). f y ++ zs) (go ys) ∙ sym (append_assoc (f y) (flat_map f ys) (f x))
+flat_map_more {A} f xs i x d within is = ap (flat_map f) (take_more xs i d within ∙ ap (λ (y : A). take i xs ++ y ∷ []) (sym is)) ∙ sym (one_more f [] (take i xs) x)
