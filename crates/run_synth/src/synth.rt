@@ -37,13 +37,7 @@ fn line_of(alloc: Global, count: u32, laid: LaidOut) -> Result<String, AllocErro
     requires laid { IsLaidOut laid.snapped laid.plane.arcs laid.plane.faces laid.plane.boxes.items laid.features.items }
     ensures told { IfOk result (λ line. IsLineOf laid.snapped count (string_bytes line)) }
 {
-    let LaidOut {
-        plane,
-        snapped: _,
-        features,
-    } = laid;
-    let sets = listed(alloc, features)?;
-    let numbers = numbers_of(alloc, count, &plane, &sets)?;
+    let numbers = numbers_of(alloc, count, laid)?;
     text_of(alloc, numbers)
 }
 
@@ -57,7 +51,15 @@ struct Numbers {
     twice_area: i128,
 }
 
-fn numbers_of(
+fn numbers_of(alloc: Global, count: u32, laid: LaidOut) -> Result<Numbers, AllocError>
+    requires laid { IsLaidOut laid.snapped laid.plane.arcs laid.plane.faces laid.plane.boxes.items laid.features.items }
+    ensures exact { IfOk result (AreNumbersOf laid.plane.arcs laid.plane.faces laid.features.items count) }
+{
+    let sets = listed(alloc, laid.features)?;
+    numbers_over(alloc, count, &laid.plane, &sets)
+}
+
+fn numbers_over(
     alloc: Global,
     count: u32,
     plane: &Plane,
