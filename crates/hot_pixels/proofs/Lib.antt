@@ -11,6 +11,5 @@ pub mod NearLemmas
 pub mod AsideLemmas
 pub mod MeetingLemmas
 pub mod MarkingLemmas
-pub mod KeyLemmas
 pub mod EdgeLemmas
 pub mod InnerLemmas

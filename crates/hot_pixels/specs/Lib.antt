@@ -8,5 +8,4 @@ pub mod Chains
 pub mod Near
 pub mod Meetings
 pub mod Marking
-pub mod Keys
 pub mod Edges

@@ -10,13 +10,13 @@ ghost use Rattle.hot_pixels.specs.Stops.{stop_of};
 
 use crate::chains::{append_rising, sorted_along};
 use crate::edges::{Edges, edges_of, known_edge};
-use crate::keys::each_once;
 use crate::marking::{Marking, append_ends, marks_of, with_ends};
 use crate::meetings::ends_and_back;
 use crate::near::{Run, along_curve, count_near, met_near, runs_over};
 use crate::pairs::{add_crossings, buckets_over};
 use crate::spots::spots_of;
 use grid_base::{Drawing, Pt, PtList, Seg, has_point};
+use known_order::move_by_coordinates;
 use std::alloc::{AllocError, Global};
 use std::marker::Model;
 
@@ -67,7 +67,7 @@ impl HotSet {
         let edges = edges_of(alloc, &spots)?;
         let buckets = buckets_over(alloc, &edges.segments)?;
         add_crossings(&mut found, alloc, &edges.segments, &buckets)?;
-        let points = each_once(alloc, &found)?;
+        let points = each_once(alloc, found)?;
         let marking = marks_of(alloc, &points, &edges.segments, &buckets)?;
         let curved = copy_of(alloc, &points)?;
         HotSet::over(alloc, points, curved, Vec::new(alloc), edges, marking)
@@ -284,6 +284,18 @@ fn is_listed(points: &[Pt], p: Pt) -> bool
     ensures { IsTrue result ↔ Contains points.now p }
 {
     has_point(points, p)
+}
+
+// The points of a list in ascending order, each once.
+fn each_once(alloc: Global, points: Vec<Pt>) -> Result<Vec<Pt>, AllocError>
+    ensures exact { IfOk result (λ sorted. sorted.items ≡ ascending is_before points.items) }
+{
+    let mut sorted = points;
+    move_by_coordinates(alloc, &mut sorted)?;
+    // After this the sort has only to find the points in order.
+    sorted.sort_unstable();
+    sorted.dedup();
+    Ok(sorted)
 }
 
 fn copy_of(alloc: Global, points: &[Pt]) -> Result<Vec<Pt>, AllocError>

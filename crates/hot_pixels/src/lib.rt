@@ -31,7 +31,6 @@ mod crossing;
 mod edges;
 mod half_open;
 mod hot_set;
-mod keys;
 mod marking;
 mod meetings;
 mod near;

@@ -21,7 +21,7 @@ returns c =
     let spots = spots_of d in
     let edges = c.in_ok-edges.edges.segments.items in
     let made = c.add_crossings.new.points.items in
-    let is : c.in_ok-points.points.items ≡ ascending is_before made = c.in_ok-points.ensures.exact ∙ ap (ascending is_before) c.deref-5.ensures.value in
+    let is : c.in_ok-points.points.items ≡ ascending is_before made = c.in_ok-points.ensures.exact in
     let along : AreEdgesOf spots edges = subst (λ (xs : List Segment). AreEdgesOf xs edges) (c.deref-2.ensures.value ∙ c.in_ok-spots.ensures) c.in_ok-edges.ensures in
     let stops : c.in_ok-found.found.items ≡ map stop_of spots = c.in_ok-found.ensures ∙ ap (map stop_of) (c.deref.ensures.value ∙ c.in_ok-spots.ensures) in
     let h : HasAllCrossings edges (map stop_of spots) made =
@@ -38,9 +38,9 @@ returns c =
 pub over-requires-clause-searchable : goal.over-requires-clause-searchable
 over-requires-clause-searchable c =
     let made = c.add_crossings.new.points.items in
-    let is : c.in_ok-points.points.items ≡ ascending is_before made = c.in_ok-points.ensures.exact ∙ ap (ascending is_before) c.deref-5.ensures.value in
+    let is : c.in_ok-points.points.items ≡ ascending is_before made = c.in_ok-points.ensures.exact in
     record {
       up = subst (λ (xs : List GridPoint). AllPairs (λ p q. IsTrue (is_before p q)) xs) (sym is) (ascending_pairs made);
-      moved = subst (λ (xs : List GridPoint). IsPermutation c.in_ok-points.points.items xs) (sym (c.in_ok-curved.ensures ∙ c.deref-8.ensures.value)) (IsPermutation-refl c.in_ok-points.points.items);
+      moved = subst (λ (xs : List GridPoint). IsPermutation c.in_ok-points.points.items xs) (sym (c.in_ok-curved.ensures ∙ c.deref-7.ensures.value)) (IsPermutation-refl c.in_ok-points.points.items);
       held = λ k d l. absurd (let e = ap length c.new.ensures.items in omega arith);
     }
