@@ -6,11 +6,10 @@ use Rattle.std.proofs.lemmas.List.{drop-set}
 use Rattle.std.proofs.lemmas.Fmt.{decimal_digit, decimal_step, length-decimal-le}
 use Rattle.std.proofs.lemmas.Int.{unsigned_abs-mul}
 use Rattle.std.proofs.lemmas.Nat.{pow-add, div-add-mod', mod-mul-add}
-use Rattle.std.proofs.Math.Nat.{mod-lt, div-le_self, mul_assoc, mul-lt-mul_of_pos_right, mul-div-mul_right, mul-div_left, mul-mod_left, one-le-pow, div-div-eq-div-mul, mul_comm, div-one}
-use Rattle.std.proofs.Math.Arith.{mod-mul}
+use Rattle.std.proofs.Math.Nat.{mod-lt, div-le_self, mul_assoc, mul-lt-mul_of_pos_right, mul-div-mul_right, mul-div_left, mul-mod_left, one-le-pow}
 use Rattle.grid_base.specs.Grid.{limit}
 use Rattle.numerals.specs.Decimal.{of_grid, fraction_text as decimal_fraction, is_negative, last_digits, sign_text, trimmed_digits}
-use Rattle.numerals.proofs.Digits.{decimal_text-parts, fraction_text-zero, fraction_text-other, trim_end, trimmed_digits-zero}
+use Rattle.numerals.proofs.Digits.{decimal_text-parts, fraction_text-zero, fraction_text-other, trim_end, trim_many, trimmed_digits-zero}
 use Rattle.numerals.proofs.Scaling.{pow_ten}
 use Rattle.geojson_io.specs.Numbers.{fraction_text, whole_digits}
 use Rattle.plane_model.specs.Points.{GridPoint}
@@ -81,22 +80,6 @@ point_for_one room tail start places n m some l digits h =
     let behind : drop (suc start) room ≡ trimmed_digits places n ++ tail = cc in
     drop-set room start 46 l ∙ ap (λ (i : ℕ). 46 ∷ drop i room) (add-one start) ∙ ap (λ (t : List ℕ). 46 ∷ t) behind
     ∙ ap (λ (t : List ℕ). t ++ tail) (sym (fraction_some places n some))
-
--- many zeros at the end fall away at once
-trim_many : (k j n : ℕ) → n % 10 ^ k ≡ 0 → trimmed_digits (j + k) n ≡ trimmed_digits j (n / 10 ^ k)
-trim_many zero j n e =
-    let none : j + 0 ≡ j = omega arith in
-    ap (λ (i : ℕ). trimmed_digits i n) none ∙ ap (λ (m : ℕ). trimmed_digits j m) (sym (div-one n))
-trim_many (suc k) j n e =
-    let P : ℕ = 10 ^ k in
-    let positive : 0 < P = one-le-pow k 10 (lit< tt) in
-    let split : n % (P * 10) ≡ (n / 10 % P) * 10 + n % 10 = mod-mul n positive (lit< tt) in
-    let whole : n % (P * 10) ≡ 0 = ap (λ (x : ℕ). n % x) (sym (pow_ten k)) ∙ e in
-    let last : n % 10 ≡ 0 = omega (arith, split, whole) in
-    let front : n / 10 % P ≡ 0 = omega (arith, split, whole) in
-    let one_more : j + suc k ≡ suc (j + k) = omega arith in
-    ap (λ (i : ℕ). trimmed_digits i n) one_more ∙ trimmed_digits-zero (j + k) n last ∙ trim_many k j (n / 10) front
-    ∙ ap (λ (m : ℕ). trimmed_digits j m) (div-div-eq-div-mul n 10 P ∙ ap (λ (x : ℕ). n / x) (mul_comm 10 P ∙ sym (pow_ten k)))
 
 zero_times : (p : ℕ) → 0 * p ≡ 0
 zero_times p = omega arith

@@ -6,6 +6,7 @@ ghost use Rattle.geojson_io.specs.Numbers.{fraction_text, number_width};
 ghost use Rattle.geojson_io.specs.Texts.{grid_text};
 
 use itoa::write_digits;
+use numerals::ten_to;
 
 // Each function `put_..` writes a text into the room so that it ends at `end`, and gives where it starts.
 
@@ -18,7 +19,7 @@ pub fn put_number(g: i64, places: u8, room: &mut [u8], end: usize) -> usize
     ensures written { drop result room.new ≡ grid_text places g ++ drop end room.old }
 {
     let size = g.unsigned_abs();
-    let unit = ten_to(places);
+    let unit = unit_of(places);
     let start = put_fraction(size % unit, places, room, end);
     let start = write_digits(size / unit, room, start);
     put_sign(is_negative(g), room, start)
@@ -76,29 +77,18 @@ fn digits_after_one(fraction: u64, places: u8) -> u64
     ensures digits { decimal result ≡ 49 ∷ trimmed_digits places fraction }
     ensures few { result < 10 ^ (most_places + 1) }
 {
-    let mut digits = ten_to(places) + fraction;
+    let mut digits = unit_of(places) + fraction;
     while digits % 10 == 0 {
         digits /= 10;
     }
     digits
 }
 
-fn ten_to(power: u8) -> u64
-    requires { power ≤ most_places }
-    ensures value { result ≡ 10 ^ power }
+// How many steps of the grid are 1.
+fn unit_of(places: u8) -> u64
+    requires { places ≤ most_places }
+    ensures value { result ≡ 10 ^ places }
     ensures small { result ≤ 10 ^ most_places }
 {
-    match power {
-        0 => 1,
-        1 => 10,
-        2 => 100,
-        3 => 1_000,
-        4 => 10_000,
-        5 => 100_000,
-        6 => 1_000_000,
-        7 => 10_000_000,
-        8 => 100_000_000,
-        9 => 1_000_000_000,
-        _ => unreachable!(),
-    }
+    ten_to(usize::from(places))
 }
