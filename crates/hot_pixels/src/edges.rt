@@ -31,11 +31,10 @@ fn scattered(p: Pt) -> u64 {
     product ^ product >> 32
 }
 
-// The slot of a segment among `slots` of them; the same for the one that runs back along it.
-fn slot_of(s: &Seg, slots: usize) -> usize {
+// A sum over the ends of a segment; the same for the one that runs back along it.
+fn sum_over(s: &Seg) -> u64 {
     let sum = scattered(s.a()).wrapping_add(scattered(s.b()));
-    let high = sum.wrapping_mul(0x9E37_79B9_7F4A_7C15) >> 32;
-    (high.wrapping_mul(slots as u64) >> 32) as usize
+    sum.wrapping_mul(0x9E37_79B9_7F4A_7C15)
 }
 
 // The number, if it is that of a segment's edge.
@@ -75,10 +74,62 @@ pub fn next_number(count: usize) -> Result<u32, AllocError>
     Ok(count as u32)
 }
 
+fn lower_half(sum: u64) -> u32 {
+    (sum % (1 << 32)) as u32
+}
+
+// A table that leads from the sum over a segment to the number of its edge. An entry has the number in its lower bits,
+// and the bits of the sum there above them, so that few other edges are looked at.
+#[derive(Drop)]
+struct EdgeTable {
+    entries: Vec<u32>,
+    number_mask: u32,
+}
+
+impl EdgeTable {
+    // A table with two slots for each segment.
+    fn over(alloc: Global, segments: usize) -> Result<EdgeTable, AllocError> {
+        let bits = usize::BITS.wrapping_sub(segments.leading_zeros());
+        Ok(EdgeTable {
+            entries: vec![in alloc; 0; segments.saturating_mul(2)]?,
+            number_mask: u32::MAX.wrapping_shr(u32::BITS.saturating_sub(bits).min(31)),
+        })
+    }
+
+    fn slot_of(&self, sum: u64) -> usize {
+        ((sum >> 32).wrapping_mul(self.entries.len() as u64) >> 32) as usize
+    }
+
+    // The number that the table has for a sum.
+    fn number_at(&self, sum: u64) -> Option<u32> {
+        let entry = *self.entries.get(self.slot_of(sum))?;
+        if (entry ^ lower_half(sum)) & !self.number_mask == 0 {
+            Some(entry & self.number_mask)
+        } else {
+            None
+        }
+    }
+
+    fn put(&mut self, sum: u64, number: u32) {
+        let slot = self.slot_of(sum);
+        if let Some(entry) = self.entries.get_mut(slot) {
+            *entry = lower_half(sum) & !self.number_mask | number;
+        }
+    }
+}
+
+// The number of a segment's edge, if the table leads to it.
+fn listed_edge(edges: &[Seg], table: &EdgeTable, sum: u64, s: &Seg) -> Option<u32>
+    ensures found { IfSome result (λ i. HasEdgeAt edges.now s.now i) }
+{
+    let i = table.number_at(sum)?;
+    edge_at(edges, i, s)
+}
+
 // The number of a segment's edge, which is added if neither the edge of the segment before nor the table leads to it.
 fn add_edge(
     edges: &mut Vec<Seg>,
-    table: &mut Vec<u32>,
+    table: &mut EdgeTable,
     last: u32,
     s: &Seg,
 ) -> Result<u32, AllocError>
@@ -87,14 +138,12 @@ fn add_edge(
     if let Some(i) = edge_beside(edges, last, s) {
         return Ok(i);
     }
-    let slot = slot_of(s, table.len());
-    if let Some(i) = known_edge(edges, table, slot, s) {
+    let sum = sum_over(s);
+    if let Some(i) = listed_edge(edges, table, sum, s) {
         return Ok(i);
     }
     let i = next_number(edges.len())?;
-    if slot < table.len() {
-        table[slot] = i;
-    }
+    table.put(sum, i);
     edges.push(*s)?;
     Ok(i)
 }
@@ -106,7 +155,7 @@ fn add_edge(
 pub fn edges_of(alloc: Global, segments: &[Seg]) -> Result<Edges, AllocError>
     ensures { IfOk result (λ found. AreEdgesOf segments.now found.segments.items) }
 {
-    let mut table = vec![in alloc; 0; segments.len().saturating_mul(2)]?;
+    let mut table = EdgeTable::over(alloc, segments.len())?;
     let mut edges = Vec::with_capacity(alloc, segments.len())?;
     let mut numbers = Vec::with_capacity(alloc, segments.len())?;
     let mut last = 0;
