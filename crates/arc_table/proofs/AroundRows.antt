@@ -1,5 +1,5 @@
 -- The signed arcs that start at a vertex stand together in a table by start and in turn.
-use Rattle.std.proofs.Common.{◌≡◌, inl, inr, refl, sym, ap, ◌∙◌, subst, arith, ℕ, ◌+◌, ◌-◌, ◌<◌, ◌≤◌, Bool, true, false, List, length, get_or, take, drop, length-drop, length-take, All, Contains}
+use Rattle.std.proofs.Common.{◌≡◌, inl, inr, refl, sym, ap, ◌∙◌, subst, arith, ℕ, ◌+◌, ◌-◌, ◌<◌, ◌≤◌, Bool, true, false, List, [], ◌∷◌, length, get_or, take, drop, length-drop, length-take, All, Contains}
 use Rattle.std.specs.List.Sorted.{IsPartitionedBy, IsPartitionPoint}
 use Rattle.std.proofs.lemmas.Bool.{cases_lt}
 use Rattle.std.proofs.lemmas.List.{get_or-map, length-map, get_or-take, get_or-drop, length-take-le}
@@ -154,3 +154,9 @@ module _ (arcs : List Path) (starts : List GridPoint) (outs : List SignedArc) (t
             ∙ (not_first_from (first_step arcs (get_or outs (first + j) d)) (first_step arcs (get_or outs (first + i) d)) (far (first + i) (first + j) d (omega arith) (within j h))).1
             (starts_here j d h ∙ sym (starts_here i d k)));
       }
+
+-- ---- a vertex where none starts
+
+pub none_around : (arcs : List Path) (p : GridPoint) (around : List SignedArc) → IsAround arcs p around → length around ≡ 0 → IsAround arcs p []
+none_around arcs p [] h e = h
+none_around arcs p (a ∷ around) h e = absurd (omega (arith, e))

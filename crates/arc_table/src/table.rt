@@ -182,6 +182,18 @@ impl ArcTable {
         lesser_of(least_of(self.around(p)), least_at(&self.inner, p))
     }
 
+    /// The same where no arc starts at `p`. Takes no memory.
+    ///
+    /// Cost: log n for n vertices between the ends of arcs.
+    pub fn arc_through(&self, p: Pt) -> Option<ArcId>
+        requires off { IsAround self.now p [] }
+        ensures exact { IsArcAt self.now p result }
+        ensures alone { IfSome result (IsAloneAt self.now p) }
+        ensures there { IfSome result (λ id. id < length self.now) }
+    {
+        least_at(&self.inner, p)
+    }
+
     // The signed arc that begins with a step; `None` exactly where none does.
     pub(crate) fn begun_by(&self, step: Step) -> Option<SignedArc>
         ensures exact { IsBegunBy self.now step result }

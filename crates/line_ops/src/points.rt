@@ -1,6 +1,7 @@
-ghost use Rattle.std.specs.Prelude.{◌≡◌, ℕ, All, None, nat_eq};
+ghost use Rattle.std.specs.Prelude.{◌≡◌, [], ℕ, All, None, nat_eq};
 ghost use Rattle.lists.specs.Lists.{has};
 ghost use Rattle.plane_model.specs.Arcs.{forward};
+ghost use Rattle.arc_table.specs.Around.{IsAround};
 ghost use Rattle.arc_table.specs.Lookup.{IsArcAt, IsLeastAt};
 ghost use Rattle.face_walk.specs.Places.{HasArc, IsBuiltOf, IsFaceOver};
 ghost use Rattle.line_ops.specs.Inside.{is_inside};
@@ -31,10 +32,11 @@ pub fn point_inside(t: &ArcTable, f: &Faces, p: Pt, set: &FaceSet) -> bool
 // Whether the set has a side of the least arc at a vertex, or where there is none the face over it.
 fn inside_off_nodes(t: &ArcTable, f: &Faces, p: Pt, set: &FaceSet) -> bool
     requires built { IsBuiltOf t.now f.now }
+    requires around { IsAround t.now p [] }
     ensures on_arc { (n : ℕ) → IsLeastAt t.now p n → result ≡ is_inside f.now set.now (forward n) }
     ensures alone { IsArcAt t.now p None → (k : ℕ) × IsFaceOver f.now p k × (result ≡ has nat_eq set.now k) }
 {
-    match t.arc_at(p) {
+    match t.arc_through(p) {
         Some(id) => is_inside(f, set, SignedArc::forward(id)),
         None => set.has(f.at(t, p)),
     }

@@ -1,4 +1,5 @@
 ghost use Rattle.std.specs.Prelude.{◌≡◌, ◌<◌, ◌++◌, [], All, OnOk, slice_index_or};
+ghost use Rattle.arc_table.specs.Around.{IsAround};
 ghost use Rattle.face_walk.specs.Places.{HasArc, IsBuiltOf};
 ghost use Rattle.line_ops.specs.Inside.{left_of as face_left_of};
 ghost use Rattle.line_ops.specs.Points.{IsNode};
@@ -42,9 +43,10 @@ fn push_off_nodes(
 ) -> Result<(), AllocError>
     requires built { IsBuiltOf t.now f.now }
     requires off { IsNode t.now p → ⊥ }
+    requires around { IsAround t.now p [] }
     ensures found { OnOk result (AreFoundAt t.now f.now owners.now p found.old.items found.new.items) }
 {
-    match t.arc_at(p) {
+    match t.arc_through(p) {
         Some(id) => {
             let sides = [SignedArc::forward(id), SignedArc::backward(id)];
             push_left_of(f, owners, &sides, found)

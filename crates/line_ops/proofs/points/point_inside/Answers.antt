@@ -1,7 +1,13 @@
 use Rattle.std.proofs.Common.{◌∙◌, sym, length}
 use Rattle.std.proofs.lemmas.Bool.{eqb-true, eqb-false}
+use Rattle.arc_table.proofs.AroundRows.{none_around}
 use Rattle.line_ops.proofs.PointLemmas.{inside_at_node, inside_off_node}
 use Rattle.line_ops.proofs.points.point_inside.Goals as goal
+
+pub inside_off_nodes-requires-clause-around : goal.inside_off_nodes-requires-clause-around
+inside_off_nodes-requires-clause-around c =
+    let around = c.around-around.result.now in
+    none_around c.args.t.now c.args.p around c.around-around.ensures.exact (eqb-true (length around) 0 (sym c.is_empty.ensures ∙ c.if-is_empty.true))
 
 pub returns-then-is_empty : goal.returns-then-is_empty
 returns-then-is_empty c =
