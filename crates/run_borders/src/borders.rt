@@ -7,6 +7,7 @@ ghost use Rattle.run_borders.specs.Borders.{
   IsAmong,
   bare_table,
   border_line,
+  borders_of,
   first_difference,
   line_along,
   ranked_row,
@@ -22,7 +23,7 @@ use arc_table::SignedPaths;
 use grid_base::{ArcId, Kind};
 use io_core::{NameList, Text};
 use json_values::{Row, RowList, Table, Value};
-use line_ops::{SidedArc, inner_arcs, sided_arcs};
+use line_ops::{SidedArc, SidedArcs, inner_arcs, sided_arcs};
 use numerals::Decimal;
 use run_plane::{Layer, Plane, Shape, copy_text};
 use run_state::{CommandStop, sets_of};
@@ -98,12 +99,37 @@ pub fn outlines(
     ensures stops { IfErr result (StopsFor (table_refusal (keep_fields layer.now.table fields.now))) }
 {
     let listed = keep_fields(alloc, &layer.table, fields)?;
+    let arcs = borders_of(alloc, plane, layer)?;
+    Ok(ranked_lines(alloc, &layer.name, &listed, arcs.as_slice())?)
+}
+
+// The arcs whose two sides have different features, with the lowest feature at each side.
+fn borders_of(alloc: Global, plane: &Plane, layer: &Layer) -> Result<SidedArcs, AllocError>
+    ensures exact { IfOk result (λ arcs. arcs ≡ borders_of plane.now layer.now) }
+    ensures there { IfOk result (All (λ sided. sided.arc < length plane.now.arcs)) }
+    ensures among { IfOk result (All (IsAmong (length layer.now.table.rows))) }
+{
     let sets = sets_of(alloc, &layer.shapes)?;
-    let arcs = sided_arcs(alloc, &plane.arcs, &plane.faces, &sets)?;
-    let table = ranked_table(alloc, &listed, arcs.as_slice())?;
-    let shapes = outline_shapes(alloc, arcs.as_slice())?;
+    sided_arcs(alloc, &plane.arcs, &plane.faces, &sets)
+}
+
+// A line for each of these arcs, with its type and rank.
+fn ranked_lines(
+    alloc: Global,
+    name: &Text,
+    listed: &Table,
+    arcs: &[SidedArc],
+) -> Result<Layer, AllocError>
+    requires rows { All (IsAmong (length listed.now.rows)) arcs.now }
+    ensures name { IfOk result (λ made. made.name ≡ name.now) }
+    ensures kind { IfOk result (λ made. made.kind ≡ Kind.Line) }
+    ensures table { IfOk result (λ made. made.table ≡ ranked_table listed.now arcs.now) }
+    ensures shapes { IfOk result (λ made. made.shapes.items ≡ map border_line arcs.now) }
+{
+    let table = ranked_table(alloc, listed, arcs)?;
+    let shapes = outline_shapes(alloc, arcs)?;
     Ok(Layer {
-        name: copy_text(alloc, &layer.name)?,
+        name: copy_text(alloc, name)?,
         kind: Kind::Line,
         table,
         shapes,
