@@ -1,10 +1,11 @@
 -- How many layers a command leaves.
-use Rattle.std.proofs.Common.{◌≡◌, ℕ, ◌+◌, zero, suc, Bool, true, false, not, cond, if◌then◌else◌, List, [], ◌∷◌, ◌++◌, length, map, MatchBool, count_by, sum_by, replicate, Result, Ok, Some, None, ◌<◌, refl, ap, sym, ◌∙◌, arith, length-append}
+use Rattle.std.proofs.Common.{◌≡◌, ℕ, ◌+◌, zero, suc, Bool, true, false, not, cond, if◌then◌else◌, List, [], ◌∷◌, ◌++◌, length, map, MatchBool, count_by, sum_by, replicate, Option, Result, Ok, Some, None, ◌<◌, refl, ap, sym, ◌∙◌, arith, length-append}
 use Rattle.std.specs.Prelude.{slice_get}
 use Rattle.std.specs.List.{AllZip, enumerate_from, flat_map, position_or_len}
 use Rattle.std.proofs.lemmas.List.{length-map}
 use Rattle.std.proofs.lemmas.List.FromFn.{length-enumerate_from}
 use Rattle.std.proofs.lemmas.List.Sums.{sum_by-cons}
+use Rattle.io_core.specs.Contents.{Content}
 use Rattle.table_rows.specs.Splitting.{split_rows}
 use Rattle.table_rows.specs.declared.fault.TableWhy.{TableWhy}
 use Rattle.table_rows.specs.declared.split.SplitItem.{SplitItem}
@@ -21,7 +22,7 @@ use Rattle.run_state.specs.declared.state.HeldLayer.{HeldLayer}
 use Rattle.run_state.proofs.TargetLemmas.{target_first, other_first}
 use Rattle.run_tables.specs.Made.{HasTable, One}
 use Rattle.run_tables.specs.Pieces.{ArePieces, IsPiece}
-use Rattle.run_steps.specs.Commands.{IsTitled, MadeTogether, PutsFor, PutsOut, PutsTogether, Titles, at_first}
+use Rattle.run_steps.specs.Commands.{IsTitled, MadeTogether, MakesOne, PutsFor, PutsOut, PutsTogether, Titles, at_first}
 use Rattle.run_steps.specs.Refusals.{output_count, piece_count, stay_count}
 
 -- ---- what is put out for one layer
@@ -62,6 +63,11 @@ made_counted base layers (action.Each assigns) layer made h = one_counted _ made
 made_counted base layers (action.Sort key descending) layer made h = one_counted _ made h
 made_counted base layers (action.Uniq key most invert) layer made h = one_counted _ made h
 made_counted base layers (action.FilterIslands least_area least_links remove_empty) layer made h = one_counted _ made h
+
+-- a command other than a split puts out one
+pub makes_one : (a : LayerAction) → ((field : Option Content) → a ≡ action.Split field → ⊥) → MakesOne a
+makes_one (action.Split field) n = absurd (n field refl)
+makes_one _ n = tt
 
 -- ---- layers that stay, and those put out
 

@@ -15,8 +15,7 @@ use Rattle.run_plane.specs.declared.plane.Plane.{Plane}
 use Rattle.run_state.specs.Origins.{Base}
 use Rattle.run_state.specs.Targets.{is_selected}
 use Rattle.run_state.specs.declared.state.HeldLayer.{HeldLayer}
-use Rattle.run_tables.specs.Made.{GivesTable}
-use Rattle.run_tables.proofs.OnPlane.{given_on, one_on}
+use Rattle.run_tables.proofs.OnPlane.{given_on}
 use Rattle.run_steps.specs.Commands.{IsTitled, Joins, JoinsByPlace, at_first}
 
 module _ (plane : Plane) where
@@ -32,12 +31,11 @@ module _ (plane : Plane) where
       All-cons (IsLayerOn plane) t titled (name_on title m t h.0 (All-head (IsLayerOn plane) m made on)) (names_on title made titled h.1 (All-tail (IsLayerOn plane) m made on))
 
   -- joined with a source
-  pub joins_on : (base : Base) (layers : List HeldLayer) (from : Origin) (spec : JoinSpec) (layer : Layer) (outputs : List Layer) → Joins base layers from spec layer outputs → IsLayerOn plane layer → AreLayersOn plane outputs
-  joins_on base layers from spec layer outputs h on = one_on plane (GivesTable (join_tables layer.table h.source.table spec) layer) (given_on plane (join_tables layer.table h.source.table spec) layer on) outputs h.joined
+  pub joins_on : (base : Base) (layers : List HeldLayer) (from : Origin) (spec : JoinSpec) (layer : Layer) → IsLayerOn plane layer → (made : Layer) → Joins base layers from spec layer (made ∷ []) → IsLayerOn plane made
+  joins_on base layers from spec layer on made h = given_on plane (join_tables layer.table h.source.table spec) layer on made h.joined
 
-  pub places_join_on : (base : Base) (layers : List HeldLayer) (from : Origin) (spec : CalcSpec) (layer : Layer) (outputs : List Layer) → JoinsByPlace base layers from spec layer outputs → IsLayerOn plane layer → AreLayersOn plane outputs
-  places_join_on base layers from spec layer outputs h on =
-      one_on plane (GivesTable (join_matched layer.table h.source.table h.matches spec) layer) (given_on plane (join_matched layer.table h.source.table h.matches spec) layer on) outputs h.joined
+  pub places_join_on : (base : Base) (layers : List HeldLayer) (from : Origin) (spec : CalcSpec) (layer : Layer) → IsLayerOn plane layer → (made : Layer) → JoinsByPlace base layers from spec layer (made ∷ []) → IsLayerOn plane made
+  places_join_on base layers from spec layer on made h = given_on plane (join_matched layer.table h.source.table h.matches spec) layer on made h.joined
 
   -- in the place of the first target
   pub first_place_on : (t : Target) (layers : List HeldLayer) (made : Layer) → IsLayerOn plane made → AreAllOn plane (at_first t layers made)

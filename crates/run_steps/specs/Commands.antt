@@ -43,6 +43,11 @@ CutsBy base layers (action.Clip from) cut_set = cut_set ≡ cut_set_of base laye
 CutsBy base layers (action.Erase from) cut_set = cut_set ≡ cut_set_of base layers from
 CutsBy base layers _ cut_set = ⊤
 
+-- it puts out one layer for each: all but a split do
+abbrev pub MakesOne : LayerAction → Type 0
+MakesOne (action.Split field) = ⊥
+MakesOne _ = ⊤
+
 -- what a join puts out: the layer joined with the one of its source
 pub record Joins (base : Base) (layers : List HeldLayer) (from : Origin) (spec : JoinSpec) (layer : Layer) (outputs : List Layer) : Type 0 where
   pub source : Layer

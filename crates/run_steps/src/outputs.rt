@@ -6,10 +6,10 @@ ghost use Rattle.run_state.specs.OnPlane.{AreHeldOn};
 ghost use Rattle.run_state.specs.Targets.{has_target, is_selected, targets};
 ghost use Rattle.run_state.specs.Origins.{base_of, one_layer, origin_layers};
 ghost use Rattle.run_state.specs.Stops.{StopsAs, StopsFor};
-ghost use Rattle.run_steps.specs.Commands.{CutsBy, IsTitled, Joins, JoinsByPlace, MadeTogether, PutsFor, PutsOut, PutsTogether, at_first};
+ghost use Rattle.run_steps.specs.Commands.{CutsBy, IsTitled, Joins, JoinsByPlace, MadeTogether, MakesOne, PutsFor, PutsOut, PutsTogether, at_first};
 ghost use Rattle.run_checks.specs.Checks.{refused_source};
 ghost use Rattle.run_steps.specs.Refusals.{RefusesHeld, RefusesIn, RefusesLayer, RefusesByPlace, refused_join, refused_together};
-ghost use Rattle.run_tables.specs.Made.{GivesTable, One};
+ghost use Rattle.run_tables.specs.Made.{GivesTable};
 ghost use Rattle.spatial_join.specs.Joined.{join_matched};
 
 use face_sets::FaceSet;
@@ -228,31 +228,51 @@ fn layer_outputs(
     ensures accepted { IfOk result (λ outputs. RefusesLayer (base_of base.now) layers.now action.now layer.now None) }
     ensures stops { IfErr result (StopsAs (RefusesLayer (base_of base.now) layers.now action.now layer.now)) }
 {
+    match action {
+        LayerAction::Split { field } => split(alloc, layer, field.as_ref()),
+        _ => {
+            let made = layer_made(alloc, base, layers, action, cut_set, layer)?;
+            Ok(one_output(alloc, made)?)
+        }
+    }
+}
+
+// The one layer that a command other than a split puts out.
+fn layer_made(
+    alloc: Global,
+    base: &Base<'_>,
+    layers: &[HeldLayer],
+    action: &LayerAction,
+    cut_set: &FaceSet,
+    layer: &Layer,
+) -> Result<Layer, CommandStop>
+    requires one { MakesOne action.now }
+    requires cut_set { CutsBy (base_of base.now) layers.now action.now cut_set.now }
+    requires on { IsLayerOn base.now.plane.now layer.now }
+    ensures puts { IfOk result (λ made. PutsOut (base_of base.now) layers.now action.now layer.now (made ∷ [])) }
+    ensures on { IfOk result (IsLayerOn base.now.plane.now) }
+    ensures accepted { IfOk result (λ made. RefusesLayer (base_of base.now) layers.now action.now layer.now None) }
+    ensures stops { IfErr result (StopsAs (RefusesLayer (base_of base.now) layers.now action.now layer.now)) }
+{
     let plane = base.plane;
     match action {
-        LayerAction::Clip { .. } => one(
+        LayerAction::Clip { .. } => Ok(cut(alloc, plane, layer, cut_set, CutKeeps::Inside)?),
+        LayerAction::Erase { .. } => Ok(cut(alloc, plane, layer, cut_set, CutKeeps::Outside)?),
+        LayerAction::Dissolve { spec, group_points } => dissolved(
             alloc,
-            cut(alloc, plane, layer, cut_set, CutKeeps::Inside)?,
+            layer,
+            spec,
+            *group_points,
         ),
-        LayerAction::Erase { .. } => one(
-            alloc,
-            cut(alloc, plane, layer, cut_set, CutKeeps::Outside)?,
-        ),
-        LayerAction::Dissolve { spec, group_points } => {
-            one(alloc, dissolved(alloc, layer, spec, *group_points)?)
-        }
         LayerAction::Clean {
             rule,
             allow_empty,
             gap,
-        } => one(
-            alloc,
-            cleaned(alloc, plane, layer, *rule, *allow_empty, *gap)?,
-        ),
-        LayerAction::Mosaic => one(alloc, mosaic(alloc, plane, layer)?),
-        LayerAction::Explode => one(alloc, exploded(alloc, plane, layer)?),
-        LayerAction::InnerLines => one(alloc, inner_lines(alloc, plane, layer)?),
-        LayerAction::Lines { fields } => one(alloc, outlines(alloc, plane, layer, fields)?),
+        } => Ok(cleaned(alloc, plane, layer, *rule, *allow_empty, *gap)?),
+        LayerAction::Mosaic => Ok(mosaic(alloc, plane, layer)?),
+        LayerAction::Explode => Ok(exploded(alloc, plane, layer)?),
+        LayerAction::InnerLines => Ok(inner_lines(alloc, plane, layer)?),
+        LayerAction::Lines { fields } => outlines(alloc, plane, layer, fields),
         LayerAction::Join { from, spec } => joined_by(alloc, base, layers, from, spec, layer),
         LayerAction::SpatialJoin { from, spec } => {
             joined_by_place(alloc, base, layers, from, spec, layer)
@@ -261,35 +281,25 @@ fn layer_outputs(
             test,
             invert,
             remove_empty,
-        } => one(
-            alloc,
-            filtered(alloc, layer, test.as_ref(), *invert, *remove_empty)?,
-        ),
-        LayerAction::FilterFields { fields } => one(alloc, with_fields(alloc, layer, fields)?),
-        LayerAction::RenameFields { pairs } => one(alloc, renamed(alloc, layer, pairs)?),
-        LayerAction::Split { field } => split(alloc, layer, field.as_ref()),
-        LayerAction::Each { assigns } => one(alloc, calculated(alloc, layer, assigns)?),
-        LayerAction::Sort { key, descending } => {
-            one(alloc, sorted(alloc, layer, key, *descending)?)
-        }
-        LayerAction::Uniq { key, most, invert } => {
-            one(alloc, unrepeated(alloc, layer, key, *most, *invert)?)
-        }
+        } => filtered(alloc, layer, test.as_ref(), *invert, *remove_empty),
+        LayerAction::FilterFields { fields } => with_fields(alloc, layer, fields),
+        LayerAction::RenameFields { pairs } => renamed(alloc, layer, pairs),
+        LayerAction::Split { .. } => unreachable!(),
+        LayerAction::Each { assigns } => calculated(alloc, layer, assigns),
+        LayerAction::Sort { key, descending } => sorted(alloc, layer, key, *descending),
+        LayerAction::Uniq { key, most, invert } => unrepeated(alloc, layer, key, *most, *invert),
         LayerAction::FilterIslands {
             least_area,
             least_links,
             remove_empty,
-        } => one(
+        } => Ok(without_islands(
             alloc,
-            without_islands(
-                alloc,
-                plane,
-                layer,
-                *least_area,
-                *least_links,
-                *remove_empty,
-            )?,
-        ),
+            plane,
+            layer,
+            *least_area,
+            *least_links,
+            *remove_empty,
+        )?),
     }
 }
 
@@ -300,13 +310,13 @@ fn joined_by(
     from: &Origin,
     spec: &JoinSpec,
     layer: &Layer,
-) -> Result<Vec<Layer>, CommandStop>
-    ensures joins { IfOk result (λ outputs. Joins (base_of base.now) layers.now from.now spec.now layer.now outputs.items) }
-    ensures accepted { IfOk result (λ outputs. refused_join (one_layer (origin_layers (base_of base.now).sources layers.now from.now)) spec.now layer.now ≡ None) }
+) -> Result<Layer, CommandStop>
+    ensures joins { IfOk result (λ made. Joins (base_of base.now) layers.now from.now spec.now layer.now (made ∷ [])) }
+    ensures accepted { IfOk result (λ made. refused_join (one_layer (origin_layers (base_of base.now).sources layers.now from.now)) spec.now layer.now ≡ None) }
     ensures stops { IfErr result (StopsFor (refused_join (one_layer (origin_layers (base_of base.now).sources layers.now from.now)) spec.now layer.now)) }
 {
     match origin_layer(layers, base.sources, from) {
-        Ok(source) => one(alloc, joined(alloc, layer, source, spec)?),
+        Ok(source) => joined(alloc, layer, source, spec),
         Err(why) => Err(CommandStop::Refused(why)),
     }
 }
@@ -319,9 +329,9 @@ fn joined_by_place(
     from: &Origin,
     spec: &CalcSpec,
     layer: &Layer,
-) -> Result<Vec<Layer>, CommandStop>
-    ensures joins { IfOk result (λ outputs. JoinsByPlace (base_of base.now) layers.now from.now spec.now layer.now outputs.items) }
-    ensures accepted { IfOk result (λ outputs. RefusesByPlace (base_of base.now).plane (one_layer (origin_layers (base_of base.now).sources layers.now from.now)) spec.now layer.now None) }
+) -> Result<Layer, CommandStop>
+    ensures joins { IfOk result (λ made. JoinsByPlace (base_of base.now) layers.now from.now spec.now layer.now (made ∷ [])) }
+    ensures accepted { IfOk result (λ made. RefusesByPlace (base_of base.now).plane (one_layer (origin_layers (base_of base.now).sources layers.now from.now)) spec.now layer.now None) }
     ensures stops { IfErr result (StopsAs (RefusesByPlace (base_of base.now).plane (one_layer (origin_layers (base_of base.now).sources layers.now from.now)) spec.now layer.now)) }
 {
     match origin_layer(layers, base.sources, from) {
@@ -331,31 +341,19 @@ fn joined_by_place(
 }
 
 // The layer joined by place with a source.
-#[tactic(auto, using(crate::proofs::ByPlace::place_stops))]
 fn joined_with(
     alloc: Global,
     plane: &Plane,
     source: &Layer,
     spec: &CalcSpec,
     layer: &Layer,
-) -> Result<Vec<Layer>, CommandStop>
-    ensures joins { IfOk result (λ outputs. (matches : List (List ℕ)) × AreMatches plane.now source.now layer.now matches × One (GivesTable (join_matched layer.now.table source.now.table matches spec.now) layer.now) outputs.items) }
-    ensures accepted { IfOk result (λ outputs. RefusesByPlace plane.now (Ok source.now) spec.now layer.now None) }
+) -> Result<Layer, CommandStop>
+    ensures joins { IfOk result (λ made. (matches : List (List ℕ)) × AreMatches plane.now source.now layer.now matches × GivesTable (join_matched layer.now.table source.now.table matches spec.now) layer.now made) }
+    ensures accepted { IfOk result (λ made. RefusesByPlace plane.now (Ok source.now) spec.now layer.now None) }
     ensures stops { IfErr result (StopsAs (RefusesByPlace plane.now (Ok source.now) spec.now layer.now)) }
 {
     let matches = matches_of(alloc, plane, source, layer)?;
-    one(
-        alloc,
-        joined_by_matches(alloc, layer, source, &matches, spec)?,
-    )
-}
-
-fn one(alloc: Global, layer: Layer) -> Result<Vec<Layer>, CommandStop>
-    ensures one { IfOk result (λ outputs. outputs.items ≡ layer ∷ []) }
-    ensures on { (plane : Plane) → IsLayerOn plane layer → IfOk result (λ outputs. AreLayersOn plane outputs.items) }
-    ensures memory { IfErr result (λ stop. stop ≡ CommandStop.Memory) }
-{
-    Ok(one_output(alloc, layer)?)
+    joined_by_matches(alloc, layer, source, &matches, spec)
 }
 
 fn one_output(alloc: Global, layer: Layer) -> Result<Vec<Layer>, AllocError>

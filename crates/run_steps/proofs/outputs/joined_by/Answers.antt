@@ -1,20 +1,37 @@
-use Rattle.std.proofs.Common.{◌≡◌, ◌∷◌, [], subst, sym}
+use Rattle.std.proofs.Common.{◌≡◌, ◌∷◌, ◌∙◌, [], None, Result, ap, sym, subst}
+use Rattle.std.proofs.lemmas.Result.{IfOk-weaker}
 use Rattle.table_ops.specs.Join.{join_tables}
-use Rattle.run_state.specs.Origins.{base_of}
-use Rattle.run_tables.specs.Made.{GivesTable, One}
-use Rattle.run_steps.specs.Commands.{Joins}
 use Rattle.run_plane.specs.declared.layer.Layer.{Layer}
-use Rattle.run_plane.proofs.Growth.{if_ok_on}
+use Rattle.run_state.specs.Origins.{base_of, one_layer, origin_layers}
+use Rattle.run_state.specs.Stops.{StopsFor, table_refusal}
+use Rattle.run_state.specs.declared.refusal.RefuseWhy.{RefuseWhy}
+use Rattle.run_state.proofs.Stops.{if_err_on}
+use Rattle.run_tables.specs.Made.{GivesTable}
+use Rattle.run_steps.specs.Commands.{Joins}
+use Rattle.run_steps.specs.Refusals.{refused_join}
 use Rattle.run_steps.proofs.outputs.joined_by.Goals as goal
 
-pub returns-in_ok-joined-in-Ok-clause-joins : goal.returns-in_ok-joined-in-Ok-clause-joins
-returns-in_ok-joined-in-Ok-clause-joins c =
+pub returns-in-Ok-clause-joins : goal.returns-in-Ok-clause-joins
+returns-in-Ok-clause-joins c =
     let layer : Layer = c.args.layer.now in
     let source : Layer = c.in-Ok.source.now in
-    let made : Layer = c.in_ok-joined-in-Ok.field-0 in
-    if_ok_on (λ outputs. outputs.items ≡ made ∷ []) (λ outputs. Joins (base_of c.args.base.now) c.args.layers.now c.args.from.now c.args.spec.now layer outputs.items) c.one.result
-    (λ outputs e. record {
-      source = source;
-      found = c.in-Ok.ensures.ok;
-      joined = subst (One (GivesTable (join_tables layer.table source.table c.args.spec.now) layer)) (sym e) c.in_ok-joined-in-Ok.ensures.made;
-    }) c.one.ensures.one
+    IfOk-weaker c.joined.result (GivesTable (join_tables layer.table source.table c.args.spec.now) layer) (λ made. Joins (base_of c.args.base.now) c.args.layers.now c.args.from.now c.args.spec.now layer (made ∷ []))
+    (λ made h. record { source = source; found = c.in-Ok.ensures.ok; joined = h }) c.joined.ensures.made
+
+pub returns-in-Ok-clause-accepted : goal.returns-in-Ok-clause-accepted
+returns-in-Ok-clause-accepted c =
+    let layer : Layer = c.args.layer.now in
+    let source : Layer = c.in-Ok.source.now in
+    let spec = c.args.spec.now in
+    let answer = one_layer (origin_layers (base_of c.args.base.now).sources c.args.layers.now c.args.from.now) in
+    IfOk-weaker c.joined.result (λ made. table_refusal (join_tables layer.table source.table spec) ≡ None) (λ made. refused_join answer spec layer ≡ None)
+    (λ made h. ap (λ (r : Result Layer RefuseWhy). refused_join r spec layer) c.in-Ok.ensures.ok ∙ h) c.joined.ensures.accepted
+
+pub returns-in-Ok-clause-stops : goal.returns-in-Ok-clause-stops
+returns-in-Ok-clause-stops c =
+    let layer : Layer = c.args.layer.now in
+    let source : Layer = c.in-Ok.source.now in
+    let spec = c.args.spec.now in
+    let answer = one_layer (origin_layers (base_of c.args.base.now).sources c.args.layers.now c.args.from.now) in
+    if_err_on (StopsFor (table_refusal (join_tables layer.table source.table spec))) (StopsFor (refused_join answer spec layer)) c.joined.result
+    (λ stop h. subst (λ (r : Result Layer RefuseWhy). StopsFor (refused_join r spec layer) stop) (sym c.in-Ok.ensures.ok) h) c.joined.ensures.stops

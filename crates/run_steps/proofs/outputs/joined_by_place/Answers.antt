@@ -1,11 +1,11 @@
-use Rattle.std.proofs.Common.{List, ℕ, None, Ok}
+use Rattle.std.proofs.Common.{List, [], ◌∷◌, ℕ, None, Ok}
 use Rattle.run_plane.specs.declared.layer.Layer.{Layer}
 use Rattle.run_plane.proofs.Growth.{if_ok_on}
 use Rattle.run_tables.specs.Matching.{AreMatches}
 use Rattle.run_state.specs.Origins.{base_of, one_layer, origin_layers}
 use Rattle.run_state.specs.Stops.{StopsAs}
 use Rattle.run_state.proofs.Stops.{if_err_on}
-use Rattle.run_tables.specs.Made.{GivesTable, One}
+use Rattle.run_tables.specs.Made.{GivesTable}
 use Rattle.spatial_join.specs.Joined.{join_matched}
 use Rattle.run_steps.specs.Commands.{JoinsByPlace}
 use Rattle.run_steps.specs.Refusals.{RefusesByPlace}
@@ -18,9 +18,9 @@ returns-in-Ok-clause-joins c =
     let source : Layer = c.in-Ok.source.now in
     let layer : Layer = c.args.layer.now in
     let spec = c.args.spec.now in
-    if_ok_on (λ outputs. (matches : List (List ℕ)) × AreMatches base.plane source layer matches × One (GivesTable (join_matched layer.table source.table matches spec) layer) outputs.items)
-    (λ outputs. JoinsByPlace base c.args.layers.now c.args.from.now spec layer outputs.items) c.joined_with.result
-    (λ outputs w. record { source = source; found = c.in-Ok.ensures.ok; matches = w.0; are = w.1; joined = w.2 }) c.joined_with.ensures.joins
+    if_ok_on (λ made. (matches : List (List ℕ)) × AreMatches base.plane source layer matches × GivesTable (join_matched layer.table source.table matches spec) layer made)
+    (λ made. JoinsByPlace base c.args.layers.now c.args.from.now spec layer (made ∷ [])) c.joined_with.result
+    (λ made w. record { source = source; found = c.in-Ok.ensures.ok; matches = w.0; are = w.1; joined = w.2 }) c.joined_with.ensures.joins
 
 pub returns-in-Ok-clause-accepted : goal.returns-in-Ok-clause-accepted
 returns-in-Ok-clause-accepted c =
@@ -29,8 +29,8 @@ returns-in-Ok-clause-accepted c =
     let layer : Layer = c.args.layer.now in
     let spec = c.args.spec.now in
     let answer = one_layer (origin_layers base.sources c.args.layers.now c.args.from.now) in
-    if_ok_on (λ outputs. RefusesByPlace base.plane (Ok source) spec layer None) (λ outputs. RefusesByPlace base.plane answer spec layer None) c.joined_with.result
-    (λ outputs h. source_goes base.plane spec layer answer source c.in-Ok.ensures.ok h) c.joined_with.ensures.accepted
+    if_ok_on (λ made. RefusesByPlace base.plane (Ok source) spec layer None) (λ made. RefusesByPlace base.plane answer spec layer None) c.joined_with.result
+    (λ made h. source_goes base.plane spec layer answer source c.in-Ok.ensures.ok h) c.joined_with.ensures.accepted
 
 pub returns-in-Ok-clause-stops : goal.returns-in-Ok-clause-stops
 returns-in-Ok-clause-stops c =
