@@ -8,7 +8,7 @@ ghost use Rattle.snap_round.specs.Snapping.{FaultMeans};
 ghost use Rattle.run_plane.specs.Begun.{IsFew};
 ghost use Rattle.run_plane.specs.LaidOut.{IsLaidOut};
 ghost use Rattle.run_plane.specs.OnPlane.{AreLayersOn, AreAllOn};
-ghost use Rattle.run_beginning.specs.BegunLayers.{AreBegun, AreLineArcs, AreShapes, BeginsOver, GoesAlong, IsBegunLayer, IsLineOf, left_after, left_after_all, face_shape, line_count, of_command, of_import, point_shape, polygon_count, row_shape};
+ghost use Rattle.run_beginning.specs.BegunLayers.{AreBegun, AreLineArcs, AreShapes, AreSourcesBegun, BeginsOver, GoesAlong, IsBegunLayer, IsLineOf, left_after, left_after_all, face_shape, line_count, of_command, of_import, point_shape, polygon_count, row_shape};
 ghost use Rattle.run_beginning.specs.Drawing.{drawing_of, points_of};
 
 use crate::drawing::drawing_of;
@@ -70,24 +70,45 @@ fn begun_with(alloc: Global, laid: LaidOut, sources: Vec<ReadSource>) -> Result<
         snapped,
         features,
     } = laid;
-    let mut next = first_of(features);
     let mut layers = Vec::new(alloc);
     let mut owned = Vec::new(alloc);
-    for source in sources {
-        let begun = begun_layers(
-            alloc,
-            &plane.arcs,
-            &snapped,
-            &mut next,
-            source.layers.into_vec(),
-        )?;
-        hand_out(alloc, source.owner, begun, &mut layers, &mut owned)?;
-    }
+    begin_sources(
+        alloc,
+        &plane.arcs,
+        &snapped,
+        features,
+        sources,
+        &mut layers,
+        &mut owned,
+    )?;
     Ok(Begun {
         plane,
         layers,
         sources: owned,
     })
+}
+
+// Fills two empty lists with the layers of sources over the plane: those of the import, and those of each source for
+// its command.
+fn begin_sources(
+    alloc: Global,
+    arcs: &ArcTable,
+    snapped: &Snapped,
+    features: Vec<FaceSet>,
+    sources: Vec<ReadSource>,
+    layers: &mut Vec<Layer>,
+    owned: &mut Vec<Vec<Layer>>,
+) -> Result<(), AllocError>
+    requires layers { layers.old.items ≡ [] }
+    requires owned { owned.old.items ≡ [] }
+    ensures begun { OnOk result (AreSourcesBegun arcs.now (record { faces = features.items; lines = snapped.now.lines }) (map (λ read. read.owner) sources.items) (map (λ read. read.layers) sources.items) layers.new.items (map (λ own. own.items) owned.new.items)) }
+{
+    let mut next = first_of(features);
+    for source in sources {
+        let begun = begun_layers(alloc, arcs, snapped, &mut next, source.layers.into_vec())?;
+        hand_out(alloc, source.owner, begun, layers, owned)?;
+    }
+    Ok(())
 }
 
 // All features of the drawing are left.
