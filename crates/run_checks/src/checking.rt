@@ -44,10 +44,8 @@ pub fn check_each(
     ensures there { IfOk result (λ done. has_target target.now layers.now ≡ true) }
     ensures absent { has_target target.now layers.now ≡ false → result ≡ Err RefuseWhy.NoLayer }
 {
-    match check_target(layers, target) {
-        Ok(()) => check_layers(layers, sources, target, action),
-        Err(why) => Err(why),
-    }
+    check_target(layers, target)?;
+    check_layers(layers, sources, target, action)
 }
 
 /// Tests the target of a command that changes layers together, then the kinds of its layers, then their number.
@@ -62,20 +60,16 @@ pub fn check_together(
     ensures there { IfOk result (λ done. has_target target.now layers.now ≡ true) }
     ensures absent { has_target target.now layers.now ≡ false → result ≡ Err RefuseWhy.NoLayer }
 {
-    match check_target(layers, target) {
-        Ok(()) => check_joint(layers, target, action),
-        Err(why) => Err(why),
-    }
+    check_target(layers, target)?;
+    check_joint(layers, target, action)
 }
 
 fn check_joint(layers: &[HeldLayer], target: &Target, action: &JointAction) -> Result<(), RefuseWhy>
     requires there { has_target target.now layers.now ≡ true }
     ensures exact { refusal_of result ≡ first_refusal (refused_mixture action.now (targets target.now layers.now)) (refused_number action.now (targets target.now layers.now)) }
 {
-    match check_mixture(layers, target, action) {
-        Ok(()) => check_number(layers, target, action),
-        Err(why) => Err(why),
-    }
+    check_mixture(layers, target, action)?;
+    check_number(layers, target, action)
 }
 
 fn check_layers(
@@ -87,10 +81,8 @@ fn check_layers(
     ensures exact { refusal_of result ≡ first_refusal (refused_source (map (λ own. own.items) sources.now) layers.now action.now) (refused_kinds (map (λ own. own.items) sources.now) layers.now action.now (targets target.now layers.now)) }
     ensures sourced { IfOk result (λ done. refused_source (map (λ own. own.items) sources.now) layers.now action.now ≡ None) }
 {
-    match check_source(layers, sources, action) {
-        Ok(()) => check_kinds(layers, sources, target, action),
-        Err(why) => Err(why),
-    }
+    check_source(layers, sources, action)?;
+    check_kinds(layers, sources, target, action)
 }
 
 // Tests that the source is there, and has polygons where the command cuts by it.
@@ -126,10 +118,8 @@ fn check_source(
 fn check_one(layers: &[HeldLayer], sources: &[Vec<Layer>], from: &Origin) -> Result<(), RefuseWhy>
     ensures exact { refusal_of result ≡ refusal_of (one_layer (origin_layers (map (λ own. own.items) sources.now) layers.now from.now)) }
 {
-    match origin_layer(layers, sources, from) {
-        Ok(_) => Ok(()),
-        Err(why) => Err(why),
-    }
+    origin_layer(layers, sources, from)?;
+    Ok(())
 }
 
 // Tests that what a command cuts by is polygons. A box always is there.
@@ -139,10 +129,18 @@ fn check_cut(layers: &[HeldLayer], sources: &[Vec<Layer>], from: &Origin) -> Res
     if let Origin::Area(_) = from {
         return Ok(());
     }
-    match origin_layer(layers, sources, from) {
-        Ok(layer) if is_polygon(layer.kind) => Ok(()),
-        Ok(_) => Err(RefuseWhy::WrongKind),
-        Err(why) => Err(why),
+    let layer = origin_layer(layers, sources, from)?;
+    check_fit(is_polygon(layer.kind))
+}
+
+// Tests that layers are of the kinds that they have to be.
+fn check_fit(fits: bool) -> Result<(), RefuseWhy>
+    ensures exact { refusal_of result ≡ (if fits then None else Some RefuseWhy.WrongKind) }
+{
+    if fits {
+        Ok(())
+    } else {
+        Err(RefuseWhy::WrongKind)
     }
 }
 
@@ -156,7 +154,7 @@ fn check_kinds(
 {
     match action {
         LayerAction::SpatialJoin { from, .. } => check_pairs(layers, sources, target, from),
-        _ => check_taken(layers, target, action),
+        _ => check_fit(takes_all(layers, target, action)),
     }
 }
 
@@ -169,11 +167,8 @@ fn check_pairs(
 ) -> Result<(), RefuseWhy>
     ensures exact { refusal_of result ≡ refused_pairs (one_layer (origin_layers (map (λ own. own.items) sources.now) layers.now from.now)) (targets target.now layers.now) }
 {
-    match origin_layer(layers, sources, from) {
-        Ok(source) if joins_all(source.kind, layers, target) => Ok(()),
-        Ok(_) => Err(RefuseWhy::WrongKind),
-        Err(why) => Err(why),
-    }
+    let source = origin_layer(layers, sources, from)?;
+    check_fit(joins_all(source.kind, layers, target))
 }
 
 fn joins_all(source: Kind, layers: &[HeldLayer], target: &Target) -> bool
@@ -195,16 +190,6 @@ fn joins_with(source: Kind, kind: Kind) -> bool
         Kind::Polygon => kind == Kind::Point,
         Kind::Point => kind == Kind::Polygon,
         Kind::Line | Kind::Table => false,
-    }
-}
-
-fn check_taken(layers: &[HeldLayer], target: &Target, action: &LayerAction) -> Result<(), RefuseWhy>
-    ensures exact { refusal_of result ≡ (if takes_all action.now (targets target.now layers.now) then None else Some RefuseWhy.WrongKind) }
-{
-    if takes_all(layers, target, action) {
-        Ok(())
-    } else {
-        Err(RefuseWhy::WrongKind)
     }
 }
 
@@ -265,11 +250,8 @@ fn check_mixture(
     requires there { has_target target.now layers.now ≡ true }
     ensures exact { refusal_of result ≡ refused_mixture action.now (targets target.now layers.now) }
 {
-    if takes_together(layers, target, action, first_kind(layers, target)) {
-        Ok(())
-    } else {
-        Err(RefuseWhy::WrongKind)
-    }
+    let first = first_kind(layers, target);
+    check_fit(takes_together(layers, target, action, first))
 }
 
 // The kind of the first layer of the target.
