@@ -1,4 +1,4 @@
-ghost use Rattle.std.specs.Prelude.{◌≡◌, ◌++◌, IfOk, OnOk, decimal, length, map};
+ghost use Rattle.std.specs.Prelude.{◌≡◌, ◌++◌, ◌∷◌, [], IfOk, OnOk, codes, decimal, length, map};
 ghost use Rattle.std.specs.List.{flat_map};
 ghost use Rattle.std.specs.String.{string_bytes};
 ghost use Rattle.json_values.specs.Table.{AreRows};
@@ -43,14 +43,12 @@ pub fn mosaic(alloc: Global, plane: &Plane, layer: &Layer) -> Result<Layer, Allo
 {
     let sets = sets_of(alloc, &layer.shapes)?;
     let items = mosaic_sets(alloc, &plane.arcs, &plane.faces, &sets)?;
-    let rows = holder_rows(alloc, items.as_slice())?;
+    let table = ids_table(alloc, items.as_slice())?;
     let shapes = mosaic_shapes(alloc, items.into_vec())?;
-    let mut names = NameList::new(alloc);
-    names.push(Text::of(alloc, "ids")?)?;
     Ok(Layer {
         name: copy_text(alloc, &layer.name)?,
         kind: Kind::Polygon,
-        table: Table::new(names, rows),
+        table,
         shapes,
     })
 }
@@ -64,6 +62,16 @@ fn mosaic_shapes(alloc: Global, items: Vec<MosaicItem>) -> Result<Vec<Shape>, Al
         shapes.push(Shape::Faces(item.set))?;
     }
     Ok(shapes)
+}
+
+fn ids_table(alloc: Global, items: &[MosaicItem]) -> Result<Table, AllocError>
+    ensures exact { IfOk result (λ table. table ≡ record { names = codes "ids" ∷ []; rows = map ids_row items.now }) }
+    ensures count { IfOk result (λ table. length table.rows ≡ length items.now) }
+{
+    let rows = holder_rows(alloc, items)?;
+    let mut names = NameList::new(alloc);
+    names.push(Text::of(alloc, "ids")?)?;
+    Ok(Table::new(names, rows))
 }
 
 #[tactic(auto, using(run_state::proofs::Rows::rows_grown))]

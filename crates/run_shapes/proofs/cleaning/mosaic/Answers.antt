@@ -1,10 +1,8 @@
-use Rattle.std.proofs.Common.{ℕ, List, [], ◌∷◌, ◌++◌, map, sym, ap, subst, ◌∙◌}
-use Rattle.json_values.specs.Table.{AreDistinctNames}
+use Rattle.std.proofs.Common.{map, sym, ap, subst, ◌∙◌}
 use Rattle.run_plane.specs.OnPlane.{AreOn}
 use Rattle.run_shapes.specs.Cleaning.{piece_shape}
 use Rattle.run_state.proofs.OnPlane.{sets_inner}
 use Rattle.run_shapes.proofs.OnPlane.{pieces_on}
-use Rattle.run_state.proofs.Rows.{one_name}
 use Rattle.run_shapes.proofs.cleaning.mosaic.Goals as goal
 
 pub mosaic_sets-requires-clause-faces : goal.mosaic_sets-requires-clause-faces
@@ -14,8 +12,3 @@ pub returns-clause-on : goal.returns-clause-on
 returns-clause-on c =
     let plane = c.args.plane.now in
     subst (AreOn plane) (sym (c.in_ok-shapes.ensures.exact ∙ ap (map piece_shape) c.into_vec.ensures.all)) (pieces_on plane c.in_ok-items.items c.in_ok-items.ensures.inner)
-
-pub new-requires-clause-distinct : goal.new-requires-clause-distinct
-new-requires-clause-distinct c =
-    let a = c.in_ok-of.field-0 in
-    subst AreDistinctNames (sym (c.in_ok-push.ensures.ok ∙ ap (λ (names : List (List ℕ)). names ++ a ∷ []) c.new-names.ensures.empty)) (one_name a)
