@@ -3,8 +3,9 @@
 #   program   the built program
 # shellcheck shell=bash disable=SC2154
 
-# As it was seen; README.md and docs/install.md say the same.
+# As they were seen; README.md and docs/install.md say the same.
 FIRST_BUILD_TAKES="about fifty minutes on four processors"
+OLDER_BUILD_TAKES="more than an hour on four processors"
 
 # The kit that the proofs were made with, as rt version prints it; README.md and docs/install.md name it too.
 KIT="rattle-kit-13f logic dac8208d650f15bf"
@@ -98,13 +99,14 @@ build_in_turn() {
 }
 
 tell_what_comes() {
-  local what="not built yet" kit
+  local what="not built yet" takes=$FIRST_BUILD_TAKES kit
   [ ! -e "$program" ] || what="older than its sources"
   kit=$(rt version </dev/null 2>/dev/null)
+  [ "$kit" != "$OLDER_KIT" ] || takes=$OLDER_BUILD_TAKES
   [ "$kit" = "$KIT" ] || [ "$kit" = "$OLDER_KIT" ] || say "the kit here is ${kit:-of no known line}; the proofs were made with $KIT, and another may refuse them"
   find_keeping
   say "the program is $what: proving ${#crates[@]} crates, then compiling it"
-  say "from nothing this takes $FIRST_BUILD_TAKES; $keeping"
+  say "from nothing this takes $takes; $keeping"
 }
 
 # rt of some kits keeps each crate that it proved in a folder beside the kit, where whoever runs it may write, and can be
