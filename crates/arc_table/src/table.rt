@@ -182,7 +182,7 @@ impl ArcTable {
         lesser_of(least_of(self.around(p)), least_at(&self.inner, p))
     }
 
-    /// The same where no arc starts at `p`. Takes no memory.
+    /// The only arc that has `p` as a vertex, where none starts there; `None` exactly where none has. Takes no memory.
     ///
     /// Cost: log n for n vertices between the ends of arcs.
     pub fn arc_through(&self, p: Pt) -> Option<ArcId>
