@@ -1,46 +1,15 @@
 -- The signed arcs that start at a vertex stand together in a table by start and in turn.
-use Rattle.std.proofs.Common.{◌≡◌, inl, inr, refl, sym, ap, ◌∙◌, subst, arith, ℕ, ◌+◌, ◌-◌, ◌<◌, ◌≤◌, Bool, true, false, List, [], ◌∷◌, length, get_or, take, drop, length-drop, length-take, All, Contains}
-use Rattle.std.specs.List.Sorted.{IsPartitionedBy, IsPartitionPoint}
+use Rattle.std.proofs.Common.{◌≡◌, inl, inr, sym, ap, ◌∙◌, subst, arith, ℕ, ◌+◌, ◌-◌, ◌<◌, ◌≤◌, true, false, List, [], ◌∷◌, length, get_or, take, drop, length-drop, All, Contains}
+use Rattle.std.specs.List.Sorted.{IsPartitionPoint}
 use Rattle.std.proofs.lemmas.Bool.{cases_lt}
 use Rattle.std.proofs.lemmas.List.{get_or-map, length-map, get_or-take, get_or-drop, length-take-le}
 use Rattle.std.proofs.lemmas.List.Sorted.{All-permutation, Contains-permutation, sorted_far}
 use Rattle.plane_model.specs.Points.{GridPoint, Path, same_point, is_before}
-use Rattle.plane_model.specs.Arcs.{SignedArc, forward}
+use Rattle.plane_model.specs.Arcs.{SignedArc}
 use Rattle.plane_model.proofs.PointOrder.{clash, same_point_from, same_point_to, is_before-IsStrictOrder}
 use Rattle.arc_table.specs.Around.{signed_below, first_step, start_of, comes_first, comes_round_first, IsTurned, IsAround}
 use Rattle.arc_table.proofs.SignedArcs.{all_below, Contains-signed_below, once_in}
-use Rattle.arc_table.proofs.TurnOrder.{comes_first-IsStrictWeakOrder, not_first_from, not_before_chain}
-
--- ---- the first few of points that are parted
-
-module _ (p : GridPoint → Bool) (points : List GridPoint) (few : ℕ) where
-  pub parts_at_front : IsPartitionedBy p points → IsPartitionedBy p (take few points)
-  parts_at_front parts i j d l m e =
-      let n = length-take few points in
-      subst (λ (q : GridPoint). p q ≡ true) (sym (get_or-take few points i d (omega arith)))
-      (parts i j d l (omega arith) (subst (λ (q : GridPoint). p q ≡ true) (get_or-take few points j d (omega arith)) e))
-
-  pub first_part : (count : ℕ) → count < few → few ≤ length points → IsPartitionedBy p points → IsPartitionPoint (λ q. p q ≡ true) (λ q. p q ≡ false) (take few points) count
-      → IsPartitionPoint (λ q. p q ≡ true) (λ q. p q ≡ false) points count
-  first_part count l m parts h = (
-    (λ i d a b. let size = n in subst (λ (q : GridPoint). p q ≡ true) (get_or-take few points i d (omega arith)) (h.0 i d (omega arith) b)),
-    (λ i d a b. elim (cases_lt i few) [
-      | inl k ↦ (let size = n in subst (λ (q : GridPoint). p q ≡ false) (get_or-take few points i d k) (h.1 i d a (omega arith)))
-      | inr k ↦ past i d k b
-    ]),
-  )
-    where
-      n : length (take few points) ≡ few
-      n = length-take-le few points m
-
-      past : (i : ℕ) (d : GridPoint) → few ≤ i → i < length points → p (get_or points i d) ≡ false
-      past i d k b = go (p (get_or points i d)) refl
-        where
-          go : (t : Bool) → p (get_or points i d) ≡ t → t ≡ false
-          go false e = refl
-          go true e =
-              let size = n in
-              clash (p (get_or points count d)) (parts count i d (omega arith) b e) (subst (λ (q : GridPoint). p q ≡ false) (get_or-take few points count d l) (h.1 count d (omega arith) (omega arith)))
+use Rattle.arc_table.proofs.TurnOrder.{comes_first-IsStrictWeakOrder, not_first_from}
 
 -- ---- rows
 
@@ -54,36 +23,12 @@ module _ (arcs : List Path) (starts : List GridPoint) (outs : List SignedArc) (t
   far : (i j : ℕ) (d : SignedArc) → i ≤ j → j < length outs → comes_first (first_step arcs (get_or outs j d)) (first_step arcs (get_or outs i d)) ≡ false
   far i j d l m = sorted_far (λ (a : SignedArc) (b : SignedArc). comes_first (first_step arcs a) (first_step arcs b)) (comes_first-IsStrictWeakOrder (first_step arcs)) outs t.sorted i j d l m
 
-  ascend : (i j : ℕ) (e : GridPoint) → i ≤ j → j < length outs → is_before (get_or starts j e) (get_or starts i e) ≡ false
-  ascend i j e l m =
-      let f = start_at i (forward 0) e (omega arith) in
-      let g = start_at j (forward 0) e m in
-      (λ k. is_before (g k) (f k)) ∙ (not_first_from (first_step arcs (get_or outs j (forward 0))) (first_step arcs (get_or outs i (forward 0))) (far i j (forward 0) l m)).0
-
-  pub by_before : IsPartitionedBy (λ (q : GridPoint). is_before q p) starts
-  by_before i j d l m e = go (is_before (get_or starts i d) p) refl
-    where
-      go : (b : Bool) → is_before (get_or starts i d) p ≡ b → b ≡ true
-      go true f = refl
-      go false f =
-          let n = as_many in
-          clash (is_before (get_or starts j d) p) e (not_before_chain (get_or starts j d) (get_or starts i d) p (ascend i j d l (omega arith)) f)
-
   module _ (first : ℕ) (bound : first ≤ length starts) (at_first : IsPartitionPoint (λ (q : GridPoint). is_before q p ≡ true) (λ (q : GridPoint). is_before q p ≡ false) starts first) where
     dropped : (k : ℕ) (d : GridPoint) → get_or (drop first starts) k d ≡ get_or starts (first + k) d
     dropped k d = get_or-drop first starts k d
 
     left : length (drop first starts) ≡ length outs - first
     left = length-drop first starts ∙ ap (λ (n : ℕ). n - first) as_many
-
-    pub by_same : IsPartitionedBy (λ (q : GridPoint). same_point q p) (drop first starts)
-    by_same i j d l m e =
-        let n = as_many in
-        let k = left in
-        let here : get_or starts (first + j) d ≡ p = sym (dropped j d) ∙ same_point_from (get_or (drop first starts) j d) p e in
-        let not_after : is_before p (get_or starts (first + i) d) ≡ false = subst (λ (q : GridPoint). is_before q (get_or starts (first + i) d) ≡ false) here (ascend (first + i) (first + j) d (omega arith) (omega arith)) in
-        let not_ahead : is_before (get_or starts (first + i) d) p ≡ false = at_first.1 (first + i) d (omega arith) (omega arith) in
-        same_point_to (get_or (drop first starts) i d) p (dropped i d ∙ is_before-IsStrictOrder.total (get_or starts (first + i) d) p not_ahead not_after)
 
     module _ (count : ℕ) (count_bound : count ≤ length (drop first starts)) (at_count : IsPartitionPoint (λ (q : GridPoint). same_point q p ≡ true) (λ (q : GridPoint). same_point q p ≡ false) (drop first starts) count) where
       abbrev rows : List SignedArc

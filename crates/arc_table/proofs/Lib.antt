@@ -16,8 +16,10 @@ pub mod Order
 pub mod Others
 pub mod Proper
 pub mod Rounds
+pub mod RowTable
 pub mod Runs
 pub mod SignedArcs
+pub mod StepMerge
 pub mod StepSearch
 pub mod Turned
 pub mod TurnOrder

@@ -7,5 +7,6 @@ pub mod Nodes
 pub mod Numbering
 pub mod Order
 pub mod PathArcs
+pub mod Rows
 pub mod Steps
 pub mod WholeArcs

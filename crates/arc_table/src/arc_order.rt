@@ -14,25 +14,47 @@ pub struct ArcOrder {
     pub links: Vec<u32>,
 }
 
-impl ArcOrder {
-    /// The order of what arcs have that go along these ways.
-    pub fn of(alloc: Global, net: &Net, ways: &[Way]) -> Result<ArcOrder, AllocError> {
-        let numbers = vertex_numbers(alloc, &net.steps)?;
+/// The order of what arcs have, arc after arc, as far as they were walked.
+#[derive(Drop)]
+pub struct ArcListing {
+    order: ArcOrder,
+    // the number of the vertex at which each step starts
+    numbers: Vec<u32>,
+    // the steps along the arc that is walked
+    walked: Vec<u32>,
+}
+
+impl ArcListing {
+    /// That of no arc, with room for those that go along `ways`.
+    pub fn new(alloc: Global, net: &Net, ways: &[Way]) -> Result<ArcListing, AllocError> {
         let links = net.step_count() / 2;
-        let mut order = ArcOrder {
+        let order = ArcOrder {
             firsts: Vec::with_capacity(alloc, ways.len().saturating_mul(2))?,
             inner: Vec::with_capacity(alloc, links.saturating_sub(ways.len()))?,
             links: Vec::with_capacity(alloc, links)?,
         };
-        let mut walked = Vec::new(alloc);
-        for way in ways {
-            walk(&mut walked, net, *way)?;
-            turn_forward(&mut walked, net);
-            order.add_arc(net, &numbers, &walked)?;
-        }
-        Ok(order)
+        Ok(ArcListing {
+            order,
+            numbers: vertex_numbers(alloc, &net.steps)?,
+            walked: Vec::new(alloc),
+        })
     }
 
+    /// Goes on with the arc that goes along a way.
+    pub fn add(&mut self, net: &Net, way: Way) -> Result<(), AllocError> {
+        walk(&mut self.walked, net, way)?;
+        turn_forward(&mut self.walked, net);
+        self.order.add_arc(net, &self.numbers, &self.walked)
+    }
+
+    /// The order of all of them.
+    pub fn into_order(self) -> ArcOrder {
+        let ArcListing { order, .. } = self;
+        order
+    }
+}
+
+impl ArcOrder {
     // Adds an arc with these steps.
     fn add_arc(&mut self, net: &Net, numbers: &[u32], steps: &[u32]) -> Result<(), AllocError> {
         let Some(first) = steps.first() else {

@@ -1,7 +1,7 @@
 ghost use Rattle.std.specs.Prelude.{◌≡◌, ◌+◌, ◌<◌, ◌≤◌, All, IfOk, length, map};
 ghost use Rattle.std.specs.List.Sorted.{IsPermutation};
 ghost use Rattle.std.specs.Ordering.{is_lt};
-ghost use Rattle.arc_table.specs.Around.{signed_below, first_of, half_of, comes_round_first, comes_first};
+ghost use Rattle.arc_table.specs.Around.{signed_below, first_of, first_step, half_of, comes_round_first, comes_first};
 ghost use Rattle.plane_model.specs.Arcs.{goes_up};
 
 use crate::half_links::Step;
@@ -17,28 +17,51 @@ pub struct FirstStep {
     pub arc: SignedArc,
 }
 
-/// The first steps of all arcs, of each forward and then reversed.
-pub fn first_steps(alloc: Global, arcs: &SpanPool) -> Result<Vec<FirstStep>, AllocError>
-    requires long { All (λ arc. 1 < length arc) arcs.now.spans }
-    ensures exact { IfOk result (λ v. v.items ≡ map (first_of arcs.now.spans) (signed_below (length arcs.now.spans))) }
+/// The signed arcs of so many arcs, each arc forward and then reversed.
+pub fn signed_arcs(alloc: Global, count: u32) -> Result<Vec<SignedArc>, AllocError>
+    ensures exact { IfOk result (λ v. v.items ≡ signed_below count) }
 {
-    let mut firsts = Vec::with_capacity(alloc, 2 * arcs.count() as usize)?;
-    for n in 0..arcs.count() {
-        let points = arcs.get(SpanId::new(n));
+    let mut named = Vec::with_capacity(alloc, 2 * count as usize)?;
+    for n in 0..count {
         let id = ArcId::new(n);
-        firsts.push(starting(points[0], points[1], SignedArc::forward(id)))?;
-        let last = points.len() - 1;
-        firsts.push(starting(points[last], points[last - 1], SignedArc::backward(id)))?;
+        named.push(SignedArc::forward(id))?;
+        named.push(SignedArc::backward(id))?;
+    }
+    Ok(named)
+}
+
+/// The first steps of signed arcs.
+pub fn first_steps(
+    alloc: Global,
+    arcs: &SpanPool,
+    named: &[SignedArc],
+) -> Result<Vec<FirstStep>, AllocError>
+    requires long { All (λ arc. 1 < length arc) arcs.now.spans }
+    requires there { All (λ a. a.arc < length arcs.now.spans) named.now }
+    ensures exact { IfOk result (λ v. v.items ≡ map (first_of arcs.now.spans) named.now) }
+{
+    let mut firsts = Vec::with_capacity(alloc, named.len())?;
+    for a in named {
+        firsts.push(FirstStep {
+            step: first_step(arcs, *a),
+            arc: *a,
+        })?;
     }
     Ok(firsts)
 }
 
-fn starting(from: Pt, to: Pt, arc: SignedArc) -> FirstStep
-    ensures made { result ≡ record { step = record { start = from; stop = to }; arc = arc } }
+/// The step that a signed arc begins with.
+pub fn first_step(arcs: &SpanPool, a: SignedArc) -> Step
+    requires long { All (λ arc. 1 < length arc) arcs.now.spans }
+    requires there { a.arc < length arcs.now.spans }
+    ensures exact { result ≡ first_step arcs.now.spans a }
 {
-    FirstStep {
-        step: Step::new(from, to),
-        arc,
+    let points = arcs.get(SpanId::new(a.id().num()));
+    let last = points.len() - 1;
+    if a.is_reversed() {
+        Step::new(points[last], points[last - 1])
+    } else {
+        Step::new(points[0], points[1])
     }
 }
 

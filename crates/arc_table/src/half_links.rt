@@ -4,8 +4,8 @@ ghost use Rattle.std.specs.List.Sorted.{IsSorted};
 ghost use Rattle.grid_base.specs.Order.{point_cmp};
 ghost use Rattle.arc_table.specs.Steps.{step_cmp, StartsAt, IsOther, IsOtherAt, LeadsOnAt, IsOnward, AreLinks, AreOnward, AreBothWays, NoneTurnsBack, AreProper, AreSteps, IsPlace, HasBoth, AreTwins};
 
-use grid_base::{Link, LinkList, Pt, has_point, is_same};
-use known_order::move_to_positions;
+use crate::merging::{Merged, steps_of};
+use grid_base::{LinkList, Pt, has_point, is_same};
 use std::alloc::{AllocError, Global};
 use std::marker::Model;
 
@@ -80,21 +80,23 @@ pub struct Net {
 
 impl Net {
     /// The steps along the links, where `turns` are in order the vertices that are nodes whatever their number of
-    /// links. Positions and twins are those of `StepOrder`: wrong ones cost time alone.
+    /// links. `by_high` is the order of the links by their greater ends: a wrong one costs time alone.
     pub fn of(
         alloc: Global,
         links: &LinkList,
         turns: &[Pt],
-        positions: Vec<u32>,
-        twin_guesses: &[u32],
+        by_high: &[u32],
     ) -> Result<Net, AllocError>
         requires links { AreLinks links.now }
         requires turns { IsSorted point_cmp turns.now }
         ensures steps { IfOk result (λ n. AreSteps links.now n.steps.items) }
         ensures on { IfOk result (λ n. AreOnward n.steps.items n.twins.items turns.now n.onward.items (length n.steps.items)) }
     {
-        let steps = steps_of(alloc, links.as_slice(), positions)?;
-        let twins = twins_of(alloc, &steps, twin_guesses)?;
+        let merged = steps_of(alloc, links.as_slice(), by_high)?;
+        let guesses = merged.twins(alloc, by_high)?;
+        let Merged { steps, .. } = merged;
+        let twins = twins_of(alloc, &steps, &guesses)?;
+        drop(guesses);
         let onward = onward_of(alloc, &steps, &twins, turns)?;
         Ok(Net {
             steps,
@@ -138,43 +140,6 @@ impl Net {
     {
         self.onward[h] as usize
     }
-}
-
-// Both steps along each link, in order, where `positions` has the position of each: of the steps up along the links, and
-// then of those down.
-fn steps_of(alloc: Global, links: &[Link], positions: Vec<u32>) -> Result<Vec<Step>, AllocError>
-    ensures exact { IfOk result (λ v. AreSteps links.now v.items) }
-    ensures few { IfOk result (λ v. length v.items < 2 ^ 32) }
-{
-    if links.len() > (u32::MAX / 2) as usize {
-        return Err(AllocError);
-    }
-    let mut positions = positions;
-    let mut steps = Vec::with_capacity(alloc, 2 * links.len())?;
-    push_up(&mut steps, links)?;
-    push_down(&mut steps, links)?;
-    move_to_positions(&mut steps, &mut positions);
-    // After this the sort has only to find the steps in order.
-    steps.sort_unstable();
-    Ok(steps)
-}
-
-fn push_up(steps: &mut Vec<Step>, links: &[Link]) -> Result<(), AllocError>
-    ensures pushed { OnOk result (steps.new.items ≡ steps.old.items ++ links.now) }
-{
-    for link in links {
-        steps.push(Step::new(link.low(), link.high()))?;
-    }
-    Ok(())
-}
-
-fn push_down(steps: &mut Vec<Step>, links: &[Link]) -> Result<(), AllocError>
-    ensures pushed { OnOk result (steps.new.items ≡ steps.old.items ++ map reversed links.now) }
-{
-    for link in links {
-        steps.push(Step::new(link.high(), link.low()))?;
-    }
-    Ok(())
 }
 
 // The place of the twin of each step, looked for where `guesses` has it first.
@@ -247,24 +212,43 @@ pub fn is_step(a: Step, b: Step) -> bool
     is_same(a.from(), b.from()) && is_same(a.to(), b.to())
 }
 
-/// The place of a step, looked for in the neighbourhood of `near` first; `None` where it goes along no link.
-pub fn place_near(steps: &[Step], near: usize, step: Step) -> Option<usize>
+/// The place of a step that comes after the one at `last`; `None` where it goes along no link. It is looked for where
+/// that one goes on, then beside the step back, which starts where that one ends.
+pub fn place_after(net: &Net, last: usize, step: Step) -> Option<usize>
+    ensures exact { IsPlace net.now.steps.items step result }
+    ensures there { IfSome result (λ h. h < length net.now.steps.items) }
+{
+    if let Some(next) = net.onward.get(last) {
+        if stands_at(&net.steps, *next as usize, step) {
+            return Some(*next as usize);
+        }
+    }
+    match net.twins.get(last) {
+        Some(twin) => place_beside(&net.steps, *twin as usize, step),
+        None => place_of(&net.steps, step),
+    }
+}
+
+// The place of a step, looked for beside `near` first.
+fn place_beside(steps: &[Step], near: usize, step: Step) -> Option<usize>
     requires sorted { IsSorted step_cmp steps.now }
     ensures exact { IsPlace steps.now step result }
     ensures there { IfSome result (λ h. h < length steps.now) }
 {
-    let low = near.saturating_sub(3).min(steps.len());
-    let high = near.saturating_add(4).min(steps.len());
-    for h in low..high {
-        if stands_at(steps, h, step) {
-            return Some(h);
+    for far in 0..4 {
+        let (after, before) = (near.saturating_add(far), near.wrapping_sub(far));
+        if stands_at(steps, after, step) {
+            return Some(after);
+        }
+        if stands_at(steps, before, step) {
+            return Some(before);
         }
     }
     place_of(steps, step)
 }
 
 /// The place of a step; `None` where it goes along no link.
-pub fn place_of(steps: &[Step], step: Step) -> Option<usize>
+fn place_of(steps: &[Step], step: Step) -> Option<usize>
     requires sorted { IsSorted step_cmp steps.now }
     ensures exact { IsPlace steps.now step result }
     ensures there { IfSome result (λ h. h < length steps.now) }

@@ -6,8 +6,9 @@ ghost use Rattle.arc_table.specs.Direction.{IsForward};
 ghost use Rattle.arc_table.specs.Order.{AreInOrder, GoesAlong, HasOneMore, links_stepped};
 ghost use Rattle.arc_table.specs.Numbering.{AddsMarks, AreWays, BeginsLeast, GoesFrom, GoesOn, GoesRound, HasMark, HaveMarksTogether, IsBegin, IsLastOn, IsLeastAlong, IsNumbering, IsRoundFrom, IsWay, StopsAtMark, arc_points, link_at, points_along, points_of_way};
 
+use crate::arc_order::ArcListing;
 use crate::direction::turn_forward;
-use crate::half_links::{Net, Step, place_near};
+use crate::half_links::{Net, Step, place_after};
 use grid_base::{FeatId, Pt, PtList, RingsList, Snapped};
 use span_pool::SpanPool;
 use std::alloc::{AllocError, Global};
@@ -127,31 +128,31 @@ fn number_path(numbering: &mut Numbering, net: &Net, path: &[Pt]) -> Result<(), 
     ensures numbering { OnOk result (IsNumbering net.now numbering.new) }
     ensures along { OnOk result (GoesAlong net.now numbering.old numbering.new (map link_between (steps path.now))) }
 {
-    let mut near = 0;
+    let mut last = usize::MAX;
     for i in 1..path.len() {
-        near = number_step(numbering, net, near, Step::new(path[i - 1], path[i]))?;
+        last = number_step(numbering, net, last, Step::new(path[i - 1], path[i]))?;
     }
     Ok(())
 }
 
-// Gives the arc along a step the next number, where it has none. The step is looked for in the neighbourhood of
-// `near`, and the answer is where to look for the step that follows.
+// Gives the arc along a step the next number, where it has none. `last` is the place of the step before it on a path,
+// and the answer that of the step.
 #[tactic(auto, using(crate::proofs::Order::along_step, crate::proofs::Order::along_missing))]
 fn number_step(
     numbering: &mut Numbering,
     net: &Net,
-    near: usize,
+    last: usize,
     step: Step,
 ) -> Result<usize, AllocError>
     requires { IsNumbering net.now numbering.old }
     ensures numbering { OnOk result (IsNumbering net.now numbering.new) }
     ensures along { OnOk result (GoesAlong net.now numbering.old numbering.new (link_between step ∷ [])) }
 {
-    let Some(h) = place_near(&net.steps, near, step) else {
-        return Ok(near);
+    let Some(h) = place_after(net, last, step) else {
+        return Ok(last);
     };
     number_along(numbering, net, h)?;
-    Ok(net.twin(h))
+    Ok(h)
 }
 
 // Gives the arc along step `h` the next number, where it has none.
@@ -305,8 +306,14 @@ fn next_unmarked(marks: &[bool], net: &Net, at: usize) -> Option<usize>
     Some(next)
 }
 
-/// The points of the arcs, in one pool, whose room is taken before the first arc is pushed.
-pub fn pool_of(alloc: Global, net: &Net, ways: &[Way]) -> Result<SpanPool, AllocError>
+/// The points of the arcs, in one pool, whose room is taken before the first arc is pushed. What the arcs have is listed
+/// beside, while the steps along each are at hand.
+pub fn pool_of(
+    alloc: Global,
+    net: &Net,
+    ways: &[Way],
+    listing: &mut ArcListing,
+) -> Result<SpanPool, AllocError>
     requires { All (IsWay net.now) ways.now }
     ensures exact { IfOk result (λ p. p.spans ≡ map (arc_points net.now) ways.now) }
     ensures each { IfOk result (λ p. length p.spans ≡ length ways.now) }
@@ -326,6 +333,7 @@ pub fn pool_of(alloc: Global, net: &Net, ways: &[Way]) -> Result<SpanPool, Alloc
     for way in ways {
         arc_points(&mut points, net, *way)?;
         push_arc(&mut pool, &points);
+        listing.add(net, *way)?;
     }
     Ok(pool)
 }

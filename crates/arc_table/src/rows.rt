@@ -1,6 +1,7 @@
-ghost use Rattle.std.specs.Prelude.{◌≡◌, ◌<◌, All, length};
+ghost use Rattle.std.specs.Prelude.{◌≡◌, ◌<◌, All, IfOk, length};
 ghost use Rattle.arc_table.specs.Around.{IsTurned};
 
+use crate::node_rows::starts_of;
 use crate::table::ArcTable;
 use grid_base::{Pt, SignedArc};
 use known_order::positions_by_key;
@@ -19,22 +20,36 @@ impl ArcTable {
     /// For each link of the arcs, one arc after another, its position among the links in order. It is not proved: a
     /// wrong one costs time alone.
     pub fn link_positions(&self, alloc: Global) -> Result<Vec<u32>, AllocError> {
-        positions_by_key(alloc, &self.order.links, self.order.steps)
+        match &self.order {
+            Some(order) => positions_by_key(alloc, &order.links, order.steps),
+            None => Ok(Vec::new(alloc)),
+        }
     }
 
     /// For each of the links in order the position of its greater end among the greater ends in order. It is not
     /// proved: a wrong one costs time alone.
     pub fn high_positions(&self) -> &[u32] {
-        &self.order.highs
+        match &self.order {
+            Some(order) => &order.highs,
+            None => &[],
+        }
+    }
+
+    /// Lets the positions of links go, once no more faces are built of the table.
+    pub fn forget_order(&mut self)
+        ensures same { self.new ≡ self.old }
+    {
+        self.order = None;
     }
 
     /// All signed arcs by their starts, beside these starts: the arcs from one vertex stand in a row,
-    /// counterclockwise from the direction of the positive x axis. Takes no memory.
-    pub fn rows(&self) -> (&[Pt], &[SignedArc])
-        ensures turned { IsTurned self.now result.0.now result.1.now }
-        ensures each { length result.0.now ≡ length result.1.now }
-        ensures there { All (λ a. a.arc < length self.now) result.1.now }
+    /// counterclockwise from the direction of the positive x axis. The starts are made for the caller, 16 bytes an arc.
+    pub fn rows(&self, alloc: Global) -> Result<(Vec<Pt>, &[SignedArc]), AllocError>
+        ensures turned { IfOk result (λ r. IsTurned self.now r.0.items r.1.now) }
+        ensures each { IfOk result (λ r. length r.0.items ≡ length r.1.now) }
+        ensures there { IfOk result (λ r. All (λ a. a.arc < length self.now) r.1.now) }
     {
-        (&self.starts, &self.outs)
+        let starts = starts_of(alloc, &self.nodes, &self.rows, self.outs.len())?;
+        Ok((starts, &self.outs))
     }
 }

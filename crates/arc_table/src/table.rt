@@ -1,6 +1,4 @@
 ghost use Rattle.std.specs.Prelude.{◌≡◌, ◌≢◌, AllPairs, ◌+◌, ◌<◌, ◌≤◌, [], ◌++◌, All, IfOk, IfSome, None, OnOk, Some, false, length, map, slice_get, slice_index_or, true};
-ghost use Rattle.std.specs.List.Sorted.{IsPartitionPoint, IsPartitionedBy};
-ghost use Rattle.plane_model.specs.Points.{same_point};
 ghost use Rattle.plane_model.specs.Arcs.{points_of};
 ghost use Rattle.plane_model.specs.Snapped.{links_of};
 ghost use Rattle.arc_table.specs.Along.{GoAlong, links_of_arcs};
@@ -11,16 +9,19 @@ ghost use Rattle.arc_table.specs.Order.{AreNumbered};
 ghost use Rattle.arc_table.specs.PathArcs.{IsAloneAt};
 ghost use Rattle.arc_table.specs.WholeArcs.{IsWholeArc, StartsAtLeast};
 
-use crate::arc_order::ArcOrder;
-use crate::first_steps::{FirstStep, comes_first, first_steps, turn_rows, turning};
+use crate::arc_order::{ArcListing, ArcOrder};
+use crate::first_steps::{
+    FirstStep, comes_first, first_step, first_steps, signed_arcs, turn_rows, turning,
+};
 use crate::half_links::{Net, Step, is_step};
+use crate::merging::order_by_highs;
+use crate::node_rows::{NodeRows, part_of, rows_of, stands_at};
 use crate::nodes::turns_of;
 use crate::numbering::{pool_of, ways_of};
 use crate::rows::LinkOrder;
-use crate::step_order::StepOrder;
 use crate::vertices::{ArcVertex, inner_vertices, least_at, least_of, lesser_of};
 use grid_base::{ArcId, Pt, SignedArc, Snapped, is_before, is_same};
-use known_order::{move_to_positions, positions_by_key};
+use known_order::{gathered, order_by_key, positions_in};
 use span_pool::{SpanId, SpanPool};
 use std::alloc::{AllocError, Global};
 use std::marker::Model;
@@ -29,33 +30,36 @@ use std::marker::Model;
 #[derive(Drop)]
 pub struct ArcTable {
     arcs: SpanPool,
-    // where each signed arc of `outs` starts
-    pub(crate) starts: Vec<Pt>,
+    // the points where arcs start, in order, and where the row of each begins among `outs`; after them where the last ends
+    pub(crate) nodes: Vec<Pt>,
+    pub(crate) rows: Vec<u32>,
     // the signed arcs by their starts, and counterclockwise at each
     pub(crate) outs: Vec<SignedArc>,
     // the vertices of all arcs between their ends, in order
     inner: Vec<ArcVertex>,
-    pub(crate) order: LinkOrder,
+    // `None` once it is let go
+    pub(crate) order: Option<LinkOrder>,
 }
 
 impl Model for ArcTable {
-    ghost use Rattle.std.specs.Prelude.{◌≡◌, ◌≢◌, ◌<◌, All, AllPairs, List, length};
+    ghost use Rattle.std.specs.Prelude.{◌≢◌, ◌<◌, All, AllPairs, List, length, map};
     ghost use Rattle.plane_model.specs.Points.{GridPoint};
     ghost use Rattle.arc_table.specs.Direction.{IsForward};
     ghost use Rattle.arc_table.specs.Along.{links_of_arcs};
-    ghost use Rattle.arc_table.specs.Around.{IsTurned};
+    ghost use Rattle.arc_table.specs.Around.{IsTurned, start_of};
     ghost use Rattle.arc_table.specs.Lookup.{AreInner};
+    ghost use Rattle.arc_table.specs.Rows.{AreRows};
 
     ghost Value = { List (List GridPoint) };
 
     ghost view = { λ t. t.arcs.spans };
 
     ghost invariant = { λ t. All (λ arc. 1 < length arc) t.arcs.spans
-        × (length t.starts.items ≡ length t.outs.items)
+        × AreRows (map (start_of t.arcs.spans) t.outs.items) t.nodes.items t.rows.items
         × All (λ a. a.arc < length t.arcs.spans) t.outs.items
         × AreInner t.arcs.spans t.inner.items
         × All IsForward t.arcs.spans
-        × IsTurned t.arcs.spans t.starts.items t.outs.items
+        × IsTurned t.arcs.spans (map (start_of t.arcs.spans) t.outs.items) t.outs.items
         × AllPairs (λ k l. k ≢ l) (links_of_arcs t.arcs.spans) };
 }
 
@@ -74,15 +78,14 @@ impl ArcTable {
     {
         let turns = turns_of(alloc, s)?;
         let links = s.links();
-        let StepOrder {
-            positions,
-            twins,
-            highs,
-        } = StepOrder::of(alloc, links.as_slice())?;
-        let net = Net::of(alloc, links, &turns, positions, &twins)?;
+        let by_high = order_by_highs(alloc, links.as_slice())?;
+        let net = Net::of(alloc, links, &turns, &by_high)?;
+        let highs = positions_in(alloc, &by_high)?;
+        drop(by_high);
         let ways = ways_of(alloc, &net, s)?;
-        let arcs = pool_of(alloc, &net, &ways)?;
-        let order = ArcOrder::of(alloc, &net, &ways)?;
+        let mut listing = ArcListing::new(alloc, &net, &ways)?;
+        let arcs = pool_of(alloc, &net, &ways, &mut listing)?;
+        let order = listing.into_order();
         let steps = net.step_count();
         drop(net);
         ArcTable::of_arcs(alloc, arcs, order, highs, steps)
@@ -105,26 +108,29 @@ impl ArcTable {
             inner: inner_keys,
             links,
         } = order;
-        let mut firsts = first_steps(alloc, &arcs)?;
-        let mut positions = positions_by_key(alloc, &first_keys, steps)?;
-        move_to_positions(&mut firsts, &mut positions);
+        let by_start = order_by_key(alloc, &first_keys, steps)?;
+        let named = gathered(alloc, &signed_arcs(alloc, arcs.count())?, &by_start)?;
+        drop(by_start);
+        let mut firsts = first_steps(alloc, &arcs, &named)?;
+        drop(named);
         turn_rows(&mut firsts);
         // The sort has only to find the steps in order.
         firsts.sort_unstable_by(turning);
-        let starts = starts_of(alloc, &firsts)?;
+        let NodeRows { nodes, rows } = rows_of(alloc, &firsts)?;
         let outs = arcs_of(alloc, &firsts)?;
         drop(firsts);
         let inner = inner_vertices(alloc, &arcs, &inner_keys, steps)?;
         Ok(ArcTable {
             arcs,
-            starts,
+            nodes,
+            rows,
             outs,
             inner,
-            order: LinkOrder {
+            order: Some(LinkOrder {
                 links,
                 highs,
                 steps,
-            },
+            }),
         })
     }
 
@@ -161,13 +167,17 @@ impl ArcTable {
 
     /// The signed arcs that start at `p`, counterclockwise from the direction of the positive x axis, that direction
     /// included. Takes no memory.
+    ///
+    /// Cost: log n for n vertices where arcs start.
     pub fn around(&self, p: Pt) -> &[SignedArc]
         ensures there { All (λ a. a.arc < length self.now) result.now }
         ensures exact { IsAround self.now p result.now }
     {
-        let first = self.starts.partition_point(|q| is_before(*q, p));
-        let count = row_length(&self.starts[first..], p);
-        &self.outs[first..first + count]
+        let k = self.nodes.partition_point(|q| is_before(*q, p));
+        if !stands_at(&self.nodes, k, p) {
+            return &[];
+        }
+        part_of(&self.outs, self.rows[k], self.rows[k + 1])
     }
 
     /// The least arc that has `p` as a vertex; `None` exactly where there is none. Where no arc starts at `p`, it is
@@ -257,36 +267,8 @@ impl ArcTable {
         requires there { a.arc < length self.now }
         ensures exact { result ≡ first_step self.now a }
     {
-        let points = self.points_of(a.id());
-        let last = points.len() - 1;
-        if a.is_reversed() {
-            Step::new(points[last], points[last - 1])
-        } else {
-            Step::new(points[0], points[1])
-        }
+        first_step(&self.arcs, a)
     }
-}
-
-// How many points at the front of points in order are `p`. Rows are short mostly, so that the first few points are
-// looked at by themselves.
-fn row_length(points: &[Pt], p: Pt) -> usize
-    ensures within { result ≤ length points.now }
-    ensures exact { IsPartitionedBy (λ q. same_point q p) points.now →
-        IsPartitionPoint (λ q. same_point q p ≡ true) (λ q. same_point q p ≡ false) points.now result }
-{
-    let few = points.len().min(8);
-    let count = points[..few].partition_point(|q| is_same(*q, p));
-    if count < few {
-        count
-    } else {
-        points.partition_point(|q| is_same(*q, p))
-    }
-}
-
-fn starts_of(alloc: Global, firsts: &[FirstStep]) -> Result<Vec<Pt>, AllocError>
-    ensures exact { IfOk result (λ v. v.items ≡ map (λ f. f.step.start) firsts.now) }
-{
-    firsts.iter().map(|f| f.step.from()).collect(alloc)
 }
 
 fn arcs_of(alloc: Global, firsts: &[FirstStep]) -> Result<Vec<SignedArc>, AllocError>

@@ -3,7 +3,7 @@ ghost use Rattle.std.specs.List.Sorted.{IsSorted};
 ghost use Rattle.arc_table.specs.Lookup.{AreInner, IsFirstAt, IsLeastNamed, inner_below, lesser_of, vertex_cmp};
 
 use grid_base::{ArcId, Pt, SignedArc, is_same};
-use known_order::{move_to_positions, positions_by_key};
+use known_order::{gathered, order_by_key};
 use span_pool::{SpanId, SpanPool};
 use std::alloc::{AllocError, Global};
 
@@ -25,9 +25,9 @@ pub fn inner_vertices(
     requires long { All (λ arc. 1 < length arc) arcs.now.spans }
     ensures exact { IfOk result (λ v. AreInner arcs.now.spans v.items) }
 {
-    let mut vertices = vertices_of(alloc, arcs, keys.len())?;
-    let mut positions = positions_by_key(alloc, keys, count)?;
-    move_to_positions(&mut vertices, &mut positions);
+    let by_vertex = order_by_key(alloc, keys, count)?;
+    let listed = vertices_of(alloc, arcs, keys.len())?;
+    let mut vertices = gathered(alloc, &listed, &by_vertex)?;
     // After this the sort has only to find the vertices in order.
     vertices.sort_unstable();
     Ok(vertices)

@@ -1,6 +1,6 @@
-use Rattle.std.proofs.Common.{◌≡◌, map}
-use Rattle.arc_table.specs.Around.{signed_below, first_of}
+use Rattle.std.proofs.Common.{◌≡◌, map, take}
+use Rattle.arc_table.specs.Around.{first_of}
 use Rattle.arc_table.proofs.first_steps.first_steps.Given as goal
 
-abbrev pub invariant-loop-n : goal.invariant-loop-n
-invariant-loop-n l = l.firsts.items ≡ map (first_of l.arcs.spans) (signed_below l.n)
+abbrev pub invariant-loop-a : goal.invariant-loop-a
+invariant-loop-a l = l.firsts.items ≡ map (first_of l.arcs.spans) (take l.a-index l.named)

@@ -1,4 +1,4 @@
-use Rattle.std.proofs.Common.{List, subst}
+use Rattle.std.proofs.Common.{List, subst, ◌∙◌}
 use Rattle.std.specs.List.Sorted.{IsPermutation}
 use Rattle.std.proofs.lemmas.List.Sorted.{IsPermutation-trans}
 use Rattle.arc_table.specs.declared.vertices.ArcVertex.{ArcVertex}
@@ -9,8 +9,8 @@ returns c =
     let arcs = c.args.arcs.now.spans in
     record {
       exact = record {
-        all = subst (λ (vs : List ArcVertex). IsPermutation vs c.sort_unstable.new.self.items) c.in_ok-vertices.ensures.exact
-            (IsPermutation-trans c.in_ok-vertices.vertices.items c.move_to_positions.new.items.items c.sort_unstable.new.self.items c.move_to_positions.ensures.same c.sort_unstable.ensures.permutation);
+        all = subst (λ (vs : List ArcVertex). IsPermutation vs c.sort_unstable.new.self.items) (c.deref.ensures.value ∙ c.in_ok-listed.ensures.exact)
+            (IsPermutation-trans c.deref.result.now c.in_ok-vertices.vertices.items c.sort_unstable.new.self.items c.in_ok-vertices.ensures.same c.sort_unstable.ensures.permutation);
         sorted = c.sort_unstable.ensures.sorted;
       };
     }
