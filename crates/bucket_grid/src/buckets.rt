@@ -5,9 +5,10 @@ ghost use Rattle.grid_base.specs.Grid.{IsOnGrid};
 ghost use Rattle.bucket_grid.specs.Rects.{IsPlaceOf, boxes_near, whole};
 
 use crate::growing::{Forest, MAX_STEPS, fit, grow};
+use crate::number_lists::NumberLists;
 use crate::sharing::all_near;
 use crate::tree::{Node, child_of, coordinate};
-use grid_base::{BoxList, IdList, LIMIT, Pt, Rect};
+use grid_base::{BoxList, LIMIT, Pt, Rect};
 use std::alloc::{AllocError, Global};
 use std::marker::Model;
 
@@ -16,7 +17,7 @@ use std::marker::Model;
 pub struct Buckets {
     nodes: Vec<Node>,
     rects: Vec<Rect>,
-    near: Vec<IdList>,
+    near: NumberLists,
     root: usize,
 }
 
@@ -26,9 +27,9 @@ impl Model for Buckets {
 
     ghost Value = { RectLists };
 
-    ghost view = { λ b. record { rects = b.rects.items; near = b.near.items } };
+    ghost view = { λ b. record { rects = b.rects.items; near = b.near } };
 
-    ghost invariant = { λ b. LeadsEach b.nodes.items b.rects.items b.near.items b.root };
+    ghost invariant = { λ b. LeadsEach b.nodes.items b.rects.items b.near b.root };
 }
 
 impl Buckets {
@@ -44,7 +45,7 @@ impl Buckets {
         let mut forest = Forest {
             nodes: Vec::new(alloc),
             rects: Vec::new(alloc),
-            near: Vec::new(alloc),
+            near: NumberLists::new(alloc),
         };
         let top = grow(&mut forest, alloc, boxes.as_slice(), whole, near, MAX_STEPS)?;
         fit(&mut forest);
@@ -102,7 +103,7 @@ impl Buckets {
     pub fn each_near(&self, place: u32) -> Option<&[u32]>
         ensures lookup { option_map (λ ids. ids.now) result ≡ slice_get self.now.near place }
     {
-        self.near.get(place as usize).map(|ids| ids.as_slice())
+        self.near.get(place as usize)
     }
 }
 

@@ -7,6 +7,7 @@ ghost use Rattle.bucket_grid.specs.Tree.{Grew};
 
 use crate::cutting::cut_of;
 use crate::dividing::slabs_of;
+use crate::number_lists::NumberLists;
 use crate::slab_lists::{slab_lists, slab_rect};
 use crate::tree::{Axis, Node, Slabs};
 use grid_base::{IdList, Rect};
@@ -17,7 +18,7 @@ use std::alloc::{AllocError, Global};
 pub struct Forest {
     pub nodes: Vec<Node>,
     pub rects: Vec<Rect>,
-    pub near: Vec<IdList>,
+    pub near: NumberLists,
 }
 
 /// A division of a rectangle, and for each slab the boxes near it.
@@ -51,11 +52,11 @@ fn next_number(len: usize) -> Result<u32, AllocError>
 
 fn add_leaf(forest: &mut Forest, rect: Rect, near: IdList) -> Result<Node, AllocError>
     ensures { IfOk result (λ top. (steps : ℕ) (boxes : List Corners) → near ≡ boxes_near boxes rect →
-        Grew steps boxes (Holds rect) forest.old.nodes.items forest.new.nodes.items forest.old.rects.items forest.new.rects.items forest.old.near.items forest.new.near.items (λ g. top)) }
+        Grew steps boxes (Holds rect) forest.old.nodes.items forest.new.nodes.items forest.old.rects.items forest.new.rects.items forest.old.near forest.new.near (λ g. top)) }
 {
     let place = next_number(forest.rects.len())?;
     forest.rects.push(rect)?;
-    forest.near.push(near)?;
+    forest.near.push(near.as_slice())?;
     Ok(Node::Leaf(place))
 }
 
@@ -63,10 +64,10 @@ fn add_leaf(forest: &mut Forest, rect: Rect, near: IdList) -> Result<Node, Alloc
 pub fn fit(forest: &mut Forest)
     ensures nodes { forest.new.nodes.items ≡ forest.old.nodes.items }
     ensures rects { forest.new.rects.items ≡ forest.old.rects.items }
-    ensures near { forest.new.near.items ≡ forest.old.near.items }
+    ensures near { forest.new.near ≡ forest.old.near }
 {
     forest.rects.shrink_to_fit();
-    forest.near.shrink_to_fit();
+    forest.near.fit();
 }
 
 // Whether a cut leaves each part with fewer boxes, and does not list too many boxes twice.
@@ -143,7 +144,7 @@ pub fn grow(
 ) -> Result<Node, AllocError>
     requires { near ≡ boxes_near boxes.now rect }
     ensures { IfOk result (λ top.
-        Grew steps boxes.now (Holds rect) forest.old.nodes.items forest.new.nodes.items forest.old.rects.items forest.new.rects.items forest.old.near.items forest.new.near.items (λ g. top)) }
+        Grew steps boxes.now (Holds rect) forest.old.nodes.items forest.new.nodes.items forest.old.rects.items forest.new.rects.items forest.old.near forest.new.near (λ g. top)) }
 {
     if steps == 0 || near.len() <= BUCKET_SIZE {
         return add_leaf(forest, rect, near);

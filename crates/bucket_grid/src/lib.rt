@@ -2,7 +2,7 @@
 //!
 //! The grid is divided into columns, each column into cells, and a cell that still meets many boxes is cut at medians
 //! of the boxes, until a rectangle meets few boxes or a cut no longer parts them (a k-d tree, after Bentley 1975). Each
-//! rectangle has a bucket, which lists the boxes that share a grid point with it.
+//! rectangle has a bucket, which lists the boxes that share a grid point with it. The lists of all buckets stand in one.
 //! - `Buckets::build` takes boxes; they are known by their numbers in that list.
 //! - `bucket_of` finds the bucket of a point, by a few divisions and at most 40 cuts; `area_of` and `each_near` say
 //!   what it has.
@@ -13,6 +13,7 @@ mod cutting;
 mod dividing;
 mod growing;
 mod laws;
+mod number_lists;
 mod sharing;
 mod slab_lists;
 mod tree;

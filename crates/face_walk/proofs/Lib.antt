@@ -16,3 +16,4 @@ pub mod RunPlaces
 pub mod SectorLemmas
 pub mod SideLemmas
 pub mod SortedSides
+pub mod SplitLemmas

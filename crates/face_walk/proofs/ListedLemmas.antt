@@ -13,7 +13,7 @@ use Rattle.face_walk.specs.declared.numbering.FaceSide.{FaceSide}
 
 -- ---- filters
 
-filter_none : {X : Type 0} (p : X → Bool) (xs : List X) → All (λ (x : X). p x ≡ false) xs → filter p xs ≡ []
+pub filter_none : {X : Type 0} (p : X → Bool) (xs : List X) → All (λ (x : X). p x ≡ false) xs → filter p xs ≡ []
 filter_none p [] h = refl
 filter_none p (x ∷ xs) h = (λ i. cond (h 0 x (omega arith) i) (x ∷ filter p xs) (filter p xs)) ∙ filter_none p xs (λ k d l. h (suc k) d (omega arith))
 

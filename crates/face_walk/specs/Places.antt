@@ -24,6 +24,10 @@ face_left_of places a = slice_index places (place_of a)
 abbrev pub has_left : List ℕ → ℕ → SignedArc → Bool
 has_left places f a = nat_eq (face_left_of places a) f
 
+-- the faces left of signed arcs
+abbrev pub faces_left_of : List ℕ → List SignedArc → List ℕ
+faces_left_of places arcs = map (face_left_of places) arcs
+
 -- of the arcs below `many`, forward and reversed, those that the face f is left of
 abbrev pub arcs_with_left : List ℕ → ℕ → ℕ → List SignedArc
 arcs_with_left places many f = filter (has_left places f) (signed_below many)

@@ -1,10 +1,10 @@
-ghost use Rattle.std.specs.Prelude.{◌≡◌, ◌+◌, ◌*◌, ◌<◌, ◌≤◌, All, IfOk, List, Some, ℕ, length, map, slice_get};
+ghost use Rattle.std.specs.Prelude.{◌≡◌, ◌+◌, ◌*◌, ◌<◌, ◌≤◌, All, IfOk, List, Some, ℕ, length, map, slice_get, slice_index};
 ghost use Rattle.plane_model.specs.Points.{Path};
 ghost use Rattle.face_walk.specs.Areas.{area_within};
 ghost use Rattle.face_walk.specs.Numbering.{AreAllBelow};
 ghost use Rattle.face_walk.specs.Places.{HasArc, HasJoins, HasPlaces, IsBuiltOf, IsFaceOver, areas_of_faces, arcs_with_left, face_left_of, place_of};
 ghost use Rattle.face_walk.specs.Rays.{AreLinksOf};
-ghost use Rattle.face_walk.specs.Sides.{AreListed};
+ghost use Rattle.face_walk.specs.Sides.{AreListed, AreSplit, arcs_from};
 
 use crate::areas::area_of_face;
 use crate::joining::Joining;
@@ -13,7 +13,7 @@ use crate::numbering::{FaceSide, Numbering, arcs_of, faces_of, numbering_of, sid
 use crate::places::{MAX_ARCS, OUTSIDE, place_of};
 use crate::rays::join_rays;
 use crate::sectors::join_sectors;
-use crate::side_places::{first_from, start_at, starts_of};
+use crate::side_places::starts_of;
 use arc_table::ArcTable;
 use grid_base::{FaceId, Pt, SignedArc};
 use link_search::LinkSearch;
@@ -26,10 +26,9 @@ pub struct Faces {
     // the face of each place
     places: Vec<u32>,
     count: u32,
-    // the face left of each signed arc of `side_arcs`, in order
-    side_faces: Vec<u32>,
+    // the signed arcs by the faces on their left
     side_arcs: Vec<SignedArc>,
-    // for each face the place of the first of these; a wrong one costs time alone
+    // where those of each face begin, and at last where all end
     side_starts: Vec<u32>,
     areas: Vec<i128>,
     search: LinkSearch,
@@ -38,7 +37,7 @@ pub struct Faces {
 impl Model for Faces {
     ghost use Rattle.std.specs.Prelude.{◌≡◌, ◌<◌, ◌≤◌, All, length};
     ghost use Rattle.face_walk.specs.Places.{FaceTable, HasPlaces};
-    ghost use Rattle.face_walk.specs.Sides.{AreListed};
+    ghost use Rattle.face_walk.specs.Sides.{AreSplit};
 
     ghost Value = { FaceTable };
 
@@ -47,11 +46,10 @@ impl Model for Faces {
     ghost invariant = { λ f. (0 < length f.places.items)
         × (length f.places.items ≤ 4000000001)
         × All (λ n. n < f.count) f.places.items
-        × (length f.side_faces.items ≡ length f.side_arcs.items)
         × All (HasPlaces (length f.places.items)) f.side_arcs.items
         × (length f.areas.items ≡ f.count)
         × All (λ l. HasPlaces (length f.places.items) l.along) f.search.links.items
-        × AreListed f.places.items f.side_faces.items f.side_arcs.items };
+        × AreSplit f.places.items f.count f.side_arcs.items f.side_starts.items };
 }
 
 impl Faces {
@@ -66,8 +64,9 @@ impl Faces {
         }
         let search = search_of(alloc, t)?;
         let mut joining = Joining::new(alloc, 2 * t.count() + 1)?;
-        let (starts, outs) = t.rows();
-        join_sectors(&mut joining, starts, outs);
+        let (starts, outs) = t.rows(alloc)?;
+        join_sectors(&mut joining, &starts, outs);
+        drop(starts);
         join_rays(alloc, &mut joining, &search, t.high_positions())?;
         let numbering = numbering_of(alloc, &joining)?;
         drop(joining);
@@ -96,19 +95,12 @@ impl Faces {
         let side_arcs = arcs_of(alloc, &sides)?;
         drop(sides);
         let side_starts = starts_of(alloc, &side_faces, numbering.count)?;
-        let areas = areas_of(
-            alloc,
-            t,
-            numbering.count,
-            &side_faces,
-            &side_arcs,
-            &side_starts,
-        )?;
+        drop(side_faces);
+        let areas = areas_of(alloc, t, numbering.count, &side_arcs, &side_starts)?;
         let Numbering { places, count } = numbering;
         Ok(Faces {
             places,
             count,
-            side_faces,
             side_arcs,
             side_starts,
             areas,
@@ -146,12 +138,10 @@ impl Faces {
         ensures left { All (λ a. face_left_of self.now.places a ≡ f) result.now }
         ensures there { All (HasArc self.now) result.now }
     {
-        arcs_left(
-            &self.side_faces,
-            &self.side_arcs,
-            f.num(),
-            &self.side_starts,
-        )
+        if f.num() >= self.count {
+            return &[];
+        }
+        arcs_left(&self.side_arcs, &self.side_starts, f.num())
     }
 
     /// Twice the area of a face that isn't the outer one, in squares of the grid.
@@ -176,21 +166,18 @@ impl Faces {
     }
 }
 
-// Of arcs that stand by the faces on their left, in order, those of one face. They are looked for where `starts` has
-// them first.
-fn arcs_left<'a>(faces: &[u32], arcs: &'a [SignedArc], f: u32, starts: &[u32]) -> &'a [SignedArc]
-    requires each { length faces.now ≡ length arcs.now }
-    ensures exact { (places : List ℕ) (many : ℕ) → AreListed places faces.now arcs.now → length places ≡ 2 * many + 1 →
-        result.now ≡ arcs_with_left places many f }
-    ensures left { (places : List ℕ) → AreListed places faces.now arcs.now → All (λ a. face_left_of places a ≡ f) result.now }
+// Of arcs that stand by the faces on their left those of one face.
+fn arcs_left<'a>(arcs: &'a [SignedArc], starts: &[u32], f: u32) -> &'a [SignedArc]
+    requires there { f + 1 < length starts.now }
+    requires ordered { slice_index starts.now f ≤ slice_index starts.now (f + 1) }
+    requires within { slice_index starts.now (f + 1) ≤ length arcs.now }
+    ensures exact { result.now ≡ arcs_from arcs.now starts.now f }
     ensures below { (n : ℕ) → All (λ a. a.arc < n) arcs.now → All (λ a. a.arc < n) result.now }
     ensures there { (m : ℕ) → All (HasPlaces m) arcs.now → All (HasPlaces m) result.now }
 {
-    let start = start_at(starts, f);
-    let next = start_at(starts, f.wrapping_add(1));
-    let first = first_from(faces, f as u64, start);
-    let count = first_from(&faces[first..], f as u64 + 1, next.wrapping_sub(start));
-    &arcs[first..first + count]
+    let start = starts[f as usize] as usize;
+    let end = starts[f as usize + 1] as usize;
+    &arcs[start..end]
 }
 
 // Twice the area of each face.
@@ -198,19 +185,18 @@ fn areas_of(
     alloc: Global,
     t: &ArcTable,
     count: u32,
-    faces: &[u32],
     arcs: &[SignedArc],
     starts: &[u32],
 ) -> Result<Vec<i128>, AllocError>
-    requires each { length faces.now ≡ length arcs.now }
     requires there { All (λ a. a.arc < length t.now) arcs.now }
+    requires split { (places : List ℕ) × AreSplit places count arcs.now starts.now }
     ensures count { IfOk result (λ v. length v.items ≡ count) }
-    ensures exact { (places : List ℕ) → AreListed places faces.now arcs.now → length places ≡ 2 * length t.now + 1 →
+    ensures exact { (places : List ℕ) → AreSplit places count arcs.now starts.now → length places ≡ 2 * length t.now + 1 →
         IfOk result (λ v. v.items ≡ areas_of_faces t.now places count) }
 {
     let mut areas = Vec::with_capacity(alloc, count as usize)?;
     for f in 0..count {
-        areas.push(area_of_face(t, arcs_left(faces, arcs, f, starts))?)?;
+        areas.push(area_of_face(t, arcs_left(arcs, starts, f))?)?;
     }
     Ok(areas)
 }

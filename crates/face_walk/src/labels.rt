@@ -10,7 +10,7 @@ use crate::faces::Faces;
 use crate::ring_steps::{RingStep, box_steps, next_number, polygon_steps, steps_along};
 use crate::side_places::start_at;
 use arc_table::ArcTable;
-use grid_base::{ArcId, FaceId, FeatId, Snapped};
+use grid_base::{ArcId, Drawing, FaceId, FeatId, Snapped};
 use std::alloc::{AllocError, Global};
 use std::marker::Model;
 
@@ -35,6 +35,22 @@ impl Labels {
     /// A feature holds a face that some polygon of it holds, and a polygon one from whose points it is left after
     /// an odd number of crossings of its rings.
     pub fn of(alloc: Global, t: &ArcTable, f: &Faces, s: &Snapped) -> Result<Labels, AllocError>
+        requires built { IsBuiltOf t.now f.now }
+        ensures exact { IfOk result (AreHolders t.now s.now f.now) }
+        ensures outer_free { IfOk result (λ l. (list_at l.holders (outer_of f.now) ≡ []) × (list_at l.boxes (outer_of f.now) ≡ [])) }
+        ensures holders_each { IfOk result (λ l. length l.holders ≡ f.now.count) }
+        ensures boxes_each { IfOk result (λ l. length l.boxes ≡ f.now.count) }
+    {
+        Labels::of_paths(alloc, t, f, s.paths())
+    }
+
+    /// The same from the paths of the snapped drawing alone, without its links.
+    pub fn of_paths(
+        alloc: Global,
+        t: &ArcTable,
+        f: &Faces,
+        s: &Drawing,
+    ) -> Result<Labels, AllocError>
         requires built { IsBuiltOf t.now f.now }
         ensures exact { IfOk result (AreHolders t.now s.now f.now) }
         ensures outer_free { IfOk result (λ l. (list_at l.holders (outer_of f.now) ≡ []) × (list_at l.boxes (outer_of f.now) ≡ [])) }

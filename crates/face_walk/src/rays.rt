@@ -7,7 +7,7 @@ ghost use Rattle.face_walk.specs.Rays.{AreRays, IsRay, place_met};
 
 use crate::joining::Joining;
 use crate::places::{OUTSIDE, place_of};
-use link_search::{ArcLink, LinkSearch, first_round, highs_of, is_lowest};
+use link_search::{ArcLink, LinkSearch, arrivals_before, first_round, highs_of, is_lowest};
 use std::alloc::{AllocError, Global};
 
 /// Joins along the ray from each vertex that all its links leave: the right of the first of them with the left of the
@@ -24,8 +24,10 @@ pub fn join_rays(
     ensures exact { OnOk result ((rays : List (ℕ × ℕ)) × AreRays search.now.links.items rays × (joining.new ≡ joined_by rays joining.old)) }
 {
     let highs = highs_of(alloc, &search.links, high_positions)?;
+    let mut before = 0;
     for i in 0..search.links.len() {
-        if is_lowest(&search.links, &highs, i) {
+        before = arrivals_before(&search.links, &highs, i, before);
+        if is_lowest(&search.links, &highs, i, before) {
             join_ray(joining, search, i);
         }
     }

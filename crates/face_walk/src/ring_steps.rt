@@ -5,7 +5,7 @@ ghost use Rattle.plane_model.specs.Points.{Path as Way};
 ghost use Rattle.face_walk.specs.RingSteps.{AreAdded, AreStepsFrom, AreStepsOf, owners_from};
 
 use arc_table::ArcTable;
-use grid_base::{ArcId, FeatId, Path, PtList, RingsList, Snapped};
+use grid_base::{ArcId, Drawing, FeatId, Path, PtList, RingsList};
 use known_order::{move_to_positions, positions_by_key};
 use std::alloc::{AllocError, Global};
 
@@ -25,7 +25,7 @@ pub struct PolygonSteps {
 }
 
 /// The steps of the polygons of a drawing, which are numbered feature by feature.
-pub fn polygon_steps(alloc: Global, t: &ArcTable, s: &Snapped) -> Result<PolygonSteps, AllocError>
+pub fn polygon_steps(alloc: Global, t: &ArcTable, s: &Drawing) -> Result<PolygonSteps, AllocError>
     ensures steps { IfOk result (λ all. AreStepsOf t.now (joined_up s.now.polygons) all.steps.items) }
     ensures owners { IfOk result (λ all. all.owners.items ≡ owners_from 0 s.now.polygons) }
 {
@@ -42,7 +42,7 @@ pub fn polygon_steps(alloc: Global, t: &ArcTable, s: &Snapped) -> Result<Polygon
 }
 
 /// The steps of all boxes, in order.
-pub fn box_steps(alloc: Global, t: &ArcTable, s: &Snapped) -> Result<Vec<RingStep>, AllocError>
+pub fn box_steps(alloc: Global, t: &ArcTable, s: &Drawing) -> Result<Vec<RingStep>, AllocError>
     ensures steps { IfOk result (λ v. AreStepsOf t.now (map (λ path. path ∷ []) s.now.boxes) v.items) }
 {
     let mut steps = Vec::new(alloc);

@@ -1,28 +1,39 @@
-ghost use Rattle.std.specs.Prelude.{◌≡◌, ◌-◌, ◌<◌, ◌≤◌, true, false, length, nat_lt, slice_index};
-ghost use Rattle.std.specs.List.Sorted.{IsPartitionedBy, IsPartitionPoint};
+ghost use Rattle.std.specs.Prelude.{◌≡◌, ◌-◌, ◌<◌, ◌≤◌, true, false, IfOk, length, nat_lt, slice_index};
+ghost use Rattle.std.specs.List.Sorted.{IsNonDecreasingBy, IsPartitionedBy, IsPartitionPoint};
+ghost use Rattle.face_walk.specs.Sides.{AreStarts};
 
+use crate::ring_steps::next_number;
 use std::alloc::{AllocError, Global};
 
-/// For each face the place of the first of its sides, which are those of `faces` in order. It is not proved: a wrong one
-/// costs time alone.
-pub fn starts_of(alloc: Global, faces: &[u32], count: u32) -> Result<Vec<u32>, AllocError> {
-    let mut starts = vec![in alloc; u32::MAX; count as usize]?;
-    for k in 0..faces.len() {
-        put_start(&mut starts, faces, k);
+/// For each face below `count` the place where its sides begin among all, whose faces are `faces`, in order; and after
+/// these the place where all end.
+///
+/// Errors: `AllocError` for want of memory, or of numbers below 2^32 for places.
+pub fn starts_of(alloc: Global, faces: &[u32], count: u32) -> Result<Vec<u32>, AllocError>
+    requires in_order { IsNonDecreasingBy (λ f. f) faces.now }
+    ensures exact { IfOk result (λ v. AreStarts faces.now count v.items) }
+{
+    let mut starts = Vec::with_capacity(alloc, count as usize + 1)?;
+    let mut start = 0;
+    for f in 0..count as u64 + 1 {
+        start = first_from(faces, f, place_after(faces, f, start));
+        starts.push(next_number(start)?)?;
     }
     Ok(starts)
 }
 
-fn put_start(starts: &mut Vec<u32>, faces: &[u32], k: usize)
-    requires there { k < length faces.now }
-{
-    let f = faces[k] as usize;
-    if f < starts.len() && (k == 0 || faces[k - 1] != faces[k]) {
-        starts[f] = u32::try_from(k).unwrap_or(u32::MAX);
+// The place of the first face that isn't below `f`, looked for from a place on. It is not proved: a wrong one costs time
+// alone.
+fn place_after(faces: &[u32], f: u64, from: usize) -> usize {
+    for k in from..faces.len() {
+        if faces[k] as u64 >= f {
+            return k;
+        }
     }
+    faces.len()
 }
 
-/// Where what belongs to a number begins by such a list.
+/// Where what belongs to a number begins, by a list of such places.
 pub fn start_at(starts: &[u32], number: u32) -> usize {
     match starts.get(number as usize) {
         Some(start) => *start as usize,
@@ -30,8 +41,8 @@ pub fn start_at(starts: &[u32], number: u32) -> usize {
     }
 }
 
-/// The place of the first of faces in order that is not below `f`, looked for at `guess` first.
-pub fn first_from(faces: &[u32], f: u64, guess: usize) -> usize
+// The place of the first of faces in order that is not below `f`, looked for at `guess` first.
+fn first_from(faces: &[u32], f: u64, guess: usize) -> usize
     ensures bound { result ≤ length faces.now }
     ensures exact { IsPartitionedBy (λ g. nat_lt g f) faces.now → IsPartitionPoint (λ g. nat_lt g f ≡ true) (λ g. nat_lt g f ≡ false) faces.now result }
 {

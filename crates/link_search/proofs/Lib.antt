@@ -1,3 +1,4 @@
+pub mod ArrivalLemmas
 pub mod CornerLemmas
 pub mod RayLemmas
 pub mod RowLemmas

@@ -13,7 +13,7 @@ ghost use Rattle.link_search.specs.declared.links.ArcLink.{ArcLink};
 
 use crate::link_tree::{LinkTree, MAX_STEPS, Stretch, topmost_by, tree_of};
 use crate::links::{ArcLink, boxes_of, highs_of};
-use crate::rows::is_lowest;
+use crate::rows::{arrivals_before, is_lowest};
 use crate::under::{goes_under, is_at_or_above, is_below};
 use bucket_grid::Buckets;
 use grid_base::Pt;
@@ -121,15 +121,25 @@ fn has_crowds(buckets: &Buckets) -> bool {
     false
 }
 
-// Whether many rays start at links with these numbers.
-fn has_many_rays(links: &[ArcLink], highs: &[Pt], near: &[u32]) -> bool
+// For each link whether a ray starts at it. This is not proved: a wrong answer costs time alone.
+fn rays_of(alloc: Global, links: &[ArcLink], highs: &[Pt]) -> Result<Vec<bool>, AllocError>
     requires highs { AreStops links.now highs.now }
 {
+    let mut rays = Vec::with_capacity(alloc, links.len())?;
+    let mut before = 0;
+    for i in 0..links.len() {
+        before = arrivals_before(links, highs, i, before);
+        rays.push(is_lowest(links, highs, i, before))?;
+    }
+    Ok(rays)
+}
+
+// Whether many rays start at links with these numbers.
+fn has_many_rays(rays: &[bool], near: &[u32]) -> bool {
     let mut count: usize = 0;
     for i in near {
-        let place = *i as usize;
-        if place < links.len() && is_lowest(links, highs, place) {
-            count = count.saturating_add(1);
+        if let Some(is_start) = rays.get(*i as usize) {
+            count = count.saturating_add(*is_start as usize);
         }
     }
     count > MANY_RAYS
@@ -149,8 +159,10 @@ fn trees_of(
         return Ok(trees);
     }
     let highs = highs_of(alloc, links, high_positions)?;
+    let rays = rays_of(alloc, links, &highs)?;
+    drop(highs);
     for place in 0..buckets.count() {
-        trees.push(tree_at(alloc, links, &highs, buckets, place)?)?;
+        trees.push(tree_at(alloc, links, &rays, buckets, place)?)?;
     }
     Ok(trees)
 }
@@ -158,11 +170,10 @@ fn trees_of(
 fn tree_at(
     alloc: Global,
     links: &[ArcLink],
-    highs: &[Pt],
+    rays: &[bool],
     buckets: &Buckets,
     place: u32,
 ) -> Result<Option<LinkTree>, AllocError>
-    requires highs { AreStops links.now highs.now }
     ensures leads { IfOk result (λ found. (tree : LinkTree) (ids : List ℕ) → found ≡ Some tree → slice_get buckets.now.near place ≡ Some ids → LeadsToAll links.now ids (parts_of tree)) }
 {
     let Some(near) = buckets.each_near(place) else {
@@ -171,7 +182,7 @@ fn tree_at(
     let Some(rect) = buckets.area_of(place) else {
         return Ok(None);
     };
-    if near.len() <= CROWD || !has_many_rays(links, highs, near) {
+    if near.len() <= CROWD || !has_many_rays(rays, near) {
         return Ok(None);
     }
     let stretch = Stretch {

@@ -26,7 +26,7 @@ loop-part-init t c =
     let forest = c.args.forest.now in (
       list_is s c.args.boxes.now c.args.rect c.args.near lists d.divides c.requires d.listed,
       omega (arith, ap length c.in_ok-tops.ensures.items),
-      nothing_grown (c.args.steps - 1) c.args.boxes.now c.args.rect s (length lists) forest.nodes.items forest.rects.items forest.near.items c.in_ok-tops.tops.items (omega arith),
+      nothing_grown (c.args.steps - 1) c.args.boxes.now c.args.rect s (length lists) forest.nodes.items forest.rects.items forest.near c.in_ok-tops.tops.items (omega arith),
     )
 
 -- the popped list is the last one
@@ -72,14 +72,14 @@ loop-part-preserved t c =
     let mid = c.loop-part.forest in
     let new = c.grow.new.forest in
     let slab_is : c.in_ok-slab.slab ≡ slab_part s (length ys) rect = f ∙ ap (λ (k : ℕ). slab_part s k rect) n in
-    let l : Grew (c.args.steps - 1) boxes (IsFrom rect s (length ys + 1)) old.nodes.items mid.nodes.items old.rects.items mid.rects.items old.near.items mid.near.items (top_of s tops) =
-    subst (λ (k : ℕ). Grew (c.args.steps - 1) boxes (IsFrom rect s k) old.nodes.items mid.nodes.items old.rects.items mid.rects.items old.near.items mid.near.items (top_of s tops)) m c.loop-part.invariant.2 in
-    let h : Grew (c.args.steps - 1) boxes (Holds (slab_part s (length ys) rect)) mid.nodes.items new.nodes.items mid.rects.items new.rects.items mid.near.items new.near.items (λ g. top) =
-    subst (λ (r : Corners). Grew (c.args.steps - 1) boxes (Holds r) mid.nodes.items new.nodes.items mid.rects.items new.rects.items mid.near.items new.near.items (λ g. top)) slab_is c.in_ok-grow.ensures in (
+    let l : Grew (c.args.steps - 1) boxes (IsFrom rect s (length ys + 1)) old.nodes.items mid.nodes.items old.rects.items mid.rects.items old.near mid.near (top_of s tops) =
+    subst (λ (k : ℕ). Grew (c.args.steps - 1) boxes (IsFrom rect s k) old.nodes.items mid.nodes.items old.rects.items mid.rects.items old.near mid.near (top_of s tops)) m c.loop-part.invariant.2 in
+    let h : Grew (c.args.steps - 1) boxes (Holds (slab_part s (length ys) rect)) mid.nodes.items new.nodes.items mid.rects.items new.rects.items mid.near new.near (λ g. top) =
+    subst (λ (r : Corners). Grew (c.args.steps - 1) boxes (Holds r) mid.nodes.items new.nodes.items mid.rects.items new.rects.items mid.near new.near (λ g. top)) slab_is c.in_ok-grow.ensures in (
       λ k b. sym (ap (λ (l : List (List ℕ)). get_or l k []) e ∙ get_or_append_left ys (c.in-Some-pop.part ∷ []) [] k b) ∙ c.loop-part.invariant.0 k (omega arith),
       omega (arith, ap length tops_are, length-append tops (top ∷ [])),
-      subst (λ (l : List Node). Grew (c.args.steps - 1) boxes (IsFrom rect s (length ys)) old.nodes.items new.nodes.items old.rects.items new.rects.items old.near.items new.near.items (top_of s l)) (sym tops_are)
-          (slab_grown (c.args.steps - 1) boxes rect s old.nodes.items mid.nodes.items new.nodes.items old.rects.items mid.rects.items new.rects.items old.near.items mid.near.items new.near.items tops top (length ys)
+      subst (λ (l : List Node). Grew (c.args.steps - 1) boxes (IsFrom rect s (length ys)) old.nodes.items new.nodes.items old.rects.items new.rects.items old.near new.near (top_of s l)) (sym tops_are)
+          (slab_grown (c.args.steps - 1) boxes rect s old.nodes.items mid.nodes.items new.nodes.items old.rects.items mid.rects.items new.rects.items old.near mid.near new.near tops top (length ys)
           d.divides (omega arith) l h),
     )
 
@@ -95,9 +95,9 @@ returns t c =
     let count = c.loop-part.invariant.1 in
     let children : c.in_ok-children.children ≡ length mid.nodes.items = omega (arith, c.in_ok-children.ensures, c.len-3.ensures, mid.nodes.ok.0) in
     let nodes : c.extend_from_slice.new.self.items ≡ mid.nodes.items ++ tops = c.in_ok-extend_from_slice.ensures.items ∙ ap (λ (l : List Node). mid.nodes.items ++ l) c.deref.ensures.value in
-    let l : Grew (c.args.steps - 1) c.args.boxes.now (IsFrom c.args.rect s 0) old.nodes.items mid.nodes.items old.rects.items mid.rects.items old.near.items mid.near.items (top_of s tops) =
-    subst (λ (k : ℕ). Grew (c.args.steps - 1) c.args.boxes.now (IsFrom c.args.rect s k) old.nodes.items mid.nodes.items old.rects.items mid.rects.items old.near.items mid.near.items (top_of s tops)) empty c.loop-part.invariant.2 in
+    let l : Grew (c.args.steps - 1) c.args.boxes.now (IsFrom c.args.rect s 0) old.nodes.items mid.nodes.items old.rects.items mid.rects.items old.near mid.near (top_of s tops) =
+    subst (λ (k : ℕ). Grew (c.args.steps - 1) c.args.boxes.now (IsFrom c.args.rect s k) old.nodes.items mid.nodes.items old.rects.items mid.rects.items old.near mid.near (top_of s tops)) empty c.loop-part.invariant.2 in
     let steps : suc (c.args.steps - 1) ≡ c.args.steps = omega arith in
-    subst (λ (n : ℕ). Grew n c.args.boxes.now (Holds c.args.rect) old.nodes.items c.extend_from_slice.new.self.items old.rects.items mid.rects.items old.near.items mid.near.items (λ g. Split s c.in_ok-children.children)) steps
-    (split_grown (c.args.steps - 1) c.args.boxes.now c.args.rect s old.nodes.items mid.nodes.items c.extend_from_slice.new.self.items old.rects.items mid.rects.items old.near.items mid.near.items tops c.in_ok-children.children
+    subst (λ (n : ℕ). Grew n c.args.boxes.now (Holds c.args.rect) old.nodes.items c.extend_from_slice.new.self.items old.rects.items mid.rects.items old.near mid.near (λ g. Split s c.in_ok-children.children)) steps
+    (split_grown (c.args.steps - 1) c.args.boxes.now c.args.rect s old.nodes.items mid.nodes.items c.extend_from_slice.new.self.items old.rects.items mid.rects.items old.near mid.near tops c.in_ok-children.children
     (omega arith) children nodes l)

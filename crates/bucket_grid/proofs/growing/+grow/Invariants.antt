@@ -12,7 +12,7 @@ abbrev pub invariant-loop-part : goal.invariant-loop-part
 invariant-loop-part l =
     ((k : ℕ) → k < length l.lists.items → get_or l.lists.items k [] ≡ boxes_near l.boxes (slab_part l.slabs k l.rect))
     × (length l.tops.items + length l.lists.items ≡ l.slabs.last + 1)
-    × Grew (l.steps - 1) l.boxes (IsFrom l.rect l.slabs (length l.lists.items)) l.fn.forest.nodes.items l.forest.nodes.items l.fn.forest.rects.items l.forest.rects.items l.fn.forest.near.items l.forest.near.items (top_of l.slabs l.tops.items)
+    × Grew (l.steps - 1) l.boxes (IsFrom l.rect l.slabs (length l.lists.items)) l.fn.forest.nodes.items l.forest.nodes.items l.fn.forest.rects.items l.forest.rects.items l.fn.forest.near l.forest.near (top_of l.slabs l.tops.items)
 
 abbrev pub decreases-loop-part : goal.decreases-loop-part
 decreases-loop-part l = vec_len l.lists

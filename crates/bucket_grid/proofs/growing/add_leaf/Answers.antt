@@ -1,4 +1,4 @@
-use Rattle.std.proofs.Common.{◌≡◌, arith, length}
+use Rattle.std.proofs.Common.{◌≡◌, ◌∙◌, ◌∷◌, ◌++◌, [], ℕ, List, ap, arith, length}
 use Rattle.bucket_grid.proofs.Growth.{leaf_grown}
 use Rattle.bucket_grid.proofs.growing.add_leaf.Goals as goal
 
@@ -6,6 +6,6 @@ pub returns : goal.returns
 returns c =
     let forest = c.args.forest.now in
     let place : c.in_ok-place.place ≡ length forest.rects.items = omega (arith, c.in_ok-place.ensures, c.len.ensures, forest.rects.ok.0) in
-    let v = c.near.view_is in
-    λ steps boxes e. leaf_grown boxes c.args.rect forest.nodes.items forest.rects.items c.push.new.self.items forest.near.items c.push-2.new.self.items steps c.args.near c.in_ok-place.place
-    e place c.in_ok-push.ensures.items c.in_ok-push-2.ensures.items
+    let near = c.in_ok-push-2.ensures.ok ∙ ap (λ (list : List ℕ). forest.near ++ list ∷ []) c.as_slice.ensures.all in
+    λ steps boxes e. leaf_grown boxes c.args.rect forest.nodes.items forest.rects.items c.push.new.self.items forest.near c.push-2.new.self steps c.args.near c.in_ok-place.place
+    e place c.in_ok-push.ensures.items near

@@ -10,7 +10,7 @@ use Rattle.face_walk.proofs.rays.join_rays.Goals as goal
 
 pub join_ray-requires-clause-vertex : goal.join_ray-requires-clause-vertex
 join_ray-requires-clause-vertex c =
-    subst (λ (xs : List ArcLink). IsMinimum xs (start_at xs c.loop-i.i)) c.deref-in-loop-i.ensures.value (c.is_lowest.ensures.vertex c.if-is_lowest.true)
+    subst (λ (xs : List ArcLink). IsMinimum xs (start_at xs c.loop-i.i)) c.deref-in-loop-i-3.ensures.value (c.is_lowest.ensures.vertex c.if-is_lowest.true)
 
 pub loop-i-preserved : goal.loop-i-preserved
 loop-i-preserved c =
@@ -30,7 +30,7 @@ loop-i-preserved c =
         joined = (
           rays,
           no_more_rays links i rays below
-              (λ s m. c.is_lowest.ensures.no w.if-is_lowest.false (subst (λ (xs : List ArcLink). starts_row xs i ≡ true) (sym c.deref-in-loop-i.ensures.value) s) (subst (λ (xs : List ArcLink). IsMinimum xs (start_at xs i)) (sym c.deref-in-loop-i.ensures.value) m)),
+              (λ s m. c.is_lowest.ensures.no w.if-is_lowest.false (subst (λ (xs : List ArcLink). starts_row xs i ≡ true) (sym c.deref-in-loop-i-3.ensures.value) s) (subst (λ (xs : List ArcLink). IsMinimum xs (start_at xs i)) (sym c.deref-in-loop-i-3.ensures.value) m)),
           w.joining-is ∙ joined,
         );
       }

@@ -23,12 +23,12 @@ returns-then-starts_row-clause-vertex c = λ e k h s.
     let links = c.args.links.now in
     let highs = c.args.highs.now in
     let low : start_at links c.args.i ≡ c.low.result = start_is links c.args.i c.index-links-i.result c.requires.there (sym c.index-links-i.is) ∙ ap (λ (x : ArcLink). x.link.start) c.index-links-i.is ∙ sym c.low.ensures.lesser in
-    c.has_point.ensures.no (is_false c.has_point.result e) (subst (Contains highs) (s ∙ low) (Contains-permutation (stops_of links) highs k.link.stop c.requires.highs.all (Contains-map stop_of links k h)))
+    c.arrives_at.ensures.no (is_false c.arrives_at.result e) (subst (Contains highs) (s ∙ low) (Contains-permutation (stops_of links) highs k.link.stop c.requires.highs.all (Contains-map stop_of links k h)))
 
 pub returns-then-starts_row-clause-no : goal.returns-then-starts_row-clause-no
 returns-then-starts_row-clause-no c = λ e s m.
     let links = c.args.links.now in
     let highs = c.args.highs.now in
     let low : start_at links c.args.i ≡ c.low.result = start_is links c.args.i c.index-links-i.result c.requires.there (sym c.index-links-i.is) ∙ ap (λ (x : ArcLink). x.link.start) c.index-links-i.is ∙ sym c.low.ensures.lesser in
-    let found = map-Contains stop_of links c.low.result (Contains-permutation highs (stops_of links) c.low.result (IsPermutation-sym (stops_of links) highs c.requires.highs.all) (c.has_point.ensures.yes (is_true c.has_point.result e))) in
+    let found = map-Contains stop_of links c.low.result (Contains-permutation highs (stops_of links) c.low.result (IsPermutation-sym (stops_of links) highs c.requires.highs.all) (c.arrives_at.ensures.yes (is_true c.arrives_at.result e))) in
     m found.0 found.1 (found.2 ∙ sym low)

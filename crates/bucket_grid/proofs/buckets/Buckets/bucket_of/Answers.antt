@@ -7,7 +7,7 @@ use Rattle.bucket_grid.proofs.OnTheWay.{way_begins, on_way_within, on_way_leaf, 
 use Rattle.bucket_grid.proofs.buckets.Buckets.bucket_of.Goals as goal
 
 pub loop-step-init : goal.loop-step-init
-loop-step-init c = way_begins c.self.inside.nodes.items c.self.inside.rects.items c.self.inside.near.items c.self.inside.root c.args.p c.self.invariant (search rules)
+loop-step-init c = way_begins c.self.inside.nodes.items c.self.inside.rects.items c.self.inside.near c.self.inside.root c.args.p c.self.invariant (search rules)
 
 pub index-requires : goal.index-requires
 index-requires c = let h = on_way_within c.self.inside.nodes.items c.self.inside.rects.items c.args.p c.loop-step.node c.loop-step._step c.loop-step.invariant in omega (arith, c.self.inside.nodes.ok.0)

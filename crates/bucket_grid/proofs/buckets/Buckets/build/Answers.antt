@@ -7,14 +7,14 @@ use Rattle.bucket_grid.proofs.buckets.Buckets.build.Goals as goal
 pub invariant_of-result : goal.invariant_of-result
 invariant_of-result c =
     let forest = c.fit.new.forest in
-    let g : Grew 42 c.as_slice.result.now (Holds c.in_ok-whole.whole) [] forest.nodes.items [] forest.rects.items [] forest.near.items (λ g. c.in_ok-top.top) = rw (c.new.ensures.items, c.new-2.ensures.items, c.new-3.ensures.items, ← c.fit.ensures.nodes, ← c.fit.ensures.rects, ← c.fit.ensures.near) at c.in_ok-top.ensures in
-    grown_leads c.as_slice.result.now c.in_ok-whole.whole forest.nodes.items c.push.new.self.items forest.rects.items forest.near.items c.in_ok-top.top c.len-root.result c.in_ok-whole.ensures (omega (arith, forest.rects.ok.0))
+    let g : Grew 42 c.as_slice.result.now (Holds c.in_ok-whole.whole) [] forest.nodes.items [] forest.rects.items [] forest.near (λ g. c.in_ok-top.top) = rw (c.new.ensures.items, c.new-2.ensures.items, c.new-3.ensures.empty, ← c.fit.ensures.nodes, ← c.fit.ensures.rects, ← c.fit.ensures.near) at c.in_ok-top.ensures in
+    grown_leads c.as_slice.result.now c.in_ok-whole.whole forest.nodes.items c.push.new.self.items forest.rects.items forest.near c.in_ok-top.top c.len-root.result c.in_ok-whole.ensures (omega (arith, forest.rects.ok.0))
     c.in_ok-push.ensures.items (omega (arith, c.len-root.ensures, forest.nodes.ok.0)) g
 
 pub returns-clause-places : goal.returns-clause-places
 returns-clause-places c =
     let forest = c.fit.new.forest in
-    let g : Grew 42 c.as_slice.result.now (Holds c.in_ok-whole.whole) [] forest.nodes.items [] forest.rects.items [] forest.near.items (λ g. c.in_ok-top.top) = rw (c.new.ensures.items, c.new-2.ensures.items, c.new-3.ensures.items, ← c.fit.ensures.nodes, ← c.fit.ensures.rects, ← c.fit.ensures.near) at c.in_ok-top.ensures in
-    let l = grown_leads c.as_slice.result.now c.in_ok-whole.whole forest.nodes.items c.push.new.self.items forest.rects.items forest.near.items c.in_ok-top.top c.len-root.result c.in_ok-whole.ensures (omega (arith, forest.rects.ok.0))
+    let g : Grew 42 c.as_slice.result.now (Holds c.in_ok-whole.whole) [] forest.nodes.items [] forest.rects.items [] forest.near (λ g. c.in_ok-top.top) = rw (c.new.ensures.items, c.new-2.ensures.items, c.new-3.ensures.empty, ← c.fit.ensures.nodes, ← c.fit.ensures.rects, ← c.fit.ensures.near) at c.in_ok-top.ensures in
+    let l = grown_leads c.as_slice.result.now c.in_ok-whole.whole forest.nodes.items c.push.new.self.items forest.rects.items forest.near c.in_ok-top.top c.len-root.result c.in_ok-whole.ensures (omega (arith, forest.rects.ok.0))
     c.in_ok-push.ensures.items (omega (arith, c.len-root.ensures, forest.nodes.ok.0)) g in
     λ p h. (let w = l.leads p h in (w.0, w.2))
