@@ -1,18 +1,18 @@
 -- The points that a segment meets, in the order of their keys, are its chain.
-use Rattle.std.proofs.Common.{◌≡◌, ◌≢◌, inl, inr, refl, sym, ap, ◌∙◌, subst, arith, ℕ, zero, suc, ◌+◌, ◌-◌, ◌<◌, ◌≤◌, Bool, true, false, not, cond, List, [], ◌∷◌, length, get_or, filter, Contains, AllPairs, IsTrue, Ordering, int_cmp, ℤ, ◌<ℤ◌, ◌≤ℤ◌}
+use Rattle.std.proofs.Common.{◌≡◌, ◌≢◌, inl, inr, refl, sym, ap, ◌∙◌, subst, arith, ℕ, zero, suc, ◌+◌, ◌-◌, ◌<◌, ◌≤◌, Bool, true, false, not, cond, List, [], ◌∷◌, length, get_or, take, drop, filter, Contains, AllPairs, IsTrue, Ordering, int_cmp, ℤ, ◌<ℤ◌, ◌≤ℤ◌}
 use Rattle.std.specs.List.{count_by}
 use Rattle.std.specs.List.Sorted.{IsPermutation, IsSortedByKey}
 use Rattle.std.specs.Ordering.{is_lt, MatchOrdering}
 use Rattle.std.specs.declared.cmp.Ordering.TheVariants.{Less, Equal, Greater}
 use Rattle.std.proofs.lemmas.Cmp.{int_cmp_total, int_ranked}
 use Rattle.std.proofs.lemmas.Bool.{cases_lt}
-use Rattle.std.proofs.lemmas.List.{get_or_default}
+use Rattle.std.proofs.lemmas.List.{get_or_default, take_all}
 use Rattle.std.proofs.lemmas.List.Kept.{AllPairs-filter}
 use Rattle.std.proofs.lemmas.List.Sums.{sum_by-cons, get_or-le-sum_by, length-filter}
 use Rattle.std.proofs.lemmas.List.Filters.{sum_by-filter_both}
 use Rattle.std.proofs.lemmas.List.Sorted.{IsPermutation-sym, Contains-permutation, sum_by-IsPermutation, sorted_far, ranks_by}
 use Rattle.lists.specs.Lists.{ascending, put_in_order}
-use Rattle.lists.proofs.Ascending.{IsStrictOrder, IsAscending, ascending_of_pairs, ascending-IsAscending, ascending-Contains, Contains-ascending, one_ascending}
+use Rattle.lists.proofs.Ascending.{IsStrictOrder, IsAscending, ascending_of_pairs, ascending-IsAscending, ascending-Contains, Contains-ascending, one_ascending, first_of_ascending}
 use Rattle.lists.proofs.Members.{Contains-head, Contains-later, Contains-filter, filter-Contains}
 use Rattle.plane_algebra.proofs.Order.{order, order_cases}
 use Rattle.plane_algebra.proofs.Tests.{by_test}
@@ -23,7 +23,7 @@ use Rattle.plane_model.specs.Hot.{hot_points, is_passed_before, order_key, chain
 use Rattle.plane_model.proofs.PointOrder.{same_point_from, same_point_to, is_before-IsStrictOrder}
 use Rattle.plane_snapping.proofs.Keys.{keys_agree}
 use Rattle.plane_snapping.proofs.MeetsComputed.{meets_is_computed}
-use Rattle.plane_snapping.proofs.Passing.{passed-IsStrictOrder}
+use Rattle.plane_snapping.proofs.Passing.{passed-IsStrictOrder, meets_start, start_is_first}
 use Rattle.hot_pixels.specs.Chains.{AreHotPointsOf, DoRise}
 
 -- ---- how often a point stands in a list
@@ -250,3 +250,23 @@ chain_is_drawn d s points e =
 
     sorted : List GridPoint
     sorted = ascending is_before (hot_points d)
+
+-- ---- the points after the first
+
+pub none_after_first : (points : List GridPoint) → length points ≡ 0 → points ≡ drop 1 points
+none_after_first [] e = refl
+none_after_first (p ∷ rest) e = absurd (omega arith)
+
+pub all_after_first : (points : List GridPoint) → take (length points - 1) (drop 1 points) ≡ drop 1 points
+all_after_first [] = refl
+all_after_first (p ∷ rest) = take_all (length (p ∷ rest) - 1) rest (omega arith)
+
+-- a chain begins where its segment starts
+pub chain_begins : (points : List GridPoint) (s : Segment) → Contains points s.start → s.start ∷ drop 1 (chain_among points s) ≡ chain_among points s
+chain_begins points s from =
+    let strict = passed-IsStrictOrder s in
+    let met : List GridPoint = filter (meets s) points in
+    let starts = Contains-ascending (is_passed_before s) strict met s.start (Contains-filter (meets s) points s.start from ((meets_is_computed s s.start).1 (meets_start s))) in
+    let f = first_of_ascending (is_passed_before s) (chain_among points s) s.start (ascending-IsAscending (is_passed_before s) strict met) starts
+    (λ g c. start_is_first s g ((meets_is_computed s g).0 (filter-Contains (meets s) points g (ascending-Contains (is_passed_before s) strict met g c)).1)) in
+    ap (λ (xs : List GridPoint). s.start ∷ drop 1 xs) f.1 ∙ sym f.1

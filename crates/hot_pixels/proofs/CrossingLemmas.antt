@@ -1,12 +1,12 @@
 -- The crossings of boxes near each rectangle are all crossings.
-use Rattle.std.proofs.Common.{◌≡◌, inl, inr, refl, sym, ap, ◌∙◌, subst, arith, ℕ, ◌<◌, ltb, Bool, true, false, cond, List, [], length, get_or, map, Option, Some, None, Contains, ℤ, pos, ◌+ℤ◌, ◌-ℤ◌, ◌*ℤ◌, ◌≤ℤ◌, int_le}
+use Rattle.std.proofs.Common.{◌≡◌, inl, inr, refl, sym, ap, ◌∙◌, subst, arith, ℕ, ◌<◌, ltb, Bool, true, false, cond, List, [], ◌∷◌, length, get_or, map, Option, Some, None, Contains, ℤ, pos, ◌+ℤ◌, ◌-ℤ◌, ◌*ℤ◌, ◌≤ℤ◌, int_le}
 use Rattle.std.specs.List.{slice_get}
 use Rattle.std.specs.Option.{option_to_list}
-use Rattle.std.proofs.lemmas.Bool.{lt-ltb, cases_lt, or_left, or_right}
+use Rattle.std.proofs.lemmas.Bool.{lt-ltb, le-ltb, cases_lt, or_left, or_right}
 use Rattle.std.proofs.lemmas.List.{get_or-map, length-map, get_or_default}
 use Rattle.std.proofs.lemmas.Option.{slice_get-get_or, slice_get_within, get_or_from_slice_get}
-use Rattle.std.proofs.lemmas.List.Elements.{All-contains}
-use Rattle.lists.proofs.Members.{Contains-nil, Contains-cases, flat_map-Contains}
+use Rattle.std.proofs.lemmas.List.Elements.{All-contains, Contains-append_left, Contains-append_right, Contains-append_cases}
+use Rattle.lists.proofs.Members.{Contains-head, Contains-nil, Contains-cases, Contains-flat_map, flat_map-Contains}
 use Rattle.plane_algebra.proofs.Ring.{ring, ◌⊞◌, ◌⊟◌, ◌⊠◌, num, ◌≐◌}
 use Rattle.plane_algebra.proofs.Order.{order, order_cases}
 use Rattle.plane_algebra.proofs.Tests.{le_from, le_to, by_test, or_cases}
@@ -22,7 +22,7 @@ use Rattle.bucket_grid.specs.Rects.{RectLists, Holds, share_point, boxes_near}
 use Rattle.bucket_grid.proofs.SharedPoints.{overlap_to}
 use Rattle.bucket_grid.proofs.Numbers.{Contains-numbers_where}
 use Rattle.grid_base.specs.Boxes.{box_of, lesser, greater}
-use Rattle.hot_pixels.specs.Spots.{is_end, share_end, crossing_at, crossing_between, crossings_with, crossings_among}
+use Rattle.hot_pixels.specs.Spots.{is_end, share_end, crossing_at, crossing_between, crossing_of_pair, crossings_with, crossings_among}
 use Rattle.hot_pixels.specs.Marking.{IsEndOf}
 use Rattle.hot_pixels.specs.Crossing.{HasGridEnds}
 use Rattle.hot_pixels.specs.Found.{IsCrossingOf, HasAllCrossings, HasCrossingsBefore, AreBucketsOver}
@@ -169,10 +169,11 @@ there : (spots : List Segment) (i : ℕ) (s : Segment) → slice_get spots i ≡
 there spots i s e = (i, slice_get_within spots i s e, get_or_from_slice_get spots i s s e)
 
 pub listed_crosses : (spots : List Segment) (near : List ℕ) (g : GridPoint) → Contains (crossings_among spots near) g → IsCrossingOf spots g
-listed_crosses spots near g c =
-    let k = flat_map-Contains (λ i. crossings_with spots i near) near g c in
-    let m = flat_map-Contains (λ j. option_to_list (crossing_at spots k.0 j)) near g k.2 in
-    at_pair k.0 m.0 (crossing_at spots k.0 m.0) refl m.2
+listed_crosses spots [] g c = Contains-nil g c
+listed_crosses spots (i ∷ rest) g c = elim (Contains-append_cases (crossings_with spots i rest) (crossings_among spots rest) g c) [
+  | inl d ↦ (let m = flat_map-Contains (λ j. option_to_list (crossing_of_pair spots i j)) rest g d in of_pair m.0 (ltb i m.0) m.2)
+  | inr d ↦ listed_crosses spots rest g d
+]
   where
     at_pair : (i j : ℕ) (o : Option GridPoint) → crossing_at spots i j ≡ o → Contains (option_to_list o) g → IsCrossingOf spots g
     at_pair i j None e c = Contains-nil g c
@@ -180,6 +181,37 @@ listed_crosses spots near g c =
       | inl f ↦ (let h = pair_at spots i j g (e ∙ ap Some f) in record { s = h.s; t = h.t; s_there = there spots i h.s h.s_at; t_there = there spots j h.t h.t_at; crosses = h.crosses })
       | inr d ↦ Contains-nil g d
     ]
+
+    of_pair : (j : ℕ) (b : Bool) → Contains (option_to_list (cond b (crossing_at spots i j) (crossing_at spots j i))) g → IsCrossingOf spots g
+    of_pair j true c = at_pair i j (crossing_at spots i j) refl c
+    of_pair j false c = at_pair j i (crossing_at spots j i) refl c
+
+-- ---- a pair is tried once
+
+in_turn : (spots : List Segment) (i j : ℕ) (g : GridPoint) → crossing_at spots i j ≡ Some g → i < j
+in_turn spots i j g e = elim (cases_lt i j) [
+  | inl l ↦ l
+  | inr l ↦ absurd (let f : None ≡ Some g = sym (ap (λ (b : Bool). cond b (crossing_between (slice_get spots i) (slice_get spots j)) None) (le-ltb i j l)) ∙ e in cc)
+]
+
+in_pair : (spots : List Segment) (i j : ℕ) (near : List ℕ) (g : GridPoint) → Contains near j → crossing_of_pair spots i j ≡ Some g → Contains (crossings_with spots i near) g
+in_pair spots i j near g c e =
+    Contains-flat_map (λ k. option_to_list (crossing_of_pair spots i k)) near j g c (subst (λ (o : Option GridPoint). Contains (option_to_list o) g) (sym e) (Contains-head g []))
+
+pub pairs_listed : (spots : List Segment) (near : List ℕ) (i j : ℕ) (g : GridPoint) → Contains near i → Contains near j → crossing_at spots i j ≡ Some g → Contains (crossings_among spots near) g
+pairs_listed spots [] i j g at_i at_j e = Contains-nil i at_i
+pairs_listed spots (k ∷ rest) i j g at_i at_j e = elim (Contains-cases k rest i at_i) [
+  | inl is_i ↦ elim (Contains-cases k rest j at_j) [
+    | inl is_j ↦ absurd (let l = in_turn spots i j g e in omega arith)
+    | inr in_j ↦ Contains-append_left (crossings_with spots k rest) (crossings_among spots rest) g
+        (in_pair spots k j rest g in_j (ap (λ (n : ℕ). crossing_of_pair spots n j) is_i ∙ ap (λ (b : Bool). cond b (crossing_at spots i j) (crossing_at spots j i)) (lt-ltb i j (in_turn spots i j g e)) ∙ e))
+  ]
+  | inr in_i ↦ elim (Contains-cases k rest j at_j) [
+    | inl is_j ↦ Contains-append_left (crossings_with spots k rest) (crossings_among spots rest) g
+        (in_pair spots k i rest g in_i (ap (λ (n : ℕ). crossing_of_pair spots n i) is_j ∙ ap (λ (b : Bool). cond b (crossing_at spots j i) (crossing_at spots i j)) (le-ltb j i (let l = in_turn spots i j g e in omega arith)) ∙ e))
+    | inr in_j ↦ Contains-append_right (crossings_with spots k rest) (crossings_among spots rest) g (pairs_listed spots rest i j g in_i in_j e)
+  ]
+]
 
 -- one number names one spot
 same_spot : (spots : List Segment) (i j : ℕ) (s t : Segment) → j ≡ i → i < length spots → get_or spots i s ≡ s → get_or spots j t ≡ t → t ≡ s

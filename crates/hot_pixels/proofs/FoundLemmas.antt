@@ -1,15 +1,15 @@
 -- Crossings that are added: those of pairs, of segments that a line parts, and of one list after the other.
-use Rattle.std.proofs.Common.{◌≡◌, inl, inr, sym, ap, ◌∙◌, subst, arith, ℕ, ◌+◌, ◌≤◌, List, [], ◌++◌, Option, Some, Contains, true}
+use Rattle.std.proofs.Common.{◌≡◌, inl, inr, sym, ap, ◌∙◌, subst, arith, ℕ, ◌+◌, ◌-◌, ◌<◌, ◌≤◌, List, ◌++◌, append_assoc, length, get_or, take, drop, Some, Contains, true}
+use Rattle.std.proofs.lemmas.List.{at_drop_more, at_drop_all, append-nil, take_all, length-drop}
 use Rattle.std.specs.List.{slice_get}
-use Rattle.std.specs.Option.{option_to_list}
 use Rattle.std.proofs.lemmas.Bool.{cases_lt}
 use Rattle.std.proofs.lemmas.List.Elements.{Contains-append_left, Contains-append_right, Contains-append_cases}
-use Rattle.lists.proofs.Members.{Contains-head, Contains-filter, Contains-flat_map}
+use Rattle.lists.proofs.Members.{Contains-filter}
 use Rattle.plane_model.specs.Points.{GridPoint, Segment, reversed}
-use Rattle.hot_pixels.specs.Spots.{crossing_at, crossings_with, crossings_among}
+use Rattle.hot_pixels.specs.Spots.{crossings_with, crossings_among}
 use Rattle.hot_pixels.specs.Found.{AddsCrossings, HoldCrossings, HasCrossingsAmong, HasCrossingsBefore}
 use Rattle.hot_pixels.specs.Parting.{is_left_by, left_numbers}
-use Rattle.hot_pixels.proofs.CrossingLemmas.{pair_at, listed_crosses}
+use Rattle.hot_pixels.proofs.CrossingLemmas.{pair_at, listed_crosses, pairs_listed}
 use Rattle.hot_pixels.proofs.PartingLemmas.{on_one_side}
 
 -- ---- pairs
@@ -24,12 +24,23 @@ among_pairs spots near old new e = record {
     ];
   };
   holds = record {
-    all = λ i j g at_i at_j crosses. subst (λ (xs : List GridPoint). Contains xs g) (sym e) (Contains-append_right old (crossings_among spots near) g
-        (Contains-flat_map (λ a. crossings_with spots a near) near i g at_i
-        (Contains-flat_map (λ b. option_to_list (crossing_at spots i b)) near j g at_j
-        (subst (λ (o : Option GridPoint). Contains (option_to_list o) g) (sym crosses) (Contains-head g [])))));
+    all = λ i j g at_i at_j crosses. subst (λ (xs : List GridPoint). Contains xs g) (sym e) (Contains-append_right old (crossings_among spots near) g (pairs_listed spots near i j g at_i at_j crosses));
   };
 }
+
+-- each spot with those after it, one after the other
+pub pairs_more : (spots : List Segment) (all out more : List GridPoint) (near rest : List ℕ) (k : ℕ) → k < length near → rest ≡ drop (k + 1) near → all ≡ out ++ crossings_among spots (drop k near) → more ≡ out ++ crossings_with spots (get_or near k 0) rest → all ≡ more ++ crossings_among spots (drop (k + 1) near)
+pairs_more spots all out more near rest k l e h m =
+    let later = crossings_among spots (drop (k + 1) near) in
+    h ∙ ap (λ (t : List GridPoint). out ++ t) (at_drop_more (crossings_among spots) near k 0 l)
+    ∙ sym (append_assoc out (crossings_with spots (get_or near k 0) (drop (k + 1) near)) later)
+    ∙ ap (λ (t : List GridPoint). t ++ later) (sym (m ∙ ap (λ (xs : List ℕ). out ++ crossings_with spots (get_or near k 0) xs) e))
+
+pub rest_is : (near : List ℕ) (k : ℕ) → take (length near - (k + 1)) (drop (k + 1) near) ≡ drop (k + 1) near
+rest_is near k = let n = length-drop (k + 1) near in take_all (length near - (k + 1)) (drop (k + 1) near) (omega arith)
+
+pub pairs_all : (spots : List Segment) (all out : List GridPoint) (near : List ℕ) (k : ℕ) → length near ≤ k → all ≡ out ++ crossings_among spots (drop k near) → out ≡ all
+pairs_all spots all out near k l h = sym (h ∙ ap (λ (t : List GridPoint). out ++ t) (at_drop_all (crossings_among spots) near k l) ∙ append-nil out)
 
 -- ---- one after the other
 

@@ -1,7 +1,6 @@
--- The stops of the spots, with all crossings of their edges added, are the hot points.
-use Rattle.std.proofs.Common.{◌≡◌, inl, inr, sym, subst, List, map, Contains, Some}
+-- The ends of the edges, with all their crossings added, are the hot points.
+use Rattle.std.proofs.Common.{◌≡◌, inl, inr, sym, ◌∙◌, subst, List, Contains, Some}
 use Rattle.lists.specs.Lists.{ascending}
-use Rattle.lists.proofs.Members.{Contains-map, map-Contains}
 use Rattle.lists.proofs.Ascending.{IsAscending, one_ascending, ascending-IsAscending, ascending-Contains, Contains-ascending}
 use Rattle.plane_model.specs.Points.{GridPoint, Segment, at, is_before}
 use Rattle.plane_model.specs.Drawing.{Drawing, vertices_of}
@@ -15,16 +14,27 @@ use Rattle.plane_snapping.proofs.SnappedPaths.{ends_are_vertices}
 use Rattle.plane_snapping.proofs.PixelOf.{one_pixel, in_own_pixel}
 use Rattle.hot_pixels.specs.Spots.{share_end, spots_of}
 use Rattle.hot_pixels.specs.Found.{HasAllCrossings}
-use Rattle.hot_pixels.specs.Stops.{stop_of}
+use Rattle.hot_pixels.specs.Marking.{IsEndOf}
+use Rattle.hot_pixels.specs.HotEnds.{HaveHotEnds, AreEndsOf}
 use Rattle.hot_pixels.proofs.CrossingLemmas.{crossing_turned, common_end, short_meets_none}
 use Rattle.hot_pixels.specs.Edges.{AreEdgesOf}
 use Rattle.hot_pixels.proofs.EdgeLemmas.{crossing_along_both, end_along}
 use Rattle.hot_pixels.proofs.SpotLemmas.{spot_is_segment, spot_stops, segment_is_spot, vertex_is_stop}
 
-module _ (d : Drawing) (edges : List Segment) (k : AreEdgesOf (spots_of d) edges) (points : List GridPoint) (h : HasAllCrossings edges (map stop_of (spots_of d)) points) where
+module _ (d : Drawing) (edges : List Segment) (k : AreEdgesOf (spots_of d) edges) (stops points : List GridPoint) (ends : AreEndsOf edges stops) (h : HasAllCrossings edges stops points) where
+  start_is_vertex : (e : Segment) → Contains edges e → Contains (vertices_of d) e.start
+  start_is_vertex e c = elim (spot_is_segment d e (k.from e c)) [
+    | inl s ↦ (ends_are_vertices d e s).0
+    | inr same ↦ subst (Contains (vertices_of d)) (sym same) (spot_stops d e (k.from e c))
+  ]
+
+  end_is_vertex : (e : Segment) (g : GridPoint) → Contains edges e → IsEndOf e g → Contains (vertices_of d) g
+  end_is_vertex e g c (inl is) = subst (Contains (vertices_of d)) (sym is) (start_is_vertex e c)
+  end_is_vertex e g c (inr is) = subst (Contains (vertices_of d)) (sym is) (spot_stops d e (k.from e c))
+
   pub point_is_hot : (g : GridPoint) → Contains points g → Contains (hot_points d) g
   point_is_hot g c = hot_is_listed d g (elim (h.adds.from g c) [
-    | inl l ↦ (let m = map-Contains stop_of (spots_of d) g l in vertex_is_hot d g (subst (Contains (vertices_of d)) m.2 (spot_stops d m.0 m.1)))
+    | inl l ↦ (let e = ends.from g l in vertex_is_hot d g (end_is_vertex e.0 g e.1 e.2))
     | inr m ↦
         elim (spot_is_segment d m.s (k.from m.s m.s_there)) [
           | inr e ↦ short_meets_none m.s m.t g e m.crosses
@@ -38,7 +48,11 @@ module _ (d : Drawing) (edges : List Segment) (k : AreEdgesOf (spots_of d) edges
   vertex_is_point : (g : GridPoint) → Contains (vertices_of d) g → Contains points g
   vertex_is_point g c =
       let m = vertex_is_stop d g c in
-      h.adds.kept g (subst (Contains (map stop_of (spots_of d))) m.2 (Contains-map stop_of (spots_of d) m.0 m.1))
+      let e = k.to m.0 m.1 in
+      h.adds.kept g (elim e.2 [
+        | inl same ↦ subst (Contains stops) ((λ i. (same i).stop) ∙ m.2) (ends.ends.stop e.0 e.1)
+        | inr back ↦ subst (Contains stops) ((λ i. (back i).start) ∙ m.2) (ends.ends.start e.0 e.1)
+      ])
 
   pub hot_is_point : (g : GridPoint) → Contains (hot_points d) g → Contains points g
   hot_is_point g c = elim (listed_is_hot d g c) [
@@ -60,7 +74,24 @@ module _ (d : Drawing) (edges : List Segment) (k : AreEdgesOf (spots_of d) edges
   ]
 
   -- an ascending list with the same elements is the list of the hot points in order
-  pub ascending_is_hot : (sorted : List GridPoint) → IsAscending is_before sorted → ((g : GridPoint) → Contains sorted g → Contains points g) → ((g : GridPoint) → Contains points g → Contains sorted g) → sorted ≡ ascending is_before (hot_points d)
+  ascending_is_hot : (sorted : List GridPoint) → IsAscending is_before sorted → ((g : GridPoint) → Contains sorted g → Contains points g) → ((g : GridPoint) → Contains points g → Contains sorted g) → sorted ≡ ascending is_before (hot_points d)
   ascending_is_hot sorted a from to = one_ascending is_before is_before-IsStrictOrder sorted (ascending is_before (hot_points d)) a (ascending-IsAscending is_before is_before-IsStrictOrder (hot_points d))
       (λ g c. Contains-ascending is_before is_before-IsStrictOrder (hot_points d) g (point_is_hot g (from g c)))
       (λ g c. to g (hot_is_point g (ascending-Contains is_before is_before-IsStrictOrder (hot_points d) g c)))
+
+  pub found_is_hot : (sorted : List GridPoint) → sorted ≡ ascending is_before points → sorted ≡ ascending is_before (hot_points d)
+  found_is_hot sorted is =
+      is ∙ ascending_is_hot (ascending is_before points)
+      (ascending-IsAscending is_before is_before-IsStrictOrder points)
+      (ascending-Contains is_before is_before-IsStrictOrder points)
+      (Contains-ascending is_before is_before-IsStrictOrder points)
+
+  vertex_is_found : (sorted : List GridPoint) → sorted ≡ ascending is_before points → (p : GridPoint) → Contains (vertices_of d) p → Contains sorted p
+  vertex_is_found sorted is p c = subst (λ (xs : List GridPoint). Contains xs p) (sym is) (Contains-ascending is_before is_before-IsStrictOrder points p (vertex_is_point p c))
+
+  -- the edges end at vertices
+  pub edges_end_hot : (sorted : List GridPoint) → sorted ≡ ascending is_before points → HaveHotEnds sorted edges
+  edges_end_hot sorted is = record {
+    start = λ e c. vertex_is_found sorted is e.start (start_is_vertex e c);
+    stop = λ e c. vertex_is_found sorted is e.stop (spot_stops d e (k.from e c));
+  }

@@ -13,3 +13,6 @@ pub mod MeetingLemmas
 pub mod MarkingLemmas
 pub mod EdgeLemmas
 pub mod InnerLemmas
+pub mod PathLinkLemmas
+pub mod BackLemmas
+pub mod EndLemmas

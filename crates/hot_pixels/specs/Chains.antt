@@ -1,5 +1,5 @@
 -- A list of points as the hot points of a drawing, and points sorted along a segment.
-use Rattle.std.specs.Prelude.{◌≡◌, ℕ, ◌+◌, ◌<◌, ◌<ℤ◌, List, ◌++◌, length, slice_index_or}
+use Rattle.std.specs.Prelude.{◌≡◌, ℕ, ◌+◌, ◌<◌, ◌<ℤ◌, List, ◌++◌, length, drop, slice_index_or}
 use Rattle.std.specs.List.Sorted.{IsPermutation, IsSortedByKey}
 use Rattle.std.specs.Ordering.{int_cmp}
 use Rattle.lists.specs.Lists.{ascending}
@@ -20,9 +20,9 @@ pub record AreSortedAlong (s : Segment) (points sorted : List GridPoint) : Type 
 pub record DoRise (s : Segment) (points : List GridPoint) : Type 0 where
   pub rise : (k : ℕ) (d : GridPoint) → k + 1 < length points → order_key s (slice_index_or points k d) <ℤ order_key s (slice_index_or points (k + 1) d)
 
--- the points are appended in such an order that their keys along s rise
-pub record AppendsRising (s : Segment) (old points new : List GridPoint) : Type 0 where
+-- the points but the first are appended in such an order that their keys along s rise
+pub record GoesRising (s : Segment) (old points new : List GridPoint) : Type 0 where
   pub sorted : List GridPoint
   pub moved : IsPermutation points sorted
   pub rise : DoRise s sorted
-  pub appended : new ≡ old ++ sorted
+  pub appended : new ≡ old ++ drop 1 sorted

@@ -3,9 +3,10 @@ pub mod Sides
 pub mod Spots
 pub mod Parting
 pub mod Found
-pub mod Stops
 pub mod Chains
 pub mod Near
 pub mod Meetings
 pub mod Marking
 pub mod Edges
+pub mod HotEnds
+pub mod Links

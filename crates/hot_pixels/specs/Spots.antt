@@ -45,8 +45,14 @@ crossing_between (Some s) (Some t) = if share_end s t then None else crossing_pi
 abbrev pub crossing_at : List Segment → ℕ → ℕ → Option GridPoint
 crossing_at spots i j = if nat_lt i j then crossing_between (slice_get spots i) (slice_get spots j) else None
 
-abbrev pub crossings_with : List Segment → ℕ → List ℕ → List GridPoint
-crossings_with spots i near = flat_map (λ j. option_to_list (crossing_at spots i j)) near
+-- the crossing of two spots, the one with the lesser number first
+abbrev pub crossing_of_pair : List Segment → ℕ → ℕ → Option GridPoint
+crossing_of_pair spots i j = if nat_lt i j then crossing_at spots i j else crossing_at spots j i
 
+abbrev pub crossings_with : List Segment → ℕ → List ℕ → List GridPoint
+crossings_with spots i near = flat_map (λ j. option_to_list (crossing_of_pair spots i j)) near
+
+-- the crossings of each of these spots with those after it
 abbrev pub crossings_among : List Segment → List ℕ → List GridPoint
-crossings_among spots near = flat_map (λ i. crossings_with spots i near) near
+crossings_among spots [] = []
+crossings_among spots (i ∷ rest) = crossings_with spots i rest ++ crossings_among spots rest

@@ -1,8 +1,8 @@
-ghost use Rattle.std.specs.Prelude.{◌≡◌, ◌-ℤ◌, ◌*ℤ◌, ◌<ℤ◌, true, false, IfOk};
+ghost use Rattle.std.specs.Prelude.{◌≡◌, ◌-ℤ◌, ◌*ℤ◌, ◌<ℤ◌, true, false, IfOk, drop};
 ghost use Rattle.std.specs.Int.{int_signum};
 ghost use Rattle.plane_model.specs.Hot.{order_key};
 ghost use Rattle.grid_base.specs.Sizes.{IsGridNumber};
-ghost use Rattle.hot_pixels.specs.Chains.{AreSortedAlong, AppendsRising, DoRise};
+ghost use Rattle.hot_pixels.specs.Chains.{AreSortedAlong, GoesRising, DoRise};
 
 use grid_base::{Pt, PtList, Seg};
 use std::alloc::{AllocError, Global};
@@ -65,26 +65,36 @@ fn do_rise(points: &[Pt], s: &Seg) -> bool
     true
 }
 
-/// Appends points to a path in the order of their keys along a segment, where no two have one key.
+/// The points after the first.
+pub fn after_first(points: &[Pt]) -> &[Pt]
+    ensures { result.now ≡ drop 1 points.now }
+{
+    if points.is_empty() {
+        return points;
+    }
+    &points[1..]
+}
+
+/// Appends points to a path in the order of their keys along a segment, where no two have one key, and without the first.
 ///
 /// The answer is whether it did; else the path stays as it was.
-pub fn append_rising(
+pub fn go_rising(
     alloc: Global,
     path: &mut PtList,
     points: Vec<Pt>,
     s: &Seg,
 ) -> Result<bool, AllocError>
-    ensures did { IfOk result (λ did. did ≡ true → AppendsRising s.now path.old points.items path.new) }
+    ensures did { IfOk result (λ did. did ≡ true → GoesRising s.now path.old points.items path.new) }
     ensures stayed { IfOk result (λ did. did ≡ false → path.new ≡ path.old) }
 {
     if do_rise(&points, s) {
-        path.append(&points)?;
+        path.append(after_first(&points))?;
         return Ok(true);
     }
     let sorted = sorted_along(alloc, points, s)?;
     if !do_rise(sorted.as_slice(), s) {
         return Ok(false);
     }
-    path.append(sorted.as_slice())?;
+    path.append(after_first(sorted.as_slice()))?;
     Ok(true)
 }

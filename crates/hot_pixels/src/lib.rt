@@ -16,12 +16,12 @@
 //! - `chain_of` lists the hot points whose pixels a segment meets, in the order in which the segment passes them, and
 //!   `chain_links` counts the links between them without memory. Both pass over runs of hot points that lie beside the
 //!   segment's box, and, where a search has tried many, over those that lie aside of its line.
-//! - `append_chain` appends the chain of a segment of the drawing to a path. When the set is made, each hot point is tried
-//!   against the segments of its bucket, and the meetings of an edge with points besides its ends are gathered: none for
-//!   most in a drawing of areas. They are the chain, mostly in its order. The segments of a crowded bucket are not tried;
-//!   for these the inner points are searched alone: those that one of them may meet and doesn't end at.
-//! - `HotSet::for_spots` makes the same set in less time, where the chains of the drawing's own segments are all that is
-//!   asked for.
+//! - `HotEdges::of` makes the hot points with the edges of the drawing, for the chains of its own segments. Each hot point
+//!   is tried against the segments of its bucket, and the meetings of an edge with points besides its ends are gathered:
+//!   none for most in a drawing of areas. They are the chain, mostly in its order. The segments of a crowded bucket are
+//!   not tried; for these the inner points are searched alone: those that one of them may meet and doesn't end at.
+//! - `go_along` appends the chain of a segment of the drawing, after its first point, to a path that ends there, and
+//!   `links` lists the links along the chains of all edges: those of the drawing's snapped paths.
 #![tactic(auto)]
 
 mod aside;
@@ -30,16 +30,18 @@ mod chains;
 mod crossing;
 mod edges;
 mod half_open;
+mod hot_edges;
 mod hot_set;
 mod marking;
 mod meetings;
 mod near;
 mod pairs;
 mod parting;
+mod path_links;
 mod spots;
 
 pub use crossing::crossing_pixel;
-pub use edges::{Edges, edges_of};
 pub use half_open::meets;
+pub use hot_edges::HotEdges;
 pub use hot_set::HotSet;
 pub use spots::spots_of;

@@ -1,4 +1,4 @@
-ghost use Rattle.std.specs.Prelude.{◌≡◌, ◌++◌, ◌∷◌, [], ◌<◌, ℕ, true, false, if◌then◌else◌, All, OnOk, IfOk, length};
+ghost use Rattle.std.specs.Prelude.{◌≡◌, ◌++◌, ◌∷◌, [], ◌<◌, ℕ, true, false, if◌then◌else◌, All, OnOk, IfOk, length, drop};
 ghost use Rattle.plane_model.specs.Pixel.{meets};
 ghost use Rattle.hot_pixels.specs.Found.{AreBucketsOver};
 ghost use Rattle.hot_pixels.specs.Meetings.{AreLists, AddsMeetings};
@@ -235,11 +235,10 @@ fn is_off_or_end(s: &Seg, p: Pt) -> bool
     is_end(s, p)
 }
 
-/// Appends the ends of a segment to a path.
-pub fn append_ends(path: &mut PtList, s: &Seg) -> Result<(), AllocError>
-    ensures { OnOk result (path.new ≡ path.old ++ ends_of s.now) }
+/// Appends the stop of a segment to a path, if it isn't its start.
+pub fn go_to_stop(path: &mut PtList, s: &Seg) -> Result<(), AllocError>
+    ensures { OnOk result (path.new ≡ path.old ++ drop 1 (ends_of s.now)) }
 {
-    path.push(s.a())?;
     if s.a() != s.b() {
         path.push(s.b())?;
     }

@@ -301,6 +301,15 @@ fn add_between(
     Ok(())
 }
 
+/// The points that a segment meets, of which each is tried.
+pub fn met_among(alloc: Global, points: &[Pt], s: &Seg) -> Result<Vec<Pt>, AllocError>
+    ensures { IfOk result (λ met. met.items ≡ filter (meets s.now) points.now) }
+{
+    let mut met = Vec::new(alloc);
+    add_between(&mut met, points, 0, points.len(), s)?;
+    Ok(met)
+}
+
 /// The points that a segment meets.
 ///
 /// A search of few runs asks of each whether it lies beside the segment's box, and a longer one besides on which side of

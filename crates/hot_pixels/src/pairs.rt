@@ -1,9 +1,9 @@
-ghost use Rattle.std.specs.Prelude.{◌≡◌, ◌++◌, OnOk, IfOk, All, map, length, ◌<◌, Some, slice_get};
+ghost use Rattle.std.specs.Prelude.{◌≡◌, ◌++◌, OnOk, IfOk, All, map, length, ◌<◌, Some, slice_get, nat_lt, if◌then◌else◌};
 ghost use Rattle.std.specs.Option.{option_to_list};
 ghost use Rattle.grid_base.specs.Boxes.{box_of};
 ghost use Rattle.hot_pixels.specs.Found.{AreBucketsOver, HasAllCrossings, HasCrossingsBefore};
 ghost use Rattle.hot_pixels.specs.Crossing.{HasGridEnds};
-ghost use Rattle.hot_pixels.specs.Spots.{crossing_at, crossings_with, crossings_among};
+ghost use Rattle.hot_pixels.specs.Spots.{crossing_at, crossing_of_pair, crossings_with, crossings_among};
 
 use crate::beside::{is_beside, share_end};
 use crate::crossing::crossing_pixel;
@@ -53,6 +53,27 @@ fn crossing_of(spots: &[Seg], i: u32, j: u32) -> Option<Pt>
     crossing_pixel(&s, &t)
 }
 
+// The lesser of two numbers.
+fn first_of(i: u32, j: u32) -> u32
+    ensures { result ≡ (if nat_lt i j then i else j) }
+{
+    if i < j { i } else { j }
+}
+
+// The other one.
+fn second_of(i: u32, j: u32) -> u32
+    ensures { result ≡ (if nat_lt i j then j else i) }
+{
+    if i < j { j } else { i }
+}
+
+// The crossing of two spots.
+fn crossing_of_pair(spots: &[Seg], i: u32, j: u32) -> Option<Pt>
+    ensures { result ≡ crossing_of_pair spots.now i j }
+{
+    crossing_of(spots, first_of(i, j), second_of(i, j))
+}
+
 fn push_some(points: &mut Vec<Pt>, found: Option<Pt>) -> Result<(), AllocError>
     ensures { OnOk result (points.new.items ≡ points.old.items ++ option_to_list found) }
 {
@@ -71,12 +92,12 @@ fn add_crossings_with(
     ensures { OnOk result (points.new.items ≡ points.old.items ++ crossings_with spots.now i near.now) }
 {
     for j in near {
-        push_some(points, crossing_of(spots, i, *j))?;
+        push_some(points, crossing_of_pair(spots, i, *j))?;
     }
     Ok(())
 }
 
-/// Adds the pixels of the crossings among spots with these numbers, tried pair by pair.
+/// Adds the pixels of the crossings among spots with these numbers: each is tried with those after it.
 pub fn add_crossings_among(
     points: &mut Vec<Pt>,
     spots: &[Seg],
@@ -84,8 +105,8 @@ pub fn add_crossings_among(
 ) -> Result<(), AllocError>
     ensures { OnOk result (points.new.items ≡ points.old.items ++ crossings_among spots.now near.now) }
 {
-    for i in near {
-        add_crossings_with(points, spots, near, *i)?;
+    for k in 0..near.len() {
+        add_crossings_with(points, spots, &near[k + 1..], near[k])?;
     }
     Ok(())
 }

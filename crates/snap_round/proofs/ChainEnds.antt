@@ -17,7 +17,7 @@ use Rattle.plane_snapping.proofs.MeetsComputed.{meets_is_computed}
 use Rattle.plane_snapping.proofs.Passing.{meets_start, meets_stop, start_is_first, stop_is_last, passed-IsStrictOrder}
 use Rattle.plane_snapping.proofs.Steps.{last_of-append}
 use Rattle.grid_base.specs.Drawn.{without_repeats}
-use Rattle.snap_round.specs.Joining.{steps_after, IsHotPath, AreChainsOf}
+use Rattle.snap_round.specs.Joining.{steps_after, chain_after, IsHotPath, AreChainsOf}
 
 record Ends (hot : List GridPoint) (s : Segment) : Type 0 where
   rest : Path
@@ -40,16 +40,20 @@ steps_are : (p : GridPoint) (run : Path) → steps_after p run ≡ steps (p ∷ 
 steps_are p [] = refl
 steps_are p (q ∷ run) = ap (λ (t : List Segment). record { start = p; stop = q } ∷ t) (steps_are q run)
 
+-- the points after the first of a chain
+after_start : (hot : List GridPoint) (s : Segment) (e : Ends hot s) → chain_after hot s ≡ e.rest
+after_start hot s e = ap (drop 1) e.starts
+
 -- the chains of the steps after p end where the path ends
-joined_last : (hot : List GridPoint) (p : GridPoint) (run : Path) → ((q : GridPoint) → Contains (p ∷ run) q → Contains hot q) → last_of p (flat_map (chain_among hot) (steps_after p run)) ≡ last_of p run
+joined_last : (hot : List GridPoint) (p : GridPoint) (run : Path) → ((q : GridPoint) → Contains (p ∷ run) q → Contains hot q) → last_of p (flat_map (chain_after hot) (steps_after p run)) ≡ last_of p run
 joined_last hot p [] h = refl
 joined_last hot p (q ∷ run) h =
     let s : Segment = record { start = p; stop = q } in
-    let J = flat_map (chain_among hot) (steps_after q run) in
+    let K = flat_map (chain_after hot) (steps_after q run) in
     let e = chain_ends hot s (h p (Contains-head p (q ∷ run))) (h q (Contains-later p (q ∷ run) q (Contains-head q run))) in
-    ap (λ (c : Path). last_of p (c ++ J)) e.starts
-    ∙ last_of-append p e.rest J
-    ∙ ap (λ (z : GridPoint). last_of z J) e.stops
+    ap (λ (c : Path). last_of p (c ++ K)) (after_start hot s e)
+    ∙ last_of-append p e.rest K
+    ∙ ap (λ (z : GridPoint). last_of z K) e.stops
     ∙ joined_last hot q run (λ r c. h r (Contains-later p (q ∷ run) r c))
 
 drop_same : (p : GridPoint) (xs : Path) → drop_repeats same_point (p ∷ p ∷ xs) ≡ drop_repeats same_point (p ∷ xs)
@@ -66,10 +70,29 @@ joined_snaps hot p (q ∷ run) h =
     ∙ sym (ap (λ (c : Path). without_repeats (c ++ J)) e.starts)
     ∙ ap (λ (ts : List Segment). without_repeats (flat_map (chain_among hot) ts)) (steps_are p (q ∷ run))
 
-pub chains_of_path : (hot : List GridPoint) (p : GridPoint) (run joined : Path) → IsHotPath hot (p ∷ run) → joined ≡ p ∷ flat_map (chain_among hot) (steps_after p run) → AreChainsOf hot (p ∷ run) joined
+-- paths that go on alike, after the same points
+same_after : (x : GridPoint) (xs ys zs : Path) → without_repeats (last_of x xs ∷ ys) ≡ without_repeats (last_of x xs ∷ zs) → without_repeats (x ∷ xs ++ ys) ≡ without_repeats (x ∷ xs ++ zs)
+same_after x [] ys zs h = h
+same_after x (y ∷ xs) ys zs h = ap (λ (t : Path). cond (same_point x y) t (x ∷ t)) (same_after y xs ys zs h)
+
+-- a chain's first point is where the one before ends
+starts_once : (hot : List GridPoint) (p : GridPoint) (run : Path) → ((q : GridPoint) → Contains (p ∷ run) q → Contains hot q) → without_repeats (p ∷ flat_map (chain_after hot) (steps_after p run)) ≡ without_repeats (p ∷ flat_map (chain_among hot) (steps_after p run))
+starts_once hot p [] h = refl
+starts_once hot p (q ∷ run) h =
+    let s : Segment = record { start = p; stop = q } in
+    let J = flat_map (chain_among hot) (steps_after q run) in
+    let K = flat_map (chain_after hot) (steps_after q run) in
+    let e = chain_ends hot s (h p (Contains-head p (q ∷ run))) (h q (Contains-later p (q ∷ run) q (Contains-head q run))) in
+    let more = starts_once hot q run (λ r c. h r (Contains-later p (q ∷ run) r c)) in
+    ap (λ (c : Path). without_repeats (p ∷ c ++ K)) (after_start hot s e)
+    ∙ same_after p e.rest K J (subst (λ (z : GridPoint). without_repeats (z ∷ K) ≡ without_repeats (z ∷ J)) (sym e.stops) more)
+    ∙ sym (drop_same p (e.rest ++ J))
+    ∙ sym (ap (λ (c : Path). without_repeats (p ∷ c ++ J)) e.starts)
+
+pub chains_of_path : (hot : List GridPoint) (p : GridPoint) (run joined : Path) → IsHotPath hot (p ∷ run) → joined ≡ p ∷ flat_map (chain_after hot) (steps_after p run) → AreChainsOf hot (p ∷ run) joined
 chains_of_path hot p run joined h e = record {
-  snapped = ap without_repeats e ∙ joined_snaps hot p run h.all_hot ∙ sym (ap (joined_chains hot) h.is_path.no_repeats);
-  some = λ n. let f : p ∷ flat_map (chain_among hot) (steps_after p run) ≡ [] = sym e ∙ n in cc;
+  snapped = ap without_repeats e ∙ starts_once hot p run h.all_hot ∙ joined_snaps hot p run h.all_hot ∙ sym (ap (joined_chains hot) h.is_path.no_repeats);
+  some = λ n. let f : p ∷ flat_map (chain_after hot) (steps_after p run) ≡ [] = sym e ∙ n in cc;
   closed = λ c. subst IsClosed (sym e) (joined_last hot p run h.all_hot ∙ c);
 }
 
@@ -87,13 +110,13 @@ pub chains_all : (f : Segment → Path) (all out : Path) (from : GridPoint) (xs 
 chains_all f all out from xs i l h = sym (h ∙ ap (λ (t : Path). out ++ t) (at_drop_all (λ (ys : Path). flat_map f (steps_after from ys)) xs i l) ∙ append-nil out)
 
 -- the same, where the steps are those of a path's slice
-pub chains_of_slice : (hot : List GridPoint) (path none first joined : Path) (p q : GridPoint) → IsHotPath hot path → p ≡ get_or path 0 p → q ≡ get_or path 0 q → none ≡ [] → first ≡ none ++ p ∷ [] → joined ≡ first ++ flat_map (chain_among hot) (steps_after q (take (length path - 1) (drop 1 path))) → AreChainsOf hot path joined
+pub chains_of_slice : (hot : List GridPoint) (path none first joined : Path) (p q : GridPoint) → IsHotPath hot path → p ≡ get_or path 0 p → q ≡ get_or path 0 q → none ≡ [] → first ≡ none ++ p ∷ [] → joined ≡ first ++ flat_map (chain_after hot) (steps_after q (take (length path - 1) (drop 1 path))) → AreChainsOf hot path joined
 chains_of_slice hot [] none first joined p q h e f m n k = absurd (h.is_path.not_empty refl)
 chains_of_slice hot (x ∷ xs) none first joined p q h e f m n k =
     let long : length (x ∷ xs) - 1 ≡ length xs = omega arith in
     let rest : take (length (x ∷ xs) - 1) xs ≡ xs = ap (λ (t : ℕ). take t xs) long ∙ take-length xs in
     let begun : first ≡ x ∷ [] = n ∙ (λ i. m i ++ e i ∷ []) in
-    chains_of_path hot x xs joined h (k ∙ (λ i. begun i ++ flat_map (chain_among hot) (steps_after (f i) (rest i))))
+    chains_of_path hot x xs joined h (k ∙ (λ i. begun i ++ flat_map (chain_after hot) (steps_after (f i) (rest i))))
 
 -- the points of a path's slice are hot
 pub hot_slice : (hot : List GridPoint) (path : Path) (q : GridPoint) → IsHotPath hot path → q ≡ get_or path 0 q → (p : GridPoint) → Contains (q ∷ take (length path - 1) (drop 1 path)) p → Contains hot p

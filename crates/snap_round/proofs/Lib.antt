@@ -1,8 +1,9 @@
 pub mod ChainEnds
 pub mod LastLemmas
 pub mod LinkOrder
-pub mod LinkLemmas
 pub mod PathLemmas
+pub mod StepLemmas
+pub mod LinkLemmas
 pub mod PointLemmas
 pub mod CountLemmas
-pub mod SpotCount
+pub mod VertexCount

@@ -9,9 +9,10 @@ use Rattle.std.proofs.lemmas.Cmp.{on_total, then_total, eq_by_cmp_equiv}
 use Rattle.std.proofs.lemmas.List.Elements.{All-from_recursion, All-contains}
 use Rattle.std.proofs.lemmas.List.Kept.{IsStrictlySortedBy-dedup, Contains-dedup, Contains-from_dedup}
 use Rattle.std.proofs.lemmas.List.Sorted.{Contains-permutation, IsPermutation-sym}
-use Rattle.lists.proofs.Ascending.{IsAscending}
+use Rattle.lists.specs.Lists.{ascending}
+use Rattle.lists.proofs.Ascending.{IsAscending, one_ascending, ascending-IsAscending, ascending-Contains, Contains-ascending}
 use Rattle.plane_model.specs.Points.{Segment, is_before, same_point, link_before}
-use Rattle.plane_model.proofs.PointOrder.{segment_is, same_point_to}
+use Rattle.plane_model.proofs.PointOrder.{segment_is, same_point_to, link_before-IsStrictOrder}
 use Rattle.grid_base.specs.Order.{point_cmp}
 use Rattle.grid_base.proofs.PointSearch.{point_cmp-total, less_is, equal_is}
 use Rattle.hot_pixels.proofs.SortLemmas.{both_equal, point_ties}
@@ -69,11 +70,16 @@ links-equiv =
     }
 
 module _ (made sorted : List Segment) (moved : IsPermutation made sorted) (in_order : IsSorted link_cmp sorted) where
-  pub links_sorted : IsAscending link_before (dedup equal_links sorted)
-  links_sorted = links_ascend (dedup equal_links sorted) (IsStrictlySortedBy-dedup link_cmp-total link_ties sorted in_order)
-
-  pub links_from : (l : Segment) → Contains (dedup equal_links sorted) l → Contains made l
+  links_from : (l : Segment) → Contains (dedup equal_links sorted) l → Contains made l
   links_from l c = Contains-permutation sorted made l (IsPermutation-sym made sorted moved) (Contains-from_dedup equal_links sorted l c)
 
-  pub links_to : (l : Segment) → Contains made l → Contains (dedup equal_links sorted) l
+  links_to : (l : Segment) → Contains made l → Contains (dedup equal_links sorted) l
   links_to l c = Contains-dedup links-equiv (λ x y e. same_link x y (sym (link_ties x y) ∙ e)) sorted l (Contains-permutation made sorted l moved c)
+
+  pub sorted_links_ascend : dedup equal_links sorted ≡ ascending link_before made
+  sorted_links_ascend =
+      one_ascending link_before link_before-IsStrictOrder (dedup equal_links sorted) (ascending link_before made)
+      (links_ascend (dedup equal_links sorted) (IsStrictlySortedBy-dedup link_cmp-total link_ties sorted in_order))
+      (ascending-IsAscending link_before link_before-IsStrictOrder made)
+      (λ l c. Contains-ascending link_before link_before-IsStrictOrder made l (links_from l c))
+      (λ l c. links_to l (ascending-Contains link_before link_before-IsStrictOrder made l c))

@@ -7,7 +7,7 @@ use Rattle.lists.specs.Lists.{drop_repeats, joined_up}
 use Rattle.lists.proofs.Members.{Contains-joined_up, Contains-flat_map, flat_map-Contains, map-Contains}
 use Rattle.lists.proofs.Ascending.{Contains-ascending}
 use Rattle.plane_model.specs.Points.{GridPoint, Path, Segment, same_point, is_before}
-use Rattle.plane_model.specs.Drawing.{Drawing, steps, paths_of, rings_of, vertices_of, segments_of}
+use Rattle.plane_model.specs.Drawing.{Drawing, steps, steps_of_paths, paths_of, rings_of, vertices_of, segments_of}
 use Rattle.plane_model.specs.Hot.{hot_points, chain_among, crossings_with}
 use Rattle.plane_model.specs.Snapped.{joined_chains, snapped_path, snapped_by, snapped}
 use Rattle.plane_model.proofs.PointOrder.{is_before-IsStrictOrder}
@@ -19,7 +19,6 @@ use Rattle.hot_pixels.specs.Chains.{AreHotPointsOf}
 use Rattle.hot_pixels.proofs.ChainLemmas.{chain_is_drawn}
 use Rattle.snap_round.specs.Joining.{IsHotPath, IsHotRing}
 use Rattle.snap_round.specs.Paths.{HasHotPaths}
-use Rattle.snap_round.specs.Linking.{AllStepsMove}
 
 all_of : {A : Type 0} (P : A → Type 0) (xs : List A) → ((x : A) → Contains xs x → P x) → All P xs
 all_of P xs h = λ i d l. h (get_or xs i d) (i, l, get_or_default xs i (get_or xs i d) d l)
@@ -63,11 +62,10 @@ snapped_alike d hot e =
     let f : snapped_path hot ≡ snapped_path (hot_points d) = λ i path. joined_alike hot (hot_points d) chains (drop_repeats same_point path) i in
     λ i. record { polygons = map (map (map (f i))) d.polygons; lines = map (map (f i)) d.lines; points = d.points; boxes = map (f i) d.boxes }
 
-pub snapped_steps_move : (d : Drawing) → AllStepsMove (snapped d)
-snapped_steps_move d = record {
-  moves = λ s c.
-      let k = flat_map-Contains steps (paths_of (snapped d)) s c in
-      let m = map-Contains (snapped_path (hot_points d)) (paths_of d) k.0 (subst (λ (paths : List Path). Contains paths k.0) (paths_snapped d) k.1) in
-      let there : Contains (steps (snapped_path (hot_points d) m.0)) s = subst (λ (path : Path). Contains (steps path) s) (sym m.2) k.2 in
-      (step_of_each (λ u v. (u ≢ v) × IsChainLink d u v) (snapped_path (hot_points d) m.0) (snapped_path_is d m.0 m.1).links s there).0;
-}
+-- a step of a snapped path moves along a link of a chain
+pub snapped_step : (d : Drawing) (s : Segment) → Contains (steps_of_paths (paths_of (snapped d))) s → (s.start ≢ s.stop) × IsChainLink d s.start s.stop
+snapped_step d s c =
+    let k = flat_map-Contains steps (paths_of (snapped d)) s c in
+    let m = map-Contains (snapped_path (hot_points d)) (paths_of d) k.0 (subst (λ (paths : List Path). Contains paths k.0) (paths_snapped d) k.1) in
+    let there : Contains (steps (snapped_path (hot_points d) m.0)) s = subst (λ (path : Path). Contains (steps path) s) (sym m.2) k.2 in
+    step_of_each (λ u v. (u ≢ v) × IsChainLink d u v) (snapped_path (hot_points d) m.0) (snapped_path_is d m.0 m.1).links s there

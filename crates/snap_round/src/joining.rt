@@ -1,14 +1,13 @@
 ghost use Rattle.std.specs.Prelude.{◌≡◌, ◌<◌, ◌++◌, ◌∷◌, Contains, IfOk, OnOk, length};
 ghost use Rattle.plane_model.specs.Points.{GridPoint};
 ghost use Rattle.std.specs.List.{flat_map};
-ghost use Rattle.plane_model.specs.Hot.{chain_among};
-ghost use Rattle.snap_round.specs.Joining.{steps_after, IsHotPath, AreChainsOf};
+ghost use Rattle.snap_round.specs.Joining.{steps_after, chain_after, IsHotPath, AreChainsOf};
 
 use grid_base::{Pt, PtList, Seg};
-use hot_pixels::HotSet;
+use hot_pixels::HotEdges;
 use std::alloc::{AllocError, Global};
 
-/// Why paths are not made: their chains would have more points than there is room for, or memory ran out.
+/// Why paths are not made: their chains would have more links than there is room for, or memory ran out.
 #[derive(Clone, Copy, PartialEq, Eq)]
 pub enum PathStop {
     Full,
@@ -25,7 +24,7 @@ impl From<AllocError> for PathStop {
     }
 }
 
-/// How far paths are made: there is room for `room` more points of chains, and the next step is at `place` among the
+/// How far paths are made: there is room for `room` more links of chains, and the next step is at `place` among the
 /// segments of the drawing. A wrong place costs time alone.
 #[derive(Clone, Copy)]
 pub struct Progress {
@@ -33,10 +32,10 @@ pub struct Progress {
     pub place: usize,
 }
 
-// Takes the points of a chain out of the room, and goes on to the next step.
-fn go_on(progress: &mut Progress, points: u32) -> Result<(), PathStop> {
+// Takes the links of a chain out of the room, and goes on to the next step.
+fn go_on(progress: &mut Progress, links: u32) -> Result<(), PathStop> {
     progress.place = progress.place.wrapping_add(1);
-    match progress.room.checked_sub(u64::from(points)) {
+    match progress.room.checked_sub(u64::from(links)) {
         Some(left) => {
             progress.room = left;
             Ok(())
@@ -45,34 +44,34 @@ fn go_on(progress: &mut Progress, points: u32) -> Result<(), PathStop> {
     }
 }
 
-// Appends the chain of a step between hot points.
+// Goes on along the chain of a step between hot points: appends the points after its first.
 fn append_step(
     alloc: Global,
     joined: &mut PtList,
     progress: &mut Progress,
-    hot: &HotSet,
+    hot: &HotEdges,
     s: &Seg,
 ) -> Result<(), PathStop>
-    requires start { Contains hot.now s.now.start }
-    requires stop { Contains hot.now s.now.stop }
-    ensures { OnOk result (joined.new ≡ joined.old ++ chain_among hot.now s.now) }
+    requires start { Contains hot.now.points s.now.start }
+    requires stop { Contains hot.now.points s.now.stop }
+    ensures { OnOk result (joined.new ≡ joined.old ++ chain_after hot.now.points s.now) }
 {
     let before = joined.len();
-    hot.append_chain(alloc, joined, s, progress.place)?;
+    hot.go_along(alloc, joined, s, progress.place)?;
     go_on(progress, joined.len().saturating_sub(before))
 }
 
-// Appends the chains of the steps from a point to the first of the rest, and on.
+// Goes on along the chains of the steps from a point to the first of the rest, and on.
 fn append_chains(
     alloc: Global,
     joined: &mut PtList,
     progress: &mut Progress,
-    hot: &HotSet,
+    hot: &HotEdges,
     from: Pt,
     rest: &[Pt],
 ) -> Result<(), PathStop>
-    requires hot { (p : GridPoint) → Contains (from ∷ rest.now) p → Contains hot.now p }
-    ensures { OnOk result (joined.new ≡ joined.old ++ flat_map (chain_among hot.now) (steps_after from rest.now)) }
+    requires hot { (p : GridPoint) → Contains (from ∷ rest.now) p → Contains hot.now.points p }
+    ensures { OnOk result (joined.new ≡ joined.old ++ flat_map (chain_after hot.now.points) (steps_after from rest.now)) }
 {
     let mut last = from;
     for p in rest {
@@ -82,18 +81,17 @@ fn append_chains(
     Ok(())
 }
 
-/// The chains of a path's steps, end to end, after its first vertex.
+/// The first vertex of a path, and the chains of its steps, each after its first point.
 ///
-/// Some neighbours in it are equal. Where these count once, it is the snapped path. Its points are taken out of the
-/// room.
+/// Where equal neighbours count once, it is the snapped path. Its links are taken out of the room.
 pub fn joined_chains(
     alloc: Global,
     progress: &mut Progress,
-    hot: &HotSet,
+    hot: &HotEdges,
     path: &[Pt],
 ) -> Result<PtList, PathStop>
-    requires { IsHotPath hot.now path.now }
-    ensures { IfOk result (AreChainsOf hot.now path.now) }
+    requires { IsHotPath hot.now.points path.now }
+    ensures { IfOk result (AreChainsOf hot.now.points path.now) }
 {
     let mut joined = PtList::with_capacity(alloc, path.len())?;
     joined.push(path[0])?;

@@ -6,7 +6,7 @@ ghost use Rattle.snap_round.specs.Paths.{with_rings, with_polygons, with_lines, 
 
 use crate::joining::{PathStop, Progress, joined_chains};
 use grid_base::{Drawing, FeatId, Kind, PolygonRings, Pt, PtList};
-use hot_pixels::HotSet;
+use hot_pixels::HotEdges;
 use std::alloc::{AllocError, Global};
 
 // Adds the snapped rings of a polygon to the last polygon.
@@ -14,12 +14,12 @@ fn add_rings(
     alloc: Global,
     out: &mut Drawing,
     progress: &mut Progress,
-    hot: &HotSet,
+    hot: &HotEdges,
     rings: &[PtList],
 ) -> Result<(), PathStop>
     requires polygon { 0 < length (last_of [] out.old.polygons) }
-    requires hot { All (IsHotRing hot.now) rings.now }
-    ensures { OnOk result (out.new ≡ with_rings (map (snapped_path hot.now) rings.now) out.old) }
+    requires hot { All (IsHotRing hot.now.points) rings.now }
+    ensures { OnOk result (out.new ≡ with_rings (map (snapped_path hot.now.points) rings.now) out.old) }
 {
     for ring in rings {
         let joined = joined_chains(alloc, progress, hot, ring.as_slice())?;
@@ -33,12 +33,12 @@ fn add_polygons(
     alloc: Global,
     out: &mut Drawing,
     progress: &mut Progress,
-    hot: &HotSet,
+    hot: &HotEdges,
     polygons: &[PolygonRings],
 ) -> Result<(), PathStop>
     requires feature { 0 < length out.old.polygons }
-    requires hot { All (All (IsHotRing hot.now)) polygons.now }
-    ensures { OnOk result (out.new ≡ with_polygons (map (map (snapped_path hot.now)) polygons.now) out.old) }
+    requires hot { All (All (IsHotRing hot.now.points)) polygons.now }
+    ensures { OnOk result (out.new ≡ with_polygons (map (map (snapped_path hot.now.points)) polygons.now) out.old) }
 {
     for polygon in polygons {
         out.add_polygon()?;
@@ -51,11 +51,11 @@ fn add_polygon_features(
     alloc: Global,
     out: &mut Drawing,
     progress: &mut Progress,
-    hot: &HotSet,
+    hot: &HotEdges,
     d: &Drawing,
 ) -> Result<(), PathStop>
-    requires hot { All (All (All (IsHotRing hot.now))) d.now.polygons }
-    ensures { OnOk result (out.new ≡ record out.old { polygons = out.old.polygons ++ map (map (map (snapped_path hot.now))) d.now.polygons }) }
+    requires hot { All (All (All (IsHotRing hot.now.points))) d.now.polygons }
+    ensures { OnOk result (out.new ≡ record out.old { polygons = out.old.polygons ++ map (map (map (snapped_path hot.now.points))) d.now.polygons }) }
 {
     for f in 0..d.polygon_count() {
         let polygons = d.rings_of(FeatId::new(f));
@@ -70,12 +70,12 @@ fn add_lines(
     alloc: Global,
     out: &mut Drawing,
     progress: &mut Progress,
-    hot: &HotSet,
+    hot: &HotEdges,
     lines: &[PtList],
 ) -> Result<(), PathStop>
     requires feature { 0 < length out.old.lines }
-    requires hot { All (IsHotPath hot.now) lines.now }
-    ensures { OnOk result (out.new ≡ with_lines (map (snapped_path hot.now) lines.now) out.old) }
+    requires hot { All (IsHotPath hot.now.points) lines.now }
+    ensures { OnOk result (out.new ≡ with_lines (map (snapped_path hot.now.points) lines.now) out.old) }
 {
     for line in lines {
         let joined = joined_chains(alloc, progress, hot, line.as_slice())?;
@@ -88,11 +88,11 @@ fn add_line_features(
     alloc: Global,
     out: &mut Drawing,
     progress: &mut Progress,
-    hot: &HotSet,
+    hot: &HotEdges,
     d: &Drawing,
 ) -> Result<(), PathStop>
-    requires hot { All (All (IsHotPath hot.now)) d.now.lines }
-    ensures { OnOk result (out.new ≡ record out.old { lines = out.old.lines ++ map (map (snapped_path hot.now)) d.now.lines }) }
+    requires hot { All (All (IsHotPath hot.now.points)) d.now.lines }
+    ensures { OnOk result (out.new ≡ record out.old { lines = out.old.lines ++ map (map (snapped_path hot.now.points)) d.now.lines }) }
 {
     for f in 0..d.line_count() {
         let lines = d.lines_of(FeatId::new(f));
@@ -138,11 +138,11 @@ fn add_boxes(
     alloc: Global,
     out: &mut Drawing,
     progress: &mut Progress,
-    hot: &HotSet,
+    hot: &HotEdges,
     d: &Drawing,
 ) -> Result<(), PathStop>
-    requires hot { All (IsHotRing hot.now) d.now.boxes }
-    ensures { OnOk result (out.new ≡ record out.old { boxes = out.old.boxes ++ map (snapped_path hot.now) d.now.boxes }) }
+    requires hot { All (IsHotRing hot.now.points) d.now.boxes }
+    ensures { OnOk result (out.new ≡ record out.old { boxes = out.old.boxes ++ map (snapped_path hot.now.points) d.now.boxes }) }
 {
     for b in 0..d.box_count() {
         let joined = joined_chains(alloc, progress, hot, d.box_of(b).as_slice())?;
@@ -151,16 +151,16 @@ fn add_boxes(
     Ok(())
 }
 
-/// The drawing without its points, each path snapped to these hot points, where their chains have no more points than
+/// The drawing without its points, each path snapped to these hot points, where their chains have no more links than
 /// there is room for.
 pub fn snapped_paths(
     alloc: Global,
     progress: &mut Progress,
-    hot: &HotSet,
+    hot: &HotEdges,
     d: &Drawing,
 ) -> Result<Drawing, PathStop>
-    requires { HasHotPaths hot.now d.now }
-    ensures { IfOk result (λ paths. paths ≡ without_points (snapped_by hot.now d.now)) }
+    requires { HasHotPaths hot.now.points d.now }
+    ensures { IfOk result (λ paths. paths ≡ without_points (snapped_by hot.now.points d.now)) }
 {
     let mut paths = Drawing::new(alloc);
     add_polygon_features(alloc, &mut paths, progress, hot, d)?;

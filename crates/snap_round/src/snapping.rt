@@ -4,81 +4,107 @@ ghost use Rattle.plane_model.specs.Points.{is_before};
 ghost use Rattle.plane_model.specs.Hot.{hot_points};
 ghost use Rattle.plane_model.specs.Snapped.{snapped, links_of, link_count};
 ghost use Rattle.grid_base.specs.Drawn.{HasPaths};
+ghost use Rattle.hot_pixels.specs.Spots.{spots_of};
+ghost use Rattle.hot_pixels.specs.Edges.{AreEdgesOf};
 ghost use Rattle.snap_round.specs.Paths.{without_points};
 ghost use Rattle.snap_round.specs.Snapping.{FaultMeans, HasPointsAlone};
 
 use crate::counting::count_links;
 use crate::fault::SnapFault;
 use crate::joining::{PathStop, Progress};
-use crate::links::few_links_of;
+use crate::links::links_in_order;
 use crate::paths::{add_point_features, snapped_paths};
+use crate::vertex_count::count_vertices;
 use grid_base::{Drawing, LinkList, Snapped};
-use hot_pixels::{HotSet, spots_of};
+use hot_pixels::{HotEdges, HotSet, spots_of};
 use std::alloc::{AllocError, Global};
 
 // The most links that snapped paths may have together, repeats counted.
 const MOST_LINKS: u64 = 8_000_000;
-// The points of chains that are made before their links are counted: those of as many links, with an end for each
-// segment.
-const CHAIN_ROOM: u64 = 2 * MOST_LINKS;
 
 // How many links the snapped paths will have together, repeats counted.
-fn count_of(alloc: Global, hot: &HotSet, d: &Drawing) -> Result<u64, AllocError>
+fn count_of(alloc: Global, hot: HotEdges, d: &Drawing) -> Result<u64, AllocError>
     requires paths { HasPaths d.now }
-    requires hot { hot.now ≡ ascending is_before (hot_points d.now) }
+    requires hot { hot.points ≡ ascending is_before (hot_points d.now) }
     ensures { IfOk result (λ count. count ≡ link_count (snapped d.now)) }
 {
+    let set = HotSet::over(alloc, hot)?;
     let spots = spots_of(alloc, d)?;
-    count_links(hot, &spots)
+    count_links(&set, &spots)
 }
 
-// The snapped drawing of these paths, which have these links, and of the points of the drawing: they stay.
-fn with_its_points(paths: Drawing, links: LinkList, d: &Drawing) -> Result<Snapped, AllocError>
+// The paths, where they have no more than `most` vertices, so that they have no more links, repeats counted.
+fn few_paths(paths: Drawing, most: u64) -> Result<Option<Drawing>, AllocError>
+    ensures kept { IfOk result (λ found. IfSome found (λ few. few ≡ paths)) }
+    ensures few { IfOk result (λ found. IfSome found (λ few. link_count paths ≤ most)) }
+{
+    if count_vertices(&paths)? > most {
+        return Ok(None);
+    }
+    Ok(Some(paths))
+}
+
+// The snapped paths; `None` where they may have more than `most` links, repeats counted.
+fn paths_within(
+    alloc: Global,
+    hot: &HotEdges,
+    d: &Drawing,
+    most: u64,
+) -> Result<Option<Drawing>, AllocError>
+    requires paths { HasPaths d.now }
+    requires hot { hot.now.points ≡ ascending is_before (hot_points d.now) }
+    ensures exact { IfOk result (λ found. IfSome found (λ paths. paths ≡ without_points (snapped d.now))) }
+    ensures few { IfOk result (λ found. IfSome found (λ paths. link_count (snapped d.now) ≤ most)) }
+{
+    let mut progress = Progress {
+        room: most,
+        place: 0,
+    };
+    match snapped_paths(alloc, &mut progress, hot, d) {
+        Ok(paths) => few_paths(paths, most),
+        Err(PathStop::Full) => Ok(None),
+        Err(PathStop::Memory) => Err(AllocError),
+    }
+}
+
+// The links of the snapped paths.
+fn links_along(alloc: Global, hot: HotEdges, d: &Drawing) -> Result<LinkList, AllocError>
+    requires hot { hot.points ≡ ascending is_before (hot_points d.now) }
+    requires edges { AreEdgesOf (spots_of d.now) hot.edges }
+    ensures { IfOk result (λ links. links ≡ links_of (snapped d.now)) }
+{
+    let found = hot.links(alloc)?;
+    drop(hot);
+    links_in_order(found)
+}
+
+// The snapped drawing of these paths, and of the points of the drawing: they stay.
+fn with_links(
+    alloc: Global,
+    hot: HotEdges,
+    paths: Drawing,
+    d: &Drawing,
+) -> Result<Snapped, AllocError>
+    requires hot { hot.points ≡ ascending is_before (hot_points d.now) }
+    requires edges { AreEdgesOf (spots_of d.now) hot.edges }
     requires paths { paths ≡ without_points (snapped d.now) }
-    requires links { links ≡ links_of (snapped d.now) }
     ensures { IfOk result (λ s. s ≡ snapped d.now) }
 {
+    let links = links_along(alloc, hot, d)?;
     let mut all = paths;
     add_point_features(&mut all, d)?;
     Ok(Snapped::new(all, links))
 }
 
-// The snapped drawing of these paths; `None` where they may have more than `most` links, repeats counted.
-fn few_snapped(
-    alloc: Global,
-    paths: Drawing,
-    d: &Drawing,
-    most: u64,
-) -> Result<Option<Snapped>, AllocError>
-    requires snapped { paths ≡ without_points (snapped d.now) }
-    ensures exact { IfOk result (λ found. IfSome found (λ s. s ≡ snapped d.now)) }
-    ensures few { IfOk result (λ found. IfSome found (λ s. link_count (snapped d.now) ≤ most)) }
-{
-    match few_links_of(alloc, &paths, most)? {
-        Some(links) => Ok(Some(with_its_points(paths, links, d)?)),
-        None => Ok(None),
-    }
-}
-
-// The snapped drawing; `None` where its chains have more points than there is room for, or its paths may have more
-// than `most` links, repeats counted.
-fn snapped_within(
-    alloc: Global,
-    hot: &HotSet,
-    d: &Drawing,
-    room: u64,
-    most: u64,
-) -> Result<Option<Snapped>, AllocError>
+// The snapped drawing, however many links it has.
+fn snap_all(alloc: Global, d: &Drawing) -> Result<Snapped, AllocError>
     requires paths { HasPaths d.now }
-    requires hot { hot.now ≡ ascending is_before (hot_points d.now) }
-    ensures exact { IfOk result (λ found. IfSome found (λ s. s ≡ snapped d.now)) }
-    ensures few { IfOk result (λ found. IfSome found (λ s. link_count (snapped d.now) ≤ most)) }
+    ensures { IfOk result (λ s. s ≡ snapped d.now) }
 {
-    let mut progress = Progress { room, place: 0 };
-    match snapped_paths(alloc, &mut progress, hot, d) {
-        Ok(paths) => few_snapped(alloc, paths, d, most),
-        Err(PathStop::Full) => Ok(None),
-        Err(PathStop::Memory) => Err(AllocError),
+    let hot = HotEdges::of(alloc, d)?;
+    match paths_within(alloc, &hot, d, u64::MAX)? {
+        Some(paths) => with_links(alloc, hot, paths, d),
+        None => Err(AllocError),
     }
 }
 
@@ -94,19 +120,15 @@ pub fn snap(alloc: Global, d: &Drawing) -> Result<Snapped, SnapFault>
     ensures fault { IfErr result (FaultMeans d.now) }
 {
     d.keeps_paths();
-    let hot = HotSet::for_spots(alloc, d)?;
-    if let Some(s) = snapped_within(alloc, &hot, d, CHAIN_ROOM, MOST_LINKS)? {
-        return Ok(s);
+    let hot = HotEdges::of(alloc, d)?;
+    if let Some(paths) = paths_within(alloc, &hot, d, MOST_LINKS)? {
+        return Ok(with_links(alloc, hot, paths, d)?);
     }
-    let hot = hot.for_all(alloc)?;
-    let count = count_of(alloc, &hot, d)?;
+    let count = count_of(alloc, hot, d)?;
     if count > MOST_LINKS {
         return Err(SnapFault::TooDense { count });
     }
-    match snapped_within(alloc, &hot, d, u64::MAX, u64::MAX)? {
-        Some(s) => Ok(s),
-        None => Err(SnapFault::Memory),
-    }
+    Ok(snap_all(alloc, d)?)
 }
 
 /// The same of a drawing that is let go. One that has points alone becomes the snapped one, without a search or a copy.

@@ -3,8 +3,8 @@ use Rattle.snap_round.proofs.joining.joined_chains.Goals as goal
 
 pub returns : goal.returns
 returns c =
-    chains_of_slice c.args.hot.now c.args.path.now c.in_ok-joined.joined c.push.new.self c.append_chains.new.joined c.index-path-0.result c.index-path-0-2.result c.requires c.index-path-0.is c.index-path-0-2.is
+    chains_of_slice c.args.hot.now.points c.args.path.now c.in_ok-joined.joined c.push.new.self c.append_chains.new.joined c.index-path-0.result c.index-path-0-2.result c.requires c.index-path-0.is c.index-path-0-2.is
     c.in_ok-joined.ensures.empty c.in_ok-push.ensures.ok c.in_ok-append_chains.ensures
 
 pub append_chains-requires : goal.append_chains-requires
-append_chains-requires c = record { hot = hot_slice c.args.hot.now c.args.path.now c.index-path-0-2.result c.requires c.index-path-0-2.is }
+append_chains-requires c = record { hot = hot_slice c.args.hot.now.points c.args.path.now c.index-path-0-2.result c.requires c.index-path-0-2.is }

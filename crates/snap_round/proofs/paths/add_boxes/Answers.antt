@@ -7,7 +7,7 @@ use Rattle.snap_round.proofs.paths.add_boxes.Goals as goal
 
 pub loop-b-preserved : goal.loop-b-preserved
 loop-b-preserved c =
-    let f = snapped_path c.args.hot.now in
+    let f = snapped_path c.args.hot.now.points in
     let before = c.args.out.now in
     let box = c.box_of.result.now in
     let all = c.args.d.now.boxes in

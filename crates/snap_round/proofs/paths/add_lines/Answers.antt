@@ -10,14 +10,14 @@ loop-line-init c = λ i. record c.args.out.now { lines = sym (nothing_added c.ar
 
 pub add_line-requires-clause-feature : goal.add_line-requires-clause-feature
 add_line-requires-clause-feature c =
-    let f = snapped_path c.args.hot.now in
+    let f = snapped_path c.args.hot.now.points in
     let e : length c.loop-line.out.lines ≡ length c.args.out.now.lines = ap length (λ i. (c.loop-line.invariant i).lines) ∙ last_length (λ (ps : List Path). ps ++ map f (take c.loop-line.line-index c.args.lines.now)) c.args.out.now.lines in
     let l = c.requires.feature in
     omega arith
 
 pub loop-line-preserved : goal.loop-line-preserved
 loop-line-preserved c =
-    let f = snapped_path c.args.hot.now in
+    let f = snapped_path c.args.hot.now.points in
     let line = c.line-item.result in
     let done = map f (take c.loop-line.line-index c.args.lines.now) in
     let before = c.args.out.now in

@@ -15,7 +15,7 @@ loop-f-preserved c =
     let is : items ≡ get_or all c.loop-f.f items = sym (get_or_from_slice_get all c.loop-f.f items items found) in
     let within : c.loop-f.f < length all = slice_get_within all c.loop-f.f items found in
     let grown : c.add_feature.new.self ≡ record c.loop-f.out { polygons = c.loop-f.out.polygons ++ [] ∷ [] } = λ i. (c.in_ok-add_feature.ensures.ok i).1 in
-    let f = map (map (snapped_path c.args.hot.now)) in
+    let f = map (map (snapped_path c.args.hot.now.points)) in
     c.in_ok-add_polygons.ensures
     ∙ (λ i. with_polygons (f (c.as_slice.ensures.all i)) (grown i))
     ∙ (λ i. with_polygons (f items) (record (c.loop-f.invariant i) { polygons = (c.loop-f.invariant i).polygons ++ [] ∷ [] }))

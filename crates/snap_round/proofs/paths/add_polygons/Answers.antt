@@ -12,7 +12,7 @@ loop-polygon-init c = λ i. record c.args.out.now { polygons = sym (nothing_adde
 
 pub add_polygon-requires : goal.add_polygon-requires
 add_polygon-requires c =
-    let f = map (snapped_path c.args.hot.now) in
+    let f = map (snapped_path c.args.hot.now.points) in
     let e : length c.loop-polygon.out.polygons ≡ length c.args.out.now.polygons =
     ap (λ (d : Drawing). length d.polygons) c.loop-polygon.invariant ∙ last_length (λ (ps : List Polygon). ps ++ map f (take c.loop-polygon.polygon-index c.args.polygons.now)) c.args.out.now.polygons in
     let l = c.requires.feature in
@@ -20,7 +20,7 @@ add_polygon-requires c =
 
 pub add_rings-requires-clause-polygon : goal.add_rings-requires-clause-polygon
 add_rings-requires-clause-polygon c =
-    let f = map (snapped_path c.args.hot.now) in
+    let f = map (snapped_path c.args.hot.now.points) in
     let e : length c.loop-polygon.out.polygons ≡ length c.args.out.now.polygons =
     ap (λ (d : Drawing). length d.polygons) c.loop-polygon.invariant ∙ last_length (λ (ps : List Polygon). ps ++ map f (take c.loop-polygon.polygon-index c.args.polygons.now)) c.args.out.now.polygons in
     let l = c.requires.feature in
@@ -28,7 +28,7 @@ add_rings-requires-clause-polygon c =
 
 pub loop-polygon-preserved : goal.loop-polygon-preserved
 loop-polygon-preserved c =
-    let f = map (snapped_path c.args.hot.now) in
+    let f = map (snapped_path c.args.hot.now.points) in
     let polygon = c.polygon-item.result in
     let done = map f (take c.loop-polygon.polygon-index c.args.polygons.now) in
     let before = c.args.out.now in

@@ -11,7 +11,7 @@ loop-ring-init c = λ i. record c.args.out.now { polygons = sym (nothing_added_i
 
 pub add_ring-requires-clause-polygon : goal.add_ring-requires-clause-polygon
 add_ring-requires-clause-polygon c =
-    let f = snapped_path c.args.hot.now in
+    let f = snapped_path c.args.hot.now.points in
     let e : length (last_of [] c.loop-ring.out.polygons) ≡ length (last_of [] c.args.out.now.polygons) =
     ap (λ (d : Drawing). length (last_of [] d.polygons)) c.loop-ring.invariant ∙ last_stays (λ (ps : Polygon). ps ++ map f (take c.loop-ring.ring-index c.args.rings.now)) c.args.out.now.polygons in
     let l = c.requires.polygon in
@@ -19,7 +19,7 @@ add_ring-requires-clause-polygon c =
 
 pub loop-ring-preserved : goal.loop-ring-preserved
 loop-ring-preserved c =
-    let f = snapped_path c.args.hot.now in
+    let f = snapped_path c.args.hot.now.points in
     let ring = c.ring-item.result in
     let done = map f (take c.loop-ring.ring-index c.args.rings.now) in
     let before = c.args.out.now in

@@ -4,4 +4,4 @@ use Rattle.snap_round.specs.Paths.{with_rings}
 use Rattle.snap_round.proofs.paths.add_rings.Given as goal
 
 abbrev pub invariant-loop-ring : goal.invariant-loop-ring
-invariant-loop-ring l = l.out ≡ with_rings (map (snapped_path l.hot) (take l.ring-index l.rings)) l.initial.out
+invariant-loop-ring l = l.out ≡ with_rings (map (snapped_path l.hot.points) (take l.ring-index l.rings)) l.initial.out

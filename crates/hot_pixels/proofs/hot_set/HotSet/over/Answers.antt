@@ -1,19 +1,13 @@
-use Rattle.std.proofs.Common.{List, subst}
+use Rattle.std.proofs.Common.{subst, List}
 use Rattle.std.specs.Prelude.{All}
 use Rattle.std.specs.List.Sorted.{IsPermutation}
 use Rattle.plane_model.specs.Points.{GridPoint}
 use Rattle.hot_pixels.specs.Near.{HoldsRun}
-use Rattle.hot_pixels.proofs.MarkingLemmas.{marks_moved}
 use Rattle.hot_pixels.proofs.hot_set.HotSet.over.Goals as goal
 
 pub invariant_of-result : goal.invariant_of-result
-invariant_of-result c =
-    let moved = c.in_ok-inner.inner.items in
-    let marking = c.args.marking in (
-      c.requires.searchable,
-      (
-        marks_moved c.args.points.items c.args.edges.segments.items marking.crowded.items marking.lasts.items marking.meetings.items marking.inner.items moved
-            (subst (λ (xs : List GridPoint). IsPermutation xs moved) c.deref.ensures.value c.in_ok-inner.ensures) c.requires.marked,
-        subst (λ (xs : List GridPoint). All (HoldsRun xs) c.in_ok-inner_runs.inner_runs.items) c.deref-2.ensures.value c.in_ok-inner_runs.ensures,
-      ),
-    )
+invariant_of-result c = record {
+  up = c.points.ensures.ascending;
+  moved = subst (λ (xs : List GridPoint). IsPermutation xs c.in_ok-curved.curved.items) c.points.ensures.exact c.in_ok-curved.ensures;
+  held = subst (λ (xs : List GridPoint). All (HoldsRun xs) c.in_ok-runs.runs.items) c.deref.ensures.value c.in_ok-runs.ensures;
+}
