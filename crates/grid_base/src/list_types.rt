@@ -89,11 +89,12 @@ impl PtList {
         Ok(())
     }
 
-    // The path, whose equal neighbours count once.
+    // The path, whose equal neighbours count once. It gives back the room that it has to spare.
     pub(crate) fn without_repeats(mut self) -> PtList
-        ensures { result ≡ without_repeats self }
+        ensures exact { result ≡ without_repeats self }
     {
         self.items.dedup();
+        self.items.shrink_to_fit();
         self
     }
 }
@@ -152,6 +153,13 @@ impl PathList {
     {
         &self.items
     }
+
+    /// The paths themselves; takes no memory.
+    pub fn into_vec(self) -> Vec<PtList>
+        ensures all { result.items ≡ self }
+    {
+        self.items
+    }
 }
 
 /// The rings of one polygon.
@@ -208,6 +216,13 @@ impl PolygonRings {
     {
         &self.items
     }
+
+    /// The rings themselves; takes no memory.
+    pub fn into_vec(self) -> Vec<PtList>
+        ensures all { result.items ≡ self }
+    {
+        self.items
+    }
 }
 
 /// A list of polygons.
@@ -263,6 +278,13 @@ impl RingsList {
         ensures all { result.now ≡ self.now }
     {
         &self.items
+    }
+
+    /// The polygons themselves; takes no memory.
+    pub fn into_vec(self) -> Vec<PolygonRings>
+        ensures all { result.items ≡ self }
+    {
+        self.items
     }
 }
 
@@ -375,6 +397,16 @@ impl LinkList {
     {
         let items = Vec::with_capacity(alloc, count)?;
         Ok(LinkList { items })
+    }
+
+    /// The list of these links, which are moved; `AllocError` where they are too many.
+    pub fn of(links: Vec<Link>) -> Result<LinkList, AllocError>
+        ensures same { IfOk result (λ list. list ≡ links.items) }
+    {
+        if links.len() > u32::MAX as usize {
+            return Err(AllocError);
+        }
+        Ok(LinkList { items: links })
     }
 
     pub fn push(&mut self, item: Link) -> Result<(), AllocError>

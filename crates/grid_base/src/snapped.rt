@@ -53,6 +53,20 @@ impl Snapped {
         &self.links
     }
 
+    /// The drawing of its paths and points.
+    pub fn paths(&self) -> &Drawing
+        ensures same { result.now ≡ self.now }
+    {
+        &self.paths
+    }
+
+    /// The drawing of its paths and points; the links are let go.
+    pub fn into_paths(self) -> Drawing
+        ensures same { result ≡ self }
+    {
+        self.paths
+    }
+
     /// How many polygon features there are; they are numbered from 0.
     pub fn polygon_count(&self) -> u32
         ensures count { result ≡ length self.now.polygons }

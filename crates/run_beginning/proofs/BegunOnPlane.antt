@@ -1,5 +1,5 @@
 -- The layers that commands begin with lie on the plane.
-use Rattle.std.proofs.Common.{◌≡◌, ◌<◌, sym, subst, ℕ, List, [], ◌∷◌, All, filter, length, map}
+use Rattle.std.proofs.Common.{◌<◌, sym, subst, ℕ, List, [], ◌∷◌, All, filter, length}
 use Rattle.std.specs.Prelude.{slice_index_or}
 use Rattle.std.specs.List.{AllZip}
 use Rattle.std.proofs.lemmas.List.Elements.{All-append, All-cons, All-drop, All-head, All-map, All-nil, All-tail}

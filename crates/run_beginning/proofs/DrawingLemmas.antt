@@ -1,5 +1,5 @@
 -- What is added to a drawing, or to its last feature, piece by piece.
-use Rattle.std.proofs.Common.{◌≡◌, refl, sym, ap, ◌∙◌, ℕ, ◌+◌, ◌<◌, List, [], ◌∷◌, ◌++◌, map, take, length, get_or, append_assoc}
+use Rattle.std.proofs.Common.{◌≡◌, refl, sym, ap, arith, ◌∙◌, ℕ, ◌+◌, ◌<◌, List, [], ◌∷◌, ◌++◌, map, take, length, get_or, append_assoc}
 use Rattle.std.proofs.lemmas.List.{map-append}
 use Rattle.std.proofs.lemmas.List.Concat.{flat_map-append}
 use Rattle.lists.specs.Lists.{last_of}
@@ -11,7 +11,7 @@ use Rattle.geojson_io.specs.LayerContent.{LayerContent}
 use Rattle.geojson_io.specs.declared.shape.GeoShape.{GeoShape}
 use Rattle.geojson_io.specs.declared.shape.GeoShape.TheVariants as shape
 use Rattle.snap_round.specs.Paths.{with_lines, with_points, with_polygons, with_rings}
-use Rattle.snap_round.proofs.LastLemmas.{in_new, last_length, last_stays, mapped_more, new_more_in, new_there, nothing_added, nothing_added_in, put_more, taken_more}
+use Rattle.snap_round.proofs.LastLemmas.{in_new, last_length, last_stays, mapped_more, new_there, nothing_added, nothing_added_in, put_more, taken_more}
 use Rattle.run_beginning.specs.Drawing.{drawn_boxes, drawn_lines, drawn_rings, line_features, lines_in, lines_of, point_features, points_in, points_of, polygon_features, polygons_in, polygons_of, with_layers}
 
 last_twice : {A : Type 0} (f g : A → A) (xs : List A) → with_last f (with_last g xs) ≡ with_last (λ x. f (g x)) xs
@@ -22,6 +22,10 @@ last_twice {A} f g (x ∷ y ∷ z ∷ rest) = ap (λ (ys : List A). x ∷ ys) (l
 
 last_same : {A : Type 0} (f g : A → A) (xs : List A) → ((x : A) → f x ≡ g x) → with_last f xs ≡ with_last g xs
 last_same {A} f g xs e = ap (λ (h : A → A). with_last h xs) (λ i x. e x i)
+
+pub none_left : {A : Type 0} (xs : List A) → length xs ≡ 0 → xs ≡ []
+none_left [] e = refl
+none_left (x ∷ xs) e = absurd (omega arith)
 
 module _ {A : Type 0} where
   -- more in the last list
@@ -39,20 +43,18 @@ module _ {A : Type 0} where
   part_more : {B : Type 0} (F : List B → List A) → ((xs ys : List B) → F (xs ++ ys) ≡ F xs ++ F ys) → (xs : List B) (i : ℕ) (x : B) → i < length xs → x ≡ get_or xs i x → F (take i xs) ++ F (x ∷ []) ≡ F (take (i + 1) xs)
   part_more F apart xs i x l e = sym (apart (take i xs) (x ∷ [])) ∙ ap F (taken_more xs i x l e)
 
-drawn_rings_apart : (xs ys : List Path) → drawn_rings (xs ++ ys) ≡ drawn_rings xs ++ drawn_rings ys
-drawn_rings_apart xs ys = map-append without_repeats xs ys
-
-drawn_lines_apart : (xs ys : List Path) → drawn_lines (xs ++ ys) ≡ drawn_lines xs ++ drawn_lines ys
-drawn_lines_apart xs ys = map-append without_repeats xs ys
+-- a new polygon gets its rings
+in_last_new : (rings : Polygon) (features : List (List Polygon)) → with_last (with_last (λ (polygon : Polygon). polygon ++ rings)) (add_polygon features) ≡ with_last (λ (feature : List Polygon). feature ++ rings ∷ []) features
+in_last_new rings features =
+    let put : List Polygon → List Polygon = with_last (λ (polygon : Polygon). polygon ++ rings) in
+    last_twice put (λ (feature : List Polygon). feature ++ [] ∷ []) features
+    ∙ last_same (λ (feature : List Polygon). put (feature ++ [] ∷ [])) (λ (feature : List Polygon). feature ++ rings ∷ []) features (λ feature. in_new rings feature)
 
 -- ---- into the last feature
 
-pub rings_more : (d : Drawing) (rings : List Path) (i : ℕ) (ring : Path) → i < length rings → ring ≡ get_or rings i ring →
-    with_rings (drawn_rings (ring ∷ [])) (with_rings (drawn_rings (take i rings)) d) ≡ with_rings (drawn_rings (take (i + 1) rings)) d
-rings_more d rings i ring l e =
-    let same = more_in (drawn_rings (take i rings)) (drawn_rings (ring ∷ [])) d.polygons in
-    let next = part_more drawn_rings drawn_rings_apart rings i ring l e in
-    λ j. record d { polygons = (same ∙ ap (λ (ps : Polygon). with_last (with_last (λ (qs : Polygon). qs ++ ps)) d.polygons) next) j }
+-- the next ring, and those after it
+pub rings_next : (d : Drawing) (ring : Path) (rest : List Path) → with_rings (drawn_rings rest) (with_rings (drawn_rings (ring ∷ [])) d) ≡ with_rings (drawn_rings (ring ∷ rest)) d
+rings_next d ring rest = λ j. record d { polygons = more_in (drawn_rings (ring ∷ [])) (drawn_rings rest) d.polygons j }
 
 pub no_rings : (d : Drawing) → d ≡ with_rings [] d
 no_rings d = λ i. record d { polygons = sym (nothing_added_in d.polygons) i }
@@ -61,12 +63,13 @@ no_rings d = λ i. record d { polygons = sym (nothing_added_in d.polygons) i }
 pub rings_stay : (rings : Polygon) (d : Drawing) → length (last_of [] (with_rings rings d).polygons) ≡ length (last_of [] d.polygons)
 rings_stay rings d = last_stays (λ (ps : Polygon). ps ++ rings) d.polygons
 
-pub polygons_more : (d : Drawing) (polygons : List (List Path)) (i : ℕ) (polygon : List Path) → i < length polygons → polygon ≡ get_or polygons i polygon →
-    with_rings (drawn_rings polygon) (record d { polygons = add_polygon (with_polygons (map drawn_rings (take i polygons)) d).polygons }) ≡ with_polygons (map drawn_rings (take (i + 1) polygons)) d
-polygons_more d polygons i polygon l e =
-    let same = new_more_in (drawn_rings polygon) (map drawn_rings (take i polygons)) d.polygons in
-    let next = mapped_more drawn_rings polygons i polygon l e in
-    λ j. record d { polygons = (same ∙ ap (λ (ps : List Polygon). with_last (λ (qs : List Polygon). qs ++ ps) d.polygons) next) j }
+-- the next polygon, and those after it
+pub polygons_next : (d : Drawing) (polygon : List Path) (rest : List (List Path)) →
+    with_polygons (map drawn_rings rest) (with_rings (drawn_rings polygon) (record d { polygons = add_polygon d.polygons })) ≡ with_polygons (map drawn_rings (polygon ∷ rest)) d
+polygons_next d polygon rest =
+    let same = in_last_new (drawn_rings polygon) d.polygons in
+    let next = more (drawn_rings polygon ∷ []) (map drawn_rings rest) d.polygons in
+    λ j. record d { polygons = (ap (λ (ps : List (List Polygon)). with_last (λ (qs : List Polygon). qs ++ map drawn_rings rest) ps) same ∙ next) j }
 
 pub no_polygons : (d : Drawing) → d ≡ with_polygons [] d
 no_polygons d = λ i. record d { polygons = sym (nothing_added d.polygons) i }
@@ -79,12 +82,9 @@ polygons_stay polygons d = last_length (λ (ps : List Polygon). ps ++ polygons) 
 pub polygon_there : (d : Drawing) → 0 < length d.polygons → 0 < length (last_of [] (add_polygon d.polygons))
 polygon_there d l = new_there [] d.polygons l
 
-pub lines_more : (d : Drawing) (lines : List Path) (i : ℕ) (line : Path) → i < length lines → line ≡ get_or lines i line →
-    with_lines (drawn_lines (line ∷ [])) (with_lines (drawn_lines (take i lines)) d) ≡ with_lines (drawn_lines (take (i + 1) lines)) d
-lines_more d lines i line l e =
-    let same = more (drawn_lines (take i lines)) (drawn_lines (line ∷ [])) d.lines in
-    let next = part_more drawn_lines drawn_lines_apart lines i line l e in
-    λ j. record d { lines = (same ∙ ap (λ (ps : List Path). with_last (λ (qs : List Path). qs ++ ps) d.lines) next) j }
+-- the next line, and those after it
+pub lines_next : (d : Drawing) (line : Path) (rest : List Path) → with_lines (drawn_lines rest) (with_lines (drawn_lines (line ∷ [])) d) ≡ with_lines (drawn_lines (line ∷ rest)) d
+lines_next d line rest = λ j. record d { lines = more (drawn_lines (line ∷ [])) (drawn_lines rest) d.lines j }
 
 pub no_lines : (d : Drawing) → d ≡ with_lines [] d
 no_lines d = λ i. record d { lines = sym (nothing_added d.lines) i }

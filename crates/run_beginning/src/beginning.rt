@@ -15,7 +15,7 @@ use crate::drawing::drawing_of;
 use arc_table::{ArcTable, SignedPaths};
 use face_sets::FaceSet;
 use geojson_io::{GeoLayer, GeoShape, GeoShapeList};
-use grid_base::{BoxList, FeatId, Kind, PtList, Snapped};
+use grid_base::{BoxList, Drawing, FeatId, Kind, PtList};
 use job_terms::Owner;
 use run_plane::{LaidOut, Layer, Plane, Shape, laid_out};
 use run_sources::ReadSource;
@@ -93,7 +93,7 @@ fn begun_with(alloc: Global, laid: LaidOut, sources: Vec<ReadSource>) -> Result<
 fn begin_sources(
     alloc: Global,
     arcs: &ArcTable,
-    snapped: &Snapped,
+    snapped: &Drawing,
     features: Vec<FaceSet>,
     sources: Vec<ReadSource>,
     layers: &mut Vec<Layer>,
@@ -157,7 +157,7 @@ fn put_layers(layers: &mut Vec<Layer>, more: Vec<Layer>) -> Result<(), AllocErro
 fn begun_layers(
     alloc: Global,
     arcs: &ArcTable,
-    snapped: &Snapped,
+    snapped: &Drawing,
     next: &mut Next,
     layers: Vec<GeoLayer>,
 ) -> Result<Vec<Layer>, AllocError>
@@ -176,7 +176,7 @@ fn begun_layers(
 fn begun_layer(
     alloc: Global,
     arcs: &ArcTable,
-    snapped: &Snapped,
+    snapped: &Drawing,
     next: &mut Next,
     layer: GeoLayer,
 ) -> Result<Layer, AllocError>
@@ -203,7 +203,7 @@ fn begun_layer(
 fn begun_shapes(
     alloc: Global,
     arcs: &ArcTable,
-    snapped: &Snapped,
+    snapped: &Drawing,
     next: &mut Next,
     kind: Kind,
     shapes: GeoShapeList,
@@ -260,7 +260,7 @@ fn next_set(alloc: Global, faces: &mut IntoIter<FaceSet>) -> FaceSet
 fn begun_lines(
     alloc: Global,
     arcs: &ArcTable,
-    snapped: &Snapped,
+    snapped: &Drawing,
     line: &mut u32,
     count: u32,
 ) -> Result<Vec<Shape>, AllocError>
@@ -279,7 +279,7 @@ fn begun_lines(
 }
 
 // The number of the line feature that comes `number` features after another, or a number that no line feature has.
-fn line_after(snapped: &Snapped, line: u32, number: u32) -> u32
+fn line_after(snapped: &Drawing, line: u32, number: u32) -> u32
     ensures exact { drop result snapped.now.lines ≡ drop number (drop line snapped.now.lines) }
 {
     match line.checked_add(number) {
@@ -292,7 +292,7 @@ fn line_after(snapped: &Snapped, line: u32, number: u32) -> u32
 fn snapped_paths(
     alloc: Global,
     arcs: &ArcTable,
-    snapped: &Snapped,
+    snapped: &Drawing,
     line: u32,
 ) -> Result<SignedPaths, AllocError>
     ensures along { IfOk result (AreLineArcs arcs.now (slice_index_or snapped.now.lines line [])) }

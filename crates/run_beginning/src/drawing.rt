@@ -6,7 +6,6 @@ ghost use Rattle.run_beginning.specs.Drawing.{drawing_of, drawn_boxes, drawn_lin
 
 use geojson_io::{GeoLayer, GeoLayers, GeoShape, GeoShapeList};
 use grid_base::{BoxList, Drawing, Kind, PolygonRings, Pt, PtList, Rect};
-use run_plane::copy_points;
 use run_sources::ReadSource;
 use std::alloc::{AllocError, Global};
 
@@ -139,52 +138,46 @@ fn add_polygon_features(
     let mut left = GeoShapeList::new(alloc);
     for shape in shapes {
         drawing.add_feature(Kind::Polygon)?;
-        add_shape_polygons(alloc, drawing, shape)?;
+        add_shape_polygons(drawing, shape)?;
         left.push(GeoShape::Nothing)?;
     }
     Ok(left)
 }
 
 #[tactic(auto, using(crate::proofs::DrawingLemmas::no_polygons))]
-fn add_shape_polygons(
-    alloc: Global,
-    drawing: &mut Drawing,
-    shape: GeoShape,
-) -> Result<(), AllocError>
+fn add_shape_polygons(drawing: &mut Drawing, shape: GeoShape) -> Result<(), AllocError>
     requires feature { 0 < length drawing.old.polygons }
     requires sound { ShapeIsSound shape }
     ensures added { OnOk result (drawing.new ≡ with_polygons (polygons_of shape) drawing.old) }
 {
     match shape {
-        GeoShape::Polygons(polygons) => add_polygons(alloc, drawing, polygons.as_slice()),
+        GeoShape::Polygons(polygons) => add_polygons(drawing, polygons.into_vec()),
         GeoShape::Nothing | GeoShape::Lines(_) | GeoShape::Points(_) => Ok(()),
     }
 }
 
-fn add_polygons(
-    alloc: Global,
-    drawing: &mut Drawing,
-    polygons: &[PolygonRings],
-) -> Result<(), AllocError>
+#[tactic(auto, using(crate::proofs::DrawingLemmas::no_polygons))]
+fn add_polygons(drawing: &mut Drawing, polygons: Vec<PolygonRings>) -> Result<(), AllocError>
     requires feature { 0 < length drawing.old.polygons }
-    requires rings { All (All IsRing) polygons.now }
-    ensures added { OnOk result (drawing.new ≡ with_polygons (map drawn_rings polygons.now) drawing.old) }
+    requires rings { All (All IsRing) polygons.items }
+    ensures added { OnOk result (drawing.new ≡ with_polygons (map drawn_rings polygons.items) drawing.old) }
 {
     for polygon in polygons {
         drawing.add_polygon()?;
-        add_rings(alloc, drawing, polygon.as_slice())?;
+        add_rings(drawing, polygon.into_vec())?;
     }
     Ok(())
 }
 
 // Adds rings to the last polygon.
-fn add_rings(alloc: Global, drawing: &mut Drawing, rings: &[PtList]) -> Result<(), AllocError>
+#[tactic(auto, using(crate::proofs::DrawingLemmas::no_rings))]
+fn add_rings(drawing: &mut Drawing, rings: Vec<PtList>) -> Result<(), AllocError>
     requires polygon { 0 < length (last_of [] drawing.old.polygons) }
-    requires rings { All IsRing rings.now }
-    ensures added { OnOk result (drawing.new ≡ with_rings (drawn_rings rings.now) drawing.old) }
+    requires rings { All IsRing rings.items }
+    ensures added { OnOk result (drawing.new ≡ with_rings (drawn_rings rings.items) drawing.old) }
 {
     for ring in rings {
-        drawing.add_ring(copy_points(alloc, ring)?)?;
+        drawing.add_ring(ring)?;
     }
     Ok(())
 }
@@ -201,31 +194,32 @@ fn add_line_features(
     let mut left = GeoShapeList::new(alloc);
     for shape in shapes {
         drawing.add_feature(Kind::Line)?;
-        add_shape_lines(alloc, drawing, shape)?;
+        add_shape_lines(drawing, shape)?;
         left.push(GeoShape::Nothing)?;
     }
     Ok(left)
 }
 
 #[tactic(auto, using(crate::proofs::DrawingLemmas::no_lines))]
-fn add_shape_lines(alloc: Global, drawing: &mut Drawing, shape: GeoShape) -> Result<(), AllocError>
+fn add_shape_lines(drawing: &mut Drawing, shape: GeoShape) -> Result<(), AllocError>
     requires feature { 0 < length drawing.old.lines }
     requires sound { ShapeIsSound shape }
     ensures added { OnOk result (drawing.new ≡ with_lines (lines_of shape) drawing.old) }
 {
     match shape {
-        GeoShape::Lines(lines) => add_lines(alloc, drawing, lines.as_slice()),
+        GeoShape::Lines(lines) => add_lines(drawing, lines.into_vec()),
         GeoShape::Nothing | GeoShape::Polygons(_) | GeoShape::Points(_) => Ok(()),
     }
 }
 
-fn add_lines(alloc: Global, drawing: &mut Drawing, lines: &[PtList]) -> Result<(), AllocError>
+#[tactic(auto, using(crate::proofs::DrawingLemmas::no_lines))]
+fn add_lines(drawing: &mut Drawing, lines: Vec<PtList>) -> Result<(), AllocError>
     requires feature { 0 < length drawing.old.lines }
-    requires points { All HasPoints lines.now }
-    ensures added { OnOk result (drawing.new ≡ with_lines (drawn_lines lines.now) drawing.old) }
+    requires points { All HasPoints lines.items }
+    ensures added { OnOk result (drawing.new ≡ with_lines (drawn_lines lines.items) drawing.old) }
 {
     for line in lines {
-        drawing.add_line(copy_points(alloc, line)?)?;
+        drawing.add_line(line)?;
     }
     Ok(())
 }

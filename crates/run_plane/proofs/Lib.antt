@@ -1,4 +1,3 @@
 pub mod FacesHeld
 pub mod Growth
 pub mod OnPlane
-pub mod Paths

@@ -2,7 +2,6 @@ ghost use Rattle.std.specs.Prelude.{◌≡◌, [], All, length, nat_lt, replicat
 ghost use Rattle.face_walk.specs.Places.{IsBuiltOf};
 ghost use Rattle.lists.specs.Lists.{put_in_order};
 ghost use Rattle.plane_model.specs.Snapped.{snapped};
-ghost use Rattle.grid_base.specs.Drawn.{HasPaths};
 ghost use Rattle.arc_table.specs.Direction.{IsForward};
 ghost use Rattle.arc_table.specs.Order.{AreNumbered};
 ghost use Rattle.arc_table.specs.PathArcs.{AreArcsOf};
@@ -33,7 +32,7 @@ pub struct Plane {
 #[derive(Drop)]
 pub struct LaidOut {
     pub plane: Plane,
-    pub snapped: Snapped,
+    pub snapped: Drawing,
     pub features: Vec<FaceSet>,
 }
 
@@ -57,9 +56,12 @@ fn built(alloc: Global, snapped: Snapped) -> Result<LaidOut, AllocError>
     ensures snapped { IfOk result (λ laid. laid.snapped ≡ snapped) }
     ensures laid { IfOk result (λ laid. IsLaidOut snapped laid.plane.arcs laid.plane.faces laid.plane.boxes.items laid.features.items) }
 {
-    keeps_paths(&snapped);
-    let arcs = arcs_of(alloc, &snapped)?;
+    let mut arcs = arcs_of(alloc, &snapped)?;
+    // The links serve the arcs alone, and their order the faces.
+    let snapped = snapped.into_paths();
+    snapped.keeps_paths();
     let faces = Faces::build(alloc, &arcs)?;
+    arcs.forget_order();
     let held = HeldFaces::of(alloc, &arcs, &faces, &snapped)?;
     Ok(LaidOut {
         plane: Plane {
@@ -70,20 +72,6 @@ fn built(alloc: Global, snapped: Snapped) -> Result<LaidOut, AllocError>
         snapped,
         features: held.features,
     })
-}
-
-// What every snapped drawing keeps, for proofs: each call for one of its paths says it.
-#[tactic(auto, using(crate::proofs::Paths::no_paths))]
-fn keeps_paths(snapped: &Snapped)
-    ensures paths { HasPaths snapped.now }
-{
-    if snapped.polygon_count() > 0 {
-        let _ = snapped.rings_of(FeatId::new(0));
-    } else if snapped.line_count() > 0 {
-        let _ = snapped.lines_of(FeatId::new(0));
-    } else if snapped.box_count() > 0 {
-        let _ = snapped.box_of(0);
-    }
 }
 
 // The faces that each polygon feature holds, and each box, by their numbers.
@@ -98,12 +86,12 @@ impl HeldFaces {
         alloc: Global,
         arcs: &ArcTable,
         faces: &Faces,
-        snapped: &Snapped,
+        snapped: &Drawing,
     ) -> Result<HeldFaces, AllocError>
         requires built { IsBuiltOf arcs.now faces.now }
         ensures held { IfOk result (λ held. AreHeld snapped.now arcs.now faces.now held.boxes.items held.features.items) }
     {
-        let labels = Labels::of(alloc, arcs, faces, snapped)?;
+        let labels = Labels::of_paths(alloc, arcs, faces, snapped)?;
         HeldFaces::by_labels(alloc, faces, &labels, snapped)
     }
 
@@ -112,7 +100,7 @@ impl HeldFaces {
         alloc: Global,
         faces: &Faces,
         labels: &Labels,
-        snapped: &Snapped,
+        snapped: &Drawing,
     ) -> Result<HeldFaces, AllocError>
         requires holders { length labels.now.holders ≡ faces.now.count }
         requires boxes { length labels.now.boxes ≡ faces.now.count }

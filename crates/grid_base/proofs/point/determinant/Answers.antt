@@ -1,4 +1,4 @@
-use Rattle.std.proofs.Common.{◌-ℤ◌, ◌*ℤ◌, ℤ, to_z-of_z, refl, FitsSigned, w64}
+use Rattle.std.proofs.Common.{◌-ℤ◌, ◌*ℤ◌, ℤ, to_z-of_z, refl, FitsSigned}
 use Rattle.std.specs.Int.{w128}
 use Rattle.grid_base.specs.Sizes.{IsStep, IsCross}
 use Rattle.grid_base.proofs.Bounds.{step_fits_128, steps_product_fits, cross_small, cross_fits}

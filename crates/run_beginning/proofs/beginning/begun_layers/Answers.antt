@@ -1,4 +1,4 @@
-use Rattle.std.proofs.Common.{◌≡◌, arith, ap, drop, length, subst, sym, List}
+use Rattle.std.proofs.Common.{arith, ap, drop, length, subst, sym, List}
 use Rattle.std.specs.Vec.Iter.{into_iter_items}
 use Rattle.std.proofs.lemmas.List.{nil_from_length}
 use Rattle.run_beginning.specs.BegunLayers.{Left}

@@ -1,4 +1,4 @@
-use Rattle.std.proofs.Common.{◌≡◌, ◌++◌, ◌∙◌, sym, ap, arith, take, [], ◌∷◌}
+use Rattle.std.proofs.Common.{◌++◌, ◌∙◌, sym, ap, arith, [], ◌∷◌}
 use Rattle.std.proofs.lemmas.List.{append-nil}
 use Rattle.plane_model.specs.Drawing.{Drawing}
 use Rattle.run_beginning.specs.Drawing.{drawn_boxes}

@@ -1,28 +1,44 @@
-use Rattle.std.proofs.Common.{◌≡◌, ◌∙◌, ap, arith, length, subst, sym, take, [], ◌∷◌}
-use Rattle.std.proofs.lemmas.List.Elements.{All-get_or}
+use Rattle.std.proofs.Common.{◌≡◌, ◌∙◌, ap, arith, rules, subst, sym, List, [], ◌∷◌, length}
+use Rattle.std.specs.Prelude.{All}
+use Rattle.std.specs.Vec.Iter.{into_iter_items}
+use Rattle.std.proofs.lemmas.List.Elements.{All-head, All-tail}
+use Rattle.plane_model.specs.Points.{Path}
 use Rattle.plane_model.specs.Drawing.{Drawing}
 use Rattle.geojson_io.specs.Sound.{HasPoints}
 use Rattle.snap_round.specs.Paths.{with_lines}
 use Rattle.run_beginning.specs.Drawing.{drawn_lines}
-use Rattle.run_beginning.proofs.DrawingLemmas.{lines_more, lines_stay, no_lines}
+use Rattle.run_beginning.proofs.DrawingLemmas.{lines_next, lines_stay, no_lines, none_left}
 use Rattle.run_beginning.proofs.drawing.add_lines.Goals as goal
-
-pub loop-line-init : goal.loop-line-init
-loop-line-init c = no_lines c.args.drawing.now
 
 pub add_line-requires : goal.add_line-requires
 add_line-requires c =
-    let lines = c.args.lines.now in
-    let line = c.line-item.result in
-    let done = drawn_lines (take c.loop-line.line-index lines) in
-    let e : length c.loop-line.drawing.lines ≡ length c.args.drawing.now.lines =
-    ap (λ (d : Drawing). length d.lines) c.loop-line.invariant ∙ lines_stay done c.args.drawing.now in
-    let l = c.requires.feature in
-    let here : HasPoints line = subst HasPoints (sym c.line-item.is) (All-get_or HasPoints lines c.loop-line.line-index line (omega arith) c.requires.points) in
-    record { feature = omega arith; not_empty = subst HasPoints (sym c.in_ok-copy_points.ensures.copied) here }
+    let steps = c.in-Some.ensures.steps in
+    let line = c.in-Some.line in
+    let rest = into_iter_items c.next.new.self in
+    record { feature = c.loop-line.invariant.feature; not_empty = All-head HasPoints line rest (subst (All HasPoints) steps.0 c.loop-line.invariant.sound) }
 
 pub loop-line-preserved : goal.loop-line-preserved
 loop-line-preserved c =
-    c.in_ok-add_line.ensures.ok
-    ∙ (λ i. with_lines (drawn_lines (c.in_ok-copy_points.ensures.copied i ∷ [])) (c.loop-line.invariant i))
-    ∙ lines_more c.args.drawing.now c.args.lines.now c.loop-line.line-index c.line-item.result (omega arith) c.line-item.is
+    let steps = c.in-Some.ensures.steps in
+    let line = c.in-Some.line in
+    let rest = into_iter_items c.next.new.self in
+    let before = c.loop-line.drawing in
+    let so_far = c.loop-line.invariant in
+    let stay : length c.add_line.new.self.lines ≡ length before.lines =
+    ap (λ (d : Drawing). length d.lines) c.in_ok-add_line.ensures.ok ∙ lines_stay (drawn_lines (line ∷ [])) before in
+    let there = so_far.feature in
+    record {
+      added = ap (with_lines (drawn_lines rest)) c.in_ok-add_line.ensures.ok
+          ∙ lines_next before line rest
+          ∙ ap (λ (lines : List Path). with_lines (drawn_lines lines) before) (sym steps.0)
+          ∙ so_far.added;
+      feature = omega arith;
+      sound = All-tail HasPoints line rest (subst (All HasPoints) steps.0 so_far.sound);
+      count = search rules;
+    }
+
+pub returns : goal.returns
+returns c =
+    let left = c.loop-line.drawing in
+    let none = none_left (into_iter_items c.loop-line.line-iterator) (sym c.loop-line.invariant.count ∙ c.in-None.ensures.steps.0) in
+    record { added = no_lines left ∙ ap (λ (lines : List Path). with_lines (drawn_lines lines) left) (sym none) ∙ c.loop-line.invariant.added }

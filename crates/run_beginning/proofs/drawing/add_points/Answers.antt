@@ -1,4 +1,4 @@
-use Rattle.std.proofs.Common.{◌≡◌, ◌<◌, ◌∙◌, ap, arith, length, take}
+use Rattle.std.proofs.Common.{◌≡◌, ◌∙◌, ap, arith, length, take}
 use Rattle.plane_model.specs.Drawing.{Drawing}
 use Rattle.grid_base.specs.Drawn.{add_item}
 use Rattle.run_beginning.proofs.DrawingLemmas.{no_points, points_more, points_stay}

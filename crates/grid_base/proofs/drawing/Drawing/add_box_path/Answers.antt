@@ -10,7 +10,7 @@ pub invariant_of-self-2 : goal.invariant_of-self-2
 invariant_of-self-2 c =
     let kept = c.self.invariant.0 in
     let boxes = c.self.inside.boxes.items in
-    let ring : IsRing c.without_repeats.result = subst IsRing (sym c.without_repeats.ensures) (is_ring c.args.path c.requires.not_empty c.requires.closed) in
+    let ring : IsRing c.without_repeats.result = subst IsRing (sym c.without_repeats.ensures.exact) (is_ring c.args.path c.requires.not_empty c.requires.closed) in
     let items = c.in_ok-push.ensures.items in (
       record { rings = kept.rings; lines = kept.lines; boxes = subst (All IsRing) (sym items) (All-push IsRing boxes c.without_repeats.result kept.boxes ring) },
       c.self.invariant.1,

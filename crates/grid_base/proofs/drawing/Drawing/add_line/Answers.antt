@@ -16,7 +16,7 @@ invariant_of-self c =
     let feature = c.index_mut-feature.result.now in
     let before : All IsPath feature =
     holds_of_last (All IsPath) lines c.len-last.result feature (omega (arith, c.self.inside.lines.ok.0)) (let l = c.requires.feature in omega (arith, ap length (λ i. (c.self.view_is i).lines))) c.index_mut-feature.ensures.value kept.lines in
-    let line : IsPath c.without_repeats-line.result = subst IsPath (sym c.without_repeats-line.ensures) (is_path c.args.line c.requires.not_empty) in
+    let line : IsPath c.without_repeats-line.result = subst IsPath (sym c.without_repeats-line.ensures.exact) (is_path c.args.line c.requires.not_empty) in
     let after : All IsPath c.push.new.self =
     after_push (All IsPath) c.push.result feature (feature ++ c.without_repeats-line.result ∷ []) c.push.new.self c.push.ensures.ok c.push.ensures.err (All-push IsPath feature c.without_repeats-line.result before line) before in (
       record { rings = kept.rings; lines = All-set (All IsPath) lines (c.len-last.result - 1) c.push.new.self after kept.lines; boxes = kept.boxes },
@@ -27,6 +27,6 @@ invariant_of-self c =
 pub returns-clause-ok : goal.returns-clause-ok
 returns-clause-ok c =
     let put : List Path → List Path = λ feature. feature ++ c.without_repeats-line.result ∷ [] in
-    on_ok_weaker c.push.result (λ h. λ i. record (c.self.view_is i) { lines = (h ∙ ap (λ (line : Path). add_item line c.args.self.now.lines) c.without_repeats-line.ensures) i })
+    on_ok_weaker c.push.result (λ h. λ i. record (c.self.view_is i) { lines = (h ∙ ap (λ (line : Path). add_item line c.args.self.now.lines) c.without_repeats-line.ensures.exact) i })
     (write_last put c.self.inside.lines.items c.args.self.now.lines c.push.result c.len-last.result c.index_mut-feature.result.now c.push.new.self
     (λ i. (c.self.view_is i).lines) (omega (arith, c.self.inside.lines.ok.0)) c.requires.feature c.index_mut-feature.ensures.value c.push.ensures.ok)

@@ -23,7 +23,7 @@ invariant_of-self c =
     let some : 0 < length c.args.self.now.polygons = some_in_last c.args.self.now.polygons c.requires.polygon in
     let before : All (All IsRing) feature =
     holds_of_last (All (All IsRing)) features c.len-last.result feature (omega (arith, c.self.inside.polygons.ok.0)) (omega (arith, ap length (λ i. (c.self.view_is i).polygons))) c.index_mut-feature.ensures.value kept.rings in
-    let ring : IsRing c.without_repeats-ring.result = subst IsRing (sym c.without_repeats-ring.ensures) (is_ring c.args.ring c.requires.not_empty c.requires.closed) in
+    let ring : IsRing c.without_repeats-ring.result = subst IsRing (sym c.without_repeats-ring.ensures.exact) (is_ring c.args.ring c.requires.not_empty c.requires.closed) in
     let after : All (All IsRing) c.push_ring.new.self =
     after_push (All (All IsRing)) c.push_ring.result feature (with_last (λ (polygon : Polygon). polygon ++ c.without_repeats-ring.result ∷ []) feature) c.push_ring.new.self c.push_ring.ensures.ok c.push_ring.ensures.err
     (ring_in_last IsRing c.without_repeats-ring.result ring feature before) before in (
@@ -35,6 +35,6 @@ invariant_of-self c =
 pub returns-clause-ok : goal.returns-clause-ok
 returns-clause-ok c =
     let put : Path → List Polygon → List Polygon = λ ring. with_last (λ (polygon : Polygon). polygon ++ ring ∷ []) in
-    on_ok_weaker c.push_ring.result (λ h. λ i. record (c.self.view_is i) { polygons = (h ∙ ap (λ (ring : Path). with_last (put ring) c.args.self.now.polygons) c.without_repeats-ring.ensures) i })
+    on_ok_weaker c.push_ring.result (λ h. λ i. record (c.self.view_is i) { polygons = (h ∙ ap (λ (ring : Path). with_last (put ring) c.args.self.now.polygons) c.without_repeats-ring.ensures.exact) i })
     (write_last (put c.without_repeats-ring.result) c.self.inside.polygons.items c.args.self.now.polygons c.push_ring.result c.len-last.result c.index_mut-feature.result.now c.push_ring.new.self
     (λ i. (c.self.view_is i).polygons) (omega (arith, c.self.inside.polygons.ok.0)) (some_in_last c.args.self.now.polygons c.requires.polygon) c.index_mut-feature.ensures.value c.push_ring.ensures.ok)

@@ -5,6 +5,8 @@ use Rattle.grid_base.proofs.RepeatLemmas.{first_of_each_run, int_eq_is}
 use Rattle.grid_base.proofs.list_types.PtList.without_repeats.Goals as goal
 
 pub returns : goal.returns
-returns c =
-    dedup_is _ c.self.inside.items.items c.dedup.new.self.items c.dedup.ensures.filtered
-    ∙ first_of_each_run _ (λ x y. (λ i. int_eq_is x.x y.x i && int_eq_is x.y y.y i)) c.self.inside.items.items ∙ ap without_repeats c.self.view_is
+returns c = record {
+  exact = c.shrink_to_fit.ensures.items
+      ∙ dedup_is _ c.self.inside.items.items c.dedup.new.self.items c.dedup.ensures.filtered
+      ∙ first_of_each_run _ (λ x y. (λ i. int_eq_is x.x y.x i && int_eq_is x.y y.y i)) c.self.inside.items.items ∙ ap without_repeats c.self.view_is;
+}
