@@ -11,14 +11,19 @@
 use host_io::{HostFiles, StdSink, StdSource};
 use io_core::{Sink, Text, Words};
 use ms_chain::{Outcome, run, status_of};
+use std::alloc::Global;
 use std::process::ExitCode;
 use std::{env, io};
 
 /// The exit status where a word can't be read, as where it is refused.
 const BAD_WORDS: u8 = 1;
 
+/// The size of the piece of memory that is taken at first and given back unused, in bytes.
+const FIRST_PIECE_BYTES: usize = 32_000_000;
+
 fn main(rt: HostRuntime) -> ExitCode {
     let alloc = rt.alloc();
+    keep_what_is_let_go(alloc);
     let mut messages = StdSink::new(rt.stderr());
     match host_words(&rt) {
         Ok(words) => {
@@ -43,6 +48,13 @@ fn main(rt: HostRuntime) -> ExitCode {
             ExitCode::from(BAD_WORDS)
         }
     }
+}
+
+// Takes a large piece of memory and gives it back. The C library takes that for a sign to keep pieces of up to this size
+// when they are let go of, for what is taken next; otherwise each large list goes back to the system, and the next one is
+// made of fresh pages. Where there is no such piece, nothing changes.
+fn keep_what_is_let_go(alloc: Global) {
+    let _ = Vec::<u8>::with_capacity(alloc, FIRST_PIECE_BYTES);
 }
 
 // The words after the program's name.
