@@ -86,9 +86,6 @@ module _ (left right : Segment → Bool) where
       go false false rest = rest
 
   module _ (S : List Segment) (arr : IsArrangement S) (distinct : IsDistinct S) where
-    abbrev B : List Segment
-    B = boundary_by left right S
-
     pub boundary_distinct : IsDistinct (boundary_by left right S)
     boundary_distinct = distinct_steps S arr.ordered distinct
 

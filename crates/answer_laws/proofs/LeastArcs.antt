@@ -88,9 +88,6 @@ module _ (s : Drawing) (arr : IsArrangement (links_of s)) (distinct : IsDistinct
   abbrev arcs : List Path
   arcs = arcs_of s (links_of s)
 
-  abbrev B : List Segment
-  B = boundary_by left right (links_of s)
-
   -- the first step of an arc
   abbrev pub first_of : ℕ → Segment
   first_of n = get_or (steps (get_or (arcs_of s (links_of s)) n [])) 0 none

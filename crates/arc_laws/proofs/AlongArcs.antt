@@ -18,9 +18,10 @@ use Rattle.arc_table.specs.Nodes.{IsRingOf}
 use Rattle.arc_table.specs.WholeArcs.{IsNode, IsPassed, IsWholeArc, StartsAtLeast}
 use Rattle.arc_table.proofs.Proper.{link_turned}
 use Rattle.arc_table.proofs.WholeBack.{back_least}
+use Rattle.arc_table.proofs.DrawnPaths.{tail_at}
 use Rattle.arc_laws.proofs.Nodes.{if_passed, node_if}
 use Rattle.arc_laws.proofs.Runs.{begun_is, first_alike, first_apart, run_is}
-use Rattle.arc_laws.proofs.Ways.{W_high, W_long, W_low, apart_round, apart_steps, is_whole, moves, on, open_run, round_run, start_at, tail_at, tail_long}
+use Rattle.arc_laws.proofs.Ways.{W_high, W_long, W_low, apart_round, apart_steps, is_whole, moves, on, open_run, round_run, start_at, tail_long}
 
 -- ---- parts of paths
 

@@ -20,6 +20,7 @@ use Rattle.arc_table.proofs.ArcSteps.{IsStepOf, moving, on_link_of, one_place_of
 use Rattle.arc_table.proofs.Proper.{link_is, link_turned}
 use Rattle.arc_table.proofs.Runs.{too_many}
 use Rattle.arc_table.proofs.Walks.{all_whole, ends_at_start, ends_at_stop, pick}
+use Rattle.arc_table.proofs.DrawnPaths.{tail_at}
 use Rattle.arc_laws.proofs.Nodes.{across_start, across_stop, if_passed, joined_two, node_if, other_next}
 use Rattle.arc_laws.proofs.Runs.{IsRun}
 
@@ -42,10 +43,6 @@ across_on t moves = elim (link_is t) [
 pub tail_long : (path : Path) (n : ℕ) → suc n ≡ length path → length (tail path) ≡ n
 tail_long [] n e = absurd (omega arith)
 tail_long (p ∷ path) n e = omega arith
-
-pub tail_at : (path : Path) (k : ℕ) → point_at (tail path) k ≡ point_at path (suc k)
-tail_at [] k = refl
-tail_at (p ∷ path) k = refl
 
 abbrev o : GridPoint
 o = record { x = pos 0; y = pos 0 }

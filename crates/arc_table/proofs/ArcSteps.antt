@@ -48,7 +48,7 @@ pub record IsStep (arcs : List Path) (n j : ℕ) (s : Segment) : Type 0 where
 listed : (arcs : List Path) (n j : ℕ) (s : Segment) → IsStep arcs n j s → (j < length (steps (arc_of arcs n))) × (get_or (steps (arc_of arcs n)) j s ≡ s)
 listed arcs n j s h = (steps_many (arc_of arcs n) j h.there, step_between (arc_of arcs n) j s h.there ∙ sym h.is)
 
-placed : (arcs : List Path) (n j : ℕ) (s : Segment) → n < length arcs → j < length (steps (arc_of arcs n)) → get_or (steps (arc_of arcs n)) j s ≡ s → IsStep arcs n j s
+pub placed : (arcs : List Path) (n j : ℕ) (s : Segment) → n < length arcs → j < length (steps (arc_of arcs n)) → get_or (steps (arc_of arcs n)) j s ≡ s → IsStep arcs n j s
 placed arcs n j s l m is = record { arc = l; there = steps_fit (arc_of arcs n) j m; is = sym is ∙ step_between (arc_of arcs n) j s (steps_fit (arc_of arcs n) j m) }
 
 -- how many steps the first n arcs have

@@ -23,6 +23,11 @@ use Rattle.arc_table.specs.WholeArcs.{IsPassed, IsNode}
 use Rattle.arc_table.proofs.ArcSteps.{step_between, steps_many, moving}
 use Rattle.arc_table.proofs.FoundArcs.{path_step, BeginsArc, IsFound, found_at_first, found_inside, found_begun, found_none, passed_before, node_or_round, some_begins, comes_round}
 
+-- a path without its first vertex
+pub tail_at : (path : Path) (k : ℕ) → point_at (tail path) k ≡ point_at path (suc k)
+tail_at [] k = refl
+tail_at (p ∷ path) k = refl
+
 -- ---- the steps of a drawing's paths go along its links
 
 step_in : (d : Drawing) (path : Path) → Contains (paths_of d) path → (k : ℕ) → suc k < length path → Contains (links_of d) (link_between (path_step path k))
@@ -110,10 +115,6 @@ module _ (d : Drawing) (arcs : List Path) (table : AreArcsOf d arcs) where
     tail-length [] = omega arith
     tail-length (x ∷ xs) = omega arith
 
-    tail-at : (xs : Path) (k : ℕ) → point_at (tail xs) k ≡ point_at xs (suc k)
-    tail-at [] k = refl
-    tail-at (x ∷ xs) k = refl
-
     twice : suc (n + n) ≡ length Q
     twice = let e = length-append ring (tail ring) in let f = tail-length ring in omega arith
 
@@ -123,7 +124,7 @@ module _ (d : Drawing) (arcs : List Path) (table : AreArcsOf d arcs) where
     upper : (k : ℕ) → k ≤ n → point_at Q (n + k) ≡ point_at ring k
     upper zero l = ap (point_at Q) (let e : n + 0 ≡ n = omega arith in e) ∙ lower n (omega arith) ∙ closed
     upper (suc k) l =
-        get_or-append_right ring (tail ring) (suc n) (n + suc k) _ (sym size) (omega arith) ∙ ap (point_at (tail ring)) (let e : n + suc k - suc n ≡ k = omega arith in e) ∙ tail-at ring k
+        get_or-append_right ring (tail ring) (suc n) (n + suc k) _ (sym size) (omega arith) ∙ ap (point_at (tail ring)) (let e : n + suc k - suc n ≡ k = omega arith in e) ∙ tail_at ring k
 
     round : (k : ℕ) → k ≤ n → point_at Q (n + k) ≡ point_at Q k
     round k l = upper k l ∙ sym (lower k l)
@@ -253,7 +254,7 @@ pub closed_at : (path : Path) (n : ℕ) → suc n ≡ length path → IsClosed p
 closed_at [] n size h = absurd (omega arith)
 closed_at (p ∷ rest) n size h = ap (point_at (p ∷ rest)) (let e : n ≡ length rest = omega arith in e) ∙ sym (last_at p rest) ∙ h
 
-points_counted : (arcs : List Path) (a : SignedArc) → length (points_of arcs a) ≡ length (get_or arcs a.arc [])
+pub points_counted : (arcs : List Path) (a : SignedArc) → length (points_of arcs a) ≡ length (get_or arcs a.arc [])
 points_counted arcs a = go a.is_reversed
   where
     go : (b : Bool) → length (points_of arcs (record { arc = a.arc; is_reversed = b })) ≡ length (get_or arcs a.arc [])

@@ -66,7 +66,7 @@ module _ (arcs : List Path) where
       ∙ ap (λ (ps : Path). ps ++ points_of arcs z) (sym (without_last-append A B (joined_some b rest later)))
 
 -- the steps of a path that ends where another begins, and of that one
-steps_over : (J P : Path) (t : ℕ) → suc t ≡ length J → 0 < length P → point_at J t ≡ point_at P 0 → steps (without_last J ++ P) ≡ steps J ++ steps P
+pub steps_over : (J P : Path) (t : ℕ) → suc t ≡ length J → 0 < length P → point_at J t ≡ point_at P 0 → steps (without_last J ++ P) ≡ steps J ++ steps P
 steps_over [] P t size some e = absurd (omega arith)
 steps_over (x ∷ []) P t size some e = refl
 steps_over (x ∷ y ∷ []) [] t size some e = absurd (omega arith)

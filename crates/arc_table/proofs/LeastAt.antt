@@ -12,6 +12,7 @@ use Rattle.std.proofs.lemmas.List.{get_or_default, get_or-drop, get_or-take, len
 use Rattle.std.proofs.lemmas.List.Elements.{All-contains, Contains-append_left, Contains-append_right, Contains-append_cases}
 use Rattle.std.proofs.lemmas.List.MinMax.{ranks_by}
 use Rattle.std.proofs.lemmas.List.Sorted.{sorted_far, Contains-permutation, IsPermutation-sym}
+use Rattle.std.proofs.lemmas.Map.Keys.{ge_from_not_lt}
 use Rattle.lists.proofs.Members.{Contains-cases, Contains-head, Contains-map, Contains-nil, map-Contains}
 use Rattle.plane_model.specs.Points.{GridPoint, Path, Segment, same_point}
 use Rattle.plane_model.proofs.PointOrder.{clash, same_point_from, same_point_to}
@@ -31,12 +32,6 @@ vertex_cmp-total = then_total (on_total (λ (v : ArcVertex). v.at) point_cmp-tot
 vertex_order : IsStrictWeakOrder (λ (v : ArcVertex) (w : ArcVertex). is_lt (vertex_cmp v w))
 vertex_order = ranks_by vertex_cmp-total (λ (v : ArcVertex). v)
 
-not_less : (m n : ℕ) → is_lt (nat_cmp m n) ≡ false → n ≤ m
-not_less m n e = elim (cases_lt m n) [
-  | inl l ↦ clash (is_lt (nat_cmp m n)) (ap is_lt (sym (nat_cmp_is m n Less l))) e
-  | inr l ↦ l
-]
-
 not_below_zero : (n : ℕ) → is_lt (nat_cmp n 0) ≡ false
 not_below_zero zero = ap is_lt (sym (nat_cmp_is zero 0 Equal refl))
 not_below_zero (suc n) = ap is_lt (sym (nat_cmp_is (suc n) 0 Greater (omega arith)))
@@ -45,7 +40,7 @@ not_below_zero (suc n) = ap is_lt (sym (nat_cmp_is (suc n) 0 Greater (omega arit
 arc_counts : (p q : GridPoint) (m n : ℕ) → p ≡ q → is_lt (ordering_then (point_cmp p q) (nat_cmp m n)) ≡ false → n ≤ m
 arc_counts p q m n e f =
     let tie : point_cmp p q ≡ Equal = ap (point_cmp p) (sym e) ∙ tied_itself point_cmp-total p in
-    not_less m n ((λ i. is_lt (ordering_then (sym tie i) (nat_cmp m n))) ∙ f)
+    ge_from_not_lt m n ((λ i. is_lt (ordering_then (sym tie i) (nat_cmp m n))) ∙ f)
 
 module _ (vertices : List ArcVertex) (up : IsSorted vertex_cmp vertices) where
   far : (i j : ℕ) (d : ArcVertex) → i ≤ j → j < length vertices → is_lt (vertex_cmp (get_or vertices j d) (get_or vertices i d)) ≡ false

@@ -117,9 +117,6 @@ module _ (net : Net) (proper : AreProper net.steps.items) where
         one : (k : ℕ) → suc k ≡ k + 1
         one k = omega arith
 
-  pub adds_none : (marks : List Bool) (start : ℕ) → AddsMarks net marks marks 0 start
-  adds_none marks start L m once = (subst (AreMarked net marks) (sym (append-nil L)) m, subst (AllPairs (λ (k l : Segment). k ≢ l)) (sym (append-nil L)) once)
-
 -- ---- arcs with numbers
 
 module _ (net : Net) where

@@ -11,7 +11,7 @@ use Rattle.plane_model.specs.Joined.{IsClosed}
 use Rattle.arc_table.specs.Direction.{point_at}
 use Rattle.arc_table.specs.PathArcs.{AreArcsAlong, AreArcsOf, BeginsAtLeast, RunsFrom, round_from}
 use Rattle.arc_table.specs.WholeArcs.{IsPassed, StartsAtLeast}
-use Rattle.arc_table.proofs.DrawnPaths.{closed_at}
+use Rattle.arc_table.proofs.DrawnPaths.{closed_at, tail_at}
 use Rattle.arc_table.proofs.Everywhere.{All-joined}
 use Rattle.arc_table.proofs.WholeBack.{back_least}
 
@@ -42,11 +42,6 @@ module _ (arcs : List Path) where
       but_last (x ∷ y ∷ xs) h = All-cons P x (without_last (y ∷ xs)) (All-head P x (y ∷ xs) h) (but_last (y ∷ xs) (All-tail P x (y ∷ xs) h))
 
 -- ---- a closed path, gone round from one of its vertices
-
-tail_at : (ps : Path) (k : ℕ) → point_at (tail ps) k ≡ point_at ps (suc k)
-tail_at [] zero = refl
-tail_at [] (suc k) = refl
-tail_at (p ∷ ps) k = refl
 
 tail_size : (ps : Path) → 0 < length ps → suc (length (tail ps)) ≡ length ps
 tail_size [] l = absurd (omega arith)

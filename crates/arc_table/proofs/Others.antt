@@ -147,9 +147,6 @@ module _ (steps : List Segment) (turns : List GridPoint) where
   pub is_plain : (h k : ℕ) (p : GridPoint) → StartsAt steps h p → IsOther steps h k → (Contains turns p → ⊥) → LeadsOn steps turns h k
   is_plain h k p here o none = record { other = o; plain = λ c. none (subst (Contains turns) (same_start steps h o.start p o.here here) c) }
 
-  pub is_no_lead : (h : ℕ) (p : GridPoint) → StartsAt steps h p → Contains turns p → (k : ℕ) → LeadsOn steps turns h k → ⊥
-  is_no_lead h p here c k b = b.plain (subst (Contains turns) (same_start steps h p b.other.start here b.other.here) c)
-
   pub one_onward_more : (twins onward all : List ℕ) (n t : ℕ) → length onward ≡ n → all ≡ onward ++ t ∷ [] → AreOnward steps twins turns onward n
       → IsOnward steps turns n (get_or twins n 0) t → AreOnward steps twins turns all (n + 1)
   one_onward_more twins onward all n t l a before last h m = elim (cases_lt h n) [

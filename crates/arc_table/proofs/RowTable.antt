@@ -17,12 +17,12 @@ use Rattle.arc_table.specs.Rows.{IsRow, AreRows}
 use Rattle.arc_table.specs.declared.first_steps.FirstStep.{FirstStep}
 use Rattle.arc_table.proofs.AroundRows.{rows_are_around}
 use Rattle.arc_table.proofs.SignedArcs.{Contains-signed_below}
-use Rattle.arc_table.proofs.TurnOrder.{comes_first-IsStrictWeakOrder, not_first_from, not_before_chain}
+use Rattle.arc_table.proofs.TurnOrder.{comes_first-IsStrictWeakOrder, not_first_from, not_before_chain, not_back}
 
 -- ---- the order of points
 
 -- a point before another, which is not after a third
-before_later : (p q r : GridPoint) → is_before p q ≡ true → is_before r q ≡ false → is_before p r ≡ true
+pub before_later : (p q r : GridPoint) → is_before p q ≡ true → is_before r q ≡ false → is_before p r ≡ true
 before_later p q r e f = go (is_before p r) refl
   where
     go : (b : Bool) → is_before p r ≡ b → b ≡ true
@@ -46,9 +46,6 @@ before_other p q e f = go (is_before p q) refl
 
 never_before : (p q : GridPoint) → p ≡ q → is_before p q ≡ false
 never_before p q e = false_from_ne_true (is_before p q) (λ b. is_before-IsStrictOrder.irreflexive q (subst (λ (r : GridPoint). is_before r q ≡ true) e b))
-
-not_back : (p q : GridPoint) → is_before p q ≡ true → is_before q p ≡ false
-not_back p q e = false_from_ne_true (is_before q p) (λ b. is_before-IsStrictOrder.irreflexive p (is_before-IsStrictOrder.trans p q p e b))
 
 -- ---- rows of the places before i, where place i stands in a row that is not closed
 

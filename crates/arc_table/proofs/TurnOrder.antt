@@ -3,7 +3,7 @@ use Rattle.std.proofs.Common.{◌≡◌, ◌⊎◌, inl, inr, refl, sym, ap, ◌
 use Rattle.std.proofs.Math.IntN.{ℤ, pos, ◌+ℤ◌, ◌-ℤ◌, ◌*ℤ◌, *ℤ_comm}
 use Rattle.std.specs.Prelude.{◌≤ℤ◌, ◌<ℤ◌, int_lt, nat_lt, nat_eq, if◌then◌else◌}
 use Rattle.std.specs.Cmp.{IsStrictWeakOrder}
-use Rattle.std.proofs.lemmas.Bool.{and_from, ltb-true, ltb-false, le-ltb, eqb-true, eqb-false}
+use Rattle.std.proofs.lemmas.Bool.{and_from, ltb-true, ltb-false, le-ltb, eqb-true, eqb-false, false_from_ne_true}
 use Rattle.plane_algebra.proofs.Order.{order, order_cases}
 use Rattle.plane_algebra.proofs.Ring.{ring, ◌≐◌, ◌⊞◌, ◌⊟◌, ◌⊠◌, num}
 use Rattle.plane_algebra.proofs.Laws.{zero-mul_ℤ}
@@ -100,10 +100,6 @@ is_not_less a b h = go (int_lt a b) refl
     go : (t : Bool) → int_lt a b ≡ t → t ≡ false
     go true e = absurd (let g = lt_from a b e in omega order)
     go false e = refl
-
-not_both : (b : Bool) → (b ≡ true → ⊥) → b ≡ false
-not_both true f = absurd (f refl)
-not_both false f = refl
 
 down_from : (s : Segment) → goes_up s ≡ false → same_point s.start s.stop ≡ false → GoesUp (reversed s)
 down_from s e f =
@@ -228,11 +224,11 @@ not_first_to s t l f = go (same_point s.start t.start) refl
     go true g = (λ i. l i || (g i && f (same_point_from s.start t.start g) i))
     go false g = (λ i. l i || (g i && comes_round_first s t))
 
-no_return : (p q : GridPoint) → is_before p q ≡ true → is_before q p ≡ false
-no_return p q h = not_both (is_before q p) (λ k. is_before-IsStrictOrder.irreflexive p (is_before-IsStrictOrder.trans p q p h k))
+pub not_back : (p q : GridPoint) → is_before p q ≡ true → is_before q p ≡ false
+not_back p q h = false_from_ne_true (is_before q p) (λ k. is_before-IsStrictOrder.irreflexive p (is_before-IsStrictOrder.trans p q p h k))
 
 pub not_before_chain : (p q r : GridPoint) → is_before p q ≡ false → is_before q r ≡ false → is_before p r ≡ false
-not_before_chain p q r a b = not_both (is_before p r) (λ h. go (is_before q p) refl h)
+not_before_chain p q r a b = false_from_ne_true (is_before p r) (λ h. go (is_before q p) refl h)
   where
     go : (t : Bool) → is_before q p ≡ t → is_before p r ≡ true → ⊥
     go true e h = clash (is_before q r) (is_before-IsStrictOrder.trans q p r e h) b
@@ -240,8 +236,8 @@ not_before_chain p q r a b = not_both (is_before p r) (λ h. go (is_before q p) 
 
 first_once : (s t : Segment) → comes_first s t ≡ true → comes_first t s ≡ false
 first_once s t e = elim (first_from s t e) [
-  | inl h ↦ not_first_to t s (no_return s.start t.start h) (λ f. absurd (is_before-IsStrictOrder.irreflexive t.start (subst (λ (x : GridPoint). is_before x t.start ≡ true) (sym f) h)))
-  | inr r ↦ not_first_to t s (not_both (is_before t.start s.start) (λ h. is_before-IsStrictOrder.irreflexive t.start (subst (λ (x : GridPoint). is_before t.start x ≡ true) r.0 h))) (λ f. round_once s t r.1)
+  | inl h ↦ not_first_to t s (not_back s.start t.start h) (λ f. absurd (is_before-IsStrictOrder.irreflexive t.start (subst (λ (x : GridPoint). is_before x t.start ≡ true) (sym f) h)))
+  | inr r ↦ not_first_to t s (false_from_ne_true (is_before t.start s.start) (λ h. is_before-IsStrictOrder.irreflexive t.start (subst (λ (x : GridPoint). is_before t.start x ≡ true) r.0 h))) (λ f. round_once s t r.1)
 ]
 
 first_chain : (s t u : Segment) → comes_first s t ≡ false → comes_first t u ≡ false → comes_first s u ≡ false

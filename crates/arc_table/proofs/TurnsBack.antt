@@ -1,14 +1,9 @@
 -- Where a path turns back, one place more.
-use Rattle.std.proofs.Common.{◌≡◌, refl, sym, ap, ◌∙◌, arith, ℕ, zero, suc, ◌+◌, ◌-◌, ◌<◌, ◌≤◌, Bool, true, false, List, [], ◌∷◌, ◌++◌, take, length, get_or, append_assoc}
+use Rattle.std.proofs.Common.{◌≡◌, sym, ap, ◌∙◌, arith, ℕ, zero, suc, ◌+◌, ◌-◌, ◌<◌, ◌≤◌, Bool, true, false, List, [], ◌∷◌, ◌++◌, take, length, get_or, append_assoc}
 use Rattle.std.specs.Prelude.{if◌then◌else◌}
 use Rattle.std.proofs.lemmas.List.{append-nil, get_or_read}
 use Rattle.plane_model.specs.Points.{GridPoint, Path, same_point}
 use Rattle.arc_table.specs.Nodes.{turns_back}
-
-pub none_at_first : (path : Path) → turns_back (take 2 path) ≡ []
-none_at_first [] = refl
-none_at_first (p ∷ []) = refl
-none_at_first (p ∷ q ∷ rest) = refl
 
 one_more : (path : Path) (k : ℕ) (d : GridPoint) → suc (suc k) < length path
     → turns_back (take (suc (suc (suc k))) path) ≡ turns_back (take (suc (suc k)) path) ++ (if same_point (get_or path k d) (get_or path (suc (suc k)) d) then get_or path (suc k) d ∷ [] else [])

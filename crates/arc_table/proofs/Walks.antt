@@ -1,8 +1,7 @@
 -- A path of a drawing goes along whole arcs: where it steps along an arc, it goes on along it to its end.
-use Rattle.std.proofs.Common.{◌≡◌, ◌⊎◌, inl, inr, refl, sym, ap, ◌∙◌, subst, arith, ℕ, zero, suc, ◌+◌, ◌-◌, ◌<◌, ◌≤◌, Bool, true, false, List, [], reverse, length, All, Contains}
+use Rattle.std.proofs.Common.{◌≡◌, ◌⊎◌, inl, inr, refl, sym, ap, ◌∙◌, subst, arith, ℕ, zero, suc, ◌+◌, ◌-◌, ◌<◌, ◌≤◌, Bool, true, false, List, [], length, All, Contains}
 use Rattle.std.specs.Prelude.{◌≢◌}
 use Rattle.std.proofs.lemmas.Bool.{cases_lt}
-use Rattle.std.proofs.lemmas.List.{length-reverse}
 use Rattle.plane_model.specs.Points.{GridPoint, Segment, Path, link_between}
 use Rattle.plane_model.specs.Drawing.{Drawing}
 use Rattle.plane_model.specs.Arcs.{SignedArc, points_of}
@@ -53,17 +52,6 @@ module _ (d : Drawing) (arcs : List Path) (ordered : All (λ (l : Segment). IsBe
       go : (b : Bool) → IsWholeArc d (points_of arcs (record { arc = a.arc; is_reversed = b }))
       go false = whole a.arc [] l
       go true = back_whole d (arc_of arcs a.arc) (long a.arc [] l) (whole a.arc [] l)
-
-  pub all_long : (a : SignedArc) → a.arc < length arcs → 1 < length (points_of arcs a)
-  all_long a l = go a.is_reversed
-    where
-      go : (b : Bool) → 1 < length (points_of arcs (record { arc = a.arc; is_reversed = b }))
-      go false = long a.arc [] l
-      go true =
-          let size = length-reverse (arc_of arcs a.arc) in
-          let m : 1 < length (arc_of arcs a.arc) = long a.arc [] l in
-          let turned : 1 < length (reverse (arc_of arcs a.arc)) = omega arith in
-          turned
 
   -- on from a step to a vertex that is no node, and not back, there is one step
   next_step : (v : GridPoint) → IsPassed d v → (s t r : Segment) → s.stop ≡ v → t.start ≡ v → r.start ≡ v → Contains S (link_between s) → Contains S (link_between t) → Contains S (link_between r)

@@ -3,6 +3,7 @@ use Rattle.std.proofs.Common.{◌≡◌, ◌⊎◌, inl, inr, refl, sym, ap, ◌
 use Rattle.std.specs.List.{slice_get}
 use Rattle.std.proofs.lemmas.Bool.{cases_lt}
 use Rattle.std.proofs.lemmas.List.{append-nil, get_or_append_left, get_or-append_right, get_or-append-add, map-append}
+use Rattle.std.proofs.lemmas.Option.{slice_get-get_or}
 use Rattle.plane_model.specs.Points.{GridPoint}
 use Rattle.grid_base.specs.Grid.{Corners}
 use Rattle.bucket_grid.specs.declared.tree.Slabs.{Slabs}
@@ -27,11 +28,6 @@ slice_get-append_end (y ∷ xs) x = slice_get-append_end xs x
 pub slice_get-append_right : {A : Type 0} (xs ys : List A) (i : ℕ) → slice_get (xs ++ ys) (length xs + i) ≡ slice_get ys i
 slice_get-append_right [] ys i = ap (slice_get ys) (let e : 0 + i ≡ i = omega arith in e)
 slice_get-append_right (x ∷ xs) ys i = ap (slice_get (x ∷ (xs ++ ys))) (let e : suc (length xs) + i ≡ suc (length xs + i) = omega arith in e) ∙ slice_get-append_right xs ys i
-
-pub slice_get-within : {A : Type 0} (xs : List A) (i : ℕ) (d : A) → i < length xs → slice_get xs i ≡ Some (get_or xs i d)
-slice_get-within [] i d l = absurd (omega arith)
-slice_get-within (x ∷ xs) zero d l = refl
-slice_get-within (x ∷ xs) (suc i) d l = slice_get-within xs i d (omega arith)
 
 -- ---- more nodes lead where the first ones did
 
@@ -195,7 +191,7 @@ split_grown steps boxes rect s n₀ n₁ n₂ a₀ a₁ b₀ b₁ tops children 
     way : (g : GridPoint) (k : ℕ) → place_under steps n₁ (top_of s tops g) g ≡ Some k → place_under (suc steps) n₂ (Split s children) g ≡ Some k
     way g k e =
         let i = s.last - slab_at s (along s.axis g) in
-        let f : slice_get (n₁ ++ tops) (length n₁ + i) ≡ Some (top_of s tops g) = slice_get-append_right n₁ tops i ∙ slice_get-within tops i (Leaf 0) (omega arith) in
+        let f : slice_get (n₁ ++ tops) (length n₁ + i) ≡ Some (top_of s tops g) = slice_get-append_right n₁ tops i ∙ slice_get-get_or tops i (Leaf 0) (omega arith) in
         let m : slice_get n₂ (children + i) ≡ Some (top_of s tops g) = ap (λ (x : List Node). slice_get x (children + i)) n ∙ ap (λ (j : ℕ). slice_get (n₁ ++ tops) (j + i)) c ∙ f in
         ap (λ (o : Option Node). place_by (λ j. place_from steps n₂ j g) o g) m
         ∙ subst (λ (x : List Node). place_under steps x (top_of s tops g) g ≡ Some k) (sym n) (place_under-more steps n₁ tops (top_of s tops g) g k e)

@@ -1,4 +1,5 @@
 pub mod Numbers
+pub mod RisingNumbers
 pub mod SharedPoints
 pub mod SlabLemmas
 pub mod MadeRects

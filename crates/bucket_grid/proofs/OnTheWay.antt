@@ -39,9 +39,6 @@ module _ (nodes : List Node) (rects : List Corners) (g : GridPoint) where
   pub on_way_within : (node step : ℕ) → IsOnWay nodes rects g node step → node < length nodes
   on_way_within node step w = let h = here node step w in slice_get_within nodes node h.found h.is
 
-  pub on_way_ends : (node : ℕ) → IsOnWay nodes rects g node 43 → ⊥
-  on_way_ends node w = let h = here node 43 w in let e = h.counted in omega arith
-
   module _ (node step : ℕ) (w : IsOnWay nodes rects g node step) (n : Node) (n_is : n ≡ get_or nodes node n) where
     found_is : (here node step w).found ≡ n
     found_is = let h = here node step w in sym (get_or_from_slice_get nodes node h.found n h.is) ∙ sym n_is
@@ -85,10 +82,6 @@ grown_leads boxes rect nodes all rects near top root e l a r h = record {
         let m : slice_get all root ≡ Some top = ap (λ (x : List Node). slice_get x root) a ∙ ap (λ (j : ℕ). slice_get (nodes ++ top ∷ []) j) (let e : root ≡ length nodes + 0 = omega arith in e) ∙ n in
         ap (λ (o : Option Node). place_by (λ j. place_from 42 all j g) o g) m
         ∙ subst (λ (x : List Node). place_under 42 x top g ≡ Some k) (sym a) (place_under-more 42 nodes (top ∷ []) top g k f)
-
-pub grown_near : (boxes : List Corners) (rect : Corners) (nodes : List Node) (rects : List Corners) (near : List (List ℕ)) (top : Node) →
-    Grew 42 boxes (Holds rect) [] nodes [] rects [] near (λ g. top) → near ≡ map (boxes_near boxes) rects
-grown_near boxes rect nodes rects near top h = h.near_are ∙ ap (map (boxes_near boxes)) (sym h.rects_are)
 
 pub way_begins : (nodes : List Node) (rects : List Corners) (near : List (List ℕ)) (root : ℕ) (g : GridPoint) → LeadsEach nodes rects near root → IsOnGrid g → IsOnWay nodes rects g root 0
 way_begins nodes rects near root g h i = let w = h.leads g i in record { left = 43; place = w.0; counted = refl; leads = w.1; is_place = w.2 }

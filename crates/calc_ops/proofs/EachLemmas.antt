@@ -78,10 +78,6 @@ with_long row names name v e = go (list_any (bytes_eq name) names) refl
         ap (λ (b : Bool). length (cond b (slice_set row place v) (row ++ v ∷ []))) (there false h) ∙ length_push row v ∙ ap (λ (n : ℕ). n + 1) e ∙ sym (length_push names name)
         ∙ sym (ap (λ (b : Bool). length (cond b names (names ++ name ∷ []))) h)
 
-pub length_places : (names : List Text) (list : List Assigned) → length (places_after names list) ≡ length list
-length_places names [] = refl
-length_places names (a ∷ list) = ap suc (length_places (with_name names a.0) list)
-
 -- ---- one assignment further
 
 -- what is left of a row before assignment i, where these values stand
@@ -152,13 +148,6 @@ module _ (names : List Text) (items : List Assign) (n : ℕ) (row : RowValues) (
         names_left = sym (ap (names_after h.known) split) ∙ h.names_left;
         places_left = sym parts.1;
       })
-
--- after the last assignment
-pub all_set : (names : List Text) (items : List Assign) (n : ℕ) (row : RowValues) (final : List Text) (places : List ℕ) (i : ℕ) (values : RowValues) → SoFar names items n row final places i values → drop i items ≡ [] → (assigned_row names n (all_assigned items) row ≡ Ok values) × (length values ≡ length final)
-all_set names items n row final places i values h e = (
-  h.rest_is ∙ ap (λ (list : List Assign). assigned_row h.known n (all_assigned list) values) e,
-  h.width ∙ ap length (sym (ap (λ (list : List Assign). names_after h.known (all_assigned list)) e) ∙ h.names_left),
-)
 
 -- ---- one row further
 

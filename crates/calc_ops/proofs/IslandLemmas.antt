@@ -1,5 +1,5 @@
 -- Boundaries and lists of sets, one more at a time.
-use Rattle.std.proofs.Common.{◌≡◌, refl, sym, ap, ◌∙◌, subst, arith, ℕ, ◌+◌, ◌<◌, Bool, true, false, cond, not, ◌&&◌, List, [], ◌∷◌, ◌++◌, length, get_or, take, filter, All, append-nil, append_assoc}
+use Rattle.std.proofs.Common.{◌≡◌, refl, sym, ap, ◌∙◌, subst, ℕ, ◌+◌, ◌<◌, Bool, true, false, cond, not, List, [], ◌∷◌, ◌++◌, length, get_or, take, filter, All, append-nil, append_assoc}
 use Rattle.std.proofs.lemmas.List.{get_or_default, length_push}
 use Rattle.std.proofs.lemmas.List.Elements.{All-append, All-push, filter_more}
 use Rattle.lists.specs.Lists.{joined_up}
@@ -35,9 +35,6 @@ module _ (arcs : List Path) (faces : FaceTable) (sets : List (List ℕ)) (least_
 
 -- ---- what is left of sets
 
-pub left_none : (arcs : List Path) (faces : FaceTable) (sets : List (List ℕ)) (least_area least_links : ℕ) → AreWithoutIslands arcs faces sets least_area least_links 0 []
-left_none arcs faces sets least_area least_links = record { each = refl; exact = λ n l. absurd (omega (arith, l)) }
-
 pub left_more : (arcs : List Path) (faces : FaceTable) (sets : List (List ℕ)) (least_area least_links many : ℕ) (left : List (List ℕ)) (set : List ℕ) →
     AreWithoutIslands arcs faces sets least_area least_links many left → IsWithoutIslands arcs faces sets least_area least_links many (set_at sets many) set →
     AreWithoutIslands arcs faces sets least_area least_links (many + 1) (left ++ set ∷ [])
@@ -62,9 +59,6 @@ All-if P xs x false all one = subst (All P) (sym (append-nil xs)) all
 pub All-unless : {A : Type 0} (P : A → Type 0) (xs ys : List A) (b : Bool) → All P xs → All P ys → All P (xs ++ cond b [] ys)
 All-unless P xs ys true all more = subst (All P) (sym (append-nil xs)) all
 All-unless P xs ys false all more = All-append P xs ys all more
-
-pub both_true : (b c : Bool) → b ≡ true → c ≡ true → (b && c) ≡ true
-both_true b c e f = ap (λ (a : Bool). a && c) e ∙ f
 
 -- a read of a list, whatever stands for what is past it
 pub read_is : {A : Type 0} (xs : List A) (i : ℕ) (a d : A) → i < length xs → a ≡ get_or xs i a → a ≡ get_or xs i d

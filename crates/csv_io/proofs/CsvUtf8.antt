@@ -321,9 +321,6 @@ first_of_four b low high l g low_at low_else high_at high_else = (λ more. (fort
 
 -- ## What follows later bytes
 
-pub follow_none : (bytes : List ℕ) → Follow 0 bytes ↔ Completes First bytes
-follow_none bytes = (λ h. h, λ h. h)
-
 pub follow_next : (m : ℕ) (bytes : List ℕ) → Follow (suc m) bytes ↔ Completes (Next 128 192 m) bytes
 follow_next m [] = (λ h. h, λ h. h)
 follow_next m (b ∷ bytes) = (λ h. h, λ h. h)
@@ -331,16 +328,7 @@ follow_next m (b ∷ bytes) = (λ h. h, λ h. h)
 pub follow_less : (n m : ℕ) → n ≡ suc m → (bytes : List ℕ) → Follow n bytes ↔ Completes (Next 128 192 m) bytes
 follow_less n m e bytes = subst (λ (k : ℕ). Follow k bytes ↔ Completes (Next 128 192 m) bytes) (sym e) (follow_next m bytes)
 
-pub next_continues : (low high n b : ℕ) (next : Expected) → low ≤ b → b < high → ((bytes : List ℕ) → Follow n bytes ↔ Completes next bytes) → CanEnd next → Continues (Next low high n) b next
-next_continues low high n b next l g same ends = (λ more. (λ h. (same more).0 h.2, λ h. (l, g, (same more).1 h)), ends)
-
-pub next_stops : (low high n b : ℕ) → (low ≤ b → b < high → ⊥) → Stops (Next low high n) b
-next_stops low high n b out more h = out h.0 h.1
-
 -- ## A text up to some place
-
-pub expects_first : Expects [] First
-expects_first = (λ more. (λ h. h, λ h. h), ([], IsUtf8-nil))
 
 one_more : (bytes : List ℕ) (i b : ℕ) → i < length bytes → b ≡ get_or bytes i 0 → (more : List ℕ) → take (i + 1) bytes ++ more ≡ take i bytes ++ (b ∷ more)
 one_more bytes i b less is more =

@@ -2,12 +2,11 @@
 use Rattle.std.specs.Prelude.{encode_utf8}
 use Rattle.std.proofs.Common.{ℕ, suc, ◌≡◌, ◌<◌, ◌≤◌, Bool, true, false, [], ◌∷◌, ◌++◌, length, get_or, Option, Some, None, inl, inr, cond, refl, ap, ◌∙◌, sym, subst, arith, ◌==◌, append_assoc, length-append, append-nil}
 use Rattle.std.proofs.lemmas.Str.{encode_ascii, length-encode, len_utf8_bounds, inside_one, char_from_byte}
-use Rattle.std.proofs.lemmas.Bool.{ne_eqb, eq-eqb, eqb-true, or_cases, cases_lt}
+use Rattle.std.proofs.lemmas.Bool.{ne_eqb, eqb-true, or_cases, cases_lt}
 use Rattle.std.proofs.lemmas.Bool.Decides.{nat_tests}
-use Rattle.expr_lang.specs.declared.token.Token.TheVariants as token
 use Rattle.expr_lang.specs.Tokens.{Text}
-use Rattle.expr_lang.specs.Reading.{known_content, EndsLine}
-use Rattle.expr_lang.specs.Tokens.{Lexed, is_quote, escape_of, with_byte, content_token, text_at, escape_at}
+use Rattle.expr_lang.specs.Reading.{known_content}
+use Rattle.expr_lang.specs.Tokens.{Lexed, is_quote, escape_of, with_byte, text_at, escape_at}
 
 -- a byte that stands for itself in a text after the quote q
 record Plain (q b : ℕ) : Type 0 where
@@ -17,9 +16,6 @@ record Plain (q b : ℕ) : Type 0 where
 
 cond_false : {A : Type 0} (t : Bool) (x y : A) → t ≡ false → cond t x y ≡ y
 cond_false t x y e = rw e
-
-cond_true : {A : Type 0} (t : Bool) (x y : A) → t ≡ true → cond t x y ≡ x
-cond_true t x y e = rw e
 
 plain_step : (q : ℕ) (content : Option Text) (b : ℕ) (rest : Text) → Plain q b → text_at q content (b ∷ rest) ≡ text_at q (with_byte content b) rest
 plain_step q content b rest h =
@@ -50,9 +46,6 @@ with_known false s (b ∷ bs) = with_known false (s ++ b ∷ []) bs ∙ ap Some 
 
 quote_ascii : (q : ℕ) → is_quote q ≡ true → q < 128
 quote_ascii q h = elim (or_cases (q == 34) (q == 39) h) as (λ _. q < 128) [ inl e ↦ (let x : q ≡ 34 = eqb-true q 34 e in omega arith) | inr e ↦ (let x : q ≡ 39 = eqb-true q 39 e in omega arith) ]
-
-quote_no_end : (q : ℕ) → is_quote q ≡ true → q ≡ 10 → ⊥
-quote_no_end q h g = elim (or_cases (q == 34) (q == 39) h) as (λ _. ⊥) [ inl e ↦ (let x : q ≡ 34 = eqb-true q 34 e in omega arith) | inr e ↦ (let x : q ≡ 39 = eqb-true q 39 e in omega arith) ]
 
 quote_no_escape : (q : ℕ) → is_quote q ≡ true → q ≡ 92 → ⊥
 quote_no_escape q h g = elim (or_cases (q == 34) (q == 39) h) as (λ _. ⊥) [ inl e ↦ (let x : q ≡ 34 = eqb-true q 34 e in omega arith) | inr e ↦ (let x : q ≡ 39 = eqb-true q 39 e in omega arith) ]
@@ -152,20 +145,3 @@ over_unknown q c other s old mid new i l h e g =
     ∙ ap (λ (z : Option Text). text_at q z new) (with_none bs))
 
 -- ---- ends
-
-pub at_quote : (q : ℕ) (content : Option Text) (old new : Text) → is_quote q ≡ true → old ≡ encode_utf8 q ++ new → text_at q content old ≡ (content_token content, new)
-at_quote q content old new i e =
-    ap (text_at q content) (e ∙ ap (λ (z : Text). z ++ new) (encode_ascii q (quote_ascii q i)))
-    ∙ cond_true (q == q) _ _ (eq-eqb q q refl)
-
-pub text_ends : (q : ℕ) (content : Option Text) (s : Text) → is_quote q ≡ true → EndsLine s → text_at q content s ≡ (token.Stray, [])
-text_ends q content [] i h = refl
-text_ends q content (b ∷ bs) i h =
-    cond_false (b == q) _ _ (ne_eqb b q (λ e. quote_no_end q i (sym e ∙ h))) ∙ cond_true (b == 10) _ _ (eq-eqb b 10 h)
-
-escape_ends : (q : ℕ) (content : Option Text) (s : Text) → EndsLine s → escape_at q content s ≡ (token.Stray, [])
-escape_ends q content [] h = refl
-escape_ends q content (b ∷ bs) h = cond_true (b == 10) _ _ (eq-eqb b 10 h)
-
-pub escaped_ends : (q : ℕ) (content : Option Text) (old mid : Text) → is_quote q ≡ true → old ≡ encode_utf8 92 ++ mid → EndsLine mid → text_at q content old ≡ (token.Stray, [])
-escaped_ends q content old mid i e h = to_escape q content old mid i e ∙ escape_ends q content mid h

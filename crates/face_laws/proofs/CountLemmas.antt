@@ -65,7 +65,7 @@ module _ (S : List Segment) (arr : IsArrangement S) where
   seen_side false l c = let (z, sees) = seen_from_right S arr l c in (z, sees, off_from_right S l z sees.1 sees.0)
 
   -- a point left of all links is on none
-  off_far_left : (x : ℤ) → ((l : Segment) → Contains S l → x <ℤ l.start.x) → IsOffLinks S (at (record { x = x; y = pos 0 }))
+  pub off_far_left : (x : ℤ) → ((l : Segment) → Contains S l → x <ℤ l.start.x) → IsOffLinks S (at (record { x = x; y = pos 0 }))
   off_far_left x left l c on = clash l.start.x l.stop.x (left l c) (All-contains (λ (k : Segment). IsBefore k.start k.stop) S l arr.ordered c) on.between_x
     where
       clash : (a b : ℤ) → x <ℤ a → (a <ℤ b) ⊎ ((a ≡ b) × (l.start.y <ℤ l.stop.y))
@@ -77,7 +77,7 @@ module _ (S : List Segment) (arr : IsArrangement S) where
           let e = o.0 in omega (arith, ints)
 
 -- a number below the abscissas of all links
-less_than_all : (S : List Segment) → (x : ℤ) × ((l : Segment) → Contains S l → x <ℤ l.start.x)
+pub less_than_all : (S : List Segment) → (x : ℤ) × ((l : Segment) → Contains S l → x <ℤ l.start.x)
 less_than_all [] = (pos 0, λ l c. Contains-nil l c)
 less_than_all (k ∷ S) = let (x, h) = less_than_all S in go x h (int_lt x k.start.x) refl
   where

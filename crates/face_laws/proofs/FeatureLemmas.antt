@@ -19,7 +19,7 @@ use Rattle.face_laws.proofs.HoldingLemmas.{items_of_a_drawing}
 
 -- ---- some element passes
 
-any_there : {X : Type 0} (t : X → Bool) (xs : List X) → list_any t xs ≡ true → (x : X) × Contains xs x × (t x ≡ true)
+pub any_there : {X : Type 0} (t : X → Bool) (xs : List X) → list_any t xs ≡ true → (x : X) × Contains xs x × (t x ≡ true)
 any_there t [] e = absurd (let f : false ≡ true = e in cc)
 any_there {X} t (x ∷ xs) e = go (t x) refl e (any_there t xs)
   where

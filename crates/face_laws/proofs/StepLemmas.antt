@@ -1,8 +1,8 @@
 -- The steps of arcs, and the links and darts of a drawing along them.
-use Rattle.std.proofs.Common.{◌≡◌, ◌⊎◌, inl, inr, refl, sym, ap, ◌∙◌, subst, arith, ℕ, zero, suc, ◌+◌, ◌-◌, ◌<◌, Bool, true, false, cond, List, [], ◌∷◌, ◌++◌, map, length, get_or, All, AllPairs, Contains, pos}
+use Rattle.std.proofs.Common.{◌≡◌, ◌⊎◌, inl, inr, refl, sym, ap, ◌∙◌, subst, arith, ℕ, zero, suc, ◌+◌, ◌-◌, ◌<◌, Bool, true, false, cond, List, [], ◌∷◌, length, get_or, All, AllPairs, Contains, pos}
 use Rattle.std.specs.Prelude.{◌≢◌}
 use Rattle.std.proofs.lemmas.Bool.{cases_lt}
-use Rattle.std.proofs.lemmas.List.{get_or_default, get_or-map, length-map, get_or_append_left, get_or-append-add, length-append}
+use Rattle.std.proofs.lemmas.List.{get_or_default}
 use Rattle.std.proofs.lemmas.List.Elements.{All-contains}
 use Rattle.lists.proofs.Members.{Contains-map, map-Contains, Contains-flat_map, flat_map-Contains}
 use Rattle.plane_model.specs.Points.{GridPoint, Segment, Path, is_before, link_between, reversed}
@@ -14,6 +14,7 @@ use Rattle.plane_faces.specs.Around.{opposite}
 use Rattle.plane_faces.specs.Rings.{dart_of_step}
 use Rattle.arc_table.specs.Along.{GoAlong, links_of_arcs}
 use Rattle.arc_table.specs.Around.{first_step, start_of}
+use Rattle.arc_table.proofs.ArcSteps.{placed, one_place as one_link_once}
 use Rattle.face_laws.specs.Faces.{AreFreeInside}
 use Rattle.face_laws.proofs.DartLemmas.{Moves, one_of_two, dart_back, ends_differ}
 
@@ -127,49 +128,8 @@ module _ (arcs : List Path) where
 
 -- ---- each link stands at one place
 
--- how many steps the first n arcs have
-abbrev offset : List Path → ℕ → ℕ
-offset [] n = 0
-offset (arc ∷ arcs) zero = 0
-offset (arc ∷ arcs) (suc n) = length (steps arc) + offset arcs n
-
-offset_step : (arcs : List Path) (n j : ℕ) (s : Segment) → IsStep arcs n j s → (offset arcs n + j < length (steps_of_paths arcs)) × (get_or (steps_of_paths arcs) (offset arcs n + j) s ≡ s)
-offset_step [] n j s h = let l = h.arc in absurd (omega arith)
-offset_step (arc ∷ arcs) zero j s h =
-    let m = length-append (steps arc) (steps_of_paths arcs) in
-    let l = h.there in
-    (omega arith, ap (λ (k : ℕ). get_or (steps arc ++ steps_of_paths arcs) k s) (let e : 0 + j ≡ j = omega arith in e) ∙ get_or_append_left (steps arc) (steps_of_paths arcs) s j h.there ∙ h.is)
-offset_step (arc ∷ arcs) (suc n) j s h =
-    let l = h.arc in
-    let (below, is) = offset_step arcs n j s (record { arc = omega arith; there = h.there; is = h.is }) in
-    let m = length-append (steps arc) (steps_of_paths arcs) in
-    let e : length (steps arc) + offset arcs n + j ≡ length (steps arc) + (offset arcs n + j) = omega arith in
-    (omega arith, ap (λ (k : ℕ). get_or (steps arc ++ steps_of_paths arcs) k s) e ∙ get_or-append-add (steps arc) (steps_of_paths arcs) (offset arcs n + j) s ∙ is)
-
-offset_once : (arcs : List Path) (m n i j : ℕ) → m < length arcs → n < length arcs → i < length (steps (arc_of arcs m)) → j < length (steps (arc_of arcs n)) → offset arcs m + i ≡ offset arcs n + j → (m ≡ n) × (i ≡ j)
-offset_once [] m n i j a b l k e = absurd (omega arith)
-offset_once (arc ∷ arcs) zero zero i j a b l k e = (refl, omega arith)
-offset_once (arc ∷ arcs) zero (suc n) i j a b l k e = absurd (omega arith)
-offset_once (arc ∷ arcs) (suc m) zero i j a b l k e = absurd (omega arith)
-offset_once (arc ∷ arcs) (suc m) (suc n) i j a b l k e = let (f, g) = offset_once arcs m n i j (omega arith) (omega arith) l k (omega arith) in (ap suc f, g)
-
 pub one_place : (arcs : List Path) → AllPairs (λ k l. k ≢ l) (links_of_arcs arcs) → (m n i j : ℕ) (s t : Segment) → IsStep arcs m i s → IsStep arcs n j t → link_between s ≡ link_between t → (m ≡ n) × (i ≡ j)
-one_place arcs once m n i j s t h k e =
-    let all : List Segment = steps_of_paths arcs in
-    let (lu, su) = offset_step arcs m i s h in
-    let (lv, sv) = offset_step arcs n j t k in
-    let many = length-map all link_between in
-    let u : ℕ = offset arcs m + i in
-    let v : ℕ = offset arcs n + j in
-    let at_u : (d : Segment) → get_or (map link_between all) u d ≡ link_between s = λ d. get_or-map link_between all u s d lu ∙ ap link_between su in
-    let at_v : (d : Segment) → get_or (map link_between all) v d ≡ link_between t = λ d. get_or-map link_between all v t d lv ∙ ap link_between sv in
-    elim (cases_lt u v) [
-      | inl l ↦ absurd (once u v s l (omega arith) (at_u s ∙ e ∙ sym (at_v s)))
-      | inr l ↦ elim (cases_lt v u) [
-        | inl g ↦ absurd (once v u s g (omega arith) (at_v s ∙ sym e ∙ sym (at_u s)))
-        | inr g ↦ offset_once arcs m n i j h.arc k.arc h.there k.there (omega arith)
-      ]
-    ]
+one_place arcs once m n i j s t h k e = one_link_once arcs once m n i j s t (placed arcs m i s h.arc h.there h.is) (placed arcs n j t k.arc k.there k.is) e
 
 -- ---- the first steps of signed arcs
 

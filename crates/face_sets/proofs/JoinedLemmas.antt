@@ -101,9 +101,6 @@ made_from classes a b = elim (cases_lt a b) [
 made_is : (classes : List ℕ) (m n : ℕ) → IsRenamed classes (made_one m n classes) (get_or classes m 0) (get_or classes n 0)
 made_is classes m n = made_from classes (get_or classes m 0) (get_or classes n 0)
 
-pub made_coarser : (classes : List ℕ) (m n : ℕ) → IsCoarser classes (made_one m n classes)
-made_coarser classes m n = (made_is classes m n).kept
-
 pub made_same : (classes : List ℕ) (m n : ℕ) → m < length classes → n < length classes → get_or (made_one m n classes) m 0 ≡ get_or (made_one m n classes) n 0
 made_same classes m n l k = (made_is classes m n).one m n l k refl refl
 
@@ -146,14 +143,6 @@ pub around_kept : (faces : FaceTable) (inside old new : List ℕ) (i : ℕ) → 
 around_kept faces inside old new i each l kept around a arc left = over_kept faces inside old new i a each l kept (around a arc left)
 
 -- ---- least numbers
-
-pub least_none : (classes numbers : List ℕ) → ((k : ℕ) → k < length numbers → get_or numbers k 0 ≡ 4294967295) → AreLeastNumbers classes [] numbers
-least_none classes numbers h = record {
-  few = λ k d l. absurd (omega arith);
-  least = λ k s l c. (let m = c.1 in absurd (omega arith));
-  used = λ k l. inl (h k l);
-  below = λ k l. (let e = h k l in omega arith);
-}
 
 pub least_more : (classes : List ℕ) (some : List Side) (numbers : List ℕ) (s : Side) (n v : ℕ) → AreLeastNumbers classes some numbers → get_or classes s.place 0 ≡ n → n < length numbers → s.arc.arc < 2 ^ 32 →
     v ≤ get_or numbers n 0 → v ≤ s.arc.arc → (v ≡ get_or numbers n 0) ⊎ (v ≡ s.arc.arc) → AreLeastNumbers classes (some ++ s ∷ []) (set numbers n v)

@@ -31,9 +31,6 @@ not_before faces j k d up within e =
     let here : get_or (take j faces) i d ≡ get_or faces i d = get_or-take j faces i d before in
     omega arith)))
 
-pub numbered_none : (n : ℕ) (lists : List (List ℕ)) → IsNumbered n [] lists lists
-numbered_none n lists = record { each = refl; exact = λ k l. sym (append-nil (get_or lists k [])) }
-
 pub numbered_more : (n j f d : ℕ) (faces : List ℕ) (old lists : List (List ℕ)) → IsStrictlyIncreasing faces → j < length faces → f ≡ get_or faces j d →
     IsNumbered n (take j faces) old lists → IsNumbered n (take (j + 1) faces) old (with_number n f lists)
 numbered_more n j f d faces old lists up within is h = record {

@@ -9,7 +9,7 @@ use Rattle.std.proofs.lemmas.List.Sorted.{Contains-permutation, IsPermutation-sy
 use Rattle.lists.proofs.Members.{Contains-filter, filter-Contains, Contains-map, map-Contains}
 use Rattle.lists.proofs.Ascending.{ascending-Contains, Contains-ascending}
 use Rattle.face_sets.specs.declared.part_sets.PartFace.{PartFace}
-use Rattle.face_sets.specs.Parts.{AreNumbered, HasPart, AreInOrder, Begins, GoesOn, IsRun, faces_of_part, AreGroups, IsDivided, IsFaceOf, IsPieceOf}
+use Rattle.face_sets.specs.Parts.{AreNumbered, HasPart, AreInOrder, Begins, GoesOn, faces_of_part, AreGroups, IsDivided, IsFaceOf, IsPieceOf}
 use Rattle.face_sets.proofs.SetLemmas.{nat_order, pushed}
 
 abbrev pub none : PartFace
@@ -30,9 +30,6 @@ not_above numbered i p d up l (j, below, is) =
     let r : (get_or numbered j d).part ≤ (get_or numbered (i - 1) d).part = up j (i - 1) d (omega arith) (omega arith) in
     (omega arith, subst (λ (q : PartFace). q.part ≤ (get_or numbered (i - 1) d).part) other r)
 
-pub begins_first : (numbered : List PartFace) (i : ℕ) → i ≡ 0 → Begins numbered i
-begins_first numbered i e p d (j, below, is) = let f = length-take i numbered in absurd (omega arith)
-
 pub begins_after : (numbered : List PartFace) (i before here : ℕ) → AreInOrder numbered → i < length numbered → HasPart numbered (i - 1) before → HasPart numbered i here → (before ≡ here → ⊥) → Begins numbered i
 begins_after numbered i before here up l is_before is_here differ p d c =
     let (some, low) = not_above numbered i p d up l c in
@@ -48,21 +45,6 @@ goes_on_after numbered i before here some l is_before is_here same d =
     (get_or numbered (i - 1) d, subst (λ (q : PartFace). Contains (take i numbered) q) at (Contains-get_or (take i numbered) (i - 1) d (omega arith)), is_before d ∙ same ∙ sym (is_here d))
 
 -- ---- runs of one number
-
-pub run_ends : (numbered : List PartFace) (n first i other : ℕ) → AreInOrder numbered → HasPart numbered first n → first ≤ i → i < length numbered → ((k : ℕ) → first ≤ k → k < i → HasPart numbered k n) → HasPart numbered i other → (other ≡ n → ⊥) → IsRun numbered n first i
-run_ends numbered n first i other up is le l inside here differ = record {
-  within = omega arith;
-  inside = inside;
-  beyond = λ k d past there same.
-      let a = up first i d le l in
-      let b = up i k d past there in
-      let e = is d in
-      let f = here d in
-      differ (omega arith);
-}
-
-pub run_to_end : (numbered : List PartFace) (n first : ℕ) → ((k : ℕ) → first ≤ k → k < length numbered → HasPart numbered k n) → IsRun numbered n first (length numbered)
-run_to_end numbered n first inside = record { within = omega arith; inside = inside; beyond = λ k d past there same. absurd (omega arith) }
 
 picks_none : (n : ℕ) (xs : List PartFace) → ((p : PartFace) → Contains xs p → p.part ≡ n → ⊥) → filter (has_part n) xs ≡ []
 picks_none n [] h = refl
@@ -93,15 +75,6 @@ picked_all numbered n end beyond =
         beyond (end + j) p (omega arith) (omega arith) (ap (λ (q : PartFace). q.part) at ∙ e)
 
 -- ---- groups
-
-pub groups_none : (numbered : List PartFace) → AreGroups numbered [] []
-groups_none numbered = record {
-  numbers = [];
-  rising = λ k l. absurd (omega arith);
-  used = λ n c. (let l = c.1 in absurd (omega arith));
-  reached = λ p c. (let l = c.1 in absurd (omega arith));
-  are = refl;
-}
 
 pub rises_more : (xs : List ℕ) (n : ℕ) → IsStrictlyIncreasing xs → ((m : ℕ) → Contains xs m → m < n) → IsStrictlyIncreasing (xs ++ n ∷ [])
 rises_more xs n up below k l =

@@ -60,9 +60,9 @@ fn add_owner(lists: &mut Vec<Vec<u32>>, faces: &[FaceId], n: u32) -> Result<(), 
     Ok(())
 }
 
-// Appends a number to the list at a place, where there is one.
-fn put_number(lists: &mut Vec<Vec<u32>>, place: usize, n: u32) -> Result<(), AllocError>
-    ensures { OnOk result (map (λ list. list.items) lists.new.items ≡ with_number n place (map (λ list. list.items) lists.old.items)) }
+/// Appends a number to the list at a place, where there is one.
+pub fn put_number(lists: &mut Vec<Vec<u32>>, place: usize, n: u32) -> Result<(), AllocError>
+    ensures put { OnOk result (map (λ list. list.items) lists.new.items ≡ with_number n place (map (λ list. list.items) lists.old.items)) }
 {
     if place < lists.len() {
         lists[place].push(n)?;

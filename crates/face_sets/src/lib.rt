@@ -14,7 +14,7 @@ mod joined_faces;
 mod part_sets;
 mod set_list;
 
-pub use face_owners::FaceOwners;
+pub use face_owners::{FaceOwners, put_number};
 pub use face_set::FaceSet;
 pub use gap_sets::gaps;
 pub use joined_faces::{Parts, Side, boundary_of};

@@ -86,7 +86,3 @@ pub passes_on : {A B : Type 0} (outer : Reads ShapeWhy A) (inner : Reads ShapeWh
     → r ≡ Err stop → Answers inner old (Err stop) mid → ((why : ShapeWhy) → inner old ≡ Err why → outer room ≡ Err why) → Answers outer room r new
 passes_on {A} outer inner room old r (Why why) mid new is e on = subst (λ (s : Result A Stop). Answers outer room s new) (sym is) (on why e)
 passes_on {A} outer inner room old r Memory mid new is e on = subst (λ (s : Result A Stop). Answers outer room s new) (sym is) tt
-
--- where memory ran out nothing is owed
-pub out_of_memory : {A : Type 0} (read : Reads ShapeWhy A) (room : ℕ) (r : Result A Stop) (new : ℕ) → r ≡ Err Memory → Answers read room r new
-out_of_memory {A} read room r new is = subst (λ (s : Result A Stop). Answers read room s new) (sym is) tt

@@ -30,7 +30,7 @@ use Rattle.geojson_io.proofs.SoundLemmas.{has_first, ends_at_start, sound_points
 -- ## Readings
 
 -- all that is read has P
-abbrev Gives : {E A : Type 0} → (A → Type 0) → Reads E A → Type 0
+abbrev pub Gives : {E A : Type 0} → (A → Type 0) → Reads E A → Type 0
 Gives {E} {A} P read = (room : ℕ) → IfOk (read room) (λ (p : A × ℕ). P p.0)
 
 anything : {E A : Type 0} (read : Reads E A) → Gives (λ (v : A). ⊤) read
@@ -40,7 +40,7 @@ anything {E} {A} read room = go (read room)
     go (Ok p) = tt
     go (Err e) = tt
 
-next : {E A B : Type 0} (P : A → Type 0) (Q : B → Type 0) (read : Reads E A) (f : A → Reads E B) → Gives P read → ((v : A) → P v → Gives Q (f v)) → Gives Q (read >>= f)
+pub next : {E A B : Type 0} (P : A → Type 0) (Q : B → Type 0) (read : Reads E A) (f : A → Reads E B) → Gives P read → ((v : A) → P v → Gives Q (f v)) → Gives Q (read >>= f)
 next {E} {A} {B} P Q read f h k room = go (read room) (h room)
   where
     go : (r : Result (A × ℕ) E) → IfOk r (λ (p : A × ℕ). P p.0) → IfOk (on_ok r (λ (p : A × ℕ). f p.0 p.1)) (λ (q : B × ℕ). Q q.0)
@@ -48,16 +48,16 @@ next {E} {A} {B} P Q read f h k room = go (read room) (h room)
     go (Err e) g = tt
 
 -- whatever comes first
-after : {E A B : Type 0} (Q : B → Type 0) (read : Reads E A) (f : A → Reads E B) → ((v : A) → Gives Q (f v)) → Gives Q (read >>= f)
+pub after : {E A B : Type 0} (Q : B → Type 0) (read : Reads E A) (f : A → Reads E B) → ((v : A) → Gives Q (f v)) → Gives Q (read >>= f)
 after {E} {A} Q read f h = next (λ (v : A). ⊤) Q read f (anything read) (λ v u. h v)
 
-given_each : {E A X : Type 0} (P : A → Type 0) (read : X → Reads E A) → ((x : X) → Gives P (read x)) → (xs : List X) → Gives (All P) (each read xs)
+pub given_each : {E A X : Type 0} (P : A → Type 0) (read : X → Reads E A) → ((x : X) → Gives P (read x)) → (xs : List X) → Gives (All P) (each read xs)
 given_each P read h [] = λ room. All-nil P
 given_each {E} {A} P read h (x ∷ xs) =
     next P (All P) (read x) (λ (v : A). each read xs >>= (λ (vs : List A). gives (v ∷ vs))) (h x)
     (λ v p. next (All P) (All P) (each read xs) (λ (vs : List A). gives (v ∷ vs)) (given_each P read h xs) (λ vs ps room. All-cons P v vs p ps))
 
-either : {E A : Type 0} (P : A → Type 0) (b : Bool) (r s : Reads E A) → Gives P r → Gives P s → Gives P (if b then r else s)
+pub either : {E A : Type 0} (P : A → Type 0) (b : Bool) (r s : Reads E A) → Gives P r → Gives P s → Gives P (if b then r else s)
 either P true r s h k = h
 either P false r s h k = k
 

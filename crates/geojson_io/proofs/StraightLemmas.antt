@@ -142,16 +142,6 @@ type_taken first old new s t v kind shape is named places left new_kind new_shap
           (left ∙ before.0, subst (StartsWith later) (sym new_kind) (s, named, one)),
     )
 
-pub coordinates_taken : (first old new : GeometryTaker) (t : GeoType) (g : GeoShape) (v : JsonValue)
-    → old.kind ≡ Some t → old.shape ≡ None → ReadsAs (shape_of old.places t) old.left g new.left v → new.places ≡ old.places → new.shape ≡ Some g → PutsOne (HasGeometry first old) (HasGeometry first new) (codes "coordinates") v
-coordinates_taken first old new t g v kind shape read places new_shape fs h =
-    let before : HasType first old fs = subst (λ (o : Option GeoShape). MatchOption o (HasType first old fs) (λ g. HasShape first old g fs)) shape h.1 in
-    let typed : (s : List ℕ) × (geo_type_of s ≡ Some t) × (fs ≡ (codes "type", string s) ∷ []) = subst (StartsWith fs) kind before.1 in
-    let later : List Member = put fs (codes "coordinates") v in
-    let two : later ≡ (codes "type", string typed.0) ∷ (codes "coordinates", v) ∷ [] = ap (λ (gs : List Member). put gs (codes "coordinates") v) typed.2 in
-    let read_first : shape_of first.places t v first.left ≡ Ok (g, new.left) = subst (λ (n : ℕ). shape_of first.places t v n ≡ Ok (g, new.left)) before.0 (subst (λ (n : ℕ). shape_of n t v old.left ≡ Ok (g, new.left)) h.0 read) in
-    (places ∙ h.0, subst (λ (o : Option GeoShape). MatchOption o (HasType first new later) (λ g. HasShape first new g later)) (sym new_shape) (typed.0, t, v, typed.1, two, read_first))
-
 no_collection : (s : List ℕ) (t : GeoType) → geo_type_of s ≡ Some t → bytes_eq s (codes "GeometryCollection") ≡ false
 no_collection s t e = go (bytes_eq s (codes "GeometryCollection")) refl
   where

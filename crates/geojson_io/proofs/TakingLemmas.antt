@@ -90,16 +90,6 @@ fault_found first old new v fault read none places limit found vs h =
       read = subst (λ (f : Option ShapeFault). MatchOption f (HasRead first new (vs ++ v ∷ [])) (λ fault. (more : List JsonValue) → IsFault (features_from first ((vs ++ v ∷ []) ++ more)) fault)) (sym found) stopped;
     }
 
-pub passed_over : (first now : FeatureTaker) (v : JsonValue) (fault : ShapeFault) → now.fault ≡ Some fault → TakesOne (HasTaken first now) (HasTaken first now) v
-passed_over first now v fault found vs h =
-    let before : (more : List JsonValue) → IsFault (features_from first (vs ++ more)) fault = subst (λ (f : Option ShapeFault). MatchOption f (HasRead first now vs) (λ fault. (more : List JsonValue) → IsFault (features_from first (vs ++ more)) fault)) found h.read in
-    record {
-      places = h.places;
-      limit = h.limit;
-      read = subst (λ (f : Option ShapeFault). MatchOption f (HasRead first now (vs ++ v ∷ [])) (λ fault. (more : List JsonValue) → IsFault (features_from first ((vs ++ v ∷ []) ++ more)) fault)) (sym found)
-          (λ more. subst (λ (ws : List JsonValue). IsFault (features_from first ws) fault) (sym (append_assoc vs (v ∷ []) more)) (before (v ∷ more)));
-    }
-
 -- ## The whole collection
 
 pub nothing_taken : (first : FeatureTaker) → first.number ≡ 0 → first.features.items ≡ [] → first.fault ≡ None → HasTaken first first []

@@ -1,5 +1,5 @@
 -- What is shown in a view is shown by whatever answers it has.
-use Rattle.std.proofs.Common.{List, [], ◌∷◌}
+use Rattle.std.proofs.Common.{List}
 use Rattle.std.specs.List.{AllZip}
 use Rattle.grid_base.specs.declared.kinds.Kind.{Kind}
 use Rattle.grid_base.specs.declared.kinds.Kind.TheVariants as kinds
@@ -12,6 +12,7 @@ use Rattle.run_state.specs.declared.state.HeldLayer.{HeldLayer}
 use Rattle.chain_model.specs.State as state
 use Rattle.chain_model.specs.State.{State, StateLayer}
 use Rattle.layer_laws.specs.Shown.{View, FacesShow, IsSeenIn, IsView, LayerShows, ShapeShows, SourcesShow, StateShows, plane_of}
+use Rattle.layer_laws.proofs.Zipped.{zip_weaker}
 
 module _ (v : View) (A : Answers) where
   abbrev pub answered : View
@@ -32,26 +33,20 @@ module _ (v : View) (A : Answers) where
   shape_still kinds.Point held s h = record { points = h.points; has = h.has; is = h.is; vertices = h.vertices }
   shape_still kinds.Table held s h = h
 
-  zip_still : {X Y : Type 0} (R S : X → Y → Type 0) → ((x : X) (y : Y) → R x y → S x y) → (xs : List X) (ys : List Y) → AllZip R xs ys → AllZip S xs ys
-  zip_still R S f [] [] h = tt
-  zip_still R S f [] (y ∷ ys) h = absurd h
-  zip_still R S f (x ∷ xs) [] h = absurd h
-  zip_still R S f (x ∷ xs) (y ∷ ys) h = (f x y h.0, zip_still R S f xs ys h.1)
-
   layer_still : (held : Layer) (l : StateLayer) → LayerShows v held l → LayerShows answered held l
   layer_still held l h = record {
     name = h.name;
     kind = h.kind;
     table = h.table;
-    shapes = zip_still (ShapeShows v held.kind) (ShapeShows answered held.kind) (shape_still held.kind) held.shapes.items l.shapes h.shapes;
+    shapes = zip_weaker (ShapeShows v held.kind) (ShapeShows answered held.kind) (shape_still held.kind) held.shapes.items l.shapes h.shapes;
   }
 
   pub sources_still : (held : List (List Layer)) (sources : List (List StateLayer)) → SourcesShow v held sources → SourcesShow answered held sources
   sources_still held sources h =
-      zip_still (AllZip (LayerShows v)) (AllZip (LayerShows answered)) (λ ls ms. zip_still (LayerShows v) (LayerShows answered) layer_still ls ms) held sources h
+      zip_weaker (AllZip (LayerShows v)) (AllZip (LayerShows answered)) (λ ls ms. zip_weaker (LayerShows v) (LayerShows answered) layer_still ls ms) held sources h
 
   pub state_still : (held : List HeldLayer) (s : State) → StateShows v held s → StateShows answered held s
   state_still held s h = record {
-    layers = zip_still (λ (x : HeldLayer). LayerShows v x.layer) (λ (x : HeldLayer). LayerShows answered x.layer) (λ x l. layer_still x.layer l) held s.layers h.layers;
+    layers = zip_weaker (λ (x : HeldLayer). LayerShows v x.layer) (λ (x : HeldLayer). LayerShows answered x.layer) (λ x l. layer_still x.layer l) held s.layers h.layers;
     target = h.target;
   }

@@ -8,7 +8,6 @@ use Rattle.std.specs.Str.{bytes_eq}
 use Rattle.job_terms.specs.declared.job.SourceWord.{SourceWord}
 use Rattle.run_sources.specs.Decoding as run
 use Rattle.run_sources.specs.Formats as format
-use Rattle.run_sources.specs.Titles as title
 use Rattle.chain_model.specs.Sources as model
 
 opens_same : (bytes : Content) → format.opens_json bytes ≡ model.opens_json bytes
@@ -38,9 +37,6 @@ skip_same (a ∷ b ∷ c ∷ rest) = go (a == 0xEF) (b == 0xBB) (c == 0xBF)
 
 pub csv_same : (s : SourceWord) (bytes : Content) → format.is_csv s bytes ≡ model.is_csv s bytes
 csv_same s bytes = ap (λ (x : Bool). cond s.standard (not x) (format.ends_in_csv s.name)) (ap format.opens_json (skip_same bytes) ∙ opens_same (model.skip_mark bytes))
-
-pub title_same : (s : SourceWord) → title.title_of s ≡ model.title_of s
-title_same s = refl
 
 pub topology_same : (v : JsonValue) → run.is_topology v ≡ model.is_topology v
 topology_same (object members) = named (value_named (codes "type") (fields_list members))

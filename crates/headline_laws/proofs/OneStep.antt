@@ -106,9 +106,6 @@ module _ (P : Plane) (A : Answers) (sources : SourceLayers) (s : State) where
         (on_ok (outputs (layers_at s ns)) (λ (outs : List (List StateLayer)). with_outputs s w.keep ns (map (map (titled w.name)) outs))))
         (λ (t : State). Ok (record { state = t; written = None })))
 
-    step_is : (a : LayerAction) → step P A sources s (with_action (action.Each a)) ≡ step_by (refused_source sources s (action.Each a)) (takes (action.Each a)) (refused_beside sources s (action.Each a)) (outputs_of P A sources s (action.Each a))
-    step_is a = refl
-
     one_step : (a b : LayerAction) → AreOne a b → step P A sources s (with_action (action.Each a)) ≡ step P A sources s (with_action (action.Each b))
     one_step a b one =
         ap (λ (source : Option RefuseWhy). step_by source (takes (action.Each a)) (refused_beside sources s (action.Each a)) (outputs_of P A sources s (action.Each a))) one.source

@@ -1,5 +1,5 @@
 -- The ends of edges, added edge by edge.
-use Rattle.std.proofs.Common.{◌≡◌, inl, inr, sym, ap, ◌∙◌, subst, arith, ℕ, ◌+◌, ◌<◌, ◌≤◌, List, [], ◌∷◌, ◌++◌, length, get_or, take, Contains}
+use Rattle.std.proofs.Common.{◌≡◌, inl, inr, sym, ap, ◌∙◌, subst, ℕ, ◌+◌, ◌<◌, ◌≤◌, List, [], ◌∷◌, ◌++◌, length, get_or, take, Contains}
 use Rattle.std.proofs.lemmas.List.{take_more, take_all}
 use Rattle.std.proofs.lemmas.List.Elements.{Contains-append_left, Contains-append_right, Contains-append_cases}
 use Rattle.lists.proofs.Members.{Contains-head, Contains-nil, Contains-cases}
@@ -66,7 +66,3 @@ ends_more edges n last s old mid new l is a b h = record {
 
 pub ends_all : (edges : List Segment) (n : ℕ) (last : GridPoint) (points : List GridPoint) → length edges ≤ n → AreFirstEnds edges n last points → AreEndsOf edges points
 ends_all edges n last points l h = record { from = h.from; ends = subst (HaveHotEnds points) (take_all n edges l) h.ends }
-
-pub no_ends : (edges : List Segment) (points : List GridPoint) → length edges ≡ 0 → points ≡ [] → AreEndsOf edges points
-no_ends [] points l e = record { from = λ p c. Contains-nil p (subst (λ (xs : List GridPoint). Contains xs p) e c); ends = record { start = λ s c. Contains-nil s c; stop = λ s c. Contains-nil s c } }
-no_ends (s ∷ edges) points l e = absurd (omega arith)

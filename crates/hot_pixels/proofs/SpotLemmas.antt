@@ -11,12 +11,12 @@ use Rattle.hot_pixels.specs.Spots.{spots_after, path_spots, rings_spots, feature
 
 -- ---- of a path
 
-after_is : (p : GridPoint) (rest : Path) → spots_after p rest ≡ steps (p ∷ rest)
-after_is p [] = refl
-after_is p (q ∷ rest) = ap (λ (t : List Segment). record { start = p; stop = q } ∷ t) (after_is q rest)
+pub spots_are_steps : (p : GridPoint) (rest : Path) → spots_after p rest ≡ steps (p ∷ rest)
+spots_are_steps p [] = refl
+spots_are_steps p (q ∷ rest) = ap (λ (t : List Segment). record { start = p; stop = q } ∷ t) (spots_are_steps q rest)
 
 path_spots_are : (p : GridPoint) (rest : Path) → path_spots (p ∷ rest) ≡ point_segment p ∷ steps (p ∷ rest)
-path_spots_are p rest = ap (λ (t : List Segment). point_segment p ∷ t) (after_is p rest)
+path_spots_are p rest = ap (λ (t : List Segment). point_segment p ∷ t) (spots_are_steps p rest)
 
 -- a spot of a path is a step, or has no length; it stops at a vertex
 IsSpot : Path → Segment → Type 0

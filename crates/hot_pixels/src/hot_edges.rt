@@ -18,7 +18,7 @@ use crate::near::{Run, along_curve, met_among, met_near, runs_over};
 use crate::pairs::{add_crossings, buckets_over};
 use crate::path_links::{add_links_after, push_link};
 use crate::spots::spots_of;
-use grid_base::{Drawing, Link, Pt, PtList, Seg, is_same};
+use grid_base::{Drawing, Link, Pt, PtList, Seg, has_point, is_same};
 use known_order::move_by_coordinates;
 use std::alloc::{AllocError, Global};
 use std::marker::Model;
@@ -112,6 +112,15 @@ impl HotEdges {
         &self.points
     }
 
+    /// Whether a point is hot.
+    ///
+    /// Cost: a binary search.
+    pub fn contains(&self, p: Pt) -> bool
+        ensures exact { IsTrue result ↔ Contains self.now.points p }
+    {
+        is_listed(self.points(), p)
+    }
+
     /// Goes on along the chain of a segment between hot points: appends the points after its first, which is where the
     /// segment starts.
     ///
@@ -192,6 +201,13 @@ impl HotEdges {
         self.go_gathered(alloc, &mut rest, &s, i)?;
         add_links_after(links, s.a(), rest.as_slice())
     }
+}
+
+fn is_listed(points: &[Pt], p: Pt) -> bool
+    requires { AllPairs (λ (q r : Point). IsTrue (is_before q r)) points.now }
+    ensures { IsTrue result ↔ Contains points.now p }
+{
+    has_point(points, p)
 }
 
 // Whether there is a place with this number that has no mark.

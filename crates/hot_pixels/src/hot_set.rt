@@ -1,6 +1,6 @@
-ghost use Rattle.std.specs.Prelude.{◌≡◌, ◌↔◌, ◌++◌, ◌-◌, IfOk, OnOk, IsTrue, AllPairs, Contains, length};
+ghost use Rattle.std.specs.Prelude.{◌≡◌, ◌↔◌, ◌-◌, IfOk, IsTrue, Contains, length};
 ghost use Rattle.lists.specs.Lists.{ascending};
-ghost use Rattle.plane_model.specs.Points.{GridPoint as Point, is_before};
+ghost use Rattle.plane_model.specs.Points.{is_before};
 ghost use Rattle.plane_model.specs.Drawing.{Drawing as Map};
 ghost use Rattle.plane_model.specs.Hot.{hot_points, chain_among, chain_of};
 ghost use Rattle.hot_pixels.specs.Chains.{AreHotPointsOf};
@@ -8,7 +8,7 @@ ghost use Rattle.hot_pixels.specs.Chains.{AreHotPointsOf};
 use crate::chains::sorted_along;
 use crate::hot_edges::HotEdges;
 use crate::near::{Run, along_curve, count_near, met_near, runs_over};
-use grid_base::{Drawing, Pt, PtList, Seg, has_point};
+use grid_base::{Drawing, Pt, PtList, Seg};
 use std::alloc::{AllocError, Global};
 use std::marker::Model;
 
@@ -68,24 +68,6 @@ impl HotSet {
         sorted_along(alloc, met, s)
     }
 
-    /// Appends the chain of a segment between hot points to a path.
-    ///
-    /// `place` is where the segment stands among the drawing's (`spots_of`): another number costs time alone.
-    pub fn append_chain(
-        &self,
-        alloc: Global,
-        path: &mut PtList,
-        s: &Seg,
-        place: usize,
-    ) -> Result<(), AllocError>
-        requires start { Contains self.now s.now.start }
-        requires stop { Contains self.now s.now.stop }
-        ensures appended { OnOk result (path.new ≡ path.old ++ chain_among self.now s.now) }
-    {
-        path.push(s.a())?;
-        self.drawn.go_along(alloc, path, s, place)
-    }
-
     /// How many links the chain of a segment has: one less than its points, and none where it has no point.
     pub fn chain_links(&self, s: &Seg) -> u64
         ensures exact { result ≡ length (chain_among self.now s.now) - 1 }
@@ -100,13 +82,6 @@ impl HotSet {
     pub fn contains(&self, p: Pt) -> bool
         ensures exact { IsTrue result ↔ Contains self.now p }
     {
-        is_listed(self.drawn.points(), p)
+        self.drawn.contains(p)
     }
-}
-
-fn is_listed(points: &[Pt], p: Pt) -> bool
-    requires { AllPairs (λ (q r : Point). IsTrue (is_before q r)) points.now }
-    ensures { IsTrue result ↔ Contains points.now p }
-{
-    has_point(points, p)
 }

@@ -155,17 +155,6 @@ AtName-if_lacking T E (Some f) name e Q = if_lacking (f name) _ (inl refl)
 
 -- ---- writing
 
-pub Puts-then_same : (a b c : Option FileMap) (name bytes : Content) → Puts a b name (λ _. bytes) → SameFiles b c → Puts a c name (λ _. bytes)
-Puts-then_same None None None name bytes p q = tt
-Puts-then_same None None (Some h) name bytes p q = absurd q
-Puts-then_same None (Some g) c name bytes p q = absurd p
-Puts-then_same (Some f) None c name bytes p q = absurd p
-Puts-then_same (Some f) (Some g) None name bytes p q = absurd q
-Puts-then_same (Some f) (Some g) (Some h) name bytes p q = record {
-  there = q name ∙ p.there;
-  others = λ other apart. q other ∙ p.others other apart;
-}
-
 -- what stands under a name grows by a piece of what is left to write
 pub Puts-piece : (a b c : Option FileMap) (name bytes rest : Content) (done n : ℕ) → rest ≡ drop done bytes → Puts a b name (λ _. take done bytes)
     → Puts b c name (λ was. unwrap_or was [] ++ take n rest) → Puts a c name (λ _. take (done + n) bytes)

@@ -1,12 +1,9 @@
 -- The number of links along the boundary of a set of faces is that of the boundary of its region: each arc with a face
 -- of the set on one side alone counts its links, and so does the boundary of the region.
-use Rattle.std.proofs.Common.{◌≡◌, refl, sym, ap, ◌∙◌, arith, ℕ, zero, suc, ◌+◌, ◌-◌, ◌<◌, ◌≤◌, ℤ, pos, ◌+ℤ◌, Bool, true, false, not, cond, List, [], ◌∷◌, ◌++◌, All, Contains, length, nat_eq, take}
-use Rattle.std.specs.List.{cons_option, flat_map, sum_by}
+use Rattle.std.proofs.Common.{◌≡◌, refl, sym, ap, ◌∙◌, arith, ℕ, suc, ◌+◌, ◌-◌, ◌<◌, ℤ, pos, ◌+ℤ◌, Bool, true, false, not, cond, List, [], ◌∷◌, All, length, nat_eq}
+use Rattle.std.specs.List.{cons_option, sum_by}
 use Rattle.std.specs.List.Sorted.{IsStrictlyIncreasing}
-use Rattle.std.proofs.lemmas.Grind.{flat_map-append}
 use Rattle.std.proofs.lemmas.Int.{ints}
-use Rattle.std.proofs.lemmas.List.{append-nil, take_all, take_more}
-use Rattle.std.proofs.lemmas.List.Elements.{All-contains}
 use Rattle.std.proofs.lemmas.List.Sums.{sum_by-cons}
 use Rattle.lists.specs.Lists.{has}
 use Rattle.plane_model.specs.Points.{Segment, Path, is_before, link_between, reversed}
@@ -17,7 +14,7 @@ use Rattle.plane_model.specs.Boundary.{boundary_by, boundary_step}
 use Rattle.plane_model.specs.Snapped.{links_of, snapped}
 use Rattle.plane_faces.specs.Around.{opposite}
 use Rattle.plane_faces.specs.Places.{Place, left_of, left_side, right_side}
-use Rattle.arc_table.specs.Along.{GoAlong, links_of_arcs}
+use Rattle.arc_table.specs.Along.{GoAlong}
 use Rattle.face_walk.specs.Places.{FaceTable, arcs_with_left, face_left_of, has_left, signed_below}
 use Rattle.face_laws.specs.Faces.{IsFaceOfPlace}
 use Rattle.face_laws.proofs.StepLemmas.{IsStep, arc_of, steps_counted}
@@ -32,8 +29,9 @@ use Rattle.region_laws.specs.Regions.{Follows}
 use Rattle.region_laws.specs.Followed.{IsWalked}
 use Rattle.region_laws.specs.Answered.{TellSides, plane_with}
 use Rattle.region_laws.proofs.SideTests.{left_same, right_same}
-use Rattle.region_laws.proofs.Totals.{distinct_from_pairs, total, total_append, total_filter, total_flat_map, total_map, total_of_same, total_once, total_same, total_swap}
+use Rattle.region_laws.proofs.Totals.{total, total_filter, total_flat_map, total_once, total_same, total_swap}
 use Rattle.region_laws.proofs.Walked.{links_arranged, links_distinct}
+use Rattle.region_laws.proofs.Areas.{links_total}
 
 -- ---- what counts where just one of two sides is in
 
@@ -159,27 +157,8 @@ module _ (arcs : List Path) (faces : FaceTable) (set : List ℕ) (up : IsStrictl
         ∙ across_each (left_in (forward n)) (left_in (backward n)) (steps (arc_of arcs n))
         ∙ ap (λ (m : ℕ). across (left_in (forward n)) (left_in (backward n)) (pos m)) many
 
-    arcs_total : (n : ℕ) → n ≤ length arcs → total (λ (s : Segment). weight (link_between s)) (flat_map steps (take n arcs)) ≡ total added (signed_below n)
-    arcs_total zero within = refl
-    arcs_total (suc n) within =
-        let below : n < length arcs = omega arith in
-        let next : n + 1 ≡ suc n = omega arith in
-        ap (λ (k : ℕ). total (λ (s : Segment). weight (link_between s)) (flat_map steps (take k arcs))) (sym next)
-        ∙ ap (λ (xs : List Path). total (λ (s : Segment). weight (link_between s)) (flat_map steps xs)) (take_more arcs n [] below)
-        ∙ ap (total (λ (s : Segment). weight (link_between s))) (flat_map-append steps (take n arcs) (arc_of arcs n ∷ []) ∙ ap (λ (xs : List Segment). flat_map steps (take n arcs) ++ xs) (append-nil (steps (arc_of arcs n))))
-        ∙ total_append (λ (s : Segment). weight (link_between s)) (flat_map steps (take n arcs)) (steps (arc_of arcs n))
-        ∙ (λ i. arcs_total n (omega arith) i +ℤ (arc_weight n below ∙ sym (both_ways n)) i)
-        ∙ sym (total_append added (signed_below n) (forward n ∷ backward n ∷ []))
-
-    links_total : total weight S ≡ total added (signed_below (length arcs))
-    links_total =
-        total_of_same weight S (links_of_arcs arcs) distinct (distinct_from_pairs (links_of_arcs arcs) go_along.once) go_along.all (λ z c. All-contains (Contains S) (links_of_arcs arcs) z go_along.others c)
-        ∙ total_map weight link_between (flat_map steps arcs)
-        ∙ ap (λ (xs : List Path). total (λ (s : Segment). weight (link_between s)) (flat_map steps xs)) (sym (take_all (length arcs) arcs (omega arith)))
-        ∙ arcs_total (length arcs) (omega arith)
-
     count_is : pos (sets.links_of arcs (border arcs faces set)) ≡ total weight S
-    count_is = faces_total ∙ sym links_total
+    count_is = faces_total ∙ sym (links_total S arcs distinct go_along weight added (λ n below. arc_weight n below ∙ sym (both_ways n)))
 
 -- as many links are along the boundary of a set as in that of its region
 pub links_are_told : (d : Drawing) (arcs : List Path) (faces : FaceTable) (label : Place → ℕ) → IsWalked d arcs faces label → (set : List ℕ) → IsStrictlyIncreasing set → (r : Region) → Follows (snapped d) arcs label set r →

@@ -1,43 +1,19 @@
 -- What maps and sets of names show as lists of names and values.
-use Rattle.std.proofs.Common.{ℕ, ◌≡◌, ◌++◌, List, [], ◌∷◌, Bool, true, false, ◌||◌, Option, Some, refl, ap, ◌∙◌, sym, map, length, cond, get_or, ◌<◌, arith}
+use Rattle.std.proofs.Common.{ℕ, ◌≡◌, ◌++◌, List, [], ◌∷◌, Bool, true, false, ◌||◌, refl, ap, ◌∙◌, sym, map, length, cond, get_or, ◌<◌, arith}
 use Rattle.std.proofs.lemmas.List.{length-map, map-append, get_or-map}
 use Rattle.std.proofs.lemmas.Map.Keys.{IsDistinct-from_apart, apart_from_distinct}
 use Rattle.std.specs.String.{string_bytes, string_eq}
 use Rattle.std.specs.List.{list_any, IsDistinct}
 use Rattle.std.specs.Str.{bytes_eq}
-use Rattle.std.specs.Map.{lookup}
 use Rattle.std.proofs.Common.{Global, String}
-use Rattle.indexmap.specs.IndexMap.{insert_entry}
 use Rattle.indexmap.specs.IndexSet.{insert_key}
-use Rattle.json_values.specs.Table.{NamedValues, put_value, named_value, value_or_null, add_name, AreRows, AreDistinctNames}
-use Rattle.json_values.specs.declared.value.Value.{Value}
+use Rattle.json_values.specs.Table.{NamedValues, value_or_null, add_name, AreRows, AreDistinctNames}
 
 abbrev pub Name : Type 0
 Name = String Global
 
 abbrev pub seen_names : List Name → List (List ℕ)
 seen_names ks = map (string_bytes {Z = Global}) ks
-
-abbrev pub seen_values : List (Name × Value) → NamedValues
-seen_values es = map (λ (e : Name × Value). (string_bytes e.0, e.1)) es
-
--- a map shows a put, and a look-up
-put_by : (b : Bool) (e : Name × Value) (es fs : List (Name × Value)) (gs : NamedValues) (v : Value) → seen_values fs ≡ gs
-    → seen_values (cond b ((e.0, v) ∷ es) (e ∷ fs)) ≡ cond b ((string_bytes e.0, v) ∷ seen_values es) ((string_bytes e.0, e.1) ∷ gs)
-put_by true e es fs gs v h = refl
-put_by false e es fs gs v h = ap (λ (gs : NamedValues). (string_bytes e.0, e.1) ∷ gs) h
-
-pub seen_values-insert_entry : (es : List (Name × Value)) (k : Name) (v : Value) → seen_values (insert_entry string_eq es k v) ≡ put_value (seen_values es) (string_bytes k) v
-seen_values-insert_entry [] k v = refl
-seen_values-insert_entry (e ∷ es) k v = put_by (bytes_eq (string_bytes k) (string_bytes e.0)) e es (insert_entry string_eq es k v) (put_value (seen_values es) (string_bytes k) v) v (seen_values-insert_entry es k v)
-
-found_by : (b : Bool) (x : Value) (r s : Option Value) → r ≡ s → cond b (Some x) r ≡ cond b (Some x) s
-found_by true x r s h = refl
-found_by false x r s h = h
-
-pub named_value-seen : (name : List ℕ) (es : List (Name × Value)) → lookup (λ (k : Name). bytes_eq name (string_bytes k)) es ≡ named_value name (seen_values es)
-named_value-seen name [] = refl
-named_value-seen name (e ∷ es) = found_by (bytes_eq name (string_bytes e.0)) e.1 (lookup (λ (k : Name). bytes_eq name (string_bytes k)) es) (named_value name (seen_values es)) (named_value-seen name es)
 
 -- a set shows whether it has a name, and a new name
 pub list_any-seen : (name : List ℕ) (ks : List Name) → list_any (bytes_eq name) (seen_names ks) ≡ list_any (λ (k : Name). bytes_eq name (string_bytes k)) ks

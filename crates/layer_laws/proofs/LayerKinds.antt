@@ -23,7 +23,7 @@ geometry_alike kinds.Line = refl
 geometry_alike kinds.Point = refl
 geometry_alike kinds.Table = refl
 
-polygons_alike : (k : Kind) → is_polygon k ≡ checks.is_polygon k
+pub polygons_alike : (k : Kind) → is_polygon k ≡ checks.is_polygon k
 polygons_alike kinds.Polygon = refl
 polygons_alike kinds.Line = refl
 polygons_alike kinds.Point = refl

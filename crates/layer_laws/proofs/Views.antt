@@ -28,7 +28,7 @@ use Rattle.region_laws.specs.Regions.{Follows}
 use Rattle.region_laws.proofs.Held.{boxes_are_followed, features_are_followed}
 use Rattle.region_laws.proofs.MosaicTold.{rising_range}
 use Rattle.region_laws.proofs.Numbers.{in_range, of_range}
-use Rattle.region_laws.proofs.SetsExist.{HasSet, answers_exist, set_of}
+use Rattle.region_laws.proofs.SetsExist.{HasSet, answers_exist, set_of, no_box, no_holder}
 use Rattle.region_laws.proofs.Walked.{links_arranged}
 use Rattle.line_laws.specs.Regions.{AreFacesOf}
 use Rattle.line_laws.proofs.Insides.{insides_are_told}
@@ -63,17 +63,6 @@ module _ (d : Drawing) (arcs : List Path) (faces : FaceTable) (label : Place →
 
   -- ---- what is held
 
-  outer_there : outer_of faces < faces.count
-  outer_there = walked.built.numbered.below 0 0 (let counted = walked.built.places_counted in omega arith)
-
-  no_holder : (n : ℕ) → Contains (list_at labels.holders (outer_of faces)) n → ⊥
-  no_holder n c =
-      let (i, listed, owner) = ((held.owned (outer_of faces) outer_there).each n).0 c in
-      Contains-nil i (subst (λ (list : List ℕ). Contains list i) held.held.outer_free listed)
-
-  no_box : (n : ℕ) → Contains (list_at labels.boxes (outer_of faces)) n → ⊥
-  no_box n c = Contains-nil n (subst (λ (list : List ℕ). Contains list n) held.boxed.outer_free c)
-
   abbrev view_by : Answers → View
   view_by A = record { drawing = d; arcs = arcs; faces = faces; label = label; answers = A }
 
@@ -106,11 +95,11 @@ module _ (d : Drawing) (arcs : List Path) (faces : FaceTable) (label : Place →
   module _ (A : Answers) (count : ℕ) (sets : List (List ℕ)) where
     show_features : AreHeldFaces labels.holders faces.count count sets → ShowEach (view_by A) sets feature
     show_features h n below = subst (λ (set : List ℕ). FacesShow (view_by A) set (feature n)) (sym (h.held n (let each = h.each in omega (arith, each, below))))
-        (faces_show A labels.holders n (no_holder n) (feature n) (features_are_followed d arcs faces label walked labels held n (held_faces labels.holders faces.count n) (held_with A labels.holders n (no_holder n))))
+        (faces_show A labels.holders n (no_holder d arcs faces label walked labels held n) (feature n) (features_are_followed d arcs faces label walked labels held n (held_faces labels.holders faces.count n) (held_with A labels.holders n (no_holder d arcs faces label walked labels held n))))
 
     show_boxes : AreHeldFaces labels.boxes faces.count count sets → ShowEach (view_by A) sets box
     show_boxes h n below = subst (λ (set : List ℕ). FacesShow (view_by A) set (box n)) (sym (h.held n (let each = h.each in omega (arith, each, below))))
-        (faces_show A labels.boxes n (no_box n) (box n) (boxes_are_followed d arcs faces label walked labels held n (held_faces labels.boxes faces.count n) (held_with A labels.boxes n (no_box n))))
+        (faces_show A labels.boxes n (no_box d arcs faces label walked labels held n) (box n) (boxes_are_followed d arcs faces label walked labels held n (held_faces labels.boxes faces.count n) (held_with A labels.boxes n (no_box d arcs faces label walked labels held n))))
 
 -- the faces of a view
 pub view_faces : (v : View) → IsView v → AreFacesOf v.drawing v.arcs v.faces v.label

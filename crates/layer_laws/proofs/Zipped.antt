@@ -1,6 +1,6 @@
 -- Lists that agree place by place, and what is made of both alike.
-use Rattle.std.proofs.Common.{◌≡◌, refl, ap, subst, arith, ℕ, zero, suc, ◌+◌, ◌<◌, Bool, true, false, cond, ◌&&◌, ◌||◌, List, [], ◌∷◌, ◌++◌, length, map, get_or, filter, All}
-use Rattle.std.specs.List.{AllZip, list_all, list_any, flat_map}
+use Rattle.std.proofs.Common.{◌≡◌, refl, ap, subst, arith, ℕ, zero, suc, ◌+◌, ◌<◌, Bool, true, false, cond, ◌&&◌, List, [], ◌∷◌, ◌++◌, length, map, get_or, filter, All}
+use Rattle.std.specs.List.{AllZip, list_all, flat_map}
 use Rattle.std.proofs.lemmas.List.Elements.{All-head, All-tail}
 use Rattle.lists.specs.Lists.{joined_up, numbers_from, numbers_where}
 
@@ -81,15 +81,6 @@ module _ {A B : Type 0} (R : A → B → Type 0) where
 
     pub zip_numbers : (xs : List A) (ys : List B) → AllZip R xs ys → numbers_where p xs ≡ numbers_where q ys
     zip_numbers xs ys z = zip_numbers_from 0 xs ys z
-
-    pub zip_any : (xs : List A) (ys : List B) → AllZip R xs ys → list_any p xs ≡ list_any q ys
-    zip_any [] [] z = refl
-    zip_any [] (y ∷ ys) z = absurd z
-    zip_any (x ∷ xs) [] z = absurd z
-    zip_any (x ∷ xs) (y ∷ ys) z =
-        let here = agree x y z.0 in
-        let rest = zip_any xs ys z.1 in
-        λ i. here i || rest i
 
     pub zip_all : (xs : List A) (ys : List B) → AllZip R xs ys → list_all p xs ≡ list_all q ys
     zip_all [] [] z = refl

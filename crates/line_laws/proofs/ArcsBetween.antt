@@ -22,6 +22,7 @@ use Rattle.plane_faces.specs.Places.{Place}
 use Rattle.plane_faces.specs.Rings.{darts_of_path}
 use Rattle.grid_base.specs.Drawn.{HasPaths}
 use Rattle.bucket_grid.proofs.Numbers.{Contains-numbers_where}
+use Rattle.bucket_grid.proofs.RisingNumbers.{numbers_where_pass, numbers_where_rise}
 use Rattle.face_walk.specs.Holders.{list_at}
 use Rattle.face_walk.specs.Places.{FaceTable, IsBuiltOf, face_left_of, place_of}
 use Rattle.face_laws.specs.Faces.{SeesSide}
@@ -38,7 +39,7 @@ use Rattle.point_laws.specs.Sight.{PointsOf}
 use Rattle.line_laws.specs.Lines.{LeftSideIn}
 use Rattle.line_laws.specs.ArcsBetween.{AreAtSide, AreFacesHeld, AreBetween, IsSidedBy, PointsOfFeature, PointsOfSet, SetsStandFor, SetsStandForPoints, SetsStandForFeatures, ArcsBetweenSets, ArcsBetweenFeatures}
 use Rattle.line_laws.proofs.LinkSides.{side_is_seen, sides_of_arcs}
-use Rattle.line_laws.proofs.RisingLists.{numbers_where_pass, numbers_where_rise, one_rising_list}
+use Rattle.line_laws.proofs.RisingLists.{one_rising_list}
 use Rattle.line_laws.proofs.SidedRows.{inner_once, is_sided, sided_once}
 
 -- ---- the owners of a face

@@ -7,6 +7,7 @@ use Rattle.plane_model.specs.Points.{Segment, Path}
 use Rattle.plane_model.specs.Drawing.{steps}
 use Rattle.plane_model.specs.Arcs.{SignedArc, joined_points, points_of}
 use Rattle.arc_table.specs.Direction.{point_at}
+use Rattle.arc_table.proofs.FoundArcs.{steps_over}
 use Rattle.line_ops.specs.Runs.{ended, runs_after}
 use Rattle.line_laws.specs.Linked.{AreLinked}
 
@@ -34,17 +35,6 @@ chain_over (p ∷ q ∷ r ∷ rest) (x ∷ y ∷ Q) more zero size l m h = absur
 chain_over (p ∷ q ∷ r ∷ rest) (x ∷ y ∷ Q) more (suc t) size l m h = chain_over (q ∷ r ∷ rest) (x ∷ y ∷ Q) more t (omega arith) (omega arith) m h.1
 
 -- ---- paths joined
-
--- the steps of a path that ends where another begins, and of that one
-steps_over : (J P : Path) (t : ℕ) → suc t ≡ length J → 0 < length P → point_at J t ≡ point_at P 0 → steps (without_last J ++ P) ≡ steps J ++ steps P
-steps_over [] P t size some e = absurd (omega arith)
-steps_over (x ∷ []) P t size some e = refl
-steps_over (x ∷ y ∷ rest) [] t size some e = absurd (omega arith)
-steps_over (x ∷ y ∷ rest) (p ∷ ps) zero size some e = absurd (omega arith)
-steps_over (x ∷ y ∷ []) (p ∷ ps) (suc t) size some e =
-    let meets : y ≡ p = ap (λ (k : ℕ). point_at (y ∷ []) k) (let z : 0 ≡ t = omega arith in z) ∙ e in
-    λ i. record { start = x; stop = sym meets i } ∷ steps (p ∷ ps)
-steps_over (x ∷ y ∷ z ∷ rest) (p ∷ ps) (suc t) size some e = ap (λ (ss : List Segment). record { start = x; stop = y } ∷ ss) (steps_over (y ∷ z ∷ rest) (p ∷ ps) t (omega arith) some e)
 
 first_kept : (P Q : Path) → 1 < length P → (point_at (without_last P ++ Q) 0 ≡ point_at P 0) × (0 < length (without_last P ++ Q))
 first_kept [] Q l = absurd (omega arith)

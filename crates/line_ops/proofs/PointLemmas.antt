@@ -15,6 +15,16 @@ use Rattle.face_sets.proofs.BoundaryLemmas.{has_Contains, Contains_has}
 use Rattle.line_ops.specs.Inside.{is_inside, left_of}
 use Rattle.line_ops.specs.Points.{Leaves, IsNode, IsInsideAt, has_some_left}
 
+module _ (arcs : List Path) (p : GridPoint) (around : List SignedArc) (h : IsAround arcs p around) where
+  pub some_node : (arcs_there : List SignedArc) → around ≡ arcs_there → (length arcs_there ≡ 0 → ⊥) → IsNode arcs p
+  some_node [] e some = absurd (some refl)
+  some_node (a ∷ rest) e some =
+      let o = All-contains (λ (b : SignedArc). (b.arc < length arcs) × (start_of arcs b ≡ p)) around a h.others (subst (λ (bs : List SignedArc). Contains bs a) (sym e) (Contains-head a rest)) in
+      (a, record { there = o.0; start = o.1 })
+
+  pub no_node : length around ≡ 0 → IsNode arcs p → ⊥
+  no_node e (a, leaves) = let (i, l, at) = h.all a leaves.there leaves.start in absurd (omega arith)
+
 module _ (arcs : List Path) (faces : FaceTable) (p : GridPoint) (set : List ℕ) (around : List SignedArc) (h : IsAround arcs p around) where
   some_left : (has_some_left faces set around ≡ true) ↔ ((a : SignedArc) × Leaves arcs p a × Contains set (left_of faces a))
   some_left = (
@@ -29,26 +39,17 @@ module _ (arcs : List Path) (faces : FaceTable) (p : GridPoint) (set : List ℕ)
         (subst (λ (b : SignedArc). has nat_eq set (left_of faces b) ≡ true) (sym at) (Contains_has set (left_of faces a) c)),
   )
 
-  some_node : (arcs_there : List SignedArc) → around ≡ arcs_there → (length arcs_there ≡ 0 → ⊥) → IsNode arcs p
-  some_node [] e some = absurd (some refl)
-  some_node (a ∷ rest) e some =
-      let o = All-contains (λ (b : SignedArc). (b.arc < length arcs) × (start_of arcs b ≡ p)) around a h.others (subst (λ (bs : List SignedArc). Contains bs a) (sym e) (Contains-head a rest)) in
-      (a, record { there = o.0; start = o.1 })
-
-  no_node : length around ≡ 0 → IsNode arcs p → ⊥
-  no_node e (a, leaves) = let (i, l, at) = h.all a leaves.there leaves.start in absurd (omega arith)
-
   pub inside_at_node : (inside : Bool) → (length around ≡ 0 → ⊥) → inside ≡ has_some_left faces set around → IsInsideAt arcs faces p set inside
   inside_at_node inside some e = record {
     at_node = λ _. subst (λ (b : Bool). (b ≡ true) ↔ ((a : SignedArc) × Leaves arcs p a × Contains set (left_of faces a))) (sym e) some_left;
-    on_arc = λ n no _. absurd (no (some_node around refl some));
-    alone = λ no _. absurd (no (some_node around refl some));
+    on_arc = λ n no _. absurd (no (some_node arcs p around h around refl some));
+    alone = λ no _. absurd (no (some_node arcs p around h around refl some));
   }
 
   pub inside_off_node : (inside : Bool) → length around ≡ 0 → ((n : ℕ) → IsLeastAt arcs p n → inside ≡ is_inside faces set (forward n)) →
       (IsArcAt arcs p None → (k : ℕ) × IsFaceOver faces p k × (inside ≡ has nat_eq set k)) → IsInsideAt arcs faces p set inside
   inside_off_node inside none on over = record {
-    at_node = λ node. absurd (no_node none node);
+    at_node = λ node. absurd (no_node arcs p around h none node);
     on_arc = λ n no least. on n least;
     alone = λ no off. over off;
   }

@@ -1,6 +1,5 @@
 pub mod Products
 pub mod SignedProducts
-pub mod Decimals
 pub mod Digits
 pub mod Scaling
 pub mod NumeralParts

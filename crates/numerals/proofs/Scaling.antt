@@ -1,5 +1,5 @@
 -- What a pass over the digits of a numeral finds.
-use Rattle.std.proofs.Common.{ℕ, zero, suc, ◌≡◌, ◌+◌, ◌-◌, ◌*◌, ◌/◌, ◌%◌, ◌^◌, ◌<◌, ◌≤◌, List, [], ◌∷◌, ◌++◌, Bool, true, false, not, ◌&&◌, ◌==◌, min, refl, ap, ◌∙◌, sym, subst, length, take, drop, arith, length-append, append-nil, take-append-drop, append_assoc, add_assoc, add-one, zero-mul, lit≤, mul_assoc, zero-add, lit<, ne_eqb, IsTrue, ◌⊎◌, inl, inr}
+use Rattle.std.proofs.Common.{ℕ, zero, suc, ◌≡◌, ◌+◌, ◌-◌, ◌*◌, ◌/◌, ◌%◌, ◌^◌, ◌<◌, ◌≤◌, List, [], ◌∷◌, ◌++◌, Bool, true, false, not, ◌&&◌, ◌==◌, min, refl, ap, ◌∙◌, sym, subst, length, take, drop, arith, length-append, append-nil, take-append-drop, add_assoc, add-one, zero-mul, lit≤, mul_assoc, zero-add, lit<, ne_eqb, IsTrue, ◌⊎◌, inl, inr}
 use Rattle.std.proofs.lemmas.Bool.{cases_lt}
 use Rattle.std.proofs.lemmas.Bool.Decides.{nat_tests}
 use Rattle.std.proofs.lemmas.List.Sums.{fold-append}
@@ -174,11 +174,6 @@ all_cut w f k more h i l e =
     let power : 10 ^ length (w ++ f) ≤ 10 ^ k = pow-le-pow_right (lit< tt) shorter in
     let small : number_of (w ++ f) < 10 ^ length (w ++ f) = number_of-small (w ++ f) (digits_append w f h i) in
     cut_all (number_of (w ++ f)) k (not more) (omega (arith, power, small)) (ap (λ (b : Bool). not b) e)
-
--- the cut stands in the whole part, or in the fraction
-pub cut_in_whole : (w f front back : List ℕ) (k : ℕ) (r : Scaled) → front ++ back ≡ w → IsCut (number_onto (number_of front) (back ++ f)) k r → IsCut (number_of (w ++ f)) k r
-cut_in_whole w f front back k r e h =
-    subst (λ (n : ℕ). IsCut n k r) (sym (number_onto-append 0 front (back ++ f)) ∙ ap (λ (l : List ℕ). number_of l) (sym (append_assoc front back f) ∙ ap (λ (l : List ℕ). l ++ f) e)) h
 
 pub cut_in_fraction : (w f front back : List ℕ) (k : ℕ) (r : Scaled) → front ++ back ≡ f → IsCut (number_onto (number_onto (number_of w) front) (back ++ [])) k r → IsCut (number_of (w ++ f)) k r
 cut_in_fraction w f front back k r e h =

@@ -46,10 +46,6 @@ minus_sized : Sized minus
 minus_sized zero = refl
 minus_sized (suc n) = refl
 
--- a product without sign, and one with
-product_of : (x : ℕ) → checked_product (pos x) ≡ quotient pos x
-product_of x = refl
-
 product_of_minus : (x : ℕ) → checked_product (minus x) ≡ quotient minus x
 product_of_minus zero = refl
 product_of_minus (suc n) = refl

@@ -1,6 +1,6 @@
 -- Whatever a topology is read as is sound: its rings have points and are closed, and its lines have points.
 use Rattle.std.proofs.Common.{◌≡◌, refl, subst, ℕ, ◌+◌, Bool, true, false, List, [], ◌∷◌, ◌++◌, All, Option, Some, None, Result, Ok, Err, filter, codes, bytes_eq}
-use Rattle.std.specs.Prelude.{◌==◌, if◌then◌else◌}
+use Rattle.std.specs.Prelude.{◌==◌, if◌then◌else◌, IfOk}
 use Rattle.std.specs.List.{enumerate_from}
 use Rattle.std.proofs.lemmas.List.Elements.{All-append, All-cons, All-filter, All-head, All-nil, All-tail}
 use Rattle.json_values.specs.Json.{FieldList, JsonValue, array, boolean, null, number, object, string}
@@ -21,6 +21,7 @@ use Rattle.geojson_io.specs.declared.reading.types.GeoType.TheVariants as type
 use Rattle.geojson_io.specs.declared.shape.GeoShape.{GeoShape}
 use Rattle.geojson_io.specs.declared.shape.GeoShape.TheVariants.{Nothing}
 use Rattle.geojson_io.proofs.SoundLemmas.{ends_at_start, has_first, sound_layers, sound_lines, sound_points, sound_polygons}
+use Rattle.geojson_io.proofs.SoundReads.{Gives, after, either, given_each, next}
 use Rattle.topo_io.specs.Reads.{Fault, in_place}
 use Rattle.topo_io.specs.Shapes.{arc_lists, coordinates, geometry, is_null, line_shape, one_line, one_point, one_polygon, paths_in, point_shape, points_in, polygon_of, polygon_shape, several_lines, several_points, several_polygons, shape_in, shape_typed, stitched_shape, typed_geometry}
 use Rattle.topo_io.specs.Stitching.{arcs, closed, has_points, kept, list_of, path_of, ring_of, rings_of, stitched}
@@ -35,37 +36,7 @@ use Rattle.topo_io.specs.declared.reading.features.Numbers.{Numbers}
 -- ## Readings
 
 abbrev IsGiven : {E A : Type 0} → (A → Type 0) → Result (A × ℕ) E → Type 0
-IsGiven P (Ok p) = P p.0
-IsGiven P (Err e) = Unit {0}
-
--- all that is read has P
-abbrev Gives : {E A : Type 0} → (A → Type 0) → Reads E A → Type 0
-Gives P read = (room : ℕ) → IsGiven P (read room)
-
-next : {E A B : Type 0} (P : A → Type 0) (Q : B → Type 0) (read : Reads E A) (f : A → Reads E B) → Gives P read → ((v : A) → P v → Gives Q (f v)) → Gives Q (read >>= f)
-next {E} {A} {B} P Q read f h k room = go (read room) (h room)
-  where
-    go : (r : Result (A × ℕ) E) → IsGiven P r → IsGiven Q (on_ok r (λ (p : A × ℕ). f p.0 p.1))
-    go (Ok p) g = k p.0 g p.1
-    go (Err e) g = tt
-
--- whatever comes first
-after : {E A B : Type 0} (Q : B → Type 0) (read : Reads E A) (f : A → Reads E B) → ((v : A) → Gives Q (f v)) → Gives Q (read >>= f)
-after {E} {A} {B} Q read f h room = go (read room)
-  where
-    go : (r : Result (A × ℕ) E) → IsGiven Q (on_ok r (λ (p : A × ℕ). f p.0 p.1))
-    go (Ok p) = h p.0 p.1
-    go (Err e) = tt
-
-given_each : {E A X : Type 0} (P : A → Type 0) (read : X → Reads E A) → ((x : X) → Gives P (read x)) → (xs : List X) → Gives (All P) (each read xs)
-given_each P read h [] = λ room. All-nil P
-given_each {E} {A} P read h (x ∷ xs) =
-    next P (All P) (read x) (λ (v : A). each read xs >>= (λ (vs : List A). gives (v ∷ vs))) (h x)
-    (λ v p. next (All P) (All P) (each read xs) (λ (vs : List A). gives (v ∷ vs)) (given_each P read h xs) (λ vs ps room. All-cons P v vs p ps))
-
-either : {E A : Type 0} (P : A → Type 0) (b : Bool) (r s : Reads E A) → Gives P r → Gives P s → Gives P (if b then r else s)
-either P true r s h k = h
-either P false r s h k = k
+IsGiven {E} {A} P r = IfOk r (λ (p : A × ℕ). P p.0)
 
 -- ## Paths and rings that have points
 

@@ -20,6 +20,7 @@ use Rattle.plane_faces.specs.Rings.{dart_of_step, darts_of_path}
 use Rattle.arc_table.specs.Along.{GoAlong}
 use Rattle.arc_table.specs.Around.{start_of}
 use Rattle.arc_table.specs.Direction.{point_at}
+use Rattle.arc_table.proofs.DrawnPaths.{points_counted}
 use Rattle.face_laws.proofs.DartLemmas.{Moves, twice_opposite}
 use Rattle.face_laws.proofs.StepLemmas.{IsStep, arc_of, one_place, step_at, step_moves, step_on}
 use Rattle.face_laws.proofs.LabelLemmas.{same_dart, dart_from, dart_to}
@@ -27,7 +28,7 @@ use Rattle.ring_trace.specs.Pairing.{stop_of}
 use Rattle.ring_trace.specs.Traced.{same_arc}
 use Rattle.ring_trace.specs.Turns.{points_along, round_of}
 use Rattle.ring_trace.specs.Ways.{IsWay, IsSimpleRing}
-use Rattle.ring_trace.proofs.LeastTurn.{point_along, points_counted, without_last_is}
+use Rattle.ring_trace.proofs.LeastTurn.{point_along, without_last_is}
 use Rattle.ring_trace.proofs.Sums.{sum_by_same, sum_by_none, sum_by-filter}
 use Rattle.part_laws.proofs.CountLemmas.{tick, dart_count, count_back, none_at, once_at, steps_joined, sum_of_one, sum_over_flat}
 

@@ -13,13 +13,13 @@ use Rattle.plane_model.specs.Arcs.{SignedArc, begins_arc, points_of}
 use Rattle.plane_model.specs.Rings.{AreExteriorAndHoles, BeginsAtLeastArc, IsSimple, least_arc, turn_at_least}
 use Rattle.plane_faces.specs.Rings.{IsRing}
 use Rattle.arc_table.specs.Around.{start_of}
+use Rattle.arc_table.proofs.DrawnPaths.{points_counted}
 use Rattle.face_sets.specs.Boundary.{IsOnBoundary}
 use Rattle.ring_trace.specs.Pairing.{stop_of}
 use Rattle.ring_trace.specs.Traced.{BeginsWithLeast, bounded, is_of_boundary, once_if, times, times_round}
 use Rattle.ring_trace.specs.Turns.{first_number, round_of}
 use Rattle.ring_trace.specs.Ways.{IsSimpleRing}
 use Rattle.face_sets.proofs.BoundaryLemmas.{same_or_other}
-use Rattle.ring_trace.proofs.LeastTurn.{points_counted}
 use Rattle.ring_trace.proofs.PartSides.{of_test}
 use Rattle.face_walk.specs.Places.{FaceTable, face_left_of}
 use Rattle.part_laws.specs.Parts.{AreFacesOf, AreTraced, HasExteriorFirst, TracedPolygonsFit}
@@ -50,7 +50,7 @@ begins_at arcs (p ∷ q ∷ rest) d a l e h = (
       (ap (λ (n : ℕ). begins_arc (get_or (steps (p ∷ q ∷ rest)) 0 d) (points_of arcs (record { arc = n; is_reversed = a.is_reversed }))) e ∙ h) (All-nil _),
 )
 
-two_summed : {X : Type 0} (f : X → ℕ) (xs : List X) (i j : ℕ) (d : X) → i < j → j < length xs → f (get_or xs i d) + f (get_or xs j d) ≤ sum_by f xs
+pub two_summed : {X : Type 0} (f : X → ℕ) (xs : List X) (i j : ℕ) (d : X) → i < j → j < length xs → f (get_or xs i d) + f (get_or xs j d) ≤ sum_by f xs
 two_summed f [] i j d less l = absurd (omega arith)
 two_summed f (x ∷ xs) i zero d less l = absurd (omega arith)
 two_summed f (x ∷ xs) zero (suc j) d less l =

@@ -21,13 +21,13 @@ use Rattle.arc_table.specs.Along.{GoAlong}
 use Rattle.arc_table.specs.Around.{start_of}
 use Rattle.arc_table.proofs.Along.{links_turned}
 use Rattle.arc_table.proofs.Proper.{link_turned, one_link}
+use Rattle.arc_table.proofs.DrawnPaths.{points_counted}
 use Rattle.face_laws.proofs.DartLemmas.{Moves, ends_differ}
 use Rattle.face_laws.proofs.StepLemmas.{IsStep, arc_of, one_place, step_at, step_moves, steps_counted}
 use Rattle.ring_trace.specs.Pairing.{stop_of}
 use Rattle.ring_trace.specs.Traced.{BeginsWithLeast}
 use Rattle.ring_trace.specs.Turns.{first_number, round_of}
 use Rattle.ring_trace.specs.Ways.{IsSimpleRing}
-use Rattle.ring_trace.proofs.LeastTurn.{points_counted}
 use Rattle.part_laws.proofs.ArcCounts.{ring_steps}
 
 -- ---- lists

@@ -13,11 +13,12 @@ use Rattle.plane_faces.specs.Rings.{IsRing}
 use Rattle.arc_table.specs.Along.{GoAlong}
 use Rattle.arc_table.specs.Around.{start_of}
 use Rattle.arc_table.specs.Direction.{point_at}
+use Rattle.arc_table.proofs.DrawnPaths.{points_counted}
 use Rattle.face_laws.specs.Faces.{AreFreeInside}
 use Rattle.face_laws.proofs.DartLemmas.{ends_differ}
 use Rattle.face_laws.proofs.StepLemmas.{IsStep, arc_of, alone_inside, link_ends, one_place, step_between, step_moves, step_on, steps_counted}
 use Rattle.ring_trace.specs.Turns.{closed, points_along}
-use Rattle.ring_trace.proofs.LeastTurn.{point_along, points_counted, without_last_is}
+use Rattle.ring_trace.proofs.LeastTurn.{point_along, without_last_is}
 use Rattle.part_laws.specs.Parts.{RingsGoRound}
 
 -- ---- pairs of a list

@@ -7,11 +7,12 @@ use Rattle.plane_model.specs.Points.{GridPoint, Path}
 use Rattle.plane_model.specs.Arcs.{SignedArc, joined_points, points_of}
 use Rattle.arc_table.specs.Around.{start_of}
 use Rattle.arc_table.specs.Direction.{point_at}
+use Rattle.arc_table.proofs.DrawnPaths.{points_counted}
 use Rattle.ring_trace.specs.Pairing.{stop_of}
 use Rattle.ring_trace.specs.Turns.{round_of}
 use Rattle.ring_trace.specs.Turns as turns
 use Rattle.ring_trace.specs.Ways.{IsWay, IsSimpleRing}
-use Rattle.ring_trace.proofs.LeastTurn.{point_along, points_counted}
+use Rattle.ring_trace.proofs.LeastTurn.{point_along}
 use Rattle.line_laws.specs.Linked.{AreLinked}
 use Rattle.run_texts.specs.Pictures.{points_along}
 

@@ -5,6 +5,7 @@ use Rattle.std.proofs.lemmas.Bool.{cases_lt}
 use Rattle.std.proofs.lemmas.List.{length-append}
 use Rattle.std.proofs.lemmas.List.Elements.{All-cons, All-nil}
 use Rattle.std.proofs.lemmas.List.Sums.{sum_by-append, sum_by-cons}
+use Rattle.part_laws.proofs.FitLaws.{two_summed}
 use Rattle.part_laws.proofs.PolygonLaws.{once_most}
 use Rattle.plane_model.specs.Points.{GridPoint, same_point}
 use Rattle.plane_model.specs.Arcs.{SignedArc}
@@ -12,25 +13,6 @@ use Rattle.plane_model.proofs.PointOrder.{same_point_from, same_point_to}
 use Rattle.ring_trace.specs.Traced.{once_if, same_arc, times, times_round}
 use Rattle.ring_trace.specs.Ways.{IsWay, IsSimpleRing}
 use Rattle.ring_trace.proofs.WayLemmas.{way_cut, way_push}
-
--- ---- sums over lists
-
-two_summed : {X : Type 0} (f : X → ℕ) (xs : List X) (i j : ℕ) (d : X) → i < j → j < length xs → f (get_or xs i d) + f (get_or xs j d) ≤ sum_by f xs
-two_summed f [] i j d less l = absurd (omega arith)
-two_summed f (x ∷ xs) i zero d less l = absurd (omega arith)
-two_summed f (x ∷ xs) zero (suc j) d less l =
-    let m = sum_by-cons f x xs in
-    let h = one_summed f xs j d (omega arith) in
-    omega arith
-  where
-    one_summed : {X : Type 0} (f : X → ℕ) (xs : List X) (i : ℕ) (d : X) → i < length xs → f (get_or xs i d) ≤ sum_by f xs
-    one_summed f [] i d l = absurd (omega arith)
-    one_summed f (x ∷ xs) zero d l = let m = sum_by-cons f x xs in omega arith
-    one_summed f (x ∷ xs) (suc i) d l = let m = sum_by-cons f x xs in let h = one_summed f xs i d (omega arith) in omega arith
-two_summed f (x ∷ xs) (suc i) (suc j) d less l =
-    let m = sum_by-cons f x xs in
-    let h = two_summed f xs i j d (omega arith) (omega arith) in
-    omega arith
 
 -- an element that passes a test, with what stands before and after it
 record Found (test : SignedArc → Bool) (xs : List SignedArc) : Type 0 where

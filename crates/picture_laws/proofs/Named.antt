@@ -56,9 +56,6 @@ module _ (S : List Segment) (arr : IsArrangement S) (arcs : List Path) (long : A
       let (size, is) = begins_with (points_of arcs a) s e in
       record { arc = below; there = omega arith; is = sym is ∙ step_between (points_of arcs a) 0 s (omega arith) }
 
-  begun_if : Segment → ℕ → Bool → Bool → Option SignedArc
-  begun_if s n ahead back = cond ahead (Some (forward n)) (cond back (Some (backward n)) None)
-
   module _ (a : SignedArc) (j : ℕ) (s : Segment) (h : Step a j s) (c : Contains (steps (points_of arcs a)) s) where
     -- only a itself may begin with s
     apart : (b : SignedArc) → b.arc < length arcs → (a ≡ b → j ≡ 0 → ⊥) → begins_arc s (points_of arcs b) ≡ false

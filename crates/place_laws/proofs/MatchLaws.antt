@@ -9,6 +9,7 @@ use Rattle.std.proofs.lemmas.List.FromFn.{get_or-map-range_with_len, length-map-
 use Rattle.std.proofs.lemmas.Slice.Zip.{AllZip-long}
 use Rattle.lists.specs.Lists.{has, numbers_from}
 use Rattle.bucket_grid.proofs.Numbers.{Contains-numbers_where}
+use Rattle.bucket_grid.proofs.RisingNumbers.{numbers_where_pass}
 use Rattle.plane_model.specs.Points.{GridPoint, RationalPoint, Path}
 use Rattle.plane_model.specs.Drawing.{Drawing, vertices_of}
 use Rattle.plane_model.specs.Sides.{IsInside}
@@ -25,7 +26,6 @@ use Rattle.spatial_join.specs.Matches.{AreSetsAt, TellsInside, says_some}
 use Rattle.line_laws.specs.Regions.{AreFacesOf}
 use Rattle.line_laws.proofs.ByRegions.{points_cut_by_regions}
 use Rattle.line_laws.proofs.Insides.{insides_are_told}
-use Rattle.line_laws.proofs.RisingLists.{numbers_where_pass}
 use Rattle.place_laws.specs.Matched.{IsSetOfRegion, IsToldInside, MatchesAreInside, PointsAreMatched, SetsAreMatched}
 
 -- ---- lists

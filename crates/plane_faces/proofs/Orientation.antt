@@ -12,22 +12,20 @@ use Rattle.plane_algebra.proofs.Tests.{lt_from}
 use Rattle.plane_parity.proofs.ClosedRun.{closed_run_even}
 use Rattle.plane_parity.proofs.Abscissa.{same_link-self}
 use Rattle.plane_model.proofs.PointOrder.{before_to}
-use Rattle.plane_model.specs.Points.{RationalPoint, GridPoint, Segment, turn, at, is_before, same_segment}
-use Rattle.plane_model.specs.Parity.{xor, odd_count, odd}
+use Rattle.plane_model.specs.Points.{GridPoint, Segment, turn, at, is_before, same_segment}
+use Rattle.plane_model.specs.Parity.{xor, odd_count}
 use Rattle.plane_model.specs.Arrangement.{IsBefore, IsArrangement}
 use Rattle.plane_model.specs.EvenList.{IsEven}
 use Rattle.plane_model.specs.Rotation.{Dart, precedes}
 use Rattle.plane_faces.proofs.Runs.{between, links_from, dart_between}
 use Rattle.plane_faces.specs.Rings.{links_of_path, ring_by}
 use Rattle.plane_faces.specs.Around.{forward_dart, backward_dart}
-use Rattle.plane_faces.specs.Places.{Place, left_of, left_side, right_side, IsBeside, IsPlaceOf, border, odd_at, IsLater}
+use Rattle.plane_faces.specs.Places.{Place, left_of, left_side, right_side, IsBeside, border, odd_at, IsLater}
 use Rattle.plane_faces.specs.Labels.{IsFaceLabelling, among, IsPartLabelling, in_part}
 use Rattle.plane_faces.proofs.Lists.{contains_cases}
 use Rattle.plane_faces.proofs.Around.{precedes_once}
 use Rattle.plane_faces.proofs.Order.{before_not_back, before_not_itself}
 use Rattle.plane_faces.proofs.Corner.{precedes_total, lowest_left, lowest_right}
-use Rattle.plane_faces.proofs.Connected.{parity_at_place}
-use Rattle.plane_faces.proofs.FaceLaws.{place_beside}
 use Rattle.plane_faces.proofs.Parts.{passes_filter, part_border_within, border_in, one_part_at, not_counted}
 
 abbrev link : GridPoint → GridPoint → Segment
@@ -175,6 +173,3 @@ module _ (S : List Segment) (arr : IsArrangement S) (label : Place → ℕ) (fac
       where
         later_is : (a c k : Segment) → k ≡ c → c.start ≡ a.start → precedes (forward_dart a) (forward_dart c) ≡ true → IsLater a k
         later_is a c k e s h = subst (IsLater a) (sym e) (inr (s, h))
-
-    pub oriented : (z : RationalPoint) (b : Place) → IsPlaceOf S z b → held b ≡ true → odd R z ≡ int_lt (pos 0) (turn (at p) (at r) (at q))
-    oriented z b h e = parity_at_place S R arr withinS even z b h ∙ oriented_at b (place_beside S z b h) e

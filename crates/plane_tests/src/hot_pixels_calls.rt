@@ -4,7 +4,7 @@
 //! - `meets` takes a segment and a pixel; it answers whether the one meets the other.
 //! - `contains` takes a point; it answers whether it is hot in the group's drawing.
 //! - `chain_of` takes a segment; it answers the hot points on its way, and on a line of its own the number of links.
-//! - `append_chain` takes a list of segments between hot points, each with its place among those of the drawing; it
+//! - `go_along` takes a list of segments between hot points, each with its place among those of the drawing; it
 //!   answers the path that has their chains one after another.
 ghost use Rattle.std.specs.Prelude.{◌<◌};
 
@@ -12,7 +12,7 @@ use crate::drawings::point_at;
 use crate::texts::{points_text, print_points};
 use case_lists::{bytes_of_text, list_at, number_at, told, unknown_call};
 use grid_base::{Drawing, PtList, Seg};
-use hot_pixels::{HotSet, crossing_pixel, meets};
+use hot_pixels::{HotEdges, HotSet, crossing_pixel, meets};
 use json_read::Json;
 use std::alloc::{AllocError, Global};
 use text_core::Bytes;
@@ -30,7 +30,7 @@ pub fn answer(
         "meets" => met(alloc, case),
         "contains" => contained(alloc, drawing, case),
         "chain_of" => chain(alloc, drawing, case),
-        "append_chain" => appended(alloc, drawing, list_at(case, 0)),
+        "go_along" => appended(alloc, drawing, list_at(case, 0)),
         _ => unknown_call(alloc),
     }
 }
@@ -79,10 +79,10 @@ fn chain(alloc: Global, drawing: &Drawing, case: &[Json]) -> Result<Bytes, Alloc
 }
 
 fn appended(alloc: Global, drawing: &Drawing, segments: &[Json]) -> Result<Bytes, AllocError> {
-    let set = HotSet::of(alloc, drawing)?;
+    let hot = HotEdges::of(alloc, drawing)?;
     let mut path = PtList::new(alloc);
     for place in 0..segments.len() {
-        append(alloc, &set, &mut path, list_at(segments, place))?;
+        append(alloc, &hot, &mut path, list_at(segments, place))?;
     }
     let mut out = Bytes::new(alloc);
     print_points(alloc, &mut out, path.as_slice())?;
@@ -90,12 +90,18 @@ fn appended(alloc: Global, drawing: &Drawing, segments: &[Json]) -> Result<Bytes
 }
 
 // Appends the chain of a segment; nothing where it isn't between hot points.
-fn append(alloc: Global, set: &HotSet, path: &mut PtList, list: &[Json]) -> Result<(), AllocError> {
+fn append(
+    alloc: Global,
+    hot: &HotEdges,
+    path: &mut PtList,
+    list: &[Json],
+) -> Result<(), AllocError> {
     let Some(segment) = segment_at(list, 0) else {
         return Ok(());
     };
-    if !set.contains(segment.a()) || !set.contains(segment.b()) {
+    if !hot.contains(segment.a()) || !hot.contains(segment.b()) {
         return Ok(());
     }
-    set.append_chain(alloc, path, &segment, number_at(list, 2) as usize)
+    path.push(segment.a())?;
+    hot.go_along(alloc, path, &segment, number_at(list, 2) as usize)
 }

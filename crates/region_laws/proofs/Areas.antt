@@ -90,6 +90,30 @@ boundary_area left right (l ∷ S) = go (left l) (right l) ∙ ap (λ (t : ℤ).
     go false true = ap (λ (t : ℤ). t +ℤ twice_area (boundary_by left right S)) (cross_back l)
     go false false = none (twice_area (boundary_by left right S))
 
+-- ---- by arcs
+
+-- what links weigh together is what signed arcs add, where it is so of the steps of each arc
+module _ (S : List Segment) (arcs : List Path) (distinct : IsDistinct S) (go_along : GoAlong S arcs) (weight : Segment → ℤ) (added : SignedArc → ℤ)
+    (by_arcs : (n : ℕ) → n < length arcs → total (λ (s : Segment). weight (link_between s)) (steps (arc_of arcs n)) ≡ added (forward n) +ℤ (added (backward n) +ℤ pos 0)) where
+  arcs_total : (n : ℕ) → n ≤ length arcs → total (λ (s : Segment). weight (link_between s)) (flat_map steps (take n arcs)) ≡ total added (signed_below n)
+  arcs_total zero within = refl
+  arcs_total (suc n) within =
+      let below : n < length arcs = omega arith in
+      let next : n + 1 ≡ suc n = omega arith in
+      ap (λ (k : ℕ). total (λ (s : Segment). weight (link_between s)) (flat_map steps (take k arcs))) (sym next)
+      ∙ ap (λ (xs : List Path). total (λ (s : Segment). weight (link_between s)) (flat_map steps xs)) (take_more arcs n [] below)
+      ∙ ap (total (λ (s : Segment). weight (link_between s))) (flat_map-append steps (take n arcs) (arc_of arcs n ∷ []) ∙ ap (λ (xs : List Segment). flat_map steps (take n arcs) ++ xs) (append-nil (steps (arc_of arcs n))))
+      ∙ total_append (λ (s : Segment). weight (link_between s)) (flat_map steps (take n arcs)) (steps (arc_of arcs n))
+      ∙ (λ i. arcs_total n (omega arith) i +ℤ by_arcs n below i)
+      ∙ sym (total_append added (signed_below n) (forward n ∷ backward n ∷ []))
+
+  pub links_total : total weight S ≡ total added (signed_below (length arcs))
+  links_total =
+      total_of_same weight S (links_of_arcs arcs) distinct (distinct_from_pairs (links_of_arcs arcs) go_along.once) go_along.all (λ z c. All-contains (Contains S) (links_of_arcs arcs) z go_along.others c)
+      ∙ total_map weight link_between (flat_map steps arcs)
+      ∙ ap (λ (xs : List Path). total (λ (s : Segment). weight (link_between s)) (flat_map steps xs)) (sym (take_all (length arcs) arcs (omega arith)))
+      ∙ arcs_total (length arcs) (omega arith)
+
 -- ---- by faces
 
 module _ (arcs : List Path) (faces : FaceTable) (built : IsBuiltOf arcs faces) (set : List ℕ) (up : IsStrictlyIncreasing set) (inner : IsSetOf faces set) where
@@ -169,27 +193,8 @@ module _ (arcs : List Path) (faces : FaceTable) (built : IsBuiltOf arcs faces) (
         (λ s (j, there, is). step_weight n j s (record { arc = below; there = there; is = is }))
         ∙ weighed_total (left_in (forward n)) (left_in (backward n)) (steps (arc_of arcs n))
 
-    arcs_total : (n : ℕ) → n ≤ length arcs → total (λ (s : Segment). weight (link_between s)) (flat_map steps (take n arcs)) ≡ total added (signed_below n)
-    arcs_total zero within = refl
-    arcs_total (suc n) within =
-        let below : n < length arcs = omega arith in
-        let next : n + 1 ≡ suc n = omega arith in
-        ap (λ (k : ℕ). total (λ (s : Segment). weight (link_between s)) (flat_map steps (take k arcs))) (sym next)
-        ∙ ap (λ (xs : List Path). total (λ (s : Segment). weight (link_between s)) (flat_map steps xs)) (take_more arcs n [] below)
-        ∙ ap (total (λ (s : Segment). weight (link_between s))) (flat_map-append steps (take n arcs) (arc_of arcs n ∷ []) ∙ ap (λ (xs : List Segment). flat_map steps (take n arcs) ++ xs) (append-nil (steps (arc_of arcs n))))
-        ∙ total_append (λ (s : Segment). weight (link_between s)) (flat_map steps (take n arcs)) (steps (arc_of arcs n))
-        ∙ (λ i. arcs_total n (omega arith) i +ℤ (arc_weight n below ∙ sym (both_ways n)) i)
-        ∙ sym (total_append added (signed_below n) (forward n ∷ backward n ∷ []))
-
-    links_total : total weight S ≡ total added (signed_below (length arcs))
-    links_total =
-        total_of_same weight S (links_of_arcs arcs) distinct (distinct_from_pairs (links_of_arcs arcs) go_along.once) go_along.all (λ z c. All-contains (Contains S) (links_of_arcs arcs) z go_along.others c)
-        ∙ total_map weight link_between (flat_map steps arcs)
-        ∙ ap (λ (xs : List Path). total (λ (s : Segment). weight (link_between s)) (flat_map steps xs)) (sym (take_all (length arcs) arcs (omega arith)))
-        ∙ arcs_total (length arcs) (omega arith)
-
     area_is : area_of faces.areas set ≡ total weight S
-    area_is = faces_total ∙ sym links_total
+    area_is = faces_total ∙ sym (links_total S arcs distinct go_along weight added (λ n below. arc_weight n below ∙ sym (both_ways n)))
 
 pub areas_are_those_of_regions : AreasAreThoseOfRegions
 areas_are_those_of_regions d arcs faces label walked set up inner r follows left right sides =

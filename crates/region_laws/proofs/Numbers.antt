@@ -1,20 +1,12 @@
 -- Numbers of elements that pass a test.
-use Rattle.std.proofs.Common.{◌≡◌, inl, inr, refl, ◌∙◌, arith, ℕ, suc, ◌+◌, ◌<◌, Bool, true, false, cond, ◌||◌, List, [], ◌∷◌, Contains, length, get_or, nat_eq, nat_lt}
-use Rattle.std.specs.List.{list_any, range_with_len}
+use Rattle.std.proofs.Common.{◌≡◌, ◌∙◌, arith, ℕ, ◌+◌, ◌<◌, Bool, true, false, cond, List, [], ◌∷◌, Contains, length, get_or, nat_eq, nat_lt}
+use Rattle.std.specs.List.{range_with_len}
 use Rattle.std.proofs.lemmas.Bool.{lt-ltb}
 use Rattle.std.proofs.lemmas.List.FromFn.{get_or-range_with_len, length-range_with_len}
 use Rattle.lists.specs.Lists.{has, numbers_from}
 use Rattle.lists.proofs.Ascending.{IsAscending}
-use Rattle.lists.proofs.Members.{Contains-cases, Contains-head, Contains-later, Contains-nil}
 use Rattle.face_sets.specs.Owners.{owners_of}
-
-pub any_there : {X : Type 0} (t : X → Bool) (xs : List X) → list_any t xs ≡ true → (x : X) × Contains xs x × (t x ≡ true)
-any_there t [] e = absurd (let f : false ≡ true = e in cc)
-any_there {X} t (x ∷ xs) e = go (t x) refl e (any_there t xs)
-  where
-    go : (b : Bool) → t x ≡ b → (b || list_any t xs) ≡ true → (list_any t xs ≡ true → (y : X) × Contains xs y × (t y ≡ true)) → (y : X) × Contains (x ∷ xs) y × (t y ≡ true)
-    go true is f later = (x, Contains-head x xs, is)
-    go false is f later = let (y, there, passes) = later f in (y, Contains-later x xs y there, passes)
+use Rattle.region_ops.proofs.OwnerSets.{of_numbers}
 
 -- the numbers below n
 pub in_range : (n m : ℕ) → m < n → Contains (range_with_len 0 n) m
@@ -25,22 +17,6 @@ of_range n m (i, l, e) =
     let size = length-range_with_len 0 n in
     let is = get_or-range_with_len 0 n i m (omega arith) in
     omega arith
-
--- the numbers of the elements that pass
-pub of_numbers : {X : Type 0} (k : ℕ) (test : X → Bool) (xs : List X) (m : ℕ) (d : X) → Contains (numbers_from k test xs) m → (n : ℕ) × (m ≡ k + n) × (n < length xs) × (test (get_or xs n d) ≡ true)
-of_numbers k test [] m d c = Contains-nil m c
-of_numbers {X} k test (x ∷ xs) m d c = go (test x) refl (of_numbers (k + 1) test xs m d) c
-  where
-    later : ((n : ℕ) × (m ≡ k + 1 + n) × (n < length xs) × (test (get_or xs n d) ≡ true)) → (n : ℕ) × (m ≡ k + n) × (n < length (x ∷ xs)) × (test (get_or (x ∷ xs) n d) ≡ true)
-    later (n, is, below, passes) = (suc n, omega arith, omega arith, passes)
-
-    go : (b : Bool) → test x ≡ b → (Contains (numbers_from (k + 1) test xs) m → (n : ℕ) × (m ≡ k + 1 + n) × (n < length xs) × (test (get_or xs n d) ≡ true)) →
-        Contains (cond b (k ∷ numbers_from (k + 1) test xs) (numbers_from (k + 1) test xs)) m → (n : ℕ) × (m ≡ k + n) × (n < length (x ∷ xs)) × (test (get_or (x ∷ xs) n d) ≡ true)
-    go true e more c = elim (Contains-cases k (numbers_from (k + 1) test xs) m c) [
-      | inl same ↦ (0, omega arith, omega arith, e)
-      | inr rest ↦ later (more rest)
-    ]
-    go false e more c = later (more c)
 
 -- they rise
 pub numbers_rise : {X : Type 0} (k : ℕ) (test : X → Bool) (xs : List X) → IsAscending nat_lt (numbers_from k test xs)

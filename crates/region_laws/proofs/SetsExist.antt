@@ -64,12 +64,12 @@ module _ (d : Drawing) (arcs : List Path) (faces : FaceTable) (label : Place →
   outer_there : outer_of faces < faces.count
   outer_there = walked.built.numbered.below 0 0 (let counted = walked.built.places_counted in omega arith)
 
-  no_holder : (n : ℕ) → Contains (list_at labels.holders (outer_of faces)) n → ⊥
+  pub no_holder : (n : ℕ) → Contains (list_at labels.holders (outer_of faces)) n → ⊥
   no_holder n c =
       let (i, listed, owner) = ((held.owned (outer_of faces) outer_there).each n).0 c in
       Contains-nil i (subst (λ (list : List ℕ). Contains list i) held.held.outer_free listed)
 
-  no_box : (n : ℕ) → Contains (list_at labels.boxes (outer_of faces)) n → ⊥
+  pub no_box : (n : ℕ) → Contains (list_at labels.boxes (outer_of faces)) n → ⊥
   no_box n c = Contains-nil n (subst (λ (list : List ℕ). Contains list n) held.boxed.outer_free c)
 
   module _ (lists : List (List ℕ)) (n : ℕ) (free : Contains (list_at lists (outer_of faces)) n → ⊥) where

@@ -1,5 +1,5 @@
 -- Items for the pieces of one set after another.
-use Rattle.std.proofs.Common.{◌≡◌, refl, sym, ap, ◌∙◌, subst, arith, ℕ, ◌+◌, List, [], ◌∷◌, ◌++◌, length, get_or, inl, inr, append-nil}
+use Rattle.std.proofs.Common.{◌≡◌, sym, ap, ◌∙◌, subst, arith, ℕ, ◌+◌, List, [], ◌∷◌, ◌++◌, length, get_or, inl, inr, append-nil}
 use Rattle.std.specs.List.{flat_map, enumerate_from}
 use Rattle.std.proofs.lemmas.Bool.{cases_lt}
 use Rattle.std.proofs.lemmas.Grind.{flat_map-append}
@@ -14,9 +14,6 @@ enumerate_push k n (y ∷ ys) x e = ap (λ (zs : List (ℕ × _)). (k, y) ∷ zs
 
 abbrev items_of_set : ℕ × List (List ℕ) → List PartItem
 items_of_set f = items_of f.0 f.1
-
-pub exploded_none : (faces : FaceTable) (sets : List (List ℕ)) → AreExploded faces sets 0 []
-exploded_none faces sets = record { pieces = []; each = refl; are = λ n l. absurd (omega arith); listed = refl }
 
 pub exploded_more : (faces : FaceTable) (sets : List (List ℕ)) (n : ℕ) (old new : List PartItem) → AreExploded faces sets n old → IsPushed faces n (get_or sets n []) old new → AreExploded faces sets (n + 1) new
 exploded_more faces sets n old new h p =
@@ -36,6 +33,3 @@ exploded_more faces sets n old new h p =
           ∙ ap (λ (is : List PartItem). flat_map items_of_set (enumerate_from 0 h.pieces) ++ is) (sym (append-nil (items_of n p.pieces)))
           ∙ sym (ap (flat_map items_of_set) (enumerate_push 0 n h.pieces p.pieces (omega arith)) ∙ flat_map-append items_of_set (enumerate_from 0 h.pieces) ((n, p.pieces) ∷ []));
     }
-
-pub pieces_of_empty : (faces : FaceTable) (set : List ℕ) (pieces : List (List ℕ)) → set ≡ [] → pieces ≡ [] ∷ [] → ArePieces faces set pieces
-pieces_of_empty faces set pieces e f = record { empty = λ _. f; parts = λ n. absurd (n e) }

@@ -3,7 +3,7 @@ use Rattle.std.proofs.Common.{◌≡◌, ◌⊎◌, inl, inr, refl, sym, ap, ◌
 use Rattle.std.specs.List.{flat_map}
 use Rattle.std.specs.List.Sorted.{IsStrictlyIncreasing}
 use Rattle.std.proofs.lemmas.Bool.{cases_eq, eqb-true}
-use Rattle.std.proofs.lemmas.List.{get_or-set_same, get_or-set_other, flat_map_more, length_push, take_more}
+use Rattle.std.proofs.lemmas.List.{get_or-set_same, get_or-set_other, flat_map_more, take_more}
 use Rattle.std.proofs.lemmas.List.Elements.{All-contains, All-from_get_or, All-get_or, Contains-append_cases, Contains-append_left, Contains-append_right, Contains-get_or, Contains-push, Contains-push_cases}
 use Rattle.lists.specs.Lists.{ascending}
 use Rattle.lists.proofs.Ascending.{ascending-Contains, ascending-IsAscending, Contains-ascending}
@@ -18,7 +18,7 @@ use Rattle.face_sets.specs.Owners.{owners_of}
 use Rattle.face_sets.specs.Sets.{IsInnerFace, IsSetOf, area_of}
 use Rattle.face_sets.proofs.BoundaryLemmas.{below_arc, listed_left}
 use Rattle.face_sets.proofs.GapLemmas.{gaps_inner}
-use Rattle.face_sets.proofs.SetLemmas.{from_ascending, nat_order, pushed}
+use Rattle.face_sets.proofs.SetLemmas.{from_ascending, nat_order}
 use Rattle.region_ops.specs.Cleaned.{IsFirst, is_before, ranks_before}
 use Rattle.region_ops.specs.Dissolved.{set_at}
 use Rattle.region_ops.specs.Filled.{AreGifts, AreTogether, Borders, GoesTo, IsFilled, IsGiven, IsReceiver, all_faces, given, is_filled, neighbours_of, sets_round}
@@ -126,15 +126,6 @@ module _ (rule : OverlapRule) (most : ℕ) (arcs : List Path) (faces : FaceTable
 
 -- ---- what each set is given, gap by gap
 
-pub gifts_none : (rule : OverlapRule) (most : ℕ) (arcs : List Path) (faces : FaceTable) (areas : List ℤ) (cleaned lists : List (List ℕ)) → length lists ≡ length cleaned → All (λ (list : List ℕ). list ≡ []) lists → AreGifts rule most arcs faces areas cleaned [] lists
-gifts_none rule most arcs faces areas cleaned lists each empty = record {
-  each = each;
-  has = λ n k l. (
-    λ c. Contains-nil k (subst (λ (xs : List ℕ). Contains xs k) (All-get_or (λ (list : List ℕ). list ≡ []) lists n [] (omega (arith, l, each)) empty) c),
-    λ h. Contains-nil h.0 h.1,
-  );
-}
-
 module _ (rule : OverlapRule) (most : ℕ) (arcs : List Path) (faces : FaceTable) (areas : List ℤ) (cleaned : List (List ℕ)) where
   abbrev Receives : List ℕ → ℕ → Type 0
   Receives gap n = IsReceiver rule most arcs faces areas cleaned gap (Some n)
@@ -206,12 +197,6 @@ module _ (rule : OverlapRule) (most : ℕ) (arcs : List Path) (faces : FaceTable
       (gifts_pushed (take i gaps) gap to old r h))
 
 -- ---- all together
-
-pub together_more : (cleaned gifts : List (List ℕ)) (n : ℕ) (old : List (List ℕ)) (set : List ℕ) → AreTogether cleaned gifts n old → set ≡ ascending nat_lt (set_at gifts n ++ set_at cleaned n) → AreTogether cleaned gifts (n + 1) (old ++ set ∷ [])
-together_more cleaned gifts n old set h is = record {
-  each = length_push old set ∙ ap (λ (m : ℕ). m + 1) h.each;
-  are = pushed old set [] n (λ m filled. filled ≡ ascending nat_lt (set_at gifts m ++ set_at cleaned m)) h.each h.are is;
-}
 
 module _ (rule : OverlapRule) (most : ℕ) (arcs : List Path) (faces : FaceTable) (areas : List ℤ) (cleaned sets gaps gifts filled : List (List ℕ)) (built : IsBuiltOf arcs faces) (areas_are : areas ≡ map (area_of faces.areas) sets)
     (each : length cleaned ≡ length sets) (are_gaps : AreGaps faces (all_faces sets) gaps) (are_gifts : AreGifts rule most arcs faces areas cleaned gaps gifts) (are_together : AreTogether cleaned gifts (length cleaned) filled) where

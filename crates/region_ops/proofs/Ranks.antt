@@ -1,6 +1,6 @@
 -- A rule ranks the sets in a line: no two before each other, and of two one before the other.
-use Rattle.std.proofs.Common.{◌≡◌, refl, ◌⊎◌, inl, inr, arith, ℕ, ◌<◌, ◌≤◌, Bool, true, false, not, ◌&&◌, ℤ, ◌≤ℤ◌, ◌<ℤ◌, int_lt, nat_lt}
-use Rattle.std.proofs.lemmas.Bool.{cases_lt, ltb-true, lt-ltb, false_from_ne_true, not-true, not_from_false}
+use Rattle.std.proofs.Common.{◌≡◌, ◌⊎◌, inl, inr, arith, ℕ, ◌<◌, ◌≤◌, true, false, not, ◌&&◌, ℤ, ◌≤ℤ◌, ◌<ℤ◌, int_lt, nat_lt}
+use Rattle.std.proofs.lemmas.Bool.{cases_lt, ltb-true, lt-ltb, false_from_ne_true, not-true, not_from_false, and_from, and_parts}
 use Rattle.std.proofs.lemmas.Int.{ints}
 use Rattle.plane_algebra.proofs.Order.{order_cases}
 use Rattle.plane_algebra.proofs.Tests.{lt_from, lt_to, or_cases, or_first, or_second}
@@ -12,24 +12,16 @@ use Rattle.region_ops.specs.Cleaned.{by_size, ranks_before}
 abbrev Lesser : ℤ → ℕ → ℤ → ℕ → Type 0
 Lesser a m b n = (a <ℤ b) ⊎ ((a ≤ℤ b) × (m < n))
 
-and_both : (x y : Bool) → (x && y) ≡ true → (x ≡ true) × (y ≡ true)
-and_both true y e = (refl, e)
-and_both false y e = absurd (let f : false ≡ true = e in cc)
-
-both_and : (x y : Bool) → x ≡ true → y ≡ true → (x && y) ≡ true
-both_and true y e f = f
-both_and false y e f = absurd (let g : false ≡ true = e in cc)
-
 size_lesser : (a b : ℤ) (m n : ℕ) → by_size (int_lt a b) (int_lt b a) (nat_lt m n) ≡ true → Lesser a m b n
 size_lesser a b m n e = or_cases (int_lt a b) (not (int_lt b a) && nat_lt m n) e (λ f. inl (lt_from a b f)) (λ f.
-    let both = and_both (not (int_lt b a)) (nat_lt m n) f in
+    let both = and_parts (not (int_lt b a)) (nat_lt m n) f in
     let g : int_lt b a ≡ false = not-true (int_lt b a) both.0 in
     inr (omega (arith, ints), ltb-true m n both.1))
 
 lesser_size : (a b : ℤ) (m n : ℕ) → Lesser a m b n → by_size (int_lt a b) (int_lt b a) (nat_lt m n) ≡ true
 lesser_size a b m n h = elim h [
   | inl l ↦ or_first (int_lt a b) (not (int_lt b a) && nat_lt m n) (lt_to a b l)
-  | inr p ↦ or_second (int_lt a b) (not (int_lt b a) && nat_lt m n) (both_and (not (int_lt b a)) (nat_lt m n)
+  | inr p ↦ or_second (int_lt a b) (not (int_lt b a) && nat_lt m n) (and_from (not (int_lt b a)) (nat_lt m n)
       (not_from_false (int_lt b a) (false_from_ne_true (int_lt b a) (λ e. let l = lt_from b a e in let k : a ≤ℤ b = p.0 in omega (arith, ints)))) (lt-ltb m n p.1))
 ]
 

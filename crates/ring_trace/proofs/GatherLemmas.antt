@@ -104,19 +104,6 @@ module _ (path : RingKey → List SignedArc) where
     pub are : polygons ≡ map (group some) numbers
     pub is : polygon ≡ group some last
 
-  pub gathered_none : IsGathered [] [] []
-  gathered_none = record {
-    numbers = [];
-    last = 0;
-    rising = λ k l. absurd (omega arith);
-    below = λ n c. Contains-nil n c;
-    used = λ n c. Contains-nil n c;
-    reached = λ key c. Contains-nil key c;
-    begun = inl (refl, refl);
-    are = refl;
-    is = refl;
-  }
-
   -- a key of a greater part
   pub gathered_new : (some : List RingKey) (polygons : List (List (List SignedArc))) (polygon : List (List SignedArc)) (x : RingKey) → IsGathered some polygons polygon → 0 < length some → ((key : RingKey) → Contains some key → key.part < x.part) →
       IsGathered (some ++ x ∷ []) (polygons ++ polygon ∷ []) ([] ++ path x ∷ [])

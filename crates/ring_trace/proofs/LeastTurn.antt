@@ -1,9 +1,8 @@
 -- How a closed path turns at its least point.
 use Rattle.std.proofs.Common.{◌≡◌, inl, inr, refl, sym, ap, ◌∙◌, subst, arith, ℕ, zero, suc, ◌+◌, ◌-◌, ◌<◌, Bool, true, false, cond, List, [], ◌∷◌, ◌++◌, length, get_or, take, reverse, Contains}
-use Rattle.std.proofs.Math.IntN.{pos}
-use Rattle.std.specs.Prelude.{int_lt, nat_lt, if◌then◌else◌}
+use Rattle.std.specs.Prelude.{nat_lt, if◌then◌else◌}
 use Rattle.std.proofs.lemmas.Bool.{cases_lt, cases_Bool, false_from_ne_true, lt-ltb, le-ltb}
-use Rattle.std.proofs.lemmas.List.{get_or_append_left, get_or_push, get_or_default, get_or-reverse, length-reverse, length_push}
+use Rattle.std.proofs.lemmas.List.{get_or_append_left, get_or_push, get_or_default, get_or-reverse, length_push}
 use Rattle.std.proofs.lemmas.List.Elements.{Contains-get_or}
 use Rattle.lists.specs.Lists.{least_of, without_last}
 use Rattle.lists.proofs.Ascending.{IsStrictOrder}
@@ -13,6 +12,8 @@ use Rattle.plane_model.specs.Arcs.{SignedArc, points_of}
 use Rattle.plane_model.specs.Rings.{turn_at, turn_at_least}
 use Rattle.plane_model.proofs.PointOrder.{clash, is_before-IsStrictOrder, same_point_from, same_point_to}
 use Rattle.arc_table.specs.Direction.{point_at}
+use Rattle.arc_table.proofs.RowTable.{before_later}
+use Rattle.arc_table.proofs.TurnOrder.{not_back}
 use Rattle.ring_trace.specs.Turns.{IsFirstLeast}
 
 -- ---- order of points
@@ -20,35 +21,17 @@ use Rattle.ring_trace.specs.Turns.{IsFirstLeast}
 not_itself : (p : GridPoint) → is_before p p ≡ false
 not_itself p = false_from_ne_true (is_before p p) (is_before-IsStrictOrder.irreflexive p)
 
-not_back : (p q : GridPoint) → is_before p q ≡ true → is_before q p ≡ false
-not_back p q e = false_from_ne_true (is_before q p) (λ f. is_before-IsStrictOrder.irreflexive p (is_before-IsStrictOrder.trans p q p e f))
-
--- what is before p is before what is not before p
-before_on : (p q r : GridPoint) → is_before p q ≡ true → is_before r q ≡ false → is_before p r ≡ true
-before_on p q r e f = elim (cases_Bool (is_before q r)) [
-  | inl g ↦ is_before-IsStrictOrder.trans p q r e g
-  | inr g ↦ subst (λ (s : GridPoint). is_before p s ≡ true) (is_before-IsStrictOrder.total q r g f) e
-]
-
 -- ---- the first least point
-
-pub least_begun : (points : Path) → IsFirstLeast points 2 1
-least_begun points = record {
-  later = omega arith;
-  within = omega arith;
-  least = λ j l m. subst (λ (k : ℕ). is_before (point_at points k) (point_at points 1) ≡ false) (let e : 1 ≡ j = omega arith in e) (not_itself (point_at points 1));
-  first = λ j l m. absurd (omega arith);
-}
 
 pub least_lower : (points : Path) (k m : ℕ) → IsFirstLeast points k m → is_before (point_at points k) (point_at points m) ≡ true → IsFirstLeast points (k + 1) k
 least_lower points k m h e = record {
   later = (let a = h.later in let b = h.within in omega arith);
   within = omega arith;
   least = λ j l n. elim (cases_lt j k) [
-    | inl less ↦ not_back (point_at points k) (point_at points j) (before_on (point_at points k) (point_at points m) (point_at points j) e (h.least j l less))
+    | inl less ↦ not_back (point_at points k) (point_at points j) (before_later (point_at points k) (point_at points m) (point_at points j) e (h.least j l less))
     | inr more ↦ subst (λ (i : ℕ). is_before (point_at points i) (point_at points k) ≡ false) (let f : k ≡ j = omega arith in f) (not_itself (point_at points k))
   ];
-  first = λ j l n. before_on (point_at points k) (point_at points m) (point_at points j) e (h.least j l n);
+  first = λ j l n. before_later (point_at points k) (point_at points m) (point_at points j) e (h.least j l n);
 }
 
 pub least_same : (points : Path) (k m : ℕ) → IsFirstLeast points k m → is_before (point_at points k) (point_at points m) ≡ false → IsFirstLeast points (k + 1) m
@@ -175,11 +158,6 @@ turn_is [] k many h = absurd (omega arith)
 turn_is (p ∷ []) k many h = absurd (omega arith)
 turn_is (p ∷ q ∷ rest) k many h = turn_here p q rest k h
 
-pub no_turn : (points : Path) → length points < 2 → int_lt (pos 0) (turn_at_least points) ≡ false
-no_turn [] l = refl
-no_turn (p ∷ []) l = refl
-no_turn (p ∷ q ∷ rest) l = absurd (omega arith)
-
 -- ---- the points of signed arcs
 
 pub without_last_is : (xs : Path) → take (length xs - 1) xs ≡ without_last xs
@@ -196,11 +174,4 @@ point_along arcs a k d l = go a.is_reversed
   where
     go : (b : Bool) → get_or (get_or arcs a.arc []) (cond b (length (get_or arcs a.arc []) - 1 - k) k) d ≡ get_or (cond b (reverse (get_or arcs a.arc [])) (get_or arcs a.arc [])) k d
     go true = sym (get_or-reverse (get_or arcs a.arc []) k d l)
-    go false = refl
-
-pub points_counted : (arcs : List Path) (a : SignedArc) → length (points_of arcs a) ≡ length (get_or arcs a.arc [])
-points_counted arcs a = go a.is_reversed
-  where
-    go : (b : Bool) → length (cond b (reverse (get_or arcs a.arc [])) (get_or arcs a.arc [])) ≡ length (get_or arcs a.arc [])
-    go true = length-reverse (get_or arcs a.arc [])
     go false = refl

@@ -6,6 +6,7 @@ use Rattle.std.proofs.lemmas.List.Elements.{filter-append}
 use Rattle.std.specs.Str.{bytes_eq}
 use Rattle.std.proofs.lemmas.Cmp.{nat_list_eq_equiv}
 use Rattle.std.proofs.lemmas.List.Folds.{list_any-append}
+use Rattle.std.proofs.lemmas.Bool.{or_from, or_left, or_parts, or_right}
 use Rattle.table_terms.specs.Names.{has_name}
 use Rattle.job_terms.specs.declared.job.Target.{Target}
 use Rattle.run_state.specs.Targets.{is_selected, targets}
@@ -14,29 +15,15 @@ use Rattle.run_state.proofs.TargetLemmas.{target_first, target_next}
 use Rattle.run_plane.specs.declared.layer.Layer.{Layer}
 use Rattle.run_texts.specs.Written.{has_name_twice, names_of_layers}
 
-neither : (a b : Bool) → (a || b) ≡ false → (a ≡ false) × (b ≡ false)
-neither true b h = absurd (true≢false h)
-neither false b h = (refl, h)
-
-not_both : (a b : Bool) → a ≡ false → b ≡ false → (a || b) ≡ false
-not_both a b e f = ap (λ (t : Bool). t || b) e ∙ f
-
 -- a name after others is new, or is not
 pub twice_new : (names : List (List ℕ)) (name : List ℕ) → has_name names name ≡ false → has_name_twice names ≡ false → has_name_twice (names ++ name ∷ []) ≡ false
 twice_new [] name h once = refl
 twice_new (x ∷ names) name h once =
-    let new = neither (bytes_eq name x) (has_name names name) h in
-    let apart = neither (has_name names x) (has_name_twice names) once in
-    not_both (has_name (names ++ name ∷ []) x) (has_name_twice (names ++ name ∷ []))
-    (list_any-append (bytes_eq x) names (name ∷ []) ∙ not_both (has_name names x) (bytes_eq x name || false) apart.0 (not_both (bytes_eq x name) false (nat_list_eq_equiv.symm x name ∙ new.0) refl))
+    let new = or_parts (bytes_eq name x) (has_name names name) h in
+    let apart = or_parts (has_name names x) (has_name_twice names) once in
+    or_from (has_name (names ++ name ∷ []) x) (has_name_twice (names ++ name ∷ []))
+    (list_any-append (bytes_eq x) names (name ∷ []) ∙ or_from (has_name names x) (bytes_eq x name || false) apart.0 (or_from (bytes_eq x name) false (nat_list_eq_equiv.symm x name ∙ new.0) refl))
     (twice_new names name new.1 apart.1)
-
-either : (a b : Bool) → b ≡ true → (a || b) ≡ true
-either true b h = refl
-either false b h = h
-
-first_of_two : (a b : Bool) → a ≡ true → (a || b) ≡ true
-first_of_two a b h = ap (λ (t : Bool). t || b) h
 
 pub twice_seen : (names rest : List (List ℕ)) (name : List ℕ) → has_name names name ≡ true → has_name_twice (names ++ name ∷ rest) ≡ true
 twice_seen [] rest name h = absurd (true≢false (sym h))
@@ -44,10 +31,10 @@ twice_seen (x ∷ names) rest name h = by (twice_seen names rest name) (bytes_eq
   where
     by : (has_name names name ≡ true → has_name_twice (names ++ name ∷ rest) ≡ true) → (b : Bool) → bytes_eq name x ≡ b → has_name_twice ((x ∷ names) ++ name ∷ rest) ≡ true
     by later true e =
-        first_of_two (has_name (names ++ name ∷ rest) x) (has_name_twice (names ++ name ∷ rest))
-        (list_any-append (bytes_eq x) names (name ∷ rest) ∙ either (has_name names x) (bytes_eq x name || has_name rest x) (first_of_two (bytes_eq x name) (has_name rest x) (nat_list_eq_equiv.symm x name ∙ e)))
+        or_left (has_name (names ++ name ∷ rest) x) (has_name_twice (names ++ name ∷ rest))
+        (list_any-append (bytes_eq x) names (name ∷ rest) ∙ or_right (has_name names x) (bytes_eq x name || has_name rest x) (or_left (bytes_eq x name) (has_name rest x) (nat_list_eq_equiv.symm x name ∙ e)))
     by later false e =
-        either (has_name (names ++ name ∷ rest) x) (has_name_twice (names ++ name ∷ rest))
+        or_right (has_name (names ++ name ∷ rest) x) (has_name_twice (names ++ name ∷ rest))
         (later (ap (λ (t : Bool). t || has_name names name) (sym e) ∙ h))
 
 -- the layer of a target at a place, beside those before it

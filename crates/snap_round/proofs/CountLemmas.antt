@@ -10,12 +10,13 @@ use Rattle.plane_model.specs.Points.{GridPoint, Path, Segment, same_point}
 use Rattle.plane_model.specs.Drawing.{Drawing, Polygon, steps, paths_of, rings_of, vertices_of, point_segment}
 use Rattle.plane_model.specs.Hot.{hot_points, chain_of}
 use Rattle.plane_model.specs.Snapped.{snapped, link_count, counted_links}
-use Rattle.plane_snapping.proofs.LinkCount.{links_are_counted}
+use Rattle.plane_snapping.proofs.LinkCount.{links_are_counted, sum_same}
 use Rattle.plane_snapping.proofs.SnappedPaths.{path_vertex}
 use Rattle.grid_base.specs.Drawn.{HasPaths, IsPath, IsRing}
 use Rattle.hot_pixels.specs.Chains.{AreHotPointsOf}
 use Rattle.hot_pixels.specs.Spots.{spots_after, path_spots, rings_spots, feature_spots, points_spots, spots_of}
 use Rattle.hot_pixels.proofs.ChainLemmas.{chain_is_drawn}
+use Rattle.hot_pixels.proofs.SpotLemmas.{spots_are_steps}
 use Rattle.snap_round.specs.Counting.{links_along}
 use Rattle.snap_round.proofs.ChainEnds.{no_link_in_place}
 use Rattle.snap_round.proofs.PathLemmas.{vertex_listed}
@@ -30,20 +31,11 @@ sum_joined : {A : Type 0} (g : A → ℕ) (xss : List (List A)) → sum_by g (jo
 sum_joined g [] = refl
 sum_joined g (xs ∷ xss) = sum_by-append g xs (joined_up xss) ∙ ap (λ (n : ℕ). sum_by g xs + n) (sum_joined g xss) ∙ sym (sum_by-cons (sum_by g) xs xss)
 
-sum_same : {A : Type 0} (f g : A → ℕ) (xs : List A) → ((x : A) → Contains xs x → f x ≡ g x) → sum_by f xs ≡ sum_by g xs
-sum_same f g [] h = refl
-sum_same f g (x ∷ xs) h =
-    sum_by-cons f x xs ∙ (λ i. h x (Contains-head x xs) i + sum_same f g xs (λ y c. h y (Contains-later x xs y c)) i) ∙ sym (sum_by-cons g x xs)
-
 sum_none : {A : Type 0} (f : A → ℕ) (xs : List A) → ((x : A) → Contains xs x → f x ≡ 0) → sum_by f xs ≡ 0
 sum_none f [] h = refl
 sum_none f (x ∷ xs) h = let a = sum_by-cons f x xs in let b = h x (Contains-head x xs) in let c = sum_none f xs (λ y k. h y (Contains-later x xs y k)) in omega arith
 
 -- ---- the spots of a drawing
-
-spots_are_steps : (p : GridPoint) (run : Path) → spots_after p run ≡ steps (p ∷ run)
-spots_are_steps p [] = refl
-spots_are_steps p (q ∷ run) = ap (λ (t : List Segment). record { start = p; stop = q } ∷ t) (spots_are_steps q run)
 
 module _ (d : Drawing) (h : HasPaths d) where
   abbrev g : Segment → ℕ

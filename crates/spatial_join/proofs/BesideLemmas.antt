@@ -7,7 +7,7 @@ use Rattle.std.proofs.lemmas.List.{get_or-map, length-map, take_more}
 use Rattle.std.proofs.lemmas.List.Folds.{list_any_at, Any-from_list_any}
 use Rattle.std.proofs.lemmas.Option.{get_or_from_slice_get}
 use Rattle.lists.specs.Lists.{has}
-use Rattle.lists.proofs.Members.{Contains-head, Contains-map, map-Contains}
+use Rattle.lists.proofs.Members.{Contains-map, map-Contains}
 use Rattle.plane_model.specs.Points.{GridPoint, Path}
 use Rattle.plane_model.specs.Arcs.{SignedArc, forward, backward}
 use Rattle.arc_table.specs.Around.{IsAround, start_of}
@@ -16,7 +16,7 @@ use Rattle.face_walk.specs.Places.{FaceTable, IsFaceOver, place_of}
 use Rattle.face_sets.proofs.BoundaryLemmas.{has_Contains, Contains_has}
 use Rattle.line_ops.specs.Inside.{left_of, right_of}
 use Rattle.line_ops.specs.Points.{IsNode, IsInsideAt}
-use Rattle.line_ops.proofs.PointLemmas.{one_least}
+use Rattle.line_ops.proofs.PointLemmas.{one_least, some_node}
 use Rattle.line_ops.proofs.RunLemmas.{flat_map_more}
 use Rattle.spatial_join.specs.Beside.{AreBeside, AreFoundAt, lists_of, lists_left_of}
 
@@ -65,15 +65,6 @@ from_both (Err why) to h k = tt
 
 module _ (arcs : List Path) (faces : FaceTable) (p : GridPoint) where
   module _ (around : List SignedArc) (h : IsAround arcs p around) where
-    pub some_node : (arcs_there : List SignedArc) → around ≡ arcs_there → (length arcs_there ≡ 0 → ⊥) → IsNode arcs p
-    some_node [] e some = absurd (some refl)
-    some_node (a ∷ rest) e some =
-        let o = All-contains (λ (b : SignedArc). (b.arc < length arcs) × (start_of arcs b ≡ p)) around a h.others (subst (λ (bs : List SignedArc). Contains bs a) (sym e) (Contains-head a rest)) in
-        (a, record { there = o.0; start = o.1 })
-
-    pub no_node : length around ≡ 0 → IsNode arcs p → ⊥
-    no_node e (a, leaves) = let (i, l, at) = h.all a leaves.there leaves.start in absurd (omega arith)
-
     pub beside_node : (length around ≡ 0 → ⊥) → AreBeside arcs faces p (map (left_of faces) around)
     beside_node some = record {
       at_node = λ node k. (
@@ -85,8 +76,8 @@ module _ (arcs : List Path) (faces : FaceTable) (p : GridPoint) where
             let (a, leaves, is) = w in
             subst (λ (f : ℕ). Contains (map (left_of faces) around) f) is (Contains-map (left_of faces) around a (h.all a leaves.there leaves.start)),
       );
-      on_arc = λ n no least. absurd (no (some_node around refl some));
-      alone = λ no off. absurd (no (some_node around refl some));
+      on_arc = λ n no least. absurd (no (some_node arcs p around h around refl some));
+      alone = λ no off. absurd (no (some_node arcs p around h around refl some));
     }
 
   pub beside_arc : (IsNode arcs p → ⊥) → (n : ℕ) → IsLeastAt arcs p n → AreBeside arcs faces p (left_of faces (forward n) ∷ left_of faces (backward n) ∷ [])

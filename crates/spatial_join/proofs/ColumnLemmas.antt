@@ -1,5 +1,5 @@
 -- Columns by places, rows by places, and the names of a joined table.
-use Rattle.std.proofs.Common.{◌≡◌, ℕ, ◌+◌, ℤ, Bool, true, false, cond, not, ◌||◌, List, [], ◌∷◌, ◌++◌, map, filter, length, Option, Some, None, refl, sym, ap, ◌∙◌, subst, append_assoc, append-nil, length-append}
+use Rattle.std.proofs.Common.{◌≡◌, ℕ, ◌+◌, ℤ, Bool, true, false, cond, not, List, [], ◌∷◌, ◌++◌, map, filter, length, Option, Some, None, refl, sym, ap, ◌∙◌, subst, append_assoc, append-nil, length-append}
 use Rattle.std.specs.Prelude.{Result, Ok, Err}
 use Rattle.std.specs.List.{IsDistinct, zip}
 use Rattle.std.specs.Str.{bytes_eq}
@@ -7,6 +7,7 @@ use Rattle.std.specs.Cmp.Lexicographic.{nat_list_eq_equiv}
 use Rattle.std.proofs.lemmas.List.{length-map}
 use Rattle.std.proofs.lemmas.List.Folds.{list_any-append}
 use Rattle.std.proofs.lemmas.Map.Keys.{IsDistinct-push}
+use Rattle.std.proofs.lemmas.Bool.{or_from}
 use Rattle.json_values.specs.Table.{TableContent, RowValues, AreRows}
 use Rattle.json_values.specs.declared.value.Value.{Value}
 use Rattle.json_values.specs.declared.value.Value.TheVariants as is
@@ -51,14 +52,6 @@ module _ (source earlier : List Text) (n : ℕ) (c : Calc) (rest : List Calc) wh
   abbrev others : Option TableWhy
   others = refused_calc source (earlier ++ calc_name c ∷ []) (n + 1) rest
 
-  pub calc_next : refused_calc source earlier n (c ∷ []) ≡ None → refused_calc source earlier n (c ∷ rest) ≡ refused_calc source (earlier ++ calc_name c ∷ []) (n + 1) rest
-  calc_next e = go (lacks_field source c) (has_name earlier (calc_name c)) e
-    where
-      go : (a b : Bool) → cond a (Some (NoField n)) (cond b (Some (FieldTwice n)) None) ≡ None → cond a (Some (NoField n)) (cond b (Some (FieldTwice n)) others) ≡ others
-      go true b h = absurd (cc)
-      go false true h = absurd (cc)
-      go false false h = refl
-
   pub calc_stops : (why : TableWhy) → refused_calc source earlier n (c ∷ []) ≡ Some why → refused_calc source earlier n (c ∷ rest) ≡ Some why
   calc_stops why e = go (lacks_field source c) (has_name earlier (calc_name c)) e
     where
@@ -83,16 +76,13 @@ as_many_names target source spec =
     length-append (target ++ new_names target source spec) (map calc_name spec.calc)
     ∙ (λ i. as_many_copied target source (as_join source spec) i + (length-map spec.calc calc_name ∙ sym (length-map spec.calc (summed_place source))) i)
 
-none_of : (a b : Bool) → a ≡ false → b ≡ false → (a || b) ≡ false
-none_of a b e f = ap (λ (x : Bool). x || b) e ∙ f
-
 missing_parts : (xs ys : List Text) (t : Text) → has_name (xs ++ ys) t ≡ false → (has_name xs t ≡ false) × (has_name ys t ≡ false)
 missing_parts xs ys t e =
     let both = sym (list_any-append (bytes_eq t) xs ys) ∙ e in
     (or_first (has_name xs t) (has_name ys t) both, or_second (has_name xs t) (has_name ys t) both)
 
 missing_both : (xs ys : List Text) (t : Text) → has_name xs t ≡ false → has_name ys t ≡ false → has_name (xs ++ ys) t ≡ false
-missing_both xs ys t e f = list_any-append (bytes_eq t) xs ys ∙ none_of (has_name xs t) (has_name ys t) e f
+missing_both xs ys t e f = list_any-append (bytes_eq t) xs ys ∙ or_from (has_name xs t) (has_name ys t) e f
 
 -- a name that none of some fields gets is got by none that are kept
 missing_kept : (name : Text → Text) (keeps : Text → Bool) (fields : List Text) (t : Text) → has_name (map name fields) t ≡ false → has_name (map name (filter keeps fields)) t ≡ false
@@ -100,7 +90,7 @@ missing_kept name keeps [] t e = refl
 missing_kept name keeps (f ∷ fields) t e = by (keeps f) (missing_kept name keeps fields t (or_second (bytes_eq t (name f)) (has_name (map name fields) t) e))
   where
     by : (b : Bool) → has_name (map name (filter keeps fields)) t ≡ false → has_name (map name (cond b (f ∷ filter keeps fields) (filter keeps fields))) t ≡ false
-    by true h = none_of (bytes_eq t (name f)) (has_name (map name (filter keeps fields)) t) (or_first (bytes_eq t (name f)) (has_name (map name fields) t) e) h
+    by true h = or_from (bytes_eq t (name f)) (has_name (map name (filter keeps fields)) t) (or_first (bytes_eq t (name f)) (has_name (map name fields) t) e) h
     by false h = h
 
 -- calculations that are accepted have names that differ, also from those before them

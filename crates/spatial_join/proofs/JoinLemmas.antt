@@ -1,11 +1,11 @@
 -- Answers for all items, one item further, and rows that match both ways.
-use Rattle.std.proofs.Common.{◌≡◌, ℕ, zero, suc, ◌+◌, ◌<◌, ◌≤◌, ℤ, Bool, true, nat_eq, nat_lt, List, [], ◌∷◌, ◌++◌, map, filter, length, drop, get_or, Contains, refl, sym, ap, ◌∙◌, subst, append_assoc, append-nil, length-append, add-one, arith}
+use Rattle.std.proofs.Common.{◌≡◌, ℕ, zero, suc, ◌+◌, ◌<◌, ◌≤◌, ℤ, Bool, true, nat_eq, nat_lt, List, [], ◌∷◌, ◌++◌, map, filter, length, drop, get_or, Contains, refl, sym, ap, ◌∙◌, subst, append-nil, length-append, add-one, arith}
 use Rattle.std.specs.Prelude.{Option, Some, None, Result, Ok, Err}
 use Rattle.std.specs.Bool.{beq}
 use Rattle.std.specs.List.{AllZip, zip}
 use Rattle.std.specs.List.Sorted.{IsStrictlyIncreasing}
 use Rattle.std.proofs.lemmas.List.{length-map}
-use Rattle.std.proofs.lemmas.List.Kept.{AllPairs-filter, AllPairs-from_increasing}
+use Rattle.std.proofs.lemmas.List.Kept.{IsStrictlyIncreasing-filter}
 use Rattle.std.proofs.lemmas.Slice.Zip.{AllZip-long}
 use Rattle.lists.specs.Lists.{has, numbers_where}
 use Rattle.lists.proofs.Ascending.{one_ascending}
@@ -27,7 +27,7 @@ use Rattle.table_ops.specs.declared.join_columns.Column.{Column}
 use Rattle.table_ops.proofs.Testing.{behind, behind_one}
 use Rattle.spatial_join.specs.CalcColumns.{calculated_at, row_by_places, rows_by_places, with_sums}
 use Rattle.spatial_join.specs.Joined.{each_ok, matching}
-use Rattle.spatial_join.proofs.NumberLemmas.{increasing, numbers_where_rise}
+use Rattle.bucket_grid.proofs.RisingNumbers.{numbers_where_rise}
 
 -- ---- an answer and what it was made of
 
@@ -78,26 +78,7 @@ each_of_map {A} {B} {C} f g (x ∷ xs) = ap (λ (r : Result (List C) TableWhy). 
 
 -- ---- calculated values
 
-with_one : (cells : RowValues) (n : ℤ) (r : Result (List ℤ) TableWhy) → on_ok (on_ok r (λ (ns : List ℤ). Ok (n ∷ ns))) (λ (ns : List ℤ). Ok (cells ++ map is.Num ns)) ≡ on_ok r (λ (ns : List ℤ). Ok ((cells ++ is.Num n ∷ []) ++ map is.Num ns))
-with_one cells n (Ok ns) = ap Ok (sym (append_assoc cells (is.Num n ∷ []) (map is.Num ns)))
-with_one cells n (Err why) = refl
-
 module _ (rows : List RowValues) (matched : List ℕ) where
-  pub sums_next : (cells : RowValues) (places rest : List _) (place : _) (n : ℤ) → places ≡ place ∷ rest → calculated_at rows matched place ≡ Ok n →
-      with_sums cells rows matched places ≡ with_sums (cells ++ is.Num n ∷ []) rows matched rest
-  sums_next cells places rest place n e said =
-      ap (with_sums cells rows matched) e
-      ∙ ap (λ (r : Result ℤ TableWhy). on_ok (on_ok r (each_from (calculated_at rows matched) rest)) (λ (ns : List ℤ). Ok (cells ++ map is.Num ns))) said
-      ∙ with_one cells n (each_ok (calculated_at rows matched) rest)
-
-  pub sums_stop : (cells : RowValues) (places rest : List _) (place : _) (why : TableWhy) → places ≡ place ∷ rest → calculated_at rows matched place ≡ Err why → with_sums cells rows matched places ≡ Err why
-  sums_stop cells places rest place why e said =
-      ap (with_sums cells rows matched) e
-      ∙ ap (λ (r : Result ℤ TableWhy). on_ok (on_ok r (each_from (calculated_at rows matched) rest)) (λ (ns : List ℤ). Ok (cells ++ map is.Num ns))) said
-
-  pub sums_done : (cells : RowValues) (places : List _) → places ≡ [] → with_sums cells rows matched places ≡ Ok cells
-  sums_done cells places e = ap (with_sums cells rows matched) e ∙ ap Ok (append-nil cells)
-
   pub sums_long : (cells row : RowValues) (places : List _) → with_sums cells rows matched places ≡ Ok row → length row ≡ length cells + length places
   sums_long cells row places e =
       let (ns, told, is_row) = answered (each_ok (calculated_at rows matched) places) (λ (ns : List ℤ). Ok (cells ++ map is.Num ns)) row e in
@@ -135,13 +116,10 @@ rows_long {A} f n long xs rows e = go xs rows (each_answers f xs rows e)
 
 -- ---- numbers in both of two rising lists
 
-filter_rises : (p : ℕ → Bool) (xs : List ℕ) → IsStrictlyIncreasing xs → IsStrictlyIncreasing (filter p xs)
-filter_rises p xs h = increasing (filter p xs) (AllPairs-filter (λ (x y : ℕ). x < y) p xs (AllPairs-from_increasing xs h))
-
 pub both_ways : (xs ys : List ℕ) → IsStrictlyIncreasing xs → IsStrictlyIncreasing ys → filter (has nat_eq xs) ys ≡ matching xs ys
 both_ways xs ys h k = one_ascending nat_lt nat_order (filter (has nat_eq xs) ys) (filter (has nat_eq ys) xs)
-    (to_ascending (filter (has nat_eq xs) ys) (filter_rises (has nat_eq xs) ys k))
-    (to_ascending (filter (has nat_eq ys) xs) (filter_rises (has nat_eq ys) xs h))
+    (to_ascending (filter (has nat_eq xs) ys) (IsStrictlyIncreasing-filter (has nat_eq xs) ys k))
+    (to_ascending (filter (has nat_eq ys) xs) (IsStrictlyIncreasing-filter (has nat_eq ys) xs h))
     (λ n c. turns xs ys n c)
     (λ n c. turns ys xs n c)
   where

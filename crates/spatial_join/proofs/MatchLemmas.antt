@@ -9,6 +9,7 @@ use Rattle.std.proofs.lemmas.List.Folds.{list_any_at, Any-from_list_any}
 use Rattle.std.proofs.lemmas.Slice.Zip.{AllZip-long}
 use Rattle.arc_table.proofs.Everywhere.{All-map_any}
 use Rattle.bucket_grid.proofs.Numbers.{Contains-numbers_where, numbers_where_below}
+use Rattle.bucket_grid.proofs.RisingNumbers.{numbers_where_rise, numbers_where_pass}
 use Rattle.lists.specs.Lists.{has, ascending, numbers_where}
 use Rattle.lists.proofs.Ascending.{one_ascending, ascending-IsAscending, ascending-Contains, Contains-ascending}
 use Rattle.lists.proofs.Members.{Contains-flat_map, flat_map-Contains}
@@ -20,7 +21,6 @@ use Rattle.table_terms.proofs.Mapped.{list_any-map}
 use Rattle.spatial_join.specs.Beside.{AreBeside, AreFoundAt, lists_of}
 use Rattle.spatial_join.specs.Matches.{TellsInside, says_some, AreSetsAt, AreFoundAlong, AreMatchedPoints, AreMatchedSets}
 use Rattle.spatial_join.proofs.BesideLemmas.{has_one, inside_by_beside}
-use Rattle.spatial_join.proofs.NumberLemmas.{numbers_where_rise, numbers_where_pass}
 
 -- ---- one pair more
 

@@ -2,12 +2,12 @@ ghost use Rattle.std.specs.Prelude.{◌≡◌, ◌<◌, [], ℕ, List, All, IfOk
 ghost use Rattle.std.specs.List.{range_with_len};
 ghost use Rattle.std.specs.List.Sorted.{IsStrictlyIncreasing};
 ghost use Rattle.face_walk.specs.Places.{IsBuiltOf};
-ghost use Rattle.face_sets.specs.Owners.{AreOwners, IsNumbered, owners_of, with_number};
+ghost use Rattle.face_sets.specs.Owners.{AreOwners, IsNumbered, owners_of};
 ghost use Rattle.spatial_join.specs.Matches.{AreFoundAlong, AreMatchedPoints, AreMatchedSets, AreSetsAt};
 
 use crate::beside::push_sets_at;
 use arc_table::ArcTable;
-use face_sets::{FaceOwners, SetList};
+use face_sets::{FaceOwners, SetList, put_number};
 use face_walk::Faces;
 use grid_base::{GroupList, IdList, PathList, Pt, empty_lists};
 use std::alloc::{AllocError, Global};
@@ -114,16 +114,6 @@ fn add_number(lists: &mut Vec<Vec<u32>>, places: &[u32], n: u32) -> Result<(), A
 {
     for place in places {
         put_number(lists, *place as usize, n)?;
-    }
-    Ok(())
-}
-
-// Appends a number to the list at a place, where there is one.
-fn put_number(lists: &mut Vec<Vec<u32>>, place: usize, n: u32) -> Result<(), AllocError>
-    ensures { OnOk result (map (λ list. list.items) lists.new.items ≡ with_number n place (map (λ list. list.items) lists.old.items)) }
-{
-    if place < lists.len() {
-        lists[place].push(n)?;
     }
     Ok(())
 }

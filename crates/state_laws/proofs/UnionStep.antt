@@ -43,14 +43,9 @@ use Rattle.layer_laws.proofs.PolygonUnion.{lone_layers_are_refused, united_layer
 use Rattle.state_laws.proofs.Stepping.{First, changed_by, first_of_two, is_first, is_second, is_third, none_of_three, none_of_two, put, step_by, step_refused, stepped, target_absent, target_there, too_many_told, unfit, which}
 use Rattle.layer_laws.proofs.Targeting.{targets_show}
 use Rattle.layer_laws.proofs.Zipped.{zip_all, zip_long}
+use Rattle.layer_laws.proofs.LayerKinds.{polygons_alike}
 
 -- ---- layers of polygons
-
-tests_same : (k : Kind) → is_polygon k ≡ checks.is_polygon k
-tests_same kinds.Polygon = refl
-tests_same kinds.Line = refl
-tests_same kinds.Point = refl
-tests_same kinds.Table = refl
 
 pub polygon_is : (k : Kind) → checks.is_polygon k ≡ true → k ≡ kinds.Polygon
 polygon_is kinds.Polygon e = refl
@@ -72,7 +67,7 @@ polygons_show v (layer ∷ ts) (l ∷ ls) shown e =
 kinds_alike : (v : View) (sources : SourceLayers) (s : State) (ts : List Layer) (ls : List StateLayer) → AllZip (LayerShows v) ts ls → unfit sources s (does.Together joint.Union) ls ≡ option_map why_of (checks.refused_mixture joint.Union ts)
 kinds_alike v sources s ts ls shown =
     let same : list_all (λ (l : StateLayer). is_polygon l.kind) ls ≡ all_polygons ts =
-    sym (zip_all (LayerShows v) (λ (layer : Layer). checks.is_polygon layer.kind) (λ (l : StateLayer). is_polygon l.kind) (λ layer l h. sym (tests_same layer.kind) ∙ ap is_polygon (sym h.kind)) ts ls shown) in
+    sym (zip_all (LayerShows v) (λ (layer : Layer). checks.is_polygon layer.kind) (λ (l : StateLayer). is_polygon l.kind) (λ layer l h. sym (polygons_alike layer.kind) ∙ ap is_polygon (sym h.kind)) ts ls shown) in
     ap (λ (b : Bool). first_refusal (if b then None else Some state.wrong_kind) None) same ∙ mixture_told (all_polygons ts)
 
 -- ---- what is united

@@ -1,14 +1,13 @@
 -- Joins by keys: the first row with a key, and the columns of a joined row.
 use Rattle.std.proofs.Common.{◌≡◌, ℕ, suc, ◌+◌, ◌<◌, All, Bool, true, false, cond, not, ◌&&◌, ◌||◌, List, [], ◌∷◌, ◌++◌, map, length, take, get_or, slice_get, filter, find, Option, Some, None, option_map, unwrap_or, refl, sym, ap, subst, ◌∙◌, true≢false, is_some, arith, length-append}
-use Rattle.std.specs.Bool.{Decides}
 use Rattle.std.specs.List.{IsDistinct, AllByRecursion, list_any, position_or_len}
 use Rattle.std.specs.Option.{option_or}
 use Rattle.std.specs.Str.{bytes_eq}
-use Rattle.std.specs.Cmp.{unsigned_Decides}
-use Rattle.std.specs.Cmp.Lexicographic.{pointwise_decides, nat_list_eq_equiv}
+use Rattle.std.specs.Cmp.Lexicographic.{nat_list_eq_equiv}
 use Rattle.std.proofs.lemmas.List.{take_more, length-map, map-append, append_cancel_left}
 use Rattle.std.proofs.lemmas.List.Folds.{find_at, find-append}
 use Rattle.std.proofs.lemmas.Option.{slice_get-get_or}
+use Rattle.std.proofs.lemmas.Slice.Eq.{bytes_eq-Decides}
 use Rattle.lists.specs.Lists.{numbers_where}
 use Rattle.json_values.specs.Table.{RowValues, AreRows}
 use Rattle.json_values.specs.Value.{same}
@@ -25,9 +24,6 @@ use Rattle.table_rows.proofs.Cells.{map_map}
 use Rattle.table_terms.proofs.Distinct.{IsDistinct-map}
 use Rattle.table_terms.proofs.Mapped.{position_or_len-map}
 use Rattle.table_rows.proofs.Numbers.{numbers_where_more}
-
-texts_decide : (s t : Text) → Decides (bytes_eq s t) (s ≡ t)
-texts_decide = pointwise_decides unsigned_Decides
 
 -- ---- the first row with a key
 
@@ -152,11 +148,11 @@ same_behind p s t = by (bytes_eq (p ++ s) (p ++ t)) refl (bytes_eq s t) refl
     by true e true f = e ∙ sym f
     by false e false f = e ∙ sym f
     by true e false f =
-        let equal : s ≡ t = append_cancel_left p s t ((texts_decide (p ++ s) (p ++ t)).0 e) in
-        absurd (true≢false (sym ((texts_decide s t).1 equal) ∙ f))
+        let equal : s ≡ t = append_cancel_left p s t ((bytes_eq-Decides (p ++ s) (p ++ t)).0 e) in
+        absurd (true≢false (sym ((bytes_eq-Decides s t).1 equal) ∙ f))
     by false e true f =
-        let equal : p ++ s ≡ p ++ t = ap (λ (r : Text). p ++ r) ((texts_decide s t).0 f) in
-        absurd (true≢false (sym ((texts_decide (p ++ s) (p ++ t)).1 equal) ∙ e))
+        let equal : p ++ s ≡ p ++ t = ap (λ (r : Text). p ++ r) ((bytes_eq-Decides s t).0 f) in
+        absurd (true≢false (sym ((bytes_eq-Decides (p ++ s) (p ++ t)).1 equal) ∙ e))
 
 all_filter : (P : Text → Type 0) (p : Text → Bool) (xs : List Text) → AllByRecursion P xs → AllByRecursion P (filter p xs)
 all_filter P p [] h = tt
@@ -192,10 +188,6 @@ fields_differ names spec h k = listed_differ spec.fields (filter (λ (f : Text).
 
 abbrev AreNew : List Text → List Text → Type 0
 AreNew target names = AllByRecursion (λ (y : Text). has_name target y ≡ false) names
-
-not_true : (b : Bool) → not b ≡ true → b ≡ false
-not_true true e = absurd (true≢false (sym e))
-not_true false e = refl
 
 are_new : (target : List Text) (spec : JoinSpec) (fields : List Text) → AreNew target (map (copied_name spec) (filter (λ (f : Text). not (has_name target (copied_name spec f))) fields))
 are_new target spec [] = tt

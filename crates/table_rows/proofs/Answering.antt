@@ -47,12 +47,5 @@ seen_refusal {S} value r Memory o wanted is t on = subst (λ (s : Result S Table
 pub refused_first : {T E : Type 0} (a b : Option E) (r : Result T E) (why : E) → a ≡ Some why → unless (first_refusal a b) r ≡ Err why
 refused_first a b r why e = rw e refl
 
--- the second does, where the first does not
-pub refused_second : {T E : Type 0} (a b : Option E) (r : Result T E) (why : E) → a ≡ None → b ≡ Some why → unless (first_refusal a b) r ≡ Err why
-refused_second a b r why e f = rw (e, f) refl
-
 pub refused_alone : {T E : Type 0} (a : Option E) (r : Result T E) (why : E) → a ≡ Some why → unless a r ≡ Err why
 refused_alone a r why e = rw e refl
-
-pub none_refused : {T E : Type 0} (a b : Option E) (r : Result T E) → a ≡ None → b ≡ None → unless (first_refusal a b) r ≡ r
-none_refused a b r e f = rw (e, f) refl

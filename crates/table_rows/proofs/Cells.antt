@@ -36,6 +36,3 @@ rows_long-append n (x ∷ xs) ys h k = (h.0, rows_long-append n xs ys h.1 k)
 pub cells_long : (names fields : List Text) (rows : List RowValues) → AreRows (length fields) (map (cells names fields) rows)
 cells_long names fields [] = tt
 cells_long names fields (row ∷ rows) = (length-map fields (λ (f : Text). value_at row (place_of names f)), cells_long names fields rows)
-
-pub map_long : {A B : Type 0} (f : A → B) (xs : List A) → length (map f xs) ≡ length xs
-map_long f xs = length-map xs f

@@ -20,9 +20,6 @@ more f k n x = f x ++ cond (same_values x k) (n ∷ []) []
 same_is : (x y : RowValues) → same_values x y ≡ true → x ≡ y
 same_is x y e = (rows_decide x y).0 e
 
-differs_back : (x y : RowValues) → same_values x y ≡ false → same_values y x ≡ false
-differs_back x y e = rows_equivalent.symm y x ∙ e
-
 more_same : (f : RowValues → List ℕ) (k x : RowValues) (n : ℕ) → same_values k x ≡ true → more f k n x ≡ f x ++ n ∷ []
 more_same f k x n e = ap (λ (b : Bool). f x ++ cond b (n ∷ []) []) (rows_equivalent.symm x k ∙ e)
 

@@ -1,11 +1,10 @@
 -- Renamed columns: the new names, those that stand twice, and why one does.
 use Rattle.std.proofs.Common.{◌≡◌, ℕ, ◌+◌, ◌<◌, ◌≤◌, Bool, true, false, cond, not, ◌||◌, List, [], ◌∷◌, ◌++◌, map, length, take, get_or, count_by, slice_get, find, refl, sym, ap, ◌∙◌, true≢false, subst, Some, None, Option, option_map, unwrap_or, nat_lt, add-zero, zero-add, one-add, is_some, le_trans, append-nil, lt-ltb, le-ltb, ltb-true, ltb-false, arith}
-use Rattle.std.specs.Bool.{Decides}
 use Rattle.std.specs.List.{IsDistinct, AllByRecursion, list_any, position_or_len, last_or}
 use Rattle.std.specs.Str.{bytes_eq}
-use Rattle.std.specs.Cmp.{unsigned_Decides}
-use Rattle.std.specs.Cmp.Lexicographic.{pointwise_decides, nat_list_eq_equiv}
+use Rattle.std.specs.Cmp.Lexicographic.{nat_list_eq_equiv}
 use Rattle.std.proofs.lemmas.List.Recursion.{is_count_by}
+use Rattle.std.proofs.lemmas.Slice.Eq.{bytes_eq-Decides}
 use Rattle.indexmap.specs.IndexSet.{insert_key}
 use Rattle.lists.specs.Lists.{numbers_from, numbers_where}
 use Rattle.table_terms.specs.Names.{Text}
@@ -13,9 +12,6 @@ use Rattle.table_rows.specs.Columns.{renamed, is_twice}
 use Rattle.table_terms.specs.declared.renames.Rename.{Rename}
 use Rattle.table_terms.proofs.Inserted.{inserted}
 use Rattle.table_rows.proofs.Numbers.{numbers_where_more}
-
-texts_decide : (s t : Text) → Decides (bytes_eq s t) (s ≡ t)
-texts_decide = pointwise_decides unsigned_Decides
 
 turned : (s t : Text) → bytes_eq s t ≡ bytes_eq t s
 turned = nat_list_eq_equiv.symm
@@ -107,22 +103,22 @@ none_of a e = let k : a ≤ 0 = ltb-false 0 a e in omega arith
 
 pub seen_push : (seen names : List Text) (y : Text) → Seen seen names → Seen (insert_key bytes_eq seen y) (names ++ y ∷ [])
 seen_push seen names y h x =
-    inserted bytes_eq texts_decide x y seen ∙ ap (λ (b : Bool). b || bytes_eq x y) (h x) ∙ one_seen (count_by (bytes_eq x) names) (bytes_eq x y)
+    inserted bytes_eq bytes_eq-Decides x y seen ∙ ap (λ (b : Bool). b || bytes_eq x y) (h x) ∙ one_seen (count_by (bytes_eq x) names) (bytes_eq x y)
     ∙ sym (ap (nat_lt 0) (count_by-push (bytes_eq x) names y))
 
 pub repeated_push : (seen repeated names : List Text) (y : Text) → Seen seen names → Repeated repeated names → list_any (bytes_eq y) seen ≡ true
     → Repeated (insert_key bytes_eq repeated y) (names ++ y ∷ [])
 repeated_push seen repeated names y h r there x =
     let twice : bytes_eq x y ≡ true → 0 < count_by (bytes_eq x) names =
-    λ e. ltb-true 0 (count_by (bytes_eq x) names) (sym (h x) ∙ ap (λ (z : Text). list_any (bytes_eq z) seen) ((texts_decide x y).0 e) ∙ there) in
-    inserted bytes_eq texts_decide x y repeated ∙ ap (λ (b : Bool). b || bytes_eq x y) (r x) ∙ one_repeated (count_by (bytes_eq x) names) (bytes_eq x y) twice
+    λ e. ltb-true 0 (count_by (bytes_eq x) names) (sym (h x) ∙ ap (λ (z : Text). list_any (bytes_eq z) seen) ((bytes_eq-Decides x y).0 e) ∙ there) in
+    inserted bytes_eq bytes_eq-Decides x y repeated ∙ ap (λ (b : Bool). b || bytes_eq x y) (r x) ∙ one_repeated (count_by (bytes_eq x) names) (bytes_eq x y) twice
     ∙ sym (ap (nat_lt 1) (count_by-push (bytes_eq x) names y))
 
 pub repeated_stay : (seen repeated names : List Text) (y : Text) → Seen seen names → Repeated repeated names → list_any (bytes_eq y) seen ≡ false
     → Repeated repeated (names ++ y ∷ [])
 repeated_stay seen repeated names y h r new x =
     let once : bytes_eq x y ≡ true → count_by (bytes_eq x) names ≡ 0 =
-    λ e. none_of (count_by (bytes_eq x) names) (sym (h x) ∙ ap (λ (z : Text). list_any (bytes_eq z) seen) ((texts_decide x y).0 e) ∙ new) in
+    λ e. none_of (count_by (bytes_eq x) names) (sym (h x) ∙ ap (λ (z : Text). list_any (bytes_eq z) seen) ((bytes_eq-Decides x y).0 e) ∙ new) in
     r x ∙ not_repeated (count_by (bytes_eq x) names) (bytes_eq x y) once ∙ sym (ap (nat_lt 1) (count_by-push (bytes_eq x) names y))
 
 -- a name more: repeated, where it was seen before
@@ -234,7 +230,7 @@ pair_differs pairs n m xs other once =
     by false e o f r g = e
     by true e (Some p) f r g = absurd (true≢false (two_counted p.label (renamed pairs n) (renamed pairs m) xs (sym (renamed_found pairs n p f)) e (once n p f)))
     by true e None f (Some p) g =
-        let same : renamed pairs n ≡ renamed pairs m = (texts_decide (renamed pairs n) (renamed pairs m)).0 e in
+        let same : renamed pairs n ≡ renamed pairs m = (bytes_eq-Decides (renamed pairs n) (renamed pairs m)).0 e in
         absurd (true≢false (two_counted p.label (renamed pairs n) (renamed pairs m) xs (sym (renamed_found pairs m p g) ∙ sym same) e (once m p g)))
     by true e None f None g = (λ i. bytes_eq (renamed_not pairs n f i) (renamed_not pairs m g i)) ∙ other
 

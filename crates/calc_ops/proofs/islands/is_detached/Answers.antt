@@ -2,8 +2,8 @@ use Rattle.std.proofs.Common.{◌≡◌, ◌∙◌, sym, ap, true, get_or, take,
 use Rattle.std.specs.List.{list_all}
 use Rattle.std.proofs.lemmas.List.{take_all}
 use Rattle.std.proofs.lemmas.List.Folds.{list_all_at, list_all_more}
+use Rattle.std.proofs.lemmas.Bool.{and_from}
 use Rattle.calc_ops.specs.Islands.{stands_alone}
-use Rattle.calc_ops.proofs.IslandLemmas.{both_true}
 use Rattle.calc_ops.proofs.islands.is_detached.Goals as goal
 
 pub loop-arc-preserved : goal.loop-arc-preserved
@@ -13,7 +13,7 @@ loop-arc-preserved c = λ sets h.
     let i = c.loop-arc.arc-index in
     let a = c.arc-item.result in
     let here : test (get_or around i a) ≡ true = ap test (sym c.arc-item.is) ∙ sym (c.stands_alone.ensures.exact sets h) ∙ c.if-not-stands_alone.false in
-    list_all_more test around i a c.loop-arc-test.true ∙ both_true (list_all test (take i around)) (test (get_or around i a)) (c.loop-arc.invariant sets h) here
+    list_all_more test around i a c.loop-arc-test.true ∙ and_from (list_all test (take i around)) (test (get_or around i a)) (c.loop-arc.invariant sets h) here
 
 pub returns-then-not-stands_alone : goal.returns-then-not-stands_alone
 returns-then-not-stands_alone c = record {

@@ -2,7 +2,8 @@ use Rattle.std.proofs.Common.{◌≡◌, ◌∙◌, sym, ap, arith, ℕ, ◌-◌
 use Rattle.std.proofs.lemmas.List.{take_more}
 use Rattle.plane_model.specs.Points.{GridPoint, Path}
 use Rattle.plane_model.specs.Arcs.{points_of}
-use Rattle.ring_trace.proofs.LeastTurn.{point_along, points_counted, without_last_is}
+use Rattle.ring_trace.proofs.LeastTurn.{point_along, without_last_is}
+use Rattle.arc_table.proofs.DrawnPaths.{points_counted}
 use Rattle.ring_trace.proofs.turns.push_points.Goals as goal
 
 pub loop-k-preserved : goal.loop-k-preserved

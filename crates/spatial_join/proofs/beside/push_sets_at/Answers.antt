@@ -1,13 +1,14 @@
 use Rattle.std.proofs.Common.{◌∙◌, sym, length}
 use Rattle.std.proofs.lemmas.Bool.{eqb-true, eqb-false}
 use Rattle.arc_table.proofs.AroundRows.{none_around}
-use Rattle.spatial_join.proofs.BesideLemmas.{beside_node, found_left, from_both, no_node}
+use Rattle.spatial_join.proofs.BesideLemmas.{beside_node, found_left, from_both}
+use Rattle.line_ops.proofs.PointLemmas.{no_node}
 use Rattle.spatial_join.proofs.beside.push_sets_at.Goals as goal
 
 pub push_off_nodes-requires-clause-off : goal.push_off_nodes-requires-clause-off
 push_off_nodes-requires-clause-off c =
     let around = c.around-around.result.now in
-    no_node c.args.t.now c.args.f.now c.args.p around c.around-around.ensures.exact (eqb-true (length around) 0 (sym c.is_empty.ensures ∙ c.if-is_empty.true))
+    no_node c.args.t.now c.args.p around c.around-around.ensures.exact (eqb-true (length around) 0 (sym c.is_empty.ensures ∙ c.if-is_empty.true))
 
 pub push_off_nodes-requires-clause-around : goal.push_off_nodes-requires-clause-around
 push_off_nodes-requires-clause-around c =

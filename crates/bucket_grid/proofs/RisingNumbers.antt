@@ -6,7 +6,7 @@ use Rattle.std.proofs.lemmas.List.Kept.{AllPairs-cons}
 use Rattle.lists.specs.Lists.{numbers_from, numbers_where}
 use Rattle.lists.proofs.Members.{Contains-cases, Contains-nil}
 
-abbrev Rises : List ℕ → Type 0
+abbrev pub Rises : List ℕ → Type 0
 Rises xs = AllPairs (λ (x y : ℕ). x < y) xs
 
 pub increasing : (xs : List ℕ) → Rises xs → IsStrictlyIncreasing xs
@@ -41,7 +41,7 @@ module _ {A : Type 0} (p : A → Bool) where
     pub is : get_or xs place item ≡ item
     pub passes : p item ≡ true
 
-  numbers_pass : (n : ℕ) (xs : List A) (i : ℕ) → Contains (numbers_from n p xs) i → Passes n xs i
+  pub numbers_pass : (n : ℕ) (xs : List A) (i : ℕ) → Contains (numbers_from n p xs) i → Passes n xs i
   numbers_pass n [] i c = Contains-nil i c
   numbers_pass n (x ∷ xs) i c = go (p x) refl c (λ d. later (numbers_pass (n + 1) xs i d))
     where
