@@ -4,10 +4,9 @@ use Rattle.expr_lang.specs.declared.fault.ExprFault.{ExprFault}
 use Rattle.expr_lang.specs.declared.fault.ExprFault.TheVariants as fault
 use Rattle.expr_lang.specs.declared.parser.Misfit.{Misfit}
 use Rattle.expr_lang.specs.declared.parser.Misfit.TheVariants.{TooDeep, Unfit}
-use Rattle.expr_lang.specs.Tree.{Tree, Assigned}
 use Rattle.expr_lang.specs.Grammar.{Placed, Toks, Cond, Assigns}
 use Rattle.expr_lang.specs.Stuck.{StuckIn, GoesOnIn, IsWhyIn}
-use Rattle.expr_lang.specs.Faults.{IsTree, AreAssigns, FaultFits, AssignsFaultFits, IsTextOf, IsFaultIn, FaultFitsIn, fault_of, depth_limit}
+use Rattle.expr_lang.specs.Faults.{FaultFits, AssignsFaultFits, IsFaultIn, FaultFitsIn, fault_of, depth_limit}
 use Rattle.cmd_words.specs.declared.fault.ExprWhy.{ExprWhy}
 use Rattle.cmd_words.specs.declared.fault.ExprWhy.TheVariants as expr
 use Rattle.cmd_words.specs.Expressions.{Refusals, AreRefusals, expression, assignments, fault_at}
@@ -40,11 +39,6 @@ cut_cases (x ∷ xs) left (y ∷ ys) rest e = go (cut_cases xs left ys rest cc)
 -- ## A grammar of texts
 
 module _ {T : Type 0} (G : ℕ → Toks → T → Type 0) where
-  -- a text of the grammar has no fault
-  pub text_has_no_fault : (text : List ℕ) (e : T) (f : ExprFault) → IsTextOf G text e → IsFaultIn G text f → ⊥
-  text_has_no_fault text e f t (inl long) = absurd (omega (arith, t.0, long.0))
-  text_has_no_fault text e f t (inr stuck) = stuck.1.4.refused e (subst (λ (ts : Toks). G depth_limit ts e) stuck.1.3 t.1)
-
   -- tokens that begin a text begin it with fewer of them too
   goes_on_before : (n : ℕ) (front : Toks) (t : Placed) (more : Toks) → GoesOnIn G n (front ++ t ∷ more) → GoesOnIn G n (front ++ t ∷ [])
   goes_on_before n front t more g = (more ++ g.0, g.1, subst (λ (ts : Toks). G n ts g.1) same g.2)
@@ -100,11 +94,6 @@ module _ {T : Type 0} (G : ℕ → Toks → T → Type 0) (text : List ℕ) wher
   refused_for None none p f = absurd (none p f)
   refused_for (Some g) h p f = ap Some (same_place g p (fault_in_is_one G text (fault_at g) (fault_at p) h f))
 
-  -- a text of the grammar is not refused
-  pub not_refused : (o : Option (ℕ × ExprWhy)) → IsTold o → (e : T) → IsTextOf G text e → o ≡ None
-  not_refused None h e t = refl
-  not_refused (Some g) h e t = absurd (text_has_no_fault G text e (fault_at g) t h)
-
   pub reads_fault : (o : Option (ℕ × ExprWhy)) → IsTold o → (f : ExprFault) → FaultFitsIn G text f → IsRefusedFor o (refusal_of f)
   reads_fault o told (fault.Syntax at) h = refused_for o told (at, expr.Syntax) h
   reads_fault o told (fault.Unsupported at) h = refused_for o told (at, expr.Unsupported) h
@@ -116,11 +105,5 @@ module _ {T : Type 0} (G : ℕ → Toks → T → Type 0) (text : List ℕ) wher
 pub reads_expression_fault : (refuses : Refusals) (text : List ℕ) (f : ExprFault) → AreRefusals refuses → FaultFits text f → IsRefusedFor (refuses expression text) (refusal_of f)
 reads_expression_fault refuses text f right h = reads_fault Cond text (refuses expression text) (right expression text) f h
 
-pub expression_not_refused : (refuses : Refusals) (text : List ℕ) (e : Tree) → AreRefusals refuses → IsTree text e → refuses expression text ≡ None
-expression_not_refused refuses text e right t = not_refused Cond text (refuses expression text) (right expression text) e t
-
 pub reads_assignments_fault : (refuses : Refusals) (text : List ℕ) (f : ExprFault) → AreRefusals refuses → AssignsFaultFits text f → IsRefusedFor (refuses assignments text) (refusal_of f)
 reads_assignments_fault refuses text f right h = reads_fault Assigns text (refuses assignments text) (right assignments text) f h
-
-pub assignments_not_refused : (refuses : Refusals) (text : List ℕ) (list : List Assigned) → AreRefusals refuses → AreAssigns text list → refuses assignments text ≡ None
-assignments_not_refused refuses text list right t = not_refused Assigns text (refuses assignments text) (right assignments text) list t

@@ -27,15 +27,15 @@ pub(crate) struct SoFar {
 
 impl Model for SoFar {
     ghost use Rattle.cmd_words.specs.Chains.{SoFar as SoFarWords};
-    ghost use Rattle.job_terms.specs.contracts.chain_lists.SourceList as sources_type;
-    ghost use Rattle.grid_base.specs.contracts.list_types.BoxList as boxes_type;
+    ghost use Rattle.job_terms.specs.contracts.job.SourceWord as source_type;
+    ghost use Rattle.grid_base.specs.contracts.rect.Rect as box_type;
     ghost use Rattle.cmd_words.specs.contracts.action_words.CommandWords as command_type;
     ghost use Rattle.std.specs.Prelude.{refl};
     ghost use Rattle.std.specs.Coded.{code_by, coded×, coded_list, coded_bool};
 
     ghost Value = { SoFarWords };
 
-    ghost coded = { code_by _ (coded× (coded× sources_type.the_row.coded boxes_type.the_row.coded) (coded× (coded_list command_type.the_row.coded) coded_bool)) (λ s. ((s.sources, s.boxes), (s.commands, s.reads_standard))) (λ p. record { sources = p.0.0; boxes = p.0.1; commands = p.1.0; reads_standard = p.1.1 }) (λ _. refl) };
+    ghost coded = { code_by _ (coded× (coded× (coded_list source_type.the_row.coded) (coded_list box_type.the_row.coded)) (coded× (coded_list command_type.the_row.coded) coded_bool)) (λ s. ((s.sources, s.boxes), (s.commands, s.reads_standard))) (λ p. record { sources = p.0.0; boxes = p.0.1; commands = p.1.0; reads_standard = p.1.1 }) (λ _. refl) };
 
     ghost view = { λ s. record { sources = s.sources; boxes = s.boxes; commands = s.commands.items; reads_standard = s.reads_standard } };
 }

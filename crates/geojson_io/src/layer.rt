@@ -1,10 +1,9 @@
-ghost use Rattle.std.specs.Prelude.{◌≡◌, ◌++◌, ◌∷◌, [], OnOk, OnErr, length, slice_get};
-ghost use Rattle.std.specs.Option.{option_copied};
+ghost use Rattle.std.specs.Prelude.{◌≡◌, length};
 
 use crate::shape::GeoShapeList;
 use grid_base::Kind;
 use json_read::Table;
-use std::alloc::{AllocError, Global};
+use lists::ItemList;
 use std::marker::Model;
 use text_core::Text;
 
@@ -35,71 +34,7 @@ impl Model for GeoLayer {
 }
 
 /// A list of layers.
-#[derive(Drop)]
-pub struct GeoLayers {
-    items: Vec<GeoLayer>,
-}
-
-impl Model for GeoLayers {
-    ghost use Rattle.std.specs.Prelude.{List, ◌<◌, ◌^◌, length};
-    ghost use Rattle.std.specs.Coded.{coded_list};
-    ghost use Rattle.geojson_io.specs.contracts.layer.GeoLayer as layers;
-    ghost use Rattle.geojson_io.specs.LayerContent.{LayerContent};
-
-    ghost Value = { List LayerContent };
-
-    ghost coded = { coded_list layers.the_row.coded };
-
-    ghost view = { λ l. l.items.items };
-
-    ghost invariant = { λ l. length l.items.items < 2 ^ 32 };
-}
-
-impl GeoLayers {
-    pub fn new(alloc: Global) -> GeoLayers
-        ensures empty { result ≡ [] }
-    {
-        GeoLayers {
-            items: Vec::new(alloc),
-        }
-    }
-
-    pub fn push(&mut self, item: GeoLayer) -> Result<(), AllocError>
-        ensures ok { OnOk result (self.new ≡ self.old ++ item ∷ []) }
-        ensures err { OnErr result (self.new ≡ self.old) }
-    {
-        if self.items.len() >= u32::MAX as usize {
-            return Err(AllocError);
-        }
-        self.items.push(item)?;
-        Ok(())
-    }
-
-    pub fn len(&self) -> u32
-        ensures count { result ≡ length self.now }
-    {
-        self.items.len() as u32
-    }
-
-    pub fn get(&self, i: u32) -> Option<&GeoLayer>
-        ensures lookup { option_copied result ≡ slice_get self.now i }
-    {
-        self.items.get(i as usize)
-    }
-
-    pub fn as_slice(&self) -> &[GeoLayer]
-        ensures all { result.now ≡ self.now }
-    {
-        &self.items
-    }
-
-    /// The layers themselves; takes no memory.
-    pub fn into_vec(self) -> Vec<GeoLayer>
-        ensures all { result.items ≡ self }
-    {
-        self.items
-    }
-}
+pub type GeoLayers = ItemList<GeoLayer>;
 
 /// What may still be read.
 #[derive(Clone, Copy, PartialEq, Eq, Debug)]

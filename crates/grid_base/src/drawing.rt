@@ -4,7 +4,7 @@ ghost use Rattle.plane_model.specs.Joined.{IsClosed};
 ghost use Rattle.grid_base.specs.Drawn.{with_feature, add_polygon, add_ring, add_item, without_repeats, outline, HasPaths};
 
 use crate::kinds::Kind;
-use crate::list_types::{PathList, PolygonRings, PtList, RingsList};
+use crate::list_types::{PathList, PolygonRings, PtList, RingsList, without_repeats};
 use crate::numbers::FeatId;
 use crate::point::Pt;
 use crate::rect::Rect;
@@ -89,7 +89,7 @@ impl Drawing {
         ensures ok { OnOk result (self.new ≡ record self.old { polygons = add_ring ring self.old.polygons }) }
         ensures err { OnErr result (self.new ≡ self.old) }
     {
-        let ring = ring.without_repeats();
+        let ring = without_repeats(ring);
         let last = self.polygons.len() - 1;
         let feature = &mut self.polygons[last];
         feature.push_ring(ring)
@@ -102,7 +102,7 @@ impl Drawing {
         ensures ok { OnOk result (self.new ≡ record self.old { lines = add_item (without_repeats line) self.old.lines }) }
         ensures err { OnErr result (self.new ≡ self.old) }
     {
-        let line = line.without_repeats();
+        let line = without_repeats(line);
         let last = self.lines.len() - 1;
         let feature = &mut self.lines[last];
         feature.push(line)
@@ -141,7 +141,7 @@ impl Drawing {
         if number >= u32::MAX as usize {
             return Err(AllocError);
         }
-        self.boxes.push(path.without_repeats())?;
+        self.boxes.push(without_repeats(path))?;
         Ok(number as u32)
     }
 }

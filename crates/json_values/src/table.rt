@@ -9,6 +9,7 @@ ghost use Rattle.json_values.specs.Table.{add_name as add_one_name, add_names as
 use crate::fields::{Fields, FieldsList};
 use crate::value::Value;
 use indexmap::IndexSet;
+use lists::ItemList;
 use std::alloc::{AllocError, Global};
 use std::marker::Model;
 use text_core::{NameList, Text};
@@ -74,64 +75,7 @@ impl Row {
 }
 
 /// A list of rows; counted from 0.
-#[derive(Drop)]
-pub struct RowList {
-    items: Vec<Row>,
-}
-
-impl Model for RowList {
-    ghost use Rattle.std.specs.Prelude.{List, ◌<◌, ◌^◌, length};
-    ghost use Rattle.std.specs.Coded.{coded_list};
-    ghost use Rattle.json_values.specs.contracts.value.Value as cell;
-    ghost use Rattle.json_values.specs.Table.{RowValues};
-
-    ghost Value = { List RowValues };
-
-    ghost coded = { coded_list (coded_list cell.the_row.coded) };
-
-    ghost view = { λ l. l.items.items };
-
-    ghost invariant = { λ l. length l.items.items < 2 ^ 32 };
-}
-
-impl RowList {
-    pub fn new(alloc: Global) -> RowList
-        ensures empty { result ≡ [] }
-    {
-        RowList {
-            items: Vec::new(alloc),
-        }
-    }
-
-    pub fn push(&mut self, item: Row) -> Result<(), AllocError>
-        ensures ok { OnOk result (self.new ≡ self.old ++ item ∷ []) }
-        ensures err { OnErr result (self.new ≡ self.old) }
-    {
-        if self.items.len() >= u32::MAX as usize {
-            return Err(AllocError);
-        }
-        self.items.push(item)?;
-        Ok(())
-    }
-
-    pub fn len(&self) -> u32
-        ensures count { result ≡ length self.now }
-    {
-        self.items.len() as u32
-    }
-
-    pub fn get(&self, i: u32) -> Option<&Row>
-        ensures lookup { option_copied result ≡ slice_get self.now i }
-    {
-        self.items.get(i as usize)
-    }
-
-    pub fn as_slice(&self) -> &[Row]
-        ensures all { result.now ≡ self.now }
-    {
-        &self.items
-    }
-}
+pub type RowList = ItemList<Row>;
 
 /// Distinct names of columns, and rows as long as the names.
 #[derive(Drop)]

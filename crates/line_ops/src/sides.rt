@@ -1,5 +1,5 @@
-ghost use Rattle.std.specs.Prelude.{◌≡◌, ◌++◌, ◌∷◌, ◌<◌, [], false, ℕ, List, All, IfOk, OnOk, OnErr, filter, length, map, slice_get};
-ghost use Rattle.std.specs.Option.{option_copied, option_to_list};
+ghost use Rattle.std.specs.Prelude.{◌≡◌, ◌++◌, ◌<◌, false, ℕ, List, All, IfOk, OnOk, filter, length, map};
+ghost use Rattle.std.specs.Option.{option_to_list};
 ghost use Rattle.face_sets.specs.Owners.{AreOwners, owners_of};
 ghost use Rattle.line_ops.specs.Inside.{left_of};
 ghost use Rattle.line_ops.specs.Sided.{has_both, sided, sided_among};
@@ -9,8 +9,8 @@ use arc_table::{ArcList, ArcTable};
 use face_sets::{FaceOwners, SetList};
 use face_walk::Faces;
 use grid_base::{ArcId, SignedArc};
+use lists::ItemList;
 use std::alloc::{AllocError, Global};
-use std::marker::Model;
 
 /// An arc whose two sides are in different sets of a list, with the least number of a set at each side.
 #[derive(Clone, Copy, PartialEq, Eq, Debug)]
@@ -23,60 +23,7 @@ pub struct SidedArc {
 }
 
 /// A list of such arcs, of at most 4,294,967,295; counted from 0.
-#[derive(Drop)]
-pub struct SidedArcs {
-    items: Vec<SidedArc>,
-}
-
-impl Model for SidedArcs {
-    ghost use Rattle.std.specs.Prelude.{List, ◌<◌, ◌^◌, length};
-    ghost use Rattle.line_ops.specs.declared.sides.SidedArc.{SidedArc};
-
-    ghost Value = { List SidedArc };
-
-    ghost view = { λ l. l.items.items };
-
-    ghost invariant = { λ l. length l.items.items < 2 ^ 32 };
-}
-
-impl SidedArcs {
-    pub fn new(alloc: Global) -> SidedArcs
-        ensures empty { result ≡ [] }
-    {
-        SidedArcs {
-            items: Vec::new(alloc),
-        }
-    }
-
-    pub fn push(&mut self, item: SidedArc) -> Result<(), AllocError>
-        ensures ok { OnOk result (self.new ≡ self.old ++ item ∷ []) }
-        ensures err { OnErr result (self.new ≡ self.old) }
-    {
-        if self.items.len() >= u32::MAX as usize {
-            return Err(AllocError);
-        }
-        self.items.push(item)?;
-        Ok(())
-    }
-
-    pub fn len(&self) -> u32
-        ensures count { result ≡ length self.now }
-    {
-        self.items.len() as u32
-    }
-
-    pub fn get(&self, i: u32) -> Option<&SidedArc>
-        ensures lookup { option_copied result ≡ slice_get self.now i }
-    {
-        self.items.get(i as usize)
-    }
-
-    pub fn as_slice(&self) -> &[SidedArc]
-        ensures all { result.now ≡ self.now }
-    {
-        &self.items
-    }
-}
+pub type SidedArcs = ItemList<SidedArc>;
 
 /// The arcs whose two sides are in different sets of the list, ascending.
 pub fn sided_arcs(

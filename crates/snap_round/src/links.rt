@@ -13,5 +13,5 @@ pub fn links_in_order(found: Vec<Link>) -> Result<LinkList, AllocError>
     links.sort_unstable();
     links.dedup();
     links.shrink_to_fit();
-    LinkList::of(links)
+    LinkList::from_vec(links)
 }

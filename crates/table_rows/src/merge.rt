@@ -1,5 +1,4 @@
-ghost use Rattle.std.specs.Prelude.{◌≡◌, ◌++◌, ◌∷◌, [], ◌<◌, IfOk, OnOk, OnErr, drop, false, length, map, slice_get};
-ghost use Rattle.std.specs.Option.{option_copied};
+ghost use Rattle.std.specs.Prelude.{◌≡◌, ◌++◌, ◌∷◌, [], ◌<◌, IfOk, OnOk, drop, false, length, map};
 ghost use Rattle.std.specs.List.{IsDistinct, list_all};
 ghost use Rattle.std.specs.Str.{bytes_eq};
 ghost use Rattle.indexmap.specs.IndexSet.{insert_all};
@@ -12,70 +11,13 @@ use crate::fault::{TableFault, TableWhy};
 use crate::items::places_of;
 use crate::rows::append_picked_rows;
 use json_values::{RowList, Table};
+use lists::ItemList;
 use std::alloc::{AllocError, Global};
-use std::marker::Model;
 use table_terms::NameSet;
 use text_core::{NameList, Text};
 
 /// A list of tables; counted from 0.
-#[derive(Drop)]
-pub struct TableList {
-    items: Vec<Table>,
-}
-
-impl Model for TableList {
-    ghost use Rattle.std.specs.Prelude.{List, ◌<◌, ◌^◌, length, refl};
-    ghost use Rattle.std.specs.Coded.{coded×, coded_ℕ, coded_list, code_by};
-    ghost use Rattle.json_values.specs.contracts.value.Value as cell;
-    ghost use Rattle.json_values.specs.Table.{TableContent};
-
-    ghost Value = { List TableContent };
-
-    ghost coded = { coded_list (code_by _ (coded× (coded_list (coded_list coded_ℕ)) (coded_list (coded_list cell.the_row.coded))) (λ t. (t.names, t.rows)) (λ p. record { names = p.0; rows = p.1 }) (λ _. refl)) };
-
-    ghost view = { λ l. l.items.items };
-
-    ghost invariant = { λ l. length l.items.items < 2 ^ 32 };
-}
-
-impl TableList {
-    pub fn new(alloc: Global) -> TableList
-        ensures empty { result ≡ [] }
-    {
-        TableList {
-            items: Vec::new(alloc),
-        }
-    }
-
-    pub fn push(&mut self, item: Table) -> Result<(), AllocError>
-        ensures ok { OnOk result (self.new ≡ self.old ++ item ∷ []) }
-        ensures err { OnErr result (self.new ≡ self.old) }
-    {
-        if self.items.len() >= u32::MAX as usize {
-            return Err(AllocError);
-        }
-        self.items.push(item)?;
-        Ok(())
-    }
-
-    pub fn len(&self) -> u32
-        ensures count { result ≡ length self.now }
-    {
-        self.items.len() as u32
-    }
-
-    pub fn get(&self, i: u32) -> Option<&Table>
-        ensures lookup { option_copied result ≡ slice_get self.now i }
-    {
-        self.items.get(i as usize)
-    }
-
-    pub fn as_slice(&self) -> &[Table]
-        ensures all { result.now ≡ self.now }
-    {
-        &self.items
-    }
-}
+pub type TableList = ItemList<Table>;
 
 /// The tables one under another: the columns of the first, then new ones in order; a value that a
 /// table lacks is null.

@@ -1,4 +1,4 @@
-ghost use Rattle.std.specs.Prelude.{◌≡◌, ◌<◌, ◌++◌, ◌∷◌, [], All, Ok, IfOk, OnOk, OnErr, Some, length, map, slice_get};
+ghost use Rattle.std.specs.Prelude.{◌≡◌, ◌<◌, ◌∷◌, [], All, Ok, IfOk, Some, length, map};
 ghost use Rattle.std.specs.Option.{option_copied};
 ghost use Rattle.json_values.specs.Table.{AreDistinctNames};
 ghost use Rattle.table_terms.specs.Names.{place_of, value_at};
@@ -13,8 +13,8 @@ use crate::groups::groups_at;
 use crate::rows::{copy_at, first_row};
 use grid_base::IdList;
 use json_values::{RowList, Table, Value};
+use lists::ItemList;
 use std::alloc::{AllocError, Global};
-use std::marker::Model;
 use table_terms::NameSet;
 use text_core::NameList;
 
@@ -26,64 +26,7 @@ pub struct SplitItem {
 }
 
 /// A list of split items; counted from 0.
-#[derive(Drop)]
-pub struct SplitList {
-    items: Vec<SplitItem>,
-}
-
-impl Model for SplitList {
-    ghost use Rattle.std.specs.Prelude.{List, ◌<◌, ◌^◌, length};
-    ghost use Rattle.std.specs.Coded.{coded_list};
-    ghost use Rattle.table_rows.specs.contracts.split.SplitItem as pieces;
-    ghost use Rattle.table_rows.specs.declared.split.SplitItem.{SplitItem};
-
-    ghost Value = { List SplitItem };
-
-    ghost coded = { coded_list pieces.the_row.coded };
-
-    ghost view = { λ l. l.items.items };
-
-    ghost invariant = { λ l. length l.items.items < 2 ^ 32 };
-}
-
-impl SplitList {
-    pub fn new(alloc: Global) -> SplitList
-        ensures empty { result ≡ [] }
-    {
-        SplitList {
-            items: Vec::new(alloc),
-        }
-    }
-
-    pub fn push(&mut self, item: SplitItem) -> Result<(), AllocError>
-        ensures ok { OnOk result (self.new ≡ self.old ++ item ∷ []) }
-        ensures err { OnErr result (self.new ≡ self.old) }
-    {
-        if self.items.len() >= u32::MAX as usize {
-            return Err(AllocError);
-        }
-        self.items.push(item)?;
-        Ok(())
-    }
-
-    pub fn len(&self) -> u32
-        ensures count { result ≡ length self.now }
-    {
-        self.items.len() as u32
-    }
-
-    pub fn get(&self, i: u32) -> Option<&SplitItem>
-        ensures lookup { option_copied result ≡ slice_get self.now i }
-    {
-        self.items.get(i as usize)
-    }
-
-    pub fn as_slice(&self) -> &[SplitItem]
-        ensures all { result.now ≡ self.now }
-    {
-        &self.items
-    }
-}
+pub type SplitList = ItemList<SplitItem>;
 
 /// The rows for each value of a field, in order of first appearance; without a field each row.
 ///

@@ -1,10 +1,9 @@
-ghost use Rattle.std.specs.Prelude.{◌≡◌, ◌++◌, ◌∷◌, [], OnOk, OnErr, length, slice_get};
-ghost use Rattle.std.specs.Option.{option_copied};
+ghost use Rattle.std.specs.Prelude.{◌≡◌, length};
 
 use arc_table::{Polys, SignedPaths};
 use grid_base::{Kind, PtList};
 use json_values::Table;
-use std::alloc::{AllocError, Global};
+use lists::ItemList;
 use std::marker::Model;
 use text_core::Text;
 
@@ -18,60 +17,7 @@ pub enum ArcShape {
 }
 
 /// A list of shapes in arcs.
-#[derive(Drop)]
-pub struct ArcShapeList {
-    items: Vec<ArcShape>,
-}
-
-impl Model for ArcShapeList {
-    ghost use Rattle.std.specs.Prelude.{List, ◌<◌, ◌^◌, length};
-    ghost use Rattle.topo_io.specs.declared.arc_layer.ArcShape.{ArcShape as Shape};
-
-    ghost Value = { List Shape };
-
-    ghost view = { λ l. l.items.items };
-
-    ghost invariant = { λ l. length l.items.items < 2 ^ 32 };
-}
-
-impl ArcShapeList {
-    pub fn new(alloc: Global) -> ArcShapeList
-        ensures empty { result ≡ [] }
-    {
-        ArcShapeList {
-            items: Vec::new(alloc),
-        }
-    }
-
-    pub fn push(&mut self, item: ArcShape) -> Result<(), AllocError>
-        ensures ok { OnOk result (self.new ≡ self.old ++ item ∷ []) }
-        ensures err { OnErr result (self.new ≡ self.old) }
-    {
-        if self.items.len() >= u32::MAX as usize {
-            return Err(AllocError);
-        }
-        self.items.push(item)?;
-        Ok(())
-    }
-
-    pub fn len(&self) -> u32
-        ensures count { result ≡ length self.now }
-    {
-        self.items.len() as u32
-    }
-
-    pub fn get(&self, i: u32) -> Option<&ArcShape>
-        ensures lookup { option_copied result ≡ slice_get self.now i }
-    {
-        self.items.get(i as usize)
-    }
-
-    pub fn as_slice(&self) -> &[ArcShape]
-        ensures all { result.now ≡ self.now }
-    {
-        &self.items
-    }
-}
+pub type ArcShapeList = ItemList<ArcShape>;
 
 /// A layer of features of one kind whose lines and rings are made of arcs: a row and a shape for each, in order.
 #[derive(Drop)]
@@ -100,61 +46,4 @@ impl Model for ArcLayer {
 }
 
 /// A list of layers in arcs.
-#[derive(Drop)]
-pub struct ArcLayers {
-    items: Vec<ArcLayer>,
-}
-
-impl Model for ArcLayers {
-    ghost use Rattle.std.specs.Prelude.{List, ◌<◌, ◌^◌, length};
-    ghost use Rattle.std.specs.Coded.{coded_list};
-    ghost use Rattle.topo_io.specs.contracts.arc_layer.ArcLayer as layers;
-    ghost use Rattle.topo_io.specs.ArcLayerContent.{ArcLayerContent};
-
-    ghost Value = { List ArcLayerContent };
-
-    ghost coded = { coded_list layers.the_row.coded };
-
-    ghost view = { λ l. l.items.items };
-
-    ghost invariant = { λ l. length l.items.items < 2 ^ 32 };
-}
-
-impl ArcLayers {
-    pub fn new(alloc: Global) -> ArcLayers
-        ensures empty { result ≡ [] }
-    {
-        ArcLayers {
-            items: Vec::new(alloc),
-        }
-    }
-
-    pub fn push(&mut self, item: ArcLayer) -> Result<(), AllocError>
-        ensures ok { OnOk result (self.new ≡ self.old ++ item ∷ []) }
-        ensures err { OnErr result (self.new ≡ self.old) }
-    {
-        if self.items.len() >= u32::MAX as usize {
-            return Err(AllocError);
-        }
-        self.items.push(item)?;
-        Ok(())
-    }
-
-    pub fn len(&self) -> u32
-        ensures count { result ≡ length self.now }
-    {
-        self.items.len() as u32
-    }
-
-    pub fn get(&self, i: u32) -> Option<&ArcLayer>
-        ensures lookup { option_copied result ≡ slice_get self.now i }
-    {
-        self.items.get(i as usize)
-    }
-
-    pub fn as_slice(&self) -> &[ArcLayer]
-        ensures all { result.now ≡ self.now }
-    {
-        &self.items
-    }
-}
+pub type ArcLayers = ItemList<ArcLayer>;

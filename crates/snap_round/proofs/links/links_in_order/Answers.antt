@@ -12,5 +12,5 @@ returns c =
     let sorted = c.sort_unstable.new.self.items in
     let is = dedup_is equal_links _ _ c.dedup.ensures.filtered ∙ sorted_links_ascend made sorted c.sort_unstable.ensures.permutation c.sort_unstable.ensures.sorted in
     record {
-      exact = IfOk-weaker _ (λ (links : List Segment). links ≡ c.shrink_to_fit.new.self.items) (λ (links : List Segment). links ≡ ascending link_before made) (λ links e. e ∙ c.shrink_to_fit.ensures.items ∙ is) c.of.ensures.same;
+      exact = IfOk-weaker _ (λ (links : List Segment). links ≡ c.shrink_to_fit.new.self.items) (λ (links : List Segment). links ≡ ascending link_before made) (λ links e. e ∙ c.shrink_to_fit.ensures.items ∙ is) c.from_vec.ensures.same;
     }
