@@ -1,4 +1,5 @@
 pub mod Along
+pub mod ArcNets
 pub mod Around
 pub mod Direction
 pub mod FirstSteps

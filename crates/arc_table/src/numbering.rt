@@ -9,7 +9,7 @@ ghost use Rattle.arc_table.specs.Numbering.{AddsMarks, AreWays, BeginsLeast, Goe
 use crate::arc_order::ArcListing;
 use crate::direction::turn_forward;
 use crate::half_links::{Net, Step, place_after};
-use grid_base::{FeatId, Pt, PtList, RingsList, Snapped};
+use grid_base::{Drawing, FeatId, Pt, PtList, RingsList};
 use span_pool::SpanPool;
 use std::alloc::{AllocError, Global};
 
@@ -28,7 +28,7 @@ pub struct Numbering {
 }
 
 /// The arcs in the order in which the paths first step along them: those of polygons, then lines, then boxes.
-pub fn ways_of(alloc: Global, net: &Net, s: &Snapped) -> Result<Vec<Way>, AllocError>
+pub fn ways_of(alloc: Global, net: &Net, s: &Drawing) -> Result<Vec<Way>, AllocError>
     requires covered { (h : ℕ) → h < length net.now.steps.items → Contains (links_stepped (paths_of s.now)) (link_at net.now h) }
     ensures exact { IfOk result (λ v. AreWays net.now v.items) }
     ensures order { IfOk result (λ v. AreInOrder net.now (links_stepped (paths_of s.now)) v.items) }
@@ -59,7 +59,7 @@ fn none_numbered(alloc: Global, net: &Net) -> Result<Numbering, AllocError>
 fn number_polygon_features(
     numbering: &mut Numbering,
     net: &Net,
-    s: &Snapped,
+    s: &Drawing,
 ) -> Result<(), AllocError>
     requires { IsNumbering net.now numbering.old }
     ensures numbering { OnOk result (IsNumbering net.now numbering.new) }
@@ -72,7 +72,7 @@ fn number_polygon_features(
 }
 
 #[tactic(auto, using(crate::proofs::Order::along_none))]
-fn number_line_features(numbering: &mut Numbering, net: &Net, s: &Snapped) -> Result<(), AllocError>
+fn number_line_features(numbering: &mut Numbering, net: &Net, s: &Drawing) -> Result<(), AllocError>
     requires { IsNumbering net.now numbering.old }
     ensures numbering { OnOk result (IsNumbering net.now numbering.new) }
     ensures along { OnOk result (GoesAlong net.now numbering.old numbering.new (links_stepped (flat_map (λ feature. feature) s.now.lines))) }
@@ -84,7 +84,7 @@ fn number_line_features(numbering: &mut Numbering, net: &Net, s: &Snapped) -> Re
 }
 
 #[tactic(auto, using(crate::proofs::Order::along_none))]
-fn number_boxes(numbering: &mut Numbering, net: &Net, s: &Snapped) -> Result<(), AllocError>
+fn number_boxes(numbering: &mut Numbering, net: &Net, s: &Drawing) -> Result<(), AllocError>
     requires { IsNumbering net.now numbering.old }
     ensures numbering { OnOk result (IsNumbering net.now numbering.new) }
     ensures along { OnOk result (GoesAlong net.now numbering.old numbering.new (links_stepped (flat_map (λ path. path ∷ []) s.now.boxes))) }

@@ -3,25 +3,25 @@ ghost use Rattle.plane_model.specs.Arcs.{points_of};
 ghost use Rattle.plane_model.specs.Snapped.{links_of};
 ghost use Rattle.arc_table.specs.Along.{GoAlong, links_of_arcs};
 ghost use Rattle.arc_table.specs.Direction.{IsForward};
+ghost use Rattle.arc_table.specs.ArcNets.{IsNetOf};
 ghost use Rattle.arc_table.specs.Around.{IsAround, first_step};
 ghost use Rattle.arc_table.specs.Lookup.{IsArcAt, IsBegunBy};
 ghost use Rattle.arc_table.specs.Order.{AreNumbered};
 ghost use Rattle.arc_table.specs.PathArcs.{IsAloneAt};
 ghost use Rattle.arc_table.specs.WholeArcs.{IsWholeArc, StartsAtLeast};
 
+use crate::arc_net::ArcNet;
 use crate::arc_order::{ArcListing, ArcOrder};
 use crate::first_steps::{
     FirstStep, comes_first, first_step, first_steps, signed_arcs, turn_rows, turning,
 };
-use crate::half_links::{Net, Step, is_step};
-use crate::merging::order_by_highs;
+use crate::half_links::{Step, is_step};
 use crate::node_rows::{NodeRows, part_of, rows_of, stands_at};
-use crate::nodes::turns_of;
 use crate::numbering::{pool_of, ways_of};
 use crate::rows::LinkOrder;
 use crate::vertices::{ArcVertex, inner_vertices, least_at, least_of, lesser_of};
-use grid_base::{ArcId, Pt, SignedArc, Snapped, is_before, is_same};
-use known_order::{gathered, order_by_key, positions_in};
+use grid_base::{ArcId, Drawing, Pt, SignedArc, Snapped, is_before, is_same};
+use known_order::{gathered, order_by_key};
 use span_pool::{SpanId, SpanPool};
 use std::alloc::{AllocError, Global};
 use std::marker::Model;
@@ -76,15 +76,25 @@ impl ArcTable {
         ensures least { IfOk result (λ t. All (StartsAtLeast s.now) t) }
         ensures numbered { IfOk result (λ t. AreNumbered s.now t) }
     {
-        let turns = turns_of(alloc, s)?;
-        let links = s.links();
-        let by_high = order_by_highs(alloc, links.as_slice())?;
-        let net = Net::of(alloc, links, &turns, &by_high)?;
-        let highs = positions_in(alloc, &by_high)?;
-        drop(by_high);
-        let ways = ways_of(alloc, &net, s)?;
+        let net = ArcNet::of(alloc, s)?;
+        ArcTable::of_net(alloc, s.paths(), net)
+    }
+
+    /// The same of the net and the paths of a snapped drawing, whose links may have been let go.
+    pub fn of_net(alloc: Global, d: &Drawing, net: ArcNet) -> Result<ArcTable, AllocError>
+        requires net { IsNetOf d.now net.net }
+        ensures long { IfOk result (λ t. All (λ arc. 1 < length arc) t) }
+        ensures forward { IfOk result (λ t. All IsForward t) }
+        ensures links { IfOk result (λ t. GoAlong (links_of d.now) t) }
+        ensures whole { IfOk result (λ t. All (IsWholeArc d.now) t) }
+        ensures least { IfOk result (λ t. All (StartsAtLeast d.now) t) }
+        ensures numbered { IfOk result (λ t. AreNumbered d.now t) }
+    {
+        let ArcNet { net, highs } = net;
+        let ways = ways_of(alloc, &net, d)?;
         let mut listing = ArcListing::new(alloc, &net, &ways)?;
         let arcs = pool_of(alloc, &net, &ways, &mut listing)?;
+        drop(ways);
         let order = listing.into_order();
         let steps = net.step_count();
         drop(net);

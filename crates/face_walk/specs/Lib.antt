@@ -2,6 +2,7 @@ pub mod Joining
 pub mod Places
 pub mod Crossings
 pub mod RingSteps
+pub mod PathSteps
 pub mod FaceLists
 pub mod Holders
 pub mod Numbering

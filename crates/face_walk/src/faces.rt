@@ -1,5 +1,6 @@
-ghost use Rattle.std.specs.Prelude.{◌≡◌, ◌+◌, ◌*◌, ◌<◌, ◌≤◌, All, IfOk, List, Some, ℕ, length, map, slice_get, slice_index};
+ghost use Rattle.std.specs.Prelude.{◌≡◌, ◌+◌, ◌*◌, ◌<◌, ◌≤◌, All, IfOk, IfSome, List, Some, ℕ, length, map, slice_get, slice_index};
 ghost use Rattle.plane_model.specs.Points.{Path};
+ghost use Rattle.link_search.specs.Topmost.{IsTopmostBelow};
 ghost use Rattle.face_walk.specs.Areas.{area_within};
 ghost use Rattle.face_walk.specs.Numbering.{AreAllBelow};
 ghost use Rattle.face_walk.specs.Places.{HasArc, HasJoins, HasPlaces, IsBuiltOf, IsFaceOver, areas_of_faces, arcs_with_left, face_left_of, place_of};
@@ -14,11 +15,13 @@ use crate::places::{MAX_ARCS, OUTSIDE, place_of};
 use crate::rays::join_rays;
 use crate::sectors::join_sectors;
 use crate::side_places::starts_of;
+use crate::topmost::topmost_of_arcs;
 use arc_table::ArcTable;
 use grid_base::{FaceId, Pt, SignedArc};
-use link_search::LinkSearch;
+use link_search::{ArcLink, LinkSearch};
 use std::alloc::{AllocError, Global};
 use std::marker::Model;
+use std::snapshot::Snapshot;
 
 /// The faces between the arcs of a table, numbered from 0; the outer face, which is unbounded, has no area.
 #[derive(Drop)]
@@ -31,25 +34,29 @@ pub struct Faces {
     // where those of each face begin, and at last where all end
     side_starts: Vec<u32>,
     areas: Vec<i128>,
-    search: LinkSearch,
+    // the links of the arcs, which contracts alone see
+    links: Snapshot<Vec<ArcLink>>,
+    // the search among these; `None` once it is let go
+    search: Option<LinkSearch>,
 }
 
 impl Model for Faces {
-    ghost use Rattle.std.specs.Prelude.{◌≡◌, ◌<◌, ◌≤◌, All, length};
+    ghost use Rattle.std.specs.Prelude.{◌≡◌, ◌<◌, ◌≤◌, All, IfSome, length};
     ghost use Rattle.face_walk.specs.Places.{FaceTable, HasPlaces};
     ghost use Rattle.face_walk.specs.Sides.{AreSplit};
 
     ghost Value = { FaceTable };
 
-    ghost view = { λ f. record { places = f.places.items; count = f.count; areas = f.areas.items; links = f.search.links.items } };
+    ghost view = { λ f. record { places = f.places.items; count = f.count; areas = f.areas.items; links = f.links.value.items } };
 
     ghost invariant = { λ f. (0 < length f.places.items)
         × (length f.places.items ≤ 4000000001)
         × All (λ n. n < f.count) f.places.items
         × All (HasPlaces (length f.places.items)) f.side_arcs.items
         × (length f.areas.items ≡ f.count)
-        × All (λ l. HasPlaces (length f.places.items) l.along) f.search.links.items
-        × AreSplit f.places.items f.count f.side_arcs.items f.side_starts.items };
+        × All (λ l. HasPlaces (length f.places.items) l.along) f.links.value.items
+        × AreSplit f.places.items f.count f.side_arcs.items f.side_starts.items
+        × IfSome f.search (λ s. s.links.items ≡ f.links.value.items) };
 }
 
 impl Faces {
@@ -98,13 +105,15 @@ impl Faces {
         drop(side_faces);
         let areas = areas_of(alloc, t, numbering.count, &side_arcs, &side_starts)?;
         let Numbering { places, count } = numbering;
+        let links = Snapshot::of(&search.links);
         Ok(Faces {
             places,
             count,
             side_arcs,
             side_starts,
             areas,
-            search,
+            links,
+            search: Some(search),
         })
     }
 
@@ -154,15 +163,35 @@ impl Faces {
     }
 
     /// The face that a point lies in which is on no link: the one left of the topmost link below it, or the outer face.
+    /// Takes no memory.
     pub fn at(&self, t: &ArcTable, p: Pt) -> FaceId
         requires built { IsBuiltOf t.now self.now }
         ensures exact { IsFaceOver self.now p result }
         ensures there { result < self.now.count }
     {
-        match self.search.topmost_below(p) {
+        match self.topmost_below(t, p) {
             Some(l) => self.left_of(l.along),
             None => self.outer(),
         }
+    }
+
+    // The topmost link below a point.
+    fn topmost_below(&self, t: &ArcTable, p: Pt) -> Option<ArcLink>
+        requires built { IsBuiltOf t.now self.now }
+        ensures exact { IsTopmostBelow self.now.links p result }
+        ensures there { IfSome result (λ l. HasArc self.now l.along) }
+    {
+        match &self.search {
+            Some(search) => search.topmost_below(p),
+            None => topmost_of_arcs(t, p),
+        }
+    }
+
+    /// Lets the search go by which `at` finds a link: after it `at` takes a step for each link.
+    pub fn forget_search(&mut self)
+        ensures same { self.new ≡ self.old }
+    {
+        self.search = None;
     }
 }
 

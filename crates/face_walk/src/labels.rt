@@ -1,16 +1,19 @@
-ghost use Rattle.std.specs.Prelude.{◌≡◌, ◌⊎◌, ◌-◌, ◌<◌, ◌≤◌, [], true, false, All, IfOk, OnOk, Some, filter, length, nat_eq, nat_lt, slice_get, slice_index_or};
+ghost use Rattle.std.specs.Prelude.{◌≡◌, ◌⊎◌, ◌-◌, ◌<◌, ◌≤◌, [], true, false, All, IfOk, List, OnOk, Some, filter, length, nat_eq, nat_lt, slice_get, slice_index_or};
 ghost use Rattle.std.specs.List.Sorted.{IsNonDecreasing, IsNonDecreasingBy, IsPartitionPoint, IsStrictlyIncreasing};
+ghost use Rattle.plane_model.specs.Drawing.{Drawing};
+ghost use Rattle.plane_model.specs.Points.{Path};
 ghost use Rattle.face_walk.specs.Holders.{AreAcross, AreHeldBy, AreHolders, AreOddOnes, AreOwnersOf, AreOwnersOfEach, IsFlipped, IsPut, list_at};
+ghost use Rattle.face_walk.specs.PathSteps.{AreAllStepsOf};
 ghost use Rattle.face_walk.specs.Places.{IsBuiltOf};
 ghost use Rattle.face_walk.specs.Crossings.{AreCrossings, outer_of};
 
 use crate::crossings::{Crossing, crossings_of};
 use crate::face_lists::FaceLists;
 use crate::faces::Faces;
-use crate::ring_steps::{RingStep, box_steps, next_number, polygon_steps, steps_along};
+use crate::ring_steps::{PathSteps, RingStep, next_number, steps_along};
 use crate::side_places::start_at;
 use arc_table::ArcTable;
-use grid_base::{ArcId, Drawing, FaceId, FeatId, Snapped};
+use grid_base::{ArcId, FaceId, FeatId, Snapped};
 use std::alloc::{AllocError, Global};
 use std::marker::Model;
 
@@ -41,31 +44,29 @@ impl Labels {
         ensures holders_each { IfOk result (λ l. length l.holders ≡ f.now.count) }
         ensures boxes_each { IfOk result (λ l. length l.boxes ≡ f.now.count) }
     {
-        Labels::of_paths(alloc, t, f, s.paths())
+        let steps = PathSteps::of(alloc, t, s.paths())?;
+        Labels::of_steps(alloc, f, steps)
     }
 
-    /// The same from the paths of the snapped drawing alone, without its links.
-    pub fn of_paths(
-        alloc: Global,
-        t: &ArcTable,
-        f: &Faces,
-        s: &Drawing,
-    ) -> Result<Labels, AllocError>
-        requires built { IsBuiltOf t.now f.now }
-        ensures exact { IfOk result (AreHolders t.now s.now f.now) }
+    /// The same from the steps along the arcs of the table alone, each list of which is let go as soon as it has served.
+    pub fn of_steps(alloc: Global, f: &Faces, steps: PathSteps) -> Result<Labels, AllocError>
+        ensures exact { (t : List Path) (s : Drawing) → IsBuiltOf t f.now → AreAllStepsOf t s steps → IfOk result (AreHolders t s f.now) }
         ensures outer_free { IfOk result (λ l. (list_at l.holders (outer_of f.now) ≡ []) × (list_at l.boxes (outer_of f.now) ≡ [])) }
         ensures holders_each { IfOk result (λ l. length l.holders ≡ f.now.count) }
         ensures boxes_each { IfOk result (λ l. length l.boxes ≡ f.now.count) }
     {
+        let PathSteps {
+            polygon_steps,
+            owners,
+            box_steps,
+        } = steps;
         let crossings = crossings_of(alloc, f)?;
-        let all = polygon_steps(alloc, t, s)?;
-        let polygons = held_lists(alloc, f, &crossings, &all.steps)?;
-        drop(all.steps);
-        let holders = owner_lists(alloc, f.count(), &all.owners, &polygons)?;
+        let polygons = held_lists(alloc, f, &crossings, &polygon_steps)?;
+        drop(polygon_steps);
+        let holders = owner_lists(alloc, f.count(), &owners, &polygons)?;
         drop(polygons);
-        drop(all.owners);
-        let steps = box_steps(alloc, t, s)?;
-        let boxes = held_lists(alloc, f, &crossings, &steps)?;
+        drop(owners);
+        let boxes = held_lists(alloc, f, &crossings, &box_steps)?;
         Ok(Labels { holders, boxes })
     }
 

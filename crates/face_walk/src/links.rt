@@ -1,4 +1,4 @@
-ghost use Rattle.std.specs.Prelude.{◌≡◌, ◌++◌, ◌<◌, All, IfOk, IfSome, OnOk, ℕ, length};
+ghost use Rattle.std.specs.Prelude.{◌≡◌, ◌+◌, ◌++◌, ◌<◌, All, IfOk, IfSome, OnOk, ℕ, length, take};
 ghost use Rattle.std.specs.Option.{option_to_list};
 ghost use Rattle.link_search.specs.Rows.{AreByStart};
 ghost use Rattle.face_walk.specs.Rays.{AreLinksOf, link_at, links_along};
@@ -53,7 +53,7 @@ fn push_links(links: &mut Vec<ArcLink>, id: ArcId, points: &[Pt]) -> Result<(), 
     ensures there { OnOk result ((n : ℕ) → id < n → All (λ l. l.along.arc < n) links.old.items → All (λ l. l.along.arc < n) links.new.items) }
 {
     for i in 1..points.len() {
-        push_some(links, step_along(id, points[i - 1], points[i]))?;
+        push_some(links, link_to(id, points, i))?;
     }
     Ok(())
 }
@@ -65,6 +65,16 @@ fn push_some(links: &mut Vec<ArcLink>, found: Option<ArcLink>) -> Result<(), All
         links.push(l)?;
     }
     Ok(())
+}
+
+/// The link of the step of an arc that leads to its point at `i`; `None` where the step stands still.
+pub fn link_to(id: ArcId, points: &[Pt], i: usize) -> Option<ArcLink>
+    requires after { 0 < i }
+    requires there { i < length points.now }
+    ensures next { links_along id (take (i + 1) points.now) ≡ links_along id (take i points.now) ++ option_to_list result }
+    ensures arc { IfSome result (λ l. l.along.arc ≡ id) }
+{
+    step_along(id, points[i - 1], points[i])
 }
 
 // The link of a step of an arc; `None` where the step stands still.

@@ -1,5 +1,5 @@
 ghost use Rattle.std.specs.Prelude.{◌≡◌, ℕ, ◌∷◌, ◌++◌, [], IfOk, List, OnOk, filter, length, map, nat_eq};
-ghost use Rattle.std.specs.List.Sorted.{IsNonDecreasingBy, IsPermutation};
+ghost use Rattle.std.specs.List.Sorted.{IsNonDecreasing, IsNonDecreasingBy, IsPermutation};
 ghost use Rattle.lists.specs.Lists.{joined_up};
 ghost use Rattle.plane_model.specs.Points.{Path as Way};
 ghost use Rattle.face_walk.specs.RingSteps.{AreAdded, AreStepsFrom, AreStepsOf, owners_from};
@@ -15,6 +15,35 @@ use std::alloc::{AllocError, Global};
 pub struct RingStep {
     pub arc: ArcId,
     pub item: u32,
+}
+
+/// The steps along arcs of the polygons and of the boxes of a drawing, each in order, and the feature of each polygon.
+#[derive(Drop)]
+pub struct PathSteps {
+    pub(crate) polygon_steps: Vec<RingStep>,
+    pub(crate) owners: Vec<FeatId>,
+    pub(crate) box_steps: Vec<RingStep>,
+    ghost polygons_by_arc: { IsNonDecreasingBy (λ s. s.arc) polygon_steps.items },
+    ghost owners_in_order: { IsNonDecreasing owners.items },
+    ghost boxes_by_arc: { IsNonDecreasingBy (λ s. s.arc) box_steps.items },
+}
+
+impl PathSteps {
+    ghost use Rattle.std.specs.Prelude.{IfOk};
+    ghost use Rattle.face_walk.specs.PathSteps.{AreAllStepsOf};
+
+    /// The steps along the arcs of a table, of the rings and boxes of the drawing that it was built of.
+    pub fn of(alloc: Global, t: &ArcTable, s: &Drawing) -> Result<PathSteps, AllocError>
+        ensures steps { IfOk result (AreAllStepsOf t.now s.now) }
+    {
+        let polygons = polygon_steps(alloc, t, s)?;
+        let box_steps = box_steps(alloc, t, s)?;
+        Ok(PathSteps {
+            polygon_steps: polygons.steps,
+            owners: polygons.owners,
+            box_steps,
+        })
+    }
 }
 
 /// The steps of all polygons, in order, and the feature of each polygon.

@@ -28,11 +28,12 @@ use Rattle.face_walk.specs.Holders.{list_at}
 use Rattle.region_model.specs.Region.{feature}
 use Rattle.line_laws.specs.Linked.{AreLinked, AreThere}
 use Rattle.line_laws.proofs.LinkedArcs.{lines_are_linked}
+use Rattle.run_plane.specs.LineArcs.{AreArcsOfPath, AreLineArcs, has_links}
 use Rattle.run_plane.specs.declared.layer.Layer.{Layer}
 use Rattle.run_plane.specs.declared.layer.Shape.{Shape}
 use Rattle.run_plane.specs.declared.layer.Shape.TheVariants as shape
 use Rattle.run_beginning.specs.Drawing as run
-use Rattle.run_beginning.specs.BegunLayers.{AreArcsOfPath, AreBegun, AreBegunOfEach, AreLineArcs, AreShapes, IsBegunLayer, IsLineOf, Left, left_after, left_after_all, face_shape, has_links, imported, line_count, of_command, of_import, owned, point_shape, polygon_count, row_shape}
+use Rattle.run_beginning.specs.BegunLayers.{AreBegun, AreBegunOfEach, AreShapes, IsBegunLayer, IsLineOf, Left, left_after, left_after_all, face_shape, imported, line_count, of_command, of_import, owned, point_shape, polygon_count, row_shape}
 use Rattle.chain_model.specs.State as state
 use Rattle.chain_model.specs.State.{StateLayer}
 use Rattle.chain_model.specs.Beginning as state_of

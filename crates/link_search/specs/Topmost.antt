@@ -1,5 +1,5 @@
 -- Which of some links a ray that goes straight down from a point meets first, and the boxes of links.
-use Rattle.std.specs.Prelude.{◌≡◌, true, false, List, Contains, map, Option, Some, None, IsTrue}
+use Rattle.std.specs.Prelude.{◌≡◌, true, false, List, ◌++◌, Contains, map, Option, Some, None, IsTrue}
 use Rattle.plane_model.specs.Points.{GridPoint, Segment, at, is_before}
 use Rattle.plane_model.specs.Parity.{is_below}
 use Rattle.plane_model.specs.Below.{is_under}
@@ -21,6 +21,10 @@ pub record IsTopmost (links : List ArcLink) (p : GridPoint) (l : ArcLink) : Type
 abbrev pub IsTopmostBelow : List ArcLink → GridPoint → Option ArcLink → Type 0
 IsTopmostBelow links p None = NoneBelow links p
 IsTopmostBelow links p (Some l) = IsTopmost links p l
+
+-- where the one is the topmost link below p of some links, the other is that of these links and more
+abbrev pub IsTopmostWith : List ArcLink → GridPoint → Option ArcLink → Option ArcLink → Type 0
+IsTopmostWith more p topmost result = (links : List ArcLink) → IsTopmostBelow links p topmost → IsTopmostBelow (links ++ more) p result
 
 -- ---- boxes
 

@@ -23,4 +23,4 @@ mod under;
 
 pub use links::{ArcLink, highs_of};
 pub use rows::{arrivals_before, first_round, is_lowest};
-pub use search::LinkSearch;
+pub use search::{LinkSearch, upper};

@@ -265,8 +265,8 @@ fn is_settled(topmost: &Option<ArcLink>, bottom: Pt) -> bool
     }
 }
 
-// The link, where it is below `p` and no lower than the topmost one so far.
-fn upper(topmost: Option<ArcLink>, l: ArcLink, p: Pt) -> Option<ArcLink>
+/// The link, where it is below `p` and no lower than the topmost one so far; else that one.
+pub fn upper(topmost: Option<ArcLink>, l: ArcLink, p: Pt) -> Option<ArcLink>
     requires below { IsBelowPoint p topmost }
     ensures exact { IsUpper p topmost l result }
 {

@@ -13,13 +13,14 @@ use Rattle.geojson_io.specs.LayerContent.{LayerContent}
 use Rattle.geojson_io.specs.declared.shape.GeoShape.{GeoShape}
 use Rattle.job_terms.specs.declared.job.Owner.{Owner}
 use Rattle.job_terms.specs.declared.job.Owner.TheVariants as owner
+use Rattle.run_plane.specs.LineArcs.{AreArcsOfPath, has_links}
 use Rattle.run_plane.specs.OnPlane.{AreBelow, AreLayersOn, AreOn, AreAllOn, IsLayerOn, IsOn}
 use Rattle.run_plane.specs.declared.layer.Layer.{Layer}
 use Rattle.run_plane.specs.declared.layer.Shape.{Shape}
 use Rattle.run_plane.specs.declared.layer.Shape.TheVariants as shape
 use Rattle.run_plane.specs.declared.plane.Plane.{Plane}
 use Rattle.run_plane.proofs.OnPlane.{features_are_inner, set_inner}
-use Rattle.run_beginning.specs.BegunLayers.{AreArcsOfPath, AreBegun, AreBegunOfEach, AreShapes, BeginsOver, IsLineOf, IsLineShape, Left, left_after, left_after_all, face_shape, has_links, imported, numbers_of, of_command, of_import, owned, point_shape, polygon_count, row_shape}
+use Rattle.run_beginning.specs.BegunLayers.{AreBegun, AreBegunOfEach, AreShapes, BeginsOver, IsLineOf, IsLineShape, Left, left_after, left_after_all, face_shape, imported, numbers_of, of_command, of_import, owned, point_shape, polygon_count, row_shape}
 
 module _ (plane : Plane) where
   abbrev AreInner : Left → Type 0

@@ -1,5 +1,5 @@
 -- What begins over layers without their paths begins over the layers themselves.
-use Rattle.std.proofs.Common.{◌≡◌, ◌∙◌, refl, ap, subst, ℕ, List, [], ◌∷◌, drop, length, map}
+use Rattle.std.proofs.Common.{◌≡◌, ◌∙◌, refl, ap, subst, ℕ, List, [], ◌∷◌, length, map}
 use Rattle.std.specs.List.{AllZip, range_with_len}
 use Rattle.std.proofs.lemmas.List.{length-map}
 use Rattle.plane_model.specs.Drawing.{Drawing}
@@ -12,7 +12,7 @@ use Rattle.geojson_io.specs.declared.shape.GeoShape.{GeoShape}
 use Rattle.job_terms.specs.declared.job.Owner.{Owner}
 use Rattle.run_plane.specs.declared.layer.Layer.{Layer}
 use Rattle.run_plane.specs.declared.layer.Shape.{Shape}
-use Rattle.run_beginning.specs.BegunLayers.{AreBegun, AreBegunOfEach, AreShapes, BeginsOver, IsLineOf, Left, left_after, left_after_all, face_shape, line_count, polygon_count}
+use Rattle.run_beginning.specs.BegunLayers.{AreBegun, AreBegunOfEach, AreShapes, BeginsOver, IsLineOf, Left, left_after, left_after_all, left_after_many, face_shape}
 use Rattle.run_beginning.specs.Drawing.{nothing_of, shapes_without_paths, without_paths}
 
 -- ---- as much is left after them
@@ -23,11 +23,8 @@ as_many kinds.Line given = length-map given nothing_of
 as_many kinds.Point given = refl
 as_many kinds.Table given = refl
 
-abbrev left_after_many : Kind → Left → ℕ → Left
-left_after_many k left n = record { faces = drop (polygon_count k n) left.faces; lines = drop (line_count k n) left.lines }
-
 left_after_same : (layer : LayerContent) (left : Left) → left_after (without_paths layer) left ≡ left_after layer left
-left_after_same layer left = ap (left_after_many layer.kind left) (as_many layer.kind layer.shapes)
+left_after_same layer left = ap (λ (n : ℕ). left_after_many layer.kind n left) (as_many layer.kind layer.shapes)
 
 left_after_all_same : (layers : List LayerContent) (left : Left) → left_after_all (map without_paths layers) left ≡ left_after_all layers left
 left_after_all_same [] left = refl

@@ -1,10 +1,9 @@
 -- The layers that the commands of a run begin with: those of its sources, over the plane of their drawing.
-use Rattle.std.specs.Prelude.{◌≡◌, ◌<◌, ◌++◌, ℕ, Bool, nat_lt, ⊤, All, List, [], ◌∷◌, drop, filter, length, map, slice_index_or, MatchBool}
+use Rattle.std.specs.Prelude.{◌≡◌, ◌++◌, ℕ, ⊤, List, [], ◌∷◌, drop, length, map, slice_index_or}
 use Rattle.std.specs.List.{AllZip, range_with_len}
 use Rattle.plane_model.specs.Points.{Path}
 use Rattle.plane_model.specs.Arcs.{SignedArc}
 use Rattle.plane_model.specs.Drawing.{Drawing}
-use Rattle.arc_table.specs.PathArcs.{AreArcsAlong}
 use Rattle.face_walk.specs.Holders.{list_at}
 use Rattle.face_walk.specs.Places.{FaceTable}
 use Rattle.grid_base.specs.declared.kinds.Kind.{Kind}
@@ -15,6 +14,7 @@ use Rattle.job_terms.specs.declared.job.Owner.{Owner}
 use Rattle.job_terms.specs.declared.job.Owner.TheVariants as owner
 use Rattle.run_beginning.specs.Drawing.{points_of}
 use Rattle.run_plane.specs.LaidOut.{IsLaidOut}
+use Rattle.run_plane.specs.LineArcs.{AreLineArcs}
 use Rattle.run_plane.specs.declared.layer.Layer.{Layer}
 use Rattle.run_plane.specs.declared.layer.Shape.{Shape}
 use Rattle.run_plane.specs.declared.layer.Shape.TheVariants as shape
@@ -38,30 +38,14 @@ line_count kinds.Line n = n
 line_count kinds.Point n = 0
 line_count kinds.Table n = 0
 
--- what is left after those of a layer
+-- what is left after n features of some kind, and after those of a layer
+abbrev pub left_after_many : Kind → ℕ → Left → Left
+left_after_many kind n left = record { faces = drop (polygon_count kind n) left.faces; lines = drop (line_count kind n) left.lines }
+
 abbrev pub left_after : LayerContent → Left → Left
-left_after layer left = record {
-  faces = drop (polygon_count layer.kind (length layer.shapes)) left.faces;
-  lines = drop (line_count layer.kind (length layer.shapes)) left.lines;
-}
+left_after layer left = left_after_many layer.kind (length layer.shapes) left
 
 -- ---- shapes
-
-abbrev pub has_links : Path → Bool
-has_links path = nat_lt 1 (length path)
-
--- arcs of the plane that go along a path
-pub record AreArcsOfPath (arcs : List Path) (path : Path) (named : List SignedArc) : Type 0 where
-  pub along : AreArcsAlong arcs path named
-  pub there : All (λ (a : SignedArc). a.arc < length arcs) named
-
--- the paths with links, each as arcs
-abbrev pub AreLineArcs : List Path → List Path → List (List SignedArc) → Type 0
-AreLineArcs arcs lines paths = AllZip (AreArcsOfPath arcs) (filter has_links lines) paths
-
--- the next path, where it has links, is appended to the others
-abbrev pub GoesAlong : List Path → Path → List (List SignedArc) → List (List SignedArc) → Type 0
-GoesAlong arcs path old new = MatchBool (has_links path) ((along : List SignedArc) × AreArcsOfPath arcs path along × (new ≡ old ++ along ∷ [])) (new ≡ old)
 
 abbrev pub IsLineShape : List Path → List Path → Shape → Type 0
 IsLineShape arcs lines (shape.Paths paths) = AreLineArcs arcs lines paths
@@ -72,6 +56,9 @@ IsLineShape arcs lines (shape.Points points) = ⊥
 -- the shape of the k-th of the next features
 abbrev pub face_shape : List (List ℕ) → ℕ → Shape
 face_shape faces k = shape.Faces (list_at faces k)
+
+abbrev pub path_shape : List (List (List SignedArc)) → ℕ → Shape
+path_shape lines k = shape.Paths (slice_index_or lines k [])
 
 abbrev pub IsLineOf : List Path → List (List Path) → ℕ → Shape → Type 0
 IsLineOf arcs lines k = IsLineShape arcs (slice_index_or lines k [])

@@ -1,2 +1,3 @@
 pub mod BegunLayers
 pub mod Drawing
+pub mod NextFeatures

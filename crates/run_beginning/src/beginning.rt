@@ -1,21 +1,25 @@
-ghost use Rattle.std.specs.Prelude.{◌≡◌, ◌++◌, ◌∷◌, [], drop, length, map, slice_index_or, All, IfErr, IfOk, OnOk};
+ghost use Rattle.std.specs.Prelude.{◌≡◌, ◌++◌, ◌∷◌, [], List, drop, length, map, All, IfErr, IfOk, OnOk};
 ghost use Rattle.std.specs.List.{AllZip, range_with_len};
 ghost use Rattle.std.specs.Vec.Iter.{into_iter_items, into_iter_len};
 ghost use Rattle.lists.specs.Lists.{first_or, joined_up};
+ghost use Rattle.plane_model.specs.Drawing.{Drawing};
+ghost use Rattle.plane_model.specs.Points.{Path};
 ghost use Rattle.plane_model.specs.Snapped.{snapped};
 ghost use Rattle.geojson_io.specs.Sound.{LayerIsSound};
 ghost use Rattle.snap_round.specs.Snapping.{FaultMeans};
 ghost use Rattle.run_plane.specs.Begun.{IsFew};
 ghost use Rattle.run_plane.specs.LaidOut.{IsLaidOut};
+ghost use Rattle.run_plane.specs.LineArcs.{AreLineArcs};
 ghost use Rattle.run_plane.specs.OnPlane.{AreLayersOn, AreAllOn};
-ghost use Rattle.run_beginning.specs.BegunLayers.{AreBegun, AreLineArcs, AreShapes, AreSourcesBegun, BeginsOver, GoesAlong, IsBegunLayer, IsLineOf, left_after, left_after_all, face_shape, line_count, of_command, of_import, point_shape, polygon_count, row_shape};
+ghost use Rattle.run_beginning.specs.BegunLayers.{AreBegun, AreShapes, AreSourcesBegun, BeginsOver, IsBegunLayer, Left, left_after, left_after_all, left_after_many, face_shape, of_command, of_import, path_shape, point_shape, row_shape};
 ghost use Rattle.run_beginning.specs.Drawing.{drawing_of, points_of};
+ghost use Rattle.run_beginning.specs.NextFeatures.{AreCounted, IsLeft};
 
 use crate::drawing::drawing_of;
-use arc_table::{ArcTable, SignedPaths};
+use arc_table::SignedPaths;
 use face_sets::FaceSet;
 use geojson_io::{GeoLayer, GeoShape, GeoShapeList};
-use grid_base::{BoxList, Drawing, FeatId, Kind, PtList};
+use grid_base::{BoxList, Kind, PtList};
 use job_terms::Owner;
 use run_plane::{LaidOut, Layer, Plane, Shape, laid_out};
 use run_sources::ReadSource;
@@ -52,35 +56,26 @@ pub fn begin(alloc: Global, sources: Vec<ReadSource>, boxes: &BoxList) -> Result
     }
 }
 
-// The features of the drawing that are left.
+// The features of the drawing that are left, the next ones first.
 #[derive(Drop)]
 struct Next {
-    // The number of the next line feature.
-    line: u32,
-    // The faces of the polygon features that are left, the next ones first.
+    // The faces of the polygon features.
     faces: IntoIter<FaceSet>,
+    // The paths of the line features, as arcs.
+    lines: IntoIter<SignedPaths>,
 }
 
 fn begun_with(alloc: Global, laid: LaidOut, sources: Vec<ReadSource>) -> Result<Begun, AllocError>
-    requires laid { IsLaidOut laid.snapped laid.plane.arcs laid.plane.faces laid.plane.boxes.items laid.features.items }
-    ensures over { IfOk result (λ begun. BeginsOver laid.snapped (map (λ read. read.owner) sources.items) (map (λ read. read.layers) sources.items) begun.plane.arcs begun.plane.faces begun.plane.boxes.items begun.layers.items (map (λ own. own.items) begun.sources.items)) }
+    ensures over { (s : Drawing) → IsLaidOut s laid.plane.arcs laid.plane.faces laid.plane.boxes.items laid.features.items → AllZip (AreLineArcs laid.plane.arcs) s.lines laid.lines.items → IfOk result (λ begun. BeginsOver s (map (λ read. read.owner) sources.items) (map (λ read. read.layers) sources.items) begun.plane.arcs begun.plane.faces begun.plane.boxes.items begun.layers.items (map (λ own. own.items) begun.sources.items)) }
 {
     let LaidOut {
         plane,
-        snapped,
         features,
+        lines,
     } = laid;
     let mut layers = Vec::new(alloc);
     let mut owned = Vec::new(alloc);
-    begin_sources(
-        alloc,
-        &plane.arcs,
-        &snapped,
-        features,
-        sources,
-        &mut layers,
-        &mut owned,
-    )?;
+    begin_sources(alloc, features, lines, sources, &mut layers, &mut owned)?;
     Ok(Begun {
         plane,
         layers,
@@ -92,34 +87,33 @@ fn begun_with(alloc: Global, laid: LaidOut, sources: Vec<ReadSource>) -> Result<
 // its command.
 fn begin_sources(
     alloc: Global,
-    arcs: &ArcTable,
-    snapped: &Drawing,
     features: Vec<FaceSet>,
+    lines: Vec<SignedPaths>,
     sources: Vec<ReadSource>,
     layers: &mut Vec<Layer>,
     owned: &mut Vec<Vec<Layer>>,
 ) -> Result<(), AllocError>
     requires layers { layers.old.items ≡ [] }
     requires owned { owned.old.items ≡ [] }
-    ensures begun { OnOk result (AreSourcesBegun arcs.now (record { faces = features.items; lines = snapped.now.lines }) (map (λ read. read.owner) sources.items) (map (λ read. read.layers) sources.items) layers.new.items (map (λ own. own.items) owned.new.items)) }
+    ensures begun { (arcs : List Path) (paths : List (List Path)) → AllZip (AreLineArcs arcs) paths lines.items → OnOk result (AreSourcesBegun arcs (record { faces = features.items; lines = paths }) (map (λ read. read.owner) sources.items) (map (λ read. read.layers) sources.items) layers.new.items (map (λ own. own.items) owned.new.items)) }
 {
-    let mut next = first_of(features);
+    let mut next = first_of(features, lines);
     for source in sources {
-        let begun = begun_layers(alloc, arcs, snapped, &mut next, source.layers.into_vec())?;
+        let begun = begun_layers(alloc, &mut next, source.layers.into_vec())?;
         hand_out(alloc, source.owner, begun, layers, owned)?;
     }
     Ok(())
 }
 
 // All features of the drawing are left.
-fn first_of(features: Vec<FaceSet>) -> Next
-    ensures line { result.line ≡ 0 }
+fn first_of(features: Vec<FaceSet>, lines: Vec<SignedPaths>) -> Next
     ensures faces { into_iter_items result.faces ≡ features.items }
-    ensures count { into_iter_len result.faces ≡ length (into_iter_items result.faces) }
+    ensures lines { into_iter_items result.lines ≡ lines.items }
+    ensures counted { AreCounted result }
 {
     Next {
-        line: 0,
         faces: features.into_iter(),
+        lines: lines.into_iter(),
     }
 }
 
@@ -153,37 +147,29 @@ fn put_layers(layers: &mut Vec<Layer>, more: Vec<Layer>) -> Result<(), AllocErro
     Ok(())
 }
 
-// Layers over the plane, after those of the drawing before them.
+// Layers over the plane, of the features that are left of the drawing.
 fn begun_layers(
     alloc: Global,
-    arcs: &ArcTable,
-    snapped: &Drawing,
     next: &mut Next,
     layers: Vec<GeoLayer>,
 ) -> Result<Vec<Layer>, AllocError>
-    requires count { into_iter_len next.old.faces ≡ length (into_iter_items next.old.faces) }
-    ensures begun { IfOk result (λ begun. AreBegun arcs.now (record { faces = into_iter_items next.old.faces; lines = drop next.old.line snapped.now.lines }) layers.items begun.items) }
-    ensures left_after { OnOk result (record { faces = into_iter_items next.new.faces; lines = drop next.new.line snapped.now.lines } ≡ left_after_all layers.items (record { faces = into_iter_items next.old.faces; lines = drop next.old.line snapped.now.lines })) }
-    ensures count { OnOk result (into_iter_len next.new.faces ≡ length (into_iter_items next.new.faces)) }
+    requires counted { AreCounted next.old }
+    ensures begun { (arcs : List Path) (left : Left) → IsLeft arcs left next.old → IfOk result (λ begun. AreBegun arcs left layers.items begun.items) }
+    ensures left { (arcs : List Path) (left : Left) → IsLeft arcs left next.old → OnOk result (IsLeft arcs (left_after_all layers.items left) next.new) }
+    ensures counted { OnOk result (AreCounted next.new) }
 {
     let mut begun = Vec::new(alloc);
     for layer in layers {
-        begun.push(begun_layer(alloc, arcs, snapped, next, layer)?)?;
+        begun.push(begun_layer(alloc, next, layer)?)?;
     }
     Ok(begun)
 }
 
-fn begun_layer(
-    alloc: Global,
-    arcs: &ArcTable,
-    snapped: &Drawing,
-    next: &mut Next,
-    layer: GeoLayer,
-) -> Result<Layer, AllocError>
-    requires count { into_iter_len next.old.faces ≡ length (into_iter_items next.old.faces) }
-    ensures begun { IfOk result (IsBegunLayer arcs.now (record { faces = into_iter_items next.old.faces; lines = drop next.old.line snapped.now.lines }) layer) }
-    ensures left_after { OnOk result (record { faces = into_iter_items next.new.faces; lines = drop next.new.line snapped.now.lines } ≡ left_after layer (record { faces = into_iter_items next.old.faces; lines = drop next.old.line snapped.now.lines })) }
-    ensures count { OnOk result (into_iter_len next.new.faces ≡ length (into_iter_items next.new.faces)) }
+fn begun_layer(alloc: Global, next: &mut Next, layer: GeoLayer) -> Result<Layer, AllocError>
+    requires counted { AreCounted next.old }
+    ensures begun { (arcs : List Path) (left : Left) → IsLeft arcs left next.old → IfOk result (IsBegunLayer arcs left layer) }
+    ensures left { (arcs : List Path) (left : Left) → IsLeft arcs left next.old → OnOk result (IsLeft arcs (left_after layer left) next.new) }
+    ensures counted { OnOk result (AreCounted next.new) }
 {
     let GeoLayer {
         name,
@@ -191,7 +177,7 @@ fn begun_layer(
         table,
         shapes,
     } = layer;
-    let shapes = begun_shapes(alloc, arcs, snapped, next, kind, shapes)?;
+    let shapes = begun_shapes(alloc, next, kind, shapes)?;
     Ok(Layer {
         name,
         kind,
@@ -202,22 +188,19 @@ fn begun_layer(
 
 fn begun_shapes(
     alloc: Global,
-    arcs: &ArcTable,
-    snapped: &Drawing,
     next: &mut Next,
     kind: Kind,
     shapes: GeoShapeList,
 ) -> Result<Vec<Shape>, AllocError>
-    requires count { into_iter_len next.old.faces ≡ length (into_iter_items next.old.faces) }
+    requires counted { AreCounted next.old }
     ensures each { IfOk result (λ begun. length begun.items ≡ length shapes) }
-    ensures begun { IfOk result (λ begun. AreShapes arcs.now (record { faces = into_iter_items next.old.faces; lines = drop next.old.line snapped.now.lines }) kind shapes begun.items) }
-    ensures faces { OnOk result (into_iter_items next.new.faces ≡ drop (polygon_count kind (length shapes)) (into_iter_items next.old.faces)) }
-    ensures lines { OnOk result (drop next.new.line snapped.now.lines ≡ drop (line_count kind (length shapes)) (drop next.old.line snapped.now.lines)) }
-    ensures count { OnOk result (into_iter_len next.new.faces ≡ length (into_iter_items next.new.faces)) }
+    ensures begun { (arcs : List Path) (left : Left) → IsLeft arcs left next.old → IfOk result (λ begun. AreShapes arcs left kind shapes begun.items) }
+    ensures left { (arcs : List Path) (left : Left) → IsLeft arcs left next.old → OnOk result (IsLeft arcs (left_after_many kind (length shapes) left) next.new) }
+    ensures counted { OnOk result (AreCounted next.new) }
 {
     match kind {
         Kind::Polygon => begun_faces(alloc, &mut next.faces, shapes.len()),
-        Kind::Line => begun_lines(alloc, arcs, snapped, &mut next.line, shapes.len()),
+        Kind::Line => begun_lines(alloc, &mut next.lines, shapes.len()),
         Kind::Point => begun_points(alloc, shapes.into_vec()),
         Kind::Table => begun_rows(alloc, shapes.as_slice()),
     }
@@ -237,95 +220,43 @@ fn begun_faces(
 {
     let mut begun = Vec::new(alloc);
     for _number in 0..count {
-        let set = next_set(alloc, faces);
+        let set = next_or(faces, FaceSet::new(alloc));
         begun.push(Shape::Faces(set))?;
     }
     Ok(begun)
 }
 
-// The next of the sets; none is empty.
-fn next_set(alloc: Global, faces: &mut IntoIter<FaceSet>) -> FaceSet
-    requires count { into_iter_len faces.old ≡ length (into_iter_items faces.old) }
-    ensures first { result ≡ first_or [] (into_iter_items faces.old) }
-    ensures rest { into_iter_items faces.new ≡ drop 1 (into_iter_items faces.old) }
-    ensures count { into_iter_len faces.new ≡ length (into_iter_items faces.new) }
-{
-    match faces.next() {
-        Some(set) => set,
-        None => FaceSet::new(alloc),
-    }
-}
-
-// The paths of the next `count` line features, as arcs.
+// The paths of the next `count` line features.
 fn begun_lines(
     alloc: Global,
-    arcs: &ArcTable,
-    snapped: &Drawing,
-    line: &mut u32,
+    lines: &mut IntoIter<SignedPaths>,
     count: u32,
 ) -> Result<Vec<Shape>, AllocError>
+    requires count { into_iter_len lines.old ≡ length (into_iter_items lines.old) }
     ensures each { IfOk result (λ begun. length begun.items ≡ count) }
-    ensures begun { IfOk result (λ begun. AllZip (IsLineOf arcs.now (drop line.old snapped.now.lines)) (range_with_len 0 count) begun.items) }
-    ensures lines { OnOk result (drop line.new snapped.now.lines ≡ drop count (drop line.old snapped.now.lines)) }
+    ensures begun { IfOk result (λ begun. begun.items ≡ map (path_shape (into_iter_items lines.old)) (range_with_len 0 count)) }
+    ensures lines { OnOk result (into_iter_items lines.new ≡ drop count (into_iter_items lines.old)) }
+    ensures count { OnOk result (into_iter_len lines.new ≡ length (into_iter_items lines.new)) }
 {
     let mut begun = Vec::new(alloc);
-    for number in 0..count {
-        let there = line_after(snapped, *line, number);
-        let paths = snapped_paths(alloc, arcs, snapped, there)?;
+    for _number in 0..count {
+        let paths = next_or(lines, SignedPaths::new(alloc));
         begun.push(Shape::Paths(paths))?;
     }
-    *line = line_after(snapped, *line, count);
     Ok(begun)
 }
 
-// The number of the line feature that comes `number` features after another, or a number that no line feature has.
-fn line_after(snapped: &Drawing, line: u32, number: u32) -> u32
-    ensures exact { drop result snapped.now.lines ≡ drop number (drop line snapped.now.lines) }
+// The next of the items. There is one for each feature.
+fn next_or<T: Drop>(items: &mut IntoIter<T>, none: T) -> T
+    requires count { into_iter_len items.old ≡ length (into_iter_items items.old) }
+    ensures first { result ≡ first_or none (into_iter_items items.old) }
+    ensures rest { into_iter_items items.new ≡ drop 1 (into_iter_items items.old) }
+    ensures count { into_iter_len items.new ≡ length (into_iter_items items.new) }
 {
-    match line.checked_add(number) {
-        Some(there) => there,
-        None => snapped.line_count(),
+    match items.next() {
+        Some(item) => item,
+        None => none,
     }
-}
-
-// The paths of the line feature with this number as arcs; a path without links is dropped.
-fn snapped_paths(
-    alloc: Global,
-    arcs: &ArcTable,
-    snapped: &Drawing,
-    line: u32,
-) -> Result<SignedPaths, AllocError>
-    ensures along { IfOk result (AreLineArcs arcs.now (slice_index_or snapped.now.lines line [])) }
-{
-    if line < snapped.line_count() {
-        paths_along(alloc, arcs, snapped.lines_of(FeatId::new(line)).as_slice())
-    } else {
-        Ok(SignedPaths::new(alloc))
-    }
-}
-
-fn paths_along(alloc: Global, arcs: &ArcTable, lines: &[PtList]) -> Result<SignedPaths, AllocError>
-    ensures along { IfOk result (AreLineArcs arcs.now lines.now) }
-{
-    let mut paths = SignedPaths::new(alloc);
-    for path in lines {
-        add_along(alloc, arcs, &mut paths, path)?;
-    }
-    Ok(paths)
-}
-
-fn add_along(
-    alloc: Global,
-    arcs: &ArcTable,
-    paths: &mut SignedPaths,
-    path: &PtList,
-) -> Result<(), AllocError>
-    ensures along { OnOk result (GoesAlong arcs.now path.now paths.old paths.new) }
-{
-    if path.len() > 1 {
-        paths.push(arcs.path_arcs(alloc, path)?)?;
-    }
-    Ok(())
 }
 
 fn begun_points(alloc: Global, shapes: Vec<GeoShape>) -> Result<Vec<Shape>, AllocError>

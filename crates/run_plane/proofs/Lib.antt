@@ -1,3 +1,4 @@
 pub mod FacesHeld
 pub mod Growth
+pub mod LineLemmas
 pub mod OnPlane

@@ -1,19 +1,26 @@
-ghost use Rattle.std.specs.Prelude.{◌≡◌, [], All, length, nat_lt, replicate, slice_set, IfErr, IfOk, OnOk};
-ghost use Rattle.face_walk.specs.Places.{IsBuiltOf};
+ghost use Rattle.std.specs.Prelude.{◌≡◌, [], All, List, length, nat_lt, replicate, slice_set, IfErr, IfOk, OnOk};
+ghost use Rattle.std.specs.List.{AllZip};
 ghost use Rattle.lists.specs.Lists.{put_in_order};
+ghost use Rattle.plane_model.specs.Drawing.{Drawing as Drawn};
+ghost use Rattle.plane_model.specs.Points.{Path};
 ghost use Rattle.plane_model.specs.Snapped.{snapped};
+ghost use Rattle.grid_base.specs.Drawn.{HasPaths};
 ghost use Rattle.arc_table.specs.Direction.{IsForward};
 ghost use Rattle.arc_table.specs.Order.{AreNumbered};
 ghost use Rattle.arc_table.specs.PathArcs.{AreArcsOf};
 ghost use Rattle.arc_table.specs.WholeArcs.{StartsAtLeast};
 ghost use Rattle.face_walk.specs.Holders.{list_at};
+ghost use Rattle.face_walk.specs.PathSteps.{AreAllStepsOf};
+ghost use Rattle.face_walk.specs.Places.{IsBuiltOf};
 ghost use Rattle.snap_round.specs.Snapping.{FaultMeans};
 ghost use Rattle.run_plane.specs.Begun.{IsFew};
 ghost use Rattle.run_plane.specs.LaidOut.{AreHeld, AreHeldFaces, IsLaidOut, PutsInto};
+ghost use Rattle.run_plane.specs.LineArcs.{AreLineArcs};
 
-use arc_table::ArcTable;
+use crate::lines::lines_along;
+use arc_table::{ArcNet, ArcTable, SignedPaths};
 use face_sets::FaceSet;
-use face_walk::{Faces, Labels};
+use face_walk::{Faces, Labels, PathSteps};
 use grid_base::{Drawing, FaceId, FeatId, Snapped};
 use snap_round::{SnapFault, into_snapped};
 use std::alloc::{AllocError, Global};
@@ -28,12 +35,13 @@ pub struct Plane {
     ghost built: { IsBuiltOf arcs faces },
 }
 
-/// A drawing laid out: its plane, its snapped paths, and the faces that each polygon feature holds, by its number.
+/// A drawing laid out: its plane, the faces that each polygon feature holds, and the paths of each line feature as arcs,
+/// by their numbers.
 #[derive(Drop)]
 pub struct LaidOut {
     pub plane: Plane,
-    pub snapped: Drawing,
     pub features: Vec<FaceSet>,
+    pub lines: Vec<SignedPaths>,
 }
 
 /// Snaps a drawing, lets it go, and builds the arcs and faces of the snapped one.
@@ -42,8 +50,8 @@ pub struct LaidOut {
 pub fn laid_out(alloc: Global, drawing: Drawing) -> Result<LaidOut, SnapFault>
     ensures fault { IfErr result (FaultMeans drawing) }
     ensures few { IfOk result (λ laid. IsFew drawing) }
-    ensures snapped { IfOk result (λ laid. laid.snapped ≡ snapped drawing) }
-    ensures laid { IfOk result (λ laid. IsLaidOut laid.snapped laid.plane.arcs laid.plane.faces laid.plane.boxes.items laid.features.items) }
+    ensures laid { IfOk result (λ laid. IsLaidOut (snapped drawing) laid.plane.arcs laid.plane.faces laid.plane.boxes.items laid.features.items) }
+    ensures lines { IfOk result (λ laid. AllZip (AreLineArcs laid.plane.arcs) (snapped drawing).lines laid.lines.items) }
 {
     let snapped = into_snapped(alloc, drawing)?;
     match built(alloc, snapped) {
@@ -53,25 +61,101 @@ pub fn laid_out(alloc: Global, drawing: Drawing) -> Result<LaidOut, SnapFault>
 }
 
 fn built(alloc: Global, snapped: Snapped) -> Result<LaidOut, AllocError>
-    ensures snapped { IfOk result (λ laid. laid.snapped ≡ snapped) }
     ensures laid { IfOk result (λ laid. IsLaidOut snapped laid.plane.arcs laid.plane.faces laid.plane.boxes.items laid.features.items) }
+    ensures lines { IfOk result (λ laid. AllZip (AreLineArcs laid.plane.arcs) snapped.lines laid.lines.items) }
 {
-    let mut arcs = arcs_of(alloc, &snapped)?;
-    // The links serve the arcs alone, and their order the faces.
-    let snapped = snapped.into_paths();
-    snapped.keeps_paths();
-    let faces = Faces::build(alloc, &arcs)?;
+    let drawn = ArcsAndPaths::of(alloc, snapped)?;
+    let ArcsAndPaths { mut arcs, paths } = drawn;
+    let along = AlongArcs::of(alloc, &arcs, paths)?;
+    let AlongArcs {
+        lines,
+        steps,
+        counts,
+    } = along;
+    let mut faces = Faces::build(alloc, &arcs)?;
     arcs.forget_order();
-    let held = HeldFaces::of(alloc, &arcs, &faces, &snapped)?;
+    forget_idle_search(&mut faces, counts.points);
+    let held = HeldFaces::of(alloc, &faces, steps, counts)?;
     Ok(LaidOut {
         plane: Plane {
             arcs,
             faces,
             boxes: held.boxes,
         },
-        snapped,
         features: held.features,
+        lines,
     })
+}
+
+// Without point features no run asks in which face a point lies.
+fn forget_idle_search(faces: &mut Faces, point_count: u32)
+    ensures same { faces.new ≡ faces.old }
+{
+    if point_count == 0 {
+        faces.forget_search();
+    }
+}
+
+// The arcs of a snapped drawing, and its paths.
+#[derive(Drop)]
+struct ArcsAndPaths {
+    arcs: ArcTable,
+    paths: Drawing,
+}
+
+impl ArcsAndPaths {
+    // The links are let go before the arcs are made.
+    fn of(alloc: Global, snapped: Snapped) -> Result<ArcsAndPaths, AllocError>
+        ensures paths { IfOk result (λ made. made.paths ≡ snapped) }
+        ensures kept { IfOk result (λ made. HasPaths snapped) }
+        ensures exact { IfOk result (λ made. AreArcsOf snapped made.arcs) }
+        ensures forward { IfOk result (λ made. All IsForward made.arcs) }
+        ensures least { IfOk result (λ made. All (StartsAtLeast snapped) made.arcs) }
+        ensures numbered { IfOk result (λ made. AreNumbered snapped made.arcs) }
+    {
+        let _ = snapped.links();
+        let net = ArcNet::of(alloc, &snapped)?;
+        let paths = snapped.into_paths();
+        paths.keeps_paths();
+        let arcs = ArcTable::of_net(alloc, &paths, net)?;
+        Ok(ArcsAndPaths { arcs, paths })
+    }
+}
+
+// How many features of two kinds, and how many boxes, a drawing has.
+#[derive(Clone, Copy)]
+struct Counts {
+    polygons: u32,
+    points: u32,
+    boxes: u32,
+}
+
+// What the paths of a drawing are along its arcs.
+#[derive(Drop)]
+struct AlongArcs {
+    lines: Vec<SignedPaths>,
+    steps: PathSteps,
+    counts: Counts,
+}
+
+impl AlongArcs {
+    // The paths are let go.
+    fn of(alloc: Global, arcs: &ArcTable, paths: Drawing) -> Result<AlongArcs, AllocError>
+        ensures lines { IfOk result (λ along. AllZip (AreLineArcs arcs.now) paths.lines along.lines.items) }
+        ensures steps { IfOk result (λ along. AreAllStepsOf arcs.now paths along.steps) }
+        ensures features { IfOk result (λ along. along.counts.polygons ≡ length paths.polygons) }
+        ensures boxes { IfOk result (λ along. along.counts.boxes ≡ length paths.boxes) }
+    {
+        Ok(AlongArcs {
+            lines: lines_along(alloc, arcs, &paths)?,
+            steps: PathSteps::of(alloc, arcs, &paths)?,
+            counts: Counts {
+                polygons: paths.polygon_count(),
+                points: paths.point_count(),
+                boxes: paths.box_count(),
+            },
+        })
+    }
 }
 
 // The faces that each polygon feature holds, and each box, by their numbers.
@@ -84,15 +168,15 @@ struct HeldFaces {
 impl HeldFaces {
     fn of(
         alloc: Global,
-        arcs: &ArcTable,
         faces: &Faces,
-        snapped: &Drawing,
+        steps: PathSteps,
+        counts: Counts,
     ) -> Result<HeldFaces, AllocError>
-        requires built { IsBuiltOf arcs.now faces.now }
-        ensures held { IfOk result (λ held. AreHeld snapped.now arcs.now faces.now held.boxes.items held.features.items) }
+        ensures held { (t : List Path) (s : Drawn) → IsBuiltOf t faces.now → AreAllStepsOf t s steps → counts.polygons ≡ length s.polygons → counts.boxes ≡ length s.boxes →
+            IfOk result (λ held. AreHeld s t faces.now held.boxes.items held.features.items) }
     {
-        let labels = Labels::of_paths(alloc, arcs, faces, snapped)?;
-        HeldFaces::by_labels(alloc, faces, &labels, snapped)
+        let labels = Labels::of_steps(alloc, faces, steps)?;
+        HeldFaces::by_labels(alloc, faces, &labels, counts)
     }
 
     // For each feature and each box the faces whose labels have it.
@@ -100,15 +184,15 @@ impl HeldFaces {
         alloc: Global,
         faces: &Faces,
         labels: &Labels,
-        snapped: &Drawing,
+        counts: Counts,
     ) -> Result<HeldFaces, AllocError>
         requires holders { length labels.now.holders ≡ faces.now.count }
         requires boxes { length labels.now.boxes ≡ faces.now.count }
-        ensures features { IfOk result (λ held. AreHeldFaces labels.now.holders faces.now.count (length snapped.now.polygons) held.features.items) }
-        ensures boxes { IfOk result (λ held. AreHeldFaces labels.now.boxes faces.now.count (length snapped.now.boxes) held.boxes.items) }
+        ensures features { IfOk result (λ held. AreHeldFaces labels.now.holders faces.now.count counts.polygons held.features.items) }
+        ensures boxes { IfOk result (λ held. AreHeldFaces labels.now.boxes faces.now.count counts.boxes held.boxes.items) }
     {
-        let mut features = empty_sets(alloc, snapped.polygon_count())?;
-        let mut boxes = empty_sets(alloc, snapped.box_count())?;
+        let mut features = empty_sets(alloc, counts.polygons)?;
+        let mut boxes = empty_sets(alloc, counts.boxes)?;
         for number in 0..faces.count() {
             let face = FaceId::new(number);
             put_in_features(&mut features, labels.holders(face), face)?;
@@ -116,16 +200,6 @@ impl HeldFaces {
         }
         Ok(HeldFaces { features, boxes })
     }
-}
-
-fn arcs_of(alloc: Global, snapped: &Snapped) -> Result<ArcTable, AllocError>
-    ensures exact { IfOk result (AreArcsOf snapped.now) }
-    ensures forward { IfOk result (λ arcs. All IsForward arcs) }
-    ensures least { IfOk result (λ arcs. All (StartsAtLeast snapped.now) arcs) }
-    ensures numbered { IfOk result (λ arcs. AreNumbered snapped.now arcs) }
-{
-    let _ = snapped.links();
-    ArcTable::build(alloc, snapped)
 }
 
 fn put_in_features(

@@ -24,8 +24,8 @@ line_is s cells line arcs faces boxes features numbers laid are is = record {
 }
 
 -- of a drawing that is the mosaic, with its number of cells
-pub told_is : (mosaic d s : Drawing) (many count : ℕ) (line : List ℕ) → d ≡ mosaic → s ≡ snapped d → count ≡ many → IsFew d → IsLineOf s count line → IsToldOf mosaic many line
-told_is mosaic d s many count line drawn laid counted few h = record {
+pub told_is : (mosaic d : Drawing) (many count : ℕ) (line : List ℕ) → d ≡ mosaic → count ≡ many → IsFew d → IsLineOf (snapped d) count line → IsToldOf mosaic many line
+told_is mosaic d many count line drawn counted few h = record {
   few = subst IsFew drawn few;
-  told = subst (λ (e : Drawing). IsLineOf (snapped e) many line) drawn (subst (λ (r : Drawing). IsLineOf r many line) laid (subst (λ (k : ℕ). IsLineOf s k line) counted h));
+  told = subst (λ (e : Drawing). IsLineOf (snapped e) many line) drawn (subst (λ (k : ℕ). IsLineOf (snapped d) k line) counted h);
 }

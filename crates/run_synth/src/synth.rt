@@ -1,6 +1,7 @@
 ghost use Rattle.std.specs.Prelude.{◌≡◌, ◌*◌, ◌≤◌, ◌++◌, All, IfErr, IfOk, OnOk, codes};
 ghost use Rattle.std.specs.Fmt.{signed_decimal};
 ghost use Rattle.std.specs.String.{string_bytes};
+ghost use Rattle.plane_model.specs.Drawing.{Drawing};
 ghost use Rattle.snap_round.specs.Snapping.{FaultMeans};
 ghost use Rattle.face_sets.specs.Sets.{IsSetOf};
 ghost use Rattle.run_plane.specs.LaidOut.{IsLaidOut};
@@ -34,8 +35,8 @@ pub fn synth_line(alloc: Global, seed: u32, n: u32) -> Result<String, SnapFault>
 
 // The line of `count` cells that are laid out.
 fn line_of(alloc: Global, count: u32, laid: LaidOut) -> Result<String, AllocError>
-    requires laid { IsLaidOut laid.snapped laid.plane.arcs laid.plane.faces laid.plane.boxes.items laid.features.items }
-    ensures told { IfOk result (λ line. IsLineOf laid.snapped count (string_bytes line)) }
+    requires inner { All (IsSetOf laid.plane.faces) laid.features.items }
+    ensures told { (s : Drawing) → IsLaidOut s laid.plane.arcs laid.plane.faces laid.plane.boxes.items laid.features.items → IfOk result (λ line. IsLineOf s count (string_bytes line)) }
 {
     let numbers = numbers_of(alloc, count, laid)?;
     text_of(alloc, numbers)
@@ -52,7 +53,7 @@ struct Numbers {
 }
 
 fn numbers_of(alloc: Global, count: u32, laid: LaidOut) -> Result<Numbers, AllocError>
-    requires laid { IsLaidOut laid.snapped laid.plane.arcs laid.plane.faces laid.plane.boxes.items laid.features.items }
+    requires inner { All (IsSetOf laid.plane.faces) laid.features.items }
     ensures exact { IfOk result (AreNumbersOf laid.plane.arcs laid.plane.faces laid.features.items count) }
 {
     let sets = listed(alloc, laid.features)?;

@@ -1,14 +1,19 @@
-use Rattle.std.proofs.Common.{◌≡◌, drop, length, map}
+use Rattle.std.proofs.Common.{◌≡◌, length, map, List}
+use Rattle.std.specs.List.{AllZip}
 use Rattle.std.specs.Vec.Iter.{into_iter_items, into_iter_len}
+use Rattle.plane_model.specs.Points.{Path}
+use Rattle.run_plane.specs.LineArcs.{AreLineArcs}
 use Rattle.run_sources.specs.declared.sources.ReadSource.{ReadSource}
+use Rattle.run_beginning.specs.NextFeatures.{AreCounted}
 use Rattle.run_beginning.proofs.BegunLemmas.{SourcesGo}
 use Rattle.run_beginning.proofs.beginning.begin_sources.Given as goal
 
 abbrev pub invariant-loop-source : goal.invariant-loop-source
 invariant-loop-source l = record {
-  go : SourcesGo l.arcs (record { faces = l.fn.features.items; lines = l.snapped.lines }) (map (λ (read : ReadSource). read.owner) l.fn.sources.items) (map (λ (read : ReadSource). read.layers) l.fn.sources.items)
-      l.layers.items (map (λ own. own.items) l.owned.items) (record { faces = into_iter_items l.next.faces; lines = drop l.next.line l.snapped.lines })
+  go : (arcs : List Path) (paths : List (List Path)) → AllZip (AreLineArcs arcs) paths l.fn.lines.items →
+      SourcesGo arcs (record { faces = l.fn.features.items; lines = paths }) (map (λ (read : ReadSource). read.owner) l.fn.sources.items) (map (λ (read : ReadSource). read.layers) l.fn.sources.items)
+      l.layers.items (map (λ own. own.items) l.owned.items) l.next
       (map (λ (read : ReadSource). read.owner) (into_iter_items l.source-iterator)) (map (λ (read : ReadSource). read.layers) (into_iter_items l.source-iterator));
-  faces : into_iter_len l.next.faces ≡ length (into_iter_items l.next.faces);
+  counted : AreCounted l.next;
   sources : into_iter_len l.source-iterator ≡ length (into_iter_items l.source-iterator);
 }

@@ -1,17 +1,21 @@
-use Rattle.std.proofs.Common.{◌∙◌, ap, arith, length, length-append, [], ◌∷◌}
+use Rattle.std.proofs.Common.{◌∙◌, ap, arith, length, length-append, ℕ, List, [], ◌∷◌}
 use Rattle.std.specs.Vec.Iter.{into_iter_items}
+use Rattle.lists.specs.Lists.{first_or}
 use Rattle.run_plane.specs.declared.layer.Shape.TheVariants as shape
-use Rattle.run_beginning.proofs.BegunLemmas.{sets_left, sets_more}
+use Rattle.run_beginning.proofs.BegunLemmas.{items_left, shapes_more}
 use Rattle.run_beginning.proofs.beginning.begun_faces.Goals as goal
 
 pub loop-number-preserved : goal.loop-number-preserved
 loop-number-preserved c =
     let all = into_iter_items c.args.faces.now in
     let left = into_iter_items c.loop-number.faces in
-    let rest = into_iter_items c.next_set-set.new.faces in
+    let next = c.next_or-set in
+    let rest = into_iter_items next.new.items in
+    let begun = c.loop-number.begun.items in
+    let invariant = c.loop-number.invariant in
     record {
-      each = omega (arith, ap length c.in_ok-push.ensures.items, length-append c.loop-number.begun.items (shape.Faces c.next_set-set.result ∷ []), c.loop-number.invariant.each);
-      begun = c.in_ok-push.ensures.items ∙ sets_more all left c.loop-number._number c.next_set-set.result c.loop-number.begun.items c.loop-number.invariant.begun c.loop-number.invariant.left c.next_set-set.ensures.first;
-      left = sets_left all left rest c.loop-number._number c.loop-number.invariant.left c.next_set-set.ensures.rest;
-      count = c.next_set-set.ensures.count;
+      each = omega (arith, ap length c.in_ok-push.ensures.items, length-append begun (shape.Faces next.result ∷ []), invariant.each);
+      begun = c.in_ok-push.ensures.items ∙ shapes_more shape.Faces [] all left c.loop-number._number next.result begun invariant.begun invariant.left (next.ensures.first ∙ ap (λ (none : List ℕ). first_or none left) c.new.ensures.empty);
+      left = items_left all left rest c.loop-number._number invariant.left next.ensures.rest;
+      count = next.ensures.count;
     }

@@ -1,15 +1,14 @@
-use Rattle.std.proofs.Common.{◌≡◌, drop, length}
+use Rattle.std.proofs.Common.{◌≡◌, length, List}
 use Rattle.std.specs.Vec.Iter.{into_iter_items, into_iter_len}
-use Rattle.run_beginning.specs.BegunLayers.{left_after_all}
-use Rattle.run_beginning.proofs.BegunLemmas.{Goes}
+use Rattle.plane_model.specs.Points.{Path}
+use Rattle.run_beginning.specs.BegunLayers.{Left}
+use Rattle.run_beginning.specs.NextFeatures.{AreCounted, IsLeft}
+use Rattle.run_beginning.proofs.BegunLemmas.{LayersGo}
 use Rattle.run_beginning.proofs.beginning.begun_layers.Given as goal
 
 abbrev pub invariant-loop-layer : goal.invariant-loop-layer
 invariant-loop-layer l = record {
-  goes : Goes l.arcs (record { faces = into_iter_items l.initial.next.faces; lines = drop l.initial.next.line l.snapped.lines }) l.fn.layers.items l.begun.items
-      (record { faces = into_iter_items l.next.faces; lines = drop l.next.line l.snapped.lines }) (into_iter_items l.layer-iterator);
-  left : left_after_all (into_iter_items l.layer-iterator) (record { faces = into_iter_items l.next.faces; lines = drop l.next.line l.snapped.lines })
-      ≡ left_after_all l.fn.layers.items (record { faces = into_iter_items l.initial.next.faces; lines = drop l.initial.next.line l.snapped.lines });
-  faces : into_iter_len l.next.faces ≡ length (into_iter_items l.next.faces);
+  go : (arcs : List Path) (left : Left) → IsLeft arcs left l.initial.next → LayersGo arcs left l.fn.layers.items l.begun.items l.next (into_iter_items l.layer-iterator);
+  counted : AreCounted l.next;
   layers : into_iter_len l.layer-iterator ≡ length (into_iter_items l.layer-iterator);
 }

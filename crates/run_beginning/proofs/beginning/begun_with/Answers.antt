@@ -1,4 +1,6 @@
 use Rattle.run_beginning.proofs.beginning.begun_with.Goals as goal
 
 pub returns : goal.returns
-returns c = record { over = record { features = c.args.laid.features.items; laid = c.requires.laid; begun = c.in_ok-begin_sources.ensures.begun } }
+returns c = record {
+  over = λ s laid along. record { features = c.args.laid.features.items; laid = laid; begun = c.in_ok-begin_sources.ensures.begun c.args.laid.plane.arcs s.lines along };
+}

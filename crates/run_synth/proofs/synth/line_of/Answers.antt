@@ -8,12 +8,12 @@ use Rattle.run_synth.proofs.synth.line_of.Goals as goal
 
 pub returns : goal.returns
 returns c =
-    let laid = c.args.laid in
-    let arcs = laid.plane.arcs in
-    let faces = laid.plane.faces in
+    let plane = c.args.laid.plane in
+    let features = c.args.laid.features.items in
     let numbers = c.in_ok-numbers.numbers in
     record {
-      told = IfOk-weaker c.text_of.result (λ line. string_bytes line ≡ line_text numbers.cells numbers.arcs numbers.faces numbers.features numbers.twice_area) (λ line. IsLineOf laid.snapped c.args.count (string_bytes line))
-          (λ line e. line_is laid.snapped c.args.count (string_bytes line) arcs faces laid.plane.boxes.items laid.features.items numbers c.requires.laid c.in_ok-numbers.ensures.exact e)
+      told = λ s laid.
+          IfOk-weaker c.text_of.result (λ line. string_bytes line ≡ line_text numbers.cells numbers.arcs numbers.faces numbers.features numbers.twice_area) (λ line. IsLineOf s c.args.count (string_bytes line))
+          (λ line e. line_is s c.args.count (string_bytes line) plane.arcs plane.faces plane.boxes.items features numbers laid c.in_ok-numbers.ensures.exact e)
           c.text_of.ensures.exact;
     }

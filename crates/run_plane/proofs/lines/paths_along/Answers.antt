@@ -1,6 +1,6 @@
 use Rattle.std.proofs.Common.{arith}
-use Rattle.run_beginning.proofs.BegunLemmas.{paths_more}
-use Rattle.run_beginning.proofs.beginning.paths_along.Goals as goal
+use Rattle.run_plane.proofs.LineLemmas.{paths_more}
+use Rattle.run_plane.proofs.lines.paths_along.Goals as goal
 
 pub loop-path-preserved : goal.loop-path-preserved
 loop-path-preserved c =
