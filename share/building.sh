@@ -4,7 +4,7 @@
 # shellcheck shell=bash disable=SC2154
 
 # As they were seen; README.md and docs/install.md say the same.
-FIRST_BUILD_TAKES="about fifty minutes on four processors"
+FIRST_BUILD_TAKES="35 to 50 minutes on four processors"
 OLDER_BUILD_TAKES="more than an hour on four processors"
 
 # The kit that the proofs were made with, as rt version prints it; README.md and docs/install.md name it too.
