@@ -62,7 +62,11 @@ impl Drawing {
         ensures err { OnErr result (self.new ≡ self.old) }
     {
         match kind {
-            Kind::Polygon => push_feature(&mut self.polygons, RingsList::new(self.alloc)),
+            Kind::Polygon => {
+                // Most features have one polygon, and most polygons one ring.
+                let polygons = RingsList::with_capacity(self.alloc, 1)?;
+                push_feature(&mut self.polygons, polygons)
+            }
             Kind::Line => push_feature(&mut self.lines, PathList::new(self.alloc)),
             Kind::Point => push_feature(&mut self.points, PtList::new(self.alloc)),
             Kind::Table => unreachable!(),
@@ -76,7 +80,7 @@ impl Drawing {
         ensures err { OnErr result (self.new ≡ self.old) }
     {
         let last = self.polygons.len() - 1;
-        let polygon = PolygonRings::new(self.alloc);
+        let polygon = PolygonRings::with_capacity(self.alloc, 1)?;
         let feature = &mut self.polygons[last];
         feature.push(polygon)
     }

@@ -58,6 +58,15 @@ impl PolygonRings {
         }
     }
 
+    // No items, and room for `count` of them.
+    pub(crate) fn with_capacity(alloc: Global, count: usize) -> Result<PolygonRings, AllocError>
+        ensures empty { IfOk result (λ list. list ≡ []) }
+    {
+        Ok(PolygonRings {
+            items: Vec::with_capacity(alloc, count)?,
+        })
+    }
+
     pub fn push(&mut self, item: PtList) -> Result<(), AllocError>
         ensures ok { OnOk result (self.new ≡ self.old ++ item ∷ []) }
         ensures err { OnErr result (self.new ≡ self.old) }
@@ -119,6 +128,15 @@ impl RingsList {
         RingsList {
             items: Vec::new(alloc),
         }
+    }
+
+    // No items, and room for `count` of them.
+    pub(crate) fn with_capacity(alloc: Global, count: usize) -> Result<RingsList, AllocError>
+        ensures empty { IfOk result (λ list. list ≡ []) }
+    {
+        Ok(RingsList {
+            items: Vec::with_capacity(alloc, count)?,
+        })
     }
 
     pub fn push(&mut self, item: PolygonRings) -> Result<(), AllocError>

@@ -3,6 +3,7 @@ ghost use Rattle.std.specs.Option.{option_copied};
 ghost use Rattle.json_values.specs.Table.{IsNewName, IsPlaceOf};
 
 use crate::value::Value;
+use lists::ItemList;
 use std::alloc::{AllocError, Global};
 use std::marker::Model;
 use text_core::Text;
@@ -124,68 +125,4 @@ fn set_field(fields: &mut Vec<(Text, Value)>, place: usize, field: (Text, Value)
 }
 
 /// A list of fields; counted from 0.
-#[derive(Drop)]
-pub struct FieldsList {
-    items: Vec<Fields>,
-}
-
-impl Model for FieldsList {
-    ghost use Rattle.std.specs.Prelude.{List, ◌<◌, ◌^◌, length};
-    ghost use Rattle.json_values.specs.Table.{NamedValues};
-    ghost use Rattle.std.specs.Coded.{coded×, coded_ℕ, coded_list};
-    ghost use Rattle.json_values.specs.contracts.value.Value as cell;
-
-    ghost Value = { List NamedValues };
-
-    ghost coded = { coded_list (coded_list (coded× (coded_list coded_ℕ) cell.the_row.coded)) };
-
-    ghost view = { λ l. l.items.items };
-
-    ghost invariant = { λ l. length l.items.items < 2 ^ 32 };
-}
-
-impl FieldsList {
-    pub fn new(alloc: Global) -> FieldsList
-        ensures empty { result ≡ [] }
-    {
-        FieldsList {
-            items: Vec::new(alloc),
-        }
-    }
-
-    pub fn push(&mut self, item: Fields) -> Result<(), AllocError>
-        ensures ok { OnOk result (self.new ≡ self.old ++ item ∷ []) }
-        ensures err { OnErr result (self.new ≡ self.old) }
-    {
-        if self.items.len() >= u32::MAX as usize {
-            return Err(AllocError);
-        }
-        self.items.push(item)?;
-        Ok(())
-    }
-
-    pub fn len(&self) -> u32
-        ensures count { result ≡ length self.now }
-    {
-        self.items.len() as u32
-    }
-
-    pub fn get(&self, i: u32) -> Option<&Fields>
-        ensures lookup { option_copied result ≡ slice_get self.now i }
-    {
-        self.items.get(i as usize)
-    }
-
-    pub fn as_slice(&self) -> &[Fields]
-        ensures all { result.now ≡ self.now }
-    {
-        &self.items
-    }
-
-    /// The fields themselves; takes no memory.
-    pub fn into_vec(self) -> Vec<Fields>
-        ensures all { result.items ≡ self }
-    {
-        self.items
-    }
-}
+pub type FieldsList = ItemList<Fields>;

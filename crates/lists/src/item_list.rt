@@ -107,6 +107,13 @@ impl<T: Copy + Drop> ItemList<T> {
         })
     }
 
+    /// Lets all items go, and keeps the room that they had.
+    pub fn clear(&mut self)
+        ensures empty { self.new ≡ [] }
+    {
+        self.items.clear();
+    }
+
     /// Adds all items of a slice at the end. Fails for want of memory, and where the list would be too full.
     pub fn append(&mut self, items: &[T]) -> Result<(), AllocError>
         ensures ok { OnOk result (self.new ≡ self.old ++ items.now) }
