@@ -26,14 +26,18 @@ impl From<AllocError> for PathStop {
 
 /// How far paths are made: there is room for `room` more links of chains, and the next step is at `place` among the
 /// segments of the drawing. A wrong place costs time alone.
-#[derive(Clone, Copy)]
+#[derive(Drop)]
 pub struct Progress {
     pub room: u64,
     pub place: usize,
+    /// The points of the path that is being made. All paths are made in one list, whose room they share.
+    pub joined: PtList,
 }
 
 // Takes the links of a chain out of the room, and goes on to the next step.
-fn go_on(progress: &mut Progress, links: u32) -> Result<(), PathStop> {
+fn go_on(progress: &mut Progress, links: u32) -> Result<(), PathStop>
+    ensures { progress.new.joined ≡ progress.old.joined }
+{
     progress.place = progress.place.wrapping_add(1);
     match progress.room.checked_sub(u64::from(links)) {
         Some(left) => {
@@ -47,35 +51,34 @@ fn go_on(progress: &mut Progress, links: u32) -> Result<(), PathStop> {
 // Goes on along the chain of a step between hot points: appends the points after its first.
 fn append_step(
     alloc: Global,
-    joined: &mut PtList,
     progress: &mut Progress,
     hot: &HotEdges,
     s: &Seg,
 ) -> Result<(), PathStop>
     requires start { Contains hot.now.points s.now.start }
     requires stop { Contains hot.now.points s.now.stop }
-    ensures { OnOk result (joined.new ≡ joined.old ++ chain_after hot.now.points s.now) }
+    ensures { OnOk result (progress.new.joined ≡ progress.old.joined ++ chain_after hot.now.points s.now) }
 {
-    let before = joined.len();
-    hot.go_along(alloc, joined, s, progress.place)?;
-    go_on(progress, joined.len().saturating_sub(before))
+    let before = progress.joined.len();
+    hot.go_along(alloc, &mut progress.joined, s, progress.place)?;
+    let links = progress.joined.len().saturating_sub(before);
+    go_on(progress, links)
 }
 
 // Goes on along the chains of the steps from a point to the first of the rest, and on.
 fn append_chains(
     alloc: Global,
-    joined: &mut PtList,
     progress: &mut Progress,
     hot: &HotEdges,
     from: Pt,
     rest: &[Pt],
 ) -> Result<(), PathStop>
     requires hot { (p : GridPoint) → Contains (from ∷ rest.now) p → Contains hot.now.points p }
-    ensures { OnOk result (joined.new ≡ joined.old ++ flat_map (chain_after hot.now.points) (steps_after from rest.now)) }
+    ensures { OnOk result (progress.new.joined ≡ progress.old.joined ++ flat_map (chain_after hot.now.points) (steps_after from rest.now)) }
 {
     let mut last = from;
     for p in rest {
-        append_step(alloc, joined, progress, hot, &Seg::new(last, *p))?;
+        append_step(alloc, progress, hot, &Seg::new(last, *p))?;
         last = *p;
     }
     Ok(())
@@ -93,9 +96,10 @@ pub fn joined_chains(
     requires { IsHotPath hot.now.points path.now }
     ensures { IfOk result (AreChainsOf hot.now.points path.now) }
 {
-    let mut joined = PtList::with_capacity(alloc, path.len())?;
-    joined.push(path[0])?;
     go_on(progress, 0)?;
-    append_chains(alloc, &mut joined, progress, hot, path[0], &path[1..])?;
-    Ok(joined)
+    progress.joined.clear();
+    progress.joined.push(path[0])?;
+    append_chains(alloc, progress, hot, path[0], &path[1..])?;
+    let exact = PtList::of(alloc, progress.joined.as_slice())?;
+    Ok(exact)
 }

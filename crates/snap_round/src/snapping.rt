@@ -15,7 +15,7 @@ use crate::joining::{PathStop, Progress};
 use crate::links::links_in_order;
 use crate::paths::{add_point_features, snapped_paths};
 use crate::vertex_count::count_vertices;
-use grid_base::{Drawing, LinkList, Snapped};
+use grid_base::{Drawing, LinkList, PtList, Snapped};
 use hot_pixels::{HotEdges, HotSet, spots_of};
 use std::alloc::{AllocError, Global};
 
@@ -59,6 +59,7 @@ fn paths_within(
     let mut progress = Progress {
         room: most,
         place: 0,
+        joined: PtList::new(alloc),
     };
     match snapped_paths(alloc, &mut progress, hot, d) {
         Ok(paths) => few_paths(paths, most),

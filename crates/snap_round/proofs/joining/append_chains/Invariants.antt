@@ -4,5 +4,5 @@ use Rattle.snap_round.specs.Joining.{steps_after, chain_after}
 use Rattle.snap_round.proofs.joining.append_chains.Given as goal
 
 abbrev pub invariant-loop-p : goal.invariant-loop-p
-invariant-loop-p l = (l.initial.joined ++ flat_map (chain_after l.hot.points) (steps_after l.fn.from l.rest) ≡ l.joined ++ flat_map (chain_after l.hot.points) (steps_after l.last (drop l.p-index l.rest)))
+invariant-loop-p l = (l.initial.progress.joined ++ flat_map (chain_after l.hot.points) (steps_after l.fn.from l.rest) ≡ l.progress.joined ++ flat_map (chain_after l.hot.points) (steps_after l.last (drop l.p-index l.rest)))
     × Contains l.hot.points l.last
