@@ -66,6 +66,20 @@ impl Faces {
     pub fn build(alloc: Global, t: &ArcTable) -> Result<Faces, AllocError>
         ensures built { IfOk result (IsBuiltOf t.now) }
     {
+        Faces::made(alloc, t, true)
+    }
+
+    /// The same without the search by which `at` finds a link, for a table in which no point is looked up: `at` takes a
+    /// step for each link. The search is let go as soon as the faces are joined.
+    pub fn without_search(alloc: Global, t: &ArcTable) -> Result<Faces, AllocError>
+        ensures built { IfOk result (IsBuiltOf t.now) }
+    {
+        Faces::made(alloc, t, false)
+    }
+
+    fn made(alloc: Global, t: &ArcTable, is_searched: bool) -> Result<Faces, AllocError>
+        ensures built { IfOk result (IsBuiltOf t.now) }
+    {
         if t.count() > MAX_ARCS {
             return Err(AllocError);
         }
@@ -77,14 +91,15 @@ impl Faces {
         join_rays(alloc, &mut joining, &search, t.high_positions())?;
         let numbering = numbering_of(alloc, &joining)?;
         drop(joining);
+        let links = ArcLinks::of(search, is_searched);
         let sides = sides_of(alloc, t.count(), &numbering.places)?;
-        Faces::of_sides(alloc, t, search, numbering, sides)
+        Faces::of_sides(alloc, t, links, numbering, sides)
     }
 
     fn of_sides(
         alloc: Global,
         t: &ArcTable,
-        search: LinkSearch,
+        links: ArcLinks,
         numbering: Numbering,
         sides: Vec<FaceSide>,
     ) -> Result<Faces, AllocError>
@@ -92,10 +107,11 @@ impl Faces {
         requires places { length numbering.places.items ≡ 2 * length t.now + 1 }
         requires sides { All (λ s. s.arc.arc < length t.now) sides.items }
         requires listed { AreListed numbering.places.items (map (λ s. s.face) sides.items) (map (λ s. s.arc) sides.items) }
-        requires joined { HasJoins t.now search.links.items numbering.places.items }
+        requires joined { HasJoins t.now links.seen.value.items numbering.places.items }
         requires numbered { AreAllBelow numbering.count numbering.places.items }
-        requires all { AreLinksOf t.now search.links.items }
-        requires links { All (λ l. HasPlaces (length numbering.places.items) l.along) search.links.items }
+        requires among { IfSome links.search (λ s. s.links.items ≡ links.seen.value.items) }
+        requires all { AreLinksOf t.now links.seen.value.items }
+        requires links { All (λ l. HasPlaces (length numbering.places.items) l.along) links.seen.value.items }
         ensures built { IfOk result (IsBuiltOf t.now) }
     {
         let side_faces = faces_of(alloc, &sides)?;
@@ -105,7 +121,10 @@ impl Faces {
         drop(side_faces);
         let areas = areas_of(alloc, t, numbering.count, &side_arcs, &side_starts)?;
         let Numbering { places, count } = numbering;
-        let links = Snapshot::of(&search.links);
+        let ArcLinks {
+            seen: links,
+            search,
+        } = links;
         Ok(Faces {
             places,
             count,
@@ -113,7 +132,7 @@ impl Faces {
             side_starts,
             areas,
             links,
-            search: Some(search),
+            search,
         })
     }
 
@@ -186,12 +205,23 @@ impl Faces {
             None => topmost_of_arcs(t, p),
         }
     }
+}
 
-    /// Lets the search go by which `at` finds a link: after it `at` takes a step for each link.
-    pub fn forget_search(&mut self)
-        ensures same { self.new ≡ self.old }
+// The links of the arcs, which contracts alone see, and the search among them where points are looked up.
+#[derive(Drop)]
+struct ArcLinks {
+    seen: Snapshot<Vec<ArcLink>>,
+    search: Option<LinkSearch>,
+}
+
+impl ArcLinks {
+    fn of(search: LinkSearch, is_searched: bool) -> ArcLinks
+        ensures links { result.seen.value.items ≡ search.links.items }
+        ensures among { IfSome result.search (λ s. s.links.items ≡ result.seen.value.items) }
     {
-        self.search = None;
+        let seen = Snapshot::of(&search.links);
+        let search = if is_searched { Some(search) } else { None };
+        ArcLinks { seen, search }
     }
 }
 

@@ -2,7 +2,6 @@ use Rattle.std.proofs.Common.{◌≡◌, ◌∙◌, sym, ap, subst, ◌<◌, Lis
 use Rattle.std.specs.List.Sorted.{IsNonDecreasingBy}
 use Rattle.std.proofs.lemmas.List.Elements.{All-same, All-map, All-weaker}
 use Rattle.plane_model.specs.Arcs.{SignedArc}
-use Rattle.link_search.specs.declared.links.ArcLink.{ArcLink}
 use Rattle.face_walk.specs.Places.{HasPlaces}
 use Rattle.face_walk.specs.Sides.{AreListed, AreSplit, AreStarts}
 use Rattle.face_walk.specs.declared.numbering.FaceSide.{FaceSide}
@@ -49,7 +48,6 @@ invariant_of-result c =
     let n = length c.args.t.now in
     let faces : c.in_ok-side_faces.side_faces.items ≡ map (λ (s : FaceSide). s.face) sides = c.in_ok-side_faces.ensures.exact ∙ ap (map (λ (s : FaceSide). s.face)) c.deref.ensures.value in
     let arcs : c.in_ok-side_arcs.side_arcs.items ≡ map (λ (s : FaceSide). s.arc) sides = c.in_ok-side_arcs.ensures.exact ∙ ap (map (λ (s : FaceSide). s.arc)) c.deref-2.ensures.value in
-    let links : c.of-links.result.value.items ≡ c.args.search.links.items = λ i. (c.of-links.ensures i).items in
     let places = c.requires.places in
     let few = c.requires.few in (
       omega arith,
@@ -57,8 +55,8 @@ invariant_of-result c =
       c.args.numbering.below,
       All-weaker (below n) (HasPlaces (length c.args.numbering.places.items)) (λ a h. omega arith) c.in_ok-side_arcs.side_arcs.items (arcs_below n sides c.in_ok-side_arcs.side_arcs.items arcs c.requires.sides),
       c.in_ok-areas.ensures.count,
-      subst (All (λ (l : ArcLink). HasPlaces (length c.args.numbering.places.items) l.along)) (sym links) c.requires.links,
+      c.requires.links,
       split_here c.args.numbering.places.items c.in_ok-side_faces.side_faces.items c.args.numbering.count sides c.in_ok-side_arcs.side_arcs.items c.in_ok-side_starts.side_starts.items faces arcs c.requires.listed
           (subst (λ (xs : List ℕ). AreStarts xs c.args.numbering.count c.in_ok-side_starts.side_starts.items) c.deref-3.ensures.value c.in_ok-side_starts.ensures.exact),
-      sym links,
+      c.requires.among,
     )

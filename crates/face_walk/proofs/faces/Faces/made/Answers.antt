@@ -1,14 +1,16 @@
-use Rattle.std.proofs.Common.{◌≡◌, ◌∙◌, ◌<◌, List, ap, sym, subst, arith, length}
+use Rattle.std.proofs.Common.{◌≡◌, ◌∙◌, ◌<◌, List, All, ap, sym, subst, arith, length}
 use Rattle.std.proofs.lemmas.List.Elements.{All-weaker}
 use Rattle.plane_model.specs.Points.{GridPoint}
 use Rattle.plane_model.specs.Arcs.{SignedArc}
 use Rattle.arc_table.specs.Around.{IsTurned}
 use Rattle.face_walk.specs.Joins.{joined_by}
+use Rattle.face_walk.specs.Places.{HasJoins}
+use Rattle.face_walk.specs.Rays.{AreLinksOf}
 use Rattle.link_search.specs.PlaceNumbers.{HasPlaces}
 use Rattle.link_search.specs.declared.links.ArcLink.{ArcLink}
 use Rattle.face_walk.proofs.BuiltLemmas.{built_by}
 use Rattle.face_walk.proofs.NumberingLemmas.{none_left_out}
-use Rattle.face_walk.proofs.faces.Faces.build.Goals as goal
+use Rattle.face_walk.proofs.faces.Faces.made.Goals as goal
 
 pub of_sides-requires-clause-joined : goal.of_sides-requires-clause-joined
 of_sides-requires-clause-joined c =
@@ -25,10 +27,26 @@ of_sides-requires-clause-joined c =
     let again = c.count-2.ensures.exact in
     let many = c.in_ok-joining.ensures.count in
     let (rays, r, e) = c.in_ok-join_rays.ensures.exact in
-    built_by arcs links starts outs alone _ numbering.places.items numbering.count turned each
+    subst (λ (ls : List ArcLink). HasJoins arcs ls numbering.places.items) (sym c.of-links.ensures.links) (built_by arcs links starts outs alone _ numbering.places.items numbering.count turned each
     (All-weaker (λ (a : SignedArc). a.arc < length arcs) (HasPlaces (length alone)) (λ a h. omega arith) outs c.in_ok-starts.ensures.there)
     (All-weaker (λ (l : ArcLink). l.along.arc < length arcs) (λ (l : ArcLink). HasPlaces (length alone) l.along) (λ l h. omega arith) links c.in_ok-search.ensures.there)
-    (omega arith) c.in_ok-joining.ensures.alone rays r (e ∙ ap (joined_by rays) c.join_sectors.ensures.exact) c.in_ok-numbering.ensures.exact
+    (omega arith) c.in_ok-joining.ensures.alone rays r (e ∙ ap (joined_by rays) c.join_sectors.ensures.exact) c.in_ok-numbering.ensures.exact)
+
+pub of_sides-requires-clause-all : goal.of_sides-requires-clause-all
+of_sides-requires-clause-all c = subst (AreLinksOf c.args.t.now) (sym c.of-links.ensures.links) c.in_ok-search.ensures.all
+
+pub of_sides-requires-clause-links : goal.of_sides-requires-clause-links
+of_sides-requires-clause-links c =
+    let places = c.in_ok-numbering.numbering.places.items in
+    let few = c.if-count-gt-MAX_ARCS.false in
+    let counted = c.count.ensures.exact in
+    let again = c.count-2.ensures.exact in
+    let each = c.in_ok-numbering.ensures.each in
+    let rays = c.join_rays.ensures.count in
+    let sectors = c.join_sectors.ensures.count in
+    let many = c.in_ok-joining.ensures.count in
+    subst (All (λ (l : ArcLink). HasPlaces (length places) l.along)) (sym c.of-links.ensures.links)
+    (All-weaker (λ (l : ArcLink). l.along.arc < length c.args.t.now) (λ (l : ArcLink). HasPlaces (length places) l.along) (λ l h. omega arith) c.in_ok-search.search.links.items c.in_ok-search.ensures.there)
 
 pub of_sides-requires-clause-numbered : goal.of_sides-requires-clause-numbered
 of_sides-requires-clause-numbered c =
