@@ -72,9 +72,8 @@ fn built(alloc: Global, snapped: Snapped) -> Result<LaidOut, AllocError>
         steps,
         counts,
     } = along;
-    let mut faces = Faces::build(alloc, &arcs)?;
+    let faces = faces_between(alloc, &arcs, counts.points)?;
     arcs.forget_order();
-    forget_idle_search(&mut faces, counts.points);
     let held = HeldFaces::of(alloc, &faces, steps, counts)?;
     Ok(LaidOut {
         plane: Plane {
@@ -88,11 +87,17 @@ fn built(alloc: Global, snapped: Snapped) -> Result<LaidOut, AllocError>
 }
 
 // Without point features no run asks in which face a point lies.
-fn forget_idle_search(faces: &mut Faces, point_count: u32)
-    ensures same { faces.new ≡ faces.old }
+fn faces_between(
+    alloc: Global,
+    arcs: &ArcTable,
+    point_count: u32,
+) -> Result<Faces, AllocError>
+    ensures built { IfOk result (IsBuiltOf arcs.now) }
 {
     if point_count == 0 {
-        faces.forget_search();
+        Faces::without_search(alloc, arcs)
+    } else {
+        Faces::build(alloc, arcs)
     }
 }
 
