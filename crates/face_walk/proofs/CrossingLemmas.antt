@@ -1,5 +1,5 @@
 -- Steps from face to face, one after another.
-use Rattle.std.proofs.Common.{◌≡◌, ◌≢◌, ◌⊎◌, ◌↔◌, inl, inr, refl, sym, ap, subst, ◌∙◌, arith, ℕ, zero, suc, ◌+◌, ◌<◌, ◌≤◌, Bool, true, false, cond, Some, List, [], ◌∷◌, ◌++◌, Contains, length, get_or, set, append_assoc, append-nil}
+use Rattle.std.proofs.Common.{◌≡◌, ◌≢◌, ◌⊎◌, ◌↔◌, inl, inr, refl, sym, ap, subst, ◌∙◌, arith, ℕ, zero, suc, ◌+◌, ◌<◌, ◌≤◌, Bool, true, false, cond, Some, List, [], ◌∷◌, ◌++◌, Contains, length, get_or, set, append_assoc}
 use Rattle.std.specs.Prelude.{slice_get}
 use Rattle.std.specs.List.{count_by}
 use Rattle.std.proofs.lemmas.Bool.{cases_lt, cases_eq, eq-eqb}
@@ -41,9 +41,6 @@ reached_by_longer outer xs ys f (more, e) h =
     let size = length-append xs more in
     let same = ap (λ (zs : List Crossing). length zs) e in
     subst (λ (zs : List Crossing). IsReached outer zs (length ys) f) (sym e) (reached_longer outer xs more (length xs) (length ys) f (omega arith) h)
-
-pub longer_none : (xs : List Crossing) → IsLonger xs xs
-longer_none xs = ([], sym (append-nil xs))
 
 pub longer_twice : (xs ys zs : List Crossing) → IsLonger xs ys → IsLonger ys zs → IsLonger xs zs
 longer_twice xs ys zs (more, e) (next, d) = (more ++ next, d ∙ ap (λ (us : List Crossing). us ++ next) e ∙ append_assoc xs more next)

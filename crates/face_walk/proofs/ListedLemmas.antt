@@ -1,11 +1,10 @@
 -- Signed arcs beside the faces on their left: those of one face stand together, in the order of their numbers.
-use Rattle.std.proofs.Common.{◌≡◌, refl, sym, ap, ◌∙◌, subst, arith, ℕ, suc, ◌+◌, ◌-◌, ◌*◌, ◌<◌, ◌≤◌, Bool, true, false, cond, List, [], ◌∷◌, ◌++◌, All, length, get_or, map, take, drop, length-drop, append-nil}
+use Rattle.std.proofs.Common.{◌≡◌, refl, sym, ap, ◌∙◌, arith, ℕ, suc, ◌+◌, ◌-◌, ◌*◌, ◌<◌, ◌≤◌, Bool, true, false, cond, List, [], ◌∷◌, ◌++◌, All, length, get_or, map, take, drop, length-drop, append-nil}
 use Rattle.std.specs.Prelude.{filter, nat_eq, nat_lt}
-use Rattle.std.specs.List.Sorted.{IsNonDecreasingBy, IsPartitionedBy, IsPartitionPoint}
-use Rattle.std.proofs.lemmas.Bool.{eqb-true, eq-eqb, ne_eqb, ltb-true, ltb-false}
-use Rattle.std.proofs.lemmas.List.{append_assoc, map-append, get_or-map, length-map, get_or-take, get_or-drop, length-take-le, take_all, take-append-drop}
+use Rattle.std.specs.List.Sorted.{IsNonDecreasingBy, IsPartitionPoint}
+use Rattle.std.proofs.lemmas.Bool.{eqb-true, ne_eqb, ltb-true}
+use Rattle.std.proofs.lemmas.List.{append_assoc, map-append, get_or-map, length-map, get_or-take, get_or-drop, length-take-le, take-append-drop}
 use Rattle.std.proofs.lemmas.List.Elements.{filter-append}
-use Rattle.std.proofs.lemmas.List.Sorted.{IsPartitionedBy-ltb}
 use Rattle.plane_model.specs.Arcs.{SignedArc, forward, backward}
 use Rattle.face_walk.specs.Places.{place_of, face_left_of, has_left, signed_below, arcs_with_left}
 use Rattle.face_walk.specs.Sides.{HasLeft, AreInOrder, AreListed}
@@ -42,37 +41,6 @@ pub record IsRunOf (faces : List ℕ) (f first count : ℕ) : Type 0 where
   pub at_first : IsPartitionPoint (λ (g : ℕ). nat_lt g f ≡ true) (λ (g : ℕ). nat_lt g f ≡ false) faces first
   pub count_bound : count ≤ length (drop first faces)
   pub at_count : IsPartitionPoint (λ (g : ℕ). nat_eq g f ≡ true) (λ (g : ℕ). nat_eq g f ≡ false) (drop first faces) count
-
--- the first face that is not below f is found in all of them, and the first that is not below f + 1 in the rest
-pub run_found : (faces : List ℕ) (f first count : ℕ) → IsNonDecreasingBy (λ (g : ℕ). g) faces → first ≤ length faces
-    → (IsPartitionedBy (λ (g : ℕ). nat_lt g f) faces → IsPartitionPoint (λ (g : ℕ). nat_lt g f ≡ true) (λ (g : ℕ). nat_lt g f ≡ false) faces first)
-    → count ≤ length (take (length faces - first) (drop first faces))
-    → (IsPartitionedBy (λ (g : ℕ). nat_lt g (f + 1)) (take (length faces - first) (drop first faces))
-    → IsPartitionPoint (λ (g : ℕ). nat_lt g (f + 1) ≡ true) (λ (g : ℕ). nat_lt g (f + 1) ≡ false) (take (length faces - first) (drop first faces)) count)
-    → IsRunOf faces f first count
-run_found faces f first count up bound first_found within rest_found =
-    let size = length-drop first faces in
-    let rest_is : take (length faces - first) (drop first faces) ≡ drop first faces = take_all (length faces - first) (drop first faces) (omega arith) in
-    let count_bound : count ≤ length (drop first faces) = subst (λ (xs : List ℕ). count ≤ length xs) rest_is within in
-    let at_first : IsPartitionPoint (λ (g : ℕ). nat_lt g f ≡ true) (λ (g : ℕ). nat_lt g f ≡ false) faces first = first_found (IsPartitionedBy-ltb (λ (g : ℕ). g) faces f up) in
-    let rest_up : IsNonDecreasingBy (λ (g : ℕ). g) (drop first faces) =
-    λ i j d l m. (let gi = get_or-drop first faces i d in let gj = get_or-drop first faces j d in let h = up (first + i) (first + j) d (omega arith) (omega arith) in omega arith) in
-    let next : IsPartitionPoint (λ (g : ℕ). nat_lt g (f + 1) ≡ true) (λ (g : ℕ). nat_lt g (f + 1) ≡ false) (drop first faces) count =
-    subst (λ (xs : List ℕ). IsPartitionPoint (λ (g : ℕ). nat_lt g (f + 1) ≡ true) (λ (g : ℕ). nat_lt g (f + 1) ≡ false) xs count) rest_is
-    (rest_found (subst (λ (xs : List ℕ). IsPartitionedBy (λ (g : ℕ). nat_lt g (f + 1)) xs) (sym rest_is) (IsPartitionedBy-ltb (λ (g : ℕ). g) (drop first faces) (f + 1) rest_up))) in
-    record {
-      bound = bound;
-      at_first = at_first;
-      count_bound = count_bound;
-      at_count = (
-        (λ k d a l.
-            (let g = get_or-drop first faces k d in
-            let low = ltb-false (get_or faces (first + k) d) f (at_first.1 (first + k) d (omega arith) (omega arith)) in
-            let high = ltb-true (get_or (drop first faces) k d) (f + 1) (next.0 k d a l) in
-            eq-eqb (get_or (drop first faces) k d) f (omega arith))),
-        (λ k d a l. (let high = ltb-false (get_or (drop first faces) k d) (f + 1) (next.1 k d a l) in ne_eqb (get_or (drop first faces) k d) f (λ same. omega arith))),
-      );
-    }
 
 module _ (faces : List ℕ) (arcs : List SignedArc) (key : SignedArc → ℕ) (is : faces ≡ map key arcs) (f first count : ℕ) (run : IsRunOf faces f first count) where
   abbrev test : SignedArc → Bool

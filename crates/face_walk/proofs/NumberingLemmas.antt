@@ -1,5 +1,5 @@
 -- Numbering classes one element after another.
-use Rattle.std.proofs.Common.{◌≡◌, ◌⊎◌, refl, sym, ap, ◌∙◌, subst, arith, ℕ, ◌+◌, ◌<◌, ◌≤◌, List, [], ◌∷◌, ◌++◌, length, get_or, nat_eq, take, All, Contains, inl, inr, length-take}
+use Rattle.std.proofs.Common.{◌≡◌, ◌⊎◌, sym, ap, ◌∙◌, subst, arith, ℕ, ◌+◌, ◌<◌, ◌≤◌, List, [], ◌∷◌, ◌++◌, length, get_or, nat_eq, take, All, Contains, inl, inr, length-take}
 use Rattle.std.proofs.lemmas.Bool.{cases_lt, eq-eqb, eqb-true}
 use Rattle.std.proofs.lemmas.List.{length_push, get_or_append_left, get_or_push, get_or_default, get_or-take, take_more}
 use Rattle.std.proofs.lemmas.List.Folds.{list_any_at, Any-from_list_any}
@@ -87,15 +87,6 @@ numbered_new xs ps count c h least is =
 
 more_of : (classes : List ℕ) (n : ℕ) → n < length classes → take (n + 1) classes ≡ take n classes ++ get_or classes n 0 ∷ []
 more_of classes n l = take_more classes n 0 l
-
-pub numbering_none : (classes : List ℕ) → IsNumbering [] [] 0
-numbering_none classes = record {
-  each = refl;
-  same = λ j k l m. absurd (omega arith);
-  order = λ j k l m less. absurd (omega arith);
-  below = λ j l. absurd (omega arith);
-  used = λ n l. absurd (omega arith);
-}
 
 pub numbering_again : (classes ps : List ℕ) (count n least : ℕ) → AreClasses classes → n < length classes → least ≡ get_or classes n 0 → least < n →
     IsNumbering (take n classes) ps count → IsNumbering (take (n + 1) classes) (ps ++ get_or ps least 0 ∷ []) count

@@ -1,5 +1,5 @@
 -- Parities of how often numbers stand in lists, and lists of numbers that rise.
-use Rattle.std.proofs.Common.{◌≡◌, subst, None, inl, inr, refl, sym, ap, ◌∙◌, arith, ℕ, zero, suc, ◌+◌, ◌-◌, ◌<◌, ◌≤◌, Bool, true, false, not, cond, Some, List, [], ◌∷◌, ◌++◌, All, Contains, length, get_or, map, take}
+use Rattle.std.proofs.Common.{◌≡◌, subst, None, inl, inr, refl, sym, ap, ◌∙◌, arith, ℕ, zero, suc, ◌+◌, ◌-◌, ◌<◌, ◌≤◌, Bool, true, false, not, cond, Some, List, [], ◌∷◌, ◌++◌, All, Contains, length, get_or, take}
 use Rattle.std.specs.Prelude.{nat_eq, slice_get}
 use Rattle.std.specs.List.{sum_by}
 use Rattle.std.specs.List.Sorted.{IsPermutation, IsNonDecreasing, IsStrictlyIncreasing}
@@ -48,10 +48,6 @@ xor_twice true true = refl
 pub odd_of_two : {A : Type 0} (f : A → Bool) (xs ys : List A) → odd_count f (xs ++ ys) ≡ xor (odd_count f xs) (odd_count f ys)
 odd_of_two f [] ys = refl
 odd_of_two f (x ∷ xs) ys = ap (λ (b : Bool). xor (f x) b) (odd_of_two f xs ys) ∙ sym (xor_assoc (f x) (odd_count f xs) (odd_count f ys))
-
-pub odd_of_map : {A B : Type 0} (g : A → B) (f : B → Bool) (xs : List A) → odd_count f (map g xs) ≡ odd_count (λ (x : A). f (g x)) xs
-odd_of_map g f [] = refl
-odd_of_map g f (x ∷ xs) = ap (xor (f (g x))) (odd_of_map g f xs)
 
 one_where : Bool → ℕ
 one_where b = cond b 1 0
@@ -185,13 +181,7 @@ low_last xs last n up found l j d below =
       | inr more ↦ (let same : j ≡ length xs - 1 = omega arith in let at_last = ap (λ (k : ℕ). get_or xs k 0) same in omega arith)
     ]
 
-pub low_none : (xs : List ℕ) (n : ℕ) → slice_get xs (length xs - 1) ≡ None → All (λ (m : ℕ). m ≤ n) xs
-low_none xs n none j d below = absurd (none-some (get_or xs (length xs - 1) 0) (sym none ∙ slice_get-get_or xs (length xs - 1) 0 (omega arith)))
-
 -- ---- the numbers of a list in order, one after another
-
-pub odd_none : AreOddOnes [] []
-odd_none = record { rising = λ k l. absurd (omega arith); parity = λ n. refl }
 
 -- the odd ones so far are no greater than the next number
 pub odd_low : (sorted odd : List ℕ) (k n : ℕ) → IsNonDecreasing sorted → k < length sorted → get_or sorted k n ≡ n → AreOddOnes (take k sorted) odd → All (λ (m : ℕ). m ≤ n) odd

@@ -12,9 +12,6 @@ pub record AreRaysBelow (links : List ArcLink) (n : ℕ) (rays : List (ℕ × �
   pub each : All (λ (ray : ℕ × ℕ). (p : GridPoint) × IsRay links p ray) rays
   pub all : (j : ℕ) → j < n → starts_row links j ≡ true → IsMinimum links (start_at links j) → (ray : ℕ × ℕ) × Contains rays ray × IsRay links (start_at links j) ray
 
-pub no_rays : (links : List ArcLink) → AreRaysBelow links 0 []
-no_rays links = record { each = All-nil (λ (ray : ℕ × ℕ). (p : GridPoint) × IsRay links p ray); all = λ j l. absurd (omega arith) }
-
 pub no_more_rays : (links : List ArcLink) (n : ℕ) (rays : List (ℕ × ℕ)) → AreRaysBelow links n rays → (starts_row links n ≡ true → IsMinimum links (start_at links n) → ⊥) → AreRaysBelow links (n + 1) rays
 no_more_rays links n rays h none = record {
   each = h.each;

@@ -26,9 +26,6 @@ arcs_more arcs (path ∷ paths) more named next h w =
 pub arcs_of_one : (arcs : List Path) (path : Path) (named : List SignedArc) → AreArcsAlong arcs path named → AreArcsOfAll arcs (path ∷ []) named
 arcs_of_one arcs path named h = (named, [], h, refl, sym (append-nil named))
 
-pub added_none : (arcs : List Path) (i : ℕ) (steps : List RingStep) → AreAdded arcs i [] steps steps
-added_none arcs i steps = ([], refl, sym (append-nil steps))
-
 pub added_more : (arcs : List Path) (i : ℕ) (paths more : List Path) (old mid new : List RingStep) → AreAdded arcs i paths old mid → AreAdded arcs i more mid new → AreAdded arcs i (paths ++ more) old new
 added_more arcs i paths more old mid new h w = (
   h.0 ++ w.0,

@@ -2,14 +2,11 @@
 use Rattle.std.proofs.Common.{◌≡◌, refl, ap, ◌∙◌, arith, ℕ, ◌+◌, ◌<◌, Bool, true, false, List, [], ◌∷◌, ◌++◌, Contains, inl, inr}
 use Rattle.std.specs.List.Sorted.{IsPermutation}
 use Rattle.std.proofs.lemmas.Bool.{cases_lt}
-use Rattle.std.proofs.lemmas.List.Elements.{All-nil, All-push, All-weaker, Contains-append_left, Contains-push}
+use Rattle.std.proofs.lemmas.List.Elements.{All-push, All-weaker, Contains-append_left, Contains-push}
 use Rattle.std.proofs.lemmas.List.Sorted.{All-permutation, Contains-permutation}
 use Rattle.plane_model.specs.Arcs.{SignedArc}
 use Rattle.face_walk.specs.declared.numbering.FaceSide.{FaceSide}
 use Rattle.face_walk.specs.Sides.{HasLeft, AreSides}
-
-pub sides_none : (places : List ℕ) → AreSides places 0 []
-sides_none places = record { there = All-nil (λ (s : FaceSide). s.arc.arc < 0); left = All-nil (HasLeft places); all = λ a l. absurd (omega arith) }
 
 pub sides_more : (places : List ℕ) (n : ℕ) (sides : List FaceSide) (s t : FaceSide) → AreSides places n sides → HasLeft places s → HasLeft places t → s.arc ≡ record { arc = n; is_reversed = false } → t.arc ≡ record { arc = n; is_reversed = true } →
     AreSides places (n + 1) ((sides ++ s ∷ []) ++ t ∷ [])

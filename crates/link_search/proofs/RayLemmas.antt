@@ -17,7 +17,7 @@ use Rattle.bucket_grid.specs.Rects.{share_point, boxes_near}
 use Rattle.grid_base.specs.Grid.{IsOnGrid, is_on_grid, grid_point}
 use Rattle.bucket_grid.specs.Rects.{Holds}
 use Rattle.link_search.specs.Topmost.{HasGridEnds, IsTopmostBelow, boxes_of}
-use Rattle.link_search.specs.Descent.{IsNotAbove, IsFound, IsBelowPoint, IsUpper, IsNextBelow, IsSettled, bottom_of, past_bottom}
+use Rattle.link_search.specs.Descent.{IsNotAbove, IsFound, IsUpper, IsNextBelow, IsSettled, bottom_of, past_bottom}
 use Rattle.link_search.specs.declared.links.ArcLink.{ArcLink}
 use Rattle.link_search.proofs.UnderLemmas.{le_step, lt_step, under_chain, under_by, not_under_itself, not_both_under, passes_below, not_below}
 
@@ -31,9 +31,6 @@ turn_of p l e = up (turn (at l.link.start) (at l.link.stop) (at p)) (and_parts (
     up a e = omega (arith, ints)
 
 -- ---- one more link
-
-pub upper_missing : (p : GridPoint) (topmost : Option ArcLink) (l : ArcLink) → is_below (at p) l.link ≡ false → IsUpper p topmost l topmost
-upper_missing p topmost l e = record { one = inl refl; this = λ f. absurd (let g : true ≡ false = sym f ∙ e in cc); kept = λ k b h. h }
 
 pub upper_first : (p : GridPoint) (l : ArcLink) → is_below (at p) l.link ≡ true → IsUpper p None l (Some l)
 upper_first p l e = record { one = inr (refl, e); this = λ f. not_under_itself p l.link (over_of p l e); kept = λ k b h. absurd h }
@@ -59,10 +56,6 @@ found_after links p topmost l result c u f = elim u.one [
   | inl e ↦ subst (IsFound links p) (sym e) f
   | inr e ↦ subst (IsFound links p) (sym e.0) (c, e.1)
 ]
-
-pub below_found : (links : List ArcLink) (p : GridPoint) (topmost : Option ArcLink) → IsFound links p topmost → IsBelowPoint p topmost
-below_found links p None f = tt
-below_found links p (Some l) f = f.1
 
 -- ---- further down
 

@@ -12,7 +12,7 @@ use Rattle.plane_model.specs.Points.{GridPoint, at, turn}
 use Rattle.plane_model.specs.Parity.{is_over, is_below}
 use Rattle.plane_model.specs.Below.{is_under}
 use Rattle.link_search.specs.Descent.{IsNotAbove, IsFound}
-use Rattle.link_search.specs.Parting.{AreTreesOver, Parts, parts_of, these, sides, levels, Leads, LeadsToAll, runs_over, starts_before, stops_past, comes_over, comes_under}
+use Rattle.link_search.specs.Parting.{AreTreesOver, Parts, parts_of, sides, levels, Leads, LeadsToAll, runs_over, starts_before, stops_past, comes_over, comes_under}
 use Rattle.link_search.specs.declared.links.ArcLink.{ArcLink}
 use Rattle.link_search.specs.declared.link_tree.LinkTree.{LinkTree}
 use Rattle.link_search.proofs.UnderLemmas.{abscissa_within, under_chain, over_is_not_under, over_is_not_below}
@@ -42,9 +42,6 @@ not_below_turn p l o b = low (turn (at l.link.start) (at l.link.stop) (at p)) (s
     low a e = omega (arith, ints)
 
 -- ---- parts
-
-pub few_lead : (links : List ArcLink) (near : List ℕ) → LeadsToAll links near (these near)
-few_lead links near = record { all = λ p i k c e b. c }
 
 module _ (links : List ArcLink) (near : List ℕ) where
   pub sides_lead : (x : ℤ) (left right : List ℕ) (before past : Parts) → left ≡ filter (λ i. starts_before x (slice_get links i)) near → right ≡ filter (λ i. stops_past x (slice_get links i)) near →
@@ -84,9 +81,6 @@ module _ (links : List ArcLink) (near : List ℕ) where
       )
 
 -- ---- trees, list by list
-
-pub no_trees : (links : List ArcLink) (lists : List (List ℕ)) → AreTreesOver links lists []
-no_trees links lists = record { all = λ place tree numbers e f. let l = slice_get_within [] place (Some tree) e in absurd (omega arith) }
 
 pub one_more_tree : (links : List ArcLink) (lists : List (List ℕ)) (trees : List (Option LinkTree)) (found : Option LinkTree) → AreTreesOver links lists trees
     → ((tree : LinkTree) (numbers : List ℕ) → found ≡ Some tree → slice_get lists (length trees) ≡ Some numbers → LeadsToAll links numbers (parts_of tree)) → AreTreesOver links lists (trees ++ found ∷ [])

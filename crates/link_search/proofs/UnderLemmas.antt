@@ -349,15 +349,6 @@ not_below p l e a b h =
 pub over_right : (p : GridPoint) (l : Segment) → int_le l.start.x p.x ≡ true → int_lt p.x l.stop.x ≡ is_over (at p) l
 over_right p l e = ap (λ (b : Bool). b && int_lt p.x l.stop.x) (sym e) ∙ sym (over_is p l)
 
-pub rises_down : (h b : ℤ) → h <ℤ pos 0 → false ≡ rises h b
-rises_down (pos n) b l = absurd (omega (arith, ints))
-rises_down (negsuc n) b l = refl
-
-pub rises_level : (h b : ℤ) → h ≤ℤ pos 0 → pos 0 ≤ℤ h → int_lt b (pos 0) ≡ rises h b
-rises_level (pos zero) b l m = refl
-rises_level (pos (suc n)) b l m = absurd (omega (arith, ints))
-rises_level (negsuc n) b l m = absurd (omega (arith, ints))
-
 -- ---- along two links
 
 -- the rise at another abscissa
