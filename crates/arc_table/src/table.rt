@@ -119,6 +119,7 @@ impl ArcTable {
             links,
         } = order;
         let by_start = order_by_key(alloc, &first_keys, steps)?;
+        drop(first_keys);
         let named = gathered(alloc, &signed_arcs(alloc, arcs.count())?, &by_start)?;
         drop(by_start);
         let mut firsts = first_steps(alloc, &arcs, &named)?;
