@@ -1,6 +1,6 @@
 -- The numbers of the items that pass a test, item by item; those that pass a stronger test are among them.
-use Rattle.std.proofs.Common.{◌≡◌, refl, sym, ap, ◌∙◌, subst, arith, ℕ, zero, suc, ◌+◌, ◌<◌, Bool, true, false, cond, ◌&&◌, List, [], ◌∷◌, ◌++◌, length, get_or, take, filter, All, Contains, append_assoc, length-append, length-take}
-use Rattle.std.proofs.lemmas.List.{take_more, get_or-append-add}
+use Rattle.std.proofs.Common.{◌≡◌, refl, sym, ap, ◌∙◌, subst, arith, ℕ, zero, suc, ◌+◌, ◌<◌, Bool, true, false, cond, ◌&&◌, List, [], ◌∷◌, ◌++◌, length, get_or, take, map, filter, All, Contains, append_assoc, length-append, length-take}
+use Rattle.std.proofs.lemmas.List.{take_more, get_or-append-add, get_or-map, length-map}
 use Rattle.std.proofs.lemmas.List.Elements.{All-nil, All-cons, All-weaker}
 use Rattle.lists.proofs.Members.{Contains-head, Contains-later}
 use Rattle.lists.specs.Lists.{numbers_from, numbers_where}
@@ -74,3 +74,10 @@ module _ {A : Type 0} where
     -- among the numbers of the items that pass p, those whose items pass q
     pub filter-numbers_where : (xs : List A) → filter (λ i. q (get_or xs i d)) (numbers_where p xs) ≡ numbers_where both xs
     filter-numbers_where xs = filter_numbers [] xs
+
+-- the numbers of the items of which f gives something that passes, item by item
+pub numbers_where_map_more : {A B : Type 0} (p : B → Bool) (f : A → B) (xs : List A) (i : ℕ) (d : A) → i < length xs →
+    numbers_where p (take (i + 1) (map f xs)) ≡ numbers_where p (take i (map f xs)) ++ cond (p (f (get_or xs i d))) (i ∷ []) []
+numbers_where_map_more p f xs i d l =
+    numbers_where_more p (map f xs) i (f d) (omega (arith, length-map xs f))
+    ∙ ap (λ y. numbers_where p (take i (map f xs)) ++ cond (p y) (i ∷ []) []) (get_or-map f xs i d (f d) l)

@@ -1,9 +1,10 @@
-ghost use Rattle.std.specs.Prelude.{◌≡◌, ℕ, IfOk, length, map, slice_get};
+ghost use Rattle.std.specs.Prelude.{◌≡◌, ℕ, All, IfOk, length, map, slice_get};
 ghost use Rattle.std.specs.Option.{option_copied, option_map};
 ghost use Rattle.plane_model.specs.Points.{GridPoint};
 ghost use Rattle.grid_base.specs.Grid.{IsOnGrid};
 ghost use Rattle.bucket_grid.specs.Rects.{IsPlaceOf, boxes_near, whole};
 
+use crate::boxed::Boxed;
 use crate::growing::{Forest, MAX_STEPS, fit, grow};
 use crate::number_lists::NumberLists;
 use crate::sharing::all_near;
@@ -40,14 +41,26 @@ impl Buckets {
         ensures near { IfOk result (λ b. b.near ≡ map (boxes_near boxes.now) b.rects) }
         ensures places { IfOk result (λ b. (g : GridPoint) → IsOnGrid g → (k : ℕ) × IsPlaceOf b.rects g k) }
     {
+        Buckets::build_over(alloc, boxes.as_slice())
+    }
+
+    /// Buckets over the boxes of items, which are counted from 0.
+    ///
+    /// Errors: `AllocError` for want of memory, or of numbers below 2^32 for the items or the buckets.
+    /// Cost: n log n for boxes that rarely overlap; takes no memory for the boxes.
+    pub fn build_over<T: Boxed>(alloc: Global, items: &[T]) -> Result<Buckets, AllocError>
+        ensures near { IfOk result (λ b. b.near ≡ map (boxes_near (map T.corners items.now)) b.rects) }
+        ensures places { IfOk result (λ b. (g : GridPoint) → IsOnGrid g → (k : ℕ) × IsPlaceOf b.rects g k) }
+        ensures told { IfOk result (λ b. All T.known items.now) }
+    {
         let whole = whole_grid()?;
-        let near = all_near(alloc, boxes, whole)?;
+        let near = all_near(alloc, items, whole)?;
         let mut forest = Forest {
             nodes: Vec::new(alloc),
             rects: Vec::new(alloc),
             near: NumberLists::new(alloc),
         };
-        let top = grow(&mut forest, alloc, boxes.as_slice(), whole, near, MAX_STEPS)?;
+        let top = grow(&mut forest, alloc, items, whole, near, MAX_STEPS)?;
         fit(&mut forest);
         let Forest {
             mut nodes,

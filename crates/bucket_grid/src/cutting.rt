@@ -1,6 +1,7 @@
 ghost use Rattle.std.specs.Prelude.{IfOk, IfSome};
 ghost use Rattle.bucket_grid.specs.Slabs.{DividesRect};
 
+use crate::boxed::Boxed;
 use crate::dividing::dividing;
 use crate::tree::{Axis, Slabs, coordinate};
 use grid_base::Rect;
@@ -20,24 +21,29 @@ fn center(rect: Rect, axis: Axis) -> i64 {
     (coordinate(rect.low(), axis) + coordinate(rect.high(), axis)) / 2
 }
 
-fn sample(alloc: Global, boxes: &[Rect], near: &[u32], axis: Axis) -> Result<Vec<i64>, AllocError> {
+fn sample<T: Boxed>(
+    alloc: Global,
+    items: &[T],
+    near: &[u32],
+    axis: Axis,
+) -> Result<Vec<i64>, AllocError> {
     let mut centers = Vec::with_capacity(alloc, SAMPLE)?;
     for i in near.iter().step_by(near.len() / SAMPLE + 1) {
-        if let Some(rect) = boxes.get(*i as usize) {
-            centers.push(center(*rect, axis))?;
+        if let Some(item) = items.get(*i as usize) {
+            centers.push(center(item.rect(), axis))?;
         }
     }
     centers.sort_unstable();
     Ok(centers)
 }
 
-fn spread_of(
+fn spread_of<T: Boxed>(
     alloc: Global,
-    boxes: &[Rect],
+    items: &[T],
     near: &[u32],
     axis: Axis,
 ) -> Result<Spread, AllocError> {
-    let centers = sample(alloc, boxes, near, axis)?;
+    let centers = sample(alloc, items, near, axis)?;
     let first = centers.first().copied().unwrap_or(0);
     let last = centers.last().copied().unwrap_or(0);
     let middle = centers.get(centers.len() / 2).copied().unwrap_or(0);
@@ -63,16 +69,16 @@ fn cut_at(rect: Rect, axis: Axis, at: i64) -> Option<Slabs>
 }
 
 /// A cut of the rectangle near the median of the boxes, across the axis in which they are spread more.
-pub fn cut_of(
+pub fn cut_of<T: Boxed>(
     alloc: Global,
-    boxes: &[Rect],
+    items: &[T],
     near: &[u32],
     rect: Rect,
 ) -> Result<Option<Slabs>, AllocError>
-    ensures { IfOk result (λ found. IfSome found (DividesRect rect)) }
+    ensures divides { IfOk result (λ found. IfSome found (DividesRect rect)) }
 {
-    let across = spread_of(alloc, boxes, near, Axis::Across)?;
-    let upward = spread_of(alloc, boxes, near, Axis::Upward)?;
+    let across = spread_of(alloc, items, near, Axis::Across)?;
+    let upward = spread_of(alloc, items, near, Axis::Upward)?;
     if across.width >= upward.width {
         Ok(cut_at(rect, Axis::Across, across.middle))
     } else {

@@ -1,6 +1,7 @@
 ghost use Rattle.std.specs.Prelude.{IfSome};
 ghost use Rattle.bucket_grid.specs.Slabs.{DividesRect};
 
+use crate::boxed::Boxed;
 use crate::tree::{Axis, Slabs, coordinate};
 use grid_base::Rect;
 
@@ -18,15 +19,16 @@ const MAX_SLABS: u64 = 4096;
 // With fewer slabs boxes that lie in several of them can cost more than the division saves: a cut is left to do it.
 const MIN_SLABS: u32 = 4;
 
-fn extent_of(boxes: &[Rect], near: &[u32], axis: Axis) -> Option<Extent> {
-    let first = boxes.get(*near.first()? as usize)?;
+fn extent_of<T: Boxed>(items: &[T], near: &[u32], axis: Axis) -> Option<Extent> {
+    let first = items.get(*near.first()? as usize)?.rect();
     let mut extent = Extent {
         low: coordinate(first.low(), axis),
         high: coordinate(first.high(), axis),
         lengths: 0,
     };
     for i in near {
-        if let Some(rect) = boxes.get(*i as usize) {
+        if let Some(item) = items.get(*i as usize) {
+            let rect = item.rect();
             let (low, high) = (coordinate(rect.low(), axis), coordinate(rect.high(), axis));
             extent.low = extent.low.min(low);
             extent.high = extent.high.max(high);
@@ -53,10 +55,16 @@ pub fn dividing(rect: Rect, slabs: Slabs) -> Option<Slabs>
 /// About `count` slabs of one width, from where the boxes begin to where they end, or fewer of them, at least twice as
 /// wide as the boxes are on the average: in most layouts a box then lies in one and a half of them, and never in more
 /// than two and a half, on the average.
-pub fn slabs_of(boxes: &[Rect], near: &[u32], rect: Rect, axis: Axis, count: u64) -> Option<Slabs>
-    ensures { IfSome result (DividesRect rect) }
+pub fn slabs_of<T: Boxed>(
+    items: &[T],
+    near: &[u32],
+    rect: Rect,
+    axis: Axis,
+    count: u64,
+) -> Option<Slabs>
+    ensures divides { IfSome result (DividesRect rect) }
 {
-    let extent = extent_of(boxes, near, axis)?;
+    let extent = extent_of(items, near, axis)?;
     let span = extent.high.abs_diff(extent.low);
     let mean = extent.lengths / (near.len() as u64 + 1);
     let wanted = span / (count.min(MAX_SLABS) + 1);

@@ -1,10 +1,11 @@
-ghost use Rattle.std.specs.Prelude.{◌≡◌, ◌<◌, List, All, IfOk, IfSome, length, ℕ};
+ghost use Rattle.std.specs.Prelude.{◌≡◌, ◌<◌, List, All, IfOk, IfSome, length, map, ℕ};
 ghost use Rattle.grid_base.specs.Grid.{Corners};
 ghost use Rattle.bucket_grid.specs.Rects.{Holds, boxes_near};
 ghost use Rattle.bucket_grid.specs.Division.{IsDivisionOf};
 ghost use Rattle.bucket_grid.specs.Slabs.{DividesRect};
 ghost use Rattle.bucket_grid.specs.Tree.{Grew};
 
+use crate::boxed::Boxed;
 use crate::cutting::cut_of;
 use crate::dividing::slabs_of;
 use crate::number_lists::NumberLists;
@@ -92,41 +93,41 @@ fn is_even(all: u32, lists: &[IdList]) -> bool {
 }
 
 // Columns for the first step and cells of a column for the second, each where the boxes suit them.
-fn slabs_at(boxes: &[Rect], near: &[u32], rect: Rect, steps: u32) -> Option<Slabs>
-    ensures { IfSome result (DividesRect rect) }
+fn slabs_at<T: Boxed>(items: &[T], near: &[u32], rect: Rect, steps: u32) -> Option<Slabs>
+    ensures divides { IfSome result (DividesRect rect) }
 {
     let cells = near.len() as u64 / CELL_SIZE;
     if steps > MAX_CUTS + 1 {
-        slabs_of(boxes, near, rect, Axis::Across, cells.isqrt())
+        slabs_of(items, near, rect, Axis::Across, cells.isqrt())
     } else if steps > MAX_CUTS {
-        slabs_of(boxes, near, rect, Axis::Upward, cells)
+        slabs_of(items, near, rect, Axis::Upward, cells)
     } else {
         None
     }
 }
 
 // The division for a step, as far as it parts the boxes well: into slabs of one width, or else by a cut.
-fn division_of(
+fn division_of<T: Boxed>(
     alloc: Global,
-    boxes: &[Rect],
+    items: &[T],
     near: &IdList,
     rect: Rect,
     steps: u32,
 ) -> Result<Option<Division>, AllocError>
-    requires { All (λ i. i < length boxes.now) near.now }
-    ensures { IfOk result (λ found. IfSome found (IsDivisionOf boxes.now rect near.now)) }
+    requires near { All (λ i. i < length items.now) near.now }
+    ensures parted { IfOk result (λ found. IfSome found (IsDivisionOf (map T.corners items.now) rect near.now)) }
 {
     let ids = near.as_slice();
-    if let Some(slabs) = slabs_at(boxes, ids, rect, steps) {
-        let lists = slab_lists(alloc, boxes, ids, &slabs)?;
+    if let Some(slabs) = slabs_at(items, ids, rect, steps) {
+        let lists = slab_lists(alloc, items, ids, &slabs)?;
         if is_even(near.len(), &lists) {
             return Ok(Some(Division { slabs, lists }));
         }
     }
-    let Some(slabs) = cut_of(alloc, boxes, ids, rect)? else {
+    let Some(slabs) = cut_of(alloc, items, ids, rect)? else {
         return Ok(None);
     };
-    let lists = slab_lists(alloc, boxes, ids, &slabs)?;
+    let lists = slab_lists(alloc, items, ids, &slabs)?;
     if !is_helpful(near.len(), &lists) {
         return Ok(None);
     }
@@ -134,22 +135,22 @@ fn division_of(
 }
 
 /// Grows a tree over a rectangle, in at most `steps` steps, and answers its top node, which is not among the nodes.
-pub fn grow(
+pub fn grow<T: Boxed>(
     forest: &mut Forest,
     alloc: Global,
-    boxes: &[Rect],
+    items: &[T],
     rect: Rect,
     near: IdList,
     steps: u32,
 ) -> Result<Node, AllocError>
-    requires { near ≡ boxes_near boxes.now rect }
-    ensures { IfOk result (λ top.
-        Grew steps boxes.now (Holds rect) forest.old.nodes.items forest.new.nodes.items forest.old.rects.items forest.new.rects.items forest.old.near forest.new.near (λ g. top)) }
+    requires near { near ≡ boxes_near (map T.corners items.now) rect }
+    ensures grew { IfOk result (λ top.
+        Grew steps (map T.corners items.now) (Holds rect) forest.old.nodes.items forest.new.nodes.items forest.old.rects.items forest.new.rects.items forest.old.near forest.new.near (λ g. top)) }
 {
     if steps == 0 || near.len() <= BUCKET_SIZE {
         return add_leaf(forest, rect, near);
     }
-    let Some(division) = division_of(alloc, boxes, &near, rect, steps)? else {
+    let Some(division) = division_of(alloc, items, &near, rect, steps)? else {
         return add_leaf(forest, rect, near);
     };
     drop(near);
@@ -157,7 +158,7 @@ pub fn grow(
     let mut tops = Vec::with_capacity(alloc, lists.len())?;
     while let Some(part) = lists.pop() {
         let slab = slab_rect(rect, &slabs, lists.len() as u32).ok_or(AllocError)?;
-        tops.push(grow(forest, alloc, boxes, slab, part, steps - 1)?)?;
+        tops.push(grow(forest, alloc, items, slab, part, steps - 1)?)?;
     }
     let children = next_number(forest.nodes.len())?;
     forest.nodes.extend_from_slice(&tops)?;

@@ -1,7 +1,8 @@
-ghost use Rattle.std.specs.Prelude.{◌≡◌, ◌&&◌, int_le, IfOk};
+ghost use Rattle.std.specs.Prelude.{◌≡◌, ◌&&◌, int_le, All, IfOk, map};
 ghost use Rattle.bucket_grid.specs.Rects.{share_point, boxes_near};
 
-use grid_base::{BoxList, IdList, Rect};
+use crate::boxed::Boxed;
+use grid_base::{IdList, Rect};
 use std::alloc::{AllocError, Global};
 
 // Whether two ranges share a number.
@@ -20,13 +21,18 @@ pub fn share(a: Rect, b: Rect) -> bool
 }
 
 /// The boxes near a rectangle.
-pub fn all_near(alloc: Global, boxes: &BoxList, rect: Rect) -> Result<IdList, AllocError>
-    ensures { IfOk result (λ ids. ids ≡ boxes_near boxes.now rect) }
+///
+/// Errors: `AllocError` for want of memory, or of numbers below 2^32 for the items.
+pub fn all_near<T: Boxed>(alloc: Global, items: &[T], rect: Rect) -> Result<IdList, AllocError>
+    ensures near { IfOk result (λ ids. ids ≡ boxes_near (map T.corners items.now) rect) }
+    ensures told { IfOk result (λ ids. All T.known items.now) }
 {
+    if items.len() > u32::MAX as usize {
+        return Err(AllocError);
+    }
     let mut ids = IdList::new(alloc);
-    let items = boxes.as_slice();
-    for i in 0..boxes.len() {
-        if share(rect, items[i as usize]) {
+    for i in 0..items.len() as u32 {
+        if share(rect, items[i as usize].rect()) {
             ids.push(i)?;
         }
     }

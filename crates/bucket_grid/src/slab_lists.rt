@@ -1,6 +1,7 @@
-ghost use Rattle.std.specs.Prelude.{◌≡◌, ◌<◌, ◌≤◌, [], All, IfOk, IfSome, OnOk, length, slice_index_or, ℕ};
+ghost use Rattle.std.specs.Prelude.{◌≡◌, ◌<◌, ◌≤◌, [], All, IfOk, IfSome, OnOk, length, map, slice_index_or, ℕ};
 ghost use Rattle.bucket_grid.specs.Slabs.{AreListed, DividesRect, IsPutInto, slab_high, slab_low, slab_part, start_of as start_of_slab, strip as strip_of};
 
+use crate::boxed::Boxed;
 use crate::tree::{Axis, Slabs, coordinate, slab_of};
 use grid_base::{IdList, Pt, Rect};
 use std::alloc::{AllocError, Global};
@@ -82,21 +83,21 @@ fn add_to_lists(lists: &mut Vec<IdList>, from: usize, end: usize, id: u32) -> Re
 }
 
 /// For each slab of a rectangle the boxes near it, out of those near the rectangle.
-pub fn slab_lists(
+pub fn slab_lists<T: Boxed>(
     alloc: Global,
-    boxes: &[Rect],
+    items: &[T],
     near: &[u32],
     slabs: &Slabs,
 ) -> Result<Vec<IdList>, AllocError>
-    requires near { All (λ i. i < length boxes.now) near.now }
-    ensures exact { IfOk result (λ lists. AreListed slabs.now boxes.now near.now lists.items) }
+    requires near { All (λ i. i < length items.now) near.now }
+    ensures exact { IfOk result (λ lists. AreListed slabs.now (map T.corners items.now) near.now lists.items) }
 {
     let count = slabs.last as usize + 1;
     // Most boxes lie in one slab or two.
     let room = (near.len() / count).saturating_mul(3) / 2;
     let mut lists = empty_lists(alloc, count, room)?;
     for i in near {
-        let rect = boxes[*i as usize];
+        let rect = items[*i as usize].rect();
         let from = slab_of(slabs, coordinate(rect.low(), slabs.axis));
         let to = slab_of(slabs, coordinate(rect.high(), slabs.axis));
         add_to_lists(&mut lists, from as usize, to as usize + 1, *i)?;

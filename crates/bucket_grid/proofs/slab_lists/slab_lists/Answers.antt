@@ -1,16 +1,20 @@
-use Rattle.std.proofs.Common.{◌≡◌, ◌∙◌, sym, ap, subst, rules, ℕ, ◌+◌, List, get_or, take, w64, FitsSigned, to_z-of_z}
-use Rattle.std.proofs.lemmas.List.{take_more, get_or_default}
+use Rattle.std.proofs.Common.{◌≡◌, ◌∙◌, sym, ap, subst, rules, ℕ, ◌+◌, List, map, get_or, take, w64, FitsSigned, to_z-of_z}
+use Rattle.std.proofs.lemmas.List.{take_more, get_or-map}
 use Rattle.bucket_grid.specs.Rects.{whole}
 use Rattle.bucket_grid.specs.Slabs.{along, slab_at, AreListed}
 use Rattle.bucket_grid.proofs.ListLemmas.{listed_more}
 use Rattle.bucket_grid.proofs.slab_lists.slab_lists.Goals as goal
 
 pub loop-i-preserved : goal.loop-i-preserved
-loop-i-preserved c =
+loop-i-preserved g c =
     let s = c.args.slabs.now in
-    let boxes = c.args.boxes.now in
+    let corners = g.T.Boxed.corners in
+    let items = c.args.items.now in
+    let boxes = map corners items in
     let i = get_or c.args.near.now c.loop-i.i-index 0 in
-    let rect : c.index-boxes-i.result ≡ get_or boxes i whole = c.index-boxes-i.is ∙ get_or_default boxes i c.index-boxes-i.result whole (c.requires.near c.loop-i.i-index 0 c.loop-i-test.true) in
+    let item = c.index-items-i.result in
+    let there = c.requires.near c.loop-i.i-index 0 c.loop-i-test.true in
+    let rect : c.rect-rect.result ≡ get_or boxes i whole = c.rect-rect.ensures.exact ∙ ap corners c.index-items-i.is ∙ sym (get_or-map corners items i item whole there) in
     let f₁ : FitsSigned w64 c.coordinate.result = search rules in
     let f₂ : FitsSigned w64 c.coordinate-in-loop-i.result = search rules in
     let from : c.slab_of-from.result ≡ slab_at s c.coordinate.result = simp to_z-of_z at c.slab_of-from.ensures.exact in
