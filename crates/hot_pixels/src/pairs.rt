@@ -1,28 +1,14 @@
-ghost use Rattle.std.specs.Prelude.{◌≡◌, ◌++◌, OnOk, IfOk, All, map, length, ◌<◌, Some, slice_get, nat_lt, if◌then◌else◌};
+ghost use Rattle.std.specs.Prelude.{◌≡◌, ◌++◌, OnOk, IfOk, length, ◌<◌, Some, slice_get, nat_lt, if◌then◌else◌};
 ghost use Rattle.std.specs.Option.{option_to_list};
-ghost use Rattle.grid_base.specs.Boxes.{box_of};
 ghost use Rattle.hot_pixels.specs.Found.{AreBucketsOver, HasAllCrossings, HasCrossingsBefore};
-ghost use Rattle.hot_pixels.specs.Crossing.{HasGridEnds};
 ghost use Rattle.hot_pixels.specs.Spots.{crossing_at, crossing_of_pair, crossings_with, crossings_among};
 
 use crate::beside::{is_beside, share_end};
 use crate::crossing::crossing_pixel;
 use crate::parting::{MAX_LINES, add_crossings_parted};
 use bucket_grid::Buckets;
-use grid_base::{BoxList, Pt, Rect, Seg};
+use grid_base::{Pt, Seg};
 use std::alloc::{AllocError, Global};
-
-fn boxes_of(alloc: Global, spots: &[Seg]) -> Result<BoxList, AllocError>
-    ensures exact { IfOk result (λ boxes. boxes ≡ map box_of spots.now) }
-    ensures on_grid { IfOk result (λ boxes. All HasGridEnds spots.now) }
-{
-    let mut boxes = BoxList::with_capacity(alloc, spots.len())?;
-    for s in spots {
-        let rect = Rect::around(s.a(), s.b());
-        boxes.push(rect)?;
-    }
-    Ok(boxes)
-}
 
 /// The spot with this number.
 pub fn spot_at(spots: &[Seg], i: u32) -> Option<Seg>
@@ -140,8 +126,7 @@ fn add_crossings_in(
 pub fn buckets_over(alloc: Global, spots: &[Seg]) -> Result<Buckets, AllocError>
     ensures { IfOk result (AreBucketsOver spots.now) }
 {
-    let boxes = boxes_of(alloc, spots)?;
-    Buckets::build(alloc, &boxes)
+    Buckets::build_over(alloc, spots)
 }
 
 /// Adds the pixels of all crossings of the spots to `points`, some of them often.

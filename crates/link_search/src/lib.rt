@@ -2,7 +2,7 @@
 //!
 //! In: the links of arcs, by their lesser ends. Out: for a point the link that a ray straight down from it meets first.
 //!
-//! 1. `links` has a link with the signed arc along it, boxes of links, and their greater ends in order.
+//! 1. `links` has a link with the signed arc along it and its box, and the greater ends in order.
 //! 2. `arrivals` looks for a vertex among the greater ends. The lesser ends and the greater ones are both in order, so
 //!    that one walk along both finds the places of all.
 //! 3. `rows` looks at the links that leave one vertex: whether none arrives there, and which is the first of them

@@ -1,8 +1,10 @@
-ghost use Rattle.std.specs.Prelude.{◌≡◌, All, IfOk};
+ghost use Rattle.std.specs.Prelude.{◌≡◌, IfOk};
+ghost use Rattle.grid_base.specs.Boxes.{box_of};
 ghost use Rattle.link_search.specs.Rows.{AreStops};
-ghost use Rattle.link_search.specs.Topmost.{HasGridEnds, boxes_of};
+ghost use Rattle.link_search.specs.Topmost.{HasGridEnds};
 
-use grid_base::{BoxList, Link, Pt, Rect, SignedArc};
+use bucket_grid::Boxed;
+use grid_base::{Link, Pt, Rect, SignedArc};
 use known_order::move_to_positions;
 use std::alloc::{AllocError, Global};
 
@@ -14,17 +16,16 @@ pub struct ArcLink {
     pub along: SignedArc,
 }
 
-/// The boxes of links, in their order.
-pub fn boxes_of(alloc: Global, links: &[ArcLink]) -> Result<BoxList, AllocError>
-    ensures exact { IfOk result (λ boxes. boxes ≡ boxes_of links.now) }
-    ensures on_grid { IfOk result (λ boxes. All HasGridEnds links.now) }
-{
-    let mut boxes = BoxList::with_capacity(alloc, links.len())?;
-    for l in links {
-        let rect = Rect::around(l.link.low(), l.link.high());
-        boxes.push(rect)?;
+// The box of a link holds its ends.
+impl Boxed for ArcLink {
+    ghost corners = { λ l. box_of l.link };
+
+    ghost known = { HasGridEnds };
+
+    #[inline(always)]
+    fn rect(&self) -> Rect {
+        Rect::around(self.link.low(), self.link.high())
     }
-    Ok(boxes)
 }
 
 /// The greater ends of links, in order, where `positions` has for each link the position of its end: a wrong one costs

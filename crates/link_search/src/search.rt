@@ -12,7 +12,7 @@ ghost use Rattle.link_search.specs.declared.link_tree.LinkTree.{LinkTree};
 ghost use Rattle.link_search.specs.declared.links.ArcLink.{ArcLink};
 
 use crate::link_tree::{LinkTree, MAX_STEPS, Stretch, topmost_by, tree_of};
-use crate::links::{ArcLink, boxes_of, highs_of};
+use crate::links::{ArcLink, highs_of};
 use crate::rows::{arrivals_before, is_lowest};
 use crate::under::{goes_under, is_at_or_above, is_below};
 use bucket_grid::Buckets;
@@ -50,8 +50,7 @@ impl LinkSearch {
         requires sorted { AreByStart links.items }
         ensures same { IfOk result (λ s. s.links.items ≡ links.items) }
     {
-        let boxes = boxes_of(alloc, &links)?;
-        let buckets = Buckets::build(alloc, &boxes)?;
+        let buckets = Buckets::build_over(alloc, &links)?;
         let trees = trees_of(alloc, &links, high_positions, &buckets)?;
         Ok(LinkSearch {
             links,

@@ -5,7 +5,7 @@ use Rattle.link_search.specs.declared.links.ArcLink.{ArcLink}
 use Rattle.link_search.proofs.search.LinkSearch.of.Goals as goal
 
 pub invariant_of-result-clause-on_grid : goal.invariant_of-result-clause-on_grid
-invariant_of-result-clause-on_grid c = subst (λ (links : List ArcLink). All HasGridEnds links) c.deref.ensures.value c.in_ok-boxes.ensures.on_grid
+invariant_of-result-clause-on_grid c = subst (λ (links : List ArcLink). All HasGridEnds links) c.deref.ensures.value c.in_ok-buckets.ensures.told
 
 pub invariant_of-result-clause-sorted : goal.invariant_of-result-clause-sorted
 invariant_of-result-clause-sorted c = c.requires.sorted
