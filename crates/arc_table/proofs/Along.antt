@@ -72,7 +72,7 @@ link_of_up l u = go (is_before l.start l.stop) (before_to l.start l.stop u)
 
 module _ (net : Net) where
   abbrev steps : List Segment
-  steps = net.steps.items
+  steps = net.steps
 
   abbrev onward : List ℕ
   onward = net.onward.items

@@ -46,11 +46,11 @@ goes_more onward k at next start e differs before n g = subst (λ (j : ℕ). Goe
     inner zero g = tt
     inner (suc n) g = ((λ f. differs (e ∙ f)), subst (GoesOn onward (suc n)) e g)
 
-module _ (net : Net) (proper : AreProper net.steps.items) where
+module _ (net : Net) (proper : AreProper net.steps) where
   abbrev N : ℕ
-  N = length net.steps.items
+  N = length net.steps
 
-  module _ (marks new : List Bool) (at twin : ℕ) (each : length marks ≡ N) (here : at < N) (there : twin < N) (back : step_at net.steps.items twin ≡ reversed (step_at net.steps.items at))
+  module _ (marks new : List Bool) (at twin : ℕ) (each : length marks ≡ N) (here : at < N) (there : twin < N) (back : step_at net.steps twin ≡ reversed (step_at net.steps at))
       (set : new ≡ slice_set (slice_set marks at true) twin true) where
     size_set : (xs : List Bool) (k : ℕ) (b : Bool) → length (slice_set xs k b) ≡ length xs
     size_set xs k b = length-set xs k b
@@ -78,7 +78,7 @@ module _ (net : Net) (proper : AreProper net.steps.items) where
     one_marked L m once unmarked = (
       (λ h l. (
         (λ e. elim (same_or_not h twin) [
-          | inl f ↦ last h (ap (link_at net) f ∙ ap link_between back ∙ link_turned (step_at net.steps.items at) (proper.moving at _ here))
+          | inl f ↦ last h (ap (link_at net) f ∙ ap link_between back ∙ link_turned (step_at net.steps at) (proper.moving at _ here))
           | inr f ↦ elim (same_or_not h at) [
             | inl g ↦ last h (ap (link_at net) g)
             | inr g ↦ Contains-append_left L (link_at net at ∷ []) (link_at net h) ((m h l).0 (sym (elsewhere h f g) ∙ e))
@@ -87,9 +87,9 @@ module _ (net : Net) (proper : AreProper net.steps.items) where
         (λ c. elim (Contains-append_cases L (link_at net at ∷ []) (link_at net h) c) [
           | inl d ↦ stays h ((m h l).1 d)
           | inr d ↦ elim (Contains-cases (link_at net at) [] (link_at net h) d) [
-            | inl e ↦ elim (one_link (step_at net.steps.items h) (step_at net.steps.items at) (sym e)) [
-              | inl f ↦ at_step h (place_once net.steps.items proper h at _ l here f)
-              | inr f ↦ at_twin h (place_once net.steps.items proper h twin _ l there (f ∙ sym back))
+            | inl e ↦ elim (one_link (step_at net.steps h) (step_at net.steps at) (sym e)) [
+              | inl f ↦ at_step h (place_once net.steps proper h at _ l here f)
+              | inr f ↦ at_twin h (place_once net.steps proper h twin _ l there (f ∙ sym back))
             ]
             | inr e ↦ Contains-nil (link_at net h) e
           ]
@@ -129,7 +129,7 @@ module _ (net : Net) where
   pub kept_all : (old : Numbering) → IsNumbering net old → GoesFrom net old old
   kept_all old h = record { numbering = h; kept = λ k l m. m }
 
-  pub one_way_more : (old new : Numbering) (way : Way) → IsNumbering net old → IsWay net way → new.ways.items ≡ old.ways.items ++ way ∷ [] → length new.is_numbered.items ≡ length net.steps.items
+  pub one_way_more : (old new : Numbering) (way : Way) → IsNumbering net old → IsWay net way → new.ways.items ≡ old.ways.items ++ way ∷ [] → length new.is_numbered.items ≡ length net.steps
       → AddsMarks net old.is_numbered.items new.is_numbered.items way.steps way.start → AreWhole net new.is_numbered.items → GoesFrom net old new
   one_way_more old new way h w pushed each adds whole =
       let both = adds (links_along net old.ways.items) h.marks h.once in
@@ -147,7 +147,7 @@ module _ (net : Net) where
       }
 
   -- the first step of an arc has its mark
-  pub start_marked : (old new : Numbering) (way : Way) → IsNumbering net new → way.start < length net.steps.items → 0 < way.steps → new.ways.items ≡ old.ways.items ++ way ∷ [] → HasMark new.is_numbered.items way.start
+  pub start_marked : (old new : Numbering) (way : Way) → IsNumbering net new → way.start < length net.steps → 0 < way.steps → new.ways.items ≡ old.ways.items ++ way ∷ [] → HasMark new.is_numbered.items way.start
   start_marked old new way h l some pushed =
       (h.marks way.start l).1 (subst (λ (xs : List Segment). Contains xs (link_at net way.start)) (sym (along_more old.ways.items way) ∙ sym (ap (links_along net) pushed))
       (Contains-append_right (links_along net old.ways.items) (links_from net way.steps way.start) (link_at net way.start) (first way.steps some)))
@@ -156,5 +156,5 @@ module _ (net : Net) where
       first zero m = absurd (omega arith)
       first (suc n) m = Contains-head (link_at net way.start) (links_from net n (get_or net.onward.items way.start 0))
 
-  pub all_of : (numbering : Numbering) → IsNumbering net numbering → ((h : ℕ) → h < length net.steps.items → HasMark numbering.is_numbered.items h) → AreWays net numbering.ways.items
+  pub all_of : (numbering : Numbering) → IsNumbering net numbering → ((h : ℕ) → h < length net.steps → HasMark numbering.is_numbered.items h) → AreWays net numbering.ways.items
   all_of numbering h m = record { ways = h.ways; once = h.once; all = λ k l. (h.marks k l).0 (m k l) }

@@ -90,9 +90,9 @@ module _ (net : Net) where
       let C = links_stepped (flat_map (λ (path : Path). path ∷ []) d.boxes) in
       subst (λ (ls : List Segment). IsAfter net ls e) (all_stepped d) ((along_both net a c e (A ++ B) C (along_both net a b c A B p q) r).more [] (none_after a none))
 
-  module _ (turns : List GridPoint) (on : AreOnward net.steps.items net.twins.items turns net.onward.items (length net.steps.items)) where
+  module _ (turns : List GridPoint) (on : AreOnward net.steps net.twins.items turns net.onward.items (length net.steps)) where
     -- each link of the table is stepped along
-    pub covered : (d : Drawing) → AreLinks (links_of d) → AreSteps (links_of d) net.steps.items → (h : ℕ) → h < length net.steps.items → Contains (links_stepped (paths_of d)) (link_at net h)
+    pub covered : (d : Drawing) → AreLinks (links_of d) → AreSteps (links_of d) net.steps → (h : ℕ) → h < length net.steps → Contains (links_stepped (paths_of d)) (link_at net h)
     covered d links made h l = ascending-Contains link_before link_before-IsStrictOrder (links_stepped (paths_of d)) (link_at net h) (link_there net turns on (links_of d) links made h l)
 
     module _ (ways : List Way) (arcs : List Path) (are : All (IsWay net) ways) (is : arcs ≡ map (arc_points net) ways) where

@@ -25,7 +25,7 @@ stepped_joined xs ys = ap (map link_between) (flat_map-append steps xs ys) ∙ m
 
 module _ (net : Net) where
   abbrev N : ℕ
-  N = length net.steps.items
+  N = length net.steps
 
   module _ (stepped : List Segment) (l : Segment) where
     at_old : (j : ℕ) → j < length stepped → step_at (stepped ++ l ∷ []) j ≡ step_at stepped j
@@ -188,14 +188,14 @@ module _ (net : Net) where
         }
       ]
 
-  pub along_step : (old new : Numbering) (h : ℕ) (s : Segment) → slice_get net.steps.items h ≡ Some s → GoesAlong net old new (link_at net h ∷ []) → GoesAlong net old new (link_between s ∷ [])
-  along_step old new h s e = subst (λ (t : Segment). GoesAlong net old new (link_between t ∷ [])) (get_or_from_slice_get net.steps.items h s _ e)
+  pub along_step : (old new : Numbering) (h : ℕ) (s : Segment) → slice_get net.steps h ≡ Some s → GoesAlong net old new (link_at net h ∷ []) → GoesAlong net old new (link_between s ∷ [])
+  along_step old new h s e = subst (λ (t : Segment). GoesAlong net old new (link_between t ∷ [])) (get_or_from_slice_get net.steps h s _ e)
 
-  pub along_missing : (numbering : Numbering) (s : Segment) → (Contains net.steps.items s → ⊥) → GoesAlong net numbering numbering (link_between s ∷ [])
+  pub along_missing : (numbering : Numbering) (s : Segment) → (Contains net.steps s → ⊥) → GoesAlong net numbering numbering (link_between s ∷ [])
   along_missing numbering s none = record {
-    more = λ stepped before. step_more numbering stepped (link_between s) (λ h l e. absurd (elim (one_link (step_at net.steps.items h) s e) [
-      | inl f ↦ none (subst (Contains net.steps.items) f (Contains-get_or net.steps.items h _ l))
-      | inr f ↦ none (subst (Contains net.steps.items) (twin_is net h l ∙ ap reversed f) (Contains-get_or net.steps.items (twin net h) _ (twin_there net h l)))
+    more = λ stepped before. step_more numbering stepped (link_between s) (λ h l e. absurd (elim (one_link (step_at net.steps h) s e) [
+      | inl f ↦ none (subst (Contains net.steps) f (Contains-get_or net.steps h _ l))
+      | inr f ↦ none (subst (Contains net.steps) (twin_is net h l ∙ ap reversed f) (Contains-get_or net.steps (twin net h) _ (twin_there net h l)))
     ])) before;
   }
 

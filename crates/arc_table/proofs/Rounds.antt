@@ -10,7 +10,7 @@ use Rattle.arc_table.proofs.Runs.{length_walk, walk_at, too_many, twin, next, af
 
 module _ (net : Net) where
   abbrev N : ℕ
-  N = length net.steps.items
+  N = length net.steps
 
   -- a way on that does not come back to its first step is not longer than the table
   pub not_round : (first : ℕ) → first < N → ((j : ℕ) → j < N → (next net (after net j first) ≢ after net j first) × (next net (after net j first) ≢ first)) → ⊥

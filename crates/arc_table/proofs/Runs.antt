@@ -46,7 +46,7 @@ too_many xs n apart below l =
 
 module _ (net : Net) where
   abbrev N : ℕ
-  N = length net.steps.items
+  N = length net.steps
 
   abbrev pub twin : ℕ → ℕ
   twin h = get_or net.twins.items h 0
@@ -67,25 +67,25 @@ module _ (net : Net) where
   after_there zero h l = l
   after_there (suc k) h l = after_there k (next h) (next_there h l)
 
-  pub twin_is : (h : ℕ) → h < N → step_at net.steps.items (twin h) ≡ reversed (step_at net.steps.items h)
-  twin_is h l = back_at net.steps.items h (twin h) l (λ s e. net.twins_back h s l e)
+  pub twin_is : (h : ℕ) → h < N → step_at net.steps (twin h) ≡ reversed (step_at net.steps h)
+  twin_is h l = back_at net.steps h (twin h) l (λ s e. net.twins_back h s l e)
 
   pub twin_twice : (h : ℕ) → h < N → twin (twin h) ≡ h
   twin_twice h l =
       let t = twin_there h l in
-      place_once net.steps.items net.proper (twin (twin h)) h _ (twin_there (twin h) t) l (twin_is (twin h) t ∙ ap reversed (twin_is h l))
+      place_once net.steps net.proper (twin (twin h)) h _ (twin_there (twin h) t) l (twin_is (twin h) t ∙ ap reversed (twin_is h l))
 
   pub twin_apart : (h : ℕ) → h < N → twin h ≢ h
-  twin_apart h l e = net.proper.moving h _ l (ap (λ (s : Segment). s.stop) (sym (twin_is h l) ∙ ap (step_at net.steps.items) e))
+  twin_apart h l e = net.proper.moving h _ l (ap (λ (s : Segment). s.stop) (sym (twin_is h l) ∙ ap (step_at net.steps) e))
 
   pub twin_link : (h : ℕ) → h < N → link_at net (twin h) ≡ link_at net h
-  twin_link h l = ap link_between (twin_is h l) ∙ link_turned (step_at net.steps.items h) (net.proper.moving h _ l)
+  twin_link h l = ap link_between (twin_is h l) ∙ link_turned (step_at net.steps h) (net.proper.moving h _ l)
 
   -- two steps along one link are one step, or one is the step back of the other
   pub one_of : (h k : ℕ) → h < N → k < N → link_at net h ≡ link_at net k → (h ≡ k) ⊎ (h ≡ twin k)
-  one_of h k l m e = elim (one_link (step_at net.steps.items h) (step_at net.steps.items k) e) [
-    | inl f ↦ inl (place_once net.steps.items net.proper h k _ l m f)
-    | inr f ↦ inr (place_once net.steps.items net.proper h (twin k) _ l (twin_there k m) (f ∙ sym (twin_is k m)))
+  one_of h k l m e = elim (one_link (step_at net.steps h) (step_at net.steps k) e) [
+    | inl f ↦ inl (place_once net.steps net.proper h k _ l m f)
+    | inr f ↦ inr (place_once net.steps net.proper h (twin k) _ l (twin_there k m) (f ∙ sym (twin_is k m)))
   ]
 
   pub one_twin : (h k : ℕ) → h < N → k < N → twin h ≡ twin k → h ≡ k

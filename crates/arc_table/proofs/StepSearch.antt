@@ -1,15 +1,13 @@
 -- A search in sorted steps.
-use Rattle.std.proofs.Common.{◌≡◌, inl, inr, refl, sym, ap, ◌∙◌, subst, ℕ, true, ◌&&◌, ◌++◌, ◌∷◌, ◌+◌, ◌<◌, false, List, [], map, length, get_or, Some, None, Contains, ◌<ℤ◌, Ordering, int_cmp, arith}
+use Rattle.std.proofs.Common.{◌≡◌, inl, inr, refl, sym, ap, ◌∙◌, subst, ℕ, true, ◌&&◌, ◌++◌, ◌∷◌, ◌+◌, false, List, [], map, length, get_or, Some, None, Contains, ◌<ℤ◌, Ordering, int_cmp, arith}
 use Rattle.std.specs.Prelude.{slice_get}
-use Rattle.std.specs.List.{HoldsAt}
-use Rattle.std.specs.List.Sorted.{IsSorted, IsNonDecreasingBy, IsPartitionPoint}
-use Rattle.std.specs.Ordering.{ordering_then, ordering_index, is_lt, MatchOrdering}
+use Rattle.std.specs.Ordering.{ordering_then, is_lt, MatchOrdering}
 use Rattle.std.specs.declared.cmp.Ordering.TheVariants.{Less, Equal, Greater}
 use Rattle.std.specs.Cmp.{IsTotalOrder}
 use Rattle.std.proofs.lemmas.Bool.{cases_lt, false_from_ne_true}
-use Rattle.std.proofs.lemmas.Cmp.{on_total, then_total, int_ranked, tied_itself}
-use Rattle.std.proofs.lemmas.List.Sorted.{searchable_from_sorted, Contains-permutation, IsPermutation-sym}
-use Rattle.std.proofs.lemmas.Option.{slice_get-get_or, slice_get_cases, get_or_from_slice_get}
+use Rattle.std.proofs.lemmas.Cmp.{on_total, then_total, int_ranked}
+use Rattle.std.proofs.lemmas.List.Sorted.{Contains-permutation, IsPermutation-sym}
+use Rattle.std.proofs.lemmas.Option.{slice_get_cases, get_or_from_slice_get}
 use Rattle.std.proofs.lemmas.Bool.{and_parts, and_from}
 use Rattle.std.proofs.Math.ListN.{get_or-append}
 use Rattle.std.proofs.lemmas.List.Elements.{Contains-append_left, Contains-append_right, Contains-append_cases}
@@ -37,7 +35,7 @@ not_before p q e = go (int_cmp p.x q.x) (int_cmp p.y q.y) (int_ranked p.x q.x (i
     go Equal Greater h k e = behind (inr (sym h, k))
     go Greater b h k e = behind (inl h)
 
-same_step_is : (s t : Segment) → step_cmp s t ≡ Equal → s ≡ t
+pub same_step_is : (s t : Segment) → step_cmp s t ≡ Equal → s ≡ t
 same_step_is s t e = go (point_cmp s.start t.start) (point_cmp s.stop t.stop) refl refl e
   where
     go : (a b : Ordering) → point_cmp s.start t.start ≡ a → point_cmp s.stop t.stop ≡ b → ordering_then a b ≡ Equal → s ≡ t
@@ -46,19 +44,6 @@ same_step_is s t e = go (point_cmp s.start t.start) (point_cmp s.stop t.stop) re
     go Equal Equal f g e = segment_is s t (equal_is s.start t.start f) (equal_is s.stop t.stop g)
     go Equal Greater f g e = absurd cc
     go Greater b f g e = absurd cc
-
-pub search_found : (xs : List Segment) (x : Segment) (i : ℕ) → i < length xs → HoldsAt (λ y. step_cmp y x ≡ Equal) xs i → slice_get xs i ≡ Some x
-search_found xs x i l h = slice_get-get_or xs i x l ∙ ap Some (same_step_is (get_or xs i x) x (h x))
-
-pub search_misses : (xs : List Segment) (x : Segment) → IsSorted step_cmp xs → (i : ℕ)
-    → (IsNonDecreasingBy (λ y. ordering_index (step_cmp y x)) xs → IsPartitionPoint (λ y. step_cmp y x ≡ Less) (λ y. step_cmp y x ≡ Greater) xs i) → Contains xs x → ⊥
-search_misses xs x up i h c =
-    let s = h (searchable_from_sorted step_cmp-total (λ (y : Segment). y) xs x up) in
-    let itself = tied_itself step_cmp-total x in
-    elim (cases_lt c.0 i) [
-      | inl m ↦ (let e : Less ≡ Equal = sym (subst (λ (y : Segment). step_cmp y x ≡ Less) c.2 (s.0 c.0 x (omega arith) m)) ∙ itself in absurd (cc))
-      | inr m ↦ (let e : Greater ≡ Equal = sym (subst (λ (y : Segment). step_cmp y x ≡ Greater) c.2 (s.1 c.0 x m c.1)) ∙ itself in absurd (cc))
-    ]
 
 -- ---- the ends of steps
 

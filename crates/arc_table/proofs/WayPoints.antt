@@ -11,16 +11,16 @@ use Rattle.arc_table.specs.declared.numbering.Way.{Way}
 step_is : (steps : List Segment) (h : ℕ) (s : Segment) → slice_get steps h ≡ Some s → s ≡ step_at steps h
 step_is steps h s e = sym (get_or_from_slice_get steps h s (record { start = record { x = pos 0; y = pos 0 }; stop = record { x = pos 0; y = pos 0 } }) e)
 
-pub begun : (net : Net) (way : Way) (s : Segment) (p : GridPoint) (xs ys : Path) → slice_get net.steps.items way.start ≡ Some s → p ≡ s.start → xs ≡ [] → ys ≡ xs ++ p ∷ []
+pub begun : (net : Net) (way : Way) (s : Segment) (p : GridPoint) (xs ys : Path) → slice_get net.steps way.start ≡ Some s → p ≡ s.start → xs ≡ [] → ys ≡ xs ++ p ∷ []
     → ys ++ ends_along net way.steps way.start ≡ points_along net way
 begun net way s p xs ys e f g h =
-    let start : p ≡ (step_at net.steps.items way.start).start = f ∙ ap (λ (t : Segment). t.start) (step_is net.steps.items way.start s e) in
+    let start : p ≡ (step_at net.steps way.start).start = f ∙ ap (λ (t : Segment). t.start) (step_is net.steps way.start s e) in
     ap (λ (zs : Path). zs ++ ends_along net way.steps way.start) (h ∙ (λ i. g i ++ start i ∷ []))
 
-pub more : (net : Net) (xs ys whole : Path) (n m at next : ℕ) (s : Segment) (p : GridPoint) → n ≡ suc m → slice_get net.steps.items at ≡ Some s → p ≡ s.stop → next ≡ slice_index net.onward.items at → ys ≡ xs ++ p ∷ []
+pub more : (net : Net) (xs ys whole : Path) (n m at next : ℕ) (s : Segment) (p : GridPoint) → n ≡ suc m → slice_get net.steps at ≡ Some s → p ≡ s.stop → next ≡ slice_index net.onward.items at → ys ≡ xs ++ p ∷ []
     → xs ++ ends_along net n at ≡ whole → ys ++ ends_along net m next ≡ whole
 more net xs ys whole n m at next s p count e f g h k =
-    let stop : p ≡ (step_at net.steps.items at).stop = f ∙ ap (λ (t : Segment). t.stop) (step_is net.steps.items at s e) in
+    let stop : p ≡ (step_at net.steps at).stop = f ∙ ap (λ (t : Segment). t.stop) (step_is net.steps at s e) in
     ap (λ (zs : Path). zs ++ ends_along net m next) h ∙ append_assoc xs (p ∷ []) (ends_along net m next)
     ∙ (λ i. xs ++ stop i ∷ ends_along net m (g i))
     ∙ sym (ap (λ (j : ℕ). xs ++ ends_along net j at) count) ∙ k

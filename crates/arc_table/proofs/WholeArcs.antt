@@ -28,19 +28,19 @@ use Rattle.arc_table.proofs.WholeBack.{back_least, back_whole}
 use Rattle.arc_table.proofs.Rounds.{came_back}
 use Rattle.arc_table.proofs.Runs.{goes_at, length_walk, walk_at, twin, next, after, twin_there, after_there, one_of}
 
-module _ (d : Drawing) (net : Net) (turns : List GridPoint) (turned : AreTurns d turns) (on : AreOnward net.steps.items net.twins.items turns net.onward.items (length net.steps.items))
-    (links : AreLinks (links_of d)) (made : AreSteps (links_of d) net.steps.items) where
+module _ (d : Drawing) (net : Net) (turns : List GridPoint) (turned : AreTurns d turns) (on : AreOnward net.steps net.twins.items turns net.onward.items (length net.steps))
+    (links : AreLinks (links_of d)) (made : AreSteps (links_of d) net.steps) where
   abbrev S : List Segment
   S = links_of d
 
   abbrev steps : List Segment
-  steps = net.steps.items
+  steps = net.steps
 
   abbrev N : ℕ
-  N = length net.steps.items
+  N = length net.steps
 
   abbrev step : ℕ → Segment
-  step h = step_at net.steps.items h
+  step h = step_at net.steps h
 
   there : (j : ℕ) → j < N → Contains S (link_at net j)
   there j l = link_there net turns on S links made j l
@@ -238,13 +238,13 @@ module _ (d : Drawing) (net : Net) (turns : List GridPoint) (turned : AreTurns d
     ]
 
     along_least : StartsAtLeast d P
-    along_least here zero l = none_starts_before net.steps.items made.sorted way.start way.start _ (omega arith) w.there
+    along_least here zero l = none_starts_before net.steps made.sorted way.start way.start _ (omega arith) w.there
     along_least here (suc j) l =
         let s = size in
         let m : j < n = omega arith in
         let (ahead, behind) = w.least (goes_round here) j in
         let back : point_at P (suc j) ≡ (step (twin net (at j))).start = point_after j m ∙ ap (λ (t : Segment). t.start) (sym (twin_step (at j) (at_there j))) in
-        ap (λ (p : GridPoint). is_before p (point_at P 0)) back ∙ none_starts_before net.steps.items made.sorted way.start (twin net (at j)) _ behind (twin_there net (at j) (at_there j))
+        ap (λ (p : GridPoint). is_before p (point_at P 0)) back ∙ none_starts_before net.steps made.sorted way.start (twin net (at j)) _ behind (twin_there net (at j) (at_there j))
 
   arc_whole : (way : Way) → IsWay net way → IsWholeArc d (arc_points net way)
   arc_whole way w = go (is_backward (points_along net way))

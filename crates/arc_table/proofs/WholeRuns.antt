@@ -10,11 +10,11 @@ use Rattle.arc_table.specs.declared.half_links.Net.{Net}
 use Rattle.arc_table.proofs.Marks.{same_or_not, place_more}
 use Rattle.arc_table.proofs.Runs.{goes_at, twin, next, after, twin_there, next_there, after_there, twin_twice, twin_apart, twin_link, one_of, one_twin, one_before, length_links, link_along}
 
-module _ (net : Net) (old new : List Bool) (L : List Segment) (start n : ℕ) (some : 0 < n) (here : start < length net.steps.items) (begin : IsBegin net start) (marked_old : AreMarked net old L)
-    (whole_old : (h : ℕ) → h < length net.steps.items → HasMark old h → HasMark old (get_or net.onward.items h 0))
+module _ (net : Net) (old new : List Bool) (L : List Segment) (start n : ℕ) (some : 0 < n) (here : start < length net.steps) (begin : IsBegin net start) (marked_old : AreMarked net old L)
+    (whole_old : (h : ℕ) → h < length net.steps → HasMark old h → HasMark old (get_or net.onward.items h 0))
     (marked_new : AreMarked net new (L ++ links_from net n start)) (once : AllPairs (λ (k l : Segment). k ≢ l) (L ++ links_from net n start)) (on : GoesOn net.onward.items n start) where
   abbrev N : ℕ
-  N = length net.steps.items
+  N = length net.steps
 
   abbrev at : ℕ → ℕ
   at j = after net j start

@@ -12,5 +12,5 @@ pub record IsNetOf (d : Drawing) (net : Net) : Type 0 where
   pub turns : List GridPoint
   pub are_turns : AreTurns d turns
   pub links : AreLinks (links_of d)
-  pub steps : AreSteps (links_of d) net.steps.items
-  pub on : AreOnward net.steps.items net.twins.items turns net.onward.items (length net.steps.items)
+  pub steps : AreSteps (links_of d) net.steps
+  pub on : AreOnward net.steps net.twins.items turns net.onward.items (length net.steps)

@@ -9,5 +9,6 @@ pub mod Numbering
 pub mod Order
 pub mod PathArcs
 pub mod Rows
+pub mod StepCodes
 pub mod Steps
 pub mod WholeArcs

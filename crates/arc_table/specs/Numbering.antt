@@ -89,7 +89,7 @@ IsWholeRun net n h =
 -- an arc starts at a step of the table, at the least where it comes round, has a step, goes on to its last, and is
 -- whole
 pub record IsWay (net : Net) (way : Way) : Type 0 where
-  pub there : way.start < length net.steps.items
+  pub there : way.start < length net.steps
   pub least : BeginsLeast net way.start
   pub some : 0 < way.steps
   pub on : GoesOn net.onward.items way.steps way.start
@@ -100,7 +100,7 @@ points_of_way way = way.steps + 1
 
 -- the link that the step at a place goes along
 abbrev pub link_at : Net → ℕ → Segment
-link_at net h = link_between (step_at net.steps.items h)
+link_at net h = link_between (step_at net.steps h)
 
 -- the links along n steps from h on
 abbrev pub links_from : Net → ℕ → ℕ → List Segment
@@ -114,7 +114,7 @@ links_along net ways = flat_map (λ (way : Way). links_from net way.steps way.st
 pub record AreWays (net : Net) (arcs : List Way) : Type 0 where
   pub ways : All (IsWay net) arcs
   pub once : AllPairs (λ k l. k ≢ l) (links_along net arcs)
-  pub all : (h : ℕ) → h < length net.steps.items → Contains (links_along net arcs) (link_at net h)
+  pub all : (h : ℕ) → h < length net.steps → Contains (links_along net arcs) (link_at net h)
 
 -- ---- marks
 
@@ -124,12 +124,12 @@ HasMark marks h = slice_index_or marks h false ≡ true
 
 -- exactly the steps along the links have a mark
 abbrev pub AreMarked : Net → List Bool → List Segment → Type 0
-AreMarked net marks links = (h : ℕ) → h < length net.steps.items → (HasMark marks h → Contains links (link_at net h)) × (Contains links (link_at net h) → HasMark marks h)
+AreMarked net marks links = (h : ℕ) → h < length net.steps → (HasMark marks h → Contains links (link_at net h)) × (Contains links (link_at net h) → HasMark marks h)
 
 -- each step on from a step with a mark has a mark, and each step back
 pub record AreWhole (net : Net) (marks : List Bool) : Type 0 where
-  pub on : (h : ℕ) → h < length net.steps.items → HasMark marks h → HasMark marks (slice_index net.onward.items h)
-  pub back : (h : ℕ) → h < length net.steps.items → HasMark marks h → HasMark marks (twin_at net h)
+  pub on : (h : ℕ) → h < length net.steps → HasMark marks h → HasMark marks (slice_index net.onward.items h)
+  pub back : (h : ℕ) → h < length net.steps → HasMark marks h → HasMark marks (twin_at net h)
 
 -- where whole arcs have marks, and step k has one, step h has one
 abbrev pub HaveMarksTogether : Net → ℕ → ℕ → Type 0
@@ -148,7 +148,7 @@ AddsMarks net old new n h = (links : List Segment) → AreMarked net old links �
 -- arcs of the table, of which no two go along one link, and a mark for each step along them, either way
 pub record IsNumbering (net : Net) (numbering : Numbering) : Type 0 where
   pub ways : All (IsWay net) numbering.ways.items
-  pub each : length numbering.is_numbered.items ≡ length net.steps.items
+  pub each : length numbering.is_numbered.items ≡ length net.steps
   pub once : AllPairs (λ k l. k ≢ l) (links_along net numbering.ways.items)
   pub marks : AreMarked net numbering.is_numbered.items (links_along net numbering.ways.items)
   pub whole : AreWhole net numbering.is_numbered.items
@@ -156,17 +156,17 @@ pub record IsNumbering (net : Net) (numbering : Numbering) : Type 0 where
 -- a numbering goes on, and keeps its marks
 pub record GoesFrom (net : Net) (old new : Numbering) : Type 0 where
   pub numbering : IsNumbering net new
-  pub kept : (h : ℕ) → h < length net.steps.items → HasMark old.is_numbered.items h → HasMark new.is_numbered.items h
+  pub kept : (h : ℕ) → h < length net.steps → HasMark old.is_numbered.items h → HasMark new.is_numbered.items h
 
 -- ---- the points of an arc
 
 -- where n steps from h on lead, one after another
 abbrev pub ends_along : Net → ℕ → ℕ → Path
-ends_along net n h = map (λ k. (step_at net.steps.items k).stop) (walk net.onward.items n h)
+ends_along net n h = map (λ k. (step_at net.steps k).stop) (walk net.onward.items n h)
 
 -- the points along an arc, from where its first step starts
 abbrev pub points_along : Net → Way → Path
-points_along net way = (step_at net.steps.items way.start).start ∷ ends_along net way.steps way.start
+points_along net way = (step_at net.steps way.start).start ∷ ends_along net way.steps way.start
 
 -- the points of an arc in its direction
 abbrev pub arc_points : Net → Way → Path

@@ -32,7 +32,7 @@ AreInOrder net stepped ways = (m n j : ℕ) → m < n → n < length ways → j 
 
 -- after steps along these links: each has its mark, each way was stepped along, and the ways are in order
 pub record IsAfter (net : Net) (stepped : List Segment) (numbering : Numbering) : Type 0 where
-  pub marked : (h : ℕ) → h < length net.steps.items → Contains stepped (link_at net h) → HasMark numbering.is_numbered.items h
+  pub marked : (h : ℕ) → h < length net.steps → Contains stepped (link_at net h) → HasMark numbering.is_numbered.items h
   pub begun : (n : ℕ) → n < length numbering.ways.items → (j : ℕ) × (j < length stepped) × Contains (links_of_way net numbering.ways.items n) (step_at stepped j)
   pub order : AreInOrder net stepped numbering.ways.items
 

@@ -10,15 +10,15 @@ use std::alloc::{AllocError, Global};
 
 /// What arcs are made of beside the paths of a snapped drawing: the steps along its links, and where each leads on.
 #[derive(Drop)]
-pub struct ArcNet {
-    pub(crate) net: Net,
+pub struct ArcNet<'a> {
+    pub(crate) net: Net<'a>,
     // for each link the position of its greater end among these ends in order: a wrong one costs time alone
     pub(crate) highs: Vec<u32>,
 }
 
-impl ArcNet {
+impl<'a> ArcNet<'a> {
     /// The net of a snapped drawing, whose links serve nothing else.
-    pub fn of(alloc: Global, s: &Snapped) -> Result<ArcNet, AllocError>
+    pub fn of(alloc: Global, s: &'a Snapped) -> Result<ArcNet<'a>, AllocError>
         ensures exact { IfOk result (λ n. IsNetOf s.now n.net) }
     {
         let turns = turns_of(alloc, s)?;

@@ -1,6 +1,7 @@
 use crate::half_links::{Net, Step};
 use crate::numbering::Way;
-use grid_base::{is_before, is_same};
+use crate::step_list::StepList;
+use grid_base::{Pt, is_before, is_same};
 use std::alloc::{AllocError, Global};
 
 /// Where what the arcs have stands in order. It is not proved: a wrong one costs time alone.
@@ -75,16 +76,27 @@ impl ArcOrder {
 }
 
 // The number of the vertex that each step starts at, in the order of the vertices.
-fn vertex_numbers(alloc: Global, steps: &[Step]) -> Result<Vec<u32>, AllocError> {
+fn vertex_numbers(alloc: Global, steps: &StepList) -> Result<Vec<u32>, AllocError> {
     let mut numbers = Vec::with_capacity(alloc, steps.len())?;
     let mut number = 0u32;
+    let mut last = None;
     for h in 0..steps.len() {
-        if h > 0 && !is_same(steps[h - 1].from(), steps[h].from()) {
+        let from = steps.at(h).from();
+        if has_moved(last, from) {
             number = number.wrapping_add(1);
         }
+        last = Some(from);
         numbers.push(number)?;
     }
     Ok(numbers)
+}
+
+// There is a point before, and it is another.
+fn has_moved(last: Option<Pt>, p: Pt) -> bool {
+    match last {
+        Some(before) => !is_same(before, p),
+        None => false,
+    }
 }
 
 // Where the steps along a way stand, in place of what `walked` held.
@@ -119,7 +131,7 @@ fn is_backward(walked: &[u32], net: &Net) -> bool {
 }
 
 fn step_at(net: &Net, h: Option<&u32>) -> Option<Step> {
-    net.steps.get(*h? as usize).copied()
+    net.steps.get(*h? as usize)
 }
 
 fn twin_at(net: &Net, h: u32) -> u32 {

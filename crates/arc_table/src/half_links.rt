@@ -5,6 +5,7 @@ ghost use Rattle.grid_base.specs.Order.{point_cmp};
 ghost use Rattle.arc_table.specs.Steps.{step_cmp, StartsAt, IsOther, IsOtherAt, LeadsOnAt, IsOnward, AreLinks, AreOnward, AreBothWays, NoneTurnsBack, AreProper, AreSteps, IsPlace, HasBoth, AreTwins};
 
 use crate::merging::{Merged, steps_of};
+use crate::step_list::StepList;
 use grid_base::{LinkList, Pt, has_point, is_same};
 use std::alloc::{AllocError, Global};
 use std::marker::Model;
@@ -62,35 +63,35 @@ impl Step {
 /// The steps along the links, in order, each with its twin, which goes back, and the step that follows it on its
 /// arc: where the arc ends there, the step itself.
 #[derive(Drop)]
-pub struct Net {
-    pub steps: Vec<Step>,
+pub struct Net<'a> {
+    pub steps: StepList<'a>,
     pub twins: Vec<u32>,
     pub onward: Vec<u32>,
-    ghost few: { length steps.items < 2 ^ 32 },
-    ghost twin_each: { length twins.items ≡ length steps.items },
-    ghost onward_each: { length onward.items ≡ length steps.items },
-    ghost twins_there: { All (λ t. t < length steps.items) twins.items },
-    ghost onward_there: { All (λ t. t < length steps.items) onward.items },
-    ghost sorted: { IsSorted step_cmp steps.items },
-    ghost proper: { AreProper steps.items },
-    ghost twins_back: { AreTwins steps.items twins.items (length steps.items) },
-    ghost both_ways: { AreBothWays twins.items onward.items (length steps.items) },
-    ghost none_back: { NoneTurnsBack twins.items onward.items (length steps.items) },
+    ghost few: { length steps < 2 ^ 32 },
+    ghost twin_each: { length twins.items ≡ length steps },
+    ghost onward_each: { length onward.items ≡ length steps },
+    ghost twins_there: { All (λ t. t < length steps) twins.items },
+    ghost onward_there: { All (λ t. t < length steps) onward.items },
+    ghost sorted: { IsSorted step_cmp steps },
+    ghost proper: { AreProper steps },
+    ghost twins_back: { AreTwins steps twins.items (length steps) },
+    ghost both_ways: { AreBothWays twins.items onward.items (length steps) },
+    ghost none_back: { NoneTurnsBack twins.items onward.items (length steps) },
 }
 
-impl Net {
+impl<'a> Net<'a> {
     /// The steps along the links, where `turns` are in order the vertices that are nodes whatever their number of
     /// links. `by_high` is the order of the links by their greater ends: a wrong one costs time alone.
     pub fn of(
         alloc: Global,
-        links: &LinkList,
+        links: &'a LinkList,
         turns: &[Pt],
         by_high: &[u32],
-    ) -> Result<Net, AllocError>
+    ) -> Result<Net<'a>, AllocError>
         requires links { AreLinks links.now }
         requires turns { IsSorted point_cmp turns.now }
-        ensures steps { IfOk result (λ n. AreSteps links.now n.steps.items) }
-        ensures on { IfOk result (λ n. AreOnward n.steps.items n.twins.items turns.now n.onward.items (length n.steps.items)) }
+        ensures steps { IfOk result (λ n. AreSteps links.now n.steps) }
+        ensures on { IfOk result (λ n. AreOnward n.steps n.twins.items turns.now n.onward.items (length n.steps)) }
     {
         let merged = steps_of(alloc, links.as_slice(), by_high)?;
         let guesses = merged.twins(alloc, by_high)?;
@@ -107,7 +108,7 @@ impl Net {
 
     /// How many steps there are: fewer than 2^32.
     pub fn step_count(&self) -> usize
-        ensures exact { result ≡ length self.now.steps.items }
+        ensures exact { result ≡ length self.now.steps }
         ensures few { result < 2 ^ 32 }
     {
         let _ = &self.twins;
@@ -116,34 +117,34 @@ impl Net {
 
     /// The step at this place, counted from 0.
     pub fn step(&self, h: usize) -> Step
-        requires { h < length self.now.steps.items }
-        ensures { slice_get self.now.steps.items h ≡ Some result }
+        requires { h < length self.now.steps }
+        ensures { slice_get self.now.steps h ≡ Some result }
     {
-        self.steps[h]
+        self.steps.at(h)
     }
 
     /// The place of the step that goes back.
     pub fn twin(&self, h: usize) -> usize
-        requires { h < length self.now.steps.items }
+        requires { h < length self.now.steps }
         ensures exact { result ≡ slice_index self.now.twins.items h }
-        ensures back { (s : Segment) → slice_get self.now.steps.items h ≡ Some s → slice_get self.now.steps.items result ≡ Some (reversed s) }
-        ensures there { result < length self.now.steps.items }
+        ensures back { (s : Segment) → slice_get self.now.steps h ≡ Some s → slice_get self.now.steps result ≡ Some (reversed s) }
+        ensures there { result < length self.now.steps }
     {
         self.twins[h] as usize
     }
 
     /// The place of the step that goes on, or `h` where the arc ends.
     pub fn next(&self, h: usize) -> usize
-        requires { h < length self.now.steps.items }
+        requires { h < length self.now.steps }
         ensures exact { result ≡ slice_index self.now.onward.items h }
-        ensures there { result < length self.now.steps.items }
+        ensures there { result < length self.now.steps }
     {
         self.onward[h] as usize
     }
 }
 
 // The place of the twin of each step, looked for where `guesses` has it first.
-fn twins_of(alloc: Global, steps: &[Step], guesses: &[u32]) -> Result<Vec<u32>, AllocError>
+fn twins_of(alloc: Global, steps: &StepList, guesses: &[u32]) -> Result<Vec<u32>, AllocError>
     requires few { length steps.now < 2 ^ 32 }
     requires sorted { IsSorted step_cmp steps.now }
     requires both { HasBoth steps.now }
@@ -167,21 +168,21 @@ fn guess_at(guesses: &[u32], h: usize) -> usize {
 }
 
 // The place of the twin of step `h`, looked for at `guess` first.
-fn twin_of(steps: &[Step], h: usize, guess: usize) -> usize
+fn twin_of(steps: &StepList, h: usize, guess: usize) -> usize
     requires here { h < length steps.now }
     requires sorted { IsSorted step_cmp steps.now }
     requires both { HasBoth steps.now }
     ensures back { (s : Segment) → slice_get steps.now h ≡ Some s → slice_get steps.now result ≡ Some (reversed s) }
     ensures there { result < length steps.now }
 {
-    match place_from(steps, guess, steps[h].back()) {
+    match place_from(steps, guess, steps.at(h).back()) {
         Some(twin) => twin,
         None => h,
     }
 }
 
 // The place of a step, looked for at `guess` first.
-fn place_from(steps: &[Step], guess: usize, step: Step) -> Option<usize>
+fn place_from(steps: &StepList, guess: usize, step: Step) -> Option<usize>
     requires sorted { IsSorted step_cmp steps.now }
     ensures exact { IsPlace steps.now step result }
     ensures there { IfSome result (λ h. h < length steps.now) }
@@ -189,16 +190,16 @@ fn place_from(steps: &[Step], guess: usize, step: Step) -> Option<usize>
     if stands_at(steps, guess, step) {
         Some(guess)
     } else {
-        place_of(steps, step)
+        steps.place_of(step)
     }
 }
 
-fn stands_at(steps: &[Step], h: usize, step: Step) -> bool
+fn stands_at(steps: &StepList, h: usize, step: Step) -> bool
     ensures there { result ≡ true → h < length steps.now }
     ensures found { result ≡ true → slice_get steps.now h ≡ Some step }
 {
     match steps.get(h) {
-        Some(found) => is_step(*found, step),
+        Some(found) => is_step(found, step),
         None => false,
     }
 }
@@ -215,8 +216,8 @@ pub fn is_step(a: Step, b: Step) -> bool
 /// The place of a step that comes after the one at `last`; `None` where it goes along no link. It is looked for where
 /// that one goes on, then beside the step back, which starts where that one ends.
 pub fn place_after(net: &Net, last: usize, step: Step) -> Option<usize>
-    ensures exact { IsPlace net.now.steps.items step result }
-    ensures there { IfSome result (λ h. h < length net.now.steps.items) }
+    ensures exact { IsPlace net.now.steps step result }
+    ensures there { IfSome result (λ h. h < length net.now.steps) }
 {
     if let Some(next) = net.onward.get(last) {
         if stands_at(&net.steps, *next as usize, step) {
@@ -225,12 +226,12 @@ pub fn place_after(net: &Net, last: usize, step: Step) -> Option<usize>
     }
     match net.twins.get(last) {
         Some(twin) => place_beside(&net.steps, *twin as usize, step),
-        None => place_of(&net.steps, step),
+        None => net.steps.place_of(step),
     }
 }
 
 // The place of a step, looked for beside `near` first.
-fn place_beside(steps: &[Step], near: usize, step: Step) -> Option<usize>
+fn place_beside(steps: &StepList, near: usize, step: Step) -> Option<usize>
     requires sorted { IsSorted step_cmp steps.now }
     ensures exact { IsPlace steps.now step result }
     ensures there { IfSome result (λ h. h < length steps.now) }
@@ -244,25 +245,13 @@ fn place_beside(steps: &[Step], near: usize, step: Step) -> Option<usize>
             return Some(before);
         }
     }
-    place_of(steps, step)
-}
-
-/// The place of a step; `None` where it goes along no link.
-fn place_of(steps: &[Step], step: Step) -> Option<usize>
-    requires sorted { IsSorted step_cmp steps.now }
-    ensures exact { IsPlace steps.now step result }
-    ensures there { IfSome result (λ h. h < length steps.now) }
-{
-    match steps.binary_search(&step) {
-        Ok(h) => Some(h),
-        Err(_) => None,
-    }
+    steps.place_of(step)
 }
 
 // The place of the step that follows each step on its arc.
 fn onward_of(
     alloc: Global,
-    steps: &[Step],
+    steps: &StepList,
     twins: &[u32],
     turns: &[Pt],
 ) -> Result<Vec<u32>, AllocError>
@@ -284,7 +273,7 @@ fn onward_of(
 }
 
 // The place of the step that goes on from step `h`, whose twin is `twin`, where its end is no node, else `h`.
-fn step_after(steps: &[Step], turns: &[Pt], h: usize, twin: usize) -> usize
+fn step_after(steps: &StepList, turns: &[Pt], h: usize, twin: usize) -> usize
     requires sorted { IsSorted step_cmp steps.now }
     requires turns { IsSorted point_cmp turns.now }
     requires here { h < length steps.now }
@@ -299,7 +288,7 @@ fn step_after(steps: &[Step], turns: &[Pt], h: usize, twin: usize) -> usize
 }
 
 // The place of the other step from the start of step `h`, where there are just two and no turn is.
-fn leads_on(steps: &[Step], turns: &[Pt], h: usize) -> Option<usize>
+fn leads_on(steps: &StepList, turns: &[Pt], h: usize) -> Option<usize>
     requires here { h < length steps.now }
     requires sorted { IsSorted step_cmp steps.now }
     requires turns { IsSorted point_cmp turns.now }
@@ -308,7 +297,7 @@ fn leads_on(steps: &[Step], turns: &[Pt], h: usize) -> Option<usize>
 {
     match other_at(steps, h) {
         Some(k) => {
-            if has_point(turns, steps[h].from()) {
+            if has_point(turns, steps.at(h).from()) {
                 None
             } else {
                 Some(k)
@@ -319,7 +308,7 @@ fn leads_on(steps: &[Step], turns: &[Pt], h: usize) -> Option<usize>
 }
 
 // The place of the other step from the start of step `h`, where there are just two.
-fn other_at(steps: &[Step], h: usize) -> Option<usize>
+fn other_at(steps: &StepList, h: usize) -> Option<usize>
     requires here { h < length steps.now }
     requires sorted { IsSorted step_cmp steps.now }
     ensures there { IfSome result (λ k. k < length steps.now) }
@@ -332,14 +321,14 @@ fn other_at(steps: &[Step], h: usize) -> Option<usize>
 }
 
 // The index after `h`, where the steps there and at `h` are the only two from their start.
-fn after_in_two(steps: &[Step], h: usize) -> Option<usize>
+fn after_in_two(steps: &StepList, h: usize) -> Option<usize>
     requires here { h < length steps.now }
     requires sorted { IsSorted step_cmp steps.now }
     ensures there { IfSome result (λ k. k < length steps.now) }
     ensures only { IfSome result (IsOther steps.now h) }
     ensures none { result ≡ None → IsOther steps.now h (h + 1) → ⊥ }
 {
-    let from = steps[h].from();
+    let from = steps.at(h).from();
     if !starts_at(steps, h + 1, from) {
         return None;
     }
@@ -353,14 +342,14 @@ fn after_in_two(steps: &[Step], h: usize) -> Option<usize>
 }
 
 // The index before `h`, where the steps there and at `h` are the only two from their start.
-fn before_in_two(steps: &[Step], h: usize) -> Option<usize>
+fn before_in_two(steps: &StepList, h: usize) -> Option<usize>
     requires here { h < length steps.now }
     requires sorted { IsSorted step_cmp steps.now }
     ensures there { IfSome result (λ k. k < length steps.now) }
     ensures only { IfSome result (IsOther steps.now h) }
     ensures none { result ≡ None → IsOther steps.now h (h - 1) → ⊥ }
 {
-    let from = steps[h].from();
+    let from = steps.at(h).from();
     if !starts_before(steps, h, 1, from) {
         return None;
     }
@@ -374,7 +363,7 @@ fn before_in_two(steps: &[Step], h: usize) -> Option<usize>
 }
 
 // There is a step `k` places before `h`, and it starts at `p`.
-fn starts_before(steps: &[Step], h: usize, k: usize, p: Pt) -> bool
+fn starts_before(steps: &StepList, h: usize, k: usize, p: Pt) -> bool
     ensures there { result ≡ true → k ≤ h }
     ensures yes { result ≡ true → StartsAt steps.now (h - k) p }
     ensures no { result ≡ false → k ≤ h → StartsAt steps.now (h - k) p → ⊥ }
@@ -387,13 +376,13 @@ fn starts_before(steps: &[Step], h: usize, k: usize, p: Pt) -> bool
 }
 
 // There is a step at `k`, and it starts at `p`.
-fn starts_at(steps: &[Step], k: usize, p: Pt) -> bool
+fn starts_at(steps: &StepList, k: usize, p: Pt) -> bool
     ensures there { result ≡ true → k < length steps.now }
     ensures yes { result ≡ true → StartsAt steps.now k p }
     ensures no { result ≡ false → StartsAt steps.now k p → ⊥ }
 {
     match steps.get(k) {
-        Some(step) => starts_from(*step, p),
+        Some(step) => starts_from(step, p),
         None => false,
     }
 }

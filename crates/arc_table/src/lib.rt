@@ -2,8 +2,9 @@
 //!
 //! 1. A vertex is a node where its links are not two, or a line path starts or ends there, or a path turns back there.
 //! 2. Each link is stepped along in two ways. The steps stand in a flat table, ordered by their start and then by
-//!    their end, with the step that follows each of them on its arc. It is merged of the steps up, which are in order
-//!    as the links are, and the steps down, in the order of the greater ends of links. After this the links may go.
+//!    their end, with the step that follows each of them on its arc. Each is kept as the number of its link and a
+//!    direction. The table is merged of the steps up, which are in order as the links are, and the steps down, in the
+//!    order of the greater ends of links.
 //! 3. Paths are gone along in order, and an arc gets its number at the first step along it.
 //! 4. The points of the arcs stand in one pool, whose room is taken before the first of them is pushed.
 //! 5. Signed arcs stand by their starts, those from one vertex in a row; each such vertex is kept once, with the place
@@ -24,6 +25,7 @@ mod nodes;
 mod numbering;
 mod rows;
 mod signed_paths;
+mod step_list;
 mod table;
 mod vertices;
 

@@ -29,7 +29,7 @@ pub struct Numbering {
 
 /// The arcs in the order in which the paths first step along them: those of polygons, then lines, then boxes.
 pub fn ways_of(alloc: Global, net: &Net, s: &Drawing) -> Result<Vec<Way>, AllocError>
-    requires covered { (h : ℕ) → h < length net.now.steps.items → Contains (links_stepped (paths_of s.now)) (link_at net.now h) }
+    requires covered { (h : ℕ) → h < length net.now.steps → Contains (links_stepped (paths_of s.now)) (link_at net.now h) }
     ensures exact { IfOk result (λ v. AreWays net.now v.items) }
     ensures order { IfOk result (λ v. AreInOrder net.now (links_stepped (paths_of s.now)) v.items) }
 {
@@ -158,7 +158,7 @@ fn number_step(
 // Gives the arc along step `h` the next number, where it has none.
 #[tactic(auto, using(crate::proofs::Marks::kept_all, crate::proofs::Order::along_marked))]
 fn number_along(numbering: &mut Numbering, net: &Net, h: usize) -> Result<(), AllocError>
-    requires there { h < length net.now.steps.items }
+    requires there { h < length net.now.steps }
     requires numbering { IsNumbering net.now numbering.old }
     ensures on { OnOk result (GoesFrom net.now numbering.old numbering.new) }
     ensures here { OnOk result (HasMark numbering.new.is_numbered.items h) }
@@ -174,7 +174,7 @@ fn number_along(numbering: &mut Numbering, net: &Net, h: usize) -> Result<(), Al
 // Gives the arc that starts with step `start` the next number, where it has none.
 #[tactic(auto, using(crate::proofs::Marks::kept_all))]
 fn number_from(numbering: &mut Numbering, net: &Net, start: usize) -> Result<(), AllocError>
-    requires there { start < length net.now.steps.items }
+    requires there { start < length net.now.steps }
     requires begins { IsBegin net.now start }
     requires least { BeginsLeast net.now start }
     requires numbering { IsNumbering net.now numbering.old }
@@ -196,8 +196,8 @@ fn number_from(numbering: &mut Numbering, net: &Net, start: usize) -> Result<(),
 
 // The place of a step that begins the arc along step `h`, from either of its ends; of a closed run the least.
 fn start_of(net: &Net, h: usize) -> usize
-    requires { h < length net.now.steps.items }
-    ensures there { result < length net.now.steps.items }
+    requires { h < length net.now.steps }
+    ensures there { result < length net.now.steps }
     ensures begins { IsBegin net.now result }
     ensures least { BeginsLeast net.now result }
     ensures together { HaveMarksTogether net.now h result }
@@ -211,8 +211,8 @@ fn start_of(net: &Net, h: usize) -> usize
 
 // The last step on the way on from step `first`; `None` where it comes round to `first`.
 fn last_on(net: &Net, first: usize) -> Option<usize>
-    requires { first < length net.now.steps.items }
-    ensures there { IfSome result (λ h. h < length net.now.steps.items) }
+    requires { first < length net.now.steps }
+    ensures there { IfSome result (λ h. h < length net.now.steps) }
     ensures exact { IsLastOn net.now.onward.items first result }
 {
     let mut at = first;
@@ -231,8 +231,8 @@ fn last_on(net: &Net, first: usize) -> Option<usize>
 
 // The least place of a step along a closed run, either way round.
 fn least_round(net: &Net, first: usize) -> usize
-    requires { first < length net.now.steps.items }
-    ensures there { result < length net.now.steps.items }
+    requires { first < length net.now.steps }
+    ensures there { result < length net.now.steps }
     ensures round { IsRoundFrom net.now first result }
     ensures least { GoesRound net.now first → IsLeastAlong net.now first result }
 {
@@ -250,10 +250,10 @@ fn least_round(net: &Net, first: usize) -> usize
 
 // Marks the steps along the arc that starts with step `start`, both ways, and answers how many it has.
 fn mark_way(is_numbered: &mut Vec<bool>, net: &Net, start: usize) -> u32
-    requires each { length is_numbered.old.items ≡ length net.now.steps.items }
-    requires there { start < length net.now.steps.items }
+    requires each { length is_numbered.old.items ≡ length net.now.steps }
+    requires there { start < length net.now.steps }
     requires unmarked { slice_index_or is_numbered.old.items start false ≡ false }
-    ensures each { length is_numbered.new.items ≡ length net.now.steps.items }
+    ensures each { length is_numbered.new.items ≡ length net.now.steps }
     ensures some { 0 < result }
     ensures on { GoesOn net.now.onward.items result start }
     ensures marks { AddsMarks net.now is_numbered.old.items is_numbered.new.items result start }
@@ -288,9 +288,9 @@ fn mark_both(marks: &mut Vec<bool>, h: usize, twin: usize)
 
 // The step onward from step `at`, where the arc does not end and has not come round.
 fn next_unmarked(marks: &[bool], net: &Net, at: usize) -> Option<usize>
-    requires each { length marks.now ≡ length net.now.steps.items }
-    requires there { at < length net.now.steps.items }
-    ensures there { IfSome result (λ next. next < length net.now.steps.items) }
+    requires each { length marks.now ≡ length net.now.steps }
+    requires there { at < length net.now.steps }
+    ensures there { IfSome result (λ next. next < length net.now.steps) }
     ensures onward { IfSome result (λ next. next ≡ slice_index net.now.onward.items at) }
     ensures on { IfSome result (λ next. next ≢ at) }
     ensures unmarked { IfSome result (λ next. slice_index_or marks.now next false ≡ false) }

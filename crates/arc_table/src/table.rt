@@ -80,7 +80,7 @@ impl ArcTable {
         ArcTable::of_net(alloc, s.paths(), net)
     }
 
-    /// The same of the net and the paths of a snapped drawing, whose links may have been let go.
+    /// The same of the net and the paths of a snapped drawing; the net is let go.
     pub fn of_net(alloc: Global, d: &Drawing, net: ArcNet) -> Result<ArcTable, AllocError>
         requires net { IsNetOf d.now net.net }
         ensures long { IfOk result (λ t. All (λ arc. 1 < length arc) t) }

@@ -1,5 +1,4 @@
-use Rattle.std.proofs.Common.{◌+◌, ◌-◌, ◌≤◌, Some, refl, sym, ap, ◌∙◌, arith}
-use Rattle.std.proofs.lemmas.Option.{slice_get-get_or}
+use Rattle.std.proofs.Common.{◌+◌, ◌-◌, ◌≤◌, refl, sym, arith}
 use Rattle.arc_table.specs.Steps.{StartsAt}
 use Rattle.arc_table.proofs.Others.{after_is_other, not_just_two}
 use Rattle.arc_table.proofs.half_links.after_in_two.Goals as goal
@@ -7,23 +6,20 @@ use Rattle.arc_table.proofs.half_links.after_in_two.Goals as goal
 pub returns-clause-only : goal.returns-clause-only
 returns-clause-only c =
     let steps = c.args.steps.now in
-    let step = c.index-steps-h.result in
-    let here : StartsAt steps c.args.h c.from-from.result = (step, slice_get-get_or steps c.args.h step c.requires.here ∙ ap Some (sym c.index-steps-h.is), sym c.from-from.ensures.exact) in
+    let here : StartsAt steps c.args.h c.from-from.result = (c.at.result, c.at.ensures.exact, sym c.from-from.ensures.exact) in
     after_is_other steps c.requires.sorted c.from-from.result c.args.h here (c.if-not-starts_at.ensures.yes refl) (c.if-starts_at.ensures.no refl) (c.if-starts_before.ensures.no refl)
 
 pub returns-then-starts_at-clause-none : goal.returns-then-starts_at-clause-none
 returns-then-starts_at-clause-none c =
     let steps = c.args.steps.now in
     let h = c.args.h in
-    let step = c.index-steps-h.result in
-    let here : StartsAt steps h c.from-from.result = (step, slice_get-get_or steps h step c.requires.here ∙ ap Some (sym c.index-steps-h.is), sym c.from-from.ensures.exact) in
+    let here : StartsAt steps h c.from-from.result = (c.at.result, c.at.ensures.exact, sym c.from-from.ensures.exact) in
     λ e o. not_just_two steps h (h + 1) (h + 2) c.from-from.result here o (λ f. omega arith) (λ f. omega arith) (c.if-starts_at.ensures.yes refl)
 
 pub returns-then-starts_before-clause-none : goal.returns-then-starts_before-clause-none
 returns-then-starts_before-clause-none c =
     let steps = c.args.steps.now in
     let h = c.args.h in
-    let step = c.index-steps-h.result in
-    let here : StartsAt steps h c.from-from.result = (step, slice_get-get_or steps h step c.requires.here ∙ ap Some (sym c.index-steps-h.is), sym c.from-from.ensures.exact) in
+    let here : StartsAt steps h c.from-from.result = (c.at.result, c.at.ensures.exact, sym c.from-from.ensures.exact) in
     let l : 1 ≤ h = c.if-starts_before.ensures.there refl in
     λ e o. not_just_two steps h (h + 1) (h - 1) c.from-from.result here o (λ f. omega arith) (λ f. omega arith) (c.if-starts_before.ensures.yes refl)

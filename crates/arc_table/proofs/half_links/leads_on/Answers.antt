@@ -1,5 +1,4 @@
-use Rattle.std.proofs.Common.{Some, refl, sym, ap, ◌∙◌}
-use Rattle.std.proofs.lemmas.Option.{slice_get-get_or}
+use Rattle.std.proofs.Common.{refl, sym}
 use Rattle.arc_table.specs.Steps.{StartsAt}
 use Rattle.arc_table.proofs.Others.{is_plain}
 use Rattle.arc_table.proofs.half_links.leads_on.Goals as goal
@@ -8,8 +7,7 @@ pub returns-else-has_point-clause-exact : goal.returns-else-has_point-clause-exa
 returns-else-has_point-clause-exact c =
     let steps = c.args.steps.now in
     let h = c.args.h in
-    let step = c.index-steps-h.result in
-    let here : StartsAt steps h c.from.result = (step, slice_get-get_or steps h step c.requires.here ∙ ap Some (sym c.index-steps-h.is), sym c.from.ensures.exact) in
+    let here : StartsAt steps h c.from.result = (c.at.result, c.at.ensures.exact, sym c.from.ensures.exact) in
     is_plain steps c.args.turns.now h c.in-Some.k c.from.result here c.in-Some.ensures.exact (c.if-has_point.ensures.no refl)
 
 pub returns-in-None-clause-exact : goal.returns-in-None-clause-exact

@@ -47,5 +47,5 @@ pub returns-clause-exact : goal.returns-clause-exact
 returns-clause-exact c =
     let net = c.args.net.now in
     let inv = c.loop-step.invariant in
-    let whole : c.loop-step._step ≡ length net.steps.items = omega arith in
+    let whole : c.loop-step._step ≡ length net.steps = omega arith in
     absurd (not_round net c.args.first c.requires (λ j l. inv.2 j (omega arith)))

@@ -5,6 +5,6 @@ use Rattle.arc_table.proofs.numbering.last_on.Given as goal
 
 abbrev pub invariant-loop-step : goal.invariant-loop-step
 invariant-loop-step l =
-    (l.at < length l.net.steps.items) × (l.at ≡ place_after l.net.onward.items l._step l.first)
+    (l.at < length l.net.steps) × (l.at ≡ place_after l.net.onward.items l._step l.first)
     × ((j : ℕ) → j < l._step → (get_or l.net.onward.items (place_after l.net.onward.items j l.first) 0 ≢ place_after l.net.onward.items j l.first)
     × (get_or l.net.onward.items (place_after l.net.onward.items j l.first) 0 ≢ l.first))

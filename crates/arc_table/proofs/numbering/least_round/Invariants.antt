@@ -6,6 +6,6 @@ use Rattle.arc_table.proofs.numbering.least_round.Given as goal
 
 abbrev pub invariant-loop-step : goal.invariant-loop-step
 invariant-loop-step l =
-    (l.at < length l.net.steps.items) × (l.least < length l.net.steps.items) × (l.at ≡ place_after l.net.onward.items l._step l.first) × IsRoundFrom l.net l.first l.least
+    (l.at < length l.net.steps) × (l.least < length l.net.steps) × (l.at ≡ place_after l.net.onward.items l._step l.first) × IsRoundFrom l.net l.first l.least
     × ((j : ℕ) → j < l._step → IsLeastAt l.net l.least (place_after l.net.onward.items j l.first))
     × ((j : ℕ) → j < l._step → get_or l.net.onward.items (place_after l.net.onward.items j l.first) 0 ≢ l.first)

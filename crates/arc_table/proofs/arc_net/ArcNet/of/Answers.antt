@@ -19,7 +19,7 @@ returns c = record {
     turns = c.deref.result.now;
     are_turns = subst (AreTurns c.args.s.now) (sym c.deref.ensures.value) c.in_ok-turns.ensures.exact;
     links = are_links c.args.s.now c.links-links.ensures.snapped.arrangement;
-    steps = subst (λ (xs : List Segment). AreSteps xs c.in_ok-net.net.steps.items) c.links-links.ensures.exact c.in_ok-net.ensures.steps;
+    steps = subst (λ (xs : List Segment). AreSteps xs c.in_ok-net.net.steps) c.links-links.ensures.exact c.in_ok-net.ensures.steps;
     on = c.in_ok-net.ensures.on;
   };
 }
