@@ -109,7 +109,7 @@ struct ArcsAndPaths {
 }
 
 impl ArcsAndPaths {
-    // The links are let go before the arcs are made.
+    // The links are let go once the arcs are made, which stand on them until then.
     fn of(alloc: Global, snapped: Snapped) -> Result<ArcsAndPaths, AllocError>
         ensures paths { IfOk result (λ made. made.paths ≡ snapped) }
         ensures kept { IfOk result (λ made. HasPaths snapped) }
@@ -120,9 +120,9 @@ impl ArcsAndPaths {
     {
         let _ = snapped.links();
         let net = ArcNet::of(alloc, &snapped)?;
+        let arcs = ArcTable::of_net(alloc, snapped.paths(), net)?;
         let paths = snapped.into_paths();
         paths.keeps_paths();
-        let arcs = ArcTable::of_net(alloc, &paths, net)?;
         Ok(ArcsAndPaths { arcs, paths })
     }
 }

@@ -10,15 +10,16 @@ use Rattle.arc_table.specs.WholeArcs.{IsWholeArc, StartsAtLeast}
 use Rattle.run_plane.proofs.plane.ArcsAndPaths.of.Goals as goal
 
 pub of_net-requires : goal.of_net-requires
-of_net-requires c = record { net = subst (λ (d : Drawing). IsNetOf d c.in_ok-net.net.net) (sym c.into_paths-paths.ensures.same) c.in_ok-net.ensures.exact }
+of_net-requires c = record { net = subst (λ (d : Drawing). IsNetOf d c.in_ok-net.net.net) (sym c.paths.ensures.same) c.in_ok-net.ensures.exact }
 
 pub returns : goal.returns
 returns c =
     let arcs = c.in_ok-arcs.arcs in
-    let same = c.into_paths-paths.ensures.same in
+    let same = c.paths.ensures.same in
+    let kept = c.into_paths-paths.ensures.same in
     record {
-      paths = same;
-      kept = subst (λ (d : Drawing). HasPaths d) same c.keeps_paths.ensures;
+      paths = kept;
+      kept = subst (λ (d : Drawing). HasPaths d) kept c.keeps_paths.ensures;
       exact = record {
         long = c.in_ok-arcs.ensures.long;
         arrangement = c.links.ensures.snapped.arrangement;
