@@ -1,6 +1,6 @@
 -- The arcs of a table of steps go along exactly its links, along each once.
-use Rattle.std.proofs.Common.{◌≡◌, inl, inr, refl, sym, ap, ◌∙◌, subst, arith, ℕ, zero, suc, ◌<◌, Bool, true, false, List, [], ◌∷◌, ◌++◌, map, reverse, length, get_or, All, Contains, Result, Ok, Err, append_assoc}
-use Rattle.std.specs.Prelude.{◌≢◌, if◌then◌else◌, IfOk}
+use Rattle.std.proofs.Common.{◌≡◌, inl, inr, refl, sym, ap, ◌∙◌, subst, arith, ℕ, zero, suc, ◌<◌, Bool, true, false, List, [], ◌∷◌, ◌++◌, map, reverse, length, get_or, All, Contains, append_assoc}
+use Rattle.std.specs.Prelude.{◌≢◌, if◌then◌else◌}
 use Rattle.std.specs.List.Sorted.{IsPermutation}
 use Rattle.std.proofs.lemmas.List.{map-append, reverse-append, get_or_default}
 use Rattle.std.proofs.lemmas.List.Elements.{All-nil, All-cons, All-head, All-tail, Contains-append_left, Contains-append_cases, Contains-get_or}
@@ -165,7 +165,3 @@ module _ (net : Net) where
                 Contains-permutation (links_along net ways) (links_of_arcs arcs) l same (subst (Contains (links_along net ways)) here (w.all d.0 d.1)));
             others = All-permutation (Contains S) (links_along net ways) (links_of_arcs arcs) same (links_there ways w.ways);
           }
-
-pub if_ok_more : {T E : Type 0} {P Q : T → Type 0} (r : Result T E) → ((t : T) → P t → Q t) → IfOk r P → IfOk r Q
-if_ok_more (Ok t) step h = step t h
-if_ok_more (Err e) step h = tt

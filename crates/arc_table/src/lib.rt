@@ -4,7 +4,7 @@
 //! 2. Each link is stepped along in two ways. The steps stand in a flat table, ordered by their start and then by
 //!    their end, with the step that follows each of them on its arc. Each is kept as the number of its link and a
 //!    direction. The table is merged of the steps up, which are in order as the links are, and the steps down, in the
-//!    order of the greater ends of links.
+//!    order of the greater ends of links. After the arcs have their numbers and points the links may go.
 //! 3. Paths are gone along in order, and an arc gets its number at the first step along it.
 //! 4. The points of the arcs stand in one pool, whose room is taken before the first of them is pushed.
 //! 5. Signed arcs stand by their starts, those from one vertex in a row; each such vertex is kept once, with the place
@@ -22,6 +22,7 @@ mod list_types;
 mod merging;
 mod node_rows;
 mod nodes;
+mod numbered_arcs;
 mod numbering;
 mod rows;
 mod signed_paths;
@@ -31,4 +32,5 @@ mod vertices;
 
 pub use arc_net::ArcNet;
 pub use list_types::{ArcList, Polys, SignedPath, SignedPaths};
+pub use numbered_arcs::NumberedArcs;
 pub use table::ArcTable;

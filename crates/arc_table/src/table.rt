@@ -3,7 +3,6 @@ ghost use Rattle.plane_model.specs.Arcs.{points_of};
 ghost use Rattle.plane_model.specs.Snapped.{links_of};
 ghost use Rattle.arc_table.specs.Along.{GoAlong, links_of_arcs};
 ghost use Rattle.arc_table.specs.Direction.{IsForward};
-ghost use Rattle.arc_table.specs.ArcNets.{IsNetOf};
 ghost use Rattle.arc_table.specs.Around.{IsAround, first_step};
 ghost use Rattle.arc_table.specs.Lookup.{IsArcAt, IsBegunBy};
 ghost use Rattle.arc_table.specs.Order.{AreNumbered};
@@ -11,13 +10,13 @@ ghost use Rattle.arc_table.specs.PathArcs.{IsAloneAt};
 ghost use Rattle.arc_table.specs.WholeArcs.{IsWholeArc, StartsAtLeast};
 
 use crate::arc_net::ArcNet;
-use crate::arc_order::{ArcListing, ArcOrder};
+use crate::arc_order::ArcOrder;
 use crate::first_steps::{
     FirstStep, comes_first, first_step, first_steps, signed_arcs, turn_rows, turning,
 };
 use crate::half_links::{Step, is_step};
 use crate::node_rows::{NodeRows, part_of, rows_of, stands_at};
-use crate::numbering::{pool_of, ways_of};
+use crate::numbered_arcs::NumberedArcs;
 use crate::rows::LinkOrder;
 use crate::vertices::{ArcVertex, inner_vertices, least_at, least_of, lesser_of};
 use grid_base::{ArcId, Drawing, Pt, SignedArc, Snapped, is_before, is_same};
@@ -77,27 +76,20 @@ impl ArcTable {
         ensures numbered { IfOk result (λ t. AreNumbered s.now t) }
     {
         let net = ArcNet::of(alloc, s)?;
-        ArcTable::of_net(alloc, s.paths(), net)
+        let numbered = NumberedArcs::of(alloc, s.paths(), net)?;
+        ArcTable::of_numbered(alloc, numbered)
     }
 
-    /// The same of the net and the paths of a snapped drawing; the net is let go.
-    pub fn of_net(alloc: Global, d: &Drawing, net: ArcNet) -> Result<ArcTable, AllocError>
-        requires net { IsNetOf d.now net.net }
-        ensures long { IfOk result (λ t. All (λ arc. 1 < length arc) t) }
-        ensures forward { IfOk result (λ t. All IsForward t) }
-        ensures links { IfOk result (λ t. GoAlong (links_of d.now) t) }
-        ensures whole { IfOk result (λ t. All (IsWholeArc d.now) t) }
-        ensures least { IfOk result (λ t. All (StartsAtLeast d.now) t) }
-        ensures numbered { IfOk result (λ t. AreNumbered d.now t) }
+    /// The table of arcs that have their numbers.
+    pub fn of_numbered(alloc: Global, numbered: NumberedArcs) -> Result<ArcTable, AllocError>
+        ensures same { IfOk result (λ t. t ≡ numbered) }
     {
-        let ArcNet { net, highs } = net;
-        let ways = ways_of(alloc, &net, d)?;
-        let mut listing = ArcListing::new(alloc, &net, &ways)?;
-        let arcs = pool_of(alloc, &net, &ways, &mut listing)?;
-        drop(ways);
-        let order = listing.into_order();
-        let steps = net.step_count();
-        drop(net);
+        let NumberedArcs {
+            arcs,
+            order,
+            highs,
+            steps,
+        } = numbered;
         ArcTable::of_arcs(alloc, arcs, order, highs, steps)
     }
 

@@ -18,7 +18,7 @@ ghost use Rattle.run_plane.specs.LaidOut.{AreHeld, AreHeldFaces, IsLaidOut, Puts
 ghost use Rattle.run_plane.specs.LineArcs.{AreLineArcs};
 
 use crate::lines::lines_along;
-use arc_table::{ArcNet, ArcTable, SignedPaths};
+use arc_table::{ArcNet, ArcTable, NumberedArcs, SignedPaths};
 use face_sets::FaceSet;
 use face_walk::{Faces, Labels, PathSteps};
 use grid_base::{Drawing, FaceId, FeatId, Snapped};
@@ -109,7 +109,7 @@ struct ArcsAndPaths {
 }
 
 impl ArcsAndPaths {
-    // The links are let go once the arcs are made, which stand on them until then.
+    // The links are let go once the arcs have their numbers, before the table of them is made.
     fn of(alloc: Global, snapped: Snapped) -> Result<ArcsAndPaths, AllocError>
         ensures paths { IfOk result (λ made. made.paths ≡ snapped) }
         ensures kept { IfOk result (λ made. HasPaths snapped) }
@@ -120,9 +120,10 @@ impl ArcsAndPaths {
     {
         let _ = snapped.links();
         let net = ArcNet::of(alloc, &snapped)?;
-        let arcs = ArcTable::of_net(alloc, snapped.paths(), net)?;
+        let numbered = NumberedArcs::of(alloc, snapped.paths(), net)?;
         let paths = snapped.into_paths();
         paths.keeps_paths();
+        let arcs = ArcTable::of_numbered(alloc, numbered)?;
         Ok(ArcsAndPaths { arcs, paths })
     }
 }
