@@ -19,7 +19,16 @@ const MAX_SLABS: u64 = 4096;
 // With fewer slabs boxes that lie in several of them can cost more than the division saves: a cut is left to do it.
 const MIN_SLABS: u32 = 4;
 
+// Each axis has a loop of its own, which computes no side of a box across the other one.
 fn extent_of<T: Boxed>(items: &[T], near: &[u32], axis: Axis) -> Option<Extent> {
+    match axis {
+        Axis::Across => extent_along(items, near, Axis::Across),
+        Axis::Upward => extent_along(items, near, Axis::Upward),
+    }
+}
+
+#[inline(always)]
+fn extent_along<T: Boxed>(items: &[T], near: &[u32], axis: Axis) -> Option<Extent> {
     let first = items.get(*near.first()? as usize)?.rect();
     let mut extent = Extent {
         low: coordinate(first.low(), axis),
