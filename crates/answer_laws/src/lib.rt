@@ -19,15 +19,15 @@ ghost use Rattle.answer_laws.specs.Polygons.{EachPartIsPrinted};
 
 /// The plane of each drawing with closed rings has right answers.
 pub fn right_answers_exist()
-    ensures { RightAnswersExist }
+    ensures holds { RightAnswersExist }
 {}
 
 /// Each part of a region has a polygon that fits it.
 pub fn each_part_is_printed()
-    ensures { EachPartIsPrinted }
+    ensures holds { EachPartIsPrinted }
 {}
 
 /// Each region has polygons that fit it.
 pub fn each_region_is_printed()
-    ensures { EachRegionIsPrinted }
+    ensures holds { EachRegionIsPrinted }
 {}

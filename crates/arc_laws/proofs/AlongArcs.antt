@@ -83,14 +83,14 @@ module _ (s : Drawing) (distinct : IsDistinct (links_of s)) (closed : (ring : Pa
       let size : 1 < length arc = long n [] below in
       let back_size = length-reverse arc in
       let (P, first) = two_first arc size in
-      let (B, behind) = two_first (reverse arc) (omega arith) in
+      let (B, after) = two_first (reverse arc) (omega arith) in
       let far : point_at (reverse arc) 0 ≡ point_at arc (length arc - 1) = get_or-reverse arc 0 _ (omega arith) ∙ ap (point_at arc) (let e : length arc - 1 - 0 ≡ length arc - 1 = omega arith in e) in
       let near : point_at (reverse arc) 1 ≡ point_at arc (length arc - 2) = get_or-reverse arc 1 _ (omega arith) ∙ ap (point_at arc) (let e : length arc - 1 - 1 ≡ length arc - 2 = omega arith in e) in
       let x : GridPoint = point_at arc 0 in
       let y : GridPoint = point_at arc (length arc - 1) in
       let told : is_backward arc ≡ false = (fore n [] below).forward in
       let (not_far, not_near) = or_parts (is_before y x) (same_point y x && is_before (point_at arc (length arc - 2)) (point_at arc 1)) told in
-      let ends : reverse arc ≡ y ∷ point_at arc (length arc - 2) ∷ B = behind ∙ (λ i. far i ∷ near i ∷ B) in
+      let ends : reverse arc ≡ y ∷ point_at arc (length arc - 2) ∷ B = after ∙ (λ i. far i ∷ near i ∷ B) in
       elim (cases_Bool (is_before x y)) [
         | inl less ↦
             (let both = first_apart x y (point_at arc 1 ∷ P) (point_at arc (length arc - 2) ∷ B) less in (
@@ -230,21 +230,21 @@ module _ (s : Drawing) (distinct : IsDistinct (links_of s)) (closed : (ring : Pa
       T_long : length (tail Q) ≡ n
       T_long = tail_long Q n long_by
 
-      behind_long : length (drop j (tail Q)) ≡ n - j
-      behind_long = let t = T_long in let d = length-drop j (tail Q) in omega arith
+      after_long : length (drop j (tail Q)) ≡ n - j
+      after_long = let t = T_long in let d = length-drop j (tail Q) in omega arith
 
-      behind : drop j (tail Q) ≡ B ++ z ∷ []
-      behind = let t = behind_long in last_put (drop j (tail Q)) (omega arith)
+      after : drop j (tail Q) ≡ B ++ z ∷ []
+      after = let t = after_long in last_put (drop j (tail Q)) (omega arith)
 
       z_is : z ≡ point_at Q n
       z_is =
-          let t = behind_long in
+          let t = after_long in
           get_or-drop j (tail Q) (length (drop j (tail Q)) - 1) _ ∙ tail_at Q (j + (length (drop j (tail Q)) - 1)) ∙ ap (point_at Q) (let e : suc (j + (length (drop j (tail Q)) - 1)) ≡ n = omega arith in e)
 
       Q_is : Q ≡ point_at Q 0 ∷ (A ++ (B ++ z ∷ []))
       Q_is =
           let front : Q ≡ point_at Q 0 ∷ tail Q = first_of Q (omega arith) in
-          front ∙ ap (λ (p : Path). point_at Q 0 ∷ p) (sym (take-append-drop j (tail Q)) ∙ ap (λ (p : Path). take j (tail Q) ++ p) behind)
+          front ∙ ap (λ (p : Path). point_at Q 0 ∷ p) (sym (take-append-drop j (tail Q)) ∙ ap (λ (p : Path). take j (tail Q) ++ p) after)
         where
           first_of : (path : Path) → 0 < length path → path ≡ point_at path 0 ∷ tail path
           first_of [] l = absurd (omega arith)
@@ -254,7 +254,7 @@ module _ (s : Drawing) (distinct : IsDistinct (links_of s)) (closed : (ring : Pa
       W_is =
           let cut : drop j Q ≡ point_at Q j ∷ drop (suc j) Q = drop-cons Q j _ (omega arith) in
           let later : drop (suc j) Q ≡ drop j (tail Q) = drop_tail j Q in
-          ap (λ (p : Path). p ++ A) (cut ∙ ap (λ (p : Path). point_at Q j ∷ p) (later ∙ behind)) ∙ ap (λ (p : Path). point_at Q j ∷ p) (append_assoc B (z ∷ []) A)
+          ap (λ (p : Path). p ++ A) (cut ∙ ap (λ (p : Path). point_at Q j ∷ p) (later ∙ after)) ∙ ap (λ (p : Path). point_at Q j ∷ p) (append_assoc B (z ∷ []) A)
         where
           drop_tail : (k : ℕ) (path : Path) → drop (suc k) path ≡ drop k (tail path)
           drop_tail zero [] = refl
@@ -263,10 +263,10 @@ module _ (s : Drawing) (distinct : IsDistinct (links_of s)) (closed : (ring : Pa
 
       B_apart : All (λ y. same_point z y ≡ false) B
       B_apart i d l =
-          let t = behind_long in
+          let t = after_long in
           let short = put_long (drop j (tail Q)) (omega arith) in
           let at : get_or B i d ≡ point_at Q (suc (j + i)) =
-          get_or_default B i d (point_at [] 0) l ∙ sym (get_or_append_left B (z ∷ []) (point_at [] 0) i l) ∙ ap (λ (p : Path). point_at p i) (sym behind) ∙ get_or-drop j (tail Q) i _ ∙ tail_at Q (j + i) in
+          get_or_default B i d (point_at [] 0) l ∙ sym (get_or_append_left B (z ∷ []) (point_at [] 0) i l) ∙ ap (λ (p : Path). point_at p i) (sym after) ∙ get_or-drop j (tail Q) i _ ∙ tail_at Q (j + i) in
           false_from_ne_true (same_point z (get_or B i d)) (λ e.
           apart_round s distinct closed ordered arcs along whole long a below j there n long_by round passed 0 (suc (j + i)) (omega arith) (omega arith)
           (sym at ∙ sym (same_point_from z (get_or B i d) e) ∙ z_is ∙ sym round))

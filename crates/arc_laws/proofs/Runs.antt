@@ -58,11 +58,11 @@ turned_whole [] (y ∷ ys) = sym (append-nil (y ∷ ys))
 turned_whole (x ∷ xs) ys =
     ap (turned (length xs)) (append_assoc xs ys (x ∷ [])) ∙ turned_whole xs (ys ++ x ∷ []) ∙ append_assoc ys (x ∷ []) xs
 
-place_behind : {A : Type 0} (test : A → Bool) (xs ys : List A) (z : A) → All (λ x. test x ≡ false) xs → test z ≡ true → place_of test (xs ++ z ∷ ys) ≡ length xs
-place_behind test [] ys z none e = λ i. cond (e i) 0 (suc (place_of test ys))
-place_behind test (x ∷ xs) ys z none e =
+place_after : {A : Type 0} (test : A → Bool) (xs ys : List A) (z : A) → All (λ x. test x ≡ false) xs → test z ≡ true → place_of test (xs ++ z ∷ ys) ≡ length xs
+place_after test [] ys z none e = λ i. cond (e i) 0 (suc (place_of test ys))
+place_after test (x ∷ xs) ys z none e =
     (λ i. cond (All-head (λ x. test x ≡ false) x xs none i) 0 (suc (place_of test (xs ++ z ∷ ys))))
-    ∙ ap suc (place_behind test xs ys z (All-tail (λ x. test x ≡ false) x xs none) e)
+    ∙ ap suc (place_after test xs ys z (All-tail (λ x. test x ≡ false) x xs none) e)
 
 module _ {A : Type 0} (before : A → A → Bool) (order : IsStrictOrder before) where
   pub least_in : (d x : A) (xs : List A) → Contains (x ∷ xs) (least_of before d (x ∷ xs))
@@ -92,7 +92,7 @@ module _ {A : Type 0} (before : A → A → Bool) (order : IsStrictOrder before)
 pub begun_is : (p x z : GridPoint) (A B : Path) → x ≡ z → All (λ y. same_point z y ≡ false) B → ((y : GridPoint) → Contains (B ++ z ∷ A) y → is_before y z ≡ false) → begun_at_least (p ∷ (B ++ z ∷ A)) ≡ x ∷ (A ++ (B ++ z ∷ []))
 begun_is p x z A B same none low =
     (λ i. turned (place_of (same_point (least i)) (B ++ z ∷ A)) (B ++ z ∷ A) ++ least i ∷ [])
-    ∙ ap (λ (n : ℕ). turned n (B ++ z ∷ A) ++ z ∷ []) (place_behind (same_point z) B A z none (same_point_to z z refl))
+    ∙ ap (λ (n : ℕ). turned n (B ++ z ∷ A) ++ z ∷ []) (place_after (same_point z) B A z none (same_point_to z z refl))
     ∙ ap (λ (xs : Path). xs ++ z ∷ []) (turned_whole B (z ∷ A))
     ∙ ap (λ (xs : Path). z ∷ xs) (append_assoc A B (z ∷ []))
     ∙ ap (λ (y : GridPoint). y ∷ (A ++ (B ++ z ∷ []))) (sym same)

@@ -11,5 +11,5 @@ ghost use Rattle.arc_laws.specs.Modelled.{ArcsAreModelled};
 
 /// The arcs of a table are those that the model takes along the steps of the paths, in the same order.
 pub fn arcs_are_modelled()
-    ensures { ArcsAreModelled }
+    ensures holds { ArcsAreModelled }
 {}

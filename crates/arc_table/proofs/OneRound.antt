@@ -51,8 +51,8 @@ module _ (path : Path) (closed : IsClosed path) (first : ℕ) (there : first + 1
   abbrev ahead : Path
   ahead = drop first path
 
-  abbrev behind : Path
-  behind = take first (tail path)
+  abbrev past : Path
+  past = take first (tail path)
 
   size_ahead : length ahead ≡ length path - first
   size_ahead = length-drop first path
@@ -60,7 +60,7 @@ module _ (path : Path) (closed : IsClosed path) (first : ℕ) (there : first + 1
   start_is : point_at (round_from first path) 0 ≡ point_at path first
   start_is =
       let s = size_ahead in
-      get_or_append_left ahead behind _ 0 (omega arith) ∙ get_or-drop first path 0 _ ∙ ap (point_at path) (let e : first + 0 ≡ first = omega arith in e)
+      get_or_append_left ahead past _ 0 (omega arith) ∙ get_or-drop first path 0 _ ∙ ap (point_at path) (let e : first + 0 ≡ first = omega arith in e)
 
   abbrev IsAt : ℕ → Type 0
   IsAt k = (i : ℕ) × (i < length (round_from first path)) × (point_at (round_from first path) i ≡ point_at path k)
@@ -68,13 +68,13 @@ module _ (path : Path) (closed : IsClosed path) (first : ℕ) (there : first + 1
   from_ahead : (k : ℕ) → k < length path → (k < first → ⊥) → IsAt k
   from_ahead k l more =
       let s = size_ahead in
-      let t = length-append ahead behind in
+      let t = length-append ahead past in
       elim (cases_lt k first) [
         | inl less ↦ absurd (more less)
         | inr m ↦ (
           k - first,
           omega arith,
-          get_or_append_left ahead behind _ (k - first) (omega arith) ∙ get_or-drop first path (k - first) _ ∙ ap (point_at path) (let e : first + (k - first) ≡ k = omega arith in e),
+          get_or_append_left ahead past _ (k - first) (omega arith) ∙ get_or-drop first path (k - first) _ ∙ ap (point_at path) (let e : first + (k - first) ≡ k = omega arith in e),
         )
       ]
 
@@ -85,12 +85,12 @@ module _ (path : Path) (closed : IsClosed path) (first : ℕ) (there : first + 1
       (i, m, is ∙ closed_at path (length path - 1) (omega arith) closed)
   place_of (suc j) l = elim (cases_lt (suc j) first) [
     | inl less ↦ (
-        let t = length-append ahead behind in
+        let t = length-append ahead past in
         let u = length-take first (tail path) in
         let v = tail_size path (omega arith) in (
           length ahead + j,
           omega arith,
-          get_or-append-add ahead behind j _ ∙ get_or-take first (tail path) j _ (omega arith) ∙ tail_at path j,
+          get_or-append-add ahead past j _ ∙ get_or-take first (tail path) j _ (omega arith) ∙ tail_at path j,
         ))
     | inr more ↦ from_ahead (suc j) l (λ less. omega arith)
   ]

@@ -25,15 +25,15 @@ step_cmp-total = then_total (on_total (λ (s : Segment). s.start) point_cmp-tota
 pub not_before : (p q : GridPoint) → is_lt (point_cmp p q) ≡ false → is_before p q ≡ false
 not_before p q e = go (int_cmp p.x q.x) (int_cmp p.y q.y) (int_ranked p.x q.x (int_cmp p.x q.x) refl) (int_ranked p.y q.y (int_cmp p.y q.y) refl) e
   where
-    behind : IsBefore q p → is_before p q ≡ false
-    behind u = false_from_ne_true (is_before p q) (λ b. is_before-IsStrictOrder.irreflexive p (is_before-IsStrictOrder.trans p q p b (before_to q p u)))
+    past : IsBefore q p → is_before p q ≡ false
+    past u = false_from_ne_true (is_before p q) (λ b. is_before-IsStrictOrder.irreflexive p (is_before-IsStrictOrder.trans p q p b (before_to q p u)))
 
     go : (a b : Ordering) → MatchOrdering a (p.x <ℤ q.x) (p.x ≡ q.x) (q.x <ℤ p.x) → MatchOrdering b (p.y <ℤ q.y) (p.y ≡ q.y) (q.y <ℤ p.y) → is_lt (ordering_then a b) ≡ false → is_before p q ≡ false
     go Less b h k e = absurd (let f : true ≡ false = e in cc)
     go Equal Less h k e = absurd (let f : true ≡ false = e in cc)
     go Equal Equal h k e = false_from_ne_true (is_before p q) (λ b. is_before-IsStrictOrder.irreflexive q (subst (λ (r : GridPoint). is_before r q ≡ true) (point_is p q h k) b))
-    go Equal Greater h k e = behind (inr (sym h, k))
-    go Greater b h k e = behind (inl h)
+    go Equal Greater h k e = past (inr (sym h, k))
+    go Greater b h k e = past (inl h)
 
 pub same_step_is : (s t : Segment) → step_cmp s t ≡ Equal → s ≡ t
 same_step_is s t e = go (point_cmp s.start t.start) (point_cmp s.stop t.stop) refl refl e

@@ -162,8 +162,8 @@ ahead_from m n c e = go (nat_lt m n) (nat_eq m n) c refl refl refl e
     go false true false f g h e = absurd (cc)
     go false false d f g h e = absurd (cc)
 
-behind_from : (m n : ℕ) (c : Bool) → (nat_lt m n || (nat_eq m n && c)) ≡ false → (n ≤ m) × (m ≡ n → c ≡ false)
-behind_from m n c e = go (nat_lt m n) (nat_eq m n) c refl refl refl e
+after_from : (m n : ℕ) (c : Bool) → (nat_lt m n || (nat_eq m n && c)) ≡ false → (n ≤ m) × (m ≡ n → c ≡ false)
+after_from m n c e = go (nat_lt m n) (nat_eq m n) c refl refl refl e
   where
     go : (a b d : Bool) → nat_lt m n ≡ a → nat_eq m n ≡ b → c ≡ d → (a || (b && d)) ≡ false → (n ≤ m) × (m ≡ n → c ≡ false)
     go true b d f g h e = absurd (cc)
@@ -171,8 +171,8 @@ behind_from m n c e = go (nat_lt m n) (nat_eq m n) c refl refl refl e
     go false true false f g h e = (ltb-false m n f, λ i. h)
     go false false d f g h e = (ltb-false m n f, λ i. absurd (eqb-false m n g i))
 
-behind_to : (m n : ℕ) (c : Bool) → n ≤ m → (m ≡ n → c ≡ false) → (nat_lt m n || (nat_eq m n && c)) ≡ false
-behind_to m n c l f = go (nat_eq m n) refl
+after_to : (m n : ℕ) (c : Bool) → n ≤ m → (m ≡ n → c ≡ false) → (nat_lt m n || (nat_eq m n && c)) ≡ false
+after_to m n c l f = go (nat_eq m n) refl
   where
     go : (b : Bool) → nat_eq m n ≡ b → (nat_lt m n || (nat_eq m n && c)) ≡ false
     go true g = (λ i. le-ltb m n l i || (g i && f (eqb-true m n g) i))
@@ -180,18 +180,18 @@ behind_to m n c l f = go (nat_eq m n) refl
 
 round_once : (s t : Segment) → comes_round_first s t ≡ true → comes_round_first t s ≡ false
 round_once s t e = elim (ahead_from (half_of s) (half_of t) (int_lt (pos 0) (cross s t)) e) [
-  | inl l ↦ behind_to (half_of t) (half_of s) (int_lt (pos 0) (cross t s)) (omega arith) (λ f. absurd (omega arith))
-  | inr r ↦ behind_to (half_of t) (half_of s) (int_lt (pos 0) (cross t s)) (let f = r.0 in omega arith)
+  | inl l ↦ after_to (half_of t) (half_of s) (int_lt (pos 0) (cross t s)) (omega arith) (λ f. absurd (omega arith))
+  | inr r ↦ after_to (half_of t) (half_of s) (int_lt (pos 0) (cross t s)) (let f = r.0 in omega arith)
       (λ f. is_not_less (pos 0) (cross t s) (let g = lt_from (pos 0) (cross s t) r.1 in let h = cross-swapped s t in omega order))
 ]
 
 round_chain : (s t u : Segment) → comes_round_first s t ≡ false → comes_round_first t u ≡ false → comes_round_first s u ≡ false
 round_chain s t u e f =
-    let a = behind_from (half_of s) (half_of t) (int_lt (pos 0) (cross s t)) e in
-    let b = behind_from (half_of t) (half_of u) (int_lt (pos 0) (cross t u)) f in
+    let a = after_from (half_of s) (half_of t) (int_lt (pos 0) (cross s t)) e in
+    let b = after_from (half_of t) (half_of u) (int_lt (pos 0) (cross t u)) f in
     let l = a.0 in
     let m = b.0 in
-    behind_to (half_of s) (half_of u) (int_lt (pos 0) (cross s u)) (omega arith)
+    after_to (half_of s) (half_of u) (int_lt (pos 0) (cross s u)) (omega arith)
     (λ g.
     let st : half_of s ≡ half_of t = omega arith in
     let tu : half_of t ≡ half_of u = omega arith in

@@ -242,9 +242,9 @@ module _ (d : Drawing) (net : Net) (turns : List GridPoint) (turned : AreTurns d
     along_least here (suc j) l =
         let s = size in
         let m : j < n = omega arith in
-        let (ahead, behind) = w.least (goes_round here) j in
+        let (ahead, past) = w.least (goes_round here) j in
         let back : point_at P (suc j) ≡ (step (twin net (at j))).start = point_after j m ∙ ap (λ (t : Segment). t.start) (sym (twin_step (at j) (at_there j))) in
-        ap (λ (p : GridPoint). is_before p (point_at P 0)) back ∙ none_starts_before net.steps made.sorted way.start (twin net (at j)) _ behind (twin_there net (at j) (at_there j))
+        ap (λ (p : GridPoint). is_before p (point_at P 0)) back ∙ none_starts_before net.steps made.sorted way.start (twin net (at j)) _ past (twin_there net (at j) (at_there j))
 
   arc_whole : (way : Way) → IsWay net way → IsWholeArc d (arc_points net way)
   arc_whole way w = go (is_backward (points_along net way))

@@ -16,7 +16,7 @@ pub fn turn_forward(points: &mut Vec<Pt>)
 
 fn turn_by_ends(points: &mut Vec<Pt>)
     requires { 1 < length points.old.items }
-    ensures { points.new.items ≡ in_direction points.old.items }
+    ensures exact { points.new.items ≡ in_direction points.old.items }
 {
     if is_backward(points) {
         points.reverse();
@@ -25,7 +25,7 @@ fn turn_by_ends(points: &mut Vec<Pt>)
 
 fn is_backward(points: &[Pt]) -> bool
     requires { 1 < length points.now }
-    ensures { result ≡ is_backward points.now }
+    ensures exact { result ≡ is_backward points.now }
 {
     let last = points.len() - 1;
     is_before(points[last], points[0])

@@ -17,7 +17,7 @@ pub struct FirstStep {
     pub arc: SignedArc,
 }
 
-/// The signed arcs of so many arcs, each arc forward and then reversed.
+/// The signed arcs of `count` arcs, each arc forward and then reversed.
 pub fn signed_arcs(alloc: Global, count: u32) -> Result<Vec<SignedArc>, AllocError>
     ensures exact { IfOk result (λ v. v.items ≡ signed_below count) }
 {

@@ -118,7 +118,7 @@ impl<'a> Net<'a> {
     /// The step at this place, counted from 0.
     pub fn step(&self, h: usize) -> Step
         requires { h < length self.now.steps }
-        ensures { slice_get self.now.steps h ≡ Some result }
+        ensures exact { slice_get self.now.steps h ≡ Some result }
     {
         self.steps.at(h)
     }

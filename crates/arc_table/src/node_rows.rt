@@ -34,7 +34,7 @@ pub fn rows_of(alloc: Global, firsts: &[FirstStep]) -> Result<NodeRows, AllocErr
 }
 
 impl NodeRows {
-    // No row, with room for so many.
+    // No row, with room for `count` rows.
     fn with_room(alloc: Global, count: usize) -> Result<NodeRows, AllocError>
         ensures none { IfOk result (λ r. (r.nodes.items ≡ []) × (r.rows.items ≡ 0 ∷ [])) }
     {

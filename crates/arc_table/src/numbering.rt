@@ -356,7 +356,7 @@ fn push_arc(pool: &mut SpanPool, points: &Vec<Pt>)
 // How many points the arcs have together.
 fn point_count(ways: &[Way]) -> u64
     requires { length ways.now < 2 ^ 32 }
-    ensures { result ≡ sum_by points_of_way ways.now }
+    ensures exact { result ≡ sum_by points_of_way ways.now }
 {
     let mut count = 0u64;
     for way in ways {

@@ -122,7 +122,7 @@ impl Buckets {
 
 // The rectangle of all grid points.
 fn whole_grid() -> Result<Rect, AllocError>
-    ensures { IfOk result (λ rect. rect ≡ whole) }
+    ensures exact { IfOk result (λ rect. rect ≡ whole) }
 {
     let low = Pt::new(-LIMIT, -LIMIT).ok_or(AllocError)?;
     let high = Pt::new(LIMIT, LIMIT).ok_or(AllocError)?;

@@ -55,7 +55,7 @@ fn spread_of<T: Boxed>(
 
 // The cut next to `at`: the points up to a number, and those past it.
 fn cut_at(rect: Rect, axis: Axis, at: i64) -> Option<Slabs>
-    ensures { IfSome result (DividesRect rect) }
+    ensures found { IfSome result (DividesRect rect) }
 {
     let low = coordinate(rect.low(), axis);
     let high = coordinate(rect.high(), axis);

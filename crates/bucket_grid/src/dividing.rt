@@ -49,7 +49,7 @@ fn extent_along<T: Boxed>(items: &[T], near: &[u32], axis: Axis) -> Option<Exten
 
 /// The slabs, where they begin and end within the rectangle.
 pub fn dividing(rect: Rect, slabs: Slabs) -> Option<Slabs>
-    ensures { IfSome result (DividesRect rect) }
+    ensures found { IfSome result (DividesRect rect) }
 {
     let low = coordinate(rect.low(), slabs.axis);
     let high = coordinate(rect.high(), slabs.axis);

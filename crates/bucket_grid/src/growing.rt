@@ -43,7 +43,7 @@ const CELL_SIZE: u64 = 8;
 
 // The number that the next item of a list will have.
 fn next_number(len: usize) -> Result<u32, AllocError>
-    ensures { IfOk result (λ n. n ≡ len) }
+    ensures exact { IfOk result (λ n. n ≡ len) }
 {
     if len >= u32::MAX as usize {
         return Err(AllocError);
@@ -52,7 +52,7 @@ fn next_number(len: usize) -> Result<u32, AllocError>
 }
 
 fn add_leaf(forest: &mut Forest, rect: Rect, near: IdList) -> Result<Node, AllocError>
-    ensures { IfOk result (λ top. (steps : ℕ) (boxes : List Corners) → near ≡ boxes_near boxes rect →
+    ensures exact { IfOk result (λ top. (steps : ℕ) (boxes : List Corners) → near ≡ boxes_near boxes rect →
         Grew steps boxes (Holds rect) forest.old.nodes.items forest.new.nodes.items forest.old.rects.items forest.new.rects.items forest.old.near forest.new.near (λ g. top)) }
 {
     let place = next_number(forest.rects.len())?;

@@ -7,14 +7,14 @@ use std::alloc::{AllocError, Global};
 
 // Whether two ranges share a number.
 fn overlap(low: i64, high: i64, other_low: i64, other_high: i64) -> bool
-    ensures { result ≡ (int_le low other_high && int_le other_low high) }
+    ensures exact { result ≡ (int_le low other_high && int_le other_low high) }
 {
     low <= other_high && other_low <= high
 }
 
 /// Whether two rectangles share a grid point.
 pub fn share(a: Rect, b: Rect) -> bool
-    ensures { result ≡ share_point a b }
+    ensures exact { result ≡ share_point a b }
 {
     overlap(a.low().x(), a.high().x(), b.low().x(), b.high().x())
         && overlap(a.low().y(), a.high().y(), b.low().y(), b.high().y())

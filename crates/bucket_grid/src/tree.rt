@@ -34,7 +34,7 @@ pub enum Node {
 
 /// The number of a point along an axis.
 pub fn coordinate(p: Pt, axis: Axis) -> i64
-    ensures { result ≡ along axis p }
+    ensures exact { result ≡ along axis p }
 {
     match axis {
         Axis::Across => p.x(),

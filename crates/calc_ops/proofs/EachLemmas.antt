@@ -15,7 +15,7 @@ use Rattle.table_terms.specs.Refusals.{on_ok}
 use Rattle.table_rows.specs.declared.fault.TableWhy.{TableWhy}
 use Rattle.table_rows.specs.Rows.{row_at}
 use Rattle.table_ops.specs.Filtering.{value_for}
-use Rattle.table_ops.proofs.Testing.{behind, behind_one}
+use Rattle.table_ops.proofs.Testing.{past, after_one}
 use Rattle.calc_ops.specs.EachRow.{with_name, with_value, assigned_row, assigned_rows, names_after, places_after}
 
 -- ---- names that are appended to others
@@ -152,11 +152,11 @@ module _ (names : List Text) (items : List Assign) (n : ℕ) (row : RowValues) (
 -- ---- one row further
 
 pub rows_step : (names : List Text) (list : List Assigned) (rows : List RowValues) (n : ℕ) (out : List RowValues) (row : RowValues) (longer : List RowValues) → n < length rows → assigned_row names n list (row_at rows n) ≡ Ok row → longer ≡ out ++ row ∷ []
-    → behind out (assigned_rows names list n (drop n rows)) ≡ behind longer (assigned_rows names list (n + 1) (drop (n + 1) rows))
+    → past out (assigned_rows names list n (drop n rows)) ≡ past longer (assigned_rows names list (n + 1) (drop (n + 1) rows))
 rows_step names list rows n out row longer less said pushed =
-    ap (behind out)
+    ap (past out)
     (ap (assigned_rows names list n) (drop-cons rows n [] less)
     ∙ ap (λ (r : Result RowValues TableWhy). on_ok r (λ one. on_ok (assigned_rows names list (n + 1) (drop (suc n) rows)) (λ others. Ok (one ∷ others)))) said)
-    ∙ behind_one out row (assigned_rows names list (n + 1) (drop (suc n) rows))
-    ∙ ap (λ (k : ℕ). behind (out ++ row ∷ []) (assigned_rows names list (n + 1) (drop k rows))) (sym (add-one n))
-    ∙ ap (λ (o : List RowValues). behind o (assigned_rows names list (n + 1) (drop (n + 1) rows))) (sym pushed)
+    ∙ after_one out row (assigned_rows names list (n + 1) (drop (suc n) rows))
+    ∙ ap (λ (k : ℕ). past (out ++ row ∷ []) (assigned_rows names list (n + 1) (drop k rows))) (sym (add-one n))
+    ∙ ap (λ (o : List RowValues). past o (assigned_rows names list (n + 1) (drop (n + 1) rows))) (sym pushed)

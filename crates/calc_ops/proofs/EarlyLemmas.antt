@@ -6,15 +6,15 @@ use Rattle.std.proofs.lemmas.List.Sums.{sum_by_push}
 use Rattle.json_values.specs.Value.{same}
 use Rattle.json_values.specs.declared.value.Value.{Value}
 use Rattle.table_rows.specs.Same.{same_decides}
-use Rattle.calc_ops.specs.EarlyRows.{early_behind, same_equivalent}
+use Rattle.calc_ops.specs.EarlyRows.{early_after, same_equivalent}
 
 pub early_push : (most : ℕ) (before keys : List Value) (key : Value)
-    → early_behind most before (keys ++ key ∷ []) ≡ early_behind most before keys ++ nat_lt (count_by (same key) (before ++ keys)) most ∷ []
+    → early_after most before (keys ++ key ∷ []) ≡ early_after most before keys ++ nat_lt (count_by (same key) (before ++ keys)) most ∷ []
 early_push most before [] key = ap (λ (vs : List Value). nat_lt (count_by (same key) vs) most ∷ []) (sym (append-nil before))
 early_push most before (k ∷ keys) key =
     ap (λ (bs : List Bool). nat_lt (count_by (same k) before) most ∷ bs)
     (early_push most (before ++ k ∷ []) keys key
-    ∙ ap (λ (vs : List Value). early_behind most (before ++ k ∷ []) keys ++ nat_lt (count_by (same key) vs) most ∷ []) (append_assoc before (k ∷ []) keys))
+    ∙ ap (λ (vs : List Value). early_after most (before ++ k ∷ []) keys ++ nat_lt (count_by (same key) vs) most ∷ []) (append_assoc before (k ∷ []) keys))
 
 -- a number that is counted up to `most`
 pub early_is : (n most : ℕ) → nat_lt (min n most) most ≡ nat_lt n most

@@ -17,12 +17,12 @@ use Rattle.table_rows.specs.declared.fault.TableWhy.{TableWhy}
 use Rattle.calc_ops.specs.Keys.{keys_of}
 
 -- for each of some keys that stand after others, whether fewer than `most` before it are the same
-abbrev pub early_behind : ℕ → List Value → List Value → List Bool
-early_behind most before [] = []
-early_behind most before (key ∷ keys) = nat_lt (count_by (same key) before) most ∷ early_behind most (before ++ key ∷ []) keys
+abbrev pub early_after : ℕ → List Value → List Value → List Bool
+early_after most before [] = []
+early_after most before (key ∷ keys) = nat_lt (count_by (same key) before) most ∷ early_after most (before ++ key ∷ []) keys
 
 abbrev pub are_early : ℕ → List Value → List Bool
-are_early most keys = early_behind most [] keys
+are_early most keys = early_after most [] keys
 
 -- the numbers of the early rows, or those of the others
 abbrev pub uniq_rows : TableContent → Tree → ℕ → Bool → Result (List ℕ) TableWhy

@@ -54,7 +54,7 @@ fn words_of(alloc: Global, texts: &[Json]) -> Result<Words, AllocError> {
 
 // How many bytes a call moves at most.
 fn most_of(case: &Json) -> u32
-    ensures { 1 ≤ result }
+    ensures some { 1 ≤ result }
 {
     match member(case, "most") {
         Some(most) => number_of(most).max(1),

@@ -11,5 +11,5 @@ ghost use Rattle.chain_model.specs.Running.{run_from};
 
 /// A chain without commands is done, and writes nothing.
 pub fn no_commands_are_done()
-    ensures { (P : Plane) (A : Answers) (sources : SourceLayers) (n : ℕ) (s : State) → run_from P A sources n s [] ≡ ([], done) }
+    ensures holds { (P : Plane) (A : Answers) (sources : SourceLayers) (n : ℕ) (s : State) → run_from P A sources n s [] ≡ ([], done) }
 {}

@@ -47,9 +47,9 @@ commands_of_cut n (w ∷ ws) = go (is_command w) refl (commands_of_cut (n + 1) w
         skipped ∙ later ∙ sym (ap (λ (k : ℕ). commands_of (n + k) (drop k (w ∷ ws))) p ∙ ap (λ (k : ℕ). commands_of k (drop (plain ws) ws)) m)
 
 -- what is left after the first group begins with a command word
-pub begins_behind_cut : (ws : List Text) → BeginsACommand (drop (plain ws) ws)
-begins_behind_cut [] = tt
-begins_behind_cut (w ∷ ws) = go (is_command w) refl (begins_behind_cut ws)
+pub begins_after_cut : (ws : List Text) → BeginsACommand (drop (plain ws) ws)
+begins_after_cut [] = tt
+begins_after_cut (w ∷ ws) = go (is_command w) refl (begins_after_cut ws)
   where
     go : (t : Bool) → is_command w ≡ t → BeginsACommand (drop (plain ws) ws) → BeginsACommand (drop (plain (w ∷ ws)) (w ∷ ws))
     go true e later =
@@ -81,8 +81,8 @@ module _ (refuses : Refusals) (places : ℕ) (s : SoFar) (n m k : ℕ) (w : Text
 pub next_command : (refuses : Refusals) (places : ℕ) (s : SoFar) (n m k : ℕ) (w v : Text) (ws rest group next : List Text) → w ≡ v → 0 < length ws → v ≡ get_or ws 0 v → rest ≡ drop 1 ws → BeginsACommand ws
     → k ≡ plain rest → group ≡ take k rest → next ≡ drop k rest → m ≡ (n + 1) + k
     → take_commands refuses places s (commands_of n ws) ≡ on_ok (take_command refuses places s (record { word = record { number = n; text = w }; rest = words_from (n + 1) group })) (λ (t : SoFar). take_commands refuses places t (commands_of m next))
-next_command refuses places s n m k w v ws rest group next same h is behind begins p g r q =
-    let whole : ws ≡ w ∷ rest = from_place ws 0 v h is ∙ ap (λ (x : Text). x ∷ drop 1 ws) (sym same) ∙ ap (λ (xs : List Text). w ∷ xs) (sym behind) in
+next_command refuses places s n m k w v ws rest group next same h is past begins p g r q =
+    let whole : ws ≡ w ∷ rest = from_place ws 0 v h is ∙ ap (λ (x : Text). x ∷ drop 1 ws) (sym same) ∙ ap (λ (xs : List Text). w ∷ xs) (sym past) in
     let e : is_command w ≡ true = subst BeginsACommand whole begins in
     ap (λ (xs : List Text). take_commands refuses places s (commands_of n xs)) whole ∙ one_command refuses places s n m k w rest group next e p g r q
 

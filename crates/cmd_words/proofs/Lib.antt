@@ -5,4 +5,4 @@ pub mod Taking
 pub mod Cuts
 pub mod Readings
 pub mod Numbers
-pub mod Behind
+pub mod Past

@@ -24,12 +24,12 @@ is_name (b ∷ s) = (is_name_start b && list_all is_name_byte s) && not (is_rese
 
 -- ## Items
 
-abbrev pub behind_white : Text → Text
-behind_white s = drop_while is_white s
+abbrev pub after_white : Text → Text
+after_white s = drop_while is_white s
 
 -- without the white space at both ends
 abbrev pub trimmed : Text → Text
-trimmed s = reverse (behind_white (reverse (behind_white s)))
+trimmed s = reverse (after_white (reverse (after_white s)))
 
 -- before the first `)`, where nothing else follows
 abbrev pub enclosed : Text → Option Text

@@ -1,7 +1,7 @@
 ghost use Rattle.std.specs.Prelude.{◌≡◌, List, ℕ, option_map};
 ghost use Rattle.std.specs.List.{list_all};
 ghost use Rattle.expr_lang.specs.Tokens.{is_name_byte as stands_in_name};
-ghost use Rattle.cmd_words.specs.Calculations.{is_reserved, is_name, behind_white, trimmed, enclosed, call_of, calculated, or_refused, calculation_of, calculations_of};
+ghost use Rattle.cmd_words.specs.Calculations.{is_reserved, is_name, after_white, trimmed, enclosed, call_of, calculated, or_refused, calculation_of, calculations_of};
 ghost use Rattle.cmd_words.specs.Seen.{parts_seen};
 ghost use Rattle.cmd_words.specs.Steps.{Gives};
 
@@ -83,15 +83,15 @@ fn enclosed(text: &str) -> Option<&str>
 fn trimmed(text: &str) -> &str
     ensures exact { result.now ≡ trimmed text.now }
 {
-    let mut rest = behind_white(text);
+    let mut rest = after_white(text);
     while let [.., b' ' | b'\t' | b'\n' | b'\r'] = rest.as_bytes() {
         rest = &rest[..rest.len() - 1];
     }
     rest
 }
 
-fn behind_white(text: &str) -> &str
-    ensures exact { result.now ≡ behind_white text.now }
+fn after_white(text: &str) -> &str
+    ensures exact { result.now ≡ after_white text.now }
 {
     let mut rest = text;
     while let [b' ' | b'\t' | b'\n' | b'\r', ..] = rest.as_bytes() {

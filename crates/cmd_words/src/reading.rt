@@ -111,7 +111,7 @@ fn read_groups(alloc: Global, first: u32, words: &[Text]) -> Result<Chain, WordF
 {
     let (import, commands) = words.split_at(plain_count(words));
     let group = read_import(alloc, first, import)?;
-    read_behind(alloc, &group, first + import.len() as u32, commands)
+    read_after(alloc, &group, first + import.len() as u32, commands)
 }
 
 // How many words stand before the first command word.
@@ -139,7 +139,7 @@ fn read_import(alloc: Global, first: u32, words: &[Text]) -> Result<Group, WordF
 }
 
 // The chain of an import and of the commands after it.
-fn read_behind(alloc: Global, group: &Group, first: u32, words: &[Text]) -> Result<Chain, WordFault>
+fn read_after(alloc: Global, group: &Group, first: u32, words: &[Text]) -> Result<Chain, WordFault>
     requires numbers { first + length words.now < 2 ^ 32 }
     requires begins { BeginsACommand words.now }
     ensures exact { (refuses : Refusals) → AreRefusals refuses → Tells FitsChain (after_import refuses (commands_of first words.now) group.now) result }

@@ -10,8 +10,8 @@ use Rattle.std.proofs.lemmas.List.{map-append}
 use Rattle.expr_lang.specs.declared.assign.Assign.{Assign}
 use Rattle.expr_lang.specs.Tree.{Tree, Assigned, assigned, all_assigned}
 use Rattle.expr_lang.specs.Grammar.{Placed, Toks, Cond, OneAssign, becomes, Assigns, last_assign, ended_assign, more_assigns}
-use Rattle.expr_lang.specs.Machine.{Open, operand, operator, first_target, next_target, behind_target, assigned_value, run, accepted, stopped, step}
-use Rattle.expr_lang.specs.Reading.{Spot, Passes, Breaks, Some_tree, raised, plainly, before, behind, before_assign, behind_assign, EndsLevel, NextIsNot, IsMark, IsAName, AssignEnds}
+use Rattle.expr_lang.specs.Machine.{Open, operand, operator, first_target, next_target, after_target, assigned_value, run, accepted, stopped, step}
+use Rattle.expr_lang.specs.Reading.{Spot, Passes, Breaks, Some_tree, raised, plainly, before, past, before_assign, after_assign, EndsLevel, NextIsNot, IsMark, IsAName, AssignEnds}
 use Rattle.expr_lang.proofs.Runs.{moves, stops}
 use Rattle.expr_lang.proofs.Parts.{passes_then, passes_at, breaks_at, breaks_then, breaks_here}
 use Rattle.expr_lang.proofs.Steps.{level-small}
@@ -38,8 +38,8 @@ value = assigned_value ∷ []
 
 assign_runs : {n : ℕ} {s : Toks} {a : Assigned} → OneAssign n s a → (rest : Toks) → EndsLevel 7 rest → run n first_target [] (s ++ rest) ≡ run n operator value rest
 assign_runs {n} (becomes {at = at} {b = b} {name = name} {s = s} h) rest q =
-    moves n first_target [] (target at name) (sets b ∷ (s ++ rest)) behind_target [] refl
-    ∙ moves n behind_target [] (sets b) (s ++ rest) (operand 0) value refl
+    moves n first_target [] (target at name) (sets b ∷ (s ++ rest)) after_target [] refl
+    ∙ moves n after_target [] (sets b) (s ++ rest) (operand 0) value refl
     ∙ cond_runs h n value rest (omega arith) q
 
 -- where tokens follow, a place after a semicolon is as one at the beginning
@@ -97,7 +97,7 @@ ended_on {n} (and_one at {s = s} {t = t} {a = a} {xs = xs} h o) u ys g =
 -- ---- one assignment
 
 abbrev at_target : Unit {0} → Spot
-at_target i = record { deepest = 64; place = behind_target; open_there = [] }
+at_target i = record { deepest = 64; place = after_target; open_there = [] }
 
 abbrev at_value : Unit {0} → Spot
 at_value i = plainly before 64 value
@@ -105,20 +105,20 @@ at_value i = plainly before 64 value
 to_target : (at : ℕ) (name : List ℕ) (old new : Toks) → old ≡ target at name ∷ new → Passes (λ (z : Toks). z ≡ target at name ∷ []) (before_assign 64) at_target old new
 to_target at name old new e = record {
   reads = (target at name ∷ [], e, refl);
-  runs = λ i. ap (run 64 first_target []) e ∙ moves 64 first_target [] (target at name) new behind_target [] refl;
+  runs = λ i. ap (run 64 first_target []) e ∙ moves 64 first_target [] (target at name) new after_target [] refl;
 }
 
 to_value : (at b : ℕ) (name : List ℕ) (old mid new : Toks) → old ≡ target at name ∷ mid → mid ≡ sets b ∷ new → Passes (λ (z : Toks). z ≡ target at name ∷ sets b ∷ []) (before_assign 64) at_value old new
 to_value at b name old mid new e g = record {
   reads = (target at name ∷ sets b ∷ [], e ∙ ap (λ (z : Toks). target at name ∷ z) g, refl);
-  runs = λ i. ap (run 64 first_target []) e ∙ moves 64 first_target [] (target at name) mid behind_target [] refl ∙ ap (run 64 behind_target []) g ∙ moves 64 behind_target [] (sets b) new (operand 0) value refl;
+  runs = λ i. ap (run 64 first_target []) e ∙ moves 64 first_target [] (target at name) mid after_target [] refl ∙ ap (run 64 after_target []) g ∙ moves 64 after_target [] (sets b) new (operand 0) value refl;
 }
 
 target-none : (t : Token) → (IsAName t → ⊥) → step 64 first_target [] t ≡ None
 target-none (token.Name s) h = absurd (h (s, refl))
 target-none _ h = refl
 
-becomes-none : (t : Token) → (IsMark mark.Becomes t → ⊥) → step 64 behind_target [] t ≡ None
+becomes-none : (t : Token) → (IsMark mark.Becomes t → ⊥) → step 64 after_target [] t ≡ None
 becomes-none (token.Mark mark.Becomes) h = absurd (h refl)
 becomes-none _ h = refl
 
@@ -127,10 +127,10 @@ unfolding run
 target_stops [] h = refl
 target_stops ((at, t) ∷ ts) h = stops 64 first_target [] (at, t) ts (target-none t (h at t ts refl))
 
-becomes_stops : (ts : Toks) → NextIsNot (IsMark mark.Becomes) ts → run 64 behind_target [] ts ≡ stopped Unfit ts
+becomes_stops : (ts : Toks) → NextIsNot (IsMark mark.Becomes) ts → run 64 after_target [] ts ≡ stopped Unfit ts
 unfolding run
 becomes_stops [] h = refl
-becomes_stops ((at, t) ∷ ts) h = stops 64 behind_target [] (at, t) ts (becomes-none t (h at t ts refl))
+becomes_stops ((at, t) ∷ ts) h = stops 64 after_target [] (at, t) ts (becomes-none t (h at t ts refl))
 
 pub no_target : (f : Misfit) (old new : Toks) → (f ≡ Unfit) × (new ≡ old) × NextIsNot IsAName old → Breaks (Some_tree OneAssign 64) (before_assign 64) f old new
 no_target f old new h =
@@ -168,7 +168,7 @@ value_breaks at i name f old mid mid' new e g h = breaks_then (Some_tree OneAssi
       ),
     )
 
-pub assign_passes : (at b : ℕ) (name : List ℕ) (x : Tree) (old mid mid' new : Toks) → old ≡ target at name ∷ mid → mid ≡ sets b ∷ mid' → Passes (λ (z : Toks). Cond 64 z x) (plainly before 64) (plainly behind 64) mid' new → Passes (λ (z : Toks). OneAssign 64 z (name, x)) (before_assign 64) (behind_assign 64) old new
+pub assign_passes : (at b : ℕ) (name : List ℕ) (x : Tree) (old mid mid' new : Toks) → old ≡ target at name ∷ mid → mid ≡ sets b ∷ mid' → Passes (λ (z : Toks). Cond 64 z x) (plainly before 64) (plainly past 64) mid' new → Passes (λ (z : Toks). OneAssign 64 z (name, x)) (before_assign 64) (after_assign 64) old new
 assign_passes at i name x old mid mid' new e g h =
     passes_then (λ (z : Toks). OneAssign 64 z (name, x)) (to_value at i name old mid mid' e g) (passes_at (λ (i : Unit {0}). value) h)
     (λ p q o c. subst (λ (p : Toks). OneAssign 64 (p ++ q) (name, x)) (sym o) (becomes c))
@@ -197,8 +197,8 @@ assigns_break xs f old mid new h g = breaks_stuck Assigns first_target assigns_f
     join : (b : Bool) (x y : Toks) → Ended 64 x xs → Some_tree OneAssign 64 b y → (more : Toks) × Some_tree Assigns 64 b (x ++ (y ++ more))
     join b x y o c = ([], (xs ++ c.0 ∷ [], subst (λ (y : Toks). Assigns (raised b 64) (x ++ y) (xs ++ c.0 ∷ [])) (sym (append-nil y)) (ended_on (raise_ended b o) y (c.0 ∷ []) (last_assign c.1))))
 
-all_pass : (xs : List Assigned) (a : Assigned) (old mid new : Toks) → Passes (λ (z : Toks). Ended 64 z xs) (before_assign 64) (before_assign 64) old mid → Passes (λ (z : Toks). OneAssign 64 z a) (before_assign 64) (behind_assign 64) mid new
-    → Passes (λ (z : Toks). Assigns 64 z (xs ++ a ∷ [])) (before_assign 64) (behind_assign 64) old new
+all_pass : (xs : List Assigned) (a : Assigned) (old mid new : Toks) → Passes (λ (z : Toks). Ended 64 z xs) (before_assign 64) (before_assign 64) old mid → Passes (λ (z : Toks). OneAssign 64 z a) (before_assign 64) (after_assign 64) mid new
+    → Passes (λ (z : Toks). Assigns 64 z (xs ++ a ∷ [])) (before_assign 64) (after_assign 64) old new
 all_pass xs a old mid new h g = passes_then (λ (z : Toks). Assigns 64 z (xs ++ a ∷ [])) h g (λ x y o c. ended_on o y (a ∷ []) (last_assign c))
 
 value_stops : (d : ℕ) (at : ℕ) (t : Token) (us : Toks) → EndsLevel 7 ((at, t) ∷ us) → (IsMark mark.Semicolon t → ⊥) → run d operator value ((at, t) ∷ us) ≡ stopped Unfit ((at, t) ∷ us)
@@ -208,19 +208,19 @@ value_stops d at (token.Mark mark.Question) us q h = absurd (omega (arith, q))
 value_stops d at (token.Mark mark.Semicolon) us q h = absurd (h refl)
 value_stops d at _ us q h = refl
 
-pub assigns_left : (xs : List Assigned) (a : Assigned) (old mid new us : Toks) (t : Placed) → Passes (λ (z : Toks). Ended 64 z xs) (before_assign 64) (before_assign 64) old mid → Passes (λ (z : Toks). OneAssign 64 z a) (before_assign 64) (behind_assign 64) mid new
+pub assigns_left : (xs : List Assigned) (a : Assigned) (old mid new us : Toks) (t : Placed) → Passes (λ (z : Toks). Ended 64 z xs) (before_assign 64) (before_assign 64) old mid → Passes (λ (z : Toks). OneAssign 64 z a) (before_assign 64) (after_assign 64) mid new
     → EndsLevel 7 new → new ≡ t ∷ us → (IsMark mark.Semicolon t.1 → ⊥) → StuckAt Assigns Unfit old new
 assigns_left xs a old mid new us t h g q e o =
-    left_stuck Assigns first_target assigns_follow (before_assign 64) (behind_assign 64) tt (λ ts. refl) (xs ++ a ∷ []) old new (all_pass xs a old mid new h g)
+    left_stuck Assigns first_target assigns_follow (before_assign 64) (after_assign 64) tt (λ ts. refl) (xs ++ a ∷ []) old new (all_pass xs a old mid new h g)
     (ap (run 64 operator value) e ∙ value_stops 64 t.0 t.1 us (subst (EndsLevel 7) e q) o ∙ ap (stopped Unfit) (sym e))
 
-pub assigns_whole : (xs : List Assigned) (a : Assigned) (old mid new after : Toks) → Passes (λ (z : Toks). Ended 64 z xs) (before_assign 64) (before_assign 64) old mid → Passes (λ (z : Toks). OneAssign 64 z a) (before_assign 64) (behind_assign 64) mid new
+pub assigns_whole : (xs : List Assigned) (a : Assigned) (old mid new after : Toks) → Passes (λ (z : Toks). Ended 64 z xs) (before_assign 64) (before_assign 64) old mid → Passes (λ (z : Toks). OneAssign 64 z a) (before_assign 64) (after_assign 64) mid new
     → AssignEnds true new after → Assigns 64 old (xs ++ a ∷ [])
-assigns_whole xs a old mid new after h g (inl e) = whole_tree Assigns (before_assign 64) (behind_assign 64) (xs ++ a ∷ []) old new (all_pass xs a old mid new h g) e
+assigns_whole xs a old mid new after h g (inl e) = whole_tree Assigns (before_assign 64) (after_assign 64) (xs ++ a ∷ []) old new (all_pass xs a old mid new h g) e
 assigns_whole xs a old mid new after h g (inr e) =
     subst (λ (z : Toks). Assigns 64 z (xs ++ a ∷ [])) (sym (h.reads.1 ∙ ap (λ (z : Toks). h.reads.0 ++ z) (g.reads.1 ∙ ap (λ (z : Toks). g.reads.0 ++ z) e.1))) (ended_on h.reads.2 (g.reads.0 ++ semicolon e.0 ∷ []) (a ∷ []) (ended_assign e.0 g.reads.2))
 
-pub assigns_next : (xs : List Assigned) (a : Assigned) (old mid new after : Toks) → Passes (λ (z : Toks). Ended 64 z xs) (before_assign 64) (before_assign 64) old mid → Passes (λ (z : Toks). OneAssign 64 z a) (before_assign 64) (behind_assign 64) mid new
+pub assigns_next : (xs : List Assigned) (a : Assigned) (old mid new after : Toks) → Passes (λ (z : Toks). Ended 64 z xs) (before_assign 64) (before_assign 64) old mid → Passes (λ (z : Toks). OneAssign 64 z a) (before_assign 64) (after_assign 64) mid new
     → AssignEnds false new after → Passes (λ (z : Toks). Ended 64 z (xs ++ a ∷ [])) (before_assign 64) (before_assign 64) old after
 assigns_next xs a old mid new after h g e =
     let s : Toks = h.reads.0 in

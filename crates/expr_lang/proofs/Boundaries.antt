@@ -10,7 +10,7 @@ use Rattle.std.proofs.lemmas.Bool.Decides.{Decides-eqb}
 use Rattle.expr_lang.specs.declared.token.Symbol.{Symbol}
 use Rattle.numerals.specs.Bytes.{is_digit, drop_while}
 use Rattle.numerals.specs.Numeral.{skip_sign}
-use Rattle.expr_lang.specs.Tokens.{Text, begins_with_digit, skip_whole, skip_fraction, skip_exponent, behind_number, three_bytes, two_bytes, one_byte, other_byte}
+use Rattle.expr_lang.specs.Tokens.{Text, begins_with_digit, skip_whole, skip_fraction, skip_exponent, after_number, three_bytes, two_bytes, one_byte, other_byte}
 
 -- ---- one ASCII character
 
@@ -66,7 +66,7 @@ exponent_front [] = front_self []
 exponent_front (b ∷ rest) =
     front_cond (((b == 101) || (b == 69)) && begins_with_digit (skip_sign rest)) (b ∷ rest) _ (b ∷ rest) (front_cons b rest _ (front_then rest (skip_sign rest) _ (sign_front rest) (drop_while_front is_digit (skip_sign rest)))) (front_self (b ∷ rest))
 
-pub number_front : (s : Text) → Front s (behind_number s)
+pub number_front : (s : Text) → Front s (after_number s)
 number_front s = front_then s (skip_whole s) _ (whole_front s) (front_then (skip_whole s) (skip_fraction (skip_whole s)) _ (fraction_front (skip_whole s)) (exponent_front (skip_fraction (skip_whole s))))
 
 -- ---- symbols are ASCII
@@ -141,14 +141,14 @@ one_ascii b y =
     one_of b 40 _ y _ (omega arith) (one_of b 41 _ y _ (omega arith) (one_of b 91 _ y _ (omega arith) (one_of b 93 _ y _ (omega arith) (
     one_of b 46 _ y _ (omega arith) (one_of b 61 _ y _ (omega arith) (one_of b 59 _ y _ (omega arith) (other_ascii b y)))))))))))))))
 
-behind_ascii : (s : Text) (k : ℕ) → IsUtf8 s → AsciiAt s k → IsCharBoundary s (k + 1)
-behind_ascii s k u h = IsCharBoundary-after_ascii s k u h.0 h.1
+past_ascii : (s : Text) (k : ℕ) → IsUtf8 s → AsciiAt s k → IsCharBoundary s (k + 1)
+past_ascii s k u h = IsCharBoundary-after_ascii s k u h.0 h.1
 
-pub behind_three : (s : Text) (y : Symbol) → IsUtf8 s → three_bytes s ≡ Some y → IsCharBoundary s 3
-behind_three s y u e = behind_ascii s 2 u (three_ascii s y e)
+pub after_three : (s : Text) (y : Symbol) → IsUtf8 s → three_bytes s ≡ Some y → IsCharBoundary s 3
+after_three s y u e = past_ascii s 2 u (three_ascii s y e)
 
-pub behind_two : (s : Text) (y : Symbol) → IsUtf8 s → two_bytes s ≡ Some y → IsCharBoundary s 2
-behind_two s y u e = behind_ascii s 1 u (two_ascii s y e)
+pub after_two : (s : Text) (y : Symbol) → IsUtf8 s → two_bytes s ≡ Some y → IsCharBoundary s 2
+after_two s y u e = past_ascii s 1 u (two_ascii s y e)
 
-pub behind_one : (s bs : Text) (b : ℕ) (y : Symbol) → IsUtf8 s → s ≡ b ∷ bs → one_byte b ≡ Some y → IsCharBoundary s 1
-behind_one s bs b y u e h = behind_ascii s 0 u (subst (λ (z : Text). AsciiAt z 0) (sym e) (omega arith, one_ascii b y h))
+pub after_one : (s bs : Text) (b : ℕ) (y : Symbol) → IsUtf8 s → s ≡ b ∷ bs → one_byte b ≡ Some y → IsCharBoundary s 1
+after_one s bs b y u e h = past_ascii s 0 u (subst (λ (z : Text). AsciiAt z 0) (sym e) (omega arith, one_ascii b y h))

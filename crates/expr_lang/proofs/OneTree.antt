@@ -32,7 +32,7 @@ mutual
 
   pub data ReadsUnary : Toks → Toks → Tree → Type 0 where
     bare : {ts rest : Toks} {e : Tree} → NextIsNot IsSign ts → ReadsAtom ts rest e → ReadsUnary ts rest e
-    behind : {at : ℕ} {t : Token} {o : Sign} {ts us rest : Toks} {d e : Tree}
+    past : {at : ℕ} {t : Token} {o : Sign} {ts us rest : Toks} {d e : Tree}
         → ts ≡ (at, t) ∷ us → sign_of t ≡ Some o → ReadsUnary us rest d → e ≡ unary at o d → ReadsUnary ts rest e
 
   pub data ReadsAtom : Toks → Toks → Tree → Type 0 where
@@ -51,9 +51,9 @@ first : Toks → Placed
 first [] = (0, token.Stray)
 first (t ∷ ts) = t
 
-behind_first : Toks → Toks
-behind_first [] = []
-behind_first (t ∷ ts) = ts
+after_first : Toks → Toks
+after_first [] = []
+after_first (t ∷ ts) = ts
 
 pub record SameNext (at b : ℕ) (t u : Token) (xs ys : Toks) : Type 0 where
   pub place : at ≡ b
@@ -61,13 +61,13 @@ pub record SameNext (at b : ℕ) (t u : Token) (xs ys : Toks) : Type 0 where
   pub left : xs ≡ ys
 
 pub same_next : {at b : ℕ} {t u : Token} {xs ys ts us : Toks} → ts ≡ (at, t) ∷ xs → ts ≡ us → us ≡ (b, u) ∷ ys → SameNext at b t u xs ys
-unfolding first behind_first
+unfolding first after_first
 same_next e f g =
     let h = sym e ∙ f ∙ g in
     record {
       place = ap (λ (z : Toks). (first z).0) h;
       token = ap (λ (z : Toks). (first z).1) h;
-      left = ap behind_first h;
+      left = ap after_first h;
     }
 
 leaf_token : (at : ℕ) (t u : Token) (e : Tree) → t ≡ u → leaf_of at t ≡ Some e → leaf_of at u ≡ Some e
@@ -121,9 +121,9 @@ mutual
 
   one_unary : {ts us r s : Toks} {d e : Tree} → ReadsUnary ts r d → ts ≡ us → ReadsUnary us s e → Agree r s d e
   one_unary (bare n a) f (bare m b) = one_atom a f b
-  one_unary (bare n a) f (behind q g b h) = absurd (n _ _ _ (f ∙ q) (_, g))
-  one_unary (behind q g a h) f (bare m b) = absurd (m _ _ _ (sym f ∙ q) (_, g))
-  one_unary (behind q g a h) f (behind q' g' b h') =
+  one_unary (bare n a) f (past q g b h) = absurd (n _ _ _ (f ∙ q) (_, g))
+  one_unary (past q g a h) f (bare m b) = absurd (m _ _ _ (sym f ∙ q) (_, g))
+  one_unary (past q g a h) f (past q' g' b h') =
       let j = same_next q f q' in
       let i = one_unary a j.left b in
       let o = sym g ∙ ap sign_of j.token ∙ g' in
@@ -215,7 +215,7 @@ mutual
 
   unary_reads : {n : ℕ} {s : Toks} {e : Tree} → Unary n s e → (rest : Toks) → ReadsUnary (s ++ rest) rest e
   unary_reads (atom h) rest = bare (atom_no_sign h rest) (atom_reads h rest)
-  unary_reads (signed f h) rest = behind refl f (unary_reads h rest) refl
+  unary_reads (signed f h) rest = past refl f (unary_reads h rest) refl
 
   atom_reads : {n : ℕ} {s : Toks} {e : Tree} → Atom n s e → (rest : Toks) → ReadsAtom (s ++ rest) rest e
   atom_reads (leaf f) rest = one refl f

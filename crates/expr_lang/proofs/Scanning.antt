@@ -6,7 +6,7 @@ use Rattle.expr_lang.specs.declared.token.Symbol.{Symbol}
 use Rattle.expr_lang.specs.Grammar.{Toks}
 use Rattle.numerals.specs.Bytes.{is_white, is_digit, drop_while}
 use Rattle.numerals.specs.Numeral.{skip_sign}
-use Rattle.expr_lang.specs.Tokens.{Text, Lexed, begins_with_digit, skip_whole, skip_fraction, skip_exponent, behind_number, text_at, escape_at, is_quote, escape_of, with_byte, content_token, is_name_start, is_name_byte, symbol_or, symbol_at, three_bytes, two_bytes, one_byte, token_at, tokens_from, tokens_of}
+use Rattle.expr_lang.specs.Tokens.{Text, Lexed, begins_with_digit, skip_whole, skip_fraction, skip_exponent, after_number, text_at, escape_at, is_quote, escape_of, with_byte, content_token, is_name_start, is_name_byte, symbol_or, symbol_at, three_bytes, two_bytes, one_byte, token_at, tokens_from, tokens_of}
 
 -- no white space comes next
 abbrev pub StartsToken : Text → Type 0
@@ -56,9 +56,9 @@ cond_le : (t : Bool) (x y : Text) (n : ℕ) → length x ≤ n → length y ≤ 
 cond_le true x y n h g = h
 cond_le false x y n h g = g
 
-behind_le : (t : Bool) (x y : Lexed) (n : ℕ) → (t ≡ true → length x.1 ≤ n) → (t ≡ false → length y.1 ≤ n) → length (cond t x y).1 ≤ n
-behind_le true x y n h g = h refl
-behind_le false x y n h g = g refl
+after_le : (t : Bool) (x y : Lexed) (n : ℕ) → (t ≡ true → length x.1 ≤ n) → (t ≡ false → length y.1 ≤ n) → length (cond t x y).1 ≤ n
+after_le true x y n h g = h refl
+after_le false x y n h g = g refl
 
 fraction_le : (s : Text) → length (skip_fraction s) ≤ length s
 fraction_le [] = omega arith
@@ -80,7 +80,7 @@ exponent_le (b ∷ rest) =
 whole_le : (b : ℕ) (rest : Text) → is_digit b ≡ true → length (skip_whole (b ∷ rest)) ≤ length rest
 whole_le b rest e = cond_le (b == 48) rest (drop_while is_digit (b ∷ rest)) (length rest) (omega arith) (subst (λ (z : Text). length z ≤ length rest) (sym (drop_step is_digit b rest true e)) (drop_while-shorter is_digit rest))
 
-number_le : (b : ℕ) (rest : Text) → is_digit b ≡ true → length (behind_number (b ∷ rest)) ≤ length rest
+number_le : (b : ℕ) (rest : Text) → is_digit b ≡ true → length (after_number (b ∷ rest)) ≤ length rest
 number_le b rest e =
     let x : length (skip_whole (b ∷ rest)) ≤ length rest = whole_le b rest e in
     let y : length (skip_fraction (skip_whole (b ∷ rest))) ≤ length (skip_whole (b ∷ rest)) = fraction_le (skip_whole (b ∷ rest)) in
@@ -104,14 +104,14 @@ mutual
   text_le : (q : ℕ) (content : Option Text) (s : Text) → length (text_at q content s).1 ≤ length s
   text_le q content [] = omega arith
   text_le q content (b ∷ rest) =
-      behind_le (b == q) (content_token content, rest) _ (length (b ∷ rest)) (λ _. omega arith) (λ _.
-      behind_le (b == 10) (token.Stray, []) _ (length (b ∷ rest)) (λ _. omega arith) (λ _.
-      behind_le (b == 92) (escape_at q content rest) (text_at q (with_byte content b) rest) (length (b ∷ rest)) (λ _. more_le _ _ (escapes_le q content rest)) (λ _. more_le _ _ (text_le q (with_byte content b) rest))))
+      after_le (b == q) (content_token content, rest) _ (length (b ∷ rest)) (λ _. omega arith) (λ _.
+      after_le (b == 10) (token.Stray, []) _ (length (b ∷ rest)) (λ _. omega arith) (λ _.
+      after_le (b == 92) (escape_at q content rest) (text_at q (with_byte content b) rest) (length (b ∷ rest)) (λ _. more_le _ _ (escapes_le q content rest)) (λ _. more_le _ _ (text_le q (with_byte content b) rest))))
 
   escapes_le : (q : ℕ) (content : Option Text) (s : Text) → length (escape_at q content s).1 ≤ length s
   escapes_le q content [] = omega arith
   escapes_le q content (b ∷ rest) =
-      behind_le (b == 10) (token.Stray, []) _ (length (b ∷ rest)) (λ _. omega arith) (λ _.
+      after_le (b == 10) (token.Stray, []) _ (length (b ∷ rest)) (λ _. omega arith) (λ _.
       escape_le (escape_of b) (λ e. text_at q (with_byte content e) rest) (text_at q None rest) (length (b ∷ rest)) (λ e. more_le _ _ (text_le q (with_byte content e) rest)) (more_le _ _ (text_le q None rest)))
 
 symbol_le : (b : ℕ) (rest : Text) (n : ℕ) (x : Option Symbol) (y : Lexed) → length y.1 ≤ length rest → length (symbol_or (b ∷ rest) (suc n) x y).1 ≤ length rest
@@ -120,9 +120,9 @@ symbol_le b rest n (Some x) y h = omega (arith, length-drop n rest)
 
 pub token_le : (b : ℕ) (rest : Text) → length (token_at b rest).1 ≤ length rest
 token_le b rest =
-    behind_le (is_digit b) _ _ (length rest) (λ e. number_le b rest e) (λ _.
-    behind_le (is_quote b) _ _ (length rest) (λ _. text_le b (Some []) rest) (λ _.
-    behind_le (is_name_start b) _ (symbol_at b rest) (length rest) (λ e. word_le b rest e) (λ _.
+    after_le (is_digit b) _ _ (length rest) (λ e. number_le b rest e) (λ _.
+    after_le (is_quote b) _ _ (length rest) (λ _. text_le b (Some []) rest) (λ _.
+    after_le (is_name_start b) _ (symbol_at b rest) (length rest) (λ e. word_le b rest e) (λ _.
     symbol_le b rest 2 (three_bytes (b ∷ rest)) _ (symbol_le b rest 1 (two_bytes (b ∷ rest)) _ (symbol_le b rest 0 (one_byte b) (token.Stray, []) (omega arith))))))
 
 -- ---- one token

@@ -31,8 +31,8 @@ Around = ℕ × List Open
 abbrev pub before : ℕ → Around → Spot
 before d i = record { deepest = (levels i.1 + i.0) + d; place = operand i.0; open_there = i.1 }
 
-abbrev pub behind : ℕ → Around → Spot
-behind d i = record { deepest = (levels i.1 + i.0) + d; place = operator; open_there = i.1 }
+abbrev pub past : ℕ → Around → Spot
+past d i = record { deepest = (levels i.1 + i.0) + d; place = operator; open_there = i.1 }
 
 -- the same where no sign stands before it
 abbrev pub plainly : (ℕ → Around → Spot) → ℕ → List Open → Spot
@@ -94,8 +94,8 @@ Part G n from to result old new = PartOf node_tree G n from to result old new
 abbrev pub before_assign : ℕ → Unit {0} → Spot
 before_assign d i = record { deepest = d; place = first_target; open_there = [] }
 
-abbrev pub behind_assign : ℕ → Unit {0} → Spot
-behind_assign d i = record { deepest = d; place = operator; open_there = assigned_value ∷ [] }
+abbrev pub after_assign : ℕ → Unit {0} → Spot
+after_assign d i = record { deepest = d; place = operator; open_there = assigned_value ∷ [] }
 
 -- what stands after `this` at a place
 abbrev pub ThisText : ℕ → ℕ → Toks → Tree → Type 0

@@ -40,15 +40,15 @@ skip_exponent [] = []
 skip_exponent (b ∷ rest) = if ((b == 101) || (b == 69)) && begins_with_digit (skip_sign rest) then drop_while is_digit (skip_sign rest) else b ∷ rest
 
 -- what is left after the number that begins the text
-abbrev pub behind_number : Text → Text
-behind_number s = skip_exponent (skip_fraction (skip_whole s))
+abbrev pub after_number : Text → Text
+after_number s = skip_exponent (skip_fraction (skip_whole s))
 
 abbrev pub number_token : Option ℤ → Token
 number_token None = token.Other
 number_token (Some units) = token.Number units
 
 abbrev pub number_at : Text → Lexed
-number_at s = (number_token (decimal_of_text (take (length s - length (behind_number s)) s)), behind_number s)
+number_at s = (number_token (decimal_of_text (take (length s - length (after_number s)) s)), after_number s)
 
 -- ---- texts
 

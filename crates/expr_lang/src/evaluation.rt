@@ -64,16 +64,16 @@ impl<'a> Scope<'a> {
     /// others are not on the way to them.
     #[cycle(values)]
     fn value(&self, e: &Node) -> Result<Value, EvalFault>
-        ensures { Answers (evaluated self.now.names.now self.now.row.now self.now.id (node_tree e.now)) result }
+        ensures answers { Answers (evaluated self.now.names.now self.now.row.now self.now.id (node_tree e.now)) result }
     {
         match e {
             Node::Constant(value) => self.constant(value),
             Node::Column(at, name) => self.column(*at, name),
             Node::FeatureNumber => Ok(Value::Num(Decimal::of_grid(i64::from(self.id), 0))),
-            Node::Unary(at, sign, operand) => self.behind_sign(*at, *sign, operand),
+            Node::Unary(at, sign, operand) => self.after_sign(*at, *sign, operand),
             Node::Binary(at, operator, left, right) => {
                 let left = self.value(left)?;
-                self.behind_left(*at, *operator, &left, right)
+                self.after_left(*at, *operator, &left, right)
             }
             Node::Choice(at, condition, yes, no) => {
                 let condition = self.value(condition)?;
@@ -87,8 +87,8 @@ impl<'a> Scope<'a> {
     }
 
     #[cycle(values)]
-    fn behind_sign(&self, at: u32, sign: Sign, operand: &Node) -> Result<Value, EvalFault>
-        ensures { Answers (on_ok (evaluated self.now.names.now self.now.row.now self.now.id (node_tree operand.now)) (signed_value at sign)) result }
+    fn after_sign(&self, at: u32, sign: Sign, operand: &Node) -> Result<Value, EvalFault>
+        ensures answers { Answers (on_ok (evaluated self.now.names.now self.now.row.now self.now.id (node_tree operand.now)) (signed_value at sign)) result }
     {
         let value = self.value(operand)?;
         signed(at, sign, &value)
@@ -96,14 +96,14 @@ impl<'a> Scope<'a> {
 
     /// The value of an operator whose left operand has this value.
     #[cycle(values)]
-    fn behind_left(
+    fn after_left(
         &self,
         at: u32,
         operator: Operator,
         left: &Value,
         right: &Node,
     ) -> Result<Value, EvalFault>
-        ensures { Answers (joined at operator (evaluated self.now.names.now self.now.row.now self.now.id (node_tree right.now)) left.now) result }
+        ensures answers { Answers (joined at operator (evaluated self.now.names.now self.now.row.now self.now.id (node_tree right.now)) left.now) result }
     {
         if let Some(b) = decided(at, operator, left)? {
             return Ok(Value::Bool(b));
@@ -120,7 +120,7 @@ impl<'a> Scope<'a> {
     }
 
     fn column(&self, at: u32, name: &Text) -> Result<Value, EvalFault>
-        ensures { Answers (column_at at (cell_of self.now.names.now self.now.row.now name.now)) result }
+        ensures answers { Answers (column_at at (cell_of self.now.names.now self.now.row.now name.now)) result }
     {
         match cell(self.names, self.row, name.as_str()) {
             None => Err(EvalFault::Unknown { at }),
@@ -132,7 +132,7 @@ impl<'a> Scope<'a> {
 
 // The first value under a name; `None` where there is none.
 fn cell<'a>(mut names: &[Text], mut row: &'a [Value], name: &str) -> Option<&'a Value>
-    ensures { option_map (λ v. v.now) result ≡ cell_of names.now row.now name.now }
+    ensures exact { option_map (λ v. v.now) result ≡ cell_of names.now row.now name.now }
 {
     while let (Some(first), Some(value)) = (names.first(), row.first()) {
         if first.as_str() == name {

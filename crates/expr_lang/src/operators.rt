@@ -15,7 +15,7 @@ use text_core::Text;
 ///
 /// Errors: `Types` at the place `at`, where the value is no boolean.
 pub fn truth(at: u32, value: &Value) -> Result<bool, EvalFault>
-    ensures { result ≡ truth_at at value.now }
+    ensures exact { result ≡ truth_at at value.now }
 {
     match value {
         Value::Bool(b) => Ok(*b),
@@ -25,7 +25,7 @@ pub fn truth(at: u32, value: &Value) -> Result<bool, EvalFault>
 
 /// What `&&` or `||` is by its left operand alone, where that decides it.
 pub fn decided(at: u32, operator: Operator, left: &Value) -> Result<Option<bool>, EvalFault>
-    ensures { result ≡ decided_value at operator left.now }
+    ensures exact { result ≡ decided_value at operator left.now }
 {
     match operator {
         Operator::Both => Ok(if truth(at, left)? { None } else { Some(false) }),
@@ -38,7 +38,7 @@ pub fn decided(at: u32, operator: Operator, left: &Value) -> Result<Option<bool>
 ///
 /// Errors: `Types` at the place `at` for another value; `Range` there, where the result is no decimal.
 pub fn signed(at: u32, sign: Sign, value: &Value) -> Result<Value, EvalFault>
-    ensures { result ≡ signed_value at sign value.now }
+    ensures exact { result ≡ signed_value at sign value.now }
 {
     match sign {
         Sign::Not => Ok(Value::Bool(!truth(at, value)?)),
@@ -57,7 +57,7 @@ pub fn applied(
     v: &Value,
     w: &Value,
 ) -> Result<Value, EvalFault>
-    ensures { Answers (applied_value at operator v.now w.now) result }
+    ensures answers { Answers (applied_value at operator v.now w.now) result }
 {
     match operator {
         Operator::Both | Operator::Either => Ok(Value::Bool(truth(at, w)?)),
@@ -78,7 +78,7 @@ pub fn applied(
 
 // Two values of one type, or null and any value.
 fn alike(v: &Value, w: &Value) -> Option<bool>
-    ensures { result ≡ alike_value v.now w.now }
+    ensures exact { result ≡ alike_value v.now w.now }
 {
     match (v, w) {
         (Value::Null, Value::Null) => Some(true),
@@ -91,7 +91,7 @@ fn alike(v: &Value, w: &Value) -> Option<bool>
 }
 
 fn order_of(v: &Value, w: &Value) -> Option<Ordering>
-    ensures { result ≡ order_of_values v.now w.now }
+    ensures exact { result ≡ order_of_values v.now w.now }
 {
     match (v, w) {
         (Value::Num(a), Value::Num(b)) => Some(a.cmp(b)),
@@ -101,7 +101,7 @@ fn order_of(v: &Value, w: &Value) -> Option<Ordering>
 }
 
 fn boolean(at: u32, b: Option<bool>) -> Result<Value, EvalFault>
-    ensures { result ≡ bool_at at b }
+    ensures exact { result ≡ bool_at at b }
 {
     match b {
         Some(b) => Ok(Value::Bool(b)),
@@ -110,7 +110,7 @@ fn boolean(at: u32, b: Option<bool>) -> Result<Value, EvalFault>
 }
 
 fn other_boolean(at: u32, b: Option<bool>) -> Result<Value, EvalFault>
-    ensures { result ≡ other_bool_at at b }
+    ensures exact { result ≡ other_bool_at at b }
 {
     match b {
         Some(b) => Ok(Value::Bool(!b)),
@@ -120,7 +120,7 @@ fn other_boolean(at: u32, b: Option<bool>) -> Result<Value, EvalFault>
 
 // Whether the order of two values is one that the operator asks for.
 fn ordered(at: u32, operator: Operator, order: Option<Ordering>) -> Result<Value, EvalFault>
-    ensures { result ≡ ordered_value at operator order }
+    ensures exact { result ≡ ordered_value at operator order }
 {
     let Some(order) = order else {
         return Err(EvalFault::Types { at });
@@ -134,7 +134,7 @@ fn ordered(at: u32, operator: Operator, order: Option<Ordering>) -> Result<Value
 }
 
 fn in_range(at: u32, number: Option<Decimal>) -> Result<Value, EvalFault>
-    ensures { result ≡ in_range_at at number }
+    ensures exact { result ≡ in_range_at at number }
 {
     match number {
         Some(number) => Ok(Value::Num(number)),
@@ -143,7 +143,7 @@ fn in_range(at: u32, number: Option<Decimal>) -> Result<Value, EvalFault>
 }
 
 fn added(alloc: Global, at: u32, v: &Value, w: &Value) -> Result<Value, EvalFault>
-    ensures { Answers (added_value at v.now w.now) result }
+    ensures answers { Answers (added_value at v.now w.now) result }
 {
     match (v, w) {
         (Value::Num(a), Value::Num(b)) => in_range(at, a.checked_add(b)),
@@ -153,7 +153,7 @@ fn added(alloc: Global, at: u32, v: &Value, w: &Value) -> Result<Value, EvalFaul
 }
 
 fn joined(alloc: Global, a: &Text, b: &Text) -> Result<Text, AllocError>
-    ensures { IfOk result (λ t. t ≡ a.now ++ b.now) }
+    ensures exact { IfOk result (λ t. t ≡ a.now ++ b.now) }
 {
     let mut content = String::from_str(alloc, a.as_str())?;
     content.push_str(b.as_str())?;
@@ -161,7 +161,7 @@ fn joined(alloc: Global, a: &Text, b: &Text) -> Result<Text, AllocError>
 }
 
 fn subtracted(at: u32, v: &Value, w: &Value) -> Result<Value, EvalFault>
-    ensures { result ≡ by_numbers at (λ m n. checked (m -ℤ n)) v.now w.now }
+    ensures exact { result ≡ by_numbers at (λ m n. checked (m -ℤ n)) v.now w.now }
 {
     match (v, w) {
         (Value::Num(a), Value::Num(b)) => in_range(at, a.checked_sub(b)),
@@ -170,7 +170,7 @@ fn subtracted(at: u32, v: &Value, w: &Value) -> Result<Value, EvalFault>
 }
 
 fn multiplied(at: u32, v: &Value, w: &Value) -> Result<Value, EvalFault>
-    ensures { result ≡ by_numbers at (λ m n. checked_product (m *ℤ n)) v.now w.now }
+    ensures exact { result ≡ by_numbers at (λ m n. checked_product (m *ℤ n)) v.now w.now }
 {
     match (v, w) {
         (Value::Num(a), Value::Num(b)) => in_range(at, a.checked_mul(b)),

@@ -1,7 +1,7 @@
 ghost use Rattle.std.specs.Prelude.{◌≡◌, ◌∷◌, ◌+◌, ◌<◌, ◌≤◌, [], List, ℕ, true, false, length, MatchOption, MatchResult, OnOk, IfOk, option_map, Some};
 ghost use Rattle.expr_lang.specs.Grammar.{Placed, Toks, Cond, Level, Unary, Atom, OneAssign, Assigns, level_of as level_number, leaf_of, sign_of};
-ghost use Rattle.expr_lang.specs.Machine.{behind_this, operator};
-ghost use Rattle.expr_lang.specs.Reading.{Part, PartOf, AssignEnds, ThisText, NextIsNot, IsMark, IsName, IsAName, IsText, IsSign, AtMisfit, EndsLevel, level_at, before, behind, plainly, anywhere, before_assign, behind_assign};
+ghost use Rattle.expr_lang.specs.Machine.{after_this, operator};
+ghost use Rattle.expr_lang.specs.Reading.{Part, PartOf, AssignEnds, ThisText, NextIsNot, IsMark, IsName, IsAName, IsText, IsSign, AtMisfit, EndsLevel, level_at, before, past, plainly, anywhere, before_assign, after_assign};
 ghost use Rattle.expr_lang.specs.Faults.{IsStopAt, fault_of, is_unsupported as unsupported_token};
 ghost use Rattle.expr_lang.specs.Stuck.{ReadsAll};
 ghost use Rattle.expr_lang.specs.Tree.{node_tree, assigned, all_assigned};
@@ -48,7 +48,7 @@ pub struct Parser<'a> {
 impl<'a> Parser<'a> {
     /// A parser with all of these tokens left. Each stands with its place, counted from 0 in bytes of the text.
     pub fn new(alloc: Global, tokens: &'a [(u32, Token)]) -> Self
-        ensures { result.rest.now ≡ tokens.now }
+        ensures exact { result.rest.now ≡ tokens.now }
     {
         Parser {
             alloc,
@@ -58,7 +58,7 @@ impl<'a> Parser<'a> {
 
     // The next token and its place.
     fn next(&self) -> Option<(u32, &'a Token)>
-        ensures { MatchOption result (self.now.rest.now ≡ [])
+        ensures exact { MatchOption result (self.now.rest.now ≡ [])
             (λ r. (ts : Toks) × (self.now.rest.now ≡ (r.0, r.1.now) ∷ ts)) }
     {
         let (at, token) = self.rest.first()?;
@@ -68,14 +68,14 @@ impl<'a> Parser<'a> {
     // Goes past one token.
     fn advance(&mut self)
         requires { 0 < length self.old.rest.now }
-        ensures { (t : Placed) × (self.old.rest.now ≡ t ∷ self.new.rest.now) }
+        ensures next { (t : Placed) × (self.old.rest.now ≡ t ∷ self.new.rest.now) }
     {
         self.rest = &self.rest[1..];
     }
 
     // The place of the mark, where it comes next.
     fn next_mark(&self, mark: Mark) -> Option<u32>
-        ensures { MatchOption result (NextIsNot (IsMark mark) self.now.rest.now)
+        ensures exact { MatchOption result (NextIsNot (IsMark mark) self.now.rest.now)
             (λ at. (ts : Toks) × (self.now.rest.now ≡ (at, token.Mark mark) ∷ ts)) }
     {
         if let Some((at, Token::Mark(next))) = self.rest.first() {
@@ -101,7 +101,7 @@ impl<'a> Parser<'a> {
     }
 
     fn expect(&mut self, mark: Mark) -> Result<(), Stop>
-        ensures { MatchResult result (λ _. (at : ℕ) × (self.old.rest.now ≡ (at, token.Mark mark) ∷ self.new.rest.now))
+        ensures exact { MatchResult result (λ _. (at : ℕ) × (self.old.rest.now ≡ (at, token.Mark mark) ∷ self.new.rest.now))
             (AtMisfit (λ f. (f ≡ Unfit) × (self.new.rest.now ≡ self.old.rest.now) × NextIsNot (IsMark mark) self.old.rest.now)) }
     {
         if self.take(mark) {
@@ -126,7 +126,7 @@ impl<'a> Parser<'a> {
     }
 
     fn text(&mut self) -> Result<Text, Stop>
-        ensures { MatchResult result (λ s. (at : ℕ) × (self.old.rest.now ≡ (at, token.Text s) ∷ self.new.rest.now))
+        ensures exact { MatchResult result (λ s. (at : ℕ) × (self.old.rest.now ≡ (at, token.Text s) ∷ self.new.rest.now))
             (AtMisfit (λ f. (f ≡ Unfit) × (self.new.rest.now ≡ self.old.rest.now) × NextIsNot IsText self.old.rest.now)) }
     {
         let Some((_, Token::Text(text))) = self.rest.first() else {
@@ -139,7 +139,7 @@ impl<'a> Parser<'a> {
 
     // What stands after `this`, which stood at `at`.
     fn this(&mut self, at: u32) -> Result<Node, Stop>
-        ensures { (n : ℕ) → Part (ThisText at) n (anywhere behind_this) (anywhere operator) result self.old.rest.now self.new.rest.now }
+        ensures read { (n : ℕ) → Part (ThisText at) n (anywhere after_this) (anywhere operator) result self.old.rest.now self.new.rest.now }
     {
         self.expect(Mark::Dot)?;
         if self.name("id") {
@@ -157,7 +157,7 @@ impl<'a> Parser<'a> {
     // Goes past an operator of the level, where one comes next.
     fn operator(&mut self, level: u32) -> Option<(u32, Operator)>
         requires { level < 7 }
-        ensures { MatchOption result ((self.new.rest.now ≡ self.old.rest.now)
+        ensures exact { MatchOption result ((self.new.rest.now ≡ self.old.rest.now)
             × ((j : ℕ) → level ≡ j + 1 → EndsLevel j self.old.rest.now → EndsLevel level self.old.rest.now))
             (λ r. (self.old.rest.now ≡ (r.0, token.Operator r.1) ∷ self.new.rest.now) × (level_number r.1 ≡ level)) }
     {
@@ -173,7 +173,7 @@ impl<'a> Parser<'a> {
 
     /// All tokens, as one expression.
     pub(crate) fn expression(&mut self) -> Result<Node, Stop>
-        ensures { ReadsAll node_tree Cond 64 result self.old.rest.now self.new.rest.now }
+        ensures read { ReadsAll node_tree Cond 64 result self.old.rest.now self.new.rest.now }
     {
         let e = self.cond(MAX_DEPTH)?;
         self.end()?;
@@ -182,7 +182,7 @@ impl<'a> Parser<'a> {
 
     /// All tokens, as assignments.
     pub(crate) fn assignments(&mut self) -> Result<AssignList, Stop>
-        ensures { ReadsAll all_assigned Assigns 64 result self.old.rest.now self.new.rest.now }
+        ensures read { ReadsAll all_assigned Assigns 64 result self.old.rest.now self.new.rest.now }
     {
         let mut list = AssignList::new(self.alloc);
         loop {
@@ -196,7 +196,7 @@ impl<'a> Parser<'a> {
 
     // A name, and the expression that it is set to.
     fn assignment(&mut self) -> Result<Assign, Stop>
-        ensures part { PartOf assigned OneAssign 64 (before_assign 64) (behind_assign 64) result self.old.rest.now self.new.rest.now }
+        ensures part { PartOf assigned OneAssign 64 (before_assign 64) (after_assign 64) result self.old.rest.now self.new.rest.now }
         ensures ends { OnOk result (EndsLevel 7 self.new.rest.now) }
     {
         let name = self.target()?;
@@ -210,7 +210,7 @@ impl<'a> Parser<'a> {
 
     // Whether an assignment is the last one: nothing comes next, or a `;` that ends all. Goes past a `;`.
     fn is_last(&mut self) -> Result<bool, Stop>
-        ensures { MatchResult result (λ last. AssignEnds last self.old.rest.now self.new.rest.now)
+        ensures exact { MatchResult result (λ last. AssignEnds last self.old.rest.now self.new.rest.now)
             (AtMisfit (λ f. (f ≡ Unfit) × (self.new.rest.now ≡ self.old.rest.now) × (t : Placed) × (ts : Toks) × (self.old.rest.now ≡ t ∷ ts) × (IsMark mark.Semicolon t.1 → ⊥))) }
     {
         if self.take(Mark::Semicolon) {
@@ -221,7 +221,7 @@ impl<'a> Parser<'a> {
     }
 
     fn end(&self) -> Result<(), Stop>
-        ensures { MatchResult result (λ _. self.now.rest.now ≡ [])
+        ensures exact { MatchResult result (λ _. self.now.rest.now ≡ [])
             (AtMisfit (λ f. (f ≡ Unfit) × (t : Placed) × (ts : Toks) × (self.now.rest.now ≡ t ∷ ts))) }
     {
         match self.next() {
@@ -232,7 +232,7 @@ impl<'a> Parser<'a> {
 
     // The name that an assignment sets.
     fn target(&mut self) -> Result<Text, Stop>
-        ensures { MatchResult result (λ s. (at : ℕ) × (self.old.rest.now ≡ (at, token.Name s) ∷ self.new.rest.now))
+        ensures exact { MatchResult result (λ s. (at : ℕ) × (self.old.rest.now ≡ (at, token.Name s) ∷ self.new.rest.now))
             (AtMisfit (λ f. (f ≡ Unfit) × (self.new.rest.now ≡ self.old.rest.now) × NextIsNot IsAName self.old.rest.now)) }
     {
         let Some((_, Token::Name(name))) = self.rest.first() else {
@@ -246,7 +246,7 @@ impl<'a> Parser<'a> {
     // A choice, or what stands in its place, with at most `depth` levels in one another.
     #[cycle(parts)]
     fn cond(&mut self, depth: u32) -> Result<Node, Stop>
-        ensures part { Part Cond depth (plainly before depth) (plainly behind depth) result self.old.rest.now self.new.rest.now }
+        ensures part { Part Cond depth (plainly before depth) (plainly past depth) result self.old.rest.now self.new.rest.now }
         ensures ends { OnOk result (EndsLevel 7 self.new.rest.now) }
     {
         let condition = self.level(6, depth)?;
@@ -267,7 +267,7 @@ impl<'a> Parser<'a> {
     #[cycle(parts)]
     fn level(&mut self, level: u32, depth: u32) -> Result<Node, Stop>
         requires { level < 7 }
-        ensures part { Part (Level level) depth (plainly before depth) (plainly behind depth) result self.old.rest.now self.new.rest.now }
+        ensures part { Part (Level level) depth (plainly before depth) (plainly past depth) result self.old.rest.now self.new.rest.now }
         ensures ends { OnOk result (EndsLevel level self.new.rest.now) }
     {
         if level == 0 {
@@ -284,7 +284,7 @@ impl<'a> Parser<'a> {
     // An operand with the signs before it.
     #[cycle(parts)]
     fn unary(&mut self, depth: u32) -> Result<Node, Stop>
-        ensures { Part Unary depth (before depth) (behind depth) result self.old.rest.now self.new.rest.now }
+        ensures read { Part Unary depth (before depth) (past depth) result self.old.rest.now self.new.rest.now }
     {
         let Some((at, sign)) = self.sign() else {
             return self.atom(depth);
@@ -300,7 +300,7 @@ impl<'a> Parser<'a> {
     #[cycle(parts)]
     fn atom(&mut self, depth: u32) -> Result<Node, Stop>
         requires { NextIsNot IsSign self.old.rest.now }
-        ensures { Part Atom depth (before depth) (behind depth) result self.old.rest.now self.new.rest.now }
+        ensures read { Part Atom depth (before depth) (past depth) result self.old.rest.now self.new.rest.now }
     {
         let Some((at, token)) = self.next() else {
             return Err(Stop::Misfit(Misfit::Unfit));
@@ -327,7 +327,7 @@ impl<'a> Parser<'a> {
 
     // The place and the sign of the next token, where it is one.
     fn sign(&self) -> Option<(u32, Sign)>
-        ensures { MatchOption result (NextIsNot IsSign self.now.rest.now)
+        ensures exact { MatchOption result (NextIsNot IsSign self.now.rest.now)
             (λ r. (t : Token) × (ts : Toks) × (self.now.rest.now ≡ (r.0, t) ∷ ts) × (sign_of t ≡ Some r.1)) }
     {
         let (at, token) = self.rest.first()?;
@@ -342,7 +342,7 @@ impl<'a> Parser<'a> {
 impl<'a> Parser<'a> {
     /// The fault of a text of `end` bytes, where the parser stopped.
     pub(crate) fn stopped(&self, stop: Stop, end: u32) -> ExprFault
-        ensures { IsStopAt self.now.rest.now end stop result }
+        ensures exact { IsStopAt self.now.rest.now end stop result }
     {
         match stop {
             Stop::Memory => ExprFault::Memory,
@@ -352,7 +352,7 @@ impl<'a> Parser<'a> {
 
     // The same, where the next token does not fit.
     fn fault(&self, misfit: Misfit, end: u32) -> ExprFault
-        ensures { result ≡ fault_of misfit self.now.rest.now end }
+        ensures exact { result ≡ fault_of misfit self.now.rest.now end }
     {
         let Some((at, token)) = self.next() else {
             return match misfit {
@@ -374,7 +374,7 @@ impl<'a> Parser<'a> {
 }
 
 fn is_unsupported(token: &Token) -> bool
-    ensures { result ≡ unsupported_token token.now }
+    ensures exact { result ≡ unsupported_token token.now }
 {
     match token {
         Token::Other
@@ -386,7 +386,7 @@ fn is_unsupported(token: &Token) -> bool
 }
 
 fn level_of(operator: Operator) -> u32
-    ensures { result ≡ level_number operator }
+    ensures exact { result ≡ level_number operator }
 {
     match operator {
         Operator::Times => 1,
@@ -400,7 +400,7 @@ fn level_of(operator: Operator) -> u32
 
 // The tree of a token that is an operand by itself.
 fn leaf(alloc: Global, at: u32, token: &Token) -> Result<Option<Node>, AllocError>
-    ensures { IfOk result (λ r. leaf_of at token.now ≡ option_map node_tree r) }
+    ensures exact { IfOk result (λ r. leaf_of at token.now ≡ option_map node_tree r) }
 {
     Ok(Some(match token {
         Token::Number(number) => Node::Constant(Value::Num(*number)),
@@ -414,7 +414,7 @@ fn leaf(alloc: Global, at: u32, token: &Token) -> Result<Option<Node>, AllocErro
 }
 
 fn unary(alloc: Global, at: u32, sign: Sign, operand: Node) -> Result<Node, AllocError>
-    ensures { IfOk result (λ e. node_tree e ≡ tree.unary at sign (node_tree operand)) }
+    ensures exact { IfOk result (λ e. node_tree e ≡ tree.unary at sign (node_tree operand)) }
 {
     Ok(Node::Unary(at, sign, Box::new(alloc, operand)?))
 }
@@ -426,7 +426,7 @@ fn binary(
     left: Node,
     right: Node,
 ) -> Result<Node, AllocError>
-    ensures { IfOk result (λ e. node_tree e ≡ tree.binary at operator (node_tree left) (node_tree right)) }
+    ensures exact { IfOk result (λ e. node_tree e ≡ tree.binary at operator (node_tree left) (node_tree right)) }
 {
     let left = Box::new(alloc, left)?;
     let right = Box::new(alloc, right)?;
@@ -434,7 +434,7 @@ fn binary(
 }
 
 fn choice(alloc: Global, at: u32, condition: Node, yes: Node, no: Node) -> Result<Node, AllocError>
-    ensures { IfOk result (λ e. node_tree e ≡ tree.choice at (node_tree condition) (node_tree yes) (node_tree no)) }
+    ensures exact { IfOk result (λ e. node_tree e ≡ tree.choice at (node_tree condition) (node_tree yes) (node_tree no)) }
 {
     let condition = Box::new(alloc, condition)?;
     let yes = Box::new(alloc, yes)?;

@@ -4,7 +4,7 @@ ghost use Rattle.std.specs.String.{string_bytes};
 ghost use Rattle.numerals.specs.Bytes.{is_white, is_digit, is_digit as is_a_digit, drop_while};
 ghost use Rattle.numerals.specs.Decimal.{decimal_of_text};
 ghost use Rattle.numerals.specs.Numeral.{skip_sign};
-ghost use Rattle.expr_lang.specs.Tokens.{begins_with_digit, skip_whole, skip_fraction, skip_exponent, behind_number, number_token, escape_of as escape_byte, is_quote, is_quote as is_a_quote, text_at, content_token, is_name_start as starts_name, is_name_byte, is_other_word as is_left_out, word_token as token_of_word, symbol_token as token_of_symbol, symbol_at, token_at, tokens_of};
+ghost use Rattle.expr_lang.specs.Tokens.{begins_with_digit, skip_whole, skip_fraction, skip_exponent, after_number, number_token, escape_of as escape_byte, is_quote, is_quote as is_a_quote, text_at, content_token, is_name_start as starts_name, is_name_byte, is_other_word as is_left_out, word_token as token_of_word, symbol_token as token_of_symbol, symbol_at, token_at, tokens_of};
 ghost use Rattle.expr_lang.specs.Reading.{known_content, EndsLine};
 ghost use Rattle.expr_lang.specs.declared.token.Token.TheVariants as token;
 
@@ -23,7 +23,7 @@ struct Scanner<'a> {
 
 impl<'a> Scanner<'a> {
     fn peek(&self) -> Option<u8>
-        ensures { MatchOption result (self.now.rest.now ≡ [])
+        ensures exact { MatchOption result (self.now.rest.now ≡ [])
             (λ b. (bs : List ℕ) × (self.now.rest.now ≡ b ∷ bs)) }
     {
         self.rest.as_bytes().first().copied()
@@ -31,7 +31,7 @@ impl<'a> Scanner<'a> {
 
     // Goes past the next character.
     fn next(&mut self) -> Option<char>
-        ensures { MatchOption result ((self.old.rest.now ≡ []) × (self.new.rest.now ≡ []))
+        ensures exact { MatchOption result ((self.old.rest.now ≡ []) × (self.new.rest.now ≡ []))
             (λ c. self.old.rest.now ≡ encode_utf8 c ++ self.new.rest.now) }
     {
         let mut chars = self.rest.chars();
@@ -43,20 +43,20 @@ impl<'a> Scanner<'a> {
     // Goes past the next byte, which is an ASCII character.
     fn advance(&mut self)
         requires { (b : ℕ) × (bs : List ℕ) × (self.old.rest.now ≡ b ∷ bs) × (b < 128) }
-        ensures { (b : ℕ) × (self.old.rest.now ≡ b ∷ self.new.rest.now) }
+        ensures next { (b : ℕ) × (self.old.rest.now ≡ b ∷ self.new.rest.now) }
     {
         let _ = self.next();
     }
 
     fn pass(&mut self, n: usize)
         requires { IsCharBoundary self.old.rest.now n }
-        ensures { self.new.rest.now ≡ drop n self.old.rest.now }
+        ensures exact { self.new.rest.now ≡ drop n self.old.rest.now }
     {
         self.rest = &self.rest[n..];
     }
 
     fn skip_white(&mut self)
-        ensures { self.new.rest.now ≡ drop_while is_white self.old.rest.now }
+        ensures exact { self.new.rest.now ≡ drop_while is_white self.old.rest.now }
     {
         while let Some(b' ' | b'\t' | b'\n' | b'\r') = self.peek() {
             self.advance();
@@ -64,7 +64,7 @@ impl<'a> Scanner<'a> {
     }
 
     fn digits(&mut self)
-        ensures { self.new.rest.now ≡ drop_while is_digit self.old.rest.now }
+        ensures exact { self.new.rest.now ≡ drop_while is_digit self.old.rest.now }
     {
         while let Some(b'0'..=b'9') = self.peek() {
             self.advance();
@@ -72,7 +72,7 @@ impl<'a> Scanner<'a> {
     }
 
     fn name_bytes(&mut self)
-        ensures { self.new.rest.now ≡ drop_while is_name_byte self.old.rest.now }
+        ensures exact { self.new.rest.now ≡ drop_while is_name_byte self.old.rest.now }
     {
         while let Some(b'a'..=b'z' | b'A'..=b'Z' | b'0'..=b'9' | b'_' | b'$') = self.peek() {
             self.advance();
@@ -80,7 +80,7 @@ impl<'a> Scanner<'a> {
     }
 
     fn whole(&mut self)
-        ensures { self.new.rest.now ≡ skip_whole self.old.rest.now }
+        ensures exact { self.new.rest.now ≡ skip_whole self.old.rest.now }
     {
         if let Some(b'0') = self.peek() {
             self.advance();
@@ -90,7 +90,7 @@ impl<'a> Scanner<'a> {
     }
 
     fn is_digit_next(&self) -> bool
-        ensures { result ≡ begins_with_digit self.now.rest.now }
+        ensures exact { result ≡ begins_with_digit self.now.rest.now }
     {
         match self.peek() {
             Some(b'0'..=b'9') => true,
@@ -99,7 +99,7 @@ impl<'a> Scanner<'a> {
     }
 
     fn fraction(&mut self)
-        ensures { self.new.rest.now ≡ skip_fraction self.old.rest.now }
+        ensures exact { self.new.rest.now ≡ skip_fraction self.old.rest.now }
     {
         let start = self.rest;
         if let Some(b'.') = self.peek() {
@@ -113,7 +113,7 @@ impl<'a> Scanner<'a> {
     }
 
     fn sign(&mut self)
-        ensures { self.new.rest.now ≡ skip_sign self.old.rest.now }
+        ensures exact { self.new.rest.now ≡ skip_sign self.old.rest.now }
     {
         if let Some(b'+' | b'-') = self.peek() {
             self.advance();
@@ -121,7 +121,7 @@ impl<'a> Scanner<'a> {
     }
 
     fn exponent(&mut self)
-        ensures { self.new.rest.now ≡ skip_exponent self.old.rest.now }
+        ensures exact { self.new.rest.now ≡ skip_exponent self.old.rest.now }
     {
         let start = self.rest;
         if let Some(b'e' | b'E') = self.peek() {
@@ -137,7 +137,7 @@ impl<'a> Scanner<'a> {
 
     // Passes a numeral, and answers its bytes.
     fn numeral(&mut self) -> &'a str
-        ensures rest { self.new.rest.now ≡ behind_number self.old.rest.now }
+        ensures rest { self.new.rest.now ≡ after_number self.old.rest.now }
         ensures text { result.now ≡ take (length self.old.rest.now - length self.new.rest.now) self.old.rest.now }
     {
         let start = self.rest;
@@ -160,7 +160,7 @@ impl<'a> Scanner<'a> {
     // A text, after its quote.
     fn quoted(&mut self, quote: u8) -> Result<Token, AllocError>
         requires { is_quote quote ≡ true }
-        ensures { IfOk result (λ t. (t, self.new.rest.now) ≡ text_at quote (Some []) self.old.rest.now) }
+        ensures exact { IfOk result (λ t. (t, self.new.rest.now) ≡ text_at quote (Some []) self.old.rest.now) }
     {
         let mut content = String::new(self.alloc);
         let mut other = false;
@@ -187,7 +187,7 @@ impl<'a> Scanner<'a> {
 
     // Goes past the next character, unless it is a line feed.
     fn next_in_line(&mut self) -> Option<char>
-        ensures { MatchOption result (EndsLine self.old.rest.now)
+        ensures exact { MatchOption result (EndsLine self.old.rest.now)
             (λ c. (self.old.rest.now ≡ encode_utf8 c ++ self.new.rest.now) × ¬ (c ≡ 10)) }
     {
         match self.next() {
@@ -208,7 +208,7 @@ impl<'a> Scanner<'a> {
     // An operator or a mark, whose first byte is `first`.
     fn symbol(&mut self, first: u8) -> Token
         requires { (bs : List ℕ) × (self.old.rest.now ≡ first ∷ bs) }
-        ensures { (bs : List ℕ) → self.old.rest.now ≡ first ∷ bs → (result, self.new.rest.now) ≡ symbol_at first bs }
+        ensures exact { (bs : List ℕ) → self.old.rest.now ≡ first ∷ bs → (result, self.new.rest.now) ≡ symbol_at first bs }
     {
         if let Some(symbol) = three_bytes(self.rest.as_bytes()) {
             self.pass(3);
@@ -228,7 +228,7 @@ impl<'a> Scanner<'a> {
     // The token whose first byte is `first`.
     fn token(&mut self, first: u8) -> Result<Token, AllocError>
         requires { (bs : List ℕ) × (self.old.rest.now ≡ first ∷ bs) }
-        ensures { IfOk result (λ t. (bs : List ℕ) → self.old.rest.now ≡ first ∷ bs → (t, self.new.rest.now) ≡ token_at first bs) }
+        ensures exact { IfOk result (λ t. (bs : List ℕ) → self.old.rest.now ≡ first ∷ bs → (t, self.new.rest.now) ≡ token_at first bs) }
     {
         if is_digit(first) {
             return Ok(number(self.numeral()));
@@ -248,19 +248,19 @@ impl<'a> Scanner<'a> {
 // The front of a text, without its end `rest`.
 fn front_of<'a>(text: &'a str, rest: &str) -> &'a str
     requires { (front : List ℕ) × (text.now ≡ front ++ rest.now) }
-    ensures { result.now ≡ take (length text.now - length rest.now) text.now }
+    ensures exact { result.now ≡ take (length text.now - length rest.now) text.now }
 {
     &text[..text.len() - rest.len()]
 }
 
 fn is_digit(b: u8) -> bool
-    ensures { result ≡ is_a_digit b }
+    ensures exact { result ≡ is_a_digit b }
 {
     b >= b'0' && b < b'9' + 1
 }
 
 fn is_quote(b: u8) -> bool
-    ensures { result ≡ is_a_quote b }
+    ensures exact { result ≡ is_a_quote b }
 {
     b == b'"' || b == b'\''
 }
@@ -273,7 +273,7 @@ pub fn is_name_start(b: u8) -> bool
 }
 
 fn number(numeral: &str) -> Token
-    ensures { result ≡ number_token (decimal_of_text numeral.now) }
+    ensures exact { result ≡ number_token (decimal_of_text numeral.now) }
 {
     match Decimal::parse(numeral) {
         Some(decimal) => Token::Number(decimal),
@@ -284,7 +284,7 @@ fn number(numeral: &str) -> Token
 /// The tokens of a text, and their places.
 pub fn tokens(alloc: Global, text: &str) -> Result<Vec<(u32, Token)>, AllocError>
     requires { length text.now < 2 ^ 32 }
-    ensures { IfOk result (λ ts. ts.items ≡ tokens_of text.now) }
+    ensures exact { IfOk result (λ ts. ts.items ≡ tokens_of text.now) }
 {
     let mut scanner = Scanner { alloc, rest: text };
     let mut tokens = Vec::new(alloc);
@@ -299,7 +299,7 @@ pub fn tokens(alloc: Global, text: &str) -> Result<Vec<(u32, Token)>, AllocError
 }
 
 fn text_token(content: String, other: bool) -> Token
-    ensures { result ≡ content_token (known_content other (string_bytes content)) }
+    ensures exact { result ≡ content_token (known_content other (string_bytes content)) }
 {
     if other {
         Token::Other
@@ -310,7 +310,7 @@ fn text_token(content: String, other: bool) -> Token
 
 // What a character after a backslash stands for.
 fn escape_of(c: char) -> Option<char>
-    ensures { result ≡ escape_byte c }
+    ensures exact { result ≡ escape_byte c }
 {
     match c {
         '\\' | '\'' | '"' => Some(c),
@@ -321,7 +321,7 @@ fn escape_of(c: char) -> Option<char>
 }
 
 fn is(word: &str, letters: &str) -> bool
-    ensures { result ≡ bytes_eq word.now letters.now }
+    ensures exact { result ≡ bytes_eq word.now letters.now }
 {
     word == letters
 }
@@ -344,7 +344,7 @@ pub fn is_other_word(word: &str) -> bool
 }
 
 fn word_token(alloc: Global, word: &str) -> Result<Token, AllocError>
-    ensures { IfOk result (λ t. t ≡ token_of_word word.now) }
+    ensures exact { IfOk result (λ t. t ≡ token_of_word word.now) }
 {
     if is(word, "true") {
         return Ok(Token::True);
@@ -365,7 +365,7 @@ fn word_token(alloc: Global, word: &str) -> Result<Token, AllocError>
 }
 
 fn symbol_token(symbol: Symbol) -> Token
-    ensures { result ≡ token_of_symbol symbol }
+    ensures exact { result ≡ token_of_symbol symbol }
 {
     match symbol {
         Symbol::Operator(operator) => Token::Operator(operator),

@@ -5,7 +5,7 @@ use crate::token::{Mark, Operator, Symbol};
 
 /// The operator `===` or `!==`, where the bytes begin with it; else `None`.
 pub fn three_bytes(rest: &[u8]) -> Option<Symbol>
-    ensures { result ≡ three_bytes_at rest.now }
+    ensures exact { result ≡ three_bytes_at rest.now }
 {
     if rest.starts_with(b"===") {
         Some(Symbol::Operator(Operator::Same))
@@ -19,7 +19,7 @@ pub fn three_bytes(rest: &[u8]) -> Option<Symbol>
 /// The symbol that the first two bytes are, `None` where they are none. It is `Other` for what the language leaves out
 /// of JavaScript: `**`, `=>`, `++`, `--`, `<<`, `>>` and `?.`.
 pub fn two_bytes(rest: &[u8]) -> Option<Symbol>
-    ensures { result ≡ two_bytes_at rest.now }
+    ensures exact { result ≡ two_bytes_at rest.now }
 {
     if rest.starts_with(b"==") {
         Some(Symbol::Operator(Operator::Equal))
@@ -55,7 +55,7 @@ pub fn two_bytes(rest: &[u8]) -> Option<Symbol>
 /// The symbol that this byte is by itself, `None` where it is none. It is `Other` for what the language leaves out of
 /// JavaScript, as `/`, `%` or a comma.
 pub fn one_byte(b: u8) -> Option<Symbol>
-    ensures { result ≡ one_byte_at b }
+    ensures exact { result ≡ one_byte_at b }
 {
     match b {
         b'?' => Some(Symbol::Mark(Mark::Question)),
@@ -78,7 +78,7 @@ pub fn one_byte(b: u8) -> Option<Symbol>
 }
 
 fn other_byte(b: u8) -> Option<Symbol>
-    ensures { result ≡ other_byte_at b }
+    ensures exact { result ≡ other_byte_at b }
 {
     match b {
         b'/' | b'%' | b'&' | b'|' | b'^' | b'~' | b'{' | b'}' | b',' => Some(Symbol::Other),

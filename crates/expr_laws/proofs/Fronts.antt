@@ -4,7 +4,7 @@ use Rattle.expr_lang.specs.declared.token.Mark.TheVariants as mark
 use Rattle.expr_lang.specs.declared.token.Token.TheVariants as token
 use Rattle.expr_lang.specs.Tree.{Assigned, column, feature_number}
 use Rattle.expr_lang.specs.Grammar.{Placed, Toks, Cond, atom, leaf, this_id, this_property}
-use Rattle.expr_lang.specs.Machine.{Place, Open, levels, operand, operator, behind_this, behind_dot, behind_properties, behind_bracket, behind_name, first_target, next_target, behind_target, in_parentheses, first_branch, last_branch, assigned_value}
+use Rattle.expr_lang.specs.Machine.{Place, Open, levels, operand, operator, after_this, after_dot, after_properties, after_bracket, after_name, first_target, next_target, after_target, in_parentheses, first_branch, last_branch, assigned_value}
 use Rattle.expr_lang.proofs.Assignments.{Ended, nothing_yet, target, sets}
 use Rattle.expr_laws.proofs.Trees.{Condition, Goes, Kind, Operands, Operand, Text, assigned_text, assignments, condition_of, expression, operands_of}
 
@@ -56,11 +56,11 @@ end at = (at, token.Mark mark.CloseBracket)
 
 -- what was read of this.id and this.properties["name"] at a place within
 pub data Member : Place → Toks → Type 0 where
-  a_this : (at : ℕ) → Member behind_this (this at ∷ [])
-  a_dot : (at b : ℕ) → Member behind_dot (this at ∷ dot b ∷ [])
-  a_properties : (at b c : ℕ) → Member behind_properties (this at ∷ dot b ∷ properties c ∷ [])
-  a_bracket : (at b c d : ℕ) → Member behind_bracket (this at ∷ dot b ∷ properties c ∷ bracket d ∷ [])
-  a_name : (at b c d e : ℕ) (s : List ℕ) → Member behind_name (this at ∷ dot b ∷ properties c ∷ bracket d ∷ (e, token.Text s) ∷ [])
+  a_this : (at : ℕ) → Member after_this (this at ∷ [])
+  a_dot : (at b : ℕ) → Member after_dot (this at ∷ dot b ∷ [])
+  a_properties : (at b c : ℕ) → Member after_properties (this at ∷ dot b ∷ properties c ∷ [])
+  a_bracket : (at b c d : ℕ) → Member after_bracket (this at ∷ dot b ∷ properties c ∷ bracket d ∷ [])
+  a_name : (at b c d e : ℕ) (s : List ℕ) → Member after_name (this at ∷ dot b ∷ properties c ∷ bracket d ∷ (e, token.Text s) ∷ [])
 
 -- a front of a text of n levels, at a place
 pub data At (n : ℕ) : Kind → Place → List Open → Toks → Type 0 where
@@ -73,7 +73,7 @@ pub data At (n : ℕ) : Kind → Place → List Open → Toks → Type 0 where
   at_first : {front : Toks} → front ≡ [] → At n assignments first_target [] front
   at_next : {front : Toks} (u : Toks) (xs : List Assigned) → front ≡ u → Ended n u xs → Text assignments n u → At n assignments next_target [] front
   at_target : {front : Toks} (at : ℕ) (name : List ℕ) (u : Toks) (xs : List Assigned)
-      → front ≡ u ++ target at name ∷ [] → Ended n u xs → At n assignments behind_target [] front
+      → front ≡ u ++ target at name ∷ [] → Ended n u xs → At n assignments after_target [] front
 
 pub levels_are : {n d : ℕ} {k : List Open} {front : Toks} {g : Kind} → Opened n g k d front → levels k + d ≡ n
 levels_are (nothing e f) = omega arith

@@ -13,7 +13,7 @@ use Rattle.expr_lang.specs.declared.token.Token.TheVariants as token
 use Rattle.expr_lang.specs.declared.parser.Misfit.TheVariants.{TooDeep}
 use Rattle.expr_lang.specs.Tree.{Assigned, unary, feature_number, column}
 use Rattle.expr_lang.specs.Grammar.{Placed, Toks, Unary, atom, signed, leaf, this_id, this_property, enclosed, sign_of}
-use Rattle.expr_lang.specs.Machine.{Place, Open, levels, opens, colon, close, semicolon, a_target, a_becomes, step, misfit_of, operand, operator, behind_this, behind_dot, behind_properties, behind_bracket, behind_name, next_target, behind_target, in_parentheses, first_branch, last_branch, assigned_value}
+use Rattle.expr_lang.specs.Machine.{Place, Open, levels, opens, colon, close, semicolon, a_target, a_becomes, step, misfit_of, operand, operator, after_this, after_dot, after_properties, after_bracket, after_name, next_target, after_target, in_parentheses, first_branch, last_branch, assigned_value}
 use Rattle.expr_lang.proofs.Assignments as assigned
 use Rattle.expr_lang.proofs.Assignments.{Ended, nothing_yet, and_one}
 use Rattle.expr_lang.proofs.Steps.{opens_more}
@@ -81,7 +81,7 @@ begins_at {n} {k = k} m p at (token.Text u) y o e f h s = there n (operator, k) 
 begins_at {n} {k = k} m p at token.True y o e f h s = there n (operator, k) y _ s (one_operand p (at, token.True) o f h (_, atom (leaf refl)))
 begins_at {n} {k = k} m p at token.False y o e f h s = there n (operator, k) y _ s (one_operand p (at, token.False) o f h (_, atom (leaf refl)))
 begins_at {n} {k = k} m p at token.Null y o e f h s = there n (operator, k) y _ s (one_operand p (at, token.Null) o f h (_, atom (leaf refl)))
-begins_at {n} {k = k} m p at token.This y o e f h s = there n (behind_this, k) y _ s (at_member behind_this p (front.this at ∷ []) o (longer _ _ p (at, token.This) f) h (front.a_this at))
+begins_at {n} {k = k} m p at token.This y o e f h s = there n (after_this, k) y _ s (at_member after_this p (front.this at ∷ []) o (longer _ _ p (at, token.This) f) h (front.a_this at))
 begins_at {n} {k = k} m p at (token.Name u) y o e f h s = there n (operator, k) y _ s (one_operand p (at, token.Name u) o f h (_, atom (leaf refl)))
 begins_at {n} {b} {k = k} m p at (token.Operator op.Minus) y o e f h s =
     let d : Deeper (levels k + m) n (operand (suc m), k) y = deeper n (levels k + m) (operand (suc m)) k y s in
@@ -157,36 +157,36 @@ data MemberMoves (k : List Open) (y : Spot) (w : Toks) : Type 0 where
 name_there : (s : List ℕ) (w : List ℕ) → bytes_eq s w ≡ true → s ≡ w
 name_there s w e = (bytes_eq-Decides s w).0 e
 
-member_at : (k : List Open) (y : Spot) (at b c : ℕ) (s : List ℕ) → step 0 behind_dot k (token.Name s) ≡ Some y → MemberMoves k y (front.this at ∷ front.dot b ∷ (c, token.Name s) ∷ [])
+member_at : (k : List Open) (y : Spot) (at b c : ℕ) (s : List ℕ) → step 0 after_dot k (token.Name s) ≡ Some y → MemberMoves k y (front.this at ∷ front.dot b ∷ (c, token.Name s) ∷ [])
 member_at k y at b c s e = go (bytes_eq s (codes "id")) (bytes_eq s (codes "properties")) refl refl
   where
     go : (v w : Bool) → bytes_eq s (codes "id") ≡ v → bytes_eq s (codes "properties") ≡ w → MemberMoves k y (front.this at ∷ front.dot b ∷ (c, token.Name s) ∷ [])
-    go true w h g = whole (ap (λ (v : Bool). if v then Some (operator, k) else (if bytes_eq s (codes "properties") then Some (behind_properties, k) else None)) (sym h) ∙ e)
+    go true w h g = whole (ap (λ (v : Bool). if v then Some (operator, k) else (if bytes_eq s (codes "properties") then Some (after_properties, k) else None)) (sym h) ∙ e)
         (λ n. (feature_number, subst (λ (z : List ℕ). Unary n (front.this at ∷ front.dot b ∷ (c, token.Name z) ∷ []) feature_number) (sym (name_there s (codes "id") h)) (atom this_id)))
-    go false true h g = within behind_properties
-        (ap (λ (w : Bool). if w then Some (behind_properties, k) else None) (sym g) ∙ ap (λ (v : Bool). if v then Some (operator, k) else (if bytes_eq s (codes "properties") then Some (behind_properties, k) else None)) (sym h) ∙ e)
-        (subst (λ (z : List ℕ). Member behind_properties (front.this at ∷ front.dot b ∷ (c, token.Name z) ∷ [])) (sym (name_there s (codes "properties") g)) (front.a_properties at b c))
+    go false true h g = within after_properties
+        (ap (λ (w : Bool). if w then Some (after_properties, k) else None) (sym g) ∙ ap (λ (v : Bool). if v then Some (operator, k) else (if bytes_eq s (codes "properties") then Some (after_properties, k) else None)) (sym h) ∙ e)
+        (subst (λ (z : List ℕ). Member after_properties (front.this at ∷ front.dot b ∷ (c, token.Name z) ∷ [])) (sym (name_there s (codes "properties") g)) (front.a_properties at b c))
     go false false h g =
-        let no : None ≡ Some y = ap (λ (w : Bool). if w then Some (behind_properties, k) else None) (sym g) ∙ ap (λ (v : Bool). if v then Some (operator, k) else (if bytes_eq s (codes "properties") then Some (behind_properties, k) else None)) (sym h) ∙ e in
+        let no : None ≡ Some y = ap (λ (w : Bool). if w then Some (after_properties, k) else None) (sym g) ∙ ap (λ (v : Bool). if v then Some (operator, k) else (if bytes_eq s (codes "properties") then Some (after_properties, k) else None)) (sym h) ∙ e in
         cc
 
-dot_at : (k : List Open) (y : Spot) (at b : ℕ) (t : Token) → step 0 behind_this k t ≡ Some y → MemberMoves k y (front.this at ∷ (b, t) ∷ [])
-dot_at k y at b (token.Mark mark.Dot) e = within behind_dot e (front.a_dot at b)
+dot_at : (k : List Open) (y : Spot) (at b : ℕ) (t : Token) → step 0 after_this k t ≡ Some y → MemberMoves k y (front.this at ∷ (b, t) ∷ [])
+dot_at k y at b (token.Mark mark.Dot) e = within after_dot e (front.a_dot at b)
 dot_at k y at b _ e = cc
 
-bracket_at : (k : List Open) (y : Spot) (at b c d : ℕ) (t : Token) → step 0 behind_properties k t ≡ Some y → MemberMoves k y (front.this at ∷ front.dot b ∷ front.properties c ∷ (d, t) ∷ [])
-bracket_at k y at b c d (token.Mark mark.OpenBracket) e = within behind_bracket e (front.a_bracket at b c d)
+bracket_at : (k : List Open) (y : Spot) (at b c d : ℕ) (t : Token) → step 0 after_properties k t ≡ Some y → MemberMoves k y (front.this at ∷ front.dot b ∷ front.properties c ∷ (d, t) ∷ [])
+bracket_at k y at b c d (token.Mark mark.OpenBracket) e = within after_bracket e (front.a_bracket at b c d)
 bracket_at k y at b c d _ e = cc
 
-text_at : (k : List Open) (y : Spot) (at b c d x : ℕ) (t : Token) → step 0 behind_bracket k t ≡ Some y → MemberMoves k y (front.this at ∷ front.dot b ∷ front.properties c ∷ front.bracket d ∷ (x, t) ∷ [])
-text_at k y at b c d x (token.Text s) e = within behind_name e (front.a_name at b c d x s)
+text_at : (k : List Open) (y : Spot) (at b c d x : ℕ) (t : Token) → step 0 after_bracket k t ≡ Some y → MemberMoves k y (front.this at ∷ front.dot b ∷ front.properties c ∷ front.bracket d ∷ (x, t) ∷ [])
+text_at k y at b c d x (token.Text s) e = within after_name e (front.a_name at b c d x s)
 text_at k y at b c d x _ e = cc
 
-end_at : (k : List Open) (y : Spot) (at b c d x z : ℕ) (s : List ℕ) (t : Token) → step 0 behind_name k t ≡ Some y → MemberMoves k y (front.this at ∷ front.dot b ∷ front.properties c ∷ front.bracket d ∷ (x, token.Text s) ∷ (z, t) ∷ [])
+end_at : (k : List Open) (y : Spot) (at b c d x z : ℕ) (s : List ℕ) (t : Token) → step 0 after_name k t ≡ Some y → MemberMoves k y (front.this at ∷ front.dot b ∷ front.properties c ∷ front.bracket d ∷ (x, token.Text s) ∷ (z, t) ∷ [])
 end_at k y at b c d x z s (token.Mark mark.CloseBracket) e = whole e (λ n. (column at s, atom this_property))
 end_at k y at b c d x z s _ e = cc
 
-name_at : (k : List Open) (y : Spot) (at b c : ℕ) (t : Token) → step 0 behind_dot k t ≡ Some y → MemberMoves k y (front.this at ∷ front.dot b ∷ (c, t) ∷ [])
+name_at : (k : List Open) (y : Spot) (at b c : ℕ) (t : Token) → step 0 after_dot k t ≡ Some y → MemberMoves k y (front.this at ∷ front.dot b ∷ (c, t) ∷ [])
 name_at k y at b c (token.Name s) e = member_at k y at b c s e
 name_at k y at b c _ e = cc
 
@@ -206,7 +206,7 @@ member_goes {n} {b} {k = k} p w t y o f h (whole e u) = there n (operator, k) y 
 target_at : {n : ℕ} {front : Toks} (u : Toks) (xs : List Assigned) (at : ℕ) (t : Token) (y : Spot) → front ≡ u → Ended n u xs → a_target [] t ≡ Some y → AtSpot n assignments y (front ++ (at, t) ∷ [])
 target_at {n} {front} u xs at (token.Name w) y f h e =
     let same : front ++ (at, token.Name w) ∷ [] ≡ u ++ (at, token.Name w) ∷ [] = ap (λ (z : Toks). z ++ (at, token.Name w) ∷ []) f in
-    there n (behind_target, []) y _ e (at_target at w u xs same h)
+    there n (after_target, []) y _ e (at_target at w u xs same h)
 target_at u xs at _ y f h e = cc
 
 becomes_at : {n : ℕ} {front : Toks} (at : ℕ) (name : List ℕ) (u : Toks) (xs : List Assigned) (b : ℕ) (t : Token) (y : Spot) → front ≡ u ++ assigned.target at name ∷ [] → Ended n u xs → a_becomes [] t ≡ Some y → AtSpot n assignments y (front ++ (b, t) ∷ [])

@@ -71,12 +71,12 @@ abbrev pub Goes : Kind → ℕ → Toks → Type 0
 Goes g n s = (more : Toks) × Text g n (s ++ more)
 
 -- assignments after others, each of which has its semicolon
-pub assigns_behind : {n : ℕ} {s : Toks} {xs : List Assigned} → Ended n s xs → (u : Toks) (ys : List Assigned) → Assigns n u ys → Assigns n (s ++ u) (xs ++ ys)
-assigns_behind nothing_yet u ys g = g
-assigns_behind {n} (and_one at {s = s} {t = t} {a = a} {xs = xs} h o) u ys g =
+pub assigns_after : {n : ℕ} {s : Toks} {xs : List Assigned} → Ended n s xs → (u : Toks) (ys : List Assigned) → Assigns n u ys → Assigns n (s ++ u) (xs ++ ys)
+assigns_after nothing_yet u ys g = g
+assigns_after {n} (and_one at {s = s} {t = t} {a = a} {xs = xs} h o) u ys g =
     let joined : s ++ (t ++ semicolon at ∷ u) ≡ (s ++ (t ++ semicolon at ∷ [])) ++ u = sym (append_assoc s (t ++ semicolon at ∷ []) u ∙ ap (λ (z : Toks). s ++ z) (append_assoc t (semicolon at ∷ []) u)) in
     subst (λ (z : Toks). Assigns n z ((xs ++ a ∷ []) ++ ys)) joined
-    (subst (λ (z : List Assigned). Assigns n (s ++ (t ++ semicolon at ∷ u)) z) (sym (append_assoc xs (a ∷ []) ys)) (assigns_behind h (t ++ semicolon at ∷ u) (a ∷ ys) (more_assigns at o g)))
+    (subst (λ (z : List Assigned). Assigns n (s ++ (t ++ semicolon at ∷ u)) z) (sym (append_assoc xs (a ∷ []) ys)) (assigns_after h (t ++ semicolon at ∷ u) (a ∷ ys) (more_assigns at o g)))
 
 -- the name, the `=` and the value of an assignment
 pub one_assign : (n at b : ℕ) (name : List ℕ) (s : Toks) (c : Condition n s) → OneAssign n (target at name ∷ sets b ∷ s) (name, c.0)
@@ -84,9 +84,9 @@ one_assign n at b name s c = becomes c.1
 
 -- an assignment after others is whole
 pub assigned_text : (n at b : ℕ) (name : List ℕ) (u s : Toks) (xs : List Assigned) → Ended n u xs → Condition n s → Text assignments n (u ++ target at name ∷ sets b ∷ s)
-assigned_text n at b name u s xs h c = (xs ++ (name, c.0) ∷ [], assigns_behind h (target at name ∷ sets b ∷ s) ((name, c.0) ∷ []) (last_assign (one_assign n at b name s c)))
+assigned_text n at b name u s xs h c = (xs ++ (name, c.0) ∷ [], assigns_after h (target at name ∷ sets b ∷ s) ((name, c.0) ∷ []) (last_assign (one_assign n at b name s c)))
 
 -- and so it is with a semicolon after it
 pub ended_text : (n at b to : ℕ) (name : List ℕ) (u s : Toks) (xs : List Assigned) → Ended n u xs → Condition n s → Text assignments n (u ++ ((target at name ∷ sets b ∷ s) ++ semicolon to ∷ []))
 ended_text n at b to name u s xs h c =
-    (xs ++ (name, c.0) ∷ [], assigns_behind h ((target at name ∷ sets b ∷ s) ++ semicolon to ∷ []) ((name, c.0) ∷ []) (ended_assign to (one_assign n at b name s c)))
+    (xs ++ (name, c.0) ∷ [], assigns_after h ((target at name ∷ sets b ∷ s) ++ semicolon to ∷ []) ((name, c.0) ∷ []) (ended_assign to (one_assign n at b name s c)))

@@ -75,9 +75,9 @@ record IsNumber (arcs : List Path) (n j : ℕ) (s : Segment) (x : Dart × ℕ) :
 of_numbers : (arcs : List Path) (m : ℕ) → m ≤ length arcs → (x : Dart × ℕ) → Contains (numbers_below arcs m) x → (n : ℕ) × (j : ℕ) × (s : Segment) × IsNumber arcs n j s x
 unfolding numbers_below numbers_of
 of_numbers arcs zero l x c = Contains-nil x c
-of_numbers arcs (suc m) l x c = elim (Contains-append_cases (numbers_below arcs m) (ahead ++ behind) x c) [
+of_numbers arcs (suc m) l x c = elim (Contains-append_cases (numbers_below arcs m) (ahead ++ past) x c) [
   | inl k ↦ of_numbers arcs m (omega arith) x k
-  | inr k ↦ elim (Contains-append_cases ahead behind x k) [
+  | inr k ↦ elim (Contains-append_cases ahead past x k) [
     | inl o ↦ (
         let (d, there, e) = map-Contains (λ d. (d, place_of (forward m))) darts x o in
         let (s, (j, below, is), f) = map-Contains dart_of_step (steps (arc_of arcs m)) d there in
@@ -95,8 +95,8 @@ of_numbers arcs (suc m) l x c = elim (Contains-append_cases (numbers_below arcs 
     ahead : List (Dart × ℕ)
     ahead = map (λ d. (d, place_of (forward m))) (darts_of_path (arc_of arcs m))
 
-    behind : List (Dart × ℕ)
-    behind = map (λ d. (opposite d, place_of (backward m))) (darts_of_path (arc_of arcs m))
+    past : List (Dart × ℕ)
+    past = map (λ d. (opposite d, place_of (backward m))) (darts_of_path (arc_of arcs m))
 
 in_numbers : (arcs : List Path) (m n : ℕ) → n < m → (x : Dart × ℕ) → Contains (numbers_of arcs n) x → Contains (numbers_below arcs m) x
 unfolding numbers_below

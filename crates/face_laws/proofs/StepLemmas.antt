@@ -108,7 +108,7 @@ module _ (arcs : List Path) where
     pub where_it_starts : (c : Dart) → Contains S c.link → ((a : SignedArc) × IsFirstDart arcs a c) ⊎ ((n : ℕ) × (i : ℕ) × (s : Segment) × (t : Segment) × IsInnerDart arcs n i s t c)
     where_it_starts c h =
         let (n, j, s, is, e) = step_of_link c.link h in
-        elim (one_of_two s c (sym e)) [ inl f ↦ ahead n j s is f | inr f ↦ behind n j s is f ]
+        elim (one_of_two s c (sym e)) [ inl f ↦ ahead n j s is f | inr f ↦ past n j s is f ]
       where
         ahead : (n j : ℕ) (s : Segment) → IsStep arcs n j s → c ≡ dart_of_step s → ((a : SignedArc) × IsFirstDart arcs a c) ⊎ ((n : ℕ) × (i : ℕ) × (s : Segment) × (t : Segment) × IsInnerDart arcs n i s t c)
         ahead n zero s is f = inl (forward n, record { arc = is.arc; dart = f ∙ ap dart_of_step (sym (first_forward n s is)) })
@@ -118,8 +118,8 @@ module _ (arcs : List Path) where
             let s₀ : Segment = get_or (steps (arc_of arcs n)) j s in
             inr (n, j, s₀, s, record { before = step_at n j s is.arc (omega arith); after = subst (λ (k : ℕ). IsStep arcs n k s) same is; dart = inl f })
 
-        behind : (n j : ℕ) (s : Segment) → IsStep arcs n j s → c ≡ opposite (dart_of_step s) → ((a : SignedArc) × IsFirstDart arcs a c) ⊎ ((n : ℕ) × (i : ℕ) × (s : Segment) × (t : Segment) × IsInnerDart arcs n i s t c)
-        behind n j s is f = elim (cases_lt (j + 1) (length (steps (arc_of arcs n)))) [
+        past : (n j : ℕ) (s : Segment) → IsStep arcs n j s → c ≡ opposite (dart_of_step s) → ((a : SignedArc) × IsFirstDart arcs a c) ⊎ ((n : ℕ) × (i : ℕ) × (s : Segment) × (t : Segment) × IsInnerDart arcs n i s t c)
+        past n j s is f = elim (cases_lt (j + 1) (length (steps (arc_of arcs n)))) [
           | inl l ↦ inr (n, j, s, get_or (steps (arc_of arcs n)) (j + 1) s, record { before = is; after = step_at n (j + 1) s is.arc l; dart = inr f })
           | inr m ↦ (
               let there = is.there in

@@ -52,7 +52,7 @@ impl FaceOwners {
 // Puts the number of a set to the owners of each of its faces.
 fn add_owner(lists: &mut Vec<Vec<u32>>, faces: &[FaceId], n: u32) -> Result<(), AllocError>
     requires { IsStrictlyIncreasing faces.now }
-    ensures { OnOk result (IsNumbered n faces.now (map (λ list. list.items) lists.old.items) (map (λ list. list.items) lists.new.items)) }
+    ensures ok { OnOk result (IsNumbered n faces.now (map (λ list. list.items) lists.old.items) (map (λ list. list.items) lists.new.items)) }
 {
     for face in faces {
         put_number(lists, face.num() as usize, n)?;

@@ -139,7 +139,7 @@ fn sum_of_areas(f: &Faces, faces: &[FaceId]) -> Result<i128, AllocError>
 
 fn is_listed(faces: &[FaceId], f: FaceId) -> bool
     requires { IsStrictlyIncreasing faces.now }
-    ensures { result ≡ has nat_eq faces.now f }
+    ensures exact { result ≡ has nat_eq faces.now f }
 {
     match faces.binary_search(&f) {
         Ok(_) => true,
@@ -170,7 +170,7 @@ fn put(faces: &mut Vec<FaceId>, f: FaceId) -> Result<(), AllocError>
 // Whether a face is greater than all of an ascending list.
 fn is_past(faces: &[FaceId], f: FaceId) -> bool
     requires { IsStrictlyIncreasing faces.now }
-    ensures { result ≡ true → All (λ g. g < f) faces.now }
+    ensures yes { result ≡ true → All (λ g. g < f) faces.now }
 {
     match faces.last() {
         Some(last) => last.num() < f.num(),
@@ -180,7 +180,7 @@ fn is_past(faces: &[FaceId], f: FaceId) -> bool
 
 // The faces of a list that are in a set.
 fn taken(alloc: Global, faces: &[FaceId], set: &FaceSet) -> Result<Vec<FaceId>, AllocError>
-    ensures { IfOk result (λ v. v.items ≡ filter (λ f. has nat_eq set.now f) faces.now) }
+    ensures exact { IfOk result (λ v. v.items ≡ filter (λ f. has nat_eq set.now f) faces.now) }
 {
     let mut kept = Vec::new(alloc);
     for f in faces {
@@ -193,7 +193,7 @@ fn taken(alloc: Global, faces: &[FaceId], set: &FaceSet) -> Result<Vec<FaceId>, 
 
 // The faces of a list that are not in a set.
 fn left_out(alloc: Global, faces: &[FaceId], set: &FaceSet) -> Result<Vec<FaceId>, AllocError>
-    ensures { IfOk result (λ v. v.items ≡ filter (λ f. not (has nat_eq set.now f)) faces.now) }
+    ensures exact { IfOk result (λ v. v.items ≡ filter (λ f. not (has nat_eq set.now f)) faces.now) }
 {
     let mut kept = Vec::new(alloc);
     for f in faces {

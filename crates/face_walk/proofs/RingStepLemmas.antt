@@ -39,11 +39,11 @@ steps_more arcs n [] paths old new m e h w =
     let same : m ≡ n = omega arith in
     (w.0, [], w.1, refl, w.2 ∙ (λ i. h i ++ map (step_along (same i)) w.0) ∙ sym (append-nil (map (step_along n) w.0)))
 steps_more arcs n (first ∷ items) paths old new m e h w =
-    let behind : AreAdded arcs m paths h.1 (h.1 ++ map (step_along m) w.0) = (w.0, w.1, refl) in (
+    let past : AreAdded arcs m paths h.1 (h.1 ++ map (step_along m) w.0) = (w.0, w.1, refl) in (
       h.0,
       h.1 ++ map (step_along m) w.0,
       h.2,
-      steps_more arcs (n + 1) items paths h.1 (h.1 ++ map (step_along m) w.0) m (omega arith) h.3 behind,
+      steps_more arcs (n + 1) items paths h.1 (h.1 ++ map (step_along m) w.0) m (omega arith) h.3 past,
       w.2 ∙ ap (λ (xs : List RingStep). xs ++ map (step_along m) w.0) h.4 ∙ append_assoc (map (step_along n) h.0) h.1 (map (step_along m) w.0),
     )
 

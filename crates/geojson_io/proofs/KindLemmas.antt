@@ -50,8 +50,8 @@ swapped j k = eq_swapped (kind_number j) (kind_number k)
 abbrev is_new : List Kind → Kind → Bool
 is_new ks y = not (has same_kind ks y)
 
-new_behind : (ks : List Kind) (k y : Kind) → is_new (ks ++ k ∷ []) y ≡ (is_new ks y && not (same_kind k y))
-new_behind ks k y =
+new_after : (ks : List Kind) (k y : Kind) → is_new (ks ++ k ∷ []) y ≡ (is_new ks y && not (same_kind k y))
+new_after ks k y =
     ap not (list_any-append (same_kind y) ks (k ∷ [])) ∙ none_of (list_any (same_kind y) ks) (same_kind y k)
     ∙ ap (λ (b : Bool). is_new ks y && not b) (swapped y k)
   where
@@ -86,7 +86,7 @@ kinds_gathered ks (f ∷ fs) = go (kind_of f.shape) (λ (js : List Kind). kinds_
         ∙ sym (ap (λ (c : Bool). cond (not c) (k ∷ filter (is_new ks) (rest k)) (filter (is_new ks) (rest k))) e))
     added k false e =
         ap (λ (c : Bool). cond c ks (ks ++ k ∷ []) ++ filter (is_new (cond c ks (ks ++ k ∷ []))) (each_once same_kind (found fs))) e
-        ∙ ap (λ (l : List Kind). (ks ++ k ∷ []) ++ l) (filter_both (is_new (ks ++ k ∷ [])) (is_new ks) (λ (y : Kind). not (same_kind k y)) (new_behind ks k) (each_once same_kind (found fs)))
+        ∙ ap (λ (l : List Kind). (ks ++ k ∷ []) ++ l) (filter_both (is_new (ks ++ k ∷ [])) (is_new ks) (λ (y : Kind). not (same_kind k y)) (new_after ks k) (each_once same_kind (found fs)))
         ∙ append_assoc ks (k ∷ []) (filter (is_new ks) (rest k))
         ∙ ap (λ (l : List Kind). ks ++ l) (sym (ap (λ (c : Bool). cond (not c) (k ∷ filter (is_new ks) (rest k)) (filter (is_new ks) (rest k))) e))
 
@@ -141,9 +141,9 @@ abbrev AreLeft : Kind → List Kind → List Feature → List Feature → Type 0
 AreLeft first [] left fs = Unit {0}
 AreLeft first (k ∷ ks) left fs = (filter (is_of_kind first k) left ≡ filter (is_of_kind first k) fs) × AreLeft first ks left fs
 
-left_behind : (first k : Kind) (ks : List Kind) (left fs : List Feature) → AreOther k ks → AreLeft first ks left fs → AreLeft first ks (filter (is_of_another first k) left) fs
-left_behind first k [] left fs o h = tt
-left_behind first k (j ∷ ks) left fs o h = (filter_absorbed (is_of_kind first j) (is_of_another first k) other left ∙ h.0, left_behind first k ks left fs o.1 h.1)
+left_after : (first k : Kind) (ks : List Kind) (left fs : List Feature) → AreOther k ks → AreLeft first ks left fs → AreLeft first ks (filter (is_of_another first k) left) fs
+left_after first k [] left fs o h = tt
+left_after first k (j ∷ ks) left fs o h = (filter_absorbed (is_of_kind first j) (is_of_another first k) other left ∙ h.0, left_after first k ks left fs o.1 h.1)
   where
     other : (f : Feature) → is_of_kind first j f ≡ true → is_of_another first k f ≡ true
     other f e = go (is_of_kind first k f) refl
@@ -158,7 +158,7 @@ layers_split : (name : List ℕ) (first : Kind) (ks : List Kind) (left fs : List
 layers_split name first [] left fs d h = refl
 layers_split name first (k ∷ ks) left fs d h =
     ap (λ (gs : List Feature). layer_of (name ++ kind_ending k) k gs ∷ split_layers name first ks (filter (is_of_another first k) left)) h.0
-    ∙ ap (λ (ls : List LayerContent). layer_among name first fs k ∷ ls) (layers_split name first ks (filter (is_of_another first k) left) fs d.1 (left_behind first k ks left fs d.0 h.1))
+    ∙ ap (λ (ls : List LayerContent). layer_among name first fs k ∷ ls) (layers_split name first ks (filter (is_of_another first k) left) fs d.1 (left_after first k ks left fs d.0 h.1))
 
 all_left : (first : Kind) (ks : List Kind) (fs : List Feature) → AreLeft first ks fs fs
 all_left first [] fs = tt

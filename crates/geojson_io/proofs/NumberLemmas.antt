@@ -15,7 +15,7 @@ use Rattle.geojson_io.specs.Numbers.{fraction_text, whole_digits}
 use Rattle.plane_model.specs.Points.{GridPoint}
 use Rattle.geojson_io.specs.Texts.{grid_text, point_text}
 
--- ## Digits behind a 1
+-- ## Digits after a 1
 
 -- a 1 and the k last digits of f
 one_and_digits : (k f n : ℕ) → f < 10 ^ k → n ≡ 10 ^ k + f → n < 2 ^ 64 → decimal n ≡ 49 ∷ last_digits k f
@@ -41,7 +41,7 @@ pub record IsOneAnd (places fraction n : ℕ) : Type 0 where
   pub some : digits ≢ 0
   pub same : trimmed_digits places fraction ≡ trimmed_digits count digits
 
--- there is a digit behind the 1
+-- there is a digit after the 1
 no_digits : (digits : ℕ) → digits < 10 ^ 0 → digits ≢ 0 → ⊥
 no_digits digits below some = omega arith
 
@@ -77,8 +77,8 @@ pub point_for_one : (room tail : List ℕ) (start places n m : ℕ) → n ≢ 0 
 point_for_one room tail start places n m some l digits h =
     let first : drop start room ≡ get_or room start 0 ∷ drop (suc start) room = drop-cons room start 0 l in
     let all : drop start room ≡ 49 ∷ (trimmed_digits places n ++ tail) = h ∙ ap (λ (t : List ℕ). t ++ tail) digits in
-    let behind : drop (suc start) room ≡ trimmed_digits places n ++ tail = cc in
-    drop-set room start 46 l ∙ ap (λ (i : ℕ). 46 ∷ drop i room) (add-one start) ∙ ap (λ (t : List ℕ). 46 ∷ t) behind
+    let after : drop (suc start) room ≡ trimmed_digits places n ++ tail = cc in
+    drop-set room start 46 l ∙ ap (λ (i : ℕ). 46 ∷ drop i room) (add-one start) ∙ ap (λ (t : List ℕ). 46 ∷ t) after
     ∙ ap (λ (t : List ℕ). t ++ tail) (sym (fraction_some places n some))
 
 zero_times : (p : ℕ) → 0 * p ≡ 0

@@ -18,8 +18,8 @@ put_before vs q = Ok (vs ++ q.0, q.1)
 abbrev pub then_each : {E A X : Type 0} → (X → Reads E A) → List X → List A × ℕ → Result (List A × ℕ) E
 then_each read ys p = on_ok (each read ys p.1) (put_before p.0)
 
-abbrev pub then_each_behind : {E A X : Type 0} → (X → Reads E A) → List X → A × ℕ → Result (List A × ℕ) E
-then_each_behind read ys p = on_ok (each read ys p.1) (put_before (p.0 ∷ []))
+abbrev pub then_each_after : {E A X : Type 0} → (X → Reads E A) → List X → A × ℕ → Result (List A × ℕ) E
+then_each_after read ys p = on_ok (each read ys p.1) (put_before (p.0 ∷ []))
 
 -- two lists in a row
 pub each-append : {E A X : Type 0} (read : X → Reads E A) (xs ys : List X) (room : ℕ) → each read (xs ++ ys) room ≡ on_ok (each read xs room) (then_each read ys)
@@ -39,7 +39,7 @@ each-append {E} {A} read (x ∷ xs) ys room = first (read x room) (λ n. each-ap
     second v (Err e) = refl
 
     first : (r : Result (A × ℕ) E) → ((n : ℕ) → each read (xs ++ ys) n ≡ on_ok (each read xs n) (then_each read ys))
-        → on_ok r (then_each_behind read (xs ++ ys)) ≡ on_ok (on_ok r (then_each_behind read xs)) (then_each read ys)
+        → on_ok r (then_each_after read (xs ++ ys)) ≡ on_ok (on_ok r (then_each_after read xs)) (then_each read ys)
     first (Ok p) h = ap (λ (r : Result (List A × ℕ) E). on_ok r (put_before (p.0 ∷ []))) (h p.1) ∙ second p.0 (each read xs p.1)
     first (Err e) h = refl
 
@@ -49,7 +49,7 @@ pub each_more : {E A X : Type 0} (read : X → Reads E A) (xs : List X) (x : X) 
 each_more {E} {A} read xs x room vs left v after e f =
     each-append read xs (x ∷ []) room
     ∙ ap (λ (r : Result (List A × ℕ) E). on_ok r (then_each read (x ∷ []))) e
-    ∙ ap (λ (r : Result (A × ℕ) E). on_ok (on_ok r (then_each_behind read [])) (put_before vs)) f
+    ∙ ap (λ (r : Result (A × ℕ) E). on_ok (on_ok r (then_each_after read [])) (put_before vs)) f
 
 -- an item that is refused
 pub each_stops : {E A X : Type 0} (read : X → Reads E A) (xs : List X) (x : X) (ys : List X) (room : ℕ) (vs : List A) (left : ℕ) (why : E)
@@ -57,7 +57,7 @@ pub each_stops : {E A X : Type 0} (read : X → Reads E A) (xs : List X) (x : X)
 each_stops {E} {A} read xs x ys room vs left why e f =
     each-append read xs (x ∷ ys) room
     ∙ ap (λ (r : Result (List A × ℕ) E). on_ok r (then_each read (x ∷ ys))) e
-    ∙ ap (λ (r : Result (A × ℕ) E). on_ok (on_ok r (then_each_behind read ys)) (put_before vs)) f
+    ∙ ap (λ (r : Result (A × ℕ) E). on_ok (on_ok r (then_each_after read ys)) (put_before vs)) f
 
 -- ---- the same, at the item with the number i of a slice
 

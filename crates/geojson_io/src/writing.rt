@@ -40,7 +40,7 @@ pub fn write_geojson(alloc: Global, layer: &GeoLayer, places: u8) -> Result<Byte
 
 /// What stands before the first feature, with room for about `features` features after it.
 pub fn start_collection(alloc: Global, features: usize) -> Result<Bytes, AllocError>
-    ensures { IfOk result (λ text. text ≡ collection_start) }
+    ensures exact { IfOk result (λ text. text ≡ collection_start) }
 {
     let mut out = Bytes::new(alloc);
     out.reserve(features.saturating_mul(FEATURE_BYTES))?;
@@ -60,7 +60,7 @@ pub fn write_next_feature(
 ) -> Result<(), AllocError>
     requires places { places ≤ most_places }
     requires width { length keys.now ≡ length row.now }
-    ensures { OnOk result (out.new ≡ out.old ++ (before_item (codes ",\n") i ++ feature_text places keys.now (row.now, shape.now))) }
+    ensures written { OnOk result (out.new ≡ out.old ++ (before_item (codes ",\n") i ++ feature_text places keys.now (row.now, shape.now))) }
 {
     start_feature(i, out)?;
     write_geometry(shape, places, out)?;
@@ -88,7 +88,7 @@ pub fn write_next_points(
 
 /// What stands after the last of `features` features.
 pub fn end_collection(features: usize, out: &mut Bytes) -> Result<(), AllocError>
-    ensures { OnOk result ((shapes : List GeoShape) → length shapes ≡ features → out.new ≡ out.old ++ collection_end shapes) }
+    ensures written { OnOk result ((shapes : List GeoShape) → length shapes ≡ features → out.new ≡ out.old ++ collection_end shapes) }
 {
     if features == 0 {
         return out.extend(b"]}\n");
@@ -106,7 +106,7 @@ fn start_feature(i: usize, out: &mut Bytes) -> Result<(), AllocError>
 
 // A comma and a line feed before each feature but the first.
 fn write_break(i: usize, out: &mut Bytes) -> Result<(), AllocError>
-    ensures { OnOk result (out.new ≡ out.old ++ before_item (codes ",\n") i) }
+    ensures written { OnOk result (out.new ≡ out.old ++ before_item (codes ",\n") i) }
 {
     if i > 0 {
         out.extend(b",\n")?;
@@ -134,7 +134,7 @@ fn write_features(
     requires places { places ≤ most_places }
     requires count { length shapes.now ≡ length rows.now }
     requires widths { AreRows (length keys.now) rows.now }
-    ensures { OnOk result (out.new ≡ out.old ++ features_text places keys.now rows.now shapes.now) }
+    ensures written { OnOk result (out.new ≡ out.old ++ features_text places keys.now rows.now shapes.now) }
 {
     for (i, shape) in shapes.iter().enumerate() {
         write_next_feature(i, keys, &rows[i], shape, places, out)?;

@@ -152,7 +152,7 @@ impl Drawing {
 
 // The outline of a rectangle, from its lower left corner to the right.
 fn outline(alloc: Global, rect: Rect) -> Result<PtList, AllocError>
-    ensures { IfOk result (λ ring. ring ≡ outline rect) }
+    ensures exact { IfOk result (λ ring. ring ≡ outline rect) }
 {
     let (low, high) = (rect.low(), rect.high());
     let mut ring = PtList::new(alloc);
@@ -166,7 +166,7 @@ fn outline(alloc: Global, rect: Rect) -> Result<PtList, AllocError>
 
 // The point right of or left of `q` and above or below `p`.
 fn corner(p: Pt, q: Pt) -> Pt
-    ensures { result ≡ record { x = p.x; y = q.y } }
+    ensures exact { result ≡ record { x = p.x; y = q.y } }
 {
     match Pt::new(p.x(), q.y()) {
         Some(corner) => corner,
@@ -195,7 +195,7 @@ where
 impl Drawing {
     /// What every drawing keeps, for proofs: no path is empty or has equal neighbours, and rings and boxes are closed.
     pub fn keeps_paths(&self)
-        ensures { HasPaths self.now }
+        ensures paths { HasPaths self.now }
     {
         let _ = &self.polygons;
     }

@@ -147,7 +147,7 @@ pub fn determinant(a: i64, b: i64, c: i64, d: i64) -> i128
 
 /// The cross product of the steps from `a` to `b` and from `a` to `c`: above 0 where the three turn left.
 pub fn turn(a: Pt, b: Pt, c: Pt) -> i128
-    ensures { result ≡ cross (record { start = a; stop = b }) (record { start = a; stop = c }) }
+    ensures exact { result ≡ cross (record { start = a; stop = b }) (record { start = a; stop = c }) }
 {
     let (bx, by) = step(a, b);
     let (cx, cy) = step(a, c);

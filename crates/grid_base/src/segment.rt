@@ -31,14 +31,14 @@ impl Seg {
 
     /// The point at which it starts.
     pub fn a(&self) -> Pt
-        ensures { result ≡ self.now.start }
+        ensures exact { result ≡ self.now.start }
     {
         self.start
     }
 
     /// The point at which it ends.
     pub fn b(&self) -> Pt
-        ensures { result ≡ self.now.stop }
+        ensures exact { result ≡ self.now.stop }
     {
         self.stop
     }

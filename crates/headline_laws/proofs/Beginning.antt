@@ -32,7 +32,7 @@ use Rattle.headline_laws.specs.Begins.{BegunShows, ChainsBegin}
 use Rattle.headline_laws.specs.Ends.{IsAsked}
 use Rattle.headline_laws.proofs.Asked.{all_imported}
 use Rattle.headline_laws.proofs.Dense.{not_dense}
-use Rattle.headline_laws.proofs.Ending.{behind}
+use Rattle.headline_laws.proofs.Ending.{past}
 use Rattle.headline_laws.proofs.BegunPlanes.{sources_alike, view_plane}
 
 module _ (read : Readings) (line : List Content) (c : Chain) (seen : SourcesSeen) (files : FileMap) (bytes : Content) (a : IsAsked read line (job.Chain c) seen files bytes) (before after : OutsideSeen) (o : Outcome) (run : RunsCommands c seen before after o) where
@@ -46,7 +46,7 @@ module _ (read : Readings) (line : List Content) (c : Chain) (seen : SourcesSeen
   begins_so : begins read c files bytes ≡ Ok (begun_with c given (plane_of drawn))
   begins_so =
       let few : link_count (snapped drawn) ≤ 8000000 = subst IsFew (drawings_are_one (joined_up given) c.boxes) run.few in
-      ap (behind c) (all_imported read line c seen run.read files bytes a given run.given)
+      ap (past c) (all_imported read line c seen run.read files bytes a given run.given)
       ∙ ap (λ (r : Result Drawing model.Outcome). on_ok r (λ (d : Drawing). Ok (begun_with c given (plane_of d)))) (not_dense drawn few)
 
   module _ (v : View) (is : IsViewOf (drawing_by given c.boxes) run.base.plane.arcs run.base.plane.faces run.base.plane.boxes.items run.over.features v) (show : BeginningShows v c.sources given run.begun run.base.sources) where

@@ -122,12 +122,12 @@ cut_off false n to text before after h = cut_file n to text before after h
 
 -- after other effects
 
-abbrev pub GoesCutBehind : List Effect → Effect → Text → Option Text → Option Text → Type 0
-GoesCutBehind effects last name was now = (Some name ≢ last.to → now ≡ held_after effects name was) × (Some name ≡ last.to → IsCut (held_after effects name was) now last.text)
+abbrev pub GoesCutAfter : List Effect → Effect → Text → Option Text → Option Text → Type 0
+GoesCutAfter effects last name was now = (Some name ≢ last.to → now ≡ held_after effects name was) × (Some name ≡ last.to → IsCut (held_after effects name was) now last.text)
 
-pub files_cut : (before middle after : OutsideSeen) (effects : List Effect) (last : Effect) → HoldsAfter (outside_of before) (outside_of middle) effects → CutOff last middle after → EachName before.files after.files (GoesCutBehind effects last)
+pub files_cut : (before middle after : OutsideSeen) (effects : List Effect) (last : Effect) → HoldsAfter (outside_of before) (outside_of middle) effects → CutOff last middle after → EachName before.files after.files (GoesCutAfter effects last)
 files_cut before middle after effects last held cut =
-    files_twice before.files middle.files after.files (λ name was now. now ≡ held_after effects name was) (GoesCut last) (GoesCutBehind effects last)
+    files_twice before.files middle.files after.files (λ name was now. now ≡ held_after effects name was) (GoesCut last) (GoesCutAfter effects last)
     (λ name x y z first second. (λ other. second.0 other ∙ first, λ here. subst (λ (was : Option Text). IsCut was z last.text) first (second.1 here))) held.files cut.files
 
 pub stream_cut : (before middle after : OutsideSeen) (effects : List Effect) (last : Effect) → HoldsAfter (outside_of before) (outside_of middle) effects → (cut : CutOff last middle after) →

@@ -39,8 +39,8 @@ use Rattle.headline_laws.proofs.Dense.{dense}
 -- ## By the model
 
 -- what begins where the sources are imported as this
-abbrev pub behind : Chain → Result (List (List LayerContent)) model.Outcome → Result Begun model.Outcome
-behind c answer = on_ok answer (λ (sources : List (List LayerContent)). on_ok (checked_density (drawing_of (joined_up sources) c.boxes)) (λ (d : Drawing). Ok (begun_with c sources (plane_of d))))
+abbrev pub past : Chain → Result (List (List LayerContent)) model.Outcome → Result Begun model.Outcome
+past c answer = on_ok answer (λ (sources : List (List LayerContent)). on_ok (checked_density (drawing_of (joined_up sources) c.boxes)) (λ (d : Drawing). Ok (begun_with c sources (plane_of d))))
 
 module _ (read : Readings) (line : List Content) (c : Chain) (seen seen' : SourcesSeen) (files : FileMap) (bytes : Content) (a : IsAsked read line (job.Chain c) seen files bytes) where
   abbrev EndsAs : Outcome → Type 0
@@ -48,15 +48,15 @@ module _ (read : Readings) (line : List Content) (c : Chain) (seen seen' : Sourc
 
   source_ends : (f : SourceFault) → StopsAtSource c.places c.sources seen seen' f → IsOfContents (of_sources f) → EndsAs (of_sources f)
   source_ends (fault.ReadFault n) stops mine = absurd mine
-  source_ends (fault.Missing n) stops mine = ap (behind c) (one_refused read line c seen seen' files bytes a (fault.Missing n) tt stops)
-  source_ends (fault.TooLong n) stops mine = ap (behind c) (one_refused read line c seen seen' files bytes a (fault.TooLong n) tt stops)
-  source_ends (fault.BadInput n why) stops mine = ap (behind c) (one_refused read line c seen seen' files bytes a (fault.BadInput n why) tt stops)
+  source_ends (fault.Missing n) stops mine = ap (past c) (one_refused read line c seen seen' files bytes a (fault.Missing n) tt stops)
+  source_ends (fault.TooLong n) stops mine = ap (past c) (one_refused read line c seen seen' files bytes a (fault.TooLong n) tt stops)
+  source_ends (fault.BadInput n why) stops mine = ap (past c) (one_refused read line c seen seen' files bytes a (fault.BadInput n why) tt stops)
   source_ends fault.Memory stops mine = absurd mine
 
   drawing_ends : (layers : List (List LayerContent)) → GivesAll c.places c.sources seen seen' layers → (f : SnapFault) → FaultMeans (run.drawing_of (joined_up layers) c.boxes) f → IsOfContents (of_drawing f) → EndsAs (of_drawing f)
   drawing_ends layers given (snap.TooDense count) means mine =
       let here : FaultMeans (drawing_of (joined_up layers) c.boxes) (snap.TooDense count) = subst (λ (d : Drawing). FaultMeans d (snap.TooDense count)) (drawings_are_one (joined_up layers) c.boxes) means in
-      ap (behind c) (all_imported read line c seen seen' files bytes a layers given)
+      ap (past c) (all_imported read line c seen seen' files bytes a layers given)
       ∙ ap (λ (r : Result Drawing model.Outcome). on_ok r (λ (d : Drawing). Ok (begun_with c layers (plane_of d)))) (dense (drawing_of (joined_up layers) c.boxes) count here.0 here.1)
   drawing_ends layers given snap.Memory means mine = absurd mine
 

@@ -17,18 +17,18 @@ record AreRead (seen after : SourcesSeen) (whole left : ℕ) : Type 0 where
   input : raised of_input seen.input_bytes ≤ after.input_bytes
   gone : of_files + of_input + left ≡ whole
 
-one_read : (standard : Bool) (n : ℕ) (seen middle after : SourcesSeen) (whole behind left : ℕ) → MatchBool standard (middle.input_bytes ≡ raised n seen.input_bytes) (middle.file_bytes ≡ raised n seen.file_bytes) → Grew seen middle → n + behind ≡ whole → AreRead middle after behind left → AreRead seen after whole left
-one_read true n seen middle after whole behind left counted grew gone r =
+one_read : (standard : Bool) (n : ℕ) (seen middle after : SourcesSeen) (whole past left : ℕ) → MatchBool standard (middle.input_bytes ≡ raised n seen.input_bytes) (middle.file_bytes ≡ raised n seen.file_bytes) → Grew seen middle → n + past ≡ whole → AreRead middle after past left → AreRead seen after whole left
+one_read true n seen middle after whole past left counted grew gone r =
     let below : seen.file_bytes ≤ middle.file_bytes = grew.file_bytes.later in
     let files : raised r.of_files middle.file_bytes ≤ after.file_bytes = r.files in
     let input : raised r.of_input middle.input_bytes ≤ after.input_bytes = r.input in
-    let sum : r.of_files + r.of_input + left ≡ behind = r.gone in
+    let sum : r.of_files + r.of_input + left ≡ past = r.gone in
     record { of_files = r.of_files; of_input = n + r.of_input; files = omega (arith, below, files); input = omega (arith, counted, input); gone = omega (arith, sum, gone) }
-one_read false n seen middle after whole behind left counted grew gone r =
+one_read false n seen middle after whole past left counted grew gone r =
     let below : seen.input_bytes ≤ middle.input_bytes = grew.input_bytes.later in
     let files : raised r.of_files middle.file_bytes ≤ after.file_bytes = r.files in
     let input : raised r.of_input middle.input_bytes ≤ after.input_bytes = r.input in
-    let sum : r.of_files + r.of_input + left ≡ behind = r.gone in
+    let sum : r.of_files + r.of_input + left ≡ past = r.gone in
     record { of_files = n + r.of_files; of_input = r.of_input; files = omega (arith, counted, files); input = omega (arith, below, input); gone = omega (arith, sum, gone) }
 
 all_read : (places : ℕ) (ss : List SourceWord) (budget left : Budget) (seen after : SourcesSeen) (ls : List (List LayerContent)) → SourcesGive places ss budget seen left after ls → AreRead seen after budget.bytes left.bytes
@@ -39,8 +39,8 @@ all_read places [] budget left seen after (l ∷ ls) g = absurd g
 all_read places (s ∷ ss) budget left seen after [] g = absurd g
 all_read places (s ∷ ss) budget left seen after (l ∷ ls) g =
     let bytes : ℕ = length (g.2).bytes in
-    let behind : (g.0).bytes ≡ budget.bytes - bytes = ap (λ (b : Budget). b.bytes) (g.2).left_after in
-    one_read s.standard bytes seen g.1 after budget.bytes (g.0).bytes left.bytes (g.2).counted g.3 (omega (arith, behind, (g.2).within)) (all_read places ss g.0 left g.1 after ls g.4)
+    let past : (g.0).bytes ≡ budget.bytes - bytes = ap (λ (b : Budget). b.bytes) (g.2).left_after in
+    one_read s.standard bytes seen g.1 after budget.bytes (g.0).bytes left.bytes (g.2).counted g.3 (omega (arith, past, (g.2).within)) (all_read places ss g.0 left g.1 after ls g.4)
 
 -- more was read than the limit, or a number of bytes stands at its last value
 abbrev PassesLimit : SourcesSeen → SourcesSeen → Type 0

@@ -55,10 +55,10 @@ pub fits_whole : Fits whole_budget 0 model.whole_room
 fits_whole = record { of_bytes = refl; of_room = refl }
 
 fits_on : (budget left : Budget) (before count : ℕ) (room : Room) (layers : List LayerContent) → Fits budget before room → count ≤ budget.bytes → left ≡ budget_after budget count layers → Fits left (before + count) (room_after room layers)
-fits_on budget left before count room layers fits within behind = record {
-  of_bytes = let gone : left.bytes ≡ budget.bytes - count = ap (λ (b : Budget). b.bytes) behind in let whole : budget.bytes + before ≡ byte_limit = fits.of_bytes in omega arith;
+fits_on budget left before count room layers fits within past = record {
+  of_bytes = let gone : left.bytes ≡ budget.bytes - count = ap (λ (b : Budget). b.bytes) past in let whole : budget.bytes + before ≡ byte_limit = fits.of_bytes in omega arith;
   of_room =
-      ap (λ (b : Budget). b.room) behind
+      ap (λ (b : Budget). b.room) past
       ∙ ap (λ (n : ℕ). record { positions = budget.room.positions - n; features = budget.room.features - sum_by feature_count layers }) (counts_same layers)
       ∙ ap (λ (r : Room). room_after r layers) fits.of_room;
 }

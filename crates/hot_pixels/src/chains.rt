@@ -24,14 +24,14 @@ fn in_sense(from: i64, to: i64, n: i64) -> i64
 
 // The number by which the pixels that a segment meets are in order along it.
 fn key_along(s: &Seg, p: &Pt) -> i64
-    ensures { result ≡ order_key s.now p.now }
+    ensures exact { result ≡ order_key s.now p.now }
 {
     let (a, b) = (s.a(), s.b());
     in_sense(a.x(), b.x(), p.x()) + in_sense(a.y(), b.y(), p.y())
 }
 
 fn list_of(alloc: Global, points: &[Pt]) -> Result<PtList, AllocError>
-    ensures { IfOk result (λ list. list ≡ points.now) }
+    ensures exact { IfOk result (λ list. list ≡ points.now) }
 {
     let mut list = PtList::with_capacity(alloc, points.len())?;
     list.append(points)?;
@@ -40,7 +40,7 @@ fn list_of(alloc: Global, points: &[Pt]) -> Result<PtList, AllocError>
 
 /// The points of a list in the order of their keys along a segment.
 pub fn sorted_along(alloc: Global, met: Vec<Pt>, s: &Seg) -> Result<PtList, AllocError>
-    ensures { IfOk result (AreSortedAlong s.now met.items) }
+    ensures made { IfOk result (AreSortedAlong s.now met.items) }
 {
     let mut sorted = met;
     sorted.sort_unstable_by_key(|p| key_along(s, p));
@@ -48,14 +48,14 @@ pub fn sorted_along(alloc: Global, met: Vec<Pt>, s: &Seg) -> Result<PtList, Allo
 }
 
 fn has_lower_key(s: &Seg, p: &Pt, q: &Pt) -> bool
-    ensures { result ≡ true → order_key s.now p.now <ℤ order_key s.now q.now }
+    ensures yes { result ≡ true → order_key s.now p.now <ℤ order_key s.now q.now }
 {
     key_along(s, p) < key_along(s, q)
 }
 
 // Whether the keys of the points along a segment rise, so that no point stands twice.
 fn do_rise(points: &[Pt], s: &Seg) -> bool
-    ensures { result ≡ true → DoRise s.now points.now }
+    ensures yes { result ≡ true → DoRise s.now points.now }
 {
     for k in 1..points.len() {
         if !has_lower_key(s, &points[k - 1], &points[k]) {
@@ -67,7 +67,7 @@ fn do_rise(points: &[Pt], s: &Seg) -> bool
 
 /// The points after the first.
 pub fn after_first(points: &[Pt]) -> &[Pt]
-    ensures { result.now ≡ drop 1 points.now }
+    ensures exact { result.now ≡ drop 1 points.now }
 {
     if points.is_empty() {
         return points;

@@ -20,7 +20,7 @@ fn cross_of(s: Seg, t: Seg) -> i128
 
 // Whether n / w is from 0 to 1.
 fn is_share_of(n: i128, w: i128) -> bool
-    ensures { result ≡ is_share n w }
+    ensures exact { result ≡ is_share n w }
 {
     0 <= n && n <= w
 }
@@ -30,7 +30,7 @@ fn quotient(n: i128, w: i128) -> i128
     requires w_positive { pos 0 <ℤ w }
     requires w_small { IsCross w }
     requires n_small { unsigned_abs n ≤ most_step * most_cross }
-    ensures { result ≡ floor_div (pos 2 *ℤ n +ℤ pos (unsigned_abs w)) (2 * unsigned_abs w) }
+    ensures exact { result ≡ floor_div (pos 2 *ℤ n +ℤ pos (unsigned_abs w)) (2 * unsigned_abs w) }
 {
     (2 * n + w).div_euclid(2 * w)
 }
@@ -43,7 +43,7 @@ fn part_way(from: i64, step: i64, p: i128, w: i128) -> i64
     requires share { IsTrue (is_share p w) }
     requires from_on_grid { IsTrue (is_grid_number from) }
     requires lands { IsTrue (is_grid_number (rounded from step p (unsigned_abs w))) }
-    ensures { result ≡ rounded from step p (unsigned_abs w) }
+    ensures exact { result ≡ rounded from step p (unsigned_abs w) }
 {
     (from as i128 + quotient(step as i128 * p, w)) as i64
 }
@@ -53,7 +53,7 @@ fn pixel_at(s: Seg, w: i128, p: i128, q: i128) -> Option<Pt>
     requires w_positive { pos 0 <ℤ w }
     requires w_small { IsCross w }
     requires lands { (g : Point) → pixel_by s (unsigned_abs w) p q ≡ Some g → IsOnGrid g }
-    ensures { result ≡ pixel_by s (unsigned_abs w) p q }
+    ensures exact { result ≡ pixel_by s (unsigned_abs w) p q }
 {
     if !is_share_of(p, w) {
         return None;

@@ -12,14 +12,14 @@ pub struct Edges {
 }
 
 fn is_same(s: &Seg, t: &Seg) -> bool
-    ensures { result ≡ true → s.now ≡ t.now }
+    ensures yes { result ≡ true → s.now ≡ t.now }
 {
     s.a() == t.a() && s.b() == t.b()
 }
 
 // Whether an edge is a segment, or runs back along it.
 fn is_along(edge: &Seg, s: &Seg) -> bool
-    ensures { result ≡ true → IsEdgeOf s.now edge.now }
+    ensures yes { result ≡ true → IsEdgeOf s.now edge.now }
 {
     is_same(edge, s) || is_same(edge, &Seg::new(s.b(), s.a()))
 }
@@ -39,7 +39,7 @@ fn sum_over(s: &Seg) -> u64 {
 
 // The number, if it is that of a segment's edge.
 fn edge_at(edges: &[Seg], i: u32, s: &Seg) -> Option<u32>
-    ensures { IfSome result (λ i. HasEdgeAt edges.now s.now i) }
+    ensures found { IfSome result (λ i. HasEdgeAt edges.now s.now i) }
 {
     let edge = edges.get(i as usize)?;
     if is_along(edge, s) { Some(i) } else { None }
@@ -47,7 +47,7 @@ fn edge_at(edges: &[Seg], i: u32, s: &Seg) -> Option<u32>
 
 /// The number of a segment's edge, if it is the one that stands at this place of a list of numbers.
 pub fn known_edge(edges: &[Seg], numbers: &[u32], place: usize, s: &Seg) -> Option<u32>
-    ensures { IfSome result (λ i. HasEdgeAt edges.now s.now i) }
+    ensures found { IfSome result (λ i. HasEdgeAt edges.now s.now i) }
 {
     let i = *numbers.get(place)?;
     edge_at(edges, i, s)
@@ -56,7 +56,7 @@ pub fn known_edge(edges: &[Seg], numbers: &[u32], place: usize, s: &Seg) -> Opti
 // The number of a segment's edge, if it stands next to that of the segment before: a path that goes back along another,
 // as where two areas meet, passes its edges in reverse.
 fn edge_beside(edges: &[Seg], last: u32, s: &Seg) -> Option<u32>
-    ensures { IfSome result (λ i. HasEdgeAt edges.now s.now i) }
+    ensures found { IfSome result (λ i. HasEdgeAt edges.now s.now i) }
 {
     match edge_at(edges, last.wrapping_sub(1), s) {
         Some(i) => Some(i),
@@ -66,7 +66,7 @@ fn edge_beside(edges: &[Seg], last: u32, s: &Seg) -> Option<u32>
 
 /// A count as a number of 32 bits. More are out of memory.
 pub fn next_number(count: usize) -> Result<u32, AllocError>
-    ensures { IfOk result (λ n. n ≡ count) }
+    ensures exact { IfOk result (λ n. n ≡ count) }
 {
     if count > u32::MAX as usize {
         return Err(AllocError);
@@ -133,7 +133,7 @@ fn add_edge(
     last: u32,
     s: &Seg,
 ) -> Result<u32, AllocError>
-    ensures { OnOk result (IsEdgeAdded edges.old.items edges.new.items s.now) }
+    ensures ok { OnOk result (IsEdgeAdded edges.old.items edges.new.items s.now) }
 {
     if let Some(i) = edge_beside(edges, last, s) {
         return Ok(i);
@@ -153,7 +153,7 @@ fn add_edge(
 /// A table with two slots for each segment leads to the edges. A slot is the latest edge's that falls on it, so an edge
 /// may stand twice.
 pub fn edges_of(alloc: Global, segments: &[Seg]) -> Result<Edges, AllocError>
-    ensures { IfOk result (λ found. AreEdgesOf segments.now found.segments.items) }
+    ensures made { IfOk result (λ found. AreEdgesOf segments.now found.segments.items) }
 {
     let mut table = EdgeTable::over(alloc, segments.len())?;
     let mut edges = Vec::with_capacity(alloc, segments.len())?;

@@ -43,7 +43,7 @@ fn low_side_of(p: i64, q: i64, g: i64) -> Side
     requires p_on_grid { IsGridNumber p }
     requires q_on_grid { IsGridNumber q }
     requires g_on_grid { IsGridNumber g }
-    ensures { result ≡ low_side p q g }
+    ensures exact { result ≡ low_side p q g }
 {
     Side {
         at_start: distance(p, g),
@@ -56,7 +56,7 @@ fn high_side_of(p: i64, q: i64, g: i64) -> Side
     requires p_on_grid { IsGridNumber p }
     requires q_on_grid { IsGridNumber q }
     requires g_on_grid { IsGridNumber g }
-    ensures { result ≡ high_side p q g }
+    ensures exact { result ≡ high_side p q g }
 {
     Side {
         at_start: distance(g, p),
@@ -66,7 +66,7 @@ fn high_side_of(p: i64, q: i64, g: i64) -> Side
 }
 
 fn are_positive(a: i64, b: i64) -> bool
-    ensures { result ≡ (int_lt (pos 0) a && int_lt (pos 0) b) }
+    ensures exact { result ≡ (int_lt (pos 0) a && int_lt (pos 0) b) }
 {
     0 < a && 0 < b
 }
@@ -80,20 +80,20 @@ fn product(a: i64, b: i64) -> i128
 }
 
 fn is_inside(is_open: bool, n: i128) -> bool
-    ensures { result ≡ is_within is_open n }
+    ensures exact { result ≡ is_within is_open n }
 {
     if is_open { 0 < n } else { 0 <= n }
 }
 
 fn determinant(a: Side, b: Side) -> i128
-    ensures { result ≡ a.at_start *ℤ b.at_stop -ℤ a.at_stop *ℤ b.at_start }
+    ensures exact { result ≡ a.at_start *ℤ b.at_stop -ℤ a.at_stop *ℤ b.at_start }
 {
     product(a.at_start, b.at_stop) - product(a.at_stop, b.at_start)
 }
 
 // Whether the segment starts inside a and ends inside b, and comes into b before it leaves a, or where it leaves a.
 fn is_over(a: Side, b: Side) -> bool
-    ensures { result ≡ goes_over a b }
+    ensures exact { result ≡ goes_over a b }
 {
     if !are_positive(a.at_start, b.at_stop) {
         return false;
@@ -103,7 +103,7 @@ fn is_over(a: Side, b: Side) -> bool
 
 // Whether some point of the segment is inside both sides.
 fn is_agreed(a: Side, b: Side) -> bool
-    ensures { result ≡ agree a b }
+    ensures exact { result ≡ agree a b }
 {
     if are_positive(a.at_start, b.at_start) {
         return true;
@@ -119,7 +119,7 @@ fn is_agreed(a: Side, b: Side) -> bool
 
 // Whether each two of four sides agree.
 fn are_agreed(left: Side, right: Side, lower: Side, upper: Side) -> bool
-    ensures { result ≡ each_two agree (left ∷ right ∷ lower ∷ upper ∷ []) }
+    ensures exact { result ≡ each_two agree (left ∷ right ∷ lower ∷ upper ∷ []) }
 {
     if !is_agreed(left, right) {
         return false;

@@ -205,14 +205,14 @@ impl HotEdges {
 
 fn is_listed(points: &[Pt], p: Pt) -> bool
     requires { AllPairs (λ (q r : Point). IsTrue (is_before q r)) points.now }
-    ensures { IsTrue result ↔ Contains points.now p }
+    ensures exact { IsTrue result ↔ Contains points.now p }
 {
     has_point(points, p)
 }
 
 // Whether there is a place with this number that has no mark.
 fn has_no_mark(marks: &[bool], i: usize) -> bool
-    ensures { IsTrue result ↔ slice_get marks.now i ≡ Some false }
+    ensures exact { IsTrue result ↔ slice_get marks.now i ≡ Some false }
 {
     match marks.get(i) {
         Some(mark) => !*mark,
@@ -221,7 +221,7 @@ fn has_no_mark(marks: &[bool], i: usize) -> bool
 }
 
 fn has_no_meeting(lasts: &[Option<u32>], i: usize) -> bool
-    ensures { result ≡ true → slice_get lasts.now i ≡ Some None }
+    ensures yes { result ≡ true → slice_get lasts.now i ≡ Some None }
 {
     match lasts.get(i) {
         Some(last) => last.is_none(),
@@ -241,7 +241,7 @@ fn is_clear_edge(marking: &Marking, i: usize) -> bool
 }
 
 fn last_of(lasts: &[Option<u32>], i: usize) -> Option<u32>
-    ensures { (last : Option ℕ) → slice_get lasts.now i ≡ Some last → result ≡ last }
+    ensures exact { (last : Option ℕ) → slice_get lasts.now i ≡ Some last → result ≡ last }
 {
     match lasts.get(i) {
         Some(last) => *last,
@@ -259,7 +259,7 @@ fn looked_up(
     s: &Seg,
 ) -> Result<Vec<Pt>, AllocError>
     requires { All (HoldsRun marking.now.inner.items) runs.now }
-    ensures { IfOk result (λ all. AreLookedUp marking.now.crowded.items marking.now.lasts.items marking.now.meetings.items marking.now.inner.items s.now i all.items) }
+    ensures made { IfOk result (λ all. AreLookedUp marking.now.crowded.items marking.now.lasts.items marking.now.meetings.items marking.now.inner.items s.now i all.items) }
 {
     if has_no_mark(&marking.crowded, i) {
         let gathered = ends_and_back(alloc, &marking.meetings, last_of(&marking.lasts, i), s)?;
@@ -286,7 +286,7 @@ fn each_once(alloc: Global, points: Vec<Pt>) -> Result<Vec<Pt>, AllocError>
 // Adds a point, unless it is the last that was added.
 fn add_end(points: &mut Vec<Pt>, last: Pt, p: Pt) -> Result<(), AllocError>
     requires last { Contains points.old.items last }
-    ensures { OnOk result (AddsEnd p points.old.items points.new.items) }
+    ensures ok { OnOk result (AddsEnd p points.old.items points.new.items) }
 {
     if is_same(p, last) {
         return Ok(());
@@ -297,7 +297,7 @@ fn add_end(points: &mut Vec<Pt>, last: Pt, p: Pt) -> Result<(), AllocError>
 
 // The ends of edges. One at which the edge before stops is not added again: most stand once.
 fn ends_of(alloc: Global, edges: &[Seg]) -> Result<Vec<Pt>, AllocError>
-    ensures { IfOk result (λ points. AreEndsOf edges.now points.items) }
+    ensures made { IfOk result (λ points. AreEndsOf edges.now points.items) }
 {
     let mut points = Vec::with_capacity(alloc, edges.len())?;
     if edges.is_empty() {

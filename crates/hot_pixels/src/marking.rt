@@ -65,7 +65,7 @@ pub fn marks_of(
 
 // All segments have marks, and all points are inner.
 fn all_crowded(alloc: Global, points: &[Pt], spots: &[Seg]) -> Result<Marking, AllocError>
-    ensures { IfOk result (λ m. AreMarks points.now spots.now m.crowded.items m.lasts.items m.meetings.items m.inner.items) }
+    ensures made { IfOk result (λ m. AreMarks points.now spots.now m.crowded.items m.lasts.items m.meetings.items m.inner.items) }
 {
     let crowded = vec![in alloc; true; spots.len()]?;
     let lasts = vec![in alloc; None; spots.len()]?;
@@ -80,7 +80,7 @@ fn all_crowded(alloc: Global, points: &[Pt], spots: &[Seg]) -> Result<Marking, A
 }
 
 fn push_if(points: &mut Vec<Pt>, p: Pt, is_wanted: bool) -> Result<(), AllocError>
-    ensures { OnOk result (points.new.items ≡ (if is_wanted then points.old.items ++ p ∷ [] else points.old.items)) }
+    ensures ok { OnOk result (points.new.items ≡ (if is_wanted then points.old.items ++ p ∷ [] else points.old.items)) }
 {
     if is_wanted {
         points.push(p)?;
@@ -227,7 +227,7 @@ fn gather(
 
 // Whether a point is beside a segment's box, or an end of the segment.
 fn is_off_or_end(s: &Seg, p: Pt) -> bool
-    ensures { result ≡ true → meets s.now p ≡ true → IsEndOf s.now p }
+    ensures yes { result ≡ true → meets s.now p ≡ true → IsEndOf s.now p }
 {
     if is_off(s, p) {
         return true;
@@ -237,7 +237,7 @@ fn is_off_or_end(s: &Seg, p: Pt) -> bool
 
 /// Appends the stop of a segment to a path, if it isn't its start.
 pub fn go_to_stop(path: &mut PtList, s: &Seg) -> Result<(), AllocError>
-    ensures { OnOk result (path.new ≡ path.old ++ drop 1 (ends_of s.now)) }
+    ensures added { OnOk result (path.new ≡ path.old ++ drop 1 (ends_of s.now)) }
 {
     if s.a() != s.b() {
         path.push(s.b())?;
@@ -246,7 +246,7 @@ pub fn go_to_stop(path: &mut PtList, s: &Seg) -> Result<(), AllocError>
 }
 
 fn add_ends(points: &mut Vec<Pt>, s: &Seg) -> Result<(), AllocError>
-    ensures { OnOk result (points.new.items ≡ points.old.items ++ ends_of s.now) }
+    ensures added { OnOk result (points.new.items ≡ points.old.items ++ ends_of s.now) }
 {
     points.push(s.a())?;
     if s.a() != s.b() {
@@ -256,7 +256,7 @@ fn add_ends(points: &mut Vec<Pt>, s: &Seg) -> Result<(), AllocError>
 }
 
 fn add_others(points: &mut Vec<Pt>, met: &[Pt], s: &Seg) -> Result<(), AllocError>
-    ensures { OnOk result (points.new.items ≡ points.old.items ++ others_of s.now met.now) }
+    ensures added { OnOk result (points.new.items ≡ points.old.items ++ others_of s.now met.now) }
 {
     for p in met {
         push_if(points, *p, !is_end(s, *p))?;
@@ -266,7 +266,7 @@ fn add_others(points: &mut Vec<Pt>, met: &[Pt], s: &Seg) -> Result<(), AllocErro
 
 /// The ends of a segment, and those of the points that are none.
 pub fn with_ends(alloc: Global, met: &[Pt], s: &Seg) -> Result<Vec<Pt>, AllocError>
-    ensures { IfOk result (λ all. all.items ≡ ends_of s.now ++ others_of s.now met.now) }
+    ensures exact { IfOk result (λ all. all.items ≡ ends_of s.now ++ others_of s.now met.now) }
 {
     let mut all = Vec::with_capacity(alloc, met.len().saturating_add(2))?;
     add_ends(&mut all, s)?;

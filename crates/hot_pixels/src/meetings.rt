@@ -17,7 +17,7 @@ pub struct Meeting {
 }
 
 fn meeting_at(meetings: &[Meeting], at: Option<u32>) -> Option<Meeting>
-    ensures { result ≡ meeting_at meetings.now at }
+    ensures exact { result ≡ meeting_at meetings.now at }
 {
     match at {
         Some(k) => meetings.get(k as usize).copied(),
@@ -27,7 +27,7 @@ fn meeting_at(meetings: &[Meeting], at: Option<u32>) -> Option<Meeting>
 
 // Adds the points of the meetings from this one back, each followed by the one before.
 fn add_back(points: &mut Vec<Pt>, meetings: &[Meeting], last: Option<u32>) -> Result<(), AllocError>
-    ensures { OnOk result ((back : List Point) → AreBack meetings.now last back → points.new.items ≡ points.old.items ++ back) }
+    ensures ok { OnOk result ((back : List Point) → AreBack meetings.now last back → points.new.items ≡ points.old.items ++ back) }
 {
     let mut at = last;
     for _step in 0..meetings.len() {
@@ -48,7 +48,7 @@ fn back_between(
     before: Pt,
     after: Pt,
 ) -> Result<Vec<Pt>, AllocError>
-    ensures { IfOk result (λ all. (back : List Point) → AreBack meetings.now last back → all.items ≡ before ∷ [] ++ back ++ after ∷ []) }
+    ensures exact { IfOk result (λ all. (back : List Point) → AreBack meetings.now last back → all.items ≡ before ∷ [] ++ back ++ after ∷ []) }
 {
     let mut all = Vec::with_capacity(alloc, FEW)?;
     all.push(before)?;
@@ -66,7 +66,7 @@ pub fn ends_and_back(
     last: Option<u32>,
     s: &Seg,
 ) -> Result<Vec<Pt>, AllocError>
-    ensures { IfOk result (λ all. (back : List Point) → AreBack meetings.now last back → AreEndsAnd s.now back all.items) }
+    ensures made { IfOk result (λ all. (back : List Point) → AreBack meetings.now last back → AreEndsAnd s.now back all.items) }
 {
     let (a, b) = (s.a(), s.b());
     if is_before(b, a) {

@@ -56,7 +56,7 @@ const LEVELS: u32 = 12;
 const LONGEST_RUN: usize = 33_554_432;
 
 fn widened(rect: Rect, p: Pt) -> Result<Rect, AllocError>
-    ensures { IfOk result (HoldsMore rect p) }
+    ensures made { IfOk result (HoldsMore rect p) }
 {
     let low = lower_left(rect.low(), p);
     let high = upper_right(rect.high(), p);
@@ -67,7 +67,7 @@ fn widened(rect: Rect, p: Pt) -> Result<Rect, AllocError>
 fn rect_over(points: &[Pt], start: usize, stop: usize) -> Result<Rect, AllocError>
     requires some { start < stop }
     requires within { stop ≤ length points.now }
-    ensures { IfOk result (λ rect. HoldsBetween rect points.now start stop) }
+    ensures made { IfOk result (λ rect. HoldsBetween rect points.now start stop) }
 {
     let mut rect = Rect::new(points[start], points[start]).ok_or(AllocError)?;
     for k in start..stop {
@@ -99,7 +99,7 @@ fn runs_before(place: usize) -> usize {
 fn add_run(runs: &mut Vec<Run>, points: &[Pt], start: usize, size: usize) -> Result<(), AllocError>
     requires start { start < length points.now }
     requires size { 0 < size }
-    ensures { OnOk result (All (HoldsRun points.now) runs.old.items → All (HoldsRun points.now) runs.new.items) }
+    ensures ok { OnOk result (All (HoldsRun points.now) runs.old.items → All (HoldsRun points.now) runs.new.items) }
 {
     if start % size != 0 {
         return Ok(());
@@ -118,7 +118,7 @@ fn add_run(runs: &mut Vec<Run>, points: &[Pt], start: usize, size: usize) -> Res
 
 // How long the parts of a run are.
 fn part_of(size: usize) -> usize
-    ensures { 0 < result }
+    ensures some { 0 < result }
 {
     if size < PARTS { 1 } else { size / PARTS }
 }
@@ -126,7 +126,7 @@ fn part_of(size: usize) -> usize
 // Adds the runs that begin at `start`, the longest first.
 fn add_runs(runs: &mut Vec<Run>, points: &[Pt], start: usize) -> Result<(), AllocError>
     requires { start < length points.now }
-    ensures { OnOk result (All (HoldsRun points.now) runs.old.items → All (HoldsRun points.now) runs.new.items) }
+    ensures ok { OnOk result (All (HoldsRun points.now) runs.old.items → All (HoldsRun points.now) runs.new.items) }
 {
     if start % SHORT_RUN != 0 {
         return Ok(());
@@ -141,7 +141,7 @@ fn add_runs(runs: &mut Vec<Run>, points: &[Pt], start: usize) -> Result<(), Allo
 
 /// Runs of points, each with a rectangle that holds it: long ones, each followed by its parts.
 pub fn runs_over(alloc: Global, points: &[Pt]) -> Result<Vec<Run>, AllocError>
-    ensures { IfOk result (λ runs. All (HoldsRun points.now) runs.items) }
+    ensures made { IfOk result (λ runs. All (HoldsRun points.now) runs.items) }
 {
     let mut runs = Vec::new(alloc);
     for start in 0..points.len() {
@@ -152,7 +152,7 @@ pub fn runs_over(alloc: Global, points: &[Pt]) -> Result<Vec<Run>, AllocError>
 
 // Whether the box of a segment lies beside a rectangle.
 fn is_apart(rect: Rect, s: &Seg) -> bool
-    ensures { (g : Point) → IsTrue result → Holds rect g → meets s.now g ≡ false }
+    ensures yes { (g : Point) → IsTrue result → Holds rect g → meets s.now g ≡ false }
 {
     let (a, b) = (s.a(), s.b());
     let (low, high) = (rect.low(), rect.high());
@@ -247,7 +247,7 @@ fn next_asked(points: &[Pt], runs: &[Run], s: &Seg, at: Place) -> Place
 fn count_between(points: &[Pt], from: usize, stop: usize, s: &Seg) -> u64
     requires from { from ≤ stop }
     requires stop { stop ≤ length points.now }
-    ensures { result + count_by (meets s.now) (take from points.now) ≡ count_by (meets s.now) (take stop points.now) }
+    ensures exact { result + count_by (meets s.now) (take from points.now) ≡ count_by (meets s.now) (take stop points.now) }
 {
     let mut count: u64 = 0;
     for k in from..stop {
@@ -261,7 +261,7 @@ fn count_between(points: &[Pt], from: usize, stop: usize, s: &Seg) -> u64
 /// How many points a segment meets.
 pub fn count_near(points: &[Pt], runs: &[Run], s: &Seg) -> u64
     requires { All (HoldsRun points.now) runs.now }
-    ensures { result ≡ count_by (meets s.now) points.now }
+    ensures exact { result ≡ count_by (meets s.now) points.now }
 {
     let mut at = Place {
         run: 0,
@@ -291,7 +291,7 @@ fn add_between(
     requires from { from ≤ stop }
     requires stop { stop ≤ length points.now }
     requires met { met.old.items ≡ filter (meets s.now) (take from points.now) }
-    ensures { OnOk result (met.new.items ≡ filter (meets s.now) (take stop points.now)) }
+    ensures ok { OnOk result (met.new.items ≡ filter (meets s.now) (take stop points.now)) }
 {
     for k in from..stop {
         if is_met(s, points[k]) {
@@ -303,7 +303,7 @@ fn add_between(
 
 /// The points that a segment meets, of which each is tried.
 pub fn met_among(alloc: Global, points: &[Pt], s: &Seg) -> Result<Vec<Pt>, AllocError>
-    ensures { IfOk result (λ met. met.items ≡ filter (meets s.now) points.now) }
+    ensures exact { IfOk result (λ met. met.items ≡ filter (meets s.now) points.now) }
 {
     let mut met = Vec::new(alloc);
     add_between(&mut met, points, 0, points.len(), s)?;
@@ -316,7 +316,7 @@ pub fn met_among(alloc: Global, points: &[Pt], s: &Seg) -> Result<Vec<Pt>, Alloc
 /// the segment's line some lie.
 pub fn met_near(alloc: Global, points: &[Pt], runs: &[Run], s: &Seg) -> Result<Vec<Pt>, AllocError>
     requires { All (HoldsRun points.now) runs.now }
-    ensures { IfOk result (λ met. met.items ≡ filter (meets s.now) points.now) }
+    ensures exact { IfOk result (λ met. met.items ≡ filter (meets s.now) points.now) }
 {
     let mut at = Place {
         run: 0,
@@ -391,7 +391,7 @@ fn curve_order(p: &Pt, q: &Pt) -> Ordering {
 
 /// The same points, in the order of a curve through the plane.
 pub fn along_curve(alloc: Global, points: &[Pt]) -> Result<Vec<Pt>, AllocError>
-    ensures { IfOk result (λ moved. IsPermutation points.now moved.items) }
+    ensures made { IfOk result (λ moved. IsPermutation points.now moved.items) }
 {
     let mut moved = Vec::with_capacity(alloc, points.len())?;
     moved.extend_from_slice(points)?;

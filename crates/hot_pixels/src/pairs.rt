@@ -12,14 +12,14 @@ use std::alloc::{AllocError, Global};
 
 /// The spot with this number.
 pub fn spot_at(spots: &[Seg], i: u32) -> Option<Seg>
-    ensures { result ≡ slice_get spots.now i }
+    ensures exact { result ≡ slice_get spots.now i }
 {
     spots.get(i as usize).copied()
 }
 
 // The crossing of spots i and j, where i comes first, if it is no end of both.
 fn crossing_of(spots: &[Seg], i: u32, j: u32) -> Option<Pt>
-    ensures { result ≡ crossing_at spots.now i j }
+    ensures exact { result ≡ crossing_at spots.now i j }
 {
     if i >= j {
         return None;
@@ -41,27 +41,27 @@ fn crossing_of(spots: &[Seg], i: u32, j: u32) -> Option<Pt>
 
 // The lesser of two numbers.
 fn first_of(i: u32, j: u32) -> u32
-    ensures { result ≡ (if nat_lt i j then i else j) }
+    ensures exact { result ≡ (if nat_lt i j then i else j) }
 {
     if i < j { i } else { j }
 }
 
 // The other one.
 fn second_of(i: u32, j: u32) -> u32
-    ensures { result ≡ (if nat_lt i j then j else i) }
+    ensures exact { result ≡ (if nat_lt i j then j else i) }
 {
     if i < j { j } else { i }
 }
 
 // The crossing of two spots.
 fn crossing_of_pair(spots: &[Seg], i: u32, j: u32) -> Option<Pt>
-    ensures { result ≡ crossing_of_pair spots.now i j }
+    ensures exact { result ≡ crossing_of_pair spots.now i j }
 {
     crossing_of(spots, first_of(i, j), second_of(i, j))
 }
 
 fn push_some(points: &mut Vec<Pt>, found: Option<Pt>) -> Result<(), AllocError>
-    ensures { OnOk result (points.new.items ≡ points.old.items ++ option_to_list found) }
+    ensures added { OnOk result (points.new.items ≡ points.old.items ++ option_to_list found) }
 {
     if let Some(p) = found {
         points.push(p)?;
@@ -75,7 +75,7 @@ fn add_crossings_with(
     near: &[u32],
     i: u32,
 ) -> Result<(), AllocError>
-    ensures { OnOk result (points.new.items ≡ points.old.items ++ crossings_with spots.now i near.now) }
+    ensures added { OnOk result (points.new.items ≡ points.old.items ++ crossings_with spots.now i near.now) }
 {
     for j in near {
         push_some(points, crossing_of_pair(spots, i, *j))?;
@@ -89,7 +89,7 @@ pub fn add_crossings_among(
     spots: &[Seg],
     near: &[u32],
 ) -> Result<(), AllocError>
-    ensures { OnOk result (points.new.items ≡ points.old.items ++ crossings_among spots.now near.now) }
+    ensures added { OnOk result (points.new.items ≡ points.old.items ++ crossings_among spots.now near.now) }
 {
     for k in 0..near.len() {
         add_crossings_with(points, spots, &near[k + 1..], near[k])?;
@@ -100,7 +100,7 @@ pub fn add_crossings_among(
 /// The boxes of a bucket.
 pub fn near_of(buckets: &Buckets, place: u32) -> &[u32]
     requires { place < length buckets.now.near }
-    ensures { slice_get buckets.now.near place ≡ Some result.now }
+    ensures exact { slice_get buckets.now.near place ≡ Some result.now }
 {
     match buckets.each_near(place) {
         Some(near) => near,
@@ -114,7 +114,7 @@ fn add_crossings_in(
     spots: &[Seg],
     buckets: &Buckets,
 ) -> Result<(), AllocError>
-    ensures { OnOk result (HasCrossingsBefore (length buckets.now.near) buckets.now.near spots.now points.old.items points.new.items) }
+    ensures ok { OnOk result (HasCrossingsBefore (length buckets.now.near) buckets.now.near spots.now points.old.items points.new.items) }
 {
     for place in 0..buckets.count() {
         add_crossings_parted(points, alloc, spots, near_of(buckets, place), MAX_LINES)?;
@@ -124,7 +124,7 @@ fn add_crossings_in(
 
 /// Buckets over the boxes of the spots.
 pub fn buckets_over(alloc: Global, spots: &[Seg]) -> Result<Buckets, AllocError>
-    ensures { IfOk result (AreBucketsOver spots.now) }
+    ensures made { IfOk result (AreBucketsOver spots.now) }
 {
     Buckets::build_over(alloc, spots)
 }
@@ -137,7 +137,7 @@ pub fn add_crossings(
     buckets: &Buckets,
 ) -> Result<(), AllocError>
     requires { AreBucketsOver spots.now buckets.now }
-    ensures { OnOk result (HasAllCrossings spots.now points.old.items points.new.items) }
+    ensures ok { OnOk result (HasAllCrossings spots.now points.old.items points.new.items) }
 {
     add_crossings_in(points, alloc, spots, buckets)
 }

@@ -27,7 +27,7 @@ pub fn add_crossings_parted(
     near: &[u32],
     lines: u32,
 ) -> Result<(), AllocError>
-    ensures { OnOk result (HasCrossingsAmong spots.now near.now points.old.items points.new.items) }
+    ensures ok { OnOk result (HasCrossingsAmong spots.now near.now points.old.items points.new.items) }
 {
     if lines == 0 || near.len() <= FEW {
         return add_crossings_among(points, spots, near);
@@ -45,14 +45,14 @@ pub fn add_crossings_parted(
 }
 
 fn back_along(s: &Seg) -> Seg
-    ensures { result ≡ reversed s.now }
+    ensures exact { result ≡ reversed s.now }
 {
     Seg::new(s.b(), s.a())
 }
 
 // Whether a segment is on the left of a line: it has an end there, or lies in the line.
 fn is_left(line: &Seg, s: &Seg) -> bool
-    ensures { result ≡ is_left line.now s.now }
+    ensures exact { result ≡ is_left line.now s.now }
 {
     are_left(
         turn(line.a(), line.b(), s.a()),
@@ -62,13 +62,13 @@ fn is_left(line: &Seg, s: &Seg) -> bool
 
 // The same of where its ends stand to the line.
 fn are_left(start: i128, stop: i128) -> bool
-    ensures { result ≡ are_left start stop }
+    ensures exact { result ≡ are_left start stop }
 {
     0 < start || 0 < stop || 0 <= start && 0 <= stop
 }
 
 fn is_left_at(spots: &[Seg], i: u32, line: &Seg) -> bool
-    ensures { result ≡ is_left_by line.now (slice_get spots.now i) }
+    ensures exact { result ≡ is_left_by line.now (slice_get spots.now i) }
 {
     match spot_at(spots, i) {
         Some(s) => is_left(line, &s),
@@ -77,7 +77,7 @@ fn is_left_at(spots: &[Seg], i: u32, line: &Seg) -> bool
 }
 
 fn push_if(numbers: &mut Vec<u32>, i: u32, is_wanted: bool) -> Result<(), AllocError>
-    ensures { OnOk result (numbers.new.items ≡ (if is_wanted then numbers.old.items ++ i ∷ [] else numbers.old.items)) }
+    ensures ok { OnOk result (numbers.new.items ≡ (if is_wanted then numbers.old.items ++ i ∷ [] else numbers.old.items)) }
 {
     if is_wanted {
         numbers.push(i)?;
@@ -87,7 +87,7 @@ fn push_if(numbers: &mut Vec<u32>, i: u32, is_wanted: bool) -> Result<(), AllocE
 
 // Those on the left of a line, of spots with these numbers.
 fn left_of(alloc: Global, spots: &[Seg], near: &[u32], line: &Seg) -> Result<Vec<u32>, AllocError>
-    ensures { IfOk result (λ left. left.items ≡ left_numbers line.now spots.now near.now) }
+    ensures exact { IfOk result (λ left. left.items ≡ left_numbers line.now spots.now near.now) }
 {
     let mut left = Vec::new(alloc);
     for i in near {

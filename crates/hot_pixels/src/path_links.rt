@@ -7,7 +7,7 @@ use std::alloc::AllocError;
 
 /// Adds the link between two points; none, where they are equal.
 pub fn push_link(links: &mut Vec<Link>, p: Pt, q: Pt) -> Result<(), AllocError>
-    ensures { OnOk result (links.new.items ≡ links.old.items ++ option_to_list (link_along (record { start = p; stop = q }))) }
+    ensures added { OnOk result (links.new.items ≡ links.old.items ++ option_to_list (link_along (record { start = p; stop = q }))) }
 {
     if let Some(link) = Link::of(p, q) {
         links.push(link)?;
@@ -17,7 +17,7 @@ pub fn push_link(links: &mut Vec<Link>, p: Pt, q: Pt) -> Result<(), AllocError>
 
 /// Adds the links from a point to the first of the rest, and on.
 pub fn add_links_after(links: &mut Vec<Link>, from: Pt, rest: &[Pt]) -> Result<(), AllocError>
-    ensures { OnOk result (links.new.items ≡ links.old.items ++ path_links (from ∷ rest.now)) }
+    ensures added { OnOk result (links.new.items ≡ links.old.items ++ path_links (from ∷ rest.now)) }
 {
     let mut last = from;
     for p in rest {

@@ -6,7 +6,7 @@ use grid_base::{Drawing, FeatId, PolygonRings, Pt, PtList, Seg};
 use std::alloc::{AllocError, Global};
 
 fn add_steps(spots: &mut Vec<Seg>, from: Pt, path: &[Pt]) -> Result<(), AllocError>
-    ensures { OnOk result (spots.new.items ≡ spots.old.items ++ spots_after from path.now) }
+    ensures added { OnOk result (spots.new.items ≡ spots.old.items ++ spots_after from path.now) }
 {
     let mut last = from;
     for p in path {
@@ -17,7 +17,7 @@ fn add_steps(spots: &mut Vec<Seg>, from: Pt, path: &[Pt]) -> Result<(), AllocErr
 }
 
 fn add_path(spots: &mut Vec<Seg>, path: &[Pt]) -> Result<(), AllocError>
-    ensures { OnOk result (spots.new.items ≡ spots.old.items ++ path_spots path.now) }
+    ensures added { OnOk result (spots.new.items ≡ spots.old.items ++ path_spots path.now) }
 {
     if path.is_empty() {
         return Ok(());
@@ -26,7 +26,7 @@ fn add_path(spots: &mut Vec<Seg>, path: &[Pt]) -> Result<(), AllocError>
 }
 
 fn add_rings(spots: &mut Vec<Seg>, rings: &[PtList]) -> Result<(), AllocError>
-    ensures { OnOk result (spots.new.items ≡ spots.old.items ++ rings_spots rings.now) }
+    ensures added { OnOk result (spots.new.items ≡ spots.old.items ++ rings_spots rings.now) }
 {
     for ring in rings {
         add_path(spots, ring.as_slice())?;
@@ -35,7 +35,7 @@ fn add_rings(spots: &mut Vec<Seg>, rings: &[PtList]) -> Result<(), AllocError>
 }
 
 fn add_polygons(spots: &mut Vec<Seg>, polygons: &[PolygonRings]) -> Result<(), AllocError>
-    ensures { OnOk result (spots.new.items ≡ spots.old.items ++ feature_spots polygons.now) }
+    ensures added { OnOk result (spots.new.items ≡ spots.old.items ++ feature_spots polygons.now) }
 {
     for polygon in polygons {
         add_rings(spots, polygon.as_slice())?;
@@ -44,7 +44,7 @@ fn add_polygons(spots: &mut Vec<Seg>, polygons: &[PolygonRings]) -> Result<(), A
 }
 
 fn add_points(spots: &mut Vec<Seg>, points: &[Pt]) -> Result<(), AllocError>
-    ensures { OnOk result (spots.new.items ≡ spots.old.items ++ points_spots points.now) }
+    ensures added { OnOk result (spots.new.items ≡ spots.old.items ++ points_spots points.now) }
 {
     for p in points {
         spots.push(Seg::new(*p, *p))?;
@@ -53,7 +53,7 @@ fn add_points(spots: &mut Vec<Seg>, points: &[Pt]) -> Result<(), AllocError>
 }
 
 fn add_polygon_features(spots: &mut Vec<Seg>, d: &Drawing) -> Result<(), AllocError>
-    ensures { OnOk result (spots.new.items ≡ spots.old.items ++ flat_map feature_spots d.now.polygons) }
+    ensures added { OnOk result (spots.new.items ≡ spots.old.items ++ flat_map feature_spots d.now.polygons) }
 {
     for f in 0..d.polygon_count() {
         let polygons = d.rings_of(FeatId::new(f));
@@ -63,7 +63,7 @@ fn add_polygon_features(spots: &mut Vec<Seg>, d: &Drawing) -> Result<(), AllocEr
 }
 
 fn add_line_features(spots: &mut Vec<Seg>, d: &Drawing) -> Result<(), AllocError>
-    ensures { OnOk result (spots.new.items ≡ spots.old.items ++ flat_map rings_spots d.now.lines) }
+    ensures added { OnOk result (spots.new.items ≡ spots.old.items ++ flat_map rings_spots d.now.lines) }
 {
     for f in 0..d.line_count() {
         let lines = d.lines_of(FeatId::new(f));
@@ -73,7 +73,7 @@ fn add_line_features(spots: &mut Vec<Seg>, d: &Drawing) -> Result<(), AllocError
 }
 
 fn add_point_features(spots: &mut Vec<Seg>, d: &Drawing) -> Result<(), AllocError>
-    ensures { OnOk result (spots.new.items ≡ spots.old.items ++ flat_map points_spots d.now.points) }
+    ensures added { OnOk result (spots.new.items ≡ spots.old.items ++ flat_map points_spots d.now.points) }
 {
     for f in 0..d.point_count() {
         let points = d.points_of(FeatId::new(f));
@@ -83,7 +83,7 @@ fn add_point_features(spots: &mut Vec<Seg>, d: &Drawing) -> Result<(), AllocErro
 }
 
 fn add_boxes(spots: &mut Vec<Seg>, d: &Drawing) -> Result<(), AllocError>
-    ensures { OnOk result (spots.new.items ≡ spots.old.items ++ flat_map path_spots d.now.boxes) }
+    ensures added { OnOk result (spots.new.items ≡ spots.old.items ++ flat_map path_spots d.now.boxes) }
 {
     for b in 0..d.box_count() {
         let ring = d.box_of(b);
@@ -94,7 +94,7 @@ fn add_boxes(spots: &mut Vec<Seg>, d: &Drawing) -> Result<(), AllocError>
 
 /// The segments of a drawing, and the first point of each path as a segment of no length.
 pub fn spots_of(alloc: Global, d: &Drawing) -> Result<Vec<Seg>, AllocError>
-    ensures { IfOk result (λ spots. spots.items ≡ spots_of d.now) }
+    ensures exact { IfOk result (λ spots. spots.items ≡ spots_of d.now) }
 {
     let mut spots = Vec::new(alloc);
     add_polygon_features(&mut spots, d)?;

@@ -111,9 +111,9 @@ put_at old entries shown name bytes i was wide entry e f h there widened filled 
     subst (λ l. EntryBecame l (set entries i entry) name (put_entry l name bytes)) e
     (put_here entries name bytes i was entry place there (filled ∙ ap (λ w. holding w.name bytes w.bytes.room) widened))
 
-put_behind : (entries : List EntryState) (name bytes : Content) (entry : EntryState) → None ≡ position (named name) entries → entry ≡ holding name bytes (length bytes)
+put_after : (entries : List EntryState) (name bytes : Content) (entry : EntryState) → None ≡ position (named name) entries → entry ≡ holding name bytes (length bytes)
     → EntryBecame entries (entries ++ entry ∷ []) name (put_entry entries name bytes)
-put_behind entries name bytes entry absent filled =
+put_after entries name bytes entry absent filled =
     let room : max (unwrap_or (option_map (λ e. e.bytes.room) (entry_of entries name)) 0) (length bytes) ≡ length bytes = rw (none_found (named name) entries absent) (omega arith) in
     subst (λ x. EntryBecame entries (entries ++ entry ∷ []) name x) (filled ∙ ap (holding name bytes) (sym room)) (EntryBecame-push entries name entry absent (ap (λ x. x.name) filled))
 
@@ -122,7 +122,7 @@ pub put_new : (old entries shown all : List EntryState) (name bytes : Content) (
     → EntryBecame old all name (put_entry old name bytes)
 put_new old entries shown all name bytes made entry e f h ready filled pushed =
     let absent : None ≡ position (named name) entries = subst (λ l. None ≡ position (named name) l) f h in
-    rw pushed (subst (λ l. EntryBecame l (entries ++ entry ∷ []) name (put_entry l name bytes)) e (put_behind entries name bytes entry absent (filled ∙ ap (λ m. holding m.name bytes m.bytes.room) ready)))
+    rw pushed (subst (λ l. EntryBecame l (entries ++ entry ∷ []) name (put_entry l name bytes)) e (put_after entries name bytes entry absent (filled ∙ ap (λ m. holding m.name bytes m.bytes.room) ready)))
 
 -- a name that was made ready
 pub ready_at : (old entries shown : List EntryState) (name : Content) (room i : ℕ) (was entry : EntryState) → entries ≡ old → shown ≡ entries → Some i ≡ position (named name) shown → was ≡ get_or entries i was

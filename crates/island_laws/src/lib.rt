@@ -14,5 +14,5 @@ ghost use Rattle.island_laws.specs.Left.{IslandsAreFollowed};
 /// The sets that `drop_islands` answers follow what the definition leaves of the regions of the layer without their
 /// islands.
 pub fn islands_are_followed()
-    ensures { IslandsAreFollowed }
+    ensures holds { IslandsAreFollowed }
 {}

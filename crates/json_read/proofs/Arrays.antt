@@ -12,7 +12,7 @@ use Rattle.json_read.specs.declared.reader.Fault.TheVariants.{Syntax}
 use Rattle.json_read.specs.declared.reader.Stop.{Stop}
 use Rattle.json_read.specs.declared.reader.Stop.TheVariants as stop
 use Rattle.json_read.specs.Machine.{Place, Open, in_array, run, step, fault, value, first_value, after}
-use Rattle.json_read.specs.Reading.{Runs, AtFault, PassesAt, BreaksAt, outside, inside, behind, ShowsPadded, ArrayText}
+use Rattle.json_read.specs.Reading.{Runs, AtFault, PassesAt, BreaksAt, outside, inside, past, ShowsPadded, ArrayText}
 use Rattle.numerals.specs.Bytes.{NextIsNot}
 use Rattle.json_read.proofs.Names.{ByteFault}
 use Rattle.json_read.proofs.Runs.{moves, stops, moves_alike}
@@ -43,13 +43,13 @@ white_in : (d : ℕ) (old new : List ℕ) → new ≡ drop_while is_white old �
 white_in d old new e = lifted (inside in_array d first_value) first_value (λ k. refl) (white_passes first_value old new refl e)
 
 -- a bracket that closes
-closes : (d : ℕ) (p : Place) (old new : List ℕ) → ((n : ℕ) (k : List Open) → step n p (in_array ∷ k) 93 ≡ Some (after, k)) → old ≡ 93 ∷ new → PassesAt (λ t. t ≡ 93 ∷ []) (inside in_array d p) (behind d) old new
+closes : (d : ℕ) (p : Place) (old new : List ℕ) → ((n : ℕ) (k : List Open) → step n p (in_array ∷ k) 93 ≡ Some (after, k)) → old ≡ 93 ∷ new → PassesAt (λ t. t ≡ 93 ∷ []) (inside in_array d p) (past d) old new
 closes d p old new s e = record { reads = (93 ∷ [], e, refl); runs = λ k. ap (run (length (in_array ∷ k) + d) p (in_array ∷ k)) e ∙ moves (length (in_array ∷ k) + d) p (in_array ∷ k) 93 new after k (s (length (in_array ∷ k) + d) k) }
 
 no_elements_text : (d : ℕ) (t : List ℕ) → Then White (λ s. s ≡ 93 ∷ []) t → ArrayText d no_items t
 no_elements_text d t h = subst (λ (z : List ℕ). Denotes (suc d) (91 ∷ z) (array no_items)) (sym (h.2 ∙ ap (λ (z : List ℕ). h.0 ++ z) h.4)) (no_elements h.3)
 
-pub array_empty : (d : ℕ) (js : ItemList) (old m1 new : List ℕ) → js ≡ no_items → m1 ≡ drop_while is_white old → m1 ≡ 93 ∷ new → PassesAt (ArrayText d js) (inside in_array d first_value) (behind d) old new
+pub array_empty : (d : ℕ) (js : ItemList) (old m1 new : List ℕ) → js ≡ no_items → m1 ≡ drop_while is_white old → m1 ≡ 93 ∷ new → PassesAt (ArrayText d js) (inside in_array d first_value) (past d) old new
 array_empty d js old m1 new j w e =
     as_passes_at (ArrayText d js) (then_passes_at (white_in d old m1 w) (closes d first_value m1 new (λ n k. refl) e)) (λ x h. subst (λ (i : ItemList). ArrayText d i x) (sym j) (no_elements_text d x h))
 
@@ -91,7 +91,7 @@ items_end d items later j t e h =
     let whole : t ≡ (h.0 ++ q.0) ++ 93 ∷ [] = h.2 ∙ ap (λ (z : List ℕ). h.0 ++ z) (q.2 ∙ ap (λ (z : List ℕ). q.0 ++ z) q.4) ∙ sym (append_assoc h.0 q.0 (93 ∷ [])) in
     subst (λ (z : List ℕ). Denotes (suc d) (91 ∷ z) (array later)) (sym whole) (elements (subst (Elements d (h.0 ++ q.0)) (sym e) (h.3 q.0 (json_value j ∷ []) (last_element q.3))))
 
-pub array_ends : (d : ℕ) (items later : ItemList) (j : Json) (old m1 m2 new : List ℕ) → PassesAt (ItemsSoFar d items) (inside in_array d first_value) (inside in_array d value) old m1 → PassesAt (ShowsPadded d j) (outside d value) (outside d after) m1 m2 → IsPushed later items j → m2 ≡ 93 ∷ new → PassesAt (ArrayText d later) (inside in_array d first_value) (behind d) old new
+pub array_ends : (d : ℕ) (items later : ItemList) (j : Json) (old m1 m2 new : List ℕ) → PassesAt (ItemsSoFar d items) (inside in_array d first_value) (inside in_array d value) old m1 → PassesAt (ShowsPadded d j) (outside d value) (outside d after) m1 m2 → IsPushed later items j → m2 ≡ 93 ∷ new → PassesAt (ArrayText d later) (inside in_array d first_value) (past d) old new
 array_ends d items later j old m1 m2 new a p e c =
     as_passes_at (ArrayText d later) (then_passes_at a (then_passes_at (within d value after p) (closes d after m2 new (λ n k. refl) c))) (λ x h. items_end d items later j x e h)
 

@@ -13,7 +13,7 @@ use Rattle.json_read.specs.declared.reader.Fault.TheVariants.{Syntax}
 use Rattle.json_read.specs.declared.reader.Stop.{Stop}
 use Rattle.json_read.specs.declared.reader.Stop.TheVariants as stop
 use Rattle.json_read.specs.Machine.{Place, Open, in_object, run, step, fault, value, first_name, next_name, after}
-use Rattle.json_read.specs.Reading.{Runs, Passes, Breaks, AtFault, MembersSoFar, NameText, PassesAt, BreaksAt, outside, inside, behind, ShowsPadded, ObjectText}
+use Rattle.json_read.specs.Reading.{Runs, Passes, Breaks, AtFault, MembersSoFar, NameText, PassesAt, BreaksAt, outside, inside, past, ShowsPadded, ObjectText}
 use Rattle.numerals.specs.Bytes.{NextIsNot}
 use Rattle.json_read.proofs.Names.{ByteFault, SomeName}
 use Rattle.json_read.proofs.Runs.{moves, stops, moves_alike}
@@ -42,13 +42,13 @@ white_in : (d : ℕ) (old new : List ℕ) → new ≡ drop_while is_white old �
 white_in d old new e = lifted (inside in_object d first_name) first_name (λ k. refl) (white_passes first_name old new refl e)
 
 -- a brace that closes
-closes : (d : ℕ) (p : Place) (old new : List ℕ) → ((n : ℕ) (k : List Open) → step n p (in_object ∷ k) 125 ≡ Some (after, k)) → old ≡ 125 ∷ new → PassesAt (λ t. t ≡ 125 ∷ []) (inside in_object d p) (behind d) old new
+closes : (d : ℕ) (p : Place) (old new : List ℕ) → ((n : ℕ) (k : List Open) → step n p (in_object ∷ k) 125 ≡ Some (after, k)) → old ≡ 125 ∷ new → PassesAt (λ t. t ≡ 125 ∷ []) (inside in_object d p) (past d) old new
 closes d p old new s e = record { reads = (125 ∷ [], e, refl); runs = λ k. ap (run (length (in_object ∷ k) + d) p (in_object ∷ k)) e ∙ moves (length (in_object ∷ k) + d) p (in_object ∷ k) 125 new after k (s (length (in_object ∷ k) + d) k) }
 
 no_members_text : (d : ℕ) (t : List ℕ) → Then White (λ s. s ≡ 125 ∷ []) t → ObjectText d no_fields t
 no_members_text d t h = subst (λ (z : List ℕ). Denotes (suc d) (123 ∷ z) (object no_fields)) (sym (h.2 ∙ ap (λ (z : List ℕ). h.0 ++ z) h.4)) (no_members h.3)
 
-pub object_empty : (d : ℕ) (fs : FieldList) (old m1 new : List ℕ) → fs ≡ no_fields → m1 ≡ drop_while is_white old → m1 ≡ 125 ∷ new → PassesAt (ObjectText d fs) (inside in_object d first_name) (behind d) old new
+pub object_empty : (d : ℕ) (fs : FieldList) (old m1 new : List ℕ) → fs ≡ no_fields → m1 ≡ drop_while is_white old → m1 ≡ 125 ∷ new → PassesAt (ObjectText d fs) (inside in_object d first_name) (past d) old new
 object_empty d fs old m1 new j w e =
     as_passes_at (ObjectText d fs) (then_passes_at (white_in d old m1 w) (closes d first_name m1 new (λ n k. refl) e)) (λ x h. subst (λ (i : FieldList). ObjectText d i x) (sym j) (no_members_text d x h))
 
@@ -107,7 +107,7 @@ pub object_more : (d : ℕ) (fields later : FieldList) (name : List ℕ) (j : Js
 object_more d fields later name j old m1 m2 m3 m4 new a n p e s c =
     as_passes_at (MembersSoFar d later) (then_passes_at a (then_passes_at (name_in d name m1 m2 n) (then_passes_at (within d value after p) (comma_in d m3 new (sym s ∙ c))))) (λ x h. members_more d fields later name j x e h)
 
-pub object_ends : (d : ℕ) (fields later : FieldList) (name : List ℕ) (j : Json) (old m1 m2 m3 new : List ℕ) → PassesAt (MembersSoFar d fields) (inside in_object d first_name) (inside in_object d next_name) old m1 → Passes (NameText name) next_name value m1 m2 → PassesAt (ShowsPadded d j) (outside d value) (outside d after) m2 m3 → IsPut later fields name j → m3 ≡ 125 ∷ new → PassesAt (ObjectText d later) (inside in_object d first_name) (behind d) old new
+pub object_ends : (d : ℕ) (fields later : FieldList) (name : List ℕ) (j : Json) (old m1 m2 m3 new : List ℕ) → PassesAt (MembersSoFar d fields) (inside in_object d first_name) (inside in_object d next_name) old m1 → Passes (NameText name) next_name value m1 m2 → PassesAt (ShowsPadded d j) (outside d value) (outside d after) m2 m3 → IsPut later fields name j → m3 ≡ 125 ∷ new → PassesAt (ObjectText d later) (inside in_object d first_name) (past d) old new
 object_ends d fields later name j old m1 m2 m3 new a n p e c =
     as_passes_at (ObjectText d later) (then_passes_at a (then_passes_at (name_in d name m1 m2 n) (then_passes_at (within d value after p) (closes d after m3 new (λ i k. refl) c)))) (λ x h. members_end d fields later name j x e h)
 

@@ -9,7 +9,7 @@ use Rattle.json_read.specs.Machine.{run, in_array, in_object, in_word, is_value,
 use Rattle.numerals.specs.Numeral.{Numeral, grid_at, grid_of_text, numeral_of, IsNumeral}
 use Rattle.numerals.specs.Plain.{IsGridFront, is_numeric}
 use Rattle.numerals.specs.Numbers.{Number}
-use Rattle.json_read.specs.Reading.{MembersSoFar, NameText, NumeralOf, Passes, PassesAt, ArrayText, ObjectText, Shows, inside, outside, behind}
+use Rattle.json_read.specs.Reading.{MembersSoFar, NameText, NumeralOf, Passes, PassesAt, ArrayText, ObjectText, Shows, inside, outside, past}
 use Rattle.numerals.specs.Bytes.{NextFails, NextIsNot, drop_while}
 use Rattle.json_values.specs.Seen.{json_value}
 use Rattle.json_read.specs.Straight.{HasReadAt, HasTakenMember, HasTakenMembers, BeginsWithPair, EndsSoon, IsGridNumber, IsTakenArray, IsTakenObject, PutsOne}
@@ -63,7 +63,7 @@ front_read d places n g old m1 m2 new w h back u =
 
 -- ## Arrays
 
-array_shown : (d inner : ℕ) (items : ItemList) (old m1 new : List ℕ) → suc inner ≡ d → old ≡ 91 ∷ m1 → PassesAt (ArrayText inner items) (inside in_array inner first_value) (behind inner) m1 new → PassesAt (Shows d (json.List items)) (outside d value) (outside d after) old new
+array_shown : (d inner : ℕ) (items : ItemList) (old m1 new : List ℕ) → suc inner ≡ d → old ≡ 91 ∷ m1 → PassesAt (ArrayText inner items) (inside in_array inner first_value) (past inner) m1 new → PassesAt (Shows d (json.List items)) (outside d value) (outside d after) old new
 array_shown d inner items old m1 new up e a = held_value in_array first_value 91 d inner (ArrayText inner items) (json.List items) old m1 new up e (λ n l. refl) (λ s h. h) a
 
 pub taken_array : (d inner : ℕ) (P Q : List JsonValue → Type 0) (old m1 m2 m3 new : List ℕ) → suc inner ≡ d → m1 ≡ drop_while is_white old → m1 ≡ 91 ∷ m2 → HasTakenArray inner P Q m2 m3 → new ≡ drop_while is_white m3 → HasReadAt d (IsTakenArray P Q) old new
@@ -71,7 +71,7 @@ taken_array d inner P Q old m1 m2 m3 new up w e h u = (json.List h.0, value_arou
 
 -- after its first two items an array ends, or with a third one
 soon_ended : (d : ℕ) (a b : JsonValue) (j : Json) (old m1 m2 new : List ℕ) → PassesAt (ItemsSoFar d (item a no_items)) (inside in_array d first_value) (inside in_array d value) old m1 → HasValue d j m1 m2 → json_value j ≡ b → EndsSoon d m2 new
-    → (rest : ItemList) × PassesAt (ArrayText d (item a (item b rest))) (inside in_array d first_value) (behind d) old new
+    → (rest : ItemList) × PassesAt (ArrayText d (item a (item b rest))) (inside in_array d first_value) (past d) old new
 soon_ended d a b j old m1 m2 new one h is (inl e) = (no_items, array_ends d (item a no_items) (item a (item b no_items)) j old m1 m2 new one h.passes (ap (λ (z : JsonValue). a ∷ z ∷ []) (sym is)) e)
 soon_ended d a b j old m1 m2 new one h is (inr t) =
     let both : ItemList = item a (item b no_items) in
@@ -85,7 +85,7 @@ pub pair_read : (d inner places : ℕ) (x y : ℤ) (old m1 m2 m3 m4 m5 m6 m7 m8 
 pair_read d inner places x y old m1 m2 m3 m4 m5 m6 m7 m8 new up w b v s n h c k e u =
     let first : ItemList = item (number h.2.0) no_items in
     let one : PassesAt (ItemsSoFar inner first) (inside in_array inner first_value) (inside in_array inner value) m2 m6 = array_more inner no_items first h.0 m2 m4 m5 m5 m6 (array_init inner no_items m2 m3 m4 refl v s n) h.1.passes (ap (λ (z : JsonValue). z ∷ []) (sym h.2.1)) refl c in
-    let ended : (rest : ItemList) × PassesAt (ArrayText inner (item (number h.2.0) (item (number k.2.0) rest))) (inside in_array inner first_value) (behind inner) m2 m8 = soon_ended inner (number h.2.0) (number k.2.0) k.0 m2 m6 m7 m8 one k.1 k.2.1 e in
+    let ended : (rest : ItemList) × PassesAt (ArrayText inner (item (number h.2.0) (item (number k.2.0) rest))) (inside in_array inner first_value) (past inner) m2 m8 = soon_ended inner (number h.2.0) (number k.2.0) k.0 m2 m6 m7 m8 one k.1 k.2.1 e in
     let all : ItemList = item (number h.2.0) (item (number k.2.0) ended.0) in
     (json.List all, value_around d (json.List all) old m1 m8 new w (array_shown d inner all m1 m2 m8 up b ended.1) u, (h.2.0, k.2.0, ended.0, refl, h.2.2, k.2.2))
 
@@ -135,7 +135,7 @@ pub members_end : (d : ℕ) (P M Q : List Member → Type 0) (name old m1 m2 m3 
 members_end d P M Q name old m1 m2 m3 new h n v c =
     (later h.0 name v.0, object_ends d h.0 (later h.0 name v.0) name v.0 old m1 m2 m3 new h.1 n v.1.passes (is_put h.0 name v.0) c, takes_put P M Q h.0 name v.0 h.2 v.2)
 
-object_shown : (d inner : ℕ) (fields : FieldList) (old m1 new : List ℕ) → suc inner ≡ d → old ≡ 123 ∷ m1 → PassesAt (ObjectText inner fields) (inside in_object inner first_name) (behind inner) m1 new → PassesAt (Shows d (json.Object fields)) (outside d value) (outside d after) old new
+object_shown : (d inner : ℕ) (fields : FieldList) (old m1 new : List ℕ) → suc inner ≡ d → old ≡ 123 ∷ m1 → PassesAt (ObjectText inner fields) (inside in_object inner first_name) (past inner) m1 new → PassesAt (Shows d (json.Object fields)) (outside d value) (outside d after) old new
 object_shown d inner fields old m1 new up e a = held_value in_object first_name 123 d inner (ObjectText inner fields) (json.Object fields) old m1 new up e (λ n l. refl) (λ s h. h) a
 
 pub taken_object : (d inner : ℕ) (P Q : List Member → Type 0) (old m1 m2 m3 new : List ℕ) → suc inner ≡ d → m1 ≡ drop_while is_white old → m1 ≡ 123 ∷ m2 → HasTakenMembers inner P Q m2 m3 → new ≡ drop_while is_white m3 → HasReadAt d (IsTakenObject P Q) old new

@@ -14,7 +14,7 @@ use Rattle.json_read.specs.declared.reader.Stop.{Stop}
 use Rattle.json_read.specs.declared.reader.taking.Taking.{Taking}
 use Rattle.json_read.specs.declared.reader.taking.TakenObject.{TakenObject}
 use Rattle.json_read.specs.Machine.{in_array, in_object, start, value, first_value, first_name, next_name, after}
-use Rattle.json_read.specs.Reading.{AtFault, Reads, Passes, MembersSoFar, NameText, PassesAt, BreaksAt, outside, inside, behind, Shows, ShowsPadded, ArrayText, ObjectText, FaultsAt}
+use Rattle.json_read.specs.Reading.{AtFault, Reads, Passes, MembersSoFar, NameText, PassesAt, BreaksAt, outside, inside, past, Shows, ShowsPadded, ArrayText, ObjectText, FaultsAt}
 use Rattle.numerals.specs.Bytes.{NextIsNot}
 use Rattle.json_read.specs.Taking.{TakesOne, TakesAll, TookNamed, AreFieldsOf, IsTakenText, HasOtherMember, IsNoFirstArray, HasTakenArray, PutsOther, TakesFirst, HasValue, HasFirstArray, HasMember, ValueBreaks, TakesValue, TakesMember}
 use Rattle.json_read.proofs.Arrays.{ItemsSoFar, array_empty, array_init, array_more, array_ends, array_item_breaks, array_comma_breaks, items_list-items_of}
@@ -73,7 +73,7 @@ items_comma_breaks d P M j e old m1 m2 m3 new h p w s c b = array_comma_breaks d
 
 -- ## An array as a value
 
-array_shown : (d inner : ℕ) (items : ItemList) (old m1 new : List ℕ) → suc inner ≡ d → old ≡ 91 ∷ m1 → PassesAt (ArrayText inner items) (inside in_array inner first_value) (behind inner) m1 new → PassesAt (Shows d (json.List items)) (outside d value) (outside d after) old new
+array_shown : (d inner : ℕ) (items : ItemList) (old m1 new : List ℕ) → suc inner ≡ d → old ≡ 91 ∷ m1 → PassesAt (ArrayText inner items) (inside in_array inner first_value) (past inner) m1 new → PassesAt (Shows d (json.List items)) (outside d value) (outside d after) old new
 array_shown d inner items old m1 new up e a = held_value in_array first_value 91 d inner (ArrayText inner items) (json.List items) old m1 new up e (λ n l. refl) (λ s h. h) a
 
 pub array_taken : (d inner : ℕ) (P Q : List JsonValue → Type 0) (a b : Taking) (old m1 m2 m3 new : List ℕ)
@@ -181,7 +181,7 @@ abbrev finished : (P Q : List JsonValue → Type 0) (wanted : List ℕ) (a b : F
 finished P Q wanted a b s t whole e h = subst (λ (fs : FieldList). AreFieldsOf P Q wanted fs t whole) (sym e.0) (subst (λ (u : Bool). AreFieldsOf P Q wanted a u whole) (sym e.1) h)
 
 pub members_none : (d : ℕ) (P : List JsonValue → Type 0) (wanted : List ℕ) (fields result : FieldList) (is_taken : Bool) (old m1 new : List ℕ)
-    → fields ≡ no_fields → m1 ≡ drop_while is_white old → m1 ≡ 125 ∷ new → (result ≡ fields) × (is_taken ≡ false) → (whole : FieldList) × PassesAt (ObjectText d whole) (inside in_object d first_name) (behind d) old new × AreFieldsOf P P wanted result is_taken whole
+    → fields ≡ no_fields → m1 ≡ drop_while is_white old → m1 ≡ 125 ∷ new → (result ≡ fields) × (is_taken ≡ false) → (whole : FieldList) × PassesAt (ObjectText d whole) (inside in_object d first_name) (past d) old new × AreFieldsOf P P wanted result is_taken whole
 members_none d P wanted fields result is_taken old m1 new is w e f = (fields, object_empty d fields old m1 new is w e, finished P P wanted fields result false is_taken fields f (nothing_taken P wanted fields is))
 
 pub members_init : (d : ℕ) (P : List JsonValue → Type 0) (wanted : List ℕ) (fields : FieldList) (old m1 new : List ℕ) → fields ≡ no_fields → m1 ≡ drop_while is_white old → new ≡ m1 → NextIsNot 125 new → MembersTaken d P P wanted fields false old new
@@ -196,7 +196,7 @@ members_more d P M Q wanted name a b old m1 m2 m3 m4 new h n p s c =
 
 pub members_end : (d : ℕ) (P M Q : List JsonValue → Type 0) (wanted name : List ℕ) (a b : Taking) (result : FieldList) (is_taken : Bool) (old m1 m2 m3 new : List ℕ)
     → MembersTaken d P M wanted a.fields a.is_taken old m1 → Passes (NameText name) next_name value m1 m2 → HasMember d M Q wanted name a b m2 m3 → m3 ≡ 125 ∷ new → (result ≡ b.fields) × (is_taken ≡ b.is_taken)
-    → (whole : FieldList) × PassesAt (ObjectText d whole) (inside in_object d first_name) (behind d) old new × AreFieldsOf P Q wanted result is_taken whole
+    → (whole : FieldList) × PassesAt (ObjectText d whole) (inside in_object d first_name) (past d) old new × AreFieldsOf P Q wanted result is_taken whole
 members_end d P M Q wanted name a b result is_taken old m1 m2 m3 new h n p c f =
     let v : JsonValue = json_value p.0 in
     let later : FieldList = with_member h.0 name v in
@@ -207,20 +207,20 @@ ObjectBreaks d e old new = AtFault (λ f. BreaksAt (λ t. (fields : FieldList) �
 
 -- ## Whole texts
 
-object_shown : (d inner : ℕ) (whole : FieldList) (old m1 new : List ℕ) → suc inner ≡ d → old ≡ 123 ∷ m1 → PassesAt (ObjectText inner whole) (inside in_object inner first_name) (behind inner) m1 new → PassesAt (Shows d (json.Object whole)) (outside d value) (outside d after) old new
+object_shown : (d inner : ℕ) (whole : FieldList) (old m1 new : List ℕ) → suc inner ≡ d → old ≡ 123 ∷ m1 → PassesAt (ObjectText inner whole) (inside in_object inner first_name) (past inner) m1 new → PassesAt (Shows d (json.Object whole)) (outside d value) (outside d after) old new
 object_shown d inner whole old m1 new up e a = held_value in_object first_name 123 d inner (ObjectText inner whole) (json.Object whole) old m1 new up e (λ n l. refl) (λ s h. h) a
 
-object_padded : (d inner : ℕ) (whole : FieldList) (old m1 m2 m3 new : List ℕ) → suc inner ≡ d → m1 ≡ drop_while is_white old → m1 ≡ 123 ∷ m2 → PassesAt (ObjectText inner whole) (inside in_object inner first_name) (behind inner) m2 m3 → new ≡ drop_while is_white m3 → PassesAt (ShowsPadded d (json.Object whole)) (outside d value) (outside d after) old new
+object_padded : (d inner : ℕ) (whole : FieldList) (old m1 m2 m3 new : List ℕ) → suc inner ≡ d → m1 ≡ drop_while is_white old → m1 ≡ 123 ∷ m2 → PassesAt (ObjectText inner whole) (inside in_object inner first_name) (past inner) m2 m3 → new ≡ drop_while is_white m3 → PassesAt (ShowsPadded d (json.Object whole)) (outside d value) (outside d after) old new
 object_padded d inner whole old m1 m2 m3 new up w e a u = padded_passes d (json.Object whole) old m1 m3 new w (object_shown d inner whole m1 m2 m3 up e a) u
 
 pub taken_whole : (d inner : ℕ) (P Q : List JsonValue → Type 0) (wanted : List ℕ) (result : FieldList) (is_taken : Bool) (old m0 m1 m2 m3 new : List ℕ)
-    → suc inner ≡ d → Passes Mark start value old m0 → m1 ≡ drop_while is_white m0 → m1 ≡ 123 ∷ m2 → (whole : FieldList) × PassesAt (ObjectText inner whole) (inside in_object inner first_name) (behind inner) m2 m3 × AreFieldsOf P Q wanted result is_taken whole
+    → suc inner ≡ d → Passes Mark start value old m0 → m1 ≡ drop_while is_white m0 → m1 ≡ 123 ∷ m2 → (whole : FieldList) × PassesAt (ObjectText inner whole) (inside in_object inner first_name) (past inner) m2 m3 × AreFieldsOf P Q wanted result is_taken whole
     → new ≡ drop_while is_white m3 → new ≡ [] → IsTakenText d P Q wanted result is_taken old
 taken_whole d inner P Q wanted result is_taken old m0 m1 m2 m3 new up m w e h u end =
     (h.0, text_whole d (json.Object h.0) old m0 new m (object_padded d inner h.0 m0 m1 m2 m3 new up w e h.1 u) end, h.2)
 
 pub taken_end : (d inner : ℕ) (P Q : List JsonValue → Type 0) (wanted : List ℕ) (result : FieldList) (is_taken : Bool) (old m0 m1 m2 m3 new : List ℕ)
-    → suc inner ≡ d → Passes Mark start value old m0 → m1 ≡ drop_while is_white m0 → m1 ≡ 123 ∷ m2 → (whole : FieldList) × PassesAt (ObjectText inner whole) (inside in_object inner first_name) (behind inner) m2 m3 × AreFieldsOf P Q wanted result is_taken whole
+    → suc inner ≡ d → Passes Mark start value old m0 → m1 ≡ drop_while is_white m0 → m1 ≡ 123 ∷ m2 → (whole : FieldList) × PassesAt (ObjectText inner whole) (inside in_object inner first_name) (past inner) m2 m3 × AreFieldsOf P Q wanted result is_taken whole
     → new ≡ drop_while is_white m3 → (new ≡ [] → ⊥) → FaultsAt d Syntax old new
 taken_end d inner P Q wanted result is_taken old m0 m1 m2 m3 new up m w e h u more =
     text_end d (json.Object h.0) old m0 new m (object_padded d inner h.0 m0 m1 m2 m3 new up w e h.1 u) (next_fails_after is_white m3 new u) more

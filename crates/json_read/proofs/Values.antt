@@ -13,7 +13,7 @@ use Rattle.json_read.specs.declared.reader.Fault.TheVariants.{Syntax, Depth}
 use Rattle.json_read.specs.declared.reader.Stop.{Stop}
 use Rattle.json_read.specs.declared.reader.Stop.TheVariants as stop
 use Rattle.json_read.specs.Machine.{Place, Open, run, step, fault, opens_deeper, opens, value, after, in_string, is_value, in_word}
-use Rattle.json_read.specs.Reading.{Runs, Passes, Breaks, AtFault, ClosesAs, NumeralOf, run_at, PassesAt, BreaksAt, outside, inside, behind, Shows, ShowsPadded}
+use Rattle.json_read.specs.Reading.{Runs, Passes, Breaks, AtFault, ClosesAs, NumeralOf, run_at, PassesAt, BreaksAt, outside, inside, past, Shows, ShowsPadded}
 use Rattle.json_read.proofs.Parts.{passes_one}
 use Rattle.json_read.proofs.Runs.{moves, stops, moves_alike}
 use Rattle.json_read.proofs.Sequences.{Then, then_passes_at, then_breaks_at, first_breaks_at, as_breaks_at, as_passes_at, lifted, lifted_breaks, white_passes}
@@ -23,14 +23,14 @@ use Rattle.json_read.proofs.Sequences.{Then, then_passes_at, then_breaks_at, fir
 pub white_at : (d : ℕ) (old new : List ℕ) → new ≡ drop_while is_white old → PassesAt White (outside d value) (outside d value) old new
 white_at d old new e = lifted (outside d value) value (λ k. refl) (white_passes value old new refl e)
 
-white_behind : (d : ℕ) (old new : List ℕ) → new ≡ drop_while is_white old → PassesAt White (outside d after) (outside d after) old new
-white_behind d old new e = lifted (outside d after) after (λ k. refl) (white_passes after old new refl e)
+white_after : (d : ℕ) (old new : List ℕ) → new ≡ drop_while is_white old → PassesAt White (outside d after) (outside d after) old new
+white_after d old new e = lifted (outside d after) after (λ k. refl) (white_passes after old new refl e)
 
 padded_text : (d : ℕ) (v : JsonValue) (t : List ℕ) → Then White (Then (λ s. Denotes d s v) White) t → Padded d t v
 padded_text d v t h = let q = h.4 in subst (λ (z : List ℕ). Padded d z v) (sym (h.2 ∙ ap (λ (z : List ℕ). h.0 ++ z) q.2)) (padded h.3 q.3 q.4)
 
 pub padded_passes : (d : ℕ) (j : Json) (old m1 m2 new : List ℕ) → m1 ≡ drop_while is_white old → PassesAt (Shows d j) (outside d value) (outside d after) m1 m2 → new ≡ drop_while is_white m2 → PassesAt (ShowsPadded d j) (outside d value) (outside d after) old new
-padded_passes d j old m1 m2 new w a u = as_passes_at (ShowsPadded d j) (then_passes_at (white_at d old m1 w) (then_passes_at a (white_behind d m2 new u))) (padded_text d (json_value j))
+padded_passes d j old m1 m2 new w a u = as_passes_at (ShowsPadded d j) (then_passes_at (white_at d old m1 w) (then_passes_at a (white_after d m2 new u))) (padded_text d (json_value j))
 
 abbrev pub SomeShown : ℕ → List ℕ → Type 0
 SomeShown d t = (j : Json) × Shows d j t
@@ -126,10 +126,10 @@ goes_in o p c d inner k old m1 e is t =
     let same : length k + d ≡ length (o ∷ k) + inner = omega arith in
     ap (run (length k + d) value k) is ∙ moves (length k + d) value k c m1 p (o ∷ k) (t (length k + d) k ∙ cond-true (ltb (length k) (length k + d)) _ _ room) ∙ ap (λ (n : ℕ). run n p (o ∷ k) m1) same
 
-comes_out : (d inner : ℕ) (k : List Open) (new : List ℕ) → suc inner ≡ d → run_at (behind inner k) new ≡ run (length k + d) after k new
+comes_out : (d inner : ℕ) (k : List Open) (new : List ℕ) → suc inner ≡ d → run_at (past inner k) new ≡ run (length k + d) after k new
 comes_out d inner k new e = let same : suc (length k) + inner ≡ length k + d = omega arith in ap (λ (n : ℕ). run n after k new) same
 
-pub held_value : (o : Open) (p : Place) (c d inner : ℕ) (R : List ℕ → Type 0) (j : Json) (old m1 new : List ℕ) → suc inner ≡ d → old ≡ c ∷ m1 → ((n : ℕ) (l : List Open) → step n value l c ≡ opens n p o l) → ((t : List ℕ) → R t → Denotes (suc inner) (c ∷ t) (json_value j)) → PassesAt R (inside o inner p) (behind inner) m1 new → PassesAt (Shows d j) (outside d value) (outside d after) old new
+pub held_value : (o : Open) (p : Place) (c d inner : ℕ) (R : List ℕ → Type 0) (j : Json) (old m1 new : List ℕ) → suc inner ≡ d → old ≡ c ∷ m1 → ((n : ℕ) (l : List Open) → step n value l c ≡ opens n p o l) → ((t : List ℕ) → R t → Denotes (suc inner) (c ∷ t) (json_value j)) → PassesAt R (inside o inner p) (past inner) m1 new → PassesAt (Shows d j) (outside d value) (outside d after) old new
 held_value o p c d inner R j old m1 new e is t s a = record {
   reads = (c ∷ a.reads.0, is ∙ ap (λ (z : List ℕ). c ∷ z) a.reads.1, subst (λ (n : ℕ). Denotes n (c ∷ a.reads.0) (json_value j)) e (s a.reads.0 a.reads.2));
   runs = λ k. goes_in o p c d inner k old m1 e is t ∙ a.runs k ∙ comes_out d inner k new e;

@@ -5,7 +5,7 @@ use Rattle.std.proofs.Math.Seq.{take-append_seam, drop-append_seam, take-append-
 use Rattle.json_read.specs.Faults.{IsFault, FaultFits, fault_of as fault_named}
 use Rattle.json_read.specs.declared.reader.Fault.TheVariants as kinds
 use Rattle.json_values.specs.Grammar.{JsonText, Viable}
-use Rattle.json_read.specs.Machine.{Place, Open, Moves, accepted, fault, run, step, fault_of, at_end, start, after, behind_zero, in_whole, in_fraction, behind_mantissa, in_exponent}
+use Rattle.json_read.specs.Machine.{Place, Open, Moves, accepted, fault, run, step, fault_of, at_end, start, after, after_zero, in_whole, in_fraction, after_mantissa, in_exponent}
 use Rattle.json_read.specs.Reading.{FaultsAt}
 use Rattle.json_read.specs.declared.reader.Fault.{Fault}
 use Rattle.json_read.proofs.Accepts.{text_accepted}
@@ -24,14 +24,14 @@ fault_parts f g xs ys e = (cc, cc)
 ends_are_short : (p : Place) (k : List Open) (f : Fault) (b : ℕ) (rest : List ℕ) → at_end p k ≡ fault f (b ∷ rest) → ⊥
 ends_are_short after [] f b rest e = cc
 ends_are_short after (o ∷ k) f b rest e = cc
-ends_are_short behind_zero [] f b rest e = cc
-ends_are_short behind_zero (o ∷ k) f b rest e = cc
+ends_are_short after_zero [] f b rest e = cc
+ends_are_short after_zero (o ∷ k) f b rest e = cc
 ends_are_short in_whole [] f b rest e = cc
 ends_are_short in_whole (o ∷ k) f b rest e = cc
 ends_are_short in_fraction [] f b rest e = cc
 ends_are_short in_fraction (o ∷ k) f b rest e = cc
-ends_are_short behind_mantissa [] f b rest e = cc
-ends_are_short behind_mantissa (o ∷ k) f b rest e = cc
+ends_are_short after_mantissa [] f b rest e = cc
+ends_are_short after_mantissa (o ∷ k) f b rest e = cc
 ends_are_short in_exponent [] f b rest e = cc
 ends_are_short in_exponent (o ∷ k) f b rest e = cc
 ends_are_short _ k f b rest e = cc

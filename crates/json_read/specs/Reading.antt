@@ -116,8 +116,8 @@ outside d p k = record { deepest = length k + d; place = p; open_there = k }
 abbrev pub inside : Open → ℕ → Place → List Open → Spot
 inside o d p k = outside d p (o ∷ k)
 
-abbrev pub behind : ℕ → List Open → Spot
-behind d k = record { deepest = suc (length k) + d; place = after; open_there = k }
+abbrev pub past : ℕ → List Open → Spot
+past d k = record { deepest = suc (length k) + d; place = after; open_there = k }
 
 -- a text with R was read between two spots, whatever is open around them
 pub record PassesAt (R : List ℕ → Type 0) (from to : List Open → Spot) (old new : List ℕ) : Type 0 where

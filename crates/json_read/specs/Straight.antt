@@ -4,7 +4,7 @@ use Rattle.json_values.specs.Json.{JsonValue, ItemList, FieldList, number, array
 use Rattle.json_values.specs.Lists.{items_list, fields_list, put}
 use Rattle.json_read.specs.Machine.{in_object, first_name, next_name, value}
 use Rattle.numerals.specs.Numeral.{grid_of_text}
-use Rattle.json_read.specs.Reading.{NameText, Passes, PassesAt, ObjectText, inside, behind}
+use Rattle.json_read.specs.Reading.{NameText, Passes, PassesAt, ObjectText, inside, past}
 use Rattle.json_values.specs.Seen.{json_value}
 use Rattle.json_read.specs.Taking.{HasValue, TakesAll, TakesOne, ValueBreaks}
 use Rattle.json_values.specs.declared.json.Json.{Json}
@@ -52,7 +52,7 @@ IsTakenObject P Q v = (fields : FieldList) × (v ≡ object fields) × (P [] →
 -- the same, of what stands after the brace
 abbrev pub HasTakenMembers : ℕ → (List (List ℕ × JsonValue) → Type 0) → (List (List ℕ × JsonValue) → Type 0) → List ℕ → List ℕ → Type 0
 HasTakenMembers d P Q old new =
-    (fields : FieldList) × PassesAt (ObjectText d fields) (inside in_object d first_name) (behind d) old new × (P [] → Q (fields_list fields))
+    (fields : FieldList) × PassesAt (ObjectText d fields) (inside in_object d first_name) (past d) old new × (P [] → Q (fields_list fields))
 
 -- the next item of an array was read and taken
 abbrev pub TakesItem : {T : Type 0} → ℕ → (List JsonValue → Type 0) → (List JsonValue → Type 0) → Result T Stop → List ℕ → List ℕ → Type 0

@@ -6,7 +6,7 @@ use Rattle.json_values.specs.Grammar.{JsonText, Mark}
 use Rattle.json_values.specs.Json.{JsonValue, ItemList, FieldList, array, object}
 use Rattle.json_values.specs.Lists.{items_list, fields_list, put, value_named}
 use Rattle.json_read.specs.Machine.{start, in_array, in_object, first_value, first_name, value, after}
-use Rattle.json_read.specs.Reading.{AtFault, Reads, Passes, MembersSoFar, NameText, PassesAt, BreaksAt, outside, inside, behind, ShowsPadded, ArrayText, ObjectText, FaultsAt}
+use Rattle.json_read.specs.Reading.{AtFault, Reads, Passes, MembersSoFar, NameText, PassesAt, BreaksAt, outside, inside, past, ShowsPadded, ArrayText, ObjectText, FaultsAt}
 use Rattle.numerals.specs.Bytes.{NextIsNot}
 use Rattle.json_values.specs.Seen.{json_value}
 use Rattle.json_values.specs.declared.json.Json.{Json}
@@ -50,7 +50,7 @@ IsReadOtherwise d name bytes =
 
 -- an array was read after its bracket, and its items were taken
 abbrev pub HasTakenArray : ℕ → (List JsonValue → Type 0) → (List JsonValue → Type 0) → List ℕ → List ℕ → Type 0
-HasTakenArray d P Q old new = (items : ItemList) × PassesAt (ArrayText d items) (inside in_array d first_value) (behind d) old new × TakesAll P Q (items_list items)
+HasTakenArray d P Q old new = (items : ItemList) × PassesAt (ArrayText d items) (inside in_array d first_value) (past d) old new × TakesAll P Q (items_list items)
 
 abbrev pub TakesArray : {T : Type 0} → ℕ → (List JsonValue → Type 0) → (List JsonValue → Type 0) → Result T Stop → List ℕ → List ℕ → Type 0
 TakesArray d P Q result old new =
@@ -103,7 +103,7 @@ TakesMember d P Q wanted name a b result old new =
 -- the object was read after its brace
 abbrev pub HasTakenFields : ℕ → (List JsonValue → Type 0) → (List JsonValue → Type 0) → List ℕ → FieldList → Bool → List ℕ → List ℕ → Type 0
 HasTakenFields d P Q wanted fields is_taken old new =
-    (whole : FieldList) × PassesAt (ObjectText d whole) (inside in_object d first_name) (behind d) old new × AreFieldsOf P Q wanted fields is_taken whole
+    (whole : FieldList) × PassesAt (ObjectText d whole) (inside in_object d first_name) (past d) old new × AreFieldsOf P Q wanted fields is_taken whole
 
 abbrev pub HasTakenObject : ℕ → (List JsonValue → Type 0) → (List JsonValue → Type 0) → List ℕ → TakenObject → List ℕ → List ℕ → Type 0
 HasTakenObject d P Q wanted o old new = HasTakenFields d P Q wanted o.fields o.is_taken old new

@@ -38,7 +38,7 @@ impl ReadJson for Json {
 
 // The fault of a text, of which this many bytes begin some text.
 pub(crate) fn fault_at(fault: Fault, at: usize) -> JsonFault
-    ensures { result ≡ fault_of fault at }
+    ensures exact { result ≡ fault_of fault at }
 {
     let at = at as u64;
     match fault {

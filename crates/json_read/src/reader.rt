@@ -5,8 +5,8 @@ ghost use Rattle.numerals.specs.Bytes.{is_white, is_digit, is_hex, is_exponent_l
 ghost use Rattle.json_values.specs.Json.{no_fields};
 ghost use Rattle.json_values.specs.Grammar.{short_escape, Mark, is_high, is_low, mended as mended_char, pair as pair_char};
 ghost use Rattle.numerals.specs.Numbers.{Minus, Whole, Fraction, Exponent, Number, Sign};
-ghost use Rattle.json_read.specs.Machine.{behind_minus, behind_zero, behind_mantissa, behind_letter, behind_sign, value, start, after, first_value, first_name, next_name, in_word, in_array, in_object, Role, in_string, in_escape, in_hex, closed, second_bounds as bounds_of};
-ghost use Rattle.json_read.specs.Reading.{Passes, Part, PartInto, ReadsDigits, NumberBegins, NumeralOf, ClosesAs, StandsFor, StandsEscaped, StandsInHex, ReadsHexDigit, ReadsFollowing, joined_onto, PartAt, Shows, ShowsPadded, ArrayText, ObjectText, NameText, ReadsByte, ReadsText, outside, inside, behind};
+ghost use Rattle.json_read.specs.Machine.{after_minus, after_zero, after_mantissa, after_letter, after_sign, value, start, after, first_value, first_name, next_name, in_word, in_array, in_object, Role, in_string, in_escape, in_hex, closed, second_bounds as bounds_of};
+ghost use Rattle.json_read.specs.Reading.{Passes, Part, PartInto, ReadsDigits, NumberBegins, NumeralOf, ClosesAs, StandsFor, StandsEscaped, StandsInHex, ReadsHexDigit, ReadsFollowing, joined_onto, PartAt, Shows, ShowsPadded, ArrayText, ObjectText, NameText, ReadsByte, ReadsText, outside, inside, past};
 ghost use Rattle.numerals.specs.Bytes.{NextIsNot};
 ghost use Rattle.json_read.specs.AsciiStrings.{stands_alone, AllAlone, ClosesAsAscii};
 ghost use Rattle.json_read.specs.declared.reader.Fault.TheVariants.{Syntax};
@@ -50,13 +50,13 @@ pub struct Reader<'a> {
 impl<'a> Reader<'a> {
     /// A reader of these bytes as a JSON text (RFC 8259), with all of them left.
     pub fn new(alloc: Global, bytes: &'a [u8]) -> Self
-        ensures { result.rest.now ≡ bytes.now }
+        ensures exact { result.rest.now ≡ bytes.now }
     {
         Reader { alloc, rest: bytes }
     }
 
     fn peek(&self) -> Option<u8>
-        ensures { MatchOption result (self.now.rest.now ≡ [])
+        ensures exact { MatchOption result (self.now.rest.now ≡ [])
             (λ b. (bs : List ℕ) × (self.now.rest.now ≡ b ∷ bs)) }
     {
         self.rest.first().copied()
@@ -65,7 +65,7 @@ impl<'a> Reader<'a> {
     // Goes past one byte.
     fn advance(&mut self)
         requires { 0 < length self.old.rest.now }
-        ensures { (b : ℕ) × (self.old.rest.now ≡ b ∷ self.new.rest.now) }
+        ensures next { (b : ℕ) × (self.old.rest.now ≡ b ∷ self.new.rest.now) }
     {
         self.rest = &self.rest[1..];
     }
@@ -85,7 +85,7 @@ impl<'a> Reader<'a> {
     }
 
     fn skip_white(&mut self)
-        ensures { self.new.rest.now ≡ drop_while is_white self.old.rest.now }
+        ensures exact { self.new.rest.now ≡ drop_while is_white self.old.rest.now }
     {
         while let Some(b' ' | b'\t' | b'\n' | b'\r') = self.peek() {
             self.advance();
@@ -93,14 +93,14 @@ impl<'a> Reader<'a> {
     }
 
     fn digits(&mut self)
-        ensures { self.new.rest.now ≡ drop_while is_digit self.old.rest.now }
+        ensures exact { self.new.rest.now ≡ drop_while is_digit self.old.rest.now }
     {
         self.rest = &self.rest[digit_count(self.rest)..];
     }
 
     // One or more digits.
     fn some_digits(&mut self) -> Result<(), Stop>
-        ensures { ReadsDigits result self.old.rest.now self.new.rest.now }
+        ensures read { ReadsDigits result self.old.rest.now self.new.rest.now }
     {
         match self.peek() {
             Some(b'0'..=b'9') => {
@@ -113,13 +113,13 @@ impl<'a> Reader<'a> {
 
     fn minus(&mut self)
         requires { NumberBegins self.old.rest.now }
-        ensures { Passes Minus value behind_minus self.old.rest.now self.new.rest.now }
+        ensures read { Passes Minus value after_minus self.old.rest.now self.new.rest.now }
     {
         let _ = self.take(b'-');
     }
 
     fn whole(&mut self) -> Result<(), Stop>
-        ensures { Part (λ _. Whole) behind_minus behind_zero result self.old.rest.now self.new.rest.now }
+        ensures read { Part (λ _. Whole) after_minus after_zero result self.old.rest.now self.new.rest.now }
     {
         if self.take(b'0') {
             return Ok(());
@@ -128,7 +128,7 @@ impl<'a> Reader<'a> {
     }
 
     fn fraction(&mut self) -> Result<(), Stop>
-        ensures { Part (λ _. Fraction) behind_zero behind_mantissa result self.old.rest.now self.new.rest.now }
+        ensures read { Part (λ _. Fraction) after_zero after_mantissa result self.old.rest.now self.new.rest.now }
     {
         if !self.take(b'.') {
             return Ok(());
@@ -137,7 +137,7 @@ impl<'a> Reader<'a> {
     }
 
     fn exponent(&mut self) -> Result<(), Stop>
-        ensures { Part (λ _. Exponent) behind_mantissa after result self.old.rest.now self.new.rest.now }
+        ensures read { Part (λ _. Exponent) after_mantissa after result self.old.rest.now self.new.rest.now }
     {
         if !self.exponent_letter() {
             return Ok(());
@@ -156,7 +156,7 @@ impl<'a> Reader<'a> {
     }
 
     fn sign(&mut self)
-        ensures { Passes Sign behind_letter behind_sign self.old.rest.now self.new.rest.now }
+        ensures read { Passes Sign after_letter after_sign self.old.rest.now self.new.rest.now }
     {
         let _ = self.take(b'+') || self.take(b'-');
     }
@@ -164,7 +164,7 @@ impl<'a> Reader<'a> {
     // A number, which keeps its text.
     fn number(&mut self) -> Result<Text, Stop>
         requires { NumberBegins self.old.rest.now }
-        ensures { Part NumeralOf value after result self.old.rest.now self.new.rest.now }
+        ensures read { Part NumeralOf value after result self.old.rest.now self.new.rest.now }
     {
         let start = self.rest;
         self.minus();
@@ -178,7 +178,7 @@ impl<'a> Reader<'a> {
 
     // A string, after its first quote.
     fn string(&mut self) -> Result<Text, Stop>
-        ensures { (r : Role) → Part ClosesAs (in_string r) (closed r) result self.old.rest.now self.new.rest.now }
+        ensures read { (r : Role) → Part ClosesAs (in_string r) (closed r) result self.old.rest.now self.new.rest.now }
     {
         match self.ascii_string() {
             Some(text) => Ok(Text::of(self.alloc, text)?),
@@ -192,9 +192,9 @@ impl<'a> Reader<'a> {
         ensures none { IfNone result (self.new.rest.now ≡ self.old.rest.now) }
     {
         let (text, rest) = self.rest.split_at(ascii_count(self.rest));
-        match behind_quote(rest) {
-            Some(behind) => {
-                self.rest = behind;
+        match after_quote(rest) {
+            Some(past) => {
+                self.rest = past;
                 Some(ascii_text(text))
             }
             None => None,
@@ -203,7 +203,7 @@ impl<'a> Reader<'a> {
 
     // A string, one character or escape after another.
     fn string_by_units(&mut self) -> Result<Text, Stop>
-        ensures { (r : Role) → Part ClosesAs (in_string r) (closed r) result self.old.rest.now self.new.rest.now }
+        ensures read { (r : Role) → Part ClosesAs (in_string r) (closed r) result self.old.rest.now self.new.rest.now }
     {
         let mut text = String::new(self.alloc);
         let mut half = None;
@@ -220,7 +220,7 @@ impl<'a> Reader<'a> {
     // One character or escape of a string.
     fn unit(&mut self) -> Result<u32, Stop>
         requires { NextIsNot 34 self.old.rest.now }
-        ensures { (r : Role) → Part StandsFor (in_string r) (in_string r) result self.old.rest.now self.new.rest.now }
+        ensures read { (r : Role) → Part StandsFor (in_string r) (in_string r) result self.old.rest.now self.new.rest.now }
     {
         if self.take(b'\\') {
             return self.escape();
@@ -240,7 +240,7 @@ impl<'a> Reader<'a> {
 
     // An escape, after the backslash.
     fn escape(&mut self) -> Result<u32, Stop>
-        ensures { (r : Role) → Part StandsEscaped (in_escape r) (in_string r) result self.old.rest.now self.new.rest.now }
+        ensures read { (r : Role) → Part StandsEscaped (in_escape r) (in_string r) result self.old.rest.now self.new.rest.now }
     {
         if self.take(b'u') {
             return self.four_hex();
@@ -257,7 +257,7 @@ impl<'a> Reader<'a> {
 
     // Four hexadecimal digits.
     fn four_hex(&mut self) -> Result<u32, Stop>
-        ensures { (r : Role) → Part StandsInHex (in_hex r 3) (in_string r) result self.old.rest.now self.new.rest.now }
+        ensures read { (r : Role) → Part StandsInHex (in_hex r 3) (in_string r) result self.old.rest.now self.new.rest.now }
     {
         let a = self.hex_digit()?;
         let b = self.hex_digit()?;
@@ -267,7 +267,7 @@ impl<'a> Reader<'a> {
     }
 
     fn hex_digit(&mut self) -> Result<u32, Stop>
-        ensures { ReadsHexDigit result self.old.rest.now self.new.rest.now }
+        ensures read { ReadsHexDigit result self.old.rest.now self.new.rest.now }
     {
         let Some(letter) = self.peek() else {
             return Err(Stop::Fault(Fault::Syntax));
@@ -283,7 +283,7 @@ impl<'a> Reader<'a> {
     fn character(&mut self, first: u8) -> Result<u32, Stop>
         requires first { (bs : List ℕ) × (self.old.rest.now ≡ first ∷ bs) }
         requires several { 128 ≤ first }
-        ensures { (r : Role) → Part StandsFor (in_string r) (in_string r) result self.old.rest.now self.new.rest.now }
+        ensures read { (r : Role) → Part StandsFor (in_string r) (in_string r) result self.old.rest.now self.new.rest.now }
     {
         let Some((low, high)) = second_bounds(first) else {
             return Err(Stop::Fault(Fault::Utf8));
@@ -306,7 +306,7 @@ impl<'a> Reader<'a> {
     fn following(&mut self, low: u8, high: u8) -> Result<u32, Stop>
         requires low { 128 ≤ low }
         requires high { high ≤ 192 }
-        ensures { ReadsFollowing low high result self.old.rest.now self.new.rest.now }
+        ensures read { ReadsFollowing low high result self.old.rest.now self.new.rest.now }
     {
         let Some(byte) = self.peek() else {
             return Err(Stop::Fault(Fault::Utf8));
@@ -321,7 +321,7 @@ impl<'a> Reader<'a> {
 
 // What a letter after a backslash stands for.
 fn escaped(letter: u8) -> Option<u32>
-    ensures { result ≡ short_escape letter }
+    ensures exact { result ≡ short_escape letter }
 {
     match letter {
         b'"' => Some(0x22),
@@ -339,7 +339,7 @@ fn escaped(letter: u8) -> Option<u32>
 // The bounds of the second byte of a character of several bytes.
 fn second_bounds(first: u8) -> Option<(u8, u8)>
     requires { 128 ≤ first }
-    ensures { result ≡ bounds_of first }
+    ensures exact { result ≡ bounds_of first }
 {
     match first {
         0xC2..=0xDF => Some((0x80, 0xC0)),
@@ -374,7 +374,7 @@ fn push_unit(text: &mut String, half: Option<u32>, unit: u32) -> Result<Option<u
 }
 
 fn end_units(text: &mut String, half: Option<u32>) -> Result<(), AllocError>
-    ensures { OnOk result (string_bytes text.new ≡ joined_onto (string_bytes text.old) half []) }
+    ensures ok { OnOk result (string_bytes text.new ≡ joined_onto (string_bytes text.old) half []) }
 {
     if half.is_some() {
         text.push('\u{FFFD}')?;
@@ -383,7 +383,7 @@ fn end_units(text: &mut String, half: Option<u32>) -> Result<(), AllocError>
 }
 
 fn mended(unit: u32) -> char
-    ensures { result ≡ mended_char unit }
+    ensures exact { result ≡ mended_char unit }
 {
     char::from_u32(unit).unwrap_or('\u{FFFD}')
 }
@@ -391,7 +391,7 @@ fn mended(unit: u32) -> char
 fn pair(high: u32, low: u32) -> char
     requires high { IsTrue (is_high high) }
     requires low { IsTrue (is_low low) }
-    ensures { result ≡ pair_char high low }
+    ensures exact { result ≡ pair_char high low }
 {
     match char::from_u32(0x1_0000 + (high - 0xD800) * 0x400 + (low - 0xDC00)) {
         Some(character) => character,
@@ -402,7 +402,7 @@ fn pair(high: u32, low: u32) -> char
 impl<'a> Reader<'a> {
     // Goes past the byte `b`.
     fn expect(&mut self, b: u8) -> Result<(), Stop>
-        ensures { ReadsByte b result self.old.rest.now self.new.rest.now }
+        ensures read { ReadsByte b result self.old.rest.now self.new.rest.now }
     {
         if self.take(b) {
             Ok(())
@@ -414,7 +414,7 @@ impl<'a> Reader<'a> {
     // The letters of `true`, `false` or `null`.
     fn word(&mut self, letters: &[u8]) -> Result<(), Stop>
         requires { 0 < length letters.now }
-        ensures { Part (λ _ t. t ≡ letters.now) (in_word letters.now) after result self.old.rest.now self.new.rest.now }
+        ensures read { Part (λ _ t. t ≡ letters.now) (in_word letters.now) after result self.old.rest.now self.new.rest.now }
     {
         for letter in letters {
             self.expect(*letter)?;
@@ -424,7 +424,7 @@ impl<'a> Reader<'a> {
 
     /// A whole text.
     pub(crate) fn text(&mut self) -> Result<Json, Stop>
-        ensures { ReadsText GREATEST_DEPTH result self.old.rest.now self.new.rest.now }
+        ensures read { ReadsText GREATEST_DEPTH result self.old.rest.now self.new.rest.now }
     {
         self.mark()?;
         let value = self.padded(GREATEST_DEPTH)?;
@@ -437,14 +437,14 @@ impl<'a> Reader<'a> {
 
     /// How many bytes are left.
     pub(crate) fn left(&self) -> usize
-        ensures { result ≡ length self.now.rest.now }
+        ensures exact { result ≡ length self.now.rest.now }
     {
         self.rest.len()
     }
 
     // A byte order mark, or nothing.
     fn mark(&mut self) -> Result<(), Stop>
-        ensures { Part (λ _. Mark) start value result self.old.rest.now self.new.rest.now }
+        ensures read { Part (λ _. Mark) start value result self.old.rest.now self.new.rest.now }
     {
         if self.take(0xEF) {
             self.expect(0xBB)?;
@@ -457,7 +457,7 @@ impl<'a> Reader<'a> {
     #[cycle(values)]
     fn value(&mut self, depth: u32) -> Result<Json, Stop>
         requires { NextFails is_white self.old.rest.now }
-        ensures { PartAt (Shows depth) (outside depth value) (outside depth after) result self.old.rest.now self.new.rest.now }
+        ensures read { PartAt (Shows depth) (outside depth value) (outside depth after) result self.old.rest.now self.new.rest.now }
     {
         let Some(first) = self.peek() else {
             return Err(Stop::Fault(Fault::Syntax));
@@ -513,7 +513,7 @@ impl<'a> Reader<'a> {
     // An array, after its bracket.
     #[cycle(values)]
     fn array(&mut self, depth: u32) -> Result<JsonList, Stop>
-        ensures { PartAt (ArrayText depth) (inside in_array depth first_value) (behind depth) result self.old.rest.now self.new.rest.now }
+        ensures read { PartAt (ArrayText depth) (inside in_array depth first_value) (past depth) result self.old.rest.now self.new.rest.now }
     {
         self.skip_white();
         if self.take(b']') {
@@ -534,7 +534,7 @@ impl<'a> Reader<'a> {
     // An object, after its brace.
     #[cycle(values)]
     fn object(&mut self, depth: u32) -> Result<JsonFields, Stop>
-        ensures { PartAt (ObjectText depth) (inside in_object depth first_name) (behind depth) result self.old.rest.now self.new.rest.now }
+        ensures read { PartAt (ObjectText depth) (inside in_object depth first_name) (past depth) result self.old.rest.now self.new.rest.now }
     {
         let mut fields = GrowingFields::new(self.alloc);
         self.members(depth, &mut fields)?;
@@ -545,7 +545,7 @@ impl<'a> Reader<'a> {
     #[cycle(values)]
     fn members(&mut self, depth: u32, fields: &mut GrowingFields) -> Result<(), Stop>
         requires { fields.old ≡ no_fields }
-        ensures { PartInto (ObjectText depth) (inside in_object depth first_name) (behind depth) fields.new result self.old.rest.now self.new.rest.now }
+        ensures read { PartInto (ObjectText depth) (inside in_object depth first_name) (past depth) fields.new result self.old.rest.now self.new.rest.now }
     {
         self.skip_white();
         if self.take(b'}') {
@@ -564,7 +564,7 @@ impl<'a> Reader<'a> {
 
     // A name and its colon.
     fn name(&mut self) -> Result<Text, Stop>
-        ensures { Part NameText next_name value result self.old.rest.now self.new.rest.now }
+        ensures read { Part NameText next_name value result self.old.rest.now self.new.rest.now }
     {
         self.skip_white();
         self.expect(b'"')?;
@@ -588,23 +588,23 @@ fn ascii_count(bytes: &[u8]) -> usize
 }
 
 fn is_alone(byte: u8) -> bool
-    ensures { result ≡ stands_alone byte }
+    ensures exact { result ≡ stands_alone byte }
 {
     (0x20..0x80).contains(&byte) && byte != b'"' && byte != b'\\'
 }
 
-fn behind_quote(bytes: &[u8]) -> Option<&[u8]>
-    ensures { IfSome result (λ behind. bytes.now ≡ 34 ∷ behind.now) }
+fn after_quote(bytes: &[u8]) -> Option<&[u8]>
+    ensures found { IfSome result (λ past. bytes.now ≡ 34 ∷ past.now) }
 {
     match bytes {
-        [b'"', behind @ ..] => Some(behind),
+        [b'"', past @ ..] => Some(past),
         _ => None,
     }
 }
 
 fn ascii_text(bytes: &[u8]) -> &str
     requires { AllAlone bytes.now }
-    ensures { result.now ≡ bytes.now }
+    ensures exact { result.now ≡ bytes.now }
 {
     unsafe { str::from_utf8_unchecked(bytes) }
 }
@@ -612,7 +612,7 @@ fn ascii_text(bytes: &[u8]) -> &str
 // A numeral is ASCII.
 fn numeral_text(text: &[u8]) -> &str
     requires { Number text.now }
-    ensures { result.now ≡ text.now }
+    ensures exact { result.now ≡ text.now }
 {
     unsafe { str::from_utf8_unchecked(text) }
 }

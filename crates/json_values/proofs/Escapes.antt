@@ -47,9 +47,9 @@ run_and_byte text n e l =
     ∙ ap (λ (k : ℕ). take n text ++ (escaped (get_or text n 0) ++ flat_map escaped (drop k text))) (sym (add-one n))
 
 -- a step of the loop: a run, an escape, and what is left
-pub escaped_step : (o x y text behind : List ℕ) (n : ℕ) → n ≡ length (run_of text) → n < length text → x ≡ o ++ take n text → y ≡ x ++ escaped (get_or text n 0) → behind ≡ drop (n + 1) text
-    → y ++ flat_map escaped behind ≡ o ++ flat_map escaped text
-escaped_step o x y text behind n e l a b c =
+pub escaped_step : (o x y text past : List ℕ) (n : ℕ) → n ≡ length (run_of text) → n < length text → x ≡ o ++ take n text → y ≡ x ++ escaped (get_or text n 0) → past ≡ drop (n + 1) text
+    → y ++ flat_map escaped past ≡ o ++ flat_map escaped text
+escaped_step o x y text past n e l a b c =
     ap (λ (r : List ℕ). y ++ flat_map escaped r) c ∙ ap (λ (z : List ℕ). z ++ flat_map escaped (drop (n + 1) text)) (b ∙ ap (λ (z : List ℕ). z ++ escaped (get_or text n 0)) a)
     ∙ append_assoc (o ++ take n text) (escaped (get_or text n 0)) (flat_map escaped (drop (n + 1) text))
     ∙ append_assoc o (take n text) (escaped (get_or text n 0) ++ flat_map escaped (drop (n + 1) text))

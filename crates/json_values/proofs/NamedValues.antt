@@ -139,8 +139,8 @@ row_without (name ∷ ns) fs f n h =
     ∙ ap (λ (vs : RowValues). value_or_null name fs ∷ vs) (row_without ns fs f (neither_second (bytes_eq f.0 name) (list_any (bytes_eq f.0) ns) n) h)
 
 -- the names after a name are others
-others_behind : (name : List ℕ) (ns : List (List ℕ)) (n : List ℕ) → name ≡ n → AreDistinctNames (n ∷ ns) → list_any (bytes_eq name) ns ≡ false
-others_behind name ns n e d = apart_any name ns (λ i d' l. ap (λ (m : List ℕ). bytes_eq m (get_or ns i d')) e ∙ apart_from_distinct bytes_eq (n ∷ ns) 0 (suc i) d' d (omega arith) (omega arith))
+others_after : (name : List ℕ) (ns : List (List ℕ)) (n : List ℕ) → name ≡ n → AreDistinctNames (n ∷ ns) → list_any (bytes_eq name) ns ≡ false
+others_after name ns n e d = apart_any name ns (λ i d' l. ap (λ (m : List ℕ). bytes_eq m (get_or ns i d')) e ∙ apart_from_distinct bytes_eq (n ∷ ns) 0 (suc i) d' d (omega arith) (omega arith))
 
 -- a field takes its place in the row
 pub row_with : (ns : List (List ℕ)) (fs : NamedValues) (f : Field) (i : ℕ) → AreDistinctNames ns → slice_get ns i ≡ Some f.0 → IsNewName f.0 fs → row_of ns (fs ++ f ∷ []) ≡ set (row_of ns fs) i f.1
@@ -149,7 +149,7 @@ row_with [] fs f i d e h = absurd (none-some f.0 e)
 row_with (name ∷ ns) fs f zero d e h =
     let same : bytes_eq name f.0 ≡ true = is_itself name f.0 (same_Some name f.0 e) in
     ap (λ (v : Value). v ∷ row_of ns (fs ++ f ∷ [])) (value_pushed name fs f h ∙ ap (λ (b : Bool). cond b f.1 (value_or_null name fs)) same)
-    ∙ ap (λ (vs : RowValues). f.1 ∷ vs) (row_without ns fs f (others_behind f.0 ns name (sym (same_Some name f.0 e)) d) h)
+    ∙ ap (λ (vs : RowValues). f.1 ∷ vs) (row_without ns fs f (others_after f.0 ns name (sym (same_Some name f.0 e)) d) h)
 row_with (name ∷ ns) fs f (suc i) d e h =
     let there : get_or ns i f.0 ≡ f.0 = get_or_from_slice_get ns i f.0 f.0 e in
     let l : i < length ns = slice_get_within ns i f.0 e in

@@ -8,7 +8,7 @@ impl Json {
     /// Whether the two have one variant and equal content.
     #[cycle(comparing)]
     pub(crate) fn same(&self, o: &Json) -> bool
-        ensures { result ≡ same_json (json_value self.now) (json_value o.now) }
+        ensures exact { result ≡ same_json (json_value self.now) (json_value o.now) }
     {
         match self {
             Json::Null => matches!(o, Json::Null),
@@ -24,7 +24,7 @@ impl Json {
 impl JsonList {
     #[cycle(comparing)]
     fn same(&self, o: &JsonList) -> bool
-        ensures { result ≡ same_items self.now o.now }
+        ensures exact { result ≡ same_items self.now o.now }
     {
         if self.items.len() != o.items.len() {
             return false;
@@ -41,7 +41,7 @@ impl JsonList {
 impl JsonFields {
     #[cycle(comparing)]
     fn same(&self, o: &JsonFields) -> bool
-        ensures { result ≡ same_fields self.now o.now }
+        ensures exact { result ≡ same_fields self.now o.now }
     {
         if self.fields.len() != o.fields.len() {
             return false;

@@ -119,7 +119,7 @@ fn place_of(fields: &Vec<(Text, Value)>, name: &str) -> Option<usize>
 
 fn set_field(fields: &mut Vec<(Text, Value)>, place: usize, field: (Text, Value))
     requires { place < length fields.old.items }
-    ensures { fields.new.items ≡ slice_set fields.old.items place field }
+    ensures exact { fields.new.items ≡ slice_set fields.old.items place field }
 {
     fields[place] = field;
 }

@@ -44,7 +44,7 @@ impl Model for GrowingFields {
 
 impl GrowingFields {
     pub fn new(alloc: Global) -> GrowingFields
-        ensures { result ≡ no_fields }
+        ensures exact { result ≡ no_fields }
     {
         GrowingFields {
             fields: JsonFields::new(alloc),
@@ -55,7 +55,7 @@ impl GrowingFields {
 
     /// A new name goes last; a name that is there takes its new value in its old place.
     pub fn put(&mut self, name: Text, value: Json) -> Result<(), AllocError>
-        ensures { OnOk result (fields_list self.new ≡ put (fields_list self.old) name (json_value value)) }
+        ensures ok { OnOk result (fields_list self.new ≡ put (fields_list self.old) name (json_value value)) }
     {
         if self.names.is_empty() && self.fields.len() < FEW_FIELDS {
             return self.fields.put(name, value);
@@ -65,7 +65,7 @@ impl GrowingFields {
     }
 
     pub fn finish(self) -> JsonFields
-        ensures { result ≡ self }
+        ensures exact { result ≡ self }
     {
         let GrowingFields {
             fields,
@@ -93,7 +93,7 @@ fn fill_index(
 }
 
 fn index_of(alloc: Global, fields: &JsonFields) -> Result<IndexSet<String>, AllocError>
-    ensures { IfOk result (λ names. map string_bytes names.keys ≡ field_names fields.now) }
+    ensures exact { IfOk result (λ names. map string_bytes names.keys ≡ field_names fields.now) }
 {
     let mut names = IndexSet::new(alloc);
     for i in 0..fields.fields.len() {

@@ -91,7 +91,7 @@ impl JsonList {
 
     /// No items.
     pub fn new(alloc: Global) -> Self
-        ensures { result ≡ no_items }
+        ensures exact { result ≡ no_items }
     {
         JsonList {
             items: Vec::new(alloc),
@@ -100,7 +100,7 @@ impl JsonList {
 
     /// No items, and room for `capacity` of them.
     pub fn with_capacity(alloc: Global, capacity: usize) -> Result<Self, AllocError>
-        ensures { IfOk result (λ l. l ≡ no_items) }
+        ensures exact { IfOk result (λ l. l ≡ no_items) }
     {
         Ok(JsonList {
             items: Vec::with_capacity(alloc, capacity)?,
@@ -148,7 +148,7 @@ impl JsonFields {
 
     /// No fields.
     pub fn new(alloc: Global) -> Self
-        ensures { result ≡ no_fields }
+        ensures exact { result ≡ no_fields }
     {
         JsonFields {
             fields: Vec::new(alloc),
@@ -157,7 +157,7 @@ impl JsonFields {
 
     /// A new name goes last; a name that is there takes its new value in its old place.
     pub(crate) fn put(&mut self, name: Text, value: Json) -> Result<(), AllocError>
-        ensures { OnOk result (fields_list self.new ≡ put (fields_list self.old) name (json_value value)) }
+        ensures ok { OnOk result (fields_list self.new ≡ put (fields_list self.old) name (json_value value)) }
     {
         match place_of(&self.fields, name.as_str()) {
             Some(place) => {
@@ -184,7 +184,7 @@ impl JsonFields {
     /// A field whose name stands at this place takes the value.
     pub(crate) fn set(&mut self, place: usize, name: Text, value: Json)
         requires { PutsAt (fields_list self.old) name place }
-        ensures { fields_list self.new ≡ put (fields_list self.old) name (json_value value) }
+        ensures exact { fields_list self.new ≡ put (fields_list self.old) name (json_value value) }
     {
         set_field(&mut self.fields, place, (name, value));
     }
@@ -246,7 +246,7 @@ fn place_of(fields: &Vec<(Text, Json)>, name: &str) -> Option<usize>
 
 fn set_field(fields: &mut Vec<(Text, Json)>, place: usize, field: (Text, Json))
     requires { place < length fields.old.items }
-    ensures { fields.new.items ≡ slice_set fields.old.items place field }
+    ensures exact { fields.new.items ≡ slice_set fields.old.items place field }
 {
     fields[place] = field;
 }

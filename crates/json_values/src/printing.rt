@@ -122,13 +122,13 @@ fn print_escaped(text: &[u8], out: &mut Bytes) -> Result<(), AllocError>
             return Ok(());
         }
         print_escape(rest[n], out)?;
-        rest = behind(rest, n);
+        rest = past(rest, n);
     }
 }
 
-fn behind(text: &[u8], n: usize) -> &[u8]
+fn past(text: &[u8], n: usize) -> &[u8]
     requires { n < length text.now }
-    ensures { result.now ≡ drop (n + 1) text.now }
+    ensures exact { result.now ≡ drop (n + 1) text.now }
 {
     &text[n + 1..]
 }
@@ -146,7 +146,7 @@ fn plain_count(text: &[u8]) -> usize
 }
 
 fn is_plain(byte: u8) -> bool
-    ensures { result ≡ is_a_plain_byte byte }
+    ensures exact { result ≡ is_a_plain_byte byte }
 {
     byte >= 0x20 && byte != b'"' && byte != b'\\'
 }
@@ -169,7 +169,7 @@ fn print_escape(byte: u8, out: &mut Bytes) -> Result<(), AllocError>
 
 fn hex(digit: u8) -> u8
     requires { digit < 16 }
-    ensures { result ≡ hex_digit digit }
+    ensures exact { result ≡ hex_digit digit }
 {
     if digit < 10 {
         b'0' + digit

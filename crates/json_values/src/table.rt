@@ -203,7 +203,7 @@ fn add_names(
 
 // Whether this name stands at this place.
 fn stands_at(names: &[String], place: usize, name: &str) -> bool
-    ensures { IsTrue result → slice_get (map string_bytes names.now) place ≡ Some name.now }
+    ensures yes { IsTrue result → slice_get (map string_bytes names.now) place ≡ Some name.now }
 {
     match names.get(place) {
         Some(there) => there.as_str() == name,
@@ -236,7 +236,7 @@ fn rows_of(
     fields_list: FieldsList,
 ) -> Result<RowList, AllocError>
     requires { IsUnique string_eq names.now }
-    ensures { IfOk result (λ rows. rows ≡ map (values_of (map string_bytes names.now.keys)) fields_list) }
+    ensures exact { IfOk result (λ rows. rows ≡ map (values_of (map string_bytes names.now.keys)) fields_list) }
 {
     let mut rows = RowList::new(alloc);
     for fields in fields_list.into_vec() {
@@ -248,7 +248,7 @@ fn rows_of(
 // The values of these names; one that is missing is Null.
 fn row_of(alloc: Global, names: &IndexSet<String>, fields: Fields) -> Result<Row, AllocError>
     requires { IsUnique string_eq names.now }
-    ensures { IfOk result (λ row. row ≡ values_of (map string_bytes names.now.keys) fields) }
+    ensures exact { IfOk result (λ row. row ≡ values_of (map string_bytes names.now.keys) fields) }
 {
     let mut row = nulls(alloc, names.as_slice())?;
     for (i, field) in fields.entries.into_iter().enumerate() {
@@ -260,7 +260,7 @@ fn row_of(alloc: Global, names: &IndexSet<String>, fields: Fields) -> Result<Row
 
 // Null for each of these names.
 fn nulls(alloc: Global, names: &[String]) -> Result<Row, AllocError>
-    ensures { IfOk result (λ row. row ≡ values_of (map string_bytes names.now) []) }
+    ensures exact { IfOk result (λ row. row ≡ values_of (map string_bytes names.now) []) }
 {
     let mut row = Row {
         items: Vec::with_capacity(alloc, names.len())?,
@@ -285,7 +285,7 @@ fn place_of(names: &IndexSet<String>, guess: usize, name: &str) -> Option<usize>
 // Moves the value of a field to its place in the row; a field without one goes.
 fn set_value(row: &mut Row, place: Option<usize>, field: (Text, Value))
     requires { IfSome place (λ i. i < length row.old) }
-    ensures { MatchOption place (row.new ≡ row.old) (λ i. row.new ≡ slice_set row.old i field.1) }
+    ensures exact { MatchOption place (row.new ≡ row.old) (λ i. row.new ≡ slice_set row.old i field.1) }
 {
     if let Some(place) = place {
         row.items[place] = field.1;
@@ -293,7 +293,7 @@ fn set_value(row: &mut Row, place: Option<usize>, field: (Text, Value))
 }
 
 fn name_list(alloc: Global, names: &[String]) -> Result<NameList, AllocError>
-    ensures { IfOk result (λ list. list ≡ map string_bytes names.now) }
+    ensures exact { IfOk result (λ list. list ≡ map string_bytes names.now) }
 {
     let mut list = NameList::new(alloc);
     for name in names {

@@ -20,7 +20,7 @@ use Rattle.table_rows.specs.Splitting.{pieces_by, single_rows, split_rows}
 use Rattle.table_rows.specs.declared.split.SplitItem.{SplitItem}
 use Rattle.table_rows.proofs.Numbers.{numbers_where-below}
 use Rattle.table_rows.proofs.Pieces.{pieces_below, singles_below}
-use Rattle.calc_ops.specs.EarlyRows.{are_early, early_behind, uniq_rows}
+use Rattle.calc_ops.specs.EarlyRows.{are_early, early_after, uniq_rows}
 use Rattle.calc_ops.specs.Keys.{keys_from, keys_of}
 use Rattle.calc_ops.specs.KeyOrder.{comes_before, sort_rows}
 use Rattle.layer_laws.proofs.Numbered.{range_below, sort_keeps}
@@ -55,7 +55,7 @@ numbers_made (Err why) made count long below numbers e = absurd (cc)
 pub filtered_below : (t : TableContent) (e : Tree) (wanted : Bool) (numbers : List ℕ) → filter_rows t e wanted ≡ Ok numbers → All (λ n. n < length t.rows) numbers
 filtered_below t e wanted numbers is = numbers_made (tests_of t e) (numbers_where (beq wanted)) (length t.rows) (tests_long t.names e 0 t.rows) (numbers_where-below (beq wanted)) numbers is
 
-early_long : (most : ℕ) (before keys : List Value) → length (early_behind most before keys) ≡ length keys
+early_long : (most : ℕ) (before keys : List Value) → length (early_after most before keys) ≡ length keys
 early_long most before [] = refl
 early_long most before (key ∷ keys) = ap suc (early_long most (before ++ key ∷ []) keys)
 
@@ -78,16 +78,16 @@ abbrev pub AreRowsOf : TableContent → SplitItem → Type 0
 AreRowsOf t item = All (λ n. n < length t.rows) item.rows
 
 -- what is answered where nothing is refused
-pub behind_refusal : {T E : Type 0} (refusal : Option E) (made answer : T) → unless refusal (Ok made) ≡ Ok answer → made ≡ answer
-behind_refusal None made answer e = cc
-behind_refusal (Some why) made answer e = absurd (cc)
+pub after_refusal : {T E : Type 0} (refusal : Option E) (made answer : T) → unless refusal (Ok made) ≡ Ok answer → made ≡ answer
+after_refusal None made answer e = cc
+after_refusal (Some why) made answer e = absurd (cc)
 
 pub split_below : (t : TableContent) (field : Option Text) (items : List SplitItem) → split_rows t field ≡ Ok items → All (AreRowsOf t) items
 split_below t None items e =
     let same : single_rows 0 t.rows ≡ items = cc in
     subst (All (AreRowsOf t)) same (singles_below (length t.rows) 0 t.rows (omega arith))
 split_below t (Some field) items e =
-    let same : pieces_by t field ≡ items = behind_refusal (refused_item t.names [] 0 (field ∷ [])) (pieces_by t field) items e in
+    let same : pieces_by t field ≡ items = after_refusal (refused_item t.names [] 0 (field ∷ [])) (pieces_by t field) items e in
     let keys : List RowValues = map (cells t.names (field ∷ [])) t.rows in
     let counted : length keys ≡ length t.rows = length-map t.rows (cells t.names (field ∷ [])) in
     subst (All (AreRowsOf t)) same

@@ -114,13 +114,13 @@ filter_below p q count agree (n ∷ ns) below =
     λ i. cond (here i) (n ∷ rest i) (rest i)
 
 module _ {B C : Type 0} (f : ℕ → B) (g : ℕ → C) (test : B → Bool) where
-  taken_behind : (n : ℕ) (ns : List ℕ) (at : ℕ → C) → ((k : ℕ) (d : ℕ) → k < length ns → at (n + k) ≡ g (get_or ns k d)) →
+  taken_after : (n : ℕ) (ns : List ℕ) (at : ℕ → C) → ((k : ℕ) (d : ℕ) → k < length ns → at (n + k) ≡ g (get_or ns k d)) →
       map at (numbers_from n test (map f ns)) ≡ map g (filter (λ (m : ℕ). test (f m)) ns)
-  taken_behind n [] at is = refl
-  taken_behind n (m ∷ ns) at is =
+  taken_after n [] at is = refl
+  taken_after n (m ∷ ns) at is =
       let first : n ≡ n + 0 = omega arith in
       let here : at n ≡ g m = ap at first ∙ is 0 m (omega arith) in
-      let rest : map at (numbers_from (n + 1) test (map f ns)) ≡ map g (filter (λ (m : ℕ). test (f m)) ns) = taken_behind (n + 1) ns at (λ k d l. let further : n + 1 + k ≡ n + suc k = omega arith in ap at further ∙ is (suc k) d (omega arith)) in
+      let rest : map at (numbers_from (n + 1) test (map f ns)) ≡ map g (filter (λ (m : ℕ). test (f m)) ns) = taken_after (n + 1) ns at (λ k d l. let further : n + 1 + k ≡ n + suc k = omega arith in ap at further ∙ is (suc k) d (omega arith)) in
       go (test (f m)) here rest
     where
       go : (b : Bool) → at n ≡ g m → map at (numbers_from (n + 1) test (map f ns)) ≡ map g (filter (λ (m : ℕ). test (f m)) ns) →
@@ -130,7 +130,7 @@ module _ {B C : Type 0} (f : ℕ → B) (g : ℕ → C) (test : B → Bool) wher
 
   -- values by g, taken at the places where values by f pass a test, are those of the elements whose values by f pass it
   pub taken_of_taken : (ns : List ℕ) (d : C) → map (λ (k : ℕ). get_or (map g ns) k d) (numbers_where test (map f ns)) ≡ map g (filter (λ (m : ℕ). test (f m)) ns)
-  taken_of_taken ns d = taken_behind 0 ns (λ (k : ℕ). get_or (map g ns) k d) (λ k e l. let start : 0 + k ≡ k = omega arith in ap (λ (j : ℕ). get_or (map g ns) j d) start ∙ get_or-map g ns k e d l)
+  taken_of_taken ns d = taken_after 0 ns (λ (k : ℕ). get_or (map g ns) k d) (λ k e l. let start : 0 + k ≡ k = omega arith in ap (λ (j : ℕ). get_or (map g ns) j d) start ∙ get_or-map g ns k e d l)
 
 -- ---- numbers below a count
 

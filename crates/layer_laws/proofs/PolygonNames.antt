@@ -111,16 +111,16 @@ module _ (earlier : List Text) (name : Text) where
 
 -- ---- names, each made new among those before it
 
-new_behind : (names outs earlier : List Text) → length outs ≡ length names → ((i : ℕ) → i < length names → IsNewName (earlier ++ take i outs) (get_or names i []) (get_or outs i [])) →
+new_after : (names outs earlier : List Text) → length outs ≡ length names → ((i : ℕ) → i < length names → IsNewName (earlier ++ take i outs) (get_or names i []) (get_or outs i [])) →
     earlier ++ outs ≡ with_new_names earlier names
-new_behind [] [] earlier each named = append-nil earlier
-new_behind [] (out ∷ outs) earlier each named = absurd (omega (arith, each))
-new_behind (name ∷ names) [] earlier each named = absurd (omega (arith, each))
-new_behind (name ∷ names) (out ∷ outs) earlier each named =
+new_after [] [] earlier each named = append-nil earlier
+new_after [] (out ∷ outs) earlier each named = absurd (omega (arith, each))
+new_after (name ∷ names) [] earlier each named = absurd (omega (arith, each))
+new_after (name ∷ names) (out ∷ outs) earlier each named =
     let here : out ≡ new_name earlier name = one_new_name earlier name out (subst (λ (before : List Text). IsNewName before name out) (append-nil earlier) (named 0 (omega arith))) in
-    let rest : (earlier ++ out ∷ []) ++ outs ≡ with_new_names (earlier ++ out ∷ []) names = new_behind names outs (earlier ++ out ∷ []) (omega (arith, each)) (λ i l.
+    let rest : (earlier ++ out ∷ []) ++ outs ≡ with_new_names (earlier ++ out ∷ []) names = new_after names outs (earlier ++ out ∷ []) (omega (arith, each)) (λ i l.
     subst (λ (before : List Text). IsNewName before (get_or names i []) (get_or outs i [])) (sym (append_assoc earlier (out ∷ []) (take i outs))) (named (suc i) (omega arith))) in
     sym (append_assoc earlier (out ∷ []) outs) ∙ rest ∙ ap (λ (t : Text). with_new_names (earlier ++ t ∷ []) names) here
 
 pub names_made_new : (names outs : List Text) → AreNewNames names outs → outs ≡ with_new_names [] names
-names_made_new names outs new = new_behind names outs [] new.each new.named
+names_made_new names outs new = new_after names outs [] new.each new.named

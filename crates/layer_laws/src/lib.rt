@@ -50,185 +50,185 @@ ghost use Rattle.layer_laws.specs.Views.{ViewsExist};
 /// A snapped drawing that is laid out has a view: its places have labels by their faces, each question about regions
 /// has a right answer, and the faces that features and boxes hold follow them.
 pub fn views_exist()
-    ensures { ViewsExist }
+    ensures holds { ViewsExist }
 {}
 
 /// What a run draws is the drawing of the state.
 pub fn drawings_are_one()
-    ensures { DrawingsAreOne }
+    ensures holds { DrawingsAreOne }
 {}
 
 /// What begins over a drawing has a view, in which it shows what begins in the state.
 pub fn beginnings_show()
-    ensures { BeginningsShow }
+    ensures holds { BeginningsShow }
 {}
 
 /// Features that are taken by their numbers show those that are taken of the state's layer.
 pub fn taken_features_show()
-    ensures { TakenFeaturesShow }
+    ensures holds { TakenFeaturesShow }
 {}
 
 /// A shape is empty exactly if the shape that it shows is.
 pub fn emptiness_shows()
-    ensures { EmptinessShows }
+    ensures holds { EmptinessShows }
 {}
 
 /// A layer with other shapes, without the empty ones, shows what is left of the state's layer.
 pub fn left_features_show()
-    ensures { LeftFeaturesShow }
+    ensures holds { LeftFeaturesShow }
 {}
 
 /// Kept columns show those that are kept of the state's table.
 pub fn fields_show()
-    ensures { FieldsShow }
+    ensures holds { FieldsShow }
 {}
 
 /// Columns under other names show those of the state.
 pub fn new_names_show()
-    ensures { NewNamesShow }
+    ensures holds { NewNamesShow }
 {}
 
 /// A join by keys shows that of the state's layers.
 pub fn joins_show()
-    ensures { JoinsShow }
+    ensures holds { JoinsShow }
 {}
 
 /// Fields that are assigned show those that are assigned in the state's layer.
 pub fn assigned_fields_show()
-    ensures { AssignedFieldsShow }
+    ensures holds { AssignedFieldsShow }
 {}
 
 /// Features in the order of their keys show those of the state.
 pub fn sorted_rows_show()
-    ensures { SortedRowsShow }
+    ensures holds { SortedRowsShow }
 {}
 
 /// Features whose key few before them have show those of the state.
 pub fn early_rows_show()
-    ensures { EarlyRowsShow }
+    ensures holds { EarlyRowsShow }
 {}
 
 /// Features that pass a filter show those that pass it in the state.
 pub fn filtered_rows_show()
-    ensures { FilteredRowsShow }
+    ensures holds { FilteredRowsShow }
 {}
 
 /// The pieces of a layer show those of the state's layer.
 pub fn pieces_show()
-    ensures { PiecesShow }
+    ensures holds { PiecesShow }
 {}
 
 /// Layers that are merged show the state's layers merged.
 pub fn merged_layers_show()
-    ensures { MergedLayersShow }
+    ensures holds { MergedLayersShow }
 {}
 
 /// What a region leaves of lines and points shows what it leaves of the state's.
 pub fn clipped_lines_show()
-    ensures { ClippedLinesShow }
+    ensures holds { ClippedLinesShow }
 {}
 
 /// So does what it leaves of them outside of it.
 pub fn erased_lines_show()
-    ensures { ErasedLinesShow }
+    ensures holds { ErasedLinesShow }
 {}
 
 /// Each path and each point by itself shows those of the state.
 pub fn exploded_lines_show()
-    ensures { ExplodedLinesShow }
+    ensures holds { ExplodedLinesShow }
 {}
 
 /// Lines and points that are grouped, where they may be, show the groups of the state.
 pub fn grouped_lines_show()
-    ensures { GroupedLinesShow }
+    ensures holds { GroupedLinesShow }
 {}
 
 /// Lines between polygons show those of the state.
 pub fn inner_lines_show()
-    ensures { InnerLinesShow }
+    ensures holds { InnerLinesShow }
 {}
 
 /// So do lines around polygons, with their types and ranks.
 pub fn outlines_show()
-    ensures { OutlinesShow }
+    ensures holds { OutlinesShow }
 {}
 
 /// A target has the layers that it selects in the state, or both refuse it.
 pub fn targets_show()
-    ensures { TargetsShow }
+    ensures holds { TargetsShow }
 {}
 
 /// The layers that a command takes from elsewhere show those that it takes in the state.
 pub fn origins_show()
-    ensures { OriginsShow }
+    ensures holds { OriginsShow }
 {}
 
 /// One layer among several is found, or refused, as in the state.
 pub fn one_layer_shows()
-    ensures { OneLayerShows }
+    ensures holds { OneLayerShows }
 {}
 
 /// The layers with which the commands begin show the first state.
 pub fn first_layers_show()
-    ensures { FirstLayersShow }
+    ensures holds { FirstLayersShow }
 {}
 
 /// The outputs of a command go to the places to which they go in the state.
 pub fn placed_outputs_show()
-    ensures { PlacedOutputsShow }
+    ensures holds { PlacedOutputsShow }
 {}
 
 /// The plane of a run is seen in a view with the same arcs and faces, where the faces of its boxes show them.
 pub fn planes_are_seen()
-    ensures { PlanesAreSeen }
+    ensures holds { PlanesAreSeen }
 {}
 
 /// What a command cuts by shows the region of the state, or both refuse it.
 pub fn cut_sets_show()
-    ensures { CutSetsShow }
+    ensures holds { CutSetsShow }
 {}
 
 /// What a clip leaves of polygons shows what it leaves of the state's regions.
 pub fn clipped_polygons_show()
-    ensures { ClippedPolygonsShow }
+    ensures holds { ClippedPolygonsShow }
 {}
 
 /// What an erasure leaves of polygons shows what it leaves of the state's regions.
 pub fn erased_polygons_show()
-    ensures { ErasedPolygonsShow }
+    ensures holds { ErasedPolygonsShow }
 {}
 
 /// Dissolved polygons show those of the state, or both are refused.
 pub fn dissolved_polygons_show()
-    ensures { DissolvedPolygonsShow }
+    ensures holds { DissolvedPolygonsShow }
 {}
 
 /// Polygons that are cleaned, with the gaps that go to them, show those of the state.
 pub fn cleaned_polygons_show()
-    ensures { CleanedPolygonsShow }
+    ensures holds { CleanedPolygonsShow }
 {}
 
 /// Polygons without their islands show those of the state, with or without the features that are left empty.
 pub fn islands_show()
-    ensures { IslandsShow }
+    ensures holds { IslandsShow }
 {}
 
 /// A mosaic shows that of the state, with the same numbers.
 pub fn mosaics_show()
-    ensures { MosaicsShow }
+    ensures holds { MosaicsShow }
 {}
 
 /// Polygons in pieces show those of the state.
 pub fn exploded_polygons_show()
-    ensures { ExplodedPolygonsShow }
+    ensures holds { ExplodedPolygonsShow }
 {}
 
 /// Layers that are united show the state's layers united.
 pub fn united_layers_show()
-    ensures { UnitedLayersShow }
+    ensures holds { UnitedLayersShow }
 {}
 
 /// One layer alone is not united, as in the state.
 pub fn lone_layers_are_refused()
-    ensures { LoneLayersAreRefused }
+    ensures holds { LoneLayersAreRefused }
 {}

@@ -52,7 +52,7 @@ module _ (test : Segment → Bool) where
   -- the runs of the steps from q on, afresh and after a run that ends at q
   record AreRuns (q : GridPoint) (rest : Path) : Type 0 where
     afresh : map path_along (runs_after test [] (steps (q ∷ rest))) ≡ model.runs_where test (q ∷ rest)
-    behind : (before : Path) (begun : List Segment) → 0 < length begun → path_along begun ≡ before ++ q ∷ [] →
+    past : (before : Path) (begun : List Segment) → 0 < length begun → path_along begun ≡ before ++ q ∷ [] →
         map path_along (runs_after test begun (steps (q ∷ rest))) ≡ carried (first_passes test (q ∷ rest)) before q (model.runs_where test (q ∷ rest))
 
   one_run : (before : Path) (q : GridPoint) (begun : List Segment) → 0 < length begun → path_along begun ≡ before ++ q ∷ [] → map path_along (ended begun) ≡ (before ++ q ∷ []) ∷ []
@@ -72,22 +72,22 @@ module _ (test : Segment → Bool) where
     runs = model.runs_where test (r ∷ rest)
 
     fresh : (b : Bool) → map path_along (cond b (runs_after test (first ∷ []) later) (runs_after test [] later)) ≡ cond b (put_step goes_on q r runs) runs
-    fresh true = next.behind (q ∷ []) (first ∷ []) (omega arith) refl ∙ put_first goes_on q r runs
+    fresh true = next.past (q ∷ []) (first ∷ []) (omega arith) refl ∙ put_first goes_on q r runs
     fresh false = next.afresh
 
     grown : (before : Path) (begun : List Segment) → 0 < length begun → path_along begun ≡ before ++ q ∷ [] → (b : Bool) →
         map path_along (cond b (runs_after test (begun ++ first ∷ []) later) (ended begun ++ runs_after test [] later)) ≡ carried b before q (cond b (put_step goes_on q r runs) runs)
     grown before begun some is true =
         let size = length-append begun (first ∷ []) in
-        next.behind (before ++ q ∷ []) (begun ++ first ∷ []) (omega arith) (path_grows begun first some ∙ ap (λ (path : Path). path ++ r ∷ []) is)
+        next.past (before ++ q ∷ []) (begun ++ first ∷ []) (omega arith) (path_grows begun first some ∙ ap (λ (path : Path). path ++ r ∷ []) is)
         ∙ put_carried goes_on before q r runs
     grown before begun some is false = map-append path_along (ended begun) (runs_after test [] later) ∙ (λ i. one_run before q begun some is i ++ next.afresh i)
 
     one_more : AreRuns q (r ∷ rest)
-    one_more = record { afresh = fresh (test first); behind = λ before begun some is. grown before begun some is (test first) }
+    one_more = record { afresh = fresh (test first); past = λ before begun some is. grown before begun some is (test first) }
 
   are_runs : (q : GridPoint) (rest : Path) → AreRuns q rest
-  are_runs q [] = record { afresh = refl; behind = λ before begun some is. one_run before q begun some is }
+  are_runs q [] = record { afresh = refl; past = λ before begun some is. one_run before q begun some is }
   are_runs q (r ∷ rest) = one_more q r rest (are_runs r rest)
 
   pub runs_of_points : (path : Path) → map path_along (runs_where test (steps path)) ≡ model.runs_where test path

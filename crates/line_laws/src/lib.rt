@@ -28,164 +28,164 @@ ghost use Rattle.line_laws.specs.Sources.{LinesCutByBoxes, LinesCutByLayers, Poi
 
 /// These laws are true of the faces of the arcs of a snapped drawing.
 pub fn drawings_are_labelled()
-    ensures { DrawingsAreLabelled }
+    ensures holds { DrawingsAreLabelled }
 {}
 
 /// A side of a link of a signed arc is in the points of a set of faces exactly if the set has the face on that side of
 /// the arc.
 pub fn sides_of_arcs()
-    ensures { SidesOfArcs }
+    ensures holds { SidesOfArcs }
 {}
 
 /// So an arc is inside a set, as it is answered for it, exactly if each of its links is: at least one side of it
 /// belongs to the points of the set.
 pub fn arcs_are_inside()
-    ensures { ArcsAreInside }
+    ensures holds { ArcsAreInside }
 {}
 
 /// A link is on the boundary of the points of a set exactly if the set has just one of the faces beside its arc.
 pub fn boundary_of_arcs()
-    ensures { BoundaryOfArcs }
+    ensures holds { BoundaryOfArcs }
 {}
 
 /// A signed arc is on the boundary of a set, as it is traced, exactly if the left sides of its links are in the points
 /// of the set, and the right sides are not.
 pub fn boundary_is_directed()
-    ensures { BoundaryIsDirected }
+    ensures holds { BoundaryIsDirected }
 {}
 
 /// If some point that sees a side of a link is in the points of a set, each point that sees it is.
 pub fn sides_are_whole()
-    ensures { SidesAreWhole }
+    ensures holds { SidesAreWhole }
 {}
 
 /// Some test holds of just those links that are inside the points of a set.
 pub fn inside_is_tested()
-    ensures { InsideIsTested }
+    ensures holds { InsideIsTested }
 {}
 
 /// The arcs of a path, cut by a set of faces, are its maximal runs of steps along links that are inside the points of
 /// the set, and of steps along links that are not.
 pub fn paths_are_cut()
-    ensures { PathsAreCut }
+    ensures holds { PathsAreCut }
 {}
 
 /// So it is with each path of a line of a snapped drawing, read from its start.
 pub fn lines_are_cut()
-    ensures { LinesAreCut }
+    ensures holds { LinesAreCut }
 {}
 
 /// And with a line feature, path by path.
 pub fn line_features_are_cut()
-    ensures { LineFeaturesAreCut }
+    ensures holds { LineFeaturesAreCut }
 {}
 
 /// The sets of a list stand for their points: the sets at the two sides of an arc are those whose points see the two
 /// sides of each of its links.
 pub fn sets_stand_for_points()
-    ensures { SetsStandForPoints }
+    ensures holds { SetsStandForPoints }
 {}
 
 /// The sets of the faces that features of a snapped drawing hold stand so for the points that the features hold.
 pub fn sets_stand_for_features()
-    ensures { SetsStandForFeatures }
+    ensures holds { SetsStandForFeatures }
 {}
 
 /// So the arcs whose two sides are in different sets are those of whose links the lists of the sets that have points at
 /// the left and at the right side differ, each once; and the inner ones those for which, besides, neither list is
 /// empty.
 pub fn arcs_between_sets()
-    ensures { ArcsBetweenSets }
+    ensures holds { ArcsBetweenSets }
 {}
 
 /// And for features of a snapped drawing they are the arcs of whose links the lists of the features that have the left
 /// and the right side differ, with the lowest feature at each side.
 pub fn arcs_between_features()
-    ensures { ArcsBetweenFeatures }
+    ensures holds { ArcsBetweenFeatures }
 {}
 
 /// The sides of links that belong to the points of a set of the faces that features of a layer hold are those that
 /// belong to the points that some feature of the layer holds.
 pub fn sides_of_layers()
-    ensures { SidesOfLayers }
+    ensures holds { SidesOfLayers }
 {}
 
 /// And those of a set of the faces that a box holds are those that belong to the points in the box.
 pub fn sides_of_boxes()
-    ensures { SidesOfBoxes }
+    ensures holds { SidesOfBoxes }
 {}
 
 /// So line features cut by a layer are their maximal runs of steps along links of which some feature of the layer has a
 /// side, and of steps along links of which none has.
 pub fn lines_cut_by_layers()
-    ensures { LinesCutByLayers }
+    ensures holds { LinesCutByLayers }
 {}
 
 /// And so it is with a box.
 pub fn lines_cut_by_boxes()
-    ensures { LinesCutByBoxes }
+    ensures holds { LinesCutByBoxes }
 {}
 
 /// Off the links, the points of a set of the faces that features of a layer hold are those that some feature of the
 /// layer holds.
 pub fn points_are_of_layers()
-    ensures { PointsAreOfLayers }
+    ensures holds { PointsAreOfLayers }
 {}
 
 /// And those of a set of the faces that a box holds are those in the box.
 pub fn points_are_of_boxes()
-    ensures { PointsAreOfBoxes }
+    ensures holds { PointsAreOfBoxes }
 {}
 
 /// So a vertex of a snapped drawing is inside a layer, as it is answered for it, exactly if some point that a feature
 /// of the layer holds sees it.
 pub fn vertices_inside_layers()
-    ensures { VerticesInsideLayers }
+    ensures holds { VerticesInsideLayers }
 {}
 
 /// And so it is with a box.
 pub fn vertices_inside_boxes()
-    ensures { VerticesInsideBoxes }
+    ensures holds { VerticesInsideBoxes }
 {}
 
 /// The arcs along a line of a snapped drawing follow each other, and joined they are the line.
 pub fn lines_are_linked()
-    ensures { LinesAreLinked }
+    ensures holds { LinesAreLinked }
 {}
 
 /// The runs of arcs that follow each other do so too: so what a cut leaves of a path is cut again as a path.
 pub fn runs_are_linked()
-    ensures { RunsAreLinked }
+    ensures holds { RunsAreLinked }
 {}
 
 /// Dissolved lines are the arcs that their paths go along, each once, in its direction, in order of number.
 pub fn lines_are_dissolved()
-    ensures { LinesAreDissolved }
+    ensures holds { LinesAreDissolved }
 {}
 
 /// Paths of arcs that follow each other, cut by the set of any region, are as points the maximal runs of steps along
 /// links that are inside the region, and of steps along links that are not.
 pub fn paths_cut_by_regions()
-    ensures { PathsCutByRegions }
+    ensures holds { PathsCutByRegions }
 {}
 
 /// Vertices are inside the set of a region, as it is answered for them, exactly if some point of the region sees them.
 pub fn points_cut_by_regions()
-    ensures { PointsCutByRegions }
+    ensures holds { PointsCutByRegions }
 {}
 
 /// Which vertices of a drawing are inside a region that a set follows can be told.
 pub fn insides_are_told()
-    ensures { InsidesAreTold }
+    ensures holds { InsidesAreTold }
 {}
 
 /// The sets at the two sides of an arc are those of the regions that have the two sides of its first link.
 pub fn sets_are_holders()
-    ensures { SetsAreHolders }
+    ensures holds { SetsAreHolders }
 {}
 
 /// So the arcs whose two sides are in different sets are those between the regions of the sets, in order, as points,
 /// with the least of them at each side; and the inner ones those with regions at both sides.
 pub fn borders_are_of_regions()
-    ensures { BordersAreOfRegions }
+    ensures holds { BordersAreOfRegions }
 {}

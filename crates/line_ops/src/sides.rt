@@ -46,7 +46,7 @@ pub fn sided_arcs(
 
 // Adds an arc, where there is one.
 fn push_sided(arcs: &mut SidedArcs, found: Option<SidedArc>) -> Result<(), AllocError>
-    ensures { OnOk result (arcs.new ≡ arcs.old ++ option_to_list found) }
+    ensures added { OnOk result (arcs.new ≡ arcs.old ++ option_to_list found) }
 {
     if let Some(sided) = found {
         arcs.push(sided)?;
@@ -57,7 +57,7 @@ fn push_sided(arcs: &mut SidedArcs, found: Option<SidedArc>) -> Result<(), Alloc
 // The least sets at the sides of an arc; `None` where both sides are in the same sets.
 fn sides_of(f: &Faces, owners: &FaceOwners, arc: ArcId) -> Option<SidedArc>
     requires arc { HasArc f.now (record { arc = arc; is_reversed = false }) }
-    ensures { (sets : List (List ℕ)) → AreOwners sets f.now.count owners.now → result ≡ sided f.now sets arc }
+    ensures exact { (sets : List (List ℕ)) → AreOwners sets f.now.count owners.now → result ≡ sided f.now sets arc }
 {
     let left = sets_left_of(f, owners, SignedArc::forward(arc));
     let right = sets_left_of(f, owners, SignedArc::backward(arc));
@@ -74,7 +74,7 @@ fn sides_of(f: &Faces, owners: &FaceOwners, arc: ArcId) -> Option<SidedArc>
 // The sets that have the left side of an arc.
 fn sets_left_of<'a>(f: &Faces, owners: &'a FaceOwners, a: SignedArc) -> &'a [u32]
     requires { HasArc f.now a }
-    ensures { (sets : List (List ℕ)) → AreOwners sets f.now.count owners.now → result.now ≡ owners_of sets (left_of f.now a) }
+    ensures exact { (sets : List (List ℕ)) → AreOwners sets f.now.count owners.now → result.now ≡ owners_of sets (left_of f.now a) }
 {
     owners.at(f.left_of(a))
 }

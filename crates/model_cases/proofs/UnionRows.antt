@@ -81,9 +81,9 @@ two_squares : after a_and_b union ≡ ((united_as (codes "a") ∷ []) ∷ [], do
 unfolding digits
 two_squares = refl
 
-named_behind_both : after a_and_b (record union { name = Some (codes "u"); keep = true }) ≡ ((united_as (codes "u") ∷ []) ∷ [], done)
+named_after_both : after a_and_b (record union { name = Some (codes "u"); keep = true }) ≡ ((united_as (codes "u") ∷ []) ∷ [], done)
 unfolding digits
-named_behind_both = refl
+named_after_both = refl
 
 one_alone : after (with_n (codes "a") (square 0 0 4 4) ∷ []) union ≡ ([], refused 1 lone_layer)
 one_alone = refl

@@ -9,5 +9,5 @@ ghost use Rattle.model_cases.specs.Counted.{counted_left};
 
 /// No side of a link belongs to the union of no regions.
 pub fn nothing_has_no_side()
-    ensures { (P : Plane) → counted_left P (any_of []) ≡ (λ l. Rattle.std.specs.Prelude.false) }
+    ensures holds { (P : Plane) → counted_left P (any_of []) ≡ (λ l. Rattle.std.specs.Prelude.false) }
 {}

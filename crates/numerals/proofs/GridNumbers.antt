@@ -156,11 +156,11 @@ scaled_back m j k n hj hk l e = go (cases_lt k j)
             let quotient : n * 10 ^ suc x / 10 ^ suc x ≡ n = ap (λ (y : ℕ). y / 10 ^ suc x) (sym (add-zero (n * 10 ^ suc x))) ∙ div-mul-add n (10 ^ suc x) 0 p in
             let rest : n * 10 ^ suc x % 10 ^ suc x ≡ 0 = ap (λ (y : ℕ). y % 10 ^ suc x) (sym (add-zero (n * 10 ^ suc x))) ∙ mod-mul-add n (10 ^ suc x) 0 p in
             let tens : n * 10 ^ suc x ≡ n * 10 * 10 ^ x = ap (λ (y : ℕ). n * y) (pow_ten x ∙ mul_comm (10 ^ x) 10) ∙ sym (mul_assoc n 10 (10 ^ x)) in
-            let behind : n * 10 ^ suc x % 10 ^ x ≡ 0 = ap (λ (y : ℕ). y % 10 ^ x) (tens ∙ sym (add-zero (n * 10 * 10 ^ x))) ∙ mod-mul-add (n * 10) (10 ^ x) 0 q in
+            let past : n * 10 ^ suc x % 10 ^ x ≡ 0 = ap (λ (y : ℕ). y % 10 ^ x) (tens ∙ sym (add-zero (n * 10 * 10 ^ x))) ∙ mod-mul-add (n * 10) (10 ^ x) 0 q in
             record {
               units = omega (arith, quotient, l);
               tenths = sym (ap (λ (y : ℕ). y / 10 ^ x) rest ∙ div-small 0 (10 ^ x) q);
-              more = ap (λ (y : ℕ). not (y == 0)) (sym behind);
+              more = ap (λ (y : ℕ). not (y == 0)) (sym past);
             }
 
     at_up : (j k : ℕ) → j ≤ k → (pos 0 -ℤ pos j) +ℤ pos k ≡ pos (k - j)

@@ -29,8 +29,8 @@ front_all (b ∷ ds) rest h n =
     let one_more : 1 + k ≡ suc k = omega arith in
     ap (λ (t : Bool). take (cond t (1 + k) 0) (b ∷ (ds ++ rest))) h.0 ∙ ap (λ (m : ℕ). take m (b ∷ (ds ++ rest))) one_more ∙ ap (λ (l : List ℕ). b ∷ l) (front_all ds rest h.1 n)
 
-pub behind_all : (ds rest : List ℕ) → AreDigits ds → NextFails is_digit rest → after_digits (ds ++ rest) ≡ rest
-behind_all ds rest h n = ap (λ (l : List ℕ). drop (length l) (ds ++ rest)) (front_all ds rest h n) ∙ drop-append_seam ds rest
+pub after_all : (ds rest : List ℕ) → AreDigits ds → NextFails is_digit rest → after_digits (ds ++ rest) ≡ rest
+after_all ds rest h n = ap (λ (l : List ℕ). drop (length l) (ds ++ rest)) (front_all ds rest h n) ∙ drop-append_seam ds rest
 
 -- ## A number of the grammar has a value
 
@@ -79,9 +79,9 @@ fraction_is m w no_fraction (exponent {e = e} {s = s} {ds = ds} h sign d) =
     ∙ with_some m w [] (e ∷ (s ++ ds)) (exponent_is (exponent {e = e} h sign d))
 fraction_is m w {e = e} (fraction (some_digits {b = b} {ds = ds} h k)) x =
     let all : digits_at (b ∷ (ds ++ e)) ≡ b ∷ ds = front_all (b ∷ ds) e (h, are_digits k) (exponent_no_digit x) in
-    let behind : after_digits (b ∷ (ds ++ e)) ≡ e = behind_all (b ∷ ds) e (h, are_digits k) (exponent_no_digit x) in
+    let past : after_digits (b ∷ (ds ++ e)) ≡ e = after_all (b ∷ ds) e (h, are_digits k) (exponent_no_digit x) in
     ap (λ (l : List ℕ). is_some (option_and_then (with_exponent m w) (cond (is_some_digits l) (Some (l, after_digits (b ∷ (ds ++ e)))) None))) all
-    ∙ ap (λ (l : List ℕ). is_some (with_exponent m w (b ∷ ds, l))) behind ∙ with_some m w (b ∷ ds) e (exponent_is x)
+    ∙ ap (λ (l : List ℕ). is_some (with_exponent m w (b ∷ ds, l))) past ∙ with_some m w (b ∷ ds) e (exponent_is x)
 
 fraction_no_digit : {f e : List ℕ} → Fraction f → Exponent e → NextFails is_digit (f ++ e)
 fraction_no_digit no_fraction x = exponent_no_digit x
@@ -105,9 +105,9 @@ unsigned_is : (m : Bool) {w f e : List ℕ} → Whole w → Fraction f → Expon
 unsigned_is m {w = w} {f = f} {e = e} x y z =
     let d = whole_digits x in
     let front : digits_at (w ++ (f ++ e)) ≡ w = front_all w (f ++ e) d.0 (fraction_no_digit y z) in
-    let behind : after_digits (w ++ (f ++ e)) ≡ f ++ e = behind_all w (f ++ e) d.0 (fraction_no_digit y z) in
+    let past : after_digits (w ++ (f ++ e)) ≡ f ++ e = after_all w (f ++ e) d.0 (fraction_no_digit y z) in
     ap (λ (l : List ℕ). is_some (cond (is_whole_part l) (with_fraction m l (after_digits (w ++ (f ++ e)))) None)) front
-    ∙ ap (λ (l : List ℕ). is_some (cond (is_whole_part w) (with_fraction m w l) None)) behind
+    ∙ ap (λ (l : List ℕ). is_some (cond (is_whole_part w) (with_fraction m w l) None)) past
     ∙ ap (λ (t : Bool). is_some (cond t (with_fraction m w (f ++ e)) None)) d.1
     ∙ fraction_is m w y z
 

@@ -11,7 +11,7 @@ use Rattle.numerals.specs.Plain.{FrontFraction, HasFraction, IsGridFront, IsPlai
 use Rattle.numerals.specs.Bytes.{NextFails}
 use Rattle.numerals.specs.Scaling.{AreDigits}
 use Rattle.numerals.specs.declared.plain_numeral.Plain.{Plain}
-use Rattle.numerals.proofs.NumbersAreNumerals.{front_all, behind_all}
+use Rattle.numerals.proofs.NumbersAreNumerals.{front_all, after_all}
 use Rattle.numerals.proofs.NumeralParts.{front, front_digits}
 use Rattle.numerals.proofs.Scaling.{number_onto-append}
 
@@ -20,9 +20,9 @@ use Rattle.numerals.proofs.Scaling.{number_onto-append}
 digits_front : (n : ℕ) (xs : List ℕ) → n ≡ length (digits_at xs) → take n xs ≡ digits_at xs
 digits_front n xs e = front xs (prefix_len is_digit xs) n e
 
-fails_behind : (xs : List ℕ) → NextFails is_digit (drop (prefix_len is_digit xs) xs)
-fails_behind [] = tt
-fails_behind (b ∷ bs) = go (is_digit b) refl (fails_behind bs)
+fails_after : (xs : List ℕ) → NextFails is_digit (drop (prefix_len is_digit xs) xs)
+fails_after [] = tt
+fails_after (b ∷ bs) = go (is_digit b) refl (fails_after bs)
   where
     go : (t : Bool) → is_digit b ≡ t → NextFails is_digit (drop (prefix_len is_digit bs) bs) → NextFails is_digit (drop (prefix_len is_digit (b ∷ bs)) (b ∷ bs))
     go true e h =
@@ -39,8 +39,8 @@ within (b ∷ bs) = go (is_digit b) refl (within bs)
     go true e l = subst (λ (n : ℕ). n ≤ length (b ∷ bs)) (sym (ap (λ (t : Bool). cond t (1 + prefix_len is_digit bs) 0) e)) (omega arith)
     go false e l = subst (λ (n : ℕ). n ≤ length (b ∷ bs)) (sym (ap (λ (t : Bool). cond t (1 + prefix_len is_digit bs) 0) e)) (omega arith)
 
-no_digit_behind : (n : ℕ) (xs : List ℕ) → n ≡ length (digits_at xs) → NextFails is_digit (drop n xs)
-no_digit_behind n xs e = subst (λ (m : ℕ). NextFails is_digit (drop m xs)) (sym (e ∙ length-take-le (prefix_len is_digit xs) xs (within xs))) (fails_behind xs)
+no_digit_after : (n : ℕ) (xs : List ℕ) → n ≡ length (digits_at xs) → NextFails is_digit (drop n xs)
+no_digit_after n xs e = subst (λ (m : ℕ). NextFails is_digit (drop m xs)) (sym (e ∙ length-take-le (prefix_len is_digit xs) xs (within xs))) (fails_after xs)
 
 fails_at_front : (n : ℕ) (xs : List ℕ) → NextFails is_digit xs → NextFails is_digit (take n xs)
 fails_at_front zero [] h = tt
@@ -54,25 +54,25 @@ whole_fraction : (ds : List ℕ) → AreDigits ds → (length ds ≡ 0 → ⊥) 
 whole_fraction [] a n = absurd (n refl)
 whole_fraction (b ∷ ds) a n =
     let all : digits_at (b ∷ ds) ≡ b ∷ ds = sym (ap digits_at (append-nil (b ∷ ds))) ∙ front_all (b ∷ ds) [] a tt in
-    let none : after_digits (b ∷ ds) ≡ [] = sym (ap after_digits (append-nil (b ∷ ds))) ∙ behind_all (b ∷ ds) [] a tt in
+    let none : after_digits (b ∷ ds) ≡ [] = sym (ap after_digits (append-nil (b ∷ ds))) ∙ after_all (b ∷ ds) [] a tt in
     (λ i. if is_some_digits (all i) then Some (all i, none i) else None)
 
-pub is_fraction : (n number count : ℕ) (behind : List ℕ) → number ≡ number_onto n (take count behind) → count ≡ length (digits_at behind) → (count ≡ 0 → ⊥) → count ≤ 18 → HasFraction n (46 ∷ take count behind) number count
-is_fraction n number count behind v c some few =
-    let is : take count behind ≡ digits_at behind = digits_front count behind c in
+pub is_fraction : (n number count : ℕ) (past : List ℕ) → number ≡ number_onto n (take count past) → count ≡ length (digits_at past) → (count ≡ 0 → ⊥) → count ≤ 18 → HasFraction n (46 ∷ take count past) number count
+is_fraction n number count past v c some few =
+    let is : take count past ≡ digits_at past = digits_front count past c in
     record {
-      digits = take count behind;
-      fraction_is = subst (λ (ds : List ℕ). fraction_part (46 ∷ ds) ≡ Some (ds, [])) (sym is) (whole_fraction (digits_at behind) (front_digits behind) (λ e. some (c ∙ e)));
+      digits = take count past;
+      fraction_is = subst (λ (ds : List ℕ). fraction_part (46 ∷ ds) ≡ Some (ds, [])) (sym is) (whole_fraction (digits_at past) (front_digits past) (λ e. some (c ∙ e)));
       number_is = v;
       count_is = c ∙ ap length (sym is);
       few = few;
     }
 
-pub point_front : (n number count : ℕ) (text behind : List ℕ) → text ≡ 46 ∷ behind → HasFraction n (46 ∷ take count behind) number count → NextFails is_numeric (drop count behind) → count ≤ length behind → FrontFraction n text number count (count + 1)
-point_front n number count text behind e h next l =
-    let whole : FrontFraction n (46 ∷ behind) number count (suc count) = (h, next, omega arith) in
+pub point_front : (n number count : ℕ) (text past : List ℕ) → text ≡ 46 ∷ past → HasFraction n (46 ∷ take count past) number count → NextFails is_numeric (drop count past) → count ≤ length past → FrontFraction n text number count (count + 1)
+point_front n number count text past e h next l =
+    let whole : FrontFraction n (46 ∷ past) number count (suc count) = (h, next, omega arith) in
     let s : suc count ≡ count + 1 = omega arith in
-    subst (λ (t : List ℕ). FrontFraction n t number count (count + 1)) (sym e) (subst (λ (size : ℕ). FrontFraction n (46 ∷ behind) number count size) s whole)
+    subst (λ (t : List ℕ). FrontFraction n t number count (count + 1)) (sym e) (subst (λ (size : ℕ). FrontFraction n (46 ∷ past) number count size) s whole)
 
 pub no_point_front : (n : ℕ) (text : List ℕ) → NextFails is_numeric text → FrontFraction n text n 0 0
 no_point_front n [] h = (record { digits = []; fraction_is = refl; number_is = refl; count_is = refl; few = omega arith }, h, omega arith)
@@ -96,12 +96,12 @@ unsigned_front minus text whole rest n count number fraction size v c l whole_is
     let f : List ℕ = take size rest in
     let fr : HasFraction n f number fraction = h.0 in
     let text_is : take (count + size) text ≡ ds ++ f = take-add count size text ∙ (λ i. front_is i ++ take size (sym rest_is i)) in
-    let next : NextFails is_digit f = fails_at_front size rest (subst (λ (ys : List ℕ). NextFails is_digit ys) (sym rest_is) (no_digit_behind count text c)) in
+    let next : NextFails is_digit f = fails_at_front size rest (subst (λ (ys : List ℕ). NextFails is_digit ys) (sym rest_is) (no_digit_after count text c)) in
     let whole_there : is_whole_part ds ≡ true = ap is_whole_part (sym (whole_is ∙ front_is)) ∙ is_whole in
     let all : digits_at (ds ++ f) ≡ ds = front_all ds f digits next in
-    let behind : after_digits (ds ++ f) ≡ f = behind_all ds f digits next in
+    let past : after_digits (ds ++ f) ≡ f = after_all ds f digits next in
     let numeral : unsigned_numeral minus (ds ++ f) ≡ Some (numeral_from minus ds fr.digits (pos 0)) =
-    (λ i. with_whole (is_whole_part (all i)) minus (all i) (behind i)) ∙ ap (λ (b : Bool). with_whole b minus ds f) whole_there ∙ ap (λ (o : Option (List ℕ × List ℕ)). option_and_then (with_exponent minus ds) o) fr.fraction_is in
+    (λ i. with_whole (is_whole_part (all i)) minus (all i) (past i)) ∙ ap (λ (b : Bool). with_whole b minus ds f) whole_there ∙ ap (λ (o : Option (List ℕ × List ℕ)). option_and_then (with_exponent minus ds) o) fr.fraction_is in
     let number_is : number_of (ds ++ fr.digits) ≡ number = number_onto-append 0 ds fr.digits ∙ sym (fr.number_is ∙ ap (λ (m : ℕ). number_onto m fr.digits) (v ∙ ap (λ (xs : List ℕ). number_onto 0 xs) front_is)) in
     let parts : Some (numeral_from minus ds fr.digits (pos 0)) ≡ Some (numeral_at (signed minus number) fraction) = (λ i. Some (numeral_at (signed minus (number_is i)) (sym fr.count_is i))) in
     let plain : IsPlain (unsigned_numeral minus (take (count + size) text)) (record { minus = minus; number = number; fraction = fraction }) =
@@ -109,7 +109,7 @@ unsigned_front minus text whole rest n count number fraction size v c l whole_is
     let dropped : drop size rest ≡ drop (count + size) text = ap (λ (xs : List ℕ). drop size xs) rest_is ∙ drop-drop size count text in
     (plain, subst (λ (xs : List ℕ). NextFails is_numeric xs) dropped h.1, omega (arith, h.2, ap length rest_is, length-drop count text, l))
 
--- the front of a window that goes on behind it
+-- the front of a window that goes on after it
 next_within : (test : ℕ → Bool) (n k : ℕ) (xs : List ℕ) → n < k → NextFails test (drop n (take k xs)) → NextFails test (drop n xs)
 next_within test zero zero xs l h = absurd (omega (arith, l))
 next_within test zero (suc k) [] l h = tt

@@ -71,9 +71,9 @@ fraction_front (b ∷ bs) f r e = go (b == 46) (is_some_digits (digits_at bs)) r
         let h : Some ([], b ∷ bs) ≡ Some (f, r) = sym (ap (λ (s : Bool). cond s (cond (is_some_digits (digits_at bs)) (Some (digits_at bs, after_digits bs)) None) (Some ([], b ∷ bs))) x) ∙ e in
         subst (λ (l : List ℕ). AreDigits l) (ap (λ (o : Option (List ℕ × List ℕ)). first_part o) h) tt
 
-pub read_parts : (minus : Bool) (text whole rest fraction behind : List ℕ) (n : ℕ) (e p : ℤ) → n ≡ length (digits_at text) → whole ≡ take n text → rest ≡ drop n text
-    → is_whole_part whole ≡ true → fraction_part rest ≡ Some (fraction, behind) → exponent_part behind ≡ Some e → p ≡ capped_power e → IsRead (unsigned_numeral minus text) minus whole fraction p
-read_parts minus text whole rest fraction behind n e p m w r i f x c =
+pub read_parts : (minus : Bool) (text whole rest fraction past : List ℕ) (n : ℕ) (e p : ℤ) → n ≡ length (digits_at text) → whole ≡ take n text → rest ≡ drop n text
+    → is_whole_part whole ≡ true → fraction_part rest ≡ Some (fraction, past) → exponent_part past ≡ Some e → p ≡ capped_power e → IsRead (unsigned_numeral minus text) minus whole fraction p
+read_parts minus text whole rest fraction past n e p m w r i f x c =
     let all : whole ≡ digits_at text = w ∙ front text (prefix_len is_digit text) n m in
     let after : rest ≡ after_digits text = r ∙ ap (λ (k : ℕ). drop k text) m in
     record {
@@ -85,5 +85,5 @@ read_parts minus text whole rest fraction behind n e p m w r i f x c =
           ∙ ap (λ (o : Option (List ℕ × List ℕ)). option_and_then (with_exponent minus whole) o) f
           ∙ ap (λ (o : Option ℤ). option_and_then (λ (e : ℤ). Some (numeral_from minus whole fraction e)) o) x;
       whole_digits = subst (λ (l : List ℕ). AreDigits l) (sym all) (front_digits text);
-      fraction_digits = fraction_front rest fraction behind f;
+      fraction_digits = fraction_front rest fraction past f;
     }

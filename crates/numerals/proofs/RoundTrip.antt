@@ -12,7 +12,7 @@ use Rattle.numerals.specs.Decimal.{checked, checked_where, decimal_of_text, deci
 use Rattle.numerals.specs.Units.{units_at, whole_of}
 use Rattle.numerals.specs.Scaling.{AreDigits}
 use Rattle.numerals.proofs.Digits.{decimal_text-parts, fraction_text-zero, fraction_text-other, trimmed_digits-zero, trimmed_digits-other}
-use Rattle.numerals.proofs.NumbersAreNumerals.{front_all, behind_all}
+use Rattle.numerals.proofs.NumbersAreNumerals.{front_all, after_all}
 use Rattle.numerals.proofs.Quotients.{checked_some, times_power}
 use Rattle.numerals.proofs.Scaling.{digits_append, number_onto-append, number_onto-sum, pow_ten}
 
@@ -133,7 +133,7 @@ trimmed_is (suc k) n l h = go (n % 10 == 0) refl (trimmed_is k (n / 10))
 unsigned_read : (m : Bool) (w f t : List ℕ) → AreDigits w → is_whole_part w ≡ true → NextFails is_digit t → fraction_part t ≡ Some (f, []) → unsigned_numeral m (w ++ t) ≡ Some (numeral_from m w f (pos 0))
 unsigned_read m w f t d h n e =
     ap (λ (l : List ℕ). cond (is_whole_part l) (with_fraction m l (after_digits (w ++ t))) None) (front_all w t d n)
-    ∙ ap (λ (l : List ℕ). cond (is_whole_part w) (with_fraction m w l) None) (behind_all w t d n)
+    ∙ ap (λ (l : List ℕ). cond (is_whole_part w) (with_fraction m w l) None) (after_all w t d n)
     ∙ ap (λ (b : Bool). cond b (with_fraction m w t) None) h
     ∙ ap (λ (o : Option (List ℕ × List ℕ)). option_and_then (with_exponent m w) o) e
 
@@ -164,7 +164,7 @@ fraction_read n l = go (n == 0) refl
         let ds : List ℕ = trimmed_digits 18 n in
         let is : fraction_text n ≡ 46 ∷ trimmed_digits 18 n = fraction_text-other n e in
         let all : digits_at ds ≡ ds = ap digits_at (sym (append-nil ds)) ∙ front_all ds [] h.digits tt in
-        let none : after_digits ds ≡ [] = ap after_digits (sym (append-nil ds)) ∙ behind_all ds [] h.digits tt in (
+        let none : after_digits ds ≡ [] = ap after_digits (sym (append-nil ds)) ∙ after_all ds [] h.digits tt in (
           ds,
           record {
             fails = subst (λ (t : List ℕ). NextFails is_digit t) (sym is) refl;

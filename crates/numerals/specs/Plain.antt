@@ -29,7 +29,7 @@ plain_numeral p = record { mantissa = signed p.minus p.number; exponent = pos 0 
 abbrev pub is_numeric : ℕ → Bool
 is_numeric b = is_digit b || (is_exponent_letter b || (b == 46))
 
--- of the first `size` bytes, behind which no such byte stands
+-- of the first `size` bytes, after which no such byte stands
 abbrev pub FrontFraction : ℕ → List ℕ → ℕ → ℕ → ℕ → Type 0
 FrontFraction n text number count size = HasFraction n (take size text) number count × NextFails is_numeric (drop size text) × (size ≤ length text)
 

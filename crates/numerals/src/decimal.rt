@@ -108,14 +108,14 @@ impl Decimal {
     }
 
     fn is_negative(&self) -> bool
-        ensures { result ≡ is_negative self.now }
+        ensures exact { result ≡ is_negative self.now }
     {
         self.units < 0
     }
 
     fn of_size(size: u128, negative: bool) -> Decimal
         requires { size < 10 ^ 36 }
-        ensures { result ≡ of_size size negative }
+        ensures exact { result ≡ of_size size negative }
     {
         let units = size as i128;
         Decimal {
@@ -196,7 +196,7 @@ fn print_trimmed(n: u64, count: usize, out: &mut Bytes) -> Result<(), AllocError
 
 // The last digits of `n`, as many as there is room for.
 fn write_digits(room: &mut [u8], n: u64)
-    ensures { room.new ≡ last_digits (length room.old) n }
+    ensures exact { room.new ≡ last_digits (length room.old) n }
 {
     let mut n = n;
     let mut i = room.len();
@@ -211,7 +211,7 @@ fn write_digits(room: &mut [u8], n: u64)
 fn product(a: u128, b: u128) -> Option<u128>
     requires a { a < 10 ^ 36 }
     requires b { b < 10 ^ 36 }
-    ensures { MatchOption result ((r : ℕ) → a * b ≡ r * 10 ^ 18 → 10 ^ 36 ≤ r) (λ r. (a * b ≡ r * 10 ^ 18) × (r < 10 ^ 36)) }
+    ensures exact { MatchOption result ((r : ℕ) → a * b ≡ r * 10 ^ 18 → 10 ^ 36 ≤ r) (λ r. (a * b ≡ r * 10 ^ 18) × (r < 10 ^ 36)) }
 {
     let (a_high, a_low) = (a / ONE, a % ONE);
     let (b_high, b_low) = (b / ONE, b % ONE);

@@ -24,7 +24,7 @@ pub fn numeral_to_grid(text: &str, places: u8) -> Option<i64>
     with_sign(minus, scaled.units + rounding(&scaled, minus))
 }
 
-/// The grid number of the numeral at the front of a text, behind which no byte stands that could go on with it, and how
+/// The grid number of the numeral at the front of a text, after which no byte stands that could go on with it, and how
 /// many bytes it has.
 ///
 /// Shape and units: as for `numeral_to_grid`.
@@ -32,7 +32,7 @@ pub fn numeral_to_grid(text: &str, places: u8) -> Option<i64>
 /// exponent, which has to be read otherwise.
 #[inline(always)]
 pub fn front_to_grid(text: &[u8], places: u8) -> Option<(i64, usize)>
-    ensures { IfSome result (λ r. IsGridFront places text.now r.0 r.1) }
+    ensures found { IfSome result (λ r. IsGridFront places text.now r.0 r.1) }
 {
     let (plain, size) = Plain::front(text)?;
     let number = plain_to_grid(&plain, places)?;
@@ -54,7 +54,7 @@ fn plain_to_grid(plain: &Plain, places: u8) -> Option<i64>
 
 // What rounding adds to the size. Halves go up: away from zero above it, towards zero below it.
 fn rounding(scaled: &Scaled, minus: bool) -> u128
-    ensures { result ≡ one_if (goes_up minus scaled.now) }
+    ensures exact { result ≡ one_if (goes_up minus scaled.now) }
 {
     if scaled.tenths > 5 || scaled.tenths == 5 && (scaled.more || !minus) {
         1
@@ -66,7 +66,7 @@ fn rounding(scaled: &Scaled, minus: bool) -> u128
 // The number of this sign and size, where the grid has it.
 #[inline(always)]
 fn with_sign(minus: bool, size: u128) -> Option<i64>
-    ensures { result ≡ checked_grid (signed minus size) }
+    ensures exact { result ≡ checked_grid (signed minus size) }
 {
     if size > GRID_LIMIT {
         return None;

@@ -42,7 +42,7 @@ impl<'a> Numeral<'a> {
     /// The parts of a text, where it is a numeral.
     #[tactic(auto, unfolding(crate::specs::Numeral::numeral_of))]
     pub(crate) fn read(text: &'a [u8]) -> Option<Numeral<'a>>
-        ensures { MatchOption result (numeral_of text.now ≡ None)
+        ensures exact { MatchOption result (numeral_of text.now ≡ None)
             (λ p. IsRead (numeral_of text.now) p.minus p.whole.now p.fraction.now p.power) }
     {
         match text {
@@ -52,7 +52,7 @@ impl<'a> Numeral<'a> {
     }
 
     fn read_unsigned(minus: bool, text: &'a [u8]) -> Option<Numeral<'a>>
-        ensures { MatchOption result (unsigned_numeral minus text.now ≡ None)
+        ensures exact { MatchOption result (unsigned_numeral minus text.now ≡ None)
             (λ p. IsRead (unsigned_numeral minus text.now) p.minus p.whole.now p.fraction.now p.power) }
     {
         let (whole, rest) = text.split_at(digit_count(text));
@@ -74,7 +74,7 @@ impl<'a> Numeral<'a> {
         requires power { IsPower self.now.power }
         requires whole { AreDigits self.now.whole.now }
         requires fraction { AreDigits self.now.fraction.now }
-        ensures { (e : ℤ) → self.now.power ≡ capped_power e
+        ensures exact { (e : ℤ) → self.now.power ≡ capped_power e
             → IsScaled (number_of (self.now.whole.now ++ self.now.fraction.now)) ((e -ℤ pos (length self.now.fraction.now)) +ℤ pos places) result }
     {
         match shift_of(self.power, self.fraction.len(), places) {
@@ -89,7 +89,7 @@ impl<'a> Numeral<'a> {
 
     // The number of all digits.
     fn digits(&self) -> u128
-        ensures { result ≡ min (number_of (self.now.whole.now ++ self.now.fraction.now)) units_cap }
+        ensures exact { result ≡ min (number_of (self.now.whole.now ++ self.now.fraction.now)) units_cap }
     {
         count_onto(count_onto(0, self.whole), self.fraction)
     }
@@ -98,7 +98,7 @@ impl<'a> Numeral<'a> {
     fn cut(&self, dropped: u128) -> Scaled
         requires whole { AreDigits self.now.whole.now }
         requires fraction { AreDigits self.now.fraction.now }
-        ensures { (k : ℕ) → dropped ≡ suc k → IsCut (number_of (self.now.whole.now ++ self.now.fraction.now)) k result }
+        ensures exact { (k : ℕ) → dropped ≡ suc k → IsCut (number_of (self.now.whole.now ++ self.now.fraction.now)) k result }
     {
         let digits = self.whole.len() as u128 + self.fraction.len() as u128;
         if dropped > digits {
@@ -131,7 +131,7 @@ enum Shift {
 
 fn shift_of(power: i128, fraction: usize, places: u8) -> Shift
     requires { IsPower power }
-    ensures { IsShift ((power -ℤ pos fraction) +ℤ pos places) result }
+    ensures exact { IsShift ((power -ℤ pos fraction) +ℤ pos places) result }
 {
     let shift = power - fraction as i128 + i128::from(places);
     if shift >= 0 {
@@ -145,13 +145,13 @@ fn shift_of(power: i128, fraction: usize, places: u8) -> Shift
 fn cut_at(units: u128, back: &[u8], back_end: &[u8]) -> Scaled
     requires back { AreDigits back.now }
     requires end { AreDigits back_end.now }
-    ensures { (n k : ℕ) → units ≡ min n units_cap → length (back.now ++ back_end.now) ≡ suc k
+    ensures exact { (n k : ℕ) → units ≡ min n units_cap → length (back.now ++ back_end.now) ≡ suc k
         → IsCut (number_onto n (back.now ++ back_end.now)) k result }
 {
     match back {
-        [tenths, rest @ ..] => cut_behind(units, *tenths, rest, back_end),
+        [tenths, rest @ ..] => cut_after(units, *tenths, rest, back_end),
         [] => match back_end {
-            [tenths, rest @ ..] => cut_behind(units, *tenths, rest, &[]),
+            [tenths, rest @ ..] => cut_after(units, *tenths, rest, &[]),
             [] => Scaled {
                 units,
                 tenths: 0,
@@ -162,11 +162,11 @@ fn cut_at(units: u128, back: &[u8], back_end: &[u8]) -> Scaled
 }
 
 // Units, the digit after them, and the digits after that in two pieces.
-fn cut_behind(units: u128, tenths: u8, rest: &[u8], rest_end: &[u8]) -> Scaled
+fn cut_after(units: u128, tenths: u8, rest: &[u8], rest_end: &[u8]) -> Scaled
     requires tenths { IsTrue (is_a_digit tenths) }
     requires rest { AreDigits rest.now }
     requires end { AreDigits rest_end.now }
-    ensures { (n k : ℕ) → units ≡ min n units_cap → length (rest.now ++ rest_end.now) ≡ k
+    ensures exact { (n k : ℕ) → units ≡ min n units_cap → length (rest.now ++ rest_end.now) ≡ k
         → IsCut (number_onto n (tenths ∷ (rest.now ++ rest_end.now))) k result }
 {
     Scaled {
@@ -177,7 +177,7 @@ fn cut_behind(units: u128, tenths: u8, rest: &[u8], rest_end: &[u8]) -> Scaled
 }
 
 pub(crate) fn is_digit(byte: u8) -> bool
-    ensures { result ≡ is_a_digit byte }
+    ensures exact { result ≡ is_a_digit byte }
 {
     byte.is_ascii_digit()
 }
@@ -196,7 +196,7 @@ pub fn digit_count(text: &[u8]) -> usize
 
 /// One digit, or digits that do not begin with zero.
 pub(crate) fn is_whole(digits: &[u8]) -> bool
-    ensures { result ≡ is_whole_part digits.now }
+    ensures exact { result ≡ is_whole_part digits.now }
 {
     match digits {
         [] => false,
@@ -207,38 +207,38 @@ pub(crate) fn is_whole(digits: &[u8]) -> bool
 
 // A point and digits, or nothing; and what comes after.
 fn read_fraction(text: &[u8]) -> Option<(&[u8], &[u8])>
-    ensures { MatchOption result (fraction_part text.now ≡ None) (λ p. fraction_part text.now ≡ Some (p.0.now, p.1.now)) }
+    ensures exact { MatchOption result (fraction_part text.now ≡ None) (λ p. fraction_part text.now ≡ Some (p.0.now, p.1.now)) }
 {
-    let [b'.', behind @ ..] = text else {
+    let [b'.', past @ ..] = text else {
         return Some((&text[..0], text));
     };
-    let n = digit_count(behind);
+    let n = digit_count(past);
     if n == 0 {
         return None;
     }
-    Some(behind.split_at(n))
+    Some(past.split_at(n))
 }
 
 // An exponent up to the end of the text.
 fn read_power(text: &[u8]) -> Option<i128>
-    ensures { MatchOption result (exponent_part text.now ≡ None)
+    ensures exact { MatchOption result (exponent_part text.now ≡ None)
         (λ p. (e : ℤ) × (exponent_part text.now ≡ Some e) × (p ≡ capped_power e)) }
 {
-    let [letter, behind @ ..] = text else {
+    let [letter, past @ ..] = text else {
         return Some(0);
     };
     if *letter != b'e' && *letter != b'E' {
         return None;
     }
-    match behind {
+    match past {
         [b'-', digits @ ..] => signed_power(true, digits),
         [b'+', digits @ ..] => signed_power(false, digits),
-        _ => signed_power(false, behind),
+        _ => signed_power(false, past),
     }
 }
 
 fn signed_power(minus: bool, digits: &[u8]) -> Option<i128>
-    ensures { MatchOption result (exponent_digits minus digits.now ≡ None)
+    ensures exact { MatchOption result (exponent_digits minus digits.now ≡ None)
         (λ p. (e : ℤ) × (exponent_digits minus digits.now ≡ Some e) × (p ≡ capped_power e)) }
 {
     if digits.is_empty() || digit_count(digits) < digits.len() {
@@ -249,14 +249,14 @@ fn signed_power(minus: bool, digits: &[u8]) -> Option<i128>
 
 pub(crate) fn with_sign(minus: bool, size: u128) -> i128
     requires { size ≤ units_cap }
-    ensures { result ≡ signed minus size }
+    ensures exact { result ≡ signed minus size }
 {
     let size = size as i128;
     if minus { -size } else { size }
 }
 
 fn power_of(digits: &[u8]) -> u128
-    ensures { result ≡ min (number_of digits.now) power_cap }
+    ensures exact { result ≡ min (number_of digits.now) power_cap }
 {
     let mut n: u128 = 0;
     for digit in digits {
@@ -268,7 +268,7 @@ fn power_of(digits: &[u8]) -> u128
 // The number of these digits after those that `n` counts.
 fn count_onto(n: u128, digits: &[u8]) -> u128
     requires { n ≤ units_cap }
-    ensures { result ≡ min (number_onto n digits.now) units_cap }
+    ensures exact { result ≡ min (number_onto n digits.now) units_cap }
 {
     let mut n = n;
     for digit in digits {
@@ -280,13 +280,13 @@ fn count_onto(n: u128, digits: &[u8]) -> u128
 fn are_zeros(digits: &[u8], digits_end: &[u8]) -> bool
     requires digits { AreDigits digits.now }
     requires end { AreDigits digits_end.now }
-    ensures { result ≡ (number_of (digits.now ++ digits_end.now) == 0) }
+    ensures exact { result ≡ (number_of (digits.now ++ digits_end.now) == 0) }
 {
     holds_zeros(digits) && holds_zeros(digits_end)
 }
 
 fn holds_zeros(digits: &[u8]) -> bool
-    ensures { result ≡ list_all (λ b. b == 48) digits.now }
+    ensures exact { result ≡ list_all (λ b. b == 48) digits.now }
 {
     digits.iter().all(|digit| *digit == b'0')
 }
@@ -294,7 +294,7 @@ fn holds_zeros(digits: &[u8]) -> bool
 /// n * 10^power, counted no further than 10^37.
 pub(crate) fn raised(n: u128, power: u128) -> u128
     requires { n ≤ units_cap }
-    ensures { result ≡ min (n * 10 ^ power) units_cap }
+    ensures exact { result ≡ min (n * 10 ^ power) units_cap }
 {
     let mut n = n;
     for _ in 0..power.min(37) {

@@ -28,7 +28,7 @@ pub(crate) struct Plain {
 impl Plain {
     /// The numeral that a text is, where it is such a numeral.
     pub(crate) fn read(text: &[u8]) -> Option<Plain>
-        ensures { IfSome result (λ p. IsPlain (numeral_of text.now) p) }
+        ensures found { IfSome result (λ p. IsPlain (numeral_of text.now) p) }
     {
         let (plain, size) = Plain::front(text)?;
         if size < text.len() {
@@ -37,12 +37,12 @@ impl Plain {
         Some(plain)
     }
 
-    /// The numeral of this kind at the front of a text, behind which no byte stands that could go on with it, and how
+    /// The numeral of this kind at the front of a text, after which no byte stands that could go on with it, and how
     /// many bytes it has.
     pub(crate) fn front(text: &[u8]) -> Option<(Plain, usize)>
-        ensures { IfSome result (λ r. IsPlainFront text.now r.0 r.1) }
+        ensures found { IfSome result (λ r. IsPlainFront text.now r.0 r.1) }
     {
-        match behind_byte(text, b'-') {
+        match after_byte(text, b'-') {
             Some(unsigned) => {
                 let (plain, size) = Plain::unsigned_front(true, unsigned)?;
                 Some((plain, size + 1))
@@ -53,7 +53,7 @@ impl Plain {
 
     #[inline(always)]
     fn unsigned_front(minus: bool, text: &[u8]) -> Option<(Plain, usize)>
-        ensures { IfSome result (λ r. IsUnsignedFront minus text.now r.0 r.1) }
+        ensures found { IfSome result (λ r. IsUnsignedFront minus text.now r.0 r.1) }
     {
         let (window, beyond) = text.split_at(text.len().min(MOST_DIGITS));
         let (plain, size) = Plain::short_front(minus, window)?;
@@ -67,7 +67,7 @@ impl Plain {
     #[inline(always)]
     fn short_front(minus: bool, text: &[u8]) -> Option<(Plain, usize)>
         requires { length text.now ≤ 19 }
-        ensures { IfSome result (λ r. IsUnsignedFront minus text.now r.0 r.1) }
+        ensures found { IfSome result (λ r. IsUnsignedFront minus text.now r.0 r.1) }
     {
         let (front, count) = front_number(0, 0, text);
         let (whole, rest) = text.split_at(count);
@@ -94,7 +94,7 @@ impl Plain {
     /// Its size in units of 10^-`places`.
     pub(crate) fn scaled(&self, places: u8) -> Scaled
         requires { self.now.fraction ≤ 18 }
-        ensures { IsScaled self.now.number ((pos 0 -ℤ pos self.now.fraction) +ℤ pos places) result }
+        ensures exact { IsScaled self.now.number ((pos 0 -ℤ pos self.now.fraction) +ℤ pos places) result }
     {
         let places = usize::from(places);
         if self.fraction > places {
@@ -110,7 +110,7 @@ impl Plain {
     /// The same where it is a whole number, but that no more than eighteen zeros are added.
     pub(crate) fn raised(&self, places: u8) -> u128
         requires { self.now.fraction ≤ places }
-        ensures { result ≡ self.now.number * 10 ^ min (places - self.now.fraction) 18 }
+        ensures exact { result ≡ self.now.number * 10 ^ min (places - self.now.fraction) 18 }
     {
         let zeros = usize::from(places) - self.fraction;
         times(self.number, ten_to(zeros.min(MOST_ZEROS)))
@@ -136,19 +136,19 @@ fn front_number(n: u64, before: usize, text: &[u8]) -> (u64, usize)
     (number, count)
 }
 
-// The same of a point and digits, or of nothing, behind which no byte stands that could go on with a number; and how
+// The same of a point and digits, or of nothing, after which no byte stands that could go on with a number; and how
 // many bytes these are.
 #[inline(always)]
 fn front_fraction(n: u64, before: usize, text: &[u8]) -> Option<(u64, usize, usize)>
     requires small { n < 10 ^ before }
     requires few { before + length text.now ≤ 19 }
-    ensures { IfSome result (λ r. FrontFraction n text.now r.0 r.1 r.2) }
+    ensures found { IfSome result (λ r. FrontFraction n text.now r.0 r.1 r.2) }
 {
-    let Some(behind) = behind_byte(text, b'.') else {
+    let Some(past) = after_byte(text, b'.') else {
         return whole_front(n, text);
     };
-    let (number, count) = front_number(n, before, behind);
-    let (_, rest) = behind.split_at(count);
+    let (number, count) = front_number(n, before, past);
+    let (_, rest) = past.split_at(count);
     if count == 0 || goes_on(rest) {
         return None;
     }
@@ -156,7 +156,7 @@ fn front_fraction(n: u64, before: usize, text: &[u8]) -> Option<(u64, usize, usi
 }
 
 fn whole_front(n: u64, text: &[u8]) -> Option<(u64, usize, usize)>
-    ensures { IfSome result (λ r. FrontFraction n text.now r.0 r.1 r.2) }
+    ensures found { IfSome result (λ r. FrontFraction n text.now r.0 r.1 r.2) }
 {
     if goes_on(text) {
         return None;
@@ -164,20 +164,20 @@ fn whole_front(n: u64, text: &[u8]) -> Option<(u64, usize, usize)>
     Some((n, 0, 0))
 }
 
-// What is behind the byte `b`, where it is the next one.
-fn behind_byte(text: &[u8], b: u8) -> Option<&[u8]>
-    ensures some { IfSome result (λ behind. text.now ≡ b ∷ behind.now) }
+// What is after the byte `b`, where it is the next one.
+fn after_byte(text: &[u8], b: u8) -> Option<&[u8]>
+    ensures some { IfSome result (λ past. text.now ≡ b ∷ past.now) }
     ensures none { IfNone result (NextIsNot b text.now) }
 {
     match text {
-        [next, behind @ ..] if *next == b => Some(behind),
+        [next, past @ ..] if *next == b => Some(past),
         _ => None,
     }
 }
 
 // Whether the next byte may stand in a number.
 fn goes_on(text: &[u8]) -> bool
-    ensures { result ≡ false → NextFails is_numeric text.now }
+    ensures no { result ≡ false → NextFails is_numeric text.now }
 {
     match text {
         [] => false,
@@ -187,13 +187,13 @@ fn goes_on(text: &[u8]) -> bool
 
 // Whether what is read up to the end of the window may go on beyond it.
 fn is_cut(size: usize, window: &[u8], beyond: &[u8]) -> bool
-    ensures { result ≡ false → size ≡ length window.now → NextFails is_numeric beyond.now }
+    ensures no { result ≡ false → size ≡ length window.now → NextFails is_numeric beyond.now }
 {
     size == window.len() && goes_on(beyond)
 }
 
 fn is_in_number(byte: u8) -> bool
-    ensures { result ≡ is_numeric byte }
+    ensures exact { result ≡ is_numeric byte }
 {
     is_digit(byte) || byte == b'e' || byte == b'E' || byte == b'.'
 }
@@ -202,7 +202,7 @@ fn is_in_number(byte: u8) -> bool
 fn cut_number(n: u64, dropped: usize) -> Scaled
     requires some { 0 < dropped }
     requires few { dropped ≤ 18 }
-    ensures { (k : ℕ) → dropped ≡ suc k → IsCut n k result }
+    ensures exact { (k : ℕ) → dropped ≡ suc k → IsCut n k result }
 {
     let tenth = ten_to(dropped - 1);
     let unit = tenth * 10;
@@ -215,7 +215,7 @@ fn cut_number(n: u64, dropped: usize) -> Scaled
 
 // n * 10^power, counted no further than 10^37.
 fn raised_word(n: u64, power: usize) -> u128
-    ensures { result ≡ min (n * 10 ^ power) units_cap }
+    ensures exact { result ≡ min (n * 10 ^ power) units_cap }
 {
     if power > GREATEST_FRACTION {
         return raised(u128::from(n), power as u128);
@@ -224,7 +224,7 @@ fn raised_word(n: u64, power: usize) -> u128
 }
 
 fn times(a: u64, b: u64) -> u128
-    ensures { result ≡ a * b }
+    ensures exact { result ≡ a * b }
 {
     u128::from(a) * u128::from(b)
 }

@@ -24,7 +24,7 @@ pub fn whole_units(text: &str, places: u8) -> Option<i128>
 
 /// Whether a numeral has a minus, and its size in units of 10^-`places`.
 pub(crate) fn size_of(text: &[u8], places: u8) -> Option<(bool, Scaled)>
-    ensures { MatchOption result (numeral_of text.now ≡ None) (λ r. IsSize places (numeral_of text.now) r.0 r.1) }
+    ensures exact { MatchOption result (numeral_of text.now ≡ None) (λ r. IsSize places (numeral_of text.now) r.0 r.1) }
 {
     match Plain::read(text) {
         Some(plain) => Some((plain.minus, plain.scaled(places))),
@@ -34,7 +34,7 @@ pub(crate) fn size_of(text: &[u8], places: u8) -> Option<(bool, Scaled)>
 
 // The same, by the digits of a numeral of any length.
 fn any_size_of(text: &[u8], places: u8) -> Option<(bool, Scaled)>
-    ensures { MatchOption result (numeral_of text.now ≡ None) (λ r. IsSize places (numeral_of text.now) r.0 r.1) }
+    ensures exact { MatchOption result (numeral_of text.now ≡ None) (λ r. IsSize places (numeral_of text.now) r.0 r.1) }
 {
     let numeral = Numeral::read(text)?;
     Some((numeral.minus, numeral.scaled(places)))

@@ -103,13 +103,13 @@ module _ (S : List Segment) where
     round_from p [] g e = tt
     round_from p (q ∷ rest) g e = goes_further q rest q g.1 (subst (λ (r : GridPoint). IsAlong S (from_to r q)) (sym e) g.0)
 
-    last_behind : (p : GridPoint) (path : Path) (q : GridPoint) → last_of p (path ++ q ∷ []) ≡ q
-    last_behind p [] q = refl
-    last_behind p (r ∷ path) q = last_behind r path q
+    last_after : (p : GridPoint) (path : Path) (q : GridPoint) → last_of p (path ++ q ∷ []) ≡ q
+    last_after p [] q = refl
+    last_after p (r ∷ path) q = last_after r path q
 
     turned_once : (p : GridPoint) (rest : Path) → GoesRound (p ∷ rest) → GoesRound (rest ++ p ∷ [])
     turned_once p [] g = g
-    turned_once p (q ∷ rest) g = goes_further q (rest ++ p ∷ []) q g.1 (subst (λ (r : GridPoint). IsAlong S (from_to r q)) (sym (last_behind q rest p)) g.0)
+    turned_once p (q ∷ rest) g = goes_further q (rest ++ p ∷ []) q g.1 (subst (λ (r : GridPoint). IsAlong S (from_to r q)) (sym (last_after q rest p)) g.0)
 
     turned_round : (n : ℕ) (path : Path) → GoesRound path → GoesRound (turned n path)
     turned_round n [] g = tt
@@ -166,8 +166,8 @@ module _ (S : List Segment) where
         back : Path
         back = way_on node S (length S) s.stop s.stop s.start
 
-        behind : Goes (reverse (tail back) ++ s.start ∷ [])
-        behind =
+        after : Goes (reverse (tail back) ++ s.start ∷ [])
+        after =
             let all : Goes (s.stop ∷ back) = run_goes (reversed s) (along_back s a) in
             let rest : Goes (s.start ∷ tail back) = subst Goes (way_begins (length S) s.stop s.stop s.start) (goes_on s.stop back all) in
             subst Goes (reverse-append (s.start ∷ []) (tail back)) (goes_back (s.start ∷ tail back) rest)
@@ -179,7 +179,7 @@ module _ (S : List Segment) where
         go : (b : Bool) → (same_point (last_of s.start on) s.start && not (node s.start)) ≡ b → Goes (if b then forward_way (begun_at_least (s.start ∷ on)) else forward_way (reverse (tail back) ++ s.start ∷ on))
         go true e = goes_forward (begun_at_least (s.start ∷ on))
             (least_goes s.start on (run_goes s a) (same_point_from (last_of s.start on) s.start (closed (same_point (last_of s.start on) s.start) (not (node s.start)) e)))
-        go false e = goes_forward (reverse (tail back) ++ s.start ∷ on) (goes_through (reverse (tail back)) s.start on behind (run_goes s a))
+        go false e = goes_forward (reverse (tail back) ++ s.start ∷ on) (goes_through (reverse (tail back)) s.start on after (run_goes s a))
 
 -- where the steps of the paths go along links, so do those of the arcs
 pub arcs_go : (s : Drawing) (S : List Segment) → Every (IsAlong S) (steps_of_paths (paths_of s)) → Every (Goes S) (arcs_of s S)

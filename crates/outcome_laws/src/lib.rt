@@ -28,42 +28,42 @@ ghost use Rattle.outcome_laws.specs.Laws.{BegunRingsAreClosed, CellRingsAreClose
 /// Two readings of texts are one: a JSON text has one value, and other bytes one first fault; bytes stop at one place
 /// to begin a UTF-8 text; and a text has one fault as an expression or as assignments.
 pub fn readings_are_one()
-    ensures { ReadingsAreOne }
+    ensures holds { ReadingsAreOne }
 {}
 
 /// What has begun has the same outputs and the same end, whatever right answers its plane gives.
 pub fn one_run_of_right_answers()
-    ensures { OneRunOfRightAnswers }
+    ensures holds { OneRunOfRightAnswers }
 {}
 
 /// The same words, files and standard input tell one outcome, whatever reading of texts, trees and right answers are
 /// taken.
 pub fn outcome_is_one()
-    ensures { OutcomeIsOne }
+    ensures holds { OutcomeIsOne }
 {}
 
 /// And they tell effects of the same commands, to the same files or to the standard stream, in the same order.
 pub fn effects_go_alike()
-    ensures { EffectsGoAlike }
+    ensures holds { EffectsGoAlike }
 {}
 
 /// Whatever the words, the files and standard input are, they tell an outcome and effects.
 pub fn each_run_tells()
-    ensures { EachRunTells }
+    ensures holds { EachRunTells }
 {}
 
 /// What commands begin over is the plane of a drawing whose rings are closed.
 pub fn begun_rings_are_closed()
-    ensures { BegunRingsAreClosed }
+    ensures holds { BegunRingsAreClosed }
 {}
 
 /// The rings of the cells of a made-up mosaic are closed.
 pub fn cell_rings_are_closed()
-    ensures { CellRingsAreClosed }
+    ensures holds { CellRingsAreClosed }
 {}
 
 /// The links of the plane of a run meet at their ends alone. Each step of its arcs is along one of them, and whatever
 /// pictures show the layers of an output, so is each step of their rings and lines.
 pub fn printed_steps_are_links()
-    ensures { PrintedStepsAreLinks }
+    ensures holds { PrintedStepsAreLinks }
 {}

@@ -18,8 +18,8 @@ use Rattle.ring_trace.proofs.WayLemmas.{way_cut, way_push}
 record Found (test : SignedArc → Bool) (xs : List SignedArc) : Type 0 where
   before : List SignedArc
   one : SignedArc
-  behind : List SignedArc
-  are : xs ≡ before ++ one ∷ behind
+  past : List SignedArc
+  are : xs ≡ before ++ one ∷ past
   passes : test one ≡ true
 
 found : (test : SignedArc → Bool) (xs : List SignedArc) → 0 < sum_by (λ (a : SignedArc). once_if (test a)) xs → Found test xs
@@ -27,12 +27,12 @@ found test [] some = absurd (omega arith)
 found test (x ∷ xs) some = go (test x) refl (found test xs)
   where
     go : (b : Bool) → test x ≡ b → (0 < sum_by (λ (a : SignedArc). once_if (test a)) xs → Found test xs) → Found test (x ∷ xs)
-    go true e more = record { before = []; one = x; behind = xs; are = refl; passes = e }
+    go true e more = record { before = []; one = x; past = xs; are = refl; passes = e }
     go false e more =
         let m = sum_by-cons (λ (a : SignedArc). once_if (test a)) x xs in
         let none : once_if (test x) ≡ 0 = ap once_if e in
         let h = more (omega arith) in
-        record { before = x ∷ h.before; one = h.one; behind = h.behind; are = ap (λ (ys : List SignedArc). x ∷ ys) h.are; passes = h.passes }
+        record { before = x ∷ h.before; one = h.one; past = h.past; are = ap (λ (ys : List SignedArc). x ∷ ys) h.are; passes = h.passes }
 
 pub over : (a : SignedArc) (xs ys : List SignedArc) → times a (xs ++ ys) ≡ times a xs + times a ys
 over a xs ys = sum_by-append (λ (y : SignedArc). cond (same_arc a y) 1 0) xs ys
@@ -106,8 +106,8 @@ module _ (start stop : SignedArc → GridPoint) where
     closed passed =
         let f = found (λ (a : SignedArc). same_point w (start a)) (from ∷ later) passed in
         let here : start f.one ≡ w = sym (same_point_from w (start f.one) f.passes) in
-        let cut = way_cut start stop (start from) w f.before f.one f.behind (subst (λ (way : List SignedArc). IsWay start stop (start from) way w) f.are h.leads) here in
-        let ring : List SignedArc = f.one ∷ f.behind in
+        let cut = way_cut start stop (start from) w f.before f.one f.past (subst (λ (way : List SignedArc). IsWay start stop (start from) way w) f.are h.leads) here in
+        let ring : List SignedArc = f.one ∷ f.past in
         let starts_are : (x : GridPoint) → starts x (from ∷ later) ≡ starts x f.before + starts x ring = (λ x. ap (starts x) f.are ∙ starts_over x f.before ring) in
         let stops_are : (x : GridPoint) → stops x (from ∷ later) ≡ stops x f.before + stops x ring = (λ x. ap (stops x) f.are ∙ stops_over x f.before ring) in
         let times_are : (a : SignedArc) → times a (from ∷ later) ≡ times a f.before + times a ring = (λ a. ap (times a) f.are ∙ over a f.before ring) in
@@ -140,32 +140,32 @@ module _ (start stop : SignedArc → GridPoint) where
         let e = h.even w in
         omega arith
 
-    longer : starts w (from ∷ later) ≡ 0 → (f : Found (λ (a : SignedArc). same_point w (start a)) left) → IsWalk arcs from (later ++ f.one ∷ []) (f.before ++ f.behind) (stop f.one)
+    longer : starts w (from ∷ later) ≡ 0 → (f : Found (λ (a : SignedArc). same_point w (start a)) left) → IsWalk arcs from (later ++ f.one ∷ []) (f.before ++ f.past) (stop f.one)
     longer none f =
         let here : start f.one ≡ w = sym (same_point_from w (start f.one) f.passes) in
         let one : List SignedArc = f.one ∷ [] in
         let way_starts : (x : GridPoint) → starts x (from ∷ (later ++ one)) ≡ starts x (from ∷ later) + starts x one = (λ x. starts_over x (from ∷ later) one) in
         let way_stops : (x : GridPoint) → stops x (from ∷ (later ++ one)) ≡ stops x (from ∷ later) + stops x one = (λ x. stops_over x (from ∷ later) one) in
         let way_times : (a : SignedArc) → times a (from ∷ (later ++ one)) ≡ times a (from ∷ later) + times a one = (λ a. over a (from ∷ later) one) in
-        let left_starts : (x : GridPoint) → starts x left ≡ starts x f.before + (starts x one + starts x f.behind) = (λ x. ap (starts x) f.are ∙ starts_over x f.before (f.one ∷ f.behind) ∙ ap (λ (n : ℕ). starts x f.before + n) (starts_over x one f.behind)) in
-        let left_stops : (x : GridPoint) → stops x left ≡ stops x f.before + (stops x one + stops x f.behind) = (λ x. ap (stops x) f.are ∙ stops_over x f.before (f.one ∷ f.behind) ∙ ap (λ (n : ℕ). stops x f.before + n) (stops_over x one f.behind)) in
-        let left_times : (a : SignedArc) → times a left ≡ times a f.before + (times a one + times a f.behind) = (λ a. ap (times a) f.are ∙ over a f.before (f.one ∷ f.behind) ∙ ap (λ (n : ℕ). times a f.before + n) (over a one f.behind)) in
-        let left_long : length left ≡ length f.before + length (f.one ∷ f.behind) = ap (λ (ys : List SignedArc). length ys) f.are ∙ length-append f.before (f.one ∷ f.behind) in
+        let left_starts : (x : GridPoint) → starts x left ≡ starts x f.before + (starts x one + starts x f.past) = (λ x. ap (starts x) f.are ∙ starts_over x f.before (f.one ∷ f.past) ∙ ap (λ (n : ℕ). starts x f.before + n) (starts_over x one f.past)) in
+        let left_stops : (x : GridPoint) → stops x left ≡ stops x f.before + (stops x one + stops x f.past) = (λ x. ap (stops x) f.are ∙ stops_over x f.before (f.one ∷ f.past) ∙ ap (λ (n : ℕ). stops x f.before + n) (stops_over x one f.past)) in
+        let left_times : (a : SignedArc) → times a left ≡ times a f.before + (times a one + times a f.past) = (λ a. ap (times a) f.are ∙ over a f.before (f.one ∷ f.past) ∙ ap (λ (n : ℕ). times a f.before + n) (over a one f.past)) in
+        let left_long : length left ≡ length f.before + length (f.one ∷ f.past) = ap (λ (ys : List SignedArc). length ys) f.are ∙ length-append f.before (f.one ∷ f.past) in
         let way_long = length-append later one in
-        let both = length-append f.before f.behind in
+        let both = length-append f.before f.past in
         let size = h.size in
         record {
           leads = way_push start stop (start from) (from ∷ later) f.one (subst (λ (z : GridPoint). IsWay start stop (start from) (from ∷ later) z) (sym here) h.leads);
           once = λ x. at_most x (same_point x w) refl here (way_starts x) (h.once x);
-          same = λ a. let s = h.same a in let t = way_times a in let u = left_times a in let v = over a f.before f.behind in omega arith;
+          same = λ a. let s = h.same a in let t = way_times a in let u = left_times a in let v = over a f.before f.past in omega arith;
           even = λ x.
               let e = h.even x in
               let s = way_starts x in
               let t = way_stops x in
               let u = left_starts x in
               let v = left_stops x in
-              let y = starts_over x f.before f.behind in
-              let z = stops_over x f.before f.behind in
+              let y = starts_over x f.before f.past in
+              let z = stops_over x f.before f.past in
               omega arith;
           size = omega arith;
         }
@@ -186,11 +186,11 @@ module _ (start stop : SignedArc → GridPoint) where
 
   -- one arc more, where the way does not come back
   stepped : (arcs : List SignedArc) (from : SignedArc) (later left : List SignedArc) (w : GridPoint) → IsWalk arcs from later left w → starts w (from ∷ later) ≡ 0 →
-      (f : Found (λ (a : SignedArc). same_point w (start a)) left) × IsWalk arcs from (later ++ f.one ∷ []) (f.before ++ f.behind) (stop f.one) × (length left ≡ suc (length (f.before ++ f.behind)))
+      (f : Found (λ (a : SignedArc). same_point w (start a)) left) × IsWalk arcs from (later ++ f.one ∷ []) (f.before ++ f.past) (stop f.one) × (length left ≡ suc (length (f.before ++ f.past)))
   stepped arcs from later left w h none =
       let f = found (λ (a : SignedArc). same_point w (start a)) left (goes_on arcs from later left w h none) in
-      let long : length left ≡ length f.before + length (f.one ∷ f.behind) = ap (λ (ys : List SignedArc). length ys) f.are ∙ length-append f.before (f.one ∷ f.behind) in
-      let both = length-append f.before f.behind in
+      let long : length left ≡ length f.before + length (f.one ∷ f.past) = ap (λ (ys : List SignedArc). length ys) f.are ∙ length-append f.before (f.one ∷ f.past) in
+      let both = length-append f.before f.past in
       (f, longer arcs from later left w h none f, omega arith)
 
   walked : (n : ℕ) (arcs : List SignedArc) (from : SignedArc) (later left : List SignedArc) (w : GridPoint) → length left ≤ n → IsWalk arcs from later left w → Ringed arcs
@@ -200,7 +200,7 @@ module _ (start stop : SignedArc → GridPoint) where
   ]
   walked (suc n) arcs from later left w few h = elim (cases_lt 0 (starts w (from ∷ later))) [
     | inl passed ↦ closed arcs from later left w h passed
-    | inr none ↦ (let (f, k, long) = stepped arcs from later left w h (omega arith) in walked n arcs from (later ++ f.one ∷ []) (f.before ++ f.behind) (stop f.one) (omega arith) k)
+    | inr none ↦ (let (f, k, long) = stepped arcs from later left w h (omega arith) in walked n arcs from (later ++ f.one ∷ []) (f.before ++ f.past) (stop f.one) (omega arith) k)
   ]
 
   one_ring : (a : SignedArc) (arcs : List SignedArc) → AreEven (a ∷ arcs) → Ringed (a ∷ arcs)

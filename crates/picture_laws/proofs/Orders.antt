@@ -19,26 +19,26 @@ use Rattle.picture_laws.proofs.Cycles.{AreEven, rings_exist, over}
 record LeastAt (ring : List SignedArc) : Type 0 where
   before : List SignedArc
   one : SignedArc
-  behind : List SignedArc
-  are : ring ≡ before ++ one ∷ behind
+  past : List SignedArc
+  are : ring ≡ before ++ one ∷ past
   least : All (λ b. one.arc ≤ b.arc) ring
 
 least_at : (a : SignedArc) (ring : List SignedArc) → LeastAt (a ∷ ring)
-least_at a [] = record { before = []; one = a; behind = []; are = refl; least = All-cons (λ b. a.arc ≤ b.arc) a [] (omega arith) (All-nil (λ b. a.arc ≤ b.arc)) }
+least_at a [] = record { before = []; one = a; past = []; are = refl; least = All-cons (λ b. a.arc ≤ b.arc) a [] (omega arith) (All-nil (λ b. a.arc ≤ b.arc)) }
 least_at a (b ∷ ring) =
     let h = least_at b ring in
     elim (cases_lt h.one.arc a.arc) [
       | inl less ↦ record {
         before = a ∷ h.before;
         one = h.one;
-        behind = h.behind;
+        past = h.past;
         are = ap (λ (along : List SignedArc). a ∷ along) h.are;
         least = All-cons (λ c. h.one.arc ≤ c.arc) a (b ∷ ring) (omega arith) h.least;
       }
       | inr more ↦ record {
         before = [];
         one = a;
-        behind = b ∷ ring;
+        past = b ∷ ring;
         are = refl;
         least = All-cons (λ c. a.arc ≤ c.arc) a (b ∷ ring) (omega arith) (All-weaker (λ c. h.one.arc ≤ c.arc) (λ c. a.arc ≤ c.arc) (λ c l. omega arith) (b ∷ ring) h.least);
       }
@@ -62,15 +62,15 @@ module _ (start stop : SignedArc → GridPoint) where
   begun [] some simple = absurd (omega arith)
   begun (b ∷ ring) some simple =
       let l = least_at b ring in
-      let (low_before, low_rest) = all_split (λ c. l.one.arc ≤ c.arc) l.before (l.one ∷ l.behind) (subst (All (λ c. l.one.arc ≤ c.arc)) l.are l.least) in
+      let (low_before, low_rest) = all_split (λ c. l.one.arc ≤ c.arc) l.before (l.one ∷ l.past) (subst (All (λ c. l.one.arc ≤ c.arc)) l.are l.least) in
       record {
-        turned = l.one ∷ (l.behind ++ l.before);
-        simple = turned_ring start stop l.before (l.one ∷ l.behind) (subst (IsSimpleRing start stop) l.are simple);
-        least = All-append (λ c. l.one.arc ≤ c.arc) l.behind l.before (All-tail (λ c. l.one.arc ≤ c.arc) l.one l.behind low_rest) low_before;
+        turned = l.one ∷ (l.past ++ l.before);
+        simple = turned_ring start stop l.before (l.one ∷ l.past) (subst (IsSimpleRing start stop) l.are simple);
+        least = All-append (λ c. l.one.arc ≤ c.arc) l.past l.before (All-tail (λ c. l.one.arc ≤ c.arc) l.one l.past low_rest) low_before;
         same = λ a.
-            let s = over a (l.one ∷ l.behind) l.before in
-            let t = over a l.before (l.one ∷ l.behind) in
-            let u : times a (b ∷ ring) ≡ times a (l.before ++ l.one ∷ l.behind) = ap (times a) l.are in
+            let s = over a (l.one ∷ l.past) l.before in
+            let t = over a l.before (l.one ∷ l.past) in
+            let u : times a (b ∷ ring) ≡ times a (l.before ++ l.one ∷ l.past) = ap (times a) l.are in
             omega arith;
       }
 

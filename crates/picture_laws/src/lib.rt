@@ -21,45 +21,45 @@ ghost use Rattle.picture_laws.specs.Planes.{ViewsAreModelled};
 
 /// Arcs that follow each other are drawn as the path that they are when they are joined.
 pub fn paths_are_joined()
-    ensures { PathsAreJoined }
+    ensures holds { PathsAreJoined }
 {}
 
 /// A set of faces is drawn as polygons that fit the region that it shows, or as nothing where the region is empty.
 pub fn regions_are_drawn()
-    ensures { RegionsAreDrawn }
+    ensures holds { RegionsAreDrawn }
 {}
 
 /// Any shape is drawn as the one that it shows.
 pub fn shapes_are_drawn()
-    ensures { ShapesAreDrawn }
+    ensures holds { ShapesAreDrawn }
 {}
 
 /// Drawn as points, a shape names the arcs that it is traced as.
 pub fn drawn_shapes_name_arcs()
-    ensures { DrawnShapesNameArcs }
+    ensures holds { DrawnShapesNameArcs }
 {}
 
 /// The picture of a layer shows the state's layer.
 pub fn pictures_show()
-    ensures { PicturesShow }
+    ensures holds { PicturesShow }
 {}
 
 /// A layer in arcs is that of a picture, which shows the state's layer.
 pub fn traced_layers_show()
-    ensures { TracedLayersShow }
+    ensures holds { TracedLayersShow }
 {}
 
 /// Each region of a view has polygons that fit it.
 pub fn each_region_is_pictured()
-    ensures { EachRegionIsPictured }
+    ensures holds { EachRegionIsPictured }
 {}
 
 /// Each layer of a state has a picture.
 pub fn each_layer_is_pictured()
-    ensures { EachLayerIsPictured }
+    ensures holds { EachLayerIsPictured }
 {}
 
 /// The plane of a view of a drawing that is laid out is that of the model, with right answers.
 pub fn views_are_modelled()
-    ensures { ViewsAreModelled }
+    ensures holds { ViewsAreModelled }
 {}

@@ -14,16 +14,16 @@ ghost use Rattle.place_laws.specs.Matched.{MatchesAreInside, PointsAreMatched, S
 /// A set is matched with a list of vertices exactly if some of them are inside its region: some point of the region
 /// sees them.
 pub fn matches_are_inside()
-    ensures { MatchesAreInside }
+    ensures holds { MatchesAreInside }
 {}
 
 /// The sets that `match_points` answers for a list of vertices are those of the regions that some of them are inside
 /// of.
 pub fn points_are_matched()
-    ensures { PointsAreMatched }
+    ensures holds { PointsAreMatched }
 {}
 
 /// The lists of vertices that `match_sets` answers for a set are those of which some are inside its region.
 pub fn sets_are_matched()
-    ensures { SetsAreMatched }
+    ensures holds { SetsAreMatched }
 {}

@@ -37,36 +37,36 @@ ghost use Rattle.plane_model.specs.Counted.{
 
 /// The links of closed runs are an even list: every grid point is an end of an even number of them.
 pub fn closed_runs_are_even()
-    ensures { (runs : List Path) → All IsClosed runs → IsEven (links_of_paths runs) }
+    ensures holds { (runs : List Path) → All IsClosed runs → IsEven (links_of_paths runs) }
 {}
 
 /// Where no link meets the segment between two points, an even list has the same parity below both.
 pub fn parity_along_a_free_segment()
-    ensures { (S L : List Segment) → IsArrangement S → All (Contains S) L → IsEven L →
+    ensures holds { (S L : List Segment) → IsArrangement S → All (Contains S) L → IsEven L →
         (u v : RationalPoint) → IsFree S u v → odd L u ≡ odd L v }
 {}
 
 /// A point that sees a link from its left has the parity of the link's left side.
 pub fn parity_in_sight_from_left()
-    ensures { (S L : List Segment) → IsArrangement S → All (Contains S) L → IsEven L → (l : Segment) → Contains S l →
+    ensures holds { (S L : List Segment) → IsArrangement S → All (Contains S) L → IsEven L → (l : Segment) → Contains S l →
         (z : RationalPoint) → SeesLeft S l z → odd L z ≡ odd_left L l }
 {}
 
 /// A point that sees a link from its right has the parity of the link's right side.
 pub fn parity_in_sight_from_right()
-    ensures { (S L : List Segment) → IsArrangement S → All (Contains S) L → IsEven L → (l : Segment) → Contains S l →
+    ensures holds { (S L : List Segment) → IsArrangement S → All (Contains S) L → IsEven L → (l : Segment) → Contains S l →
         (z : RationalPoint) → SeesRight S l z → odd L z ≡ odd_right L l }
 {}
 
 /// All points strictly inside a link have the same parity strictly below them.
 pub fn parity_below_along_a_link()
-    ensures { (S L : List Segment) → IsArrangement S → All (Contains S) L → IsEven L → (l : Segment) → Contains S l →
+    ensures holds { (S L : List Segment) → IsArrangement S → All (Contains S) L → IsEven L → (l : Segment) → Contains S l →
         (m n : RationalPoint) → IsInsideLink l m → IsInsideLink l n → odd L m ≡ odd L n }
 {}
 
 /// All points strictly inside a link have the same parity at or below them.
 pub fn parity_at_or_below_along_a_link()
-    ensures { (S L : List Segment) → IsArrangement S → All (Contains S) L → IsEven L → (l : Segment) → Contains S l →
+    ensures holds { (S L : List Segment) → IsArrangement S → All (Contains S) L → IsEven L → (l : Segment) → Contains S l →
         (m n : RationalPoint) → IsInsideLink l m → IsInsideLink l n →
         odd_count (is_at_or_below m) L ≡ odd_count (is_at_or_below n) L }
 {}
@@ -74,62 +74,62 @@ pub fn parity_at_or_below_along_a_link()
 /// Just right of each abscissa that a link goes over, from its left end on, what runs below the link has the parity of
 /// its right side.
 pub fn parity_under_a_link()
-    ensures { (S L : List Segment) → IsArrangement S → All (Contains S) L → IsEven L → (l : Segment) → Contains S l →
+    ensures holds { (S L : List Segment) → IsArrangement S → All (Contains S) L → IsEven L → (l : Segment) → Contains S l →
         (z : RationalPoint) → is_over z l ≡ true → odd_right L l ≡ odd_count (is_under z l) L }
 {}
 
 /// So has, with the link itself, its left side.
 pub fn parity_over_a_link()
-    ensures { (S L : List Segment) → IsArrangement S → All (Contains S) L → IsEven L → (l : Segment) → Contains S l →
+    ensures holds { (S L : List Segment) → IsArrangement S → All (Contains S) L → IsEven L → (l : Segment) → Contains S l →
         (z : RationalPoint) → is_over z l ≡ true →
         odd_left L l ≡ xor (odd_count (is_under z l) L) (odd_count (same_segment l) L) }
 {}
 
 /// A point has the parity of the upper side of the topmost link below it.
 pub fn parity_over_the_topmost_link()
-    ensures { (S L : List Segment) → IsArrangement S → All (Contains S) L → IsEven L → (z : RationalPoint) → (l : Segment) →
+    ensures holds { (S L : List Segment) → IsArrangement S → All (Contains S) L → IsEven L → (z : RationalPoint) → (l : Segment) →
         Contains S l → IsTopmostBelow S z l → odd L z ≡ odd_left L l }
 {}
 
 /// A point that no link passes below has an even number of links below it.
 pub fn parity_over_nothing()
-    ensures { (S L : List Segment) → All (Contains S) L → (z : RationalPoint) →
+    ensures holds { (S L : List Segment) → All (Contains S) L → (z : RationalPoint) →
         ((k : Segment) → Contains S k → is_below z k ≡ false) → odd L z ≡ false }
 {}
 
 /// Between two links that follow each other about a grid point, the sides that face each other have one parity.
 pub fn parity_of_a_sector()
-    ensures { (S L : List Segment) → IsArrangement S → All (Contains S) L → IsEven L → (d e : Dart) → Contains S d.link →
+    ensures holds { (S L : List Segment) → IsArrangement S → All (Contains S) L → IsEven L → (d e : Dart) → Contains S d.link →
         Contains S e.link → IsNext S d e → odd_left_of L d ≡ odd_right_of L e }
 {}
 
 /// The links between the inside and the outside of a function of parities have that function as their parity.
 pub fn parity_of_a_boundary()
-    ensures { (S : List Segment) → IsArrangement S → IsDistinct S → (Rs : List (List Segment)) →
+    ensures holds { (S : List Segment) → IsArrangement S → IsDistinct S → (Rs : List (List Segment)) →
         All (λ R. All (Contains S) R × IsEven R) Rs → (f : List Bool → Bool) → f (map (λ R. false) Rs) ≡ false →
         (z : RationalPoint) → odd (boundary f Rs S) z ≡ f (map (λ R. odd R z) Rs) }
 {}
 
 /// The boundary is an even list itself.
 pub fn boundary_is_even()
-    ensures { (S : List Segment) → IsArrangement S → IsDistinct S → (Rs : List (List Segment)) →
+    ensures holds { (S : List Segment) → IsArrangement S → IsDistinct S → (Rs : List (List Segment)) →
         All (λ R. All (Contains S) R × IsEven R) Rs → (f : List Bool → Bool) → f (map (λ R. false) Rs) ≡ false →
         IsEven (boundary f Rs S) }
 {}
 
 /// Each link is seen from its left by some point.
 pub fn left_side_is_seen()
-    ensures { (S : List Segment) → IsArrangement S → (l : Segment) → Contains S l → (z : RationalPoint) × SeesLeft S l z }
+    ensures holds { (S : List Segment) → IsArrangement S → (l : Segment) → Contains S l → (z : RationalPoint) × SeesLeft S l z }
 {}
 
 /// Each link is seen from its right by some point.
 pub fn right_side_is_seen()
-    ensures { (S : List Segment) → IsArrangement S → (l : Segment) → Contains S l → (z : RationalPoint) × SeesRight S l z }
+    ensures holds { (S : List Segment) → IsArrangement S → (l : Segment) → Contains S l → (z : RationalPoint) × SeesRight S l z }
 {}
 
 /// The links that closed runs of links step along are an even list of links.
 pub fn closed_runs_are_even_lists()
-    ensures { ClosedRunsAreEvenLists }
+    ensures holds { ClosedRunsAreEvenLists }
 {}
 
 /// The rings of snapped polygons, and snapped boxes, are closed runs of links.
@@ -140,7 +140,7 @@ pub fn snapped_rings_are_closed_runs()
 
 /// The points of one face are held by the same features and boxes.
 pub fn faces_have_one_list_of_holders()
-    ensures { FacesHaveOneListOfHolders }
+    ensures holds { FacesHaveOneListOfHolders }
 {}
 
 /// The rings of each snapped polygon, and each snapped box, are an even list of links.
@@ -151,12 +151,12 @@ pub fn snapped_rings_are_even_lists()
 
 /// The sides of a link that are seen from the odd points of an even list are those whose count is odd.
 pub fn sides_are_counted()
-    ensures { SidesAreCounted }
+    ensures holds { SidesAreCounted }
 {}
 
 /// The directed boundary of a region given by parities has the links of its boundary.
 pub fn boundary_steps_are_boundary_links()
-    ensures { BoundaryStepsAreBoundaryLinks }
+    ensures holds { BoundaryStepsAreBoundaryLinks }
 {}
 
 /// The sides of the links of a snapped drawing that belong to a feature or a box are those that its rings count.

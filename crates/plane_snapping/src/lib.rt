@@ -27,12 +27,12 @@ ghost use Rattle.plane_model.specs.Snapped.{
 
 /// The six tests on the sides of a pixel say whether a segment meets it.
 pub fn meets_is_computed()
-    ensures { MeetsIsComputed }
+    ensures holds { MeetsIsComputed }
 {}
 
 /// The rounded quotients of determinants are the pixel of the meeting point.
 pub fn crossing_is_computed()
-    ensures { CrossingIsComputed }
+    ensures holds { CrossingIsComputed }
 {}
 
 /// The vertices and the pixels of all crossings are the hot points.
@@ -43,7 +43,7 @@ pub fn hot_points_are_computed()
 
 /// The hot points that a segment meets, sorted in its direction, are its chain, and there is no other.
 pub fn chain_is_computed()
-    ensures { ChainIsComputed }
+    ensures holds { ChainIsComputed }
 {}
 
 /// Pixels are passed in the order of their keys, so sorting by the key gives the chain.
@@ -60,7 +60,7 @@ pub fn met_pixels_lie_in_the_box()
 
 /// Rounding leaves the bounds of a drawing as they are.
 pub fn hot_points_stay_in_bounds()
-    ensures { HotPointsStayInBounds }
+    ensures holds { HotPointsStayInBounds }
 {}
 
 /// The theorem of snap rounding: links meet at common ends alone, and no hot point lies inside a link.
@@ -77,15 +77,15 @@ pub fn no_vertex_inside_a_link()
 
 /// The links of a snapped drawing are an arrangement, each link once.
 pub fn snapped_links_are_an_arrangement()
-    ensures { SnappedLinksAreAnArrangement }
+    ensures holds { SnappedLinksAreAnArrangement }
 {}
 
 /// A closed path, snapped, is a closed run of links.
 pub fn snapped_paths_are_closed_runs()
-    ensures { SnappedPathsAreClosedRuns }
+    ensures holds { SnappedPathsAreClosedRuns }
 {}
 
 /// The links of the snapped paths can be counted chain by chain, before any path is joined.
 pub fn links_are_counted()
-    ensures { LinksAreCounted }
+    ensures holds { LinksAreCounted }
 {}

@@ -79,7 +79,7 @@ fn clipped(alloc: Global, laid: &LaidOut, number: u32) -> Result<Bytes, AllocErr
 // The arcs of the first line feature, where it is there.
 #[tactic(auto, using(crate::proofs::Faces::arcs_have_places))]
 fn line_arcs(alloc: Global, laid: &LaidOut) -> Result<SignedPaths, AllocError>
-    ensures { IfOk result (All (All (HasArc laid.now.faces))) }
+    ensures made { IfOk result (All (All (HasArc laid.now.faces))) }
 {
     let mut paths = SignedPaths::new(alloc);
     if laid.snapped.line_count() > 0 {

@@ -35,7 +35,7 @@ pub fn add_holed(
 }
 
 fn ring_of_one(alloc: Global, a: Pt) -> Result<PtList, AllocError>
-    ensures { IfOk result (λ ring. ring ≡ a ∷ []) }
+    ensures exact { IfOk result (λ ring. ring ≡ a ∷ []) }
 {
     let mut ring = PtList::new(alloc);
     ring.push(a)?;
@@ -43,7 +43,7 @@ fn ring_of_one(alloc: Global, a: Pt) -> Result<PtList, AllocError>
 }
 
 fn ring_of_three(alloc: Global, a: Pt, b: Pt, c: Pt) -> Result<PtList, AllocError>
-    ensures { IfOk result (λ ring. ring ≡ a ∷ b ∷ c ∷ a ∷ []) }
+    ensures exact { IfOk result (λ ring. ring ≡ a ∷ b ∷ c ∷ a ∷ []) }
 {
     let mut ring = PtList::new(alloc);
     ring.push(a)?;
@@ -54,7 +54,7 @@ fn ring_of_three(alloc: Global, a: Pt, b: Pt, c: Pt) -> Result<PtList, AllocErro
 }
 
 fn ring_of_four(alloc: Global, a: Pt, b: Pt, c: Pt, d: Pt) -> Result<PtList, AllocError>
-    ensures { IfOk result (λ ring. ring ≡ a ∷ b ∷ c ∷ d ∷ a ∷ []) }
+    ensures exact { IfOk result (λ ring. ring ≡ a ∷ b ∷ c ∷ d ∷ a ∷ []) }
 {
     let mut ring = PtList::new(alloc);
     ring.push(a)?;

@@ -16,60 +16,60 @@ ghost use Rattle.point_laws.specs.Sight.{FreePointsAreInside, FreePointsAreSeen,
 
 /// What sees a point that lies on no link is of one face with it.
 pub fn seen_from_one_face()
-    ensures { SeenFromOneFace }
+    ensures holds { SeenFromOneFace }
 {}
 
 /// Some point off the links sees each point that lies on no link.
 pub fn free_points_are_seen()
-    ensures { FreePointsAreSeen }
+    ensures holds { FreePointsAreSeen }
 {}
 
 /// A point on no link is inside a set of faces exactly if its own face is in the set.
 pub fn free_points_are_inside()
-    ensures { FreePointsAreInside }
+    ensures holds { FreePointsAreInside }
 {}
 
 /// So it is in a table of the whole arcs of a snapped drawing, for a vertex that no arc has.
 pub fn free_points_of_a_drawing()
-    ensures { FreePointsOfADrawing }
+    ensures holds { FreePointsOfADrawing }
 {}
 
 /// What sees a vertex has the label of a sector there, on the left of a link directed away from it.
 pub fn seen_from_sectors()
-    ensures { SeenFromSectors }
+    ensures holds { SeenFromSectors }
 {}
 
 /// Each sector at a vertex has a point, off the links, that sees the vertex and has the label of the sector.
 pub fn sectors_are_seen()
-    ensures { SectorsAreSeen }
+    ensures holds { SectorsAreSeen }
 {}
 
 /// So a node that some point of a set sees is inside the set, as it is answered for it.
 pub fn seen_nodes_are_inside()
-    ensures { SeenNodesAreInside }
+    ensures holds { SeenNodesAreInside }
 {}
 
 /// And some point of the set sees each node that is inside it.
 pub fn nodes_are_seen()
-    ensures { NodesAreSeen }
+    ensures holds { NodesAreSeen }
 {}
 
 /// So a node is inside a set, as it is answered for it, exactly if some point of the set sees it.
 pub fn nodes_are_inside()
-    ensures { NodesAreInside }
+    ensures holds { NodesAreInside }
 {}
 
 /// So it is in a table of the whole arcs of a snapped drawing.
 pub fn nodes_of_a_drawing()
-    ensures { NodesOfADrawing }
+    ensures holds { NodesOfADrawing }
 {}
 
 /// And a vertex inside an arc is inside a set, as it is answered for it, exactly if some point of the set sees it.
 pub fn inner_vertices_are_inside()
-    ensures { InnerVerticesAreInside }
+    ensures holds { InnerVerticesAreInside }
 {}
 
 /// So it is with each vertex of a snapped drawing, over a table of its whole arcs.
 pub fn vertices_of_a_drawing()
-    ensures { VerticesOfADrawing }
+    ensures holds { VerticesOfADrawing }
 {}

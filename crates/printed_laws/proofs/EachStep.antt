@@ -68,10 +68,10 @@ each_back P [] h t c = Contains-nil t c
 each_back P (p ∷ []) h t c = Contains-nil t c
 each_back P (p ∷ q ∷ rest) h t c =
     let Back : Segment → Type 0 = λ t. P (reversed t) in
-    let behind : reverse (q ∷ rest) ≡ reverse rest ++ q ∷ [] = reverse-append (q ∷ []) rest in
-    let whole : reverse (p ∷ q ∷ rest) ≡ reverse rest ++ q ∷ p ∷ [] = reverse-append (p ∷ []) (q ∷ rest) ∙ ap (λ (xs : Path). xs ++ p ∷ []) behind ∙ append_assoc (reverse rest) (q ∷ []) (p ∷ []) in
+    let past : reverse (q ∷ rest) ≡ reverse rest ++ q ∷ [] = reverse-append (q ∷ []) rest in
+    let whole : reverse (p ∷ q ∷ rest) ≡ reverse rest ++ q ∷ p ∷ [] = reverse-append (p ∷ []) (q ∷ rest) ∙ ap (λ (xs : Path). xs ++ p ∷ []) past ∙ append_assoc (reverse rest) (q ∷ []) (p ∷ []) in
     subst (EachStep Back) (sym whole)
-    (each_joined Back (reverse rest) q (p ∷ []) (subst (EachStep Back) behind (each_back P (q ∷ rest) (each_later P p q rest h))) (each_from Back q p [] (each_first P p q rest h) (each_none Back p))) t c
+    (each_joined Back (reverse rest) q (p ∷ []) (subst (EachStep Back) past (each_back P (q ∷ rest) (each_later P p q rest h))) (each_from Back q p [] (each_first P p q rest h) (each_none Back p))) t c
 
 -- ---- begun at the least vertex
 

@@ -39,17 +39,17 @@ longer : (xs ys : List ℕ) (m : ℕ) → IsAscending nat_lt xs → IsAscending 
 longer xs [] m up_x up_y h c = Contains-nil m c
 longer [] (y ∷ ys) m up_x up_y h c = omega arith
 longer (x ∷ xs) (y ∷ ys) m up_x up_y h c = elim (cases_eq x y) [
-  | inl e ↦ (let fewer = longer xs ys m up_x.1 up_y.1 (λ z k. ((h z (Contains-later x xs z k)).0, behind z (h z (Contains-later x xs z k)).1 (let over = after z k in omega arith))) (behind m c (let least = h x (Contains-head x xs) in let low = least.0 in omega arith)) in omega arith)
+  | inl e ↦ (let fewer = longer xs ys m up_x.1 up_y.1 (λ z k. ((h z (Contains-later x xs z k)).0, past z (h z (Contains-later x xs z k)).1 (let over = after z k in omega arith))) (past m c (let least = h x (Contains-head x xs) in let low = least.0 in omega arith)) in omega arith)
   | inr n ↦
       (let first : Contains ys x = elim (Contains-cases y ys x (h x (Contains-head x xs)).1) [ inl e ↦ absurd (n (sym e)) | inr k ↦ k ] in
       let below : y < x = ltb-true y x (up_y.0 x first) in
-      let fewer = longer (x ∷ xs) ys m up_x up_y.1 (λ z k. ((h z k).0, behind z (h z k).1 (elim (Contains-cases x xs z k) [ inl e ↦ (omega arith) | inr l ↦ (let over = after z l in omega arith) ])))
-      (behind m c (let least = h x (Contains-head x xs) in let low = least.0 in omega arith)) in
+      let fewer = longer (x ∷ xs) ys m up_x up_y.1 (λ z k. ((h z k).0, past z (h z k).1 (elim (Contains-cases x xs z k) [ inl e ↦ (omega arith) | inr l ↦ (let over = after z l in omega arith) ])))
+      (past m c (let least = h x (Contains-head x xs) in let low = least.0 in omega arith)) in
       omega arith)
 ]
   where
-    behind : (z : ℕ) → Contains (y ∷ ys) z → y < z → Contains ys z
-    behind z k less = elim (Contains-cases y ys z k) [ inl e ↦ absurd (omega arith) | inr l ↦ l ]
+    past : (z : ℕ) → Contains (y ∷ ys) z → y < z → Contains ys z
+    past z k less = elim (Contains-cases y ys z k) [ inl e ↦ absurd (omega arith) | inr l ↦ l ]
 
     after : (z : ℕ) → Contains xs z → x < z
     after z k = ltb-true x z (up_x.0 z k)

@@ -29,42 +29,42 @@ ghost use Rattle.printed_laws.specs.Counted.{
 
 /// All rings of polygons that fit a region hold a point on no link exactly if the region has it.
 pub fn regions_are_printed()
-    ensures { RegionsArePrinted }
+    ensures holds { RegionsArePrinted }
 {}
 
 /// The rings of each polygon hold such a point exactly if it is in the part that the polygon fits.
 pub fn parts_are_printed()
-    ensures { PartsArePrinted }
+    ensures holds { PartsArePrinted }
 {}
 
 /// No point is held by the rings of two polygons.
 pub fn none_is_held_twice()
-    ensures { NoneIsHeldTwice }
+    ensures holds { NoneIsHeldTwice }
 {}
 
 /// Each point of the region is held by one polygon, and by the same each point that no closed runs of the region's
 /// boundary separate from it.
 pub fn joined_points_are_held_by_one()
-    ensures { JoinedPointsAreHeldByOne }
+    ensures holds { JoinedPointsAreHeldByOne }
 {}
 
 /// A point on no link is held by all rings of a polygon together exactly if it is inside the exterior and inside no
 /// hole.
 pub fn readings_agree()
-    ensures { ReadingsAgree }
+    ensures holds { ReadingsAgree }
 {}
 
 /// No point off the links lies in two polygons: inside the exteriors and in no holes of both.
 pub fn polygons_are_apart()
-    ensures { PolygonsAreApart }
+    ensures holds { PolygonsAreApart }
 {}
 
 /// A point on no link lies in some polygon exactly if the region has it.
 pub fn regions_are_read()
-    ensures { RegionsAreRead }
+    ensures holds { RegionsAreRead }
 {}
 
 /// Two points of the region lie in one polygon exactly if they are joined in it.
 pub fn polygons_are_parts()
-    ensures { PolygonsAreParts }
+    ensures holds { PolygonsAreParts }
 {}

@@ -5,7 +5,7 @@ use Rattle.numerals.specs.Bytes.{is_white, is_digit, is_nonzero_digit, is_expone
 use Rattle.json_read.specs.Faults.{IsFault}
 use Rattle.json_values.specs.Grammar.{JsonText, short_escape}
 use Rattle.json_values.specs.Json.{JsonValue}
-use Rattle.json_read.specs.Machine.{Place, Open, Role, Moves, Outcome, in_array, in_object, is_value, is_name, start, in_mark, value, first_value, first_name, next_name, colon, after, in_word, behind_minus, behind_zero, in_whole, behind_point, in_fraction, behind_mantissa, behind_letter, behind_sign, in_exponent, in_string, in_escape, in_hex, in_character, step, run, at_end, ends, begins, begins_whole, begins_name, second_bounds, further_bytes, leads_by, string_step, follows, hex_follows, escape_step, word_step, mark_step, exponent_or_end, point_or_end, accepted, fault, fault_of}
+use Rattle.json_read.specs.Machine.{Place, Open, Role, Moves, Outcome, in_array, in_object, is_value, is_name, start, in_mark, value, first_value, first_name, next_name, colon, after, in_word, after_minus, after_zero, in_whole, after_point, in_fraction, after_mantissa, after_letter, after_sign, in_exponent, in_string, in_escape, in_hex, in_character, step, run, at_end, ends, begins, begins_whole, begins_name, second_bounds, further_bytes, leads_by, string_step, follows, hex_follows, escape_step, word_step, mark_step, exponent_or_end, point_or_end, accepted, fault, fault_of}
 use Rattle.json_read.specs.declared.reader.Fault.{Fault}
 use Rattle.json_read.specs.Reading.{is_between}
 use Rattle.json_read.proofs.Runs.{moves, stops}
@@ -94,14 +94,14 @@ one_goes_on d next_name k b = both (is_white b) _ _ (to tt) (name_goes_on k b)
 one_goes_on d colon k b = both (is_white b) _ _ (to tt) (both (eqb b 58) _ _ (to tt) none)
 one_goes_on d after k b = ends_go_on k b
 one_goes_on d (in_word cs) k b = word_goes_on k cs b
-one_goes_on d behind_minus k b = whole_goes_on k b
-one_goes_on d behind_zero k b = point_goes_on k b
+one_goes_on d after_minus k b = whole_goes_on k b
+one_goes_on d after_zero k b = point_goes_on k b
 one_goes_on d in_whole k b = both (is_digit b) _ _ (to tt) (point_goes_on k b)
-one_goes_on d behind_point k b = both (is_digit b) _ _ (to tt) none
+one_goes_on d after_point k b = both (is_digit b) _ _ (to tt) none
 one_goes_on d in_fraction k b = both (is_digit b) _ _ (to tt) (exponent_goes_on k b)
-one_goes_on d behind_mantissa k b = exponent_goes_on k b
-one_goes_on d behind_letter k b = both (eqb b 43) _ _ (to tt) (both (eqb b 45) _ _ (to tt) (both (is_digit b) _ _ (to tt) none))
-one_goes_on d behind_sign k b = both (is_digit b) _ _ (to tt) none
+one_goes_on d after_mantissa k b = exponent_goes_on k b
+one_goes_on d after_letter k b = both (eqb b 43) _ _ (to tt) (both (eqb b 45) _ _ (to tt) (both (is_digit b) _ _ (to tt) none))
+one_goes_on d after_sign k b = both (is_digit b) _ _ (to tt) none
 one_goes_on d in_exponent k b = both (is_digit b) _ _ (to tt) (ends_go_on k b)
 one_goes_on d (in_string r) k b = string_goes_on r k b
 one_goes_on d (in_escape r) k b = both (eqb b 117) _ _ (to tt) (escape_goes_on r k (short_escape b))
@@ -129,9 +129,9 @@ module _ (d : ℕ) where
   number_ends p e a o (in_array ∷ k) = by 93 (a k) (after_ends k)
   number_ends p e a o (in_object ∷ k) = by 125 (o k) (after_ends k)
 
-  zero_ends : (k : List Open) → Ends d behind_zero k
+  zero_ends : (k : List Open) → Ends d after_zero k
   unfolding run
-  zero_ends k = number_ends behind_zero refl (λ l. refl) (λ l. refl) k
+  zero_ends k = number_ends after_zero refl (λ l. refl) (λ l. refl) k
 
   exponent_ends : (k : List Open) → Ends d in_exponent k
   unfolding run
@@ -176,14 +176,14 @@ module _ (d : ℕ) where
   text_ends colon k h = by 58 refl (value_ends k)
   text_ends after k h = after_ends k
   text_ends (in_word cs) k h = word_ends cs k h
-  text_ends behind_minus k h = by 48 refl (zero_ends k)
-  text_ends behind_zero k h = zero_ends k
+  text_ends after_minus k h = by 48 refl (zero_ends k)
+  text_ends after_zero k h = zero_ends k
   text_ends in_whole k h = number_ends in_whole refl (λ l. refl) (λ l. refl) k
-  text_ends behind_point k h = by 48 refl (number_ends in_fraction refl (λ l. refl) (λ l. refl) k)
+  text_ends after_point k h = by 48 refl (number_ends in_fraction refl (λ l. refl) (λ l. refl) k)
   text_ends in_fraction k h = number_ends in_fraction refl (λ l. refl) (λ l. refl) k
-  text_ends behind_mantissa k h = number_ends behind_mantissa refl (λ l. refl) (λ l. refl) k
-  text_ends behind_letter k h = by 48 refl (exponent_ends k)
-  text_ends behind_sign k h = by 48 refl (exponent_ends k)
+  text_ends after_mantissa k h = number_ends after_mantissa refl (λ l. refl) (λ l. refl) k
+  text_ends after_letter k h = by 48 refl (exponent_ends k)
+  text_ends after_sign k h = by 48 refl (exponent_ends k)
   text_ends in_exponent k h = exponent_ends k
   text_ends (in_string r) k h = string_ends r k
   text_ends (in_escape r) k h = by 34 refl (string_ends r k)
@@ -199,14 +199,14 @@ module _ (d : ℕ) where
   end_leaves_none : (p : Place) (k : List Open) (f : Fault) (rest : List ℕ) → at_end p k ≡ fault f rest → [] ≡ rest
   end_leaves_none after [] f rest e = absurd (cc)
   end_leaves_none after (o ∷ k) f rest e = cc
-  end_leaves_none behind_zero [] f rest e = absurd (cc)
-  end_leaves_none behind_zero (o ∷ k) f rest e = cc
+  end_leaves_none after_zero [] f rest e = absurd (cc)
+  end_leaves_none after_zero (o ∷ k) f rest e = cc
   end_leaves_none in_whole [] f rest e = absurd (cc)
   end_leaves_none in_whole (o ∷ k) f rest e = cc
   end_leaves_none in_fraction [] f rest e = absurd (cc)
   end_leaves_none in_fraction (o ∷ k) f rest e = cc
-  end_leaves_none behind_mantissa [] f rest e = absurd (cc)
-  end_leaves_none behind_mantissa (o ∷ k) f rest e = cc
+  end_leaves_none after_mantissa [] f rest e = absurd (cc)
+  end_leaves_none after_mantissa (o ∷ k) f rest e = cc
   end_leaves_none in_exponent [] f rest e = absurd (cc)
   end_leaves_none in_exponent (o ∷ k) f rest e = cc
   end_leaves_none _ k f rest e = cc

@@ -6,11 +6,11 @@ use Rattle.json_values.specs.Grammar.{White, no_white, white, quoted, Denotes, i
 use Rattle.numerals.specs.Numbers.{Digits, no_digits, no_fraction, no_exponent, no_minus, minus}
 use Rattle.json_values.specs.Json.{JsonValue, number, string, array, object, boolean, null, no_items, no_fields, items_of, fields_of}
 use Rattle.json_values.specs.Lists.{items_list, merged}
-use Rattle.json_read.specs.Machine.{Place, Open, Moves, in_array, in_object, is_value, is_name, start, in_mark, value, first_value, first_name, next_name, colon, after, in_word, behind_minus, behind_zero, in_whole, behind_point, in_fraction, behind_mantissa, behind_letter, behind_sign, in_exponent, in_string, in_escape, in_hex, in_character, step, run, at_end, ends, begins, begins_name, opens, word_step, mark_step, accepted, fault, fault_of}
+use Rattle.json_read.specs.Machine.{Place, Open, Moves, in_array, in_object, is_value, is_name, start, in_mark, value, first_value, first_name, next_name, colon, after, in_word, after_minus, after_zero, in_whole, after_point, in_fraction, after_mantissa, after_letter, after_sign, in_exponent, in_string, in_escape, in_hex, in_character, step, run, at_end, ends, begins, begins_name, opens, word_step, mark_step, accepted, fault, fault_of}
 use Rattle.json_read.specs.declared.reader.Fault.{Fault}
 use Rattle.json_read.proofs.Runs.{moves, stops}
 use Rattle.json_values.proofs.Seen.{fields_list-fields_of}
-use Rattle.reading_laws.proofs.JsonRests.{Then, then_none, then_more, Byte, After, at_last, Value, AtValue, AtColon, Name, AtName, Shuts, elements_of, members_of, FromPoint, FromWhole, InWhole, InFraction, Behind, Stands, Later, split, at_byte}
+use Rattle.reading_laws.proofs.JsonRests.{Then, then_none, then_more, Byte, After, at_last, Value, AtValue, AtColon, Name, AtName, Shuts, elements_of, members_of, FromPoint, FromWhole, InWhole, InFraction, Past, Stands, Later, split, at_byte}
 use Rattle.reading_laws.proofs.JsonNumbers.{ends_back, exponent_back, point_back, whole_back, fraction_back, point_digit_back, some_digits_back, digits_back, letter_back, begins_whole_back, number_of}
 use Rattle.reading_laws.proofs.JsonStrings.{string_back, escape_back, hex_back, second_back}
 
@@ -24,10 +24,10 @@ module _ (d : ℕ) (k : List Open) where
 
   -- ## The first byte of a value
 
-  string_value : (s : List ℕ) → Behind [] d is_value k s → Value d k (34 ∷ s)
+  string_value : (s : List ℕ) → Past [] d is_value k s → Value d k (34 ∷ s)
   string_value s (t, s1, e, (us, c), (rest, f, a)) = (34 ∷ (t ++ 34 ∷ []), rest, rw (e, f) (simp append_assoc), (string _, is_string (quoted (us, c, refl))), a)
 
-  string_name : (s : List ℕ) → Behind [] d is_name k s → Name d k (34 ∷ s)
+  string_name : (s : List ℕ) → Past [] d is_name k s → Name d k (34 ∷ s)
   string_name s (t, s1, e, (us, c), (rest, f, a)) = (34 ∷ (t ++ 34 ∷ []), rest, rw (e, f) (simp append_assoc), (_, quoted (us, c, refl)), a)
 
   deeper : length k < d → suc (d - suc (length k)) ≡ d - length k
@@ -173,14 +173,14 @@ one_back d next_name k b s h = next_name_back d k b s h
 one_back d colon k b s h = colon_back d k b s h
 one_back d after k b s h = ends_back d k b s h
 one_back d (in_word cs) k b s h = word_back d k cs b s h
-one_back d behind_minus k b s h = begins_whole_back d k b s h
-one_back d behind_zero k b s h = point_back d k b s h
+one_back d after_minus k b s h = begins_whole_back d k b s h
+one_back d after_zero k b s h = point_back d k b s h
 one_back d in_whole k b s h = whole_back d k b s h
-one_back d behind_point k b s h = point_digit_back d k b s h
+one_back d after_point k b s h = point_digit_back d k b s h
 one_back d in_fraction k b s h = fraction_back d k b s h
-one_back d behind_mantissa k b s h = exponent_back d k b s h
-one_back d behind_letter k b s h = letter_back d k b s h
-one_back d behind_sign k b s h = some_digits_back d k b s h
+one_back d after_mantissa k b s h = exponent_back d k b s h
+one_back d after_letter k b s h = letter_back d k b s h
+one_back d after_sign k b s h = some_digits_back d k b s h
 one_back d in_exponent k b s h = digits_back d k b s h
 one_back d (in_string r) k b s h = string_back d r k b s h
 one_back d (in_escape r) k b s h = escape_back d r k b s h
@@ -193,10 +193,10 @@ nothing_left d = at_last no_white
 
 end_back : (d : ℕ) (p : Place) (k : List Open) → at_end p k ≡ accepted → Stands d p k []
 end_back d after [] e = nothing_left d
-end_back d behind_zero [] e = then_none FromPoint (After d []) ([], [], refl, no_fraction, no_exponent) (nothing_left d)
+end_back d after_zero [] e = then_none FromPoint (After d []) ([], [], refl, no_fraction, no_exponent) (nothing_left d)
 end_back d in_whole [] e = then_none InWhole (After d []) ([], [], refl, no_digits, ([], [], refl, no_fraction, no_exponent)) (nothing_left d)
 end_back d in_fraction [] e = then_none InFraction (After d []) ([], [], refl, no_digits, no_exponent) (nothing_left d)
-end_back d behind_mantissa [] e = then_none _ (After d []) no_exponent (nothing_left d)
+end_back d after_mantissa [] e = then_none _ (After d []) no_exponent (nothing_left d)
 end_back d in_exponent [] e = then_none Digits (After d []) no_digits (nothing_left d)
 end_back d p k e = absurd (cc)
 

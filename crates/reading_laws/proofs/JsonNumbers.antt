@@ -3,8 +3,8 @@ use Rattle.std.proofs.Common.{ℕ, ◌++◌, List, [], ◌∷◌, IsTrue, refl, 
 use Rattle.numerals.specs.Bytes.{is_white, is_digit, is_nonzero_digit, is_exponent_letter}
 use Rattle.json_values.specs.Grammar.{no_white}
 use Rattle.numerals.specs.Numbers.{Digits, no_digits, digit, SomeDigits, some_digits, Minus, no_sign, plus_sign, minus_sign, zero_alone, from_one, no_fraction, fraction, Exponent, no_exponent, exponent, Number, numeral}
-use Rattle.json_read.specs.Machine.{Open, in_array, in_object, ends, ends_item, exponent_or_end, point_or_end, begins_whole, step, behind_letter, behind_sign, in_exponent, in_whole, in_fraction, behind_point}
-use Rattle.reading_laws.proofs.JsonRests.{Then, then_none, then_more, After, shuts_array, next_element, shuts_object, next_member, after_white, elements_of, members_of, FromPoint, FromWhole, InWhole, BehindPoint, InFraction, BehindLetter, Later, split, at_byte}
+use Rattle.json_read.specs.Machine.{Open, in_array, in_object, ends, ends_item, exponent_or_end, point_or_end, begins_whole, step, after_letter, after_sign, in_exponent, in_whole, in_fraction, after_point}
+use Rattle.reading_laws.proofs.JsonRests.{Then, then_none, then_more, After, shuts_array, next_element, shuts_object, next_member, after_white, elements_of, members_of, FromPoint, FromWhole, InWhole, AfterPoint, InFraction, AfterLetter, Later, split, at_byte}
 
 -- ## After a value
 
@@ -26,16 +26,16 @@ ends_back d k b s h = ⊎_elim (λ p. after_white b p.0 p.1) (λ p. item_ends d 
 
 -- ## Numbers
 
-letter_then : (b : ℕ) → IsTrue (is_exponent_letter b) → (t : List ℕ) → BehindLetter t → Exponent (b ∷ t)
+letter_then : (b : ℕ) → IsTrue (is_exponent_letter b) → (t : List ℕ) → AfterLetter t → Exponent (b ∷ t)
 letter_then b i t (g, ds, e, hg, hd) = subst (λ (z : List ℕ). Exponent (b ∷ z)) (sym e) (exponent i hg hd)
 
 pub exponent_back : (d : ℕ) (k : List Open) (b : ℕ) (s : List ℕ) → Later d s (exponent_or_end k b) → Then Exponent (After d k) (b ∷ s)
 exponent_back d k b s h = ⊎_elim
-    (λ p. then_more BehindLetter Exponent (After d k) b (letter_then b p.0) p.1)
+    (λ p. then_more AfterLetter Exponent (After d k) b (letter_then b p.0) p.1)
     (λ p. then_none Exponent (After d k) no_exponent (ends_back d k b s p.1))
     (split (Later d s) (is_exponent_letter b) _ _ h)
 
-point_then : (t : List ℕ) → BehindPoint t → FromPoint (46 ∷ t)
+point_then : (t : List ℕ) → AfterPoint t → FromPoint (46 ∷ t)
 point_then t (ds, x, e, hd, hx) = (46 ∷ ds, x, ap (λ (z : List ℕ). 46 ∷ z) e, fraction hd, hx)
 
 exponent_as : (t : List ℕ) → Exponent t → FromPoint t
@@ -46,7 +46,7 @@ then_as Q R S f h = (h.0, h.1, h.2, f h.0 h.3, h.4)
 
 pub point_back : (d : ℕ) (k : List Open) (b : ℕ) (s : List ℕ) → Later d s (point_or_end k b) → Then FromPoint (After d k) (b ∷ s)
 point_back d k b s h = ⊎_elim
-    (λ p. at_byte (λ (x : ℕ). Then FromPoint (After d k) (x ∷ s)) b 46 p.0 (then_more BehindPoint FromPoint (After d k) 46 point_then p.1))
+    (λ p. at_byte (λ (x : ℕ). Then FromPoint (After d k) (x ∷ s)) b 46 p.0 (then_more AfterPoint FromPoint (After d k) 46 point_then p.1))
     (λ p. then_as Exponent FromPoint (After d k) exponent_as (exponent_back d k b s p.1))
     (split (Later d s) (eqb b 46) _ _ h)
 
@@ -62,13 +62,13 @@ fraction_back d k b s h = ⊎_elim
     (λ p. then_as Exponent InFraction (After d k) (λ t h. ([], t, refl, no_digits, h)) (exponent_back d k b s p.1))
     (split (Later d s) (is_digit b) _ _ h)
 
-pub point_digit_back : (d : ℕ) (k : List Open) (b : ℕ) (s : List ℕ) → Later d s (step d behind_point k b) → Then BehindPoint (After d k) (b ∷ s)
+pub point_digit_back : (d : ℕ) (k : List Open) (b : ℕ) (s : List ℕ) → Later d s (step d after_point k b) → Then AfterPoint (After d k) (b ∷ s)
 point_digit_back d k b s h = ⊎_elim
-    (λ p. then_more InFraction BehindPoint (After d k) b (λ t (ds, x, e, hd, hx). (b ∷ ds, x, ap (λ (z : List ℕ). b ∷ z) e, some_digits p.0 hd, hx)) p.1)
+    (λ p. then_more InFraction AfterPoint (After d k) b (λ t (ds, x, e, hd, hx). (b ∷ ds, x, ap (λ (z : List ℕ). b ∷ z) e, some_digits p.0 hd, hx)) p.1)
     (λ p. absurd (p.1))
     (split (Later d s) (is_digit b) _ _ h)
 
-pub some_digits_back : (d : ℕ) (k : List Open) (b : ℕ) (s : List ℕ) → Later d s (step d behind_sign k b) → Then SomeDigits (After d k) (b ∷ s)
+pub some_digits_back : (d : ℕ) (k : List Open) (b : ℕ) (s : List ℕ) → Later d s (step d after_sign k b) → Then SomeDigits (After d k) (b ∷ s)
 some_digits_back d k b s h = ⊎_elim
     (λ p. then_more Digits SomeDigits (After d k) b (λ t hd. some_digits p.0 hd) p.1)
     (λ p. absurd (p.1))
@@ -80,12 +80,12 @@ digits_back d k b s h = ⊎_elim
     (λ p. then_none Digits (After d k) no_digits (ends_back d k b s p.1))
     (split (Later d s) (is_digit b) _ _ h)
 
-pub letter_back : (d : ℕ) (k : List Open) (b : ℕ) (s : List ℕ) → Later d s (step d behind_letter k b) → Then BehindLetter (After d k) (b ∷ s)
+pub letter_back : (d : ℕ) (k : List Open) (b : ℕ) (s : List ℕ) → Later d s (step d after_letter k b) → Then AfterLetter (After d k) (b ∷ s)
 letter_back d k b s h = ⊎_elim
-    (λ p. at_byte (λ (x : ℕ). Then BehindLetter (After d k) (x ∷ s)) b 43 p.0 (then_more SomeDigits BehindLetter (After d k) 43 (λ t hd. (43 ∷ [], t, refl, plus_sign, hd)) p.1))
+    (λ p. at_byte (λ (x : ℕ). Then AfterLetter (After d k) (x ∷ s)) b 43 p.0 (then_more SomeDigits AfterLetter (After d k) 43 (λ t hd. (43 ∷ [], t, refl, plus_sign, hd)) p.1))
     (λ p. ⊎_elim
-    (λ q. at_byte (λ (x : ℕ). Then BehindLetter (After d k) (x ∷ s)) b 45 q.0 (then_more SomeDigits BehindLetter (After d k) 45 (λ t hd. (45 ∷ [], t, refl, minus_sign, hd)) q.1))
-    (λ q. then_as SomeDigits BehindLetter (After d k) (λ t hd. ([], t, refl, no_sign, hd)) (some_digits_back d k b s q.1))
+    (λ q. at_byte (λ (x : ℕ). Then AfterLetter (After d k) (x ∷ s)) b 45 q.0 (then_more SomeDigits AfterLetter (After d k) 45 (λ t hd. (45 ∷ [], t, refl, minus_sign, hd)) q.1))
+    (λ q. then_as SomeDigits AfterLetter (After d k) (λ t hd. ([], t, refl, no_sign, hd)) (some_digits_back d k b s q.1))
     (split (Later d s) (eqb b 45) _ _ p.1))
     (split (Later d s) (eqb b 43) _ _ h)
 

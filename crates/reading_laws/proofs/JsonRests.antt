@@ -5,7 +5,7 @@ use Rattle.numerals.specs.Bytes.{is_white, is_hex}
 use Rattle.json_values.specs.Grammar.{White, white, Chars, Quoted, Denotes, Elements, last_element, element, Members, last_member, member, padded, Mark}
 use Rattle.numerals.specs.Numbers.{Digits, SomeDigits, Sign, Whole, Fraction, Exponent}
 use Rattle.json_values.specs.Json.{JsonValue}
-use Rattle.json_read.specs.Machine.{Place, Open, Role, Moves, in_array, in_object, is_value, is_name, start, in_mark, value, first_value, first_name, next_name, colon, after, in_word, behind_minus, behind_zero, in_whole, behind_point, in_fraction, behind_mantissa, behind_letter, behind_sign, in_exponent, in_string, in_escape, in_hex, in_character}
+use Rattle.json_read.specs.Machine.{Place, Open, Role, Moves, in_array, in_object, is_value, is_name, start, in_mark, value, first_value, first_name, next_name, colon, after, in_word, after_minus, after_zero, in_whole, after_point, in_fraction, after_mantissa, after_letter, after_sign, in_exponent, in_string, in_escape, in_hex, in_character}
 use Rattle.json_read.specs.Reading.{is_between}
 
 -- a text with R, and then what has S
@@ -89,14 +89,14 @@ FromWhole t = (w : List ℕ) × (more : List ℕ) × (t ≡ w ++ more) × Whole 
 abbrev pub InWhole : List ℕ → Type 0
 InWhole t = (ds : List ℕ) × (more : List ℕ) × (t ≡ ds ++ more) × Digits ds × FromPoint more
 
-abbrev pub BehindPoint : List ℕ → Type 0
-BehindPoint t = (ds : List ℕ) × (e : List ℕ) × (t ≡ ds ++ e) × SomeDigits ds × Exponent e
+abbrev pub AfterPoint : List ℕ → Type 0
+AfterPoint t = (ds : List ℕ) × (e : List ℕ) × (t ≡ ds ++ e) × SomeDigits ds × Exponent e
 
 abbrev pub InFraction : List ℕ → Type 0
 InFraction t = (ds : List ℕ) × (e : List ℕ) × (t ≡ ds ++ e) × Digits ds × Exponent e
 
-abbrev pub BehindLetter : List ℕ → Type 0
-BehindLetter t = (g : List ℕ) × (ds : List ℕ) × (t ≡ g ++ ds) × Sign g × SomeDigits ds
+abbrev pub AfterLetter : List ℕ → Type 0
+AfterLetter t = (g : List ℕ) × (ds : List ℕ) × (t ≡ g ++ ds) × Sign g × SomeDigits ds
 
 -- ## Strings
 
@@ -105,8 +105,8 @@ Closed d is_value k = After d k
 Closed d is_name k = AtColon d k
 
 -- after a part of a string, the rest of its characters and its quote
-abbrev pub Behind : List ℕ → ℕ → Role → List Open → List ℕ → Type 0
-Behind part d r k = Then (λ t. (us : List ℕ) × Chars (part ++ t) us) (Byte 34 (Closed d r k))
+abbrev pub Past : List ℕ → ℕ → Role → List Open → List ℕ → Type 0
+Past part d r k = Then (λ t. (us : List ℕ) × Chars (part ++ t) us) (Byte 34 (Closed d r k))
 
 abbrev pub Hexes : ℕ → (List ℕ → Type 0) → List ℕ → Type 0
 Hexes zero S s = S s
@@ -131,19 +131,19 @@ Stands d next_name k = AtName d k
 Stands d colon k = AtColon d k
 Stands d after k = After d k
 Stands d (in_word cs) k = Then (λ t. t ≡ cs) (After d k)
-Stands d behind_minus k = Then FromWhole (After d k)
-Stands d behind_zero k = Then FromPoint (After d k)
+Stands d after_minus k = Then FromWhole (After d k)
+Stands d after_zero k = Then FromPoint (After d k)
 Stands d in_whole k = Then InWhole (After d k)
-Stands d behind_point k = Then BehindPoint (After d k)
+Stands d after_point k = Then AfterPoint (After d k)
 Stands d in_fraction k = Then InFraction (After d k)
-Stands d behind_mantissa k = Then Exponent (After d k)
-Stands d behind_letter k = Then BehindLetter (After d k)
-Stands d behind_sign k = Then SomeDigits (After d k)
+Stands d after_mantissa k = Then Exponent (After d k)
+Stands d after_letter k = Then AfterLetter (After d k)
+Stands d after_sign k = Then SomeDigits (After d k)
 Stands d in_exponent k = Then Digits (After d k)
-Stands d (in_string r) k = Behind [] d r k
-Stands d (in_escape r) k = Behind (92 ∷ []) d r k
-Stands d (in_hex r n) k = Hexes (suc n) (Behind [] d r k)
-Stands d (in_character r low high n) k = Second low high n (Behind [] d r k)
+Stands d (in_string r) k = Past [] d r k
+Stands d (in_escape r) k = Past (92 ∷ []) d r k
+Stands d (in_hex r n) k = Hexes (suc n) (Past [] d r k)
+Stands d (in_character r low high n) k = Second low high n (Past [] d r k)
 
 -- what stands after a move
 abbrev pub Later : ℕ → List ℕ → Moves → Type 0

@@ -7,11 +7,11 @@ use Rattle.json_read.specs.Machine.{Open, Role, is_value, is_name, closed, strin
 use Rattle.json_read.specs.Reading.{StandsFor, is_between}
 use Rattle.json_read.proofs.Characters.{stands_ascii}
 use Rattle.json_read.proofs.Utf8.{Bounds, bounds_tell, two_stands, three_stands, four_stands, between}
-use Rattle.reading_laws.proofs.JsonRests.{then_none, then_more, Byte, Closed, Behind, Hexes, Follows, Second, Stands, Later, split, at_byte}
+use Rattle.reading_laws.proofs.JsonRests.{then_none, then_more, Byte, Closed, Past, Hexes, Follows, Second, Stands, Later, split, at_byte}
 
 module _ (d : ℕ) (r : Role) (k : List Open) where
   abbrev Inner : List ℕ → Type 0
-  Inner = Behind [] d r k
+  Inner = Past [] d r k
 
   -- a part that stands for a character, in front of what is left
   part_then : (u : ℕ) (part s : List ℕ) → StandsFor u part → Inner s → Inner (part ++ s)
@@ -78,7 +78,7 @@ module _ (d : ℕ) (r : Role) (k : List Open) where
   -- ## Escapes
 
   abbrev Escaped : List ℕ → Type 0
-  Escaped = Behind (92 ∷ []) d r k
+  Escaped = Past (92 ∷ []) d r k
 
   hexes_back : (s : List ℕ) → Hexes 4 Inner s → Escaped (117 ∷ s)
   hexes_back s (a, s1, e1, ha, (b, s2, e2, hb, (c, s3, e3, hc, (x, s4, e4, hx, (t, rest, e, (us, cs), q))))) =

@@ -133,12 +133,12 @@ module _ (bytes : List ℕ) (i : ℕ) where
   )
 
 -- where bytes end a text, of which the first i are read and `left` are left
-ends_behind : (bytes : List ℕ) (left i : ℕ) (e : Next) → i + left ≡ length bytes → Expects (take i bytes) e → EndsAt bytes
-ends_behind bytes zero i first size h = (None, expects_end bytes i (omega (arith, size)) h)
-ends_behind bytes zero i (between low high n) size h = (Some (length bytes), expects_next bytes i low high n (omega (arith, size)) h)
-ends_behind bytes (suc left) i e size h = ⊎_elim
-    (λ s. ends_behind bytes left (i + 1) s.0 (omega (arith, size)) (expects_more bytes i e s.0 (omega (arith, size)) h s.1))
+ends_after : (bytes : List ℕ) (left i : ℕ) (e : Next) → i + left ≡ length bytes → Expects (take i bytes) e → EndsAt bytes
+ends_after bytes zero i first size h = (None, expects_end bytes i (omega (arith, size)) h)
+ends_after bytes zero i (between low high n) size h = (Some (length bytes), expects_next bytes i low high n (omega (arith, size)) h)
+ends_after bytes (suc left) i e size h = ⊎_elim
+    (λ s. ends_after bytes left (i + 1) s.0 (omega (arith, size)) (expects_more bytes i e s.0 (omega (arith, size)) h s.1))
     (λ s. (Some i, expects_not bytes i e (omega (arith, size)) h s)) (goes e (get_or bytes i 0))
 
 pub utf8_end : (bytes : List ℕ) → EndsAt bytes
-utf8_end bytes = ends_behind bytes (length bytes) 0 first (omega arith) (λ more. (λ h. h, λ h. h), ([], IsUtf8-nil))
+utf8_end bytes = ends_after bytes (length bytes) 0 first (omega arith) (λ more. (λ h. h, λ h. h), ([], IsUtf8-nil))

@@ -8,5 +8,5 @@ ghost use Rattle.reading_laws.specs.Laws.{ReadingsExist};
 /// Bytes are a JSON text with its value or have a fault, are UTF-8 or stop somewhere to begin a text, and are an
 /// expression or have a fault: there are readings of texts, as laws of runs suppose them.
 pub fn readings_exist()
-    ensures { ReadingsExist }
+    ensures holds { ReadingsExist }
 {}

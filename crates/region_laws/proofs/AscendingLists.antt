@@ -77,8 +77,8 @@ is_list_of (n ∷ ns) up xs c =
     ]
 
 -- numbers of a list that come after one of its first are not that one
-behind : (n : ℕ) (ns : List ℕ) (x : ℕ) → nat_lt n x ≡ true → Contains (n ∷ ns) x → Contains ns x
-behind n ns x less c = elim (Contains-cases n ns x c) [
+past : (n : ℕ) (ns : List ℕ) (x : ℕ) → nat_lt n x ≡ true → Contains (n ∷ ns) x → Contains ns x
+past n ns x less c = elim (Contains-cases n ns x c) [
   | inl e ↦ absurd (nat_order.irreflexive x (subst (λ (m : ℕ). nat_lt m x ≡ true) e less))
   | inr more ↦ more
 ]
@@ -90,7 +90,7 @@ module _ (n : ℕ) (ns : List ℕ) (up : IsAscending nat_lt (n ∷ ns)) (rest : 
       let tail : IsListOf ns (x ∷ xs) = record {
         some = λ e. absurd (cc);
         rising = h.rising.1;
-        within = λ m c. behind n ns m (h.rising.0 m c) (h.within m (Contains-later n (x ∷ xs) m c));
+        within = λ m c. past n ns m (h.rising.0 m c) (h.within m (Contains-later n (x ∷ xs) m c));
       } in
       Contains-later (n ∷ []) (map (λ (L : List ℕ). n ∷ L) (ascending_lists ns) ++ ascending_lists ns) (n ∷ x ∷ xs)
       (Contains-append_left (map (λ (L : List ℕ). n ∷ L) (ascending_lists ns)) (ascending_lists ns) (n ∷ x ∷ xs) (Contains-map (λ (L : List ℕ). n ∷ L) (ascending_lists ns) (x ∷ xs) (rest (x ∷ xs) tail)))
@@ -103,7 +103,7 @@ module _ (n : ℕ) (ns : List ℕ) (up : IsAscending nat_lt (n ∷ ns)) (rest : 
         rising = h.rising;
         within = λ k c. elim (Contains-cases m xs k c) [
           | inl e ↦ subst (Contains ns) e there
-          | inr more ↦ behind n ns k (nat_order.trans n m k less (h.rising.0 k more)) (h.within k c)
+          | inr more ↦ past n ns k (nat_order.trans n m k less (h.rising.0 k more)) (h.within k c)
         ];
       } in
       Contains-later (n ∷ []) (map (λ (L : List ℕ). n ∷ L) (ascending_lists ns) ++ ascending_lists ns) (m ∷ xs)

@@ -8,5 +8,5 @@ ghost use Rattle.region_model.specs.PolygonCommands.{dissolved};
 
 /// A group without members has the empty union for its region.
 pub fn nothing_dissolves_to_nothing()
-    ensures { (region : ℕ → Region) → dissolved region [] ≡ any_of [] }
+    ensures holds { (region : ℕ → Region) → dissolved region [] ≡ any_of [] }
 {}

@@ -134,7 +134,7 @@ fn earlier(first: Option<u32>, n: u32, areas: &[i128], rule: OverlapRule) -> u32
 }
 
 fn area_at(areas: &[i128], n: u32) -> i128
-    ensures { result ≡ slice_index_or areas.now n (pos 0) }
+    ensures exact { result ≡ slice_index_or areas.now n (pos 0) }
 {
     match areas.get(n as usize) {
         Some(area) => *area,

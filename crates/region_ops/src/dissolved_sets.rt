@@ -31,7 +31,7 @@ pub fn dissolve_sets(
 // The faces of the members of a group, set by set.
 fn faces_of(alloc: Global, old: &SetList, group: &[u32]) -> Result<Vec<FaceId>, AllocError>
     requires members { All (λ n. n < length old.now) group.now }
-    ensures { IfOk result (λ v. v.items ≡ flat_map (set_at old.now) group.now) }
+    ensures exact { IfOk result (λ v. v.items ≡ flat_map (set_at old.now) group.now) }
 {
     let sets = old.as_slice();
     let mut faces = Vec::new(alloc);

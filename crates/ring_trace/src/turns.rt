@@ -70,14 +70,14 @@ fn push_points(points: &mut Vec<Pt>, t: &ArcTable, arc: SignedArc) -> Result<(),
 // The place, among the `count` points of an arc, of the point that comes after `k` others on the signed arc.
 fn place_along(arc: SignedArc, count: usize, k: usize) -> usize
     requires { k < count }
-    ensures { result ≡ (if arc.is_reversed then count - 1 - k else k) }
+    ensures exact { result ≡ (if arc.is_reversed then count - 1 - k else k) }
 {
     if arc.is_reversed() { count - 1 - k } else { k }
 }
 
 // Pushes the first of the points.
 fn close(points: &mut Vec<Pt>) -> Result<(), AllocError>
-    ensures { OnOk result (points.new.items ≡ closed points.old.items) }
+    ensures ok { OnOk result (points.new.items ≡ closed points.old.items) }
 {
     if points.len() > 0 {
         let first = points[0];

@@ -33,12 +33,12 @@ module _ (left right : RowValues) (n : ℕ) (a b : Value) (l : n < length left) 
       in omega (arith, so_far, one)
 
 -- two rows of one length that have been read to their end
-behind : (left right : RowValues) (n : ℕ) → length left ≤ n → first_difference (drop n left) (drop n right) ≡ 0
-behind [] right zero l = refl
-behind [] right (suc n) l = refl
-behind (x ∷ left) right zero l = absurd (omega arith)
-behind (x ∷ left) [] (suc n) l = none_right (drop n left)
-behind (x ∷ left) (y ∷ right) (suc n) l = behind left right n (omega arith)
+after : (left right : RowValues) (n : ℕ) → length left ≤ n → first_difference (drop n left) (drop n right) ≡ 0
+after [] right zero l = refl
+after [] right (suc n) l = refl
+after (x ∷ left) right zero l = absurd (omega arith)
+after (x ∷ left) [] (suc n) l = none_right (drop n left)
+after (x ∷ left) (y ∷ right) (suc n) l = after left right n (omega arith)
 
 pub agrees_to_end : (left right : RowValues) (n : ℕ) → length left ≤ n → first_difference left right ≡ n + first_difference (drop n left) (drop n right) → n ≡ first_difference left right
-agrees_to_end left right n l so_far = omega (arith, so_far, behind left right n l)
+agrees_to_end left right n l so_far = omega (arith, so_far, after left right n l)

@@ -87,11 +87,7 @@ fn built(alloc: Global, snapped: Snapped) -> Result<LaidOut, AllocError>
 }
 
 // Without point features no run asks in which face a point lies.
-fn faces_between(
-    alloc: Global,
-    arcs: &ArcTable,
-    point_count: u32,
-) -> Result<Faces, AllocError>
+fn faces_between(alloc: Global, arcs: &ArcTable, point_count: u32) -> Result<Faces, AllocError>
     ensures built { IfOk result (IsBuiltOf arcs.now) }
 {
     if point_count == 0 {

@@ -106,7 +106,7 @@ SourcesGive places [] budget seen left after [] = (left ≡ budget) × (after �
 SourcesGive places [] budget seen left after (layers ∷ more) = ⊥
 SourcesGive places (source ∷ sources) budget seen left after [] = ⊥
 SourcesGive places (source ∷ sources) budget seen left after (layers ∷ more) =
-    (behind : Budget) × (middle : SourcesSeen) × SourceGives places source budget behind seen middle layers × Grew seen middle × SourcesGive places sources behind middle left after more
+    (past : Budget) × (middle : SourcesSeen) × SourceGives places source budget past seen middle layers × Grew seen middle × SourcesGive places sources past middle left after more
 
 -- all sources of a run gave layers
 abbrev pub GivesAll : ℕ → List SourceWord → SourcesSeen → SourcesSeen → List (List LayerContent) → Type 0

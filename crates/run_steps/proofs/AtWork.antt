@@ -14,7 +14,7 @@ use Rattle.run_state.specs.declared.state.HeldLayer.{HeldLayer}
 use Rattle.run_steps.specs.Commands.{PutsFor, PutsTogether}
 use Rattle.run_steps.specs.Refusals.{FailsEach, RefusesIn, RefusesLayer, failed_together, output_count, overfull_each, refused_count, refused_together, stay_count}
 use Rattle.run_steps.proofs.Counting.{left_by_each, left_together}
-use Rattle.run_steps.proofs.Refusals.{goes_counted, stops_at_first, stops_behind, stops_counted}
+use Rattle.run_steps.proofs.Refusals.{goes_counted, stops_at_first, stops_after, stops_counted}
 
 -- a layer of the target is refused
 pub each_stopped : (base : Base) (layers seen : List HeldLayer) (c : Command) (a : LayerAction) (s : CommandStop) → seen ≡ layers →
@@ -36,7 +36,7 @@ module _ (base : Base) (layers seen : List HeldLayer) (c : Command) (outputs : L
 
   pub each_stops : (s : CommandStop) → RefusesIn (RefusesLayer base seen a) (targets c.target seen) None → StopsFor (refused_count (length (placed c layers outputs))) s → StopsAs (FailsEach base layers c a) s
   each_stops s none stops =
-      stops_behind (RefusesIn (RefusesLayer base layers a) (targets c.target layers)) (λ (told : Option RefuseWhy). overfull_each layers c a ≡ told) s (none_refused none)
+      stops_after (RefusesIn (RefusesLayer base layers a) (targets c.target layers)) (λ (told : Option RefuseWhy). overfull_each layers c a ≡ told) s (none_refused none)
       (subst (λ (n : ℕ). StopsFor (refused_count n) s) as_many stops)
 
 module _ (base : Base) (layers seen : List HeldLayer) (c : Command) (outputs : List (List Layer)) (same : seen ≡ layers) (a : JointAction) where

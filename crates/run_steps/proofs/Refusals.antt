@@ -48,9 +48,9 @@ pub stops_at_first : (First Second : Option RefuseWhy → Type 0) (s : CommandSt
 stops_at_first First Second (stop.Refused why) h = inl h
 stops_at_first First Second stop.Memory h = tt
 
-pub stops_behind : (First Second : Option RefuseWhy → Type 0) (s : CommandStop) → First None → StopsAs Second s → StopsAs (FirstOf First Second) s
-stops_behind First Second (stop.Refused why) f h = inr (f, h)
-stops_behind First Second stop.Memory f h = tt
+pub stops_after : (First Second : Option RefuseWhy → Type 0) (s : CommandStop) → First None → StopsAs Second s → StopsAs (FirstOf First Second) s
+stops_after First Second (stop.Refused why) f h = inr (f, h)
+stops_after First Second stop.Memory f h = tt
 
 -- ---- layer by layer
 

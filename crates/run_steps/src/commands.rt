@@ -21,7 +21,7 @@ const MAX_LAYERS: usize = 1_000;
 ///
 /// Errors: the first refusal, of the target, the source, the kinds of the layers, a layer in order, or of too many
 /// layers; and `Memory`.
-#[tactic(auto, using(crate::proofs::Refusals::past, crate::proofs::Refusals::stops_at_first, crate::proofs::Refusals::stops_behind))]
+#[tactic(auto, using(crate::proofs::Refusals::past, crate::proofs::Refusals::stops_at_first, crate::proofs::Refusals::stops_after))]
 pub fn changed_each(
     alloc: Global,
     base: &Base<'_>,

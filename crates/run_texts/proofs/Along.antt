@@ -12,9 +12,9 @@ flat_more : {A B : Type 0} (f : A → List B) (xs : List A) (x : A) → flat_map
 flat_more f [] x = append-nil (f x)
 flat_more f (y ∷ xs) x = ap (λ (zs : List _). f y ++ zs) (flat_more f xs x) ∙ sym (append_assoc (f y) (flat_map f xs) (f x))
 
-behind_some : (before way : Path) → 0 < length before → without_shared before way ≡ tail way
-behind_some [] way h = absurd (omega (arith, h))
-behind_some (p ∷ ps) way h = refl
+after_some : (before way : Path) → 0 < length before → without_shared before way ≡ tail way
+after_some [] way h = absurd (omega (arith, h))
+after_some (p ∷ ps) way h = refl
 
 -- one more arc
 pub along_more : (table : List Path) (path : List SignedArc) (a : SignedArc) (points : Path) → points ≡ points_along table path → (0 < length path → 0 < length points) → points_along table (path ++ a ∷ []) ≡ points ++ without_shared points (points_of table a)
@@ -25,7 +25,7 @@ along_more table (b ∷ later) a points e some =
     ap (λ (ps : Path). points_of table b ++ ps) (flat_more later_points later a)
     ∙ sym (append_assoc (points_of table b) (flat_map later_points later) (tail (points_of table a)))
     ∙ ap (λ (ps : Path). ps ++ tail (points_of table a)) (sym e)
-    ∙ ap (λ (ps : Path). points ++ ps) (sym (behind_some points (points_of table a) (some (omega arith))))
+    ∙ ap (λ (ps : Path). points ++ ps) (sym (after_some points (points_of table a) (some (omega arith))))
 
 dropped : (way : Path) → drop 1 way ≡ tail way
 dropped [] = refl

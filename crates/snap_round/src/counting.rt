@@ -8,7 +8,7 @@ use std::alloc::AllocError;
 /// How many links the chains of these segments have together. A number past the last `u64` is out of memory: no
 /// drawing has that many.
 pub fn count_links(hot: &HotSet, spots: &[Seg]) -> Result<u64, AllocError>
-    ensures { IfOk result (λ count. count ≡ sum_by (links_along hot.now) spots.now) }
+    ensures exact { IfOk result (λ count. count ≡ sum_by (links_along hot.now) spots.now) }
 {
     let mut count: u64 = 0;
     for s in spots {

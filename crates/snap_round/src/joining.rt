@@ -36,7 +36,7 @@ pub struct Progress {
 
 // Takes the links of a chain out of the room, and goes on to the next step.
 fn go_on(progress: &mut Progress, links: u32) -> Result<(), PathStop>
-    ensures { progress.new.joined ≡ progress.old.joined }
+    ensures exact { progress.new.joined ≡ progress.old.joined }
 {
     progress.place = progress.place.wrapping_add(1);
     match progress.room.checked_sub(u64::from(links)) {
@@ -57,7 +57,7 @@ fn append_step(
 ) -> Result<(), PathStop>
     requires start { Contains hot.now.points s.now.start }
     requires stop { Contains hot.now.points s.now.stop }
-    ensures { OnOk result (progress.new.joined ≡ progress.old.joined ++ chain_after hot.now.points s.now) }
+    ensures ok { OnOk result (progress.new.joined ≡ progress.old.joined ++ chain_after hot.now.points s.now) }
 {
     let before = progress.joined.len();
     hot.go_along(alloc, &mut progress.joined, s, progress.place)?;
@@ -74,7 +74,7 @@ fn append_chains(
     rest: &[Pt],
 ) -> Result<(), PathStop>
     requires hot { (p : GridPoint) → Contains (from ∷ rest.now) p → Contains hot.now.points p }
-    ensures { OnOk result (progress.new.joined ≡ progress.old.joined ++ flat_map (chain_after hot.now.points) (steps_after from rest.now)) }
+    ensures ok { OnOk result (progress.new.joined ≡ progress.old.joined ++ flat_map (chain_after hot.now.points) (steps_after from rest.now)) }
 {
     let mut last = from;
     for p in rest {
@@ -94,7 +94,7 @@ pub fn joined_chains(
     path: &[Pt],
 ) -> Result<PtList, PathStop>
     requires { IsHotPath hot.now.points path.now }
-    ensures { IfOk result (AreChainsOf hot.now.points path.now) }
+    ensures made { IfOk result (AreChainsOf hot.now.points path.now) }
 {
     go_on(progress, 0)?;
     progress.joined.clear();

@@ -19,7 +19,7 @@ fn add_rings(
 ) -> Result<(), PathStop>
     requires polygon { 0 < length (last_of [] out.old.polygons) }
     requires hot { All (IsHotRing hot.now.points) rings.now }
-    ensures { OnOk result (out.new ≡ with_rings (map (snapped_path hot.now.points) rings.now) out.old) }
+    ensures ok { OnOk result (out.new ≡ with_rings (map (snapped_path hot.now.points) rings.now) out.old) }
 {
     for ring in rings {
         let joined = joined_chains(alloc, progress, hot, ring.as_slice())?;
@@ -38,7 +38,7 @@ fn add_polygons(
 ) -> Result<(), PathStop>
     requires feature { 0 < length out.old.polygons }
     requires hot { All (All (IsHotRing hot.now.points)) polygons.now }
-    ensures { OnOk result (out.new ≡ with_polygons (map (map (snapped_path hot.now.points)) polygons.now) out.old) }
+    ensures ok { OnOk result (out.new ≡ with_polygons (map (map (snapped_path hot.now.points)) polygons.now) out.old) }
 {
     for polygon in polygons {
         out.add_polygon()?;
@@ -55,7 +55,7 @@ fn add_polygon_features(
     d: &Drawing,
 ) -> Result<(), PathStop>
     requires hot { All (All (All (IsHotRing hot.now.points))) d.now.polygons }
-    ensures { OnOk result (out.new ≡ record out.old { polygons = out.old.polygons ++ map (map (map (snapped_path hot.now.points))) d.now.polygons }) }
+    ensures ok { OnOk result (out.new ≡ record out.old { polygons = out.old.polygons ++ map (map (map (snapped_path hot.now.points))) d.now.polygons }) }
 {
     for f in 0..d.polygon_count() {
         let polygons = d.rings_of(FeatId::new(f));
@@ -75,7 +75,7 @@ fn add_lines(
 ) -> Result<(), PathStop>
     requires feature { 0 < length out.old.lines }
     requires hot { All (IsHotPath hot.now.points) lines.now }
-    ensures { OnOk result (out.new ≡ with_lines (map (snapped_path hot.now.points) lines.now) out.old) }
+    ensures ok { OnOk result (out.new ≡ with_lines (map (snapped_path hot.now.points) lines.now) out.old) }
 {
     for line in lines {
         let joined = joined_chains(alloc, progress, hot, line.as_slice())?;
@@ -92,7 +92,7 @@ fn add_line_features(
     d: &Drawing,
 ) -> Result<(), PathStop>
     requires hot { All (All (IsHotPath hot.now.points)) d.now.lines }
-    ensures { OnOk result (out.new ≡ record out.old { lines = out.old.lines ++ map (map (snapped_path hot.now.points)) d.now.lines }) }
+    ensures ok { OnOk result (out.new ≡ record out.old { lines = out.old.lines ++ map (map (snapped_path hot.now.points)) d.now.lines }) }
 {
     for f in 0..d.line_count() {
         let lines = d.lines_of(FeatId::new(f));
@@ -105,7 +105,7 @@ fn add_line_features(
 // Adds the points to the last point feature.
 fn add_points(out: &mut Drawing, points: &[Pt]) -> Result<(), AllocError>
     requires feature { 0 < length out.old.points }
-    ensures { OnOk result (out.new ≡ with_points points.now out.old) }
+    ensures ok { OnOk result (out.new ≡ with_points points.now out.old) }
 {
     for p in points {
         out.add_point(*p)?;
@@ -115,7 +115,7 @@ fn add_points(out: &mut Drawing, points: &[Pt]) -> Result<(), AllocError>
 
 /// Adds the point features of a drawing, as they are.
 pub fn add_point_features(out: &mut Drawing, d: &Drawing) -> Result<(), AllocError>
-    ensures { OnOk result (out.new ≡ record out.old { points = out.old.points ++ d.now.points }) }
+    ensures ok { OnOk result (out.new ≡ record out.old { points = out.old.points ++ d.now.points }) }
 {
     for f in 0..d.point_count() {
         let points = d.points_of(FeatId::new(f));
@@ -142,7 +142,7 @@ fn add_boxes(
     d: &Drawing,
 ) -> Result<(), PathStop>
     requires hot { All (IsHotRing hot.now.points) d.now.boxes }
-    ensures { OnOk result (out.new ≡ record out.old { boxes = out.old.boxes ++ map (snapped_path hot.now.points) d.now.boxes }) }
+    ensures ok { OnOk result (out.new ≡ record out.old { boxes = out.old.boxes ++ map (snapped_path hot.now.points) d.now.boxes }) }
 {
     for b in 0..d.box_count() {
         let joined = joined_chains(alloc, progress, hot, d.box_of(b).as_slice())?;
@@ -160,7 +160,7 @@ pub fn snapped_paths(
     d: &Drawing,
 ) -> Result<Drawing, PathStop>
     requires { HasHotPaths hot.now.points d.now }
-    ensures { IfOk result (λ paths. paths ≡ without_points (snapped_by hot.now.points d.now)) }
+    ensures exact { IfOk result (λ paths. paths ≡ without_points (snapped_by hot.now.points d.now)) }
 {
     let mut paths = Drawing::new(alloc);
     add_polygon_features(alloc, &mut paths, progress, hot, d)?;

@@ -26,7 +26,7 @@ const MOST_LINKS: u64 = 8_000_000;
 fn count_of(alloc: Global, hot: HotEdges, d: &Drawing) -> Result<u64, AllocError>
     requires paths { HasPaths d.now }
     requires hot { hot.points ≡ ascending is_before (hot_points d.now) }
-    ensures { IfOk result (λ count. count ≡ link_count (snapped d.now)) }
+    ensures exact { IfOk result (λ count. count ≡ link_count (snapped d.now)) }
 {
     let set = HotSet::over(alloc, hot)?;
     let spots = spots_of(alloc, d)?;
@@ -72,7 +72,7 @@ fn paths_within(
 fn links_along(alloc: Global, hot: HotEdges, d: &Drawing) -> Result<LinkList, AllocError>
     requires hot { hot.points ≡ ascending is_before (hot_points d.now) }
     requires edges { AreEdgesOf (spots_of d.now) hot.edges }
-    ensures { IfOk result (λ links. links ≡ links_of (snapped d.now)) }
+    ensures exact { IfOk result (λ links. links ≡ links_of (snapped d.now)) }
 {
     let found = hot.links(alloc)?;
     drop(hot);
@@ -89,7 +89,7 @@ fn with_links(
     requires hot { hot.points ≡ ascending is_before (hot_points d.now) }
     requires edges { AreEdgesOf (spots_of d.now) hot.edges }
     requires paths { paths ≡ without_points (snapped d.now) }
-    ensures { IfOk result (λ s. s ≡ snapped d.now) }
+    ensures exact { IfOk result (λ s. s ≡ snapped d.now) }
 {
     let links = links_along(alloc, hot, d)?;
     let mut all = paths;
@@ -100,7 +100,7 @@ fn with_links(
 // The snapped drawing, however many links it has.
 fn snap_all(alloc: Global, d: &Drawing) -> Result<Snapped, AllocError>
     requires paths { HasPaths d.now }
-    ensures { IfOk result (λ s. s ≡ snapped d.now) }
+    ensures exact { IfOk result (λ s. s ≡ snapped d.now) }
 {
     let hot = HotEdges::of(alloc, d)?;
     match paths_within(alloc, &hot, d, u64::MAX)? {
@@ -146,7 +146,7 @@ pub fn into_snapped(alloc: Global, d: Drawing) -> Result<Snapped, SnapFault>
 
 // Whether a drawing has neither polygon features nor line features nor boxes.
 fn has_points_alone(d: &Drawing) -> bool
-    ensures { result ≡ true → HasPointsAlone d.now }
+    ensures yes { result ≡ true → HasPointsAlone d.now }
 {
     d.polygon_count() == 0 && d.line_count() == 0 && d.box_count() == 0
 }

@@ -6,13 +6,13 @@ use std::alloc::AllocError;
 
 // A count with more counted. A number past the last `u64` is out of memory: no drawing has that many vertices.
 fn counted(count: u64, more: u64) -> Result<u64, AllocError>
-    ensures { IfOk result (λ sum. sum ≡ count + more) }
+    ensures exact { IfOk result (λ sum. sum ≡ count + more) }
 {
     count.checked_add(more).ok_or(AllocError)
 }
 
 fn count_in_rings(rings: &[PtList]) -> Result<u64, AllocError>
-    ensures { IfOk result (λ count. count ≡ sum_by length rings.now) }
+    ensures exact { IfOk result (λ count. count ≡ sum_by length rings.now) }
 {
     let mut count: u64 = 0;
     for ring in rings {
@@ -22,7 +22,7 @@ fn count_in_rings(rings: &[PtList]) -> Result<u64, AllocError>
 }
 
 fn count_in_polygons(polygons: &[PolygonRings]) -> Result<u64, AllocError>
-    ensures { IfOk result (λ count. count ≡ sum_by (sum_by length) polygons.now) }
+    ensures exact { IfOk result (λ count. count ≡ sum_by (sum_by length) polygons.now) }
 {
     let mut count: u64 = 0;
     for polygon in polygons {
@@ -32,7 +32,7 @@ fn count_in_polygons(polygons: &[PolygonRings]) -> Result<u64, AllocError>
 }
 
 fn count_in_polygon_features(d: &Drawing) -> Result<u64, AllocError>
-    ensures { IfOk result (λ count. count ≡ sum_by (sum_by (sum_by length)) d.now.polygons) }
+    ensures exact { IfOk result (λ count. count ≡ sum_by (sum_by (sum_by length)) d.now.polygons) }
 {
     let mut count: u64 = 0;
     for f in 0..d.polygon_count() {
@@ -43,7 +43,7 @@ fn count_in_polygon_features(d: &Drawing) -> Result<u64, AllocError>
 }
 
 fn count_in_line_features(d: &Drawing) -> Result<u64, AllocError>
-    ensures { IfOk result (λ count. count ≡ sum_by (sum_by length) d.now.lines) }
+    ensures exact { IfOk result (λ count. count ≡ sum_by (sum_by length) d.now.lines) }
 {
     let mut count: u64 = 0;
     for f in 0..d.line_count() {
@@ -54,7 +54,7 @@ fn count_in_line_features(d: &Drawing) -> Result<u64, AllocError>
 }
 
 fn count_in_boxes(d: &Drawing) -> Result<u64, AllocError>
-    ensures { IfOk result (λ count. count ≡ sum_by length d.now.boxes) }
+    ensures exact { IfOk result (λ count. count ≡ sum_by length d.now.boxes) }
 {
     let mut count: u64 = 0;
     for b in 0..d.box_count() {
@@ -65,7 +65,7 @@ fn count_in_boxes(d: &Drawing) -> Result<u64, AllocError>
 
 /// How many vertices the paths of a drawing have: each has fewer links.
 pub fn count_vertices(d: &Drawing) -> Result<u64, AllocError>
-    ensures { IfOk result (λ count. link_count d.now ≤ count) }
+    ensures made { IfOk result (λ count. link_count d.now ≤ count) }
 {
     let polygons = count_in_polygon_features(d)?;
     let lines = count_in_line_features(d)?;

@@ -29,8 +29,8 @@ module _ {A : Type 0} where
   pub record IsKeeping (ids ends₀ : List ℕ) (points₀ : List A) (ends : List ℕ) (points : List A) (kept at from i : ℕ) : Type 0 where
     pub chosen : kept ≤ length ids
     pub ahead : kept < length ids → i ≤ get_or ids kept 0
-    pub spans_behind : kept ≤ i
-    pub points_behind : at ≤ from
+    pub spans_past : kept ≤ i
+    pub points_past : at ≤ from
     pub from_is : from ≡ begin 0 ends₀ i
     pub from_within : from ≤ length points₀
     pub cut_up : CutsUp 0 (take kept ends) at
@@ -44,8 +44,8 @@ module _ {A : Type 0} where
   keeping_none ids ends points = record {
     chosen = omega arith;
     ahead = λ _. omega arith;
-    spans_behind = omega arith;
-    points_behind = omega arith;
+    spans_past = omega arith;
+    points_past = omega arith;
     from_is = refl;
     from_within = omega arith;
     cut_up = refl;
@@ -72,13 +72,13 @@ module _ {A : Type 0} where
     pub keeping_more : (kept < length ids → get_or ids kept 0 ≡ i → ⊥) → IsKeeping ids ends₀ points₀ ends points kept at (get_or ends i 0) (i + 1)
     keeping_more other =
         let place = end_within in
-        let at_behind = h.points_behind in
-        let kept_behind = h.spans_behind in
+        let at_after = h.points_past in
+        let kept_after = h.spans_past in
         record {
           chosen = h.chosen;
           ahead = λ l. let a = h.ahead l in let b = other l in omega (arith, a, b);
-          spans_behind = omega arith;
-          points_behind = omega arith;
+          spans_past = omega arith;
+          points_past = omega arith;
           from_is = end_is ∙ ap (λ (n : ℕ). begin 0 ends₀ n) (let e : suc i ≡ i + 1 = omega arith in e);
           from_within = place.1;
           cut_up = h.cut_up;
@@ -100,8 +100,8 @@ module _ {A : Type 0} where
         IsKeeping ids ends₀ points₀ (set ends kept (at + size)) moved (kept + 1) (at + size) (get_or ends i 0) (i + 1)
     keeping_move l e ascending =
         let place = end_within in
-        let at_behind = h.points_behind in
-        let kept_behind = h.spans_behind in
+        let at_after = h.points_past in
+        let kept_after = h.spans_past in
         let ends_count = h.ends_count in
         let points_count = h.points_count in
         let from_within = h.from_within in
@@ -122,8 +122,8 @@ module _ {A : Type 0} where
         record {
           chosen = omega arith;
           ahead = λ l'. let a = ascending l' in omega (arith, a, e);
-          spans_behind = omega arith;
-          points_behind = omega arith;
+          spans_past = omega arith;
+          points_past = omega arith;
           from_is = end_is ∙ ap (λ (n : ℕ). begin 0 ends₀ n) (let e : suc i ≡ i + 1 = omega arith in e);
           from_within = place.1;
           cut_up = subst (λ (es : List ℕ). CutsUp 0 es (at + size)) (sym (take_more_set ends kept (at + size) (omega arith))) (CutsUp-push 0 (take kept ends) at (at + size) h.cut_up (omega arith));

@@ -157,7 +157,7 @@ fn gather(points: &mut Vec<Pt>, ends: &mut Vec<u32>, ids: &[u32]) -> (usize, usi
 fn part(points: &[Pt], start: usize, end: usize) -> &[Pt]
     requires ordered { start ≤ end }
     requires within { end ≤ length points.now }
-    ensures { result.now ≡ slice_range points.now start end }
+    ensures exact { result.now ≡ slice_range points.now start end }
 {
     &points[start..end]
 }

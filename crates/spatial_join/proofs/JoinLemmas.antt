@@ -24,7 +24,7 @@ use Rattle.table_rows.specs.declared.fault.TableFault.{TableFault}
 use Rattle.table_rows.specs.declared.fault.TableFault.TheVariants.{Bad, Memory}
 use Rattle.table_rows.specs.declared.fault.TableWhy.{TableWhy}
 use Rattle.table_ops.specs.declared.join_columns.Column.{Column}
-use Rattle.table_ops.proofs.Testing.{behind, behind_one}
+use Rattle.table_ops.proofs.Testing.{past, after_one}
 use Rattle.spatial_join.specs.CalcColumns.{calculated_at, row_by_places, rows_by_places, with_sums}
 use Rattle.spatial_join.specs.Joined.{each_ok, matching}
 use Rattle.bucket_grid.proofs.RisingNumbers.{numbers_where_rise}
@@ -49,18 +49,18 @@ module _ {A B : Type 0} (f : A → Result B TableWhy) where
   each_from xs y = on_ok (each_ok f xs) (λ (ys : List B). Ok (y ∷ ys))
 
   -- one item further
-  pub each_next : (ys : List B) (xs rest : List A) (x : A) (y : B) → xs ≡ x ∷ rest → f x ≡ Ok y → behind ys (each_ok f xs) ≡ behind (ys ++ y ∷ []) (each_ok f rest)
+  pub each_next : (ys : List B) (xs rest : List A) (x : A) (y : B) → xs ≡ x ∷ rest → f x ≡ Ok y → past ys (each_ok f xs) ≡ past (ys ++ y ∷ []) (each_ok f rest)
   each_next ys xs rest x y e said =
-      ap (λ (zs : List A). behind ys (each_ok f zs)) e ∙ ap (λ (r : Result B TableWhy). behind ys (on_ok r (each_from rest))) said ∙ behind_one ys y (each_ok f rest)
+      ap (λ (zs : List A). past ys (each_ok f zs)) e ∙ ap (λ (r : Result B TableWhy). past ys (on_ok r (each_from rest))) said ∙ after_one ys y (each_ok f rest)
 
   -- the first refusal is that of the whole
-  pub each_stops : (ys : List B) (xs rest : List A) (x : A) (why : TableWhy) → xs ≡ x ∷ rest → f x ≡ Err why → behind ys (each_ok f xs) ≡ Err why
+  pub each_stops : (ys : List B) (xs rest : List A) (x : A) (why : TableWhy) → xs ≡ x ∷ rest → f x ≡ Err why → past ys (each_ok f xs) ≡ Err why
   each_stops ys xs rest x why e said =
-      ap (λ (zs : List A). behind ys (each_ok f zs)) e ∙ ap (λ (r : Result B TableWhy). behind ys (on_ok r (each_from rest))) said
+      ap (λ (zs : List A). past ys (each_ok f zs)) e ∙ ap (λ (r : Result B TableWhy). past ys (on_ok r (each_from rest))) said
 
   -- after the last item
-  pub each_done : (ys : List B) (xs : List A) → xs ≡ [] → behind ys (each_ok f xs) ≡ Ok ys
-  each_done ys xs e = ap (λ (zs : List A). behind ys (each_ok f zs)) e ∙ ap Ok (append-nil ys)
+  pub each_done : (ys : List B) (xs : List A) → xs ≡ [] → past ys (each_ok f xs) ≡ Ok ys
+  each_done ys xs e = ap (λ (zs : List A). past ys (each_ok f zs)) e ∙ ap Ok (append-nil ys)
 
   pub each_answers : (xs : List A) (ys : List B) → each_ok f xs ≡ Ok ys → AllZip (λ (x : A) (y : B). f x ≡ Ok y) xs ys
   each_answers [] ys e = subst (AllZip (λ (x : A) (y : B). f x ≡ Ok y) []) (answer_same [] ys e) tt
@@ -163,14 +163,14 @@ module _ (source : List RowValues) (columns : List Column) (sums : List (Option 
     answer_is : row_by_places source columns sums (get_or target i d) (matching remaining (get_or matches i e)) ≡ row_by_places source columns sums row matched
     answer_is = (λ j. row_by_places source columns sums (sym row_is j) (sym (is ∙ ap (matching remaining) list_is) j))
 
-    pub rows_stop : (why : TableWhy) → row_by_places source columns sums row matched ≡ Err why → behind rows (rows_by_places source columns sums remaining (drop i (zip target matches))) ≡ Err why
+    pub rows_stop : (why : TableWhy) → row_by_places source columns sums row matched ≡ Err why → past rows (rows_by_places source columns sums remaining (drop i (zip target matches))) ≡ Err why
     rows_stop why said = each_stops answer rows (drop i pairs) (drop (suc i) pairs) pair why next_pair (answer_is ∙ said)
 
     pub rows_next : (new : RowValues) (longer : List RowValues) → row_by_places source columns sums row matched ≡ Ok new → longer ≡ rows ++ new ∷ [] →
-        behind rows (rows_by_places source columns sums remaining (drop i (zip target matches))) ≡ behind longer (rows_by_places source columns sums remaining (drop (i + 1) (zip target matches)))
+        past rows (rows_by_places source columns sums remaining (drop i (zip target matches))) ≡ past longer (rows_by_places source columns sums remaining (drop (i + 1) (zip target matches)))
     rows_next new longer said pushed =
         each_next answer rows (drop i pairs) (drop (suc i) pairs) pair new next_pair (answer_is ∙ said)
-        ∙ (λ j. behind (sym pushed j) (rows_by_places source columns sums remaining (drop (sym (add-one i) j) pairs)))
+        ∙ (λ j. past (sym pushed j) (rows_by_places source columns sums remaining (drop (sym (add-one i) j) pairs)))
 
-  pub rows_done : (rows : List RowValues) (i : ℕ) → length target ≤ i → behind rows (rows_by_places source columns sums remaining (drop i (zip target matches))) ≡ Ok rows
+  pub rows_done : (rows : List RowValues) (i : ℕ) → length target ≤ i → past rows (rows_by_places source columns sums remaining (drop i (zip target matches))) ≡ Ok rows
   rows_done rows i past = each_done answer rows (drop i pairs) (zip_past target matches i (sym each) past)

@@ -164,7 +164,7 @@ fn matching(alloc: Global, remaining: &[u32], matched: &[u32]) -> Result<IdList,
 
 fn is_listed(numbers: &[u32], n: u32) -> bool
     requires { IsStrictlyIncreasing numbers.now }
-    ensures { result ≡ has nat_eq numbers.now n }
+    ensures exact { result ≡ has nat_eq numbers.now n }
 {
     match numbers.binary_search(&n) {
         Ok(_) => true,

@@ -110,7 +110,7 @@ fn turned_round(alloc: Global, lists: &GroupList, count: u32) -> Result<GroupLis
 // Puts a number to the lists at each of some places.
 fn add_number(lists: &mut Vec<Vec<u32>>, places: &[u32], n: u32) -> Result<(), AllocError>
     requires { IsStrictlyIncreasing places.now }
-    ensures { OnOk result (IsNumbered n places.now (map (λ list. list.items) lists.old.items) (map (λ list. list.items) lists.new.items)) }
+    ensures ok { OnOk result (IsNumbered n places.now (map (λ list. list.items) lists.old.items) (map (λ list. list.items) lists.new.items)) }
 {
     for place in places {
         put_number(lists, *place as usize, n)?;

@@ -131,18 +131,18 @@ module _ (v : View) (title : Option Content) (Makes : Layer → List Layer → T
 
   -- ---- refusals
 
-  abbrev behind : StateLayer → Outputs → Result (List (List StateLayer)) state.RefuseWhy → Result (List (List StateLayer)) state.RefuseWhy
-  behind l first rest = on_ok first (λ (out : List StateLayer). on_ok rest (λ (outs : List (List StateLayer)). Ok (out ∷ outs)))
+  abbrev after : StateLayer → Outputs → Result (List (List StateLayer)) state.RefuseWhy → Result (List (List StateLayer)) state.RefuseWhy
+  after l first rest = on_ok first (λ (out : List StateLayer). on_ok rest (λ (outs : List (List StateLayer)). Ok (out ∷ outs)))
 
   pub first_stops : (ts : List Layer) (ls : List StateLayer) → AllZip Pairs ts ls → (why : RefuseWhy) → RefusesIn Refuses ts (Some why) → each_layer f ls ≡ Err (why_of why)
   first_stops [] [] pairs why e = absurd (let none : None ≡ Some why = e in cc)
   first_stops [] (l ∷ ls) pairs why e = absurd pairs
   first_stops (layer ∷ ts) [] pairs why e = absurd pairs
-  first_stops (layer ∷ ts) (l ∷ ls) pairs why (inl here) = ap (λ (r : Outputs). behind l r (each_layer f ls)) (pairs.0.refused (Some why) here)
+  first_stops (layer ∷ ts) (l ∷ ls) pairs why (inl here) = ap (λ (r : Outputs). after l r (each_layer f ls)) (pairs.0.refused (Some why) here)
   first_stops (layer ∷ ts) (l ∷ ls) pairs why (inr later) =
       let (made, is) = pairs.0.refused None later.0 in
       let rest = first_stops ts ls pairs.1 why later.1 in
-      λ i. behind l (is i) (rest i)
+      λ i. after l (is i) (rest i)
 
   -- ---- and where none is refused, how many layers there are
 

@@ -21,36 +21,36 @@ ghost use Rattle.state_laws.specs.Steps.{MergeStepsShow, TableStepsShow};
 
 /// The step of a command on the tables of its layers shows that of the state.
 pub fn table_steps_show()
-    ensures { TableStepsShow }
+    ensures holds { TableStepsShow }
 {}
 
 /// The step of a command that merges the layers of its target shows that of the state.
 pub fn merge_steps_show()
-    ensures { MergeStepsShow }
+    ensures holds { MergeStepsShow }
 {}
 
 /// A join by place of points with polygons, or of polygons with points, shows that of the state's layers.
 pub fn place_joins_show()
-    ensures { PlaceJoinsShow }
+    ensures holds { PlaceJoinsShow }
 {}
 
 /// The step of a command on layers of polygons shows that of the state.
 pub fn polygon_steps_show()
-    ensures { PolygonStepsShow }
+    ensures holds { PolygonStepsShow }
 {}
 
 /// The step of a command that unites the layers of its target shows that of the state, and is refused alike.
 pub fn union_steps_show()
-    ensures { UnionStepsShow }
+    ensures holds { UnionStepsShow }
 {}
 
 /// The step of a clip, an erase, a dissolve, a clean, an explode, a mosaic, innerlines, lines or islands that are
 /// dropped shows that of the state, whatever the kinds of its layers.
 pub fn shape_steps_show()
-    ensures { ShapeStepsShow }
+    ensures holds { ShapeStepsShow }
 {}
 
 /// The step of a join by place shows that of the state, whatever the kinds of its layers.
 pub fn place_steps_show()
-    ensures { PlaceStepsShow }
+    ensures holds { PlaceStepsShow }
 {}

@@ -7,5 +7,5 @@ ghost use Rattle.synth_model.specs.Draws.{state_after};
 
 /// Before any draw the state is the seed.
 pub fn state_begins_with_the_seed()
-    ensures { (seed : ℕ) → state_after seed 0 ≡ seed }
+    ensures holds { (seed : ℕ) → state_after seed 0 ≡ seed }
 {}

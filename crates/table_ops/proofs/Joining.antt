@@ -141,8 +141,8 @@ values_long columns value (row ∷ rows) = (length-map columns (value row), valu
 -- ---- names stay distinct
 
 -- texts after the same text
-same_behind : (p s t : Text) → bytes_eq (p ++ s) (p ++ t) ≡ bytes_eq s t
-same_behind p s t = by (bytes_eq (p ++ s) (p ++ t)) refl (bytes_eq s t) refl
+same_after : (p s t : Text) → bytes_eq (p ++ s) (p ++ t) ≡ bytes_eq s t
+same_after p s t = by (bytes_eq (p ++ s) (p ++ t)) refl (bytes_eq s t) refl
   where
     by : (a : Bool) → bytes_eq (p ++ s) (p ++ t) ≡ a → (b : Bool) → bytes_eq s t ≡ b → bytes_eq (p ++ s) (p ++ t) ≡ bytes_eq s t
     by true e true f = e ∙ sym f
@@ -175,7 +175,7 @@ distinct-filter p (x ∷ xs) h = by (p x) (distinct-filter p xs h.1)
 pub copied_differ : (prefix : Text) (fields : List Text) → IsDistinct bytes_eq fields → IsDistinct bytes_eq (map (λ (f : Text). prefix ++ f) fields)
 copied_differ prefix fields h =
     IsDistinct-map (λ (f : Text). prefix ++ f) bytes_eq fields
-    (subst (λ (eq : Text → Text → Bool). IsDistinct eq fields) (λ i. λ (s t : Text). sym (same_behind prefix s t) i) h)
+    (subst (λ (eq : Text → Text → Bool). IsDistinct eq fields) (λ i. λ (s t : Text). sym (same_after prefix s t) i) h)
 
 -- the listed fields, else others
 pub listed_differ : (listed : Option (List Text)) (others : List Text) → IsDistinct bytes_eq others → IsDistinct bytes_eq (unwrap_or listed []) → IsDistinct bytes_eq (unwrap_or listed others)
@@ -220,17 +220,17 @@ new_to_rest : (x : Text) (xs ys : List Text) → AreNew (x ∷ xs) ys → AreNew
 new_to_rest x xs [] h = tt
 new_to_rest x xs (y ∷ ys) h = (or_second (bytes_eq y x) (list_any (bytes_eq y) xs) h.0, new_to_rest x xs ys h.1)
 
-distinct-behind : (xs ys : List Text) → IsDistinct bytes_eq xs → IsDistinct bytes_eq ys → AreNew xs ys → IsDistinct bytes_eq (xs ++ ys)
+distinct-past : (xs ys : List Text) → IsDistinct bytes_eq xs → IsDistinct bytes_eq ys → AreNew xs ys → IsDistinct bytes_eq (xs ++ ys)
 unfolding IsDistinct
-distinct-behind [] ys h k new = k
-distinct-behind (x ∷ xs) ys h k new =
-    (all_append (λ (y : Text). bytes_eq x y ≡ false) xs ys h.0 (new_to_first x xs ys new), distinct-behind xs ys h.1 k (new_to_rest x xs ys new))
+distinct-past [] ys h k new = k
+distinct-past (x ∷ xs) ys h k new =
+    (all_append (λ (y : Text). bytes_eq x y ≡ false) xs ys h.0 (new_to_first x xs ys new), distinct-past xs ys h.1 k (new_to_rest x xs ys new))
 
 -- the names of a joined table differ
 pub joined_names_differ : (target source : List Text) (spec : JoinSpec) → IsDistinct bytes_eq target → IsDistinct bytes_eq (copied_fields source spec)
     → IsDistinct bytes_eq (target ++ map (copied_name spec) (new_fields target source spec))
 joined_names_differ target source spec h k =
-    distinct-behind target (map (copied_name spec) (new_fields target source spec)) h
+    distinct-past target (map (copied_name spec) (new_fields target source spec)) h
     (copied_differ spec.prefix (new_fields target source spec) (distinct-filter (λ (f : Text). not (has_name target (copied_name spec f))) (copied_fields source spec) k))
     (are_new target spec (copied_fields source spec))
 

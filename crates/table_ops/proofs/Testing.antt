@@ -4,9 +4,9 @@ use Rattle.std.specs.Prelude.{Result, Ok, Err}
 use Rattle.table_terms.specs.Refusals.{on_ok}
 
 -- these items before those of an answer
-abbrev pub behind : {A E : Type 0} → List A → Result (List A) E → Result (List A) E
-behind bs r = on_ok r (λ cs. Ok (bs ++ cs))
+abbrev pub past : {A E : Type 0} → List A → Result (List A) E → Result (List A) E
+past bs r = on_ok r (λ cs. Ok (bs ++ cs))
 
-pub behind_one : {A E : Type 0} (bs : List A) (b : A) (r : Result (List A) E) → behind bs (on_ok r (λ cs. Ok (b ∷ cs))) ≡ behind (bs ++ b ∷ []) r
-behind_one bs b (Ok cs) = ap Ok (sym (append_assoc bs (b ∷ []) cs))
-behind_one bs b (Err w) = refl
+pub after_one : {A E : Type 0} (bs : List A) (b : A) (r : Result (List A) E) → past bs (on_ok r (λ cs. Ok (b ∷ cs))) ≡ past (bs ++ b ∷ []) r
+after_one bs b (Ok cs) = ap Ok (sym (append_assoc bs (b ∷ []) cs))
+after_one bs b (Err w) = refl

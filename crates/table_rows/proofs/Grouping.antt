@@ -32,8 +32,8 @@ others_stay f k x n (y ∷ ks) e h =
     let other : same_values k y ≡ false = subst (λ (z : RowValues). same_values z y ≡ false) (sym e) h.0 in
     λ i. more_other f k y n other i ∷ others_stay f k x n ks e h.1 i
 
-insert_behind : (x k : RowValues) (ks : List RowValues) → same_values k x ≡ false → insert_key same_values (x ∷ ks) k ≡ x ∷ insert_key same_values ks k
-insert_behind x k ks e =
+insert_after : (x k : RowValues) (ks : List RowValues) → same_values k x ≡ false → insert_key same_values (x ∷ ks) k ≡ x ∷ insert_key same_values ks k
+insert_after x k ks e =
     ap (λ (b : Bool). cond (b || list_any (same_values k) ks) (x ∷ ks) (x ∷ (ks ++ k ∷ []))) e ∙ by (list_any (same_values k) ks)
   where
     by : (b : Bool) → cond b (x ∷ ks) (x ∷ (ks ++ k ∷ [])) ≡ x ∷ cond b ks (ks ++ k ∷ [])
@@ -46,8 +46,8 @@ insert_present x k ks e = ap (λ (b : Bool). cond (b || list_any (same_values k)
 place_here : (x k : RowValues) (ks : List RowValues) → same_values k x ≡ true → position_or_len (same_values k) (x ∷ ks) ≡ 0
 place_here x k ks e = ap (λ (b : Bool). cond (not b) (1 + position_or_len (same_values k) ks) 0) e
 
-place_behind : (x k : RowValues) (ks : List RowValues) → same_values k x ≡ false → position_or_len (same_values k) (x ∷ ks) ≡ suc (position_or_len (same_values k) ks)
-place_behind x k ks e = ap (λ (b : Bool). cond (not b) (1 + position_or_len (same_values k) ks) 0) e ∙ one-add (position_or_len (same_values k) ks)
+place_after : (x k : RowValues) (ks : List RowValues) → same_values k x ≡ false → position_or_len (same_values k) (x ∷ ks) ≡ suc (position_or_len (same_values k) ks)
+place_after x k ks e = ap (λ (b : Bool). cond (not b) (1 + position_or_len (same_values k) ks) 0) e ∙ one-add (position_or_len (same_values k) ks)
 
 -- what is said of one more key at a list
 abbrev OneMore : (RowValues → List ℕ) → RowValues → ℕ → List RowValues → Type 0
@@ -59,8 +59,8 @@ one_more_first f k x n ks others true e rest =
     ap (map (more f k n)) (insert_present x k ks e) ∙ (λ i. more_same f k x n e i ∷ others_stay f k x n ks (same_is k x e) others i)
     ∙ sym (ap (λ (p : ℕ). with_member (map f (x ∷ ks)) p n) (place_here x k ks e))
 one_more_first f k x n ks others false e rest =
-    ap (map (more f k n)) (insert_behind x k ks e) ∙ (λ i. more_other f k x n e i ∷ rest e i)
-    ∙ sym (ap (λ (p : ℕ). with_member (map f (x ∷ ks)) p n) (place_behind x k ks e))
+    ap (map (more f k n)) (insert_after x k ks e) ∙ (λ i. more_other f k x n e i ∷ rest e i)
+    ∙ sym (ap (λ (p : ℕ). with_member (map f (x ∷ ks)) p n) (place_after x k ks e))
 
 -- where a key that is new had no numbers
 one_more : (f : RowValues → List ℕ) (k : RowValues) (n : ℕ) (ks : List RowValues) → IsDistinct same_values ks → (list_any (same_values k) ks ≡ false → f k ≡ []) → OneMore f k n ks
@@ -124,7 +124,7 @@ stay_first : (k x : RowValues) (ks : List RowValues) (m : List ℕ) (ms : List (
 stay_first k x ks m ms n long true e rest =
     ap length (insert_present x k ks e) ∙ ap suc long ∙ sym (ap (λ (p : ℕ). length (with_member (m ∷ ms) p n)) (place_here x k ks e))
 stay_first k x ks m ms n long false e rest =
-    ap length (insert_behind x k ks e) ∙ ap suc rest ∙ sym (ap (λ (p : ℕ). length (with_member (m ∷ ms) p n)) (place_behind x k ks e))
+    ap length (insert_after x k ks e) ∙ ap suc rest ∙ sym (ap (λ (p : ℕ). length (with_member (m ∷ ms) p n)) (place_after x k ks e))
 
 -- where there were as many keys as lists, there still are
 pub counts_stay : (k : RowValues) (ks : List RowValues) (ms : List (List ℕ)) (n : ℕ) → length ks ≡ length ms → length (insert_key same_values ks k) ≡ length (with_member ms (position_or_len (same_values k) ks) n)

@@ -32,7 +32,7 @@ pub fn answer(alloc: Global, call: &str, case: &[Json]) -> Result<Bytes, AllocEr
 
 /// The number of decimal places at this place of a case, at most as many as a grid has.
 pub fn places_at(case: &[Json], place: usize) -> u8
-    ensures { result ≤ most_places }
+    ensures within { result ≤ most_places }
 {
     number_at(case, place).min(u32::from(MOST_PLACES)) as u8
 }

@@ -66,7 +66,7 @@ fn point_at(case: &[Json], place: usize) -> Option<Pt> {
 }
 
 fn two_points(alloc: Global, a: Pt, b: Pt) -> Result<Path, AllocError>
-    ensures { IfOk result (λ path. path ≡ a ∷ b ∷ []) }
+    ensures exact { IfOk result (λ path. path ≡ a ∷ b ∷ []) }
 {
     let mut path = PtList::new(alloc);
     path.push(a)?;
@@ -87,7 +87,7 @@ fn arcs_between(alloc: Global, a: Pt, b: Pt) -> Result<ArcTable, AllocError> {
 
 // The shape of a feature of the kind: of lines there and back, or nothing.
 fn shape_of(alloc: Global, kind: Kind, t: &ArcTable, a: Pt, b: Pt) -> Result<ArcShape, AllocError>
-    ensures { IfOk result (λ shape. ShapeIsBelow (length t.now) shape) }
+    ensures made { IfOk result (λ shape. ShapeIsBelow (length t.now) shape) }
 {
     match kind {
         Kind::Line => there_and_back(alloc, t, a, b),
@@ -97,7 +97,7 @@ fn shape_of(alloc: Global, kind: Kind, t: &ArcTable, a: Pt, b: Pt) -> Result<Arc
 
 // The shape of one path there and one back along the arcs between `a` and `b`.
 fn there_and_back(alloc: Global, t: &ArcTable, a: Pt, b: Pt) -> Result<ArcShape, AllocError>
-    ensures { IfOk result (λ shape. ShapeIsBelow (length t.now) shape) }
+    ensures made { IfOk result (λ shape. ShapeIsBelow (length t.now) shape) }
 {
     let mut lines = SignedPaths::new(alloc);
     lines.push(t.path_arcs(alloc, &two_points(alloc, a, b)?)?)?;
@@ -107,7 +107,7 @@ fn there_and_back(alloc: Global, t: &ArcTable, a: Pt, b: Pt) -> Result<ArcShape,
 
 // A table of one row, with null for each of the names.
 fn one_row(alloc: Global, names: &NameList) -> Result<Table, AllocError>
-    ensures { IfOk result (λ t. length t.rows ≡ 1) }
+    ensures exact { IfOk result (λ t. length t.rows ≡ 1) }
 {
     let mut fields = Fields::new(alloc);
     for name in names.as_slice() {
@@ -128,7 +128,7 @@ fn one_layer(
 ) -> Result<ArcLayers, AllocError>
     requires row { length table.rows ≡ 1 }
     requires below { ShapeIsBelow count shape }
-    ensures { IfOk result (λ layers. All (LayerIsBelow count) layers) }
+    ensures made { IfOk result (λ layers. All (LayerIsBelow count) layers) }
 {
     let mut shapes = ArcShapeList::new(alloc);
     shapes.push(shape)?;

@@ -55,13 +55,13 @@ object_more topology limit fs room i before layers left m count after now is h a
     let n : Numbers = numbers_at i before limit in
     h ∙ ap (λ (ms : List Member). on_ok (object_layers topology n ms left) (put_before layers)) (from_place fs i m is)
     ∙ ap (λ (r : Result (List Feature × ℕ) Fault). on_ok (on_ok r (then_layers topology n m.0 (drop (i + 1) fs))) (put_before layers)) a.is_read
-    ∙ behind (layers_of m.0 a.features) (object_layers topology (after_features n a.features) (drop (i + 1) fs) after)
+    ∙ past (layers_of m.0 a.features) (object_layers topology (after_features n a.features) (drop (i + 1) fs) after)
     ∙ (λ j. on_ok (object_layers topology (numbers_at (i + 1) (before + sym a.count_is j) limit) (drop (i + 1) fs) after) (put_before (sym a.grown j)))
   where
-    behind : (ls : List LayerContent) (r : Result (List LayerContent × ℕ) Fault)
+    past : (ls : List LayerContent) (r : Result (List LayerContent × ℕ) Fault)
         → on_ok (on_ok r (λ (q : List LayerContent × ℕ). let r : List LayerContent × ℕ = (ls ++ q.0, q.1) in Ok r)) (put_before layers) ≡ on_ok r (put_before (layers ++ ls))
-    behind ls (Ok q) = ap (λ (x : List LayerContent). let r : List LayerContent × ℕ = (x, q.1) in Ok r) (sym (append_assoc layers ls q.0))
-    behind ls (Err e) = refl
+    past ls (Ok q) = ap (λ (x : List LayerContent). let r : List LayerContent × ℕ = (x, q.1) in Ok r) (sym (append_assoc layers ls q.0))
+    past ls (Err e) = refl
 
 pub object_stops : (topology : Topology) (limit : ℕ) (objects : FieldList) (room i before : ℕ) (layers : List LayerContent) (left : ℕ) (m : Member) (f : Fault)
     → slice_get (fields_list objects) i ≡ Some m → AreLayersTo topology limit (fields_list objects) room i before layers left

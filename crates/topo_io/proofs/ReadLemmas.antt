@@ -46,11 +46,11 @@ pub along_more : {E A S : Type 0} (read : JsonValue → S → Result (A × S) E)
 along_more {E} {A} read items start i vs s j p l is h e =
     h ∙ ap (λ (js : List Json). put_first vs (along read (map json_value js) s)) (left_after items i j l is)
     ∙ ap (put_first vs) (along_step read j (drop (i + 1) items) s (Ok p) e)
-    ∙ behind (along read (map json_value (drop (i + 1) items)) p.1)
+    ∙ past (along read (map json_value (drop (i + 1) items)) p.1)
   where
-    behind : (r : Result (List A) E) → put_first vs (on_ok r (λ ws. Ok (p.0 ∷ ws))) ≡ put_first (vs ++ p.0 ∷ []) r
-    behind (Ok ws) = ap Ok (sym (append_assoc vs (p.0 ∷ []) ws))
-    behind (Err e) = refl
+    past : (r : Result (List A) E) → put_first vs (on_ok r (λ ws. Ok (p.0 ∷ ws))) ≡ put_first (vs ++ p.0 ∷ []) r
+    past (Ok ws) = ap Ok (sym (append_assoc vs (p.0 ∷ []) ws))
+    past (Err e) = refl
 
 pub along_stops : {E A S : Type 0} (read : JsonValue → S → Result (A × S) E) (items : List Json) (start : S) (i : ℕ) (vs : List A) (s : S) (j : Json) (why : E)
     → i < length items → j ≡ get_or items i j → IsAlongTo read items start i vs s → read (json_value j) s ≡ Err why → along read (map json_value items) start ≡ Err why

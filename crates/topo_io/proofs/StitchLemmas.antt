@@ -14,11 +14,11 @@ use Rattle.topo_io.proofs.MarkLemmas.{left_after}
 
 -- ## What an arc adds
 
-pub fresh_behind : (path points : Path) (last first : GridPoint) → 1 ≤ length path → last ≡ get_or path (length path - 1) last → 1 ≤ length points → first ≡ get_or points 0 first
+pub fresh_after : (path points : Path) (last first : GridPoint) → 1 ≤ length path → last ≡ get_or path (length path - 1) last → 1 ≤ length points → first ≡ get_or points 0 first
     → fresh_points path points ≡ cond (same_point last first) (Ok (drop 1 points)) (Err Unstitched)
-fresh_behind [] points last first l e m f = absurd (omega arith)
-fresh_behind (p ∷ path) [] last first l e m f = absurd (omega arith)
-fresh_behind (p ∷ path) (q ∷ points) last first l e m f =
+fresh_after [] points last first l e m f = absurd (omega arith)
+fresh_after (p ∷ path) [] last first l e m f = absurd (omega arith)
+fresh_after (p ∷ path) (q ∷ points) last first l e m f =
     let end : last_of p path ≡ last = sym (e ∙ last_is (p ∷ path) last p (omega arith)) in
     λ i. cond (same_point (end i) (sym f i)) (Ok points) (Err Unstitched)
 

@@ -39,7 +39,7 @@ impl Model for Axis {
 impl Axis {
     /// `None` where a number is not below 10^9.
     pub fn of(scale: i128, offset: i128) -> Option<Axis>
-        ensures { result ≡ axis_with scale offset }
+        ensures exact { result ≡ axis_with scale offset }
     {
         if scale.unsigned_abs() < TRANSFORM_END && offset.unsigned_abs() < TRANSFORM_END {
             Some(Axis { scale, offset })
@@ -54,7 +54,7 @@ impl Axis {
     pub fn place(&self, number: i64, places: u8) -> Option<i64>
         requires small { IsStep number }
         requires places { places ≤ most_places }
-        ensures { result ≡ checked_grid (axis_place self.now places number) }
+        ensures exact { result ≡ checked_grid (axis_place self.now places number) }
     {
         let number = i128::from(number);
         let place = place_of(number, self.scale, self.offset, places);
@@ -160,7 +160,7 @@ impl Transform {
         requires across { IsStep x }
         requires upward { IsStep y }
         requires places { places ≤ most_places }
-        ensures { result ≡ quantized_point self.now places x y }
+        ensures exact { result ≡ quantized_point self.now places x y }
     {
         let x = self.x.place(x, places)?;
         let y = self.y.place(y, places)?;

@@ -47,7 +47,7 @@ pub fn write_topojson(
 
 fn write_head(places: u8, out: &mut Bytes) -> Result<(), AllocError>
     requires { places ≤ most_places }
-    ensures { OnOk result (out.new ≡ out.old ++ head_text places) }
+    ensures written { OnOk result (out.new ≡ out.old ++ head_text places) }
 {
     let scale = Decimal::of_grid(1, places);
     out.extend(b"{\"type\":\"Topology\",\"transform\":{\"scale\":[")?;
@@ -64,7 +64,7 @@ fn write_objects(
     out: &mut Bytes,
 ) -> Result<(), AllocError>
     requires { All (LayerIsBelow (length numbering.now.numbers.items)) layers.now }
-    ensures { OnOk result (out.new ≡ out.old ++ separated (44 ∷ []) (map (object_text numbering.now.numbers.items) layers.now)) }
+    ensures written { OnOk result (out.new ≡ out.old ++ separated (44 ∷ []) (map (object_text numbering.now.numbers.items) layers.now)) }
 {
     for (i, layer) in layers.iter().enumerate() {
         write_comma(i, out)?;
@@ -80,7 +80,7 @@ fn write_object(
     out: &mut Bytes,
 ) -> Result<(), AllocError>
     requires { LayerIsBelow (length numbering.now.numbers.items) layer.now }
-    ensures { OnOk result (out.new ≡ out.old ++ object_text numbering.now.numbers.items layer.now) }
+    ensures written { OnOk result (out.new ≡ out.old ++ object_text numbering.now.numbers.items layer.now) }
 {
     write_name(alloc, layer.name.as_str(), out)?;
     out.extend(b":{\"type\":\"GeometryCollection\",\"geometries\":[")?;
@@ -98,7 +98,7 @@ fn write_object(
 
 // A name as a JSON string.
 fn write_name(alloc: Global, name: &str, out: &mut Bytes) -> Result<(), AllocError>
-    ensures { OnOk result (out.new ≡ out.old ++ string_text name.now) }
+    ensures written { OnOk result (out.new ≡ out.old ++ string_text name.now) }
 {
     Value::Text(Text::of(alloc, name)?).print_json(out)
 }

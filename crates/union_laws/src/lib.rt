@@ -14,15 +14,15 @@ ghost use Rattle.union_laws.specs.United.{UnionAsTold, UnitedAreApart, UnitedCov
 /// The items that `union_sets` answers are in order, with their choices, those that the definition of a union makes of
 /// the regions of the layers.
 pub fn union_as_told()
-    ensures { UnionAsTold }
+    ensures holds { UnionAsTold }
 {}
 
 /// No rational point is in two features of a union.
 pub fn united_are_apart()
-    ensures { UnitedAreApart }
+    ensures holds { UnitedAreApart }
 {}
 
 /// Each rational point on no link that a region of a layer has is in a feature of the union.
 pub fn united_cover()
-    ensures { UnitedCover }
+    ensures holds { UnitedCover }
 {}

@@ -105,14 +105,14 @@ fn free_number(alloc: Global, names: &NameSet, name: &str, first: u32) -> Result
 }
 
 fn is_taken(alloc: Global, names: &NameSet, name: &str, number: u32) -> Result<bool, AllocError>
-    ensures { IfOk result (λ taken. taken ≡ has_name names.now (name_with_number name.now number)) }
+    ensures exact { IfOk result (λ taken. taken ≡ has_name names.now (name_with_number name.now number)) }
 {
     let text = numbered(alloc, name, number)?;
     Ok(names.has(text.as_str()))
 }
 
 fn numbered(alloc: Global, name: &str, number: u32) -> Result<Text, AllocError>
-    ensures { IfOk result (λ text. text ≡ name_with_number name.now number) }
+    ensures exact { IfOk result (λ text. text ≡ name_with_number name.now number) }
 {
     Ok(Text::from_string(format!(in alloc; "{name}_{number}")?))
 }

@@ -74,7 +74,7 @@ impl FaceKeys for FaceChoices {
 
 // For each layer the sets that have each face.
 fn layer_owners(alloc: Global, f: &Faces, layers: &LayerSets) -> Result<Vec<FaceOwners>, AllocError>
-    ensures { IfOk result (λ v. AreLayerOwners layers.now f.now.count v.items) }
+    ensures made { IfOk result (λ v. AreLayerOwners layers.now f.now.count v.items) }
 {
     let mut owners = Vec::new(alloc);
     for sets in layers.as_slice() {
@@ -88,7 +88,7 @@ fn choice_of(
     owners: &[FaceOwners],
     face: FaceId,
 ) -> Result<Vec<Option<u32>>, AllocError>
-    ensures { IfOk result (λ v. v.items ≡ choice_among owners.now face) }
+    ensures exact { IfOk result (λ v. v.items ≡ choice_among owners.now face) }
 {
     let mut choice = Vec::with_capacity(alloc, owners.len())?;
     for layer in owners {
@@ -98,14 +98,14 @@ fn choice_of(
 }
 
 fn first_number(numbers: &[u32]) -> Option<u32>
-    ensures { result ≡ slice_get numbers.now 0 }
+    ensures exact { result ≡ slice_get numbers.now 0 }
 {
     numbers.first().copied()
 }
 
 // Whether some layer has a set in the choice.
 fn has_number(choice: &[Option<u32>]) -> bool
-    ensures { result ≡ has_number choice.now }
+    ensures exact { result ≡ has_number choice.now }
 {
     for number in choice {
         if number.is_some() {
@@ -117,7 +117,7 @@ fn has_number(choice: &[Option<u32>]) -> bool
 
 // Choices in lexicographic order.
 fn choice_order(a: &[Option<u32>], b: &[Option<u32>]) -> Ordering
-    ensures { result ≡ slice_cmp order_of_numbers a.now b.now }
+    ensures exact { result ≡ slice_cmp order_of_numbers a.now b.now }
 {
     for i in 0..a.len() {
         if i >= b.len() {
@@ -137,7 +137,7 @@ fn choice_order(a: &[Option<u32>], b: &[Option<u32>]) -> Ordering
 
 // Numbers ascend, and none comes after them.
 fn number_order(a: Option<u32>, b: Option<u32>) -> Ordering
-    ensures { result ≡ order_of_numbers a b }
+    ensures exact { result ≡ order_of_numbers a b }
 {
     match (a, b) {
         (Some(m), Some(n)) => m.cmp(&n),

@@ -12,7 +12,7 @@ use Rattle.table_terms.specs.Names.{Text}
 use Rattle.join_terms.specs.declared.calculations.Calc.{Calc}
 use Rattle.join_terms.specs.declared.calculations.Calc.TheVariants as calc
 use Rattle.cmd_words.specs.Texts.{split_at, is_empty}
-use Rattle.cmd_words.specs.Calculations.{is_name, behind_white, trimmed, enclosed, call_of, calculated, calculation_of}
+use Rattle.cmd_words.specs.Calculations.{is_name, after_white, trimmed, enclosed, call_of, calculated, calculation_of}
 use Rattle.word_laws.specs.Calculations.{Spaced, item, IsCalculation, counts, sums}
 use Rattle.word_laws.proofs.Tests.{same_bytes, left_true, right_true, not_true}
 
@@ -66,7 +66,7 @@ drop_step : (test : ℕ → Bool) (b : ℕ) (bs : Text) (t : Bool) → test b �
 drop_step test b bs true e = rw (e, drop_while)
 drop_step test b bs false e = rw (e, drop_while)
 
-over_white : (a x : Text) → list_all is_white a ≡ true → behind_white (a ++ x) ≡ behind_white x
+over_white : (a x : Text) → list_all is_white a ≡ true → after_white (a ++ x) ≡ after_white x
 over_white [] x e = refl
 over_white (b ∷ a) x e = drop_step is_white b (a ++ x) true (left_true _ _ e) ∙ over_white a x (right_true _ _ e)
 
@@ -74,11 +74,11 @@ over_white (b ∷ a) x e = drop_step is_white b (a ++ x) true (left_true _ _ e) 
 abbrev solid : Text → Bool
 solid s = list_all (λ b. not (is_white b)) s
 
-stays : (x y : Text) → solid x ≡ true → (b : ℕ) (z : Text) → x ≡ b ∷ z → behind_white (x ++ y) ≡ x ++ y
+stays : (x y : Text) → solid x ≡ true → (b : ℕ) (z : Text) → x ≡ b ∷ z → after_white (x ++ y) ≡ x ++ y
 stays [] y e b z h = absurd (cc)
 stays (c ∷ x) y e b z h = drop_step is_white c (x ++ y) false (not_true (is_white c) (left_true _ _ e))
 
-whole_stays : (x : Text) → solid x ≡ true → behind_white x ≡ x
+whole_stays : (x : Text) → solid x ≡ true → after_white x ≡ x
 whole_stays [] e = refl
 whole_stays (b ∷ x) e = drop_step is_white b x false (not_true (is_white b) (left_true _ _ e))
 
@@ -92,35 +92,35 @@ all_reversed p (b ∷ s) e =
 trimmed_is : (word s : Text) → solid word ≡ true → Spaced word s → trimmed s ≡ word
 trimmed_is word s e w = ap trimmed w.joined ∙ go word e
   where
-    white_end : behind_white w.behind ≡ []
-    white_end = ap behind_white (sym (append-nil w.behind)) ∙ over_white w.behind [] w.white_behind
+    white_end : after_white w.past ≡ []
+    white_end = ap after_white (sym (append-nil w.past)) ∙ over_white w.past [] w.white_after
 
-    go : (x : Text) → solid x ≡ true → trimmed (w.before ++ (x ++ w.behind)) ≡ x
-    go [] e = ap (λ (z : Text). reverse (behind_white (reverse z))) (over_white w.before w.behind w.white_before ∙ white_end)
+    go : (x : Text) → solid x ≡ true → trimmed (w.before ++ (x ++ w.past)) ≡ x
+    go [] e = ap (λ (z : Text). reverse (after_white (reverse z))) (over_white w.before w.past w.white_before ∙ white_end)
     go (b ∷ x) e =
-        ap (λ (z : Text). reverse (behind_white (reverse z))) (over_white w.before ((b ∷ x) ++ w.behind) w.white_before ∙ stays (b ∷ x) w.behind e b x refl)
-        ∙ ap (λ (z : Text). reverse (behind_white z)) (reverse-append (b ∷ x) w.behind)
-        ∙ ap reverse (over_white (reverse w.behind) (reverse (b ∷ x)) (all_reversed is_white w.behind w.white_behind) ∙ whole_stays (reverse (b ∷ x)) (all_reversed (λ c. not (is_white c)) (b ∷ x) e))
+        ap (λ (z : Text). reverse (after_white (reverse z))) (over_white w.before ((b ∷ x) ++ w.past) w.white_before ∙ stays (b ∷ x) w.past e b x refl)
+        ∙ ap (λ (z : Text). reverse (after_white z)) (reverse-append (b ∷ x) w.past)
+        ∙ ap reverse (over_white (reverse w.past) (reverse (b ∷ x)) (all_reversed is_white w.past w.white_after) ∙ whole_stays (reverse (b ∷ x)) (all_reversed (λ c. not (is_white c)) (b ∷ x) e))
         ∙ reverse-reverse (b ∷ x)
 
-front_white : (s : Text) → (front : Text) × (list_all is_white front ≡ true) × (s ≡ front ++ behind_white s)
+front_white : (s : Text) → (front : Text) × (list_all is_white front ≡ true) × (s ≡ front ++ after_white s)
 front_white [] = ([], refl, refl)
 front_white (b ∷ s) = go (is_white b) refl (front_white s)
   where
-    go : (t : Bool) → is_white b ≡ t → (front : Text) × (list_all is_white front ≡ true) × (s ≡ front ++ behind_white s) → (front : Text) × (list_all is_white front ≡ true) × (b ∷ s ≡ front ++ behind_white (b ∷ s))
+    go : (t : Bool) → is_white b ≡ t → (front : Text) × (list_all is_white front ≡ true) × (s ≡ front ++ after_white s) → (front : Text) × (list_all is_white front ≡ true) × (b ∷ s ≡ front ++ after_white (b ∷ s))
     go true e r = (b ∷ r.0, rw (e, r.1) refl, ap (λ (z : Text). b ∷ z) r.2 ∙ ap (λ (z : Text). (b ∷ r.0) ++ z) (sym (drop_step is_white b s true e)))
     go false e r = ([], refl, sym (drop_step is_white b s false e))
 
 spaced : (s : Text) → Spaced (trimmed s) s
 spaced s =
     let f = front_white s in
-    let g = front_white (reverse (behind_white s)) in
+    let g = front_white (reverse (after_white s)) in
     record {
       before = f.0;
-      behind = reverse g.0;
+      past = reverse g.0;
       white_before = f.1;
-      white_behind = all_reversed is_white g.0 g.1;
-      joined = f.2 ∙ ap (λ (z : Text). f.0 ++ z) (sym (reverse-reverse (behind_white s)) ∙ ap reverse g.2 ∙ reverse-append g.0 (behind_white (reverse (behind_white s))));
+      white_after = all_reversed is_white g.0 g.1;
+      joined = f.2 ∙ ap (λ (z : Text). f.0 ++ z) (sym (reverse-reverse (after_white s)) ∙ ap reverse g.2 ∙ reverse-append g.0 (after_white (reverse (after_white s))));
     }
 
 spaced_as : (word s : Text) → trimmed s ≡ word → Spaced word s
@@ -171,8 +171,8 @@ spaced_lacks : (k : ℕ) (word s : Text) → is_white k ≡ false → is_name_by
 spaced_lacks k word s white out e w =
     let before : lacks k w.before ≡ true = all_lack is_white k white w.before w.white_before in
     let within : lacks k word ≡ true = all_lack is_name_byte k out word e in
-    let behind : lacks k w.behind ≡ true = all_lack is_white k white w.behind w.white_behind in
-    ap (lacks k) w.joined ∙ list_all-append (λ b. not (eqb b k)) w.before (word ++ w.behind) ∙ ap₂ ◌&&◌ before (list_all-append (λ b. not (eqb b k)) word w.behind ∙ ap₂ ◌&&◌ within behind)
+    let past : lacks k w.past ≡ true = all_lack is_white k white w.past w.white_after in
+    ap (lacks k) w.joined ∙ list_all-append (λ b. not (eqb b k)) w.before (word ++ w.past) ∙ ap₂ ◌&&◌ before (list_all-append (λ b. not (eqb b k)) word w.past ∙ ap₂ ◌&&◌ within past)
 
 -- ## From the grammar
 

@@ -109,8 +109,8 @@ module _ (args : List shown.Word) (said : Said) (kept : Kept 6 files args said) 
   ended places (Ok s) b e = ap (λ (z : Reading SoFar). on_ok (on_ok z (λ (t : SoFar). Ok (record { places = places; so_far = t }))) as_job) e
   ended places (Err x) b e = ap (λ (z : Reading SoFar). on_ok (on_ok z (λ (t : SoFar). Ok (record { places = places; so_far = t }))) as_job) e
 
-  pub behind_import : (refuses : Refusals) (g : Groups) → after_import refuses g said ≡ on_ok (reader.after_import refuses (map command_as g.commands) held) as_job
-  behind_import refuses g = choose (has_argument said) (is_some (groups.argument_in held)) (ap is_some (sym means.argument))
+  pub past_import : (refuses : Refusals) (g : Groups) → after_import refuses g said ≡ on_ok (reader.after_import refuses (map command_as g.commands) held) as_job
+  past_import refuses g = choose (has_argument said) (is_some (groups.argument_in held)) (ap is_some (sym means.argument))
     where
       commands : read_commands refuses (places_in said) (imported said) g.commands ≡ reader.take_commands refuses (reader.places_in held) (reader.imported held) (map command_as g.commands)
       commands =
@@ -144,7 +144,7 @@ groups_read : (refuses : Refusals) (g : Groups) → read_groups refuses g ≡ on
 groups_read refuses g =
     joined 6 false files (args_of import_line g.first) (says refuses 6 false import_line [] g.first) (take_words refuses 6 import_form (empty_group false) (map word_as g.first)) (after_import refuses g)
     (λ (h : Group). on_ok (reader.after_import refuses (map command_as g.commands) h) (λ (c : ChainWords). Ok (chain c)))
-    (words_same refuses 6 false import_line import_form import_placed (sym import_as) g.first) (λ said kept. behind_import (args_of import_line g.first) said kept refuses g)
+    (words_same refuses 6 false import_line import_form import_placed (sym import_as) g.first) (λ said kept. past_import (args_of import_line g.first) said kept refuses g)
     ∙ twice (take_words refuses 6 import_form (empty_group false) (map word_as g.first)) (reader.after_import refuses (map command_as g.commands))
 
 chain_read : (refuses : Refusals) (words : List Text) → read_groups refuses (groups_of (without_import_word (enumerate_from 1 words))) ≡ reader.read_chain_words refuses words

@@ -11,10 +11,10 @@ use Rattle.cmd_words.specs.Calculations.{is_name}
 -- s is this word with white space round it
 pub record Spaced (word s : Text) : Type 0 where
   pub before : Text
-  pub behind : Text
+  pub past : Text
   pub white_before : list_all is_white before ≡ true
-  pub white_behind : list_all is_white behind ≡ true
-  pub joined : s ≡ before ++ (word ++ behind)
+  pub white_after : list_all is_white past ≡ true
+  pub joined : s ≡ before ++ (word ++ past)
 
 -- n = f(p), and e after it
 abbrev pub item : Text → Text → Text → Text → Text

@@ -8,26 +8,26 @@ ghost use Rattle.word_laws.specs.Laws.{TheTableSaysWhatIsRead, WhatIsReadFitsThe
 /// For all words the table of commands says what is read: the same job, or the same first refused word and the same
 /// reason.
 pub fn the_table_says_what_is_read()
-    ensures { TheTableSaysWhatIsRead }
+    ensures holds { TheTableSaysWhatIsRead }
 {}
 
 /// What the reader answers by its contract fits what the table of commands says of the words.
 pub fn what_is_read_fits_the_table()
-    ensures { WhatIsReadFitsTheTable }
+    ensures holds { WhatIsReadFitsTheTable }
 {}
 
 /// The number of a gap is twice its area in squared grid units, rounded down to a whole number.
 pub fn gaps_are_rounded_down()
-    ensures { GapsAreRoundedDown }
+    ensures holds { GapsAreRoundedDown }
 {}
 
 /// The number of a least area is twice that area in squared grid units, rounded up to a whole number.
 pub fn least_areas_are_rounded_up()
-    ensures { LeastAreasAreRoundedUp }
+    ensures holds { LeastAreasAreRoundedUp }
 {}
 
 /// An item of the columns that a join is to calculate is read just where it is a name, `=`, and `count()` or
 /// `sum(field)`, with white space before and after each token; and it is read as that column.
 pub fn calculations_are_of_the_grammar()
-    ensures { CalculationsAreOfTheGrammar }
+    ensures holds { CalculationsAreOfTheGrammar }
 {}

@@ -10,5 +10,5 @@ ghost use Rattle.word_model.specs.Words.{words_say};
 
 /// Without words there is no input.
 pub fn no_words_have_no_input()
-    ensures { (refuses : Refusals) → words_say refuses [] ≡ Err (1, NoInput) }
+    ensures holds { (refuses : Refusals) → words_say refuses [] ≡ Err (1, NoInput) }
 {}

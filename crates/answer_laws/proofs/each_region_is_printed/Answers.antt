@@ -3,4 +3,4 @@ use Rattle.answer_laws.proofs.Together.{each_region_is_printed}
 use Rattle.answer_laws.proofs.each_region_is_printed.Goals as goal
 
 pub returns : goal.returns
-returns c = each_region_is_printed
+returns c = record { holds = each_region_is_printed }

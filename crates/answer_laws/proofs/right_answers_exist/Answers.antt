@@ -3,4 +3,4 @@ use Rattle.answer_laws.proofs.Exist.{right_answers_exist}
 use Rattle.answer_laws.proofs.right_answers_exist.Goals as goal
 
 pub returns : goal.returns
-returns c = right_answers_exist
+returns c = record { holds = right_answers_exist }

@@ -3,4 +3,4 @@ use Rattle.arc_laws.proofs.Modelled.{arcs_are_modelled}
 use Rattle.arc_laws.proofs.arcs_are_modelled.Goals as goal
 
 pub returns : goal.returns
-returns c = arcs_are_modelled
+returns c = record { holds = arcs_are_modelled }

@@ -2,4 +2,4 @@ use Rattle.expr_laws.proofs.OneFault.{tree_has_no_fault}
 use Rattle.expr_laws.proofs.no_tree_has_a_fault.Goals as goal
 
 pub returns : goal.returns
-returns c = tree_has_no_fault
+returns c = record { holds = tree_has_no_fault }

@@ -2,4 +2,4 @@ use Rattle.expr_laws.proofs.Readings.{stopped_assigns}
 use Rattle.expr_laws.proofs.stopped_assignments_are_stuck.Goals as goal
 
 pub returns : goal.returns
-returns c = stopped_assigns
+returns c = record { holds = stopped_assigns }

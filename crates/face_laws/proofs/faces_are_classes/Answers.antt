@@ -3,4 +3,4 @@ use Rattle.face_laws.proofs.ClassLemmas.{faces_are_classes}
 use Rattle.face_laws.proofs.faces_are_classes.Goals as goal
 
 pub returns : goal.returns
-returns c = faces_are_classes
+returns c = record { holds = faces_are_classes }

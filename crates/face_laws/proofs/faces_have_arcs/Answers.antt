@@ -3,4 +3,4 @@ use Rattle.face_laws.proofs.ShownLemmas.{faces_have_arcs}
 use Rattle.face_laws.proofs.faces_have_arcs.Goals as goal
 
 pub returns : goal.returns
-returns c = faces_have_arcs
+returns c = record { holds = faces_have_arcs }

@@ -3,4 +3,4 @@ use Rattle.face_laws.proofs.SideLemmas.{features_beside_arcs}
 use Rattle.face_laws.proofs.features_beside_arcs.Goals as goal
 
 pub returns : goal.returns
-returns c = features_beside_arcs
+returns c = record { holds = features_beside_arcs }

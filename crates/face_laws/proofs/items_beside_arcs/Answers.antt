@@ -3,4 +3,4 @@ use Rattle.face_laws.proofs.HolderLemmas.{items_beside_arcs}
 use Rattle.face_laws.proofs.items_beside_arcs.Goals as goal
 
 pub returns : goal.returns
-returns c = items_beside_arcs
+returns c = record { holds = items_beside_arcs }

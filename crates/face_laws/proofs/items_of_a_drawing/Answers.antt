@@ -3,4 +3,4 @@ use Rattle.face_laws.proofs.HoldingLemmas.{items_of_a_drawing}
 use Rattle.face_laws.proofs.items_of_a_drawing.Goals as goal
 
 pub returns : goal.returns
-returns c = items_of_a_drawing
+returns c = record { holds = items_of_a_drawing }

@@ -3,4 +3,4 @@ use Rattle.face_laws.proofs.PointLemmas.{points_of_a_drawing}
 use Rattle.face_laws.proofs.points_of_a_drawing.Goals as goal
 
 pub returns : goal.returns
-returns c = points_of_a_drawing
+returns c = record { holds = points_of_a_drawing }

@@ -31,7 +31,7 @@ fn put_property(
 ) -> Result<(), AllocError>
     requires within { i < length (fields_list object.now) }
     requires new { MatchOption (slice_get (fields_list object.now) i) ⊤ (λ f. IsNewName f.0 fields.old) }
-    ensures { OnOk result (MatchOption (slice_get (fields_list object.now) i) ⊤ (λ f. fields.new ≡ fields.old ++ property f ∷ [])) }
+    ensures ok { OnOk result (MatchOption (slice_get (fields_list object.now) i) ⊤ (λ f. fields.new ≡ fields.old ++ property f ∷ [])) }
 {
     match object.name_at(i) {
         None => unreachable!(),
@@ -48,7 +48,7 @@ fn put_property(
 
 /// The members of an object as named values.
 pub fn properties_of(alloc: Global, object: &JsonFields) -> Result<Fields, AllocError>
-    ensures { IfOk result (λ fields. fields ≡ map property (fields_list object.now)) }
+    ensures exact { IfOk result (λ fields. fields ≡ map property (fields_list object.now)) }
 {
     let mut fields = Fields::with_capacity(alloc, object.len())?;
     for i in 0..object.len() {
@@ -58,7 +58,7 @@ pub fn properties_of(alloc: Global, object: &JsonFields) -> Result<Fields, Alloc
 }
 
 fn properties(alloc: Global, json: Option<&Json>, left: u32) -> Result<Fields, Stop>
-    ensures { Answers (properties (option_map json_value (option_copied json.entry))) left result left }
+    ensures answers { Answers (properties (option_map json_value (option_copied json.entry))) left result left }
 {
     match json {
         None | Some(Json::Null) => Ok(Fields::new(alloc)),
@@ -73,7 +73,7 @@ fn feature_of_fields(
     places: u8,
     left: &mut u32,
 ) -> Result<Feature, Stop>
-    ensures { Answers (feature_of_fields places object.now) left.old result left.new }
+    ensures answers { Answers (feature_of_fields places object.now) left.old result left.new }
 {
     let shape = match object.find("geometry") {
         Some(json) => geometry(alloc, json, places, left)?,
@@ -84,7 +84,7 @@ fn feature_of_fields(
 }
 
 fn read_feature(alloc: Global, json: &Json, places: u8, left: &mut u32) -> Result<Feature, Stop>
-    ensures { Answers (feature places (json_value json.now)) left.old result left.new }
+    ensures answers { Answers (feature places (json_value json.now)) left.old result left.new }
 {
     let Json::Object(object) = json else {
         return Err(Stop::Why(ShapeWhy::NotGeo));
@@ -97,7 +97,7 @@ fn read_feature(alloc: Global, json: &Json, places: u8, left: &mut u32) -> Resul
 
 // A geometry as a feature without properties.
 fn bare_feature(alloc: Global, json: &Json, places: u8, left: &mut u32) -> Result<Feature, Stop>
-    ensures { Answers (bare_feature places (json_value json.now)) left.old result left.new }
+    ensures answers { Answers (bare_feature places (json_value json.now)) left.old result left.new }
 {
     let shape = geometry(alloc, json, places, left)?;
     let fields = Fields::new(alloc);
@@ -111,7 +111,7 @@ fn read_member(
     places: u8,
     left: &mut u32,
 ) -> Result<Feature, Stop>
-    ensures { Answers (member_of kind places (json_value json.now)) left.old result left.new }
+    ensures answers { Answers (member_of kind places (json_value json.now)) left.old result left.new }
 {
     match kind {
         Member::Feature => read_feature(alloc, json, places, left),
@@ -169,7 +169,7 @@ pub fn members(
 
 /// The members of a collection, or a feature or a geometry alone.
 pub fn top_members(json: &Json) -> Option<(Member, &[Json])>
-    ensures { MatchOption result (top_members (json_value json.now) ≡ None) (λ p. top_members (json_value json.now) ≡ Some (p.0, map json_value p.1.now)) }
+    ensures exact { MatchOption result (top_members (json_value json.now) ≡ None) (λ p. top_members (json_value json.now) ≡ Some (p.0, map json_value p.1.now)) }
 {
     let Json::Object(object) = json else {
         return None;
@@ -186,7 +186,7 @@ pub fn top_members(json: &Json) -> Option<(Member, &[Json])>
 }
 
 fn in_list(kind: Member, json: Option<&Json>) -> Option<(Member, &[Json])>
-    ensures { MatchOption result (in_list kind (option_map json_value (option_copied json.entry)) ≡ None) (λ p. in_list kind (option_map json_value (option_copied json.entry)) ≡ Some (p.0, map json_value p.1.now)) }
+    ensures exact { MatchOption result (in_list kind (option_map json_value (option_copied json.entry)) ≡ None) (λ p. in_list kind (option_map json_value (option_copied json.entry)) ≡ Some (p.0, map json_value p.1.now)) }
 {
     match json {
         Some(Json::List(list)) => Some((kind, list.as_slice())),

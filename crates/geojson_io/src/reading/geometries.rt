@@ -14,7 +14,7 @@ use json_read::{Json, JsonFields};
 use std::alloc::{AllocError, Global};
 
 fn one_point(alloc: Global, json: &Json, places: u8, left: &mut u32) -> Result<PtList, Stop>
-    ensures { Answers (one (position places) (json_value json.now)) left.old result left.new }
+    ensures answers { Answers (one (position places) (json_value json.now)) left.old result left.new }
 {
     let Json::List(list) = json else {
         return Err(Stop::Why(ShapeWhy::BadPosition));
@@ -29,7 +29,7 @@ fn one_point(alloc: Global, json: &Json, places: u8, left: &mut u32) -> Result<P
 }
 
 fn one_line(alloc: Global, json: &Json, places: u8, left: &mut u32) -> Result<PathList, Stop>
-    ensures { Answers (one (line places) (json_value json.now)) left.old result left.new }
+    ensures answers { Answers (one (line places) (json_value json.now)) left.old result left.new }
 {
     let Json::List(list) = json else {
         return Err(Stop::Why(ShapeWhy::BadPosition));
@@ -44,7 +44,7 @@ fn one_line(alloc: Global, json: &Json, places: u8, left: &mut u32) -> Result<Pa
 }
 
 fn each_line(alloc: Global, items: &[Json], places: u8, left: &mut u32) -> Result<PathList, Stop>
-    ensures { Answers (each (line places) (map json_value items.now)) left.old result left.new }
+    ensures answers { Answers (each (line places) (map json_value items.now)) left.old result left.new }
 {
     let mut lines = PathList::new(alloc);
     for item in items {
@@ -55,7 +55,7 @@ fn each_line(alloc: Global, items: &[Json], places: u8, left: &mut u32) -> Resul
 }
 
 fn several_lines(alloc: Global, json: &Json, places: u8, left: &mut u32) -> Result<PathList, Stop>
-    ensures { Answers (several (line places) (json_value json.now)) left.old result left.new }
+    ensures answers { Answers (several (line places) (json_value json.now)) left.old result left.new }
 {
     match json {
         Json::List(list) => each_line(alloc, list.as_slice(), places, left),
@@ -75,7 +75,7 @@ pub fn push_polygon(polygons: &mut RingsList, polygon: PolygonRings) -> Result<(
 }
 
 fn one_polygon(alloc: Global, json: &Json, places: u8, left: &mut u32) -> Result<RingsList, Stop>
-    ensures { Answers (one_polygon places (json_value json.now)) left.old result left.new }
+    ensures answers { Answers (one_polygon places (json_value json.now)) left.old result left.new }
 {
     let mut polygons = RingsList::new(alloc);
     let polygon = rings(alloc, json, places, left)?;
@@ -89,7 +89,7 @@ fn each_polygon(
     places: u8,
     left: &mut u32,
 ) -> Result<RingsList, Stop>
-    ensures { Answers (each_with_rings places (map json_value items.now)) left.old result left.new }
+    ensures answers { Answers (each_with_rings places (map json_value items.now)) left.old result left.new }
 {
     let mut polygons = RingsList::new(alloc);
     for item in items {
@@ -105,7 +105,7 @@ fn several_polygons(
     places: u8,
     left: &mut u32,
 ) -> Result<RingsList, Stop>
-    ensures { Answers (several_polygons places (json_value json.now)) left.old result left.new }
+    ensures answers { Answers (several_polygons places (json_value json.now)) left.old result left.new }
 {
     match json {
         Json::List(list) => each_polygon(alloc, list.as_slice(), places, left),
@@ -154,7 +154,7 @@ fn shape(
     places: u8,
     left: &mut u32,
 ) -> Result<GeoShape, Stop>
-    ensures { Answers (shape_of places kind (json_value json.now)) left.old result left.new }
+    ensures answers { Answers (shape_of places kind (json_value json.now)) left.old result left.new }
 {
     match kind {
         GeoType::Point => Ok(some_points(one_point(alloc, json, places, left)?)),
@@ -172,7 +172,7 @@ fn typed_geometry(
     places: u8,
     left: &mut u32,
 ) -> Result<GeoShape, Stop>
-    ensures { Answers (geometry_of_fields places fields.now) left.old result left.new }
+    ensures answers { Answers (geometry_of_fields places fields.now) left.old result left.new }
 {
     let name = type_of(fields);
     if name == "GeometryCollection" {
@@ -189,7 +189,7 @@ fn typed_geometry(
 
 /// A geometry inside a feature or a collection; null is none.
 pub fn geometry(alloc: Global, json: &Json, places: u8, left: &mut u32) -> Result<GeoShape, Stop>
-    ensures { Answers (geometry places (json_value json.now)) left.old result left.new }
+    ensures answers { Answers (geometry places (json_value json.now)) left.old result left.new }
 {
     match json {
         Json::Null => Ok(GeoShape::Nothing),

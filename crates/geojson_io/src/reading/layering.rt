@@ -11,7 +11,7 @@ use std::alloc::{AllocError, Global};
 use text_core::Text;
 
 fn kind_of(shape: &GeoShape) -> Option<Kind>
-    ensures { result ≡ kind_of shape.now }
+    ensures exact { result ≡ kind_of shape.now }
 {
     match shape {
         GeoShape::Nothing => None,
@@ -23,7 +23,7 @@ fn kind_of(shape: &GeoShape) -> Option<Kind>
 
 // Adds a kind, unless it is there.
 fn add_kind(kinds: &mut Vec<Kind>, kind: Kind) -> Result<(), AllocError>
-    ensures { OnOk result (kinds.new.items ≡ add_kind kinds.old.items kind) }
+    ensures ok { OnOk result (kinds.new.items ≡ add_kind kinds.old.items kind) }
 {
     if !kinds.contains(&kind) {
         kinds.push(kind)?;
@@ -33,7 +33,7 @@ fn add_kind(kinds: &mut Vec<Kind>, kind: Kind) -> Result<(), AllocError>
 
 // The kinds of the features, in order of first appearance.
 fn kinds_of(alloc: Global, features: &[Feature]) -> Result<Vec<Kind>, AllocError>
-    ensures { IfOk result (λ kinds. kinds.items ≡ kinds_of features.now) }
+    ensures exact { IfOk result (λ kinds. kinds.items ≡ kinds_of features.now) }
 {
     let mut kinds = Vec::new(alloc);
     for feature in features {
@@ -50,7 +50,7 @@ fn layer_of(
     kind: Kind,
     features: Vec<Feature>,
 ) -> Result<GeoLayer, AllocError>
-    ensures { IfOk result (λ layer. layer ≡ layer_of name kind features.items) }
+    ensures exact { IfOk result (λ layer. layer ≡ layer_of name kind features.items) }
 {
     let mut rows = FieldsList::new(alloc);
     let mut shapes = GeoShapeList::new(alloc);
@@ -69,7 +69,7 @@ fn layer_of(
 }
 
 fn ending(kind: Kind) -> &'static str
-    ensures { result.now ≡ kind_ending kind }
+    ensures exact { result.now ≡ kind_ending kind }
 {
     match kind {
         Kind::Polygon => "-polygon",
@@ -81,7 +81,7 @@ fn ending(kind: Kind) -> &'static str
 
 // The name of a layer that is one of several.
 fn name_with_ending(alloc: Global, name: &str, kind: Kind) -> Result<Text, AllocError>
-    ensures { IfOk result (λ text. text ≡ name.now ++ kind_ending kind) }
+    ensures exact { IfOk result (λ text. text ≡ name.now ++ kind_ending kind) }
 {
     let mut text = String::from_str(alloc, name)?;
     text.push_str(ending(kind))?;
@@ -90,7 +90,7 @@ fn name_with_ending(alloc: Global, name: &str, kind: Kind) -> Result<Text, Alloc
 
 // Whether a feature belongs to this kind; one without geometry counts as one of the first kind.
 fn is_of_kind(first: Kind, kind: Kind, feature: &Feature) -> bool
-    ensures { result ≡ is_of_kind first kind feature.now }
+    ensures exact { result ≡ is_of_kind first kind feature.now }
 {
     kind_of(&feature.shape).unwrap_or(first) == kind
 }
@@ -102,7 +102,7 @@ fn parted(
     kind: Kind,
     features: Vec<Feature>,
 ) -> Result<(Vec<Feature>, Vec<Feature>), AllocError>
-    ensures { IfOk result (λ p. (p.0.items ≡ filter (is_of_kind first kind) features.items) × (p.1.items ≡ filter (is_of_another first kind) features.items)) }
+    ensures exact { IfOk result (λ p. (p.0.items ≡ filter (is_of_kind first kind) features.items) × (p.1.items ≡ filter (is_of_another first kind) features.items)) }
 {
     let mut chosen = Vec::new(alloc);
     let mut others = Vec::new(alloc);
@@ -124,7 +124,7 @@ fn split_layers(
     kinds: &[Kind],
     features: Vec<Feature>,
 ) -> Result<GeoLayers, AllocError>
-    ensures { IfOk result (λ layers. layers ≡ split_layers name.now first kinds.now features.items) }
+    ensures exact { IfOk result (λ layers. layers ≡ split_layers name.now first kinds.now features.items) }
 {
     let mut layers = GeoLayers::new(alloc);
     let mut left = features;
@@ -143,7 +143,7 @@ fn one_layer(
     kind: Kind,
     features: Vec<Feature>,
 ) -> Result<GeoLayers, AllocError>
-    ensures { IfOk result (λ layers. layers ≡ layer_of name.now kind features.items ∷ []) }
+    ensures exact { IfOk result (λ layers. layers ≡ layer_of name.now kind features.items ∷ []) }
 {
     let mut layers = GeoLayers::new(alloc);
     let name = Text::of(alloc, name)?;
@@ -154,7 +154,7 @@ fn one_layer(
 /// The layers of these features: one of this name where they have one kind, one for each kind where they have
 /// several, and a table where none has a geometry.
 pub fn layers_of(alloc: Global, name: &str, features: Vec<Feature>) -> Result<GeoLayers, AllocError>
-    ensures { IfOk result (λ layers. layers ≡ layers_of name.now features.items) }
+    ensures exact { IfOk result (λ layers. layers ≡ layers_of name.now features.items) }
 {
     let kinds = kinds_of(alloc, features.as_slice())?;
     match kinds.as_slice() {

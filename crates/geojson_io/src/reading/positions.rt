@@ -10,7 +10,7 @@ use std::alloc::Global;
 
 /// The point of a position, which begins with two numbers.
 pub fn place(json: &Json, places: u8) -> Result<Pt, ShapeWhy>
-    ensures { result ≡ place places (json_value json.now) }
+    ensures exact { result ≡ place places (json_value json.now) }
 {
     let Json::List(list) = json else {
         return Err(ShapeWhy::BadPosition);
@@ -28,7 +28,7 @@ pub fn place(json: &Json, places: u8) -> Result<Pt, ShapeWhy>
 
 /// A position, which takes one of the room that is left.
 pub fn position(json: &Json, places: u8, left: &mut u32) -> Result<Pt, Stop>
-    ensures { Answers (position places (json_value json.now)) left.old result left.new }
+    ensures answers { Answers (position places (json_value json.now)) left.old result left.new }
 {
     if *left == 0 {
         return Err(Stop::Why(ShapeWhy::TooManyPositions));
@@ -43,7 +43,7 @@ pub fn position(json: &Json, places: u8, left: &mut u32) -> Result<Pt, Stop>
 }
 
 fn each_position(alloc: Global, items: &[Json], places: u8, left: &mut u32) -> Result<PtList, Stop>
-    ensures { Answers (each (position places) (map json_value items.now)) left.old result left.new }
+    ensures answers { Answers (each (position places) (map json_value items.now)) left.old result left.new }
 {
     let mut path = PtList::new(alloc);
     for item in items {
@@ -55,7 +55,7 @@ fn each_position(alloc: Global, items: &[Json], places: u8, left: &mut u32) -> R
 
 /// The positions of a list.
 pub fn positions(alloc: Global, json: &Json, places: u8, left: &mut u32) -> Result<PtList, Stop>
-    ensures { Answers (positions places (json_value json.now)) left.old result left.new }
+    ensures answers { Answers (positions places (json_value json.now)) left.old result left.new }
 {
     match json {
         Json::List(list) => each_position(alloc, list.as_slice(), places, left),
@@ -65,7 +65,7 @@ pub fn positions(alloc: Global, json: &Json, places: u8, left: &mut u32) -> Resu
 
 /// A line has two or more positions.
 pub fn line(alloc: Global, json: &Json, places: u8, left: &mut u32) -> Result<PtList, Stop>
-    ensures { Answers (line places (json_value json.now)) left.old result left.new }
+    ensures answers { Answers (line places (json_value json.now)) left.old result left.new }
 {
     let path = positions(alloc, json, places, left)?;
     if path.len() < 2 {
@@ -76,7 +76,7 @@ pub fn line(alloc: Global, json: &Json, places: u8, left: &mut u32) -> Result<Pt
 
 /// Whether a path ends where it starts.
 pub fn is_closed(path: &PtList) -> bool
-    ensures { result ≡ is_closed path.now }
+    ensures exact { result ≡ is_closed path.now }
 {
     match path.as_slice() {
         [first, .., last] => first == last,
@@ -86,7 +86,7 @@ pub fn is_closed(path: &PtList) -> bool
 
 /// A ring has four or more positions, and its ends are equal.
 pub fn ring(alloc: Global, json: &Json, places: u8, left: &mut u32) -> Result<PtList, Stop>
-    ensures { Answers (ring places (json_value json.now)) left.old result left.new }
+    ensures answers { Answers (ring places (json_value json.now)) left.old result left.new }
 {
     let path = positions(alloc, json, places, left)?;
     if path.len() < 4 {
@@ -104,7 +104,7 @@ fn each_ring(
     places: u8,
     left: &mut u32,
 ) -> Result<PolygonRings, Stop>
-    ensures { Answers (each (ring places) (map json_value items.now)) left.old result left.new }
+    ensures answers { Answers (each (ring places) (map json_value items.now)) left.old result left.new }
 {
     let mut polygon = PolygonRings::new(alloc);
     for item in items {
@@ -116,7 +116,7 @@ fn each_ring(
 
 /// The rings of a polygon.
 pub fn rings(alloc: Global, json: &Json, places: u8, left: &mut u32) -> Result<PolygonRings, Stop>
-    ensures { Answers (rings places (json_value json.now)) left.old result left.new }
+    ensures answers { Answers (rings places (json_value json.now)) left.old result left.new }
 {
     match json {
         Json::List(list) => each_ring(alloc, list.as_slice(), places, left),

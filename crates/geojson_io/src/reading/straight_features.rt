@@ -50,7 +50,7 @@ impl MemberTaker for GeometryTaker {
 
 impl GeometryTaker {
     fn take_type(&mut self, reader: &mut Reader<'_>, depth: u32) -> bool
-        ensures { result ≡ true → (first : GeometryTaker) → HasRead depth (PutsOne (HasGeometry first self.old) (HasGeometry first self.new) (codes "type")) reader.old reader.new }
+        ensures yes { result ≡ true → (first : GeometryTaker) → HasRead depth (PutsOne (HasGeometry first self.old) (HasGeometry first self.new) (codes "type")) reader.old reader.new }
     {
         if self.kind.is_some() || self.shape.is_some() {
             return false;
@@ -66,7 +66,7 @@ impl GeometryTaker {
     }
 
     fn take_coordinates(&mut self, reader: &mut Reader<'_>, depth: u32) -> Result<bool, AllocError>
-        ensures { IfOk result (λ is_taken. is_taken ≡ true → (first : GeometryTaker) → HasRead depth (PutsOne (HasGeometry first self.old) (HasGeometry first self.new) (codes "coordinates")) reader.old reader.new) }
+        ensures read { IfOk result (λ is_taken. is_taken ≡ true → (first : GeometryTaker) → HasRead depth (PutsOne (HasGeometry first self.old) (HasGeometry first self.new) (codes "coordinates")) reader.old reader.new) }
     {
         let Some(kind) = self.kind else {
             return Ok(false);
@@ -90,7 +90,7 @@ fn straight_geometry(
     places: u8,
     left: &mut u32,
 ) -> Result<Option<GeoShape>, AllocError>
-    ensures { IfOk result (λ found. IfSome found (λ shape. HasRead depth (ReadsAs (geometry places) left.old shape left.new) reader.old reader.new)) }
+    ensures read { IfOk result (λ found. IfSome found (λ shape. HasRead depth (ReadsAs (geometry places) left.old shape left.new) reader.old reader.new)) }
 {
     if reader.null() {
         return Ok(Some(GeoShape::Nothing));
@@ -143,7 +143,7 @@ fn straight_properties(
     reader: &mut Reader<'_>,
     depth: u32,
 ) -> Result<Option<Fields>, AllocError>
-    ensures { IfOk result (λ found. IfSome found (λ fields. HasRead depth (AreProperties fields) reader.old reader.new)) }
+    ensures read { IfOk result (λ found. IfSome found (λ fields. HasRead depth (AreProperties fields) reader.old reader.new)) }
 {
     if reader.null() {
         return Ok(Some(Fields::new(reader.alloc())));
@@ -196,7 +196,7 @@ impl MemberTaker for PartTaker {
 
 impl PartTaker {
     fn take_type(&mut self, reader: &mut Reader<'_>, depth: u32) -> bool
-        ensures { result ≡ true → (first : PartTaker) → HasRead depth (PutsOne (HasParts first self.old) (HasParts first self.new) (codes "type")) reader.old reader.new }
+        ensures yes { result ≡ true → (first : PartTaker) → HasRead depth (PutsOne (HasParts first self.old) (HasParts first self.new) (codes "type")) reader.old reader.new }
     {
         let Some(name) = reader.plain_text() else {
             return false;
@@ -209,7 +209,7 @@ impl PartTaker {
     }
 
     fn take_geometry(&mut self, reader: &mut Reader<'_>, depth: u32) -> Result<bool, AllocError>
-        ensures { IfOk result (λ is_taken. is_taken ≡ true → (first : PartTaker) → HasRead depth (PutsOne (HasParts first self.old) (HasParts first self.new) (codes "geometry")) reader.old reader.new) }
+        ensures read { IfOk result (λ is_taken. is_taken ≡ true → (first : PartTaker) → HasRead depth (PutsOne (HasParts first self.old) (HasParts first self.new) (codes "geometry")) reader.old reader.new) }
     {
         if self.shape.is_some() {
             return Ok(false);
@@ -224,7 +224,7 @@ impl PartTaker {
     }
 
     fn take_properties(&mut self, reader: &mut Reader<'_>, depth: u32) -> Result<bool, AllocError>
-        ensures { IfOk result (λ is_taken. is_taken ≡ true → (first : PartTaker) → HasRead depth (PutsOne (HasParts first self.old) (HasParts first self.new) (codes "properties")) reader.old reader.new) }
+        ensures read { IfOk result (λ is_taken. is_taken ≡ true → (first : PartTaker) → HasRead depth (PutsOne (HasParts first self.old) (HasParts first self.new) (codes "properties")) reader.old reader.new) }
     {
         match straight_properties(self.width, reader, depth)? {
             None => Ok(false),
@@ -246,7 +246,7 @@ pub fn straight_feature(
     places: u8,
     left: &mut u32,
 ) -> Result<Option<Feature>, AllocError>
-    ensures { IfOk result (λ found. IfSome found (λ read. HasRead depth (ReadsAs (feature places) left.old read left.new) reader.old reader.new)) }
+    ensures read { IfOk result (λ found. IfSome found (λ read. HasRead depth (ReadsAs (feature places) left.old read left.new) reader.old reader.new)) }
 {
     let mut taker = PartTaker {
         width,

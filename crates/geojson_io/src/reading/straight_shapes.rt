@@ -76,7 +76,7 @@ fn read_list<L: ReadList>(
 }
 
 fn position(reader: &mut Reader<'_>, depth: u32, places: u8, left: &mut u32) -> Option<Pt>
-    ensures { IfSome result (λ point. HasRead depth (ReadsListAs (position places) left.old point left.new) reader.old reader.new) }
+    ensures read { IfSome result (λ point. HasRead depth (ReadsListAs (position places) left.old point left.new) reader.old reader.new) }
 {
     if *left == 0 {
         return None;
@@ -115,7 +115,7 @@ fn line(
     places: u8,
     left: &mut u32,
 ) -> Result<Option<PtList>, AllocError>
-    ensures { IfOk result (λ found. IfSome found (λ path. HasRead depth (ReadsAs (line places) left.old path left.new) reader.old reader.new)) }
+    ensures read { IfOk result (λ found. IfSome found (λ path. HasRead depth (ReadsAs (line places) left.old path left.new) reader.old reader.new)) }
 {
     let Some(path) = read_list::<PtList>(reader, depth, places, left)? else {
         return Ok(None);
@@ -154,7 +154,7 @@ fn ring(
     places: u8,
     left: &mut u32,
 ) -> Result<Option<PtList>, AllocError>
-    ensures { IfOk result (λ found. IfSome found (λ path. HasRead depth (ReadsAs (ring places) left.old path left.new) reader.old reader.new)) }
+    ensures read { IfOk result (λ found. IfSome found (λ path. HasRead depth (ReadsAs (ring places) left.old path left.new) reader.old reader.new)) }
 {
     let Some(path) = read_list::<PtList>(reader, depth, places, left)? else {
         return Ok(None);
@@ -215,7 +215,7 @@ fn point_shape(
     places: u8,
     left: &mut u32,
 ) -> Result<Option<GeoShape>, AllocError>
-    ensures { IfOk result (λ found. IfSome found (λ shape. HasRead depth (ReadsAs (shape_of places type.Point) left.old shape left.new) reader.old reader.new)) }
+    ensures read { IfOk result (λ found. IfSome found (λ shape. HasRead depth (ReadsAs (shape_of places type.Point) left.old shape left.new) reader.old reader.new)) }
 {
     let Some(point) = position(reader, depth, places, left) else {
         return Ok(None);
@@ -231,7 +231,7 @@ fn points_shape(
     places: u8,
     left: &mut u32,
 ) -> Result<Option<GeoShape>, AllocError>
-    ensures { IfOk result (λ found. IfSome found (λ shape. HasRead depth (ReadsAs (shape_of places type.MultiPoint) left.old shape left.new) reader.old reader.new)) }
+    ensures read { IfOk result (λ found. IfSome found (λ shape. HasRead depth (ReadsAs (shape_of places type.MultiPoint) left.old shape left.new) reader.old reader.new)) }
 {
     let Some(points) = read_list::<PtList>(reader, depth, places, left)? else {
         return Ok(None);
@@ -245,7 +245,7 @@ fn line_shape(
     places: u8,
     left: &mut u32,
 ) -> Result<Option<GeoShape>, AllocError>
-    ensures { IfOk result (λ found. IfSome found (λ shape. HasRead depth (ReadsAs (shape_of places type.LineString) left.old shape left.new) reader.old reader.new)) }
+    ensures read { IfOk result (λ found. IfSome found (λ shape. HasRead depth (ReadsAs (shape_of places type.LineString) left.old shape left.new) reader.old reader.new)) }
 {
     let Some(path) = line(reader, depth, places, left)? else {
         return Ok(None);
@@ -261,7 +261,7 @@ fn lines_shape(
     places: u8,
     left: &mut u32,
 ) -> Result<Option<GeoShape>, AllocError>
-    ensures { IfOk result (λ found. IfSome found (λ shape. HasRead depth (ReadsAs (shape_of places type.MultiLineString) left.old shape left.new) reader.old reader.new)) }
+    ensures read { IfOk result (λ found. IfSome found (λ shape. HasRead depth (ReadsAs (shape_of places type.MultiLineString) left.old shape left.new) reader.old reader.new)) }
 {
     let Some(lines) = read_list::<PathList>(reader, depth, places, left)? else {
         return Ok(None);
@@ -275,7 +275,7 @@ fn polygon_shape(
     places: u8,
     left: &mut u32,
 ) -> Result<Option<GeoShape>, AllocError>
-    ensures { IfOk result (λ found. IfSome found (λ shape. HasRead depth (ReadsAs (shape_of places type.Polygon) left.old shape left.new) reader.old reader.new)) }
+    ensures read { IfOk result (λ found. IfSome found (λ shape. HasRead depth (ReadsAs (shape_of places type.Polygon) left.old shape left.new) reader.old reader.new)) }
 {
     let Some(polygon) = read_list::<PolygonRings>(reader, depth, places, left)? else {
         return Ok(None);
@@ -294,7 +294,7 @@ fn polygons_shape(
     places: u8,
     left: &mut u32,
 ) -> Result<Option<GeoShape>, AllocError>
-    ensures { IfOk result (λ found. IfSome found (λ shape. HasRead depth (ReadsAs (shape_of places type.MultiPolygon) left.old shape left.new) reader.old reader.new)) }
+    ensures read { IfOk result (λ found. IfSome found (λ shape. HasRead depth (ReadsAs (shape_of places type.MultiPolygon) left.old shape left.new) reader.old reader.new)) }
 {
     let Some(polygons) = read_list::<RingsList>(reader, depth, places, left)? else {
         return Ok(None);
@@ -310,7 +310,7 @@ pub(crate) fn straight_shape(
     places: u8,
     left: &mut u32,
 ) -> Result<Option<GeoShape>, AllocError>
-    ensures { IfOk result (λ found. IfSome found (λ shape. HasRead depth (ReadsAs (shape_of places kind) left.old shape left.new) reader.old reader.new)) }
+    ensures read { IfOk result (λ found. IfSome found (λ shape. HasRead depth (ReadsAs (shape_of places kind) left.old shape left.new) reader.old reader.new)) }
 {
     match kind {
         GeoType::Point => point_shape(reader, depth, places, left),

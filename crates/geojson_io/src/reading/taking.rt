@@ -125,7 +125,7 @@ fn parse_value(alloc: Global, bytes: &[u8]) -> Result<Parsed, JsonFault>
 impl FeatureTaker {
     // The layers of the features that were read, or the first fault.
     fn layers(self, name: &str) -> Result<GeoLayers, ShapeFault>
-        ensures { AreLayersOf self name.now result }
+        ensures exact { AreLayersOf self name.now result }
     {
         match self.fault {
             Some(fault) => Err(fault),

@@ -18,7 +18,7 @@ pub enum GeoType {
 impl GeoType {
     /// The type with this name.
     pub fn named(name: &str) -> Option<GeoType>
-        ensures { result ≡ geo_type_of name.now }
+        ensures exact { result ≡ geo_type_of name.now }
     {
         match name {
             "Point" => Some(GeoType::Point),
@@ -41,7 +41,7 @@ pub enum Member {
 
 /// The name of an object's type; empty where it has none.
 pub fn type_of(object: &JsonFields) -> &str
-    ensures { result.now ≡ type_of object.now }
+    ensures exact { result.now ≡ type_of object.now }
 {
     match object.find("type") {
         Some(Json::Text(name)) => name.as_str(),

@@ -11,7 +11,7 @@ use text_core::Bytes;
 /// A point as a pair of numbers in brackets.
 pub fn write_point(point: &Pt, places: u8, out: &mut Bytes) -> Result<(), AllocError>
     requires { places ≤ most_places }
-    ensures { OnOk result (out.new ≡ out.old ++ point_text places point.now) }
+    ensures written { OnOk result (out.new ≡ out.old ++ point_text places point.now) }
 {
     // From the last byte to the first.
     let mut room = [b']'; 64];
@@ -24,7 +24,7 @@ pub fn write_point(point: &Pt, places: u8, out: &mut Bytes) -> Result<(), AllocE
 
 /// A comma before each item but the first.
 pub fn write_comma(i: usize, out: &mut Bytes) -> Result<(), AllocError>
-    ensures { OnOk result (out.new ≡ out.old ++ before_item (44 ∷ []) i) }
+    ensures written { OnOk result (out.new ≡ out.old ++ before_item (44 ∷ []) i) }
 {
     if i > 0 {
         out.push(b',')?;
@@ -34,7 +34,7 @@ pub fn write_comma(i: usize, out: &mut Bytes) -> Result<(), AllocError>
 
 fn write_path(points: &[Pt], places: u8, out: &mut Bytes) -> Result<(), AllocError>
     requires { places ≤ most_places }
-    ensures { OnOk result (out.new ≡ out.old ++ list_text (point_text places) points.now) }
+    ensures written { OnOk result (out.new ≡ out.old ++ list_text (point_text places) points.now) }
 {
     out.push(b'[')?;
     for (i, point) in points.iter().enumerate() {
@@ -46,7 +46,7 @@ fn write_path(points: &[Pt], places: u8, out: &mut Bytes) -> Result<(), AllocErr
 
 fn write_paths(paths: &[PtList], places: u8, out: &mut Bytes) -> Result<(), AllocError>
     requires { places ≤ most_places }
-    ensures { OnOk result (out.new ≡ out.old ++ list_text (path_text places) paths.now) }
+    ensures written { OnOk result (out.new ≡ out.old ++ list_text (path_text places) paths.now) }
 {
     out.push(b'[')?;
     for (i, path) in paths.iter().enumerate() {
@@ -58,7 +58,7 @@ fn write_paths(paths: &[PtList], places: u8, out: &mut Bytes) -> Result<(), Allo
 
 fn write_polygons(polygons: &[PolygonRings], places: u8, out: &mut Bytes) -> Result<(), AllocError>
     requires { places ≤ most_places }
-    ensures { OnOk result (out.new ≡ out.old ++ list_text (polygon_text places) polygons.now) }
+    ensures written { OnOk result (out.new ≡ out.old ++ list_text (polygon_text places) polygons.now) }
 {
     out.push(b'[')?;
     for (i, polygon) in polygons.iter().enumerate() {
@@ -70,7 +70,7 @@ fn write_polygons(polygons: &[PolygonRings], places: u8, out: &mut Bytes) -> Res
 
 // What stands before the coordinates of a geometry.
 fn write_type(name: &str, out: &mut Bytes) -> Result<(), AllocError>
-    ensures { OnOk result (out.new ≡ out.old ++ type_text name.now) }
+    ensures written { OnOk result (out.new ≡ out.old ++ type_text name.now) }
 {
     out.extend(b"{\"type\":\"")?;
     out.extend(name.as_bytes())?;
@@ -80,7 +80,7 @@ fn write_type(name: &str, out: &mut Bytes) -> Result<(), AllocError>
 /// The geometry object of points, or null where there is none.
 pub fn write_points(points: &[Pt], places: u8, out: &mut Bytes) -> Result<(), AllocError>
     requires { places ≤ most_places }
-    ensures { OnOk result (out.new ≡ out.old ++ one_or_many (codes "Point") (codes "MultiPoint") (point_text places) points.now) }
+    ensures written { OnOk result (out.new ≡ out.old ++ one_or_many (codes "Point") (codes "MultiPoint") (point_text places) points.now) }
 {
     match points {
         [] => out.extend(b"null"),
@@ -99,7 +99,7 @@ pub fn write_points(points: &[Pt], places: u8, out: &mut Bytes) -> Result<(), Al
 
 fn write_lines(lines: &[PtList], places: u8, out: &mut Bytes) -> Result<(), AllocError>
     requires { places ≤ most_places }
-    ensures { OnOk result (out.new ≡ out.old ++ one_or_many (codes "LineString") (codes "MultiLineString") (path_text places) lines.now) }
+    ensures written { OnOk result (out.new ≡ out.old ++ one_or_many (codes "LineString") (codes "MultiLineString") (path_text places) lines.now) }
 {
     match lines {
         [] => out.extend(b"null"),
@@ -118,7 +118,7 @@ fn write_lines(lines: &[PtList], places: u8, out: &mut Bytes) -> Result<(), Allo
 
 fn write_areas(polygons: &[PolygonRings], places: u8, out: &mut Bytes) -> Result<(), AllocError>
     requires { places ≤ most_places }
-    ensures { OnOk result (out.new ≡ out.old ++ one_or_many (codes "Polygon") (codes "MultiPolygon") (polygon_text places) polygons.now) }
+    ensures written { OnOk result (out.new ≡ out.old ++ one_or_many (codes "Polygon") (codes "MultiPolygon") (polygon_text places) polygons.now) }
 {
     match polygons {
         [] => out.extend(b"null"),
@@ -138,7 +138,7 @@ fn write_areas(polygons: &[PolygonRings], places: u8, out: &mut Bytes) -> Result
 /// The geometry object of a shape, or null.
 pub fn write_geometry(shape: &GeoShape, places: u8, out: &mut Bytes) -> Result<(), AllocError>
     requires { places ≤ most_places }
-    ensures { OnOk result (out.new ≡ out.old ++ geometry_text places shape.now) }
+    ensures written { OnOk result (out.new ≡ out.old ++ geometry_text places shape.now) }
 {
     match shape {
         GeoShape::Nothing => out.extend(b"null"),

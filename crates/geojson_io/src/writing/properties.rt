@@ -8,7 +8,7 @@ use text_core::{Bytes, Text};
 
 // The name of a column as it stands before each of its values.
 fn key_of(alloc: Global, name: &str) -> Result<Bytes, AllocError>
-    ensures { IfOk result (λ key. key ≡ key_text name.now) }
+    ensures exact { IfOk result (λ key. key ≡ key_text name.now) }
 {
     let mut key = Bytes::new(alloc);
     Value::Text(Text::of(alloc, name)?).print_json(&mut key)?;
@@ -18,7 +18,7 @@ fn key_of(alloc: Global, name: &str) -> Result<Bytes, AllocError>
 
 /// The names of the columns as they stand before their values.
 pub fn keys_of(alloc: Global, names: &[Text]) -> Result<Vec<Bytes>, AllocError>
-    ensures { IfOk result (λ keys. keys.items ≡ map key_text names.now) }
+    ensures exact { IfOk result (λ keys. keys.items ≡ map key_text names.now) }
 {
     let mut keys = Vec::new(alloc);
     for name in names {
@@ -28,7 +28,7 @@ pub fn keys_of(alloc: Global, names: &[Text]) -> Result<Vec<Bytes>, AllocError>
 }
 
 fn write_member(key: &Bytes, value: &Value, out: &mut Bytes) -> Result<(), AllocError>
-    ensures { OnOk result (out.new ≡ out.old ++ member_text (key.now, value.now)) }
+    ensures written { OnOk result (out.new ≡ out.old ++ member_text (key.now, value.now)) }
 {
     out.extend(key.as_slice())?;
     value.print_json(out)
@@ -37,7 +37,7 @@ fn write_member(key: &Bytes, value: &Value, out: &mut Bytes) -> Result<(), Alloc
 /// The object of all columns; null where there is none.
 pub fn write_properties(keys: &[Bytes], row: &Row, out: &mut Bytes) -> Result<(), AllocError>
     requires { length keys.now ≡ length row.now }
-    ensures { OnOk result (out.new ≡ out.old ++ properties_text keys.now row.now) }
+    ensures written { OnOk result (out.new ≡ out.old ++ properties_text keys.now row.now) }
 {
     if keys.len() == 0 {
         return out.extend(b"null");

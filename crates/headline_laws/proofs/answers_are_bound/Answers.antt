@@ -3,4 +3,4 @@ use Rattle.headline_laws.proofs.Runs.{answers_bound}
 use Rattle.headline_laws.proofs.answers_are_bound.Goals as goal
 
 pub returns : goal.returns
-returns c = answers_bound
+returns c = record { holds = answers_bound }

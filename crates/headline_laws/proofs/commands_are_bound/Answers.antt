@@ -2,4 +2,4 @@ use Rattle.headline_laws.proofs.Bound.{bound}
 use Rattle.headline_laws.proofs.commands_are_bound.Goals as goal
 
 pub returns : goal.returns
-returns c = bound
+returns c = record { holds = bound }

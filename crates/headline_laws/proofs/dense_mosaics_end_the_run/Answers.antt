@@ -2,4 +2,4 @@ use Rattle.headline_laws.proofs.BegunMosaics.{dense_ends}
 use Rattle.headline_laws.proofs.dense_mosaics_end_the_run.Goals as goal
 
 pub returns : goal.returns
-returns c = dense_ends
+returns c = record { holds = dense_ends }

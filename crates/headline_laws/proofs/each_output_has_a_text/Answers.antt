@@ -3,4 +3,4 @@ use Rattle.headline_laws.proofs.Texts.{texts_there}
 use Rattle.headline_laws.proofs.each_output_has_a_text.Goals as goal
 
 pub returns : goal.returns
-returns c = texts_there
+returns c = record { holds = texts_there }

@@ -3,4 +3,4 @@ use Rattle.headline_laws.proofs.Steps.{each_step}
 use Rattle.headline_laws.proofs.each_step_shows.Goals as goal
 
 pub returns : goal.returns
-returns c = each_step
+returns c = record { holds = each_step }

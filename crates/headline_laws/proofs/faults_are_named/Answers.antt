@@ -2,4 +2,4 @@ use Rattle.headline_laws.proofs.Refused.{faults_named}
 use Rattle.headline_laws.proofs.faults_are_named.Goals as goal
 
 pub returns : goal.returns
-returns c = faults_named
+returns c = record { holds = faults_named }

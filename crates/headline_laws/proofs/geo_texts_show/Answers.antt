@@ -3,4 +3,4 @@ use Rattle.headline_laws.proofs.PictureTexts.{geo_texts_show}
 use Rattle.headline_laws.proofs.geo_texts_show.Goals as goal
 
 pub returns : goal.returns
-returns c = geo_texts_show
+returns c = record { holds = geo_texts_show }

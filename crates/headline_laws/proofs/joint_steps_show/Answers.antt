@@ -3,4 +3,4 @@ use Rattle.headline_laws.proofs.Steps.{joint_step}
 use Rattle.headline_laws.proofs.joint_steps_show.Goals as goal
 
 pub returns : goal.returns
-returns c = joint_step
+returns c = record { holds = joint_step }

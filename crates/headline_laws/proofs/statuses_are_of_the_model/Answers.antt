@@ -3,4 +3,4 @@ use Rattle.headline_laws.proofs.Statuses.{statuses}
 use Rattle.headline_laws.proofs.statuses_are_of_the_model.Goals as goal
 
 pub returns : goal.returns
-returns c = statuses
+returns c = record { holds = statuses }

@@ -3,4 +3,4 @@ use Rattle.headline_laws.proofs.PictureTexts.{table_texts_show}
 use Rattle.headline_laws.proofs.table_texts_show.Goals as goal
 
 pub returns : goal.returns
-returns c = table_texts_show
+returns c = record { holds = table_texts_show }

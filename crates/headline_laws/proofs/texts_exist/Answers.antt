@@ -3,4 +3,4 @@ use Rattle.headline_laws.proofs.PictureTexts.{texts_exist}
 use Rattle.headline_laws.proofs.texts_exist.Goals as goal
 
 pub returns : goal.returns
-returns c = texts_exist
+returns c = record { holds = texts_exist }

@@ -3,4 +3,4 @@ use Rattle.headline_laws.proofs.PictureTexts.{texts_show}
 use Rattle.headline_laws.proofs.texts_show.Goals as goal
 
 pub returns : goal.returns
-returns c = texts_show
+returns c = record { holds = texts_show }

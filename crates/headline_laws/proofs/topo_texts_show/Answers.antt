@@ -3,4 +3,4 @@ use Rattle.headline_laws.proofs.PictureTexts.{topo_texts_show}
 use Rattle.headline_laws.proofs.topo_texts_show.Goals as goal
 
 pub returns : goal.returns
-returns c = topo_texts_show
+returns c = record { holds = topo_texts_show }

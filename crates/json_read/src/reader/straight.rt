@@ -21,7 +21,7 @@ pub trait ValueTaker {
     ///
     /// `false` where it isn't read so; nothing is said then of what was taken, or of what is left to read.
     fn take_value(&mut self, reader: &mut Reader<'_>, depth: u32) -> Result<bool, AllocError>
-        ensures { IfOk result (λ is_taken. is_taken ≡ true → (first : Self) → HasRead depth (TakesOne (took first self.old) (took first self.new)) reader.old reader.new) };
+        ensures read { IfOk result (λ is_taken. is_taken ≡ true → (first : Self) → HasRead depth (TakesOne (took first self.old) (took first self.new)) reader.old reader.new) };
 }
 
 /// What takes the members of an object one after another, and reads the value of each itself.
@@ -39,7 +39,7 @@ pub trait MemberTaker {
         reader: &mut Reader<'_>,
         depth: u32,
     ) -> Result<bool, AllocError>
-        ensures { IfOk result (λ is_taken. is_taken ≡ true → (first : Self) → HasRead depth (PutsOne (took first self.old) (took first self.new) name.now) reader.old reader.new) };
+        ensures read { IfOk result (λ is_taken. is_taken ≡ true → (first : Self) → HasRead depth (PutsOne (took first self.old) (took first self.new) name.now) reader.old reader.new) };
 }
 
 // Parts of a text that others read, each with white space around it. Where a part is none, nothing is said of what is
@@ -54,7 +54,7 @@ impl<'a> Reader<'a> {
     ///
     /// Source: RFC 8259, as for `Json::parse`.
     pub fn any_value(&mut self, depth: u32) -> Result<Option<Json>, AllocError>
-        ensures { IfOk result (λ found. IfSome found (λ json. HasValue depth json self.old.rest.now self.new.rest.now)) }
+        ensures read { IfOk result (λ found. IfSome found (λ json. HasValue depth json self.old.rest.now self.new.rest.now)) }
     {
         match self.padded(depth) {
             Ok(json) => Ok(Some(json)),
@@ -80,7 +80,7 @@ impl<'a> Reader<'a> {
 
     /// A string of ASCII without escapes.
     pub fn plain_text(&mut self) -> Option<&'a str>
-        ensures { IfSome result (λ text. (d : ℕ) → HasRead d (λ v. v ≡ string text.now) self.old self.new) }
+        ensures read { IfSome result (λ text. (d : ℕ) → HasRead d (λ v. v ≡ string text.now) self.old self.new) }
     {
         self.skip_white();
         if !self.take(b'"') {
@@ -134,7 +134,7 @@ impl<'a> Reader<'a> {
     }
 
     fn grid_number(&mut self, places: u8) -> Option<i64>
-        ensures { IfSome result (λ g. (d : ℕ) → HasRead d (IsGridNumber places g) self.old self.new) }
+        ensures read { IfSome result (λ g. (d : ℕ) → HasRead d (IsGridNumber places g) self.old self.new) }
     {
         let start = self.rest;
         self.skip_white();
@@ -142,15 +142,15 @@ impl<'a> Reader<'a> {
             self.rest = start;
             return self.any_grid_number(places);
         };
-        let (_, behind) = self.rest.split_at(size);
-        self.rest = behind;
+        let (_, past) = self.rest.split_at(size);
+        self.rest = past;
         self.skip_white();
         Some(number)
     }
 
     // The same of any numeral.
     fn any_grid_number(&mut self, places: u8) -> Option<i64>
-        ensures { IfSome result (λ g. (d : ℕ) → HasRead d (IsGridNumber places g) self.old self.new) }
+        ensures read { IfSome result (λ g. (d : ℕ) → HasRead d (IsGridNumber places g) self.old self.new) }
     {
         self.skip_white();
         let text = self.numeral()?;
@@ -161,7 +161,7 @@ impl<'a> Reader<'a> {
 
     // The text of a number.
     fn numeral(&mut self) -> Option<&'a str>
-        ensures { IfSome result (λ text. Passes (NumeralOf text.now) value after self.old.rest.now self.new.rest.now) }
+        ensures read { IfSome result (λ text. Passes (NumeralOf text.now) value after self.old.rest.now self.new.rest.now) }
     {
         let Some(first) = self.peek() else {
             return None;
@@ -174,7 +174,7 @@ impl<'a> Reader<'a> {
 
     fn begun_numeral(&mut self) -> Option<&'a str>
         requires { NumberBegins self.old.rest.now }
-        ensures { IfSome result (λ text. Passes (NumeralOf text.now) value after self.old.rest.now self.new.rest.now) }
+        ensures read { IfSome result (λ text. Passes (NumeralOf text.now) value after self.old.rest.now self.new.rest.now) }
     {
         let start = self.rest;
         self.minus();
@@ -193,7 +193,7 @@ impl<'a> Reader<'a> {
 
     /// An array of one item or more, whose items the taker reads and takes; `false` where it is none.
     pub fn items_by<T: ValueTaker>(&mut self, depth: u32, taker: &mut T) -> Result<bool, AllocError>
-        ensures { IfOk result (λ is_taken. is_taken ≡ true → (first : T) → HasRead depth (IsTakenArray (T.took first taker.old) (T.took first taker.new)) self.old self.new) }
+        ensures read { IfOk result (λ is_taken. is_taken ≡ true → (first : T) → HasRead depth (IsTakenArray (T.took first taker.old) (T.took first taker.new)) self.old self.new) }
     {
         self.skip_white();
         if depth == 0 || !self.take(b'[') {
@@ -210,7 +210,7 @@ impl<'a> Reader<'a> {
         depth: u32,
         taker: &mut T,
     ) -> Result<bool, AllocError>
-        ensures { IfOk result (λ is_taken. is_taken ≡ true → (first : T) → HasTakenArray depth (T.took first taker.old) (T.took first taker.new) self.old.rest.now self.new.rest.now) }
+        ensures exact { IfOk result (λ is_taken. is_taken ≡ true → (first : T) → HasTakenArray depth (T.took first taker.old) (T.took first taker.new) self.old.rest.now self.new.rest.now) }
     {
         self.skip_white();
         if self.take(b']') {
@@ -235,7 +235,7 @@ impl<'a> Reader<'a> {
         depth: u32,
         taker: &mut T,
     ) -> Result<bool, AllocError>
-        ensures { IfOk result (λ is_taken. is_taken ≡ true → (first : T) → HasRead depth (IsTakenObject (T.took first taker.old) (T.took first taker.new)) self.old self.new) }
+        ensures read { IfOk result (λ is_taken. is_taken ≡ true → (first : T) → HasRead depth (IsTakenObject (T.took first taker.old) (T.took first taker.new)) self.old self.new) }
     {
         self.skip_white();
         if depth == 0 || !self.take(b'{') {
@@ -252,7 +252,7 @@ impl<'a> Reader<'a> {
         depth: u32,
         taker: &mut T,
     ) -> Result<bool, AllocError>
-        ensures { IfOk result (λ is_taken. is_taken ≡ true → (first : T) → HasTakenMembers depth (T.took first taker.old) (T.took first taker.new) self.old.rest.now self.new.rest.now) }
+        ensures exact { IfOk result (λ is_taken. is_taken ≡ true → (first : T) → HasTakenMembers depth (T.took first taker.old) (T.took first taker.new) self.old.rest.now self.new.rest.now) }
     {
         self.skip_white();
         if self.take(b'}') {
@@ -273,7 +273,7 @@ impl<'a> Reader<'a> {
 
     // The next member of an object.
     fn member_by<T: MemberTaker>(&mut self, depth: u32, taker: &mut T) -> Result<bool, AllocError>
-        ensures { IfOk result (λ is_taken. is_taken ≡ true → (first : T) → HasTakenMember depth (T.took first taker.old) (T.took first taker.new) self.old.rest.now self.new.rest.now) }
+        ensures exact { IfOk result (λ is_taken. is_taken ≡ true → (first : T) → HasTakenMember depth (T.took first taker.old) (T.took first taker.new) self.old.rest.now self.new.rest.now) }
     {
         let Some(name) = self.any_name()? else {
             return Ok(false);

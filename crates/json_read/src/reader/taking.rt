@@ -196,7 +196,7 @@ impl<'a> Reader<'a> {
 
     // The items of an array, after its bracket.
     fn items_taking<T: ItemTaker>(&mut self, depth: u32, taker: &mut T) -> Result<(), Stop>
-        ensures { (first : T) → TakesArray depth (T.took first taker.old) (T.took first taker.new) result self.old.rest.now self.new.rest.now }
+        ensures read { (first : T) → TakesArray depth (T.took first taker.old) (T.took first taker.new) result self.old.rest.now self.new.rest.now }
     {
         self.skip_white();
         if self.take(b']') {
@@ -213,7 +213,7 @@ impl<'a> Reader<'a> {
 
     // The next item, with white space around it.
     fn item_taking<T: ItemTaker>(&mut self, depth: u32, taker: &mut T) -> Result<(), Stop>
-        ensures { (first : T) → TakesItem depth (T.took first taker.old) (T.took first taker.new) result self.old.rest.now self.new.rest.now }
+        ensures read { (first : T) → TakesItem depth (T.took first taker.old) (T.took first taker.new) result self.old.rest.now self.new.rest.now }
     {
         let start = self.rest;
         if taker.take_text(self, depth)? {
@@ -228,7 +228,7 @@ impl<'a> Reader<'a> {
 
 impl Taking {
     fn finish(self) -> TakenObject
-        ensures { (result.fields ≡ self.fields) × (result.is_taken ≡ self.is_taken) }
+        ensures same { (result.fields ≡ self.fields) × (result.is_taken ≡ self.is_taken) }
     {
         TakenObject {
             fields: self.fields.finish(),

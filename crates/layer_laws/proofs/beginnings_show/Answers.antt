@@ -3,4 +3,4 @@ use Rattle.layer_laws.proofs.Begun.{beginnings_show}
 use Rattle.layer_laws.proofs.beginnings_show.Goals as goal
 
 pub returns : goal.returns
-returns c = beginnings_show
+returns c = record { holds = beginnings_show }

@@ -3,4 +3,4 @@ use Rattle.layer_laws.proofs.PolygonCleaning.{cleaned_polygons_show}
 use Rattle.layer_laws.proofs.cleaned_polygons_show.Goals as goal
 
 pub returns : goal.returns
-returns c = cleaned_polygons_show
+returns c = record { holds = cleaned_polygons_show }

@@ -3,4 +3,4 @@ use Rattle.layer_laws.proofs.PolygonCuts.{clipped_polygons_show}
 use Rattle.layer_laws.proofs.clipped_polygons_show.Goals as goal
 
 pub returns : goal.returns
-returns c = clipped_polygons_show
+returns c = record { holds = clipped_polygons_show }

@@ -3,4 +3,4 @@ use Rattle.layer_laws.proofs.PolygonCuts.{cut_sets_show}
 use Rattle.layer_laws.proofs.cut_sets_show.Goals as goal
 
 pub returns : goal.returns
-returns c = cut_sets_show
+returns c = record { holds = cut_sets_show }

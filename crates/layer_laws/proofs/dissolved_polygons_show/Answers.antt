@@ -3,4 +3,4 @@ use Rattle.layer_laws.proofs.PolygonGroups.{dissolved_polygons_show}
 use Rattle.layer_laws.proofs.dissolved_polygons_show.Goals as goal
 
 pub returns : goal.returns
-returns c = dissolved_polygons_show
+returns c = record { holds = dissolved_polygons_show }

@@ -3,4 +3,4 @@ use Rattle.layer_laws.proofs.TableCommands.{early_rows_show}
 use Rattle.layer_laws.proofs.early_rows_show.Goals as goal
 
 pub returns : goal.returns
-returns c = early_rows_show
+returns c = record { holds = early_rows_show }

@@ -3,4 +3,4 @@ use Rattle.layer_laws.proofs.Empty.{emptiness_shows}
 use Rattle.layer_laws.proofs.emptiness_shows.Goals as goal
 
 pub returns : goal.returns
-returns c = emptiness_shows
+returns c = record { holds = emptiness_shows }

@@ -3,4 +3,4 @@ use Rattle.layer_laws.proofs.PolygonCuts.{erased_polygons_show}
 use Rattle.layer_laws.proofs.erased_polygons_show.Goals as goal
 
 pub returns : goal.returns
-returns c = erased_polygons_show
+returns c = record { holds = erased_polygons_show }

@@ -3,4 +3,4 @@ use Rattle.layer_laws.proofs.LinePieces.{exploded_lines_show}
 use Rattle.layer_laws.proofs.exploded_lines_show.Goals as goal
 
 pub returns : goal.returns
-returns c = exploded_lines_show
+returns c = record { holds = exploded_lines_show }

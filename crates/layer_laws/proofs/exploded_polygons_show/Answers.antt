@@ -3,4 +3,4 @@ use Rattle.layer_laws.proofs.PolygonParts.{exploded_polygons_show}
 use Rattle.layer_laws.proofs.exploded_polygons_show.Goals as goal
 
 pub returns : goal.returns
-returns c = exploded_polygons_show
+returns c = record { holds = exploded_polygons_show }

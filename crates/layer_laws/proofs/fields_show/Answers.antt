@@ -3,4 +3,4 @@ use Rattle.layer_laws.proofs.TableCommands.{fields_show}
 use Rattle.layer_laws.proofs.fields_show.Goals as goal
 
 pub returns : goal.returns
-returns c = fields_show
+returns c = record { holds = fields_show }

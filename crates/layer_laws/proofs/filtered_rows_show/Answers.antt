@@ -3,4 +3,4 @@ use Rattle.layer_laws.proofs.TableCommands.{filtered_rows_show}
 use Rattle.layer_laws.proofs.filtered_rows_show.Goals as goal
 
 pub returns : goal.returns
-returns c = filtered_rows_show
+returns c = record { holds = filtered_rows_show }

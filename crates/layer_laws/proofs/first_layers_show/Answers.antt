@@ -3,4 +3,4 @@ use Rattle.layer_laws.proofs.Targeting.{first_layers_show}
 use Rattle.layer_laws.proofs.first_layers_show.Goals as goal
 
 pub returns : goal.returns
-returns c = first_layers_show
+returns c = record { holds = first_layers_show }

@@ -3,4 +3,4 @@ use Rattle.layer_laws.proofs.LineGroups.{grouped_lines_show}
 use Rattle.layer_laws.proofs.grouped_lines_show.Goals as goal
 
 pub returns : goal.returns
-returns c = grouped_lines_show
+returns c = record { holds = grouped_lines_show }

@@ -3,4 +3,4 @@ use Rattle.layer_laws.proofs.PolygonIslands.{islands_show}
 use Rattle.layer_laws.proofs.islands_show.Goals as goal
 
 pub returns : goal.returns
-returns c = islands_show
+returns c = record { holds = islands_show }

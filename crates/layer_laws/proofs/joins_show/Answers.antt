@@ -3,4 +3,4 @@ use Rattle.layer_laws.proofs.TableCommands.{joins_show}
 use Rattle.layer_laws.proofs.joins_show.Goals as goal
 
 pub returns : goal.returns
-returns c = joins_show
+returns c = record { holds = joins_show }

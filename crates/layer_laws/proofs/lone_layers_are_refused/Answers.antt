@@ -3,4 +3,4 @@ use Rattle.layer_laws.proofs.PolygonUnion.{lone_layers_are_refused}
 use Rattle.layer_laws.proofs.lone_layers_are_refused.Goals as goal
 
 pub returns : goal.returns
-returns c = lone_layers_are_refused
+returns c = record { holds = lone_layers_are_refused }

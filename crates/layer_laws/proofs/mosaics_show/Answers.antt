@@ -3,4 +3,4 @@ use Rattle.layer_laws.proofs.PolygonParts.{mosaics_show}
 use Rattle.layer_laws.proofs.mosaics_show.Goals as goal
 
 pub returns : goal.returns
-returns c = mosaics_show
+returns c = record { holds = mosaics_show }

@@ -3,4 +3,4 @@ use Rattle.layer_laws.proofs.TableCommands.{new_names_show}
 use Rattle.layer_laws.proofs.new_names_show.Goals as goal
 
 pub returns : goal.returns
-returns c = new_names_show
+returns c = record { holds = new_names_show }

@@ -3,4 +3,4 @@ use Rattle.layer_laws.proofs.Targeting.{one_layer_shows}
 use Rattle.layer_laws.proofs.one_layer_shows.Goals as goal
 
 pub returns : goal.returns
-returns c = one_layer_shows
+returns c = record { holds = one_layer_shows }

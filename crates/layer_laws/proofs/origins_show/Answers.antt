@@ -3,4 +3,4 @@ use Rattle.layer_laws.proofs.Targeting.{origins_show}
 use Rattle.layer_laws.proofs.origins_show.Goals as goal
 
 pub returns : goal.returns
-returns c = origins_show
+returns c = record { holds = origins_show }

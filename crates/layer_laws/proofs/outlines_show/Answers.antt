@@ -3,4 +3,4 @@ use Rattle.layer_laws.proofs.Outlines.{outlines_are_shown}
 use Rattle.layer_laws.proofs.outlines_show.Goals as goal
 
 pub returns : goal.returns
-returns c = outlines_are_shown
+returns c = record { holds = outlines_are_shown }

@@ -3,4 +3,4 @@ use Rattle.layer_laws.proofs.Splitting.{pieces_are_shown}
 use Rattle.layer_laws.proofs.pieces_show.Goals as goal
 
 pub returns : goal.returns
-returns c = pieces_are_shown
+returns c = record { holds = pieces_are_shown }

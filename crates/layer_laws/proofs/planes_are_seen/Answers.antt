@@ -3,4 +3,4 @@ use Rattle.layer_laws.proofs.PolygonPlanes.{planes_are_seen}
 use Rattle.layer_laws.proofs.planes_are_seen.Goals as goal
 
 pub returns : goal.returns
-returns c = planes_are_seen
+returns c = record { holds = planes_are_seen }

@@ -3,4 +3,4 @@ use Rattle.layer_laws.proofs.Taking.{taken_features_show}
 use Rattle.layer_laws.proofs.taken_features_show.Goals as goal
 
 pub returns : goal.returns
-returns c = taken_features_show
+returns c = record { holds = taken_features_show }

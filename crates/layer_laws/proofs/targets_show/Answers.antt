@@ -3,4 +3,4 @@ use Rattle.layer_laws.proofs.Targeting.{targets_show}
 use Rattle.layer_laws.proofs.targets_show.Goals as goal
 
 pub returns : goal.returns
-returns c = targets_show
+returns c = record { holds = targets_show }

@@ -3,4 +3,4 @@ use Rattle.layer_laws.proofs.Views.{views_exist}
 use Rattle.layer_laws.proofs.views_exist.Goals as goal
 
 pub returns : goal.returns
-returns c = views_exist
+returns c = record { holds = views_exist }

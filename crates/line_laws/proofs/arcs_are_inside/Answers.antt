@@ -3,4 +3,4 @@ use Rattle.line_laws.proofs.LinkSides.{arcs_are_inside}
 use Rattle.line_laws.proofs.arcs_are_inside.Goals as goal
 
 pub returns : goal.returns
-returns c = arcs_are_inside
+returns c = record { holds = arcs_are_inside }

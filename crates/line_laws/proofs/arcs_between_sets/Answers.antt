@@ -3,4 +3,4 @@ use Rattle.line_laws.proofs.ArcsBetween.{arcs_between_sets}
 use Rattle.line_laws.proofs.arcs_between_sets.Goals as goal
 
 pub returns : goal.returns
-returns c = arcs_between_sets
+returns c = record { holds = arcs_between_sets }

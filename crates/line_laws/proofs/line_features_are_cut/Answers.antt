@@ -3,4 +3,4 @@ use Rattle.line_laws.proofs.PathRuns.{line_features_are_cut}
 use Rattle.line_laws.proofs.line_features_are_cut.Goals as goal
 
 pub returns : goal.returns
-returns c = line_features_are_cut
+returns c = record { holds = line_features_are_cut }

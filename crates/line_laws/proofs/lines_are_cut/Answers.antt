@@ -3,4 +3,4 @@ use Rattle.line_laws.proofs.PathRuns.{lines_are_cut}
 use Rattle.line_laws.proofs.lines_are_cut.Goals as goal
 
 pub returns : goal.returns
-returns c = lines_are_cut
+returns c = record { holds = lines_are_cut }

@@ -3,4 +3,4 @@ use Rattle.line_laws.proofs.LinkedArcs.{lines_are_linked}
 use Rattle.line_laws.proofs.lines_are_linked.Goals as goal
 
 pub returns : goal.returns
-returns c = lines_are_linked
+returns c = record { holds = lines_are_linked }

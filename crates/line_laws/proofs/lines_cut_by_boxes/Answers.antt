@@ -3,4 +3,4 @@ use Rattle.line_laws.proofs.Sources.{lines_cut_by_boxes}
 use Rattle.line_laws.proofs.lines_cut_by_boxes.Goals as goal
 
 pub returns : goal.returns
-returns c = lines_cut_by_boxes
+returns c = record { holds = lines_cut_by_boxes }

@@ -3,4 +3,4 @@ use Rattle.line_laws.proofs.PathRuns.{paths_are_cut}
 use Rattle.line_laws.proofs.paths_are_cut.Goals as goal
 
 pub returns : goal.returns
-returns c = paths_are_cut
+returns c = record { holds = paths_are_cut }

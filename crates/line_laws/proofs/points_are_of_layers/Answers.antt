@@ -3,4 +3,4 @@ use Rattle.line_laws.proofs.SourcePoints.{points_are_of_layers}
 use Rattle.line_laws.proofs.points_are_of_layers.Goals as goal
 
 pub returns : goal.returns
-returns c = points_are_of_layers
+returns c = record { holds = points_are_of_layers }

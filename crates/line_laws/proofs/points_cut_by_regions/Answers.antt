@@ -3,4 +3,4 @@ use Rattle.line_laws.proofs.ByRegions.{points_cut_by_regions}
 use Rattle.line_laws.proofs.points_cut_by_regions.Goals as goal
 
 pub returns : goal.returns
-returns c = points_cut_by_regions
+returns c = record { holds = points_cut_by_regions }

@@ -3,4 +3,4 @@ use Rattle.line_laws.proofs.ByRegions.{sets_are_holders}
 use Rattle.line_laws.proofs.sets_are_holders.Goals as goal
 
 pub returns : goal.returns
-returns c = sets_are_holders
+returns c = record { holds = sets_are_holders }

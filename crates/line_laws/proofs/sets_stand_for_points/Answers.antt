@@ -3,4 +3,4 @@ use Rattle.line_laws.proofs.ArcsBetween.{sets_stand_for_points}
 use Rattle.line_laws.proofs.sets_stand_for_points.Goals as goal
 
 pub returns : goal.returns
-returns c = sets_stand_for_points
+returns c = record { holds = sets_stand_for_points }

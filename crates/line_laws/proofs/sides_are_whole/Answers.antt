@@ -3,4 +3,4 @@ use Rattle.line_laws.proofs.LinkSides.{sides_are_whole}
 use Rattle.line_laws.proofs.sides_are_whole.Goals as goal
 
 pub returns : goal.returns
-returns c = sides_are_whole
+returns c = record { holds = sides_are_whole }

@@ -2,4 +2,4 @@ use Rattle.outcome_laws.proofs.OneOutcome.{effects_go_alike}
 use Rattle.outcome_laws.proofs.effects_go_alike.Goals as goal
 
 pub returns : goal.returns
-returns c = effects_go_alike
+returns c = record { holds = effects_go_alike }

@@ -2,4 +2,4 @@ use Rattle.outcome_laws.proofs.OneOutcome.{one_run_of_right_answers}
 use Rattle.outcome_laws.proofs.one_run_of_right_answers.Goals as goal
 
 pub returns : goal.returns
-returns c = one_run_of_right_answers
+returns c = record { holds = one_run_of_right_answers }

@@ -3,4 +3,4 @@ use Rattle.part_laws.proofs.BoundedLaws.{parts_have_boundaries}
 use Rattle.part_laws.proofs.parts_have_boundaries.Goals as goal
 
 pub returns : goal.returns
-returns c = parts_have_boundaries
+returns c = record { holds = parts_have_boundaries }

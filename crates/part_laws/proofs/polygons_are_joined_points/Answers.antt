@@ -3,4 +3,4 @@ use Rattle.part_laws.proofs.ApartLaws.{polygons_are_joined_points}
 use Rattle.part_laws.proofs.polygons_are_joined_points.Goals as goal
 
 pub returns : goal.returns
-returns c = polygons_are_joined_points
+returns c = record { holds = polygons_are_joined_points }

@@ -3,4 +3,4 @@ use Rattle.part_laws.proofs.PolygonLaws.{polygons_have_exteriors}
 use Rattle.part_laws.proofs.polygons_have_exteriors.Goals as goal
 
 pub returns : goal.returns
-returns c = polygons_have_exteriors
+returns c = record { holds = polygons_have_exteriors }

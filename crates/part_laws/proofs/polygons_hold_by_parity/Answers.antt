@@ -3,4 +3,4 @@ use Rattle.part_laws.proofs.ApartLaws.{polygons_hold_by_parity}
 use Rattle.part_laws.proofs.polygons_hold_by_parity.Goals as goal
 
 pub returns : goal.returns
-returns c = polygons_hold_by_parity
+returns c = record { holds = polygons_hold_by_parity }

@@ -3,4 +3,4 @@ use Rattle.part_laws.proofs.ApartLaws.{polygons_hold_the_set}
 use Rattle.part_laws.proofs.polygons_hold_the_set.Goals as goal
 
 pub returns : goal.returns
-returns c = polygons_hold_the_set
+returns c = record { holds = polygons_hold_the_set }

@@ -3,4 +3,4 @@ use Rattle.part_laws.proofs.ApartLaws.{polygons_of_a_drawing}
 use Rattle.part_laws.proofs.polygons_of_a_drawing.Goals as goal
 
 pub returns : goal.returns
-returns c = polygons_of_a_drawing
+returns c = record { holds = polygons_of_a_drawing }

@@ -3,4 +3,4 @@ use Rattle.part_laws.proofs.RingLemmas.{rings_go_round}
 use Rattle.part_laws.proofs.rings_go_round.Goals as goal
 
 pub returns : goal.returns
-returns c = rings_go_round
+returns c = record { holds = rings_go_round }

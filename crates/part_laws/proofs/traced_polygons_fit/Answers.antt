@@ -3,4 +3,4 @@ use Rattle.part_laws.proofs.FitLaws.{traced_polygons_fit}
 use Rattle.part_laws.proofs.traced_polygons_fit.Goals as goal
 
 pub returns : goal.returns
-returns c = traced_polygons_fit
+returns c = record { holds = traced_polygons_fit }

@@ -3,4 +3,4 @@ use Rattle.part_laws.proofs.TracedLaws.{traced_polygons_have_exteriors}
 use Rattle.part_laws.proofs.traced_polygons_have_exteriors.Goals as goal
 
 pub returns : goal.returns
-returns c = traced_polygons_have_exteriors
+returns c = record { holds = traced_polygons_have_exteriors }

@@ -3,4 +3,4 @@ use Rattle.part_laws.proofs.DrawnLaws.{traced_polygons_of_a_drawing}
 use Rattle.part_laws.proofs.traced_polygons_of_a_drawing.Goals as goal
 
 pub returns : goal.returns
-returns c = traced_polygons_of_a_drawing
+returns c = record { holds = traced_polygons_of_a_drawing }

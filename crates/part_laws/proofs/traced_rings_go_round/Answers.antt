@@ -3,4 +3,4 @@ use Rattle.part_laws.proofs.TogetherLaws.{traced_rings_go_round}
 use Rattle.part_laws.proofs.traced_rings_go_round.Goals as goal
 
 pub returns : goal.returns
-returns c = traced_rings_go_round
+returns c = record { holds = traced_rings_go_round }

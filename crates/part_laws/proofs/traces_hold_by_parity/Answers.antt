@@ -3,4 +3,4 @@ use Rattle.part_laws.proofs.TogetherLaws.{traces_hold_by_parity}
 use Rattle.part_laws.proofs.traces_hold_by_parity.Goals as goal
 
 pub returns : goal.returns
-returns c = traces_hold_by_parity
+returns c = record { holds = traces_hold_by_parity }

@@ -3,4 +3,4 @@ use Rattle.part_laws.proofs.TogetherLaws.{traces_use_the_border}
 use Rattle.part_laws.proofs.traces_use_the_border.Goals as goal
 
 pub returns : goal.returns
-returns c = traces_use_the_border
+returns c = record { holds = traces_use_the_border }

@@ -3,4 +3,4 @@ use Rattle.picture_laws.proofs.Pictured.{each_layer_is_pictured}
 use Rattle.picture_laws.proofs.each_layer_is_pictured.Goals as goal
 
 pub returns : goal.returns
-returns c = each_layer_is_pictured
+returns c = record { holds = each_layer_is_pictured }

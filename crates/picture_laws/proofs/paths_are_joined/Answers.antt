@@ -3,4 +3,4 @@ use Rattle.picture_laws.proofs.Along.{along_joined}
 use Rattle.picture_laws.proofs.paths_are_joined.Goals as goal
 
 pub returns : goal.returns
-returns c = along_joined
+returns c = record { holds = along_joined }

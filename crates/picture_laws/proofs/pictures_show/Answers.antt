@@ -3,4 +3,4 @@ use Rattle.picture_laws.proofs.Layers.{pictures_show}
 use Rattle.picture_laws.proofs.pictures_show.Goals as goal
 
 pub returns : goal.returns
-returns c = pictures_show
+returns c = record { holds = pictures_show }

@@ -3,4 +3,4 @@ use Rattle.picture_laws.proofs.Layers.{traced_layers_show}
 use Rattle.picture_laws.proofs.traced_layers_show.Goals as goal
 
 pub returns : goal.returns
-returns c = traced_layers_show
+returns c = record { holds = traced_layers_show }

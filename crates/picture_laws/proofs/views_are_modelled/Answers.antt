@@ -3,4 +3,4 @@ use Rattle.picture_laws.proofs.PicturePlanes.{views_are_modelled}
 use Rattle.picture_laws.proofs.views_are_modelled.Goals as goal
 
 pub returns : goal.returns
-returns c = views_are_modelled
+returns c = record { holds = views_are_modelled }

@@ -3,4 +3,4 @@ use Rattle.place_laws.proofs.MatchLaws.{matches_are_inside}
 use Rattle.place_laws.proofs.matches_are_inside.Goals as goal
 
 pub returns : goal.returns
-returns c = matches_are_inside
+returns c = record { holds = matches_are_inside }

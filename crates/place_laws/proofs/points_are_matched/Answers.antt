@@ -3,4 +3,4 @@ use Rattle.place_laws.proofs.MatchLaws.{points_are_matched}
 use Rattle.place_laws.proofs.points_are_matched.Goals as goal
 
 pub returns : goal.returns
-returns c = points_are_matched
+returns c = record { holds = points_are_matched }

@@ -4,4 +4,4 @@ use Rattle.plane_faces.proofs.Sorting.{rotations_exist}
 use Rattle.plane_faces.proofs.border_is_even.Goals as goal
 
 pub returns : goal.returns
-returns c = λ S arr distinct f agrees. border_even S (rotations_exist S arr distinct) f agrees.sector
+returns c = record { holds = λ S arr distinct f agrees. border_even S (rotations_exist S arr distinct) f agrees.sector }

@@ -3,4 +3,4 @@ use Rattle.plane_faces.proofs.Classes as classes
 use Rattle.plane_faces.proofs.borders_are_boundaries.Goals as goal
 
 pub returns : goal.returns
-returns c = classes.borders_are_boundaries
+returns c = record { holds = classes.borders_are_boundaries }

@@ -3,4 +3,4 @@ use Rattle.plane_faces.proofs.Laws.{border_paths}
 use Rattle.plane_faces.proofs.borders_are_rings.Goals as goal
 
 pub returns : goal.returns
-returns c = border_paths
+returns c = record { holds = border_paths }

@@ -3,4 +3,4 @@ use Rattle.plane_faces.proofs.UsedOnce as used
 use Rattle.plane_faces.proofs.borders_are_used_once.Goals as goal
 
 pub returns : goal.returns
-returns c = used.borders_are_used_once
+returns c = record { holds = used.borders_are_used_once }

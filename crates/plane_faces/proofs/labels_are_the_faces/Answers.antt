@@ -3,4 +3,4 @@ use Rattle.plane_faces.proofs.Classes as classes
 use Rattle.plane_faces.proofs.labels_are_the_faces.Goals as goal
 
 pub returns : goal.returns
-returns c = classes.labels_are_faces
+returns c = record { holds = classes.labels_are_faces }

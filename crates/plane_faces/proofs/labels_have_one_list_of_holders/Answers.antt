@@ -3,4 +3,4 @@ use Rattle.plane_faces.proofs.Classes as classes
 use Rattle.plane_faces.proofs.labels_have_one_list_of_holders.Goals as goal
 
 pub returns : goal.returns
-returns c = classes.labels_have_one_list_of_holders
+returns c = record { holds = classes.labels_have_one_list_of_holders }

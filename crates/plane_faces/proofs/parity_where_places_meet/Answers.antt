@@ -3,4 +3,4 @@ use Rattle.plane_faces.proofs.Connected.{parity_agrees}
 use Rattle.plane_faces.proofs.parity_where_places_meet.Goals as goal
 
 pub returns : goal.returns
-returns c = parity_agrees
+returns c = record { holds = parity_agrees }

@@ -4,4 +4,4 @@ use Rattle.plane_faces.proofs.Sorting.{rotations_exist}
 use Rattle.plane_faces.proofs.places_are_connected.Goals as goal
 
 pub returns : goal.returns
-returns c = λ S arr distinct f agrees crossed. connected S arr (rotations_exist S arr distinct) f agrees crossed
+returns c = record { holds = λ S arr distinct f agrees crossed. connected S arr (rotations_exist S arr distinct) f agrees crossed }

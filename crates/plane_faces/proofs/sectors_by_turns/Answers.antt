@@ -3,4 +3,4 @@ use Rattle.plane_faces.proofs.Axis.{sectors_of_turns}
 use Rattle.plane_faces.proofs.sectors_by_turns.Goals as goal
 
 pub returns : goal.returns
-returns c = sectors_of_turns
+returns c = record { holds = sectors_of_turns }

@@ -3,4 +3,4 @@ use Rattle.plane_faces.proofs.Classes as classes
 use Rattle.plane_faces.proofs.sides_are_tested.Goals as goal
 
 pub returns : goal.returns
-returns c = classes.sides_are_tested
+returns c = record { holds = classes.sides_are_tested }

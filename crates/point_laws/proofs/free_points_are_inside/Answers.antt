@@ -3,4 +3,4 @@ use Rattle.point_laws.proofs.FreePoints.{free_points_are_inside}
 use Rattle.point_laws.proofs.free_points_are_inside.Goals as goal
 
 pub returns : goal.returns
-returns c = free_points_are_inside
+returns c = record { holds = free_points_are_inside }

@@ -3,4 +3,4 @@ use Rattle.point_laws.proofs.FreePoints.{free_points_of_a_drawing}
 use Rattle.point_laws.proofs.free_points_of_a_drawing.Goals as goal
 
 pub returns : goal.returns
-returns c = free_points_of_a_drawing
+returns c = record { holds = free_points_of_a_drawing }

@@ -3,4 +3,4 @@ use Rattle.point_laws.proofs.Nodes.{nodes_are_seen}
 use Rattle.point_laws.proofs.nodes_are_seen.Goals as goal
 
 pub returns : goal.returns
-returns c = nodes_are_seen
+returns c = record { holds = nodes_are_seen }

@@ -3,4 +3,4 @@ use Rattle.point_laws.proofs.Nodes.{nodes_of_a_drawing}
 use Rattle.point_laws.proofs.nodes_of_a_drawing.Goals as goal
 
 pub returns : goal.returns
-returns c = nodes_of_a_drawing
+returns c = record { holds = nodes_of_a_drawing }

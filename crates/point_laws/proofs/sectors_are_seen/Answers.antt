@@ -3,4 +3,4 @@ use Rattle.point_laws.proofs.SeenSectors.{sectors_are_seen}
 use Rattle.point_laws.proofs.sectors_are_seen.Goals as goal
 
 pub returns : goal.returns
-returns c = sectors_are_seen
+returns c = record { holds = sectors_are_seen }

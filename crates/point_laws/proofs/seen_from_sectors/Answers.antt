@@ -3,4 +3,4 @@ use Rattle.point_laws.proofs.Sectors.{seen_from_sectors}
 use Rattle.point_laws.proofs.seen_from_sectors.Goals as goal
 
 pub returns : goal.returns
-returns c = seen_from_sectors
+returns c = record { holds = seen_from_sectors }

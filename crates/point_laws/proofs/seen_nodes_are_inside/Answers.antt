@@ -3,4 +3,4 @@ use Rattle.point_laws.proofs.Nodes.{seen_nodes_are_inside}
 use Rattle.point_laws.proofs.seen_nodes_are_inside.Goals as goal
 
 pub returns : goal.returns
-returns c = seen_nodes_are_inside
+returns c = record { holds = seen_nodes_are_inside }

@@ -3,4 +3,4 @@ use Rattle.printed_laws.proofs.Counted.{joined_points_are_held_by_one}
 use Rattle.printed_laws.proofs.joined_points_are_held_by_one.Goals as goal
 
 pub returns : goal.returns
-returns c = joined_points_are_held_by_one
+returns c = record { holds = joined_points_are_held_by_one }

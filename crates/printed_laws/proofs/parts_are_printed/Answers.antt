@@ -3,4 +3,4 @@ use Rattle.printed_laws.proofs.Counted.{parts_are_printed}
 use Rattle.printed_laws.proofs.parts_are_printed.Goals as goal
 
 pub returns : goal.returns
-returns c = parts_are_printed
+returns c = record { holds = parts_are_printed }

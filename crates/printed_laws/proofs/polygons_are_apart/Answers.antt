@@ -3,4 +3,4 @@ use Rattle.printed_laws.proofs.Agreed.{polygons_are_apart}
 use Rattle.printed_laws.proofs.polygons_are_apart.Goals as goal
 
 pub returns : goal.returns
-returns c = polygons_are_apart
+returns c = record { holds = polygons_are_apart }

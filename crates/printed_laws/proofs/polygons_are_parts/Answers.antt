@@ -3,4 +3,4 @@ use Rattle.printed_laws.proofs.JoinedParts.{polygons_are_parts}
 use Rattle.printed_laws.proofs.polygons_are_parts.Goals as goal
 
 pub returns : goal.returns
-returns c = polygons_are_parts
+returns c = record { holds = polygons_are_parts }

@@ -3,4 +3,4 @@ use Rattle.printed_laws.proofs.Agreed.{readings_agree}
 use Rattle.printed_laws.proofs.readings_agree.Goals as goal
 
 pub returns : goal.returns
-returns c = readings_agree
+returns c = record { holds = readings_agree }

@@ -3,4 +3,4 @@ use Rattle.printed_laws.proofs.Printed.{regions_are_printed}
 use Rattle.printed_laws.proofs.regions_are_printed.Goals as goal
 
 pub returns : goal.returns
-returns c = regions_are_printed
+returns c = record { holds = regions_are_printed }

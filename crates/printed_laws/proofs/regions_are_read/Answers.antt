@@ -3,4 +3,4 @@ use Rattle.printed_laws.proofs.Agreed.{regions_are_read}
 use Rattle.printed_laws.proofs.regions_are_read.Goals as goal
 
 pub returns : goal.returns
-returns c = regions_are_read
+returns c = record { holds = regions_are_read }

@@ -3,4 +3,4 @@ use Rattle.region_laws.proofs.SetsExist.{answers_exist}
 use Rattle.region_laws.proofs.answers_exist.Goals as goal
 
 pub returns : goal.returns
-returns c = answers_exist
+returns c = record { holds = answers_exist }

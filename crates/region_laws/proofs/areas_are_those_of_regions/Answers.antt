@@ -3,4 +3,4 @@ use Rattle.region_laws.proofs.Areas.{areas_are_those_of_regions}
 use Rattle.region_laws.proofs.areas_are_those_of_regions.Goals as goal
 
 pub returns : goal.returns
-returns c = areas_are_those_of_regions
+returns c = record { holds = areas_are_those_of_regions }

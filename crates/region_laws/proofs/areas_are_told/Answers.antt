@@ -3,4 +3,4 @@ use Rattle.region_laws.proofs.Answered.{areas_are_told}
 use Rattle.region_laws.proofs.areas_are_told.Goals as goal
 
 pub returns : goal.returns
-returns c = areas_are_told
+returns c = record { holds = areas_are_told }

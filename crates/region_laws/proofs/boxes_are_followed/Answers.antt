@@ -3,4 +3,4 @@ use Rattle.region_laws.proofs.Held.{boxes_are_followed}
 use Rattle.region_laws.proofs.boxes_are_followed.Goals as goal
 
 pub returns : goal.returns
-returns c = boxes_are_followed
+returns c = record { holds = boxes_are_followed }

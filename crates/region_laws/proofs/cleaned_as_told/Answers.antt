@@ -3,4 +3,4 @@ use Rattle.region_laws.proofs.Answered.{cleaned_as_told}
 use Rattle.region_laws.proofs.cleaned_as_told.Goals as goal
 
 pub returns : goal.returns
-returns c = cleaned_as_told
+returns c = record { holds = cleaned_as_told }

@@ -3,4 +3,4 @@ use Rattle.region_laws.proofs.TieLaws.{cleaned_by_regions}
 use Rattle.region_laws.proofs.cleaned_by_regions.Goals as goal
 
 pub returns : goal.returns
-returns c = cleaned_by_regions
+returns c = record { holds = cleaned_by_regions }

@@ -3,4 +3,4 @@ use Rattle.region_laws.proofs.Sets.{cleaned_sets_are_followed}
 use Rattle.region_laws.proofs.cleaned_sets_are_followed.Goals as goal
 
 pub returns : goal.returns
-returns c = cleaned_sets_are_followed
+returns c = record { holds = cleaned_sets_are_followed }

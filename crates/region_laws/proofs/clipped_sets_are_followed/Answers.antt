@@ -3,4 +3,4 @@ use Rattle.region_laws.proofs.Sets.{clipped_sets_are_followed}
 use Rattle.region_laws.proofs.clipped_sets_are_followed.Goals as goal
 
 pub returns : goal.returns
-returns c = clipped_sets_are_followed
+returns c = record { holds = clipped_sets_are_followed }

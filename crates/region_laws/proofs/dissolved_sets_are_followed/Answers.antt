@@ -3,4 +3,4 @@ use Rattle.region_laws.proofs.Sets.{dissolved_sets_are_followed}
 use Rattle.region_laws.proofs.dissolved_sets_are_followed.Goals as goal
 
 pub returns : goal.returns
-returns c = dissolved_sets_are_followed
+returns c = record { holds = dissolved_sets_are_followed }

@@ -3,4 +3,4 @@ use Rattle.region_laws.proofs.TieLaws.{empty_sets_are_empty_regions}
 use Rattle.region_laws.proofs.empty_sets_are_empty_regions.Goals as goal
 
 pub returns : goal.returns
-returns c = empty_sets_are_empty_regions
+returns c = record { holds = empty_sets_are_empty_regions }

@@ -3,4 +3,4 @@ use Rattle.region_laws.proofs.Sets.{erased_sets_are_followed}
 use Rattle.region_laws.proofs.erased_sets_are_followed.Goals as goal
 
 pub returns : goal.returns
-returns c = erased_sets_are_followed
+returns c = record { holds = erased_sets_are_followed }

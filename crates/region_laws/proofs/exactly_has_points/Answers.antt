@@ -3,4 +3,4 @@ use Rattle.region_laws.proofs.Mosaics.{exactly_has_points}
 use Rattle.region_laws.proofs.exactly_has_points.Goals as goal
 
 pub returns : goal.returns
-returns c = exactly_has_points
+returns c = record { holds = exactly_has_points }

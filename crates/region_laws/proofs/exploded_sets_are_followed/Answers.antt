@@ -3,4 +3,4 @@ use Rattle.region_laws.proofs.PartLaws.{exploded_sets_are_followed}
 use Rattle.region_laws.proofs.exploded_sets_are_followed.Goals as goal
 
 pub returns : goal.returns
-returns c = exploded_sets_are_followed
+returns c = record { holds = exploded_sets_are_followed }

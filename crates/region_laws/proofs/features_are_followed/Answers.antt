@@ -3,4 +3,4 @@ use Rattle.region_laws.proofs.Held.{features_are_followed}
 use Rattle.region_laws.proofs.features_are_followed.Goals as goal
 
 pub returns : goal.returns
-returns c = features_are_followed
+returns c = record { holds = features_are_followed }

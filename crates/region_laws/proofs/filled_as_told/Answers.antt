@@ -3,4 +3,4 @@ use Rattle.region_laws.proofs.FilledTold.{filled_as_told}
 use Rattle.region_laws.proofs.filled_as_told.Goals as goal
 
 pub returns : goal.returns
-returns c = filled_as_told
+returns c = record { holds = filled_as_told }

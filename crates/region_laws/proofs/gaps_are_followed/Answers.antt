@@ -3,4 +3,4 @@ use Rattle.region_laws.proofs.Gaps.{gaps_are_followed}
 use Rattle.region_laws.proofs.gaps_are_followed.Goals as goal
 
 pub returns : goal.returns
-returns c = gaps_are_followed
+returns c = record { holds = gaps_are_followed }

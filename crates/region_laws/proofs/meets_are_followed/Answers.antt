@@ -3,4 +3,4 @@ use Rattle.region_laws.proofs.Sets.{meets_are_followed}
 use Rattle.region_laws.proofs.meets_are_followed.Goals as goal
 
 pub returns : goal.returns
-returns c = meets_are_followed
+returns c = record { holds = meets_are_followed }

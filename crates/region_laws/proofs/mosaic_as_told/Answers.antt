@@ -3,4 +3,4 @@ use Rattle.region_laws.proofs.MosaicTold.{mosaic_as_told}
 use Rattle.region_laws.proofs.mosaic_as_told.Goals as goal
 
 pub returns : goal.returns
-returns c = mosaic_as_told
+returns c = record { holds = mosaic_as_told }

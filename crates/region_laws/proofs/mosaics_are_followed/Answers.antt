@@ -3,4 +3,4 @@ use Rattle.region_laws.proofs.Mosaics.{mosaics_are_followed}
 use Rattle.region_laws.proofs.mosaics_are_followed.Goals as goal
 
 pub returns : goal.returns
-returns c = mosaics_are_followed
+returns c = record { holds = mosaics_are_followed }

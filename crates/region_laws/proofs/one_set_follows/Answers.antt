@@ -3,4 +3,4 @@ use Rattle.region_laws.proofs.TieLaws.{one_set_follows}
 use Rattle.region_laws.proofs.one_set_follows.Goals as goal
 
 pub returns : goal.returns
-returns c = one_set_follows
+returns c = record { holds = one_set_follows }

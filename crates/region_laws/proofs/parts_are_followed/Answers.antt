@@ -3,4 +3,4 @@ use Rattle.region_laws.proofs.PartLaws.{parts_are_followed}
 use Rattle.region_laws.proofs.parts_are_followed.Goals as goal
 
 pub returns : goal.returns
-returns c = parts_are_followed
+returns c = record { holds = parts_are_followed }

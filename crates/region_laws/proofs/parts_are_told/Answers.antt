@@ -3,4 +3,4 @@ use Rattle.region_laws.proofs.Answered.{parts_are_told}
 use Rattle.region_laws.proofs.parts_are_told.Goals as goal
 
 pub returns : goal.returns
-returns c = parts_are_told
+returns c = record { holds = parts_are_told }

@@ -3,4 +3,4 @@ use Rattle.region_laws.proofs.PartsExist.{parts_exist}
 use Rattle.region_laws.proofs.parts_exist.Goals as goal
 
 pub returns : goal.returns
-returns c = parts_exist
+returns c = record { holds = parts_exist }

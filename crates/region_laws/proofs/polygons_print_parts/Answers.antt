@@ -3,4 +3,4 @@ use Rattle.region_laws.proofs.Prints.{polygons_print_parts}
 use Rattle.region_laws.proofs.polygons_print_parts.Goals as goal
 
 pub returns : goal.returns
-returns c = polygons_print_parts
+returns c = record { holds = polygons_print_parts }

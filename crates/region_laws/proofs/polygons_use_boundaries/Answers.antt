@@ -3,4 +3,4 @@ use Rattle.region_laws.proofs.OnePart.{polygons_use_boundaries}
 use Rattle.region_laws.proofs.polygons_use_boundaries.Goals as goal
 
 pub returns : goal.returns
-returns c = polygons_use_boundaries
+returns c = record { holds = polygons_use_boundaries }

@@ -3,4 +3,4 @@ use Rattle.region_laws.proofs.SetsExist.{regions_have_sets}
 use Rattle.region_laws.proofs.regions_have_sets.Goals as goal
 
 pub returns : goal.returns
-returns c = regions_have_sets
+returns c = record { holds = regions_have_sets }

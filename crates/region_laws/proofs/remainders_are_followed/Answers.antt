@@ -3,4 +3,4 @@ use Rattle.region_laws.proofs.Sets.{remainders_are_followed}
 use Rattle.region_laws.proofs.remainders_are_followed.Goals as goal
 
 pub returns : goal.returns
-returns c = remainders_are_followed
+returns c = record { holds = remainders_are_followed }

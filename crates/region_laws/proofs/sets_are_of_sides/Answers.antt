@@ -3,4 +3,4 @@ use Rattle.region_laws.proofs.TieLaws.{sets_are_of_sides}
 use Rattle.region_laws.proofs.sets_are_of_sides.Goals as goal
 
 pub returns : goal.returns
-returns c = sets_are_of_sides
+returns c = record { holds = sets_are_of_sides }

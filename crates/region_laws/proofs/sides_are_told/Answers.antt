@@ -3,4 +3,4 @@ use Rattle.region_laws.proofs.Answered.{sides_are_told}
 use Rattle.region_laws.proofs.sides_are_told.Goals as goal
 
 pub returns : goal.returns
-returns c = sides_are_told
+returns c = record { holds = sides_are_told }

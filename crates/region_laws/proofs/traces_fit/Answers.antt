@@ -3,4 +3,4 @@ use Rattle.region_laws.proofs.Fitting.{traces_fit}
 use Rattle.region_laws.proofs.traces_fit.Goals as goal
 
 pub returns : goal.returns
-returns c = traces_fit
+returns c = record { holds = traces_fit }

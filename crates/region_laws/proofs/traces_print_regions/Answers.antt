@@ -3,4 +3,4 @@ use Rattle.region_laws.proofs.Prints.{traces_print_regions}
 use Rattle.region_laws.proofs.traces_print_regions.Goals as goal
 
 pub returns : goal.returns
-returns c = traces_print_regions
+returns c = record { holds = traces_print_regions }

@@ -3,4 +3,4 @@ use Rattle.region_laws.proofs.Prints.{traces_use_boundaries}
 use Rattle.region_laws.proofs.traces_use_boundaries.Goals as goal
 
 pub returns : goal.returns
-returns c = traces_use_boundaries
+returns c = record { holds = traces_use_boundaries }

@@ -3,4 +3,4 @@ use Rattle.region_laws.proofs.Sets.{unions_are_followed}
 use Rattle.region_laws.proofs.unions_are_followed.Goals as goal
 
 pub returns : goal.returns
-returns c = unions_are_followed
+returns c = record { holds = unions_are_followed }

@@ -3,4 +3,4 @@ use Rattle.state_laws.proofs.MergeStep.{merge_steps_show}
 use Rattle.state_laws.proofs.merge_steps_show.Goals as goal
 
 pub returns : goal.returns
-returns c = merge_steps_show
+returns c = record { holds = merge_steps_show }

@@ -3,4 +3,4 @@ use Rattle.state_laws.proofs.PlaceJoins.{place_joins_show}
 use Rattle.state_laws.proofs.place_joins_show.Goals as goal
 
 pub returns : goal.returns
-returns c = place_joins_show
+returns c = record { holds = place_joins_show }

@@ -3,4 +3,4 @@ use Rattle.state_laws.proofs.PlaceSteps.{place_steps_show}
 use Rattle.state_laws.proofs.place_steps_show.Goals as goal
 
 pub returns : goal.returns
-returns c = place_steps_show
+returns c = record { holds = place_steps_show }

@@ -3,4 +3,4 @@ use Rattle.state_laws.proofs.PolygonSteps.{polygon_steps_show}
 use Rattle.state_laws.proofs.polygon_steps_show.Goals as goal
 
 pub returns : goal.returns
-returns c = polygon_steps_show
+returns c = record { holds = polygon_steps_show }

@@ -3,4 +3,4 @@ use Rattle.state_laws.proofs.TableSteps.{table_steps_show}
 use Rattle.state_laws.proofs.table_steps_show.Goals as goal
 
 pub returns : goal.returns
-returns c = table_steps_show
+returns c = record { holds = table_steps_show }

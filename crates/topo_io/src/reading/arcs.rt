@@ -16,7 +16,7 @@ use std::alloc::Global;
 // The positions of an arc: the first by itself, each other as a difference where there is a transform.
 fn each_position(alloc: Global, items: &[Json], frame: &Frame) -> Result<PtList, Stop>
     requires { frame.now.places ≤ most_places }
-    ensures { AnswersPlain (along (position_after frame.now) (map json_value items.now) no_sums) result }
+    ensures answers { AnswersPlain (along (position_after frame.now) (map json_value items.now) no_sums) result }
 {
     let mut path = PtList::new(alloc);
     let mut sums = Sums::START;
@@ -34,7 +34,7 @@ fn each_position(alloc: Global, items: &[Json], frame: &Frame) -> Result<PtList,
 
 fn arc_of(alloc: Global, json: &Json, frame: &Frame) -> Result<PtList, Stop>
     requires { frame.now.places ≤ most_places }
-    ensures { AnswersPlain (arc frame.now (json_value json.now)) result }
+    ensures answers { AnswersPlain (arc frame.now (json_value json.now)) result }
 {
     let Json::List(list) = json else {
         return Err(Stop::Why(TopoWhy::NotTopology));
@@ -48,7 +48,7 @@ fn arc_of(alloc: Global, json: &Json, frame: &Frame) -> Result<PtList, Stop>
 
 fn each_arc(alloc: Global, items: &[Json], frame: &Frame) -> Result<PathList, TopoFault>
     requires { frame.now.places ≤ most_places }
-    ensures { AnswersAt (along (numbered_arc frame.now) (map json_value items.now) 0) result }
+    ensures answers { AnswersAt (along (numbered_arc frame.now) (map json_value items.now) 0) result }
 {
     let mut arcs = PathList::new(alloc);
     for item in items {
@@ -63,7 +63,7 @@ fn each_arc(alloc: Global, items: &[Json], frame: &Frame) -> Result<PathList, To
 /// The arcs of a topology, each of two or more points.
 pub fn arcs_of(alloc: Global, list: &JsonList, frame: &Frame) -> Result<PathList, TopoFault>
     requires { frame.now.places ≤ most_places }
-    ensures { AnswersAt (arcs frame.now (items_list list.now)) result }
+    ensures answers { AnswersAt (arcs frame.now (items_list list.now)) result }
 {
     each_arc(alloc, list.as_slice(), frame)
 }

@@ -17,7 +17,7 @@ use json_values::{Fields, Json, JsonFields};
 use std::alloc::Global;
 
 fn properties(alloc: Global, json: Option<&Json>) -> Result<Fields, Stop>
-    ensures { AnswersPlain (properties (option_map json_value (option_copied json.entry))) result }
+    ensures answers { AnswersPlain (properties (option_map json_value (option_copied json.entry))) result }
 {
     match json {
         None | Some(Json::Null) => Ok(Fields::new(alloc)),

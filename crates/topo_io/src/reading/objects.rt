@@ -18,7 +18,7 @@ use std::slice;
 
 // The geometries of a collection, whose properties are an object, null or absent too.
 fn members_in<'a>(geometries: Option<&'a Json>, properties: Option<&Json>) -> Option<&'a [Json]>
-    ensures { MatchOption result (members_in (option_map json_value (option_copied geometries.entry)) (option_map json_value (option_copied properties.entry)) ≡ None)
+    ensures exact { MatchOption result (members_in (option_map json_value (option_copied geometries.entry)) (option_map json_value (option_copied properties.entry)) ≡ None)
         (λ items. members_in (option_map json_value (option_copied geometries.entry)) (option_map json_value (option_copied properties.entry)) ≡ Some (map json_value items.now)) }
 {
     let Some(Json::List(list)) = geometries else {
@@ -32,7 +32,7 @@ fn members_in<'a>(geometries: Option<&'a Json>, properties: Option<&Json>) -> Op
 
 // The geometries of an object: those of a collection, or itself.
 fn geometries_of(json: &Json) -> Option<&[Json]>
-    ensures { MatchOption result (geometries (json_value json.now) ≡ None) (λ items. geometries (json_value json.now) ≡ Some (map json_value items.now)) }
+    ensures exact { MatchOption result (geometries (json_value json.now) ≡ None) (λ items. geometries (json_value json.now) ≡ Some (map json_value items.now)) }
 {
     match json {
         Json::Object(object) => {
@@ -74,7 +74,7 @@ fn object_features(
 }
 
 fn append_layers(layers: &mut GeoLayers, more: GeoLayers) -> Result<(), AllocError>
-    ensures { OnOk result (layers.new ≡ layers.old ++ more) }
+    ensures added { OnOk result (layers.new ≡ layers.old ++ more) }
 {
     for layer in more.into_vec() {
         layers.push(layer)?;
@@ -124,7 +124,7 @@ fn add_object(
 
 // The name and the value of the member with this number.
 fn member_at(members: &JsonFields, i: u32) -> Option<(&str, &Json)>
-    ensures { MatchOption result (slice_get (fields_list members.now) i ≡ None) (λ p. slice_get (fields_list members.now) i ≡ Some (p.0.now, json_value p.1.now)) }
+    ensures exact { MatchOption result (slice_get (fields_list members.now) i ≡ None) (λ p. slice_get (fields_list members.now) i ≡ Some (p.0.now, json_value p.1.now)) }
 {
     let Some(name) = members.name_at(i) else {
         return None;

@@ -31,7 +31,7 @@ impl Sums {
 /// The point of a position after such sums, and the sums up to it.
 pub fn position_after(json: &Json, frame: &Frame, before: Sums) -> Result<(Pt, Sums), TopoWhy>
     requires { frame.now.places ≤ most_places }
-    ensures { result ≡ position_after frame.now (json_value json.now) before }
+    ensures exact { result ≡ position_after frame.now (json_value json.now) before }
 {
     match &frame.transform {
         None => match plain(json, frame.places) {
@@ -45,7 +45,7 @@ pub fn position_after(json: &Json, frame: &Frame, before: Sums) -> Result<(Pt, S
 /// The point of a position by itself.
 pub fn lone_position(json: &Json, frame: &Frame) -> Result<Pt, TopoWhy>
     requires { frame.now.places ≤ most_places }
-    ensures { result ≡ lone_position frame.now (json_value json.now) }
+    ensures exact { result ≡ lone_position frame.now (json_value json.now) }
 {
     match position_after(json, frame, Sums::START) {
         Ok((point, _)) => Ok(point),
@@ -55,7 +55,7 @@ pub fn lone_position(json: &Json, frame: &Frame) -> Result<Pt, TopoWhy>
 
 // The point of a position without a transform.
 fn plain(json: &Json, places: u8) -> Result<Pt, TopoWhy>
-    ensures { result ≡ plain places (json_value json.now) }
+    ensures exact { result ≡ plain places (json_value json.now) }
 {
     match place(json, places) {
         Ok(point) => Ok(point),
@@ -71,7 +71,7 @@ fn quantized(
     before: Sums,
 ) -> Result<(Pt, Sums), TopoWhy>
     requires { places ≤ most_places }
-    ensures { result ≡ on_ok (sums_after (json_value json.now) before) (at_sums transform.now places) }
+    ensures exact { result ≡ on_ok (sums_after (json_value json.now) before) (at_sums transform.now places) }
 {
     match sums_after(json, before) {
         Ok(sums) => match transform.point(sums.x, sums.y, places) {

@@ -22,7 +22,7 @@ use std::alloc::{AllocError, Global};
 // A position by itself, which takes one of the room that is left.
 fn position(json: &Json, frame: &Frame, left: &mut u32) -> Result<Pt, Stop>
     requires { frame.now.places ≤ most_places }
-    ensures { Answers (position frame.now (json_value json.now)) left.old result left.new }
+    ensures answers { Answers (position frame.now (json_value json.now)) left.old result left.new }
 {
     if *left == 0 {
         return Err(Stop::Why(TopoWhy::TooManyPositions));
@@ -38,7 +38,7 @@ fn position(json: &Json, frame: &Frame, left: &mut u32) -> Result<Pt, Stop>
 
 fn one_point(alloc: Global, json: &Json, frame: &Frame, left: &mut u32) -> Result<PtList, Stop>
     requires { frame.now.places ≤ most_places }
-    ensures { Answers (one_point frame.now (json_value json.now)) left.old result left.new }
+    ensures answers { Answers (one_point frame.now (json_value json.now)) left.old result left.new }
 {
     let Json::List(list) = json else {
         return Err(Stop::Why(TopoWhy::BadPosition));
@@ -54,7 +54,7 @@ fn one_point(alloc: Global, json: &Json, frame: &Frame, left: &mut u32) -> Resul
 
 fn each_point(alloc: Global, items: &[Json], frame: &Frame, left: &mut u32) -> Result<PtList, Stop>
     requires { frame.now.places ≤ most_places }
-    ensures { Answers (each (position frame.now) (map json_value items.now)) left.old result left.new }
+    ensures answers { Answers (each (position frame.now) (map json_value items.now)) left.old result left.new }
 {
     let mut points = PtList::new(alloc);
     for item in items {
@@ -66,7 +66,7 @@ fn each_point(alloc: Global, items: &[Json], frame: &Frame, left: &mut u32) -> R
 
 fn several_points(alloc: Global, json: &Json, frame: &Frame, left: &mut u32) -> Result<PtList, Stop>
     requires { frame.now.places ≤ most_places }
-    ensures { Answers (several_points frame.now (json_value json.now)) left.old result left.new }
+    ensures answers { Answers (several_points frame.now (json_value json.now)) left.old result left.new }
 {
     match json {
         Json::List(list) => each_point(alloc, list.as_slice(), frame, left),

@@ -44,7 +44,7 @@ fn arc_at(text: &str, count: u32) -> Result<SignedArc, TopoWhy>
 
 // The points of an arc from its end to its start.
 fn turned(alloc: Global, points: &[Pt]) -> Result<Vec<Pt>, AllocError>
-    ensures { IfOk result (λ path. path.items ≡ reverse points.now) }
+    ensures exact { IfOk result (λ path. path.items ≡ reverse points.now) }
 {
     let mut path = Vec::new(alloc);
     path.extend_from_slice(points)?;
@@ -74,7 +74,7 @@ fn fresh_points<'a>(path: &PtList, points: &'a [Pt]) -> Result<&'a [Pt], TopoWhy
 
 // The path with the points of an arc.
 fn with_points(path: PtList, points: &[Pt], left: &mut u32) -> Result<PtList, Stop>
-    ensures { Answers (with_points path points.now) left.old result left.new }
+    ensures answers { Answers (with_points path points.now) left.old result left.new }
 {
     let mut path = path;
     let fresh = match fresh_points(&path, points) {
@@ -98,7 +98,7 @@ fn with_signed_arc(
     left: &mut u32,
 ) -> Result<PtList, Stop>
     requires { arc.arc < length arcs.now }
-    ensures { Answers (with_points path (points_of arcs.now arc)) left.old result left.new }
+    ensures answers { Answers (with_points path (points_of arcs.now arc)) left.old result left.new }
 {
     let Some(points) = arcs.get(arc.id().num()) else {
         unreachable!()
@@ -119,7 +119,7 @@ fn with_arc(
     arcs: &PathList,
     left: &mut u32,
 ) -> Result<PtList, Stop>
-    ensures { Answers (with_arc arcs.now (json_value json.now) path) left.old result left.new }
+    ensures answers { Answers (with_arc arcs.now (json_value json.now) path) left.old result left.new }
 {
     match named_arc(json, arcs.len()) {
         Ok(arc) => with_signed_arc(alloc, path, arc, arcs, left),
@@ -134,7 +134,7 @@ pub fn stitched(
     arcs: &PathList,
     left: &mut u32,
 ) -> Result<PtList, Stop>
-    ensures { Answers (stitched arcs.now [] (map json_value items.now)) left.old result left.new }
+    ensures answers { Answers (stitched arcs.now [] (map json_value items.now)) left.old result left.new }
 {
     let mut path = PtList::new(alloc);
     for item in items {
@@ -145,7 +145,7 @@ pub fn stitched(
 
 /// The path of a list of arc indexes.
 pub fn path_of(alloc: Global, json: &Json, arcs: &PathList, left: &mut u32) -> Result<PtList, Stop>
-    ensures { Answers (path_of arcs.now (json_value json.now)) left.old result left.new }
+    ensures answers { Answers (path_of arcs.now (json_value json.now)) left.old result left.new }
 {
     match json {
         Json::List(list) => stitched(alloc, list.as_slice(), arcs, left),

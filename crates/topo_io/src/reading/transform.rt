@@ -11,7 +11,7 @@ use numerals::whole_units;
 
 /// The transform of a topology, which may be absent.
 pub fn transform_of(json: Option<&Json>) -> Result<Option<Transform>, TopoWhy>
-    ensures { result ≡ transform_of (option_map json_value (option_copied json.entry)) }
+    ensures exact { result ≡ transform_of (option_map json_value (option_copied json.entry)) }
 {
     match json {
         None => Ok(None),
@@ -21,7 +21,7 @@ pub fn transform_of(json: Option<&Json>) -> Result<Option<Transform>, TopoWhy>
 }
 
 fn transform_in(members: &JsonFields) -> Result<Option<Transform>, TopoWhy>
-    ensures { result ≡ transform_by (number_pair (value_named (codes "scale") (fields_list members.now))) (number_pair (value_named (codes "translate") (fields_list members.now))) }
+    ensures exact { result ≡ transform_by (number_pair (value_named (codes "scale") (fields_list members.now))) (number_pair (value_named (codes "translate") (fields_list members.now))) }
 {
     let Some((kx, ky)) = pair_of(members.find("scale")) else {
         return Err(TopoWhy::NotTopology);
@@ -40,7 +40,7 @@ fn transform_in(members: &JsonFields) -> Result<Option<Transform>, TopoWhy>
 
 // A list of just two numbers.
 fn pair_of(json: Option<&Json>) -> Option<(&str, &str)>
-    ensures { MatchOption result (number_pair (option_map json_value (option_copied json.entry)) ≡ None)
+    ensures exact { MatchOption result (number_pair (option_map json_value (option_copied json.entry)) ≡ None)
         (λ p. number_pair (option_map json_value (option_copied json.entry)) ≡ Some (p.0.now, p.1.now)) }
 {
     let Some(Json::List(list)) = json else {
@@ -59,7 +59,7 @@ fn pair_of(json: Option<&Json>) -> Option<(&str, &str)>
 }
 
 fn axis_of(scale: &str, offset: &str) -> Option<Axis>
-    ensures { result ≡ axis_of scale.now offset.now }
+    ensures exact { result ≡ axis_of scale.now offset.now }
 {
     let Some(scale) = whole_units(scale, 28) else {
         return None;

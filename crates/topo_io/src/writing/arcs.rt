@@ -13,7 +13,7 @@ use text_core::Bytes;
 /// A whole number.
 pub fn write_whole(n: i64, out: &mut Bytes) -> Result<(), AllocError>
     requires { unsigned_abs n < 10 ^ 18 }
-    ensures { OnOk result (out.new ≡ out.old ++ grid_text 0 n) }
+    ensures written { OnOk result (out.new ≡ out.old ++ grid_text 0 n) }
 {
     Decimal::of_grid(n, 0).print_into(out)
 }
@@ -21,7 +21,7 @@ pub fn write_whole(n: i64, out: &mut Bytes) -> Result<(), AllocError>
 fn write_pair(x: i64, y: i64, out: &mut Bytes) -> Result<(), AllocError>
     requires across { unsigned_abs x < 10 ^ 18 }
     requires upward { unsigned_abs y < 10 ^ 18 }
-    ensures { OnOk result (out.new ≡ out.old ++ point_text 0 (record { x = x; y = y })) }
+    ensures written { OnOk result (out.new ≡ out.old ++ point_text 0 (record { x = x; y = y })) }
 {
     out.push(b'[')?;
     write_whole(x, out)?;
@@ -34,14 +34,14 @@ fn write_pair(x: i64, y: i64, out: &mut Bytes) -> Result<(), AllocError>
 fn write_difference(point: &Pt, x: i64, y: i64, out: &mut Bytes) -> Result<(), AllocError>
     requires across { IsGridNumber x }
     requires upward { IsGridNumber y }
-    ensures { OnOk result (out.new ≡ out.old ++ point_text 0 (record { x = point.now.x -ℤ x; y = point.now.y -ℤ y })) }
+    ensures written { OnOk result (out.new ≡ out.old ++ point_text 0 (record { x = point.now.x -ℤ x; y = point.now.y -ℤ y })) }
 {
     write_pair(point.x() - x, point.y() - y, out)
 }
 
 // The first position by itself, each other as a difference.
 fn write_arc(points: &[Pt], out: &mut Bytes) -> Result<(), AllocError>
-    ensures { OnOk result (out.new ≡ out.old ++ arc_text points.now) }
+    ensures written { OnOk result (out.new ≡ out.old ++ arc_text points.now) }
 {
     out.push(b'[')?;
     let mut x: i64 = 0;
@@ -57,7 +57,7 @@ fn write_arc(points: &[Pt], out: &mut Bytes) -> Result<(), AllocError>
 
 fn write_numbered(arcs: &ArcTable, id: ArcId, out: &mut Bytes) -> Result<(), AllocError>
     requires { id < length arcs.now }
-    ensures { OnOk result (out.new ≡ out.old ++ numbered_arc_text arcs.now id) }
+    ensures written { OnOk result (out.new ≡ out.old ++ numbered_arc_text arcs.now id) }
 {
     write_arc(arcs.points_of(id), out)
 }
@@ -65,7 +65,7 @@ fn write_numbered(arcs: &ArcTable, id: ArcId, out: &mut Bytes) -> Result<(), All
 /// The arcs with these numbers, with commas between them.
 pub fn write_arcs(arcs: &ArcTable, used: &[ArcId], out: &mut Bytes) -> Result<(), AllocError>
     requires { All (λ n. n < length arcs.now) used.now }
-    ensures { OnOk result (out.new ≡ out.old ++ arcs_text used.now arcs.now) }
+    ensures written { OnOk result (out.new ≡ out.old ++ arcs_text used.now arcs.now) }
 {
     for (i, id) in used.iter().enumerate() {
         write_comma(i, out)?;

@@ -35,7 +35,7 @@ impl Numbering {
     /// The arc by its new number.
     pub fn renamed(&self, arc: SignedArc) -> SignedArc
         requires { arc.arc < length self.now.numbers.items }
-        ensures { result ≡ renamed self.now.numbers.items arc }
+        ensures exact { result ≡ renamed self.now.numbers.items arc }
     {
         let id = ArcId::new(self.numbers[arc.id().num() as usize]);
         if arc.is_reversed() {
@@ -119,7 +119,7 @@ fn mark_layers(is_used: &mut [bool], layers: &[ArcLayer])
 
 // Adds a number, where it is used.
 fn push_used(used: &mut ArcList, n: u32, is_used: bool) -> Result<(), AllocError>
-    ensures { OnOk result (used.new ≡ used.old ++ cond is_used (n ∷ []) []) }
+    ensures added { OnOk result (used.new ≡ used.old ++ cond is_used (n ∷ []) []) }
 {
     if is_used {
         used.push(ArcId::new(n))?;

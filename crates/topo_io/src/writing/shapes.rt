@@ -17,14 +17,14 @@ use text_core::Bytes;
 // An arc by its new index.
 fn write_index(arc: SignedArc, numbering: &Numbering, out: &mut Bytes) -> Result<(), AllocError>
     requires { IsBelow (length numbering.now.numbers.items) arc }
-    ensures { OnOk result (out.new ≡ out.old ++ index_text numbering.now.numbers.items arc) }
+    ensures written { OnOk result (out.new ≡ out.old ++ index_text numbering.now.numbers.items arc) }
 {
     write_whole(numbering.renamed(arc).to_index(), out)
 }
 
 fn write_path(path: &[SignedArc], numbering: &Numbering, out: &mut Bytes) -> Result<(), AllocError>
     requires { All (IsBelow (length numbering.now.numbers.items)) path.now }
-    ensures { OnOk result (out.new ≡ out.old ++ indexes_text numbering.now.numbers.items path.now) }
+    ensures written { OnOk result (out.new ≡ out.old ++ indexes_text numbering.now.numbers.items path.now) }
 {
     out.push(b'[')?;
     for (i, arc) in path.iter().enumerate() {
@@ -40,7 +40,7 @@ fn write_paths(
     out: &mut Bytes,
 ) -> Result<(), AllocError>
     requires { All (All (IsBelow (length numbering.now.numbers.items))) paths.now }
-    ensures { OnOk result (out.new ≡ out.old ++ rings_text numbering.now.numbers.items paths.now) }
+    ensures written { OnOk result (out.new ≡ out.old ++ rings_text numbering.now.numbers.items paths.now) }
 {
     out.push(b'[')?;
     for (i, path) in paths.iter().enumerate() {
@@ -56,7 +56,7 @@ fn write_polygons(
     out: &mut Bytes,
 ) -> Result<(), AllocError>
     requires { All (All (All (IsBelow (length numbering.now.numbers.items)))) polygons.now }
-    ensures { OnOk result (out.new ≡ out.old ++ list_text (rings_text numbering.now.numbers.items) polygons.now) }
+    ensures written { OnOk result (out.new ≡ out.old ++ list_text (rings_text numbering.now.numbers.items) polygons.now) }
 {
     out.push(b'[')?;
     for (i, polygon) in polygons.iter().enumerate() {
@@ -67,7 +67,7 @@ fn write_polygons(
 }
 
 fn write_positions(points: &[Pt], out: &mut Bytes) -> Result<(), AllocError>
-    ensures { OnOk result (out.new ≡ out.old ++ list_text (point_text 0) points.now) }
+    ensures written { OnOk result (out.new ≡ out.old ++ list_text (point_text 0) points.now) }
 {
     out.push(b'[')?;
     for (i, point) in points.iter().enumerate() {
@@ -79,7 +79,7 @@ fn write_positions(points: &[Pt], out: &mut Bytes) -> Result<(), AllocError>
 
 // What stands before the arcs or the coordinates of a geometry.
 fn write_type(name: &str, member: &str, out: &mut Bytes) -> Result<(), AllocError>
-    ensures { OnOk result (out.new ≡ out.old ++ type_text name.now member.now) }
+    ensures written { OnOk result (out.new ≡ out.old ++ type_text name.now member.now) }
 {
     out.extend(b"{\"type\":\"")?;
     out.extend(name.as_bytes())?;
@@ -89,13 +89,13 @@ fn write_type(name: &str, member: &str, out: &mut Bytes) -> Result<(), AllocErro
 }
 
 fn write_null(out: &mut Bytes) -> Result<(), AllocError>
-    ensures { OnOk result (out.new ≡ out.old ++ null_text) }
+    ensures written { OnOk result (out.new ≡ out.old ++ null_text) }
 {
     out.extend(b"{\"type\":null")
 }
 
 fn write_points(points: &[Pt], out: &mut Bytes) -> Result<(), AllocError>
-    ensures { OnOk result (out.new ≡ out.old ++ one_or_many (codes "Point") (codes "MultiPoint") (codes "coordinates") (point_text 0) points.now) }
+    ensures written { OnOk result (out.new ≡ out.old ++ one_or_many (codes "Point") (codes "MultiPoint") (codes "coordinates") (point_text 0) points.now) }
 {
     match points {
         [] => write_null(out),
@@ -116,7 +116,7 @@ fn write_lines(
     out: &mut Bytes,
 ) -> Result<(), AllocError>
     requires { All (All (IsBelow (length numbering.now.numbers.items))) lines.now }
-    ensures { OnOk result (out.new ≡ out.old ++ one_or_many (codes "LineString") (codes "MultiLineString") (codes "arcs") (indexes_text numbering.now.numbers.items) lines.now) }
+    ensures written { OnOk result (out.new ≡ out.old ++ one_or_many (codes "LineString") (codes "MultiLineString") (codes "arcs") (indexes_text numbering.now.numbers.items) lines.now) }
 {
     match lines {
         [] => write_null(out),
@@ -137,7 +137,7 @@ fn write_areas(
     out: &mut Bytes,
 ) -> Result<(), AllocError>
     requires { All (All (All (IsBelow (length numbering.now.numbers.items)))) polygons.now }
-    ensures { OnOk result (out.new ≡ out.old ++ one_or_many (codes "Polygon") (codes "MultiPolygon") (codes "arcs") (rings_text numbering.now.numbers.items) polygons.now) }
+    ensures written { OnOk result (out.new ≡ out.old ++ one_or_many (codes "Polygon") (codes "MultiPolygon") (codes "arcs") (rings_text numbering.now.numbers.items) polygons.now) }
 {
     match polygons {
         [] => write_null(out),
@@ -155,7 +155,7 @@ fn write_areas(
 // A geometry without its end, where properties may follow.
 fn write_shape(shape: &ArcShape, numbering: &Numbering, out: &mut Bytes) -> Result<(), AllocError>
     requires { ShapeIsBelow (length numbering.now.numbers.items) shape.now }
-    ensures { OnOk result (out.new ≡ out.old ++ shape_text numbering.now.numbers.items shape.now) }
+    ensures written { OnOk result (out.new ≡ out.old ++ shape_text numbering.now.numbers.items shape.now) }
 {
     match shape {
         ArcShape::Nothing => write_null(out),
@@ -168,7 +168,7 @@ fn write_shape(shape: &ArcShape, numbering: &Numbering, out: &mut Bytes) -> Resu
 // The properties, where there is a column.
 fn write_row(keys: &[Bytes], row: &Row, out: &mut Bytes) -> Result<(), AllocError>
     requires { length keys.now ≡ length row.now }
-    ensures { OnOk result (out.new ≡ out.old ++ row_member keys.now row.now) }
+    ensures written { OnOk result (out.new ≡ out.old ++ row_member keys.now row.now) }
 {
     if keys.len() == 0 {
         return Ok(());
@@ -186,7 +186,7 @@ fn write_geometry(
 ) -> Result<(), AllocError>
     requires width { length keys.now ≡ length row.now }
     requires there { ShapeIsBelow (length numbering.now.numbers.items) shape.now }
-    ensures { OnOk result (out.new ≡ out.old ++ geometry_text numbering.now.numbers.items keys.now (row.now, shape.now)) }
+    ensures written { OnOk result (out.new ≡ out.old ++ geometry_text numbering.now.numbers.items keys.now (row.now, shape.now)) }
 {
     write_shape(shape, numbering, out)?;
     write_row(keys, row, out)?;
@@ -204,7 +204,7 @@ pub fn write_geometries(
     requires count { length shapes.now ≡ length rows.now }
     requires widths { AreRows (length keys.now) rows.now }
     requires there { All (ShapeIsBelow (length numbering.now.numbers.items)) shapes.now }
-    ensures { OnOk result (out.new ≡ out.old ++ geometries_text numbering.now.numbers.items keys.now rows.now shapes.now) }
+    ensures written { OnOk result (out.new ≡ out.old ++ geometries_text numbering.now.numbers.items keys.now rows.now shapes.now) }
 {
     for (i, shape) in shapes.iter().enumerate() {
         write_comma(i, out)?;

@@ -3,4 +3,4 @@ use Rattle.union_laws.proofs.UnionTold.{union_as_told}
 use Rattle.union_laws.proofs.union_as_told.Goals as goal
 
 pub returns : goal.returns
-returns c = union_as_told
+returns c = record { holds = union_as_told }

@@ -3,4 +3,4 @@ use Rattle.union_laws.proofs.Apart.{united_are_apart}
 use Rattle.union_laws.proofs.united_are_apart.Goals as goal
 
 pub returns : goal.returns
-returns c = united_are_apart
+returns c = record { holds = united_are_apart }

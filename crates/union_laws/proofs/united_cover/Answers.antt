@@ -3,4 +3,4 @@ use Rattle.union_laws.proofs.Cover.{united_cover}
 use Rattle.union_laws.proofs.united_cover.Goals as goal
 
 pub returns : goal.returns
-returns c = united_cover
+returns c = record { holds = united_cover }

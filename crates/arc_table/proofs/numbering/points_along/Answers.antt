@@ -15,7 +15,7 @@ loop-step-init c =
       c.requires.there,
       omega arith,
       ap (λ (n : ℕ). c.push.new.self.items ++ ends_along net n way.start) all
-          ∙ begun net way c.step.result c.from.result c.clear.new.self.items c.push.new.self.items c.step.ensures c.from.ensures.exact c.clear.ensures.items c.in_ok-push.ensures.items,
+          ∙ begun net way c.step.result c.from.result c.clear.new.self.items c.push.new.self.items c.step.ensures.exact c.from.ensures.exact c.clear.ensures.items c.in_ok-push.ensures.items,
     )
 
 pub loop-step-preserved : goal.loop-step-preserved
@@ -29,7 +29,7 @@ loop-step-preserved c =
       c.next-at.ensures.there,
       omega arith,
       more net c.loop-step.points.items c.push-in-loop-step.new.self.items (points_along net way) (way.steps - k) (way.steps - (k + 1)) c.loop-step.at c.next-at.result c.step-in-loop-step.result c.to.result
-          left c.step-in-loop-step.ensures c.to.ensures.exact c.next-at.ensures.exact c.in_ok-push-2.ensures.items c.loop-step.invariant.2,
+          left c.step-in-loop-step.ensures.exact c.to.ensures.exact c.next-at.ensures.exact c.in_ok-push-2.ensures.items c.loop-step.invariant.2,
     )
 
 pub returns-clause-exact : goal.returns-clause-exact

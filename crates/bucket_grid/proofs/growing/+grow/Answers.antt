@@ -99,7 +99,7 @@ returns g t c =
     let none = subst (λ (o : Option (List ℕ)). MatchOption o ((vec_len c.loop-part.lists ≡ 0) × (vec_len c.pop.new.self ≡ 0)) (λ _. vec_len c.pop.new.self + 1 ≡ vec_len c.loop-part.lists)) c.in_default-pop.is c.pop.ensures.cases in
     let empty : length xs ≡ 0 = omega (arith, none.0, c.loop-part.lists.ok.0) in
     let count = c.loop-part.invariant.1 in
-    let children : c.in_ok-children.children ≡ length mid.nodes.items = omega (arith, c.in_ok-children.ensures, c.len-3.ensures, mid.nodes.ok.0) in
+    let children : c.in_ok-children.children ≡ length mid.nodes.items = omega (arith, c.in_ok-children.ensures.exact, c.len-3.ensures, mid.nodes.ok.0) in
     let nodes : c.extend_from_slice.new.self.items ≡ mid.nodes.items ++ tops = c.in_ok-extend_from_slice.ensures.items ∙ ap (λ (l : List Node). mid.nodes.items ++ l) c.deref.ensures.value in
     let l : Grew (c.args.steps - 1) boxes (IsFrom c.args.rect s 0) old.nodes.items mid.nodes.items old.rects.items mid.rects.items old.near mid.near (top_of s tops) =
     subst (λ (k : ℕ). Grew (c.args.steps - 1) boxes (IsFrom c.args.rect s k) old.nodes.items mid.nodes.items old.rects.items mid.rects.items old.near mid.near (top_of s tops)) empty c.loop-part.invariant.2 in

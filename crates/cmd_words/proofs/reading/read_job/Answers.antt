@@ -2,7 +2,7 @@ use Rattle.std.proofs.Common.{◌≡◌, ◌∙◌, sym, subst, false, codes}
 use Rattle.std.specs.Str.{bytes_eq}
 use Rattle.cmd_words.specs.Words.{Reading, JobWords}
 use Rattle.cmd_words.specs.Tells.{Tells, FitsJob}
-use Rattle.cmd_words.proofs.Behind.{no_mosaic}
+use Rattle.cmd_words.proofs.Past.{no_mosaic}
 use Rattle.cmd_words.proofs.reading.read_job.Goals as goal
 
 pub returns-else-eq-clause-exact : goal.returns-else-eq-clause-exact

@@ -3,7 +3,7 @@ use Rattle.std.specs.Str.{bytes_eq}
 use Rattle.cmd_words.specs.Seen.{row_seen}
 use Rattle.cmd_words.specs.Groups.{empty_group}
 use Rattle.cmd_words.specs.Words.{words_from}
-use Rattle.cmd_words.proofs.Behind.{command_taken}
+use Rattle.cmd_words.proofs.Past.{command_taken}
 use Rattle.cmd_words.proofs.reading.take_command.Goals as goal
 
 pub returns : goal.returns

@@ -3,7 +3,7 @@ use Rattle.std.proofs.lemmas.List.{take_rest}
 use Rattle.std.proofs.lemmas.Result.{err_from_is_err_and}
 use Rattle.cmd_words.specs.Cuts.{BeginsACommand}
 use Rattle.cmd_words.proofs.Readings.{turns_stop, stops, goes_on}
-use Rattle.cmd_words.proofs.Cuts.{next_command, begins_behind_cut}
+use Rattle.cmd_words.proofs.Cuts.{next_command, begins_after_cut}
 use Rattle.cmd_words.proofs.reading.take_commands.Goals as goal
 
 pub returns-in_err-take_command : goal.returns-in_err-take_command
@@ -25,10 +25,10 @@ loop-left-preserved c =
     let left = c.loop-left.left.now in
     let rest = take (length left - 1) (drop 1 left) in
     let m : c.loop-left.number + (1 + length c.split_at.result.0.now) ≡ (c.loop-left.number + 1) + k = omega (arith, c.split_at.ensures.front_len) in
-    let behind : length rest ≡ length left - 1 = ap length (take_rest left 1) ∙ length-drop 1 left in
+    let past : length rest ≡ length left - 1 = ap length (take_rest left 1) ∙ length-drop 1 left in
     record {
-      number = omega (arith, c.split_at.ensures.front_len, c.split_at.ensures.back_len, c.plain_count.ensures.within, behind, c.in-len1-up.len_at_least, c.loop-left.invariant.number);
-      begins = subst BeginsACommand (sym (c.split_at.ensures.back ∙ ap (λ (n : ℕ). drop n rest) c.plain_count.ensures.exact)) (begins_behind_cut rest);
+      number = omega (arith, c.split_at.ensures.front_len, c.split_at.ensures.back_len, c.plain_count.ensures.within, past, c.in-len1-up.len_at_least, c.loop-left.invariant.number);
+      begins = subst BeginsACommand (sym (c.split_at.ensures.back ∙ ap (λ (n : ℕ). drop n rest) c.plain_count.ensures.exact)) (begins_after_cut rest);
       commands = λ refuses right. c.loop-left.invariant.commands refuses right
           ∙ next_command refuses c.args.places c.loop-left.so_far c.loop-left.number (c.loop-left.number + (1 + length c.split_at.result.0.now)) k c.as_str.result.now c.word-item.result left rest c.split_at.result.0.now c.split_at.result.1.now
           c.as_str.ensures.lent c.in-len1-up.len_at_least c.word-item.is (take_rest left 1) c.loop-left.invariant.begins c.plain_count.ensures.exact c.split_at.ensures.front c.split_at.ensures.back m

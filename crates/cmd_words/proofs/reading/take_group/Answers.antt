@@ -1,7 +1,7 @@
 use Rattle.std.proofs.Common.{◌+◌}
 use Rattle.cmd_words.specs.Seen.{row_seen}
 use Rattle.cmd_words.specs.Words.{words_from}
-use Rattle.cmd_words.proofs.Behind.{group_taken}
+use Rattle.cmd_words.proofs.Past.{group_taken}
 use Rattle.cmd_words.proofs.reading.take_group.Goals as goal
 
 pub returns : goal.returns

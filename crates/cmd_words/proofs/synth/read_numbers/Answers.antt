@@ -1,6 +1,6 @@
 use Rattle.std.proofs.Common.{refl}
 use Rattle.cmd_words.specs.Words.{synth}
-use Rattle.cmd_words.proofs.Behind.{seed_and_size}
+use Rattle.cmd_words.proofs.Past.{seed_and_size}
 use Rattle.cmd_words.proofs.synth.read_numbers.Goals as goal
 
 pub returns-clause-exact : goal.returns-clause-exact

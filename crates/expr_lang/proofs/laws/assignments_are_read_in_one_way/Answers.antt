@@ -2,4 +2,4 @@ use Rattle.expr_lang.proofs.OneAssigns.{one_way}
 use Rattle.expr_lang.proofs.laws.assignments_are_read_in_one_way.Goals as goal
 
 pub returns : goal.returns
-returns c = one_way
+returns c = record { holds = one_way }

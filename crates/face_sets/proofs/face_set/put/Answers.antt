@@ -16,12 +16,12 @@ appended xs seen ys f e below made = made ∙ put_past xs f (subst (λ (zs : Lis
 
 pub returns-then-is_past-clause-ok : goal.returns-then-is_past-clause-ok
 returns-then-is_past-clause-ok c =
-    appended c.args.faces.now.items c.deref.result.now c.push.new.self.items c.args.f c.deref.ensures.value (c.is_past.ensures c.if-is_past.true) c.in_ok-push.ensures.items
+    appended c.args.faces.now.items c.deref.result.now c.push.new.self.items c.args.f c.deref.ensures.value (c.is_past.ensures.yes c.if-is_past.true) c.in_ok-push.ensures.items
 
 pub returns-then-is_past-clause-ascending : goal.returns-then-is_past-clause-ascending
 returns-then-is_past-clause-ascending c =
     subst IsStrictlyIncreasing
-    (sym (appended c.args.faces.now.items c.deref.result.now c.push.new.self.items c.args.f c.deref.ensures.value (c.is_past.ensures c.if-is_past.true) c.in_ok-push.ensures.items))
+    (sym (appended c.args.faces.now.items c.deref.result.now c.push.new.self.items c.args.f c.deref.ensures.value (c.is_past.ensures.yes c.if-is_past.true) c.in_ok-push.ensures.items))
     (put_IsStrictlyIncreasing c.args.f c.args.faces.now.items c.requires)
 
 pub returns-in-Ok-clause-ok : goal.returns-in-Ok-clause-ok

@@ -8,5 +8,5 @@ returns c =
       written =
           on_ok_weaker c.push.result (λ h.
           feature_ended c.args.keys.now c.args.row.now c.args.out.now c.extend.new.self c.write_properties.new.out c.push.new.self
-          c.in_ok-extend.ensures.ok c.in_ok-write_properties.ensures h) c.push.ensures.ok;
+          c.in_ok-extend.ensures.ok c.in_ok-write_properties.ensures.written h) c.push.ensures.ok;
     }

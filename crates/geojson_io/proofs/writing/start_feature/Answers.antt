@@ -8,5 +8,5 @@ returns c =
     let first : List ℕ = codes "{\"type\":\"Feature\",\"geometry\":" in
     record {
       written =
-          on_ok_weaker c.extend.result (λ h. h ∙ ap (λ (w : List ℕ). w ++ first) c.in_ok-write_break.ensures ∙ append_assoc c.args.out.now (before_item (codes ",\n") c.args.i) first) c.extend.ensures.ok;
+          on_ok_weaker c.extend.result (λ h. h ∙ ap (λ (w : List ℕ). w ++ first) c.in_ok-write_break.ensures.written ∙ append_assoc c.args.out.now (before_item (codes ",\n") c.args.i) first) c.extend.ensures.ok;
     }

@@ -20,10 +20,10 @@ loop-i-preserved c =
     let l : i < length shapes = c.loop-i-test.true in
     let m : i < length rows = let e = c.requires.count in omega arith in
     feature_more c.args.places c.args.keys.now rows (take i shapes) c.index-rows-i.result shape i c.args.out.now c.loop-i.out c.write_next_feature.new.out
-    (length-take-le i shapes (omega arith)) m c.index-rows-i.is c.loop-i.invariant c.in_ok-write_next_feature.ensures
+    (length-take-le i shapes (omega arith)) m c.index-rows-i.is c.loop-i.invariant c.in_ok-write_next_feature.ensures.written
     ∙ ap (λ ss. c.args.out.now ++ features_text c.args.places c.args.keys.now rows ss) (ap (λ s. take i shapes ++ s ∷ []) c.index-shapes-i.is ∙ sym (take_more shapes i shape l))
 
 pub returns : goal.returns
 returns c =
     let shapes = c.args.shapes.now in
-    c.loop-i.invariant ∙ ap (λ ss. c.args.out.now ++ features_text c.args.places c.args.keys.now c.args.rows.now ss) (take_all c.loop-i.i shapes c.loop-i-test.false)
+    record { written = c.loop-i.invariant ∙ ap (λ ss. c.args.out.now ++ features_text c.args.places c.args.keys.now c.args.rows.now ss) (take_all c.loop-i.i shapes c.loop-i-test.false) }

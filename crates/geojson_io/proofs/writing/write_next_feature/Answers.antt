@@ -6,6 +6,8 @@ use Rattle.geojson_io.proofs.writing.write_next_feature.Goals as goal
 
 pub returns : goal.returns
 returns c =
-    on_ok_weaker c.end_feature.result (λ h.
-    feature_written c.args.places c.args.keys.now c.args.row.now c.args.shape.now (before_item (codes ",\n") c.args.i) c.args.out.now c.start_feature.new.out c.write_geometry.new.out c.end_feature.new.out
-    c.in_ok-start_feature.ensures.written c.in_ok-write_geometry.ensures h) c.end_feature.ensures.written
+    record {
+      written = on_ok_weaker c.end_feature.result (λ h.
+          feature_written c.args.places c.args.keys.now c.args.row.now c.args.shape.now (before_item (codes ",\n") c.args.i) c.args.out.now c.start_feature.new.out c.write_geometry.new.out c.end_feature.new.out
+          c.in_ok-start_feature.ensures.written c.in_ok-write_geometry.ensures.written h) c.end_feature.ensures.written;
+    }

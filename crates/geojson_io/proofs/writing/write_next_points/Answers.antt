@@ -11,5 +11,5 @@ returns c =
       written =
           on_ok_weaker c.end_feature.result (λ h.
           feature_written c.args.places c.args.keys.now c.args.row.now (Points c.args.points.now) (before_item (codes ",\n") c.args.i) c.args.out.now c.start_feature.new.out c.write_points.new.out c.end_feature.new.out
-          c.in_ok-start_feature.ensures.written c.in_ok-write_points.ensures h) c.end_feature.ensures.written;
+          c.in_ok-start_feature.ensures.written c.in_ok-write_points.ensures.written h) c.end_feature.ensures.written;
     }

@@ -22,12 +22,12 @@ known c =
     let f₁ = step_fits c.step-dx.result.0 c.step-dx.ensures.across_small in
     let f₂ = step_fits c.step-dx.result.1 c.step-dx.ensures.upward_small in
     record {
-      across = c.step-dx.ensures.across ∙ (λ i. (c.b.ensures i).x -ℤ (c.a.ensures i).x);
-      upward = c.step-dx.ensures.upward ∙ (λ i. (c.b.ensures i).y -ℤ (c.a.ensures i).y);
-      west = c.step-west.ensures.across ∙ (λ i. (c.low.ensures.exact i).x -ℤ (c.a-2.ensures i).x);
-      south = c.step-west.ensures.upward ∙ (λ i. (c.low.ensures.exact i).y -ℤ (c.a-2.ensures i).y);
-      east = c.step-east.ensures.across ∙ (λ i. (c.high.ensures.exact i).x -ℤ (c.a-3.ensures i).x);
-      north = c.step-east.ensures.upward ∙ (λ i. (c.high.ensures.exact i).y -ℤ (c.a-3.ensures i).y);
+      across = c.step-dx.ensures.across ∙ (λ i. (c.b.ensures.exact i).x -ℤ (c.a.ensures.exact i).x);
+      upward = c.step-dx.ensures.upward ∙ (λ i. (c.b.ensures.exact i).y -ℤ (c.a.ensures.exact i).y);
+      west = c.step-west.ensures.across ∙ (λ i. (c.low.ensures.exact i).x -ℤ (c.a-2.ensures.exact i).x);
+      south = c.step-west.ensures.upward ∙ (λ i. (c.low.ensures.exact i).y -ℤ (c.a-2.ensures.exact i).y);
+      east = c.step-east.ensures.across ∙ (λ i. (c.high.ensures.exact i).x -ℤ (c.a-3.ensures.exact i).x);
+      north = c.step-east.ensures.upward ∙ (λ i. (c.high.ensures.exact i).y -ℤ (c.a-3.ensures.exact i).y);
       reaches = simp to_z-of_z at c.reach_of-reach.ensures.exact;
     }
 

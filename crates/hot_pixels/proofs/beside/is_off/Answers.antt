@@ -4,23 +4,27 @@ use Rattle.hot_pixels.proofs.NearLemmas.{point_beside_across, point_beside_upwar
 use Rattle.hot_pixels.proofs.beside.is_off.Goals as goal
 
 pub returns-then-is_outside : goal.returns-then-is_outside
-returns-then-is_outside c = λ t.
-    let f₁ : FitsSigned w64 c.x.result = search rules in
-    let f₂ : FitsSigned w64 c.x-2.result = search rules in
-    let f₃ : FitsSigned w64 c.x-3.result = search rules in
-    let f₄ : FitsSigned w64 c.x-4.result = search rules in
-    let e : c.is_outside.result ≡ is_outside c.x.result c.x-2.result c.x-3.result c.x-4.result = simp to_z-of_z at c.is_outside.ensures in
-    let ax = c.x.ensures.exact ∙ (λ i. (c.a-a.ensures i).x) in
-    let bx = c.x-2.ensures.exact ∙ (λ i. (c.b-b.ensures i).x) in
-    point_beside_across c.args.s.now c.args.p (sym (e ∙ (λ i. is_outside (ax i) (bx i) (c.x-3.ensures.exact i) (c.x-4.ensures.exact i))) ∙ c.if-is_outside.true)
+returns-then-is_outside c = record {
+  yes = λ t.
+      let f₁ : FitsSigned w64 c.x.result = search rules in
+      let f₂ : FitsSigned w64 c.x-2.result = search rules in
+      let f₃ : FitsSigned w64 c.x-3.result = search rules in
+      let f₄ : FitsSigned w64 c.x-4.result = search rules in
+      let e : c.is_outside.result ≡ is_outside c.x.result c.x-2.result c.x-3.result c.x-4.result = simp to_z-of_z at c.is_outside.ensures.exact in
+      let ax = c.x.ensures.exact ∙ (λ i. (c.a-a.ensures.exact i).x) in
+      let bx = c.x-2.ensures.exact ∙ (λ i. (c.b-b.ensures.exact i).x) in
+      point_beside_across c.args.s.now c.args.p (sym (e ∙ (λ i. is_outside (ax i) (bx i) (c.x-3.ensures.exact i) (c.x-4.ensures.exact i))) ∙ c.if-is_outside.true);
+}
 
 pub returns : goal.returns
-returns c = λ t.
-    let f₁ : FitsSigned w64 c.y.result = search rules in
-    let f₂ : FitsSigned w64 c.y-2.result = search rules in
-    let f₃ : FitsSigned w64 c.y-3.result = search rules in
-    let f₄ : FitsSigned w64 c.y-4.result = search rules in
-    let e : c.is_outside-2.result ≡ is_outside c.y.result c.y-2.result c.y-3.result c.y-4.result = simp to_z-of_z at c.is_outside-2.ensures in
-    let ay = c.y.ensures.exact ∙ (λ i. (c.a-a.ensures i).y) in
-    let by = c.y-2.ensures.exact ∙ (λ i. (c.b-b.ensures i).y) in
-    point_beside_upward c.args.s.now c.args.p (sym (e ∙ (λ i. is_outside (ay i) (by i) (c.y-3.ensures.exact i) (c.y-4.ensures.exact i))) ∙ t)
+returns c = record {
+  yes = λ t.
+      let f₁ : FitsSigned w64 c.y.result = search rules in
+      let f₂ : FitsSigned w64 c.y-2.result = search rules in
+      let f₃ : FitsSigned w64 c.y-3.result = search rules in
+      let f₄ : FitsSigned w64 c.y-4.result = search rules in
+      let e : c.is_outside-2.result ≡ is_outside c.y.result c.y-2.result c.y-3.result c.y-4.result = simp to_z-of_z at c.is_outside-2.ensures.exact in
+      let ay = c.y.ensures.exact ∙ (λ i. (c.a-a.ensures.exact i).y) in
+      let by = c.y-2.ensures.exact ∙ (λ i. (c.b-b.ensures.exact i).y) in
+      point_beside_upward c.args.s.now c.args.p (sym (e ∙ (λ i. is_outside (ay i) (by i) (c.y-3.ensures.exact i) (c.y-4.ensures.exact i))) ∙ t);
+}

@@ -28,4 +28,4 @@ returns c =
     let f₂ : FitsSigned w64 c.in_sense-2.result = search rules in
     let f₃ = both_fit c in
     let e : c.in_sense.result +ℤ c.in_sense-2.result ≡ order_key c.args.s.now c.args.p.now = λ i. across c i +ℤ upward c i in
-    simp to_z-of_z e
+    record { exact = simp to_z-of_z e }

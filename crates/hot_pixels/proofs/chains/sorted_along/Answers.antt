@@ -14,4 +14,4 @@ returns c =
     let met = c.args.met.items in
     let in_order : IsSortedByKey (order_key s) int_cmp c.sort_unstable_by_key.new.self.items = c.sort_unstable_by_key.ensures.sorted (order_key s) (always_returns_same _ _ _ (λ a r q k. search rules)) in
     let h : AreSortedAlong s met c.sort_unstable_by_key.new.self.items = record { moved = c.sort_unstable_by_key.ensures.permutation; in_order = in_order } in
-    IfOk-weaker _ (λ (list : List GridPoint). list ≡ c.deref.result.now) (AreSortedAlong s met) (λ list e. subst (AreSortedAlong s met) (sym (e ∙ c.deref.ensures.value)) h) c.list_of.ensures
+    record { made = IfOk-weaker _ (λ (list : List GridPoint). list ≡ c.deref.result.now) (AreSortedAlong s met) (λ list e. subst (AreSortedAlong s met) (sym (e ∙ c.deref.ensures.value)) h) c.list_of.ensures.exact }

@@ -25,7 +25,7 @@ module _ (c : After-cross_of-q) where
   t = c.args.t.now
 
   between_is : c.new-between.result ≡ record { start = s.start; stop = t.start }
-  between_is = c.new-between.ensures.made ∙ (λ i. record { start = c.a.ensures i; stop = c.a-2.ensures i })
+  between_is = c.new-between.ensures.made ∙ (λ i. record { start = c.a.ensures.exact i; stop = c.a-2.ensures.exact i })
 
   p_is : c.cross_of-p.result ≡ cross (record { start = s.start; stop = t.start }) t
   p_is = c.cross_of-p.ensures.value ∙ ap (λ (u : Segment). cross u t) between_is
@@ -69,7 +69,7 @@ returns-then-w-lt0 c =
     let g₂ = opposite_fits c.cross_of-p.result c.cross_of-p.ensures.small in
     let g₃ = opposite_fits c.cross_of-q.result c.cross_of-q.ensures.small in
     let h : c.cross_of-w.result <ℤ pos 0 = omega (arith, ints) in
-    let k : c.pixel_at.result ≡ pixel_by c.args.s.now (unsigned_abs (pos 0 -ℤ c.cross_of-w.result)) (pos 0 -ℤ c.cross_of-p.result) (pos 0 -ℤ c.cross_of-q.result) = simp to_z-of_z at c.pixel_at.ensures in
+    let k : c.pixel_at.result ≡ pixel_by c.args.s.now (unsigned_abs (pos 0 -ℤ c.cross_of-w.result)) (pos 0 -ℤ c.cross_of-p.result) (pos 0 -ℤ c.cross_of-q.result) = simp to_z-of_z at c.pixel_at.ensures.exact in
     record { exact = k ∙ turned (goal.at.returns-then-w-lt0 c).After-cross_of-q h }
 
 pub returns-else-w-lt0 : goal.returns-else-w-lt0
@@ -78,5 +78,5 @@ returns-else-w-lt0 c =
     let f₂ : FitsSigned w128 c.cross_of-p.result = search rules in
     let f₃ : FitsSigned w128 c.cross_of-q.result = search rules in
     let h : pos 0 <ℤ c.cross_of-w.result = omega (arith, ints) in
-    let k : c.pixel_at-else-w-lt0.result ≡ pixel_by c.args.s.now (unsigned_abs c.cross_of-w.result) c.cross_of-p.result c.cross_of-q.result = simp to_z-of_z at c.pixel_at-else-w-lt0.ensures in
+    let k : c.pixel_at-else-w-lt0.result ≡ pixel_by c.args.s.now (unsigned_abs c.cross_of-w.result) c.cross_of-p.result c.cross_of-q.result = simp to_z-of_z at c.pixel_at-else-w-lt0.ensures.exact in
     record { exact = k ∙ straight (goal.at.returns-else-w-lt0 c).After-cross_of-q h }

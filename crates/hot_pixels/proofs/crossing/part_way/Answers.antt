@@ -37,7 +37,7 @@ module _ (c : After-quotient) where
       let f₂ = c.ranges.p in
       let f₃ = c.ranges.w in
       let f₄ = fits_128 (c.args.step *ℤ c.args.p) (most_step * most_cross) small_step (lit< tt) in
-      let e : c.quotient.result ≡ floor_div (pos 2 *ℤ (c.args.step *ℤ c.args.p) +ℤ pos (unsigned_abs c.args.w)) (2 * unsigned_abs c.args.w) = simp to_z-of_z at c.quotient.ensures in
+      let e : c.quotient.result ≡ floor_div (pos 2 *ℤ (c.args.step *ℤ c.args.p) +ℤ pos (unsigned_abs c.args.w)) (2 * unsigned_abs c.args.w) = simp to_z-of_z at c.quotient.ensures.exact in
       known c.args.from c.quotient.result (rounded c.args.from c.args.step c.args.p (unsigned_abs c.args.w)) (number_from c.args.from c.requires.from_on_grid) (number_from (rounded c.args.from c.args.step c.args.p (unsigned_abs c.args.w)) c.requires.lands)
       (ap (λ (z : ℤ). c.args.from +ℤ z) e)
 
@@ -72,4 +72,4 @@ returns c =
     let f₃ : FitsSigned w128 c.quotient.result = search rules in
     let f₄ = (facts c).sum_fits in
     let f₅ = (facts c).sum_fits_64 in
-    simp to_z-of_z (facts c).sum_is
+    record { exact = simp to_z-of_z (facts c).sum_is }

@@ -12,17 +12,17 @@ pub returns-then-not-is_share_of : goal.returns-then-not-is_share_of
 returns-then-not-is_share_of c =
     let f₁ = c.ranges.p in
     let f₂ = c.ranges.w in
-    let e : c.is_share_of.result ≡ is_share c.args.p c.args.w = simp to_z-of_z at c.is_share_of.ensures in
-    no_first c.args.s c.args.w c.args.p c.args.q c.requires.w_positive (sym e ∙ c.if-not-is_share_of.true)
+    let e : c.is_share_of.result ≡ is_share c.args.p c.args.w = simp to_z-of_z at c.is_share_of.ensures.exact in
+    record { exact = no_first c.args.s c.args.w c.args.p c.args.q c.requires.w_positive (sym e ∙ c.if-not-is_share_of.true) }
 
 pub returns-then-not-is_share_of-2 : goal.returns-then-not-is_share_of-2
 returns-then-not-is_share_of-2 c =
     let f₁ = c.ranges.p in
     let f₂ = c.ranges.w in
     let f₃ = c.ranges.q in
-    let e : c.is_share_of.result ≡ is_share c.args.p c.args.w = simp to_z-of_z at c.is_share_of.ensures in
-    let f : c.is_share_of-2.result ≡ is_share c.args.q c.args.w = simp to_z-of_z at c.is_share_of-2.ensures in
-    no_second c.args.s c.args.w c.args.p c.args.q c.requires.w_positive (sym e ∙ c.if-not-is_share_of.false) (sym f ∙ c.if-not-is_share_of-2.true)
+    let e : c.is_share_of.result ≡ is_share c.args.p c.args.w = simp to_z-of_z at c.is_share_of.ensures.exact in
+    let f : c.is_share_of-2.result ≡ is_share c.args.q c.args.w = simp to_z-of_z at c.is_share_of-2.ensures.exact in
+    record { exact = no_second c.args.s c.args.w c.args.p c.args.q c.requires.w_positive (sym e ∙ c.if-not-is_share_of.false) (sym f ∙ c.if-not-is_share_of-2.true) }
 
 module _ (c : After-step-dx) where
   abbrev point : GridPoint
@@ -32,14 +32,14 @@ module _ (c : After-step-dx) where
   p_share =
       let f₁ = c.ranges.p in
       let f₂ = c.ranges.w in
-      let e : c.is_share_of.result ≡ is_share c.args.p c.args.w = simp to_z-of_z at c.is_share_of.ensures in
+      let e : c.is_share_of.result ≡ is_share c.args.p c.args.w = simp to_z-of_z at c.is_share_of.ensures.exact in
       sym e ∙ c.if-not-is_share_of.false
 
   q_share : is_share c.args.q c.args.w ≡ true
   q_share =
       let f₁ = c.ranges.q in
       let f₂ = c.ranges.w in
-      let e : c.is_share_of-2.result ≡ is_share c.args.q c.args.w = simp to_z-of_z at c.is_share_of-2.ensures in
+      let e : c.is_share_of-2.result ≡ is_share c.args.q c.args.w = simp to_z-of_z at c.is_share_of-2.ensures.exact in
       sym e ∙ c.if-not-is_share_of-2.false
 
   pixel_is : pixel_by c.args.s (unsigned_abs c.args.w) c.args.p c.args.q ≡ Some point
@@ -49,10 +49,10 @@ module _ (c : After-step-dx) where
   on_grid = c.requires.lands point pixel_is
 
   dx_is : c.step-dx.result.0 ≡ c.args.s.stop.x -ℤ c.args.s.start.x
-  dx_is = c.step-dx.ensures.across ∙ (λ i. (c.b.ensures i).x -ℤ (c.a.ensures i).x)
+  dx_is = c.step-dx.ensures.across ∙ (λ i. (c.b.ensures.exact i).x -ℤ (c.a.ensures.exact i).x)
 
   dy_is : c.step-dx.result.1 ≡ c.args.s.stop.y -ℤ c.args.s.start.y
-  dy_is = c.step-dx.ensures.upward ∙ (λ i. (c.b.ensures i).y -ℤ (c.a.ensures i).y)
+  dy_is = c.step-dx.ensures.upward ∙ (λ i. (c.b.ensures.exact i).y -ℤ (c.a.ensures.exact i).y)
 
   -- the demands of the two calls, at numbers that are those of s
   from_ok : (v : ℤ) (p : GridPoint) → (z : ℤ) → v ≡ z → least ≤ℤ z → z ≤ℤ greatest → IsTrue (is_grid_number v)
@@ -73,7 +73,7 @@ part_way-x-requires-clause-from_on_grid c =
     let f₁ : FitsSigned w64 c.x.result = search rules in
     let d = (goal.at.part_way-x-requires-clause-from_on_grid c).After-step-dx in
     let b = c.step-dx.ensures.from_on_grid in
-    simp to_z-of_z (from_ok d c.x.result c.a.result c.a.result.x (c.x.ensures.exact ∙ (λ i. (c.a-2.ensures i).x) ∙ sym (λ i. (c.a.ensures i).x)) b.x_low b.x_high)
+    simp to_z-of_z (from_ok d c.x.result c.a.result c.a.result.x (c.x.ensures.exact ∙ (λ i. (c.a-2.ensures.exact i).x) ∙ sym (λ i. (c.a.ensures.exact i).x)) b.x_low b.x_high)
 
 pub part_way-x-requires-clause-lands : goal.part_way-x-requires-clause-lands
 part_way-x-requires-clause-lands c =
@@ -82,7 +82,7 @@ part_way-x-requires-clause-lands c =
     let f₃ = c.ranges.p in
     let f₄ = c.ranges.w in
     let d = (goal.at.part_way-x-requires-clause-lands c).After-step-dx in
-    simp to_z-of_z (lands_ok d c.x.result c.step-dx.result.0 c.args.s.start.x (c.args.s.stop.x -ℤ c.args.s.start.x) (c.x.ensures.exact ∙ (λ i. (c.a-2.ensures i).x)) (dx_is d) (on_grid d).x_low (on_grid d).x_high)
+    simp to_z-of_z (lands_ok d c.x.result c.step-dx.result.0 c.args.s.start.x (c.args.s.stop.x -ℤ c.args.s.start.x) (c.x.ensures.exact ∙ (λ i. (c.a-2.ensures.exact i).x)) (dx_is d) (on_grid d).x_low (on_grid d).x_high)
 
 pub part_way-y-requires-clause-share : goal.part_way-y-requires-clause-share
 part_way-y-requires-clause-share c =
@@ -95,7 +95,7 @@ part_way-y-requires-clause-from_on_grid c =
     let f₁ : FitsSigned w64 c.y.result = search rules in
     let d = (goal.at.part_way-y-requires-clause-from_on_grid c).After-step-dx in
     let b = c.step-dx.ensures.from_on_grid in
-    simp to_z-of_z (from_ok d c.y.result c.a.result c.a.result.y (c.y.ensures.exact ∙ (λ i. (c.a-3.ensures i).y) ∙ sym (λ i. (c.a.ensures i).y)) b.y_low b.y_high)
+    simp to_z-of_z (from_ok d c.y.result c.a.result c.a.result.y (c.y.ensures.exact ∙ (λ i. (c.a-3.ensures.exact i).y) ∙ sym (λ i. (c.a.ensures.exact i).y)) b.y_low b.y_high)
 
 pub part_way-y-requires-clause-lands : goal.part_way-y-requires-clause-lands
 part_way-y-requires-clause-lands c =
@@ -104,7 +104,7 @@ part_way-y-requires-clause-lands c =
     let f₃ = c.ranges.p in
     let f₄ = c.ranges.w in
     let d = (goal.at.part_way-y-requires-clause-lands c).After-step-dx in
-    simp to_z-of_z (lands_ok d c.y.result c.step-dx.result.1 c.args.s.start.y (c.args.s.stop.y -ℤ c.args.s.start.y) (c.y.ensures.exact ∙ (λ i. (c.a-3.ensures i).y)) (dy_is d) (on_grid d).y_low (on_grid d).y_high)
+    simp to_z-of_z (lands_ok d c.y.result c.step-dx.result.1 c.args.s.start.y (c.args.s.stop.y -ℤ c.args.s.start.y) (c.y.ensures.exact ∙ (λ i. (c.a-3.ensures.exact i).y)) (dy_is d) (on_grid d).y_low (on_grid d).y_high)
 
 pub returns : goal.returns
 returns c =
@@ -118,12 +118,12 @@ returns c =
     let f₇ : FitsSigned w64 c.part_way-x.result = search rules in
     let f₈ : FitsSigned w64 c.part_way-y.result = search rules in
     let d = (goal.at.returns c).After-step-dx in
-    let x₀ : c.part_way-x.result ≡ rounded c.x.result c.step-dx.result.0 c.args.p (unsigned_abs c.args.w) = simp to_z-of_z at c.part_way-x.ensures in
-    let y₀ : c.part_way-y.result ≡ rounded c.y.result c.step-dx.result.1 c.args.p (unsigned_abs c.args.w) = simp to_z-of_z at c.part_way-y.ensures in
-    let ex : c.x.result ≡ s.start.x = c.x.ensures.exact ∙ (λ i. (c.a-2.ensures i).x) in
-    let ey : c.y.result ≡ s.start.y = c.y.ensures.exact ∙ (λ i. (c.a-3.ensures i).y) in
+    let x₀ : c.part_way-x.result ≡ rounded c.x.result c.step-dx.result.0 c.args.p (unsigned_abs c.args.w) = simp to_z-of_z at c.part_way-x.ensures.exact in
+    let y₀ : c.part_way-y.result ≡ rounded c.y.result c.step-dx.result.1 c.args.p (unsigned_abs c.args.w) = simp to_z-of_z at c.part_way-y.ensures.exact in
+    let ex : c.x.result ≡ s.start.x = c.x.ensures.exact ∙ (λ i. (c.a-2.ensures.exact i).x) in
+    let ey : c.y.result ≡ s.start.y = c.y.ensures.exact ∙ (λ i. (c.a-3.ensures.exact i).y) in
     let x : c.part_way-x.result ≡ rounded s.start.x (s.stop.x -ℤ s.start.x) c.args.p (unsigned_abs c.args.w) = x₀ ∙ (λ i. rounded (ex i) (dx_is d i) c.args.p (unsigned_abs c.args.w)) in
     let y : c.part_way-y.result ≡ rounded s.start.y (s.stop.y -ℤ s.start.y) c.args.p (unsigned_abs c.args.w) = y₀ ∙ (λ i. rounded (ey i) (dy_is d i) c.args.p (unsigned_abs c.args.w)) in
     let made : IsOnGrid (record { x = c.part_way-x.result; y = c.part_way-y.result }) → c.new.result ≡ Some (record { x = c.part_way-x.result; y = c.part_way-y.result }) = simp to_z-of_z at c.new.ensures.within in
     let e : record { x = c.part_way-x.result; y = c.part_way-y.result } ≡ point d = λ i. record { x = x i; y = y i } in
-    made (subst IsOnGrid (sym e) (on_grid d)) ∙ ap Some e ∙ sym (pixel_is d)
+    record { exact = made (subst IsOnGrid (sym e) (on_grid d)) ∙ ap Some e ∙ sym (pixel_is d) }

@@ -25,4 +25,4 @@ returns c =
     let e : c.div_euclid.result ≡ int_div_euclid (pos 2 *ℤ n +ℤ w) (pos 2 *ℤ w) = simp to_z-of_z at c.div_euclid.ensures in
     let g = pos_is w c.requires.w_positive in
     let h : pos 2 *ℤ w ≡ pos (2 * unsigned_abs w) = omega (arith, ints) in
-    simp to_z-of_z (e ∙ (λ i. int_div_euclid (pos 2 *ℤ n +ℤ g i) (h i)) ∙ floor_is (pos 2 *ℤ n +ℤ pos (unsigned_abs w)) (2 * unsigned_abs w))
+    record { exact = simp to_z-of_z (e ∙ (λ i. int_div_euclid (pos 2 *ℤ n +ℤ g i) (h i)) ∙ floor_is (pos 2 *ℤ n +ℤ pos (unsigned_abs w)) (2 * unsigned_abs w)) }

@@ -48,36 +48,48 @@ last true true false e f g h k l m n = absurd cc
 pub returns-then-not-is_agreed : goal.returns-then-not-is_agreed
 returns-then-not-is_agreed c =
     let a = c.args in
-    fails_1 (agree a.left a.right) (agree a.left a.lower) (agree a.left a.upper) (agree a.right a.lower) (agree a.right a.upper) (agree a.lower a.upper)
-    (sym c.is_agreed.ensures ∙ c.if-not-is_agreed.true)
+    record {
+      exact = fails_1 (agree a.left a.right) (agree a.left a.lower) (agree a.left a.upper) (agree a.right a.lower) (agree a.right a.upper) (agree a.lower a.upper)
+          (sym c.is_agreed.ensures.exact ∙ c.if-not-is_agreed.true);
+    }
 
 pub returns-then-not-is_agreed-2 : goal.returns-then-not-is_agreed-2
 returns-then-not-is_agreed-2 c =
     let a = c.args in
-    fails_2 (agree a.left a.right) (agree a.left a.lower) (agree a.left a.upper) (agree a.right a.lower) (agree a.right a.upper) (agree a.lower a.upper)
-    (sym c.is_agreed.ensures ∙ c.if-not-is_agreed.false) (sym c.is_agreed-2.ensures ∙ c.if-not-is_agreed-2.true)
+    record {
+      exact = fails_2 (agree a.left a.right) (agree a.left a.lower) (agree a.left a.upper) (agree a.right a.lower) (agree a.right a.upper) (agree a.lower a.upper)
+          (sym c.is_agreed.ensures.exact ∙ c.if-not-is_agreed.false) (sym c.is_agreed-2.ensures.exact ∙ c.if-not-is_agreed-2.true);
+    }
 
 pub returns-then-not-is_agreed-3 : goal.returns-then-not-is_agreed-3
 returns-then-not-is_agreed-3 c =
     let a = c.args in
-    fails_3 (agree a.left a.right) (agree a.left a.lower) (agree a.left a.upper) (agree a.right a.lower) (agree a.right a.upper) (agree a.lower a.upper)
-    (sym c.is_agreed.ensures ∙ c.if-not-is_agreed.false) (sym c.is_agreed-2.ensures ∙ c.if-not-is_agreed-2.false) (sym c.is_agreed-3.ensures ∙ c.if-not-is_agreed-3.true)
+    record {
+      exact = fails_3 (agree a.left a.right) (agree a.left a.lower) (agree a.left a.upper) (agree a.right a.lower) (agree a.right a.upper) (agree a.lower a.upper)
+          (sym c.is_agreed.ensures.exact ∙ c.if-not-is_agreed.false) (sym c.is_agreed-2.ensures.exact ∙ c.if-not-is_agreed-2.false) (sym c.is_agreed-3.ensures.exact ∙ c.if-not-is_agreed-3.true);
+    }
 
 pub returns-then-not-is_agreed-4 : goal.returns-then-not-is_agreed-4
 returns-then-not-is_agreed-4 c =
     let a = c.args in
-    fails_4 (agree a.left a.right) (agree a.left a.lower) (agree a.left a.upper) (agree a.right a.lower) (agree a.right a.upper) (agree a.lower a.upper)
-    (sym c.is_agreed.ensures ∙ c.if-not-is_agreed.false) (sym c.is_agreed-2.ensures ∙ c.if-not-is_agreed-2.false) (sym c.is_agreed-3.ensures ∙ c.if-not-is_agreed-3.false) (sym c.is_agreed-4.ensures ∙ c.if-not-is_agreed-4.true)
+    record {
+      exact = fails_4 (agree a.left a.right) (agree a.left a.lower) (agree a.left a.upper) (agree a.right a.lower) (agree a.right a.upper) (agree a.lower a.upper)
+          (sym c.is_agreed.ensures.exact ∙ c.if-not-is_agreed.false) (sym c.is_agreed-2.ensures.exact ∙ c.if-not-is_agreed-2.false) (sym c.is_agreed-3.ensures.exact ∙ c.if-not-is_agreed-3.false) (sym c.is_agreed-4.ensures.exact ∙ c.if-not-is_agreed-4.true);
+    }
 
 pub returns-then-not-is_agreed-5 : goal.returns-then-not-is_agreed-5
 returns-then-not-is_agreed-5 c =
     let a = c.args in
-    fails_5 (agree a.left a.right) (agree a.left a.lower) (agree a.left a.upper) (agree a.right a.lower) (agree a.right a.upper) (agree a.lower a.upper)
-    (sym c.is_agreed.ensures ∙ c.if-not-is_agreed.false) (sym c.is_agreed-2.ensures ∙ c.if-not-is_agreed-2.false) (sym c.is_agreed-3.ensures ∙ c.if-not-is_agreed-3.false) (sym c.is_agreed-4.ensures ∙ c.if-not-is_agreed-4.false) (sym c.is_agreed-5.ensures ∙ c.if-not-is_agreed-5.true)
+    record {
+      exact = fails_5 (agree a.left a.right) (agree a.left a.lower) (agree a.left a.upper) (agree a.right a.lower) (agree a.right a.upper) (agree a.lower a.upper)
+          (sym c.is_agreed.ensures.exact ∙ c.if-not-is_agreed.false) (sym c.is_agreed-2.ensures.exact ∙ c.if-not-is_agreed-2.false) (sym c.is_agreed-3.ensures.exact ∙ c.if-not-is_agreed-3.false) (sym c.is_agreed-4.ensures.exact ∙ c.if-not-is_agreed-4.false) (sym c.is_agreed-5.ensures.exact ∙ c.if-not-is_agreed-5.true);
+    }
 
 pub returns : goal.returns
 returns c =
     let a = c.args in
-    c.is_agreed-6.ensures ∙
-    last (agree a.left a.right) (agree a.left a.lower) (agree a.left a.upper) (agree a.right a.lower) (agree a.right a.upper) (agree a.lower a.upper)
-    (sym c.is_agreed.ensures ∙ c.if-not-is_agreed.false) (sym c.is_agreed-2.ensures ∙ c.if-not-is_agreed-2.false) (sym c.is_agreed-3.ensures ∙ c.if-not-is_agreed-3.false) (sym c.is_agreed-4.ensures ∙ c.if-not-is_agreed-4.false) (sym c.is_agreed-5.ensures ∙ c.if-not-is_agreed-5.false)
+    record {
+      exact = c.is_agreed-6.ensures.exact ∙
+          last (agree a.left a.right) (agree a.left a.lower) (agree a.left a.upper) (agree a.right a.lower) (agree a.right a.upper) (agree a.lower a.upper)
+          (sym c.is_agreed.ensures.exact ∙ c.if-not-is_agreed.false) (sym c.is_agreed-2.ensures.exact ∙ c.if-not-is_agreed-2.false) (sym c.is_agreed-3.ensures.exact ∙ c.if-not-is_agreed-3.false) (sym c.is_agreed-4.ensures.exact ∙ c.if-not-is_agreed-4.false) (sym c.is_agreed-5.ensures.exact ∙ c.if-not-is_agreed-5.false);
+    }

@@ -44,4 +44,4 @@ returns c =
     let b = c.b.view_is in
     let e : c.product.result -ℤ c.product-2.result ≡ c.args.a.at_start *ℤ c.args.b.at_stop -ℤ c.args.a.at_stop *ℤ c.args.b.at_start =
     (λ i. first c i -ℤ second c i) ∙ (λ i. (a i).at_start *ℤ (b i).at_stop -ℤ (a i).at_stop *ℤ (b i).at_start) in
-    simp to_z-of_z e
+    record { exact = simp to_z-of_z e }

@@ -7,4 +7,4 @@ pub has_point-requires : goal.has_point-requires
 has_point-requires c = record { sorted = in_order c.args.points.now c.requires }
 
 pub returns : goal.returns
-returns c = (c.has_point.ensures.yes, λ w. elim (cases_Bool c.has_point.result) [ inl e ↦ e | inr e ↦ absurd (c.has_point.ensures.no e w) ])
+returns c = record { exact = (c.has_point.ensures.yes, λ w. elim (cases_Bool c.has_point.result) [ inl e ↦ e | inr e ↦ absurd (c.has_point.ensures.no e w) ]) }

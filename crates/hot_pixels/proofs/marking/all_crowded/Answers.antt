@@ -12,8 +12,10 @@ returns c =
     let crowded : c.in_ok-crowded.crowded.items ≡ replicate (length spots) true = search rules in
     let lasts : c.in_ok-lasts.lasts.items ≡ replicate (length spots) None = search rules in
     let inner : c.extend_from_slice.new.self.items ≡ points = c.in_ok-extend_from_slice.ensures.items ∙ ap (λ (xs : List GridPoint). xs ++ points) c.in_ok-inner.ensures.items in
-    subst (λ (xs : List Bool). AreMarks points spots xs c.in_ok-lasts.lasts.items c.new.result.items c.extend_from_slice.new.self.items) (sym crowded)
-    (subst (λ (xs : List (Option ℕ)). AreMarks points spots (replicate (length spots) true) xs c.new.result.items c.extend_from_slice.new.self.items) (sym lasts)
-    (subst (λ (xs : List Meeting). AreMarks points spots (replicate (length spots) true) (replicate (length spots) None) xs c.extend_from_slice.new.self.items) (sym c.new.ensures.items)
-    (subst (λ (xs : List GridPoint). AreMarks points spots (replicate (length spots) true) (replicate (length spots) None) [] xs) (sym inner)
-    (all_inner spots points))))
+    record {
+      made = subst (λ (xs : List Bool). AreMarks points spots xs c.in_ok-lasts.lasts.items c.new.result.items c.extend_from_slice.new.self.items) (sym crowded)
+          (subst (λ (xs : List (Option ℕ)). AreMarks points spots (replicate (length spots) true) xs c.new.result.items c.extend_from_slice.new.self.items) (sym lasts)
+          (subst (λ (xs : List Meeting). AreMarks points spots (replicate (length spots) true) (replicate (length spots) None) xs c.extend_from_slice.new.self.items) (sym c.new.ensures.items)
+          (subst (λ (xs : List GridPoint). AreMarks points spots (replicate (length spots) true) (replicate (length spots) None) [] xs) (sym inner)
+          (all_inner spots points))));
+    }

@@ -4,7 +4,7 @@ use Rattle.hot_pixels.proofs.marking.gather.Goals as goal
 
 pub returns : goal.returns
 returns c =
-    let number = c.in_ok-number.ensures in
+    let number = c.in_ok-number.ensures.exact in
     let many = c.len.ensures in
     let n : c.in_ok-number.number ≡ length c.args.meetings.now.items = search rules in
     let h = gathers c.args.spots.now c.args.lasts.now.items c.args.meetings.now.items c.push.new.self.items c.args.i c.index-spots-i.result c.args.p c.index-before.result.now c.in_ok-number.number c.requires.lists c.requires.there c.index-spots-i.is c.index-before.ensures

@@ -13,4 +13,4 @@ loop-p-preserved c =
     are_marks_more spots c.args.points.now c.mark_crowds.new.marks.items c.loop-p.lasts.items lasts c.loop-p.meetings.items meetings is_inner c.loop-p.inner.items c.push_if.new.points.items c.loop-p.p-index p
     c.loop-p-test.true c.p-item.is c.in_ok-is_inner.ensures.adds
     (λ i. subst (λ (crowded : List Bool). IsSeen spots crowded lasts meetings is_inner p i) c.deref.ensures.value (c.in_ok-is_inner.ensures.seen i))
-    c.in_ok-push_if.ensures c.loop-p.invariant
+    c.in_ok-push_if.ensures.ok c.loop-p.invariant

@@ -12,10 +12,10 @@ loop-step-preserved c =
     let begun = c.args.points.now.items in
     let m = c.in-Some.meeting in
     subst (λ (met : List GridPoint). IsWalked meetings c.args.last begun met m.before (c.loop-step._step + 1)) (sym c.in_ok-push.ensures.items)
-    (walk_goes_on meetings c.args.last begun c.loop-step.points.items c.loop-step.at c.loop-step._step m (sym c.meeting_at.ensures ∙ c.in-Some.is) c.loop-step.invariant)
+    (walk_goes_on meetings c.args.last begun c.loop-step.points.items c.loop-step.at c.loop-step._step m (sym c.meeting_at.ensures.exact ∙ c.in-Some.is) c.loop-step.invariant)
 
 pub returns-in_default : goal.returns-in_default
-returns-in_default c = walk_stops c.args.meetings.now c.args.last c.args.points.now.items c.loop-step.points.items c.loop-step.at c.loop-step._step (sym c.meeting_at.ensures ∙ c.in_default.is) c.loop-step.invariant
+returns-in_default c = record { ok = walk_stops c.args.meetings.now c.args.last c.args.points.now.items c.loop-step.points.items c.loop-step.at c.loop-step._step (sym c.meeting_at.ensures.exact ∙ c.in_default.is) c.loop-step.invariant }
 
 pub returns : goal.returns
-returns c = walk_ends c.args.meetings.now c.args.last c.args.points.now.items c.loop-step.points.items c.loop-step.at c.loop-step._step (let l = c.loop-step-test.false in omega arith) c.loop-step.invariant
+returns c = record { ok = walk_ends c.args.meetings.now c.args.last c.args.points.now.items c.loop-step.points.items c.loop-step.at c.loop-step._step (let l = c.loop-step-test.false in omega arith) c.loop-step.invariant }

@@ -12,5 +12,5 @@ loop-step-preserved c =
     let from_in : c.next_place-at.result.from ≤ length c.args.points.now = omega arith in
     let before = c.loop-step.invariant.1 in
     let passed = none_counted c.args.s.now c.args.points.now d c.loop-step.at.stop c.next_place-at.result.from next.from from_in next.passed in
-    let counted = c.count_between-count.ensures in
+    let counted = c.count_between-count.ensures.exact in
     (next.within, omega arith)

@@ -11,4 +11,4 @@ returns c =
     let low : c.lower_left-low.result ≡ lower_left rect.low p = c.lower_left-low.ensures.exact ∙ (λ i. lower_left (c.low.ensures.exact i) p) in
     let high : c.upper_right-high.result ≡ upper_right rect.high p = c.upper_right-high.ensures.exact ∙ (λ i. upper_right (c.high.ensures.exact i) p) in
     let wide = corners_made c.lower_left-low.result c.upper_right-high.result c.in_ok-wide.wide (sym c.in_ok-wide.ensures.ok_part ∙ c.new.ensures.exact) in
-    grown rect c.in_ok-wide.wide p (wide ∙ (λ i. record { low = low i; high = high i }))
+    record { made = grown rect c.in_ok-wide.wide p (wide ∙ (λ i. record { low = low i; high = high i })) }

@@ -10,11 +10,11 @@ loop-place-init c = none_before c.args.buckets.now.near c.args.spots.now c.args.
 
 pub loop-place-preserved : goal.loop-place-preserved
 loop-place-preserved c =
-    one_before c.loop-place.place c.args.buckets.now.near c.args.spots.now c.args.points.now.items c.loop-place.points.items c.add_crossings_parted.new.points.items c.near_of.result.now c.near_of.ensures c.loop-place.invariant
-    c.in_ok-add_crossings_parted.ensures
+    one_before c.loop-place.place c.args.buckets.now.near c.args.spots.now c.args.points.now.items c.loop-place.points.items c.add_crossings_parted.new.points.items c.near_of.result.now c.near_of.ensures.exact c.loop-place.invariant
+    c.in_ok-add_crossings_parted.ensures.ok
 
 pub returns : goal.returns
 returns c =
     let m = c.count-place-end.ensures.exact in
     let n = c.count-place-end.ensures.lists in
-    fewer_before (length c.args.buckets.now.near) c.loop-place.place c.args.buckets.now.near c.args.spots.now c.args.points.now.items c.loop-place.points.items (omega arith) c.loop-place.invariant
+    record { ok = fewer_before (length c.args.buckets.now.near) c.loop-place.place c.args.buckets.now.near c.args.spots.now c.args.points.now.items c.loop-place.points.items (omega arith) c.loop-place.invariant }

@@ -8,7 +8,7 @@ use Rattle.hot_pixels.proofs.pairs.add_crossings_with.Goals as goal
 pub loop-j-preserved : goal.loop-j-preserved
 loop-j-preserved c =
     appends_more (λ j. option_to_list (crossing_of_pair c.args.spots.now c.args.i j)) (c.args.points.now.items ++ crossings_with c.args.spots.now c.args.i c.args.near.now) c.loop-j.points.items c.push_some.new.points.items (get_or c.args.near.now c.loop-j.j-index 0) c.args.near.now c.loop-j.j-index (omega arith) (get_or_default c.args.near.now c.loop-j.j-index 0 (get_or c.args.near.now c.loop-j.j-index 0) (omega arith)) c.loop-j.invariant
-    (c.in_ok-push_some.ensures ∙ ap (λ o. c.loop-j.points.items ++ option_to_list o) c.crossing_of_pair.ensures)
+    (c.in_ok-push_some.ensures.added ∙ ap (λ o. c.loop-j.points.items ++ option_to_list o) c.crossing_of_pair.ensures.exact)
 
 pub returns : goal.returns
-returns c = appends_all (λ j. option_to_list (crossing_of_pair c.args.spots.now c.args.i j)) (c.args.points.now.items ++ crossings_with c.args.spots.now c.args.i c.args.near.now) c.loop-j.points.items c.args.near.now c.loop-j.j-index (omega arith) c.loop-j.invariant
+returns c = record { added = appends_all (λ j. option_to_list (crossing_of_pair c.args.spots.now c.args.i j)) (c.args.points.now.items ++ crossings_with c.args.spots.now c.args.i c.args.near.now) c.loop-j.points.items c.args.near.now c.loop-j.j-index (omega arith) c.loop-j.invariant }

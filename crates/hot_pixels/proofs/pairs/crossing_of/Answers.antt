@@ -23,23 +23,29 @@ none_apart true o e = refl
 none_apart false o e = sym e
 
 pub returns-in_default : goal.returns-in_default
-returns-in_default c = no_first c.args.spots.now c.args.i c.args.j c.if-i-j.false (sym c.spot_at.ensures ∙ c.in_default.is)
+returns-in_default c = record { exact = no_first c.args.spots.now c.args.i c.args.j c.if-i-j.false (sym c.spot_at.ensures.exact ∙ c.in_default.is) }
 
 pub returns-in_default-spot_at : goal.returns-in_default-spot_at
-returns-in_default-spot_at c = no_second c.args.spots.now c.args.i c.args.j c.in-Some.s c.if-i-j.false (sym c.spot_at.ensures ∙ c.in-Some.is) (sym c.spot_at-2.ensures ∙ c.in_default-spot_at.is)
+returns-in_default-spot_at c = record { exact = no_second c.args.spots.now c.args.i c.args.j c.in-Some.s c.if-i-j.false (sym c.spot_at.ensures.exact ∙ c.in-Some.is) (sym c.spot_at-2.ensures.exact ∙ c.in_default-spot_at.is) }
 
 pub returns-then-is_beside : goal.returns-then-is_beside
 returns-then-is_beside c =
-    none_apart (share_end c.in-Some.s c.in-Some-spot_at.t) (crossing_pixel c.in-Some.s c.in-Some-spot_at.t) (c.is_beside.ensures c.if-is_beside.true)
-    ∙ both c.args.spots.now c.args.i c.args.j c.in-Some.s c.in-Some-spot_at.t c.if-i-j.false (sym c.spot_at.ensures ∙ c.in-Some.is) (sym c.spot_at-2.ensures ∙ c.in-Some-spot_at.is)
+    record {
+      exact = none_apart (share_end c.in-Some.s c.in-Some-spot_at.t) (crossing_pixel c.in-Some.s c.in-Some-spot_at.t) (c.is_beside.ensures.yes c.if-is_beside.true)
+          ∙ both c.args.spots.now c.args.i c.args.j c.in-Some.s c.in-Some-spot_at.t c.if-i-j.false (sym c.spot_at.ensures.exact ∙ c.in-Some.is) (sym c.spot_at-2.ensures.exact ∙ c.in-Some-spot_at.is);
+    }
 
 pub returns-then-share_end : goal.returns-then-share_end
 returns-then-share_end c =
-    sym (ap (λ (b : Bool). cond b None (crossing_pixel c.in-Some.s c.in-Some-spot_at.t)) (sym c.share_end.ensures ∙ c.if-share_end.true))
-    ∙ both c.args.spots.now c.args.i c.args.j c.in-Some.s c.in-Some-spot_at.t c.if-i-j.false (sym c.spot_at.ensures ∙ c.in-Some.is) (sym c.spot_at-2.ensures ∙ c.in-Some-spot_at.is)
+    record {
+      exact = sym (ap (λ (b : Bool). cond b None (crossing_pixel c.in-Some.s c.in-Some-spot_at.t)) (sym c.share_end.ensures.exact ∙ c.if-share_end.true))
+          ∙ both c.args.spots.now c.args.i c.args.j c.in-Some.s c.in-Some-spot_at.t c.if-i-j.false (sym c.spot_at.ensures.exact ∙ c.in-Some.is) (sym c.spot_at-2.ensures.exact ∙ c.in-Some-spot_at.is);
+    }
 
 pub returns : goal.returns
 returns c =
-    c.crossing_pixel.ensures.exact
-    ∙ sym (ap (λ (b : Bool). cond b None (crossing_pixel c.in-Some.s c.in-Some-spot_at.t)) (sym c.share_end.ensures ∙ c.if-share_end.false))
-    ∙ both c.args.spots.now c.args.i c.args.j c.in-Some.s c.in-Some-spot_at.t c.if-i-j.false (sym c.spot_at.ensures ∙ c.in-Some.is) (sym c.spot_at-2.ensures ∙ c.in-Some-spot_at.is)
+    record {
+      exact = c.crossing_pixel.ensures.exact
+          ∙ sym (ap (λ (b : Bool). cond b None (crossing_pixel c.in-Some.s c.in-Some-spot_at.t)) (sym c.share_end.ensures.exact ∙ c.if-share_end.false))
+          ∙ both c.args.spots.now c.args.i c.args.j c.in-Some.s c.in-Some-spot_at.t c.if-i-j.false (sym c.spot_at.ensures.exact ∙ c.in-Some.is) (sym c.spot_at-2.ensures.exact ∙ c.in-Some-spot_at.is);
+    }

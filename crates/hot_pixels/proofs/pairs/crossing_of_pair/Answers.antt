@@ -10,4 +10,4 @@ either_way spots i j false = refl
 pub returns : goal.returns
 returns c =
     let spots = c.args.spots.now in
-    c.crossing_of.ensures ∙ (λ k. crossing_at spots (c.first_of.ensures k) (c.second_of.ensures k)) ∙ either_way spots c.args.i c.args.j (ltb c.args.i c.args.j)
+    record { exact = c.crossing_of.ensures.exact ∙ (λ k. crossing_at spots (c.first_of.ensures.exact k) (c.second_of.ensures.exact k)) ∙ either_way spots c.args.i c.args.j (ltb c.args.i c.args.j) }

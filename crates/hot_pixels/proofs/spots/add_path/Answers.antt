@@ -7,4 +7,4 @@ use Rattle.hot_pixels.proofs.spots.add_path.Goals as goal
 pub returns : goal.returns
 returns c =
     let e = path_begins c.args.path.now c.index-path-0.result (grind (arith, nat_tests)) c.index-path-0.is in
-    subst (λ (t : List Segment). OnOk c.add_steps.result (c.add_steps.new.spots.items ≡ c.args.spots.now.items ++ t)) e c.add_steps.ensures
+    record { added = subst (λ (t : List Segment). OnOk c.add_steps.result (c.add_steps.new.spots.items ≡ c.args.spots.now.items ++ t)) e c.add_steps.ensures.added }

@@ -7,4 +7,4 @@ pub loop-p-preserved : goal.loop-p-preserved
 loop-p-preserved c = steps_more (c.args.spots.now.items ++ spots_after c.args.from c.args.path.now) c.loop-p.spots.items c.push.new.self.items c.loop-p.last c.p-item.result c.args.path.now c.loop-p.p-index c.new.result (omega arith) c.p-item.is c.loop-p.invariant c.in_ok-push.ensures.items c.new.ensures.made
 
 pub returns : goal.returns
-returns c = steps_all (c.args.spots.now.items ++ spots_after c.args.from c.args.path.now) c.loop-p.spots.items c.loop-p.last c.args.path.now c.loop-p.p-index (omega arith) c.loop-p.invariant
+returns c = record { added = steps_all (c.args.spots.now.items ++ spots_after c.args.from c.args.path.now) c.loop-p.spots.items c.loop-p.last c.args.path.now c.loop-p.p-index (omega arith) c.loop-p.invariant }

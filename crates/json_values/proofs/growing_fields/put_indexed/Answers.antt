@@ -17,4 +17,4 @@ push_indexed-requires-clause-new c =
 pub returns-in-Some-clause-index : goal.returns-in-Some-clause-index
 returns-in-Some-clause-index c =
     let known : list_any (bytes_eq c.args.name) (field_names c.args.fields.now) ≡ true = subst (λ (n : List ℕ). list_any (bytes_eq n) (field_names c.args.fields.now) ≡ true) c.as_str.ensures.lent (known_key c.as_str.result.now c.args.names.now.keys c.args.fields.now true c.requires (sym c.in-Some.ensures.found)) in
-    inr (index_kept _ c.args.fields.now c.set.new.self c.args.name _ c.requires known c.set.ensures)
+    inr (index_kept _ c.args.fields.now c.set.new.self c.args.name _ c.requires known c.set.ensures.exact)

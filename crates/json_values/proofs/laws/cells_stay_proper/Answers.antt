@@ -2,4 +2,4 @@ use Rattle.json_values.proofs.PrintedCells.{cell_proper}
 use Rattle.json_values.proofs.laws.cells_stay_proper.Goals as goal
 
 pub returns : goal.returns
-returns c = cell_proper
+returns c = record { holds = cell_proper }

@@ -11,6 +11,6 @@ print_escape-requires c = stops_at c.loop-out.rest.now c.plain_count-n.result c.
 
 pub loop-out-preserved : goal.loop-out-preserved
 loop-out-preserved c = (
-  escaped_step c.loop-out.out _ _ c.loop-out.rest.now _ c.plain_count-n.result c.plain_count-n.ensures.count (omega arith) c.in_ok-extend.ensures.ok c.in_ok-print_escape.ensures.ok c.behind-rest.ensures ∙ c.loop-out.invariant.0,
+  escaped_step c.loop-out.out _ _ c.loop-out.rest.now _ c.plain_count-n.result c.plain_count-n.ensures.count (omega arith) c.in_ok-extend.ensures.ok c.in_ok-print_escape.ensures.ok c.past-rest.ensures.exact ∙ c.loop-out.invariant.0,
   begins_on _ _ _ _ (begins_on _ _ _ _ c.loop-out.invariant.1 c.in_ok-extend.ensures.ok) c.in_ok-print_escape.ensures.ok,
 )

@@ -11,6 +11,6 @@ loop-i-preserved c =
     elim c.if-not-stands_at.branch [
       | then-not-stands_at+in_ok-add_name w ↦ rw w.names-is (name_added (seen_names c.args.names.now.keys) (seen_names c.loop-i.names.keys) _ c.args.fields.now c.loop-i.i c.index-fields-i.result _ l c.as_str-name.ensures.lent c.loop-i.invariant.0 w.in_ok-add_name.ensures.names, w.in_ok-add_name.ensures.unique)
       | else-not-stands_at w ↦
-          let there : slice_get (seen_names c.loop-i.names.keys) c.loop-i.i ≡ Some c.as_str-name.result.now = subst (λ (ks : List Name). slice_get (seen_names ks) c.loop-i.i ≡ Some c.as_str-name.result.now) c.as_slice.ensures.keys (c.stands_at.ensures w.if-not-stands_at.false) in
+          let there : slice_get (seen_names c.loop-i.names.keys) c.loop-i.i ≡ Some c.as_str-name.result.now = subst (λ (ks : List Name). slice_get (seen_names ks) c.loop-i.i ≡ Some c.as_str-name.result.now) c.as_slice.ensures.keys (c.stands_at.ensures.yes w.if-not-stands_at.false) in
           rw w.names-is (name_stays (seen_names c.args.names.now.keys) (seen_names c.loop-i.names.keys) c.args.fields.now c.loop-i.i c.index-fields-i.result _ c.loop-i.i l c.as_str-name.ensures.lent c.loop-i.invariant.0 there, c.loop-i.invariant.1)
     ]

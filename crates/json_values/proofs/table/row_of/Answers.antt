@@ -24,10 +24,10 @@ loop-i-preserved c =
     (subst (λ (fs : NamedValues). AreDistinctNames (map (λ f. f.0) fs)) c.fields.view_is c.fields.invariant.1)
     (subst (λ (name : List ℕ). IfSome place (λ i. slice_get names i ≡ Some name)) c.as_str.ensures.lent c.place_of-place.ensures.some)
     (subst (λ (name : List ℕ). IfNone place (list_any (bytes_eq name) names ≡ false)) c.as_str.ensures.lent c.place_of-place.ensures.none)
-    c.loop-i.invariant c.set_value.ensures)
+    c.loop-i.invariant c.set_value.ensures.exact)
 
 pub returns : goal.returns
 returns c =
     let fs = c.args.fields in
     let end = YieldsList-end (YieldsList-from_enumerate (YieldsList-from_vec fs (cc) (cc)) (cc)) c.loop-i.yielded _ c.loop-i.yielded_by _ c.next.new.self c.in-None.is c.next.ensures.steps in
-    c.loop-i.invariant ∙ row_done (seen_names c.args.names.now.keys) fs (length c.loop-i.yielded) (end.1 ∙ length-enumerate_from 0 fs)
+    record { exact = c.loop-i.invariant ∙ row_done (seen_names c.args.names.now.keys) fs (length c.loop-i.yielded) (end.1 ∙ length-enumerate_from 0 fs) }

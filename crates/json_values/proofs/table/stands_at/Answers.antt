@@ -7,6 +7,8 @@ use Rattle.json_values.proofs.NamedValues.{seen_at}
 use Rattle.json_values.proofs.table.stands_at.Goals as goal
 
 pub returns-in-Some : goal.returns-in-Some
-returns-in-Some c = λ t.
-    let e : slice_get c.args.names.now c.args.place ≡ Some c.in-Some.there.now = grind (arith, common_steps, gets, c.get.ensures.lookup) in
-    seen_at c.args.names.now c.args.place c.in-Some.there.now c.args.name.now e (ap (λ (n : List ℕ). bytes_eq n c.args.name.now) (sym c.as_str.ensures.value) ∙ sym c.eq.ensures ∙ t)
+returns-in-Some c = record {
+  yes = λ t.
+      let e : slice_get c.args.names.now c.args.place ≡ Some c.in-Some.there.now = grind (arith, common_steps, gets, c.get.ensures.lookup) in
+      seen_at c.args.names.now c.args.place c.in-Some.there.now c.args.name.now e (ap (λ (n : List ℕ). bytes_eq n c.args.name.now) (sym c.as_str.ensures.value) ∙ sym c.eq.ensures ∙ t);
+}

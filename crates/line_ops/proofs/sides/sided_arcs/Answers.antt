@@ -9,8 +9,8 @@ pub loop-n-preserved : goal.loop-n-preserved
 loop-n-preserved c =
     let t = c.args.f.now in
     let sets = c.args.sets.now in
-    c.in_ok-push_sided.ensures
-    ∙ (λ j. c.loop-n.invariant j ++ option_to_list ((c.sides_of.ensures sets c.in_ok-owners.ensures.exact ∙ ap (sided t sets) c.new.ensures.made) j))
+    c.in_ok-push_sided.ensures.added
+    ∙ (λ j. c.loop-n.invariant j ++ option_to_list ((c.sides_of.ensures.exact sets c.in_ok-owners.ensures.exact ∙ ap (sided t sets) c.new.ensures.made) j))
     ∙ sym (among_more t sets c.loop-n.n)
 
 pub returns-clause-there : goal.returns-clause-there

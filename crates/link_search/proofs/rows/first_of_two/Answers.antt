@@ -11,7 +11,7 @@ returns-then-turn-lt0 c =
     let f = c.args.first in
     let n = c.args.next in
     let fits : FitsSigned w128 c.turn.result = search rules in
-    let e : c.turn.result ≡ cross f.link n.link = c.turn.ensures ∙ (λ i. cross (record { start = c.low.ensures.lesser i; stop = c.high.ensures.greater i }) (record { start = (c.low.ensures.lesser ∙ sym c.requires.same) i; stop = c.high-2.ensures.greater i })) in
+    let e : c.turn.result ≡ cross f.link n.link = c.turn.ensures.exact ∙ (λ i. cross (record { start = c.low.ensures.lesser i; stop = c.high.ensures.greater i }) (record { start = (c.low.ensures.lesser ∙ sym c.requires.same) i; stop = c.high-2.ensures.greater i })) in
     let t = simp to_z-of_z at c.if-turn-lt0.true in
     let m : c.turn.result <ℤ pos 0 = omega (arith, ints) in
     let less : cross f.link n.link <ℤ pos 0 = subst (λ (z : ℤ). z <ℤ pos 0) e m in
@@ -28,7 +28,7 @@ returns-else-turn-lt0 c =
     let f = c.args.first in
     let n = c.args.next in
     let fits : FitsSigned w128 c.turn.result = search rules in
-    let e : c.turn.result ≡ cross f.link n.link = c.turn.ensures ∙ (λ i. cross (record { start = c.low.ensures.lesser i; stop = c.high.ensures.greater i }) (record { start = (c.low.ensures.lesser ∙ sym c.requires.same) i; stop = c.high-2.ensures.greater i })) in
+    let e : c.turn.result ≡ cross f.link n.link = c.turn.ensures.exact ∙ (λ i. cross (record { start = c.low.ensures.lesser i; stop = c.high.ensures.greater i }) (record { start = (c.low.ensures.lesser ∙ sym c.requires.same) i; stop = c.high-2.ensures.greater i })) in
     let t = simp to_z-of_z at c.if-turn-lt0.false in
     let m : pos 0 ≤ℤ c.turn.result = omega (arith, ints) in
     record { exact = record { one = inl refl; to_next = subst (λ (z : ℤ). pos 0 ≤ℤ z) e m; to_others = λ k o h. h } }

@@ -12,4 +12,4 @@ pub returns-clause-ok : goal.returns-clause-ok
 returns-clause-ok c =
     let ended : (c.loop-count.count ≡ 0) ⊎ (c.loop-count.n % 10 ≢ 0) = elim c.loop-count-test.branch [ then-loop-count-test+else-n-eq0 w ↦ inr w.if-n-eq0.false | else-loop-count-test w ↦ inl (omega (arith, w.loop-count-test.false)) ] in
     let room : length (take c.loop-count.count (replicate 18 48)) ≡ c.loop-count.count = length-take-le c.loop-count.count (replicate 18 48) c.loop-count.invariant.0 in
-    on_ok_weaker c.extend.result (λ e. e ∙ ap (λ (ds : List ℕ). c.args.out.now ++ ds) (c.write_digits.ensures ∙ ap (λ (k : ℕ). last_digits k c.loop-count.n) room ∙ sym (trim_end c.loop-count.count c.loop-count.n ended) ∙ sym c.loop-count.invariant.1)) c.extend.ensures.ok
+    on_ok_weaker c.extend.result (λ e. e ∙ ap (λ (ds : List ℕ). c.args.out.now ++ ds) (c.write_digits.ensures.exact ∙ ap (λ (k : ℕ). last_digits k c.loop-count.n) room ∙ sym (trim_end c.loop-count.count c.loop-count.n ended) ∙ sym c.loop-count.invariant.1)) c.extend.ensures.ok

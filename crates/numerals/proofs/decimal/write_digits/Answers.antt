@@ -7,4 +7,4 @@ loop-i-preserved c =
     (omega (arith, length-set {A = ℕ}), digits_step c.loop-i.room _ c.loop-i.i c.loop-i.n c.args.n (omega arith) c.loop-i.invariant.0 c.loop-i.invariant.1)
 
 pub returns : goal.returns
-returns c = digits_done c.loop-i.room c.loop-i.i c.loop-i.n c.args.n _ c.loop-i-test.false c.loop-i.auto.room c.loop-i.invariant.1
+returns c = record { exact = digits_done c.loop-i.room c.loop-i.i c.loop-i.n c.args.n _ c.loop-i-test.false c.loop-i.auto.room c.loop-i.invariant.1 }

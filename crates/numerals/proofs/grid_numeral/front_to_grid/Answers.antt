@@ -9,4 +9,4 @@ pub returns : goal.returns
 returns c =
     let fits : FitsSigned w64 c.in_ok-number.number = search rules in
     let is : grid_at c.args.places (Some (plain_numeral c.in_ok-plain.plain)) ≡ Some c.in_ok-number.number = sym (c.in_ok-number.ensures.exact) in
-    simp to_z-of_z (front_grid c.args.places c.in_ok-plain.size c.in_ok-number.number c.in_ok-plain.plain c.args.text.now c.in_ok-plain.ensures is)
+    record { found = simp to_z-of_z (front_grid c.args.places c.in_ok-plain.size c.in_ok-number.number c.in_ok-plain.plain c.args.text.now c.in_ok-plain.ensures.found is) }

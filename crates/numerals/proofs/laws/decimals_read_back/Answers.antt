@@ -2,4 +2,4 @@ use Rattle.numerals.proofs.RoundTrip.{reads_back}
 use Rattle.numerals.proofs.laws.decimals_read_back.Goals as goal
 
 pub returns : goal.returns
-returns c units l = reads_back units l
+returns c = record { holds = λ units l. reads_back units l }

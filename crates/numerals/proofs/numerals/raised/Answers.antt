@@ -7,4 +7,4 @@ pub loop-preserved : goal.loop-preserved
 loop-preserved c = raised_step c.args.n units_cap c.loop.counter c.loop.n c.min-n.result c.loop.invariant c.min-n.ensures
 
 pub returns : goal.returns
-returns c = raised_end c.args.n c.args.power c.loop.counter c.loop.n (omega (arith, c.loop-test.false, c.min-end.ensures)) c.loop.invariant
+returns c = record { exact = raised_end c.args.n c.args.power c.loop.counter c.loop.n (omega (arith, c.loop-test.false, c.min-end.ensures)) c.loop.invariant }

@@ -11,7 +11,7 @@ pub returns : goal.returns
 returns c =
     let number = c.front_number-number.result.0 in
     let count = c.front_number-number.result.1 in
-    let behind = c.in-Some.behind.now in
+    let past = c.in-Some.past.now in
     let h = c.front_number-number.ensures in
-    let ends = subst (λ (xs : List ℕ). NextFails is_numeric xs) c.split_at.ensures.back (c.goes_on.ensures c.if-goes_on.false) in
-    point_front c.args.n number count c.args.text.now behind c.in-Some.ensures.some (is_fraction c.args.n number count behind h.number h.count c.if-count-eq0.false (omega (arith, h.fits, c.requires.few, ap length c.in-Some.ensures.some))) ends h.fits
+    let ends = subst (λ (xs : List ℕ). NextFails is_numeric xs) c.split_at.ensures.back (c.goes_on.ensures.no c.if-goes_on.false) in
+    record { found = point_front c.args.n number count c.args.text.now past c.in-Some.ensures.some (is_fraction c.args.n number count past h.number h.count c.if-count-eq0.false (omega (arith, h.fits, c.requires.few, ap length c.in-Some.ensures.some))) ends h.fits }

@@ -21,7 +21,7 @@ loop-k-preserved c =
     let counted = points_counted arcs arc in
     let same = ap (λ (ps : Path). length ps) along_is in
     let x_is : x ≡ get_or all k x =
-    c.index-along-place_along.is ∙ ap (λ (n : ℕ). get_or along n x) c.place_along.ensures ∙ (λ i. get_or (along_is i) (cond arc.is_reversed (length (along_is i) - 1 - k) k) x)
+    c.index-along-place_along.is ∙ ap (λ (n : ℕ). get_or along n x) c.place_along.ensures.exact ∙ (λ i. get_or (along_is i) (cond arc.is_reversed (length (along_is i) - 1 - k) k) x)
     ∙ point_along arcs arc k x (omega arith) in
     c.in_ok-push.ensures.items ∙ ap (λ (xs : Path). xs ++ x ∷ []) c.loop-k.invariant ∙ append_assoc old (take k all) (x ∷ [])
     ∙ ap (λ (xs : Path). old ++ xs) (ap (λ (y : GridPoint). take k all ++ y ∷ []) x_is ∙ sym (take_more all k x (omega arith)))

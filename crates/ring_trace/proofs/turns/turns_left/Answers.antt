@@ -22,6 +22,6 @@ returns c =
     let p_is = get_or_read points (k - 1) p (omega arith) c.index-points-least.is (point_at [] 0) in
     let q_is = get_or_read points k q within c.index-points-least-2.is (point_at [] 0) in
     let r_is = c.point_after.ensures.exact (point_at [] 0) in
-    let v : c.turn.result ≡ turn_at_least points = c.turn.ensures ∙ sym (turn_at p q r) ∙ (λ i. turn (at (p_is i)) (at (q_is i)) (at (r_is i))) ∙ sym (turn_is points k (omega arith) h) in
+    let v : c.turn.result ≡ turn_at_least points = c.turn.ensures.exact ∙ sym (turn_at p q r) ∙ (λ i. turn (at (p_is i)) (at (q_is i)) (at (r_is i))) ∙ sym (turn_is points k (omega arith) h) in
     let f : FitsSigned w128 c.turn.result = search rules in
     record { exact = simp to_z-of_z (ap (int_lt (pos 0)) v) }

@@ -74,10 +74,10 @@ loop-i-preserved g c =
     let found : ReadSource = record { owner = source.owner; layers = c.in-Ok.layers } in
     let kept : map layers_of c.keep.new.all.items ≡ map layers_of c.loop-i.all.items ++ c.in-Ok.layers ∷ [] =
     ap (map layers_of) c.in-Ok-keep.ensures.kept ∙ map-append layers_of c.loop-i.all.items (found ∷ []) in
-    let behind = c.read_source-read.new.budget in
-    let given = given_on c.args.places (take c.loop-i.i xs) whole_budget before c.loop-i.budget middle (map layers_of c.loop-i.all.items) source behind after c.in-Ok.layers
+    let past = c.read_source-read.new.budget in
+    let given = given_on c.args.places (take c.loop-i.i xs) whole_budget before c.loop-i.budget middle (map layers_of c.loop-i.all.items) source past after c.in-Ok.layers
     c.loop-i.invariant.given c.in-Ok.ensures.gives c.read_source-read.ensures.grew in
-    let in_order = subst (λ (ys : List SourceWord). SourcesGive c.args.places ys whole_budget before behind after (map layers_of c.loop-i.all.items ++ c.in-Ok.layers ∷ [])) (sym more) given in
+    let in_order = subst (λ (ys : List SourceWord). SourcesGive c.args.places ys whole_budget before past after (map layers_of c.loop-i.all.items ++ c.in-Ok.layers ∷ [])) (sym more) given in
     record {
       grew = grew_on before middle after c.loop-i.invariant.grew c.read_source-read.ensures.grew;
       writes = none_fell_on _ _ _ c.loop-i.invariant.writes c.read_source-read.ensures.writes;
@@ -87,5 +87,5 @@ loop-i-preserved g c =
           ∙ map-append owner_of c.loop-i.all.items (found ∷ [])
           ∙ ap (λ (owners : List Owner). owners ++ source.owner ∷ []) c.loop-i.invariant.owners
           ∙ sym (ap (map word_owner) more ∙ map-append word_owner (take c.loop-i.i xs) (source ∷ []));
-      given = subst (λ (ls : List (List LayerContent)). SourcesGive c.args.places (take (c.loop-i.i + 1) xs) whole_budget before behind after ls) (sym kept) in_order;
+      given = subst (λ (ls : List (List LayerContent)). SourcesGive c.args.places (take (c.loop-i.i + 1) xs) whole_budget before past after ls) (sym kept) in_order;
     }

@@ -6,7 +6,7 @@ use Rattle.run_state.specs.declared.refusal.RefuseWhy.{RefuseWhy}
 use Rattle.run_state.specs.declared.state.HeldLayer.{HeldLayer}
 use Rattle.run_state.proofs.Stops.{if_err_on}
 use Rattle.run_steps.specs.Refusals.{FailsEach, RefusesEach, unfit_each}
-use Rattle.run_steps.proofs.Refusals.{stops_behind}
+use Rattle.run_steps.proofs.Refusals.{stops_after}
 use Rattle.run_steps.proofs.commands.changed_each.Goals as goal
 
 pub returns-in-Ok-clause-accepted : goal.returns-in-Ok-clause-accepted
@@ -26,4 +26,4 @@ returns-in-Ok-clause-stops c =
     let action = c.args.action.now in
     let fit : unfit_each base layers command action ≡ None = subst (λ (seen : List HeldLayer). unfit_each base seen command action ≡ None) c.deref.ensures.value (sym c.in-Ok.ensures.exact) in
     if_err_on (StopsAs (FailsEach base layers command action)) (StopsAs (RefusesEach base layers command action)) c.each_changed.result
-    (λ stop h. stops_behind (λ (told : Option RefuseWhy). unfit_each base layers command action ≡ told) (FailsEach base layers command action) stop fit h) c.each_changed.ensures.stops
+    (λ stop h. stops_after (λ (told : Option RefuseWhy). unfit_each base layers command action ≡ told) (FailsEach base layers command action) stop fit h) c.each_changed.ensures.stops

@@ -30,6 +30,6 @@ returns c =
         picture = picture;
         shows = record { name = refl; kind = refl; table = refl; shapes = subst (λ (shapes : List Shape). AllZip (IsDrawn plane) shapes text.drawn) c.deref.ensures.value text.each };
         is = geojson_written c.args.places picture c.as_slice-2.result.now c.as_slice-rows.result.now text.drawn c.in_ok-out.out c.write_shapes.new.out c.end_collection.new.out
-            (c.as_slice-2.ensures.value ∙ c.in_ok-keys.ensures ∙ ap (map key_text) names) rows refl c.in_ok-out.ensures text.is (c.in_ok-end_collection.ensures text.drawn many);
+            (c.as_slice-2.ensures.value ∙ c.in_ok-keys.ensures.exact ∙ ap (map key_text) names) rows refl c.in_ok-out.ensures.exact text.is (c.in_ok-end_collection.ensures.written text.drawn many);
       };
     }

@@ -43,7 +43,7 @@ loop-i-preserved c =
       | in-Paths+in_ok-drawn-in-Paths w ↦ rw (w.in-Paths.is, w.drawn-is) w.in_ok-drawn-in-Paths.ensures.drawn
     ] in
     written_on plane c.args.places c.args.keys.now c.args.rows.now c.args.shapes.now c.loop-i.i c.index-rows-i.result s drawn c.args.out.now c.loop-i.out c.write_next_feature.new.out
-    c.requires.count c.loop-i-test.true c.index-rows-i.is c.index-shapes-i.is c.loop-i.invariant is_drawn c.in_ok-write_next_feature.ensures
+    c.requires.count c.loop-i-test.true c.index-rows-i.is c.index-shapes-i.is c.loop-i.invariant is_drawn c.in_ok-write_next_feature.ensures.written
 
 pub returns : goal.returns
 returns c =

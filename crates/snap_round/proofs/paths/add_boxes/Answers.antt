@@ -13,7 +13,7 @@ loop-b-preserved c =
     let all = c.args.d.now.boxes in
     let is : box ≡ get_or all c.loop-b.b box = sym (get_or_from_slice_get all c.loop-b.b box box c.box_of.ensures.found) in
     let within : c.loop-b.b < length all = slice_get_within all c.loop-b.b box c.box_of.ensures.found in
-    let snapped : without_repeats c.in_ok-joined.joined ≡ f box = c.in_ok-joined.ensures.snapped ∙ ap f c.as_slice.ensures.all in
+    let snapped : without_repeats c.in_ok-joined.joined ≡ f box = c.in_ok-joined.ensures.made.snapped ∙ ap f c.as_slice.ensures.all in
     c.in_ok-add_box_path.ensures.ok
     ∙ (λ i. record (c.loop-b.invariant i) { boxes = (c.loop-b.invariant i).boxes ++ snapped i ∷ [] })
     ∙ (λ i. record before { boxes = put_more (f box) before.boxes (map f (take c.loop-b.b all)) (map f (take (c.loop-b.b + 1) all)) (mapped_more f all c.loop-b.b box within is) i })

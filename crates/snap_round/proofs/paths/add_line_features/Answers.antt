@@ -16,7 +16,7 @@ loop-f-preserved c =
     let within : c.loop-f.f < length all = slice_get_within all c.loop-f.f items found in
     let grown : c.add_feature.new.self ≡ record c.loop-f.out { lines = c.loop-f.out.lines ++ [] ∷ [] } = λ i. (c.in_ok-add_feature.ensures.ok i).1 in
     let f = map (snapped_path c.args.hot.now.points) in
-    c.in_ok-add_lines.ensures
+    c.in_ok-add_lines.ensures.ok
     ∙ (λ i. with_lines (f (c.as_slice.ensures.all i)) (grown i))
     ∙ (λ i. with_lines (f items) (record (c.loop-f.invariant i) { lines = (c.loop-f.invariant i).lines ++ [] ∷ [] }))
     ∙ (λ i. record before { lines = (in_new (f items) (before.lines ++ map f (take c.loop-f.f all)) ∙ put_more (f items) before.lines (map f (take c.loop-f.f all)) (map f (take (c.loop-f.f + 1) all)) (mapped_more f all c.loop-f.f items within is)) i })

@@ -21,7 +21,7 @@ loop-line-preserved c =
     let line = c.line-item.result in
     let done = map f (take c.loop-line.line-index c.args.lines.now) in
     let before = c.args.out.now in
-    let snapped : without_repeats c.in_ok-joined.joined ≡ f line = c.in_ok-joined.ensures.snapped ∙ ap f c.as_slice.ensures.all in
+    let snapped : without_repeats c.in_ok-joined.joined ≡ f line = c.in_ok-joined.ensures.made.snapped ∙ ap f c.as_slice.ensures.all in
     c.in_ok-add_line.ensures.ok
     ∙ (λ i. record (c.loop-line.invariant i) { lines = add_item (snapped i) (c.loop-line.invariant i).lines })
     ∙ (λ i. record before { lines = (one_more (f line) done before.lines ∙ ap (λ (ps : List Path). with_last (λ (qs : List Path). qs ++ ps) before.lines) (mapped_more f c.args.lines.now c.loop-line.line-index line (omega arith) c.line-item.is)) i })

@@ -32,7 +32,7 @@ loop-polygon-preserved c =
     let polygon = c.polygon-item.result in
     let done = map f (take c.loop-polygon.polygon-index c.args.polygons.now) in
     let before = c.args.out.now in
-    c.in_ok-add_rings.ensures
+    c.in_ok-add_rings.ensures.ok
     ∙ (λ i. with_rings (f (c.as_slice.ensures.all i)) (c.in_ok-add_polygon.ensures.ok i))
     ∙ (λ i. with_rings (f polygon) (record (c.loop-polygon.invariant i) { polygons = add_polygon (c.loop-polygon.invariant i).polygons }))
     ∙ (λ i. record before { polygons = (new_more_in (f polygon) done before.polygons ∙ ap (λ (ps : List Polygon). with_last (λ (qs : List Polygon). qs ++ ps) before.polygons) (mapped_more f c.args.polygons.now c.loop-polygon.polygon-index polygon (omega arith) c.polygon-item.is)) i })

@@ -23,7 +23,7 @@ loop-ring-preserved c =
     let ring = c.ring-item.result in
     let done = map f (take c.loop-ring.ring-index c.args.rings.now) in
     let before = c.args.out.now in
-    let snapped : without_repeats c.in_ok-joined.joined ≡ f ring = c.in_ok-joined.ensures.snapped ∙ ap f c.as_slice.ensures.all in
+    let snapped : without_repeats c.in_ok-joined.joined ≡ f ring = c.in_ok-joined.ensures.made.snapped ∙ ap f c.as_slice.ensures.all in
     c.in_ok-add_ring.ensures.ok
     ∙ (λ i. record (c.loop-ring.invariant i) { polygons = with_last (with_last (λ (ps : Polygon). ps ++ snapped i ∷ [])) (c.loop-ring.invariant i).polygons })
     ∙ (λ i. record before { polygons = (one_more_in (f ring) done before.polygons ∙ ap (λ (ps : Polygon). with_last (with_last (λ (qs : Polygon). qs ++ ps)) before.polygons) (mapped_more f c.args.rings.now c.loop-ring.ring-index ring (omega arith) c.ring-item.is)) i })

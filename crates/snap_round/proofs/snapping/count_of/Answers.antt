@@ -14,5 +14,7 @@ returns c =
     let d = c.args.d.now in
     let hot = c.in_ok-set.set in
     let is : hot ≡ ascending is_before (hot_points d) = c.in_ok-set.ensures.exact ∙ c.requires.hot in
-    IfOk-weaker _ (λ (count : ℕ). count ≡ sum_by (links_along hot) c.deref.result.now) (λ (count : ℕ). count ≡ link_count (snapped d))
-    (λ count e. e ∙ ap (sum_by (links_along hot)) (c.deref.ensures.value ∙ c.in_ok-spots.ensures) ∙ spots_count d c.requires.paths hot is) c.count_links.ensures
+    record {
+      exact = IfOk-weaker _ (λ (count : ℕ). count ≡ sum_by (links_along hot) c.deref.result.now) (λ (count : ℕ). count ≡ link_count (snapped d))
+          (λ count e. e ∙ ap (sum_by (links_along hot)) (c.deref.ensures.value ∙ c.in_ok-spots.ensures.exact) ∙ spots_count d c.requires.paths hot is) c.count_links.ensures.exact;
+    }

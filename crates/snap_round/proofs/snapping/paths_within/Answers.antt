@@ -15,7 +15,7 @@ pub returns-in-Ok-clause-exact : goal.returns-in-Ok-clause-exact
 returns-in-Ok-clause-exact c =
     let d = c.args.d.now in
     let paths = c.in-Ok.paths in
-    let whole : paths ≡ without_points (snapped d) = c.in-Ok.ensures ∙ ap without_points (snapped_alike d c.args.hot.now.points c.requires.hot) in
+    let whole : paths ≡ without_points (snapped d) = c.in-Ok.ensures.exact ∙ ap without_points (snapped_alike d c.args.hot.now.points c.requires.hot) in
     IfOk-weaker c.few_paths.result (λ (found : Option Drawing). IfSome found (λ few. few ≡ paths)) (λ (found : Option Drawing). IfSome found (λ few. few ≡ without_points (snapped d)))
     (λ found h. IfSome_then found h (λ few e. e ∙ whole)) c.few_paths.ensures.kept
 
@@ -23,7 +23,7 @@ pub returns-in-Ok-clause-few : goal.returns-in-Ok-clause-few
 returns-in-Ok-clause-few c =
     let d = c.args.d.now in
     let paths = c.in-Ok.paths in
-    let whole : paths ≡ without_points (snapped d) = c.in-Ok.ensures ∙ ap without_points (snapped_alike d c.args.hot.now.points c.requires.hot) in
+    let whole : paths ≡ without_points (snapped d) = c.in-Ok.ensures.exact ∙ ap without_points (snapped_alike d c.args.hot.now.points c.requires.hot) in
     let count : link_count paths ≡ link_count (snapped d) = ap link_count whole in
     IfOk-weaker c.few_paths.result (λ (found : Option Drawing). IfSome found (λ few. link_count paths ≤ c.args.most)) (λ (found : Option Drawing). IfSome found (λ few. link_count (snapped d) ≤ c.args.most))
     (λ found h. IfSome_then found h (λ few e. subst (λ (n : ℕ). n ≤ c.args.most) count e)) c.few_paths.ensures.few

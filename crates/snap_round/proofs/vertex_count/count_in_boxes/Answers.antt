@@ -6,4 +6,4 @@ pub loop-b-preserved : goal.loop-b-preserved
 loop-b-preserved c =
     let ring = c.box_of.result.now in
     let long : c.from.result ≡ length ring = search rules in
-    count_more length c.args.d.now.boxes c.loop-b.b ring c.loop-b.count c.in_ok-count.count c.box_of.ensures.found c.loop-b.invariant (c.in_ok-count.ensures ∙ ap (λ (n : ℕ). c.loop-b.count + n) long)
+    count_more length c.args.d.now.boxes c.loop-b.b ring c.loop-b.count c.in_ok-count.count c.box_of.ensures.found c.loop-b.invariant (c.in_ok-count.ensures.exact ∙ ap (λ (n : ℕ). c.loop-b.count + n) long)

@@ -9,4 +9,4 @@ loop-f-preserved c =
     let all = c.args.d.now.lines in
     let items = c.lines_of-lines.result.now in
     let found : slice_get all c.loop-f.f ≡ Some items = subst (λ (n : ℕ). slice_get all n ≡ Some items) c.new.ensures.made c.lines_of-lines.ensures.found in
-    count_more (sum_by length) all c.loop-f.f items c.loop-f.count c.in_ok-count.count found c.loop-f.invariant (c.in_ok-count.ensures ∙ ap (λ (n : ℕ). c.loop-f.count + n) (c.in_ok-count_in_rings.ensures ∙ ap (sum_by length) c.as_slice.ensures.all))
+    count_more (sum_by length) all c.loop-f.f items c.loop-f.count c.in_ok-count.count found c.loop-f.invariant (c.in_ok-count.ensures.exact ∙ ap (λ (n : ℕ). c.loop-f.count + n) (c.in_ok-count_in_rings.ensures.exact ∙ ap (sum_by length) c.as_slice.ensures.all))

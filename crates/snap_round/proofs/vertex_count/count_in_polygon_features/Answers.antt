@@ -9,4 +9,4 @@ loop-f-preserved c =
     let all = c.args.d.now.polygons in
     let items = c.rings_of-polygons.result.now in
     let found : slice_get all c.loop-f.f ≡ Some items = subst (λ (n : ℕ). slice_get all n ≡ Some items) c.new.ensures.made c.rings_of-polygons.ensures.found in
-    count_more (sum_by (sum_by length)) all c.loop-f.f items c.loop-f.count c.in_ok-count.count found c.loop-f.invariant (c.in_ok-count.ensures ∙ ap (λ (n : ℕ). c.loop-f.count + n) (c.in_ok-count_in_polygons.ensures ∙ ap (sum_by (sum_by length)) c.as_slice.ensures.all))
+    count_more (sum_by (sum_by length)) all c.loop-f.f items c.loop-f.count c.in_ok-count.count found c.loop-f.invariant (c.in_ok-count.ensures.exact ∙ ap (λ (n : ℕ). c.loop-f.count + n) (c.in_ok-count_in_polygons.ensures.exact ∙ ap (sum_by (sum_by length)) c.as_slice.ensures.all))

@@ -18,7 +18,7 @@ copy_within-requires-clause-start_le_end c =
     let place = end_within c.args.ids.now c.args.ends.now.items c.args.points.now.items c.loop-i.ends.items c.loop-i.points.items c.loop-i.kept c.loop-i.at c.loop-i.from c.loop-i.i h c.requires.cut_up here in
     let points_count = h.points_count in
     let length_now = c.loop-i.points.ok.0 in
-    let behind = h.points_behind in
+    let after = h.points_past in
     omega arith
 
 pub copy_within-requires-clause-in_bounds : goal.copy_within-requires-clause-in_bounds
@@ -32,7 +32,7 @@ copy_within-requires-clause-in_bounds c =
     let place = end_within c.args.ids.now c.args.ends.now.items c.args.points.now.items c.loop-i.ends.items c.loop-i.points.items c.loop-i.kept c.loop-i.at c.loop-i.from c.loop-i.i h c.requires.cut_up here in
     let points_count = h.points_count in
     let length_now = c.loop-i.points.ok.0 in
-    let behind = h.points_behind in
+    let after = h.points_past in
     omega arith
 
 pub copy_within-requires-clause-dest_in_bounds : goal.copy_within-requires-clause-dest_in_bounds
@@ -46,7 +46,7 @@ copy_within-requires-clause-dest_in_bounds c =
     let place = end_within c.args.ids.now c.args.ends.now.items c.args.points.now.items c.loop-i.ends.items c.loop-i.points.items c.loop-i.kept c.loop-i.at c.loop-i.from c.loop-i.i h c.requires.cut_up here in
     let points_count = h.points_count in
     let length_now = c.loop-i.points.ok.0 in
-    let behind = h.points_behind in
+    let after = h.points_past in
     omega arith
 
 pub overflow_sub-at : goal.overflow_sub-at
@@ -60,7 +60,7 @@ overflow_sub-at c =
     let place = end_within c.args.ids.now c.args.ends.now.items c.args.points.now.items c.loop-i.ends.items c.loop-i.points.items c.loop-i.kept c.loop-i.at c.loop-i.from c.loop-i.i h c.requires.cut_up here in
     let points_count = h.points_count in
     let length_now = c.loop-i.points.ok.0 in
-    let behind = h.points_behind in
+    let after = h.points_past in
     omega arith
 
 pub loop-i-preserved : goal.loop-i-preserved

@@ -19,7 +19,7 @@ loop-n-preserved c =
     (let e = c.len-n-end.ensures.count in let l = c.loop-n-test.true in omega arith)
     (read.is ∙ ap (λ (lists : List (List ℕ)). get_or lists c.loop-n.n read.result) c.as_slice.ensures.all)
     c.loop-n.invariant
-    (subst (λ (list : List ℕ). IsNumbered c.loop-n.n list old new) c.as_slice-in-loop-n.ensures.all c.in_ok-add_number.ensures)
+    (subst (λ (list : List ℕ). IsNumbered c.loop-n.n list old new) c.as_slice-in-loop-n.ensures.all c.in_ok-add_number.ensures.ok)
 
 pub returns : goal.returns
 returns c =

@@ -5,7 +5,7 @@ use Rattle.topo_io.proofs.writing.write_objects.Goals as goal
 
 pub loop-i-preserved : goal.loop-i-preserved
 loop-i-preserved c =
-    written_more (object_text c.args.numbering.now.numbers.items) (44 ∷ []) c.loop-i.out c.args.out.now c.write_comma.new.out c.write_object.new.out c.args.layers.now c.loop-i.i c.index-layers-i.result c.loop-i-test.true c.index-layers-i.is c.loop-i.invariant c.in_ok-write_comma.ensures c.in_ok-write_object.ensures
+    written_more (object_text c.args.numbering.now.numbers.items) (44 ∷ []) c.loop-i.out c.args.out.now c.write_comma.new.out c.write_object.new.out c.args.layers.now c.loop-i.i c.index-layers-i.result c.loop-i-test.true c.index-layers-i.is c.loop-i.invariant c.in_ok-write_comma.ensures.written c.in_ok-write_object.ensures.written
 
 pub returns : goal.returns
-returns c = c.loop-i.invariant ∙ ap (λ w. c.args.out.now ++ w) (all_shown (object_text c.args.numbering.now.numbers.items) (44 ∷ []) c.args.layers.now c.loop-i.i c.loop-i-test.false)
+returns c = record { written = c.loop-i.invariant ∙ ap (λ w. c.args.out.now ++ w) (all_shown (object_text c.args.numbering.now.numbers.items) (44 ∷ []) c.args.layers.now c.loop-i.i c.loop-i-test.false) }

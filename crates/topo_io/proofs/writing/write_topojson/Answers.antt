@@ -24,9 +24,9 @@ returns c =
           five [] (head_text c.args.places) (separated (44 ∷ []) (map (object_text (marks_before 0 (is_named (length arcs) layers))) layers)) (codes "},\"arcs\":[")
           (arcs_text (numbers_of_marks 0 (is_named (length arcs) layers)) arcs) (codes "]}\n")
           c.write_head.new.out c.write_objects.new.out c.extend.new.self c.write_arcs.new.out c.extend-2.new.self
-          (c.in_ok-write_head.ensures ∙ ap (λ w. w ++ head_text c.args.places) c.new-out.ensures.empty)
-          (c.in_ok-write_objects.ensures ∙ (λ i. c.write_head.new.out ++ separated (44 ∷ []) (map (object_text (numbers i)) (c.as_slice-2.ensures.all i))))
+          (c.in_ok-write_head.ensures.written ∙ ap (λ w. w ++ head_text c.args.places) c.new-out.ensures.empty)
+          (c.in_ok-write_objects.ensures.written ∙ (λ i. c.write_head.new.out ++ separated (44 ∷ []) (map (object_text (numbers i)) (c.as_slice-2.ensures.all i))))
           c.in_ok-extend.ensures.ok
-          (c.in_ok-write_arcs.ensures ∙ (λ i. c.extend.new.self ++ arcs_text ((c.as_slice-3.ensures.all ∙ used) i) arcs))
+          (c.in_ok-write_arcs.ensures.written ∙ (λ i. c.extend.new.self ++ arcs_text ((c.as_slice-3.ensures.all ∙ used) i) arcs))
           c.in_ok-extend-2.ensures.ok;
     }

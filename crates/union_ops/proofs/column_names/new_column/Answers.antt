@@ -38,7 +38,7 @@ returns-clause-named c =
     let within : place < length names = omega arith in
     let is : name ≡ get_or names place [] = place_of_name names name place c.place_or_end-place.ensures.place within in
     let first : c.index.result.now ≡ get_or untried place 0 = c.index.ensures ∙ get_or_default untried place c.index.result.now 0 l in
-    subst (IsNewName names name) (sym c.in_ok-text.ensures)
+    subst (IsNewName names name) (sym c.in_ok-text.ensures.exact)
     (name_numbered names untried name place number h within is (subst (λ (k : ℕ). IsFree names name k number) first c.in_ok-number.ensures.free) (omega arith))
 
 pub returns-clause-tried : goal.returns-clause-tried
@@ -57,7 +57,7 @@ returns-clause-tried c =
     let is : name ≡ get_or names place [] = place_of_name names name place c.place_or_end-place.ensures.place within in
     let first : c.index.result.now ≡ get_or untried place 0 = c.index.ensures ∙ get_or_default untried place c.index.result.now 0 l in
     let last : c.add_column-2.new.columns.names ≡ names ++ numbered name number ∷ [] =
-    c.in_ok-add_column-2.ensures.last ∙ ap (λ (n : Text). names ++ n ∷ []) (c.as_str.ensures.lent ∙ c.in_ok-text.ensures) in
+    c.in_ok-add_column-2.ensures.last ∙ ap (λ (n : Text). names ++ n ∷ []) (c.as_str.ensures.lent ∙ c.in_ok-text.ensures.exact) in
     subst (λ (ns : List Text). AreTried ns (set c.add_column-2.new.columns.untried.items place (number + 1))) (sym last)
     (subst (λ (us : List ℕ). AreTried (names ++ numbered name number ∷ []) (set us place (number + 1))) (sym c.in_ok-add_column-2.ensures.untried)
     (tried_after names untried name place number h within is (subst (λ (k : ℕ). IsFree names name k number) first c.in_ok-number.ensures.free)))

@@ -14,5 +14,7 @@ loop-sets-preserved c =
 
 pub returns : goal.returns
 returns c =
-    subst (λ (layers : List (List (List ℕ))). AreLayerOwners layers c.args.f.now.count c.loop-sets.owners.items)
-    (take_all c.loop-sets.sets-index c.as_slice-sets-items.result.now c.loop-sets-test.false ∙ c.as_slice-sets-items.ensures.all) c.loop-sets.invariant
+    record {
+      made = subst (λ (layers : List (List (List ℕ))). AreLayerOwners layers c.args.f.now.count c.loop-sets.owners.items)
+          (take_all c.loop-sets.sets-index c.as_slice-sets-items.result.now c.loop-sets-test.false ∙ c.as_slice-sets-items.ensures.all) c.loop-sets.invariant;
+    }

@@ -23,6 +23,6 @@ loop-step-preserved c =
     let s = c.in-Split.slabs in
     let f : FitsSigned w64 c.coordinate.result = search rules in
     let e : c.child_of-node.result ≡ c.in-Split.children + (s.last - slab_at s c.coordinate.result) = simp to_z-of_z at c.child_of-node.ensures.exact in
-    let m = e ∙ ap (λ (z : ℤ). c.in-Split.children + (s.last - slab_at s z)) c.coordinate.ensures in
+    let m = e ∙ ap (λ (z : ℤ). c.in-Split.children + (s.last - slab_at s z)) c.coordinate.ensures.exact in
     subst (λ (n : ℕ). IsOnWay c.self.inside.nodes.items c.self.inside.rects.items c.args.p n (c.loop-step._step + 1)) (sym m)
     (on_way_slab c.self.inside.nodes.items c.self.inside.rects.items c.args.p c.loop-step.node c.loop-step._step c.loop-step.invariant c.index.result.now c.index.ensures s c.in-Split.children c.in-Split.is)

@@ -9,7 +9,7 @@ invariant_of-result g c =
     let boxes = map g.T.Boxed.corners c.args.items.now in
     let forest = c.fit.new.forest in
     let grew : Grew 42 boxes (Holds c.in_ok-whole.whole) [] forest.nodes.items [] forest.rects.items [] forest.near (λ g. c.in_ok-top.top) = rw (c.new.ensures.items, c.new-2.ensures.items, c.new-3.ensures.empty, ← c.fit.ensures.nodes, ← c.fit.ensures.rects, ← c.fit.ensures.near) at c.in_ok-top.ensures.grew in
-    grown_leads boxes c.in_ok-whole.whole forest.nodes.items c.push.new.self.items forest.rects.items forest.near c.in_ok-top.top c.len-root.result c.in_ok-whole.ensures (omega (arith, forest.rects.ok.0))
+    grown_leads boxes c.in_ok-whole.whole forest.nodes.items c.push.new.self.items forest.rects.items forest.near c.in_ok-top.top c.len-root.result c.in_ok-whole.ensures.exact (omega (arith, forest.rects.ok.0))
     c.in_ok-push.ensures.items (omega (arith, c.len-root.ensures, forest.nodes.ok.0)) grew
 
 pub returns-clause-places : goal.returns-clause-places
@@ -17,6 +17,6 @@ returns-clause-places g c =
     let boxes = map g.T.Boxed.corners c.args.items.now in
     let forest = c.fit.new.forest in
     let grew : Grew 42 boxes (Holds c.in_ok-whole.whole) [] forest.nodes.items [] forest.rects.items [] forest.near (λ g. c.in_ok-top.top) = rw (c.new.ensures.items, c.new-2.ensures.items, c.new-3.ensures.empty, ← c.fit.ensures.nodes, ← c.fit.ensures.rects, ← c.fit.ensures.near) at c.in_ok-top.ensures.grew in
-    let l = grown_leads boxes c.in_ok-whole.whole forest.nodes.items c.push.new.self.items forest.rects.items forest.near c.in_ok-top.top c.len-root.result c.in_ok-whole.ensures (omega (arith, forest.rects.ok.0))
+    let l = grown_leads boxes c.in_ok-whole.whole forest.nodes.items c.push.new.self.items forest.rects.items forest.near c.in_ok-top.top c.len-root.result c.in_ok-whole.ensures.exact (omega (arith, forest.rects.ok.0))
     c.in_ok-push.ensures.items (omega (arith, c.len-root.ensures, forest.nodes.ok.0)) grew in
     λ p h. (let w = l.leads p h in (w.0, w.2))

@@ -17,7 +17,7 @@ loop-n-preserved c =
     (let e = c.len-n-end.ensures.count in let l = c.loop-n-test.true in omega arith)
     (read.is ∙ ap (λ (sets : List (List ℕ)). get_or sets c.loop-n.n read.result) c.as_slice.ensures.all)
     c.loop-n.invariant
-    (subst (λ (set : List ℕ). IsNumbered c.loop-n.n set old new) c.faces.ensures.all c.in_ok-add_owner.ensures)
+    (subst (λ (set : List ℕ). IsNumbered c.loop-n.n set old new) c.faces.ensures.all c.in_ok-add_owner.ensures.ok)
 
 pub returns-clause-numbers : goal.returns-clause-numbers
 returns-clause-numbers c = owners_below c.args.sets.now c.loop-n.n c.args.f.now.count (map (λ list. list.items) c.loop-n.lists.items) c.loop-n.invariant

@@ -6,5 +6,5 @@ use Rattle.face_sets.proofs.face_set.FaceSet.minus.Goals as goal
 
 pub invariant_of-result : goal.invariant_of-result
 invariant_of-result c =
-    subst IsStrictlyIncreasing (sym (c.in_ok-faces.ensures ∙ ap (filter (λ f. not (has nat_eq c.args.o.now f))) c.deref.ensures.value))
+    subst IsStrictlyIncreasing (sym (c.in_ok-faces.ensures.exact ∙ ap (filter (λ f. not (has nat_eq c.args.o.now f))) c.deref.ensures.value))
     (IsStrictlyIncreasing-filter (λ f. not (has nat_eq c.args.o.now f)) c.self.inside.faces.items c.self.invariant)

@@ -10,4 +10,4 @@ put_property-requires c =
 
 pub loop-i-preserved : goal.loop-i-preserved
 loop-i-preserved c =
-    one_property_more (fields_list c.args.object.now) c.loop-i.i c.loop-i.fields c.put_property.new.fields (let t = c.loop-i-test.true in let n = c.len-i-end.ensures.count in omega arith) c.loop-i.invariant c.in_ok-put_property.ensures
+    one_property_more (fields_list c.args.object.now) c.loop-i.i c.loop-i.fields c.put_property.new.fields (let t = c.loop-i-test.true in let n = c.len-i-end.ensures.count in omega arith) c.loop-i.invariant c.in_ok-put_property.ensures.ok

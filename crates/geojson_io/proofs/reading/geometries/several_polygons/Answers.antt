@@ -10,5 +10,7 @@ pub returns-in-List : goal.returns-in-List
 returns-in-List c =
     let r = c.each_polygon.result in
     let new = c.each_polygon.new.left in
-    subst (λ (j : Json). Answers (several_polygons c.args.places (json_value j)) c.args.left.now r new) (sym c.in-List.is)
-    (subst (λ (vs : List JsonValue). Answers (each_with_rings c.args.places vs) c.args.left.now r new) c.as_slice.ensures.all c.each_polygon.ensures)
+    record {
+      answers = subst (λ (j : Json). Answers (several_polygons c.args.places (json_value j)) c.args.left.now r new) (sym c.in-List.is)
+          (subst (λ (vs : List JsonValue). Answers (each_with_rings c.args.places vs) c.args.left.now r new) c.as_slice.ensures.all c.each_polygon.ensures.answers);
+    }

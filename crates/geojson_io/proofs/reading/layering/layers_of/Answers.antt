@@ -9,5 +9,5 @@ pub returns : goal.returns
 returns c =
     let there : c.as_slice-2.result.now ≡ c.as_slice-in-len1-up.result.now = c.as_slice-2.ensures.value ∙ sym c.as_slice-in-len1-up.ensures.value in
     let long : 2 ≤ length c.as_slice-in-len1-up.result.now = subst (λ (ks : List Kind). 2 ≤ length ks) there c.in-len1-up.len_at_least in
-    let kinds : c.as_slice-in-len1-up.result.now ≡ kinds_of c.args.features.items = c.as_slice-in-len1-up.ensures.value ∙ c.in_ok-kinds.ensures ∙ ap kinds_of c.as_slice.ensures.value in
-    IfOk-weaker c.split_layers.result _ _ (λ layers e. e ∙ several_layers c.args.name.now _ c.as_slice-in-len1-up.result.now c.args.features.items kinds long (search (rules, there))) c.split_layers.ensures
+    let kinds : c.as_slice-in-len1-up.result.now ≡ kinds_of c.args.features.items = c.as_slice-in-len1-up.ensures.value ∙ c.in_ok-kinds.ensures.exact ∙ ap kinds_of c.as_slice.ensures.value in
+    record { exact = IfOk-weaker c.split_layers.result _ _ (λ layers e. e ∙ several_layers c.args.name.now _ c.as_slice-in-len1-up.result.now c.args.features.items kinds long (search (rules, there))) c.split_layers.ensures.exact }

@@ -8,4 +8,4 @@ pub returns-in-len2-up : goal.returns-in-len2-up
 returns-in-len2-up c =
     let first = c.first-item.result in
     let last = c.last-item.result in
-    c.eq.ensures ∙ (λ i. int_eq_is first.x last.x i && int_eq_is first.y last.y i) ∙ closed_by_ends c.as_slice.result.now first last c.in-len2-up.len_at_least c.first-item.is c.last-item.is ∙ ap is_closed c.as_slice.ensures.all
+    record { exact = c.eq.ensures ∙ (λ i. int_eq_is first.x last.x i && int_eq_is first.y last.y i) ∙ closed_by_ends c.as_slice.result.now first last c.in-len2-up.len_at_least c.first-item.is c.last-item.is ∙ ap is_closed c.as_slice.ensures.all }

@@ -7,5 +7,5 @@ use Rattle.geojson_io.proofs.reading.straight_features.straight_feature.Goals as
 pub returns : goal.returns
 returns c =
     let first : PartTaker = record { width = c.args.width; places = c.args.places; left = c.args.left.now; is_feature = false; fields = None; shape = None } in
-    let h = c.in_ok-members_by.ensures c.if-not-branch.false first in
-    (h.0, h.1, feature_read first c.members_by.new.taker c.in-Some-Some.fields c.in-Some-Some.shape (json_value h.0) h.2 refl refl refl c.if-not-taker.false c.in-Some-Some.is-0 c.in-Some-Some.is-1)
+    let h = c.in_ok-members_by.ensures.read c.if-not-branch.false first in
+    record { read = (h.0, h.1, feature_read first c.members_by.new.taker c.in-Some-Some.fields c.in-Some-Some.shape (json_value h.0) h.2 refl refl refl c.if-not-taker.false c.in-Some-Some.is-0 c.in-Some-Some.is-1) }

@@ -7,4 +7,4 @@ use Rattle.geojson_io.proofs.reading.straight_shapes.points_shape.Goals as goal
 pub returns : goal.returns
 returns c =
     let h = rw c.in-Some.is at c.in_ok-points.ensures.read in
-    (h.0, h.1, list_shape (positions c.args.places) some_points c.args.left.now c.in-Some.points c.read_list.new.left (json_value h.0) c.some_points.result h.2 c.some_points.ensures.exact)
+    record { read = (h.0, h.1, list_shape (positions c.args.places) some_points c.args.left.now c.in-Some.points c.read_list.new.left (json_value h.0) c.some_points.result h.2 c.some_points.ensures.exact) }

@@ -10,4 +10,4 @@ returns c =
     let x_fits : FitsSigned w64 c.in_ok-x.x = search rules in
     let y_fits : FitsSigned w64 c.in_ok-x.y = search rules in
     let is = simp to_z-of_z at c.in_ok-point.ensures.exact in
-    (h.0, h.1, position_read c.args.places c.args.left.now c.in_ok-x.x c.in_ok-x.y c.in_ok-point.point (json_value h.0) c.if-left-eq0.false h.2 is)
+    record { read = (h.0, h.1, position_read c.args.places c.args.left.now c.in_ok-x.x c.in_ok-x.y c.in_ok-point.point (json_value h.0) c.if-left-eq0.false h.2 is) }

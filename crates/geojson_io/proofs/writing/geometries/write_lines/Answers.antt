@@ -6,12 +6,16 @@ use Rattle.geojson_io.proofs.writing.geometries.write_lines.Goals as goal
 
 pub returns-in_ok-write_path-in-len1 : goal.returns-in_ok-write_path-in-len1
 returns-in_ok-write_path-in-len1 c =
-    on_ok_weaker c.push.result (λ h.
-    one_written (codes "LineString") (codes "MultiLineString") (path_text c.args.places) c.args.lines.now c.line-item.result c.args.out.now c.write_type.new.out c.write_path.new.out c.push.new.self
-    c.in-len1.len_at_least c.in-len1.len_below c.line-item.is c.in_ok-write_type-in-len1.ensures (c.in_ok-write_path-in-len1.ensures ∙ ap (λ ys. c.write_type.new.out ++ path_text c.args.places ys) c.as_slice.ensures.all) h) c.push.ensures.ok
+    record {
+      written = on_ok_weaker c.push.result (λ h.
+          one_written (codes "LineString") (codes "MultiLineString") (path_text c.args.places) c.args.lines.now c.line-item.result c.args.out.now c.write_type.new.out c.write_path.new.out c.push.new.self
+          c.in-len1.len_at_least c.in-len1.len_below c.line-item.is c.in_ok-write_type-in-len1.ensures.written (c.in_ok-write_path-in-len1.ensures.written ∙ ap (λ ys. c.write_type.new.out ++ path_text c.args.places ys) c.as_slice.ensures.all) h) c.push.ensures.ok;
+    }
 
 pub returns-in_ok-write_paths-in_default : goal.returns-in_ok-write_paths-in_default
 returns-in_ok-write_paths-in_default c =
-    on_ok_weaker c.push-in_default.result (λ h.
-    many_written (codes "LineString") (codes "MultiLineString") (path_text c.args.places) c.args.lines.now c.args.out.now c.write_type-in_default.new.out c.write_paths.new.out c.push-in_default.new.self
-    c.in_default.len_at_least c.in_ok-write_type-in_default.ensures c.in_ok-write_paths-in_default.ensures h) c.push-in_default.ensures.ok
+    record {
+      written = on_ok_weaker c.push-in_default.result (λ h.
+          many_written (codes "LineString") (codes "MultiLineString") (path_text c.args.places) c.args.lines.now c.args.out.now c.write_type-in_default.new.out c.write_paths.new.out c.push-in_default.new.self
+          c.in_default.len_at_least c.in_ok-write_type-in_default.ensures.written c.in_ok-write_paths-in_default.ensures.written h) c.push-in_default.ensures.ok;
+    }

@@ -6,8 +6,8 @@ use Rattle.geojson_io.proofs.writing.geometries.write_paths.Goals as goal
 
 pub loop-i-preserved : goal.loop-i-preserved
 loop-i-preserved c =
-    written_more (path_text c.args.places) (44 ∷ []) c.loop-i.out c.push.new.self c.write_comma.new.out c.write_path.new.out c.args.paths.now c.loop-i.i c.index-paths-i.result c.loop-i-test.true c.index-paths-i.is c.loop-i.invariant c.in_ok-write_comma.ensures (c.in_ok-write_path.ensures ∙ ap (λ xs. c.write_comma.new.out ++ path_text c.args.places xs) c.as_slice.ensures.all)
+    written_more (path_text c.args.places) (44 ∷ []) c.loop-i.out c.push.new.self c.write_comma.new.out c.write_path.new.out c.args.paths.now c.loop-i.i c.index-paths-i.result c.loop-i-test.true c.index-paths-i.is c.loop-i.invariant c.in_ok-write_comma.ensures.written (c.in_ok-write_path.ensures.written ∙ ap (λ xs. c.write_comma.new.out ++ path_text c.args.places xs) c.as_slice.ensures.all)
 
 pub returns : goal.returns
 returns c =
-    on_ok_weaker c.push-2.result (λ h. list_written (path_text c.args.places) c.args.out.now c.push.new.self c.loop-i.out c.push-2.new.self c.args.paths.now c.loop-i.i c.loop-i-test.false c.in_ok-push.ensures.ok c.loop-i.invariant h) c.push-2.ensures.ok
+    record { written = on_ok_weaker c.push-2.result (λ h. list_written (path_text c.args.places) c.args.out.now c.push.new.self c.loop-i.out c.push-2.new.self c.args.paths.now c.loop-i.i c.loop-i-test.false c.in_ok-push.ensures.ok c.loop-i.invariant h) c.push-2.ensures.ok }

@@ -15,4 +15,4 @@ returns c =
     let room : List ℕ = c.put_byte-start-2.new.room in
     let all : take (64 - start) (drop start room) ≡ drop start room = take_all (64 - start) (drop start room) (omega (arith, length-drop start room)) in
     let point = point_by_numbers c.args.places c.args.point.now c.x.result c.y.result _ _ _ _ c.x.ensures.exact c.y.ensures.exact first c.put_byte-start.ensures.written second c.put_byte-start-2.ensures.written in
-    on_ok_weaker c.extend.result (λ h. h ∙ ap (λ (t : List ℕ). c.args.out.now ++ t) (all ∙ point)) c.extend.ensures.ok
+    record { written = on_ok_weaker c.extend.result (λ h. h ∙ ap (λ (t : List ℕ). c.args.out.now ++ t) (all ∙ point)) c.extend.ensures.ok }

@@ -6,8 +6,8 @@ use Rattle.geojson_io.proofs.writing.geometries.write_polygons.Goals as goal
 
 pub loop-i-preserved : goal.loop-i-preserved
 loop-i-preserved c =
-    written_more (polygon_text c.args.places) (44 ∷ []) c.loop-i.out c.push.new.self c.write_comma.new.out c.write_paths.new.out c.args.polygons.now c.loop-i.i c.index-polygons-i.result c.loop-i-test.true c.index-polygons-i.is c.loop-i.invariant c.in_ok-write_comma.ensures (c.in_ok-write_paths.ensures ∙ ap (λ xs. c.write_comma.new.out ++ polygon_text c.args.places xs) c.as_slice.ensures.all)
+    written_more (polygon_text c.args.places) (44 ∷ []) c.loop-i.out c.push.new.self c.write_comma.new.out c.write_paths.new.out c.args.polygons.now c.loop-i.i c.index-polygons-i.result c.loop-i-test.true c.index-polygons-i.is c.loop-i.invariant c.in_ok-write_comma.ensures.written (c.in_ok-write_paths.ensures.written ∙ ap (λ xs. c.write_comma.new.out ++ polygon_text c.args.places xs) c.as_slice.ensures.all)
 
 pub returns : goal.returns
 returns c =
-    on_ok_weaker c.push-2.result (λ h. list_written (polygon_text c.args.places) c.args.out.now c.push.new.self c.loop-i.out c.push-2.new.self c.args.polygons.now c.loop-i.i c.loop-i-test.false c.in_ok-push.ensures.ok c.loop-i.invariant h) c.push-2.ensures.ok
+    record { written = on_ok_weaker c.push-2.result (λ h. list_written (polygon_text c.args.places) c.args.out.now c.push.new.self c.loop-i.out c.push-2.new.self c.args.polygons.now c.loop-i.i c.loop-i-test.false c.in_ok-push.ensures.ok c.loop-i.invariant h) c.push-2.ensures.ok }

@@ -42,9 +42,9 @@ returns-then-is_clear_edge c =
     let links = clear_links points s (hot.start s here) (hot.stop s here) alone in
     record {
       added = λ d. on_ok_weaker c.push_link.result
-          (λ e. e ∙ ap (λ (xs : List Segment). c.args.links.now.items ++ xs) ((λ j. option_to_list (link_along (record { start = c.a.ensures j; stop = c.b.ensures j }))) ∙ links ∙ ap (λ (t : Segment). path_links (chain_among points t)) (c.index.ensures ∙ get_or_default edges i s d within)
+          (λ e. e ∙ ap (λ (xs : List Segment). c.args.links.now.items ++ xs) ((λ j. option_to_list (link_along (record { start = c.a.ensures.exact j; stop = c.b.ensures.exact j }))) ∙ links ∙ ap (λ (t : Segment). path_links (chain_among points t)) (c.index.ensures ∙ get_or_default edges i s d within)
           ∙ (λ j. path_links (chain_among (same j) (get_or (alike j) i d)))))
-          c.push_link.ensures;
+          c.push_link.ensures.added;
     }
 
 pub go_gathered-requires-clause-edge : goal.go_gathered-requires-clause-edge
@@ -85,10 +85,10 @@ returns c =
     let hot = c.self.invariant.0.1 in
     let here = listed edges i s within c.index.ensures in
     let rest : c.as_slice.result.now ≡ drop 1 (chain_among points s) = c.as_slice.ensures.all ∙ c.in_ok-go_gathered.ensures.appended ∙ (λ j. c.new-rest.ensures.empty j ++ drop 1 (chain_among (sym same j) s)) in
-    let whole : c.a-2.result ∷ c.as_slice.result.now ≡ chain_among points s = (λ j. c.a-2.ensures j ∷ rest j) ∙ chain_begins points s (hot.start s here) in
+    let whole : c.a-2.result ∷ c.as_slice.result.now ≡ chain_among points s = (λ j. c.a-2.ensures.exact j ∷ rest j) ∙ chain_begins points s (hot.start s here) in
     record {
       added = λ d. on_ok_weaker c.add_links_after.result
           (λ e. e ∙ ap (λ (xs : List Segment). c.args.links.now.items ++ xs) (ap path_links whole ∙ ap (λ (t : Segment). path_links (chain_among points t)) (c.index.ensures ∙ get_or_default edges i s d within)
           ∙ (λ j. path_links (chain_among (same j) (get_or (alike j) i d)))))
-          c.add_links_after.ensures;
+          c.add_links_after.ensures.added;
     }

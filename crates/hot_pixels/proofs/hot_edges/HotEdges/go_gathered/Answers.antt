@@ -17,6 +17,6 @@ returns-then-is_done c =
     let same : points ≡ c.args.self.now.points = search rules in
     let alike : edges ≡ c.args.self.now.edges = search rules in
     let here : HasEdgeAt edges s c.args.i = subst (λ (xs : List Segment). HasEdgeAt xs s c.args.i) (sym alike) c.requires.edge in
-    let met = looked_up_met points edges marking.crowded.items marking.lasts.items marking.meetings.items marking.inner.items c.args.i s found c.self.invariant.1.0 here c.in_ok-found.ensures (subst (λ (xs : List GridPoint). Contains xs s.start) (sym same) c.requires.start) (subst (λ (xs : List GridPoint). Contains xs s.stop) (sym same) c.requires.stop) in
+    let met = looked_up_met points edges marking.crowded.items marking.lasts.items marking.meetings.items marking.inner.items c.args.i s found c.self.invariant.1.0 here c.in_ok-found.ensures.made (subst (λ (xs : List GridPoint). Contains xs s.start) (sym same) c.requires.start) (subst (λ (xs : List GridPoint). Contains xs s.stop) (sym same) c.requires.stop) in
     let h : GoesRising s c.args.path.now found c.go_rising.new.path = c.in_ok-is_done.ensures.did c.if-is_done.true in
     record { appended = h.appended ∙ ap (λ (xs : Path). c.args.path.now ++ drop 1 xs) (rising_is_chain s points found h.sorted met h.moved h.rise ∙ ap (λ (xs : List GridPoint). chain_among xs s) same) }

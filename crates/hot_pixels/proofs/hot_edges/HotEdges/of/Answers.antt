@@ -18,9 +18,9 @@ returns c =
     let points = c.in_ok-points.points.items in
     let made = c.add_crossings.new.points.items in
     let ends = c.in_ok-found.found.items in
-    let along : AreEdgesOf (spots_of d) edges = subst (λ (xs : List Segment). AreEdgesOf xs edges) (c.deref.ensures.value ∙ c.in_ok-spots.ensures) c.in_ok-edges.ensures in
-    let are_ends : AreEndsOf edges ends = subst (λ (xs : List Segment). AreEndsOf xs ends) c.deref-2.ensures.value c.in_ok-found.ensures in
-    let h : HasAllCrossings edges ends made = subst (λ (xs : List Segment). HasAllCrossings xs ends made) c.deref-4.ensures.value c.in_ok-add_crossings.ensures in
+    let along : AreEdgesOf (spots_of d) edges = subst (λ (xs : List Segment). AreEdgesOf xs edges) (c.deref.ensures.value ∙ c.in_ok-spots.ensures.exact) c.in_ok-edges.ensures.made in
+    let are_ends : AreEndsOf edges ends = subst (λ (xs : List Segment). AreEndsOf xs ends) c.deref-2.ensures.value c.in_ok-found.ensures.made in
+    let h : HasAllCrossings edges ends made = subst (λ (xs : List Segment). HasAllCrossings xs ends made) c.deref-4.ensures.value c.in_ok-add_crossings.ensures.ok in
     let exact = found_is_hot d edges along ends made are_ends h points c.in_ok-points.ensures.exact in
     record {
       points = IfOk-weaker _ (λ (s : PointsAndEdges). s.points ≡ points) (λ (s : PointsAndEdges). s.points ≡ ascending is_before (hot_points d)) (λ s e. e ∙ exact) c.over.ensures.points;
@@ -36,7 +36,7 @@ over-requires-clause-ends c =
     let edges = c.in_ok-edges.edges.segments.items in
     let made = c.add_crossings.new.points.items in
     let ends = c.in_ok-found.found.items in
-    let along : AreEdgesOf (spots_of d) edges = subst (λ (xs : List Segment). AreEdgesOf xs edges) (c.deref.ensures.value ∙ c.in_ok-spots.ensures) c.in_ok-edges.ensures in
-    let are_ends : AreEndsOf edges ends = subst (λ (xs : List Segment). AreEndsOf xs ends) c.deref-2.ensures.value c.in_ok-found.ensures in
-    let h : HasAllCrossings edges ends made = subst (λ (xs : List Segment). HasAllCrossings xs ends made) c.deref-4.ensures.value c.in_ok-add_crossings.ensures in
+    let along : AreEdgesOf (spots_of d) edges = subst (λ (xs : List Segment). AreEdgesOf xs edges) (c.deref.ensures.value ∙ c.in_ok-spots.ensures.exact) c.in_ok-edges.ensures.made in
+    let are_ends : AreEndsOf edges ends = subst (λ (xs : List Segment). AreEndsOf xs ends) c.deref-2.ensures.value c.in_ok-found.ensures.made in
+    let h : HasAllCrossings edges ends made = subst (λ (xs : List Segment). HasAllCrossings xs ends made) c.deref-4.ensures.value c.in_ok-add_crossings.ensures.ok in
     edges_end_hot d edges along ends made are_ends h c.in_ok-points.points.items c.in_ok-points.ensures.exact

@@ -13,7 +13,7 @@ invariant_of-result c =
       (c.requires.up, c.requires.ends),
       (
         marks_moved c.args.points.items c.args.edges.segments.items marking.crowded.items marking.lasts.items marking.meetings.items marking.inner.items moved
-            (subst (λ (xs : List GridPoint). IsPermutation xs moved) c.deref.ensures.value c.in_ok-inner.ensures) c.requires.marked,
-        subst (λ (xs : List GridPoint). All (HoldsRun xs) c.in_ok-inner_runs.inner_runs.items) c.deref-2.ensures.value c.in_ok-inner_runs.ensures,
+            (subst (λ (xs : List GridPoint). IsPermutation xs moved) c.deref.ensures.value c.in_ok-inner.ensures.made) c.requires.marked,
+        subst (λ (xs : List GridPoint). All (HoldsRun xs) c.in_ok-inner_runs.inner_runs.items) c.deref-2.ensures.value c.in_ok-inner_runs.ensures.made,
       ),
     )

@@ -13,7 +13,7 @@ module _ (c : After-saturating_sub) where
       let s = c.args.s.now in
       let points = c.self.inside.drawn.points in
       let curved = c.self.inside.curved.items in
-      let met : c.count_near.result ≡ count_by (meets s) curved = c.count_near.ensures ∙ (λ i. count_by (meets s) (c.deref.ensures.value i)) in
+      let met : c.count_near.result ≡ count_by (meets s) curved = c.count_near.ensures.exact ∙ (λ i. count_by (meets s) (c.deref.ensures.value i)) in
       let same : points ≡ c.args.self.now = search rules in
       let count : c.count_near.result ≡ length (chain_among c.args.self.now s) = met ∙ chain_length s points curved c.self.invariant.up c.self.invariant.moved ∙ (λ i. length (chain_among (same i) s)) in
       let e : c.saturating_sub.result ≡ c.count_near.result - 1 = search rules in

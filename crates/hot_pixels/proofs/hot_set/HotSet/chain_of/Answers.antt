@@ -17,11 +17,11 @@ module _ (c : After-sorted_along) where
       let s = c.args.s.now in
       let points = c.self.inside.drawn.points in
       let curved = c.self.inside.curved.items in
-      let met : c.in_ok-met.met.items ≡ filter (meets s) curved = c.in_ok-met.ensures ∙ (λ i. filter (meets s) (c.deref.ensures.value i)) in
+      let met : c.in_ok-met.met.items ≡ filter (meets s) curved = c.in_ok-met.ensures.exact ∙ (λ i. filter (meets s) (c.deref.ensures.value i)) in
       let same : points ≡ c.args.self.now = search rules in
       IfOk-weaker _ (AreSortedAlong s c.in_ok-met.met.items) (λ (chain : List GridPoint). chain ≡ chain_among c.args.self.now s)
       (λ chain h. sorted_is_chain s points curved chain c.self.invariant.up c.self.invariant.moved (subst (λ (xs : List GridPoint). IsPermutation xs chain) met h.moved) h.in_order ∙ (λ i. chain_among (same i) s))
-      c.sorted_along.ensures
+      c.sorted_along.ensures.made
 
 pub returns-clause-exact : goal.returns-clause-exact
 returns-clause-exact c = exact c

@@ -9,11 +9,11 @@ use Rattle.json_read.proofs.parsing.JsonReadJson.parse.Goals as goal
 
 pub returns-in-Ok-clause-proper : goal.returns-in-Ok-clause-proper
 returns-in-Ok-clause-proper c =
-    let read = c.in-Ok.ensures in
+    let read = c.in-Ok.ensures.read in
     text_proper read
 
 pub returns-in-Err-Fault-clause-fault : goal.returns-in-Err-Fault-clause-fault
 returns-in-Err-Fault-clause-fault c =
-    let there = rw c.in-Err-Fault.field-0-is at c.in-Err-Fault.ensures in
-    let h : FaultsAt GREATEST_DEPTH c.in-Err-Fault.fault c.args.bytes.now c.text.new.self.rest.now = subst (λ (b : List ℕ). FaultsAt GREATEST_DEPTH c.in-Err-Fault.fault b c.text.new.self.rest.now) c.new-reader.ensures there in
-    subst (λ (r : JsonFault). FaultFits GREATEST_DEPTH c.args.bytes.now r) (sym c.fault_at.ensures) (fault_fits GREATEST_DEPTH c.in-Err-Fault.fault c.args.bytes.now (length c.args.bytes.now - c.left.result) (is_fault GREATEST_DEPTH c.in-Err-Fault.fault c.args.bytes.now c.text.new.self.rest.now (length c.args.bytes.now - c.left.result) (ap (λ (n : ℕ). length c.args.bytes.now - n) c.left.ensures) h))
+    let there = rw c.in-Err-Fault.field-0-is at c.in-Err-Fault.ensures.read in
+    let h : FaultsAt GREATEST_DEPTH c.in-Err-Fault.fault c.args.bytes.now c.text.new.self.rest.now = subst (λ (b : List ℕ). FaultsAt GREATEST_DEPTH c.in-Err-Fault.fault b c.text.new.self.rest.now) c.new-reader.ensures.exact there in
+    subst (λ (r : JsonFault). FaultFits GREATEST_DEPTH c.args.bytes.now r) (sym c.fault_at.ensures.exact) (fault_fits GREATEST_DEPTH c.in-Err-Fault.fault c.args.bytes.now (length c.args.bytes.now - c.left.result) (is_fault GREATEST_DEPTH c.in-Err-Fault.fault c.args.bytes.now c.text.new.self.rest.now (length c.args.bytes.now - c.left.result) (ap (λ (n : ℕ). length c.args.bytes.now - n) c.left.ensures.exact) h))

@@ -6,4 +6,4 @@ ascii_text-requires c = alone_at c.ascii_count.result c.args.self.now.rest.now _
 
 pub returns-in-Some-clause-some : goal.returns-in-Some-clause-some
 returns-in-Some-clause-some c =
-    front_closes c.ascii_count.result c.args.self.now.rest.now _ _ _ _ c.ascii_count.ensures.count c.split_at.ensures.front c.split_at.ensures.back c.in-Some.ensures c.ascii_text.ensures
+    front_closes c.ascii_count.result c.args.self.now.rest.now _ _ _ _ c.ascii_count.ensures.count c.split_at.ensures.front c.split_at.ensures.back c.in-Some.ensures.found c.ascii_text.ensures.exact

@@ -5,4 +5,4 @@ use Rattle.json_read.proofs.reader.Reader.members_by.Goals as goal
 pub returns : goal.returns
 returns g c =
     let up : suc (c.args.depth - 1) ≡ c.args.depth = omega arith in
-    λ e first. taken_object c.args.depth (c.args.depth - 1) (g.T.MemberTaker.took first c.args.taker.now) (g.T.MemberTaker.took first c.some_members_by.new.taker) _ _ _ _ _ up c.skip_white.ensures (c.take.ensures.taken c.if-not-take.false) (c.in_ok-is_taken.ensures e first) c.skip_white-2.ensures
+    record { read = λ e first. taken_object c.args.depth (c.args.depth - 1) (g.T.MemberTaker.took first c.args.taker.now) (g.T.MemberTaker.took first c.some_members_by.new.taker) _ _ _ _ _ up c.skip_white.ensures.exact (c.take.ensures.taken c.if-not-take.false) (c.in_ok-is_taken.ensures.exact e first) c.skip_white-2.ensures.exact }

@@ -4,20 +4,20 @@ use Rattle.json_read.proofs.Parts.{at_exit}
 use Rattle.json_read.proofs.reader.Reader.number.Goals as goal
 
 pub returns-in_err-whole : goal.returns-in_err-whole
-returns-in_err-whole c = at_exit _ _ c.from_residual.result c.in_err-whole.field-0.0 c.from_residual.ensures.1 (number_whole _ _ _ _ c.minus.ensures c.in_err-whole.ensures)
+returns-in_err-whole c = record { read = at_exit _ _ c.from_residual.result c.in_err-whole.field-0.0 c.from_residual.ensures.1 (number_whole _ _ _ _ c.minus.ensures.read c.in_err-whole.ensures.read) }
 
 pub returns-in_err-fraction : goal.returns-in_err-fraction
 returns-in_err-fraction c =
-    at_exit _ _ c.from_residual-in_err-fraction.result c.in_err-fraction.field-0.0 c.from_residual-in_err-fraction.ensures.1 (number_fraction _ _ _ _ _ c.minus.ensures c.in_ok-whole.ensures c.in_err-fraction.ensures)
+    record { read = at_exit _ _ c.from_residual-in_err-fraction.result c.in_err-fraction.field-0.0 c.from_residual-in_err-fraction.ensures.1 (number_fraction _ _ _ _ _ c.minus.ensures.read c.in_ok-whole.ensures.read c.in_err-fraction.ensures.read) }
 
 pub returns-in_err-exponent : goal.returns-in_err-exponent
 returns-in_err-exponent c =
-    at_exit _ _ c.from_residual-in_err-exponent.result c.in_err-exponent.field-0.0 c.from_residual-in_err-exponent.ensures.1 (number_exponent _ _ _ _ _ _ c.minus.ensures c.in_ok-whole.ensures c.in_ok-fraction.ensures c.in_err-exponent.ensures)
+    record { read = at_exit _ _ c.from_residual-in_err-exponent.result c.in_err-exponent.field-0.0 c.from_residual-in_err-exponent.ensures.1 (number_exponent _ _ _ _ _ _ c.minus.ensures.read c.in_ok-whole.ensures.read c.in_ok-fraction.ensures.read c.in_err-exponent.ensures.read) }
 
 pub numeral_text-text-requires : goal.numeral_text-text-requires
 numeral_text-text-requires c =
-    number_text _ _ (number_passes _ _ _ _ _ c.minus.ensures c.in_ok-whole.ensures c.in_ok-fraction.ensures c.in_ok-exponent.ensures)
+    number_text _ _ (number_passes _ _ _ _ _ c.minus.ensures.read c.in_ok-whole.ensures.read c.in_ok-fraction.ensures.read c.in_ok-exponent.ensures.read)
 
 pub returns : goal.returns
 returns c =
-    number_numeral _ _ _ (number_passes _ _ _ _ _ c.minus.ensures c.in_ok-whole.ensures c.in_ok-fraction.ensures c.in_ok-exponent.ensures) (c.in_ok-of.ensures.copied ∙ c.numeral_text-text.ensures)
+    record { read = number_numeral _ _ _ (number_passes _ _ _ _ _ c.minus.ensures.read c.in_ok-whole.ensures.read c.in_ok-fraction.ensures.read c.in_ok-exponent.ensures.read) (c.in_ok-of.ensures.copied ∙ c.numeral_text-text.ensures.exact) }

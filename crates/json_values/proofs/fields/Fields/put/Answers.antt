@@ -10,12 +10,12 @@ set_field-requires c = place_within c.self.inside.entries.items _ c.in-Some.plac
 pub invariant_of-self : goal.invariant_of-self
 invariant_of-self c =
     let at : IsPlaceOf c.args.name c.self.inside.entries.items c.in-Some.place = subst (λ (n : List ℕ). IsPlaceOf n c.self.inside.entries.items c.in-Some.place) c.as_str.ensures.lent c.in-Some.ensures.some in
-    rw c.set_field.ensures (omega (arith, length-set {A = Field}), subst (λ (ns : List (List ℕ)). AreDistinctNames ns) (sym (names_at_place c.args.name c.args.value c.self.inside.entries.items c.in-Some.place at)) c.self.invariant.1)
+    rw c.set_field.ensures.exact (omega (arith, length-set {A = Field}), subst (λ (ns : List (List ℕ)). AreDistinctNames ns) (sym (names_at_place c.args.name c.args.value c.self.inside.entries.items c.in-Some.place at)) c.self.invariant.1)
 
 pub returns-in-Some-clause-ok : goal.returns-in-Some-clause-ok
 returns-in-Some-clause-ok c =
     let at : IsPlaceOf c.args.name c.self.inside.entries.items c.in-Some.place = subst (λ (n : List ℕ). IsPlaceOf n c.self.inside.entries.items c.in-Some.place) c.as_str.ensures.lent c.in-Some.ensures.some in
-    rw (c.set_field.ensures, ← c.self.view_is) (sym (put_at_place c.args.name c.args.value c.self.inside.entries.items c.in-Some.place at))
+    rw (c.set_field.ensures.exact, ← c.self.view_is) (sym (put_at_place c.args.name c.args.value c.self.inside.entries.items c.in-Some.place at))
 
 pub push_new-requires : goal.push_new-requires
 push_new-requires c = record { new = subst (λ (fs : NamedValues). IsNewName c.args.name fs) c.self.view_is (subst (λ (n : List ℕ). IsNewName n c.self.inside.entries.items) c.as_str.ensures.lent c.in-None.ensures.none) }

@@ -14,8 +14,8 @@ set_field-requires c =
 
 pub invariant_of-self : goal.invariant_of-self
 invariant_of-self c =
-    rw c.set_field.ensures (omega (arith, length-set {A = List ℕ × Json}), distinct_written c.self.inside.fields.items c.args.name c.args.value c.args.place (at_seen c.self.inside.fields.items c.args.self.now c.args.name c.args.place c.self.view_is c.requires) c.self.invariant.1)
+    rw c.set_field.ensures.exact (omega (arith, length-set {A = List ℕ × Json}), distinct_written c.self.inside.fields.items c.args.name c.args.value c.args.place (at_seen c.self.inside.fields.items c.args.self.now c.args.name c.args.place c.self.view_is c.requires) c.self.invariant.1)
 
 pub returns : goal.returns
 returns c =
-    rw (c.set_field.ensures, ← c.self.view_is) (written c.self.inside.fields.items c.args.name c.args.value c.args.place (at_seen c.self.inside.fields.items c.args.self.now c.args.name c.args.place c.self.view_is c.requires))
+    record { exact = rw (c.set_field.ensures.exact, ← c.self.view_is) (written c.self.inside.fields.items c.args.name c.args.value c.args.place (at_seen c.self.inside.fields.items c.args.self.now c.args.name c.args.place c.self.view_is c.requires)) }

@@ -6,6 +6,8 @@ use Rattle.numerals.proofs.numerals.Numeral.digits.Goals as goal
 
 pub returns : goal.returns
 returns c =
-    c.count_onto-2.ensures ∙ ap (λ (n : ℕ). min (number_onto n c.args.self.now.fraction.now) units_cap) c.count_onto.ensures
-    ∙ capped_onto (number_of c.args.self.now.whole.now) units_cap c.args.self.now.fraction.now
-    ∙ ap (λ (n : ℕ). min n units_cap) (sym (number_onto-append 0 c.args.self.now.whole.now c.args.self.now.fraction.now))
+    record {
+      exact = c.count_onto-2.ensures.exact ∙ ap (λ (n : ℕ). min (number_onto n c.args.self.now.fraction.now) units_cap) c.count_onto.ensures.exact
+          ∙ capped_onto (number_of c.args.self.now.whole.now) units_cap c.args.self.now.fraction.now
+          ∙ ap (λ (n : ℕ). min n units_cap) (sym (number_onto-append 0 c.args.self.now.whole.now c.args.self.now.fraction.now));
+    }

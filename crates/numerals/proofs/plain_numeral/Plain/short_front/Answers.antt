@@ -10,5 +10,7 @@ front_fraction-requires-clause-few c = omega (arith, c.split_at.ensures.back_len
 
 pub returns : goal.returns
 returns c =
-    unsigned_front c.args.minus c.args.text.now _ _ c.front_number-front.result.0 c.front_number-front.result.1 c.in_ok-number.number c.in_ok-number.fraction c.in_ok-number.size
-    c.front_number-front.ensures.number c.front_number-front.ensures.count c.front_number-front.ensures.fits c.split_at.ensures.front c.split_at.ensures.back (sym (c.if-not-is_whole.ensures)) c.in_ok-number.ensures
+    record {
+      found = unsigned_front c.args.minus c.args.text.now _ _ c.front_number-front.result.0 c.front_number-front.result.1 c.in_ok-number.number c.in_ok-number.fraction c.in_ok-number.size
+          c.front_number-front.ensures.number c.front_number-front.ensures.count c.front_number-front.ensures.fits c.split_at.ensures.front c.split_at.ensures.back (sym (c.if-not-is_whole.ensures.exact)) c.in_ok-number.ensures.found;
+    }

@@ -30,7 +30,7 @@ returns c =
     } in
     record {
       paths = kept;
-      kept = subst (λ (s : Drawing). HasPaths s) kept c.keeps_paths.ensures;
+      kept = subst (λ (s : Drawing). HasPaths s) kept c.keeps_paths.ensures.paths;
       exact = subst (AreArcsOf d) table arcs_of;
       forward = subst (λ (arcs : List Path). All IsForward arcs) table c.in_ok-numbered.ensures.forward;
       least = subst (All (StartsAtLeast d)) table (subst (λ (s : Drawing). All (StartsAtLeast s) numbered) same c.in_ok-numbered.ensures.least);

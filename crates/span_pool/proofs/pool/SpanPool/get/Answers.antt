@@ -28,7 +28,7 @@ returns c =
     let to : c.place_of-start.result.1 ≡ get_or c.self.inside.ends.items c.args.id 0 = c.place_of-start.ensures.stop ∙ (λ i. get_or (c.deref.ensures.value i) (c.num.ensures.exact i) 0) in
     record {
       exact =
-          c.part.ensures
+          c.part.ensures.exact
           ∙ (λ i. slice_range (c.deref-2.ensures.value i) (from i) (to i))
           ∙ sym (get_or-cut 0 c.self.inside.ends.items c.self.inside.points.items c.args.id within)
           ∙ ap (λ (p : Pool). get_or p.spans c.args.id []) c.self.view_is;

@@ -14,7 +14,7 @@ returns-then-unsigned_abs-le-GRID_LIMIT c =
     let e : p ≡ axis_place c.args.self.now c.args.places c.args.number = search (rules, c.place_of-place.ensures.value, place_is c.args.self.now c.args.places c.args.number c.requires.places) in
     let within : unsigned_abs p ≤ limit = search (rules, c.if-unsigned_abs-le-GRID_LIMIT.true, c.unsigned_abs.ensures.value) in
     let f₃ = grid_number_fits p within in
-    simp to_z-of_z (within_grid p (axis_place c.args.self.now c.args.places c.args.number) e within)
+    record { exact = simp to_z-of_z (within_grid p (axis_place c.args.self.now c.args.places c.args.number) e within) }
 
 pub returns-else-unsigned_abs-le-GRID_LIMIT : goal.returns-else-unsigned_abs-le-GRID_LIMIT
 returns-else-unsigned_abs-le-GRID_LIMIT c =
@@ -23,4 +23,4 @@ returns-else-unsigned_abs-le-GRID_LIMIT c =
     let f₂ = c.ranges.number in
     let e : p ≡ axis_place c.args.self.now c.args.places c.args.number = search (rules, c.place_of-place.ensures.value, place_is c.args.self.now c.args.places c.args.number c.requires.places) in
     let past : limit < unsigned_abs p = search (rules, c.if-unsigned_abs-le-GRID_LIMIT.false, c.unsigned_abs.ensures.value) in
-    past_grid p (axis_place c.args.self.now c.args.places c.args.number) e past
+    record { exact = past_grid p (axis_place c.args.self.now c.args.places c.args.number) e past }

@@ -12,7 +12,7 @@ returns c =
     let fy = c.ranges.y in
     let f : FitsSigned w64 c.in_ok-x.x = search rules in
     let g : FitsSigned w64 c.in_ok-y.y = search rules in
-    let x : Some c.in_ok-x.x ≡ checked_grid (axis_place c.args.self.now.x c.args.places c.args.x) = simp to_z-of_z at c.in_ok-x.ensures in
-    let y : Some c.in_ok-y.y ≡ checked_grid (axis_place c.args.self.now.y c.args.places c.args.y) = simp to_z-of_z at c.in_ok-y.ensures in
+    let x : Some c.in_ok-x.x ≡ checked_grid (axis_place c.args.self.now.x c.args.places c.args.x) = simp to_z-of_z at c.in_ok-x.ensures.exact in
+    let y : Some c.in_ok-y.y ≡ checked_grid (axis_place c.args.self.now.y c.args.places c.args.y) = simp to_z-of_z at c.in_ok-y.ensures.exact in
     let e : c.new.result ≡ grid_point c.in_ok-x.x c.in_ok-y.y = simp to_z-of_z at c.new.ensures.exact in
-    point_is _ _ _ _ _ x y e
+    record { exact = point_is _ _ _ _ _ x y e }

@@ -12,12 +12,12 @@ pub loop-item-init : goal.loop-item-init
 loop-item-init c = subst (λ (ps : List Path). IsAlongTo (numbered_arc c.args.frame.now) c.args.items.now 0 0 ps (length ps)) (sym c.new-arcs.ensures.empty) (along_none (numbered_arc c.args.frame.now) c.args.items.now 0)
 
 pub returns : goal.returns
-returns c = along_all (numbered_arc c.args.frame.now) c.args.items.now 0 c.loop-item.item-index c.loop-item.arcs (length c.loop-item.arcs) c.loop-item-test.false c.loop-item.invariant
+returns c = record { answers = along_all (numbered_arc c.args.frame.now) c.args.items.now 0 c.loop-item.item-index c.loop-item.arcs (length c.loop-item.arcs) c.loop-item-test.false c.loop-item.invariant }
 
 pub loop-item-preserved : goal.loop-item-preserved
 loop-item-preserved c =
     let p : Path × ℕ = (c.in-Ok.path, length c.loop-item.arcs + 1) in
-    let read : numbered_arc c.args.frame.now (json_value c.item-item.result) (length c.loop-item.arcs) ≡ Ok p = ap (λ r. on_ok (in_place (Arc (length c.loop-item.arcs)) r) (before_next (length c.loop-item.arcs))) c.in-Ok.ensures in
+    let read : numbered_arc c.args.frame.now (json_value c.item-item.result) (length c.loop-item.arcs) ≡ Ok p = ap (λ r. on_ok (in_place (Arc (length c.loop-item.arcs)) r) (before_next (length c.loop-item.arcs))) c.in-Ok.ensures.answers in
     let count : length (c.loop-item.arcs ++ c.in-Ok.path ∷ []) ≡ length c.loop-item.arcs + 1 = omega (arith, length-append c.loop-item.arcs (c.in-Ok.path ∷ [])) in
     subst (λ (ps : List Path). IsAlongTo (numbered_arc c.args.frame.now) c.args.items.now 0 (c.loop-item.item-index + 1) ps (length ps)) (sym c.in_ok-push-in-Ok.ensures.ok)
     (subst (λ (n : ℕ). IsAlongTo (numbered_arc c.args.frame.now) c.args.items.now 0 (c.loop-item.item-index + 1) (c.loop-item.arcs ++ c.in-Ok.path ∷ []) n) (sym count)
@@ -27,7 +27,9 @@ loop-item-preserved c =
 pub returns-in-Err : goal.returns-in-Err
 returns-in-Err c =
     let n = length c.loop-item.arcs in
-    stops_at (along (numbered_arc c.args.frame.now) (map json_value c.args.items.now) 0) (arc c.args.frame.now (json_value c.item-item.result)) (Arc c.len.result) c.in-Err.stop c.at.result c.in-Err.ensures c.at.ensures.exact
-    (λ why e. along_stops (numbered_arc c.args.frame.now) c.args.items.now 0 c.loop-item.item-index c.loop-item.arcs n c.item-item.result (why, Arc n) c.loop-item-test.true c.item-item.is c.loop-item.invariant
-    (ap (λ r. on_ok (in_place (Arc n) r) (before_next n)) e)
-    ∙ ap (λ (m : ℕ). Err (why, Arc m)) (sym c.len.ensures.count))
+    record {
+      answers = stops_at (along (numbered_arc c.args.frame.now) (map json_value c.args.items.now) 0) (arc c.args.frame.now (json_value c.item-item.result)) (Arc c.len.result) c.in-Err.stop c.at.result c.in-Err.ensures.answers c.at.ensures.exact
+          (λ why e. along_stops (numbered_arc c.args.frame.now) c.args.items.now 0 c.loop-item.item-index c.loop-item.arcs n c.item-item.result (why, Arc n) c.loop-item-test.true c.item-item.is c.loop-item.invariant
+          (ap (λ r. on_ok (in_place (Arc n) r) (before_next n)) e)
+          ∙ ap (λ (m : ℕ). Err (why, Arc m)) (sym c.len.ensures.count));
+    }

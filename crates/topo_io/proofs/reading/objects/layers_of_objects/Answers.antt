@@ -24,7 +24,7 @@ loop-object-preserved c = (
   c.in_ok-count.ensures.room,
   c.in_ok-count.ensures.sound,
   object_more c.args.topology.now c.args.room.features (fields_list c.args.objects.now) c.args.room.positions c.loop-object.object c.loop-object.before c.loop-object.layers c.loop-object.left (c.in-Some.name.now, json_value c.in-Some.json.now) _ _ _
-      c.in-Some.ensures c.loop-object.invariant.2 c.in_ok-count.ensures.ok,
+      c.in-Some.ensures.exact c.loop-object.invariant.2 c.in_ok-count.ensures.ok,
 )
 
 pub returns : goal.returns
@@ -41,4 +41,4 @@ returns-in_err-count-clause-read c =
     let whole = layers_of_members t c.args.room.positions c.args.room.features c.args.objects.now in
     at_fault whole c.from_residual.result c.in_err-count.field-0.0 (p.1 ∙ ap Err p.2)
     (fault_passes_on whole (object_features t (numbers_at c.loop-object.object c.loop-object.before c.args.room.features) (json_value c.in-Some.json.now) c.loop-object.left) c.in_err-count.field-0.0 c.in_err-count.ensures.fault
-    (λ f h. object_stops t c.args.room.features c.args.objects.now c.args.room.positions c.loop-object.object c.loop-object.before c.loop-object.layers c.loop-object.left m f c.in-Some.ensures c.loop-object.invariant.2 h))
+    (λ f h. object_stops t c.args.room.features c.args.objects.now c.args.room.positions c.loop-object.object c.loop-object.before c.loop-object.layers c.loop-object.left m f c.in-Some.ensures.exact c.loop-object.invariant.2 h))

@@ -23,7 +23,7 @@ loop-i-preserved c =
     let inv = c.loop-i.invariant in
     let here : drop i (differences origin ps) ≡ differences b (drop i ps) = inv.2 ∙ (λ j. differences (record { x = c.loop-i.x-is j; y = c.loop-i.y-is j }) (drop i ps)) in
     let drawn : c.write_difference.new.out ≡ c.write_comma.new.out ++ point_text 0 (way b p) =
-    c.in_ok-write_difference.ensures ∙ (λ j. c.write_comma.new.out ++ point_text 0 (record { x = p.x -ℤ c.loop-i.x-is j; y = p.y -ℤ c.loop-i.y-is j })) in
+    c.in_ok-write_difference.ensures.written ∙ (λ j. c.write_comma.new.out ++ point_text 0 (record { x = p.x -ℤ c.loop-i.x-is j; y = p.y -ℤ c.loop-i.y-is j })) in
     let f₁ : FitsSigned w64 c.x-x.result = search rules in
     let f₂ : FitsSigned w64 c.y-y.result = search rules in
     let ex : c.x-x.result ≡ p.x = c.x-x.ensures.exact in
@@ -34,7 +34,7 @@ loop-i-preserved c =
     ways_after origin ps i b p l is here ∙ (λ j. differences (record { x = sym ex j; y = sym ey j }) (drop (i + 1) ps)) in
     let more : c.write_difference.new.out ≡ c.push.new.self ++ shown_to (point_text 0) (44 ∷ []) (differences origin ps) (i + 1) =
     written_more (point_text 0) (44 ∷ []) c.loop-i.out c.push.new.self c.write_comma.new.out c.write_difference.new.out (differences origin ps) i (way b p)
-    (way_inside origin ps i b p l is here) (way_at origin ps i b p l is here) inv.3 c.in_ok-write_comma.ensures drawn in
+    (way_inside origin ps i b p l is here) (way_at origin ps i b p l is here) inv.3 c.in_ok-write_comma.ensures.written drawn in
     let all : (IsGridNumber c.x-x.result) × (IsGridNumber c.y-y.result)
     × (drop (i + 1) (differences origin ps) ≡ differences (record { x = c.x-x.result; y = c.y-y.result }) (drop (i + 1) ps))
     × (c.write_difference.new.out ≡ c.push.new.self ++ shown_to (point_text 0) (44 ∷ []) (differences origin ps) (i + 1)) = (bx, by, after, more) in
@@ -43,4 +43,4 @@ loop-i-preserved c =
 pub returns : goal.returns
 returns c =
     let ps = c.args.points.now in
-    on_ok_weaker c.push-2.result (λ h. list_written (point_text 0) c.args.out.now c.push.new.self c.loop-i.out c.push-2.new.self (differences origin ps) c.loop-i.i (let l = c.loop-i-test.false in omega (arith, length-differences origin ps)) c.in_ok-push.ensures.ok c.loop-i.invariant.3 h) c.push-2.ensures.ok
+    record { written = on_ok_weaker c.push-2.result (λ h. list_written (point_text 0) c.args.out.now c.push.new.self c.loop-i.out c.push-2.new.self (differences origin ps) c.loop-i.i (let l = c.loop-i-test.false in omega (arith, length-differences origin ps)) c.in_ok-push.ensures.ok c.loop-i.invariant.3 h) c.push-2.ensures.ok }

@@ -18,6 +18,8 @@ returns c =
     let by : IsGridNumber c.y.result = subst IsGridNumber (sym ey) (y_small p c.x.ensures.bounded) in
     let f₅ = step_fits (c.x.result -ℤ c.args.x) (step_small c.args.x c.x.result c.requires.across bx) in
     let f₆ = step_fits (c.y.result -ℤ c.args.y) (step_small c.args.y c.y.result c.requires.upward by) in
-    on_ok_weaker c.write_pair.result (λ h.
-    let e : c.write_pair.new.out ≡ c.args.out.now ++ point_text 0 (record { x = c.x.result -ℤ c.args.x; y = c.y.result -ℤ c.args.y }) = simp to_z-of_z at h in
-    e ∙ (λ i. c.args.out.now ++ point_text 0 (record { x = ex i -ℤ c.args.x; y = ey i -ℤ c.args.y }))) c.write_pair.ensures
+    record {
+      written = on_ok_weaker c.write_pair.result (λ h.
+          let e : c.write_pair.new.out ≡ c.args.out.now ++ point_text 0 (record { x = c.x.result -ℤ c.args.x; y = c.y.result -ℤ c.args.y }) = simp to_z-of_z at h in
+          e ∙ (λ i. c.args.out.now ++ point_text 0 (record { x = ex i -ℤ c.args.x; y = ey i -ℤ c.args.y }))) c.write_pair.ensures.written;
+    }

@@ -7,4 +7,4 @@ pub returns : goal.returns
 returns c =
     let f = c.ranges.n in
     let e : c.of_grid.result ≡ of_grid c.args.n 0 = simp to_z-of_z at c.of_grid.ensures.exact in
-    on_ok_weaker c.print_into.result (λ h. h ∙ ap (λ g. c.args.out.now ++ decimal_text g) e) c.print_into.ensures.ok
+    record { written = on_ok_weaker c.print_into.result (λ h. h ∙ ap (λ g. c.args.out.now ++ decimal_text g) e) c.print_into.ensures.ok }

@@ -6,12 +6,16 @@ use Rattle.topo_io.proofs.writing.shapes.write_areas.Goals as goal
 
 pub returns-in_ok-write_type-in-len1 : goal.returns-in_ok-write_type-in-len1
 returns-in_ok-write_type-in-len1 c =
-    on_ok_weaker c.write_paths.result (λ h.
-    one_written (codes "Polygon") (codes "MultiPolygon") (codes "arcs") (rings_text c.args.numbering.now.numbers.items) c.args.polygons.now c.polygon-item.result c.args.out.now c.write_type.new.out c.write_paths.new.out
-    c.in-len1.len_at_least c.in-len1.len_below c.polygon-item.is c.in_ok-write_type-in-len1.ensures (h ∙ ap (λ ys. c.write_type.new.out ++ rings_text c.args.numbering.now.numbers.items ys) c.as_slice.ensures.all)) c.write_paths.ensures
+    record {
+      written = on_ok_weaker c.write_paths.result (λ h.
+          one_written (codes "Polygon") (codes "MultiPolygon") (codes "arcs") (rings_text c.args.numbering.now.numbers.items) c.args.polygons.now c.polygon-item.result c.args.out.now c.write_type.new.out c.write_paths.new.out
+          c.in-len1.len_at_least c.in-len1.len_below c.polygon-item.is c.in_ok-write_type-in-len1.ensures.written (h ∙ ap (λ ys. c.write_type.new.out ++ rings_text c.args.numbering.now.numbers.items ys) c.as_slice.ensures.all)) c.write_paths.ensures.written;
+    }
 
 pub returns-in_ok-write_type-in_default : goal.returns-in_ok-write_type-in_default
 returns-in_ok-write_type-in_default c =
-    on_ok_weaker c.write_polygons.result (λ h.
-    many_written (codes "Polygon") (codes "MultiPolygon") (codes "arcs") (rings_text c.args.numbering.now.numbers.items) c.args.polygons.now c.args.out.now c.write_type-in_default.new.out c.write_polygons.new.out
-    c.in_default.len_at_least c.in_ok-write_type-in_default.ensures h) c.write_polygons.ensures
+    record {
+      written = on_ok_weaker c.write_polygons.result (λ h.
+          many_written (codes "Polygon") (codes "MultiPolygon") (codes "arcs") (rings_text c.args.numbering.now.numbers.items) c.args.polygons.now c.args.out.now c.write_type-in_default.new.out c.write_polygons.new.out
+          c.in_default.len_at_least c.in_ok-write_type-in_default.ensures.written h) c.write_polygons.ensures.written;
+    }

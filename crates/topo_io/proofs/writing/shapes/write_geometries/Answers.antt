@@ -16,10 +16,10 @@ loop-i-preserved c =
     let l : i < length shapes = c.loop-i-test.true in
     let m : i < length rows = let e = c.requires.count in omega arith in
     written_more (geometry_text c.args.numbering.now.numbers.items c.args.keys.now) (44 ∷ []) c.loop-i.out c.args.out.now c.write_comma.new.out c.write_geometry.new.out (zip rows shapes) i (c.index-rows-i.result, c.index-shapes-i.result)
-    (omega (arith, length-zip rows shapes)) (pair_at rows shapes i c.index-rows-i.result c.index-shapes-i.result m l c.index-rows-i.is c.index-shapes-i.is) c.loop-i.invariant c.in_ok-write_comma.ensures c.in_ok-write_geometry.ensures
+    (omega (arith, length-zip rows shapes)) (pair_at rows shapes i c.index-rows-i.result c.index-shapes-i.result m l c.index-rows-i.is c.index-shapes-i.is) c.loop-i.invariant c.in_ok-write_comma.ensures.written c.in_ok-write_geometry.ensures.written
 
 pub returns : goal.returns
 returns c =
     let rows = c.args.rows.now in
     let shapes = c.args.shapes.now in
-    c.loop-i.invariant ∙ ap (λ w. c.args.out.now ++ w) (all_shown (geometry_text c.args.numbering.now.numbers.items c.args.keys.now) (44 ∷ []) (zip rows shapes) c.loop-i.i (let l = c.loop-i-test.false in omega (arith, length-zip rows shapes)))
+    record { written = c.loop-i.invariant ∙ ap (λ w. c.args.out.now ++ w) (all_shown (geometry_text c.args.numbering.now.numbers.items c.args.keys.now) (44 ∷ []) (zip rows shapes) c.loop-i.i (let l = c.loop-i-test.false in omega (arith, length-zip rows shapes))) }

@@ -6,6 +6,8 @@ use Rattle.topo_io.proofs.writing.shapes.write_geometry.Goals as goal
 
 pub returns : goal.returns
 returns c =
-    on_ok_weaker c.push.result (λ h.
-    three c.args.out.now (shape_text c.args.numbering.now.numbers.items c.args.shape.now) (row_member c.args.keys.now c.args.row.now) (125 ∷ []) c.write_shape.new.out c.write_row.new.out c.push.new.self
-    c.in_ok-write_shape.ensures c.in_ok-write_row.ensures h) c.push.ensures.ok
+    record {
+      written = on_ok_weaker c.push.result (λ h.
+          three c.args.out.now (shape_text c.args.numbering.now.numbers.items c.args.shape.now) (row_member c.args.keys.now c.args.row.now) (125 ∷ []) c.write_shape.new.out c.write_row.new.out c.push.new.self
+          c.in_ok-write_shape.ensures.written c.in_ok-write_row.ensures.written h) c.push.ensures.ok;
+    }

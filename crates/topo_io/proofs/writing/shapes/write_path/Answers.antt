@@ -6,8 +6,8 @@ use Rattle.topo_io.proofs.writing.shapes.write_path.Goals as goal
 
 pub loop-i-preserved : goal.loop-i-preserved
 loop-i-preserved c =
-    written_more (index_text c.args.numbering.now.numbers.items) (44 ∷ []) c.loop-i.out c.push.new.self c.write_comma.new.out c.write_index.new.out c.args.path.now c.loop-i.i c.index-path-i.result c.loop-i-test.true c.index-path-i.is c.loop-i.invariant c.in_ok-write_comma.ensures c.in_ok-write_index.ensures
+    written_more (index_text c.args.numbering.now.numbers.items) (44 ∷ []) c.loop-i.out c.push.new.self c.write_comma.new.out c.write_index.new.out c.args.path.now c.loop-i.i c.index-path-i.result c.loop-i-test.true c.index-path-i.is c.loop-i.invariant c.in_ok-write_comma.ensures.written c.in_ok-write_index.ensures.written
 
 pub returns : goal.returns
 returns c =
-    on_ok_weaker c.push-2.result (λ h. list_written (index_text c.args.numbering.now.numbers.items) c.args.out.now c.push.new.self c.loop-i.out c.push-2.new.self c.args.path.now c.loop-i.i c.loop-i-test.false c.in_ok-push.ensures.ok c.loop-i.invariant h) c.push-2.ensures.ok
+    record { written = on_ok_weaker c.push-2.result (λ h. list_written (index_text c.args.numbering.now.numbers.items) c.args.out.now c.push.new.self c.loop-i.out c.push-2.new.self c.args.path.now c.loop-i.i c.loop-i-test.false c.in_ok-push.ensures.ok c.loop-i.invariant h) c.push-2.ensures.ok }

@@ -14,6 +14,6 @@ loop-n-preserved c =
     let choice = c.in_ok-choice_of.field-0 in
     let below : n < count = (let e = c.count-n-end.ensures.exact in let l = c.loop-n-test.true in omega arith) in
     let one : choice.items ≡ choice_of layers n =
-    c.in_ok-choice_of.ensures ∙ (λ i. choice_among (c.deref.ensures.value i) (c.new.ensures.made i)) ∙ among_is count n layers owners c.in_ok-owners.ensures below in
+    c.in_ok-choice_of.ensures.exact ∙ (λ i. choice_among (c.deref.ensures.value i) (c.new.ensures.made i)) ∙ among_is count n layers owners c.in_ok-owners.ensures.made below in
     subst (λ (lists : List (Vec (Option ℕ) Global)). AreChoices layers (n + 1) (map items lists)) (sym c.in_ok-push.ensures.items)
     (subst (AreChoices layers (n + 1)) (sym (map_push items c.loop-n.lists.items choice)) (choices_more layers n (map items c.loop-n.lists.items) choice.items c.loop-n.invariant one))

@@ -8,7 +8,7 @@ pub returns : goal.returns
 returns c =
     let old = c.args.self.now in
     let new : GeometryTaker = record { places = old.places; left = old.left; kind = Some c.in-Some-named.kind; shape = old.shape } in
-    let h = c.in-Some.ensures c.args.depth in
+    let h = c.in-Some.ensures.read c.args.depth in
     let no_kind : old.kind ≡ None = nothing_there old.kind (sym c.is_some.ensures ∙ c.if-is_some.false) in
     let no_shape : old.shape ≡ None = nothing_there old.shape (sym c.is_some-else-is_some.ensures ∙ c.if-is_some-2.false) in
-    λ e first. (h.0, h.1, type_taken first old new c.in-Some.name.now c.in-Some-named.kind (json_value h.0) no_kind no_shape h.2 (sym (c.in-Some-named.ensures)) refl refl refl no_shape)
+    record { yes = λ e first. (h.0, h.1, type_taken first old new c.in-Some.name.now c.in-Some-named.kind (json_value h.0) no_kind no_shape h.2 (sym (c.in-Some-named.ensures.exact)) refl refl refl no_shape) }

@@ -8,6 +8,6 @@ pub returns-in-Some : goal.returns-in-Some
 returns-in-Some c =
     let old = c.args.self.now in
     let new : PartTaker = record { width = old.width; places = old.places; left = c.straight_geometry.new.left; is_feature = old.is_feature; fields = old.fields; shape = Some c.in-Some.shape } in
-    let h = rw c.in-Some.is at c.in_ok-straight_geometry.ensures in
+    let h = rw c.in-Some.is at c.in_ok-straight_geometry.ensures.read in
     let no_shape : old.shape ≡ None = nothing_there old.shape (sym c.is_some.ensures ∙ c.if-is_some.false) in
-    λ e first. (h.0, h.1, part_geometry first old new c.in-Some.shape (json_value h.0) no_shape h.2 refl refl refl refl)
+    record { read = λ e first. (h.0, h.1, part_geometry first old new c.in-Some.shape (json_value h.0) no_shape h.2 refl refl refl refl) }

@@ -9,5 +9,5 @@ returns-in-Some c =
     let old = c.args.self.now in
     let ps = c.in-Some.fields in
     let new : PartTaker = record { width = old.width; places = old.places; left = old.left; is_feature = old.is_feature; fields = Some ps; shape = old.shape } in
-    let h = rw c.in-Some.is at c.in_ok-straight_properties.ensures in
-    λ e first. (h.0, h.1, part_properties first old new ps (json_value h.0) h.2 refl refl refl refl refl)
+    let h = rw c.in-Some.is at c.in_ok-straight_properties.ensures.read in
+    record { read = λ e first. (h.0, h.1, part_properties first old new ps (json_value h.0) h.2 refl refl refl refl refl) }

@@ -10,6 +10,6 @@ pub returns : goal.returns
 returns c =
     let old = c.args.self.now in
     let new : PartTaker = record { width = old.width; places = old.places; left = old.left; is_feature = true; fields = old.fields; shape = old.shape } in
-    let h = c.in-Some.ensures c.args.depth in
+    let h = c.in-Some.ensures.read c.args.depth in
     let named : c.in-Some.name.now ≡ codes "Feature" = same_bytes c.in-Some.name.now (codes "Feature") (not_false _ c.if-ne.ensures) in
-    λ e first. (h.0, h.1, part_type first old new (json_value h.0) (h.2 ∙ ap (λ (s : List ℕ). string s) named) refl refl refl refl)
+    record { yes = λ e first. (h.0, h.1, part_type first old new (json_value h.0) (h.2 ∙ ap (λ (s : List ℕ). string s) named) refl refl refl refl) }

@@ -5,5 +5,5 @@ use Rattle.geojson_io.proofs.reading.straight_shapes.PolygonRingsReadList.read_i
 
 pub returns : goal.returns
 returns c =
-    let h = rw c.in-Some.is at c.in_ok-path.ensures in
+    let h = rw c.in-Some.is at c.in_ok-path.ensures.read in
     record { added = λ e. (h.0, h.1, each_added (ring c.args.places) c.args.self.now c.args.left.now c.in-Some.path c.ring.new.left c.push.new.self (json_value h.0) h.2 c.in_ok-push.ensures.ok) }

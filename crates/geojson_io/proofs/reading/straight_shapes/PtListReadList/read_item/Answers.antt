@@ -5,5 +5,5 @@ use Rattle.geojson_io.proofs.reading.straight_shapes.PtListReadList.read_item.Go
 
 pub returns : goal.returns
 returns c =
-    let h = c.in-Some.ensures in
+    let h = c.in-Some.ensures.read in
     record { added = λ e. (h.0, h.1, each_added (position c.args.places) c.args.self.now c.args.left.now c.in-Some.point c.position.new.left c.push.new.self (json_value h.0) h.2.1 c.in_ok-push.ensures.ok) }

@@ -10,7 +10,7 @@ returns-clause-taken c =
     let old = c.args.self.now in
     let left = c.straight_feature.new.left in
     let new : FeatureTaker = record { alloc = old.alloc; places = old.places; limit = old.limit; left = left; number = old.number + 1; straight = old.number + 1; features = c.push.new.self; fault = old.fault } in
-    let h = rw c.in-Some.is at c.in_ok-feature.ensures in
+    let h = rw c.in-Some.is at c.in_ok-feature.ensures.read in
     λ e first. (
       h.0,
       h.1,

@@ -1,11 +1,11 @@
 use Rattle.std.proofs.Common.{◌≡◌, length}
 use denote.Text.{Utf8}
 use denote.Shadow.{shadow}
-use Rattle.cmd_words.specs.Calculations.{behind_white}
-use Rattle.cmd_words.proofs.calculations.behind_white.Given as goal
+use Rattle.cmd_words.specs.Calculations.{after_white}
+use Rattle.cmd_words.proofs.calculations.after_white.Given as goal
 
 abbrev pub invariant-loop-rest : goal.invariant-loop-rest
-invariant-loop-rest l = shadow (Utf8 l.rest) × (behind_white l.text ≡ behind_white l.rest)
+invariant-loop-rest l = shadow (Utf8 l.rest) × (after_white l.text ≡ after_white l.rest)
 
 abbrev pub decreases-loop-rest : goal.decreases-loop-rest
 decreases-loop-rest l = length l.rest

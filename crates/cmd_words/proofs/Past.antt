@@ -38,17 +38,17 @@ module _ (refuses : Refusals) (places : ℕ) (s : SoFar) (n : ℕ) (w : Text) (r
 -- ## The chain
 
 module _ (refuses : Refusals) (g : Group) (cs : List CommandGroup) where
-  behind_import : not (is_some (argument_in g)) ≡ false → after_import refuses cs g ≡ on_ok (take_commands refuses (places_in g) (imported g) cs) (λ (s : SoFar). Ok (record { places = places_in g; so_far = s }))
-  behind_import e = rw e refl
+  past_import : not (is_some (argument_in g)) ≡ false → after_import refuses cs g ≡ on_ok (take_commands refuses (places_in g) (imported g) cs) (λ (s : SoFar). Ok (record { places = places_in g; so_far = s }))
+  past_import e = rw e refl
 
   -- the same, where the import was read
-  pub behind_read : (places : ℕ) (s : SoFar) → not (is_some (argument_in g)) ≡ false → places ≡ places_in g → s ≡ imported g → after_import refuses cs g ≡ on_ok (take_commands refuses places s cs) (λ (t : SoFar). Ok (record { places = places; so_far = t }))
-  behind_read places s e p i = rw (p, i) (behind_import e)
+  pub after_read : (places : ℕ) (s : SoFar) → not (is_some (argument_in g)) ≡ false → places ≡ places_in g → s ≡ imported g → after_import refuses cs g ≡ on_ok (take_commands refuses places s cs) (λ (t : SoFar). Ok (record { places = places; so_far = t }))
+  after_read places s e p i = rw (p, i) (past_import e)
 
   pub chain_fits : (places : ℕ) (s t : SoFar) (c : Chain) → not (is_some (argument_in g)) ≡ false → places ≡ places_in g → s ≡ imported g → take_commands refuses places s cs ≡ Ok t
       → c.places ≡ places → c.sources ≡ t.sources → c.boxes ≡ t.boxes → FitEach t.commands c.commands → Tells FitsChain (after_import refuses cs g) (Ok c)
   chain_fits places s t c e p i read a b d f =
-      let made : after_import refuses cs g ≡ Ok (record { places = places; so_far = t }) = behind_read places s e p i ∙ goes_on (take_commands refuses places s cs) _ t read in
+      let made : after_import refuses cs g ≡ Ok (record { places = places; so_far = t }) = after_read places s e p i ∙ goes_on (take_commands refuses places s cs) _ t read in
       (record { places = places; so_far = t }, made, record { places = a; sources = b; boxes = d; commands = f })
 
 -- ## The job

@@ -1,6 +1,6 @@
 use Rattle.std.proofs.Common.{◌<◌, length, get_or, rules}
 use Rattle.std.proofs.lemmas.Str.{lead_after_ascii}
-use Rattle.cmd_words.proofs.calculations.behind_white.Goals as goal
+use Rattle.cmd_words.proofs.calculations.after_white.Goals as goal
 
 pub range_from-rest-requires : goal.range_from-rest-requires
 range_from-rest-requires c =
