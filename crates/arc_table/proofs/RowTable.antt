@@ -1,23 +1,22 @@
 -- Points in order, in rows of equal ones.
 use Rattle.std.proofs.Common.{◌≡◌, inl, inr, refl, sym, ap, ◌∙◌, subst, arith, ℕ, ◌+◌, ◌-◌, ◌<◌, ◌≤◌, Bool, true, false, List, [], ◌∷◌, ◌++◌, map, length, length-append, get_or, take, drop, length-drop, All, AllPairs, Contains, pos}
-use Rattle.std.specs.List.Sorted.{IsPartitionPoint, IsPartitionedBy, IsSortedBy}
+use Rattle.std.specs.List.Sorted.{IsPartitionPoint, IsPartitionedBy}
 use Rattle.std.proofs.lemmas.Bool.{cases_lt, false_from_ne_true}
 use Rattle.std.proofs.Math.ListN.{get_or-append}
-use Rattle.std.proofs.Math.Seq.{get_or-append_seam}
+use Rattle.std.proofs.Math.Seq.{get_or-append_right, get_or-append_seam}
 use Rattle.std.proofs.lemmas.List.{get_or_default, get_or-map, get_or-drop, length-map, take_more, take_all}
-use Rattle.std.proofs.lemmas.List.Elements.{Contains-append_left, Contains-append_right}
+use Rattle.std.proofs.lemmas.List.Elements.{All-append, Contains-append_left, Contains-append_right}
 use Rattle.std.proofs.lemmas.List.Quantifiers.{all_pairs_push}
-use Rattle.std.proofs.lemmas.List.Sorted.{Contains-permutation, sorted_far}
+use Rattle.std.proofs.lemmas.List.Sorted.{Contains-permutation}
 use Rattle.plane_model.specs.Points.{GridPoint, Path, same_point, is_before}
-use Rattle.plane_model.specs.Arcs.{SignedArc, forward}
+use Rattle.plane_model.specs.Arcs.{SignedArc}
 use Rattle.plane_model.proofs.PointOrder.{clash, same_point_from, same_point_to, is_before-IsStrictOrder}
-use Rattle.arc_table.specs.Around.{signed_below, start_of, comes_first, IsTurned, IsAround}
+use Rattle.arc_table.specs.Around.{signed_below, start_of, IsTurned, IsAround}
 use Rattle.arc_table.specs.Direction.{point_at}
 use Rattle.arc_table.specs.Rows.{IsRow, AreRows}
-use Rattle.arc_table.specs.declared.first_steps.FirstStep.{FirstStep}
 use Rattle.arc_table.proofs.AroundRows.{rows_are_around}
 use Rattle.arc_table.proofs.SignedArcs.{Contains-signed_below}
-use Rattle.arc_table.proofs.TurnOrder.{comes_first-IsStrictWeakOrder, not_first_from, not_before_chain, not_back}
+use Rattle.arc_table.proofs.TurnOrder.{not_before_chain, not_back}
 
 -- ---- the order of points
 
@@ -29,201 +28,119 @@ before_later p q r e f = go (is_before p r) refl
     go true g = refl
     go false g = clash (is_before p q) e (not_before_chain p r q g f)
 
-later_before : (p q r : GridPoint) → is_before q p ≡ false → is_before q r ≡ true → is_before p r ≡ true
-later_before p q r e f = go (is_before p r) refl
-  where
-    go : (b : Bool) → is_before p r ≡ b → b ≡ true
-    go true g = refl
-    go false g = clash (is_before q r) f (not_before_chain q p r e g)
-
 -- points in order that differ
-before_other : (p q : GridPoint) → is_before q p ≡ false → same_point p q ≡ false → is_before p q ≡ true
+pub before_other : (p q : GridPoint) → is_before q p ≡ false → same_point p q ≡ false → is_before p q ≡ true
 before_other p q e f = go (is_before p q) refl
   where
     go : (b : Bool) → is_before p q ≡ b → b ≡ true
     go true g = refl
     go false g = clash (same_point p q) (same_point_to p q (is_before-IsStrictOrder.total p q g e)) f
 
-never_before : (p q : GridPoint) → p ≡ q → is_before p q ≡ false
+pub never_before : (p q : GridPoint) → p ≡ q → is_before p q ≡ false
 never_before p q e = false_from_ne_true (is_before p q) (λ b. is_before-IsStrictOrder.irreflexive q (subst (λ (r : GridPoint). is_before r q ≡ true) e b))
-
--- ---- rows of the places before i, where place i stands in a row that is not closed
-
-pub record Seen (points nodes : List GridPoint) (rows : List ℕ) (i : ℕ) : Type 0 where
-  pub each : length rows ≡ length nodes + 1
-  pub begins : get_or rows 0 0 ≡ 0
-  pub ascending : AllPairs (λ p q. is_before p q ≡ true) nodes
-  pub row : (k : ℕ) → k < length nodes → IsRow points (point_at nodes k) (get_or rows k 0) (get_or rows (k + 1) 0)
-  pub ends : (k : ℕ) → k < length nodes → get_or rows (k + 1) 0 ≤ get_or rows (length nodes) 0
-  pub from : get_or rows (length nodes) 0 ≤ i
-  pub same : (j : ℕ) → get_or rows (length nodes) 0 ≤ j → j ≤ i → point_at points j ≡ point_at points i
-  pub before : (j : ℕ) → j < get_or rows (length nodes) 0 → i < length points → is_before (point_at points j) (point_at points i) ≡ true
-  pub all : (j : ℕ) → j < get_or rows (length nodes) 0 → Contains nodes (point_at points j)
-  pub whole : length points ≤ i → length points ≤ get_or rows (length nodes) 0
 
 row_same : (points : List GridPoint) (p q : GridPoint) (a b m n : ℕ) → p ≡ q → a ≡ m → b ≡ n → IsRow points p a b → IsRow points q m n
 row_same points p q a b m n e f g h = subst (λ (t : GridPoint × (ℕ × ℕ)). IsRow points t.0 t.1.0 t.1.1) (λ i. (e i, (f i, g i))) h
 
-pub none_seen : (points : List GridPoint) → Seen points [] (0 ∷ []) 0
-none_seen points = record {
-  each = refl;
-  begins = refl;
-  ascending = λ i j d l m. absurd (omega (arith, m));
-  row = λ k l. absurd (omega (arith, l));
-  ends = λ k l. absurd (omega (arith, l));
-  from = omega arith;
-  same = λ j l m. ap (point_at points) (let e : j ≡ 0 = omega arith in e);
-  before = λ j l m. absurd (omega (arith, l));
-  all = λ j l. absurd (omega (arith, l));
-  whole = λ l. l;
-}
+abbrev origin : GridPoint
+origin = record { x = pos 0; y = pos 0 }
 
-module _ (points : List GridPoint) (ascend : (i j : ℕ) → i ≤ j → j < length points → is_before (point_at points j) (point_at points i) ≡ false) (nodes : List GridPoint) (rows : List ℕ) (i : ℕ) (seen : Seen points nodes rows i) where
+-- ---- one row more
+
+module _ (points nodes : List GridPoint) (rows : List ℕ) (table : AreRows points nodes rows) where
   abbrev m : ℕ
   m = length nodes
 
-  abbrev last : ℕ
-  last = get_or rows m 0
+  -- the last row ends where the points do
+  at_end : get_or rows m 0 ≡ length points
+  at_end =
+      let g = table.ends in
+      elim (cases_lt 0 m) [
+        | inl l ↦ (let w = (table.row (m - 1) (omega arith)).within in let e : m - 1 + 1 ≡ m = omega arith in let f = ap (λ (j : ℕ). get_or rows j 0) e in omega arith)
+        | inr l ↦ (let e : m ≡ 0 = omega arith in let f = ap (λ (j : ℕ). get_or rows j 0) e in let b = table.begins in omega arith)
+      ]
 
-  abbrev at : ℕ → GridPoint
-  at = point_at points
+  -- points more that are all p, and lie past the others
+  module _ (p : GridPoint) (added : List GridPoint) (some : 0 < length added) (here : All (λ (q : GridPoint). q ≡ p) added) (past : All (λ (q : GridPoint). is_before q p ≡ true) points) where
+    abbrev grown : List GridPoint
+    grown = points ++ added
 
-  -- the row goes on
-  pub kept : i + 1 < length points → same_point (at i) (at (i + 1)) ≡ true → Seen points nodes rows (i + 1)
-  kept l s =
-      let e : at i ≡ at (i + 1) = same_point_from (at i) (at (i + 1)) s in
-      let f = seen.from in
-      record {
-        each = seen.each;
-        begins = seen.begins;
-        ascending = seen.ascending;
-        row = seen.row;
-        ends = seen.ends;
-        from = omega arith;
-        same = λ j g h. elim (cases_lt i j) [
-          | inl k ↦ ap at (let e : j ≡ i + 1 = omega arith in e)
-          | inr k ↦ seen.same j g k ∙ e
-        ];
-        before = λ j g h. subst (λ (q : GridPoint). is_before (at j) q ≡ true) e (seen.before j g (omega arith));
-        all = seen.all;
-        whole = λ g. absurd (omega arith);
-      }
-
-  -- the row ends
-  module _ (p : GridPoint) (x : ℕ) (here : i < length points) (is : p ≡ at i) (next : x ≡ i + 1) (other : i + 1 < length points → same_point (at i) (at (i + 1)) ≡ false) where
     abbrev more : List GridPoint
     more = nodes ++ p ∷ []
 
     abbrev places : List ℕ
-    places = rows ++ x ∷ []
+    places = rows ++ length grown ∷ []
+
+    count : length grown ≡ length points + length added
+    count = length-append points added
 
     one_more : length more ≡ m + 1
     one_more = length-append nodes (p ∷ [])
 
     old_place : (k : ℕ) → k ≤ m → get_or rows k 0 ≡ get_or places k 0
-    old_place k l = let e = seen.each in sym (get_or-append rows (x ∷ []) 0 k (omega arith))
+    old_place k l = let e = table.each in sym (get_or-append rows (length grown ∷ []) 0 k (omega arith))
 
-    new_place : get_or places (m + 1) 0 ≡ x
-    new_place = ap (λ (k : ℕ). get_or places k 0) (sym seen.each) ∙ get_or-append_seam rows x [] 0
+    new_place : get_or places (m + 1) 0 ≡ length grown
+    new_place = ap (λ (k : ℕ). get_or places k 0) (sym table.each) ∙ get_or-append_seam rows (length grown) [] 0
 
-    new_last : get_or places (length more) 0 ≡ x
-    new_last = ap (λ (k : ℕ). get_or places k 0) one_more ∙ new_place
+    old_point : (j : ℕ) → j < length points → point_at points j ≡ point_at grown j
+    old_point j l = sym (get_or-append points added origin j l)
 
-    old_node : (k : ℕ) → k < m → point_at nodes k ≡ point_at more k
-    old_node k l = sym (get_or-append nodes (p ∷ []) _ k l)
-
-    new_node : p ≡ point_at more m
-    new_node = sym (get_or-append_seam nodes p [] _)
-
-    farther : (j : ℕ) → i + 1 ≤ j → j < length points → is_before (at i) (at j) ≡ true
-    farther j l n =
-        before_later (at i) (at (i + 1)) (at j) (before_other (at i) (at (i + 1)) (ascend i (i + 1) (omega arith) (omega arith)) (other (omega arith))) (ascend (i + 1) j l n)
-
-    nearer : (j : ℕ) → j ≤ i → i + 1 < length points → is_before (at j) (at (i + 1)) ≡ true
-    nearer j l n = later_before (at j) (at i) (at (i + 1)) (ascend j i l here) (farther (i + 1) (omega arith) n)
-
-    own_row : IsRow points p last x
-    own_row =
-        let f = seen.from in
-        record {
-          some = omega arith;
-          within = omega arith;
-          before = λ j l. subst (λ (q : GridPoint). is_before (at j) q ≡ true) (sym is) (seen.before j l here);
-          here = λ j l n. seen.same j l (omega arith) ∙ sym is;
-          after = λ j l n. subst (λ (q : GridPoint). is_before q (at j) ≡ true) (sym is) (farther j (omega arith) n);
-        }
+    new_point : (j : ℕ) → length points ≤ j → j < length grown → p ≡ point_at grown j
+    new_point j l n = let c = count in sym (get_or-append_right points added j origin l ∙ here (j - length points) origin (omega arith))
 
     rises : All (λ (q : GridPoint). is_before q p ≡ true) nodes
     rises k d l =
-        let e = seen.ends k l in
-        let f = seen.from in
-        subst (λ (q : GridPoint). is_before q p ≡ true) (get_or_default nodes k _ d l) (subst (λ (q : GridPoint). is_before (point_at nodes k) q ≡ true) (sym is) ((seen.row k l).after i (omega arith) here))
+        let r = table.row k l in
+        let s = r.some in
+        let w = r.within in
+        subst (λ (q : GridPoint). is_before q p ≡ true) (r.here (get_or rows k 0) (omega arith) s ∙ get_or_default nodes k origin d l) (past (get_or rows k 0) origin (omega arith))
 
-    pub closed : Seen points more places (i + 1)
-    closed =
-        let f = seen.from in
-        let n = new_last in
-        let o = one_more in
+    longer : (q : GridPoint) (first stop : ℕ) → is_before q p ≡ true → IsRow points q first stop → IsRow grown q first stop
+    longer q first stop up r =
+        let w = r.within in
+        let s = r.some in
+        let c = count in
         record {
-          each = length-append rows (x ∷ []) ∙ (let e = seen.each in omega arith);
-          begins = sym (old_place 0 (omega arith)) ∙ seen.begins;
-          ascending = all_pairs_push (λ (q r : GridPoint). is_before q r ≡ true) nodes p seen.ascending rises;
-          row = λ k l. elim (cases_lt k m) [
-            | inl h ↦ row_same points (point_at nodes k) (point_at more k) (get_or rows k 0) (get_or rows (k + 1) 0) (get_or places k 0) (get_or places (k + 1) 0) (old_node k h) (old_place k (omega arith)) (old_place (k + 1) (omega arith)) (seen.row k h)
-            | inr h ↦ (
-                let e : m ≡ k = omega arith in
-                subst (λ (j : ℕ). IsRow points (point_at more j) (get_or places j 0) (get_or places (j + 1) 0)) e
-                (row_same points p (point_at more m) last x (get_or places m 0) (get_or places (m + 1) 0) new_node (old_place m (omega arith)) (sym new_place) own_row))
+          some = s;
+          within = omega arith;
+          before = λ i l. subst (λ (z : GridPoint). is_before z q ≡ true) (old_point i (omega arith)) (r.before i l);
+          here = λ i l n. sym (old_point i (omega arith)) ∙ r.here i l n;
+          after = λ i l n. elim (cases_lt i (length points)) [
+            | inl h ↦ subst (λ (z : GridPoint). is_before q z ≡ true) (old_point i h) (r.after i l h)
+            | inr h ↦ subst (λ (z : GridPoint). is_before q z ≡ true) (new_point i h n) up
           ];
-          ends = λ k l. elim (cases_lt k m) [
-            | inl h ↦ (let e = old_place (k + 1) (omega arith) in let g = seen.ends k h in omega arith)
-            | inr h ↦ (let e : m + 1 ≡ k + 1 = omega arith in let g = ap (λ (j : ℕ). get_or places j 0) e in let r = new_place in omega arith)
-          ];
-          from = omega arith;
-          same = λ j l h. ap at (let e : j ≡ i + 1 = omega arith in e);
-          before = λ j l h. nearer j (omega arith) h;
-          all = λ j l. elim (cases_lt j last) [
-            | inl h ↦ Contains-append_left nodes (p ∷ []) (at j) (seen.all j h)
-            | inr h ↦ Contains-append_right nodes (p ∷ []) (at j) (0, omega arith, is ∙ sym (seen.same j h (omega arith)))
-          ];
-          whole = λ l. omega arith;
         }
 
-pub all_seen : (points nodes : List GridPoint) (rows : List ℕ) (i : ℕ) → length points ≤ i → Seen points nodes rows i → AreRows points nodes rows
-all_seen points nodes rows i l seen = record {
-  each = seen.each;
-  begins = seen.begins;
-  ends = seen.whole l;
-  ascending = seen.ascending;
-  row = seen.row;
-  all = λ j d h. (let w = seen.whole l in subst (Contains nodes) (get_or_default points j _ d h) (seen.all j (omega arith)));
-}
+    own_row : IsRow grown p (length points) (length grown)
+    own_row =
+        let c = count in
+        record {
+          some = omega arith;
+          within = omega arith;
+          before = λ i l. subst (λ (z : GridPoint). is_before z p ≡ true) (old_point i l) (past i origin l);
+          here = λ i l n. sym (new_point i l n);
+          after = λ i l n. absurd (omega arith);
+        }
 
--- ---- the starts of first steps
-
-abbrev origin : GridPoint
-origin = record { x = pos 0; y = pos 0 }
-
-abbrev nowhere : FirstStep
-nowhere = record { step = record { start = origin; stop = origin }; arc = forward 0 }
-
-abbrev pub starts : List FirstStep → List GridPoint
-starts firsts = map (λ (f : FirstStep). f.step.start) firsts
-
-pub start_at : (firsts : List FirstStep) (k : ℕ) (d : FirstStep) → k < length firsts → point_at (starts firsts) k ≡ (get_or firsts k d).step.start
-start_at firsts k d l = get_or-map (λ (f : FirstStep). f.step.start) firsts k d origin l
-
-pub how_many : (firsts : List FirstStep) → length (starts firsts) ≡ length firsts
-how_many firsts = length-map firsts (λ (f : FirstStep). f.step.start)
-
-pub starts_ascend : (firsts : List FirstStep) → IsSortedBy (λ (f : FirstStep) (g : FirstStep). comes_first f.step g.step) firsts → (i j : ℕ) → i ≤ j → j < length (starts firsts)
-    → is_before (point_at (starts firsts) j) (point_at (starts firsts) i) ≡ false
-starts_ascend firsts sorted i j l m =
-    let n = how_many firsts in
-    let e = start_at firsts i nowhere (omega arith) in
-    let f = start_at firsts j nowhere (omega arith) in
-    (λ k. is_before (f k) (e k)) ∙ (not_first_from (get_or firsts j nowhere).step (get_or firsts i nowhere).step
-    (sorted_far (λ (f : FirstStep) (g : FirstStep). comes_first f.step g.step) (comes_first-IsStrictWeakOrder (λ (f : FirstStep). f.step)) firsts sorted i j nowhere l (omega arith))).0
+    pub row_added : AreRows grown more places
+    row_added =
+        let e = table.each in
+        let o = one_more in
+        record {
+          each = length-append rows (length grown ∷ []) ∙ omega arith;
+          begins = sym (old_place 0 (omega arith)) ∙ table.begins;
+          ends = (let n = ap (λ (k : ℕ). get_or places k 0) o ∙ new_place in omega arith);
+          ascending = all_pairs_push (λ (q r : GridPoint). is_before q r ≡ true) nodes p table.ascending rises;
+          row = λ k l. elim (cases_lt k m) [
+            | inl h ↦ row_same grown (point_at nodes k) (point_at more k) (get_or rows k 0) (get_or rows (k + 1) 0) (get_or places k 0) (get_or places (k + 1) 0) (sym (get_or-append nodes (p ∷ []) origin k h)) (old_place k (omega arith)) (old_place (k + 1) (omega arith))
+                (longer (point_at nodes k) (get_or rows k 0) (get_or rows (k + 1) 0) (rises k origin h) (table.row k h))
+            | inr h ↦ subst (λ (j : ℕ). IsRow grown (point_at more j) (get_or places j 0) (get_or places (j + 1) 0)) (let f : m ≡ k = omega arith in f)
+                (row_same grown p (point_at more m) (length points) (length grown) (get_or places m 0) (get_or places (m + 1) 0) (sym (get_or-append_seam nodes p [] origin)) (sym at_end ∙ old_place m (omega arith)) (sym new_place) own_row)
+          ];
+          all = All-append (Contains more) points added (λ j d l. Contains-append_left nodes (p ∷ []) (get_or points j d) (table.all j d l))
+              (λ j d l. Contains-append_right nodes (p ∷ []) (get_or added j d) (0, omega arith, sym (here j d l)));
+        }
 
 -- ---- starts, made of rows
 

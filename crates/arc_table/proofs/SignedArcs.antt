@@ -1,5 +1,5 @@
 -- The signed arcs of a table, each once.
-use Rattle.std.proofs.Common.{◌≡◌, ◌⊎◌, inl, inr, refl, sym, ap, ◌∙◌, subst, arith, ℕ, zero, suc, ◌<◌, ◌≤◌, Bool, true, false, not, ◌&&◌, List, [], ◌∷◌, ◌++◌, map, length, All, AllPairs, Contains, append_assoc}
+use Rattle.std.proofs.Common.{◌≡◌, ◌⊎◌, inl, inr, refl, sym, ap, ◌∙◌, subst, arith, ℕ, zero, suc, ◌<◌, ◌≤◌, Bool, true, false, not, ◌&&◌, List, [], ◌∷◌, ◌++◌, length, All, AllPairs, Contains, append_assoc}
 use Rattle.std.specs.Prelude.{◌≢◌, nat_eq}
 use Rattle.std.specs.Bool.{Decides}
 use Rattle.std.specs.List.Sorted.{IsPermutation}
@@ -8,11 +8,8 @@ use Rattle.std.proofs.lemmas.List.Elements.{All-cons, All-nil, All-append, Conta
 use Rattle.std.proofs.lemmas.List.Quantifiers.{all_pairs_push}
 use Rattle.std.proofs.lemmas.Map.Keys.{IsDistinct-IsPermutation}
 use Rattle.std.proofs.lemmas.Map.Made.{AllPairs-from_IsDistinct, IsDistinct-from_AllPairs}
-use Rattle.plane_model.specs.Points.{Path}
 use Rattle.plane_model.specs.Arcs.{SignedArc, forward, backward}
-use Rattle.arc_table.specs.FirstSteps.{IsThere}
-use Rattle.arc_table.specs.Around.{signed_below, first_of}
-use Rattle.arc_table.proofs.Everywhere.{All-mapped}
+use Rattle.arc_table.specs.Around.{signed_below}
 
 pub all_below : (n m : ℕ) → n ≤ m → All (λ (a : SignedArc). a.arc < m) (signed_below n)
 all_below zero m l = All-nil (λ (a : SignedArc). a.arc < m)
@@ -20,9 +17,6 @@ all_below (suc n) m l =
     let P : SignedArc → Type 0 = λ a. a.arc < m in
     All-append P (signed_below n) (forward n ∷ backward n ∷ []) (all_below n m (omega arith))
     (All-cons P (forward n) (backward n ∷ []) (omega arith) (All-cons P (backward n) [] (omega arith) (All-nil P)))
-
-pub firsts_there : (arcs : List Path) → All (IsThere (length arcs)) (map (first_of arcs) (signed_below (length arcs)))
-firsts_there arcs = All-mapped (λ (a : SignedArc). a.arc < length arcs) (IsThere (length arcs)) (first_of arcs) (λ a h. h) (signed_below (length arcs)) (all_below (length arcs) (length arcs) (omega arith))
 
 pub Contains-signed_below : (n : ℕ) (a : SignedArc) → a.arc < n → Contains (signed_below n) a
 Contains-signed_below zero a l = absurd (omega arith)

@@ -234,9 +234,12 @@ not_before_chain p q r a b = false_from_ne_true (is_before p r) (λ h. go (is_be
     go true e h = clash (is_before q r) (is_before-IsStrictOrder.trans q p r e h) b
     go false e h = clash (is_before q r) (subst (λ (x : GridPoint). is_before x r ≡ true) (is_before-IsStrictOrder.total p q a e) h) b
 
+pub later_not_first : (s t : Segment) → is_before s.start t.start ≡ true → comes_first t s ≡ false
+later_not_first s t h = not_first_to t s (not_back s.start t.start h) (λ f. absurd (is_before-IsStrictOrder.irreflexive t.start (subst (λ (x : GridPoint). is_before x t.start ≡ true) (sym f) h)))
+
 first_once : (s t : Segment) → comes_first s t ≡ true → comes_first t s ≡ false
 first_once s t e = elim (first_from s t e) [
-  | inl h ↦ not_first_to t s (not_back s.start t.start h) (λ f. absurd (is_before-IsStrictOrder.irreflexive t.start (subst (λ (x : GridPoint). is_before x t.start ≡ true) (sym f) h)))
+  | inl h ↦ later_not_first s t h
   | inr r ↦ not_first_to t s (false_from_ne_true (is_before t.start s.start) (λ h. is_before-IsStrictOrder.irreflexive t.start (subst (λ (x : GridPoint). is_before t.start x ≡ true) r.0 h))) (λ f. round_once s t r.1)
 ]
 

@@ -91,8 +91,8 @@ fn vertex_numbers(alloc: Global, steps: &StepList) -> Result<Vec<u32>, AllocErro
     Ok(numbers)
 }
 
-// There is a point before, and it is another.
-fn has_moved(last: Option<Pt>, p: Pt) -> bool {
+/// Whether there is a point before, and it is another.
+pub fn has_moved(last: Option<Pt>, p: Pt) -> bool {
     match last {
         Some(before) => !is_same(before, p),
         None => false,

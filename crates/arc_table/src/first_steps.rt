@@ -1,11 +1,14 @@
-ghost use Rattle.std.specs.Prelude.{◌≡◌, ◌+◌, ◌<◌, ◌≤◌, All, IfOk, length, map};
-ghost use Rattle.std.specs.List.Sorted.{IsPermutation};
+ghost use Rattle.std.specs.Prelude.{◌≡◌, ◌<◌, [], All, IfOk, length, slice_index_or};
+ghost use Rattle.std.specs.List.Sorted.{IsPermutation, IsSortedByKey};
 ghost use Rattle.std.specs.Ordering.{is_lt};
-ghost use Rattle.arc_table.specs.Around.{signed_below, first_of, first_step, half_of, comes_round_first, comes_first};
+ghost use Rattle.arc_table.specs.Around.{signed_below, first_step, start_of, half_of, comes_round_first, comes_first};
+ghost use Rattle.arc_table.specs.Direction.{point_at};
+ghost use Rattle.grid_base.specs.Order.{point_cmp};
 ghost use Rattle.plane_model.specs.Arcs.{goes_up};
 
 use crate::half_links::Step;
 use grid_base::{ArcId, Pt, SignedArc, is_before, is_same, turn};
+use known_order::{gathered, order_by_key};
 use span_pool::{SpanId, SpanPool};
 use std::alloc::{AllocError, Global};
 use std::cmp::Ordering;
@@ -17,8 +20,27 @@ pub struct FirstStep {
     pub arc: SignedArc,
 }
 
-/// The signed arcs of `count` arcs, each arc forward and then reversed.
-pub fn signed_arcs(alloc: Global, count: u32) -> Result<Vec<SignedArc>, AllocError>
+/// The signed arcs by where they start. `keys` has for each, arc after arc and each arc forward and then reversed, its
+/// place in this order, below `count`: a wrong one costs time alone.
+pub fn arcs_by_start(
+    alloc: Global,
+    arcs: &SpanPool,
+    keys: Vec<u32>,
+    count: usize,
+) -> Result<Vec<SignedArc>, AllocError>
+    ensures all { IfOk result (λ v. IsPermutation (signed_below (length arcs.now.spans)) v.items) }
+    ensures sorted { IfOk result (λ v. IsSortedByKey (start_of arcs.now.spans) point_cmp v.items) }
+{
+    let by_key = order_by_key(alloc, &keys, count)?;
+    drop(keys);
+    let mut by_start = gathered(alloc, &signed_arcs(alloc, arcs.count())?, &by_key)?;
+    // After this the sort has only to find the arcs in order.
+    by_start.sort_unstable_by_key(|a| start_of(arcs, *a));
+    Ok(by_start)
+}
+
+// The signed arcs of `count` arcs, each arc forward and then reversed.
+fn signed_arcs(alloc: Global, count: u32) -> Result<Vec<SignedArc>, AllocError>
     ensures exact { IfOk result (λ v. v.items ≡ signed_below count) }
 {
     let mut named = Vec::with_capacity(alloc, 2 * count as usize)?;
@@ -28,26 +50,6 @@ pub fn signed_arcs(alloc: Global, count: u32) -> Result<Vec<SignedArc>, AllocErr
         named.push(SignedArc::backward(id))?;
     }
     Ok(named)
-}
-
-/// The first steps of signed arcs.
-pub fn first_steps(
-    alloc: Global,
-    arcs: &SpanPool,
-    named: &[SignedArc],
-) -> Result<Vec<FirstStep>, AllocError>
-    requires long { All (λ arc. 1 < length arc) arcs.now.spans }
-    requires there { All (λ a. a.arc < length arcs.now.spans) named.now }
-    ensures exact { IfOk result (λ v. v.items ≡ map (first_of arcs.now.spans) named.now) }
-{
-    let mut firsts = Vec::with_capacity(alloc, named.len())?;
-    for a in named {
-        firsts.push(FirstStep {
-            step: first_step(arcs, *a),
-            arc: *a,
-        })?;
-    }
-    Ok(firsts)
 }
 
 /// The step that a signed arc begins with.
@@ -65,45 +67,37 @@ pub fn first_step(arcs: &SpanPool, a: SignedArc) -> Step
     }
 }
 
-/// Turns the steps from each vertex, which stand in a row, counterclockwise; it is proved only that they are the same.
-pub fn turn_rows(firsts: &mut [FirstStep])
-    ensures same { IsPermutation firsts.old firsts.new }
+/// Where a signed arc starts; of one that isn't there, the origin.
+pub fn start_of(arcs: &SpanPool, a: SignedArc) -> Pt
+    ensures exact { result ≡ start_of arcs.now.spans a }
 {
-    for i in 0..firsts.len() {
-        if begins_row(firsts, i) {
-            let end = row_end(firsts, i);
-            turn_row(firsts, i, end);
-        }
+    let points = points_or_none(arcs, a.id());
+    if a.is_reversed() {
+        point_or_origin(points, points.len().saturating_sub(1))
+    } else {
+        point_or_origin(points, 0)
     }
 }
 
-fn turn_row(firsts: &mut [FirstStep], first: usize, end: usize)
-    requires ordered { first ≤ end }
-    requires within { end ≤ length firsts.old }
-    ensures same { IsPermutation firsts.old firsts.new }
+// The points of an arc; none of one that isn't there.
+fn points_or_none(arcs: &SpanPool, id: ArcId) -> &[Pt]
+    ensures exact { result.now ≡ slice_index_or arcs.now.spans id [] }
 {
-    firsts[first..end].sort_unstable_by(turning);
-}
-
-// Whether the step before is not from the same vertex.
-fn begins_row(firsts: &[FirstStep], i: usize) -> bool
-    requires there { i < length firsts.now }
-{
-    i == 0 || !is_same(firsts[i - 1].step.from(), firsts[i].step.from())
-}
-
-// The place after the last step of the row that begins at `first`.
-fn row_end(firsts: &[FirstStep], first: usize) -> usize
-    requires there { first < length firsts.now }
-    ensures after { first ≤ result }
-    ensures within { result ≤ length firsts.now }
-{
-    for k in first + 1..firsts.len() {
-        if begins_row(firsts, k) {
-            return k;
-        }
+    if id.num() < arcs.count() {
+        arcs.get(SpanId::new(id.num()))
+    } else {
+        &[]
     }
-    firsts.len()
+}
+
+// The point at a place, and the origin past the end.
+fn point_or_origin(points: &[Pt], k: usize) -> Pt
+    ensures exact { result ≡ point_at points.now k }
+{
+    match points.get(k) {
+        Some(p) => *p,
+        None => Pt::new(0, 0).unwrap(),
+    }
 }
 
 /// The order by start, and at one start counterclockwise from the direction of the positive x axis.

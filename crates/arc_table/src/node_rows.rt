@@ -1,56 +1,92 @@
-ghost use Rattle.std.specs.Prelude.{◌≡◌, ◌+◌, ◌-◌, ◌<◌, ◌≤◌, ◌++◌, ◌∷◌, [], List, drop, IfOk, OnOk, false, length, map, take, true};
-ghost use Rattle.std.specs.List.Sorted.{IsSortedBy};
+ghost use Rattle.std.specs.Prelude.{◌≡◌, ◌+◌, ◌-◌, ◌<◌, ◌≤◌, ◌++◌, ◌∷◌, [], All, List, drop, IfOk, OnOk, false, length, map, take, true};
+ghost use Rattle.std.specs.List.Sorted.{IsPermutation, IsSortedByKey};
+ghost use Rattle.grid_base.specs.Order.{point_cmp};
 ghost use Rattle.plane_model.specs.Points.{GridPoint, same_point};
-ghost use Rattle.arc_table.specs.Around.{comes_first};
+ghost use Rattle.arc_table.specs.Around.{IsTurned, signed_below, start_of};
 ghost use Rattle.arc_table.specs.Direction.{point_at};
+ghost use Rattle.arc_table.specs.FirstSteps.{AddsRow};
 ghost use Rattle.arc_table.specs.Rows.{AreRows, IsRow};
 
-use crate::first_steps::FirstStep;
+use crate::arc_order::has_moved;
+use crate::first_steps::{FirstStep, first_step, start_of, turning};
 use grid_base::{Pt, SignedArc, is_same};
+use span_pool::SpanPool;
 use std::alloc::{AllocError, Global};
 
-/// The points where signed arcs start, in order, each once; and for each where its row begins among the arcs by their
-/// starts, counted from 0, and then where the last row ends.
+/// The points where signed arcs start, in order, each once; for each where its row begins among the arcs by their
+/// starts, counted from 0, and then where the last row ends; and these arcs, counterclockwise in each row.
 #[derive(Drop)]
 pub struct NodeRows {
     pub nodes: Vec<Pt>,
     pub rows: Vec<u32>,
+    pub outs: Vec<SignedArc>,
 }
 
-/// The rows of first steps by their starts.
+/// The rows of the signed arcs, which stand by their starts; each row is turned counterclockwise, from the direction of
+/// the positive x axis on.
 ///
-/// Errors: `AllocError` for want of memory, or of numbers below 2^32 for the steps.
-pub fn rows_of(alloc: Global, firsts: &[FirstStep]) -> Result<NodeRows, AllocError>
-    requires sorted { IsSortedBy (λ f g. comes_first f.step g.step) firsts.now }
-    ensures exact { IfOk result (λ r. AreRows (map (λ f. f.step.start) firsts.now) r.nodes.items r.rows.items) }
+/// Errors: `AllocError` for want of memory, or of numbers below 2^32 for the arcs.
+pub fn rows_of(
+    alloc: Global,
+    arcs: &SpanPool,
+    by_start: &[SignedArc],
+) -> Result<NodeRows, AllocError>
+    requires long { All (λ arc. 1 < length arc) arcs.now.spans }
+    requires all { IsPermutation (signed_below (length arcs.now.spans)) by_start.now }
+    requires sorted { IsSortedByKey (start_of arcs.now.spans) point_cmp by_start.now }
+    ensures turned { IfOk result (λ r. IsTurned arcs.now.spans (map (start_of arcs.now.spans) r.outs.items) r.outs.items) }
+    ensures rows { IfOk result (λ r. AreRows (map (start_of arcs.now.spans) r.outs.items) r.nodes.items r.rows.items) }
 {
-    let mut seen = NodeRows::with_room(alloc, row_count(firsts))?;
-    for i in 0..firsts.len() {
-        if ends_row(firsts, i) {
-            seen.close(firsts[i].step.from(), i + 1)?;
+    let mut done = NodeRows::with_room(alloc, row_count(arcs, by_start), by_start.len())?;
+    let mut row = Vec::new(alloc);
+    for a in by_start {
+        let step = first_step(arcs, *a);
+        if ends_before(&row, step.from()) {
+            done.add(&mut row)?;
         }
+        row.push(FirstStep { step, arc: *a })?;
     }
-    Ok(seen)
+    if !row.is_empty() {
+        done.add(&mut row)?;
+    }
+    Ok(done)
 }
 
 impl NodeRows {
-    // No row, with room for `count` rows.
-    fn with_room(alloc: Global, count: usize) -> Result<NodeRows, AllocError>
-        ensures none { IfOk result (λ r. (r.nodes.items ≡ []) × (r.rows.items ≡ 0 ∷ [])) }
+    // No row, with room for `count` rows of `arcs` arcs.
+    fn with_room(alloc: Global, count: usize, arcs: usize) -> Result<NodeRows, AllocError>
+        ensures none { IfOk result (λ r. (r.nodes.items ≡ []) × (r.rows.items ≡ 0 ∷ []) × (r.outs.items ≡ [])) }
     {
         let mut rows = Vec::with_capacity(alloc, count.saturating_add(1))?;
         rows.push(0)?;
         Ok(NodeRows {
             nodes: Vec::with_capacity(alloc, count)?,
             rows,
+            outs: Vec::with_capacity(alloc, arcs)?,
         })
     }
 
-    // Adds the row of a node, which ends before place `stop`.
-    fn close(&mut self, node: Pt, stop: usize) -> Result<(), AllocError>
-        ensures node { OnOk result (self.new.nodes.items ≡ self.old.nodes.items ++ node ∷ []) }
-        ensures stop { OnOk result (self.new.rows.items ≡ self.old.rows.items ++ stop ∷ []) }
+    // Adds the row of these steps, which start at one node, in turn. No step is left.
+    fn add(&mut self, row: &mut Vec<FirstStep>) -> Result<(), AllocError>
+        requires some { 0 < length row.old.items }
+        ensures added { OnOk result (AddsRow row.old.items self.old self.new) }
+        ensures none { OnOk result (row.new.items ≡ []) }
     {
+        let node = row[0].step.from();
+        row.sort_unstable_by(turning);
+        push_arcs(&mut self.outs, row)?;
+        self.close(node)?;
+        row.clear();
+        Ok(())
+    }
+
+    // Closes the row of a node, of the last arcs.
+    fn close(&mut self, node: Pt) -> Result<(), AllocError>
+        ensures node { OnOk result (self.new.nodes.items ≡ self.old.nodes.items ++ node ∷ []) }
+        ensures stop { OnOk result (self.new.rows.items ≡ self.old.rows.items ++ length self.old.outs.items ∷ []) }
+        ensures outs { OnOk result (self.new.outs.items ≡ self.old.outs.items) }
+    {
+        let stop = self.outs.len();
         if stop > u32::MAX as usize {
             return Err(AllocError);
         }
@@ -60,27 +96,39 @@ impl NodeRows {
     }
 }
 
-// How many rows there are: room is made for them at first.
-fn row_count(firsts: &[FirstStep]) -> usize {
-    let mut count: usize = 0;
-    for i in 0..firsts.len() {
-        if ends_row(firsts, i) {
-            count = count.saturating_add(1);
-        }
+fn push_arcs(outs: &mut Vec<SignedArc>, row: &[FirstStep]) -> Result<(), AllocError>
+    ensures pushed { OnOk result (outs.new.items ≡ outs.old.items ++ map (λ f. f.arc) row.now) }
+{
+    for first in row {
+        outs.push(first.arc)?;
     }
-    count
+    Ok(())
 }
 
-// Whether the step after the one at place `i` starts elsewhere, or there is none.
-fn ends_row(firsts: &[FirstStep], i: usize) -> bool
-    requires there { i < length firsts.now }
-    ensures ends { result ≡ true → i + 1 < length firsts.now →
-        same_point (point_at (map (λ f. f.step.start) firsts.now) i) (point_at (map (λ f. f.step.start) firsts.now) (i + 1)) ≡ false }
-    ensures goes { result ≡ false → i + 1 < length firsts.now }
-    ensures same { result ≡ false →
-        same_point (point_at (map (λ f. f.step.start) firsts.now) i) (point_at (map (λ f. f.step.start) firsts.now) (i + 1)) ≡ true }
+// Whether a row has steps, and they start elsewhere than at `p`.
+fn ends_before(row: &[FirstStep], p: Pt) -> bool
+    ensures some { result ≡ true → 0 < length row.now }
+    ensures ends { result ≡ true → same_point (point_at (map (λ f. f.step.start) row.now) 0) p ≡ false }
+    ensures goes { result ≡ false → 0 < length row.now → point_at (map (λ f. f.step.start) row.now) 0 ≡ p }
 {
-    i + 1 >= firsts.len() || !is_same(firsts[i].step.from(), firsts[i + 1].step.from())
+    match row.first() {
+        Some(first) => !is_same(first.step.from(), p),
+        None => false,
+    }
+}
+
+// How many rows there are, and 1 for no arcs: room is made for them at first.
+fn row_count(arcs: &SpanPool, by_start: &[SignedArc]) -> usize {
+    let mut count: usize = 1;
+    let mut last = None;
+    for a in by_start {
+        let from = start_of(arcs, *a);
+        if has_moved(last, from) {
+            count = count.saturating_add(1);
+        }
+        last = Some(from);
+    }
+    count
 }
 
 /// Whether there is a node with this number, and it is `p`.

@@ -1,4 +1,4 @@
-ghost use Rattle.std.specs.Prelude.{◌≡◌, ◌≢◌, AllPairs, ◌+◌, ◌<◌, ◌≤◌, [], ◌++◌, All, IfOk, IfSome, None, OnOk, Some, false, length, map, slice_get, slice_index_or, true};
+ghost use Rattle.std.specs.Prelude.{◌≡◌, ◌≢◌, AllPairs, ◌+◌, ◌<◌, ◌≤◌, [], ◌++◌, All, IfOk, IfSome, None, OnOk, Some, false, length, slice_get, slice_index_or, true};
 ghost use Rattle.plane_model.specs.Arcs.{points_of};
 ghost use Rattle.plane_model.specs.Snapped.{links_of};
 ghost use Rattle.arc_table.specs.Along.{GoAlong, links_of_arcs};
@@ -11,16 +11,13 @@ ghost use Rattle.arc_table.specs.WholeArcs.{IsWholeArc, StartsAtLeast};
 
 use crate::arc_net::ArcNet;
 use crate::arc_order::ArcOrder;
-use crate::first_steps::{
-    FirstStep, comes_first, first_step, first_steps, signed_arcs, turn_rows, turning,
-};
+use crate::first_steps::{arcs_by_start, comes_first, first_step};
 use crate::half_links::{Step, is_step};
 use crate::node_rows::{NodeRows, part_of, rows_of, stands_at};
 use crate::numbered_arcs::NumberedArcs;
 use crate::rows::LinkOrder;
 use crate::vertices::{ArcVertex, inner_vertices, least_at, least_of, lesser_of};
 use grid_base::{ArcId, Drawing, Pt, SignedArc, Snapped, is_before, is_same};
-use known_order::{gathered, order_by_key};
 use span_pool::{SpanId, SpanPool};
 use std::alloc::{AllocError, Global};
 use std::marker::Model;
@@ -110,18 +107,9 @@ impl ArcTable {
             inner: inner_keys,
             links,
         } = order;
-        let by_start = order_by_key(alloc, &first_keys, steps)?;
-        drop(first_keys);
-        let named = gathered(alloc, &signed_arcs(alloc, arcs.count())?, &by_start)?;
+        let by_start = arcs_by_start(alloc, &arcs, first_keys, steps)?;
+        let NodeRows { nodes, rows, outs } = rows_of(alloc, &arcs, &by_start)?;
         drop(by_start);
-        let mut firsts = first_steps(alloc, &arcs, &named)?;
-        drop(named);
-        turn_rows(&mut firsts);
-        // The sort has only to find the steps in order.
-        firsts.sort_unstable_by(turning);
-        let NodeRows { nodes, rows } = rows_of(alloc, &firsts)?;
-        let outs = arcs_of(alloc, &firsts)?;
-        drop(firsts);
         let inner = inner_vertices(alloc, &arcs, &inner_keys, steps)?;
         Ok(ArcTable {
             arcs,
@@ -272,10 +260,4 @@ impl ArcTable {
     {
         first_step(&self.arcs, a)
     }
-}
-
-fn arcs_of(alloc: Global, firsts: &[FirstStep]) -> Result<Vec<SignedArc>, AllocError>
-    ensures exact { IfOk result (λ v. v.items ≡ map (λ f. f.arc) firsts.now) }
-{
-    firsts.iter().map(|f| f.arc).collect(alloc)
 }

@@ -1,37 +1,61 @@
-use Rattle.std.proofs.Common.{List, ℕ, ◌+◌, ◌++◌, ◌∷◌, [], ◌≡◌, sym, ap, subst, refl, ◌∙◌, arith}
-use Rattle.plane_model.specs.Points.{GridPoint}
+use Rattle.std.proofs.Common.{rules, ◌≡◌, ℕ, List, [], ◌∷◌, ◌++◌, ◌+◌, ◌-◌, ◌<◌, false, map, length, get_or, take, refl, sym, ap, subst, ◌∙◌, arith}
+use Rattle.std.specs.List.Sorted.{IsPermutation}
+use Rattle.std.specs.Vec.{vec_len}
+use Rattle.std.proofs.lemmas.Bool.{eqb-true, eqb-false}
+use Rattle.std.proofs.lemmas.List.{get_or_default, nil_from_length, take_all, take_more}
+use Rattle.std.proofs.lemmas.List.Sorted.{All-permutation}
+use Rattle.plane_model.specs.Points.{GridPoint, Segment, is_before, same_point}
+use Rattle.plane_model.specs.Arcs.{SignedArc, forward}
+use Rattle.arc_table.specs.Around.{signed_below, start_of}
+use Rattle.arc_table.specs.Direction.{point_at}
+use Rattle.arc_table.specs.declared.first_steps.FirstStep.{FirstStep}
 use Rattle.arc_table.specs.declared.node_rows.NodeRows.{NodeRows}
-use Rattle.arc_table.proofs.RowTable.{Seen, starts, how_many, start_at, starts_ascend, none_seen, kept, closed, all_seen}
-use Rattle.arc_table.proofs.node_rows.rows_of.Goals.{then-ends_row+in_ok-close, else-ends_row}
+use Rattle.arc_table.proofs.SignedArcs.{all_below}
+use Rattle.arc_table.proofs.TurnTable.{IsUnderWay, AreAllRows, same_way, never_back, kept, closed, one_more, none_left, last_closed}
+use Rattle.arc_table.proofs.node_rows.rows_of.Goals.{then-ends_before+in_ok-add, else-ends_before, then-not-is_empty+in_ok-add-2, else-not-is_empty}
 use Rattle.arc_table.proofs.node_rows.rows_of.Goals as goal
 
--- the same rows
-same_rows : (points : List GridPoint) (i : ℕ) (nodes more : List GridPoint) (rows places : List ℕ) → more ≡ nodes → places ≡ rows → Seen points nodes rows i → Seen points more places i
-same_rows points i nodes more rows places e f h = subst (λ (t : List GridPoint × List ℕ). Seen points t.0 t.1 i) (λ k. (sym e k, sym f k)) h
+pub first_step-step-requires-clause-there : goal.first_step-step-requires-clause-there
+first_step-step-requires-clause-there c =
+    let n = length c.args.arcs.now.spans in
+    subst (λ (a : SignedArc). a.arc < n) (sym c.a-item.is) (All-permutation (λ (a : SignedArc). a.arc < n) (signed_below n) c.args.by_start.now c.requires.all (all_below n n (omega arith)) c.loop-a.a-index c.a-item.result c.loop-a-test.true)
 
-pub loop-i-init : goal.loop-i-init
-loop-i-init c = same_rows (starts c.args.firsts.now) 0 [] c.in_ok-seen.seen.nodes.items (0 ∷ []) c.in_ok-seen.seen.rows.items c.in_ok-seen.ensures.none.0 c.in_ok-seen.ensures.none.1 (none_seen (starts c.args.firsts.now))
-
-pub loop-i-preserved : goal.loop-i-preserved
-loop-i-preserved c =
-    let firsts = c.args.firsts.now in
-    let i = c.loop-i.i in
-    let n = how_many firsts in
-    let before = c.loop-i.seen in
-    let ascend = starts_ascend firsts c.requires.sorted in
-    elim c.if-ends_row.branch [
-      | then-ends_row+in_ok-close w ↦
-          (let p = w.from.result in
-          same_rows (starts firsts) (i + 1) (before.nodes.items ++ p ∷ []) c.if-ends_row.seen.nodes.items (before.rows.items ++ (i + 1) ∷ []) c.if-ends_row.seen.rows.items
-          (ap (λ (t : NodeRows). t.nodes.items) w.seen-is ∙ w.in_ok-close.ensures.node)
-          (ap (λ (t : NodeRows). t.rows.items) w.seen-is ∙ w.in_ok-close.ensures.stop)
-          (closed (starts firsts) ascend before.nodes.items before.rows.items i c.loop-i.invariant p (i + 1) (omega arith)
-          (w.from.ensures.exact ∙ sym (start_at firsts i w.index-firsts-i.result c.loop-i-test.true)) refl (λ l. w.if-ends_row.ensures.ends refl (let h = n in omega arith))))
-      | else-ends_row w ↦
-          same_rows (starts firsts) (i + 1) before.nodes.items c.if-ends_row.seen.nodes.items before.rows.items c.if-ends_row.seen.rows.items
-          (ap (λ (t : NodeRows). t.nodes.items) w.seen-is) (ap (λ (t : NodeRows). t.rows.items) w.seen-is)
-          (kept (starts firsts) ascend before.nodes.items before.rows.items i c.loop-i.invariant (let l = w.if-ends_row.ensures.goes refl in omega arith) (w.if-ends_row.ensures.same refl))
-    ]
+pub loop-a-preserved : goal.loop-a-preserved
+loop-a-preserved c =
+    let arcs = c.args.arcs.now.spans in
+    let by_start = c.args.by_start.now in
+    let i = c.loop-a.a-index in
+    let a = c.a-item.result in
+    let p = start_of arcs (get_or by_start (i - 1) (forward 0)) in
+    let q = c.from.result in
+    let done = c.loop-a.done in
+    let row = c.loop-a.row.items in
+    let here : start_of arcs a ≡ q = sym (c.from.ensures.exact ∙ ap (λ (s : Segment). s.start) c.first_step-step.ensures.exact) in
+    let up : is_before q p ≡ false = subst (λ (z : GridPoint). is_before z p ≡ false) here (never_back arcs by_start c.requires.sorted i a c.loop-a-test.true c.a-item.is) in
+    let before : IsUnderWay arcs (take i by_start) c.if-ends_before.done c.if-ends_before.row.items q = elim c.if-ends_before.branch [
+      | then-ends_before+in_ok-add w ↦ same_way arcs (take i by_start) w.add.new.self c.if-ends_before.done [] c.if-ends_before.row.items q w.done-is (ap (λ r. r.items) w.row-is ∙ w.in_ok-add.ensures.none)
+          (closed arcs (take i by_start) done row p c.loop-a.invariant (subst (λ (fs : List FirstStep). 0 < length fs) c.deref.ensures.value (w.if-ends_before.ensures.some refl)) w.add.new.self w.in_ok-add.ensures.added q up
+          (subst (λ (fs : List FirstStep). same_point (point_at (map (λ (f : FirstStep). f.step.start) fs) 0) q ≡ false) c.deref.ensures.value (w.if-ends_before.ensures.ends refl)))
+      | else-ends_before w ↦ same_way arcs (take i by_start) done c.if-ends_before.done row c.if-ends_before.row.items q w.done-is (ap (λ r. r.items) w.row-is)
+          (kept arcs (take i by_start) done row p c.loop-a.invariant q up (subst (λ (fs : List FirstStep). 0 < length fs → point_at (map (λ (f : FirstStep). f.step.start) fs) 0 ≡ q) c.deref.ensures.value (w.if-ends_before.ensures.goes refl)))
+    ] in
+    let taken : take (i + 1) by_start ≡ take i by_start ++ a ∷ [] = take_more by_start i a c.loop-a-test.true ∙ ap (λ (b : SignedArc). take i by_start ++ b ∷ []) (sym c.a-item.is) in
+    let last : start_of arcs (get_or by_start (i + 1 - 1) (forward 0)) ≡ q = ap (λ (j : ℕ). start_of arcs (get_or by_start j (forward 0))) (let e : i + 1 - 1 ≡ i = omega arith in e) ∙ ap (start_of arcs) (sym (c.a-item.is ∙ get_or_default by_start i a (forward 0) c.loop-a-test.true)) ∙ here in
+    subst (λ (t : List SignedArc × GridPoint). IsUnderWay arcs t.0 c.if-ends_before.done c.push.new.self.items t.1) (λ k. (sym taken k, sym last k))
+    (one_more arcs (take i by_start) c.if-ends_before.done c.if-ends_before.row.items q before a _ (λ k. record { step = c.first_step-step.ensures.exact k; arc = a }) here c.push.new.self.items c.in_ok-push.ensures.items)
 
 pub returns : goal.returns
-returns c = record { exact = all_seen (starts c.args.firsts.now) c.loop-i.seen.nodes.items c.loop-i.seen.rows.items c.loop-i.i (let n = how_many c.args.firsts.now in let l = c.loop-i-test.false in omega arith) c.loop-i.invariant }
+returns c =
+    let arcs = c.args.arcs.now.spans in
+    let by_start = c.args.by_start.now in
+    let i = c.loop-a.a-index in
+    let p = start_of arcs (get_or by_start (i - 1) (forward 0)) in
+    let done = c.loop-a.done in
+    let row = c.loop-a.row.items in
+    let all = subst (IsPermutation (signed_below (length arcs))) (sym (take_all i by_start (let h = c.loop-a-test.false in omega arith))) c.requires.all in
+    let size : length row ≡ vec_len c.loop-a.row = search rules in
+    let both : AreAllRows arcs c.if-not-is_empty.done = elim c.if-not-is_empty.branch [
+      | then-not-is_empty+in_ok-add-2 w ↦ subst (AreAllRows arcs) (sym w.done-is) (last_closed arcs (take i by_start) done row p c.loop-a.invariant (let n = eqb-false (vec_len c.loop-a.row) 0 (sym w.if-not-is_empty.ensures) in omega arith) w.add-then-not-is_empty.new.self w.in_ok-add-2.ensures.added all)
+      | else-not-is_empty w ↦ subst (AreAllRows arcs) (sym w.done-is) (none_left arcs (take i by_start) done row p c.loop-a.invariant (nil_from_length row (size ∙ eqb-true (vec_len c.loop-a.row) 0 (sym w.if-not-is_empty.ensures))) all)
+    ] in
+    record { turned = both.0; rows = both.1 }
