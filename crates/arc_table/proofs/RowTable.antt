@@ -1,5 +1,5 @@
 -- Points in order, in rows of equal ones.
-use Rattle.std.proofs.Common.{◌≡◌, inl, inr, refl, sym, ap, ◌∙◌, subst, arith, ℕ, ◌+◌, ◌-◌, ◌<◌, ◌≤◌, Bool, true, false, List, [], ◌∷◌, ◌++◌, map, length, length-append, get_or, take, drop, length-drop, All, AllPairs, Contains, pos}
+use Rattle.std.proofs.Common.{rules, ◌≡◌, inl, inr, refl, sym, ap, ◌∙◌, subst, arith, ℕ, ◌+◌, ◌-◌, ◌<◌, ◌≤◌, Bool, true, false, List, [], ◌∷◌, ◌++◌, map, length, length-append, get_or, take, drop, length-drop, All, AllPairs, Contains, pos}
 use Rattle.std.specs.List.Sorted.{IsPartitionPoint, IsPartitionedBy}
 use Rattle.std.proofs.lemmas.Bool.{cases_lt, false_from_ne_true}
 use Rattle.std.proofs.Math.ListN.{get_or-append}
@@ -30,14 +30,10 @@ before_later p q r e f = go (is_before p r) refl
 
 -- points in order that differ
 pub before_other : (p q : GridPoint) → is_before q p ≡ false → same_point p q ≡ false → is_before p q ≡ true
-before_other p q e f = go (is_before p q) refl
-  where
-    go : (b : Bool) → is_before p q ≡ b → b ≡ true
-    go true g = refl
-    go false g = clash (same_point p q) (same_point_to p q (is_before-IsStrictOrder.total p q g e)) f
+before_other p q e f = search rules
 
 pub never_before : (p q : GridPoint) → p ≡ q → is_before p q ≡ false
-never_before p q e = false_from_ne_true (is_before p q) (λ b. is_before-IsStrictOrder.irreflexive q (subst (λ (r : GridPoint). is_before r q ≡ true) e b))
+never_before p q e = search rules
 
 row_same : (points : List GridPoint) (p q : GridPoint) (a b m n : ℕ) → p ≡ q → a ≡ m → b ≡ n → IsRow points p a b → IsRow points q m n
 row_same points p q a b m n e f g h = subst (λ (t : GridPoint × (ℕ × ℕ)). IsRow points t.0 t.1.0 t.1.1) (λ i. (e i, (f i, g i))) h

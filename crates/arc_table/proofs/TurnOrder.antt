@@ -1,5 +1,5 @@
 -- Steps by start, and at one start in turn, are in order.
-use Rattle.std.proofs.Common.{◌≡◌, ◌⊎◌, inl, inr, refl, sym, ap, ◌∙◌, subst, arith, ℕ, ◌<◌, ◌≤◌, Bool, true, false, ◌&&◌, ◌||◌}
+use Rattle.std.proofs.Common.{rules, ◌≡◌, ◌⊎◌, inl, inr, refl, sym, ap, ◌∙◌, subst, arith, ℕ, ◌<◌, ◌≤◌, Bool, true, false, ◌&&◌, ◌||◌}
 use Rattle.std.proofs.Math.IntN.{ℤ, pos, ◌+ℤ◌, ◌-ℤ◌, ◌*ℤ◌, *ℤ_comm}
 use Rattle.std.specs.Prelude.{◌≤ℤ◌, ◌<ℤ◌, int_lt, nat_lt, nat_eq, if◌then◌else◌}
 use Rattle.std.specs.Cmp.{IsStrictWeakOrder}
@@ -225,7 +225,7 @@ not_first_to s t l f = go (same_point s.start t.start) refl
     go false g = (λ i. l i || (g i && comes_round_first s t))
 
 pub not_back : (p q : GridPoint) → is_before p q ≡ true → is_before q p ≡ false
-not_back p q h = false_from_ne_true (is_before q p) (λ k. is_before-IsStrictOrder.irreflexive p (is_before-IsStrictOrder.trans p q p h k))
+not_back p q h = search rules
 
 pub not_before_chain : (p q r : GridPoint) → is_before p q ≡ false → is_before q r ≡ false → is_before p r ≡ false
 not_before_chain p q r a b = false_from_ne_true (is_before p r) (λ h. go (is_before q p) refl h)

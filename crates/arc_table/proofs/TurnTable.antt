@@ -1,8 +1,7 @@
 -- Signed arcs by their starts, turned row by row.
-use Rattle.std.proofs.Common.{◌≡◌, inl, inr, refl, sym, ap, ◌∙◌, subst, arith, ℕ, ◌+◌, ◌-◌, ◌<◌, ◌≤◌, true, false, List, [], ◌∷◌, ◌++◌, append_assoc, map, length, length-append, get_or, All, pos, Ordering}
+use Rattle.std.proofs.Common.{rules, ◌≡◌, inl, inr, refl, sym, ap, ◌∙◌, subst, arith, ℕ, ◌+◌, ◌-◌, ◌<◌, ◌≤◌, true, false, List, [], ◌∷◌, ◌++◌, append_assoc, map, length, length-append, get_or, All, pos}
 use Rattle.std.specs.List.Sorted.{IsPermutation, IsSortedBy, IsSortedByKey}
-use Rattle.std.specs.Ordering.{is_lt, ordering_reverse}
-use Rattle.std.specs.declared.cmp.Ordering.TheVariants.{Less, Equal, Greater}
+use Rattle.std.specs.Ordering.{is_lt}
 use Rattle.std.proofs.Math.ListN.{get_or-append}
 use Rattle.std.proofs.Math.Seq.{get_or-append_right}
 use Rattle.std.proofs.lemmas.Bool.{cases_lt}
@@ -13,7 +12,6 @@ use Rattle.plane_model.specs.Points.{GridPoint, Segment, Path, same_point, is_be
 use Rattle.plane_model.specs.Arcs.{SignedArc, forward}
 use Rattle.plane_model.proofs.PointOrder.{is_before-IsStrictOrder}
 use Rattle.grid_base.specs.Order.{point_cmp}
-use Rattle.grid_base.proofs.PointSearch.{point_cmp-total, equal_is, less_is}
 use Rattle.arc_table.specs.Around.{signed_below, first_of, first_step, start_of, comes_first, IsTurned}
 use Rattle.arc_table.specs.Direction.{point_at}
 use Rattle.arc_table.specs.FirstSteps.{AddsRow}
@@ -22,7 +20,7 @@ use Rattle.arc_table.specs.declared.first_steps.FirstStep.{FirstStep}
 use Rattle.arc_table.specs.declared.node_rows.NodeRows.{NodeRows}
 use Rattle.arc_table.proofs.Everywhere.{All-mapped}
 use Rattle.arc_table.proofs.RowTable.{before_later, before_other, never_before, row_added}
-use Rattle.arc_table.proofs.TurnOrder.{later_not_first, not_back}
+use Rattle.arc_table.proofs.TurnOrder.{later_not_first}
 
 abbrev origin : GridPoint
 origin = record { x = pos 0; y = pos 0 }
@@ -54,12 +52,7 @@ same_way arcs taken d e r s p f g h = subst (λ (t : NodeRows × List FirstStep)
 
 -- what is not less does not come before
 not_before : (p q : GridPoint) → is_lt (point_cmp p q) ≡ false → is_before p q ≡ false
-not_before p q e = go (point_cmp p q) refl e
-  where
-    go : (a : Ordering) → point_cmp p q ≡ a → is_lt a ≡ false → is_before p q ≡ false
-    go Less f e = absurd cc
-    go Equal f e = never_before p q (equal_is p q f)
-    go Greater f e = not_back q p (less_is q p (point_cmp-total.antisymm q p ∙ ap ordering_reverse f))
+not_before p q e = search rules
 
 module _ (arcs : List Path) where
   abbrev start : SignedArc → GridPoint
@@ -139,7 +132,7 @@ module _ (arcs : List Path) where
       row_in_turn k d l m =
           let n = length-map turned (λ (f : FirstStep). f.arc) in
           let step : (j : ℕ) → j < length turned → first_step arcs (get_or (arcs_of turned) j d) ≡ (get_or turned j (first_of arcs d)).step = λ j h.
-              ap (first_step arcs) (get_or-map (λ (f : FirstStep). f.arc) turned j (first_of arcs d) d h) ∙ sym (All-permutation (IsFrom arcs p) row turned adds.same way.here j (first_of arcs d) h).0 in
+          ap (first_step arcs) (get_or-map (λ (f : FirstStep). f.arc) turned j (first_of arcs d) d h) ∙ sym (All-permutation (IsFrom arcs p) row turned adds.same way.here j (first_of arcs d) h).0 in
           (λ i. comes_first (step (k + 1) (omega arith) i) (step k (omega arith) i)) ∙ adds.in_turn k (first_of arcs d) l (omega arith)
 
       all_taken : IsPermutation taken new.outs.items
