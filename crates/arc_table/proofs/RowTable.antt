@@ -8,6 +8,7 @@ use Rattle.std.proofs.lemmas.List.{get_or_default, get_or-map, get_or-drop, leng
 use Rattle.std.proofs.lemmas.List.Elements.{All-append, Contains-append_left, Contains-append_right}
 use Rattle.std.proofs.lemmas.List.Quantifiers.{all_pairs_push}
 use Rattle.std.proofs.lemmas.List.Sorted.{Contains-permutation}
+use Rattle.std.proofs.lemmas.Grind.{common_steps}
 use Rattle.plane_model.specs.Points.{GridPoint, Path, same_point, is_before}
 use Rattle.plane_model.specs.Arcs.{SignedArc}
 use Rattle.plane_model.proofs.PointOrder.{clash, same_point_from, same_point_to, is_before-IsStrictOrder}
@@ -22,11 +23,7 @@ use Rattle.arc_table.proofs.TurnOrder.{not_before_chain, not_back}
 
 -- a point before another, which is not after a third
 pub before_later : (p q r : GridPoint) → is_before p q ≡ true → is_before r q ≡ false → is_before p r ≡ true
-before_later p q r e f = go (is_before p r) refl
-  where
-    go : (b : Bool) → is_before p r ≡ b → b ≡ true
-    go true g = refl
-    go false g = clash (is_before p q) e (not_before_chain p r q g f)
+before_later p q r e f = grind (arith, common_steps)
 
 -- points in order that differ
 pub before_other : (p q : GridPoint) → is_before q p ≡ false → same_point p q ≡ false → is_before p q ≡ true

@@ -3,7 +3,8 @@ use Rattle.std.proofs.Common.{rules, ◌≡◌, ◌⊎◌, inl, inr, refl, sym, 
 use Rattle.std.proofs.Math.IntN.{ℤ, pos, ◌+ℤ◌, ◌-ℤ◌, ◌*ℤ◌, *ℤ_comm}
 use Rattle.std.specs.Prelude.{◌≤ℤ◌, ◌<ℤ◌, int_lt, nat_lt, nat_eq, if◌then◌else◌}
 use Rattle.std.specs.Cmp.{IsStrictWeakOrder}
-use Rattle.std.proofs.lemmas.Bool.{and_from, ltb-true, ltb-false, le-ltb, eqb-true, eqb-false, false_from_ne_true}
+use Rattle.std.proofs.lemmas.Bool.{and_from, and_parts, cases_lt, ltb-true, ltb-false, le-ltb, eqb-true, eqb-false, false_from_ne_true}
+use Rattle.std.proofs.lemmas.Grind.{common_steps}
 use Rattle.plane_algebra.proofs.Order.{order, order_cases}
 use Rattle.plane_algebra.proofs.Ring.{ring, ◌≐◌, ◌⊞◌, ◌⊟◌, ◌⊠◌, num}
 use Rattle.plane_algebra.proofs.Laws.{zero-mul_ℤ}
@@ -92,14 +93,10 @@ up_from s e = go (int_lt s.start.y s.stop.y) (same_int s.start.y s.stop.y) (int_
     go false false c f g h e = absurd (cc)
 
 not_less : (a b : ℤ) → int_lt a b ≡ false → b ≤ℤ a
-not_less a b e = order_cases b a (λ h. h) (λ h. clash (int_lt a b) (lt_to a b h) e)
+not_less a b e = search rules
 
 is_not_less : (a b : ℤ) → b ≤ℤ a → int_lt a b ≡ false
-is_not_less a b h = go (int_lt a b) refl
-  where
-    go : (t : Bool) → int_lt a b ≡ t → t ≡ false
-    go true e = absurd (let g = lt_from a b e in omega order)
-    go false e = refl
+is_not_less a b h = search rules
 
 down_from : (s : Segment) → goes_up s ≡ false → same_point s.start s.stop ≡ false → GoesUp (reversed s)
 down_from s e f =
@@ -154,29 +151,13 @@ module _ (s t u : Segment) (st : half_of s ≡ half_of t) (tu : half_of t ≡ ha
 -- ---- in turn
 
 ahead_from : (m n : ℕ) (c : Bool) → (nat_lt m n || (nat_eq m n && c)) ≡ true → (m < n) ⊎ ((m ≡ n) × (c ≡ true))
-ahead_from m n c e = go (nat_lt m n) (nat_eq m n) c refl refl refl e
-  where
-    go : (a b d : Bool) → nat_lt m n ≡ a → nat_eq m n ≡ b → c ≡ d → (a || (b && d)) ≡ true → (m < n) ⊎ ((m ≡ n) × (c ≡ true))
-    go true b d f g h e = inl (ltb-true m n f)
-    go false true true f g h e = inr (eqb-true m n g, h)
-    go false true false f g h e = absurd (cc)
-    go false false d f g h e = absurd (cc)
+ahead_from m n c e = elim (cases_lt m n) [ inl l ↦ inl l | inr l ↦ inr (grind (arith, common_steps), grind (arith, common_steps)) ]
 
 after_from : (m n : ℕ) (c : Bool) → (nat_lt m n || (nat_eq m n && c)) ≡ false → (n ≤ m) × (m ≡ n → c ≡ false)
-after_from m n c e = go (nat_lt m n) (nat_eq m n) c refl refl refl e
-  where
-    go : (a b d : Bool) → nat_lt m n ≡ a → nat_eq m n ≡ b → c ≡ d → (a || (b && d)) ≡ false → (n ≤ m) × (m ≡ n → c ≡ false)
-    go true b d f g h e = absurd (cc)
-    go false true true f g h e = absurd (cc)
-    go false true false f g h e = (ltb-false m n f, λ i. h)
-    go false false d f g h e = (ltb-false m n f, λ i. absurd (eqb-false m n g i))
+after_from m n c e = (grind (arith, common_steps), λ i. grind (arith, common_steps))
 
 after_to : (m n : ℕ) (c : Bool) → n ≤ m → (m ≡ n → c ≡ false) → (nat_lt m n || (nat_eq m n && c)) ≡ false
-after_to m n c l f = go (nat_eq m n) refl
-  where
-    go : (b : Bool) → nat_eq m n ≡ b → (nat_lt m n || (nat_eq m n && c)) ≡ false
-    go true g = (λ i. le-ltb m n l i || (g i && f (eqb-true m n g) i))
-    go false g = (λ i. le-ltb m n l i || (g i && c))
+after_to m n c l f = grind (arith, common_steps)
 
 round_once : (s t : Segment) → comes_round_first s t ≡ true → comes_round_first t s ≡ false
 round_once s t e = elim (ahead_from (half_of s) (half_of t) (int_lt (pos 0) (cross s t)) e) [
@@ -200,39 +181,23 @@ round_chain s t u e f =
 -- ---- by start, and in turn
 
 first_from : (s t : Segment) → comes_first s t ≡ true → (is_before s.start t.start ≡ true) ⊎ ((s.start ≡ t.start) × (comes_round_first s t ≡ true))
-first_from s t e = go (is_before s.start t.start) (same_point s.start t.start) (comes_round_first s t) refl refl refl e
+first_from s t e = go (is_before s.start t.start) refl
   where
-    go : (a b d : Bool) → is_before s.start t.start ≡ a → same_point s.start t.start ≡ b → comes_round_first s t ≡ d → (a || (b && d)) ≡ true → (is_before s.start t.start ≡ true) ⊎ ((s.start ≡ t.start) × (comes_round_first s t ≡ true))
-    go true b d f g h e = inl f
-    go false true true f g h e = inr (same_point_from s.start t.start g, h)
-    go false true false f g h e = absurd (cc)
-    go false false d f g h e = absurd (cc)
+    go : (b : Bool) → is_before s.start t.start ≡ b → (is_before s.start t.start ≡ true) ⊎ ((s.start ≡ t.start) × (comes_round_first s t ≡ true))
+    go true f = inl f
+    go false f = (let both = and_parts (same_point s.start t.start) (comes_round_first s t) ((λ i. sym f i || (same_point s.start t.start && comes_round_first s t)) ∙ e) in inr (same_point_from s.start t.start both.0, both.1))
 
 pub not_first_from : (s t : Segment) → comes_first s t ≡ false → (is_before s.start t.start ≡ false) × (s.start ≡ t.start → comes_round_first s t ≡ false)
-not_first_from s t e = go (is_before s.start t.start) (same_point s.start t.start) (comes_round_first s t) refl refl refl e
-  where
-    go : (a b d : Bool) → is_before s.start t.start ≡ a → same_point s.start t.start ≡ b → comes_round_first s t ≡ d → (a || (b && d)) ≡ false → (is_before s.start t.start ≡ false) × (s.start ≡ t.start → comes_round_first s t ≡ false)
-    go true b d f g h e = absurd (cc)
-    go false true true f g h e = absurd (cc)
-    go false true false f g h e = (f, λ i. h)
-    go false false d f g h e = (f, λ i. clash (same_point s.start t.start) (same_point_to s.start t.start i) g)
+not_first_from s t e = (grind (arith, common_steps), λ f. (let g = same_point_to s.start t.start f in grind (arith, common_steps)))
 
 not_first_to : (s t : Segment) → is_before s.start t.start ≡ false → (s.start ≡ t.start → comes_round_first s t ≡ false) → comes_first s t ≡ false
-not_first_to s t l f = go (same_point s.start t.start) refl
-  where
-    go : (b : Bool) → same_point s.start t.start ≡ b → comes_first s t ≡ false
-    go true g = (λ i. l i || (g i && f (same_point_from s.start t.start g) i))
-    go false g = (λ i. l i || (g i && comes_round_first s t))
+not_first_to s t l f = grind (arith, common_steps, same_point_from)
 
 pub not_back : (p q : GridPoint) → is_before p q ≡ true → is_before q p ≡ false
 not_back p q h = search rules
 
 pub not_before_chain : (p q r : GridPoint) → is_before p q ≡ false → is_before q r ≡ false → is_before p r ≡ false
-not_before_chain p q r a b = false_from_ne_true (is_before p r) (λ h. go (is_before q p) refl h)
-  where
-    go : (t : Bool) → is_before q p ≡ t → is_before p r ≡ true → ⊥
-    go true e h = clash (is_before q r) (is_before-IsStrictOrder.trans q p r e h) b
-    go false e h = clash (is_before q r) (subst (λ (x : GridPoint). is_before x r ≡ true) (is_before-IsStrictOrder.total p q a e) h) b
+not_before_chain p q r a b = grind (arith, common_steps)
 
 pub later_not_first : (s t : Segment) → is_before s.start t.start ≡ true → comes_first t s ≡ false
 later_not_first s t h = not_first_to t s (not_back s.start t.start h) (λ f. absurd (is_before-IsStrictOrder.irreflexive t.start (subst (λ (x : GridPoint). is_before x t.start ≡ true) (sym f) h)))

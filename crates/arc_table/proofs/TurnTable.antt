@@ -1,5 +1,5 @@
 -- Signed arcs by their starts, turned row by row.
-use Rattle.std.proofs.Common.{rules, ◌≡◌, inl, inr, refl, sym, ap, ◌∙◌, subst, arith, ℕ, ◌+◌, ◌-◌, ◌<◌, ◌≤◌, true, false, List, [], ◌∷◌, ◌++◌, append_assoc, map, length, length-append, get_or, All, pos}
+use Rattle.std.proofs.Common.{rules, ◌≡◌, inl, inr, refl, sym, ap, ◌∙◌, subst, arith, ℕ, ◌+◌, ◌-◌, ◌<◌, ◌≤◌, true, false, List, [], ◌∷◌, ◌++◌, append_assoc, map, length, length-append, get_or, All}
 use Rattle.std.specs.List.Sorted.{IsPermutation, IsSortedBy, IsSortedByKey}
 use Rattle.std.specs.Ordering.{is_lt}
 use Rattle.std.proofs.Math.ListN.{get_or-append}
@@ -21,9 +21,6 @@ use Rattle.arc_table.specs.declared.node_rows.NodeRows.{NodeRows}
 use Rattle.arc_table.proofs.Everywhere.{All-mapped}
 use Rattle.arc_table.proofs.RowTable.{before_later, before_other, never_before, row_added}
 use Rattle.arc_table.proofs.TurnOrder.{later_not_first}
-
-abbrev origin : GridPoint
-origin = record { x = pos 0; y = pos 0 }
 
 abbrev arcs_of : List FirstStep → List SignedArc
 arcs_of fs = map (λ (f : FirstStep). f.arc) fs
@@ -88,7 +85,7 @@ module _ (arcs : List Path) where
   module _ (taken : List SignedArc) (done : NodeRows) (row : List FirstStep) (p : GridPoint) (way : IsUnderWay arcs taken done row p) where
     -- the row starts at p
     starts_at : 0 < length row → point_at (map (λ (f : FirstStep). f.step.start) row) 0 ≡ p
-    starts_at l = get_or-map (λ (f : FirstStep). f.step.start) row 0 (first_of arcs (forward 0)) origin l ∙ (way.here 0 (first_of arcs (forward 0)) l).1
+    starts_at l = get_or-map (λ (f : FirstStep). f.step.start) row 0 (first_of arcs (forward 0)) _ l ∙ (way.here 0 (first_of arcs (forward 0)) l).1
 
     -- all are taken, and no row is left
     pub none_left : row ≡ [] → IsPermutation (signed_below (length arcs)) taken → AreAllRows arcs done
