@@ -1,5 +1,5 @@
 -- Points in order, in rows of equal ones.
-use Rattle.std.proofs.Common.{rules, ◌≡◌, inl, inr, refl, sym, ap, ◌∙◌, subst, arith, ℕ, ◌+◌, ◌-◌, ◌<◌, ◌≤◌, Bool, true, false, List, [], ◌∷◌, ◌++◌, map, length, length-append, get_or, take, drop, length-drop, All, AllPairs, Contains, pos}
+use Rattle.std.proofs.Common.{rules, ◌≡◌, inl, inr, refl, sym, ap, ◌∙◌, subst, arith, ℕ, ◌+◌, ◌-◌, ◌<◌, ◌≤◌, true, false, List, [], ◌∷◌, ◌++◌, map, length, length-append, get_or, take, drop, length-drop, All, AllPairs, Contains, pos}
 use Rattle.std.specs.List.Sorted.{IsPartitionPoint, IsPartitionedBy}
 use Rattle.std.proofs.lemmas.Bool.{cases_lt, false_from_ne_true}
 use Rattle.std.proofs.Math.ListN.{get_or-append}
@@ -17,7 +17,7 @@ use Rattle.arc_table.specs.Direction.{point_at}
 use Rattle.arc_table.specs.Rows.{IsRow, AreRows}
 use Rattle.arc_table.proofs.AroundRows.{rows_are_around}
 use Rattle.arc_table.proofs.SignedArcs.{Contains-signed_below}
-use Rattle.arc_table.proofs.TurnOrder.{not_before_chain, not_back}
+use Rattle.arc_table.proofs.TurnOrder.{not_back}
 
 -- ---- the order of points
 

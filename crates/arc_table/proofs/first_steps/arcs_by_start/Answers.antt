@@ -1,4 +1,4 @@
-use Rattle.std.proofs.Common.{rules, List, length, ap, subst, ◌∙◌}
+use Rattle.std.proofs.Common.{rules, List, ap, subst, ◌∙◌}
 use Rattle.std.specs.List.Sorted.{IsPermutation}
 use Rattle.std.proofs.lemmas.Fn.{always_returns_same}
 use Rattle.std.proofs.lemmas.List.Sorted.{IsPermutation-trans}

@@ -9,7 +9,6 @@ use Rattle.plane_model.specs.Arcs.{SignedArc, forward}
 use Rattle.arc_table.specs.Around.{signed_below, start_of}
 use Rattle.arc_table.specs.Direction.{point_at}
 use Rattle.arc_table.specs.declared.first_steps.FirstStep.{FirstStep}
-use Rattle.arc_table.specs.declared.node_rows.NodeRows.{NodeRows}
 use Rattle.arc_table.proofs.SignedArcs.{all_below}
 use Rattle.arc_table.proofs.TurnTable.{IsUnderWay, AreAllRows, same_way, never_back, kept, closed, one_more, none_left, last_closed}
 use Rattle.arc_table.proofs.node_rows.rows_of.Goals.{then-ends_before+in_ok-add, else-ends_before, then-not-is_empty+in_ok-add-2, else-not-is_empty}
