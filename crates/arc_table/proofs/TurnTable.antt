@@ -12,7 +12,7 @@ use Rattle.plane_model.specs.Points.{GridPoint, Segment, Path, same_point, is_be
 use Rattle.plane_model.specs.Arcs.{SignedArc, forward}
 use Rattle.plane_model.proofs.PointOrder.{is_before-IsStrictOrder}
 use Rattle.grid_base.specs.Order.{point_cmp}
-use Rattle.arc_table.specs.Around.{signed_below, first_of, first_step, start_of, comes_first, IsTurned}
+use Rattle.arc_table.specs.Around.{signed_below, first_step, start_of, comes_first, IsTurned}
 use Rattle.arc_table.specs.Direction.{point_at}
 use Rattle.arc_table.specs.FirstSteps.{AddsRow}
 use Rattle.arc_table.specs.Rows.{AreRows}
@@ -24,6 +24,9 @@ use Rattle.arc_table.proofs.TurnOrder.{later_not_first}
 
 abbrev arcs_of : List FirstStep → List SignedArc
 arcs_of fs = map (λ (f : FirstStep). f.arc) fs
+
+abbrev pub first_of : List Path → SignedArc → FirstStep
+first_of arcs a = record { step = first_step arcs a; arc = a }
 
 -- the step is the first of its arc, and starts at p
 abbrev pub IsFrom : List Path → GridPoint → FirstStep → Type 0

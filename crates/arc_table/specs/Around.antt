@@ -4,7 +4,6 @@ use Rattle.std.specs.List.Sorted.{IsPermutation, IsSortedBy}
 use Rattle.plane_model.specs.Points.{GridPoint, Segment, Path, same_point, is_before, cross}
 use Rattle.plane_model.specs.Arcs.{SignedArc, forward, backward, goes_up}
 use Rattle.arc_table.specs.Direction.{point_at}
-use Rattle.arc_table.specs.declared.first_steps.FirstStep.{FirstStep}
 
 -- the first n arcs, each forward and then reversed
 abbrev pub signed_below : ℕ → List SignedArc
@@ -46,7 +45,3 @@ pub record IsAround (arcs : List Path) (p : GridPoint) (around : List SignedArc)
   pub others : All (λ a. (a.arc < length arcs) × (start_of arcs a ≡ p)) around
   pub once : AllPairs (λ a b. a ≢ b) around
   pub in_turn : AllPairs (λ a b. comes_round_first (first_step arcs b) (first_step arcs a) ≡ false) around
-
--- a signed arc with its first step
-abbrev pub first_of : List Path → SignedArc → FirstStep
-first_of arcs a = record { step = first_step arcs a; arc = a }

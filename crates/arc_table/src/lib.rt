@@ -8,7 +8,7 @@
 //! 3. Paths are gone along in order, and an arc gets its number at the first step along it.
 //! 4. The points of the arcs stand in one pool, whose room is taken before the first of them is pushed.
 //! 5. Signed arcs stand by their starts, those from one vertex in a row; each such vertex is kept once, with the place
-//!    where its row begins.
+//!    where its row begins. They are put in order by their starts alone, and then each row is turned by itself.
 //!
 //! A signed arc is numbered as in TopoJSON 1.0, section 2.1.4: arc `n` forward by `n`, reversed by `-n - 1`.
 #![tactic(auto)]
