@@ -1,10 +1,10 @@
 ghost use Rattle.std.specs.Prelude.{◌≡◌, ◌≢◌, ◌+◌, ◌<◌, ◌≤◌, ◌^◌, ◌-◌, ◌++◌, true, false, All, IfOk, OnOk, OnSome, IfSome, None, length, slice_get, slice_index, vec_len, map};
-ghost use Rattle.plane_model.specs.Points.{Segment, reversed};
+ghost use Rattle.plane_model.specs.Points.{GridPoint, Segment, reversed};
 ghost use Rattle.std.specs.List.Sorted.{IsSorted};
 ghost use Rattle.grid_base.specs.Order.{point_cmp};
-ghost use Rattle.arc_table.specs.Steps.{step_cmp, StartsAt, IsOther, IsOtherAt, LeadsOnAt, IsOnward, AreLinks, AreOnward, AreBothWays, NoneTurnsBack, AreProper, AreSteps, IsPlace, HasBoth, AreTwins};
+ghost use Rattle.arc_table.specs.Steps.{step_cmp, StartsAt, EndsRow, IsRow, AreLinks, AreMutual, AreLed, AreOnward, AreBothWays, NoneTurnsBack, AreProper, AreSteps, IsPlace, HasBoth, AreTwins};
 
-use crate::merging::{Merged, steps_of};
+use crate::merging::{Merged, numbers_below, steps_of};
 use crate::step_list::StepList;
 use grid_base::{LinkList, Pt, has_point, is_same};
 use std::alloc::{AllocError, Global};
@@ -258,131 +258,33 @@ fn onward_of(
     requires few { length steps.now < 2 ^ 32 }
     requires each { length twins.now ≡ length steps.now }
     requires there { All (λ t. t < length steps.now) twins.now }
+    requires mutual { AreMutual twins.now (length steps.now) }
     requires sorted { IsSorted step_cmp steps.now }
     requires turns { IsSorted point_cmp turns.now }
     ensures each { IfOk result (λ v. length v.items ≡ length steps.now) }
     ensures on { IfOk result (λ v. AreOnward steps.now twins.now turns.now v.items (length steps.now)) }
     ensures there { IfOk result (λ v. All (λ t. t < length steps.now) v.items) }
 {
-    let mut onward = Vec::with_capacity(alloc, steps.len())?;
+    let mut onward = numbers_below(alloc, steps.len())?;
+    let mut first = 0;
     for h in 0..steps.len() {
-        let next = step_after(steps, turns, h, twins[h] as usize);
-        onward.push(next as u32)?;
+        if !goes_on(steps, h) {
+            lead_through(&mut onward, steps, twins, turns, first, h);
+            first = h + 1;
+        }
     }
     Ok(onward)
 }
 
-// The place of the step that goes on from step `h`, whose twin is `twin`, where its end is no node, else `h`.
-fn step_after(steps: &StepList, turns: &[Pt], h: usize, twin: usize) -> usize
-    requires sorted { IsSorted step_cmp steps.now }
-    requires turns { IsSorted point_cmp turns.now }
+// The next step starts where step `h` does.
+fn goes_on(steps: &StepList, h: usize) -> bool
     requires here { h < length steps.now }
-    requires twin { twin < length steps.now }
-    ensures there { result < length steps.now }
-    ensures on { IsOnward steps.now turns.now h twin result }
-{
-    match leads_on(steps, turns, twin) {
-        Some(next) => next,
-        None => h,
-    }
-}
-
-// The place of the other step from the start of step `h`, where there are just two and no turn is.
-fn leads_on(steps: &StepList, turns: &[Pt], h: usize) -> Option<usize>
-    requires here { h < length steps.now }
-    requires sorted { IsSorted step_cmp steps.now }
-    requires turns { IsSorted point_cmp turns.now }
-    ensures there { IfSome result (λ k. k < length steps.now) }
-    ensures exact { LeadsOnAt steps.now turns.now h result }
-{
-    match other_at(steps, h) {
-        Some(k) => {
-            if has_point(turns, steps.at(h).from()) {
-                None
-            } else {
-                Some(k)
-            }
-        }
-        None => None,
-    }
-}
-
-// The place of the other step from the start of step `h`, where there are just two.
-fn other_at(steps: &StepList, h: usize) -> Option<usize>
-    requires here { h < length steps.now }
-    requires sorted { IsSorted step_cmp steps.now }
-    ensures there { IfSome result (λ k. k < length steps.now) }
-    ensures exact { IsOtherAt steps.now h result }
-{
-    match after_in_two(steps, h) {
-        Some(k) => Some(k),
-        None => before_in_two(steps, h),
-    }
-}
-
-// The index after `h`, where the steps there and at `h` are the only two from their start.
-fn after_in_two(steps: &StepList, h: usize) -> Option<usize>
-    requires here { h < length steps.now }
-    requires sorted { IsSorted step_cmp steps.now }
-    ensures there { IfSome result (λ k. k < length steps.now) }
-    ensures only { IfSome result (IsOther steps.now h) }
-    ensures none { result ≡ None → IsOther steps.now h (h + 1) → ⊥ }
+    ensures yes { result ≡ true → (p : GridPoint) → StartsAt steps.now h p → StartsAt steps.now (h + 1) p }
+    ensures no { result ≡ false → EndsRow steps.now h }
 {
     let from = steps.at(h).from();
-    if !starts_at(steps, h + 1, from) {
-        return None;
-    }
-    if starts_at(steps, h + 2, from) {
-        return None;
-    }
-    if starts_before(steps, h, 1, from) {
-        return None;
-    }
-    Some(h + 1)
-}
-
-// The index before `h`, where the steps there and at `h` are the only two from their start.
-fn before_in_two(steps: &StepList, h: usize) -> Option<usize>
-    requires here { h < length steps.now }
-    requires sorted { IsSorted step_cmp steps.now }
-    ensures there { IfSome result (λ k. k < length steps.now) }
-    ensures only { IfSome result (IsOther steps.now h) }
-    ensures none { result ≡ None → IsOther steps.now h (h - 1) → ⊥ }
-{
-    let from = steps.at(h).from();
-    if !starts_before(steps, h, 1, from) {
-        return None;
-    }
-    if starts_before(steps, h, 2, from) {
-        return None;
-    }
-    if starts_at(steps, h + 1, from) {
-        return None;
-    }
-    Some(h - 1)
-}
-
-// There is a step `k` places before `h`, and it starts at `p`.
-fn starts_before(steps: &StepList, h: usize, k: usize, p: Pt) -> bool
-    ensures there { result ≡ true → k ≤ h }
-    ensures yes { result ≡ true → StartsAt steps.now (h - k) p }
-    ensures no { result ≡ false → k ≤ h → StartsAt steps.now (h - k) p → ⊥ }
-{
-    if k <= h {
-        starts_at(steps, h - k, p)
-    } else {
-        false
-    }
-}
-
-// There is a step at `k`, and it starts at `p`.
-fn starts_at(steps: &StepList, k: usize, p: Pt) -> bool
-    ensures there { result ≡ true → k < length steps.now }
-    ensures yes { result ≡ true → StartsAt steps.now k p }
-    ensures no { result ≡ false → StartsAt steps.now k p → ⊥ }
-{
-    match steps.get(k) {
-        Some(step) => starts_from(step, p),
+    match steps.get(h + 1) {
+        Some(next) => starts_from(next, from),
         None => false,
     }
 }
@@ -393,4 +295,33 @@ fn starts_from(step: Step, p: Pt) -> bool
     ensures no { result ≡ false → step.start ≡ p → ⊥ }
 {
     is_same(step.from(), p)
+}
+
+// Lets the steps to the point from which the steps from `first` to `last` start go on, if these are two and no turn is
+// there: each with the step that isn't its twin.
+fn lead_through(
+    onward: &mut Vec<u32>,
+    steps: &StepList,
+    twins: &[u32],
+    turns: &[Pt],
+    first: usize,
+    last: usize,
+)
+    requires each { length twins.now ≡ length steps.now }
+    requires there { All (λ t. t < length steps.now) twins.now }
+    requires mutual { AreMutual twins.now (length steps.now) }
+    requires turns { IsSorted point_cmp turns.now }
+    requires ordered { first ≤ last }
+    requires within { last < length steps.now }
+    requires row { IsRow steps.now first last }
+    requires all { length onward.old.items ≡ length steps.now }
+    requires led { AreLed steps.now turns.now twins.now onward.old.items first }
+    ensures all { length onward.new.items ≡ length steps.now }
+    ensures led { AreLed steps.now turns.now twins.now onward.new.items (last + 1) }
+{
+    if last - first != 1 || has_point(turns, steps.at(first).from()) {
+        return;
+    }
+    onward[twins[first] as usize] = last as u32;
+    onward[twins[last] as usize] = first as u32;
 }
