@@ -175,22 +175,12 @@ fn twin_of(steps: &StepList, h: usize, guess: usize) -> usize
     ensures back { (s : Segment) → slice_get steps.now h ≡ Some s → slice_get steps.now result ≡ Some (reversed s) }
     ensures there { result < length steps.now }
 {
-    match place_from(steps, guess, steps.at(h).back()) {
+    if steps.goes_back(h, guess) {
+        return guess;
+    }
+    match steps.place_of(steps.at(h).back()) {
         Some(twin) => twin,
         None => h,
-    }
-}
-
-// The place of a step, looked for at `guess` first.
-fn place_from(steps: &StepList, guess: usize, step: Step) -> Option<usize>
-    requires sorted { IsSorted step_cmp steps.now }
-    ensures exact { IsPlace steps.now step result }
-    ensures there { IfSome result (λ h. h < length steps.now) }
-{
-    if stands_at(steps, guess, step) {
-        Some(guess)
-    } else {
-        steps.place_of(step)
     }
 }
 

@@ -1,6 +1,6 @@
-ghost use Rattle.std.specs.Prelude.{◌≡◌, ◌<◌, ◌/◌, ◌^◌, pos, Some, IfSome, if◌then◌else◌, length, slice_get};
+ghost use Rattle.std.specs.Prelude.{◌≡◌, ◌<◌, ◌/◌, ◌^◌, true, pos, List, Some, IfSome, if◌then◌else◌, length, slice_get};
 ghost use Rattle.std.specs.List.Sorted.{IsPermutation, IsSorted};
-ghost use Rattle.plane_model.specs.Points.{reversed};
+ghost use Rattle.plane_model.specs.Points.{Segment, reversed};
 ghost use Rattle.arc_table.specs.StepCodes.{step_of, steps_of, AreCodes};
 ghost use Rattle.arc_table.specs.Steps.{step_cmp, IsPlace};
 
@@ -74,6 +74,19 @@ impl<'a> StepList<'a> {
         }
     }
 
+    /// Whether the step at `k` is the step back of the one at `h`, told by the number of its link: no past the end.
+    #[inline(always)]
+    pub fn goes_back(&self, h: usize, k: usize) -> bool
+        requires here { h < length self.now }
+        ensures yes { result ≡ true → (s : Segment) → slice_get self.now h ≡ Some s → slice_get self.now k ≡ Some (reversed s) }
+        ensures there { result ≡ true → k < length self.now }
+    {
+        match self.codes.get(k) {
+            Some(code) => are_of_one_link(self.codes[h], *code),
+            None => false,
+        }
+    }
+
     /// The place of a step; `None` where it isn't there.
     ///
     /// Cost: a binary search.
@@ -96,6 +109,15 @@ fn place_among(links: &[Link], codes: &[u32], step: Step) -> Option<usize>
         Ok(h) => Some(h),
         Err(_) => None,
     }
+}
+
+// The two codes are those of both steps along one link.
+#[tactic(auto, using(crate::proofs::StepMerge::back_of_code))]
+#[inline(always)]
+fn are_of_one_link(code: u32, other: u32) -> bool
+    ensures yes { result ≡ true → (links : List Segment) → step_of links other ≡ reversed (step_of links code) }
+{
+    code / 2 == other / 2 && code != other
 }
 
 // The step with a code, which is of a link that is there.
