@@ -1,12 +1,10 @@
 -- The steps from one start stand together among sorted steps.
 use Rattle.std.proofs.Common.{◌≡◌, ◌⊎◌, inl, inr, refl, sym, ap, ◌∙◌, subst, arith, ℕ, ◌+◌, ◌<◌, ◌≤◌, true, false, List, length, get_or, set, Some, None, Contains}
 use Rattle.std.specs.Prelude.{◌≢◌}
-use Rattle.std.specs.List.{range_with_len}
 use Rattle.std.specs.List.Sorted.{IsSorted}
 use Rattle.std.specs.Ordering.{is_lt}
 use Rattle.std.proofs.lemmas.Bool.{cases_lt}
 use Rattle.std.proofs.lemmas.List.{get_or-set_same, get_or-set_other, length-set}
-use Rattle.std.proofs.lemmas.List.FromFn.{get_or-range_with_len}
 use Rattle.std.proofs.lemmas.List.MinMax.{ranks_by}
 use Rattle.std.proofs.lemmas.List.Sorted.{sorted_far}
 use Rattle.std.proofs.lemmas.Option.{slice_get-get_or, slice_get_cases, get_or_from_slice_get}
@@ -99,22 +97,16 @@ same_start steps h p q c d =
     let f : c.0 ≡ d.0 = cc in
     sym c.2 ∙ ap (λ (s : Segment). s.start) f ∙ d.2
 
-other_there : (steps : List Segment) (h k : ℕ) (p : GridPoint) → StartsAt steps h p → IsOther steps h k → StartsAt steps k p
-other_there steps h k p here o = subst (StartsAt steps k) (same_start steps h o.start p o.here here) o.other
-
 one_other : (steps : List Segment) (h j k : ℕ) → IsOther steps h j → IsOther steps h k → j ≡ k
-one_other steps h j k a b = elim (a.only k (other_there steps h k a.start a.here b)) [ inl e ↦ absurd (b.apart (sym e)) | inr e ↦ sym e ]
+one_other steps h j k a b = elim (a.only k (subst (StartsAt steps k) (same_start steps h b.start a.start b.here a.here) b.other)) [ inl e ↦ absurd (b.apart (sym e)) | inr e ↦ sym e ]
 
 -- ---- steps onward
 
 module _ (steps : List Segment) (turns : List GridPoint) where
-  pub one_lead : (h j k : ℕ) → LeadsOn steps turns h j → LeadsOn steps turns h k → j ≡ k
-  one_lead h j k a b = one_other steps h j k a.other b.other
+  leads_there : (h twin next : ℕ) → LeadsOn steps turns twin next → IsOnward steps turns h twin next
+  leads_there h twin next a = record { leads = λ differs. a; only = λ k b. one_other steps twin next k a.other b.other }
 
-  pub leads_there : (h twin next : ℕ) → LeadsOn steps turns twin next → IsOnward steps turns h twin next
-  leads_there h twin next a = record { leads = λ differs. a; only = λ k b. one_lead twin next k a b }
-
-  pub leads_nowhere : (h twin : ℕ) → ((k : ℕ) → LeadsOn steps turns twin k → ⊥) → IsOnward steps turns h twin h
+  leads_nowhere : (h twin : ℕ) → ((k : ℕ) → LeadsOn steps turns twin k → ⊥) → IsOnward steps turns h twin h
   leads_nowhere h twin none = record { leads = λ differs. absurd (differs refl); only = λ k b. absurd (none k b) }
 
   -- the same two steps, the other one first
@@ -130,6 +122,24 @@ module _ (steps : List Segment) (turns : List GridPoint) where
           only = λ j c. elim (o.only j c) [ inl e ↦ inr e | inr e ↦ inl e ];
         };
         plain = a.plain;
+      }
+
+  -- one step more, which leads on
+  led_step : (twins onward : List ℕ) (k next : ℕ) → AreMutual twins (length steps) → length onward ≡ length steps → LeadsOn steps turns k next → AreLed steps turns twins onward k → AreLed steps turns twins (set onward (get_or twins k 0) next) (k + 1)
+  led_step twins onward k next back size lead led =
+      let twin : ℕ → ℕ = λ j. get_or twins j 0 in
+      let all = set onward (twin k) next in
+      let here = back k (within steps k lead.other.start lead.other.here) in
+      let there = here.0 in
+      let kept : (j : ℕ) → j < length steps → j ≢ k → get_or all (twin j) 0 ≡ get_or onward (twin j) 0 = λ j l apart. get_or-set_other onward (twin k) (twin j) next 0 (λ e. apart (sym (back j l).1 ∙ ap twin e ∙ here.1)) in
+      let last : IsOnward steps turns (twin k) k (get_or all (twin k) 0) = subst (IsOnward steps turns (twin k) k) (sym (get_or-set_same onward (twin k) next 0 (omega arith))) (leads_there (twin k) k next lead) in
+      let inside = within steps k lead.other.start lead.other.here in
+      record {
+        before = λ j l. elim (cases_lt j k) [
+          | inl m ↦ subst (IsOnward steps turns (twin j) j) (sym (kept j (omega arith) (λ e. omega arith))) (led.before j m)
+          | inr m ↦ (let e : k ≡ j = omega arith in subst (λ (i : ℕ). IsOnward steps turns (twin i) i (get_or all (twin i) 0)) e last)
+        ];
+        after = λ j l m. kept j m (λ e. omega arith) ∙ led.after j (omega arith) m;
       }
 
   module _ (first last : ℕ) (ordered : first ≤ last) (row : IsRow steps first last) where
@@ -164,71 +174,29 @@ module _ (steps : List Segment) (turns : List GridPoint) where
 
     -- the row looked at, with the steps before it
     module _ (twins onward : List ℕ) (led : AreLed steps turns twins onward first) where
-      abbrev twin : ℕ → ℕ
-      twin k = get_or twins k 0
-
-      inside : (k : ℕ) → first ≤ k → k ≤ last → k < length steps
-      inside k l m = within steps k row.start ((row.all k).1 (l, m))
-
       pub led_over : (last ≢ first + 1) ⊎ Contains turns row.start → AreLed steps turns twins onward (last + 1)
       led_over why = record {
         before = λ k l. elim (cases_lt k first) [
           | inl m ↦ led.before k m
-          | inr m ↦ subst (IsOnward steps turns (twin k) k) (sym (led.after k m (inside k m (omega arith)))) (leads_nowhere (twin k) k (λ j. none_lead why k j m (omega arith)))
+          | inr m ↦ (let inside = within steps k row.start ((row.all k).1 (m, omega arith)) in
+            subst (IsOnward steps turns (get_or twins k 0) k) (sym (led.after k m inside)) (leads_nowhere (get_or twins k 0) k (λ j. none_lead why k j m (omega arith))))
         ];
         after = λ k l m. led.after k (omega arith) m;
       }
 
-      module _ (all : List ℕ) (made : all ≡ set (set onward (twin first) last) (twin last) first) (size : length onward ≡ length steps) (back : AreMutual twins (length steps)) (there : (k : ℕ) → k < length steps → twin k < length steps) where
-        far : (j k : ℕ) → j < length steps → k < length steps → j ≢ k → twin j ≢ twin k
-        far j k l m differs e = differs (sym (back j l) ∙ ap twin e ∙ back k m)
-
-        kept : (k : ℕ) → k < length steps → k ≢ first → k ≢ last → get_or all (twin k) 0 ≡ get_or onward (twin k) 0
-        kept k l a b =
-            let here = inside first (omega arith) ordered in
-            let end = inside last ordered (omega arith) in
-            ap (λ (xs : List ℕ). get_or xs (twin k) 0) made ∙ get_or-set_other _ _ _ first 0 (far k last l end b) ∙ get_or-set_other _ _ _ last 0 (far k first l here a)
-
-        led_at : (k next : ℕ) → get_or all (twin k) 0 ≡ next → LeadsOn steps turns k next → IsOnward steps turns (twin k) k (get_or all (twin k) 0)
-        led_at k next e lead = subst (IsOnward steps turns (twin k) k) (sym e) (leads_there (twin k) k next lead)
-
-        pub led_through : last ≡ first + 1 → (Contains turns row.start → ⊥) → AreLed steps turns twins all (last + 1)
-        led_through two plain =
-            let lead = two_lead two plain in
-            let here = inside first (omega arith) ordered in
-            let end = inside last ordered (omega arith) in
-            let low = there first here in
-            let high = there last end in
-            let n = length-set onward (twin first) last in
-            let at_first : get_or all (twin first) 0 ≡ last = ap (λ (xs : List ℕ). get_or xs (twin first) 0) made ∙ get_or-set_other _ _ _ first 0 (far first last here end lead.other.apart) ∙ get_or-set_same onward (twin first) last 0 (omega arith) in
-            let at_last : get_or all (twin last) 0 ≡ first = ap (λ (xs : List ℕ). get_or xs (twin last) 0) made ∙ get_or-set_same (set onward (twin first) last) (twin last) first 0 (omega arith) in
-            let at : ℕ → Type 0 = λ j. IsOnward steps turns (twin j) j (get_or all (twin j) 0) in
-            record {
-              before = λ k l. elim (cases_lt k first) [
-                | inl m ↦ subst (IsOnward steps turns (twin k) k) (sym (kept k (omega arith) (λ e. omega arith) (λ e. omega arith))) (led.before k m)
-                | inr m ↦ elim (cases_lt first k) [
-                  | inl n ↦ (let e : last ≡ k = omega arith in subst at e (led_at last first at_last (turned first last lead)))
-                  | inr n ↦ (let e : first ≡ k = omega arith in subst at e (led_at first last at_first lead))
-                ]
-              ];
-              after = λ k l m. kept k m (λ e. omega arith) (λ e. omega arith) ∙ led.after k (omega arith) m;
-            }
-
-  pub none_led : (twins onward : List ℕ) → ((k : ℕ) → k < length steps → get_or twins k 0 < length steps) → onward ≡ range_with_len 0 (length steps) → AreLed steps turns twins onward 0
-  none_led twins onward there own = record {
-    before = λ k l. absurd (omega arith);
-    after = λ k l m.
-        let e = ap (λ (xs : List ℕ). get_or xs (get_or twins k 0) 0) own ∙ get_or-range_with_len 0 (length steps) (get_or twins k 0) 0 (there k m) in
-        omega arith;
-  }
+      pub led_through : AreMutual twins (length steps) → length onward ≡ length steps → last ≡ first + 1 → (Contains turns row.start → ⊥) → AreLed steps turns twins (set (set onward (get_or twins first 0) last) (get_or twins last 0) first) (last + 1)
+      led_through back size two plain =
+          let lead = two_lead two plain in
+          let once = set onward (get_or twins first 0) last in
+          led_step twins once last first back (length-set onward (get_or twins first 0) last ∙ size) (turned first last lead) (subst (AreLed steps turns twins once) (sym two) (led_step twins onward first last back size lead led))
 
   -- with all steps looked at each has its step onward
-  module _ (twins onward : List ℕ) (back : AreMutual twins (length steps)) (there : (k : ℕ) → k < length steps → get_or twins k 0 < length steps) (led : AreLed steps turns twins onward (length steps)) where
+  module _ (twins onward : List ℕ) (back : AreMutual twins (length steps)) (led : AreLed steps turns twins onward (length steps)) where
     pub all_led : AreOnward steps twins turns onward (length steps)
-    all_led h l = subst (λ (j : ℕ). IsOnward steps turns j (get_or twins h 0) (get_or onward j 0)) (back h l) (led.before (get_or twins h 0) (there h l))
+    all_led h l = subst (λ (j : ℕ). IsOnward steps turns j (get_or twins h 0) (get_or onward j 0)) (back h l).1 (led.before (get_or twins h 0) (back h l).0)
 
     pub onward_there : (h : ℕ) → h < length steps → get_or onward h 0 < length steps
     onward_there h l = elim (same_or_not (get_or onward h 0) h) [
-      | inl e ↦ subst (λ (j : ℕ). j < length steps) (sym e) l
+      | inl e ↦ omega arith
       | inr e ↦ (let o = ((all_led h l).leads e).other in within steps (get_or onward h 0) o.start o.other)
     ]

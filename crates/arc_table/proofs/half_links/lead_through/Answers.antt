@@ -21,6 +21,5 @@ returns-clause-led c =
     let rs = c.requires in
     let start = row_start steps turns c.args.first c.args.last rs.ordered rs.row c.from.result (c.at.result, c.at.ensures.exact, sym c.from.ensures.exact) in
     let two = c.if-last-first-ne1.false in
-    let each = rs.each in
-    led_through steps turns c.args.first c.args.last rs.ordered rs.row c.args.twins.now c.args.onward.now.items rs.led _ refl rs.all rs.mutual (λ k l. rs.there k 0 (omega arith)) (omega arith)
+    led_through steps turns c.args.first c.args.last rs.ordered rs.row c.args.twins.now c.args.onward.now.items rs.led rs.mutual rs.all (omega arith)
     (λ turn. c.if-has_point.ensures.no refl (subst (Contains turns) (sym start) turn))

@@ -1,6 +1,5 @@
-use Rattle.std.proofs.Common.{◌≡◌, map}
-use Rattle.std.specs.List.{range_with_len}
+use Rattle.std.proofs.Common.{◌≡◌, ◌<◌, ℕ, length, slice_index}
 use Rattle.arc_table.proofs.merging.numbers_below.Given as goal
 
 abbrev pub invariant-loop-k : goal.invariant-loop-k
-invariant-loop-k l = l.numbers.items ≡ map (λ j. j) (range_with_len 0 l.k)
+invariant-loop-k l = (length l.numbers.items ≡ l.k) × ((j : ℕ) → j < l.k → slice_index l.numbers.items j ≡ j)
