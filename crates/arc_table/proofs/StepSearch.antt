@@ -6,6 +6,7 @@ use Rattle.std.specs.declared.cmp.Ordering.TheVariants.{Less, Equal, Greater}
 use Rattle.std.specs.Cmp.{IsTotalOrder}
 use Rattle.std.proofs.lemmas.Bool.{cases_lt, false_from_ne_true}
 use Rattle.std.proofs.lemmas.Cmp.{on_total, then_total, int_ranked}
+use Rattle.std.proofs.lemmas.List.{get_or_push}
 use Rattle.std.proofs.lemmas.List.Sorted.{Contains-permutation, IsPermutation-sym}
 use Rattle.std.proofs.lemmas.Option.{slice_get_cases, get_or_from_slice_get}
 use Rattle.std.proofs.lemmas.Bool.{and_parts, and_from}
@@ -75,15 +76,7 @@ contains_at xs h s e = elim (slice_get_cases xs h).1 [
 
 pub one_twin_more : (steps : List Segment) (twins all : List ℕ) (n t : ℕ) → length twins ≡ n → all ≡ twins ++ t ∷ [] → AreTwins steps twins n
     → ((s : Segment) → slice_get steps n ≡ Some s → slice_get steps t ≡ Some (reversed s)) → AreTwins steps all (n + 1)
-one_twin_more steps twins all n t l a before last h s m e = elim (cases_lt h n) [
-  | inl k ↦ ap (λ (xs : List ℕ). slice_get steps (get_or xs h 0)) a ∙ ap (slice_get steps) (get_or-append twins (t ∷ []) 0 h (omega arith)) ∙ before h s k e
-  | inr k ↦ (
-      let f : h ≡ n = omega arith in
-      let g : h ≡ length twins = omega arith in
-      ap (λ (xs : List ℕ). slice_get steps (get_or xs h 0)) a ∙ ap (λ (j : ℕ). slice_get steps (get_or (twins ++ t ∷ []) j 0)) g ∙ ap (slice_get steps) (at_end twins t)
-      ∙ last s (ap (slice_get steps) (sym f) ∙ e))
+one_twin_more steps twins all n t l a before last h s m e = ap (λ (xs : List ℕ). slice_get steps (get_or xs h 0)) a ∙ elim (cases_lt h n) [
+  | inl k ↦ ap (slice_get steps) (get_or-append twins (t ∷ []) 0 h (omega arith)) ∙ before h s k e
+  | inr k ↦ (let same : n ≡ h = omega arith in ap (slice_get steps) (get_or_push twins t 0 h (omega arith)) ∙ last s (ap (slice_get steps) same ∙ e))
 ]
-  where
-    at_end : (xs : List ℕ) (x : ℕ) → get_or (xs ++ x ∷ []) (length xs) 0 ≡ x
-    at_end [] x = refl
-    at_end (y ∷ xs) x = at_end xs x

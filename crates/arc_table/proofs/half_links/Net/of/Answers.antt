@@ -29,12 +29,8 @@ returns-clause-on c = rw c.deref-2.ensures.value at c.in_ok-onward.ensures.on
 
 pub invariant_of-result-clause-both_ways : goal.invariant_of-result-clause-both_ways
 invariant_of-result-clause-both_ways c =
-    let twins = c.in_ok-twins.ensures in
-    let onward = c.in_ok-onward.ensures in
-    both_ways c.in_ok-merged.merged.steps c.in_ok-twins.twins.items (invariant_of-result-clause-proper c) twins.back twins.each twins.there c.args.turns.now c.in_ok-onward.onward.items onward.each onward.there (rw c.deref-2.ensures.value at onward.on)
+    both_ways c.in_ok-merged.merged.steps c.in_ok-twins.twins.items (invariant_of-result-clause-proper c) c.in_ok-twins.ensures.back c.in_ok-twins.ensures.each c.in_ok-twins.ensures.there c.args.turns.now c.in_ok-onward.onward.items c.in_ok-onward.ensures.each c.in_ok-onward.ensures.there (rw c.deref-2.ensures.value at c.in_ok-onward.ensures.on)
 
 pub invariant_of-result-clause-none_back : goal.invariant_of-result-clause-none_back
 invariant_of-result-clause-none_back c =
-    let twins = c.in_ok-twins.ensures in
-    let onward = c.in_ok-onward.ensures in
-    none_back c.in_ok-merged.merged.steps c.in_ok-twins.twins.items (invariant_of-result-clause-proper c) twins.back twins.each twins.there c.args.turns.now c.in_ok-onward.onward.items onward.each onward.there (rw c.deref-2.ensures.value at onward.on)
+    none_back c.in_ok-merged.merged.steps c.in_ok-twins.twins.items (invariant_of-result-clause-proper c) c.in_ok-twins.ensures.back c.in_ok-twins.ensures.each c.in_ok-twins.ensures.there c.args.turns.now c.in_ok-onward.onward.items c.in_ok-onward.ensures.each c.in_ok-onward.ensures.there (rw c.deref-2.ensures.value at c.in_ok-onward.ensures.on)
