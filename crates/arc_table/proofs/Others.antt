@@ -179,7 +179,7 @@ module _ (steps : List Segment) (turns : List GridPoint) where
         before = λ k l. elim (cases_lt k first) [
           | inl m ↦ led.before k m
           | inr m ↦ (let inside = within steps k row.start ((row.all k).1 (m, omega arith)) in
-            subst (IsOnward steps turns (get_or twins k 0) k) (sym (led.after k m inside)) (leads_nowhere (get_or twins k 0) k (λ j. none_lead why k j m (omega arith))))
+              subst (IsOnward steps turns (get_or twins k 0) k) (sym (led.after k m inside)) (leads_nowhere (get_or twins k 0) k (λ j. none_lead why k j m (omega arith))))
         ];
         after = λ k l m. led.after k (omega arith) m;
       }

@@ -247,7 +247,6 @@ fn onward_of(
 ) -> Result<Vec<u32>, AllocError>
     requires few { length steps.now < 2 ^ 32 }
     requires each { length twins.now ≡ length steps.now }
-    requires there { All (λ t. t < length steps.now) twins.now }
     requires mutual { AreMutual twins.now (length steps.now) }
     requires sorted { IsSorted step_cmp steps.now }
     requires turns { IsSorted point_cmp turns.now }
@@ -298,7 +297,6 @@ fn lead_through(
     last: usize,
 )
     requires each { length twins.now ≡ length steps.now }
-    requires there { All (λ t. t < length steps.now) twins.now }
     requires mutual { AreMutual twins.now (length steps.now) }
     requires turns { IsSorted point_cmp turns.now }
     requires ordered { first ≤ last }

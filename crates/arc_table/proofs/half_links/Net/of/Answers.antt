@@ -1,4 +1,4 @@
-use Rattle.std.proofs.Common.{ℕ, List, length, sym, subst, arith}
+use Rattle.std.proofs.Common.{ℕ, List, length, sym, subst}
 use Rattle.arc_table.specs.Steps.{AreLinks, AreMutual}
 use Rattle.arc_table.proofs.Proper.{proper_steps}
 use Rattle.arc_table.proofs.Onward.{mutual_twins, both_ways, none_back}
