@@ -1,4 +1,4 @@
--- The steps from one start stand together among sorted steps.
+-- The steps from one start stand together among sorted steps, in a row; the two of a row of two lead on to each other.
 use Rattle.std.proofs.Common.{◌≡◌, ◌⊎◌, inl, inr, refl, sym, ap, ◌∙◌, subst, arith, ℕ, ◌+◌, ◌<◌, ◌≤◌, true, false, List, length, get_or, set, Some, None, Contains}
 use Rattle.std.specs.Prelude.{◌≢◌}
 use Rattle.std.specs.List.Sorted.{IsSorted}

@@ -286,8 +286,8 @@ fn starts_from(step: Step, p: Pt) -> bool
     is_same(step.from(), p)
 }
 
-// Lets the steps to the point from which the steps from `first` to `last` start go on, if these are two and no turn is
-// there: each with the step that isn't its twin.
+// Looks at the row of steps from `first` to `last`, all that start at one point: where they are two and no turn is
+// there, the step back of each goes on with the other.
 fn lead_through(
     onward: &mut Vec<u32>,
     steps: &StepList,
