@@ -1,10 +1,10 @@
 -- Points in order, in rows of equal ones.
-use Rattle.std.proofs.Common.{rules, ◌≡◌, inl, inr, refl, sym, ap, ◌∙◌, subst, arith, ℕ, ◌+◌, ◌-◌, ◌<◌, ◌≤◌, true, false, List, [], ◌∷◌, ◌++◌, map, length, length-append, get_or, take, drop, length-drop, All, AllPairs, Contains, pos}
+use Rattle.std.proofs.Common.{rules, ◌≡◌, inl, inr, refl, sym, ap, ◌∙◌, subst, arith, ℕ, zero, suc, ◌+◌, ◌-◌, ◌<◌, ◌≤◌, true, false, List, [], ◌∷◌, ◌++◌, map, length, length-append, get_or, take, drop, length-drop, All, AllPairs, Contains, pos}
 use Rattle.std.specs.List.Sorted.{IsPartitionPoint, IsPartitionedBy}
 use Rattle.std.proofs.lemmas.Bool.{cases_lt, false_from_ne_true}
 use Rattle.std.proofs.Math.ListN.{get_or-append}
 use Rattle.std.proofs.Math.Seq.{get_or-append_right, get_or-append_seam}
-use Rattle.std.proofs.lemmas.List.{get_or_default, get_or-map, get_or-drop, length-map, take_more, take_all}
+use Rattle.std.proofs.lemmas.List.{get_or_default, get_or-map, get_or-drop, length-map}
 use Rattle.std.proofs.lemmas.List.Elements.{All-append, Contains-append_left, Contains-append_right}
 use Rattle.std.proofs.lemmas.List.Quantifiers.{all_pairs_push}
 use Rattle.std.proofs.lemmas.List.Sorted.{Contains-permutation}
@@ -135,29 +135,14 @@ module _ (points nodes : List GridPoint) (rows : List ℕ) (table : AreRows poin
               (λ j d l. Contains-append_right nodes (p ∷ []) (get_or added j d) (0, omega arith, sym (here j d l)));
         }
 
--- ---- starts, made of rows
+-- ---- where rows begin and end
 
--- one more of a row
-pub row_more : (points : List GridPoint) (p : GridPoint) (first stop i : ℕ) (before all : List GridPoint) → IsRow points p first stop → first ≤ i → i < stop → before ≡ take i points → all ≡ before ++ p ∷ [] → all ≡ take (i + 1) points
-row_more points p first stop i before all row l m e f =
-    let w = row.within in
-    let here : get_or points i p ≡ p = get_or_default points i p origin (omega arith) ∙ row.here i l m in
-    f ∙ (λ k. e k ++ sym here k ∷ []) ∙ sym (take_more points i p (omega arith))
-
--- at first none of them
-pub none_made : (points nodes : List GridPoint) (rows : List ℕ) (made : List GridPoint) (k : ℕ) → k ≡ 0 → AreRows points nodes rows → made ≡ [] → made ≡ take (get_or rows k 0) points
-none_made points nodes rows made k e table f = f ∙ sym (ap (λ (i : ℕ). take i points) (ap (λ (i : ℕ). get_or rows i 0) e ∙ table.begins))
-
--- one more row
-pub row_made : (points nodes : List GridPoint) (rows : List ℕ) (k : ℕ) (p : GridPoint) (made all : List GridPoint) → AreRows points nodes rows → k < length nodes → p ≡ get_or nodes k p → made ≡ take (get_or rows k 0) points
-    → ((points : List GridPoint) → IsRow points p (get_or rows k 0) (get_or rows (k + 1) 0) → made ≡ take (get_or rows k 0) points → all ≡ take (get_or rows (k + 1) 0) points) → all ≡ take (get_or rows (k + 1) 0) points
-row_made points nodes rows k p made all table l e h pushed =
-    let p_is : point_at nodes k ≡ p = sym (e ∙ get_or_default nodes k p origin l) in
-    pushed points (subst (λ (q : GridPoint). IsRow points q (get_or rows k 0) (get_or rows (k + 1) 0)) p_is (table.row k l)) h
-
--- all of them
-pub all_made : (points nodes : List GridPoint) (rows : List ℕ) (made : List GridPoint) (k : ℕ) → k ≡ length nodes → AreRows points nodes rows → made ≡ take (get_or rows k 0) points → made ≡ points
-all_made points nodes rows made k e table f = f ∙ ap (λ (i : ℕ). take (get_or rows i 0) points) e ∙ take_all (get_or rows (length nodes) 0) points table.ends
+pub rows_within : (points nodes : List GridPoint) (rows : List ℕ) → AreRows points nodes rows → All (λ (n : ℕ). n ≤ length points) rows
+rows_within points nodes rows table k d l = subst (λ (n : ℕ). n ≤ length points) (get_or_default rows k 0 d l) (go k l)
+  where
+    go : (k : ℕ) → k < length rows → get_or rows k 0 ≤ length points
+    go zero l = let e = table.begins in omega arith
+    go (suc j) l = let n = table.each in subst (λ (k : ℕ). get_or rows k 0 ≤ length points) (let e : j + 1 ≡ suc j = omega arith in e) (table.row j (omega arith)).within
 
 -- ---- the row of a point
 

@@ -1,11 +1,11 @@
-ghost use Rattle.std.specs.Prelude.{◌≡◌, ◌+◌, ◌-◌, ◌<◌, ◌≤◌, ◌++◌, ◌∷◌, [], All, List, drop, IfOk, OnOk, false, length, map, take, true};
+ghost use Rattle.std.specs.Prelude.{◌≡◌, ◌+◌, ◌-◌, ◌<◌, ◌≤◌, ◌++◌, ◌∷◌, [], All, drop, IfOk, OnOk, false, length, map, take, true};
 ghost use Rattle.std.specs.List.Sorted.{IsPermutation, IsSortedByKey};
 ghost use Rattle.grid_base.specs.Order.{point_cmp};
-ghost use Rattle.plane_model.specs.Points.{GridPoint, same_point};
+ghost use Rattle.plane_model.specs.Points.{same_point};
 ghost use Rattle.arc_table.specs.Around.{IsTurned, signed_below, start_of};
 ghost use Rattle.arc_table.specs.Direction.{point_at};
 ghost use Rattle.arc_table.specs.FirstSteps.{AddsRow};
-ghost use Rattle.arc_table.specs.Rows.{AreRows, IsRow};
+ghost use Rattle.arc_table.specs.Rows.{AreRows};
 
 use crate::arc_order::has_moved;
 use crate::first_steps::{FirstStep, first_step, start_of, turning};
@@ -147,30 +147,4 @@ pub fn part_of(outs: &[SignedArc], first: u32, stop: u32) -> &[SignedArc]
     ensures exact { result.now ≡ take (stop - first) (drop first outs.now) }
 {
     &outs[first as usize..stop as usize]
-}
-
-/// For each signed arc by its start where it starts: each node as often as its row is long.
-pub fn starts_of(
-    alloc: Global,
-    nodes: &[Pt],
-    rows: &[u32],
-    count: usize,
-) -> Result<Vec<Pt>, AllocError>
-    requires each { length rows.now ≡ length nodes.now + 1 }
-    ensures exact { (points : List GridPoint) → AreRows points nodes.now rows.now → IfOk result (λ v. v.items ≡ points) }
-{
-    let mut starts = Vec::with_capacity(alloc, count)?;
-    for k in 0..nodes.len() {
-        push_row(&mut starts, nodes[k], rows[k], rows[k + 1])?;
-    }
-    Ok(starts)
-}
-
-fn push_row(starts: &mut Vec<Pt>, p: Pt, first: u32, stop: u32) -> Result<(), AllocError>
-    ensures pushed { OnOk result ((points : List GridPoint) → IsRow points p first stop → starts.old.items ≡ take first points → starts.new.items ≡ take stop points) }
-{
-    for _place in first..stop {
-        starts.push(p)?;
-    }
-    Ok(())
 }

@@ -1,9 +1,10 @@
-ghost use Rattle.std.specs.Prelude.{◌≡◌, ◌<◌, All, IfOk, length};
-ghost use Rattle.arc_table.specs.Around.{IsTurned};
+ghost use Rattle.std.specs.Prelude.{◌≡◌, ◌<◌, ◌≤◌, All, List, length, map};
+ghost use Rattle.plane_model.specs.Points.{GridPoint};
+ghost use Rattle.arc_table.specs.Around.{IsTurned, start_of};
+ghost use Rattle.arc_table.specs.Rows.{AreRows};
 
-use crate::node_rows::starts_of;
 use crate::table::ArcTable;
-use grid_base::{Pt, SignedArc};
+use grid_base::SignedArc;
 use known_order::positions_by_key;
 use std::alloc::{AllocError, Global};
 
@@ -42,14 +43,15 @@ impl ArcTable {
         self.order = None;
     }
 
-    /// All signed arcs by their starts, beside these starts: the arcs from one vertex stand in a row,
-    /// counterclockwise from the direction of the positive x axis. The starts are made for the caller, 16 bytes an arc.
-    pub fn rows(&self, alloc: Global) -> Result<(Vec<Pt>, &[SignedArc]), AllocError>
-        ensures turned { IfOk result (λ r. IsTurned self.now r.0.items r.1.now) }
-        ensures each { IfOk result (λ r. length r.0.items ≡ length r.1.now) }
-        ensures there { IfOk result (λ r. All (λ a. a.arc < length self.now) r.1.now) }
+    /// Where the row of each vertex where arcs start begins among all signed arcs by their starts, counted from 0, and
+    /// after these where the last row ends; and these arcs, in each row counterclockwise from the direction of the
+    /// positive x axis.
+    pub fn rows(&self) -> (&[u32], &[SignedArc])
+        ensures turned { IsTurned self.now (map (start_of self.now) result.1.now) result.1.now }
+        ensures rows { (nodes : List GridPoint) × AreRows (map (start_of self.now) result.1.now) nodes result.0.now }
+        ensures within { All (λ place. place ≤ length result.1.now) result.0.now }
+        ensures there { All (λ a. a.arc < length self.now) result.1.now }
     {
-        let starts = starts_of(alloc, &self.nodes, &self.rows, self.outs.len())?;
-        Ok((starts, &self.outs))
+        (&self.rows, &self.outs)
     }
 }

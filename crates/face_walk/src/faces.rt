@@ -85,9 +85,8 @@ impl Faces {
         }
         let search = search_of(alloc, t)?;
         let mut joining = Joining::new(alloc, 2 * t.count() + 1)?;
-        let (starts, outs) = t.rows(alloc)?;
-        join_sectors(&mut joining, &starts, outs);
-        drop(starts);
+        let (rows, outs) = t.rows();
+        join_sectors(&mut joining, rows, outs);
         join_rays(alloc, &mut joining, &search, t.high_positions())?;
         let numbering = numbering_of(alloc, &joining)?;
         drop(joining);

@@ -1,44 +1,40 @@
-use Rattle.std.proofs.Common.{◌∙◌, sym, ap, arith, ℕ, List, length}
-use Rattle.face_walk.specs.Joining.{made_one}
-use Rattle.face_walk.specs.Places.{place_of}
-use Rattle.face_walk.specs.Sectors.{arc_at, place_right_of, sector_after}
-use Rattle.face_walk.proofs.SectorLemmas.{first_within, first_on, first_off, next_on, next_off, joined_sector}
-use Rattle.face_walk.proofs.sectors.join_sectors.Goals.{then-goes_on, else-goes_on}
+use Rattle.std.proofs.Common.{◌≡◌, ◌∙◌, ◌+◌, ◌-◌, ap, arith, get_or, length, refl, subst, sym, ℕ}
+use Rattle.std.proofs.lemmas.List.{get_or_default}
+use Rattle.arc_table.specs.Direction.{point_at}
+use Rattle.arc_table.specs.Rows.{IsRow}
+use Rattle.face_walk.specs.Joins.{joined_by}
+use Rattle.face_walk.specs.Sectors.{sectors_below}
 use Rattle.face_walk.proofs.sectors.join_sectors.Goals as goal
 
-pub join_sector-requires-else-goes_on-clause-second : goal.join_sector-requires-else-goes_on-clause-second
-join_sector-requires-else-goes_on-clause-second c =
-    let e = c.loop-i.invariant.first_is in
-    let h = first_within c.args.starts.now c.loop-i.i in
-    let l = c.loop-i-test.true in
-    omega arith
+pub loop-k-init : goal.loop-k-init
+loop-k-init c = record {
+  count = refl;
+  joined = λ starts nodes table. ap (λ (n : ℕ). joined_by (sectors_below starts c.args.outs.now n) c.args.joining.now) (sym table.begins);
+}
 
-pub loop-i-preserved : goal.loop-i-preserved
-loop-i-preserved c =
-    let starts = c.args.starts.now in
-    let outs = c.args.outs.now in
-    let i = c.loop-i.i in
-    let before = c.loop-i.joining in
-    let old = c.args.joining.now in
-    elim c.if-goes_on.branch [
-      | then-goes_on w ↦
-          (let on = sym w.if-goes_on.ensures.exact in
-          record {
-            count = ap (λ (xs : List ℕ). length xs) w.joining-is ∙ w.join_sector.ensures.count ∙ c.loop-i.invariant.count;
-            first_is = w.first-is ∙ c.loop-i.invariant.first_is ∙ sym (first_on starts i on);
-            joined = w.joining-is ∙ w.join_sector.ensures.exact
-                ∙ ap (λ (n : ℕ). made_one (place_of (arc_at outs i)) (place_right_of (arc_at outs n)) before) (sym (next_on starts i on))
-                ∙ ap (λ (xs : List ℕ). made_one (sector_after starts outs i).0 (sector_after starts outs i).1 xs) c.loop-i.invariant.joined
-                ∙ sym (joined_sector starts outs i old);
-          })
-      | else-goes_on w ↦
-          (let off = sym w.if-goes_on.ensures.exact in
-          record {
-            count = ap (λ (xs : List ℕ). length xs) w.joining-is ∙ w.join_sector-else-goes_on.ensures.count ∙ c.loop-i.invariant.count;
-            first_is = w.first-is ∙ sym (first_off starts i off);
-            joined = w.joining-is ∙ w.join_sector-else-goes_on.ensures.exact
-                ∙ ap (λ (n : ℕ). made_one (place_of (arc_at outs i)) (place_right_of (arc_at outs n)) before) (c.loop-i.invariant.first_is ∙ sym (next_off starts i off))
-                ∙ ap (λ (xs : List ℕ). made_one (sector_after starts outs i).0 (sector_after starts outs i).1 xs) c.loop-i.invariant.joined
-                ∙ sym (joined_sector starts outs i old);
-          })
-    ]
+pub loop-k-preserved : goal.loop-k-preserved
+loop-k-preserved c =
+    let k = c.loop-k.k in
+    let rows = c.args.rows.now in
+    let some = c.loop-k.auto.k in
+    let here : k - 1 + 1 ≡ k = omega arith in
+    let next : k ≡ k + 1 - 1 = omega arith in
+    record {
+      count = c.join_row.ensures.count ∙ c.loop-k.invariant.count;
+      joined = λ starts nodes table.
+          let many = table.each in
+          let row = subst (λ (n : ℕ). IsRow starts (point_at nodes (k - 1)) (get_or rows (k - 1) 0) (get_or rows n 0)) here (table.row (k - 1) (let l = c.loop-k-test.true in omega arith)) in
+          c.join_row.ensures.exact starts (point_at nodes (k - 1)) c.args.joining.now row (c.loop-k.invariant.joined starts nodes table)
+          ∙ ap (λ (n : ℕ). joined_by (sectors_below starts c.args.outs.now (get_or rows n 0)) c.args.joining.now) next;
+    }
+
+pub returns-clause-exact : goal.returns-clause-exact
+returns-clause-exact c = λ starts nodes each table.
+    let k = c.loop-k.k in
+    let rows = c.args.rows.now in
+    let many = table.each in
+    let last : k - 1 ≡ length nodes = (let l = c.loop-k.auto.k-end (omega arith) in let h = c.loop-k-test.false in omega arith) in
+    let from = table.ends in
+    let to = c.requires.within (length nodes) 0 (omega arith) in
+    let whole : get_or rows (length nodes) 0 ≡ length c.args.outs.now = omega arith in
+    c.loop-k.invariant.joined starts nodes table ∙ ap (λ (n : ℕ). joined_by (sectors_below starts c.args.outs.now n) c.args.joining.now) (ap (λ (j : ℕ). get_or rows j 0) last ∙ whole)
