@@ -1,5 +1,5 @@
 -- Sectors, one arc more at a time.
-use Rattle.std.proofs.Common.{◌≡◌, inl, inr, sym, ap, ◌∙◌, subst, arith, ℕ, zero, suc, ◌+◌, ◌<◌, ◌≤◌, Bool, true, false, cond, nat_lt, List, [], ◌∷◌, ◌++◌, length}
+use Rattle.std.proofs.Common.{◌≡◌, inl, inr, sym, ap, ◌∙◌, subst, arith, ℕ, zero, suc, ◌+◌, ◌<◌, ◌≤◌, Bool, true, false, cond, nat_lt, List, length}
 use Rattle.std.proofs.lemmas.Bool.{and_from, and_parts, cases_lt, cond-false, cond-true, false_from_ne_true, lt-ltb, ltb-true}
 use Rattle.plane_model.specs.Points.{GridPoint, is_before, same_point}
 use Rattle.plane_model.specs.Arcs.{SignedArc}
@@ -27,13 +27,9 @@ next_on starts i e = ap (λ (b : Bool). cond b (i + 1) (first_in_row starts i)) 
 pub next_off : (starts : List GridPoint) (i : ℕ) → goes_on starts i ≡ false → next_in_row starts i ≡ first_in_row starts i
 next_off starts i e = ap (λ (b : Bool). cond b (i + 1) (first_in_row starts i)) e
 
-sectors_more : (starts : List GridPoint) (outs : List SignedArc) (n : ℕ) → sectors_below starts outs (n + 1) ≡ sectors_below starts outs n ++ sector_after starts outs n ∷ []
-sectors_more starts outs n = ap (sectors_below starts outs) (let f : n + 1 ≡ suc n = omega arith in f)
-
--- one sector more
 joined_sector : (starts : List GridPoint) (outs : List SignedArc) (n : ℕ) (classes : List ℕ) →
     joined_by (sectors_below starts outs (n + 1)) classes ≡ made_one (sector_after starts outs n).0 (sector_after starts outs n).1 (joined_by (sectors_below starts outs n) classes)
-joined_sector starts outs n classes = ap (λ (ps : List (ℕ × ℕ)). joined_by ps classes) (sectors_more starts outs n) ∙ joined_more (sectors_below starts outs n) (sector_after starts outs n) classes
+joined_sector starts outs n classes = ap (λ (k : ℕ). joined_by (sectors_below starts outs k) classes) (let f : n + 1 ≡ suc n = omega arith in f) ∙ joined_more (sectors_below starts outs n) (sector_after starts outs n) classes
 
 -- ---- the sectors of a row
 

@@ -1,4 +1,4 @@
-use Rattle.std.proofs.Common.{◌≡◌, ◌∙◌, arith, subst, List, ℕ}
+use Rattle.std.proofs.Common.{◌≡◌, ◌∙◌, arith, subst, ℕ}
 use Rattle.face_walk.specs.Joins.{joined_by}
 use Rattle.face_walk.specs.Sectors.{sectors_below}
 use Rattle.face_walk.proofs.SectorLemmas.{joined_next}

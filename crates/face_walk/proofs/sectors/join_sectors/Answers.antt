@@ -1,5 +1,4 @@
 use Rattle.std.proofs.Common.{◌≡◌, ◌∙◌, ◌+◌, ◌-◌, ap, arith, get_or, length, refl, subst, sym, ℕ}
-use Rattle.std.proofs.lemmas.List.{get_or_default}
 use Rattle.arc_table.specs.Direction.{point_at}
 use Rattle.arc_table.specs.Rows.{IsRow}
 use Rattle.face_walk.specs.Joins.{joined_by}
