@@ -39,8 +39,7 @@ module _ (starts : List GridPoint) (p : GridPoint) (first stop : ℕ) (row : IsR
 
   on : (i : ℕ) → first ≤ i → i + 1 < stop → goes_on starts i ≡ true
   on i l m =
-      let w = row.within in
-      and_from (nat_lt (i + 1) (length starts)) (same_point (at i) (at (i + 1))) (lt-ltb (i + 1) (length starts) (omega arith))
+      and_from (nat_lt (i + 1) (length starts)) (same_point (at i) (at (i + 1))) (lt-ltb (i + 1) (length starts) (let w = row.within in omega arith))
       (same_point_to (at i) (at (i + 1)) (row.here i l (omega arith) ∙ sym (row.here (i + 1) (omega arith) m)))
 
   off : (i : ℕ) → (i + 1 < length starts → is_before (at i) (at (i + 1)) ≡ true) → goes_on starts i ≡ false
@@ -51,21 +50,17 @@ module _ (starts : List GridPoint) (p : GridPoint) (first stop : ℕ) (row : IsR
   first_is : (i : ℕ) → first ≤ i → i < stop → first_in_row starts i ≡ first
   first_is zero l m = omega arith
   first_is (suc i) l m = elim (cases_lt i first) [
-    | inl h ↦ (
-        let e : suc i ≡ first = omega arith in
-        cond-false (goes_on starts i) (first_in_row starts i) (suc i) (off i (λ n. subst (λ (q : GridPoint). is_before (at i) q ≡ true) (sym (row.here (i + 1) (omega arith) (omega arith))) (row.before i h))) ∙ e)
+    | inl h ↦ cond-false (goes_on starts i) (first_in_row starts i) (suc i) (off i (λ n. subst (λ (q : GridPoint). is_before (at i) q ≡ true) (sym (row.here (i + 1) (omega arith) (omega arith))) (row.before i h))) ∙ omega arith
     | inr h ↦ cond-true (goes_on starts i) (first_in_row starts i) (suc i) (on i h (omega arith)) ∙ first_is i h (omega arith)
-  ]
-
-  next_is : (i next : ℕ) → first ≤ i → i < stop → (i + 1 < stop → next ≡ i + 1) → (stop ≤ i + 1 → next ≡ first) → next ≡ next_in_row starts i
-  next_is i next l m goes round = elim (cases_lt (i + 1) stop) [
-    | inl h ↦ goes h ∙ sym (next_on starts i (on i l h))
-    | inr h ↦ round h ∙ sym (next_off starts i (off i (λ n. subst (λ (q : GridPoint). is_before q (at (i + 1)) ≡ true) (sym (row.here i l m)) (row.after (i + 1) h n))) ∙ first_is i l m)
   ]
 
   -- one sector more
   pub joined_next : (outs : List SignedArc) (i next : ℕ) (classes before after : List ℕ) → first ≤ i → i < stop → (i + 1 < stop → next ≡ i + 1) → (stop ≤ i + 1 → next ≡ first) →
       before ≡ joined_by (sectors_below starts outs i) classes → after ≡ made_one (place_of (arc_at outs i)) (place_right_of (arc_at outs next)) before → after ≡ joined_by (sectors_below starts outs (i + 1)) classes
-  joined_next outs i next classes before after l m goes round e f =
-      let n = next_is i next l m goes round in
-      f ∙ (λ k. made_one (place_of (arc_at outs i)) (place_right_of (arc_at outs (n k))) (e k)) ∙ sym (joined_sector starts outs i classes)
+  joined_next outs i next classes before after l m goes round e f = f ∙ (λ k. made_one (place_of (arc_at outs i)) (place_right_of (arc_at outs (next_is k))) (e k)) ∙ sym (joined_sector starts outs i classes)
+    where
+      next_is : next ≡ next_in_row starts i
+      next_is = elim (cases_lt (i + 1) stop) [
+        | inl h ↦ goes h ∙ sym (next_on starts i (on i l h))
+        | inr h ↦ round h ∙ sym (next_off starts i (off i (λ n. subst (λ (q : GridPoint). is_before q (at (i + 1)) ≡ true) (sym (row.here i l m)) (row.after (i + 1) h n))) ∙ first_is i l m)
+      ]

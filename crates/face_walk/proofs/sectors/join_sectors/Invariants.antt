@@ -6,7 +6,5 @@ use Rattle.face_walk.specs.Sectors.{sectors_below}
 use Rattle.face_walk.proofs.sectors.join_sectors.Given as goal
 
 abbrev pub invariant-loop-k : goal.invariant-loop-k
-invariant-loop-k l = record {
-  count : length l.joining ≡ length l.initial.joining;
-  joined : (starts nodes : List GridPoint) → AreRows starts nodes l.rows → l.joining ≡ joined_by (sectors_below starts l.outs (get_or l.rows (l.k - 1) 0)) l.initial.joining;
-}
+invariant-loop-k l = (length l.joining ≡ length l.initial.joining)
+    × ((starts nodes : List GridPoint) → AreRows starts nodes l.rows → l.joining ≡ joined_by (sectors_below starts l.outs (get_or l.rows (l.k - 1) 0)) l.initial.joining)

@@ -19,7 +19,6 @@ of_sides-requires-clause-joined c =
     let outs = c.rows.result.1.now in
     let starts = map (start_of arcs) outs in
     let (nodes, table) = c.rows.ensures.rows in
-    let each = length-map outs (start_of arcs) in
     let alone = c.in_ok-joining.joining in
     let numbering = c.in_ok-numbering.numbering in
     let few = c.if-count-gt-MAX_ARCS.false in
@@ -27,10 +26,10 @@ of_sides-requires-clause-joined c =
     let again = c.count-2.ensures.exact in
     let many = c.in_ok-joining.ensures.count in
     let (rays, r, e) = c.in_ok-join_rays.ensures.exact in
-    subst (λ (ls : List ArcLink). HasJoins arcs ls numbering.places.items) (sym c.of-links.ensures.links) (built_by arcs links starts outs alone _ numbering.places.items numbering.count c.rows.ensures.turned each
+    subst (λ (ls : List ArcLink). HasJoins arcs ls numbering.places.items) (sym c.of-links.ensures.links) (built_by arcs links starts outs alone _ numbering.places.items numbering.count c.rows.ensures.turned (length-map outs (start_of arcs))
     (All-weaker (λ (a : SignedArc). a.arc < length arcs) (HasPlaces (length alone)) (λ a h. omega arith) outs c.rows.ensures.there)
     (All-weaker (λ (l : ArcLink). l.along.arc < length arcs) (λ (l : ArcLink). HasPlaces (length alone) l.along) (λ l h. omega arith) links c.in_ok-search.ensures.there)
-    (omega arith) c.in_ok-joining.ensures.alone rays r (e ∙ ap (joined_by rays) (c.join_sectors.ensures.exact starts nodes each table)) c.in_ok-numbering.ensures.exact)
+    (omega arith) c.in_ok-joining.ensures.alone rays r (e ∙ ap (joined_by rays) (c.join_sectors.ensures.exact starts nodes (length-map outs (start_of arcs)) table)) c.in_ok-numbering.ensures.exact)
 
 pub of_sides-requires-clause-all : goal.of_sides-requires-clause-all
 of_sides-requires-clause-all c = subst (AreLinksOf c.args.t.now) (sym c.of-links.ensures.links) c.in_ok-search.ensures.all
