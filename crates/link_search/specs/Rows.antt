@@ -1,5 +1,5 @@
 -- Links by their starts: those that leave one vertex stand in a row.
-use Rattle.std.specs.Prelude.{◌≡◌, ◌⊎◌, ℕ, zero, suc, pos, ◌≤ℤ◌, ◌≤◌, true, not, Bool, List, Contains, map, Some, slice_get, slice_index_or, IsTrue}
+use Rattle.std.specs.Prelude.{◌≡◌, ◌⊎◌, ℕ, zero, suc, pos, ◌≤ℤ◌, ◌<◌, ◌≤◌, true, false, not, Bool, List, Contains, length, map, Some, slice_get, slice_index_or, IsTrue}
 use Rattle.std.specs.List.Sorted.{IsPermutation, IsSorted}
 use Rattle.plane_model.specs.Points.{GridPoint, same_point, is_before, cross}
 use Rattle.grid_base.specs.Order.{point_cmp}
@@ -46,6 +46,16 @@ pub record IsFirstOfTwo (first next result : ArcLink) : Type 0 where
 -- no link arrives at p from a lesser vertex
 abbrev pub IsMinimum : List ArcLink → GridPoint → Type 0
 IsMinimum links p = (k : ArcLink) → Contains links k → k.link.stop ≡ p → ⊥
+
+-- whether the link at a place is the first of its row, and no link arrives at its lesser end
+pub record IsLowestAt (links : List ArcLink) (i : ℕ) (is_lowest : Bool) : Type 0 where
+  pub row : is_lowest ≡ true → starts_row links i ≡ true
+  pub vertex : is_lowest ≡ true → IsMinimum links (start_at links i)
+  pub no : is_lowest ≡ false → starts_row links i ≡ true → IsMinimum links (start_at links i) → ⊥
+
+-- for each of the first links whether it is
+abbrev pub AreLowest : List ArcLink → List Bool → Type 0
+AreLowest links lowest = (i : ℕ) → i < length lowest → IsLowestAt links i (slice_index_or lowest i false)
 
 -- of the links that leave p, l is the first counterclockwise from straight down: it turns left to no other
 pub record IsFirstFrom (links : List ArcLink) (p : GridPoint) (l : ArcLink) : Type 0 where

@@ -21,6 +21,6 @@ mod rows;
 mod search;
 mod under;
 
-pub use links::{ArcLink, highs_of};
-pub use rows::{arrivals_before, first_round, is_lowest};
+pub use links::ArcLink;
+pub use rows::{first_round, lowest_of};
 pub use search::{LinkSearch, upper};

@@ -1,29 +1,41 @@
-ghost use Rattle.std.specs.Prelude.{◌≡◌, ◌<◌, true, false, All, length};
+ghost use Rattle.std.specs.Prelude.{◌≡◌, ◌<◌, All, IfOk, length};
 ghost use Rattle.link_search.specs.Topmost.{HasGridEnds};
-ghost use Rattle.link_search.specs.Rows.{AreStops, IsMinimum, IsFirstOfRow, IsFirstOfTwo, start_at, starts_row};
+ghost use Rattle.link_search.specs.Rows.{AreLowest, AreStops, IsFirstOfRow, IsFirstOfTwo, IsLowestAt, starts_row};
 
 use crate::arrivals::{arrives_at, place_from};
-use crate::links::ArcLink;
+use crate::links::{ArcLink, highs_of};
 use grid_base::{Pt, is_same, turn};
+use std::alloc::{AllocError, Global};
 
-/// Whether the link at a place is the first of those that leave its lesser end, and none arrives there. `guess` is where
-/// the greater ends come to the lesser one, as `arrivals_before` has it: a wrong one costs time alone.
-pub fn is_lowest(links: &[ArcLink], highs: &[Pt], i: usize, guess: usize) -> bool
-    requires there { i < length links.now }
-    requires highs { AreStops links.now highs.now }
-    ensures row { result ≡ true → starts_row links.now i ≡ true }
-    ensures vertex { result ≡ true → IsMinimum links.now (start_at links.now i) }
-    ensures no { result ≡ false → starts_row links.now i ≡ true → IsMinimum links.now (start_at links.now i) → ⊥ }
+/// For each link, which stand by their lesser ends, whether it is the first of those that leave this end, and none
+/// arrives there. `high_positions` has for each the position of its greater end among these ends in order: a wrong one
+/// costs time alone.
+pub fn lowest_of(
+    alloc: Global,
+    links: &[ArcLink],
+    high_positions: &[u32],
+) -> Result<Vec<bool>, AllocError>
+    ensures each { IfOk result (λ v. length v.items ≡ length links.now) }
+    ensures exact { IfOk result (λ v. AreLowest links.now v.items) }
 {
-    starts_row(links, i) && !arrives_at(highs, links[i].link.low(), guess)
+    let highs = highs_of(alloc, links, high_positions)?;
+    let mut lowest = Vec::with_capacity(alloc, links.len())?;
+    let mut before = 0;
+    for i in 0..links.len() {
+        before = place_from(&highs, links[i].link.low(), before);
+        lowest.push(is_lowest(links, &highs, i, before))?;
+    }
+    Ok(lowest)
 }
 
-/// How many of the greater ends come before the lesser end of the link at a place, where those before place `from` do.
-/// It is not proved: a wrong one costs time alone.
-pub fn arrivals_before(links: &[ArcLink], highs: &[Pt], i: usize, from: usize) -> usize
+// Whether the link at a place is the first of those that leave its lesser end, and none arrives there. `guess` is where
+// the greater ends come to the lesser one: a wrong one costs time alone.
+fn is_lowest(links: &[ArcLink], highs: &[Pt], i: usize, guess: usize) -> bool
     requires there { i < length links.now }
+    requires highs { AreStops links.now highs.now }
+    ensures exact { IsLowestAt links.now i result }
 {
-    place_from(highs, links[i].link.low(), from)
+    starts_row(links, i) && !arrives_at(highs, links[i].link.low(), guess)
 }
 
 // Whether no link before the one at a place leaves the same vertex.

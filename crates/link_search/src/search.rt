@@ -6,14 +6,13 @@ ghost use Rattle.grid_base.specs.Grid.{IsOnGrid, grid_point};
 ghost use Rattle.link_search.specs.Descent.{IsBelowPoint, IsFound, IsNextBelow, IsNotAbove, IsSettled, IsUpper};
 ghost use Rattle.link_search.specs.Parting.{AreTreesOver, LeadsToAll, parts_of};
 ghost use Rattle.link_search.specs.PlaceNumbers.{HasPlaces};
-ghost use Rattle.link_search.specs.Rows.{AreByStart, AreStops};
+ghost use Rattle.link_search.specs.Rows.{AreByStart};
 ghost use Rattle.link_search.specs.Topmost.{HasGridEnds, IsTopmostBelow, boxes_of};
 ghost use Rattle.link_search.specs.declared.link_tree.LinkTree.{LinkTree};
 ghost use Rattle.link_search.specs.declared.links.ArcLink.{ArcLink};
 
 use crate::link_tree::{LinkTree, MAX_STEPS, Stretch, topmost_by, tree_of};
-use crate::links::{ArcLink, highs_of};
-use crate::rows::{arrivals_before, is_lowest};
+use crate::links::ArcLink;
 use crate::under::{goes_under, is_at_or_above, is_below};
 use bucket_grid::Buckets;
 use grid_base::Pt;
@@ -38,20 +37,16 @@ pub struct LinkSearch {
 }
 
 impl LinkSearch {
-    /// The search among links, which stand by their lesser ends. `high_positions` has for each of them the position of
-    /// its greater end among these ends in order: a wrong one costs time alone.
+    /// The search among links, which stand by their lesser ends. `lowest` says of each whether a ray starts at it, as
+    /// `lowest_of` has it: a wrong answer costs time alone.
     ///
     /// Errors: `AllocError` for want of memory, or of numbers below 2^32 for links or buckets.
-    pub fn of(
-        alloc: Global,
-        links: Vec<ArcLink>,
-        high_positions: &[u32],
-    ) -> Result<LinkSearch, AllocError>
+    pub fn of(alloc: Global, links: Vec<ArcLink>, lowest: &[bool]) -> Result<LinkSearch, AllocError>
         requires sorted { AreByStart links.items }
         ensures same { IfOk result (λ s. s.links.items ≡ links.items) }
     {
         let buckets = Buckets::build_over(alloc, &links)?;
-        let trees = trees_of(alloc, &links, high_positions, &buckets)?;
+        let trees = trees_of(alloc, &links, lowest, &buckets)?;
         Ok(LinkSearch {
             links,
             buckets,
@@ -120,24 +115,11 @@ fn has_crowds(buckets: &Buckets) -> bool {
     false
 }
 
-// For each link whether a ray starts at it. This is not proved: a wrong answer costs time alone.
-fn rays_of(alloc: Global, links: &[ArcLink], highs: &[Pt]) -> Result<Vec<bool>, AllocError>
-    requires highs { AreStops links.now highs.now }
-{
-    let mut rays = Vec::with_capacity(alloc, links.len())?;
-    let mut before = 0;
-    for i in 0..links.len() {
-        before = arrivals_before(links, highs, i, before);
-        rays.push(is_lowest(links, highs, i, before))?;
-    }
-    Ok(rays)
-}
-
 // Whether many rays start at links with these numbers.
-fn has_many_rays(rays: &[bool], near: &[u32]) -> bool {
+fn has_many_rays(lowest: &[bool], near: &[u32]) -> bool {
     let mut count: usize = 0;
     for i in near {
-        if let Some(is_start) = rays.get(*i as usize) {
+        if let Some(is_start) = lowest.get(*i as usize) {
             count = count.saturating_add(*is_start as usize);
         }
     }
@@ -148,7 +130,7 @@ fn has_many_rays(rays: &[bool], near: &[u32]) -> bool {
 fn trees_of(
     alloc: Global,
     links: &[ArcLink],
-    high_positions: &[u32],
+    lowest: &[bool],
     buckets: &Buckets,
 ) -> Result<Vec<Option<LinkTree>>, AllocError>
     ensures led { IfOk result (λ trees. AreTreesOver links.now buckets.now.near trees.items) }
@@ -157,11 +139,8 @@ fn trees_of(
     if !has_crowds(buckets) {
         return Ok(trees);
     }
-    let highs = highs_of(alloc, links, high_positions)?;
-    let rays = rays_of(alloc, links, &highs)?;
-    drop(highs);
     for place in 0..buckets.count() {
-        trees.push(tree_at(alloc, links, &rays, buckets, place)?)?;
+        trees.push(tree_at(alloc, links, lowest, buckets, place)?)?;
     }
     Ok(trees)
 }
@@ -169,7 +148,7 @@ fn trees_of(
 fn tree_at(
     alloc: Global,
     links: &[ArcLink],
-    rays: &[bool],
+    lowest: &[bool],
     buckets: &Buckets,
     place: u32,
 ) -> Result<Option<LinkTree>, AllocError>
@@ -181,7 +160,7 @@ fn tree_at(
     let Some(rect) = buckets.area_of(place) else {
         return Ok(None);
     };
-    if near.len() <= CROWD || !has_many_rays(rays, near) {
+    if near.len() <= CROWD || !has_many_rays(lowest, near) {
         return Ok(None);
     }
     let stretch = Stretch {
