@@ -19,6 +19,7 @@ pub mod Rounds
 pub mod RowTable
 pub mod Runs
 pub mod SignedArcs
+pub mod SignedCodes
 pub mod StepCodes
 pub mod StepMerge
 pub mod StepSearch

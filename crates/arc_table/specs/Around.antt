@@ -1,5 +1,5 @@
 -- The signed arcs that start at a vertex, in turn.
-use Rattle.std.specs.Prelude.{◌≡◌, ◌≢◌, ◌-◌, ◌<◌, ℕ, zero, suc, pos, Bool, false, ◌&&◌, ◌||◌, nat_lt, nat_eq, int_lt, if◌then◌else◌, List, [], ◌∷◌, ◌++◌, map, All, AllPairs, Contains, length, slice_index_or}
+use Rattle.std.specs.Prelude.{◌≡◌, ◌≢◌, ◌-◌, ◌/◌, ◌%◌, ◌<◌, ℕ, zero, suc, pos, Bool, false, ◌&&◌, ◌||◌, nat_lt, nat_eq, int_lt, if◌then◌else◌, List, [], ◌∷◌, ◌++◌, map, All, AllPairs, Contains, length, slice_index_or}
 use Rattle.std.specs.List.Sorted.{IsPermutation, IsSortedBy}
 use Rattle.plane_model.specs.Points.{GridPoint, Segment, Path, same_point, is_before, cross}
 use Rattle.plane_model.specs.Arcs.{SignedArc, forward, backward, goes_up}
@@ -9,6 +9,10 @@ use Rattle.arc_table.specs.Direction.{point_at}
 abbrev pub signed_below : ℕ → List SignedArc
 signed_below zero = []
 signed_below (suc n) = signed_below n ++ forward n ∷ backward n ∷ []
+
+-- the signed arc with a code: twice the number of its arc, and one more where it is reversed
+abbrev pub signed_of : ℕ → SignedArc
+signed_of code = if nat_eq (code % 2) 0 then forward (code / 2) else backward (code / 2)
 
 -- the step that a signed arc begins with
 abbrev pub first_step : List Path → SignedArc → Segment

@@ -1,6 +1,5 @@
 use crate::half_links::{Net, Step};
 use crate::numbering::Way;
-use crate::step_list::StepList;
 use grid_base::{Pt, is_before, is_same};
 use std::alloc::{AllocError, Global};
 
@@ -9,9 +8,9 @@ use std::alloc::{AllocError, Global};
 pub struct ArcOrder {
     /// For each arc where its first step stands among all steps, and where the first step back along it does.
     pub firsts: Vec<u32>,
-    /// For each vertex of each arc between its ends the number of the vertex, in the order of the vertices.
+    /// For each vertex of each arc between its ends where the step from it stands among all steps.
     pub inner: Vec<u32>,
-    /// For each link of each arc where the step up along it stands among all steps.
+    /// For each link of each arc its number among the links in order.
     pub links: Vec<u32>,
 }
 
@@ -19,8 +18,6 @@ pub struct ArcOrder {
 #[derive(Drop)]
 pub struct ArcListing {
     order: ArcOrder,
-    // the number of the vertex at which each step starts
-    numbers: Vec<u32>,
     // the steps along the arc that is walked
     walked: Vec<u32>,
 }
@@ -36,7 +33,6 @@ impl ArcListing {
         };
         Ok(ArcListing {
             order,
-            numbers: vertex_numbers(alloc, &net.steps)?,
             walked: Vec::new(alloc),
         })
     }
@@ -45,7 +41,7 @@ impl ArcListing {
     pub fn add(&mut self, net: &Net, way: Way) -> Result<(), AllocError> {
         walk(&mut self.walked, net, way)?;
         turn_forward(&mut self.walked, net);
-        self.order.add_arc(net, &self.numbers, &self.walked)
+        self.order.add_arc(net, &self.walked)
     }
 
     /// The order of all of them.
@@ -57,38 +53,22 @@ impl ArcListing {
 
 impl ArcOrder {
     // Adds an arc with these steps.
-    fn add_arc(&mut self, net: &Net, numbers: &[u32], steps: &[u32]) -> Result<(), AllocError> {
+    fn add_arc(&mut self, net: &Net, steps: &[u32]) -> Result<(), AllocError> {
         let Some(first) = steps.first() else {
             return Ok(());
         };
         let mut back = *first;
         for (place, h) in steps.iter().enumerate() {
             back = twin_at(net, *h);
-            self.links.push(back.min(*h))?;
+            self.links.push(net.steps.link_at(*h))?;
             if place > 0 {
-                self.inner.push(number_at(numbers, *h))?;
+                self.inner.push(*h)?;
             }
         }
         self.firsts.push(*first)?;
         self.firsts.push(back)?;
         Ok(())
     }
-}
-
-// The number of the vertex that each step starts at, in the order of the vertices.
-fn vertex_numbers(alloc: Global, steps: &StepList) -> Result<Vec<u32>, AllocError> {
-    let mut numbers = Vec::with_capacity(alloc, steps.len())?;
-    let mut number = 0u32;
-    let mut last = None;
-    for h in 0..steps.len() {
-        let from = steps.at(h).from();
-        if has_moved(last, from) {
-            number = number.wrapping_add(1);
-        }
-        last = Some(from);
-        numbers.push(number)?;
-    }
-    Ok(numbers)
 }
 
 /// Whether there is a point before, and it is another.

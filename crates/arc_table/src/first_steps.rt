@@ -1,12 +1,13 @@
-ghost use Rattle.std.specs.Prelude.{◌≡◌, ◌<◌, [], All, IfOk, length, slice_index_or};
+ghost use Rattle.std.specs.Prelude.{◌≡◌, ◌<◌, [], All, IfOk, length, map, slice_index_or};
 ghost use Rattle.std.specs.List.Sorted.{IsPermutation, IsSortedByKey};
 ghost use Rattle.std.specs.Ordering.{is_lt};
-ghost use Rattle.arc_table.specs.Around.{signed_below, first_step, start_of, half_of, comes_round_first, comes_first};
+ghost use Rattle.arc_table.specs.Around.{signed_below, signed_of, first_step, start_of, half_of, comes_round_first, comes_first};
 ghost use Rattle.arc_table.specs.Direction.{point_at};
 ghost use Rattle.grid_base.specs.Order.{point_cmp};
 ghost use Rattle.plane_model.specs.Arcs.{goes_up};
 
 use crate::half_links::Step;
+use crate::merging::numbers_below;
 use grid_base::{ArcId, Pt, SignedArc, is_before, is_same, turn};
 use known_order::{gathered, order_by_key};
 use span_pool::{SpanId, SpanPool};
@@ -20,36 +21,43 @@ pub struct FirstStep {
     pub arc: SignedArc,
 }
 
-/// The signed arcs by where they start. `keys` has for each, arc after arc and each arc forward and then reversed, its
-/// place in this order, below `count`: a wrong one costs time alone.
-pub fn arcs_by_start(
+/// The codes of the signed arcs by where they start. `keys` has for each, arc after arc and each arc forward and then
+/// reversed, its place in this order, below `count`: a wrong one costs time alone.
+///
+/// Errors: `AllocError` for want of memory, or of numbers below 2^32 for the codes.
+pub fn codes_by_start(
     alloc: Global,
     arcs: &SpanPool,
     keys: Vec<u32>,
     count: usize,
-) -> Result<Vec<SignedArc>, AllocError>
-    ensures all { IfOk result (λ v. IsPermutation (signed_below (length arcs.now.spans)) v.items) }
-    ensures sorted { IfOk result (λ v. IsSortedByKey (start_of arcs.now.spans) point_cmp v.items) }
+) -> Result<Vec<u32>, AllocError>
+    ensures all { IfOk result (λ v. IsPermutation (signed_below (length arcs.now.spans)) (map signed_of v.items)) }
+    ensures sorted { IfOk result (λ v. IsSortedByKey (start_of arcs.now.spans) point_cmp (map signed_of v.items)) }
 {
+    if arcs.count() > u32::MAX / 2 {
+        return Err(AllocError);
+    }
     let by_key = order_by_key(alloc, &keys, count)?;
     drop(keys);
-    let mut by_start = gathered(alloc, &signed_arcs(alloc, arcs.count())?, &by_key)?;
+    let all = numbers_below(alloc, 2 * arcs.count() as usize)?;
+    let mut codes = gathered(alloc, &all, &by_key)?;
+    drop(all);
     // After this the sort has only to find the arcs in order.
-    by_start.sort_unstable_by_key(|a| start_of(arcs, *a));
-    Ok(by_start)
+    codes.sort_unstable_by_key(|code| start_of(arcs, signed_of(*code)));
+    Ok(codes)
 }
 
-// The signed arcs of `count` arcs, each arc forward and then reversed.
-fn signed_arcs(alloc: Global, count: u32) -> Result<Vec<SignedArc>, AllocError>
-    ensures exact { IfOk result (λ v. v.items ≡ signed_below count) }
+/// The signed arc with a code: twice the number of its arc, and one more where it is reversed.
+#[inline(always)]
+pub fn signed_of(code: u32) -> SignedArc
+    ensures exact { result ≡ signed_of code }
 {
-    let mut named = Vec::with_capacity(alloc, 2 * count as usize)?;
-    for n in 0..count {
-        let id = ArcId::new(n);
-        named.push(SignedArc::forward(id))?;
-        named.push(SignedArc::backward(id))?;
+    let id = ArcId::new(code / 2);
+    if code % 2 == 0 {
+        SignedArc::forward(id)
+    } else {
+        SignedArc::backward(id)
     }
-    Ok(named)
 }
 
 /// The step that a signed arc begins with.

@@ -2,13 +2,13 @@ ghost use Rattle.std.specs.Prelude.{◌≡◌, ◌+◌, ◌-◌, ◌<◌, ◌≤
 ghost use Rattle.std.specs.List.Sorted.{IsPermutation, IsSortedByKey};
 ghost use Rattle.grid_base.specs.Order.{point_cmp};
 ghost use Rattle.plane_model.specs.Points.{same_point};
-ghost use Rattle.arc_table.specs.Around.{IsTurned, signed_below, start_of};
+ghost use Rattle.arc_table.specs.Around.{IsTurned, signed_below, signed_of, start_of};
 ghost use Rattle.arc_table.specs.Direction.{point_at};
 ghost use Rattle.arc_table.specs.FirstSteps.{AddsRow};
 ghost use Rattle.arc_table.specs.Rows.{AreRows};
 
 use crate::arc_order::has_moved;
-use crate::first_steps::{FirstStep, first_step, start_of, turning};
+use crate::first_steps::{FirstStep, first_step, signed_of, start_of, turning};
 use grid_base::{Pt, SignedArc, is_same};
 use span_pool::SpanPool;
 use std::alloc::{AllocError, Global};
@@ -22,29 +22,26 @@ pub struct NodeRows {
     pub outs: Vec<SignedArc>,
 }
 
-/// The rows of the signed arcs, which stand by their starts; each row is turned counterclockwise, from the direction of
+/// The rows of the signed arcs, whose codes stand by their starts; each row is turned counterclockwise, from the direction of
 /// the positive x axis on.
 ///
 /// Errors: `AllocError` for want of memory, or of numbers below 2^32 for the arcs.
-pub fn rows_of(
-    alloc: Global,
-    arcs: &SpanPool,
-    by_start: &[SignedArc],
-) -> Result<NodeRows, AllocError>
+pub fn rows_of(alloc: Global, arcs: &SpanPool, codes: &[u32]) -> Result<NodeRows, AllocError>
     requires long { All (λ arc. 1 < length arc) arcs.now.spans }
-    requires all { IsPermutation (signed_below (length arcs.now.spans)) by_start.now }
-    requires sorted { IsSortedByKey (start_of arcs.now.spans) point_cmp by_start.now }
+    requires all { IsPermutation (signed_below (length arcs.now.spans)) (map signed_of codes.now) }
+    requires sorted { IsSortedByKey (start_of arcs.now.spans) point_cmp (map signed_of codes.now) }
     ensures turned { IfOk result (λ r. IsTurned arcs.now.spans (map (start_of arcs.now.spans) r.outs.items) r.outs.items) }
     ensures rows { IfOk result (λ r. AreRows (map (start_of arcs.now.spans) r.outs.items) r.nodes.items r.rows.items) }
 {
-    let mut done = NodeRows::with_room(alloc, row_count(arcs, by_start), by_start.len())?;
+    let mut done = NodeRows::with_room(alloc, row_count(arcs, codes), codes.len())?;
     let mut row = Vec::new(alloc);
-    for a in by_start {
-        let step = first_step(arcs, *a);
+    for code in codes {
+        let arc = signed_of(*code);
+        let step = first_step(arcs, arc);
         if ends_before(&row, step.from()) {
             done.add(&mut row)?;
         }
-        row.push(FirstStep { step, arc: *a })?;
+        row.push(FirstStep { step, arc })?;
     }
     if !row.is_empty() {
         done.add(&mut row)?;
@@ -118,11 +115,11 @@ fn ends_before(row: &[FirstStep], p: Pt) -> bool
 }
 
 // How many rows there are, and 1 for no arcs: room is made for them at first.
-fn row_count(arcs: &SpanPool, by_start: &[SignedArc]) -> usize {
+fn row_count(arcs: &SpanPool, codes: &[u32]) -> usize {
     let mut count: usize = 1;
     let mut last = None;
-    for a in by_start {
-        let from = start_of(arcs, *a);
+    for code in codes {
+        let from = start_of(arcs, signed_of(*code));
         if has_moved(last, from) {
             count = count.saturating_add(1);
         }

@@ -5,16 +5,14 @@ ghost use Rattle.arc_table.specs.Rows.{AreRows};
 
 use crate::table::ArcTable;
 use grid_base::SignedArc;
-use known_order::positions_by_key;
 use std::alloc::{AllocError, Global};
 
 // Where the links of arcs, and their greater ends, stand in order: a wrong one costs time alone.
 #[derive(Drop)]
 pub(crate) struct LinkOrder {
-    // for each link of each arc where the step up along it stands among `steps` steps
+    // for each link of each arc its number among the links in order
     pub(crate) links: Vec<u32>,
     pub(crate) highs: Vec<u32>,
-    pub(crate) steps: usize,
 }
 
 impl ArcTable {
@@ -22,7 +20,7 @@ impl ArcTable {
     /// wrong one costs time alone.
     pub fn link_positions(&self, alloc: Global) -> Result<Vec<u32>, AllocError> {
         match &self.order {
-            Some(order) => positions_by_key(alloc, &order.links, order.steps),
+            Some(order) => Vec::from_slice(alloc, &order.links),
             None => Ok(Vec::new(alloc)),
         }
     }

@@ -87,6 +87,15 @@ impl<'a> StepList<'a> {
         }
     }
 
+    /// The number of the link that the step at a place goes along, in the order of the links, and past the end
+    /// `u32::MAX`. It is not proved.
+    pub fn link_at(&self, h: u32) -> u32 {
+        match self.codes.get(h as usize) {
+            Some(code) => *code / 2,
+            None => u32::MAX,
+        }
+    }
+
     /// The place of a step; `None` where it isn't there.
     ///
     /// Cost: a binary search.

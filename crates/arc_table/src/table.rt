@@ -11,7 +11,7 @@ ghost use Rattle.arc_table.specs.WholeArcs.{IsWholeArc, StartsAtLeast};
 
 use crate::arc_net::ArcNet;
 use crate::arc_order::ArcOrder;
-use crate::first_steps::{arcs_by_start, comes_first, first_step};
+use crate::first_steps::{codes_by_start, comes_first, first_step};
 use crate::half_links::{Step, is_step};
 use crate::node_rows::{NodeRows, part_of, rows_of, stands_at};
 use crate::numbered_arcs::NumberedArcs;
@@ -107,9 +107,9 @@ impl ArcTable {
             inner: inner_keys,
             links,
         } = order;
-        let by_start = arcs_by_start(alloc, &arcs, first_keys, steps)?;
-        let NodeRows { nodes, rows, outs } = rows_of(alloc, &arcs, &by_start)?;
-        drop(by_start);
+        let codes = codes_by_start(alloc, &arcs, first_keys, steps)?;
+        let NodeRows { nodes, rows, outs } = rows_of(alloc, &arcs, &codes)?;
+        drop(codes);
         let inner = inner_vertices(alloc, &arcs, &inner_keys, steps)?;
         Ok(ArcTable {
             arcs,
@@ -117,11 +117,7 @@ impl ArcTable {
             rows,
             outs,
             inner,
-            order: Some(LinkOrder {
-                links,
-                highs,
-                steps,
-            }),
+            order: Some(LinkOrder { links, highs }),
         })
     }
 

@@ -14,8 +14,8 @@ pub struct ArcVertex {
     pub arc: ArcId,
 }
 
-/// The vertices of all arcs between their ends, in order. `keys` has for each of them, one arc after another, its
-/// number among the vertices of the drawing, below `count`: a wrong one costs time alone.
+/// The vertices of all arcs between their ends, in order. `keys` has for each of them, one arc after another, where it
+/// stands in this order, as numbers below `count`: a wrong one costs time alone.
 pub fn inner_vertices(
     alloc: Global,
     arcs: &SpanPool,

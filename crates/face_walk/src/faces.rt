@@ -9,7 +9,7 @@ ghost use Rattle.face_walk.specs.Sides.{AreListed, AreSplit, arcs_from};
 
 use crate::areas::area_of_face;
 use crate::joining::Joining;
-use crate::links::search_of;
+use crate::links::links_of;
 use crate::numbering::{FaceSide, Numbering, arcs_of, faces_of, numbering_of, sides_of};
 use crate::places::{MAX_ARCS, OUTSIDE, place_of};
 use crate::rays::join_rays;
@@ -18,7 +18,7 @@ use crate::side_places::starts_of;
 use crate::topmost::topmost_of_arcs;
 use arc_table::ArcTable;
 use grid_base::{FaceId, Pt, SignedArc};
-use link_search::{ArcLink, LinkSearch};
+use link_search::{ArcLink, LinkSearch, lowest_of};
 use std::alloc::{AllocError, Global};
 use std::marker::Model;
 use std::snapshot::Snapshot;
@@ -83,14 +83,16 @@ impl Faces {
         if t.count() > MAX_ARCS {
             return Err(AllocError);
         }
-        let search = search_of(alloc, t)?;
+        let links = links_of(alloc, t)?;
+        let lowest = lowest_of(alloc, &links, t.high_positions())?;
+        let search = LinkSearch::of(alloc, links, &lowest)?;
         let mut joining = Joining::new(alloc, 2 * t.count() + 1)?;
         let (rows, outs) = t.rows();
         join_sectors(&mut joining, rows, outs);
-        join_rays(alloc, &mut joining, &search, t.high_positions())?;
+        join_rays(&mut joining, &search, &lowest);
+        let links = ArcLinks::of(search, is_searched);
         let numbering = numbering_of(alloc, &joining)?;
         drop(joining);
-        let links = ArcLinks::of(search, is_searched);
         let sides = sides_of(alloc, t.count(), &numbering.places)?;
         Faces::of_sides(alloc, t, links, numbering, sides)
     }

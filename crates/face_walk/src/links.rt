@@ -6,22 +6,11 @@ ghost use Rattle.face_walk.specs.Rays.{AreLinksOf, link_at, links_along};
 use arc_table::ArcTable;
 use grid_base::{ArcId, Link, Pt, SignedArc, is_before};
 use known_order::move_to_positions;
-use link_search::{ArcLink, LinkSearch};
+use link_search::ArcLink;
 use std::alloc::{AllocError, Global};
 
-/// The search among the links of all arcs.
-///
-/// Errors: `AllocError` for want of memory, or of numbers below 2^32 for links or buckets.
-pub fn search_of(alloc: Global, t: &ArcTable) -> Result<LinkSearch, AllocError>
-    ensures all { IfOk result (λ s. AreLinksOf t.now s.links.items) }
-    ensures there { IfOk result (λ s. All (λ l. l.along.arc < length t.now) s.links.items) }
-{
-    let links = links_of(alloc, t)?;
-    LinkSearch::of(alloc, links, t.high_positions())
-}
-
-// The links of all arcs, in order.
-fn links_of(alloc: Global, t: &ArcTable) -> Result<Vec<ArcLink>, AllocError>
+/// The links of all arcs, in order.
+pub fn links_of(alloc: Global, t: &ArcTable) -> Result<Vec<ArcLink>, AllocError>
     ensures all { IfOk result (λ v. AreLinksOf t.now v.items) }
     ensures there { IfOk result (λ v. All (λ l. l.along.arc < length t.now) v.items) }
     ensures sorted { IfOk result (λ v. AreByStart v.items) }

@@ -1,37 +1,29 @@
-ghost use Rattle.std.specs.Prelude.{◌≡◌, ◌+◌, ◌*◌, ◌<◌, ◌≤◌, All, IfSome, OnOk, List, ℕ, length, true};
+ghost use Rattle.std.specs.Prelude.{◌≡◌, ◌+◌, ◌*◌, ◌<◌, ◌≤◌, All, IfSome, List, ℕ, length, true};
 ghost use Rattle.link_search.specs.PlaceNumbers.{HasPlaces};
-ghost use Rattle.link_search.specs.Rows.{IsMinimum, start_at, starts_row};
+ghost use Rattle.link_search.specs.Rows.{AreLowest, IsMinimum, start_at, starts_row};
 ghost use Rattle.face_walk.specs.Joining.{made_one};
 ghost use Rattle.face_walk.specs.Joins.{joined_by};
 ghost use Rattle.face_walk.specs.Rays.{AreRays, IsRay, place_met};
 
 use crate::joining::Joining;
 use crate::places::{OUTSIDE, place_of};
-use link_search::{ArcLink, LinkSearch, arrivals_before, first_round, highs_of, is_lowest};
-use std::alloc::{AllocError, Global};
+use link_search::{ArcLink, LinkSearch, first_round};
 
 /// Joins along the ray from each vertex that all its links leave: the right of the first of them with the left of the
-/// topmost link below the vertex, or with the outside. `high_positions` are those of the table of arcs.
-pub fn join_rays(
-    alloc: Global,
-    joining: &mut Joining,
-    search: &LinkSearch,
-    high_positions: &[u32],
-) -> Result<(), AllocError>
+/// topmost link below the vertex, or with the outside. `lowest` says of each link whether it is the first of these.
+pub fn join_rays(joining: &mut Joining, search: &LinkSearch, lowest: &[bool])
     requires few { length joining.old ≤ 4000000001 }
     requires there { All (λ l. HasPlaces (length joining.old) l.along) search.now.links.items }
+    requires each { length lowest.now ≡ length search.now.links.items }
+    requires lowest { AreLowest search.now.links.items lowest.now }
     ensures count { length joining.new ≡ length joining.old }
-    ensures exact { OnOk result ((rays : List (ℕ × ℕ)) × AreRays search.now.links.items rays × (joining.new ≡ joined_by rays joining.old)) }
+    ensures exact { (rays : List (ℕ × ℕ)) × AreRays search.now.links.items rays × (joining.new ≡ joined_by rays joining.old) }
 {
-    let highs = highs_of(alloc, &search.links, high_positions)?;
-    let mut before = 0;
     for i in 0..search.links.len() {
-        before = arrivals_before(&search.links, &highs, i, before);
-        if is_lowest(&search.links, &highs, i, before) {
+        if lowest[i] {
             join_ray(joining, search, i);
         }
     }
-    Ok(())
 }
 
 // Joins along the ray from the vertex that the link at `i` and those after it leave.

@@ -16,6 +16,7 @@ pub of_sides-requires-clause-joined : goal.of_sides-requires-clause-joined
 of_sides-requires-clause-joined c =
     let arcs = c.args.t.now in
     let links = c.in_ok-search.search.links.items in
+    let same = c.in_ok-search.ensures.same in
     let outs = c.rows.result.1.now in
     let starts = map (start_of arcs) outs in
     let (nodes, table) = c.rows.ensures.rows in
@@ -25,14 +26,14 @@ of_sides-requires-clause-joined c =
     let counted = c.count.ensures.exact in
     let again = c.count-2.ensures.exact in
     let many = c.in_ok-joining.ensures.count in
-    let (rays, r, e) = c.in_ok-join_rays.ensures.exact in
+    let (rays, r, e) = c.join_rays.ensures.exact in
     subst (λ (ls : List ArcLink). HasJoins arcs ls numbering.places.items) (sym c.of-links.ensures.links) (built_by arcs links starts outs alone _ numbering.places.items numbering.count c.rows.ensures.turned (length-map outs (start_of arcs))
     (All-weaker (λ (a : SignedArc). a.arc < length arcs) (HasPlaces (length alone)) (λ a h. omega arith) outs c.rows.ensures.there)
-    (All-weaker (λ (l : ArcLink). l.along.arc < length arcs) (λ (l : ArcLink). HasPlaces (length alone) l.along) (λ l h. omega arith) links c.in_ok-search.ensures.there)
+    (All-weaker (λ (l : ArcLink). l.along.arc < length arcs) (λ (l : ArcLink). HasPlaces (length alone) l.along) (λ l h. omega arith) links (subst (All (λ (l : ArcLink). l.along.arc < length arcs)) (sym same) c.in_ok-links.ensures.there))
     (omega arith) c.in_ok-joining.ensures.alone rays r (e ∙ ap (joined_by rays) (c.join_sectors.ensures.exact starts nodes (length-map outs (start_of arcs)) table)) c.in_ok-numbering.ensures.exact)
 
 pub of_sides-requires-clause-all : goal.of_sides-requires-clause-all
-of_sides-requires-clause-all c = subst (AreLinksOf c.args.t.now) (sym c.of-links.ensures.links) c.in_ok-search.ensures.all
+of_sides-requires-clause-all c = subst (AreLinksOf c.args.t.now) (sym (c.of-links.ensures.links ∙ c.in_ok-search.ensures.same)) c.in_ok-links.ensures.all
 
 pub of_sides-requires-clause-links : goal.of_sides-requires-clause-links
 of_sides-requires-clause-links c =
@@ -44,8 +45,8 @@ of_sides-requires-clause-links c =
     let rays = c.join_rays.ensures.count in
     let sectors = c.join_sectors.ensures.count in
     let many = c.in_ok-joining.ensures.count in
-    subst (All (λ (l : ArcLink). HasPlaces (length places) l.along)) (sym c.of-links.ensures.links)
-    (All-weaker (λ (l : ArcLink). l.along.arc < length c.args.t.now) (λ (l : ArcLink). HasPlaces (length places) l.along) (λ l h. omega arith) c.in_ok-search.search.links.items c.in_ok-search.ensures.there)
+    subst (All (λ (l : ArcLink). HasPlaces (length places) l.along)) (sym (c.of-links.ensures.links ∙ c.in_ok-search.ensures.same))
+    (All-weaker (λ (l : ArcLink). l.along.arc < length c.args.t.now) (λ (l : ArcLink). HasPlaces (length places) l.along) (λ l h. omega arith) c.in_ok-links.links.items c.in_ok-links.ensures.there)
 
 pub of_sides-requires-clause-numbered : goal.of_sides-requires-clause-numbered
 of_sides-requires-clause-numbered c =
