@@ -1,5 +1,5 @@
 -- A ring of steps of a boundary, begun where the least of its arcs is.
-use Rattle.std.proofs.Common.{◌≡◌, ◌⊎◌, inl, inr, refl, sym, ap, ◌∙◌, subst, arith, ℕ, suc, ◌≤◌, Bool, true, false, ◌||◌, List, [], ◌∷◌, map, length, reverse, get_or, nat_lt, Contains, pos}
+use Rattle.std.proofs.Common.{◌≡◌, ◌⊎◌, inl, inr, refl, sym, ap, ◌∙◌, subst, arith, ℕ, ◌≤◌, Bool, true, false, ◌||◌, List, [], ◌∷◌, map, length, reverse, get_or, nat_lt, Contains, pos}
 use Rattle.std.specs.Prelude.{IsTrue, if◌then◌else◌}
 use Rattle.std.specs.List.Sorted.{IsPermutation}
 use Rattle.std.proofs.lemmas.Bool.{ltb-false, ltb-true, or_cases, or_left, or_right}
@@ -8,7 +8,7 @@ use Rattle.std.proofs.lemmas.List.Elements.{All-cons, All-nil, Contains-get_or}
 use Rattle.std.proofs.lemmas.List.Folds.{Any-from_list_any, list_any_at}
 use Rattle.std.proofs.lemmas.List.Sorted.{Contains-permutation, IsPermutation-map, IsPermutation-sym}
 use Rattle.arc_laws.proofs.Runs.{least_in}
-use Rattle.lists.specs.Lists.{has, least_of, place_of}
+use Rattle.lists.specs.Lists.{has, least_of}
 use Rattle.lists.proofs.Members.{Contains-cases, Contains-head, Contains-map, Contains-nil, map-Contains}
 use Rattle.plane_model.specs.Points.{Segment, Path, reversed, same_segment}
 use Rattle.plane_model.specs.Arcs.{arc_number, arcs_of, begins_arc, goes_along, points_of}
@@ -25,6 +25,7 @@ use Rattle.answer_laws.proofs.Bounding.{of_boundary, ring_trail}
 use Rattle.answer_laws.proofs.Covers.{arcs_whole, some_arc}
 use Rattle.answer_laws.proofs.Rounds.{IsBegunWith, begun_with}
 use Rattle.answer_laws.proofs.Trails.{GoesAlong, IsTrail, IsWhole, trail_back, whole_back}
+use Rattle.part_laws.proofs.ClassLemmas.{passes}
 
 -- ---- least numbers
 
@@ -48,15 +49,6 @@ one_least (x ∷ xs) (y ∷ ys) p z c =
     let down = least_low 0 x xs (least_of nat_lt 0 (y ∷ ys)) (Contains-permutation (y ∷ ys) (x ∷ xs) (least_of nat_lt 0 (y ∷ ys)) (IsPermutation-sym (x ∷ xs) (y ∷ ys) p) (least_in nat_lt nat_order 0 y ys)) in
     let up = least_low 0 y ys (least_of nat_lt 0 (x ∷ xs)) (Contains-permutation (x ∷ xs) (y ∷ ys) (least_of nat_lt 0 (x ∷ xs)) p (least_in nat_lt nat_order 0 x xs)) in
     omega arith
-
--- the place of an element that passes, where there is one
-place_found : {A : Type 0} (test : A → Bool) (xs : List A) (d x : A) → Contains xs x → test x ≡ true → test (get_or xs (place_of test xs) d) ≡ true
-place_found test [] d x c e = Contains-nil x c
-place_found {A} test (v ∷ xs) d x c e = go (test v) refl (λ k. place_found test xs d x k e)
-  where
-    go : (b : Bool) → test v ≡ b → (Contains xs x → test (get_or xs (place_of test xs) d) ≡ true) → test (get_or (v ∷ xs) (if b then 0 else suc (place_of test xs)) d) ≡ true
-    go true f later = f
-    go false f later = later (elim (Contains-cases v xs x c) [ inl i ↦ absurd (let g : true ≡ false = sym e ∙ sym (ap test i) ∙ f in cc) | inr k ↦ k ])
 
 -- ---- whether a step goes along an arc
 
@@ -114,7 +106,7 @@ module _ (s : Drawing) (arr : IsArrangement (links_of s)) (distinct : IsDistinct
   own_arc t c =
       let (l, there, along) = of_boundary left right S t c in
       let (n, below, goes) = some_arc s l there in
-      told_along t (get_or arcs (arc_number arcs t) []) (place_found (goes_along t) arcs [] (get_or arcs n []) (Contains-get_or arcs n [] below) (along_told t (get_or arcs n []) (by_link l (get_or arcs n []) along goes)))
+      told_along t (get_or arcs (arc_number arcs t) []) (passes (goes_along t) arcs n [] below (along_told t (get_or arcs n []) (by_link l (get_or arcs n []) along goes))).1
     where
       by_link : (l : Segment) (arc : Path) → ((t ≡ l) × (left l ≡ true) × (right l ≡ false)) ⊎ ((t ≡ reversed l) × (left l ≡ false) × (right l ≡ true)) → GoesAlong l arc → GoesAlong t arc
       by_link l arc (inl h) (inl k) = inl (subst (Contains (steps arc)) (sym h.0) k)

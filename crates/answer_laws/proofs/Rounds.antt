@@ -3,12 +3,11 @@ use Rattle.std.proofs.Common.{◌≡◌, inl, inr, refl, sym, ap, ◌∙◌, sub
 use Rattle.std.specs.Prelude.{◌≢◌, AllPairs, if◌then◌else◌}
 use Rattle.std.specs.Bool.{Decides}
 use Rattle.std.specs.List.Sorted.{IsPermutation}
-use Rattle.std.proofs.lemmas.List.{append-nil}
 use Rattle.std.proofs.lemmas.List.Sorted.{IsPermutation-append_comm, IsPermutation-refl}
 use Rattle.std.proofs.lemmas.Map.Keys.{IsDistinct-IsPermutation}
 use Rattle.std.proofs.lemmas.Map.Made.{AllPairs-from_IsDistinct, IsDistinct-from_AllPairs}
 use Rattle.printed_laws.proofs.ArcSides.{same_back}
-use Rattle.arc_laws.proofs.Runs.{least_in}
+use Rattle.arc_laws.proofs.Runs.{least_in, turned_whole}
 use Rattle.lists.specs.Lists.{last_of, least_of, place_of, turned}
 use Rattle.lists.proofs.Members.{Contains-cases, Contains-nil}
 use Rattle.plane_model.specs.Points.{GridPoint, Segment, Path, is_before, same_point}
@@ -60,11 +59,6 @@ cut {A} test (v ∷ xs) x c e = go (test v) refl (λ k. cut test xs x k e)
           passes = rest.passes;
         }
 
-turned_exact : {A : Type 0} (xs : List A) (y : A) (ys : List A) → turned (length xs) (xs ++ y ∷ ys) ≡ (y ∷ ys) ++ xs
-turned_exact [] y ys = sym (append-nil (y ∷ ys))
-turned_exact {A} (x ∷ xs) y ys =
-    ap (turned (length xs)) (append_assoc xs (y ∷ ys) (x ∷ [])) ∙ turned_exact xs y (ys ++ x ∷ []) ∙ append_assoc (y ∷ ys) (x ∷ []) xs
-
 pub begun_steps : (p : GridPoint) (rest : Path) → last_of p rest ≡ p → IsPermutation (steps (p ∷ rest)) (steps (begun_at_least (p ∷ rest)))
 begun_steps p [] closes = IsPermutation-refl []
 begun_steps p (x ∷ xs) closes =
@@ -80,7 +74,7 @@ begun_steps p (x ∷ xs) closes =
     shape : begun_at_least (p ∷ (x ∷ xs)) ≡ k.here ∷ (k.after ++ (k.before ++ k.here ∷ []))
     shape =
         (λ i. turned (sym k.place i) (k.are i) ++ same_point_from (least_of is_before p (x ∷ xs)) k.here k.passes i ∷ [])
-        ∙ ap (λ (path : Path). path ++ k.here ∷ []) (turned_exact k.before k.here k.after)
+        ∙ ap (λ (path : Path). path ++ k.here ∷ []) (turned_whole k.before (k.here ∷ k.after))
         ∙ append_assoc (k.here ∷ k.after) k.before (k.here ∷ [])
 
 -- ---- a ring begun at one of its steps

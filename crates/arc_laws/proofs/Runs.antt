@@ -52,7 +52,7 @@ run_is node S (p ∷ q ∷ rest) h =
 
 -- ---- lists begun elsewhere
 
-turned_whole : {A : Type 0} (xs ys : List A) → turned (length xs) (xs ++ ys) ≡ ys ++ xs
+pub turned_whole : {A : Type 0} (xs ys : List A) → turned (length xs) (xs ++ ys) ≡ ys ++ xs
 turned_whole [] [] = refl
 turned_whole [] (y ∷ ys) = sym (append-nil (y ∷ ys))
 turned_whole (x ∷ xs) ys =

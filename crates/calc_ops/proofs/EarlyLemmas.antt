@@ -1,7 +1,7 @@
 -- One more key after others, and the counts of keys up to a number.
 use Rattle.std.proofs.Common.{◌≡◌, inl, inr, refl, sym, ap, ◌∙◌, arith, cond, ℕ, ◌+◌, Bool, true, false, nat_lt, List, [], ◌∷◌, ◌++◌, append-nil, append_assoc}
 use Rattle.std.specs.Prelude.{count_by, min, unwrap_or, ◌&&◌, Option, Some}
-use Rattle.std.proofs.lemmas.Bool.{cases_lt, lt-ltb, le-ltb}
+use Rattle.std.proofs.lemmas.Bool.{cases_lt, lt-ltb, le-ltb, and_right}
 use Rattle.std.proofs.lemmas.List.Sums.{sum_by_push}
 use Rattle.json_values.specs.Value.{same}
 use Rattle.json_values.specs.declared.value.Value.{Value}
@@ -40,10 +40,6 @@ and_true : (b : Bool) → (b && true) ≡ b
 and_true true = refl
 and_true false = refl
 
-and_false : (b : Bool) → (b && false) ≡ false
-and_false true = refl
-and_false false = refl
-
 -- what is counted of a key, where another key is counted once more
 pub counted_more : (most : ℕ) (keys : List Value) (key k : Value) (b : Bool) → same key k ≡ b
     → min (count_by (same k) keys) most + cond (nat_lt (min (count_by (same key) keys) most) most && b) 1 0 ≡ min (count_by (same k) (keys ++ key ∷ [])) most
@@ -55,7 +51,7 @@ counted_more most keys key k true e =
     ∙ once_more (count_by (same k) keys) most ∙ ap (λ (n : ℕ). min n most) (sym counted)
 counted_more most keys key k false e =
     let counted : count_by (same k) (keys ++ key ∷ []) ≡ count_by (same k) keys + 0 = count_push k key keys ∙ ap (λ (c : Bool). count_by (same k) keys + cond c 1 0) (same_equivalent.symm k key ∙ e) in
-    ap (λ (c : Bool). min (count_by (same k) keys) most + cond c 1 0) (and_false (nat_lt (min (count_by (same key) keys) most) most))
+    ap (λ (c : Bool). min (count_by (same k) keys) most + cond c 1 0) (and_right (nat_lt (min (count_by (same key) keys) most) most) false refl)
     ∙ (omega (arith, counted))
 
 -- a count that was put in

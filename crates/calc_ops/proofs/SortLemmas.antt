@@ -8,7 +8,7 @@ use Rattle.std.specs.Cmp.Lexicographic.{slice_cmp}
 use Rattle.std.specs.List.{range_with_len, IsDistinct}
 use Rattle.std.specs.List.Sorted.{IsPermutation, IsSortedBy}
 use Rattle.std.proofs.lemmas.Bool.{true_from_ne_false, false_from_ne_true}
-use Rattle.std.proofs.lemmas.Cmp.{ranked, tied_itself, nat_cmp_total, int_cmp_total, nat_list_cmp_total, nat_eq_equiv, on_total, then_total, back_total}
+use Rattle.std.proofs.lemmas.Cmp.{ranked, nat_cmp_total, int_cmp_total, nat_list_cmp_total, nat_eq_equiv, on_total, then_total, back_total}
 use Rattle.std.proofs.lemmas.List.FromFn.{length-range_with_len, get_or-range_with_len}
 use Rattle.std.proofs.lemmas.List.Elements.{All-from_get_or}
 use Rattle.std.proofs.lemmas.List.Sorted.{ranks_by, sorted_far, IsPermutation-sym, Contains-permutation, All-permutation}
@@ -20,6 +20,7 @@ use Rattle.json_values.specs.declared.value.Value.{Value}
 use Rattle.json_values.specs.declared.value.Value.TheVariants as cell
 use Rattle.calc_ops.specs.Keys.{key_at}
 use Rattle.calc_ops.specs.KeyOrder.{type_place, value_order, key_order, comes_before, row_order}
+use Rattle.face_sets.proofs.Orders.{is_less, strict_order}
 
 -- ---- the order of keys, by numbers and texts that they stand for
 
@@ -100,19 +101,6 @@ key_total descending =
 
 -- ---- the order of rows
 
-is_less : (o : Ordering) → is_lt o ≡ true → o ≡ Less
-is_less Less e = refl
-is_less Equal e = absurd (true≢false (sym e))
-is_less Greater e = absurd (true≢false (sym e))
-
--- of two orders, one of which is the other turned round
-neither : (o p : Ordering) → o ≡ ordering_reverse p → is_lt o ≡ false → is_lt p ≡ false → is_eq o ≡ true
-neither Less p r e f = absurd (true≢false e)
-neither Equal p r e f = refl
-neither Greater Less r e f = absurd (true≢false f)
-neither Greater Equal r e f = absurd (true≢false (sym (ap is_eq r)))
-neither Greater Greater r e f = absurd (true≢false (sym (ap is_lt r)))
-
 then_tied : (o p : Ordering) → is_eq (ordering_then o p) ≡ true → is_eq p ≡ true
 then_tied Less p e = absurd (true≢false (sym e))
 then_tied Equal p e = e
@@ -150,13 +138,7 @@ module _ (descending : Bool) (keys : List Value) where
   before_weak = ranks_by row_total (λ (n : ℕ). n)
 
   before_strict : IsStrictOrder before
-  before_strict = record {
-    trans = λ m n p e f. ap is_lt (row_total.trans m n p (is_less (order m n) e) (is_less (order n p) f));
-    total = λ m n e f.
-        same_number m n (nat_cmp m n) refl
-        (then_tied (key_order descending (key_at keys m) (key_at keys n)) (nat_cmp m n) (neither (order m n) (order n m) (row_total.antisymm m n) e f));
-    irreflexive = λ m e. true≢false (sym e ∙ ap is_lt (tied_itself row_total m));
-  }
+  before_strict = strict_order order row_total (λ m n e. same_number m n (nat_cmp m n) refl (then_tied (key_order descending (key_at keys m) (key_at keys n)) (nat_cmp m n) e))
 
   -- ---- what a stable sort gives
 

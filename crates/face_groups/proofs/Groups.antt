@@ -6,7 +6,6 @@ use Rattle.std.proofs.lemmas.Simd.{map-map}
 use Rattle.std.proofs.lemmas.Grind.{flat_map-append}
 use Rattle.std.proofs.lemmas.List.{take_more, get_or_append_left, get_or-map, get_or_push, get_or_default, length-map, length_push, map-append}
 use Rattle.std.proofs.lemmas.List.Elements.{All-contains, All-head, All-tail, Contains-get_or}
-use Rattle.std.proofs.lemmas.List.FromFn.{length-range_with_len, get_or-range_with_len}
 use Rattle.std.proofs.lemmas.List.Kept.{IsStrictlyIncreasing-filter}
 use Rattle.lists.specs.Lists.{has, numbers_from}
 use Rattle.lists.proofs.Ascending.{IsStrictOrder, one_ascending}
@@ -15,7 +14,7 @@ use Rattle.face_walk.specs.Places.{FaceTable}
 use Rattle.face_sets.specs.Joined.{AreParts}
 use Rattle.face_sets.specs.Sets.{IsInnerFace, IsSetOf}
 use Rattle.face_sets.proofs.BoundaryLemmas.{has_Contains}
-use Rattle.face_sets.proofs.GapLemmas.{range_rises}
+use Rattle.face_sets.proofs.GapLemmas.{range_rises, in_range, of_range}
 use Rattle.face_sets.proofs.SetLemmas.{nat_order, to_ascending}
 use Rattle.face_groups.specs.Groups.{AreGroupsOf, AreKeySets, IsGroupOf, IsKeySet, IsKeyed}
 use Rattle.face_groups.specs.Pieces.{ArePieces, Group as FirstGroup, pieces_of}
@@ -35,20 +34,6 @@ held_inside t k n (set ∷ sets) h some = elim (cases_Bool (has nat_eq set k)) [
   | inr missed ↦ held_inside t k (n + 1) sets (All-tail (IsSetOf t) set sets h) (λ e. some
       (ap (λ (b : Bool). cond b (n ∷ numbers_from (n + 1) (λ (s : List ℕ). has nat_eq s k) sets) (numbers_from (n + 1) (λ (s : List ℕ). has nat_eq s k) sets)) missed ∙ e))
 ]
-
--- ---- numbers that pass a test
-
-pub in_range : (n k : ℕ) → k < n → Contains (range_with_len 0 n) k
-in_range n k l =
-    let e = length-range_with_len 0 n in
-    let is : get_or (range_with_len 0 n) k 0 ≡ k = (let h = get_or-range_with_len 0 n k 0 l in omega arith) in
-    subst (λ (j : ℕ). Contains (range_with_len 0 n) j) is (Contains-get_or (range_with_len 0 n) k 0 (omega arith))
-
-from_range : (n k : ℕ) → Contains (range_with_len 0 n) k → k < n
-from_range n k (j, l, is) =
-    let e = length-range_with_len 0 n in
-    let h = get_or-range_with_len 0 n j k (omega arith) in
-    omega arith
 
 -- ---- groups made one by one
 
@@ -198,7 +183,7 @@ module _ {Key Group Item : Type 0} (faces : FaceTable) (keyed : ℕ → Bool) (k
         (λ k d. let p = one.of_them k d in
         Contains-filter test (range_with_len 0 faces.count) k (in_range faces.count k p.inner.there) (complete k p (alike set one k d ∙ sym of.key_is)))
         (λ k d. let e = filter-Contains test (range_with_len 0 faces.count) k d in
-        let p = inside k (from_range faces.count k e.0) e.1 in
+        let p = inside k (of_range faces.count k e.0) e.1 in
         whole set there k p.0 (p.1 ∙ of.key_is)) in
         subst (λ (s : List ℕ). AreParts faces s (parts g)) same of.are);
   }

@@ -3,8 +3,9 @@ use Rattle.std.proofs.Common.{◌≡◌, refl, sym, ap, ◌∙◌, subst, inl, i
 use Rattle.std.specs.Prelude.{slice_range}
 use Rattle.std.specs.Cmp.{IsStrictWeakOrder}
 use Rattle.std.proofs.lemmas.Bool.{cases_lt, true_from_ne_false}
-use Rattle.std.proofs.lemmas.List.{get_or-take, get_or-drop, length-drop, get_or_append_left, get_or_push, get_or_default, length_push}
+use Rattle.std.proofs.lemmas.List.{get_or-take, get_or-drop, length-drop, get_or_default}
 use Rattle.std.proofs.lemmas.List.Elements.{All-nil, All-weaker, All-contains, All-push, Contains-get_or, Contains-append_left, Contains-push}
+use Rattle.std.proofs.lemmas.List.Quantifiers.{all_pairs_push}
 use Rattle.lists.specs.Lists.{ascending}
 use Rattle.lists.proofs.Ascending.{ascending-IsAscending, ascending-Contains, Contains-ascending}
 use Rattle.face_sets.proofs.SetLemmas.{nat_order, from_ascending}
@@ -34,13 +35,7 @@ pub sets_of_none : (P : ℕ → Type 0) (before : ℕ → ℕ → Bool) → ((k 
 sets_of_none P before none = record { each = All-nil (IsKeySet P before); all = λ k p. absurd (none k p); in_order = λ i j d l m. absurd (omega arith) }
 
 pairs_pushed : {A : Type 0} (R : A → A → Type 0) (xs : List A) (y : A) → AllPairs R xs → ((x : A) → Contains xs x → R x y) → AllPairs R (xs ++ y ∷ [])
-pairs_pushed {A} R xs y h below i j d l m =
-    let e = length_push xs y in
-    let first : get_or (xs ++ y ∷ []) i d ≡ get_or xs i d = get_or_append_left xs (y ∷ []) d i (omega arith) in
-    subst (λ (x : A). R x (get_or (xs ++ y ∷ []) j d)) (sym first) (elim (cases_lt j (length xs)) [
-      | inl less ↦ subst (λ (x : A). R (get_or xs i d) x) (sym (get_or_append_left xs (y ∷ []) d j less)) (h i j d l less)
-      | inr more ↦ subst (λ (x : A). R (get_or xs i d) x) (sym (get_or_push xs y d j (omega arith))) (below (get_or xs i d) (Contains-get_or xs i d (omega arith)))
-    ])
+pairs_pushed R xs y h below = all_pairs_push R xs y h (λ k d l. below (get_or xs k d) (Contains-get_or xs k d l))
 
 -- ---- faces from one place to another
 

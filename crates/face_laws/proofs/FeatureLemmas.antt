@@ -1,12 +1,11 @@
 -- The features of a face are those that have a polygon which holds its points.
-use Rattle.std.proofs.Common.{◌≡◌, inl, inr, refl, sym, ap, subst, ◌∙◌, arith, ℕ, zero, suc, ◌+◌, ◌-◌, ◌<◌, Bool, true, false, ◌||◌, Some, None, List, [], ◌∷◌, ◌++◌, Contains, length, map}
+use Rattle.std.proofs.Common.{◌≡◌, inl, inr, refl, sym, ap, subst, ◌∙◌, arith, ℕ, zero, suc, ◌+◌, ◌-◌, ◌<◌, Bool, true, Some, None, List, [], ◌∷◌, ◌++◌, Contains, length, map}
 use Rattle.std.specs.Prelude.{◌↔◌, slice_get}
 use Rattle.std.specs.List.{list_any}
 use Rattle.std.proofs.lemmas.Bool.{cases_lt}
 use Rattle.std.proofs.lemmas.List.{get_or_append_left, length-map}
 use Rattle.std.proofs.lemmas.Option.{get_or_from_slice_get, same_Some, slice_get-get_or}
 use Rattle.lists.specs.Lists.{joined_up}
-use Rattle.lists.proofs.Members.{Contains-cases, Contains-head, Contains-later, Contains-nil}
 use Rattle.plane_model.specs.Points.{at}
 use Rattle.plane_model.specs.Drawing.{Polygon}
 use Rattle.plane_model.specs.Parity.{rings_hold}
@@ -16,27 +15,9 @@ use Rattle.face_walk.specs.Holders.{AreOwnersOf, list_at}
 use Rattle.face_walk.specs.RingSteps.{owners_from}
 use Rattle.face_laws.specs.Holders.{FeaturesOfADrawing}
 use Rattle.face_laws.proofs.HoldingLemmas.{items_of_a_drawing}
+use Rattle.face_laws.proofs.HolderLemmas.{there_any, any_there}
 
 -- ---- some element passes
-
-pub any_there : {X : Type 0} (t : X → Bool) (xs : List X) → list_any t xs ≡ true → (x : X) × Contains xs x × (t x ≡ true)
-any_there t [] e = absurd (let f : false ≡ true = e in cc)
-any_there {X} t (x ∷ xs) e = go (t x) refl e (any_there t xs)
-  where
-    go : (b : Bool) → t x ≡ b → (b || list_any t xs) ≡ true → (list_any t xs ≡ true → (y : X) × Contains xs y × (t y ≡ true)) → (y : X) × Contains (x ∷ xs) y × (t y ≡ true)
-    go true is f later = (x, Contains-head x xs, is)
-    go false is f later = let (y, there, passes) = later f in (y, Contains-later x xs y there, passes)
-
-pub there_any : {X : Type 0} (t : X → Bool) (xs : List X) (x : X) → Contains xs x → t x ≡ true → list_any t xs ≡ true
-there_any t [] x c e = Contains-nil x c
-there_any t (y ∷ xs) x c e = elim (Contains-cases y xs x c) [
-  | inl same ↦ ap (λ (b : Bool). b || list_any t xs) (ap t same ∙ e)
-  | inr d ↦ go (t y) (there_any t xs x d e)
-]
-  where
-    go : (b : Bool) → list_any t xs ≡ true → (b || list_any t xs) ≡ true
-    go true f = refl
-    go false f = f
 
 -- ---- joined lists
 

@@ -2,15 +2,16 @@
 use Rattle.std.proofs.Common.{◌≡◌, inl, inr, refl, sym, ap, subst, ◌∙◌, arith, ℕ, zero, suc, ◌+◌, ◌*◌, ◌<◌, ◌≤◌, Bool, true, false, not, cond, ◌||◌, Some, List, [], ◌∷◌, All, Contains, length, map, get_or, pos}
 use Rattle.std.proofs.Math.Logic.{∥∥₁_elim}
 use Rattle.std.proofs.Math.Bool.{Bool-set}
-use Rattle.std.specs.Prelude.{nat_eq, slice_get}
+use Rattle.std.specs.Prelude.{nat_eq}
 use Rattle.std.specs.Cmp.{both_ways}
 use Rattle.std.specs.List.{list_any}
 use Rattle.std.proofs.lemmas.Bool.{eqb-true, eq-eqb}
 use Rattle.std.proofs.lemmas.List.{get_or-map, length-map}
 use Rattle.std.proofs.lemmas.List.Elements.{All-contains}
-use Rattle.std.proofs.lemmas.Option.{get_or_from_slice_get, slice_get_within}
+use Rattle.std.proofs.lemmas.List.Folds.{list_any_at}
+use Rattle.std.proofs.lemmas.Option.{get_or_from_slice_get, slice_get_within, slice_get-get_or}
 use Rattle.plane_parity.proofs.BoundaryEven.{solve}
-use Rattle.lists.proofs.Members.{Contains-map}
+use Rattle.lists.proofs.Members.{Contains-map, Contains-head, Contains-later}
 use Rattle.plane_model.specs.Points.{Segment, Path, at, link_between, same_segment}
 use Rattle.plane_model.specs.Drawing.{steps as steps_of}
 use Rattle.plane_model.specs.Arcs.{SignedArc, forward, backward}
@@ -60,22 +61,16 @@ reached_later : (outer : ℕ) (crossings : List Crossing) (j k f : ℕ) → j �
 reached_later outer crossings j k f l (inl e) = inl e
 reached_later outer crossings j k f l (inr r) = inr (r.0, r.1, (let less = r.2 in omega arith), r.3, r.4)
 
-any_from : (t : Crossing → Bool) (cs : List Crossing) → list_any t cs ≡ true → (j : ℕ) × (c : Crossing) × (slice_get cs j ≡ Some c) × (t c ≡ true)
-any_from t [] e = absurd (let f : false ≡ true = e in cc)
-any_from t (c ∷ cs) e = go (t c) refl e (any_from t cs)
+pub any_there : {X : Type 0} (t : X → Bool) (xs : List X) → list_any t xs ≡ true → (x : X) × Contains xs x × (t x ≡ true)
+any_there t [] e = absurd (let f : false ≡ true = e in cc)
+any_there {X} t (x ∷ xs) e = go (t x) refl e (any_there t xs)
   where
-    go : (b : Bool) → t c ≡ b → (b || list_any t cs) ≡ true → (list_any t cs ≡ true → (j : ℕ) × (d : Crossing) × (slice_get cs j ≡ Some d) × (t d ≡ true)) → (j : ℕ) × (d : Crossing) × (slice_get (c ∷ cs) j ≡ Some d) × (t d ≡ true)
-    go true e f later = (0, c, refl, e)
-    go false e f later = let (j, d, found, is) = later f in (suc j, d, found, is)
+    go : (b : Bool) → t x ≡ b → (b || list_any t xs) ≡ true → (list_any t xs ≡ true → (y : X) × Contains xs y × (t y ≡ true)) → (y : X) × Contains (x ∷ xs) y × (t y ≡ true)
+    go true is f later = (x, Contains-head x xs, is)
+    go false is f later = let (y, there, passes) = later f in (y, Contains-later x xs y there, passes)
 
-any_to : (t : Crossing → Bool) (cs : List Crossing) (j : ℕ) (c : Crossing) → slice_get cs j ≡ Some c → t c ≡ true → list_any t cs ≡ true
-any_to t [] j c e f = absurd (let l = slice_get_within [] j c e in omega arith)
-any_to t (d ∷ cs) zero c e f = let same : d ≡ c = get_or_from_slice_get (d ∷ cs) 0 c d e in ap (λ (b : Bool). b || list_any t cs) (ap t same ∙ f)
-any_to t (d ∷ cs) (suc j) c e f = go (t d) (any_to t cs j c e f)
-  where
-    go : (b : Bool) → list_any t cs ≡ true → (b || list_any t cs) ≡ true
-    go true g = refl
-    go false g = g
+pub there_any : {X : Type 0} (t : X → Bool) (xs : List X) (x : X) → Contains xs x → t x ≡ true → list_any t xs ≡ true
+there_any t xs x c e = list_any_at t xs c.0 x c.1 (ap t c.2 ∙ e)
 
 module _ (outer : ℕ) (crossings : List Crossing) where
   abbrev is_reached : ℕ → Bool
@@ -86,11 +81,11 @@ module _ (outer : ℕ) (crossings : List Crossing) where
     where
       go : (b : Bool) → nat_eq f outer ≡ b → (b || list_any (λ (c : Crossing). nat_eq c.into f) crossings) ≡ true → IsReached outer crossings (length crossings) f
       go true e g = inl (eqb-true f outer e)
-      go false e g = let (j, c, found, is) = any_from (λ (c : Crossing). nat_eq c.into f) crossings g in inr (j, c, slice_get_within crossings j c found, found, eqb-true c.into f is)
+      go false e g = let (c, there, is) = any_there (λ (c : Crossing). nat_eq c.into f) crossings g in inr (there.0, c, there.1, slice_get-get_or crossings there.0 c there.1 ∙ ap Some there.2, eqb-true c.into f is)
 
   reached_to : (f : ℕ) → IsReached outer crossings (length crossings) f → is_reached f ≡ true
   reached_to f (inl e) = ap (λ (b : Bool). b || list_any (λ (c : Crossing). nat_eq c.into f) crossings) (eq-eqb f outer e)
-  reached_to f (inr r) = go (nat_eq f outer) (any_to (λ (c : Crossing). nat_eq c.into f) crossings r.0 r.1 r.3 (eq-eqb r.1.into f r.4))
+  reached_to f (inr r) = go (nat_eq f outer) (there_any (λ (c : Crossing). nat_eq c.into f) crossings r.1 (r.0, r.2, get_or_from_slice_get crossings r.0 r.1 r.1 r.3) (eq-eqb r.1.into f r.4))
     where
       go : (b : Bool) → list_any (λ (c : Crossing). nat_eq c.into f) crossings ≡ true → (b || list_any (λ (c : Crossing). nat_eq c.into f) crossings) ≡ true
       go true g = refl

@@ -15,6 +15,7 @@ use Rattle.plane_model.specs.Arcs.{SignedArc, forward, backward}
 use Rattle.face_walk.specs.Places.{FaceTable, HasArc, IsBuiltOf, place_of, face_left_of, has_left, signed_below, arcs_with_left}
 use Rattle.face_sets.specs.declared.joined_faces.Side.{Side}
 use Rattle.face_sets.specs.Boundary.{other_way, face_right_of, is_outward, IsOnBoundary, outward_at, side_at, sides_from, sides_of}
+use Rattle.arc_table.proofs.SignedArcs.{Contains-signed_below}
 
 -- ---- signed arcs
 
@@ -50,20 +51,6 @@ below_arc (suc n) a c = elim (Contains-append_cases (signed_below n) (forward n 
     ]
   ]
 ]
-
-pub arc_below : (n : ℕ) (a : SignedArc) → a.arc < n → Contains (signed_below n) a
-arc_below zero a l = absurd (omega arith)
-arc_below (suc n) a l = elim (cases_lt a.arc n) [
-  | inl less ↦ Contains-append_left (signed_below n) (forward n ∷ backward n ∷ []) a (arc_below n a less)
-  | inr more ↦ Contains-append_right (signed_below n) (forward n ∷ backward n ∷ []) a (last a.is_reversed refl (omega arith))
-]
-  where
-    is : (c : SignedArc) → c.arc ≡ a.arc → c.is_reversed ≡ a.is_reversed → c ≡ a
-    is c f g = λ i. record { arc = f i; is_reversed = g i }
-
-    last : (b : Bool) → a.is_reversed ≡ b → n ≡ a.arc → Contains (forward n ∷ backward n ∷ []) a
-    last false f e = (0, omega arith, is (forward n) e (sym f))
-    last true f e = (1, omega arith, is (backward n) e (sym f))
 
 -- ---- places of faces
 
@@ -145,7 +132,7 @@ side_to places many set i zero (f ∷ fs) a l e m out = (
   side_at i a,
   Contains-append_left (map (side_at i) (outward_at places many set f)) (sides_from places many set (i + 1) fs) (side_at i a)
       (Contains-map (side_at i) (outward_at places many set f) a
-      (Contains-filter (is_outward places set) (arcs_with_left places many f) a (Contains-filter (has_left places f) (signed_below many) a (arc_below many a m) (eq-eqb (face_left_of places a) f e)) out)),
+      (Contains-filter (is_outward places set) (arcs_with_left places many f) a (Contains-filter (has_left places f) (signed_below many) a (Contains-signed_below many a m) (eq-eqb (face_left_of places a) f e)) out)),
   refl,
 )
 side_to places many set i (suc k) (f ∷ fs) a l e m out =
@@ -204,4 +191,4 @@ left_listed places many f = All-weaker (λ (a : SignedArc). has_left places f a 
 
 pub listed_left : (arcs : List Path) (faces : FaceTable) (f : ℕ) (a : SignedArc) → IsBuiltOf arcs faces → HasArc faces a → face_left_of faces.places a ≡ f → Contains (arcs_with_left faces.places (length arcs) f) a
 listed_left arcs faces f a built arc left =
-    Contains-filter (has_left faces.places f) (signed_below (length arcs)) a (arc_below (length arcs) a (let e = built.places_counted in omega arith)) (eq-eqb (face_left_of faces.places a) f left)
+    Contains-filter (has_left faces.places f) (signed_below (length arcs)) a (Contains-signed_below (length arcs) a (let e = built.places_counted in omega arith)) (eq-eqb (face_left_of faces.places a) f left)

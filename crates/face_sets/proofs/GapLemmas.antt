@@ -1,5 +1,5 @@
 -- The faces outside a set, and the parts of them that the outer face isn't in.
-use Rattle.std.proofs.Common.{◌≡◌, ◌∙◌, sym, ap, arith, ℕ, ◌+◌, ◌<◌, Bool, true, false, cond, not, List, [], ◌∷◌, ◌++◌, length, get_or, take, filter, nat_eq, All, Contains, map-id}
+use Rattle.std.proofs.Common.{◌≡◌, ◌∙◌, sym, ap, arith, ℕ, ◌+◌, ◌<◌, Bool, true, cond, not, List, [], ◌∷◌, ◌++◌, length, get_or, take, filter, nat_eq, All, Contains, map-id}
 use Rattle.std.specs.List.{range_with_len}
 use Rattle.std.specs.List.Sorted.{IsStrictlyIncreasing}
 use Rattle.std.proofs.lemmas.List.{take_more}
@@ -7,6 +7,7 @@ use Rattle.std.proofs.lemmas.List.Elements.{All-contains, All-filter, All-from_g
 use Rattle.std.proofs.lemmas.List.FromFn.{length-range_with_len, get_or-range_with_len, map-range_with_len_more}
 use Rattle.std.proofs.lemmas.List.Kept.{IsStrictlyIncreasing-filter}
 use Rattle.std.proofs.lemmas.Option.{get_or_from_slice_get}
+use Rattle.std.proofs.lemmas.Bool.{not-true}
 use Rattle.lists.specs.Lists.{has, joined_up}
 use Rattle.lists.proofs.Members.{filter-Contains}
 use Rattle.face_walk.specs.Places.{FaceTable}
@@ -15,6 +16,7 @@ use Rattle.face_sets.specs.Gaps.{outside_of, has_outer}
 use Rattle.face_sets.specs.Parts.{IsPieceOf}
 use Rattle.face_sets.specs.Sets.{IsInnerFace, IsSetOf}
 use Rattle.face_sets.proofs.BoundaryLemmas.{Contains_has}
+use Rattle.plane_model.proofs.PointOrder.{clash}
 
 -- ---- what is outside
 
@@ -40,20 +42,22 @@ range_rises n k l =
 pub outside_rises : (set : List ℕ) (n : ℕ) → IsStrictlyIncreasing (filter (λ (k : ℕ). not (has nat_eq set k)) (range_with_len 0 n))
 outside_rises set n = IsStrictlyIncreasing-filter (λ (k : ℕ). not (has nat_eq set k)) (range_with_len 0 n) (range_rises n)
 
-range_below : (n : ℕ) → All (λ k. k < n) (range_with_len 0 n)
-range_below n = All-from_get_or (λ k. k < n) (range_with_len 0 n) 0 (λ i l.
-    let e = length-range_with_len 0 n in
-    let h = get_or-range_with_len 0 n i 0 (omega arith) in
-    omega arith)
+pub in_range : (n k : ℕ) → k < n → Contains (range_with_len 0 n) k
+in_range n k l = (k, (let e = length-range_with_len 0 n in omega arith), get_or-range_with_len 0 n k k l ∙ (let same : 0 + k ≡ k = omega arith in same))
+
+pub of_range : (n k : ℕ) → Contains (range_with_len 0 n) k → k < n
+of_range n k (i, l, e) =
+    let size = length-range_with_len 0 n in
+    let is = get_or-range_with_len 0 n i k (omega arith) in
+    omega arith
+
+pub range_below : (n : ℕ) → All (λ k. k < n) (range_with_len 0 n)
+range_below n = λ i d l. of_range n (get_or (range_with_len 0 n) i d) (Contains-get_or (range_with_len 0 n) i d l)
 
 outside_below : (faces : FaceTable) (set : List ℕ) → All (λ k. k < faces.count) (outside_of faces set)
 outside_below faces set = All-filter (λ (k : ℕ). not (has nat_eq set k)) (λ k. k < faces.count) (range_with_len 0 faces.count) (range_below faces.count)
 
 -- ---- parts that the outer face isn't in
-
-one_not_other : (b : Bool) → not b ≡ true → b ≡ true → ⊥
-one_not_other true e f = let h : false ≡ true = e in cc
-one_not_other false e f = let h : false ≡ true = f in cc
 
 -- a part of what is outside that has no outer face has inner faces alone
 shut_in_inner : (faces : FaceTable) (set part : List ℕ) → IsPieceOf (outside_of faces set) part → not (has_outer faces part) ≡ true → IsSetOf faces part
@@ -64,7 +68,7 @@ shut_in_inner faces set part piece without = All-from_get_or (IsInnerFace faces)
       there = All-contains (λ k. k < faces.count) (outside_of faces set) k (outside_below faces set) (All-contains (Contains (outside_of faces set)) part k piece.faces listed);
       not_outer = λ e.
           let is : get_or faces.places 0 0 ≡ k = get_or_from_slice_get faces.places 0 k 0 e in
-          one_not_other (has_outer faces part) without (ap (has nat_eq part) is ∙ Contains_has part k listed);
+          clash (has_outer faces part) (ap (has nat_eq part) is ∙ Contains_has part k listed) (not-true (has_outer faces part) without);
     })
 
 pub gaps_inner : (faces : FaceTable) (set : List ℕ) (parts : List (List ℕ)) → All (IsPieceOf (outside_of faces set)) parts → All (IsSetOf faces) (filter (λ (part : List ℕ). not (has_outer faces part)) parts)

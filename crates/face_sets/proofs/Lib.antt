@@ -7,3 +7,4 @@ pub mod RankedLemmas
 pub mod SomeParts
 pub mod AreaLemmas
 pub mod GapLemmas
+pub mod Orders

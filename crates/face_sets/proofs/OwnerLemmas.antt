@@ -1,5 +1,5 @@
 -- Numbers put to the lists of faces, set by set.
-use Rattle.std.proofs.Common.{◌≡◌, refl, sym, ap, ◌∙◌, subst, arith, ℕ, ◌+◌, ◌<◌, Bool, true, false, cond, ◌||◌, List, [], ◌∷◌, ◌++◌, length, get_or, take, nat_eq, All, append-nil, length-set, length-take}
+use Rattle.std.proofs.Common.{◌≡◌, refl, sym, ap, ◌∙◌, subst, arith, ℕ, ◌+◌, ◌<◌, Bool, true, false, cond, ◌||◌, List, [], ◌∷◌, ◌++◌, length, get_or, take, nat_eq, All, append-nil, length-set, length-take, suc}
 use Rattle.std.specs.List.{list_any}
 use Rattle.std.specs.List.Sorted.{IsStrictlyIncreasing}
 use Rattle.std.proofs.lemmas.Bool.{eqb-true, eqb-false, ne_eqb}
@@ -7,7 +7,7 @@ use Rattle.std.proofs.lemmas.List.{get_or-set_same, get_or-set_other, get_or-tak
 use Rattle.std.proofs.lemmas.List.Elements.{All-from_get_or, All-get_or, All-weaker}
 use Rattle.std.proofs.lemmas.List.Folds.{list_any_none, list_any_more}
 use Rattle.std.proofs.lemmas.List.Kept.{AllPairs-from_increasing}
-use Rattle.lists.specs.Lists.{has}
+use Rattle.lists.specs.Lists.{has, numbers_from}
 use Rattle.bucket_grid.proofs.Numbers.{numbers_where_more, numbers_where_below}
 use Rattle.face_sets.specs.Owners.{owners_of, AreOwners, with_number, IsNumbered}
 
@@ -60,3 +60,11 @@ owners_below sets m count owners h = All-from_get_or (All (λ n. n < length sets
     subst (λ (list : List ℕ). All (λ n. n < length sets) list) (sym (h.exact k (let e = h.each in omega arith)))
     (All-weaker (λ n. n < length (take m sets)) (λ n. n < length sets) (λ n below. omega (arith, length-take m sets)) (owners_of (take m sets) k)
     (numbers_where_below (λ (s : List ℕ). has nat_eq s k) (take m sets))))
+
+-- tests that agree at each place give the same numbers
+pub numbers_alike : {X Y : Type 0} (k : ℕ) (t : X → Bool) (u : Y → Bool) (xs : List X) (ys : List Y) (c : X) (e : Y) → length ys ≡ length xs → ((i : ℕ) → i < length xs → t (get_or xs i c) ≡ u (get_or ys i e)) → numbers_from k t xs ≡ numbers_from k u ys
+numbers_alike k t u [] [] c e many h = refl
+numbers_alike k t u [] (y ∷ ys) c e many h = absurd (omega arith)
+numbers_alike k t u (x ∷ xs) [] c e many h = absurd (omega arith)
+numbers_alike k t u (x ∷ xs) (y ∷ ys) c e many h =
+    λ i. cond (h 0 (omega arith) i) (k ∷ numbers_alike (k + 1) t u xs ys c e (omega arith) (λ j l. h (suc j) (omega arith)) i) (numbers_alike (k + 1) t u xs ys c e (omega arith) (λ j l. h (suc j) (omega arith)) i)

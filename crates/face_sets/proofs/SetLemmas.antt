@@ -1,9 +1,10 @@
 -- Ascending lists of numbers: what a binary search tells of them, and what is put in its place.
-use Rattle.std.proofs.Common.{◌≡◌, refl, sym, ap, ◌∙◌, subst, arith, ℕ, zero, suc, ◌+◌, ◌-◌, ◌<◌, ◌≤◌, Bool, true, false, List, [], ◌∷◌, ◌++◌, length, get_or, nat_eq, nat_lt, Some, Ok, Err, Contains, All, inl, inr}
+use Rattle.std.proofs.Common.{◌≡◌, refl, sym, ap, ◌∙◌, subst, arith, ℕ, zero, suc, ◌+◌, ◌-◌, ◌<◌, ◌≤◌, Bool, true, false, List, [], ◌∷◌, ◌++◌, length, get_or, nat_eq, nat_lt, Some, Ok, Err, Contains, All, inl, inr, ◌&&◌}
 use Rattle.std.specs.Prelude.{if◌then◌else◌, slice_get}
 use Rattle.std.specs.List.{insert, dedup}
 use Rattle.std.specs.List.Sorted.{IsStrictlyIncreasing, IsBinarySearchResult, IsPermutation, IsSorted}
 use Rattle.std.specs.Ordering.{nat_cmp}
+use Rattle.std.specs.Cmp.Lexicographic.{pointwise, bytes_decides}
 use Rattle.std.proofs.lemmas.Bool.{cases_lt, ltb-true, ltb-false, lt-ltb, le-ltb, eq-eqb, ne_eqb}
 use Rattle.std.proofs.lemmas.List.{get_or_append_left, get_or_default, get_or_push}
 use Rattle.std.proofs.lemmas.Option.{get_or_from_slice_get}
@@ -12,7 +13,7 @@ use Rattle.std.proofs.lemmas.List.Elements.{All-from_get_or, All-contains, Conta
 use Rattle.std.proofs.lemmas.List.Sorted.{searched, IsPermutation-sym, Contains-permutation}
 use Rattle.std.proofs.lemmas.List.Kept.{AllPairs-from_increasing, Contains-dedup_nat, Contains-from_dedup}
 use Rattle.std.proofs.lemmas.Map.Keys.{sorted_from_strictly_increasing, non_decreasing_from_sorted, IsStrictlyIncreasing-dedup}
-use Rattle.lists.specs.Lists.{has, put_in_order, ascending}
+use Rattle.lists.specs.Lists.{has, put_in_order, ascending, same_list}
 use Rattle.lists.proofs.Ascending.{IsStrictOrder, IsAscending, put-IsAscending, ascending-IsAscending, ascending-Contains, Contains-ascending, one_ascending, pairs_of_ascending, ascending_of_pairs}
 
 pub nat_order : IsStrictOrder nat_lt
@@ -129,3 +130,16 @@ sorted_once joined sorted moved up = one_ascending nat_lt nat_order (dedup nat_e
 pub All-ascending : (P : ℕ → Type 0) (xs : List ℕ) → All P xs → All P (ascending nat_lt xs)
 All-ascending P xs h = All-from_get_or P (ascending nat_lt xs) 0 (λ k within.
     All-contains P xs (get_or (ascending nat_lt xs) k 0) h (ascending-Contains nat_lt nat_order xs (get_or (ascending nat_lt xs) k 0) (Contains-get_or (ascending nat_lt xs) k 0 within)))
+
+-- ---- the same list
+pub same_pointwise : (xs ys : List ℕ) → same_list nat_eq xs ys ≡ pointwise nat_eq xs ys
+same_pointwise [] [] = refl
+same_pointwise [] (y ∷ ys) = refl
+same_pointwise (x ∷ xs) [] = refl
+same_pointwise (x ∷ xs) (y ∷ ys) = ap (λ (b : Bool). nat_eq x y && b) (same_pointwise xs ys)
+
+pub same_from_test : (xs ys : List ℕ) → same_list nat_eq xs ys ≡ true → xs ≡ ys
+same_from_test xs ys e = (bytes_decides xs ys).0 (sym (same_pointwise xs ys) ∙ e)
+
+pub test_from_same : (xs ys : List ℕ) → xs ≡ ys → same_list nat_eq xs ys ≡ true
+test_from_same xs ys e = same_pointwise xs ys ∙ (bytes_decides xs ys).1 e

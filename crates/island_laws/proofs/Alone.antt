@@ -1,13 +1,13 @@
 -- A part of a set stands alone along its boundary, by the owners of the faces beside its arcs, exactly if its region
 -- does, by the regions that have the sides of the links of its boundary.
-use Rattle.std.proofs.Common.{◌≡◌, inl, inr, refl, sym, ap, ◌∙◌, subst, arith, ℕ, suc, ◌+◌, ◌<◌, Bool, true, false, cond, ◌&&◌, List, [], ◌∷◌, Contains, Option, Some, length, get_or, nat_eq}
+use Rattle.std.proofs.Common.{◌≡◌, inl, inr, refl, sym, ap, ◌∙◌, subst, arith, ℕ, ◌<◌, Bool, true, false, cond, ◌&&◌, List, [], ◌∷◌, Contains, Option, Some, length, get_or, nat_eq}
 use Rattle.std.specs.Cmp.{both_ways}
 use Rattle.std.specs.List.{list_all}
 use Rattle.std.proofs.lemmas.Bool.{and_from, and_parts, eq-eqb, eqb-true, false_from_ne_true}
 use Rattle.std.proofs.lemmas.List.Elements.{All-contains}
 use Rattle.std.proofs.lemmas.List.FromFn.{get_or-map-range_with_len, length-map-range_with_len}
 use Rattle.std.proofs.lemmas.Option.{same_Some}
-use Rattle.lists.specs.Lists.{has, numbers_from, numbers_where, same_list}
+use Rattle.lists.specs.Lists.{has, numbers_where, same_list}
 use Rattle.lists.proofs.Members.{Contains-cases, Contains-filter, Contains-filter_map, Contains-flat_map, Contains-head, Contains-later, filter-Contains, filter_map-Contains, flat_map-Contains}
 use Rattle.plane_model.specs.Points.{Segment, Path, reversed}
 use Rattle.plane_model.specs.Arcs.{SignedArc}
@@ -22,6 +22,7 @@ use Rattle.face_walk.specs.Places.{FaceTable, arcs_with_left, face_left_of, has_
 use Rattle.face_sets.specs.Boundary.{face_right_of, is_outward, other_way, outward_at}
 use Rattle.face_sets.specs.Owners.{owners_of}
 use Rattle.face_sets.proofs.BoundaryLemmas.{Contains_has, arc_below, back_again, below_arc, has_Contains, outward_from, outward_if, same_or_other}
+use Rattle.face_sets.proofs.OwnerLemmas.{numbers_alike}
 use Rattle.part_laws.proofs.LinkLemmas.{GoesAlong, arc_of_link, link_of_arc}
 use Rattle.calc_ops.specs.Islands as sets
 use Rattle.calc_ops.specs.Islands.{border}
@@ -48,14 +49,6 @@ all_pass t (y ∷ xs) e x c = elim (Contains-cases y xs x c) [
 pass_all : {X : Type 0} (t : X → Bool) (xs : List X) → ((x : X) → Contains xs x → t x ≡ true) → list_all t xs ≡ true
 pass_all t [] h = refl
 pass_all t (x ∷ xs) h = and_from (t x) (list_all t xs) (h x (Contains-head x xs)) (pass_all t xs (λ y c. h y (Contains-later x xs y c)))
-
--- tests that agree element by element pass the same numbers
-numbers_alike : {X Y : Type 0} (k : ℕ) (t : X → Bool) (u : Y → Bool) (xs : List X) (ys : List Y) (c : X) (e : Y) → length ys ≡ length xs → ((i : ℕ) → i < length xs → t (get_or xs i c) ≡ u (get_or ys i e)) → numbers_from k t xs ≡ numbers_from k u ys
-numbers_alike k t u [] [] c e many h = refl
-numbers_alike k t u [] (y ∷ ys) c e many h = absurd (omega arith)
-numbers_alike k t u (x ∷ xs) [] c e many h = absurd (omega arith)
-numbers_alike k t u (x ∷ xs) (y ∷ ys) c e many h =
-    λ i. cond (h 0 (omega arith) i) (k ∷ numbers_alike (k + 1) t u xs ys c e (omega arith) (λ j l. h (suc j) (omega arith)) i) (numbers_alike (k + 1) t u xs ys c e (omega arith) (λ j l. h (suc j) (omega arith)) i)
 
 -- both definitions of what stands alone say the same of lists at two sides
 said_alike : (n : ℕ) (xs ys : List ℕ) → (same_list nat_eq xs (n ∷ []) && same_list nat_eq ys []) ≡ (is_nil ys && same_list nat_eq xs (n ∷ []))

@@ -23,7 +23,8 @@ use Rattle.table_rows.proofs.Pieces.{pieces_below, singles_below}
 use Rattle.calc_ops.specs.EarlyRows.{are_early, early_after, uniq_rows}
 use Rattle.calc_ops.specs.Keys.{keys_from, keys_of}
 use Rattle.calc_ops.specs.KeyOrder.{comes_before, sort_rows}
-use Rattle.layer_laws.proofs.Numbered.{range_below, sort_keeps}
+use Rattle.layer_laws.proofs.Numbered.{sort_keeps}
+use Rattle.face_sets.proofs.GapLemmas.{range_below}
 
 -- ---- an answer for each row
 
@@ -67,7 +68,7 @@ early_below t key most invert numbers is =
 pub sorted_below : (t : TableContent) (key : Tree) (descending : Bool) (numbers : List ℕ) → sort_rows t key descending ≡ Ok numbers → All (λ n. n < length t.rows) numbers
 sorted_below t key descending numbers is =
     numbers_made (keys_of t key) (λ (keys : List Value). sort_stable (comes_before descending keys) (range_with_len 0 (length keys))) (length t.rows) (keys_long t.names key 0 t.rows)
-    (λ keys. sort_keeps (λ n. n < length keys) (comes_before descending keys) (range_with_len 0 (length keys)) (range_below (length keys) 0 (length keys) (omega arith))) numbers is
+    (λ keys. sort_keeps (λ n. n < length keys) (comes_before descending keys) (range_with_len 0 (length keys)) (range_below (length keys))) numbers is
 
 -- ---- the rows of pieces
 

@@ -23,9 +23,10 @@ use Rattle.chain_model.specs.State as state
 use Rattle.chain_model.specs.State.{StateLayer, is_empty_shape, take_features, without_empty}
 use Rattle.layer_laws.specs.Shown.{View, IsView, LayerShows, ShapeShows, plane_of}
 use Rattle.layer_laws.specs.Taken.{EmptinessShows, LeftFeaturesShow}
-use Rattle.layer_laws.proofs.Numbered.{filter_below, numbers_of_all, range_below, taken_of_taken}
+use Rattle.layer_laws.proofs.Numbered.{filter_below, numbers_of_all, taken_of_taken}
 use Rattle.layer_laws.proofs.Taking.{rows_show}
 use Rattle.layer_laws.proofs.Zipped.{zip_at, zip_long, zip_taken}
+use Rattle.face_sets.proofs.GapLemmas.{range_below}
 
 -- ---- shapes
 
@@ -74,7 +75,7 @@ module _ (v : View) (view : IsView v) (k : Kind) (parts : List Shape) (shapes : 
       ∙ ap not (emptiness_shows v view k (shape_at parts n) (get_or shapes n d) (zip_at (ShapeShows v k) parts shapes show n shape.Nothing d (omega (arith, long, l)))))
 
   all_left_below : All (λ n. n < length parts) (with_geometry parts (range_with_len 0 (length parts)))
-  all_left_below = All-filter (λ (n : ℕ). not (is_empty (shape_at parts n))) (λ n. n < length parts) (range_with_len 0 (length parts)) (range_below (length parts) 0 (length parts) (omega arith))
+  all_left_below = All-filter (λ (n : ℕ). not (is_empty (shape_at parts n))) (λ n. n < length parts) (range_with_len 0 (length parts)) (range_below (length parts))
 
 pub left_features_show : LeftFeaturesShow
 left_features_show v view layer l h parts shapes counted show made leaves =

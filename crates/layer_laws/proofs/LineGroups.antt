@@ -3,7 +3,8 @@ use Rattle.std.proofs.Common.{◌≡◌, refl, sym, ap, ◌∙◌, subst, ℕ, �
 use Rattle.std.specs.List.{AllZip, flat_map}
 use Rattle.std.proofs.lemmas.List.{map-append}
 use Rattle.std.proofs.lemmas.List.Concat.{flat_map-append}
-use Rattle.std.proofs.lemmas.List.Elements.{All-append, All-contains, All-cons, All-get_or, All-head, All-nil, All-tail, Contains-get_or}
+use Rattle.std.proofs.lemmas.List.Elements.{All-contains, All-cons, All-get_or, All-head, All-nil, All-tail, Contains-get_or}
+use Rattle.std.proofs.lemmas.List.Folds.{flat_map-map}
 use Rattle.lists.specs.Lists.{ascending}
 use Rattle.lists.proofs.Ascending.{ascending-Contains}
 use Rattle.lists.proofs.Members.{flat_map-Contains, map-Contains}
@@ -27,6 +28,7 @@ use Rattle.run_plane.specs.Shapes.{points_in, shape_at}
 use Rattle.run_plane.specs.declared.layer.Layer.{Layer}
 use Rattle.run_plane.specs.declared.layer.Shape.{Shape}
 use Rattle.run_plane.specs.declared.layer.Shape.TheVariants as shape
+use Rattle.run_plane.proofs.OnPlane.{all_joined}
 use Rattle.run_borders.specs.Dissolving.{IsGrouped, arcs_in, grouped_shapes, is_point, line_shape, member_arcs, no_shape, point_shape, refused_dissolve}
 use Rattle.run_state.specs.Stops.{table_refusal}
 use Rattle.run_state.specs.declared.refusal.RefuseWhy.{RefuseWhy}
@@ -52,17 +54,9 @@ flat_alike : {A B : Type 0} (f g : A → List B) → ((x : A) → f x ≡ g x) �
 flat_alike f g same [] = refl
 flat_alike f g same (x ∷ xs) = λ i. same x i ++ flat_alike f g same xs i
 
-flat_of_map : {A B C : Type 0} (g : B → List C) (f : A → B) (xs : List A) → flat_map g (map f xs) ≡ flat_map (λ (x : A). g (f x)) xs
-flat_of_map g f [] = refl
-flat_of_map {A} {B} {C} g f (x ∷ xs) = ap (λ (rest : List C). g (f x) ++ rest) (flat_of_map g f xs)
-
 map_of_flat : {A B C : Type 0} (g : B → C) (f : A → List B) (xs : List A) → map g (flat_map f xs) ≡ flat_map (λ (x : A). map g (f x)) xs
 map_of_flat g f [] = refl
 map_of_flat {A} {B} {C} g f (x ∷ xs) = map-append g (f x) (flat_map f xs) ∙ ap (λ (rest : List C). map g (f x) ++ rest) (map_of_flat g f xs)
-
-all_flat : {A B : Type 0} (P : B → Type 0) (f : A → List B) → ((x : A) → All P (f x)) → (xs : List A) → All P (flat_map f xs)
-all_flat P f each [] = All-nil P
-all_flat P f each (x ∷ xs) = All-append P (f x) (flat_map f xs) (each x) (all_flat P f each xs)
 
 each_made : {A B C : Type 0} (R : B → C → Type 0) (f : A → B) (g : A → C) → ((x : A) → R (f x) (g x)) → (xs : List A) → AllZip R (map f xs) (map g xs)
 each_made R f g makes [] = tt
@@ -133,7 +127,7 @@ module _ (v : View) (view : IsView v) where
     members_along members =
         map_of_flat (joined_points v.arcs) (λ (n : ℕ). named_in (shape_at held n)) members
         ∙ flat_alike (λ (n : ℕ). points_along v.arcs (named_in (shape_at held n))) (λ (n : ℕ). state.paths_of (state.shape_at l n)) (λ n. (along_at n).along) members
-        ∙ sym (flat_of_map state.paths_of (state.shape_at l) members)
+        ∙ sym (flat_map-map state.paths_of (state.shape_at l) members)
 
     members_arcs : (members : List ℕ) → member_arcs held members ≡ arcs_along (member_named members)
     members_arcs members =
@@ -147,8 +141,8 @@ module _ (v : View) (view : IsView v) where
     line_groups : (members : List ℕ) → LineShows v (line_shape held members) (state.paths (dissolved_of members))
     line_groups members =
         let named : List (List SignedArc) = member_named members in
-        let there : All (AreThere v.arcs) named = all_flat (AreThere v.arcs) (λ (n : ℕ). named_in (shape_at held n)) (λ n. (along_at n).there) members in
-        let linked : All (AreLinked v.arcs) named = all_flat (AreLinked v.arcs) (λ (n : ℕ). named_in (shape_at held n)) (λ n. (along_at n).linked) members in
+        let there : All (AreThere v.arcs) named = all_joined (AreThere v.arcs) (λ (n : ℕ). named_in (shape_at held n)) members (λ i n l. (along_at (get_or members i n)).there) in
+        let linked : All (AreLinked v.arcs) named = all_joined (AreLinked v.arcs) (λ (n : ℕ). named_in (shape_at held n)) members (λ i n l. (along_at (get_or members i n)).linked) in
         let dissolved = lines_are_dissolved v.drawing v.arcs view.walked.table named there linked (plane_of v) refl in
         let below = arcs_below named there in
         record {
@@ -178,12 +172,12 @@ module _ (v : View) (view : IsView v) where
 
     point_groups : (members : List ℕ) → PointsShow v (point_shape held members) (state.points (flat_map state.points_of (map (state.shape_at l) members)))
     point_groups members =
-        let same = flat_of_map state.points_of (state.shape_at l) members in
+        let same = flat_map-map state.points_of (state.shape_at l) members in
         record {
           points = flat_map state.points_of (map (state.shape_at l) members);
           has = ap shape.Points (flat_alike (λ (n : ℕ). points_in (shape_at held n)) (λ (n : ℕ). state.points_of (state.shape_at l n)) (λ n. (same_at n).same) members ∙ sym same);
           is = refl;
-          vertices = subst (AreVertices v) (sym same) (all_flat (Contains (vertices_of (snapped v.drawing))) (λ (n : ℕ). state.points_of (state.shape_at l n)) (λ n. (same_at n).vertices) members);
+          vertices = subst (AreVertices v) (sym same) (all_joined (Contains (vertices_of (snapped v.drawing))) (λ (n : ℕ). state.points_of (state.shape_at l n)) members (λ i n l. (same_at (get_or members i n)).vertices));
         }
 
   -- ---- layers

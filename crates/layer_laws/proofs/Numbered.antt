@@ -1,10 +1,10 @@
 -- Elements by their numbers: those that are taken, those that pass a test, and both one after the other.
-use Rattle.std.proofs.Common.{◌≡◌, refl, sym, ap, ◌∙◌, subst, arith, ℕ, zero, suc, ◌+◌, ◌<◌, ◌≤◌, Bool, true, false, cond, ◌||◌, if◌then◌else◌, List, [], ◌∷◌, length, map, get_or, filter, filter_map, All, Option, Some, None, nat_eq}
+use Rattle.std.proofs.Common.{◌≡◌, refl, sym, ap, ◌∙◌, subst, arith, ℕ, zero, suc, ◌+◌, ◌<◌, Bool, true, false, cond, ◌||◌, if◌then◌else◌, List, [], ◌∷◌, length, map, get_or, filter, filter_map, All, Option, Some, None, nat_eq}
 use Rattle.std.specs.Cmp.{unsigned_Decides}
 use Rattle.std.specs.List.{AllZip, cons_option, enumerate_from, list_any, range_with_len}
 use Rattle.std.proofs.lemmas.Bool.{false_from_ne_true}
 use Rattle.std.proofs.lemmas.List.{get_or-map}
-use Rattle.std.proofs.lemmas.List.Elements.{All-cons, All-head, All-nil, All-tail}
+use Rattle.std.proofs.lemmas.List.Elements.{All-cons, All-head, All-tail}
 use Rattle.lists.specs.Lists.{has, insert_stable, numbers_from, numbers_where, sort_stable}
 
 -- ---- which numbers those of the elements are that pass
@@ -133,10 +133,6 @@ module _ {B C : Type 0} (f : ℕ → B) (g : ℕ → C) (test : B → Bool) wher
   taken_of_taken ns d = taken_after 0 ns (λ (k : ℕ). get_or (map g ns) k d) (λ k e l. let start : 0 + k ≡ k = omega arith in ap (λ (j : ℕ). get_or (map g ns) j d) start ∙ get_or-map g ns k e d l)
 
 -- ---- numbers below a count
-
-pub range_below : (m a n : ℕ) → a + n ≤ m → All (λ k. k < m) (range_with_len a n)
-range_below m a zero l = All-nil (λ k. k < m)
-range_below m a (suc n) l = All-cons (λ k. k < m) a (range_with_len (a + 1) n) (omega arith) (range_below m (a + 1) n (omega arith))
 
 module _ (P : ℕ → Type 0) (before : ℕ → ℕ → Bool) where
   insert_keeps : (x : ℕ) (ys : List ℕ) → P x → All P ys → All P (insert_stable before x ys)

@@ -3,6 +3,7 @@ use Rattle.std.proofs.Common.{◌≡◌, refl, sym, ap, ◌∙◌, subst, arith,
 use Rattle.std.specs.List.{AllZip}
 use Rattle.std.proofs.lemmas.List.{get_or-map, length-map}
 use Rattle.std.proofs.lemmas.List.Elements.{All-cons, All-filter, All-head, All-nil, All-tail, Contains-get_or}
+use Rattle.std.proofs.lemmas.Simd.{map-map}
 use Rattle.lists.proofs.Members.{filter-Contains, map-Contains}
 use Rattle.plane_model.specs.Points.{Path}
 use Rattle.plane_model.specs.Snapped.{links_of, snapped}
@@ -51,10 +52,6 @@ use Rattle.layer_laws.proofs.Views.{view_faces}
 use Rattle.layer_laws.proofs.Zipped.{zip_at, zip_long}
 
 -- ---- lists
-
-map_map : {A B C : Type 0} (g : B → C) (f : A → B) (xs : List A) → map g (map f xs) ≡ map (λ (x : A). g (f x)) xs
-map_map g f [] = refl
-map_map {A} {B} {C} g f (x ∷ xs) = ap (λ (rest : List C). g (f x) ∷ rest) (map_map g f xs)
 
 bare_rows : (paths : List Path) → ◌≡◌ {A = List RowValues} (map (λ (p : Path). []) paths) (replicate (length paths) [])
 bare_rows [] = refl
@@ -217,7 +214,7 @@ module _ (v : View) (view : IsView v) where
         let counted : length (inner_arcs_of plane layer) ≡ length arcs = ap length numbers ∙ length-map both (λ (s : SidedArc). s.arc) ∙ sym (length-map both arc_of) ∙ ap length told.inner in
         let table : bare_table (length (inner_arcs_of plane layer)) ≡ record { names = []; rows = map (λ (p : Path). []) arcs } =
         (λ i. bare_table (counted i)) ∙ (λ i. record { names = []; rows = sym (bare_rows arcs) i }) in
-        let held : map line_along (inner_arcs_of plane layer) ≡ map border_line both = ap (map line_along) numbers ∙ map_map line_along (λ (s : SidedArc). s.arc) both in
+        let held : map line_along (inner_arcs_of plane layer) ≡ map border_line both = ap (map line_along) numbers ∙ map-map line_along (λ (s : SidedArc). s.arc) both in
         let lines : AllZip (LineShows v) (map border_line both) (map path_alone arcs) =
         subst (λ (paths : List Path). AllZip (LineShows v) (map border_line both) (map path_alone paths)) told.inner (lines_show both (All-filter has_both IsBelow sided (sided_below sets (regions_in l) set_each))) in
         line_layer_shows layer l h (record { names = []; rows = map (λ (p : Path). []) arcs }) (map border_line both) arcs lines made is.name is.kind (is.table ∙ table) (is.shapes ∙ held)

@@ -12,11 +12,11 @@ use Rattle.std.proofs.lemmas.Map.Made.{length-le_from_is_member}
 use Rattle.std.proofs.lemmas.Slice.Eq.{bytes_eq-Decides}
 use Rattle.lists.specs.Lists.{first_or}
 use Rattle.lists.proofs.Members.{map-Contains}
-use Rattle.region_laws.proofs.Numbers.{of_range}
 use Rattle.table_terms.specs.Names.{Text, has_name}
 use Rattle.union_ops.specs.ColumnNames.{AreNewNames, IsNewName, IsNumbered, numbered}
 use Rattle.chain_model.specs.UnionTable.{free_number, new_name, with_new_names}
 use Rattle.face_laws.proofs.FeatureLemmas.{any_there}
+use Rattle.face_sets.proofs.GapLemmas.{of_range}
 
 -- ---- the first number of a range that passes
 

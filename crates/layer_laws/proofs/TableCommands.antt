@@ -1,5 +1,5 @@
 -- Commands on rows and columns of one layer.
-use Rattle.std.proofs.Common.{◌≡◌, refl, sym, ap, ◌∙◌, subst, ℕ, ◌<◌, arith, Bool, true, false, not, List, [], ◌∷◌, length, Option, Some, None, Result, Ok, Err, if◌then◌else◌}
+use Rattle.std.proofs.Common.{◌≡◌, refl, sym, ap, ◌∙◌, subst, ℕ, ◌<◌, Bool, true, false, not, List, [], ◌∷◌, length, Option, Some, None, Result, Ok, Err, if◌then◌else◌}
 use Rattle.std.specs.List.{range_with_len}
 use Rattle.std.proofs.lemmas.List.Elements.{All-filter}
 use Rattle.json_values.specs.Table.{TableContent}
@@ -28,8 +28,8 @@ use Rattle.layer_laws.specs.Taken.{AreFeatures}
 use Rattle.layer_laws.specs.Tables.{AssignedFieldsShow, EarlyRowsShow, FieldsShow, FilteredRowsShow, JoinsShow, NewNamesShow, SortedRowsShow}
 use Rattle.layer_laws.proofs.Below.{early_below, filtered_below, sorted_below}
 use Rattle.layer_laws.proofs.Empty.{some_alike, without_empty_of}
-use Rattle.layer_laws.proofs.Numbered.{range_below}
 use Rattle.layer_laws.proofs.Taking.{below_shapes, shapes_in, taken_features_show}
+use Rattle.face_sets.proofs.GapLemmas.{range_below}
 
 -- ---- one layer
 
@@ -121,7 +121,7 @@ kept_alike layer l same (Some test) invert = ap (λ (t : TableContent). filter_r
 kept_below : (layer : Layer) (test : Option Expr) (invert : Bool) (numbers : List ℕ) → run.kept_numbers test invert layer ≡ Ok numbers → AreFeatures layer numbers
 kept_below layer None invert numbers e =
     let same : all_numbers layer ≡ numbers = cc in
-    subst (AreFeatures layer) same (range_below (length layer.table.rows) 0 (length layer.table.rows) (omega arith))
+    subst (AreFeatures layer) same (range_below (length layer.table.rows))
 kept_below layer (Some test) invert numbers e = filtered_below layer.table (tree_of test) (not invert) numbers e
 
 -- of the features that pass, all or those with a geometry

@@ -20,6 +20,7 @@ use Rattle.face_laws.proofs.LabelLemmas.{each_table_has_labels}
 use Rattle.face_sets.specs.Sets.{IsSetOf}
 use Rattle.face_sets.proofs.BoundaryLemmas.{Contains_has, has_Contains}
 use Rattle.face_sets.proofs.SetLemmas.{from_ascending}
+use Rattle.face_sets.proofs.GapLemmas.{in_range, of_range}
 use Rattle.region_model.specs.Region.{Region, box, feature, Has}
 use Rattle.region_model.specs.Answers.{Answers, AreRight}
 use Rattle.region_laws.specs.Answered.{TellRegions, plane_with}
@@ -27,7 +28,6 @@ use Rattle.region_laws.specs.Followed.{HasFacesWith, IsWalked}
 use Rattle.region_laws.specs.Regions.{Follows}
 use Rattle.region_laws.proofs.Held.{boxes_are_followed, features_are_followed}
 use Rattle.region_laws.proofs.MosaicTold.{rising_range}
-use Rattle.region_laws.proofs.Numbers.{in_range, of_range}
 use Rattle.region_laws.proofs.SetsExist.{HasSet, answers_exist, set_of, no_box, no_holder}
 use Rattle.region_laws.proofs.Walked.{links_arranged}
 use Rattle.line_laws.specs.Regions.{AreFacesOf}

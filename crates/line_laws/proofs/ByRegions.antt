@@ -1,12 +1,13 @@
 -- Lines and points cut by a region, and the regions at the two sides of arcs.
-use Rattle.std.proofs.Common.{◌≡◌, ◌⊎◌, inl, inr, refl, sym, ap, ◌∙◌, subst, arith, ℕ, zero, suc, ◌+◌, ◌<◌, Bool, true, false, not, cond, ◌||◌, nat_eq, List, [], ◌∷◌, ◌++◌, map, length, get_or, All, Contains}
+use Rattle.std.proofs.Common.{◌≡◌, ◌⊎◌, inl, inr, refl, sym, ap, ◌∙◌, subst, arith, ℕ, zero, ◌+◌, ◌<◌, Bool, true, false, not, cond, ◌||◌, nat_eq, List, [], ◌∷◌, ◌++◌, map, length, get_or, All, Contains}
 use Rattle.std.specs.Prelude.{◌↔◌}
 use Rattle.std.specs.Cmp.{both_ways}
 use Rattle.std.specs.List.{AllZip, flat_map}
 use Rattle.std.proofs.lemmas.Bool.{or_cases, or_left, or_right}
 use Rattle.std.proofs.lemmas.List.{get_or-map, length-map, map-append}
 use Rattle.std.proofs.lemmas.List.Elements.{All-contains, All-head, All-tail, All-weaker}
-use Rattle.lists.specs.Lists.{has, numbers_from}
+use Rattle.std.proofs.lemmas.Simd.{map-map}
+use Rattle.lists.specs.Lists.{has}
 use Rattle.lists.proofs.Members.{Contains-head, Contains-later, flat_map-Contains}
 use Rattle.plane_model.specs.Points.{GridPoint, RationalPoint, Segment, Path, is_before, link_between, reversed}
 use Rattle.plane_model.specs.Arcs.{SignedArc, forward, joined_points}
@@ -25,6 +26,7 @@ use Rattle.plane_faces.proofs.Order.{place_exists}
 use Rattle.face_walk.specs.Places.{FaceTable}
 use Rattle.face_laws.specs.Faces.{SeesSide}
 use Rattle.face_sets.proofs.BoundaryLemmas.{has_Contains, Contains_has}
+use Rattle.face_sets.proofs.OwnerLemmas.{numbers_alike}
 use Rattle.line_ops.specs.Inside as sides
 use Rattle.line_ops.specs.Points.{IsInsideAt}
 use Rattle.line_ops.specs.Runs.{runs_where}
@@ -108,15 +110,11 @@ linked_points : (arcs : List Path) (run : List SignedArc) → AreLinked arcs run
 linked_points arcs [] h = refl
 linked_points arcs (a ∷ rest) h = sym (path_is_along (joined_points arcs (a ∷ rest)) (joined_long arcs a rest h))
 
-map_twice : {A B C : Type 0} (g : B → C) (f : A → B) (xs : List A) → map (λ (x : A). g (f x)) xs ≡ map g (map f xs)
-map_twice g f [] = refl
-map_twice g f (x ∷ xs) = ap (λ (ys : List _). g (f x) ∷ ys) (map_twice g f xs)
-
 runs_as_points : (arcs : List Path) (test : SignedArc → Bool) (named : List SignedArc) → AreLinked arcs named → points_along arcs (runs_where test named) ≡ map path_along (map (steps_of_run arcs) (runs_where test named))
 runs_as_points arcs test named linked =
     map_alike (joined_points arcs) (λ (run : List SignedArc). path_along (steps_of_run arcs run)) (runs_where test named)
     (All-weaker (AreLinked arcs) (λ run. joined_points arcs run ≡ path_along (steps_of_run arcs run)) (linked_points arcs) (runs_where test named) (runs_linked arcs test named [] linked))
-    ∙ map_twice path_along (steps_of_run arcs) (runs_where test named)
+    ∙ sym (map-map path_along (steps_of_run arcs) (runs_where test named))
 
 module _ (d : Drawing) (arcs : List Path) (faces : FaceTable) (label : Place → ℕ) (on : AreFacesOf d arcs faces label) (A : Answers) (set : List ℕ) (r : Region) (tell : IsToldOf d arcs label A set r) where
   labelled : AreLabelled (links_of (snapped d)) arcs faces label
@@ -185,13 +183,6 @@ points_cut_by_regions d arcs faces label on A set r follows right points vertice
         both_ways inside (A.inside r p) (λ e. (right p vertex).1 (alike.0 (answered.0 e))) (λ e. answered.1 (alike.1 ((right p vertex).0 e)))
 
 -- ---- the two sides of arcs
-
-numbers_alike : {X Y : Type 0} (k : ℕ) (t : X → Bool) (u : Y → Bool) (xs : List X) (ys : List Y) (c : X) (e : Y) → length ys ≡ length xs → ((i : ℕ) → i < length xs → t (get_or xs i c) ≡ u (get_or ys i e)) → numbers_from k t xs ≡ numbers_from k u ys
-numbers_alike k t u [] [] c e many h = refl
-numbers_alike k t u [] (y ∷ ys) c e many h = absurd (omega arith)
-numbers_alike k t u (x ∷ xs) [] c e many h = absurd (omega arith)
-numbers_alike k t u (x ∷ xs) (y ∷ ys) c e many h =
-    λ i. cond (h 0 (omega arith) i) (k ∷ numbers_alike (k + 1) t u xs ys c e (omega arith) (λ j l. h (suc j) (omega arith)) i) (numbers_alike (k + 1) t u xs ys c e (omega arith) (λ j l. h (suc j) (omega arith)) i)
 
 -- a path begins with a step
 record Begins (path : Path) : Type 0 where

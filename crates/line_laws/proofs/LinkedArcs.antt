@@ -5,6 +5,7 @@ use Rattle.std.proofs.lemmas.Bool.{cases_lt, false_from_ne_true, or_cases, or_le
 use Rattle.std.proofs.lemmas.List.{length-append}
 use Rattle.std.proofs.lemmas.List.Elements.{All-contains, All-weaker, Contains-get_or}
 use Rattle.std.proofs.lemmas.List.Folds.{Any-from_list_any, list_any_at}
+use Rattle.std.proofs.lemmas.Simd.{map-map}
 use Rattle.plane_parity.proofs.Abscissa.{same_link-self}
 use Rattle.lists.specs.Lists.{ascending, has, place_of, without_last}
 use Rattle.lists.proofs.Ascending.{Contains-ascending, ascending-Contains, ascending-IsAscending, one_ascending}
@@ -162,13 +163,9 @@ module _ (S : List Segment) (arr : IsArrangement S) (arcs : List Path) (long : A
 
 -- ---- dissolved lines
 
-map_twice : {A B C : Type 0} (g : B → C) (f : A → B) (xs : List A) → map (λ (x : A). g (f x)) xs ≡ map g (map f xs)
-map_twice g f [] = refl
-map_twice g f (x ∷ xs) = ap (λ (ys : List _). g (f x) ∷ ys) (map_twice g f xs)
-
 pub lines_are_dissolved : LinesAreDissolved
 lines_are_dissolved d arcs table paths there linked P same =
     let used = ap (λ (all : List Path). ascending nat_lt (map (arc_number all) (steps_of_paths (points_along arcs paths)))) same ∙ arcs_by_steps (links_of (snapped d)) table.arrangement arcs table.long table.links paths there linked in (
       used,
-      (λ i. map (λ (n : ℕ). get_or (same i) n []) (used i)) ∙ map_twice (joined_points arcs) along_one (arcs_along paths),
+      (λ i. map (λ (n : ℕ). get_or (same i) n []) (used i)) ∙ sym (map-map (joined_points arcs) along_one (arcs_along paths)),
     )

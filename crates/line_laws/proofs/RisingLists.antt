@@ -1,10 +1,7 @@
 -- Rising lists of numbers, and the numbers of what passes a test.
-use Rattle.std.proofs.Common.{◌≡◌, inl, inr, refl, sym, subst, arith, ℕ, zero, suc, ◌+◌, ◌<◌, true, false, ◌&&◌, nat_eq, List, [], ◌∷◌, Contains}
-use Rattle.std.specs.List.{range_with_len}
+use Rattle.std.proofs.Common.{◌≡◌, inl, inr, refl, sym, subst, arith, ℕ, suc, ◌<◌, List, [], ◌∷◌, Contains}
 use Rattle.std.specs.List.Sorted.{IsStrictlyIncreasing}
-use Rattle.std.proofs.lemmas.Bool.{eq-eqb, eqb-true, and_parts}
 use Rattle.std.proofs.lemmas.List.Kept.{AllPairs-from_increasing}
-use Rattle.lists.specs.Lists.{same_list}
 use Rattle.lists.proofs.Members.{Contains-head, Contains-later, Contains-cases, Contains-nil}
 use Rattle.bucket_grid.proofs.RisingNumbers.{Rises}
 
@@ -44,23 +41,4 @@ one_rising_list xs ys h k to from = same_rising xs ys (AllPairs-from_increasing 
 
 -- ---- the same list
 
-pub same_itself : (xs : List ℕ) → same_list nat_eq xs xs ≡ true
-same_itself [] = refl
-same_itself (x ∷ xs) = (λ i. eq-eqb x x refl i && same_itself xs i)
-
-pub same_means : (xs ys : List ℕ) → same_list nat_eq xs ys ≡ true → xs ≡ ys
-same_means [] [] e = refl
-same_means [] (y ∷ ys) e = absurd (let f : false ≡ true = e in cc)
-same_means (x ∷ xs) [] e = absurd (let f : false ≡ true = e in cc)
-same_means (x ∷ xs) (y ∷ ys) e =
-    let one : x ≡ y = eqb-true x y (and_parts (nat_eq x y) (same_list nat_eq xs ys) e).0 in
-    let rest : xs ≡ ys = same_means xs ys (and_parts (nat_eq x y) (same_list nat_eq xs ys) e).1 in
-    λ i. one i ∷ rest i
-
 -- ---- numbers in a row
-
-pub range_has : (a n k : ℕ) → k < n → Contains (range_with_len a n) (a + k)
-range_has a zero k l = absurd (omega arith)
-range_has a (suc n) zero l = subst (Contains (range_with_len a (suc n))) (let e : a ≡ a + 0 = omega arith in e) (Contains-head a (range_with_len (a + 1) n))
-range_has a (suc n) (suc k) l =
-    subst (Contains (range_with_len a (suc n))) (let e : a + 1 + k ≡ a + suc k = omega arith in e) (Contains-later a (range_with_len (a + 1) n) (a + 1 + k) (range_has (a + 1) n k (omega arith)))

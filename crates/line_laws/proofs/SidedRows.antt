@@ -1,5 +1,5 @@
 -- The arcs between sets, by the lists of sets at their two sides.
-use Rattle.std.proofs.Common.{◌≡◌, refl, sym, ap, ◌∙◌, subst, arith, ℕ, zero, suc, ◌+◌, ◌<◌, ◌≤◌, Bool, true, false, cond, nat_eq, List, [], ◌∷◌, map, filter, get_or, All, AllPairs, Contains, Option, Some, None}
+use Rattle.std.proofs.Common.{◌≡◌, refl, sym, ap, ◌∙◌, arith, ℕ, zero, suc, ◌+◌, ◌<◌, ◌≤◌, Bool, true, false, cond, nat_eq, List, [], ◌∷◌, map, filter, get_or, All, AllPairs, Contains, Option, Some, None}
 use Rattle.std.specs.Prelude.{◌≢◌, filter_map, is_some, slice_get}
 use Rattle.std.specs.List.{cons_option, range_with_len}
 use Rattle.std.specs.List.Sorted.{IsStrictlyIncreasing}
@@ -14,7 +14,8 @@ use Rattle.face_walk.specs.Places.{FaceTable}
 use Rattle.line_ops.specs.Sided.{has_both, left_sets, right_sets, sided, sided_among}
 use Rattle.line_ops.specs.declared.sides.SidedArc.{SidedArc}
 use Rattle.line_laws.specs.ArcsBetween.{IsSidedBy}
-use Rattle.line_laws.proofs.RisingLists.{range_has, same_itself, same_means}
+use Rattle.face_sets.proofs.GapLemmas.{in_range}
+use Rattle.face_sets.proofs.SetLemmas.{same_from_test, test_from_same}
 
 module _ (t : FaceTable) (sets : List (List ℕ)) where
   -- the lists at the sides of an arc are the same
@@ -81,17 +82,17 @@ module _ (t : FaceTable) (sets : List (List ℕ)) where
 
   put_there : (count a : ℕ) → a < count → are_same a ≡ false → Contains (sided_among t sets count) (with_first a)
   put_there count a l e =
-      Contains-filter_map (sided t sets) (range_with_len 0 count) a (with_first a) (subst (Contains (range_with_len 0 count)) (let f : 0 + a ≡ a = omega arith in f) (range_has 0 count a l))
+      Contains-filter_map (sided t sets) (range_with_len 0 count) a (with_first a) (in_range count a l)
       (λ j. cond (e j) None (Some (with_first a)))
 
   differ_means : (a : ℕ) → are_same a ≡ false → left_sets t sets a ≢ right_sets t sets a
-  differ_means a e f = clash (are_same a) (ap (λ (xs : List ℕ). same_list nat_eq (left_sets t sets a) xs) (sym f) ∙ same_itself (left_sets t sets a)) e
+  differ_means a e f = clash (are_same a) (ap (λ (xs : List ℕ). same_list nat_eq (left_sets t sets a) xs) (sym f) ∙ test_from_same (left_sets t sets a) (left_sets t sets a) refl) e
 
   means_differ : (a : ℕ) → left_sets t sets a ≢ right_sets t sets a → are_same a ≡ false
   means_differ a n = go (are_same a) refl
     where
       go : (b : Bool) → are_same a ≡ b → b ≡ false
-      go true e = absurd (n (same_means (left_sets t sets a) (right_sets t sets a) e))
+      go true e = absurd (n (same_from_test (left_sets t sets a) (right_sets t sets a) e))
       go false e = refl
 
   some_first : (xs : List ℕ) → is_some (slice_get xs 0) ≡ true → xs ≢ []

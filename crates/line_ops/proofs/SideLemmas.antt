@@ -1,5 +1,5 @@
 -- Arcs with their sides, one more arc at a time.
-use Rattle.std.proofs.Common.{◌≡◌, refl, sym, ap, ◌∙◌, arith, ℕ, zero, suc, ◌+◌, ◌<◌, ◌≤◌, Bool, true, false, cond, ◌&&◌, nat_eq, List, [], ◌∷◌, ◌++◌, All, Option, Some, None}
+use Rattle.std.proofs.Common.{◌≡◌, refl, sym, ap, ◌∙◌, arith, ℕ, zero, suc, ◌+◌, ◌<◌, ◌≤◌, Bool, true, false, cond, nat_eq, List, [], ◌∷◌, ◌++◌, All, Option, Some, None}
 use Rattle.std.specs.Prelude.{filter_map, slice_get}
 use Rattle.std.specs.Option.{option_to_list}
 use Rattle.std.specs.List.{cons_option, range_with_len}
@@ -8,14 +8,9 @@ use Rattle.std.proofs.lemmas.List.Elements.{All-nil, All-cons, filter_map-append
 use Rattle.lists.specs.Lists.{same_list}
 use Rattle.face_walk.specs.Places.{FaceTable}
 use Rattle.face_sets.proofs.GapLemmas.{range_more}
+use Rattle.face_sets.proofs.SetLemmas.{same_pointwise}
 use Rattle.line_ops.specs.declared.sides.SidedArc.{SidedArc}
 use Rattle.line_ops.specs.Sided.{left_sets, right_sets, sided, sided_among}
-
-same_pointwise : (xs ys : List ℕ) → same_list nat_eq xs ys ≡ pointwise nat_eq xs ys
-same_pointwise [] [] = refl
-same_pointwise [] (y ∷ ys) = refl
-same_pointwise (x ∷ xs) [] = refl
-same_pointwise (x ∷ xs) (y ∷ ys) = ap (λ (b : Bool). nat_eq x y && b) (same_pointwise xs ys)
 
 -- ---- one arc, from the lists at its sides
 

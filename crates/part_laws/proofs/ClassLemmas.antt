@@ -17,7 +17,7 @@ use Rattle.part_laws.specs.Parts.{PartsAreClasses, number_of}
 use Rattle.part_laws.proofs.LinkLemmas.{GoesAlong, arc_of_link, link_of_arc}
 
 -- the first that passes does
-passes : {X : Type 0} (test : X → Bool) (xs : List X) (i : ℕ) (d : X) → i < length xs → test (get_or xs i d) ≡ true → (place_of test xs < length xs) × (test (get_or xs (place_of test xs) d) ≡ true)
+pub passes : {X : Type 0} (test : X → Bool) (xs : List X) (i : ℕ) (d : X) → i < length xs → test (get_or xs i d) ≡ true → (place_of test xs < length xs) × (test (get_or xs (place_of test xs) d) ≡ true)
 passes test [] i d l e = absurd (omega arith)
 passes test (x ∷ xs) zero d l e = go (test x) refl
   where

@@ -1,6 +1,6 @@
 -- No region has a point that is outside of all links.
-use Rattle.std.proofs.Common.{◌≡◌, inl, inr, refl, sym, ap, ◌∙◌, ℕ, false, List, [], ◌∷◌, get_or}
-use Rattle.std.specs.List.{list_any}
+use Rattle.std.proofs.Common.{inl, inr, refl, sym, ap, ◌∙◌, ℕ, false, List, [], ◌∷◌, get_or}
+use Rattle.std.proofs.lemmas.List.Folds.{list_any_none}
 use Rattle.plane_model.specs.Points.{RationalPoint, Segment, Path}
 use Rattle.plane_model.specs.Drawing.{Drawing, Polygon}
 use Rattle.plane_model.specs.Joined.{AreOfOneFace}
@@ -15,10 +15,6 @@ use Rattle.plane_faces.specs.Places.{outside, IsPlaceOf}
 use Rattle.region_model.specs.Region.{Region, Regions, feature, box, any, both, less, part, gap, no_regions, one_more, Has, SomeHas}
 use Rattle.region_laws.proofs.FarLeft.{exists_far_left, left_is_outside}
 use Rattle.printed_laws.proofs.Constant.{joined_by_face, there_or_not}
-
-never_any : {A : Type 0} (xs : List A) → list_any (λ (x : A). false) xs ≡ false
-never_any [] = refl
-never_any (x ∷ xs) = never_any xs
 
 -- points outside of all links are of one face
 pub outside_is_one : (S : List Segment) (u v : RationalPoint) → IsPlaceOf S u outside → IsPlaceOf S v outside → AreOfOneFace S u v
@@ -35,7 +31,7 @@ module _ (d : Drawing) (closed : HasClosedRings d) (arcs : List Path) where
     | inl c ↦ (
         let f : List Polygon = get_or (snapped d).polygons n [] in
         clash (feature_holds z f) h
-        (list_any_same (rings_hold z) (λ (p : Polygon). false) f (λ p k. ray_law_nothing S (links_of_paths p) (snapped_polygons_are_even_lists d closed f p c k).within z here) ∙ never_any f))
+        (list_any_same (rings_hold z) (λ (p : Polygon). false) f (λ p k. ray_law_nothing S (links_of_paths p) (snapped_polygons_are_even_lists d closed f p c k).within z here) ∙ list_any_none (λ (p : Polygon). false) f (λ i d l. refl)))
     | inr none ↦ clash (feature_holds z (get_or (snapped d).polygons n [])) h (ap (feature_holds z) none)
   ]
 

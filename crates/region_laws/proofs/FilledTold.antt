@@ -7,7 +7,7 @@ use Rattle.std.proofs.lemmas.Bool.{eq-eqb, eqb-true, false_from_ne_true}
 use Rattle.std.proofs.lemmas.List.{get_or_default}
 use Rattle.std.proofs.lemmas.List.Elements.{All-contains, All-filter, All-get_or, Contains-get_or}
 use Rattle.std.proofs.lemmas.Option.{same_Some}
-use Rattle.face_laws.proofs.FeatureLemmas.{there_any, any_there}
+use Rattle.face_laws.proofs.HolderLemmas.{there_any, any_there}
 use Rattle.lists.specs.Lists.{has, joined_up, same_list, sort_stable}
 use Rattle.lists.proofs.Ascending.{Contains-ascending, first_of_ascending, IsAscending}
 use Rattle.lists.proofs.Members.{Contains-cases, Contains-filter, Contains-filter_map, Contains-head, Contains-joined_up, filter-Contains, filter_map-Contains}
@@ -28,7 +28,7 @@ use Rattle.face_sets.specs.Gaps.{AreGaps, has_outer, outside_of}
 use Rattle.face_sets.specs.Parts.{IsPieceOf}
 use Rattle.face_sets.specs.Sets.{IsSetOf}
 use Rattle.face_sets.proofs.BoundaryLemmas.{back_again, same_or_other}
-use Rattle.face_sets.proofs.GapLemmas.{gaps_inner}
+use Rattle.face_sets.proofs.GapLemmas.{gaps_inner, in_range, of_range}
 use Rattle.face_sets.proofs.SetLemmas.{nat_order}
 use Rattle.part_laws.proofs.LinkLemmas.{arc_of_link, link_of_arc}
 use Rattle.region_ops.specs.Cleaned.{IsCleaned, area_of, is_lost, ranks_before}
@@ -48,7 +48,6 @@ use Rattle.region_laws.specs.Gaps.{FilledAsTold, FollowGaps}
 use Rattle.region_laws.proofs.Answered.{areas_are_told, cleaned_as_told, one_bound}
 use Rattle.region_laws.proofs.AscendingLists.{filter_ascends}
 use Rattle.region_laws.proofs.Gaps.{gaps_are_followed}
-use Rattle.region_laws.proofs.Numbers.{in_range, of_range}
 use Rattle.region_laws.proofs.Ranking.{Contains-sort, ranked, sort-Contains}
 use Rattle.region_laws.proofs.Sets.{at_some, out_kept, some_at}
 use Rattle.region_laws.proofs.Sides.{left_belongs, right_belongs}

@@ -28,7 +28,7 @@ use Rattle.face_sets.specs.Gaps.{has_outer, outside_of}
 use Rattle.face_sets.specs.Joined.{AreParts}
 use Rattle.face_sets.specs.Sets.{IsInnerFace, IsSetOf}
 use Rattle.face_sets.proofs.BoundaryLemmas.{Contains_has, has_Contains}
-use Rattle.face_sets.proofs.GapLemmas.{gaps_inner}
+use Rattle.face_sets.proofs.GapLemmas.{gaps_inner, in_range, of_range}
 use Rattle.face_sets.proofs.SetLemmas.{nat_order}
 use Rattle.part_laws.specs.Parts.{number_of}
 use Rattle.part_laws.proofs.BoundedLaws.{outside_is_not}
@@ -40,7 +40,6 @@ use Rattle.region_laws.specs.Gaps.{FollowGaps, GapsAreFollowed}
 use Rattle.region_laws.specs.Regions.{FollowEach}
 use Rattle.region_laws.proofs.FarLeft.{exists_far_left, left_is_outside}
 use Rattle.region_laws.proofs.GapParts.{from_all, kept_parts, part_at, to_all}
-use Rattle.region_laws.proofs.Numbers.{in_range, of_range}
 use Rattle.region_laws.proofs.OffLinks.{off_from_side}
 use Rattle.region_laws.proofs.Outside.{is_out, kept_in, left_to_right, of_out, one_part_joined, out_is_not, right_to_left}
 use Rattle.region_laws.proofs.Parts.{in_no_other, part_followed, some_point, step_of}

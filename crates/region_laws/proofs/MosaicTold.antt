@@ -15,6 +15,7 @@ use Rattle.plane_faces.specs.Places.{Place}
 use Rattle.face_walk.specs.Places.{FaceTable}
 use Rattle.face_sets.specs.Sets.{IsSetOf}
 use Rattle.face_sets.proofs.SetLemmas.{from_ascending}
+use Rattle.face_sets.proofs.GapLemmas.{in_range, of_range}
 use Rattle.region_ops.specs.Mosaic.{Group, IsMosaic, faces_of, items_of_groups}
 use Rattle.region_ops.specs.declared.item_lists.MosaicItem.{MosaicItem}
 use Rattle.region_ops.proofs.ListOrder.{list_order}
@@ -29,7 +30,7 @@ use Rattle.region_laws.proofs.AscendingLists.{IsListOf, filter_ascends, is_list_
 use Rattle.region_laws.proofs.InGroups.{all_keys, all_sets, from_zip}
 use Rattle.region_laws.proofs.Mosaics.{faces_followed, faces_inner, first_of, in_faces, of_faces}
 use Rattle.region_ops.proofs.OwnerSets.{of_owners}
-use Rattle.region_laws.proofs.Numbers.{in_range, of_range, owners_rise}
+use Rattle.region_laws.proofs.Numbers.{owners_rise}
 
 -- ---- pieces by their numbers and their sets
 

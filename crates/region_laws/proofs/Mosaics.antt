@@ -19,15 +19,15 @@ use Rattle.face_walk.specs.Places.{FaceTable}
 use Rattle.face_sets.specs.Owners.{owners_of}
 use Rattle.face_sets.specs.Sets.{IsInnerFace, IsSetOf}
 use Rattle.face_sets.proofs.BoundaryLemmas.{Contains_has, has_Contains}
-use Rattle.face_sets.proofs.SetLemmas.{from_ascending, nat_order, to_ascending}
+use Rattle.face_sets.proofs.SetLemmas.{from_ascending, nat_order, to_ascending, same_from_test, test_from_same}
+use Rattle.face_sets.proofs.GapLemmas.{in_range, of_range}
 use Rattle.region_ops.specs.Mosaic.{Group, faces_of}
-use Rattle.region_ops.proofs.ListOrder.{same_from_test, test_from_same}
 use Rattle.region_model.specs.Region.{Region, Has}
 use Rattle.region_laws.specs.Regions.{Follows, FollowEach}
 use Rattle.region_model.specs.PolygonCommands.{all_of, exactly, regions_at}
 use Rattle.region_laws.specs.Followed.{ExactlyHasPoints, FollowParts, IsWalked, MosaicsAreFollowed}
 use Rattle.region_ops.proofs.OwnerSets.{in_owners, of_owners}
-use Rattle.region_laws.proofs.Numbers.{in_range, of_range, owners_rise}
+use Rattle.region_laws.proofs.Numbers.{owners_rise}
 use Rattle.region_laws.proofs.PartLaws.{parts_are_followed}
 use Rattle.region_laws.proofs.Sets.{at_some, some_at}
 use Rattle.region_laws.proofs.Walked.{label_below, links_arranged}

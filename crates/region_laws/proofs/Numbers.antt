@@ -1,22 +1,10 @@
 -- Numbers of elements that pass a test.
-use Rattle.std.proofs.Common.{◌≡◌, ◌∙◌, arith, ℕ, ◌+◌, ◌<◌, Bool, true, false, cond, List, [], ◌∷◌, Contains, length, get_or, nat_eq, nat_lt}
-use Rattle.std.specs.List.{range_with_len}
+use Rattle.std.proofs.Common.{◌≡◌, arith, ℕ, ◌+◌, ◌<◌, Bool, true, false, cond, List, [], ◌∷◌, Contains, length, get_or, nat_eq, nat_lt}
 use Rattle.std.proofs.lemmas.Bool.{lt-ltb}
-use Rattle.std.proofs.lemmas.List.FromFn.{get_or-range_with_len, length-range_with_len}
 use Rattle.lists.specs.Lists.{has, numbers_from}
 use Rattle.lists.proofs.Ascending.{IsAscending}
 use Rattle.face_sets.specs.Owners.{owners_of}
 use Rattle.region_ops.proofs.OwnerSets.{of_numbers}
-
--- the numbers below n
-pub in_range : (n m : ℕ) → m < n → Contains (range_with_len 0 n) m
-in_range n m l = (m, (let e = length-range_with_len 0 n in omega arith), get_or-range_with_len 0 n m m l ∙ (let same : 0 + m ≡ m = omega arith in same))
-
-pub of_range : (n m : ℕ) → Contains (range_with_len 0 n) m → m < n
-of_range n m (i, l, e) =
-    let size = length-range_with_len 0 n in
-    let is = get_or-range_with_len 0 n i m (omega arith) in
-    omega arith
 
 -- they rise
 pub numbers_rise : {X : Type 0} (k : ℕ) (test : X → Bool) (xs : List X) → IsAscending nat_lt (numbers_from k test xs)

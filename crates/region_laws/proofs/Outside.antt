@@ -33,9 +33,9 @@ use Rattle.face_laws.specs.Faces.{IsFaceOfPlace}
 use Rattle.face_sets.specs.Gaps.{outside_of}
 use Rattle.face_sets.specs.Joined.{AreParts}
 use Rattle.face_sets.proofs.BoundaryLemmas.{Contains_has, has_Contains}
+use Rattle.face_sets.proofs.GapLemmas.{in_range}
 use Rattle.part_laws.specs.Parts.{number_of}
 use Rattle.part_laws.proofs.ClassLemmas.{are_classes, numbered}
-use Rattle.region_laws.proofs.Numbers.{in_range}
 use Rattle.region_laws.proofs.Sets.{kept_out, out_kept}
 use Rattle.region_laws.proofs.Sides.{left_belongs, right_belongs, same_boundary}
 

@@ -35,6 +35,7 @@ use Rattle.face_sets.specs.Sets.{IsSetOf}
 use Rattle.face_sets.proofs.BoundaryLemmas.{Contains_has, arc_below, back_again, outward_if, same_or_other}
 use Rattle.face_sets.proofs.JoinedLemmas.{joined_over}
 use Rattle.face_sets.proofs.SetLemmas.{nat_order, to_ascending}
+use Rattle.face_sets.proofs.GapLemmas.{in_range, of_range}
 use Rattle.part_laws.specs.Parts.{number_of}
 use Rattle.part_laws.proofs.BoundedLaws.{each_has_arc, outside_is_not}
 use Rattle.part_laws.proofs.ClassLemmas.{are_classes, numbered}
@@ -42,7 +43,6 @@ use Rattle.part_laws.proofs.LinkLemmas.{GoesAlong, left_at, right_at}
 use Rattle.part_laws.proofs.TracedLaws.{on_boundary}
 use Rattle.region_model.specs.Region.{IsInPart, IsLeastOfSome}
 use Rattle.region_laws.proofs.Least.{lowest, lowest_least, lowest_there}
-use Rattle.region_laws.proofs.Numbers.{in_range, of_range}
 use Rattle.region_laws.proofs.OffLinks.{off_from_side}
 use Rattle.region_laws.proofs.Sides.{joined_by_parts, left_belongs, right_belongs, seen_left, seen_right}
 

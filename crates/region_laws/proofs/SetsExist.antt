@@ -21,7 +21,7 @@ use Rattle.face_sets.specs.Gaps.{has_outer, outside_of}
 use Rattle.face_sets.specs.Joined.{AreParts}
 use Rattle.face_sets.specs.Sets.{IsInnerFace, IsSetOf}
 use Rattle.face_sets.proofs.BoundaryLemmas.{Contains_has, has_Contains}
-use Rattle.face_sets.proofs.GapLemmas.{gaps_inner, outside_rises}
+use Rattle.face_sets.proofs.GapLemmas.{gaps_inner, outside_rises, in_range, of_range}
 use Rattle.face_sets.proofs.SetLemmas.{from_ascending, nat_order}
 use Rattle.region_ops.specs.Cut.{meet, minus}
 use Rattle.region_ops.specs.Filled.{all_faces}
@@ -37,7 +37,6 @@ use Rattle.region_laws.proofs.Answered.{layers_are_followed, parts_are_told, sid
 use Rattle.region_laws.proofs.Gaps.{gaps_are_followed}
 use Rattle.region_laws.proofs.Held.{boxes_are_followed, features_are_followed}
 use Rattle.region_laws.proofs.MosaicTold.{rising_range}
-use Rattle.region_laws.proofs.Numbers.{in_range, of_range}
 use Rattle.region_laws.proofs.PartLaws.{parts_are_followed}
 use Rattle.region_laws.proofs.PartsExist.{parts_exist}
 use Rattle.region_laws.proofs.Sets.{meets_are_followed, remainders_are_followed}

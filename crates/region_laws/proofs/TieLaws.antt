@@ -28,6 +28,7 @@ use Rattle.face_laws.proofs.StepLemmas.{arc_of}
 use Rattle.face_sets.specs.Sets.{IsInnerFace, IsSetOf}
 use Rattle.face_sets.proofs.BoundaryLemmas.{Contains_has, same_or_other}
 use Rattle.face_sets.proofs.SetLemmas.{nat_order, to_ascending}
+use Rattle.face_sets.proofs.GapLemmas.{of_range}
 use Rattle.region_ops.specs.Cleaned.{area_of, ranks_before}
 use Rattle.region_ops.specs.Dissolved.{set_at}
 use Rattle.part_laws.proofs.BoundedLaws.{outside_is_not}
@@ -38,7 +39,6 @@ use Rattle.region_model.specs.PolygonCommands.{regions_at}
 use Rattle.region_laws.specs.Followed.{IsWalked}
 use Rattle.region_laws.specs.Ties.{CleanedByRegions, EmptySetsAreEmptyRegions, OneSetFollows, SetsAreOfSides, SideBelongs, area_within}
 use Rattle.region_laws.proofs.Areas.{areas_are_those_of_regions}
-use Rattle.region_laws.proofs.Numbers.{of_range}
 use Rattle.region_laws.proofs.OffLinks.{off_from_left, off_from_right}
 use Rattle.region_laws.proofs.Sets.{cleaned_sets_are_followed}
 use Rattle.region_laws.proofs.Sides.{left_belongs, right_belongs}

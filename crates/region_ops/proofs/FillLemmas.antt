@@ -1,5 +1,5 @@
 -- Gaps that are filled: which sets are across their boundaries, which of them each goes to, and what each set is given.
-use Rattle.std.proofs.Common.{◌≡◌, ◌⊎◌, inl, inr, refl, sym, ap, ◌∙◌, subst, arith, ℕ, ◌+◌, ◌<◌, Bool, true, false, ℤ, pos, List, [], ◌∷◌, ◌++◌, length, get_or, take, map, set, nat_lt, All, Contains, Option, Some, None, length-set}
+use Rattle.std.proofs.Common.{◌≡◌, ◌⊎◌, inl, inr, refl, sym, ap, ◌∙◌, subst, arith, ℕ, ◌+◌, ◌<◌, true, false, ℤ, pos, List, [], ◌∷◌, ◌++◌, length, get_or, take, map, set, nat_lt, All, Contains, Option, Some, None, length-set}
 use Rattle.std.specs.List.{flat_map}
 use Rattle.std.specs.List.Sorted.{IsStrictlyIncreasing}
 use Rattle.std.proofs.lemmas.Bool.{cases_eq, eqb-true}
@@ -10,6 +10,7 @@ use Rattle.lists.proofs.Ascending.{ascending-Contains, ascending-IsAscending, Co
 use Rattle.lists.proofs.Members.{Contains-flat_map, Contains-nil, filter-Contains, flat_map-Contains}
 use Rattle.plane_model.specs.Arcs.{SignedArc}
 use Rattle.plane_model.specs.Points.{Path}
+use Rattle.plane_model.proofs.PointOrder.{clash}
 use Rattle.grid_base.specs.declared.kinds.OverlapRule.{OverlapRule}
 use Rattle.face_walk.specs.Places.{FaceTable, IsBuiltOf, arcs_with_left, face_left_of, has_left, signed_below}
 use Rattle.face_sets.specs.Boundary.{face_right_of}
@@ -57,10 +58,6 @@ module _ (arcs : List Path) (faces : FaceTable) (built : IsBuiltOf arcs faces) (
 
 -- ---- which set a gap goes to
 
-not_both : (t : Bool) → t ≡ true → t ≡ false → ⊥
-not_both true e f = let h : true ≡ false = f in cc
-not_both false e f = let h : false ≡ true = e in cc
-
 none_some : {n : ℕ} → Some n ≡ None → ⊥
 none_some e = cc
 
@@ -73,13 +70,13 @@ one_first rule areas numbers (Some m) n g h = elim (cases_eq m n) [
       let m_not : is_before rule areas m n ≡ false = All-contains (λ k. is_before rule areas k n ≡ false) numbers m h.1 g.0 in
       let n_not : is_before rule areas n m ≡ false = All-contains (λ k. is_before rule areas k m ≡ false) numbers n g.1 h.0 in
       let n_is : is_before rule areas n m ≡ true = one_before rule m (get_or areas m (pos 0)) n (get_or areas n (pos 0)) m_not apart in
-      absurd (not_both (is_before rule areas n m) n_is n_not)
+      clash (is_before rule areas n m) n_is n_not
 ]
 
 module _ (rule : OverlapRule) (most : ℕ) (arcs : List Path) (faces : FaceTable) (areas : List ℤ) (cleaned : List (List ℕ)) where
   pub one_receiver : (gap : List ℕ) (to : Option ℕ) (n : ℕ) → IsReceiver rule most arcs faces areas cleaned gap to → IsReceiver rule most arcs faces areas cleaned gap (Some n) → to ≡ Some n
   one_receiver gap to n (inl g) (inl h) = absurd (none_some h.1)
-  one_receiver gap to n (inl g) (inr h) = absurd (not_both (is_filled faces most gap) h.0 g.0)
+  one_receiver gap to n (inl g) (inr h) = clash (is_filled faces most gap) h.0 g.0
   one_receiver gap to n (inr g) (inl h) = absurd (none_some h.1)
   one_receiver gap to n (inr g) (inr h) = one_first rule areas (neighbours_of arcs faces cleaned gap) to n g.1 h.1
 

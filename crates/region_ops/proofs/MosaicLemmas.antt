@@ -12,6 +12,7 @@ use Rattle.face_walk.specs.Holders.{list_at}
 use Rattle.face_walk.specs.Places.{FaceTable}
 use Rattle.face_sets.specs.Owners.{AreOwners, owners_of}
 use Rattle.face_sets.specs.Sets.{IsInnerFace, IsSetOf}
+use Rattle.face_sets.proofs.SetLemmas.{same_from_test, test_from_same}
 use Rattle.face_groups.specs.Groups.{AreGroupsOf, IsKeyed}
 use Rattle.face_groups.specs.Keys.{is_owned, owned_before}
 use Rattle.face_groups.specs.Pieces.{AreKeyPieces}
@@ -20,7 +21,7 @@ use Rattle.face_groups.proofs.Groups.{AreKeyGroups, each_item, groups_made, held
 use Rattle.region_ops.specs.declared.item_lists.MosaicItem.{MosaicItem}
 use Rattle.region_ops.specs.Items.{IsPiece}
 use Rattle.region_ops.specs.Mosaic.{Group, faces_of, item_of, items_of, IsMosaic, IsShared}
-use Rattle.region_ops.proofs.ListOrder.{before_is_less, less_order, same_from_test, test_from_same}
+use Rattle.region_ops.proofs.ListOrder.{before_is_less, less_order}
 
 not_empty : (xs : List ℕ) → not (length xs == 0) ≡ true → xs ≡ [] → ⊥
 not_empty xs e none = true≢false (sym e ∙ ap (λ (ys : List ℕ). not (length ys == 0)) none)

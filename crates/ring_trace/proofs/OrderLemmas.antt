@@ -12,6 +12,7 @@ use Rattle.std.proofs.lemmas.List.Elements.{All-contains, All-map, Contains-get_
 use Rattle.std.proofs.lemmas.List.Kept.{AllPairs-filter}
 use Rattle.std.proofs.lemmas.List.MinMax.{ranks_by}
 use Rattle.std.proofs.lemmas.List.Sorted.{sorted_far}
+use Rattle.std.proofs.lemmas.Bool.{not-false}
 use Rattle.plane_model.specs.Points.{Path}
 use Rattle.plane_model.specs.Arcs.{SignedArc}
 use Rattle.ring_trace.specs.declared.pairing.Edge.{Edge}
@@ -118,10 +119,6 @@ first_is edges rings key is h =
     ∙ ap (λ (ys : List ℕ). first_number (arcs_along edges (take (suc (key.end - key.first - 1)) ys ++ front))) (drop_more es key.first 0 (omega arith))
     ∙ sym h.least
 
-not_false : (t : Bool) → false ≡ not t → t ≡ true
-not_false true e = refl
-not_false false e = absurd (let g : true ≡ false = sym e in cc)
-
 module _ (arcs : List Path) (edges : List Edge) (rings : Rings) (keys : List RingKey) (are : All (IsKey rings) keys) (first : All (IsLeastFirst edges rings) keys) (holes : All (IsHoleBy arcs edges rings) keys) (up : IsSorted key_cmp keys) where
   may_stand : (a b : RingKey) → Contains keys a → Contains keys b → a.part ≡ b.part → StandInOrder a b → MayStandBefore arcs (path_along edges rings a) (path_along edges rings b)
   may_stand a b c d same h =
@@ -130,7 +127,7 @@ module _ (arcs : List Path) (edges : List Edge) (rings : Rings) (keys : List Rin
       let first_a = first_is edges rings a (All-contains (IsKey rings) keys a are c) (All-contains (IsLeastFirst edges rings) keys a first c) in
       let first_b = first_is edges rings b (All-contains (IsKey rings) keys b are d) (All-contains (IsLeastFirst edges rings) keys b first d) in
       record {
-        exteriors_first = λ e. not_false (is_left arcs (path_along edges rings a)) (sym (h.exteriors same (hole_b ∙ ap not e)) ∙ hole_a);
+        exteriors_first = λ e. not-false (is_left arcs (path_along edges rings a)) (sym (sym (h.exteriors same (hole_b ∙ ap not e)) ∙ hole_a));
         in_order = λ e. let l = h.leasts same (hole_b ∙ ap not (sym e) ∙ sym hole_a) in omega arith;
       }
 

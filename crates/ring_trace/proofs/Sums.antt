@@ -7,19 +7,12 @@ use Rattle.lists.proofs.Members.{Contains-head, Contains-later}
 pub sum_by_same : {X : Type 0} (f g : X → ℕ) (xs : List X) → ((x : X) → Contains xs x → f x ≡ g x) → sum_by f xs ≡ sum_by g xs
 sum_by_same f g [] h = refl
 sum_by_same f g (x ∷ xs) h =
-    let m = sum_by-cons f x xs in
-    let n = sum_by-cons g x xs in
-    let e = h x (Contains-head x xs) in
-    let r = sum_by_same f g xs (λ y c. h y (Contains-later x xs y c)) in
-    omega arith
+    sum_by-cons f x xs ∙ (λ i. h x (Contains-head x xs) i + sum_by_same f g xs (λ y c. h y (Contains-later x xs y c)) i) ∙ sym (sum_by-cons g x xs)
 
 pub sum_by_none : {X : Type 0} (f : X → ℕ) (xs : List X) → ((x : X) → Contains xs x → f x ≡ 0) → sum_by f xs ≡ 0
 sum_by_none f [] h = refl
 sum_by_none f (x ∷ xs) h =
-    let m = sum_by-cons f x xs in
-    let e = h x (Contains-head x xs) in
-    let r = sum_by_none f xs (λ y c. h y (Contains-later x xs y c)) in
-    omega arith
+    sum_by-cons f x xs ∙ (λ i. h x (Contains-head x xs) i + sum_by_none f xs (λ y c. h y (Contains-later x xs y c)) i)
 
 pub sum_by-filter : {X : Type 0} (q : X → Bool) (g : X → ℕ) (xs : List X) → sum_by g (filter q xs) ≡ sum_by (λ (x : X). cond (q x) (g x) 0) xs
 sum_by-filter q g [] = refl

@@ -4,7 +4,7 @@ use Rattle.std.specs.List.{sum_by}
 use Rattle.std.specs.List.Sorted.{IsStrictlyIncreasing}
 use Rattle.std.proofs.lemmas.Bool.{cases_lt, cases_eq, eq-eqb, eqb-true, ne_eqb, lt-ltb, le-ltb, ltb-true}
 use Rattle.std.proofs.lemmas.List.Elements.{All-from_get_or, Contains-get_or}
-use Rattle.std.proofs.lemmas.List.Folds.{list_any_none}
+use Rattle.std.proofs.lemmas.List.Folds.{list_any_none, fold-map}
 use Rattle.std.proofs.lemmas.List.Sums.{sum_by-cons, sum_by-append}
 use Rattle.lists.specs.Lists.{has}
 use Rattle.lists.proofs.Ascending.{IsAscending}
@@ -173,9 +173,4 @@ module _ (places : List ℕ) (many : ℕ) (inside : List ℕ) (a : SignedArc) wh
 -- ---- along edges
 
 pub sum_by-map : {X Y : Type 0} (f : Y → ℕ) (g : X → Y) (xs : List X) → sum_by f (map g xs) ≡ sum_by (λ (x : X). f (g x)) xs
-sum_by-map f g [] = refl
-sum_by-map f g (x ∷ xs) =
-    let m = sum_by-cons f (g x) (map g xs) in
-    let n = sum_by-cons (λ (y : _). f (g y)) x xs in
-    let r = sum_by-map f g xs in
-    omega arith
+sum_by-map f g xs = fold-map (λ s y. s + f y) g 0 xs

@@ -1,7 +1,7 @@
 -- Lists that grow at their end.
-use Rattle.std.proofs.Common.{Result, Ok, Err, ◌≡◌, ℕ, ◌+◌, suc, zero, List, [], ◌∷◌, ◌++◌, length, ◌<◌, get_or, take, refl, ap, sym, subst, ◌∙◌, arith}
+use Rattle.std.proofs.Common.{Result, Ok, Err, ◌≡◌, ℕ, ◌+◌, List, [], ◌∷◌, ◌++◌, length, ◌<◌, get_or, take, ap, sym, subst, ◌∙◌}
 use Rattle.std.proofs.lemmas.List.{take_more}
-use Rattle.std.specs.List.{AllZip, range_with_len}
+use Rattle.std.specs.List.{AllZip}
 use Rattle.std.specs.Prelude.{IfOk}
 
 -- what holds of an answer
@@ -20,15 +20,3 @@ pub zipped_next : {A B : Type 0} (R : A → B → Type 0) (xs : List A) (i : ℕ
 zipped_next {A} {B} R xs i x ys y there is h r =
     let more : take (i + 1) xs ≡ take i xs ++ x ∷ [] = take_more xs i x there ∙ ap (λ (z : A). take i xs ++ z ∷ []) (sym is) in
     subst (λ (zs : List A). AllZip R zs (ys ++ y ∷ [])) (sym more) (zipped_on R (take i xs) ys x y h r)
-
-range_pushed : (a n m : ℕ) → m ≡ a + n → range_with_len a (suc n) ≡ range_with_len a n ++ m ∷ []
-range_pushed a zero m e = ap (λ (k : ℕ). k ∷ []) (let f : a ≡ m = omega arith in f)
-range_pushed a (suc n) m e = ap (λ (ks : List ℕ). a ∷ ks) (range_pushed (a + 1) n m (omega arith))
-
-pub range_more : (n : ℕ) → range_with_len 0 (n + 1) ≡ range_with_len 0 n ++ n ∷ []
-range_more n = ap (range_with_len 0) (let e : n + 1 ≡ suc n = omega arith in e) ∙ range_pushed 0 n n (omega arith)
-
--- an empty rest
-pub none_left : {A : Type 0} (xs : List A) → length xs ≡ 0 → xs ≡ []
-none_left [] h = refl
-none_left (x ∷ xs) h = absurd (omega (arith, h))

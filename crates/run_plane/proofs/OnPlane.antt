@@ -5,7 +5,6 @@ use Rattle.std.specs.List.{flat_map, range_with_len}
 use Rattle.std.proofs.lemmas.Bool.{cases_lt}
 use Rattle.std.proofs.lemmas.List.{get_or_past}
 use Rattle.std.proofs.lemmas.List.Elements.{All-append, All-from_get_or, All-get_or, All-head, All-map, All-nil, All-tail, All-weaker, Contains-get_or}
-use Rattle.std.proofs.lemmas.List.FromFn.{get_or-range_with_len, length-range_with_len}
 use Rattle.std.proofs.lemmas.Option.{get_or_from_slice_get}
 use Rattle.lists.specs.Lists.{has}
 use Rattle.lists.proofs.Members.{Contains-nil, filter-Contains}
@@ -16,6 +15,7 @@ use Rattle.face_walk.specs.Holders.{list_at}
 use Rattle.face_walk.specs.Places.{FaceTable, HasArc, IsBuiltOf}
 use Rattle.face_sets.specs.Sets.{IsInnerFace, IsSetOf}
 use Rattle.face_sets.proofs.BoundaryLemmas.{has_Contains}
+use Rattle.face_sets.proofs.GapLemmas.{of_range}
 use Rattle.run_plane.specs.LaidOut.{IsLaidOut, held_faces}
 use Rattle.run_plane.specs.OnPlane.{AreBelow, AreOn, IsOn}
 use Rattle.run_plane.specs.Shapes.{faces_in, shape_at}
@@ -24,12 +24,6 @@ use Rattle.run_plane.specs.declared.layer.Shape.TheVariants as shape
 use Rattle.run_plane.specs.declared.plane.Plane.{Plane}
 
 -- ---- the faces that the features of a drawing hold
-
-below : (n k : ℕ) → Contains (range_with_len 0 n) k → k < n
-below n k (i, l, e) =
-    let c = length-range_with_len 0 n in
-    let at = get_or-range_with_len 0 n i k (omega arith) in
-    omega arith
 
 module _ (s : Drawing) (arcs : List Path) (faces : FaceTable) (boxes features : List (List ℕ)) (laid : IsLaidOut s arcs faces boxes features) where
   -- a face that has a holder isn't the outer one
@@ -45,7 +39,7 @@ module _ (s : Drawing) (arcs : List Path) (faces : FaceTable) (boxes features : 
   held_are_inner n = All-from_get_or (IsInnerFace faces) (held_faces laid.held.labels.holders faces.count n) 0 (λ i l.
       let f = get_or (held_faces laid.held.labels.holders faces.count n) i 0 in
       let (among, holds) = filter-Contains (λ (k : ℕ). has nat_eq (list_at laid.held.labels.holders k) n) (range_with_len 0 faces.count) f (Contains-get_or (held_faces laid.held.labels.holders faces.count n) i 0 l) in
-      let there = below faces.count f among in
+      let there = of_range faces.count f among in
       record { there = there; not_outer = not_outer f n there (has_Contains (list_at laid.held.labels.holders f) n holds) })
 
   -- they are faces of the plane, and the outer one isn't among them

@@ -2,15 +2,11 @@
 use Rattle.std.proofs.Common.{◌≡◌, ◌-◌, ◌+◌, ℕ, ◌<◌, cond, List, [], ◌∷◌, ◌++◌, length, take, drop, get_or, refl, sym, ap, ◌∙◌, arith, append-nil, append_assoc}
 use Rattle.std.specs.Prelude.{reverse, ◌==◌}
 use Rattle.std.specs.List.{flat_map}
-use Rattle.std.proofs.lemmas.List.{take_more, take_all, reverse-append, length-take-le, length-reverse, get_or-reverse}
+use Rattle.std.proofs.lemmas.List.{take_more, take_all, reverse-append, length-take-le, length-reverse, get_or-reverse, flat_map_more}
 use Rattle.lists.specs.Lists.{tail}
 use Rattle.plane_model.specs.Arcs.{SignedArc, points_of}
 use Rattle.plane_model.specs.Points.{GridPoint, Path}
 use Rattle.run_texts.specs.Pictures.{points_along, without_shared}
-
-flat_more : {A B : Type 0} (f : A → List B) (xs : List A) (x : A) → flat_map f (xs ++ x ∷ []) ≡ flat_map f xs ++ f x
-flat_more f [] x = append-nil (f x)
-flat_more f (y ∷ xs) x = ap (λ (zs : List _). f y ++ zs) (flat_more f xs x) ∙ sym (append_assoc (f y) (flat_map f xs) (f x))
 
 after_some : (before way : Path) → 0 < length before → without_shared before way ≡ tail way
 after_some [] way h = absurd (omega (arith, h))
@@ -22,7 +18,7 @@ along_more table [] a points e some =
     append-nil (points_of table a) ∙ ap (λ (ps : Path). ps ++ without_shared ps (points_of table a)) (sym e)
 along_more table (b ∷ later) a points e some =
     let later_points = λ (c : SignedArc). tail (points_of table c) in
-    ap (λ (ps : Path). points_of table b ++ ps) (flat_more later_points later a)
+    ap (λ (ps : Path). points_of table b ++ ps) (sym (flat_map_more later_points [] later a))
     ∙ sym (append_assoc (points_of table b) (flat_map later_points later) (tail (points_of table a)))
     ∙ ap (λ (ps : Path). ps ++ tail (points_of table a)) (sym e)
     ∙ ap (λ (ps : Path). points ++ ps) (sym (after_some points (points_of table a) (some (omega arith))))

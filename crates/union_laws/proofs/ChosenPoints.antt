@@ -12,6 +12,7 @@ use Rattle.plane_model.specs.Sees.{IsOffLinks}
 use Rattle.plane_model.specs.Snapped.{links_of}
 use Rattle.plane_faces.specs.Places.{Place, IsPlaceOf}
 use Rattle.face_sets.specs.Owners.{owners_of}
+use Rattle.face_sets.proofs.GapLemmas.{in_range}
 use Rattle.union_ops.specs.Choices.{choice_of, first_with, has_number}
 use Rattle.region_model.specs.Region.{Region, any_of, regions_of, Has, SomeHas}
 use Rattle.region_model.specs.PolygonCommands.{all_of}
@@ -19,7 +20,7 @@ use Rattle.region_model.specs.UnionCommand.{Choice, choices, choices_in, chosen_
 use Rattle.region_laws.specs.Answered.{FollowInOrder}
 use Rattle.region_laws.proofs.Mosaics.{each_has, has_each}
 use Rattle.region_ops.proofs.OwnerSets.{in_owners, of_owners}
-use Rattle.region_laws.proofs.Numbers.{in_range, owners_rise}
+use Rattle.region_laws.proofs.Numbers.{owners_rise}
 
 module _ (d : Drawing) (arcs : List Path) (z : RationalPoint) where
   -- ---- in one layer

@@ -8,7 +8,7 @@ use Rattle.std.specs.Cmp.{IsTotalOrder, unsigned_Decides, unsigned_ties}
 use Rattle.std.specs.Cmp.Lexicographic.{slice_cmp, pointwise_decides, lists_ties}
 use Rattle.std.proofs.lemmas.Cmp.{nat_cmp_total, lists_total}
 use Rattle.lists.proofs.Ascending.{IsStrictOrder}
-use Rattle.face_groups.proofs.Orders.{strict_order}
+use Rattle.face_sets.proofs.Orders.{strict_order}
 use Rattle.union_ops.specs.Choices.{Choice, same_choice, number_order, choice_before}
 
 -- ---- numbers, and none after them

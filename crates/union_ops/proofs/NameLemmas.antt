@@ -3,7 +3,7 @@ use Rattle.std.proofs.Common.{◌≡◌, refl, sym, ap, ◌∙◌, subst, inl, i
 use Rattle.std.specs.List.{position_or_len}
 use Rattle.std.specs.Str.{bytes_eq}
 use Rattle.std.specs.Cmp.Lexicographic.{bytes_decides}
-use Rattle.std.proofs.lemmas.Bool.{cases_lt, cases_eq, not-true, not-false}
+use Rattle.std.proofs.lemmas.Bool.{cases_lt, cases_eq, not-true, not-false, or_right}
 use Rattle.std.proofs.lemmas.List.{length_push, get_or_append_left, get_or_push, get_or-set_same, get_or-set_other, take-append-le, take_all}
 use Rattle.std.proofs.lemmas.List.Elements.{All-from_get_or}
 use Rattle.std.proofs.lemmas.List.Folds.{list_any-append, list_any_at, list_any_none}
@@ -16,13 +16,9 @@ use Rattle.union_ops.specs.ColumnNames.{numbered, IsNewName, AreNewNames, AreTri
 pub kept : (names : List Text) (x name : Text) → has_name names name ≡ true → has_name (names ++ x ∷ []) name ≡ true
 kept names x name e = list_any-append (bytes_eq name) names (x ∷ []) ∙ ap (λ (b : Bool). b || has_name (x ∷ []) name) e
 
-or_true : (b : Bool) → (b || true) ≡ true
-or_true true = refl
-or_true false = refl
-
 there : (names : List Text) (x : Text) → has_name (names ++ x ∷ []) x ≡ true
 there names x =
-    list_any-append (bytes_eq x) names (x ∷ []) ∙ ap (λ (b : Bool). has_name names x || (b || false)) ((bytes_decides x x).1 refl) ∙ or_true (has_name names x)
+    list_any-append (bytes_eq x) names (x ∷ []) ∙ ap (λ (b : Bool). has_name names x || (b || false)) ((bytes_decides x x).1 refl) ∙ or_right (has_name names x) true refl
 
 -- ---- where a name is found
 

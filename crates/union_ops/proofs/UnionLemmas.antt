@@ -7,10 +7,11 @@ use Rattle.std.proofs.lemmas.List.Kept.{AllPairs-cons}
 use Rattle.lists.proofs.Members.{Contains-filter, filter-Contains, Contains-later, Contains-head, Contains-map, Contains-flat_map}
 use Rattle.face_walk.specs.Places.{FaceTable}
 use Rattle.face_sets.specs.Sets.{IsInnerFace, IsSetOf}
+use Rattle.face_sets.proofs.GapLemmas.{in_range}
 use Rattle.face_groups.specs.Groups.{AreGroupsOf, IsKeyed}
 use Rattle.face_groups.specs.Pieces.{AreKeyPieces}
 use Rattle.face_groups.specs.declared.pieces.Piece.{Piece}
-use Rattle.face_groups.proofs.Groups.{AreKeyGroups, each_item, groups_made, in_range, key_groups, part_inside}
+use Rattle.face_groups.proofs.Groups.{AreKeyGroups, each_item, groups_made, key_groups, part_inside}
 use Rattle.union_ops.specs.declared.union_lists.UnionItem.{UnionItem}
 use Rattle.union_ops.specs.Choices.{Choice, choice_of, has_number, same_choice, choice_before, IsChoiceFrom, AreChoices}
 use Rattle.union_ops.specs.Union.{faces_of, Group, item_of, items_of, items_of_groups, AreAscending, IsUnion, AreApart, IsHeld, CoverOnce, IsItemOf, choice_at, chosen_before, is_chosen}

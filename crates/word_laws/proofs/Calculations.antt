@@ -1,7 +1,7 @@
 -- Items of columns to be calculated: what is read by cuts is what the grammar has.
 use Rattle.std.proofs.Common.{◌≡◌, ℕ, suc, ◌+◌, ◌<◌, Bool, true, false, not, ◌&&◌, cond, eqb, ltb, [], ◌∷◌, ◌++◌, length, take, drop, get_or, codes, Option, Some, None, option_map, option_and_then, bytes_eq, refl, ap, ap₂, sym, ◌∙◌, subst, arith, append_assoc, add-one, drop-cons, length-append, ◌↔◌, reverse}
 use Rattle.std.specs.List.{list_all, position_or_len}
-use Rattle.std.proofs.lemmas.Bool.{eqb-true}
+use Rattle.std.proofs.lemmas.Bool.{eqb-true, and_parts, not-true}
 use Rattle.std.proofs.lemmas.Bool.Decides.{nat_tests}
 use Rattle.std.proofs.lemmas.List.{append-nil, take-append-drop, take_at, drop_at, reverse-append, reverse-reverse}
 use Rattle.std.proofs.lemmas.List.Folds.{list_all-append}
@@ -14,7 +14,7 @@ use Rattle.join_terms.specs.declared.calculations.Calc.TheVariants as calc
 use Rattle.cmd_words.specs.Texts.{split_at, is_empty}
 use Rattle.cmd_words.specs.Calculations.{is_name, after_white, trimmed, enclosed, call_of, calculated, calculation_of}
 use Rattle.word_laws.specs.Calculations.{Spaced, item, IsCalculation, counts, sums}
-use Rattle.word_laws.proofs.Tests.{same_bytes, left_true, right_true, not_true}
+use Rattle.word_laws.proofs.Tests.{same_bytes}
 
 -- ## Cuts at a byte
 
@@ -29,8 +29,8 @@ place_at k [] y e =
     let here : eqb k k ≡ true = grind (arith, nat_tests) in
     rw here refl
 place_at k (b ∷ x) y e =
-    let here : eqb b k ≡ false = not_true (eqb b k) (left_true _ _ e) in
-    let later : place k (x ++ k ∷ y) ≡ length x = place_at k x y (right_true _ _ e) in
+    let here : eqb b k ≡ false = not-true (eqb b k) (and_parts _ _ e).0 in
+    let later : place k (x ++ k ∷ y) ≡ length x = place_at k x y (and_parts _ _ e).1 in
     rw here (omega (arith, later))
 
 cut_at : (k : ℕ) (x y : Text) → lacks k x ≡ true → split_at k (x ++ k ∷ y) ≡ Some (x, y)
@@ -68,7 +68,7 @@ drop_step test b bs false e = rw (e, drop_while)
 
 over_white : (a x : Text) → list_all is_white a ≡ true → after_white (a ++ x) ≡ after_white x
 over_white [] x e = refl
-over_white (b ∷ a) x e = drop_step is_white b (a ++ x) true (left_true _ _ e) ∙ over_white a x (right_true _ _ e)
+over_white (b ∷ a) x e = drop_step is_white b (a ++ x) true (and_parts _ _ e).0 ∙ over_white a x (and_parts _ _ e).1
 
 -- no white space
 abbrev solid : Text → Bool
@@ -76,17 +76,17 @@ solid s = list_all (λ b. not (is_white b)) s
 
 stays : (x y : Text) → solid x ≡ true → (b : ℕ) (z : Text) → x ≡ b ∷ z → after_white (x ++ y) ≡ x ++ y
 stays [] y e b z h = absurd (cc)
-stays (c ∷ x) y e b z h = drop_step is_white c (x ++ y) false (not_true (is_white c) (left_true _ _ e))
+stays (c ∷ x) y e b z h = drop_step is_white c (x ++ y) false (not-true (is_white c) (and_parts _ _ e).0)
 
 whole_stays : (x : Text) → solid x ≡ true → after_white x ≡ x
 whole_stays [] e = refl
-whole_stays (b ∷ x) e = drop_step is_white b x false (not_true (is_white b) (left_true _ _ e))
+whole_stays (b ∷ x) e = drop_step is_white b x false (not-true (is_white b) (and_parts _ _ e).0)
 
 all_reversed : (p : ℕ → Bool) (s : Text) → list_all p s ≡ true → list_all p (reverse s) ≡ true
 all_reversed p [] e = refl
 all_reversed p (b ∷ s) e =
-    let here : p b ≡ true = left_true _ _ e in
-    let later : list_all p (reverse s) ≡ true = all_reversed p s (right_true _ _ e) in
+    let here : p b ≡ true = (and_parts _ _ e).0 in
+    let later : list_all p (reverse s) ≡ true = all_reversed p s (and_parts _ _ e).1 in
     ap (list_all p) (reverse-append (b ∷ []) s) ∙ list_all-append p (reverse s) (b ∷ []) ∙ rw (later, here) refl
 
 trimmed_is : (word s : Text) → solid word ≡ true → Spaced word s → trimmed s ≡ word
@@ -131,8 +131,8 @@ spaced_as word s e = subst (λ (w : Text). Spaced w s) e (spaced s)
 all_imply : (p q : ℕ → Bool) → ((b : ℕ) → p b ≡ true → q b ≡ true) → (s : Text) → list_all p s ≡ true → list_all q s ≡ true
 all_imply p q f [] e = refl
 all_imply p q f (b ∷ s) e =
-    let here : q b ≡ true = f b (left_true _ _ e) in
-    let later : list_all q s ≡ true = all_imply p q f s (right_true _ _ e) in
+    let here : q b ≡ true = f b (and_parts _ _ e).0 in
+    let later : list_all q s ≡ true = all_imply p q f s (and_parts _ _ e).1 in
     rw (here, later) refl
 
 differs : (p : ℕ → Bool) (k : ℕ) → p k ≡ false → (b : ℕ) → p b ≡ true → eqb b k ≡ false
@@ -159,9 +159,9 @@ no_white b e =
 name_bytes : (s : Text) → is_name s ≡ true → list_all is_name_byte s ≡ true
 name_bytes [] e = absurd (cc)
 name_bytes (b ∷ s) e =
-    let letters : (is_name_start b && list_all is_name_byte s) ≡ true = left_true _ _ e in
-    let first : is_name_start b ≡ true = left_true _ _ letters in
-    let others : list_all is_name_byte s ≡ true = right_true _ _ letters in
+    let letters : (is_name_start b && list_all is_name_byte s) ≡ true = (and_parts _ _ e).0 in
+    let first : is_name_start b ≡ true = (and_parts _ _ letters).0 in
+    let others : list_all is_name_byte s ≡ true = (and_parts _ _ letters).1 in
     rw (first, others) refl
 
 solid_word : (s : Text) → list_all is_name_byte s ≡ true → solid s ≡ true
@@ -269,10 +269,10 @@ module _ (s : Text) (c : Calc) where
   by_function a q cut call false y z e f g k = absurd (cc)
   by_function a q cut call true true z e f g k =
       let same : calc.Count (trimmed a.0) ≡ c = cc in
-      counted_from a q cut call e (same_bytes q.0 (codes "count") (left_true _ _ f)) (empty_is q.1 (right_true _ _ f)) same
+      counted_from a q cut call e (same_bytes q.0 (codes "count") (and_parts _ _ f).0) (empty_is q.1 (and_parts _ _ f).1) same
   by_function a q cut call true false true e f g k =
       let same : calc.Sum (trimmed a.0) q.1 ≡ c = cc in
-      summed_from a q cut call e (same_bytes q.0 (codes "sum") (left_true _ _ g)) (right_true _ _ g) same
+      summed_from a q cut call e (same_bytes q.0 (codes "sum") (and_parts _ _ g).0) (and_parts _ _ g).1 same
   by_function a q cut call true false false e f g k = absurd (cc)
 
   to_grammar : calculation_of s ≡ Some c → IsCalculation s c

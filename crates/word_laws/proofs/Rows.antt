@@ -3,6 +3,7 @@ use Rattle.std.proofs.Common.{◌≡◌, ℕ, ◌+◌, Bool, true, false, not, �
 use Rattle.std.specs.Option.{unwrap_or}
 use Rattle.std.specs.List.{list_all}
 use Rattle.std.proofs.lemmas.Option.{unwrap_or-slice_get}
+use Rattle.std.proofs.lemmas.Bool.{and_parts, not-true}
 use Rattle.grid_base.specs.declared.kinds.OverlapRule.{OverlapRule}
 use Rattle.grid_base.specs.declared.kinds.OverlapRule.TheVariants.{MaxArea}
 use Rattle.table_terms.specs.Names.{Text}
@@ -32,7 +33,7 @@ use Rattle.cmd_words.specs.Chains as chains
 use Rattle.word_model.specs.CommandTable.{Said, ValueForm, ArgumentForm, nothing, files, source, list, expression, assignments, renames, text, Line, CommandLine, value_in, has_option, has_bare, has_argument, argument_in, argument_text, list_or_empty, group_spec, join_spec, calc_spec, calculations_in, form_in, count_in, doubled_in, each_layer, joins, needs_source, import_line, command_lines}
 use Rattle.word_model.specs.CommandTable as table
 use Rattle.word_model.specs.Words.{is_source, origin_of}
-use Rattle.word_laws.proofs.Tests.{same_bytes, left_true, right_true, not_true}
+use Rattle.word_laws.proofs.Tests.{same_bytes}
 use Rattle.word_laws.proofs.Shown.{Word, argument_as, value_as}
 use Rattle.word_laws.proofs.Forms.{form_as}
 use Rattle.word_laws.proofs.Groups.{renames_seen, test_of, assigns_of, group_of, value_same, bare_same, first_same}
@@ -62,24 +63,24 @@ all_fit l = list_all (fits_name l.argument) l.options
 fits_placed : (form : ArgumentForm) (o : Text × ValueForm) → fits_name form o ≡ true → Placed form o.1 o.0
 unfolding fits_name
 fits_placed form o e =
-    let others = right_true (agree (is_box o.1) (bytes_eq o.0 (codes "bbox"))) _ e in
-    let rest = right_true (agree (is_calculated o.1) (bytes_eq o.0 (codes "calc"))) _ others in
+    let others = (and_parts (agree (is_box o.1) (bytes_eq o.0 (codes "bbox"))) _ e).1 in
+    let rest = (and_parts (agree (is_calculated o.1) (bytes_eq o.0 (codes "calc"))) _ others).1 in
     record {
-      box = agree_same _ _ (left_true _ _ e);
-      calculated = agree_same _ _ (left_true _ _ others);
-      test = agree_same _ _ (left_true _ _ rest);
-      one_test = not_true _ (right_true _ _ rest);
+      box = agree_same _ _ (and_parts _ _ e).0;
+      calculated = agree_same _ _ (and_parts _ _ others).0;
+      test = agree_same _ _ (and_parts _ _ rest).0;
+      one_test = not-true _ (and_parts _ _ rest).1;
     }
 
 placed_among : (form : ArgumentForm) (os : List (Text × ValueForm)) → list_all (fits_name form) os ≡ true → (name : Text) (f : ValueForm) → option_map (λ (o : Text × ValueForm). o.1) (find (λ (o : Text × ValueForm). bytes_eq o.0 name) os) ≡ Some f → Placed form f name
 placed_among form [] e name f s = absurd (cc)
-placed_among form (o ∷ os) e name f s = choose (bytes_eq o.0 name) refl s (placed_among form os (right_true (fits_name form o) (list_all (fits_name form) os) e) name f)
+placed_among form (o ∷ os) e name f s = choose (bytes_eq o.0 name) refl s (placed_among form os (and_parts (fits_name form o) (list_all (fits_name form) os) e).1 name f)
   where
     choose : (b : Bool) → bytes_eq o.0 name ≡ b → option_map (λ (o : Text × ValueForm). o.1) (cond b (Some o) (find (λ (o : Text × ValueForm). bytes_eq o.0 name) os)) ≡ Some f
         → (option_map (λ (o : Text × ValueForm). o.1) (find (λ (o : Text × ValueForm). bytes_eq o.0 name) os) ≡ Some f → Placed form f name) → Placed form f name
     choose true t s' later =
         let form_is : o.1 ≡ f = cc in
-        let here : Placed form o.1 o.0 = fits_placed form o (left_true (fits_name form o) (list_all (fits_name form) os) e) in
+        let here : Placed form o.1 o.0 = fits_placed form o (and_parts (fits_name form o) (list_all (fits_name form) os) e).0 in
         subst (λ (v : ValueForm). Placed form v name) form_is (subst (λ (n : Text). Placed form o.1 n) (same_bytes o.0 name t) here)
     choose false t s' later = later s'
 

@@ -1,11 +1,7 @@
-use Rattle.std.proofs.Common.{◌≡◌, ◌∙◌, refl, sym, ap, arith, Bool, true, false, not, nat_eq}
-use Rattle.std.proofs.lemmas.Bool.{eq-eqb, eqb-true}
+use Rattle.std.proofs.Common.{◌≡◌, ◌∙◌, sym, ap, arith, true, false, not, nat_eq}
+use Rattle.std.proofs.lemmas.Bool.{eq-eqb, eqb-true, not-false}
 use Rattle.face_sets.proofs.PartLemmas.{begins_after, goes_on_after}
 use Rattle.face_sets.proofs.part_sets.begins_part.Goals as goal
-
-not_false : (t : Bool) → not t ≡ false → t ≡ true
-not_false true e = refl
-not_false false e = absurd (let h : true ≡ false = e in cc)
 
 pub returns-else-i-eq0-clause-begins : goal.returns-else-i-eq0-clause-begins
 returns-else-i-eq0-clause-begins c = λ e.
@@ -16,4 +12,4 @@ pub returns-else-i-eq0-clause-goes_on : goal.returns-else-i-eq0-clause-goes_on
 returns-else-i-eq0-clause-goes_on c = λ e.
     let no = c.if-i-eq0.false in
     goes_on_after c.args.numbered.now c.args.i c.part_at.result c.part_at-else-i-eq0.result (omega arith) c.requires.place c.part_at.ensures.exact c.part_at-else-i-eq0.ensures.exact
-    (eqb-true c.part_at.result c.part_at-else-i-eq0.result (not_false (nat_eq c.part_at.result c.part_at-else-i-eq0.result) e))
+    (eqb-true c.part_at.result c.part_at-else-i-eq0.result (not-false (nat_eq c.part_at.result c.part_at-else-i-eq0.result) e))

@@ -1,11 +1,7 @@
-use Rattle.std.proofs.Common.{◌≡◌, inl, refl, sym, ap, ◌∙◌, arith, Bool, true, false, not, nat_eq}
-use Rattle.std.proofs.lemmas.Bool.{eq-eqb, eqb-true}
+use Rattle.std.proofs.Common.{◌≡◌, inl, sym, ap, ◌∙◌, arith, true, false, not, nat_eq}
+use Rattle.std.proofs.lemmas.Bool.{eq-eqb, eqb-true, not-false}
 use Rattle.ring_trace.proofs.GatherLemmas.{part_begins, part_stays}
 use Rattle.ring_trace.proofs.tracing.begins_part.Goals as goal
-
-not_false : (t : Bool) → not t ≡ false → t ≡ true
-not_false true e = refl
-not_false false e = absurd (let h : true ≡ false = e in cc)
 
 pub returns-then-i-gt0-clause-begins : goal.returns-then-i-gt0-clause-begins
 returns-then-i-gt0-clause-begins c = λ e.
@@ -15,7 +11,7 @@ returns-then-i-gt0-clause-begins c = λ e.
 pub returns-then-i-gt0-clause-stays : goal.returns-then-i-gt0-clause-stays
 returns-then-i-gt0-clause-stays c = λ e.
     part_stays c.args.keys.now c.args.i c.part_at.result c.part_at-then-i-gt0.result c.if-i-gt0.true c.requires.place c.part_at.ensures.exact c.part_at-then-i-gt0.ensures.exact
-    (eqb-true c.part_at.result c.part_at-then-i-gt0.result (not_false (nat_eq c.part_at.result c.part_at-then-i-gt0.result) e))
+    (eqb-true c.part_at.result c.part_at-then-i-gt0.result (not-false (nat_eq c.part_at.result c.part_at-then-i-gt0.result) e))
 
 pub returns-else-i-gt0-clause-stays : goal.returns-else-i-gt0-clause-stays
 returns-else-i-gt0-clause-stays c = λ e d. let no = c.if-i-gt0.false in inl (omega arith)

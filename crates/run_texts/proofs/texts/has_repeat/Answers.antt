@@ -1,4 +1,5 @@
-use Rattle.std.proofs.Common.{◌≡◌, ◌+◌, ◌++◌, ◌∷◌, [], Bool, List, ap, arith, false, map, not, refl, string_bytes, sym, take, true, true≢false, ◌∙◌, ℕ}
+use Rattle.std.proofs.Common.{◌≡◌, ◌+◌, ◌++◌, ◌∷◌, [], List, ap, arith, false, map, string_bytes, sym, take, true, ◌∙◌, ℕ}
+use Rattle.std.proofs.lemmas.Bool.{not-false, not-true}
 use Rattle.table_terms.specs.Names.{has_name}
 use Rattle.run_state.specs.Targets.{is_selected}
 use Rattle.run_state.proofs.TargetLemmas.{other_next}
@@ -6,14 +7,6 @@ use Rattle.run_texts.specs.Written.{has_name_twice, names_of_layers}
 use Rattle.run_texts.proofs.LayerNames.{name_differs, name_repeats, names_next, target_names}
 use Rattle.run_texts.proofs.texts.has_repeat.Goals.{else-is_selected-via-then-is_selected+in_ok-add_name+else-not-branch, else-is_selected-via-else-is_selected}
 use Rattle.run_texts.proofs.texts.has_repeat.Goals as goal
-
-there : (a b : Bool) → a ≡ not b → a ≡ false → b ≡ true
-there a true e f = refl
-there a false e f = absurd (true≢false (sym e ∙ f))
-
-missing : (a b : Bool) → a ≡ not b → a ≡ true → b ≡ false
-missing a true e f = absurd (true≢false (sym f ∙ e))
-missing a false e f = refl
 
 pub returns-then-not-branch : goal.returns-then-not-branch
 returns-then-not-branch c =
@@ -26,7 +19,7 @@ returns-then-not-branch c =
     let before : map string_bytes c.loop-held.seen.keys ≡ target_names t (take i all) = c.loop-held.invariant.seen in
     let selected : is_selected t held ≡ true = cc in
     let is_new : c.in_ok-add_name.field-0 ≡ false = grind (arith, c.if-not-branch.true) in
-    let seen : has_name (map string_bytes c.loop-held.seen.keys) text ≡ true = there c.in_ok-add_name.field-0 (has_name (map string_bytes c.loop-held.seen.keys) text) c.in_ok-add_name.ensures.new is_new in
+    let seen : has_name (map string_bytes c.loop-held.seen.keys) text ≡ true = not-false (has_name (map string_bytes c.loop-held.seen.keys) text) (sym c.in_ok-add_name.ensures.new ∙ is_new) in
     let same : has_name (map string_bytes c.loop-held.seen.keys) text ≡ has_name (target_names t (take i all)) held.layer.name = λ j. has_name (before j) (lent j) in
     record { exact = sym (name_repeats t all i held c.loop-held-test.true c.held-item.is selected (sym same ∙ seen)) }
 
@@ -43,7 +36,7 @@ loop-held-preserved c =
           let lent : text ≡ held.layer.name = w.as_str.ensures.lent in
           let selected : is_selected t held ≡ true = cc in
           let is_new : w.in_ok-add_name.field-0 ≡ true = grind (arith, w.if-not-branch.false) in
-          let fresh : has_name (map string_bytes c.loop-held.seen.keys) text ≡ false = missing w.in_ok-add_name.field-0 (has_name (map string_bytes c.loop-held.seen.keys) text) w.in_ok-add_name.ensures.new is_new in
+          let fresh : has_name (map string_bytes c.loop-held.seen.keys) text ≡ false = not-true (has_name (map string_bytes c.loop-held.seen.keys) text) (sym w.in_ok-add_name.ensures.new ∙ is_new) in
           let same : has_name (map string_bytes c.loop-held.seen.keys) text ≡ has_name (target_names t (take i all)) held.layer.name = λ j. has_name (before j) (lent j) in
           let more : map string_bytes c.loop-held.seen.keys ++ text ∷ [] ≡ target_names t (take i all) ++ held.layer.name ∷ [] = λ j. before j ++ lent j ∷ [] in
           rw w.seen-is (record {
