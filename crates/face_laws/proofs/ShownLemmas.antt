@@ -72,7 +72,7 @@ faces_of_a_drawing d arcs long along whole faces built u v f g shows_f shows_g =
 -- ---- no number is left out
 
 -- a place is the outside, or left of an arc, or right of one
-halves : (k : ℕ) → (k ≡ 0) ⊎ ((n : ℕ) × ((k ≡ 2 * n + 1) ⊎ (k ≡ 2 * n + 2)))
+pub halves : (k : ℕ) → (k ≡ 0) ⊎ ((n : ℕ) × ((k ≡ 2 * n + 1) ⊎ (k ≡ 2 * n + 2)))
 halves zero = inl refl
 halves (suc zero) = inr (0, inl refl)
 halves (suc (suc k)) = elim (halves k) [

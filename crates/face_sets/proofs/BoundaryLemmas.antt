@@ -5,17 +5,17 @@ use Rattle.std.specs.List.Sorted.{IsStrictlyIncreasing}
 use Rattle.std.proofs.lemmas.Bool.{cases_lt, eq-eqb, eqb-true, not-true, not_from_false, false_from_ne_true}
 use Rattle.std.proofs.lemmas.List.{get_or_default, map-append}
 use Rattle.std.proofs.lemmas.Option.{get_or_from_slice_get}
-use Rattle.std.proofs.lemmas.List.Elements.{Contains-append_left, Contains-append_right, Contains-append_cases, filter_more, filter_passes, All-weaker}
+use Rattle.std.proofs.lemmas.List.Elements.{Contains-append_left, Contains-append_right, Contains-append_cases, filter_more, filter_passes, All-weaker, All-contains}
 use Rattle.std.proofs.lemmas.List.Folds.{list_any_at, Any-from_list_any}
 use Rattle.std.proofs.lemmas.List.Kept.{AllPairs-from_increasing}
 use Rattle.lists.specs.Lists.{has}
-use Rattle.lists.proofs.Members.{Contains-nil, Contains-cases, Contains-filter, filter-Contains, Contains-map, map-Contains}
+use Rattle.lists.proofs.Members.{Contains-nil, Contains-filter, filter-Contains, Contains-map, map-Contains}
 use Rattle.plane_model.specs.Points.{Path}
-use Rattle.plane_model.specs.Arcs.{SignedArc, forward, backward}
+use Rattle.plane_model.specs.Arcs.{SignedArc}
 use Rattle.face_walk.specs.Places.{FaceTable, HasArc, IsBuiltOf, place_of, face_left_of, has_left, signed_below, arcs_with_left}
 use Rattle.face_sets.specs.declared.joined_faces.Side.{Side}
 use Rattle.face_sets.specs.Boundary.{other_way, face_right_of, is_outward, IsOnBoundary, outward_at, side_at, sides_from, sides_of}
-use Rattle.arc_table.proofs.SignedArcs.{Contains-signed_below}
+use Rattle.arc_table.proofs.SignedArcs.{Contains-signed_below, all_below}
 
 -- ---- signed arcs
 
@@ -40,17 +40,7 @@ same_or_other a b e = go a.is_reversed b.is_reversed refl refl
     go false true f g = inr (is (other_way b) e (f ∙ sym (ap not g)))
 
 pub below_arc : (n : ℕ) (a : SignedArc) → Contains (signed_below n) a → a.arc < n
-below_arc zero a c = Contains-nil a c
-below_arc (suc n) a c = elim (Contains-append_cases (signed_below n) (forward n ∷ backward n ∷ []) a c) [
-  | inl d ↦ (let h = below_arc n a d in omega arith)
-  | inr d ↦ elim (Contains-cases (forward n) (backward n ∷ []) a d) [
-    | inl e ↦ (let f : n ≡ a.arc = ap (λ (x : SignedArc). x.arc) e in omega arith)
-    | inr r ↦ elim (Contains-cases (backward n) [] a r) [
-      | inl e ↦ (let f : n ≡ a.arc = ap (λ (x : SignedArc). x.arc) e in omega arith)
-      | inr s ↦ Contains-nil a s
-    ]
-  ]
-]
+below_arc n a c = All-contains (λ (b : SignedArc). b.arc < n) (signed_below n) a (all_below n n (omega arith)) c
 
 -- ---- places of faces
 

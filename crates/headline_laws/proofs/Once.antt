@@ -5,6 +5,7 @@ use Rattle.std.proofs.lemmas.Bool.{or_parts, or_from}
 use Rattle.std.proofs.lemmas.List.{append-nil}
 use Rattle.std.proofs.lemmas.List.Folds.{list_any-append}
 use Rattle.word_laws.proofs.Tests.{first_is_none, second_is_none, refused_none}
+use Rattle.word_laws.proofs.Laws.{standard_of_import}
 use Rattle.table_terms.specs.Names.{Text}
 use Rattle.table_terms.specs.Refusals.{on_ok}
 use Rattle.cmd_words.specs.declared.fault.WordWhy.{WordWhy}
@@ -90,12 +91,6 @@ nothing_read taken form = record { one = tt; none = λ t. refl }
 
 -- ## The import
 
-import_standard : (all said : Said) → standard_among (flat_map (import_source all) said) ≡ list_any (is_standard_item files) said
-import_standard all [] = refl
-import_standard all (argument s ∷ said) = ap (λ (b : Bool). is_standard s || b) (import_standard all said)
-import_standard all (option n v ∷ said) = import_standard all said
-import_standard all (bare w ∷ said) = import_standard all said
-
 import_once : (all said : Said) → HasAtMostOne (is_standard_item files) said → IsReadOnce (flat_map (import_source all) said)
 import_once all [] h = tt
 import_once all (option n v ∷ said) h = import_once all said h
@@ -103,7 +98,7 @@ import_once all (bare w ∷ said) h = import_once all said h
 import_once all (argument s ∷ said) h = go (is_standard s) h (import_once all said)
   where
     go : (b : Bool) → MatchBool b (list_any (is_standard_item files) said ≡ false) (HasAtMostOne (is_standard_item files) said) → (HasAtMostOne (is_standard_item files) said → IsReadOnce (flat_map (import_source all) said)) → MatchBool b (standard_among (flat_map (import_source all) said) ≡ false) (IsReadOnce (flat_map (import_source all) said))
-    go true none later = import_standard all said ∙ none
+    go true none later = sym (standard_of_import all said) ∙ none
     go false one later = later one
 
 -- ## Commands

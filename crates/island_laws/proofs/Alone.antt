@@ -21,7 +21,7 @@ use Rattle.plane_faces.proofs.Order.{before_not_back}
 use Rattle.face_walk.specs.Places.{FaceTable, arcs_with_left, face_left_of, has_left, signed_below}
 use Rattle.face_sets.specs.Boundary.{face_right_of, is_outward, other_way, outward_at}
 use Rattle.face_sets.specs.Owners.{owners_of}
-use Rattle.face_sets.proofs.BoundaryLemmas.{Contains_has, arc_below, back_again, below_arc, has_Contains, outward_from, outward_if, same_or_other}
+use Rattle.face_sets.proofs.BoundaryLemmas.{Contains_has, back_again, below_arc, has_Contains, outward_from, outward_if, same_or_other}
 use Rattle.face_sets.proofs.OwnerLemmas.{numbers_alike}
 use Rattle.part_laws.proofs.LinkLemmas.{GoesAlong, arc_of_link, link_of_arc}
 use Rattle.calc_ops.specs.Islands as sets
@@ -36,6 +36,7 @@ use Rattle.region_laws.specs.Followed.{IsWalked}
 use Rattle.region_laws.specs.Answered.{TellSides, plane_with}
 use Rattle.region_laws.proofs.SideTests.{left_same, right_same}
 use Rattle.region_laws.proofs.Walked.{links_arranged}
+use Rattle.arc_table.proofs.SignedArcs.{Contains-signed_below}
 
 -- ---- lists
 
@@ -86,7 +87,7 @@ in_border arcs faces set a is =
     let f : ℕ = face_left_of faces.places a in
     Contains-flat_map (outward_at faces.places (length arcs) set) set f a is.left
     (Contains-filter (is_outward faces.places set) (arcs_with_left faces.places (length arcs) f) a
-    (Contains-filter (has_left faces.places f) (signed_below (length arcs)) a (arc_below (length arcs) a is.there) (eq-eqb f f refl))
+    (Contains-filter (has_left faces.places f) (signed_below (length arcs)) a (Contains-signed_below (length arcs) a is.there) (eq-eqb f f refl))
     (outward_if faces.places set a is.right))
 
 module _ (d : Drawing) (arcs : List Path) (faces : FaceTable) (label : Place → ℕ) (walked : IsWalked d arcs faces label) (A : Answers) where

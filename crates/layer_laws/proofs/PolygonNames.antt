@@ -15,7 +15,7 @@ use Rattle.lists.proofs.Members.{map-Contains}
 use Rattle.table_terms.specs.Names.{Text, has_name}
 use Rattle.union_ops.specs.ColumnNames.{AreNewNames, IsNewName, IsNumbered, numbered}
 use Rattle.chain_model.specs.UnionTable.{free_number, new_name, with_new_names}
-use Rattle.face_laws.proofs.FeatureLemmas.{any_there}
+use Rattle.face_laws.proofs.HolderLemmas.{any_there}
 use Rattle.face_sets.proofs.GapLemmas.{of_range}
 
 -- ---- the first number of a range that passes

@@ -1,11 +1,12 @@
 -- The arcs between regions that sets of faces stand for.
-use Rattle.std.proofs.Common.{◌≡◌, ◌↔◌, sym, ap, ◌∙◌, subst, arith, ℕ, ◌<◌, Bool, true, false, nat_eq, Some, List, [], length, get_or, All, Contains}
+use Rattle.std.proofs.Common.{◌≡◌, ◌↔◌, sym, ap, ◌∙◌, subst, arith, ℕ, ◌<◌, Bool, true, false, nat_eq, Some, List, [], length, get_or, All, Contains, nat_lt}
 use Rattle.std.specs.Prelude.{slice_get}
 use Rattle.std.specs.List.{list_any}
 use Rattle.std.proofs.lemmas.List.Elements.{All-get_or}
 use Rattle.std.proofs.lemmas.Option.{get_or_from_slice_get, slice_get-get_or, slice_get_within}
 use Rattle.lists.specs.Lists.{has, joined_up}
 use Rattle.lists.proofs.Members.{Contains-joined_up}
+use Rattle.lists.proofs.Ascending.{one_ascending}
 use Rattle.plane_model.specs.Points.{RationalPoint, Segment, Path}
 use Rattle.plane_model.specs.Arcs.{SignedArc, forward, backward}
 use Rattle.plane_model.specs.Drawing.{Drawing, Polygon}
@@ -32,6 +33,7 @@ use Rattle.face_laws.proofs.LabelLemmas.{each_table_has_labels}
 use Rattle.face_laws.proofs.SideLemmas.{dart_there, features_beside_arcs}
 use Rattle.face_sets.specs.Owners.{owners_of}
 use Rattle.face_sets.proofs.BoundaryLemmas.{has_Contains, Contains_has}
+use Rattle.face_sets.proofs.SetLemmas.{nat_order, to_ascending}
 use Rattle.line_ops.specs.Inside as sides
 use Rattle.line_ops.specs.Sided.{left_sets, right_sets, sided_among}
 use Rattle.line_ops.proofs.SideLemmas.{among_below}
@@ -39,7 +41,6 @@ use Rattle.point_laws.specs.Sight.{PointsOf}
 use Rattle.line_laws.specs.Lines.{LeftSideIn}
 use Rattle.line_laws.specs.ArcsBetween.{AreAtSide, AreFacesHeld, AreBetween, IsSidedBy, PointsOfFeature, PointsOfSet, SetsStandFor, SetsStandForPoints, SetsStandForFeatures, ArcsBetweenSets, ArcsBetweenFeatures}
 use Rattle.line_laws.proofs.LinkSides.{side_is_seen, sides_of_arcs}
-use Rattle.line_laws.proofs.RisingLists.{one_rising_list}
 use Rattle.line_laws.proofs.SidedRows.{inner_once, is_sided, sided_once}
 
 -- ---- the owners of a face
@@ -168,8 +169,8 @@ arcs_between S R arcs faces sets stand = record {
   by_sides = λ n l j e there left right at_left at_right.
       (let (of_left, of_right) = stand n l j e there in
       let x : Dart = get_or (darts_of_path (get_or arcs n [])) j e in
-      let same_left : left_sets faces sets n ≡ left = one_rising_list (left_sets faces sets n) left of_left.rising at_left.rising (λ i c. (at_left.each i).1 ((of_left.each i).0 c)) (λ i c. (of_left.each i).1 ((at_left.each i).0 c)) in
-      let same_right : right_sets faces sets n ≡ right = one_rising_list (right_sets faces sets n) right of_right.rising at_right.rising (λ i c. (at_right.each i).1 ((of_right.each i).0 c)) (λ i c. (of_right.each i).1 ((at_right.each i).0 c)) in
+      let same_left : left_sets faces sets n ≡ left = one_ascending nat_lt nat_order (left_sets faces sets n) left (to_ascending (left_sets faces sets n) of_left.rising) (to_ascending left at_left.rising) (λ i c. (at_left.each i).1 ((of_left.each i).0 c)) (λ i c. (of_left.each i).1 ((at_left.each i).0 c)) in
+      let same_right : right_sets faces sets n ≡ right = one_ascending nat_lt nat_order (right_sets faces sets n) right (to_ascending (right_sets faces sets n) of_right.rising) (to_ascending right at_right.rising) (λ i c. (at_right.each i).1 ((of_right.each i).0 c)) (λ i c. (of_right.each i).1 ((at_right.each i).0 c)) in
       subst (λ (xs : List ℕ). IsSidedBy (sided_among faces sets (length arcs)) n left xs) same_right
       (subst (λ (xs : List ℕ). IsSidedBy (sided_among faces sets (length arcs)) n xs (right_sets faces sets n)) same_left (is_sided faces sets (length arcs) n l)));
 }

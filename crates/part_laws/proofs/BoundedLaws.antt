@@ -16,30 +16,26 @@ use Rattle.plane_faces.proofs.Connected.{connected}
 use Rattle.plane_faces.proofs.FaceLaws.{among_agrees}
 use Rattle.plane_faces.proofs.Sorting.{rotations_exist}
 use Rattle.arc_table.specs.Along.{GoAlong}
+use Rattle.arc_table.proofs.SignedArcs.{Contains-signed_below}
 use Rattle.face_walk.specs.Places.{FaceTable, IsBuiltOf, face_left_of, signed_below}
 use Rattle.face_walk.proofs.NumberingLemmas.{number_there}
 use Rattle.face_laws.specs.Faces.{AreFreeInside, IsFaceOfPlace}
 use Rattle.face_laws.proofs.ClassLemmas.{faces_are_classes}
 use Rattle.face_laws.proofs.LabelLemmas.{each_table_has_labels}
+use Rattle.face_laws.proofs.ShownLemmas.{halves}
 use Rattle.face_sets.specs.Boundary.{IsOnBoundary, boundary, face_right_of, is_outward, other_way}
 use Rattle.face_sets.specs.Joined.{AreParts}
 use Rattle.face_sets.specs.Sets.{IsInnerFace, IsSetOf}
 use Rattle.ring_trace.specs.Traced.{bounded}
-use Rattle.face_sets.proofs.BoundaryLemmas.{arc_below, back_again, has_Contains, Contains_has, same_or_other}
+use Rattle.face_sets.proofs.BoundaryLemmas.{back_again, has_Contains, Contains_has, same_or_other}
 use Rattle.part_laws.specs.Parts.{PartsHaveBoundaries}
 use Rattle.part_laws.proofs.LinkLemmas.{arc_of_link, link_of_arc}
 use Rattle.part_laws.proofs.TracedLaws.{on_boundary}
+use Rattle.plane_parity.proofs.Passing.{same_test}
 
 -- a place other than the outside is left of an arc, or right of one
 arc_of_place : (j : ℕ) → 0 < j → (n : ℕ) × ((2 * n + 1 ≡ j) ⊎ (2 * n + 2 ≡ j))
-arc_of_place zero l = absurd (omega arith)
-arc_of_place (suc zero) l = (0, inl refl)
-arc_of_place (suc (suc zero)) l = (0, inr refl)
-arc_of_place (suc (suc (suc j))) l = next (arc_of_place (suc j) (omega arith))
-  where
-    next : (n : ℕ) × ((2 * n + 1 ≡ suc j) ⊎ (2 * n + 2 ≡ suc j)) → (n : ℕ) × ((2 * n + 1 ≡ suc (suc (suc j))) ⊎ (2 * n + 2 ≡ suc (suc (suc j))))
-    next (n, inl e) = (suc n, inl (omega arith))
-    next (n, inr e) = (suc n, inr (omega arith))
+arc_of_place j l = elim (halves j) [ inl e ↦ absurd (omega arith) | inr r ↦ (r.0, elim r.1 [ inl e ↦ inl (sym e) | inr e ↦ inr (sym e) ]) ]
 
 some_face : (xs : List ℕ) → (xs ≡ [] → ⊥) → (k : ℕ) × Contains xs k
 some_face [] h = absurd (h refl)
@@ -50,12 +46,6 @@ all_kept p [] h = refl
 all_kept p (x ∷ xs) h =
     ap (λ (b : Bool). cond b (x ∷ filter p xs) (filter p xs)) (h 0 x (omega arith))
     ∙ ap (λ (ys : List _). x ∷ ys) (all_kept p xs (λ k d l. h (suc k) d (omega arith)))
-
-one_value : (x y : Bool) → (x ≡ true → y ≡ false → ⊥) → (y ≡ true → x ≡ false → ⊥) → x ≡ y
-one_value true true h g = refl
-one_value true false h g = absurd (h refl refl)
-one_value false true h g = absurd (g refl refl)
-one_value false false h g = refl
 
 module _ (S : List Segment) (arr : IsArrangement S) (distinct : IsDistinct S) (arcs : List Path) (long : All (λ arc. 1 < length arc) arcs) (along : GoAlong S arcs) (free : AreFreeInside S arcs) (faces : FaceTable) (built : IsBuiltOf arcs faces)
     (label : Place → ℕ) (by : IsFaceOfPlace arcs faces label) where
@@ -96,7 +86,7 @@ module _ (S : List Segment) (arr : IsArrangement S) (distinct : IsDistinct S) (a
     not_bounding : (a : SignedArc) → a.arc < length arcs → has nat_eq part (face_left_of faces.places a) ≡ true → has nat_eq part (face_right_of faces.places a) ≡ false → ⊥
     not_bounding a below x y =
         let test : SignedArc → Bool = λ b. has nat_eq part (face_left_of faces.places b) && is_outward faces.places part b in
-        let (i, l, e) = Contains-filter test (signed_below (length arcs)) a (arc_below (length arcs) a below) (λ i. x i && not (y i)) in
+        let (i, l, e) = Contains-filter test (signed_below (length arcs)) a (Contains-signed_below (length arcs) a below) (λ i. x i && not (y i)) in
         omega arith
 
     not_crossed : (l : Segment) → Contains S l → has nat_eq part (label (left_side l)) ≡ has nat_eq part (label (right_side l))
@@ -104,8 +94,8 @@ module _ (S : List Segment) (arr : IsArrangement S) (distinct : IsDistinct S) (a
         let (a, goes) = arc_of_link S arr arcs long along faces label by l c in
         let back : face_right_of faces.places (other_way a) ≡ face_left_of faces.places a = ap (face_left_of faces.places) (back_again a) in
         ap (has nat_eq part) goes.left
-        ∙ one_value (has nat_eq part (face_left_of faces.places a)) (has nat_eq part (face_right_of faces.places a)) (not_bounding a goes.arc)
-        (λ x y. not_bounding (other_way a) goes.arc x (ap (has nat_eq part) back ∙ y))
+        ∙ same_test (has nat_eq part (face_left_of faces.places a)) (has nat_eq part (face_right_of faces.places a)) (not_bounding a goes.arc)
+        (λ y x. not_bounding (other_way a) goes.arc x (ap (has nat_eq part) back ∙ y))
         ∙ ap (has nat_eq part) (sym goes.right)
 
     no_such_part : IsSetOf faces part → (b : Place) → IsBeside S b → Contains part (label b) → ⊥

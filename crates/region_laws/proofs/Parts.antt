@@ -25,6 +25,7 @@ use Rattle.plane_faces.specs.Places.{Place, left_of, IsPlaceOf, left_side, right
 use Rattle.plane_faces.specs.Rings.{dart_of_step}
 use Rattle.plane_faces.proofs.Order.{place_exists}
 use Rattle.arc_table.specs.Along.{GoAlong}
+use Rattle.arc_table.proofs.SignedArcs.{Contains-signed_below}
 use Rattle.face_walk.specs.Places.{FaceTable, IsBuiltOf, face_left_of, signed_below}
 use Rattle.face_laws.specs.Faces.{AreFreeInside, IsFaceOfPlace}
 use Rattle.face_laws.proofs.DartLemmas.{one_of_two, twice_opposite}
@@ -32,7 +33,7 @@ use Rattle.face_laws.proofs.StepLemmas.{IsStep, arc_of, step_at, step_on, steps_
 use Rattle.face_sets.specs.Boundary.{IsLeastArc, IsOnBoundary, boundary, face_right_of, is_outward, other_way}
 use Rattle.face_sets.specs.Joined.{AreParts}
 use Rattle.face_sets.specs.Sets.{IsSetOf}
-use Rattle.face_sets.proofs.BoundaryLemmas.{Contains_has, arc_below, back_again, outward_if, same_or_other}
+use Rattle.face_sets.proofs.BoundaryLemmas.{Contains_has, back_again, outward_if, same_or_other}
 use Rattle.face_sets.proofs.JoinedLemmas.{joined_over}
 use Rattle.face_sets.proofs.SetLemmas.{nat_order, to_ascending}
 use Rattle.face_sets.proofs.GapLemmas.{in_range, of_range}
@@ -284,7 +285,7 @@ module _ (S : List Segment) (arr : IsArrangement S) (distinct : IsDistinct S) (a
         let left = Contains_has (part k) (face_left_of faces.places b) on.left in
         let out = outward_if faces.places (part k) b on.right in
         subst (Contains (numbers_on k)) is (Contains-map (λ (c : SignedArc). c.arc) (boundary faces.places (length arcs) (part k)) b
-        (Contains-filter test (signed_below (length arcs)) b (arc_below (length arcs) b (omega arith)) (λ i. left i && out i)))),
+        (Contains-filter test (signed_below (length arcs)) b (Contains-signed_below (length arcs) b (omega arith)) (λ i. left i && out i)))),
   )
 
   least_is : (k : ℕ) → k < length parts → IsLeastArc faces (part k) (least_on k)

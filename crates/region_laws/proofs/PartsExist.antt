@@ -17,12 +17,13 @@ use Rattle.face_walk.specs.Places.{FaceTable, HasArc, IsBuiltOf, face_left_of, s
 use Rattle.face_sets.specs.Boundary.{IsLeastArc, IsOnBoundary, boundary, face_right_of, is_outward}
 use Rattle.face_sets.specs.Joined.{AreJoined, AreParts, IsChain}
 use Rattle.face_sets.specs.Parts.{IsPieceOf}
-use Rattle.face_sets.proofs.BoundaryLemmas.{Contains_has, arc_below, below_arc, has_Contains, one_place, outward_from, outward_if, same_or_other}
+use Rattle.face_sets.proofs.BoundaryLemmas.{Contains_has, below_arc, has_Contains, one_place, outward_from, outward_if, same_or_other}
 use Rattle.face_sets.proofs.JoinedLemmas.{joined_back, joined_itself, joined_on, joined_over}
 use Rattle.face_sets.proofs.SetLemmas.{from_ascending, nat_order}
 use Rattle.region_laws.specs.Answered.{PartsExist}
 use Rattle.region_laws.proofs.Least.{lowest, lowest_least, lowest_there}
 use Rattle.region_laws.proofs.TieLaws.{filter_same}
+use Rattle.arc_table.proofs.SignedArcs.{Contains-signed_below}
 
 -- ---- classes of joined faces
 
@@ -111,7 +112,7 @@ module _ (arcs : List Path) (faces : FaceTable) (built : IsBuiltOf arcs faces) (
   of_arcs i e l = has_arc (get_or all_arcs i e) (below_arc (length arcs) (get_or all_arcs i e) (Contains-get_or all_arcs i e l))
 
   in_arcs : (a : SignedArc) → HasArc faces a → Contains all_arcs a
-  in_arcs a h = arc_below (length arcs) a (let many = built.places_counted in omega arith)
+  in_arcs a h = Contains-signed_below (length arcs) a (let many = built.places_counted in omega arith)
 
   pub class : ℕ → ℕ
   class k = class_of faces set all_arcs k

@@ -15,6 +15,7 @@ use Rattle.lists.proofs.Ascending.{one_ascending}
 use Rattle.plane_model.specs.Points.{Path}
 use Rattle.plane_model.specs.Arcs.{SignedArc}
 use Rattle.arc_table.specs.Around.{start_of}
+use Rattle.arc_table.proofs.SignedArcs.{Contains-signed_below}
 use Rattle.face_walk.specs.Places.{FaceTable, face_left_of, signed_below}
 use Rattle.face_walk.specs.Joining.{AreClasses}
 use Rattle.face_sets.specs.declared.joined_faces.Side.{Side}
@@ -29,7 +30,7 @@ use Rattle.ring_trace.specs.Pairing.{AreEdgesOf, edge_of, number_at}
 use Rattle.ring_trace.specs.Rings.{AreTiled, HasEachOnce, edge_at}
 use Rattle.ring_trace.specs.Traced.{BeginsWithLeast, UseParts, bounded, is_of_boundary, once_if, same_arc, times, times_along, times_round}
 use Rattle.ring_trace.specs.Ways.{IsSimpleRing, AreRingsByCorners, edges_in, start_at, stop_at}
-use Rattle.face_sets.proofs.BoundaryLemmas.{AreSidesOf, arc_below, below_arc}
+use Rattle.face_sets.proofs.BoundaryLemmas.{AreSidesOf, below_arc}
 use Rattle.ring_trace.proofs.GatherLemmas.{key_of_some}
 use Rattle.ring_trace.proofs.PartSides.{test_of, of_test, of_part, number_is, part_sum}
 use Rattle.face_sets.proofs.SetLemmas.{nat_order, to_ascending}
@@ -184,7 +185,7 @@ module _ (faces : FaceTable) (many : ℕ) (size : length faces.places ≡ 2 * ma
   listed_boundary : (set : List ℕ) (a : SignedArc) → IsOnBoundary faces set a → Contains (boundary faces.places many set) a
   listed_boundary set a b =
       let (low, rest) = and_parts (nat_lt a.arc many) (of_boundary set a) (test_of faces many set a size b) in
-      Contains-filter (of_boundary set) (signed_below many) a (arc_below many a (ltb-true a.arc many low)) rest
+      Contains-filter (of_boundary set) (signed_below many) a (Contains-signed_below many a (ltb-true a.arc many low)) rest
 
   on_boundary : (set : List ℕ) (a : SignedArc) → Contains (boundary faces.places many set) a → IsOnBoundary faces set a
   on_boundary set a c =

@@ -10,7 +10,7 @@ use Rattle.std.proofs.lemmas.List.Folds.{list_any_more}
 use Rattle.lists.specs.Lists.{has, put_in_order}
 use Rattle.face_walk.specs.Holders.{list_at}
 use Rattle.run_plane.specs.LaidOut.{AreHeldFaces, PutsInto, held_faces, put_where}
-use Rattle.face_sets.proofs.GapLemmas.{range_more}
+use Rattle.run_plane.proofs.Growth.{range_more}
 
 -- ---- a number put into an ascending list
 

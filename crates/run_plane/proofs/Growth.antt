@@ -1,8 +1,9 @@
 -- Lists that grow at their end.
 use Rattle.std.proofs.Common.{Result, Ok, Err, ◌≡◌, ℕ, ◌+◌, List, [], ◌∷◌, ◌++◌, length, ◌<◌, get_or, take, ap, sym, subst, ◌∙◌}
 use Rattle.std.proofs.lemmas.List.{take_more}
-use Rattle.std.specs.List.{AllZip}
+use Rattle.std.specs.List.{AllZip, range_with_len}
 use Rattle.std.specs.Prelude.{IfOk}
+use Rattle.face_sets.proofs.GapLemmas.{range_more as range_grows}
 
 -- what holds of an answer
 pub if_ok_on : {T E : Type 0} (P Q : T → Type 0) (r : Result T E) → ((x : T) → P x → Q x) → IfOk r P → IfOk r Q
@@ -20,3 +21,6 @@ pub zipped_next : {A B : Type 0} (R : A → B → Type 0) (xs : List A) (i : ℕ
 zipped_next {A} {B} R xs i x ys y there is h r =
     let more : take (i + 1) xs ≡ take i xs ++ x ∷ [] = take_more xs i x there ∙ ap (λ (z : A). take i xs ++ z ∷ []) (sym is) in
     subst (λ (zs : List A). AllZip R zs (ys ++ y ∷ [])) (sym more) (zipped_on R (take i xs) ys x y h r)
+
+pub range_more : (n : ℕ) → range_with_len 0 (n + 1) ≡ range_with_len 0 n ++ n ∷ []
+range_more n = range_grows n

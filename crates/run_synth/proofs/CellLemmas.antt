@@ -1,7 +1,8 @@
 -- The ring of a cell, the draws of the next, and a drawing with one cell more.
-use Rattle.std.proofs.Common.{◌≡◌, ◌≢◌, ◌∙◌, refl, sym, ap, subst, arith, ℕ, zero, suc, ◌+◌, ◌*◌, ◌/◌, ◌%◌, ◌^◌, ◌<◌, ◌≤◌, pos, Bool, true, false, cond, List, [], ◌∷◌, ◌++◌, length, length-append, map}
+use Rattle.std.proofs.Common.{◌≡◌, ◌≢◌, ◌∙◌, refl, sym, ap, subst, arith, ℕ, zero, suc, ◌+◌, ◌*◌, ◌/◌, ◌%◌, ◌^◌, ◌<◌, ◌≤◌, pos, Bool, false, cond, List, [], ◌∷◌, ◌++◌, length, length-append, map}
 use Rattle.std.specs.List.{range_with_len}
 use Rattle.std.proofs.lemmas.List.FromFn.{map-range_with_len_more}
+use Rattle.std.proofs.lemmas.Bool.{false_from_ne_true}
 use Rattle.lists.specs.Lists.{last_of}
 use Rattle.plane_model.specs.Points.{GridPoint, Path, same_point}
 use Rattle.plane_model.specs.Drawing.{Drawing, Polygon}
@@ -22,11 +23,7 @@ module _ (x y : ℕ) (d : ℕ → ℕ) (ring : Path) (e : ring ≡ cell_ring x y
   closes = subst IsClosed (sym e) refl
 
 apart : (p q : GridPoint) → (p ≡ q → ⊥) → same_point p q ≡ false
-apart p q differ = go (same_point p q) refl
-  where
-    go : (b : Bool) → same_point p q ≡ b → b ≡ false
-    go true e = absurd (differ (same_point_from p q e))
-    go false e = refl
+apart p q differ = false_from_ne_true (same_point p q) (λ e. differ (same_point_from p q e))
 
 aside : (a b c d : ℕ) → (a ≡ b → ⊥) → same_point (point a c) (point b d) ≡ false
 aside a b c d differ = apart (point a c) (point b d) (λ e. differ (let h : pos a ≡ pos b = ap (λ (p : GridPoint). p.x) e in cc))

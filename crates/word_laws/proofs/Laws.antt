@@ -71,7 +71,7 @@ sources_of_words : (fields : List Text) (args : List shown.Word) → map (λ (w 
 sources_of_words fields [] = refl
 sources_of_words fields (w ∷ ws) = ap (λ (xs : List SourceWord). source_from fields w.text ∷ xs) (sources_of_words fields ws)
 
-standard_of_import : (all said : Said) → list_any (is_standard_item files) said ≡ standard_among (flat_map (import_source all) said)
+pub standard_of_import : (all said : Said) → list_any (is_standard_item files) said ≡ standard_among (flat_map (import_source all) said)
 standard_of_import all [] = refl
 standard_of_import all (argument s ∷ said) = ap (λ (b : Bool). is_standard s || b) (standard_of_import all said)
 standard_of_import all (option n v ∷ said) = standard_of_import all said
