@@ -19,7 +19,7 @@ use Rattle.arc_table.proofs.SignedArcs.{Contains-signed_below, all_below}
 
 -- ---- signed arcs
 
-not_not : (b : Bool) → not (not b) ≡ b
+pub not_not : (b : Bool) → not (not b) ≡ b
 not_not true = refl
 not_not false = refl
 

@@ -1,5 +1,5 @@
 -- Numbers put to the lists of faces, set by set.
-use Rattle.std.proofs.Common.{◌≡◌, refl, sym, ap, ◌∙◌, subst, arith, ℕ, ◌+◌, ◌<◌, Bool, true, false, cond, ◌||◌, List, [], ◌∷◌, ◌++◌, length, get_or, take, nat_eq, All, append-nil, length-set, length-take, suc}
+use Rattle.std.proofs.Common.{◌≡◌, refl, sym, ap, ◌∙◌, subst, arith, ℕ, ◌+◌, ◌<◌, Bool, true, false, cond, ◌||◌, List, [], ◌∷◌, ◌++◌, length, get_or, take, nat_eq, All, append-nil, length-set, length-take, suc, map}
 use Rattle.std.specs.List.{list_any}
 use Rattle.std.specs.List.Sorted.{IsStrictlyIncreasing}
 use Rattle.std.proofs.lemmas.Bool.{eqb-true, eqb-false, ne_eqb}
@@ -68,3 +68,7 @@ numbers_alike k t u [] (y ∷ ys) c e many h = absurd (omega arith)
 numbers_alike k t u (x ∷ xs) [] c e many h = absurd (omega arith)
 numbers_alike k t u (x ∷ xs) (y ∷ ys) c e many h =
     λ i. cond (h 0 (omega arith) i) (k ∷ numbers_alike (k + 1) t u xs ys c e (omega arith) (λ j l. h (suc j) (omega arith)) i) (numbers_alike (k + 1) t u xs ys c e (omega arith) (λ j l. h (suc j) (omega arith)) i)
+
+pub numbers-map : {A B : Type 0} (n : ℕ) (test : B → Bool) (f : A → B) (xs : List A) → numbers_from n test (map f xs) ≡ numbers_from n (λ (x : A). test (f x)) xs
+numbers-map n test f [] = refl
+numbers-map n test f (x ∷ xs) = ap (λ (ns : List ℕ). cond (test (f x)) (n ∷ ns) ns) (numbers-map (n + 1) test f xs)

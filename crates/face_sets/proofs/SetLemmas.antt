@@ -1,5 +1,5 @@
 -- Ascending lists of numbers: what a binary search tells of them, and what is put in its place.
-use Rattle.std.proofs.Common.{◌≡◌, refl, sym, ap, ◌∙◌, subst, arith, ℕ, zero, suc, ◌+◌, ◌-◌, ◌<◌, ◌≤◌, Bool, true, false, List, [], ◌∷◌, ◌++◌, length, get_or, nat_eq, nat_lt, Some, Ok, Err, Contains, All, inl, inr, ◌&&◌}
+use Rattle.std.proofs.Common.{◌≡◌, refl, sym, ap, ◌∙◌, subst, arith, ℕ, zero, suc, ◌+◌, ◌-◌, ◌<◌, ◌≤◌, Bool, true, false, List, [], ◌∷◌, ◌++◌, length, get_or, nat_eq, nat_lt, Some, Ok, Err, Contains, All, inl, inr, ◌&&◌, filter, cond}
 use Rattle.std.specs.Prelude.{if◌then◌else◌, slice_get}
 use Rattle.std.specs.List.{insert, dedup}
 use Rattle.std.specs.List.Sorted.{IsStrictlyIncreasing, IsBinarySearchResult, IsPermutation, IsSorted}
@@ -15,6 +15,7 @@ use Rattle.std.proofs.lemmas.List.Kept.{AllPairs-from_increasing, Contains-dedup
 use Rattle.std.proofs.lemmas.Map.Keys.{sorted_from_strictly_increasing, non_decreasing_from_sorted, IsStrictlyIncreasing-dedup}
 use Rattle.lists.specs.Lists.{has, put_in_order, ascending, same_list}
 use Rattle.lists.proofs.Ascending.{IsStrictOrder, IsAscending, put-IsAscending, ascending-IsAscending, ascending-Contains, Contains-ascending, one_ascending, pairs_of_ascending, ascending_of_pairs}
+use Rattle.lists.proofs.Members.{Contains-head, Contains-later}
 
 pub nat_order : IsStrictOrder nat_lt
 nat_order = record {
@@ -143,3 +144,13 @@ same_from_test xs ys e = (bytes_decides xs ys).0 (sym (same_pointwise xs ys) ∙
 
 pub test_from_same : (xs ys : List ℕ) → xs ≡ ys → same_list nat_eq xs ys ≡ true
 test_from_same xs ys e = same_pointwise xs ys ∙ (bytes_decides xs ys).1 e
+
+-- ---- lists in general
+
+pub first_of : (xs : List ℕ) → (xs ≡ [] → ⊥) → (n : ℕ) × Contains xs n
+first_of [] some = absurd (some refl)
+first_of (x ∷ xs) some = (x, Contains-head x xs)
+
+pub filter_same : {X : Type 0} (p q : X → Bool) (xs : List X) → ((x : X) → Contains xs x → p x ≡ q x) → filter p xs ≡ filter q xs
+filter_same p q [] h = refl
+filter_same p q (x ∷ xs) h = λ i. cond (h x (Contains-head x xs) i) (x ∷ filter_same p q xs (λ y c. h y (Contains-later x xs y c)) i) (filter_same p q xs (λ y c. h y (Contains-later x xs y c)) i)

@@ -10,7 +10,7 @@ use Rattle.json_values.specs.declared.value.Value.{Value}
 use Rattle.expr_lang.specs.Meaning.{evaluated}
 use Rattle.expr_lang.specs.Tree.{Tree}
 use Rattle.table_terms.specs.Names.{Text, place_of}
-use Rattle.table_terms.specs.Refusals.{on_ok, unless}
+use Rattle.table_terms.specs.Refusals.{on_ok}
 use Rattle.table_rows.specs.Columns.{cells}
 use Rattle.table_ops.specs.Filtering.{filter_rows, says, tests_from, tests_of, value_for}
 use Rattle.table_rows.specs.Groups.{groups_of, keys_once}
@@ -25,6 +25,7 @@ use Rattle.calc_ops.specs.Keys.{keys_from, keys_of}
 use Rattle.calc_ops.specs.KeyOrder.{comes_before, sort_rows}
 use Rattle.layer_laws.proofs.Numbered.{sort_keeps}
 use Rattle.face_sets.proofs.GapLemmas.{range_below}
+use Rattle.run_tables.proofs.Gathering.{answered}
 
 -- ---- an answer for each row
 
@@ -78,17 +79,12 @@ groups_below keys = All-map (All (λ n. n < length keys)) (λ (key : RowValues).
 abbrev pub AreRowsOf : TableContent → SplitItem → Type 0
 AreRowsOf t item = All (λ n. n < length t.rows) item.rows
 
--- what is answered where nothing is refused
-pub after_refusal : {T E : Type 0} (refusal : Option E) (made answer : T) → unless refusal (Ok made) ≡ Ok answer → made ≡ answer
-after_refusal None made answer e = cc
-after_refusal (Some why) made answer e = absurd (cc)
-
 pub split_below : (t : TableContent) (field : Option Text) (items : List SplitItem) → split_rows t field ≡ Ok items → All (AreRowsOf t) items
 split_below t None items e =
     let same : single_rows 0 t.rows ≡ items = cc in
     subst (All (AreRowsOf t)) same (singles_below (length t.rows) 0 t.rows (omega arith))
 split_below t (Some field) items e =
-    let same : pieces_by t field ≡ items = after_refusal (refused_item t.names [] 0 (field ∷ [])) (pieces_by t field) items e in
+    let same : pieces_by t field ≡ items = answered (refused_item t.names [] 0 (field ∷ [])) (pieces_by t field) items e in
     let keys : List RowValues = map (cells t.names (field ∷ [])) t.rows in
     let counted : length keys ≡ length t.rows = length-map t.rows (cells t.names (field ∷ [])) in
     subst (All (AreRowsOf t)) same

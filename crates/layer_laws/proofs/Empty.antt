@@ -4,7 +4,7 @@ use Rattle.std.specs.Prelude.{◌↔◌}
 use Rattle.std.specs.Cmp.{unsigned_Decides}
 use Rattle.std.specs.List.{AllZip, range_with_len}
 use Rattle.std.proofs.lemmas.Bool.{false_from_ne_true}
-use Rattle.std.proofs.lemmas.List.Elements.{All-filter}
+use Rattle.std.proofs.lemmas.List.Elements.{All-filter, All-contains}
 use Rattle.lists.specs.Lists.{numbers_where}
 use Rattle.plane_model.specs.Points.{Path}
 use Rattle.plane_model.specs.Arcs.{SignedArc}
@@ -23,10 +23,11 @@ use Rattle.chain_model.specs.State as state
 use Rattle.chain_model.specs.State.{StateLayer, is_empty_shape, take_features, without_empty}
 use Rattle.layer_laws.specs.Shown.{View, IsView, LayerShows, ShapeShows, plane_of}
 use Rattle.layer_laws.specs.Taken.{EmptinessShows, LeftFeaturesShow}
-use Rattle.layer_laws.proofs.Numbered.{filter_below, numbers_of_all, taken_of_taken}
+use Rattle.layer_laws.proofs.Numbered.{numbers_of_all, taken_of_taken}
 use Rattle.layer_laws.proofs.Taking.{rows_show}
 use Rattle.layer_laws.proofs.Zipped.{zip_at, zip_long, zip_taken}
 use Rattle.face_sets.proofs.GapLemmas.{range_below}
+use Rattle.face_sets.proofs.SetLemmas.{filter_same}
 
 -- ---- shapes
 
@@ -101,5 +102,5 @@ without_empty_of v l numbers =
 -- the numbers of those that have a geometry
 pub some_alike : (v : View) → IsView v → (layer : Layer) (l : StateLayer) → LayerShows v layer l → (numbers : List ℕ) → All (λ n. n < length layer.shapes.items) numbers → with_geometry layer.shapes.items numbers ≡ some_of v l numbers
 some_alike v view layer l h numbers below =
-    filter_below (λ (n : ℕ). not (is_empty (shape_at layer.shapes.items n))) (λ (n : ℕ). has_some v (state.shape_at l n)) (length layer.shapes.items)
-    (geometry_shows v view layer.kind layer.shapes.items l.shapes h.shapes) numbers below
+    filter_same (λ (n : ℕ). not (is_empty (shape_at layer.shapes.items n))) (λ (n : ℕ). has_some v (state.shape_at l n)) numbers
+    (λ n c. geometry_shows v view layer.kind layer.shapes.items l.shapes h.shapes n (All-contains (λ k. k < length layer.shapes.items) numbers n below c))

@@ -33,6 +33,7 @@ use Rattle.layer_laws.proofs.Empty.{left_features_show}
 use Rattle.layer_laws.proofs.TableCommands.{one_shows}
 use Rattle.layer_laws.proofs.Views.{view_faces}
 use Rattle.layer_laws.proofs.Zipped.{zip_long}
+use Rattle.face_sets.proofs.BoundaryLemmas.{not_not}
 
 -- ---- runs of what is there
 
@@ -61,10 +62,6 @@ chosen_all : {A : Type 0} (told : A → Bool) (xs : List A) → chosen xs (map t
 chosen_all told [] = refl
 chosen_all told (x ∷ xs) = ap (λ (rest : List _). if told x then x ∷ rest else rest) (chosen_all told xs)
 
-twice_not : (b : Bool) → not (not b) ≡ b
-twice_not true = refl
-twice_not false = refl
-
 turned : {A : Type 0} (told : A → Bool) (xs : List A) (answers : List Bool) → map not answers ≡ map told xs → answers ≡ map (λ (x : A). not (told x)) xs
 turned told [] [] e = refl
 turned told [] (b ∷ answers) e = absurd (cc)
@@ -72,7 +69,7 @@ turned told (x ∷ xs) [] e = absurd (cc)
 turned told (x ∷ xs) (b ∷ answers) e =
     let here : not b ≡ told x = cc in
     let rest : map not answers ≡ map told xs = cc in
-    let same = sym (twice_not b) ∙ ap not here in
+    let same = sym (not_not b) ∙ ap not here in
     λ i. same i ∷ turned told xs answers rest i
 
 not_zipped : {A : Type 0} (R : A → Bool → Type 0) (xs : List A) (answers : List Bool) → AllZip (λ (x : A) (b : Bool). R x (not b)) xs answers → AllZip R xs (map not answers)

@@ -49,11 +49,6 @@ module _ {A : Type 0} (test : A → Bool) where
       let further : n + suc k ≡ n + 1 + k = omega arith in
       later_number n (n + suc k) x xs (omega arith) ∙ ap (has nat_eq (numbers_from (n + 1) test xs)) further ∙ number_tells (n + 1) xs k d (omega arith)
 
--- tests of what a function makes
-pub numbers-map : {A B : Type 0} (n : ℕ) (test : B → Bool) (f : A → B) (xs : List A) → numbers_from n test (map f xs) ≡ numbers_from n (λ (x : A). test (f x)) xs
-numbers-map n test f [] = refl
-numbers-map n test f (x ∷ xs) = ap (λ (ns : List ℕ). cond (test (f x)) (n ∷ ns) ns) (numbers-map (n + 1) test f xs)
-
 pub any-map : {A B : Type 0} (test : B → Bool) (f : A → B) (xs : List A) → list_any test (map f xs) ≡ list_any (λ (x : A). test (f x)) xs
 any-map test f [] = refl
 any-map test f (x ∷ xs) = ap (λ (b : Bool). test (f x) || b) (any-map test f xs)
@@ -104,14 +99,6 @@ all_numbers_pass n [] = refl
 all_numbers_pass n (x ∷ xs) = ap (λ (ns : List ℕ). n ∷ ns) (all_numbers_pass (n + 1) xs)
 
 -- ---- elements with numbers, taken from a list and then from those taken
-
--- two tests that agree on numbers below a count keep the same of these
-pub filter_below : (p q : ℕ → Bool) (count : ℕ) → ((n : ℕ) → n < count → p n ≡ q n) → (ns : List ℕ) → All (λ n. n < count) ns → filter p ns ≡ filter q ns
-filter_below p q count agree [] below = refl
-filter_below p q count agree (n ∷ ns) below =
-    let here = agree n (All-head (λ n. n < count) n ns below) in
-    let rest = filter_below p q count agree ns (All-tail (λ n. n < count) n ns below) in
-    λ i. cond (here i) (n ∷ rest i) (rest i)
 
 module _ {B C : Type 0} (f : ℕ → B) (g : ℕ → C) (test : B → Bool) where
   taken_after : (n : ℕ) (ns : List ℕ) (at : ℕ → C) → ((k : ℕ) (d : ℕ) → k < length ns → at (n + k) ≡ g (get_or ns k d)) →

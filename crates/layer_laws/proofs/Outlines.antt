@@ -44,12 +44,12 @@ use Rattle.chain_model.specs.Features.{Outputs, first_difference, in_layer, inne
 use Rattle.layer_laws.specs.Shown.{View, IsView, FacesShow, LayerShows, LineShows, ShapeShows, plane_of, IsSeenIn}
 use Rattle.layer_laws.specs.Reasons.{OutputsShow, RefusedAlike}
 use Rattle.layer_laws.specs.Lines.{InnerLinesShow, OutlinesShow}
-use Rattle.layer_laws.proofs.Below.{after_refusal}
 use Rattle.layer_laws.proofs.LineGroups.{one_linked, one_there}
 use Rattle.layer_laws.proofs.PolygonSets.{sets_show}
 use Rattle.layer_laws.proofs.TableCommands.{one_shows}
 use Rattle.layer_laws.proofs.Views.{view_faces}
 use Rattle.layer_laws.proofs.Zipped.{zip_at, zip_long}
+use Rattle.run_tables.proofs.Gathering.{answered}
 
 -- ---- lists
 
@@ -277,7 +277,7 @@ outlines_are_shown v view plane seen layer l h polygons fields =
           (one_shows v (AreOutlines plane fields layer) (answer_by v view plane seen layer l h polygons fields refusal) (λ one is. (
             outlines_of v view plane seen layer l h polygons fields,
             answers_so v view plane seen layer l h polygons fields refusal is.listed is.answers,
-            outlines_show v view plane seen layer l h polygons fields one is (ap (λ (t : TableContent). kept_columns t fields) h.table ∙ after_refusal refusal (kept_columns layer.table fields) is.listed is.answers),
+            outlines_show v view plane seen layer l h polygons fields one is (ap (λ (t : TableContent). kept_columns t fields) h.table ∙ answered refusal (kept_columns layer.table fields) is.listed is.answers),
           )) made makes);
       refused = subst (RefusedAlike (table_refusal (keep_fields layer.table fields))) same (refused_alike v view plane seen layer l h polygons fields refusal);
     }

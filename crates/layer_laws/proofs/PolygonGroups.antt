@@ -31,6 +31,7 @@ use Rattle.run_state.specs.Stops.{table_refusal}
 use Rattle.run_state.specs.declared.refusal.RefuseWhy.{RefuseWhy}
 use Rattle.run_state.specs.declared.refusal.RefuseWhy.TheVariants.{NoGroupPoints}
 use Rattle.run_tables.specs.Made.{One}
+use Rattle.run_tables.proofs.Gathering.{answered}
 use Rattle.run_borders.specs.Dissolving.{IsGrouped, grouped_shapes, is_point, refused_dissolve}
 use Rattle.run_state.specs.FaceSets.{face_shapes}
 use Rattle.chain_model.specs.State.{StateLayer, region_at, regions_in}
@@ -38,7 +39,6 @@ use Rattle.chain_model.specs.Features.{Outputs, dissolve_layer, dissolved_shape,
 use Rattle.layer_laws.specs.Shown.{View, FacesShow, LayerShows, PolygonShows, ShapeShows, plane_of}
 use Rattle.layer_laws.specs.Reasons.{MakesAlike, RefusedAlike}
 use Rattle.layer_laws.specs.Polygons.{DissolvedPolygonsShow, PolygonsShow}
-use Rattle.layer_laws.proofs.Below.{after_refusal}
 use Rattle.layer_laws.proofs.PolygonSets.{all_inner, follow_regions, layer_sets, sets_counted, sets_of}
 use Rattle.layer_laws.proofs.Taking.{shapes_in}
 use Rattle.layer_laws.proofs.TableCommands.{alike_by, one_shows}
@@ -51,7 +51,7 @@ members_below keys = All-map (All (λ n. n < length keys)) (λ (key : RowValues)
 grouped_below : (t : TableContent) (spec : GroupSpec) (grouped : Grouped) → group_rows t spec ≡ Ok grouped → All (All (λ n. n < length t.rows)) grouped.groups
 grouped_below t spec grouped e =
     let same : table_of_groups t spec (groups_by t spec.by) ≡ grouped =
-    after_refusal (first_refusal (refused_item t.names [] 0 (listed_fields spec)) (refused_sums t.rows (field_places t spec.sum) (groups_by t spec.by))) (table_of_groups t spec (groups_by t spec.by)) grouped e in
+    answered (first_refusal (refused_item t.names [] 0 (listed_fields spec)) (refused_sums t.rows (field_places t spec.sum) (groups_by t spec.by))) (table_of_groups t spec (groups_by t spec.by)) grouped e in
     let keys : List RowValues = map (cells t.names spec.by) t.rows in
     let counted : length keys ≡ length t.rows = length-map t.rows (cells t.names spec.by) in
     subst (λ (g : Grouped). All (All (λ n. n < length t.rows)) g.groups) same (subst (λ (c : ℕ). All (All (λ n. n < c)) (groups_of keys)) counted (members_below keys))

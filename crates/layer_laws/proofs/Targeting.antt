@@ -15,8 +15,9 @@ use Rattle.chain_model.specs.State.{State, StateLayer}
 use Rattle.chain_model.specs.Targets.{layer_names, layers_at, selected, some_layers}
 use Rattle.layer_laws.specs.Shown.{View, LayerShows, StateShows}
 use Rattle.layer_laws.specs.Targets.{FirstLayersShow, OneLayerShows, OriginsShow, TargetShows, TargetsShow, target_numbers}
-use Rattle.layer_laws.proofs.Numbered.{all_numbers_pass, any-map, numbers-map, zip_where}
+use Rattle.layer_laws.proofs.Numbered.{all_numbers_pass, any-map, zip_where}
 use Rattle.layer_laws.proofs.Zipped.{zip_anywhere, zip_filter, zip_left, zip_long, zip_same}
+use Rattle.face_sets.proofs.OwnerLemmas.{numbers-map}
 
 -- ---- some numbers, or none
 

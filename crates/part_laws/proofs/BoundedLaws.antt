@@ -6,7 +6,7 @@ use Rattle.std.proofs.lemmas.List.{get_or_default}
 use Rattle.std.proofs.lemmas.List.Elements.{All-contains, Contains-get_or}
 use Rattle.std.proofs.lemmas.Option.{slice_get-get_or}
 use Rattle.lists.specs.Lists.{has}
-use Rattle.lists.proofs.Members.{Contains-filter, Contains-head}
+use Rattle.lists.proofs.Members.{Contains-filter}
 use Rattle.plane_model.specs.Points.{Segment, Path}
 use Rattle.plane_model.specs.Arcs.{SignedArc, forward, backward}
 use Rattle.plane_model.specs.Arrangement.{IsArrangement, IsDistinct}
@@ -28,6 +28,7 @@ use Rattle.face_sets.specs.Joined.{AreParts}
 use Rattle.face_sets.specs.Sets.{IsInnerFace, IsSetOf}
 use Rattle.ring_trace.specs.Traced.{bounded}
 use Rattle.face_sets.proofs.BoundaryLemmas.{back_again, has_Contains, Contains_has, same_or_other}
+use Rattle.face_sets.proofs.SetLemmas.{first_of}
 use Rattle.part_laws.specs.Parts.{PartsHaveBoundaries}
 use Rattle.part_laws.proofs.LinkLemmas.{arc_of_link, link_of_arc}
 use Rattle.part_laws.proofs.TracedLaws.{on_boundary}
@@ -36,10 +37,6 @@ use Rattle.plane_parity.proofs.Passing.{same_test}
 -- a place other than the outside is left of an arc, or right of one
 arc_of_place : (j : ℕ) → 0 < j → (n : ℕ) × ((2 * n + 1 ≡ j) ⊎ (2 * n + 2 ≡ j))
 arc_of_place j l = elim (halves j) [ inl e ↦ absurd (omega arith) | inr r ↦ (r.0, elim r.1 [ inl e ↦ inl (sym e) | inr e ↦ inr (sym e) ]) ]
-
-some_face : (xs : List ℕ) → (xs ≡ [] → ⊥) → (k : ℕ) × Contains xs k
-some_face [] h = absurd (h refl)
-some_face (x ∷ xs) h = (x, Contains-head x xs)
 
 all_kept : {X : Type 0} (p : X → Bool) (xs : List X) → All (λ x. p x ≡ true) xs → filter p xs ≡ xs
 all_kept p [] h = refl
@@ -124,7 +121,7 @@ module _ (S : List Segment) (arr : IsArrangement S) (distinct : IsDistinct S) (a
   module _ (set : List ℕ) (inner : IsSetOf faces set) (parts : List (List ℕ)) (are : AreParts faces set parts) where
     has_boundary : (n : ℕ) → n < length parts → 0 < length (boundary faces.places (length arcs) (get_or parts n []))
     has_boundary n l =
-        let (k, c) = some_face (get_or parts n []) (are.divided.some n l) in
+        let (k, c) = first_of (get_or parts n []) (are.divided.some n l) in
         let in_set = of_set set inner parts are n l k c in
         let h : IsInnerFace faces k = All-contains (IsInnerFace faces) set k inner in_set in
         let (b, beside, is) = place_of_face k (number_there faces.count faces.places built.numbered k h.there) h.not_outer in

@@ -3,7 +3,7 @@ use Rattle.std.proofs.Common.{◌≡◌, inl, inr, refl, sym, ap, ◌∙◌, sub
 use Rattle.std.specs.List.{sum_by, count_by, flat_map}
 use Rattle.std.specs.List.Sorted.{IsPermutation}
 use Rattle.std.proofs.lemmas.Bool.{cases_Bool, false_from_ne_true}
-use Rattle.std.proofs.lemmas.List.{reverse-append}
+use Rattle.std.proofs.lemmas.List.{reverse-append, get_or_default}
 use Rattle.std.proofs.lemmas.List.Sums.{sum_by-cons, sum_by-append}
 use Rattle.std.proofs.lemmas.List.Sorted.{IsPermutation-refl, IsPermutation-cons, IsPermutation-sym, IsPermutation-trans, sum_by-IsPermutation}
 use Rattle.plane_snapping.proofs.LinkCount.{sum_map}
@@ -59,26 +59,27 @@ sum_of_one g (l ∷ ls) x distinct c h =
           omega arith)
     ]
 
-pub none_at : {X : Type 0} (t : X → Bool) (xs : List X) (d : X) → ((i : ℕ) → i < length xs → t (get_or xs i d) ≡ true → ⊥) → count_by t xs ≡ 0
-none_at t [] d h = refl
-none_at t (x ∷ xs) d h =
-    let m = sum_by-cons (λ (y : _). cond (t y) 1 0) x xs in
-    let e : tick (t x) ≡ 0 = ap tick (false_from_ne_true (t x) (λ f. h 0 (omega arith) f)) in
-    let r = none_at t xs d (λ i l f. h (suc i) (omega arith) f) in
+pub sum_nothing : {A : Type 0} (f : A → ℕ) (d : A) (xs : List A) → ((i : ℕ) → i < length xs → f (get_or xs i d) ≡ 0) → sum_by f xs ≡ 0
+sum_nothing f d xs none = sum_by_none f xs (λ x c. ap f (sym c.2 ∙ get_or_default xs c.0 x d c.1) ∙ none c.0 c.1)
+
+-- one element alone adds
+pub sum_alone : {A : Type 0} (f : A → ℕ) (d : A) (xs : List A) (j v : ℕ) → j < length xs → f (get_or xs j d) ≡ v → ((i : ℕ) → i < length xs → (i ≡ j → ⊥) → f (get_or xs i d) ≡ 0) → sum_by f xs ≡ v
+sum_alone f d [] j v l one none = absurd (omega arith)
+sum_alone f d (x ∷ xs) zero v l one none =
+    let m = sum_by-cons f x xs in
+    let r = sum_nothing f d xs (λ i k. none (suc i) (omega arith) (λ e. omega arith)) in
+    omega arith
+sum_alone f d (x ∷ xs) (suc j) v l one none =
+    let m = sum_by-cons f x xs in
+    let e = none 0 (omega arith) (λ e. omega arith) in
+    let r = sum_alone f d xs j v (omega arith) one (λ i k ne. none (suc i) (omega arith) (λ e. ne (omega arith))) in
     omega arith
 
+pub none_at : {X : Type 0} (t : X → Bool) (xs : List X) (d : X) → ((i : ℕ) → i < length xs → t (get_or xs i d) ≡ true → ⊥) → count_by t xs ≡ 0
+none_at t xs d h = sum_nothing (λ (x : _). cond (t x) 1 0) d xs (λ i l. ap tick (false_from_ne_true (t (get_or xs i d)) (h i l)))
+
 pub once_at : {X : Type 0} (t : X → Bool) (xs : List X) (j : ℕ) (d : X) → j < length xs → t (get_or xs j d) ≡ true → ((i : ℕ) → i < length xs → t (get_or xs i d) ≡ true → i ≡ j) → count_by t xs ≡ 1
-once_at t [] j d l e h = absurd (omega arith)
-once_at t (x ∷ xs) zero d l e h =
-    let m = sum_by-cons (λ (y : _). cond (t y) 1 0) x xs in
-    let f : tick (t x) ≡ 1 = ap tick e in
-    let r = none_at t xs d (λ i k g. let z = h (suc i) (omega arith) g in omega arith) in
-    omega arith
-once_at t (x ∷ xs) (suc j) d l e h =
-    let m = sum_by-cons (λ (y : _). cond (t y) 1 0) x xs in
-    let f : tick (t x) ≡ 0 = ap tick (false_from_ne_true (t x) (λ g. let z = h 0 (omega arith) g in omega arith)) in
-    let r = once_at t xs j d (omega arith) e (λ i k g. let z = h (suc i) (omega arith) g in omega arith) in
-    omega arith
+once_at t xs j d l e h = sum_alone (λ (x : _). cond (t x) 1 0) d xs j 1 l (ap tick e) (λ i k ne. ap tick (false_from_ne_true (t (get_or xs i d)) (λ f. ne (h i k f))))
 
 -- ---- lists that have each dart equally often
 

@@ -1,11 +1,10 @@
 -- Each set of faces has polygons as a trace answers them.
-use Rattle.std.proofs.Common.{◌≡◌, refl, sym, ap, ◌∙◌, subst, arith, ℕ, zero, suc, ◌<◌, Bool, true, false, cond, not, ◌&&◌, List, [], ◌∷◌, map, length, get_or, nat_eq, nat_lt, All, AllPairs, Contains}
+use Rattle.std.proofs.Common.{◌≡◌, refl, sym, ap, ◌∙◌, subst, arith, ℕ, ◌<◌, Bool, true, false, cond, not, ◌&&◌, List, [], map, length, get_or, nat_eq, nat_lt, All, AllPairs, Contains}
 use Rattle.std.specs.List.{sum_by}
 use Rattle.std.specs.List.Sorted.{IsStrictlyIncreasing}
 use Rattle.std.proofs.lemmas.Bool.{and_parts, false_from_ne_true, lt-ltb, ltb-true}
 use Rattle.std.proofs.lemmas.List.{get_or-map, length-map}
 use Rattle.std.proofs.lemmas.List.Elements.{All-contains, All-map}
-use Rattle.std.proofs.lemmas.List.Sums.{sum_by-cons}
 use Rattle.lists.specs.Lists.{has}
 use Rattle.plane_model.specs.Points.{GridPoint, Path, same_point}
 use Rattle.plane_model.specs.Drawing.{Drawing}
@@ -27,6 +26,7 @@ use Rattle.face_sets.proofs.JoinedLemmas.{joined_over}
 use Rattle.ring_trace.proofs.Sums.{sum_by-filter}
 use Rattle.ring_trace.proofs.UsedLemmas.{sum_by-map, times-filter, times_below}
 use Rattle.part_laws.proofs.BoundedLaws.{parts_have_boundaries}
+use Rattle.part_laws.proofs.CountLemmas.{sum_alone, sum_nothing}
 use Rattle.region_laws.specs.Followed.{IsWalked}
 use Rattle.region_laws.proofs.PartsExist.{parts_exist}
 use Rattle.region_laws.proofs.Prints.{faces_of_links}
@@ -34,27 +34,6 @@ use Rattle.picture_laws.proofs.Cycles.{AreEven}
 use Rattle.picture_laws.proofs.Orders.{IsOfArcs, polygon_exists}
 
 -- ---- sums
-
-sum_nothing : {A : Type 0} (f : A → ℕ) (d : A) (xs : List A) → ((i : ℕ) → i < length xs → f (get_or xs i d) ≡ 0) → sum_by f xs ≡ 0
-sum_nothing f d [] none = refl
-sum_nothing f d (x ∷ xs) none =
-    let m = sum_by-cons f x xs in
-    let e = none 0 (omega arith) in
-    let r = sum_nothing f d xs (λ i k. none (suc i) (omega arith)) in
-    omega arith
-
--- one element alone adds
-sum_alone : {A : Type 0} (f : A → ℕ) (d : A) (xs : List A) (j v : ℕ) → j < length xs → f (get_or xs j d) ≡ v → ((i : ℕ) → i < length xs → (i ≡ j → ⊥) → f (get_or xs i d) ≡ 0) → sum_by f xs ≡ v
-sum_alone f d [] j v l one none = absurd (omega arith)
-sum_alone f d (x ∷ xs) zero v l one none =
-    let m = sum_by-cons f x xs in
-    let r = sum_nothing f d xs (λ i k. none (suc i) (omega arith) (λ e. omega arith)) in
-    omega arith
-sum_alone f d (x ∷ xs) (suc j) v l one none =
-    let m = sum_by-cons f x xs in
-    let e = none 0 (omega arith) (λ e. omega arith) in
-    let r = sum_alone f d xs j v (omega arith) one (λ i k ne. none (suc i) (omega arith) (λ e. ne (omega arith))) in
-    omega arith
 
 -- ---- how often arcs are in a boundary
 

@@ -18,6 +18,7 @@ use Rattle.plane_faces.specs.Places.{Place}
 use Rattle.face_walk.specs.Places.{FaceTable}
 use Rattle.face_sets.specs.Owners.{owners_of}
 use Rattle.face_sets.proofs.BoundaryLemmas.{Contains_has, has_Contains}
+use Rattle.face_sets.proofs.OwnerLemmas.{numbers-map}
 use Rattle.line_ops.specs.Points.{IsInsideAt}
 use Rattle.region_model.specs.Region.{Region, any_of, Has}
 use Rattle.region_model.specs.Answers.{Answers}
@@ -33,10 +34,6 @@ use Rattle.place_laws.specs.Matched.{IsSetOfRegion, IsToldInside, MatchesAreInsi
 any_mapped : {X : Type 0} (test : X → Bool) (xs : List X) → list_any test xs ≡ list_any (λ (b : Bool). b) (map test xs)
 any_mapped test [] = refl
 any_mapped test (x ∷ xs) = ap (λ (b : Bool). test x || b) (any_mapped test xs)
-
-numbers_mapped : {X Y : Type 0} (k : ℕ) (test : Y → Bool) (f : X → Y) (xs : List X) → numbers_from k test (map f xs) ≡ numbers_from k (λ (x : X). test (f x)) xs
-numbers_mapped k test f [] = refl
-numbers_mapped k test f (x ∷ xs) = ap (λ (ns : List ℕ). cond (test (f x)) (k ∷ ns) ns) (numbers_mapped (k + 1) test f xs)
 
 -- the numbers of elements side by side that pass alike
 numbers_zip : {X Y : Type 0} (k : ℕ) (t : X → Bool) (u : Y → Bool) (xs : List X) (ys : List Y) → AllZip (λ x y. t x ≡ u y) xs ys → numbers_from k t xs ≡ numbers_from k u ys
@@ -174,6 +171,6 @@ sets_are_matched d arcs faces label on A sets regions told points vertices match
         let same = many in
         let below : n < length regions = omega arith in
         get_or-map-range_with_len (owners_of around) 0 (length sets) n n [] (omega arith) (omega arith)
-        ∙ numbers_mapped 0 (λ (set : List ℕ). has nat_eq set n) (around_points A regions) points
+        ∙ numbers-map 0 (λ (set : List ℕ). has nat_eq set n) (around_points A regions) points
         ∙ ap (λ (test : List GridPoint → Bool). numbers_from 0 test points) (λ i list. among n below list i)
         ∙ sym (get_or-map (points_inside A points) regions n (any_of []) [] below)

@@ -14,7 +14,7 @@ use Rattle.plane_model.specs.Snapped.{snapped}
 use Rattle.plane_faces.specs.Places.{Place}
 use Rattle.face_walk.specs.Places.{FaceTable}
 use Rattle.face_sets.specs.Sets.{IsSetOf}
-use Rattle.face_sets.proofs.SetLemmas.{from_ascending}
+use Rattle.face_sets.proofs.SetLemmas.{from_ascending, first_of}
 use Rattle.face_sets.proofs.GapLemmas.{in_range, of_range}
 use Rattle.region_ops.specs.Mosaic.{Group, IsMosaic, faces_of, items_of_groups}
 use Rattle.region_ops.specs.declared.item_lists.MosaicItem.{MosaicItem}
@@ -28,7 +28,7 @@ use Rattle.region_laws.specs.Answered.{FollowInOrder, MosaicAsTold, TellSides, p
 use Rattle.region_laws.proofs.Answered.{emptiness_is_told, nil_or_not, parts_in_order}
 use Rattle.region_laws.proofs.AscendingLists.{IsListOf, filter_ascends, is_list_of, list_is_there, lists_ascend}
 use Rattle.region_laws.proofs.InGroups.{all_keys, all_sets, from_zip}
-use Rattle.region_laws.proofs.Mosaics.{faces_followed, faces_inner, first_of, in_faces, of_faces}
+use Rattle.region_laws.proofs.Mosaics.{faces_followed, faces_inner, in_faces, of_faces}
 use Rattle.region_ops.proofs.OwnerSets.{of_owners}
 use Rattle.region_laws.proofs.Numbers.{owners_rise}
 

@@ -19,7 +19,7 @@ use Rattle.face_walk.specs.Places.{FaceTable}
 use Rattle.face_sets.specs.Owners.{owners_of}
 use Rattle.face_sets.specs.Sets.{IsInnerFace, IsSetOf}
 use Rattle.face_sets.proofs.BoundaryLemmas.{Contains_has, has_Contains}
-use Rattle.face_sets.proofs.SetLemmas.{from_ascending, nat_order, to_ascending, same_from_test, test_from_same}
+use Rattle.face_sets.proofs.SetLemmas.{from_ascending, nat_order, to_ascending, same_from_test, test_from_same, first_of}
 use Rattle.face_sets.proofs.GapLemmas.{in_range, of_range}
 use Rattle.region_ops.specs.Mosaic.{Group, faces_of}
 use Rattle.region_model.specs.Region.{Region, Has}
@@ -85,10 +85,6 @@ exactly_has_points d arcs region many numbers some below z = (to, from)
     )
 
 -- ---- the faces that just some sets have
-
-pub first_of : (xs : List ℕ) → (xs ≡ [] → ⊥) → (n : ℕ) × Contains xs n
-first_of [] some = absurd (some refl)
-first_of (x ∷ xs) some = (x, Contains-head x xs)
 
 module _ (sets : List (List ℕ)) (count : ℕ) (ids : List ℕ) where
   pub in_faces : (k : ℕ) → k < count → owners_of sets k ≡ ids → Contains (faces_of sets count ids) k

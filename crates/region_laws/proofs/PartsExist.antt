@@ -19,10 +19,9 @@ use Rattle.face_sets.specs.Joined.{AreJoined, AreParts, IsChain}
 use Rattle.face_sets.specs.Parts.{IsPieceOf}
 use Rattle.face_sets.proofs.BoundaryLemmas.{Contains_has, below_arc, has_Contains, one_place, outward_from, outward_if, same_or_other}
 use Rattle.face_sets.proofs.JoinedLemmas.{joined_back, joined_itself, joined_on, joined_over}
-use Rattle.face_sets.proofs.SetLemmas.{from_ascending, nat_order}
+use Rattle.face_sets.proofs.SetLemmas.{from_ascending, nat_order, filter_same}
 use Rattle.region_laws.specs.Answered.{PartsExist}
 use Rattle.region_laws.proofs.Least.{lowest, lowest_least, lowest_there}
-use Rattle.region_laws.proofs.TieLaws.{filter_same}
 use Rattle.arc_table.proofs.SignedArcs.{Contains-signed_below}
 
 -- ---- classes of joined faces

@@ -1,5 +1,5 @@
 -- Sets of faces and the sides that belong to their regions.
-use Rattle.std.proofs.Common.{◌≡◌, ◌⊎◌, inl, inr, refl, sym, ap, subst, ◌∙◌, arith, ℕ, ◌<◌, Bool, true, false, cond, Some, List, [], ◌∷◌, Contains, length, filter, get_or, map, nat_eq, nat_lt}
+use Rattle.std.proofs.Common.{◌≡◌, ◌⊎◌, inl, inr, refl, sym, ap, subst, ◌∙◌, arith, ℕ, ◌<◌, Bool, true, false, Some, List, [], ◌∷◌, Contains, length, get_or, map, nat_eq, nat_lt}
 use Rattle.std.specs.Prelude.{◌↔◌}
 use Rattle.std.specs.List.{cons_option, range_with_len}
 use Rattle.std.proofs.lemmas.List.Elements.{All-contains}
@@ -27,7 +27,7 @@ use Rattle.face_laws.proofs.SideLemmas.{dart_there, label_there}
 use Rattle.face_laws.proofs.StepLemmas.{arc_of}
 use Rattle.face_sets.specs.Sets.{IsInnerFace, IsSetOf}
 use Rattle.face_sets.proofs.BoundaryLemmas.{Contains_has, same_or_other}
-use Rattle.face_sets.proofs.SetLemmas.{nat_order, to_ascending}
+use Rattle.face_sets.proofs.SetLemmas.{nat_order, to_ascending, filter_same}
 use Rattle.face_sets.proofs.GapLemmas.{of_range}
 use Rattle.region_ops.specs.Cleaned.{area_of, ranks_before}
 use Rattle.region_ops.specs.Dissolved.{set_at}
@@ -176,10 +176,6 @@ one_set_follows d arcs faces label walked f g up_f up_g inner_f inner_g r in_f i
         ]
 
 -- ---- sets cleaned by the areas of regions
-
-pub filter_same : (p q : ℕ → Bool) (xs : List ℕ) → ((x : ℕ) → Contains xs x → p x ≡ q x) → filter p xs ≡ filter q xs
-filter_same p q [] h = refl
-filter_same p q (x ∷ xs) h = λ i. cond (h x (Contains-head x xs) i) (x ∷ filter_same p q xs (λ y c. h y (Contains-later x xs y c)) i) (filter_same p q xs (λ y c. h y (Contains-later x xs y c)) i)
 
 pub cleaned_by_regions : CleanedByRegions
 cleaned_by_regions d arcs faces label walked sets up inner region each left right sides rule cleaned is n l =

@@ -8,7 +8,7 @@ use Rattle.face_walk.specs.Places.{FaceTable}
 use Rattle.region_ops.specs.declared.item_lists.PartItem.{PartItem}
 use Rattle.region_ops.specs.Exploded.{ArePieces, items_of, IsPushed, AreExploded}
 
-enumerate_push : {A : Type 0} (k n : ℕ) (xs : List A) (x : A) → n ≡ k + length xs → enumerate_from k (xs ++ x ∷ []) ≡ enumerate_from k xs ++ (n, x) ∷ []
+pub enumerate_push : {A : Type 0} (k n : ℕ) (xs : List A) (x : A) → n ≡ k + length xs → enumerate_from k (xs ++ x ∷ []) ≡ enumerate_from k xs ++ (n, x) ∷ []
 enumerate_push k n [] x e = (let f : k ≡ n = omega arith in ap (λ (m : ℕ). (m, x) ∷ []) f)
 enumerate_push k n (y ∷ ys) x e = ap (λ (zs : List (ℕ × _)). (k, y) ∷ zs) (enumerate_push (k + 1) n ys x (omega arith))
 

@@ -5,13 +5,13 @@ use Rattle.std.specs.List.Sorted.{IsStrictlyIncreasing}
 use Rattle.std.proofs.Math.ListN.{get_or-map}
 use Rattle.std.proofs.lemmas.Bool.{cases_eq, eq-eqb, ne_eqb}
 use Rattle.std.proofs.lemmas.List.{length_push, take_more}
-use Rattle.std.proofs.lemmas.List.Elements.{All-nil, All-head, All-tail, All-push, All-weaker, All-contains, All-get_or, All-from_get_or, Contains-push, Contains-append_left}
+use Rattle.std.proofs.lemmas.List.Elements.{All-nil, All-push, All-weaker, All-contains, All-get_or, All-from_get_or, Contains-push, Contains-append_left}
 use Rattle.std.proofs.lemmas.List.Folds.{list_any_at, list_any_none}
 use Rattle.grid_base.specs.declared.kinds.OverlapRule.{OverlapRule}
 use Rattle.std.proofs.lemmas.List.Kept.{IsStrictlyIncreasing-filter}
 use Rattle.lists.specs.Lists.{has, ascending}
 use Rattle.lists.proofs.Ascending.{one_ascending, ascending-IsAscending, ascending-Contains, Contains-ascending}
-use Rattle.face_sets.proofs.SetLemmas.{nat_order, pushed, to_ascending}
+use Rattle.face_sets.proofs.SetLemmas.{nat_order, pushed, to_ascending, filter_same}
 use Rattle.bucket_grid.proofs.Numbers.{Contains-numbers_where}
 use Rattle.face_walk.specs.Places.{FaceTable}
 use Rattle.face_sets.specs.Owners.{owners_of, AreOwners}
@@ -78,13 +78,6 @@ first_is rule areas numbers n (Some w) h c = elim (cases_eq w n) [
       ne_eqb w n apart ∙ sym (ap not (list_any_at (λ m. is_before rule areas m n) numbers h.0.0 w h.0.1 (ap (λ (m : ℕ). is_before rule areas m n) h.0.2 ∙ wins)))
 ]
 
-filter_same : (p q : ℕ → Bool) (xs : List ℕ) → All (λ x. p x ≡ q x) xs → filter p xs ≡ filter q xs
-filter_same p q [] h = refl
-filter_same p q (x ∷ xs) h =
-    let rest = filter_same p q xs (All-tail (λ x. p x ≡ q x) x xs h) in
-    let here = All-head (λ x. p x ≡ q x) x xs h in
-    λ i. cond (here i) (x ∷ rest i) (rest i)
-
 pub area_is : (areas : List ℤ) (sets : List (List ℕ)) (n : ℕ) → get_or (map (area_of areas) sets) n (pos 0) ≡ area_of areas (set_at sets n)
 area_is areas sets n = get_or-map (area_of areas) sets n []
 
@@ -92,13 +85,13 @@ pub are_cleaned : (rule : OverlapRule) (t : FaceTable) (sets owners : List (List
     AreOwners sets t.count owners → AreFirsts rule (map (area_of t.areas) sets) owners t.count firsts → AreWon firsts sets (length sets) won → IsCleaned rule t.areas sets won
 are_cleaned rule t sets owners firsts won inner owned first kept = record {
   count = kept.each;
-  kept = λ n l. kept.exact n l ∙ filter_same (is_first firsts n) (λ (k : ℕ). not (is_lost rule t.areas sets n k)) (set_at sets n) (All-from_get_or (λ k. is_first firsts n k ≡ not (is_lost rule t.areas sets n k)) (set_at sets n) 0 (λ i within.
+  kept = λ n l. kept.exact n l ∙ filter_same (is_first firsts n) (λ (k : ℕ). not (is_lost rule t.areas sets n k)) (set_at sets n) (λ x c. All-contains (λ k. is_first firsts n k ≡ not (is_lost rule t.areas sets n k)) (set_at sets n) x (All-from_get_or (λ k. is_first firsts n k ≡ not (is_lost rule t.areas sets n k)) (set_at sets n) 0 (λ i within.
       let k = get_or (set_at sets n) i 0 in
       let there : k < t.count = (All-get_or (IsInnerFace t) (set_at sets n) i 0 within (All-get_or (IsSetOf t) sets n [] l inner)).there in
       let owns : Contains (owners_of sets k) n = Contains-numbers_where (λ (set : List ℕ). has nat_eq set k) sets n [] l (list_any_at (nat_eq k) (set_at sets n) i 0 within (eq-eqb k k refl)) in
       let areas = map (area_of t.areas) sets in
       first_is rule areas (owners_of sets k) n (get_or firsts k None) (subst (λ (numbers : List ℕ). IsFirst rule areas numbers (get_or firsts k None)) (owned.exact k there) (first.exact k there)) owns
-      ∙ (λ j. not (list_any (λ (m : ℕ). ranks_before rule m (area_is t.areas sets m j) n (area_is t.areas sets n j)) (owners_of sets k)))));
+      ∙ (λ j. not (list_any (λ (m : ℕ). ranks_before rule m (area_is t.areas sets m j) n (area_is t.areas sets n j)) (owners_of sets k))))) c);
 }
 
 -- some of an ascending list are in order

@@ -1,14 +1,8 @@
 -- Lists that grow at their end.
-use Rattle.std.proofs.Common.{Result, Ok, Err, ◌≡◌, ℕ, ◌+◌, List, [], ◌∷◌, ◌++◌, length, ◌<◌, get_or, take, ap, sym, subst, ◌∙◌}
+use Rattle.std.proofs.Common.{◌≡◌, ℕ, ◌+◌, List, [], ◌∷◌, ◌++◌, length, ◌<◌, get_or, take, ap, sym, subst, ◌∙◌}
 use Rattle.std.proofs.lemmas.List.{take_more}
 use Rattle.std.specs.List.{AllZip, range_with_len}
-use Rattle.std.specs.Prelude.{IfOk}
 use Rattle.face_sets.proofs.GapLemmas.{range_more as range_grows}
-
--- what holds of an answer
-pub if_ok_on : {T E : Type 0} (P Q : T → Type 0) (r : Result T E) → ((x : T) → P x → Q x) → IfOk r P → IfOk r Q
-if_ok_on P Q (Ok x) f h = f x h
-if_ok_on P Q (Err e) f h = tt
 
 pub zipped_on : {A B : Type 0} (R : A → B → Type 0) (xs : List A) (ys : List B) (x : A) (y : B) → AllZip R xs ys → R x y → AllZip R (xs ++ x ∷ []) (ys ++ y ∷ [])
 zipped_on R [] [] x y h r = (r, tt)

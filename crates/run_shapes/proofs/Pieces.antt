@@ -9,6 +9,7 @@ use Rattle.plane_model.specs.Arcs.{SignedArc}
 use Rattle.face_walk.specs.Places.{FaceTable}
 use Rattle.region_ops.specs.Items.{IsPart}
 use Rattle.region_ops.specs.declared.item_lists.PartItem.{PartItem}
+use Rattle.region_ops.proofs.ExplodedLemmas.{enumerate_push}
 use Rattle.run_shapes.specs.Exploding.{one_path, one_point, repeated, split_paths, split_points, split_shape}
 use Rattle.run_plane.specs.declared.layer.Shape.{Shape}
 
@@ -20,16 +21,12 @@ pub some_points : (points : List GridPoint) → 0 < length points → split_poin
 some_points [] h = absurd (omega arith)
 some_points (p ∷ points) h = refl
 
-numbered_on : {A : Type 0} (k n : ℕ) (xs : List A) (x : A) → n ≡ k + length xs → enumerate_from k (xs ++ x ∷ []) ≡ enumerate_from k xs ++ (n, x) ∷ []
-numbered_on k n [] x e = (let f : k ≡ n = omega arith in ap (λ (m : ℕ). (m, x) ∷ []) f)
-numbered_on k n (y ∷ ys) x e = ap (λ (zs : List (ℕ × _)). (k, y) ∷ zs) (numbered_on (k + 1) n ys x (omega arith))
-
 -- the numbers of the pieces of one shape more
 pub repeated_on : (shapes : List Shape) (n : ℕ) (s : Shape) → n < length shapes → s ≡ get_or shapes n s →
     flat_map repeated (enumerate_from 0 (take (n + 1) shapes)) ≡ flat_map repeated (enumerate_from 0 (take n shapes)) ++ replicate (length (split_shape s)) n
 repeated_on shapes n s l is =
     ap (λ (ss : List Shape). flat_map repeated (enumerate_from 0 ss)) (take_more shapes n s l ∙ ap (λ (x : Shape). take n shapes ++ x ∷ []) (sym is))
-    ∙ ap (flat_map repeated) (numbered_on 0 n (take n shapes) s (let e = length-take-le n shapes (omega arith) in omega arith))
+    ∙ ap (flat_map repeated) (enumerate_push 0 n (take n shapes) s (let e = length-take-le n shapes (omega arith) in omega arith))
     ∙ flat_map-append repeated (enumerate_from 0 (take n shapes)) ((n, s) ∷ [])
     ∙ ap (λ (ns : List ℕ). flat_map repeated (enumerate_from 0 (take n shapes)) ++ ns) (append-nil (replicate (length (split_shape s)) n))
 

@@ -1,6 +1,5 @@
 -- What stops a command is its first refusal.
-use Rattle.std.proofs.Common.{◌≡◌, Option, None, Some, Result, Ok, Err, ap, ◌∙◌}
-use Rattle.std.specs.Prelude.{IfErr}
+use Rattle.std.proofs.Common.{◌≡◌, Option, None, Some, Result, Err, ap, ◌∙◌}
 use Rattle.table_terms.specs.Refusals.{first_refusal}
 use Rattle.table_rows.specs.Refusals.{Answers}
 use Rattle.table_rows.specs.declared.fault.TableFault.{TableFault}
@@ -10,11 +9,6 @@ use Rattle.run_state.specs.Stops.{StopsFor, stop_of, table_refusal}
 use Rattle.run_state.specs.declared.refusal.RefuseWhy.{RefuseWhy}
 use Rattle.run_state.specs.declared.state.CommandStop.{CommandStop}
 use Rattle.run_state.specs.declared.state.CommandStop.TheVariants as stop
-
--- what holds of why a call stops
-pub if_err_on : {T E : Type 0} (P Q : E → Type 0) (r : Result T E) → ((e : E) → P e → Q e) → IfErr r P → IfErr r Q
-if_err_on P Q (Ok x) f h = tt
-if_err_on P Q (Err e) f h = f e h
 
 -- a fault of a call on tables is its refusal, or want of memory
 pub table_stops : {T : Type 0} (fault : TableFault) (wanted : Result T TableWhy) → Answers (Err fault) wanted → StopsFor (table_refusal wanted) (stop_of fault)

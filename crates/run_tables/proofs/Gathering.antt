@@ -15,7 +15,7 @@ use Rattle.run_tables.specs.Gathering.{all_rows}
 use Rattle.run_tables.specs.Made.{refused_layers}
 
 -- what is answered where nothing is refused
-answered : {T E : Type 0} (refusal : Option E) (v t : T) → unless refusal (Ok v) ≡ Ok t → v ≡ t
+pub answered : {T E : Type 0} (refusal : Option E) (v t : T) → unless refusal (Ok v) ≡ Ok t → v ≡ t
 answered None v t h = grind arith
 answered (Some why) v t h = grind arith
 

@@ -15,7 +15,7 @@ use Rattle.plane_faces.specs.Places.{Place}
 use Rattle.plane_faces.proofs.FaceLaws.{place_beside}
 use Rattle.face_walk.specs.Places.{FaceTable}
 use Rattle.face_sets.specs.Sets.{IsInnerFace, IsSetOf}
-use Rattle.face_sets.proofs.SetLemmas.{from_ascending}
+use Rattle.face_sets.proofs.SetLemmas.{from_ascending, first_of}
 use Rattle.face_sets.proofs.GapLemmas.{in_range, of_range}
 use Rattle.union_ops.specs.Choices.{choice_before, choice_of, has_number, same_choice}
 use Rattle.union_ops.specs.Union.{Group, IsUnion, faces_of, items_of_groups}
@@ -33,7 +33,6 @@ use Rattle.region_laws.proofs.Answered.{emptiness_is_told, nil_or_not, parts_in_
 use Rattle.region_laws.proofs.AscendingLists.{filter_ascends}
 use Rattle.region_laws.proofs.InGroups.{all_keys, all_sets, from_zip}
 use Rattle.region_laws.proofs.MosaicTold.{rising_range}
-use Rattle.region_laws.proofs.Mosaics.{first_of}
 use Rattle.region_laws.proofs.Walked.{label_below}
 use Rattle.union_laws.specs.United.{FollowLayers, TellChoices, UnionAsTold}
 use Rattle.union_laws.proofs.ChoiceLists.{choices_ascend, one_each}

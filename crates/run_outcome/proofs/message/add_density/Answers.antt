@@ -1,9 +1,9 @@
 use Rattle.std.proofs.Common.{codes, decimal}
-use Rattle.run_outcome.proofs.Steps.{in_steps}
 use Rattle.run_outcome.proofs.message.add_density.Goals as goal
+use Rattle.topo_io.proofs.TextLemmas.{three}
 
 pub returns-clause-added : goal.returns-clause-added
 returns-clause-added c =
-    in_steps c.args.line.now.bytes (codes "TooDense with ") (decimal c.args.count) (codes " links")
+    three c.args.line.now.bytes (codes "TooDense with ") (decimal c.args.count) (codes " links")
     c.push_str.new.self.bytes c.add_number.new.line.bytes c.push_str-2.new.self.bytes
     c.push_str.ensures.bytes c.add_number.ensures.added c.push_str-2.ensures.bytes

@@ -1,14 +1,14 @@
 use Rattle.std.proofs.Common.{◌++◌, ℕ, codes, decimal, ap, sym, ◌∙◌}
 use Rattle.cmd_words.specs.declared.fault.WordWhy.{WordWhy}
 use Rattle.run_outcome.specs.Messages.{Text, expr_kind, word_kind}
-use Rattle.run_outcome.proofs.Steps.{in_steps}
 use Rattle.run_outcome.proofs.message.add_word_why.Goals as goal
+use Rattle.topo_io.proofs.TextLemmas.{three}
 
 pub returns-in-BadExpression-clause-added : goal.returns-in-BadExpression-clause-added
 returns-in-BadExpression-clause-added c =
     let old = c.args.line.now.bytes in
     let at = codes " at " ++ decimal c.from.result in
-    in_steps old (codes "BadExpression ") c.expr_kind.result.now at
+    three old (codes "BadExpression ") c.expr_kind.result.now at
     c.push_str-in-BadExpression.new.self.bytes c.push_str-in-BadExpression-2.new.self.bytes c.add_numbered.new.line.bytes
     c.push_str-in-BadExpression.ensures.bytes c.push_str-in-BadExpression-2.ensures.bytes c.add_numbered.ensures.added
     ∙ ap (λ (kind : Text). old ++ (codes "BadExpression " ++ (kind ++ at))) c.expr_kind.ensures.exact

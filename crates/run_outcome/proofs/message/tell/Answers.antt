@@ -1,8 +1,9 @@
 use Rattle.std.proofs.Common.{◌++◌, codes, ap, subst, ◌∙◌}
 use Rattle.run_outcome.specs.Messages.{Text, outcome_text}
 use Rattle.run_outcome.specs.Telling.{StreamSeen, Offers}
-use Rattle.run_outcome.proofs.Steps.{in_steps, tells}
+use Rattle.run_outcome.proofs.Steps.{tells}
 use Rattle.run_outcome.proofs.message.tell.Goals as goal
+use Rattle.topo_io.proofs.TextLemmas.{three}
 
 pub returns : goal.returns
 returns g c =
@@ -10,7 +11,7 @@ returns g c =
     let before : StreamSeen = record { told = g.M.Sink.held c.args.messages.now; faults = g.M.Sink.faults c.args.messages.now } in
     let after : StreamSeen = record { told = g.M.Sink.held c.offer.new.messages; faults = g.M.Sink.faults c.offer.new.messages } in
     let line = c.as_str.ensures.value
-    ∙ in_steps c.new-line.result.bytes (codes "ms_cli: ") (outcome_text o) (codes "\n")
+    ∙ three c.new-line.result.bytes (codes "ms_cli: ") (outcome_text o) (codes "\n")
     c.push_str.new.self.bytes c.add_outcome.new.line.bytes c.push_str-2.new.self.bytes
     c.push_str.ensures.bytes c.add_outcome.ensures.added c.push_str-2.ensures.bytes
     ∙ ap (λ (xs : Text). xs ++ (codes "ms_cli: " ++ (outcome_text o ++ codes "\n"))) c.new-line.ensures in

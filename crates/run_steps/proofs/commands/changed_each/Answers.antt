@@ -1,10 +1,9 @@
 use Rattle.std.proofs.Common.{◌≡◌, List, None, Option, subst, sym}
-use Rattle.run_plane.proofs.Growth.{if_ok_on}
+use Rattle.std.proofs.lemmas.Result.{IfOk-weaker, IfErr-weaker}
 use Rattle.run_state.specs.Origins.{base_of}
 use Rattle.run_state.specs.Stops.{StopsAs}
 use Rattle.run_state.specs.declared.refusal.RefuseWhy.{RefuseWhy}
 use Rattle.run_state.specs.declared.state.HeldLayer.{HeldLayer}
-use Rattle.run_state.proofs.Stops.{if_err_on}
 use Rattle.run_steps.specs.Refusals.{FailsEach, RefusesEach, unfit_each}
 use Rattle.run_steps.proofs.Refusals.{stops_after}
 use Rattle.run_steps.proofs.commands.changed_each.Goals as goal
@@ -16,7 +15,7 @@ returns-in-Ok-clause-accepted c =
     let command = c.args.command.now in
     let action = c.args.action.now in
     let fit : unfit_each base layers command action ≡ None = subst (λ (seen : List HeldLayer). unfit_each base seen command action ≡ None) c.deref.ensures.value (sym c.in-Ok.ensures.exact) in
-    if_ok_on (λ after. FailsEach base layers command action None) (λ after. RefusesEach base layers command action None) c.each_changed.result (λ after h. (fit, h)) c.each_changed.ensures.accepted
+    IfOk-weaker c.each_changed.result (λ after. FailsEach base layers command action None) (λ after. RefusesEach base layers command action None) (λ after h. (fit, h)) c.each_changed.ensures.accepted
 
 pub returns-in-Ok-clause-stops : goal.returns-in-Ok-clause-stops
 returns-in-Ok-clause-stops c =
@@ -25,5 +24,5 @@ returns-in-Ok-clause-stops c =
     let command = c.args.command.now in
     let action = c.args.action.now in
     let fit : unfit_each base layers command action ≡ None = subst (λ (seen : List HeldLayer). unfit_each base seen command action ≡ None) c.deref.ensures.value (sym c.in-Ok.ensures.exact) in
-    if_err_on (StopsAs (FailsEach base layers command action)) (StopsAs (RefusesEach base layers command action)) c.each_changed.result
+    IfErr-weaker c.each_changed.result (StopsAs (FailsEach base layers command action)) (StopsAs (RefusesEach base layers command action))
     (λ stop h. stops_after (λ (told : Option RefuseWhy). unfit_each base layers command action ≡ told) (FailsEach base layers command action) stop fit h) c.each_changed.ensures.stops

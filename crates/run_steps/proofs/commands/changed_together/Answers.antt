@@ -1,7 +1,8 @@
 use Rattle.std.proofs.Common.{◌≡◌, List, None, subst, sym}
+use Rattle.std.proofs.lemmas.Result.{IfErr-weaker}
 use Rattle.run_state.specs.Stops.{StopsFor}
 use Rattle.run_state.specs.declared.state.HeldLayer.{HeldLayer}
-use Rattle.run_state.proofs.Stops.{if_err_on, stops_second}
+use Rattle.run_state.proofs.Stops.{stops_second}
 use Rattle.run_steps.specs.Refusals.{failed_together, refusal_together, unfit_together}
 use Rattle.run_steps.proofs.commands.changed_together.Goals as goal
 
@@ -11,5 +12,5 @@ returns-in-Ok-clause-stops c =
     let command = c.args.command.now in
     let action = c.args.action.now in
     let fit : unfit_together layers command action ≡ None = subst (λ (seen : List HeldLayer). unfit_together seen command action ≡ None) c.deref.ensures.value (sym c.in-Ok.ensures.exact) in
-    if_err_on (StopsFor (failed_together layers command action)) (StopsFor (refusal_together layers command action)) c.together_changed.result
+    IfErr-weaker c.together_changed.result (StopsFor (failed_together layers command action)) (StopsFor (refusal_together layers command action))
     (λ stop h. stops_second stop (unfit_together layers command action) (failed_together layers command action) fit h) c.together_changed.ensures.stops

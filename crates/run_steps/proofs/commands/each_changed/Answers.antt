@@ -1,11 +1,10 @@
 use Rattle.std.proofs.Common.{◌≡◌, length, map, subst, sym, None, rules}
-use Rattle.run_plane.proofs.Growth.{if_ok_on}
+use Rattle.std.proofs.lemmas.Result.{IfOk-weaker, IfErr-weaker}
 use Rattle.run_state.specs.OnPlane.{AreHeldOn}
 use Rattle.run_state.specs.Origins.{base_of}
 use Rattle.run_state.specs.Stops.{StopsAs, StopsFor}
 use Rattle.run_state.specs.Targets.{placed}
 use Rattle.run_state.proofs.OnPlane.{placed_on}
-use Rattle.run_state.proofs.Stops.{if_err_on}
 use Rattle.run_steps.specs.Refusals.{FailsEach, refused_count}
 use Rattle.run_steps.proofs.AtWork.{each_goes, each_stopped, each_stops}
 use Rattle.run_steps.proofs.commands.each_changed.Goals as goal
@@ -16,7 +15,7 @@ returns-clause-accepted c =
     let layers = c.args.state.layers.items in
     let command = c.args.command.now in
     let outputs = map (λ out. out.items) c.in_ok-outputs.outputs.items in
-    if_ok_on (λ after. refused_count (length (placed command layers outputs)) ≡ None) (λ after. FailsEach base layers command c.args.action.now None) c.put_out.result
+    IfOk-weaker c.put_out.result (λ after. refused_count (length (placed command layers outputs)) ≡ None) (λ after. FailsEach base layers command c.args.action.now None)
     (λ after few. each_goes base layers _ command outputs c.deref.ensures.value c.args.action.now c.in_ok-outputs.ensures.puts c.in_ok-outputs.ensures.accepted few) c.put_out.ensures.accepted
 
 pub returns-clause-stops : goal.returns-clause-stops
@@ -25,7 +24,7 @@ returns-clause-stops c =
     let layers = c.args.state.layers.items in
     let command = c.args.command.now in
     let outputs = map (λ out. out.items) c.in_ok-outputs.outputs.items in
-    if_err_on (StopsFor (refused_count (length (placed command layers outputs)))) (StopsAs (FailsEach base layers command c.args.action.now)) c.put_out.result
+    IfErr-weaker c.put_out.result (StopsFor (refused_count (length (placed command layers outputs)))) (StopsAs (FailsEach base layers command c.args.action.now))
     (λ stop h. each_stops base layers _ command outputs c.deref.ensures.value c.args.action.now c.in_ok-outputs.ensures.puts stop c.in_ok-outputs.ensures.accepted h) c.put_out.ensures.stops
 
 pub returns-in_err-outputs-clause-stops : goal.returns-in_err-outputs-clause-stops
@@ -39,5 +38,5 @@ returns-clause-on c =
     let layers = c.args.state.layers.items in
     let command = c.args.command.now in
     let outputs = map (λ out. out.items) c.in_ok-outputs.outputs.items in
-    if_ok_on (λ after. after.layers.items ≡ placed command layers outputs) (λ after. AreHeldOn plane after.layers.items) c.put_out.result
+    IfOk-weaker c.put_out.result (λ after. after.layers.items ≡ placed command layers outputs) (λ after. AreHeldOn plane after.layers.items)
     (λ after is. subst (AreHeldOn plane) (sym is) (placed_on plane command layers outputs c.requires.on c.in_ok-outputs.ensures.on)) c.put_out.ensures.placed

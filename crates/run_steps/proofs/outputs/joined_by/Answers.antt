@@ -1,11 +1,10 @@
 use Rattle.std.proofs.Common.{◌≡◌, ◌∷◌, ◌∙◌, [], None, Result, ap, sym, subst}
-use Rattle.std.proofs.lemmas.Result.{IfOk-weaker}
+use Rattle.std.proofs.lemmas.Result.{IfOk-weaker, IfErr-weaker}
 use Rattle.table_ops.specs.Join.{join_tables}
 use Rattle.run_plane.specs.declared.layer.Layer.{Layer}
 use Rattle.run_state.specs.Origins.{base_of, one_layer, origin_layers}
 use Rattle.run_state.specs.Stops.{StopsFor, table_refusal}
 use Rattle.run_state.specs.declared.refusal.RefuseWhy.{RefuseWhy}
-use Rattle.run_state.proofs.Stops.{if_err_on}
 use Rattle.run_tables.specs.Made.{GivesTable}
 use Rattle.run_steps.specs.Commands.{Joins}
 use Rattle.run_steps.specs.Refusals.{refused_join}
@@ -33,5 +32,5 @@ returns-in-Ok-clause-stops c =
     let source : Layer = c.in-Ok.source.now in
     let spec = c.args.spec.now in
     let answer = one_layer (origin_layers (base_of c.args.base.now).sources c.args.layers.now c.args.from.now) in
-    if_err_on (StopsFor (table_refusal (join_tables layer.table source.table spec))) (StopsFor (refused_join answer spec layer)) c.joined.result
+    IfErr-weaker c.joined.result (StopsFor (table_refusal (join_tables layer.table source.table spec))) (StopsFor (refused_join answer spec layer))
     (λ stop h. subst (λ (r : Result Layer RefuseWhy). StopsFor (refused_join r spec layer) stop) (sym c.in-Ok.ensures.ok) h) c.joined.ensures.stops

@@ -1,10 +1,9 @@
 use Rattle.std.proofs.Common.{List, [], ◌∷◌, ℕ, None, Ok}
+use Rattle.std.proofs.lemmas.Result.{IfOk-weaker, IfErr-weaker}
 use Rattle.run_plane.specs.declared.layer.Layer.{Layer}
-use Rattle.run_plane.proofs.Growth.{if_ok_on}
 use Rattle.run_tables.specs.Matching.{AreMatches}
 use Rattle.run_state.specs.Origins.{base_of, one_layer, origin_layers}
 use Rattle.run_state.specs.Stops.{StopsAs}
-use Rattle.run_state.proofs.Stops.{if_err_on}
 use Rattle.run_tables.specs.Made.{GivesTable}
 use Rattle.spatial_join.specs.Joined.{join_matched}
 use Rattle.run_steps.specs.Commands.{JoinsByPlace}
@@ -18,8 +17,8 @@ returns-in-Ok-clause-joins c =
     let source : Layer = c.in-Ok.source.now in
     let layer : Layer = c.args.layer.now in
     let spec = c.args.spec.now in
-    if_ok_on (λ made. (matches : List (List ℕ)) × AreMatches base.plane source layer matches × GivesTable (join_matched layer.table source.table matches spec) layer made)
-    (λ made. JoinsByPlace base c.args.layers.now c.args.from.now spec layer (made ∷ [])) c.joined_with.result
+    IfOk-weaker c.joined_with.result (λ made. (matches : List (List ℕ)) × AreMatches base.plane source layer matches × GivesTable (join_matched layer.table source.table matches spec) layer made)
+    (λ made. JoinsByPlace base c.args.layers.now c.args.from.now spec layer (made ∷ []))
     (λ made w. record { source = source; found = c.in-Ok.ensures.ok; matches = w.0; are = w.1; joined = w.2 }) c.joined_with.ensures.joins
 
 pub returns-in-Ok-clause-accepted : goal.returns-in-Ok-clause-accepted
@@ -29,7 +28,7 @@ returns-in-Ok-clause-accepted c =
     let layer : Layer = c.args.layer.now in
     let spec = c.args.spec.now in
     let answer = one_layer (origin_layers base.sources c.args.layers.now c.args.from.now) in
-    if_ok_on (λ made. RefusesByPlace base.plane (Ok source) spec layer None) (λ made. RefusesByPlace base.plane answer spec layer None) c.joined_with.result
+    IfOk-weaker c.joined_with.result (λ made. RefusesByPlace base.plane (Ok source) spec layer None) (λ made. RefusesByPlace base.plane answer spec layer None)
     (λ made h. source_goes base.plane spec layer answer source c.in-Ok.ensures.ok h) c.joined_with.ensures.accepted
 
 pub returns-in-Ok-clause-stops : goal.returns-in-Ok-clause-stops
@@ -39,5 +38,5 @@ returns-in-Ok-clause-stops c =
     let layer : Layer = c.args.layer.now in
     let spec = c.args.spec.now in
     let answer = one_layer (origin_layers base.sources c.args.layers.now c.args.from.now) in
-    if_err_on (StopsAs (RefusesByPlace base.plane (Ok source) spec layer)) (StopsAs (RefusesByPlace base.plane answer spec layer)) c.joined_with.result
+    IfErr-weaker c.joined_with.result (StopsAs (RefusesByPlace base.plane (Ok source) spec layer)) (StopsAs (RefusesByPlace base.plane answer spec layer))
     (λ stop h. source_stops base.plane spec layer answer source stop c.in-Ok.ensures.ok h) c.joined_with.ensures.stops

@@ -1,8 +1,7 @@
 use Rattle.std.proofs.Common.{◌≡◌, List, ℕ, None, Ok}
-use Rattle.std.proofs.lemmas.Result.{IfOk-weaker}
+use Rattle.std.proofs.lemmas.Result.{IfOk-weaker, IfErr-weaker}
 use Rattle.run_plane.specs.declared.layer.Layer.{Layer}
 use Rattle.run_state.specs.Stops.{StopsAs, StopsFor, table_refusal}
-use Rattle.run_state.proofs.Stops.{if_err_on}
 use Rattle.run_tables.specs.Matching.{AreMatches}
 use Rattle.run_tables.specs.Made.{GivesTable}
 use Rattle.spatial_join.specs.Joined.{join_matched}
@@ -35,5 +34,5 @@ returns-clause-stops c =
     let source : Layer = c.args.source.now in
     let spec = c.args.spec.now in
     let matches : List (List ℕ) = c.in_ok-matches.matches in
-    if_err_on (StopsFor (table_refusal (join_matched layer.table source.table matches spec))) (StopsAs (RefusesByPlace c.args.plane.now (Ok source) spec layer)) c.joined_by_matches.result
+    IfErr-weaker c.joined_by_matches.result (StopsFor (table_refusal (join_matched layer.table source.table matches spec))) (StopsAs (RefusesByPlace c.args.plane.now (Ok source) spec layer))
     (λ stop h. place_stops c.args.plane.now source spec layer matches stop c.in_ok-matches.ensures.exact h) c.joined_by_matches.ensures.stops
