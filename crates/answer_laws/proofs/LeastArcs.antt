@@ -20,12 +20,12 @@ use Rattle.plane_model.specs.Snapped.{links_of}
 use Rattle.plane_parity.proofs.Abscissa.{same_link-self, same_link-true}
 use Rattle.plane_faces.specs.Rings.{IsRing}
 use Rattle.face_sets.proofs.SetLemmas.{nat_order}
+use Rattle.part_laws.proofs.ClassLemmas.{passes}
 use Rattle.printed_laws.proofs.EachStep.{each_back}
 use Rattle.answer_laws.proofs.Bounding.{of_boundary, ring_trail}
 use Rattle.answer_laws.proofs.Covers.{arcs_whole, some_arc}
 use Rattle.answer_laws.proofs.Rounds.{IsBegunWith, begun_with}
 use Rattle.answer_laws.proofs.Trails.{GoesAlong, IsTrail, IsWhole, trail_back, whole_back}
-use Rattle.part_laws.proofs.ClassLemmas.{passes}
 
 -- ---- least numbers
 

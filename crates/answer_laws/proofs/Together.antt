@@ -33,6 +33,7 @@ use Rattle.plane_faces.proofs.Sorting.{rotations_exist}
 use Rattle.region_model.specs.Region.{Region, Has, part}
 use Rattle.region_model.specs.Answers.{Answers, AreRight, boundary, plane_of}
 use Rattle.region_model.specs.Printed.{EachRegionIsPrinted, FitsPartOf}
+use Rattle.face_sets.proofs.GapLemmas.{in_range}
 use Rattle.region_laws.proofs.OffLinks.{off_from_left, off_from_right}
 use Rattle.region_laws.proofs.MosaicTold.{from_start}
 use Rattle.region_laws.proofs.Walked.{links_arranged, links_distinct}
@@ -45,7 +46,6 @@ use Rattle.answer_laws.proofs.FaceSets.{from_left, from_right, label, labelling,
 use Rattle.answer_laws.proofs.PartPolygons.{each_part_is_printed, has_label, joined_by_part, label_tells, not_outer, part_of, parts_labelled}
 use Rattle.answer_laws.proofs.Parts.{part_exists}
 use Rattle.answer_laws.proofs.Trails.{GoesAlong}
-use Rattle.face_sets.proofs.GapLemmas.{in_range}
 
 -- ---- lists with the same elements
 

@@ -18,9 +18,9 @@ use Rattle.lists.proofs.Members.{Contains-head, Contains-later, Contains-nil, Co
 use Rattle.lists.proofs.Ascending.{IsStrictOrder, IsAscending, one_ascending, ascending_of_pairs}
 use Rattle.json_values.specs.declared.value.Value.{Value}
 use Rattle.json_values.specs.declared.value.Value.TheVariants as cell
+use Rattle.face_sets.proofs.Orders.{is_less, strict_order}
 use Rattle.calc_ops.specs.Keys.{key_at}
 use Rattle.calc_ops.specs.KeyOrder.{type_place, value_order, key_order, comes_before, row_order}
-use Rattle.face_sets.proofs.Orders.{is_less, strict_order}
 
 -- ---- the order of keys, by numbers and texts that they stand for
 

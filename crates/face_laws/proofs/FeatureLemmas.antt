@@ -14,10 +14,8 @@ use Rattle.bucket_grid.proofs.Growth.{slice_get-append_left, slice_get-append_ri
 use Rattle.face_walk.specs.Holders.{AreOwnersOf, list_at}
 use Rattle.face_walk.specs.RingSteps.{owners_from}
 use Rattle.face_laws.specs.Holders.{FeaturesOfADrawing}
-use Rattle.face_laws.proofs.HoldingLemmas.{items_of_a_drawing}
 use Rattle.face_laws.proofs.HolderLemmas.{there_any, any_there}
-
--- ---- some element passes
+use Rattle.face_laws.proofs.HoldingLemmas.{items_of_a_drawing}
 
 -- ---- joined lists
 

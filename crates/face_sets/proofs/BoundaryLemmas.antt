@@ -12,10 +12,10 @@ use Rattle.lists.specs.Lists.{has}
 use Rattle.lists.proofs.Members.{Contains-nil, Contains-filter, filter-Contains, Contains-map, map-Contains}
 use Rattle.plane_model.specs.Points.{Path}
 use Rattle.plane_model.specs.Arcs.{SignedArc}
+use Rattle.arc_table.proofs.SignedArcs.{Contains-signed_below, all_below}
 use Rattle.face_walk.specs.Places.{FaceTable, HasArc, IsBuiltOf, place_of, face_left_of, has_left, signed_below, arcs_with_left}
 use Rattle.face_sets.specs.declared.joined_faces.Side.{Side}
 use Rattle.face_sets.specs.Boundary.{other_way, face_right_of, is_outward, IsOnBoundary, outward_at, side_at, sides_from, sides_of}
-use Rattle.arc_table.proofs.SignedArcs.{Contains-signed_below, all_below}
 
 -- ---- signed arcs
 

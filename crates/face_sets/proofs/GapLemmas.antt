@@ -10,13 +10,13 @@ use Rattle.std.proofs.lemmas.Option.{get_or_from_slice_get}
 use Rattle.std.proofs.lemmas.Bool.{not-true}
 use Rattle.lists.specs.Lists.{has, joined_up}
 use Rattle.lists.proofs.Members.{filter-Contains}
+use Rattle.plane_model.proofs.PointOrder.{clash}
 use Rattle.face_walk.specs.Places.{FaceTable}
 use Rattle.face_walk.proofs.RingStepLemmas.{joined_more}
 use Rattle.face_sets.specs.Gaps.{outside_of, has_outer}
 use Rattle.face_sets.specs.Parts.{IsPieceOf}
 use Rattle.face_sets.specs.Sets.{IsInnerFace, IsSetOf}
 use Rattle.face_sets.proofs.BoundaryLemmas.{Contains_has}
-use Rattle.plane_model.proofs.PointOrder.{clash}
 
 -- ---- what is outside
 

@@ -133,6 +133,7 @@ All-ascending P xs h = All-from_get_or P (ascending nat_lt xs) 0 (λ k within.
     All-contains P xs (get_or (ascending nat_lt xs) k 0) h (ascending-Contains nat_lt nat_order xs (get_or (ascending nat_lt xs) k 0) (Contains-get_or (ascending nat_lt xs) k 0 within)))
 
 -- ---- the same list
+
 pub same_pointwise : (xs ys : List ℕ) → same_list nat_eq xs ys ≡ pointwise nat_eq xs ys
 same_pointwise [] [] = refl
 same_pointwise [] (y ∷ ys) = refl

@@ -5,7 +5,6 @@ use Rattle.std.proofs.lemmas.Bool.{or_parts, or_from}
 use Rattle.std.proofs.lemmas.List.{append-nil}
 use Rattle.std.proofs.lemmas.List.Folds.{list_any-append}
 use Rattle.word_laws.proofs.Tests.{first_is_none, second_is_none, refused_none}
-use Rattle.word_laws.proofs.Laws.{standard_of_import}
 use Rattle.table_terms.specs.Names.{Text}
 use Rattle.table_terms.specs.Refusals.{on_ok}
 use Rattle.cmd_words.specs.declared.fault.WordWhy.{WordWhy}
@@ -19,6 +18,7 @@ use Rattle.cmd_words.specs.Words.{Reading, JobWords, synth, chain}
 use Rattle.word_model.specs.CommandTable.{Item, option, bare, argument, Said, ArgumentForm, nothing, files, source, list, expression, assignments, renames, text, Line, CommandLine, value_in, list_or_empty, has_argument, argument_text, form_in, number_in, import_line, line_of}
 use Rattle.word_model.specs.Words.{Word, Groups, groups_of, item_of, is_standard_item, reads_standard, has_room, refused_if, refused_text, refused_argument, refused_item, says, is_source, standard_among, with_command, finished, read_line, read_command, read_commands, without_import_word, places_in, import_source, imported, after_import, read_groups, read_synth, read_job, argument_number}
 use Rattle.chain_model.specs.Headline as headline
+use Rattle.word_laws.proofs.Laws.{standard_of_import}
 use Rattle.headline_laws.specs.ToldSources.{HasAtMostOne, IsReadOnce}
 use Rattle.headline_laws.specs.Imported.{StandardInputIsReadOnce}
 

@@ -18,6 +18,7 @@ use Rattle.plane_model.specs.Snapped.{links_of, snapped}
 use Rattle.plane_model.proofs.PointOrder.{before_to}
 use Rattle.plane_faces.specs.Places.{Place, left_side, right_side}
 use Rattle.plane_faces.proofs.Order.{before_not_back}
+use Rattle.arc_table.proofs.SignedArcs.{Contains-signed_below}
 use Rattle.face_walk.specs.Places.{FaceTable, arcs_with_left, face_left_of, has_left, signed_below}
 use Rattle.face_sets.specs.Boundary.{face_right_of, is_outward, other_way, outward_at}
 use Rattle.face_sets.specs.Owners.{owners_of}
@@ -36,7 +37,6 @@ use Rattle.region_laws.specs.Followed.{IsWalked}
 use Rattle.region_laws.specs.Answered.{TellSides, plane_with}
 use Rattle.region_laws.proofs.SideTests.{left_same, right_same}
 use Rattle.region_laws.proofs.Walked.{links_arranged}
-use Rattle.arc_table.proofs.SignedArcs.{Contains-signed_below}
 
 -- ---- lists
 

@@ -20,12 +20,12 @@ use Rattle.table_rows.specs.Splitting.{pieces_by, single_rows, split_rows}
 use Rattle.table_rows.specs.declared.split.SplitItem.{SplitItem}
 use Rattle.table_rows.proofs.Numbers.{numbers_where-below}
 use Rattle.table_rows.proofs.Pieces.{pieces_below, singles_below}
+use Rattle.face_sets.proofs.GapLemmas.{range_below}
 use Rattle.calc_ops.specs.EarlyRows.{are_early, early_after, uniq_rows}
 use Rattle.calc_ops.specs.Keys.{keys_from, keys_of}
 use Rattle.calc_ops.specs.KeyOrder.{comes_before, sort_rows}
-use Rattle.layer_laws.proofs.Numbered.{sort_keeps}
-use Rattle.face_sets.proofs.GapLemmas.{range_below}
 use Rattle.run_tables.proofs.Gathering.{answered}
+use Rattle.layer_laws.proofs.Numbered.{sort_keeps}
 
 -- ---- an answer for each row
 

@@ -12,6 +12,8 @@ use Rattle.grid_base.specs.declared.kinds.Kind.{Kind}
 use Rattle.grid_base.specs.declared.kinds.Kind.TheVariants as kinds
 use Rattle.table_rows.specs.Rows.{row_at}
 use Rattle.region_model.specs.Answers.{is_empty as is_empty_region, is_nil}
+use Rattle.face_sets.proofs.GapLemmas.{range_below}
+use Rattle.face_sets.proofs.SetLemmas.{filter_same}
 use Rattle.region_laws.proofs.Answered.{emptiness_is_told}
 use Rattle.line_laws.specs.Linked.{points_along}
 use Rattle.run_plane.specs.Shapes.{is_empty, shape_at, with_geometry}
@@ -26,8 +28,6 @@ use Rattle.layer_laws.specs.Taken.{EmptinessShows, LeftFeaturesShow}
 use Rattle.layer_laws.proofs.Numbered.{numbers_of_all, taken_of_taken}
 use Rattle.layer_laws.proofs.Taking.{rows_show}
 use Rattle.layer_laws.proofs.Zipped.{zip_at, zip_long, zip_taken}
-use Rattle.face_sets.proofs.GapLemmas.{range_below}
-use Rattle.face_sets.proofs.SetLemmas.{filter_same}
 
 -- ---- shapes
 

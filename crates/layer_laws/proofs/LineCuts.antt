@@ -9,6 +9,7 @@ use Rattle.plane_model.specs.Snapped.{snapped}
 use Rattle.grid_base.specs.declared.kinds.Kind.{Kind}
 use Rattle.grid_base.specs.declared.kinds.Kind.TheVariants as kinds
 use Rattle.face_walk.specs.Places.{FaceTable}
+use Rattle.face_sets.proofs.BoundaryLemmas.{not_not}
 use Rattle.line_ops.specs.Points.{IsInsideAt}
 use Rattle.line_ops.specs.Runs.{ended, runs_after, runs_where}
 use Rattle.region_model.specs.Region.{Region}
@@ -33,7 +34,6 @@ use Rattle.layer_laws.proofs.Empty.{left_features_show}
 use Rattle.layer_laws.proofs.TableCommands.{one_shows}
 use Rattle.layer_laws.proofs.Views.{view_faces}
 use Rattle.layer_laws.proofs.Zipped.{zip_long}
-use Rattle.face_sets.proofs.BoundaryLemmas.{not_not}
 
 -- ---- runs of what is there
 

@@ -41,6 +41,7 @@ use Rattle.run_state.specs.Stops.{table_refusal}
 use Rattle.chain_model.specs.State as state
 use Rattle.chain_model.specs.State.{StateLayer, regions_in}
 use Rattle.chain_model.specs.Features.{Outputs, first_difference, in_layer, inner_lines_layer, just, line_layer, line_row, lines_layer, type_and_rank}
+use Rattle.run_tables.proofs.Gathering.{answered}
 use Rattle.layer_laws.specs.Shown.{View, IsView, FacesShow, LayerShows, LineShows, ShapeShows, plane_of, IsSeenIn}
 use Rattle.layer_laws.specs.Reasons.{OutputsShow, RefusedAlike}
 use Rattle.layer_laws.specs.Lines.{InnerLinesShow, OutlinesShow}
@@ -49,7 +50,6 @@ use Rattle.layer_laws.proofs.PolygonSets.{sets_show}
 use Rattle.layer_laws.proofs.TableCommands.{one_shows}
 use Rattle.layer_laws.proofs.Views.{view_faces}
 use Rattle.layer_laws.proofs.Zipped.{zip_at, zip_long}
-use Rattle.run_tables.proofs.Gathering.{answered}
 
 -- ---- lists
 

@@ -31,11 +31,11 @@ use Rattle.run_state.specs.Stops.{table_refusal}
 use Rattle.run_state.specs.declared.refusal.RefuseWhy.{RefuseWhy}
 use Rattle.run_state.specs.declared.refusal.RefuseWhy.TheVariants.{NoGroupPoints}
 use Rattle.run_tables.specs.Made.{One}
-use Rattle.run_tables.proofs.Gathering.{answered}
 use Rattle.run_borders.specs.Dissolving.{IsGrouped, grouped_shapes, is_point, refused_dissolve}
 use Rattle.run_state.specs.FaceSets.{face_shapes}
 use Rattle.chain_model.specs.State.{StateLayer, region_at, regions_in}
 use Rattle.chain_model.specs.Features.{Outputs, dissolve_layer, dissolved_shape, in_layer, just}
+use Rattle.run_tables.proofs.Gathering.{answered}
 use Rattle.layer_laws.specs.Shown.{View, FacesShow, LayerShows, PolygonShows, ShapeShows, plane_of}
 use Rattle.layer_laws.specs.Reasons.{MakesAlike, RefusedAlike}
 use Rattle.layer_laws.specs.Polygons.{DissolvedPolygonsShow, PolygonsShow}

@@ -13,10 +13,10 @@ use Rattle.std.proofs.lemmas.Slice.Eq.{bytes_eq-Decides}
 use Rattle.lists.specs.Lists.{first_or}
 use Rattle.lists.proofs.Members.{map-Contains}
 use Rattle.table_terms.specs.Names.{Text, has_name}
+use Rattle.face_sets.proofs.GapLemmas.{of_range}
+use Rattle.face_laws.proofs.HolderLemmas.{any_there}
 use Rattle.union_ops.specs.ColumnNames.{AreNewNames, IsNewName, IsNumbered, numbered}
 use Rattle.chain_model.specs.UnionTable.{free_number, new_name, with_new_names}
-use Rattle.face_laws.proofs.HolderLemmas.{any_there}
-use Rattle.face_sets.proofs.GapLemmas.{of_range}
 
 -- ---- the first number of a range that passes
 

@@ -10,6 +10,7 @@ use Rattle.table_rows.specs.Columns.{keep_fields, rename_fields}
 use Rattle.table_ops.specs.Filtering.{filter_rows}
 use Rattle.table_ops.specs.Join.{join_tables}
 use Rattle.table_rows.specs.declared.fault.TableWhy.{TableWhy}
+use Rattle.face_sets.proofs.GapLemmas.{range_below}
 use Rattle.calc_ops.specs.EachRow.{each_rows}
 use Rattle.calc_ops.specs.EarlyRows.{uniq_rows}
 use Rattle.calc_ops.specs.KeyOrder.{sort_rows}
@@ -29,7 +30,6 @@ use Rattle.layer_laws.specs.Tables.{AssignedFieldsShow, EarlyRowsShow, FieldsSho
 use Rattle.layer_laws.proofs.Below.{early_below, filtered_below, sorted_below}
 use Rattle.layer_laws.proofs.Empty.{some_alike, without_empty_of}
 use Rattle.layer_laws.proofs.Taking.{below_shapes, shapes_in, taken_features_show}
-use Rattle.face_sets.proofs.GapLemmas.{range_below}
 
 -- ---- one layer
 

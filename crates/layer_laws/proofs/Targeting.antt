@@ -7,6 +7,7 @@ use Rattle.table_rows.proofs.Numbers.{numbers_where-none}
 use Rattle.job_terms.specs.declared.job.Origin.TheVariants as origin
 use Rattle.job_terms.specs.declared.job.Target.{Target}
 use Rattle.job_terms.specs.declared.job.Target.TheVariants as target
+use Rattle.face_sets.proofs.OwnerLemmas.{numbers-map}
 use Rattle.run_plane.specs.declared.layer.Layer.{Layer}
 use Rattle.run_state.specs.Targets.{has_target, is_layer, is_selected}
 use Rattle.run_state.specs.declared.state.HeldLayer.{HeldLayer}
@@ -17,7 +18,6 @@ use Rattle.layer_laws.specs.Shown.{View, LayerShows, StateShows}
 use Rattle.layer_laws.specs.Targets.{FirstLayersShow, OneLayerShows, OriginsShow, TargetShows, TargetsShow, target_numbers}
 use Rattle.layer_laws.proofs.Numbered.{all_numbers_pass, any-map, zip_where}
 use Rattle.layer_laws.proofs.Zipped.{zip_anywhere, zip_filter, zip_left, zip_long, zip_same}
-use Rattle.face_sets.proofs.OwnerLemmas.{numbers-map}
 
 -- ---- some numbers, or none
 

@@ -15,12 +15,12 @@ use Rattle.plane_faces.specs.Places.{Place}
 use Rattle.face_walk.specs.Crossings.{outer_of}
 use Rattle.face_walk.specs.Holders.{AreHolders, HolderTable, list_at}
 use Rattle.face_walk.specs.Places.{FaceTable}
+use Rattle.face_sets.proofs.GapLemmas.{in_range, of_range}
 use Rattle.face_laws.specs.Faces.{IsFaceOfPlace}
 use Rattle.face_laws.proofs.LabelLemmas.{each_table_has_labels}
 use Rattle.face_sets.specs.Sets.{IsSetOf}
 use Rattle.face_sets.proofs.BoundaryLemmas.{Contains_has, has_Contains}
 use Rattle.face_sets.proofs.SetLemmas.{from_ascending}
-use Rattle.face_sets.proofs.GapLemmas.{in_range, of_range}
 use Rattle.region_model.specs.Region.{Region, box, feature, Has}
 use Rattle.region_model.specs.Answers.{Answers, AreRight}
 use Rattle.region_laws.specs.Answered.{TellRegions, plane_with}

@@ -5,8 +5,8 @@ use Rattle.std.specs.List.{list_any}
 use Rattle.std.proofs.lemmas.List.Elements.{All-get_or}
 use Rattle.std.proofs.lemmas.Option.{get_or_from_slice_get, slice_get-get_or, slice_get_within}
 use Rattle.lists.specs.Lists.{has, joined_up}
-use Rattle.lists.proofs.Members.{Contains-joined_up}
 use Rattle.lists.proofs.Ascending.{one_ascending}
+use Rattle.lists.proofs.Members.{Contains-joined_up}
 use Rattle.plane_model.specs.Points.{RationalPoint, Segment, Path}
 use Rattle.plane_model.specs.Arcs.{SignedArc, forward, backward}
 use Rattle.plane_model.specs.Drawing.{Drawing, Polygon}
@@ -26,6 +26,7 @@ use Rattle.bucket_grid.proofs.Numbers.{Contains-numbers_where}
 use Rattle.bucket_grid.proofs.RisingNumbers.{numbers_where_pass, numbers_where_rise}
 use Rattle.face_walk.specs.Holders.{list_at}
 use Rattle.face_walk.specs.Places.{FaceTable, IsBuiltOf, face_left_of, place_of}
+use Rattle.face_sets.proofs.SetLemmas.{nat_order, to_ascending}
 use Rattle.face_laws.specs.Faces.{SeesSide}
 use Rattle.face_laws.specs.Holders.{FeaturesHoldLeftOf}
 use Rattle.face_laws.proofs.HoldingLemmas.{polygons_sound}
@@ -33,7 +34,6 @@ use Rattle.face_laws.proofs.LabelLemmas.{each_table_has_labels}
 use Rattle.face_laws.proofs.SideLemmas.{dart_there, features_beside_arcs}
 use Rattle.face_sets.specs.Owners.{owners_of}
 use Rattle.face_sets.proofs.BoundaryLemmas.{has_Contains, Contains_has}
-use Rattle.face_sets.proofs.SetLemmas.{nat_order, to_ascending}
 use Rattle.line_ops.specs.Inside as sides
 use Rattle.line_ops.specs.Sided.{left_sets, right_sets, sided_among}
 use Rattle.line_ops.proofs.SideLemmas.{among_below}

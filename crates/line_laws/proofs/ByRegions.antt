@@ -24,9 +24,9 @@ use Rattle.plane_faces.specs.Places.{Place}
 use Rattle.plane_faces.specs.Rings.{dart_of_step, darts_of_path}
 use Rattle.plane_faces.proofs.Order.{place_exists}
 use Rattle.face_walk.specs.Places.{FaceTable}
+use Rattle.face_sets.proofs.OwnerLemmas.{numbers_alike}
 use Rattle.face_laws.specs.Faces.{SeesSide}
 use Rattle.face_sets.proofs.BoundaryLemmas.{has_Contains, Contains_has}
-use Rattle.face_sets.proofs.OwnerLemmas.{numbers_alike}
 use Rattle.line_ops.specs.Inside as sides
 use Rattle.line_ops.specs.Points.{IsInsideAt}
 use Rattle.line_ops.specs.Runs.{runs_where}

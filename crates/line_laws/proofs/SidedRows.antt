@@ -11,11 +11,11 @@ use Rattle.lists.specs.Lists.{same_list}
 use Rattle.lists.proofs.Members.{Contains-map, map-Contains, Contains-filter, filter-Contains, Contains-filter_map, filter_map-Contains}
 use Rattle.plane_model.proofs.PointOrder.{clash}
 use Rattle.face_walk.specs.Places.{FaceTable}
+use Rattle.face_sets.proofs.GapLemmas.{in_range}
+use Rattle.face_sets.proofs.SetLemmas.{same_from_test, test_from_same}
 use Rattle.line_ops.specs.Sided.{has_both, left_sets, right_sets, sided, sided_among}
 use Rattle.line_ops.specs.declared.sides.SidedArc.{SidedArc}
 use Rattle.line_laws.specs.ArcsBetween.{IsSidedBy}
-use Rattle.face_sets.proofs.GapLemmas.{in_range}
-use Rattle.face_sets.proofs.SetLemmas.{same_from_test, test_from_same}
 
 module _ (t : FaceTable) (sets : List (List ℕ)) where
   -- the lists at the sides of an arc are the same

@@ -10,6 +10,7 @@ use Rattle.lists.proofs.Members.{Contains-filter}
 use Rattle.plane_model.specs.Points.{Segment, Path}
 use Rattle.plane_model.specs.Arcs.{SignedArc, forward, backward}
 use Rattle.plane_model.specs.Arrangement.{IsArrangement, IsDistinct}
+use Rattle.plane_parity.proofs.Passing.{same_test}
 use Rattle.plane_faces.specs.Labels.{IsFaceLabelling}
 use Rattle.plane_faces.specs.Places.{Place, outside, left_side, right_side, IsBeside}
 use Rattle.plane_faces.proofs.Connected.{connected}
@@ -19,20 +20,19 @@ use Rattle.arc_table.specs.Along.{GoAlong}
 use Rattle.arc_table.proofs.SignedArcs.{Contains-signed_below}
 use Rattle.face_walk.specs.Places.{FaceTable, IsBuiltOf, face_left_of, signed_below}
 use Rattle.face_walk.proofs.NumberingLemmas.{number_there}
+use Rattle.face_sets.proofs.SetLemmas.{first_of}
 use Rattle.face_laws.specs.Faces.{AreFreeInside, IsFaceOfPlace}
 use Rattle.face_laws.proofs.ClassLemmas.{faces_are_classes}
 use Rattle.face_laws.proofs.LabelLemmas.{each_table_has_labels}
-use Rattle.face_laws.proofs.ShownLemmas.{halves}
 use Rattle.face_sets.specs.Boundary.{IsOnBoundary, boundary, face_right_of, is_outward, other_way}
 use Rattle.face_sets.specs.Joined.{AreParts}
 use Rattle.face_sets.specs.Sets.{IsInnerFace, IsSetOf}
 use Rattle.ring_trace.specs.Traced.{bounded}
 use Rattle.face_sets.proofs.BoundaryLemmas.{back_again, has_Contains, Contains_has, same_or_other}
-use Rattle.face_sets.proofs.SetLemmas.{first_of}
+use Rattle.face_laws.proofs.ShownLemmas.{halves}
 use Rattle.part_laws.specs.Parts.{PartsHaveBoundaries}
 use Rattle.part_laws.proofs.LinkLemmas.{arc_of_link, link_of_arc}
 use Rattle.part_laws.proofs.TracedLaws.{on_boundary}
-use Rattle.plane_parity.proofs.Passing.{same_test}
 
 -- a place other than the outside is left of an arc, or right of one
 arc_of_place : (j : ℕ) → 0 < j → (n : ℕ) × ((2 * n + 1 ≡ j) ⊎ (2 * n + 2 ≡ j))

@@ -33,8 +33,6 @@ use Rattle.region_laws.proofs.Prints.{faces_of_links}
 use Rattle.picture_laws.proofs.Cycles.{AreEven}
 use Rattle.picture_laws.proofs.Orders.{IsOfArcs, polygon_exists}
 
--- ---- sums
-
 -- ---- how often arcs are in a boundary
 
 -- face on the left and none on the right

@@ -7,7 +7,6 @@ use Rattle.std.proofs.lemmas.Bool.{eq-eqb, eqb-true, false_from_ne_true}
 use Rattle.std.proofs.lemmas.List.{get_or_default}
 use Rattle.std.proofs.lemmas.List.Elements.{All-contains, All-filter, All-get_or, Contains-get_or}
 use Rattle.std.proofs.lemmas.Option.{same_Some}
-use Rattle.face_laws.proofs.HolderLemmas.{there_any, any_there}
 use Rattle.lists.specs.Lists.{has, joined_up, same_list, sort_stable}
 use Rattle.lists.proofs.Ascending.{Contains-ascending, first_of_ascending, IsAscending}
 use Rattle.lists.proofs.Members.{Contains-cases, Contains-filter, Contains-filter_map, Contains-head, Contains-joined_up, filter-Contains, filter_map-Contains}
@@ -30,6 +29,7 @@ use Rattle.face_sets.specs.Sets.{IsSetOf}
 use Rattle.face_sets.proofs.BoundaryLemmas.{back_again, same_or_other}
 use Rattle.face_sets.proofs.GapLemmas.{gaps_inner, in_range, of_range}
 use Rattle.face_sets.proofs.SetLemmas.{nat_order}
+use Rattle.face_laws.proofs.HolderLemmas.{there_any, any_there}
 use Rattle.part_laws.proofs.LinkLemmas.{arc_of_link, link_of_arc}
 use Rattle.region_ops.specs.Cleaned.{IsCleaned, area_of, is_lost, ranks_before}
 use Rattle.region_ops.specs.Dissolved.{set_at}

@@ -14,8 +14,8 @@ use Rattle.plane_model.specs.Snapped.{snapped}
 use Rattle.plane_faces.specs.Places.{Place}
 use Rattle.face_walk.specs.Places.{FaceTable}
 use Rattle.face_sets.specs.Sets.{IsSetOf}
-use Rattle.face_sets.proofs.SetLemmas.{from_ascending, first_of}
 use Rattle.face_sets.proofs.GapLemmas.{in_range, of_range}
+use Rattle.face_sets.proofs.SetLemmas.{from_ascending, first_of}
 use Rattle.region_ops.specs.Mosaic.{Group, IsMosaic, faces_of, items_of_groups}
 use Rattle.region_ops.specs.declared.item_lists.MosaicItem.{MosaicItem}
 use Rattle.region_ops.proofs.ListOrder.{list_order}

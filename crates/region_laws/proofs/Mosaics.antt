@@ -19,8 +19,8 @@ use Rattle.face_walk.specs.Places.{FaceTable}
 use Rattle.face_sets.specs.Owners.{owners_of}
 use Rattle.face_sets.specs.Sets.{IsInnerFace, IsSetOf}
 use Rattle.face_sets.proofs.BoundaryLemmas.{Contains_has, has_Contains}
-use Rattle.face_sets.proofs.SetLemmas.{from_ascending, nat_order, to_ascending, same_from_test, test_from_same, first_of}
 use Rattle.face_sets.proofs.GapLemmas.{in_range, of_range}
+use Rattle.face_sets.proofs.SetLemmas.{from_ascending, nat_order, to_ascending, same_from_test, test_from_same, first_of}
 use Rattle.region_ops.specs.Mosaic.{Group, faces_of}
 use Rattle.region_model.specs.Region.{Region, Has}
 use Rattle.region_laws.specs.Regions.{Follows, FollowEach}

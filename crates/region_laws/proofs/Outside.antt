@@ -29,11 +29,11 @@ use Rattle.plane_faces.proofs.Sorting.{rotations_exist}
 use Rattle.plane_faces.proofs.Tables.{place_is_one}
 use Rattle.arc_table.specs.Along.{GoAlong}
 use Rattle.face_walk.specs.Places.{FaceTable, IsBuiltOf}
+use Rattle.face_sets.proofs.GapLemmas.{in_range}
 use Rattle.face_laws.specs.Faces.{IsFaceOfPlace}
 use Rattle.face_sets.specs.Gaps.{outside_of}
 use Rattle.face_sets.specs.Joined.{AreParts}
 use Rattle.face_sets.proofs.BoundaryLemmas.{Contains_has, has_Contains}
-use Rattle.face_sets.proofs.GapLemmas.{in_range}
 use Rattle.part_laws.specs.Parts.{number_of}
 use Rattle.part_laws.proofs.ClassLemmas.{are_classes, numbered}
 use Rattle.region_laws.proofs.Sets.{kept_out, out_kept}

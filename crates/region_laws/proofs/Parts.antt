@@ -27,6 +27,7 @@ use Rattle.plane_faces.proofs.Order.{place_exists}
 use Rattle.arc_table.specs.Along.{GoAlong}
 use Rattle.arc_table.proofs.SignedArcs.{Contains-signed_below}
 use Rattle.face_walk.specs.Places.{FaceTable, IsBuiltOf, face_left_of, signed_below}
+use Rattle.face_sets.proofs.GapLemmas.{in_range, of_range}
 use Rattle.face_laws.specs.Faces.{AreFreeInside, IsFaceOfPlace}
 use Rattle.face_laws.proofs.DartLemmas.{one_of_two, twice_opposite}
 use Rattle.face_laws.proofs.StepLemmas.{IsStep, arc_of, step_at, step_on, steps_counted}
@@ -36,7 +37,6 @@ use Rattle.face_sets.specs.Sets.{IsSetOf}
 use Rattle.face_sets.proofs.BoundaryLemmas.{Contains_has, back_again, outward_if, same_or_other}
 use Rattle.face_sets.proofs.JoinedLemmas.{joined_over}
 use Rattle.face_sets.proofs.SetLemmas.{nat_order, to_ascending}
-use Rattle.face_sets.proofs.GapLemmas.{in_range, of_range}
 use Rattle.part_laws.specs.Parts.{number_of}
 use Rattle.part_laws.proofs.BoundedLaws.{each_has_arc, outside_is_not}
 use Rattle.part_laws.proofs.ClassLemmas.{are_classes, numbered}

@@ -13,6 +13,7 @@ use Rattle.lists.proofs.Members.{Contains-cases, Contains-filter, Contains-map, 
 use Rattle.plane_model.specs.Points.{Path}
 use Rattle.plane_model.specs.Arcs.{SignedArc}
 use Rattle.plane_faces.specs.Labels.{relabel}
+use Rattle.arc_table.proofs.SignedArcs.{Contains-signed_below}
 use Rattle.face_walk.specs.Places.{FaceTable, HasArc, IsBuiltOf, face_left_of, signed_below}
 use Rattle.face_sets.specs.Boundary.{IsLeastArc, IsOnBoundary, boundary, face_right_of, is_outward}
 use Rattle.face_sets.specs.Joined.{AreJoined, AreParts, IsChain}
@@ -22,7 +23,6 @@ use Rattle.face_sets.proofs.JoinedLemmas.{joined_back, joined_itself, joined_on,
 use Rattle.face_sets.proofs.SetLemmas.{from_ascending, nat_order, filter_same}
 use Rattle.region_laws.specs.Answered.{PartsExist}
 use Rattle.region_laws.proofs.Least.{lowest, lowest_least, lowest_there}
-use Rattle.arc_table.proofs.SignedArcs.{Contains-signed_below}
 
 -- ---- classes of joined faces
 

@@ -4,7 +4,6 @@ use Rattle.std.specs.List.{flat_map, range_with_len}
 use Rattle.std.proofs.lemmas.Bool.{false_from_ne_true}
 use Rattle.std.proofs.lemmas.List.{get_or-map, length-map}
 use Rattle.std.proofs.lemmas.List.Elements.{All-contains, Contains-append_left, Contains-append_right, Contains-append_cases}
-use Rattle.face_laws.proofs.HolderLemmas.{there_any, any_there}
 use Rattle.lists.specs.Lists.{has}
 use Rattle.lists.proofs.Ascending.{Contains-ascending, ascending-Contains}
 use Rattle.lists.proofs.Members.{Contains-cases, Contains-filter, Contains-flat_map, Contains-head, Contains-later, Contains-map, Contains-nil, filter-Contains, flat_map-Contains, map-Contains}
@@ -13,8 +12,9 @@ use Rattle.plane_model.specs.Drawing.{Drawing}
 use Rattle.plane_faces.specs.Places.{Place}
 use Rattle.face_sets.specs.Owners.{owners_of}
 use Rattle.face_sets.proofs.BoundaryLemmas.{Contains_has, has_Contains}
-use Rattle.face_sets.proofs.SetLemmas.{nat_order}
 use Rattle.face_sets.proofs.GapLemmas.{in_range, of_range}
+use Rattle.face_sets.proofs.SetLemmas.{nat_order}
+use Rattle.face_laws.proofs.HolderLemmas.{there_any, any_there}
 use Rattle.region_ops.specs.Cleaned.{area_of, is_lost, ranks_before}
 use Rattle.region_ops.specs.Cut.{meet, minus}
 use Rattle.region_ops.specs.Dissolved.{set_at, union_of}

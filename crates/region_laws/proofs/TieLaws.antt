@@ -21,6 +21,7 @@ use Rattle.plane_faces.proofs.FaceLaws.{among_agrees}
 use Rattle.plane_faces.proofs.Order.{place_exists}
 use Rattle.plane_faces.proofs.Sorting.{rotations_exist}
 use Rattle.face_walk.specs.Places.{FaceTable, face_left_of}
+use Rattle.face_sets.proofs.GapLemmas.{of_range}
 use Rattle.face_laws.specs.Faces.{directed_as}
 use Rattle.face_laws.proofs.ShownLemmas.{faces_have_arcs}
 use Rattle.face_laws.proofs.SideLemmas.{dart_there, label_there}
@@ -28,7 +29,6 @@ use Rattle.face_laws.proofs.StepLemmas.{arc_of}
 use Rattle.face_sets.specs.Sets.{IsInnerFace, IsSetOf}
 use Rattle.face_sets.proofs.BoundaryLemmas.{Contains_has, same_or_other}
 use Rattle.face_sets.proofs.SetLemmas.{nat_order, to_ascending, filter_same}
-use Rattle.face_sets.proofs.GapLemmas.{of_range}
 use Rattle.region_ops.specs.Cleaned.{area_of, ranks_before}
 use Rattle.region_ops.specs.Dissolved.{set_at}
 use Rattle.part_laws.proofs.BoundedLaws.{outside_is_not}

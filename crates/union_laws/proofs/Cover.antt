@@ -5,6 +5,7 @@ use Rattle.lists.proofs.Members.{Contains-flat_map, Contains-map}
 use Rattle.plane_model.specs.Snapped.{links_of, snapped}
 use Rattle.plane_faces.proofs.Order.{place_exists}
 use Rattle.plane_faces.proofs.FaceLaws.{place_beside}
+use Rattle.face_sets.proofs.GapLemmas.{in_range}
 use Rattle.union_ops.specs.Choices.{choice_of, has_number}
 use Rattle.region_model.specs.Region.{Region, part}
 use Rattle.region_model.specs.PolygonCommands.{parts_of}
@@ -17,7 +18,6 @@ use Rattle.union_laws.specs.United.{UnitedCover}
 use Rattle.union_laws.proofs.ChoiceLists.{one_each}
 use Rattle.union_laws.proofs.ChosenPoints.{as_many, first_sets, held_numbered, in_choices, left_by_choice}
 use Rattle.union_laws.proofs.UnionTold.{face_leaves, faces_with, follow_choice, inner_choice, rising_choice}
-use Rattle.face_sets.proofs.GapLemmas.{in_range}
 
 pub united_cover : UnitedCover
 united_cover d arcs faces label walked layers inner regions follow A tell z off layer among r in_layer held =

@@ -15,8 +15,8 @@ use Rattle.plane_faces.specs.Places.{Place}
 use Rattle.plane_faces.proofs.FaceLaws.{place_beside}
 use Rattle.face_walk.specs.Places.{FaceTable}
 use Rattle.face_sets.specs.Sets.{IsInnerFace, IsSetOf}
-use Rattle.face_sets.proofs.SetLemmas.{from_ascending, first_of}
 use Rattle.face_sets.proofs.GapLemmas.{in_range, of_range}
+use Rattle.face_sets.proofs.SetLemmas.{from_ascending, first_of}
 use Rattle.union_ops.specs.Choices.{choice_before, choice_of, has_number, same_choice}
 use Rattle.union_ops.specs.Union.{Group, IsUnion, faces_of, items_of_groups}
 use Rattle.union_ops.specs.declared.union_lists.UnionItem.{UnionItem}

@@ -1,6 +1,6 @@
 use Rattle.std.proofs.Common.{codes, decimal}
-use Rattle.run_outcome.proofs.message.add_density.Goals as goal
 use Rattle.topo_io.proofs.TextLemmas.{three}
+use Rattle.run_outcome.proofs.message.add_density.Goals as goal
 
 pub returns-clause-added : goal.returns-clause-added
 returns-clause-added c =

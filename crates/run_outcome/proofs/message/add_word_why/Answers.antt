@@ -1,8 +1,8 @@
 use Rattle.std.proofs.Common.{◌++◌, ℕ, codes, decimal, ap, sym, ◌∙◌}
+use Rattle.topo_io.proofs.TextLemmas.{three}
 use Rattle.cmd_words.specs.declared.fault.WordWhy.{WordWhy}
 use Rattle.run_outcome.specs.Messages.{Text, expr_kind, word_kind}
 use Rattle.run_outcome.proofs.message.add_word_why.Goals as goal
-use Rattle.topo_io.proofs.TextLemmas.{three}
 
 pub returns-in-BadExpression-clause-added : goal.returns-in-BadExpression-clause-added
 returns-in-BadExpression-clause-added c =

@@ -1,9 +1,9 @@
 use Rattle.std.proofs.Common.{◌++◌, codes, ap, subst, ◌∙◌}
+use Rattle.topo_io.proofs.TextLemmas.{three}
 use Rattle.run_outcome.specs.Messages.{Text, outcome_text}
 use Rattle.run_outcome.specs.Telling.{StreamSeen, Offers}
 use Rattle.run_outcome.proofs.Steps.{tells}
 use Rattle.run_outcome.proofs.message.tell.Goals as goal
-use Rattle.topo_io.proofs.TextLemmas.{three}
 
 pub returns : goal.returns
 returns g c =
