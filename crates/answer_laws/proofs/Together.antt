@@ -37,8 +37,8 @@ use Rattle.face_sets.proofs.GapLemmas.{in_range}
 use Rattle.region_laws.proofs.OffLinks.{off_from_left, off_from_right}
 use Rattle.region_laws.proofs.MosaicTold.{from_start}
 use Rattle.region_laws.proofs.Walked.{links_arranged, links_distinct}
+use Rattle.region_laws.proofs.Parts.{one_number}
 use Rattle.printed_laws.proofs.Constant.{has_face, joined_back, one_part}
-use Rattle.printed_laws.proofs.Counted.{one_number}
 use Rattle.answer_laws.proofs.Bounding.{IsAlong, boundary_distinct, distinct_moved, not_turned, of_boundary}
 use Rattle.answer_laws.proofs.Covers.{some_arc}
 use Rattle.answer_laws.proofs.Exist.{has_told, links_of_arcs}

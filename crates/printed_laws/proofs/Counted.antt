@@ -1,23 +1,21 @@
 -- Polygons that fit a region hold its parts, by counting.
-use Rattle.std.proofs.Common.{◌≡◌, refl, sym, ap, subst, ◌∙◌, arith, ℕ, zero, suc, ◌+◌, ◌<◌, Bool, true, false, List, [], ◌∷◌, map, length, get_or, nat_lt}
+use Rattle.std.proofs.Common.{◌≡◌, refl, sym, ap, subst, ◌∙◌, arith, ℕ, zero, suc, ◌+◌, ◌<◌, Bool, true, false, List, [], ◌∷◌, map, length, get_or}
 use Rattle.std.specs.Prelude.{◌↔◌}
 use Rattle.std.specs.List.{AllZip, range_with_len}
 use Rattle.std.proofs.lemmas.Grind.{flat_map-append}
 use Rattle.std.proofs.lemmas.List.{map-append}
 use Rattle.lists.specs.Lists.{joined_up}
-use Rattle.lists.proofs.Ascending.{one_ascending}
-use Rattle.plane_model.specs.Points.{RationalPoint, Segment, Path, link_between}
+use Rattle.plane_model.specs.Points.{RationalPoint, Segment, link_between}
 use Rattle.plane_model.specs.Drawing.{Drawing, Polygon, steps, steps_of_paths}
 use Rattle.plane_model.specs.Parity.{is_below, links_of_paths, odd_count, rings_hold, xor}
-use Rattle.plane_model.specs.Sides.{Points}
 use Rattle.plane_parity.proofs.Telescope.{odd_count-append}
-use Rattle.face_sets.proofs.SetLemmas.{nat_order, to_ascending}
-use Rattle.region_model.specs.Region.{Region, IsInPart, part}
+use Rattle.region_model.specs.Region.{Region, part}
 use Rattle.region_model.specs.Answers.{Answers, PointsOf, plane_of}
 use Rattle.region_model.specs.Printed.{ArePrinted, FitsPartOf, IsOff}
 use Rattle.printed_laws.specs.Counted.{JoinedPointsAreHeldByOne, NoneIsHeldTwice, PartsArePrinted}
 use Rattle.printed_laws.proofs.Constant.{one_part}
 use Rattle.printed_laws.proofs.Printed.{boundary_holds, regions_are_printed}
+use Rattle.region_laws.proofs.Parts.{one_number}
 
 -- ---- numbers in a row and the elements of a list
 
@@ -48,16 +46,6 @@ part_at d A r polygons h z off k e l =
     subst (λ (m : ℕ). Q m (get_or polygons k e)) (let f : 0 + k ≡ k = omega arith in f) (at_number Q polygons 0 (A.parts r) (parts_are_printed d A r polygons h z off) k e l)
 
 -- ---- a point is in one part
-
-pub one_number : (S : List Segment) (arcs : List Path) (R : Points) (z : RationalPoint) (i j : ℕ) → IsInPart S arcs R z i → IsInPart S arcs R z j → i ≡ j
-one_number S arcs R z i j h k =
-    let up = h.is_number.least k.number k.is_number.is_arc in
-    let down = k.is_number.least h.number h.is_number.is_arc in
-    let e : h.number ≡ k.number = omega arith in
-    let same : h.lesser ≡ k.lesser = one_ascending nat_lt nat_order h.lesser k.lesser (to_ascending h.lesser h.rising) (to_ascending k.lesser k.rising)
-    (λ n c. (k.are n).1 (let (less, some) = (h.are n).0 c in (omega arith, some)))
-    (λ n c. (h.are n).1 (let (less, some) = (k.are n).0 c in (omega arith, some))) in
-    sym h.count ∙ ap (λ (ns : List ℕ). length ns) same ∙ k.count
 
 pub none_is_held_twice : NoneIsHeldTwice
 none_is_held_twice d A r polygons h z off i j e less l in_i in_j =

@@ -386,3 +386,14 @@ module _ (S : List Segment) (arr : IsArrangement S) (distinct : IsDistinct S) (a
       let (w, l, h) = link_from_arc j b below on in
       let off = off_from_side S l w h.sees in
       (w, off, (h.in_region, is_in_part w off h.place h.at_place j below h.in_part))
+
+-- a point is in one part
+pub one_number : (S : List Segment) (arcs : List Path) (R : Points) (z : RationalPoint) (i j : ℕ) → IsInPart S arcs R z i → IsInPart S arcs R z j → i ≡ j
+one_number S arcs R z i j h k =
+    let up = h.is_number.least k.number k.is_number.is_arc in
+    let down = k.is_number.least h.number h.is_number.is_arc in
+    let e : h.number ≡ k.number = omega arith in
+    let same : h.lesser ≡ k.lesser = one_ascending nat_lt nat_order h.lesser k.lesser (to_ascending h.lesser h.rising) (to_ascending k.lesser k.rising)
+    (λ n c. (k.are n).1 (let (less, some) = (h.are n).0 c in (omega arith, some)))
+    (λ n c. (h.are n).1 (let (less, some) = (k.are n).0 c in (omega arith, some))) in
+    sym h.count ∙ ap (λ (ns : List ℕ). length ns) same ∙ k.count

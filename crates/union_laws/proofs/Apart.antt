@@ -1,5 +1,5 @@
 -- The features of a union lie apart.
-use Rattle.std.proofs.Common.{◌≡◌, sym, subst, ◌∙◌, arith, ℕ, suc, Bool, true, not, ◌&&◌, nat_lt, List, [], ◌∷◌, ◌++◌, AllPairs, Contains, filter, length, get_or, map}
+use Rattle.std.proofs.Common.{◌≡◌, sym, subst, ◌∙◌, arith, suc, Bool, true, not, ◌&&◌, List, [], ◌∷◌, ◌++◌, AllPairs, Contains, filter, length, get_or, map}
 use Rattle.std.specs.Prelude.{is_some}
 use Rattle.std.specs.List.{flat_map, list_any, range_with_len}
 use Rattle.std.proofs.lemmas.Bool.{and_parts}
@@ -7,33 +7,21 @@ use Rattle.std.proofs.lemmas.List.{map-append}
 use Rattle.std.proofs.lemmas.List.Elements.{All-append, Contains-get_or}
 use Rattle.std.proofs.lemmas.List.FromFn.{get_or-map-range_with_len, length-map-range_with_len}
 use Rattle.std.proofs.lemmas.List.Kept.{AllPairs-cons}
-use Rattle.lists.proofs.Ascending.{IsAscending, one_ascending}
+use Rattle.lists.proofs.Ascending.{IsAscending}
 use Rattle.lists.proofs.Members.{Contains-head, Contains-later, filter-Contains, flat_map-Contains, map-Contains}
-use Rattle.plane_model.specs.Points.{RationalPoint, Segment, Path}
-use Rattle.plane_model.specs.Sides.{Points}
-use Rattle.face_sets.proofs.SetLemmas.{nat_order, to_ascending}
+use Rattle.plane_model.specs.Points.{RationalPoint}
 use Rattle.union_ops.specs.Choices.{choice_before, has_number}
 use Rattle.union_ops.proofs.ChoiceOrder.{choice_order}
-use Rattle.region_model.specs.Region.{Region, IsInPart, part}
+use Rattle.region_model.specs.Region.{Region, part}
 use Rattle.region_model.specs.Answers.{Plane, Answers, PointsOf, is_empty}
 use Rattle.region_model.specs.PolygonCommands.{parts_of}
 use Rattle.region_model.specs.UnionCommand.{Choice, choices, union_region}
 use Rattle.region_laws.proofs.AscendingLists.{filter_ascends}
 use Rattle.region_laws.proofs.InGroups.{seconds_of}
+use Rattle.region_laws.proofs.Parts.{one_number}
 use Rattle.union_laws.specs.United.{AreApart, UnitedAreApart}
 use Rattle.union_laws.proofs.ChoiceLists.{choices_ascend, one_each}
 use Rattle.union_laws.proofs.ChosenPoints.{left_by_choice, one_choice}
-
--- a point is in one part
-one_part : (S : List Segment) (arcs : List Path) (R : Points) (z : RationalPoint) (i j : ℕ) → IsInPart S arcs R z i → IsInPart S arcs R z j → i ≡ j
-one_part S arcs R z i j h k =
-    let above = h.is_number.least k.number k.is_number.is_arc in
-    let below = k.is_number.least h.number h.is_number.is_arc in
-    let same : h.number ≡ k.number = omega arith in
-    let lesser : h.lesser ≡ k.lesser = one_ascending nat_lt nat_order h.lesser k.lesser (to_ascending h.lesser h.rising) (to_ascending k.lesser k.rising)
-    (λ n m. let (less, least) = (h.are n).0 m in (k.are n).1 (omega arith, least))
-    (λ n m. let (less, least) = (k.are n).0 m in (h.are n).1 (omega arith, least)) in
-    sym h.count ∙ (λ t. length (lesser t)) ∙ k.count
 
 module _ (P : Plane) (A : Answers) (regions : List (List Region)) where
   abbrev left_by : Choice → Region
@@ -56,7 +44,7 @@ module _ (P : Plane) (A : Answers) (regions : List (List Region)) where
       let at_j = get_or-map-range_with_len (part (left_by c)) 0 (A.parts (left_by c)) j j e (omega arith) (omega arith) in
       let in_i : PointsOf P (part (left_by c) i) z = subst (λ (s : Region). PointsOf P s z) at_i h in
       let in_j : PointsOf P (part (left_by c) j) z = subst (λ (s : Region). PointsOf P s z) at_j k in
-      let same : i ≡ j = one_part _ P.arcs (PointsOf P (left_by c)) z i j in_i.1 in_j.1 in
+      let same : i ≡ j = one_number _ P.arcs (PointsOf P (left_by c)) z i j in_i.1 in_j.1 in
       absurd (omega arith)
 
   pairs_join : (rs ss : List Region) → AllPairs (AreApart P) rs → AllPairs (AreApart P) ss → ((r s : Region) → Contains rs r → Contains ss s → AreApart P r s) → AllPairs (AreApart P) (rs ++ ss)
