@@ -29,8 +29,8 @@ place_at k [] y e =
     let here : eqb k k ≡ true = grind (arith, nat_tests) in
     rw here refl
 place_at k (b ∷ x) y e =
-    let here : eqb b k ≡ false = not-true (eqb b k) (and_parts _ _ e).0 in
-    let later : place k (x ++ k ∷ y) ≡ length x = place_at k x y (and_parts _ _ e).1 in
+    let here : eqb b k ≡ false = not-true (eqb b k) (and_parts (not (eqb b k)) _ e).0 in
+    let later : place k (x ++ k ∷ y) ≡ length x = place_at k x y (and_parts (not (eqb b k)) (lacks k x) e).1 in
     rw here (omega (arith, later))
 
 cut_at : (k : ℕ) (x y : Text) → lacks k x ≡ true → split_at k (x ++ k ∷ y) ≡ Some (x, y)
@@ -68,7 +68,7 @@ drop_step test b bs false e = rw (e, drop_while)
 
 over_white : (a x : Text) → list_all is_white a ≡ true → after_white (a ++ x) ≡ after_white x
 over_white [] x e = refl
-over_white (b ∷ a) x e = drop_step is_white b (a ++ x) true (and_parts _ _ e).0 ∙ over_white a x (and_parts _ _ e).1
+over_white (b ∷ a) x e = drop_step is_white b (a ++ x) true (and_parts (is_white b) _ e).0 ∙ over_white a x (and_parts (is_white b) (list_all is_white a) e).1
 
 -- no white space
 abbrev solid : Text → Bool
@@ -76,11 +76,11 @@ solid s = list_all (λ b. not (is_white b)) s
 
 stays : (x y : Text) → solid x ≡ true → (b : ℕ) (z : Text) → x ≡ b ∷ z → after_white (x ++ y) ≡ x ++ y
 stays [] y e b z h = absurd (cc)
-stays (c ∷ x) y e b z h = drop_step is_white c (x ++ y) false (not-true (is_white c) (and_parts _ _ e).0)
+stays (c ∷ x) y e b z h = drop_step is_white c (x ++ y) false (not-true (is_white c) (and_parts (not (is_white c)) _ e).0)
 
 whole_stays : (x : Text) → solid x ≡ true → after_white x ≡ x
 whole_stays [] e = refl
-whole_stays (b ∷ x) e = drop_step is_white b x false (not-true (is_white b) (and_parts _ _ e).0)
+whole_stays (b ∷ x) e = drop_step is_white b x false (not-true (is_white b) (and_parts (not (is_white b)) _ e).0)
 
 all_reversed : (p : ℕ → Bool) (s : Text) → list_all p s ≡ true → list_all p (reverse s) ≡ true
 all_reversed p [] e = refl
@@ -159,9 +159,9 @@ no_white b e =
 name_bytes : (s : Text) → is_name s ≡ true → list_all is_name_byte s ≡ true
 name_bytes [] e = absurd (cc)
 name_bytes (b ∷ s) e =
-    let letters : (is_name_start b && list_all is_name_byte s) ≡ true = (and_parts _ _ e).0 in
-    let first : is_name_start b ≡ true = (and_parts _ _ letters).0 in
-    let others : list_all is_name_byte s ≡ true = (and_parts _ _ letters).1 in
+    let letters : (is_name_start b && list_all is_name_byte s) ≡ true = (and_parts (is_name_start b && list_all is_name_byte s) _ e).0 in
+    let first : is_name_start b ≡ true = (and_parts (is_name_start b) (list_all is_name_byte s) letters).0 in
+    let others : list_all is_name_byte s ≡ true = (and_parts (is_name_start b) (list_all is_name_byte s) letters).1 in
     rw (first, others) refl
 
 solid_word : (s : Text) → list_all is_name_byte s ≡ true → solid s ≡ true

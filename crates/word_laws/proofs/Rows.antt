@@ -63,14 +63,10 @@ all_fit l = list_all (fits_name l.argument) l.options
 fits_placed : (form : ArgumentForm) (o : Text × ValueForm) → fits_name form o ≡ true → Placed form o.1 o.0
 unfolding fits_name
 fits_placed form o e =
-    let others = (and_parts (agree (is_box o.1) (bytes_eq o.0 (codes "bbox"))) _ e).1 in
-    let rest = (and_parts (agree (is_calculated o.1) (bytes_eq o.0 (codes "calc"))) _ others).1 in
-    record {
-      box = agree_same _ _ (and_parts _ _ e).0;
-      calculated = agree_same _ _ (and_parts _ _ others).0;
-      test = agree_same _ _ (and_parts _ _ rest).0;
-      one_test = not-true _ (and_parts _ _ rest).1;
-    }
+    let (box, others) = and_parts (agree (is_box o.1) (bytes_eq o.0 (codes "bbox"))) _ e in
+    let (calculated, rest) = and_parts (agree (is_calculated o.1) (bytes_eq o.0 (codes "calc"))) _ others in
+    let (test, one_test) = and_parts (agree (is_test o.1) (bytes_eq o.0 (codes "where"))) _ rest in
+    record { box = agree_same _ _ box; calculated = agree_same _ _ calculated; test = agree_same _ _ test; one_test = not-true _ one_test }
 
 placed_among : (form : ArgumentForm) (os : List (Text × ValueForm)) → list_all (fits_name form) os ≡ true → (name : Text) (f : ValueForm) → option_map (λ (o : Text × ValueForm). o.1) (find (λ (o : Text × ValueForm). bytes_eq o.0 name) os) ≡ Some f → Placed form f name
 placed_among form [] e name f s = absurd (cc)
