@@ -5,18 +5,15 @@ use Rattle.numerals.specs.Bytes.{is_white}
 use Rattle.json_values.specs.Grammar.{White, no_white, white, quoted, Denotes, is_null, is_true, is_false, is_number, is_string, no_elements, elements, no_members, members, Elements, Members, Mark, no_mark, mark, JsonText, text, padded}
 use Rattle.numerals.specs.Numbers.{Digits, no_digits, no_fraction, no_exponent, no_minus, minus}
 use Rattle.json_values.specs.Json.{JsonValue, number, string, array, object, boolean, null, no_items, no_fields, items_of, fields_of}
-use Rattle.json_values.specs.Lists.{items_list, merged}
+use Rattle.json_values.specs.Lists.{merged}
 use Rattle.json_read.specs.Machine.{Place, Open, Moves, in_array, in_object, is_value, is_name, start, in_mark, value, first_value, first_name, next_name, colon, after, in_word, after_minus, after_zero, in_whole, after_point, in_fraction, after_mantissa, after_letter, after_sign, in_exponent, in_string, in_escape, in_hex, in_character, step, run, at_end, ends, begins, begins_name, opens, word_step, mark_step, accepted, fault, fault_of}
 use Rattle.json_read.specs.declared.reader.Fault.{Fault}
 use Rattle.json_read.proofs.Runs.{moves, stops}
+use Rattle.json_read.proofs.Arrays.{items_list-items_of}
 use Rattle.json_values.proofs.Seen.{fields_list-fields_of}
 use Rattle.reading_laws.proofs.JsonRests.{Then, then_none, then_more, Byte, After, at_last, Value, AtValue, AtColon, Name, AtName, Shuts, elements_of, members_of, FromPoint, FromWhole, InWhole, InFraction, Past, Stands, Later, split, at_byte}
 use Rattle.reading_laws.proofs.JsonNumbers.{ends_back, exponent_back, point_back, whole_back, fraction_back, point_digit_back, some_digits_back, digits_back, letter_back, begins_whole_back, number_of}
 use Rattle.reading_laws.proofs.JsonStrings.{string_back, escape_back, hex_back, second_back}
-
-items_same : (vs : List JsonValue) → items_list (items_of vs) ≡ vs
-items_same [] = refl
-items_same (v ∷ vs) = ap (λ (ws : List JsonValue). v ∷ ws) (items_same vs)
 
 module _ (d : ℕ) (k : List Open) where
   abbrev OfValue : List ℕ → Type 0
@@ -35,7 +32,7 @@ module _ (d : ℕ) (k : List Open) where
 
   elements_value : (s : List ℕ) → length k < d → Then (λ t. (vs : List JsonValue) × Elements (d - suc (length k)) t vs) (Byte 93 (After d k)) s → Value d k (91 ∷ s)
   elements_value s l (t, s1, e, (vs, es), (rest, f, a)) =
-      let is : Denotes (suc (d - suc (length k))) (91 ∷ (t ++ 93 ∷ [])) (array (items_of vs)) = elements (subst (Elements (d - suc (length k)) t) (sym (items_same vs)) es) in
+      let is : Denotes (suc (d - suc (length k))) (91 ∷ (t ++ 93 ∷ [])) (array (items_of vs)) = elements (subst (Elements (d - suc (length k)) t) (sym (items_list-items_of vs)) es) in
       (91 ∷ (t ++ 93 ∷ []), rest, rw (e, f) (simp append_assoc), (array (items_of vs), subst (λ (n : ℕ). Denotes n (91 ∷ (t ++ 93 ∷ [])) (array (items_of vs))) (deeper l) is), a)
 
   array_value : (s : List ℕ) → length k < d → Stands d first_value (in_array ∷ k) s → Value d k (91 ∷ s)
