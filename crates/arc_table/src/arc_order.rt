@@ -1,6 +1,6 @@
 use crate::half_links::{Net, Step};
 use crate::numbering::Way;
-use grid_base::{Pt, is_before, is_same};
+use grid_base::{is_before, is_same};
 use std::alloc::{AllocError, Global};
 
 /// Where what the arcs have stands in order. It is not proved: a wrong one costs time alone.
@@ -68,14 +68,6 @@ impl ArcOrder {
         self.firsts.push(*first)?;
         self.firsts.push(back)?;
         Ok(())
-    }
-}
-
-/// Whether there is a point before, and it is another.
-pub fn has_moved(last: Option<Pt>, p: Pt) -> bool {
-    match last {
-        Some(before) => !is_same(before, p),
-        None => false,
     }
 }
 

@@ -7,7 +7,6 @@ ghost use Rattle.arc_table.specs.Direction.{point_at};
 ghost use Rattle.arc_table.specs.FirstSteps.{AddsRow};
 ghost use Rattle.arc_table.specs.Rows.{AreRows};
 
-use crate::arc_order::has_moved;
 use crate::first_steps::{FirstStep, first_step, signed_of, start_of, turning};
 use grid_base::{Pt, SignedArc, is_same};
 use span_pool::SpanPool;
@@ -126,6 +125,14 @@ fn row_count(arcs: &SpanPool, codes: &[u32]) -> usize {
         last = Some(from);
     }
     count
+}
+
+// Whether there is a point before, and it is another.
+fn has_moved(last: Option<Pt>, p: Pt) -> bool {
+    match last {
+        Some(before) => !is_same(before, p),
+        None => false,
+    }
 }
 
 /// Whether there is a node with this number, and it is `p`.
