@@ -1,12 +1,10 @@
-ghost use Rattle.std.specs.Prelude.{◌≡◌, ◌≤◌, IfOk, length, neg_ℤ};
-ghost use Rattle.numerals.specs.Bytes.{is_digit as is_a_digit};
-ghost use Rattle.numerals.specs.Numeral.{digits_at};
+ghost use Rattle.std.specs.Prelude.{◌≡◌, IfOk};
 ghost use Rattle.csv.specs.Records.{fields_of};
 ghost use Rattle.csv_io.specs.CsvCells.{cell_at, cell_value, has_idle_zero, is_plain, is_plain_end, plain_decimal, plain_size, without_zeros};
 
 use csv::ByteRecord;
 use json_values::Value;
-use numerals::Decimal;
+use numerals::{Decimal, digit_count};
 use std::alloc::{AllocError, Global};
 use text_core::Text;
 
@@ -42,30 +40,18 @@ pub(crate) fn plain_decimal(cell: &[u8]) -> Option<Decimal>
     ensures exact { result ≡ plain_decimal cell.now }
 {
     match cell {
-        [b'-', size @ ..] => negated(&plain_size(size)?),
+        [b'-', size @ ..] => Some(plain_size(size)?.negated()),
         size => plain_size(size),
     }
 }
 
-#[tactic(auto, using(crate::proofs::CsvCells::negative))]
-fn negated(decimal: &Decimal) -> Option<Decimal>
-    ensures exact { result ≡ Some (neg_ℤ decimal.now) }
-{
-    let _small = decimal.units();
-    Decimal::of_grid(0, 0).checked_sub(decimal)
-}
-
-#[tactic(auto, using(crate::proofs::CsvCells::no_decimal))]
 fn plain_size(size: &[u8]) -> Option<Decimal>
     ensures exact { result ≡ plain_size size.now }
 {
     if !is_plain(size) {
         return None;
     }
-    match str::from_utf8(without_zeros(size)) {
-        Ok(numeral) => Decimal::parse(numeral),
-        Err(_) => None,
-    }
+    Decimal::parse_bytes(without_zeros(size))
 }
 
 /// Whether these bytes are digits, and optionally a point and digits.
@@ -90,26 +76,6 @@ fn is_plain_end(end: &[u8]) -> bool
     }
 }
 
-/// How many digits stand in front.
-#[tactic(auto, using(crate::proofs::CsvCells::digits_more, crate::proofs::CsvCells::digits_end))]
-fn digit_count(bytes: &[u8]) -> usize
-    ensures exact { result ≡ length (digits_at bytes.now) }
-    ensures within { result ≤ length bytes.now }
-{
-    for i in 0..bytes.len() {
-        if !is_digit(bytes[i]) {
-            return i;
-        }
-    }
-    bytes.len()
-}
-
-fn is_digit(byte: u8) -> bool
-    ensures exact { result ≡ is_a_digit byte }
-{
-    b'0' <= byte && byte <= b'9'
-}
-
 /// A number without the zeros in front of another digit.
 #[tactic(auto, using(crate::proofs::CsvCells::zeros_more, crate::proofs::CsvCells::zeros_end))]
 fn without_zeros(size: &[u8]) -> &[u8]
@@ -129,7 +95,7 @@ fn has_idle_zero(size: &[u8]) -> bool
     ensures exact { result ≡ has_idle_zero size.now }
 {
     match size {
-        [first, second, ..] => *first == b'0' && is_digit(*second),
+        [first, second, ..] => *first == b'0' && second.is_ascii_digit(),
         _ => false,
     }
 }

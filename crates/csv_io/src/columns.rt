@@ -1,4 +1,4 @@
-ghost use Rattle.std.specs.Prelude.{◌≡◌, ◌++◌, ◌∷◌, [], IfOk, OnOk, length, map};
+ghost use Rattle.std.specs.Prelude.{◌≡◌, ◌<◌, ◌≤◌, ◌++◌, ◌∷◌, [], IfOk, OnOk, length, map};
 ghost use Rattle.std.specs.List.{IsDistinct};
 ghost use Rattle.std.specs.Str.{bytes_eq};
 ghost use Rattle.csv.specs.Records.{fields_of};
@@ -53,18 +53,19 @@ fn add_column(
 pub(crate) fn check_rows(rows: &[ByteRecord], width: usize, room: Room2) -> Result<(), CsvFault>
     ensures exact { Finds result (refused_row room.rows width 0 (map fields_of rows.now)) }
 {
-    for i in 0..rows.len() {
-        check_row(i, &rows[i], width, room)?;
+    let mut number = 0;
+    for row in rows {
+        check_row(number, row, width, room)?;
+        number += 1;
     }
     Ok(())
 }
 
-fn check_row(n: usize, row: &ByteRecord, width: usize, room: Room2) -> Result<(), CsvFault>
-    ensures exact { Finds result (refused_row room.rows width n (fields_of row.now ∷ [])) }
+fn check_row(number: u32, row: &ByteRecord, width: usize, room: Room2) -> Result<(), CsvFault>
+    requires room { number ≤ room.rows }
+    ensures exact { Finds result (refused_row room.rows width number (fields_of row.now ∷ [])) }
+    ensures room { OnOk result (number < room.rows) }
 {
-    let Ok(number) = u32::try_from(n) else {
-        return Err(CsvFault::Memory);
-    };
     if number == room.rows {
         return Err(CsvFault::TooManyRows { row: number });
     }

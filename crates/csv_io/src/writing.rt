@@ -14,22 +14,19 @@ use text_core::{Bytes, NameList};
 pub fn write_csv(alloc: Global, t: &Table) -> Result<Bytes, AllocError>
     ensures exact { IfOk result (λ text. text ≡ csv_text t.now) }
 {
-    let mut text = Bytes::new(alloc);
     if t.names().len() == 0 {
-        return Ok(text);
+        return Ok(Bytes::new(alloc));
     }
-    let written = records_text(alloc, t.names(), t.rows())?;
-    text.extend(written.as_slice())?;
-    Ok(text)
+    records_text(alloc, t.names(), t.rows())
 }
 
-fn records_text(alloc: Global, names: &NameList, rows: &RowList) -> Result<Vec<u8>, AllocError>
-    ensures exact { IfOk result (λ text. text.items ≡ records_text names.now rows.now) }
+fn records_text(alloc: Global, names: &NameList, rows: &RowList) -> Result<Bytes, AllocError>
+    ensures exact { IfOk result (λ text. text ≡ records_text names.now rows.now) }
 {
     let mut writer = WriterBuilder::new().from_writer(Vec::new(alloc));
     write_records(alloc, &mut writer, names, rows)?;
     match writer.into_inner() {
-        Ok(text) => Ok(text),
+        Ok(text) => Ok(Bytes::from_vec(text)),
         Err(_) => Err(AllocError),
     }
 }
@@ -101,8 +98,9 @@ fn row_record(alloc: Global, row: &Row) -> Result<ByteRecord, AllocError>
     ensures cells { IfOk result (λ cells. fields_of cells ≡ row_cells row.now) }
 {
     let mut cells = ByteRecord::new(alloc);
+    let mut text = Bytes::new(alloc);
     for value in row.as_slice() {
-        let mut text = Bytes::new(alloc);
+        text.clear();
         value.print_plain(&mut text)?;
         cells.push_field(text.as_slice())?;
     }

@@ -1,4 +1,4 @@
-ghost use Rattle.std.specs.Prelude.{◌≡◌, ◌++◌, ◌∷◌, ◌<◌, ◌≤◌, IfSome, IfNone, [], List, ℕ, true, false, length, MatchOption, MatchResult, OnOk, OnErr, IfOk, IfErr, IsTrue, if◌then◌else◌};
+ghost use Rattle.std.specs.Prelude.{◌≡◌, ◌++◌, ◌∷◌, ◌<◌, ◌≤◌, IfSome, IfNone, [], List, ℕ, suc, true, false, length, MatchOption, MatchResult, OnOk, OnErr, IfOk, IfErr, IsTrue, if◌then◌else◌};
 ghost use Rattle.std.specs.String.{string_bytes};
 ghost use Rattle.std.specs.List.{prefix_len};
 ghost use Rattle.numerals.specs.Bytes.{is_white, is_digit, is_hex, is_exponent_letter, NextFails, drop_while};
@@ -9,8 +9,8 @@ ghost use Rattle.json_read.specs.Machine.{after_minus, after_zero, after_mantiss
 ghost use Rattle.json_read.specs.Reading.{Passes, Part, PartInto, ReadsDigits, NumberBegins, NumeralOf, ClosesAs, StandsFor, StandsEscaped, StandsInHex, ReadsHexDigit, ReadsFollowing, joined_onto, PartAt, Shows, ShowsPadded, ArrayText, ObjectText, NameText, ReadsByte, ReadsText, outside, inside, past};
 ghost use Rattle.numerals.specs.Bytes.{NextIsNot};
 ghost use Rattle.json_read.specs.AsciiStrings.{stands_alone, AllAlone, ClosesAsAscii};
-ghost use Rattle.json_read.specs.declared.reader.Fault.TheVariants.{Syntax};
-ghost use Rattle.json_read.specs.declared.reader.Stop.TheVariants.{Memory};
+ghost use Rattle.json_read.specs.declared.reader.Fault.TheVariants.{Depth, Syntax};
+ghost use Rattle.json_read.specs.declared.reader.Stop.TheVariants.{Fault as AtFault, Memory};
 
 mod straight;
 mod taking;
@@ -23,7 +23,7 @@ pub use taking::{ItemTaker, TakenObject, parse_taking};
 use text_core::Text;
 
 /// The greatest depth of an array or an object.
-pub const GREATEST_DEPTH: u32 = 64;
+pub const MAX_DEPTH: u32 = 64;
 
 /// How the bytes fail to be a text.
 #[derive(Clone, Copy, Debug, PartialEq, Eq, Drop)]
@@ -64,7 +64,7 @@ impl<'a> Reader<'a> {
 
     // Goes past one byte.
     fn advance(&mut self)
-        requires { 0 < length self.old.rest.now }
+        requires more { 0 < length self.old.rest.now }
         ensures next { (b : ℕ) × (self.old.rest.now ≡ b ∷ self.new.rest.now) }
     {
         self.rest = &self.rest[1..];
@@ -112,7 +112,7 @@ impl<'a> Reader<'a> {
     }
 
     fn minus(&mut self)
-        requires { NumberBegins self.old.rest.now }
+        requires begins { NumberBegins self.old.rest.now }
         ensures read { Passes Minus value after_minus self.old.rest.now self.new.rest.now }
     {
         let _ = self.take(b'-');
@@ -163,7 +163,7 @@ impl<'a> Reader<'a> {
 
     // A number, which keeps its text.
     fn number(&mut self) -> Result<Text, Stop>
-        requires { NumberBegins self.old.rest.now }
+        requires begins { NumberBegins self.old.rest.now }
         ensures read { Part NumeralOf value after result self.old.rest.now self.new.rest.now }
     {
         let start = self.rest;
@@ -219,7 +219,7 @@ impl<'a> Reader<'a> {
 
     // One character or escape of a string.
     fn unit(&mut self) -> Result<u32, Stop>
-        requires { NextIsNot 34 self.old.rest.now }
+        requires goes_on { NextIsNot 34 self.old.rest.now }
         ensures read { (r : Role) → Part StandsFor (in_string r) (in_string r) result self.old.rest.now self.new.rest.now }
     {
         if self.take(b'\\') {
@@ -338,7 +338,7 @@ fn escaped(letter: u8) -> Option<u32>
 
 // The bounds of the second byte of a character of several bytes.
 fn second_bounds(first: u8) -> Option<(u8, u8)>
-    requires { 128 ≤ first }
+    requires least { 128 ≤ first }
     ensures exact { result ≡ bounds_of first }
 {
     match first {
@@ -355,7 +355,7 @@ fn second_bounds(first: u8) -> Option<(u8, u8)>
 
 // Writes a unit after `half`, the first half of a surrogate pair or none, and answers the new half.
 fn push_unit(text: &mut String, half: Option<u32>, unit: u32) -> Result<Option<u32>, AllocError>
-    requires { IfSome half (λ h. IsTrue (is_high h)) }
+    requires high { IfSome half (λ h. IsTrue (is_high h)) }
     ensures half { IfOk result (λ next. IfSome next (λ h. IsTrue (is_high h))) }
     ensures text { IfOk result (λ next. (us : List ℕ) → joined_onto (string_bytes text.new) next us ≡ joined_onto (string_bytes text.old) half (unit ∷ us)) }
 {
@@ -413,7 +413,7 @@ impl<'a> Reader<'a> {
 
     // The letters of `true`, `false` or `null`.
     fn word(&mut self, letters: &[u8]) -> Result<(), Stop>
-        requires { 0 < length letters.now }
+        requires some { 0 < length letters.now }
         ensures read { Part (λ _ t. t ≡ letters.now) (in_word letters.now) after result self.old.rest.now self.new.rest.now }
     {
         for letter in letters {
@@ -424,10 +424,10 @@ impl<'a> Reader<'a> {
 
     /// A whole text.
     pub(crate) fn text(&mut self) -> Result<Json, Stop>
-        ensures read { ReadsText GREATEST_DEPTH result self.old.rest.now self.new.rest.now }
+        ensures read { ReadsText MAX_DEPTH result self.old.rest.now self.new.rest.now }
     {
         self.mark()?;
-        let value = self.padded(GREATEST_DEPTH)?;
+        let value = self.padded(MAX_DEPTH)?;
         if self.rest.is_empty() {
             Ok(value)
         } else {
@@ -453,10 +453,25 @@ impl<'a> Reader<'a> {
         Ok(())
     }
 
+    // Goes into an array or object, past its first byte: how many may stand in one another inside it.
+    fn open(&mut self, depth: u32) -> Result<u32, Stop>
+        requires more { 0 < length self.old.rest.now }
+        ensures inside { IfOk result (λ inner. suc inner ≡ depth) }
+        ensures next { OnOk result ((b : ℕ) × (self.old.rest.now ≡ b ∷ self.new.rest.now)) }
+        ensures deep { IfErr result (λ stop. (depth ≡ 0) × (stop ≡ AtFault Depth)) }
+        ensures stays { OnErr result (self.new.rest.now ≡ self.old.rest.now) }
+    {
+        if depth == 0 {
+            return Err(Stop::Fault(Fault::Depth));
+        }
+        self.advance();
+        Ok(depth - 1)
+    }
+
     // A value, with at most `depth` arrays and objects in one another.
     #[cycle(values)]
     fn value(&mut self, depth: u32) -> Result<Json, Stop>
-        requires { NextFails is_white self.old.rest.now }
+        requires begins { NextFails is_white self.old.rest.now }
         ensures read { PartAt (Shows depth) (outside depth value) (outside depth after) result self.old.rest.now self.new.rest.now }
     {
         let Some(first) = self.peek() else {
@@ -468,18 +483,12 @@ impl<'a> Reader<'a> {
                 Ok(Json::Text(self.string()?))
             }
             b'[' => {
-                if depth == 0 {
-                    return Err(Stop::Fault(Fault::Depth));
-                }
-                self.advance();
-                Ok(Json::List(self.array(depth - 1)?))
+                let inner = self.open(depth)?;
+                Ok(Json::List(self.array(inner)?))
             }
             b'{' => {
-                if depth == 0 {
-                    return Err(Stop::Fault(Fault::Depth));
-                }
-                self.advance();
-                Ok(Json::Object(self.object(depth - 1)?))
+                let inner = self.open(depth)?;
+                Ok(Json::Object(self.object(inner)?))
             }
             b'-' | b'0'..=b'9' => Ok(Json::Num(self.number()?)),
             b'n' => {
@@ -544,7 +553,7 @@ impl<'a> Reader<'a> {
     // The members of an object, after its brace, which are put to fields.
     #[cycle(values)]
     fn members(&mut self, depth: u32, fields: &mut GrowingFields) -> Result<(), Stop>
-        requires { fields.old ≡ no_fields }
+        requires empty { fields.old ≡ no_fields }
         ensures read { PartInto (ObjectText depth) (inside in_object depth first_name) (past depth) fields.new result self.old.rest.now self.new.rest.now }
     {
         self.skip_white();
@@ -603,7 +612,7 @@ fn after_quote(bytes: &[u8]) -> Option<&[u8]>
 }
 
 fn ascii_text(bytes: &[u8]) -> &str
-    requires { AllAlone bytes.now }
+    requires alone { AllAlone bytes.now }
     ensures exact { result.now ≡ bytes.now }
 {
     unsafe { str::from_utf8_unchecked(bytes) }
@@ -611,7 +620,7 @@ fn ascii_text(bytes: &[u8]) -> &str
 
 // A numeral is ASCII.
 fn numeral_text(text: &[u8]) -> &str
-    requires { Number text.now }
+    requires number { Number text.now }
     ensures exact { result.now ≡ text.now }
 {
     unsafe { str::from_utf8_unchecked(text) }

@@ -104,9 +104,9 @@ impl Fields {
 }
 
 // Where the name stands in the fields.
-fn place_of(fields: &Vec<(Text, Value)>, name: &str) -> Option<usize>
-    ensures none { IfNone result (IsNewName name.now fields.now.items) }
-    ensures some { IfSome result (IsPlaceOf name.now fields.now.items) }
+fn place_of(fields: &[(Text, Value)], name: &str) -> Option<usize>
+    ensures none { IfNone result (IsNewName name.now fields.now) }
+    ensures some { IfSome result (IsPlaceOf name.now fields.now) }
 {
     for i in 0..fields.len() {
         let field = &fields[i];
@@ -118,7 +118,7 @@ fn place_of(fields: &Vec<(Text, Value)>, name: &str) -> Option<usize>
 }
 
 fn set_field(fields: &mut Vec<(Text, Value)>, place: usize, field: (Text, Value))
-    requires { place < length fields.old.items }
+    requires within { place < length fields.old.items }
     ensures exact { fields.new.items ≡ slice_set fields.old.items place field }
 {
     fields[place] = field;

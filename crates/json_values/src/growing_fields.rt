@@ -82,7 +82,7 @@ fn fill_index(
     names: &mut IndexSet<String>,
     fields: &JsonFields,
 ) -> Result<(), AllocError>
-    requires { IsIndex (map string_bytes names.old.keys) fields.now }
+    requires index { IsIndex (map string_bytes names.old.keys) fields.now }
     ensures ok { OnOk result (map string_bytes names.new.keys ≡ field_names fields.now) }
     ensures err { OnErr result (map string_bytes names.new.keys ≡ map string_bytes names.old.keys) }
 {
@@ -110,7 +110,7 @@ fn put_indexed(
     name: Text,
     value: Json,
 ) -> Result<(), AllocError>
-    requires { map string_bytes names.old.keys ≡ field_names fields.old }
+    requires index { map string_bytes names.old.keys ≡ field_names fields.old }
     ensures put { OnOk result (fields_list fields.new ≡ put (fields_list fields.old) name (json_value value)) }
     ensures index { IsIndex (map string_bytes names.new.keys) fields.new }
 {

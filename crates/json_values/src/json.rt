@@ -170,7 +170,7 @@ impl JsonFields {
 
     /// A field whose name is new goes last.
     pub(crate) fn push_last(&mut self, name: Text, value: Json) -> Result<(), AllocError>
-        requires { PutsLast (fields_list self.old) name }
+        requires last { PutsLast (fields_list self.old) name }
         ensures ok { OnOk result (fields_list self.new ≡ put (fields_list self.old) name (json_value value)) }
         ensures err { OnErr result (self.new ≡ self.old) }
     {
@@ -183,7 +183,7 @@ impl JsonFields {
 
     /// A field whose name stands at this place takes the value.
     pub(crate) fn set(&mut self, place: usize, name: Text, value: Json)
-        requires { PutsAt (fields_list self.old) name place }
+        requires there { PutsAt (fields_list self.old) name place }
         ensures exact { fields_list self.new ≡ put (fields_list self.old) name (json_value value) }
     {
         set_field(&mut self.fields, place, (name, value));
@@ -229,11 +229,11 @@ impl JsonFields {
 }
 
 // Where the name stands in the fields.
-fn place_of(fields: &Vec<(Text, Json)>, name: &str) -> Option<usize>
-    ensures none { IfNone result (PutsLast (members_seen fields.now.items) name.now) }
-    ensures some { IfSome result (λ i. PutsAt (members_seen fields.now.items) name.now i) }
-    ensures absent { IfNone result (value_named name.now (members_seen fields.now.items) ≡ None) }
-    ensures present { IfSome result (λ i. HasValueAt fields.now.items name.now i) }
+fn place_of(fields: &[(Text, Json)], name: &str) -> Option<usize>
+    ensures none { IfNone result (PutsLast (members_seen fields.now) name.now) }
+    ensures some { IfSome result (λ i. PutsAt (members_seen fields.now) name.now i) }
+    ensures absent { IfNone result (value_named name.now (members_seen fields.now) ≡ None) }
+    ensures present { IfSome result (λ i. HasValueAt fields.now name.now i) }
 {
     for i in 0..fields.len() {
         let field = &fields[i];
@@ -245,7 +245,7 @@ fn place_of(fields: &Vec<(Text, Json)>, name: &str) -> Option<usize>
 }
 
 fn set_field(fields: &mut Vec<(Text, Json)>, place: usize, field: (Text, Json))
-    requires { place < length fields.old.items }
+    requires within { place < length fields.old.items }
     ensures exact { fields.new.items ≡ slice_set fields.old.items place field }
 {
     fields[place] = field;

@@ -7,8 +7,8 @@
 //! `Value` is what a cell of a table holds. `Fields` are the named values of one feature, and `Table::from_fields`
 //! makes a table of many: a column for each name, in the order of first appearance.
 //!
-//! `laws` has facts over the definitions alone: the text that is printed of a proper value is in the grammar and denotes
-//! that value, and a number is printed with the value that it has.
+//! `laws` has facts over the definitions alone: the text that is printed of a proper value is in the grammar and
+//! denotes that value, and a number is printed with the value that it has.
 #![tactic(auto)]
 
 mod comparing;
@@ -24,5 +24,6 @@ mod value;
 pub use fields::{Fields, FieldsList};
 pub use growing_fields::GrowingFields;
 pub use json::{Json, JsonFields, JsonList};
+pub use printing::print_string;
 pub use table::{Row, RowList, Table};
 pub use value::Value;

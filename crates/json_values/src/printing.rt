@@ -100,7 +100,10 @@ fn print_number(numeral: &Text, out: &mut Bytes) -> Result<(), AllocError>
     }
 }
 
-pub(crate) fn print_string(text: &Text, out: &mut Bytes) -> Result<(), AllocError>
+/// Appends a text as a JSON string.
+///
+/// Errors: where memory runs out, `out` begins with what it held.
+pub fn print_string(text: &Text, out: &mut Bytes) -> Result<(), AllocError>
     ensures ok { OnOk result (out.new ≡ out.old ++ string_text text.now) }
     ensures err { OnErr result (Begins out.old out.new) }
 {
@@ -127,7 +130,7 @@ fn print_escaped(text: &[u8], out: &mut Bytes) -> Result<(), AllocError>
 }
 
 fn past(text: &[u8], n: usize) -> &[u8]
-    requires { n < length text.now }
+    requires within { n < length text.now }
     ensures exact { result.now ≡ drop (n + 1) text.now }
 {
     &text[n + 1..]
@@ -152,7 +155,7 @@ fn is_plain(byte: u8) -> bool
 }
 
 fn print_escape(byte: u8, out: &mut Bytes) -> Result<(), AllocError>
-    requires { is_a_plain_byte byte ≡ false }
+    requires escaped { is_a_plain_byte byte ≡ false }
     ensures ok { OnOk result (out.new ≡ out.old ++ escaped byte) }
     ensures err { OnErr result (Begins out.old out.new) }
 {
@@ -168,7 +171,7 @@ fn print_escape(byte: u8, out: &mut Bytes) -> Result<(), AllocError>
 }
 
 fn hex(digit: u8) -> u8
-    requires { digit < 16 }
+    requires small { digit < 16 }
     ensures exact { result ≡ hex_digit digit }
 {
     if digit < 10 {

@@ -15,64 +15,7 @@ use std::marker::Model;
 use text_core::{NameList, Text};
 
 /// The values of a row, in the order of the columns; counted from 0.
-#[derive(Drop)]
-pub struct Row {
-    items: Vec<Value>,
-}
-
-impl Model for Row {
-    ghost use Rattle.std.specs.Prelude.{List, ◌<◌, ◌^◌, length};
-    ghost use Rattle.std.specs.Coded.{coded_list};
-    ghost use Rattle.json_values.specs.contracts.value.Value as cell;
-    ghost use Rattle.json_values.specs.Table.{RowValues};
-
-    ghost Value = { RowValues };
-
-    ghost coded = { coded_list cell.the_row.coded };
-
-    ghost view = { λ l. l.items.items };
-
-    ghost invariant = { λ l. length l.items.items < 2 ^ 32 };
-}
-
-impl Row {
-    pub fn new(alloc: Global) -> Row
-        ensures empty { result ≡ [] }
-    {
-        Row {
-            items: Vec::new(alloc),
-        }
-    }
-
-    pub fn push(&mut self, item: Value) -> Result<(), AllocError>
-        ensures ok { OnOk result (self.new ≡ self.old ++ item ∷ []) }
-        ensures err { OnErr result (self.new ≡ self.old) }
-    {
-        if self.items.len() >= u32::MAX as usize {
-            return Err(AllocError);
-        }
-        self.items.push(item)?;
-        Ok(())
-    }
-
-    pub fn len(&self) -> u32
-        ensures count { result ≡ length self.now }
-    {
-        self.items.len() as u32
-    }
-
-    pub fn get(&self, i: u32) -> Option<&Value>
-        ensures lookup { option_copied result ≡ slice_get self.now i }
-    {
-        self.items.get(i as usize)
-    }
-
-    pub fn as_slice(&self) -> &[Value]
-        ensures all { result.now ≡ self.now }
-    {
-        &self.items
-    }
-}
+pub type Row = ItemList<Value>;
 
 /// A list of rows; counted from 0.
 pub type RowList = ItemList<Row>;
@@ -119,22 +62,22 @@ impl Table {
         ensures exact { IfOk result (λ t. t ≡ table_of rows) }
     {
         let names = all_names(alloc, rows.as_slice())?;
-        Table::with_columns(alloc, &names, rows)
+        Table::with_columns(alloc, names, rows)
     }
 
     // A column for each of these names.
     fn with_columns(
         alloc: Global,
-        names: &IndexSet<String>,
+        names: IndexSet<String>,
         rows: FieldsList,
     ) -> Result<Table, AllocError>
-        requires { IsUnique string_eq names.now }
-        ensures names { IfOk result (λ t. t.names ≡ map string_bytes names.now.keys) }
-        ensures rows { IfOk result (λ t. t.rows ≡ map (values_of (map string_bytes names.now.keys)) rows) }
+        requires unique { IsUnique string_eq names }
+        ensures names { IfOk result (λ t. t.names ≡ map string_bytes names.keys) }
+        ensures rows { IfOk result (λ t. t.rows ≡ map (values_of (map string_bytes names.keys)) rows) }
     {
         Ok(Table {
-            rows: rows_of(alloc, names, rows)?,
-            names: name_list(alloc, names.as_slice())?,
+            rows: rows_of(alloc, &names, rows)?,
+            names: name_list(alloc, names)?,
         })
     }
 
@@ -188,7 +131,7 @@ fn add_names(
     names: &mut IndexSet<String>,
     fields: &[(Text, Value)],
 ) -> Result<(), AllocError>
-    requires { IsUnique string_eq names.old }
+    requires unique { IsUnique string_eq names.old }
     ensures names { OnOk result (map string_bytes names.new.keys ≡ add_all_names (map string_bytes names.old.keys) (map (λ f. f.0) fields.now)) }
     ensures unique { OnOk result (IsUnique string_eq names.new) }
 {
@@ -216,7 +159,7 @@ pub(crate) fn add_name(
     names: &mut IndexSet<String>,
     name: &str,
 ) -> Result<(), AllocError>
-    requires { IsUnique string_eq names.old }
+    requires unique { IsUnique string_eq names.old }
     ensures names { OnOk result (map string_bytes names.new.keys ≡ add_one_name (map string_bytes names.old.keys) name.now) }
     ensures unique { OnOk result (IsUnique string_eq names.new) }
 {
@@ -235,7 +178,7 @@ fn rows_of(
     names: &IndexSet<String>,
     fields_list: FieldsList,
 ) -> Result<RowList, AllocError>
-    requires { IsUnique string_eq names.now }
+    requires unique { IsUnique string_eq names.now }
     ensures exact { IfOk result (λ rows. rows ≡ map (values_of (map string_bytes names.now.keys)) fields_list) }
 {
     let mut rows = RowList::new(alloc);
@@ -247,28 +190,26 @@ fn rows_of(
 
 // The values of these names; one that is missing is Null.
 fn row_of(alloc: Global, names: &IndexSet<String>, fields: Fields) -> Result<Row, AllocError>
-    requires { IsUnique string_eq names.now }
+    requires unique { IsUnique string_eq names.now }
     ensures exact { IfOk result (λ row. row ≡ values_of (map string_bytes names.now.keys) fields) }
 {
-    let mut row = nulls(alloc, names.as_slice())?;
+    let mut values = nulls(alloc, names.as_slice())?;
     for (i, field) in fields.entries.into_iter().enumerate() {
         let place = place_of(names, i, field.0.as_str());
-        set_value(&mut row, place, field);
+        set_value(&mut values, place, field);
     }
-    Ok(row)
+    Row::from_vec(values)
 }
 
 // Null for each of these names.
-fn nulls(alloc: Global, names: &[String]) -> Result<Row, AllocError>
-    ensures exact { IfOk result (λ row. row ≡ values_of (map string_bytes names.now) []) }
+fn nulls(alloc: Global, names: &[String]) -> Result<Vec<Value>, AllocError>
+    ensures exact { IfOk result (λ values. values.items ≡ values_of (map string_bytes names.now) []) }
 {
-    let mut row = Row {
-        items: Vec::with_capacity(alloc, names.len())?,
-    };
+    let mut values = Vec::with_capacity(alloc, names.len())?;
     for _ in names {
-        row.push(Value::Null)?;
+        values.push(Value::Null)?;
     }
-    Ok(row)
+    Ok(values)
 }
 
 // Where the name stands: at the guessed place, or else as the index tells.
@@ -282,22 +223,22 @@ fn place_of(names: &IndexSet<String>, guess: usize, name: &str) -> Option<usize>
     names.get_index_of(name)
 }
 
-// Moves the value of a field to its place in the row; a field without one goes.
-fn set_value(row: &mut Row, place: Option<usize>, field: (Text, Value))
-    requires { IfSome place (λ i. i < length row.old) }
-    ensures exact { MatchOption place (row.new ≡ row.old) (λ i. row.new ≡ slice_set row.old i field.1) }
+// Moves the value of a field to its place in a row; a field without one goes.
+fn set_value(values: &mut Vec<Value>, place: Option<usize>, field: (Text, Value))
+    requires within { IfSome place (λ i. i < length values.old.items) }
+    ensures exact { MatchOption place (values.new.items ≡ values.old.items) (λ i. values.new.items ≡ slice_set values.old.items i field.1) }
 {
     if let Some(place) = place {
-        row.items[place] = field.1;
+        values[place] = field.1;
     }
 }
 
-fn name_list(alloc: Global, names: &[String]) -> Result<NameList, AllocError>
-    ensures exact { IfOk result (λ list. list ≡ map string_bytes names.now) }
+fn name_list(alloc: Global, names: IndexSet<String>) -> Result<NameList, AllocError>
+    ensures exact { IfOk result (λ list. list ≡ map string_bytes names.keys) }
 {
     let mut list = NameList::new(alloc);
     for name in names {
-        list.push(Text::of(alloc, name.as_str())?)?;
+        list.push(Text::from_string(name))?;
     }
     Ok(list)
 }

@@ -1,9 +1,10 @@
-ghost use Rattle.std.specs.Prelude.{◌≡◌, ◌++◌, ◌*◌, ◌≤◌, ◌<◌, ◌^◌, ℕ, decimal, length, MatchOption, OnOk, OnErr, unsigned_abs, ◌+ℤ◌, ◌-ℤ◌, ◌*ℤ◌};
+ghost use Rattle.std.specs.Prelude.{◌≡◌, ◌++◌, ◌*◌, ◌≤◌, ◌<◌, ◌^◌, ℕ, decimal, length, MatchOption, OnOk, OnErr, unsigned_abs, neg_ℤ, ◌+ℤ◌, ◌-ℤ◌, ◌*ℤ◌};
 ghost use Rattle.std.specs.Ordering.{int_cmp};
 ghost use Rattle.numerals.specs.Decimal.{checked, checked_product, decimal_of_text, decimal_text, fraction_text, is_negative, last_digits, of_grid, of_size, sign_text, trimmed_digits};
 ghost use Rattle.numerals.specs.Bytes.{Begins};
 
-use crate::units::whole_units;
+use crate::powers::ten_to;
+use crate::units::units_of;
 use itoa::Buffer;
 use std::alloc::AllocError;
 use std::cmp::Ordering;
@@ -65,7 +66,14 @@ impl Decimal {
     pub fn parse(text: &str) -> Option<Decimal>
         ensures exact { result ≡ decimal_of_text text.now }
     {
-        Decimal::of_units(whole_units(text, DECIMAL_PLACES)?)
+        Decimal::parse_bytes(text.as_bytes())
+    }
+
+    /// The same of bytes, which may be no UTF-8.
+    pub fn parse_bytes(text: &[u8]) -> Option<Decimal>
+        ensures exact { result ≡ decimal_of_text text.now }
+    {
+        Decimal::of_units(units_of(text, DECIMAL_PLACES)?)
     }
 
     /// `g / 10^places`.
@@ -74,7 +82,7 @@ impl Decimal {
         requires places { places ≤ 18 }
         ensures exact { result ≡ of_grid g places }
     {
-        let scale = u128::from(10_u64.pow(u32::from(DECIMAL_PLACES - places)));
+        let scale = u128::from(ten_to(usize::from(DECIMAL_PLACES - places)));
         Decimal::of_size(times(u128::from(g.unsigned_abs()), scale), g < 0)
     }
 
@@ -90,6 +98,13 @@ impl Decimal {
         ensures exact { result ≡ checked (self.now -ℤ o.now) }
     {
         Decimal::of_units(self.units - o.units)
+    }
+
+    /// The decimal of the other sign.
+    pub fn negated(&self) -> Decimal
+        ensures exact { result ≡ neg_ℤ self.now }
+    {
+        Decimal { units: -self.units }
     }
 
     /// The product; `None` where it is no decimal, also where it is none for its last digits alone.
@@ -114,7 +129,7 @@ impl Decimal {
     }
 
     fn of_size(size: u128, negative: bool) -> Decimal
-        requires { size < 10 ^ 36 }
+        requires small { size < 10 ^ 36 }
         ensures exact { result ≡ of_size size negative }
     {
         let units = size as i128;
@@ -178,7 +193,7 @@ fn print_digits(fraction: u64, out: &mut Bytes) -> Result<(), AllocError>
 
 // The last `count` digits of `n`, without the zeros at their end.
 fn print_trimmed(n: u64, count: usize, out: &mut Bytes) -> Result<(), AllocError>
-    requires { count ≤ 18 }
+    requires few { count ≤ 18 }
     ensures ok { OnOk result (out.new ≡ out.old ++ trimmed_digits count n) }
     ensures err { OnErr result (out.new ≡ out.old) }
 {

@@ -21,7 +21,7 @@ pub fn numeral_to_grid(text: &str, places: u8) -> Option<i64>
     ensures exact { result ≡ grid_of_text places text.now }
 {
     let (minus, scaled) = size_of(text.as_bytes(), places)?;
-    with_sign(minus, scaled.units + rounding(&scaled, minus))
+    on_grid(minus, scaled.units + rounding(&scaled, minus))
 }
 
 /// The grid number of the numeral at the front of a text, after which no byte stands that could go on with it, and how
@@ -42,14 +42,14 @@ pub fn front_to_grid(text: &[u8], places: u8) -> Option<(i64, usize)>
 // The grid number of such a numeral.
 #[inline(always)]
 fn plain_to_grid(plain: &Plain, places: u8) -> Option<i64>
-    requires { plain.now.fraction ≤ 18 }
+    requires few { plain.now.fraction ≤ 18 }
     ensures exact { result ≡ grid_at places (Some (plain_numeral plain.now)) }
 {
     if plain.is_finer(places) {
         let scaled = plain.scaled(places);
-        return with_sign(plain.minus, scaled.units + rounding(&scaled, plain.minus));
+        return on_grid(plain.minus, scaled.units + rounding(&scaled, plain.minus));
     }
-    with_sign(plain.minus, plain.raised(places))
+    on_grid(plain.minus, plain.raised(places))
 }
 
 // What rounding adds to the size. Halves go up: away from zero above it, towards zero below it.
@@ -65,7 +65,7 @@ fn rounding(scaled: &Scaled, minus: bool) -> u128
 
 // The number of this sign and size, where the grid has it.
 #[inline(always)]
-fn with_sign(minus: bool, size: u128) -> Option<i64>
+fn on_grid(minus: bool, size: u128) -> Option<i64>
     ensures exact { result ≡ checked_grid (signed minus size) }
 {
     if size > GRID_LIMIT {

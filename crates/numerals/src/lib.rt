@@ -1,8 +1,8 @@
 //! Numerals, exactly: the texts of numbers (RFC 8259, section 6), grid numbers and decimals.
 //!
 //! A numeral is read in two ways, both exact and without forming the whole number: `numeral_to_grid` rounds it, for
-//! coordinates; `whole_units` counts the units that it is a whole number of, for transforms and indices, and for
-//! `Decimal::parse`, which reads the cells of tables.
+//! coordinates; `whole_units` counts the units that it is a whole number of, for transforms and indices, and
+//! `Decimal::parse` does so for the cells of tables.
 //!
 //! `laws` has facts over the definitions alone: the numbers of the grammar are exactly the numerals that have a value;
 //! a printed decimal and a printed grid number read back; rounding gives the nearest whole number, halves up.

@@ -130,7 +130,7 @@ enum Shift {
 }
 
 fn shift_of(power: i128, fraction: usize, places: u8) -> Shift
-    requires { IsPower power }
+    requires power { IsPower power }
     ensures exact { IsShift ((power -ℤ pos fraction) +ℤ pos places) result }
 {
     let shift = power - fraction as i128 + i128::from(places);
@@ -248,7 +248,7 @@ fn signed_power(minus: bool, digits: &[u8]) -> Option<i128>
 }
 
 pub(crate) fn with_sign(minus: bool, size: u128) -> i128
-    requires { size ≤ units_cap }
+    requires small { size ≤ units_cap }
     ensures exact { result ≡ signed minus size }
 {
     let size = size as i128;
@@ -267,7 +267,7 @@ fn power_of(digits: &[u8]) -> u128
 
 // The number of these digits after those that `n` counts.
 fn count_onto(n: u128, digits: &[u8]) -> u128
-    requires { n ≤ units_cap }
+    requires small { n ≤ units_cap }
     ensures exact { result ≡ min (number_onto n digits.now) units_cap }
 {
     let mut n = n;
@@ -293,7 +293,7 @@ fn holds_zeros(digits: &[u8]) -> bool
 
 /// n * 10^power, counted no further than 10^37.
 pub(crate) fn raised(n: u128, power: u128) -> u128
-    requires { n ≤ units_cap }
+    requires small { n ≤ units_cap }
     ensures exact { result ≡ min (n * 10 ^ power) units_cap }
 {
     let mut n = n;

@@ -9,12 +9,12 @@ use crate::numerals::{Scaled, UNITS_CAP, is_digit, is_whole, raised};
 use crate::powers::ten_to;
 
 /// A number of this many digits fits a machine word.
-const MOST_DIGITS: usize = 19;
+const MAX_DIGITS: usize = 19;
 /// The greatest number of digits after the point.
-const GREATEST_FRACTION: usize = 18;
+const MAX_FRACTION: usize = 18;
 
 /// A number that isn't 0 passes the limit of the grid with this many zeros after it.
-const MOST_ZEROS: usize = 18;
+const MAX_ZEROS: usize = 18;
 
 /// A numeral without an exponent whose digits, read without the point, are a number of one machine word:
 /// `number`, of which `fraction` digits stand after the point.
@@ -55,7 +55,7 @@ impl Plain {
     fn unsigned_front(minus: bool, text: &[u8]) -> Option<(Plain, usize)>
         ensures found { IfSome result (λ r. IsUnsignedFront minus text.now r.0 r.1) }
     {
-        let (window, beyond) = text.split_at(text.len().min(MOST_DIGITS));
+        let (window, beyond) = text.split_at(text.len().min(MAX_DIGITS));
         let (plain, size) = Plain::short_front(minus, window)?;
         if is_cut(size, window, beyond) {
             return None;
@@ -66,7 +66,7 @@ impl Plain {
     // The same of a text that is too short to pass a machine word.
     #[inline(always)]
     fn short_front(minus: bool, text: &[u8]) -> Option<(Plain, usize)>
-        requires { length text.now ≤ 19 }
+        requires short { length text.now ≤ 19 }
         ensures found { IfSome result (λ r. IsUnsignedFront minus text.now r.0 r.1) }
     {
         let (front, count) = front_number(0, 0, text);
@@ -93,7 +93,7 @@ impl Plain {
 
     /// Its size in units of 10^-`places`.
     pub(crate) fn scaled(&self, places: u8) -> Scaled
-        requires { self.now.fraction ≤ 18 }
+        requires few { self.now.fraction ≤ 18 }
         ensures exact { IsScaled self.now.number ((pos 0 -ℤ pos self.now.fraction) +ℤ pos places) result }
     {
         let places = usize::from(places);
@@ -109,11 +109,11 @@ impl Plain {
 
     /// The same where it is a whole number, but that no more than eighteen zeros are added.
     pub(crate) fn raised(&self, places: u8) -> u128
-        requires { self.now.fraction ≤ places }
+        requires fits { self.now.fraction ≤ places }
         ensures exact { result ≡ self.now.number * 10 ^ min (places - self.now.fraction) 18 }
     {
         let zeros = usize::from(places) - self.fraction;
-        times(self.number, ten_to(zeros.min(MOST_ZEROS)))
+        times(self.number, ten_to(zeros.min(MAX_ZEROS)))
     }
 }
 
@@ -217,7 +217,7 @@ fn cut_number(n: u64, dropped: usize) -> Scaled
 fn raised_word(n: u64, power: usize) -> u128
     ensures exact { result ≡ min (n * 10 ^ power) units_cap }
 {
-    if power > GREATEST_FRACTION {
+    if power > MAX_FRACTION {
         return raised(u128::from(n), power as u128);
     }
     times(n, ten_to(power)).min(UNITS_CAP)

@@ -3,7 +3,7 @@ ghost use Rattle.std.specs.Prelude.{◌≡◌, ◌≤◌, ◌<◌, ◌^◌};
 /// A power of ten.
 #[inline(always)]
 pub fn ten_to(power: usize) -> u64
-    requires { power ≤ 18 }
+    requires small { power ≤ 18 }
     ensures exact { result ≡ 10 ^ power }
     ensures positive { 0 < result }
     ensures most { result ≤ 10 ^ 18 }

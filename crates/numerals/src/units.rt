@@ -15,7 +15,15 @@ pub fn whole_units(text: &str, places: u8) -> Option<i128>
     ensures exact { result ≡ option_map counted (units_of_text places text.now) }
     ensures small { IfSome result (λ n. unsigned_abs n ≤ units_cap) }
 {
-    let (minus, scaled) = size_of(text.as_bytes(), places)?;
+    units_of(text.as_bytes(), places)
+}
+
+/// The same of bytes.
+pub(crate) fn units_of(text: &[u8], places: u8) -> Option<i128>
+    ensures exact { result ≡ option_map counted (units_of_text places text.now) }
+    ensures small { IfSome result (λ n. unsigned_abs n ≤ units_cap) }
+{
+    let (minus, scaled) = size_of(text, places)?;
     if scaled.tenths != 0 || scaled.more {
         return None;
     }

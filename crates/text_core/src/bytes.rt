@@ -27,6 +27,20 @@ impl Bytes {
         }
     }
 
+    /// Takes no memory.
+    pub fn from_vec(items: Vec<u8>) -> Bytes
+        ensures kept { result ≡ items.items }
+    {
+        Bytes { items }
+    }
+
+    /// Takes all bytes out, and keeps the room.
+    pub fn clear(&mut self)
+        ensures empty { self.new ≡ [] }
+    {
+        self.items.clear();
+    }
+
     pub fn push(&mut self, item: u8) -> Result<(), AllocError>
         ensures ok { OnOk result (self.new ≡ self.old ++ item ∷ []) }
         ensures err { OnErr result (self.new ≡ self.old) }

@@ -173,7 +173,7 @@ impl<'a> Reader<'a> {
     }
 
     fn begun_numeral(&mut self) -> Option<&'a str>
-        requires { NumberBegins self.old.rest.now }
+        requires begins { NumberBegins self.old.rest.now }
         ensures read { IfSome result (λ text. Passes (NumeralOf text.now) value after self.old.rest.now self.new.rest.now) }
     {
         let start = self.rest;

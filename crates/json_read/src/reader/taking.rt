@@ -9,7 +9,7 @@ ghost use Rattle.json_read.specs.Straight.{HasRead, TakesItem};
 
 use crate::fault::JsonFault;
 use crate::parsing::fault_at;
-use crate::reader::{Fault, GREATEST_DEPTH, Reader, Stop};
+use crate::reader::{Fault, MAX_DEPTH, Reader, Stop};
 use json_values::{GrowingFields, Json, JsonFields};
 use std::alloc::{AllocError, Global};
 use text_core::Text;
@@ -78,15 +78,15 @@ impl<'a> Reader<'a> {
         wanted: &str,
         taker: &mut T,
     ) -> Result<Option<TakenObject>, Stop>
-        ensures taken { (first : T) → TakesText GREATEST_DEPTH (T.took first taker.old) (T.took first taker.new) wanted.now result self.old.rest.now self.new.rest.now }
-        ensures other { IfOk result (λ found. IfNone found (IsReadOtherwise GREATEST_DEPTH wanted.now self.old.rest.now)) }
+        ensures taken { (first : T) → TakesText MAX_DEPTH (T.took first taker.old) (T.took first taker.new) wanted.now result self.old.rest.now self.new.rest.now }
+        ensures other { IfOk result (λ found. IfNone found (IsReadOtherwise MAX_DEPTH wanted.now self.old.rest.now)) }
     {
         self.mark()?;
         self.skip_white();
         if !self.take(b'{') {
             return Ok(None);
         }
-        let Some(object) = self.object_taking(GREATEST_DEPTH - 1, wanted, taker)? else {
+        let Some(object) = self.object_taking(MAX_DEPTH - 1, wanted, taker)? else {
             return Ok(None);
         };
         self.skip_white();
@@ -104,7 +104,7 @@ impl<'a> Reader<'a> {
         wanted: &str,
         taker: &mut T,
     ) -> Result<Option<TakenObject>, Stop>
-        requires { 0 < depth }
+        requires room { 0 < depth }
         ensures taken { (first : T) → TakesObject depth (T.took first taker.old) (T.took first taker.new) wanted.now result self.old.rest.now self.new.rest.now }
         ensures other { IfOk result (λ found. IfNone found (HasOtherMember depth wanted.now self.old.rest.now)) }
     {
@@ -158,7 +158,7 @@ impl<'a> Reader<'a> {
         taker: &mut T,
         taking: &mut Taking,
     ) -> Result<bool, Stop>
-        requires { 0 < depth }
+        requires room { 0 < depth }
         ensures taken { (first : T) → TakesMember depth (T.took first taker.old) (T.took first taker.new) wanted.now name taking.old taking.new result self.old.rest.now self.new.rest.now }
         ensures other { IfOk result (λ is_read. is_read ≡ false → (bytes_eq name wanted.now ≡ true) × IsNoFirstArray taking.old self.old.rest.now) }
     {
@@ -177,7 +177,7 @@ impl<'a> Reader<'a> {
         taker: &mut T,
         taking: &mut Taking,
     ) -> Result<bool, Stop>
-        requires { 0 < depth }
+        requires room { 0 < depth }
         ensures taken { (first : T) → TakesValue depth (T.took first taker.old) (T.took first taker.new) taking.old taking.new result self.old.rest.now self.new.rest.now }
         ensures other { IfOk result (λ is_read. is_read ≡ false → IsNoFirstArray taking.old self.old.rest.now) }
     {

@@ -3,4 +3,4 @@ use Rattle.json_values.proofs.Putting.{Differs}
 use Rattle.json_values.proofs.json.place_of.Given as goal
 
 abbrev pub invariant-loop-i : goal.invariant-loop-i
-invariant-loop-i l = Differs (members_seen l.fields.items) l.name l.i
+invariant-loop-i l = Differs (members_seen l.fields) l.name l.i

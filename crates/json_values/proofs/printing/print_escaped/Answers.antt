@@ -7,7 +7,7 @@ returns-then-n-rest-clause-ok c =
     escaped_end c.loop-out.out _ c.loop-out.rest.now c.plain_count-n.result c.plain_count-n.ensures.count c.if-n-rest.true c.in_ok-extend.ensures.ok ∙ c.loop-out.invariant.0
 
 pub print_escape-requires : goal.print_escape-requires
-print_escape-requires c = stops_at c.loop-out.rest.now c.plain_count-n.result c.plain_count-n.ensures.count (omega arith)
+print_escape-requires c = record { escaped = stops_at c.loop-out.rest.now c.plain_count-n.result c.plain_count-n.ensures.count (omega arith) }
 
 pub loop-out-preserved : goal.loop-out-preserved
 loop-out-preserved c = (

@@ -1,4 +1,4 @@
-use Rattle.std.proofs.Common.{arith, refl, ◌-◌, suc, ◌≡◌, codes, true, false, inl, inr, rules}
+use Rattle.std.proofs.Common.{arith, refl, codes, true, false, inl, inr, rules}
 use Rattle.numerals.specs.Bytes.{is_white}
 use Rattle.json_values.specs.Json.{ItemList, FieldList}
 use Rattle.json_read.proofs.reader.Reader.+values.Goals.{value-in_default-first-via-then-this-lt48, value-in_default-first-via-else-this-lt48+else-this-lt58}
@@ -35,38 +35,38 @@ value-returns-in_err-string-in-34 t c = record {
 pub value-returns-in_ok-string-in-34 : goal.value-returns-in_ok-string-in-34
 value-returns-in_ok-string-in-34 t c = record { read = string_value c.args.depth c.in_ok-string-in-34.field-0 _ _ _ (next_is (seen c.in-34.is c.in-Some.ensures.exact) c.advance.ensures.next) (c.in_ok-string-in-34.ensures.read is_value) }
 
-pub value-returns-then-depth-eq0 : goal.value-returns-then-depth-eq0
-value-returns-then-depth-eq0 t c = record { read = too_deep in_array first_value 91 c.args.depth _ (seen c.in-91.is c.in-Some.ensures.exact) (λ n k. refl) refl c.if-depth-eq0.true }
+pub value-returns-in_err-inner-in-91 : goal.value-returns-in_err-inner-in-91
+value-returns-in_err-inner-in-91 t c =
+    let e = c.in_err-inner-in-91 in
+    record { read = at_exit _ _ c.from_residual-in_err-inner-in-91.result e.field-0.0 c.from_residual-in_err-inner-in-91.ensures.1 (rw (e.ensures.deep.1, e.ensures.stays) (too_deep in_array first_value 91 c.args.depth _ (seen c.in-91.is c.in-Some.ensures.exact) (λ n k. refl) refl e.ensures.deep.0)) }
 
-pub value-returns-then-depth-eq0-2 : goal.value-returns-then-depth-eq0-2
-value-returns-then-depth-eq0-2 t c = record { read = too_deep in_object first_name 123 c.args.depth _ (seen c.in-123.is c.in-Some.ensures.exact) (λ n k. refl) refl c.if-depth-eq0-2.true }
+pub value-returns-in_err-inner-in-123 : goal.value-returns-in_err-inner-in-123
+value-returns-in_err-inner-in-123 t c =
+    let e = c.in_err-inner-in-123 in
+    record { read = at_exit _ _ c.from_residual-in_err-inner-in-123.result e.field-0.0 c.from_residual-in_err-inner-in-123.ensures.1 (rw (e.ensures.deep.1, e.ensures.stays) (too_deep in_object first_name 123 c.args.depth _ (seen c.in-123.is c.in-Some.ensures.exact) (λ n k. refl) refl e.ensures.deep.0)) }
 
 pub value-returns-in_err-array-in-91 : goal.value-returns-in_err-array-in-91
 value-returns-in_err-array-in-91 t c = record {
   read =
-      let up : suc (c.args.depth - 1) ≡ c.args.depth = omega arith in
-      at_exit _ _ c.from_residual-in_err-array-in-91.result c.in_err-array-in-91.field-0.0 c.from_residual-in_err-array-in-91.ensures.1 (held_breaks in_array first_value 91 c.args.depth (c.args.depth - 1) (λ s. (js : ItemList) × ArrayText (c.args.depth - 1) js s) c.in_err-array-in-91.field-0.0 _ _ _ up (next_is (seen c.in-91.is c.in-Some.ensures.exact) c.advance-in-91.ensures.next) (λ n l. refl) (λ s h. (json.List h.0, h.1)) c.in_err-array-in-91.ensures.read);
+      at_exit _ _ c.from_residual-in_err-array-in-91.result c.in_err-array-in-91.field-0.0 c.from_residual-in_err-array-in-91.ensures.1 (held_breaks in_array first_value 91 c.args.depth c.in_ok-inner-in-91.inner (λ s. (js : ItemList) × ArrayText c.in_ok-inner-in-91.inner js s) c.in_err-array-in-91.field-0.0 _ _ _ c.in_ok-inner-in-91.ensures.inside (next_is (seen c.in-91.is c.in-Some.ensures.exact) c.in_ok-inner-in-91.ensures.next) (λ n l. refl) (λ s h. (json.List h.0, h.1)) c.in_err-array-in-91.ensures.read);
 }
 
 pub value-returns-in_ok-array-in-91 : goal.value-returns-in_ok-array-in-91
 value-returns-in_ok-array-in-91 t c = record {
   read =
-      let up : suc (c.args.depth - 1) ≡ c.args.depth = omega arith in
-      held_value in_array first_value 91 c.args.depth (c.args.depth - 1) (ArrayText (c.args.depth - 1) c.in_ok-array-in-91.field-0) (json.List c.in_ok-array-in-91.field-0) _ _ _ up (next_is (seen c.in-91.is c.in-Some.ensures.exact) c.advance-in-91.ensures.next) (λ n l. refl) (λ s h. h) c.in_ok-array-in-91.ensures.read;
+      held_value in_array first_value 91 c.args.depth c.in_ok-inner-in-91.inner (ArrayText c.in_ok-inner-in-91.inner c.in_ok-array-in-91.field-0) (json.List c.in_ok-array-in-91.field-0) _ _ _ c.in_ok-inner-in-91.ensures.inside (next_is (seen c.in-91.is c.in-Some.ensures.exact) c.in_ok-inner-in-91.ensures.next) (λ n l. refl) (λ s h. h) c.in_ok-array-in-91.ensures.read;
 }
 
 pub value-returns-in_err-object-in-123 : goal.value-returns-in_err-object-in-123
 value-returns-in_err-object-in-123 t c = record {
   read =
-      let up : suc (c.args.depth - 1) ≡ c.args.depth = omega arith in
-      at_exit _ _ c.from_residual-in_err-object-in-123.result c.in_err-object-in-123.field-0.0 c.from_residual-in_err-object-in-123.ensures.1 (held_breaks in_object first_name 123 c.args.depth (c.args.depth - 1) (λ s. (fs : FieldList) × ObjectText (c.args.depth - 1) fs s) c.in_err-object-in-123.field-0.0 _ _ _ up (next_is (seen c.in-123.is c.in-Some.ensures.exact) c.advance-in-123.ensures.next) (λ n l. refl) (λ s h. (json.Object h.0, h.1)) c.in_err-object-in-123.ensures.read);
+      at_exit _ _ c.from_residual-in_err-object-in-123.result c.in_err-object-in-123.field-0.0 c.from_residual-in_err-object-in-123.ensures.1 (held_breaks in_object first_name 123 c.args.depth c.in_ok-inner-in-123.inner (λ s. (fs : FieldList) × ObjectText c.in_ok-inner-in-123.inner fs s) c.in_err-object-in-123.field-0.0 _ _ _ c.in_ok-inner-in-123.ensures.inside (next_is (seen c.in-123.is c.in-Some.ensures.exact) c.in_ok-inner-in-123.ensures.next) (λ n l. refl) (λ s h. (json.Object h.0, h.1)) c.in_err-object-in-123.ensures.read);
 }
 
 pub value-returns-in_ok-object-in-123 : goal.value-returns-in_ok-object-in-123
 value-returns-in_ok-object-in-123 t c = record {
   read =
-      let up : suc (c.args.depth - 1) ≡ c.args.depth = omega arith in
-      held_value in_object first_name 123 c.args.depth (c.args.depth - 1) (ObjectText (c.args.depth - 1) c.in_ok-object-in-123.field-0) (json.Object c.in_ok-object-in-123.field-0) _ _ _ up (next_is (seen c.in-123.is c.in-Some.ensures.exact) c.advance-in-123.ensures.next) (λ n l. refl) (λ s h. h) c.in_ok-object-in-123.ensures.read;
+      held_value in_object first_name 123 c.args.depth c.in_ok-inner-in-123.inner (ObjectText c.in_ok-inner-in-123.inner c.in_ok-object-in-123.field-0) (json.Object c.in_ok-object-in-123.field-0) _ _ _ c.in_ok-inner-in-123.ensures.inside (next_is (seen c.in-123.is c.in-Some.ensures.exact) c.in_ok-inner-in-123.ensures.next) (λ n l. refl) (λ s h. h) c.in_ok-object-in-123.ensures.read;
 }
 
 pub value-returns-in_ok-word-in-110 : goal.value-returns-in_ok-word-in-110
@@ -109,8 +109,8 @@ pub value-returns-in_default-first : goal.value-returns-in_default-first
 value-returns-in_default-first t c = record {
   read =
       elim c.in_default-first.branch [
-        | value-in_default-first-via-then-this-lt48 w ↦ nothing_begins c.in-Some.first c.args.depth _ c.in-Some.ensures.exact c.requires (omega arith) (omega arith) (omega arith) (omega arith) (omega arith) (omega arith) (omega arith) (inl (omega arith))
-        | value-in_default-first-via-else-this-lt48+else-this-lt58 w ↦ nothing_begins c.in-Some.first c.args.depth _ c.in-Some.ensures.exact c.requires (omega arith) (omega arith) (omega arith) (omega arith) (omega arith) (omega arith) (omega arith) (inr (omega arith))
+        | value-in_default-first-via-then-this-lt48 w ↦ nothing_begins c.in-Some.first c.args.depth _ c.in-Some.ensures.exact c.requires.begins (omega arith) (omega arith) (omega arith) (omega arith) (omega arith) (omega arith) (omega arith) (inl (omega arith))
+        | value-in_default-first-via-else-this-lt48+else-this-lt58 w ↦ nothing_begins c.in-Some.first c.args.depth _ c.in-Some.ensures.exact c.requires.begins (omega arith) (omega arith) (omega arith) (omega arith) (omega arith) (omega arith) (omega arith) (inr (omega arith))
       ];
 }
 
@@ -152,10 +152,10 @@ pub object-returns-in_err-members : goal.object-returns-in_err-members
 object-returns-in_err-members t c = record { read = at_exit _ _ c.from_residual.result c.in_err-members.field-0.0 c.from_residual.ensures.1 c.in_err-members.ensures.read }
 
 pub members-returns-then-take : goal.members-returns-then-take
-members-returns-then-take t c = record { read = object_empty c.args.depth c.args.fields.now _ _ _ c.requires c.skip_white.ensures.exact (c.take.ensures.taken c.if-take.true) }
+members-returns-then-take t c = record { read = object_empty c.args.depth c.args.fields.now _ _ _ c.requires.empty c.skip_white.ensures.exact (c.take.ensures.taken c.if-take.true) }
 
 pub members-loop-name-init : goal.members-loop-name-init
-members-loop-name-init t c = object_init c.args.depth c.args.fields.now _ _ _ c.requires c.skip_white.ensures.exact (c.take.ensures.stays c.if-take.false) (c.take.ensures.other c.if-take.false)
+members-loop-name-init t c = object_init c.args.depth c.args.fields.now _ _ _ c.requires.empty c.skip_white.ensures.exact (c.take.ensures.stays c.if-take.false) (c.take.ensures.other c.if-take.false)
 
 pub members-returns-in_err-name : goal.members-returns-in_err-name
 members-returns-in_err-name t c = record {

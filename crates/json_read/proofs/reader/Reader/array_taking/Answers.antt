@@ -6,12 +6,12 @@ use Rattle.json_read.proofs.reader.Reader.array_taking.Goals as goal
 
 pub returns-in_err-items_taking-clause-taken : goal.returns-in_err-items_taking-clause-taken
 returns-in_err-items_taking-clause-taken g c =
-    let up : suc (c.args.depth - 1) ≡ c.args.depth = (let more = c.requires in omega arith) in
+    let up : suc (c.args.depth - 1) ≡ c.args.depth = (let more = c.requires.room in omega arith) in
     λ first. at_exit _ _ c.from_residual.result c.in_err-items_taking.field-0.0 c.from_residual.ensures.1 (array_breaks c.args.depth (c.args.depth - 1) c.in_err-items_taking.field-0.0 _ _ _ _ up c.skip_white.ensures.exact (c.take.ensures.taken c.if-not-take.false) (c.in_err-items_taking.ensures.read first))
 
 pub returns-clause-taken : goal.returns-clause-taken
 returns-clause-taken g c =
-    let up : suc (c.args.depth - 1) ≡ c.args.depth = (let more = c.requires in omega arith) in
+    let up : suc (c.args.depth - 1) ≡ c.args.depth = (let more = c.requires.room in omega arith) in
     λ first e. array_taken c.args.depth (c.args.depth - 1) (g.T.ItemTaker.took first c.args.taker.now) (g.T.ItemTaker.took first c.items_taking.new.taker) c.args.taking.now (record { fields = c.args.taking.now.fields; is_taken = true }) _ _ _ _ _ up c.skip_white.ensures.exact (c.take.ensures.taken c.if-not-take.false) (c.in_ok-items_taking.ensures.read first) c.skip_white-2.ensures.exact c.if-taking.false refl refl
 
 pub returns-then-taking-clause-other : goal.returns-then-taking-clause-other

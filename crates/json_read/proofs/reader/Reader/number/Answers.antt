@@ -16,7 +16,7 @@ returns-in_err-exponent c =
 
 pub numeral_text-text-requires : goal.numeral_text-text-requires
 numeral_text-text-requires c =
-    number_text _ _ (number_passes _ _ _ _ _ c.minus.ensures.read c.in_ok-whole.ensures.read c.in_ok-fraction.ensures.read c.in_ok-exponent.ensures.read)
+    record { number = number_text _ _ (number_passes _ _ _ _ _ c.minus.ensures.read c.in_ok-whole.ensures.read c.in_ok-fraction.ensures.read c.in_ok-exponent.ensures.read) }
 
 pub returns : goal.returns
 returns c =

@@ -1,4 +1,4 @@
-use Rattle.std.proofs.Common.{List, ℕ, arith, subst, sym, length-append}
+use Rattle.std.proofs.Common.{arith, subst, sym, length-append}
 use Rattle.json_values.specs.Table.{NamedValues, IsNewName}
 use Rattle.json_values.proofs.NamedValues.{Field, distinct_pushed}
 use Rattle.json_values.proofs.fields.Fields.push_new.Goals as goal
