@@ -7,12 +7,11 @@ use Rattle.std.proofs.lemmas.Fmt.{decimal_digit, decimal_step, length-decimal-le
 use Rattle.std.proofs.lemmas.Int.{unsigned_abs-mul}
 use Rattle.std.proofs.lemmas.Nat.{pow-add, div-add-mod', mod-mul-add}
 use Rattle.std.proofs.Math.Nat.{mod-lt, div-le_self, mul_assoc, mul-lt-mul_of_pos_right, mul-div-mul_right, mul-div_left, mul-mod_left, one-le-pow}
-use Rattle.grid_base.specs.Grid.{limit}
+use Rattle.grid_base.specs.Sizes.{most_step}
 use Rattle.numerals.specs.Decimal.{of_grid, fraction_text as decimal_fraction, is_negative, last_digits, sign_text, trimmed_digits}
 use Rattle.numerals.proofs.Digits.{decimal_text-parts, fraction_text-zero, fraction_text-other, trim_end, trim_many, trimmed_digits-zero}
 use Rattle.numerals.proofs.Scaling.{pow_ten}
 use Rattle.geojson_io.specs.Numbers.{fraction_text, whole_digits}
-use Rattle.plane_model.specs.Points.{GridPoint}
 use Rattle.geojson_io.specs.Texts.{grid_text, point_text}
 
 -- ## Digits after a 1
@@ -148,10 +147,10 @@ grid_parts g places le =
 pub unit_positive : (unit places : ℕ) → unit ≡ 10 ^ places → 0 < unit
 unit_positive unit places e = subst (λ (u : ℕ). 0 < u) (sym e) (one-le-pow places 10 (lit< tt))
 
-pub short_whole : (n size unit : ℕ) → n ≡ size → size ≤ limit → length (decimal (n / unit)) ≤ whole_digits
+pub short_whole : (n size unit : ℕ) → n ≡ size → size ≤ most_step → length (decimal (n / unit)) ≤ whole_digits
 short_whole n size unit e l =
     let smaller : n / unit ≤ n = div-le_self n unit in
-    let small : n ≤ limit = omega (arith, e, l) in
+    let small : n ≤ most_step = omega (arith, e, l) in
     length-decimal-le whole_digits (n / unit) (omega arith) (omega (arith, smaller, small)) (omega (arith, smaller, small))
 
 pub number_written : (g : ℤ) (places : ℕ) (n unit : ℕ) (negative : Bool) (a b c tail : List ℕ) → places ≤ 18 → n ≡ unsigned_abs g → unit ≡ 10 ^ places → negative ≡ is_negative g
@@ -164,7 +163,6 @@ number_written g places n unit negative a b c tail le size scale sign ea eb ec =
     ∙ ap (λ (t : List ℕ). s ++ t) (sym (append_assoc d f tail)) ∙ sym (append_assoc s (d ++ f) tail) ∙ ap (λ (t : List ℕ). t ++ tail) (sym (grid_parts g places le))
 
 -- a point's text, from its end
-pub point_by_numbers : (places : ℕ) (p : GridPoint) (x y : ℤ) (a b c d : List ℕ) → x ≡ p.x → y ≡ p.y
-    → a ≡ grid_text places y ++ 93 ∷ [] → b ≡ 44 ∷ a → c ≡ grid_text places x ++ b → d ≡ 91 ∷ c → d ≡ point_text places p
-point_by_numbers places p x y a b c d ex ey ea eb ec ed =
-    ed ∙ ap (λ (t : List ℕ). 91 ∷ t) (ec ∙ (λ i. grid_text places (ex i) ++ (eb ∙ ap (λ (t : List ℕ). 44 ∷ t) (ea ∙ (λ j. grid_text places (ey j) ++ 93 ∷ []))) i))
+pub point_by_numbers : (places : ℕ) (x y : ℤ) (a b c d : List ℕ)
+    → a ≡ grid_text places y ++ 93 ∷ [] → b ≡ 44 ∷ a → c ≡ grid_text places x ++ b → d ≡ 91 ∷ c → d ≡ point_text places (record { x = x; y = y })
+point_by_numbers places x y a b c d ea eb ec ed = ed ∙ ap (λ (t : List ℕ). 91 ∷ t) (ec ∙ ap (λ (t : List ℕ). grid_text places x ++ t) (eb ∙ ap (λ (t : List ℕ). 44 ∷ t) ea))

@@ -27,7 +27,7 @@ use Rattle.geojson_io.specs.Straight.{AddsOne, AreProperties, ReadsAs, ReadsList
 use Rattle.geojson_io.specs.declared.fault.ShapeWhy.{ShapeWhy}
 use Rattle.geojson_io.specs.declared.fault.ShapeWhy.TheVariants.{BadPosition, Collection, LineShort, NotGeo, RingOpen, RingShort}
 use Rattle.geojson_io.specs.declared.shape.GeoShape.{GeoShape}
-use Rattle.geojson_io.specs.declared.shape.GeoShape.TheVariants.{Lines, Nothing, Points, Polygons}
+use Rattle.geojson_io.specs.declared.shape.GeoShape.TheVariants.{Lines, Nothing, Points}
 use Rattle.geojson_io.specs.declared.reading.features.Feature.{Feature}
 use Rattle.geojson_io.specs.declared.reading.types.GeoType.{GeoType}
 use Rattle.geojson_io.specs.declared.reading.types.GeoType.TheVariants as type
@@ -104,9 +104,8 @@ line_shape places room path after (object fs) ls e s = absurd (no_fault BadPosit
 abbrev one_polygon : Result (Polygon × ℕ) ShapeWhy → Result (GeoShape × ℕ) ShapeWhy
 one_polygon r = on_ok (on_ok r (λ (q : Polygon × ℕ). with_rings (q.0 ∷ []) q.1)) (λ (q : List Polygon × ℕ). Ok (some_polygons q.0, q.1))
 
-pub polygon_shape : (places room : ℕ) (polygon : Polygon) (after : ℕ) (v : JsonValue) (ps : List Polygon) → ReadsAs (rings places) room polygon after v → (length polygon ≡ 0 → ⊥) → ps ≡ polygon ∷ [] → ReadsAs (shape_of places type.Polygon) room (Polygons ps) after v
-polygon_shape places room [] after v ps e n s = absurd (n refl)
-polygon_shape places room (r ∷ rs) after v ps e n s = ap one_polygon e ∙ ap (λ (qs : List Polygon). Ok (Polygons qs, after)) (sym s)
+pub polygon_shape : (places room : ℕ) (polygon : Polygon) (after : ℕ) (v : JsonValue) (ps : List Polygon) → ReadsAs (rings places) room polygon after v → ps ≡ filter has_rings (polygon ∷ []) → ReadsAs (shape_of places type.Polygon) room (some_polygons ps) after v
+polygon_shape places room polygon after v ps e s = ap one_polygon e ∙ ap (λ (qs : List Polygon). Ok (some_polygons qs, after)) (sym s)
 
 same_ok : {A E : Type 0} (p q : A × ℕ) → ◌≡◌ {A = Result (A × ℕ) E} (Ok p) (Ok q) → p ≡ q
 same_ok p q e = cc

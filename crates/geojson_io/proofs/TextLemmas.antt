@@ -1,15 +1,13 @@
 -- Texts with commas between them, written one after another.
-use Rattle.std.proofs.Common.{◌≡◌, ℕ, zero, suc, codes, zip, ◌+◌, ◌<◌, ◌≤◌, ℤ, List, [], ◌∷◌, ◌++◌, length, take, map, get_or, refl, sym, ap, ◌∙◌, arith}
+use Rattle.std.proofs.Common.{◌≡◌, ℕ, zero, suc, codes, zip, ◌+◌, ◌<◌, ◌≤◌, List, [], ◌∷◌, ◌++◌, length, take, map, get_or, refl, sym, ap, ◌∙◌, arith}
 use Rattle.std.proofs.lemmas.List.{append-nil, append_assoc, take_more, map-append, length-take-le, length-map, take_all}
 use Rattle.std.proofs.lemmas.Bool.Decides.{nat_tests}
-use Rattle.geojson_io.specs.Texts.{Text, separated, before_item, list_text, grid_text, point_text, type_text, typed, one_or_many, geometry_text, member_text, properties_text, feature_text, key_text, features_text, collection_start, collection_end, geojson_text}
+use Rattle.geojson_io.specs.Texts.{Text, separated, before_item, list_text, type_text, typed, one_or_many, geometry_text, member_text, properties_text, feature_text, key_text, features_text, collection_start, collection_end, geojson_text}
 use Rattle.geojson_io.specs.LayerContent.{LayerContent}
 use Rattle.std.proofs.lemmas.Slice.Zip.{get_or-zip, length-zip}
 use Rattle.json_values.specs.Table.{RowValues, AreRows}
 use Rattle.json_values.specs.declared.value.Value.{Value}
 use Rattle.geojson_io.specs.declared.shape.GeoShape.{GeoShape}
-use Rattle.numerals.specs.Decimal.{of_grid, decimal_text}
-use Rattle.plane_model.specs.Points.{GridPoint}
 
 before_some : (c : Text) (n : ℕ) → before_item c (suc n) ≡ c
 before_some c n = grind (arith, nat_tests)
@@ -53,16 +51,6 @@ pub list_written : {A : Type 0} (show : A → Text) (old start out end : Text) (
 list_written {A} show old start out end xs i l s o e =
     e ∙ ap (λ (w : Text). w ++ 93 ∷ []) (o ∙ (λ j. s j ++ separated (44 ∷ []) (map show (take_all i xs l j))))
     ∙ append_assoc (old ++ 91 ∷ []) (separated (44 ∷ []) (map show xs)) (93 ∷ []) ∙ append_assoc old (91 ∷ []) (separated (44 ∷ []) (map show xs) ++ 93 ∷ [])
-
--- a point's text, piece by piece
-pub point_written : (places : ℕ) (p : GridPoint) (old a b c d e : Text) (gx gy : ℤ) → gx ≡ of_grid p.x places → gy ≡ of_grid p.y places
-    → a ≡ old ++ 91 ∷ [] → b ≡ a ++ decimal_text gx → c ≡ b ++ 44 ∷ [] → d ≡ c ++ decimal_text gy → e ≡ d ++ 93 ∷ [] → e ≡ old ++ point_text places p
-point_written places p old a b c d e gx gy ex ey ea eb ec ed ee =
-    let x : Text = grid_text places p.x in
-    let y : Text = grid_text places p.y in
-    ee ∙ ap (λ (w : Text). w ++ 93 ∷ []) (ed ∙ (λ i. ec i ++ decimal_text (ey i)) ∙ ap (λ (w : Text). (w ++ 44 ∷ []) ++ y) (eb ∙ (λ i. ea i ++ decimal_text (ex i))))
-    ∙ append_assoc (((old ++ 91 ∷ []) ++ x) ++ 44 ∷ []) y (93 ∷ []) ∙ append_assoc ((old ++ 91 ∷ []) ++ x) (44 ∷ []) (y ++ 93 ∷ [])
-    ∙ append_assoc (old ++ 91 ∷ []) x (44 ∷ (y ++ 93 ∷ [])) ∙ append_assoc old (91 ∷ []) (x ++ (44 ∷ (y ++ 93 ∷ [])))
 
 -- a geometry object, piece by piece
 object_written : (type text old a b e : Text) → a ≡ old ++ type_text type → b ≡ a ++ text → e ≡ b ++ 125 ∷ [] → e ≡ old ++ typed type text

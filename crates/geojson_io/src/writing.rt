@@ -11,7 +11,7 @@ mod properties;
 use crate::layer::GeoLayer;
 use crate::shape::GeoShape;
 use geometries::{write_geometry, write_points};
-pub use geometries::{write_comma, write_point};
+pub use geometries::{write_comma, write_number, write_pair, write_point};
 use grid_base::Pt;
 use json_read::Row;
 pub use properties::{keys_of, write_properties};

@@ -8,7 +8,7 @@ ghost use Rattle.grid_base.specs.Grid.{most_places};
 
 use case_lists::{number_at, told, unknown_call};
 use geojson_io::{GeoLayers, Room, read_geojson, write_geojson};
-use grid_base::MOST_PLACES;
+use grid_base::MAX_PLACES;
 use io_core::Bytes;
 use json_values::Json;
 use std::alloc::{AllocError, Global};
@@ -34,7 +34,7 @@ pub fn answer(alloc: Global, call: &str, case: &[Json]) -> Result<Bytes, AllocEr
 pub fn places_at(case: &[Json], place: usize) -> u8
     ensures within { result ≤ most_places }
 {
-    number_at(case, place).min(u32::from(MOST_PLACES)) as u8
+    number_at(case, place).min(u32::from(MAX_PLACES)) as u8
 }
 
 /// The room for positions and features with which a case begins.

@@ -1,5 +1,5 @@
 -- Bounds on quotients.
-use Rattle.std.proofs.Common.{ℕ, ◌+◌, ◌*◌, ◌/◌, ◌^◌, ◌≤◌, ◌<◌, arith, ℤ, pos, negsuc, unsigned_abs, lit<}
+use Rattle.std.proofs.Common.{ℕ, ◌/◌, ◌^◌, ◌≤◌, ◌<◌, arith, ℤ, pos, negsuc, unsigned_abs, lit<}
 use Rattle.std.proofs.Math.Nat.{div-le_self, div-lt_iff_lt-mul}
 use Rattle.std.specs.Int.{int_div_euclid}
 use Rattle.topo_io.specs.Transform.{part}

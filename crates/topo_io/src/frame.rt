@@ -6,7 +6,7 @@ ghost use Rattle.numerals.specs.Numeral.{checked_grid};
 ghost use Rattle.topo_io.specs.Transform.{axis_place, most_line, part};
 ghost use Rattle.topo_io.specs.Positions.{axis_with, quantized_point};
 
-use grid_base::{LIMIT, MOST_PLACES, Pt};
+use grid_base::{LIMIT, MAX_PLACES, Pt};
 use std::marker::Model;
 
 /// Numbers of a transform are below this, in units of 10^-28, either way: 10^37.
@@ -73,7 +73,7 @@ fn unit_of(places: u8) -> i128
     ensures positive { pos 0 <ℤ result }
     ensures most { unsigned_abs result ≤ 10 ^ 9 }
 {
-    10_i128.pow(u32::from(MOST_PLACES - places))
+    10_i128.pow(u32::from(MAX_PLACES - places))
 }
 
 // The whole number of parts below z.

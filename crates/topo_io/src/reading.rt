@@ -83,14 +83,12 @@ fn top_of(json: &Json) -> Result<Top<'_>, TopoWhy>
     let Some(Json::List(arcs)) = members.find("arcs") else {
         return Err(TopoWhy::NotTopology);
     };
-    match transform_of(members.find("transform")) {
-        Ok(transform) => Ok(Top {
-            objects,
-            arcs,
-            transform,
-        }),
-        Err(why) => Err(why),
-    }
+    let transform = transform_of(members.find("transform"))?;
+    Ok(Top {
+        objects,
+        arcs,
+        transform,
+    })
 }
 
 fn layers_of_top(
@@ -107,10 +105,7 @@ fn layers_of_top(
         transform: top.transform,
         places,
     };
-    let arcs = match arcs_of(alloc, top.arcs, &frame) {
-        Ok(arcs) => arcs,
-        Err(fault) => return Err(fault),
-    };
+    let arcs = arcs_of(alloc, top.arcs, &frame)?;
     let topology = Topology { frame, arcs };
     layers_of_objects(alloc, top.objects, &topology, room)
 }

@@ -1,6 +1,5 @@
 ghost use Rattle.std.specs.Prelude.{◌≡◌, ◌≤◌, ◌++◌, ◌∷◌, [], All, IfOk, OnOk, length, map};
 ghost use Rattle.grid_base.specs.Grid.{most_places};
-ghost use Rattle.json_values.specs.Text.{string_text};
 ghost use Rattle.geojson_io.specs.Texts.{separated};
 ghost use Rattle.topo_io.specs.Arcs.{LayerIsBelow};
 ghost use Rattle.topo_io.specs.Texts.{head_text, object_text, topojson_text};
@@ -13,12 +12,12 @@ use crate::arc_layer::{ArcLayer, ArcLayers};
 use arc_table::ArcTable;
 use arcs::write_arcs;
 use geojson_io::{keys_of, write_comma};
-use json_values::Value;
+use json_values::print_string;
 use numbering::Numbering;
 use numerals::Decimal;
 use shapes::write_geometries;
 use std::alloc::{AllocError, Global};
-use text_core::{Bytes, Text};
+use text_core::Bytes;
 
 /// The TopoJSON text of layers: one object for each, by its name, and the arcs that they use.
 ///
@@ -82,7 +81,7 @@ fn write_object(
     requires { LayerIsBelow (length numbering.now.numbers.items) layer.now }
     ensures written { OnOk result (out.new ≡ out.old ++ object_text numbering.now.numbers.items layer.now) }
 {
-    write_name(alloc, layer.name.as_str(), out)?;
+    print_string(&layer.name, out)?;
     out.extend(b":{\"type\":\"GeometryCollection\",\"geometries\":[")?;
     let keys = keys_of(alloc, layer.table.names().as_slice())?;
     let rows = layer.table.rows().as_slice();
@@ -94,11 +93,4 @@ fn write_object(
         out,
     )?;
     out.extend(b"]}")
-}
-
-// A name as a JSON string.
-fn write_name(alloc: Global, name: &str, out: &mut Bytes) -> Result<(), AllocError>
-    ensures written { OnOk result (out.new ≡ out.old ++ string_text name.now) }
-{
-    Value::Text(Text::of(alloc, name)?).print_json(out)
 }

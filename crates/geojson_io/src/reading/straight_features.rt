@@ -13,7 +13,7 @@ use std::alloc::AllocError;
 use text_core::Text;
 
 /// Properties of more names are read as a JSON value, which has an index of the names.
-const MOST_FIELDS: u32 = 64;
+const MAX_FIELDS: u32 = 64;
 
 // These read features straight from a text. Each answers `None` or `false` where the text may be a fault, or is none of
 // the common forms; it is read as a JSON value then.
@@ -125,7 +125,7 @@ impl MemberTaker for PropertyTaker {
         reader: &mut Reader<'_>,
         depth: u32,
     ) -> Result<bool, AllocError> {
-        if self.fields.len() >= MOST_FIELDS {
+        if self.fields.len() >= MAX_FIELDS {
             return Ok(false);
         }
         let Some(json) = reader.any_value(depth)? else {

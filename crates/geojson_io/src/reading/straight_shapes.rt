@@ -280,12 +280,9 @@ fn polygon_shape(
     let Some(polygon) = read_list::<PolygonRings>(reader, depth, places, left)? else {
         return Ok(None);
     };
-    if polygon.len() == 0 {
-        return Ok(None);
-    }
     let mut polygons = RingsList::new(reader.alloc());
-    polygons.push(polygon)?;
-    Ok(Some(GeoShape::Polygons(polygons)))
+    push_polygon(&mut polygons, polygon)?;
+    Ok(Some(some_polygons(polygons)))
 }
 
 fn polygons_shape(

@@ -1,6 +1,7 @@
 ghost use Rattle.std.specs.Prelude.{◌≡◌, ◌≤◌, ◌++◌, ◌∷◌, [], OnOk, codes};
 ghost use Rattle.grid_base.specs.Grid.{most_places};
-ghost use Rattle.geojson_io.specs.Texts.{point_text, path_text, polygon_text, list_text, geometry_text, before_item, type_text, one_or_many};
+ghost use Rattle.grid_base.specs.Sizes.{IsStep};
+ghost use Rattle.geojson_io.specs.Texts.{grid_text, point_text, path_text, polygon_text, list_text, geometry_text, before_item, type_text, one_or_many};
 
 use crate::shape::GeoShape;
 use crate::writing::numbers::{put_byte, put_number};
@@ -13,12 +14,33 @@ pub fn write_point(point: &Pt, places: u8, out: &mut Bytes) -> Result<(), AllocE
     requires { places ≤ most_places }
     ensures written { OnOk result (out.new ≡ out.old ++ point_text places point.now) }
 {
+    write_pair(point.x(), point.y(), places, out)
+}
+
+/// Two numbers of the grid, or two steps of it, as a pair in brackets.
+pub fn write_pair(x: i64, y: i64, places: u8, out: &mut Bytes) -> Result<(), AllocError>
+    requires across { IsStep x }
+    requires upward { IsStep y }
+    requires places { places ≤ most_places }
+    ensures written { OnOk result (out.new ≡ out.old ++ point_text places (record { x = x; y = y })) }
+{
     // From the last byte to the first.
     let mut room = [b']'; 64];
-    let start = put_number(point.y(), places, &mut room, 63);
+    let start = put_number(y, places, &mut room, 63);
     let start = put_byte(b',', &mut room, start);
-    let start = put_number(point.x(), places, &mut room, start);
+    let start = put_number(x, places, &mut room, start);
     let start = put_byte(b'[', &mut room, start);
+    out.extend(&room[start..])
+}
+
+/// A number of the grid, or a step of it, as the decimal `g / 10^places`.
+pub fn write_number(g: i64, places: u8, out: &mut Bytes) -> Result<(), AllocError>
+    requires size { IsStep g }
+    requires places { places ≤ most_places }
+    ensures written { OnOk result (out.new ≡ out.old ++ grid_text places g) }
+{
+    let mut room = [0; 32];
+    let start = put_number(g, places, &mut room, 32);
     out.extend(&room[start..])
 }
 

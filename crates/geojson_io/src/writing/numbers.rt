@@ -1,6 +1,6 @@
 ghost use Rattle.std.specs.Prelude.{◌≡◌, ◌≢◌, ◌++◌, ◌∷◌, ◌+◌, ◌^◌, ◌≤◌, ◌<◌, length, drop, decimal};
 ghost use Rattle.grid_base.specs.Grid.{most_places};
-ghost use Rattle.grid_base.specs.Sizes.{IsGridNumber};
+ghost use Rattle.grid_base.specs.Sizes.{IsStep};
 ghost use Rattle.numerals.specs.Decimal.{is_negative, sign_text, trimmed_digits};
 ghost use Rattle.geojson_io.specs.Numbers.{fraction_text, number_width};
 ghost use Rattle.geojson_io.specs.Texts.{grid_text};
@@ -10,9 +10,9 @@ use numerals::ten_to;
 
 // Each function `put_..` writes a text into the room so that it ends at `end`, and gives where it starts.
 
-/// A grid number as the decimal `g / 10^places`.
+/// A grid number, or a step of the grid, as the decimal `g / 10^places`.
 pub fn put_number(g: i64, places: u8, room: &mut [u8], end: usize) -> usize
-    requires size { IsGridNumber g }
+    requires size { IsStep g }
     requires places { places ≤ most_places }
     requires room { (number_width ≤ end) × (end ≤ length room.old) }
     ensures within { (result ≤ end) × (end ≤ result + number_width) }

@@ -2,16 +2,16 @@ ghost use Rattle.std.specs.Prelude.{◌≡◌, ◌++◌, IfOk, OnOk, length, map
 ghost use Rattle.geojson_io.specs.Texts.{key_text, member_text, properties_text};
 
 use crate::writing::geometries::write_comma;
-use json_read::{Row, Value};
+use json_values::{Row, Value, print_string};
 use std::alloc::{AllocError, Global};
 use text_core::{Bytes, Text};
 
 // The name of a column as it stands before each of its values.
-fn key_of(alloc: Global, name: &str) -> Result<Bytes, AllocError>
+fn key_of(alloc: Global, name: &Text) -> Result<Bytes, AllocError>
     ensures exact { IfOk result (λ key. key ≡ key_text name.now) }
 {
     let mut key = Bytes::new(alloc);
-    Value::Text(Text::of(alloc, name)?).print_json(&mut key)?;
+    print_string(name, &mut key)?;
     key.push(b':')?;
     Ok(key)
 }
@@ -22,7 +22,7 @@ pub fn keys_of(alloc: Global, names: &[Text]) -> Result<Vec<Bytes>, AllocError>
 {
     let mut keys = Vec::new(alloc);
     for name in names {
-        keys.push(key_of(alloc, name.as_str())?)?;
+        keys.push(key_of(alloc, name)?)?;
     }
     Ok(keys)
 }

@@ -21,13 +21,9 @@ fn each_position(alloc: Global, items: &[Json], frame: &Frame) -> Result<PtList,
     let mut path = PtList::new(alloc);
     let mut sums = Sums::START;
     for item in items {
-        match position_after(item, frame, sums) {
-            Ok(next) => {
-                path.push(next.0)?;
-                sums = next.1;
-            }
-            Err(why) => return Err(Stop::Why(why)),
-        }
+        let next = position_after(item, frame, sums)?;
+        path.push(next.0)?;
+        sums = next.1;
     }
     Ok(path)
 }

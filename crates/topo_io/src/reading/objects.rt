@@ -126,13 +126,7 @@ fn add_object(
 fn member_at(members: &JsonFields, i: u32) -> Option<(&str, &Json)>
     ensures exact { MatchOption result (slice_get (fields_list members.now) i ≡ None) (λ p. slice_get (fields_list members.now) i ≡ Some (p.0.now, json_value p.1.now)) }
 {
-    let Some(name) = members.name_at(i) else {
-        return None;
-    };
-    let Some(json) = members.at(i) else {
-        return None;
-    };
-    Some((name, json))
+    Some((members.name_at(i)?, members.at(i)?))
 }
 
 /// The layers of the objects, in order.

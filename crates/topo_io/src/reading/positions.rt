@@ -34,10 +34,7 @@ pub fn position_after(json: &Json, frame: &Frame, before: Sums) -> Result<(Pt, S
     ensures exact { result ≡ position_after frame.now (json_value json.now) before }
 {
     match &frame.transform {
-        None => match plain(json, frame.places) {
-            Ok(point) => Ok((point, before)),
-            Err(why) => Err(why),
-        },
+        None => Ok((plain(json, frame.places)?, before)),
         Some(transform) => quantized(json, transform, frame.places, before),
     }
 }
@@ -47,10 +44,8 @@ pub fn lone_position(json: &Json, frame: &Frame) -> Result<Pt, TopoWhy>
     requires { frame.now.places ≤ most_places }
     ensures exact { result ≡ lone_position frame.now (json_value json.now) }
 {
-    match position_after(json, frame, Sums::START) {
-        Ok((point, _)) => Ok(point),
-        Err(why) => Err(why),
-    }
+    let (point, _) = position_after(json, frame, Sums::START)?;
+    Ok(point)
 }
 
 // The point of a position without a transform.
@@ -73,12 +68,10 @@ fn quantized(
     requires { places ≤ most_places }
     ensures exact { result ≡ on_ok (sums_after (json_value json.now) before) (at_sums transform.now places) }
 {
-    match sums_after(json, before) {
-        Ok(sums) => match transform.point(sums.x, sums.y, places) {
-            Some(point) => Ok((point, sums)),
-            None => Err(TopoWhy::Range),
-        },
-        Err(why) => Err(why),
+    let sums = sums_after(json, before)?;
+    match transform.point(sums.x, sums.y, places) {
+        Some(point) => Ok((point, sums)),
+        None => Err(TopoWhy::Range),
     }
 }
 
@@ -115,13 +108,7 @@ fn whole_pair(json: &Json) -> Option<(i128, i128)>
     let Some(Json::Num(y)) = list.get(1) else {
         return None;
     };
-    let Some(x) = whole_units(x.as_str(), 0) else {
-        return None;
-    };
-    let Some(y) = whole_units(y.as_str(), 0) else {
-        return None;
-    };
-    Some((x, y))
+    Some((whole_units(x.as_str(), 0)?, whole_units(y.as_str(), 0)?))
 }
 
 fn sum(before: i64, step: i128) -> Option<i64>

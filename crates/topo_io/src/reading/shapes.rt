@@ -27,13 +27,9 @@ fn position(json: &Json, frame: &Frame, left: &mut u32) -> Result<Pt, Stop>
     if *left == 0 {
         return Err(Stop::Why(TopoWhy::TooManyPositions));
     }
-    match lone_position(json, frame) {
-        Ok(point) => {
-            *left -= 1;
-            Ok(point)
-        }
-        Err(why) => Err(Stop::Why(why)),
-    }
+    let point = lone_position(json, frame)?;
+    *left -= 1;
+    Ok(point)
 }
 
 fn one_point(alloc: Global, json: &Json, frame: &Frame, left: &mut u32) -> Result<PtList, Stop>

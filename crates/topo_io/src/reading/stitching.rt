@@ -77,10 +77,7 @@ fn with_points(path: PtList, points: &[Pt], left: &mut u32) -> Result<PtList, St
     ensures answers { Answers (with_points path points.now) left.old result left.new }
 {
     let mut path = path;
-    let fresh = match fresh_points(&path, points) {
-        Ok(fresh) => fresh,
-        Err(why) => return Err(Stop::Why(why)),
-    };
+    let fresh = fresh_points(&path, points)?;
     if fresh.len() > *left as usize {
         return Err(Stop::Why(TopoWhy::TooManyPositions));
     }
@@ -121,10 +118,8 @@ fn with_arc(
 ) -> Result<PtList, Stop>
     ensures answers { Answers (with_arc arcs.now (json_value json.now) path) left.old result left.new }
 {
-    match named_arc(json, arcs.len()) {
-        Ok(arc) => with_signed_arc(alloc, path, arc, arcs, left),
-        Err(why) => Err(Stop::Why(why)),
-    }
+    let arc = named_arc(json, arcs.len())?;
+    with_signed_arc(alloc, path, arc, arcs, left)
 }
 
 /// The arcs that the items name, joined into one path.

@@ -61,11 +61,5 @@ fn pair_of(json: Option<&Json>) -> Option<(&str, &str)>
 fn axis_of(scale: &str, offset: &str) -> Option<Axis>
     ensures exact { result ≡ axis_of scale.now offset.now }
 {
-    let Some(scale) = whole_units(scale, 28) else {
-        return None;
-    };
-    let Some(offset) = whole_units(offset, 28) else {
-        return None;
-    };
-    Axis::of(scale, offset)
+    Axis::of(whole_units(scale, 28)?, whole_units(offset, 28)?)
 }

@@ -1,34 +1,13 @@
-ghost use Rattle.std.specs.Prelude.{◌≡◌, ◌<◌, ◌^◌, ◌++◌, ◌-ℤ◌, All, OnOk, length, unsigned_abs};
+ghost use Rattle.std.specs.Prelude.{◌≡◌, ◌<◌, ◌++◌, ◌-ℤ◌, All, OnOk, length};
 ghost use Rattle.grid_base.specs.Sizes.{IsGridNumber};
-ghost use Rattle.geojson_io.specs.Texts.{grid_text, point_text};
+ghost use Rattle.geojson_io.specs.Texts.{point_text};
 ghost use Rattle.topo_io.specs.Texts.{arc_text, numbered_arc_text, arcs_text};
 
 use arc_table::ArcTable;
-use geojson_io::write_comma;
+use geojson_io::{write_comma, write_pair};
 use grid_base::{ArcId, Pt};
-use numerals::Decimal;
 use std::alloc::AllocError;
 use text_core::Bytes;
-
-/// A whole number.
-pub fn write_whole(n: i64, out: &mut Bytes) -> Result<(), AllocError>
-    requires { unsigned_abs n < 10 ^ 18 }
-    ensures written { OnOk result (out.new ≡ out.old ++ grid_text 0 n) }
-{
-    Decimal::of_grid(n, 0).print_into(out)
-}
-
-fn write_pair(x: i64, y: i64, out: &mut Bytes) -> Result<(), AllocError>
-    requires across { unsigned_abs x < 10 ^ 18 }
-    requires upward { unsigned_abs y < 10 ^ 18 }
-    ensures written { OnOk result (out.new ≡ out.old ++ point_text 0 (record { x = x; y = y })) }
-{
-    out.push(b'[')?;
-    write_whole(x, out)?;
-    out.push(b',')?;
-    write_whole(y, out)?;
-    out.push(b']')
-}
 
 // The way to a point from (x, y).
 fn write_difference(point: &Pt, x: i64, y: i64, out: &mut Bytes) -> Result<(), AllocError>
@@ -36,7 +15,7 @@ fn write_difference(point: &Pt, x: i64, y: i64, out: &mut Bytes) -> Result<(), A
     requires upward { IsGridNumber y }
     ensures written { OnOk result (out.new ≡ out.old ++ point_text 0 (record { x = point.now.x -ℤ x; y = point.now.y -ℤ y })) }
 {
-    write_pair(point.x() - x, point.y() - y, out)
+    write_pair(point.x() - x, point.y() - y, 0, out)
 }
 
 // The first position by itself, each other as a difference.

@@ -5,10 +5,9 @@ ghost use Rattle.topo_io.specs.Arcs.{IsBelow, ShapeIsBelow};
 ghost use Rattle.topo_io.specs.Texts.{index_text, indexes_text, rings_text, type_text, null_text, one_or_many, shape_text, row_member, geometry_text, geometries_text};
 
 use crate::arc_layer::ArcShape;
-use crate::writing::arcs::write_whole;
 use crate::writing::numbering::Numbering;
 use arc_table::{SignedPath, SignedPaths};
-use geojson_io::{write_comma, write_point, write_properties};
+use geojson_io::{write_comma, write_number, write_point, write_properties};
 use grid_base::{Pt, SignedArc};
 use json_values::Row;
 use std::alloc::AllocError;
@@ -19,7 +18,7 @@ fn write_index(arc: SignedArc, numbering: &Numbering, out: &mut Bytes) -> Result
     requires { IsBelow (length numbering.now.numbers.items) arc }
     ensures written { OnOk result (out.new ≡ out.old ++ index_text numbering.now.numbers.items arc) }
 {
-    write_whole(numbering.renamed(arc).to_index(), out)
+    write_number(numbering.renamed(arc).to_index(), 0, out)
 }
 
 fn write_path(path: &[SignedArc], numbering: &Numbering, out: &mut Bytes) -> Result<(), AllocError>

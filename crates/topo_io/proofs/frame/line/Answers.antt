@@ -1,4 +1,4 @@
-use Rattle.std.proofs.Common.{◌≤◌, ◌*◌, ◌+◌, refl, ℤ, ◌+ℤ◌, ◌*ℤ◌, unsigned_abs, FitsSigned, to_z-of_z, lit<}
+use Rattle.std.proofs.Common.{◌≤◌, ◌*◌, refl, ℤ, ◌+ℤ◌, ◌*ℤ◌, unsigned_abs, FitsSigned, to_z-of_z, lit<}
 use Rattle.std.specs.Int.{w128}
 use Rattle.grid_base.specs.Sizes.{IsStep, most_step}
 use Rattle.grid_base.proofs.Bounds.{fits_128, product_bound, sum_bound}

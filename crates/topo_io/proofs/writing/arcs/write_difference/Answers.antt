@@ -1,4 +1,4 @@
-use Rattle.std.proofs.Common.{◌≡◌, ◌≤◌, ◌++◌, ◌∙◌, rules, subst, sym, arith, ℤ, ◌-ℤ◌, unsigned_abs, w64, FitsSigned, to_z-of_z}
+use Rattle.std.proofs.Common.{◌≡◌, ◌++◌, ◌∙◌, rules, subst, sym, ◌-ℤ◌, w64, FitsSigned, to_z-of_z}
 use Rattle.std.proofs.lemmas.Result.{on_ok_weaker}
 use Rattle.grid_base.specs.Sizes.{IsGridNumber}
 use Rattle.grid_base.proofs.Bounds.{step_fits, step_small, x_small, y_small}
