@@ -8,7 +8,7 @@ ghost use Rattle.arc_table.specs.FirstSteps.{AddsRow};
 ghost use Rattle.arc_table.specs.Rows.{AreRows};
 
 use crate::first_steps::{FirstStep, first_step, signed_of, start_of, turning};
-use grid_base::{Pt, SignedArc, is_same};
+use grid_base::{Pt, SignedArc, is_same, next_number};
 use span_pool::SpanPool;
 use std::alloc::{AllocError, Global};
 
@@ -21,8 +21,8 @@ pub struct NodeRows {
     pub outs: Vec<SignedArc>,
 }
 
-/// The rows of the signed arcs, whose codes stand by their starts; each row is turned counterclockwise, from the direction of
-/// the positive x axis on.
+/// The rows of the signed arcs, whose codes stand by their starts; each row is turned counterclockwise, from the
+/// direction of the positive x axis on.
 ///
 /// Errors: `AllocError` for want of memory, or of numbers below 2^32 for the arcs.
 pub fn rows_of(alloc: Global, arcs: &SpanPool, codes: &[u32]) -> Result<NodeRows, AllocError>
@@ -82,12 +82,9 @@ impl NodeRows {
         ensures stop { OnOk result (self.new.rows.items ≡ self.old.rows.items ++ length self.old.outs.items ∷ []) }
         ensures outs { OnOk result (self.new.outs.items ≡ self.old.outs.items) }
     {
-        let stop = self.outs.len();
-        if stop > u32::MAX as usize {
-            return Err(AllocError);
-        }
+        let stop = next_number(self.outs.len())?;
         self.nodes.push(node)?;
-        self.rows.push(stop as u32)?;
+        self.rows.push(stop)?;
         Ok(())
     }
 }

@@ -14,8 +14,8 @@ use span_pool::SpanPool;
 use std::alloc::{AllocError, Global};
 use std::marker::Model;
 
-/// The arcs of a snapped drawing in the order of their numbers, and what a table of them is made of beside: it stands on
-/// no links. Contracts see the list of their points.
+/// The arcs of a snapped drawing in the order of their numbers, and what a table of them is made of beside: it stands
+/// on no links. Contracts see the list of their points.
 #[derive(Drop)]
 pub struct NumberedArcs {
     pub(crate) arcs: SpanPool,

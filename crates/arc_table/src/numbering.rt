@@ -306,8 +306,8 @@ fn next_unmarked(marks: &[bool], net: &Net, at: usize) -> Option<usize>
     Some(next)
 }
 
-/// The points of the arcs, in one pool, whose room is taken before the first arc is pushed. What the arcs have is listed
-/// beside, while the steps along each are at hand.
+/// The points of the arcs, in one pool, whose room is taken before the first arc is pushed. What the arcs have is
+/// listed beside, while the steps along each are at hand.
 pub fn pool_of(
     alloc: Global,
     net: &Net,

@@ -8,8 +8,8 @@ use crate::half_links::Step;
 use grid_base::{Link, Pt};
 use std::marker::Model;
 
-/// Fewer than 2^32 steps along links, one after another: for each the number of its link and its direction. Contracts see
-/// the steps.
+/// Fewer than 2^32 steps along links, one after another: for each the number of its link and its direction. Contracts
+/// see the steps.
 #[derive(Drop)]
 pub struct StepList<'a> {
     links: &'a [Link],

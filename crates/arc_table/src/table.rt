@@ -26,7 +26,7 @@ use std::marker::Model;
 #[derive(Drop)]
 pub struct ArcTable {
     arcs: SpanPool,
-    // the points where arcs start, in order, and where the row of each begins among `outs`; after them where the last ends
+    // the points where arcs start, in order, and where the row of each begins among `outs`; then where the last ends
     pub(crate) nodes: Vec<Pt>,
     pub(crate) rows: Vec<u32>,
     // the signed arcs by their starts, and counterclockwise at each

@@ -11,7 +11,7 @@ use crate::dividing::slabs_of;
 use crate::number_lists::NumberLists;
 use crate::slab_lists::{slab_lists, slab_rect};
 use crate::tree::{Axis, Node, Slabs};
-use grid_base::{IdList, Rect};
+use grid_base::{IdList, Rect, next_number};
 use std::alloc::{AllocError, Global};
 
 /// A tree of divisions as far as it has grown: its nodes, the rectangles of its leaves, and the boxes near each.
@@ -40,16 +40,6 @@ const BUCKET_SIZE: u32 = 24;
 
 // The number of boxes that a cell of a column should get, on the average.
 const CELL_SIZE: u64 = 8;
-
-// The number that the next item of a list will have.
-fn next_number(len: usize) -> Result<u32, AllocError>
-    ensures exact { IfOk result (λ n. n ≡ len) }
-{
-    if len >= u32::MAX as usize {
-        return Err(AllocError);
-    }
-    Ok(len as u32)
-}
 
 fn add_leaf(forest: &mut Forest, rect: Rect, near: IdList) -> Result<Node, AllocError>
     ensures exact { IfOk result (λ top. (steps : ℕ) (boxes : List Corners) → near ≡ boxes_near boxes rect →

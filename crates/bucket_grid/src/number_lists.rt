@@ -1,7 +1,8 @@
-ghost use Rattle.std.specs.Prelude.{◌≡◌, ◌+◌, ◌<◌, ◌≤◌, ◌∷◌, ◌++◌, [], IfOk, OnErr, OnOk, length, slice_get, slice_index, slice_range};
+ghost use Rattle.std.specs.Prelude.{◌≡◌, ◌∷◌, ◌++◌, [], OnErr, OnOk, slice_get};
 ghost use Rattle.std.specs.Option.{option_map};
-ghost use Rattle.span_pool.specs.SpanPool.{begin};
 
+use grid_base::next_number;
+use span_pool::span_in;
 use std::alloc::{AllocError, Global};
 use std::marker::Model;
 
@@ -25,6 +26,7 @@ impl Model for NumberLists {
 }
 
 impl NumberLists {
+    /// No lists. Takes no memory.
     pub fn new(alloc: Global) -> NumberLists
         ensures empty { result ≡ [] }
     {
@@ -41,7 +43,7 @@ impl NumberLists {
         ensures ok { OnOk result (self.new ≡ self.old ++ list.now ∷ []) }
         ensures err { OnErr result (self.new ≡ self.old) }
     {
-        let end = end_after(self.numbers.len(), list.len())?;
+        let end = next_number(self.numbers.len().saturating_add(list.len()))?;
         self.ends.reserve(1)?;
         self.numbers.extend_from_slice(list)?;
         self.ends.push(end).unwrap();
@@ -55,8 +57,7 @@ impl NumberLists {
         if place >= self.ends.len() {
             return None;
         }
-        let (start, end) = place_of(&self.ends, place);
-        Some(part(&self.numbers, start, end))
+        Some(span_in(&self.numbers, &self.ends, place))
     }
 
     /// Gives back the memory that there is to spare.
@@ -66,37 +67,4 @@ impl NumberLists {
         self.numbers.shrink_to_fit();
         self.ends.shrink_to_fit();
     }
-}
-
-// How many numbers there are after some more.
-fn end_after(count: usize, more: usize) -> Result<u32, AllocError>
-    ensures exact { IfOk result (λ end. end ≡ count + more) }
-{
-    let end = count.saturating_add(more);
-    if end >= u32::MAX as usize {
-        return Err(AllocError);
-    }
-    Ok(end as u32)
-}
-
-// Where a list begins and ends among the numbers.
-fn place_of(ends: &[u32], place: usize) -> (usize, usize)
-    requires there { place < length ends.now }
-    ensures start { result.0 ≡ begin 0 ends.now place }
-    ensures end { result.1 ≡ slice_index ends.now place }
-{
-    let end = ends[place] as usize;
-    if place == 0 {
-        (0, end)
-    } else {
-        (ends[place - 1] as usize, end)
-    }
-}
-
-fn part(numbers: &[u32], start: usize, end: usize) -> &[u32]
-    requires ordered { start ≤ end }
-    requires within { end ≤ length numbers.now }
-    ensures exact { result.now ≡ slice_range numbers.now start end }
-{
-    &numbers[start..end]
 }

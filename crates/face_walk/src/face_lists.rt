@@ -1,7 +1,6 @@
 ghost use Rattle.std.specs.Prelude.{◌≡◌, ◌+◌, ◌<◌, ◌≤◌, ◌++◌, [], IfOk, OnErr, OnOk, Some, length, replicate, slice_get, slice_index_or, slice_range, slice_set};
 
-use crate::ring_steps::next_number;
-use grid_base::FaceId;
+use grid_base::{FaceId, next_number};
 use std::alloc::{AllocError, Global};
 use std::marker::Model;
 

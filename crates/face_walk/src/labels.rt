@@ -10,10 +10,10 @@ ghost use Rattle.face_walk.specs.Crossings.{AreCrossings, outer_of};
 use crate::crossings::{Crossing, crossings_of};
 use crate::face_lists::FaceLists;
 use crate::faces::Faces;
-use crate::ring_steps::{PathSteps, RingStep, next_number, steps_along};
+use crate::ring_steps::{PathSteps, RingStep, steps_along};
 use crate::side_places::start_at;
 use arc_table::ArcTable;
-use grid_base::{ArcId, FaceId, FeatId, Snapped};
+use grid_base::{ArcId, FaceId, FeatId, Snapped, next_number};
 use std::alloc::{AllocError, Global};
 use std::marker::Model;
 
@@ -48,7 +48,7 @@ impl Labels {
         Labels::of_steps(alloc, f, steps)
     }
 
-    /// The same from the steps along the arcs of the table alone, each list of which is let go as soon as it has served.
+    /// The same from the steps along the arcs of the table alone, each list of which is let go once it has served.
     pub fn of_steps(alloc: Global, f: &Faces, steps: PathSteps) -> Result<Labels, AllocError>
         ensures exact { (t : List Path) (s : Drawing) → IsBuiltOf t f.now → AreAllStepsOf t s steps → IfOk result (AreHolders t s f.now) }
         ensures outer_free { IfOk result (λ l. (list_at l.holders (outer_of f.now) ≡ []) × (list_at l.boxes (outer_of f.now) ≡ [])) }

@@ -10,8 +10,8 @@
 //! 5. The steps of polygons and boxes along the arcs are listed, after which nothing reads their paths any more.
 //! 6. Holders go from the outer face from face to face: across an arc, a polygon holds the other face or no longer
 //!    holds it where its rings go along the arc an odd number of times.
-//! 6. A point on no link lies in the face left of the topmost link below it. The same search looks for that link, or once
-//!    it is let go a walk along all arcs.
+//! 7. A point on no link lies in the face left of the topmost link below it. The same search looks for that link, or
+//!    once it is let go a walk along all arcs.
 //!
 //! Vertices are in the order of their x, then of their y; a link leaves its lesser end.
 #![tactic(auto)]

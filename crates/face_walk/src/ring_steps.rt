@@ -5,7 +5,7 @@ ghost use Rattle.plane_model.specs.Points.{Path as Way};
 ghost use Rattle.face_walk.specs.RingSteps.{AreAdded, AreStepsFrom, AreStepsOf, owners_from};
 
 use arc_table::ArcTable;
-use grid_base::{ArcId, Drawing, FeatId, Path, PtList, RingsList};
+use grid_base::{ArcId, Drawing, FeatId, Path, PtList, RingsList, next_number};
 use known_order::{move_to_positions, positions_by_key};
 use std::alloc::{AllocError, Global};
 
@@ -114,18 +114,6 @@ fn push_polygons(
         push_rings(alloc, &mut all.steps, t, number, polygon.as_slice())?;
     }
     Ok(())
-}
-
-/// The number of the next item after `count` of them.
-///
-/// Errors: `AllocError` where a `u32` has no such number.
-pub fn next_number(count: usize) -> Result<u32, AllocError>
-    ensures exact { IfOk result (λ n. n ≡ count) }
-{
-    if count >= u32::MAX as usize {
-        return Err(AllocError);
-    }
-    Ok(count as u32)
 }
 
 fn push_rings(

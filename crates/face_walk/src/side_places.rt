@@ -2,7 +2,7 @@ ghost use Rattle.std.specs.Prelude.{◌≡◌, ◌-◌, ◌<◌, ◌≤◌, true
 ghost use Rattle.std.specs.List.Sorted.{IsNonDecreasingBy, IsPartitionedBy, IsPartitionPoint};
 ghost use Rattle.face_walk.specs.Sides.{AreStarts};
 
-use crate::ring_steps::next_number;
+use grid_base::next_number;
 use std::alloc::{AllocError, Global};
 
 /// For each face below `count` the place where its sides begin among all, whose faces are `faces`, in order; and after
@@ -22,8 +22,8 @@ pub fn starts_of(alloc: Global, faces: &[u32], count: u32) -> Result<Vec<u32>, A
     Ok(starts)
 }
 
-// The place of the first face that isn't below `f`, looked for from a place on. It is not proved: a wrong one costs time
-// alone.
+// The place of the first face that isn't below `f`, looked for from a place on. It is not proved: a wrong one costs
+// time alone.
 fn place_after(faces: &[u32], f: u64, from: usize) -> usize {
     for k in from..faces.len() {
         if faces[k] as u64 >= f {

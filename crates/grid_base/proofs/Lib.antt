@@ -3,3 +3,4 @@ pub mod BoxLemmas
 pub mod PointSearch
 pub mod LastLemmas
 pub mod RepeatLemmas
+pub mod ReverseLemmas

@@ -1,5 +1,5 @@
 -- The bounds of the grid, and rectangles: words for whole numbers of the plane.
-use Rattle.std.specs.Prelude.{ℕ, ℤ, pos, neg_ℤ, int_le, ◌≤ℤ◌, Bool, ◌&&◌, if◌then◌else◌, Option, Some, None}
+use Rattle.std.specs.Prelude.{ℤ, pos, neg_ℤ, int_le, ◌≤ℤ◌, Bool, ◌&&◌, if◌then◌else◌, Option, Some, None}
 pub use Rattle.grid_bounds.specs.Bounds.{limit, most_places}
 use Rattle.plane_model.specs.Points.{GridPoint}
 use Rattle.plane_model.specs.Hot.{IsWithinBounds}

@@ -1,5 +1,5 @@
 -- How large the numbers are that numbers of the grid make.
-use Rattle.std.specs.Prelude.{ℕ, ◌+◌, ◌*◌, ◌≤◌, ℤ, unsigned_abs}
+use Rattle.std.specs.Prelude.{ℕ, ◌*◌, ◌≤◌, ℤ, unsigned_abs}
 use Rattle.grid_base.specs.Grid.{limit}
 
 -- a number of the grid

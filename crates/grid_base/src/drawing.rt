@@ -5,7 +5,7 @@ ghost use Rattle.grid_base.specs.Drawn.{with_feature, add_polygon, add_ring, add
 
 use crate::kinds::Kind;
 use crate::list_types::{PathList, PolygonRings, PtList, RingsList, without_repeats};
-use crate::numbers::FeatId;
+use crate::numbers::{FeatId, next_number};
 use crate::point::Pt;
 use crate::rect::Rect;
 use std::alloc::{AllocError, Global};
@@ -123,7 +123,7 @@ impl Drawing {
         feature.push(p)
     }
 
-    /// Adds the outline of `area` as a box, from its lower left corner to the right, and answers the box's number.
+    /// Adds the outline of `rect` as a box, from its lower left corner to the right, and answers the box's number.
     pub fn add_box(&mut self, rect: Rect) -> Result<u32, AllocError>
         ensures number { IfOk result (λ n. n ≡ length self.old.boxes) }
         ensures ok { OnOk result (self.new ≡ record self.old { boxes = self.old.boxes ++ without_repeats (outline rect) ∷ [] }) }
@@ -141,12 +141,9 @@ impl Drawing {
         ensures ok { OnOk result (self.new ≡ record self.old { boxes = self.old.boxes ++ without_repeats path ∷ [] }) }
         ensures err { OnErr result (self.new ≡ self.old) }
     {
-        let number = self.boxes.len();
-        if number >= u32::MAX as usize {
-            return Err(AllocError);
-        }
+        let number = next_number(self.boxes.len())?;
         self.boxes.push(without_repeats(path))?;
-        Ok(number as u32)
+        Ok(number)
     }
 }
 
@@ -184,12 +181,9 @@ where
     ensures small { OnOk result (length features.new.items < 2 ^ 32) }
     ensures err { OnErr result (features.new.items ≡ features.old.items) }
 {
-    let number = features.len();
-    if number >= u32::MAX as usize {
-        return Err(AllocError);
-    }
+    let number = next_number(features.len())?;
     features.push(feature)?;
-    Ok(FeatId::new(number as u32))
+    Ok(FeatId::new(number))
 }
 
 impl Drawing {

@@ -1,4 +1,4 @@
-ghost use Rattle.std.specs.Prelude.{◌≡◌, ◌++◌, ◌∷◌, [], All, IfOk, OnOk, OnErr, length, map, slice_get};
+ghost use Rattle.std.specs.Prelude.{◌≡◌, ◌++◌, ◌∷◌, [], All, IfOk, OnOk, OnErr, length, map, reverse, slice_get};
 ghost use Rattle.std.specs.Option.{option_copied};
 ghost use Rattle.std.specs.Prelude.{◌<◌};
 ghost use Rattle.grid_base.specs.Drawn.{with_last, without_repeats};
@@ -29,10 +29,22 @@ pub(crate) fn without_repeats(path: PtList) -> PtList
     }
 }
 
+/// Appends points in reverse order.
+///
+/// Errors: `AllocError` for want of memory, or where the list is full; then some of them may stand there.
+pub fn append_reversed(points: &mut PtList, way: &[Pt]) -> Result<(), AllocError>
+    ensures exact { OnOk result (points.new ≡ points.old ++ reverse way.now) }
+{
+    for k in 0..way.len() {
+        points.push(way[way.len() - 1 - k])?;
+    }
+    Ok(())
+}
+
 /// A list of paths.
 pub type PathList = ItemList<PtList>;
 
-/// The rings of one polygon.
+/// The rings of one polygon, at most 4,294,967,295.
 #[derive(Drop)]
 pub struct PolygonRings {
     items: Vec<PtList>,
@@ -50,6 +62,7 @@ impl Model for PolygonRings {
 }
 
 impl PolygonRings {
+    /// No rings. Takes no memory.
     pub fn new(alloc: Global) -> PolygonRings
         ensures empty { result ≡ [] }
     {
@@ -67,6 +80,7 @@ impl PolygonRings {
         })
     }
 
+    /// Adds a ring at the end. Fails for want of memory, and where the list is full.
     pub fn push(&mut self, item: PtList) -> Result<(), AllocError>
         ensures ok { OnOk result (self.new ≡ self.old ++ item ∷ []) }
         ensures err { OnErr result (self.new ≡ self.old) }
@@ -78,18 +92,21 @@ impl PolygonRings {
         Ok(())
     }
 
+    /// How many rings there are.
     pub fn len(&self) -> u32
         ensures count { result ≡ length self.now }
     {
         self.items.len() as u32
     }
 
+    /// The ring with this number; `None` past the end.
     pub fn get(&self, i: u32) -> Option<&PtList>
         ensures lookup { option_copied result ≡ slice_get self.now i }
     {
         self.items.get(i as usize)
     }
 
+    /// All rings, in order.
     pub fn as_slice(&self) -> &[PtList]
         ensures all { result.now ≡ self.now }
     {
@@ -104,7 +121,7 @@ impl PolygonRings {
     }
 }
 
-/// A list of polygons.
+/// A list of at most 4,294,967,295 polygons.
 #[derive(Drop)]
 pub struct RingsList {
     items: Vec<PolygonRings>,
@@ -122,6 +139,7 @@ impl Model for RingsList {
 }
 
 impl RingsList {
+    /// No polygons. Takes no memory.
     pub fn new(alloc: Global) -> RingsList
         ensures empty { result ≡ [] }
     {
@@ -139,6 +157,7 @@ impl RingsList {
         })
     }
 
+    /// Adds a polygon at the end. Fails for want of memory, and where the list is full.
     pub fn push(&mut self, item: PolygonRings) -> Result<(), AllocError>
         ensures ok { OnOk result (self.new ≡ self.old ++ item ∷ []) }
         ensures err { OnErr result (self.new ≡ self.old) }
@@ -150,18 +169,21 @@ impl RingsList {
         Ok(())
     }
 
+    /// How many polygons there are.
     pub fn len(&self) -> u32
         ensures count { result ≡ length self.now }
     {
         self.items.len() as u32
     }
 
+    /// The polygon with this number; `None` past the end.
     pub fn get(&self, i: u32) -> Option<&PolygonRings>
         ensures lookup { option_copied result ≡ slice_get self.now i }
     {
         self.items.get(i as usize)
     }
 
+    /// All polygons, in order.
     pub fn as_slice(&self) -> &[PolygonRings]
         ensures all { result.now ≡ self.now }
     {

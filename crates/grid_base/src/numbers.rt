@@ -1,5 +1,6 @@
-ghost use Rattle.std.specs.Prelude.{◌≡◌};
+ghost use Rattle.std.specs.Prelude.{◌≡◌, ◌+◌, ◌<◌, ◌^◌, IfOk};
 
+use std::alloc::AllocError;
 use std::marker::Model;
 
 /// The number of an arc, from 0.
@@ -96,4 +97,17 @@ impl FeatId {
     {
         self.number
     }
+}
+
+/// The number of the next item after `count` of them.
+///
+/// Errors: `AllocError` where a list with that item would be too full for a `u32` to count it.
+pub fn next_number(count: usize) -> Result<u32, AllocError>
+    ensures exact { IfOk result (λ n. n ≡ count) }
+    ensures small { IfOk result (λ n. count + 1 < 2 ^ 32) }
+{
+    if count >= u32::MAX as usize {
+        return Err(AllocError);
+    }
+    Ok(count as u32)
 }

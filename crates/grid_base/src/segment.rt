@@ -1,5 +1,5 @@
 ghost use Rattle.std.specs.Prelude.{◌≡◌};
-ghost use Rattle.plane_model.specs.Points.{Segment};
+ghost use Rattle.plane_model.specs.Points.{Segment, reversed};
 
 use crate::point::Pt;
 use std::marker::Model;
@@ -41,5 +41,12 @@ impl Seg {
         ensures exact { result ≡ self.now.stop }
     {
         self.stop
+    }
+
+    /// The segment from its end back to its start.
+    pub fn back(&self) -> Seg
+        ensures exact { result ≡ reversed self.now }
+    {
+        Seg::new(self.stop, self.start)
     }
 }

@@ -7,4 +7,4 @@
 pub const LIMIT: i64 = 200_000_000_000;
 
 /// The greatest number of decimal places that a grid has.
-pub const MOST_PLACES: u8 = 9;
+pub const MAX_PLACES: u8 = 9;

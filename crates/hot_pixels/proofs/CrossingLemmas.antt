@@ -1,10 +1,10 @@
 -- The crossings of boxes near each rectangle are all crossings.
-use Rattle.std.proofs.Common.{◌≡◌, inl, inr, refl, sym, ap, ◌∙◌, subst, arith, ℕ, ◌<◌, ltb, Bool, true, false, cond, List, [], ◌∷◌, length, get_or, map, Option, Some, None, Contains, ℤ, pos, ◌+ℤ◌, ◌-ℤ◌, ◌*ℤ◌, ◌≤ℤ◌, int_le}
+use Rattle.std.proofs.Common.{◌≡◌, inl, inr, refl, sym, ap, ◌∙◌, subst, arith, ℕ, ◌<◌, Bool, true, false, cond, List, [], ◌∷◌, ◌++◌, length, get_or, map, Option, Some, None, Contains, ℤ, pos, ◌+ℤ◌, ◌-ℤ◌, ◌*ℤ◌, ◌≤ℤ◌, int_le}
 use Rattle.std.specs.List.{slice_get}
 use Rattle.std.specs.Option.{option_to_list}
-use Rattle.std.proofs.lemmas.Bool.{lt-ltb, le-ltb, cases_lt, or_left, or_right}
+use Rattle.std.proofs.lemmas.Bool.{or_left, or_right}
 use Rattle.std.proofs.lemmas.List.{get_or-map, length-map, get_or_default}
-use Rattle.std.proofs.lemmas.Option.{slice_get-get_or, slice_get_within, get_or_from_slice_get}
+use Rattle.std.proofs.lemmas.Option.{slice_get-get_or, slice_get_read, slice_get_within, get_or_from_slice_get}
 use Rattle.std.proofs.lemmas.List.Elements.{All-contains, Contains-append_left, Contains-append_right, Contains-append_cases}
 use Rattle.lists.proofs.Members.{Contains-head, Contains-nil, Contains-cases, Contains-flat_map, flat_map-Contains}
 use Rattle.plane_algebra.proofs.Ring.{ring, ◌⊞◌, ◌⊟◌, ◌⊠◌, num, ◌≐◌}
@@ -22,7 +22,7 @@ use Rattle.bucket_grid.specs.Rects.{RectLists, Holds, share_point, boxes_near}
 use Rattle.bucket_grid.proofs.SharedPoints.{overlap_to}
 use Rattle.bucket_grid.proofs.Numbers.{Contains-numbers_where}
 use Rattle.grid_base.specs.Boxes.{box_of, lesser, greater}
-use Rattle.hot_pixels.specs.Spots.{is_end, share_end, crossing_at, crossing_between, crossing_of_pair, crossings_with, crossings_among}
+use Rattle.hot_pixels.specs.Spots.{is_end, share_end, crossing_at, crossing_between, crossings_with, crossings_among}
 use Rattle.hot_pixels.specs.Marking.{IsEndOf}
 use Rattle.hot_pixels.specs.Crossing.{HasGridEnds}
 use Rattle.hot_pixels.specs.Found.{IsCrossingOf, HasAllCrossings, HasCrossingsBefore, AreBucketsOver}
@@ -107,6 +107,9 @@ share_end-turned s t e = or_cases (is_end t s.start) (is_end t s.stop) e
     (λ k. or_left (is_end s t.start) (is_end s t.stop) (or_right (same_point t.start s.start) (same_point t.start s.stop) (same_point-turned s.stop t.start k)))
     (λ k. or_right (is_end s t.start) (is_end s t.stop) (or_right (same_point t.stop s.start) (same_point t.stop s.stop) (same_point-turned s.stop t.stop k))))
 
+apart_turned : (s t : Segment) → share_end s t ≡ false → share_end t s ≡ false
+apart_turned s t apart = by_test (share_end t s) (λ f. absurd (let k : true ≡ false = sym (share_end-turned t s f) ∙ apart in cc)) (λ f. f)
+
 -- ---- a point in the box of a segment
 
 in_range : (a b g : ℤ) → SameWay (g -ℤ a) (b -ℤ g) → (lesser a b ≤ℤ g) × (g ≤ℤ greater a b)
@@ -140,94 +143,95 @@ shared a b g h k = overlap_to a b (record {
 
 -- ---- what is listed crosses
 
--- two spots that cross in the pixel of g, and have no end in common
-pub record HasPair (spots : List Segment) (i j : ℕ) (g : GridPoint) : Type 0 where
+-- two edges that cross in the pixel of g, and have no end in common
+pub record HasPair (edges : List Segment) (i j : ℕ) (g : GridPoint) : Type 0 where
   pub s : Segment
   pub t : Segment
-  pub s_at : slice_get spots i ≡ Some s
-  pub t_at : slice_get spots j ≡ Some t
+  pub s_at : slice_get edges i ≡ Some s
+  pub t_at : slice_get edges j ≡ Some t
   pub apart : share_end s t ≡ false
   pub crosses : crossing_pixel s t ≡ Some g
 
-pub pair_at : (spots : List Segment) (i j : ℕ) (g : GridPoint) → crossing_at spots i j ≡ Some g → HasPair spots i j g
-pair_at spots i j g e = tested (ltb i j) e
+pub pair_at : (edges : List Segment) (i j : ℕ) (g : GridPoint) → crossing_at edges i j ≡ Some g → HasPair edges i j g
+pair_at edges i j g h = found (slice_get edges i) (slice_get edges j) refl refl h
   where
-    found : (o p : Option Segment) → slice_get spots i ≡ o → slice_get spots j ≡ p → crossing_between o p ≡ Some g → HasPair spots i j g
+    found : (o p : Option Segment) → slice_get edges i ≡ o → slice_get edges j ≡ p → crossing_between o p ≡ Some g → HasPair edges i j g
     found None p e f h = absurd (let k : None ≡ Some g = h in cc)
     found (Some s) None e f h = absurd (let k : None ≡ Some g = h in cc)
     found (Some s) (Some t) e f h = parted (share_end s t) refl h
       where
-        parted : (b : Bool) → share_end s t ≡ b → cond b None (crossing_pixel s t) ≡ Some g → HasPair spots i j g
+        parted : (b : Bool) → share_end s t ≡ b → cond b None (crossing_pixel s t) ≡ Some g → HasPair edges i j g
         parted true k l = absurd (let m : None ≡ Some g = l in cc)
         parted false k l = record { s = s; t = t; s_at = e; t_at = f; apart = k; crosses = l }
 
-    tested : (b : Bool) → cond b (crossing_between (slice_get spots i) (slice_get spots j)) None ≡ Some g → HasPair spots i j g
-    tested true e = found (slice_get spots i) (slice_get spots j) refl refl e
-    tested false e = absurd (let k : None ≡ Some g = e in cc)
+pub pair_crosses : (edges : List Segment) (i j : ℕ) (s t : Segment) (g : GridPoint) → slice_get edges i ≡ Some s → slice_get edges j ≡ Some t → share_end s t ≡ false → crossing_pixel s t ≡ Some g → crossing_at edges i j ≡ Some g
+pair_crosses edges i j s t g e f apart h = (λ k. crossing_between (e k) (f k)) ∙ ap (λ (b : Bool). cond b None (crossing_pixel s t)) apart ∙ h
 
-there : (spots : List Segment) (i : ℕ) (s : Segment) → slice_get spots i ≡ Some s → Contains spots s
-there spots i s e = (i, slice_get_within spots i s e, get_or_from_slice_get spots i s s e)
+pub pair_of : (edges : List Segment) (i j : ℕ) (s t : Segment) → i < length edges → j < length edges → s ≡ get_or edges i s → t ≡ get_or edges j t → crossing_between (Some s) (Some t) ≡ crossing_at edges i j
+pair_of edges i j s t l m e f = sym (λ k. crossing_between (slice_get_read edges (length edges) i s refl l e k) (slice_get_read edges (length edges) j t refl m f k))
 
-pub listed_crosses : (spots : List Segment) (near : List ℕ) (g : GridPoint) → Contains (crossings_among spots near) g → IsCrossingOf spots g
-listed_crosses spots [] g c = Contains-nil g c
-listed_crosses spots (i ∷ rest) g c = elim (Contains-append_cases (crossings_with spots i rest) (crossings_among spots rest) g c) [
-  | inl d ↦ (let m = flat_map-Contains (λ j. option_to_list (crossing_of_pair spots i j)) rest g d in of_pair m.0 (ltb i m.0) m.2)
-  | inr d ↦ listed_crosses spots rest g d
+there : (edges : List Segment) (i : ℕ) (s : Segment) → slice_get edges i ≡ Some s → Contains edges s
+there edges i s e = (i, slice_get_within edges i s e, get_or_from_slice_get edges i s s e)
+
+pub listed_crosses : (edges : List Segment) (near : List ℕ) (g : GridPoint) → Contains (crossings_among edges near) g → IsCrossingOf edges g
+listed_crosses edges [] g c = Contains-nil g c
+listed_crosses edges (i ∷ rest) g c = elim (Contains-append_cases (crossings_with edges i rest) (crossings_among edges rest) g c) [
+  | inl d ↦ (let m = flat_map-Contains (λ j. option_to_list (crossing_at edges i j)) rest g d in at_pair m.0 (crossing_at edges i m.0) refl m.2)
+  | inr d ↦ listed_crosses edges rest g d
 ]
   where
-    at_pair : (i j : ℕ) (o : Option GridPoint) → crossing_at spots i j ≡ o → Contains (option_to_list o) g → IsCrossingOf spots g
-    at_pair i j None e c = Contains-nil g c
-    at_pair i j (Some p) e c = elim (Contains-cases p [] g c) [
-      | inl f ↦ (let h = pair_at spots i j g (e ∙ ap Some f) in record { s = h.s; t = h.t; s_there = there spots i h.s h.s_at; t_there = there spots j h.t h.t_at; crosses = h.crosses })
+    at_pair : (j : ℕ) (o : Option GridPoint) → crossing_at edges i j ≡ o → Contains (option_to_list o) g → IsCrossingOf edges g
+    at_pair j None e c = Contains-nil g c
+    at_pair j (Some p) e c = elim (Contains-cases p [] g c) [
+      | inl f ↦ (let h = pair_at edges i j g (e ∙ ap Some f) in record { s = h.s; t = h.t; s_there = there edges i h.s h.s_at; t_there = there edges j h.t h.t_at; crosses = h.crosses })
       | inr d ↦ Contains-nil g d
     ]
 
-    of_pair : (j : ℕ) (b : Bool) → Contains (option_to_list (cond b (crossing_at spots i j) (crossing_at spots j i))) g → IsCrossingOf spots g
-    of_pair j true c = at_pair i j (crossing_at spots i j) refl c
-    of_pair j false c = at_pair j i (crossing_at spots j i) refl c
+-- ---- a pair is tried once, in one of its orders
 
--- ---- a pair is tried once
+in_pair : (edges : List Segment) (i j : ℕ) (near : List ℕ) (g : GridPoint) → Contains near j → crossing_at edges i j ≡ Some g → Contains (crossings_with edges i near) g
+in_pair edges i j near g c e =
+    Contains-flat_map (λ k. option_to_list (crossing_at edges i k)) near j g c (subst (λ (o : Option GridPoint). Contains (option_to_list o) g) (sym e) (Contains-head g []))
 
-in_turn : (spots : List Segment) (i j : ℕ) (g : GridPoint) → crossing_at spots i j ≡ Some g → i < j
-in_turn spots i j g e = elim (cases_lt i j) [
-  | inl l ↦ l
-  | inr l ↦ absurd (let f : None ≡ Some g = sym (ap (λ (b : Bool). cond b (crossing_between (slice_get spots i) (slice_get spots j)) None) (le-ltb i j l)) ∙ e in cc)
-]
+turned : (edges : List Segment) (i j : ℕ) (g : GridPoint) → crossing_at edges i j ≡ Some g → crossing_at edges j i ≡ Some g
+turned edges i j g e =
+    let p = pair_at edges i j g e in
+    pair_crosses edges j i p.t p.s g p.t_at p.s_at (apart_turned p.s p.t p.apart) (crossing_turned p.s p.t g p.crosses)
 
-in_pair : (spots : List Segment) (i j : ℕ) (near : List ℕ) (g : GridPoint) → Contains near j → crossing_of_pair spots i j ≡ Some g → Contains (crossings_with spots i near) g
-in_pair spots i j near g c e =
-    Contains-flat_map (λ k. option_to_list (crossing_of_pair spots i k)) near j g c (subst (λ (o : Option GridPoint). Contains (option_to_list o) g) (sym e) (Contains-head g []))
+same_pair : {G : Type 0} (edges : List Segment) (i : ℕ) (g : GridPoint) → crossing_at edges i i ≡ Some g → G
+same_pair edges i g e =
+    let p = pair_at edges i i g e in
+    let f : Some p.s ≡ Some p.t = sym p.s_at ∙ p.t_at in
+    let same : p.t ≡ p.s = cc in
+    not_itself p.s g (subst (λ (u : Segment). crossing_pixel p.s u ≡ Some g) same p.crosses)
 
-pub pairs_listed : (spots : List Segment) (near : List ℕ) (i j : ℕ) (g : GridPoint) → Contains near i → Contains near j → crossing_at spots i j ≡ Some g → Contains (crossings_among spots near) g
-pairs_listed spots [] i j g at_i at_j e = Contains-nil i at_i
-pairs_listed spots (k ∷ rest) i j g at_i at_j e = elim (Contains-cases k rest i at_i) [
+pub pairs_listed : (edges : List Segment) (near : List ℕ) (i j : ℕ) (g : GridPoint) → Contains near i → Contains near j → crossing_at edges i j ≡ Some g → Contains (crossings_among edges near) g
+pairs_listed edges [] i j g at_i at_j e = Contains-nil i at_i
+pairs_listed edges (k ∷ rest) i j g at_i at_j e = elim (Contains-cases k rest i at_i) [
   | inl is_i ↦ elim (Contains-cases k rest j at_j) [
-    | inl is_j ↦ absurd (let l = in_turn spots i j g e in omega arith)
-    | inr in_j ↦ Contains-append_left (crossings_with spots k rest) (crossings_among spots rest) g
-        (in_pair spots k j rest g in_j (ap (λ (n : ℕ). crossing_of_pair spots n j) is_i ∙ ap (λ (b : Bool). cond b (crossing_at spots i j) (crossing_at spots j i)) (lt-ltb i j (in_turn spots i j g e)) ∙ e))
+    | inl is_j ↦ same_pair edges k g ((λ n. crossing_at edges (is_i n) (is_j n)) ∙ e)
+    | inr in_j ↦ first j in_j (ap (λ (n : ℕ). crossing_at edges n j) is_i ∙ e)
   ]
   | inr in_i ↦ elim (Contains-cases k rest j at_j) [
-    | inl is_j ↦ Contains-append_left (crossings_with spots k rest) (crossings_among spots rest) g
-        (in_pair spots k i rest g in_i (ap (λ (n : ℕ). crossing_of_pair spots n i) is_j ∙ ap (λ (b : Bool). cond b (crossing_at spots j i) (crossing_at spots i j)) (le-ltb j i (let l = in_turn spots i j g e in omega arith)) ∙ e))
-    | inr in_j ↦ Contains-append_right (crossings_with spots k rest) (crossings_among spots rest) g (pairs_listed spots rest i j g in_i in_j e)
+    | inl is_j ↦ first i in_i (ap (λ (n : ℕ). crossing_at edges n i) is_j ∙ turned edges i j g e)
+    | inr in_j ↦ Contains-append_right (crossings_with edges k rest) (crossings_among edges rest) g (pairs_listed edges rest i j g in_i in_j e)
   ]
 ]
+  where
+    first : (m : ℕ) → Contains rest m → crossing_at edges k m ≡ Some g → Contains (crossings_with edges k rest ++ crossings_among edges rest) g
+    first m c f = Contains-append_left (crossings_with edges k rest) (crossings_among edges rest) g (in_pair edges k m rest g c f)
 
--- one number names one spot
-same_spot : (spots : List Segment) (i j : ℕ) (s t : Segment) → j ≡ i → i < length spots → get_or spots i s ≡ s → get_or spots j t ≡ t → t ≡ s
-same_spot spots i j s t e l f g = sym g ∙ ap (λ (n : ℕ). get_or spots n t) e ∙ get_or_default spots i t s l ∙ f
-
--- spot i is near a rectangle that holds a point of its box
-pub near_rect : (spots : List Segment) (i : ℕ) (s : Segment) (rect : Corners) (g : GridPoint) → i < length spots → get_or spots i s ≡ s → Holds rect g → IsInBox s g → Contains (boxes_near (map box_of spots) rect) i
-near_rect spots i s rect g l e a b =
-    Contains-numbers_where (share_point rect) (map box_of spots) i (box_of s) (let n : length (map box_of spots) ≡ length spots = simp length-map in omega arith)
-    (ap (share_point rect) (get_or-map box_of spots i s (box_of s) l ∙ ap box_of e) ∙ shared rect (box_of s) g a (box_holds s g b))
+-- edge i is near a rectangle that holds a point of its box
+pub near_rect : (edges : List Segment) (i : ℕ) (s : Segment) (rect : Corners) (g : GridPoint) → i < length edges → get_or edges i s ≡ s → Holds rect g → IsInBox s g → Contains (boxes_near (map box_of edges) rect) i
+near_rect edges i s rect g l e a b =
+    Contains-numbers_where (share_point rect) (map box_of edges) i (box_of s) (let n : length (map box_of edges) ≡ length edges = simp length-map in omega arith)
+    (ap (share_point rect) (get_or-map box_of edges i s (box_of s) l ∙ ap box_of e) ∙ shared rect (box_of s) g a (box_holds s g b))
 
 -- ---- what crosses is listed
 
-module _ (spots : List Segment) (buckets : RectLists) (b : AreBucketsOver spots buckets) (old new : List GridPoint) (h : HasCrossingsBefore (length buckets.near) buckets.near spots old new) where
+module _ (edges : List Segment) (buckets : RectLists) (b : AreBucketsOver edges buckets) (old new : List GridPoint) (h : HasCrossingsBefore (length buckets.near) buckets.near edges old new) where
   abbrev boxes : List Corners
-  boxes = map box_of spots
+  boxes = map box_of edges
 
   near_listed : (place : ℕ) (rect : Corners) → place < length buckets.rects → get_or buckets.rects place rect ≡ rect → slice_get buckets.near place ≡ Some (boxes_near boxes rect)
   near_listed place rect l e =
@@ -235,28 +239,17 @@ module _ (spots : List Segment) (buckets : RectLists) (b : AreBucketsOver spots 
       ∙ slice_get-get_or (map (boxes_near boxes) buckets.rects) place (boxes_near boxes rect) (let n : length (map (boxes_near boxes) buckets.rects) ≡ length buckets.rects = simp length-map in omega arith)
       ∙ ap Some (get_or-map (boxes_near boxes) buckets.rects place rect (boxes_near boxes rect) l ∙ ap (boxes_near boxes) e)
 
-  ordered : (i j : ℕ) (s t : Segment) (g : GridPoint) → i < j → i < length spots → j < length spots → get_or spots i s ≡ s → get_or spots j t ≡ t → share_end s t ≡ false → crossing_pixel s t ≡ Some g → Contains new g
-  ordered i j s t g l li lj ei ej apart e =
+  crossing_listed : (s t : Segment) (g : GridPoint) → Contains edges s → Contains edges t → share_end s t ≡ false → crossing_pixel s t ≡ Some g → Contains new g
+  crossing_listed s t g (i, li, ei) (j, lj, ej) apart e =
       let in_boxes = crossings_lie_in_both_boxes s t g e in
-      let on_grid = crossing_on_grid s t (All-contains HasGridEnds spots s b.on_grid (i, li, ei)) g e in
+      let on_grid = crossing_on_grid s t (All-contains HasGridEnds edges s b.on_grid (i, li, ei)) g e in
       let place = b.places g on_grid in
       let rect : Corners = get_or buckets.rects place.0 (box_of s) in
       let held = place.1.held (box_of s) in
       let near : List ℕ = boxes_near boxes rect in
       let at : slice_get buckets.near place.0 ≡ Some near = near_listed place.0 rect place.1.below (get_or_default buckets.rects place.0 rect (box_of s) place.1.below) in
-      let si : slice_get spots i ≡ Some s = slice_get-get_or spots i s li ∙ ap Some ei in
-      let sj : slice_get spots j ≡ Some t = slice_get-get_or spots j t lj ∙ ap Some ej in
-      let crossing : crossing_at spots i j ≡ Some g = ap (λ (b : Bool). cond b (crossing_between (slice_get spots i) (slice_get spots j)) None) (lt-ltb i j l) ∙ (λ k. crossing_between (si k) (sj k)) ∙ ap (λ (b : Bool). cond b None (crossing_pixel s t)) apart ∙ e in
-      (h.holds place.0 (slice_get_within buckets.near place.0 near at) near at).all i j g (near_rect spots i s rect g li ei held in_boxes.0) (near_rect spots j t rect g lj ej held in_boxes.1) crossing
+      let crossing : crossing_at edges i j ≡ Some g = pair_crosses edges i j s t g (slice_get-get_or edges i s li ∙ ap Some ei) (slice_get-get_or edges j t lj ∙ ap Some ej) apart e in
+      (h.holds place.0 (slice_get_within buckets.near place.0 near at) near at).all i j g (near_rect edges i s rect g li ei held in_boxes.0) (near_rect edges j t rect g lj ej held in_boxes.1) crossing
 
-  crossing_listed : (s t : Segment) (g : GridPoint) → Contains spots s → Contains spots t → share_end s t ≡ false → crossing_pixel s t ≡ Some g → Contains new g
-  crossing_listed s t g c d apart e = elim (cases_lt c.0 d.0) [
-    | inl l ↦ ordered c.0 d.0 s t g l c.1 d.1 c.2 d.2 apart e
-    | inr l ↦ elim (cases_lt d.0 c.0) [
-      | inl m ↦ ordered d.0 c.0 t s g m d.1 c.1 d.2 c.2 (by_test (share_end t s) (λ f. absurd (let k : true ≡ false = sym (share_end-turned t s f) ∙ apart in cc)) (λ f. f)) (crossing_turned s t g e)
-      | inr m ↦ not_itself s g (subst (λ (u : Segment). crossing_pixel s u ≡ Some g) (same_spot spots c.0 d.0 s t (omega arith) c.1 c.2 d.2) e)
-    ]
-  ]
-
-  pub all_crossings : HasAllCrossings spots old new
+  pub all_crossings : HasAllCrossings edges old new
   all_crossings = record { adds = h.adds; all = crossing_listed }

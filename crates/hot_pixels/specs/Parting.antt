@@ -18,6 +18,6 @@ abbrev pub is_left_by : Segment → Option Segment → Bool
 is_left_by line None = false
 is_left_by line (Some s) = is_left line s
 
--- of the spots with these numbers, those on the left of the line
+-- of the edges with these numbers, those on the left of the line
 abbrev pub left_numbers : Segment → List Segment → List ℕ → List ℕ
-left_numbers line spots near = filter (λ i. is_left_by line (slice_get spots i)) near
+left_numbers line edges near = filter (λ i. is_left_by line (slice_get edges i)) near

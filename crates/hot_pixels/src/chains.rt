@@ -75,7 +75,7 @@ pub fn after_first(points: &[Pt]) -> &[Pt]
     &points[1..]
 }
 
-/// Appends points to a path in the order of their keys along a segment, where no two have one key, and without the first.
+/// Appends all points but the first, in the order of their keys along a segment, to a path, where no two have one key.
 ///
 /// The answer is whether it did; else the path stays as it was.
 pub fn go_rising(

@@ -1,7 +1,7 @@
 ghost use Rattle.std.specs.Prelude.{◌≡◌, true, IfOk, IfSome, OnOk};
 ghost use Rattle.hot_pixels.specs.Edges.{IsEdgeOf, HasEdgeAt, IsEdgeAdded, AreEdgesOf};
 
-use grid_base::{LIMIT, Pt, Seg};
+use grid_base::{LIMIT, Pt, Seg, next_number};
 use std::alloc::{AllocError, Global};
 
 /// Segments without direction, most of them once, and for each segment of a list the number of its edge.
@@ -21,7 +21,7 @@ fn is_same(s: &Seg, t: &Seg) -> bool
 fn is_along(edge: &Seg, s: &Seg) -> bool
     ensures yes { result ≡ true → IsEdgeOf s.now edge.now }
 {
-    is_same(edge, s) || is_same(edge, &Seg::new(s.b(), s.a()))
+    is_same(edge, s) || is_same(edge, &s.back())
 }
 
 fn scattered(p: Pt) -> u64 {
@@ -62,16 +62,6 @@ fn edge_beside(edges: &[Seg], last: u32, s: &Seg) -> Option<u32>
         Some(i) => Some(i),
         None => edge_at(edges, last.wrapping_add(1), s),
     }
-}
-
-/// A count as a number of 32 bits. More are out of memory.
-pub fn next_number(count: usize) -> Result<u32, AllocError>
-    ensures exact { IfOk result (λ n. n ≡ count) }
-{
-    if count > u32::MAX as usize {
-        return Err(AllocError);
-    }
-    Ok(count as u32)
 }
 
 fn lower_half(sum: u64) -> u32 {

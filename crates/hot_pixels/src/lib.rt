@@ -16,10 +16,10 @@
 //! - `chain_of` lists the hot points whose pixels a segment meets, in the order in which the segment passes them, and
 //!   `chain_links` counts the links between them without memory. Both pass over runs of hot points that lie beside the
 //!   segment's box, and, where a search has tried many, over those that lie aside of its line.
-//! - `HotEdges::of` makes the hot points with the edges of the drawing, for the chains of its own segments. Each hot point
-//!   is tried against the segments of its bucket, and the meetings of an edge with points besides its ends are gathered:
-//!   none for most in a drawing of areas. They are the chain, mostly in its order. The segments of a crowded bucket are
-//!   not tried; for these the inner points are searched alone: those that one of them may meet and doesn't end at.
+//! - `HotEdges::of` makes the hot points with the edges of the drawing, for the chains of its own segments. Each hot
+//!   point is tried against the segments of its bucket, and the meetings of an edge with points besides its ends are
+//!   gathered: none for most in a drawing of areas. They are the chain, mostly in its order. Segments in a crowd
+//!   are not tried; for these the inner points are searched alone: those that one of them may meet and doesn't end at.
 //! - `go_along` appends the chain of a segment of the drawing, after its first point, to a path that ends there, and
 //!   `links` lists the links along the chains of all edges: those of the drawing's snapped paths.
 #![tactic(auto)]

@@ -5,12 +5,11 @@ ghost use Rattle.hot_pixels.specs.Meetings.{AreLists, AddsMeetings};
 ghost use Rattle.hot_pixels.specs.Marking.{IsEndOf, IsMarked, IsGathered, IsSeen, KeepMarks, AreMarks, AreCrowdsMarked, ends_of, others_of};
 
 use crate::beside::{is_end, is_off};
-use crate::edges::next_number;
 use crate::half_open::meets;
 use crate::meetings::Meeting;
 use crate::pairs::near_of;
 use bucket_grid::Buckets;
-use grid_base::{Pt, PtList, Seg};
+use grid_base::{Pt, PtList, Seg, next_number};
 use std::alloc::{AllocError, Global};
 
 // The segments of a bucket that has more are not tried point by point.
@@ -21,8 +20,8 @@ const MANY: usize = 4;
 
 /// What is known of the points that edges meet besides their ends.
 ///
-/// An edge of a crowded bucket has a mark, and what it meets is among the inner points. Any other has its meetings, from
-/// the last one back.
+/// An edge of a crowded bucket has a mark, and what it meets is among the inner points. Any other has its meetings,
+/// from the last one back.
 #[derive(Drop)]
 pub struct Marking {
     pub crowded: Vec<bool>,
@@ -31,28 +30,28 @@ pub struct Marking {
     pub inner: Vec<Pt>,
 }
 
-/// Marks of the segments of crowded buckets; of the others the points that they meet besides their ends. The points that
-/// a marked one may meet so are inner.
+/// Marks of the segments of crowded buckets; of the others the points that they meet besides their ends. The points
+/// that a marked one may meet so are inner.
 pub fn marks_of(
     alloc: Global,
     points: &[Pt],
-    spots: &[Seg],
+    edges: &[Seg],
     buckets: &Buckets,
 ) -> Result<Marking, AllocError>
-    requires over { AreBucketsOver spots.now buckets.now }
-    ensures exact { IfOk result (λ m. AreMarks points.now spots.now m.crowded.items m.lasts.items m.meetings.items m.inner.items) }
+    requires over { AreBucketsOver edges.now buckets.now }
+    ensures exact { IfOk result (λ m. AreMarks points.now edges.now m.crowded.items m.lasts.items m.meetings.items m.inner.items) }
 {
     let room = points.len().saturating_mul(MANY);
-    let mut crowded = vec![in alloc; false; spots.len()]?;
-    mark_crowds(&mut crowded, spots, buckets);
-    let mut lasts = vec![in alloc; None; spots.len()]?;
+    let mut crowded = vec![in alloc; false; edges.len()]?;
+    mark_crowds(&mut crowded, edges, buckets);
+    let mut lasts = vec![in alloc; None; edges.len()]?;
     let mut meetings = Vec::new(alloc);
     let mut inner = Vec::new(alloc);
     for p in points {
         if meetings.len() > room {
-            return all_crowded(alloc, points, spots);
+            return all_crowded(alloc, points, edges);
         }
-        let is_inner = gather_near(&mut lasts, &mut meetings, &crowded, spots, buckets, *p)?;
+        let is_inner = gather_near(&mut lasts, &mut meetings, &crowded, edges, buckets, *p)?;
         push_if(&mut inner, *p, is_inner)?;
     }
     Ok(Marking {
@@ -64,11 +63,11 @@ pub fn marks_of(
 }
 
 // All segments have marks, and all points are inner.
-fn all_crowded(alloc: Global, points: &[Pt], spots: &[Seg]) -> Result<Marking, AllocError>
-    ensures made { IfOk result (λ m. AreMarks points.now spots.now m.crowded.items m.lasts.items m.meetings.items m.inner.items) }
+fn all_crowded(alloc: Global, points: &[Pt], edges: &[Seg]) -> Result<Marking, AllocError>
+    ensures made { IfOk result (λ m. AreMarks points.now edges.now m.crowded.items m.lasts.items m.meetings.items m.inner.items) }
 {
-    let crowded = vec![in alloc; true; spots.len()]?;
-    let lasts = vec![in alloc; None; spots.len()]?;
+    let crowded = vec![in alloc; true; edges.len()]?;
+    let lasts = vec![in alloc; None; edges.len()]?;
     let mut inner = Vec::with_capacity(alloc, points.len())?;
     inner.extend_from_slice(points)?;
     Ok(Marking {
@@ -89,10 +88,10 @@ fn push_if(points: &mut Vec<Pt>, p: Pt, is_wanted: bool) -> Result<(), AllocErro
 }
 
 // Marks the segments of crowded buckets.
-fn mark_crowds(marks: &mut Vec<bool>, spots: &[Seg], buckets: &Buckets)
-    requires over { AreBucketsOver spots.now buckets.now }
-    requires each { length marks.old.items ≡ length spots.now }
-    ensures each { length marks.new.items ≡ length spots.now }
+fn mark_crowds(marks: &mut Vec<bool>, edges: &[Seg], buckets: &Buckets)
+    requires over { AreBucketsOver edges.now buckets.now }
+    requires each { length marks.old.items ≡ length edges.now }
+    ensures each { length marks.new.items ≡ length edges.now }
     ensures crowds { AreCrowdsMarked (length buckets.now.near) buckets.now.near marks.new.items }
 {
     for place in 0..buckets.count() {
@@ -129,76 +128,76 @@ fn mark(marks: &mut Vec<bool>, i: u32)
     marks[i as usize] = true;
 }
 
-// Gathers the meetings of segments with a point. Those of a crowded bucket have marks. The answer is whether a marked one
-// may meet the point besides its ends.
+// Gathers the meetings of segments with a point. Those of a crowded bucket have marks. The answer is whether a marked
+// one may meet the point besides its ends.
 fn gather_near(
     lasts: &mut Vec<Option<u32>>,
     meetings: &mut Vec<Meeting>,
     crowded: &[bool],
-    spots: &[Seg],
+    edges: &[Seg],
     buckets: &Buckets,
     p: Pt,
 ) -> Result<bool, AllocError>
-    requires over { AreBucketsOver spots.now buckets.now }
-    requires each { length crowded.now ≡ length spots.now }
+    requires over { AreBucketsOver edges.now buckets.now }
+    requires each { length crowded.now ≡ length edges.now }
     requires crowds { AreCrowdsMarked (length buckets.now.near) buckets.now.near crowded.now }
-    requires lists { AreLists spots.now lasts.old.items meetings.old.items }
-    ensures adds { OnOk result (AddsMeetings spots.now p lasts.old.items meetings.old.items lasts.new.items meetings.new.items) }
-    ensures seen { IfOk result (λ is_inner. (i : ℕ) → IsSeen spots.now crowded.now lasts.new.items meetings.new.items is_inner p i) }
+    requires lists { AreLists edges.now lasts.old.items meetings.old.items }
+    ensures adds { OnOk result (AddsMeetings edges.now p lasts.old.items meetings.old.items lasts.new.items meetings.new.items) }
+    ensures seen { IfOk result (λ is_inner. (i : ℕ) → IsSeen edges.now crowded.now lasts.new.items meetings.new.items is_inner p i) }
 {
     let near = near_of(buckets, buckets.bucket_of(p));
     if near.len() > CROWD {
         return Ok(true);
     }
-    gather_met(lasts, meetings, crowded, spots, near, p)
+    gather_met(lasts, meetings, crowded, edges, near, p)
 }
 
 fn gather_met(
     lasts: &mut Vec<Option<u32>>,
     meetings: &mut Vec<Meeting>,
     crowded: &[bool],
-    spots: &[Seg],
+    edges: &[Seg],
     near: &[u32],
     p: Pt,
 ) -> Result<bool, AllocError>
-    requires there { All (λ i. i < length spots.now) near.now }
-    requires each { length crowded.now ≡ length spots.now }
-    requires lists { AreLists spots.now lasts.old.items meetings.old.items }
-    ensures adds { OnOk result (AddsMeetings spots.now p lasts.old.items meetings.old.items lasts.new.items meetings.new.items) }
-    ensures seen { IfOk result (λ is_inner. All (IsSeen spots.now crowded.now lasts.new.items meetings.new.items is_inner p) near.now) }
+    requires there { All (λ i. i < length edges.now) near.now }
+    requires each { length crowded.now ≡ length edges.now }
+    requires lists { AreLists edges.now lasts.old.items meetings.old.items }
+    ensures adds { OnOk result (AddsMeetings edges.now p lasts.old.items meetings.old.items lasts.new.items meetings.new.items) }
+    ensures seen { IfOk result (λ is_inner. All (IsSeen edges.now crowded.now lasts.new.items meetings.new.items is_inner p) near.now) }
 {
     let mut is_inner = false;
     for k in 0..near.len() {
-        is_inner = gather_if_met(lasts, meetings, crowded, spots, near[k], p, is_inner)?;
+        is_inner = gather_if_met(lasts, meetings, crowded, edges, near[k], p, is_inner)?;
     }
     Ok(is_inner)
 }
 
-// Gathers the meeting of a segment with a point, where it has no mark. The answer is whether a marked one meets the point
-// besides its ends: this segment or one before.
+// Gathers the meeting of a segment with a point, where it has no mark. The answer is whether a marked one meets the
+// point besides its ends: this segment or one before.
 fn gather_if_met(
     lasts: &mut Vec<Option<u32>>,
     meetings: &mut Vec<Meeting>,
     crowded: &[bool],
-    spots: &[Seg],
+    edges: &[Seg],
     i: u32,
     p: Pt,
     is_inner: bool,
 ) -> Result<bool, AllocError>
-    requires there { i < length spots.now }
-    requires each { length crowded.now ≡ length spots.now }
-    requires lists { AreLists spots.now lasts.old.items meetings.old.items }
-    ensures adds { OnOk result (AddsMeetings spots.now p lasts.old.items meetings.old.items lasts.new.items meetings.new.items) }
+    requires there { i < length edges.now }
+    requires each { length crowded.now ≡ length edges.now }
+    requires lists { AreLists edges.now lasts.old.items meetings.old.items }
+    ensures adds { OnOk result (AddsMeetings edges.now p lasts.old.items meetings.old.items lasts.new.items meetings.new.items) }
     ensures grows { IfOk result (λ after. is_inner ≡ true → after ≡ true) }
-    ensures seen { IfOk result (λ after. IsSeen spots.now crowded.now lasts.new.items meetings.new.items after p i) }
+    ensures seen { IfOk result (λ after. IsSeen edges.now crowded.now lasts.new.items meetings.new.items after p i) }
 {
-    if is_off_or_end(&spots[i as usize], p) {
+    if is_off_or_end(&edges[i as usize], p) {
         return Ok(is_inner);
     }
     if crowded[i as usize] {
-        return Ok(is_inner || meets(&spots[i as usize], p));
+        return Ok(is_inner || meets(&edges[i as usize], p));
     }
-    gather(lasts, meetings, spots, i, p)?;
+    gather(lasts, meetings, edges, i, p)?;
     Ok(is_inner)
 }
 
@@ -206,16 +205,16 @@ fn gather_if_met(
 fn gather(
     lasts: &mut Vec<Option<u32>>,
     meetings: &mut Vec<Meeting>,
-    spots: &[Seg],
+    edges: &[Seg],
     i: u32,
     p: Pt,
 ) -> Result<(), AllocError>
-    requires there { i < length spots.now }
-    requires lists { AreLists spots.now lasts.old.items meetings.old.items }
-    ensures adds { OnOk result (AddsMeetings spots.now p lasts.old.items meetings.old.items lasts.new.items meetings.new.items) }
-    ensures found { OnOk result (IsGathered spots.now lasts.new.items meetings.new.items p i) }
+    requires there { i < length edges.now }
+    requires lists { AreLists edges.now lasts.old.items meetings.old.items }
+    ensures adds { OnOk result (AddsMeetings edges.now p lasts.old.items meetings.old.items lasts.new.items meetings.new.items) }
+    ensures found { OnOk result (IsGathered edges.now lasts.new.items meetings.new.items p i) }
 {
-    if !meets(&spots[i as usize], p) {
+    if !meets(&edges[i as usize], p) {
         return Ok(());
     }
     let before = lasts[i as usize];

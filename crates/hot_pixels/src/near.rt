@@ -312,8 +312,8 @@ pub fn met_among(alloc: Global, points: &[Pt], s: &Seg) -> Result<Vec<Pt>, Alloc
 
 /// The points that a segment meets.
 ///
-/// A search of few runs asks of each whether it lies beside the segment's box, and a longer one besides on which side of
-/// the segment's line some lie.
+/// A search of few runs asks of each whether it lies beside the segment's box, and a longer one besides on which side
+/// of the segment's line some lie.
 pub fn met_near(alloc: Global, points: &[Pt], runs: &[Run], s: &Seg) -> Result<Vec<Pt>, AllocError>
     requires { All (HoldsRun points.now) runs.now }
     ensures exact { IfOk result (λ met. met.items ≡ filter (meets s.now) points.now) }

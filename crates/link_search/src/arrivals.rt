@@ -5,8 +5,8 @@ ghost use Rattle.grid_base.specs.Order.{point_cmp};
 
 use grid_base::{Pt, has_point, is_before, is_same};
 
-/// The place of the first of points in order that isn't before `p`, looked for from a place on. It is not proved: a wrong
-/// one costs time alone.
+/// The place of the first of points in order that isn't before `p`, looked for from a place on. It is not proved: a
+/// wrong one costs time alone.
 pub fn place_from(points: &[Pt], p: Pt, from: usize) -> usize {
     for k in from..points.len() {
         if !is_before(points[k], p) {

@@ -244,8 +244,8 @@ fn is_across(l: &ArcLink, stretch: Stretch) -> bool {
     l.link.low().x() <= stretch.low && stretch.high < l.link.high().x()
 }
 
-// Along a link over the whole stretch, where at least a quarter of the links are; else at an end within the stretch, about
-// the middle one. There is none where no end is within.
+// Along a link over the whole stretch, where at least a quarter of the links are; else at an end within the stretch,
+// about the middle one. There is none where no end is within.
 fn cut_of(
     alloc: Global,
     links: &[ArcLink],

@@ -5,8 +5,8 @@
 //! lies inside a link.
 //!
 //! 1. `snapping` has `snap`: the hot points and edges, by `hot_pixels`, then the paths, then the links along the chains
-//!    of the edges, each border once; points stay. The hot points are let go before the links are sorted. Where there is
-//!    no path, `into_snapped` has the snapped drawing at once.
+//!    of the edges, each border once; points stay. The hot points are let go before the links are sorted. Where there
+//!    is no path, `into_snapped` has the snapped drawing at once.
 //! 2. `paths` and `joining` make the paths: each segment becomes the chain of the hot points whose pixels it meets,
 //!    and the chains of a path are joined end to end.
 //! 3. `vertex_count` counts the vertices of the paths, which have fewer links. Where these may be more than 8,000,000,

@@ -20,7 +20,7 @@ use hot_pixels::{HotEdges, HotSet, spots_of};
 use std::alloc::{AllocError, Global};
 
 // The most links that snapped paths may have together, repeats counted.
-const MOST_LINKS: u64 = 8_000_000;
+const MAX_LINKS: u64 = 8_000_000;
 
 // How many links the snapped paths will have together, repeats counted.
 fn count_of(alloc: Global, hot: HotEdges, d: &Drawing) -> Result<u64, AllocError>
@@ -122,11 +122,11 @@ pub fn snap(alloc: Global, d: &Drawing) -> Result<Snapped, SnapFault>
 {
     d.keeps_paths();
     let hot = HotEdges::of(alloc, d)?;
-    if let Some(paths) = paths_within(alloc, &hot, d, MOST_LINKS)? {
+    if let Some(paths) = paths_within(alloc, &hot, d, MAX_LINKS)? {
         return Ok(with_links(alloc, hot, paths, d)?);
     }
     let count = count_of(alloc, hot, d)?;
-    if count > MOST_LINKS {
+    if count > MAX_LINKS {
         return Err(SnapFault::TooDense { count });
     }
     Ok(snap_all(alloc, d)?)

@@ -6,11 +6,11 @@
 //!
 //! 1. `ids` has the numbers of spans, from 0.
 //! 2. `pool` has `SpanPool`: `push_span` takes points and answers the number of their span, `get` takes the number
-//!    and answers the points.
+//!    and answers the points. `span_in` is a span of any list that is cut in this way.
 #![tactic(auto)]
 
 mod ids;
 mod pool;
 
 pub use ids::SpanId;
-pub use pool::SpanPool;
+pub use pool::{SpanPool, span_in};

@@ -1,4 +1,4 @@
-ghost use Rattle.std.specs.Prelude.{◌≡◌, ◌+◌, ◌-◌, ◌^◌, ◌<◌, ◌≤◌, [], ◌∷◌, ◌++◌, All, OnOk, OnErr, length, map, max, slice_index, slice_index_or, slice_range, take, vec_len, vec_capacity};
+ghost use Rattle.std.specs.Prelude.{◌≡◌, ◌+◌, ◌-◌, ◌^◌, ◌<◌, ◌≤◌, [], ◌∷◌, ◌++◌, All, OnOk, OnErr, length, map, max, slice_index_or, slice_range, take, vec_len, vec_capacity};
 ghost use Rattle.std.specs.List.Sorted.{IsStrictlyIncreasing};
 ghost use Rattle.span_pool.specs.SpanPool.{Pool, points_held, picked, begin, cut, CutsUp};
 
@@ -108,8 +108,7 @@ impl SpanPool {
         requires { id < length self.now.spans }
         ensures exact { result.now ≡ slice_index_or self.now.spans id [] }
     {
-        let (start, end) = place_of(&self.ends, id.num() as usize);
-        part(&self.points, start, end)
+        span_in(&self.points, &self.ends, id.num() as usize)
     }
 
     /// Keeps the spans with these numbers, renumbered in order; the spares stay. Takes no memory.
@@ -154,24 +153,31 @@ fn gather(points: &mut Vec<Pt>, ends: &mut Vec<u32>, ids: &[u32]) -> (usize, usi
     (kept, at)
 }
 
-fn part(points: &[Pt], start: usize, end: usize) -> &[Pt]
-    requires ordered { start ≤ end }
-    requires within { end ≤ length points.now }
-    ensures exact { result.now ≡ slice_range points.now start end }
+/// The span with this number, from 0, of items that are cut into spans; `ends` has where each of these ends.
+pub fn span_in<'a, T>(items: &'a [T], ends: &[u32], number: usize) -> &'a [T]
+    requires there { number < length ends.now }
+    requires cut_up { CutsUp 0 ends.now (length items.now) }
+    ensures exact { result.now ≡ slice_index_or (cut 0 ends.now items.now) number [] }
 {
-    &points[start..end]
+    part(items, begin_of(ends, number), ends[number] as usize)
 }
 
-// Where a span begins and ends among the points.
-fn place_of(ends: &[u32], number: usize) -> (usize, usize)
-    requires { number < length ends.now }
-    ensures start { result.0 ≡ begin 0 ends.now number }
-    ensures stop { result.1 ≡ slice_index ends.now number }
+fn part<T>(items: &[T], start: usize, end: usize) -> &[T]
+    requires ordered { start ≤ end }
+    requires within { end ≤ length items.now }
+    ensures exact { result.now ≡ slice_range items.now start end }
 {
-    let end = ends[number] as usize;
+    &items[start..end]
+}
+
+// Where a span begins.
+fn begin_of(ends: &[u32], number: usize) -> usize
+    requires { number < length ends.now }
+    ensures exact { result ≡ begin 0 ends.now number }
+{
     if number == 0 {
-        (0, end)
+        0
     } else {
-        (ends[number - 1] as usize, end)
+        ends[number - 1] as usize
     }
 }

@@ -3,4 +3,4 @@ use Rattle.hot_pixels.specs.Parting.{left_numbers}
 use Rattle.hot_pixels.proofs.parting.left_of.Given as goal
 
 abbrev pub invariant-loop-i : goal.invariant-loop-i
-invariant-loop-i l = l.left.items ≡ left_numbers l.line l.spots (take l.i-index l.near)
+invariant-loop-i l = l.left.items ≡ left_numbers l.line l.edges (take l.i-index l.near)
