@@ -1,5 +1,5 @@
 -- Which signed arcs there are, and which of them are of the boundary of a set.
-use Rattle.std.proofs.Common.{◌≡◌, ◌⊎◌, inl, inr, refl, sym, ap, ◌∙◌, subst, arith, ℕ, zero, suc, ◌+◌, ◌<◌, Bool, true, false, not, List, [], ◌∷◌, ◌++◌, length, get_or, map, filter, take, nat_eq, All, Contains, Some, cond, append_assoc, append-nil}
+use Rattle.std.proofs.Common.{◌≡◌, ◌⊎◌, inl, inr, refl, sym, ap, ◌∙◌, subst, arith, ℕ, zero, suc, ◌+◌, ◌<◌, Bool, true, false, not, List, [], ◌∷◌, ◌++◌, length, get_or, map, filter, take, nat_eq, All, Contains, Some, append_assoc, append-nil}
 use Rattle.std.specs.Prelude.{slice_get}
 use Rattle.std.specs.List.Sorted.{IsStrictlyIncreasing}
 use Rattle.std.proofs.lemmas.Bool.{cases_lt, eq-eqb, eqb-true, not-true, not_from_false, false_from_ne_true}
@@ -165,13 +165,12 @@ pub not_across : (xs : List ℕ) (x : ℕ) → has nat_eq xs x ≡ false → Con
 not_across xs x e c = let h : true ≡ false = sym (Contains_has xs x c) ∙ e in absurd (cc)
 
 -- of arcs round a face, one more
-pub outward_more : (places inside : List ℕ) (i : ℕ) (round : List SignedArc) (k : ℕ) (d : SignedArc) (old : List Side) → k < length round → (b : Bool) → is_outward places inside (get_or round k d) ≡ b →
-    (old ++ map (side_at i) (filter (is_outward places inside) (take k round))) ++ map (side_at i) (cond b (get_or round k d ∷ []) []) ≡ old ++ map (side_at i) (filter (is_outward places inside) (take (k + 1) round))
-outward_more places inside i round k d old l b e =
-    append_assoc old (map (side_at i) (filter (is_outward places inside) (take k round))) (map (side_at i) (cond b (get_or round k d ∷ []) []))
+pub outward_more : (places inside : List ℕ) (i : ℕ) (round : List SignedArc) (k : ℕ) (d : SignedArc) (old : List Side) → k < length round →
+    (old ++ map (side_at i) (filter (is_outward places inside) (take k round))) ++ map (side_at i) (filter (is_outward places inside) (get_or round k d ∷ [])) ≡ old ++ map (side_at i) (filter (is_outward places inside) (take (k + 1) round))
+outward_more places inside i round k d old l =
+    append_assoc old (map (side_at i) (filter (is_outward places inside) (take k round))) (map (side_at i) (filter (is_outward places inside) (get_or round k d ∷ [])))
     ∙ ap (λ (xs : List Side). old ++ xs)
-    (sym (map-append (side_at i) (filter (is_outward places inside) (take k round)) (cond b (get_or round k d ∷ []) []))
-    ∙ ap (λ (t : Bool). map (side_at i) (filter (is_outward places inside) (take k round) ++ cond t (get_or round k d ∷ []) [])) (sym e)
+    (sym (map-append (side_at i) (filter (is_outward places inside) (take k round)) (filter (is_outward places inside) (get_or round k d ∷ [])))
     ∙ ap (map (side_at i)) (sym (filter_more (is_outward places inside) round k d l)))
 
 -- ---- arcs round a face

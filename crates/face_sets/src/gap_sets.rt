@@ -1,5 +1,6 @@
-ghost use Rattle.std.specs.Prelude.{◌≡◌, All, IfOk};
+ghost use Rattle.std.specs.Prelude.{◌≡◌, All, IfOk, filter, nat_eq, not};
 ghost use Rattle.std.specs.List.Sorted.{IsStrictlyIncreasing};
+ghost use Rattle.lists.specs.Lists.{has};
 ghost use Rattle.face_walk.specs.Places.{IsBuiltOf};
 ghost use Rattle.face_sets.specs.Gaps.{AreGaps, outside_of};
 ghost use Rattle.face_sets.specs.Sets.{IsSetOf};
@@ -23,9 +24,17 @@ pub fn gaps(alloc: Global, t: &ArcTable, f: &Faces, set: &FaceSet) -> Result<Set
     ensures inner { IfOk result (All (IsSetOf f.now)) }
 {
     let outside = faces_outside(alloc, f, set)?;
-    let mut sets = parts_of(alloc, t, f, &outside)?;
-    sets.take_out(f.outer());
-    Ok(sets)
+    let sets = parts_of(alloc, t, f, &outside)?;
+    sets_without(sets, f.outer())
+}
+
+// The sets that haven't a face.
+fn sets_without(sets: SetList, face: FaceId) -> Result<SetList, AllocError>
+    ensures exact { IfOk result (λ left. left ≡ filter (λ set. not (has nat_eq set face)) sets) }
+{
+    let mut left = sets.into_vec();
+    left.retain(|set| !set.has(face));
+    SetList::from_vec(left)
 }
 
 // The faces that a set hasn't, ascending; the outer one is there.

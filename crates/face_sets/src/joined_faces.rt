@@ -1,4 +1,4 @@
-ghost use Rattle.std.specs.Prelude.{◌≡◌, ◌++◌, ◌<◌, ◌≤◌, ◌^◌, true, All, Contains, IfOk, IfSome, List, None, OnOk, length, map, slice_index};
+ghost use Rattle.std.specs.Prelude.{◌≡◌, ◌++◌, ◌∷◌, [], ◌<◌, ◌≤◌, ◌^◌, true, filter, All, Contains, IfOk, IfSome, List, None, OnOk, length, map, slice_index};
 ghost use Rattle.std.specs.List.Sorted.{IsStrictlyIncreasing};
 ghost use Rattle.plane_model.specs.Points.{Path};
 ghost use Rattle.face_walk.specs.Joining.{AreClasses};
@@ -33,60 +33,6 @@ pub struct Parts {
     // the number of a part at the least place of its faces
     numbers: Vec<u32>,
     ghost each: { length numbers.items ≡ length joining },
-}
-
-/// The boundary of a set, whose faces stand in order.
-pub fn boundary_of(alloc: Global, f: &Faces, faces: &[FaceId]) -> Result<Vec<Side>, AllocError>
-    requires few { length faces.now < 2 ^ 32 }
-    requires ascending { IsStrictlyIncreasing faces.now }
-    ensures exact { (arcs : List Path) → IsBuiltOf arcs f.now → IfOk result (λ v. v.items ≡ sides_of f.now.places (length arcs) faces.now) }
-    ensures there { IfOk result (λ v. All (IsSide f.now (length faces.now)) v.items) }
-{
-    let mut sides = Vec::new(alloc);
-    for i in 0..faces.len() {
-        push_sides(&mut sides, f, faces, i)?;
-    }
-    Ok(sides)
-}
-
-// The arcs round one face across which no face of the set lies.
-fn push_sides(
-    sides: &mut Vec<Side>,
-    f: &Faces,
-    faces: &[FaceId],
-    i: usize,
-) -> Result<(), AllocError>
-    requires few { length faces.now < 2 ^ 32 }
-    requires ascending { IsStrictlyIncreasing faces.now }
-    requires face { i < length faces.now }
-    requires there { All (IsSide f.now (length faces.now)) sides.old.items }
-    ensures exact { (arcs : List Path) → IsBuiltOf arcs f.now →
-        OnOk result (sides.new.items ≡ sides.old.items ++ map (side_at i) (outward_at f.now.places (length arcs) faces.now (slice_index faces.now i))) }
-    ensures there { OnOk result (All (IsSide f.now (length faces.now)) sides.new.items) }
-{
-    let round = f.arcs_of(faces[i]);
-    for arc in round {
-        if leads_out(f, faces, *arc) {
-            sides.push(Side {
-                place: i as u32,
-                arc: *arc,
-            })?;
-        }
-    }
-    Ok(())
-}
-
-// Whether no face of the set is on the right of a signed arc.
-fn leads_out(f: &Faces, faces: &[FaceId], arc: SignedArc) -> bool
-    requires few { length faces.now < 2 ^ 32 }
-    requires ascending { IsStrictlyIncreasing faces.now }
-    requires arc { HasArc f.now arc }
-    ensures exact { result ≡ is_outward f.now.places faces.now arc }
-{
-    match place_across(f, faces, arc) {
-        Some(_) => false,
-        None => true,
-    }
 }
 
 // The place of the face on the right of a signed arc, where it is in the set.
@@ -138,25 +84,21 @@ fn stands_at(faces: &[FaceId], i: usize, face: FaceId) -> bool
 }
 
 impl Parts {
-    /// The parts of a set, whose faces stand in order, with its boundary.
-    pub fn of(
-        alloc: Global,
-        f: &Faces,
-        faces: &[FaceId],
-        sides: &[Side],
-    ) -> Result<Parts, AllocError>
+    /// The parts of a set, whose faces stand in order, and its boundary, face by face.
+    pub fn of(alloc: Global, f: &Faces, faces: &[FaceId]) -> Result<(Parts, Vec<Side>), AllocError>
         requires few { length faces.now < 2 ^ 32 }
         requires ascending { IsStrictlyIncreasing faces.now }
-        requires there { All (IsSide f.now (length faces.now)) sides.now }
-        ensures each { IfOk result (λ p. length p.joining ≡ length faces.now) }
-        ensures joined { (arcs : List Path) → IsBuiltOf arcs f.now → IfOk result (λ p. AreJoinedBy f.now faces.now p.joining) }
-        ensures least { IfOk result (λ p. AreLeastNumbers p.joining sides.now p.numbers.items) }
-        ensures numbers { IfOk result (λ p. length p.numbers.items ≡ length p.joining) }
-        ensures classes { IfOk result (λ p. AreClasses p.joining) }
+        ensures exact { (arcs : List Path) → IsBuiltOf arcs f.now → IfOk result (λ p. p.1.items ≡ sides_of f.now.places (length arcs) faces.now) }
+        ensures there { IfOk result (λ p. All (IsSide f.now (length faces.now)) p.1.items) }
+        ensures each { IfOk result (λ p. length p.0.joining ≡ length faces.now) }
+        ensures joined { (arcs : List Path) → IsBuiltOf arcs f.now → IfOk result (λ p. AreJoinedBy f.now faces.now p.0.joining) }
+        ensures least { IfOk result (λ p. AreLeastNumbers p.0.joining p.1.items p.0.numbers.items) }
+        ensures numbers { IfOk result (λ p. length p.0.numbers.items ≡ length p.0.joining) }
+        ensures classes { IfOk result (λ p. AreClasses p.0.joining) }
     {
-        let joining = joined(alloc, f, faces)?;
-        let numbers = numbers_of(alloc, &joining, sides)?;
-        Ok(Parts { joining, numbers })
+        let (joining, sides) = joined(alloc, f, faces)?;
+        let numbers = numbers_of(alloc, &joining, &sides)?;
+        Ok((Parts { joining, numbers }, sides))
     }
 
     /// The number of the part that the face at a place is in.
@@ -177,51 +119,82 @@ impl Parts {
     }
 }
 
-// The places of the faces, joined where the faces share an arc.
-fn joined(alloc: Global, f: &Faces, faces: &[FaceId]) -> Result<Joining, AllocError>
+// The places of the faces, joined where the faces share an arc, and the arcs across which no face of the set lies.
+fn joined(alloc: Global, f: &Faces, faces: &[FaceId]) -> Result<(Joining, Vec<Side>), AllocError>
     requires few { length faces.now < 2 ^ 32 }
     requires ascending { IsStrictlyIncreasing faces.now }
-    ensures count { IfOk result (λ j. length j ≡ length faces.now) }
-    ensures exact { (arcs : List Path) → IsBuiltOf arcs f.now → IfOk result (AreJoinedBy f.now faces.now) }
+    ensures count { IfOk result (λ p. length p.0 ≡ length faces.now) }
+    ensures exact { (arcs : List Path) → IsBuiltOf arcs f.now → IfOk result (λ p. AreJoinedBy f.now faces.now p.0) }
+    ensures sides { (arcs : List Path) → IsBuiltOf arcs f.now → IfOk result (λ p. p.1.items ≡ sides_of f.now.places (length arcs) faces.now) }
+    ensures there { IfOk result (λ p. All (IsSide f.now (length faces.now)) p.1.items) }
 {
     let mut joining = Joining::new(alloc, faces.len() as u32)?;
+    let mut sides = Vec::new(alloc);
     for i in 0..faces.len() {
-        join_across(&mut joining, f, faces, i);
+        go_round(&mut joining, &mut sides, f, faces, i)?;
     }
-    Ok(joining)
+    Ok((joining, sides))
 }
 
-// Joins a face with those of the set across its arcs.
-fn join_across(joining: &mut Joining, f: &Faces, faces: &[FaceId], i: usize)
+// Joins a face with those of the set across its arcs; the other arcs round it are of the boundary.
+fn go_round(
+    joining: &mut Joining,
+    sides: &mut Vec<Side>,
+    f: &Faces,
+    faces: &[FaceId],
+    i: usize,
+) -> Result<(), AllocError>
     requires few { length faces.now < 2 ^ 32 }
     requires ascending { IsStrictlyIncreasing faces.now }
     requires face { i < length faces.now }
     requires count { length joining.old ≡ length faces.now }
-    ensures count { length joining.new ≡ length faces.now }
-    ensures kept { IsCoarser joining.old joining.new }
-    ensures sound { (arcs : List Path) → IsBuiltOf arcs f.now → AreSound f.now faces.now joining.old → AreSound f.now faces.now joining.new }
-    ensures around { (arcs : List Path) → IsBuiltOf arcs f.now → IsJoinedAround f.now faces.now i joining.new }
+    requires there { All (IsSide f.now (length faces.now)) sides.old.items }
+    ensures count { OnOk result (length joining.new ≡ length faces.now) }
+    ensures kept { OnOk result (IsCoarser joining.old joining.new) }
+    ensures sound { (arcs : List Path) → IsBuiltOf arcs f.now → AreSound f.now faces.now joining.old → OnOk result (AreSound f.now faces.now joining.new) }
+    ensures around { (arcs : List Path) → IsBuiltOf arcs f.now → OnOk result (IsJoinedAround f.now faces.now i joining.new) }
+    ensures sides { (arcs : List Path) → IsBuiltOf arcs f.now →
+        OnOk result (sides.new.items ≡ sides.old.items ++ map (side_at i) (outward_at f.now.places (length arcs) faces.now (slice_index faces.now i))) }
+    ensures there { OnOk result (All (IsSide f.now (length faces.now)) sides.new.items) }
 {
     let round = f.arcs_of(faces[i]);
     for arc in round {
-        join_over(joining, f, faces, i, *arc);
+        cross(joining, sides, f, faces, i, *arc)?;
     }
+    Ok(())
 }
 
-// Joins a face with that of the set across one of its arcs.
-fn join_over(joining: &mut Joining, f: &Faces, faces: &[FaceId], i: usize, arc: SignedArc)
+// Joins a face with that of the set across one of its arcs; where there is none, the arc is of the boundary.
+fn cross(
+    joining: &mut Joining,
+    sides: &mut Vec<Side>,
+    f: &Faces,
+    faces: &[FaceId],
+    i: usize,
+    arc: SignedArc,
+) -> Result<(), AllocError>
     requires few { length faces.now < 2 ^ 32 }
     requires ascending { IsStrictlyIncreasing faces.now }
     requires face { i < length faces.now }
     requires arc { HasArc f.now arc }
     requires count { length joining.old ≡ length faces.now }
+    requires there { All (IsSide f.now (length faces.now)) sides.old.items }
     ensures count { length joining.new ≡ length faces.now }
     ensures kept { IsCoarser joining.old joining.new }
     ensures sound { face_left_of f.now.places arc ≡ slice_index faces.now i → AreSound f.now faces.now joining.old → AreSound f.now faces.now joining.new }
-    ensures over { IsJoinedOver f.now faces.now i arc joining.new }
+    ensures over { OnOk result (IsJoinedOver f.now faces.now i arc joining.new) }
+    ensures sides { OnOk result (sides.new.items ≡ sides.old.items ++ map (side_at i) (filter (is_outward f.now.places faces.now) (arc ∷ []))) }
+    ensures there { OnOk result (All (IsSide f.now (length faces.now)) sides.new.items) }
 {
-    if let Some(place) = place_across(f, faces, arc) {
-        joining.join(i as u32, place);
+    match place_across(f, faces, arc) {
+        Some(place) => {
+            joining.join(i as u32, place);
+            Ok(())
+        }
+        None => Ok(sides.push(Side {
+            place: i as u32,
+            arc,
+        })?),
     }
 }
 

@@ -18,7 +18,7 @@ ghost use Rattle.face_sets.specs.Joined.{AreParts, IsRanked};
 ghost use Rattle.face_sets.specs.Sets.{IsSetOf};
 
 use crate::face_set::FaceSet;
-use crate::joined_faces::{Parts, boundary_of};
+use crate::joined_faces::Parts;
 use crate::set_list::SetList;
 use arc_table::ArcTable;
 use face_walk::Faces;
@@ -62,8 +62,7 @@ pub fn parts_of(
     if faces.len() > u32::MAX as usize {
         return Err(AllocError);
     }
-    let sides = boundary_of(alloc, f, faces)?;
-    let parts = Parts::of(alloc, f, faces, &sides)?;
+    let (parts, _) = Parts::of(alloc, f, faces)?;
     let numbered = numbered_faces(alloc, &parts, faces)?;
     sets_of(alloc, &numbered)
 }

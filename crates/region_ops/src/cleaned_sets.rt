@@ -6,7 +6,7 @@ ghost use Rattle.region_ops.specs.Filled.{IsCleanedAndFilled};
 
 use crate::filled_sets::filled_sets;
 use arc_table::ArcTable;
-use face_sets::{FaceOwners, FaceSet, SetList, gaps};
+use face_sets::{FaceOwners, FaceSet, SetList, gaps, union_of};
 use face_walk::Faces;
 use grid_base::{FaceId, OverlapRule};
 use std::alloc::{AllocError, Global};
@@ -34,7 +34,7 @@ pub fn clean_sets(
 {
     let areas = areas_of(alloc, f, old)?;
     let cleaned = without_overlaps(alloc, f, old, &areas, rule)?;
-    let shut_in = gaps(alloc, t, f, &old.union(alloc)?)?;
+    let shut_in = gaps(alloc, t, f, &union_of(alloc, old)?)?;
     filled_sets(alloc, f, &cleaned, &shut_in, &areas, rule, gap)
 }
 

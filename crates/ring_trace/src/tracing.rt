@@ -18,7 +18,7 @@ use crate::pairing::{Edge, edges_of};
 use crate::ring_keys::{RingKey, keys_of};
 use crate::simple_rings::{Rings, rings_of};
 use arc_table::{ArcTable, Polys, SignedPath, SignedPaths};
-use face_sets::{FaceSet, Parts, boundary_of};
+use face_sets::{FaceSet, Parts};
 use face_walk::Faces;
 use std::alloc::{AllocError, Global};
 
@@ -42,11 +42,10 @@ pub fn trace(alloc: Global, t: &ArcTable, f: &Faces, set: &FaceSet) -> Result<Po
     if faces.len() > u32::MAX as usize {
         return Err(AllocError);
     }
-    let sides = boundary_of(alloc, f, faces)?;
+    let (parts, sides) = Parts::of(alloc, f, faces)?;
     if sides.len() > u32::MAX as usize {
         return Err(AllocError);
     }
-    let parts = Parts::of(alloc, f, faces, &sides)?;
     let edges = edges_of(alloc, t, &parts, &sides)?;
     let rings = rings_of(alloc, t, &edges)?;
     let keys = keys_of(alloc, t, &edges, &rings)?;

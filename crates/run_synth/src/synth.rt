@@ -10,7 +10,7 @@ ghost use Rattle.synth_model.specs.Line.{line_text, named};
 ghost use Rattle.run_synth.specs.Told.{AreNumbersOf, IsLineOf, IsToldOf, filled};
 
 use crate::cells::{cells_of, count_of};
-use face_sets::{FaceSet, SetList};
+use face_sets::{FaceSet, SetList, union_of};
 use grid_base::OverlapRule;
 use itoa::Buffer;
 use region_ops::separate_sets;
@@ -70,7 +70,7 @@ fn numbers_over(
     ensures exact { IfOk result (AreNumbersOf plane.now.arcs plane.now.faces sets.now count) }
 {
     let cleaned = separate_sets(alloc, &plane.faces, sets, OverlapRule::MaxArea)?;
-    let covered = sets.union(alloc)?;
+    let covered = union_of(alloc, sets)?;
     let twice_area = covered.twice_area(&plane.faces)?;
     Ok(Numbers {
         cells: count,

@@ -8,7 +8,7 @@ use Rattle.region_ops.proofs.cleaned_sets.clean_sets.Goals as goal
 
 filled : (c : goal.After-drop-areas-2) → IfOk c.filled_sets.result (IsFilled c.args.rule c.args.gap c.args.f.now c.args.old.now c.in_ok-cleaned.cleaned)
 filled c = c.filled_sets.ensures.exact c.args.old.now
-    (subst (λ (set : List ℕ). AreGaps c.args.f.now set c.in_ok-shut_in.shut_in) c.in_ok-union.ensures.exact c.in_ok-shut_in.ensures.exact)
+    (subst (λ (set : List ℕ). AreGaps c.args.f.now set c.in_ok-shut_in.shut_in) c.in_ok-union_of.ensures.exact c.in_ok-shut_in.ensures.exact)
     (c.deref-2.ensures.value ∙ c.in_ok-areas.ensures.exact) c.args.t.now c.requires.built
 
 pub returns-clause-exact : goal.returns-clause-exact
