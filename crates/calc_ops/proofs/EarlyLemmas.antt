@@ -1,20 +1,38 @@
 -- One more key after others, and the counts of keys up to a number.
-use Rattle.std.proofs.Common.{◌≡◌, inl, inr, refl, sym, ap, ◌∙◌, arith, cond, ℕ, ◌+◌, Bool, true, false, nat_lt, List, [], ◌∷◌, ◌++◌, append-nil, append_assoc}
+use Rattle.std.proofs.Common.{◌≡◌, ◌<◌, All, inl, inr, refl, sym, ap, subst, ◌∙◌, arith, cond, ℕ, suc, ◌+◌, length, Bool, true, false, nat_lt, List, [], ◌∷◌, ◌++◌, append-nil, append_assoc}
 use Rattle.std.specs.Prelude.{count_by, min, unwrap_or, ◌&&◌, Option, Some}
 use Rattle.std.proofs.lemmas.Bool.{cases_lt, lt-ltb, le-ltb, and_right}
 use Rattle.std.proofs.lemmas.List.Sums.{sum_by_push}
+use Rattle.lists.specs.Lists.{numbers_where}
 use Rattle.json_values.specs.Value.{same}
 use Rattle.json_values.specs.declared.value.Value.{Value}
 use Rattle.table_rows.specs.Same.{same_decides}
-use Rattle.calc_ops.specs.EarlyRows.{early_after, same_equivalent}
+use Rattle.table_rows.proofs.Numbers.{numbers_where-below, numbers_where-push}
+use Rattle.calc_ops.specs.EarlyRows.{are_early, early_after, same_equivalent}
 
-pub early_push : (most : ℕ) (before keys : List Value) (key : Value)
+early_push : (most : ℕ) (before keys : List Value) (key : Value)
     → early_after most before (keys ++ key ∷ []) ≡ early_after most before keys ++ nat_lt (count_by (same key) (before ++ keys)) most ∷ []
 early_push most before [] key = ap (λ (vs : List Value). nat_lt (count_by (same key) vs) most ∷ []) (sym (append-nil before))
 early_push most before (k ∷ keys) key =
     ap (λ (bs : List Bool). nat_lt (count_by (same k) before) most ∷ bs)
     (early_push most (before ++ k ∷ []) keys key
     ∙ ap (λ (vs : List Value). early_after most (before ++ k ∷ []) keys ++ nat_lt (count_by (same key) vs) most ∷ []) (append_assoc before (k ∷ []) keys))
+
+early_long : (most : ℕ) (before keys : List Value) → length (early_after most before keys) ≡ length keys
+early_long most before [] = refl
+early_long most before (key ∷ keys) = ap suc (early_long most (before ++ key ∷ []) keys)
+
+pub early_below : (kept : Bool → Bool) (most : ℕ) (keys : List Value) → All (λ k. k < length keys) (numbers_where kept (are_early most keys))
+early_below kept most keys =
+    subst (λ (n : ℕ). All (λ k. k < n) (numbers_where kept (are_early most keys))) (early_long most [] keys) (numbers_where-below kept (are_early most keys))
+
+-- the numbers of the keys with one more, of which the last one is numbered by how many stand before it
+pub one_more : (kept : Bool → Bool) (most : ℕ) (keys : List Value) (key : Value)
+    → numbers_where kept (are_early most keys) ++ cond (kept (nat_lt (count_by (same key) keys) most)) (length keys ∷ []) [] ≡ numbers_where kept (are_early most (keys ++ key ∷ []))
+one_more kept most keys key =
+    let early : Bool = nat_lt (count_by (same key) keys) most in
+    ap (λ (n : ℕ). numbers_where kept (are_early most keys) ++ cond (kept early) (n ∷ []) []) (sym (early_long most [] keys))
+    ∙ sym (numbers_where-push kept (are_early most keys) early) ∙ ap (numbers_where kept) (sym (early_push most [] keys key))
 
 -- a number that is counted up to `most`
 pub early_is : (n most : ℕ) → nat_lt (min n most) most ≡ nat_lt n most

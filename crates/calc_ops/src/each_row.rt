@@ -30,7 +30,7 @@ pub fn each_rows(alloc: Global, t: &Table, a: &AssignList) -> Result<Table, Tabl
     Ok(Table::new(targets.names, rows))
 }
 
-/// Where assignments put their values.
+// Where assignments put their values.
 #[derive(Drop)]
 struct Targets {
     /// The names of the columns after all of them.
@@ -53,7 +53,7 @@ fn targets_of(alloc: Global, names: &NameList, a: &AssignList) -> Result<Targets
     Ok(targets)
 }
 
-/// Adds the targets of all assignments to the names of the columns.
+// Adds the targets of all assignments to the names of the columns.
 fn add_targets(
     alloc: Global,
     names: &NameList,
@@ -74,7 +74,7 @@ fn add_targets(
     Ok(())
 }
 
-/// Adds the place of a name, which goes last where it is new.
+// Adds the place of a name, which goes last where it is new.
 fn add_target(
     alloc: Global,
     known: &mut NameSet,
@@ -133,7 +133,7 @@ fn assigned_row(
         let value = value_for_row(alloc, targets.names.as_slice(), &values, n, &items[i].value)?;
         set_at(&mut values, targets.places[i], value)?;
     }
-    Ok(row_of(alloc, values)?)
+    Ok(Row::from_vec(values)?)
 }
 
 fn values_of(alloc: Global, row: &[Value]) -> Result<Vec<Value>, AllocError>
@@ -146,7 +146,7 @@ fn values_of(alloc: Global, row: &[Value]) -> Result<Vec<Value>, AllocError>
     Ok(values)
 }
 
-/// Replaces the value at a place, or appends the value where there is no such place.
+// Replaces the value at a place, or appends the value where there is no such place.
 fn set_at(values: &mut Vec<Value>, place: u32, value: Value) -> Result<(), AllocError>
     ensures set { OnOk result (values.new.items ≡ with_value values.old.items place value) }
 {
@@ -157,14 +157,4 @@ fn set_at(values: &mut Vec<Value>, place: u32, value: Value) -> Result<(), Alloc
     }
     values.push(value)?;
     Ok(())
-}
-
-fn row_of(alloc: Global, values: Vec<Value>) -> Result<Row, AllocError>
-    ensures same { IfOk result (λ row. row ≡ values.items) }
-{
-    let mut row = Row::new(alloc);
-    for value in values {
-        row.push(value)?;
-    }
-    Ok(row)
 }

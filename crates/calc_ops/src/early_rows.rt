@@ -1,4 +1,4 @@
-ghost use Rattle.std.specs.Prelude.{◌≡◌, ◌<◌, ◌+◌, ◌++◌, ◌∷◌, [], All, IfOk, OnOk, if◌then◌else◌, length, nat_lt, ◌&&◌};
+ghost use Rattle.std.specs.Prelude.{◌≡◌, ◌<◌, ◌+◌, ◌^◌, All, IfOk, if◌then◌else◌, length, nat_lt, not, ◌&&◌};
 ghost use Rattle.std.specs.Bool.{beq};
 ghost use Rattle.lists.specs.Lists.{numbers_where};
 ghost use Rattle.expr_lang.specs.Tree.{tree_of};
@@ -14,7 +14,6 @@ use grid_base::IdList;
 use indexmap::IndexMap;
 use json_values::{Table, Value};
 use std::alloc::{AllocError, Global};
-use table_ops::numbers_of;
 use table_rows::TableFault;
 
 /// The numbers of the rows for which fewer than `most` rows before them have the same key, or with `invert` those of
@@ -34,25 +33,33 @@ pub fn uniq_rows(
     ensures within { IfOk result (λ rows. All (λ n. n < length t.now.rows) rows) }
 {
     let keys = keys_of(alloc, t, key)?;
-    let early = are_early(alloc, keys, most)?;
-    Ok(numbers_of(alloc, &early, !invert)?)
+    Ok(rows_by_count(alloc, keys, most, invert)?)
 }
 
-/// For each key whether fewer than `most` keys before it are the same.
-fn are_early(alloc: Global, keys: Vec<Value>, most: u32) -> Result<Vec<bool>, AllocError>
-    ensures exact { IfOk result (λ early. early.items ≡ are_early most keys.items) }
-    ensures each { IfOk result (λ early. length early.items ≡ length keys.items) }
+// The numbers of the keys before which fewer than `most` are the same, or with `invert` of the others.
+fn rows_by_count(
+    alloc: Global,
+    keys: Vec<Value>,
+    most: u32,
+    invert: bool,
+) -> Result<IdList, AllocError>
+    requires few { length keys.items < 2 ^ 32 }
+    ensures exact { IfOk result (λ rows. rows ≡ numbers_where (beq (not invert)) (are_early most keys.items)) }
+    ensures within { IfOk result (λ rows. All (λ n. n < length keys.items) rows) }
 {
     let mut counts = IndexMap::new(alloc);
-    let mut early = Vec::new(alloc);
+    let mut rows = IdList::new(alloc);
+    let mut n = 0;
     for key in keys {
-        let is_early = counts_key(&mut counts, RowKey::of(key), most)?;
-        early.push(is_early)?;
+        if counts_key(&mut counts, RowKey::of(key), most)? != invert {
+            rows.push(n)?;
+        }
+        n += 1;
     }
-    Ok(early)
+    Ok(rows)
 }
 
-/// Counts a key, up to `most`, and tells whether that number was not reached yet.
+// Counts a key, up to `most`, and tells whether that number was not reached yet.
 fn counts_key(
     counts: &mut IndexMap<RowKey, u32>,
     key: RowKey,

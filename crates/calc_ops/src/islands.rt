@@ -13,7 +13,7 @@ use face_walk::Faces;
 use grid_base::{FaceId, SignedArc};
 use std::alloc::{AllocError, Global};
 
-/// Below which size a detached part is an island.
+// Below which size a detached part is an island.
 #[derive(Clone, Copy)]
 struct Least {
     /// Twice an area, in squares of the grid.
@@ -87,7 +87,7 @@ fn append_unless(faces: &mut Vec<FaceId>, more: &[FaceId], drops: bool) -> Resul
     Ok(())
 }
 
-/// Whether a part of a set is detached and small.
+// Whether a part of a set is detached and small.
 fn is_island(
     alloc: Global,
     t: &ArcTable,
@@ -108,7 +108,7 @@ fn is_island(
     is_small(t, f, piece, &around, least)
 }
 
-/// The boundary of a part, face by face.
+// The boundary of a part, face by face.
 fn border_of(alloc: Global, f: &Faces, piece: &FaceSet) -> Result<Vec<SignedArc>, AllocError>
     ensures exact { (arcs : List Path) → IsBuiltOf arcs f.now → IfOk result (λ around. around.items ≡ border arcs f.now piece.now) }
     ensures there { IfOk result (λ around. All (HasArc f.now) around.items) }
@@ -121,7 +121,7 @@ fn border_of(alloc: Global, f: &Faces, piece: &FaceSet) -> Result<Vec<SignedArc>
     Ok(around)
 }
 
-/// Adds the arcs round one face across which no face of the part lies.
+// Adds the arcs round one face across which no face of the part lies.
 fn push_border(
     around: &mut Vec<SignedArc>,
     f: &Faces,
@@ -148,7 +148,7 @@ fn push_if(around: &mut Vec<SignedArc>, arc: SignedArc, is_pushed: bool) -> Resu
     Ok(())
 }
 
-/// Whether no face of the part is on the right of a signed arc.
+// Whether no face of the part is on the right of a signed arc.
 fn leads_out(f: &Faces, piece: &FaceSet, arc: SignedArc) -> bool
     requires arc { HasArc f.now arc }
     ensures exact { result ≡ is_outward f.now.places piece.now arc }
@@ -156,7 +156,7 @@ fn leads_out(f: &Faces, piece: &FaceSet, arc: SignedArc) -> bool
     !piece.has(f.left_of(arc.flip()))
 }
 
-/// Whether a set alone has the inner side of a boundary, and no set the outer side.
+// Whether a set alone has the inner side of a boundary, and no set the outer side.
 fn is_detached(f: &Faces, owners: &FaceOwners, n: u32, around: &[SignedArc]) -> bool
     requires there { All (HasArc f.now) around.now }
     ensures exact { (sets : List (List ℕ)) → AreOwners sets f.now.count owners.now → result ≡ is_detached f.now sets n around.now }
@@ -169,7 +169,7 @@ fn is_detached(f: &Faces, owners: &FaceOwners, n: u32, around: &[SignedArc]) -> 
     true
 }
 
-/// Whether a set alone has the left side of a signed arc, and none the right side.
+// Whether a set alone has the left side of a signed arc, and none the right side.
 fn stands_alone(f: &Faces, owners: &FaceOwners, n: u32, arc: SignedArc) -> bool
     requires arc { HasArc f.now arc }
     ensures exact { (sets : List (List ℕ)) → AreOwners sets f.now.count owners.now → result ≡ stands_alone f.now sets n arc }
@@ -185,7 +185,7 @@ fn are_alone(left: &[u32], right: &[u32], n: u32) -> bool
     is_only(left, n) && is_none(right)
 }
 
-/// The sets that have the left side of a signed arc.
+// The sets that have the left side of a signed arc.
 fn sets_left_of<'a>(f: &Faces, owners: &'a FaceOwners, arc: SignedArc) -> &'a [u32]
     requires arc { HasArc f.now arc }
     ensures exact { (sets : List (List ℕ)) → AreOwners sets f.now.count owners.now → result.now ≡ owners_of sets (face_left_of f.now.places arc) }
@@ -211,7 +211,7 @@ fn is_none(numbers: &[u32]) -> bool
     }
 }
 
-/// Whether a part has less than an area, or its boundary fewer than a number of links.
+// Whether a part has less than an area, or its boundary fewer than a number of links.
 fn is_small(
     t: &ArcTable,
     f: &Faces,
@@ -249,7 +249,7 @@ fn links_of(t: &ArcTable, around: &[SignedArc]) -> Result<u64, AllocError>
     Ok(links)
 }
 
-/// A number of links, with those of an arc of `points` points added.
+// A number of links, with those of an arc of `points` points added.
 fn with_links(links: u64, points: usize) -> Result<u64, AllocError>
     requires some { 1 < points }
     ensures exact { IfOk result (λ more. more ≡ links + (points - 1)) }

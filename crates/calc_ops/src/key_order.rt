@@ -17,7 +17,7 @@ pub(crate) fn key_order(descending: bool, v: &Value, w: &Value) -> Ordering
     }
 }
 
-/// The ascending order of two keys that are not null.
+// The ascending order of two keys that are not null.
 fn value_order(v: &Value, w: &Value) -> Ordering
     ensures exact { result ≡ order_of_values v.now w.now }
 {
@@ -29,7 +29,7 @@ fn value_order(v: &Value, w: &Value) -> Ordering
     }
 }
 
-/// Where keys of this type stand among those of others.
+// Where keys of this type stand among those of others.
 fn type_place(v: &Value) -> u8
     ensures exact { result ≡ place_of_type v.now }
 {

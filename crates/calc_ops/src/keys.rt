@@ -1,4 +1,4 @@
-ghost use Rattle.std.specs.Prelude.{◌≡◌, ◌++◌, ◌∷◌, [], IfOk, OnOk, length};
+ghost use Rattle.std.specs.Prelude.{◌≡◌, ◌<◌, ◌^◌, ◌++◌, ◌∷◌, [], IfOk, OnOk, length};
 ghost use Rattle.expr_lang.specs.Tree.{tree_of};
 ghost use Rattle.table_rows.specs.Refusals.{AnswersAs};
 ghost use Rattle.calc_ops.specs.Keys.{keys_of};
@@ -15,6 +15,7 @@ use table_rows::TableFault;
 pub(crate) fn keys_of(alloc: Global, t: &Table, e: &Expr) -> Result<Vec<Value>, TableFault>
     ensures exact { AnswersAs (λ v. v.items) result (keys_of t.now (tree_of e.now)) }
     ensures each { IfOk result (λ keys. length keys.items ≡ length t.now.rows) }
+    ensures few { IfOk result (λ keys. length keys.items < 2 ^ 32) }
 {
     let rows = t.rows();
     let mut keys = Vec::new(alloc);

@@ -34,10 +34,10 @@ pub fn sort_rows(
 {
     let keys = keys_of(alloc, t, key)?;
     let numbers = numbers_by_key(alloc, &keys, t.row_count(), descending)?;
-    Ok(IdList::of(alloc, &numbers)?)
+    Ok(IdList::from_vec(numbers)?)
 }
 
-/// The numbers of the keys, `count` of them, in the order of the keys.
+// The numbers of the keys, `count` of them, in the order of the keys.
 fn numbers_by_key(
     alloc: Global,
     keys: &[Value],
@@ -64,7 +64,7 @@ fn numbers_below(alloc: Global, count: u32) -> Result<Vec<u32>, AllocError>
     Ok(numbers)
 }
 
-/// The order of two rows: that of their keys, and where these are equal that of their numbers.
+// The order of two rows: that of their keys, and where these are equal that of their numbers.
 fn row_order(descending: bool, keys: &[Value], m: u32, n: u32) -> Ordering
     ensures exact { result ≡ order_of_rows descending keys.now m n }
 {
@@ -72,7 +72,7 @@ fn row_order(descending: bool, keys: &[Value], m: u32, n: u32) -> Ordering
     key_order(descending, key_at(keys, m, &null), key_at(keys, n, &null)).then(m.cmp(&n))
 }
 
-/// The key of a row, or null where there is no such row.
+// The key of a row, or null where there is no such row.
 fn key_at<'a>(keys: &'a [Value], n: u32, null: &'a Value) -> &'a Value
     requires null { null.now ≡ is.Null }
     ensures exact { result.now ≡ key_of_row keys.now n }

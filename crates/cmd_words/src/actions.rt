@@ -1,4 +1,4 @@
-ghost use Rattle.std.specs.Prelude.{◌≡◌, ◌+◌, false, IfOk, option_map, unwrap_or, is_some, [], List, ℕ, length};
+ghost use Rattle.std.specs.Prelude.{◌≡◌, ◌+◌, true, false, IfOk, option_map, unwrap_or, is_some, [], List, ℕ, length};
 ghost use Rattle.std.specs.Option.{option_copied};
 ghost use Rattle.cmd_words.specs.Texts.{pieces as piece_list};
 ghost use Rattle.cmd_words.specs.Chains.{list_or_empty, target_of, argument_text, key_at, group_spec, join_spec, calc_spec, out_form, rule_from, origin_of, write_of, dissolve_of, clean_of, filter_islands_of, layer_action_of, join_of, calculated_action_of, joint_action_of, action_of, layer_lacks_argument, calculated_lacks_argument, lacks_argument, lacks_form, takes_source};
@@ -26,7 +26,8 @@ pub(crate) fn action(
     keyword: Keyword,
     group: &mut Group,
 ) -> Result<ActionWords, AllocError>
-    requires { lacks_argument keyword group.old ≡ false }
+    requires argument { lacks_argument keyword group.old ≡ false }
+    requires form { lacks_form keyword group.old ≡ false }
     ensures exact { IfOk result (λ a. a ≡ action_of places sources boxes keyword group.old) }
 {
     Ok(match keyword {
@@ -42,13 +43,17 @@ pub(crate) fn action(
 }
 
 fn write(alloc: Global, group: &Group) -> Result<Action, AllocError>
+    requires form { is_some (out_form group.now) ≡ true }
     ensures exact { IfOk result (λ a. a ≡ write_of group.now) }
 {
+    let Some(form) = out_form(group) else {
+        unreachable!()
+    };
     let name = argument_text(group);
     Ok(Action::Write {
         to: Text::of(alloc, name)?,
         standard: is_standard(name),
-        form: out_form(group).unwrap_or(OutForm::Geo),
+        form,
     })
 }
 
@@ -126,7 +131,7 @@ fn calculated_action(
     keyword: ExpressionKeyword,
     group: &mut Group,
 ) -> Result<ActionWords, AllocError>
-    requires { calculated_lacks_argument keyword group.old ≡ false }
+    requires argument { calculated_lacks_argument keyword group.old ≡ false }
     ensures exact { IfOk result (λ a. a ≡ calculated_action_of sources boxes keyword group.old) }
 {
     Ok(match keyword {

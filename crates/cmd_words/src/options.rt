@@ -93,7 +93,7 @@ fn take_value(
 {
     match form {
         ValueForm::Text | ValueForm::List => Ok(()),
-        ValueForm::Keys => accepted_if(is_pair(alloc, value)?, WordWhy::BadChoice),
+        ValueForm::Keys => accepted_if(is_pair(value), WordWhy::BadChoice),
         ValueForm::Precision => accepted_if(places_of(value).is_some(), WordWhy::BadPrecision),
         ValueForm::Rule => accepted_if(rule_of(value).is_some(), WordWhy::BadChoice),
         ValueForm::Format => accepted_if(form_named(value).is_some(), WordWhy::BadChoice),

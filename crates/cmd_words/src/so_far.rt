@@ -1,7 +1,7 @@
 ghost use Rattle.std.specs.Prelude.{◌≡◌, ◌+◌, ◌++◌, ◌∷◌, [], IfOk, OnOk, false, length};
 ghost use Rattle.std.specs.Option.{option_to_list};
 ghost use Rattle.cmd_words.specs.ActionWords.{FitEach};
-ghost use Rattle.cmd_words.specs.Chains.{command_words, lacks_argument, source_of, with_command};
+ghost use Rattle.cmd_words.specs.Chains.{command_words, lacks_argument, lacks_form, source_of, with_command};
 ghost use Rattle.cmd_words.specs.Words.{imported};
 
 use crate::action_words::{CommandWords, whole_command};
@@ -67,7 +67,8 @@ impl SoFar {
         keyword: Keyword,
         group: &mut Group,
     ) -> Result<(), AllocError>
-        requires { lacks_argument keyword group.old ≡ false }
+        requires argument { lacks_argument keyword group.old ≡ false }
+        requires form { lacks_form keyword group.old ≡ false }
         ensures ok { OnOk result (self.new ≡ with_command places self.old keyword group.old) }
     {
         let (sources, boxes) = (self.sources.len(), self.boxes.len());
@@ -157,7 +158,8 @@ fn command_words(
     keyword: Keyword,
     group: &mut Group,
 ) -> Result<CommandWords, AllocError>
-    requires { lacks_argument keyword group.old ≡ false }
+    requires argument { lacks_argument keyword group.old ≡ false }
+    requires form { lacks_form keyword group.old ≡ false }
     ensures exact { IfOk result (λ w. w ≡ command_words places sources boxes keyword group.old) }
 {
     Ok(CommandWords {

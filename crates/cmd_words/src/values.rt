@@ -1,4 +1,4 @@
-ghost use Rattle.std.specs.Prelude.{◌≡◌, IfOk, Some};
+ghost use Rattle.std.specs.Prelude.{◌≡◌, Some};
 ghost use Rattle.cmd_words.specs.Values.{rule_of, form_named, is_pair, renamed, renames_of};
 ghost use Rattle.cmd_words.specs.Texts.{at_first_equals};
 ghost use Rattle.cmd_words.specs.Steps.{Gives};
@@ -7,7 +7,7 @@ use crate::fault::{Refusal, WordWhy};
 use crate::texts::{at_first_equals, pieces};
 use grid_base::OverlapRule;
 use job_terms::OutForm;
-use std::alloc::{AllocError, Global};
+use std::alloc::Global;
 use table_terms::{Rename, RenameList};
 use text_core::Text;
 
@@ -35,10 +35,13 @@ pub(crate) fn form_named(value: &str) -> Option<OutForm>
 }
 
 /// Whether the value is a list of two names.
-pub(crate) fn is_pair(alloc: Global, value: &str) -> Result<bool, AllocError>
-    ensures exact { IfOk result (λ b. b ≡ is_pair value.now) }
+pub(crate) fn is_pair(value: &str) -> bool
+    ensures exact { result ≡ is_pair value.now }
 {
-    Ok(pieces(alloc, value)?.len() == 2)
+    match value.split_once(',') {
+        Some((_, rest)) => rest.split_once(',').is_none(),
+        None => false,
+    }
 }
 
 /// A list of renames, each a new name, `=` and the old one.

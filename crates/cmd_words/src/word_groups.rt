@@ -108,12 +108,13 @@ impl Group {
         !self.arguments.is_empty()
     }
 
-    /// The number of the word of the first argument, or 0.
+    /// The number of the word of the first argument, which there is.
     pub(crate) fn first_number(&self) -> u32
+        requires some { is_some (argument_in self.now) ≡ true }
         ensures exact { result ≡ first_number self.now }
     {
         match self.arguments.as_slice() {
-            [] => 0,
+            [] => unreachable!(),
             [first, ..] => first.number,
         }
     }

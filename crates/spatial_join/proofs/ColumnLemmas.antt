@@ -24,7 +24,8 @@ use Rattle.table_rows.specs.declared.fault.TableWhy.TheVariants.{NoField, FieldT
 use Rattle.table_ops.specs.declared.join_columns.Column.{Column}
 use Rattle.table_ops.proofs.Joining.{as_many_names as as_many_copied, joined_names_differ as copied_differ, or_first, or_second, values_joined}
 use Rattle.spatial_join.specs.CalcColumns.{summed_place, calculated_at, row_by_places, rows_by_places}
-use Rattle.spatial_join.specs.Joined.{as_join, calc_name, new_names, joined_names, lacks_field, refused_calc, each_ok, calculated, first_row, calc_row, matching, calc_rows, joined_table, join_matched, refused_items}
+use Rattle.table_rows.specs.Rows.{first_row}
+use Rattle.spatial_join.specs.Joined.{as_join, calc_name, new_names, joined_names, lacks_field, refused_calc, each_ok, calculated, calc_row, matching, calc_rows, joined_table, join_matched, refused_items}
 use Rattle.spatial_join.proofs.JoinLemmas.{answered, each_long, each_of_map, rows_long, sums_long, zip_long}
 
 -- ---- values

@@ -11,7 +11,8 @@ use Rattle.table_rows.specs.Grouping.{column_sum}
 use Rattle.table_ops.specs.JoinColumns.{column_value}
 use Rattle.table_ops.specs.declared.join_columns.Column.{Column}
 use Rattle.table_rows.specs.declared.fault.TableWhy.{TableWhy}
-use Rattle.spatial_join.specs.Joined.{each_ok, first_row, matching}
+use Rattle.table_rows.specs.Rows.{first_row}
+use Rattle.spatial_join.specs.Joined.{each_ok, matching}
 
 -- ---- calculated columns
 

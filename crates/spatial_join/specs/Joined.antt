@@ -15,7 +15,7 @@ use Rattle.join_terms.specs.declared.joins.JoinSpec.{JoinSpec}
 use Rattle.table_rows.specs.Grouping.{column_sum}
 use Rattle.table_ops.specs.Join.{candidates, copied_name, joined_row, new_fields}
 use Rattle.table_rows.specs.Refusals.{refused_item}
-use Rattle.table_rows.specs.Rows.{row_at}
+use Rattle.table_rows.specs.Rows.{first_row}
 use Rattle.table_rows.specs.declared.fault.TableWhy.{TableWhy}
 use Rattle.table_rows.specs.declared.fault.TableWhy.TheVariants.{NoField, FieldTwice}
 
@@ -75,10 +75,6 @@ each_ok f (x ∷ xs) = on_ok (f x) (λ y. on_ok (each_ok f xs) (λ ys. Ok (y ∷
 abbrev pub calculated : TableContent → List ℕ → Calc → Result ℤ TableWhy
 calculated source matched (Count name) = Ok (of_grid (pos (length matched)) 0)
 calculated source matched (Sum name field) = column_sum source.rows (place_of source.names field) (pos 0) matched
-
-abbrev pub first_row : List RowValues → List ℕ → Option RowValues
-first_row rows [] = None
-first_row rows (n ∷ ns) = Some (row_at rows n)
 
 -- a row of the target with the fields of the first of its matches, and what is calculated of all of them
 abbrev pub calc_row : TableContent → TableContent → CalcSpec → RowValues → List ℕ → Result RowValues TableWhy

@@ -1,13 +1,12 @@
 ghost use Rattle.std.specs.Prelude.{◌≡◌, ◌<◌, All, IfOk, length, map, nat_eq};
 ghost use Rattle.std.specs.List.{zip};
 ghost use Rattle.std.specs.List.Sorted.{IsStrictlyIncreasing};
-ghost use Rattle.std.specs.Option.{option_copied};
 ghost use Rattle.lists.specs.Lists.{has};
 ghost use Rattle.table_terms.specs.Refusals.{on_ok};
 ghost use Rattle.table_rows.specs.Refusals.{Answers};
 ghost use Rattle.table_ops.specs.Join.{candidates};
 ghost use Rattle.spatial_join.specs.CalcColumns.{row_by_places, rows_by_places, summed_place};
-ghost use Rattle.spatial_join.specs.Joined.{first_row, join_matched, matching};
+ghost use Rattle.spatial_join.specs.Joined.{join_matched, matching};
 
 use crate::calc_columns::joined_columns;
 use crate::calculations::{summed_places, with_sums};
@@ -16,7 +15,7 @@ use join_terms::CalcSpec;
 use json_values::{Row, RowList, Table};
 use std::alloc::{AllocError, Global};
 use table_ops::{Column, candidates, copied_row};
-use table_rows::TableFault;
+use table_rows::{TableFault, first_row};
 use table_terms::NameSet;
 
 /// Fields of the source go to the rows of the target: to each from the first source row that matches it, and after them
@@ -163,7 +162,7 @@ fn matching(alloc: Global, remaining: &[u32], matched: &[u32]) -> Result<IdList,
 }
 
 fn is_listed(numbers: &[u32], n: u32) -> bool
-    requires { IsStrictlyIncreasing numbers.now }
+    requires ascending { IsStrictlyIncreasing numbers.now }
     ensures exact { result ≡ has nat_eq numbers.now n }
 {
     match numbers.binary_search(&n) {
@@ -186,12 +185,4 @@ fn joined_row(
 {
     let cells = copied_row(alloc, row, first_row(source, matched), columns)?;
     with_sums(cells, source, matched, sums)
-}
-
-// The row with the first of these numbers.
-fn first_row<'a>(rows: &'a RowList, numbers: &IdList) -> Option<&'a Row>
-    requires within { All (λ n. n < length rows.now) numbers.now }
-    ensures first { option_copied result ≡ first_row rows.now numbers.now }
-{
-    rows.get(*numbers.get(0)?)
 }

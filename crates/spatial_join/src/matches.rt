@@ -74,7 +74,7 @@ fn sets_at(
     let mut found = found_at(alloc, t, f, owners, points)?;
     found.sort_unstable();
     found.dedup();
-    IdList::of(alloc, &found)
+    IdList::from_vec(found)
 }
 
 // The numbers of the sets that have a face beside some of these points, for each such face.
@@ -104,12 +104,12 @@ fn turned_round(alloc: Global, lists: &GroupList, count: u32) -> Result<GroupLis
     for n in 0..lists.len() {
         add_number(&mut places, lists.as_slice()[n as usize].as_slice(), n)?;
     }
-    group_list(alloc, &places)
+    group_list(alloc, places)
 }
 
 // Puts a number to the lists at each of some places.
 fn add_number(lists: &mut Vec<Vec<u32>>, places: &[u32], n: u32) -> Result<(), AllocError>
-    requires { IsStrictlyIncreasing places.now }
+    requires ascending { IsStrictlyIncreasing places.now }
     ensures ok { OnOk result (IsNumbered n places.now (map (λ list. list.items) lists.old.items) (map (λ list. list.items) lists.new.items)) }
 {
     for place in places {
@@ -118,12 +118,12 @@ fn add_number(lists: &mut Vec<Vec<u32>>, places: &[u32], n: u32) -> Result<(), A
     Ok(())
 }
 
-fn group_list(alloc: Global, lists: &[Vec<u32>]) -> Result<GroupList, AllocError>
-    ensures same { IfOk result (λ g. g ≡ map (λ list. list.items) lists.now) }
+fn group_list(alloc: Global, lists: Vec<Vec<u32>>) -> Result<GroupList, AllocError>
+    ensures same { IfOk result (λ g. g ≡ map (λ list. list.items) lists.items) }
 {
     let mut groups = GroupList::new(alloc);
     for list in lists {
-        groups.push(IdList::of(alloc, list)?)?;
+        groups.push(IdList::from_vec(list)?)?;
     }
     Ok(groups)
 }

@@ -1,16 +1,14 @@
-ghost use Rattle.std.specs.Prelude.{◌≡◌, ◌<◌, ◌++◌, ◌∷◌, [], All, Err, IfOk, OnOk, length, if◌then◌else◌, not, vec_items};
-ghost use Rattle.std.specs.Bool.{beq};
-ghost use Rattle.lists.specs.Lists.{numbers_where};
+ghost use Rattle.std.specs.Prelude.{◌≡◌, ◌<◌, All, Err, IfOk, length, not};
 ghost use Rattle.expr_lang.specs.Meaning.{Evaluated, FaultIs, evaluated};
 ghost use Rattle.expr_lang.specs.Tree.{tree_of};
 ghost use Rattle.json_values.specs.declared.value.Value as cell;
-ghost use Rattle.table_ops.specs.Filtering.{filter_rows, says, tests_of, truth_for, value_for};
-ghost use Rattle.table_rows.specs.Refusals.{Answers, AnswersAs};
+ghost use Rattle.table_ops.specs.Filtering.{filter_rows, says, truth_for, value_for};
+ghost use Rattle.table_rows.specs.Refusals.{Answers};
 
 use expr_lang::{EvalFault, Expr, eval_values};
 use grid_base::IdList;
 use json_values::{Row, Table, Value};
-use std::alloc::{AllocError, Global};
+use std::alloc::Global;
 use table_rows::{EvalWhy, TableFault, TableWhy, row_of};
 use text_core::{NameList, Text};
 
@@ -22,32 +20,17 @@ pub fn filter_rows(alloc: Global, t: &Table, e: &Expr, invert: bool) -> Result<I
     ensures exact { Answers result (filter_rows t.now (tree_of e.now) (not invert)) }
     ensures within { IfOk result (λ kept. All (λ n. n < length t.now.rows) kept) }
 {
-    let tests = tests_of(alloc, t, e)?;
-    Ok(numbers_of(alloc, tests.as_slice(), !invert)?)
-}
-
-/// What the expression says of each row.
-pub(crate) fn tests_of(alloc: Global, t: &Table, e: &Expr) -> Result<Vec<bool>, TableFault>
-    ensures exact { AnswersAs vec_items result (tests_of t.now (tree_of e.now)) }
-    ensures each { IfOk result (λ tests. length tests.items ≡ length t.now.rows) }
-{
     let rows = t.rows();
-    let mut tests = Vec::new(alloc);
+    let mut kept = IdList::new(alloc);
     for n in 0..rows.len() {
-        let test = test_of(alloc, t.names(), row_of(rows, n), n, e)?;
-        append(&mut tests, test)?;
+        if test_of(alloc, t.names(), row_of(rows, n), n, e)? != invert {
+            kept.push(n)?;
+        }
     }
-    Ok(tests)
+    Ok(kept)
 }
 
-fn append(tests: &mut Vec<bool>, test: bool) -> Result<(), AllocError>
-    ensures last { OnOk result (tests.new.items ≡ tests.old.items ++ test ∷ []) }
-{
-    tests.push(test)?;
-    Ok(())
-}
-
-/// What the expression says of the row with this number.
+// What the expression says of the row with this number.
 fn test_of(alloc: Global, names: &NameList, row: &Row, n: u32, e: &Expr) -> Result<bool, TableFault>
     ensures exact { Answers result (says n (evaluated names.now row.now n (tree_of e.now))) }
 {
@@ -98,29 +81,4 @@ fn refusal(fault: EvalFault, row: u32) -> TableFault
     TableFault::Bad {
         why: TableWhy::Eval { row, at, why },
     }
-}
-
-/// The places of the tests with this answer, counted from 0, ascending.
-#[tactic(auto, using(table_rows::proofs::Numbers::numbers_where_more))]
-pub fn numbers_of(alloc: Global, tests: &[bool], wanted: bool) -> Result<IdList, AllocError>
-    ensures exact { IfOk result (λ numbers. numbers ≡ numbers_where (beq wanted) tests.now) }
-    ensures within { IfOk result (λ numbers. All (λ n. n < length tests.now) numbers) }
-{
-    let mut numbers = IdList::new(alloc);
-    for i in 0..tests.len() {
-        note_number(&mut numbers, i, wanted == tests[i])?;
-    }
-    Ok(numbers)
-}
-
-fn note_number(numbers: &mut IdList, i: usize, noted: bool) -> Result<(), AllocError>
-    ensures noted { OnOk result (numbers.new ≡ numbers.old ++ (if noted then i ∷ [] else [])) }
-{
-    if !noted {
-        return Ok(());
-    }
-    let Ok(number) = u32::try_from(i) else {
-        return Err(AllocError);
-    };
-    numbers.push(number)
 }

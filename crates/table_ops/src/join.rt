@@ -50,7 +50,7 @@ pub fn join_tables(
     tested_join(alloc, target, &targets, source, &sources, spec)
 }
 
-/// The joined table, once the keys and the listed fields are tested.
+// The joined table, once the keys and the listed fields are tested.
 fn tested_join(
     alloc: Global,
     target: &Table,
@@ -77,7 +77,7 @@ fn tested_join(
     )?)
 }
 
-/// Tests the two keys, items 0 and 1, and the listed fields, which are counted from 2.
+// Tests the two keys, items 0 and 1, and the listed fields, which are counted from 2.
 fn check_join(
     alloc: Global,
     targets: &NameSet,
@@ -142,7 +142,7 @@ fn all_numbers(alloc: Global, rows: &RowList) -> Result<IdList, AllocError>
     Ok(numbers)
 }
 
-/// The target with the copied fields, of the first of these source rows with the same key.
+// The target with the copied fields, of the first of these source rows with the same key.
 fn joined_table(
     alloc: Global,
     target: &Table,
@@ -178,8 +178,8 @@ fn joined_table(
     Ok(Table::new(columns.names, rows))
 }
 
-/// The rows of the target with the copied fields of the first of these source rows with the same key; the keys stand at
-/// these places.
+// The rows of the target with the copied fields of the first of these source rows with the same key; the keys stand at
+// these places.
 fn matched_rows(
     alloc: Global,
     target: &RowList,
@@ -196,7 +196,7 @@ fn matched_rows(
     joined_rows(alloc, target, source, key, &firsts, columns)
 }
 
-/// The rows of the target with the copied fields of their matches.
+// The rows of the target with the copied fields of their matches.
 fn joined_rows(
     alloc: Global,
     target: &RowList,

@@ -69,7 +69,7 @@ pub(crate) fn columns_of(
     copied_columns(alloc, target, targets, sources, &copied)
 }
 
-/// The source fields that are copied: the listed ones, else all but the key.
+// The source fields that are copied: the listed ones, else all but the key.
 fn copied_fields(alloc: Global, source: &NameList, spec: &JoinSpec) -> Result<NameList, AllocError>
     ensures fields { IfOk result (λ fields. fields ≡ copied_fields source.now spec.now) }
 {
@@ -148,7 +148,7 @@ pub fn copied_columns(
     Ok(columns)
 }
 
-/// Adds the column of a copied field, where its name is new.
+// Adds the column of a copied field, where its name is new.
 fn add_column(
     alloc: Global,
     columns: &mut Columns,
@@ -169,7 +169,7 @@ fn add_column(
     Ok(())
 }
 
-/// For each column of the target where it comes from.
+// For each column of the target where it comes from.
 fn kept_columns(
     alloc: Global,
     target: &NameList,
@@ -198,7 +198,7 @@ fn kept_column(targets: &NameSet, sources: &NameSet, copied: &CopiedFields, name
     }
 }
 
-/// The place in the source of the field that takes the place of a column.
+// The place in the source of the field that takes the place of a column.
 #[tactic(auto, using(crate::proofs::Joining::field_found))]
 fn forced_place(sources: &NameSet, copied: &CopiedFields, name: &str) -> Option<u32>
     requires copied { copied.now.names ≡ map (copied_name (join_of copied.now)) copied.now.fields.now }

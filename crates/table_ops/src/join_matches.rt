@@ -31,7 +31,7 @@ pub(crate) fn first_rows(
     Ok(firsts)
 }
 
-/// Notes a row for its value at a place, unless an earlier row has it.
+// Notes a row for its value at a place, unless an earlier row has it.
 fn add_first(
     alloc: Global,
     firsts: &mut IndexMap<Key, u32>,
@@ -49,7 +49,7 @@ fn add_first(
     Ok(())
 }
 
-/// Notes a row for a key, unless an earlier row has it.
+// Notes a row for a key, unless an earlier row has it.
 fn note_key(firsts: &mut IndexMap<Key, u32>, key: Key, n: u32) -> Result<(), AllocError>
     ensures first { OnOk result ((k : RowValues) → get same_values firsts.new k ≡ option_or (get same_values firsts.old k) (cond (same_values key k) (Some n) None)) }
 {

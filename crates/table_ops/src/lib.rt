@@ -13,7 +13,7 @@ mod join;
 mod join_columns;
 mod join_matches;
 
-pub use filter::{filter_rows, numbers_of, value_for_row};
+pub use filter::{filter_rows, value_for_row};
 pub use join::{candidates, check_fields, copied_row, join_tables};
 pub use join_columns::{Column, Columns, CopiedFields, copied_columns, copied_names};
 pub use table_rows::{

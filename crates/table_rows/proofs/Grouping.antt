@@ -5,9 +5,12 @@ use Rattle.std.proofs.lemmas.List.{map_more, length-map, length-take}
 use Rattle.std.proofs.lemmas.List.Elements.{All-map}
 use Rattle.indexmap.specs.IndexSet.{insert_key}
 use Rattle.lists.specs.Lists.{numbers_where}
-use Rattle.json_values.specs.Table.{RowValues}
+use Rattle.json_values.specs.Table.{RowValues, TableContent}
 use Rattle.table_rows.specs.Keys.{same_values}
 use Rattle.table_rows.specs.Groups.{keys_once, groups_of, with_member}
+use Rattle.table_rows.specs.Grouping.{groups_by}
+use Rattle.table_rows.proofs.Cells.{picked_cells}
+use Rattle.table_terms.specs.Names.{Text, place_of}
 use Rattle.table_rows.specs.Same.{rows_decide, rows_equivalent}
 use Rattle.table_terms.proofs.Inserted.{inserted_all, insert_all-push}
 use Rattle.table_rows.specs.Rows.{picked}
@@ -134,3 +137,9 @@ counts_stay k (x ∷ ks) [] n e = absurd (omega (arith, e))
 counts_stay k (x ∷ ks) (m ∷ ms) n e =
     let rest : length ks ≡ length ms = omega (arith, e) in
     stay_first k x ks m ms n rest (same_values k x) refl (counts_stay k ks ms n rest)
+
+-- groups by the places of fields are groups by the fields
+pub grouped : (t : TableContent) (names fields : List Text) {by : List ℕ} {rows : List RowValues} {groups : List (List ℕ)}
+    → by ≡ map (place_of names) fields → names ≡ t.names → rows ≡ t.rows → groups ≡ groups_of (map (picked by) rows) → groups ≡ groups_by t fields
+grouped t names fields places named same made =
+    made ∙ (λ i. groups_of (map (picked ((places ∙ ap (λ (ns : List Text). map (place_of ns) fields) named) i)) (same i))) ∙ ap groups_of (picked_cells t.names fields t.rows)

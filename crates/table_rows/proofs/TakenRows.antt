@@ -1,8 +1,8 @@
 -- Rows that are taken from a table are as long as its names.
 use Rattle.std.proofs.Common.{◌≡◌, ℕ, suc, zero, ◌<◌, List, [], ◌∷◌, map, length, slice_get, get_or, unwrap_or, Option, Some, None, All, refl, sym, ap, ◌∙◌, true≢false, is_some, arith}
-use Rattle.std.proofs.lemmas.Option.{unwrap_or-slice_get}
+use Rattle.std.proofs.lemmas.Option.{slice_get-get_or, unwrap_or-slice_get}
 use Rattle.json_values.specs.Table.{RowValues, AreRows}
-use Rattle.table_rows.specs.Rows.{row_at, first_of}
+use Rattle.table_rows.specs.Rows.{row_at, first_row}
 
 pub missing_is_default : {A : Type 0} (xs : List A) (i : ℕ) (d : A) → slice_get xs i ≡ None → get_or xs i d ≡ d
 missing_is_default xs i d h = sym (unwrap_or-slice_get xs i d) ∙ ap (λ o. unwrap_or o d) h
@@ -18,12 +18,12 @@ taken_as_long n rows (k ∷ ns) long within =
     (long_at n rows k long (within 0 0 (omega arith)), taken_as_long n rows ns long (λ j d h. within (suc j) d (omega arith)))
 
 -- the first of no numbers
-pub first_none : (rows : List RowValues) (ns : List ℕ) → None ≡ slice_get ns 0 → first_of rows ns ≡ []
+pub first_none : (rows : List RowValues) (ns : List ℕ) → None ≡ slice_get ns 0 → None ≡ first_row rows ns
 first_none rows [] e = refl
 first_none rows (n ∷ ns) e = absurd (true≢false (sym (ap is_some e)))
 
 -- the row with the first number
-pub first_some : (rows : List RowValues) (ns : List ℕ) (n : ℕ) (o : Option RowValues) → Some n ≡ slice_get ns 0 → o ≡ slice_get rows n → unwrap_or o [] ≡ first_of rows ns
-first_some rows [] n o e found = absurd (true≢false (ap is_some e))
-first_some rows (m ∷ ns) n o e found =
-    ap (λ (r : Option RowValues). unwrap_or r []) found ∙ unwrap_or-slice_get rows n [] ∙ ap (λ (r : Option ℕ). row_at rows (unwrap_or r 0)) e
+pub first_some : (rows : List RowValues) (ns : List ℕ) (n : ℕ) → All (λ k. k < length rows) ns → Some n ≡ slice_get ns 0 → slice_get rows n ≡ first_row rows ns
+first_some rows [] n within e = absurd (true≢false (ap is_some e))
+first_some rows (m ∷ ns) n within e =
+    ap (λ (r : Option ℕ). slice_get rows (unwrap_or r 0)) e ∙ slice_get-get_or rows m [] (within 0 0 (omega arith))

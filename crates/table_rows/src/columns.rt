@@ -27,7 +27,7 @@ pub fn keep_fields(alloc: Global, t: &Table, names: &NameList) -> Result<Table, 
     Ok(Table::new(copy_names(alloc, names)?, rows))
 }
 
-/// The places of the listed names, each of which is a name and stands once.
+// The places of the listed names, each of which is a name and stands once.
 fn listed_places(alloc: Global, names: &NameList, listed: &NameList) -> Result<Vec<u32>, TableFault>
     requires distinct { AreDistinctNames names.now }
     ensures exact { AnswersAs vec_items result (unless (refused_item names.now [] 0 listed.now) (Ok (map (place_of names.now) listed.now))) }

@@ -10,7 +10,7 @@ ghost use Rattle.table_rows.specs.Rows.{first_of, picked};
 
 use crate::fault::{TableFault, TableWhy};
 use crate::group_sums::append_sums;
-use crate::groups::{group_list, groups_at};
+use crate::groups::groups_at;
 use crate::items::{check_list, places_of};
 use crate::rows::{append_names, append_picked, first_row};
 use grid_base::{GroupList, IdList};
@@ -44,7 +44,7 @@ pub fn group_rows(alloc: Global, t: &Table, spec: &GroupSpec) -> Result<Grouped,
     tested_groups(alloc, t, &columns, spec)
 }
 
-/// The rows in groups, once the fields are tested.
+// The rows in groups, once the fields are tested.
 fn tested_groups(
     alloc: Global,
     t: &Table,
@@ -62,7 +62,7 @@ fn tested_groups(
     table_of_groups(alloc, t, columns, spec, names)
 }
 
-/// The fields of the three lists, one list after the other.
+// The fields of the three lists, one list after the other.
 fn listed_fields(alloc: Global, spec: &GroupSpec) -> Result<NameList, AllocError>
     ensures names { IfOk result (λ names. names ≡ listed_fields spec.now) }
 {
@@ -73,7 +73,7 @@ fn listed_fields(alloc: Global, spec: &GroupSpec) -> Result<NameList, AllocError
     Ok(names)
 }
 
-/// The rows in groups, and the table of the groups under these names.
+// The rows in groups, and the table of the groups under these names.
 fn table_of_groups(
     alloc: Global,
     t: &Table,
@@ -89,56 +89,35 @@ fn table_of_groups(
     ensures below { IfOk result (λ g. All (All (λ n. n < length t.now.rows)) g.groups) }
     ensures each { IfOk result (λ g. length g.table.rows ≡ length g.groups) }
 {
-    let members = members_of(alloc, t, columns, &spec.by)?;
+    let by = places_of(alloc, columns, spec.by.as_slice())?;
+    let members = groups_at(alloc, t.rows(), by.as_slice())?;
     let mut refused = None;
-    let rows = rows_of_groups(alloc, t, columns, spec, members.as_slice(), &mut refused)?;
+    let rows = rows_of_groups(alloc, t, columns, spec, &by, &members, &mut refused)?;
     refuse(refused)?;
-    let groups = group_list(alloc, members)?;
+    let groups = GroupList::from_vec(members)?;
     let table = Table::new(names, rows);
     Ok(Grouped { groups, table })
 }
 
-/// The numbers of the rows of each group.
-fn members_of(
-    alloc: Global,
-    t: &Table,
-    columns: &NameSet,
-    fields: &NameList,
-) -> Result<Vec<IdList>, AllocError>
-    requires columns { columns.now ≡ t.now.names }
-    ensures members { IfOk result (λ members. members.items ≡ groups_by t.now fields.now) }
-    ensures below { IfOk result (λ members. All (All (λ n. n < length t.now.rows)) members.items) }
-{
-    let places = places_of(alloc, columns, fields.as_slice())?;
-    groups_at(alloc, t.rows(), places.as_slice())
-}
-
-/// The row of each group, and the refusal of the lowest row.
+// The row of each group, and the refusal of the lowest row.
 fn rows_of_groups(
     alloc: Global,
     t: &Table,
     columns: &NameSet,
     spec: &GroupSpec,
+    by: &[u32],
     members: &[IdList],
     refused: &mut Option<TableWhy>,
 ) -> Result<RowList, AllocError>
     requires columns { columns.now ≡ t.now.names }
+    requires by { by.now ≡ field_places t.now spec.now.by }
     requires below { All (All (λ n. n < length t.now.rows)) members.now }
     ensures rows { IfOk result (λ rows. rows ≡ map (group_row t.now.rows (field_places t.now spec.now.by) (field_places t.now spec.now.copy) (field_places t.now spec.now.sum)) members.now) }
     ensures refused { OnOk result (refused.new ≡ fold earlier refused.old (flat_map (refusals t.now.rows (field_places t.now spec.now.sum)) members.now)) }
 {
-    let by = places_of(alloc, columns, spec.by.as_slice())?;
     let copied = places_of(alloc, columns, spec.copy.as_slice())?;
     let summed = places_of(alloc, columns, spec.sum.as_slice())?;
-    group_rows_of(
-        alloc,
-        t.rows(),
-        members,
-        by.as_slice(),
-        copied.as_slice(),
-        summed.as_slice(),
-        refused,
-    )
+    group_rows_of(alloc, t.rows(), members, by, &copied, &summed, refused)
 }
 
 fn refuse(refused: Option<TableWhy>) -> Result<(), TableFault>
@@ -150,7 +129,7 @@ fn refuse(refused: Option<TableWhy>) -> Result<(), TableFault>
     }
 }
 
-/// The row of each group, and the refusal of the lowest row, where it is below an earlier one.
+// The row of each group, and the refusal of the lowest row, where it is below an earlier one.
 fn group_rows_of(
     alloc: Global,
     rows: &RowList,
@@ -172,7 +151,7 @@ fn group_rows_of(
     Ok(out)
 }
 
-/// The listed and the copied values of the first row of a group, and its sums.
+// The listed and the copied values of the first row of a group, and its sums.
 fn group_row(
     alloc: Global,
     rows: &RowList,
@@ -196,6 +175,7 @@ fn group_row(
 }
 
 fn first_or<'a>(rows: &'a RowList, members: &IdList, none: &'a Row) -> &'a Row
+    requires within { All (λ n. n < length rows.now) members.now }
     requires none { none.now ≡ [] }
     ensures first { result.now ≡ first_of rows.now members.now }
 {

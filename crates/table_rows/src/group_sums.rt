@@ -48,7 +48,7 @@ pub fn column_sum(rows: &RowList, members: &IdList, place: u32) -> Result<Decima
     Ok(total)
 }
 
-/// A sum with the value at a place of the row with this number, null past its end.
+// A sum with the value at a place of the row with this number, null past its end.
 fn sum_at(total: Decimal, n: u32, row: &Row, place: u32) -> Result<Decimal, TableWhy>
     ensures exact { result ≡ sum_with total n (value_at row.now place) }
 {
@@ -58,7 +58,7 @@ fn sum_at(total: Decimal, n: u32, row: &Row, place: u32) -> Result<Decimal, Tabl
     }
 }
 
-/// A sum with the value of the row with this number, where null counts as 0.
+// A sum with the value of the row with this number, where null counts as 0.
 fn sum_with(total: Decimal, n: u32, value: &Value) -> Result<Decimal, TableWhy>
     ensures exact { result ≡ sum_with total n value.now }
 {
@@ -96,7 +96,7 @@ fn refusal_of(sum: &Result<Decimal, TableWhy>) -> Option<TableWhy>
     }
 }
 
-/// Of two refusals the one at the lower row, else the first.
+// Of two refusals the one at the lower row, else the first.
 fn earlier(first: Option<TableWhy>, second: Option<TableWhy>) -> Option<TableWhy>
     ensures exact { result ≡ earlier first second }
 {

@@ -7,7 +7,7 @@ ghost use Rattle.table_rows.specs.Rows.{picked};
 
 use crate::key::Key;
 use crate::rows::row_of;
-use grid_base::{GroupList, IdList};
+use grid_base::IdList;
 use indexmap::IndexSet;
 use json_values::RowList;
 use std::alloc::{AllocError, Global};
@@ -28,7 +28,7 @@ pub(crate) fn groups_at(
     Ok(members)
 }
 
-/// Adds all rows to the groups of their keys, of which there are none yet.
+// Adds all rows to the groups of their keys, of which there are none yet.
 fn add_rows(
     alloc: Global,
     keys: &mut IndexSet<Key>,
@@ -48,7 +48,7 @@ fn add_rows(
     Ok(())
 }
 
-/// Adds a row to the group of its key.
+// Adds a row to the group of its key.
 fn add_row(
     alloc: Global,
     keys: &mut IndexSet<Key>,
@@ -67,7 +67,7 @@ fn add_row(
     Ok(())
 }
 
-/// Adds a number to the group with a number, or to a new last group.
+// Adds a number to the group with a number, or to a new last group.
 #[tactic(auto, using(crate::proofs::Grouping::member_there, crate::proofs::Grouping::member_new))]
 fn add_member(
     alloc: Global,
@@ -85,14 +85,4 @@ fn add_member(
     first.push(number)?;
     members.push(first)?;
     Ok(())
-}
-
-pub(crate) fn group_list(alloc: Global, members: Vec<IdList>) -> Result<GroupList, AllocError>
-    ensures all { IfOk result (λ list. list ≡ members.items) }
-{
-    let mut list = GroupList::new(alloc);
-    for group in members {
-        list.push(group)?;
-    }
-    Ok(list)
 }

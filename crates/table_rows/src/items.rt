@@ -22,29 +22,13 @@ pub fn check_list(
     ensures distinct { OnOk result (IsDistinct bytes_eq items.now) }
 {
     let mut seen = NameSet::new(alloc);
-    check_items(alloc, names, &mut seen, first, items.as_slice())
-}
-
-/// Tests the items of a list one by one: each is a name, and none stands among those `seen`.
-///
-/// Items are counted from `first`, after those seen; `seen` then has them too.
-pub(crate) fn check_items(
-    alloc: Global,
-    names: &NameSet,
-    seen: &mut NameSet,
-    first: u32,
-    items: &[Text],
-) -> Result<(), TableFault>
-    ensures exact { Refuses result (refused_item names.now seen.old (first + length seen.old) items.now) }
-    ensures seen { OnOk result (seen.new ≡ seen.old ++ items.now) }
-    ensures distinct { OnOk result (IsDistinct bytes_eq seen.old → IsDistinct bytes_eq seen.new) }
-{
-    for item in items {
-        check_item(alloc, names, seen, first, item.as_str())?;
+    for item in items.as_slice() {
+        check_item(alloc, names, &mut seen, first, item.as_str())?;
     }
     Ok(())
 }
 
+/// Tests an item, which counts from `first` after those `seen`: it is a name, and none of them. Then it is one.
 pub(crate) fn check_item(
     alloc: Global,
     names: &NameSet,

@@ -1,7 +1,7 @@
 //! Tables of named columns, by their rows: taken, grouped and split, columns kept and renamed, tables merged.
 //!
-//! In: tables, and names of `table_terms`. Out: a table, or numbers of rows; or the first `TableFault`. What asks for an
-//! expression or for a second table's rows by a key is in `table_ops`.
+//! In: tables, and names of `table_terms`. Out: a table, or numbers of rows; or the first `TableFault`. What asks for
+//! an expression or for a second table's rows by a key is in `table_ops`.
 //!
 //! 1. `rows` copies tables, and takes rows by their numbers; `group` and `split` find them by their values, which
 //!    `key` tells apart.
@@ -29,5 +29,5 @@ pub use items::check_list;
 pub use key::Key;
 pub use merge::{TableList, merge_tables};
 pub use rename::rename_fields;
-pub use rows::{copy_at, copy_names, copy_table, row_of, take_rows};
+pub use rows::{copy_at, copy_names, copy_table, first_row, row_of, take_rows};
 pub use split::{SplitItem, SplitList, split_rows};

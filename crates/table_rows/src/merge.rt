@@ -37,7 +37,7 @@ pub fn merge_tables(alloc: Global, tables: &TableList, force: bool) -> Result<Ta
     Ok(merged(alloc, tables.as_slice())?)
 }
 
-/// Refuses the first table whose set of names is not that of the first.
+// Refuses the first table whose set of names is not that of the first.
 fn check_names(alloc: Global, tables: &[Table]) -> Result<(), TableFault>
     requires some { 0 < length tables.now }
     ensures exact { Refuses result (refused_merge false tables.now) }
@@ -47,7 +47,7 @@ fn check_names(alloc: Global, tables: &[Table]) -> Result<(), TableFault>
     check_others(alloc, &names, first, tables)
 }
 
-/// Refuses the first table after the first one whose set of names is another.
+// Refuses the first table after the first one whose set of names is another.
 fn check_others(
     alloc: Global,
     names: &NameSet,
@@ -83,7 +83,7 @@ fn check_layer(
     Err(TableFault::Bad { why })
 }
 
-/// Whether the names of a table are those of the first one, in any order.
+// Whether the names of a table are those of the first one, in any order.
 fn has_same_names(
     alloc: Global,
     names: &NameSet,
@@ -108,7 +108,7 @@ fn has_all(set: &NameSet, names: &NameList) -> bool
     true
 }
 
-/// The tables one under another, whatever their names.
+// The tables one under another, whatever their names.
 fn merged(alloc: Global, tables: &[Table]) -> Result<Table, AllocError>
     ensures names { IfOk result (λ t. t.names ≡ insert_all bytes_eq [] (all_names tables.now)) }
     ensures rows { IfOk result (λ t. t.rows ≡ merged_rows t.names tables.now) }
@@ -118,7 +118,7 @@ fn merged(alloc: Global, tables: &[Table]) -> Result<Table, AllocError>
     Ok(Table::new(names, rows))
 }
 
-/// The names of all tables, in order of first appearance.
+// The names of all tables, in order of first appearance.
 #[tactic(auto, using(crate::proofs::Merging::merged_names_more))]
 fn merged_names(alloc: Global, tables: &[Table]) -> Result<NameList, AllocError>
     ensures names { IfOk result (λ names. names ≡ insert_all bytes_eq [] (all_names tables.now)) }
@@ -167,7 +167,7 @@ fn add_name(
     names.push(Text::of(alloc, name)?)
 }
 
-/// The rows of each table under these names.
+// The rows of each table under these names.
 #[tactic(auto, using(crate::proofs::Merging::merged_rows_more))]
 fn merged_rows(alloc: Global, tables: &[Table], names: &NameList) -> Result<RowList, AllocError>
     ensures rows { IfOk result (λ rows. rows ≡ merged_rows names.now tables.now) }
@@ -191,7 +191,7 @@ fn append_rows(
     append_picked_rows(alloc, rows, table.rows(), places.as_slice())
 }
 
-/// The places of the fields among the names of a table.
+// The places of the fields among the names of a table.
 fn places_in(alloc: Global, table: &Table, fields: &NameList) -> Result<Vec<u32>, AllocError>
     ensures places { IfOk result (λ places. places.items ≡ map (place_of table.now.names) fields.now) }
 {

@@ -10,7 +10,7 @@ ghost use Rattle.table_terms.specs.Refusals.{unless};
 ghost use Rattle.table_rows.specs.Refusals.{Answers, Refuses, refused_item};
 
 use crate::fault::{TableFault, TableWhy};
-use crate::items::check_items;
+use crate::items::check_item;
 use crate::rows::copy_rows;
 use json_values::Table;
 use std::alloc::{AllocError, Global};
@@ -31,7 +31,7 @@ pub fn rename_fields(alloc: Global, t: &Table, pairs: &RenameList) -> Result<Tab
     Ok(Table::new(names, rows))
 }
 
-/// The names of the columns after the renames.
+// The names of the columns after the renames.
 fn names_after(alloc: Global, names: &NameList, pairs: &RenameList) -> Result<NameList, TableFault>
     requires distinct { AreDistinctNames names.now }
     ensures exact { Answers result (unless (refused_renames names.now pairs.now) (Ok (map (renamed pairs.now) names.now))) }
@@ -43,7 +43,7 @@ fn names_after(alloc: Global, names: &NameList, pairs: &RenameList) -> Result<Na
     distinct_names(alloc, names, &fields, pairs)
 }
 
-/// The names of the columns after the renames of these fields, which are those of the pairs, where none stands twice.
+// The names of the columns after the renames of these fields, which are those of the pairs, where none stands twice.
 fn distinct_names(
     alloc: Global,
     names: &NameList,
@@ -61,7 +61,7 @@ fn distinct_names(
     Ok(out)
 }
 
-/// Notes the old names, each of which is one of these names and stands once.
+// Notes the old names, each of which is one of these names and stands once.
 fn note_fields(
     alloc: Global,
     names: &NameList,
@@ -74,11 +74,13 @@ fn note_fields(
     ensures noted { OnOk result (fields.new ≡ fields_of_pairs pairs.now) }
 {
     let columns = NameSet::of(alloc, names)?;
-    let old_names = fields_of(alloc, pairs)?;
-    check_items(alloc, &columns, fields, 0, old_names.as_slice())
+    for pair in pairs.as_slice() {
+        check_item(alloc, &columns, fields, 0, pair.field.as_str())?;
+    }
+    Ok(())
 }
 
-/// Refuses the last item whose new name stands twice among these names.
+// Refuses the last item whose new name stands twice among these names.
 fn check_labels(alloc: Global, pairs: &RenameList, names: &NameList) -> Result<(), TableFault>
     ensures exact { Refuses result (refused_label names.now pairs.now) }
 {
@@ -91,18 +93,7 @@ fn check_labels(alloc: Global, pairs: &RenameList, names: &NameList) -> Result<(
     }
 }
 
-/// The old names of the pairs.
-fn fields_of(alloc: Global, pairs: &RenameList) -> Result<NameList, AllocError>
-    ensures names { IfOk result (λ names. names ≡ fields_of_pairs pairs.now) }
-{
-    let mut names = NameList::new(alloc);
-    for pair in pairs.as_slice() {
-        names.push(Text::of(alloc, pair.field.as_str())?)?;
-    }
-    Ok(names)
-}
-
-/// The names of the columns after the renames of these fields, which are those of the pairs.
+// The names of the columns after the renames of these fields, which are those of the pairs.
 fn new_names(
     alloc: Global,
     names: &NameList,
@@ -129,7 +120,7 @@ fn new_name<'a>(name: &'a str, fields: &NameSet, pairs: &'a RenameList) -> &'a s
     }
 }
 
-/// The number of the last item whose new name stands twice among these names.
+// The number of the last item whose new name stands twice among these names.
 fn last_twice(
     alloc: Global,
     pairs: &RenameList,
@@ -141,7 +132,7 @@ fn last_twice(
     Ok(last_repeated(pairs, &repeated))
 }
 
-/// The names that stand at two places or more.
+// The names that stand at two places or more.
 fn repeated_names(alloc: Global, names: &NameList) -> Result<NameSet, AllocError>
     ensures twice { IfOk result (λ repeated. (name : List ℕ) → has_name repeated name ≡ is_twice names.now name) }
 {
@@ -153,7 +144,7 @@ fn repeated_names(alloc: Global, names: &NameList) -> Result<NameSet, AllocError
     Ok(repeated)
 }
 
-/// Notes a name as repeated, where it was seen before.
+// Notes a name as repeated, where it was seen before.
 fn note_name(
     alloc: Global,
     seen: &mut NameSet,
@@ -170,7 +161,7 @@ fn note_name(
     Ok(())
 }
 
-/// The number of the last item whose new name is one of these.
+// The number of the last item whose new name is one of these.
 fn last_repeated(pairs: &RenameList, repeated: &NameSet) -> Option<u32>
     ensures last { result ≡ last_or None (numbers_where (λ pair. has_name repeated.now pair.label) pairs.now) }
 {
@@ -182,15 +173,12 @@ fn last_repeated(pairs: &RenameList, repeated: &NameSet) -> Option<u32>
     last
 }
 
-/// A pair of a list, which has one of the number.
+// A pair of a list, which has one of the number.
 fn pair_at(pairs: &RenameList, i: u32) -> &Rename
     requires within { i < length pairs.now }
     ensures lent { result.now ≡ slice_index_or pairs.now i result.now }
 {
-    match pairs.get(i) {
-        Some(pair) => pair,
-        None => unreachable!(),
-    }
+    &pairs.as_slice()[i as usize]
 }
 
 fn later(last: Option<u32>, i: u32, is_later: bool) -> Option<u32>

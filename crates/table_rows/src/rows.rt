@@ -1,6 +1,6 @@
-ghost use Rattle.std.specs.Prelude.{◌≡◌, ◌++◌, ◌<◌, [], IfOk, OnOk, slice_get, Some, length, map, All, unwrap_or};
+ghost use Rattle.std.specs.Prelude.{◌≡◌, ◌++◌, ◌<◌, [], IfOk, OnOk, slice_get, Some, length, map, All};
 ghost use Rattle.std.specs.Option.{option_copied};
-ghost use Rattle.table_rows.specs.Rows.{first_of, picked, row_at, take_rows};
+ghost use Rattle.table_rows.specs.Rows.{first_row, picked, row_at, take_rows};
 ghost use Rattle.table_terms.specs.Names.{value_at};
 
 use grid_base::IdList;
@@ -46,10 +46,7 @@ pub fn row_of(rows: &RowList, n: u32) -> &Row
     requires within { n < length rows.now }
     ensures lent { result.now ≡ row_at rows.now n }
 {
-    match rows.get(n) {
-        Some(row) => row,
-        None => unreachable!(),
-    }
+    &rows.as_slice()[n as usize]
 }
 
 /// The same names once more.
@@ -142,10 +139,11 @@ pub(crate) fn copy_rows(alloc: Global, rows: &RowList) -> Result<RowList, AllocE
     Ok(copy)
 }
 
-/// The row with the first of these numbers.
+/// The row with the first of these numbers; `None` where there are none.
 #[tactic(auto, using(crate::proofs::TakenRows::first_none, crate::proofs::TakenRows::first_some))]
-pub(crate) fn first_row<'a>(rows: &'a RowList, numbers: &IdList) -> Option<&'a Row>
-    ensures first { unwrap_or (option_copied result) [] ≡ first_of rows.now numbers.now }
+pub fn first_row<'a>(rows: &'a RowList, numbers: &IdList) -> Option<&'a Row>
+    requires within { All (λ n. n < length rows.now) numbers.now }
+    ensures first { option_copied result ≡ first_row rows.now numbers.now }
 {
     rows.get(*numbers.get(0)?)
 }

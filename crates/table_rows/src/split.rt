@@ -50,7 +50,7 @@ fn split_by(alloc: Global, t: &Table, field: &str) -> Result<SplitList, TableFau
     Ok(pieces_at(alloc, t.rows(), place)?)
 }
 
-/// The place of a field, which is one of the names.
+// The place of a field, which is one of the names.
 fn listed_place(alloc: Global, names: &NameList, field: &str) -> Result<u32, TableFault>
     requires distinct { AreDistinctNames names.now }
     ensures exact { Answers result (unless (refused_item names.now [] 0 (field.now ∷ [])) (Ok (place_of names.now field.now))) }
@@ -69,7 +69,7 @@ fn place_in(columns: &NameSet, field: &str) -> Result<u32, TableFault>
     Err(TableFault::Bad { why })
 }
 
-/// The rows for each value at a place, in order of first appearance.
+// The rows for each value at a place, in order of first appearance.
 fn pieces_at(alloc: Global, rows: &RowList, place: u32) -> Result<SplitList, AllocError>
     ensures pieces { IfOk result (λ items. items ≡ map (piece rows.now place) (groups_of (map (picked (place ∷ [])) rows.now))) }
     ensures below { IfOk result (λ items. All (λ item. All (λ n. n < length rows.now) item.rows) items) }
@@ -78,13 +78,14 @@ fn pieces_at(alloc: Global, rows: &RowList, place: u32) -> Result<SplitList, All
     with_values(alloc, rows, place, members)
 }
 
-/// Each group with the value that its first row has at a place.
+// Each group with the value that its first row has at a place.
 fn with_values(
     alloc: Global,
     rows: &RowList,
     place: u32,
     members: Vec<IdList>,
 ) -> Result<SplitList, AllocError>
+    requires below { All (All (λ n. n < length rows.now)) members.items }
     ensures pieces { IfOk result (λ items. items ≡ map (piece rows.now place) members.items) }
 {
     let mut items = SplitList::new(alloc);
@@ -100,6 +101,7 @@ fn piece_of(
     place: u32,
     group: IdList,
 ) -> Result<SplitItem, AllocError>
+    requires within { All (λ n. n < length rows.now) group }
     ensures piece { IfOk result (λ item. item ≡ piece rows.now place group) }
 {
     let value = value_of(alloc, rows, place, &group)?;
@@ -109,8 +111,9 @@ fn piece_of(
     })
 }
 
-/// The value of the first row of a group at a place.
+// The value of the first row of a group at a place.
 fn value_of(alloc: Global, rows: &RowList, place: u32, group: &IdList) -> Result<Value, AllocError>
+    requires within { All (λ n. n < length rows.now) group.now }
     ensures value { IfOk result (λ v. v ≡ value_at (first_of rows.now group.now) place) }
 {
     match first_row(rows, group) {

@@ -1,4 +1,4 @@
-use Rattle.std.proofs.Common.{◌≡◌, ◌∙◌, ap, sym, subst, List, ℕ, map}
+use Rattle.std.proofs.Common.{◌∙◌, ap, sym, subst, List, ℕ, map}
 use Rattle.std.specs.Prelude.{Result}
 use Rattle.std.specs.List.{zip}
 use Rattle.std.specs.List.Sorted.{IsStrictlyIncreasing}

@@ -8,4 +8,4 @@ loop-place-preserved c =
     let old : List (List ℕ) = map (λ list. list.items) c.args.lists.now.items in
     subst (λ (lists : List (List ℕ)). IsNumbered c.args.n (take (c.loop-place.place-index + 1) c.args.places.now) old lists) (sym c.in_ok-put_number.ensures.put)
     (numbered_more c.args.n c.loop-place.place-index (get_or c.args.places.now c.loop-place.place-index 0) 0 c.args.places.now old (map (λ list. list.items) c.loop-place.lists.items)
-    c.requires c.loop-place-test.true refl c.loop-place.invariant)
+    c.requires.ascending c.loop-place-test.true refl c.loop-place.invariant)

@@ -12,9 +12,9 @@ returns c =
     let f = c.args.f.now in
     let points = c.args.points.now in
     let found = c.in_ok-found.found.items in
-    let once = c.deref.ensures.value ∙ dedup_is nat_eq _ _ c.dedup.ensures.filtered ∙ sorted_once found c.sort_unstable.new.self.items c.sort_unstable.ensures.permutation c.sort_unstable.ensures.sorted in
+    let once = dedup_is nat_eq _ _ c.dedup.ensures.filtered ∙ sorted_once found c.sort_unstable.new.self.items c.sort_unstable.ensures.permutation c.sort_unstable.ensures.sorted in
     record {
-      exact = λ sets are. IfOk-weaker c.of.result (λ (list : List ℕ). list ≡ c.deref.result.now) (AreSetsAt arcs f sets points)
+      exact = λ sets are. IfOk-weaker c.from_vec.result (λ (list : List ℕ). list ≡ c.dedup.new.self.items) (AreSetsAt arcs f sets points)
           (λ list same. sets_along arcs f sets c.args.owners.now points found list are c.in_ok-found.ensures.found (same ∙ once))
-          c.of.ensures.same;
+          c.from_vec.ensures.same;
     }

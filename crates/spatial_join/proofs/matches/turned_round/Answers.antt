@@ -32,7 +32,7 @@ returns c =
     let all = take_all n lists (omega arith) in
     let owners : AreOwners lists c.args.count places = subst (λ (ls : List (List ℕ)). AreOwners ls c.args.count places) all c.loop-n.invariant in
     record {
-      exact = IfOk-weaker c.group_list.result (λ (g : List (List ℕ)). g ≡ map items c.deref.result.now) (λ (g : List (List ℕ)). g ≡ map (owners_of lists) (range_with_len 0 c.args.count))
-          (λ g same. same ∙ ap (map items) c.deref.ensures.value ∙ all_owners lists places c.args.count owners)
+      exact = IfOk-weaker c.group_list.result (λ (g : List (List ℕ)). g ≡ places) (λ (g : List (List ℕ)). g ≡ map (owners_of lists) (range_with_len 0 c.args.count))
+          (λ g same. same ∙ all_owners lists places c.args.count owners)
           c.group_list.ensures.same;
     }

@@ -11,20 +11,18 @@ pub returns-clause-rows : goal.returns-clause-rows
 returns-clause-rows c =
     let t = c.args.t.now in
     let spec = c.args.spec.now in
-    let by : c.as_slice-4.result.now ≡ field_places t spec.by =
-    c.as_slice-4.ensures.value ∙ c.in_ok-by.ensures.places ∙ (λ i. map (place_of (c.requires.columns i)) (c.as_slice.ensures.all i)) in
-    let copied : c.as_slice-5.result.now ≡ field_places t spec.copy =
-    c.as_slice-5.ensures.value ∙ c.in_ok-copied.ensures.places ∙ (λ i. map (place_of (c.requires.columns i)) (c.as_slice-2.ensures.all i)) in
-    let summed : c.as_slice-6.result.now ≡ field_places t spec.sum =
-    c.as_slice-6.ensures.value ∙ c.in_ok-summed.ensures.places ∙ (λ i. map (place_of (c.requires.columns i)) (c.as_slice-3.ensures.all i)) in
+    let copied : c.deref.result.now ≡ field_places t spec.copy =
+    c.deref.ensures.value ∙ c.in_ok-copied.ensures.places ∙ (λ i. map (place_of (c.requires.columns i)) (c.as_slice.ensures.all i)) in
+    let summed : c.deref-2.result.now ≡ field_places t spec.sum =
+    c.deref-2.ensures.value ∙ c.in_ok-summed.ensures.places ∙ (λ i. map (place_of (c.requires.columns i)) (c.as_slice-2.ensures.all i)) in
     subst (λ (out : List RowValues). IfOk c.group_rows_of.result (λ rows. rows ≡ out))
-    (λ i. map (group_row (c.rows.ensures.rows i) (by i) (copied i) (summed i)) c.args.members.now) c.group_rows_of.ensures.rows
+    (λ i. map (group_row (c.rows.ensures.rows i) (c.requires.by i) (copied i) (summed i)) c.args.members.now) c.group_rows_of.ensures.rows
 
 pub returns-clause-refused : goal.returns-clause-refused
 returns-clause-refused c =
     let t = c.args.t.now in
     let spec = c.args.spec.now in
-    let summed : c.as_slice-6.result.now ≡ field_places t spec.sum =
-    c.as_slice-6.ensures.value ∙ c.in_ok-summed.ensures.places ∙ (λ i. map (place_of (c.requires.columns i)) (c.as_slice-3.ensures.all i)) in
+    let summed : c.deref-2.result.now ≡ field_places t spec.sum =
+    c.deref-2.ensures.value ∙ c.in_ok-summed.ensures.places ∙ (λ i. map (place_of (c.requires.columns i)) (c.as_slice-2.ensures.all i)) in
     subst (λ (r : Option TableWhy). OnOk c.group_rows_of.result (c.group_rows_of.new.refused ≡ r))
     (λ i. fold earlier c.args.refused.now (flat_map (refusals (c.rows.ensures.rows i) (summed i)) c.args.members.now)) c.group_rows_of.ensures.refused

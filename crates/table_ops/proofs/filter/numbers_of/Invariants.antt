@@ -1,7 +1,0 @@
-use Rattle.std.proofs.Common.{◌≡◌, take}
-use Rattle.std.specs.Bool.{beq}
-use Rattle.lists.specs.Lists.{numbers_where}
-use Rattle.table_ops.proofs.filter.numbers_of.Given as goal
-
-abbrev pub invariant-loop-i : goal.invariant-loop-i
-invariant-loop-i l = l.numbers ≡ numbers_where (beq l.wanted) (take l.i l.tests)
