@@ -1,5 +1,5 @@
 -- What is added to a drawing, or to its last feature, piece by piece.
-use Rattle.std.proofs.Common.{◌≡◌, refl, sym, ap, arith, ◌∙◌, ℕ, ◌+◌, ◌<◌, List, [], ◌∷◌, ◌++◌, map, take, length, get_or, append_assoc}
+use Rattle.std.proofs.Common.{◌≡◌, refl, sym, ap, ◌∙◌, ℕ, ◌+◌, ◌<◌, List, [], ◌∷◌, ◌++◌, map, take, length, get_or, append_assoc}
 use Rattle.std.proofs.lemmas.List.{map-append}
 use Rattle.std.proofs.lemmas.List.Concat.{flat_map-append}
 use Rattle.lists.specs.Lists.{last_of}
@@ -9,9 +9,8 @@ use Rattle.grid_base.specs.Drawn.{with_last, without_repeats, add_polygon, outli
 use Rattle.grid_base.specs.Grid.{Corners}
 use Rattle.geojson_io.specs.LayerContent.{LayerContent}
 use Rattle.geojson_io.specs.declared.shape.GeoShape.{GeoShape}
-use Rattle.geojson_io.specs.declared.shape.GeoShape.TheVariants as shape
 use Rattle.snap_round.specs.Paths.{with_lines, with_points, with_polygons, with_rings}
-use Rattle.snap_round.proofs.LastLemmas.{in_new, last_length, last_stays, mapped_more, new_there, nothing_added, nothing_added_in, put_more, taken_more}
+use Rattle.snap_round.proofs.LastLemmas.{in_new, last_length, last_stays, new_there, nothing_added, nothing_added_in, taken_more}
 use Rattle.run_beginning.specs.Drawing.{drawn_boxes, drawn_lines, drawn_rings, line_features, lines_in, lines_of, point_features, points_in, points_of, polygon_features, polygons_in, polygons_of, with_layers}
 
 last_twice : {A : Type 0} (f g : A → A) (xs : List A) → with_last f (with_last g xs) ≡ with_last (λ x. f (g x)) xs
@@ -22,10 +21,6 @@ last_twice {A} f g (x ∷ y ∷ z ∷ rest) = ap (λ (ys : List A). x ∷ ys) (l
 
 last_same : {A : Type 0} (f g : A → A) (xs : List A) → ((x : A) → f x ≡ g x) → with_last f xs ≡ with_last g xs
 last_same {A} f g xs e = ap (λ (h : A → A). with_last h xs) (λ i x. e x i)
-
-pub none_left : {A : Type 0} (xs : List A) → length xs ≡ 0 → xs ≡ []
-none_left [] e = refl
-none_left (x ∷ xs) e = absurd (omega arith)
 
 module _ {A : Type 0} where
   -- more in the last list
@@ -105,14 +100,6 @@ no_points d = λ i. record d { points = sym (nothing_added d.points) i }
 pub points_stay : (points : List GridPoint) (d : Drawing) → length (with_points points d).points ≡ length d.points
 points_stay points d = last_length (λ (ps : List GridPoint). ps ++ points) d.points
 
--- ---- shapes of another kind
-
-pub other_points : (d : Drawing) (s : GeoShape) → ((points : List GridPoint) → s ≡ shape.Points points → ⊥) → d ≡ with_points (points_of s) d
-other_points d shape.Nothing n = no_points d
-other_points d (shape.Polygons polygons) n = no_points d
-other_points d (shape.Lines lines) n = no_points d
-other_points d (shape.Points points) n = absurd (n points refl)
-
 -- ---- features
 
 -- the next feature, and those after it
@@ -131,12 +118,11 @@ with_line_features shapes d = record d { lines = d.lines ++ map lines_of shapes 
 pub line_features_next : (d : Drawing) (shape : GeoShape) (rest : List GeoShape) → with_line_features rest (with_lines (lines_of shape) (record d { lines = d.lines ++ [] ∷ [] })) ≡ with_line_features (shape ∷ rest) d
 line_features_next d shape rest = λ j. record d { lines = next_in lines_of d.lines shape rest j }
 
-pub point_features_more : (d : Drawing) (shapes : List GeoShape) (i : ℕ) (shape : GeoShape) → i < length shapes → shape ≡ get_or shapes i shape →
-    with_points (points_of shape) (record d { points = (d.points ++ map points_of (take i shapes)) ++ [] ∷ [] }) ≡ record d { points = d.points ++ map points_of (take (i + 1) shapes) }
-point_features_more d shapes i shape l e =
-    let same = in_new (points_of shape) (d.points ++ map points_of (take i shapes)) in
-    let next = put_more (points_of shape) d.points (map points_of (take i shapes)) (map points_of (take (i + 1) shapes)) (mapped_more points_of shapes i shape l e) in
-    λ j. record d { points = (same ∙ next) j }
+abbrev pub with_point_features : List GeoShape → Drawing → Drawing
+with_point_features shapes d = record d { points = d.points ++ map points_of shapes }
+
+pub point_features_next : (d : Drawing) (shape : GeoShape) (rest : List GeoShape) → with_point_features rest (with_points (points_of shape) (record d { points = d.points ++ [] ∷ [] })) ≡ with_point_features (shape ∷ rest) d
+point_features_next d shape rest = λ j. record d { points = next_in points_of d.points shape rest j }
 
 pub boxes_more : (d : Drawing) (boxes : List Corners) (i : ℕ) (box : Corners) → i < length boxes → box ≡ get_or boxes i box →
     record d { boxes = (d.boxes ++ drawn_boxes (take i boxes)) ++ drawn_boxes (box ∷ []) } ≡ record d { boxes = d.boxes ++ drawn_boxes (take (i + 1) boxes) }

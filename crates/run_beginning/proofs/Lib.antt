@@ -1,5 +1,4 @@
 pub mod BegunLemmas
 pub mod BegunOnPlane
 pub mod DrawingLemmas
-pub mod Unbegun
-pub mod WithoutPaths
+pub mod DrawnLemmas

@@ -78,23 +78,5 @@ drawing_of layers boxes = record { polygons = polygons_in layers; lines = lines_
 
 -- ---- what is added to a drawing
 
-abbrev pub with_features : Kind → List GeoShape → Drawing → Drawing
-with_features kind shapes d = record d { polygons = d.polygons ++ polygon_features kind shapes; lines = d.lines ++ line_features kind shapes; points = d.points ++ point_features kind shapes }
-
 abbrev pub with_layers : List LayerContent → Drawing → Drawing
 with_layers layers d = record d { polygons = d.polygons ++ polygons_in layers; lines = d.lines ++ lines_in layers; points = d.points ++ points_in layers }
-
--- ---- what is left of what was drawn
-
-abbrev pub nothing_of : GeoShape → GeoShape
-nothing_of given = shape.Nothing
-
--- the shapes of a layer of some kind without their polygons or lines: as many, and nothing is in them; points stay
-abbrev pub shapes_without_paths : Kind → List GeoShape → List GeoShape
-shapes_without_paths kinds.Polygon shapes = map nothing_of shapes
-shapes_without_paths kinds.Line shapes = map nothing_of shapes
-shapes_without_paths kinds.Point shapes = shapes
-shapes_without_paths kinds.Table shapes = shapes
-
-abbrev pub without_paths : LayerContent → LayerContent
-without_paths layer = record layer { shapes = shapes_without_paths layer.kind layer.shapes }

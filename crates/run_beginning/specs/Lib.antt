@@ -1,3 +1,4 @@
 pub mod BegunLayers
 pub mod Drawing
+pub mod DrawnLayers
 pub mod NextFeatures

@@ -5,21 +5,23 @@ ghost use Rattle.lists.specs.Lists.{first_or, joined_up};
 ghost use Rattle.plane_model.specs.Drawing.{Drawing};
 ghost use Rattle.plane_model.specs.Points.{Path};
 ghost use Rattle.plane_model.specs.Snapped.{snapped};
+ghost use Rattle.geojson_io.specs.LayerContent.{LayerContent};
 ghost use Rattle.geojson_io.specs.Sound.{LayerIsSound};
 ghost use Rattle.snap_round.specs.Snapping.{FaultMeans};
 ghost use Rattle.run_plane.specs.Begun.{IsFew};
 ghost use Rattle.run_plane.specs.LaidOut.{IsLaidOut};
 ghost use Rattle.run_plane.specs.LineArcs.{AreLineArcs};
 ghost use Rattle.run_plane.specs.OnPlane.{AreLayersOn, AreAllOn};
-ghost use Rattle.run_beginning.specs.BegunLayers.{AreBegun, AreShapes, AreSourcesBegun, BeginsOver, IsBegunLayer, Left, left_after, left_after_all, left_after_many, face_shape, of_command, of_import, path_shape, point_shape, row_shape};
-ghost use Rattle.run_beginning.specs.Drawing.{drawing_of, points_of};
+ghost use Rattle.run_sources.specs.declared.sources.ReadSource.{ReadSource};
+ghost use Rattle.run_beginning.specs.BegunLayers.{AreBegun, AreSourcesBegun, BeginsOver, IsBegunLayer, Left, left_after, left_after_all, face_shape, of_command, of_import, path_shape};
+ghost use Rattle.run_beginning.specs.Drawing.{drawing_of};
+ghost use Rattle.run_beginning.specs.DrawnLayers.{IsDrawn, IsDrawnSource};
 ghost use Rattle.run_beginning.specs.NextFeatures.{AreCounted, IsLeft};
 
-use crate::drawing::drawing_of;
+use crate::drawing::{DrawnLayer, DrawnSource, drawing_of};
 use arc_table::SignedPaths;
 use face_sets::FaceSet;
-use geojson_io::{GeoLayer, GeoShape, GeoShapeList};
-use grid_base::{BoxList, Kind, PtList};
+use grid_base::{BoxList, Kind};
 use job_terms::Owner;
 use run_plane::{LaidOut, Layer, Plane, Shape, laid_out};
 use run_sources::ReadSource;
@@ -50,10 +52,7 @@ pub fn begin(alloc: Global, sources: Vec<ReadSource>, boxes: &BoxList) -> Result
 {
     let drawn = drawing_of(alloc, sources, boxes)?;
     let laid = laid_out(alloc, drawn.drawing)?;
-    match begun_with(alloc, laid, drawn.sources) {
-        Ok(begun) => Ok(begun),
-        Err(_) => Err(SnapFault::Memory),
-    }
+    Ok(begun_with(alloc, laid, drawn.sources)?)
 }
 
 // The features of the drawing that are left, the next ones first.
@@ -65,8 +64,8 @@ struct Next {
     lines: IntoIter<SignedPaths>,
 }
 
-fn begun_with(alloc: Global, laid: LaidOut, sources: Vec<ReadSource>) -> Result<Begun, AllocError>
-    ensures over { (s : Drawing) → IsLaidOut s laid.plane.arcs laid.plane.faces laid.plane.boxes.items laid.features.items → AllZip (AreLineArcs laid.plane.arcs) s.lines laid.lines.items → IfOk result (λ begun. BeginsOver s (map (λ read. read.owner) sources.items) (map (λ read. read.layers) sources.items) begun.plane.arcs begun.plane.faces begun.plane.boxes.items begun.layers.items (map (λ own. own.items) begun.sources.items)) }
+fn begun_with(alloc: Global, laid: LaidOut, sources: Vec<DrawnSource>) -> Result<Begun, AllocError>
+    ensures over { (s : Drawing) (given : List ReadSource) → IsLaidOut s laid.plane.arcs laid.plane.faces laid.plane.boxes.items laid.features.items → AllZip (AreLineArcs laid.plane.arcs) s.lines laid.lines.items → AllZip IsDrawnSource given sources.items → IfOk result (λ begun. BeginsOver s (map (λ read. read.owner) given) (map (λ read. read.layers) given) begun.plane.arcs begun.plane.faces begun.plane.boxes.items begun.layers.items (map (λ own. own.items) begun.sources.items)) }
 {
     let LaidOut {
         plane,
@@ -89,17 +88,17 @@ fn begin_sources(
     alloc: Global,
     features: Vec<FaceSet>,
     lines: Vec<SignedPaths>,
-    sources: Vec<ReadSource>,
+    sources: Vec<DrawnSource>,
     layers: &mut Vec<Layer>,
     owned: &mut Vec<Vec<Layer>>,
 ) -> Result<(), AllocError>
     requires layers { layers.old.items ≡ [] }
     requires owned { owned.old.items ≡ [] }
-    ensures begun { (arcs : List Path) (paths : List (List Path)) → AllZip (AreLineArcs arcs) paths lines.items → OnOk result (AreSourcesBegun arcs (record { faces = features.items; lines = paths }) (map (λ read. read.owner) sources.items) (map (λ read. read.layers) sources.items) layers.new.items (map (λ own. own.items) owned.new.items)) }
+    ensures begun { (arcs : List Path) (paths : List (List Path)) (given : List ReadSource) → AllZip (AreLineArcs arcs) paths lines.items → AllZip IsDrawnSource given sources.items → OnOk result (AreSourcesBegun arcs (record { faces = features.items; lines = paths }) (map (λ read. read.owner) given) (map (λ read. read.layers) given) layers.new.items (map (λ own. own.items) owned.new.items)) }
 {
     let mut next = first_of(features, lines);
     for source in sources {
-        let begun = begun_layers(alloc, &mut next, source.layers.into_vec())?;
+        let begun = begun_layers(alloc, &mut next, source.layers)?;
         hand_out(alloc, source.owner, begun, layers, owned)?;
     }
     Ok(())
@@ -151,11 +150,11 @@ fn put_layers(layers: &mut Vec<Layer>, more: Vec<Layer>) -> Result<(), AllocErro
 fn begun_layers(
     alloc: Global,
     next: &mut Next,
-    layers: Vec<GeoLayer>,
+    layers: Vec<DrawnLayer>,
 ) -> Result<Vec<Layer>, AllocError>
     requires counted { AreCounted next.old }
-    ensures begun { (arcs : List Path) (left : Left) → IsLeft arcs left next.old → IfOk result (λ begun. AreBegun arcs left layers.items begun.items) }
-    ensures left { (arcs : List Path) (left : Left) → IsLeft arcs left next.old → OnOk result (IsLeft arcs (left_after_all layers.items left) next.new) }
+    ensures begun { (arcs : List Path) (left : Left) (given : List LayerContent) → IsLeft arcs left next.old → AllZip IsDrawn given layers.items → IfOk result (λ begun. AreBegun arcs left given begun.items) }
+    ensures left { (arcs : List Path) (left : Left) (given : List LayerContent) → IsLeft arcs left next.old → AllZip IsDrawn given layers.items → OnOk result (IsLeft arcs (left_after_all given left) next.new) }
     ensures counted { OnOk result (AreCounted next.new) }
 {
     let mut begun = Vec::new(alloc);
@@ -165,44 +164,32 @@ fn begun_layers(
     Ok(begun)
 }
 
-fn begun_layer(alloc: Global, next: &mut Next, layer: GeoLayer) -> Result<Layer, AllocError>
+fn begun_layer(alloc: Global, next: &mut Next, layer: DrawnLayer) -> Result<Layer, AllocError>
     requires counted { AreCounted next.old }
-    ensures begun { (arcs : List Path) (left : Left) → IsLeft arcs left next.old → IfOk result (IsBegunLayer arcs left layer) }
-    ensures left { (arcs : List Path) (left : Left) → IsLeft arcs left next.old → OnOk result (IsLeft arcs (left_after layer left) next.new) }
+    ensures begun { (arcs : List Path) (left : Left) (given : LayerContent) → IsLeft arcs left next.old → IsDrawn given layer → IfOk result (IsBegunLayer arcs left given) }
+    ensures left { (arcs : List Path) (left : Left) (given : LayerContent) → IsLeft arcs left next.old → IsDrawn given layer → OnOk result (IsLeft arcs (left_after given left) next.new) }
     ensures counted { OnOk result (AreCounted next.new) }
 {
-    let GeoLayer {
-        name,
-        kind,
-        table,
-        shapes,
-    } = layer;
-    let shapes = begun_shapes(alloc, next, kind, shapes)?;
-    Ok(Layer {
-        name,
-        kind,
-        table,
-        shapes,
-    })
-}
-
-fn begun_shapes(
-    alloc: Global,
-    next: &mut Next,
-    kind: Kind,
-    shapes: GeoShapeList,
-) -> Result<Vec<Shape>, AllocError>
-    requires counted { AreCounted next.old }
-    ensures each { IfOk result (λ begun. length begun.items ≡ length shapes) }
-    ensures begun { (arcs : List Path) (left : Left) → IsLeft arcs left next.old → IfOk result (λ begun. AreShapes arcs left kind shapes begun.items) }
-    ensures left { (arcs : List Path) (left : Left) → IsLeft arcs left next.old → OnOk result (IsLeft arcs (left_after_many kind (length shapes) left) next.new) }
-    ensures counted { OnOk result (AreCounted next.new) }
-{
-    match kind {
-        Kind::Polygon => begun_faces(alloc, &mut next.faces, shapes.len()),
-        Kind::Line => begun_lines(alloc, &mut next.lines, shapes.len()),
-        Kind::Point => begun_points(alloc, shapes.into_vec()),
-        Kind::Table => begun_rows(alloc, shapes.as_slice()),
+    match layer {
+        DrawnLayer::Polygons { name, table } => {
+            let shapes = begun_faces(alloc, &mut next.faces, table.row_count())?;
+            Ok(Layer {
+                name,
+                kind: Kind::Polygon,
+                table,
+                shapes,
+            })
+        }
+        DrawnLayer::Lines { name, table } => {
+            let shapes = begun_lines(alloc, &mut next.lines, table.row_count())?;
+            Ok(Layer {
+                name,
+                kind: Kind::Line,
+                table,
+                shapes,
+            })
+        }
+        DrawnLayer::Whole(layer) => Ok(layer),
     }
 }
 
@@ -257,33 +244,4 @@ fn next_or<T: Drop>(items: &mut IntoIter<T>, none: T) -> T
         Some(item) => item,
         None => none,
     }
-}
-
-fn begun_points(alloc: Global, shapes: Vec<GeoShape>) -> Result<Vec<Shape>, AllocError>
-    ensures begun { IfOk result (λ begun. begun.items ≡ map point_shape shapes.items) }
-{
-    let mut begun = Vec::new(alloc);
-    for shape in shapes {
-        begun.push(Shape::Points(points_in(alloc, shape)))?;
-    }
-    Ok(begun)
-}
-
-fn points_in(alloc: Global, shape: GeoShape) -> PtList
-    ensures exact { result ≡ points_of shape }
-{
-    match shape {
-        GeoShape::Points(points) => points,
-        GeoShape::Nothing | GeoShape::Lines(_) | GeoShape::Polygons(_) => PtList::new(alloc),
-    }
-}
-
-fn begun_rows(alloc: Global, shapes: &[GeoShape]) -> Result<Vec<Shape>, AllocError>
-    ensures begun { IfOk result (λ begun. begun.items ≡ map row_shape shapes.now) }
-{
-    let mut begun = Vec::new(alloc);
-    for _shape in shapes {
-        begun.push(Shape::Nothing)?;
-    }
-    Ok(begun)
 }

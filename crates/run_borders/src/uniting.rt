@@ -1,4 +1,4 @@
-ghost use Rattle.std.specs.Prelude.{◌≡◌, IfOk, Some, length, map, slice_get, true};
+ghost use Rattle.std.specs.Prelude.{◌≡◌, IfOk, length, map, true};
 ghost use Rattle.run_plane.specs.OnPlane.{IsLayerOn};
 ghost use Rattle.run_borders.specs.Uniting.{AreGathered, IsUnited, item_shape};
 ghost use Rattle.run_state.specs.OnPlane.{AreHeldOn};
@@ -17,7 +17,7 @@ use union_ops::{LayerSets, UnionItem, union_sets, union_tables};
 /// columns are those of all layers side by side; a row is null where no feature of a layer has the faces.
 ///
 /// Cost: n log n for n faces, each with the number of layers, and one step for each face of each feature.
-#[tactic(auto, using(run_state::proofs::TargetLemmas::has_first))]
+#[tactic(auto, using(crate::proofs::UnitedLayers::of_tables))]
 pub fn united(
     alloc: Global,
     plane: &Plane,
@@ -29,26 +29,7 @@ pub fn united(
     ensures made { IfOk result (IsUnited plane.now (targets target.now layers.now)) }
     ensures on { IfOk result (IsLayerOn plane.now) }
 {
-    match first_target(layers, target) {
-        Some(first) => united_like(alloc, plane, first, layers, target),
-        None => unreachable!(),
-    }
-}
-
-// The union of the target's layers, of which this is the first.
-#[tactic(auto, using(crate::proofs::UnitedLayers::of_tables))]
-fn united_like(
-    alloc: Global,
-    plane: &Plane,
-    first: &Layer,
-    layers: &[HeldLayer],
-    target: &Target,
-) -> Result<Layer, AllocError>
-    requires first { Some first.now ≡ slice_get (targets target.now layers.now) 0 }
-    requires on { AreHeldOn plane.now layers.now }
-    ensures made { IfOk result (IsUnited plane.now (targets target.now layers.now)) }
-    ensures on { IfOk result (IsLayerOn plane.now) }
-{
+    let first = first_target(layers, target);
     let Gathered { tables, sets } = gather(alloc, layers, target)?;
     let items = union_sets(alloc, &plane.arcs, &plane.faces, &sets)?;
     let table = union_tables(alloc, &tables, &items)?;

@@ -1,4 +1,4 @@
--- Why a command that changes layers is refused before it works: for its target, its source, the kinds of its layers, or
+-- Why a command that changes layers is refused before it works: for its target, its origin, the kinds of its layers, or
 -- their number. The first of these that applies is told.
 use Rattle.std.specs.Prelude.{Bool, true, false, not, ◌||◌, List, [], ◌∷◌, Option, Some, None, Result, Ok, Err, if◌then◌else◌}
 use Rattle.std.specs.List.{list_all}
@@ -19,7 +19,7 @@ use Rattle.run_state.specs.declared.refusal.RefuseWhy.{RefuseWhy}
 use Rattle.run_state.specs.declared.refusal.RefuseWhy.TheVariants.{NoLayer, WrongKind, OneLayer}
 use Rattle.run_state.specs.declared.state.HeldLayer.{HeldLayer}
 
--- ---- the target, and the source
+-- ---- the target, and the origin
 
 abbrev pub refused_target : Target → List HeldLayer → Option RefuseWhy
 refused_target t layers = if has_target t layers then None else Some NoLayer
@@ -39,12 +39,12 @@ refused_cut sources layers (origin.Layer name) = refused_polygons (one_layer (or
 refused_cut sources layers (origin.Source n) = refused_polygons (one_layer (origin_layers sources layers (origin.Source n)))
 refused_cut sources layers (origin.Area n) = None
 
-abbrev pub refused_source : Owned → List HeldLayer → LayerAction → Option RefuseWhy
-refused_source sources layers (action.Clip from) = refused_cut sources layers from
-refused_source sources layers (action.Erase from) = refused_cut sources layers from
-refused_source sources layers (action.Join from spec) = refusal_of (one_layer (origin_layers sources layers from))
-refused_source sources layers (action.SpatialJoin from spec) = refusal_of (one_layer (origin_layers sources layers from))
-refused_source sources layers _ = None
+abbrev pub refused_for_origin : Owned → List HeldLayer → LayerAction → Option RefuseWhy
+refused_for_origin sources layers (action.Clip from) = refused_cut sources layers from
+refused_for_origin sources layers (action.Erase from) = refused_cut sources layers from
+refused_for_origin sources layers (action.Join from spec) = refusal_of (one_layer (origin_layers sources layers from))
+refused_for_origin sources layers (action.SpatialJoin from spec) = refusal_of (one_layer (origin_layers sources layers from))
+refused_for_origin sources layers _ = None
 
 -- ---- the kinds of the target's layers
 
@@ -63,7 +63,15 @@ takes (action.Lines fields) k = is_polygon k
 takes action.Explode k = has_geometry k
 takes (action.FilterIslands least_area least_links remove_empty) k = is_polygon k
 takes (action.Filter test invert remove_empty) k = not remove_empty || has_geometry k
-takes _ k = true
+takes (action.Dissolve spec group_points) k = true
+takes (action.Join from spec) k = true
+takes (action.SpatialJoin from spec) k = true
+takes (action.FilterFields fields) k = true
+takes (action.RenameFields pairs) k = true
+takes (action.Split field) k = true
+takes (action.Each assigns) k = true
+takes (action.Sort key descending) k = true
+takes (action.Uniq key most invert) k = true
 
 abbrev pub takes_all : LayerAction → List Layer → Bool
 takes_all a layers = list_all (λ (layer : Layer). takes a layer.kind) layers

@@ -15,7 +15,7 @@ ghost use Rattle.run_checks.specs.Checks.{
   refused_mixture,
   refused_number,
   refused_pairs,
-  refused_source,
+  refused_for_origin,
   refused_target,
   takes,
   takes_all,
@@ -30,7 +30,7 @@ use run_state::{
     HeldLayer, RefuseWhy, check_target, first_target, is_selected, only_target, origin_layer,
 };
 
-/// Tests the target, then the source, then the kinds of the target's layers.
+/// Tests the target, then the origin, then the kinds of the target's layers.
 ///
 /// Errors: the first refusal.
 pub fn check_each(
@@ -39,8 +39,8 @@ pub fn check_each(
     target: &Target,
     action: &LayerAction,
 ) -> Result<(), RefuseWhy>
-    ensures exact { refusal_of result ≡ first_refusal (refused_target target.now layers.now) (first_refusal (refused_source (map (λ own. own.items) sources.now) layers.now action.now) (refused_kinds (map (λ own. own.items) sources.now) layers.now action.now (targets target.now layers.now))) }
-    ensures sourced { IfOk result (λ done. refused_source (map (λ own. own.items) sources.now) layers.now action.now ≡ None) }
+    ensures exact { refusal_of result ≡ first_refusal (refused_target target.now layers.now) (first_refusal (refused_for_origin (map (λ own. own.items) sources.now) layers.now action.now) (refused_kinds (map (λ own. own.items) sources.now) layers.now action.now (targets target.now layers.now))) }
+    ensures sourced { IfOk result (λ done. refused_for_origin (map (λ own. own.items) sources.now) layers.now action.now ≡ None) }
     ensures there { IfOk result (λ done. has_target target.now layers.now ≡ true) }
     ensures absent { has_target target.now layers.now ≡ false → result ≡ Err RefuseWhy.NoLayer }
 {
@@ -78,20 +78,20 @@ fn check_layers(
     target: &Target,
     action: &LayerAction,
 ) -> Result<(), RefuseWhy>
-    ensures exact { refusal_of result ≡ first_refusal (refused_source (map (λ own. own.items) sources.now) layers.now action.now) (refused_kinds (map (λ own. own.items) sources.now) layers.now action.now (targets target.now layers.now)) }
-    ensures sourced { IfOk result (λ done. refused_source (map (λ own. own.items) sources.now) layers.now action.now ≡ None) }
+    ensures exact { refusal_of result ≡ first_refusal (refused_for_origin (map (λ own. own.items) sources.now) layers.now action.now) (refused_kinds (map (λ own. own.items) sources.now) layers.now action.now (targets target.now layers.now)) }
+    ensures sourced { IfOk result (λ done. refused_for_origin (map (λ own. own.items) sources.now) layers.now action.now ≡ None) }
 {
-    check_source(layers, sources, action)?;
+    check_origin(layers, sources, action)?;
     check_kinds(layers, sources, target, action)
 }
 
-// Tests that the source is there, and has polygons where the command cuts by it.
-fn check_source(
+// Tests that the origin is there, and has polygons where the command cuts by it.
+fn check_origin(
     layers: &[HeldLayer],
     sources: &[Vec<Layer>],
     action: &LayerAction,
 ) -> Result<(), RefuseWhy>
-    ensures exact { refusal_of result ≡ refused_source (map (λ own. own.items) sources.now) layers.now action.now }
+    ensures exact { refusal_of result ≡ refused_for_origin (map (λ own. own.items) sources.now) layers.now action.now }
 {
     match action {
         LayerAction::Clip { from } => check_cut(layers, sources, from),
@@ -158,7 +158,7 @@ fn check_kinds(
     }
 }
 
-// Tests that the layers of the target are joined by place with the source.
+// Tests that the layers of the target are joined by place with the origin.
 fn check_pairs(
     layers: &[HeldLayer],
     sources: &[Vec<Layer>],
@@ -204,7 +204,7 @@ fn takes_all(layers: &[HeldLayer], target: &Target, action: &LayerAction) -> boo
     true
 }
 
-// Whether the command takes a layer of this kind; a join by place goes by its source too.
+// Whether the command takes a layer of this kind; a join by place goes by its origin too.
 fn takes(action: &LayerAction, kind: Kind) -> bool
     ensures exact { result ≡ takes action.now kind }
 {
@@ -255,15 +255,11 @@ fn check_mixture(
 }
 
 // The kind of the first layer of the target.
-#[tactic(auto, using(run_state::proofs::TargetLemmas::has_first))]
 fn first_kind(layers: &[HeldLayer], target: &Target) -> Kind
     requires there { has_target target.now layers.now ≡ true }
     ensures exact { result ≡ first_kind (targets target.now layers.now) }
 {
-    match first_target(layers, target) {
-        Some(layer) => layer.kind,
-        None => unreachable!(),
-    }
+    first_target(layers, target).kind
 }
 
 fn takes_together(layers: &[HeldLayer], target: &Target, action: &JointAction, first: Kind) -> bool

@@ -15,10 +15,10 @@ use table_rows::{EvalWhy, TableWhy};
 use topo_io::{TopoPlace, TopoWhy};
 
 /// More bytes than any message has.
-const MOST_BYTES: usize = 160;
+const MAX_BYTES: usize = 160;
 
 /// A message line; it takes no memory.
-type Line = ArrayString<MOST_BYTES>;
+type Line = ArrayString<MAX_BYTES>;
 
 /// Offers the line of an outcome other than `Done` to `messages`, and nothing else. A failure there changes nothing.
 pub fn tell<M: Sink>(messages: &mut M, outcome: &Outcome)

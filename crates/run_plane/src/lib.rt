@@ -1,7 +1,7 @@
 //! The plane of a run, and layers over it.
 //!
-//! In: the drawing of all sources and boxes. Out: the arcs and faces of the snapped drawing, the faces that each polygon
-//! feature and each box holds, and the arcs that each line feature goes along.
+//! In: the drawing of all sources and boxes. Out: the arcs and faces of the snapped drawing, the faces that each
+//! polygon feature and each box holds, and the arcs that each line feature goes along.
 //!
 //! 1. `plane` snaps a drawing, builds its arcs and faces, and gathers the faces that features and boxes hold. The paths
 //!    of the snapped drawing are let go before: arcs stand for them.

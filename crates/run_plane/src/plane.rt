@@ -35,8 +35,8 @@ pub struct Plane {
     ghost built: { IsBuiltOf arcs faces },
 }
 
-/// A drawing laid out: its plane, the faces that each polygon feature holds, and the paths of each line feature as arcs,
-/// by their numbers.
+/// A drawing laid out: its plane, the faces that each polygon feature holds, and the paths of each line feature as
+/// arcs, by their numbers.
 #[derive(Drop)]
 pub struct LaidOut {
     pub plane: Plane,
@@ -54,10 +54,7 @@ pub fn laid_out(alloc: Global, drawing: Drawing) -> Result<LaidOut, SnapFault>
     ensures lines { IfOk result (λ laid. AllZip (AreLineArcs laid.plane.arcs) (snapped drawing).lines laid.lines.items) }
 {
     let snapped = into_snapped(alloc, drawing)?;
-    match built(alloc, snapped) {
-        Ok(laid) => Ok(laid),
-        Err(_) => Err(SnapFault::Memory),
-    }
+    Ok(built(alloc, snapped)?)
 }
 
 fn built(alloc: Global, snapped: Snapped) -> Result<LaidOut, AllocError>

@@ -1,8 +1,8 @@
-ghost use Rattle.std.specs.Prelude.{◌≡◌, IfErr, IfOk, option_copied, slice_get};
+ghost use Rattle.std.specs.Prelude.{◌≡◌, IfErr, IfOk, Some, option_copied, slice_get, true};
 ghost use Rattle.std.specs.List.{list_all, list_any};
 ghost use Rattle.table_terms.specs.Names.{has_name};
 ghost use Rattle.run_state.specs.Origins.{one_layer};
-ghost use Rattle.run_state.specs.Targets.{TargetAnswers, are_layers, is_layer, is_selected, is_wanted, targets, wanted_layers};
+ghost use Rattle.run_state.specs.Targets.{TargetAnswers, are_layers, has_target, is_layer, is_selected, is_wanted, targets, wanted_layers};
 
 use crate::refusal::RefuseWhy;
 use crate::state::HeldLayer;
@@ -70,8 +70,19 @@ fn is_among(names: &[Text], name: &str) -> bool
     names.iter().any(|listed| name == listed.as_str())
 }
 
-/// The first layer of a target.
-pub fn first_target<'a>(layers: &'a [HeldLayer], target: &Target) -> Option<&'a Layer>
+/// The first layer of a target that is there.
+#[tactic(auto, using(crate::proofs::TargetLemmas::has_first))]
+pub fn first_target<'a>(layers: &'a [HeldLayer], target: &Target) -> &'a Layer
+    requires there { has_target target.now layers.now ≡ true }
+    ensures first { Some result.now ≡ slice_get (targets target.now layers.now) 0 }
+{
+    match first_selected(layers, target) {
+        Some(layer) => layer,
+        None => unreachable!(),
+    }
+}
+
+fn first_selected<'a>(layers: &'a [HeldLayer], target: &Target) -> Option<&'a Layer>
     ensures first { option_copied result ≡ slice_get (targets target.now layers.now) 0 }
 {
     for held in layers {

@@ -21,7 +21,7 @@ use Rattle.job_terms.specs.declared.job.LayerAction.{LayerAction}
 use Rattle.job_terms.specs.declared.job.LayerAction.TheVariants as action
 use Rattle.run_plane.specs.declared.layer.Layer.{Layer}
 use Rattle.run_plane.specs.declared.plane.Plane.{Plane}
-use Rattle.run_checks.specs.Checks.{refused_target, refused_source, refused_kinds, refused_mixture, refused_number}
+use Rattle.run_checks.specs.Checks.{refused_target, refused_for_origin, refused_kinds, refused_mixture, refused_number}
 use Rattle.run_borders.specs.Dissolving.{refused_dissolve}
 use Rattle.run_tables.specs.Matching.{AreMatches}
 use Rattle.run_state.specs.Origins.{Base, one_layer, origin_layers}
@@ -106,7 +106,7 @@ refused_count count = if nat_lt 1000 count then Some TooManyLayers else None
 -- before it works: for its target, its source, or the kinds of the target's layers
 abbrev pub unfit_each : Base → List HeldLayer → Command → LayerAction → Option RefuseWhy
 unfit_each base layers c a =
-    first_refusal (refused_target c.target layers) (first_refusal (refused_source base.sources layers a) (refused_kinds base.sources layers a (targets c.target layers)))
+    first_refusal (refused_target c.target layers) (first_refusal (refused_for_origin base.sources layers a) (refused_kinds base.sources layers a (targets c.target layers)))
 
 -- for the number of layers that it would leave
 abbrev pub overfull_each : List HeldLayer → Command → LayerAction → Option RefuseWhy

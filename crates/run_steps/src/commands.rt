@@ -4,7 +4,7 @@ ghost use Rattle.run_state.specs.Origins.{base_of};
 ghost use Rattle.run_state.specs.Stops.{StopsAs, StopsFor};
 ghost use Rattle.run_state.specs.Targets.{has_target, placed};
 ghost use Rattle.run_steps.specs.Commands.{ChangesEach, ChangesTogether};
-ghost use Rattle.run_checks.specs.Checks.{refused_source};
+ghost use Rattle.run_checks.specs.Checks.{refused_for_origin};
 ghost use Rattle.run_steps.specs.Refusals.{FailsEach, RefusesEach, failed_together, refusal_together, refused_count};
 
 use crate::outputs::{each_outputs, joint_output};
@@ -19,7 +19,7 @@ const MAX_LAYERS: usize = 1_000;
 
 /// The state after a command that changes each layer of its target by itself.
 ///
-/// Errors: the first refusal, of the target, the source, the kinds of the layers, a layer in order, or of too many
+/// Errors: the first refusal, of the target, the origin, the kinds of the layers, a layer in order, or of too many
 /// layers; and `Memory`.
 #[tactic(auto, using(crate::proofs::Refusals::past, crate::proofs::Refusals::stops_at_first, crate::proofs::Refusals::stops_after))]
 pub fn changed_each(
@@ -76,7 +76,7 @@ fn each_changed(
     action: &LayerAction,
     state: State,
 ) -> Result<State, CommandStop>
-    requires sourced { refused_source (base_of base.now).sources state.layers.items action.now ≡ None }
+    requires sourced { refused_for_origin (base_of base.now).sources state.layers.items action.now ≡ None }
     requires on { AreHeldOn base.now.plane.now state.layers.items }
     ensures changes { IfOk result (λ after. ChangesEach (base_of base.now) command.now action.now state.layers.items after.layers.items) }
     ensures on { IfOk result (λ after. AreHeldOn base.now.plane.now after.layers.items) }

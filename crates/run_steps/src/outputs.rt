@@ -7,7 +7,7 @@ ghost use Rattle.run_state.specs.Targets.{has_target, is_selected, targets};
 ghost use Rattle.run_state.specs.Origins.{base_of, one_layer, origin_layers};
 ghost use Rattle.run_state.specs.Stops.{StopsAs, StopsFor};
 ghost use Rattle.run_steps.specs.Commands.{CutsBy, IsTitled, Joins, JoinsByPlace, MadeTogether, MakesOne, PutsFor, PutsOut, PutsTogether, at_first};
-ghost use Rattle.run_checks.specs.Checks.{refused_source};
+ghost use Rattle.run_checks.specs.Checks.{refused_for_origin};
 ghost use Rattle.run_steps.specs.Refusals.{RefusesHeld, RefusesIn, RefusesLayer, RefusesByPlace, refused_join, refused_together};
 ghost use Rattle.run_tables.specs.Made.{GivesTable};
 ghost use Rattle.spatial_join.specs.Joined.{join_matched};
@@ -114,7 +114,7 @@ pub(crate) fn each_outputs(
     command: &Command,
     action: &LayerAction,
 ) -> Result<Vec<Vec<Layer>>, CommandStop>
-    requires sourced { refused_source (base_of base.now).sources layers.now action.now ≡ None }
+    requires sourced { refused_for_origin (base_of base.now).sources layers.now action.now ≡ None }
     requires on { AreHeldOn base.now.plane.now layers.now }
     ensures puts { IfOk result (λ outputs. AllZip (PutsFor (base_of base.now) layers.now command.now action.now) layers.now (map (λ out. out.items) outputs.items)) }
     ensures on { IfOk result (λ outputs. AreAllOn base.now.plane.now (map (λ out. out.items) outputs.items)) }
@@ -137,7 +137,7 @@ fn cut_set_for(
     layers: &[HeldLayer],
     action: &LayerAction,
 ) -> Result<FaceSet, CommandStop>
-    requires sourced { refused_source (base_of base.now).sources layers.now action.now ≡ None }
+    requires sourced { refused_for_origin (base_of base.now).sources layers.now action.now ≡ None }
     ensures cut_set { IfOk result (CutsBy (base_of base.now) layers.now action.now) }
     ensures memory { IfErr result (λ stop. stop ≡ CommandStop.Memory) }
 {
@@ -186,30 +186,13 @@ fn all_titled(
     Ok(all)
 }
 
-fn titled(alloc: Global, layer: Layer, name: Option<&Text>) -> Result<Layer, AllocError>
+fn titled(alloc: Global, mut layer: Layer, name: Option<&Text>) -> Result<Layer, AllocError>
     ensures titled { IfOk result (IsTitled (option_copied name.entry) layer) }
 {
-    match name {
-        Some(name) => Ok(under(layer, copy_text(alloc, name)?)),
-        None => Ok(layer),
+    if let Some(name) = name {
+        layer.name = copy_text(alloc, name)?;
     }
-}
-
-fn under(layer: Layer, name: Text) -> Layer
-    ensures titled { IsTitled (Some name) layer result }
-{
-    let Layer {
-        kind,
-        table,
-        shapes,
-        ..
-    } = layer;
-    Layer {
-        name,
-        kind,
-        table,
-        shapes,
-    }
+    Ok(layer)
 }
 
 // What the command puts out for one layer of its target.

@@ -73,19 +73,9 @@ fn piece(alloc: Global, layer: &Layer, number: u64, item: &SplitItem) -> Result<
     requires below { All (λ n. n < length layer.now.table.rows) item.now.rows }
     ensures piece { IfOk result (IsPiece layer.now (number, item.now)) }
 {
-    let name = piece_name(alloc, layer.name.as_str(), number, item.value.as_ref())?;
-    let Layer {
-        kind,
-        table,
-        shapes,
-        ..
-    } = take_features(alloc, layer, &item.rows)?;
-    Ok(Layer {
-        name,
-        kind,
-        table,
-        shapes,
-    })
+    let mut piece = take_features(alloc, layer, &item.rows)?;
+    piece.name = piece_name(alloc, layer.name.as_str(), number, item.value.as_ref())?;
+    Ok(piece)
 }
 
 fn piece_name(

@@ -137,7 +137,7 @@ pub(crate) fn with_table(alloc: Global, layer: &Layer, table: Table) -> Result<L
 /// The features of the target's layers, in order, in a layer like the first.
 ///
 /// Errors: what the tables are refused for.
-#[tactic(auto, using(run_state::proofs::TargetLemmas::has_first))]
+#[tactic(auto, using(crate::proofs::Gathering::merged_count, crate::proofs::Gathering::some_tables, crate::proofs::Gathering::merge_stops))]
 pub fn merged(
     alloc: Global,
     layers: &[HeldLayer],
@@ -149,26 +149,7 @@ pub fn merged(
     ensures accepted { IfOk result (λ made. refused_layers force (targets target.now layers.now) ≡ None) }
     ensures stops { IfErr result (StopsFor (refused_layers force (targets target.now layers.now))) }
 {
-    match first_target(layers, target) {
-        Some(first) => merged_like(alloc, first, layers, target, force),
-        None => unreachable!(),
-    }
-}
-
-// The features of the target's layers, of which this is the first.
-#[tactic(auto, using(crate::proofs::Gathering::merged_count, crate::proofs::Gathering::some_tables, crate::proofs::Gathering::merge_stops))]
-fn merged_like(
-    alloc: Global,
-    first: &Layer,
-    layers: &[HeldLayer],
-    target: &Target,
-    force: bool,
-) -> Result<Layer, CommandStop>
-    requires first { Some first.now ≡ slice_get (targets target.now layers.now) 0 }
-    ensures made { IfOk result (IsMerged force (targets target.now layers.now)) }
-    ensures accepted { IfOk result (λ made. refused_layers force (targets target.now layers.now) ≡ None) }
-    ensures stops { IfErr result (StopsFor (refused_layers force (targets target.now layers.now))) }
-{
+    let first = first_target(layers, target);
     let Gathered { tables, shapes } = gather(alloc, layers, target)?;
     let table = merge_tables(alloc, &tables, force)?;
     Ok(Layer {

@@ -2,7 +2,7 @@
 use Rattle.std.proofs.Common.{◌≡◌, ◌-◌, ◌+◌, ℕ, ◌<◌, cond, List, [], ◌∷◌, ◌++◌, length, take, drop, get_or, refl, sym, ap, ◌∙◌, arith, append-nil, append_assoc}
 use Rattle.std.specs.Prelude.{reverse, ◌==◌}
 use Rattle.std.specs.List.{flat_map}
-use Rattle.std.proofs.lemmas.List.{take_more, take_all, reverse-append, length-take-le, length-reverse, get_or-reverse, flat_map_more}
+use Rattle.std.proofs.lemmas.List.{take_more, take_all, reverse-append, length-take-le, flat_map_more}
 use Rattle.lists.specs.Lists.{tail}
 use Rattle.plane_model.specs.Arcs.{SignedArc, points_of}
 use Rattle.plane_model.specs.Points.{GridPoint, Path}
@@ -48,11 +48,3 @@ along_next table path i a points more along some there is pushed =
     let next : take (i + 1) path ≡ take i path ++ a ∷ [] = take_more path i a there ∙ ap (λ (z : SignedArc). take i path ++ z ∷ []) (sym is) in
     let counted : length (take i path) ≡ i = length-take-le i path (omega arith) in
     pushed ∙ sym (along_more table (take i path) a points along (λ h. some (let k : 0 < i = omega (arith, counted, h) in k))) ∙ ap (points_along table) (sym next)
-
--- the next point from the last on
-pub reversed_next : (before points way more : Path) (p : GridPoint) (k : ℕ) → points ≡ before ++ take k (reverse way) → k < length way → p ≡ get_or way (length way - 1 - k) p → more ≡ points ++ p ∷ [] → more ≡ before ++ take (k + 1) (reverse way)
-reversed_next before points way more p k so_far there is pushed =
-    let at : get_or (reverse way) k p ≡ p = get_or-reverse way k p there ∙ sym is in
-    let less : k < length (reverse way) = omega (arith, length-reverse way) in
-    let next : take (k + 1) (reverse way) ≡ take k (reverse way) ++ p ∷ [] = take_more (reverse way) k p less ∙ ap (λ (z : GridPoint). take k (reverse way) ++ z ∷ []) at in
-    pushed ∙ ap (λ (ps : Path). ps ++ p ∷ []) so_far ∙ append_assoc before (take k (reverse way)) (p ∷ []) ∙ ap (λ (ps : Path). before ++ ps) (sym next)

@@ -1,4 +1,4 @@
-ghost use Rattle.std.specs.Prelude.{◌≡◌, ◌<◌, ◌≤◌, ◌==◌, ◌++◌, All, IfOk, OnOk, if◌then◌else◌, length, map, reverse};
+ghost use Rattle.std.specs.Prelude.{◌≡◌, ◌<◌, ◌≤◌, ◌==◌, ◌++◌, All, IfOk, OnOk, if◌then◌else◌, length, map};
 ghost use Rattle.plane_model.specs.Arcs.{points_of};
 ghost use Rattle.grid_base.specs.Grid.{most_places};
 ghost use Rattle.json_values.specs.Table.{AreRows};
@@ -11,7 +11,7 @@ use face_sets::FaceSet;
 use geojson_io::{
     GeoShape, end_collection, keys_of, start_collection, write_next_feature, write_next_points,
 };
-use grid_base::{PathList, PolygonRings, Pt, PtList, RingsList, SignedArc};
+use grid_base::{PathList, PolygonRings, PtList, RingsList, SignedArc, append_reversed};
 use io_core::Bytes;
 use json_values::Row;
 use ring_trace::trace;
@@ -180,13 +180,4 @@ fn shared_ends(points: &PtList) -> usize
     ensures exact { result ≡ (if length points.now == 0 then 0 else 1) }
 {
     if points.len() == 0 { 0 } else { 1 }
-}
-
-fn append_reversed(points: &mut PtList, way: &[Pt]) -> Result<(), AllocError>
-    ensures exact { OnOk result (points.new ≡ points.old ++ reverse way.now) }
-{
-    for k in 0..way.len() {
-        points.push(way[way.len() - 1 - k])?;
-    }
-    Ok(())
 }

@@ -1,7 +1,6 @@
-ghost use Rattle.std.specs.Prelude.{◌≡◌, ◌≤◌, ◌++◌, ◌∷◌, [], All, IfErr, IfOk, None, false, length, map, not, string_bytes, true};
+ghost use Rattle.std.specs.Prelude.{◌≡◌, ◌≤◌, All, IfErr, IfOk, None, false, length, true};
 ghost use Rattle.std.specs.List.{AllZip};
 ghost use Rattle.grid_base.specs.Grid.{most_places};
-ghost use Rattle.table_terms.specs.Names.{has_name};
 ghost use Rattle.topo_io.specs.Arcs.{LayerIsBelow};
 ghost use Rattle.run_state.specs.OnPlane.{AreHeldOn};
 ghost use Rattle.run_state.specs.Origins.{base_of, one_layer};
@@ -13,12 +12,12 @@ ghost use Rattle.run_texts.specs.Written.{IsCsvText, IsGeoText, IsTopoText, Outp
 use crate::arc_pictures::arc_layer_of;
 use crate::pictures::picture_text;
 use csv_io::write_csv;
-use indexmap::IndexSet;
 use io_core::Bytes;
 use job_terms::{OutForm, Target};
 use run_plane::Plane;
 use run_state::{Base, CommandStop, HeldLayer, RefuseWhy, check_target, is_selected, only_target};
 use std::alloc::{AllocError, Global};
+use table_terms::NameSet;
 use topo_io::{ArcLayers, write_topojson};
 
 /// The text of an output: a topology of the layers of the target, or its one layer in another form.
@@ -116,23 +115,13 @@ fn topology_text(
 fn has_repeat(alloc: Global, layers: &[HeldLayer], target: &Target) -> Result<bool, AllocError>
     ensures exact { IfOk result (λ twice. twice ≡ has_name_twice (names_of_layers (targets target.now layers.now))) }
 {
-    let mut seen = IndexSet::new(alloc);
+    let mut seen = NameSet::new(alloc);
     for held in layers {
-        if is_selected(target, held) && !add_name(alloc, &mut seen, held.layer.name.as_str())? {
+        if is_selected(target, held) && !seen.add(alloc, held.layer.name.as_str())? {
             return Ok(true);
         }
     }
     Ok(false)
-}
-
-// Adds a name, and says whether it is new.
-fn add_name(alloc: Global, names: &mut IndexSet<String>, name: &str) -> Result<bool, AllocError>
-    ensures new { IfOk result (λ is_new. is_new ≡ not (has_name (map string_bytes names.old.keys) name.now)) }
-    ensures added { IfOk result (λ is_new. is_new ≡ true → map string_bytes names.new.keys ≡ map string_bytes names.old.keys ++ name.now ∷ []) }
-{
-    let own = String::from_str(alloc, name)?;
-    let (_, added) = names.insert_full(own)?;
-    Ok(added)
 }
 
 // The layers of the target as arcs.

@@ -1,4 +1,4 @@
-use Rattle.std.proofs.Common.{◌≡◌, ◌++◌, ◌∙◌, ap, append_assoc, rules, subst, sym, List, [], ◌∷◌}
+use Rattle.std.proofs.Common.{◌≡◌, ◌++◌, ◌∙◌, ap, rules, subst, sym, List, [], ◌∷◌}
 use Rattle.std.specs.Prelude.{All}
 use Rattle.std.specs.Vec.Iter.{into_iter_items}
 use Rattle.std.proofs.lemmas.List.Elements.{All-tail}
@@ -22,7 +22,6 @@ loop-shape-preserved c =
           ∙ line_features_next before shape rest
           ∙ ap (λ (shapes : List GeoShape). with_line_features shapes before) (sym steps.0)
           ∙ so_far.added;
-      left = search (rules, append_assoc);
       sound = All-tail ShapeIsSound shape rest (subst (All ShapeIsSound) steps.0 so_far.sound);
       count = search rules;
     }

@@ -1,15 +1,13 @@
-use Rattle.std.proofs.Common.{◌≡◌, ◌++◌, length, map}
+use Rattle.std.proofs.Common.{◌≡◌, length}
 use Rattle.std.specs.Prelude.{All}
 use Rattle.std.specs.Vec.Iter.{into_iter_items, into_iter_len}
 use Rattle.geojson_io.specs.Sound.{ShapeIsSound}
-use Rattle.run_beginning.specs.Drawing.{nothing_of}
 use Rattle.run_beginning.proofs.DrawingLemmas.{with_line_features}
 use Rattle.run_beginning.proofs.drawing.add_line_features.Given as goal
 
 abbrev pub invariant-loop-shape : goal.invariant-loop-shape
 invariant-loop-shape l = record {
   added : with_line_features (into_iter_items l.shape-iterator) l.drawing ≡ with_line_features l.fn.shapes.items l.initial.drawing;
-  left : l.left ++ map nothing_of (into_iter_items l.shape-iterator) ≡ map nothing_of l.fn.shapes.items;
   sound : All ShapeIsSound (into_iter_items l.shape-iterator);
   count : into_iter_len l.shape-iterator ≡ length (into_iter_items l.shape-iterator);
 }

@@ -1,13 +1,14 @@
 use Rattle.std.proofs.Common.{◌≡◌, ◌∙◌, ap, arith, rules, subst, sym, List, [], ◌∷◌, length}
 use Rattle.std.specs.Prelude.{All}
 use Rattle.std.specs.Vec.Iter.{into_iter_items}
+use Rattle.std.proofs.lemmas.List.{nil_from_length}
 use Rattle.std.proofs.lemmas.List.Elements.{All-head, All-tail}
 use Rattle.plane_model.specs.Points.{Path}
 use Rattle.plane_model.specs.Drawing.{Drawing}
 use Rattle.geojson_io.specs.Sound.{HasPoints}
 use Rattle.snap_round.specs.Paths.{with_lines}
 use Rattle.run_beginning.specs.Drawing.{drawn_lines}
-use Rattle.run_beginning.proofs.DrawingLemmas.{lines_next, lines_stay, no_lines, none_left}
+use Rattle.run_beginning.proofs.DrawingLemmas.{lines_next, lines_stay, no_lines}
 use Rattle.run_beginning.proofs.drawing.add_lines.Goals as goal
 
 pub add_line-requires : goal.add_line-requires
@@ -40,5 +41,5 @@ loop-line-preserved c =
 pub returns : goal.returns
 returns c =
     let left = c.loop-line.drawing in
-    let none = none_left (into_iter_items c.loop-line.line-iterator) (sym c.loop-line.invariant.count ∙ c.in-None.ensures.steps.0) in
+    let none = nil_from_length (into_iter_items c.loop-line.line-iterator) (sym c.loop-line.invariant.count ∙ c.in-None.ensures.steps.0) in
     record { added = no_lines left ∙ ap (λ (lines : List Path). with_lines (drawn_lines lines) left) (sym none) ∙ c.loop-line.invariant.added }

@@ -1,18 +1,22 @@
-use Rattle.std.proofs.Common.{◌≡◌, ◌++◌, ◌∙◌, sym, arith, [], ◌∷◌}
-use Rattle.std.proofs.lemmas.List.{append-nil}
+use Rattle.std.proofs.Common.{◌≡◌, ◌++◌, ◌∙◌, ap, append_assoc, rules, sym, List, [], ◌∷◌}
+use Rattle.std.specs.Vec.Iter.{into_iter_items}
+use Rattle.geojson_io.specs.declared.shape.GeoShape.{GeoShape}
 use Rattle.snap_round.specs.Paths.{with_points}
-use Rattle.run_beginning.specs.Drawing.{points_of}
-use Rattle.run_beginning.proofs.DrawingLemmas.{point_features_more}
+use Rattle.run_beginning.proofs.DrawingLemmas.{point_features_next, with_point_features}
 use Rattle.run_beginning.proofs.drawing.add_point_features.Goals as goal
-
-pub loop-shape-init : goal.loop-shape-init
-loop-shape-init c = λ i. record c.args.drawing.now { points = sym (append-nil c.args.drawing.now.points) i }
 
 pub loop-shape-preserved : goal.loop-shape-preserved
 loop-shape-preserved c =
-    let shape = c.shape-item.result in
-    let grown : c.add_feature.new.self ≡ record c.loop-shape.drawing { points = c.loop-shape.drawing.points ++ [] ∷ [] } = λ i. (c.in_ok-add_feature.ensures.ok i).1 in
-    c.in_ok-add_shape_points.ensures.added
-    ∙ (λ i. with_points (points_of shape) (grown i))
-    ∙ (λ i. with_points (points_of shape) (record (c.loop-shape.invariant i) { points = (c.loop-shape.invariant i).points ++ [] ∷ [] }))
-    ∙ point_features_more c.args.drawing.now c.args.shapes.now c.loop-shape.shape-index shape (omega arith) c.shape-item.is
+    let steps = c.in-Some.ensures.steps in
+    let shape = c.in-Some.shape in
+    let rest = into_iter_items c.next.new.self in
+    let before = c.loop-shape.drawing in
+    let grown : c.add_feature.new.self ≡ record before { points = before.points ++ [] ∷ [] } = λ i. (c.in_ok-add_feature.ensures.ok i).1 in
+    record {
+      added = ap (with_point_features rest) (c.in_ok-add_points.ensures.added ∙ (λ i. with_points ((c.as_slice.ensures.all ∙ c.points_in-points.ensures.exact) i) (grown i)))
+          ∙ point_features_next before shape rest
+          ∙ ap (λ (shapes : List GeoShape). with_point_features shapes before) (sym steps.0)
+          ∙ c.loop-shape.invariant.added;
+      kept = search (rules, append_assoc);
+      count = search rules;
+    }

@@ -1,6 +1,7 @@
 use Rattle.std.proofs.Common.{◌≡◌, ◌∙◌, ap, arith, rules, subst, sym, List, [], ◌∷◌, length, map}
 use Rattle.std.specs.Prelude.{All, ◌<◌}
 use Rattle.std.specs.Vec.Iter.{into_iter_items}
+use Rattle.std.proofs.lemmas.List.{nil_from_length}
 use Rattle.std.proofs.lemmas.List.Elements.{All-head, All-tail}
 use Rattle.lists.specs.Lists.{last_of}
 use Rattle.plane_model.specs.Drawing.{Drawing, Polygon}
@@ -8,7 +9,7 @@ use Rattle.grid_base.specs.Drawn.{add_polygon}
 use Rattle.geojson_io.specs.Sound.{IsRing}
 use Rattle.snap_round.specs.Paths.{with_polygons, with_rings}
 use Rattle.run_beginning.specs.Drawing.{drawn_rings}
-use Rattle.run_beginning.proofs.DrawingLemmas.{no_polygons, none_left, polygon_there, polygons_next, polygons_stay}
+use Rattle.run_beginning.proofs.DrawingLemmas.{no_polygons, polygon_there, polygons_next, polygons_stay}
 use Rattle.run_beginning.proofs.drawing.add_polygons.Goals as goal
 
 pub add_rings-requires : goal.add_rings-requires
@@ -48,5 +49,5 @@ loop-polygon-preserved c =
 pub returns : goal.returns
 returns c =
     let left = c.loop-polygon.drawing in
-    let none = none_left (into_iter_items c.loop-polygon.polygon-iterator) (sym c.loop-polygon.invariant.count ∙ c.in-None.ensures.steps.0) in
+    let none = nil_from_length (into_iter_items c.loop-polygon.polygon-iterator) (sym c.loop-polygon.invariant.count ∙ c.in-None.ensures.steps.0) in
     record { added = no_polygons left ∙ ap (λ (polygons : List Polygon). with_polygons (map drawn_rings polygons) left) (sym none) ∙ c.loop-polygon.invariant.added }

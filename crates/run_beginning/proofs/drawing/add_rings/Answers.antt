@@ -1,6 +1,7 @@
 use Rattle.std.proofs.Common.{◌≡◌, ◌∙◌, ap, arith, rules, subst, sym, List, [], ◌∷◌, length}
 use Rattle.std.specs.Prelude.{All}
 use Rattle.std.specs.Vec.Iter.{into_iter_items}
+use Rattle.std.proofs.lemmas.List.{nil_from_length}
 use Rattle.std.proofs.lemmas.List.Elements.{All-tail, All-head}
 use Rattle.lists.specs.Lists.{last_of}
 use Rattle.plane_model.specs.Points.{Path}
@@ -8,7 +9,7 @@ use Rattle.plane_model.specs.Drawing.{Drawing}
 use Rattle.geojson_io.specs.Sound.{IsRing}
 use Rattle.snap_round.specs.Paths.{with_rings}
 use Rattle.run_beginning.specs.Drawing.{drawn_rings}
-use Rattle.run_beginning.proofs.DrawingLemmas.{no_rings, none_left, rings_next, rings_stay}
+use Rattle.run_beginning.proofs.DrawingLemmas.{no_rings, rings_next, rings_stay}
 use Rattle.run_beginning.proofs.drawing.add_rings.Goals as goal
 
 pub add_ring-requires : goal.add_ring-requires
@@ -42,5 +43,5 @@ loop-ring-preserved c =
 pub returns : goal.returns
 returns c =
     let left = c.loop-ring.drawing in
-    let none = none_left (into_iter_items c.loop-ring.ring-iterator) (sym c.loop-ring.invariant.count ∙ c.in-None.ensures.steps.0) in
+    let none = nil_from_length (into_iter_items c.loop-ring.ring-iterator) (sym c.loop-ring.invariant.count ∙ c.in-None.ensures.steps.0) in
     record { added = no_rings left ∙ ap (λ (rings : List Path). with_rings (drawn_rings rings) left) (sym none) ∙ c.loop-ring.invariant.added }

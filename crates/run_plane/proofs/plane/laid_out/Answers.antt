@@ -5,12 +5,12 @@ use Rattle.run_plane.specs.LaidOut.{IsLaidOut}
 use Rattle.run_plane.specs.LineArcs.{AreLineArcs}
 use Rattle.run_plane.proofs.plane.laid_out.Goals as goal
 
-pub returns-in-Ok-clause-laid : goal.returns-in-Ok-clause-laid
-returns-in-Ok-clause-laid c =
-    let laid = c.in-Ok.laid in
-    subst (λ (s : Drawing). IsLaidOut s laid.plane.arcs laid.plane.faces laid.plane.boxes.items laid.features.items) c.in_ok-snapped.ensures.exact c.in-Ok.ensures.laid
+pub returns-clause-laid : goal.returns-clause-laid
+returns-clause-laid c =
+    let laid = c.in_ok-built.field-0 in
+    subst (λ (s : Drawing). IsLaidOut s laid.plane.arcs laid.plane.faces laid.plane.boxes.items laid.features.items) c.in_ok-snapped.ensures.exact c.in_ok-built.ensures.laid
 
-pub returns-in-Ok-clause-lines : goal.returns-in-Ok-clause-lines
-returns-in-Ok-clause-lines c =
-    let laid = c.in-Ok.laid in
-    subst (λ (s : Drawing). AllZip (AreLineArcs laid.plane.arcs) s.lines laid.lines.items) c.in_ok-snapped.ensures.exact c.in-Ok.ensures.lines
+pub returns-clause-lines : goal.returns-clause-lines
+returns-clause-lines c =
+    let laid = c.in_ok-built.field-0 in
+    subst (λ (s : Drawing). AllZip (AreLineArcs laid.plane.arcs) s.lines laid.lines.items) c.in_ok-snapped.ensures.exact c.in_ok-built.ensures.lines

@@ -1,11 +1,10 @@
-use Rattle.std.proofs.Common.{◌≡◌, false, map, take}
-use Rattle.std.specs.String.{string_bytes}
+use Rattle.std.proofs.Common.{◌≡◌, false, take}
 use Rattle.run_state.specs.Targets.{targets}
 use Rattle.run_texts.specs.Written.{has_name_twice, names_of_layers}
 use Rattle.run_texts.proofs.texts.has_repeat.Given as goal
 
 abbrev pub invariant-loop-held : goal.invariant-loop-held
 invariant-loop-held l = record {
-  seen : map string_bytes l.seen.keys ≡ names_of_layers (targets l.target (take l.held-index l.layers));
+  seen : l.seen ≡ names_of_layers (targets l.target (take l.held-index l.layers));
   once : has_name_twice (names_of_layers (targets l.target (take l.held-index l.layers))) ≡ false;
 }

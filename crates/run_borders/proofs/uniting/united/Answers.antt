@@ -8,7 +8,7 @@ use Rattle.run_state.specs.Targets.{targets}
 use Rattle.run_state.proofs.OnPlane.{all_targets_on}
 use Rattle.run_borders.specs.Uniting.{item_shape}
 use Rattle.run_borders.proofs.OnPlane.{items_on, layer_sets_inner}
-use Rattle.run_borders.proofs.uniting.united_like.Goals as goal
+use Rattle.run_borders.proofs.uniting.united.Goals as goal
 
 pub union_sets-requires-clause-faces : goal.union_sets-requires-clause-faces
 union_sets-requires-clause-faces c =
@@ -24,8 +24,8 @@ returns c =
     let shapes = c.in_ok-shapes.ensures.exact ∙ ap (map item_shape) c.into_vec.ensures.all in
     record {
       made = record {
-        first = c.args.first.now;
-        begins = sym c.requires.first;
+        first = c.first_target-first.result.now;
+        begins = sym c.first_target-first.ensures.first;
         name = c.in_ok-copy_text.ensures.copied;
         kind = refl;
         items = items;

@@ -1,6 +1,0 @@
-use Rattle.run_texts.proofs.Along.{reversed_next}
-use Rattle.run_texts.proofs.pictures.append_reversed.Goals as goal
-
-pub loop-k-preserved : goal.loop-k-preserved
-loop-k-preserved c =
-    reversed_next c.args.points.now c.loop-k.points c.args.way.now c.push.new.self c.index-way-way.result c.loop-k.k c.loop-k.invariant c.loop-k-test.true c.index-way-way.is c.in_ok-push.ensures.ok
