@@ -23,23 +23,23 @@ use Rattle.chain_model.specs.State.{State, StateLayer, regions_in}
 use Rattle.chain_model.specs.Targets.{SourceLayers, selected, one_layer, origin_layers, layer_names, layers_at, need_kinds, with_outputs}
 use Rattle.chain_model.specs.Features
 
--- ---- sources
+-- ---- origins
 
 -- any of the regions of a polygon layer's features
 abbrev pub layer_region : StateLayer → Result Region RefuseWhy
 layer_region l = if same_kind l.kind kind.Polygon then Ok (any_of (regions_in l)) else Err wrong_kind
 
 -- the region that clips or erases: a layer's, or a box
-abbrev pub source_region : SourceLayers → State → Origin → Result Region RefuseWhy
-source_region sources s (origin.Area b) = Ok (box b)
-source_region sources s o = on_ok (one_layer (origin_layers sources s o)) layer_region
+abbrev pub origin_region : SourceLayers → State → Origin → Result Region RefuseWhy
+origin_region sources s (origin.Area b) = Ok (box b)
+origin_region sources s o = on_ok (one_layer (origin_layers sources s o)) layer_region
 
 -- what a join by place takes: a layer of polygons or of points
 abbrev pub polygons_or_points : StateLayer → Result StateLayer RefuseWhy
 polygons_or_points l = if same_kind l.kind kind.Polygon || same_kind l.kind kind.Point then Ok l else Err wrong_kind
 
-abbrev pub place_source : SourceLayers → State → Origin → Result StateLayer RefuseWhy
-place_source sources s o = on_ok (one_layer (origin_layers sources s o)) polygons_or_points
+abbrev pub place_origin : SourceLayers → State → Origin → Result StateLayer RefuseWhy
+place_origin sources s o = on_ok (one_layer (origin_layers sources s o)) polygons_or_points
 
 -- ---- kinds
 
@@ -60,9 +60,18 @@ takes (action.Each (each.Lines fields)) first k = is_polygon k
 takes (action.Each each.Explode) first k = has_geometry k
 takes (action.Each (each.Filter test invert remove_empty)) first k = not remove_empty || has_geometry k
 takes (action.Each (each.FilterIslands least_area least_links remove_empty)) first k = is_polygon k
+takes (action.Each (each.Dissolve spec group_points)) first k = true
+takes (action.Each (each.Join from spec)) first k = true
+takes (action.Each (each.SpatialJoin from spec)) first k = true
+takes (action.Each (each.FilterFields fields)) first k = true
+takes (action.Each (each.RenameFields pairs)) first k = true
+takes (action.Each (each.Split field)) first k = true
+takes (action.Each (each.Each assigns)) first k = true
+takes (action.Each (each.Sort key descending)) first k = true
+takes (action.Each (each.Uniq key most invert)) first k = true
 takes (action.Together (joint.MergeLayers force)) first k = same_kind first k
 takes (action.Together joint.Union) first k = is_polygon k
-takes _ first k = true
+takes (action.Write to standard form) first k = true
 
 -- ---- outputs
 
@@ -71,14 +80,14 @@ abbrev pub each_layer : (StateLayer → Features.Outputs) → List StateLayer �
 each_layer f [] = Ok []
 each_layer f (l ∷ ls) = on_ok (f l) (λ (out : List StateLayer). on_ok (each_layer f ls) (λ (outs : List (List StateLayer)). Ok (out ∷ outs)))
 
--- by the region of a source
-abbrev pub by_source : SourceLayers → State → Origin → (Region → StateLayer → Features.Outputs) → List StateLayer → Result (List (List StateLayer)) RefuseWhy
-by_source sources s o f ls = on_ok (source_region sources s o) (λ (r : Region). each_layer (f r) ls)
+-- by the region of an origin
+abbrev pub by_origin : SourceLayers → State → Origin → (Region → StateLayer → Features.Outputs) → List StateLayer → Result (List (List StateLayer)) RefuseWhy
+by_origin sources s o f ls = on_ok (origin_region sources s o) (λ (r : Region). each_layer (f r) ls)
 
 -- the outputs for the targets
 abbrev pub outputs_of : Plane → Answers → SourceLayers → State → Action → List StateLayer → Result (List (List StateLayer)) RefuseWhy
-outputs_of P A sources s (action.Each (each.Clip o)) ls = by_source sources s o (Features.clip_layer P A) ls
-outputs_of P A sources s (action.Each (each.Erase o)) ls = by_source sources s o (Features.erase_layer P A) ls
+outputs_of P A sources s (action.Each (each.Clip o)) ls = by_origin sources s o (Features.clip_layer P A) ls
+outputs_of P A sources s (action.Each (each.Erase o)) ls = by_origin sources s o (Features.erase_layer P A) ls
 outputs_of P A sources s (action.Each (each.Dissolve spec group_points)) ls = each_layer (Features.dissolve_layer P spec group_points) ls
 outputs_of P A sources s (action.Each (each.Clean rule allow_empty gap)) ls = each_layer (Features.clean_layer P A rule allow_empty gap) ls
 outputs_of P A sources s (action.Each each.Mosaic) ls = each_layer (Features.mosaic_layer P A) ls
@@ -86,7 +95,7 @@ outputs_of P A sources s (action.Each each.InnerLines) ls = each_layer (Features
 outputs_of P A sources s (action.Each (each.Lines fields)) ls = each_layer (Features.lines_layer P A fields) ls
 outputs_of P A sources s (action.Each each.Explode) ls = each_layer (Features.explode_layer P A) ls
 outputs_of P A sources s (action.Each (each.Join o spec)) ls = on_ok (one_layer (origin_layers sources s o)) (λ (l : StateLayer). each_layer (Features.join_layer l spec) ls)
-outputs_of P A sources s (action.Each (each.SpatialJoin o spec)) ls = on_ok (place_source sources s o) (λ (l : StateLayer). each_layer (Features.place_join_layer A l spec) ls)
+outputs_of P A sources s (action.Each (each.SpatialJoin o spec)) ls = on_ok (place_origin sources s o) (λ (l : StateLayer). each_layer (Features.place_join_layer A l spec) ls)
 outputs_of P A sources s (action.Each (each.Filter test invert remove_empty)) ls = each_layer (Features.filter_layer P A test invert remove_empty) ls
 outputs_of P A sources s (action.Each (each.FilterFields fields)) ls = each_layer (Features.filter_fields_layer fields) ls
 outputs_of P A sources s (action.Each (each.RenameFields pairs)) ls = each_layer (Features.rename_fields_layer pairs) ls
@@ -99,18 +108,18 @@ outputs_of P A sources s (action.Together (joint.MergeLayers force)) ls = Featur
 outputs_of P A sources s (action.Together joint.Union) ls = Features.united_layers P A ls
 outputs_of P A sources s (action.Write to standard form) ls = Ok []
 
--- ---- refusals: the source, then the kinds of the targets, then the layers one by one, then too many layers
+-- ---- refusals: the origin, then the kinds of the targets, then the layers one by one, then too many layers
 
 abbrev pub refusal_of : {T E : Type 0} → Result T E → Option E
 refusal_of (Ok v) = None
 refusal_of (Err why) = Some why
 
-abbrev pub refused_source : SourceLayers → State → Action → Option RefuseWhy
-refused_source sources s (action.Each (each.Clip o)) = refusal_of (source_region sources s o)
-refused_source sources s (action.Each (each.Erase o)) = refusal_of (source_region sources s o)
-refused_source sources s (action.Each (each.Join o spec)) = refusal_of (one_layer (origin_layers sources s o))
-refused_source sources s (action.Each (each.SpatialJoin o spec)) = refusal_of (place_source sources s o)
-refused_source sources s _ = None
+abbrev pub refused_for_origin : SourceLayers → State → Action → Option RefuseWhy
+refused_for_origin sources s (action.Each (each.Clip o)) = refusal_of (origin_region sources s o)
+refused_for_origin sources s (action.Each (each.Erase o)) = refusal_of (origin_region sources s o)
+refused_for_origin sources s (action.Each (each.Join o spec)) = refusal_of (one_layer (origin_layers sources s o))
+refused_for_origin sources s (action.Each (each.SpatialJoin o spec)) = refusal_of (place_origin sources s o)
+refused_for_origin sources s _ = None
 
 abbrev pub first_kind : List StateLayer → Kind
 first_kind [] = kind.Table
@@ -128,7 +137,7 @@ refused_pairs (Ok source) ls = need_kinds (same_kind (other_kind source.kind)) l
 refused_pairs (Err why) ls = Some why
 
 abbrev pub refused_beside : SourceLayers → State → Action → List StateLayer → Option RefuseWhy
-refused_beside sources s (action.Each (each.SpatialJoin o spec)) ls = refused_pairs (place_source sources s o) ls
+refused_beside sources s (action.Each (each.SpatialJoin o spec)) ls = refused_pairs (place_origin sources s o) ls
 refused_beside sources s _ ls = None
 
 -- an output has the target's name, or that of `name=`
@@ -138,7 +147,7 @@ titled name l = record l { name = unwrap_or name l.name }
 -- the state after a command other than an output
 abbrev pub changed : Plane → Answers → SourceLayers → State → Command → List ℕ → Result State RefuseWhy
 changed P A sources s c ns =
-    unless (first_refusal (refused_source sources s c.action) (first_refusal (refused_kinds c.action (layers_at s ns)) (refused_beside sources s c.action (layers_at s ns))))
+    unless (first_refusal (refused_for_origin sources s c.action) (first_refusal (refused_kinds c.action (layers_at s ns)) (refused_beside sources s c.action (layers_at s ns))))
     (on_ok (outputs_of P A sources s c.action (layers_at s ns)) (λ (outs : List (List StateLayer)).
     with_outputs s c.keep ns (map (map (titled c.name)) outs)))
 

@@ -11,7 +11,6 @@ use Rattle.job_terms.specs.declared.job.OutForm.{OutForm}
 use Rattle.run_state.specs.Origins.{Base}
 use Rattle.run_state.specs.Targets.{targets}
 use Rattle.run_state.specs.declared.refusal.RefuseWhy.{RefuseWhy}
-use Rattle.run_state.specs.declared.refusal.RefuseWhy.TheVariants as refuse
 use Rattle.run_state.specs.declared.state.CommandStop.{CommandStop}
 use Rattle.run_state.specs.declared.state.CommandStop.TheVariants as stop
 use Rattle.run_state.specs.declared.state.HeldLayer.{HeldLayer}
@@ -31,22 +30,11 @@ use Rattle.chain_model.specs.Steps.{Stepped, step}
 use Rattle.layer_laws.specs.Reasons.{why_of}
 use Rattle.layer_laws.specs.Shown.{View, StateShows, plane_of}
 use Rattle.state_laws.specs.Steps.{StepGives, StepRefuses}
-use Rattle.headline_laws.specs.Outcomes.{outcome_as, refusal_as}
+use Rattle.headline_laws.specs.Outcomes.{outcome_as}
 use Rattle.headline_laws.specs.Refused.{outside_of}
 use Rattle.headline_laws.proofs.Unchanged.{unchanged}
 use Rattle.headline_laws.specs.ChainSteps.{ActionShows, CommandsShow, WriteGives}
 use Rattle.headline_laws.proofs.Effects.{CutOff, cut_off, effect, held_on, place_of, whole_held}
-
--- one name for a reason
-why_same : (why : RefuseWhy) → refusal_as why ≡ why_of why
-why_same refuse.NoLayer = refl
-why_same refuse.ManyLayers = refl
-why_same refuse.WrongKind = refl
-why_same refuse.OneLayer = refl
-why_same refuse.NoGroupPoints = refl
-why_same refuse.NameTwice = refl
-why_same refuse.TooManyLayers = refl
-why_same (refuse.Table why) = refl
 
 -- done, or refused
 abbrev pub IsStated : Outcome → Type 0
@@ -119,7 +107,7 @@ module _ (v : View) (base : Base) (begun : Begun) (plane : begun.plane ≡ plane
     refused_so why e kept refuses = ran_by (Err (why_of why)) refuses (inl (record {
       stated = subst IsStated (sym e) tt;
       effects = [];
-      ends = ap outcome_as e ∙ ap (model.refused n) (why_same why);
+      ends = ap outcome_as e;
       gives = tt;
       held = unchanged before after kept;
     }))

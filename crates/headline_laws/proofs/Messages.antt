@@ -25,8 +25,9 @@ use Rattle.run_outcome.specs.Telling.{StreamSeen, Offers}
 use Rattle.run_outcome.specs.declared.outcome.Outcome.{Outcome}
 use Rattle.run_outcome.specs.declared.outcome.Outcome.TheVariants as end
 use Rattle.chain_model.specs.Messages as model
+use Rattle.layer_laws.specs.Reasons.{why_of}
 use Rattle.headline_laws.specs.ToldSources.{input_as}
-use Rattle.headline_laws.specs.Outcomes.{outcome_as, refusal_as}
+use Rattle.headline_laws.specs.Outcomes.{outcome_as}
 use Rattle.headline_laws.specs.Messages.{MessagesAreOfTheModel, messages_of}
 
 -- ## Kinds
@@ -110,7 +111,7 @@ tables_same (table.Eval row at eval.Unknown) = refl
 tables_same (table.Eval row at eval.Types) = refl
 tables_same (table.Eval row at eval.Range) = refl
 
-refusals_same : (why : RefuseWhy) → model.refused_text (refusal_as why) ≡ run.refused_text why
+refusals_same : (why : RefuseWhy) → model.refused_text (why_of why) ≡ run.refused_text why
 refusals_same refuse.NoLayer = refl
 refusals_same refuse.ManyLayers = refl
 refusals_same refuse.WrongKind = refl
@@ -151,7 +152,7 @@ bad_input_offered : (n : ℕ) (why : InputWhy) → Offered (end.BadInput n why)
 bad_input_offered n why = ap whole_line (told_same (codes "source") n (model.input_text (input_as why)) (run.input_text why) (inputs_same why))
 
 refused_offered : (n : ℕ) (why : RefuseWhy) → Offered (end.Refused n why)
-refused_offered n why = ap whole_line (told_same (codes "command") n (model.refused_text (refusal_as why)) (run.refused_text why) (refusals_same why))
+refused_offered n why = ap whole_line (told_same (codes "command") n (model.refused_text (why_of why)) (run.refused_text why) (refusals_same why))
 
 write_fault_offered : (n : ℕ) → Offered (end.WriteFault n)
 write_fault_offered n = ap whole_line (told_same (codes "command") n (codes "WriteFault") (codes "WriteFault") refl)

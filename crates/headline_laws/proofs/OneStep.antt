@@ -38,7 +38,7 @@ use Rattle.chain_model.specs.Features.{Outputs, with_features, with_table}
 use Rattle.chain_model.specs.Features as features
 use Rattle.chain_model.specs.Outcome.{RefuseWhy}
 use Rattle.chain_model.specs.State.{State, StateLayer, take_features, without_empty}
-use Rattle.chain_model.specs.Steps.{Stepped, each_layer, first_kind, outputs_of, place_source, refused_beside, refused_source, step, takes, titled}
+use Rattle.chain_model.specs.Steps.{Stepped, each_layer, first_kind, outputs_of, place_origin, refused_beside, refused_for_origin, step, takes, titled}
 use Rattle.chain_model.specs.Targets.{SourceLayers, layers_at, need_kinds, one_layer, origin_layers, selected, with_outputs}
 use Rattle.headline_laws.specs.Words.{StepsAreOfWords}
 
@@ -90,7 +90,7 @@ each_same f g one ls = ap (λ (h : StateLayer → Outputs). each_layer h ls) (fu
 module _ (P : Plane) (A : Answers) (sources : SourceLayers) (s : State) where
   -- an action of a layer by itself that is refused for the same sources and kinds, and puts out the same
   record AreOne (a b : LayerAction) : Type 0 where
-    source : refused_source sources s (action.Each a) ≡ refused_source sources s (action.Each b)
+    source : refused_for_origin sources s (action.Each a) ≡ refused_for_origin sources s (action.Each b)
     kinds : (first k : Kind) → takes (action.Each a) first k ≡ takes (action.Each b) first k
     beside : (ls : List StateLayer) → refused_beside sources s (action.Each a) ls ≡ refused_beside sources s (action.Each b) ls
     outputs : (ls : List StateLayer) → outputs_of P A sources s (action.Each a) ls ≡ outputs_of P A sources s (action.Each b) ls
@@ -109,9 +109,9 @@ module _ (P : Plane) (A : Answers) (sources : SourceLayers) (s : State) where
     one_step : (a b : LayerAction) → AreOne a b → step P A sources s (with_action (action.Each a)) ≡ step P A sources s (with_action (action.Each b))
     one_step a b one =
         ap (λ (source : Option RefuseWhy). step_by source (takes (action.Each a)) (refused_beside sources s (action.Each a)) (outputs_of P A sources s (action.Each a))) one.source
-        ∙ ap (λ (kinds : Kind → Kind → Bool). step_by (refused_source sources s (action.Each b)) kinds (refused_beside sources s (action.Each a)) (outputs_of P A sources s (action.Each a))) (fun_ext (λ first. fun_ext (one.kinds first)))
-        ∙ ap (λ (beside : List StateLayer → Option RefuseWhy). step_by (refused_source sources s (action.Each b)) (takes (action.Each b)) beside (outputs_of P A sources s (action.Each a))) (fun_ext one.beside)
-        ∙ ap (λ (outputs : List StateLayer → Result (List (List StateLayer)) RefuseWhy). step_by (refused_source sources s (action.Each b)) (takes (action.Each b)) (refused_beside sources s (action.Each b)) outputs) (fun_ext one.outputs)
+        ∙ ap (λ (kinds : Kind → Kind → Bool). step_by (refused_for_origin sources s (action.Each b)) kinds (refused_beside sources s (action.Each a)) (outputs_of P A sources s (action.Each a))) (fun_ext (λ first. fun_ext (one.kinds first)))
+        ∙ ap (λ (beside : List StateLayer → Option RefuseWhy). step_by (refused_for_origin sources s (action.Each b)) (takes (action.Each b)) beside (outputs_of P A sources s (action.Each a))) (fun_ext one.beside)
+        ∙ ap (λ (outputs : List StateLayer → Result (List (List StateLayer)) RefuseWhy). step_by (refused_for_origin sources s (action.Each b)) (takes (action.Each b)) (refused_beside sources s (action.Each b)) outputs) (fun_ext one.outputs)
 
   -- ## Actions that fit the same words
 
@@ -129,7 +129,7 @@ module _ (P : Plane) (A : Answers) (sources : SourceLayers) (s : State) where
     source = refl;
     kinds = λ first k. refl;
     beside = λ ls. refl;
-    outputs = λ ls. ap (λ (f : StateLayer → Result (List (List StateLayer)) RefuseWhy). on_ok (place_source sources s from) f)
+    outputs = λ ls. ap (λ (f : StateLayer → Result (List (List StateLayer)) RefuseWhy). on_ok (place_origin sources s from) f)
         (fun_ext (λ (m : StateLayer). each_same (features.place_join_layer A m (record spec { test = d })) (features.place_join_layer A m (record spec { test = e }))
         (λ l. ap (with_table l) (same_place_join l.table m.table (map (features.matches_of A m.shapes) l.shapes) spec one)) ls));
   }

@@ -103,12 +103,12 @@ module _ (v : View) (base : Base) (sources : SourceLayers) (layers : List HeldLa
 
 pub output_steps_show : OutputStepsShow
 output_steps_show v view base seen sources layers s h c to standard f writes = record {
-  goes = λ none. (
-    written v base sources layers s h c to standard f writes,
-    goes_on v base sources layers s h c to standard f writes none,
-    refl,
-    refl,
-    λ text says. texts_show v view base seen (targets c.target layers) (layers_at s (target_numbers c.target layers)) (targets_show v layers s h c.target).show f text says (written v base sources layers s h c to standard f writes) refl refl,
-  );
+  goes = λ none. record {
+    written = written v base sources layers s h c to standard f writes;
+    gives = goes_on v base sources layers s h c to standard f writes none;
+    to_there = refl;
+    to_stream = refl;
+    text = λ text says. texts_show v view base seen (targets c.target layers) (layers_at s (target_numbers c.target layers)) (targets_show v layers s h c.target).show f text says (written v base sources layers s h c to standard f writes) refl refl;
+  };
   refused = refuses v base sources layers s h c to standard f writes;
 }

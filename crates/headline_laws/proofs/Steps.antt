@@ -12,20 +12,20 @@ use Rattle.run_state.specs.declared.state.HeldLayer.{HeldLayer}
 use Rattle.chain_model.specs.State.{State}
 use Rattle.chain_model.specs.Targets.{SourceLayers}
 use Rattle.layer_laws.specs.Shown.{View, IsView, SourcesShow, StateShows, IsSeenIn}
-use Rattle.state_laws.specs.Steps.{StepShows}
+use Rattle.state_laws.specs.Steps.{JointShows, StepShows}
 use Rattle.state_laws.proofs.MergeStep.{merge_steps_show}
 use Rattle.state_laws.proofs.PlaceSteps.{place_steps_show}
 use Rattle.state_laws.proofs.PolygonSteps.{shape_steps_show}
 use Rattle.state_laws.proofs.TableSteps.{table_steps_show}
 use Rattle.state_laws.proofs.UnionStep.{union_steps_show}
 use Rattle.headline_laws.proofs.OutputSteps.{output_steps_show}
-use Rattle.headline_laws.specs.ChainSteps.{ActionShows, CommandsShow, JointShows}
+use Rattle.headline_laws.specs.ChainSteps.{ActionShows, CommandsShow}
 use Rattle.headline_laws.specs.Steps.{AllCommandsShow, EachJointStepShows, EachStepShows}
 
 module _ (v : View) (view : IsView v) (base : Base) (seen : IsSeenIn v base.plane) (sources : SourceLayers) where
   joint_shows : (layers : List HeldLayer) (s : State) → StateShows v layers s → (c : Command) (a : JointAction) → c.action ≡ action.Together a → JointShows v base layers sources s c a
-  joint_shows layers s h c (joint.MergeLayers force) is = let shows = merge_steps_show v base sources layers s h c force is in record { goes = shows.goes; refused = shows.refused }
-  joint_shows layers s h c joint.Union is = let shows = union_steps_show v view base seen sources layers s h c is in record { goes = shows.goes; refused = shows.refused }
+  joint_shows layers s h c (joint.MergeLayers force) is = merge_steps_show v base sources layers s h c force is
+  joint_shows layers s h c joint.Union is = union_steps_show v view base seen sources layers s h c is
 
   module _ (owned : SourcesShow v base.sources sources) where
     step_shows : (layers : List HeldLayer) (s : State) → StateShows v layers s → (c : Command) (a : LayerAction) → c.action ≡ action.Each a → StepShows v base layers sources s c a
@@ -49,12 +49,7 @@ module _ (v : View) (view : IsView v) (base : Base) (seen : IsSeenIn v base.plan
     step_shows layers s h c (layer.Uniq key most invert) is = table_steps_show v view base sources owned layers s h c (layer.Uniq key most invert) is refl
 
     action_shows : (layers : List HeldLayer) (s : State) → StateShows v layers s → (c : Command) (a : Action) → c.action ≡ a → ActionShows v base layers sources s c a
-    action_shows layers s h c (action.Write to standard form) is =
-        let shows = output_steps_show v view base seen sources layers s h c to standard form is in
-        record {
-          goes = λ accepted. let g = shows.goes accepted in record { written = g.0; gives = g.1; to_there = g.2; to_stream = g.3; text = g.4 };
-          refused = shows.refused;
-        }
+    action_shows layers s h c (action.Write to standard form) is = output_steps_show v view base seen sources layers s h c to standard form is
     action_shows layers s h c (action.Each a) is = step_shows layers s h c a is
     action_shows layers s h c (action.Together a) is = joint_shows layers s h c a is
 

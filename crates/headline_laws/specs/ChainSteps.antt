@@ -5,14 +5,11 @@ use Rattle.table_terms.specs.Names.{Text}
 use Rattle.job_terms.specs.declared.job.Action.{Action}
 use Rattle.job_terms.specs.declared.job.Action.TheVariants as action
 use Rattle.job_terms.specs.declared.job.Command.{Command}
-use Rattle.job_terms.specs.declared.job.JointAction.{JointAction}
 use Rattle.job_terms.specs.declared.job.OutForm.{OutForm}
 use Rattle.run_state.specs.Origins.{Base}
 use Rattle.run_state.specs.Targets.{targets}
 use Rattle.run_state.specs.declared.refusal.RefuseWhy.{RefuseWhy}
 use Rattle.run_state.specs.declared.state.HeldLayer.{HeldLayer}
-use Rattle.run_steps.specs.Commands.{ChangesTogether}
-use Rattle.run_steps.specs.Refusals.{refusal_together}
 use Rattle.run_texts.specs.Written.{OutputSays, refused_output}
 use Rattle.run_chain.specs.Effects.{OutsideSeen}
 use Rattle.run_chain.specs.Running.{Passes}
@@ -21,14 +18,9 @@ use Rattle.chain_model.specs.State.{State}
 use Rattle.chain_model.specs.Steps.{Written, step}
 use Rattle.chain_model.specs.Targets.{SourceLayers}
 use Rattle.layer_laws.specs.Shown.{View, StateShows, plane_of}
-use Rattle.state_laws.specs.Steps.{StepGives, StepRefuses, StepShows}
+use Rattle.state_laws.specs.Steps.{JointShows, StepRefuses, StepShows}
 
 -- ---- one command
-
--- a command that takes the layers of its target together
-pub record JointShows (v : View) (base : Base) (layers : List HeldLayer) (sources : SourceLayers) (s : State) (c : Command) (a : JointAction) : Type 0 where
-  pub goes : refusal_together layers c a ≡ None → (after : List HeldLayer) → ChangesTogether base c a layers after → StepGives v sources s c after
-  pub refused : (why : RefuseWhy) → refusal_together layers c a ≡ Some why → StepRefuses v sources s c why
 
 -- an output goes to the same place, and what it says is a text of what the state's step writes
 pub record WriteGives (v : View) (base : Base) (layers : List HeldLayer) (sources : SourceLayers) (s : State) (c : Command) (to : Text) (standard : Bool) (form : OutForm) : Type 0 where
@@ -38,6 +30,7 @@ pub record WriteGives (v : View) (base : Base) (layers : List HeldLayer) (source
   pub to_stream : written.standard ≡ standard
   pub text : (text : Content) → OutputSays base form (targets c.target layers) text → IsTextOf (plane_of v) v.answers base.places written text
 
+-- or it is refused for the same reason
 pub record WriteShows (v : View) (base : Base) (layers : List HeldLayer) (sources : SourceLayers) (s : State) (c : Command) (to : Text) (standard : Bool) (form : OutForm) : Type 0 where
   pub goes : refused_output c.target form layers ≡ None → WriteGives v base layers sources s c to standard form
   pub refused : (why : RefuseWhy) → refused_output c.target form layers ≡ Some why → StepRefuses v sources s c why

@@ -1,22 +1,11 @@
 -- How a run ended, as the model of a run names it.
 use Rattle.std.specs.Prelude.{◌≡◌}
-use Rattle.run_state.specs.declared.refusal.RefuseWhy.{RefuseWhy}
-use Rattle.run_state.specs.declared.refusal.RefuseWhy.TheVariants as refuse
 use Rattle.run_outcome.specs.Status.{status_number}
 use Rattle.run_outcome.specs.declared.outcome.Outcome.{Outcome}
 use Rattle.run_outcome.specs.declared.outcome.Outcome.TheVariants as end
 use Rattle.chain_model.specs.Outcome as model
+use Rattle.layer_laws.specs.Reasons.{why_of}
 use Rattle.headline_laws.specs.ToldSources.{input_as}
-
-abbrev pub refusal_as : RefuseWhy → model.RefuseWhy
-refusal_as refuse.NoLayer = model.no_layer
-refusal_as refuse.ManyLayers = model.many_layers
-refusal_as refuse.WrongKind = model.wrong_kind
-refusal_as refuse.OneLayer = model.lone_layer
-refusal_as refuse.NoGroupPoints = model.no_group_points
-refusal_as refuse.NameTwice = model.name_twice
-refusal_as refuse.TooManyLayers = model.too_many_layers
-refusal_as (refuse.Table why) = model.in_table why
 
 abbrev pub outcome_as : Outcome → model.Outcome
 outcome_as end.Done = model.done
@@ -26,7 +15,7 @@ outcome_as (end.Missing source) = model.missing source
 outcome_as (end.TooLong source) = model.too_long source
 outcome_as (end.BadInput source why) = model.bad_input source (input_as why)
 outcome_as (end.TooDense count) = model.too_dense count
-outcome_as (end.Refused command why) = model.refused command (refusal_as why)
+outcome_as (end.Refused command why) = model.refused command (why_of why)
 outcome_as (end.WriteFault command) = model.write_fault command
 outcome_as end.Memory = model.memory
 

@@ -1,5 +1,5 @@
 -- Laws of texts: what an output of a run says is a text of the state's output.
-use Rattle.std.specs.Prelude.{◌≡◌, ℕ, Bool, List, Some, None, Ok}
+use Rattle.std.specs.Prelude.{◌≡◌, ℕ, Bool, List}
 use Rattle.std.specs.List.{AllZip}
 use Rattle.io_core.specs.Contents.{Content}
 use Rattle.table_terms.specs.Names.{Text}
@@ -9,16 +9,14 @@ use Rattle.job_terms.specs.declared.job.OutForm.{OutForm}
 use Rattle.job_terms.specs.declared.job.OutForm.TheVariants as form
 use Rattle.run_plane.specs.declared.layer.Layer.{Layer}
 use Rattle.run_state.specs.Origins.{Base}
-use Rattle.run_state.specs.Targets.{targets}
-use Rattle.run_state.specs.declared.refusal.RefuseWhy.{RefuseWhy}
 use Rattle.run_state.specs.declared.state.HeldLayer.{HeldLayer}
-use Rattle.run_texts.specs.Written.{IsCsvText, IsGeoText, IsTopoText, OutputSays, refused_output}
+use Rattle.run_texts.specs.Written.{IsCsvText, IsGeoText, IsTopoText, OutputSays}
 use Rattle.chain_model.specs.Pictures.{IsTextOf}
 use Rattle.chain_model.specs.State.{State, StateLayer}
-use Rattle.chain_model.specs.Steps.{Written, step}
+use Rattle.chain_model.specs.Steps.{Written}
 use Rattle.chain_model.specs.Targets.{SourceLayers}
 use Rattle.layer_laws.specs.Shown.{View, IsView, IsSeenIn, LayerShows, StateShows, plane_of}
-use Rattle.state_laws.specs.Steps.{StepRefuses}
+use Rattle.headline_laws.specs.ChainSteps.{WriteShows}
 
 -- the text is one of whatever writes these layers of the state in the form
 abbrev pub TextIsOf : View → Base → OutForm → List StateLayer → Content → Type 0
@@ -45,13 +43,6 @@ TextsExist = (v : View) → IsView v → (places : ℕ) (w : Written) → (text 
 
 -- ---- the step of an output
 
--- The state's step writes to the same place, and what the run's output says is a text of what it writes; or both refuse
--- for the same reason.
-pub record OutputShows (v : View) (base : Base) (layers : List HeldLayer) (sources : SourceLayers) (s : State) (c : Command) (to : Text) (standard : Bool) (f : OutForm) : Type 0 where
-  pub goes : refused_output c.target f layers ≡ None → (w : Written) × (step (plane_of v) v.answers sources s c ≡ Ok (record { state = s; written = Some w }))
-      × (w.to ≡ to) × (w.standard ≡ standard) × ((text : Content) → OutputSays base f (targets c.target layers) text → IsTextOf (plane_of v) v.answers base.places w text)
-  pub refused : (why : RefuseWhy) → refused_output c.target f layers ≡ Some why → StepRefuses v sources s c why
-
 abbrev pub OutputStepsShow : Type 0
 OutputStepsShow = (v : View) → IsView v → (base : Base) → IsSeenIn v base.plane → (sources : SourceLayers) (layers : List HeldLayer) (s : State) → StateShows v layers s →
-    (c : Command) (to : Text) (standard : Bool) (f : OutForm) → c.action ≡ does.Write to standard f → OutputShows v base layers sources s c to standard f
+    (c : Command) (to : Text) (standard : Bool) (f : OutForm) → c.action ≡ does.Write to standard f → WriteShows v base layers sources s c to standard f

@@ -9,8 +9,8 @@ use Rattle.run_state.specs.declared.state.HeldLayer.{HeldLayer}
 use Rattle.chain_model.specs.State.{State}
 use Rattle.chain_model.specs.Targets.{SourceLayers}
 use Rattle.layer_laws.specs.Shown.{View, IsView, SourcesShow, StateShows, IsSeenIn}
-use Rattle.state_laws.specs.Steps.{StepShows}
-use Rattle.headline_laws.specs.ChainSteps.{CommandsShow, JointShows}
+use Rattle.state_laws.specs.Steps.{JointShows, StepShows}
+use Rattle.headline_laws.specs.ChainSteps.{CommandsShow}
 
 -- a command that changes each layer of its target by itself
 abbrev pub EachStepShows : Type 0

@@ -26,7 +26,7 @@ use Rattle.run_checks.specs.Checks.{refused_alone, refused_cut}
 use Rattle.chain_model.specs.Outcome as state
 use Rattle.chain_model.specs.State.{State, StateLayer}
 use Rattle.chain_model.specs.Features.{clean_layer, clip_layer, dissolve_layer, erase_layer, explode_layer, islands_layer, mosaic_layer, united_layers}
-use Rattle.chain_model.specs.Steps.{source_region}
+use Rattle.chain_model.specs.Steps.{origin_region}
 use Rattle.chain_model.specs.Targets.{SourceLayers}
 use Rattle.layer_laws.specs.Shown.{View, IsView, FacesShow, LayerShows, SourcesShow, StateShows, plane_of, IsSeenIn}
 use Rattle.layer_laws.specs.Reasons.{MakesAlike, RefusedAlike, why_of}
@@ -51,7 +51,7 @@ pub record CutSetShows (v : View) (refusal : Option RefuseWhy) (cut_set : List �
 
 abbrev pub CutSetsShow : Type 0
 CutSetsShow = (v : View) → IsView v → (base : Base) → IsSeenIn v base.plane → (sources : SourceLayers) → SourcesShow v base.sources sources → (layers : List HeldLayer) (s : State) → StateShows v layers s → (from : Origin) →
-    CutSetShows v (refused_cut base.sources layers from) (cut_set_of base layers from) (source_region sources s from)
+    CutSetShows v (refused_cut base.sources layers from) (cut_set_of base layers from) (origin_region sources s from)
 
 -- ---- clip and erase
 

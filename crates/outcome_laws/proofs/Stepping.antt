@@ -23,7 +23,7 @@ use Rattle.chain_model.specs.Features as features
 use Rattle.chain_model.specs.Features.{Outputs}
 use Rattle.chain_model.specs.Outcome.{RefuseWhy, too_many_layers, wrong_kind}
 use Rattle.chain_model.specs.State.{State, StateLayer}
-use Rattle.chain_model.specs.Steps.{Stepped, Written, by_action, changed, each_layer, outputs_of, place_source, polygons_or_points, refused_beside, refused_kinds, refused_source, refused_write, source_region, step, titled}
+use Rattle.chain_model.specs.Steps.{Stepped, Written, by_action, changed, each_layer, outputs_of, place_origin, polygons_or_points, refused_beside, refused_kinds, refused_for_origin, refused_write, origin_region, step, titled}
 use Rattle.chain_model.specs.Targets.{Marked, SourceLayers, layers_at, new, old, one_layer, origin_layers, placed, replaced, selected, state_of, with_outputs, layer_limit}
 use Rattle.outcome_laws.proofs.Every.{Every, every_append, every_filter, every_joined, every_kept, every_map, every_place}
 use Rattle.outcome_laws.proofs.Planes.{IsWalked}
@@ -159,8 +159,8 @@ module _ (P : Plane) where
 
 module _ (P : Plane) (A B : Answers) (walked : IsWalked P) (alike : AreAlike P A B) (sources : SourceLayers) (there : SourcesAreOn P sources) where
   each_agree : (s : State) → StateIsOn P s → (a : LayerAction) (ls : List StateLayer) → LayersAreOn P ls → Agree P (outputs_of P A sources s (action.Each a) ls) (outputs_of P B sources s (action.Each a) ls)
-  each_agree s on (each.Clip o) ls h = by_region P (source_region sources s o) (features.clip_layer P A) (features.clip_layer P B) (clip_one P A B alike) ls h
-  each_agree s on (each.Erase o) ls h = by_region P (source_region sources s o) (features.erase_layer P A) (features.erase_layer P B) (erase_one P A B alike) ls h
+  each_agree s on (each.Clip o) ls h = by_region P (origin_region sources s o) (features.clip_layer P A) (features.clip_layer P B) (clip_one P A B alike) ls h
+  each_agree s on (each.Erase o) ls h = by_region P (origin_region sources s o) (features.erase_layer P A) (features.erase_layer P B) (erase_one P A B alike) ls h
   each_agree s on (each.Dissolve spec group_points) ls h = by_each P (features.dissolve_layer P spec group_points) (features.dissolve_layer P spec group_points) (dissolve_one P walked spec group_points) ls h
   each_agree s on (each.Clean rule allow_empty gap) ls h = by_each P (features.clean_layer P A rule allow_empty gap) (features.clean_layer P B rule allow_empty gap) (clean_one P A B alike rule allow_empty gap) ls h
   each_agree s on each.Mosaic ls h = by_each P (features.mosaic_layer P A) (features.mosaic_layer P B) (mosaic_one P A B alike) ls h
@@ -170,7 +170,7 @@ module _ (P : Plane) (A B : Answers) (walked : IsWalked P) (alike : AreAlike P A
   each_agree s on (each.Join o spec) ls h =
       by_layer P (one_layer (origin_layers sources s o)) (one_on P (origin_layers sources s o) (origin_on P sources s o there on)) (λ (l : StateLayer). features.join_layer l spec) (λ (l : StateLayer). features.join_layer l spec) (λ l k. join_one P l spec) ls h
   each_agree s on (each.SpatialJoin o spec) ls h =
-      by_layer P (place_source sources s o) (place_on P (one_layer (origin_layers sources s o)) (one_on P (origin_layers sources s o) (origin_on P sources s o there on)))
+      by_layer P (place_origin sources s o) (place_on P (one_layer (origin_layers sources s o)) (one_on P (origin_layers sources s o) (origin_on P sources s o there on)))
       (λ (l : StateLayer). features.place_join_layer A l spec) (λ (l : StateLayer). features.place_join_layer B l spec) (λ l k. place_one P A B alike l k spec) ls h
   each_agree s on (each.Filter test invert remove_empty) ls h = by_each P (features.filter_layer P A test invert remove_empty) (features.filter_layer P B test invert remove_empty) (filter_one P A B alike test invert remove_empty) ls h
   each_agree s on (each.FilterFields fields) ls h = by_each P (features.filter_fields_layer fields) (features.filter_fields_layer fields) (fields_one P fields) ls h
@@ -190,7 +190,7 @@ module _ (P : Plane) (A B : Answers) (walked : IsWalked P) (alike : AreAlike P A
 
   module _ (s : State) (on : StateIsOn P s) (c : Command) (ns : List ℕ) where
     abbrev changed_by : Result (List (List StateLayer)) RefuseWhy → Result State RefuseWhy
-    changed_by outs = unless (first_refusal (refused_source sources s c.action) (first_refusal (refused_kinds c.action (layers_at s ns)) (refused_beside sources s c.action (layers_at s ns))))
+    changed_by outs = unless (first_refusal (refused_for_origin sources s c.action) (first_refusal (refused_kinds c.action (layers_at s ns)) (refused_beside sources s c.action (layers_at s ns))))
         (on_ok outs (λ (made : List (List StateLayer)). with_outputs s c.keep ns (map (map (titled c.name)) made)))
 
     agreed : Agree P (outputs_of P A sources s c.action (layers_at s ns)) (outputs_of P B sources s c.action (layers_at s ns))
@@ -200,7 +200,7 @@ module _ (P : Plane) (A B : Answers) (walked : IsWalked P) (alike : AreAlike P A
     changed_same = ap changed_by agreed.same
 
     changed_on : StateOrRefusal P (changed P A sources s c ns)
-    changed_on = go (first_refusal (refused_source sources s c.action) (first_refusal (refused_kinds c.action (layers_at s ns)) (refused_beside sources s c.action (layers_at s ns)))) (outputs_of P A sources s c.action (layers_at s ns)) agreed.on
+    changed_on = go (first_refusal (refused_for_origin sources s c.action) (first_refusal (refused_kinds c.action (layers_at s ns)) (refused_beside sources s c.action (layers_at s ns)))) (outputs_of P A sources s c.action (layers_at s ns)) agreed.on
       where
         go : (why : Option RefuseWhy) (outs : Result (List (List StateLayer)) RefuseWhy) → AllAreOn P outs → StateOrRefusal P (unless why (on_ok outs (λ (made : List (List StateLayer)). with_outputs s c.keep ns (map (map (titled c.name)) made))))
         go (Some why) outs h = tt

@@ -15,8 +15,8 @@
 //!   what is read has closed rings, so its plane has right answers, and each region has polygons that fit it, so each
 //!   output has a text.
 //! - Commands begin over the plane of a drawing whose rings are closed (`begun_rings_are_closed`), which the laws of
-//!   printed regions ask for, and so are the cells of a made-up mosaic (`cell_rings_are_closed`). The links of the plane
-//!   meet at their ends alone, and each step of an arc, a ring or a line that is printed is along one of them
+//!   printed regions ask for, and so are the cells of a made-up mosaic (`cell_rings_are_closed`). The links of the
+//!   plane meet at their ends alone, and each step of an arc, a ring or a line that is printed is along one of them
 //!   (`printed_steps_are_links`).
 //!
 //! Each function carries one law in its contract, and does nothing.

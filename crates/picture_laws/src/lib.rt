@@ -1,7 +1,8 @@
 //! Laws of pictures: what a run draws of its layers shows the layers of the model.
 //!
-//! A run traces a set of faces as rings of arcs, and draws rings and paths of arcs as points. `specs/Drawn.antt` says
-//! what is drawn, `specs/Pictured.antt` that there is something to draw.
+//! A run traces a set of faces as rings of arcs, and draws rings and paths of arcs as points. The laws of what is drawn
+//! are stated in `specs/Drawn.antt`, those that there is something to draw in `specs/Pictured.antt`, and that of the
+//! plane in `specs/Planes.antt`.
 //!
 //! - Arcs that follow each other are drawn as the path that they are when they are joined (`paths_are_joined`), a set of
 //!   faces as polygons that fit the region that it follows, or as nothing where that is empty (`regions_are_drawn`), and

@@ -6,12 +6,12 @@
 //!
 //! - A point on no link is held by all rings together exactly if the region has it (`regions_are_printed`).
 //! - It is held by those of polygon j exactly if it is in part j of the region (`parts_are_printed`).
-//! - No point is held by two polygons (`none_is_held_twice`). Each point of the region is held by one, which holds all
-//!   points that are joined with it in the region as well (`joined_points_are_held_by_one`).
-//! - Counting all rings of a polygon agrees with its exterior and holes, as RFC 7946 reads them (`readings_agree`). So
-//!   no point lies in two polygons by that reading either (`polygons_are_apart`), and a point lies in some polygon
-//!   exactly if the region has it (`regions_are_read`).
-//! - Two points of the region lie in one polygon exactly if no closed runs of the region's boundary separate them
+//! - No such point is held by two polygons (`none_is_held_twice`). Each such point of the region is held by one, which
+//!   holds all of them that are joined with it in the region as well (`joined_points_are_held_by_one`).
+//! - There counting all rings of a polygon agrees with its exterior and holes, as RFC 7946 reads them
+//!   (`readings_agree`). So no such point lies in two polygons by that reading either (`polygons_are_apart`), and one
+//!   lies in some polygon exactly if the region has it (`regions_are_read`).
+//! - Two such points of the region lie in one polygon exactly if no closed runs of the region's boundary separate them
 //!   (`polygons_are_parts`).
 //!
 //! Each function carries one law in its contract, and does nothing. The laws are stated in `specs/Printed.antt` of
@@ -37,13 +37,13 @@ pub fn parts_are_printed()
     ensures holds { PartsArePrinted }
 {}
 
-/// No point is held by the rings of two polygons.
+/// No point off the links is held by the rings of two polygons.
 pub fn none_is_held_twice()
     ensures holds { NoneIsHeldTwice }
 {}
 
-/// Each point of the region is held by one polygon, and by the same each point that no closed runs of the region's
-/// boundary separate from it.
+/// Each point of the region that is on no link is held by one polygon, and by the same each such point that no closed
+/// runs of the region's boundary separate from it.
 pub fn joined_points_are_held_by_one()
     ensures holds { JoinedPointsAreHeldByOne }
 {}
@@ -64,7 +64,7 @@ pub fn regions_are_read()
     ensures holds { RegionsAreRead }
 {}
 
-/// Two points of the region lie in one polygon exactly if they are joined in it.
+/// Two points of the region, on no link, lie in one polygon exactly if they are joined in it.
 pub fn polygons_are_parts()
     ensures holds { PolygonsAreParts }
 {}

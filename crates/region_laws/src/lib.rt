@@ -16,9 +16,9 @@
 //! - Each region has a set of inner faces that follows it (`regions_have_sets`), so right answers on sides, parts and
 //!   gaps exist (`answers_exist`).
 //!
-//! Each function carries one law in its contract, and does nothing. Regions are those of `region_model`; the laws are
-//! stated in `specs/Followed.antt`, `specs/Gaps.antt`, `specs/Printed.antt`, `specs/Ties.antt` and
-//! `specs/Answered.antt`.
+//! Each function carries one law in its contract, and does nothing. Regions are those of `region_model`;
+//! `specs/Regions.antt` says when a set follows one (`Follows`). The laws are stated in `specs/Followed.antt`,
+//! `specs/Gaps.antt`, `specs/Printed.antt`, `specs/Ties.antt` and `specs/Answered.antt`.
 #![tactic(auto)]
 
 ghost use Rattle.region_laws.specs.Answered.{AnswersExist, AreasAreTold, CleanedAsTold, EmptinessIsTold, ExplodedAsTold, LayersAreFollowed, MosaicAsTold, PartsAreTold, PartsExist, RegionsHaveSets, SidesAreTold, TracesFit};

@@ -49,16 +49,16 @@ abbrev pub polygon_holds : RationalPoint → Polygon → Bool
 polygon_holds z [] = false
 polygon_holds z (exterior ∷ holes) = rings_hold z (exterior ∷ []) && not (list_any (λ (hole : Path). rings_hold z (hole ∷ [])) holes)
 
--- counting all rings of a polygon agrees with its exterior and holes
+-- off the links counting all rings of a polygon agrees with its exterior and holes
 abbrev pub ReadingsAgree : Type 0
 ReadingsAgree = (d : Drawing) (A : Answers) (r : Region) (polygons : List Polygon) → ArePrinted d A r polygons → (z : RationalPoint) → IsOff d z → All (λ p. rings_hold z p ≡ polygon_holds z p) polygons
 
--- no point lies in two polygons
+-- no point off the links lies in two polygons
 abbrev pub PolygonsAreApart : Type 0
 PolygonsAreApart = (d : Drawing) (A : Answers) (r : Region) (polygons : List Polygon) → ArePrinted d A r polygons → (z : RationalPoint) → IsOff d z →
     AllPairs (λ p q. polygon_holds z p ≡ true → polygon_holds z q ≡ true → ⊥) polygons
 
--- two points of the region lie in one polygon exactly if they are joined in it
+-- two points of the region off the links lie in one polygon exactly if they are joined in it
 abbrev pub PolygonsAreParts : Type 0
 PolygonsAreParts = (d : Drawing) (A : Answers) (r : Region) (polygons : List Polygon) → ArePrinted d A r polygons → (z w : RationalPoint) → IsOff d z → IsOff d w → PointsOf (plane_of d) r z → PointsOf (plane_of d) r w →
     Any (λ p. (polygon_holds z p ≡ true) × (polygon_holds w p ≡ true)) polygons ↔ AreJoinedIn (plane_of d).links (PointsOf (plane_of d) r) z w

@@ -34,7 +34,7 @@ use Rattle.chain_model.specs.Targets as model
 use Rattle.chain_model.specs.Targets.{SourceLayers, layers_at}
 use Rattle.chain_model.specs.Features.{Outputs, matches_of, place_join_layer}
 use Rattle.chain_model.specs.Steps as steps
-use Rattle.chain_model.specs.Steps.{each_layer, first_kind, other_kind, place_source, polygons_or_points, refused_kinds, refused_pairs, takes}
+use Rattle.chain_model.specs.Steps.{each_layer, first_kind, other_kind, place_origin, polygons_or_points, refused_kinds, refused_pairs, takes}
 use Rattle.layer_laws.specs.Shown.{View, IsView, LayerShows, SourcesShow, StateShows, IsSeenIn}
 use Rattle.layer_laws.specs.Reasons.{AnswerShows, MakesAlike, OutputsShow, RefusedAlike, why_of}
 use Rattle.state_laws.specs.Places.{PlaceStepsShow}
@@ -202,7 +202,7 @@ module _ (v : View) (view : IsView v) (base : Base) (seen : IsSeenIn v base.plan
   found_shows = one_layer_shows v (run.origin_layers base.sources layers from) (model.origin_layers sources s from) (origins_show v layers s h base.sources sources owns from)
 
   abbrev made : StateLayer → Outputs
-  made l = joined_with v view base seen spec (place_source sources s from) l
+  made l = joined_with v view base seen spec (place_origin sources s from) l
 
   abbrev ts : List Layer
   ts = targets c.target layers
@@ -225,9 +225,9 @@ module _ (v : View) (view : IsView v) (base : Base) (seen : IsSeenIn v base.plan
   is_alike : IsAlike v base layers sources s c a made
   is_alike = record {
     stops = λ there. stopped_alike v from spec ts ls shown found has found_shows (targets_there c.target layers there);
-    outputs = λ none some. joined_outputs v view base seen spec (place_source sources s from) none some;
+    outputs = λ none some. joined_outputs v view base seen spec (place_origin sources s from) none some;
     pairs = pairs_alike;
-    count = λ layer l is outs e. one_joined v view base seen spec (place_source sources s from) l outs e;
+    count = λ layer l is outs e. one_joined v view base seen spec (place_origin sources s from) l outs e;
   }
 
 pub place_steps_show : PlaceStepsShow

@@ -1,4 +1,4 @@
--- Steps of commands on layers of polygons.
+-- Steps of commands on shapes.
 use Rattle.std.proofs.Common.{All, ◌≡◌, ◌≢◌, refl, sym, ap, ◌∙◌, subst, true≢false, ℕ, Bool, true, false, not, ◌&&◌, List, [], ◌∷◌, ◌++◌, length, map, nat_lt, Option, Some, None, option_map, Result, Ok, Err, if◌then◌else◌}
 use Rattle.std.specs.Prelude.{codes}
 use Rattle.std.specs.List.{AllZip, flat_map}
@@ -40,11 +40,11 @@ use Rattle.chain_model.specs.State.{State, StateLayer, regions_in}
 use Rattle.chain_model.specs.Targets as model
 use Rattle.chain_model.specs.Targets.{SourceLayers, layers_at}
 use Rattle.chain_model.specs.Features.{Outputs, clean_layer, clip_layer, dissolve_layer, dissolved_shape, erase_layer, explode_layer, in_layer, inner_lines_layer, islands_layer, just, line_layer, line_row, lines_layer, mosaic_layer}
-use Rattle.chain_model.specs.Steps.{each_layer, outputs_of, refusal_of, refused_source, source_region}
+use Rattle.chain_model.specs.Steps.{each_layer, outputs_of, refusal_of, refused_for_origin, origin_region}
 use Rattle.layer_laws.specs.Shown.{View, IsView, FacesShow, LayerShows, LineShows, NothingShows, PointsShow, ShapeShows, SourcesShow, StateShows, plane_of, IsSeenIn}
 use Rattle.layer_laws.specs.Reasons.{AnswerShows, why_of}
 use Rattle.layer_laws.specs.Polygons.{CutSetShows, PolygonsShow}
-use Rattle.state_laws.specs.PolygonSteps.{AreOfPolygons, PolygonStepsShow, ShapeStepsShow, is_on_polygons, is_on_shapes}
+use Rattle.state_laws.specs.PolygonSteps.{ShapeStepsShow, is_on_shapes}
 use Rattle.layer_laws.specs.Targets.{target_numbers}
 use Rattle.state_laws.proofs.EachLayer.{LayerAlike, alike_unless, alike_with}
 use Rattle.layer_laws.proofs.LayerKinds.{only_taken}
@@ -131,10 +131,10 @@ made_of v source _ l = Ok []
 other : {P : Type 0} → false ≡ true → P
 other e = absurd (true≢false (sym e))
 
-by_source_is : (found : Result Region outcome.RefuseWhy) (source : Region) (f : Region → StateLayer → Outputs) (ls : List StateLayer) → ((r : Region) → found ≡ Ok r → r ≡ source) → refusal_of found ≡ None →
+by_origin_is : (found : Result Region outcome.RefuseWhy) (source : Region) (f : Region → StateLayer → Outputs) (ls : List StateLayer) → ((r : Region) → found ≡ Ok r → r ≡ source) → refusal_of found ≡ None →
     on_ok found (λ (r : Region). each_layer (f r) ls) ≡ each_layer (f source) ls
-by_source_is (Ok r) source f ls same none = ap (λ (q : Region). each_layer (f q) ls) (same r refl)
-by_source_is (Err why) source f ls same none = absurd (let w : Some why ≡ None = none in cc)
+by_origin_is (Ok r) source f ls same none = ap (λ (q : Region). each_layer (f q) ls) (same r refl)
+by_origin_is (Err why) source f ls same none = absurd (let w : Some why ≡ None = none in cc)
 
 module _ (v : View) (view : IsView v) (base : Base) (seen : IsSeenIn v base.plane) (sources : SourceLayers) (owns : SourcesShow v base.sources sources) (layers : List HeldLayer) (s : State) (h : StateShows v layers s) where
   no_cut_set : (from : Origin) (why : RefuseWhy) → checks.refused_cut base.sources layers from ≡ Some why → cut_set_of base layers from ≡ []
@@ -147,10 +147,10 @@ module _ (v : View) (view : IsView v) (base : Base) (seen : IsSeenIn v base.plan
       (one_layer_shows v (run.origin_layers base.sources layers (origin.Source n)) (model.origin_layers sources s (origin.Source n)) (origins_show v layers s h base.sources sources owns (origin.Source n))) why some
 
   abbrev Cuts : Origin → Type 0
-  Cuts from = CutRegion v (cut_set_of base layers from) (source_region sources s from)
+  Cuts from = CutRegion v (cut_set_of base layers from) (origin_region sources s from)
 
   cut_by : (from : Origin) → Cuts from
-  cut_by from = cut_region v (checks.refused_cut base.sources layers from) (cut_set_of base layers from) (source_region sources s from) (cut_sets_show v view base seen sources owns layers s h from) (no_cut_set from)
+  cut_by from = cut_region v (checks.refused_cut base.sources layers from) (cut_set_of base layers from) (origin_region sources s from) (cut_sets_show v view base seen sources owns layers s h from) (no_cut_set from)
 
   -- the region that the command cuts by, where it cuts
   abbrev by_region : LayerAction → Region
@@ -161,9 +161,9 @@ module _ (v : View) (view : IsView v) (base : Base) (seen : IsSeenIn v base.plan
   abbrev made : LayerAction → StateLayer → Outputs
   made a l = made_of v (by_region a) a l
 
-  outputs_are : (a : LayerAction) → is_on_polygons a ≡ true → refused_source sources s (does.Each a) ≡ None → (ls : List StateLayer) → outputs_of (plane_of v) v.answers sources s (does.Each a) ls ≡ each_layer (made a) ls
-  outputs_are (action.Clip from) on none ls = by_source_is (source_region sources s from) (by_region (action.Clip from)) (clip_layer (plane_of v) v.answers) ls (cut_by from).is none
-  outputs_are (action.Erase from) on none ls = by_source_is (source_region sources s from) (by_region (action.Erase from)) (erase_layer (plane_of v) v.answers) ls (cut_by from).is none
+  outputs_are : (a : LayerAction) → is_on_shapes a ≡ true → refused_for_origin sources s (does.Each a) ≡ None → (ls : List StateLayer) → outputs_of (plane_of v) v.answers sources s (does.Each a) ls ≡ each_layer (made a) ls
+  outputs_are (action.Clip from) on none ls = by_origin_is (origin_region sources s from) (by_region (action.Clip from)) (clip_layer (plane_of v) v.answers) ls (cut_by from).is none
+  outputs_are (action.Erase from) on none ls = by_origin_is (origin_region sources s from) (by_region (action.Erase from)) (erase_layer (plane_of v) v.answers) ls (cut_by from).is none
   outputs_are (action.Dissolve spec group_points) on none ls = refl
   outputs_are (action.Clean rule allow_empty gap) on none ls = refl
   outputs_are action.Mosaic on none ls = refl
@@ -175,7 +175,7 @@ module _ (v : View) (view : IsView v) (base : Base) (seen : IsSeenIn v base.plan
 
   -- ---- and a run
 
-  makes_alike : (a : LayerAction) → is_on_polygons a ≡ true → (layer : Layer) (l : StateLayer) → PolygonsShow v layer l → LayerAlike v (PutsOut base layers a layer) (held.RefusesLayer base layers a layer) (made a l)
+  makes_alike : (a : LayerAction) → is_on_shapes a ≡ true → (layer : Layer) (l : StateLayer) → PolygonsShow v layer l → LayerAlike v (PutsOut base layers a layer) (held.RefusesLayer base layers a layer) (made a l)
   makes_alike (action.Clip from) on layer l shown = alike_with (clipped_polygons_show v view base.plane layer l shown (cut_set_of base layers from) (by_region (action.Clip from)) (cut_by from).shows)
   makes_alike (action.Erase from) on layer l shown = alike_with (erased_polygons_show v view base.plane layer l shown (cut_set_of base layers from) (by_region (action.Erase from)) (cut_by from).shows)
   makes_alike (action.Dissolve spec group_points) on layer l shown = alike_with (dissolved_polygons_show v layer l shown spec group_points)
@@ -207,7 +207,7 @@ module _ (v : View) (view : IsView v) (base : Base) (seen : IsSeenIn v base.plan
   one_lined None m outs e = one_of e
   one_lined (Some why) m outs e = absurd (cc)
 
-  outputs_counted : (a : LayerAction) → is_on_polygons a ≡ true → (layer : Layer) (l : StateLayer) → LayerShows v layer l → (outs : List StateLayer) → made a l ≡ Ok outs → length outs ≡ held.output_count a layer
+  outputs_counted : (a : LayerAction) → is_on_shapes a ≡ true → (layer : Layer) (l : StateLayer) → LayerShows v layer l → (outs : List StateLayer) → made a l ≡ Ok outs → length outs ≡ held.output_count a layer
   outputs_counted (action.Clip from) on layer l shown outs e = one_of e
   outputs_counted (action.Erase from) on layer l shown outs e = one_of e
   outputs_counted (action.Dissolve spec group_points) on layer l shown outs e =
@@ -222,9 +222,9 @@ module _ (v : View) (view : IsView v) (base : Base) (seen : IsSeenIn v base.plan
 
   -- ---- the source, and the kinds
 
-  source_alike : (a : LayerAction) → is_on_polygons a ≡ true → refused_source sources s (does.Each a) ≡ option_map why_of (checks.refused_source base.sources layers a)
-  source_alike (action.Clip from) on = cut_set_alike v (checks.refused_cut base.sources layers from) (cut_set_of base layers from) (source_region sources s from) (cut_sets_show v view base seen sources owns layers s h from)
-  source_alike (action.Erase from) on = cut_set_alike v (checks.refused_cut base.sources layers from) (cut_set_of base layers from) (source_region sources s from) (cut_sets_show v view base seen sources owns layers s h from)
+  source_alike : (a : LayerAction) → is_on_shapes a ≡ true → refused_for_origin sources s (does.Each a) ≡ option_map why_of (checks.refused_for_origin base.sources layers a)
+  source_alike (action.Clip from) on = cut_set_alike v (checks.refused_cut base.sources layers from) (cut_set_of base layers from) (origin_region sources s from) (cut_sets_show v view base seen sources owns layers s h from)
+  source_alike (action.Erase from) on = cut_set_alike v (checks.refused_cut base.sources layers from) (cut_set_of base layers from) (origin_region sources s from) (cut_sets_show v view base seen sources owns layers s h from)
   source_alike (action.Dissolve spec group_points) on = refl
   source_alike (action.Clean rule allow_empty gap) on = refl
   source_alike action.Mosaic on = refl
@@ -234,7 +234,7 @@ module _ (v : View) (view : IsView v) (base : Base) (seen : IsSeenIn v base.plan
   source_alike (action.FilterIslands least_area least_links remove_empty) on = refl
   source_alike a on = other on
 
-  kinds_alike : (a : LayerAction) → is_on_polygons a ≡ true → (ts : List Layer) (ls : List StateLayer) → AllZip (LayerShows v) ts ls → unfit sources s (does.Each a) ls ≡ option_map why_of (checks.refused_kinds base.sources layers a ts)
+  kinds_alike : (a : LayerAction) → is_on_shapes a ≡ true → (ts : List Layer) (ls : List StateLayer) → AllZip (LayerShows v) ts ls → unfit sources s (does.Each a) ls ≡ option_map why_of (checks.refused_kinds base.sources layers a ts)
   kinds_alike (action.Clip from) on ts ls shown = only_taken v (action.Clip from) ts ls shown
   kinds_alike (action.Erase from) on ts ls shown = only_taken v (action.Erase from) ts ls shown
   kinds_alike (action.Dissolve spec group_points) on ts ls shown = only_taken v (action.Dissolve spec group_points) ts ls shown
@@ -246,32 +246,6 @@ module _ (v : View) (view : IsView v) (base : Base) (seen : IsSeenIn v base.plan
   kinds_alike (action.FilterIslands least_area least_links remove_empty) on ts ls shown = only_taken v (action.FilterIslands least_area least_links remove_empty) ts ls shown
   kinds_alike a on ts ls shown = other on
 
-  -- ---- all together
-
-  module _ (c : Command) (a : LayerAction) (on : is_on_polygons a ≡ true) (polygons : AreOfPolygons (targets c.target layers)) where
-    abbrev Both : Layer → StateLayer → Type 0
-    Both layer l = LayerShows v layer l × LayerAlike v (PutsOut base layers a layer) (held.RefusesLayer base layers a layer) (made a l)
-
-    all_alike : AllZip Both (targets c.target layers) (layers_at s (target_numbers c.target layers))
-    all_alike =
-        let ts : List Layer = targets c.target layers in
-        let ls : List StateLayer = layers_at s (target_numbers c.target layers) in
-        zip_weaker (λ (layer : Layer) (l : StateLayer). LayerShows v layer l × (layer.kind ≡ kinds.Polygon)) Both (λ layer l pair. (pair.0, makes_alike a on layer l (record { shows = pair.0; polygons = pair.1 }))) ts ls
-        (zip_with_all (LayerShows v) (λ (layer : Layer). layer.kind ≡ kinds.Polygon) ts ls (targets_show v layers s h c.target).show polygons)
-
-    is_alike : IsAlike v base layers sources s c a (made a)
-    is_alike = record {
-      stops = λ there. first_alike (refused_source sources s (does.Each a)) (unfit sources s (does.Each a) (layers_at s (target_numbers c.target layers))) (checks.refused_source base.sources layers a)
-          (checks.refused_kinds base.sources layers a (targets c.target layers)) (source_alike a on) (kinds_alike a on (targets c.target layers) (layers_at s (target_numbers c.target layers)) (targets_show v layers s h c.target).show);
-      outputs = λ none ls. outputs_are a on none ls;
-      pairs = λ kinds. all_alike;
-      count = outputs_counted a on;
-    }
-
-pub polygon_steps_show : PolygonStepsShow
-polygon_steps_show v view base seen sources owns layers s h c a does_each on polygons =
-    step_shows v base layers sources s h c a does_each (made v view base seen sources owns layers s h a) (is_alike v view base seen sources owns layers s h c a on polygons)
-
 -- ---- whatever the kinds are
 
 module _ (v : View) (view : IsView v) (base : Base) (seen : IsSeenIn v base.plane) (sources : SourceLayers) (owns : SourcesShow v base.sources sources) (layers : List HeldLayer) (s : State) (h : StateShows v layers s) where
@@ -281,19 +255,7 @@ module _ (v : View) (view : IsView v) (base : Base) (seen : IsSeenIn v base.plan
   abbrev Alike : LayerAction → Layer → StateLayer → Type 0
   Alike a layer l = LayerAlike v (PutsOut base layers a layer) (held.RefusesLayer base layers a layer) (answered a l)
 
-  takes_polygons : (a : LayerAction) → is_on_shapes a ≡ true → is_on_polygons a ≡ true
-  takes_polygons (action.Clip from) on = refl
-  takes_polygons (action.Erase from) on = refl
-  takes_polygons (action.Dissolve spec group_points) on = refl
-  takes_polygons action.Explode on = refl
-  takes_polygons (action.Clean rule allow_empty gap) on = refl
-  takes_polygons action.Mosaic on = refl
-  takes_polygons action.InnerLines on = refl
-  takes_polygons (action.Lines fields) on = refl
-  takes_polygons (action.FilterIslands least_area least_links remove_empty) on = refl
-  takes_polygons a on = other on
-
-  of_polygons : (a : LayerAction) → is_on_polygons a ≡ true → (layer : Layer) (l : StateLayer) → LayerShows v layer l → layer.kind ≡ kinds.Polygon → Alike a layer l
+  of_polygons : (a : LayerAction) → is_on_shapes a ≡ true → (layer : Layer) (l : StateLayer) → LayerShows v layer l → layer.kind ≡ kinds.Polygon → Alike a layer l
   of_polygons a on layer l shown polygons = makes_alike v view base seen sources owns layers s h a on layer l (record { shows = shown; polygons = polygons })
 
   clipped_alike : (from : Origin) (layer : Layer) (l : StateLayer) → LayerShows v layer l → layer.kind ≢ kinds.Polygon → Alike (action.Clip from) layer l
@@ -346,13 +308,13 @@ module _ (v : View) (view : IsView v) (base : Base) (seen : IsSeenIn v base.plan
       let ts : List Layer = targets c.target layers in
       let ls : List StateLayer = layers_at s (target_numbers c.target layers) in
       record {
-        stops = λ there. first_alike (refused_source sources s (does.Each a)) (unfit sources s (does.Each a) ls) (checks.refused_source base.sources layers a) (checks.refused_kinds base.sources layers a ts)
-            (source_alike v view base seen sources owns layers s h a (takes_polygons a on)) (kinds_alike v view base seen sources owns layers s h a (takes_polygons a on) ts ls (targets_show v layers s h c.target).show);
-        outputs = λ none ls. outputs_are v view base seen sources owns layers s h a (takes_polygons a on) none ls;
+        stops = λ there. first_alike (refused_for_origin sources s (does.Each a)) (unfit sources s (does.Each a) ls) (checks.refused_for_origin base.sources layers a) (checks.refused_kinds base.sources layers a ts)
+            (source_alike v view base seen sources owns layers s h a on) (kinds_alike v view base seen sources owns layers s h a on ts ls (targets_show v layers s h c.target).show);
+        outputs = λ none ls. outputs_are v view base seen sources owns layers s h a on none ls;
         pairs = λ none. zip_weaker (λ (layer : Layer) (l : StateLayer). LayerShows v layer l × (checks.takes a layer.kind ≡ true)) (λ (layer : Layer) (l : StateLayer). LayerShows v layer l × Alike a layer l)
             (λ layer l pair. (pair.0, shapes_alike a on layer l pair.0 pair.1)) ts ls
             (zip_with_all (LayerShows v) (λ (layer : Layer). checks.takes a layer.kind ≡ true) ts ls (targets_show v layers s h c.target).show (each_taken a ts (taken_so a on ts none)));
-        count = outputs_counted v view base seen sources owns layers s h a (takes_polygons a on);
+        count = outputs_counted v view base seen sources owns layers s h a on;
       }
 
 pub shape_steps_show : ShapeStepsShow

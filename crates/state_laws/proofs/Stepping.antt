@@ -24,7 +24,7 @@ use Rattle.chain_model.specs.Outcome.{no_layer}
 use Rattle.chain_model.specs.State.{State, StateLayer}
 use Rattle.chain_model.specs.Targets.{SourceLayers, layers_at, placed, selected, with_outputs}
 use Rattle.chain_model.specs.Features.{Outputs}
-use Rattle.chain_model.specs.Steps.{Stepped, by_action, changed, each_layer, outputs_of, refused_beside, refused_kinds, refused_source, step, titled}
+use Rattle.chain_model.specs.Steps.{Stepped, by_action, changed, each_layer, outputs_of, refused_beside, refused_kinds, refused_for_origin, step, titled}
 use Rattle.layer_laws.specs.Shown.{View, LayerShows, StateShows, plane_of}
 use Rattle.layer_laws.specs.Placing.{target_outputs}
 use Rattle.layer_laws.specs.Reasons.{why_of}
@@ -105,24 +105,24 @@ module _ (v : View) (sources : SourceLayers) (s : State) (c : Command) (act : Ac
   step_refused why e = step_is ∙ ap (λ (r : Result (List ℕ) state.RefuseWhy). on_ok r (λ (ns : List ℕ). by_action (plane_of v) v.answers sources s c ns act)) e
 
   pub step_by : (ns : List ℕ) → selected s c.target ≡ Ok ns → step (plane_of v) v.answers sources s c ≡
-      stepped (changed_by s c ns (refused_source sources s act) (unfit sources s act (layers_at s ns)) (outputs_of (plane_of v) v.answers sources s act (layers_at s ns)))
+      stepped (changed_by s c ns (refused_for_origin sources s act) (unfit sources s act (layers_at s ns)) (outputs_of (plane_of v) v.answers sources s act (layers_at s ns)))
   step_by ns e =
       step_is ∙ ap (λ (r : Result (List ℕ) state.RefuseWhy). on_ok r (λ (ns : List ℕ). by_action (plane_of v) v.answers sources s c ns act)) e ∙ changes ns
-      ∙ ap (λ (does : Action). stepped (changed_by s c ns (refused_source sources s does) (unfit sources s does (layers_at s ns)) (outputs_of (plane_of v) v.answers sources s does (layers_at s ns)))) does_so
+      ∙ ap (λ (does : Action). stepped (changed_by s c ns (refused_for_origin sources s does) (unfit sources s does (layers_at s ns)) (outputs_of (plane_of v) v.answers sources s does (layers_at s ns)))) does_so
 
 -- ---- a command whose outputs, for each layer, are alike
 
 -- why it is refused before it works, where its target is there
 abbrev pub stopped_before : SourceLayers → State → Action → List StateLayer → Option state.RefuseWhy
-stopped_before sources s act ls = first_refusal (refused_source sources s act) (unfit sources s act ls)
+stopped_before sources s act ls = first_refusal (refused_for_origin sources s act) (unfit sources s act ls)
 
 abbrev pub refused_before : Base → List HeldLayer → LayerAction → List Layer → Option RefuseWhy
-refused_before base layers a ts = first_refusal (checks.refused_source base.sources layers a) (checks.refused_kinds base.sources layers a ts)
+refused_before base layers a ts = first_refusal (checks.refused_for_origin base.sources layers a) (checks.refused_kinds base.sources layers a ts)
 
 -- what the state does is what a function makes of each layer, which is alike
 pub record IsAlike (v : View) (base : Base) (layers : List HeldLayer) (sources : SourceLayers) (s : State) (c : Command) (a : LayerAction) (f : StateLayer → Outputs) : Type 0 where
   pub stops : has_target c.target layers ≡ true → stopped_before sources s (does.Each a) (layers_at s (target_numbers c.target layers)) ≡ option_map why_of (refused_before base layers a (targets c.target layers))
-  pub outputs : refused_source sources s (does.Each a) ≡ None → (ls : List StateLayer) → outputs_of (plane_of v) v.answers sources s (does.Each a) ls ≡ each_layer f ls
+  pub outputs : refused_for_origin sources s (does.Each a) ≡ None → (ls : List StateLayer) → outputs_of (plane_of v) v.answers sources s (does.Each a) ls ≡ each_layer f ls
   pub pairs : checks.refused_kinds base.sources layers a (targets c.target layers) ≡ None → AllZip (λ (layer : Layer) (l : StateLayer). LayerShows v layer l × LayerAlike v (PutsOut base layers a layer) (run.RefusesLayer base layers a layer) (f l)) (targets c.target layers) (layers_at s (target_numbers c.target layers))
   pub count : (layer : Layer) (l : StateLayer) → LayerShows v layer l → (outs : List StateLayer) → f l ≡ Ok outs → length outs ≡ run.output_count a layer
 
@@ -146,7 +146,7 @@ module _ (v : View) (base : Base) (layers : List HeldLayer) (sources : SourceLay
   at_work : (answer : Result (List (List StateLayer)) state.RefuseWhy) → has_target c.target layers ≡ true → refused_before base layers a ts ≡ None → each_layer f ls ≡ answer → step (plane_of v) v.answers sources s c ≡ stepped (on_ok answer (put s c ns))
   at_work answer there none is =
       let fit : stopped_before sources s (does.Each a) ls ≡ None = alike.stops there ∙ ap (option_map why_of) none in
-      let made = alike.outputs (none_of_two (refused_source sources s (does.Each a)) (unfit sources s (does.Each a) ls) fit).0 ls ∙ is in
+      let made = alike.outputs (none_of_two (refused_for_origin sources s (does.Each a)) (unfit sources s (does.Each a) ls) fit).0 ls ∙ is in
       step_by v sources s c (does.Each a) does_each (λ n. refl) ns ((targets_show v layers s h c.target).there there)
       ∙ (λ i. stepped (unless (fit i) (on_ok (made i) (put s c ns))))
 
@@ -161,7 +161,7 @@ module _ (v : View) (base : Base) (layers : List HeldLayer) (sources : SourceLay
   goes_on : run.RefusesEach base layers c a None → (after : List HeldLayer) → ChangesEach base c a layers after → StepGives v sources s c after
   goes_on none after changes =
       let (target, before) = none_of_two (checks.refused_target c.target layers) (refused_before base layers a ts) none.0 in
-      let kinds = (none_of_two (checks.refused_source base.sources layers a) (checks.refused_kinds base.sources layers a ts) before).1 in
+      let kinds = (none_of_two (checks.refused_for_origin base.sources layers a) (checks.refused_kinds base.sources layers a ts) before).1 in
       let (outs, is, shown) = outputs_show v c.name Made Refuses f ts ls (only_alike kinds) none.1.0 (target_outputs c.target layers changes.outputs) (made_titled changes.outputs changes.puts) in
       let placed = placed_outputs_show v layers s h c changes.outputs (map (map (titled c.name)) outs) (record { show = shown; all = others_put base layers c a layers changes.outputs changes.puts }) in
       let few : length (places.placed c layers changes.outputs) ≤ 1000 = subst (λ (held : List HeldLayer). length held ≤ 1000) changes.placed changes.few in
@@ -182,10 +182,10 @@ module _ (v : View) (base : Base) (layers : List HeldLayer) (sources : SourceLay
   -- at work, for a layer of the target or for the number of layers
   work_stops : (why : RefuseWhy) → has_target c.target layers ≡ true → refused_before base layers a ts ≡ None → run.FailsEach base layers c a (Some why) → StepRefuses v sources s c why
   work_stops why there none (inl layer) =
-      let kinds = (none_of_two (checks.refused_source base.sources layers a) (checks.refused_kinds base.sources layers a ts) none).1 in
+      let kinds = (none_of_two (checks.refused_for_origin base.sources layers a) (checks.refused_kinds base.sources layers a ts) none).1 in
       at_work (Err (why_of why)) there none (first_stops v c.name Made Refuses f ts ls (only_alike kinds) why layer)
   work_stops why there none (inr (layer, count)) =
-      let kinds = (none_of_two (checks.refused_source base.sources layers a) (checks.refused_kinds base.sources layers a ts) none).1 in
+      let kinds = (none_of_two (checks.refused_for_origin base.sources layers a) (checks.refused_kinds base.sources layers a ts) none).1 in
       let many = too_many_told (nat_lt 1000 (run.stay_count c layers + sum_by (run.output_count a) ts)) why count in
       let (outs, is, long, sum) = none_stops v c.name Made Refuses f (run.output_count a) alike.count ts ls (alike.pairs kinds) layer in
       let named : List (List StateLayer) = map (map (titled c.name)) outs in

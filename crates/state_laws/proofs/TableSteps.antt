@@ -36,7 +36,7 @@ use Rattle.chain_model.specs.Targets.{SourceLayers, layers_at}
 use Rattle.chain_model.specs.Targets as model
 use Rattle.chain_model.specs.Features as features
 use Rattle.chain_model.specs.Features.{Outputs, assign_layer, filter_fields_layer, filter_layer, join_layer, rename_fields_layer, sort_layer, split_layer, split_piece, uniq_layer, with_features, with_table}
-use Rattle.chain_model.specs.Steps.{each_layer, outputs_of, refused_source}
+use Rattle.chain_model.specs.Steps.{each_layer, outputs_of, refused_for_origin}
 use Rattle.chain_model.specs.Steps as steps
 use Rattle.layer_laws.specs.Shown.{View, IsView, LayerShows, SourcesShow, StateShows, plane_of}
 use Rattle.layer_laws.specs.Reasons.{AnswerShows, MakesAlike, why_of}
@@ -77,7 +77,7 @@ joined_outputs (Err why) spec ls none = absurd (let w : Some why ≡ None = none
 other : {P : Type 0} → false ≡ true → P
 other e = absurd (true≢false (sym e))
 
-outputs_are : (v : View) (sources : SourceLayers) (s : State) (a : LayerAction) → is_on_tables a ≡ true → refused_source sources s (does.Each a) ≡ None → (ls : List StateLayer) →
+outputs_are : (v : View) (sources : SourceLayers) (s : State) (a : LayerAction) → is_on_tables a ≡ true → refused_for_origin sources s (does.Each a) ≡ None → (ls : List StateLayer) →
     outputs_of (plane_of v) v.answers sources s (does.Each a) ls ≡ each_layer (made_of v sources s a) ls
 outputs_are v sources s (action.Join from spec) on none ls = joined_outputs (model.one_layer (model.origin_layers sources s from)) spec ls none
 outputs_are v sources s (action.Filter test invert remove_empty) on none ls = refl
@@ -173,7 +173,7 @@ found_alike v (Ok layer) (Err w) shown = absurd shown
 found_alike v (Err why) (Ok l) shown = absurd shown
 
 source_alike : (v : View) (base : Base) (sources : SourceLayers) → SourcesShow v base.sources sources → (layers : List HeldLayer) (s : State) → StateShows v layers s → (a : LayerAction) → is_on_tables a ≡ true →
-    refused_source sources s (does.Each a) ≡ option_map why_of (checks.refused_source base.sources layers a)
+    refused_for_origin sources s (does.Each a) ≡ option_map why_of (checks.refused_for_origin base.sources layers a)
 source_alike v base sources owns layers s h (action.Join from spec) on =
     found_alike v (run.one_layer (run.origin_layers base.sources layers from)) (model.one_layer (model.origin_layers sources s from))
     (one_layer_shows v (run.origin_layers base.sources layers from) (model.origin_layers sources s from) (origins_show v layers s h base.sources sources owns from))
@@ -213,7 +213,7 @@ module _ (v : View) (view : IsView v) (base : Base) (sources : SourceLayers) (ow
 
   is_alike : IsAlike v base layers sources s c a (made_of v sources s a)
   is_alike = record {
-    stops = λ there. first_alike (refused_source sources s (does.Each a)) (unfit sources s (does.Each a) (layers_at s (target_numbers c.target layers))) (checks.refused_source base.sources layers a) (checks.refused_kinds base.sources layers a (targets c.target layers))
+    stops = λ there. first_alike (refused_for_origin sources s (does.Each a)) (unfit sources s (does.Each a) (layers_at s (target_numbers c.target layers))) (checks.refused_for_origin base.sources layers a) (checks.refused_kinds base.sources layers a (targets c.target layers))
         (source_alike v base sources owns layers s h a on) (kinds_alike v base sources layers s a on (targets c.target layers) (layers_at s (target_numbers c.target layers)) (targets_show v layers s h c.target).show);
     outputs = λ none ls. outputs_are v sources s a on none ls;
     pairs = λ kinds. all_alike;

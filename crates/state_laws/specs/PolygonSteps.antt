@@ -1,43 +1,16 @@
--- Laws of steps: the state after a command on layers of polygons or one that unites them, and why it is refused.
-use Rattle.std.specs.Prelude.{◌≡◌, Bool, true, false, List, All, Some, None}
-use Rattle.grid_base.specs.declared.kinds.Kind.TheVariants as kinds
+-- Laws of steps: the state after a command on shapes or one that unites layers, and why it is refused.
+use Rattle.std.specs.Prelude.{◌≡◌, Bool, true, false, List}
 use Rattle.job_terms.specs.declared.job.Action.TheVariants as does
 use Rattle.job_terms.specs.declared.job.Command.{Command}
 use Rattle.job_terms.specs.declared.job.JointAction.TheVariants as joint
 use Rattle.job_terms.specs.declared.job.LayerAction.{LayerAction}
 use Rattle.job_terms.specs.declared.job.LayerAction.TheVariants as action
-use Rattle.run_plane.specs.declared.layer.Layer.{Layer}
 use Rattle.run_state.specs.Origins.{Base}
-use Rattle.run_state.specs.Targets.{targets}
-use Rattle.run_state.specs.declared.refusal.RefuseWhy.{RefuseWhy}
 use Rattle.run_state.specs.declared.state.HeldLayer.{HeldLayer}
-use Rattle.run_steps.specs.Commands.{ChangesTogether}
-use Rattle.run_steps.specs.Refusals.{refusal_together}
 use Rattle.chain_model.specs.State.{State}
 use Rattle.chain_model.specs.Targets.{SourceLayers}
 use Rattle.layer_laws.specs.Shown.{View, IsView, SourcesShow, StateShows, IsSeenIn}
-use Rattle.state_laws.specs.Steps.{StepGives, StepRefuses, StepShows}
-
--- the command takes polygons
-abbrev pub is_on_polygons : LayerAction → Bool
-is_on_polygons (action.Clip from) = true
-is_on_polygons (action.Erase from) = true
-is_on_polygons (action.Dissolve spec group_points) = true
-is_on_polygons (action.Clean rule allow_empty gap) = true
-is_on_polygons action.Mosaic = true
-is_on_polygons action.Explode = true
-is_on_polygons action.InnerLines = true
-is_on_polygons (action.Lines fields) = true
-is_on_polygons (action.FilterIslands least_area least_links remove_empty) = true
-is_on_polygons _ = false
-
-abbrev pub AreOfPolygons : List Layer → Type 0
-AreOfPolygons layers = All (λ (layer : Layer). layer.kind ≡ kinds.Polygon) layers
-
--- where the layers of its target have polygons
-abbrev pub PolygonStepsShow : Type 0
-PolygonStepsShow = (v : View) → IsView v → (base : Base) → IsSeenIn v base.plane → (sources : SourceLayers) → SourcesShow v base.sources sources → (layers : List HeldLayer) (s : State) → StateShows v layers s →
-    (c : Command) (a : LayerAction) → c.action ≡ does.Each a → is_on_polygons a ≡ true → AreOfPolygons (targets c.target layers) → StepShows v base layers sources s c a
+use Rattle.state_laws.specs.Steps.{JointShows, StepShows}
 
 -- the command takes shapes of every kind, or refuses those that are no polygons
 abbrev pub is_on_shapes : LayerAction → Bool
@@ -57,12 +30,7 @@ abbrev pub ShapeStepsShow : Type 0
 ShapeStepsShow = (v : View) → IsView v → (base : Base) → IsSeenIn v base.plane → (sources : SourceLayers) → SourcesShow v base.sources sources → (layers : List HeldLayer) (s : State) → StateShows v layers s →
     (c : Command) (a : LayerAction) → c.action ≡ does.Each a → is_on_shapes a ≡ true → StepShows v base layers sources s c a
 
--- ---- a command that unites the layers of its target
-
-pub record UnionStepShows (v : View) (base : Base) (layers : List HeldLayer) (sources : SourceLayers) (s : State) (c : Command) : Type 0 where
-  pub goes : refusal_together layers c joint.Union ≡ None → (after : List HeldLayer) → ChangesTogether base c joint.Union layers after → StepGives v sources s c after
-  pub refused : (why : RefuseWhy) → refusal_together layers c joint.Union ≡ Some why → StepRefuses v sources s c why
-
+-- a command that unites the layers of its target
 abbrev pub UnionStepsShow : Type 0
 UnionStepsShow = (v : View) → IsView v → (base : Base) → IsSeenIn v base.plane → (sources : SourceLayers) (layers : List HeldLayer) (s : State) → StateShows v layers s →
-    (c : Command) → c.action ≡ does.Together joint.Union → UnionStepShows v base layers sources s c
+    (c : Command) → c.action ≡ does.Together joint.Union → JointShows v base layers sources s c joint.Union

@@ -2,6 +2,7 @@
 use Rattle.std.specs.Prelude.{◌≡◌, Bool, true, false, List, Some, None, Ok, Err}
 use Rattle.job_terms.specs.declared.job.Action.TheVariants as does
 use Rattle.job_terms.specs.declared.job.Command.{Command}
+use Rattle.job_terms.specs.declared.job.JointAction.{JointAction}
 use Rattle.job_terms.specs.declared.job.JointAction.TheVariants as joint
 use Rattle.job_terms.specs.declared.job.LayerAction.{LayerAction}
 use Rattle.job_terms.specs.declared.job.LayerAction.TheVariants as action
@@ -30,6 +31,11 @@ pub record StepShows (v : View) (base : Base) (layers : List HeldLayer) (sources
   pub goes : RefusesEach base layers c a None → (after : List HeldLayer) → ChangesEach base c a layers after → StepGives v sources s c after
   pub refused : (why : RefuseWhy) → RefusesEach base layers c a (Some why) → StepRefuses v sources s c why
 
+-- so does one that takes the layers of its target together
+pub record JointShows (v : View) (base : Base) (layers : List HeldLayer) (sources : SourceLayers) (s : State) (c : Command) (a : JointAction) : Type 0 where
+  pub goes : refusal_together layers c a ≡ None → (after : List HeldLayer) → ChangesTogether base c a layers after → StepGives v sources s c after
+  pub refused : (why : RefuseWhy) → refusal_together layers c a ≡ Some why → StepRefuses v sources s c why
+
 -- the command works on rows and columns
 abbrev pub is_on_tables : LayerAction → Bool
 is_on_tables (action.Join from spec) = true
@@ -46,12 +52,7 @@ abbrev pub TableStepsShow : Type 0
 TableStepsShow = (v : View) → IsView v → (base : Base) (sources : SourceLayers) → SourcesShow v base.sources sources → (layers : List HeldLayer) (s : State) → StateShows v layers s →
     (c : Command) (a : LayerAction) → c.action ≡ does.Each a → is_on_tables a ≡ true → StepShows v base layers sources s c a
 
--- ---- a command that merges the layers of its target
-
-pub record MergeStepShows (v : View) (base : Base) (layers : List HeldLayer) (sources : SourceLayers) (s : State) (c : Command) (force : Bool) : Type 0 where
-  pub goes : refusal_together layers c (joint.MergeLayers force) ≡ None → (after : List HeldLayer) → ChangesTogether base c (joint.MergeLayers force) layers after → StepGives v sources s c after
-  pub refused : (why : RefuseWhy) → refusal_together layers c (joint.MergeLayers force) ≡ Some why → StepRefuses v sources s c why
-
+-- a command that merges the layers of its target
 abbrev pub MergeStepsShow : Type 0
 MergeStepsShow = (v : View) (base : Base) (sources : SourceLayers) (layers : List HeldLayer) (s : State) → StateShows v layers s → (c : Command) (force : Bool) → c.action ≡ does.Together (joint.MergeLayers force) →
-    MergeStepShows v base layers sources s c force
+    JointShows v base layers sources s c (joint.MergeLayers force)

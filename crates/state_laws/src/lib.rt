@@ -2,21 +2,21 @@
 //! state.
 //!
 //! When layers show those of a state, and that what one command makes of one does, say the laws of `layer_laws`. Here a
-//! command takes its targets, works on each or on all of them together, and is refused as in the state; `specs/Steps.antt`
-//! says when a step shows that of the state.
+//! command takes its targets, works on each or on all of them together, and is refused as in the state;
+//! `specs/Steps.antt` says when a step shows that of the state.
 //!
 //! - The step of a command on the tables of its layers shows that of the state (`table_steps_show`), and so does that
 //!   of one that merges them (`merge_steps_show`).
 //! - Joins by place show those of the state (`place_joins_show`), and so do their steps (`place_steps_show`).
-//! - The step of a command on layers of polygons shows that of the state (`polygon_steps_show`), and so does that of
-//!   one that unites them (`union_steps_show`), and that of clip, erase, dissolve, clean, explode, mosaic, innerlines,
-//!   lines and islands that are dropped, whatever the kinds of the layers are (`shape_steps_show`).
+//! - The step of clip, erase, dissolve, clean, explode, mosaic, innerlines, lines and islands that are dropped shows
+//!   that of the state, whatever the kinds of the layers are (`shape_steps_show`), and so does that of a command that
+//!   unites layers (`union_steps_show`).
 //!
 //! Each function carries one law in its contract, and does nothing.
 #![tactic(auto)]
 
 ghost use Rattle.state_laws.specs.Places.{PlaceJoinsShow, PlaceStepsShow};
-ghost use Rattle.state_laws.specs.PolygonSteps.{PolygonStepsShow, ShapeStepsShow, UnionStepsShow};
+ghost use Rattle.state_laws.specs.PolygonSteps.{ShapeStepsShow, UnionStepsShow};
 ghost use Rattle.state_laws.specs.Steps.{MergeStepsShow, TableStepsShow};
 
 /// The step of a command on the tables of its layers shows that of the state.
@@ -32,11 +32,6 @@ pub fn merge_steps_show()
 /// A join by place of points with polygons, or of polygons with points, shows that of the state's layers.
 pub fn place_joins_show()
     ensures holds { PlaceJoinsShow }
-{}
-
-/// The step of a command on layers of polygons shows that of the state.
-pub fn polygon_steps_show()
-    ensures holds { PolygonStepsShow }
 {}
 
 /// The step of a command that unites the layers of its target shows that of the state, and is refused alike.

@@ -3,8 +3,8 @@
 //!
 //! - Where the sets of each layer follow its regions, the items are in order, with their choices, each part of what
 //!   each choice leaves, and the sets of the items follow these parts (`union_as_told`).
-//! - The features of a union lie apart (`united_are_apart`), and together they have each point that a region of a layer
-//!   has (`united_cover`).
+//! - The features of a union lie apart (`united_are_apart`), and together they have each point on no link that a region
+//!   of a layer has (`united_cover`).
 //!
 //! Each function carries one law in its contract, and does nothing. The laws are stated in `specs/United.antt`.
 #![tactic(auto)]

@@ -1,4 +1,7 @@
-//! The words of a command line say the same by the table of commands as by the definition that the reader keeps to.
+//! The words of a command line say the same by the table of commands as by the definition that the reader keeps to
+//! (`the_table_says_what_is_read`, `what_is_read_fits_the_table`). Areas are rounded to whole numbers, a gap's down and
+//! a least one up (`gaps_are_rounded_down`, `least_areas_are_rounded_up`), and an item of calculated columns is read
+//! just where it is one of their grammar (`calculations_are_of_the_grammar`).
 //!
 //! Each function carries one law in its contract, and does nothing.
 #![tactic(auto)]
