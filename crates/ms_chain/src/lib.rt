@@ -7,7 +7,7 @@
 
 mod running;
 
-pub use run_outcome::{Outcome, status_of};
+pub use run_outcome::{Outcome, status_of, tell};
 pub use run_sources::InputWhy;
 pub use run_state::RefuseWhy;
 pub use running::run;

@@ -10,7 +10,7 @@
 
 use host_io::{HostFiles, StdSink, StdSource};
 use io_core::{Sink, Text, Words};
-use ms_chain::{Outcome, run, status_of};
+use ms_chain::{Outcome, run, status_of, tell};
 use std::alloc::Global;
 use std::process::ExitCode;
 use std::{env, io};
@@ -41,6 +41,7 @@ fn main(rt: HostRuntime) -> ExitCode {
             ExitCode::from(status_of(&outcome))
         }
         Err(e) if e.kind() == io::ErrorKind::OutOfMemory => {
+            tell(&mut messages, &Outcome::Memory);
             ExitCode::from(status_of(&Outcome::Memory))
         }
         Err(_) => {
@@ -50,9 +51,9 @@ fn main(rt: HostRuntime) -> ExitCode {
     }
 }
 
-// Takes a large piece of memory and gives it back. The C library takes that for a sign to keep pieces of up to this size
-// when they are let go of, for what is taken next; otherwise each large list goes back to the system, and the next one is
-// made of fresh pages. Where there is no such piece, nothing changes.
+// Takes a large piece of memory and gives it back. The C library takes that for a sign to keep pieces of up to this
+// size when they are let go of, for what is taken next; otherwise each large list goes back to the system, and the
+// next one is made of fresh pages. Where there is no such piece, nothing changes.
 fn keep_what_is_let_go(alloc: Global) {
     let _ = Vec::<u8>::with_capacity(alloc, FIRST_PIECE_BYTES);
 }
