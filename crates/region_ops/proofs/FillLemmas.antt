@@ -25,7 +25,7 @@ use Rattle.region_ops.specs.Dissolved.{set_at}
 use Rattle.region_ops.specs.Filled.{AreGifts, AreTogether, Borders, GoesTo, IsFilled, IsGiven, IsReceiver, all_faces, given, is_filled, neighbours_of, sets_round}
 use Rattle.region_ops.proofs.OwnerSets.{in_owners, of_owners}
 use Rattle.region_ops.proofs.Ranks.{one_before}
-use Rattle.region_ops.proofs.FirstLemmas.{area_is}
+use Rattle.region_ops.proofs.FirstLemmas.{area_at}
 
 -- ---- across the boundary of a gap
 
@@ -86,10 +86,7 @@ module _ (rule : OverlapRule) (most : ℕ) (arcs : List Path) (faces : FaceTable
 
   module _ (built : IsBuiltOf arcs faces) (sets : List (List ℕ)) (areas_are : areas ≡ map (area_of faces.areas) sets) (each : length cleaned ≡ length sets) where
     before_is : (m n : ℕ) → is_before rule areas m n ≡ ranks_before rule m (area_of faces.areas (set_at sets m)) n (area_of faces.areas (set_at sets n))
-    before_is m n = λ i. ranks_before rule m (area_at m i) n (area_at n i)
-      where
-        area_at : (k : ℕ) → get_or areas k (pos 0) ≡ area_of faces.areas (set_at sets k)
-        area_at k = ap (λ (list : List ℤ). get_or list k (pos 0)) areas_are ∙ area_is faces.areas sets k
+    before_is m n = λ i. ranks_before rule m (area_at faces areas sets areas_are m i) n (area_at faces areas sets areas_are n i)
 
     pub receiver_goes : (gap : List ℕ) (n : ℕ) → IsReceiver rule most arcs faces areas cleaned gap (Some n) → (is_filled faces most gap ≡ true) × GoesTo rule faces sets cleaned gap n
     receiver_goes gap n h =

@@ -1,5 +1,5 @@
 -- Lists of numbers in lexicographic order.
-use Rattle.std.proofs.Common.{◌≡◌, refl, ◌∙◌, subst, arith, ℕ, nat_lt, List, []}
+use Rattle.std.proofs.Common.{◌≡◌, refl, ◌∙◌, subst, arith, ℕ, nat_lt, List}
 use Rattle.std.specs.Ordering.{nat_cmp, is_lt}
 use Rattle.std.specs.Cmp.Lexicographic.{slice_cmp, bytes_decides, texts_ties}
 use Rattle.std.proofs.lemmas.Bool.Decides.{nat_tests}

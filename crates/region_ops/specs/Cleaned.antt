@@ -42,10 +42,10 @@ abbrev pub IsFirst : OverlapRule → List ℤ → List ℕ → Option ℕ → Ty
 IsFirst rule areas numbers None = numbers ≡ []
 IsFirst rule areas numbers (Some m) = Contains numbers m × All (λ n. is_before rule areas n m ≡ false) numbers
 
--- the first of the owners of each of `count` faces
-pub record AreFirsts (rule : OverlapRule) (areas : List ℤ) (owners : List (List ℕ)) (count : ℕ) (firsts : List (Option ℕ)) : Type 0 where
+-- for each of `count` faces the first of the sets that have it
+pub record AreFirsts (rule : OverlapRule) (areas : List ℤ) (sets : List (List ℕ)) (count : ℕ) (firsts : List (Option ℕ)) : Type 0 where
   pub each : length firsts ≡ count
-  pub exact : (k : ℕ) → k < count → IsFirst rule areas (slice_index_or owners k []) (slice_index_or firsts k None)
+  pub exact : (k : ℕ) → k < count → IsFirst rule areas (owners_of sets k) (slice_index_or firsts k None)
 
 abbrev pub is_number : ℕ → Option ℕ → Bool
 is_number n None = false

@@ -1,6 +1,7 @@
 -- Gaps between sets of faces that clean fills: each goes to one of the sets.
 use Rattle.std.specs.Prelude.{◌≡◌, ◌⊎◌, ◌↔◌, ℕ, ◌<◌, ◌++◌, Bool, true, false, ℤ, pos, int_le, nat_lt, List, [], All, Contains, Option, Some, None, length, slice_index_or, slice_set}
 use Rattle.std.specs.List.{flat_map}
+use Rattle.std.specs.Option.{option_to_list}
 use Rattle.std.specs.List.Sorted.{IsStrictlyIncreasing}
 use Rattle.lists.specs.Lists.{ascending, joined_up}
 use Rattle.plane_model.specs.Arcs.{SignedArc}
@@ -56,6 +57,10 @@ abbrev pub IsCleanedAndFilled : OverlapRule → ℕ → FaceTable → List (List
 IsCleanedAndFilled rule most faces sets made = (cleaned : List (List ℕ)) × IsCleaned rule faces.areas sets cleaned × IsFilled rule most faces sets cleaned made
 
 -- ---- on the way, with twice the area of each set
+
+-- for each of `count` faces the one set that has it, or none
+pub record AreSoleOwners (sets : List (List ℕ)) (count : ℕ) (owners : List (Option ℕ)) : Type 0 where
+  pub exact : (k : ℕ) → k < count → option_to_list (slice_index_or owners k None) ≡ owners_of sets k
 
 -- the numbers of the sets across the arcs round a face, arc by arc, and round a gap, face by face
 abbrev pub sets_round : List Path → FaceTable → List (List ℕ) → ℕ → List ℕ

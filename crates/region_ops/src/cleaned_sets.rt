@@ -1,10 +1,10 @@
 ghost use Rattle.std.specs.Prelude.{◌≡◌, All, IfOk, filter, length, map, pos, slice_index_or};
 ghost use Rattle.face_walk.specs.Places.{IsBuiltOf};
 ghost use Rattle.face_sets.specs.Sets.{IsSetOf, area_of};
-ghost use Rattle.region_ops.specs.Cleaned.{AreFirsts, IsCleaned, IsFirst, earlier, is_first, ranks_before};
+ghost use Rattle.region_ops.specs.Cleaned.{AreFirsts, AreWon, IsCleaned, IsFirst, earlier, is_first, ranks_before};
 ghost use Rattle.region_ops.specs.Filled.{IsCleanedAndFilled};
 
-use crate::filled_sets::filled_sets;
+use crate::filled_sets::{gifts_of, together};
 use arc_table::ArcTable;
 use face_sets::{FaceOwners, FaceSet, SetList, gaps, union_of};
 use face_walk::Faces;
@@ -33,9 +33,11 @@ pub fn clean_sets(
     ensures inner { IfOk result (All (IsSetOf f.now)) }
 {
     let areas = areas_of(alloc, f, old)?;
-    let cleaned = without_overlaps(alloc, f, old, &areas, rule)?;
+    let firsts = firsts_of(alloc, f, old, &areas, rule)?;
+    let cleaned = without_overlaps(alloc, f, old, &firsts)?;
     let shut_in = gaps(alloc, t, f, &union_of(alloc, old)?)?;
-    filled_sets(alloc, f, &cleaned, &shut_in, &areas, rule, gap)
+    let gifts = gifts_of(alloc, f, &shut_in, &firsts, &areas, rule, gap)?;
+    together(alloc, cleaned, &gifts)
 }
 
 /// For each set its faces that no set has which the rule ranks before it, as `clean_sets` leaves it before it looks at
@@ -52,28 +54,24 @@ pub fn separate_sets(
     ensures exact { IfOk result (IsCleaned rule f.now.areas old.now) }
 {
     let areas = areas_of(alloc, f, old)?;
-    without_overlaps(alloc, f, old, &areas, rule)
+    without_overlaps(alloc, f, old, &firsts_of(alloc, f, old, &areas, rule)?)
 }
 
-// For each set its faces that no set has which ranks before it.
+// For each set the faces that it is the first to have.
+#[tactic(auto, using(crate::proofs::FirstLemmas::won_more))]
 fn without_overlaps(
     alloc: Global,
     f: &Faces,
     old: &SetList,
-    areas: &[i128],
-    rule: OverlapRule,
+    firsts: &[Option<u32>],
 ) -> Result<SetList, AllocError>
     requires faces { All (IsSetOf f.now) old.now }
-    requires areas { areas.now ≡ map (area_of f.now.areas) old.now }
-    ensures exact { IfOk result (IsCleaned rule f.now.areas old.now) }
-    ensures each { IfOk result (λ sets. length sets ≡ length old.now) }
+    ensures exact { IfOk result (AreWon firsts.now old.now (length old.now)) }
     ensures inner { IfOk result (All (IsSetOf f.now)) }
 {
-    let owners = FaceOwners::of(alloc, f, old)?;
-    let firsts = firsts_of(alloc, f.count(), &owners, areas, rule)?;
     let mut sets = SetList::new(alloc);
     for n in 0..old.len() {
-        sets.push(faces_won(alloc, f, &old.as_slice()[n as usize], &firsts, n)?)?;
+        sets.push(faces_won(alloc, f, &old.as_slice()[n as usize], firsts, n)?)?;
     }
     Ok(sets)
 }
@@ -91,17 +89,19 @@ fn areas_of(alloc: Global, f: &Faces, sets: &SetList) -> Result<Vec<i128>, Alloc
 }
 
 // For each face the first of the sets that have it.
+#[tactic(auto, using(crate::proofs::FirstLemmas::firsts_more))]
 fn firsts_of(
     alloc: Global,
-    count: u32,
-    owners: &FaceOwners,
+    f: &Faces,
+    old: &SetList,
     areas: &[i128],
     rule: OverlapRule,
 ) -> Result<Vec<Option<u32>>, AllocError>
-    ensures exact { IfOk result (λ v. AreFirsts rule areas.now owners.now count v.items) }
+    ensures exact { IfOk result (λ v. AreFirsts rule areas.now old.now f.now.count v.items) }
 {
-    let mut firsts = Vec::with_capacity(alloc, count as usize)?;
-    for n in 0..count {
+    let owners = FaceOwners::of(alloc, f, old)?;
+    let mut firsts = Vec::with_capacity(alloc, f.count() as usize)?;
+    for n in 0..f.count() {
         firsts.push(first_of(owners.at(FaceId::new(n)), areas, rule))?;
     }
     Ok(firsts)

@@ -3,58 +3,38 @@ ghost use Rattle.lists.specs.Lists.{ascending};
 ghost use Rattle.plane_model.specs.Points.{Path};
 ghost use Rattle.face_walk.specs.Places.{HasArc, IsBuiltOf};
 ghost use Rattle.face_sets.specs.Boundary.{face_right_of};
-ghost use Rattle.face_sets.specs.Gaps.{AreGaps};
-ghost use Rattle.face_sets.specs.Owners.{AreOwners, owners_of};
-ghost use Rattle.face_sets.specs.Sets.{IsSetOf, area_of};
-ghost use Rattle.region_ops.specs.Filled.{AreGifts, AreTogether, IsFilled, IsReceiver, all_faces, given, neighbours_of, sets_round};
+ghost use Rattle.face_sets.specs.Owners.{owners_of};
+ghost use Rattle.face_sets.specs.Sets.{IsSetOf};
+ghost use Rattle.region_ops.specs.Filled.{AreGifts, AreSoleOwners, AreTogether, IsReceiver, given, neighbours_of, sets_round};
 
 use crate::cleaned_sets::first_of;
-use face_sets::{FaceOwners, FaceSet, SetList};
+use face_sets::{FaceSet, SetList};
 use face_walk::Faces;
 use grid_base::{FaceId, OverlapRule, SignedArc, empty_lists};
 use std::alloc::{AllocError, Global};
 
-/// The sets, each with the gaps between them that go to it, of those of at most the area `most`, doubled.
+/// For each set the faces of the gaps of at most the area `most`, doubled, that go to it.
 ///
-/// A gap goes to the set that ranks first of those across its boundary, by `areas`, twice the areas of the sets before
-/// they were cleaned.
-pub fn filled_sets(
-    alloc: Global,
-    f: &Faces,
-    cleaned: &SetList,
-    gaps: &SetList,
-    areas: &[i128],
-    rule: OverlapRule,
-    most: u128,
-) -> Result<SetList, AllocError>
-    requires gaps { All (IsSetOf f.now) gaps.now }
-    requires areas { length areas.now ≡ length cleaned.now }
-    ensures exact { (sets : List (List ℕ)) → AreGaps f.now (all_faces sets) gaps.now → areas.now ≡ map (area_of f.now.areas) sets → (arcs : List Path) → IsBuiltOf arcs f.now →
-        IfOk result (IsFilled rule most f.now sets cleaned.now) }
-{
-    let owners = FaceOwners::of(alloc, f, cleaned)?;
-    let gifts = gifts_of(alloc, f, gaps, &owners, areas, rule, most)?;
-    together(alloc, cleaned, &gifts)
-}
-
-// For each set the faces of the gaps that go to it.
-fn gifts_of(
+/// A gap goes to the set that ranks first, by `areas`, of those that have a face across its boundary. `firsts` tells of
+/// each face which set has it.
+pub fn gifts_of(
     alloc: Global,
     f: &Faces,
     gaps: &SetList,
-    owners: &FaceOwners,
+    firsts: &[Option<u32>],
     areas: &[i128],
     rule: OverlapRule,
     most: u128,
 ) -> Result<Vec<Vec<FaceId>>, AllocError>
     requires gaps { All (IsSetOf f.now) gaps.now }
+    requires each { length firsts.now ≡ f.now.count }
     ensures each { IfOk result (λ v. length v.items ≡ length areas.now) }
-    ensures exact { (arcs : List Path) → IsBuiltOf arcs f.now → (cleaned : List (List ℕ)) → AreOwners cleaned f.now.count owners.now → length areas.now ≡ length cleaned →
+    ensures exact { (arcs : List Path) → IsBuiltOf arcs f.now → (cleaned : List (List ℕ)) → AreSoleOwners cleaned f.now.count firsts.now → length areas.now ≡ length cleaned →
         IfOk result (λ v. AreGifts rule most arcs f.now areas.now cleaned gaps.now (map (λ list. list.items) v.items)) }
 {
     let mut gifts = empty_lists(alloc, areas.len())?;
     for gap in gaps.as_slice() {
-        let to = receiver_of(alloc, f, owners, areas, rule, most, gap)?;
+        let to = receiver_of(alloc, f, firsts, areas, rule, most, gap)?;
         give(&mut gifts, gap.faces(), to)?;
     }
     Ok(gifts)
@@ -64,20 +44,21 @@ fn gifts_of(
 fn receiver_of(
     alloc: Global,
     f: &Faces,
-    owners: &FaceOwners,
+    firsts: &[Option<u32>],
     areas: &[i128],
     rule: OverlapRule,
     most: u128,
     gap: &FaceSet,
 ) -> Result<Option<u32>, AllocError>
     requires gap { IsSetOf f.now gap.now }
-    ensures exact { (arcs : List Path) → IsBuiltOf arcs f.now → (cleaned : List (List ℕ)) → AreOwners cleaned f.now.count owners.now →
+    requires each { length firsts.now ≡ f.now.count }
+    ensures exact { (arcs : List Path) → IsBuiltOf arcs f.now → (cleaned : List (List ℕ)) → AreSoleOwners cleaned f.now.count firsts.now →
         IfOk result (IsReceiver rule most arcs f.now areas.now cleaned gap.now) }
 {
     if !is_at_most(gap.twice_area(f)?, most) {
         return Ok(None);
     }
-    let numbers = neighbours_of(alloc, f, owners, gap.faces())?;
+    let numbers = neighbours_of(alloc, f, firsts, gap.faces())?;
     Ok(first_of(&numbers, areas, rule))
 }
 
@@ -94,41 +75,45 @@ fn is_at_most(area: i128, most: u128) -> bool
 fn neighbours_of(
     alloc: Global,
     f: &Faces,
-    owners: &FaceOwners,
+    firsts: &[Option<u32>],
     gap: &[FaceId],
 ) -> Result<Vec<u32>, AllocError>
-    ensures exact { (arcs : List Path) → IsBuiltOf arcs f.now → (cleaned : List (List ℕ)) → AreOwners cleaned f.now.count owners.now →
+    requires each { length firsts.now ≡ f.now.count }
+    ensures exact { (arcs : List Path) → IsBuiltOf arcs f.now → (cleaned : List (List ℕ)) → AreSoleOwners cleaned f.now.count firsts.now →
         IfOk result (λ v. v.items ≡ neighbours_of arcs f.now cleaned gap.now) }
 {
     let mut numbers = Vec::new(alloc);
     for face in gap {
-        push_neighbours(&mut numbers, f, owners, *face)?;
+        push_neighbours(&mut numbers, f, firsts, *face)?;
     }
     Ok(numbers)
 }
 
+#[tactic(auto, using(crate::proofs::FillLemmas::round_more))]
 fn push_neighbours(
     numbers: &mut Vec<u32>,
     f: &Faces,
-    owners: &FaceOwners,
+    firsts: &[Option<u32>],
     face: FaceId,
 ) -> Result<(), AllocError>
-    ensures exact { (arcs : List Path) → IsBuiltOf arcs f.now → (cleaned : List (List ℕ)) → AreOwners cleaned f.now.count owners.now →
+    requires each { length firsts.now ≡ f.now.count }
+    ensures exact { (arcs : List Path) → IsBuiltOf arcs f.now → (cleaned : List (List ℕ)) → AreSoleOwners cleaned f.now.count firsts.now →
         OnOk result (numbers.new.items ≡ numbers.old.items ++ sets_round arcs f.now cleaned face) }
 {
     let round = f.arcs_of(face);
     for arc in round {
-        numbers.extend_from_slice(sets_across(f, owners, *arc))?;
+        numbers.extend_from_slice(set_across(f, firsts, *arc))?;
     }
     Ok(())
 }
 
-// The sets that have the face on the right of a signed arc.
-fn sets_across<'a>(f: &Faces, owners: &'a FaceOwners, arc: SignedArc) -> &'a [u32]
+// The set that has the face on the right of a signed arc, where one has.
+fn set_across<'a>(f: &Faces, firsts: &'a [Option<u32>], arc: SignedArc) -> &'a [u32]
     requires arc { HasArc f.now arc }
-    ensures exact { (cleaned : List (List ℕ)) → AreOwners cleaned f.now.count owners.now → result.now ≡ owners_of cleaned (face_right_of f.now.places arc) }
+    requires each { length firsts.now ≡ f.now.count }
+    ensures exact { (cleaned : List (List ℕ)) → AreSoleOwners cleaned f.now.count firsts.now → result.now ≡ owners_of cleaned (face_right_of f.now.places arc) }
 {
-    owners.at(f.left_of(arc.flip()))
+    firsts[f.left_of(arc.flip()).num() as usize].as_slice()
 }
 
 // Appends the faces of a gap to the list of the set that it goes to.
@@ -153,23 +138,32 @@ fn append(lists: &mut Vec<Vec<FaceId>>, place: usize, faces: &[FaceId]) -> Resul
     Ok(())
 }
 
-// Each set with the faces that are given to it.
-fn together(alloc: Global, cleaned: &SetList, gifts: &[Vec<FaceId>]) -> Result<SetList, AllocError>
-    requires each { length gifts.now ≡ length cleaned.now }
-    ensures exact { IfOk result (AreTogether cleaned.now (map (λ list. list.items) gifts.now) (length cleaned.now)) }
+/// Each set with the faces that are given to it. A set that is given none is moved.
+pub fn together(
+    alloc: Global,
+    cleaned: SetList,
+    gifts: &[Vec<FaceId>],
+) -> Result<SetList, AllocError>
+    requires each { length gifts.now ≡ length cleaned }
+    ensures exact { IfOk result (AreTogether cleaned (map (λ list. list.items) gifts.now) (length cleaned)) }
 {
     let mut sets = SetList::new(alloc);
-    for n in 0..cleaned.len() {
-        let set = &cleaned.as_slice()[n as usize];
-        sets.push(with_faces(alloc, set, &gifts[n as usize])?)?;
+    for set in cleaned.into_vec() {
+        let more = &gifts[sets.len() as usize];
+        sets.push(with_faces(alloc, set, more)?)?;
     }
     Ok(sets)
 }
 
-fn with_faces(alloc: Global, set: &FaceSet, more: &[FaceId]) -> Result<FaceSet, AllocError>
-    ensures exact { IfOk result (λ s. s ≡ ascending nat_lt (more.now ++ set.now)) }
+#[tactic(auto, using(crate::proofs::FirstLemmas::none_more))]
+fn with_faces(alloc: Global, set: FaceSet, more: &[FaceId]) -> Result<FaceSet, AllocError>
+    ensures exact { IfOk result (λ s. s ≡ ascending nat_lt (more.now ++ set)) }
 {
+    let old = set.faces();
+    if more.is_empty() {
+        return Ok(set);
+    }
     let mut faces = Vec::from_slice(alloc, more)?;
-    faces.extend_from_slice(set.faces())?;
+    faces.extend_from_slice(old)?;
     Ok(FaceSet::from_faces(faces))
 }

@@ -1,6 +1,6 @@
-use Rattle.std.proofs.Common.{map}
+use Rattle.std.proofs.Common.{length, map}
 use Rattle.region_ops.specs.Filled.{AreTogether}
 use Rattle.region_ops.proofs.filled_sets.together.Given as goal
 
-abbrev pub invariant-loop-n : goal.invariant-loop-n
-invariant-loop-n l = AreTogether l.cleaned (map (λ list. list.items) l.gifts) l.n l.sets
+abbrev pub invariant-loop-set : goal.invariant-loop-set
+invariant-loop-set l = AreTogether l.yielded (map (λ list. list.items) l.gifts) (length l.yielded) l.sets
