@@ -1,11 +1,12 @@
-ghost use Rattle.std.specs.Prelude.{◌≡◌, ◌≤◌, ◌<◌, ◌^◌, ◌++◌, ◌∷◌, [], IfErr, IfOk, OnOk, OnErr, length, slice_get};
+ghost use Rattle.std.specs.Prelude.{◌≡◌, ◌≤◌, ◌<◌, ◌-◌, ◌^◌, ◌++◌, ◌∷◌, [], IfErr, IfOk, OnOk, OnErr, length, slice_get, slice_index_or, slice_set};
 ghost use Rattle.std.specs.Option.{option_copied};
+ghost use Rattle.std.specs.Borrow.{Lends, sem};
 
 use std::alloc::{AllocError, Global};
 use std::marker::Model;
 
-/// A list of at most 4,294,967,295 items, counted from 0. The lists of the other crates are named after their items,
-/// and each is one of these.
+/// A list of at most 4,294,967,295 items, counted from 0. Where a crate above keeps a list of this size, it is one of
+/// these under the name of its items.
 #[derive(Drop)]
 pub struct ItemList<T> {
     items: Vec<T>,
@@ -22,6 +23,8 @@ impl<T> Model for ItemList<T> {
 }
 
 impl<T> ItemList<T> {
+    ghost use Rattle.lists.specs.contracts.item_list.ItemList.{the_row};
+
     /// How many items there are.
     pub fn len(&self) -> u32
         ensures count { result ≡ length self.now }
@@ -42,6 +45,16 @@ impl<T> ItemList<T> {
         ensures few { length self.now < 2 ^ 32 }
     {
         &self.items
+    }
+
+    /// The last item, to change: what it is when the loan ends is the last item from then on.
+    pub fn last_mut(&mut self) -> &mut T
+        requires some { 0 < length self.old }
+        ensures* lends { sem 𝓛 (Lends (the_row T.row) T.row self.entry result (slice_set self.old (length self.old - 1))) }
+        ensures last { result.now ≡ slice_index_or self.old (length self.old - 1) result.now }
+    {
+        let last = self.items.len() - 1;
+        &mut self.items[last]
     }
 
     /// The items themselves. Takes no memory.
