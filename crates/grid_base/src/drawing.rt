@@ -1,7 +1,7 @@
 ghost use Rattle.std.specs.Prelude.{◌≡◌, ◌≢◌, ◌<◌, ◌++◌, ◌∷◌, [], List, OnOk, OnErr, IfOk, Some, length, slice_get, ◌^◌};
 ghost use Rattle.lists.specs.Lists.{last_of};
 ghost use Rattle.plane_model.specs.Joined.{IsClosed};
-ghost use Rattle.grid_base.specs.Drawn.{with_feature, add_polygon, add_ring, add_item, without_repeats, outline, HasPaths};
+ghost use Rattle.grid_base.specs.Drawn.{with_feature, with_last, add_polygon, add_ring, add_item, without_repeats, outline, HasPaths};
 
 use crate::kinds::Kind;
 use crate::list_types::{PathList, PolygonRings, PtList, RingsList, without_repeats};
@@ -96,7 +96,7 @@ impl Drawing {
         let ring = without_repeats(ring);
         let last = self.polygons.len() - 1;
         let feature = &mut self.polygons[last];
-        feature.push_ring(ring)
+        push_ring(feature, ring)
     }
 
     /// Adds a line to the last line feature.
@@ -169,6 +169,15 @@ fn corner(p: Pt, q: Pt) -> Pt
         Some(corner) => corner,
         None => unreachable!(),
     }
+}
+
+// Adds a ring to the last polygon of a feature.
+fn push_ring(polygons: &mut RingsList, ring: PtList) -> Result<(), AllocError>
+    requires { 0 < length polygons.old }
+    ensures ok { OnOk result (polygons.new ≡ with_last (λ polygon. polygon ++ ring ∷ []) polygons.old) }
+    ensures err { OnErr result (polygons.new ≡ polygons.old) }
+{
+    polygons.last_mut().push(ring)
 }
 
 // Adds a feature, and answers its number.
