@@ -34,7 +34,7 @@ impl Model for Snapped {
 }
 
 impl Snapped {
-    /// Takes no memory.
+    /// The snapped drawing of these paths, whose links are these. Takes no memory.
     pub fn new(paths: Drawing, links: LinkList) -> Snapped
         requires links { links ≡ links_of paths }
         requires arrangement { IsArrangement (links_of paths) }

@@ -69,7 +69,7 @@ impl MemFiles {
 
     /// Gives the name these bytes.
     ///
-    /// Errors: all is as before.
+    /// Errors: `AllocError` for want of memory; then all is as before.
     pub fn put(&mut self, name: &str, bytes: &[u8]) -> Result<(), AllocError>
         ensures held { OnOk result (EntryBecame self.old.entries self.new.entries name.now (holding name.now bytes.now (max (room_of self.old name.now) (length bytes.now)))) }
         ensures kept { self.new ≡ with_entries self.old self.new.entries }
@@ -91,7 +91,7 @@ impl MemFiles {
 
     /// Makes room for `room` bytes under the name; whether it is there, and what it holds, stays.
     ///
-    /// Errors: all is as before.
+    /// Errors: `AllocError` for want of memory; then all is as before.
     pub fn ready(&mut self, name: &str, room: u64) -> Result<(), AllocError>
         ensures map { (other : List ℕ) → held_under self.new other ≡ held_under self.old other }
         ensures ready { OnOk result (EntryBecame self.old.entries self.new.entries name.now (readied (entry_of self.old.entries name.now) name.now room)) }

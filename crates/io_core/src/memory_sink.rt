@@ -32,7 +32,10 @@ impl Model for MemSink {
 }
 
 impl MemSink {
-    /// `most` is the greatest number of bytes a call moves; `failing` are the numbers, from 1, of the calls that fail.
+    /// An empty sink with room for `room` bytes, taken at once. `most` is the greatest number of bytes a call moves;
+    /// `failing` are the numbers, from 1, of the calls that fail.
+    ///
+    /// Errors: `AllocError` for want of memory.
     pub fn new(alloc: Global, room: u64, most: u32, failing: &[u32]) -> Result<MemSink, AllocError>
         requires moves { 1 ≤ most }
         ensures started { IfOk result (λ sink. sink ≡ record { bytes = record { held = []; room = room }; most = most; calls = record { made = 0; failing = failing.now }; faults = 0 }) }

@@ -32,7 +32,10 @@ impl Model for MemSource {
 }
 
 impl MemSource {
-    /// `most` is the greatest number of bytes a call moves; `failing` are the numbers, from 1, of the calls that fail.
+    /// A source of these bytes, which are copied. `most` is the greatest number of bytes a call moves; `failing` are
+    /// the numbers, from 1, of the calls that fail.
+    ///
+    /// Errors: `AllocError` for want of memory.
     pub fn new(
         alloc: Global,
         bytes: &[u8],

@@ -92,7 +92,7 @@ pub fn read_whole<S: Source>(alloc: Global, src: &mut S, limit: u64) -> Result<B
 
 /// Reads a file to its end, `limit` bytes at most.
 ///
-/// Errors: `Missing` where there is no file of that name.
+/// Errors: as `FileStop` has them; what was read is lost.
 pub fn read_file<F: Files>(
     alloc: Global,
     files: &mut F,

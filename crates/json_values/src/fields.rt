@@ -83,7 +83,7 @@ impl Fields {
         Ok(())
     }
 
-    /// The value with this name.
+    /// The value with this name; `None` where no field has it.
     ///
     /// Cost: a search through the fields, one by one.
     pub fn get(&self, name: &str) -> Option<&Value>

@@ -107,7 +107,7 @@ impl JsonList {
         })
     }
 
-    /// A refused push changes nothing.
+    /// Adds an item at the end. Fails for want of memory, and where there are `u32::MAX` of them.
     pub fn push(&mut self, item: Json) -> Result<(), AllocError>
         ensures ok { OnOk result (items_list self.new ≡ items_list self.old ++ json_value item ∷ []) }
         ensures err { OnErr result (self.new ≡ self.old) }
@@ -197,7 +197,7 @@ impl JsonFields {
         self.fields.len() as u32
     }
 
-    /// The name of the field with this number, counted from 0.
+    /// The name of the field with this number, counted from 0; `None` past the end.
     pub fn name_at(&self, i: u32) -> Option<&str>
         ensures lookup { option_copied result ≡ option_map (λ f. f.0) (slice_get (fields_list self.now) i) }
     {
@@ -207,7 +207,7 @@ impl JsonFields {
         }
     }
 
-    /// The value of the field with this number, counted from 0.
+    /// The value of the field with this number, counted from 0; `None` past the end.
     pub fn at(&self, i: u32) -> Option<&Json>
         ensures lookup { option_map json_value (option_copied result) ≡ option_map (λ f. f.1) (slice_get (fields_list self.now) i) }
     {
@@ -217,7 +217,7 @@ impl JsonFields {
         }
     }
 
-    /// The value of the field with this name.
+    /// The value of the field with this name; `None` where none has it.
     pub fn find(&self, name: &str) -> Option<&Json>
         ensures found { option_map json_value (option_copied result) ≡ value_named name.now (fields_list self.now) }
     {

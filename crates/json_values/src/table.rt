@@ -96,7 +96,7 @@ impl Table {
         self.rows.len()
     }
 
-    /// The row with this number, counted from 0.
+    /// The row with this number, counted from 0; `None` past the end.
     pub fn row(&self, i: u32) -> Option<&Row>
         ensures lookup { option_copied result ≡ slice_get self.now.rows i }
     {

@@ -28,7 +28,7 @@ impl Model for Text {
 }
 
 impl Text {
-    /// Takes memory for a text of more than 24 bytes alone.
+    /// A copy of this text. Takes memory for a text of more than 24 bytes alone.
     pub fn of(alloc: Global, s: &str) -> Result<Text, AllocError>
         ensures copied { IfOk result (λ t. t ≡ s.now) }
     {
@@ -39,7 +39,7 @@ impl Text {
         Ok(Text { content })
     }
 
-    /// Takes no memory.
+    /// This text, which is moved. Takes no memory.
     pub fn from_string(content: String) -> Text
         ensures kept { result ≡ string_bytes content }
     {
