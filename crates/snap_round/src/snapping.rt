@@ -7,7 +7,7 @@ ghost use Rattle.grid_base.specs.Drawn.{HasPaths};
 ghost use Rattle.hot_pixels.specs.Spots.{spots_of};
 ghost use Rattle.hot_pixels.specs.Edges.{AreEdgesOf};
 ghost use Rattle.snap_round.specs.Paths.{without_points};
-ghost use Rattle.snap_round.specs.Snapping.{FaultMeans, HasPointsAlone};
+ghost use Rattle.snap_round.specs.Snapping.{FaultMeans, HasPointsAlone, most_links};
 
 use crate::counting::count_links;
 use crate::fault::SnapFault;
@@ -117,7 +117,7 @@ fn snap_all(alloc: Global, d: &Drawing) -> Result<Snapped, AllocError>
 /// segment.
 pub fn snap(alloc: Global, d: &Drawing) -> Result<Snapped, SnapFault>
     ensures exact { IfOk result (λ s. s ≡ snapped d.now) }
-    ensures within { IfOk result (λ s. link_count (snapped d.now) ≤ 8000000) }
+    ensures within { IfOk result (λ s. link_count (snapped d.now) ≤ most_links) }
     ensures fault { IfErr result (FaultMeans d.now) }
 {
     d.keeps_paths();
@@ -135,7 +135,7 @@ pub fn snap(alloc: Global, d: &Drawing) -> Result<Snapped, SnapFault>
 /// The same of a drawing that is let go. One that has points alone becomes the snapped one, without a search or a copy.
 pub fn into_snapped(alloc: Global, d: Drawing) -> Result<Snapped, SnapFault>
     ensures exact { IfOk result (λ s. s ≡ snapped d) }
-    ensures within { IfOk result (λ s. link_count (snapped d) ≤ 8000000) }
+    ensures within { IfOk result (λ s. link_count (snapped d) ≤ most_links) }
     ensures fault { IfErr result (FaultMeans d) }
 {
     if has_points_alone(&d) {
