@@ -2,9 +2,12 @@ ghost use Rattle.cmd_words.specs.Expressions.{AreRefusals, Refusals};
 ghost use Rattle.word_model.specs.Words.{words_say};
 ghost use Rattle.chain_model.specs.Headline.{HasCause, IsRunOf};
 ghost use Rattle.chain_model.specs.Sources.{AreReadings, Readings};
+ghost use Rattle.run_sources.specs.Sources.{sources_seen};
+ghost use Rattle.run_outcome.specs.Telling.{TellsOutcome, stream_seen};
+ghost use Rattle.run_chain.specs.Effects.{outside_seen};
 ghost use Rattle.run_chain.specs.Running.{WordsRun};
 ghost use Rattle.headline_laws.specs.Outcomes.{outcome_as};
-ghost use Rattle.run_outcome.specs.Telling.{TellsOutcome};
+ghost use Rattle.ms_chain.specs.Seen.{counts_seen, run_seen};
 
 use io_core::{Files, Sink, Source, Words};
 use run_outcome::Outcome;
@@ -25,33 +28,23 @@ pub fn run<F: Files, I: Source, K: Sink, M: Sink>(
     // What the words and the contents tell is what comes about; each answer has a cause; and where they tell Done and
     // nothing failed, it is Done, or memory ran out.
     ensures headline { (read : Readings) → AreReadings read → IsRunOf read words.now
-        (record {
-          outside = record { files = F.held files.old; stream = K.held output.old };
-          input = I.left input.old;
-          messages = record { told = M.held messages.old; faults = M.faults messages.old };
-          counts = record { reads = F.read_faults files.old; writes = F.write_faults files.old; input = I.faults input.old; output = K.faults output.old; file_bytes = F.bytes_read files.old; input_bytes = I.bytes_read input.old };
-        })
-        (record {
-          outside = record { files = F.held files.new; stream = K.held output.new };
-          input = I.left input.new;
-          messages = record { told = M.held messages.new; faults = M.faults messages.new };
-          counts = record { reads = F.read_faults files.new; writes = F.write_faults files.new; input = I.faults input.new; output = K.faults output.new; file_bytes = F.bytes_read files.new; input_bytes = I.bytes_read input.new };
-        })
+        (run_seen F.Files I.Source K.Sink M.Sink files.old input.old output.old messages.old)
+        (run_seen F.Files I.Source K.Sink M.Sink files.new input.new output.new messages.new)
         (outcome_as result) }
 
     // Causes, whatever the readings of JSON are.
     ensures cause { (refuses : Refusals) → AreRefusals refuses → HasCause (words_say refuses words.now) (F.held files.old) (I.left input.old)
-        (record { reads = F.read_faults files.old; writes = F.write_faults files.old; input = I.faults input.old; output = K.faults output.old; file_bytes = F.bytes_read files.old; input_bytes = I.bytes_read input.old })
-        (record { reads = F.read_faults files.new; writes = F.write_faults files.new; input = I.faults input.new; output = K.faults output.new; file_bytes = F.bytes_read files.new; input_bytes = I.bytes_read input.new })
+        (counts_seen F.Files I.Source K.Sink files.old input.old output.old)
+        (counts_seen F.Files I.Source K.Sink files.new input.new output.new)
         (outcome_as result) }
 
     // The same in faces and arcs of the plane, command by command.
     ensures means { WordsRun words.now
-        (record { files = F.held files.old; file_faults = F.read_faults files.old; file_bytes = F.bytes_read files.old; input = I.left input.old; input_faults = I.faults input.old; input_bytes = I.bytes_read input.old })
-        (record { files = F.held files.new; file_faults = F.read_faults files.new; file_bytes = F.bytes_read files.new; input = I.left input.new; input_faults = I.faults input.new; input_bytes = I.bytes_read input.new })
-        (record { files = F.held files.old; file_faults = F.write_faults files.old; stream = K.held output.old; stream_faults = K.faults output.old })
-        (record { files = F.held files.new; file_faults = F.write_faults files.new; stream = K.held output.new; stream_faults = K.faults output.new }) result }
-    ensures told { TellsOutcome result (record { told = M.held messages.old; faults = M.faults messages.old }) (record { told = M.held messages.new; faults = M.faults messages.new }) }
+        (sources_seen F.Files I.Source files.old input.old)
+        (sources_seen F.Files I.Source files.new input.new)
+        (outside_seen F.Files K.Sink files.old output.old)
+        (outside_seen F.Files K.Sink files.new output.new) result }
+    ensures told { TellsOutcome result (stream_seen M.Sink messages.old) (stream_seen M.Sink messages.new) }
 {
     run_chain::run(alloc, words, files, input, output, messages)
 }

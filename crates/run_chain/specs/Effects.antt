@@ -4,6 +4,8 @@ use Rattle.std.specs.Io.KnownBytes.{Appends}
 use Rattle.io_core.specs.Counts.{Rose, NeverFell, NoneFell}
 use Rattle.io_core.specs.Contents.{Content, FileMap, SameFiles, Puts}
 use Rattle.io_core.specs.declared.outside.Failed.{Failed}
+use Rattle.io_core.specs.declared.outside.Files as Files
+use Rattle.io_core.specs.declared.outside.Sink as Sink
 
 -- files and the standard stream, as far as they tell what they hold, with their counts of failed writes
 pub record OutsideSeen : Type 0 where
@@ -11,6 +13,14 @@ pub record OutsideSeen : Type 0 where
   pub file_faults : Content → ℕ
   pub stream : Option Content
   pub stream_faults : ℕ
+
+abbrev pub outside_seen : {T U : Type 0} → Files.Ghosts T → Sink.Ghosts U → T → U → OutsideSeen
+outside_seen F K files output = record {
+  files = F.held files;
+  file_faults = F.write_faults files;
+  stream = K.held output;
+  stream_faults = K.faults output;
+}
 
 -- no count of failed writes fell
 pub record CountsGrew (before after : OutsideSeen) : Type 0 where

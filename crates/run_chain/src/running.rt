@@ -1,10 +1,12 @@
 ghost use Rattle.std.specs.Prelude.{◌≡◌, ◌≤◌, ◌+◌, ◌^◌, ◌<◌, IfOk, length, map};
 ghost use Rattle.grid_base.specs.Grid.{most_places};
 ghost use Rattle.run_plane.specs.OnPlane.{AreLayersOn};
+ghost use Rattle.run_sources.specs.Sources.{sources_seen};
 ghost use Rattle.run_state.specs.OnPlane.{AreHeldOn};
 ghost use Rattle.run_state.specs.Origins.{base_of};
+ghost use Rattle.run_outcome.specs.Telling.{TellsOutcome, stream_seen};
+ghost use Rattle.run_chain.specs.Effects.{outside_seen};
 ghost use Rattle.run_chain.specs.Running.{StepMeans, CommandsRun, BegunRuns, ChainRuns, SynthRuns, WordsRun};
-ghost use Rattle.run_outcome.specs.Telling.{TellsOutcome};
 
 use crate::writing::write_text;
 use cmd_words::read_chain;
@@ -32,11 +34,11 @@ pub fn run<F: Files, I: Source, K: Sink, M: Sink>(
     messages: &mut M,
 ) -> Outcome
     ensures means { WordsRun words.now
-        (record { files = F.held files.old; file_faults = F.read_faults files.old; file_bytes = F.bytes_read files.old; input = I.left input.old; input_faults = I.faults input.old; input_bytes = I.bytes_read input.old })
-        (record { files = F.held files.new; file_faults = F.read_faults files.new; file_bytes = F.bytes_read files.new; input = I.left input.new; input_faults = I.faults input.new; input_bytes = I.bytes_read input.new })
-        (record { files = F.held files.old; file_faults = F.write_faults files.old; stream = K.held output.old; stream_faults = K.faults output.old })
-        (record { files = F.held files.new; file_faults = F.write_faults files.new; stream = K.held output.new; stream_faults = K.faults output.new }) result }
-    ensures told { TellsOutcome result (record { told = M.held messages.old; faults = M.faults messages.old }) (record { told = M.held messages.new; faults = M.faults messages.new }) }
+        (sources_seen F.Files I.Source files.old input.old)
+        (sources_seen F.Files I.Source files.new input.new)
+        (outside_seen F.Files K.Sink files.old output.old)
+        (outside_seen F.Files K.Sink files.new output.new) result }
+    ensures told { TellsOutcome result (stream_seen M.Sink messages.old) (stream_seen M.Sink messages.new) }
 {
     let outcome = run_words(alloc, words, files, input, output);
     tell(messages, &outcome);
@@ -52,10 +54,10 @@ fn run_words<F: Files, I: Source, K: Sink>(
     output: &mut K,
 ) -> Outcome
     ensures means { WordsRun words.now
-        (record { files = F.held files.old; file_faults = F.read_faults files.old; file_bytes = F.bytes_read files.old; input = I.left input.old; input_faults = I.faults input.old; input_bytes = I.bytes_read input.old })
-        (record { files = F.held files.new; file_faults = F.read_faults files.new; file_bytes = F.bytes_read files.new; input = I.left input.new; input_faults = I.faults input.new; input_bytes = I.bytes_read input.new })
-        (record { files = F.held files.old; file_faults = F.write_faults files.old; stream = K.held output.old; stream_faults = K.faults output.old })
-        (record { files = F.held files.new; file_faults = F.write_faults files.new; stream = K.held output.new; stream_faults = K.faults output.new }) result }
+        (sources_seen F.Files I.Source files.old input.old)
+        (sources_seen F.Files I.Source files.new input.new)
+        (outside_seen F.Files K.Sink files.old output.old)
+        (outside_seen F.Files K.Sink files.new output.new) result }
 {
     match read_chain(alloc, words) {
         Ok(Job::Chain(chain)) => run_chain(alloc, &chain, files, input, output),
@@ -67,7 +69,7 @@ fn run_words<F: Files, I: Source, K: Sink>(
 // Writes the line of a made-up mosaic to the standard stream.
 fn run_synth<K: Sink>(alloc: Global, seed: u32, n: u32, output: &mut K) -> Outcome
     requires few { n ≤ 300 }
-    ensures ran { SynthRuns seed n (record { told = K.held output.old; faults = K.faults output.old }) (record { told = K.held output.new; faults = K.faults output.new }) result }
+    ensures ran { SynthRuns seed n (stream_seen K.Sink output.old) (stream_seen K.Sink output.new) result }
 {
     match synth_line(alloc, seed, n) {
         Ok(line) => match write_whole(output, line.as_bytes()) {
@@ -87,10 +89,10 @@ fn run_chain<F: Files, I: Source, K: Sink>(
 ) -> Outcome
     requires { chain.now.places ≤ most_places }
     ensures runs { ChainRuns chain.now
-        (record { files = F.held files.old; file_faults = F.read_faults files.old; file_bytes = F.bytes_read files.old; input = I.left input.old; input_faults = I.faults input.old; input_bytes = I.bytes_read input.old })
-        (record { files = F.held files.new; file_faults = F.read_faults files.new; file_bytes = F.bytes_read files.new; input = I.left input.new; input_faults = I.faults input.new; input_bytes = I.bytes_read input.new })
-        (record { files = F.held files.old; file_faults = F.write_faults files.old; stream = K.held output.old; stream_faults = K.faults output.old })
-        (record { files = F.held files.new; file_faults = F.write_faults files.new; stream = K.held output.new; stream_faults = K.faults output.new }) result }
+        (sources_seen F.Files I.Source files.old input.old)
+        (sources_seen F.Files I.Source files.new input.new)
+        (outside_seen F.Files K.Sink files.old output.old)
+        (outside_seen F.Files K.Sink files.new output.new) result }
 {
     let sources = match read_sources(alloc, chain.places, chain.sources.as_slice(), files, input) {
         Ok(sources) => sources,
@@ -113,8 +115,8 @@ fn run_begun<F: Files, K: Sink>(
     requires places { chain.now.places ≤ most_places }
     requires on { AreLayersOn begun.plane begun.layers.items }
     ensures ran { BegunRuns (record { places = chain.now.places; plane = begun.plane; sources = map (λ own. own.items) begun.sources.items }) begun.layers.items chain.now.commands
-        (record { files = F.held files.old; file_faults = F.write_faults files.old; stream = K.held output.old; stream_faults = K.faults output.old })
-        (record { files = F.held files.new; file_faults = F.write_faults files.new; stream = K.held output.new; stream_faults = K.faults output.new }) result }
+        (outside_seen F.Files K.Sink files.old output.old)
+        (outside_seen F.Files K.Sink files.new output.new) result }
 {
     let Begun {
         plane,
@@ -154,8 +156,8 @@ fn run_commands<F: Files, K: Sink>(
     requires few { done + length commands.now < 2 ^ 32 }
     requires on { AreHeldOn base.now.plane.now state.layers.items }
     ensures ran { CommandsRun (base_of base.now) done state.layers.items commands.now
-        (record { files = F.held files.old; file_faults = F.write_faults files.old; stream = K.held output.old; stream_faults = K.faults output.old })
-        (record { files = F.held files.new; file_faults = F.write_faults files.new; stream = K.held output.new; stream_faults = K.faults output.new }) result }
+        (outside_seen F.Files K.Sink files.old output.old)
+        (outside_seen F.Files K.Sink files.new output.new) result }
 {
     let [command, rest @ ..] = commands else {
         return Outcome::Done;
@@ -179,8 +181,8 @@ fn step<F: Files, K: Sink>(
     requires places { base.now.places ≤ most_places }
     requires on { AreHeldOn base.now.plane.now state.layers.items }
     ensures means { StepMeans (base_of base.now) number command.now state.layers.items
-        (record { files = F.held files.old; file_faults = F.write_faults files.old; stream = K.held output.old; stream_faults = K.faults output.old })
-        (record { files = F.held files.new; file_faults = F.write_faults files.new; stream = K.held output.new; stream_faults = K.faults output.new }) result }
+        (outside_seen F.Files K.Sink files.old output.old)
+        (outside_seen F.Files K.Sink files.new output.new) result }
     ensures on { IfOk result (λ state. AreHeldOn base.now.plane.now state.layers.items) }
 {
     match &command.action {

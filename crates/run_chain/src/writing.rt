@@ -1,4 +1,4 @@
-ghost use Rattle.run_chain.specs.Effects.{Writes};
+ghost use Rattle.run_chain.specs.Effects.{Writes, outside_seen};
 
 use io_core::{Bytes, Failed, Files, Sink, write_file, write_whole};
 
@@ -11,8 +11,8 @@ pub(crate) fn write_text<F: Files, K: Sink>(
     text: &Bytes,
 ) -> Result<(), Failed>
     ensures means { Writes standard name.now text.now
-        (record { files = F.held files.old; file_faults = F.write_faults files.old; stream = K.held output.old; stream_faults = K.faults output.old })
-        (record { files = F.held files.new; file_faults = F.write_faults files.new; stream = K.held output.new; stream_faults = K.faults output.new }) result }
+        (outside_seen F.Files K.Sink files.old output.old)
+        (outside_seen F.Files K.Sink files.new output.new) result }
 {
     if standard {
         write_whole(output, text.as_slice())

@@ -3,6 +3,7 @@ use Rattle.std.specs.Prelude.{◌≡◌, ℕ, ◌<◌, ◌⊎◌, Option, take, 
 use Rattle.std.specs.Io.KnownBytes.{Appends}
 use Rattle.io_core.specs.Counts.{Rose}
 use Rattle.io_core.specs.Contents.{Content}
+use Rattle.io_core.specs.declared.outside.Sink as Sink
 use Rattle.run_outcome.specs.Messages.{message_line}
 use Rattle.run_outcome.specs.declared.outcome.Outcome.{Outcome}
 use Rattle.run_outcome.specs.declared.outcome.Outcome.TheVariants as outcome
@@ -11,6 +12,9 @@ use Rattle.run_outcome.specs.declared.outcome.Outcome.TheVariants as outcome
 pub record StreamSeen : Type 0 where
   pub told : Option Content
   pub faults : ℕ
+
+abbrev pub stream_seen : {T : Type 0} → Sink.Ghosts T → T → StreamSeen
+stream_seen K stream = record { told = K.held stream; faults = K.faults stream }
 
 -- a front of a text that isn't all of it was added, where the stream tells what it holds
 pub record AddsFront (before after : Option Content) (text : Content) : Type 0 where

@@ -1,7 +1,7 @@
 ghost use Rattle.std.specs.Prelude.{◌≡◌, ◌≤◌, ◌+◌, ◌++◌, codes, decimal, length, Result};
 ghost use Rattle.io_core.specs.Counts.{NeverFell};
 ghost use Rattle.run_outcome.specs.Messages.{word_kind, expr_kind, shape_kind, eval_kind, input_text, topo_kind, topo_place, numbered_twice, table_text, refused_text, outcome_text, told_of};
-ghost use Rattle.run_outcome.specs.Telling.{Offers, TellsOutcome};
+ghost use Rattle.run_outcome.specs.Telling.{Offers, TellsOutcome, stream_seen};
 
 use crate::outcome::Outcome;
 use arrayvec::ArrayString;
@@ -22,7 +22,7 @@ type Line = ArrayString<MAX_BYTES>;
 
 /// Offers the line of an outcome other than `Done` to `messages`, and nothing else. A failure there changes nothing.
 pub fn tell<M: Sink>(messages: &mut M, outcome: &Outcome)
-    ensures told { TellsOutcome outcome.now (record { told = M.held messages.old; faults = M.faults messages.old }) (record { told = M.held messages.new; faults = M.faults messages.new }) }
+    ensures told { TellsOutcome outcome.now (stream_seen M.Sink messages.old) (stream_seen M.Sink messages.new) }
 {
     if let Outcome::Done = outcome {
         return;
@@ -35,7 +35,7 @@ pub fn tell<M: Sink>(messages: &mut M, outcome: &Outcome)
 }
 
 fn offer<M: Sink>(messages: &mut M, line: &str)
-    ensures offered { Offers line.now (record { told = M.held messages.old; faults = M.faults messages.old }) (record { told = M.held messages.new; faults = M.faults messages.new }) }
+    ensures offered { Offers line.now (stream_seen M.Sink messages.old) (stream_seen M.Sink messages.new) }
 {
     let _ = write_whole(messages, line.as_bytes());
 }

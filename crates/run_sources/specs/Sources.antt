@@ -4,6 +4,8 @@ use Rattle.std.specs.Prelude.{◌≡◌, ℕ, ◌+◌, ◌<◌, ◌≤◌, ⊤, 
 use Rattle.io_core.specs.Counts.{raised, Rose, NeverFell, NoneFell}
 use Rattle.io_core.specs.Contents.{Content, FileMap, SameFiles}
 use Rattle.io_core.specs.Whole.{AtName, MissesName}
+use Rattle.io_core.specs.declared.outside.Files as Files
+use Rattle.io_core.specs.declared.outside.Source as Source
 use Rattle.io_core.specs.declared.whole.FileStop.{FileStop}
 use Rattle.io_core.specs.declared.whole.FileStop.TheVariants as stop
 use Rattle.geojson_io.specs.LayerContent.{LayerContent}
@@ -25,6 +27,16 @@ pub record SourcesSeen : Type 0 where
   pub input : Option Content
   pub input_faults : ℕ
   pub input_bytes : ℕ
+
+abbrev pub sources_seen : {T U : Type 0} → Files.Ghosts T → Source.Ghosts U → T → U → SourcesSeen
+sources_seen F I files input = record {
+  files = F.held files;
+  file_faults = F.read_faults files;
+  file_bytes = F.bytes_read files;
+  input = I.left input;
+  input_faults = I.faults input;
+  input_bytes = I.bytes_read input;
+}
 
 -- the contents of files are as before, and no count fell
 pub record Grew (before after : SourcesSeen) : Type 0 where

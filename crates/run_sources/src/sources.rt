@@ -4,7 +4,7 @@ ghost use Rattle.io_core.specs.Counts.{NoneFell};
 ghost use Rattle.grid_base.specs.Grid.{most_places};
 ghost use Rattle.geojson_io.specs.Sound.{LayerIsSound};
 ghost use Rattle.run_sources.specs.Budget.{whole_budget, budget_after, feature_count, position_count, positions_in, positions_along};
-ghost use Rattle.run_sources.specs.Sources.{Grew, BytesMean, stopped, SourceGives, SourceStops, GivesAll, StopsAtSource};
+ghost use Rattle.run_sources.specs.Sources.{Grew, BytesMean, stopped, sources_seen, SourceGives, SourceStops, GivesAll, StopsAtSource};
 
 use crate::decoding::{DecodeStop, decoded};
 use crate::fault::SourceFault;
@@ -136,17 +136,17 @@ pub fn read_sources<F: Files, I: Source>(
     requires places { places ≤ most_places }
     requires few { length sources.now < 2 ^ 32 }
     ensures stops { IfErr result (StopsAtSource places sources.now
-        (record { files = F.held files.old; file_faults = F.read_faults files.old; file_bytes = F.bytes_read files.old; input = I.left input.old; input_faults = I.faults input.old; input_bytes = I.bytes_read input.old })
-        (record { files = F.held files.new; file_faults = F.read_faults files.new; file_bytes = F.bytes_read files.new; input = I.left input.new; input_faults = I.faults input.new; input_bytes = I.bytes_read input.new })) }
+        (sources_seen F.Files I.Source files.old input.old)
+        (sources_seen F.Files I.Source files.new input.new)) }
     ensures grew { Grew
-        (record { files = F.held files.old; file_faults = F.read_faults files.old; file_bytes = F.bytes_read files.old; input = I.left input.old; input_faults = I.faults input.old; input_bytes = I.bytes_read input.old })
-        (record { files = F.held files.new; file_faults = F.read_faults files.new; file_bytes = F.bytes_read files.new; input = I.left input.new; input_faults = I.faults input.new; input_bytes = I.bytes_read input.new }) }
+        (sources_seen F.Files I.Source files.old input.old)
+        (sources_seen F.Files I.Source files.new input.new) }
     ensures writes { NoneFell (F.write_faults files.old) (F.write_faults files.new) }
     ensures sound { IfOk result (λ all. All (λ read. All LayerIsSound read.layers) all.items) }
     ensures owners { IfOk result (λ all. map (λ read. read.owner) all.items ≡ map (λ source. source.owner) sources.now) }
     ensures gives { IfOk result (λ all. GivesAll places sources.now
-        (record { files = F.held files.old; file_faults = F.read_faults files.old; file_bytes = F.bytes_read files.old; input = I.left input.old; input_faults = I.faults input.old; input_bytes = I.bytes_read input.old })
-        (record { files = F.held files.new; file_faults = F.read_faults files.new; file_bytes = F.bytes_read files.new; input = I.left input.new; input_faults = I.faults input.new; input_bytes = I.bytes_read input.new }) (map (λ read. read.layers) all.items)) }
+        (sources_seen F.Files I.Source files.old input.old)
+        (sources_seen F.Files I.Source files.new input.new) (map (λ read. read.layers) all.items)) }
 {
     let mut all = Vec::new(alloc);
     let mut budget = Budget::whole();
@@ -191,16 +191,16 @@ fn read_source<F: Files, I: Source>(
 ) -> Result<GeoLayers, SourceFault>
     requires { places ≤ most_places }
     ensures stops { IfErr result (SourceStops places budget.old number source.now
-        (record { files = F.held files.old; file_faults = F.read_faults files.old; file_bytes = F.bytes_read files.old; input = I.left input.old; input_faults = I.faults input.old; input_bytes = I.bytes_read input.old })
-        (record { files = F.held files.new; file_faults = F.read_faults files.new; file_bytes = F.bytes_read files.new; input = I.left input.new; input_faults = I.faults input.new; input_bytes = I.bytes_read input.new })) }
+        (sources_seen F.Files I.Source files.old input.old)
+        (sources_seen F.Files I.Source files.new input.new)) }
     ensures grew { Grew
-        (record { files = F.held files.old; file_faults = F.read_faults files.old; file_bytes = F.bytes_read files.old; input = I.left input.old; input_faults = I.faults input.old; input_bytes = I.bytes_read input.old })
-        (record { files = F.held files.new; file_faults = F.read_faults files.new; file_bytes = F.bytes_read files.new; input = I.left input.new; input_faults = I.faults input.new; input_bytes = I.bytes_read input.new }) }
+        (sources_seen F.Files I.Source files.old input.old)
+        (sources_seen F.Files I.Source files.new input.new) }
     ensures writes { NoneFell (F.write_faults files.old) (F.write_faults files.new) }
     ensures sound { IfOk result (λ layers. All LayerIsSound layers) }
     ensures gives { IfOk result (λ layers. SourceGives places source.now budget.old budget.new
-        (record { files = F.held files.old; file_faults = F.read_faults files.old; file_bytes = F.bytes_read files.old; input = I.left input.old; input_faults = I.faults input.old; input_bytes = I.bytes_read input.old })
-        (record { files = F.held files.new; file_faults = F.read_faults files.new; file_bytes = F.bytes_read files.new; input = I.left input.new; input_faults = I.faults input.new; input_bytes = I.bytes_read input.new }) layers) }
+        (sources_seen F.Files I.Source files.old input.old)
+        (sources_seen F.Files I.Source files.new input.new) layers) }
 {
     let bytes = match read_bytes(alloc, source, budget.bytes, files, input) {
         Ok(bytes) => bytes,
@@ -239,11 +239,11 @@ fn read_bytes<F: Files, I: Source>(
     input: &mut I,
 ) -> Result<Bytes, FileStop>
     ensures means { BytesMean source.now limit
-        (record { files = F.held files.old; file_faults = F.read_faults files.old; file_bytes = F.bytes_read files.old; input = I.left input.old; input_faults = I.faults input.old; input_bytes = I.bytes_read input.old })
-        (record { files = F.held files.new; file_faults = F.read_faults files.new; file_bytes = F.bytes_read files.new; input = I.left input.new; input_faults = I.faults input.new; input_bytes = I.bytes_read input.new }) result }
+        (sources_seen F.Files I.Source files.old input.old)
+        (sources_seen F.Files I.Source files.new input.new) result }
     ensures grew { Grew
-        (record { files = F.held files.old; file_faults = F.read_faults files.old; file_bytes = F.bytes_read files.old; input = I.left input.old; input_faults = I.faults input.old; input_bytes = I.bytes_read input.old })
-        (record { files = F.held files.new; file_faults = F.read_faults files.new; file_bytes = F.bytes_read files.new; input = I.left input.new; input_faults = I.faults input.new; input_bytes = I.bytes_read input.new }) }
+        (sources_seen F.Files I.Source files.old input.old)
+        (sources_seen F.Files I.Source files.new input.new) }
     ensures writes { NoneFell (F.write_faults files.old) (F.write_faults files.new) }
 {
     if !source.standard {

@@ -6,15 +6,15 @@ use Rattle.run_beginning.specs.BegunLayers.{BeginsOver}
 use Rattle.run_beginning.specs.Drawing.{drawing_of}
 use Rattle.job_terms.specs.declared.job.SourceWord.{SourceWord}
 use Rattle.io_core.proofs.Reading.{NeverFell-refl}
-use Rattle.run_chain.specs.Effects.{OutsideSeen}
-use Rattle.run_sources.specs.Sources.{SourcesSeen, GivesAll, StopsAtSource}
+use Rattle.run_chain.specs.Effects.{OutsideSeen, outside_seen}
+use Rattle.run_sources.specs.Sources.{SourcesSeen, GivesAll, StopsAtSource, sources_seen}
 use Rattle.run_chain.proofs.running.run_chain.Goals as goal
 
 pub returns-in-Ok-begin : goal.returns-in-Ok-begin
 returns-in-Ok-begin g c =
-    let middle : OutsideSeen = record { files = g.F.Files.held c.read_sources.new.files; file_faults = g.F.Files.write_faults c.read_sources.new.files; stream = g.K.Sink.held c.args.output.now; stream_faults = g.K.Sink.faults c.args.output.now } in
-    let seen : SourcesSeen = record { files = g.F.Files.held c.args.files.now; file_faults = g.F.Files.read_faults c.args.files.now; file_bytes = g.F.Files.bytes_read c.args.files.now; input = g.I.Source.left c.args.input.now; input_faults = g.I.Source.faults c.args.input.now; input_bytes = g.I.Source.bytes_read c.args.input.now } in
-    let read : SourcesSeen = record { files = g.F.Files.held c.read_sources.new.files; file_faults = g.F.Files.read_faults c.read_sources.new.files; file_bytes = g.F.Files.bytes_read c.read_sources.new.files; input = g.I.Source.left c.read_sources.new.input; input_faults = g.I.Source.faults c.read_sources.new.input; input_bytes = g.I.Source.bytes_read c.read_sources.new.input } in
+    let middle : OutsideSeen = outside_seen g.F.Files g.K.Sink c.read_sources.new.files c.args.output.now in
+    let seen : SourcesSeen = sources_seen g.F.Files g.I.Source c.args.files.now c.args.input.now in
+    let read : SourcesSeen = sources_seen g.F.Files g.I.Source c.read_sources.new.files c.read_sources.new.input in
     record {
       runs = inr (record {
         layers = map (λ source. source.layers) c.in-Ok.sources.items;
@@ -38,8 +38,8 @@ returns-in-Ok-begin g c =
 
 pub returns-in-Err-begin : goal.returns-in-Err-begin
 returns-in-Err-begin g c =
-    let seen : SourcesSeen = record { files = g.F.Files.held c.args.files.now; file_faults = g.F.Files.read_faults c.args.files.now; file_bytes = g.F.Files.bytes_read c.args.files.now; input = g.I.Source.left c.args.input.now; input_faults = g.I.Source.faults c.args.input.now; input_bytes = g.I.Source.bytes_read c.args.input.now } in
-    let read : SourcesSeen = record { files = g.F.Files.held c.read_sources.new.files; file_faults = g.F.Files.read_faults c.read_sources.new.files; file_bytes = g.F.Files.bytes_read c.read_sources.new.files; input = g.I.Source.left c.read_sources.new.input; input_faults = g.I.Source.faults c.read_sources.new.input; input_bytes = g.I.Source.bytes_read c.read_sources.new.input } in
+    let seen : SourcesSeen = sources_seen g.F.Files g.I.Source c.args.files.now c.args.input.now in
+    let read : SourcesSeen = sources_seen g.F.Files g.I.Source c.read_sources.new.files c.read_sources.new.input in
     record {
       runs = inl (record {
         kept = record {
@@ -59,8 +59,8 @@ returns-in-Err-begin g c =
 
 pub returns-in-Err : goal.returns-in-Err
 returns-in-Err g c =
-    let seen : SourcesSeen = record { files = g.F.Files.held c.args.files.now; file_faults = g.F.Files.read_faults c.args.files.now; file_bytes = g.F.Files.bytes_read c.args.files.now; input = g.I.Source.left c.args.input.now; input_faults = g.I.Source.faults c.args.input.now; input_bytes = g.I.Source.bytes_read c.args.input.now } in
-    let read : SourcesSeen = record { files = g.F.Files.held c.read_sources.new.files; file_faults = g.F.Files.read_faults c.read_sources.new.files; file_bytes = g.F.Files.bytes_read c.read_sources.new.files; input = g.I.Source.left c.read_sources.new.input; input_faults = g.I.Source.faults c.read_sources.new.input; input_bytes = g.I.Source.bytes_read c.read_sources.new.input } in
+    let seen : SourcesSeen = sources_seen g.F.Files g.I.Source c.args.files.now c.args.input.now in
+    let read : SourcesSeen = sources_seen g.F.Files g.I.Source c.read_sources.new.files c.read_sources.new.input in
     record {
       runs = inl (record {
         kept = record {

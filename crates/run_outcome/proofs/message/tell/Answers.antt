@@ -1,15 +1,15 @@
 use Rattle.std.proofs.Common.{◌++◌, codes, ap, subst, ◌∙◌}
 use Rattle.topo_io.proofs.TextLemmas.{three}
 use Rattle.run_outcome.specs.Messages.{Text, outcome_text}
-use Rattle.run_outcome.specs.Telling.{StreamSeen, Offers}
+use Rattle.run_outcome.specs.Telling.{StreamSeen, Offers, stream_seen}
 use Rattle.run_outcome.proofs.Steps.{tells}
 use Rattle.run_outcome.proofs.message.tell.Goals as goal
 
 pub returns : goal.returns
 returns g c =
     let o = c.args.outcome.now in
-    let before : StreamSeen = record { told = g.M.Sink.held c.args.messages.now; faults = g.M.Sink.faults c.args.messages.now } in
-    let after : StreamSeen = record { told = g.M.Sink.held c.offer.new.messages; faults = g.M.Sink.faults c.offer.new.messages } in
+    let before : StreamSeen = stream_seen g.M.Sink c.args.messages.now in
+    let after : StreamSeen = stream_seen g.M.Sink c.offer.new.messages in
     let line = c.as_str.ensures.value
     ∙ three c.new-line.result.bytes (codes "ms_cli: ") (outcome_text o) (codes "\n")
     c.push_str.new.self.bytes c.add_outcome.new.line.bytes c.push_str-2.new.self.bytes

@@ -8,7 +8,7 @@ use Rattle.geojson_io.specs.Sound.{LayerIsSound}
 use Rattle.job_terms.specs.declared.job.Owner.{Owner}
 use Rattle.job_terms.specs.declared.job.SourceWord.{SourceWord}
 use Rattle.run_sources.specs.Budget.{whole_budget}
-use Rattle.run_sources.specs.Sources.{SourcesSeen, SourcesGive}
+use Rattle.run_sources.specs.Sources.{SourcesSeen, SourcesGive, sources_seen}
 use Rattle.run_sources.specs.declared.sources.ReadSource.{ReadSource}
 use Rattle.run_sources.proofs.Given.{given_on}
 use Rattle.run_sources.proofs.Growing.{grew_same, grew_on, none_fell_same, none_fell_on}
@@ -28,7 +28,7 @@ word_owner source = source.owner
 
 pub loop-i-init : goal.loop-i-init
 loop-i-init g c =
-    let seen : SourcesSeen = record { files = g.F.Files.held c.args.files.now; file_faults = g.F.Files.read_faults c.args.files.now; file_bytes = g.F.Files.bytes_read c.args.files.now; input = g.I.Source.left c.args.input.now; input_faults = g.I.Source.faults c.args.input.now; input_bytes = g.I.Source.bytes_read c.args.input.now } in
+    let seen : SourcesSeen = sources_seen g.F.Files g.I.Source c.args.files.now c.args.input.now in
     record {
       grew = grew_same seen;
       writes = none_fell_same (g.F.Files.write_faults c.args.files.now);
@@ -52,7 +52,7 @@ returns-in-Err-clause-stops g c =
       is_there = slice_get_read xs (length xs) c.loop-i.i c.index-sources-i.result refl c.loop-i-test.true c.index-sources-i.is;
       layers = map layers_of c.loop-i.all.items;
       left = c.loop-i.budget;
-      middle = record { files = g.F.Files.held c.loop-i.files; file_faults = g.F.Files.read_faults c.loop-i.files; file_bytes = g.F.Files.bytes_read c.loop-i.files; input = g.I.Source.left c.loop-i.input; input_faults = g.I.Source.faults c.loop-i.input; input_bytes = g.I.Source.bytes_read c.loop-i.input };
+      middle = sources_seen g.F.Files g.I.Source c.loop-i.files c.loop-i.input;
       given = c.loop-i.invariant.given;
       grew = c.read_source-read.ensures.grew;
       stops = c.in-Err.ensures.stops;
@@ -68,9 +68,9 @@ loop-i-preserved g c =
     let there = slice_get_read xs (length xs) c.loop-i.i source refl c.loop-i-test.true c.index-sources-i.is in
     let more : take (c.loop-i.i + 1) xs ≡ take c.loop-i.i xs ++ source ∷ [] =
     take_more xs c.loop-i.i source c.loop-i-test.true ∙ ap (λ (x : SourceWord). take c.loop-i.i xs ++ x ∷ []) (get_or_from_slice_get xs c.loop-i.i source source there) in
-    let before : SourcesSeen = record { files = g.F.Files.held c.args.files.now; file_faults = g.F.Files.read_faults c.args.files.now; file_bytes = g.F.Files.bytes_read c.args.files.now; input = g.I.Source.left c.args.input.now; input_faults = g.I.Source.faults c.args.input.now; input_bytes = g.I.Source.bytes_read c.args.input.now } in
-    let middle : SourcesSeen = record { files = g.F.Files.held c.loop-i.files; file_faults = g.F.Files.read_faults c.loop-i.files; file_bytes = g.F.Files.bytes_read c.loop-i.files; input = g.I.Source.left c.loop-i.input; input_faults = g.I.Source.faults c.loop-i.input; input_bytes = g.I.Source.bytes_read c.loop-i.input } in
-    let after : SourcesSeen = record { files = g.F.Files.held c.read_source-read.new.files; file_faults = g.F.Files.read_faults c.read_source-read.new.files; file_bytes = g.F.Files.bytes_read c.read_source-read.new.files; input = g.I.Source.left c.read_source-read.new.input; input_faults = g.I.Source.faults c.read_source-read.new.input; input_bytes = g.I.Source.bytes_read c.read_source-read.new.input } in
+    let before : SourcesSeen = sources_seen g.F.Files g.I.Source c.args.files.now c.args.input.now in
+    let middle : SourcesSeen = sources_seen g.F.Files g.I.Source c.loop-i.files c.loop-i.input in
+    let after : SourcesSeen = sources_seen g.F.Files g.I.Source c.read_source-read.new.files c.read_source-read.new.input in
     let found : ReadSource = record { owner = source.owner; layers = c.in-Ok.layers } in
     let kept : map layers_of c.keep.new.all.items ≡ map layers_of c.loop-i.all.items ++ c.in-Ok.layers ∷ [] =
     ap (map layers_of) c.in-Ok-keep.ensures.kept ∙ map-append layers_of c.loop-i.all.items (found ∷ []) in

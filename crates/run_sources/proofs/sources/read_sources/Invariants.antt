@@ -5,20 +5,20 @@ use Rattle.geojson_io.specs.Sound.{LayerIsSound}
 use Rattle.job_terms.specs.declared.job.SourceWord.{SourceWord}
 use Rattle.run_sources.specs.declared.sources.ReadSource.{ReadSource}
 use Rattle.run_sources.specs.Budget.{whole_budget}
-use Rattle.run_sources.specs.Sources.{Grew, SourcesGive}
+use Rattle.run_sources.specs.Sources.{Grew, SourcesGive, sources_seen}
 use Rattle.run_sources.proofs.sources.read_sources.Given as goal
 
 abbrev pub invariant-loop-i : goal.invariant-loop-i
 invariant-loop-i g l = record {
   grew : Grew
-      (record { files = g.F.Files.held l.fn.files; file_faults = g.F.Files.read_faults l.fn.files; file_bytes = g.F.Files.bytes_read l.fn.files; input = g.I.Source.left l.fn.input; input_faults = g.I.Source.faults l.fn.input; input_bytes = g.I.Source.bytes_read l.fn.input })
-      (record { files = g.F.Files.held l.files; file_faults = g.F.Files.read_faults l.files; file_bytes = g.F.Files.bytes_read l.files; input = g.I.Source.left l.input; input_faults = g.I.Source.faults l.input; input_bytes = g.I.Source.bytes_read l.input });
+      (sources_seen g.F.Files g.I.Source l.fn.files l.fn.input)
+      (sources_seen g.F.Files g.I.Source l.files l.input);
   writes : NoneFell (g.F.Files.write_faults l.fn.files) (g.F.Files.write_faults l.files);
   sound : All (λ (read : ReadSource). All LayerIsSound read.layers) l.all.items;
   owners : map (λ (read : ReadSource). read.owner) l.all.items ≡ map (λ (source : SourceWord). source.owner) (take l.i l.sources);
   given : SourcesGive l.places (take l.i l.sources) whole_budget
-      (record { files = g.F.Files.held l.fn.files; file_faults = g.F.Files.read_faults l.fn.files; file_bytes = g.F.Files.bytes_read l.fn.files; input = g.I.Source.left l.fn.input; input_faults = g.I.Source.faults l.fn.input; input_bytes = g.I.Source.bytes_read l.fn.input })
+      (sources_seen g.F.Files g.I.Source l.fn.files l.fn.input)
       l.budget
-      (record { files = g.F.Files.held l.files; file_faults = g.F.Files.read_faults l.files; file_bytes = g.F.Files.bytes_read l.files; input = g.I.Source.left l.input; input_faults = g.I.Source.faults l.input; input_bytes = g.I.Source.bytes_read l.input })
+      (sources_seen g.F.Files g.I.Source l.files l.input)
       (map (λ read. read.layers) l.all.items);
 }
