@@ -1,4 +1,4 @@
-ghost use Rattle.std.specs.Prelude.{◌≡◌, ◌++◌, ◌∷◌, [], List, drop, length, map, All, IfErr, IfOk, OnOk};
+ghost use Rattle.std.specs.Prelude.{◌≡◌, ◌++◌, ◌∷◌, [], List, drop, length, map, slice_index_or, All, IfErr, IfOk, OnOk};
 ghost use Rattle.std.specs.List.{AllZip, range_with_len};
 ghost use Rattle.std.specs.Vec.Iter.{into_iter_items, into_iter_len};
 ghost use Rattle.lists.specs.Lists.{first_or, joined_up};
@@ -12,8 +12,9 @@ ghost use Rattle.run_plane.specs.Begun.{IsFew};
 ghost use Rattle.run_plane.specs.LaidOut.{IsLaidOut};
 ghost use Rattle.run_plane.specs.LineArcs.{AreLineArcs};
 ghost use Rattle.run_plane.specs.OnPlane.{AreLayersOn, AreAllOn};
+ghost use Rattle.run_plane.specs.declared.layer.Shape.TheVariants as shapes;
 ghost use Rattle.run_sources.specs.declared.sources.ReadSource.{ReadSource};
-ghost use Rattle.run_beginning.specs.BegunLayers.{AreBegun, AreSourcesBegun, BeginsOver, IsBegunLayer, Left, left_after, left_after_all, face_shape, of_command, of_import, path_shape};
+ghost use Rattle.run_beginning.specs.BegunLayers.{AreBegun, AreSourcesBegun, BeginsOver, IsBegunLayer, Left, left_after, left_after_all, of_command, of_import};
 ghost use Rattle.run_beginning.specs.Drawing.{drawing_of};
 ghost use Rattle.run_beginning.specs.DrawnLayers.{IsDrawn, IsDrawnSource};
 ghost use Rattle.run_beginning.specs.NextFeatures.{AreCounted, IsLeft};
@@ -172,7 +173,7 @@ fn begun_layer(alloc: Global, next: &mut Next, layer: DrawnLayer) -> Result<Laye
 {
     match layer {
         DrawnLayer::Polygons { name, table } => {
-            let shapes = begun_faces(alloc, &mut next.faces, table.row_count())?;
+            let shapes = begun_shapes(alloc, &mut next.faces, table.row_count())?;
             Ok(Layer {
                 name,
                 kind: Kind::Polygon,
@@ -181,7 +182,7 @@ fn begun_layer(alloc: Global, next: &mut Next, layer: DrawnLayer) -> Result<Laye
             })
         }
         DrawnLayer::Lines { name, table } => {
-            let shapes = begun_lines(alloc, &mut next.lines, table.row_count())?;
+            let shapes = begun_shapes(alloc, &mut next.lines, table.row_count())?;
             Ok(Layer {
                 name,
                 kind: Kind::Line,
@@ -193,42 +194,66 @@ fn begun_layer(alloc: Global, next: &mut Next, layer: DrawnLayer) -> Result<Laye
     }
 }
 
-// The sets of the next `count` polygon features.
-fn begun_faces(
-    alloc: Global,
-    faces: &mut IntoIter<FaceSet>,
-    count: u32,
-) -> Result<Vec<Shape>, AllocError>
-    requires count { into_iter_len faces.old ≡ length (into_iter_items faces.old) }
-    ensures each { IfOk result (λ begun. length begun.items ≡ count) }
-    ensures begun { IfOk result (λ begun. begun.items ≡ map (face_shape (into_iter_items faces.old)) (range_with_len 0 count)) }
-    ensures faces { OnOk result (into_iter_items faces.new ≡ drop count (into_iter_items faces.old)) }
-    ensures count { OnOk result (into_iter_len faces.new ≡ length (into_iter_items faces.new)) }
-{
-    let mut begun = Vec::new(alloc);
-    for _number in 0..count {
-        let set = next_or(faces, FaceSet::new(alloc));
-        begun.push(Shape::Faces(set))?;
-    }
-    Ok(begun)
+// What a feature of the drawing is over the plane.
+trait IntoShape: Drop {
+    ghost use Rattle.run_plane.specs.declared.layer.Shape.{Shape};
+
+    ghost nothing: { Self };
+
+    ghost shape: { Self → Shape };
+
+    // That of a feature that takes up nothing.
+    fn nothing(alloc: Global) -> Self
+        ensures exact { result ≡ nothing };
+
+    fn into_shape(self) -> Shape
+        ensures exact { result ≡ shape self };
 }
 
-// The paths of the next `count` line features.
-fn begun_lines(
+impl IntoShape for FaceSet {
+    ghost nothing = { [] };
+
+    ghost shape = { shapes.Faces };
+
+    fn nothing(alloc: Global) -> FaceSet {
+        FaceSet::new(alloc)
+    }
+
+    fn into_shape(self) -> Shape {
+        Shape::Faces(self)
+    }
+}
+
+impl IntoShape for SignedPaths {
+    ghost nothing = { [] };
+
+    ghost shape = { shapes.Paths };
+
+    fn nothing(alloc: Global) -> SignedPaths {
+        SignedPaths::new(alloc)
+    }
+
+    fn into_shape(self) -> Shape {
+        Shape::Paths(self)
+    }
+}
+
+// The shapes of the next `count` features.
+fn begun_shapes<T: IntoShape>(
     alloc: Global,
-    lines: &mut IntoIter<SignedPaths>,
+    features: &mut IntoIter<T>,
     count: u32,
 ) -> Result<Vec<Shape>, AllocError>
-    requires count { into_iter_len lines.old ≡ length (into_iter_items lines.old) }
+    requires count { into_iter_len features.old ≡ length (into_iter_items features.old) }
     ensures each { IfOk result (λ begun. length begun.items ≡ count) }
-    ensures begun { IfOk result (λ begun. begun.items ≡ map (path_shape (into_iter_items lines.old)) (range_with_len 0 count)) }
-    ensures lines { OnOk result (into_iter_items lines.new ≡ drop count (into_iter_items lines.old)) }
-    ensures count { OnOk result (into_iter_len lines.new ≡ length (into_iter_items lines.new)) }
+    ensures begun { IfOk result (λ begun. begun.items ≡ map (λ k. T.shape (slice_index_or (into_iter_items features.old) k T.nothing)) (range_with_len 0 count)) }
+    ensures features { OnOk result (into_iter_items features.new ≡ drop count (into_iter_items features.old)) }
+    ensures count { OnOk result (into_iter_len features.new ≡ length (into_iter_items features.new)) }
 {
     let mut begun = Vec::new(alloc);
     for _number in 0..count {
-        let paths = next_or(lines, SignedPaths::new(alloc));
-        begun.push(Shape::Paths(paths))?;
+        let feature = next_or(features, T::nothing(alloc));
+        begun.push(feature.into_shape())?;
     }
     Ok(begun)
 }

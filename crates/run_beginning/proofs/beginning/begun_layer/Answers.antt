@@ -22,7 +22,7 @@ returns-in_ok-shapes-in-Lines-clause-left c = λ arcs left given is drawn.
     (let all = subst (IsDrawn given) c.in-Lines.is drawn in
     let next = c.args.next.now in
     let count = c.row_count-in-Lines in
-    after_lines arcs left next is given count.result (record next { lines = c.begun_lines.new.lines }) all.of_kind (count.ensures.count ∙ sym all.each) refl c.in_ok-shapes-in-Lines.ensures.lines)
+    after_lines arcs left next is given count.result (record next { lines = c.begun_shapes-in-Lines.new.features }) all.of_kind (count.ensures.count ∙ sym all.each) refl c.in_ok-shapes-in-Lines.ensures.features)
 
 pub returns-in-Whole-clause-begun : goal.returns-in-Whole-clause-begun
 returns-in-Whole-clause-begun c = λ arcs left given is drawn. (subst (IsDrawn given) c.in-Whole.is drawn arcs left).0
