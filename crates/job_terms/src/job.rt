@@ -115,7 +115,7 @@ pub enum LayerAction {
     Clean {
         rule: OverlapRule,
         allow_empty: bool,
-        /// Gaps of at most this area, doubled and in squared grid units, are filled.
+        /// Gaps of at most this area, doubled and in squares of the grid, are filled.
         gap: u128,
     },
     Mosaic,
@@ -160,7 +160,7 @@ pub enum LayerAction {
         invert: bool,
     },
     FilterIslands {
-        /// Twice the least area that stays, in squared grid units.
+        /// Twice the least area that stays, in squares of the grid.
         least_area: u128,
         /// The least number of links that stays.
         least_links: u32,

@@ -12,7 +12,7 @@ use grid_base::{FaceId, OverlapRule};
 use std::alloc::{AllocError, Global};
 
 /// For each set its faces that no set has which the rule ranks before it, and then the gaps between the sets that go to
-/// it, of those of at most the area `gap`, doubled.
+/// it, of those of at most the area `gap`, doubled and in squares of the grid.
 ///
 /// A gap goes to the set that ranks first of those that have, after that, a face across an arc round it. Areas are
 /// those of the sets as they come. Sets of equal areas are ranked by their numbers, the lowest first. A set may become
@@ -107,7 +107,7 @@ fn firsts_of(
     Ok(firsts)
 }
 
-/// The set of a list of numbers that no other of them ranks before.
+/// Of the sets with these numbers the one that no other ranks before; `None` where there are none.
 pub fn first_of(numbers: &[u32], areas: &[i128], rule: OverlapRule) -> Option<u32>
     ensures exact { IsFirst rule areas.now numbers.now result }
 {

@@ -13,7 +13,8 @@ use face_walk::Faces;
 use grid_base::{FaceId, OverlapRule, SignedArc, empty_lists};
 use std::alloc::{AllocError, Global};
 
-/// For each set the faces of the gaps of at most the area `most`, doubled, that go to it.
+/// For each set the faces of the gaps that go to it, of those of at most the area `most`, doubled and in squares of
+/// the grid.
 ///
 /// A gap goes to the set that ranks first, by `areas`, of those that have a face across its boundary. `firsts` tells of
 /// each face which set has it.

@@ -15,7 +15,7 @@ use run_state::{sets_of, with_sets};
 use std::alloc::{AllocError, Global};
 
 /// The layer with each face that several features hold left with the one that the rule ranks first. A gap between
-/// features, of at most the area `gap`, doubled and in squared grid units, then goes to the neighbour that the rule
+/// features, of at most the area `gap`, doubled and in squares of the grid, then goes to the neighbour that the rule
 /// ranks first. Features without geometry afterwards are left out, unless `allow_empty`.
 pub fn cleaned(
     alloc: Global,

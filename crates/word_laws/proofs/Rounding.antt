@@ -1,4 +1,4 @@
--- Areas in squared grid units, rounded.
+-- Areas in squares of the grid, rounded.
 use Rattle.std.proofs.Common.{◌≡◌, ℕ, zero, suc, ◌+◌, ◌-◌, ◌*◌, ◌/◌, ◌^◌, ◌<◌, ◌≤◌, ap, sym, ◌∙◌, arith}
 use Rattle.std.proofs.Math.Nat.{div-div-eq-div-mul, mul-div_cancel}
 use Rattle.std.proofs.lemmas.Nat.{pow-add, div-mul-add}
@@ -8,7 +8,7 @@ ten_power : (k : ℕ) → 0 < 10 ^ k
 ten_power zero = omega arith
 ten_power (suc k) = let h : 0 < 10 ^ k = ten_power k in grind arith
 
--- 1 in units of 10^-18, by the squared grid units of a unit
+-- 1 in units of 10^-18, by the squares of the grid of a unit
 parts : (k : ℕ) → k ≤ 9 → 10 ^ (2 * k) * square_unit k ≡ 10 ^ 18
 parts k h = sym (pow-add 10 (2 * k) (18 - 2 * k)) ∙ ap (λ (n : ℕ). 10 ^ n) (let e : 2 * k + (18 - 2 * k) ≡ 18 = omega (arith, h) in e)
 

@@ -21,7 +21,7 @@ abbrev pub WhatIsReadFitsTheTable : Type 0
 WhatIsReadFitsTheTable = (refuses : Refusals) (words : List Text) (answer : Result Job WordFault)
     → Tells FitsJob (read_words refuses words) answer → Tells FitsJob (words_say refuses words) answer
 
--- for an area of `units` units of 10^-18, and up to 9 decimal places: twice the area in squared grid units
+-- for an area of `units` units of 10^-18, and up to 9 decimal places: twice the area in squares of the grid
 abbrev pub GapsAreRoundedDown : Type 0
 GapsAreRoundedDown = (places units : ℕ) → places ≤ 9 → doubled_below places units ≡ (2 * units * 10 ^ (2 * places)) / 10 ^ 18
 

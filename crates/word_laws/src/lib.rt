@@ -19,12 +19,12 @@ pub fn what_is_read_fits_the_table()
     ensures holds { WhatIsReadFitsTheTable }
 {}
 
-/// The number of a gap is twice its area in squared grid units, rounded down to a whole number.
+/// The number of a gap is twice its area in squares of the grid, rounded down to a whole number.
 pub fn gaps_are_rounded_down()
     ensures holds { GapsAreRoundedDown }
 {}
 
-/// The number of a least area is twice that area in squared grid units, rounded up to a whole number.
+/// The number of a least area is twice that area in squares of the grid, rounded up to a whole number.
 pub fn least_areas_are_rounded_up()
     ensures holds { LeastAreasAreRoundedUp }
 {}
