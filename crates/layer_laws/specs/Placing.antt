@@ -9,7 +9,7 @@ use Rattle.run_state.specs.Targets.{is_selected, placed}
 use Rattle.run_state.specs.declared.state.HeldLayer.{HeldLayer}
 use Rattle.chain_model.specs.Outcome.{too_many_layers}
 use Rattle.chain_model.specs.State.{State, StateLayer}
-use Rattle.chain_model.specs.Targets.{with_outputs}
+use Rattle.chain_model.specs.Targets.{layer_limit, with_outputs}
 use Rattle.layer_laws.specs.Shown.{View, LayerShows, StateShows}
 use Rattle.layer_laws.specs.Targets.{target_numbers}
 
@@ -25,8 +25,8 @@ pub record PutOutShows (v : View) (t : Target) (layers : List HeldLayer) (output
 
 -- with its outputs in their places the state is shown, or refused for the number of its layers
 pub record PlacedShows (v : View) (c : Command) (layers : List HeldLayer) (s : State) (outputs : List (List Layer)) (outs : List (List StateLayer)) : Type 0 where
-  pub few : length (placed c layers outputs) ≤ 1000 → (after : State) × (with_outputs s c.keep (target_numbers c.target layers) outs ≡ Ok after) × StateShows v (placed c layers outputs) after
-  pub many : 1000 < length (placed c layers outputs) → with_outputs s c.keep (target_numbers c.target layers) outs ≡ Err too_many_layers
+  pub few : length (placed c layers outputs) ≤ layer_limit → (after : State) × (with_outputs s c.keep (target_numbers c.target layers) outs ≡ Ok after) × StateShows v (placed c layers outputs) after
+  pub many : layer_limit < length (placed c layers outputs) → with_outputs s c.keep (target_numbers c.target layers) outs ≡ Err too_many_layers
 
 abbrev pub PlacedOutputsShow : Type 0
 PlacedOutputsShow = (v : View) (layers : List HeldLayer) (s : State) → StateShows v layers s → (c : Command) (outputs : List (List Layer)) (outs : List (List StateLayer)) → PutOutShows v c.target layers outputs outs → PlacedShows v c layers s outputs outs

@@ -20,7 +20,7 @@ use Rattle.run_state.specs.declared.state.HeldLayer.{HeldLayer}
 use Rattle.run_state.proofs.Stops.{stops_second}
 use Rattle.run_state.proofs.TargetLemmas.{target_first, other_first}
 use Rattle.run_checks.specs.Checks.{refused_cut, refused_polygons}
-use Rattle.run_steps.specs.Refusals.{FirstOf, RefusesIn, refused_count}
+use Rattle.run_steps.specs.Refusals.{FirstOf, RefusesIn, most_layers, refused_count}
 
 -- ---- the source
 
@@ -100,11 +100,11 @@ module _ (Refuses : Layer → Option RefuseWhy → Type 0) (t : Target) where
 
 -- ---- the number of layers
 
-pub too_many : (n : ℕ) → 1000 < n → refused_count n ≡ Some TooManyLayers
-too_many n h = ap (λ (b : Bool). if b then Some TooManyLayers else None) (lt-ltb 1000 n h)
+pub too_many : (n : ℕ) → most_layers < n → refused_count n ≡ Some TooManyLayers
+too_many n h = ap (λ (b : Bool). if b then Some TooManyLayers else None) (lt-ltb most_layers n h)
 
-pub few_enough : (n : ℕ) → n ≤ 1000 → refused_count n ≡ None
-few_enough n h = ap (λ (b : Bool). if b then Some TooManyLayers else None) (le-ltb 1000 n h)
+pub few_enough : (n : ℕ) → n ≤ most_layers → refused_count n ≡ None
+few_enough n h = ap (λ (b : Bool). if b then Some TooManyLayers else None) (le-ltb most_layers n h)
 
 -- what is refused for the number, where nothing else is
 pub stops_counted : (a : Option RefuseWhy) (n m : ℕ) (s : CommandStop) → a ≡ None → n ≡ m → StopsFor (refused_count n) s → StopsFor (first_refusal a (refused_count m)) s

@@ -34,6 +34,7 @@ use Rattle.run_state.specs.Targets.{is_selected, placed, targets}
 use Rattle.run_state.specs.declared.state.HeldLayer.{HeldLayer}
 use Rattle.run_tables.specs.Made.{GivesTable, IsFiltered, IsMerged, One, TakesNumbers}
 use Rattle.run_tables.specs.Pieces.{IsSplit}
+use Rattle.run_steps.specs.Refusals.{most_layers}
 
 -- ---- what is put out for a layer
 
@@ -131,7 +132,7 @@ pub record Changes (Puts : List (List Layer) → Type 0) (c : Command) (before a
   pub outputs : List (List Layer)
   pub puts : Puts outputs
   pub placed : after ≡ placed c before outputs
-  pub few : length after ≤ 1000
+  pub few : length after ≤ most_layers
 
 -- after one that changes each layer of its target by itself
 abbrev pub ChangesEach : Base → Command → LayerAction → List HeldLayer → List HeldLayer → Type 0

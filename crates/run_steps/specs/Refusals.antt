@@ -98,8 +98,12 @@ output_count _ layer = 1
 abbrev pub stay_count : Command → List HeldLayer → ℕ
 stay_count c layers = if c.keep then length layers else count_by (λ (held : HeldLayer). not (is_selected c.target held)) layers
 
+-- the most layers that a run may hold
+abbrev pub most_layers : ℕ
+most_layers = 1000
+
 abbrev pub refused_count : ℕ → Option RefuseWhy
-refused_count count = if nat_lt 1000 count then Some TooManyLayers else None
+refused_count count = if nat_lt most_layers count then Some TooManyLayers else None
 
 -- ---- the first refusal of a command that changes each layer of its target by itself
 

@@ -5,7 +5,7 @@ ghost use Rattle.run_state.specs.Stops.{StopsAs, StopsFor};
 ghost use Rattle.run_state.specs.Targets.{has_target, placed};
 ghost use Rattle.run_steps.specs.Commands.{ChangesEach, ChangesTogether};
 ghost use Rattle.run_checks.specs.Checks.{refused_for_origin};
-ghost use Rattle.run_steps.specs.Refusals.{FailsEach, RefusesEach, failed_together, refusal_together, refused_count};
+ghost use Rattle.run_steps.specs.Refusals.{FailsEach, RefusesEach, failed_together, most_layers, refusal_together, refused_count};
 
 use crate::outputs::{each_outputs, joint_output};
 use job_terms::{Command, JointAction, LayerAction};
@@ -115,7 +115,7 @@ fn put_out(
     outputs: Vec<Vec<Layer>>,
 ) -> Result<State, CommandStop>
     ensures placed { IfOk result (λ after. after.layers.items ≡ placed command.now layers.items (map (λ out. out.items) outputs.items)) }
-    ensures few { IfOk result (λ after. length after.layers.items ≤ 1000) }
+    ensures few { IfOk result (λ after. length after.layers.items ≤ most_layers) }
     ensures accepted { IfOk result (λ after. refused_count (length (placed command.now layers.items (map (λ out. out.items) outputs.items))) ≡ None) }
     ensures stops { IfErr result (StopsFor (refused_count (length (placed command.now layers.items (map (λ out. out.items) outputs.items))))) }
 {

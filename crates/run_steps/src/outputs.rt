@@ -241,12 +241,9 @@ fn layer_made(
     match action {
         LayerAction::Clip { .. } => Ok(cut(alloc, plane, layer, cut_set, CutKeeps::Inside)?),
         LayerAction::Erase { .. } => Ok(cut(alloc, plane, layer, cut_set, CutKeeps::Outside)?),
-        LayerAction::Dissolve { spec, group_points } => dissolved(
-            alloc,
-            layer,
-            spec,
-            *group_points,
-        ),
+        LayerAction::Dissolve { spec, group_points } => {
+            dissolved(alloc, layer, spec, *group_points)
+        }
         LayerAction::Clean {
             rule,
             allow_empty,
@@ -272,17 +269,10 @@ fn layer_made(
         LayerAction::Sort { key, descending } => sorted(alloc, layer, key, *descending),
         LayerAction::Uniq { key, most, invert } => unrepeated(alloc, layer, key, *most, *invert),
         LayerAction::FilterIslands {
-            least_area,
-            least_links,
+            least_area: area,
+            least_links: links,
             remove_empty,
-        } => Ok(without_islands(
-            alloc,
-            plane,
-            layer,
-            *least_area,
-            *least_links,
-            *remove_empty,
-        )?),
+        } => Ok(without_islands(alloc, plane, layer, *area, *links, *remove_empty)?),
     }
 }
 
